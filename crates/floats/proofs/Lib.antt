@@ -1,0 +1,3 @@
+pub mod Words
+pub mod Zero
+pub mod Signs

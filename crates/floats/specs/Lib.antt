@@ -1,0 +1,4 @@
+pub mod Floats
+pub mod Sqrt
+pub mod Examples
+pub mod Root

@@ -1,0 +1,43 @@
+-- `text::put_cell`: the text is made in a room of its own, so that it is put as a whole. Assumes nothing.
+use mathlib.Core.Path.{ap, _∙_}
+use mathlib.Core.List.{List}
+use Prim.Native.Nat.{ℕ}
+use borrow.Author.Needs.{needs}
+use Rattle.text.specs.Text.{put, next}
+use Rattle.text.proofs.Writing.{cell-is}
+use Rattle.text.proofs.put_cell.Statement.{statement}
+use Rattle.text.proofs.put_cell.Tie as tie
+
+slice-aggregate-put-word : tie.Need-slice-aggregate-put-word
+slice-aggregate-put-word c = search needs
+
+put-word-requires : tie.Need-put-word-requires
+put-word-requires c κs = search needs
+
+slice-aggregate-put : tie.Need-slice-aggregate-put
+slice-aggregate-put c = search needs
+
+put-requires : tie.Need-put-requires
+put-requires c κs = search needs
+
+same-length : tie.Need-same-length
+same-length c = search needs
+
+returns : tie.Need-returns
+returns c =
+    let a = c .before .before .before .before .before .before .before .before .before .args in
+    let e = c .before .before .before .before .before .before .put-word .ensures .1 ∙ cell-is (a .word) (a .after) in (
+      c .before .before .put .ensures .0 ∙ ap (λ (s : List ℕ). next (a .room .now) (a .at) s) e,
+      c .before .before .put .ensures .1 ∙ ap (λ (s : List ℕ). put (a .room .now) (a .at) s) e,
+    )
+
+pub put-cell-spec : {M : Type 1} → statement M
+put-cell-spec =
+    tie.close
+    (tie.spec
+    slice-aggregate-put-word
+    put-word-requires
+    slice-aggregate-put
+    put-requires
+    same-length
+    returns)

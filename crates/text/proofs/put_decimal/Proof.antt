@@ -1,0 +1,46 @@
+-- `text::put_decimal`: what `io::decimal` spells is the definition's text. Assumes nothing.
+use native.Mathlib.Omega.{arith}
+use mathlib.Core.Path.{ap, _∙_}
+use mathlib.Core.List.{List}
+use Prim.Native.Nat.{ℕ, _<_, _^_}
+use borrow.Author.Needs.{needs}
+use Rattle.text.specs.Text.{put, next}
+use Rattle.text.proofs.Writing.{decimal-is}
+use Rattle.text.proofs.put_decimal.Statement.{statement}
+use Rattle.text.proofs.put_decimal.Tie as tie
+
+decimal-requires : tie.Need-decimal-requires
+decimal-requires c κs = search needs
+
+array-share-prefix-spelt : tie.Need-array-share-prefix-spelt
+array-share-prefix-spelt c = search needs
+
+slice-aggregate-put : tie.Need-slice-aggregate-put
+slice-aggregate-put c = search needs
+
+put-requires : tie.Need-put-requires
+put-requires c κs = search needs
+
+same-length : tie.Need-same-length
+same-length c = search needs
+
+returns : tie.Need-returns
+returns c =
+    let a = c .before .before .before .before .before .before .before .before .args in
+    let d = c .before .before .before .before .before .decimal in
+    let h : a .n < 2 ^ 64 = omega arith in
+    let e = decimal-is (a .n) (d .result) _ h (d .ensures .1 .0) (d .ensures .1 .1) in (
+      c .before .before .put .ensures .0 ∙ ap (λ (s : List ℕ). next (a .room .now) (a .at) s) e,
+      c .before .before .put .ensures .1 ∙ ap (λ (s : List ℕ). put (a .room .now) (a .at) s) e,
+    )
+
+pub put-decimal-spec : {M : Type 1} → statement M
+put-decimal-spec =
+    tie.close
+    (tie.spec
+    decimal-requires
+    array-share-prefix-spelt
+    slice-aggregate-put
+    put-requires
+    same-length
+    returns)

@@ -1,0 +1,3 @@
+pub mod Text
+pub mod Examples
+pub mod Pieces

@@ -1,0 +1,115 @@
+-- Laws of `put`: pieces that are put one after another are one piece. Assumes nothing.
+use mathlib.Core.Bool.{Bool, true, false, cond}
+use mathlib.Core.Path.{_≡_, refl, sym, ap, _∙_, subst⁻¹}
+use mathlib.Core.List.{List, [], _∷_, _++_, append-assoc, append-nil}
+use Prim.Native.Nat.{ℕ, zero, suc, _+_, _*_, _/_, _≤_, _<_}
+use native.Mathlib.Nat.{add-zero}
+use native.Mathlib.Numerals.{add-one}
+use native.Mathlib.Omega.{arith}
+use borrow.Author.Tests.{le-leb, lt-leb, leb-true}
+use lib.Dec.{ltb, leb}
+use lib.ListN.{length, take, drop, length-append, length-drop, take-append-drop}
+use lib.Seq.{take-at, drop-at, drop-drop, length-take-le}
+use Rattle.io.specs.Digits.{digits}
+use Rattle.text.specs.Text.{put, next, hex, cell, cells, lines, row, places, decimal}
+
+-- the piece fits
+pub next-fits : (room : List ℕ) (at : ℕ) (s : List ℕ) → at + length s ≤ length room → next room at s ≡ at + length s
+unfolding next
+next-fits room at s h = let e : leb (at + length s) (length room) ≡ true = le-leb _ _ h in rw e
+
+pub put-fits : (room : List ℕ) (at : ℕ) (s : List ℕ) → at + length s ≤ length room → put room at s ≡ take at room ++ s ++ drop (at + length s) room
+unfolding put
+put-fits room at s h = let e : leb (at + length s) (length room) ≡ true = le-leb _ _ h in rw e
+
+-- it does not
+pub put-past : (room : List ℕ) (at : ℕ) (s : List ℕ) → length room < at + length s → (at ≡ next room at s) × (room ≡ put room at s)
+unfolding put next
+put-past room at s h = let e : leb (at + length s) (length room) ≡ false = lt-leb _ _ h in (rw e, rw e)
+
+-- nothing put
+pub put-nothing : (room : List ℕ) (at : ℕ) → at ≤ length room → room ≡ put room at []
+put-nothing room at h = sym (put-fits room at [] (omega arith) ∙ ap (λ (n : ℕ). take at room ++ [] ++ drop n room) (add-zero at) ∙ ap (λ (l : List ℕ). l ++ drop at room) (append-nil (take at room)) ∙ take-append-drop at room)
+
+-- a room keeps its length
+pub length-put : (room : List ℕ) (at : ℕ) (s : List ℕ) → length (put room at s) ≡ length room
+unfolding put
+length-put room at s = go (leb (at + length s) (length room)) refl
+  where
+    go : (b : Bool) → leb (at + length s) (length room) ≡ b → length (cond b (take at room ++ s ++ drop (at + length s) room) room) ≡ length room
+    go false e = refl
+    go true e =
+        let h : at + length s ≤ length room = leb-true (at + length s) (length room) e in
+        let i : at ≤ length room = omega arith in
+        simp (length-append, length-take-le at room i, length-drop) (omega arith)
+
+-- two pieces, one after the other
+pub put-put : (room : List ℕ) (at : ℕ) (a b : List ℕ) → at + length a + length b ≤ length room
+    → put (put room at a) (at + length a) b ≡ put room at (a ++ b)
+put-put room at a b h =
+    let ha : at + length a ≤ length room = omega arith in
+    let i : at ≤ length room = omega arith in
+    let front : List ℕ = take at room ++ a in
+    let l : length front ≡ at + length a = length-append (take at room) a ∙ ap (λ (n : ℕ). n + length a) (length-take-le at room i) in
+    let all : List ℕ = front ++ drop (at + length a) room in
+    let m : at + length a + length b ≤ length all =
+    subst⁻¹ (λ (n : ℕ). at + length a + length b ≤ n) (length-append front (drop (at + length a) room)) (simp length-drop (omega arith)) in
+    let e : at + length a + length b ≡ at + length (a ++ b) = omega (arith, length-append a b) in
+    ap (λ (r : List ℕ). put r (at + length a) b) (put-fits room at a ha)
+    ∙ put-fits all (at + length a) b m
+    ∙ ap (λ (r : List ℕ). r ++ b ++ drop (at + length a + length b) all) (take-at front (drop (at + length a) room) (at + length a) l)
+    ∙ ap (λ (r : List ℕ). front ++ b ++ r)
+    (sym (drop-drop (length b) (at + length a) all)
+    ∙ ap (λ (r : List ℕ). drop (length b) r) (drop-at front (drop (at + length a) room) (at + length a) l)
+    ∙ drop-drop (length b) (at + length a) room)
+    ∙ ap (λ (r : List ℕ). r ++ drop (at + length a + length b) room) (append-assoc (take at room) a b)
+    ∙ ap (λ (n : ℕ). take at room ++ (a ++ b) ++ drop n room) e
+    ∙ sym (put-fits room at (a ++ b) (omega arith))
+
+-- a number's digits
+pub length-digits : (base k n : ℕ) → length (digits base k n) ≡ k
+length-digits base zero n = refl
+length-digits base (suc k) n = length-append (digits base k (n / base)) _ ∙ rw (length-digits base k (n / base)) (add-one k)
+
+-- a number takes 20 decimal digits at the most
+places-most : (k n : ℕ) → places k n ≤ k + 1
+unfolding places
+places-most zero n = omega arith
+places-most (suc k) n = go (ltb n 10) (places-most k (n / 10))
+  where
+    go : (b : Bool) → places k (n / 10) ≤ k + 1 → cond b 1 (places k (n / 10) + 1) ≤ suc k + 1
+    go true h = omega arith
+    go false h = omega arith
+
+pub length-decimal : (n : ℕ) → length (decimal n) ≤ 20
+unfolding decimal
+length-decimal n = subst⁻¹ (λ (l : ℕ). l ≤ 20) (length-digits 10 (places 19 n) n) (places-most 19 n)
+
+-- 17 bytes a word
+pub length-cell : (w b : ℕ) → length (cell w b) ≡ 17
+unfolding cell hex
+length-cell w b = refl
+
+pub length-cells : (b : ℕ) (ws : List ℕ) → length (cells b ws) ≡ 17 * length ws
+unfolding cells
+length-cells b [] = refl
+length-cells b (w ∷ ws) =
+    let e : 17 + 17 * length ws ≡ 17 * suc (length ws) = omega arith in
+    length-append (cell w b) (cells b ws) ∙ ap (λ (n : ℕ). n + length (cells b ws)) (length-cell w b) ∙ ap (λ (n : ℕ). 17 + n) (length-cells b ws) ∙ e
+
+pub length-lines : (ws : List ℕ) → length (lines ws) ≡ 17 * length ws
+unfolding lines
+length-lines ws = length-cells 10 ws
+
+-- one word more
+pub cells-more : (b : ℕ) (ws : List ℕ) (w : ℕ) → cells b (ws ++ (w ∷ [])) ≡ cells b ws ++ cell w b
+unfolding cells
+cells-more b [] w = append-nil (cell w b)
+cells-more b (x ∷ ws) w = ap (λ (l : List ℕ). cell x b ++ l) (cells-more b ws w) ∙ sym (append-assoc (cell x b) (cells b ws) (cell w b))
+
+-- the last word of a line
+pub row-last : (ws : List ℕ) (w : ℕ) → row (ws ++ (w ∷ [])) ≡ cells 32 ws ++ cell w 10
+unfolding row cells
+row-last [] w = refl
+row-last (x ∷ []) w = ap (λ (l : List ℕ). l ++ cell w 10) (sym (append-nil (cell x 32)))
+row-last (x ∷ y ∷ ws) w = ap (λ (l : List ℕ). cell x 32 ++ l) (row-last (y ∷ ws) w) ∙ sym (append-assoc (cell x 32) (cells 32 (y ∷ ws)) (cell w 10))
