@@ -1,0 +1,44 @@
+-- Where rows of one width stand in a list of words. Assumes nothing.
+use Prim.Native.Nat.{ℕ, _+_, _-_, _*_, _/_, _<_, _≤_}
+use mathlib.Core.Path.{_≡_, sym}
+use mathlib.Core.List.{List}
+use native.Mathlib.Omega.{arith}
+use lib.ListN.{length, getD, take, drop, length-drop, List·getD-eq-default}
+use lib.Seq.{take-all}
+use native.Mathlib.Nat.{le-div-iff-mul-le, div-eq-of-lt, zero-mul, le-refl}
+use Rattle.rows.specs.History.{historyOf, width, lastRows}
+
+-- as many rows as there are, or fewer, end by the list's end
+pub rows-fit : (n w : ℕ) → 0 < w → (i : ℕ) → i ≤ n / w → i * w ≤ n
+rows-fit n w some i h = le-div-iff-mul-le {k = w} some .0 h
+
+-- a list shorter than a row holds none
+pub no-rows : (n w : ℕ) → n < w → 0 ≡ n / w
+no-rows n w h = let e : n / w ≡ 0 = div-eq-of-lt h in omega arith
+
+-- past the end stands 0
+pub past-end : (l : List ℕ) (n : ℕ) → length l ≤ n → 0 ≡ getD l n 0
+past-end l n h = sym (List·getD-eq-default l 0 h)
+
+module _ (K D held : ℕ) (ws : List ℕ) (count : held ≡ historyOf K ws .rows) where
+  -- the rows before the last D lie within the list
+  pub skipped-fit : (held - D) * width K ≤ length ws
+  unfolding historyOf
+  skipped-fit = rows-fit (length ws) (7 + K) (omega arith) (held - D) (omega arith)
+
+  -- a list that holds a row is as long as one
+  pub row-fits : D < held → width K ≤ length ws
+  unfolding historyOf
+  row-fits l = let h : 1 * (7 + K) ≤ length ws = rows-fit (length ws) (7 + K) (omega arith) 1 (omega arith) in omega arith
+
+  pub window-all : held ≤ D → ws ≡ lastRows K D ws
+  unfolding historyOf lastRows
+  window-all l =
+      let e : length ws / (7 + K) - D ≡ 0 = omega arith in
+      rw (e, zero-mul)
+
+  pub window-part : take (length ws - (held - D) * width K) (drop ((held - D) * width K) ws) ≡ lastRows K D ws
+  unfolding historyOf lastRows
+  window-part =
+      let s : ℕ = (length ws / (7 + K) - D) * (7 + K) in
+      rw count (take-all (length ws - s) (drop s ws) (rw length-drop (le-refl (length ws - s))))

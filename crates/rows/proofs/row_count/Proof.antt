@@ -1,0 +1,24 @@
+-- Fewer words than slots are fewer than a row; else the width fits. Assumes nothing.
+use borrow.Author.Needs.{needs}
+use native.Mathlib.Omega.{arith}
+use Rattle.rows.specs.History.{historyOf}
+use Rattle.rows.proofs.Places.{no-rows}
+use Rattle.rows.proofs.row_count.Statement.{statement}
+use Rattle.rows.proofs.row_count.Tie as tie
+
+returns : tie.Need-returns
+unfolding historyOf
+returns c = no-rows _ _ (omega arith)
+
+add-result : tie.Need-add-result
+add-result c = search needs
+
+div-result : tie.Need-div-result
+div-result c = search needs
+
+returns-2 : tie.Need-returns-2
+unfolding historyOf
+returns-2 c = search needs
+
+pub row-count-spec : {M : Type 1} → statement M
+row-count-spec = tie.close (tie.spec returns add-result div-result returns-2)

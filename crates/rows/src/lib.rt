@@ -1,0 +1,72 @@
+// Rows: what is kept of each bar, in words that the caller lends. A row is 7 + K words: time, open, high, low, close,
+// volume, the presence mask, K slots. A room that rows are added to is in room.rt.
+pub mod room;
+
+ghost use mathlib.Core.Path.{_≡_};
+ghost use Prim.Native.Nat.{_+_};
+ghost use lib.ListN.{getD};
+ghost use Rattle.rows.specs.History.{historyOf, wholeRows, lastRows};
+
+// The words of a row before its slots.
+pub const FIXED: usize = 7;
+
+// Where a row has its words.
+pub const OPEN: usize = 1;
+
+pub const HIGH: usize = 2;
+
+pub const LOW: usize = 3;
+
+pub const CLOSE: usize = 4;
+
+pub const VOLUME: usize = 5;
+
+pub const MASK: usize = 6;
+
+// How many whole rows there are. A row of more slots than there are words is none, so the width never wraps.
+pub fn row_count(rows: &[u64], slots: usize) -> usize
+    ensures { λ r. ⌜ r ≡ historyOf slots (now (rows .entry)) .rows ⌝ }
+{
+    let n = rows.len();
+    if n < slots {
+        return 0;
+    }
+    n / (FIXED + slots)
+}
+
+// Whether the words are whole rows, with no part of one at the end.
+pub fn are_whole(rows: &[u64], slots: usize) -> bool
+    ensures { λ r. ⌜ r ≡ wholeRows slots (now (rows .entry)) ⌝ }
+{
+    let n = rows.len();
+    if n < slots {
+        return n == 0;
+    }
+    n % (FIXED + slots) == 0
+}
+
+// The word j places after `base`, 0 past the end: for a reader that knows where its row begins.
+pub fn word_from(rows: &[u64], base: usize, j: usize) -> u64
+    ensures { λ r. ⌜ r ≡ getD (now (rows .entry)) (base + j) 0 ⌝ }
+{
+    let n = rows.len();
+    if n <= base {
+        return 0;
+    }
+    if n - base <= j {
+        return 0;
+    }
+    rows[base + j]
+}
+
+// The window: the end part of the rows, the last `depth` of them, or all where there are fewer.
+pub fn window(rows: &[u64], slots: usize, depth: usize) -> &[u64]
+    ensures { λ r. ⌜ now r ≡ lastRows slots depth (now (rows .entry)) ⌝ }
+{
+    let held = row_count(rows, slots);
+    if held <= depth {
+        return rows;
+    }
+    let first = (held - depth) * (FIXED + slots);
+    &rows[first..]
+}

@@ -1,0 +1,67 @@
+// A lent room of rows. It may end in a part of a row: that end is never touched.
+ghost use mathlib.Core.Path.{_≡_};
+ghost use mathlib.Core.List.{_++_};
+ghost use Prim.Native.Nat.{_+_, _-_, _≤_};
+ghost use lib.ListN.{length, take, drop};
+ghost use Rattle.rows.specs.Room.{over, withRow, heldWith};
+
+// Writes the words from `at` on; nothing where they do not fit.
+pub fn put(room: &mut [u64], at: usize, words: &[u64])
+    ensures { λ _. ⌜ now (room .exit) ≡ over (now (room .entry)) at (now (words .entry)) ⌝ }
+{
+    if room.len() < words.len() {
+        return;
+    }
+    if room.len() - words.len() < at {
+        return;
+    }
+    copy(room, at, words);
+}
+
+// Copies the words over the room's from `at` on.
+fn copy(room: &mut [u64], at: usize, words: &[u64])
+    requires { ⌜ at + length (now words) ≤ length (now room) ⌝ }
+    ensures { λ _. ⌜ now (room .exit) ≡ take at (now (room .entry)) ++ now (words .entry) ++ drop (at + length (now (words .entry))) (now (room .entry)) ⌝ }
+{
+    let mut i: usize = 0;
+    while i < words.len() {
+        room[at + i] = words[i];
+        i += 1;
+    }
+}
+
+// Moves the words from `width` up to `end` to the front.
+fn shift(room: &mut [u64], width: usize, end: usize)
+    requires { ⌜ (width ≤ end) × (end ≤ length (now room)) ⌝ }
+    ensures { λ _. ⌜ now (room .exit) ≡ drop width (take end (now (room .entry))) ++ drop (end - width) (now (room .entry)) ⌝ }
+{
+    let n = end - width;
+    let mut i: usize = 0;
+    while i < n {
+        room[i] = room[i + width];
+        i += 1;
+    }
+}
+
+// Adds a row to a room that holds `held` rows of its width: at their end while there is a place, else the oldest goes
+// and the rest move up. The result is how many rows the room holds then.
+pub fn push(room: &mut [u64], held: usize, row: &[u64]) -> usize
+    ensures { λ r. ⌜ (r ≡ heldWith (now (room .entry)) held (now (row .entry))) × (now (room .exit) ≡ withRow (now (room .entry)) held (now (row .entry))) ⌝ }
+{
+    let width = row.len();
+    if width == 0 {
+        return 0;
+    }
+    let places = room.len() / width;
+    if held < places {
+        copy(room, held * width, row);
+        return held + 1;
+    }
+    if places == 0 {
+        return 0;
+    }
+    let end = places * width;
+    shift(room, width, end);
+    copy(room, end - width, row);
+    places
+}
