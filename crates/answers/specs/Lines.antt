@@ -1,0 +1,17 @@
+-- The answer to a table as a line. Definitions only.
+use mathlib.Core.List.{List, [], _∷_, _++_}
+use Prim.Native.Nat.{ℕ}
+use Rattle.text.specs.Text.{decimal}
+use Rattle.table.specs.declared.Answer.{Answer}
+use Rattle.table.specs.declared.Answer.the-variants.{Accepted, Refused}
+
+-- two words with a number after each, and a newline
+unfoldable pub twoNumbers : List ℕ → ℕ → List ℕ → ℕ → List ℕ
+twoNumbers what first then second = what ++ decimal first ++ then ++ decimal second ++ (10 ∷ [])
+
+-- "writes exactly `accepted nodes 7 rows 3` and a newline (rows = greatest reach + 1); a refusal prints as `refused 6 at 2`"
+unfoldable pub lineOf : Answer → List ℕ
+lineOf (Accepted nodes rows) =
+    twoNumbers (97 ∷ 99 ∷ 99 ∷ 101 ∷ 112 ∷ 116 ∷ 101 ∷ 100 ∷ 32 ∷ 110 ∷ 111 ∷ 100 ∷ 101 ∷ 115 ∷ 32 ∷ []) nodes (32 ∷ 114 ∷ 111 ∷ 119 ∷ 115 ∷ 32 ∷ []) rows
+lineOf (Refused number place) =
+    twoNumbers (114 ∷ 101 ∷ 102 ∷ 117 ∷ 115 ∷ 101 ∷ 100 ∷ 32 ∷ []) number (32 ∷ 97 ∷ 116 ∷ 32 ∷ []) place

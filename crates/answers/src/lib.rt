@@ -1,0 +1,48 @@
+// The answer to a rule table as a line of text: `accepted nodes 7 rows 3` or `refused 6 at 2`, and a newline.
+use table::Answer;
+ghost use mathlib.Core.Path.{_≡_};
+ghost use Prim.Native.Nat.{_≤_};
+ghost use lib.ListN.{length};
+ghost use Rattle.io.specs.Counts.{Counts};
+ghost use Rattle.text.specs.Text.{put, next};
+ghost use Rattle.answers.specs.Lines.{twoNumbers, lineOf};
+
+// Puts a line with two numbers in it at the start of the room and answers how many bytes it has; where it does not fit, 0.
+fn put_numbers(room: &mut [u8], what: &[u8], first: u64, then: &[u8], second: u64) -> usize
+    requires { ⌜ (length (now what) ≤ 16) × (length (now then) ≤ 6) ⌝ }
+    ensures { λ r. ⌜ r ≡ next (now (room .entry)) 0 (twoNumbers (now (what .entry)) first (now (then .entry)) second) ⌝ }
+    ensures { λ _. ⌜ now (room .exit) ≡ put (now (room .entry)) 0 (twoNumbers (now (what .entry)) first (now (then .entry)) second) ⌝ }
+    ensures { λ r. ⌜ Counts r (now (room .exit)) ⌝ }
+{
+    let mut line = [10u8; 64];
+    let a = text::put(&mut line, 0, what);
+    let b = text::put_decimal(&mut line, a, first);
+    let c = text::put(&mut line, b, then);
+    let d = text::put_decimal(&mut line, c, second);
+    text::put(room, 0, &line[..d + 1])
+}
+
+// Puts the line of an answer at the start of the room and answers how many bytes it has, 62 at the most; where it does not
+// fit, 0, and the room is as it was.
+pub fn put_answer(room: &mut [u8], answer: Answer) -> usize
+    ensures { λ r. ⌜ r ≡ next (now (room .entry)) 0 (lineOf answer) ⌝ }
+    ensures { λ _. ⌜ now (room .exit) ≡ put (now (room .entry)) 0 (lineOf answer) ⌝ }
+    ensures { λ r. ⌜ Counts r (now (room .exit)) ⌝ }
+{
+    match answer {
+        Answer::Accepted { nodes, rows } => put_numbers(
+            room,
+            b"accepted nodes ",
+            nodes as u64,
+            b" rows ",
+            rows,
+        ),
+        Answer::Refused { number, place } => put_numbers(
+            room,
+            b"refused ",
+            number as u64,
+            b" at ",
+            place as u64,
+        ),
+    }
+}

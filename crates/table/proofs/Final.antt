@@ -1,0 +1,129 @@
+-- The parts of the check put together.
+-- Assumes nothing.
+use mathlib.Core.Path.{_≡_, refl, sym, _∙_, ap}
+use mathlib.Core.Bool.{cond}
+use mathlib.Core.Logic.{⊎-elim}
+use mathlib.Core.List.{List}
+use Prim.Native.Nat.{ℕ, _-_, _≤_, _<_}
+use native.Mathlib.Omega.{arith}
+use native.Mathlib.Nat.{eq-zero-or-pos, zero-add}
+use lib.ListN.{getD, replicate}
+use lib.Seq.{ext-getD}
+use lib.Dec.{ltb}
+use borrow.Author.Tests.{lt-ltb, le-ltb, eq-eqb, ne-eqb}
+use Rattle.table.specs.declared.Place.{Place}
+use Rattle.table.specs.declared.Place.the-variants.{Nowhere, At}
+use Rattle.table.specs.declared.Answer.{Answer}
+use Rattle.table.specs.declared.Answer.the-variants.{Accepted, Refused}
+use Rattle.table.specs.Bytes.{u16}
+use Rattle.table.specs.Header.{total, headerRefusal, root}
+use Rattle.table.specs.Nodes.{wrongNode}
+use Rattle.table.specs.Checked.{orRefused, orHeader, from9, from8, from7, checked}
+use Rattle.table.specs.Ends.{endsFor, endAt, from, endOf, endsAll, Linked}
+use Rattle.table.specs.Passes.{EndedFrom, Roots, EndedAll, LinkedAll}
+use Rattle.table.specs.EndsLaws.{from-long, from-at}
+use Rattle.table.specs.HeaderLaws.{header-right}
+use Rattle.table.proofs.Linked.{end-word}
+
+-- One rule: it is broken, or what is left decides.
+module _ (nr : ℕ) (q : Place) (x rest : Answer) (es ends : List ℕ) where
+  pub stage-at : (p : ℕ) → q ≡ At p → x ≡ Refused nr p → es ≡ replicate 256 0
+      → (x ≡ orRefused nr q rest) × (es ≡ endsFor (orRefused nr q rest) ends)
+  unfolding orRefused endsFor
+  stage-at p h hx he = rw h (hx, he)
+
+  pub stage-none : q ≡ Nowhere → x ≡ rest → es ≡ endsFor rest ends → (x ≡ orRefused nr q rest) × (es ≡ endsFor (orRefused nr q rest) ends)
+  unfolding orRefused
+  stage-none h hx he = rw h (hx, he)
+
+module _ (nr : ℕ) (x rest : Answer) (es ends : List ℕ) where
+  pub head-at : (nr ≡ 0 → ⊥) → x ≡ Refused nr 0 → es ≡ replicate 256 0 → (x ≡ orHeader nr rest) × (es ≡ endsFor (orHeader nr rest) ends)
+  unfolding orHeader endsFor
+  head-at h hx he = simp (ne-eqb _ _ h) (hx, he)
+
+  pub head-none : nr ≡ 0 → x ≡ rest → es ≡ endsFor rest ends → (x ≡ orHeader nr rest) × (es ≡ endsFor (orHeader nr rest) ends)
+  unfolding orHeader
+  head-none h hx he = simp (eq-eqb _ _ h) (hx, he)
+
+pub checked-is : (t : List ℕ) → checked t ≡ orHeader (headerRefusal t) (orRefused 6 (wrongNode t (u16 t 6) 0) (from7 t))
+unfolding checked from7 from8 from9
+checked-is t = refl
+
+-- An answer that is handed on, with the array beside it.
+pub keep-refused : (a x : Answer) (es ends : List ℕ) (n p : ℕ) → a ≡ Refused n p → x ≡ Refused n p → es ≡ replicate 256 0
+    → (x ≡ a) × (es ≡ endsFor a ends)
+unfolding endsFor
+keep-refused a x es ends n p ha hx he = rw ha (hx, he)
+
+pub keep-accepted : (a : Answer) (ends : List ℕ) (n r : ℕ) → a ≡ Accepted n r → (Accepted n r ≡ a) × (ends ≡ endsFor a ends)
+unfolding endsFor
+keep-accepted a ends n r ha = rw ha (refl, refl)
+
+-- A header that breaks no rule gives the four trees' places.
+pub head-roots : (t : List ℕ) (a b c e : ℕ) → headerRefusal t ≡ 0 → a ≡ root t 1 → b ≡ root t 2 → c ≡ root t 3 → e ≡ total t → Roots t a b c e
+unfolding root
+head-roots t a b c e h ha hb hc he =
+    let k = header-right t h in
+    record {
+      one = ha;
+      two = hb;
+      three = hc;
+      four = omega (arith, k .sums);
+      all = he;
+      small = omega (arith, k .most);
+      low = omega arith;
+      mid = omega arith;
+      high = omega (arith, k .sums);
+    }
+
+-- The array is the definition's.
+low-word : (t ends : List ℕ) (b e j : ℕ) → e ≤ 256 → Linked t ends b e → EndedFrom t ends b e → b ≤ j → j < e → getD ends j 0 ≡ endAt t (e - j) j
+unfolding Linked EndedFrom
+low-word t ends b e j small l k lo hi =
+    let g = l j lo hi in
+    end-word t e j (getD ends j 0) hi (omega (arith, g .within)) (k j lo hi)
+
+part : (t ends : List ℕ) (b e j x w : ℕ) → e ≡ x → e ≤ 256 → Linked t ends b e → EndedFrom t ends b e → b ≤ j → (e ≤ j → getD ends j 0 ≡ w)
+    → getD ends j 0 ≡ cond (ltb j x) (endAt t (x - j) j) w
+part t ends b e j x w same small l k lo other = ⊎-elim
+    (λ z. simp (le-ltb j x (omega arith)) (other (omega arith)))
+    (λ z. simp (lt-ltb j x (omega arith)) (low-word t ends b e j small l k lo (omega arith) ∙ ap (λ (y : ℕ). endAt t (y - j) j) same))
+    (eq-zero-or-pos (e - j))
+
+end-at : (t ends : List ℕ) (a b c e : ℕ) → Roots t a b c e → EndedAll t ends a b c e → LinkedAll t ends a b c e → (j : ℕ) → getD ends j 0 ≡ endOf t j
+unfolding endOf
+end-at t ends a b c e k all l j =
+    part t ends 0 a j (root t 1) _ (k .one) (omega arith) (l .entry .links) (all .entry) (omega arith)
+    (λ h1. part t ends a b j (root t 2) _ (k .two) (omega arith) (l .exit .links) (all .exit) h1
+    (λ h2. part t ends b c j (root t 3) _ (k .three) (omega arith) (l .shortEntry .links) (all .shortEntry) h2
+    (λ h3. part t ends c e j (root t 4) 0 (k .four) (omega arith) (l .shortExit .links) (all .shortExit) h3
+    (λ h4. all .past j h4))))
+
+pub ends-are : (t ends : List ℕ) (a b c e : ℕ) → Roots t a b c e → EndedAll t ends a b c e → LinkedAll t ends a b c e → ends ≡ endsAll t
+unfolding endsAll
+ends-are t ends a b c e k all l =
+    ext-getD 0 ends (from (endOf t) 256 0) (all .long ∙ sym (from-long (endOf t) 256 0))
+    (λ j h. end-at t ends a b c e k all l j ∙ ap (endOf t) (sym (zero-add j)) ∙ sym (from-at (endOf t) 256 0 j (omega (arith, all .long))))
+
+module _ (t : List ℕ) (x : Answer) (es ends : List ℕ) where
+  right : (x ≡ orHeader (headerRefusal t) (orRefused 6 (wrongNode t (u16 t 6) 0) (from7 t))) × (es ≡ endsFor (orHeader (headerRefusal t) (orRefused 6 (wrongNode t (u16 t 6) 0) (from7 t))) ends)
+      → (x ≡ checked t) × (es ≡ endsFor (checked t) ends)
+  right h = rw (checked-is t) h
+
+  pub one-at : (nr : ℕ) → nr ≡ headerRefusal t → (nr ≡ 0 → ⊥) → x ≡ Refused nr 0 → es ≡ replicate 256 0 → (x ≡ checked t) × (es ≡ endsFor (checked t) ends)
+  one-at nr h some hx he =
+      right (head-at (headerRefusal t) x _ es ends (λ z. some (h ∙ z)) (hx ∙ ap (λ (n : ℕ). Refused n 0) h) he)
+
+  module _ (h : headerRefusal t ≡ 0) (n : ℕ) (all : n ≡ u16 t 6) (q : Place) (found : q ≡ wrongNode t n 0) where
+    place : q ≡ wrongNode t (u16 t 6) 0
+    place = found ∙ ap (λ (m : ℕ). wrongNode t m 0) all
+
+    pub six-at : (p : ℕ) → q ≡ At p → x ≡ Refused 6 p → es ≡ replicate 256 0 → (x ≡ checked t) × (es ≡ endsFor (checked t) ends)
+    six-at p hp hx he =
+        let g = stage-at 6 (wrongNode t (u16 t 6) 0) x (from7 t) es ends p (sym place ∙ hp) hx he in
+        right (head-none (headerRefusal t) x _ es ends h (g .0) (g .1))
+
+    pub six-none : q ≡ Nowhere → x ≡ from7 t → es ≡ endsFor (from7 t) ends → (x ≡ checked t) × (es ≡ endsFor (checked t) ends)
+    six-none hp hx he =
+        let g = stage-none 6 (wrongNode t (u16 t 6) 0) x (from7 t) es ends (sym place ∙ hp) hx he in
+        right (head-none (headerRefusal t) x _ es ends h (g .0) (g .1))

@@ -1,0 +1,35 @@
+-- `read32` meets its contract: its two halves, and 0 past the end.
+-- Assumes nothing.
+use native.Mathlib.Omega.{arith}
+use Rattle.table.specs.Bytes.{u32}
+use Rattle.table.proofs.Past.{past32}
+use borrow.Author.Needs.{needs}
+use Rattle.table.proofs.bytes.read32.Statement.{statement}
+use Rattle.table.proofs.bytes.read32.Tie as tie
+
+read16-requires : tie.Need-read16-requires
+read16-requires c κs = search needs
+
+add-read16 : tie.Need-add-read16
+add-read16 c = search needs
+
+read16-requires-2 : tie.Need-read16-requires-2
+read16-requires-2 c κs = search needs
+
+mul-result : tie.Need-mul-result
+mul-result c = search needs
+
+add-result : tie.Need-add-result
+add-result c = search needs
+
+returns : tie.Need-returns
+unfolding u32
+returns c = search needs
+
+returns-2 : tie.Need-returns-2
+returns-2 c = omega (arith, past32 (c .before .before .args .t .now) (c .before .before .args .at) (c .if1 .left))
+
+pub read32-spec : {M : Type 1} → statement M
+read32-spec =
+    tie.close
+    (tie.spec read16-requires add-read16 read16-requires-2 mul-result add-result returns returns-2)

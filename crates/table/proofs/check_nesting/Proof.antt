@@ -1,0 +1,47 @@
+-- `check_nesting` meets its contract: rule 8 is broken, or what is left decides.
+-- Assumes nothing.
+use Rattle.table.proofs.Final.{stage-at, stage-none}
+use mathlib.Core.Path.{sym, _∙_}
+use Rattle.table.specs.Checked.{from8}
+use borrow.Author.Needs.{needs}
+use Rattle.table.proofs.check_nesting.Statement.{statement}
+use Rattle.table.proofs.check_nesting.Tie as tie
+
+too-deep-requires : tie.Need-too-deep-requires
+too-deep-requires c κs = search needs
+
+enum-known-deep : tie.Need-enum-known-deep
+enum-known-deep c = search needs
+
+refused-requires : tie.Need-refused-requires
+refused-requires c κs = search needs
+
+enum-told : tie.Need-enum-told
+enum-told c = search needs
+
+check-reach-requires : tie.Need-check-reach-requires
+check-reach-requires c κs = search needs
+
+returns : tie.Need-returns
+unfolding from8
+returns c =
+    stage-at 8 _ _ _ _ _ _
+    (sym (c .before .before .before .before .too-deep .ensures) ∙ c .before .before .deep .given .1) (c .refused .ensures .0) (c .refused .ensures .1)
+
+returns-2 : tie.Need-returns-2
+unfolding from8
+returns-2 c =
+    stage-none 8 _ _ _ _ _
+    (sym (c .before .before .before .too-deep .ensures) ∙ c .before .enum-told .given .1) (c .check-reach .ensures .0) (c .check-reach .ensures .1)
+
+pub check-nesting-spec : {M : Type 1} → statement M
+check-nesting-spec =
+    tie.close
+    (tie.spec
+    too-deep-requires
+    enum-known-deep
+    refused-requires
+    enum-told
+    check-reach-requires
+    returns
+    returns-2)

@@ -1,0 +1,71 @@
+-- `check_nodes` meets its contract: rule 6 is broken, or what is left decides.
+-- Assumes nothing.
+use borrow.Author.Needs.{needs}
+use Rattle.table.specs.Ends.{endsBeside}
+use Rattle.table.proofs.Final.{six-at, six-none, head-roots}
+use Rattle.table.proofs.check_nodes.Statement.{statement}
+use Rattle.table.proofs.check_nodes.Tie as tie
+
+total-requires : tie.Need-total-requires
+total-requires c κs = search needs
+
+wrong-node-requires : tie.Need-wrong-node-requires
+wrong-node-requires c κs = search needs
+
+enum-known-wrong : tie.Need-enum-known-wrong
+enum-known-wrong c = search needs
+
+refused-requires : tie.Need-refused-requires
+refused-requires c κs = search needs
+
+enum-told : tie.Need-enum-told
+enum-told c = search needs
+
+root-requires : tie.Need-root-requires
+root-requires c κs = search needs
+
+root-requires-2 : tie.Need-root-requires-2
+root-requires-2 c κs = search needs
+
+root-requires-3 : tie.Need-root-requires-3
+root-requires-3 c κs = search needs
+
+check-order-requires : tie.Need-check-order-requires
+check-order-requires c κs =
+    head-roots _ _ _ _ _
+    (c .before .before .before .before .before .before .before .before .pre) (c .before .before .root .ensures .0) (c .before .root2 .ensures .0)
+    (c .root3 .ensures .0)
+    (c .before .before .before .before .before .before .total .ensures .0)
+
+returns : tie.Need-returns
+unfolding endsBeside
+returns c =
+    six-at _ _ _ _
+    (c .before .before .before .before .before .before .before .pre) _
+    (c .before .before .before .before .before .total .ensures .0) _
+    (c .before .before .before .before .wrong-node .ensures) _ (c .before .before .wrong .given .1) (c .refused .ensures .0) (c .refused .ensures .1)
+
+returns-2 : tie.Need-returns-2
+unfolding endsBeside
+returns-2 c =
+    six-none _ _ _ _
+    (c .before .before .before .before .before .before .before .before .before .pre) _
+    (c .before .before .before .before .before .before .before .total .ensures .0) _
+    (c .before .before .before .before .before .before .wrong-node .ensures)
+    (c .before .before .before .before .enum-told .given .1) (c .check-order .ensures .0) (c .check-order .ensures .1)
+
+pub check-nodes-spec : {M : Type 1} → statement M
+check-nodes-spec =
+    tie.close
+    (tie.spec
+    total-requires
+    wrong-node-requires
+    enum-known-wrong
+    refused-requires
+    enum-told
+    root-requires
+    root-requires-2
+    root-requires-3
+    check-order-requires
+    returns
+    returns-2)

@@ -1,0 +1,91 @@
+-- `header_refusal` meets its contract, rule by rule.
+-- Assumes nothing.
+use mathlib.Core.Path.{_≡_}
+use mathlib.Core.Bool.{true, false, not}
+use mathlib.Core.List.{List}
+use Prim.Native.Nat.{ℕ, _+_, _*_, _≤_, _<_}
+use lib.ListN.{length}
+use borrow.Author.Tests.{lt-ltb, le-ltb, eq-eqb, ne-eqb}
+use borrow.Author.Needs.{needs}
+use Rattle.table.specs.Header.{version, total, markRight, countsRight, headerRefusal}
+use Rattle.table.proofs.header.header_refusal.Statement.{statement}
+use Rattle.table.proofs.header.header_refusal.Tie as tie
+
+rule1 : (t : List ℕ) → length t < 16 → 1 ≡ headerRefusal t
+unfolding headerRefusal
+rule1 t h = simp (lt-ltb _ _ h)
+
+rule2 : (t : List ℕ) → 16 ≤ length t → not (markRight t) ≡ true → 2 ≡ headerRefusal t
+unfolding headerRefusal
+rule2 t h h2 = simp (le-ltb _ _ h, h2)
+
+rule3 : (t : List ℕ) → 16 ≤ length t → not (markRight t) ≡ false → (version t ≡ 1 → ⊥) → 3 ≡ headerRefusal t
+unfolding headerRefusal
+rule3 t h h2 h3 = simp (le-ltb _ _ h, h2, ne-eqb _ _ h3)
+
+rule4 : (t : List ℕ) → 16 ≤ length t → not (markRight t) ≡ false → version t ≡ 1 → not (countsRight t) ≡ true → 4 ≡ headerRefusal t
+unfolding headerRefusal
+rule4 t h h2 h3 h4 = simp (le-ltb _ _ h, h2, eq-eqb _ _ h3, h4)
+
+rule5 : (t : List ℕ) → 16 ≤ length t → not (markRight t) ≡ false → version t ≡ 1 → not (countsRight t) ≡ false
+    → (length t ≡ 16 + 16 * total t → ⊥) → 5 ≡ headerRefusal t
+unfolding headerRefusal
+rule5 t h h2 h3 h4 h5 = simp (le-ltb _ _ h, h2, eq-eqb _ _ h3, h4, ne-eqb _ _ h5)
+
+kept : (t : List ℕ) → 16 ≤ length t → not (markRight t) ≡ false → version t ≡ 1 → not (countsRight t) ≡ false
+    → length t ≡ 16 + 16 * total t → 0 ≡ headerRefusal t
+unfolding headerRefusal
+kept t h h2 h3 h4 h5 = simp (le-ltb _ _ h, h2, eq-eqb _ _ h3, h4, eq-eqb _ _ h5)
+
+returns : tie.Need-returns
+returns c = rule1 _ (search needs)
+
+mark-right-requires : tie.Need-mark-right-requires
+mark-right-requires c κs = search needs
+
+returns-2 : tie.Need-returns-2
+returns-2 c = rule2 _ (search needs) (cc)
+
+read16-requires : tie.Need-read16-requires
+read16-requires c κs = search needs
+
+returns-3 : tie.Need-returns-3
+returns-3 c = rule3 _ (search needs) (cc) (search needs)
+
+counts-right-requires : tie.Need-counts-right-requires
+counts-right-requires c κs = search needs
+
+returns-4 : tie.Need-returns-4
+returns-4 c = rule4 _ (search needs) (cc) (search needs) (cc)
+
+total-requires : tie.Need-total-requires
+total-requires c κs = search needs
+
+mul-if5 : tie.Need-mul-if5
+mul-if5 c = search needs
+
+add-if5 : tie.Need-add-if5
+add-if5 c = search needs
+
+returns-5 : tie.Need-returns-5
+returns-5 c = rule5 _ (search needs) (cc) (search needs) (cc) (search needs)
+
+returns-6 : tie.Need-returns-6
+returns-6 c = kept _ (search needs) (cc) (search needs) (cc) (search needs)
+
+pub header-refusal-spec : {M : Type 1} → statement M
+header-refusal-spec =
+    tie.close
+    (tie.spec
+    returns
+    mark-right-requires
+    returns-2
+    read16-requires
+    returns-3
+    counts-right-requires
+    returns-4
+    total-requires
+    mul-if5
+    add-if5
+    returns-5
+    returns-6)

@@ -1,0 +1,94 @@
+-- `deep_of` meets its contract. The loop's invariant: the first node below more than 32 levels is the first below more than `left`
+-- levels among those from node j on. A subtree that is too tall has it inside, any other is passed by its end.
+-- Assumes nothing.
+use mathlib.Core.Path.{_≡_, refl, sym, _∙_}
+use Prim.Native.Nat.{_-_, _≤_}
+use native.Mathlib.Omega.{arith}
+use Rattle.table.specs.Forest.{trees}
+use Rattle.table.specs.Nesting.{deeper}
+use Rattle.table.specs.Ends.{Linked}
+use Rattle.table.specs.Passes.{WordsFrom}
+use Rattle.table.proofs.Weigh.{deep-here, deep-end, deep-down, deep-over}
+use borrow.Author.Needs.{needs}
+use Rattle.table.proofs.nesting.deep_of.Statement.{statement}
+use Rattle.table.proofs.nesting.deep_of.Tie as tie
+
+abbrev Inv-loop : tie.InvT-loop
+Inv-loop t ends b e tall left₀ j₀ left j = (b ≤ j) × (j ≤ e) × (left ≤ 32) × (deeper 32 (trees t (e - b) b) ≡ deeper left (trees t (e - j) j))
+
+abbrev μ-loop : tie.MeasureT-loop
+μ-loop t ends b e tall left₀ j₀ left j = e - j
+
+weigh-tree-requires : tie.Need-weigh-tree-requires Inv-loop μ-loop
+weigh-tree-requires c κs = search needs
+
+loop-holds : tie.Need-loop-holds Inv-loop μ-loop
+loop-holds c = (search needs, search needs, search needs, refl)
+
+returns : tie.Need-returns Inv-loop μ-loop
+returns c = let l = c .before .before .loop in deep-here _ _ (l .j) (l .left) (search needs) (search needs) ∙ sym (l .inv .3)
+
+mul-if2 : tie.Need-mul-if2 Inv-loop μ-loop
+mul-if2 c = search needs
+
+array-read-if2 : tie.Need-array-read-if2 Inv-loop μ-loop
+array-read-if2 c = search needs
+
+sub-left : tie.Need-sub-left Inv-loop μ-loop
+sub-left c = search needs
+
+add-j : tie.Need-add-j Inv-loop μ-loop
+add-j c = search needs
+
+loop-less : tie.Need-loop-less Inv-loop μ-loop
+loop-less c = search needs
+
+loop-again : tie.Need-loop-again Inv-loop μ-loop
+unfolding WordsFrom
+loop-again c =
+    let l = c .before .before .before .loop in
+    (search needs, search needs, search needs, l .inv .3 ∙ deep-down _ _ (l .j) (l .left) _ (search needs) (c .before .before .before .before .weigh-tree .ensures (l .j) (search needs) (search needs)) (search needs) (search needs))
+
+mul-j : tie.Need-mul-j Inv-loop μ-loop
+mul-j c = search needs
+
+element-copy-out-j : tie.Need-element-copy-out-j Inv-loop μ-loop
+element-copy-out-j c = search needs
+
+loop-less-2 : tie.Need-loop-less-2 Inv-loop μ-loop
+unfolding Linked
+loop-less-2 c =
+    let l = c .before .before .before .before .loop in
+    let k = c .before .before .before .before .before .before .before .pre .1 (l .j) (search needs) (search needs) in
+    omega (arith, k .beyond, k .within)
+
+loop-again-2 : tie.Need-loop-again-2 Inv-loop μ-loop
+unfolding Linked WordsFrom
+loop-again-2 c =
+    let l = c .before .before .before .before .loop in
+    let k = c .before .before .before .before .before .before .before .pre .1 (l .j) (search needs) (search needs) in
+    (omega (arith, k .beyond), k .within, search needs, l .inv .3 ∙ deep-over _ _ (l .j) (l .left) _ (search needs) (c .before .before .before .before .before .weigh-tree .ensures (l .j) (search needs) (search needs)) (search needs) _ (search needs) (search needs) k)
+
+returns-2 : tie.Need-returns-2 Inv-loop μ-loop
+returns-2 c = let l = c .before .loop in deep-end _ _ (l .j) (l .left) (search needs) ∙ sym (l .inv .3)
+
+pub deep-of-spec : {M : Type 1} → statement M
+deep-of-spec =
+    tie.close
+    (tie.spec
+    Inv-loop
+    μ-loop
+    weigh-tree-requires
+    loop-holds
+    returns
+    mul-if2
+    array-read-if2
+    sub-left
+    add-j
+    loop-less
+    loop-again
+    mul-j
+    element-copy-out-j
+    loop-less-2
+    loop-again-2
+    returns-2)

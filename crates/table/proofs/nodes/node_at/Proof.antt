@@ -1,0 +1,82 @@
+-- `node_at` meets its contract: sixteen bytes of the table, all 0 past its end.
+-- Assumes nothing.
+use mathlib.Core.Path.{_≡_}
+use mathlib.Core.List.{List}
+use Prim.Native.Nat.{ℕ, _+_, _*_, _≤_}
+use native.Mathlib.Omega.{arith}
+use lib.ListN.{length}
+use borrow.Author.Needs.{needs}
+use Rattle.table.specs.Nodes.{nodeAt}
+use Rattle.table.proofs.Past.{past8, past16, past32, past64}
+use Rattle.table.proofs.nodes.node_at.Statement.{statement}
+use Rattle.table.proofs.nodes.node_at.Tie as tie
+
+past-node : (t : List ℕ) (i : ℕ) → length t ≤ 16 + 16 * i
+    → record { number = i; kind = 0; selector = 0; children = 0; n = 0; constant = 0 } ≡ nodeAt t i
+unfolding nodeAt
+past-node t i h =
+    cc (
+      past8 t (16 + 16 * i) h,
+      past8 t (17 + 16 * i) (omega arith),
+      past16 t (18 + 16 * i) (omega arith),
+      past32 t (20 + 16 * i) (omega arith),
+      past64 t (24 + 16 * i) (omega arith),
+    )
+
+mul-at : tie.Need-mul-at
+mul-at c = search needs
+
+add-byte : tie.Need-add-byte
+add-byte c = search needs
+
+byte-requires : tie.Need-byte-requires
+byte-requires c κs = search needs
+
+add-byte-2 : tie.Need-add-byte-2
+add-byte-2 c = search needs
+
+byte-requires-2 : tie.Need-byte-requires-2
+byte-requires-2 c κs = search needs
+
+add-read16 : tie.Need-add-read16
+add-read16 c = search needs
+
+read16-requires : tie.Need-read16-requires
+read16-requires c κs = search needs
+
+add-read32 : tie.Need-add-read32
+add-read32 c = search needs
+
+read32-requires : tie.Need-read32-requires
+read32-requires c κs = search needs
+
+add-read64 : tie.Need-add-read64
+add-read64 c = search needs
+
+read64-requires : tie.Need-read64-requires
+read64-requires c κs = search needs
+
+returns : tie.Need-returns
+unfolding nodeAt
+returns c = cc
+
+returns-2 : tie.Need-returns-2
+returns-2 c = past-node _ _ (search needs)
+
+pub node-at-spec : {M : Type 1} → statement M
+node-at-spec =
+    tie.close
+    (tie.spec
+    mul-at
+    add-byte
+    byte-requires
+    add-byte-2
+    byte-requires-2
+    add-read16
+    read16-requires
+    add-read32
+    read32-requires
+    add-read64
+    read64-requires
+    returns
+    returns-2)

@@ -1,0 +1,53 @@
+-- `misfit_of` meets its contract: a tree's place of misfit is told by its root's word.
+-- Assumes nothing.
+use Rattle.table.specs.Passes.{EndedFrom}
+use Rattle.table.proofs.Prefix.{misfit-none, misfit-sort, misfit-inside, misfit-soon, misfit-fits}
+use borrow.Author.Needs.{needs}
+use Rattle.table.proofs.order.misfit_of.Statement.{statement}
+use Rattle.table.proofs.order.misfit_of.Tie as tie
+
+returns : tie.Need-returns
+returns c = misfit-none _ _ _ (search needs)
+
+sort-at-requires : tie.Need-sort-at-requires
+sort-at-requires c κs = search needs
+
+returns-2 : tie.Need-returns-2
+returns-2 c = misfit-sort _ _ _ (search needs) (search needs)
+
+mul-v : tie.Need-mul-v
+mul-v c = search needs
+
+element-copy-out-v : tie.Need-element-copy-out-v
+element-copy-out-v c = search needs
+
+returns-3 : tie.Need-returns-3
+unfolding EndedFrom
+returns-3 c =
+    misfit-inside _ _ _ _ (search needs) (search needs)
+    (c .before .before .before .before .before .before .pre .1 _ (search needs) (search needs)) (search needs)
+
+returns-4 : tie.Need-returns-4
+unfolding EndedFrom
+returns-4 c =
+    misfit-soon _ _ _ _ (search needs) (search needs)
+    (c .before .before .before .before .before .before .before .pre .1 _ (search needs) (search needs)) (search needs) (search needs)
+
+returns-5 : tie.Need-returns-5
+unfolding EndedFrom
+returns-5 c =
+    misfit-fits _ _ _ _ (search needs) (search needs)
+    (c .before .before .before .before .before .before .before .pre .1 _ (search needs) (search needs)) (search needs) (search needs)
+
+pub misfit-of-spec : {M : Type 1} → statement M
+misfit-of-spec =
+    tie.close
+    (tie.spec
+    returns
+    sort-at-requires
+    returns-2
+    mul-v
+    element-copy-out-v
+    returns-3
+    returns-4
+    returns-5)

@@ -1,0 +1,29 @@
+-- `order_all` meets its contract: each pass leaves the words of the trees before it as they are.
+-- Assumes nothing.
+use Rattle.table.proofs.Four.{order-four, zeros-at}
+use borrow.Author.Needs.{needs}
+use Rattle.table.proofs.order.order_all.Statement.{statement}
+use Rattle.table.proofs.order.order_all.Tie as tie
+
+order-tree-requires : tie.Need-order-tree-requires
+order-tree-requires c κs = search needs
+
+order-tree-requires-2 : tie.Need-order-tree-requires-2
+order-tree-requires-2 c κs = search needs
+
+order-tree-requires-3 : tie.Need-order-tree-requires-3
+order-tree-requires-3 c κs = search needs
+
+order-tree-requires-4 : tie.Need-order-tree-requires-4
+order-tree-requires-4 c κs = search needs
+
+returns : tie.Need-returns
+returns c =
+    order-four _ _ _ _ _ _ _ _ _ _
+    (c .before .before .before .before .before .pre) (zeros-at 256) (search needs)
+    (c .before .before .before .order-tree .ensures)
+    (c .before .before .order-tree2 .ensures) (c .before .order-tree3 .ensures) (c .order-tree4 .ensures)
+
+pub order-all-spec : {M : Type 1} → statement M
+order-all-spec =
+    tie.close (tie.spec order-tree-requires order-tree-requires-2 order-tree-requires-3 order-tree-requires-4 returns)

@@ -1,0 +1,59 @@
+-- `order_tree` meets its contract. The loop's invariant: the array has the words of the nodes from i on, and is as given elsewhere.
+-- Assumes nothing.
+use native.Mathlib.Omega.{arith}
+use lib.ListN.{length-set}
+use borrow.Author.Needs.{needs}
+use mathlib.Core.Path.{_≡_}
+use Prim.Native.Nat.{_-_, _≤_}
+use lib.ListN.{length}
+use Rattle.table.specs.Passes.{Ordered}
+use Rattle.table.proofs.Prefix.{order-none, from-next, order-more, order-at}
+use Rattle.table.proofs.order.order_tree.Statement.{statement}
+use Rattle.table.proofs.order.order_tree.Tie as tie
+
+abbrev Inv-loop : tie.InvT-loop
+Inv-loop t b e ends₀ i₀ ends i = (b ≤ i) × (i ≤ e) × (length ends ≡ 256) × Ordered t i e ends₀ ends
+
+abbrev μ-loop : tie.MeasureT-loop
+μ-loop t b e ends₀ i₀ ends i = i - b
+
+loop-holds : tie.Need-loop-holds Inv-loop μ-loop
+loop-holds c = (search needs, search needs, search needs, order-none _ _ _)
+
+sub-i : tie.Need-sub-i Inv-loop μ-loop
+sub-i c = search needs
+
+end-of-requires : tie.Need-end-of-requires Inv-loop μ-loop
+end-of-requires c κs = let l = c .before .before .loop in (search needs, from-next _ _ (l .i) _ _ (omega arith) (l .inv .3 .known))
+
+mul-ends : tie.Need-mul-ends Inv-loop μ-loop
+mul-ends c = search needs
+
+array-write-ends : tie.Need-array-write-ends Inv-loop μ-loop
+array-write-ends c = search needs
+
+loop-less : tie.Need-loop-less Inv-loop μ-loop
+loop-less c = search needs
+
+loop-again : tie.Need-loop-again Inv-loop μ-loop
+loop-again c =
+    let l = c .before .before .before .loop in
+    (search needs, search needs, simp length-set (l .inv .2), order-more _ _ (l .i) _ _ _ _ (omega arith) (search needs) (omega arith) (l .inv .3) (c .end-of .ensures))
+
+returns : tie.Need-returns Inv-loop μ-loop
+returns c = order-at _ _ _ _ _ _ (omega arith) (c .before .loop .inv .3)
+
+pub order-tree-spec : {M : Type 1} → statement M
+order-tree-spec =
+    tie.close
+    (tie.spec
+    Inv-loop
+    μ-loop
+    loop-holds
+    sub-i
+    end-of-requires
+    mul-ends
+    array-write-ends
+    loop-less
+    loop-again
+    returns)

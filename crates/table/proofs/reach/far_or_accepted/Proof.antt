@@ -1,0 +1,73 @@
+-- `far_or_accepted` meets its contract: a reach cut at 4,096 tells as much as the reach.
+-- Assumes nothing.
+use mathlib.Core.Path.{sym, _∙_}
+use Rattle.table.proofs.Four.{fars-are, rows-are, nine-refused, nine-accepted}
+use borrow.Author.Needs.{needs}
+use Rattle.table.proofs.reach.far_or_accepted.Statement.{statement}
+use Rattle.table.proofs.reach.far_or_accepted.Tie as tie
+
+reach-of-requires : tie.Need-reach-of-requires
+reach-of-requires c κs = search needs
+
+reach-of-requires-2 : tie.Need-reach-of-requires-2
+reach-of-requires-2 c κs = search needs
+
+reach-of-requires-3 : tie.Need-reach-of-requires-3
+reach-of-requires-3 c κs = search needs
+
+reach-of-requires-4 : tie.Need-reach-of-requires-4
+reach-of-requires-4 c κs = search needs
+
+too-far-requires : tie.Need-too-far-requires
+too-far-requires c κs = search needs
+
+rows-needed-requires : tie.Need-rows-needed-requires
+rows-needed-requires c κs = search needs
+
+enum-known-far : tie.Need-enum-known-far
+enum-known-far c = search needs
+
+enum-told : tie.Need-enum-told
+enum-told c = search needs
+
+returns : tie.Need-returns
+returns c =
+    let r = c .before .before .before .before in
+    let d = r .before in
+    let roots = d .before .before .before .before .before .pre .0 in
+    nine-refused _ _
+    (sym
+    (fars-are _ _ _ _ _ roots _ _ _ _ _
+    (d .before .before .before .reach-of .ensures)
+    (d .before .before .reach-of2 .ensures)
+    (d .before .reach-of3 .ensures)
+    (d .reach-of4 .ensures)
+    (r .too-far .ensures))
+    ∙ c .before .far .given .1)
+
+returns-2 : tie.Need-returns-2
+returns-2 c =
+    let r = c .before .before .before in
+    let d = r .before in
+    let roots = d .before .before .before .before .before .pre .0 in
+    let w = d .before .before .before .reach-of .ensures in
+    let x = d .before .before .reach-of2 .ensures in
+    let y = d .before .reach-of3 .ensures in
+    let z = d .reach-of4 .ensures in
+    let near = sym (fars-are _ _ _ _ _ roots _ _ _ _ _ w x y z (r .too-far .ensures)) ∙ c .enum-told .given .1 in
+    nine-accepted _ _ _ near (roots .all) (rows-are _ _ _ _ _ roots _ _ _ _ _ w x y z near (c .before .before .rows-needed .ensures))
+
+pub far-or-accepted-spec : {M : Type 1} → statement M
+far-or-accepted-spec =
+    tie.close
+    (tie.spec
+    reach-of-requires
+    reach-of-requires-2
+    reach-of-requires-3
+    reach-of-requires-4
+    too-far-requires
+    rows-needed-requires
+    enum-known-far
+    enum-told
+    returns
+    returns-2)

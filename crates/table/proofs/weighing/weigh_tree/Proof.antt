@@ -1,0 +1,75 @@
+-- `weigh_tree` meets its contract. The loop's invariant: the array has what each subtree from node i on weighs, cut at 4,096.
+-- Assumes nothing.
+use Rattle.table.proofs.Weigh.{words-next, most-small}
+use mathlib.Core.Path.{_≡_}
+use Prim.Native.Nat.{_-_, _≤_}
+use native.Mathlib.Omega.{arith}
+use lib.ListN.{length, length-set}
+use Rattle.table.specs.Passes.{WordsFrom, weight}
+use Rattle.table.proofs.Weigh.{words-none, words-more, words-at, links-next}
+use borrow.Author.Needs.{needs}
+use Rattle.table.proofs.weighing.weigh_tree.Statement.{statement}
+use Rattle.table.proofs.weighing.weigh_tree.Tie as tie
+
+abbrev Inv-loop : tie.InvT-loop
+Inv-loop t ends what b e words₀ i₀ words i = (b ≤ i) × (i ≤ e) × (length words ≡ 256) × WordsFrom t words (weight what) i e
+
+abbrev μ-loop : tie.MeasureT-loop
+μ-loop t ends what b e words₀ i₀ words i = i - b
+
+loop-holds : tie.Need-loop-holds Inv-loop μ-loop
+loop-holds c = (search needs, search needs, search needs, words-none _ _ _ _)
+
+sub-i : tie.Need-sub-i Inv-loop μ-loop
+sub-i c = search needs
+
+weight-at-requires : tie.Need-weight-at-requires Inv-loop μ-loop
+weight-at-requires c κs = search needs
+
+most-below-requires : tie.Need-most-below-requires Inv-loop μ-loop
+most-below-requires c κs =
+    let l = c .before .before .before .loop in
+    (search needs, links-next _ _ (c .before .before .before .before .before .args .b) _ _ (omega arith) (c .before .before .before .before .before .pre .1))
+
+add-cut : tie.Need-add-cut Inv-loop μ-loop
+add-cut c =
+    let l = c .before .before .before .before .loop in
+    omega (arith, most-small _ _ _ _ _ _ (c .most-below .ensures) (words-next _ _ _ (l .i) _ _ (omega arith) (l .inv .3)))
+
+cut-requires : tie.Need-cut-requires Inv-loop μ-loop
+cut-requires c κs = search needs
+
+mul-words : tie.Need-mul-words Inv-loop μ-loop
+mul-words c = search needs
+
+array-write-words : tie.Need-array-write-words Inv-loop μ-loop
+array-write-words c = search needs
+
+loop-less : tie.Need-loop-less Inv-loop μ-loop
+loop-less c = search needs
+
+loop-again : tie.Need-loop-again Inv-loop μ-loop
+loop-again c =
+    let l = c .before .before .before .before .before .loop in
+    (search needs, search needs, simp length-set (l .inv .2), words-more _ _ _ (l .i) _ _ _ _ _ (omega arith) (search needs) (omega arith) (l .inv .3) (c .before .before .before .weight-at .ensures) (c .before .most-below .ensures) (c .cut .ensures))
+
+returns : tie.Need-returns Inv-loop μ-loop
+returns c = words-at _ _ _ _ _ _ (omega arith) (c .before .loop .inv .3)
+
+pub weigh-tree-spec : {M : Type 1} → statement M
+weigh-tree-spec =
+    tie.close
+    (tie.spec
+    Inv-loop
+    μ-loop
+    loop-holds
+    sub-i
+    weight-at-requires
+    most-below-requires
+    add-cut
+    cut-requires
+    mul-words
+    array-write-words
+    loop-less
+    loop-again
+    returns)

@@ -1,0 +1,36 @@
+-- The answer to a table, whatever its bytes are. Definitions only.
+use mathlib.Core.Bool.{cond}
+use mathlib.Core.List.{List}
+use Prim.Native.Nat.{ℕ}
+use lib.Dec.{eqb}
+use Rattle.table.specs.declared.Place.{Place}
+use Rattle.table.specs.declared.Place.the-variants.{Nowhere, At}
+use Rattle.table.specs.declared.Answer.{Answer}
+use Rattle.table.specs.declared.Answer.the-variants.{Accepted, Refused}
+use Rattle.table.specs.Header.{total, headerRefusal}
+use Rattle.table.specs.Nodes.{wrongNode}
+use Rattle.table.specs.Order.{misfits}
+use Rattle.table.specs.Nesting.{tooDeep}
+use Rattle.table.specs.Reach.{tooFar, rowsNeeded}
+
+-- a rule that is broken at a place refuses the table; else the rules after it decide
+unfoldable pub orRefused : ℕ → Place → Answer → Answer
+orRefused number Nowhere a = a
+orRefused number (At p) a = Refused number p
+
+-- rules 1 to 5 have place 0
+unfoldable pub orHeader : ℕ → Answer → Answer
+orHeader number a = cond (eqb number 0) a (Refused number 0)
+
+-- "Several at once: 1 to 9 come first, in that order, each over the whole table."
+unfoldable pub from9 : List ℕ → Answer
+from9 t = orRefused 9 (tooFar t) (Accepted (total t) (rowsNeeded t))
+
+unfoldable pub from8 : List ℕ → Answer
+from8 t = orRefused 8 (tooDeep t) (from9 t)
+
+unfoldable pub from7 : List ℕ → Answer
+from7 t = orRefused 7 (misfits t) (from8 t)
+
+unfoldable pub checked : List ℕ → Answer
+checked t = orHeader (headerRefusal t) (orRefused 6 (wrongNode t (total t) 0) (from7 t))

@@ -1,0 +1,42 @@
+-- "Example, whole: entry CrossAbove(slot 0, slot 1); exit Lt(close, Prev(close, 2)). K is 2; seven nodes make 128 bytes. ..
+-- `accepted nodes 7 rows 3`."
+use mathlib.Core.Path.{_≡_, refl}
+use mathlib.Core.List.{List, [], _∷_, _++_}
+use Prim.Native.Nat.{ℕ}
+use Rattle.table.specs.declared.Answer.the-variants.{Accepted}
+use Rattle.table.specs.Bytes.{u16, u32, u64}
+use Rattle.table.specs.Kinds.{kinds, kindOf}
+use Rattle.table.specs.Header.{markRight, countsRight, headerRefusal, root}
+use Rattle.table.specs.Nodes.{nodeAt, childrenRight, nRight, constantRight, ownRight, nodeRight, wrongNode, sortAt, childCount, childCountAt, childSortAt}
+use Rattle.table.specs.Order.{fits, misfit, orElse, ofFour, misfits}
+use Rattle.table.specs.Forest.{firstTrees, otherTrees, over, trees, forestOf}
+use Rattle.table.specs.Nesting.{deeper, tooDeep}
+use Rattle.table.specs.Reach.{back, ownBack, weigh, forestReach, treeReach, farAt, tooFar, rowsNeeded}
+use Rattle.table.specs.Trees.{ref, price, prev, compare, cross}
+use Rattle.table.specs.Reading.{operandFrom, operands, firstOf, conditionFrom, conditions, present, treeOf}
+use Rattle.table.specs.Writing.{absent, shortOf, ruleOf}
+use Rattle.table.specs.Checked.{orRefused, orHeader, from9, from8, from7, checked}
+
+-- kind, selector and n of a node that has neither children of its own number nor a constant
+abbrev node : ℕ → ℕ → ℕ → List ℕ
+node kind selector n = kind ∷ selector ∷ 0 ∷ 0 ∷ n ∷ 0 ∷ 0 ∷ 0 ∷ 0 ∷ 0 ∷ 0 ∷ 0 ∷ 0 ∷ 0 ∷ 0 ∷ 0 ∷ []
+
+unfoldable pub example : List ℕ
+example =
+    (82 ∷ 84 ∷ 66 ∷ 2 ∷ 1 ∷ 0 ∷ 7 ∷ 0 ∷ 3 ∷ 0 ∷ 4 ∷ 0 ∷ 0 ∷ 0 ∷ 0 ∷ 0 ∷ []) ++
+    node 22 0 0 ++ node 2 0 0 ++ node 2 0 1 ++
+    node 17 0 0 ++ node 3 3 0 ++ node 4 0 2 ++ node 3 3 0
+
+pub example-accepted : checked example ≡ Accepted 7 3
+unfolding example checked orHeader orRefused from7 from8 from9 tooFar rowsNeeded farAt tooDeep misfits ofFour treeReach forestOf root forestReach weigh ownBack back deeper orElse trees over otherTrees firstTrees u16 u32 u64 kindOf kinds nodeAt headerRefusal markRight countsRight wrongNode nodeRight ownRight nRight constantRight childrenRight sortAt childCountAt childCount childSortAt fits misfit
+example-accepted = refl
+
+-- and it holds those two trees
+pub example-rule : ruleOf example ≡ record {
+  entry = cross 22 (ref 0) (ref 1);
+  exit = compare 17 (price 3) (prev (price 3) 2);
+  shortEntry = absent;
+  shortExit = absent;
+}
+unfolding example ruleOf shortOf present treeOf forestOf root trees over otherTrees firstTrees u16 u32 u64 kindOf kinds nodeAt childCountAt childCount conditions conditionFrom operands operandFrom firstOf
+example-rule = refl

@@ -1,0 +1,52 @@
+-- The header, and the rules 1 to 5. Definitions only.
+use mathlib.Core.Bool.{Bool, not, cond, _&&_}
+use mathlib.Core.List.{List}
+use Prim.Native.Nat.{ℕ, zero, suc, _+_, _*_}
+use lib.ListN.{length, getD}
+use lib.Dec.{ltb, eqb}
+use Rattle.table.specs.Bytes.{u16}
+
+-- "Header, 16 bytes: mark `RTB`; slot count K (one byte, 0 to 64); version, 16 bits, 1; total nodes (16 bits, 2 to 256); node
+-- counts of entry, exit, short entry, short exit (16 bits each; the first two at least 1, 0 means absent; they sum to the
+-- total)."
+unfoldable pub markRight : List ℕ → Bool
+markRight t = eqb (getD t 0 0) 82 && eqb (getD t 1 0) 84 && eqb (getD t 2 0) 66
+
+abbrev pub slots : List ℕ → ℕ
+slots t = getD t 3 0
+
+abbrev pub version : List ℕ → ℕ
+version t = u16 t 4
+
+abbrev pub total : List ℕ → ℕ
+total t = u16 t 6
+
+-- tree x: 0 entry, 1 exit, 2 short entry, 3 short exit
+abbrev pub count : List ℕ → ℕ → ℕ
+count t x = u16 t (8 + 2 * x)
+
+unfoldable pub countsRight : List ℕ → Bool
+countsRight t =
+    not (ltb 64 (slots t))
+    && not (ltb (total t) 2)
+    && not (ltb 256 (total t))
+    && not (ltb (count t 0) 1)
+    && not (ltb (count t 1) 1)
+    && eqb (count t 0 + count t 1 + count t 2 + count t 3) (total t)
+
+-- The number of the first of these rules that the table breaks, 0 where it breaks none:
+-- "1 table under 16 bytes; 2 mark wrong; 3 version not 1; 4 K, total or tree counts against the rules; 5 length not
+-- 16 + 16·total".
+unfoldable pub headerRefusal : List ℕ → ℕ
+headerRefusal t =
+    cond (ltb (length t) 16) 1
+    (cond (not (markRight t)) 2
+    (cond (not (eqb (version t) 1)) 3
+    (cond (not (countsRight t)) 4
+    (cond (not (eqb (length t) (16 + 16 * total t))) 5
+    0))))
+
+-- "Nodes are numbered from 0 over the whole table": the number of tree x's first node, its root; that of tree 4 is the end.
+unfoldable pub root : List ℕ → ℕ → ℕ
+root t zero = 0
+root t (suc x) = root t x + count t x

@@ -1,0 +1,62 @@
+-- What a header that breaks no rule says.
+-- Assumes nothing.
+use mathlib.Core.Path.{_≡_, refl, sym}
+use mathlib.Core.Bool.{Bool, true, false, not, cond, _&&_}
+use mathlib.Core.List.{List}
+use Prim.Native.Nat.{ℕ, _+_, _*_, _≤_}
+use native.Mathlib.Omega.{arith}
+use lib.ListN.{length}
+use lib.Dec.{ltb, eqb}
+use borrow.Author.Tests.{ltb-false, eqb-true, not-true}
+use Rattle.table.specs.Header.{slots, version, total, count, markRight, countsRight, headerRefusal}
+
+true-false : false ≡ true → ⊥
+true-false h = let z : _≡_ {A = ℕ} 0 1 = cc in omega arith
+
+pub both : (a b : Bool) → (a && b) ≡ true → (a ≡ true) × (b ≡ true)
+both true b h = (refl, h)
+both false b h = absurd (true-false h)
+
+refused-not : (r x : ℕ) (b : Bool) → cond b r x ≡ 0 → (r ≡ 0 → ⊥) → (b ≡ false) × (x ≡ 0)
+refused-not r x true h some = absurd (some h)
+refused-not r x false h some = (refl, h)
+
+not-not : (b : Bool) → not b ≡ false → b ≡ true
+not-not true h = refl
+not-not false h = absurd (true-false (sym h))
+
+pub record HeaderRight (t : List ℕ) : Type 0 where
+  pub mark : markRight t ≡ true
+  pub first : version t ≡ 1
+  pub few-slots : slots t ≤ 64
+  pub least : 2 ≤ total t
+  pub most : total t ≤ 256
+  pub has-entry : 1 ≤ count t 0
+  pub has-exit : 1 ≤ count t 1
+  pub sums : count t 0 + count t 1 + count t 2 + count t 3 ≡ total t
+  pub long : length t ≡ 16 + 16 * total t
+
+pub header-right : (t : List ℕ) → headerRefusal t ≡ 0 → HeaderRight t
+unfolding headerRefusal countsRight
+header-right t h =
+    let h1 = refused-not 1 _ (ltb (length t) 16) h (λ z. omega arith) in
+    let h2 = refused-not 2 _ (not (markRight t)) (h1 .1) (λ z. omega arith) in
+    let h3 = refused-not 3 _ (not (eqb (version t) 1)) (h2 .1) (λ z. omega arith) in
+    let h4 = refused-not 4 _ (not (countsRight t)) (h3 .1) (λ z. omega arith) in
+    let h5 = refused-not 5 _ (not (eqb (length t) (16 + 16 * total t))) (h4 .1) (λ z. omega arith) in
+    let c5 = both _ (eqb (count t 0 + count t 1 + count t 2 + count t 3) (total t)) (not-not _ (h4 .0)) in
+    let c4 = both _ (not (ltb (count t 1) 1)) (c5 .0) in
+    let c3 = both _ (not (ltb (count t 0) 1)) (c4 .0) in
+    let c2 = both _ (not (ltb 256 (total t))) (c3 .0) in
+    let c1 = both (not (ltb 64 (slots t))) (not (ltb (total t) 2)) (c2 .0) in
+    record {
+      mark = not-not _ (h2 .0);
+      first = eqb-true _ _ (not-not _ (h3 .0));
+      few-slots = ltb-false 64 (slots t) (not-true _ (c1 .0));
+      least = ltb-false (total t) 2 (not-true _ (c1 .1));
+      most = ltb-false 256 (total t) (not-true _ (c2 .1));
+      has-entry = ltb-false (count t 0) 1 (not-true _ (c3 .1));
+      has-exit = ltb-false (count t 1) 1 (not-true _ (c4 .1));
+      sums = eqb-true _ _ (c5 .1);
+      long = eqb-true _ _ (not-not _ (h5 .0));
+    }

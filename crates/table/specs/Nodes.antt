@@ -1,0 +1,69 @@
+-- Nodes, and rule 6. Definitions only.
+use mathlib.Core.Bool.{Bool, true, not, cond, _&&_}
+use mathlib.Core.List.{List}
+use Prim.Native.Nat.{ℕ, zero, suc, _+_, _*_}
+use lib.ListN.{getD}
+use lib.Dec.{ltb, eqb}
+use Rattle.floats.specs.Floats.{finite, floatOf}
+use Rattle.table.specs.declared.Kind.{Kind}
+use Rattle.table.specs.declared.Node.{Node}
+use Rattle.table.specs.declared.Place.{Place}
+use Rattle.table.specs.declared.Place.the-variants.{Nowhere, At}
+use Rattle.table.specs.Bytes.{u16, u32, u64}
+use Rattle.table.specs.Kinds.{kindOf}
+use Rattle.table.specs.Header.{slots}
+
+-- "Then 16 bytes a node." "Node: kind (1), selector (1), children (2), n (4), constant bits (8)." The number of the node is
+-- kept beside its fields.
+unfoldable pub nodeAt : List ℕ → ℕ → Node
+nodeAt t i =
+    record {
+      number = i;
+      kind = getD t (16 + 16 * i) 0;
+      selector = getD t (17 + 16 * i) 0;
+      children = u16 t (18 + 16 * i);
+      n = u32 t (20 + 16 * i);
+      constant = u64 t (24 + 16 * i);
+    }
+
+-- "Unused fields are zero; only All and Any use children." A field's own row of the kinds says what it is used for.
+unfoldable pub childrenRight : ℕ → ℕ → Bool
+childrenRight children takes = cond (eqb takes 255) true (eqb children 0)
+
+-- n: unused, so zero; a "slot, below K"; or any number
+unfoldable pub nRight : ℕ → ℕ → ℕ → Bool
+nRight k n used = cond (eqb used 0) (eqb n 0) (cond (eqb used 1) (ltb n k) true)
+
+-- "Const (constant, finite)"; an unused constant is compared as bits
+unfoldable pub constantRight : ℕ → ℕ → Bool
+constantRight bits used = cond (eqb used 1) (finite (floatOf bits)) (eqb bits 0)
+
+-- a node's own bytes, in a table with k slots: a known kind, and each field as the kind uses it
+unfoldable pub ownRight : ℕ → Node → Kind → Bool
+ownRight k n w =
+    not (eqb (w .sort) 0)
+    && ltb (n .selector) (w .selectors)
+    && childrenRight (n .children) (w .children)
+    && nRight k (n .n) (w .n)
+    && constantRight (n .constant) (w .constant)
+
+unfoldable pub nodeRight : List ℕ → ℕ → Bool
+nodeRight t i = ownRight (slots t) (nodeAt t i) (kindOf (nodeAt t i .kind))
+
+-- "6 a node's own bytes wrong: lowest such node", of the m nodes from node i on
+unfoldable pub wrongNode : List ℕ → ℕ → ℕ → Place
+wrongNode t zero i = Nowhere
+wrongNode t (suc m) i = cond (nodeRight t i) (wrongNode t m (i + 1)) (At i)
+
+-- What the table of kinds says of a node: its sort, how many children it takes, and of which sort.
+unfoldable pub sortAt : List ℕ → ℕ → ℕ
+sortAt t i = kindOf (nodeAt t i .kind) .sort
+
+unfoldable pub childCount : Node → Kind → ℕ
+childCount n w = cond (eqb (w .children) 255) (n .children) (w .children)
+
+unfoldable pub childCountAt : List ℕ → ℕ → ℕ
+childCountAt t i = childCount (nodeAt t i) (kindOf (nodeAt t i .kind))
+
+unfoldable pub childSortAt : List ℕ → ℕ → ℕ
+childSortAt t i = kindOf (nodeAt t i .kind) .below

@@ -1,0 +1,37 @@
+-- Rule 7: "each tree in prefix order". Definitions only.
+use mathlib.Core.Bool.{cond}
+use mathlib.Core.List.{List, [], _∷_, _++_}
+use Prim.Native.Nat.{ℕ, zero, suc, _+_}
+use lib.ListN.{replicate}
+use lib.Dec.{eqb}
+use Rattle.table.specs.declared.Place.{Place}
+use Rattle.table.specs.declared.Place.the-variants.{Nowhere, At}
+use Rattle.table.specs.Header.{count, root}
+use Rattle.table.specs.Nodes.{sortAt, childCountAt, childSortAt}
+
+-- Do the m nodes from node i on fit the sorts that are wanted, one tree in prefix order for each? A node of the wanted sort
+-- stands there, and its children are wanted next. If not, the place:
+-- "first node that cannot stand there; just past a tree's count if cut short; just past its last fitting node if complete
+-- too soon".
+unfoldable pub fits : List ℕ → ℕ → ℕ → List ℕ → Place
+fits t zero i [] = Nowhere
+fits t zero i (w ∷ ws) = At i
+fits t (suc m) i [] = At i
+fits t (suc m) i (w ∷ ws) =
+    cond (eqb (sortAt t i) w) (fits t m (i + 1) (replicate (childCountAt t i) (childSortAt t i) ++ ws)) (At i)
+
+-- the tree of the m nodes from node b on: one condition; absent where m is 0
+unfoldable pub misfit : List ℕ → ℕ → ℕ → Place
+misfit t m b = cond (eqb m 0) Nowhere (fits t m b (2 ∷ []))
+
+unfoldable pub orElse : Place → Place → Place
+orElse Nowhere q = q
+orElse (At p) q = At p
+
+-- the first place that one of the four trees gives; their nodes rise with the trees, so it is the lowest
+unfoldable pub ofFour : (ℕ → Place) → Place
+ofFour f = orElse (f 0) (orElse (f 1) (orElse (f 2) (f 3)))
+
+-- "7 a tree's sorts or extent wrong"
+unfoldable pub misfits : List ℕ → Place
+misfits t = ofFour (λ x. misfit t (count t x) (root t x))

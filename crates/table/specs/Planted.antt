@@ -1,0 +1,254 @@
+-- What a planted tree is: its nodes' own bytes are right, each has the children that its kind takes, it is as deep as the tree
+-- has levels, and it reads as the tree.
+-- Assumes nothing.
+use mathlib.Core.Path.{_≡_, refl, _∙_, ap}
+use mathlib.Core.Bool.{Bool, true, false, cond}
+use mathlib.Core.List.{List, [], _∷_}
+use Prim.Native.Nat.{ℕ, zero, suc, _+_, _-_, _≤_, _<_}
+use native.Mathlib.Omega.{arith}
+use lib.ListN.{replicate}
+use lib.Dec.{ltb, eqb}
+use borrow.Author.Tests.{ne-eqb, lt-ltb, le-ltb}
+use Rattle.table.specs.declared.Node.{Node}
+use Rattle.table.specs.declared.Place.the-variants.{Nowhere}
+use Rattle.table.specs.Kinds.{kinds, kindOf}
+use Rattle.table.specs.Nodes.{childCount, childrenRight, nRight, constantRight, ownRight}
+use Rattle.table.specs.Order.{orElse}
+use Rattle.table.specs.Forest.{Forest, sorts, Sorted}
+use Rattle.table.specs.Forest as Forest
+use Rattle.table.specs.Nesting.{deeper}
+use Rattle.table.specs.Trees.{Operand, const, ref, price, prev, arith as sums, Condition, Conditions, compare, cross, between, trend, every, any, negated, inPosition, barsSince, none, more}
+use Rattle.table.specs.Reading.{operandFrom, operands, firstOf, conditionFrom, conditions}
+use Rattle.table.specs.Writing.{manyOf, nodesIn, nodesOf}
+use Rattle.table.specs.Limits.{Within, WithinOf, WithinAll, levels, levelsOf, levelsOfAll}
+use Rattle.table.specs.KindLaws.{arithmetic-kind, comparison-kind, crossing-kind, trend-kind}
+use Rattle.table.specs.WritingLaws.{Right}
+use Rattle.table.specs.Planting.{plant, plantOf, plantAll}
+
+-- ---- own bytes
+
+module _ (k : ℕ) where
+  pub right : (a : Operand) (i : ℕ) (rest : Forest) → Within k a → Right k rest → Right k (plant i a rest)
+  unfolding Within plant Right kindOf kinds ownRight childrenRight nRight constantRight
+  right (const x) i rest w r = (w .1, tt, r)
+  right (ref s) i rest w r = (rw (lt-ltb s k w), tt, r)
+  right (price s) i rest w r = (rw (lt-ltb s 7 w), tt, r)
+  right (prev a n) i rest w r = (refl, right a (i + 1) Forest.none (w .1) tt, r)
+  right (sums kind a b) i rest w r =
+      (rw (arithmetic-kind kind (w .0) (w .1)), right a (i + 1) _ (w .2) (right b (i + 1 + nodesIn a) Forest.none (w .3) tt), r)
+
+  mutual
+    unfolding WithinOf plantOf Right kindOf kinds ownRight childrenRight nRight constantRight
+
+    pub rightOf : (c : Condition) (i : ℕ) (rest : Forest) → WithinOf k c → Right k rest → Right k (plantOf i c rest)
+    rightOf (compare kind a b) i rest w r =
+        (rw (comparison-kind kind (w .0) (w .1)), right a (i + 1) _ (w .2) (right b (i + 1 + nodesIn a) Forest.none (w .3) tt), r)
+    rightOf (cross kind a b) i rest w r =
+        (rw (crossing-kind kind (w .0) (w .1)), right a (i + 1) _ (w .2) (right b (i + 1 + nodesIn a) Forest.none (w .3) tt), r)
+    rightOf (between x a b) i rest w r =
+        (refl, right x (i + 1) _ (w .0) (right a (i + 1 + nodesIn x) _ (w .1) (right b (i + 1 + nodesIn x + nodesIn a) Forest.none (w .2) tt)), r)
+    rightOf (trend kind a n) i rest w r = (rw (trend-kind kind (w .0) (w .1)), right a (i + 1) Forest.none (w .3) tt, r)
+    rightOf (every cs) i rest w r = (refl, rightAll cs (i + 1) Forest.none w tt, r)
+    rightOf (any cs) i rest w r = (refl, rightAll cs (i + 1) Forest.none w tt, r)
+    rightOf (negated c) i rest w r = (refl, rightOf c (i + 1) Forest.none w tt, r)
+    rightOf (inPosition true) i rest w r = (refl, tt, r)
+    rightOf (inPosition false) i rest w r = (refl, tt, r)
+    rightOf (barsSince s n) i rest w r = (rw (lt-ltb s 5 (w .0)), tt, r)
+
+    pub rightAll : (cs : Conditions) (i : ℕ) (rest : Forest) → WithinAll k cs → Right k rest → Right k (plantAll i cs rest)
+    rightAll none i rest w r = r
+    rightAll (more c cs) i rest w r = rightOf c i _ (w .0) (rightAll cs (i + nodesOf c) rest (w .1) r)
+
+-- ---- sorts and children
+
+plant-sorts : (i : ℕ) (a : Operand) (rest : Forest) (k : ℕ) → Within k a → sorts (plant i a rest) ≡ 1 ∷ sorts rest
+unfolding Within plant sorts kindOf kinds
+plant-sorts i (const x) rest k w = refl
+plant-sorts i (ref s) rest k w = refl
+plant-sorts i (price s) rest k w = refl
+plant-sorts i (prev a n) rest k w = refl
+plant-sorts i (sums kind a b) rest k w = rw (arithmetic-kind kind (w .0) (w .1))
+
+pub plantOf-sorts : (i : ℕ) (c : Condition) (rest : Forest) (k : ℕ) → WithinOf k c → sorts (plantOf i c rest) ≡ 2 ∷ sorts rest
+unfolding WithinOf plantOf sorts kindOf kinds
+plantOf-sorts i (compare kind a b) rest k w = rw (comparison-kind kind (w .0) (w .1))
+plantOf-sorts i (cross kind a b) rest k w = rw (crossing-kind kind (w .0) (w .1))
+plantOf-sorts i (between x a b) rest k w = refl
+plantOf-sorts i (trend kind a n) rest k w = rw (trend-kind kind (w .0) (w .1))
+plantOf-sorts i (every cs) rest k w = refl
+plantOf-sorts i (any cs) rest k w = refl
+plantOf-sorts i (negated c) rest k w = refl
+plantOf-sorts i (inPosition want) rest k w = refl
+plantOf-sorts i (barsSince s n) rest k w = refl
+
+plantAll-sorts : (i : ℕ) (cs : Conditions) (k : ℕ) → WithinAll k cs → sorts (plantAll i cs Forest.none) ≡ replicate (manyOf cs) 2
+unfolding WithinAll plantAll sorts manyOf
+plantAll-sorts i none k w = refl
+plantAll-sorts i (more c cs) k w = plantOf-sorts i c _ k (w .0) ∙ ap (λ (l : List ℕ). 2 ∷ l) (plantAll-sorts (i + nodesOf c) cs k (w .1))
+
+module _ (k : ℕ) where
+  one-below : (i : ℕ) (a : Operand) → Within k a → sorts (plant i a Forest.none) ≡ replicate 1 1
+  unfolding sorts
+  one-below i a w = plant-sorts i a Forest.none k w
+
+  two-below : (i j : ℕ) (a b : Operand) → Within k a → Within k b → sorts (plant i a (plant j b Forest.none)) ≡ replicate 2 1
+  two-below i j a b wa wb = plant-sorts i a _ k wa ∙ ap (λ (l : List ℕ). 1 ∷ l) (one-below j b wb)
+
+  three-below : (h i j : ℕ) (x a b : Operand) → Within k x → Within k a → Within k b → sorts (plant h x (plant i a (plant j b Forest.none))) ≡ replicate 3 1
+  three-below h i j x a b wx wa wb = plant-sorts h x _ k wx ∙ ap (λ (l : List ℕ). 1 ∷ l) (two-below i j a b wa wb)
+
+  pub sorted : (a : Operand) (i : ℕ) (rest : Forest) → Within k a → Sorted rest → Sorted (plant i a rest)
+  unfolding Within plant Sorted kindOf kinds childCount sorts
+  sorted (const x) i rest w r = (refl, tt, r)
+  sorted (ref s) i rest w r = (refl, tt, r)
+  sorted (price s) i rest w r = (refl, tt, r)
+  sorted (prev a n) i rest w r = (one-below (i + 1) a (w .1), sorted a (i + 1) Forest.none (w .1) tt, r)
+  sorted (sums kind a b) i rest w r = (
+    rw (arithmetic-kind kind (w .0) (w .1)) (two-below (i + 1) (i + 1 + nodesIn a) a b (w .2) (w .3)),
+    sorted a (i + 1) _ (w .2) (sorted b (i + 1 + nodesIn a) Forest.none (w .3) tt),
+    r,
+  )
+
+  mutual
+    unfolding WithinOf plantOf Sorted kindOf kinds childCount sorts
+
+    pub sortedOf : (c : Condition) (i : ℕ) (rest : Forest) → WithinOf k c → Sorted rest → Sorted (plantOf i c rest)
+    sortedOf (compare kind a b) i rest w r = (
+      rw (comparison-kind kind (w .0) (w .1)) (two-below (i + 1) (i + 1 + nodesIn a) a b (w .2) (w .3)),
+      sorted a (i + 1) _ (w .2) (sorted b (i + 1 + nodesIn a) Forest.none (w .3) tt),
+      r,
+    )
+    sortedOf (cross kind a b) i rest w r = (
+      rw (crossing-kind kind (w .0) (w .1)) (two-below (i + 1) (i + 1 + nodesIn a) a b (w .2) (w .3)),
+      sorted a (i + 1) _ (w .2) (sorted b (i + 1 + nodesIn a) Forest.none (w .3) tt),
+      r,
+    )
+    sortedOf (between x a b) i rest w r = (
+      three-below (i + 1) (i + 1 + nodesIn x) (i + 1 + nodesIn x + nodesIn a) x a b (w .0) (w .1) (w .2),
+      sorted x (i + 1) _ (w .0) (sorted a (i + 1 + nodesIn x) _ (w .1) (sorted b (i + 1 + nodesIn x + nodesIn a) Forest.none (w .2) tt)),
+      r,
+    )
+    sortedOf (trend kind a n) i rest w r =
+        (rw (trend-kind kind (w .0) (w .1)) (one-below (i + 1) a (w .3)), sorted a (i + 1) Forest.none (w .3) tt, r)
+    sortedOf (every cs) i rest w r = (plantAll-sorts (i + 1) cs k w, sortedAll cs (i + 1) Forest.none w tt, r)
+    sortedOf (any cs) i rest w r = (plantAll-sorts (i + 1) cs k w, sortedAll cs (i + 1) Forest.none w tt, r)
+    sortedOf (negated c) i rest w r = (plantOf-sorts (i + 1) c Forest.none k w, sortedOf c (i + 1) Forest.none w tt, r)
+    sortedOf (inPosition want) i rest w r = (refl, tt, r)
+    sortedOf (barsSince s n) i rest w r = (refl, tt, r)
+
+    pub sortedAll : (cs : Conditions) (i : ℕ) (rest : Forest) → WithinAll k cs → Sorted rest → Sorted (plantAll i cs rest)
+    sortedAll none i rest w r = r
+    sortedAll (more c cs) i rest w r = sortedOf c i _ (w .0) (sortedAll cs (i + nodesOf c) rest (w .1) r)
+
+-- ---- depth
+
+one-level : (n : Node) (l : ℕ) (below rest : Forest) → 0 < l → deeper (l - 1) below ≡ Nowhere → deeper l (Forest.tree n below rest) ≡ deeper l rest
+unfolding deeper orElse
+one-level n zero below rest h b = absurd (never h)
+  where
+    never : 0 < 0 → ⊥
+    never h′ = omega arith
+one-level n (suc l) below rest h b =
+    let same : l ≡ suc l - 1 = omega arith in
+    rw (ap (λ (m : ℕ). deeper m below) same ∙ b)
+
+no-levels : (l : ℕ) → deeper l Forest.none ≡ Nowhere
+unfolding deeper
+no-levels l = refl
+
+pub shallow : (a : Operand) (i l : ℕ) (rest : Forest) → levels a ≤ l → deeper l (plant i a rest) ≡ deeper l rest
+unfolding plant levels
+shallow (const x) i l rest h = one-level _ l Forest.none rest (omega arith) (no-levels (l - 1))
+shallow (ref s) i l rest h = one-level _ l Forest.none rest (omega arith) (no-levels (l - 1))
+shallow (price s) i l rest h = one-level _ l Forest.none rest (omega arith) (no-levels (l - 1))
+shallow (prev a n) i l rest h =
+    one-level _ l _ rest (omega arith) (shallow a (i + 1) (l - 1) Forest.none (omega arith) ∙ no-levels (l - 1))
+shallow (sums kind a b) i l rest h =
+    one-level _ l _ rest (omega arith)
+    (shallow a (i + 1) (l - 1) (plant (i + 1 + nodesIn a) b Forest.none) (omega arith) ∙ shallow b (i + 1 + nodesIn a) (l - 1) Forest.none (omega arith) ∙ no-levels (l - 1))
+
+mutual
+  unfolding plantOf levelsOf
+
+  pub shallowOf : (c : Condition) (i l : ℕ) (rest : Forest) → levelsOf c ≤ l → deeper l (plantOf i c rest) ≡ deeper l rest
+  shallowOf (compare kind a b) i l rest h =
+      one-level _ l _ rest (omega arith)
+      (shallow a (i + 1) (l - 1) (plant (i + 1 + nodesIn a) b Forest.none) (omega arith) ∙ shallow b (i + 1 + nodesIn a) (l - 1) Forest.none (omega arith) ∙ no-levels (l - 1))
+  shallowOf (cross kind a b) i l rest h =
+      one-level _ l _ rest (omega arith)
+      (shallow a (i + 1) (l - 1) (plant (i + 1 + nodesIn a) b Forest.none) (omega arith) ∙ shallow b (i + 1 + nodesIn a) (l - 1) Forest.none (omega arith) ∙ no-levels (l - 1))
+  shallowOf (between x a b) i l rest h =
+      one-level _ l _ rest (omega arith)
+      (shallow x (i + 1) (l - 1) (plant (i + 1 + nodesIn x) a (plant (i + 1 + nodesIn x + nodesIn a) b Forest.none)) (omega arith)
+      ∙ shallow a (i + 1 + nodesIn x) (l - 1) (plant (i + 1 + nodesIn x + nodesIn a) b Forest.none) (omega arith)
+      ∙ shallow b (i + 1 + nodesIn x + nodesIn a) (l - 1) Forest.none (omega arith)
+      ∙ no-levels (l - 1))
+  shallowOf (trend kind a n) i l rest h =
+      one-level _ l _ rest (omega arith) (shallow a (i + 1) (l - 1) Forest.none (omega arith) ∙ no-levels (l - 1))
+  shallowOf (every cs) i l rest h = one-level _ l _ rest (omega arith) (shallowAll cs (i + 1) (l - 1) Forest.none (omega arith) ∙ no-levels (l - 1))
+  shallowOf (any cs) i l rest h = one-level _ l _ rest (omega arith) (shallowAll cs (i + 1) (l - 1) Forest.none (omega arith) ∙ no-levels (l - 1))
+  shallowOf (negated c) i l rest h = one-level _ l _ rest (omega arith) (shallowOf c (i + 1) (l - 1) Forest.none (omega arith) ∙ no-levels (l - 1))
+  shallowOf (inPosition want) i l rest h = one-level _ l Forest.none rest (omega arith) (no-levels (l - 1))
+  shallowOf (barsSince s n) i l rest h = one-level _ l Forest.none rest (omega arith) (no-levels (l - 1))
+
+  pub shallowAll : (cs : Conditions) (i l : ℕ) (rest : Forest) → levelsOfAll cs ≤ l → deeper l (plantAll i cs rest) ≡ deeper l rest
+  shallowAll none i l rest h = refl
+  shallowAll (more c cs) i l rest h =
+      shallowOf c i l (plantAll (i + nodesOf c) cs rest) (omega arith) ∙ shallowAll cs (i + nodesOf c) l rest (omega arith)
+
+-- ---- reading
+
+module _ (k : ℕ) where
+  pub reads : (a : Operand) (i : ℕ) (rest : Forest) → Within k a → operands (plant i a rest) ≡ a ∷ operands rest
+  unfolding Within plant operands operandFrom
+  reads (const x) i rest w = refl
+  reads (ref s) i rest w = refl
+  reads (price s) i rest w = refl
+  reads (prev a n) i rest w = rw (reads a (i + 1) Forest.none (w .1))
+  reads (sums kind a b) i rest w =
+      let no1 : eqb kind 1 ≡ false = ne-eqb kind 1 (λ z. omega (arith, w .0)) in
+      let no2 : eqb kind 2 ≡ false = ne-eqb kind 2 (λ z. omega (arith, w .0)) in
+      let no3 : eqb kind 3 ≡ false = ne-eqb kind 3 (λ z. omega (arith, w .0)) in
+      let no4 : eqb kind 4 ≡ false = ne-eqb kind 4 (λ z. omega (arith, w .0)) in
+      let below : operands (plant (i + 1) a (plant (i + 1 + nodesIn a) b Forest.none)) ≡ a ∷ b ∷ [] =
+      reads a (i + 1) _ (w .2) ∙ ap (λ (l : List Operand). a ∷ l) (reads b (i + 1 + nodesIn a) Forest.none (w .3)) in
+      simp (no1, no2, no3, no4, below)
+
+  reads-two : (i j : ℕ) (a b : Operand) → Within k a → Within k b → operands (plant i a (plant j b Forest.none)) ≡ a ∷ b ∷ []
+  unfolding operands
+  reads-two i j a b wa wb = reads a i _ wa ∙ ap (λ (l : List Operand). a ∷ l) (reads b j Forest.none wb)
+
+  reads-three : (h i j : ℕ) (x a b : Operand) → Within k x → Within k a → Within k b → operands (plant h x (plant i a (plant j b Forest.none))) ≡ x ∷ a ∷ b ∷ []
+  reads-three h i j x a b wx wa wb = reads x h _ wx ∙ ap (λ (l : List Operand). x ∷ l) (reads-two i j a b wa wb)
+
+  want-back : (want : Bool) → eqb (cond want 1 0) 1 ≡ want
+  want-back true = refl
+  want-back false = refl
+
+  mutual
+    unfolding WithinOf plantOf conditions conditionFrom operands firstOf
+
+    pub readsOf : (c : Condition) (i : ℕ) (rest : Forest) → WithinOf k c → conditions (plantOf i c rest) ≡ more c (conditions rest)
+    readsOf (compare kind a b) i rest w =
+        let in22 : ltb kind 22 ≡ true = lt-ltb kind 22 (omega (arith, w .1)) in
+        simp (in22, reads-two (i + 1) (i + 1 + nodesIn a) a b (w .2) (w .3))
+    readsOf (cross kind a b) i rest w =
+        let out22 : ltb kind 22 ≡ false = le-ltb kind 22 (w .0) in
+        let in24 : ltb kind 24 ≡ true = lt-ltb kind 24 (omega (arith, w .1)) in
+        simp (out22, in24, reads-two (i + 1) (i + 1 + nodesIn a) a b (w .2) (w .3))
+    readsOf (between x a b) i rest w = simp (reads-three (i + 1) (i + 1 + nodesIn x) (i + 1 + nodesIn x + nodesIn a) x a b (w .0) (w .1) (w .2))
+    readsOf (trend kind a n) i rest w =
+        let out22 : ltb kind 22 ≡ false = le-ltb kind 22 (omega (arith, w .0)) in
+        let out24 : ltb kind 24 ≡ false = le-ltb kind 24 (omega (arith, w .0)) in
+        let no24 : eqb kind 24 ≡ false = ne-eqb kind 24 (λ z. omega (arith, w .0)) in
+        let in27 : ltb kind 27 ≡ true = lt-ltb kind 27 (omega (arith, w .1)) in
+        simp (out22, out24, no24, in27, reads a (i + 1) Forest.none (w .3))
+    readsOf (every cs) i rest w = rw (readsAll cs (i + 1) w)
+    readsOf (any cs) i rest w = rw (readsAll cs (i + 1) w)
+    readsOf (negated c) i rest w = rw (readsOf c (i + 1) Forest.none w)
+    readsOf (inPosition want) i rest w = rw (want-back want)
+    readsOf (barsSince s n) i rest w = refl
+
+    pub readsAll : (cs : Conditions) (i : ℕ) → WithinAll k cs → conditions (plantAll i cs Forest.none) ≡ cs
+    readsAll none i w = refl
+    readsAll (more c cs) i w = readsOf c i _ (w .0) ∙ ap (more c) (readsAll cs (i + nodesOf c) (w .1))

@@ -1,0 +1,43 @@
+-- Rule 9: how far back a tree reads. Definitions only.
+use mathlib.Core.Bool.{cond}
+use mathlib.Core.List.{List}
+use Prim.Native.Nat.{ℕ, _+_, max}
+use lib.Dec.{ltb, eqb}
+use Rattle.table.specs.declared.Kind.{Kind}
+use Rattle.table.specs.declared.Node.{Node}
+use Rattle.table.specs.declared.Place.{Place}
+use Rattle.table.specs.declared.Place.the-variants.{Nowhere, At}
+use Rattle.table.specs.Kinds.{kindOf}
+use Rattle.table.specs.Header.{root}
+use Rattle.table.specs.Order.{ofFour}
+use Rattle.table.specs.Forest.{Forest, none, tree, forestOf}
+
+-- "Reach: 0 for leaves, else the greatest child's (0 if none); Prev, Rising and Falling add n, a cross adds 1."
+-- What a node adds stands in its kind's row.
+unfoldable pub back : Node → Kind → ℕ
+back n w = cond (eqb (w .back) 1) (n .n) (cond (eqb (w .back) 2) 1 0)
+
+unfoldable pub ownBack : Node → ℕ
+ownBack n = back n (kindOf (n .kind))
+
+-- the greatest sum of the nodes' own weights along a way down
+unfoldable pub weigh : (Node → ℕ) → Forest → ℕ
+weigh w none = 0
+weigh w (tree n below rest) = max (w n + weigh w below) (weigh w rest)
+
+unfoldable pub forestReach : Forest → ℕ
+forestReach f = weigh ownBack f
+
+unfoldable pub treeReach : List ℕ → ℕ → ℕ
+treeReach t x = forestReach (forestOf t x)
+
+-- "9 a reach above 4,095: first such tree's root"
+unfoldable pub farAt : ℕ → ℕ → Place
+farAt r b = cond (ltb 4095 r) (At b) Nowhere
+
+unfoldable pub tooFar : List ℕ → Place
+tooFar t = ofFour (λ x. farAt (treeReach t x) (root t x))
+
+-- "rows = greatest reach + 1"
+unfoldable pub rowsNeeded : List ℕ → ℕ
+rowsNeeded t = max (max (treeReach t 0) (treeReach t 1)) (max (treeReach t 2) (treeReach t 3)) + 1

@@ -1,0 +1,135 @@
+-- Writing trees as a table: the other way round from reading. Definitions only.
+use mathlib.Core.Bool.{cond}
+use mathlib.Core.List.{List, [], _∷_, _++_}
+use Prim.Native.Nat.{ℕ, suc, _+_, _/_, _%_}
+use Rattle.table.specs.declared.Node.{Node}
+use Rattle.table.specs.Trees.{Operand, const, ref, price, prev, arith, Condition, Conditions, compare, cross, between, trend, every, any, negated, inPosition, barsSince, none, more}
+use Rattle.table.specs.Reading.{treeOf, present}
+
+-- "Little-endian."
+unfoldable pub le16 : ℕ → List ℕ
+le16 x = x % 256 ∷ x / 256 ∷ []
+
+unfoldable pub le32 : ℕ → List ℕ
+le32 x = le16 (x % 65536) ++ le16 (x / 65536)
+
+unfoldable pub le64 : ℕ → List ℕ
+le64 x = le32 (x % 4294967296) ++ le32 (x / 4294967296)
+
+-- "Node: kind (1), selector (1), children (2), n (4), constant bits (8)."
+unfoldable pub node : ℕ → ℕ → ℕ → ℕ → ℕ → List ℕ
+node kind selector children n constant = kind ∷ selector ∷ (le16 children ++ le32 n ++ le64 constant)
+
+-- a node's bytes, and those of nodes in a row
+unfoldable pub nodeBytes : Node → List ℕ
+nodeBytes n = node (n .kind) (n .selector) (n .children) (n .n) (n .constant)
+
+unfoldable pub nodesBytes : List Node → List ℕ
+nodesBytes [] = []
+nodesBytes (n ∷ ns) = nodeBytes n ++ nodesBytes ns
+
+-- "Unused fields are zero": a node whose kind says all
+abbrev pub plain : ℕ → List ℕ
+plain kind = node kind 0 0 0 0
+
+-- "each tree in prefix order"
+unfoldable pub write : Operand → List ℕ
+write (const bits) = node 1 0 0 0 bits
+write (ref slot) = node 2 0 0 slot 0
+write (price selector) = node 3 selector 0 0 0
+write (prev a n) = node 4 0 0 n 0 ++ write a
+write (arith kind a b) = plain kind ++ write a ++ write b
+
+-- operands in a row
+unfoldable pub writeRow : List Operand → List ℕ
+writeRow [] = []
+writeRow (a ∷ rest) = write a ++ writeRow rest
+
+-- how many conditions stand in a row
+unfoldable pub manyOf : Conditions → ℕ
+manyOf none = 0
+manyOf (more c cs) = suc (manyOf cs)
+
+unfoldable mutual
+  pub writeOf : Condition → List ℕ
+  writeOf (compare kind a b) = plain kind ++ write a ++ write b
+  writeOf (cross kind a b) = plain kind ++ write a ++ write b
+  writeOf (between x low high) = plain 24 ++ write x ++ write low ++ write high
+  writeOf (trend kind a n) = node kind 0 0 n 0 ++ write a
+  writeOf (every cs) = node 27 0 (manyOf cs) 0 0 ++ writeAll cs
+  writeOf (any cs) = node 28 0 (manyOf cs) 0 0 ++ writeAll cs
+  writeOf (negated c) = plain 29 ++ writeOf c
+  writeOf (inPosition want) = node 30 (cond want 1 0) 0 0 0
+  writeOf (barsSince selector k) = node 31 selector 0 k 0
+
+  pub writeAll : Conditions → List ℕ
+  writeAll none = []
+  writeAll (more c cs) = writeOf c ++ writeAll cs
+
+-- How many nodes a tree has.
+unfoldable pub nodesIn : Operand → ℕ
+nodesIn (const _) = 1
+nodesIn (ref _) = 1
+nodesIn (price _) = 1
+nodesIn (prev a _) = 1 + nodesIn a
+nodesIn (arith _ a b) = 1 + nodesIn a + nodesIn b
+
+unfoldable mutual
+  pub nodesOf : Condition → ℕ
+  nodesOf (compare _ a b) = 1 + nodesIn a + nodesIn b
+  nodesOf (cross _ a b) = 1 + nodesIn a + nodesIn b
+  nodesOf (between x low high) = 1 + nodesIn x + nodesIn low + nodesIn high
+  nodesOf (trend _ a _) = 1 + nodesIn a
+  nodesOf (every cs) = 1 + nodesOfAll cs
+  nodesOf (any cs) = 1 + nodesOfAll cs
+  nodesOf (negated c) = 1 + nodesOf c
+  nodesOf (inPosition _) = 1
+  nodesOf (barsSince _ _) = 1
+
+  pub nodesOfAll : Conditions → ℕ
+  nodesOfAll none = 0
+  nodesOfAll (more c cs) = nodesOf c + nodesOfAll cs
+
+-- "entry, exit, short entry, short exit (.. the first two at least 1, 0 means absent ..)"
+pub data Short : Type 0 where
+  absent : Short
+  given : Condition → Short
+
+pub record Rule : Type 0 where
+  pub entry : Condition
+  pub exit : Condition
+  pub shortEntry : Short
+  pub shortExit : Short
+
+unfoldable pub nodesOfShort : Short → ℕ
+nodesOfShort absent = 0
+nodesOfShort (given c) = nodesOf c
+
+unfoldable pub writeShort : Short → List ℕ
+writeShort absent = []
+writeShort (given c) = writeOf c
+
+unfoldable pub nodesOfRule : Rule → ℕ
+nodesOfRule r = nodesOf (r .entry) + nodesOf (r .exit) + nodesOfShort (r .shortEntry) + nodesOfShort (r .shortExit)
+
+-- "Header, 16 bytes: mark `RTB`; slot count K (one byte ..); version, 16 bits, 1; total nodes (16 bits ..); node counts of
+-- entry, exit, short entry, short exit (16 bits each ..)."
+unfoldable pub headerOf : ℕ → Rule → List ℕ
+headerOf k r =
+    82 ∷ 84 ∷ 66 ∷ k ∷
+    (le16 1 ++ le16 (nodesOfRule r) ++
+    le16 (nodesOf (r .entry)) ++ le16 (nodesOf (r .exit)) ++
+    le16 (nodesOfShort (r .shortEntry)) ++ le16 (nodesOfShort (r .shortExit)))
+
+-- the table of a rule with k slots
+unfoldable pub tableOf : ℕ → Rule → List ℕ
+tableOf k r =
+    headerOf k r ++
+    writeOf (r .entry) ++ writeOf (r .exit) ++ writeShort (r .shortEntry) ++ writeShort (r .shortExit)
+
+-- The rule that a table holds.
+unfoldable pub shortOf : List ℕ → ℕ → Short
+shortOf t x = cond (present t x) (given (treeOf t x)) absent
+
+unfoldable pub ruleOf : List ℕ → Rule
+ruleOf t = record { entry = treeOf t 0; exit = treeOf t 1; shortEntry = shortOf t 2; shortExit = shortOf t 3 }

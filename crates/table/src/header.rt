@@ -1,0 +1,99 @@
+// The header, and rules 1 to 5.
+use crate::bytes::byte;
+use crate::bytes::read16;
+ghost use mathlib.Core.Path.{_≡_};
+ghost use Prim.Native.Nat.{_<_, _≤_, _*_};
+ghost use Rattle.table.specs.Header as Header;
+ghost use Rattle.table.specs.Header.{markRight, countsRight, headerRefusal};
+
+// K, the number of slots.
+pub fn slots(t: &[u8]) -> u8
+    ensures { λ r. ⌜ r ≡ Header.slots (now (t .entry)) ⌝ }
+{
+    byte(t, 3)
+}
+
+// How many nodes there are.
+pub fn total(t: &[u8]) -> usize
+    ensures { λ r. ⌜ (r ≡ Header.total (now (t .entry))) × (r < 65536) ⌝ }
+{
+    read16(t, 6)
+}
+
+// How many nodes a tree has: 0 entry, 1 exit, 2 short entry, 3 short exit.
+pub fn count(t: &[u8], tree: u8) -> usize
+    ensures { λ r. ⌜ (r ≡ Header.count (now (t .entry)) tree) × (r < 65536) ⌝ }
+{
+    let x = tree as usize;
+    read16(t, 8 + 2 * x)
+}
+
+// The number of a tree's first node; of tree 4, the end of the last.
+pub fn root(t: &[u8], tree: u8) -> usize
+    ensures { λ r. ⌜ (r ≡ Header.root (now (t .entry)) tree) × (r ≤ 65535 * tree) ⌝ }
+{
+    let mut at: usize = 0;
+    let mut x: u8 = 0;
+    while x < tree {
+        at += count(t, x);
+        x += 1;
+    }
+    at
+}
+
+fn mark_right(t: &[u8]) -> bool
+    ensures { λ r. ⌜ r ≡ markRight (now (t .entry)) ⌝ }
+{
+    if byte(t, 0) != 82 {
+        return false;
+    }
+    if byte(t, 1) != 84 {
+        return false;
+    }
+    byte(t, 2) == 66
+}
+
+fn counts_right(t: &[u8]) -> bool
+    ensures { λ r. ⌜ r ≡ countsRight (now (t .entry)) ⌝ }
+{
+    if slots(t) > 64 {
+        return false;
+    }
+    if total(t) < 2 {
+        return false;
+    }
+    if total(t) > 256 {
+        return false;
+    }
+    let entry = count(t, 0);
+    if entry < 1 {
+        return false;
+    }
+    let exit = count(t, 1);
+    if exit < 1 {
+        return false;
+    }
+    entry + exit + count(t, 2) + count(t, 3) == total(t)
+}
+
+// The first of rules 1 to 5 that the table breaks, or 0.
+pub fn header_refusal(t: &[u8]) -> u8
+    ensures { λ r. ⌜ r ≡ headerRefusal (now (t .entry)) ⌝ }
+{
+    if t.len() < 16 {
+        return 1;
+    }
+    if !mark_right(t) {
+        return 2;
+    }
+    if read16(t, 4) != 1 {
+        return 3;
+    }
+    if !counts_right(t) {
+        return 4;
+    }
+    if t.len() != 16 + 16 * total(t) {
+        return 5;
+    }
+    0
+}

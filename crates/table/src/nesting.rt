@@ -1,0 +1,56 @@
+// Rule 8: nesting above 32.
+use crate::Place;
+use crate::places::or_else;
+use crate::weighing::LEVELS;
+use crate::weighing::weigh_tree;
+ghost use mathlib.Core.Path.{_≡_};
+ghost use Prim.Native.Nat.{_-_, _≤_};
+ghost use Rattle.table.specs.Forest.{trees};
+ghost use Rattle.table.specs.Nesting.{deeper, tooDeep};
+ghost use Rattle.table.specs.Ends.{Linked};
+ghost use Rattle.table.specs.Passes.{Roots, LinkedAll};
+
+// "nesting above 32 (root is 1)"
+const LEVELS_ALLOWED: u64 = 32;
+
+// The first node of one tree below more than 32 levels: down where a subtree is too tall, past it where it is not.
+fn deep_of(t: &[u8], ends: &[usize; 256], b: usize, e: usize) -> Place
+    requires { ⌜ (b ≤ e) × (e ≤ 256) ⌝ }
+    requires { ⌜ Linked (now t) (now ends) b e ⌝ }
+    ensures { λ r. ⌜ r ≡ deeper 32 (trees (now (t .entry)) (e - b) b) ⌝ }
+{
+    let tall = weigh_tree(t, ends, LEVELS, b, e);
+    let mut left: u64 = LEVELS_ALLOWED;
+    let mut j = b;
+    while j < e {
+        if left == 0 {
+            return Place::At(j);
+        }
+        if left < tall[j] {
+            left -= 1;
+            j += 1;
+        } else {
+            j = ends[j];
+        }
+    }
+    Place::Nowhere
+}
+
+pub(crate) fn too_deep(
+    t: &[u8],
+    ends: &[usize; 256],
+    a: usize,
+    b: usize,
+    c: usize,
+    e: usize,
+) -> Place
+    requires { ⌜ Roots (now t) a b c e ⌝ }
+    requires { ⌜ LinkedAll (now t) (now ends) a b c e ⌝ }
+    ensures { λ r. ⌜ r ≡ tooDeep (now (t .entry)) ⌝ }
+{
+    let p = deep_of(t, ends, 0, a);
+    let q = deep_of(t, ends, a, b);
+    let r = deep_of(t, ends, b, c);
+    let s = deep_of(t, ends, c, e);
+    or_else(p, or_else(q, or_else(r, s)))
+}
