@@ -1,0 +1,4 @@
+pub mod Words
+pub mod Grown
+pub mod Groups
+pub mod Judged

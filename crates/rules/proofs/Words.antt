@@ -1,0 +1,14 @@
+-- Of floats and words, what the values need. Assumes nothing.
+use Prim.Native.Nat.{ℕ, _/_, _%_, _^_, _≤_, _<_}
+use mathlib.Core.Path.{_≡_, refl}
+use native.Mathlib.Nat.{div-eq-of-lt, lt-of-lt-of-le}
+use lib.Pow.{pow-mono}
+use lib.Ieee.{nan, div, ofBits, binary64}
+
+pub nan-is : div binary64 (ofBits binary64 0) (ofBits binary64 0) ≡ nan
+unfolding div ofBits
+nan-is = refl
+
+-- a word has no bit at or above 64
+pub no-bit : (w k : ℕ) → w < 2 ^ 64 → 64 ≤ k → w / 2 ^ k % 2 ≡ 0
+no-bit w k fits far = rw (div-eq-of-lt (lt-of-lt-of-le fits (pow-mono far)))

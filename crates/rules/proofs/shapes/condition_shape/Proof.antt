@@ -1,0 +1,20 @@
+-- The test on the place, and then the node's own shape. Assumes nothing.
+use borrow.Author.Needs.{needs}
+use borrow.Author.Tests.{le-leb, lt-leb}
+use Rattle.rules.specs.Shapes.{conditionShape}
+use Rattle.rules.proofs.shapes.condition_shape.Statement.{statement}
+use Rattle.rules.proofs.shapes.condition_shape.Tie as tie
+
+pub condition-shape-spec : {M : Type 1} → statement M
+unfolding conditionShape
+condition-shape-spec =
+    tie.close
+    (tie.spec
+    (λ c. simp (le-leb _ _ (c .if1 .taken)))
+    (λ c. search needs)
+    (λ c κs. search needs)
+    (λ c κs. search needs)
+    (λ c κs. search needs)
+    (λ c. search needs)
+    (λ c κs. search needs)
+    (λ c. simp (lt-leb _ _ (c .before .before .before .before .if1 .left), ← c .before .before .before .end-in .ensures, ← c .before .before .end-in2 .ensures, ← c .before .node-at .ensures) (c .condition-of .ensures)))

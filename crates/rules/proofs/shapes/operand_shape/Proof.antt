@@ -1,0 +1,19 @@
+-- The test on the place, and then the node's own shape. Assumes nothing.
+use borrow.Author.Needs.{needs}
+use borrow.Author.Tests.{le-leb, lt-leb}
+use Rattle.rules.specs.Shapes.{operandShape}
+use Rattle.rules.proofs.shapes.operand_shape.Statement.{statement}
+use Rattle.rules.proofs.shapes.operand_shape.Tie as tie
+
+pub operand-shape-spec : {M : Type 1} → statement M
+unfolding operandShape
+operand-shape-spec =
+    tie.close
+    (tie.spec
+    (λ c. simp (le-leb _ _ (c .if1 .taken)))
+    (λ c. search needs)
+    (λ c κs. search needs)
+    (λ c κs. search needs)
+    (λ c. search needs)
+    (λ c κs. search needs)
+    (λ c. simp (lt-leb _ _ (c .before .before .before .if1 .left), ← c .before .before .end-in .ensures, ← c .before .node-at .ensures) (c .operand-of .ensures)))

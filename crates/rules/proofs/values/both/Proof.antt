@@ -1,0 +1,19 @@
+-- One return for each case of the two values. Assumes nothing.
+use borrow.Author.Needs.{needs}
+use Rattle.rules.specs.Values.{both}
+use Rattle.rules.proofs.values.both.Statement.{statement}
+use Rattle.rules.proofs.values.both.Tie as tie
+
+pub both-spec : {M : Type 1} → statement M
+unfolding both
+both-spec =
+    tie.close
+    (tie.spec
+    (λ c. search needs)
+    (λ c. search needs)
+    (λ c. search needs)
+    (λ c. search needs)
+    (λ c κs. search needs)
+    (λ c. rw (c .enum-told .given .1))
+    (λ c. rw (c .before .before .before .a .given .1, c .enum-told2 .given .1))
+    (λ c. rw (c .before .before .before .before .before .a .given .1, c .before .before .b .given .1, c .combine .ensures)))

@@ -1,0 +1,15 @@
+-- The test on the divisor is the definition's. Assumes nothing.
+use borrow.Author.Needs.{needs}
+use Rattle.rules.specs.Values.{divide}
+use Rattle.rules.proofs.Words.{nan-is}
+use Rattle.rules.proofs.values.divided.Statement.{statement}
+use Rattle.rules.proofs.values.divided.Tie as tie
+
+pub divided-spec : {M : Type 1} → statement M
+unfolding divide
+divided-spec =
+    tie.close
+    (tie.spec
+    (λ c κs. search needs)
+    (λ c. rw (← c .before .abs .ensures, c .if1 .taken) nan-is)
+    (λ c. rw (← c .before .abs .ensures, c .if1 .left)))

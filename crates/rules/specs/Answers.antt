@@ -1,0 +1,48 @@
+-- What a rule of a table answers over rows and a position state, refusals and all. Definitions only.
+use Prim.Native.Nat.{ℕ}
+use mathlib.Core.Bool.{Bool, true, cond, _&&_}
+use mathlib.Core.List.{List}
+use lib.Dec.{ltb, leb}
+use Rattle.rows.specs.History.{historyOf, wholeRows}
+use Rattle.table.specs.declared.Answer.{Answer}
+use Rattle.table.specs.declared.Answer.the-variants.{Accepted, Refused}
+use Rattle.table.specs.Header.{slots}
+use Rattle.table.specs.Checked.{checked}
+use Rattle.table.specs.Reading.{treeOf}
+use Rattle.rules.specs.declared.Entered.{Entered}
+use Rattle.rules.specs.declared.Entered.the-variants.{Never, Bar}
+use Rattle.rules.specs.declared.PositionState.{PositionState}
+use Rattle.rules.specs.declared.Tree.{Tree}
+use Rattle.rules.specs.declared.Tree.the-variants.{Entry, Exit, ShortEntry, ShortExit}
+use Rattle.rules.specs.declared.RuleAnswer.{RuleAnswer}
+use Rattle.rules.specs.declared.RuleAnswer.the-variants.{Says, Refuses}
+use Rattle.rules.specs.Meaning.{says}
+
+-- "entry, exit, short entry, short exit": the trees in the header's order
+abbrev pub treeNumber : Tree → ℕ
+treeNumber Entry = 0
+treeNumber Exit = 1
+treeNumber ShortEntry = 2
+treeNumber ShortExit = 3
+
+-- "13: counts in the state exceed .. 4,294,967,295 .. or an entry bar is not below the bars seen": this is where neither.
+abbrev pub entryBelow : ℕ → Entered → Bool
+entryBelow seen Never = true
+entryBelow seen (Bar bar) = ltb bar seen
+
+unfoldable pub stateRight : PositionState → Bool
+stateRight s = leb (s .«bars_seen») 4294967295 && entryBelow (s .«bars_seen») (s .entered)
+
+-- "13: .. a row .. list is not whole records" comes to the same number and place. Else the rule's answer; an absent tree
+-- reads as Any of none, and so says no.
+unfoldable pub judged : List ℕ → ℕ → List ℕ → PositionState → RuleAnswer
+judged t x rows s =
+    cond (wholeRows (slots t) rows && stateRight s) (Says (says (historyOf (slots t) rows) s (treeOf t x))) (Refuses 13 0)
+
+-- "1 to 9 come first", with their places.
+unfoldable pub afterCheck : Answer → RuleAnswer → RuleAnswer
+afterCheck (Refused number place) a = Refuses number place
+afterCheck (Accepted nodes needed) a = a
+
+unfoldable pub answered : List ℕ → Tree → List ℕ → PositionState → RuleAnswer
+answered t tree rows s = afterCheck (checked t) (judged t (treeNumber tree) rows s)

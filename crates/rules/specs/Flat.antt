@@ -1,0 +1,53 @@
+-- The tree that stands at a node, read off the bytes and the array of subtree ends, whatever they are. On an accepted
+-- table it is the table's own tree. Definitions only.
+use Prim.Native.Nat.{ℕ, zero, suc}
+use mathlib.Core.Bool.{Bool, true, false}
+use mathlib.Core.List.{List}
+use Rattle.table.specs.Trees.{Operand, const, ref, price, prev, arith, Condition, Conditions, compare, cross, between, trend, every, any, negated, inPosition, barsSince, none, more}
+use Rattle.rules.specs.declared.shapes.OperandShape.{OperandShape}
+use Rattle.rules.specs.declared.shapes.OperandShape.the-variants.{Const, Ref, Price, Prev, Arith, NoOperand}
+use Rattle.rules.specs.declared.shapes.ConditionShape.{ConditionShape}
+use Rattle.rules.specs.declared.shapes.ConditionShape.the-variants.{Compare, Cross, Between, Trend, Group, Not, InPosition, BarsSince, NoCondition}
+use Rattle.rules.specs.Shapes.{endIn, operandShape, conditionShape}
+
+-- the operand of a shape, where `below` has the operands at the nodes below; a node that is no operand is read as 0
+unfoldable pub growOperand : (ℕ → Operand) → OperandShape → Operand
+growOperand below (Const bits) = const bits
+growOperand below (Ref slot) = ref slot
+growOperand below (Price selector) = price selector
+growOperand below (Prev a n) = prev (below a) n
+growOperand below (Arith kind a b) = arith kind (below a) (below b)
+growOperand below NoOperand = const 0
+
+-- the operand at node i, where `left` levels of nesting are left, its own counted
+unfoldable pub operandAt : ℕ → List ℕ → List ℕ → ℕ → Operand
+operandAt zero t ends i = const 0
+operandAt (suc left) t ends i = growOperand (operandAt left t ends) (operandShape t ends i)
+
+-- n conditions, the first at node j, each at the end of the one before
+unfoldable pub growConditions : (ℕ → Condition) → List ℕ → ℕ → ℕ → Conditions
+growConditions below ends zero j = none
+growConditions below ends (suc n) j = more (below j) (growConditions below ends n (endIn ends j))
+
+-- All or Any
+unfoldable pub group : Bool → Conditions → Condition
+group true cs = every cs
+group false cs = any cs
+
+-- the condition of a shape; a node that is no condition is read as Any of none, which is no
+unfoldable pub growCondition : (ℕ → Operand) → (ℕ → Condition) → List ℕ → ConditionShape → Condition
+growCondition operand below ends (Compare kind a b) = compare kind (operand a) (operand b)
+growCondition operand below ends (Cross kind a b) = cross kind (operand a) (operand b)
+growCondition operand below ends (Between x low high) = between (operand x) (operand low) (operand high)
+growCondition operand below ends (Trend kind a n) = trend kind (operand a) n
+growCondition operand below ends (Group all n j) = group all (growConditions below ends n j)
+growCondition operand below ends (Not a) = negated (below a)
+growCondition operand below ends (InPosition wanted) = inPosition wanted
+growCondition operand below ends (BarsSince selector k) = barsSince selector k
+growCondition operand below ends NoCondition = any none
+
+-- the condition at node i, where `left` levels of nesting are left, its own counted
+unfoldable pub conditionAt : ℕ → List ℕ → List ℕ → ℕ → Condition
+conditionAt zero t ends i = any none
+conditionAt (suc left) t ends i =
+    growCondition (operandAt left t ends) (conditionAt left t ends) ends (conditionShape t ends i)

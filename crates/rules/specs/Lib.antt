@@ -1,0 +1,12 @@
+pub mod Values
+pub mod Meaning
+pub mod Shapes
+pub mod Flat
+pub mod Laws
+pub mod ShapeLaws
+pub mod Joined
+pub mod Answers
+pub mod AnswerLaws
+pub mod Window
+pub mod Edges
+pub mod WindowAnswers

@@ -1,0 +1,134 @@
+-- The window: the last rows answer as the whole history does. Assumes nothing.
+use Prim.Native.Nat.{ℕ, _+_, _-_, _*_, _/_, _≤_, _<_}
+use mathlib.Core.Path.{_≡_, refl, sym, ap, fun-ext, _∙_}
+use mathlib.Core.Bool.{Bool, true, false, not}
+use mathlib.Core.List.{List}
+use native.Mathlib.Omega.{arith}
+use native.Mathlib.Nat.{le-div-iff-mul-le, mul-add-div-right, zero-mul}
+use lib.ListN.{length, getD, drop, length-drop}
+use lib.Seq.{getD-drop}
+use lib.Dec.{ltb, leb, eqb}
+use borrow.Author.Tests.{lt-ltb, le-ltb, ltb-true, ltb-false, leb-true, leb-false, ne-eqb}
+use Rattle.rows.specs.History.{History, historyOf, lastRows}
+use Rattle.table.specs.Trees.{Operand, const, ref, price, prev, arith as sums, Condition, Conditions, compare, cross, between, trend, every, any, negated, inPosition, barsSince, none, more, reach, reachOf, reachOfAll}
+use Rattle.rules.specs.declared.PositionState.{PositionState}
+use Rattle.rules.specs.Meaning.{newest, there, value, holds, allHold, anyHolds, says}
+
+-- w is what is left of h without its first s rows
+pub record Without (h w : History) (s : ℕ) : Type 0 where
+  pub count : h .rows ≡ s + w .rows
+  pub same : (i : ℕ) → h .word (s + i) ≡ w .word i
+
+module _ (h w : History) (s : ℕ) (part : Without h w s) where
+  exists : (i : ℕ) → ltb (s + i) (h .rows) ≡ ltb i (w .rows)
+  exists i = go (ltb i (w .rows)) refl
+    where
+      go : (b : Bool) → ltb i (w .rows) ≡ b → ltb (s + i) (h .rows) ≡ b
+      go true e = lt-ltb (s + i) (h .rows) (omega (arith, ltb-true i (w .rows) e, part .count))
+      go false e = le-ltb (s + i) (h .rows) (omega (arith, ltb-false i (w .rows) e, part .count))
+
+  -- an operand at a bar that it does not look back beyond
+  pub operand-same : (a : Operand) (i : ℕ) → reach a ≤ i → value h a (s + i) ≡ value w a i
+  unfolding value reach there
+  operand-same (const bits) i r = simp exists
+  operand-same (ref slot) i r = simp (exists, part .same)
+  operand-same (price selector) i r = simp (exists, part .same)
+  operand-same (prev a n) i r =
+      let late : ltb (s + i) n ≡ false = le-ltb (s + i) n (omega arith) in
+      let late′ : ltb i n ≡ false = le-ltb i n (omega arith) in
+      let back : s + i - n ≡ s + (i - n) = omega arith in
+      let ih : value h a (s + (i - n)) ≡ value w a (i - n) = operand-same a (i - n) (omega arith) in
+      simp (exists, late, late′, back, ih)
+  operand-same (sums kind a b) i r =
+      let ia : value h a (s + i) ≡ value w a i = operand-same a i (omega arith) in
+      let ib : value h b (s + i) ≡ value w b i = operand-same b i (omega arith) in
+      simp (ia, ib)
+
+  mutual
+    unfolding holds reachOf
+
+    pub condition-same : (p : PositionState) (c : Condition) (i : ℕ) → reachOf c ≤ i → holds h p c (s + i) ≡ holds w p c i
+    condition-same p (compare kind a b) i r =
+        let ia : value h a (s + i) ≡ value w a i = operand-same a i (omega arith) in
+        let ib : value h b (s + i) ≡ value w b i = operand-same b i (omega arith) in
+        simp (ia, ib)
+    condition-same p (cross kind a b) i r =
+        let late : eqb (s + i) 0 ≡ false = ne-eqb (s + i) 0 (omega arith) in
+        let late′ : eqb i 0 ≡ false = ne-eqb i 0 (omega arith) in
+        let back : s + i - 1 ≡ s + (i - 1) = omega arith in
+        let ia : value h a (s + i) ≡ value w a i = operand-same a i (omega arith) in
+        let ib : value h b (s + i) ≡ value w b i = operand-same b i (omega arith) in
+        let ja : value h a (s + (i - 1)) ≡ value w a (i - 1) = operand-same a (i - 1) (omega arith) in
+        let jb : value h b (s + (i - 1)) ≡ value w b (i - 1) = operand-same b (i - 1) (omega arith) in
+        simp (late, late′, back, ia, ib, ja, jb)
+    condition-same p (between x low high) i r =
+        let ix : value h x (s + i) ≡ value w x i = operand-same x i (omega arith) in
+        let il : value h low (s + i) ≡ value w low i = operand-same low i (omega arith) in
+        let ih : value h high (s + i) ≡ value w high i = operand-same high i (omega arith) in
+        simp (ix, il, ih)
+    condition-same p (trend kind a n) i r =
+        let late : ltb (s + i) n ≡ false = le-ltb (s + i) n (omega arith) in
+        let late′ : ltb i n ≡ false = le-ltb i n (omega arith) in
+        let back : s + i - n ≡ s + (i - n) = omega arith in
+        let ia : value h a (s + i) ≡ value w a i = operand-same a i (omega arith) in
+        let ja : value h a (s + (i - n)) ≡ value w a (i - n) = operand-same a (i - n) (omega arith) in
+        simp (late, late′, back, ia, ja)
+    condition-same p (every cs) i r = all-same p cs i r
+    condition-same p (any cs) i r = any-same p cs i r
+    condition-same p (negated c) i r = ap not (condition-same p c i r)
+    condition-same p (inPosition wanted) i r = refl
+    condition-same p (barsSince selector k) i r = refl
+
+    all-same : (p : PositionState) (cs : Conditions) (i : ℕ) → reachOfAll cs ≤ i → allHold h p cs (s + i) ≡ allHold w p cs i
+    all-same p none i r = refl
+    all-same p (more c cs) i r =
+        let ic : holds h p c (s + i) ≡ holds w p c i = condition-same p c i (omega arith) in
+        let ics : allHold h p cs (s + i) ≡ allHold w p cs i = all-same p cs i (omega arith) in
+        simp (ic, ics)
+
+    any-same : (p : PositionState) (cs : Conditions) (i : ℕ) → reachOfAll cs ≤ i → anyHolds h p cs (s + i) ≡ anyHolds w p cs i
+    any-same p none i r = refl
+    any-same p (more c cs) i r =
+        let ic : holds h p c (s + i) ≡ holds w p c i = condition-same p c i (omega arith) in
+        let ics : anyHolds h p cs (s + i) ≡ anyHolds w p cs i = any-same p cs i (omega arith) in
+        simp (ic, ics)
+
+-- A list without its first s rows is its history without them.
+pub without-first : (K s : ℕ) (ws : List ℕ) → s ≤ historyOf K ws .rows → Without (historyOf K ws) (historyOf K (drop (s * (7 + K)) ws)) s
+unfolding historyOf
+without-first K s ws fit =
+    let long : s * (7 + K) ≤ length ws = le-div-iff-mul-le {k = 7 + K} (omega arith) .0 fit in
+    let rest : ℕ = length ws - s * (7 + K) in
+    let split : length ws ≡ s * (7 + K) + rest = omega arith in
+    record {
+      count = ap (λ (n : ℕ). n / (7 + K)) split ∙ mul-add-div-right {m = 7 + K} (omega arith) s rest ∙ rw (length-drop (s * (7 + K)) ws);
+      same = λ i. fun-ext (λ j. sym (getD-drop (s * (7 + K)) ws (i * (7 + K) + j) 0 ∙ ap (λ (n : ℕ). getD ws n 0) (omega arith)));
+    }
+
+-- THE WINDOW: a condition that reaches back less than D rows says of the last D rows what it says of all.
+pub window : (K D : ℕ) (ws : List ℕ) (p : PositionState) (c : Condition) → reachOf c < D
+    → says (historyOf K (lastRows K D ws)) p c ≡ says (historyOf K ws) p c
+unfolding says newest historyOf lastRows
+window K D ws p c r = go (leb (h .rows) D) refl
+  where
+    h : History
+    h = historyOf K ws
+
+    s : ℕ
+    s = h .rows - D
+
+    w : History
+    w = historyOf K (drop (s * (7 + K)) ws)
+
+    part : Without h w s
+    part = without-first K s ws (omega arith)
+
+    go : (b : Bool) → leb (h .rows) D ≡ b → holds w p c (w .rows - 1) ≡ holds h p c (h .rows - 1)
+    go true e =
+        let none-left : s ≡ 0 = omega (arith, leb-true (h .rows) D e) in
+        let same : w ≡ h = ap (λ (k : ℕ). historyOf K (drop (k * (7 + K)) ws)) none-left ∙ ap (λ (k : ℕ). historyOf K (drop k ws)) (zero-mul (7 + K)) in
+        ap (λ (x : History). holds x p c (x .rows - 1)) same
+    go false e =
+        let wide : D < h .rows = leb-false (h .rows) D e in
+        let at : h .rows - 1 ≡ s + (w .rows - 1) = omega (arith, part .count) in
+        sym (ap (holds h p c) at ∙ condition-same h w s part p c (w .rows - 1) (omega (arith, part .count)))
