@@ -1,0 +1,17 @@
+-- The tests are those of the definition, in its order.
+use borrow.Author.Tests.{eq-eqb, le-ltb, lt-ltb, ne-eqb}
+use Rattle.steps.specs.Bytes.{answerOp}
+use Rattle.steps.proofs.decode.answer_op.Statement.{statement}
+use Rattle.steps.proofs.decode.answer_op.Tie as tie
+
+pub answer-op-spec : {M : Type 1} → statement M
+unfolding answerOp
+answer-op-spec =
+    tie.close
+    (tie.spec
+    (λ c. rw (lt-ltb _ _ (c .before .if1 .taken)))
+    (λ c. simp (eq-eqb _ _ (c .if2 .taken), le-ltb _ _ (c .before .before .if1 .left)))
+    (λ c. rw (le-ltb _ _ (c .before .before .before .before .before .if1 .left), ne-eqb _ _ (c .before .before .before .if2 .left), eq-eqb _ _ (c .before .if3 .taken)))
+    (λ c. simp (eq-eqb _ _ (c .if4 .taken), ne-eqb _ _ (c .before .before .if3 .left), ne-eqb _ _ (c .before .before .before .before .if2 .left), le-ltb _ _ (c .before .before .before .before .before .before .if1 .left)))
+    (λ c. rw (le-ltb _ _ (c .before .before .before .before .before .before .before .before .before .if1 .left), ne-eqb _ _ (c .before .before .before .before .before .before .before .if2 .left), ne-eqb _ _ (c .before .before .before .before .before .if3 .left), ne-eqb _ _ (c .before .before .before .if4 .left), lt-ltb _ _ (c .before .if5 .taken)))
+    (λ c. simp (le-ltb _ _ (c .if5 .left), ne-eqb _ _ (c .before .before .if4 .left), ne-eqb _ _ (c .before .before .before .before .if3 .left), ne-eqb _ _ (c .before .before .before .before .before .before .if2 .left), le-ltb _ _ (c .before .before .before .before .before .before .before .before .if1 .left))))

@@ -1,0 +1,17 @@
+-- The tests are those of the definition, in its order.
+use borrow.Author.Tests.{eq-eqb, le-ltb, lt-ltb, ne-eqb}
+use Rattle.steps.specs.Bytes.{operandOp}
+use Rattle.steps.proofs.decode.operand_op.Statement.{statement}
+use Rattle.steps.proofs.decode.operand_op.Tie as tie
+
+pub operand-op-spec : {M : Type 1} → statement M
+unfolding operandOp
+operand-op-spec =
+    tie.close
+    (tie.spec
+    (λ c. simp (eq-eqb _ _ (c .if1 .taken)))
+    (λ c. simp (eq-eqb _ _ (c .if2 .taken), ne-eqb _ _ (c .before .before .if1 .left)))
+    (λ c. simp (eq-eqb _ _ (c .if3 .taken), ne-eqb _ _ (c .before .before .if2 .left), ne-eqb _ _ (c .before .before .before .before .if1 .left)))
+    (λ c. simp (lt-ltb _ _ (c .if4 .taken), ne-eqb _ _ (c .before .before .if3 .left), ne-eqb _ _ (c .before .before .before .before .if2 .left), ne-eqb _ _ (c .before .before .before .before .before .before .if1 .left)))
+    (λ c. simp (lt-ltb _ _ (c .if5 .taken), le-ltb _ _ (c .before .before .if4 .left), ne-eqb _ _ (c .before .before .before .before .if3 .left), ne-eqb _ _ (c .before .before .before .before .before .before .if2 .left), ne-eqb _ _ (c .before .before .before .before .before .before .before .before .if1 .left)))
+    (λ c. simp (le-ltb _ _ (c .if5 .left), le-ltb _ _ (c .before .before .if4 .left), ne-eqb _ _ (c .before .before .before .before .if3 .left), ne-eqb _ _ (c .before .before .before .before .before .before .if2 .left), ne-eqb _ _ (c .before .before .before .before .before .before .before .before .if1 .left))))

@@ -1,0 +1,20 @@
+-- The three operands, one after the other, and a step.
+use mathlib.Core.Path.{_∙_}
+use Rattle.steps.specs.declared.Op.the-variants.{Between}
+use Rattle.steps.specs.Bytes.{stepOf}
+use Rattle.steps.proofs.Writes.{fits-first, fits-rest, fits-one, wrote-then, wrote-one}
+use Rattle.steps.proofs.Conditions.{code-between, between-reach}
+use Rattle.steps.proofs.emit.emit_between.Statement.{statement}
+use Rattle.steps.proofs.emit.emit_between.Tie as tie
+
+pub emit-between-spec : {M : Type 1} → statement M
+unfolding stepOf
+emit-between-spec =
+    tie.close
+    (tie.spec
+    (λ c κs. (between-reach _ _ _ (c .before .before .before .pre .0) .0, fits-first _ _ (rw code-between at (c .before .before .before .pre .1))))
+    (λ c κs. (between-reach _ _ _ (c .before .before .before .before .before .before .before .pre .0) .1, fits-first _ _ (fits-rest _ _ (c .before .before .before .emit-operand .ensures) (rw code-between at (c .before .before .before .before .before .before .before .pre .1)))))
+    (λ c κs. (between-reach _ _ _ (c .before .before .before .before .before .before .before .before .before .before .before .pre .0) .2, fits-first _ _ (fits-rest _ _ (c .before .before .before .emit-operand2 .ensures) (fits-rest _ _ (c .before .before .before .before .before .before .before .emit-operand .ensures) (rw code-between at (c .before .before .before .before .before .before .before .before .before .before .before .pre .1))))))
+    (λ c κs. fits-one _ (fits-rest _ _ (c .before .before .before .emit-operand3 .ensures) (fits-rest _ _ (c .before .before .before .before .before .before .before .emit-operand2 .ensures) (fits-rest _ _ (c .before .before .before .before .before .before .before .before .before .before .before .emit-operand .ensures) (rw code-between at (c .before .before .before .before .before .before .before .before .before .before .before .before .before .before .before .pre .1))))))
+    (λ c. c .before .before .put-step .kept .0 ∙ c .before .before .before .before .before .before .emit-operand3 .kept .1 .1 .1 .1 .1 .0 ∙ c .before .before .before .before .before .before .before .before .before .before .emit-operand2 .kept .1 .1 .1 .1 .1 .0 ∙ c .before .before .before .before .before .before .before .before .before .before .before .before .before .before .emit-operand .kept .1 .1 .1 .1 .1 .0)
+    (λ c. rw code-between (wrote-then _ _ (c .before .before .before .before .before .before .before .before .before .before .before .before .before .before .emit-operand .ensures) (wrote-then _ _ (c .before .before .before .before .before .before .before .before .before .before .emit-operand2 .ensures) (wrote-then _ _ (c .before .before .before .before .before .before .emit-operand3 .ensures) (wrote-one _ _ Between _ _ (c .before .before .put-step .ensures .0) (c .before .before .put-step .ensures .1)))))))

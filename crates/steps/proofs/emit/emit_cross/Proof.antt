@@ -1,0 +1,22 @@
+-- Both operands now, both one row back, and a step.
+use mathlib.Core.Path.{_∙_}
+use native.Mathlib.Omega.{arith}
+use Rattle.steps.specs.declared.Op.the-variants.{Cross}
+use Rattle.steps.specs.Bytes.{stepOf}
+use Rattle.steps.proofs.Writes.{fits-first, fits-rest, fits-one, wrote-then, wrote-one}
+use Rattle.steps.proofs.Conditions.{code-cross, cross-reach}
+use Rattle.steps.proofs.emit.emit_cross.Statement.{statement}
+use Rattle.steps.proofs.emit.emit_cross.Tie as tie
+
+pub emit-cross-spec : {M : Type 1} → statement M
+unfolding stepOf
+emit-cross-spec =
+    tie.close
+    (tie.spec
+    (λ c κs. (omega (arith, cross-reach _ _ _ (c .before .before .before .pre .0) .0), fits-first _ _ (rw code-cross at (c .before .before .before .pre .1))))
+    (λ c κs. (omega (arith, cross-reach _ _ _ (c .before .before .before .before .before .before .before .pre .0) .1), fits-first _ _ (fits-rest _ _ (c .before .before .before .emit-operand .ensures) (rw code-cross at (c .before .before .before .before .before .before .before .pre .1)))))
+    (λ c κs. (cross-reach _ _ _ (c .before .before .before .before .before .before .before .before .before .before .before .pre .0) .0, fits-first _ _ (fits-rest _ _ (c .before .before .before .emit-operand2 .ensures) (fits-rest _ _ (c .before .before .before .before .before .before .before .emit-operand .ensures) (rw code-cross at (c .before .before .before .before .before .before .before .before .before .before .before .pre .1))))))
+    (λ c κs. (cross-reach _ _ _ (c .before .before .before .before .before .before .before .before .before .before .before .before .before .before .before .pre .0) .1, fits-first _ _ (fits-rest _ _ (c .before .before .before .emit-operand3 .ensures) (fits-rest _ _ (c .before .before .before .before .before .before .before .emit-operand2 .ensures) (fits-rest _ _ (c .before .before .before .before .before .before .before .before .before .before .before .emit-operand .ensures) (rw code-cross at (c .before .before .before .before .before .before .before .before .before .before .before .before .before .before .before .pre .1)))))))
+    (λ c κs. fits-one _ (fits-rest _ _ (c .before .before .before .emit-operand4 .ensures) (fits-rest _ _ (c .before .before .before .before .before .before .before .emit-operand3 .ensures) (fits-rest _ _ (c .before .before .before .before .before .before .before .before .before .before .before .emit-operand2 .ensures) (fits-rest _ _ (c .before .before .before .before .before .before .before .before .before .before .before .before .before .before .before .emit-operand .ensures) (rw code-cross at (c .before .before .before .before .before .before .before .before .before .before .before .before .before .before .before .before .before .before .before .pre .1)))))))
+    (λ c. c .before .before .put-step .kept .0 ∙ c .before .before .before .before .before .before .emit-operand4 .kept .1 .1 .1 .1 .1 .0 ∙ c .before .before .before .before .before .before .before .before .before .before .emit-operand3 .kept .1 .1 .1 .1 .1 .0 ∙ c .before .before .before .before .before .before .before .before .before .before .before .before .before .before .emit-operand2 .kept .1 .1 .1 .1 .1 .0 ∙ c .before .before .before .before .before .before .before .before .before .before .before .before .before .before .before .before .before .before .emit-operand .kept .1 .1 .1 .1 .1 .0)
+    (λ c. rw code-cross (wrote-then _ _ (c .before .before .before .before .before .before .before .before .before .before .before .before .before .before .before .before .before .before .emit-operand .ensures) (wrote-then _ _ (c .before .before .before .before .before .before .before .before .before .before .before .before .before .before .emit-operand2 .ensures) (wrote-then _ _ (c .before .before .before .before .before .before .before .before .before .before .emit-operand3 .ensures) (wrote-then _ _ (c .before .before .before .before .before .before .emit-operand4 .ensures) (wrote-one _ _ (Cross _) _ _ (c .before .before .put-step .ensures .0) (c .before .before .put-step .ensures .1))))))))

@@ -1,0 +1,21 @@
+-- The operand now and n rows back, and a step.
+use mathlib.Core.Path.{_∙_}
+use borrow.Author.Needs.{needs}
+use Rattle.steps.specs.declared.Op.the-variants.{Compare}
+use Rattle.steps.specs.Bytes.{stepOf}
+use Rattle.steps.proofs.Writes.{fits-first, fits-rest, fits-one, wrote-then, wrote-one}
+use Rattle.steps.proofs.Conditions.{code-trend, trend-reach}
+use Rattle.steps.proofs.emit.emit_trend.Statement.{statement}
+use Rattle.steps.proofs.emit.emit_trend.Tie as tie
+
+pub emit-trend-spec : {M : Type 1} → statement M
+unfolding stepOf
+emit-trend-spec =
+    tie.close
+    (tie.spec
+    (λ c κs. (trend-reach _ _ _ (c .before .before .before .pre .0) .0, fits-first _ _ (rw code-trend at (c .before .before .before .pre .1))))
+    (λ c κs. (trend-reach _ _ _ (c .before .before .before .before .before .before .before .pre .0) .1, fits-first _ _ (fits-rest _ _ (c .before .before .before .emit-operand .ensures) (rw code-trend at (c .before .before .before .before .before .before .before .pre .1)))))
+    (λ c κs. search needs)
+    (λ c κs. fits-one _ (fits-rest _ _ (c .before .before .before .before .emit-operand2 .ensures) (fits-rest _ _ (c .before .before .before .before .before .before .before .before .emit-operand .ensures) (rw code-trend at (c .before .before .before .before .before .before .before .before .before .before .before .before .pre .1)))))
+    (λ c. c .before .before .put-step .kept .0 ∙ c .before .before .before .before .before .before .before .emit-operand2 .kept .1 .1 .1 .1 .1 .0 ∙ c .before .before .before .before .before .before .before .before .before .before .before .emit-operand .kept .1 .1 .1 .1 .1 .0)
+    (λ c. rw code-trend (wrote-then _ _ (c .before .before .before .before .before .before .before .before .before .before .before .emit-operand .ensures) (wrote-then _ _ (c .before .before .before .before .before .before .before .emit-operand2 .ensures) (wrote-one _ _ (Compare _) _ _ (c .before .before .put-step .ensures .0) (rw (c .before .before .before .trend-test .ensures) at (c .before .before .put-step .ensures .1)))))))

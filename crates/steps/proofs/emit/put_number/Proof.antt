@@ -1,0 +1,16 @@
+-- Byte by byte.
+use borrow.Author.Needs.{needs}
+use Rattle.steps.proofs.emit.put_number.Statement.{statement}
+use Rattle.steps.proofs.emit.put_number.Tie as tie
+
+pub put-number-spec : {M : Type 1} → statement M
+put-number-spec =
+    tie.close
+    (tie.spec
+    (λ c κs. search needs)
+    (λ c κs. search needs)
+    (λ c κs. search needs)
+    (λ c κs. search needs)
+    (λ c κs. search needs)
+    (λ c. c .before .before .put-four .kept .0)
+    (λ c. rw (c .before .before .put-four .ensures, c .before .before .before .low4 .ensures, c .before .before .before .before .low3 .ensures, c .before .before .before .before .before .low2 .ensures, c .before .before .before .before .before .before .low .ensures)))

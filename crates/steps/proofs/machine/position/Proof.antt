@@ -1,0 +1,13 @@
+-- The test is that of the definition.
+use borrow.Author.Needs.{needs}
+use Rattle.steps.proofs.machine.position.Statement.{statement}
+use Rattle.steps.proofs.machine.position.Tie as tie
+
+pub position-spec : {M : Type 1} → statement M
+position-spec =
+    tie.close
+    (tie.spec
+    (λ c κs. search needs)
+    (λ c. rw (c .before .if1 .taken) (c .in-position .ensures))
+    (λ c κs. search needs)
+    (λ c. rw (c .before .if1 .left, ← c .in-position2 .ensures)))

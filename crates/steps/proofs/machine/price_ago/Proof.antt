@@ -1,0 +1,15 @@
+-- Missing where there are not more than n rows.
+use borrow.Author.Needs.{needs}
+use mathlib.Core.Path.{sym}
+use Rattle.steps.proofs.Rows.{ago-price, ago-late}
+use Rattle.steps.proofs.machine.price_ago.Statement.{statement}
+use Rattle.steps.proofs.machine.price_ago.Tie as tie
+
+pub price-ago-spec : {M : Type 1} → statement M
+price-ago-spec =
+    tie.close
+    (tie.spec
+    (λ c κs. search needs)
+    (λ c κs. search needs)
+    (λ c. rw (c .price-at .ensures, c .before .row-ago .ensures) (sym (ago-price _ _ _ _ (c .before .before .before .before .pre) _ (c .before .before .if1 .taken))))
+    (λ c. sym (ago-late _ _ _ _ (c .before .before .pre) _ (c .if1 .left))))

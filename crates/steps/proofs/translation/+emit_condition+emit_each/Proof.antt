@@ -1,0 +1,166 @@
+-- By the node's shape. A child of All or Any goes on with the same nesting and one child less, so the measure counts the nesting in
+-- steps of 2^65, above any number of children.
+use Prim.Native.Nat.{ℕ, _<_, _+_, _*_}
+use mathlib.Core.Path.{_∙_}
+use mathlib.Core.Bool.{false}
+use native.Mathlib.Omega.{arith}
+use borrow.Author.Needs.{needs}
+use Rattle.rules.specs.Flat.{growCondition, conditionAt}
+use Rattle.steps.specs.declared.Op.the-variants.{Answer, Turn, InPosition, BarsSinceEntry, JumpIf}
+use Rattle.steps.specs.Bytes.{stepOf}
+use Rattle.steps.proofs.Writes.{fits-first, fits-rest, fits-one, fits-after, fits-between, wrote-none, wrote-one, wrote-then, wrote-between, skip-is}
+use Rattle.steps.proofs.Falls.{group-falls, below-falls, child-falls, rest-falls}
+use Rattle.steps.proofs.Conditions.{ground, grown, no-more, one-more, code-none, code-group, code-no-more, code-more, code-not, code-position, code-since, reach-group, reach-not, more-reach}
+use borrow.Fn.Kinds.{In}
+use borrow.Fn.PlainCycle.{Measures, is, falls, and}
+use Rattle.steps.proofs.translation.emit_condition.Reads as emit-condition
+use Rattle.steps.proofs.translation.emit_condition.Kinds as emit-condition-kinds
+use Rattle.steps.proofs.translation.+emit_condition+emit_each.Lts-emit_condition as emit-condition-lts
+use Rattle.steps.proofs.translation.emit_each.Reads as emit-each
+use Rattle.steps.proofs.translation.emit_each.Kinds as emit-each-kinds
+use Rattle.steps.proofs.translation.+emit_condition+emit_each.Lts-emit_each as emit-each-lts
+use Rattle.rules.proofs.shapes.condition_shape.Reads as condition-shape-reads
+use Rattle.rules.proofs.shapes.end_in.Reads as end-in-reads
+use Rattle.steps.proofs.emit.emit_between.Reads as emit-between-reads
+use Rattle.steps.proofs.emit.emit_compare.Reads as emit-compare-reads
+use Rattle.steps.proofs.emit.emit_cross.Reads as emit-cross-reads
+use Rattle.steps.proofs.emit.emit_trend.Reads as emit-trend-reads
+use Rattle.steps.proofs.emit.put_step.Reads as put-step-reads
+use Rattle.steps.proofs.translation.flag.Reads as flag-reads
+use Rattle.steps.proofs.translation.group_kind.Reads as group-kind-reads
+use Rattle.steps.proofs.translation.jump_kind.Reads as jump-kind-reads
+use Rattle.steps.proofs.translation.+emit_condition+emit_each.{statement}
+use Rattle.steps.proofs.translation.+emit_condition+emit_each.Tie.{close}
+
+abbrev μ-emit-condition : Measures 3 emit-condition-kinds.ps ℕ
+μ-emit-condition κs a = a .1 .1 .1 .0 * 36893488147419103232
+
+abbrev μ-emit-each : Measures 3 emit-each-kinds.ps ℕ
+μ-emit-each κs a = a .1 .1 .1 .1 .1 .0 * 36893488147419103232 + a .1 .0 + 1
+
+abbrev emit-condition-at : ℕ → In 3 emit-condition-kinds.ps
+emit-condition-at t =
+    and
+    3
+    emit-condition-kinds.ps
+    (is 3 emit-condition-kinds.ps μ-emit-condition t)
+    emit-condition.Pre
+
+abbrev emit-condition-below : ℕ → In 3 emit-condition-kinds.ps
+emit-condition-below t =
+    and
+    3
+    emit-condition-kinds.ps
+    (falls 3 emit-condition-kinds.ps _<_ μ-emit-condition t)
+    emit-condition.Pre
+
+abbrev emit-each-at : ℕ → In 3 emit-each-kinds.ps
+emit-each-at t = and 3 emit-each-kinds.ps (is 3 emit-each-kinds.ps μ-emit-each t) emit-each.Pre
+
+abbrev emit-each-below : ℕ → In 3 emit-each-kinds.ps
+emit-each-below t =
+    and 3 emit-each-kinds.ps (falls 3 emit-each-kinds.ps _<_ μ-emit-each t) emit-each.Pre
+
+pub +emit-condition+emit-each-spec : {M : Type 1} → statement M
+unfolding growCondition stepOf
++emit-condition+emit-each-spec = close μ-emit-condition μ-emit-each (λ t. emit-condition-lts.spec (
+  put-step-reads.Asked,
+  put-step-reads.Learnt,
+  condition-shape-reads.Asked,
+  condition-shape-reads.Learnt,
+  emit-compare-reads.Asked,
+  emit-compare-reads.Learnt,
+  emit-cross-reads.Asked,
+  emit-cross-reads.Learnt,
+  emit-between-reads.Asked,
+  emit-between-reads.Learnt,
+  emit-trend-reads.Asked,
+  emit-trend-reads.Learnt,
+  group-kind-reads.Asked,
+  group-kind-reads.Learnt,
+  emit-each-below t,
+  emit-each.Post,
+  emit-condition-below t,
+  emit-condition.Post,
+  flag-reads.Asked,
+  flag-reads.Learnt,
+)
+    (emit-condition-at t)
+    emit-condition.Post
+    (λ c κs. fits-one _ (rw (ground (c .before .before .before .before .args .t .now) (c .before .before .before .before .args .ends .now) (c .before .before .before .before .args .i) (c .before .before .before .before .args .left) (c .before .if1 .taken), code-none) at (c .before .before .before .before .pre .1 .1)))
+    (λ c. search needs)
+    (λ c. rw (ground (c .before .before .before .before .before .before .before .args .t .now) (c .before .before .before .before .before .before .before .args .ends .now) (c .before .before .before .before .before .before .before .args .i) (c .before .before .before .before .before .before .before .args .left) (c .before .before .before .before .if1 .taken), code-none) (wrote-one _ _ (Answer false) _ _ (c .before .before .put-step .ensures .0) (c .before .before .put-step .ensures .1)))
+    (λ c κs. search needs)
+    (λ c. search needs)
+    (λ c. omega (arith, c .before .before .before .before .if1 .left))
+    (λ c κs. (rw (grown (c .before .before .before .before .before .before .before .before .args .t .now) (c .before .before .before .before .before .before .before .before .args .ends .now) (c .before .before .before .before .before .before .before .before .args .i) (c .before .before .before .before .before .before .before .before .args .left) (c .before .before .before .before .before .if1 .left) _ _ (c .before .before .before .before .condition-shape .ensures) (c .before .before .kind .given .1)) at (c .before .before .before .before .before .before .before .before .pre .1 .0), rw (grown (c .before .before .before .before .before .before .before .before .args .t .now) (c .before .before .before .before .before .before .before .before .args .ends .now) (c .before .before .before .before .before .before .before .before .args .i) (c .before .before .before .before .before .before .before .before .args .left) (c .before .before .before .before .before .if1 .left) _ _ (c .before .before .before .before .condition-shape .ensures) (c .before .before .kind .given .1)) at (c .before .before .before .before .before .before .before .before .pre .1 .1)))
+    (λ c. search needs)
+    (λ c. omega (arith, c .before .before .before .before .if1 .left))
+    (λ c κs. (rw (grown (c .before .before .before .before .before .before .before .before .args .t .now) (c .before .before .before .before .before .before .before .before .args .ends .now) (c .before .before .before .before .before .before .before .before .args .i) (c .before .before .before .before .before .before .before .before .args .left) (c .before .before .before .before .before .if1 .left) _ _ (c .before .before .before .before .condition-shape .ensures) (c .before .before .kind2 .given .1)) at (c .before .before .before .before .before .before .before .before .pre .1 .0), rw (grown (c .before .before .before .before .before .before .before .before .args .t .now) (c .before .before .before .before .before .before .before .before .args .ends .now) (c .before .before .before .before .before .before .before .before .args .i) (c .before .before .before .before .before .before .before .before .args .left) (c .before .before .before .before .before .if1 .left) _ _ (c .before .before .before .before .condition-shape .ensures) (c .before .before .kind2 .given .1)) at (c .before .before .before .before .before .before .before .before .pre .1 .1)))
+    (λ c. search needs)
+    (λ c. omega (arith, c .before .before .before .before .if1 .left))
+    (λ c κs. (rw (grown (c .before .before .before .before .before .before .before .before .args .t .now) (c .before .before .before .before .before .before .before .before .args .ends .now) (c .before .before .before .before .before .before .before .before .args .i) (c .before .before .before .before .before .before .before .before .args .left) (c .before .before .before .before .before .if1 .left) _ _ (c .before .before .before .before .condition-shape .ensures) (c .before .before .x .given .1)) at (c .before .before .before .before .before .before .before .before .pre .1 .0), rw (grown (c .before .before .before .before .before .before .before .before .args .t .now) (c .before .before .before .before .before .before .before .before .args .ends .now) (c .before .before .before .before .before .before .before .before .args .i) (c .before .before .before .before .before .before .before .before .args .left) (c .before .before .before .before .before .if1 .left) _ _ (c .before .before .before .before .condition-shape .ensures) (c .before .before .x .given .1)) at (c .before .before .before .before .before .before .before .before .pre .1 .1)))
+    (λ c. search needs)
+    (λ c. omega (arith, c .before .before .before .before .if1 .left))
+    (λ c κs. (rw (grown (c .before .before .before .before .before .before .before .before .args .t .now) (c .before .before .before .before .before .before .before .before .args .ends .now) (c .before .before .before .before .before .before .before .before .args .i) (c .before .before .before .before .before .before .before .before .args .left) (c .before .before .before .before .before .if1 .left) _ _ (c .before .before .before .before .condition-shape .ensures) (c .before .before .kind3 .given .1)) at (c .before .before .before .before .before .before .before .before .pre .1 .0), rw (grown (c .before .before .before .before .before .before .before .before .args .t .now) (c .before .before .before .before .before .before .before .before .args .ends .now) (c .before .before .before .before .before .before .before .before .args .i) (c .before .before .before .before .before .before .before .before .args .left) (c .before .before .before .before .before .if1 .left) _ _ (c .before .before .before .before .condition-shape .ensures) (c .before .before .kind3 .given .1)) at (c .before .before .before .before .before .before .before .before .pre .1 .1)))
+    (λ c. search needs)
+    (λ c κs. search needs)
+    (λ c κs. fits-one _ (fits-first _ _ (rw (grown (c .before .before .before .before .before .before .before .before .before .args .t .now) (c .before .before .before .before .before .before .before .before .before .args .ends .now) (c .before .before .before .before .before .before .before .before .before .args .i) (c .before .before .before .before .before .before .before .before .before .args .left) (c .before .before .before .before .before .before .if1 .left) _ _ (c .before .before .before .before .before .condition-shape .ensures) (c .before .before .before .all .given .1), code-group) at (c .before .before .before .before .before .before .before .before .before .pre .1 .1))))
+    (λ c. omega (arith, c .before .before .before .before .before .before .before .before .before .if1 .left))
+    (λ c κs. (group-falls 36893488147419103232 _ _ _ (c .before .before .before .before .before .before .before .before .before .before .before .before .before .pre .0) (c .before .before .before .before .before .before .before .before .before .before .if1 .left) (omega (arith, c .before .before .before .before .before .before .known-told5 .given)), (rw (grown (c .before .before .before .before .before .before .before .before .before .before .before .before .before .args .t .now) (c .before .before .before .before .before .before .before .before .before .before .before .before .before .args .ends .now) (c .before .before .before .before .before .before .before .before .before .before .before .before .before .args .i) (c .before .before .before .before .before .before .before .before .before .before .before .before .before .args .left) (c .before .before .before .before .before .before .before .before .before .before .if1 .left) _ _ (c .before .before .before .before .before .before .before .before .before .condition-shape .ensures) (c .before .before .before .before .before .before .before .all .given .1), reach-group) at (c .before .before .before .before .before .before .before .before .before .before .before .before .before .pre .1 .0), fits-rest _ _ (wrote-one _ _ (Answer _) _ _ (c .before .before .before .put-step2 .ensures .0) (rw (c .before .before .before .before .group-kind .ensures) at (c .before .before .before .put-step2 .ensures .1))) (rw (grown (c .before .before .before .before .before .before .before .before .before .before .before .before .before .args .t .now) (c .before .before .before .before .before .before .before .before .before .before .before .before .before .args .ends .now) (c .before .before .before .before .before .before .before .before .before .before .before .before .before .args .i) (c .before .before .before .before .before .before .before .before .before .before .before .before .before .args .left) (c .before .before .before .before .before .before .before .before .before .before .if1 .left) _ _ (c .before .before .before .before .before .before .before .before .before .condition-shape .ensures) (c .before .before .before .before .before .before .before .all .given .1), code-group) at (c .before .before .before .before .before .before .before .before .before .before .before .before .before .pre .1 .1)))))
+    (λ c. search needs)
+    (λ c. omega (arith, c .before .before .before .before .if1 .left))
+    (λ c κs. (below-falls 36893488147419103232 _ _ (c .before .before .before .before .before .before .before .before .pre .0) (c .before .before .before .before .before .if1 .left) (omega arith), (rw (grown (c .before .before .before .before .before .before .before .before .args .t .now) (c .before .before .before .before .before .before .before .before .args .ends .now) (c .before .before .before .before .before .before .before .before .args .i) (c .before .before .before .before .before .before .before .before .args .left) (c .before .before .before .before .before .if1 .left) _ _ (c .before .before .before .before .condition-shape .ensures) (c .before .before .a .given .1), reach-not) at (c .before .before .before .before .before .before .before .before .pre .1 .0), fits-first _ _ (rw (grown (c .before .before .before .before .before .before .before .before .args .t .now) (c .before .before .before .before .before .before .before .before .args .ends .now) (c .before .before .before .before .before .before .before .before .args .i) (c .before .before .before .before .before .before .before .before .args .left) (c .before .before .before .before .before .if1 .left) _ _ (c .before .before .before .before .condition-shape .ensures) (c .before .before .a .given .1), code-not) at (c .before .before .before .before .before .before .before .before .pre .1 .1)))))
+    (λ c κs. fits-one _ (fits-rest _ _ (c .before .before .before .emit-condition .ensures) (rw (grown (c .before .before .before .before .before .before .before .before .before .before .before .before .args .t .now) (c .before .before .before .before .before .before .before .before .before .before .before .before .args .ends .now) (c .before .before .before .before .before .before .before .before .before .before .before .before .args .i) (c .before .before .before .before .before .before .before .before .before .before .before .before .args .left) (c .before .before .before .before .before .before .before .before .before .if1 .left) _ _ (c .before .before .before .before .before .before .before .before .condition-shape .ensures) (c .before .before .before .before .before .before .a .given .1), code-not) at (c .before .before .before .before .before .before .before .before .before .before .before .before .pre .1 .1))))
+    (λ c. search needs)
+    (λ c κs. search needs)
+    (λ c κs. fits-one _ (rw (grown (c .before .before .before .before .before .before .before .before .before .args .t .now) (c .before .before .before .before .before .before .before .before .before .args .ends .now) (c .before .before .before .before .before .before .before .before .before .args .i) (c .before .before .before .before .before .before .before .before .before .args .left) (c .before .before .before .before .before .before .if1 .left) _ _ (c .before .before .before .before .before .condition-shape .ensures) (c .before .before .before .wanted .given .1), code-position) at (c .before .before .before .before .before .before .before .before .before .pre .1 .1)))
+    (λ c. search needs)
+    (λ c. search needs)
+    (λ c κs. fits-one _ (rw (grown (c .before .before .before .before .before .before .before .before .args .t .now) (c .before .before .before .before .before .before .before .before .args .ends .now) (c .before .before .before .before .before .before .before .before .args .i) (c .before .before .before .before .before .before .before .before .args .left) (c .before .before .before .before .before .if1 .left) _ _ (c .before .before .before .before .condition-shape .ensures) (c .before .before .selector .given .1), code-since) at (c .before .before .before .before .before .before .before .before .pre .1 .1)))
+    (λ c. search needs)
+    (λ c κs. fits-one _ (rw (grown (c .before .before .before .before .before .before .before .args .t .now) (c .before .before .before .before .before .before .before .args .ends .now) (c .before .before .before .before .before .before .before .args .i) (c .before .before .before .before .before .before .before .args .left) (c .before .before .before .before .if1 .left) _ _ (c .before .before .before .condition-shape .ensures) (c .before .enum-told .given .1), code-none) at (c .before .before .before .before .before .before .before .pre .1 .1)))
+    (λ c. search needs)
+    (λ c. rw (grown (c .before .before .before .before .before .before .before .before .before .before .before .args .t .now) (c .before .before .before .before .before .before .before .before .before .before .before .args .ends .now) (c .before .before .before .before .before .before .before .before .before .before .before .args .i) (c .before .before .before .before .before .before .before .before .before .before .before .args .left) (c .before .before .before .before .before .before .before .before .if1 .left) _ _ (c .before .before .before .before .before .before .before .condition-shape .ensures) (c .before .before .before .before .before .kind .given .1)) (c .before .before .emit-compare .ensures))
+    (λ c. search needs)
+    (λ c. rw (grown (c .before .before .before .before .before .before .before .before .before .before .before .args .t .now) (c .before .before .before .before .before .before .before .before .before .before .before .args .ends .now) (c .before .before .before .before .before .before .before .before .before .before .before .args .i) (c .before .before .before .before .before .before .before .before .before .before .before .args .left) (c .before .before .before .before .before .before .before .before .if1 .left) _ _ (c .before .before .before .before .before .before .before .condition-shape .ensures) (c .before .before .before .before .before .kind2 .given .1)) (c .before .before .emit-cross .ensures))
+    (λ c. search needs)
+    (λ c. rw (grown (c .before .before .before .before .before .before .before .before .before .before .before .args .t .now) (c .before .before .before .before .before .before .before .before .before .before .before .args .ends .now) (c .before .before .before .before .before .before .before .before .before .before .before .args .i) (c .before .before .before .before .before .before .before .before .before .before .before .args .left) (c .before .before .before .before .before .before .before .before .if1 .left) _ _ (c .before .before .before .before .before .before .before .condition-shape .ensures) (c .before .before .before .before .before .x .given .1)) (c .before .before .emit-between .ensures))
+    (λ c. search needs)
+    (λ c. rw (grown (c .before .before .before .before .before .before .before .before .before .before .before .args .t .now) (c .before .before .before .before .before .before .before .before .before .before .before .args .ends .now) (c .before .before .before .before .before .before .before .before .before .before .before .args .i) (c .before .before .before .before .before .before .before .before .before .before .before .args .left) (c .before .before .before .before .before .before .before .before .if1 .left) _ _ (c .before .before .before .before .before .before .before .condition-shape .ensures) (c .before .before .before .before .before .kind3 .given .1)) (c .before .before .emit-trend .ensures))
+    (λ c. c .before .before .emit-each .kept .1 .1 .1 .1 .1 .1 .0 ∙ c .before .before .before .before .before .before .put-step2 .kept .0)
+    (λ c. rw (grown (c .before .before .before .before .before .before .before .before .before .before .before .before .before .before .before .before .args .t .now) (c .before .before .before .before .before .before .before .before .before .before .before .before .before .before .before .before .args .ends .now) (c .before .before .before .before .before .before .before .before .before .before .before .before .before .before .before .before .args .i) (c .before .before .before .before .before .before .before .before .before .before .before .before .before .before .before .before .args .left) (c .before .before .before .before .before .before .before .before .before .before .before .before .before .if1 .left) _ _ (c .before .before .before .before .before .before .before .before .before .before .before .before .condition-shape .ensures) (c .before .before .before .before .before .before .before .before .before .before .all .given .1), code-group) (wrote-then _ _ (wrote-one _ _ (Answer _) _ _ (c .before .before .before .before .before .before .put-step2 .ensures .0) (rw (c .before .before .before .before .before .before .before .group-kind .ensures) at (c .before .before .before .before .before .before .put-step2 .ensures .1))) (c .before .before .emit-each .ensures)))
+    (λ c. c .before .before .put-step3 .kept .0 ∙ c .before .before .before .before .before .before .emit-condition .kept .1 .1 .1 .1 .0)
+    (λ c. rw (grown (c .before .before .before .before .before .before .before .before .before .before .before .before .before .before .before .args .t .now) (c .before .before .before .before .before .before .before .before .before .before .before .before .before .before .before .args .ends .now) (c .before .before .before .before .before .before .before .before .before .before .before .before .before .before .before .args .i) (c .before .before .before .before .before .before .before .before .before .before .before .before .before .before .before .args .left) (c .before .before .before .before .before .before .before .before .before .before .before .before .if1 .left) _ _ (c .before .before .before .before .before .before .before .before .before .before .before .condition-shape .ensures) (c .before .before .before .before .before .before .before .before .before .a .given .1), code-not) (wrote-then _ _ (c .before .before .before .before .before .before .emit-condition .ensures) (wrote-one _ _ Turn _ _ (c .before .before .put-step3 .ensures .0) (c .before .before .put-step3 .ensures .1))))
+    (λ c. search needs)
+    (λ c. rw (grown (c .before .before .before .before .before .before .before .before .before .before .before .before .args .t .now) (c .before .before .before .before .before .before .before .before .before .before .before .before .args .ends .now) (c .before .before .before .before .before .before .before .before .before .before .before .before .args .i) (c .before .before .before .before .before .before .before .before .before .before .before .before .args .left) (c .before .before .before .before .before .before .before .before .before .if1 .left) _ _ (c .before .before .before .before .before .before .before .before .condition-shape .ensures) (c .before .before .before .before .before .before .wanted .given .1), code-position) (wrote-one _ _ (InPosition _) _ _ (c .before .before .put-step4 .ensures .0) (rw (c .before .before .before .flag .ensures) at (c .before .before .put-step4 .ensures .1))))
+    (λ c. search needs)
+    (λ c. rw (grown (c .before .before .before .before .before .before .before .before .before .before .before .args .t .now) (c .before .before .before .before .before .before .before .before .before .before .before .args .ends .now) (c .before .before .before .before .before .before .before .before .before .before .before .args .i) (c .before .before .before .before .before .before .before .before .before .before .before .args .left) (c .before .before .before .before .before .before .before .before .if1 .left) _ _ (c .before .before .before .before .before .before .before .condition-shape .ensures) (c .before .before .before .before .before .selector .given .1), code-since) (wrote-one _ _ (BarsSinceEntry _ _) _ _ (c .before .before .put-step5 .ensures .0) (c .before .before .put-step5 .ensures .1)))
+    (λ c. search needs)
+    (λ c. rw (grown (c .before .before .before .before .before .before .before .before .before .before .args .t .now) (c .before .before .before .before .before .before .before .before .before .before .args .ends .now) (c .before .before .before .before .before .before .before .before .before .before .args .i) (c .before .before .before .before .before .before .before .before .before .before .args .left) (c .before .before .before .before .before .before .before .if1 .left) _ _ (c .before .before .before .before .before .before .condition-shape .ensures) (c .before .before .before .before .enum-told .given .1), code-none) (wrote-one _ _ (Answer false) _ _ (c .before .before .put-step6 .ensures .0) (c .before .before .put-step6 .ensures .1))))
+    λ t. emit-each-lts.spec (
+      emit-condition-below t,
+      emit-condition.Post,
+      end-in-reads.Asked,
+      end-in-reads.Learnt,
+      emit-each-below t,
+      emit-each.Post,
+      jump-kind-reads.Asked,
+      jump-kind-reads.Learnt,
+      put-step-reads.Asked,
+      put-step-reads.Learnt,
+    )
+    (emit-each-at t)
+    emit-each.Post
+    (λ c. rw (no-more (conditionAt (c .before .before .before .args .left) (c .before .before .before .args .t .now) (c .before .before .before .args .ends .now)) (c .before .before .before .args .ends .now) (c .before .before .before .args .n) (c .before .before .before .args .j) (c .if1 .taken), code-no-more) (wrote-none _ _))
+    (λ c κs. (child-falls 36893488147419103232 _ _ _ (c .before .before .before .before .pre .0), (more-reach _ _ (rw (one-more (conditionAt (c .before .before .before .before .args .left) (c .before .before .before .before .args .t .now) (c .before .before .before .before .args .ends .now)) (c .before .before .before .before .args .ends .now) (c .before .before .before .before .args .n) (c .before .before .before .before .args .j) (c .before .if1 .left)) at (c .before .before .before .before .pre .1 .0)) .0, fits-first _ _ (rw (one-more (conditionAt (c .before .before .before .before .args .left) (c .before .before .before .before .args .t .now) (c .before .before .before .before .args .ends .now)) (c .before .before .before .before .args .ends .now) (c .before .before .before .before .args .n) (c .before .before .before .before .args .j) (c .before .if1 .left), code-more) at (c .before .before .before .before .pre .1 .1)))))
+    (λ c. omega (arith, c .before .before .before .before .if1 .left))
+    (λ c κs. search needs)
+    (λ c. omega (arith, fits-after _ _ _ (c .before .before .before .before .emit-condition .ensures) (rw (one-more (conditionAt (c .before .before .before .before .before .before .before .before .before .args .left) (c .before .before .before .before .before .before .before .before .before .args .t .now) (c .before .before .before .before .before .before .before .before .before .args .ends .now)) (c .before .before .before .before .before .before .before .before .before .args .ends .now) (c .before .before .before .before .before .before .before .before .before .args .n) (c .before .before .before .before .before .before .before .before .before .args .j) (c .before .before .before .before .before .before .if1 .left), code-more) at (c .before .before .before .before .before .before .before .before .before .pre .1 .1)) .bytes))
+    (λ c κs. rw (c .before .end-in .ensures) (rest-falls 36893488147419103232 _ _ _ (c .before .before .before .before .before .before .before .before .before .pre .0) (c .before .before .before .before .before .before .if1 .left), (more-reach _ _ (rw (one-more (conditionAt (c .before .before .before .before .before .before .before .before .before .args .left) (c .before .before .before .before .before .before .before .before .before .args .t .now) (c .before .before .before .before .before .before .before .before .before .args .ends .now)) (c .before .before .before .before .before .before .before .before .before .args .ends .now) (c .before .before .before .before .before .before .before .before .before .args .n) (c .before .before .before .before .before .before .before .before .before .args .j) (c .before .before .before .before .before .before .if1 .left)) at (c .before .before .before .before .before .before .before .before .before .pre .1 .0)) .1, fits-after _ _ _ (c .before .before .before .before .emit-condition .ensures) (rw (one-more (conditionAt (c .before .before .before .before .before .before .before .before .before .args .left) (c .before .before .before .before .before .before .before .before .before .args .t .now) (c .before .before .before .before .before .before .before .before .before .args .ends .now)) (c .before .before .before .before .before .before .before .before .before .args .ends .now) (c .before .before .before .before .before .before .before .before .before .args .n) (c .before .before .before .before .before .before .before .before .before .args .j) (c .before .before .before .before .before .before .if1 .left), code-more) at (c .before .before .before .before .before .before .before .before .before .pre .1 .1)))))
+    (λ c κs. search needs)
+    (λ c. omega (arith, c .before .before .before .before .emit-each .ensures .place))
+    (λ c. omega (arith, c .before .before .before .before .emit-each .ensures .place))
+    (λ c κs. fits-between _ _ _ (c .before .before .before .before .before .before .before .before .before .emit-condition .ensures) (rw (c .before .before .before .before .before .before .end-in .ensures) at (c .before .before .before .before .emit-each .ensures)) (rw (one-more (conditionAt (c .before .before .before .before .before .before .before .before .before .before .before .before .before .before .args .left) (c .before .before .before .before .before .before .before .before .before .before .before .before .before .before .args .t .now) (c .before .before .before .before .before .before .before .before .before .before .before .before .before .before .args .ends .now)) (c .before .before .before .before .before .before .before .before .before .before .before .before .before .before .args .ends .now) (c .before .before .before .before .before .before .before .before .before .before .before .before .before .before .args .n) (c .before .before .before .before .before .before .before .before .before .before .before .before .before .before .args .j) (c .before .before .before .before .before .before .before .before .before .before .before .if1 .left), code-more) at (c .before .before .before .before .before .before .before .before .before .before .before .before .before .before .pre .1 .1)))
+    (λ c. c .before .before .put-step .kept .0 ∙ c .before .before .before .before .before .before .before .emit-each .kept .1 .1 .1 .1 .1 .1 .0 ∙ c .before .before .before .before .before .before .before .before .before .before .before .before .emit-condition .kept .1 .1 .1 .1 .0)
+    (λ c. rw (one-more (conditionAt (c .before .before .before .before .before .before .before .before .before .before .before .before .before .before .before .before .before .args .left) (c .before .before .before .before .before .before .before .before .before .before .before .before .before .before .before .before .before .args .t .now) (c .before .before .before .before .before .before .before .before .before .before .before .before .before .before .before .before .before .args .ends .now)) (c .before .before .before .before .before .before .before .before .before .before .before .before .before .before .before .before .before .args .ends .now) (c .before .before .before .before .before .before .before .before .before .before .before .before .before .before .before .before .before .args .n) (c .before .before .before .before .before .before .before .before .before .before .before .before .before .before .before .before .before .args .j) (c .before .before .before .before .before .before .before .before .before .before .before .before .before .before .if1 .left), code-more) (wrote-between _ _ (JumpIf _ _) (c .before .before .before .before .before .before .before .before .before .before .before .before .emit-condition .ensures) (rw (c .before .before .before .before .before .before .before .before .before .end-in .ensures) at (c .before .before .before .before .before .before .before .emit-each .ensures)) _ (rw (c .before .before .before .jump-kind .ensures, skip-is _ _ (rw (c .before .before .before .before .before .before .before .before .before .end-in .ensures) at (c .before .before .before .before .before .before .before .emit-each .ensures))) at (c .before .before .put-step .ensures .1))))

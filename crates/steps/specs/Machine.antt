@@ -1,0 +1,114 @@
+-- The step machine: what a step does, what a run is and which places it visits. Definitions only.
+use Prim.Native.Nat.{ℕ, zero, suc, _+_, _-_}
+use mathlib.Core.Bool.{Bool, true, false, not, cond, Bool·beq as beq}
+use mathlib.Core.List.{List, [], _∷_}
+use lib.ListN.{length, getD, drop}
+use lib.Dec.{ltb}
+use Rattle.rows.specs.History.{History}
+use Rattle.table.specs.Trees.{Operand, const, ref, price, inPosition, barsSince}
+use Rattle.rules.specs.declared.PositionState.{PositionState}
+use Rattle.rules.specs.declared.Value.{Value}
+use Rattle.rules.specs.declared.Value.the-variants.{Missing}
+use Rattle.rules.specs.Values.{both, compared, crossed, within}
+use Rattle.rules.specs.Meaning.{value, holds, newest}
+use Rattle.steps.specs.declared.Effect.{Effect}
+use Rattle.steps.specs.declared.Ran.{Ran}
+use Rattle.steps.specs.declared.Op.{Op}
+use Rattle.steps.specs.declared.Op.the-variants.{Const, Ref, Price, Arith, Compare, Cross, Between, Answer, Turn, InPosition, BarsSinceEntry, JumpIf, Unknown}
+
+-- ---- the values so far
+
+-- The machine has one answer and holds values, the last first.
+pub record Values : Type 0 where
+  pub stack : List Value
+  pub answer : Bool
+
+-- Decided: the machine holds 64 values.
+abbrev pub capacity : ℕ
+capacity = 64
+
+-- Decided: "a value that finds no place is not kept".
+unfoldable pub keep : Value → List Value → List Value
+keep v vs = cond (ltb (length vs) capacity) (v ∷ vs) vs
+
+-- "a value not there counts as missing": the value j places below the last.
+abbrev pub nth : List Value → ℕ → Value
+nth vs j = getD vs j Missing
+
+-- At first there is no value, and the answer is no: "An empty list answers no".
+abbrev pub start : Values
+start = record { stack = []; answer = false }
+
+-- ---- a step
+
+-- An operand n rows before the newest, missing where there are not more than n rows.
+unfoldable pub ago : History → Operand → ℕ → Value
+ago h a n = cond (ltb n (h .rows)) (value h a (newest h - n)) Missing
+
+-- Takes m values and gives one, the answer as it was.
+abbrev pub giving : ℕ → Value → Bool → Effect
+giving m v y = record { take = m; gives = true; value = v; answer = y; skip = 0 }
+
+-- Takes m values and answers.
+abbrev pub saying : ℕ → Bool → Effect
+saying m y = record { take = m; gives = false; value = Missing; answer = y; skip = 0 }
+
+-- Passes over n steps, the answer as it was.
+abbrev pub passing : ℕ → Bool → Effect
+passing n y = record { take = 0; gives = false; value = Missing; answer = y; skip = n }
+
+-- "What a step does depends on its own 16 bytes, the rows, the position state and the values so far": a, b, c, d are the last four
+-- values, the last first, and y is the answer so far.
+unfoldable pub effect : History → PositionState → Op → Value → Value → Value → Value → Bool → Effect
+effect h s (Const bits n) a b c d y = giving 0 (ago h (const bits) n) y
+effect h s (Ref k n) a b c d y = giving 0 (ago h (ref k) n) y
+effect h s (Price p n) a b c d y = giving 0 (ago h (price p) n) y
+effect h s (Arith k) a b c d y = giving 2 (both k b a) y
+effect h s (Compare k) a b c d y = saying 2 (compared k b a)
+effect h s (Cross k) a b c d y = saying 4 (crossed k d c b a)
+effect h s Between a b c d y = saying 3 (within c b a)
+effect h s (Answer w) a b c d y = saying 0 w
+effect h s Turn a b c d y = saying 0 (not y)
+effect h s (InPosition w) a b c d y = saying 0 (holds h s (inPosition w) (newest h))
+effect h s (BarsSinceEntry p k) a b c d y = saying 0 (holds h s (barsSince p k) (newest h))
+effect h s (JumpIf w n) a b c d y = passing (cond (beq y w) n 0) y
+effect h s Unknown a b c d y = saying 0 y
+
+unfoldable pub does : History → PositionState → Op → Values → Effect
+does h s x v =
+    effect h s x (nth (v .stack) 0) (nth (v .stack) 1) (nth (v .stack) 2) (nth (v .stack) 3) (v .answer)
+
+-- one value more, or none
+abbrev pub given : Bool → Value → List Value → List Value
+given true v vs = keep v vs
+given false v vs = vs
+
+-- the values after a step
+unfoldable pub after : Effect → Values → Values
+after e v = record { stack = given (e .gives) (e .value) (drop (e .take) (v .stack)); answer = e .answer }
+
+-- ---- a run
+
+-- From the first step on, of which k are passed over before the next is visited.
+unfoldable pub run : History → PositionState → List Op → ℕ → Values → Values
+run h s [] k v = v
+run h s (x ∷ xs) (suc k) v = run h s xs k v
+run h s (x ∷ xs) zero v = run h s xs (does h s x v .skip) (after (does h s x v) v)
+
+-- "The definition of a run gives the places visited, in rising order": the list begins at place p.
+unfoldable pub places : History → PositionState → ℕ → List Op → ℕ → Values → List ℕ
+places h s p [] k v = []
+places h s p (x ∷ xs) (suc k) v = places h s (p + 1) xs k v
+places h s p (x ∷ xs) zero v = p ∷ places h s (p + 1) xs (does h s x v .skip) (after (does h s x v) v)
+
+-- The answer of a whole list.
+abbrev pub answers : History → PositionState → List Op → Bool
+answers h s xs = run h s xs 0 start .answer
+
+-- The places that a whole list visits.
+abbrev pub visited : History → PositionState → List Op → List ℕ
+visited h s xs = places h s 0 xs 0 start
+
+-- "a run reports how many steps it visited"
+abbrev pub ranOver : History → PositionState → List Op → Ran
+ranOver h s xs = record { answer = answers h s xs; visits = length (visited h s xs) }

@@ -1,0 +1,68 @@
+-- D cannot be smaller: for each kind that looks back, rows on which the steps answer yes over D = reach + 1 of them and no over one less.
+use Prim.Native.Nat.{ℕ, _+_}
+use mathlib.Core.Path.{_≡_, refl}
+use mathlib.Core.Bool.{Bool, true, false}
+use mathlib.Core.List.{List, [], _∷_, _++_}
+use lib.Ieee as Ieee
+use Rattle.floats.specs.Floats.{zero, abs}
+use Rattle.rows.specs.History.{historyOf, lastRows}
+use Rattle.table.specs.Trees.{Operand, const, ref, price, prev, Condition, compare, cross, trend, reach, reachOf}
+use Rattle.rules.specs.declared.PositionState.{PositionState}
+use Rattle.rules.specs.declared.Entered.the-variants.{Never}
+use Rattle.rules.specs.Values.{priceOf, slotOf, both, tested, compared, crossed}
+use Rattle.rules.specs.Meaning.{newest, there, value}
+use Rattle.steps.specs.Machine.{keep, ago, effect, does, after, run, answers}
+use Rattle.steps.specs.Translation.{code, codeOf}
+
+-- a row of two slots, both present, with this close and these slot words
+row : ℕ → ℕ → ℕ → List ℕ
+row close first second = 0 ∷ 0 ∷ 0 ∷ 0 ∷ close ∷ 0 ∷ 3 ∷ first ∷ second ∷ []
+
+ten : ℕ
+ten = 0x4024_0000_0000_0000
+
+eleven : ℕ
+eleven = 0x4026_0000_0000_0000
+
+flat : PositionState
+flat = record { qty = zero; entered = Never; «bars_seen» = 1 }
+
+-- the steps of a condition over the last `rows` of the rows
+over : ℕ → List ℕ → Condition → Bool
+over rows ws c = answers (historyOf 2 (lastRows 2 rows ws)) flat (codeOf c)
+
+-- over D rows, and over one less
+pub record Pair : Type 0 where
+  pub enough : Bool
+  pub short : Bool
+
+both-ways : List ℕ → Condition → Pair
+both-ways ws c = record { enough = over (reachOf c + 1) ws c; short = over (reachOf c) ws c }
+
+close : Operand
+close = price 3
+
+-- closes that rise by one row, closes that fall
+rising : List ℕ
+rising = row ten ten ten ++ (row ten ten eleven ++ (row ten ten eleven ++ row eleven eleven ten))
+
+falling : List ℕ
+falling = row eleven ten ten ++ (row eleven ten eleven ++ (row eleven eleven ten ++ row ten ten eleven))
+
+-- The worked example's entry, CrossAbove(slot 0, slot 1), and exit, Lt(close, Prev(close, 2)); then CrossBelow, Rising, Falling, and a
+-- Prev of a constant, which is kept from being folded.
+pub cases : List Pair
+cases =
+    both-ways rising (cross 22 (ref 0) (ref 1)) ∷
+    both-ways falling (compare 17 close (prev close 2)) ∷
+    both-ways falling (cross 23 (ref 0) (ref 1)) ∷
+    both-ways rising (trend 25 close 3) ∷
+    both-ways falling (trend 26 close 1) ∷
+    both-ways rising (compare 16 (prev (const eleven) 3) (const ten)) ∷ []
+
+abbrev split : Pair
+split = record { enough = true; short = false }
+
+pub one-row-less : cases ≡ (split ∷ split ∷ split ∷ split ∷ split ∷ split ∷ [])
+unfolding row ten eleven flat over both-ways close rising falling cases historyOf lastRows newest there value priceOf slotOf both tested compared crossed reach reachOf keep ago effect does after run code codeOf abs Ieee.lt Ieee.le Ieee.sub Ieee.ofBits
+one-row-less = refl

@@ -1,0 +1,63 @@
+-- Which lists of steps are well formed. Definitions only.
+use Prim.Native.Nat.{ℕ, zero, suc, _+_, _%_}
+use mathlib.Core.Bool.{Bool, true, false, cond, _&&_}
+use mathlib.Core.List.{List}
+use lib.ListN.{length}
+use lib.Dec.{ltb, leb, eqb}
+use Rattle.steps.specs.declared.Step.{Step}
+use Rattle.steps.specs.declared.Formed.{Formed}
+use Rattle.steps.specs.declared.Formed.the-variants.{Well, Bad}
+use Rattle.steps.specs.declared.Op.{Op}
+use Rattle.steps.specs.declared.Op.the-variants.{Const, Ref, Price, Arith, Compare, Cross, Between, Answer, Turn, InPosition, BarsSinceEntry, JumpIf, Unknown}
+use Rattle.steps.specs.Bytes.{stepAt, opOf, stepsIn}
+
+unfoldable pub zeros : ℕ → ℕ → ℕ → ℕ → Bool
+zeros selector skip n bits = eqb selector 0 && eqb skip 0 && eqb n 0 && eqb bits 0
+
+-- "each of a known kind with unused fields zero": what the kind uses stands as 0 here.
+unfoldable pub plain : Step → Op → Bool
+plain x (Const bits n) = zeros (x .selector) (x .skip) 0 0
+plain x (Ref k n) = zeros 0 (x .skip) 0 (x .bits)
+plain x (Price p n) = zeros 0 (x .skip) 0 (x .bits)
+plain x (Arith k) = zeros (x .selector) (x .skip) (x .n) (x .bits)
+plain x (Compare k) = zeros (x .selector) (x .skip) (x .n) (x .bits)
+plain x (Cross k) = zeros (x .selector) (x .skip) (x .n) (x .bits)
+plain x Between = zeros (x .selector) (x .skip) (x .n) (x .bits)
+plain x (Answer w) = zeros (x .selector) (x .skip) (x .n) (x .bits)
+plain x Turn = zeros (x .selector) (x .skip) (x .n) (x .bits)
+plain x (InPosition w) = zeros 0 (x .skip) (x .n) (x .bits)
+plain x (BarsSinceEntry p k) = zeros 0 (x .skip) 0 (x .bits)
+plain x (JumpIf w skip) = zeros (x .selector) 0 (x .n) (x .bits)
+plain x Unknown = false
+
+-- "a jump that lands later in the list or just past it, a slot below K and a look-back below D", where `after` steps stand after it
+unfoldable pub bounded : ℕ → ℕ → ℕ → Op → Bool
+bounded K D after (Const bits n) = ltb n D
+bounded K D after (Ref k n) = ltb k K && ltb n D
+bounded K D after (Price p n) = ltb n D
+bounded K D after (Arith k) = true
+bounded K D after (Compare k) = true
+bounded K D after (Cross k) = true
+bounded K D after Between = true
+bounded K D after (Answer w) = true
+bounded K D after Turn = true
+bounded K D after (InPosition w) = true
+bounded K D after (BarsSinceEntry p k) = true
+bounded K D after (JumpIf w skip) = leb skip after
+bounded K D after Unknown = true
+
+unfoldable pub goodStep : ℕ → ℕ → ℕ → Step → Bool
+goodStep K D after x = plain x (opOf x) && bounded K D after (opOf x)
+
+-- "its lowest bad step", of m steps from place p on
+unfoldable pub formedFrom : ℕ → ℕ → List ℕ → ℕ → ℕ → Formed
+formedFrom K D bs p zero = Well
+formedFrom K D bs p (suc m) = cond (goodStep K D m (stepAt bs p)) (formedFrom K D bs (p + 1) m) (Bad p)
+
+-- "A list is well formed when it is whole steps, at most 1,024, each of ..": "0 for a bad length"
+abbrev pub mostSteps : ℕ
+mostSteps = 1024
+
+unfoldable pub formed : ℕ → ℕ → List ℕ → Formed
+formed K D bs =
+    cond (eqb (length bs % 16) 0) (cond (ltb mostSteps (stepsIn bs)) (Bad 0) (formedFrom K D bs 0 (stepsIn bs))) (Bad 0)

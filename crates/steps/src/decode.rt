@@ -1,0 +1,140 @@
+// A step's 16 bytes, read and taken for what they say.
+use crate::Op;
+use crate::Step;
+ghost use mathlib.Core.Path.{_≡_};
+ghost use Prim.Native.Nat.{_+_, _*_, _/_, _<_, _≤_};
+ghost use lib.ListN.{length};
+ghost use Rattle.table.specs.Bytes.{u16, u32, u64};
+ghost use Rattle.steps.specs.Bytes.{readStep, stepAt, opOf, operandOp, testOp, answerOp};
+
+// A byte as a number of 64 bits.
+fn wide(b: u8) -> u64
+    ensures { λ r. ⌜ (r ≡ b) × (r < 256) ⌝ }
+{
+    b as u64
+}
+
+// Little-endian numbers of 16, 32 and 64 bits, with no test of their own: a run decodes every step that it visits.
+fn two_at(list: &[u8], at: usize) -> u64
+    requires { ⌜ at + 2 ≤ length (now list) ⌝ }
+    ensures { λ r. ⌜ (r ≡ u16 (now (list .entry)) at) × (r < 65536) ⌝ }
+{
+    wide(list[at]) + 256 * wide(list[at + 1])
+}
+
+fn four_at(list: &[u8], at: usize) -> u64
+    requires { ⌜ at + 4 ≤ length (now list) ⌝ }
+    ensures { λ r. ⌜ (r ≡ u32 (now (list .entry)) at) × (r < 4294967296) ⌝ }
+{
+    two_at(list, at) + 65536 * two_at(list, at + 2)
+}
+
+fn eight_at(list: &[u8], at: usize) -> u64
+    requires { ⌜ at + 8 ≤ length (now list) ⌝ }
+    ensures { λ r. ⌜ r ≡ u64 (now (list .entry)) at ⌝ }
+{
+    four_at(list, at) + 4294967296 * four_at(list, at + 4)
+}
+
+// The fields of the step whose bytes begin at `at`.
+fn read_step(list: &[u8], at: usize) -> Step
+    requires { ⌜ at + 16 ≤ length (now list) ⌝ }
+    ensures { λ r. ⌜ r ≡ readStep (now (list .entry)) at ⌝ }
+{
+    Step {
+        kind: list[at],
+        selector: list[at + 1],
+        skip: two_at(list, at + 2),
+        n: four_at(list, at + 4),
+        bits: eight_at(list, at + 8),
+    }
+}
+
+// The fields of the step at place p, all zeros past the last.
+pub fn step_at(list: &[u8], p: usize) -> Step
+    ensures { λ r. ⌜ r ≡ stepAt (now (list .entry)) p ⌝ }
+{
+    if p < list.len() / 16 {
+        return read_step(list, 16 * p);
+    }
+    Step {
+        kind: 0,
+        selector: 0,
+        skip: 0,
+        n: 0,
+        bits: 0,
+    }
+}
+
+// What a step of an operand says: kinds below 16.
+fn operand_op(x: Step) -> Op
+    ensures { λ r. ⌜ r ≡ operandOp x ⌝ }
+{
+    if x.kind == 1 {
+        return Op::Const(x.bits, x.n);
+    }
+    if x.kind == 2 {
+        return Op::Ref(x.selector, x.n);
+    }
+    if x.kind == 3 {
+        return Op::Price(x.selector, x.n);
+    }
+    if x.kind < 5 {
+        return Op::Unknown;
+    }
+    if x.kind < 9 {
+        return Op::Arith(x.kind);
+    }
+    Op::Unknown
+}
+
+// What a step that tests values says: kinds below 27.
+fn test_op(x: Step) -> Op
+    ensures { λ r. ⌜ r ≡ testOp x ⌝ }
+{
+    if x.kind < 22 {
+        return Op::Compare(x.kind);
+    }
+    if x.kind < 24 {
+        return Op::Cross(x.kind);
+    }
+    if x.kind == 24 {
+        return Op::Between;
+    }
+    Op::Unknown
+}
+
+// What a step that sets, turns or reads the answer says.
+fn answer_op(x: Step) -> Op
+    ensures { λ r. ⌜ r ≡ answerOp x ⌝ }
+{
+    if x.kind < 29 {
+        return Op::Answer(x.kind == 27);
+    }
+    if x.kind == 29 {
+        return Op::Turn;
+    }
+    if x.kind == 30 {
+        return Op::InPosition(x.selector == 1);
+    }
+    if x.kind == 31 {
+        return Op::BarsSinceEntry(x.selector, x.n);
+    }
+    if x.kind < 34 {
+        return Op::JumpIf(x.kind == 33, x.skip);
+    }
+    Op::Unknown
+}
+
+// What a step says.
+pub fn op_of(x: Step) -> Op
+    ensures { λ r. ⌜ r ≡ opOf x ⌝ }
+{
+    if x.kind < 16 {
+        return operand_op(x);
+    }
+    if x.kind < 27 {
+        return test_op(x);
+    }
+    answer_op(x)
+}
