@@ -1,0 +1,46 @@
+-- `slippage_rate`: a kind each; the volume's test as the definition has it.
+use Rattle.execution.specs.Costs.{slippageRate}
+use borrow.Author.Needs.{needs}
+use Rattle.execution.proofs.costs.slippage_rate.Statement.{statement}
+use Rattle.execution.proofs.costs.slippage_rate.Tie as tie
+
+enum-known-slippage : tie.Need-enum-known-slippage
+enum-known-slippage c = search needs
+
+enum-known-slippage-2 : tie.Need-enum-known-slippage-2
+enum-known-slippage-2 c = search needs
+
+abs-requires : tie.Need-abs-requires
+abs-requires c κs = search needs
+
+returns : tie.Need-returns
+unfolding slippageRate
+returns c = simp (c .abs .ensures, c .before .if1 .taken, c .before .before .before .slippage2 .given .1)
+
+enum-told : tie.Need-enum-told
+enum-told c = search needs
+
+returns-2 : tie.Need-returns-2
+unfolding slippageRate
+returns-2 c = simp (c .before .slippage .given .1)
+
+returns-3 : tie.Need-returns-3
+unfolding slippageRate
+returns-3 c = simp (c .if1 .left, c .before .before .slippage2 .given .1)
+
+returns-4 : tie.Need-returns-4
+unfolding slippageRate
+returns-4 c = simp (c .enum-told .given .1)
+
+pub slippage-rate-spec : {M : Type 1} → statement M
+slippage-rate-spec =
+    tie.close
+    (tie.spec
+    enum-known-slippage
+    enum-known-slippage-2
+    abs-requires
+    returns
+    enum-told
+    returns-2
+    returns-3
+    returns-4)

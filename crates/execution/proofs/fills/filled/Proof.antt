@@ -1,0 +1,30 @@
+-- `filled`: a case each, one call in the other.
+use Rattle.execution.specs.Fills.{filled}
+use borrow.Author.Needs.{needs}
+use Rattle.execution.proofs.fills.filled.Statement.{statement}
+use Rattle.execution.proofs.fills.filled.Tie as tie
+
+enum-told : tie.Need-enum-told
+enum-told c = search needs
+
+enum-known-sized : tie.Need-enum-known-sized
+enum-known-sized c = search needs
+
+within-volume-requires : tie.Need-within-volume-requires
+within-volume-requires c κs = search needs
+
+booked-requires : tie.Need-booked-requires
+booked-requires c κs = search needs
+
+returns : tie.Need-returns
+unfolding filled
+returns c = simp (c .enum-told .given .1)
+
+returns-2 : tie.Need-returns-2
+unfolding filled
+returns-2 c = simp (c .booked .ensures, c .before .within-volume .ensures, c .before .before .before .sized .given .1)
+
+pub filled-spec : {M : Type 1} → statement M
+filled-spec =
+    tie.close
+    (tie.spec enum-told enum-known-sized within-volume-requires booked-requires returns returns-2)

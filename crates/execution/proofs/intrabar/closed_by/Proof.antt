@@ -1,0 +1,25 @@
+-- `closed_by`: a case each.
+use Rattle.execution.specs.Intrabar.{closedBy}
+use borrow.Author.Needs.{needs}
+use Rattle.execution.proofs.intrabar.closed_by.Statement.{statement}
+use Rattle.execution.proofs.intrabar.closed_by.Tie as tie
+
+enum-told : tie.Need-enum-told
+enum-told c = search needs
+
+enum-known-trigger : tie.Need-enum-known-trigger
+enum-known-trigger c = search needs
+
+close-requires : tie.Need-close-requires
+close-requires c κs = search needs
+
+returns : tie.Need-returns
+unfolding closedBy
+returns c = simp (c .enum-told .given .1)
+
+returns-2 : tie.Need-returns-2
+unfolding closedBy
+returns-2 c = simp (c .close .ensures, c .before .before .trigger .given .1)
+
+pub closed-by-spec : {M : Type 1} → statement M
+closed-by-spec = tie.close (tie.spec enum-told enum-known-trigger close-requires returns returns-2)

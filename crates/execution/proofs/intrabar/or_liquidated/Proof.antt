@@ -1,0 +1,31 @@
+-- `or_liquidated`: a case each, then the switch.
+use Rattle.execution.specs.Intrabar.{orLiquidated}
+use borrow.Author.Needs.{needs}
+use Rattle.execution.proofs.intrabar.or_liquidated.Statement.{statement}
+use Rattle.execution.proofs.intrabar.or_liquidated.Tie as tie
+
+enum-known-fired : tie.Need-enum-known-fired
+enum-known-fired c = search needs
+
+enum-told : tie.Need-enum-told
+enum-told c = search needs
+
+liquidation-requires : tie.Need-liquidation-requires
+liquidation-requires c κs = search needs
+
+returns : tie.Need-returns
+unfolding orLiquidated
+returns c = simp (c .liquidation .ensures, c .before .if1 .taken, c .before .before .enum-told .given .1)
+
+returns-2 : tie.Need-returns-2
+unfolding orLiquidated
+returns-2 c = simp (c .before .fired .given .1)
+
+returns-3 : tie.Need-returns-3
+unfolding orLiquidated
+returns-3 c = simp (c .if1 .left, c .before .enum-told .given .1)
+
+pub or-liquidated-spec : {M : Type 1} → statement M
+or-liquidated-spec =
+    tie.close
+    (tie.spec enum-known-fired enum-told liquidation-requires returns returns-2 returns-3)

@@ -1,0 +1,26 @@
+-- `at_most`: a case each, with what `min` ensures.
+use Rattle.execution.specs.Size.{atMost}
+use borrow.Author.Needs.{needs}
+use Rattle.execution.proofs.size.at_most.Statement.{statement}
+use Rattle.execution.proofs.size.at_most.Tie as tie
+
+enum-told : tie.Need-enum-told
+enum-told c = search needs
+
+enum-known-max-position-pct : tie.Need-enum-known-max-position-pct
+enum-known-max-position-pct c = search needs
+
+min-requires : tie.Need-min-requires
+min-requires c κs = search needs
+
+returns : tie.Need-returns
+unfolding atMost
+returns c = simp (c .enum-told .given .1)
+
+returns-2 : tie.Need-returns-2
+unfolding atMost
+returns-2 c = simp (c .min .ensures, c .before .before .max-position-pct .given .1)
+
+pub at-most-spec : {M : Type 1} → statement M
+at-most-spec =
+    tie.close (tie.spec enum-told enum-known-max-position-pct min-requires returns returns-2)

@@ -1,0 +1,50 @@
+-- Both sides of the edges of this crate, proved of its definitions.
+use mathlib.Core.Path.{_≡_, refl}
+use mathlib.Core.Bool.{true, false}
+use Prim.Native.Nat.{ℕ}
+use lib.IntN.{pos, negsuc}
+use lib.Ieee as Ieee
+use lib.Ieee.{Float, binary64, fin}
+use Rattle.floats.specs.Floats as Floats
+use Rattle.floats.specs.Floats.{_⊗_, _⊘_}
+use Rattle.portfolio.specs.declared.Candle.{Candle}
+use Rattle.portfolio.specs.Trade.{stopLoss}
+use Rattle.execution.specs.Size.{capped}
+use Rattle.execution.specs.Intrabar.{fallTo, under, over, firstOf, longExit, intrabarExit}
+use Rattle.execution.specs.declared.Optional.the-variants.{Absent, Of}
+use Rattle.execution.specs.declared.Risk.{Risk}
+use Rattle.execution.specs.declared.Trigger.the-variants.{Untouched, At}
+
+abbrev num : ℕ → Float
+num n = Ieee.ofInt binary64 (pos n)
+
+-- 75.5
+abbrev seventyFiveAndAHalf : Float
+seventyFiveAndAHalf = fin false 151 (negsuc 0)
+
+abbrev stopOnly : Risk
+stopOnly = record {
+  «stop_loss_pct» = Of (num 25);
+  «trailing_stop_pct» = Absent;
+  «take_profit_pct» = Absent;
+  «max_leverage» = Absent;
+  «max_position_pct» = Absent;
+  liquidation = false;
+}
+
+-- "★8 Long from 100, stop 25%: open 70, low 68 fills 70; open 80, low 75 fills 75; low 75.5, no exit." Whatever the rest
+-- of the bar and the favourable extreme are.
+module _ (time : ℕ) (high close volume extreme : Float) where
+  abbrev pub bar : Float → Float → Candle
+  bar first low = record { time = time; «open» = first; high = high; low = low; close = close; volume = volume }
+
+  pub stop-edges : (intrabarExit (bar (num 70) (num 68)) stopOnly (num 100) extreme true ≡ At (num 70) stopLoss)
+      × (intrabarExit (bar (num 80) (num 75)) stopOnly (num 100) extreme true ≡ At (num 75) stopLoss)
+      × (intrabarExit (bar (num 80) seventyFiveAndAHalf) stopOnly (num 100) extreme true ≡ Untouched)
+  unfolding intrabarExit longExit firstOf under fallTo over Floats.min Ieee.ofInt Ieee.ofBits Ieee.isNan Ieee.lt Ieee.le Ieee.sub Ieee.mul Ieee.div
+  stop-edges = (refl, refl, refl)
+
+-- "Letting a NaN size through the cap as NaN (it becomes the cap)."
+pub nan-capped : (qty price most : Float) → Ieee.isNan (qty ⊗ price) ≡ true → capped qty price most ≡ most ⊘ price
+unfolding Floats.min
+nan-capped qty price most e = rw e

@@ -1,0 +1,9 @@
+pub mod Optional
+pub mod Size
+pub mod Volatility
+pub mod Tally
+pub mod Costs
+pub mod Intrabar
+pub mod Fills
+pub mod VolatilityWindow
+pub mod Edges

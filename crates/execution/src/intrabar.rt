@@ -1,0 +1,192 @@
+// Exits inside a bar: the levels of a stop loss, a trailing stop and a take profit, then liquidation. Fills are aware of
+// gaps: a bar that opens beyond a level fills at the open.
+use crate::Exit;
+use crate::Optional;
+use crate::Risk;
+use crate::Terms;
+use crate::Trigger;
+use crate::costs;
+use portfolio::Candle;
+use portfolio::LIQUIDATION;
+use portfolio::Portfolio;
+use portfolio::STOP_LOSS;
+use portfolio::TAKE_PROFIT;
+use portfolio::TRAILING_STOP;
+ghost use mathlib.Core.Path.{_≡_};
+ghost use Rattle.execution.specs.Intrabar.{favourable, extremeWith, fallTo, riseTo, under, over, firstOf, longExit, shortExit, intrabarExit, breached, liquidated, orLiquidated, closedBy, applyIntrabarExits};
+
+// The most favourable price since the entry, this bar counted.
+pub fn favourable(candle: Candle, extreme: f64, is_long: bool) -> f64
+    ensures { λ r. ⌜ r ≡ favourable candle extreme «is_long» ⌝ }
+{
+    if is_long {
+        return floats::max(extreme, candle.high);
+    }
+    floats::min(extreme, candle.low)
+}
+
+// The favourable extreme after this bar: it moves only in a position.
+pub fn extreme_with(candle: Candle, pf: Portfolio, extreme: f64) -> f64
+    ensures { λ r. ⌜ r ≡ extremeWith candle pf extreme ⌝ }
+{
+    if pf.in_position() {
+        return favourable(candle, extreme, pf.is_long());
+    }
+    extreme
+}
+
+// A level that is touched from above: filled there, or at the open where the bar opened under it.
+fn fall_to(level: f64, open: f64, low: f64) -> Optional
+    ensures { λ r. ⌜ r ≡ fallTo level «open» low ⌝ }
+{
+    if low <= level {
+        return Optional::Of(floats::min(level, open));
+    }
+    Optional::Absent
+}
+
+// A level that is touched from below: filled there, or at the open where the bar opened over it.
+fn rise_to(level: f64, open: f64, high: f64) -> Optional
+    ensures { λ r. ⌜ r ≡ riseTo level «open» high ⌝ }
+{
+    if high >= level {
+        return Optional::Of(floats::max(level, open));
+    }
+    Optional::Absent
+}
+
+// The fill at a level `pct` percent under `base`.
+fn under(candle: Candle, base: f64, pct: Optional) -> Optional
+    ensures { λ r. ⌜ r ≡ under candle base pct ⌝ }
+{
+    match pct {
+        Optional::Absent => Optional::Absent,
+        Optional::Of(p) => fall_to(base * (1.0 - p / 100.0), candle.open, candle.low),
+    }
+}
+
+// The fill at a level `pct` percent over `base`.
+fn over(candle: Candle, base: f64, pct: Optional) -> Optional
+    ensures { λ r. ⌜ r ≡ over candle base pct ⌝ }
+{
+    match pct {
+        Optional::Absent => Optional::Absent,
+        Optional::Of(p) => rise_to(base * (1.0 + p / 100.0), candle.open, candle.high),
+    }
+}
+
+// The stop is taken to be hit before the trailing stop, and that before the target.
+fn first_of(stop: Optional, trail: Optional, take: Optional) -> Trigger
+    ensures { λ r. ⌜ r ≡ firstOf stop trail take ⌝ }
+{
+    if let Optional::Of(price) = stop {
+        return Trigger::At(price, STOP_LOSS);
+    }
+    if let Optional::Of(price) = trail {
+        return Trigger::At(price, TRAILING_STOP);
+    }
+    if let Optional::Of(price) = take {
+        return Trigger::At(price, TAKE_PROFIT);
+    }
+    Trigger::Untouched
+}
+
+// A long's stops stand under, its target over.
+fn long_exit(candle: Candle, risk: Risk, entry: f64, extreme: f64) -> Trigger
+    ensures { λ r. ⌜ r ≡ longExit candle risk entry extreme ⌝ }
+{
+    let stop_loss_pct = risk.stop_loss_pct;
+    let trailing_stop_pct = risk.trailing_stop_pct;
+    let take_profit_pct = risk.take_profit_pct;
+    let stop = under(candle, entry, stop_loss_pct);
+    let trail = under(candle, extreme, trailing_stop_pct);
+    let take = over(candle, entry, take_profit_pct);
+    first_of(stop, trail, take)
+}
+
+// A short's stops stand over, its target under.
+fn short_exit(candle: Candle, risk: Risk, entry: f64, extreme: f64) -> Trigger
+    ensures { λ r. ⌜ r ≡ shortExit candle risk entry extreme ⌝ }
+{
+    let stop_loss_pct = risk.stop_loss_pct;
+    let trailing_stop_pct = risk.trailing_stop_pct;
+    let take_profit_pct = risk.take_profit_pct;
+    let stop = over(candle, entry, stop_loss_pct);
+    let trail = over(candle, extreme, trailing_stop_pct);
+    let take = under(candle, entry, take_profit_pct);
+    first_of(stop, trail, take)
+}
+
+// The level that the bar touches, if any.
+pub fn intrabar_exit(candle: Candle, risk: Risk, entry: f64, extreme: f64, is_long: bool) -> Trigger
+    ensures { λ r. ⌜ r ≡ intrabarExit candle risk entry extreme «is_long» ⌝ }
+{
+    if entry <= 0.0 {
+        return Trigger::Untouched;
+    }
+    if is_long {
+        return long_exit(candle, risk, entry, extreme);
+    }
+    short_exit(candle, risk, entry, extreme)
+}
+
+fn breached(candle: Candle, price: f64, is_long: bool) -> bool
+    ensures { λ r. ⌜ r ≡ breached candle price «is_long» ⌝ }
+{
+    if is_long {
+        return candle.low <= price;
+    }
+    candle.high >= price
+}
+
+// The bankruptcy price, where the bar reaches it: there the account's equity is 0.
+pub fn liquidation(candle: Candle, pf: Portfolio) -> Trigger
+    ensures { λ r. ⌜ r ≡ liquidated candle pf ⌝ }
+{
+    let p_liq = -pf.cash / pf.qty;
+    if p_liq > 0.0 {
+        if breached(candle, p_liq, pf.is_long()) {
+            return Trigger::At(p_liq, LIQUIDATION);
+        }
+        return Trigger::Untouched;
+    }
+    Trigger::Untouched
+}
+
+fn or_liquidated(fired: Trigger, candle: Candle, risk: Risk, pf: Portfolio) -> Trigger
+    ensures { λ r. ⌜ r ≡ orLiquidated fired candle risk pf ⌝ }
+{
+    match fired {
+        Trigger::At(price, reason) => Trigger::At(price, reason),
+        Trigger::Untouched => {
+            if risk.liquidation {
+                return liquidation(candle, pf);
+            }
+            Trigger::Untouched
+        }
+    }
+}
+
+fn closed_by(trigger: Trigger, candle: Candle, terms: Terms, pf: Portfolio) -> Exit
+    ensures { λ r. ⌜ r ≡ closedBy trigger candle terms pf ⌝ }
+{
+    match trigger {
+        Trigger::Untouched => Exit::NoExit,
+        Trigger::At(price, reason) => {
+            Exit::Exited(costs::close(pf, price, candle.time, terms.taker_bps, reason))
+        }
+    }
+}
+
+// The open position against one bar's range. `extreme` has taken this bar already.
+pub fn apply_intrabar_exits(candle: Candle, terms: Terms, pf: Portfolio, extreme: f64) -> Exit
+    ensures { λ r. ⌜ r ≡ applyIntrabarExits candle terms pf extreme ⌝ }
+{
+    if pf.in_position() {
+        let risk = terms.risk;
+        let fired = intrabar_exit(candle, risk, pf.entry_price, extreme, pf.is_long());
+        let trigger = or_liquidated(fired, candle, risk, pf);
+        return closed_by(trigger, candle, terms, pf);
+    }
+    Exit::NoExit
+}

@@ -1,0 +1,104 @@
+// `realized_vol`: the standard deviation of the close-to-close returns of the last rows. The returns are formed anew in
+// each of the two passes, so that no room is needed for them.
+use crate::Optional;
+ghost use mathlib.Core.Path.{_≡_};
+ghost use Prim.Native.Nat.{suc, _-_, _<_, _≤_};
+ghost use Rattle.floats.specs.Floats.{zero};
+ghost use Rattle.rows.specs.History.{historyOf};
+ghost use Rattle.execution.specs.Volatility.{closeAt, closes, simpleReturn, returns, ifPositive, realizedVol};
+ghost use Rattle.execution.specs.Tally.{termOf, tallyFrom};
+
+// What a pass adds up: the returns, or how far each is from a mean, squared.
+enum Term {
+    Itself,
+    Squared(f64),
+}
+
+// How many returns there are, and the sum over them.
+struct Tally {
+    count: u64,
+    total: f64,
+}
+
+// The close of row i.
+fn close_at(rows: &[u64], slots: usize, i: usize) -> f64
+    requires { ⌜ i < historyOf slots (now rows) .rows ⌝ }
+    ensures { λ r. ⌜ r ≡ closeAt (historyOf slots (now (rows .entry))) i ⌝ }
+{
+    let base = i * (rows::FIXED + slots);
+    floats::float_of(rows::word_from(rows, base, rows::CLOSE))
+}
+
+// The return from one close to the next; absent where the first is next to nothing.
+fn simple_return(before: f64, now: f64) -> Optional
+    ensures { λ r. ⌜ r ≡ simpleReturn before «now» ⌝ }
+{
+    if floats::abs(before) > floats::EPS {
+        return Optional::Of((now - before) / before);
+    }
+    Optional::Absent
+}
+
+fn term_of(term: Term, r: f64) -> f64
+    ensures { λ x. ⌜ x ≡ termOf term r ⌝ }
+{
+    match term {
+        Term::Itself => r,
+        Term::Squared(mean) => (r - mean) * (r - mean),
+    }
+}
+
+// One pass over the returns between row `first` and row `last`.
+fn tally_of(rows: &[u64], slots: usize, first: usize, last: usize, term: Term) -> Tally
+    requires { ⌜ (first ≤ last) × (last < historyOf slots (now rows) .rows) ⌝ }
+    ensures { λ r. ⌜ r ≡ tallyFrom term 0 zero (returns (closes (historyOf slots (now (rows .entry))) first (suc (last - first)))) ⌝ }
+{
+    let mut count: u64 = 0;
+    let mut total = 0.0;
+    let mut i = first;
+    let mut before = close_at(rows, slots, first);
+    while i < last {
+        i = i + 1;
+        let now = close_at(rows, slots, i);
+        let change = simple_return(before, now);
+        if let Optional::Of(r) = change {
+            count = count + 1;
+            total = total + term_of(term, r);
+        }
+        before = now;
+    }
+    Tally { count, total }
+}
+
+fn if_positive(sd: f64) -> Optional
+    ensures { λ r. ⌜ r ≡ ifPositive sd ⌝ }
+{
+    if sd > 0.0 {
+        return Optional::Of(sd);
+    }
+    Optional::Absent
+}
+
+// The volatility of the last `lookback` rows; absent where there are too few, or where the series is flat.
+pub fn realized_vol(rows: &[u64], slots: usize, lookback: u64) -> Optional
+    ensures { λ r. ⌜ r ≡ realizedVol (historyOf slots (now (rows .entry))) lookback ⌝ }
+{
+    if lookback < 2 {
+        return Optional::Absent;
+    }
+    let held = rows::row_count(rows, slots);
+    let back = lookback as usize;
+    if held < back {
+        return Optional::Absent;
+    }
+    let first = held - back;
+    let last = held - 1;
+    let sum = tally_of(rows, slots, first, last, Term::Itself);
+    if sum.count == 0 {
+        return Optional::Absent;
+    }
+    let n = std::num::nearest_u64_to_f64(sum.count);
+    let mean = sum.total / n;
+    let squares = tally_of(rows, slots, first, last, Term::Squared(mean));
+    if_positive(floats::root::sqrt(squares.total / n))
+}

@@ -1,0 +1,12 @@
+-- `apply_funding`: the record that the definition writes.
+use mathlib.Core.Path.{refl}
+use Rattle.portfolio.specs.Portfolio.{funded}
+use Rattle.portfolio.proofs.Portfolio.apply_funding.Statement.{statement}
+use Rattle.portfolio.proofs.Portfolio.apply_funding.Tie as tie
+
+returns : tie.Need-returns
+unfolding funded
+returns c = refl
+
+pub apply-funding-spec : {M : Type 1} → statement M
+apply-funding-spec = tie.close (tie.spec returns)

@@ -1,0 +1,18 @@
+-- `exit`: the records that the definition writes, with what `abs` and `return_pct` ensure put in.
+use Rattle.portfolio.specs.Portfolio.{notional, pnl, tradeOf, exited}
+use borrow.Author.Needs.{needs}
+use Rattle.portfolio.proofs.Portfolio.exit.Statement.{statement}
+use Rattle.portfolio.proofs.Portfolio.exit.Tie as tie
+
+abs-requires : tie.Need-abs-requires
+abs-requires c κs = search needs
+
+return-pct-requires : tie.Need-return-pct-requires
+return-pct-requires c κs = search needs
+
+returns : tie.Need-returns
+unfolding notional pnl tradeOf exited
+returns c = simp (c .before .before .before .return-pct .ensures, c .before .before .before .before .before .before .before .before .abs .ensures)
+
+pub exit-spec : {M : Type 1} → statement M
+exit-spec = tie.close (tie.spec abs-requires return-pct-requires returns)

@@ -1,0 +1,12 @@
+-- `new`: the record that the definition writes.
+use mathlib.Core.Path.{refl}
+use Rattle.portfolio.specs.Portfolio.{fresh}
+use Rattle.portfolio.proofs.Portfolio.new.Statement.{statement}
+use Rattle.portfolio.proofs.Portfolio.new.Tie as tie
+
+returns : tie.Need-returns
+unfolding fresh
+returns c = refl
+
+pub new-spec : {M : Type 1} → statement M
+new-spec = tie.close (tie.spec returns)

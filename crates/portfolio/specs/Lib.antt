@@ -1,0 +1,2 @@
+pub mod Trade
+pub mod Portfolio

@@ -1,0 +1,89 @@
+-- The one-position portfolio, each definition under the name of the Rust's function.
+use mathlib.Core.Bool.{Bool}
+use Prim.Native.Nat.{ℕ}
+use lib.Ieee.{Float}
+use Rattle.floats.specs.Floats.{_⊕_, _⊖_, _⊗_, _≺_, abs, eps, zero}
+use Rattle.portfolio.specs.declared.Portfolio.{Portfolio}
+use Rattle.portfolio.specs.declared.Trade.{Trade}
+use Rattle.portfolio.specs.declared.Closed.{Closed}
+use Rattle.portfolio.specs.Trade.{returnPct}
+
+-- `new`
+unfoldable pub fresh : Float → Portfolio
+fresh cash = record {
+  cash = cash;
+  qty = zero;
+  «entry_price» = zero;
+  «entry_time» = 0;
+  «entry_fee» = zero;
+  «fees_paid» = zero;
+}
+
+-- `in_position`: `qty.abs() > f64::EPSILON`. "Flat is where |qty| > EPS is false."
+unfoldable pub inPosition : Portfolio → Bool
+inPosition p = eps ≺ abs (p .qty)
+
+-- `is_long`: `qty > 0.0`
+unfoldable pub isLong : Portfolio → Bool
+isLong p = zero ≺ p .qty
+
+-- `equity`: `cash + qty * mark`
+unfoldable pub equity : Portfolio → Float → Float
+equity p mark = p .cash ⊕ p .qty ⊗ mark
+
+-- `apply_funding`: the payment leaves cash and is counted in the fees
+unfoldable pub funded : Portfolio → Float → Portfolio
+funded p payment = record {
+  cash = p .cash ⊖ payment;
+  qty = p .qty;
+  «entry_price» = p .«entry_price»;
+  «entry_time» = p .«entry_time»;
+  «entry_fee» = p .«entry_fee»;
+  «fees_paid» = p .«fees_paid» ⊕ payment;
+}
+
+-- `enter`
+unfoldable pub entered : Portfolio → Float → Float → ℕ → Float → Portfolio
+entered p qty price time fee = record {
+  cash = p .cash ⊖ (qty ⊗ price ⊕ fee);
+  qty = qty;
+  «entry_price» = price;
+  «entry_time» = time;
+  «entry_fee» = fee;
+  «fees_paid» = p .«fees_paid» ⊕ fee;
+}
+
+-- `exit`: `notional = qty.abs() * entry_price`
+unfoldable pub notional : Portfolio → Float
+notional p = abs (p .qty) ⊗ p .«entry_price»
+
+-- `exit`: `pnl = qty * (price - entry_price) - entry_fee - fee`
+unfoldable pub pnl : Portfolio → Float → Float → Float
+pnl p price fee = p .qty ⊗ (price ⊖ p .«entry_price») ⊖ p .«entry_fee» ⊖ fee
+
+-- `exit`: the trade that it records
+unfoldable pub tradeOf : Portfolio → Float → ℕ → Float → ℕ → Trade
+tradeOf p price time fee reason = record {
+  «entry_time» = p .«entry_time»;
+  «exit_time» = time;
+  «entry_price» = p .«entry_price»;
+  «exit_price» = price;
+  qty = p .qty;
+  pnl = pnl p price fee;
+  «return_pct» = returnPct (pnl p price fee) (notional p);
+  reason = reason;
+}
+
+-- `exit`: the portfolio after it, and the trade. The price and the time of the entry stay, as in the Rust.
+unfoldable pub exited : Portfolio → Float → ℕ → Float → ℕ → Closed
+exited p price time fee reason = record {
+  portfolio = record {
+    cash = p .cash ⊕ (p .qty ⊗ price ⊖ fee);
+    qty = zero;
+    «entry_price» = p .«entry_price»;
+    «entry_time» = p .«entry_time»;
+    «entry_fee» = zero;
+    «fees_paid» = p .«fees_paid» ⊕ fee;
+  };
+  trade = tradeOf p price time fee reason;
+}
