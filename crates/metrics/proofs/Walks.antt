@@ -1,0 +1,41 @@
+-- One turn of each loop over a list: what is to come from place i is the element there and what is to come after it. Assumes nothing.
+use mathlib.Core.Path.{_≡_, sym, ap, _∙_}
+use mathlib.Core.Bool.{true, false}
+use mathlib.Core.List.{List, [], _∷_}
+use Prim.Native.Nat.{ℕ, suc, _+_, _≤_, _<_}
+use native.Mathlib.Numerals.{add-one}
+use lib.ListN.{length, getD, drop, drop-of-length-le}
+use lib.Seq.{drop-cons}
+use lib.Ieee.{Float}
+use Rattle.floats.specs.Floats as Floats
+use Rattle.floats.specs.Floats.{_⊘_}
+use Rattle.metrics.specs.Sums.{counted}
+use Rattle.metrics.specs.declared.trades.Side.{Side}
+use Rattle.metrics.specs.Trades.{isOn, sizeOf, sizesOn}
+
+-- A loop that keeps f of what is to come: x stands at i.
+pub turn : {A : Type 0} (f : List Float → A) {w : A} (xs : List Float) (i : ℕ) {n : ℕ} {x : Float} → n ≡ length xs → i < n → x ≡ getD xs i Floats.zero
+    → f (drop i xs) ≡ w → f (x ∷ drop (i + 1) xs) ≡ w
+turn f xs i {n} {x} l h e p =
+    sym
+    (ap f (drop-cons xs i Floats.zero (rw l at h)) ∙ ap (λ (y : Float). f (y ∷ drop (suc i) xs)) (sym e)
+    ∙ ap (λ (k : ℕ). f (x ∷ drop k xs)) (sym (add-one i)))
+    ∙ p
+
+-- At the end nothing is to come.
+pub done : {A : Type 0} (f : List Float → A) {w : A} (xs : List Float) (i : ℕ) {n : ℕ} → n ≡ length xs → n ≤ i → f (drop i xs) ≡ w → f [] ≡ w
+done f xs i l h p = sym (ap f (drop-of-length-le xs (rw l at h))) ∙ p
+
+-- A sum over a count.
+pub over : {total w by : Float} {n k : ℕ} → total ≡ w → by ≡ counted n → n ≡ k → total ⊘ by ≡ w ⊘ counted k
+over p q l = cc
+
+-- ---- a trade that is on a side, and one that is not
+
+pub one-on : (side : Side) (pnl : Float) (later : List Float) → isOn side pnl ≡ true → sizesOn side (pnl ∷ later) ≡ sizeOf side pnl ∷ sizesOn side later
+unfolding sizesOn
+one-on side pnl later h = rw h
+
+pub not-on : (side : Side) (pnl : Float) (later : List Float) → isOn side pnl ≡ false → sizesOn side (pnl ∷ later) ≡ sizesOn side later
+unfolding sizesOn
+not-on side pnl later h = rw h

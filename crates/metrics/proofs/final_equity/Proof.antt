@@ -1,0 +1,54 @@
+-- The last point is the one before as many as there are.
+use mathlib.Core.Path.{_≡_, refl, sym, ap, _∙_}
+use mathlib.Core.List.{List, [], _∷_}
+use Prim.Native.Nat.{ℕ, zero, suc, _-_}
+use native.Mathlib.Omega.{arith}
+use lib.ListN.{length, getD}
+use lib.Ieee.{Float}
+use Rattle.floats.specs.Floats as Floats
+use Rattle.metrics.specs.Records.{equityOf}
+use Rattle.metrics.specs.Figures.{finalEquity}
+use borrow.Author.Needs.{needs}
+use Rattle.metrics.proofs.final_equity.Statement.{statement}
+use Rattle.metrics.proofs.final_equity.Tie as tie
+
+final-none : (d : Float) (es : List Float) → length es ≡ 0 → finalEquity d es ≡ d
+unfolding finalEquity
+final-none d [] h = refl
+final-none d (e ∷ es) h = absurd (some (length es) h)
+  where
+    some : (x : ℕ) → suc x ≡ 0 → ⊥
+    some x l = omega arith
+
+final-at : (d e : Float) (es : List Float) → finalEquity d (e ∷ es) ≡ getD (e ∷ es) (length es) Floats.zero
+unfolding finalEquity
+final-at d e [] = refl
+final-at d e (x ∷ es) = final-at e x es
+
+final-last : (d : Float) (es : List Float) (n : ℕ) → n ≡ length es → (n ≡ 0 → ⊥) → finalEquity d es ≡ getD es (n - 1) Floats.zero
+final-last d [] n l h = absurd (h l)
+final-last d (e ∷ es) n l h = final-at d e es ∙ ap (λ (k : ℕ). getD (e ∷ es) k Floats.zero) (less n (length es) l)
+  where
+    less : (x y : ℕ) → x ≡ suc y → y ≡ x - 1
+    less x y g = omega arith
+
+point-count-requires : tie.Need-point-count-requires
+point-count-requires c κs = search needs
+
+returns : tie.Need-returns
+returns c = let es = equityOf (c .before .before .before .args .equity .now) in sym (final-none _ es (sym (c .before .point-count .ensures) ∙ c .if1 .taken))
+
+sub-equity-at : tie.Need-sub-equity-at
+sub-equity-at c = search needs
+
+equity-at-requires : tie.Need-equity-at-requires
+equity-at-requires c κs = search needs
+
+returns-2 : tie.Need-returns-2
+returns-2 c =
+    c .equity-at .ensures
+    ∙ sym (final-last _ (equityOf (c .before .before .before .before .args .equity .now)) _ (c .before .before .point-count .ensures) (c .before .if1 .left))
+
+pub final-equity-spec : {M : Type 1} → statement M
+final-equity-spec =
+    tie.close (tie.spec point-count-requires returns sub-equity-at equity-at-requires returns-2)

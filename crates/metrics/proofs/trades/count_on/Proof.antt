@@ -1,0 +1,83 @@
+-- Those so far and those to come are all; there are no more than trades passed.
+use borrow.Author.Needs.{needs}
+use mathlib.Core.Path.{_≡_, sym, _∙_}
+use mathlib.Core.Logic.{⊎-elim}
+use mathlib.Core.List.{List}
+use native.Mathlib.Omega.{arith}
+use Prim.Native.Nat.{_+_, _-_, _≤_}
+use native.Mathlib.Nat.{zero-add, add-zero}
+use lib.ListN.{length, drop}
+use lib.Ieee.{Float}
+use Rattle.metrics.specs.Records.{pnlsOf}
+use Rattle.metrics.specs.Trades.{sizesOn}
+use Rattle.metrics.proofs.Walks.{turn, done, one-on, not-on}
+use Rattle.metrics.proofs.trades.count_on.Statement.{statement}
+use Rattle.metrics.proofs.trades.count_on.Tie as tie
+
+abbrev Inv-loop : tie.InvT-loop
+Inv-loop trades side n count₀ i₀ count i = (count ≤ i) × (count + length (sizesOn side (drop i (pnlsOf trades))) ≡ length (sizesOn side (pnlsOf trades)))
+
+abbrev μ-loop : tie.MeasureT-loop
+μ-loop trades side n count₀ i₀ count i = n - i
+
+trade-count-requires : tie.Need-trade-count-requires Inv-loop μ-loop
+trade-count-requires c κs = search needs
+
+loop-holds : tie.Need-loop-holds Inv-loop μ-loop
+loop-holds c = (omega arith, zero-add _)
+
+pnl-at-requires : tie.Need-pnl-at-requires Inv-loop μ-loop
+pnl-at-requires c κs = search needs
+
+is-on-requires : tie.Need-is-on-requires Inv-loop μ-loop
+is-on-requires c κs = search needs
+
+add-count : tie.Need-add-count Inv-loop μ-loop
+add-count c = omega arith
+
+add-i : tie.Need-add-i Inv-loop μ-loop
+add-i c = omega arith
+
+loop-less : tie.Need-loop-less Inv-loop μ-loop
+loop-less c = omega arith
+
+loop-again : tie.Need-loop-again Inv-loop μ-loop
+loop-again c =
+    let args = c .before .before .before .before .before .before .before .args in
+    let loop = c .before .before .before .before .loop in
+    let ps = pnlsOf (args .trades .now) in
+    let later = drop (loop .i + 1) ps in
+    let pnl = c .before .before .pnl-at .result in
+    let p =
+    turn (λ (rest : List Float). loop .count + length (sizesOn (args .side) rest)) ps (loop .i)
+    (c .before .before .before .before .before .trade-count .ensures) (c .before .before .before .loop-test .taken) (c .before .before .pnl-at .ensures) (loop .inv .1) in
+    let is-on = c .before .is-on .ensures in
+    ⊎-elim
+    (λ w. let q = rw (one-on (args .side) pnl later (sym is-on ∙ w .0 .taken)) at p in omega (arith, w .1))
+    (λ w. let q = rw (not-on (args .side) pnl later (sym is-on ∙ w .0 .left)) at p in omega (arith, w .1))
+    (c .if1 .came)
+
+returns : tie.Need-returns Inv-loop μ-loop
+unfolding sizesOn
+returns c =
+    let args = c .before .before .before .before .args in
+    let loop = c .before .loop in
+    sym (add-zero (loop .count))
+    ∙ done (λ (rest : List Float). loop .count + length (sizesOn (args .side) rest)) (pnlsOf (args .trades .now)) (loop .i)
+    (c .before .before .trade-count .ensures) (c .loop-test .left) (loop .inv .1)
+
+pub count-on-spec : {M : Type 1} → statement M
+count-on-spec =
+    tie.close
+    (tie.spec
+    Inv-loop
+    μ-loop
+    trade-count-requires
+    loop-holds
+    pnl-at-requires
+    is-on-requires
+    add-count
+    add-i
+    loop-less
+    loop-again
+    returns)

@@ -1,0 +1,84 @@
+-- What is summed and what is to come make the whole sum.
+use borrow.Author.Needs.{needs}
+use mathlib.Core.Path.{_≡_, refl, sym, _∙_}
+use mathlib.Core.Logic.{⊎-elim}
+use mathlib.Core.List.{List}
+use native.Mathlib.Omega.{arith}
+use Prim.Native.Nat.{_+_, _-_}
+use lib.ListN.{drop}
+use lib.Ieee.{Float}
+use Rattle.metrics.specs.Records.{pnlsOf}
+use Rattle.metrics.specs.Sums.{sumFrom}
+use Rattle.metrics.specs.Trades.{sizesOn, gross}
+use Rattle.metrics.proofs.Walks.{turn, done, one-on, not-on}
+use Rattle.metrics.proofs.trades.gross.Statement.{statement}
+use Rattle.metrics.proofs.trades.gross.Tie as tie
+
+abbrev Inv-loop : tie.InvT-loop
+Inv-loop trades side n total₀ i₀ total i = sumFrom total (sizesOn side (drop i (pnlsOf trades))) ≡ gross side (pnlsOf trades)
+
+abbrev μ-loop : tie.MeasureT-loop
+μ-loop trades side n total₀ i₀ total i = n - i
+
+trade-count-requires : tie.Need-trade-count-requires Inv-loop μ-loop
+trade-count-requires c κs = search needs
+
+loop-holds : tie.Need-loop-holds Inv-loop μ-loop
+unfolding gross
+loop-holds c = refl
+
+pnl-at-requires : tie.Need-pnl-at-requires Inv-loop μ-loop
+pnl-at-requires c κs = search needs
+
+is-on-requires : tie.Need-is-on-requires Inv-loop μ-loop
+is-on-requires c κs = search needs
+
+size-of-requires : tie.Need-size-of-requires Inv-loop μ-loop
+size-of-requires c κs = search needs
+
+add-i : tie.Need-add-i Inv-loop μ-loop
+add-i c = omega arith
+
+loop-less : tie.Need-loop-less Inv-loop μ-loop
+loop-less c = omega arith
+
+loop-again : tie.Need-loop-again Inv-loop μ-loop
+unfolding sumFrom
+loop-again c =
+    let args = c .before .before .before .before .before .before .before .args in
+    let loop = c .before .before .before .before .loop in
+    let ps = pnlsOf (args .trades .now) in
+    let later = drop (loop .i + 1) ps in
+    let pnl = c .before .before .pnl-at .result in
+    let p =
+    turn (λ (rest : List Float). sumFrom (loop .total) (sizesOn (args .side) rest)) ps (loop .i)
+    (c .before .before .before .before .before .trade-count .ensures) (c .before .before .before .loop-test .taken) (c .before .before .pnl-at .ensures) (loop .inv) in
+    let is-on = c .before .is-on .ensures in
+    ⊎-elim
+    (λ w. rw (w .2, w .1 .ensures) (rw (one-on (args .side) pnl later (sym is-on ∙ w .0 .taken)) at p))
+    (λ w. rw (w .1) (rw (not-on (args .side) pnl later (sym is-on ∙ w .0 .left)) at p))
+    (c .if1 .came)
+
+returns : tie.Need-returns Inv-loop μ-loop
+unfolding sumFrom sizesOn
+returns c =
+    let args = c .before .before .before .before .args in
+    let loop = c .before .loop in
+    done (λ (rest : List Float). sumFrom (loop .total) (sizesOn (args .side) rest)) (pnlsOf (args .trades .now)) (loop .i)
+    (c .before .before .trade-count .ensures) (c .loop-test .left) (loop .inv)
+
+pub gross-spec : {M : Type 1} → statement M
+gross-spec =
+    tie.close
+    (tie.spec
+    Inv-loop
+    μ-loop
+    trade-count-requires
+    loop-holds
+    pnl-at-requires
+    is-on-requires
+    size-of-requires
+    add-i
+    loop-less
+    loop-again
+    returns)

@@ -1,0 +1,9 @@
+pub mod Records
+pub mod Sums
+pub mod Returns
+pub mod Drawdown
+pub mod Trades
+pub mod Figures
+pub mod Columns
+pub mod Only
+pub mod Examples

@@ -1,0 +1,38 @@
+-- Win rate and profit factor of metrics.rs, over the trades' pnl. Definitions only.
+use mathlib.Core.List.{List, [], _∷_}
+use mathlib.Core.Bool.{Bool, cond}
+use lib.Dec.{eqb}
+use lib.ListN.{length}
+use lib.Ieee as Ieee
+use lib.Ieee.{Float}
+use Rattle.floats.specs.Floats.{_⊗_, _⊘_, _≺_, zero, hundred}
+use Rattle.metrics.specs.declared.trades.Side.{Side}
+use Rattle.metrics.specs.declared.trades.Side.the-variants.{Wins, Losses}
+use Rattle.metrics.specs.Sums.{sum, counted, gainOver}
+
+-- `filter(|t| t.pnl > 0.0)`, and `filter(|t| t.pnl < 0.0)`
+abbrev pub isOn : Side → Float → Bool
+isOn Wins pnl = zero ≺ pnl
+isOn Losses pnl = pnl ≺ zero
+
+-- `map(|t| t.pnl)`, and `map(|t| -t.pnl)`
+abbrev pub sizeOf : Side → Float → Float
+sizeOf Wins pnl = pnl
+sizeOf Losses pnl = Ieee.neg pnl
+
+-- the trades of a side, each with its size
+unfoldable pub sizesOn : Side → List Float → List Float
+sizesOn side [] = []
+sizesOn side (pnl ∷ later) = cond (isOn side pnl) (sizeOf side pnl ∷ sizesOn side later) (sizesOn side later)
+
+-- `win_rate`
+unfoldable pub winRate : List Float → Float
+winRate pnls = cond (eqb (length pnls) 0) zero (counted (length (sizesOn Wins pnls)) ⊘ counted (length pnls) ⊗ hundred)
+
+-- `gross_profit` and `gross_loss`
+unfoldable pub gross : Side → List Float → Float
+gross side pnls = sum (sizesOn side pnls)
+
+-- `profit_factor`
+unfoldable pub profitFactor : List Float → Float
+profitFactor pnls = gainOver (gross Wins pnls) (gross Losses pnls)
