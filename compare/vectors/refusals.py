@@ -1,0 +1,287 @@
+#!/usr/bin/env python3
+"""Refusals 10 to 15 on both sides of each edge, as the vector for the program `refusals`.
+
+    compare/vectors/refusals.py crates/refusals      writes stdout there, a line a case
+
+A case is a good call with something changed, named here and, by the same name and in the same order, in crates/refusals/src.
+What the call is answered with is worked out here from document 01, "Refusal numbers": every line of that table that is
+broken is collected, over the whole call, and then the first of the paper's order and of it the lowest place is taken.
+"""
+import math
+import os
+import sys
+
+INF, NAN = math.inf, math.nan
+MOST = 4_294_967_295
+ORDER = [10, 12, 13, 14, 11, 15]
+
+# Settings by name, with their numbers. Sizing and slippage are (kind, value ..); a level that is None is absent.
+VALUES = {"capital": 2, "taker": 8, "participation": 19}
+LEVELS = {"stop": 12, "trailing": 13, "profit": 14, "leverage": 15, "position": 16}
+
+GOOD = {
+    "K": 2, "D": 3, "capital": 1000.0, "taker": 0.0, "participation": 0.0,
+    "sizing": ("fraction", 0.5), "slippage": ("fixed", 0.0),
+    "stop": None, "trailing": None, "profit": None, "leverage": None, "position": None,
+    "bars": 3, "held": 3, "points": 3, "trades": 1, "entered": 2, "qty": 1.0,
+    "rows_room": 27, "equity_room": 8, "trades_room": 16,
+    "bar_words": None, "prices": [1.0] * 4, "volume": 1.0, "mask": 0b01, "slots": [1.0, 0.0], "funding": None,
+    "lists": [b"", b"", b"", b""],
+}
+
+
+def settings_broken(c):
+    """12, by the numbers of the settings."""
+    sizing, slippage = c["sizing"], c["slippage"]
+    if c["K"] > 64:
+        yield 0
+    lookback = sizing[2] if sizing[0] == "target" else None
+    if not 1 <= c["D"] <= 4096 or (lookback is not None and c["D"] <= lookback):
+        yield 1
+    for name, number in VALUES.items():
+        if not math.isfinite(c[name]):
+            yield number
+    if sizing[0] not in ("fraction", "quantity", "cash", "target", "risk"):
+        yield 5
+    elif not math.isfinite(sizing[1]):
+        yield 6
+    if lookback is not None and lookback > 4095:
+        yield 7
+    if slippage[0] not in ("fixed", "impact"):
+        yield 9
+    elif not math.isfinite(slippage[1]):
+        yield 10
+    for name, number in LEVELS.items():
+        if c[name] is not None and not math.isfinite(c[name]):
+            yield number
+    if sizing[0] == "risk" and c["stop"] is None:
+        yield 12
+
+
+def places(c):
+    return {"held": c["rows_room"] // (7 + c["K"]), "points": c["equity_room"] // 2, "trades": c["trades_room"] // 8}
+
+
+def state_broken(c):
+    """13, but for the bar."""
+    return (c["bars"] > MOST
+            or any(c[name] > min(most, MOST) for name, most in places(c).items())
+            or (c["entered"] is not None and c["entered"] >= c["bars"]))
+
+
+def bar_broken(c):
+    """11."""
+    numbers = c["prices"] + [c["volume"]] + list(c["funding"] or [])
+    numbers += [x for k, x in enumerate(c["slots"]) if c["mask"] >> k & 1]
+    return not all(map(math.isfinite, numbers)) or c["mask"] >> c["K"] != 0
+
+
+# The steps' kinds (docs/INTERFACE.md, "Steps") and the fields that each uses.
+USES = {1: "nc", 2: "sn", 3: "sn", 24: "", 27: "", 28: "", 29: "", 30: "s", 31: "sn", 32: "k", 33: "k"}
+USES.update({kind: "" for kind in (*range(5, 9), *range(16, 24))})
+
+
+def step_good(c, step, after):
+    kind, selector = step[0], step[1]
+    skip, n = int.from_bytes(step[2:4], "little"), int.from_bytes(step[4:8], "little")
+    if kind not in USES:
+        return False
+    unused = {"s": selector, "k": skip, "n": n, "c": int.from_bytes(step[8:], "little")}
+    if any(value for field, value in unused.items() if field not in USES[kind]):
+        return False
+    if kind == 2 and selector >= c["K"]:
+        return False
+    if kind in (1, 2, 3) and n >= c["D"]:
+        return False
+    return not (kind in (32, 33) and skip > after)
+
+
+def lists_broken(c):
+    """15."""
+    for i, steps in enumerate(c["lists"]):
+        count = len(steps) // 16
+        if len(steps) % 16 or count > 1024:
+            yield 1024 * i
+            continue
+        for p in range(count):
+            if not step_good(c, steps[16 * p:16 * p + 16], count - p - 1):
+                yield 1024 * i + p
+
+
+def step_refusals(c):
+    yield from common_refusals(c)
+    if c["bar_words"] not in (None, 10 + c["K"]):
+        yield 13, 0
+    have = places(c)
+    if c["points"] >= have["points"] or c["trades"] >= have["trades"] or c["bars"] >= MOST:
+        yield 14, 0
+    if bar_broken(c):
+        yield 11, c["bars"]
+    yield from ((15, place) for place in lists_broken(c))
+
+
+def finish_refusals(c):
+    yield from common_refusals(c)
+    if abs(c["qty"]) > 2.0**-52 and c["bars"] > 0 and c["trades"] >= places(c)["trades"]:
+        yield 14, 0
+
+
+def common_refusals(c):
+    if c["rows_room"] < c["D"] * (7 + c["K"]):
+        yield 10, 0
+    yield from ((12, place) for place in settings_broken(c))
+    if state_broken(c):
+        yield 13, 0
+
+
+def answer(refusals):
+    found = sorted(refusals, key=lambda r: (ORDER.index(r[0]), r[1]))
+    return "refused %d at %d" % found[0] if found else "done"
+
+
+def price(at, x):
+    return {"prices": [x if i == at else 1.0 for i in range(4)]}
+
+
+def step(kind, selector=0, skip=0, n=0):
+    return bytes([kind, selector]) + skip.to_bytes(2, "little") + n.to_bytes(4, "little") + bytes(8)
+
+
+def entry(*args, **fields):
+    return {"lists": [step(*args, **fields), b"", b"", b""]}
+
+
+def in_list(i, steps):
+    return {"lists": [steps if i == j else b"" for j in range(4)]}
+
+
+DEEP = {"K": 0, "rows_room": 28679, "mask": 0, "slots": []}
+SHORT, BAD_SECOND, GOOD_TWO = bytes([27] * 15), step(27) + step(34), step(27) + step(28)
+TREES = ["entry", "exit", "short entry", "short exit"]
+GIVEN = {name: 1.0 for name in LEVELS}
+FULL = {"trades": 2, "entered": None}
+# One fault for each number, in the paper's order.
+FAULTS = [(10, {"rows_room": 26}), (12, {"capital": NAN}), (13, {"trades": 3}), (14, {"points": 4}),
+          (11, price(0, INF)), (15, entry(0))]
+
+STEPS = [
+    ("step", {}),
+    # 10
+    ("room of rows just large enough", {}),
+    ("room of rows one word short", {"rows_room": 26}),
+    ("room of no rows", {"rows_room": 0}),
+    # 12: K, D, lookback
+    ("K 64", {"K": 64, "rows_room": 213, "bar_words": 74, "mask": 0}),
+    ("K 65", {"K": 65, "rows_room": 216, "bar_words": 75, "mask": 0}),
+    ("D 0", {"D": 0}),
+    ("D 1", {"D": 1}),
+    ("D 4096", DEEP | {"D": 4096}),
+    ("D 4097", DEEP | {"D": 4097}),
+    ("lookback 2, D 3", {"sizing": ("target", 0.5, 2)}),
+    ("lookback 3, D 3", {"sizing": ("target", 0.5, 3)}),
+    ("lookback 4095, D 4096", DEEP | {"D": 4096, "sizing": ("target", 0.5, 4095)}),
+    ("lookback 4096, D 4096", DEEP | {"D": 4096, "sizing": ("target", 0.5, 4096)}),
+    ("lookback 4096, D 4097", DEEP | {"D": 4097, "sizing": ("target", 0.5, 4096)}),
+    # 13 and 14
+    *[("rows held %d" % n, {"held": n}) for n in (0, 3, 4)],
+    *[("equity points %d" % n, {"points": n}) for n in (3, 4, 5)],
+    *[("trades %d" % n, {"trades": n}) for n in (1, 2, 3)],
+    *[("bars seen %d" % n, {"bars": n}) for n in (MOST - 1, MOST, MOST + 1)],
+    ("entry bar 2 of 3", {"entered": 2}),
+    ("entry bar 3 of 3", {"entered": 3}),
+    ("no entry bar", {"entered": None}),
+    ("bar one word short", {"bar_words": 11}),
+    ("bar one word long", {"bar_words": 13}),
+    # 12: values and kinds
+    ("capital 0", {"capital": 0.0}),
+    ("capital infinite", {"capital": INF}),
+    ("capital no number", {"capital": NAN}),
+    ("sizing by quantity", {"sizing": ("quantity", 1.0)}),
+    ("sizing by cash", {"sizing": ("cash", 1.0)}),
+    ("sizing of an unknown kind", {"sizing": ("unknown",)}),
+    ("fraction no number", {"sizing": ("fraction", NAN)}),
+    ("quantity infinite", {"sizing": ("quantity", INF)}),
+    ("cash infinite", {"sizing": ("cash", INF)}),
+    ("target no number", {"sizing": ("target", NAN, 2)}),
+    ("taker fee below 0", {"taker": -1.0}),
+    ("taker fee no number", {"taker": NAN}),
+    ("slippage by volume", {"slippage": ("impact", 1.0)}),
+    ("slippage of an unknown kind", {"slippage": ("unknown",)}),
+    ("basis points infinite", {"slippage": ("fixed", INF)}),
+    ("impact no number", {"slippage": ("impact", NAN)}),
+    ("participation 1", {"participation": 1.0}),
+    ("participation infinite", {"participation": INF}),
+    # 12: levels
+    ("levels given", GIVEN),
+    ("stop loss infinite", GIVEN | {"stop": INF}),
+    ("trailing stop infinite", GIVEN | {"trailing": INF}),
+    ("take profit infinite", GIVEN | {"profit": INF}),
+    ("max leverage infinite", GIVEN | {"leverage": INF}),
+    ("max position infinite", GIVEN | {"position": INF}),
+    ("all levels infinite", {name: INF for name in LEVELS}),
+    ("risk sizing with a stop loss", {"sizing": ("risk", 1.0), "stop": 1.0}),
+    ("risk sizing without a stop loss", {"sizing": ("risk", 1.0)}),
+    ("risk no number, no stop loss", {"sizing": ("risk", NAN)}),
+    # 11
+    ("time any word", {}),
+    ("open no number", price(0, NAN)),
+    ("high infinite", price(1, INF)),
+    ("low no number", price(2, NAN)),
+    ("close infinite", price(3, INF)),
+    ("close the largest number", price(3, sys.float_info.max)),
+    ("volume infinite", {"volume": INF}),
+    ("present slot infinite", {"slots": [INF, 0.0]}),
+    ("absent slot infinite", {"slots": [1.0, INF]}),
+    ("slot bit below K", {"mask": 0b10}),
+    ("slot bit at K", {"mask": 0b100}),
+    ("highest slot bit", {"mask": 1 << 63}),
+    ("funding supplied", {"funding": (0.0, 0.0)}),
+    ("mark infinite", {"funding": (INF, 0.0)}),
+    ("rate no number", {"funding": (0.0, NAN)}),
+    ("mark and rate of no funding", {"funding": None}),
+    ("volume no number on the last bar", {"volume": NAN, "bars": MOST - 1}),
+    # 15
+    *[("kind %d" % kind, entry(kind)) for kind in (0, 4, 27, 33, 34)],
+    ("slot 1", entry(2, 1)),
+    ("slot 2", entry(2, 2)),
+    ("look-back 2", entry(2, 1, n=2)),
+    ("look-back 3", entry(2, 1, n=3)),
+    ("jump just past the list", entry(32)),
+    ("jump too far", entry(32, skip=1)),
+    ("unused field", entry(27, 1)),
+    *[(tree + " of 15 bytes", in_list(i, SHORT)) for i, tree in enumerate(TREES)],
+    *[("second step of " + tree, in_list(i, BAD_SECOND)) for i, tree in enumerate(TREES)],
+    ("second step of all four", {"lists": [BAD_SECOND] * 4}),
+    ("four good lists", {"lists": [GOOD_TWO] * 4}),
+    # several at once
+    *[(" ".join(str(n) for n, _ in FAULTS[i:]), {k: v for _, fault in reversed(FAULTS[i:]) for k, v in fault.items()})
+      for i in range(len(FAULTS))],
+]
+
+FINISHES = [
+    ("room of rows one word short", {"rows_room": 26}),
+    ("D 0", {"D": 0}),
+    ("D 3", {"D": 3}),
+    ("capital infinite", {"capital": INF}),
+    ("trades 1", {"trades": 1}),
+    ("trades 3", {"trades": 3}),
+    ("equity points 4", {"points": 4}),
+    ("equity points 5", {"points": 5}),
+    ("bars seen %d" % MOST, {"bars": MOST}),
+    ("bars seen %d" % (MOST + 1), {"bars": MOST + 1}),
+    ("entry bar 3 of 3", {"entered": 3}),
+    ("trades full, one open", FULL),
+    ("trades full, one open, no bar seen", FULL | {"bars": 0}),
+    ("trades full, none open", FULL | {"qty": 0.0}),
+]
+
+
+def main():
+    lines = [name + " " + answer(step_refusals(GOOD | change)) for name, change in STEPS]
+    lines += ["finish: " + name + " " + answer(finish_refusals(GOOD | change)) for name, change in FINISHES]
+    with open(os.path.join(sys.argv[1], "stdout"), "w") as out:
+        out.write("".join(line + "\n" for line in lines))
+
+
+if __name__ == "__main__":
+    main()

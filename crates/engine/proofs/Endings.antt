@@ -1,0 +1,39 @@
+-- The parts of a run's end, each by its own definition, make the whole.
+use Prim.Native.Nat.{ℕ}
+use mathlib.Core.Path.{_≡_, refl, ap, _∙_}
+use mathlib.Core.List.{List}
+use Rattle.execution.specs.declared.Exit.{Exit}
+use Rattle.metrics.specs.declared.Metrics.{Metrics}
+use Rattle.judge.specs.declared.Settings.{Settings}
+use Rattle.judge.specs.declared.State.{State}
+use Rattle.judge.specs.declared.Verdict.the-variants.{Fine, Bad}
+use Rattle.judge.specs.Judgement.{finishJudged}
+use Rattle.judge.specs.Rooms.{Rooms}
+use Rattle.engine.specs.declared.ending.Ended.{Ended}
+use Rattle.engine.specs.declared.Finished.{Finished}
+use Rattle.engine.specs.declared.Finished.the-variants.{Refused, Done}
+use Rattle.engine.specs.Account.{booked}
+use Rattle.engine.specs.Finish.{lastExit, endState, measured, ended, concluded, finishOf}
+use Rattle.engine.specs.Step.{Is}
+
+module _ (s : Settings) (t : State) (m : Rooms) where
+  pub endings : (x : Exit) (st : State) (f : Metrics) (count : ℕ) (ts : List ℕ)
+      → x ≡ lastExit s t
+      → (count ≡ booked (m .trades) (t .counts .trades) x .count) × (ts ≡ booked (m .trades) (t .counts .trades) x .room)
+      → st ≡ endState t x count
+      → f ≡ measured s (m .equity) (t .counts .«equity_points») ts count
+      → Is Ended (ended s t m) (record { state = st; metrics = f }) (m .rows) (m .equity) ts
+  unfolding ended
+  endings x st f count ts ex eb es ef =
+      rw (ef, es, eb .0, eb .1, ex) (record { result = refl; rows = refl; equity = refl; trades = refl })
+
+  pub refused : (number place : ℕ) → finishJudged s t m ≡ Bad number place
+      → Is Finished (finishOf s t m) (Refused number place t) (m .rows) (m .equity) (m .trades)
+  unfolding finishOf concluded
+  refused number place h = rw h (record { result = refl; rows = refl; equity = refl; trades = refl })
+
+  pub went : finishJudged s t m ≡ Fine → (r : Ended) (ws es ts : List ℕ) → Is Ended (ended s t m) r ws es ts
+      → Is Finished (finishOf s t m) (Done (r .state) (r .metrics)) ws es ts
+  unfolding finishOf concluded
+  went h r ws es ts d =
+      rw h (record { result = ap (λ (e : Ended). Done (e .state) (e .metrics)) (d .result); rows = d .rows; equity = d .equity; trades = d .trades })

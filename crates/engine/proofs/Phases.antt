@@ -1,0 +1,62 @@
+-- The phases of a step, each by its own definition, make the whole.
+use Prim.Native.Nat.{ℕ, _+_}
+use mathlib.Core.Path.{_≡_, refl, ap}
+use mathlib.Core.List.{List}
+use Rattle.rows.specs.History.{historyOf}
+use Rattle.rows.specs.Room.{withRow, heldWith}
+use Rattle.portfolio.specs.declared.Candle.{Candle}
+use Rattle.judge.specs.declared.Order.{Order}
+use Rattle.judge.specs.declared.Position.{Position}
+use Rattle.judge.specs.declared.Settings.{Settings}
+use Rattle.judge.specs.declared.State.{State}
+use Rattle.judge.specs.declared.Verdict.the-variants.{Fine, Bad}
+use Rattle.judge.specs.Bar.{candleOf}
+use Rattle.judge.specs.Fine.{step-fine}
+use Rattle.judge.specs.Judgement.{stepJudged}
+use Rattle.judge.specs.Lists.{Lists}
+use Rattle.judge.specs.Rooms.{Rooms}
+use Rattle.engine.specs.declared.account.Filled.{Filled}
+use Rattle.engine.specs.declared.account.Left.{Left}
+use Rattle.engine.specs.declared.Answer.{Answer}
+use Rattle.engine.specs.declared.Answer.the-variants.{Refused, Done}
+use Rattle.engine.specs.Account.{filled, left, charged, booked, marked}
+use Rattle.engine.specs.Decide.{decided}
+use Rattle.engine.specs.Record.{rowOf, heldRows}
+use Rattle.engine.specs.Step.{Is, Ready, stepped, answered, stepOf}
+
+module _ (s : Settings) (t : State) (bar : List ℕ) (m : Rooms) (ls : Lists) where
+  pub phases : (k : Candle) (f : Filled) (x : Left) (p : Position) (o : Order) (sold held stopped points : ℕ) (ts us ws es : List ℕ)
+      → k ≡ candleOf bar
+      → f ≡ filled s (t .order) (t .position) k (historyOf (s .slots) (heldRows (s .slots) (t .counts .«rows_held») (m .rows))) (t .counts .«bars_seen»)
+      → (sold ≡ booked (m .trades) (t .counts .trades) (f .«exit») .count) × (ts ≡ booked (m .trades) (t .counts .trades) (f .«exit») .room)
+      → (held ≡ heldWith (m .rows) (t .counts .«rows_held») (rowOf (s .slots) bar)) × (ws ≡ withRow (m .rows) (t .counts .«rows_held») (rowOf (s .slots) bar))
+      → x ≡ left s (f .position) k
+      → (stopped ≡ booked ts sold (x .«exit») .count) × (us ≡ booked ts sold (x .«exit») .room)
+      → p ≡ charged s (x .position) bar
+      → (points ≡ marked (m .equity) (t .counts .«equity_points») k p .count) × (es ≡ marked (m .equity) (t .counts .«equity_points») k p .room)
+      → o ≡ decided s (f .order) p (t .counts .«bars_seen») (heldRows (s .slots) held ws) ls
+      → Is State (stepped s t bar m ls)
+      (record {
+        counts = record { «bars_seen» = t .counts .«bars_seen» + 1; «rows_held» = held; «equity_points» = points; trades = stopped };
+        order = o;
+        position = p;
+        last = record { time = k .time; close = k .close };
+      })
+      ws es us
+  unfolding stepped
+  phases k f x p o sold held stopped points ts us ws es ek ef es₁ er ex es₂ ep em eo =
+      rw (eo, em .0, em .1, ep, es₂ .0, es₂ .1, ex, er .0, er .1, es₁ .0, es₁ .1, ef, ek)
+      (record { result = refl; rows = refl; equity = refl; trades = refl })
+
+  pub ready : stepJudged s t bar m ls ≡ Fine → Ready s t
+  ready h = let f = step-fine s t bar m ls h in record { slots = f .slots; bars = f .bars }
+
+  pub refused : (number place : ℕ) → stepJudged s t bar m ls ≡ Bad number place
+      → Is Answer (stepOf s t bar m ls) (Refused number place t) (m .rows) (m .equity) (m .trades)
+  unfolding stepOf answered
+  refused number place h = rw h (record { result = refl; rows = refl; equity = refl; trades = refl })
+
+  pub went : stepJudged s t bar m ls ≡ Fine → (r : State) (ws es us : List ℕ) → Is State (stepped s t bar m ls) r ws es us
+      → Is Answer (stepOf s t bar m ls) (Done r) ws es us
+  unfolding stepOf answered
+  went h r ws es us d = rw h (record { result = ap Done (d .result); rows = d .rows; equity = d .equity; trades = d .trades })

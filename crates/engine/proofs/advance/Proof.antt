@@ -1,0 +1,67 @@
+-- Each phase is its own definition; `phases` puts them together. Assumes nothing.
+use mathlib.Core.Path.{_∙_}
+use native.Mathlib.Omega.{arith}
+use borrow.Author.Needs.{needs}
+use Rattle.engine.proofs.Phases.{phases}
+use Rattle.engine.proofs.advance.Statement.{statement}
+use Rattle.engine.proofs.advance.Tie as tie
+
+fill-working-order-requires : tie.Need-fill-working-order-requires
+fill-working-order-requires c κs = c .before .before .before .before .before .before .before .before .before .before .before .before .pre .slots
+
+record-bar-requires : tie.Need-record-bar-requires
+record-bar-requires c κs = c .before .before .before .before .before .before .before .before .before .before .before .before .before .before .before .before .before .before .before .pre .slots
+
+decide-next-action-requires : tie.Need-decide-next-action-requires
+decide-next-action-requires c κs =
+    let pre = c .before .before .before .before .before .before .before .before .before .before .before .before .before .before .before .before .before .before .before .before .before .before .before .before .before .before .before .before .before .before .before .before .before .before .pre in
+    (pre .slots, pre .bars)
+
+add-seen : tie.Need-add-seen
+add-seen c = omega (arith, c .before .before .before .before .before .before .before .before .before .before .before .before .before .before .before .before .before .before .before .before .before .before .before .before .before .before .before .before .before .before .before .before .before .before .before .pre .bars)
+
+same-length-3 : tie.Need-same-length-3
+same-length-3 c = let stop = c .before .before .before .before .before .before .before .before .before in stop .book2 .kept .0 ∙ stop .before .before .before .before .before .before .before .before .before .before .book .kept .0
+
+returns : tie.Need-returns
+returns c =
+    let mark = c .before .before .before .before in
+    let fund = mark .before .before in
+    let stop = fund .before .before .before in
+    let left = stop .before .before .before in
+    let row = left .before .before .before in
+    let sell = left .before .before .before .before .before .before .before in
+    let fill = sell .before .before .before in
+    let candle = fill .before .before in
+    let a = candle .before .before .before .before .before .before .before .before .before .before .before .args in
+    phases (a .s) (a .t) (a .bar .now) (record { rows = a .rows .now; equity = a .equity .now; trades = a .trades .now })
+    (record { entry = a .entry .now; «exit» = a .exit .now; «short_entry» = a .«short-entry» .now; «short_exit» = a .«short-exit» .now })
+    _ _ _ _ _ _ _ _ _ _ _ _ _
+    (candle .candle-of .ensures)
+    (fill .fill-working-order .ensures)
+    (sell .book .ensures)
+    (row .record-bar .ensures)
+    (left .apply-intrabar-exits .ensures)
+    (stop .book2 .ensures)
+    (fund .charge-funding .ensures)
+    (mark .mark-equity .ensures)
+    (c .decide-next-action .ensures)
+
+pub advance-spec : {M : Type 1} → statement M
+advance-spec =
+    tie.close
+    (tie.spec
+    (λ c κs. search needs)
+    fill-working-order-requires
+    (λ c κs. search needs)
+    record-bar-requires
+    (λ c κs. search needs)
+    (λ c κs. search needs)
+    (λ c κs. search needs)
+    (λ c κs. search needs)
+    decide-next-action-requires
+    add-seen
+    (λ c. search needs)
+    (λ c. search needs)
+    same-length-3
+    returns)

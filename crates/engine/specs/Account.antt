@@ -1,0 +1,111 @@
+-- "One bar", what it does to the account: the fill, the exits inside the bar, funding, the trades and the equity.
+use Prim.Native.Nat.{ℕ, _+_, _-_, _*_, _/_}
+use mathlib.Core.Bool.{cond}
+use mathlib.Core.List.{List, [], _∷_}
+use lib.ListN.{length}
+use lib.Dec.{ltb}
+use Rattle.floats.specs.Floats.{wordOf}
+use Rattle.rows.specs.History.{History}
+use Rattle.rows.specs.Room.{over}
+use Rattle.rules.specs.declared.Entered.the-variants.{Never, Bar}
+use Rattle.portfolio.specs.declared.Candle.{Candle}
+use Rattle.portfolio.specs.declared.Portfolio.{Portfolio}
+use Rattle.portfolio.specs.Portfolio.{equity}
+use Rattle.portfolio.specs.Trade.{tradeWords, signal}
+use Rattle.execution.specs.declared.Entry.{Entry}
+use Rattle.execution.specs.declared.Entry.the-variants.{NoEntry, Entered}
+use Rattle.execution.specs.declared.Exit.{Exit}
+use Rattle.execution.specs.declared.Exit.the-variants.{NoExit, Exited}
+use Rattle.execution.specs.declared.Side.{Side}
+use Rattle.execution.specs.declared.Side.the-variants.{Long, Short}
+use Rattle.execution.specs.Costs.{chargeFunding}
+use Rattle.execution.specs.Fills.{executeEntry, executeExit}
+use Rattle.execution.specs.Intrabar.{extremeWith, applyIntrabarExits}
+use Rattle.judge.specs.declared.Order.{Order}
+use Rattle.judge.specs.declared.Order.the-variants.{Idle, EnterLong, EnterShort, Exit as ExitOrder}
+use Rattle.judge.specs.declared.Position.{Position}
+use Rattle.judge.specs.declared.Settings.{Settings}
+use Rattle.judge.specs.Bar.{fundingOf}
+use Rattle.judge.specs.Rooms.{pointPlaces, tradePlaces}
+use Rattle.engine.specs.declared.account.Filled.{Filled}
+use Rattle.engine.specs.declared.account.Left.{Left}
+
+-- ---- a position that is left
+
+-- `pf.exit(..);  entry_bar = None;`
+unfoldable pub leaving : Position → Exit → Position
+leaving p NoExit = p
+leaving p (Exited c) = record { portfolio = c .portfolio; entered = Never; extreme = p .extreme }
+
+-- ---- fill
+
+-- `execute_entry`: where it opens a position, `entry_bar = Some(bar);  extreme = fill;`. "An entry that sizes to nothing is dropped."
+unfoldable pub entering : Position → Entry → ℕ → Position
+entering p NoEntry number = p
+entering p (Entered portfolio fill) number = record { portfolio = portfolio; entered = Bar number; extreme = fill }
+
+-- nothing happens but to the order
+abbrev pub waiting : Order → Position → Filled
+waiting order p = record { order = order; position = p; «exit» = NoExit }
+
+-- "at the open, with the rate of `slippage_rate`"; "Realized volatility reads the rows before this bar."
+-- Decided: an order filled or dropped no longer works.
+unfoldable pub entered : Side → Settings → Position → Candle → History → ℕ → Filled
+entered side s p k before number =
+    waiting Idle (entering p (executeEntry side (k .«open») (s .terms) k (p .portfolio) before) number)
+
+-- "Exit only if |qty| > EPS."
+unfoldable pub exited : Settings → Position → Candle → Filled
+exited s p k =
+    let x = executeExit signal (k .«open») (s .terms) k (p .portfolio) in
+    record { order = Idle; position = leaving p x; «exit» = x }
+
+-- "Fill: a delay above 0 counts down by 1; otherwise at the open"
+unfoldable pub filled : Settings → Order → Position → Candle → History → ℕ → Filled
+filled s Idle p k before number = waiting Idle p
+filled s (EnterLong n) p k before number = cond (ltb 0 n) (waiting (EnterLong (n - 1)) p) (entered Long s p k before number)
+filled s (EnterShort n) p k before number = cond (ltb 0 n) (waiting (EnterShort (n - 1)) p) (entered Short s p k before number)
+filled s (ExitOrder n) p k before number = cond (ltb 0 n) (waiting (ExitOrder (n - 1)) p) (exited s p k)
+
+-- ---- exits inside the bar
+
+-- "Intrabar: only in a position, as `intrabar_exit`, without slippage. The favourable extreme takes this bar first; if no
+-- exit fires, liquidation where switched on."
+unfoldable pub left : Settings → Position → Candle → Left
+left s p k =
+    let extreme = extremeWith k (p .portfolio) (p .extreme) in
+    let x = applyIntrabarExits k (s .terms) (p .portfolio) extreme in
+    record { position = leaving (record { portfolio = p .portfolio; entered = p .entered; extreme = extreme }) x; «exit» = x }
+
+-- ---- funding
+
+-- "Funding: in a position, if switched on, qty·mark·rate leaves cash; nothing if not supplied (added)."
+unfoldable pub charged : Settings → Position → List ℕ → Position
+charged s p bar = record {
+  portfolio = chargeFunding (s .funding) (fundingOf (s .slots) bar) (p .portfolio);
+  entered = p .entered;
+  extreme = p .extreme;
+}
+
+-- ---- the rooms of trades and equity
+
+-- a room of records and how many it holds
+pub record Held : Type 0 where
+  pub count : ℕ
+  pub room : List ℕ
+
+-- "A trade takes eight 64-bit words in the Rust record's order." One that finds no place is not kept: no step that is
+-- not refused comes to that.
+unfoldable pub booked : List ℕ → ℕ → Exit → Held
+booked room n NoExit = record { count = n; room = room }
+booked room n (Exited c) =
+    cond (ltb n (tradePlaces room))
+    (record { count = n + 1; room = over room (n * 8) (tradeWords (c .trade)) })
+    (record { count = n; room = room })
+
+-- "equity at the close": a point is the bar's time and the equity. One that finds no place is not kept, as above.
+unfoldable pub marked : List ℕ → ℕ → Candle → Position → Held
+marked room n k p =
+    cond (ltb n (pointPlaces room))
+    (record { count = n + 1; room = over room (n * 2) (k .time ∷ wordOf (equity (p .portfolio) (k .close)) ∷ []) })
+    (record { count = n; room = room })

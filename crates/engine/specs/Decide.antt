@@ -1,0 +1,63 @@
+-- "One bar": what is decided at the close.
+use Prim.Native.Nat.{ℕ, _+_}
+use mathlib.Core.Bool.{Bool, cond}
+use mathlib.Core.List.{List}
+use lib.Dec.{ltb}
+use Rattle.rows.specs.History.{History, historyOf, lastRows}
+use Rattle.rules.specs.declared.PositionState.{PositionState}
+use Rattle.portfolio.specs.declared.Portfolio.{Portfolio}
+use Rattle.portfolio.specs.Portfolio.{inPosition, isLong}
+use Rattle.steps.specs.Bytes.{opsOf}
+use Rattle.steps.specs.Machine.{ranOver}
+use Rattle.judge.specs.declared.Order.{Order}
+use Rattle.judge.specs.declared.Order.the-variants.{Idle, EnterLong, EnterShort, Exit}
+use Rattle.judge.specs.declared.Position.{Position}
+use Rattle.judge.specs.declared.Settings.{Settings}
+use Rattle.judge.specs.Lists.{Lists}
+
+-- what a rule's list of steps answers
+unfoldable pub says : History → PositionState → List ℕ → Bool
+says h p list = ranOver h p (opsOf list) .answer
+
+-- "a rule takes this bar's number from the position state (bars seen, this one counted, less 1)"
+unfoldable pub stateAt : Position → ℕ → PositionState
+stateAt p number = record { qty = p .portfolio .qty; entered = p .entered; «bars_seen» = number + 1 }
+
+-- "Flat: entry, else short entry." "A new order starts with the delay setting."
+unfoldable pub openingOrder : ℕ → Bool → Bool → Order
+openingOrder delay long short = cond long (EnterLong delay) (cond short (EnterShort delay) Idle)
+
+-- "Long: exit. Short: short exit."
+unfoldable pub closingOrder : ℕ → Bool → Order
+closingOrder delay leave = cond leave (Exit delay) Idle
+
+-- what the four rules answer
+pub record Answers : Type 0 where
+  pub entry : Bool
+  pub «exit» : Bool
+  pub «short_entry» : Bool
+  pub «short_exit» : Bool
+
+unfoldable pub answersOf : History → PositionState → Lists → Answers
+answersOf h state ls = record {
+  entry = says h state (ls .entry);
+  «exit» = says h state (ls .«exit»);
+  «short_entry» = says h state (ls .«short_entry»);
+  «short_exit» = says h state (ls .«short_exit»);
+}
+
+-- the order of a bar on which none works
+unfoldable pub ordered : ℕ → Portfolio → Answers → Order
+ordered delay account a =
+    cond (inPosition account)
+    (cond (isLong account) (closingOrder delay (a .«exit»)) (closingOrder delay (a .«short_exit»)))
+    (openingOrder delay (a .entry) (a .«short_entry»))
+
+-- "nothing on a bar numbered below warmup, nor while an order works": the rows are those held, this bar's the last
+unfoldable pub decided : Settings → Order → Position → ℕ → List ℕ → Lists → Order
+decided s (EnterLong n) p number rows ls = EnterLong n
+decided s (EnterShort n) p number rows ls = EnterShort n
+decided s (Exit n) p number rows ls = Exit n
+decided s Idle p number rows ls =
+    cond (ltb number (s .warmup)) Idle
+    (ordered (s .delay) (p .portfolio) (answersOf (historyOf (s .slots) (lastRows (s .slots) (s .depth) rows)) (stateAt p number) ls))

@@ -1,0 +1,56 @@
+-- "The starred eight are proved of the written rules, a single table under one statement."
+use Prim.Native.Nat.{ℕ}
+use mathlib.Core.Path.{_≡_, refl}
+use mathlib.Core.Bool.{true, false}
+use mathlib.Core.List.{List, [], _∷_}
+use lib.IntN.{pos, negsuc}
+use lib.Ieee as Ieee
+use lib.Ieee.{Float, binary64, fin}
+use Rattle.portfolio.specs.declared.Candle.{Candle}
+use Rattle.portfolio.specs.Trade.{stopLoss}
+use Rattle.rules.specs.Edges.{Said, answer, reaches, starred, edges}
+use Rattle.execution.specs.Edges.{stop-edges}
+use Rattle.execution.specs.Intrabar.{intrabarExit}
+use Rattle.execution.specs.declared.Optional.the-variants.{Absent, Of}
+use Rattle.execution.specs.declared.Risk.{Risk}
+use Rattle.execution.specs.declared.Trigger.{Trigger}
+use Rattle.execution.specs.declared.Trigger.the-variants.{Untouched, At}
+
+abbrev num : ℕ → Float
+num n = Ieee.ofInt binary64 (pos n)
+
+-- a stop of 25% and nothing else
+abbrev stop25 : Risk
+stop25 = record {
+  «stop_loss_pct» = Of (num 25);
+  «trailing_stop_pct» = Absent;
+  «take_profit_pct» = Absent;
+  «max_leverage» = Absent;
+  «max_position_pct» = Absent;
+  liquidation = false;
+}
+
+-- What the written rules say: of rules, and of a long from 100 in a bar with this open and this low.
+pub record Eight : Type 0 where
+  pub rules : List Said
+  pub stops : List Trigger
+
+-- whatever the rest of the bar and the favourable extreme are
+module _ (time : ℕ) (high close volume extreme : Float) where
+  abbrev from100 : Float → Float → Trigger
+  from100 first low =
+      intrabarExit (record { time = time; «open» = first; high = high; low = low; close = close; volume = volume }) stop25 (num 100) extreme true
+
+  pub starred-eight : _≡_ {A = Eight}
+      (record { rules = starred; stops = from100 (num 70) (num 68) ∷ from100 (num 80) (num 75) ∷ from100 (num 80) (fin false 151 (negsuc 0)) ∷ [] })
+      (record {
+        -- ★1 no ★2 yes, ★3 no and yes, ★4 both no, ★5 yes and no, ★6 no and yes, ★7 reach 6
+        rules =
+            answer false ∷ answer true ∷ answer false ∷ answer true ∷ answer false ∷ answer false
+            ∷ answer true ∷ answer false ∷ answer false ∷ answer true ∷ reaches 6 ∷ [];
+        -- ★8 open 70, low 68: 70; open 80, low 75: 75; low 75.5: no exit
+        stops = At (num 70) stopLoss ∷ At (num 75) stopLoss ∷ Untouched ∷ [];
+      })
+  starred-eight =
+      let e = stop-edges time high close volume extreme in
+      rw (edges, e .0, e .1, e .2) refl

@@ -1,0 +1,65 @@
+-- The end of a run.
+use Prim.Native.Nat.{ℕ, _*_}
+use mathlib.Core.Bool.{cond}
+use mathlib.Core.List.{List}
+use lib.ListN.{take}
+use Rattle.portfolio.specs.Trade.{end}
+use Rattle.execution.specs.declared.Exit.{Exit}
+use Rattle.execution.specs.declared.Exit.the-variants.{NoExit, Exited}
+use Rattle.execution.specs.Costs.{closed}
+use Rattle.metrics.specs.declared.Metrics.{Metrics}
+use Rattle.metrics.specs.Figures.{metricsOf}
+use Rattle.metrics.specs.Records.{equityOf, pnlsOf}
+use Rattle.judge.specs.declared.Settings.{Settings}
+use Rattle.judge.specs.declared.State.{State}
+use Rattle.judge.specs.declared.Verdict.{Verdict}
+use Rattle.judge.specs.declared.Verdict.the-variants.{Fine, Bad}
+use Rattle.judge.specs.Judgement.{finishJudged}
+use Rattle.judge.specs.Rooms.{Rooms, toClose}
+use Rattle.engine.specs.declared.ending.Ended.{Ended}
+use Rattle.engine.specs.declared.Finished.{Finished}
+use Rattle.engine.specs.declared.Finished.the-variants.{Refused, Done}
+use Rattle.engine.specs.Account.{Held, booked, leaving}
+use Rattle.engine.specs.Step.{With}
+
+-- "Finish closes an open position, if a bar was seen, at the last close with a taker fee, reason end."
+unfoldable pub lastExit : Settings → State → Exit
+lastExit s t =
+    cond (toClose t)
+    (Exited (closed (t .position .portfolio) (t .last .close) (t .last .time) (s .terms .«taker_bps») end))
+    NoExit
+
+-- what is left of the state: the position is left, and the trade is counted
+unfoldable pub endState : State → Exit → ℕ → State
+endState t x trades = record {
+  counts = record {
+    «bars_seen» = t .counts .«bars_seen»;
+    «rows_held» = t .counts .«rows_held»;
+    «equity_points» = t .counts .«equity_points»;
+    trades = trades;
+  };
+  order = t .order;
+  position = leaving (t .position) x;
+  last = t .last;
+}
+
+-- "Metrics take their equity from the marked points only, as `finish` does."; the trades are all, the last one too
+unfoldable pub measured : Settings → List ℕ → ℕ → List ℕ → ℕ → Metrics
+measured s equity points trades count = metricsOf (s .capital) (equityOf (take (points * 2) equity)) (pnlsOf (take (count * 8) trades))
+
+unfoldable pub ended : Settings → State → Rooms → With Ended
+ended s t m =
+    let x = lastExit s t in
+    let b = booked (m .trades) (t .counts .trades) x in
+    record {
+      result = record { state = endState t x (b .count); metrics = measured s (m .equity) (t .counts .«equity_points») (b .room) (b .count) };
+      rooms = record { rows = m .rows; equity = m .equity; trades = b .room };
+    }
+
+-- The paper's values for each case of the answer.
+unfoldable pub concluded : Verdict → State → Rooms → With Ended → With Finished
+concluded (Bad number place) t m done = record { result = Refused number place t; rooms = m }
+concluded Fine t m done = record { result = Done (done .result .state) (done .result .metrics); rooms = done .rooms }
+
+unfoldable pub finishOf : Settings → State → Rooms → With Finished
+finishOf s t m = concluded (finishJudged s t m) t m (ended s t m)

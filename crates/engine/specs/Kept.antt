@@ -1,0 +1,115 @@
+-- What is written into a room stays within it: its length is kept, and it holds no more than it has places for.
+use Prim.Native.Nat.{ℕ, zero, suc, _+_, _-_, _*_, _/_, _≤_, _<_}
+use mathlib.Core.Path.{_≡_, refl, sym, ap, _∙_}
+use mathlib.Core.Bool.{Bool, true, false, cond}
+use mathlib.Core.List.{List, [], _∷_, _++_}
+use native.Mathlib.Nat.{le-div-iff-mul-le, suc-mul, le-refl, mul-le-mul-right}
+use native.Mathlib.Numerals.{add-one}
+use native.Mathlib.Omega.{arith}
+use borrow.Author.Tests.{ltb-true, ltb-false, leb-true, eqb-false}
+use lib.ListN.{length, take, drop, length-append, length-drop}
+use lib.Seq.{length-take-le}
+use lib.Dec.{ltb, leb, eqb}
+use Rattle.rows.specs.Room.{over, places, withRow, heldWith}
+use Rattle.execution.specs.declared.Exit.{Exit}
+use Rattle.execution.specs.declared.Exit.the-variants.{NoExit, Exited}
+use Rattle.portfolio.specs.declared.Candle.{Candle}
+use Rattle.floats.specs.Floats.{wordOf}
+use Rattle.portfolio.specs.Portfolio.{equity}
+use Rattle.portfolio.specs.Trade.{tradeWords}
+use Rattle.judge.specs.declared.Position.{Position}
+use Rattle.judge.specs.Rooms.{pointPlaces, tradePlaces}
+use Rattle.engine.specs.Account.{Held, booked, marked}
+use Rattle.engine.specs.Record.{listed, rowWord, rowOf}
+
+-- ---- lengths
+
+pasted : (l w : List ℕ) (at : ℕ) → at + length w ≤ length l → length (take at l ++ w ++ drop (at + length w) l) ≡ length l
+pasted l w at h =
+    let a : length (take at l) ≡ at = length-take-le at l (omega arith) in
+    omega (arith, a, length-append (take at l ++ w) (drop (at + length w) l), length-append (take at l) w, length-drop (at + length w) l)
+
+pub over-kept : (room : List ℕ) (at : ℕ) (words : List ℕ) → length (over room at words) ≡ length room
+unfolding over
+over-kept room at words = go (leb (at + length words) (length room)) refl
+  where
+    go : (b : Bool) → leb (at + length words) (length room) ≡ b
+        → length (cond b (take at room ++ words ++ drop (at + length words) room) room) ≡ length room
+    go true e = pasted room words at (leb-true _ _ e)
+    go false e = refl
+
+-- the oldest w words go, and the rest move up
+shifted : (l row : List ℕ) (end : ℕ) → length row ≤ end → end ≤ length l
+    → length (drop (length row) (take end l) ++ row ++ drop end l) ≡ length l
+shifted l row end h k =
+    let a : length (take end l) ≡ end = length-take-le end l k in
+    let b : length (drop (length row) (take end l)) ≡ end - length row = length-drop (length row) (take end l) ∙ ap (λ (n : ℕ). n - length row) a in
+    omega (arith, b, length-append (drop (length row) (take end l) ++ row) (drop end l), length-append (drop (length row) (take end l)) row, length-drop end l)
+
+module _ (room : List ℕ) (held : ℕ) (row : List ℕ) (wide : 0 < length row) where
+  -- the places of a room lie within it
+  within : (n : ℕ) → n ≤ places room row → n * length row ≤ length room
+  within n h = le-div-iff-mul-le {k = length row} wide .0 h
+
+  pub row-kept : length (withRow room held row) ≡ length room
+  unfolding withRow
+  row-kept = go (ltb held (places room row)) (eqb (places room row) 0) refl refl
+    where
+      go : (a b : Bool) → ltb held (places room row) ≡ a → eqb (places room row) 0 ≡ b
+          → length (cond a (take (held * length row) room ++ row ++ drop (held * length row + length row) room)
+          (cond b room (drop (length row) (take (places room row * length row) room) ++ row ++ drop (places room row * length row) room)))
+          ≡ length room
+      go true b e d =
+          let f : suc held * length row ≤ length room = within (suc held) (omega (arith, ltb-true held (places room row) e)) in
+          pasted room row (held * length row) (rw (suc-mul held (length row)) at f)
+      go false true e d = refl
+      go false false e d =
+          let f : places room row * length row ≤ length room = within (places room row) (le-refl _) in
+          let p : 1 ≤ places room row = omega (arith, eqb-false (places room row) 0 d) in
+          let g : 1 * length row ≤ places room row * length row = mul-le-mul-right (length row) p in
+          shifted room row (places room row * length row) (omega (arith, g)) f
+
+  pub row-held : heldWith room held row ≤ places room row
+  unfolding heldWith
+  row-held = go (ltb held (places room row)) refl
+    where
+      go : (b : Bool) → ltb held (places room row) ≡ b → cond b (held + 1) (places room row) ≤ places room row
+      go true e = omega (arith, ltb-true held (places room row) e)
+      go false e = le-refl _
+
+-- a row is 7 + K words
+listed-long : (n : ℕ) (f : ℕ → ℕ) → length (listed n f) ≡ n
+unfolding listed
+listed-long zero f = refl
+listed-long (suc n) f = length-append (listed n f) (f n ∷ []) ∙ omega (arith, listed-long n f)
+
+pub row-long : (K : ℕ) (bar : List ℕ) → length (rowOf K bar) ≡ 7 + K
+unfolding rowOf
+row-long K bar = listed-long (7 + K) (rowWord bar)
+
+-- ---- counts
+
+abbrev Fits : ℕ → Held → List ℕ → Type 0
+Fits w h room = (length (h .room) ≡ length room) × (h .count ≤ length room / w)
+
+pub booked-fits : (room : List ℕ) (n : ℕ) (x : Exit) → n ≤ tradePlaces room → Fits 8 (booked room n x) room
+unfolding booked
+booked-fits room n NoExit h = (refl, h)
+booked-fits room n (Exited c) h = go (ltb n (tradePlaces room)) refl
+  where
+    go : (b : Bool) → ltb n (tradePlaces room) ≡ b
+        → Fits 8 (cond b (record { count = n + 1; room = over room (n * 8) (tradeWords (c .trade)) }) (record { count = n; room = room })) room
+    go true e = (over-kept room (n * 8) (tradeWords (c .trade)), omega (arith, ltb-true n (tradePlaces room) e))
+    go false e = (refl, h)
+
+pub marked-fits : (room : List ℕ) (n : ℕ) (k : Candle) (p : Position) → n ≤ pointPlaces room → Fits 2 (marked room n k p) room
+unfolding marked
+marked-fits room n k p h = go (ltb n (pointPlaces room)) refl
+  where
+    point : List ℕ
+    point = k .time ∷ wordOf (equity (p .portfolio) (k .close)) ∷ []
+
+    go : (b : Bool) → ltb n (pointPlaces room) ≡ b
+        → Fits 2 (cond b (record { count = n + 1; room = over room (n * 2) point }) (record { count = n; room = room })) room
+    go true e = (over-kept room (n * 2) point, omega (arith, ltb-true n (pointPlaces room) e))
+    go false e = (refl, h)

@@ -1,0 +1,13 @@
+pub mod Record
+pub mod Account
+pub mod Decide
+pub mod Step
+pub mod Finish
+pub mod Refusal
+pub mod OneTrade
+pub mod Quiet
+pub mod Edges
+pub mod Kept
+pub mod Counted
+pub mod Meant
+pub mod Reads

@@ -1,0 +1,99 @@
+-- "A step records at most one trade."
+use Prim.Native.Nat.{ℕ, _+_, _≤_}
+use mathlib.Core.Path.{_≡_, refl, sym, ap, _∙_}
+use mathlib.Core.Bool.{Bool, true, false, cond}
+use mathlib.Core.List.{List}
+use native.Mathlib.Omega.{arith}
+use lib.Dec.{ltb}
+use lib.Ieee as Ieee
+use lib.Ieee.{Float}
+use Rattle.floats.specs.Floats as Floats
+use Rattle.rows.specs.History.{History, historyOf}
+use Rattle.portfolio.specs.declared.Candle.{Candle}
+use Rattle.portfolio.specs.declared.Closed.{Closed}
+use Rattle.portfolio.specs.declared.Portfolio.{Portfolio}
+use Rattle.portfolio.specs.Portfolio.{inPosition, exited}
+use Rattle.execution.specs.declared.Exit.{Exit}
+use Rattle.execution.specs.declared.Exit.the-variants.{NoExit, Exited}
+use Rattle.execution.specs.declared.Side.the-variants.{Long, Short}
+use Rattle.execution.specs.Costs.{closed}
+use Rattle.execution.specs.Fills.{executeExit}
+use Rattle.execution.specs.Intrabar.{applyIntrabarExits}
+use Rattle.judge.specs.declared.Order.{Order}
+use Rattle.judge.specs.declared.Order.the-variants.{Idle, EnterLong, EnterShort, Exit as ExitOrder}
+use Rattle.judge.specs.declared.Position.{Position}
+use Rattle.judge.specs.declared.Settings.{Settings}
+use Rattle.judge.specs.declared.State.{State}
+use Rattle.judge.specs.Bar.{candleOf}
+use Rattle.judge.specs.Lists.{Lists}
+use Rattle.judge.specs.Rooms.{Rooms, tradePlaces}
+use Rattle.engine.specs.declared.account.Filled.{Filled}
+use Rattle.engine.specs.Account.{Held, leaving, entered, filled, left, booked}
+use Rattle.engine.specs.Account as Account
+use Rattle.engine.specs.Record.{heldRows}
+use Rattle.engine.specs.Step.{stepped}
+
+never : {A : Type 0} (c : Closed) → NoExit ≡ Exited c → A
+never c e = absurd (let z : _≡_ {A = ℕ} 0 1 = cc in omega arith)
+
+-- a position that was closed is flat
+closed-is-flat : (p : Portfolio) (price : Float) (time : ℕ) (bps : Float) (reason : ℕ) → inPosition (closed p price time bps reason .portfolio) ≡ false
+unfolding closed exited inPosition Floats.abs Ieee.lt Ieee.ofBits
+closed-is-flat p price time bps reason = refl
+
+-- where a fill closed a trade, what is left is flat
+abbrev Flat : Filled → Type 0
+Flat f = (c : Closed) → f .«exit» ≡ Exited c → inPosition (f .position .portfolio) ≡ false
+
+either : (b : Bool) (x y : Filled) → Flat x → Flat y → Flat (cond b x y)
+either true x y f g = f
+either false x y f g = g
+
+left-flat : (b : Bool) (p : Position) (d : Closed) → inPosition (d .portfolio) ≡ false → (c : Closed)
+    → cond b (Exited d) NoExit ≡ Exited c → inPosition (leaving p (cond b (Exited d) NoExit) .portfolio) ≡ false
+unfolding leaving
+left-flat true p d h c e = h
+left-flat false p d h c e = never c e
+
+exit-flat : (s : Settings) (p : Position) (k : Candle) → Flat (Account.exited s p k)
+unfolding Account.exited executeExit
+exit-flat s p k c e = left-flat (inPosition (p .portfolio)) p _ (closed-is-flat _ _ _ _ _) c e
+
+fill-flat : (s : Settings) (o : Order) (p : Position) (k : Candle) (h : History) (number : ℕ) → Flat (filled s o p k h number)
+unfolding filled entered
+fill-flat s Idle p k h number = never
+fill-flat s (EnterLong n) p k h number = either (ltb 0 n) _ _ never never
+fill-flat s (EnterShort n) p k h number = either (ltb 0 n) _ _ never never
+fill-flat s (ExitOrder n) p k h number = either (ltb 0 n) _ _ never (exit-flat s p k)
+
+-- a flat position is not left inside the bar
+stays-flat : (s : Settings) (p : Position) (k : Candle) → inPosition (p .portfolio) ≡ false → left s p k .«exit» ≡ NoExit
+unfolding left applyIntrabarExits
+stays-flat s p k h = rw h
+
+-- a room grows by one trade at most
+books-one : (b : Bool) (n : ℕ) (x y : List ℕ) → cond {A = Held} b (record { count = n + 1; room = x }) (record { count = n; room = y }) .count ≤ n + 1
+books-one true n x y = omega arith
+books-one false n x y = omega arith
+
+books : (room : List ℕ) (n : ℕ) (x : Exit) → booked room n x .count ≤ n + 1
+unfolding booked
+books room n NoExit = omega arith
+books room n (Exited c) = books-one (ltb n (tradePlaces room)) n _ _
+
+-- two exits of which the second comes only where the first did not
+at-most-one : (room : List ℕ) (n : ℕ) (x y : Exit) → ((c : Closed) → x ≡ Exited c → y ≡ NoExit)
+    → booked (booked room n x .room) (booked room n x .count) y .count ≤ n + 1
+unfolding booked
+at-most-one room n NoExit y h = books room n y
+at-most-one room n (Exited c) y h = rw (h c refl) (books room n (Exited c))
+
+pub one-trade : (s : Settings) (t : State) (bar : List ℕ) (m : Rooms) (ls : Lists)
+    → stepped s t bar m ls .result .counts .trades ≤ t .counts .trades + 1
+unfolding stepped
+one-trade s t bar m ls =
+    let k = candleOf bar in
+    let h = historyOf (s .slots) (heldRows (s .slots) (t .counts .«rows_held») (m .rows)) in
+    let f = filled s (t .order) (t .position) k h (t .counts .«bars_seen») in
+    at-most-one (m .trades) (t .counts .trades) (f .«exit») (left s (f .position) k .«exit»)
+    (λ c e. stays-flat s (f .position) k (fill-flat s (t .order) (t .position) k h (t .counts .«bars_seen») c e))

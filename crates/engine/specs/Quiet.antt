@@ -1,0 +1,46 @@
+-- A flat account with no order: a bar adds a row, an equity point and its counts, and nothing else unless a rule says yes.
+use Prim.Native.Nat.{ℕ}
+use mathlib.Core.Path.{_≡_, refl}
+use mathlib.Core.Bool.{Bool, true, false, cond}
+use mathlib.Core.List.{List}
+use lib.Dec.{ltb}
+use Rattle.rows.specs.History.{historyOf, lastRows}
+use Rattle.portfolio.specs.Portfolio.{inPosition}
+use Rattle.execution.specs.Costs.{chargeFunding}
+use Rattle.execution.specs.Intrabar.{extremeWith, applyIntrabarExits}
+use Rattle.judge.specs.declared.Order.{Order}
+use Rattle.judge.specs.declared.Order.the-variants.{Idle}
+use Rattle.judge.specs.declared.Position.{Position}
+use Rattle.judge.specs.declared.Settings.{Settings}
+use Rattle.judge.specs.declared.State.{State}
+use Rattle.judge.specs.Lists.{Lists}
+use Rattle.judge.specs.Rooms.{Rooms}
+use Rattle.engine.specs.Account.{leaving, filled, left, charged, booked}
+use Rattle.engine.specs.Decide.{says, stateAt, answersOf, ordered, openingOrder, decided}
+use Rattle.engine.specs.Step.{stepped}
+
+same : {A : Type 0} (b : Bool) (x : A) → cond b x x ≡ x
+same true x = refl
+same false x = refl
+
+pub record Quiet (s : Settings) (t : State) (bar : List ℕ) (m : Rooms) (ls : Lists) : Type 0 where
+  pub position : stepped s t bar m ls .result .position ≡ t .position
+  pub count : stepped s t bar m ls .result .counts .trades ≡ t .counts .trades
+  pub trades : stepped s t bar m ls .rooms .trades ≡ m .trades
+
+pub quiet : (s : Settings) (t : State) (bar : List ℕ) (m : Rooms) (ls : Lists)
+    → t .order ≡ Idle → inPosition (t .position .portfolio) ≡ false → Quiet s t bar m ls
+unfolding stepped filled left charged booked leaving extremeWith applyIntrabarExits chargeFunding
+quiet s t bar m ls o f = record {
+  position = simp (o, f, same);
+  count = simp (o, f);
+  trades = simp (o, f);
+}
+
+-- no rule says yes: no order
+pub no-rule-no-order : (s : Settings) (p : Position) (number : ℕ) (rows : List ℕ) (ls : Lists) → inPosition (p .portfolio) ≡ false
+    → says (historyOf (s .slots) (lastRows (s .slots) (s .depth) rows)) (stateAt p number) (ls .entry) ≡ false
+    → says (historyOf (s .slots) (lastRows (s .slots) (s .depth) rows)) (stateAt p number) (ls .«short_entry») ≡ false
+    → decided s Idle p number rows ls ≡ Idle
+unfolding decided answersOf ordered openingOrder
+no-rule-no-order s p number rows ls f a b = simp (f, a, b, same)

@@ -1,0 +1,60 @@
+-- A step depends on no row older than the last D of the rows that it is given: a fill reads the closes of fewer, and the
+-- decision is over the last D by its definition.
+use Prim.Native.Nat.{ℕ, _+_, _-_, _*_, _≤_, _<_}
+use mathlib.Core.Path.{_≡_, refl}
+use mathlib.Core.Bool.{cond}
+use mathlib.Core.List.{List}
+use native.Mathlib.Omega.{arith}
+use lib.Dec.{ltb}
+use lib.ListN.{drop}
+use lib.Ieee.{Float}
+use Rattle.rows.specs.History.{History, historyOf, lastRows}
+use Rattle.rules.specs.Window.{Without, without-first}
+use Rattle.portfolio.specs.declared.Candle.{Candle}
+use Rattle.portfolio.specs.declared.Portfolio.{Portfolio}
+use Rattle.execution.specs.declared.Side.{Side}
+use Rattle.execution.specs.declared.Sizing.{Sizing}
+use Rattle.execution.specs.declared.Sizing.the-variants.{FixedFraction, FixedQty, FixedCash, VolTarget, RiskPerTrade, Unknown}
+use Rattle.execution.specs.declared.Terms.{Terms}
+use Rattle.execution.specs.Fills.{volatilityFor, executeEntry}
+use Rattle.execution.specs.Volatility.{realizedVol}
+use Rattle.execution.specs.VolatilityWindow.{same-volatility}
+use Rattle.judge.specs.declared.Order.{Order}
+use Rattle.judge.specs.declared.Order.the-variants.{Idle, EnterLong, EnterShort, Exit}
+use Rattle.judge.specs.declared.Position.{Position}
+use Rattle.judge.specs.declared.Settings.{Settings}
+use Rattle.judge.specs.Settings.{lookback}
+use Rattle.engine.specs.Account.{entered, filled}
+
+module _ (K D : ℕ) (rows : List ℕ) where
+  older : Without (historyOf K rows) (historyOf K (lastRows K D rows)) (historyOf K rows .rows - D)
+  unfolding lastRows historyOf
+  older = without-first K (historyOf K rows .rows - D) rows (omega arith)
+
+  vol-near : (n : ℕ) → n < D → realizedVol (historyOf K (lastRows K D rows)) n ≡ realizedVol (historyOf K rows) n
+  vol-near n h =
+      same-volatility (historyOf K rows) (historyOf K (lastRows K D rows)) (historyOf K rows .rows - D) (older .count) (older .same) n
+      (λ l. omega (arith, older .count))
+
+  for-near : (z : Sizing) → lookback z < D → volatilityFor z (historyOf K (lastRows K D rows)) ≡ volatilityFor z (historyOf K rows)
+  unfolding volatilityFor
+  for-near (VolTarget x n) h = vol-near n h
+  for-near (FixedFraction x) h = refl
+  for-near (FixedQty x) h = refl
+  for-near (FixedCash x) h = refl
+  for-near (RiskPerTrade x) h = refl
+  for-near Unknown h = refl
+
+  entry-near : (side : Side) (raw : Float) (terms : Terms) (k : Candle) (p : Portfolio) → lookback (terms .sizing) < D
+      → executeEntry side raw terms k p (historyOf K (lastRows K D rows)) ≡ executeEntry side raw terms k p (historyOf K rows)
+  unfolding executeEntry
+  entry-near side raw terms k p h = rw (for-near (terms .sizing) h)
+
+  -- a fill over the last D rows is the fill over all
+  pub fill-near : (s : Settings) (o : Order) (p : Position) (k : Candle) (number : ℕ) → lookback (s .terms .sizing) < D
+      → filled s o p k (historyOf K (lastRows K D rows)) number ≡ filled s o p k (historyOf K rows) number
+  unfolding filled entered
+  fill-near s Idle p k number h = refl
+  fill-near s (EnterLong n) p k number h = rw (entry-near _ _ (s .terms) k (p .portfolio) h)
+  fill-near s (EnterShort n) p k number h = rw (entry-near _ _ (s .terms) k (p .portfolio) h)
+  fill-near s (Exit n) p k number h = refl

@@ -1,0 +1,28 @@
+-- "A refusal returns number, place and the state it was given, and changes nothing lent."
+use Prim.Native.Nat.{ℕ}
+use mathlib.Core.Path.{_≡_, refl, sym, _∙_}
+use mathlib.Core.List.{List}
+use native.Mathlib.Omega.{arith}
+use Rattle.judge.specs.declared.Settings.{Settings}
+use Rattle.judge.specs.declared.State.{State}
+use Rattle.judge.specs.declared.Verdict.{Verdict}
+use Rattle.judge.specs.declared.Verdict.the-variants.{Fine, Bad}
+use Rattle.judge.specs.Judgement.{stepJudged}
+use Rattle.judge.specs.Lists.{Lists}
+use Rattle.judge.specs.Rooms.{Rooms}
+use Rattle.engine.specs.declared.Answer.{Answer}
+use Rattle.engine.specs.declared.Answer.the-variants.{Refused, Done}
+use Rattle.engine.specs.Step.{With, stepped, answered, stepOf}
+
+by-verdict : (v : Verdict) (t : State) (m : Rooms) (done : With State) (number place : ℕ) (u : State)
+    → answered v t m done .result ≡ Refused number place u → (v ≡ Bad number place) × (u ≡ t) × (answered v t m done .rooms ≡ m)
+unfolding answered
+by-verdict (Bad n p) t m done number place u e = (cc, cc, refl)
+by-verdict Fine t m done number place u e = absurd (let z : _≡_ {A = ℕ} 0 1 = cc in omega arith)
+
+-- Whatever a step refuses, the judgement said so, the state is the one given, and no room has changed.
+pub refusal-changes-nothing : (s : Settings) (t : State) (bar : List ℕ) (m : Rooms) (ls : Lists) (number place : ℕ) (u : State)
+    → stepOf s t bar m ls .result ≡ Refused number place u
+    → (stepJudged s t bar m ls ≡ Bad number place) × (u ≡ t) × (stepOf s t bar m ls .rooms ≡ m)
+unfolding stepOf
+refusal-changes-nothing s t bar m ls number place u e = by-verdict (stepJudged s t bar m ls) t m (stepped s t bar m ls) number place u e

@@ -1,0 +1,216 @@
+// What one bar does to the account: the fill of the working order, the exits inside the bar, funding, and the rooms of
+// trades and equity points.
+ghost use mathlib.Core.Path.{_≡_};
+ghost use Prim.Native.Nat.{_≤_};
+ghost use Rattle.rows.specs.History.{historyOf};
+ghost use Rattle.engine.specs.Record.{heldRows};
+ghost use Rattle.engine.specs.Account as Account;
+ghost use Rattle.engine.specs.Account.{leaving, entering, booked, marked, charged};
+use crate::record;
+use execution::Entry;
+use execution::Exit;
+use execution::Side;
+use execution::costs;
+use execution::fills;
+use execution::intrabar;
+use judge::Order;
+use judge::Position;
+use judge::Settings;
+use portfolio::Candle;
+use portfolio::SIGNAL;
+use rules::Entered;
+
+// The fill's order and position, and the trade where it closed one.
+pub struct Filled {
+    pub order: Order,
+    pub position: Position,
+    pub exit: Exit,
+}
+
+// A position after the exits inside the bar, and the trade where they closed one.
+pub struct Left {
+    pub position: Position,
+    pub exit: Exit,
+}
+
+// A position that was left has no entry bar.
+pub(crate) fn leaving(p: Position, exit: Exit) -> Position
+    ensures { λ r. ⌜ r ≡ leaving p «exit» ⌝ }
+{
+    match exit {
+        Exit::NoExit => p,
+        Exit::Exited(c) => {
+            let account = c.portfolio;
+            Position {
+                portfolio: account,
+                entered: Entered::Never,
+                extreme: p.extreme,
+            }
+        }
+    }
+}
+
+// A position that was opened has this bar as its entry bar and the fill as its first extreme.
+fn entering(p: Position, entry: Entry, number: u64) -> Position
+    ensures { λ r. ⌜ r ≡ entering p entry number ⌝ }
+{
+    match entry {
+        Entry::NoEntry => p,
+        Entry::Entered(account, fill) => Position {
+            portfolio: account,
+            entered: Entered::Bar(number),
+            extreme: fill,
+        },
+    }
+}
+
+// An entry at the open.
+fn enter(
+    side: Side,
+    s: Settings,
+    p: Position,
+    candle: Candle,
+    rows: &[u64],
+    held: usize,
+    number: u64,
+) -> Filled
+    requires { ⌜ s .slots ≤ 64 ⌝ }
+    ensures { λ r. ⌜ r ≡ Account.entered side s p candle (historyOf (s .slots) (heldRows (s .slots) held (now (rows .entry)))) number ⌝ }
+{
+    let terms = s.terms;
+    let account = p.portfolio;
+    let slots = s.slots;
+    let before = record::held_rows(rows, slots, held);
+    let entry = fills::execute_entry(side, candle.open, terms, candle, account, before, slots);
+    let position = entering(p, entry, number);
+    Filled {
+        order: Order::Idle,
+        position,
+        exit: Exit::NoExit,
+    }
+}
+
+// An exit at the open.
+fn leave(s: Settings, p: Position, candle: Candle) -> Filled
+    ensures { λ r. ⌜ r ≡ Account.exited s p candle ⌝ }
+{
+    let terms = s.terms;
+    let account = p.portfolio;
+    let exit = fills::execute_exit(SIGNAL, candle.open, terms, candle, account);
+    let position = leaving(p, exit);
+    Filled {
+        order: Order::Idle,
+        position,
+        exit,
+    }
+}
+
+// An order that only waits.
+fn wait(order: Order, p: Position) -> Filled
+    ensures { λ r. ⌜ r ≡ Account.waiting order p ⌝ }
+{
+    Filled {
+        order,
+        position: p,
+        exit: Exit::NoExit,
+    }
+}
+
+// The working order against the new bar, before its row is recorded: `rows` are those before this bar.
+pub(crate) fn fill_working_order(
+    s: Settings,
+    order: Order,
+    p: Position,
+    candle: Candle,
+    rows: &[u64],
+    held: usize,
+    number: u64,
+) -> Filled
+    requires { ⌜ s .slots ≤ 64 ⌝ }
+    ensures { λ r. ⌜ r ≡ Account.filled s order p candle (historyOf (s .slots) (heldRows (s .slots) held (now (rows .entry)))) number ⌝ }
+{
+    match order {
+        Order::Idle => wait(Order::Idle, p),
+        Order::EnterLong(n) => {
+            if 0 < n {
+                return wait(Order::EnterLong(n - 1), p);
+            }
+            enter(Side::Long, s, p, candle, rows, held, number)
+        }
+        Order::EnterShort(n) => {
+            if 0 < n {
+                return wait(Order::EnterShort(n - 1), p);
+            }
+            enter(Side::Short, s, p, candle, rows, held, number)
+        }
+        Order::Exit(n) => {
+            if 0 < n {
+                return wait(Order::Exit(n - 1), p);
+            }
+            leave(s, p, candle)
+        }
+    }
+}
+
+// The open position against the bar's range.
+pub(crate) fn apply_intrabar_exits(s: Settings, p: Position, candle: Candle) -> Left
+    ensures { λ r. ⌜ r ≡ Account.left s p candle ⌝ }
+{
+    let terms = s.terms;
+    let account = p.portfolio;
+    let entered = p.entered;
+    let extreme = intrabar::extreme_with(candle, account, p.extreme);
+    let exit = intrabar::apply_intrabar_exits(candle, terms, account, extreme);
+    let followed = Position {
+        portfolio: account,
+        entered,
+        extreme,
+    };
+    let position = leaving(followed, exit);
+    Left { position, exit }
+}
+
+// Funding for this bar.
+pub(crate) fn charge_funding(s: Settings, p: Position, bar: &[u64]) -> Position
+    ensures { λ r. ⌜ r ≡ charged s p (now (bar .entry)) ⌝ }
+{
+    let account = p.portfolio;
+    let entered = p.entered;
+    let funding = judge::bar::funding_of(bar, s.slots);
+    Position {
+        portfolio: costs::charge_funding(s.funding, funding, account),
+        entered,
+        extreme: p.extreme,
+    }
+}
+
+// Adds the trade, where there is one, to a room that holds n; the result is how many it holds then.
+pub(crate) fn book(trades: &mut [u64], n: usize, exit: Exit) -> usize
+    ensures { λ r. ⌜ (r ≡ booked (now (trades .entry)) n «exit» .count) × (now (trades .exit) ≡ booked (now (trades .entry)) n «exit» .room) ⌝ }
+{
+    match exit {
+        Exit::NoExit => n,
+        Exit::Exited(c) => {
+            if n < trades.len() / judge::rooms::TRADE_WORDS {
+                let trade = c.trade;
+                let words = trade.words();
+                rows::room::put(trades, n * judge::rooms::TRADE_WORDS, &words);
+                return n + 1;
+            }
+            n
+        }
+    }
+}
+
+// Adds the equity at the close to a room that holds n points; the result is how many it holds then.
+pub(crate) fn mark_equity(equity: &mut [u64], n: usize, candle: Candle, p: Position) -> usize
+    ensures { λ r. ⌜ (r ≡ marked (now (equity .entry)) n candle p .count) × (now (equity .exit) ≡ marked (now (equity .entry)) n candle p .room) ⌝ }
+{
+    if n < equity.len() / judge::rooms::POINT_WORDS {
+        let account = p.portfolio;
+        let words = [candle.time, floats::word_of(account.equity(candle.close))];
+        rows::room::put(equity, n * judge::rooms::POINT_WORDS, &words);
+        return n + 1;
+    }
+    n
+}

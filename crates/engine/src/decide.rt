@@ -1,0 +1,100 @@
+// What is decided at a bar's close.
+ghost use mathlib.Core.Path.{_≡_};
+ghost use Prim.Native.Nat.{_<_, _≤_};
+ghost use Rattle.rows.specs.History.{historyOf};
+ghost use Rattle.engine.specs.Decide.{says, answersOf, ordered, decided};
+ghost use Rattle.engine.specs.Record.{heldRows};
+use crate::record;
+use judge::Order;
+use judge::Position;
+use judge::Settings;
+use portfolio::Portfolio;
+use rules::PositionState;
+use steps::choice;
+use steps::machine;
+
+// What a rule's list of steps answers over the window.
+fn says(window: &[u64], slots: usize, state: PositionState, list: &[u8]) -> bool
+    ensures { λ r. ⌜ r ≡ says (historyOf slots (now (window .entry))) state (now (list .entry)) ⌝ }
+{
+    let ran = machine::run(list, window, slots, state);
+    ran.answer
+}
+
+// The order of a bar on which none works.
+fn order_of<'a>(
+    delay: u64,
+    account: Portfolio,
+    window: &[u64],
+    slots: usize,
+    state: PositionState,
+    entry: &[u8],
+    exit: &'a [u8],
+    short_entry: &[u8],
+    short_exit: &'a [u8],
+) -> Order
+    ensures { λ r. ⌜ r ≡ ordered delay account (answersOf (historyOf slots (now (window .entry))) state (record { entry = now (entry .entry); «exit» = now («exit» .entry); «short_entry» = now («short_entry» .entry); «short_exit» = now («short_exit» .entry) })) ⌝ }
+{
+    if account.in_position() {
+        let list = choice::exit_list(account.qty, exit, short_exit);
+        if says(window, slots, state, list) {
+            return Order::Exit(delay);
+        }
+        return Order::Idle;
+    }
+    if says(window, slots, state, entry) {
+        return Order::EnterLong(delay);
+    }
+    if says(window, slots, state, short_entry) {
+        return Order::EnterShort(delay);
+    }
+    Order::Idle
+}
+
+// The order after this bar: nothing is decided below warmup, nor while an order works.
+pub(crate) fn decide_next_action<'a>(
+    s: Settings,
+    order: Order,
+    p: Position,
+    number: u64,
+    rows: &[u64],
+    held: usize,
+    entry: &[u8],
+    exit: &'a [u8],
+    short_entry: &[u8],
+    short_exit: &'a [u8],
+) -> Order
+    requires { ⌜ (s .slots ≤ 64) × (number < 4294967295) ⌝ }
+    ensures { λ r. ⌜ r ≡ decided s order p number (heldRows (s .slots) held (now (rows .entry))) (record { entry = now (entry .entry); «exit» = now («exit» .entry); «short_entry» = now («short_entry» .entry); «short_exit» = now («short_exit» .entry) }) ⌝ }
+{
+    match order {
+        Order::EnterLong(n) => Order::EnterLong(n),
+        Order::EnterShort(n) => Order::EnterShort(n),
+        Order::Exit(n) => Order::Exit(n),
+        Order::Idle => {
+            if number < s.warmup {
+                return Order::Idle;
+            }
+            let slots = s.slots;
+            let account = p.portfolio;
+            let entered = p.entered;
+            let state = PositionState {
+                qty: account.qty,
+                entered,
+                bars_seen: number + 1,
+            };
+            let window = rows::window(record::held_rows(rows, slots, held), slots, s.depth);
+            order_of(
+                s.delay,
+                account,
+                window,
+                slots,
+                state,
+                entry,
+                exit,
+                short_entry,
+                short_exit,
+            )
+        }
+    }
+}

@@ -1,0 +1,82 @@
+// The end of a run: the last trade and the figures.
+ghost use mathlib.Core.Path.{_≡_};
+ghost use Rattle.engine.specs.Finish.{lastExit, endState, measured, ended};
+ghost use Rattle.engine.specs.Step.{Is};
+use crate::account;
+use crate::record;
+use execution::Exit;
+use execution::costs;
+use judge::Counts;
+use judge::Settings;
+use judge::State;
+use metrics::Metrics;
+use portfolio::END;
+
+// The state and the figures of a run that has ended.
+pub struct Ended {
+    pub state: State,
+    pub metrics: Metrics,
+}
+
+// The exit at the last close, where a position is open and a bar was seen.
+fn last_exit(s: Settings, t: State) -> Exit
+    ensures { λ r. ⌜ r ≡ lastExit s t ⌝ }
+{
+    if judge::rooms::to_close(t) {
+        let terms = s.terms;
+        let position = t.position;
+        let account = position.portfolio;
+        let last = t.last;
+        return Exit::Exited(costs::close(account, last.close, last.time, terms.taker_bps, END));
+    }
+    Exit::NoExit
+}
+
+// The state with its position left and its trades counted anew.
+fn end_state(t: State, exit: Exit, trades: usize) -> State
+    ensures { λ r. ⌜ r ≡ endState t «exit» trades ⌝ }
+{
+    let n = t.counts;
+    let order = t.order;
+    let open = t.position;
+    let last = t.last;
+    let position = account::leaving(open, exit);
+    State {
+        counts: Counts {
+            bars_seen: n.bars_seen,
+            rows_held: n.rows_held,
+            equity_points: n.equity_points,
+            trades,
+        },
+        order,
+        position,
+        last,
+    }
+}
+
+// The figures over the points and trades that the rooms hold.
+fn measure(s: Settings, equity: &[u64], points: usize, trades: &[u64], count: usize) -> Metrics
+    ensures { λ r. ⌜ r ≡ measured s (now (equity .entry)) points (now (trades .entry)) count ⌝ }
+{
+    let marked = record::first_records(equity, points, judge::rooms::POINT_WORDS);
+    let closed = record::first_records(trades, count, judge::rooms::TRADE_WORDS);
+    metrics::metrics_of(s.capital, marked, closed)
+}
+
+// The end of a run that was judged fine.
+pub(crate) fn conclude(
+    s: Settings,
+    t: State,
+    rows: &[u64],
+    equity: &[u64],
+    trades: &mut [u64],
+) -> Ended
+    ensures { λ r. ⌜ Is Ended (ended s t (record { rows = now (rows .entry); equity = now (equity .entry); trades = now (trades .entry) })) r (now (rows .entry)) (now (equity .entry)) (now (trades .exit)) ⌝ }
+{
+    let n = t.counts;
+    let exit = last_exit(s, t);
+    let count = account::book(trades, n.trades, exit);
+    let state = end_state(t, exit, count);
+    let metrics = measure(s, equity, n.equity_points, trades, count);
+    Ended { state, metrics }
+}

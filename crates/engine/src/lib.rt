@@ -1,0 +1,151 @@
+// One bar, and the end of a run: the Rust's engine.rs. A step fills the working order, records the row, looks for exits
+// inside the bar, charges funding, marks the equity and decides, in that order.
+mod account;
+mod decide;
+mod ending;
+mod record;
+
+ghost use mathlib.Core.Path.{_≡_};
+ghost use Rattle.engine.specs.Finish.{finishOf};
+ghost use Rattle.engine.specs.Step.{Ready, Is, stepped, stepOf};
+use judge::Counts;
+use judge::Last;
+use judge::Settings;
+use judge::State;
+use judge::Verdict;
+use metrics::Metrics;
+
+// What a step gives: the new state, or a refusal's number and place with the state that was given.
+pub enum Answer {
+    Refused(u64, u64, State),
+    Done(State),
+}
+
+// What finish gives: the last state and the figures, or a refusal with the state that was given.
+pub enum Finished {
+    Refused(u64, u64, State),
+    Done(State, Metrics),
+}
+
+// The phases in order, for a step that was judged fine.
+fn advance<'a>(
+    s: Settings,
+    t: State,
+    bar: &[u64],
+    rows: &mut [u64],
+    equity: &mut [u64],
+    trades: &mut [u64],
+    entry: &[u8],
+    exit: &'a [u8],
+    short_entry: &[u8],
+    short_exit: &'a [u8],
+) -> State
+    requires { ⌜ Ready s t ⌝ }
+    ensures { λ r. ⌜ Is State (stepped s t (now (bar .entry)) (record { rows = now (rows .entry); equity = now (equity .entry); trades = now (trades .entry) }) (record { entry = now (entry .entry); «exit» = now («exit» .entry); «short_entry» = now («short_entry» .entry); «short_exit» = now («short_exit» .entry) })) r (now (rows .exit)) (now (equity .exit)) (now (trades .exit)) ⌝ }
+{
+    let n = t.counts;
+    let order = t.order;
+    let position = t.position;
+    let number = n.bars_seen;
+    let candle = judge::bar::candle_of(bar);
+    let filled = account::fill_working_order(s, order, position, candle, rows, n.rows_held, number);
+    let working = filled.order;
+    let opened = filled.position;
+    let sold = filled.exit;
+    let before = account::book(trades, n.trades, sold);
+    let held = record::record_bar(rows, n.rows_held, bar, s.slots);
+    let left = account::apply_intrabar_exits(s, opened, candle);
+    let open = left.position;
+    let stopped = left.exit;
+    let closed = account::book(trades, before, stopped);
+    let charged = account::charge_funding(s, open, bar);
+    let points = account::mark_equity(equity, n.equity_points, candle, charged);
+    let next = decide::decide_next_action(
+        s,
+        working,
+        charged,
+        number,
+        rows,
+        held,
+        entry,
+        exit,
+        short_entry,
+        short_exit,
+    );
+    let seen = number + 1;
+    State {
+        counts: Counts {
+            bars_seen: seen,
+            rows_held: held,
+            equity_points: points,
+            trades: closed,
+        },
+        order: next,
+        position: charged,
+        last: Last {
+            time: candle.time,
+            close: candle.close,
+        },
+    }
+}
+
+// One bar. Any settings, state, bar and rooms get an answer; a refusal changes nothing lent.
+pub fn step<'a>(
+    s: Settings,
+    t: State,
+    bar: &[u64],
+    rows: &mut [u64],
+    equity: &mut [u64],
+    trades: &mut [u64],
+    entry: &[u8],
+    exit: &'a [u8],
+    short_entry: &[u8],
+    short_exit: &'a [u8],
+) -> Answer
+    ensures { λ r. ⌜ Is Answer (stepOf s t (now (bar .entry)) (record { rows = now (rows .entry); equity = now (equity .entry); trades = now (trades .entry) }) (record { entry = now (entry .entry); «exit» = now («exit» .entry); «short_entry» = now («short_entry» .entry); «short_exit» = now («short_exit» .entry) })) r (now (rows .exit)) (now (equity .exit)) (now (trades .exit)) ⌝ }
+{
+    let verdict = judge::judge_step(
+        s,
+        t,
+        bar,
+        rows,
+        equity,
+        trades,
+        entry,
+        exit,
+        short_entry,
+        short_exit,
+    );
+    match verdict {
+        Verdict::Bad(number, place) => Answer::Refused(number, place, t),
+        Verdict::Fine => Answer::Done(advance(
+            s,
+            t,
+            bar,
+            rows,
+            equity,
+            trades,
+            entry,
+            exit,
+            short_entry,
+            short_exit,
+        )),
+    }
+}
+
+// The end of a run: an open position is closed at the last close, and the figures are made. Of the rows nothing is read:
+// they are handed over so that the state is judged by all the rooms that it counts.
+pub fn finish(s: Settings, t: State, rows: &[u64], equity: &[u64], trades: &mut [u64]) -> Finished
+    ensures { λ r. ⌜ Is Finished (finishOf s t (record { rows = now (rows .entry); equity = now (equity .entry); trades = now (trades .entry) })) r (now (rows .entry)) (now (equity .entry)) (now (trades .exit)) ⌝ }
+{
+    let verdict = judge::judge_finish(s, t, rows, equity, trades);
+    match verdict {
+        Verdict::Bad(number, place) => Finished::Refused(number, place, t),
+        Verdict::Fine => {
+            let ended = ending::conclude(s, t, rows, equity, trades);
+            let state = ended.state;
+            let metrics = ended.metrics;
+            Finished::Done(state, metrics)
+        }
+    }
+}

@@ -1,0 +1,71 @@
+// The row of a bar, and the rows that a room holds.
+ghost use mathlib.Core.Path.{_≡_};
+ghost use Prim.Native.Nat.{_+_, _*_, _<_, _≤_};
+ghost use lib.ListN.{length, take};
+ghost use Rattle.rows.specs.Room.{withRow, heldWith};
+ghost use Rattle.engine.specs.Record.{rowWord, rowOf, heldRows};
+
+// The words of the widest row, of 64 slots.
+const MOST_WORDS: usize = 71;
+
+// The first n records of a list, each of so many words; all where there are fewer.
+pub(crate) fn first_records(list: &[u64], n: usize, words: usize) -> &[u64]
+    requires { ⌜ 0 < words ⌝ }
+    ensures { λ r. ⌜ now r ≡ take (n * words) (now (list .entry)) ⌝ }
+{
+    if list.len() / words < n {
+        return list;
+    }
+    let end = n * words;
+    &list[..end]
+}
+
+// The rows that a room holds.
+pub(crate) fn held_rows(rows: &[u64], slots: usize, held: usize) -> &[u64]
+    requires { ⌜ slots ≤ 64 ⌝ }
+    ensures { λ r. ⌜ now r ≡ heldRows slots held (now (rows .entry)) ⌝ }
+{
+    first_records(rows, held, rows::FIXED + slots)
+}
+
+// Word j of the row of a bar.
+fn row_word(bar: &[u64], j: usize) -> u64
+    requires { ⌜ j < 71 ⌝ }
+    ensures { λ r. ⌜ r ≡ rowWord (now (bar .entry)) j ⌝ }
+{
+    let word = rows::word_from(bar, 0, j);
+    if j < rows::FIXED {
+        return word;
+    }
+    let mask = rows::word_from(bar, 0, rows::MASK);
+    let slot = j - rows::FIXED;
+    if (mask >> slot) % 2 == 1 {
+        return word;
+    }
+    0
+}
+
+// The row of a bar, with nothing after it.
+fn row_of(bar: &[u64], slots: usize) -> [u64; 71]
+    requires { ⌜ slots ≤ 64 ⌝ }
+    ensures { λ r. ⌜ (length r ≡ 71) × (take (7 + slots) r ≡ rowOf slots (now (bar .entry))) ⌝ }
+{
+    let width = rows::FIXED + slots;
+    let mut row = [0u64; MOST_WORDS];
+    let mut j: usize = 0;
+    while j < width {
+        row[j] = row_word(bar, j);
+        j += 1;
+    }
+    row
+}
+
+// Adds the bar's row to a room that holds `held` rows; the result is how many it holds then.
+pub(crate) fn record_bar(rows: &mut [u64], held: usize, bar: &[u64], slots: usize) -> usize
+    requires { ⌜ slots ≤ 64 ⌝ }
+    ensures { λ r. ⌜ (r ≡ heldWith (now (rows .entry)) held (rowOf slots (now (bar .entry)))) × (now (rows .exit) ≡ withRow (now (rows .entry)) held (rowOf slots (now (bar .entry)))) ⌝ }
+{
+    let row = row_of(bar, slots);
+    let width = rows::FIXED + slots;
+    rows::room::push(rows, held, &row[..width])
+}

@@ -1,0 +1,32 @@
+-- A bad step of a list is one of its at most 1,024.
+use Prim.Native.Nat.{ℕ, zero, suc, _+_, _≤_, _<_, _%_}
+use mathlib.Core.Path.{_≡_, refl}
+use mathlib.Core.Bool.{Bool, true, false, cond}
+use mathlib.Core.List.{List}
+use native.Mathlib.Omega.{arith}
+use borrow.Author.Tests.{ltb-false}
+use lib.ListN.{length}
+use lib.Dec.{eqb, ltb}
+use Rattle.steps.specs.declared.Formed.{Formed}
+use Rattle.steps.specs.declared.Formed.the-variants.{Well, Bad}
+use Rattle.steps.specs.Bytes.{stepAt, stepsIn}
+use Rattle.steps.specs.WellFormed.{goodStep, formedFrom, formed}
+
+-- one of the m steps from place p on
+among : (K D : ℕ) (bs : List ℕ) (p m q : ℕ) → formedFrom K D bs p m ≡ Bad q → q < p + m
+unfolding formedFrom
+among K D bs p zero q e = absurd (let z : _≡_ {A = ℕ} 0 1 = cc in omega arith)
+among K D bs p (suc m) q e = go (goodStep K D m (stepAt bs p)) (among K D bs (p + 1) m q) e
+  where
+    go : (b : Bool) → (formedFrom K D bs (p + 1) m ≡ Bad q → q < p + 1 + m) → cond b (formedFrom K D bs (p + 1) m) (Bad p) ≡ Bad q → q < p + suc m
+    go true ih h = omega (arith, ih h)
+    go false ih h = let z : p ≡ q = cc in omega arith
+
+pub bad-below : (K D : ℕ) (bs : List ℕ) (q : ℕ) → formed K D bs ≡ Bad q → q < 1024
+unfolding formed
+bad-below K D bs q e = go (eqb (length bs % 16) 0) (ltb 1024 (stepsIn bs)) refl e
+  where
+    go : (a b : Bool) → ltb 1024 (stepsIn bs) ≡ b → cond a (cond b (Bad 0) (formedFrom K D bs 0 (stepsIn bs))) (Bad 0) ≡ Bad q → q < 1024
+    go false b d h = let z : 0 ≡ q = cc in omega arith
+    go true true d h = let z : 0 ≡ q = cc in omega arith
+    go true false d h = omega (arith, among K D bs 0 (stepsIn bs) q h, ltb-false 1024 (stepsIn bs) d)

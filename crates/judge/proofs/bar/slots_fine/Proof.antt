@@ -1,0 +1,93 @@
+-- The mask is halved, so that its lowest bit is bit k; all bits below k are fine. Assumes nothing.
+use Prim.Native.Nat.{ℕ, suc, _+_, _-_, _/_, _^_, _≤_, _<_}
+use mathlib.Core.Path.{_≡_, refl, sym, ap, _∙_}
+use mathlib.Core.Bool.{Bool, true, false}
+use native.Mathlib.Nat.{div-one}
+use native.Mathlib.Omega.{arith}
+use borrow.Author.Needs.{needs}
+use lib.ListN.{getD}
+use Rattle.judge.specs.Bar.{every, slotFine, slotsFine}
+use Rattle.judge.proofs.Bits.{every-more, halved, all-fine, one-bad}
+use Rattle.judge.proofs.bar.slots_fine.Statement.{statement}
+use Rattle.judge.proofs.bar.slots_fine.Tie as tie
+use Rattle.judge.proofs.bar.slots_fine.Reads as reads
+use Rattle.judge.proofs.bar.slots_fine.Lts as lts
+use Rattle.judge.proofs.bar.slot_fine.Reads as slot-fine-reads
+use Rattle.rows.proofs.word_from.Reads as word-from-reads
+
+abbrev Inv-loop : tie.InvT-loop
+Inv-loop bar slots left₀ k₀ left k = (k ≤ 64) × (left ≡ getD bar 6 0 / 2 ^ k) × (every k (slotFine slots bar) ≡ true)
+
+abbrev μ-loop : tie.MeasureT-loop
+μ-loop bar slots left₀ k₀ left k = 64 - k
+
+-- src/bar.rt:60:9
+word-from-requires : tie.Need-word-from-requires Inv-loop μ-loop
+word-from-requires c κs = search needs
+
+-- src/bar.rt:62:5
+loop-holds : tie.Need-loop-holds Inv-loop μ-loop
+unfolding every
+loop-holds c = (omega arith, c .word-from .ensures ∙ sym (div-one (getD (c .before .before .args .bar .now) 6 0)), refl)
+
+-- src/bar.rt:64:13
+returns : tie.Need-returns Inv-loop μ-loop
+returns c =
+    let l = c .before .before in
+    let a = l .before .before .before .args in
+    sym (all-fine (a .slots) (a .bar .now) (l .loop .k) (l .loop .inv .0) (l .loop .inv .2) (sym (l .loop .inv .1) ∙ c .if1 .taken))
+
+-- src/bar.rt:66:13
+slot-fine-requires : tie.Need-slot-fine-requires Inv-loop μ-loop
+slot-fine-requires c κs = search needs
+
+-- src/bar.rt:67:13
+returns-2 : tie.Need-returns-2 Inv-loop μ-loop
+returns-2 c =
+    let l = c .before .before .before .before in
+    let a = l .before .before .before .args in
+    sym (one-bad (a .slots) (a .bar .now) (l .loop .k) (c .before .before .before .loop-test .taken)
+    (rw (← l .loop .inv .1) (sym (c .before .slot-fine .ensures) ∙ c .if2 .left)))
+
+-- src/bar.rt:70:9
+add-k : tie.Need-add-k Inv-loop μ-loop
+add-k c = search needs
+
+-- src/bar.rt:62:5
+loop-less : tie.Need-loop-less Inv-loop μ-loop
+loop-less c = search needs
+
+-- src/bar.rt:62:5
+loop-again : tie.Need-loop-again Inv-loop μ-loop
+loop-again c =
+    let l = c .before .before .before .before in
+    let a = l .before .before .before .args in (
+      search needs,
+      ap (λ (m : ℕ). m / 2) (l .loop .inv .1) ∙ halved (getD (a .bar .now) 6 0) (l .loop .k),
+      every-more (slotFine (a .slots) (a .bar .now)) (l .loop .k) (l .loop .inv .2)
+          (rw (← l .loop .inv .1) (sym (c .before .slot-fine .ensures) ∙ c .if2 .taken)),
+    )
+
+-- src/bar.rt:57:1
+returns-3 : tie.Need-returns-3 Inv-loop μ-loop
+unfolding slotsFine
+returns-3 c =
+    let l = c .before in
+    let n : l .loop .k ≡ 64 = omega (arith, c .loop-test .left) in
+    sym (sym (ap (λ (m : ℕ). every m (slotFine (l .before .before .before .args .slots) (l .before .before .before .args .bar .now))) n) ∙ l .loop .inv .2)
+
+pub slots-fine-spec : {M : Type 1} → statement M
+slots-fine-spec =
+    tie.close
+    (tie.spec
+    Inv-loop
+    μ-loop
+    word-from-requires
+    loop-holds
+    returns
+    slot-fine-requires
+    add-k
+    loop-less
+    loop-again
+    returns-2
+    returns-3)
