@@ -1,0 +1,46 @@
+-- The definition goes by the same cases.
+use Rattle.capi.specs.State.{orderDelay}
+use borrow.Author.Needs.{needs}
+use Rattle.capi.proofs.state.order_delay.Statement.{statement}
+use Rattle.capi.proofs.state.order_delay.Tie as tie
+
+enum-told : tie.Need-enum-told
+enum-told c = search needs
+
+enum-known-order : tie.Need-enum-known-order
+enum-known-order c = search needs
+
+enum-known-order-2 : tie.Need-enum-known-order-2
+enum-known-order-2 c = search needs
+
+enum-known-order-3 : tie.Need-enum-known-order-3
+enum-known-order-3 c = search needs
+
+returns : tie.Need-returns
+unfolding orderDelay
+returns c = simp (c .enum-told .given .1)
+
+returns-2 : tie.Need-returns-2
+unfolding orderDelay
+returns-2 c = simp (c .before .order .given .1)
+
+returns-3 : tie.Need-returns-3
+unfolding orderDelay
+returns-3 c = simp (c .before .order2 .given .1)
+
+returns-4 : tie.Need-returns-4
+unfolding orderDelay
+returns-4 c = simp (c .before .order3 .given .1)
+
+pub order-delay-spec : {M : Type 1} → statement M
+order-delay-spec =
+    tie.close
+    (tie.spec
+    enum-told
+    enum-known-order
+    enum-known-order-2
+    enum-known-order-3
+    returns
+    returns-2
+    returns-3
+    returns-4)

@@ -1,0 +1,22 @@
+-- The call that begins a run. Definitions only.
+use Prim.Native.Nat.{ℕ}
+use mathlib.Core.List.{List}
+use Rattle.rows.specs.Room.{over}
+use Rattle.judge.specs.declared.Verdict.{Verdict}
+use Rattle.judge.specs.declared.Verdict.the-variants.{Fine, Bad}
+use Rattle.judge.specs.State.{freshState}
+use Rattle.capi.specs.Words.{answerWord, wordsJudged}
+use Rattle.capi.specs.Settings.{settingsOf}
+use Rattle.capi.specs.State.{stateWords}
+
+-- the answer, and the room of the state as it is left
+pub record FreshCall : Type 0 where
+  pub answer : ℕ
+  pub state : List ℕ
+
+unfoldable pub freshBy : Verdict → List ℕ → List ℕ → FreshCall
+freshBy (Bad number place) settings state = record { answer = answerWord number place; state = state }
+freshBy Fine settings state = record { answer = 0; state = over state 0 (stateWords (freshState (settingsOf settings))) }
+
+unfoldable pub freshCall : List ℕ → List ℕ → FreshCall
+freshCall settings state = freshBy (wordsJudged settings state Fine) settings state

@@ -1,0 +1,13 @@
+pub mod Words
+pub mod Answers
+pub mod Settings
+pub mod State
+pub mod RoundTrip
+pub mod Fresh
+pub mod Figures
+pub mod Run
+pub mod Tables
+pub mod Bars
+pub mod Finish
+pub mod Refused
+pub mod Zero

@@ -1,0 +1,34 @@
+-- "A refusal returns number, place and the state it was given, and changes nothing lent."
+use Prim.Native.Nat.{ℕ}
+use mathlib.Core.Path.{_≡_, refl}
+use mathlib.Core.List.{List}
+use Rattle.judge.specs.declared.State.{State}
+use Rattle.judge.specs.declared.Verdict.{Verdict}
+use Rattle.judge.specs.declared.Verdict.the-variants.{Fine, Bad}
+use Rattle.judge.specs.Judgement.{stepJudged}
+use Rattle.judge.specs.Lists.{Lists}
+use Rattle.judge.specs.Rooms.{Rooms}
+use Rattle.engine.specs.Step.{With, stepped, answered, stepOf}
+use Rattle.capi.specs.Settings.{settingsOf}
+use Rattle.capi.specs.State.{stateOf}
+use Rattle.capi.specs.Bars.{StepCall, lentJudged, stepRefused, stepBy, stepLent, stepCall}
+
+-- what was lent to the call is as it was
+pub record Kept (c : StepCall) (words : List ℕ) (lent : Rooms) : Type 0 where
+  pub state : c .state ≡ words
+  pub rooms : c .rooms ≡ lent
+
+by-verdicts : (lent judged : Verdict) (t : State) (m : Rooms) (done : With State) (state : List ℕ)
+    → (stepLent lent (answered judged t m done) state m .answer ≡ 0 → ⊥) → Kept (stepLent lent (answered judged t m done) state m) state m
+unfolding stepLent stepBy stepRefused answered
+by-verdicts (Bad number place) judged t m done state refused = record { state = refl; rooms = refl }
+by-verdicts Fine (Bad number place) t m done state refused = record { state = refl; rooms = refl }
+by-verdicts Fine Fine t m done state refused = absurd (refused refl)
+
+-- a bar that is answered with anything but 0 leaves the state's words and every room as they were
+pub step-keeps : (settings state bar : List ℕ) (rooms : Rooms) (lists : Lists)
+    → (stepCall settings state bar rooms lists .answer ≡ 0 → ⊥) → Kept (stepCall settings state bar rooms lists) state rooms
+unfolding stepCall stepOf
+step-keeps settings state bar rooms lists refused =
+    by-verdicts (lentJudged settings state (rooms .rows) Fine) (stepJudged (settingsOf settings) (stateOf state) bar rooms lists)
+    (stateOf state) rooms (stepped (settingsOf settings) (stateOf state) bar rooms lists) state refused

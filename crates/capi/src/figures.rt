@@ -1,0 +1,54 @@
+// The nine metrics of lists of words, and the square root of a word.
+ghost use mathlib.Core.Path.{_≡_};
+ghost use Rattle.rows.specs.Room.{over};
+ghost use Rattle.metrics.specs.Figures.{wordsOf};
+ghost use Rattle.floats.specs.Floats.{wordOf, floatOf};
+ghost use Rattle.floats.specs.Sqrt.{sqrt};
+ghost use Rattle.capi.specs.Figures.{metricsCall};
+use crate::words::answer_word;
+use crate::words::judge_metrics;
+use judge::Verdict;
+use metrics::Answer;
+use metrics::Metrics;
+
+// Writes the nine metrics over the first words of a room; nothing where it is shorter.
+pub(crate) fn put_metrics(room: &mut [u64], m: Metrics)
+    ensures { λ _. ⌜ now (room .exit) ≡ over (now (room .entry)) 0 (wordsOf m) ⌝ }
+{
+    let words = metrics::words_of(m);
+    rows::room::put(room, 0, &words);
+}
+
+// The metrics of equity points and trades.
+#[no_mangle]
+pub extern "C" fn ysh_metrics(
+    initial: u64,
+    equity: &[u64],
+    trades: &[u64],
+    metrics: &mut [u64],
+) -> u64
+    ensures { λ r. ⌜ metricsCall initial (now (equity .entry)) (now (trades .entry)) (now (metrics .entry)) ≡ record { answer = r; metrics = now (metrics .exit) } ⌝ }
+{
+    let lent = judge_metrics(metrics);
+    match lent {
+        Verdict::Bad(number, place) => answer_word(number, place),
+        Verdict::Fine => {
+            let computed = metrics::compute(floats::float_of(initial), equity, trades);
+            match computed {
+                Answer::Refused(number, place) => answer_word(number, place),
+                Answer::Done(m) => {
+                    put_metrics(metrics, m);
+                    0
+                }
+            }
+        }
+    }
+}
+
+// The square root of a float's word.
+#[no_mangle]
+pub extern "C" fn ysh_root(word: u64) -> u64
+    ensures { λ r. ⌜ r ≡ wordOf (sqrt (floatOf word)) ⌝ }
+{
+    floats::word_of(floats::root::sqrt(floats::float_of(word)))
+}
