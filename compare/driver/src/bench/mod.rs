@@ -1,0 +1,17 @@
+//! `driver bench`: the C interface against the Rust original, on the same bars in one run, as tables in markdown.
+
+mod engine;
+mod figures;
+mod parts;
+mod rules;
+mod setup;
+mod timing;
+
+/// Measures everything; always agrees.
+pub fn bench() -> bool {
+    engine::bench();
+    parts::bench();
+    rules::bench();
+    figures::bench();
+    true
+}

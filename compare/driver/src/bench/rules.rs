@@ -1,0 +1,112 @@
+//! Rules alone: `ysh_run` over the window, and `ysh_rule`, against `eval_condition`.
+
+use std::hint::black_box;
+
+use oracle::registry::slot_name;
+use oracle::rules::{eval_condition, BarRow, RuleState};
+
+use super::setup::{Size, DEPTHS};
+use super::timing::{each, nanoseconds, ratio};
+use crate::calls::{self, Position};
+use crate::case::row_words;
+use crate::ours::translated;
+
+const BLOCK: usize = 20_000;
+/// Of the slower calls.
+const FEW: usize = 1_000;
+
+const LONG: Position = Position {
+    qty: 0x3ff0_0000_0000_0000,
+    entered: 1,
+    entry_bar: 3,
+    bars_seen: 9,
+};
+
+fn row(size: Size, tree: usize, name: &str) {
+    let case = size.case();
+    let bars = &case.bars[..size.depth];
+    let rows: Vec<u64> = bars.iter().flat_map(row_words).collect();
+    let (table, slots) = (case.table.bytes(), case.table.slots as u64);
+    let list = translated(&table, tree as u64).expect("an accepted table");
+    let named = |bar: &oracle::lists::runs::Bar| {
+        let slots = bar.slots.iter().enumerate();
+        slots
+            .filter_map(|(k, slot)| slot.map(|x| (slot_name(k).as_str().into(), x)))
+            .collect()
+    };
+    let history: Vec<BarRow> = bars
+        .iter()
+        .map(|bar| BarRow {
+            candle: bar.candle,
+            values: named(bar),
+        })
+        .collect();
+    let condition = case.table.trees[tree].as_ref().expect("a tree that is there");
+    let state = RuleState {
+        in_position: true,
+        bars_since_entry: Some(5),
+    };
+    let (mut answer, mut visits) = (0, 0);
+    let steps = each(BLOCK, || {
+        for _ in 0..BLOCK {
+            let window = (slots, size.depth as u64);
+            calls::run(
+                black_box(&list),
+                black_box(&rows),
+                window,
+                LONG,
+                &mut answer,
+                &mut visits,
+            );
+        }
+    });
+    let plain = each(FEW, || {
+        for _ in 0..FEW {
+            calls::rule(black_box(&table), tree as u64, black_box(&rows), LONG, &mut answer);
+        }
+    });
+    let rust = each(BLOCK, || {
+        for _ in 0..BLOCK {
+            black_box(eval_condition(
+                black_box(condition),
+                black_box(&history),
+                history.len() - 1,
+                state,
+            ));
+        }
+    });
+    println!(
+        "| {}, {name} | {} | {} | {visits} | {} | {} | {} | {} |",
+        size.name(),
+        size.depth,
+        size.slots,
+        nanoseconds(steps),
+        nanoseconds(plain),
+        nanoseconds(rust),
+        ratio(steps, rust)
+    );
+}
+
+pub fn bench() {
+    println!("## Rules alone\n");
+    println!("Nanoseconds an answer. `ysh_run` looks the list through first (15); `ysh_rule` checks the whole table first (1 to 9).\n");
+    println!("| tree | D | K | visits | ysh_run | ysh_rule | eval_condition | ysh_run / Rust |");
+    println!("|---|---|---|---|---|---|---|---|");
+    for large in [false, true] {
+        for depth in DEPTHS {
+            for slots in [2, 64] {
+                row(Size { large, depth, slots }, 0, "entry");
+            }
+        }
+        row(
+            Size {
+                large,
+                depth: 200,
+                slots: 2,
+            },
+            1,
+            "exit",
+        );
+    }
+    println!();
+}

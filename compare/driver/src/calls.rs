@@ -1,0 +1,282 @@
+//! The calls of include/yshturpa.h, on slices.
+//!
+//! Every call but `root` answers one word: 0 where it did its work, else a refusal's number times 2^32 plus its place. What a call
+//! writes is lent to it, so that a caller can see what it did to it.
+
+/// Words of the records and rooms.
+pub const SETTING_WORDS: usize = 21;
+pub const STATE_WORDS: usize = 17;
+pub const POINT_WORDS: usize = 2;
+pub const TRADE_WORDS: usize = 8;
+pub const METRIC_WORDS: usize = 9;
+pub const STEP_BYTES: usize = 16;
+/// Bytes of step room that a node takes.
+pub const NODE_STEP_BYTES: usize = 64;
+
+pub fn bar_words(slots: usize) -> usize {
+    10 + slots
+}
+
+pub fn row_words(slots: usize) -> usize {
+    7 + slots
+}
+
+/// Those of the state's words that are looked at one by one.
+pub mod state {
+    pub const BARS_SEEN: usize = 0;
+    pub const ROWS_HELD: usize = 1;
+    pub const EQUITY_POINTS: usize = 2;
+    pub const TRADES: usize = 3;
+    pub const ORDER: usize = 4;
+    pub const ORDER_DELAY: usize = 5;
+    pub const ENTERED: usize = 6;
+    pub const ENTRY_BAR: usize = 7;
+    pub const CASH: usize = 8;
+    pub const QTY: usize = 9;
+    pub const FEES_PAID: usize = 13;
+}
+
+/// What a rule reads of the position.
+#[derive(Debug, Clone, Copy)]
+pub struct Position {
+    pub qty: u64,
+    pub entered: u64,
+    pub entry_bar: u64,
+    pub bars_seen: u64,
+}
+
+/// The rooms and the bar of a step, and its four lists.
+pub struct Step<'a> {
+    pub settings: &'a [u64],
+    pub state: &'a mut [u64],
+    pub bar: &'a [u64],
+    pub rows: &'a mut [u64],
+    pub equity: &'a mut [u64],
+    pub trades: &'a mut [u64],
+    pub lists: [&'a [u8]; 4],
+}
+
+/// The rooms of a finish.
+pub struct Finish<'a> {
+    pub settings: &'a [u64],
+    pub state: &'a mut [u64],
+    pub rows: &'a [u64],
+    pub equity: &'a [u64],
+    pub trades: &'a mut [u64],
+    pub metrics: &'a mut [u64],
+}
+
+mod c {
+    extern "C" {
+        pub fn ysh_check(table: *const u8, table_len: usize, nodes: *mut u64, rows: *mut u64) -> u64;
+        pub fn ysh_depth(table: *const u8, table_len: usize, lookback: u64, rows: *mut u64, bytes: *mut u64) -> u64;
+        pub fn ysh_translate(
+            table: *const u8,
+            table_len: usize,
+            tree: u64,
+            room: *mut u8,
+            room_len: usize,
+            used: *mut u64,
+        ) -> u64;
+        pub fn ysh_fresh(settings: *const u64, settings_len: usize, state: *mut u64, state_len: usize) -> u64;
+        pub fn ysh_step(
+            settings: *const u64,
+            settings_len: usize,
+            state: *mut u64,
+            state_len: usize,
+            bar: *const u64,
+            bar_len: usize,
+            rows: *mut u64,
+            rows_len: usize,
+            equity: *mut u64,
+            equity_len: usize,
+            trades: *mut u64,
+            trades_len: usize,
+            entry: *const u8,
+            entry_len: usize,
+            exit: *const u8,
+            exit_len: usize,
+            short_entry: *const u8,
+            short_entry_len: usize,
+            short_exit: *const u8,
+            short_exit_len: usize,
+        ) -> u64;
+        pub fn ysh_finish(
+            settings: *const u64,
+            settings_len: usize,
+            state: *mut u64,
+            state_len: usize,
+            rows: *const u64,
+            rows_len: usize,
+            equity: *const u64,
+            equity_len: usize,
+            trades: *mut u64,
+            trades_len: usize,
+            metrics: *mut u64,
+            metrics_len: usize,
+        ) -> u64;
+        pub fn ysh_rule(
+            table: *const u8,
+            table_len: usize,
+            tree: u64,
+            rows: *const u64,
+            rows_len: usize,
+            qty: u64,
+            entered: u64,
+            entry_bar: u64,
+            bars_seen: u64,
+            answer: *mut u64,
+        ) -> u64;
+        pub fn ysh_run(
+            steps: *const u8,
+            steps_len: usize,
+            rows: *const u64,
+            rows_len: usize,
+            slots: u64,
+            depth: u64,
+            qty: u64,
+            entered: u64,
+            entry_bar: u64,
+            bars_seen: u64,
+            answer: *mut u64,
+            visits: *mut u64,
+        ) -> u64;
+        pub fn ysh_metrics(
+            initial: u64,
+            equity: *const u64,
+            equity_len: usize,
+            trades: *const u64,
+            trades_len: usize,
+            metrics: *mut u64,
+            metrics_len: usize,
+        ) -> u64;
+        pub fn ysh_root(word: u64) -> u64;
+    }
+}
+
+// Each pointer below is a slice's, with its length beside it; slices lent for writing overlap nothing, as Rust has it.
+
+pub fn check(table: &[u8], nodes: &mut u64, rows: &mut u64) -> u64 {
+    unsafe { c::ysh_check(table.as_ptr(), table.len(), nodes, rows) }
+}
+
+pub fn depth(table: &[u8], lookback: u64, rows: &mut u64, bytes: &mut u64) -> u64 {
+    unsafe { c::ysh_depth(table.as_ptr(), table.len(), lookback, rows, bytes) }
+}
+
+pub fn translate(table: &[u8], tree: u64, room: &mut [u8], used: &mut u64) -> u64 {
+    unsafe { c::ysh_translate(table.as_ptr(), table.len(), tree, room.as_mut_ptr(), room.len(), used) }
+}
+
+pub fn fresh(settings: &[u64], state: &mut [u64]) -> u64 {
+    unsafe { c::ysh_fresh(settings.as_ptr(), settings.len(), state.as_mut_ptr(), state.len()) }
+}
+
+pub fn step(with: Step) -> u64 {
+    let [entry, exit, short_entry, short_exit] = with.lists;
+    unsafe {
+        c::ysh_step(
+            with.settings.as_ptr(),
+            with.settings.len(),
+            with.state.as_mut_ptr(),
+            with.state.len(),
+            with.bar.as_ptr(),
+            with.bar.len(),
+            with.rows.as_mut_ptr(),
+            with.rows.len(),
+            with.equity.as_mut_ptr(),
+            with.equity.len(),
+            with.trades.as_mut_ptr(),
+            with.trades.len(),
+            entry.as_ptr(),
+            entry.len(),
+            exit.as_ptr(),
+            exit.len(),
+            short_entry.as_ptr(),
+            short_entry.len(),
+            short_exit.as_ptr(),
+            short_exit.len(),
+        )
+    }
+}
+
+pub fn finish(with: Finish) -> u64 {
+    unsafe {
+        c::ysh_finish(
+            with.settings.as_ptr(),
+            with.settings.len(),
+            with.state.as_mut_ptr(),
+            with.state.len(),
+            with.rows.as_ptr(),
+            with.rows.len(),
+            with.equity.as_ptr(),
+            with.equity.len(),
+            with.trades.as_mut_ptr(),
+            with.trades.len(),
+            with.metrics.as_mut_ptr(),
+            with.metrics.len(),
+        )
+    }
+}
+
+pub fn rule(table: &[u8], tree: u64, rows: &[u64], at: Position, answer: &mut u64) -> u64 {
+    unsafe {
+        c::ysh_rule(
+            table.as_ptr(),
+            table.len(),
+            tree,
+            rows.as_ptr(),
+            rows.len(),
+            at.qty,
+            at.entered,
+            at.entry_bar,
+            at.bars_seen,
+            answer,
+        )
+    }
+}
+
+/// Runs `steps` over rows of `slots` slots, of which the last `depth` count.
+pub fn run(
+    steps: &[u8],
+    rows: &[u64],
+    (slots, depth): (u64, u64),
+    at: Position,
+    answer: &mut u64,
+    visits: &mut u64,
+) -> u64 {
+    unsafe {
+        c::ysh_run(
+            steps.as_ptr(),
+            steps.len(),
+            rows.as_ptr(),
+            rows.len(),
+            slots,
+            depth,
+            at.qty,
+            at.entered,
+            at.entry_bar,
+            at.bars_seen,
+            answer,
+            visits,
+        )
+    }
+}
+
+pub fn metrics(initial: u64, equity: &[u64], trades: &[u64], metrics: &mut [u64]) -> u64 {
+    unsafe {
+        c::ysh_metrics(
+            initial,
+            equity.as_ptr(),
+            equity.len(),
+            trades.as_ptr(),
+            trades.len(),
+            metrics.as_mut_ptr(),
+            metrics.len(),
+        )
+    }
+}
+
+pub fn root(word: u64) -> u64 {
+    unsafe { c::ysh_root(word) }
+}

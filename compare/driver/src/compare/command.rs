@@ -1,0 +1,107 @@
+//! `driver compare SEED RUNS` and `driver replay < runs`.
+
+use std::io::{self, BufRead};
+
+use super::shrink::shrink;
+use super::{compare_case, Mismatch, Plan, Tally};
+use crate::case::Case;
+use crate::cases;
+use crate::progress::Progress;
+
+impl Tally {
+    fn add(&mut self, other: &Self) {
+        self.bars += other.bars;
+        self.rules += other.rules;
+        self.yes += other.yes;
+        self.trades += other.trades;
+        self.reasons.iter_mut().zip(other.reasons).for_each(|(a, b)| *a += b);
+        self.explained.add(&other.explained);
+    }
+
+    fn print(&self) {
+        let [_, signal, stop, trailing, take, liquidation, end] = self.reasons;
+        println!(
+            "trades {}: signal {signal}, stop loss {stop}, trailing stop {trailing}, take profit {take}, \
+             liquidation {liquidation}, end {end}; rule answers {}, of them yes {}",
+            self.trades, self.rules, self.yes
+        );
+        println!(
+            "runs that the Rust as it stands answers alike to the end: {}; parted by an entry of docs/DIFFERENCES.md: {}",
+            self.explained.undivided,
+            self.explained.text()
+        );
+    }
+}
+
+fn show(mismatch: &Mismatch) {
+    let place = mismatch
+        .bar
+        .map_or("before or after the bars".into(), |bar| format!("bar {bar}"));
+    println!("differs from {}, {place}:", mismatch.against);
+    for one in &mismatch.unlike {
+        let floats = (f64::from_bits(one.ours), f64::from_bits(one.theirs));
+        println!(
+            "  {}: ours {:016x} ({:e}), theirs {:016x} ({:e})",
+            one.what, one.ours, floats.0, one.theirs, floats.1
+        );
+    }
+}
+
+fn report(case: &Case, plan: Plan, mismatch: Mismatch) {
+    show(&mismatch);
+    let (case, mismatch) = shrink(case, plan, mismatch);
+    println!("smallest case found, {} bars:", case.bars.len());
+    show(&mismatch);
+    println!("{:?}\n{:?}", case.settings, case.table.trees);
+    case.lines().iter().for_each(|line| println!("{line}"));
+}
+
+/// Compares `runs` random cases; whether all agree.
+pub fn compare(seed: u64, runs: u64) -> bool {
+    let mut tally = Tally::default();
+    let mut progress = Progress::new("compare", runs);
+    for number in 0..runs {
+        let (case, plan) = cases::some_case(seed, number);
+        match compare_case(&case, plan) {
+            Ok(more) => tally.add(&more),
+            Err(mismatch) => {
+                println!("seed {seed}, run {number}");
+                report(&case, plan, mismatch);
+                println!(
+                    "compare: seed {seed}, {} runs, {} bars compared, 1 differs",
+                    number, tally.bars
+                );
+                return false;
+            }
+        }
+        progress.at(number + 1, || format!("{} bars", tally.bars));
+    }
+    tally.print();
+    println!(
+        "compare: seed {seed}, {runs} runs, {} bars compared, 0 differ",
+        tally.bars
+    );
+    true
+}
+
+/// Compares the runs of a list on standard input, as compare/vectors has them.
+pub fn replay() -> io::Result<bool> {
+    let lines: Vec<String> = io::stdin().lock().lines().collect::<io::Result<_>>()?;
+    let cases = Case::of_lines(&lines);
+    let plan = Plan { spare: 1, ask_every: 1 };
+    let mut tally = Tally::default();
+    for (number, case) in cases.iter().enumerate() {
+        match compare_case(case, plan) {
+            Ok(more) => tally.add(&more),
+            Err(mismatch) => {
+                println!("run {number} of the list");
+                report(case, plan, mismatch);
+                println!("replay: {} bars compared, 1 differs", tally.bars);
+                return Ok(false);
+            }
+        }
+    }
+    tally.print();
+    println!("replay: {} runs, {} bars compared, 0 differ", cases.len(), tally.bars);
+    Ok(true)
+}

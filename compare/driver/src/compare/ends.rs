@@ -1,0 +1,67 @@
+//! What is compared before the first bar and after the last: the depth of the window, and the end of a run.
+
+use oracle::spec::Sizing;
+
+use super::explain::{self, Entry};
+use super::{Mismatch, Tally, RUST};
+use crate::calls;
+use crate::case::Case;
+use crate::ours::done;
+use crate::theirs::{self, Ending};
+use crate::view::{unlike, METRICS, NAMES};
+
+const DEPTH: &str = "the depth of the window";
+
+/// The depth that the call gives is the original's, and the bytes are those of so many rows.
+pub fn depth_agrees(case: &Case) -> Result<(), Mismatch> {
+    let table = case.table.bytes();
+    let (mut nodes, mut rows, mut deep, mut bytes) = (0, 0, 0, 0);
+    let refused = |refusal| Mismatch::refused(None, DEPTH, refusal);
+    done(calls::check(&table, &mut nodes, &mut rows)).map_err(refused)?;
+    let lookback = match case.settings.sizing {
+        Sizing::VolTarget { lookback, .. } => lookback.into(),
+        _ => 0,
+    };
+    done(calls::depth(&table, lookback, &mut deep, &mut bytes)).map_err(refused)?;
+    let theirs = theirs::depth(case) as u64;
+    let width = calls::row_words(case.table.slots) as u64;
+    let parted = unlike(
+        &["nodes", "rows of the rules", "rows", "bytes"],
+        &[nodes, rows, deep, bytes],
+        &[
+            (table.len() / 16 - 1) as u64,
+            case.table.depth() as u64,
+            theirs,
+            theirs * width * 8,
+        ],
+    );
+    match parted.is_empty() {
+        true => Ok(()),
+        false => Err(Mismatch::new(None, DEPTH, parted)),
+    }
+}
+
+/// A run ends alike; against the text as it stands a profit factor of −0.0 is entry 5's, and `signs` says that entry 6 was met.
+pub fn same_ending(
+    against: &'static str,
+    ours: &Ending,
+    theirs: &Ending,
+    signs: bool,
+    tally: &mut Tally,
+) -> Result<(), Mismatch> {
+    let mut parted = unlike(&METRICS, &ours.metrics, &theirs.metrics);
+    parted.extend(unlike(&NAMES[NAMES.len() - 8..], &ours.newest, &theirs.newest));
+    parted.extend(unlike(
+        &["trades", "fees paid"],
+        &[ours.trades, ours.fees_paid],
+        &[theirs.trades, theirs.fees_paid],
+    ));
+    if against == RUST && explain::is_profit_factor(&parted) {
+        tally.explained.count(Entry::ProfitFactor);
+        return Ok(());
+    }
+    match parted.is_empty() || signs && explain::are_zero_signs(&parted) {
+        true => Ok(()),
+        false => Err(Mismatch::new(None, against, parted)),
+    }
+}

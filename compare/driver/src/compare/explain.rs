@@ -1,0 +1,94 @@
+//! The entries of docs/DIFFERENCES.md, and whether a bar met one.
+//!
+//! Up to the bar on which the two part, both hold the same; so what parts them was met on that very bar.
+
+use oracle::lists::runs::Bar;
+
+use crate::case::Case;
+use crate::view::{Unlike, View};
+
+/// The entries that can part a run, under their numbers.
+#[derive(Debug, Clone, Copy, PartialEq, Eq)]
+pub enum Entry {
+    AbsentShortExit = 1,
+    WorkingExit = 2,
+    FlatEntryBar = 3,
+    FundingNotSupplied = 4,
+    ProfitFactor = 5,
+    ZeroSigns = 6,
+}
+
+/// How many runs each entry parted; entry 6 does not end a comparison.
+#[derive(Debug, Clone, Copy, Default)]
+pub struct Explained {
+    entries: [u64; 7],
+    /// Runs in which the text as it stands agreed to the end.
+    pub undivided: u64,
+}
+
+impl Explained {
+    pub fn count(&mut self, entry: Entry) {
+        self.entries[entry as usize] += 1;
+    }
+
+    pub fn add(&mut self, other: &Self) {
+        self.entries.iter_mut().zip(other.entries).for_each(|(a, b)| *a += b);
+        self.undivided += other.undivided;
+    }
+
+    pub fn text(&self) -> String {
+        let each: Vec<String> = (1..7).map(|n| format!("{n}: {}", self.entries[n])).collect();
+        each.join(", ")
+    }
+}
+
+/// Whether bar `i` met what the entry speaks of; `view` is what is seen of our run after it.
+pub fn met(entry: Entry, case: &Case, i: usize, view: &View) -> bool {
+    let bar = &case.bars[i];
+    let decides = i >= case.settings.warmup as usize;
+    match entry {
+        Entry::AbsentShortExit => {
+            decides && case.table.trees[3].is_none() && view.in_position() && view.float("qty") < 0.0
+        }
+        Entry::WorkingExit => {
+            // An exit order decided on this bar has the whole delay; one that worked before has counted down.
+            let counted_down = view.word("order delay") < case.settings.delay.into();
+            decides && view.in_position() && view.word("order") == 3 && counted_down
+        }
+        Entry::FlatEntryBar => decides && view.word("entered") == 1 && !view.in_position(),
+        Entry::FundingNotSupplied => case.settings.funding && bar.funding.is_none(),
+        Entry::ProfitFactor => false,
+        Entry::ZeroSigns => has_a_zero_price(bar),
+    }
+}
+
+fn has_a_zero_price(bar: &Bar) -> bool {
+    let c = &bar.candle;
+    [c.open, c.high, c.low].contains(&0.0)
+}
+
+/// Entry 6 shows in the favourable extreme and in the price of an exit, and in nothing but their sign.
+pub fn are_zero_signs(parted: &[Unlike]) -> bool {
+    let sign = |one: &Unlike| matches!(one.what, "extreme" | "trade exit price") && one.is_a_sign_of_zero();
+    parted.iter().all(sign)
+}
+
+/// The entry that parted the text from us on bar `i`, where one was met. Deciding shows in the order alone.
+pub fn parted_by(parted: &[Unlike], case: &Case, i: usize, view: &View) -> Option<Entry> {
+    let (decided, other): (Vec<_>, Vec<_>) = parted
+        .iter()
+        .cloned()
+        .partition(|one| matches!(one.what, "order" | "order delay"));
+    if decided.is_empty() || !are_zero_signs(&other) {
+        return None;
+    }
+    [Entry::AbsentShortExit, Entry::WorkingExit, Entry::FlatEntryBar]
+        .into_iter()
+        .find(|&entry| met(entry, case, i, view))
+}
+
+/// Entry 5: the profit factor alone, +0.0 here and −0.0 there.
+pub fn is_profit_factor(parted: &[Unlike]) -> bool {
+    let minus_zero = (-0.0f64).to_bits();
+    matches!(parted, [one] if one.what == "profit_factor" && one.ours == 0 && one.theirs == minus_zero)
+}

@@ -1,0 +1,249 @@
+//! One case through both sides: after every bar and after finish, everything that can be seen must be the same.
+
+mod command;
+mod ends;
+mod explain;
+mod rules;
+mod shrink;
+
+pub use command::{compare, replay};
+
+use oracle::Reading;
+
+use crate::calls;
+use crate::case::{bar_words, row_words, Case};
+use crate::ours::{Ours, Refusal};
+use crate::theirs::{Ending, Theirs};
+use crate::view::{unlike, Unlike, View, METRICS, NAMES};
+use ends::{depth_agrees, same_ending};
+use explain::{Entry, Explained};
+use rules::Rules;
+
+/// What of a case is compared, beyond what is always compared.
+#[derive(Debug, Clone, Copy)]
+pub struct Plan {
+    /// Rows that the larger room holds beyond D.
+    pub spare: usize,
+    /// Rules are asked on every so many-th bar.
+    pub ask_every: usize,
+}
+
+/// How much was compared.
+#[derive(Debug, Clone, Copy, Default)]
+pub struct Tally {
+    pub bars: u64,
+    pub rules: u64,
+    pub yes: u64,
+    pub trades: u64,
+    pub reasons: [u64; 7],
+    pub explained: Explained,
+}
+
+/// Where the two sides part.
+#[derive(Debug, Clone)]
+pub struct Mismatch {
+    pub bar: Option<usize>,
+    pub against: &'static str,
+    pub unlike: Vec<Unlike>,
+}
+
+impl Mismatch {
+    fn new(bar: Option<usize>, against: &'static str, unlike: Vec<Unlike>) -> Self {
+        Self { bar, against, unlike }
+    }
+
+    fn one(bar: Option<usize>, against: &'static str, what: &'static str, ours: u64, theirs: u64) -> Self {
+        Self::new(bar, against, vec![Unlike { what, ours, theirs }])
+    }
+
+    fn refused(bar: Option<usize>, against: &'static str, refusal: Refusal) -> Self {
+        Self::one(bar, against, "refused", refusal.number << 32 | refusal.place, 0)
+    }
+}
+
+const PAPER: &str = "the Rust by document 01's reading";
+const RUST: &str = "the Rust as it stands";
+const LARGER: &str = "the same run with a larger room for rows";
+const ROWS: &str = "the rows handed over";
+const METRICS_CALL: &str = "the metrics by the call of their own";
+
+/// Compares a case; what was compared, or the first place where the two sides part.
+pub fn compare_case(case: &Case, plan: Plan) -> Result<Tally, Mismatch> {
+    let mut run = Comparison::new(case, plan)?;
+    for i in 0..case.bars.len() {
+        run.bar(i)?;
+    }
+    run.finish()
+}
+
+struct Comparison<'a> {
+    case: &'a Case,
+    plan: Plan,
+    tight: Ours,
+    larger: Ours,
+    paper: Theirs,
+    /// Until it parts from us by a listed difference.
+    rust: Option<Theirs>,
+    rules: Rules<'a>,
+    /// Whether a sign of a zero has parted the two, by entry 6.
+    signs: bool,
+    tally: Tally,
+}
+
+impl<'a> Comparison<'a> {
+    fn new(case: &'a Case, plan: Plan) -> Result<Self, Mismatch> {
+        let depth = case.settings.depth;
+        depth_agrees(case)?;
+        let ours = |rows| Ours::new(case, rows).map_err(|refusal| Mismatch::refused(None, "a fresh run", refusal));
+        Ok(Self {
+            case,
+            plan,
+            tight: ours(depth)?,
+            larger: ours(depth + plan.spare)?,
+            paper: Theirs::new(case, Reading::Paper),
+            rust: Some(Theirs::new(case, Reading::Rust)),
+            rules: Rules::new(case),
+            signs: false,
+            tally: Tally::default(),
+        })
+    }
+
+    fn bar(&mut self, i: usize) -> Result<(), Mismatch> {
+        let bar = &self.case.bars[i];
+        let words = bar_words(bar);
+        let refused = |refusal| Mismatch::refused(Some(i), PAPER, refusal);
+        self.tight.step(&words).map_err(refused)?;
+        self.larger.step(&words).map_err(refused)?;
+        self.paper.step(bar).expect("the paper's reading refuses no bar");
+        let view = self.tight.view();
+        self.against_larger(i, view)?;
+        self.row_kept(i)?;
+        let parted = unlike(&NAMES, &view.0, &self.paper.view().0);
+        self.agree(i, PAPER, parted, view)?;
+        self.against_rust(i, view)?;
+        self.rules.push(bar);
+        if (i + 1).is_multiple_of(self.plan.ask_every) {
+            self.rules.ask(i, &self.tight, &mut self.tally)?;
+        }
+        self.tally.bars += 1;
+        Ok(())
+    }
+
+    fn against_larger(&self, i: usize, view: View) -> Result<(), Mismatch> {
+        let parted = unlike(&NAMES, &view.0, &self.larger.view().0);
+        match parted.is_empty() {
+            true => Ok(()),
+            false => Err(Mismatch::new(Some(i), LARGER, parted)),
+        }
+    }
+
+    /// The newest row is this bar's, in both rooms.
+    fn row_kept(&self, i: usize) -> Result<(), Mismatch> {
+        let row = row_words(&self.case.bars[i]);
+        for run in [&self.tight, &self.larger] {
+            let held = run.rows_held();
+            if !held.ends_with(&row) {
+                let newest = held.len().saturating_sub(row.len());
+                let at = held[newest..].iter().zip(&row).position(|(a, b)| a != b);
+                let (ours, theirs) = at.map_or((0, 0), |at| (held[newest + at], row[at]));
+                return Err(Mismatch::one(Some(i), ROWS, "newest row", ours, theirs));
+            }
+        }
+        Ok(())
+    }
+
+    /// Nothing parts the two but, by entry 6, signs of zeros.
+    fn agree(&mut self, i: usize, against: &'static str, parted: Vec<Unlike>, view: View) -> Result<(), Mismatch> {
+        if parted.is_empty() {
+            return Ok(());
+        }
+        let met = self.signs || explain::met(Entry::ZeroSigns, self.case, i, &view);
+        if !(met && explain::are_zero_signs(&parted)) {
+            return Err(Mismatch::new(Some(i), against, parted));
+        }
+        if !self.signs {
+            self.tally.explained.count(Entry::ZeroSigns);
+        }
+        self.signs = true;
+        Ok(())
+    }
+
+    /// Against the text as it stands: a run parts from ours only on a bar on which it met a listed difference.
+    fn against_rust(&mut self, i: usize, view: View) -> Result<(), Mismatch> {
+        let Some(mut rust) = self.rust.take() else {
+            return Ok(());
+        };
+        let parted = match rust.step(&self.case.bars[i]) {
+            Ok(()) => unlike(&NAMES, &view.0, &rust.view().0),
+            Err(_) if explain::met(Entry::FundingNotSupplied, self.case, i, &view) => {
+                self.tally.explained.count(Entry::FundingNotSupplied);
+                return Ok(());
+            }
+            Err(_) => return Err(Mismatch::one(Some(i), RUST, "refused", 0, 1)),
+        };
+        if let Some(entry) = explain::parted_by(&parted, self.case, i, &view) {
+            self.tally.explained.count(entry);
+            return Ok(());
+        }
+        self.agree(i, RUST, parted, view)?;
+        self.rust = Some(rust);
+        Ok(())
+    }
+
+    fn finish(mut self) -> Result<Tally, Mismatch> {
+        self.rows_agree()?;
+        let refused = |refusal| Mismatch::refused(None, PAPER, refusal);
+        let metrics = self.tight.finish().map_err(refused)?;
+        let again = self.larger.finish().map_err(refused)?;
+        let called = self.tight.metrics().map_err(refused)?;
+        for (against, theirs) in [(LARGER, again), (METRICS_CALL, called)] {
+            let parted = unlike(&METRICS, &metrics, &theirs);
+            if !parted.is_empty() {
+                return Err(Mismatch::new(None, against, parted));
+            }
+        }
+        let ending = Ending {
+            metrics: metrics.to_vec(),
+            trades: self.tight.state[calls::state::TRADES],
+            newest: self
+                .tight
+                .trades_held()
+                .last_chunk::<8>()
+                .map_or(vec![0; 8], |t| t.to_vec()),
+            fees_paid: self.tight.state[calls::state::FEES_PAID],
+        };
+        let signs = self.signs;
+        same_ending(PAPER, &ending, &self.paper.finish(), signs, &mut self.tally)?;
+        if let Some(rust) = self.rust.take() {
+            same_ending(RUST, &ending, &rust.finish(), signs, &mut self.tally)?;
+            self.tally.explained.undivided += 1;
+        }
+        if !(self.tight.rest_untouched() && self.larger.rest_untouched()) {
+            return Err(Mismatch::one(None, "what was lent", "words past the lists", 1, 0));
+        }
+        for trade in self.tight.trades_held().chunks(8) {
+            self.tally.trades += 1;
+            self.tally.reasons[trade[7].min(6) as usize] += 1;
+        }
+        Ok(self.tally)
+    }
+
+    /// Both rooms hold the last rows of those handed over.
+    fn rows_agree(&self) -> Result<(), Mismatch> {
+        let all: Vec<u64> = self.case.bars.iter().flat_map(row_words).collect();
+        for run in [&self.tight, &self.larger] {
+            let held = run.rows_held();
+            let full = held.len() == all.len().min(run.rows.len());
+            if !(full && all.ends_with(held)) {
+                return Err(Mismatch::one(
+                    None,
+                    ROWS,
+                    "rows held",
+                    held.len() as u64,
+                    all.len() as u64,
+                ));
+            }
+        }
+        Ok(())
+    }
+}

@@ -1,0 +1,43 @@
+//! The proved engine, through its C interface, beside the Rust original in one process. See compare/README.md.
+
+mod bench;
+mod calls;
+mod case;
+mod cases;
+mod compare;
+mod figures;
+mod guard;
+mod model;
+mod ours;
+mod progress;
+mod theirs;
+mod view;
+
+use std::process::ExitCode;
+
+const USAGE: &str = "usage: driver compare SEED RUNS | guard SEED CALLS | root SEED COUNT | metrics SEED COUNT
+       driver replay < runs | bench";
+
+fn usage() -> ! {
+    eprintln!("{USAGE}");
+    std::process::exit(2)
+}
+
+fn number(text: &str) -> u64 {
+    text.replace('_', "").parse().unwrap_or_else(|_| usage())
+}
+
+fn main() -> ExitCode {
+    let args: Vec<String> = std::env::args().skip(1).collect();
+    let args: Vec<&str> = args.iter().map(String::as_str).collect();
+    let agree = match args[..] {
+        ["compare", seed, runs] => compare::compare(number(seed), number(runs)),
+        ["guard", seed, count] => guard::guard(number(seed), number(count)),
+        ["bench"] => bench::bench(),
+        ["replay"] => compare::replay().expect("standard input can be read"),
+        ["root", seed, count] => figures::roots(number(seed), number(count)),
+        ["metrics", seed, count] => figures::metrics(number(seed), number(count)),
+        _ => usage(),
+    };
+    ExitCode::from(u8::from(!agree))
+}

@@ -1,0 +1,169 @@
+//! Refusals 10 to 15, in the paper's order: 10, 12, 13, 14, 11, 15; under one number the lowest place.
+
+use super::{finite, refusal, steps, table};
+use crate::calls::{bar_words, state, Position, METRIC_WORDS, NODE_STEP_BYTES, SETTING_WORDS, STATE_WORDS};
+
+const MOST: u64 = 4_294_967_295;
+const MOST_SLOTS: u64 = 64;
+const MOST_DEPTH: u64 = 4_096;
+const MOST_LOOKBACK: u64 = 4_095;
+const LOOKBACK: u64 = 7;
+
+type Checked = Result<(), u64>;
+
+/// Nothing where `right`, else the refusal.
+fn need(right: bool, number: u64, place: u64) -> Checked {
+    if right {
+        Ok(())
+    } else {
+        Err(refusal(number, place))
+    }
+}
+
+fn word(words: &[u64], i: usize) -> u64 {
+    words.get(i).copied().unwrap_or(0)
+}
+
+/// 10 of the rooms that every call with a state has; a setting past the end is 0.
+fn rooms(settings: &[u64], state: &[u64], rows: &[u64]) -> Checked {
+    let width = 7 + u128::from(word(settings, 0));
+    let needed = u128::from(word(settings, 1)).saturating_mul(width);
+    need(needed <= rows.len() as u128, 10, 0)?;
+    words(settings, state)
+}
+
+fn words(settings: &[u64], state: &[u64]) -> Checked {
+    need(settings.len() >= SETTING_WORDS, 10, 7)?;
+    need(state.len() >= STATE_WORDS, 10, 8)
+}
+
+/// 12, setting by setting.
+fn settings(s: &[u64]) -> Checked {
+    let lookback = if s[5] == 3 { s[7] } else { 0 };
+    let given = |i: usize| s[20] >> i & 1 == 1;
+    need(s[0] <= MOST_SLOTS, 12, 0)?;
+    need((1..=MOST_DEPTH).contains(&s[1]) && lookback < s[1], 12, 1)?;
+    need(finite(s[2]), 12, 2)?;
+    need(s[5] <= 4, 12, 5)?;
+    need(finite(s[6]), 12, 6)?;
+    need(lookback <= MOST_LOOKBACK, 12, LOOKBACK)?;
+    need(finite(s[8]), 12, 8)?;
+    need(s[9] <= 1, 12, 9)?;
+    need(finite(s[10]), 12, 10)?;
+    need(s[5] != 4 || given(12), 12, 12)?;
+    for (i, &level) in s.iter().enumerate().take(17).skip(12) {
+        need(!given(i) || finite(level), 12, i as u64)?;
+    }
+    need(finite(s[19]), 12, 19)
+}
+
+/// The places that a room has for records of `width` words.
+fn places(room: &[u64], width: u64) -> u64 {
+    room.len() as u64 / width
+}
+
+/// 13 of a state.
+fn counts(s: &[u64], slots: u64, rows: &[u64], equity: &[u64], trades: &[u64]) -> Checked {
+    let counts = [
+        (state::BARS_SEEN, MOST),
+        (state::ROWS_HELD, places(rows, 7 + slots)),
+        (state::EQUITY_POINTS, places(equity, 2)),
+        (state::TRADES, places(trades, 8)),
+    ];
+    for (count, most) in counts {
+        need(s[count] <= most.min(MOST), 13, 0)?;
+    }
+    entry_bar(s[state::ENTERED], s[state::ENTRY_BAR], s[state::BARS_SEEN])
+}
+
+fn entry_bar(entered: u64, bar: u64, bars_seen: u64) -> Checked {
+    need(entered == 0 || bar < bars_seen, 13, 0)
+}
+
+/// 11 of a bar.
+fn bar(bar: &[u64], slots: usize, bars_seen: u64) -> Checked {
+    let present = |k: usize| bar[6] >> k & 1 == 1;
+    let prices = bar[1..6].iter().all(|&price| finite(price));
+    let no_more = (slots..64).all(|k| !present(k));
+    let values = (0..slots).all(|k| !present(k) || finite(bar[7 + k]));
+    let funding = bar[7 + slots] == 0 || finite(bar[8 + slots]) && finite(bar[9 + slots]);
+    need(prices && no_more && values && funding, 11, bars_seen)
+}
+
+fn lists(lists: [&[u8]; 4], slots: u64, depth: u64) -> Checked {
+    for (number, list) in lists.into_iter().enumerate() {
+        if let Some(place) = steps::ill_formed(list, slots, depth) {
+            return Err(refusal(15, 1_024 * number as u64 + place));
+        }
+    }
+    Ok(())
+}
+
+pub fn fresh(settings: &[u64], state: &[u64]) -> Checked {
+    words(settings, state)
+}
+
+/// The rooms and data of a step or a finish.
+pub struct Lent<'a> {
+    pub settings: &'a [u64],
+    pub state: &'a [u64],
+    pub rows: &'a [u64],
+    pub equity: &'a [u64],
+    pub trades: &'a [u64],
+}
+
+pub fn step(with: &Lent, new: &[u64], four: [&[u8]; 4]) -> Checked {
+    rooms(with.settings, with.state, with.rows)?;
+    settings(with.settings)?;
+    let (slots, depth, s) = (with.settings[0], with.settings[1], with.state);
+    counts(s, slots, with.rows, with.equity, with.trades)?;
+    need(new.len() == bar_words(slots as usize), 13, 0)?;
+    let free = s[state::EQUITY_POINTS] < places(with.equity, 2) && s[state::TRADES] < places(with.trades, 8);
+    need(free && s[state::BARS_SEEN] < MOST, 14, 0)?;
+    bar(new, slots as usize, s[state::BARS_SEEN])?;
+    lists(four, slots, depth)
+}
+
+pub fn finish(with: &Lent, metrics: &[u64]) -> Checked {
+    rooms(with.settings, with.state, with.rows)?;
+    need(metrics.len() >= METRIC_WORDS, 10, 9)?;
+    settings(with.settings)?;
+    let s = with.state;
+    counts(s, with.settings[0], with.rows, with.equity, with.trades)?;
+    let closes = f64::from_bits(s[state::QTY]).abs() > f64::EPSILON && s[state::BARS_SEEN] > 0;
+    need(!closes || s[state::TRADES] < places(with.trades, 8), 14, 0)
+}
+
+fn position(rows: &[u64], slots: u64, at: Position) -> Checked {
+    need((rows.len() as u64).is_multiple_of(7 + slots), 13, 0)?;
+    need(at.bars_seen <= MOST, 13, 0)?;
+    entry_bar(at.entered, at.entry_bar, at.bars_seen)
+}
+
+pub fn depth(bytes: &[u8], lookback: u64) -> Checked {
+    table::checked(bytes)?;
+    need(lookback <= MOST_LOOKBACK, 12, LOOKBACK)
+}
+
+pub fn translate(bytes: &[u8], tree: u64, room: usize) -> Checked {
+    table::checked(bytes)?;
+    let needed = NODE_STEP_BYTES as u64 * table::nodes_of_tree(bytes, tree);
+    need(needed <= room as u64, 10, 3 + tree)
+}
+
+pub fn rule(bytes: &[u8], rows: &[u64], at: Position) -> Checked {
+    table::checked(bytes)?;
+    position(rows, table::slots(bytes), at)
+}
+
+pub fn run(list: &[u8], rows: &[u64], (slots, depth): (u64, u64), at: Position) -> Checked {
+    need(slots <= MOST_SLOTS, 12, 0)?;
+    need((1..=MOST_DEPTH).contains(&depth), 12, 1)?;
+    position(rows, slots, at)?;
+    lists([list, &[], &[], &[]], slots, depth)
+}
+
+pub fn metrics(equity: &[u64], trades: &[u64], room: usize) -> Checked {
+    need(room >= METRIC_WORDS, 10, 9)?;
+    need(equity.len().is_multiple_of(2) && trades.len().is_multiple_of(8), 13, 0)
+}

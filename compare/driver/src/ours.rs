@@ -1,0 +1,166 @@
+//! The proved engine: a run through the C interface.
+
+use crate::calls::{self, state, Finish, Position, Step};
+use crate::calls::{METRIC_WORDS, NODE_STEP_BYTES, POINT_WORDS, SETTING_WORDS, STATE_WORDS, TRADE_WORDS};
+use crate::case::{setting_words, Case};
+use crate::view::View;
+
+/// What the rooms are filled with before a run.
+const UNTOUCHED: u64 = 0x5a5a_a5a5_5a5a_a5a5;
+
+/// A refusal's number and place, from an answer.
+#[derive(Debug, Clone, Copy, PartialEq, Eq)]
+pub struct Refusal {
+    pub number: u64,
+    pub place: u64,
+}
+
+/// Nothing where a call did its work, else what it refused.
+pub fn done(answer: u64) -> Result<(), Refusal> {
+    match answer {
+        0 => Ok(()),
+        _ => Err(Refusal {
+            number: answer >> 32,
+            place: answer & 0xffff_ffff,
+        }),
+    }
+}
+
+/// The steps of tree `tree`, translated into a room of exactly the size it needs.
+pub fn translated(table: &[u8], tree: u64) -> Result<Vec<u8>, Refusal> {
+    let at = 8 + 2 * tree as usize;
+    let nodes = usize::from(u16::from_le_bytes([table[at], table[at + 1]]));
+    let mut room = vec![0xa5; NODE_STEP_BYTES * nodes];
+    let mut used = 0;
+    done(calls::translate(table, tree, &mut room, &mut used))?;
+    room.truncate(used as usize);
+    Ok(room)
+}
+
+/// A run: its settings and state, the rooms lent to it and the four lists.
+pub struct Ours {
+    pub settings: [u64; SETTING_WORDS],
+    pub state: [u64; STATE_WORDS],
+    pub rows: Vec<u64>,
+    pub equity: Vec<u64>,
+    pub trades: Vec<u64>,
+    pub lists: [Vec<u8>; 4],
+}
+
+impl Ours {
+    /// A run with room for `rows` rows, and for the equity and trades of all its bars.
+    pub fn new(case: &Case, rows: usize) -> Result<Self, Refusal> {
+        Self::with_room(case, rows, case.bars.len())
+    }
+
+    /// A run with room for `rows` rows and the equity and trades of `bars` bars.
+    pub fn with_room(case: &Case, rows: usize, bars: usize) -> Result<Self, Refusal> {
+        let table = case.table.bytes();
+        let settings = setting_words(&case.settings);
+        let list = |tree| translated(&table, tree);
+        let mut run = Self {
+            settings,
+            state: [UNTOUCHED; STATE_WORDS],
+            rows: vec![UNTOUCHED; rows * calls::row_words(case.table.slots)],
+            equity: vec![UNTOUCHED; bars * POINT_WORDS],
+            trades: vec![UNTOUCHED; (bars + 1) * TRADE_WORDS],
+            lists: [list(0)?, list(1)?, list(2)?, list(3)?],
+        };
+        done(calls::fresh(&run.settings, &mut run.state))?;
+        Ok(run)
+    }
+
+    pub fn step(&mut self, bar: &[u64]) -> Result<(), Refusal> {
+        let [entry, exit, short_entry, short_exit] = &self.lists;
+        done(calls::step(Step {
+            settings: &self.settings,
+            state: &mut self.state,
+            bar,
+            rows: &mut self.rows,
+            equity: &mut self.equity,
+            trades: &mut self.trades,
+            lists: [entry, exit, short_entry, short_exit],
+        }))
+    }
+
+    pub fn finish(&mut self) -> Result<[u64; METRIC_WORDS], Refusal> {
+        let mut metrics = [UNTOUCHED; METRIC_WORDS];
+        done(calls::finish(Finish {
+            settings: &self.settings,
+            state: &mut self.state,
+            rows: &self.rows,
+            equity: &self.equity,
+            trades: &mut self.trades,
+            metrics: &mut metrics,
+        }))?;
+        Ok(metrics)
+    }
+
+    /// The metrics of the points and trades held, by the call of its own.
+    pub fn metrics(&self) -> Result<[u64; METRIC_WORDS], Refusal> {
+        let mut metrics = [UNTOUCHED; METRIC_WORDS];
+        let (points, trades) = (self.points_held(), self.trades_held());
+        done(calls::metrics(self.settings[2], points, trades, &mut metrics))?;
+        Ok(metrics)
+    }
+
+    fn count(&self, word: usize) -> usize {
+        self.state[word] as usize
+    }
+
+    pub fn rows_held(&self) -> &[u64] {
+        let width = calls::row_words(self.settings[0] as usize);
+        &self.rows[..self.count(state::ROWS_HELD) * width]
+    }
+
+    pub fn points_held(&self) -> &[u64] {
+        &self.equity[..self.count(state::EQUITY_POINTS) * POINT_WORDS]
+    }
+
+    pub fn trades_held(&self) -> &[u64] {
+        &self.trades[..self.count(state::TRADES) * TRADE_WORDS]
+    }
+
+    /// Whether what lies past the points, trades and rows held is as it was lent.
+    pub fn rest_untouched(&self) -> bool {
+        let rest = [
+            &self.rows[self.rows_held().len()..],
+            &self.equity[self.points_held().len()..],
+            &self.trades[self.trades_held().len()..],
+        ];
+        rest.iter().all(|rest| rest.iter().all(|&word| word == UNTOUCHED))
+    }
+
+    pub fn position(&self) -> Position {
+        Position {
+            qty: self.state[state::QTY],
+            entered: self.state[state::ENTERED],
+            entry_bar: self.state[state::ENTRY_BAR],
+            bars_seen: self.state[state::BARS_SEEN],
+        }
+    }
+
+    /// What can be seen after a bar.
+    pub fn view(&self) -> View {
+        let s = &self.state;
+        let order = match s[state::ORDER] {
+            number @ 1..=3 => [number, s[state::ORDER_DELAY]],
+            _ => [0, 0],
+        };
+        let entry = match s[state::ENTERED] {
+            0 => [0, 0],
+            _ => [1, s[state::ENTRY_BAR]],
+        };
+        let point = self.points_held().last_chunk::<2>().copied().unwrap_or_default();
+        let trade = self.trades_held().last_chunk::<8>().copied().unwrap_or_default();
+        let held = &s[state::CASH..];
+        View::of(&[
+            &[s[state::BARS_SEEN], s[state::EQUITY_POINTS], s[state::TRADES]],
+            &point,
+            &order,
+            &entry,
+            held,
+            &trade,
+        ])
+    }
+}

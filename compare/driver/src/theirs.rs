@@ -1,0 +1,96 @@
+//! The Rust original: a run bar by bar, by either reading.
+
+use oracle::answers::tick_of;
+use oracle::data::DerivativesTick;
+use oracle::engine::reach::{history_depth, Run};
+use oracle::lists::runs::Bar;
+use oracle::portfolio::Trade;
+use oracle::report::BacktestReport;
+use oracle::words::Line;
+use oracle::{by_reading, run_of, spec_of, Reading};
+
+use crate::case::Case;
+use crate::view::View;
+
+pub struct Theirs {
+    run: Run,
+    reading: Reading,
+}
+
+/// What a run ends with: the nine figures, how many trades, the newest of them, and the fees paid.
+pub struct Ending {
+    pub metrics: Vec<u64>,
+    pub trades: u64,
+    pub newest: Vec<u64>,
+    pub fees_paid: u64,
+}
+
+pub fn tick(bar: &Bar) -> Option<DerivativesTick> {
+    bar.funding.map(|(mark, rate)| tick_of(mark, rate))
+}
+
+/// The rows that the original keeps.
+pub fn depth(case: &Case) -> usize {
+    history_depth(&spec_of(&case.settings, &case.table, Reading::Rust))
+}
+
+fn newest(trades: &[Trade]) -> Vec<u64> {
+    let none = || vec![0; 8];
+    trades
+        .last()
+        .map_or_else(none, |trade| Line::new().trade(trade).words().to_vec())
+}
+
+impl Theirs {
+    pub fn new(case: &Case, reading: Reading) -> Self {
+        let run = run_of(&case.settings, &case.table, reading).expect("a spec that the original accepts");
+        Self { run, reading }
+    }
+
+    /// One bar; what the original refuses it with.
+    pub fn step(&mut self, bar: &Bar) -> Result<(), String> {
+        let stepped = self.run.step(&bar.candle, &bar.slots, tick(bar).as_ref());
+        stepped.map_err(|refusal| format!("{refusal:?}"))
+    }
+
+    pub fn view(&self) -> View {
+        let held = self.run.held();
+        let (point, trades) = self.run.latest();
+        let (number, delay) = held.order.unwrap_or((0, 0));
+        let (time, equity) = point.map_or((0, 0.0), |point| (point.time, point.equity));
+        let (last_time, last_close) = held.last.unwrap_or((0, 0.0));
+        // Every bar marks one point.
+        let bars_seen = held.bars_seen as u64;
+        let line = Line::new()
+            .word(bars_seen)
+            .word(bars_seen)
+            .word(trades.len() as u64)
+            .time(time)
+            .float(equity)
+            .word(number)
+            .word(delay.into())
+            .entry_bar(held.entry_bar)
+            .portfolio(held.portfolio)
+            .float(held.extreme)
+            .time(last_time)
+            .float(last_close);
+        View::of(&[line.words(), &newest(trades)])
+    }
+
+    pub fn finish(self) -> Ending {
+        let reading = self.reading;
+        let BacktestReport {
+            metrics,
+            trades,
+            fees_paid,
+            ..
+        } = self.run.finish();
+        let metrics = Line::new().metrics(&by_reading(metrics, reading));
+        Ending {
+            metrics: metrics.words().to_vec(),
+            trades: trades.len() as u64,
+            newest: newest(&trades),
+            fees_paid: Line::new().float(fees_paid).words()[0],
+        }
+    }
+}
