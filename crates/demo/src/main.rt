@@ -1,0 +1,404 @@
+// A built-in example, from a rule table to its trades: the table is checked, the depth of its window is worked out, its
+// rules become steps, a day of minute bars goes through the engine, and the run is finished.
+mod bars;
+mod report;
+
+use bars::Market;
+use engine::Answer;
+use engine::Finished;
+use execution::Optional;
+use execution::Risk;
+use execution::Sizing;
+use execution::Slippage;
+use execution::Terms;
+use judge::Settings;
+use judge::State;
+use metrics::Metrics;
+use rules::Tree;
+use steps::DepthAnswer;
+use steps::Translated;
+
+// The paper's worked example: entry CrossAbove(slot 0, slot 1); exit Lt(close, Prev(close, 2)). K is 2.
+const TABLE: [u8; 128] = [
+    82,
+    84,
+    66,
+    2,
+    1,
+    0,
+    7,
+    0,
+    3,
+    0,
+    4,
+    0,
+    0,
+    0,
+    0,
+    0,
+    22,
+    0,
+    0,
+    0,
+    0,
+    0,
+    0,
+    0,
+    0,
+    0,
+    0,
+    0,
+    0,
+    0,
+    0,
+    0,
+    2,
+    0,
+    0,
+    0,
+    0,
+    0,
+    0,
+    0,
+    0,
+    0,
+    0,
+    0,
+    0,
+    0,
+    0,
+    0,
+    2,
+    0,
+    0,
+    0,
+    1,
+    0,
+    0,
+    0,
+    0,
+    0,
+    0,
+    0,
+    0,
+    0,
+    0,
+    0,
+    17,
+    0,
+    0,
+    0,
+    0,
+    0,
+    0,
+    0,
+    0,
+    0,
+    0,
+    0,
+    0,
+    0,
+    0,
+    0,
+    3,
+    3,
+    0,
+    0,
+    0,
+    0,
+    0,
+    0,
+    0,
+    0,
+    0,
+    0,
+    0,
+    0,
+    0,
+    0,
+    4,
+    0,
+    0,
+    0,
+    2,
+    0,
+    0,
+    0,
+    0,
+    0,
+    0,
+    0,
+    0,
+    0,
+    0,
+    0,
+    3,
+    3,
+    0,
+    0,
+    0,
+    0,
+    0,
+    0,
+    0,
+    0,
+    0,
+    0,
+    0,
+    0,
+    0,
+    0,
+];
+
+// K, and the rows of its window, which `depth` below says anew.
+const SLOTS: usize = 2;
+
+const DEPTH: usize = 3;
+
+// A day of minutes.
+const MINUTES: u64 = 1440;
+
+// 10,000 to begin with, nine tenths of it a trade, a taker fee of 0.2 basis points, a stop loss of 1 percent.
+fn settings() -> Settings {
+    Settings {
+        slots: SLOTS,
+        depth: DEPTH,
+        capital: 10000.0,
+        warmup: 26,
+        delay: 0,
+        terms: Terms {
+            sizing: Sizing::FixedFraction(0.9),
+            risk: Risk {
+                stop_loss_pct: Optional::Of(1.0),
+                trailing_stop_pct: Optional::Absent,
+                take_profit_pct: Optional::Absent,
+                max_leverage: Optional::Absent,
+                max_position_pct: Optional::Absent,
+                liquidation: false,
+            },
+            taker_bps: 0.2,
+            slippage: Slippage::FixedBps(0.0),
+            partial_fills: false,
+            max_participation: 0.0,
+        },
+        funding: false,
+    }
+}
+
+// The state after a step, done or refused.
+fn state_after(answer: Answer) -> State {
+    match answer {
+        Answer::Done(state) => state,
+        Answer::Refused(_, _, state) => state,
+    }
+}
+
+// How many bytes of its room a list of steps takes.
+fn bytes_written(answer: Translated) -> usize {
+    match answer {
+        Translated::Writes(n) => if n < 1024 { 16 * n } else { 0 },
+        Translated::Refuses(_, _) => 0,
+    }
+}
+
+// The engine's state and the market between two minutes.
+struct Day {
+    state: State,
+    market: Market,
+}
+
+// One minute: its bar goes through the engine. There are no short rules, so their list, `none`, is empty.
+fn one_minute<'a>(
+    day: Day,
+    minute: u64,
+    entry: &[u8],
+    exit: &'a [u8],
+    none: &'a [u8],
+    rows: &mut [u64],
+    equity: &mut [u64],
+    trades: &mut [u64],
+) -> Day {
+    let state = day.state;
+    let market = day.market;
+    let next = bars::minute_bar(market, minute);
+    let bar = next.bar;
+    let after = next.after;
+    let answer = engine::step(
+        settings(),
+        state,
+        &bar,
+        rows,
+        equity,
+        trades,
+        entry,
+        exit,
+        none,
+        none,
+    );
+    Day {
+        state: state_after(answer),
+        market: after,
+    }
+}
+
+// The day, minute by minute.
+fn run_day<'a>(
+    entry: &[u8],
+    exit: &'a [u8],
+    none: &'a [u8],
+    rows: &mut [u64],
+    equity: &mut [u64],
+    trades: &mut [u64],
+) -> State {
+    let mut day = Day {
+        state: judge::fresh(settings()),
+        market: bars::opening(),
+    };
+    let mut minute: u64 = 0;
+    while minute < MINUTES {
+        day = one_minute(day, minute, entry, exit, none, rows, equity, trades);
+        minute += 1;
+    }
+    day.state
+}
+
+// What the depth of the table's window is, and what it costs.
+fn say_depth() {
+    report::say(
+        b"rule table      entry CrossAbove(slot 0, slot 1), exit Lt(close, Prev(close, 2))\n",
+    );
+    match steps::depth::depth(&TABLE, 0) {
+        DepthAnswer::Refuses(number, place) => say_refusal(number as u64, place as u64),
+        DepthAnswer::Needs { rows, row, window } => {
+            report::say_count(b"accepted        its window is ", rows, b" rows deep\n");
+            report::say_count(b"window          ", row, b" bytes a row, ");
+            report::say_count(b"", window, b" bytes to write when the supply drops\n");
+        }
+    }
+}
+
+fn say_refusal(number: u64, place: u64) {
+    report::say_count(b"refused         ", number, b" at ");
+    report::say_count(b"", place, b"\n");
+}
+
+// One trade: its prices, what it earned, and why it ended.
+fn say_trade(trades: &[u64], i: usize) {
+    let base = i % 1000 * 8;
+    report::say_count(b"  trade ", i as u64, b"");
+    report::say_float(
+        b"       in ",
+        floats::float_of(rows::word_from(trades, base, 2)),
+        b"",
+    );
+    report::say_float(
+        b", out ",
+        floats::float_of(rows::word_from(trades, base, 3)),
+        b"",
+    );
+    report::say_float(
+        b", pnl ",
+        floats::float_of(rows::word_from(trades, base, 5)),
+        b", ",
+    );
+    report::say_reason(rows::word_from(trades, base, 7));
+}
+
+// The first trades of the day.
+fn say_trades(trades: &[u64], count: usize) {
+    report::say_count(b"trades          ", count as u64, b", the first of them\n");
+    let mut i: usize = 0;
+    while i < 5 {
+        if i < count {
+            say_trade(trades, i);
+        }
+        i += 1;
+    }
+}
+
+// The nine metrics but the number of trades.
+fn say_metrics(m: Metrics) {
+    report::say_float(b"pnl             ", m.pnl, b"\n");
+    report::say_float(b"return          ", m.return_pct, b" percent\n");
+    report::say_float(b"sharpe          ", m.sharpe, b"\n");
+    report::say_float(b"sortino         ", m.sortino, b"\n");
+    report::say_float(b"calmar          ", m.calmar, b"\n");
+    report::say_float(b"max drawdown    ", m.max_drawdown, b" percent\n");
+    report::say_float(b"win rate        ", m.win_rate, b" percent\n");
+    report::say_float(b"profit factor   ", m.profit_factor, b"\n");
+}
+
+// The end of the run.
+fn say_end(state: State, rows: &[u64], equity: &[u64], trades: &mut [u64]) {
+    let seen = state.counts;
+    report::say_count(b"bars            ", seen.bars_seen, b" minutes\n");
+    match engine::finish(settings(), state, rows, equity, trades) {
+        Finished::Refused(number, place, _) => say_refusal(number, place),
+        Finished::Done(last, figures) => {
+            let counts = last.counts;
+            say_trades(trades, counts.trades);
+            say_metrics(figures);
+        }
+    }
+}
+
+// How many bytes the lists of steps take.
+struct Sizes {
+    entry: usize,
+    exit: usize,
+}
+
+fn translated(entry: &mut [u8], exit: &mut [u8]) -> Sizes {
+    let n = bytes_written(steps::translation::translate(&TABLE, Tree::Entry, entry));
+    let m = bytes_written(steps::translation::translate(&TABLE, Tree::Exit, exit));
+    Sizes { entry: n, exit: m }
+}
+
+fn say_steps(sizes: Sizes) {
+    report::say_count(
+        b"steps           entry ",
+        (sizes.entry / 16) as u64,
+        b", exit ",
+    );
+    report::say_count(b"", (sizes.exit / 16) as u64, b"\n");
+}
+
+// The first n bytes of a room, or all of it.
+fn first_part(room: &[u8], n: usize) -> &[u8] {
+    if n <= room.len() {
+        return &room[..n];
+    }
+    room
+}
+
+// The day and its end.
+fn run_and_say<'a>(
+    entry: &[u8],
+    exit: &'a [u8],
+    none: &'a [u8],
+    rows: &mut [u64],
+    equity: &mut [u64],
+    trades: &mut [u64],
+) {
+    let state = run_day(entry, exit, none, rows, equity, trades);
+    say_end(state, rows, equity, trades);
+}
+
+fn main() {
+    say_depth();
+    let mut entry = [0u8; 192];
+    let mut exit = [0u8; 256];
+    let mut rows = [0u64; 27];
+    let mut equity = [0u64; 2880];
+    let mut trades = [0u64; 8000];
+    let sizes = translated(&mut entry, &mut exit);
+    say_steps(sizes);
+    run_and_say(
+        first_part(&entry, sizes.entry),
+        first_part(&exit, sizes.exit),
+        first_part(&entry, 0),
+        &mut rows,
+        &mut equity,
+        &mut trades,
+    );
+}
