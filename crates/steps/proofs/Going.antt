@@ -14,10 +14,9 @@ use Rattle.rows.specs.History.{History}
 use Rattle.rules.specs.declared.PositionState.{PositionState}
 use Rattle.rules.specs.declared.Value.{Value}
 use Rattle.rules.specs.declared.Value.the-variants.{Missing}
-use Rattle.steps.specs.declared.Effect.{Effect}
 use Rattle.steps.specs.declared.Op.{Op}
 use Rattle.steps.specs.Bytes.{opOf, stepAt, opsFrom}
-use Rattle.steps.specs.Machine.{Values, nth, keep, given, effect, does, after, run, places, start, ranOver}
+use Rattle.steps.specs.Machine.{Values, Effect, nth, keep, given, giving, saying, passing, effect, does, after, run, places, start, ranOver}
 
 -- ---- the values
 
@@ -53,22 +52,20 @@ put-one : (st : List Value) (v : Value) (top : ℕ) → top + 4 < length st → 
 unfolding shown
 put-one st v top fit = rw (getD-set-same st (top + 4) v Missing fit, set-shown st v (top + 4) top (omega arith))
 
--- how many values there are once one is given or not
-abbrev pub heightOf : Bool → ℕ → ℕ
-heightOf gives under = cond gives (cond (ltb under 64) (under + 1) under) under
+-- how many values there are once one more is given
+abbrev pub raisedOf : ℕ → ℕ
+raisedOf under = cond (ltb under 64) (under + 1) under
 
-height-fits : (gives : Bool) (under : ℕ) → under ≤ 64 → heightOf gives under ≤ 64
-height-fits false under le = le
-height-fits true under le = go (ltb under 64) refl
+raised-fits : (under : ℕ) → under ≤ 64 → raisedOf under ≤ 64
+raised-fits under le = go (ltb under 64) refl
   where
     go : (t : Bool) → ltb under 64 ≡ t → cond t (under + 1) under ≤ 64
     go true e = omega (arith, ltb-true under 64 e)
     go false e = le
 
-put-shown : (st : List Value) (v : Value) (under : ℕ) (gives : Bool) → under ≤ 64 → length st ≡ 69
-    → shown (set st (under + 4) v) (heightOf gives under) ≡ given gives v (shown st under)
-put-shown st v under false le room = set-shown st v (under + 4) under (omega arith)
-put-shown st v under true le room = unfold keep in rw (length-shown st under) (go (ltb under 64))
+put-shown : (st : List Value) (v : Value) (under : ℕ) → under ≤ 64 → length st ≡ 69
+    → shown (set st (under + 4) v) (raisedOf under) ≡ keep v (shown st under)
+put-shown st v under le room = unfold keep in rw (length-shown st under) (go (ltb under 64))
   where
     go : (t : Bool) → shown (set st (under + 4) v) (cond t (under + 1) under) ≡ cond t (v ∷ shown st under) (shown st under)
     go true = rw (add-one under) (put-one st v under (omega arith))
@@ -147,10 +144,15 @@ pub record Going (h : History) (s : PositionState) (bs : List ℕ) (n : ℕ) (st
   pub same : run h s (opsFrom bs 0 n) 0 start ≡ run h s (opsFrom bs p (n - p)) 0 (holding y (shown st top))
   pub count : length (places h s 0 (opsFrom bs 0 n) 0 start) ≡ visits + length (places h s p (opsFrom bs p (n - p)) 0 (holding y (shown st top)))
 
+-- ---- a step further
+
 module _ (h : History) (s : PositionState) (bs : List ℕ) (n : ℕ) (st : List Value) (top : ℕ) (y : Bool) (visits p : ℕ)
-    (g : Going h s bs n st top y visits p) (more : p < n) (e : Effect)
-    (is : e ≡ effect h s (opOf (stepAt bs p)) (getD st (top + 3) Missing) (getD st (top + 2) Missing) (getD st (top + 1) Missing) (getD st top Missing) y) where
-  did : does h s (opOf (stepAt bs p)) (holding y (shown st top)) ≡ e
+    (g : Going h s bs n st top y visits p) (more : p < n) where
+  -- what the step at p does
+  abbrev pub done : Effect
+  done = effect h s (opOf (stepAt bs p)) (getD st (top + 3) Missing) (getD st (top + 2) Missing) (getD st (top + 1) Missing) (getD st top Missing) y
+
+  did : does h s (opOf (stepAt bs p)) (holding y (shown st top)) ≡ done
   unfolding does
   did =
       let at0 : top + 3 - 0 ≡ top + 3 = omega arith in
@@ -166,59 +168,93 @@ module _ (h : History) (s : PositionState) (bs : List ℕ) (n : ℕ) (st : List 
         at1,
         at2,
         at3,
-      ) (sym is)
+      )
 
-  under : ℕ
-  under = top - e .take
+  module _ (e : Effect) (is : done ≡ e) (st' : List Value) (top' : ℕ) (room : length st' ≡ 69)
+      (low : (j : ℕ) → j < 4 → getD st' j Missing ≡ Missing) (tall : top' ≤ 64)
+      (leaves : shown st' top' ≡ given (e .gives) (e .value) (shown st (top - e .take))) where
+    left : Values
+    left = holding (e .answer) (shown st' top')
 
-  left : Values
-  left = holding (e .answer) (shown (set st (under + 4) (e .value)) (heightOf (e .gives) under))
+    after-it : after e (holding y (shown st top)) ≡ left
+    unfolding after left
+    after-it = rw (drop-shown st top (e .take), leaves)
 
-  leaves : after e (holding y (shown st top)) ≡ left
-  unfolding after left under
-  leaves = rw (drop-shown st top (e .take), put-shown st (e .value) (top - e .take) (e .gives) (omega (arith, g .tall)) (g .room))
+    q : ℕ
+    q = p + 1 + e .skip
 
-  q : ℕ
-  q = p + 1 + e .skip
+    run-next : run h s (opsFrom bs p (n - p)) 0 (holding y (shown st top)) ≡ run h s (opsFrom bs (min n q) (n - min n q)) 0 left
+    unfolding q
+    run-next =
+        let rest : n - p - 1 - e .skip ≡ n - (p + 1 + e .skip) = omega arith in
+        rw (
+          one-more h s bs p (n - p) (omega arith),
+          run-cons h s bs (opsFrom bs (p + 1) (n - p - 1)) (opOf (stepAt bs p)) (holding y (shown st top)),
+          did,
+          is,
+          after-it,
+          run-on h s bs (n - p - 1) (p + 1) (e .skip) left,
+          rest,
+        ) (run-landed h s bs n (p + 1 + e .skip) left)
 
-  run-next : run h s (opsFrom bs p (n - p)) 0 (holding y (shown st top)) ≡ run h s (opsFrom bs (min n q) (n - min n q)) 0 left
-  unfolding q
-  run-next =
-      let rest : n - p - 1 - e .skip ≡ n - (p + 1 + e .skip) = omega arith in
-      rw (
-        one-more h s bs p (n - p) (omega arith),
-        run-cons h s bs (opsFrom bs (p + 1) (n - p - 1)) (opOf (stepAt bs p)) (holding y (shown st top)),
-        did,
-        leaves,
-        run-on h s bs (n - p - 1) (p + 1) (e .skip) left,
-        rest,
-      ) (run-landed h s bs n (p + 1 + e .skip) left)
+    places-next : places h s p (opsFrom bs p (n - p)) 0 (holding y (shown st top)) ≡ p ∷ places h s (min n q) (opsFrom bs (min n q) (n - min n q)) 0 left
+    unfolding q
+    places-next =
+        let rest : n - p - 1 - e .skip ≡ n - (p + 1 + e .skip) = omega arith in
+        rw (
+          one-more h s bs p (n - p) (omega arith),
+          places-cons h s bs p (opsFrom bs (p + 1) (n - p - 1)) (opOf (stepAt bs p)) (holding y (shown st top)),
+          did,
+          is,
+          after-it,
+          places-on h s bs (n - p - 1) (p + 1) (e .skip) left,
+          rest,
+        ) (ap (λ (ps : List ℕ). p ∷ ps) (places-landed h s bs n (p + 1 + e .skip) left))
 
-  places-next : places h s p (opsFrom bs p (n - p)) 0 (holding y (shown st top)) ≡ p ∷ places h s (min n q) (opsFrom bs (min n q) (n - min n q)) 0 left
-  unfolding q
-  places-next =
-      let rest : n - p - 1 - e .skip ≡ n - (p + 1 + e .skip) = omega arith in
-      rw (
-        one-more h s bs p (n - p) (omega arith),
-        places-cons h s bs p (opsFrom bs (p + 1) (n - p - 1)) (opOf (stepAt bs p)) (holding y (shown st top)),
-        did,
-        leaves,
-        places-on h s bs (n - p - 1) (p + 1) (e .skip) left,
-        rest,
-      ) (ap (λ (ps : List ℕ). p ∷ ps) (places-landed h s bs n (p + 1 + e .skip) left))
+    going-on : Going h s bs n st' top' (e .answer) (visits + 1) (min n (p + 1 + e .skip))
+    unfolding left q
+    going-on =
+        record {
+          room = room;
+          low = low;
+          tall = tall;
+          seen = omega (arith, g .seen);
+          on = omega arith;
+          same = g .same ∙ run-next;
+          count = g .count ∙ rw places-next (omega arith);
+        }
 
-  pub going-on : Going h s bs n (set st (top - e .take + 4) (e .value)) (heightOf (e .gives) (top - e .take)) (e .answer) (visits + 1) (min n (p + 1 + e .skip))
-  unfolding left under q
-  going-on =
-      record {
-        room = length-set st (under + 4) (e .value) ∙ g .room;
-        low = λ j l. getD-set-other st (under + 4) j (e .value) Missing (ne-of-lt (omega arith)) ∙ g .low j l;
-        tall = height-fits (e .gives) under (omega (arith, g .tall));
-        seen = omega (arith, g .seen);
-        on = omega arith;
-        same = g .same ∙ run-next;
-        count = g .count ∙ rw places-next (omega arith);
-      }
+  next : min n (p + 1 + 0) ≡ p + 1
+  next = omega (arith, more)
+
+  -- a step that takes m values and gives one
+  pub going-give : (m : ℕ) (v : Value) → done ≡ giving m v y → Going h s bs n (set st (top - m + 4) v) (raisedOf (top - m)) y (visits + 1) (p + 1)
+  going-give m v is =
+      rw next at (going-on (giving m v y) is (set st (top - m + 4) v) (raisedOf (top - m))
+      (length-set st (top - m + 4) v ∙ g .room)
+      (λ j l. getD-set-other st (top - m + 4) j v Missing (ne-of-lt (omega arith)) ∙ g .low j l)
+      (raised-fits (top - m) (omega (arith, g .tall)))
+      (put-shown st v (top - m) (omega (arith, g .tall)) (g .room)))
+
+  -- a leaf: none is taken
+  pub going-leaf : (v : Value) → done ≡ giving 0 v y → Going h s bs n (set st (top + 4) v) (raisedOf top) y (visits + 1) (p + 1)
+  going-leaf v is = rw (sub-zero top) at (going-give 0 v is)
+
+  -- a step that takes m values and answers
+  pub going-say : (m : ℕ) (w : Bool) → done ≡ saying m w → Going h s bs n st (top - m) w (visits + 1) (p + 1)
+  going-say m w is = rw next at (going-on (saying m w) is st (top - m) (g .room) (g .low) (omega (arith, g .tall)) refl)
+
+  -- a step that sets the answer: none is taken
+  pub going-set : (w : Bool) → done ≡ saying 0 w → Going h s bs n st top w (visits + 1) (p + 1)
+  going-set w is = rw (sub-zero top) at (going-say 0 w is)
+
+  -- a step that passes over k others
+  pub going-pass : (k : ℕ) → done ≡ passing k y → Going h s bs n st top y (visits + 1) (min n (p + 1 + k))
+  going-pass k is = going-on (passing k y) is st top (g .room) (g .low) (g .tall) (rw (sub-zero top))
+
+  -- a jump that is not taken
+  pub going-stay : done ≡ passing 0 y → Going h s bs n st top y (visits + 1) (p + 1)
+  going-stay is = rw next at (going-pass 0 is)
 
 pub going-start : (h : History) (s : PositionState) (bs : List ℕ) (n : ℕ) → Going h s bs n (replicate 69 Missing) 0 false 0 0
 unfolding shown

@@ -1,4 +1,5 @@
 pub mod Rows
+pub mod Said
 pub mod Going
 pub mod Writes
 pub mod Operands

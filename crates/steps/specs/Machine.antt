@@ -11,7 +11,6 @@ use Rattle.rules.specs.declared.Value.{Value}
 use Rattle.rules.specs.declared.Value.the-variants.{Missing}
 use Rattle.rules.specs.Values.{both, compared, crossed, within}
 use Rattle.rules.specs.Meaning.{value, holds, newest}
-use Rattle.steps.specs.declared.Effect.{Effect}
 use Rattle.steps.specs.declared.Ran.{Ran}
 use Rattle.steps.specs.declared.Op.{Op}
 use Rattle.steps.specs.declared.Op.the-variants.{Const, Ref, Price, Arith, Compare, Cross, Between, Answer, Turn, InPosition, BarsSinceEntry, JumpIf, Unknown}
@@ -40,6 +39,14 @@ abbrev pub start : Values
 start = record { stack = []; answer = false }
 
 -- ---- a step
+
+-- What a step does: it takes so many values, gives one or none, leaves an answer and passes over so many steps.
+pub record Effect : Type 0 where
+  pub take : ℕ
+  pub gives : Bool
+  pub value : Value
+  pub answer : Bool
+  pub skip : ℕ
 
 -- An operand n rows before the newest, missing where there are not more than n rows.
 unfoldable pub ago : History → Operand → ℕ → Value

@@ -8,8 +8,6 @@ pub mod running;
 pub mod translation;
 pub mod wellformed;
 
-use rules::Value;
-
 // The fields of a step's 16 bytes, laid out as a node's: kind (1), selector (1), skip (2), n (4), constant bits (8).
 pub struct Step {
     pub kind: u8,
@@ -45,15 +43,6 @@ pub enum Op {
     JumpIf(bool, u64),
     // A kind that these papers do not name: nothing is done.
     Unknown,
-}
-
-// What a step does: it takes so many values, gives one or none, leaves an answer and passes over so many steps.
-pub struct Effect {
-    pub take: usize,
-    pub gives: bool,
-    pub value: Value,
-    pub answer: bool,
-    pub skip: u64,
 }
 
 // What a run came to: its answer, and how many steps it visited.

@@ -1,21 +1,20 @@
 // The step machine: what one step does, and the run of a whole list. It holds 64 values; a value that finds no place is not kept, and
 // a value that is not there counts as missing.
-use crate::Effect;
-use crate::Op;
 use crate::Ran;
+use crate::Step;
 use crate::decode;
 use rules::PositionState;
 use rules::Value;
 use rules::values;
 ghost use mathlib.Core.Path.{_≡_};
-ghost use mathlib.Core.Bool.{cond, not, Bool·beq};
+ghost use mathlib.Core.Bool.{Bool, cond, not, _&&_};
 ghost use Prim.Native.Nat.{_+_, _-_, _*_, _<_, _≤_, min};
-ghost use lib.Dec.{ltb};
-ghost use Rattle.rows.specs.History.{historyOf};
+ghost use lib.Dec.{ltb, leb};
+ghost use Rattle.rows.specs.History.{History, historyOf};
 ghost use Rattle.rules.specs.Values as Values;
 ghost use Rattle.table.specs.Trees.{const, ref, price};
-ghost use Rattle.steps.specs.Bytes.{opsOf};
-ghost use Rattle.steps.specs.Machine.{ago, giving, saying, passing, effect, ranOver};
+ghost use Rattle.steps.specs.Bytes.{opOf, opsOf};
+ghost use Rattle.steps.specs.Machine.{ago, giving, saying, effect, ranOver};
 
 // "the machine holds 64 values"
 pub const CAPACITY: usize = 64;
@@ -62,53 +61,55 @@ fn price_ago(rows: &[u64], slots: usize, held: usize, selector: u8, n: u64) -> V
     Value::Missing
 }
 
-// Takes so many values and gives one, the answer as it was.
-fn giving(take: usize, value: Value, answer: bool) -> Effect
-    ensures { λ r. ⌜ r ≡ giving take value answer ⌝ }
+// Whether a kind is one from `low` on and below `high`.
+fn is_among(kind: u8, low: u8, high: u8) -> bool
+    ensures { λ r. ⌜ r ≡ (leb low kind && ltb kind high) ⌝ }
 {
-    Effect {
-        take,
-        gives: true,
-        value,
-        answer,
-        skip: 0,
+    if kind < low {
+        return false;
     }
+    kind < high
 }
 
-// Takes so many values and answers.
-fn saying(take: usize, answer: bool) -> Effect
-    ensures { λ r. ⌜ r ≡ saying take answer ⌝ }
+// The value that a leaf gives.
+fn leaf(x: Step, rows: &[u64], slots: usize, held: usize) -> Value
+    requires { ⌜ held ≡ historyOf slots (now rows) .rows ⌝ }
+    requires { ⌜ (1 ≤ x .kind) × (x .kind < 4) ⌝ }
+    ensures { λ r. ⌜ ((s : PositionState) (a b c d : Value) (y : Bool) → effect (historyOf slots (now (rows .entry))) s (opOf x) a b c d y ≡ giving 0 r y) ⌝ }
 {
-    Effect {
-        take,
-        gives: false,
-        value: Value::Missing,
-        answer,
-        skip: 0,
+    if x.kind == 1 {
+        return const_ago(rows, slots, held, x.bits, x.n);
     }
+    if x.kind == 2 {
+        return ref_ago(rows, slots, held, x.selector, x.n);
+    }
+    price_ago(rows, slots, held, x.selector, x.n)
 }
 
-// Passes over so many steps, the answer as it was.
-fn passing(skip: u64, answer: bool) -> Effect
-    ensures { λ r. ⌜ r ≡ passing skip answer ⌝ }
+// How many values a test takes.
+fn taken(kind: u8) -> usize
+    ensures { λ r. ⌜ r ≡ cond (ltb kind 22) 2 (cond (ltb kind 24) 4 3) ⌝ }
 {
-    Effect {
-        take: 0,
-        gives: false,
-        value: Value::Missing,
-        answer,
-        skip,
+    if kind < 22 {
+        return 2;
     }
+    if kind < 24 {
+        return 4;
+    }
+    3
 }
 
-// A jump where the answer is the wanted one.
-fn jump(wanted: bool, skip: u64, answer: bool) -> Effect
-    ensures { λ r. ⌜ r ≡ passing (cond (Bool·beq answer wanted) skip 0) answer ⌝ }
+// What a test answers, where a, b, c, d are the last four values, the last first.
+fn tested(kind: u8, a: Value, b: Value, c: Value, d: Value) -> bool
+    ensures { λ r. ⌜ r ≡ cond (ltb kind 22) (Values.compared kind b a) (cond (ltb kind 24) (Values.crossed kind d c b a) (Values.within c b a)) ⌝ }
 {
-    if answer == wanted {
-        return passing(skip, answer);
+    if kind < 22 {
+        return values::compared(kind, b, a);
     }
-    passing(0, answer)
+    if kind < 24 {
+        return values::crossed(kind, d, c, b, a);
+    }
+    values::within(c, b, a)
 }
 
 // Whether there is a position, or none, as wanted.
@@ -121,37 +122,27 @@ fn position(wanted: bool, qty: f64) -> bool
     !values::in_position(qty)
 }
 
-// What a step does, where a, b, c, d are the last four values, the last first, and y is the answer so far.
-fn effect(
-    op: Op,
-    rows: &[u64],
-    slots: usize,
-    held: usize,
-    s: PositionState,
-    a: Value,
-    b: Value,
-    c: Value,
-    d: Value,
-    y: bool,
-) -> Effect
-    requires { ⌜ held ≡ historyOf slots (now rows) .rows ⌝ }
-    ensures { λ r. ⌜ r ≡ effect (historyOf slots (now (rows .entry))) s op a b c d y ⌝ }
+// What the answer is after a step that neither takes nor gives a value, nor jumps. One of no known kind leaves it as it was.
+fn said(x: Step, s: PositionState, answer: bool) -> bool
+    requires { ⌜ (1 ≤ x .kind → 4 ≤ x .kind) × (5 ≤ x .kind → 9 ≤ x .kind) × (16 ≤ x .kind → 25 ≤ x .kind) × (32 ≤ x .kind → 34 ≤ x .kind) ⌝ }
+    ensures { λ r. ⌜ ((h : History) (a b c d : Value) → effect h s (opOf x) a b c d answer ≡ saying 0 r) ⌝ }
 {
-    match op {
-        Op::Const(bits, n) => giving(0, const_ago(rows, slots, held, bits, n), y),
-        Op::Ref(slot, n) => giving(0, ref_ago(rows, slots, held, slot, n), y),
-        Op::Price(selector, n) => giving(0, price_ago(rows, slots, held, selector, n), y),
-        Op::Arith(kind) => giving(2, values::both(kind, b, a), y),
-        Op::Compare(kind) => saying(2, values::compared(kind, b, a)),
-        Op::Cross(kind) => saying(4, values::crossed(kind, d, c, b, a)),
-        Op::Between => saying(3, values::within(c, b, a)),
-        Op::Answer(w) => saying(0, w),
-        Op::Turn => saying(0, !y),
-        Op::InPosition(w) => saying(0, position(w, s.qty)),
-        Op::BarsSinceEntry(selector, k) => saying(0, values::since_entry(selector, k, s)),
-        Op::JumpIf(w, skip) => jump(w, skip, y),
-        Op::Unknown => saying(0, y),
+    if x.kind < 27 {
+        return answer;
     }
+    if x.kind < 29 {
+        return x.kind == 27;
+    }
+    if x.kind == 29 {
+        return !answer;
+    }
+    if x.kind == 30 {
+        return position(x.selector == 1, s.qty);
+    }
+    if x.kind == 31 {
+        return values::since_entry(x.selector, x.n, s);
+    }
+    answer
 }
 
 // How many values are left where `take` of them go.
@@ -161,17 +152,11 @@ fn left(top: usize, take: usize) -> usize
     if top < take { 0 } else { top - take }
 }
 
-// How many values there are once one more is given or not: it is kept where there is a place.
-fn height(under: usize, gives: bool) -> usize
-    requires { ⌜ under ≤ 64 ⌝ }
-    ensures { λ r. ⌜ r ≡ cond gives (cond (ltb under 64) (under + 1) under) under ⌝ }
+// How many values there are once one more is given: it is kept where there is a place.
+fn raised(top: usize) -> usize
+    ensures { λ r. ⌜ r ≡ cond (ltb top 64) (top + 1) top ⌝ }
 {
-    if gives {
-        if under < CAPACITY {
-            return under + 1;
-        }
-    }
-    under
+    if top < CAPACITY { top + 1 } else { top }
 }
 
 // The next place after p, of n places, where so many are passed over.
@@ -187,32 +172,59 @@ fn landing(p: usize, skip: u64, n: usize) -> usize
 }
 
 // Runs a list over rows of so many slots each. Bytes at the end that are no whole step are not looked at. Below the values lie four
-// places that are always missing, and above them one for a value that is not kept.
+// places that are always missing, and above them one for a value that is not kept. The kinds are asked for in the order of how
+// often they stand in a list; a jump is an `if`, not a sum, so that the next step need not wait for the answer.
 pub fn run(list: &[u8], rows: &[u64], slots: usize, s: PositionState) -> Ran
     ensures { λ r. ⌜ r ≡ ranOver (historyOf slots (now (rows .entry))) s (opsOf (now (list .entry))) ⌝ }
 {
-    let held = rows::row_count(rows, slots);
     let n = list.len() / 16;
+    if n == 0 {
+        return Ran {
+            answer: false,
+            visits: 0,
+        };
+    }
+    let held = rows::row_count(rows, slots);
     let mut stack = [Value::Missing; 69];
     let mut top: usize = 0;
     let mut answer = false;
     let mut visits: usize = 0;
     let mut p: usize = 0;
     while p < n {
-        let a = stack[top + 3];
-        let b = stack[top + 2];
-        let c = stack[top + 1];
-        let d = stack[top];
-        let op = decode::op_of(decode::step_at(list, p));
-        let e = effect(op, rows, slots, held, s, a, b, c, d, answer);
-        let under = left(top, e.take);
-        let at = under + 4;
-        let v = e.value;
-        stack[at] = v;
-        top = height(under, e.gives);
-        answer = e.answer;
+        let x = decode::step_at(list, p);
+        let kind = x.kind;
         visits += 1;
-        p = landing(p, e.skip, n);
+        if is_among(kind, 1, 4) {
+            let v = leaf(x, rows, slots, held);
+            stack[top + 4] = v;
+            top = raised(top);
+            p += 1;
+        } else if is_among(kind, 16, 25) {
+            let a = stack[top + 3];
+            let b = stack[top + 2];
+            let c = stack[top + 1];
+            let d = stack[top];
+            answer = tested(kind, a, b, c, d);
+            top = left(top, taken(kind));
+            p += 1;
+        } else if is_among(kind, 32, 34) {
+            if answer == (kind == 33) {
+                p = landing(p, x.skip, n);
+            } else {
+                p += 1;
+            }
+        } else if is_among(kind, 5, 9) {
+            let a = stack[top + 3];
+            let b = stack[top + 2];
+            let v = values::both(kind, b, a);
+            let under = left(top, 2);
+            stack[under + 4] = v;
+            top = raised(under);
+            p += 1;
+        } else {
+            answer = said(x, s, answer);
+            p += 1;
+        }
     }
     Ran { answer, visits }
 }

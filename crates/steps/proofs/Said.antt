@@ -1,0 +1,188 @@
+-- What a step says, by the range in which its kind lies.
+use Prim.Native.Nat.{ℕ, _≤_, _<_}
+use mathlib.Core.Path.{_≡_, refl, sym}
+use mathlib.Core.Bool.{Bool, true, false, cond, true≢false, _&&_, Bool·beq as beq}
+use native.Mathlib.Omega.{arith}
+use lib.Dec.{ltb, leb, eqb}
+use borrow.Author.Tests.{leb-true, ltb-true, ltb-false, eq-eqb, ne-eqb, le-leb, lt-ltb, le-ltb}
+use Rattle.steps.specs.declared.Step.{Step}
+use Rattle.steps.specs.declared.Op.the-variants.{Const, Ref, Price, Arith, Compare, Cross, Between, Answer, Turn, InPosition, BarsSinceEntry, JumpIf, Unknown}
+use Rattle.rows.specs.History.{History}
+use Rattle.rules.specs.declared.PositionState.{PositionState}
+use Rattle.rules.specs.declared.Value.{Value}
+use Rattle.rules.specs.Values.{both, compared, crossed, within}
+use Rattle.steps.specs.Bytes.{opOf, operandOp, testOp, answerOp}
+use Rattle.steps.specs.Machine.{giving, saying, passing, effect}
+
+-- ---- a range, as it is asked for
+
+pub range-out : (lo k hi : ℕ) → (leb lo k && ltb k hi) ≡ false → lo ≤ k → hi ≤ k
+range-out lo k hi e le = ltb-false k hi (rw (le-leb lo k le) at e)
+
+pub range-in : (lo k hi : ℕ) → (leb lo k && ltb k hi) ≡ true → (lo ≤ k) × (k < hi)
+range-in lo k hi e = go (leb lo k) refl e
+  where
+    go : (t : Bool) → leb lo k ≡ t → (t && ltb k hi) ≡ true → (lo ≤ k) × (k < hi)
+    go true l e = (leb-true lo k l, ltb-true k hi e)
+    go false l e = absurd (true≢false (sym e))
+
+-- ---- what is said
+
+module _ (x : Step) where
+  operand : x .kind < 16 → opOf x ≡ operandOp x
+  unfolding opOf
+  operand l = rw (lt-ltb (x .kind) 16 l)
+
+  test : 16 ≤ x .kind → x .kind < 27 → opOf x ≡ testOp x
+  unfolding opOf
+  test le l = rw (le-ltb (x .kind) 16 le, lt-ltb (x .kind) 27 l)
+
+  other : 27 ≤ x .kind → opOf x ≡ answerOp x
+  unfolding opOf
+  other le = rw (le-ltb (x .kind) 16 (omega arith), le-ltb (x .kind) 27 le)
+
+  pub says-const : x .kind ≡ 1 → opOf x ≡ Const (x .bits) (x .n)
+  unfolding operandOp
+  says-const e = rw (operand (omega arith), eq-eqb (x .kind) 1 e)
+
+  pub says-ref : x .kind ≡ 2 → opOf x ≡ Ref (x .selector) (x .n)
+  unfolding operandOp
+  says-ref e = rw (operand (omega arith), ne-eqb (x .kind) 1 (λ f. omega arith), eq-eqb (x .kind) 2 e)
+
+  pub says-price : x .kind ≡ 3 → opOf x ≡ Price (x .selector) (x .n)
+  unfolding operandOp
+  says-price e =
+      rw (operand (omega arith), ne-eqb (x .kind) 1 (λ f. omega arith), ne-eqb (x .kind) 2 (λ f. omega arith), eq-eqb (x .kind) 3 e)
+
+  says-arith : 5 ≤ x .kind → x .kind < 9 → opOf x ≡ Arith (x .kind)
+  unfolding operandOp
+  says-arith le l =
+      rw (
+        operand (omega arith),
+        ne-eqb (x .kind) 1 (λ f. omega arith),
+        ne-eqb (x .kind) 2 (λ f. omega arith),
+        ne-eqb (x .kind) 3 (λ f. omega arith),
+        le-ltb (x .kind) 5 le,
+        lt-ltb (x .kind) 9 l,
+      )
+
+  says-compare : 16 ≤ x .kind → x .kind < 22 → opOf x ≡ Compare (x .kind)
+  unfolding testOp
+  says-compare le l = rw (test le (omega arith), lt-ltb (x .kind) 22 l)
+
+  says-cross : 22 ≤ x .kind → x .kind < 24 → opOf x ≡ Cross (x .kind)
+  unfolding testOp
+  says-cross le l = rw (test (omega arith) (omega arith), le-ltb (x .kind) 22 le, lt-ltb (x .kind) 24 l)
+
+  says-between : x .kind ≡ 24 → opOf x ≡ Between
+  unfolding testOp
+  says-between e =
+      rw (
+        test (omega arith) (omega arith),
+        le-ltb (x .kind) 22 (omega arith),
+        le-ltb (x .kind) 24 (omega arith),
+        eq-eqb (x .kind) 24 e,
+      )
+
+  pub says-answer : 27 ≤ x .kind → x .kind < 29 → opOf x ≡ Answer (eqb (x .kind) 27)
+  unfolding answerOp
+  says-answer le l = rw (other le, lt-ltb (x .kind) 29 l)
+
+  pub says-turn : x .kind ≡ 29 → opOf x ≡ Turn
+  unfolding answerOp
+  says-turn e = rw (other (omega arith), le-ltb (x .kind) 29 (omega arith), eq-eqb (x .kind) 29 e)
+
+  pub says-in-position : x .kind ≡ 30 → opOf x ≡ InPosition (eqb (x .selector) 1)
+  unfolding answerOp
+  says-in-position e =
+      rw (
+        other (omega arith),
+        le-ltb (x .kind) 29 (omega arith),
+        ne-eqb (x .kind) 29 (λ f. omega arith),
+        eq-eqb (x .kind) 30 e,
+      )
+
+  pub says-bars : x .kind ≡ 31 → opOf x ≡ BarsSinceEntry (x .selector) (x .n)
+  unfolding answerOp
+  says-bars e =
+      rw (
+        other (omega arith),
+        le-ltb (x .kind) 29 (omega arith),
+        ne-eqb (x .kind) 29 (λ f. omega arith),
+        ne-eqb (x .kind) 30 (λ f. omega arith),
+        eq-eqb (x .kind) 31 e,
+      )
+
+  -- what is said from 32 on
+  late : 32 ≤ x .kind → opOf x ≡ cond (ltb (x .kind) 34) (JumpIf (eqb (x .kind) 33) (x .skip)) Unknown
+  unfolding answerOp
+  late le =
+      rw (
+        other (omega arith),
+        le-ltb (x .kind) 29 (omega arith),
+        ne-eqb (x .kind) 29 (λ f. omega arith),
+        ne-eqb (x .kind) 30 (λ f. omega arith),
+        ne-eqb (x .kind) 31 (λ f. omega arith),
+      )
+
+  says-jump : 32 ≤ x .kind → x .kind < 34 → opOf x ≡ JumpIf (eqb (x .kind) 33) (x .skip)
+  says-jump le l = rw (late le, lt-ltb (x .kind) 34 l)
+
+  pub says-nothing-late : 34 ≤ x .kind → opOf x ≡ Unknown
+  says-nothing-late le = rw (late (omega arith), le-ltb (x .kind) 34 le)
+
+  -- a kind below 27 that is neither a leaf, an operation nor a test
+  pub says-nothing-early : (1 ≤ x .kind → 4 ≤ x .kind) → (5 ≤ x .kind → 9 ≤ x .kind) → (16 ≤ x .kind → 25 ≤ x .kind) → x .kind < 27 → opOf x ≡ Unknown
+  unfolding operandOp testOp
+  says-nothing-early leaf operation tests l = go (ltb (x .kind) 16) refl
+    where
+      below : x .kind < 16 → opOf x ≡ Unknown
+      below small =
+          rw (
+            operand small,
+            ne-eqb (x .kind) 1 (λ f. omega (arith, leaf (omega arith))),
+            ne-eqb (x .kind) 2 (λ f. omega (arith, leaf (omega arith))),
+            ne-eqb (x .kind) 3 (λ f. omega (arith, leaf (omega arith))),
+          ) (ends (ltb (x .kind) 5) refl)
+        where
+          ends : (t : Bool) → ltb (x .kind) 5 ≡ t → cond t Unknown (cond (ltb (x .kind) 9) (Arith (x .kind)) Unknown) ≡ Unknown
+          ends true e = refl
+          ends false e = rw (le-ltb (x .kind) 9 (operation (ltb-false (x .kind) 5 e)))
+
+      above : 16 ≤ x .kind → opOf x ≡ Unknown
+      above le =
+          let past : 25 ≤ x .kind = tests le in
+          rw (
+            test le l,
+            le-ltb (x .kind) 22 (omega arith),
+            le-ltb (x .kind) 24 (omega arith),
+            ne-eqb (x .kind) 24 (λ f. omega arith),
+          )
+
+      go : (t : Bool) → ltb (x .kind) 16 ≡ t → opOf x ≡ Unknown
+      go true e = below (ltb-true (x .kind) 16 e)
+      go false e = above (ltb-false (x .kind) 16 e)
+
+  -- ---- what is done
+
+  module _ (h : History) (s : PositionState) (a b c d : Value) (y : Bool) where
+    pub does-arith : 5 ≤ x .kind → x .kind < 9 → effect h s (opOf x) a b c d y ≡ giving 2 (both (x .kind) b a) y
+    unfolding effect
+    does-arith le l = rw (says-arith le l)
+
+    -- a comparison, a crossing or Between
+    pub does-test : 16 ≤ x .kind → x .kind < 25 → effect h s (opOf x) a b c d y
+        ≡ saying (cond (ltb (x .kind) 22) 2 (cond (ltb (x .kind) 24) 4 3))
+        (cond (ltb (x .kind) 22) (compared (x .kind) b a) (cond (ltb (x .kind) 24) (crossed (x .kind) d c b a) (within c b a)))
+    unfolding effect
+    does-test le l = go (ltb (x .kind) 22) refl (ltb (x .kind) 24) refl
+      where
+        go : (t : Bool) → ltb (x .kind) 22 ≡ t → (u : Bool) → ltb (x .kind) 24 ≡ u → effect h s (opOf x) a b c d y
+            ≡ saying (cond t 2 (cond u 4 3)) (cond t (compared (x .kind) b a) (cond u (crossed (x .kind) d c b a) (within c b a)))
+        go true e u f = rw (says-compare le (ltb-true (x .kind) 22 e))
+        go false e true f = rw (says-cross (ltb-false (x .kind) 22 e) (ltb-true (x .kind) 24 f))
+        go false e false f = rw (says-between (omega (arith, ltb-false (x .kind) 24 f)))
+
+    pub does-jump : 32 ≤ x .kind → x .kind < 34 → effect h s (opOf x) a b c d y ≡ passing (cond (beq y (eqb (x .kind) 33)) (x .skip) 0) y
+    unfolding effect
+    does-jump le l = rw (says-jump le l)

@@ -1,0 +1,23 @@
+-- Kind by kind.
+use borrow.Author.Needs.{needs}
+use mathlib.Core.Path.{_≡_}
+use native.Mathlib.Omega.{arith}
+use Rattle.steps.specs.Machine.{effect}
+use Rattle.steps.proofs.Said.{says-const, says-ref, says-price}
+use Rattle.steps.proofs.machine.leaf.Statement.{statement}
+use Rattle.steps.proofs.machine.leaf.Tie as tie
+
+pub leaf-spec : {M : Type 1} → statement M
+unfolding effect
+leaf-spec =
+    tie.close
+    (tie.spec
+    (λ c κs. search needs)
+    (λ c s a b c2 d y. rw (says-const (c .before .before .before .before .args .x) (c .before .if1 .taken), c .const-ago .ensures))
+    (λ c κs. search needs)
+    (λ c s a b c2 d y. rw (says-ref (c .before .before .before .before .before .before .args .x) (c .before .if2 .taken), c .ref-ago .ensures))
+    (λ c κs. search needs)
+    (λ c s a b c2 d y.
+    let first = c .before .before .before .before .before .before in
+    let three : first .args .x .kind ≡ 3 = omega (arith, first .pre .1) in
+    rw (says-price (first .args .x) three, c .price-ago .ensures)))

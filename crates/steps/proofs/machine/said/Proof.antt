@@ -1,0 +1,29 @@
+-- Kind by kind.
+use borrow.Author.Needs.{needs}
+use Prim.Native.Nat.{_≤_}
+use native.Mathlib.Omega.{arith}
+use Rattle.steps.specs.Machine.{effect}
+use Rattle.rules.specs.Meaning.{holds}
+use Rattle.steps.proofs.Said.{says-answer, says-turn, says-in-position, says-bars, says-nothing-early, says-nothing-late}
+use Rattle.steps.proofs.machine.said.Statement.{statement}
+use Rattle.steps.proofs.machine.said.Tie as tie
+
+pub said-spec : {M : Type 1} → statement M
+unfolding effect holds
+said-spec =
+    tie.close
+    (tie.spec
+    (λ c h a b c2 d.
+    let first = c .before .before in
+    rw (says-nothing-early (first .args .x) (first .pre .0) (first .pre .1) (first .pre .2) (c .if1 .taken)))
+    (λ c h a b c2 d. rw (says-answer (c .before .before .before .before .before .args .x) (c .before .before .before .if1 .left) (c .before .if2 .taken)))
+    (λ c h a b c2 d. rw (says-turn (c .before .before .before .before .before .before .args .x) (c .if3 .taken)))
+    (λ c κs. search needs)
+    (λ c h a b c2 d. rw (says-in-position (c .before .before .before .before .before .before .before .before .before .before .args .x) (c .before .before .if4 .taken), c .position .ensures))
+    (λ c κs. search needs)
+    (λ c h a b c2 d. rw (says-bars (c .before .before .before .before .before .before .before .before .before .before .before .args .x) (c .before .if5 .taken), c .since-entry .ensures))
+    (λ c h a b c2 d.
+    let first = c .before .before .before .before .before .before .before .before .before .before in
+    let from : 32 ≤ first .args .x .kind =
+    omega (arith, c .before .before .before .before .before .before .if2 .left, c .before .before .before .before .if3 .left, c .before .before .if4 .left, c .if5 .left) in
+    rw (says-nothing-late (first .args .x) (first .pre .3 from))))
