@@ -1,3 +1,4 @@
+pub mod Heads
 pub mod Rows
 pub mod Said
 pub mod Going

@@ -29,7 +29,7 @@ fn four_at(list: &[u8], at: usize) -> u64
     two_at(list, at) + 65536 * two_at(list, at + 2)
 }
 
-fn eight_at(list: &[u8], at: usize) -> u64
+pub(crate) fn eight_at(list: &[u8], at: usize) -> u64
     requires { ⌜ at + 8 ≤ length (now list) ⌝ }
     ensures { λ r. ⌜ r ≡ u64 (now (list .entry)) at ⌝ }
 {
@@ -37,7 +37,7 @@ fn eight_at(list: &[u8], at: usize) -> u64
 }
 
 // The fields of the step whose bytes begin at `at`.
-fn read_step(list: &[u8], at: usize) -> Step
+pub(crate) fn read_step(list: &[u8], at: usize) -> Step
     requires { ⌜ at + 16 ≤ length (now list) ⌝ }
     ensures { λ r. ⌜ r ≡ readStep (now (list .entry)) at ⌝ }
 {

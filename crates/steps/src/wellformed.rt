@@ -4,6 +4,10 @@ use crate::Op;
 use crate::Step;
 use crate::decode;
 ghost use mathlib.Core.Path.{_≡_};
+ghost use mathlib.Core.Bool.{true};
+ghost use Prim.Native.Nat.{ℕ, _+_, _/_, _%_, _<_, _≤_};
+ghost use lib.ListN.{length};
+ghost use Rattle.steps.specs.Bytes.{fields, readStep};
 ghost use Rattle.steps.specs.WellFormed.{zeros, plain, bounded, goodStep, formed};
 
 // "at most 1,024" steps in a list.
@@ -75,6 +79,53 @@ fn good_step(slots: u64, depth: u64, after: u64, x: Step) -> bool
     false
 }
 
+// A quick yes to the steps that are most common, from two words: the constant, and the rest of the step as one number, its
+// head: kind + 256 selector + 65,536 skip + 2^32 n. A no says nothing. Every bar looks through its lists, so the order counts.
+fn quick_yes(head: u64, bits: u64, depth: u64, after: u64) -> bool
+    requires { ⌜ after < 65536 ⌝ }
+    ensures { λ r. ⌜ (r ≡ true → (slots : ℕ) → goodStep slots depth after (fields (head % 256) (head / 256 % 256) (head / 65536 % 65536) (head / 4294967296) bits) ≡ true) ⌝ }
+{
+    if bits != 0 {
+        // A constant: kind 1, selector and skip zero.
+        if head % 4294967296 == 1 {
+            return head / 4294967296 < depth;
+        }
+        return false;
+    }
+    // A comparison, a cross or Between: every other field is zero.
+    if 16 <= head {
+        if head < 25 {
+            return true;
+        }
+    }
+    // A price: kind 3, any selector, skip zero.
+    if head % 256 == 3 {
+        if head / 65536 % 65536 == 0 {
+            return head / 4294967296 < depth;
+        }
+    }
+    // A jump: kind 32 or 33, selector zero. The rest is skip + 65,536 n: at most `after`, so n is zero.
+    if 32 <= head % 65536 {
+        if head % 65536 < 34 {
+            return head / 65536 <= after;
+        }
+    }
+    false
+}
+
+// Whether the step whose bytes begin at `at` is good.
+fn good_at(list: &[u8], at: usize, slots: u64, depth: u64, after: u64) -> bool
+    requires { ⌜ (at + 16 ≤ length (now list)) × (after < 65536) ⌝ }
+    ensures { λ r. ⌜ r ≡ goodStep slots depth after (readStep (now (list .entry)) at) ⌝ }
+{
+    let head = decode::eight_at(list, at);
+    let bits = decode::eight_at(list, at + 8);
+    if quick_yes(head, bits, depth, after) {
+        return true;
+    }
+    good_step(slots, depth, after, decode::read_step(list, at))
+}
+
 // Whether a list is well formed for rows of `slots` slots and a window of `depth` rows.
 pub fn check(list: &[u8], slots: u64, depth: u64) -> Formed
     ensures { λ r. ⌜ r ≡ formed slots depth (now (list .entry)) ⌝ }
@@ -89,7 +140,7 @@ pub fn check(list: &[u8], slots: u64, depth: u64) -> Formed
     let mut p = 0;
     while p < n {
         let after = n - p - 1;
-        if good_step(slots, depth, after as u64, decode::step_at(list, p)) {
+        if good_at(list, 16 * p, slots, depth, after as u64) {
             p += 1;
         } else {
             return Formed::Bad(p);

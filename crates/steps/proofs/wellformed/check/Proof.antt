@@ -4,25 +4,25 @@ use borrow.Author.Tests.{eq-eqb, ne-eqb, lt-ltb, le-ltb}
 use native.Mathlib.Omega.{arith}
 use native.Mathlib.Nat.{sub-zero}
 use native.Mathlib.Numerals.{sub-one}
-use Prim.Native.Nat.{ℕ, suc, _+_, _-_, _<_, _≤_}
-use mathlib.Core.Path.{_≡_, sym, _∙_}
+use Prim.Native.Nat.{ℕ, suc, _+_, _*_, _-_, _<_, _≤_}
+use mathlib.Core.Path.{_≡_, refl, sym, _∙_}
 use mathlib.Core.Bool.{cond}
 use mathlib.Core.List.{List}
 use Rattle.steps.specs.declared.Formed.the-variants.{Well, Bad}
-use Rattle.steps.specs.Bytes.{stepAt}
+use Rattle.steps.specs.Bytes.{readStep, stepAt, stepsIn}
 use Rattle.steps.specs.WellFormed.{goodStep, formedFrom, formed}
 use Rattle.steps.proofs.wellformed.check.Statement.{statement}
 use Rattle.steps.proofs.wellformed.check.Tie as tie
 
 module _ (K D : ℕ) (bs : List ℕ) (n p : ℕ) where
-  one-more : p < n → formedFrom K D bs p (n - p)
-      ≡ cond (goodStep K D (n - p - 1) (stepAt bs p)) (formedFrom K D bs (p + 1) (n - (p + 1))) (Bad p)
-  unfolding formedFrom
-  one-more l =
+  one-more : n ≡ stepsIn bs → p < n → formedFrom K D bs p (n - p)
+      ≡ cond (goodStep K D (n - p - 1) (readStep bs (16 * p))) (formedFrom K D bs (p + 1) (n - (p + 1))) (Bad p)
+  unfolding formedFrom stepAt
+  one-more all l =
       let m : ℕ = n - p - 1 in
       let e : n - p ≡ suc m = omega arith in
       let f : n - (p + 1) ≡ m = omega arith in
-      rw (e, f, sub-one (suc m))
+      rw (e, f, sub-one (suc m), lt-ltb p (stepsIn bs) (omega arith))
 
   none-left : n ≤ p → formedFrom K D bs p (n - p) ≡ Well
   unfolding formedFrom
@@ -46,24 +46,23 @@ check-spec =
     (λ c. (omega arith, simp sub-zero))
     (λ c. search needs)
     (λ c. search needs)
-    (λ c κs. search needs)
+    (λ c. search needs)
     (λ c κs. search needs)
     (λ c. search needs)
     (λ c. omega arith)
     (λ c. (
       omega arith,
-      c .before .before .before .before .loop .inv .1
-          ∙ one-more _ _ _ _ _ (c .before .before .before .loop-test .taken)
-          ∙ rw (← c .before .before .step-at .ensures, ← c .before .good-step .ensures, c .if3 .taken),
+      c .before .before .before .loop .inv .1
+          ∙ one-more _ _ _ _ _ refl (c .before .before .loop-test .taken)
+          ∙ rw (← c .before .good-at .ensures, c .if3 .taken),
     ))
     (λ c.
     rw (
-      eq-eqb _ _ (c .before .before .before .before .before .before .if1 .left),
-      le-ltb _ _ (c .before .before .before .before .before .if2 .left),
-      c .before .before .before .before .loop .inv .1,
-      one-more _ _ _ _ _ (c .before .before .before .loop-test .taken),
-      ← c .before .before .step-at .ensures,
-      ← c .before .good-step .ensures,
+      eq-eqb _ _ (c .before .before .before .before .before .if1 .left),
+      le-ltb _ _ (c .before .before .before .before .if2 .left),
+      c .before .before .before .loop .inv .1,
+      one-more _ _ _ _ _ refl (c .before .before .loop-test .taken),
+      ← c .before .good-at .ensures,
       c .if3 .left,
     ))
     (λ c.
