@@ -45,19 +45,17 @@ fn row_word(bar: &[u64], j: usize) -> u64
     0
 }
 
-// The row of a bar, with nothing after it.
-fn row_of(bar: &[u64], slots: usize) -> [u64; 71]
-    requires { ⌜ slots ≤ 64 ⌝ }
-    ensures { λ r. ⌜ (length r ≡ 71) × (take (7 + slots) r ≡ rowOf slots (now (bar .entry))) ⌝ }
+// Writes the row of a bar over the first words of a list.
+fn fill_row(row: &mut [u64], bar: &[u64], slots: usize)
+    requires { ⌜ (slots ≤ 64) × (length (now row) ≡ 71) ⌝ }
+    ensures { λ _. ⌜ (length (now (row .exit)) ≡ 71) × (take (7 + slots) (now (row .exit)) ≡ rowOf slots (now (bar .entry))) ⌝ }
 {
     let width = rows::FIXED + slots;
-    let mut row = [0u64; MOST_WORDS];
     let mut j: usize = 0;
     while j < width {
         row[j] = row_word(bar, j);
         j += 1;
     }
-    row
 }
 
 // Adds the bar's row to a room that holds `held` rows; the result is how many it holds then.
@@ -65,7 +63,8 @@ pub(crate) fn record_bar(rows: &mut [u64], held: usize, bar: &[u64], slots: usiz
     requires { ⌜ slots ≤ 64 ⌝ }
     ensures { λ r. ⌜ (r ≡ heldWith (now (rows .entry)) held (rowOf slots (now (bar .entry)))) × (now (rows .exit) ≡ withRow (now (rows .entry)) held (rowOf slots (now (bar .entry)))) ⌝ }
 {
-    let row = row_of(bar, slots);
+    let mut row = [0u64; MOST_WORDS];
+    fill_row(&mut row, bar, slots);
     let width = rows::FIXED + slots;
     rows::room::push(rows, held, &row[..width])
 }

@@ -10,21 +10,22 @@ use Rattle.engine.proofs.record.record_bar.Tie as tie
 
 slice-aggregate-push : tie.Need-slice-aggregate-push
 slice-aggregate-push c =
-    let row = c .before .before in
-    let a = row .before .before .before .args in
-    let h : 7 + a .slots ≤ length (row .row-of .result) = omega (arith, row .row-of .ensures .0, row .before .before .before .pre) in
-    sym (length-take-le (7 + a .slots) (row .row-of .result) h)
+    let filled = c .before .before .before in
+    let a = filled .before .before .before .before in
+    let h : 7 + a .args .slots ≤ length (filled .fill-row .last .0) = omega (arith, filled .fill-row .ensures .0, a .pre) in
+    sym (length-take-le (7 + a .args .slots) (filled .fill-row .last .0) h)
 
 returns : tie.Need-returns
 returns c =
     let push = c .before .before in
-    let row = push .before .before .before in
-    (simp (push .push .ensures .0, row .row-of .ensures .1), simp (push .push .ensures .1, row .row-of .ensures .1))
+    let filled = push .before .before .before .before in
+    (simp (push .push .ensures .0, filled .fill-row .ensures .1), simp (push .push .ensures .1, filled .fill-row .ensures .1))
 
 pub record-bar-spec : {M : Type 1} → statement M
 record-bar-spec =
     tie.close
     (tie.spec
+    (λ c. search needs)
     (λ c κs. search needs)
     (λ c. search needs)
     (λ c. search needs)

@@ -1,4 +1,4 @@
--- The words written so far are the row's first j. Assumes nothing.
+-- The words written so far are the row's first j.
 use Prim.Native.Nat.{ℕ, _+_, _-_, _<_, _≤_}
 use mathlib.Core.Path.{_≡_, refl, subst}
 use native.Mathlib.Omega.{arith}
@@ -6,21 +6,21 @@ use borrow.Author.Needs.{needs}
 use lib.ListN.{length, take, length-set}
 use Rattle.engine.specs.Record.{rowWord, listed, rowOf}
 use Rattle.engine.proofs.Rows.{word-more}
-use Rattle.engine.proofs.record.row_of.Statement.{statement}
-use Rattle.engine.proofs.record.row_of.Tie as tie
+use Rattle.engine.proofs.record.fill_row.Statement.{statement}
+use Rattle.engine.proofs.record.fill_row.Tie as tie
 
 abbrev Inv-loop : tie.InvT-loop
-Inv-loop bar slots width row₀ j₀ row j = (j ≤ 7 + slots) × (length row ≡ 71) × (take j row ≡ listed j (rowWord bar))
+Inv-loop row₀ bar slots width j₀ row j = (j ≤ 7 + slots) × (length row ≡ 71) × (take j row ≡ listed j (rowWord bar))
 
 abbrev μ-loop : tie.MeasureT-loop
-μ-loop bar slots width row₀ j₀ row j = 7 + slots - j
+μ-loop row₀ bar slots width j₀ row j = 7 + slots - j
 
 add-width : tie.Need-add-width Inv-loop μ-loop
 add-width c = search needs
 
 loop-holds : tie.Need-loop-holds Inv-loop μ-loop
 unfolding listed
-loop-holds c = (search needs, refl, refl)
+loop-holds c = (search needs, search needs, refl)
 
 row-word-requires : tie.Need-row-word-requires Inv-loop μ-loop
 row-word-requires c κs = search needs
@@ -28,8 +28,8 @@ row-word-requires c κs = search needs
 mul-row : tie.Need-mul-row Inv-loop μ-loop
 mul-row c = search needs
 
-array-write-row : tie.Need-array-write-row Inv-loop μ-loop
-array-write-row c = search needs
+slice-write-row : tie.Need-slice-write-row Inv-loop μ-loop
+slice-write-row c = search needs
 
 add-j : tie.Need-add-j Inv-loop μ-loop
 add-j c = search needs
@@ -40,23 +40,26 @@ loop-less c = search needs
 loop-again : tie.Need-loop-again Inv-loop μ-loop
 loop-again c =
     let l = c .before .before in
-    let a = l .before .before .args in
+    let a = l .before .before .before .args in
     let h : l .loop .j < length (l .loop .row) = omega arith in (
       search needs,
       simp length-set (l .loop .inv .1),
       word-more (rowWord (a .bar .now)) (l .loop .row) (l .loop .j) (c .row-word .result) h (l .loop .inv .2) (c .row-word .ensures),
     )
 
+same-length : tie.Need-same-length Inv-loop μ-loop
+same-length c = search needs
+
 returns : tie.Need-returns Inv-loop μ-loop
 unfolding rowOf
 returns c =
     let l = c .before in
-    let a = l .before .before .args in
+    let a = l .before .before .before .args in
     let e : l .loop .j ≡ 7 + a .slots = omega (arith, c .loop-test .left) in
     (l .loop .inv .1, subst (λ (n : ℕ). take n (l .loop .row) ≡ listed n (rowWord (a .bar .now))) e (l .loop .inv .2))
 
-pub row-of-spec : {M : Type 1} → statement M
-row-of-spec =
+pub fill-row-spec : {M : Type 1} → statement M
+fill-row-spec =
     tie.close
     (tie.spec
     Inv-loop
@@ -65,8 +68,9 @@ row-of-spec =
     loop-holds
     row-word-requires
     mul-row
-    array-write-row
+    slice-write-row
     add-j
     loop-less
     loop-again
+    same-length
     returns)
