@@ -3,6 +3,7 @@ ghost use mathlib.Core.Path.{_≡_};
 ghost use mathlib.Core.List.{_++_};
 ghost use Prim.Native.Nat.{_+_, _-_, _≤_};
 ghost use lib.ListN.{length, take, drop};
+ghost use lib.Seq.{paste};
 ghost use Rattle.rows.specs.Room.{over, withRow, heldWith};
 
 // Writes the words from `at` on; nothing where they do not fit.
@@ -37,10 +38,50 @@ fn shift(room: &mut [u64], width: usize, end: usize)
 {
     let n = end - width;
     let mut i: usize = 0;
+    while 16 <= n - i {
+        shift_block(room, i, width);
+        i += 16;
+    }
     while i < n {
         room[i] = room[i + width];
         i += 1;
     }
+}
+
+// Moves the sixteen words from `i + width` on to `i`. All are read before the first is written, so that the compiler
+// may load and store two or more at once.
+fn shift_block(room: &mut [u64], i: usize, width: usize)
+    requires { ⌜ i + width + 16 ≤ length (now room) ⌝ }
+    ensures { λ _. ⌜ now (room .exit) ≡ paste (now (room .entry)) i (drop (i + width) (now (room .entry))) 16 ⌝ }
+{
+    let from = i + width;
+    let block = sixteen(&room[from..]);
+    copy(room, i, &block);
+}
+
+// The first sixteen of the words, each read by itself: of a copy loop the compiler makes a slower block.
+fn sixteen(words: &[u64]) -> [u64; 16]
+    requires { ⌜ 16 ≤ length (now words) ⌝ }
+    ensures { λ r. ⌜ r ≡ take 16 (now (words .entry)) ⌝ }
+{
+    [
+        words[0],
+        words[1],
+        words[2],
+        words[3],
+        words[4],
+        words[5],
+        words[6],
+        words[7],
+        words[8],
+        words[9],
+        words[10],
+        words[11],
+        words[12],
+        words[13],
+        words[14],
+        words[15],
+    ]
 }
 
 // Adds a row to a room that holds `held` rows of its width: at their end while there is a place, else the oldest goes
