@@ -1,11 +1,12 @@
 -- Laws of the copy loops, over any width. Assumes nothing.
 use Prim.Native.Nat.{ℕ, zero, suc, _+_, _-_, _≤_, _<_}
 use mathlib.Core.Path.{_≡_, refl, sym, ap, _∙_}
-use mathlib.Core.List.{List, [], _∷_, _++_}
+use mathlib.Core.List.{List, [], _∷_, _++_, append-assoc}
 use native.Mathlib.Numerals.{add-one}
 use native.Mathlib.Omega.{arith}
+use native.Mathlib.Nat.{zero-add}
 use lib.ListN.{length, take, drop, getD, set, length-drop}
-use lib.Seq.{paste, paste-suc, set-split, drop-cons, append-snoc, take-length, take-take, take-add, drop-drop, drop-append-add, length-take-le, take-at, drop-at}
+use lib.Seq.{paste, paste-suc, take-paste, drop-paste, set-split, drop-cons, append-snoc, take-length, take-take, take-add, drop-drop, drop-append-add, length-take-le, take-at, drop-at}
 
 -- a turn of a copy from src, the sum written as the code has it
 pub turn : (d : List ℕ) (at : ℕ) (s : List ℕ) (i : ℕ) → at + i < length d → i < length s → set (paste d at s i) (at + i) (getD s i 0) ≡ paste d at s (i + 1)
@@ -17,31 +18,42 @@ done d at s i h k =
     let e : i ≡ length s = omega arith in
     ap (λ (n : ℕ). paste d at s n) e ∙ ap (λ (l : List ℕ). take at d ++ l ++ drop (at + length s) d) (take-length s)
 
--- the room d when i of the words from w on were moved to its front
-abbrev pub shifted : List ℕ → ℕ → ℕ → List ℕ
-shifted d w i = take i (drop w d) ++ drop i d
+-- the room d when k of the words from a + w on were moved to a
+abbrev pub moved : List ℕ → ℕ → ℕ → ℕ → List ℕ
+moved d w a k = paste d a (drop (a + w) d) k
 
--- a block of k words more, all of them read before the first is written
-pub shifted-on : (d p : List ℕ) (w i k : ℕ) → i + w + k ≤ length d → p ≡ shifted d w i → paste p i (drop (i + w) p) k ≡ shifted d w (i + k)
-shifted-on d p w i k h e =
-    let s : List ℕ = take i (drop w d) in
-    let l : length s ≡ i = length-take-le i (drop w d) (rw length-drop (omega arith)) in
-    let own : (j : ℕ) → drop (i + j) (s ++ drop i d) ≡ drop (i + j) d =
-    λ j. rw (← drop-drop j i (s ++ drop i d), drop-at s (drop i d) i l, drop-drop) in
-    let c : i + w ≡ w + i = omega arith in
-    rw (e, take-at s (drop i d) i l, own w, own k, c, take-add, drop-drop)
+-- m words more, from where the first k of them end
+pub moved-on : (d p : List ℕ) (w a k i m n : ℕ) → i ≡ a + k → n ≡ k + m → a + w + n ≤ length d → p ≡ moved d w a k → moved p w i m ≡ moved d w a n
+moved-on d p w a k i m n x y h e =
+    let s : List ℕ = drop (a + w) d in
+    let g : a ≤ length d = omega arith in
+    let l : k ≤ length s = rw length-drop (omega arith) in
+    let own : (j : ℕ) → drop (a + k + j) (paste d a s k) ≡ drop (a + k + j) d =
+    λ j. rw (← drop-drop j (a + k) (paste d a s k), drop-paste d a s k g l, drop-drop) in
+    let c : a + k + w ≡ a + w + k = omega arith in
+    let f : a + (k + m) ≡ a + k + m = omega arith in
+    rw (x, y, e, take-paste d a s k g l, own w, own m, c, f, take-add, drop-drop) (simp append-assoc)
 
 -- a word that is read at j and written at i is a block of one
 pub one-word : (p : List ℕ) (i j : ℕ) → i < length p → j < length p → set p i (getD p j 0) ≡ paste p i (drop j p) 1
 one-word p i j h k = rw (set-split, add-one, drop-cons p j 0, append-snoc)
 
--- the end of the move of the words from w up to n
-pub shifted-all : (d : List ℕ) (w n i : ℕ) → w ≤ n → n ≤ length d → i ≡ n - w → shifted d w i ≡ drop w (take n d) ++ drop (n - w) d
-shifted-all d w n i h k e =
+-- the words from w up to n, all moved to the front
+pub moved-all : (d : List ℕ) (w n i : ℕ) → w ≤ n → n ≤ length d → i ≡ n - w → moved d w 0 i ≡ drop w (take n d) ++ drop (n - w) d
+moved-all d w n i h k e =
     let c : n ≡ w + (n - w) = omega arith in
     let l : length (take w d) ≡ w = length-take-le w d (omega arith) in
     let f : drop w (take n d) ≡ take (n - w) (drop w d) = ap (λ (m : ℕ). drop w (take m d)) c ∙ rw (take-add, drop-at) in
-    rw (e, f)
+    rw (e, f) (simp zero-add)
+
+-- three moves in turn, each from where the one before it ends
+pub moved-in-turn : (d p q r : List ℕ) (w n a b : ℕ) → w ≤ n → n ≤ length d → a + b ≤ n - w → p ≡ moved d w 0 a → q ≡ moved p w a b
+    → r ≡ moved q w (a + b) (n - w - (a + b)) → r ≡ drop w (take n d) ++ drop (n - w) d
+moved-in-turn d p q r w n a b h k l e f g =
+    let s : q ≡ moved d w 0 (a + b) = f ∙ moved-on d p w 0 a a b (a + b) (omega arith) refl (omega arith) e in
+    let t : r ≡ moved d w 0 (n - w) =
+    g ∙ moved-on d q w 0 (a + b) (a + b) (n - w - (a + b)) (n - w) (omega arith) (omega arith) (omega arith) s in
+    t ∙ moved-all d w n (n - w) h k refl
 
 -- k words from a on, each read by itself
 abbrev pub each : ℕ → List ℕ → ℕ → List ℕ

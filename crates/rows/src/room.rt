@@ -1,7 +1,7 @@
 // A lent room of rows. It may end in a part of a row: that end is never touched.
 ghost use mathlib.Core.Path.{_≡_};
 ghost use mathlib.Core.List.{_++_};
-ghost use Prim.Native.Nat.{_+_, _-_, _≤_};
+ghost use Prim.Native.Nat.{_+_, _-_, _*_, _≤_};
 ghost use lib.ListN.{length, take, drop};
 ghost use lib.Seq.{paste};
 ghost use Rattle.rows.specs.Room.{over, withRow, heldWith};
@@ -31,32 +31,58 @@ fn copy(room: &mut [u64], at: usize, words: &[u64])
     }
 }
 
-// Moves the words from `width` up to `end` to the front.
+// Moves the words from `width` up to `end` to the front: most of them in blocks, what is over one by one. Where the
+// width is odd, one word goes before the blocks: the words read then lie on 16-byte boundaries of an aligned room, and
+// blocks of them go at memmove's speed.
 fn shift(room: &mut [u64], width: usize, end: usize)
     requires { ⌜ (width ≤ end) × (end ≤ length (now room)) ⌝ }
     ensures { λ _. ⌜ now (room .exit) ≡ drop width (take end (now (room .entry))) ++ drop (end - width) (now (room .entry)) ⌝ }
 {
     let n = end - width;
-    let mut i: usize = 0;
-    while 16 <= n - i {
-        shift_block(room, i, width);
-        i += 16;
+    if n == 0 {
+        return;
     }
-    while i < n {
-        room[i] = room[i + width];
+    let odd = width % 2;
+    let blocks = (n - odd) / 16;
+    let rest = odd + 16 * blocks;
+    shift_words(room, width, 0, odd);
+    shift_blocks(room, width, odd, blocks);
+    shift_words(room, width, rest, n - rest);
+}
+
+// Moves the `count` words from `at + width` on to `at`, one by one.
+fn shift_words(room: &mut [u64], width: usize, at: usize, count: usize)
+    requires { ⌜ at + width + count ≤ length (now room) ⌝ }
+    ensures { λ _. ⌜ now (room .exit) ≡ paste (now (room .entry)) at (drop (at + width) (now (room .entry))) count ⌝ }
+{
+    let mut i: usize = 0;
+    while i < count {
+        room[at + i] = room[at + i + width];
         i += 1;
     }
 }
 
-// Moves the sixteen words from `i + width` on to `i`. All are read before the first is written, so that the compiler
-// may load and store two or more at once.
-fn shift_block(room: &mut [u64], i: usize, width: usize)
-    requires { ⌜ i + width + 16 ≤ length (now room) ⌝ }
-    ensures { λ _. ⌜ now (room .exit) ≡ paste (now (room .entry)) i (drop (i + width) (now (room .entry))) 16 ⌝ }
+// Moves the `count` blocks of sixteen words from `at + width` on to `at`.
+fn shift_blocks(room: &mut [u64], width: usize, at: usize, count: usize)
+    requires { ⌜ at + width + 16 * count ≤ length (now room) ⌝ }
+    ensures { λ _. ⌜ now (room .exit) ≡ paste (now (room .entry)) at (drop (at + width) (now (room .entry))) (16 * count) ⌝ }
 {
-    let from = i + width;
+    let mut i: usize = 0;
+    while i < count {
+        shift_block(room, width, at + 16 * i);
+        i += 1;
+    }
+}
+
+// Moves the sixteen words from `at + width` on to `at`. All are read before the first is written, so that the compiler
+// may load and store two or more at once.
+fn shift_block(room: &mut [u64], width: usize, at: usize)
+    requires { ⌜ at + width + 16 ≤ length (now room) ⌝ }
+    ensures { λ _. ⌜ now (room .exit) ≡ paste (now (room .entry)) at (drop (at + width) (now (room .entry))) 16 ⌝ }
+{
+    let from = at + width;
     let block = sixteen(&room[from..]);
-    copy(room, i, &block);
+    copy(room, at, &block);
 }
 
 // The first sixteen of the words, each read by itself: of a copy loop the compiler makes a slower block.

@@ -38,7 +38,7 @@ returns c =
     let p = c .before .before in
     let q = p .before .before .before in
     let a = q .before .before .before .before .args in
-    block (a .room .now) (q .sixteen .result) (p .copy .last .0) (a .i) (a .i + a .width) 16 (omega arith) (q .sixteen .ensures) (p .copy .ensures)
+    block (a .room .now) (q .sixteen .result) (p .copy .last .0) (a .at) (a .at + a .width) 16 (omega arith) (q .sixteen .ensures) (p .copy .ensures)
 
 pub shift-block-spec : {M : Type 1} → statement M
 shift-block-spec =

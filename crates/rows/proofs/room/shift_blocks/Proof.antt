@@ -1,0 +1,73 @@
+-- The loop's invariant: 16 * i words are `moved`; a turn moves sixteen more. Assumes nothing.
+use borrow.Author.Needs.{needs}
+use native.Mathlib.Omega.{arith}
+use mathlib.Core.Path.{_≡_, refl, _∙_}
+use Prim.Native.Nat.{_+_, _-_, _*_, _≤_}
+use lib.ListN.{length, drop}
+use lib.Seq.{paste-zero}
+use Rattle.rows.proofs.Copy.{moved, moved-on}
+use Rattle.rows.proofs.room.shift_blocks.Statement.{statement}
+use Rattle.rows.proofs.room.shift_blocks.Tie as tie
+
+abbrev Inv-loop : tie.InvT-loop
+Inv-loop room₀ width at count i₀ room i = (i ≤ count) × (room ≡ moved room₀ width at (16 * i)) × (length room ≡ length room₀)
+
+abbrev μ-loop : tie.MeasureT-loop
+μ-loop room₀ width at count i₀ room i = count - i
+
+loop-holds : tie.Need-loop-holds Inv-loop μ-loop
+loop-holds c =
+    let a = c .before .args in
+    (search needs, paste-zero (a .room .now) (a .at) (drop (a .at + a .width) (a .room .now)), refl)
+
+mul-shift-block : tie.Need-mul-shift-block Inv-loop μ-loop
+mul-shift-block c = search needs
+
+add-shift-block : tie.Need-add-shift-block Inv-loop μ-loop
+add-shift-block c = search needs
+
+shift-block-requires : tie.Need-shift-block-requires Inv-loop μ-loop
+shift-block-requires c κs = search needs
+
+add-i : tie.Need-add-i Inv-loop μ-loop
+add-i c = search needs
+
+loop-less : tie.Need-loop-less Inv-loop μ-loop
+loop-less c = search needs
+
+loop-again : tie.Need-loop-again Inv-loop μ-loop
+loop-again c =
+    let s = c .before .before in
+    let l = s .before .before .before in
+    let a = l .before .before .args in
+    let i = l .loop .i in (
+      search needs,
+      s .shift-block .ensures
+          ∙ moved-on (a .room .now) (l .loop .room) (a .width) (a .at) (16 * i) (a .at + 16 * i) 16 (16 * (i + 1)) refl (omega arith) (omega arith) (l .loop .inv .1),
+      search needs,
+    )
+
+same-length : tie.Need-same-length Inv-loop μ-loop
+same-length c = search needs
+
+returns : tie.Need-returns Inv-loop μ-loop
+returns c =
+    let l = c .before in
+    let e : l .before .before .args .count ≡ l .loop .i = omega arith in
+    rw e (l .loop .inv .1)
+
+pub shift-blocks-spec : {M : Type 1} → statement M
+shift-blocks-spec =
+    tie.close
+    (tie.spec
+    Inv-loop
+    μ-loop
+    loop-holds
+    mul-shift-block
+    add-shift-block
+    shift-block-requires
+    add-i
+    loop-less
+    loop-again
+    same-length
+    returns)
