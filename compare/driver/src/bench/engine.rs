@@ -75,6 +75,14 @@ fn theirs(case: &Case, marks: &Marks) -> (f64, f64) {
     })
 }
 
+/// A step after many bars, in a full room of D rows and in one with a place.
+pub fn both_rooms(size: Size) -> (f64, f64) {
+    let (case, marks) = (size.case(), marks(size.depth));
+    let full = ours(&case, &marks, size.depth);
+    let with_place = ours(&case, &marks, marks.many + 20 * marks.block);
+    (full.1, with_place.1)
+}
+
 fn row(size: Size) {
     let (case, marks) = (size.case(), marks(size.depth));
     let tight = ours(&case, &marks, size.depth);

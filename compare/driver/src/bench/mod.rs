@@ -2,6 +2,7 @@
 
 mod engine;
 mod figures;
+mod moving;
 mod parts;
 mod rules;
 mod setup;
@@ -10,6 +11,7 @@ mod timing;
 /// Measures everything; always agrees.
 pub fn bench() -> bool {
     engine::bench();
+    moving::bench();
     parts::bench();
     rules::bench();
     figures::bench();
