@@ -1,10 +1,11 @@
 // A bar as the caller hands it, and refusal 11. Reads past a bar's end give 0, so that a bar of any length is judged.
 ghost use mathlib.Core.Path.{_≡_};
+ghost use Prim.Native.Nat.{ℕ};
 ghost use lib.ListN.{length};
 ghost use lib.Dec.{eqb};
+ghost use Rattle.judge.specs.Verdict.{checked};
 ghost use Rattle.judge.specs.Bar.{barWords, candleOf, fundingOf, fundingFine, bitFine, slotsFine, candleJudged, barJudged};
 use crate::Verdict;
-use crate::check;
 use execution::Funding;
 use portfolio::Candle;
 
@@ -95,22 +96,37 @@ fn funding_fine(funding: Funding) -> bool
     }
 }
 
-// Prices and volume.
-fn judge_candle(k: Candle, seen: u64, rest: Verdict) -> Verdict
-    ensures { λ r. ⌜ r ≡ candleJudged k seen rest ⌝ }
+// Whether prices and volume are finite: their five lines, which share number and place, as one.
+fn candle_fine(k: Candle) -> bool
+    ensures { λ r. ⌜ ((seen : ℕ) (rest : Verdict) → checked r 11 seen rest ≡ candleJudged k seen rest) ⌝ }
 {
-    let volume = check(floats::is_finite(k.volume), 11, seen, rest);
-    let close = check(floats::is_finite(k.close), 11, seen, volume);
-    let low = check(floats::is_finite(k.low), 11, seen, close);
-    let high = check(floats::is_finite(k.high), 11, seen, low);
-    check(floats::is_finite(k.open), 11, seen, high)
+    if !floats::is_finite(k.open) {
+        return false;
+    }
+    if !floats::is_finite(k.high) {
+        return false;
+    }
+    if !floats::is_finite(k.low) {
+        return false;
+    }
+    if !floats::is_finite(k.close) {
+        return false;
+    }
+    floats::is_finite(k.volume)
 }
 
 // 11, all of the bar.
 pub fn judge_bar(slots: usize, bar: &[u64], seen: u64, rest: Verdict) -> Verdict
     ensures { λ r. ⌜ r ≡ barJudged slots (now (bar .entry)) seen rest ⌝ }
 {
-    let funding = check(funding_fine(funding_of(bar, slots)), 11, seen, rest);
-    let present = check(slots_fine(bar, slots), 11, seen, funding);
-    judge_candle(candle_of(bar), seen, present)
+    if !candle_fine(candle_of(bar)) {
+        return Verdict::Bad(11, seen);
+    }
+    if !slots_fine(bar, slots) {
+        return Verdict::Bad(11, seen);
+    }
+    if !funding_fine(funding_of(bar, slots)) {
+        return Verdict::Bad(11, seen);
+    }
+    rest
 }

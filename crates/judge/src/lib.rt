@@ -7,6 +7,8 @@ pub mod setting;
 
 ghost use mathlib.Core.Path.{_≡_};
 ghost use Rattle.judge.specs.Verdict.{checked};
+ghost use Rattle.judge.specs.Rooms.{roomJudged, stateJudged};
+ghost use Rattle.judge.specs.Settings.{settingsJudged};
 ghost use Rattle.judge.specs.State.{freshState};
 ghost use Rattle.judge.specs.Judgement.{stepJudged, finishJudged};
 use execution::Terms;
@@ -109,7 +111,21 @@ pub fn fresh(s: Settings) -> State
     }
 }
 
-// Whether a step can be made. Each line is judged whatever the others say, the last of the paper's order first.
+// The run that a call goes on with: 10, 12 and what 13 says of the state. A step and a finish are judged by it alike.
+fn judge_run(s: Settings, t: State, rows: &[u64], equity: &[u64], trades: &[u64]) -> Verdict
+    ensures { λ r. ⌜ r ≡ roomJudged s (now (rows .entry)) (settingsJudged s (stateJudged s t (record { rows = now (rows .entry); equity = now (equity .entry); trades = now (trades .entry) }) Verdict.Fine)) ⌝ }
+{
+    if let Verdict::Bad(number, place) = rooms::judge_room(s, rows, Verdict::Fine) {
+        return Verdict::Bad(number, place);
+    }
+    if let Verdict::Bad(number, place) = setting::judge_settings(s, Verdict::Fine) {
+        return Verdict::Bad(number, place);
+    }
+    rooms::judge_state(s, t, rows, equity, trades, Verdict::Fine)
+}
+
+// Whether a step can be made. The lines are judged in the paper's order, and none is looked at below the first that is
+// not fine. No verdict is handed from line to line: every bar is judged, and copying one costs more than the tests.
 pub fn judge_step(
     s: Settings,
     t: State,
@@ -124,31 +140,36 @@ pub fn judge_step(
 ) -> Verdict
     ensures { λ r. ⌜ r ≡ stepJudged s t (now (bar .entry)) (record { rows = now (rows .entry); equity = now (equity .entry); trades = now (trades .entry) }) (record { entry = now (entry .entry); «exit» = now («exit» .entry); «short_entry» = now («short_entry» .entry); «short_exit» = now («short_exit» .entry) }) ⌝ }
 {
+    if let Verdict::Bad(number, place) = judge_run(s, t, rows, equity, trades) {
+        return Verdict::Bad(number, place);
+    }
+    if !bar::is_whole(bar, s.slots) {
+        return Verdict::Bad(13, 0);
+    }
     let n = t.counts;
-    let slots = s.slots;
-    let v15 = lists::judge_lists(
-        slots,
+    if let Verdict::Bad(number, place) = rooms::judge_place(n, equity, trades, Verdict::Fine) {
+        return Verdict::Bad(number, place);
+    }
+    if let Verdict::Bad(number, place) = bar::judge_bar(s.slots, bar, n.bars_seen, Verdict::Fine) {
+        return Verdict::Bad(number, place);
+    }
+    lists::judge_lists(
+        s.slots,
         s.depth,
         entry,
         exit,
         short_entry,
         short_exit,
         Verdict::Fine,
-    );
-    let v11 = bar::judge_bar(slots, bar, n.bars_seen, v15);
-    let v14 = rooms::judge_place(n, equity, trades, v11);
-    let whole = check(bar::is_whole(bar, slots), 13, 0, v14);
-    let v13 = rooms::judge_state(s, t, rows, equity, trades, whole);
-    let v12 = setting::judge_settings(s, v13);
-    rooms::judge_room(s, rows, v12)
+    )
 }
 
 // Whether a run can be finished.
 pub fn judge_finish(s: Settings, t: State, rows: &[u64], equity: &[u64], trades: &[u64]) -> Verdict
     ensures { λ r. ⌜ r ≡ finishJudged s t (record { rows = now (rows .entry); equity = now (equity .entry); trades = now (trades .entry) }) ⌝ }
 {
-    let v14 = rooms::judge_close(t, trades, Verdict::Fine);
-    let v13 = rooms::judge_state(s, t, rows, equity, trades, v14);
-    let v12 = setting::judge_settings(s, v13);
-    rooms::judge_room(s, rows, v12)
+    if let Verdict::Bad(number, place) = judge_run(s, t, rows, equity, trades) {
+        return Verdict::Bad(number, place);
+    }
+    rooms::judge_close(t, trades, Verdict::Fine)
 }

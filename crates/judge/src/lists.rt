@@ -36,8 +36,14 @@ pub fn judge_lists(
 ) -> Verdict
     ensures { λ r. ⌜ r ≡ listsJudged slots depth (record { entry = now (entry .entry); «exit» = now («exit» .entry); «short_entry» = now («short_entry» .entry); «short_exit» = now («short_exit» .entry) }) rest ⌝ }
 {
-    let third = judge_list(slots, depth, short_exit, 3, rest);
-    let second = judge_list(slots, depth, short_entry, 2, third);
-    let first = judge_list(slots, depth, exit, 1, second);
-    judge_list(slots, depth, entry, 0, first)
+    if let Verdict::Bad(number, place) = judge_list(slots, depth, entry, 0, Verdict::Fine) {
+        return Verdict::Bad(number, place);
+    }
+    if let Verdict::Bad(number, place) = judge_list(slots, depth, exit, 1, Verdict::Fine) {
+        return Verdict::Bad(number, place);
+    }
+    if let Verdict::Bad(number, place) = judge_list(slots, depth, short_entry, 2, Verdict::Fine) {
+        return Verdict::Bad(number, place);
+    }
+    judge_list(slots, depth, short_exit, 3, rest)
 }

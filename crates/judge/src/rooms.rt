@@ -2,12 +2,12 @@
 ghost use mathlib.Core.Path.{_≡_};
 ghost use Prim.Native.Nat.{_/_};
 ghost use lib.ListN.{length};
+ghost use Rattle.judge.specs.Verdict.{checked};
 ghost use Rattle.judge.specs.Rooms.{roomJudged, mostJudged, heldJudged, entryBelow, stateJudged, placeJudged, toClose, closeJudged};
 use crate::Counts;
 use crate::Settings;
 use crate::State;
 use crate::Verdict;
-use crate::check;
 use rules::Entered;
 
 // No count goes above it.
@@ -22,33 +22,39 @@ pub const TRADE_WORDS: usize = 8;
 pub fn judge_room(s: Settings, rows: &[u64], rest: Verdict) -> Verdict
     ensures { λ r. ⌜ r ≡ roomJudged s (now (rows .entry)) rest ⌝ }
 {
-    check(s.depth <= rows::row_count(rows, s.slots), 10, 0, rest)
+    if rows::row_count(rows, s.slots) < s.depth {
+        return Verdict::Bad(10, 0);
+    }
+    rest
 }
 
-// 13: no count above what a count may be.
-fn judge_most(n: Counts, rest: Verdict) -> Verdict
-    ensures { λ r. ⌜ r ≡ mostJudged n rest ⌝ }
+// Whether no count is above what a count may be: four lines of 13 as one.
+fn counts_fine(n: Counts) -> bool
+    ensures { λ r. ⌜ ((rest : Verdict) → checked r 13 0 rest ≡ mostJudged n rest) ⌝ }
 {
-    let trades = check(n.trades as u64 <= MOST, 13, 0, rest);
-    let points = check(n.equity_points as u64 <= MOST, 13, 0, trades);
-    let held = check(n.rows_held as u64 <= MOST, 13, 0, points);
-    check(n.bars_seen <= MOST, 13, 0, held)
+    if MOST < n.bars_seen {
+        return false;
+    }
+    if MOST < n.rows_held as u64 {
+        return false;
+    }
+    if MOST < n.equity_points as u64 {
+        return false;
+    }
+    n.trades as u64 <= MOST
 }
 
-// 13: the rooms have places for what the state counts.
-fn judge_held(
-    slots: usize,
-    n: Counts,
-    rows: &[u64],
-    equity: &[u64],
-    trades: &[u64],
-    rest: Verdict,
-) -> Verdict
-    ensures { λ r. ⌜ r ≡ heldJudged slots n (record { rows = now (rows .entry); equity = now (equity .entry); trades = now (trades .entry) }) rest ⌝ }
+// Whether the rooms have places for what the state counts: three lines of 13 as one.
+fn held_fine(slots: usize, n: Counts, rows: &[u64], equity: &[u64], trades: &[u64]) -> bool
+    ensures { λ r. ⌜ ((rest : Verdict) → checked r 13 0 rest ≡ heldJudged slots n (record { rows = now (rows .entry); equity = now (equity .entry); trades = now (trades .entry) }) rest) ⌝ }
 {
-    let closed = check(n.trades <= trades.len() / TRADE_WORDS, 13, 0, rest);
-    let points = check(n.equity_points <= equity.len() / POINT_WORDS, 13, 0, closed);
-    check(n.rows_held <= rows::row_count(rows, slots), 13, 0, points)
+    if rows::row_count(rows, slots) < n.rows_held {
+        return false;
+    }
+    if equity.len() / POINT_WORDS < n.equity_points {
+        return false;
+    }
+    n.trades <= trades.len() / TRADE_WORDS
 }
 
 // Whether the entry bar, if there is one, is below the bars seen.
@@ -73,20 +79,34 @@ pub fn judge_state(
     ensures { λ r. ⌜ r ≡ stateJudged s t (record { rows = now (rows .entry); equity = now (equity .entry); trades = now (trades .entry) }) rest ⌝ }
 {
     let n = t.counts;
+    if !counts_fine(n) {
+        return Verdict::Bad(13, 0);
+    }
+    if !held_fine(s.slots, n, rows, equity, trades) {
+        return Verdict::Bad(13, 0);
+    }
     let position = t.position;
     let entered = position.entered;
-    let entry = check(entry_below(entered, n.bars_seen), 13, 0, rest);
-    let held = judge_held(s.slots, n, rows, equity, trades, entry);
-    judge_most(n, held)
+    if !entry_below(entered, n.bars_seen) {
+        return Verdict::Bad(13, 0);
+    }
+    rest
 }
 
 // 14 as a step begins.
 pub fn judge_place(n: Counts, equity: &[u64], trades: &[u64], rest: Verdict) -> Verdict
     ensures { λ r. ⌜ r ≡ placeJudged n (now (equity .entry)) (now (trades .entry)) rest ⌝ }
 {
-    let bars = check(n.bars_seen < MOST, 14, 0, rest);
-    let closed = check(n.trades < trades.len() / TRADE_WORDS, 14, 0, bars);
-    check(n.equity_points < equity.len() / POINT_WORDS, 14, 0, closed)
+    if equity.len() / POINT_WORDS <= n.equity_points {
+        return Verdict::Bad(14, 0);
+    }
+    if trades.len() / TRADE_WORDS <= n.trades {
+        return Verdict::Bad(14, 0);
+    }
+    if MOST <= n.bars_seen {
+        return Verdict::Bad(14, 0);
+    }
+    rest
 }
 
 // Whether finish closes a position: one is open, and a bar was seen.
@@ -108,7 +128,9 @@ pub fn judge_close(t: State, trades: &[u64], rest: Verdict) -> Verdict
 {
     let n = t.counts;
     if to_close(t) {
-        return check(n.trades < trades.len() / TRADE_WORDS, 14, 0, rest);
+        if trades.len() / TRADE_WORDS <= n.trades {
+            return Verdict::Bad(14, 0);
+        }
     }
     rest
 }

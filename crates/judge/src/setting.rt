@@ -1,9 +1,9 @@
 // Refusal 12: the settings.
 ghost use mathlib.Core.Path.{_≡_};
+ghost use Rattle.judge.specs.Verdict.{checked};
 ghost use Rattle.judge.specs.Settings.{lookback, sizingKnown, sizingValue, slippageKnown, slippageValue, levelFine, stopThere, depthJudged, sizingJudged, slippageJudged, riskJudged, termsJudged, settingsJudged};
 use crate::Settings;
 use crate::Verdict;
-use crate::check;
 use execution::Optional;
 use execution::Risk;
 use execution::Sizing;
@@ -103,30 +103,46 @@ fn stop_there(sizing: Sizing, stop: Optional) -> bool
     }
 }
 
-// Setting 1: D.
-fn judge_depth(depth: usize, sizing: Sizing, rest: Verdict) -> Verdict
-    ensures { λ r. ⌜ r ≡ depthJudged depth sizing rest ⌝ }
+// Whether D is in its range and above what sizing looks back: the three lines of setting 1 as one.
+fn depth_fine(depth: usize, sizing: Sizing) -> bool
+    ensures { λ r. ⌜ ((rest : Verdict) → checked r 12 1 rest ≡ depthJudged depth sizing rest) ⌝ }
 {
-    let above = check(lookback_of(sizing) < depth as u64, 12, 1, rest);
-    let most = check(depth <= MOST_DEPTH, 12, 1, above);
-    check(1 <= depth, 12, 1, most)
+    if depth < 1 {
+        return false;
+    }
+    if MOST_DEPTH < depth {
+        return false;
+    }
+    lookback_of(sizing) < depth as u64
 }
 
 // Settings 5 to 7.
 fn judge_sizing(sizing: Sizing, rest: Verdict) -> Verdict
     ensures { λ r. ⌜ r ≡ sizingJudged sizing rest ⌝ }
 {
-    let back = check(lookback_of(sizing) <= MOST_LOOKBACK, 12, 7, rest);
-    let value = check(floats::is_finite(sizing_value(sizing)), 12, 6, back);
-    check(sizing_known(sizing), 12, 5, value)
+    if !sizing_known(sizing) {
+        return Verdict::Bad(12, 5);
+    }
+    if !floats::is_finite(sizing_value(sizing)) {
+        return Verdict::Bad(12, 6);
+    }
+    if MOST_LOOKBACK < lookback_of(sizing) {
+        return Verdict::Bad(12, 7);
+    }
+    rest
 }
 
 // Settings 9 and 10.
 fn judge_slippage(slippage: Slippage, rest: Verdict) -> Verdict
     ensures { λ r. ⌜ r ≡ slippageJudged slippage rest ⌝ }
 {
-    let value = check(floats::is_finite(slippage_value(slippage)), 12, 10, rest);
-    check(slippage_known(slippage), 12, 9, value)
+    if !slippage_known(slippage) {
+        return Verdict::Bad(12, 9);
+    }
+    if !floats::is_finite(slippage_value(slippage)) {
+        return Verdict::Bad(12, 10);
+    }
+    rest
 }
 
 // Settings 12 to 16.
@@ -138,12 +154,25 @@ fn judge_risk(sizing: Sizing, risk: Risk, rest: Verdict) -> Verdict
     let take = risk.take_profit_pct;
     let leverage = risk.max_leverage;
     let position = risk.max_position_pct;
-    let v16 = check(level_fine(position), 12, 16, rest);
-    let v15 = check(level_fine(leverage), 12, 15, v16);
-    let v14 = check(level_fine(take), 12, 14, v15);
-    let v13 = check(level_fine(trailing), 12, 13, v14);
-    let v12 = check(level_fine(stop), 12, 12, v13);
-    check(stop_there(sizing, stop), 12, 12, v12)
+    if !stop_there(sizing, stop) {
+        return Verdict::Bad(12, 12);
+    }
+    if !level_fine(stop) {
+        return Verdict::Bad(12, 12);
+    }
+    if !level_fine(trailing) {
+        return Verdict::Bad(12, 13);
+    }
+    if !level_fine(take) {
+        return Verdict::Bad(12, 14);
+    }
+    if !level_fine(leverage) {
+        return Verdict::Bad(12, 15);
+    }
+    if !level_fine(position) {
+        return Verdict::Bad(12, 16);
+    }
+    rest
 }
 
 // Settings 5 to 19 but 11.
@@ -153,21 +182,38 @@ fn judge_terms(t: Terms, rest: Verdict) -> Verdict
     let sizing = t.sizing;
     let slippage = t.slippage;
     let risk = t.risk;
-    let v19 = check(floats::is_finite(t.max_participation), 12, 19, rest);
-    let v12 = judge_risk(sizing, risk, v19);
-    let v9 = judge_slippage(slippage, v12);
-    let v8 = check(floats::is_finite(t.taker_bps), 12, 8, v9);
-    judge_sizing(sizing, v8)
+    if let Verdict::Bad(number, place) = judge_sizing(sizing, Verdict::Fine) {
+        return Verdict::Bad(number, place);
+    }
+    if !floats::is_finite(t.taker_bps) {
+        return Verdict::Bad(12, 8);
+    }
+    if let Verdict::Bad(number, place) = judge_slippage(slippage, Verdict::Fine) {
+        return Verdict::Bad(number, place);
+    }
+    if let Verdict::Bad(number, place) = judge_risk(sizing, risk, Verdict::Fine) {
+        return Verdict::Bad(number, place);
+    }
+    if !floats::is_finite(t.max_participation) {
+        return Verdict::Bad(12, 19);
+    }
+    rest
 }
 
-// All settings, the highest first, so that the lowest decides.
+// All settings, in the order of their numbers: the lowest decides, and none above it is looked at.
 pub fn judge_settings(s: Settings, rest: Verdict) -> Verdict
     ensures { λ r. ⌜ r ≡ settingsJudged s rest ⌝ }
 {
     let terms = s.terms;
     let sizing = terms.sizing;
-    let v5 = judge_terms(terms, rest);
-    let v2 = check(floats::is_finite(s.capital), 12, 2, v5);
-    let v1 = judge_depth(s.depth, sizing, v2);
-    check(s.slots <= MOST_SLOTS, 12, 0, v1)
+    if MOST_SLOTS < s.slots {
+        return Verdict::Bad(12, 0);
+    }
+    if !depth_fine(s.depth, sizing) {
+        return Verdict::Bad(12, 1);
+    }
+    if !floats::is_finite(s.capital) {
+        return Verdict::Bad(12, 2);
+    }
+    judge_terms(terms, rest)
 }

@@ -1,4 +1,6 @@
+-- Run, places and bar are blocks, each judged by itself; the lists come last.
 use Rattle.judge.specs.Judgement.{stepJudged}
+use Rattle.judge.proofs.Lines.{so, not-so, fine-line, bad-line, fine-block, bad-block, run-block, place-block, bar-block}
 use borrow.Author.Needs.{needs}
 use Rattle.judge.proofs.judge_step.Statement.{statement}
 use Rattle.judge.proofs.judge_step.Tie as tie
@@ -6,34 +8,72 @@ use Rattle.judge.proofs.judge_step.Tie as tie
 returns : tie.Need-returns
 unfolding stepJudged
 returns c =
-    let c1 = c .before in
-    let c2 = c1 .before in
-    let c3 = c2 .before in
-    let c4 = c3 .before in
-    let c5 = c4 .before in
-    let c6 = c5 .before in
-    let c7 = c6 .before in
-    simp (
-      c .judge-room .ensures,
-      c1 .judge-settings .ensures,
-      c2 .judge-state .ensures,
-      c3 .check .ensures,
-      c4 .is-whole .ensures,
-      c5 .judge-place .ensures,
-      c6 .judge-bar .ensures,
-      c7 .judge-lists .ensures,
-    )
+    let c1 = c .before .before .before in
+    bad-block _ (run-block _ _ _) (c1 .judge-run .ensures) (c .before .number .given .1)
+
+returns-2 : tie.Need-returns-2
+unfolding stepJudged
+returns-2 c =
+    let c1 = c .before .before in
+    let c2 = c1 .before .before in
+    fine-block (run-block _ _ _) (c2 .judge-run .ensures) (c1 .enum-told .given .1)
+    (bad-line _ (not-so (c .before .is-whole .ensures) (c .if1 .taken)))
+
+returns-3 : tie.Need-returns-3
+unfolding stepJudged
+returns-3 c =
+    let c1 = c .before .before .before in
+    let c2 = c1 .before .before in
+    let c3 = c2 .before .before in
+    let c4 = c3 .before .before in
+    fine-block (run-block _ _ _) (c4 .judge-run .ensures) (c3 .enum-told .given .1)
+    (fine-line 13 0 (so (c2 .before .is-whole .ensures) (c2 .if1 .left))
+    (bad-block _ (place-block _ _ _) (c1 .judge-place .ensures) (c .before .number2 .given .1)))
+
+returns-4 : tie.Need-returns-4
+unfolding stepJudged
+returns-4 c =
+    let c1 = c .before .before .before in
+    let c2 = c1 .before .before .before in
+    let c3 = c2 .before .before in
+    let c4 = c3 .before .before in
+    let c5 = c4 .before .before in
+    fine-block (run-block _ _ _) (c5 .judge-run .ensures) (c4 .enum-told .given .1)
+    (fine-line 13 0 (so (c3 .before .is-whole .ensures) (c3 .if1 .left))
+    (fine-block (place-block _ _ _) (c2 .judge-place .ensures) (c1 .before .enum-told2 .given .1)
+    (bad-block _ (bar-block _ _ _) (c1 .judge-bar .ensures) (c .before .number3 .given .1))))
+
+returns-5 : tie.Need-returns-5
+unfolding stepJudged
+returns-5 c =
+    let c1 = c .before .before .before in
+    let c2 = c1 .before .before .before in
+    let c3 = c2 .before .before in
+    let c4 = c3 .before .before in
+    let c5 = c4 .before .before in
+    fine-block (run-block _ _ _) (c5 .judge-run .ensures) (c4 .enum-told .given .1)
+    (fine-line 13 0 (so (c3 .before .is-whole .ensures) (c3 .if1 .left))
+    (fine-block (place-block _ _ _) (c2 .judge-place .ensures) (c1 .before .enum-told2 .given .1)
+    (fine-block (bar-block _ _ _) (c1 .judge-bar .ensures) (c .before .enum-told3 .given .1)
+    (c .judge-lists .ensures))))
 
 pub judge-step-spec : {M : Type 1} → statement M
 judge-step-spec =
     tie.close
     (tie.spec
     (λ c κs. search needs)
+    (λ c. search needs)
+    returns
+    (λ c. search needs)
     (λ c κs. search needs)
+    returns-2
     (λ c κs. search needs)
+    (λ c. search needs)
+    returns-3
+    (λ c. search needs)
     (λ c κs. search needs)
+    (λ c. search needs)
+    returns-4
+    (λ c. search needs)
     (λ c κs. search needs)
-    (λ c κs. search needs)
-    (λ c κs. search needs)
-    (λ c κs. search needs)
-    returns)
+    returns-5)

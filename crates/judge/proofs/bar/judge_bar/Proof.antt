@@ -1,4 +1,8 @@
-use Rattle.judge.specs.Bar.{barJudged}
+-- The candle is one test, the slots and the funding two more.
+use mathlib.Core.Path.{refl, ap, _∙_}
+use borrow.Author.Tests.{not-true, not-false}
+use Rattle.judge.specs.Bar.{fundingFine, barJudged}
+use Rattle.judge.proofs.Lines.{so, not-so, fine-line, bad-line}
 use borrow.Author.Needs.{needs}
 use Rattle.judge.proofs.bar.judge_bar.Statement.{statement}
 use Rattle.judge.proofs.bar.judge_bar.Tie as tie
@@ -6,21 +10,40 @@ use Rattle.judge.proofs.bar.judge_bar.Tie as tie
 returns : tie.Need-returns
 unfolding barJudged
 returns c =
-    let c1 = c .before in
-    let c2 = c1 .before in
-    let c3 = c2 .before in
-    let c4 = c3 .before in
-    let c5 = c4 .before in
-    let c6 = c5 .before in
-    simp (
-      c .judge-candle .ensures,
-      c1 .candle-of .ensures,
-      c2 .check2 .ensures,
-      c3 .slots-fine .ensures,
-      c4 .check .ensures,
-      c5 .funding-fine .ensures,
-      c6 .funding-of .ensures,
-    )
+    let c1 = c .before .before in
+    rw (← c1 .candle-of .ensures, ← c .before .candle-fine .ensures)
+    (bad-line _ (not-true _ (c .if1 .taken)))
+
+returns-2 : tie.Need-returns-2
+unfolding barJudged
+returns-2 c =
+    let c1 = c .before .before in
+    let c2 = c1 .before .before in
+    rw (← c2 .candle-of .ensures, ← c1 .before .candle-fine .ensures)
+    (fine-line 11 _ (not-false _ (c1 .if1 .left))
+    (bad-line _ (not-so (c .before .slots-fine .ensures) (c .if2 .taken))))
+
+returns-3 : tie.Need-returns-3
+unfolding barJudged
+returns-3 c =
+    let c1 = c .before .before in
+    let c2 = c1 .before .before in
+    let c3 = c2 .before .before in
+    rw (← c3 .before .candle-of .ensures, ← c3 .candle-fine .ensures)
+    (fine-line 11 _ (not-false _ (c2 .before .if1 .left))
+    (fine-line 11 _ (so (c2 .slots-fine .ensures) (c1 .before .if2 .left))
+    (bad-line _ (not-so (c .before .funding-fine .ensures ∙ ap fundingFine (c1 .funding-of .ensures)) (c .if3 .taken)))))
+
+returns-4 : tie.Need-returns-4
+unfolding barJudged
+returns-4 c =
+    let c1 = c .before .before in
+    let c2 = c1 .before .before in
+    let c3 = c2 .before .before in
+    rw (← c3 .before .candle-of .ensures, ← c3 .candle-fine .ensures)
+    (fine-line 11 _ (not-false _ (c2 .before .if1 .left))
+    (fine-line 11 _ (so (c2 .slots-fine .ensures) (c1 .before .if2 .left))
+    (fine-line 11 _ (so (c .before .funding-fine .ensures ∙ ap fundingFine (c1 .funding-of .ensures)) (c .if3 .left)) refl)))
 
 pub judge-bar-spec : {M : Type 1} → statement M
 judge-bar-spec =
@@ -28,9 +51,10 @@ judge-bar-spec =
     (tie.spec
     (λ c κs. search needs)
     (λ c κs. search needs)
+    returns
+    (λ c κs. search needs)
+    returns-2
     (λ c κs. search needs)
     (λ c κs. search needs)
-    (λ c κs. search needs)
-    (λ c κs. search needs)
-    (λ c κs. search needs)
-    returns)
+    returns-3
+    returns-4)

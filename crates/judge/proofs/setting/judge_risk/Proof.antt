@@ -1,51 +1,99 @@
+-- Line by line: those passed are fine, and the first that is not decides.
+use mathlib.Core.Path.{refl}
 use Rattle.judge.specs.Settings.{riskJudged}
+use Rattle.judge.proofs.Lines.{so, not-so, fine-line, bad-line}
 use borrow.Author.Needs.{needs}
 use Rattle.judge.proofs.setting.judge_risk.Statement.{statement}
 use Rattle.judge.proofs.setting.judge_risk.Tie as tie
 
 returns : tie.Need-returns
 unfolding riskJudged
-returns c =
-    let c1 = c .before in
-    let c2 = c1 .before in
-    let c3 = c2 .before in
-    let c4 = c3 .before in
-    let c5 = c4 .before in
-    let c6 = c5 .before in
-    let c7 = c6 .before in
-    let c8 = c7 .before in
-    let c9 = c8 .before in
-    let c10 = c9 .before in
-    let c11 = c10 .before in
-    simp (
-      c .check6 .ensures,
-      c1 .stop-there .ensures,
-      c2 .check5 .ensures,
-      c3 .level-fine5 .ensures,
-      c4 .check4 .ensures,
-      c5 .level-fine4 .ensures,
-      c6 .check3 .ensures,
-      c7 .level-fine3 .ensures,
-      c8 .check2 .ensures,
-      c9 .level-fine2 .ensures,
-      c10 .check .ensures,
-      c11 .level-fine .ensures,
-    )
+returns c = bad-line _ (not-so (c .before .stop-there .ensures) (c .if1 .taken))
+
+returns-2 : tie.Need-returns-2
+unfolding riskJudged
+returns-2 c =
+    let c1 = c .before .before in
+    fine-line 12 12 (so (c1 .before .stop-there .ensures) (c1 .if1 .left))
+    (bad-line _ (not-so (c .before .level-fine .ensures) (c .if2 .taken)))
+
+returns-3 : tie.Need-returns-3
+unfolding riskJudged
+returns-3 c =
+    let c1 = c .before .before in
+    let c2 = c1 .before .before in
+    fine-line 12 12 (so (c2 .before .stop-there .ensures) (c2 .if1 .left))
+    (fine-line 12 12 (so (c1 .before .level-fine .ensures) (c1 .if2 .left))
+    (bad-line _ (not-so (c .before .level-fine2 .ensures) (c .if3 .taken))))
+
+returns-4 : tie.Need-returns-4
+unfolding riskJudged
+returns-4 c =
+    let c1 = c .before .before in
+    let c2 = c1 .before .before in
+    let c3 = c2 .before .before in
+    fine-line 12 12 (so (c3 .before .stop-there .ensures) (c3 .if1 .left))
+    (fine-line 12 12 (so (c2 .before .level-fine .ensures) (c2 .if2 .left))
+    (fine-line 12 13 (so (c1 .before .level-fine2 .ensures) (c1 .if3 .left))
+    (bad-line _ (not-so (c .before .level-fine3 .ensures) (c .if4 .taken)))))
+
+returns-5 : tie.Need-returns-5
+unfolding riskJudged
+returns-5 c =
+    let c1 = c .before .before in
+    let c2 = c1 .before .before in
+    let c3 = c2 .before .before in
+    let c4 = c3 .before .before in
+    fine-line 12 12 (so (c4 .before .stop-there .ensures) (c4 .if1 .left))
+    (fine-line 12 12 (so (c3 .before .level-fine .ensures) (c3 .if2 .left))
+    (fine-line 12 13 (so (c2 .before .level-fine2 .ensures) (c2 .if3 .left))
+    (fine-line 12 14 (so (c1 .before .level-fine3 .ensures) (c1 .if4 .left))
+    (bad-line _ (not-so (c .before .level-fine4 .ensures) (c .if5 .taken))))))
+
+returns-6 : tie.Need-returns-6
+unfolding riskJudged
+returns-6 c =
+    let c1 = c .before .before in
+    let c2 = c1 .before .before in
+    let c3 = c2 .before .before in
+    let c4 = c3 .before .before in
+    let c5 = c4 .before .before in
+    fine-line 12 12 (so (c5 .before .stop-there .ensures) (c5 .if1 .left))
+    (fine-line 12 12 (so (c4 .before .level-fine .ensures) (c4 .if2 .left))
+    (fine-line 12 13 (so (c3 .before .level-fine2 .ensures) (c3 .if3 .left))
+    (fine-line 12 14 (so (c2 .before .level-fine3 .ensures) (c2 .if4 .left))
+    (fine-line 12 15 (so (c1 .before .level-fine4 .ensures) (c1 .if5 .left))
+    (bad-line _ (not-so (c .before .level-fine5 .ensures) (c .if6 .taken)))))))
+
+returns-7 : tie.Need-returns-7
+unfolding riskJudged
+returns-7 c =
+    let c1 = c .before .before in
+    let c2 = c1 .before .before in
+    let c3 = c2 .before .before in
+    let c4 = c3 .before .before in
+    let c5 = c4 .before .before in
+    fine-line 12 12 (so (c5 .before .stop-there .ensures) (c5 .if1 .left))
+    (fine-line 12 12 (so (c4 .before .level-fine .ensures) (c4 .if2 .left))
+    (fine-line 12 13 (so (c3 .before .level-fine2 .ensures) (c3 .if3 .left))
+    (fine-line 12 14 (so (c2 .before .level-fine3 .ensures) (c2 .if4 .left))
+    (fine-line 12 15 (so (c1 .before .level-fine4 .ensures) (c1 .if5 .left))
+    (fine-line 12 16 (so (c .before .level-fine5 .ensures) (c .if6 .left)) refl)))))
 
 pub judge-risk-spec : {M : Type 1} → statement M
 judge-risk-spec =
     tie.close
     (tie.spec
     (λ c κs. search needs)
+    returns
     (λ c κs. search needs)
+    returns-2
     (λ c κs. search needs)
+    returns-3
     (λ c κs. search needs)
+    returns-4
     (λ c κs. search needs)
+    returns-5
     (λ c κs. search needs)
-    (λ c κs. search needs)
-    (λ c κs. search needs)
-    (λ c κs. search needs)
-    (λ c κs. search needs)
-    (λ c κs. search needs)
-    (λ c κs. search needs)
-    returns)
+    returns-6
+    returns-7)

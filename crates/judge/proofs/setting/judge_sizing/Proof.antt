@@ -1,36 +1,54 @@
+-- Line by line: those passed are fine, and the first that is not decides.
+use mathlib.Core.Path.{refl, ap, _∙_}
+use borrow.Author.Tests.{lt-leb, le-leb}
+use Rattle.floats.specs.Floats.{finite}
 use Rattle.judge.specs.Settings.{sizingJudged}
+use Rattle.judge.proofs.Lines.{so, not-so, fine-line, bad-line}
 use borrow.Author.Needs.{needs}
 use Rattle.judge.proofs.setting.judge_sizing.Statement.{statement}
 use Rattle.judge.proofs.setting.judge_sizing.Tie as tie
 
 returns : tie.Need-returns
 unfolding sizingJudged
-returns c =
-    let c1 = c .before in
-    let c2 = c1 .before in
-    let c3 = c2 .before in
-    let c4 = c3 .before in
-    let c5 = c4 .before in
-    let c6 = c5 .before in
-    simp (
-      c .check3 .ensures,
-      c1 .sizing-known .ensures,
-      c2 .check2 .ensures,
-      c3 .is-finite .ensures,
-      c4 .sizing-value .ensures,
-      c5 .check .ensures,
-      c6 .lookback-of .ensures,
-    )
+returns c = bad-line _ (not-so (c .before .sizing-known .ensures) (c .if1 .taken))
+
+returns-2 : tie.Need-returns-2
+unfolding sizingJudged
+returns-2 c =
+    let c1 = c .before .before in
+    let c2 = c1 .before .before in
+    fine-line 12 5 (so (c2 .sizing-known .ensures) (c1 .before .if1 .left))
+    (bad-line _ (not-so (c .before .is-finite .ensures ∙ ap finite (c1 .sizing-value .ensures)) (c .if2 .taken)))
+
+returns-3 : tie.Need-returns-3
+unfolding sizingJudged
+returns-3 c =
+    let c1 = c .before .before in
+    let c2 = c1 .before .before in
+    let c3 = c2 .before .before in
+    fine-line 12 5 (so (c3 .sizing-known .ensures) (c2 .before .if1 .left))
+    (fine-line 12 6 (so (c1 .before .is-finite .ensures ∙ ap finite (c2 .sizing-value .ensures)) (c1 .if2 .left))
+    (bad-line _ (rw (c .before .lookback-of .ensures) at (lt-leb _ _ (c .if3 .taken)))))
+
+returns-4 : tie.Need-returns-4
+unfolding sizingJudged
+returns-4 c =
+    let c1 = c .before .before in
+    let c2 = c1 .before .before in
+    let c3 = c2 .before .before in
+    fine-line 12 5 (so (c3 .sizing-known .ensures) (c2 .before .if1 .left))
+    (fine-line 12 6 (so (c1 .before .is-finite .ensures ∙ ap finite (c2 .sizing-value .ensures)) (c1 .if2 .left))
+    (fine-line 12 7 (rw (c .before .lookback-of .ensures) at (le-leb _ _ (c .if3 .left))) refl))
 
 pub judge-sizing-spec : {M : Type 1} → statement M
 judge-sizing-spec =
     tie.close
     (tie.spec
     (λ c κs. search needs)
+    returns
     (λ c κs. search needs)
     (λ c κs. search needs)
+    returns-2
     (λ c κs. search needs)
-    (λ c κs. search needs)
-    (λ c κs. search needs)
-    (λ c κs. search needs)
-    returns)
+    returns-3
+    returns-4)

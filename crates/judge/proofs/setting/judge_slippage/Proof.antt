@@ -1,30 +1,39 @@
+-- Line by line: those passed are fine, and the first that is not decides.
+use mathlib.Core.Path.{refl, ap, _∙_}
+use Rattle.floats.specs.Floats.{finite}
 use Rattle.judge.specs.Settings.{slippageJudged}
+use Rattle.judge.proofs.Lines.{so, not-so, fine-line, bad-line}
 use borrow.Author.Needs.{needs}
 use Rattle.judge.proofs.setting.judge_slippage.Statement.{statement}
 use Rattle.judge.proofs.setting.judge_slippage.Tie as tie
 
 returns : tie.Need-returns
 unfolding slippageJudged
-returns c =
-    let c1 = c .before in
-    let c2 = c1 .before in
-    let c3 = c2 .before in
-    let c4 = c3 .before in
-    simp (
-      c .check2 .ensures,
-      c1 .slippage-known .ensures,
-      c2 .check .ensures,
-      c3 .is-finite .ensures,
-      c4 .slippage-value .ensures,
-    )
+returns c = bad-line _ (not-so (c .before .slippage-known .ensures) (c .if1 .taken))
+
+returns-2 : tie.Need-returns-2
+unfolding slippageJudged
+returns-2 c =
+    let c1 = c .before .before in
+    let c2 = c1 .before .before in
+    fine-line 12 9 (so (c2 .slippage-known .ensures) (c1 .before .if1 .left))
+    (bad-line _ (not-so (c .before .is-finite .ensures ∙ ap finite (c1 .slippage-value .ensures)) (c .if2 .taken)))
+
+returns-3 : tie.Need-returns-3
+unfolding slippageJudged
+returns-3 c =
+    let c1 = c .before .before in
+    let c2 = c1 .before .before in
+    fine-line 12 9 (so (c2 .slippage-known .ensures) (c1 .before .if1 .left))
+    (fine-line 12 10 (so (c .before .is-finite .ensures ∙ ap finite (c1 .slippage-value .ensures)) (c .if2 .left)) refl)
 
 pub judge-slippage-spec : {M : Type 1} → statement M
 judge-slippage-spec =
     tie.close
     (tie.spec
     (λ c κs. search needs)
+    returns
     (λ c κs. search needs)
     (λ c κs. search needs)
-    (λ c κs. search needs)
-    (λ c κs. search needs)
-    returns)
+    returns-2
+    returns-3)
