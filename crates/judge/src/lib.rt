@@ -111,7 +111,8 @@ pub fn fresh(s: Settings) -> State
     }
 }
 
-// The run that a call goes on with: 10, 12 and what 13 says of the state. A step and a finish are judged by it alike.
+// The run that a step goes on with: 10, 12 and what 13 says of the state. It has this one caller, so that it is compiled into
+// it and settings and state are not copied once more; a finish is judged by the same lines.
 fn judge_run(s: Settings, t: State, rows: &[u64], equity: &[u64], trades: &[u64]) -> Verdict
     ensures { λ r. ⌜ r ≡ roomJudged s (now (rows .entry)) (settingsJudged s (stateJudged s t (record { rows = now (rows .entry); equity = now (equity .entry); trades = now (trades .entry) }) Verdict.Fine)) ⌝ }
 {
@@ -168,7 +169,13 @@ pub fn judge_step(
 pub fn judge_finish(s: Settings, t: State, rows: &[u64], equity: &[u64], trades: &[u64]) -> Verdict
     ensures { λ r. ⌜ r ≡ finishJudged s t (record { rows = now (rows .entry); equity = now (equity .entry); trades = now (trades .entry) }) ⌝ }
 {
-    if let Verdict::Bad(number, place) = judge_run(s, t, rows, equity, trades) {
+    if let Verdict::Bad(number, place) = rooms::judge_room(s, rows, Verdict::Fine) {
+        return Verdict::Bad(number, place);
+    }
+    if let Verdict::Bad(number, place) = setting::judge_settings(s, Verdict::Fine) {
+        return Verdict::Bad(number, place);
+    }
+    if let Verdict::Bad(number, place) = rooms::judge_state(s, t, rows, equity, trades, Verdict::Fine) {
         return Verdict::Bad(number, place);
     }
     rooms::judge_close(t, trades, Verdict::Fine)

@@ -1,6 +1,6 @@
--- The run is a block, judged by itself; the trade to be closed comes last.
+-- Room, settings and state are blocks, each judged by itself; the trade to be closed comes last.
 use Rattle.judge.specs.Judgement.{finishJudged}
-use Rattle.judge.proofs.Lines.{fine-block, bad-block, run-block}
+use Rattle.judge.proofs.Lines.{fine-block, bad-block, room-block, settings-block, state-block}
 use borrow.Author.Needs.{needs}
 use Rattle.judge.proofs.judge_finish.Statement.{statement}
 use Rattle.judge.proofs.judge_finish.Tie as tie
@@ -9,14 +9,36 @@ returns : tie.Need-returns
 unfolding finishJudged
 returns c =
     let c1 = c .before .before .before in
-    bad-block _ (run-block _ _ _) (c1 .judge-run .ensures) (c .before .number .given .1)
+    bad-block _ (room-block _ _) (c1 .judge-room .ensures) (c .before .number .given .1)
 
 returns-2 : tie.Need-returns-2
 unfolding finishJudged
 returns-2 c =
     let c1 = c .before .before .before in
-    fine-block (run-block _ _ _) (c1 .judge-run .ensures) (c .before .enum-told .given .1)
-    (c .judge-close .ensures)
+    let c2 = c1 .before .before .before in
+    fine-block (room-block _ _) (c2 .judge-room .ensures) (c1 .before .enum-told .given .1)
+    (bad-block _ (settings-block _) (c1 .judge-settings .ensures) (c .before .number2 .given .1))
+
+returns-3 : tie.Need-returns-3
+unfolding finishJudged
+returns-3 c =
+    let c1 = c .before .before .before in
+    let c2 = c1 .before .before .before in
+    let c3 = c2 .before .before .before in
+    fine-block (room-block _ _) (c3 .judge-room .ensures) (c2 .before .enum-told .given .1)
+    (fine-block (settings-block _) (c2 .judge-settings .ensures) (c1 .before .enum-told2 .given .1)
+    (bad-block _ (state-block _ _ _) (c1 .judge-state .ensures) (c .before .number3 .given .1)))
+
+returns-4 : tie.Need-returns-4
+unfolding finishJudged
+returns-4 c =
+    let c1 = c .before .before .before in
+    let c2 = c1 .before .before .before in
+    let c3 = c2 .before .before .before in
+    fine-block (room-block _ _) (c3 .judge-room .ensures) (c2 .before .enum-told .given .1)
+    (fine-block (settings-block _) (c2 .judge-settings .ensures) (c1 .before .enum-told2 .given .1)
+    (fine-block (state-block _ _ _) (c1 .judge-state .ensures) (c .before .enum-told3 .given .1)
+    (c .judge-close .ensures)))
 
 pub judge-finish-spec : {M : Type 1} → statement M
 judge-finish-spec =
@@ -27,4 +49,12 @@ judge-finish-spec =
     returns
     (λ c. search needs)
     (λ c κs. search needs)
-    returns-2)
+    (λ c. search needs)
+    returns-2
+    (λ c. search needs)
+    (λ c κs. search needs)
+    (λ c. search needs)
+    returns-3
+    (λ c. search needs)
+    (λ c κs. search needs)
+    returns-4)
