@@ -1,3 +1,4 @@
 pub mod Rows
+pub mod Dues
 pub mod Phases
 pub mod Endings

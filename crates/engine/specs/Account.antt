@@ -27,6 +27,8 @@ use Rattle.judge.specs.declared.Position.{Position}
 use Rattle.judge.specs.declared.Settings.{Settings}
 use Rattle.judge.specs.Bar.{fundingOf}
 use Rattle.judge.specs.Rooms.{pointPlaces, tradePlaces}
+use Rattle.engine.specs.declared.account.Due.{Due}
+use Rattle.engine.specs.declared.account.Due.the-variants.{Waits, Enters, Leaves}
 use Rattle.engine.specs.declared.account.Filled.{Filled}
 use Rattle.engine.specs.declared.account.Left.{Left}
 
@@ -66,6 +68,13 @@ filled s Idle p k before number = waiting Idle p
 filled s (EnterLong n) p k before number = cond (ltb 0 n) (waiting (EnterLong (n - 1)) p) (entered Long s p k before number)
 filled s (EnterShort n) p k before number = cond (ltb 0 n) (waiting (EnterShort (n - 1)) p) (entered Short s p k before number)
 filled s (ExitOrder n) p k before number = cond (ltb 0 n) (waiting (ExitOrder (n - 1)) p) (exited s p k)
+
+-- What is due at the open, by the order alone.
+unfoldable pub dueOf : Order → Due
+dueOf Idle = Waits Idle
+dueOf (EnterLong n) = cond (ltb 0 n) (Waits (EnterLong (n - 1))) (Enters Long)
+dueOf (EnterShort n) = cond (ltb 0 n) (Waits (EnterShort (n - 1))) (Enters Short)
+dueOf (ExitOrder n) = cond (ltb 0 n) (Waits (ExitOrder (n - 1))) Leaves
 
 -- ---- exits inside the bar
 

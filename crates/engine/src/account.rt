@@ -5,7 +5,7 @@ ghost use Prim.Native.Nat.{_≤_};
 ghost use Rattle.rows.specs.History.{historyOf};
 ghost use Rattle.engine.specs.Record.{heldRows};
 ghost use Rattle.engine.specs.Account as Account;
-ghost use Rattle.engine.specs.Account.{leaving, entering, booked, marked, charged};
+ghost use Rattle.engine.specs.Account.{leaving, entering, dueOf, booked, marked, charged};
 use crate::record;
 use execution::Entry;
 use execution::Exit;
@@ -25,6 +25,13 @@ pub struct Filled {
     pub order: Order,
     pub position: Position,
     pub exit: Exit,
+}
+
+// What is due at a bar's open for the working order: it only waits, a position is entered, or it is left.
+pub enum Due {
+    Waits(Order),
+    Enters(Side),
+    Leaves,
 }
 
 // A position after the exits inside the bar, and the trade where they closed one.
@@ -116,7 +123,35 @@ fn wait(order: Order, p: Position) -> Filled
     }
 }
 
-// The working order against the new bar, before its row is recorded: `rows` are those before this bar.
+// What is due for an order: a delay above 0 counts down by 1.
+fn due_of(order: Order) -> Due
+    ensures { λ r. ⌜ r ≡ dueOf order ⌝ }
+{
+    match order {
+        Order::Idle => Due::Waits(Order::Idle),
+        Order::EnterLong(n) => {
+            if 0 < n {
+                return Due::Waits(Order::EnterLong(n - 1));
+            }
+            Due::Enters(Side::Long)
+        }
+        Order::EnterShort(n) => {
+            if 0 < n {
+                return Due::Waits(Order::EnterShort(n - 1));
+            }
+            Due::Enters(Side::Short)
+        }
+        Order::Exit(n) => {
+            if 0 < n {
+                return Due::Waits(Order::Exit(n - 1));
+            }
+            Due::Leaves
+        }
+    }
+}
+
+// The working order against the new bar, before its row is recorded: `rows` are those before this bar. `enter` has this one
+// caller for both sides, so that it is compiled into a step and a bar with nothing due copies nothing.
 pub(crate) fn fill_working_order(
     s: Settings,
     order: Order,
@@ -129,26 +164,11 @@ pub(crate) fn fill_working_order(
     requires { ⌜ s .slots ≤ 64 ⌝ }
     ensures { λ r. ⌜ r ≡ Account.filled s order p candle (historyOf (s .slots) (heldRows (s .slots) held (now (rows .entry)))) number ⌝ }
 {
-    match order {
-        Order::Idle => wait(Order::Idle, p),
-        Order::EnterLong(n) => {
-            if 0 < n {
-                return wait(Order::EnterLong(n - 1), p);
-            }
-            enter(Side::Long, s, p, candle, rows, held, number)
-        }
-        Order::EnterShort(n) => {
-            if 0 < n {
-                return wait(Order::EnterShort(n - 1), p);
-            }
-            enter(Side::Short, s, p, candle, rows, held, number)
-        }
-        Order::Exit(n) => {
-            if 0 < n {
-                return wait(Order::Exit(n - 1), p);
-            }
-            leave(s, p, candle)
-        }
+    let due = due_of(order);
+    match due {
+        Due::Waits(waiting) => wait(waiting, p),
+        Due::Enters(side) => enter(side, s, p, candle, rows, held, number),
+        Due::Leaves => leave(s, p, candle),
     }
 }
 

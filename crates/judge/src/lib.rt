@@ -175,7 +175,14 @@ pub fn judge_finish(s: Settings, t: State, rows: &[u64], equity: &[u64], trades:
     if let Verdict::Bad(number, place) = setting::judge_settings(s, Verdict::Fine) {
         return Verdict::Bad(number, place);
     }
-    if let Verdict::Bad(number, place) = rooms::judge_state(s, t, rows, equity, trades, Verdict::Fine) {
+    if let Verdict::Bad(number, place) = rooms::judge_state(
+        s,
+        t,
+        rows,
+        equity,
+        trades,
+        Verdict::Fine,
+    ) {
         return Verdict::Bad(number, place);
     }
     rooms::judge_close(t, trades, Verdict::Fine)

@@ -1,0 +1,26 @@
+-- Order by order, with the test of the definition.
+use borrow.Author.Needs.{needs}
+use borrow.Author.Tests.{le-ltb, lt-ltb}
+use Rattle.engine.specs.Account.{dueOf}
+use Rattle.engine.proofs.account.due_of.Statement.{statement}
+use Rattle.engine.proofs.account.due_of.Tie as tie
+
+pub due-of-spec : {M : Type 1} → statement M
+unfolding dueOf
+due-of-spec =
+    tie.close
+    (tie.spec
+    (λ c. search needs)
+    (λ c. search needs)
+    (λ c. search needs)
+    (λ c. simp (lt-ltb _ _ (c .if1 .taken), c .before .before .order .given .1))
+    (λ c. search needs)
+    (λ c. search needs)
+    (λ c. simp (lt-ltb _ _ (c .if2 .taken), c .before .before .order2 .given .1))
+    (λ c. search needs)
+    (λ c. search needs)
+    (λ c. simp (lt-ltb _ _ (c .if3 .taken), c .before .before .order3 .given .1))
+    (λ c. simp (c .enum-told .given .1))
+    (λ c. simp (le-ltb _ _ (c .if1 .left), c .before .before .order .given .1))
+    (λ c. simp (le-ltb _ _ (c .if2 .left), c .before .before .order2 .given .1))
+    (λ c. simp (le-ltb _ _ (c .if3 .left), c .before .before .order3 .given .1)))
