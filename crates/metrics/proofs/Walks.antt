@@ -8,8 +8,6 @@ use lib.ListN.{length, getD, drop, drop-of-length-le}
 use lib.Seq.{drop-cons}
 use lib.Ieee.{Float}
 use Rattle.floats.specs.Floats as Floats
-use Rattle.floats.specs.Floats.{_⊘_}
-use Rattle.metrics.specs.Sums.{counted}
 use Rattle.metrics.specs.declared.trades.Side.{Side}
 use Rattle.metrics.specs.Trades.{isOn, sizeOf, sizesOn}
 
@@ -25,10 +23,6 @@ turn f xs i {n} {x} l h e p =
 -- At the end nothing is to come.
 pub done : {A : Type 0} (f : List Float → A) {w : A} (xs : List Float) (i : ℕ) {n : ℕ} → n ≡ length xs → n ≤ i → f (drop i xs) ≡ w → f [] ≡ w
 done f xs i l h p = sym (ap f (drop-of-length-le xs (rw l at h))) ∙ p
-
--- A sum over a count.
-pub over : {total w by : Float} {n k : ℕ} → total ≡ w → by ≡ counted n → n ≡ k → total ⊘ by ≡ w ⊘ counted k
-over p q l = cc
 
 -- ---- a trade that is on a side, and one that is not
 

@@ -65,11 +65,12 @@ pub fn metrics_of(initial: f64, equity: &[u64], trades: &[u64]) -> Metrics
     let pnl = final_equity(initial, equity) - initial;
     let return_pct = return_pct(initial, pnl);
     let max_drawdown = drawdown::max_drawdown_pct(equity);
+    let ratios = returns::ratios_of(equity);
     Metrics {
         pnl: pnl,
         return_pct: return_pct,
-        sharpe: returns::sharpe_ratio(equity),
-        sortino: returns::sortino_ratio(equity),
+        sharpe: ratios.sharpe,
+        sortino: ratios.sortino,
         calmar: quotient::gain_over(return_pct, max_drawdown),
         max_drawdown: max_drawdown,
         win_rate: trades::win_rate(trades),

@@ -2,11 +2,10 @@
 use super::quotient;
 use super::records;
 ghost use mathlib.Core.Path.{_≡_};
-ghost use Prim.Native.Nat.{_<_};
-ghost use lib.ListN.{length, getD};
-ghost use Rattle.floats.specs.Floats.{zero};
+ghost use lib.ListN.{length};
 ghost use Rattle.metrics.specs.Records.{equityOf};
 ghost use Rattle.metrics.specs.Sums as Sums;
+ghost use Rattle.metrics.specs.declared.returns.Part.the-variants.{Itself, Away, Below};
 ghost use Rattle.metrics.specs.Returns.{barReturn, barReturns, partOf, meanOf, sharpeRatio, sortinoRatio};
 
 // x times itself, in one product.
@@ -37,17 +36,6 @@ pub fn return_count(equity: &[u64]) -> usize
     points - 1
 }
 
-// Return number i: from point i to the next.
-fn return_at(equity: &[u64], i: usize) -> f64
-    requires { ⌜ i < length (barReturns (equityOf (now equity))) ⌝ }
-    ensures { λ r. ⌜ r ≡ getD (barReturns (equityOf (now (equity .entry)))) i zero ⌝ }
-{
-    bar_return(
-        records::equity_at(equity, i),
-        records::equity_at(equity, i + 1),
-    )
-}
-
 // What is summed of the returns.
 pub enum Part {
     // The return itself.
@@ -69,40 +57,77 @@ pub fn part_of(part: Part, r: f64) -> f64
     }
 }
 
-// The mean of a part over the returns. They are worked out anew in each pass, so that no room is needed for them.
-pub fn mean_of(equity: &[u64], part: Part) -> f64
-    ensures { λ r. ⌜ r ≡ meanOf part (barReturns (equityOf (now (equity .entry)))) ⌝ }
+// The means of two parts.
+struct Means {
+    itself: f64,
+    below: f64,
+}
+
+// Both in one pass, since a return costs a division. Each pass works the returns out anew, so that no room is needed for them.
+fn means_of(equity: &[u64]) -> Means
+    ensures itself { λ r. ⌜ r .itself ≡ meanOf Itself (barReturns (equityOf (now (equity .entry)))) ⌝ }
+    ensures below { λ r. ⌜ r .below ≡ meanOf Below (barReturns (equityOf (now (equity .entry)))) ⌝ }
 {
-    let n = return_count(equity);
-    let mut total = 0.0;
-    let mut i = 0;
-    while i < n {
-        total = total + part_of(part, return_at(equity, i));
+    let points = records::point_count(equity);
+    let mut before = records::equity_at(equity, 0);
+    let mut itself = 0.0;
+    let mut below = 0.0;
+    let mut i = 1;
+    while i < points {
+        let now = records::equity_at(equity, i);
+        let r = bar_return(before, now);
+        itself = itself + part_of(Part::Itself, r);
+        below = below + part_of(Part::Below, r);
+        before = now;
         i = i + 1;
     }
-    total / quotient::counted(n)
+    let n = quotient::counted(return_count(equity));
+    Means {
+        itself: itself / n,
+        below: below / n,
+    }
 }
 
-// The mean return over the standard deviation of the returns; 0 for fewer than two points.
-pub fn sharpe_ratio(equity: &[u64]) -> f64
-    ensures { λ r. ⌜ r ≡ sharpeRatio (equityOf (now (equity .entry))) ⌝ }
+// The mean of the part away from a mean, which has to be known first: a second pass.
+fn var_of(equity: &[u64], mean: f64) -> f64
+    ensures { λ r. ⌜ r ≡ meanOf (Away mean) (barReturns (equityOf (now (equity .entry)))) ⌝ }
 {
-    if records::point_count(equity) < 2 {
-        return 0.0;
+    let points = records::point_count(equity);
+    let mut before = records::equity_at(equity, 0);
+    let mut total = 0.0;
+    let mut i = 1;
+    while i < points {
+        let now = records::equity_at(equity, i);
+        total = total + part_of(Part::Away(mean), bar_return(before, now));
+        before = now;
+        i = i + 1;
     }
-    let mean = mean_of(equity, Part::Itself);
-    let var = mean_of(equity, Part::Away(mean));
-    quotient::mean_over(mean, floats::root::sqrt(var))
+    total / quotient::counted(return_count(equity))
 }
 
-// The mean return over the downside deviation of the returns; 0 for fewer than two points.
-pub fn sortino_ratio(equity: &[u64]) -> f64
-    ensures { λ r. ⌜ r ≡ sortinoRatio (equityOf (now (equity .entry))) ⌝ }
+// The mean return over two deviations of the returns.
+pub struct Ratios {
+    // Over the standard deviation.
+    pub sharpe: f64,
+    // Over the downside deviation.
+    pub sortino: f64,
+}
+
+// Both ratios; 0 for fewer than two points.
+pub fn ratios_of(equity: &[u64]) -> Ratios
+    ensures sharpe { λ r. ⌜ r .sharpe ≡ sharpeRatio (equityOf (now (equity .entry))) ⌝ }
+    ensures sortino { λ r. ⌜ r .sortino ≡ sortinoRatio (equityOf (now (equity .entry))) ⌝ }
 {
     if records::point_count(equity) < 2 {
-        return 0.0;
+        return Ratios {
+            sharpe: 0.0,
+            sortino: 0.0,
+        };
     }
-    let mean = mean_of(equity, Part::Itself);
-    let downside = mean_of(equity, Part::Below);
-    quotient::mean_over(mean, floats::root::sqrt(downside))
+    let means = means_of(equity);
+    let var = var_of(equity, means.itself);
+    Ratios {
+        sharpe: quotient::mean_over(means.itself, floats::root::sqrt(var)),
+        sortino: quotient::mean_over(means.itself, floats::root::sqrt(means.below)),
+    }
 }

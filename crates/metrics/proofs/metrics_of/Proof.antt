@@ -13,11 +13,8 @@ return-pct-requires c κs = search needs
 max-drawdown-pct-requires : tie.Need-max-drawdown-pct-requires
 max-drawdown-pct-requires c κs = search needs
 
-sharpe-ratio-requires : tie.Need-sharpe-ratio-requires
-sharpe-ratio-requires c κs = search needs
-
-sortino-ratio-requires : tie.Need-sortino-ratio-requires
-sortino-ratio-requires c κs = search needs
+ratios-of-requires : tie.Need-ratios-of-requires
+ratios-of-requires c κs = search needs
 
 gain-over-requires : tie.Need-gain-over-requires
 gain-over-requires c κs = search needs
@@ -39,11 +36,11 @@ returns c =
       c .before .profit-factor .ensures,
       c .before .before .win-rate .ensures,
       c .before .before .before .gain-over .ensures,
-      c .before .before .before .before .sortino-ratio .ensures,
-      c .before .before .before .before .before .sharpe-ratio .ensures,
-      c .before .before .before .before .before .before .max-drawdown-pct .ensures,
-      c .before .before .before .before .before .before .before .return-pct .ensures,
-      c .before .before .before .before .before .before .before .before .final-equity .ensures,
+      c .before .before .before .before .ratios-of .ensures .1,
+      c .before .before .before .before .ratios-of .ensures .0,
+      c .before .before .before .before .before .max-drawdown-pct .ensures,
+      c .before .before .before .before .before .before .return-pct .ensures,
+      c .before .before .before .before .before .before .before .final-equity .ensures,
     )
 
 pub metrics-of-spec : {M : Type 1} → statement M
@@ -53,8 +50,7 @@ metrics-of-spec =
     final-equity-requires
     return-pct-requires
     max-drawdown-pct-requires
-    sharpe-ratio-requires
-    sortino-ratio-requires
+    ratios-of-requires
     gain-over-requires
     win-rate-requires
     profit-factor-requires
