@@ -119,3 +119,27 @@ pub fn bench() {
     }
     println!();
 }
+
+/// The largest table with ever more slots: from some number on the original's map of them outweighs looking through the lists.
+pub fn by_slots() {
+    println!("## By slots\n");
+    println!("Nanoseconds a bar, the large table, D 14, after many bars in a room of D rows.\n");
+    println!("| K | C | Rust | C / Rust |");
+    println!("|---|---|---|---|");
+    for slots in [2, 4, 6, 8, 16, 32] {
+        let size = Size {
+            large: true,
+            depth: 14,
+            slots,
+        };
+        let (case, marks) = (size.case(), marks(size.depth));
+        let (tight, rust) = (ours(&case, &marks, size.depth).1, theirs(&case, &marks).1);
+        println!(
+            "| {slots} | {} | {} | {} |",
+            nanoseconds(tight),
+            nanoseconds(rust),
+            ratio(tight, rust)
+        );
+    }
+    println!();
+}

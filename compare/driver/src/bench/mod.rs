@@ -11,6 +11,7 @@ mod timing;
 /// Measures everything; always agrees.
 pub fn bench() -> bool {
     engine::bench();
+    engine::by_slots();
     moving::bench();
     parts::bench();
     rules::bench();
