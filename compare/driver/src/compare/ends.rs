@@ -56,9 +56,9 @@ pub fn same_ending(
         &[ours.trades, ours.fees_paid],
         &[theirs.trades, theirs.fees_paid],
     ));
-    if against == RUST && explain::is_profit_factor(&parted) {
+    if against == RUST && parted.iter().any(explain::is_profit_factor) {
         tally.explained.count(Entry::ProfitFactor);
-        return Ok(());
+        parted.retain(|one| !explain::is_profit_factor(one));
     }
     match parted.is_empty() || signs && explain::are_zero_signs(&parted) {
         true => Ok(()),

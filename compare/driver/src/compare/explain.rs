@@ -87,8 +87,7 @@ pub fn parted_by(parted: &[Unlike], case: &Case, i: usize, view: &View) -> Optio
         .find(|&entry| met(entry, case, i, view))
 }
 
-/// Entry 5: the profit factor alone, +0.0 here and −0.0 there.
-pub fn is_profit_factor(parted: &[Unlike]) -> bool {
-    let minus_zero = (-0.0f64).to_bits();
-    matches!(parted, [one] if one.what == "profit_factor" && one.ours == 0 && one.theirs == minus_zero)
+/// Entry 5: a profit factor of +0.0 here and −0.0 there.
+pub fn is_profit_factor(one: &Unlike) -> bool {
+    one.what == "profit_factor" && one.ours == 0 && one.theirs == (-0.0f64).to_bits()
 }
