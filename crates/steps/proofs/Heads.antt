@@ -6,11 +6,12 @@ use mathlib.Core.List.{List}
 use native.Mathlib.Omega.{arith}
 use lib.ListN.{getD}
 use lib.Dec.{ltb}
-use borrow.Author.Tests.{eq-eqb, ne-eqb, lt-ltb, le-ltb, le-leb, ltb-false}
+use borrow.Author.Tests.{lt-ltb, le-leb, ltb-true, ltb-false}
 use Rattle.table.specs.Bytes.{u16, u32, u64}
 use Rattle.steps.specs.declared.Step.{Step}
-use Rattle.steps.specs.Bytes.{fields, readStep, operandOp, testOp, answerOp, opOf}
+use Rattle.steps.specs.Bytes.{fields, readStep}
 use Rattle.steps.specs.WellFormed.{zeros, plain, bounded, goodStep}
+use Rattle.steps.proofs.Said.{says-const, says-price, says-compare, says-cross, says-between, says-jump}
 
 -- ---- the words and the fields
 
@@ -42,35 +43,27 @@ of-words bs at below =
 module _ (K D after : ℕ) where
   -- a constant within the window
   constant : (n bits : ℕ) → n < D → goodStep K D after (fields 1 0 0 n bits) ≡ true
-  unfolding goodStep opOf operandOp plain bounded zeros
-  constant n bits l = rw (lt-ltb n D l)
+  unfolding goodStep plain bounded zeros
+  constant n bits l = rw (says-const (fields 1 0 0 n bits) refl, lt-ltb n D l)
 
   -- a comparison, a cross or Between, by the two tests that tell which
   test : (k : ℕ) → 16 ≤ k → k < 25 → (t u : Bool) → ltb k 22 ≡ t → ltb k 24 ≡ u → goodStep K D after (fields k 0 0 0 0) ≡ true
-  unfolding goodStep opOf testOp plain bounded zeros
-  test k lo hi true u e f = rw (le-ltb k 16 lo, lt-ltb k 27 (omega arith), e)
-  test k lo hi false true e f = rw (le-ltb k 16 lo, lt-ltb k 27 (omega arith), e, f)
-  test k lo hi false false e f = rw (le-ltb k 16 lo, lt-ltb k 27 (omega arith), e, f, eq-eqb k 24 (omega (arith, ltb-false k 24 f)))
+  unfolding goodStep plain bounded zeros
+  test k lo hi true u e f = rw (says-compare (fields k 0 0 0 0) lo (ltb-true k 22 e))
+  test k lo hi false true e f = rw (says-cross (fields k 0 0 0 0) (ltb-false k 22 e) (ltb-true k 24 f))
+  test k lo hi false false e f =
+      let between : k ≡ 24 = omega (arith, ltb-false k 24 f) in
+      rw (says-between (fields k 0 0 0 0) between)
 
   -- a price within the window
   price : (p n : ℕ) → n < D → goodStep K D after (fields 3 p 0 n 0) ≡ true
-  unfolding goodStep opOf operandOp plain bounded zeros
-  price p n l = rw (lt-ltb n D l)
+  unfolding goodStep plain bounded zeros
+  price p n l = rw (says-price (fields 3 p 0 n 0) refl, lt-ltb n D l)
 
   -- a jump that lands in the list or just past it
   jump : (k skip : ℕ) → 32 ≤ k → k < 34 → skip ≤ after → goodStep K D after (fields k 0 skip 0 0) ≡ true
-  unfolding goodStep opOf answerOp plain bounded zeros
-  jump k skip lo hi l =
-      rw (
-        le-ltb k 16 (omega arith),
-        le-ltb k 27 (omega arith),
-        le-ltb k 29 (omega arith),
-        ne-eqb k 29 (λ e. omega arith),
-        ne-eqb k 30 (λ e. omega arith),
-        ne-eqb k 31 (λ e. omega arith),
-        lt-ltb k 34 hi,
-        le-leb skip after l,
-      )
+  unfolding goodStep plain bounded zeros
+  jump k skip lo hi l = rw (says-jump (fields k 0 skip 0 0) lo hi, le-leb skip after l)
 
 -- ---- good steps, by their words
 

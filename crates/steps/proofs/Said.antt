@@ -16,9 +16,11 @@ use Rattle.steps.specs.Machine.{giving, saying, passing, effect}
 
 -- ---- a range, as it is asked for
 
+-- a kind that is not among them, and not below them, is above them
 pub range-out : (lo k hi : ℕ) → (leb lo k && ltb k hi) ≡ false → lo ≤ k → hi ≤ k
 range-out lo k hi e le = ltb-false k hi (rw (le-leb lo k le) at e)
 
+-- a kind that is among them
 pub range-in : (lo k hi : ℕ) → (leb lo k && ltb k hi) ≡ true → (lo ≤ k) × (k < hi)
 range-in lo k hi e = go (leb lo k) refl e
   where
@@ -29,18 +31,22 @@ range-in lo k hi e = go (leb lo k) refl e
 -- ---- what is said
 
 module _ (x : Step) where
+  -- kinds below 16
   operand : x .kind < 16 → opOf x ≡ operandOp x
   unfolding opOf
   operand l = rw (lt-ltb (x .kind) 16 l)
 
+  -- kinds from 16 to 26
   test : 16 ≤ x .kind → x .kind < 27 → opOf x ≡ testOp x
   unfolding opOf
   test le l = rw (le-ltb (x .kind) 16 le, lt-ltb (x .kind) 27 l)
 
+  -- kinds from 27 on
   other : 27 ≤ x .kind → opOf x ≡ answerOp x
   unfolding opOf
   other le = rw (le-ltb (x .kind) 16 (omega arith), le-ltb (x .kind) 27 le)
 
+  -- each kind or range of kinds by itself
   pub says-const : x .kind ≡ 1 → opOf x ≡ Const (x .bits) (x .n)
   unfolding operandOp
   says-const e = rw (operand (omega arith), eq-eqb (x .kind) 1 e)
@@ -66,15 +72,15 @@ module _ (x : Step) where
         lt-ltb (x .kind) 9 l,
       )
 
-  says-compare : 16 ≤ x .kind → x .kind < 22 → opOf x ≡ Compare (x .kind)
+  pub says-compare : 16 ≤ x .kind → x .kind < 22 → opOf x ≡ Compare (x .kind)
   unfolding testOp
   says-compare le l = rw (test le (omega arith), lt-ltb (x .kind) 22 l)
 
-  says-cross : 22 ≤ x .kind → x .kind < 24 → opOf x ≡ Cross (x .kind)
+  pub says-cross : 22 ≤ x .kind → x .kind < 24 → opOf x ≡ Cross (x .kind)
   unfolding testOp
   says-cross le l = rw (test (omega arith) (omega arith), le-ltb (x .kind) 22 le, lt-ltb (x .kind) 24 l)
 
-  says-between : x .kind ≡ 24 → opOf x ≡ Between
+  pub says-between : x .kind ≡ 24 → opOf x ≡ Between
   unfolding testOp
   says-between e =
       rw (
@@ -113,7 +119,7 @@ module _ (x : Step) where
         eq-eqb (x .kind) 31 e,
       )
 
-  -- what is said from 32 on
+  -- kinds from 32 on
   late : 32 ≤ x .kind → opOf x ≡ cond (ltb (x .kind) 34) (JumpIf (eqb (x .kind) 33) (x .skip)) Unknown
   unfolding answerOp
   late le =
@@ -125,7 +131,7 @@ module _ (x : Step) where
         ne-eqb (x .kind) 31 (λ f. omega arith),
       )
 
-  says-jump : 32 ≤ x .kind → x .kind < 34 → opOf x ≡ JumpIf (eqb (x .kind) 33) (x .skip)
+  pub says-jump : 32 ≤ x .kind → x .kind < 34 → opOf x ≡ JumpIf (eqb (x .kind) 33) (x .skip)
   says-jump le l = rw (late le, lt-ltb (x .kind) 34 l)
 
   pub says-nothing-late : 34 ≤ x .kind → opOf x ≡ Unknown
