@@ -1,11 +1,10 @@
 -- However many bars are run from a fresh state, no count exceeds its room, and no room changes its length.
 use Prim.Native.Nat.{ℕ, _+_, _/_, _≤_}
-use mathlib.Core.Path.{_≡_, refl, sym, ap, _∙_}
+use mathlib.Core.Path.{_≡_, refl, _∙_}
 use mathlib.Core.List.{List, [], _∷_}
 use native.Mathlib.Omega.{arith}
 use lib.ListN.{length}
 use Rattle.rows.specs.History.{historyOf}
-use Rattle.rows.specs.Room.{withRow, heldWith}
 use Rattle.judge.specs.declared.Settings.{Settings}
 use Rattle.judge.specs.declared.State.{State}
 use Rattle.judge.specs.declared.Verdict.{Verdict}
@@ -15,9 +14,9 @@ use Rattle.judge.specs.Judgement.{stepJudged}
 use Rattle.judge.specs.Lists.{Lists}
 use Rattle.judge.specs.Rooms.{Rooms, rowPlaces, pointPlaces, tradePlaces}
 use Rattle.judge.specs.State.{freshState}
-use Rattle.engine.specs.Account.{filled, left, charged, booked, marked}
-use Rattle.engine.specs.Kept.{row-kept, row-held, row-long, booked-fits, marked-fits}
-use Rattle.engine.specs.Record.{rowOf, heldRows}
+use Rattle.engine.specs.Account.{filled, left, charged, booked}
+use Rattle.engine.specs.Kept.{row-fits, booked-fits, marked-fits}
+use Rattle.engine.specs.Record.{heldRows}
 use Rattle.engine.specs.Step.{With, stepped}
 
 -- Bar after bar, until one is refused.
@@ -55,18 +54,11 @@ fits : (w c : ℕ) (room last : List ℕ) → length last ≡ length room → c 
 fits w c room last e h = rw e h
 
 module _ (s : Settings) (t : State) (bar : List ℕ) (m : Rooms) (ls : Lists) (c : Counted s t m) where
-  step-rows : (heldWith (m .rows) (t .counts .«rows_held») (rowOf (s .slots) bar) ≤ length (m .rows) / (7 + s .slots))
-      × (length (withRow (m .rows) (t .counts .«rows_held») (rowOf (s .slots) bar)) ≡ length (m .rows))
-  step-rows =
-      let w : length (rowOf (s .slots) bar) ≡ 7 + s .slots = row-long (s .slots) bar in (
-        rw w at (row-held (m .rows) (t .counts .«rows_held») (rowOf (s .slots) bar) (omega (arith, w))),
-        row-kept (m .rows) (t .counts .«rows_held») (rowOf (s .slots) bar) (omega (arith, w)),
-      )
-
   step-counted : Counted s (stepped s t bar m ls .result) (stepped s t bar m ls .rooms) × AsLong m (stepped s t bar m ls .rooms)
   unfolding stepped
   step-counted =
       let k = candleOf bar in
+      let rows = row-fits (s .slots) (m .rows) (t .counts .«rows_held») bar in
       let f = filled s (t .order) (t .position) k (historyOf (s .slots) (heldRows (s .slots) (t .counts .«rows_held») (m .rows))) (t .counts .«bars_seen») in
       let sold = booked (m .trades) (t .counts .trades) (f .«exit») in
       let x = left s (f .position) k in
@@ -75,11 +67,11 @@ module _ (s : Settings) (t : State) (bar : List ℕ) (m : Rooms) (ls : Lists) (c
       let d = stepped s t bar m ls .rooms in
       let e = marked-fits (m .equity) (t .counts .«equity_points») k (charged s (x .position) bar) (c .points) in (
         record {
-          rows = fits (7 + s .slots) _ (m .rows) (d .rows) (step-rows .1) (step-rows .0);
+          rows = fits (7 + s .slots) _ (m .rows) (d .rows) (rows .1) (rows .0);
           points = fits 2 _ (m .equity) (d .equity) (e .0) (e .1);
           trades = fits 8 _ (sold .room) (d .trades) (b .0) (b .1);
         },
-        record { rows = step-rows .1; equity = e .0; trades = b .0 ∙ a .0 },
+        record { rows = rows .1; equity = e .0; trades = b .0 ∙ a .0 },
       )
 
 stays : (s : Settings) (v : Verdict) (m : Rooms) (a b : With State) → Counted s (a .result) (a .rooms) × AsLong m (a .rooms)

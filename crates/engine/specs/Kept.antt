@@ -1,12 +1,11 @@
 -- What is written into a room stays within it: its length is kept, and it holds no more than it has places for.
 use Prim.Native.Nat.{ℕ, zero, suc, _+_, _-_, _*_, _/_, _≤_, _<_}
-use mathlib.Core.Path.{_≡_, refl, sym, ap, _∙_}
+use mathlib.Core.Path.{_≡_, refl, ap, _∙_}
 use mathlib.Core.Bool.{Bool, true, false, cond}
 use mathlib.Core.List.{List, [], _∷_, _++_}
 use native.Mathlib.Nat.{le-div-iff-mul-le, suc-mul, le-refl, mul-le-mul-right}
-use native.Mathlib.Numerals.{add-one}
 use native.Mathlib.Omega.{arith}
-use borrow.Author.Tests.{ltb-true, ltb-false, leb-true, eqb-false}
+use borrow.Author.Tests.{ltb-true, leb-true, eqb-false}
 use lib.ListN.{length, take, drop, length-append, length-drop}
 use lib.Seq.{length-take-le}
 use lib.Dec.{ltb, leb, eqb}
@@ -51,7 +50,7 @@ module _ (room : List ℕ) (held : ℕ) (row : List ℕ) (wide : 0 < length row)
   within : (n : ℕ) → n ≤ places room row → n * length row ≤ length room
   within n h = le-div-iff-mul-le {k = length row} wide .0 h
 
-  pub row-kept : length (withRow room held row) ≡ length room
+  row-kept : length (withRow room held row) ≡ length room
   unfolding withRow
   row-kept = go (ltb held (places room row)) (eqb (places room row) 0) refl refl
     where
@@ -69,7 +68,7 @@ module _ (room : List ℕ) (held : ℕ) (row : List ℕ) (wide : 0 < length row)
           let g : 1 * length row ≤ places room row * length row = mul-le-mul-right (length row) p in
           shifted room row (places room row * length row) (omega (arith, g)) f
 
-  pub row-held : heldWith room held row ≤ places room row
+  row-held : heldWith room held row ≤ places room row
   unfolding heldWith
   row-held = go (ltb held (places room row)) refl
     where
@@ -86,6 +85,13 @@ listed-long (suc n) f = length-append (listed n f) (f n ∷ []) ∙ omega (arith
 pub row-long : (K : ℕ) (bar : List ℕ) → length (rowOf K bar) ≡ 7 + K
 unfolding rowOf
 row-long K bar = listed-long (7 + K) (rowWord bar)
+
+-- a bar's row in a room
+pub row-fits : (K : ℕ) (room : List ℕ) (held : ℕ) (bar : List ℕ)
+    → (heldWith room held (rowOf K bar) ≤ length room / (7 + K)) × (length (withRow room held (rowOf K bar)) ≡ length room)
+row-fits K room held bar =
+    let w : length (rowOf K bar) ≡ 7 + K = row-long K bar in
+    (rw w at (row-held room held (rowOf K bar) (omega (arith, w))), row-kept room held (rowOf K bar) (omega (arith, w)))
 
 -- ---- counts
 

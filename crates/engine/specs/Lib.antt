@@ -11,3 +11,6 @@ pub mod Kept
 pub mod Counted
 pub mod Meant
 pub mod Reads
+pub mod Window
+pub mod Near
+pub mod Run

@@ -1,0 +1,115 @@
+-- A run depends on no row older than the last D: however many rows a box has places for beyond D, it refuses the same
+-- bars, and comes to the same orders, position, trades and equity.
+use Prim.Native.Nat.{ℕ, _+_, _≤_}
+use mathlib.Core.Path.{_≡_, refl, _∙_}
+use mathlib.Core.Bool.{Bool, true, false, cond}
+use mathlib.Core.List.{List, [], _∷_}
+use native.Mathlib.Nat.{zero-mul}
+use native.Mathlib.Omega.{arith}
+use borrow.Author.Tests.{ltb-false, leb-true, le-leb}
+use lib.Dec.{ltb, leb}
+use Rattle.rows.specs.Room.{places, heldWith}
+use Rattle.judge.specs.declared.Counts.{Counts}
+use Rattle.judge.specs.declared.Settings.{Settings}
+use Rattle.judge.specs.declared.State.{State}
+use Rattle.judge.specs.declared.Verdict.{Verdict}
+use Rattle.judge.specs.declared.Verdict.the-variants.{Fine, Bad}
+use Rattle.judge.specs.Judgement.{stepJudged}
+use Rattle.judge.specs.Lists.{Lists}
+use Rattle.judge.specs.Rooms.{Rooms, rowPlaces, most, roomJudged, mostJudged, heldJudged, stateJudged, placeJudged}
+use Rattle.judge.specs.State.{freshState}
+use Rattle.judge.specs.Verdict.{checked}
+use Rattle.engine.specs.Counted.{goOn, runOver}
+use Rattle.engine.specs.Kept.{row-fits}
+use Rattle.engine.specs.Near.{Near, step-near}
+use Rattle.engine.specs.Record.{rowOf, heldRows}
+use Rattle.engine.specs.Step.{With, stepped}
+
+-- what a run from a fresh state over a room with places for D rows or more has at each bar
+pub record Roomy (s : Settings) (t : State) (m : Rooms) : Type 0 where
+  pub depth : s .depth ≤ rowPlaces (s .slots) (m .rows)
+  pub held : t .counts .«rows_held» ≤ rowPlaces (s .slots) (m .rows)
+  pub seen : t .counts .«rows_held» ≤ t .counts .«bars_seen»
+
+-- ---- a bar
+
+-- a bar adds a row at most
+row-more : (room : List ℕ) (held : ℕ) (row : List ℕ) → heldWith room held row ≤ held + 1
+unfolding heldWith
+row-more room held row = go (ltb held (places room row)) refl
+  where
+    go : (b : Bool) → ltb held (places room row) ≡ b → cond b (held + 1) (places room row) ≤ held + 1
+    go true e = omega arith
+    go false e = omega (arith, ltb-false held (places room row) e)
+
+-- so it is again after a bar
+step-roomy : (s : Settings) (t : State) (bar : List ℕ) (m : Rooms) (ls : Lists) → Roomy s t m
+    → Roomy s (stepped s t bar m ls .result) (stepped s t bar m ls .rooms)
+unfolding stepped
+step-roomy s t bar m ls r =
+    let f = row-fits (s .slots) (m .rows) (t .counts .«rows_held») bar in
+    record {
+      depth = rw (f .1) (r .depth);
+      held = rw (f .1) (f .0);
+      seen = omega (arith, r .seen, row-more (m .rows) (t .counts .«rows_held») (rowOf (s .slots) bar));
+    }
+
+-- a line of the table of refusals that is passed where the one above it is
+passing : (a b : Bool) (number place : ℕ) (rest : Verdict) → (a ≡ true → b ≡ true)
+    → checked a number place (checked b number place rest) ≡ checked a number place rest
+unfolding checked
+passing true b number place rest h = rw (h refl)
+passing false b number place rest h = refl
+
+-- rows that are no more than the bars seen exceed 4,294,967,295 only where those do
+most-judged : (n : Counts) (rest : Verdict) → n .«rows_held» ≤ n .«bars_seen» → mostJudged n rest
+    ≡ checked (leb (n .«bars_seen») most) 13 0 (checked (leb (n .«equity_points») most) 13 0 (checked (leb (n .trades) most) 13 0 rest))
+unfolding mostJudged
+most-judged n rest h = passing _ _ 13 0 _ (λ e. le-leb (n .«rows_held») most (omega (arith, leb-true (n .«bars_seen») most e)))
+
+-- two boxes that are near refuse the same bars, with the same number and place
+pub judged-near : (s : Settings) (t t′ : State) (bar : List ℕ) (m m′ : Rooms) (ls : Lists) → Roomy s t m → Roomy s t′ m′
+    → Near s t t′ m m′ → stepJudged s t bar m ls ≡ stepJudged s t′ bar m′ ls
+unfolding stepJudged roomJudged stateJudged heldJudged placeJudged
+judged-near s t t′ bar m m′ ls r r′ near =
+    rw (le-leb _ _ (r .depth), most-judged (t .counts) _ (r .seen), le-leb _ _ (r .held))
+    (rw (le-leb _ _ (r′ .depth), most-judged (t′ .counts) _ (r′ .seen), le-leb _ _ (r′ .held))
+    (rw (near .bars, near .points, near .trades, near .equity, near .closed, near .position)))
+
+-- ---- a run
+
+-- where both refuse, nothing changes
+on-near : (s : Settings) (v : Verdict) (a a′ b b′ : With State) → Near s (a .result) (a′ .result) (a .rooms) (a′ .rooms)
+    → (v ≡ Fine → Near s (b .result) (b′ .result) (b .rooms) (b′ .rooms))
+    → Near s (goOn v a b .result) (goOn v a′ b′ .result) (goOn v a b .rooms) (goOn v a′ b′ .rooms)
+unfolding goOn
+on-near s (Bad number place) a a′ b b′ x y = x
+on-near s Fine a a′ b b′ x y = y refl
+
+-- from any two boxes that are near
+run-on : (s : Settings) (ls : Lists) (bars : List (List ℕ)) (t t′ : State) (m m′ : Rooms) → Roomy s t m → Roomy s t′ m′
+    → Near s t t′ m m′
+    → Near s (runOver s ls t m bars .result) (runOver s ls t′ m′ bars .result) (runOver s ls t m bars .rooms) (runOver s ls t′ m′ bars .rooms)
+unfolding runOver
+run-on s ls [] t t′ m m′ r r′ near = near
+run-on s ls (bar ∷ bars) t t′ m m′ r r′ near =
+    let d = stepped s t bar m ls in
+    let d′ = stepped s t′ bar m′ ls in
+    let e : stepJudged s t bar m ls ≡ stepJudged s t′ bar m′ ls = judged-near s t t′ bar m m′ ls r r′ near in
+    rw e (on-near s (stepJudged s t′ bar m′ ls) (record { result = t; rooms = m }) (record { result = t′; rooms = m′ })
+    (runOver s ls (d .result) (d .rooms) bars) (runOver s ls (d′ .result) (d′ .rooms) bars) near
+    (λ h. run-on s ls bars (d .result) (d′ .result) (d .rooms) (d′ .rooms) (step-roomy s t bar m ls r) (step-roomy s t′ bar m′ ls r′)
+    (step-near s t t′ bar m m′ ls (e ∙ h) h near)))
+
+-- THE RUN: from a fresh state, over two rooms of rows that each have places for D or more
+pub run-near : (s : Settings) (ls : Lists) (m m′ : Rooms) (bars : List (List ℕ))
+    → s .depth ≤ rowPlaces (s .slots) (m .rows) → s .depth ≤ rowPlaces (s .slots) (m′ .rows)
+    → m .equity ≡ m′ .equity → m .trades ≡ m′ .trades
+    → let r = runOver s ls (freshState s) m bars in
+    let r′ = runOver s ls (freshState s) m′ bars in
+    Near s (r .result) (r′ .result) (r .rooms) (r′ .rooms)
+unfolding freshState heldRows
+run-near s ls m m′ bars p p′ e c =
+    run-on s ls bars (freshState s) (freshState s) m m′
+    (record { depth = p; held = omega arith; seen = omega arith }) (record { depth = p′; held = omega arith; seen = omega arith })
+    (record { bars = refl; points = refl; trades = refl; order = refl; position = refl; last = refl; equity = e; closed = c; window = rw zero-mul })
