@@ -2,25 +2,20 @@
 -- keeps, and are alike in all but that, are so again after a bar.
 use Prim.Native.Nat.{ℕ, _<_}
 use mathlib.Core.Path.{_≡_, refl, sym, _∙_}
-use mathlib.Core.Bool.{Bool, true, false}
 use mathlib.Core.List.{List, _++_}
-use native.Mathlib.Omega.{arith}
-use borrow.Author.Tests.{ltb-true}
 use Rattle.rows.specs.History.{historyOf, lastRows}
 use Rattle.judge.specs.declared.Order.{Order}
 use Rattle.judge.specs.declared.Order.the-variants.{Idle, EnterLong, EnterShort, Exit}
 use Rattle.judge.specs.declared.Position.{Position}
 use Rattle.judge.specs.declared.Settings.{Settings}
 use Rattle.judge.specs.declared.State.{State}
-use Rattle.judge.specs.declared.Verdict.{Verdict}
 use Rattle.judge.specs.declared.Verdict.the-variants.{Fine}
 use Rattle.judge.specs.Bar.{candleOf}
 use Rattle.judge.specs.Fine.{StepFine, step-fine}
 use Rattle.judge.specs.Judgement.{stepJudged}
 use Rattle.judge.specs.Lists.{Lists}
-use Rattle.judge.specs.Rooms.{Rooms, roomJudged}
-use Rattle.judge.specs.Settings.{lookback, depthJudged, settingsJudged}
-use Rattle.judge.specs.Verdict.{checked}
+use Rattle.judge.specs.Rooms.{Rooms}
+use Rattle.judge.specs.Settings.{lookback}
 use Rattle.engine.specs.declared.account.Filled.{Filled}
 use Rattle.engine.specs.Account.{filled}
 use Rattle.engine.specs.Decide.{decided}
@@ -45,20 +40,6 @@ pub record Near (s : Settings) (t t′ : State) (m m′ : Rooms) : Type 0 where
   pub equity : m .equity ≡ m′ .equity
   pub closed : m .trades ≡ m′ .trades
   pub window : windowOf s t m ≡ windowOf s t′ m′
-
--- a line of the table of refusals that is passed
-passed : (ok : Bool) (number place : ℕ) (rest : Verdict) → checked ok number place rest ≡ Fine → (ok ≡ true) × (rest ≡ Fine)
-unfolding checked
-passed true number place rest h = (refl, h)
-passed false number place rest h = absurd (let z : _≡_ {A = ℕ} 0 1 = cc in omega arith)
-
--- a step that is judged fine has a D above the lookback
-below-depth : (s : Settings) (t : State) (bar : List ℕ) (m : Rooms) (ls : Lists) → stepJudged s t bar m ls ≡ Fine
-    → lookback (s .terms .sizing) < s .depth
-unfolding stepJudged roomJudged settingsJudged depthJudged
-below-depth s t bar m ls h =
-    let settings = passed _ _ _ _ (passed _ _ _ _ h .1) .1 in
-    ltb-true _ _ (passed _ _ _ _ (passed _ _ _ _ (passed _ _ _ _ settings .1) .1) .0)
 
 -- the fill of a step
 abbrev fillOf : Settings → State → List ℕ → Rooms → Filled
@@ -99,7 +80,7 @@ pub step-near : (s : Settings) (t t′ : State) (bar : List ℕ) (m m′ : Rooms
     → Near s (stepped s t bar m ls .result) (stepped s t′ bar m′ ls .result) (stepped s t bar m ls .rooms) (stepped s t′ bar m′ ls .rooms)
 unfolding stepped
 step-near s t t′ bar m m′ ls h h′ near =
-    let fills : fillOf s t bar m ≡ fillOf s t′ bar m′ = fills-near s t t′ bar m m′ (below-depth s t bar m ls h) near in
+    let fills : fillOf s t bar m ≡ fillOf s t′ bar m′ = fills-near s t t′ bar m m′ (step-fine s t bar m ls h .behind) near in
     let windows : windowOf s (stepped s t bar m ls .result) (stepped s t bar m ls .rooms)
     ≡ windowOf s (stepped s t′ bar m′ ls .result) (stepped s t′ bar m′ ls .rooms) =
     window-after s t bar m ls (step-fine s t bar m ls h)

@@ -14,12 +14,13 @@ use Rattle.judge.specs.declared.Settings.{Settings}
 use Rattle.judge.specs.declared.State.{State}
 use Rattle.judge.specs.declared.Verdict.{Verdict}
 use Rattle.judge.specs.declared.Verdict.the-variants.{Fine, Bad}
-use Rattle.judge.specs.Judgement.{stepJudged}
+use Rattle.judge.specs.Judgement.{stepJudged, finishJudged}
 use Rattle.judge.specs.Lists.{Lists}
-use Rattle.judge.specs.Rooms.{Rooms, rowPlaces, most, roomJudged, mostJudged, heldJudged, stateJudged, placeJudged}
+use Rattle.judge.specs.Rooms.{Rooms, rowPlaces, most, roomJudged, mostJudged, heldJudged, stateJudged, placeJudged, toClose, closeJudged}
 use Rattle.judge.specs.State.{freshState}
 use Rattle.judge.specs.Verdict.{checked}
 use Rattle.engine.specs.Counted.{goOn, runOver}
+use Rattle.engine.specs.Finish.{lastExit, endState, ended}
 use Rattle.engine.specs.Kept.{row-fits}
 use Rattle.engine.specs.Near.{Near, step-near}
 use Rattle.engine.specs.Record.{rowOf, heldRows}
@@ -113,3 +114,35 @@ run-near s ls m m′ bars p p′ e c =
     run-on s ls bars (freshState s) (freshState s) m m′
     (record { depth = p; held = omega arith; seen = omega arith }) (record { depth = p′; held = omega arith; seen = omega arith })
     (record { bars = refl; points = refl; trades = refl; order = refl; position = refl; last = refl; equity = e; closed = c; window = rw zero-mul })
+
+-- ---- the end
+
+-- two boxes that are near refuse to finish alike
+pub finish-judged-near : (s : Settings) (t t′ : State) (m m′ : Rooms) → Roomy s t m → Roomy s t′ m′ → Near s t t′ m m′
+    → finishJudged s t m ≡ finishJudged s t′ m′
+unfolding finishJudged roomJudged stateJudged heldJudged closeJudged toClose
+finish-judged-near s t t′ m m′ r r′ near =
+    rw (le-leb _ _ (r .depth), most-judged (t .counts) _ (r .seen), le-leb _ _ (r .held))
+    (rw (le-leb _ _ (r′ .depth), most-judged (t′ .counts) _ (r′ .seen), le-leb _ _ (r′ .held))
+    (rw (near .bars, near .points, near .trades, near .equity, near .closed, near .position)))
+
+-- THE END: of two boxes that are near, the same figures, and they are near again
+pub finish-near : (s : Settings) (t t′ : State) (m m′ : Rooms) → Near s t t′ m m′
+    → let e = ended s t m in
+    let e′ = ended s t′ m′ in
+    (e .result .metrics ≡ e′ .result .metrics) × Near s (e .result .state) (e′ .result .state) (e .rooms) (e′ .rooms)
+unfolding ended lastExit endState toClose
+finish-near s t t′ m m′ near = (
+  rw (near .bars, near .points, near .trades, near .position, near .last, near .equity, near .closed),
+  record {
+    bars = near .bars;
+    points = near .points;
+    trades = rw (near .bars, near .trades, near .position, near .last, near .closed);
+    order = near .order;
+    position = rw (near .bars, near .position, near .last);
+    last = near .last;
+    equity = near .equity;
+    closed = rw (near .bars, near .trades, near .position, near .last, near .closed);
+    window = near .window;
+  },
+)

@@ -20,7 +20,7 @@ use Rattle.judge.specs.Bar.{barWords}
 use Rattle.judge.specs.Judgement.{stepJudged}
 use Rattle.judge.specs.Lists.{Lists}
 use Rattle.judge.specs.Rooms.{Rooms, rowPlaces, pointPlaces, tradePlaces, most, roomJudged, mostJudged, heldJudged, stateJudged, placeJudged}
-use Rattle.judge.specs.Settings.{depthJudged, sizingJudged, slippageJudged, riskJudged, termsJudged, settingsJudged}
+use Rattle.judge.specs.Settings.{lookback, depthJudged, sizingJudged, slippageJudged, riskJudged, termsJudged, settingsJudged}
 
 -- a line that is passed, and what the lines below it say
 passed : (ok : Bool) (number place : ℕ) (rest : Verdict) → checked ok number place rest ≡ Fine → (ok ≡ true) × (rest ≡ Fine)
@@ -46,17 +46,20 @@ unfolding termsJudged
 below-terms t rest h =
     passed _ _ _ _ (below-risk _ _ _ (below-slippage _ _ (passed _ _ _ _ (below-sizing _ _ h) .1))) .1
 
-below-depth : (D : ℕ) (z : Sizing) (rest : Verdict) → depthJudged D z rest ≡ Fine → (1 ≤ D) × (rest ≡ Fine)
+below-depth : (D : ℕ) (z : Sizing) (rest : Verdict) → depthJudged D z rest ≡ Fine → (1 ≤ D) × (lookback z < D) × (rest ≡ Fine)
 unfolding depthJudged
 below-depth D z rest h =
-    let a = passed _ _ _ _ h in (leb-true 1 D (a .0), passed _ _ _ _ (passed _ _ _ _ (a .1) .1) .1)
+    let a = passed _ _ _ _ h in
+    let b = passed _ _ _ _ (passed _ _ _ _ (a .1) .1) in
+    (leb-true 1 D (a .0), ltb-true _ _ (b .0), b .1)
 
-below-settings : (s : Settings) (rest : Verdict) → settingsJudged s rest ≡ Fine → (s .slots ≤ 64) × (1 ≤ s .depth) × (rest ≡ Fine)
+below-settings : (s : Settings) (rest : Verdict) → settingsJudged s rest ≡ Fine
+    → (s .slots ≤ 64) × (1 ≤ s .depth) × (lookback (s .terms .sizing) < s .depth) × (rest ≡ Fine)
 unfolding settingsJudged
 below-settings s rest h =
     let a = passed _ _ _ _ h in
     let b = below-depth _ _ _ (a .1) in
-    (leb-true (s .slots) 64 (a .0), b .0, below-terms _ _ (passed _ _ _ _ (b .1) .1))
+    (leb-true (s .slots) 64 (a .0), b .0, b .1, below-terms _ _ (passed _ _ _ _ (b .2) .1))
 
 below-most : (n : Counts) (rest : Verdict) → mostJudged n rest ≡ Fine → rest ≡ Fine
 unfolding mostJudged
@@ -78,6 +81,7 @@ pub record StepFine (s : Settings) (t : State) (bar : List ℕ) (m : Rooms) : Ty
   pub room : s .depth ≤ rowPlaces (s .slots) (m .rows)
   pub slots : s .slots ≤ 64
   pub depth : 1 ≤ s .depth
+  pub behind : lookback (s .terms .sizing) < s .depth
   pub held : t .counts .«rows_held» ≤ rowPlaces (s .slots) (m .rows)
   pub whole : length bar ≡ barWords (s .slots)
   pub points : t .counts .«equity_points» < pointPlaces (m .equity)
@@ -89,7 +93,7 @@ unfolding stepJudged roomJudged placeJudged
 step-fine s t bar m ls h =
     let a = passed _ _ _ _ h in
     let b = below-settings s _ (a .1) in
-    let c = below-state s t m _ (b .2) in
+    let c = below-state s t m _ (b .3) in
     let d = passed _ _ _ _ (c .1) in
     let e = passed _ _ _ _ (d .1) in
     let f = passed _ _ _ _ (e .1) in
@@ -98,6 +102,7 @@ step-fine s t bar m ls h =
       room = leb-true _ _ (a .0);
       slots = b .0;
       depth = b .1;
+      behind = b .2;
       held = c .0;
       whole = eqb-true _ _ (d .0);
       points = ltb-true _ _ (e .0);
