@@ -1,6 +1,6 @@
 -- The parts of a run's end, each by its own definition, make the whole.
 use Prim.Native.Nat.{ℕ}
-use mathlib.Core.Path.{_≡_, refl, ap, _∙_}
+use mathlib.Core.Path.{_≡_, refl, ap}
 use mathlib.Core.List.{List}
 use Rattle.execution.specs.declared.Exit.{Exit}
 use Rattle.metrics.specs.declared.Metrics.{Metrics}

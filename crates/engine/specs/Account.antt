@@ -1,15 +1,13 @@
 -- "One bar", what it does to the account: the fill, the exits inside the bar, funding, the trades and the equity.
-use Prim.Native.Nat.{ℕ, _+_, _-_, _*_, _/_}
+use Prim.Native.Nat.{ℕ, _+_, _-_, _*_}
 use mathlib.Core.Bool.{cond}
 use mathlib.Core.List.{List, [], _∷_}
-use lib.ListN.{length}
 use lib.Dec.{ltb}
 use Rattle.floats.specs.Floats.{wordOf}
 use Rattle.rows.specs.History.{History}
 use Rattle.rows.specs.Room.{over}
 use Rattle.rules.specs.declared.Entered.the-variants.{Never, Bar}
 use Rattle.portfolio.specs.declared.Candle.{Candle}
-use Rattle.portfolio.specs.declared.Portfolio.{Portfolio}
 use Rattle.portfolio.specs.Portfolio.{equity}
 use Rattle.portfolio.specs.Trade.{tradeWords, signal}
 use Rattle.execution.specs.declared.Entry.{Entry}

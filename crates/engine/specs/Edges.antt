@@ -6,7 +6,6 @@ use mathlib.Core.List.{List, [], _∷_}
 use lib.IntN.{pos, negsuc}
 use lib.Ieee as Ieee
 use lib.Ieee.{Float, binary64, fin}
-use Rattle.portfolio.specs.declared.Candle.{Candle}
 use Rattle.portfolio.specs.Trade.{stopLoss}
 use Rattle.rules.specs.Edges.{Said, answer, reaches, starred, edges}
 use Rattle.execution.specs.Edges.{stop-edges}

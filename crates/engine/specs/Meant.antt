@@ -17,7 +17,6 @@ use Rattle.steps.specs.Bytes.{bytesOf}
 use Rattle.steps.specs.Fields.{Bytes}
 use Rattle.steps.specs.Translating.{stepsOf}
 use Rattle.steps.specs.Window.{window-steps}
-use Rattle.judge.specs.declared.Order.{Order}
 use Rattle.judge.specs.declared.Order.the-variants.{Idle}
 use Rattle.judge.specs.declared.Position.{Position}
 use Rattle.judge.specs.declared.Settings.{Settings}

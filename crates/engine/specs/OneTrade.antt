@@ -1,6 +1,6 @@
 -- "A step records at most one trade."
 use Prim.Native.Nat.{ℕ, _+_, _≤_}
-use mathlib.Core.Path.{_≡_, refl, sym, ap, _∙_}
+use mathlib.Core.Path.{_≡_, refl}
 use mathlib.Core.Bool.{Bool, true, false, cond}
 use mathlib.Core.List.{List}
 use native.Mathlib.Omega.{arith}
@@ -15,7 +15,6 @@ use Rattle.portfolio.specs.declared.Portfolio.{Portfolio}
 use Rattle.portfolio.specs.Portfolio.{inPosition, exited}
 use Rattle.execution.specs.declared.Exit.{Exit}
 use Rattle.execution.specs.declared.Exit.the-variants.{NoExit, Exited}
-use Rattle.execution.specs.declared.Side.the-variants.{Long, Short}
 use Rattle.execution.specs.Costs.{closed}
 use Rattle.execution.specs.Fills.{executeExit}
 use Rattle.execution.specs.Intrabar.{applyIntrabarExits}

@@ -3,12 +3,10 @@ use Prim.Native.Nat.{ℕ}
 use mathlib.Core.Path.{_≡_, refl}
 use mathlib.Core.Bool.{Bool, true, false, cond}
 use mathlib.Core.List.{List}
-use lib.Dec.{ltb}
 use Rattle.rows.specs.History.{historyOf, lastRows}
 use Rattle.portfolio.specs.Portfolio.{inPosition}
 use Rattle.execution.specs.Costs.{chargeFunding}
 use Rattle.execution.specs.Intrabar.{extremeWith, applyIntrabarExits}
-use Rattle.judge.specs.declared.Order.{Order}
 use Rattle.judge.specs.declared.Order.the-variants.{Idle}
 use Rattle.judge.specs.declared.Position.{Position}
 use Rattle.judge.specs.declared.Settings.{Settings}

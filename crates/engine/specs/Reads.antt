@@ -1,14 +1,11 @@
 -- A step depends on no row older than the last D of the rows that it is given: a fill reads the closes of fewer, and the
 -- decision is over the last D by its definition.
-use Prim.Native.Nat.{ℕ, _+_, _-_, _*_, _≤_, _<_}
+use Prim.Native.Nat.{ℕ, _-_, _<_}
 use mathlib.Core.Path.{_≡_, refl}
-use mathlib.Core.Bool.{cond}
 use mathlib.Core.List.{List}
 use native.Mathlib.Omega.{arith}
-use lib.Dec.{ltb}
-use lib.ListN.{drop}
 use lib.Ieee.{Float}
-use Rattle.rows.specs.History.{History, historyOf, lastRows}
+use Rattle.rows.specs.History.{historyOf, lastRows}
 use Rattle.rules.specs.Window.{Without, without-first}
 use Rattle.portfolio.specs.declared.Candle.{Candle}
 use Rattle.portfolio.specs.declared.Portfolio.{Portfolio}

@@ -1,6 +1,6 @@
 -- "A refusal returns number, place and the state it was given, and changes nothing lent."
 use Prim.Native.Nat.{ℕ}
-use mathlib.Core.Path.{_≡_, refl, sym, _∙_}
+use mathlib.Core.Path.{_≡_, refl}
 use mathlib.Core.List.{List}
 use native.Mathlib.Omega.{arith}
 use Rattle.judge.specs.declared.Settings.{Settings}
@@ -10,8 +10,7 @@ use Rattle.judge.specs.declared.Verdict.the-variants.{Fine, Bad}
 use Rattle.judge.specs.Judgement.{stepJudged}
 use Rattle.judge.specs.Lists.{Lists}
 use Rattle.judge.specs.Rooms.{Rooms}
-use Rattle.engine.specs.declared.Answer.{Answer}
-use Rattle.engine.specs.declared.Answer.the-variants.{Refused, Done}
+use Rattle.engine.specs.declared.Answer.the-variants.{Refused}
 use Rattle.engine.specs.Step.{With, stepped, answered, stepOf}
 
 by-verdict : (v : Verdict) (t : State) (m : Rooms) (done : With State) (number place : ℕ) (u : State)

@@ -15,7 +15,7 @@ use Rattle.judge.specs.Lists.{Lists}
 use Rattle.judge.specs.Rooms.{Rooms}
 use Rattle.engine.specs.declared.Answer.{Answer}
 use Rattle.engine.specs.declared.Answer.the-variants.{Refused, Done}
-use Rattle.engine.specs.Account.{Held, filled, left, charged, booked, marked}
+use Rattle.engine.specs.Account.{filled, left, charged, booked, marked}
 use Rattle.engine.specs.Decide.{decided}
 use Rattle.engine.specs.Record.{rowOf, heldRows}
 

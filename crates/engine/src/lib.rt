@@ -5,7 +5,6 @@ mod decide;
 mod ending;
 mod record;
 
-ghost use mathlib.Core.Path.{_≡_};
 ghost use Rattle.engine.specs.Finish.{finishOf};
 ghost use Rattle.engine.specs.Step.{Ready, Is, stepped, stepOf};
 use judge::Counts;

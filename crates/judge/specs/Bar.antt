@@ -2,9 +2,8 @@
 use Prim.Native.Nat.{ℕ, zero, suc, _+_, _/_, _%_, _^_}
 use mathlib.Core.Bool.{Bool, true, false, cond, _&&_}
 use mathlib.Core.List.{List}
-use lib.ListN.{getD, length}
+use lib.ListN.{getD}
 use lib.Dec.{ltb, eqb}
-use lib.Ieee.{Float}
 use Rattle.floats.specs.Floats.{finite, floatOf}
 use Rattle.portfolio.specs.declared.Candle.{Candle}
 use Rattle.execution.specs.declared.Funding.{Funding}

@@ -1,5 +1,5 @@
 -- What a call is judged by: "then 10, 12, 13, 14, 11, 15. Under one number the lowest place is given."
-use Prim.Native.Nat.{ℕ, _+_}
+use Prim.Native.Nat.{ℕ}
 use mathlib.Core.List.{List}
 use lib.ListN.{length}
 use lib.Dec.{eqb}

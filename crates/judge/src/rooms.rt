@@ -1,7 +1,6 @@
 // Refusals 10, 13 and 14: the rooms and the counts of the state.
 ghost use mathlib.Core.Path.{_≡_};
 ghost use Prim.Native.Nat.{_/_};
-ghost use lib.ListN.{length};
 ghost use Rattle.judge.specs.Verdict.{checked};
 ghost use Rattle.judge.specs.Rooms.{roomJudged, mostJudged, heldJudged, entryBelow, stateJudged, placeJudged, toClose, closeJudged};
 use crate::Counts;

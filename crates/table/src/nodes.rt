@@ -11,7 +11,7 @@ use crate::kinds::AS_WRITTEN;
 use crate::kinds::SLOT;
 use crate::kinds::kind_of;
 ghost use mathlib.Core.Path.{_≡_};
-ghost use Prim.Native.Nat.{_≤_, _<_};
+ghost use Prim.Native.Nat.{_<_};
 ghost use Rattle.table.specs.Nodes.{nodeAt, childrenRight, nRight, constantRight, ownRight, nodeRight, wrongNode, sortAt, childCount, childCountAt, childSortAt};
 
 // Node i; past the end of the table every field but the number is 0.

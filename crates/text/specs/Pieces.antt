@@ -7,11 +7,11 @@ use native.Mathlib.Nat.{add-zero}
 use native.Mathlib.Numerals.{add-one}
 use native.Mathlib.Omega.{arith}
 use borrow.Author.Tests.{le-leb, lt-leb, leb-true}
-use lib.Dec.{ltb, leb}
+use lib.Dec.{leb}
 use lib.ListN.{length, take, drop, length-append, length-drop, take-append-drop}
 use lib.Seq.{take-at, drop-at, drop-drop, length-take-le}
 use Rattle.io.specs.Digits.{digits}
-use Rattle.text.specs.Text.{put, next, hex, cell, cells, lines, row, places, decimal}
+use Rattle.text.specs.Text.{put, next, hex, cell, cells, lines, row}
 
 -- the piece fits
 pub next-fits : (room : List ℕ) (at : ℕ) (s : List ℕ) → at + length s ≤ length room → next room at s ≡ at + length s
@@ -70,20 +70,6 @@ put-put room at a b h =
 pub length-digits : (base k n : ℕ) → length (digits base k n) ≡ k
 length-digits base zero n = refl
 length-digits base (suc k) n = length-append (digits base k (n / base)) _ ∙ rw (length-digits base k (n / base)) (add-one k)
-
--- a number takes 20 decimal digits at the most
-places-most : (k n : ℕ) → places k n ≤ k + 1
-unfolding places
-places-most zero n = omega arith
-places-most (suc k) n = go (ltb n 10) (places-most k (n / 10))
-  where
-    go : (b : Bool) → places k (n / 10) ≤ k + 1 → cond b 1 (places k (n / 10) + 1) ≤ suc k + 1
-    go true h = omega arith
-    go false h = omega arith
-
-pub length-decimal : (n : ℕ) → length (decimal n) ≤ 20
-unfolding decimal
-length-decimal n = subst⁻¹ (λ (l : ℕ). l ≤ 20) (length-digits 10 (places 19 n) n) (places-most 19 n)
 
 -- 17 bytes a word
 pub length-cell : (w b : ℕ) → length (cell w b) ≡ 17

@@ -1,7 +1,7 @@
 -- The mask is halved, so that its lowest bit is bit k; all bits below k are fine. Assumes nothing.
-use Prim.Native.Nat.{ℕ, suc, _+_, _-_, _/_, _^_, _≤_, _<_}
+use Prim.Native.Nat.{ℕ, _-_, _/_, _^_, _≤_}
 use mathlib.Core.Path.{_≡_, refl, sym, ap, _∙_}
-use mathlib.Core.Bool.{Bool, true, false}
+use mathlib.Core.Bool.{true}
 use native.Mathlib.Nat.{div-one}
 use native.Mathlib.Omega.{arith}
 use borrow.Author.Needs.{needs}
@@ -10,10 +10,6 @@ use Rattle.judge.specs.Bar.{every, slotFine, slotsFine}
 use Rattle.judge.proofs.Bits.{every-more, halved, all-fine, one-bad}
 use Rattle.judge.proofs.bar.slots_fine.Statement.{statement}
 use Rattle.judge.proofs.bar.slots_fine.Tie as tie
-use Rattle.judge.proofs.bar.slots_fine.Reads as reads
-use Rattle.judge.proofs.bar.slots_fine.Lts as lts
-use Rattle.judge.proofs.bar.slot_fine.Reads as slot-fine-reads
-use Rattle.rows.proofs.word_from.Reads as word-from-reads
 
 abbrev Inv-loop : tie.InvT-loop
 Inv-loop bar slots left₀ k₀ left k = (k ≤ 64) × (left ≡ getD bar 6 0 / 2 ^ k) × (every k (slotFine slots bar) ≡ true)
