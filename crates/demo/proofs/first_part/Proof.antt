@@ -8,11 +8,5 @@ use Rattle.demo.proofs.first_part.Tie as tie
 slice-aggregate-result : tie.Need-slice-aggregate-result
 slice-aggregate-result c = let a = c .before .before .args in sym (length-take-le (a .n) (a .room .now) (c .before .if1 .taken))
 
-returns : tie.Need-returns
-returns c = search needs
-
-returns-2 : tie.Need-returns-2
-returns-2 c = search needs
-
 pub first-part-spec : {M : Type 1} → statement M
-first-part-spec = tie.close (tie.spec slice-aggregate-result returns returns-2)
+first-part-spec = tie.close (tie.spec slice-aggregate-result (λ c. search needs) (λ c. search needs))

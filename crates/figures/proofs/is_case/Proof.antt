@@ -12,12 +12,6 @@ returns : tie.Need-returns
 unfolding isCase
 returns c = simp (lt-leb (getD (c .before .args .words .now) 1 0 + 3) (length (c .before .args .words .now)) (omega arith))
 
-shared-slice-read-n : tie.Need-shared-slice-read-n
-shared-slice-read-n c = search needs
-
-sub-if2 : tie.Need-sub-if2
-sub-if2 c = search needs
-
 returns-2 : tie.Need-returns-2
 unfolding isCase
 returns-2 c = let ws = c .before .before .before .args .words .now in simp (lt-leb (getD ws 1 0 + 3) (length ws) (omega arith))
@@ -27,4 +21,4 @@ unfolding isCase
 returns-3 c = let ws = c .before .before .before .args .words .now in simp (le-leb (getD ws 1 0 + 3) (length ws) (omega arith))
 
 pub is-case-spec : {M : Type 1} → statement M
-is-case-spec = tie.close (tie.spec returns shared-slice-read-n sub-if2 returns-2 returns-3)
+is-case-spec = tie.close (tie.spec returns (λ c. search needs) (λ c. search needs) returns-2 returns-3)

@@ -14,12 +14,9 @@ returns-2 : tie.Need-returns-2
 unfolding said computed whole
 returns-2 c = simp (eq-eqb _ _ (c .before .if1 .left), ne-eqb _ _ (c .if2 .taken))
 
-metrics-of-requires : tie.Need-metrics-of-requires
-metrics-of-requires c κs = search needs
-
 returns-3 : tie.Need-returns-3
 unfolding said computed whole
 returns-3 c = simp (eq-eqb _ _ (c .before .before .if1 .left), eq-eqb _ _ (c .before .if2 .left), c .metrics-of .ensures)
 
 pub compute-spec : {M : Type 1} → statement M
-compute-spec = tie.close (tie.spec returns returns-2 metrics-of-requires returns-3)
+compute-spec = tie.close (tie.spec returns returns-2 (λ c κs. search needs) returns-3)

@@ -32,17 +32,8 @@ final-last d (e ∷ es) n l h = final-at d e es ∙ ap (λ (k : ℕ). getD (e �
     less : (x y : ℕ) → x ≡ suc y → y ≡ x - 1
     less x y g = omega arith
 
-point-count-requires : tie.Need-point-count-requires
-point-count-requires c κs = search needs
-
 returns : tie.Need-returns
 returns c = let es = equityOf (c .before .before .before .args .equity .now) in sym (final-none _ es (sym (c .before .point-count .ensures) ∙ c .if1 .taken))
-
-sub-equity-at : tie.Need-sub-equity-at
-sub-equity-at c = search needs
-
-equity-at-requires : tie.Need-equity-at-requires
-equity-at-requires c κs = search needs
 
 returns-2 : tie.Need-returns-2
 returns-2 c =
@@ -51,4 +42,4 @@ returns-2 c =
 
 pub final-equity-spec : {M : Type 1} → statement M
 final-equity-spec =
-    tie.close (tie.spec point-count-requires returns sub-equity-at equity-at-requires returns-2)
+    tie.close (tie.spec (λ c κs. search needs) returns (λ c. search needs) (λ c κs. search needs) returns-2)

@@ -4,9 +4,6 @@ use borrow.Author.Needs.{needs}
 use Rattle.portfolio.proofs.return_pct.Statement.{statement}
 use Rattle.portfolio.proofs.return_pct.Tie as tie
 
-abs-requires : tie.Need-abs-requires
-abs-requires c κs = search needs
-
 returns : tie.Need-returns
 unfolding returnPct
 returns c = simp (← c .before .abs .ensures, c .if1 .taken)
@@ -16,4 +13,4 @@ unfolding returnPct
 returns-2 c = simp (← c .before .abs .ensures, c .if1 .left)
 
 pub return-pct-spec : {M : Type 1} → statement M
-return-pct-spec = tie.close (tie.spec abs-requires returns returns-2)
+return-pct-spec = tie.close (tie.spec (λ c κs. search needs) returns returns-2)

@@ -10,24 +10,6 @@ use Rattle.roots.specs.Roots.{rootOf, most, rootsOf}
 use Rattle.roots.proofs.answer.Statement.{statement}
 use Rattle.roots.proofs.answer.Tie as tie
 
-slice-aggregate-words : tie.Need-slice-aggregate-words
-slice-aggregate-words c = search needs
-
-words-requires : tie.Need-words-requires
-words-requires c κs = search needs
-
-array-borrow-prefix-words : tie.Need-array-borrow-prefix-words
-array-borrow-prefix-words c = search needs
-
-slice-aggregate-put-roots : tie.Need-slice-aggregate-put-roots
-slice-aggregate-put-roots c = search needs
-
-put-roots-requires : tie.Need-put-roots-requires
-put-roots-requires c κs = search needs
-
-same-length : tie.Need-same-length
-same-length c = search needs
-
 -- the first n words of a room with n words over it
 first : (room ws l : List ℕ) (n : ℕ) → n ≡ length ws → l ≡ over room ws → take n l ≡ ws
 unfolding over
@@ -48,10 +30,10 @@ pub answer-spec : {M : Type 1} → statement M
 answer-spec =
     tie.close
     (tie.spec
-    slice-aggregate-words
-    words-requires
-    array-borrow-prefix-words
-    slice-aggregate-put-roots
-    put-roots-requires
-    same-length
+    (λ c. search needs)
+    (λ c κs. search needs)
+    (λ c. search needs)
+    (λ c. search needs)
+    (λ c κs. search needs)
+    (λ c. search needs)
     returns)

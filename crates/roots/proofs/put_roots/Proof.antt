@@ -7,18 +7,6 @@ use Rattle.text.specs.Text.{put, next, lines}
 use Rattle.roots.proofs.put_roots.Statement.{statement}
 use Rattle.roots.proofs.put_roots.Tie as tie
 
-take-roots-requires : tie.Need-take-roots-requires
-take-roots-requires c κs = search needs
-
-lines-requires : tie.Need-lines-requires
-lines-requires c κs = search needs
-
-same-length : tie.Need-same-length
-same-length c = search needs
-
-same-length-2 : tie.Need-same-length-2
-same-length-2 c = search needs
-
 returns : tie.Need-returns
 returns c =
     let d = c .before .before .lines in
@@ -30,4 +18,4 @@ returns c =
 
 pub put-roots-spec : {M : Type 1} → statement M
 put-roots-spec =
-    tie.close (tie.spec take-roots-requires lines-requires same-length same-length-2 returns)
+    tie.close (tie.spec (λ c κs. search needs) (λ c κs. search needs) (λ c. search needs) (λ c. search needs) returns)

@@ -20,27 +20,6 @@ abbrev μ-loop : tie.MeasureT-loop
 loop-holds : tie.Need-loop-holds Inv-loop μ-loop
 loop-holds c = (search needs, refl, paste-zero (c .before .args .words .now) 0 (map rootOf (c .before .args .words .now)))
 
-mul-root-of : tie.Need-mul-root-of Inv-loop μ-loop
-mul-root-of c = search needs
-
-slice-read-root-of : tie.Need-slice-read-root-of Inv-loop μ-loop
-slice-read-root-of c = search needs
-
-root-of-requires : tie.Need-root-of-requires Inv-loop μ-loop
-root-of-requires c κs = search needs
-
-mul-words : tie.Need-mul-words Inv-loop μ-loop
-mul-words c = search needs
-
-slice-write-words : tie.Need-slice-write-words Inv-loop μ-loop
-slice-write-words c = search needs
-
-add-i : tie.Need-add-i Inv-loop μ-loop
-add-i c = search needs
-
-loop-less : tie.Need-loop-less Inv-loop μ-loop
-loop-less c = search needs
-
 loop-again : tie.Need-loop-again Inv-loop μ-loop
 loop-again c =
     let l = c .before .before .before in
@@ -53,9 +32,6 @@ loop-again c =
           ∙ ap (λ (r : List ℕ). set r (l .loop .i) (rootOf (getD r (l .loop .i) 0))) e
           ∙ changed rootOf ws (l .loop .i) h,
     )
-
-same-length : tie.Need-same-length Inv-loop μ-loop
-same-length c = search needs
 
 returns : tie.Need-returns Inv-loop μ-loop
 returns c =
@@ -71,13 +47,13 @@ take-roots-spec =
     Inv-loop
     μ-loop
     loop-holds
-    mul-root-of
-    slice-read-root-of
-    root-of-requires
-    mul-words
-    slice-write-words
-    add-i
-    loop-less
+    (λ c. search needs)
+    (λ c. search needs)
+    (λ c κs. search needs)
+    (λ c. search needs)
+    (λ c. search needs)
+    (λ c. search needs)
+    (λ c. search needs)
     loop-again
-    same-length
+    (λ c. search needs)
     returns)

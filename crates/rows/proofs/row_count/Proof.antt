@@ -10,15 +10,9 @@ returns : tie.Need-returns
 unfolding historyOf
 returns c = no-rows _ _ (omega arith)
 
-add-result : tie.Need-add-result
-add-result c = search needs
-
-div-result : tie.Need-div-result
-div-result c = search needs
-
 returns-2 : tie.Need-returns-2
 unfolding historyOf
 returns-2 c = search needs
 
 pub row-count-spec : {M : Type 1} → statement M
-row-count-spec = tie.close (tie.spec returns add-result div-result returns-2)
+row-count-spec = tie.close (tie.spec returns (λ c. search needs) (λ c. search needs) returns-2)

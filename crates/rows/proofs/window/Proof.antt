@@ -8,14 +8,8 @@ use Rattle.rows.proofs.Places.{skipped-fit, row-fits, window-all, windo
 use Rattle.rows.proofs.window.Statement.{statement}
 use Rattle.rows.proofs.window.Tie as tie
 
-row-count-requires : tie.Need-row-count-requires
-row-count-requires c κs = search needs
-
 returns : tie.Need-returns
 returns c = let a = c .before .before .before .args in window-all (a .slots) (a .depth) (c .before .row-count .result) (a .rows .now) (c .before .row-count .ensures) (c .if1 .taken)
-
-sub-first : tie.Need-sub-first
-sub-first c = search needs
 
 add-first : tie.Need-add-first
 add-first c =
@@ -34,9 +28,6 @@ sub-result c = let a = c .before .before .before .args in skipped-fit (a .slots)
 part-result-start : tie.Need-part-result-start
 part-result-start c = let a = c .before .before .before .args in let h : (c .before .row-count .result - a .depth) * width (a .slots) ≤ length (a .rows .now) = skipped-fit (a .slots) (a .depth) (c .before .row-count .result) (a .rows .now) (c .before .row-count .ensures) in search needs
 
-part-result-end : tie.Need-part-result-end
-part-result-end c = search needs
-
 returns-2 : tie.Need-returns-2
 returns-2 c = let a = c .before .before .before .before .args in window-part (a .slots) (a .depth) (c .before .before .row-count .result) (a .rows .now) (c .before .before .row-count .ensures)
 
@@ -44,13 +35,13 @@ pub window-spec : {M : Type 1} → statement M
 window-spec =
     tie.close
     (tie.spec
-    row-count-requires
+    (λ c κs. search needs)
     returns
-    sub-first
+    (λ c. search needs)
     add-first
     mul-first
     mul-result
     sub-result
     part-result-start
-    part-result-end
+    (λ c. search needs)
     returns-2)

@@ -6,22 +6,10 @@ use borrow.Author.Needs.{needs}
 use Rattle.table.proofs.check.Statement.{statement}
 use Rattle.table.proofs.check.Tie as tie
 
-header-refusal-requires : tie.Need-header-refusal-requires
-header-refusal-requires c κs = search needs
-
-check-nodes-requires : tie.Need-check-nodes-requires
-check-nodes-requires c κs = search needs
-
-refused-requires : tie.Need-refused-requires
-refused-requires c κs = search needs
-
-returns : tie.Need-returns
-returns c = search needs
-
 returns-2 : tie.Need-returns-2
 unfolding endsBeside
 returns-2 c = one-at _ _ _ _ _ (c .before .before .header-refusal .ensures) (c .before .if1 .left) (c .refused .ensures .0) (c .refused .ensures .1)
 
 pub check-spec : {M : Type 1} → statement M
 check-spec =
-    tie.close (tie.spec header-refusal-requires check-nodes-requires refused-requires returns returns-2)
+    tie.close (tie.spec (λ c κs. search needs) (λ c κs. search needs) (λ c κs. search needs) (λ c. search needs) returns-2)

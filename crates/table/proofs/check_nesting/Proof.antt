@@ -7,21 +7,6 @@ use borrow.Author.Needs.{needs}
 use Rattle.table.proofs.check_nesting.Statement.{statement}
 use Rattle.table.proofs.check_nesting.Tie as tie
 
-too-deep-requires : tie.Need-too-deep-requires
-too-deep-requires c κs = search needs
-
-enum-known-deep : tie.Need-enum-known-deep
-enum-known-deep c = search needs
-
-refused-requires : tie.Need-refused-requires
-refused-requires c κs = search needs
-
-enum-told : tie.Need-enum-told
-enum-told c = search needs
-
-check-reach-requires : tie.Need-check-reach-requires
-check-reach-requires c κs = search needs
-
 returns : tie.Need-returns
 unfolding from8
 returns c =
@@ -38,10 +23,10 @@ pub check-nesting-spec : {M : Type 1} → statement M
 check-nesting-spec =
     tie.close
     (tie.spec
-    too-deep-requires
-    enum-known-deep
-    refused-requires
-    enum-told
-    check-reach-requires
+    (λ c κs. search needs)
+    (λ c. search needs)
+    (λ c κs. search needs)
+    (λ c. search needs)
+    (λ c κs. search needs)
     returns
     returns-2)

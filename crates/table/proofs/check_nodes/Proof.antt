@@ -6,30 +6,6 @@ use Rattle.table.proofs.Final.{six-at, six-none, head-roots}
 use Rattle.table.proofs.check_nodes.Statement.{statement}
 use Rattle.table.proofs.check_nodes.Tie as tie
 
-total-requires : tie.Need-total-requires
-total-requires c κs = search needs
-
-wrong-node-requires : tie.Need-wrong-node-requires
-wrong-node-requires c κs = search needs
-
-enum-known-wrong : tie.Need-enum-known-wrong
-enum-known-wrong c = search needs
-
-refused-requires : tie.Need-refused-requires
-refused-requires c κs = search needs
-
-enum-told : tie.Need-enum-told
-enum-told c = search needs
-
-root-requires : tie.Need-root-requires
-root-requires c κs = search needs
-
-root-requires-2 : tie.Need-root-requires-2
-root-requires-2 c κs = search needs
-
-root-requires-3 : tie.Need-root-requires-3
-root-requires-3 c κs = search needs
-
 check-order-requires : tie.Need-check-order-requires
 check-order-requires c κs =
     head-roots _ _ _ _ _
@@ -58,14 +34,14 @@ pub check-nodes-spec : {M : Type 1} → statement M
 check-nodes-spec =
     tie.close
     (tie.spec
-    total-requires
-    wrong-node-requires
-    enum-known-wrong
-    refused-requires
-    enum-told
-    root-requires
-    root-requires-2
-    root-requires-3
+    (λ c κs. search needs)
+    (λ c κs. search needs)
+    (λ c. search needs)
+    (λ c κs. search needs)
+    (λ c. search needs)
+    (λ c κs. search needs)
+    (λ c κs. search needs)
+    (λ c κs. search needs)
     check-order-requires
     returns
     returns-2)

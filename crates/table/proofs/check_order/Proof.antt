@@ -11,21 +11,6 @@ use borrow.Author.Needs.{needs}
 use Rattle.table.proofs.check_order.Statement.{statement}
 use Rattle.table.proofs.check_order.Tie as tie
 
-order-all-requires : tie.Need-order-all-requires
-order-all-requires c κs = search needs
-
-misfits-of-requires : tie.Need-misfits-of-requires
-misfits-of-requires c κs = search needs
-
-enum-known-bad : tie.Need-enum-known-bad
-enum-known-bad c = search needs
-
-refused-requires : tie.Need-refused-requires
-refused-requires c κs = search needs
-
-enum-told : tie.Need-enum-told
-enum-told c = search needs
-
 check-nesting-requires : tie.Need-check-nesting-requires
 check-nesting-requires c κs =
     (c .before .before .before .before .before .before .pre, linked-all _ _ _ _ _ _ (c .before .before .before .before .before .before .pre) (c .before .before .before .before .order-all .ensures) (sym (c .before .before .misfits-of .ensures) ∙ c .enum-told .given .1))
@@ -49,11 +34,11 @@ pub check-order-spec : {M : Type 1} → statement M
 check-order-spec =
     tie.close
     (tie.spec
-    order-all-requires
-    misfits-of-requires
-    enum-known-bad
-    refused-requires
-    enum-told
+    (λ c κs. search needs)
+    (λ c κs. search needs)
+    (λ c. search needs)
+    (λ c κs. search needs)
+    (λ c. search needs)
     check-nesting-requires
     returns
     returns-2)

@@ -6,18 +6,6 @@ use borrow.Author.Needs.{needs}
 use Rattle.table.proofs.check_reach.Statement.{statement}
 use Rattle.table.proofs.check_reach.Tie as tie
 
-far-or-accepted-requires : tie.Need-far-or-accepted-requires
-far-or-accepted-requires c κs = search needs
-
-enum-known-answer : tie.Need-enum-known-answer
-enum-known-answer c = search needs
-
-refused-requires : tie.Need-refused-requires
-refused-requires c κs = search needs
-
-enum-known-answer-2 : tie.Need-enum-known-answer-2
-enum-known-answer-2 c = search needs
-
 returns : tie.Need-returns
 returns c =
     keep-refused _ _ _ _ _ _
@@ -31,9 +19,9 @@ pub check-reach-spec : {M : Type 1} → statement M
 check-reach-spec =
     tie.close
     (tie.spec
-    far-or-accepted-requires
-    enum-known-answer
-    refused-requires
-    enum-known-answer-2
+    (λ c κs. search needs)
+    (λ c. search needs)
+    (λ c κs. search needs)
+    (λ c. search needs)
     returns
     returns-2)

@@ -17,15 +17,6 @@ Inv-loop text at end₀ end = (at ≤ end) × (end ≤ length text) × (lineAt t
 abbrev μ-loop : tie.MeasureT-loop
 μ-loop text at end₀ end = length text - end
 
-sub-result : tie.Need-sub-result Inv-loop μ-loop
-sub-result c = search needs
-
-part-result-start : tie.Need-part-result-start Inv-loop μ-loop
-part-result-start c = search needs
-
-part-result-end : tie.Need-part-result-end Inv-loop μ-loop
-part-result-end c = search needs
-
 returns : tie.Need-returns Inv-loop μ-loop
 unfolding lineAt
 returns c =
@@ -41,18 +32,6 @@ loop-holds c =
     let e : a .at - a .at ≡ 0 = omega arith in
     (search needs, search needs, rw e)
 
-shared-slice-read-if2 : tie.Need-shared-slice-read-if2 Inv-loop μ-loop
-shared-slice-read-if2 c = search needs
-
-sub-result-2 : tie.Need-sub-result-2 Inv-loop μ-loop
-sub-result-2 c = search needs
-
-part-result-start-2 : tie.Need-part-result-start-2 Inv-loop μ-loop
-part-result-start-2 c = search needs
-
-part-result-end-2 : tie.Need-part-result-end-2 Inv-loop μ-loop
-part-result-end-2 c = search needs
-
 returns-2 : tie.Need-returns-2 Inv-loop μ-loop
 returns-2 c =
     let l = c .before .before .before .before in
@@ -60,27 +39,12 @@ returns-2 c =
     let t = a .text .now in
     line-done t (lineAt t (a .at)) (upTo (drop (l .loop .end) t)) (a .at) (l .loop .end) (l .loop .inv .0) (l .loop .inv .1) (l .loop .inv .2) (line-ends t (l .loop .end) (c .before .before .before .loop-test .taken) (c .before .if2 .taken))
 
-add-end : tie.Need-add-end Inv-loop μ-loop
-add-end c = search needs
-
-loop-less : tie.Need-loop-less Inv-loop μ-loop
-loop-less c = search needs
-
 loop-again : tie.Need-loop-again Inv-loop μ-loop
 loop-again c =
     let l = c .before .before .before in
     let a = l .before .before .args in
     let t = a .text .now in
     (search needs, search needs, line-goes t (lineAt t (a .at)) (a .at) (l .loop .end) (l .loop .inv .0) (c .before .before .loop-test .taken) (c .if2 .left) (l .loop .inv .2))
-
-sub-result-3 : tie.Need-sub-result-3 Inv-loop μ-loop
-sub-result-3 c = search needs
-
-part-result-start-3 : tie.Need-part-result-start-3 Inv-loop μ-loop
-part-result-start-3 c = search needs
-
-part-result-end-3 : tie.Need-part-result-end-3 Inv-loop μ-loop
-part-result-end-3 c = search needs
 
 returns-3 : tie.Need-returns-3 Inv-loop μ-loop
 returns-3 c =
@@ -95,20 +59,20 @@ line-at-spec =
     (tie.spec
     Inv-loop
     μ-loop
-    sub-result
-    part-result-start
-    part-result-end
+    (λ c. search needs)
+    (λ c. search needs)
+    (λ c. search needs)
     returns
     loop-holds
-    shared-slice-read-if2
-    sub-result-2
-    part-result-start-2
-    part-result-end-2
+    (λ c. search needs)
+    (λ c. search needs)
+    (λ c. search needs)
+    (λ c. search needs)
     returns-2
-    add-end
-    loop-less
+    (λ c. search needs)
+    (λ c. search needs)
     loop-again
-    sub-result-3
-    part-result-start-3
-    part-result-end-3
+    (λ c. search needs)
+    (λ c. search needs)
+    (λ c. search needs)
     returns-3)

@@ -28,9 +28,6 @@ returns c =
     let e : leb (a .at + length (a .bytes .now)) (length (a .room .now)) ≡ false = lt-leb _ _ h in
     (rw e, rw e)
 
-sub-if2 : tie.Need-sub-if2 Inv-loop μ-loop
-sub-if2 c = search needs
-
 returns-2 : tie.Need-returns-2 Inv-loop μ-loop
 unfolding put next
 returns-2 c =
@@ -42,21 +39,6 @@ returns-2 c =
 loop-holds : tie.Need-loop-holds Inv-loop μ-loop
 loop-holds c = (search needs, paste-zero (c .before .before .args .room .now) (c .before .before .args .at) (c .before .before .args .bytes .now), refl)
 
-shared-slice-read-room : tie.Need-shared-slice-read-room Inv-loop μ-loop
-shared-slice-read-room c = search needs
-
-add-room : tie.Need-add-room Inv-loop μ-loop
-add-room c = search needs
-
-slice-write-room : tie.Need-slice-write-room Inv-loop μ-loop
-slice-write-room c = search needs
-
-add-i : tie.Need-add-i Inv-loop μ-loop
-add-i c = search needs
-
-loop-less : tie.Need-loop-less Inv-loop μ-loop
-loop-less c = search needs
-
 loop-again : tie.Need-loop-again Inv-loop μ-loop
 loop-again c =
     let l = c .before .before in
@@ -66,12 +48,6 @@ loop-again c =
       ap (λ (xs : List ℕ). set xs (a .at + l .loop .i) (getD (a .bytes .now) (l .loop .i) 0)) (l .loop .inv .1) ∙ turn (a .room .now) (a .at) (a .bytes .now) (l .loop .i) h (c .before .loop-test .taken),
       simp length-set (l .loop .inv .2),
     )
-
-add-result : tie.Need-add-result Inv-loop μ-loop
-add-result c = search needs
-
-same-length : tie.Need-same-length Inv-loop μ-loop
-same-length c = search needs
 
 returns-3 : tie.Need-returns-3 Inv-loop μ-loop
 unfolding put next
@@ -91,15 +67,15 @@ put-spec =
     Inv-loop
     μ-loop
     returns
-    sub-if2
+    (λ c. search needs)
     returns-2
     loop-holds
-    shared-slice-read-room
-    add-room
-    slice-write-room
-    add-i
-    loop-less
+    (λ c. search needs)
+    (λ c. search needs)
+    (λ c. search needs)
+    (λ c. search needs)
+    (λ c. search needs)
     loop-again
-    add-result
-    same-length
+    (λ c. search needs)
+    (λ c. search needs)
     returns-3)

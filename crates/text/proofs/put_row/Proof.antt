@@ -27,15 +27,6 @@ none (w ∷ ws) e = absurd (omega arith)
 some : (n : ℕ) → (n ≡ 0 → ⊥) → 0 < n
 some n h = omega (arith, h)
 
-slice-aggregate-put : tie.Need-slice-aggregate-put Inv-loop μ-loop
-slice-aggregate-put c = search needs
-
-put-requires : tie.Need-put-requires Inv-loop μ-loop
-put-requires c κs = search needs
-
-same-length : tie.Need-same-length Inv-loop μ-loop
-same-length c = search needs
-
 returns : tie.Need-returns Inv-loop μ-loop
 returns c =
     let a = c .before .before .before .before .before .before .before .before .args in
@@ -50,9 +41,6 @@ returns-2 c =
     let h : length (a .room .now) < a .at + length (row (a .words .now)) = omega (arith, length-row (a .words .now) w) in
     put-past (a .room .now) (a .at) (row (a .words .now)) h
 
-sub-if3 : tie.Need-sub-if3 Inv-loop μ-loop
-sub-if3 c = search needs
-
 returns-3 : tie.Need-returns-3 Inv-loop μ-loop
 returns-3 c =
     let a = c .before .before .before .before .before .args in
@@ -60,30 +48,12 @@ returns-3 c =
     let h : length (a .room .now) < a .at + length (row (a .words .now)) = omega (arith, length-row (a .words .now) w) in
     put-past (a .room .now) (a .at) (row (a .words .now)) h
 
-sub-last : tie.Need-sub-last Inv-loop μ-loop
-sub-last c = search needs
-
 loop-holds : tie.Need-loop-holds Inv-loop μ-loop
 loop-holds c =
     let a = c .before .before .before .before .before .args in
     let w : 0 < length (a .words .now) = some (length (a .words .now)) (c .before .before .if1 .left) in
     let h : a .at ≤ length (a .room .now) = omega arith in
     (omega arith, none-put (a .room .now) (a .at) 32 (a .words .now) h)
-
-mul-put-cell : tie.Need-mul-put-cell Inv-loop μ-loop
-mul-put-cell c = search needs
-
-shared-slice-read-put-cell : tie.Need-shared-slice-read-put-cell Inv-loop μ-loop
-shared-slice-read-put-cell c = search needs
-
-put-cell-requires : tie.Need-put-cell-requires Inv-loop μ-loop
-put-cell-requires c κs = search needs
-
-add-i : tie.Need-add-i Inv-loop μ-loop
-add-i c = search needs
-
-loop-less : tie.Need-loop-less Inv-loop μ-loop
-loop-less c = search needs
 
 loop-again : tie.Need-loop-again Inv-loop μ-loop
 loop-again c =
@@ -93,18 +63,6 @@ loop-again c =
     let h : l .loop .i < length (a .words .now) = omega arith in
     let d = c .before .before .put-cell in
     (omega arith, more-put (l .loop .inv .1) h k (d .ensures .0) (d .ensures .1))
-
-mul-put-cell-2 : tie.Need-mul-put-cell-2 Inv-loop μ-loop
-mul-put-cell-2 c = search needs
-
-shared-slice-read-put-cell-2 : tie.Need-shared-slice-read-put-cell-2 Inv-loop μ-loop
-shared-slice-read-put-cell-2 c = search needs
-
-put-cell-requires-2 : tie.Need-put-cell-requires-2 Inv-loop μ-loop
-put-cell-requires-2 c κs = search needs
-
-same-length-2 : tie.Need-same-length-2 Inv-loop μ-loop
-same-length-2 c = search needs
 
 returns-4 : tie.Need-returns-4 Inv-loop μ-loop
 returns-4 c =
@@ -126,23 +84,23 @@ put-row-spec =
     (tie.spec
     Inv-loop
     μ-loop
-    slice-aggregate-put
-    put-requires
-    same-length
+    (λ c. search needs)
+    (λ c κs. search needs)
+    (λ c. search needs)
     returns
     returns-2
-    sub-if3
+    (λ c. search needs)
     returns-3
-    sub-last
+    (λ c. search needs)
     loop-holds
-    mul-put-cell
-    shared-slice-read-put-cell
-    put-cell-requires
-    add-i
-    loop-less
+    (λ c. search needs)
+    (λ c. search needs)
+    (λ c κs. search needs)
+    (λ c. search needs)
+    (λ c. search needs)
     loop-again
-    mul-put-cell-2
-    shared-slice-read-put-cell-2
-    put-cell-requires-2
-    same-length-2
+    (λ c. search needs)
+    (λ c. search needs)
+    (λ c κs. search needs)
+    (λ c. search needs)
     returns-4)

@@ -9,21 +9,6 @@ use Rattle.text.proofs.Writing.{hex-is}
 use Rattle.text.proofs.put_word.Statement.{statement}
 use Rattle.text.proofs.put_word.Tie as tie
 
-hex-requires : tie.Need-hex-requires
-hex-requires c κs = search needs
-
-array-share-prefix-spelt : tie.Need-array-share-prefix-spelt
-array-share-prefix-spelt c = search needs
-
-slice-aggregate-put : tie.Need-slice-aggregate-put
-slice-aggregate-put c = search needs
-
-put-requires : tie.Need-put-requires
-put-requires c κs = search needs
-
-same-length : tie.Need-same-length
-same-length c = search needs
-
 returns : tie.Need-returns
 returns c =
     let a = c .before .before .before .before .before .before .before .before .args in
@@ -38,9 +23,9 @@ pub put-word-spec : {M : Type 1} → statement M
 put-word-spec =
     tie.close
     (tie.spec
-    hex-requires
-    array-share-prefix-spelt
-    slice-aggregate-put
-    put-requires
-    same-length
+    (λ c κs. search needs)
+    (λ c. search needs)
+    (λ c. search needs)
+    (λ c κs. search needs)
+    (λ c. search needs)
     returns)

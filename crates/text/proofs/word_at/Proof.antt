@@ -28,12 +28,6 @@ returns c =
     let l = c .before .before in
     sym (past (l .loop .left) (l .before .before .args .text .now) (l .loop .i) (l .loop .word) (c .before .loop-test .taken) (c .if1 .taken)) ∙ l .loop .inv .0
 
-shared-slice-read-digit : tie.Need-shared-slice-read-digit Inv-loop μ-loop
-shared-slice-read-digit c = search needs
-
-digit-requires : tie.Need-digit-requires Inv-loop μ-loop
-digit-requires c κs = search needs
-
 returns-2 : tie.Need-returns-2 Inv-loop μ-loop
 returns-2 c =
     let l = c .before .before .before .before .before in
@@ -50,15 +44,6 @@ add-word : tie.Need-add-word Inv-loop μ-loop
 add-word c =
     let l = c .before .before .before .before .before in
     omega (arith, wider (l .loop .word) (c .before .digit .result) (l .loop .left) (c .before .before .before .before .loop-test .taken) (c .if2 .left) (l .loop .inv .1))
-
-add-i : tie.Need-add-i Inv-loop μ-loop
-add-i c = search needs
-
-sub-left : tie.Need-sub-left Inv-loop μ-loop
-sub-left c = search needs
-
-loop-less : tie.Need-loop-less Inv-loop μ-loop
-loop-less c = search needs
 
 loop-again : tie.Need-loop-again Inv-loop μ-loop
 loop-again c =
@@ -83,13 +68,13 @@ word-at-spec =
     μ-loop
     loop-holds
     returns
-    shared-slice-read-digit
-    digit-requires
+    (λ c. search needs)
+    (λ c κs. search needs)
     returns-2
     mul-word
     add-word
-    add-i
-    sub-left
-    loop-less
+    (λ c. search needs)
+    (λ c. search needs)
+    (λ c. search needs)
     loop-again
     returns-3)

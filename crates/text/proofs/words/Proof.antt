@@ -24,9 +24,6 @@ loop-holds c =
     let a = c .before .before .args in
     (search needs, refl, ap (λ (k : ℕ). wordsOf k (a .text .now) 0) (sym (sub-zero (length (a .room .now)))), refl)
 
-same-length : tie.Need-same-length Inv-loop μ-loop
-same-length c = search needs
-
 returns : tie.Need-returns Inv-loop μ-loop
 returns c =
     let l = c .before .before in
@@ -36,21 +33,6 @@ returns c =
     ended (l .loop .room) (a .room .now) (wordsOf (length (a .room .now)) t 0) (wordsOf (length (a .room .now) - l .loop .n) t (17 * l .loop .n)) (l .loop .n)
     (l .loop .inv .0) (l .loop .inv .2) (none _ t _ (over-end t (17 * l .loop .n) h)) (l .loop .inv .3)
 
-mul-word-at : tie.Need-mul-word-at Inv-loop μ-loop
-mul-word-at c = search needs
-
-word-at-requires : tie.Need-word-at-requires Inv-loop μ-loop
-word-at-requires c κs = search needs
-
-enum-known-w : tie.Need-enum-known-w Inv-loop μ-loop
-enum-known-w c = search needs
-
-enum-told : tie.Need-enum-told Inv-loop μ-loop
-enum-told c = search needs
-
-same-length-2 : tie.Need-same-length-2 Inv-loop μ-loop
-same-length-2 c = search needs
-
 returns-2 : tie.Need-returns-2 Inv-loop μ-loop
 returns-2 c =
     let l = c .before .before .before .before .before in
@@ -58,18 +40,6 @@ returns-2 c =
     let t = a .text .now in
     ended (l .loop .room) (a .room .now) (wordsOf (length (a .room .now)) t 0) (wordsOf (length (a .room .now) - l .loop .n) t (17 * l .loop .n)) (l .loop .n)
     (l .loop .inv .0) (l .loop .inv .2) (none _ t _ (sym (c .before .before .word-at .ensures) ∙ c .enum-told .given .1)) (l .loop .inv .3)
-
-mul-room : tie.Need-mul-room Inv-loop μ-loop
-mul-room c = search needs
-
-slice-write-room : tie.Need-slice-write-room Inv-loop μ-loop
-slice-write-room c = search needs
-
-add-n : tie.Need-add-n Inv-loop μ-loop
-add-n c = search needs
-
-loop-less : tie.Need-loop-less Inv-loop μ-loop
-loop-less c = search needs
 
 loop-again : tie.Need-loop-again Inv-loop μ-loop
 loop-again c =
@@ -86,9 +56,6 @@ loop-again c =
     let r = stored (l .loop .room) (a .room .now) (wordsOf k t 0) (wordsOf (k - (l .loop .n + 1)) t (17 * (l .loop .n + 1))) (l .loop .n) w (c .before .before .before .before .before .loop-test .taken)
     (rw (sym m, sym p) (rw (sym e) (l .loop .inv .2))) (l .loop .inv .3) in
     (simp length-set (search needs), simp length-set (l .loop .inv .1), r .0, r .1)
-
-same-length-3 : tie.Need-same-length-3 Inv-loop μ-loop
-same-length-3 c = search needs
 
 returns-3 : tie.Need-returns-3 Inv-loop μ-loop
 unfolding wordsOf
@@ -107,18 +74,18 @@ words-spec =
     Inv-loop
     μ-loop
     loop-holds
-    same-length
+    (λ c. search needs)
     returns
-    mul-word-at
-    word-at-requires
-    enum-known-w
-    enum-told
-    same-length-2
+    (λ c. search needs)
+    (λ c κs. search needs)
+    (λ c. search needs)
+    (λ c. search needs)
+    (λ c. search needs)
     returns-2
-    mul-room
-    slice-write-room
-    add-n
-    loop-less
+    (λ c. search needs)
+    (λ c. search needs)
+    (λ c. search needs)
+    (λ c. search needs)
     loop-again
-    same-length-3
+    (λ c. search needs)
     returns-3)

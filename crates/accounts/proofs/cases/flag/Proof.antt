@@ -3,11 +3,8 @@ use borrow.Author.Needs.{needs}
 use Rattle.accounts.proofs.cases.flag.Statement.{statement}
 use Rattle.accounts.proofs.cases.flag.Tie as tie
 
-word-requires : tie.Need-word-requires
-word-requires c κs = search needs
-
 returns : tie.Need-returns
 returns c = simp (c .word .ensures)
 
 pub flag-spec : {M : Type 1} → statement M
-flag-spec = tie.close (tie.spec word-requires returns)
+flag-spec = tie.close (tie.spec (λ c κs. search needs) returns)

@@ -5,15 +5,6 @@ use borrow.Author.Needs.{needs}
 use Rattle.accounts.proofs.cases.optional.Statement.{statement}
 use Rattle.accounts.proofs.cases.optional.Tie as tie
 
-flag-requires : tie.Need-flag-requires
-flag-requires c κs = search needs
-
-add-float : tie.Need-add-float
-add-float c = search needs
-
-float-requires : tie.Need-float-requires
-float-requires c κs = search needs
-
 returns : tie.Need-returns
 unfolding optionalAt
 returns c = simp (sym (c .before .before .flag .ensures) ∙ c .before .if1 .taken, c .float .ensures)
@@ -23,4 +14,4 @@ unfolding optionalAt
 returns-2 c = simp (sym (c .before .flag .ensures) ∙ c .if1 .left)
 
 pub optional-spec : {M : Type 1} → statement M
-optional-spec = tie.close (tie.spec flag-requires add-float float-requires returns returns-2)
+optional-spec = tie.close (tie.spec (λ c κs. search needs) (λ c. search needs) (λ c κs. search needs) returns returns-2)

@@ -5,9 +5,6 @@ use borrow.Author.Needs.{needs}
 use Rattle.accounts.proofs.cases.side.Statement.{statement}
 use Rattle.accounts.proofs.cases.side.Tie as tie
 
-flag-requires : tie.Need-flag-requires
-flag-requires c κs = search needs
-
 returns : tie.Need-returns
 unfolding sideAt
 returns c = simp (sym (c .before .flag .ensures) ∙ c .if1 .taken)
@@ -17,4 +14,4 @@ unfolding sideAt
 returns-2 c = simp (sym (c .before .flag .ensures) ∙ c .if1 .left)
 
 pub side-spec : {M : Type 1} → statement M
-side-spec = tie.close (tie.spec flag-requires returns returns-2)
+side-spec = tie.close (tie.spec (λ c κs. search needs) returns returns-2)

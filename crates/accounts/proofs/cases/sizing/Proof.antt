@@ -5,12 +5,6 @@ use borrow.Author.Needs.{needs}
 use Rattle.accounts.proofs.cases.sizing.Statement.{statement}
 use Rattle.accounts.proofs.cases.sizing.Tie as tie
 
-word-requires : tie.Need-word-requires
-word-requires c κs = search needs
-
-float-requires : tie.Need-float-requires
-float-requires c κs = search needs
-
 returns : tie.Need-returns
 unfolding sizingAt
 returns c = simp (eq-eqb _ _ (c .if1 .taken), c .before .float .ensures, ← c .before .before .word .ensures)
@@ -22,9 +16,6 @@ returns-2 c = simp (eq-eqb _ _ (c .if2 .taken), ne-eqb _ _ (c .before .if1 .left
 returns-3 : tie.Need-returns-3
 unfolding sizingAt
 returns-3 c = simp (eq-eqb _ _ (c .if3 .taken), ne-eqb _ _ (c .before .if2 .left), ne-eqb _ _ (c .before .before .if1 .left), c .before .before .before .float .ensures, ← c .before .before .before .before .word .ensures)
-
-word-requires-2 : tie.Need-word-requires-2
-word-requires-2 c κs = search needs
 
 returns-4 : tie.Need-returns-4
 unfolding sizingAt
@@ -42,12 +33,12 @@ pub sizing-spec : {M : Type 1} → statement M
 sizing-spec =
     tie.close
     (tie.spec
-    word-requires
-    float-requires
+    (λ c κs. search needs)
+    (λ c κs. search needs)
     returns
     returns-2
     returns-3
-    word-requires-2
+    (λ c κs. search needs)
     returns-4
     returns-5
     returns-6)

@@ -5,12 +5,6 @@ use borrow.Author.Needs.{needs}
 use Rattle.accounts.proofs.cases.slippage.Statement.{statement}
 use Rattle.accounts.proofs.cases.slippage.Tie as tie
 
-word-requires : tie.Need-word-requires
-word-requires c κs = search needs
-
-float-requires : tie.Need-float-requires
-float-requires c κs = search needs
-
 returns : tie.Need-returns
 unfolding slippageAt
 returns c = simp (eq-eqb _ _ (c .if1 .taken), c .before .float .ensures, ← c .before .before .word .ensures)
@@ -24,4 +18,4 @@ unfolding slippageAt
 returns-3 c = simp (ne-eqb _ _ (c .if2 .left), ne-eqb _ _ (c .before .if1 .left), c .before .before .float .ensures, ← c .before .before .before .word .ensures)
 
 pub slippage-spec : {M : Type 1} → statement M
-slippage-spec = tie.close (tie.spec word-requires float-requires returns returns-2 returns-3)
+slippage-spec = tie.close (tie.spec (λ c κs. search needs) (λ c κs. search needs) returns returns-2 returns-3)

@@ -4,12 +4,6 @@ use borrow.Author.Needs.{needs}
 use Rattle.accounts.proofs.words.after_entry.Statement.{statement}
 use Rattle.accounts.proofs.words.after_entry.Tie as tie
 
-enum-told : tie.Need-enum-told
-enum-told c = search needs
-
-enum-known-entry : tie.Need-enum-known-entry
-enum-known-entry c = search needs
-
 returns : tie.Need-returns
 unfolding afterEntry
 returns c = simp (c .enum-told .given .1)
@@ -19,4 +13,4 @@ unfolding afterEntry
 returns-2 c = simp (c .before .entry .given .1)
 
 pub after-entry-spec : {M : Type 1} → statement M
-after-entry-spec = tie.close (tie.spec enum-told enum-known-entry returns returns-2)
+after-entry-spec = tie.close (tie.spec (λ c. search needs) (λ c. search needs) returns returns-2)

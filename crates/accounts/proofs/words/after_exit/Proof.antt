@@ -4,12 +4,6 @@ use borrow.Author.Needs.{needs}
 use Rattle.accounts.proofs.words.after_exit.Statement.{statement}
 use Rattle.accounts.proofs.words.after_exit.Tie as tie
 
-enum-told : tie.Need-enum-told
-enum-told c = search needs
-
-enum-known-exit : tie.Need-enum-known-exit
-enum-known-exit c = search needs
-
 returns : tie.Need-returns
 unfolding afterExit
 returns c = simp (c .enum-told .given .1)
@@ -19,4 +13,4 @@ unfolding afterExit
 returns-2 c = simp (c .before .before .exit .given .1)
 
 pub after-exit-spec : {M : Type 1} → statement M
-after-exit-spec = tie.close (tie.spec enum-told enum-known-exit returns returns-2)
+after-exit-spec = tie.close (tie.spec (λ c. search needs) (λ c. search needs) returns returns-2)

@@ -4,12 +4,6 @@ use borrow.Author.Needs.{needs}
 use Rattle.accounts.proofs.words.closed_flag.Statement.{statement}
 use Rattle.accounts.proofs.words.closed_flag.Tie as tie
 
-enum-told : tie.Need-enum-told
-enum-told c = search needs
-
-enum-told-2 : tie.Need-enum-told-2
-enum-told-2 c = search needs
-
 returns : tie.Need-returns
 unfolding closedFlag
 returns c = simp (c .enum-told .given .1)
@@ -19,4 +13,4 @@ unfolding closedFlag
 returns-2 c = simp (c .enum-told2 .given .1)
 
 pub closed-flag-spec : {M : Type 1} → statement M
-closed-flag-spec = tie.close (tie.spec enum-told enum-told-2 returns returns-2)
+closed-flag-spec = tie.close (tie.spec (λ c. search needs) (λ c. search needs) returns returns-2)

@@ -4,15 +4,6 @@ use borrow.Author.Needs.{needs}
 use Rattle.accounts.proofs.words.closed_words.Statement.{statement}
 use Rattle.accounts.proofs.words.closed_words.Tie as tie
 
-enum-told : tie.Need-enum-told
-enum-told c = search needs
-
-enum-known-exit : tie.Need-enum-known-exit
-enum-known-exit c = search needs
-
-words-requires : tie.Need-words-requires
-words-requires c κs = search needs
-
 returns : tie.Need-returns
 unfolding closedWords
 returns c = simp (c .enum-told .given .1)
@@ -22,4 +13,4 @@ unfolding closedWords
 returns-2 c = simp (c .words .ensures, c .before .before .before .exit .given .1)
 
 pub closed-words-spec : {M : Type 1} → statement M
-closed-words-spec = tie.close (tie.spec enum-told enum-known-exit words-requires returns returns-2)
+closed-words-spec = tie.close (tie.spec (λ c. search needs) (λ c. search needs) (λ c κs. search needs) returns returns-2)

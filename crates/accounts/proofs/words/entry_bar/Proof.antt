@@ -4,12 +4,6 @@ use borrow.Author.Needs.{needs}
 use Rattle.accounts.proofs.words.entry_bar.Statement.{statement}
 use Rattle.accounts.proofs.words.entry_bar.Tie as tie
 
-enum-told : tie.Need-enum-told
-enum-told c = search needs
-
-enum-told-2 : tie.Need-enum-told-2
-enum-told-2 c = search needs
-
 returns : tie.Need-returns
 unfolding entryBar
 returns c = simp (c .enum-told .given .1)
@@ -19,4 +13,4 @@ unfolding entryBar
 returns-2 c = simp (c .enum-told2 .given .1)
 
 pub entry-bar-spec : {M : Type 1} → statement M
-entry-bar-spec = tie.close (tie.spec enum-told enum-told-2 returns returns-2)
+entry-bar-spec = tie.close (tie.spec (λ c. search needs) (λ c. search needs) returns returns-2)

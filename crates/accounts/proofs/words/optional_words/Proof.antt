@@ -4,15 +4,6 @@ use borrow.Author.Needs.{needs}
 use Rattle.accounts.proofs.words.optional_words.Statement.{statement}
 use Rattle.accounts.proofs.words.optional_words.Tie as tie
 
-enum-told : tie.Need-enum-told
-enum-told c = search needs
-
-enum-known-value : tie.Need-enum-known-value
-enum-known-value c = search needs
-
-word-of-requires : tie.Need-word-of-requires
-word-of-requires c κs = search needs
-
 returns : tie.Need-returns
 unfolding optionalWords
 returns c = simp (c .enum-told .given .1)
@@ -23,4 +14,4 @@ returns-2 c = simp (c .word-of .ensures, c .before .before .value .given .1)
 
 pub optional-words-spec : {M : Type 1} → statement M
 optional-words-spec =
-    tie.close (tie.spec enum-told enum-known-value word-of-requires returns returns-2)
+    tie.close (tie.spec (λ c. search needs) (λ c. search needs) (λ c κs. search needs) returns returns-2)

@@ -5,9 +5,6 @@ use borrow.Author.Tests.{lt-ltb, le-ltb}
 use Rattle.capi.proofs.run.says_of.Statement.{statement}
 use Rattle.capi.proofs.run.says_of.Tie as tie
 
-bit-of-requires : tie.Need-bit-of-requires
-bit-of-requires c κs = search needs
-
 returns : tie.Need-returns
 unfolding saysOf
 returns c = simp (c .bit-of .ensures, lt-ltb _ _ (c .before .if1 .taken))
@@ -17,4 +14,4 @@ unfolding saysOf
 returns-2 c = simp (le-ltb _ _ (c .if1 .left))
 
 pub says-of-spec : {M : Type 1} → statement M
-says-of-spec = tie.close (tie.spec bit-of-requires returns returns-2)
+says-of-spec = tie.close (tie.spec (λ c κs. search needs) returns returns-2)

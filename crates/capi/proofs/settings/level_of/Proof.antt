@@ -5,9 +5,6 @@ use borrow.Author.Tests.{eq-eqb, ne-eqb}
 use Rattle.capi.proofs.settings.level_of.Statement.{statement}
 use Rattle.capi.proofs.settings.level_of.Tie as tie
 
-float-of-requires : tie.Need-float-of-requires
-float-of-requires c κs = search needs
-
 returns : tie.Need-returns
 unfolding levelOf
 returns c = simp (c .float-of .ensures, eq-eqb _ _ (c .before .if1 .taken))
@@ -17,4 +14,4 @@ unfolding levelOf
 returns-2 c = simp (ne-eqb _ _ (c .if1 .left))
 
 pub level-of-spec : {M : Type 1} → statement M
-level-of-spec = tie.close (tie.spec float-of-requires returns returns-2)
+level-of-spec = tie.close (tie.spec (λ c κs. search needs) returns returns-2)

@@ -4,45 +4,6 @@ use borrow.Author.Needs.{needs}
 use Rattle.capi.proofs.settings.risk_of.Statement.{statement}
 use Rattle.capi.proofs.settings.risk_of.Tie as tie
 
-word-requires : tie.Need-word-requires
-word-requires c κs = search needs
-
-word-requires-2 : tie.Need-word-requires-2
-word-requires-2 c κs = search needs
-
-level-of-requires : tie.Need-level-of-requires
-level-of-requires c κs = search needs
-
-word-requires-3 : tie.Need-word-requires-3
-word-requires-3 c κs = search needs
-
-level-of-requires-2 : tie.Need-level-of-requires-2
-level-of-requires-2 c κs = search needs
-
-word-requires-4 : tie.Need-word-requires-4
-word-requires-4 c κs = search needs
-
-level-of-requires-3 : tie.Need-level-of-requires-3
-level-of-requires-3 c κs = search needs
-
-word-requires-5 : tie.Need-word-requires-5
-word-requires-5 c κs = search needs
-
-level-of-requires-4 : tie.Need-level-of-requires-4
-level-of-requires-4 c κs = search needs
-
-word-requires-6 : tie.Need-word-requires-6
-word-requires-6 c κs = search needs
-
-level-of-requires-5 : tie.Need-level-of-requires-5
-level-of-requires-5 c κs = search needs
-
-word-requires-7 : tie.Need-word-requires-7
-word-requires-7 c κs = search needs
-
-flag-of-requires : tie.Need-flag-of-requires
-flag-of-requires c κs = search needs
-
 returns : tie.Need-returns
 unfolding riskOf
 returns c =
@@ -52,17 +13,17 @@ pub risk-of-spec : {M : Type 1} → statement M
 risk-of-spec =
     tie.close
     (tie.spec
-    word-requires
-    word-requires-2
-    level-of-requires
-    word-requires-3
-    level-of-requires-2
-    word-requires-4
-    level-of-requires-3
-    word-requires-5
-    level-of-requires-4
-    word-requires-6
-    level-of-requires-5
-    word-requires-7
-    flag-of-requires
+    (λ c κs. search needs)
+    (λ c κs. search needs)
+    (λ c κs. search needs)
+    (λ c κs. search needs)
+    (λ c κs. search needs)
+    (λ c κs. search needs)
+    (λ c κs. search needs)
+    (λ c κs. search needs)
+    (λ c κs. search needs)
+    (λ c κs. search needs)
+    (λ c κs. search needs)
+    (λ c κs. search needs)
+    (λ c κs. search needs)
     returns)

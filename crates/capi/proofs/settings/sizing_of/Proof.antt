@@ -5,9 +5,6 @@ use borrow.Author.Tests.{ne-eqb}
 use Rattle.capi.proofs.settings.sizing_of.Statement.{statement}
 use Rattle.capi.proofs.settings.sizing_of.Tie as tie
 
-float-of-requires : tie.Need-float-of-requires
-float-of-requires c κs = search needs
-
 returns : tie.Need-returns
 unfolding sizingOf
 returns c = simp (c .match .keys1, c .before .float-of .ensures)
@@ -35,4 +32,4 @@ returns-6 c = simp (ne-eqb _ _ (c .match .rest .1), ne-eqb _ _ (c .match .rest .
 pub sizing-of-spec : {M : Type 1} → statement M
 sizing-of-spec =
     tie.close
-    (tie.spec float-of-requires returns returns-2 returns-3 returns-4 returns-5 returns-6)
+    (tie.spec (λ c κs. search needs) returns returns-2 returns-3 returns-4 returns-5 returns-6)

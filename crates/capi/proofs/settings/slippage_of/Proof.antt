@@ -5,9 +5,6 @@ use borrow.Author.Tests.{ne-eqb}
 use Rattle.capi.proofs.settings.slippage_of.Statement.{statement}
 use Rattle.capi.proofs.settings.slippage_of.Tie as tie
 
-float-of-requires : tie.Need-float-of-requires
-float-of-requires c κs = search needs
-
 returns : tie.Need-returns
 unfolding slippageOf
 returns c = simp (c .match .keys1, c .before .float-of .ensures)
@@ -21,4 +18,4 @@ unfolding slippageOf
 returns-3 c = simp (ne-eqb _ _ (c .match .rest .1), ne-eqb _ _ (c .match .rest .0 .1))
 
 pub slippage-of-spec : {M : Type 1} → statement M
-slippage-of-spec = tie.close (tie.spec float-of-requires returns returns-2 returns-3)
+slippage-of-spec = tie.close (tie.spec (λ c κs. search needs) returns returns-2 returns-3)

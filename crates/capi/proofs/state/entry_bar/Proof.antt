@@ -4,12 +4,6 @@ use borrow.Author.Needs.{needs}
 use Rattle.capi.proofs.state.entry_bar.Statement.{statement}
 use Rattle.capi.proofs.state.entry_bar.Tie as tie
 
-enum-told : tie.Need-enum-told
-enum-told c = search needs
-
-enum-known-entered : tie.Need-enum-known-entered
-enum-known-entered c = search needs
-
 returns : tie.Need-returns
 unfolding entryBar
 returns c = simp (c .enum-told .given .1)
@@ -19,4 +13,4 @@ unfolding entryBar
 returns-2 c = simp (c .before .entered .given .1)
 
 pub entry-bar-spec : {M : Type 1} → statement M
-entry-bar-spec = tie.close (tie.spec enum-told enum-known-entered returns returns-2)
+entry-bar-spec = tie.close (tie.spec (λ c. search needs) (λ c. search needs) returns returns-2)

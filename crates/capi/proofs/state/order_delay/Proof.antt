@@ -4,18 +4,6 @@ use borrow.Author.Needs.{needs}
 use Rattle.capi.proofs.state.order_delay.Statement.{statement}
 use Rattle.capi.proofs.state.order_delay.Tie as tie
 
-enum-told : tie.Need-enum-told
-enum-told c = search needs
-
-enum-known-order : tie.Need-enum-known-order
-enum-known-order c = search needs
-
-enum-known-order-2 : tie.Need-enum-known-order-2
-enum-known-order-2 c = search needs
-
-enum-known-order-3 : tie.Need-enum-known-order-3
-enum-known-order-3 c = search needs
-
 returns : tie.Need-returns
 unfolding orderDelay
 returns c = simp (c .enum-told .given .1)
@@ -36,10 +24,10 @@ pub order-delay-spec : {M : Type 1} → statement M
 order-delay-spec =
     tie.close
     (tie.spec
-    enum-told
-    enum-known-order
-    enum-known-order-2
-    enum-known-order-3
+    (λ c. search needs)
+    (λ c. search needs)
+    (λ c. search needs)
+    (λ c. search needs)
     returns
     returns-2
     returns-3

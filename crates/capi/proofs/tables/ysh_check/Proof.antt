@@ -5,21 +5,6 @@ use mathlib.Core.Path.{sym, _∙_}
 use Rattle.capi.proofs.tables.ysh_check.Statement.{statement}
 use Rattle.capi.proofs.tables.ysh_check.Tie as tie
 
-check-requires : tie.Need-check-requires
-check-requires c κs = search needs
-
-enum-known-answer : tie.Need-enum-known-answer
-enum-known-answer c = search needs
-
-cast-answer-word : tie.Need-cast-answer-word
-cast-answer-word c = search needs
-
-answer-word-requires : tie.Need-answer-word-requires
-answer-word-requires c κs = search needs
-
-enum-known-answer-2 : tie.Need-enum-known-answer-2
-enum-known-answer-2 c = search needs
-
 returns : tie.Need-returns
 unfolding checkCall checkBy
 returns c = simp (sym (c .before .before .before .before .check .ensures .0) ∙ c .before .before .answer .given .1, c .answer-word .ensures)
@@ -32,10 +17,10 @@ pub ysh-check-spec : {M : Type 1} → statement M
 ysh-check-spec =
     tie.close
     (tie.spec
-    check-requires
-    enum-known-answer
-    cast-answer-word
-    answer-word-requires
-    enum-known-answer-2
+    (λ c κs. search needs)
+    (λ c. search needs)
+    (λ c. search needs)
+    (λ c κs. search needs)
+    (λ c. search needs)
     returns
     returns-2)

@@ -5,21 +5,6 @@ use mathlib.Core.Path.{sym, _∙_}
 use Rattle.capi.proofs.tables.ysh_depth.Statement.{statement}
 use Rattle.capi.proofs.tables.ysh_depth.Tie as tie
 
-depth-requires : tie.Need-depth-requires
-depth-requires c κs = search needs
-
-enum-known-depth : tie.Need-enum-known-depth
-enum-known-depth c = search needs
-
-cast-answer-word : tie.Need-cast-answer-word
-cast-answer-word c = search needs
-
-answer-word-requires : tie.Need-answer-word-requires
-answer-word-requires c κs = search needs
-
-enum-known-depth-2 : tie.Need-enum-known-depth-2
-enum-known-depth-2 c = search needs
-
 returns : tie.Need-returns
 unfolding depthCall depthBy
 returns c = simp (sym (c .before .before .before .before .depth .ensures) ∙ c .before .before .depth2 .given .1, c .answer-word .ensures)
@@ -32,10 +17,10 @@ pub ysh-depth-spec : {M : Type 1} → statement M
 ysh-depth-spec =
     tie.close
     (tie.spec
-    depth-requires
-    enum-known-depth
-    cast-answer-word
-    answer-word-requires
-    enum-known-depth-2
+    (λ c κs. search needs)
+    (λ c. search needs)
+    (λ c. search needs)
+    (λ c κs. search needs)
+    (λ c. search needs)
     returns
     returns-2)

@@ -10,60 +10,21 @@ use native.Mathlib.Omega.{arith}
 use Rattle.capi.proofs.tables.ysh_translate.Statement.{statement}
 use Rattle.capi.proofs.tables.ysh_translate.Tie as tie
 
-check-requires : tie.Need-check-requires
-check-requires c κs = search needs
-
-enum-known-answer : tie.Need-enum-known-answer
-enum-known-answer c = search needs
-
-cast-answer-word : tie.Need-cast-answer-word
-cast-answer-word c = search needs
-
-answer-word-requires : tie.Need-answer-word-requires
-answer-word-requires c κs = search needs
-
 returns : tie.Need-returns
 unfolding translateCall translateBy afterTable
 returns c = simp (le-leb _ _ (c .before .before .before .before .before .if1 .taken), sym (c .before .before .before .before .check .ensures .0) ∙ c .before .before .answer .given .1, c .answer-word .ensures)
-
-enum-told : tie.Need-enum-told
-enum-told c = search needs
 
 returns-2 : tie.Need-returns-2
 unfolding translateCall translateBy afterTable
 returns-2 c = simp (le-leb _ _ (c .before .before .before .if1 .taken), sym (c .before .before .check .ensures .0) ∙ c .enum-told .given .1)
 
-tree-of-requires : tie.Need-tree-of-requires
-tree-of-requires c κs = search needs
-
-translate-requires : tie.Need-translate-requires
-translate-requires c κs = search needs
-
-enum-known-translated : tie.Need-enum-known-translated
-enum-known-translated c = search needs
-
-cast-answer-word-2 : tie.Need-cast-answer-word-2
-cast-answer-word-2 c = search needs
-
-answer-word-requires-2 : tie.Need-answer-word-requires-2
-answer-word-requires-2 c κs = search needs
-
-enum-known-translated-2 : tie.Need-enum-known-translated-2
-enum-known-translated-2 c = search needs
-
 mul-used : tie.Need-mul-used
 mul-used c = omega (arith, writes-within _ _ _ _ _ (sym (c .before .before .before .before .before .translate .ensures .0) ∙ c .before .translated2 .given .1) (c .before .before .before .before .before .translate .ensures .1))
-
-same-length : tie.Need-same-length
-same-length c = search needs
 
 returns-3 : tie.Need-returns-3
 unfolding translateCall translateBy
 returns-3 c =
     simp (lt-leb _ _ (c .before .before .before .before .before .before .before .before .before .if1 .left), sym (rw (c .before .before .before .before .before .before .before .before .tree-of .ensures) at (c .before .before .before .before .before .before .translate .ensures .0)) ∙ c .before .before .translated .given .1, rw (c .before .before .before .before .before .before .before .before .tree-of .ensures) at (c .before .before .before .before .before .before .translate .ensures .1), c .answer-word2 .ensures)
-
-same-length-2 : tie.Need-same-length-2
-same-length-2 c = search needs
 
 returns-4 : tie.Need-returns-4
 unfolding translateCall translateBy
@@ -74,21 +35,21 @@ pub ysh-translate-spec : {M : Type 1} → statement M
 ysh-translate-spec =
     tie.close
     (tie.spec
-    check-requires
-    enum-known-answer
-    cast-answer-word
-    answer-word-requires
+    (λ c κs. search needs)
+    (λ c. search needs)
+    (λ c. search needs)
+    (λ c κs. search needs)
     returns
-    enum-told
+    (λ c. search needs)
     returns-2
-    tree-of-requires
-    translate-requires
-    enum-known-translated
-    cast-answer-word-2
-    answer-word-requires-2
-    enum-known-translated-2
+    (λ c κs. search needs)
+    (λ c κs. search needs)
+    (λ c. search needs)
+    (λ c. search needs)
+    (λ c κs. search needs)
+    (λ c. search needs)
     mul-used
-    same-length
+    (λ c. search needs)
     returns-3
-    same-length-2
+    (λ c. search needs)
     returns-4)

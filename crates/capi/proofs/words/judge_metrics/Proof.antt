@@ -4,12 +4,9 @@ use borrow.Author.Needs.{needs}
 use Rattle.capi.proofs.words.judge_metrics.Statement.{statement}
 use Rattle.capi.proofs.words.judge_metrics.Tie as tie
 
-check-requires : tie.Need-check-requires
-check-requires c κs = search needs
-
 returns : tie.Need-returns
 unfolding metricsJudged
 returns c = simp (c .check .ensures)
 
 pub judge-metrics-spec : {M : Type 1} → statement M
-judge-metrics-spec = tie.close (tie.spec check-requires returns)
+judge-metrics-spec = tie.close (tie.spec (λ c κs. search needs) returns)

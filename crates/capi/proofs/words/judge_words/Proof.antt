@@ -4,15 +4,9 @@ use borrow.Author.Needs.{needs}
 use Rattle.capi.proofs.words.judge_words.Statement.{statement}
 use Rattle.capi.proofs.words.judge_words.Tie as tie
 
-check-requires : tie.Need-check-requires
-check-requires c κs = search needs
-
-check-requires-2 : tie.Need-check-requires-2
-check-requires-2 c κs = search needs
-
 returns : tie.Need-returns
 unfolding wordsJudged
 returns c = simp (c .check2 .ensures, c .before .check .ensures)
 
 pub judge-words-spec : {M : Type 1} → statement M
-judge-words-spec = tie.close (tie.spec check-requires check-requires-2 returns)
+judge-words-spec = tie.close (tie.spec (λ c κs. search needs) (λ c κs. search needs) returns)

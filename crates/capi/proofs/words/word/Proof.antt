@@ -4,11 +4,8 @@ use native.Mathlib.Nat.{zero-add}
 use Rattle.capi.proofs.words.word.Statement.{statement}
 use Rattle.capi.proofs.words.word.Tie as tie
 
-word-from-requires : tie.Need-word-from-requires
-word-from-requires c κs = search needs
-
 returns : tie.Need-returns
 returns c = simp (c .word-from .ensures, zero-add)
 
 pub word-spec : {M : Type 1} → statement M
-word-spec = tie.close (tie.spec word-from-requires returns)
+word-spec = tie.close (tie.spec (λ c κs. search needs) returns)

@@ -15,27 +15,9 @@ Inv-loop row₀ bar slots width j₀ row j = (j ≤ 7 + slots) × (length row �
 abbrev μ-loop : tie.MeasureT-loop
 μ-loop row₀ bar slots width j₀ row j = 7 + slots - j
 
-add-width : tie.Need-add-width Inv-loop μ-loop
-add-width c = search needs
-
 loop-holds : tie.Need-loop-holds Inv-loop μ-loop
 unfolding listed
 loop-holds c = (search needs, search needs, refl)
-
-row-word-requires : tie.Need-row-word-requires Inv-loop μ-loop
-row-word-requires c κs = search needs
-
-mul-row : tie.Need-mul-row Inv-loop μ-loop
-mul-row c = search needs
-
-slice-write-row : tie.Need-slice-write-row Inv-loop μ-loop
-slice-write-row c = search needs
-
-add-j : tie.Need-add-j Inv-loop μ-loop
-add-j c = search needs
-
-loop-less : tie.Need-loop-less Inv-loop μ-loop
-loop-less c = search needs
 
 loop-again : tie.Need-loop-again Inv-loop μ-loop
 loop-again c =
@@ -46,9 +28,6 @@ loop-again c =
       simp length-set (l .loop .inv .1),
       word-more (rowWord (a .bar .now)) (l .loop .row) (l .loop .j) (c .row-word .result) h (l .loop .inv .2) (c .row-word .ensures),
     )
-
-same-length : tie.Need-same-length Inv-loop μ-loop
-same-length c = search needs
 
 returns : tie.Need-returns Inv-loop μ-loop
 unfolding rowOf
@@ -64,13 +43,13 @@ fill-row-spec =
     (tie.spec
     Inv-loop
     μ-loop
-    add-width
+    (λ c. search needs)
     loop-holds
-    row-word-requires
-    mul-row
-    slice-write-row
-    add-j
-    loop-less
+    (λ c κs. search needs)
+    (λ c. search needs)
+    (λ c. search needs)
+    (λ c. search needs)
+    (λ c. search needs)
     loop-again
-    same-length
+    (λ c. search needs)
     returns)

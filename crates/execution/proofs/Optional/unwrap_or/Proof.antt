@@ -4,12 +4,6 @@ use borrow.Author.Needs.{needs}
 use Rattle.execution.proofs.Optional.unwrap_or.Statement.{statement}
 use Rattle.execution.proofs.Optional.unwrap_or.Tie as tie
 
-enum-told : tie.Need-enum-told
-enum-told c = search needs
-
-enum-known-self : tie.Need-enum-known-self
-enum-known-self c = search needs
-
 returns : tie.Need-returns
 unfolding unwrapOr
 returns c = simp (c .enum-told .given .1)
@@ -19,4 +13,4 @@ unfolding unwrapOr
 returns-2 c = simp (c .before .self .given .1)
 
 pub unwrap-or-spec : {M : Type 1} → statement M
-unwrap-or-spec = tie.close (tie.spec enum-told enum-known-self returns returns-2)
+unwrap-or-spec = tie.close (tie.spec (λ c. search needs) (λ c. search needs) returns returns-2)

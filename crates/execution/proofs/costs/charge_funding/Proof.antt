@@ -5,12 +5,6 @@ use borrow.Author.Needs.{needs}
 use Rattle.execution.proofs.costs.charge_funding.Statement.{statement}
 use Rattle.execution.proofs.costs.charge_funding.Tie as tie
 
-in-position-requires : tie.Need-in-position-requires
-in-position-requires c κs = search needs
-
-with-funding-requires : tie.Need-with-funding-requires
-with-funding-requires c κs = search needs
-
 returns : tie.Need-returns
 unfolding chargeFunding
 returns c = simp (sym (c .before .before .in-position .ensures) ∙ c .before .if2 .taken, c .with-funding .ensures, c .before .before .before .if1 .taken)
@@ -25,4 +19,4 @@ returns-3 c = simp (c .if1 .left)
 
 pub charge-funding-spec : {M : Type 1} → statement M
 charge-funding-spec =
-    tie.close (tie.spec in-position-requires with-funding-requires returns returns-2 returns-3)
+    tie.close (tie.spec (λ c κs. search needs) (λ c κs. search needs) returns returns-2 returns-3)

@@ -4,15 +4,6 @@ use borrow.Author.Needs.{needs}
 use Rattle.execution.proofs.costs.with_funding.Statement.{statement}
 use Rattle.execution.proofs.costs.with_funding.Tie as tie
 
-enum-told : tie.Need-enum-told
-enum-told c = search needs
-
-enum-known-funding : tie.Need-enum-known-funding
-enum-known-funding c = search needs
-
-apply-funding-requires : tie.Need-apply-funding-requires
-apply-funding-requires c κs = search needs
-
 returns : tie.Need-returns
 unfolding withFunding
 returns c = simp (c .enum-told .given .1)
@@ -23,4 +14,4 @@ returns-2 c = simp (c .apply-funding .ensures, c .before .before .before .fundin
 
 pub with-funding-spec : {M : Type 1} → statement M
 with-funding-spec =
-    tie.close (tie.spec enum-told enum-known-funding apply-funding-requires returns returns-2)
+    tie.close (tie.spec (λ c. search needs) (λ c. search needs) (λ c κs. search needs) returns returns-2)

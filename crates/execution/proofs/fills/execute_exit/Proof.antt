@@ -5,18 +5,6 @@ use borrow.Author.Needs.{needs}
 use Rattle.execution.proofs.fills.execute_exit.Statement.{statement}
 use Rattle.execution.proofs.fills.execute_exit.Tie as tie
 
-in-position-requires : tie.Need-in-position-requires
-in-position-requires c κs = search needs
-
-exit-direction-requires : tie.Need-exit-direction-requires
-exit-direction-requires c κs = search needs
-
-slippage-rate-requires : tie.Need-slippage-rate-requires
-slippage-rate-requires c κs = search needs
-
-close-requires : tie.Need-close-requires
-close-requires c κs = search needs
-
 returns : tie.Need-returns
 unfolding executeExit
 returns c = simp (sym (c .before .before .before .before .in-position .ensures) ∙ c .before .before .before .if1 .taken, c .close .ensures, c .before .slippage-rate .ensures, c .before .before .exit-direction .ensures)
@@ -29,9 +17,9 @@ pub execute-exit-spec : {M : Type 1} → statement M
 execute-exit-spec =
     tie.close
     (tie.spec
-    in-position-requires
-    exit-direction-requires
-    slippage-rate-requires
-    close-requires
+    (λ c κs. search needs)
+    (λ c κs. search needs)
+    (λ c κs. search needs)
+    (λ c κs. search needs)
     returns
     returns-2)

@@ -5,9 +5,6 @@ use borrow.Author.Needs.{needs}
 use Rattle.execution.proofs.fills.exit_direction.Statement.{statement}
 use Rattle.execution.proofs.fills.exit_direction.Tie as tie
 
-is-long-requires : tie.Need-is-long-requires
-is-long-requires c κs = search needs
-
 returns : tie.Need-returns
 unfolding exitDirection
 returns c = simp (sym (c .before .is-long .ensures) ∙ c .if1 .taken)
@@ -17,4 +14,4 @@ unfolding exitDirection
 returns-2 c = simp (sym (c .before .is-long .ensures) ∙ c .if1 .left)
 
 pub exit-direction-spec : {M : Type 1} → statement M
-exit-direction-spec = tie.close (tie.spec is-long-requires returns returns-2)
+exit-direction-spec = tie.close (tie.spec (λ c κs. search needs) returns returns-2)

@@ -4,18 +4,6 @@ use borrow.Author.Needs.{needs}
 use Rattle.execution.proofs.fills.filled.Statement.{statement}
 use Rattle.execution.proofs.fills.filled.Tie as tie
 
-enum-told : tie.Need-enum-told
-enum-told c = search needs
-
-enum-known-sized : tie.Need-enum-known-sized
-enum-known-sized c = search needs
-
-within-volume-requires : tie.Need-within-volume-requires
-within-volume-requires c κs = search needs
-
-booked-requires : tie.Need-booked-requires
-booked-requires c κs = search needs
-
 returns : tie.Need-returns
 unfolding filled
 returns c = simp (c .enum-told .given .1)
@@ -27,4 +15,4 @@ returns-2 c = simp (c .booked .ensures, c .before .within-volume .ensures, c .be
 pub filled-spec : {M : Type 1} → statement M
 filled-spec =
     tie.close
-    (tie.spec enum-told enum-known-sized within-volume-requires booked-requires returns returns-2)
+    (tie.spec (λ c. search needs) (λ c. search needs) (λ c κs. search needs) (λ c κs. search needs) returns returns-2)

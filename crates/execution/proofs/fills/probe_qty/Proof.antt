@@ -4,21 +4,6 @@ use borrow.Author.Needs.{needs}
 use Rattle.execution.proofs.fills.probe_qty.Statement.{statement}
 use Rattle.execution.proofs.fills.probe_qty.Tie as tie
 
-enum-told : tie.Need-enum-told
-enum-told c = search needs
-
-size-requires : tie.Need-size-requires
-size-requires c κs = search needs
-
-unwrap-or-requires : tie.Need-unwrap-or-requires
-unwrap-or-requires c κs = search needs
-
-enum-told-2 : tie.Need-enum-told-2
-enum-told-2 c = search needs
-
-enum-told-3 : tie.Need-enum-told-3
-enum-told-3 c = search needs
-
 returns : tie.Need-returns
 unfolding probeQty
 returns c = simp (c .unwrap-or .ensures, c .before .size .ensures, c .before .before .enum-told .given .1)
@@ -35,11 +20,11 @@ pub probe-qty-spec : {M : Type 1} → statement M
 probe-qty-spec =
     tie.close
     (tie.spec
-    enum-told
-    size-requires
-    unwrap-or-requires
-    enum-told-2
-    enum-told-3
+    (λ c. search needs)
+    (λ c κs. search needs)
+    (λ c κs. search needs)
+    (λ c. search needs)
+    (λ c. search needs)
     returns
     returns-2
     returns-3)

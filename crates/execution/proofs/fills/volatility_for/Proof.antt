@@ -4,27 +4,6 @@ use borrow.Author.Needs.{needs}
 use Rattle.execution.proofs.fills.volatility_for.Statement.{statement}
 use Rattle.execution.proofs.fills.volatility_for.Tie as tie
 
-enum-known-sizing : tie.Need-enum-known-sizing
-enum-known-sizing c = search needs
-
-realized-vol-requires : tie.Need-realized-vol-requires
-realized-vol-requires c κs = search needs
-
-enum-told : tie.Need-enum-told
-enum-told c = search needs
-
-enum-told-2 : tie.Need-enum-told-2
-enum-told-2 c = search needs
-
-enum-told-3 : tie.Need-enum-told-3
-enum-told-3 c = search needs
-
-enum-told-4 : tie.Need-enum-told-4
-enum-told-4 c = search needs
-
-enum-told-5 : tie.Need-enum-told-5
-enum-told-5 c = search needs
-
 returns : tie.Need-returns
 unfolding volatilityFor
 returns c = simp (c .realized-vol .ensures, c .before .before .sizing .given .1)
@@ -53,13 +32,13 @@ pub volatility-for-spec : {M : Type 1} → statement M
 volatility-for-spec =
     tie.close
     (tie.spec
-    enum-known-sizing
-    realized-vol-requires
-    enum-told
-    enum-told-2
-    enum-told-3
-    enum-told-4
-    enum-told-5
+    (λ c. search needs)
+    (λ c κs. search needs)
+    (λ c. search needs)
+    (λ c. search needs)
+    (λ c. search needs)
+    (λ c. search needs)
+    (λ c. search needs)
     returns
     returns-2
     returns-3

@@ -4,9 +4,6 @@ use borrow.Author.Needs.{needs}
 use Rattle.execution.proofs.fills.within_volume.Statement.{statement}
 use Rattle.execution.proofs.fills.within_volume.Tie as tie
 
-min-requires : tie.Need-min-requires
-min-requires c κs = search needs
-
 returns : tie.Need-returns
 unfolding withinVolume
 returns c = simp (c .min .ensures, c .before .before .if1 .taken)
@@ -16,4 +13,4 @@ unfolding withinVolume
 returns-2 c = simp (c .if1 .left)
 
 pub within-volume-spec : {M : Type 1} → statement M
-within-volume-spec = tie.close (tie.spec min-requires returns returns-2)
+within-volume-spec = tie.close (tie.spec (λ c κs. search needs) returns returns-2)

@@ -5,21 +5,6 @@ use borrow.Author.Needs.{needs}
 use Rattle.execution.proofs.intrabar.apply_intrabar_exits.Statement.{statement}
 use Rattle.execution.proofs.intrabar.apply_intrabar_exits.Tie as tie
 
-in-position-requires : tie.Need-in-position-requires
-in-position-requires c κs = search needs
-
-is-long-requires : tie.Need-is-long-requires
-is-long-requires c κs = search needs
-
-intrabar-exit-requires : tie.Need-intrabar-exit-requires
-intrabar-exit-requires c κs = search needs
-
-or-liquidated-requires : tie.Need-or-liquidated-requires
-or-liquidated-requires c κs = search needs
-
-closed-by-requires : tie.Need-closed-by-requires
-closed-by-requires c κs = search needs
-
 returns : tie.Need-returns
 unfolding touched applyIntrabarExits
 returns c = simp (sym (c .before .before .before .before .before .before .in-position .ensures) ∙ c .before .before .before .before .before .if1 .taken, c .closed-by .ensures, c .before .or-liquidated .ensures, c .before .before .intrabar-exit .ensures, c .before .before .before .is-long .ensures)
@@ -32,10 +17,10 @@ pub apply-intrabar-exits-spec : {M : Type 1} → statement M
 apply-intrabar-exits-spec =
     tie.close
     (tie.spec
-    in-position-requires
-    is-long-requires
-    intrabar-exit-requires
-    or-liquidated-requires
-    closed-by-requires
+    (λ c κs. search needs)
+    (λ c κs. search needs)
+    (λ c κs. search needs)
+    (λ c κs. search needs)
+    (λ c κs. search needs)
     returns
     returns-2)

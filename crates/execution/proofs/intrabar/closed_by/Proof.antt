@@ -4,15 +4,6 @@ use borrow.Author.Needs.{needs}
 use Rattle.execution.proofs.intrabar.closed_by.Statement.{statement}
 use Rattle.execution.proofs.intrabar.closed_by.Tie as tie
 
-enum-told : tie.Need-enum-told
-enum-told c = search needs
-
-enum-known-trigger : tie.Need-enum-known-trigger
-enum-known-trigger c = search needs
-
-close-requires : tie.Need-close-requires
-close-requires c κs = search needs
-
 returns : tie.Need-returns
 unfolding closedBy
 returns c = simp (c .enum-told .given .1)
@@ -22,4 +13,4 @@ unfolding closedBy
 returns-2 c = simp (c .close .ensures, c .before .before .trigger .given .1)
 
 pub closed-by-spec : {M : Type 1} → statement M
-closed-by-spec = tie.close (tie.spec enum-told enum-known-trigger close-requires returns returns-2)
+closed-by-spec = tie.close (tie.spec (λ c. search needs) (λ c. search needs) (λ c κs. search needs) returns returns-2)

@@ -5,15 +5,6 @@ use borrow.Author.Needs.{needs}
 use Rattle.execution.proofs.intrabar.extreme_with.Statement.{statement}
 use Rattle.execution.proofs.intrabar.extreme_with.Tie as tie
 
-in-position-requires : tie.Need-in-position-requires
-in-position-requires c κs = search needs
-
-is-long-requires : tie.Need-is-long-requires
-is-long-requires c κs = search needs
-
-favourable-requires : tie.Need-favourable-requires
-favourable-requires c κs = search needs
-
 returns : tie.Need-returns
 unfolding extremeWith
 returns c = simp (sym (c .before .before .before .in-position .ensures) ∙ c .before .before .if1 .taken, c .favourable .ensures, c .before .is-long .ensures)
@@ -25,4 +16,4 @@ returns-2 c = simp (sym (c .before .in-position .ensures) ∙ c .if1 .left)
 pub extreme-with-spec : {M : Type 1} → statement M
 extreme-with-spec =
     tie.close
-    (tie.spec in-position-requires is-long-requires favourable-requires returns returns-2)
+    (tie.spec (λ c κs. search needs) (λ c κs. search needs) (λ c κs. search needs) returns returns-2)

@@ -4,19 +4,13 @@ use borrow.Author.Needs.{needs}
 use Rattle.execution.proofs.intrabar.favourable.Statement.{statement}
 use Rattle.execution.proofs.intrabar.favourable.Tie as tie
 
-max-requires : tie.Need-max-requires
-max-requires c κs = search needs
-
 returns : tie.Need-returns
 unfolding favourable
 returns c = simp (c .max .ensures, c .before .if1 .taken)
-
-min-requires : tie.Need-min-requires
-min-requires c κs = search needs
 
 returns-2 : tie.Need-returns-2
 unfolding favourable
 returns-2 c = simp (c .min .ensures, c .before .if1 .left)
 
 pub favourable-spec : {M : Type 1} → statement M
-favourable-spec = tie.close (tie.spec max-requires returns min-requires returns-2)
+favourable-spec = tie.close (tie.spec (λ c κs. search needs) returns (λ c κs. search needs) returns-2)

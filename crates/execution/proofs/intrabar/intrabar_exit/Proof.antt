@@ -8,15 +8,9 @@ returns : tie.Need-returns
 unfolding intrabarExit
 returns c = simp (c .if1 .taken)
 
-long-exit-requires : tie.Need-long-exit-requires
-long-exit-requires c κs = search needs
-
 returns-2 : tie.Need-returns-2
 unfolding intrabarExit
 returns-2 c = simp (c .long-exit .ensures, c .before .if2 .taken, c .before .before .if1 .left)
-
-short-exit-requires : tie.Need-short-exit-requires
-short-exit-requires c κs = search needs
 
 returns-3 : tie.Need-returns-3
 unfolding intrabarExit
@@ -24,4 +18,4 @@ returns-3 c = simp (c .short-exit .ensures, c .before .if2 .left, c .before .bef
 
 pub intrabar-exit-spec : {M : Type 1} → statement M
 intrabar-exit-spec =
-    tie.close (tie.spec returns long-exit-requires returns-2 short-exit-requires returns-3)
+    tie.close (tie.spec returns (λ c κs. search needs) returns-2 (λ c κs. search needs) returns-3)

@@ -5,12 +5,6 @@ use borrow.Author.Needs.{needs}
 use Rattle.execution.proofs.intrabar.liquidation.Statement.{statement}
 use Rattle.execution.proofs.intrabar.liquidation.Tie as tie
 
-is-long-requires : tie.Need-is-long-requires
-is-long-requires c κs = search needs
-
-breached-requires : tie.Need-breached-requires
-breached-requires c κs = search needs
-
 returns : tie.Need-returns
 unfolding bankruptcyPrice liquidated
 returns c = simp (sym (c .before .breached .ensures) ∙ c .if2 .taken, ← c .before .before .is-long .ensures, c .before .before .before .if1 .taken)
@@ -25,4 +19,4 @@ returns-3 c = simp (c .if1 .left)
 
 pub liquidation-spec : {M : Type 1} → statement M
 liquidation-spec =
-    tie.close (tie.spec is-long-requires breached-requires returns returns-2 returns-3)
+    tie.close (tie.spec (λ c κs. search needs) (λ c κs. search needs) returns returns-2 returns-3)

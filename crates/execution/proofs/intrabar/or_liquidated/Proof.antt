@@ -4,15 +4,6 @@ use borrow.Author.Needs.{needs}
 use Rattle.execution.proofs.intrabar.or_liquidated.Statement.{statement}
 use Rattle.execution.proofs.intrabar.or_liquidated.Tie as tie
 
-enum-known-fired : tie.Need-enum-known-fired
-enum-known-fired c = search needs
-
-enum-told : tie.Need-enum-told
-enum-told c = search needs
-
-liquidation-requires : tie.Need-liquidation-requires
-liquidation-requires c κs = search needs
-
 returns : tie.Need-returns
 unfolding orLiquidated
 returns c = simp (c .liquidation .ensures, c .before .if1 .taken, c .before .before .enum-told .given .1)
@@ -28,4 +19,4 @@ returns-3 c = simp (c .if1 .left, c .before .enum-told .given .1)
 pub or-liquidated-spec : {M : Type 1} → statement M
 or-liquidated-spec =
     tie.close
-    (tie.spec enum-known-fired enum-told liquidation-requires returns returns-2 returns-3)
+    (tie.spec (λ c. search needs) (λ c. search needs) (λ c κs. search needs) returns returns-2 returns-3)

@@ -4,15 +4,6 @@ use borrow.Author.Needs.{needs}
 use Rattle.execution.proofs.intrabar.over.Statement.{statement}
 use Rattle.execution.proofs.intrabar.over.Tie as tie
 
-enum-told : tie.Need-enum-told
-enum-told c = search needs
-
-enum-known-pct : tie.Need-enum-known-pct
-enum-known-pct c = search needs
-
-rise-to-requires : tie.Need-rise-to-requires
-rise-to-requires c κs = search needs
-
 returns : tie.Need-returns
 unfolding over
 returns c = simp (c .enum-told .given .1)
@@ -22,4 +13,4 @@ unfolding over
 returns-2 c = simp (c .rise-to .ensures, c .before .before .pct .given .1)
 
 pub over-spec : {M : Type 1} → statement M
-over-spec = tie.close (tie.spec enum-told enum-known-pct rise-to-requires returns returns-2)
+over-spec = tie.close (tie.spec (λ c. search needs) (λ c. search needs) (λ c κs. search needs) returns returns-2)

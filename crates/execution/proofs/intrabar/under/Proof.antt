@@ -4,15 +4,6 @@ use borrow.Author.Needs.{needs}
 use Rattle.execution.proofs.intrabar.under.Statement.{statement}
 use Rattle.execution.proofs.intrabar.under.Tie as tie
 
-enum-told : tie.Need-enum-told
-enum-told c = search needs
-
-enum-known-pct : tie.Need-enum-known-pct
-enum-known-pct c = search needs
-
-fall-to-requires : tie.Need-fall-to-requires
-fall-to-requires c κs = search needs
-
 returns : tie.Need-returns
 unfolding under
 returns c = simp (c .enum-told .given .1)
@@ -22,4 +13,4 @@ unfolding under
 returns-2 c = simp (c .fall-to .ensures, c .before .before .pct .given .1)
 
 pub under-spec : {M : Type 1} → statement M
-under-spec = tie.close (tie.spec enum-told enum-known-pct fall-to-requires returns returns-2)
+under-spec = tie.close (tie.spec (λ c. search needs) (λ c. search needs) (λ c κs. search needs) returns returns-2)

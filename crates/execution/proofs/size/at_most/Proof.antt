@@ -4,15 +4,6 @@ use borrow.Author.Needs.{needs}
 use Rattle.execution.proofs.size.at_most.Statement.{statement}
 use Rattle.execution.proofs.size.at_most.Tie as tie
 
-enum-told : tie.Need-enum-told
-enum-told c = search needs
-
-enum-known-max-position-pct : tie.Need-enum-known-max-position-pct
-enum-known-max-position-pct c = search needs
-
-min-requires : tie.Need-min-requires
-min-requires c κs = search needs
-
 returns : tie.Need-returns
 unfolding atMost
 returns c = simp (c .enum-told .given .1)
@@ -23,4 +14,4 @@ returns-2 c = simp (c .min .ensures, c .before .before .max-position-pct .given 
 
 pub at-most-spec : {M : Type 1} → statement M
 at-most-spec =
-    tie.close (tie.spec enum-told enum-known-max-position-pct min-requires returns returns-2)
+    tie.close (tie.spec (λ c. search needs) (λ c. search needs) (λ c κs. search needs) returns returns-2)

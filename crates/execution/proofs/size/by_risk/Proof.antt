@@ -4,12 +4,6 @@ use borrow.Author.Needs.{needs}
 use Rattle.execution.proofs.size.by_risk.Statement.{statement}
 use Rattle.execution.proofs.size.by_risk.Tie as tie
 
-enum-told : tie.Need-enum-told
-enum-told c = search needs
-
-enum-known-stop : tie.Need-enum-known-stop
-enum-known-stop c = search needs
-
 returns : tie.Need-returns
 unfolding byRisk
 returns c = simp (c .if1 .taken, c .before .before .stop .given .1)
@@ -23,4 +17,4 @@ unfolding byRisk
 returns-3 c = simp (c .if1 .left, c .before .before .stop .given .1)
 
 pub by-risk-spec : {M : Type 1} → statement M
-by-risk-spec = tie.close (tie.spec enum-told enum-known-stop returns returns-2 returns-3)
+by-risk-spec = tie.close (tie.spec (λ c. search needs) (λ c. search needs) returns returns-2 returns-3)

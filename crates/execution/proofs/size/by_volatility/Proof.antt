@@ -4,12 +4,6 @@ use borrow.Author.Needs.{needs}
 use Rattle.execution.proofs.size.by_volatility.Statement.{statement}
 use Rattle.execution.proofs.size.by_volatility.Tie as tie
 
-enum-told : tie.Need-enum-told
-enum-told c = search needs
-
-enum-known-realized-vol : tie.Need-enum-known-realized-vol
-enum-known-realized-vol c = search needs
-
 returns : tie.Need-returns
 unfolding byVolatility
 returns c = simp (c .enum-told .given .1)
@@ -19,4 +13,4 @@ unfolding byVolatility
 returns-2 c = simp (c .before .realized-vol .given .1)
 
 pub by-volatility-spec : {M : Type 1} → statement M
-by-volatility-spec = tie.close (tie.spec enum-told enum-known-realized-vol returns returns-2)
+by-volatility-spec = tie.close (tie.spec (λ c. search needs) (λ c. search needs) returns returns-2)

@@ -13,24 +13,9 @@ returns-2 : tie.Need-returns-2
 unfolding size ordered
 returns-2 c = simp (c .if2 .taken, c .before .if1 .left)
 
-wanted-requires : tie.Need-wanted-requires
-wanted-requires c κs = search needs
-
-enum-told : tie.Need-enum-told
-enum-told c = search needs
-
-enum-known-asked : tie.Need-enum-known-asked
-enum-known-asked c = search needs
-
 returns-3 : tie.Need-returns-3
 unfolding size ordered
 returns-3 c = simp (sym (c .before .before .before .before .wanted .ensures) ∙ c .before .before .asked .given .1, c .if3 .taken, c .before .before .before .before .before .if2 .left, c .before .before .before .before .before .before .if1 .left)
-
-max-notional-requires : tie.Need-max-notional-requires
-max-notional-requires c κs = search needs
-
-capped-requires : tie.Need-capped-requires
-capped-requires c κs = search needs
 
 returns-4 : tie.Need-returns-4
 unfolding size ordered
@@ -46,11 +31,11 @@ size-spec =
     (tie.spec
     returns
     returns-2
-    wanted-requires
-    enum-told
-    enum-known-asked
+    (λ c κs. search needs)
+    (λ c. search needs)
+    (λ c. search needs)
     returns-3
-    max-notional-requires
-    capped-requires
+    (λ c κs. search needs)
+    (λ c κs. search needs)
     returns-4
     returns-5)

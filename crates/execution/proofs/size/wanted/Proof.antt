@@ -4,30 +4,6 @@ use borrow.Author.Needs.{needs}
 use Rattle.execution.proofs.size.wanted.Statement.{statement}
 use Rattle.execution.proofs.size.wanted.Tie as tie
 
-enum-known-sizing : tie.Need-enum-known-sizing
-enum-known-sizing c = search needs
-
-enum-known-sizing-2 : tie.Need-enum-known-sizing-2
-enum-known-sizing-2 c = search needs
-
-enum-known-sizing-3 : tie.Need-enum-known-sizing-3
-enum-known-sizing-3 c = search needs
-
-enum-known-sizing-4 : tie.Need-enum-known-sizing-4
-enum-known-sizing-4 c = search needs
-
-by-risk-requires : tie.Need-by-risk-requires
-by-risk-requires c κs = search needs
-
-enum-known-sizing-5 : tie.Need-enum-known-sizing-5
-enum-known-sizing-5 c = search needs
-
-by-volatility-requires : tie.Need-by-volatility-requires
-by-volatility-requires c κs = search needs
-
-enum-told : tie.Need-enum-told
-enum-told c = search needs
-
 returns : tie.Need-returns
 unfolding wanted
 returns c = simp (c .before .sizing .given .1)
@@ -56,14 +32,14 @@ pub wanted-spec : {M : Type 1} → statement M
 wanted-spec =
     tie.close
     (tie.spec
-    enum-known-sizing
-    enum-known-sizing-2
-    enum-known-sizing-3
-    enum-known-sizing-4
-    by-risk-requires
-    enum-known-sizing-5
-    by-volatility-requires
-    enum-told
+    (λ c. search needs)
+    (λ c. search needs)
+    (λ c. search needs)
+    (λ c. search needs)
+    (λ c κs. search needs)
+    (λ c. search needs)
+    (λ c κs. search needs)
+    (λ c. search needs)
     returns
     returns-2
     returns-3

@@ -21,15 +21,9 @@ add-base c = let a = c .before .args in omega (arith, ends (a .slots) (a .rows .
 mul-base : tie.Need-mul-base
 mul-base c = let a = c .before .args in omega (arith, ends (a .slots) (a .rows .now) (a .i) (c .before .pre))
 
-word-from-requires : tie.Need-word-from-requires
-word-from-requires c κs = search needs
-
-float-of-requires : tie.Need-float-of-requires
-float-of-requires c κs = search needs
-
 returns : tie.Need-returns
 unfolding historyOf field
 returns c = simp (c .float-of .ensures, c .before .word-from .ensures)
 
 pub close-at-spec : {M : Type 1} → statement M
-close-at-spec = tie.close (tie.spec add-base mul-base word-from-requires float-of-requires returns)
+close-at-spec = tie.close (tie.spec add-base mul-base (λ c κs. search needs) (λ c κs. search needs) returns)

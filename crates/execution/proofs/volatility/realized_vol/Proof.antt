@@ -10,33 +10,12 @@ returns : tie.Need-returns
 unfolding realizedVol
 returns c = simp (lt-ltb _ _ (c .if1 .taken))
 
-row-count-requires : tie.Need-row-count-requires
-row-count-requires c κs = search needs
-
 returns-2 : tie.Need-returns-2
 unfolding realizedVol
 returns-2 c = simp (le-ltb _ _ (c .before .before .if1 .left), ← c .before .row-count .ensures, lt-ltb _ _ (c .if2 .taken))
 
-sub-last : tie.Need-sub-last
-sub-last c = search needs
-
-tally-of-requires : tie.Need-tally-of-requires
-tally-of-requires c κs = search needs
-
 returns-3 : tie.Need-returns-3
 returns-3 c = empty _ _ _ (c .before .before .before .before .row-count .ensures) (c .before .before .before .before .before .if1 .left) (c .before .before .before .if2 .left) _ (c .before .before .tally-of .ensures) (c .if3 .taken)
-
-nearest-u64-to-f64-requires : tie.Need-nearest-u64-to-f64-requires
-nearest-u64-to-f64-requires c κs = search needs
-
-tally-of-requires-2 : tie.Need-tally-of-requires-2
-tally-of-requires-2 c κs = search needs
-
-sqrt-requires : tie.Need-sqrt-requires
-sqrt-requires c κs = search needs
-
-if-positive-requires : tie.Need-if-positive-requires
-if-positive-requires c κs = search needs
 
 returns-4 : tie.Need-returns-4
 returns-4 c = full _ _ _ (c .before .before .before .before .before .before .before .before .before .before .row-count .ensures) (c .before .before .before .before .before .before .before .before .before .before .before .if1 .left) (c .before .before .before .before .before .before .before .before .before .if2 .left) _ (c .before .before .before .before .before .before .before .before .tally-of .ensures) _ _ _ _ (c .before .before .before .before .before .before .if3 .left) (c .before .before .before .before .before .nearest-u64-to-f64 .ensures) (c .before .before .before .tally-of2 .ensures) (c .before .sqrt .ensures) (c .if-positive .ensures)
@@ -46,13 +25,13 @@ realized-vol-spec =
     tie.close
     (tie.spec
     returns
-    row-count-requires
+    (λ c κs. search needs)
     returns-2
-    sub-last
-    tally-of-requires
+    (λ c. search needs)
+    (λ c κs. search needs)
     returns-3
-    nearest-u64-to-f64-requires
-    tally-of-requires-2
-    sqrt-requires
-    if-positive-requires
+    (λ c κs. search needs)
+    (λ c κs. search needs)
+    (λ c κs. search needs)
+    (λ c κs. search needs)
     returns-4)

@@ -4,9 +4,6 @@ use borrow.Author.Needs.{needs}
 use Rattle.execution.proofs.volatility.simple_return.Statement.{statement}
 use Rattle.execution.proofs.volatility.simple_return.Tie as tie
 
-abs-requires : tie.Need-abs-requires
-abs-requires c κs = search needs
-
 returns : tie.Need-returns
 unfolding simpleReturn
 returns c = simp (← c .before .abs .ensures, c .if1 .taken)
@@ -16,4 +13,4 @@ unfolding simpleReturn
 returns-2 c = simp (← c .before .abs .ensures, c .if1 .left)
 
 pub simple-return-spec : {M : Type 1} → statement M
-simple-return-spec = tie.close (tie.spec abs-requires returns returns-2)
+simple-return-spec = tie.close (tie.spec (λ c κs. search needs) returns returns-2)

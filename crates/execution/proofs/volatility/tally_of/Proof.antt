@@ -20,36 +20,6 @@ Inv-loop rows slots first last term count₀ total₀ i₀ before₀ count total
 abbrev μ-loop : tie.MeasureT-loop
 μ-loop rows slots first last term count₀ total₀ i₀ before₀ count total i before = last - i
 
-close-at-requires : tie.Need-close-at-requires Inv-loop μ-loop
-close-at-requires c κs = search needs
-
-loop-holds : tie.Need-loop-holds Inv-loop μ-loop
-loop-holds c = search needs
-
-add-i : tie.Need-add-i Inv-loop μ-loop
-add-i c = omega arith
-
-close-at-requires-2 : tie.Need-close-at-requires-2 Inv-loop μ-loop
-close-at-requires-2 c κs = search needs
-
-simple-return-requires : tie.Need-simple-return-requires Inv-loop μ-loop
-simple-return-requires c κs = search needs
-
-enum-known-change : tie.Need-enum-known-change Inv-loop μ-loop
-enum-known-change c = search needs
-
-add-count : tie.Need-add-count Inv-loop μ-loop
-add-count c = omega arith
-
-term-of-requires : tie.Need-term-of-requires Inv-loop μ-loop
-term-of-requires c κs = search needs
-
-enum-told : tie.Need-enum-told Inv-loop μ-loop
-enum-told c = search needs
-
-loop-less : tie.Need-loop-less Inv-loop μ-loop
-loop-less c = omega arith
-
 loop-again : tie.Need-loop-again Inv-loop μ-loop
 loop-again c =
     let inv = c .before .before .before .before .before .before .before .loop .inv in (
@@ -57,9 +27,6 @@ loop-again c =
       added _ _ _ _ _ _ (c .before .before .before .before .before .before .loop-test .taken) (inv .0) (c .before .before .before .before .before .close-at2 .ensures) (c .before .before .before .before .simple-return .ensures) (inv .1) (c .before .before .change .given .1) (c .term-of .ensures),
       omega arith,
     )
-
-loop-less-2 : tie.Need-loop-less-2 Inv-loop μ-loop
-loop-less-2 c = omega arith
 
 loop-again-2 : tie.Need-loop-again-2 Inv-loop μ-loop
 loop-again-2 c =
@@ -79,17 +46,17 @@ tally-of-spec =
     (tie.spec
     Inv-loop
     μ-loop
-    close-at-requires
-    loop-holds
-    add-i
-    close-at-requires-2
-    simple-return-requires
-    enum-known-change
-    add-count
-    term-of-requires
-    enum-told
-    loop-less
+    (λ c κs. search needs)
+    (λ c. search needs)
+    (λ c. omega arith)
+    (λ c κs. search needs)
+    (λ c κs. search needs)
+    (λ c. search needs)
+    (λ c. omega arith)
+    (λ c κs. search needs)
+    (λ c. search needs)
+    (λ c. omega arith)
     loop-again
-    loop-less-2
+    (λ c. omega arith)
     loop-again-2
     returns)

@@ -5,12 +5,6 @@ use borrow.Author.Needs.{needs}
 use Rattle.execution.proofs.volatility.term_of.Statement.{statement}
 use Rattle.execution.proofs.volatility.term_of.Tie as tie
 
-enum-told : tie.Need-enum-told
-enum-told c = search needs
-
-enum-known-term : tie.Need-enum-known-term
-enum-known-term c = search needs
-
 returns : tie.Need-returns
 unfolding termOf squareFrom
 returns c = simp (c .enum-told .given .1)
@@ -20,4 +14,4 @@ unfolding termOf squareFrom
 returns-2 c = simp (c .before .term .given .1)
 
 pub term-of-spec : {M : Type 1} → statement M
-term-of-spec = tie.close (tie.spec enum-told enum-known-term returns returns-2)
+term-of-spec = tie.close (tie.spec (λ c. search needs) (λ c. search needs) returns returns-2)

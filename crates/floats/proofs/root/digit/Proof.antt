@@ -17,18 +17,6 @@ fits-four s h = omega arith
 fits-five : (s : ℕ) → s < 2 ^ 60 → 2 * (2 * s) + 1 < 2 ^ 64
 fits-five s h = omega arith
 
-mul-s : tie.Need-mul-s
-mul-s c = search needs
-
-mul-r : tie.Need-mul-r
-mul-r c = search needs
-
-add-r : tie.Need-add-r
-add-r c = search needs
-
-mul-if1 : tie.Need-mul-if1
-mul-if1 c = search needs
-
 add-t9 : tie.Need-add-t9
 add-t9 c = record { fits = fits-one (c .before .before .before .before .before .args .p .root) (c .before .before .before .before .before .pre .0) }
 
@@ -37,9 +25,6 @@ mul-t10 c = record { fits = fits-four (c .before .before .before .before .before
 
 add-t11 : tie.Need-add-t11
 add-t11 c = record { fits = fits-five (c .before .before .before .before .before .args .p .root) (c .before .before .before .before .before .pre .0) }
-
-sub-t12 : tie.Need-sub-t12
-sub-t12 c = search needs
 
 left : (c : tie.After-struct-known) → c .before .args .p .left < 2 ^ 64
 left c = c .struct-known .given .1 .1 .0 .fits
@@ -63,4 +48,4 @@ returns-2 c =
 
 pub digit-spec : {M : Type 1} → statement M
 digit-spec =
-    tie.close (tie.spec mul-s mul-r add-r mul-if1 add-t9 mul-t10 add-t11 sub-t12 returns returns-2)
+    tie.close (tie.spec (λ c. search needs) (λ c. search needs) (λ c. search needs) (λ c. search needs) add-t9 mul-t10 add-t11 (λ c. search needs) returns returns-2)

@@ -10,9 +10,6 @@ use Rattle.floats.proofs.root.nearest_root.Tie as tie
 next : (s : ℕ) → s < 2 ^ 53 → s + 1 < 2 ^ 64
 next s h = omega arith
 
-whole-root-requires : tie.Need-whole-root-requires
-whole-root-requires c κs = search needs
-
 add-result : tie.Need-add-result
 add-result c = let v = c .before .before .before .whole-root in record { fits = next (v .result .root) (root-most (v .ensures) (c .before .before .before .before .pre)) }
 
@@ -23,4 +20,4 @@ returns-2 : tie.Need-returns-2
 returns-2 c = nearer-down (c .before .before .whole-root .ensures) (c .before .before .before .pre) (c .if1 .left)
 
 pub nearest-root-spec : {M : Type 1} → statement M
-nearest-root-spec = tie.close (tie.spec whole-root-requires add-result returns returns-2)
+nearest-root-spec = tie.close (tie.spec (λ c κs. search needs) add-result returns returns-2)

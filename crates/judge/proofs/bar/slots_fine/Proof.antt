@@ -17,10 +17,6 @@ Inv-loop bar slots left₀ k₀ left k = (k ≤ 64) × (left ≡ getD bar 6 0 / 
 abbrev μ-loop : tie.MeasureT-loop
 μ-loop bar slots left₀ k₀ left k = 64 - k
 
--- src/bar.rt:60:9
-word-from-requires : tie.Need-word-from-requires Inv-loop μ-loop
-word-from-requires c κs = search needs
-
 -- src/bar.rt:62:5
 loop-holds : tie.Need-loop-holds Inv-loop μ-loop
 unfolding every
@@ -33,10 +29,6 @@ returns c =
     let a = l .before .before .before .args in
     sym (all-fine (a .slots) (a .bar .now) (l .loop .k) (l .loop .inv .0) (l .loop .inv .2) (sym (l .loop .inv .1) ∙ c .if1 .taken))
 
--- src/bar.rt:66:13
-slot-fine-requires : tie.Need-slot-fine-requires Inv-loop μ-loop
-slot-fine-requires c κs = search needs
-
 -- src/bar.rt:67:13
 returns-2 : tie.Need-returns-2 Inv-loop μ-loop
 returns-2 c =
@@ -44,14 +36,6 @@ returns-2 c =
     let a = l .before .before .before .args in
     sym (one-bad (a .slots) (a .bar .now) (l .loop .k) (c .before .before .before .loop-test .taken)
     (rw (← l .loop .inv .1) (sym (c .before .slot-fine .ensures) ∙ c .if2 .left)))
-
--- src/bar.rt:70:9
-add-k : tie.Need-add-k Inv-loop μ-loop
-add-k c = search needs
-
--- src/bar.rt:62:5
-loop-less : tie.Need-loop-less Inv-loop μ-loop
-loop-less c = search needs
 
 -- src/bar.rt:62:5
 loop-again : tie.Need-loop-again Inv-loop μ-loop
@@ -78,12 +62,12 @@ slots-fine-spec =
     (tie.spec
     Inv-loop
     μ-loop
-    word-from-requires
+    (λ c κs. search needs)
     loop-holds
     returns
-    slot-fine-requires
-    add-k
-    loop-less
+    (λ c κs. search needs)
+    (λ c. search needs)
+    (λ c. search needs)
     loop-again
     returns-2
     returns-3)

@@ -16,30 +16,9 @@ Inv-loop equity n peak₀ deepest₀ i₀ peak deepest i = drawdownFrom peak dee
 abbrev μ-loop : tie.MeasureT-loop
 μ-loop equity n peak₀ deepest₀ i₀ peak deepest i = n - i
 
-point-count-requires : tie.Need-point-count-requires Inv-loop μ-loop
-point-count-requires c κs = search needs
-
-float-of-requires : tie.Need-float-of-requires Inv-loop μ-loop
-float-of-requires c κs = search needs
-
 loop-holds : tie.Need-loop-holds Inv-loop μ-loop
 unfolding maxDrawdownPct
 loop-holds c = rw (c .float-of .ensures)
-
-equity-at-requires : tie.Need-equity-at-requires Inv-loop μ-loop
-equity-at-requires c κs = search needs
-
-peak-at-requires : tie.Need-peak-at-requires Inv-loop μ-loop
-peak-at-requires c κs = search needs
-
-deepest-at-requires : tie.Need-deepest-at-requires Inv-loop μ-loop
-deepest-at-requires c κs = search needs
-
-add-i : tie.Need-add-i Inv-loop μ-loop
-add-i c = omega arith
-
-loop-less : tie.Need-loop-less Inv-loop μ-loop
-loop-less c = omega arith
 
 loop-again : tie.Need-loop-again Inv-loop μ-loop
 unfolding drawdownFrom
@@ -63,13 +42,13 @@ max-drawdown-pct-spec =
     (tie.spec
     Inv-loop
     μ-loop
-    point-count-requires
-    float-of-requires
+    (λ c κs. search needs)
+    (λ c κs. search needs)
     loop-holds
-    equity-at-requires
-    peak-at-requires
-    deepest-at-requires
-    add-i
-    loop-less
+    (λ c κs. search needs)
+    (λ c κs. search needs)
+    (λ c κs. search needs)
+    (λ c. omega arith)
+    (λ c. omega arith)
     loop-again
     returns)

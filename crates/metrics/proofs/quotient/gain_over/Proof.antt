@@ -5,12 +5,6 @@ use borrow.Author.Needs.{needs}
 use Rattle.metrics.proofs.quotient.gain_over.Statement.{statement}
 use Rattle.metrics.proofs.quotient.gain_over.Tie as tie
 
-abs-requires : tie.Need-abs-requires
-abs-requires c κs = search needs
-
-float-of-requires : tie.Need-float-of-requires
-float-of-requires c κs = search needs
-
 returns : tie.Need-returns
 unfolding gainOver
 returns c = c .float-of .ensures ∙ simp (← c .before .before .before .abs .ensures, c .before .before .if1 .taken, c .before .if2 .taken)
@@ -24,4 +18,4 @@ unfolding gainOver
 returns-3 c = simp (← c .before .abs .ensures, c .if1 .left)
 
 pub gain-over-spec : {M : Type 1} → statement M
-gain-over-spec = tie.close (tie.spec abs-requires float-of-requires returns returns-2 returns-3)
+gain-over-spec = tie.close (tie.spec (λ c κs. search needs) (λ c κs. search needs) returns returns-2 returns-3)

@@ -4,9 +4,6 @@ use borrow.Author.Needs.{needs}
 use Rattle.metrics.proofs.quotient.mean_over.Statement.{statement}
 use Rattle.metrics.proofs.quotient.mean_over.Tie as tie
 
-abs-requires : tie.Need-abs-requires
-abs-requires c κs = search needs
-
 returns : tie.Need-returns
 unfolding meanOver
 returns c = simp (← c .before .abs .ensures, c .if1 .taken)
@@ -16,4 +13,4 @@ unfolding meanOver
 returns-2 c = simp (← c .before .abs .ensures, c .if1 .left)
 
 pub mean-over-spec : {M : Type 1} → statement M
-mean-over-spec = tie.close (tie.spec abs-requires returns returns-2)
+mean-over-spec = tie.close (tie.spec (λ c κs. search needs) returns returns-2)

@@ -8,9 +8,6 @@ use borrow.Author.Needs.{needs}
 use Rattle.metrics.proofs.records.float_at.Statement.{statement}
 use Rattle.metrics.proofs.records.float_at.Tie as tie
 
-div-if1 : tie.Need-div-if1
-div-if1 c = search needs
-
 there : (c : tie.Then1) → c .before .before .args .width * c .before .before .args .i + c .before .before .args .at < length (c .before .before .args .words .now)
 there c =
     let start = c .before .before in
@@ -28,9 +25,6 @@ mul-float-of-2 c = omega (arith, there c)
 shared-slice-read-float-of : tie.Need-shared-slice-read-float-of
 shared-slice-read-float-of c = there (c .before)
 
-float-of-requires : tie.Need-float-of-requires
-float-of-requires c κs = search needs
-
 returns : tie.Need-returns
 returns c =
     let args = c .before .before .before .before .args in
@@ -43,11 +37,11 @@ pub float-at-spec : {M : Type 1} → statement M
 float-at-spec =
     tie.close
     (tie.spec
-    div-if1
+    (λ c. search needs)
     mul-float-of
     add-float-of
     mul-float-of-2
     shared-slice-read-float-of
-    float-of-requires
+    (λ c κs. search needs)
     returns
     returns-2)

@@ -4,12 +4,9 @@ use borrow.Author.Needs.{needs}
 use Rattle.metrics.proofs.records.pnl_at.Statement.{statement}
 use Rattle.metrics.proofs.records.pnl_at.Tie as tie
 
-float-at-requires : tie.Need-float-at-requires
-float-at-requires c κs = search needs
-
 returns : tie.Need-returns
 unfolding pnlsOf
 returns c = c .float-at .ensures
 
 pub pnl-at-spec : {M : Type 1} → statement M
-pnl-at-spec = tie.close (tie.spec float-at-requires returns)
+pnl-at-spec = tie.close (tie.spec (λ c κs. search needs) returns)

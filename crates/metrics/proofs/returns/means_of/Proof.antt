@@ -15,32 +15,8 @@ Inv-loop equity points before₀ itself₀ below₀ i₀ before itself below i =
 abbrev μ-loop : tie.MeasureT-loop
 μ-loop equity points before₀ itself₀ below₀ i₀ before itself below i = points - i
 
-point-count-requires : tie.Need-point-count-requires Inv-loop μ-loop
-point-count-requires c κs = search needs
-
-equity-at-requires : tie.Need-equity-at-requires Inv-loop μ-loop
-equity-at-requires c κs = search needs
-
 loop-holds : tie.Need-loop-holds Inv-loop μ-loop
 loop-holds c = (starts (c .equity-at .ensures), starts (c .equity-at .ensures))
-
-equity-at-requires-2 : tie.Need-equity-at-requires-2 Inv-loop μ-loop
-equity-at-requires-2 c κs = search needs
-
-bar-return-requires : tie.Need-bar-return-requires Inv-loop μ-loop
-bar-return-requires c κs = search needs
-
-part-of-requires : tie.Need-part-of-requires Inv-loop μ-loop
-part-of-requires c κs = search needs
-
-part-of-requires-2 : tie.Need-part-of-requires-2 Inv-loop μ-loop
-part-of-requires-2 c κs = search needs
-
-add-i : tie.Need-add-i Inv-loop μ-loop
-add-i c = omega arith
-
-loop-less : tie.Need-loop-less Inv-loop μ-loop
-loop-less c = omega arith
 
 loop-again : tie.Need-loop-again Inv-loop μ-loop
 loop-again c =
@@ -52,12 +28,6 @@ loop-again c =
       goes-on points more (now .equity-at2 .ensures) return (c .before .part-of .ensures) (inv .0),
       goes-on points more (now .equity-at2 .ensures) return (c .part-of2 .ensures) (inv .1),
     )
-
-return-count-requires : tie.Need-return-count-requires Inv-loop μ-loop
-return-count-requires c κs = search needs
-
-counted-requires : tie.Need-counted-requires Inv-loop μ-loop
-counted-requires c κs = search needs
 
 returns : tie.Need-returns Inv-loop μ-loop
 returns c =
@@ -74,16 +44,16 @@ means-of-spec =
     (tie.spec
     Inv-loop
     μ-loop
-    point-count-requires
-    equity-at-requires
+    (λ c κs. search needs)
+    (λ c κs. search needs)
     loop-holds
-    equity-at-requires-2
-    bar-return-requires
-    part-of-requires
-    part-of-requires-2
-    add-i
-    loop-less
+    (λ c κs. search needs)
+    (λ c κs. search needs)
+    (λ c κs. search needs)
+    (λ c κs. search needs)
+    (λ c. omega arith)
+    (λ c. omega arith)
     loop-again
-    return-count-requires
-    counted-requires
+    (λ c κs. search needs)
+    (λ c κs. search needs)
     returns)

@@ -6,17 +6,11 @@ use borrow.Author.Needs.{needs}
 use Rattle.metrics.proofs.returns.return_count.Statement.{statement}
 use Rattle.metrics.proofs.returns.return_count.Tie as tie
 
-point-count-requires : tie.Need-point-count-requires
-point-count-requires c κs = search needs
-
 returns : tie.Need-returns
 returns c = omega (arith, length-returns (equityOf (c .before .before .before .args .equity .now)))
-
-sub-result : tie.Need-sub-result
-sub-result c = search needs
 
 returns-2 : tie.Need-returns-2
 returns-2 c = omega (arith, length-returns (equityOf (c .before .before .before .args .equity .now)))
 
 pub return-count-spec : {M : Type 1} → statement M
-return-count-spec = tie.close (tie.spec point-count-requires returns sub-result returns-2)
+return-count-spec = tie.close (tie.spec (λ c κs. search needs) returns (λ c. search needs) returns-2)

@@ -14,41 +14,14 @@ Inv-loop equity mean points before₀ total₀ i₀ before total i = Summing (Aw
 abbrev μ-loop : tie.MeasureT-loop
 μ-loop equity mean points before₀ total₀ i₀ before total i = points - i
 
-point-count-requires : tie.Need-point-count-requires Inv-loop μ-loop
-point-count-requires c κs = search needs
-
-equity-at-requires : tie.Need-equity-at-requires Inv-loop μ-loop
-equity-at-requires c κs = search needs
-
 loop-holds : tie.Need-loop-holds Inv-loop μ-loop
 loop-holds c = starts (c .equity-at .ensures)
-
-equity-at-requires-2 : tie.Need-equity-at-requires-2 Inv-loop μ-loop
-equity-at-requires-2 c κs = search needs
-
-bar-return-requires : tie.Need-bar-return-requires Inv-loop μ-loop
-bar-return-requires c κs = search needs
-
-part-of-requires : tie.Need-part-of-requires Inv-loop μ-loop
-part-of-requires c κs = search needs
-
-add-i : tie.Need-add-i Inv-loop μ-loop
-add-i c = omega arith
-
-loop-less : tie.Need-loop-less Inv-loop μ-loop
-loop-less c = omega arith
 
 loop-again : tie.Need-loop-again Inv-loop μ-loop
 loop-again c =
     let loop = c .before .before .before .before .loop in
     goes-on (c .before .before .before .before .before .before .point-count .ensures) (c .before .before .before .loop-test .taken)
     (c .before .before .equity-at2 .ensures) (c .before .bar-return .ensures) (c .part-of .ensures) (loop .inv)
-
-return-count-requires : tie.Need-return-count-requires Inv-loop μ-loop
-return-count-requires c κs = search needs
-
-counted-requires : tie.Need-counted-requires Inv-loop μ-loop
-counted-requires c κs = search needs
 
 returns : tie.Need-returns Inv-loop μ-loop
 returns c =
@@ -62,15 +35,15 @@ var-of-spec =
     (tie.spec
     Inv-loop
     μ-loop
-    point-count-requires
-    equity-at-requires
+    (λ c κs. search needs)
+    (λ c κs. search needs)
     loop-holds
-    equity-at-requires-2
-    bar-return-requires
-    part-of-requires
-    add-i
-    loop-less
+    (λ c κs. search needs)
+    (λ c κs. search needs)
+    (λ c κs. search needs)
+    (λ c. omega arith)
+    (λ c. omega arith)
     loop-again
-    return-count-requires
-    counted-requires
+    (λ c κs. search needs)
+    (λ c κs. search needs)
     returns)

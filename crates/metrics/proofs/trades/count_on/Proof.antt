@@ -20,26 +20,8 @@ Inv-loop trades side n count₀ i₀ count i = (count ≤ i) × (count + length 
 abbrev μ-loop : tie.MeasureT-loop
 μ-loop trades side n count₀ i₀ count i = n - i
 
-trade-count-requires : tie.Need-trade-count-requires Inv-loop μ-loop
-trade-count-requires c κs = search needs
-
 loop-holds : tie.Need-loop-holds Inv-loop μ-loop
 loop-holds c = (omega arith, zero-add _)
-
-pnl-at-requires : tie.Need-pnl-at-requires Inv-loop μ-loop
-pnl-at-requires c κs = search needs
-
-is-on-requires : tie.Need-is-on-requires Inv-loop μ-loop
-is-on-requires c κs = search needs
-
-add-count : tie.Need-add-count Inv-loop μ-loop
-add-count c = omega arith
-
-add-i : tie.Need-add-i Inv-loop μ-loop
-add-i c = omega arith
-
-loop-less : tie.Need-loop-less Inv-loop μ-loop
-loop-less c = omega arith
 
 loop-again : tie.Need-loop-again Inv-loop μ-loop
 loop-again c =
@@ -72,12 +54,12 @@ count-on-spec =
     (tie.spec
     Inv-loop
     μ-loop
-    trade-count-requires
+    (λ c κs. search needs)
     loop-holds
-    pnl-at-requires
-    is-on-requires
-    add-count
-    add-i
-    loop-less
+    (λ c κs. search needs)
+    (λ c κs. search needs)
+    (λ c. omega arith)
+    (λ c. omega arith)
+    (λ c. omega arith)
     loop-again
     returns)

@@ -20,27 +20,9 @@ Inv-loop trades side n total₀ i₀ total i = sumFrom total (sizesOn side (drop
 abbrev μ-loop : tie.MeasureT-loop
 μ-loop trades side n total₀ i₀ total i = n - i
 
-trade-count-requires : tie.Need-trade-count-requires Inv-loop μ-loop
-trade-count-requires c κs = search needs
-
 loop-holds : tie.Need-loop-holds Inv-loop μ-loop
 unfolding gross
 loop-holds c = refl
-
-pnl-at-requires : tie.Need-pnl-at-requires Inv-loop μ-loop
-pnl-at-requires c κs = search needs
-
-is-on-requires : tie.Need-is-on-requires Inv-loop μ-loop
-is-on-requires c κs = search needs
-
-size-of-requires : tie.Need-size-of-requires Inv-loop μ-loop
-size-of-requires c κs = search needs
-
-add-i : tie.Need-add-i Inv-loop μ-loop
-add-i c = omega arith
-
-loop-less : tie.Need-loop-less Inv-loop μ-loop
-loop-less c = omega arith
 
 loop-again : tie.Need-loop-again Inv-loop μ-loop
 unfolding sumFrom
@@ -73,12 +55,12 @@ gross-spec =
     (tie.spec
     Inv-loop
     μ-loop
-    trade-count-requires
+    (λ c κs. search needs)
     loop-holds
-    pnl-at-requires
-    is-on-requires
-    size-of-requires
-    add-i
-    loop-less
+    (λ c κs. search needs)
+    (λ c κs. search needs)
+    (λ c κs. search needs)
+    (λ c. omega arith)
+    (λ c. omega arith)
     loop-again
     returns)

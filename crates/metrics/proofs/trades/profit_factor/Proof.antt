@@ -5,19 +5,10 @@ use borrow.Author.Needs.{needs}
 use Rattle.metrics.proofs.trades.profit_factor.Statement.{statement}
 use Rattle.metrics.proofs.trades.profit_factor.Tie as tie
 
-gross-requires : tie.Need-gross-requires
-gross-requires c κs = search needs
-
-gross-requires-2 : tie.Need-gross-requires-2
-gross-requires-2 c κs = search needs
-
-gain-over-requires : tie.Need-gain-over-requires
-gain-over-requires c κs = search needs
-
 returns : tie.Need-returns
 unfolding profitFactor
 returns c = c .gain-over .ensures ∙ simp (c .before .gross2 .ensures, c .before .before .gross .ensures)
 
 pub profit-factor-spec : {M : Type 1} → statement M
 profit-factor-spec =
-    tie.close (tie.spec gross-requires gross-requires-2 gain-over-requires returns)
+    tie.close (tie.spec (λ c κs. search needs) (λ c κs. search needs) (λ c κs. search needs) returns)

@@ -8,21 +8,9 @@ use borrow.Author.Needs.{needs}
 use Rattle.metrics.proofs.trades.win_rate.Statement.{statement}
 use Rattle.metrics.proofs.trades.win_rate.Tie as tie
 
-trade-count-requires : tie.Need-trade-count-requires
-trade-count-requires c κs = search needs
-
 returns : tie.Need-returns
 unfolding winRate
 returns c = simp (eq-eqb (length (pnlsOf (c .before .before .before .args .trades .now))) 0 (sym (c .before .trade-count .ensures) ∙ c .if1 .taken))
-
-count-on-requires : tie.Need-count-on-requires
-count-on-requires c κs = search needs
-
-counted-requires : tie.Need-counted-requires
-counted-requires c κs = search needs
-
-counted-requires-2 : tie.Need-counted-requires-2
-counted-requires-2 c κs = search needs
 
 returns-2 : tie.Need-returns-2
 unfolding winRate
@@ -36,9 +24,9 @@ pub win-rate-spec : {M : Type 1} → statement M
 win-rate-spec =
     tie.close
     (tie.spec
-    trade-count-requires
+    (λ c κs. search needs)
     returns
-    count-on-requires
-    counted-requires
-    counted-requires-2
+    (λ c κs. search needs)
+    (λ c κs. search needs)
+    (λ c κs. search needs)
     returns-2)

@@ -19,27 +19,6 @@ abbrev μ-loop : tie.MeasureT-loop
 loop-holds : tie.Need-loop-holds Inv-loop μ-loop
 loop-holds c = (search needs, paste-zero (c .args .room .now) (c .args .at) (c .args .words .now), refl)
 
-mul-room : tie.Need-mul-room Inv-loop μ-loop
-mul-room c = search needs
-
-shared-slice-read-room : tie.Need-shared-slice-read-room Inv-loop μ-loop
-shared-slice-read-room c = search needs
-
-add-room : tie.Need-add-room Inv-loop μ-loop
-add-room c = search needs
-
-mul-room-2 : tie.Need-mul-room-2 Inv-loop μ-loop
-mul-room-2 c = search needs
-
-slice-write-room : tie.Need-slice-write-room Inv-loop μ-loop
-slice-write-room c = search needs
-
-add-i : tie.Need-add-i Inv-loop μ-loop
-add-i c = search needs
-
-loop-less : tie.Need-loop-less Inv-loop μ-loop
-loop-less c = search needs
-
 loop-again : tie.Need-loop-again Inv-loop μ-loop
 loop-again c =
     let l = c .before .before in
@@ -49,9 +28,6 @@ loop-again c =
       ap (λ (xs : List ℕ). set xs (a .at + l .loop .i) (getD (a .words .now) (l .loop .i) 0)) (l .loop .inv .1) ∙ turn (a .room .now) (a .at) (a .words .now) (l .loop .i) h (c .before .loop-test .taken),
       simp length-set (l .loop .inv .2),
     )
-
-same-length : tie.Need-same-length Inv-loop μ-loop
-same-length c = search needs
 
 returns : tie.Need-returns Inv-loop μ-loop
 returns c =
@@ -65,13 +41,13 @@ copy-spec =
     Inv-loop
     μ-loop
     loop-holds
-    mul-room
-    shared-slice-read-room
-    add-room
-    mul-room-2
-    slice-write-room
-    add-i
-    loop-less
+    (λ c. search needs)
+    (λ c. search needs)
+    (λ c. search needs)
+    (λ c. search needs)
+    (λ c. search needs)
+    (λ c. search needs)
+    (λ c. search needs)
     loop-again
-    same-length
+    (λ c. search needs)
     returns)

@@ -10,9 +10,6 @@ use Rattle.rows.proofs.room.push.Tie as tie
 returns : tie.Need-returns
 returns c = let a = c .before .before .before .args in widthless (a .room .now) (a .held) (a .row .now) (c .if1 .taken)
 
-div-places : tie.Need-div-places
-div-places c = search needs
-
 mul-copy : tie.Need-mul-copy
 mul-copy c = let a = c .before .before .before .before .before .args in omega (arith, place-fits (a .room .now) (a .held) (a .row .now) (omega arith) (omega arith))
 
@@ -24,9 +21,6 @@ add-result c =
     let b = c .before .before .before .before in
     let a = b .before .before .before .before .args in
     omega (arith, div-le-self (length (a .room .now)) (length (a .row .now)))
-
-same-length : tie.Need-same-length
-same-length c = search needs
 
 returns-2 : tie.Need-returns-2
 returns-2 c =
@@ -56,9 +50,6 @@ copy-requires-2 c κs =
     let a = b .before .before .before .before .before .args in
     omega (arith, c .before .before .before .shift .kept .0, places-hold (a .room .now) (a .held) (a .row .now) (b .if3 .left), places-fit (a .room .now) (a .held) (a .row .now) (omega arith))
 
-same-length-2 : tie.Need-same-length-2
-same-length-2 c = search needs
-
 returns-4 : tie.Need-returns-4
 returns-4 c =
     let p = c .before .before in
@@ -72,16 +63,16 @@ push-spec =
     tie.close
     (tie.spec
     returns
-    div-places
+    (λ c. search needs)
     mul-copy
     copy-requires
     add-result
-    same-length
+    (λ c. search needs)
     returns-2
     returns-3
     mul-end
     shift-requires
     sub-copy
     copy-requires-2
-    same-length-2
+    (λ c. search needs)
     returns-4)

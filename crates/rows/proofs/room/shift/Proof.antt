@@ -6,37 +6,10 @@ use Rattle.rows.proofs.Copy.{moved-all, moved-in-turn}
 use Rattle.rows.proofs.room.shift.Statement.{statement}
 use Rattle.rows.proofs.room.shift.Tie as tie
 
-sub-n : tie.Need-sub-n
-sub-n c = search needs
-
 returns : tie.Need-returns
 returns c =
     let a = c .before .before .args in
     moved-all (a .room .now) (a .width) (a .end) 0 (omega arith) (omega arith) (omega arith)
-
-sub-blocks : tie.Need-sub-blocks
-sub-blocks c = search needs
-
-mul-rest : tie.Need-mul-rest
-mul-rest c = search needs
-
-add-rest : tie.Need-add-rest
-add-rest c = search needs
-
-shift-words-requires : tie.Need-shift-words-requires
-shift-words-requires c κs = search needs
-
-shift-blocks-requires : tie.Need-shift-blocks-requires
-shift-blocks-requires c κs = search needs
-
-sub-shift-words : tie.Need-sub-shift-words
-sub-shift-words c = search needs
-
-shift-words-requires-2 : tie.Need-shift-words-requires-2
-shift-words-requires-2 c κs = search needs
-
-same-length : tie.Need-same-length
-same-length c = search needs
 
 returns-2 : tie.Need-returns-2
 returns-2 c =
@@ -53,14 +26,14 @@ pub shift-spec : {M : Type 1} → statement M
 shift-spec =
     tie.close
     (tie.spec
-    sub-n
+    (λ c. search needs)
     returns
-    sub-blocks
-    mul-rest
-    add-rest
-    shift-words-requires
-    shift-blocks-requires
-    sub-shift-words
-    shift-words-requires-2
-    same-length
+    (λ c. search needs)
+    (λ c. search needs)
+    (λ c. search needs)
+    (λ c κs. search needs)
+    (λ c κs. search needs)
+    (λ c. search needs)
+    (λ c κs. search needs)
+    (λ c. search needs)
     returns-2)

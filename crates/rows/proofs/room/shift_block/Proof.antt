@@ -6,33 +6,6 @@ use Rattle.rows.proofs.Copy.{block}
 use Rattle.rows.proofs.room.shift_block.Statement.{statement}
 use Rattle.rows.proofs.room.shift_block.Tie as tie
 
-add-from : tie.Need-add-from
-add-from c = search needs
-
-mul-sixteen : tie.Need-mul-sixteen
-mul-sixteen c = search needs
-
-sub-sixteen : tie.Need-sub-sixteen
-sub-sixteen c = search needs
-
-part-sixteen-start : tie.Need-part-sixteen-start
-part-sixteen-start c = search needs
-
-part-sixteen-end : tie.Need-part-sixteen-end
-part-sixteen-end c = search needs
-
-sixteen-requires : tie.Need-sixteen-requires
-sixteen-requires c κs = search needs
-
-slice-aggregate-copy : tie.Need-slice-aggregate-copy
-slice-aggregate-copy c = search needs
-
-copy-requires : tie.Need-copy-requires
-copy-requires c κs = search needs
-
-same-length : tie.Need-same-length
-same-length c = search needs
-
 returns : tie.Need-returns
 returns c =
     let p = c .before .before in
@@ -44,13 +17,13 @@ pub shift-block-spec : {M : Type 1} → statement M
 shift-block-spec =
     tie.close
     (tie.spec
-    add-from
-    mul-sixteen
-    sub-sixteen
-    part-sixteen-start
-    part-sixteen-end
-    sixteen-requires
-    slice-aggregate-copy
-    copy-requires
-    same-length
+    (λ c. search needs)
+    (λ c. search needs)
+    (λ c. search needs)
+    (λ c. search needs)
+    (λ c. search needs)
+    (λ c κs. search needs)
+    (λ c. search needs)
+    (λ c κs. search needs)
+    (λ c. search needs)
     returns)

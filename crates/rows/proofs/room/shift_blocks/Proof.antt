@@ -20,21 +20,6 @@ loop-holds c =
     let a = c .before .args in
     (search needs, paste-zero (a .room .now) (a .at) (drop (a .at + a .width) (a .room .now)), refl)
 
-mul-shift-block : tie.Need-mul-shift-block Inv-loop μ-loop
-mul-shift-block c = search needs
-
-add-shift-block : tie.Need-add-shift-block Inv-loop μ-loop
-add-shift-block c = search needs
-
-shift-block-requires : tie.Need-shift-block-requires Inv-loop μ-loop
-shift-block-requires c κs = search needs
-
-add-i : tie.Need-add-i Inv-loop μ-loop
-add-i c = search needs
-
-loop-less : tie.Need-loop-less Inv-loop μ-loop
-loop-less c = search needs
-
 loop-again : tie.Need-loop-again Inv-loop μ-loop
 loop-again c =
     let s = c .before .before in
@@ -46,9 +31,6 @@ loop-again c =
           ∙ moved-on (a .room .now) (l .loop .room) (a .width) (a .at) (16 * i) (a .at + 16 * i) 16 (16 * (i + 1)) refl (omega arith) (omega arith) (l .loop .inv .1),
       search needs,
     )
-
-same-length : tie.Need-same-length Inv-loop μ-loop
-same-length c = search needs
 
 returns : tie.Need-returns Inv-loop μ-loop
 returns c =
@@ -63,11 +45,11 @@ shift-blocks-spec =
     Inv-loop
     μ-loop
     loop-holds
-    mul-shift-block
-    add-shift-block
-    shift-block-requires
-    add-i
-    loop-less
+    (λ c. search needs)
+    (λ c. search needs)
+    (λ c κs. search needs)
+    (λ c. search needs)
+    (λ c. search needs)
     loop-again
-    same-length
+    (λ c. search needs)
     returns)

@@ -20,33 +20,6 @@ loop-holds c =
     let a = c .args in
     (search needs, paste-zero (a .room .now) (a .at) (drop (a .at + a .width) (a .room .now)), refl)
 
-add-room : tie.Need-add-room Inv-loop μ-loop
-add-room c = search needs
-
-add-room-2 : tie.Need-add-room-2 Inv-loop μ-loop
-add-room-2 c = search needs
-
-mul-room : tie.Need-mul-room Inv-loop μ-loop
-mul-room c = search needs
-
-slice-read-room : tie.Need-slice-read-room Inv-loop μ-loop
-slice-read-room c = search needs
-
-add-room-3 : tie.Need-add-room-3 Inv-loop μ-loop
-add-room-3 c = search needs
-
-mul-room-2 : tie.Need-mul-room-2 Inv-loop μ-loop
-mul-room-2 c = search needs
-
-slice-write-room : tie.Need-slice-write-room Inv-loop μ-loop
-slice-write-room c = search needs
-
-add-i : tie.Need-add-i Inv-loop μ-loop
-add-i c = search needs
-
-loop-less : tie.Need-loop-less Inv-loop μ-loop
-loop-less c = search needs
-
 loop-again : tie.Need-loop-again Inv-loop μ-loop
 loop-again c =
     let l = c .before .before in
@@ -57,9 +30,6 @@ loop-again c =
           ∙ moved-on (a .room .now) (l .loop .room) (a .width) (a .at) i (a .at + i) 1 (i + 1) refl refl (omega arith) (l .loop .inv .1),
       simp length-set (l .loop .inv .2),
     )
-
-same-length : tie.Need-same-length Inv-loop μ-loop
-same-length c = search needs
 
 returns : tie.Need-returns Inv-loop μ-loop
 returns c =
@@ -74,15 +44,15 @@ shift-words-spec =
     Inv-loop
     μ-loop
     loop-holds
-    add-room
-    add-room-2
-    mul-room
-    slice-read-room
-    add-room-3
-    mul-room-2
-    slice-write-room
-    add-i
-    loop-less
+    (λ c. search needs)
+    (λ c. search needs)
+    (λ c. search needs)
+    (λ c. search needs)
+    (λ c. search needs)
+    (λ c. search needs)
+    (λ c. search needs)
+    (λ c. search needs)
+    (λ c. search needs)
     loop-again
-    same-length
+    (λ c. search needs)
     returns)

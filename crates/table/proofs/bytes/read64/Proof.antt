@@ -7,21 +7,6 @@ use borrow.Author.Needs.{needs}
 use Rattle.table.proofs.bytes.read64.Statement.{statement}
 use Rattle.table.proofs.bytes.read64.Tie as tie
 
-read32-requires : tie.Need-read32-requires
-read32-requires c κs = search needs
-
-add-read32 : tie.Need-add-read32
-add-read32 c = search needs
-
-read32-requires-2 : tie.Need-read32-requires-2
-read32-requires-2 c κs = search needs
-
-mul-result : tie.Need-mul-result
-mul-result c = search needs
-
-add-result : tie.Need-add-result
-add-result c = search needs
-
 returns : tie.Need-returns
 unfolding u64
 returns c = search needs
@@ -32,4 +17,4 @@ returns-2 c = sym (past64 (c .before .before .args .t .now) (c .before .before .
 pub read64-spec : {M : Type 1} → statement M
 read64-spec =
     tie.close
-    (tie.spec read32-requires add-read32 read32-requires-2 mul-result add-result returns returns-2)
+    (tie.spec (λ c κs. search needs) (λ c. search needs) (λ c κs. search needs) (λ c. search needs) (λ c. search needs) returns returns-2)

@@ -36,53 +36,20 @@ count6 : (t : List ℕ) → slots t ≤ 64 → 2 ≤ total t → total t ≤ 256
 unfolding countsRight
 count6 t h h2 h3 h4 h5 = simp (le-ltb _ _ h, le-ltb _ _ h2, le-ltb _ _ h3, le-ltb _ _ h4, le-ltb _ _ h5)
 
-slots-requires : tie.Need-slots-requires
-slots-requires c κs = search needs
-
 returns : tie.Need-returns
 returns c = count1 _ (search needs)
-
-total-requires : tie.Need-total-requires
-total-requires c κs = search needs
 
 returns-2 : tie.Need-returns-2
 returns-2 c = count2 _ (search needs) (search needs)
 
-total-requires-2 : tie.Need-total-requires-2
-total-requires-2 c κs = search needs
-
 returns-3 : tie.Need-returns-3
 returns-3 c = count3 _ (search needs) (search needs) (search needs)
-
-count-requires : tie.Need-count-requires
-count-requires c κs = search needs
 
 returns-4 : tie.Need-returns-4
 returns-4 c = count4 _ (search needs) (search needs) (search needs) (search needs)
 
-count-requires-2 : tie.Need-count-requires-2
-count-requires-2 c κs = search needs
-
 returns-5 : tie.Need-returns-5
 returns-5 c = count5 _ (search needs) (search needs) (search needs) (search needs) (search needs)
-
-add-result : tie.Need-add-result
-add-result c = search needs
-
-count-requires-3 : tie.Need-count-requires-3
-count-requires-3 c κs = search needs
-
-add-result-2 : tie.Need-add-result-2
-add-result-2 c = search needs
-
-count-requires-4 : tie.Need-count-requires-4
-count-requires-4 c κs = search needs
-
-add-result-3 : tie.Need-add-result-3
-add-result-3 c = search needs
-
-total-requires-3 : tie.Need-total-requires-3
-total-requires-3 c κs = search needs
 
 returns-6 : tie.Need-returns-6
 returns-6 c =
@@ -99,20 +66,20 @@ pub counts-right-spec : {M : Type 1} → statement M
 counts-right-spec =
     tie.close
     (tie.spec
-    slots-requires
+    (λ c κs. search needs)
     returns
-    total-requires
+    (λ c κs. search needs)
     returns-2
-    total-requires-2
+    (λ c κs. search needs)
     returns-3
-    count-requires
+    (λ c κs. search needs)
     returns-4
-    count-requires-2
+    (λ c κs. search needs)
     returns-5
-    add-result
-    count-requires-3
-    add-result-2
-    count-requires-4
-    add-result-3
-    total-requires-3
+    (λ c. search needs)
+    (λ c κs. search needs)
+    (λ c. search needs)
+    (λ c κs. search needs)
+    (λ c. search needs)
+    (λ c κs. search needs)
     returns-6)

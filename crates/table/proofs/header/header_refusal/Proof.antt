@@ -40,32 +40,14 @@ kept t h h2 h3 h4 h5 = simp (le-ltb _ _ h, h2, eq-eqb _ _ h3, h4, eq-eqb _ _ h5)
 returns : tie.Need-returns
 returns c = rule1 _ (search needs)
 
-mark-right-requires : tie.Need-mark-right-requires
-mark-right-requires c κs = search needs
-
 returns-2 : tie.Need-returns-2
 returns-2 c = rule2 _ (search needs) (cc)
-
-read16-requires : tie.Need-read16-requires
-read16-requires c κs = search needs
 
 returns-3 : tie.Need-returns-3
 returns-3 c = rule3 _ (search needs) (cc) (search needs)
 
-counts-right-requires : tie.Need-counts-right-requires
-counts-right-requires c κs = search needs
-
 returns-4 : tie.Need-returns-4
 returns-4 c = rule4 _ (search needs) (cc) (search needs) (cc)
-
-total-requires : tie.Need-total-requires
-total-requires c κs = search needs
-
-mul-if5 : tie.Need-mul-if5
-mul-if5 c = search needs
-
-add-if5 : tie.Need-add-if5
-add-if5 c = search needs
 
 returns-5 : tie.Need-returns-5
 returns-5 c = rule5 _ (search needs) (cc) (search needs) (cc) (search needs)
@@ -78,14 +60,14 @@ header-refusal-spec =
     tie.close
     (tie.spec
     returns
-    mark-right-requires
+    (λ c κs. search needs)
     returns-2
-    read16-requires
+    (λ c κs. search needs)
     returns-3
-    counts-right-requires
+    (λ c κs. search needs)
     returns-4
-    total-requires
-    mul-if5
-    add-if5
+    (λ c κs. search needs)
+    (λ c. search needs)
+    (λ c. search needs)
     returns-5
     returns-6)

@@ -24,24 +24,15 @@ mark3 : (t : List ℕ) → getD t 0 0 ≡ 82 → getD t 1 0 ≡ 84 → eqb (getD
 unfolding markRight
 mark3 t h g = simp (eq-eqb _ _ h, eq-eqb _ _ g)
 
-byte-requires : tie.Need-byte-requires
-byte-requires c κs = search needs
-
 returns : tie.Need-returns
 returns c = mark1 _ (search needs)
 
-byte-requires-2 : tie.Need-byte-requires-2
-byte-requires-2 c κs = search needs
-
 returns-2 : tie.Need-returns-2
 returns-2 c = mark2 _ (search needs) (search needs)
-
-byte-requires-3 : tie.Need-byte-requires-3
-byte-requires-3 c κs = search needs
 
 returns-3 : tie.Need-returns-3
 returns-3 c = cc (mark3 (c .before .before .before .before .before .before .args .t .now) (search needs) (search needs))
 
 pub mark-right-spec : {M : Type 1} → statement M
 mark-right-spec =
-    tie.close (tie.spec byte-requires returns byte-requires-2 returns-2 byte-requires-3 returns-3)
+    tie.close (tie.spec (λ c κs. search needs) returns (λ c κs. search needs) returns-2 (λ c κs. search needs) returns-3)

@@ -24,18 +24,6 @@ loop-holds : tie.Need-loop-holds Inv-loop μ-loop
 unfolding Header.root
 loop-holds c = (search needs, refl, search needs)
 
-count-requires : tie.Need-count-requires Inv-loop μ-loop
-count-requires c κs = search needs
-
-add-at : tie.Need-add-at Inv-loop μ-loop
-add-at c = search needs
-
-add-x : tie.Need-add-x Inv-loop μ-loop
-add-x c = search needs
-
-loop-less : tie.Need-loop-less Inv-loop μ-loop
-loop-less c = search needs
-
 loop-again : tie.Need-loop-again Inv-loop μ-loop
 loop-again c =
     let l = c .before .before .loop in
@@ -48,4 +36,4 @@ returns c = let l = c .before .loop in let same : l .x ≡ c .before .before .be
 pub root-spec : {M : Type 1} → statement M
 root-spec =
     tie.close
-    (tie.spec Inv-loop μ-loop loop-holds count-requires add-at add-x loop-less loop-again returns)
+    (tie.spec Inv-loop μ-loop loop-holds (λ c κs. search needs) (λ c. search needs) (λ c. search needs) (λ c. search needs) loop-again returns)

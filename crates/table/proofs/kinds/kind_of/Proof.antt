@@ -8,12 +8,6 @@ use Rattle.table.specs.Kinds.{kindOf, kinds, noKind}
 use Rattle.table.proofs.kinds.kind_of.Statement.{statement}
 use Rattle.table.proofs.kinds.kind_of.Tie as tie
 
-mul-result : tie.Need-mul-result
-mul-result c = search needs
-
-array-copy-out-result : tie.Need-array-copy-out-result
-array-copy-out-result c = search needs
-
 returns : tie.Need-returns
 unfolding kindOf kinds
 returns c = refl
@@ -23,4 +17,4 @@ unfolding kindOf kinds
 returns-2 c = sym (List·getD-eq-default kinds noKind (c .if1 .left))
 
 pub kind-of-spec : {M : Type 1} → statement M
-kind-of-spec = tie.close (tie.spec mul-result array-copy-out-result returns returns-2)
+kind-of-spec = tie.close (tie.spec (λ c. search needs) (λ c. search needs) returns returns-2)

@@ -19,41 +19,17 @@ Inv-loop t ends b e tall left₀ j₀ left j = (b ≤ j) × (j ≤ e) × (left �
 abbrev μ-loop : tie.MeasureT-loop
 μ-loop t ends b e tall left₀ j₀ left j = e - j
 
-weigh-tree-requires : tie.Need-weigh-tree-requires Inv-loop μ-loop
-weigh-tree-requires c κs = search needs
-
 loop-holds : tie.Need-loop-holds Inv-loop μ-loop
 loop-holds c = (search needs, search needs, search needs, refl)
 
 returns : tie.Need-returns Inv-loop μ-loop
 returns c = let l = c .before .before .loop in deep-here _ _ (l .j) (l .left) (search needs) (search needs) ∙ sym (l .inv .3)
 
-mul-if2 : tie.Need-mul-if2 Inv-loop μ-loop
-mul-if2 c = search needs
-
-array-read-if2 : tie.Need-array-read-if2 Inv-loop μ-loop
-array-read-if2 c = search needs
-
-sub-left : tie.Need-sub-left Inv-loop μ-loop
-sub-left c = search needs
-
-add-j : tie.Need-add-j Inv-loop μ-loop
-add-j c = search needs
-
-loop-less : tie.Need-loop-less Inv-loop μ-loop
-loop-less c = search needs
-
 loop-again : tie.Need-loop-again Inv-loop μ-loop
 unfolding WordsFrom
 loop-again c =
     let l = c .before .before .before .loop in
     (search needs, search needs, search needs, l .inv .3 ∙ deep-down _ _ (l .j) (l .left) _ (search needs) (c .before .before .before .before .weigh-tree .ensures (l .j) (search needs) (search needs)) (search needs) (search needs))
-
-mul-j : tie.Need-mul-j Inv-loop μ-loop
-mul-j c = search needs
-
-element-copy-out-j : tie.Need-element-copy-out-j Inv-loop μ-loop
-element-copy-out-j c = search needs
 
 loop-less-2 : tie.Need-loop-less-2 Inv-loop μ-loop
 unfolding Linked
@@ -78,17 +54,17 @@ deep-of-spec =
     (tie.spec
     Inv-loop
     μ-loop
-    weigh-tree-requires
+    (λ c κs. search needs)
     loop-holds
     returns
-    mul-if2
-    array-read-if2
-    sub-left
-    add-j
-    loop-less
+    (λ c. search needs)
+    (λ c. search needs)
+    (λ c. search needs)
+    (λ c. search needs)
+    (λ c. search needs)
     loop-again
-    mul-j
-    element-copy-out-j
+    (λ c. search needs)
+    (λ c. search needs)
     loop-less-2
     loop-again-2
     returns-2)

@@ -6,9 +6,6 @@ use borrow.Author.Needs.{needs}
 use Rattle.table.proofs.nodes.child_count.Statement.{statement}
 use Rattle.table.proofs.nodes.child_count.Tie as tie
 
-cast-result : tie.Need-cast-result
-cast-result c = search needs
-
 returns : tie.Need-returns
 unfolding childCount
 returns c = simp (eq-eqb _ _ (c .if1 .taken))
@@ -18,4 +15,4 @@ unfolding childCount
 returns-2 c = simp (ne-eqb _ _ (c .before .if1 .left))
 
 pub child-count-spec : {M : Type 1} → statement M
-child-count-spec = tie.close (tie.spec cast-result returns returns-2)
+child-count-spec = tie.close (tie.spec (λ c. search needs) returns returns-2)

@@ -6,9 +6,6 @@ use borrow.Author.Needs.{needs}
 use Rattle.table.proofs.nodes.constant_right.Statement.{statement}
 use Rattle.table.proofs.nodes.constant_right.Tie as tie
 
-word-is-finite-requires : tie.Need-word-is-finite-requires
-word-is-finite-requires c κs = search needs
-
 returns : tie.Need-returns
 unfolding constantRight
 returns c = simp (eq-eqb _ _ (c .before .if1 .taken)) (c .word-is-finite .ensures)
@@ -18,4 +15,4 @@ unfolding constantRight
 returns-2 c = simp (ne-eqb _ _ (c .if1 .left))
 
 pub constant-right-spec : {M : Type 1} → statement M
-constant-right-spec = tie.close (tie.spec word-is-finite-requires returns returns-2)
+constant-right-spec = tie.close (tie.spec (λ c κs. search needs) returns returns-2)

@@ -23,39 +23,6 @@ past-node t i h =
       past64 t (24 + 16 * i) (omega arith),
     )
 
-mul-at : tie.Need-mul-at
-mul-at c = search needs
-
-add-byte : tie.Need-add-byte
-add-byte c = search needs
-
-byte-requires : tie.Need-byte-requires
-byte-requires c κs = search needs
-
-add-byte-2 : tie.Need-add-byte-2
-add-byte-2 c = search needs
-
-byte-requires-2 : tie.Need-byte-requires-2
-byte-requires-2 c κs = search needs
-
-add-read16 : tie.Need-add-read16
-add-read16 c = search needs
-
-read16-requires : tie.Need-read16-requires
-read16-requires c κs = search needs
-
-add-read32 : tie.Need-add-read32
-add-read32 c = search needs
-
-read32-requires : tie.Need-read32-requires
-read32-requires c κs = search needs
-
-add-read64 : tie.Need-add-read64
-add-read64 c = search needs
-
-read64-requires : tie.Need-read64-requires
-read64-requires c κs = search needs
-
 returns : tie.Need-returns
 unfolding nodeAt
 returns c = cc
@@ -67,16 +34,16 @@ pub node-at-spec : {M : Type 1} → statement M
 node-at-spec =
     tie.close
     (tie.spec
-    mul-at
-    add-byte
-    byte-requires
-    add-byte-2
-    byte-requires-2
-    add-read16
-    read16-requires
-    add-read32
-    read32-requires
-    add-read64
-    read64-requires
+    (λ c. search needs)
+    (λ c. search needs)
+    (λ c κs. search needs)
+    (λ c. search needs)
+    (λ c κs. search needs)
+    (λ c. search needs)
+    (λ c κs. search needs)
+    (λ c. search needs)
+    (λ c κs. search needs)
+    (λ c. search needs)
+    (λ c κs. search needs)
     returns
     returns-2)

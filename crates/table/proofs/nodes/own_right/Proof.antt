@@ -40,15 +40,6 @@ returns c = unknown _ _ _ (search needs)
 returns-2 : tie.Need-returns-2
 returns-2 c = selector _ _ _ (search needs) (search needs)
 
-children-right-requires : tie.Need-children-right-requires
-children-right-requires c κs = search needs
-
-n-right-requires : tie.Need-n-right-requires
-n-right-requires c κs = search needs
-
-constant-right-requires : tie.Need-constant-right-requires
-constant-right-requires c κs = search needs
-
 returns-3 : tie.Need-returns-3
 returns-3 c = c .constant-right .ensures ∙ rest _ _ _ (search needs) (search needs) (cc) (cc)
 
@@ -64,9 +55,9 @@ own-right-spec =
     (tie.spec
     returns
     returns-2
-    children-right-requires
-    n-right-requires
-    constant-right-requires
+    (λ c κs. search needs)
+    (λ c κs. search needs)
+    (λ c κs. search needs)
     returns-3
     returns-4
     returns-5)

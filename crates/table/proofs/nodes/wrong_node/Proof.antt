@@ -34,15 +34,6 @@ abbrev μ-loop : tie.MeasureT-loop
 loop-holds : tie.Need-loop-holds Inv-loop μ-loop
 loop-holds c = (search needs, ap (λ (m : ℕ). wrongNode (c .before .args .t .now) m 0) (sym (sub-zero (c .before .args .total))))
 
-node-right-requires : tie.Need-node-right-requires Inv-loop μ-loop
-node-right-requires c κs = search needs
-
-add-i : tie.Need-add-i Inv-loop μ-loop
-add-i c = search needs
-
-loop-less : tie.Need-loop-less Inv-loop μ-loop
-loop-less c = search needs
-
 loop-again : tie.Need-loop-again Inv-loop μ-loop
 loop-again c = (search needs, c .before .before .before .loop .inv .1 ∙ wrong-step _ _ _ (search needs) (cc))
 
@@ -59,9 +50,9 @@ wrong-node-spec =
     Inv-loop
     μ-loop
     loop-holds
-    node-right-requires
-    add-i
-    loop-less
+    (λ c κs. search needs)
+    (λ c. search needs)
+    (λ c. search needs)
     loop-again
     returns
     returns-2)

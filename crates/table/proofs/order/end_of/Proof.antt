@@ -15,20 +15,8 @@ Inv-loop t ends i e below left₀ j₀ left j = (i < j) × (j ≤ e) × Here t e
 abbrev μ-loop : tie.MeasureT-loop
 μ-loop t ends i e below left₀ j₀ left j = left
 
-child-sort-at-requires : tie.Need-child-sort-at-requires Inv-loop μ-loop
-child-sort-at-requires c κs = search needs
-
-child-count-at-requires : tie.Need-child-count-at-requires Inv-loop μ-loop
-child-count-at-requires c κs = search needs
-
-add-j : tie.Need-add-j Inv-loop μ-loop
-add-j c = search needs
-
 loop-holds : tie.Need-loop-holds Inv-loop μ-loop
 loop-holds c = (search needs, search needs, begin _ _ _ _ _ (search needs) (c .child-count-at .ensures) (c .before .child-sort-at .ensures))
-
-add-result : tie.Need-add-result Inv-loop μ-loop
-add-result c = search needs
 
 returns : tie.Need-returns Inv-loop μ-loop
 returns c =
@@ -36,23 +24,11 @@ returns c =
     let of = c .before .before .before .before .child-sort-at .result in
     cut _ _ _ of (l .left) (l .j) (l .inv .2) (search needs) (search needs) (search needs)
 
-sort-at-requires : tie.Need-sort-at-requires Inv-loop μ-loop
-sort-at-requires c κs = search needs
-
-add-result-2 : tie.Need-add-result-2 Inv-loop μ-loop
-add-result-2 c = search needs
-
 returns-2 : tie.Need-returns-2 Inv-loop μ-loop
 returns-2 c =
     let l = c .before .before .before .before .loop in
     let of = c .before .before .before .before .before .before .child-sort-at .result in
     wrong _ _ _ of (l .left) (l .j) (l .inv .2) (search needs) (search needs) (search needs) (search needs)
-
-mul-v : tie.Need-mul-v Inv-loop μ-loop
-mul-v c = search needs
-
-element-copy-out-v : tie.Need-element-copy-out-v Inv-loop μ-loop
-element-copy-out-v c = search needs
 
 returns-3 : tie.Need-returns-3 Inv-loop μ-loop
 unfolding EndedFrom
@@ -61,12 +37,6 @@ returns-3 c =
     let of = c .before .before .before .before .before .before .before .before .child-sort-at .result in
     inside _ _ _ of (l .left) (l .j) (l .inv .2) (search needs) _ (search needs) (search needs)
     (c .before .before .before .before .before .before .before .before .before .before .pre .1 (l .j) (search needs) (search needs))
-
-sub-left : tie.Need-sub-left Inv-loop μ-loop
-sub-left c = search needs
-
-loop-less : tie.Need-loop-less Inv-loop μ-loop
-loop-less c = search needs
 
 loop-again : tie.Need-loop-again Inv-loop μ-loop
 unfolding EndedFrom
@@ -88,19 +58,19 @@ end-of-spec =
     (tie.spec
     Inv-loop
     μ-loop
-    child-sort-at-requires
-    child-count-at-requires
-    add-j
+    (λ c κs. search needs)
+    (λ c κs. search needs)
+    (λ c. search needs)
     loop-holds
-    add-result
+    (λ c. search needs)
     returns
-    sort-at-requires
-    add-result-2
+    (λ c κs. search needs)
+    (λ c. search needs)
     returns-2
-    mul-v
-    element-copy-out-v
+    (λ c. search needs)
+    (λ c. search needs)
     returns-3
-    sub-left
-    loop-less
+    (λ c. search needs)
+    (λ c. search needs)
     loop-again
     returns-4)

@@ -9,17 +9,8 @@ use Rattle.table.proofs.order.misfit_of.Tie as tie
 returns : tie.Need-returns
 returns c = misfit-none _ _ _ (search needs)
 
-sort-at-requires : tie.Need-sort-at-requires
-sort-at-requires c κs = search needs
-
 returns-2 : tie.Need-returns-2
 returns-2 c = misfit-sort _ _ _ (search needs) (search needs)
-
-mul-v : tie.Need-mul-v
-mul-v c = search needs
-
-element-copy-out-v : tie.Need-element-copy-out-v
-element-copy-out-v c = search needs
 
 returns-3 : tie.Need-returns-3
 unfolding EndedFrom
@@ -44,10 +35,10 @@ misfit-of-spec =
     tie.close
     (tie.spec
     returns
-    sort-at-requires
+    (λ c κs. search needs)
     returns-2
-    mul-v
-    element-copy-out-v
+    (λ c. search needs)
+    (λ c. search needs)
     returns-3
     returns-4
     returns-5)

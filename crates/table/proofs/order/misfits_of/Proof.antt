@@ -7,27 +7,6 @@ use borrow.Author.Needs.{needs}
 use Rattle.table.proofs.order.misfits_of.Statement.{statement}
 use Rattle.table.proofs.order.misfits_of.Tie as tie
 
-misfit-of-requires : tie.Need-misfit-of-requires
-misfit-of-requires c κs = search needs
-
-misfit-of-requires-2 : tie.Need-misfit-of-requires-2
-misfit-of-requires-2 c κs = search needs
-
-misfit-of-requires-3 : tie.Need-misfit-of-requires-3
-misfit-of-requires-3 c κs = search needs
-
-misfit-of-requires-4 : tie.Need-misfit-of-requires-4
-misfit-of-requires-4 c κs = search needs
-
-or-else-requires : tie.Need-or-else-requires
-or-else-requires c κs = search needs
-
-or-else-requires-2 : tie.Need-or-else-requires-2
-or-else-requires-2 c κs = search needs
-
-or-else-requires-3 : tie.Need-or-else-requires-3
-or-else-requires-3 c κs = search needs
-
 returns : tie.Need-returns
 returns c =
     chain _ _ _ _ _ _ _ (c .or-else3 .ensures) (c .before .or-else2 .ensures) (c .before .before .or-else .ensures)
@@ -42,11 +21,11 @@ pub misfits-of-spec : {M : Type 1} → statement M
 misfits-of-spec =
     tie.close
     (tie.spec
-    misfit-of-requires
-    misfit-of-requires-2
-    misfit-of-requires-3
-    misfit-of-requires-4
-    or-else-requires
-    or-else-requires-2
-    or-else-requires-3
+    (λ c κs. search needs)
+    (λ c κs. search needs)
+    (λ c κs. search needs)
+    (λ c κs. search needs)
+    (λ c κs. search needs)
+    (λ c κs. search needs)
+    (λ c κs. search needs)
     returns)

@@ -5,18 +5,6 @@ use borrow.Author.Needs.{needs}
 use Rattle.table.proofs.order.order_all.Statement.{statement}
 use Rattle.table.proofs.order.order_all.Tie as tie
 
-order-tree-requires : tie.Need-order-tree-requires
-order-tree-requires c κs = search needs
-
-order-tree-requires-2 : tie.Need-order-tree-requires-2
-order-tree-requires-2 c κs = search needs
-
-order-tree-requires-3 : tie.Need-order-tree-requires-3
-order-tree-requires-3 c κs = search needs
-
-order-tree-requires-4 : tie.Need-order-tree-requires-4
-order-tree-requires-4 c κs = search needs
-
 returns : tie.Need-returns
 returns c =
     order-four _ _ _ _ _ _ _ _ _ _
@@ -26,4 +14,4 @@ returns c =
 
 pub order-all-spec : {M : Type 1} → statement M
 order-all-spec =
-    tie.close (tie.spec order-tree-requires order-tree-requires-2 order-tree-requires-3 order-tree-requires-4 returns)
+    tie.close (tie.spec (λ c κs. search needs) (λ c κs. search needs) (λ c κs. search needs) (λ c κs. search needs) returns)

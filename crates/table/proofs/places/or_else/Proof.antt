@@ -7,12 +7,6 @@ use borrow.Author.Needs.{needs}
 use Rattle.table.proofs.places.or_else.Statement.{statement}
 use Rattle.table.proofs.places.or_else.Tie as tie
 
-enum-known-p : tie.Need-enum-known-p
-enum-known-p c = search needs
-
-enum-told : tie.Need-enum-told
-enum-told c = search needs
-
 returns : tie.Need-returns
 unfolding orElse
 returns c = sym (ap (λ (p : Place). orElse p (c .before .before .before .args .q)) (c .before .p .given .1))
@@ -22,4 +16,4 @@ unfolding orElse
 returns-2 c = search needs
 
 pub or-else-spec : {M : Type 1} → statement M
-or-else-spec = tie.close (tie.spec enum-known-p enum-told returns returns-2)
+or-else-spec = tie.close (tie.spec (λ c. search needs) (λ c. search needs) returns returns-2)

@@ -6,30 +6,6 @@ use borrow.Author.Needs.{needs}
 use Rattle.table.proofs.reach.far_or_accepted.Statement.{statement}
 use Rattle.table.proofs.reach.far_or_accepted.Tie as tie
 
-reach-of-requires : tie.Need-reach-of-requires
-reach-of-requires c κs = search needs
-
-reach-of-requires-2 : tie.Need-reach-of-requires-2
-reach-of-requires-2 c κs = search needs
-
-reach-of-requires-3 : tie.Need-reach-of-requires-3
-reach-of-requires-3 c κs = search needs
-
-reach-of-requires-4 : tie.Need-reach-of-requires-4
-reach-of-requires-4 c κs = search needs
-
-too-far-requires : tie.Need-too-far-requires
-too-far-requires c κs = search needs
-
-rows-needed-requires : tie.Need-rows-needed-requires
-rows-needed-requires c κs = search needs
-
-enum-known-far : tie.Need-enum-known-far
-enum-known-far c = search needs
-
-enum-told : tie.Need-enum-told
-enum-told c = search needs
-
 returns : tie.Need-returns
 returns c =
     let r = c .before .before .before .before in
@@ -61,13 +37,13 @@ pub far-or-accepted-spec : {M : Type 1} → statement M
 far-or-accepted-spec =
     tie.close
     (tie.spec
-    reach-of-requires
-    reach-of-requires-2
-    reach-of-requires-3
-    reach-of-requires-4
-    too-far-requires
-    rows-needed-requires
-    enum-known-far
-    enum-told
+    (λ c κs. search needs)
+    (λ c κs. search needs)
+    (λ c κs. search needs)
+    (λ c κs. search needs)
+    (λ c κs. search needs)
+    (λ c κs. search needs)
+    (λ c. search needs)
+    (λ c. search needs)
     returns
     returns-2)

@@ -10,15 +10,6 @@ use Rattle.table.proofs.reach.reach_of.Tie as tie
 returns : tie.Need-returns
 returns c = reach-none _ _ _ (search needs)
 
-weigh-tree-requires : tie.Need-weigh-tree-requires
-weigh-tree-requires c κs = search needs
-
-mul-result : tie.Need-mul-result
-mul-result c = search needs
-
-array-read-result : tie.Need-array-read-result
-array-read-result c = search needs
-
 returns-2 : tie.Need-returns-2
 unfolding Linked WordsFrom
 returns-2 c =
@@ -30,4 +21,4 @@ returns-2 c =
 
 pub reach-of-spec : {M : Type 1} → statement M
 reach-of-spec =
-    tie.close (tie.spec returns weigh-tree-requires mul-result array-read-result returns-2)
+    tie.close (tie.spec returns (λ c κs. search needs) (λ c. search needs) (λ c. search needs) returns-2)

@@ -14,35 +14,11 @@ Inv-loop t ends words i e left₀ most₀ j₀ left most j = (i < j) × (j ≤ e
 abbrev μ-loop : tie.MeasureT-loop
 μ-loop t ends words i e left₀ most₀ j₀ left most j = e - j
 
-child-count-at-requires : tie.Need-child-count-at-requires Inv-loop μ-loop
-child-count-at-requires c κs = search needs
-
-add-j : tie.Need-add-j Inv-loop μ-loop
-add-j c = search needs
-
 loop-holds : tie.Need-loop-holds Inv-loop μ-loop
 loop-holds c = (search needs, search needs, rest-all _ _ _ _ _ (c .child-count-at .ensures))
 
 returns : tie.Need-returns Inv-loop μ-loop
 returns c = let l = c .before .before .loop in rest-none _ _ _ _ (l .left) (l .most) (l .j) (l .inv .2) (search needs)
-
-mul-greater : tie.Need-mul-greater Inv-loop μ-loop
-mul-greater c = search needs
-
-element-copy-out-greater : tie.Need-element-copy-out-greater Inv-loop μ-loop
-element-copy-out-greater c = search needs
-
-greater-requires : tie.Need-greater-requires Inv-loop μ-loop
-greater-requires c κs = search needs
-
-mul-j : tie.Need-mul-j Inv-loop μ-loop
-mul-j c = search needs
-
-element-copy-out-j : tie.Need-element-copy-out-j Inv-loop μ-loop
-element-copy-out-j c = search needs
-
-sub-left : tie.Need-sub-left Inv-loop μ-loop
-sub-left c = search needs
 
 loop-less : tie.Need-loop-less Inv-loop μ-loop
 unfolding Linked
@@ -67,16 +43,16 @@ most-below-spec =
     (tie.spec
     Inv-loop
     μ-loop
-    child-count-at-requires
-    add-j
+    (λ c κs. search needs)
+    (λ c. search needs)
     loop-holds
     returns
-    mul-greater
-    element-copy-out-greater
-    greater-requires
-    mul-j
-    element-copy-out-j
-    sub-left
+    (λ c. search needs)
+    (λ c. search needs)
+    (λ c κs. search needs)
+    (λ c. search needs)
+    (λ c. search needs)
+    (λ c. search needs)
     loop-less
     loop-again
     returns-2)

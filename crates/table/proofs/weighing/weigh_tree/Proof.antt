@@ -20,12 +20,6 @@ abbrev μ-loop : tie.MeasureT-loop
 loop-holds : tie.Need-loop-holds Inv-loop μ-loop
 loop-holds c = (search needs, search needs, search needs, words-none _ _ _ _)
 
-sub-i : tie.Need-sub-i Inv-loop μ-loop
-sub-i c = search needs
-
-weight-at-requires : tie.Need-weight-at-requires Inv-loop μ-loop
-weight-at-requires c κs = search needs
-
 most-below-requires : tie.Need-most-below-requires Inv-loop μ-loop
 most-below-requires c κs =
     let l = c .before .before .before .loop in
@@ -35,18 +29,6 @@ add-cut : tie.Need-add-cut Inv-loop μ-loop
 add-cut c =
     let l = c .before .before .before .before .loop in
     omega (arith, most-small _ _ _ _ _ _ (c .most-below .ensures) (words-next _ _ _ (l .i) _ _ (omega arith) (l .inv .3)))
-
-cut-requires : tie.Need-cut-requires Inv-loop μ-loop
-cut-requires c κs = search needs
-
-mul-words : tie.Need-mul-words Inv-loop μ-loop
-mul-words c = search needs
-
-array-write-words : tie.Need-array-write-words Inv-loop μ-loop
-array-write-words c = search needs
-
-loop-less : tie.Need-loop-less Inv-loop μ-loop
-loop-less c = search needs
 
 loop-again : tie.Need-loop-again Inv-loop μ-loop
 loop-again c =
@@ -63,13 +45,13 @@ weigh-tree-spec =
     Inv-loop
     μ-loop
     loop-holds
-    sub-i
-    weight-at-requires
+    (λ c. search needs)
+    (λ c κs. search needs)
     most-below-requires
     add-cut
-    cut-requires
-    mul-words
-    array-write-words
-    loop-less
+    (λ c κs. search needs)
+    (λ c. search needs)
+    (λ c. search needs)
+    (λ c. search needs)
     loop-again
     returns)

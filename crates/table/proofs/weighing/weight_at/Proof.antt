@@ -13,18 +13,6 @@ returns : tie.Need-returns
 unfolding weight
 returns c = simp (eq-eqb _ _ (c .if1 .taken))
 
-node-at-requires : tie.Need-node-at-requires
-node-at-requires c κs = search needs
-
-kind-of-requires : tie.Need-kind-of-requires
-kind-of-requires c κs = search needs
-
-back-of-requires : tie.Need-back-of-requires
-back-of-requires c κs = search needs
-
-cut-requires : tie.Need-cut-requires
-cut-requires c κs = search needs
-
 returns-2 : tie.Need-returns-2
 unfolding weight ownBack
 returns-2 c = simp (ne-eqb _ _ (c .before .before .before .before .if1 .left)) (c .cut .ensures ∙ ap (λ (x : ℕ). min x 4096) (cc))
@@ -32,4 +20,4 @@ returns-2 c = simp (ne-eqb _ _ (c .before .before .before .before .if1 .left)) (
 pub weight-at-spec : {M : Type 1} → statement M
 weight-at-spec =
     tie.close
-    (tie.spec returns node-at-requires kind-of-requires back-of-requires cut-requires returns-2)
+    (tie.spec returns (λ c κs. search needs) (λ c κs. search needs) (λ c κs. search needs) (λ c κs. search needs) returns-2)
