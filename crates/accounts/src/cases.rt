@@ -15,7 +15,7 @@ ghost use Rattle.accounts.specs.Cases.{wordAt, floatAt, flagAt, optional
 pub fn word(case: &[u64], base: usize, j: usize) -> u64
     ensures { λ r. ⌜ r ≡ wordAt (now (case .entry)) base j ⌝ }
 {
-    rows::word_from(case, base, j)
+    words::word_from(case, base, j)
 }
 
 pub fn float(case: &[u64], base: usize, j: usize) -> f64

@@ -2,7 +2,7 @@
 use Prim.Native.Nat.{ℕ}
 use mathlib.Core.Path.{_≡_, sym, _∙_}
 use mathlib.Core.List.{List}
-use Rattle.rows.specs.Room.{over}
+use Rattle.words.specs.Words.{overwrite}
 use Rattle.metrics.specs.declared.Metrics.{Metrics}
 use Rattle.metrics.specs.Figures.{wordsOf}
 use Rattle.judge.specs.declared.Settings.{Settings}
@@ -44,6 +44,6 @@ module _
     unfolding finishBy finishRefused
     finish-refused refused word = finish-ran ∙ simp (refused, word)
 
-    pub finish-done : {next : State} {figures : Metrics} {words nine : List ℕ} → finished ≡ Done next figures → words ≡ over state 0 (stateWords next) → nine ≡ over metrics 0 (wordsOf figures) → finishCall settings state rooms metrics ≡ record { answer = 0; state = words; trades = ts; metrics = nine }
+    pub finish-done : {next : State} {figures : Metrics} {words nine : List ℕ} → finished ≡ Done next figures → words ≡ overwrite state 0 (stateWords next) → nine ≡ overwrite metrics 0 (wordsOf figures) → finishCall settings state rooms metrics ≡ record { answer = 0; state = words; trades = ts; metrics = nine }
     unfolding finishBy
     finish-done done put written = finish-ran ∙ simp (done, put, written)

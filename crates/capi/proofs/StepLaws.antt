@@ -2,7 +2,7 @@
 use Prim.Native.Nat.{ℕ}
 use mathlib.Core.Path.{_≡_, sym, _∙_}
 use mathlib.Core.List.{List}
-use Rattle.rows.specs.Room.{over}
+use Rattle.words.specs.Words.{overwrite}
 use Rattle.judge.specs.declared.Settings.{Settings}
 use Rattle.judge.specs.declared.State.{State}
 use Rattle.judge.specs.declared.Verdict.{Verdict}
@@ -41,6 +41,6 @@ module _
     unfolding stepBy stepRefused
     step-refused refused word = step-ran ∙ simp (refused, word)
 
-    pub step-done : {next : State} {words : List ℕ} → answer ≡ Done next → words ≡ over state 0 (stateWords next) → stepCall settings state bar rooms lists ≡ record { answer = 0; state = words; rooms = record { rows = ws; equity = es; trades = ts } }
+    pub step-done : {next : State} {words : List ℕ} → answer ≡ Done next → words ≡ overwrite state 0 (stateWords next) → stepCall settings state bar rooms lists ≡ record { answer = 0; state = words; rooms = record { rows = ws; equity = es; trades = ts } }
     unfolding stepBy
     step-done done put = step-ran ∙ simp (done, put)

@@ -1,7 +1,7 @@
 -- The calls that step over a bar and end a run. Definitions only.
 use Prim.Native.Nat.{ℕ}
 use mathlib.Core.List.{List}
-use Rattle.rows.specs.Room.{over}
+use Rattle.words.specs.Words.{overwrite}
 use Rattle.judge.specs.declared.Verdict.{Verdict}
 use Rattle.judge.specs.declared.Verdict.the-variants.{Fine, Bad}
 use Rattle.judge.specs.Lists.{Lists}
@@ -30,7 +30,7 @@ stepRefused number place state rooms = record { answer = answerWord number place
 
 unfoldable pub stepBy : Answer → List ℕ → Rooms → StepCall
 stepBy (Refused number place given) state rooms = stepRefused number place state rooms
-stepBy (Done next) state rooms = record { answer = 0; state = over state 0 (stateWords next); rooms = rooms }
+stepBy (Done next) state rooms = record { answer = 0; state = overwrite state 0 (stateWords next); rooms = rooms }
 
 unfoldable pub stepLent : Verdict → With Answer → List ℕ → Rooms → StepCall
 stepLent (Bad number place) d state rooms = stepRefused number place state rooms

@@ -2,7 +2,7 @@
 use Prim.Native.Nat.{ℕ}
 use mathlib.Core.List.{List}
 use Rattle.floats.specs.Floats.{floatOf}
-use Rattle.rows.specs.Room.{over}
+use Rattle.words.specs.Words.{overwrite}
 use Rattle.metrics.specs.Figures.{Said, figures, refusal, computed, wordsOf}
 use Rattle.judge.specs.declared.Verdict.{Verdict}
 use Rattle.judge.specs.declared.Verdict.the-variants.{Fine, Bad}
@@ -15,7 +15,7 @@ pub record MetricsCall : Type 0 where
 
 unfoldable pub metricsBy : Said → List ℕ → MetricsCall
 metricsBy (refusal number place) room = record { answer = answerWord number place; metrics = room }
-metricsBy (figures m) room = record { answer = 0; metrics = over room 0 (wordsOf m) }
+metricsBy (figures m) room = record { answer = 0; metrics = overwrite room 0 (wordsOf m) }
 
 unfoldable pub metricsLent : Verdict → Said → List ℕ → MetricsCall
 metricsLent (Bad number place) d room = metricsBy (refusal number place) room

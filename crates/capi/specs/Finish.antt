@@ -1,7 +1,7 @@
 -- The call that ends a run. Definitions only.
 use Prim.Native.Nat.{ℕ}
 use mathlib.Core.List.{List}
-use Rattle.rows.specs.Room.{over}
+use Rattle.words.specs.Words.{overwrite}
 use Rattle.metrics.specs.Figures.{wordsOf}
 use Rattle.judge.specs.declared.Verdict.{Verdict}
 use Rattle.judge.specs.declared.Verdict.the-variants.{Fine, Bad}
@@ -30,9 +30,9 @@ unfoldable pub finishBy : Finished → List ℕ → List ℕ → List ℕ → Fi
 finishBy (Refused number place given) state trades metrics = finishRefused number place state trades metrics
 finishBy (Done next figures) state trades metrics = record {
   answer = 0;
-  state = over state 0 (stateWords next);
+  state = overwrite state 0 (stateWords next);
   trades = trades;
-  metrics = over metrics 0 (wordsOf figures);
+  metrics = overwrite metrics 0 (wordsOf figures);
 }
 
 unfoldable pub finishLent : Verdict → With Finished → List ℕ → List ℕ → List ℕ → FinishCall

@@ -1,7 +1,7 @@
 -- The call that begins a run. Definitions only.
 use Prim.Native.Nat.{ℕ}
 use mathlib.Core.List.{List}
-use Rattle.rows.specs.Room.{over}
+use Rattle.words.specs.Words.{overwrite}
 use Rattle.judge.specs.declared.Verdict.{Verdict}
 use Rattle.judge.specs.declared.Verdict.the-variants.{Fine, Bad}
 use Rattle.judge.specs.State.{freshState}
@@ -16,7 +16,7 @@ pub record FreshCall : Type 0 where
 
 unfoldable pub freshBy : Verdict → List ℕ → List ℕ → FreshCall
 freshBy (Bad number place) settings state = record { answer = answerWord number place; state = state }
-freshBy Fine settings state = record { answer = 0; state = over state 0 (stateWords (freshState (settingsOf settings))) }
+freshBy Fine settings state = record { answer = 0; state = overwrite state 0 (stateWords (freshState (settingsOf settings))) }
 
 unfoldable pub freshCall : List ℕ → List ℕ → FreshCall
 freshCall settings state = freshBy (wordsJudged settings state Fine) settings state

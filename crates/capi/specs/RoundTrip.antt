@@ -9,7 +9,7 @@ use lib.Ieee.{binary64, fits}
 use lib.Ieee.Bits.{ofBits-toBits}
 use Rattle.rules.specs.declared.Entered.{Entered}
 use Rattle.rules.specs.declared.Entered.the-variants.{Never, Bar}
-use Rattle.rows.specs.Room.{over}
+use Rattle.words.specs.Words.{overwrite}
 use Rattle.judge.specs.declared.Order.{Order}
 use Rattle.judge.specs.declared.Order.the-variants.{Idle, EnterLong, EnterShort, Exit}
 use Rattle.judge.specs.declared.State.{State}
@@ -56,6 +56,6 @@ state-back s h rest =
     )
 
 -- in a room that has the words of a state
-pub state-kept : (s : State) → Floats64 s → (room : List ℕ) → stateSize ≤ length room → stateOf (over room 0 (stateWords s)) ≡ s
-unfolding over stateWords
+pub state-kept : (s : State) → Floats64 s → (room : List ℕ) → stateSize ≤ length room → stateOf (overwrite room 0 (stateWords s)) ≡ s
+unfolding overwrite stateWords
 state-kept s h room fits = rw (le-leb _ _ fits) (state-back s h _)

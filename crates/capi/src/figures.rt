@@ -1,6 +1,6 @@
 // The nine metrics of lists of words, and the square root of a word.
 ghost use mathlib.Core.Path.{_≡_};
-ghost use Rattle.rows.specs.Room.{over};
+ghost use Rattle.words.specs.Words.{overwrite};
 ghost use Rattle.metrics.specs.Figures.{wordsOf};
 ghost use Rattle.floats.specs.Floats.{wordOf, floatOf};
 ghost use Rattle.floats.specs.Sqrt.{sqrt};
@@ -13,10 +13,10 @@ use metrics::Metrics;
 
 // Writes the nine metrics over the first words of a room; nothing where it is shorter.
 pub(crate) fn put_metrics(room: &mut [u64], m: Metrics)
-    ensures { λ _. ⌜ now (room .exit) ≡ over (now (room .entry)) 0 (wordsOf m) ⌝ }
+    ensures { λ _. ⌜ now (room .exit) ≡ overwrite (now (room .entry)) 0 (wordsOf m) ⌝ }
 {
     let words = metrics::words_of(m);
-    rows::room::put(room, 0, &words);
+    words::put(room, 0, &words);
 }
 
 // The metrics of equity points and trades.

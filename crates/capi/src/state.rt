@@ -1,6 +1,6 @@
 // The state, from its words and back, and the state before the first bar.
 ghost use mathlib.Core.Path.{_≡_};
-ghost use Rattle.rows.specs.Room.{over};
+ghost use Rattle.words.specs.Words.{overwrite};
 ghost use Rattle.capi.specs.State.{orderOf, enteredOf, countsOf, portfolioOf, positionOf, stateOf, orderKind, orderDelay, enteredKind, entryBar, stateWords};
 ghost use Rattle.capi.specs.Fresh.{freshCall};
 use crate::settings::settings_of;
@@ -127,7 +127,7 @@ fn entry_bar(entered: Entered) -> u64
 
 // Writes a state over the first 17 words of a room; nothing where it is shorter.
 pub(crate) fn put_state(room: &mut [u64], s: State)
-    ensures { λ _. ⌜ now (room .exit) ≡ over (now (room .entry)) 0 (stateWords s) ⌝ }
+    ensures { λ _. ⌜ now (room .exit) ≡ overwrite (now (room .entry)) 0 (stateWords s) ⌝ }
 {
     let counts = s.counts;
     let order = s.order;
@@ -154,7 +154,7 @@ pub(crate) fn put_state(room: &mut [u64], s: State)
         last.time,
         floats::word_of(last.close),
     ];
-    rows::room::put(room, 0, &words);
+    words::put(room, 0, &words);
 }
 
 // The state before the first bar.

@@ -27,7 +27,7 @@ const HALF: u64 = 4_294_967_296;
 pub(crate) fn word(words: &[u64], i: usize) -> u64
     ensures { λ r. ⌜ r ≡ getD (now (words .entry)) i 0 ⌝ }
 {
-    rows::word_from(words, 0, i)
+    words::word_from(words, 0, i)
 }
 
 // A refusal as one word.

@@ -288,20 +288,20 @@ fn say_trade(trades: &[u64], i: usize) {
     report::say_count(b"  trade ", i as u64, b"");
     report::say_float(
         b"       in ",
-        floats::float_of(rows::word_from(trades, base, 2)),
+        floats::float_of(words::word_from(trades, base, 2)),
         b"",
     );
     report::say_float(
         b", out ",
-        floats::float_of(rows::word_from(trades, base, 3)),
+        floats::float_of(words::word_from(trades, base, 3)),
         b"",
     );
     report::say_float(
         b", pnl ",
-        floats::float_of(rows::word_from(trades, base, 5)),
+        floats::float_of(words::word_from(trades, base, 5)),
         b", ",
     );
-    report::say_reason(rows::word_from(trades, base, 7));
+    report::say_reason(words::word_from(trades, base, 7));
 }
 
 // The first trades of the day.

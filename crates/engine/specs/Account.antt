@@ -5,7 +5,7 @@ use mathlib.Core.List.{List, [], _∷_}
 use lib.Dec.{ltb}
 use Rattle.floats.specs.Floats.{wordOf}
 use Rattle.rows.specs.History.{History}
-use Rattle.rows.specs.Room.{over}
+use Rattle.words.specs.Words.{overwrite}
 use Rattle.rules.specs.declared.Entered.the-variants.{Never, Bar}
 use Rattle.portfolio.specs.declared.Candle.{Candle}
 use Rattle.portfolio.specs.Portfolio.{equity}
@@ -107,12 +107,12 @@ unfoldable pub booked : List ℕ → ℕ → Exit → Held
 booked room n NoExit = record { count = n; room = room }
 booked room n (Exited c) =
     cond (ltb n (tradePlaces room))
-    (record { count = n + 1; room = over room (n * 8) (tradeWords (c .trade)) })
+    (record { count = n + 1; room = overwrite room (n * 8) (tradeWords (c .trade)) })
     (record { count = n; room = room })
 
 -- "equity at the close": a point is the bar's time and the equity. One that finds no place is not kept, as above.
 unfoldable pub marked : List ℕ → ℕ → Candle → Position → Held
 marked room n k p =
     cond (ltb n (pointPlaces room))
-    (record { count = n + 1; room = over room (n * 2) (k .time ∷ wordOf (equity (p .portfolio) (k .close)) ∷ []) })
+    (record { count = n + 1; room = overwrite room (n * 2) (k .time ∷ wordOf (equity (p .portfolio) (k .close)) ∷ []) })
     (record { count = n; room = room })

@@ -9,7 +9,8 @@ use borrow.Author.Tests.{ltb-true, leb-true, eqb-false}
 use lib.ListN.{length, take, drop, length-append, length-drop}
 use lib.Seq.{length-take-le}
 use lib.Dec.{ltb, leb, eqb}
-use Rattle.rows.specs.Room.{over, places, withRow, heldWith}
+use Rattle.words.specs.Words.{overwrite}
+use Rattle.rows.specs.Room.{places, withRow, heldWith}
 use Rattle.execution.specs.declared.Exit.{Exit}
 use Rattle.execution.specs.declared.Exit.the-variants.{NoExit, Exited}
 use Rattle.portfolio.specs.declared.Candle.{Candle}
@@ -28,9 +29,9 @@ pasted l w at h =
     let a : length (take at l) ≡ at = length-take-le at l (omega arith) in
     omega (arith, a, length-append (take at l ++ w) (drop (at + length w) l), length-append (take at l) w, length-drop (at + length w) l)
 
-pub over-kept : (room : List ℕ) (at : ℕ) (words : List ℕ) → length (over room at words) ≡ length room
-unfolding over
-over-kept room at words = go (leb (at + length words) (length room)) refl
+pub overwrite-kept : (room : List ℕ) (at : ℕ) (words : List ℕ) → length (overwrite room at words) ≡ length room
+unfolding overwrite
+overwrite-kept room at words = go (leb (at + length words) (length room)) refl
   where
     go : (b : Bool) → leb (at + length words) (length room) ≡ b
         → length (cond b (take at room ++ words ++ drop (at + length words) room) room) ≡ length room
@@ -104,8 +105,8 @@ booked-fits room n NoExit h = (refl, h)
 booked-fits room n (Exited c) h = go (ltb n (tradePlaces room)) refl
   where
     go : (b : Bool) → ltb n (tradePlaces room) ≡ b
-        → Fits 8 (cond b (record { count = n + 1; room = over room (n * 8) (tradeWords (c .trade)) }) (record { count = n; room = room })) room
-    go true e = (over-kept room (n * 8) (tradeWords (c .trade)), omega (arith, ltb-true n (tradePlaces room) e))
+        → Fits 8 (cond b (record { count = n + 1; room = overwrite room (n * 8) (tradeWords (c .trade)) }) (record { count = n; room = room })) room
+    go true e = (overwrite-kept room (n * 8) (tradeWords (c .trade)), omega (arith, ltb-true n (tradePlaces room) e))
     go false e = (refl, h)
 
 pub marked-fits : (room : List ℕ) (n : ℕ) (k : Candle) (p : Position) → n ≤ pointPlaces room → Fits 2 (marked room n k p) room
@@ -116,6 +117,6 @@ marked-fits room n k p h = go (ltb n (pointPlaces room)) refl
     point = k .time ∷ wordOf (equity (p .portfolio) (k .close)) ∷ []
 
     go : (b : Bool) → ltb n (pointPlaces room) ≡ b
-        → Fits 2 (cond b (record { count = n + 1; room = over room (n * 2) point }) (record { count = n; room = room })) room
-    go true e = (over-kept room (n * 2) point, omega (arith, ltb-true n (pointPlaces room) e))
+        → Fits 2 (cond b (record { count = n + 1; room = overwrite room (n * 2) point }) (record { count = n; room = room })) room
+    go true e = (overwrite-kept room (n * 2) point, omega (arith, ltb-true n (pointPlaces room) e))
     go false e = (refl, h)

@@ -214,7 +214,7 @@ pub(crate) fn book(trades: &mut [u64], n: usize, exit: Exit) -> usize
             if n < trades.len() / judge::rooms::TRADE_WORDS {
                 let trade = c.trade;
                 let words = trade.words();
-                rows::room::put(trades, n * judge::rooms::TRADE_WORDS, &words);
+                words::put(trades, n * judge::rooms::TRADE_WORDS, &words);
                 return n + 1;
             }
             n
@@ -229,7 +229,7 @@ pub(crate) fn mark_equity(equity: &mut [u64], n: usize, candle: Candle, p: Posit
     if n < equity.len() / judge::rooms::POINT_WORDS {
         let account = p.portfolio;
         let words = [candle.time, floats::word_of(account.equity(candle.close))];
-        rows::room::put(equity, n * judge::rooms::POINT_WORDS, &words);
+        words::put(equity, n * judge::rooms::POINT_WORDS, &words);
         return n + 1;
     }
     n

@@ -33,11 +33,11 @@ fn row_word(bar: &[u64], j: usize) -> u64
     requires { ⌜ j < 71 ⌝ }
     ensures { λ r. ⌜ r ≡ rowWord (now (bar .entry)) j ⌝ }
 {
-    let word = rows::word_from(bar, 0, j);
+    let word = words::word_from(bar, 0, j);
     if j < rows::FIXED {
         return word;
     }
-    let mask = rows::word_from(bar, 0, rows::MASK);
+    let mask = words::word_from(bar, 0, rows::MASK);
     let slot = j - rows::FIXED;
     if (mask >> slot) % 2 == 1 {
         return word;

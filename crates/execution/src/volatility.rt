@@ -26,7 +26,7 @@ fn close_at(rows: &[u64], slots: usize, i: usize) -> f64
     ensures { λ r. ⌜ r ≡ closeAt (historyOf slots (now (rows .entry))) i ⌝ }
 {
     let base = i * (rows::FIXED + slots);
-    floats::float_of(rows::word_from(rows, base, rows::CLOSE))
+    floats::float_of(words::word_from(rows, base, rows::CLOSE))
 }
 
 // The return from one close to the next; absent where the first is next to nothing.

@@ -27,12 +27,12 @@ pub fn candle_of(bar: &[u64]) -> Candle
     ensures { λ r. ⌜ r ≡ candleOf (now (bar .entry)) ⌝ }
 {
     Candle {
-        time: rows::word_from(bar, 0, 0),
-        open: floats::float_of(rows::word_from(bar, 0, rows::OPEN)),
-        high: floats::float_of(rows::word_from(bar, 0, rows::HIGH)),
-        low: floats::float_of(rows::word_from(bar, 0, rows::LOW)),
-        close: floats::float_of(rows::word_from(bar, 0, rows::CLOSE)),
-        volume: floats::float_of(rows::word_from(bar, 0, rows::VOLUME)),
+        time: words::word_from(bar, 0, 0),
+        open: floats::float_of(words::word_from(bar, 0, rows::OPEN)),
+        high: floats::float_of(words::word_from(bar, 0, rows::HIGH)),
+        low: floats::float_of(words::word_from(bar, 0, rows::LOW)),
+        close: floats::float_of(words::word_from(bar, 0, rows::CLOSE)),
+        volume: floats::float_of(words::word_from(bar, 0, rows::VOLUME)),
     }
 }
 
@@ -40,11 +40,11 @@ pub fn candle_of(bar: &[u64]) -> Candle
 pub fn funding_of(bar: &[u64], slots: usize) -> Funding
     ensures { λ r. ⌜ r ≡ fundingOf slots (now (bar .entry)) ⌝ }
 {
-    if rows::word_from(bar, 7, slots) == 0 {
+    if words::word_from(bar, 7, slots) == 0 {
         return Funding::NotSupplied;
     }
-    let mark = floats::float_of(rows::word_from(bar, 8, slots));
-    let rate = floats::float_of(rows::word_from(bar, 9, slots));
+    let mark = floats::float_of(words::word_from(bar, 8, slots));
+    let rate = floats::float_of(words::word_from(bar, 9, slots));
     Funding::Supplied(mark, rate)
 }
 
@@ -54,7 +54,7 @@ fn slot_fine(bar: &[u64], slots: usize, left: u64, k: usize) -> bool
 {
     if left % 2 == 1 {
         if k < slots {
-            return floats::word_is_finite(rows::word_from(bar, rows::FIXED, k));
+            return floats::word_is_finite(words::word_from(bar, rows::FIXED, k));
         }
         return false;
     }
@@ -65,7 +65,7 @@ fn slot_fine(bar: &[u64], slots: usize, left: u64, k: usize) -> bool
 fn slots_fine(bar: &[u64], slots: usize) -> bool
     ensures { λ r. ⌜ r ≡ slotsFine slots (now (bar .entry)) ⌝ }
 {
-    let mut left = rows::word_from(bar, 0, rows::MASK);
+    let mut left = words::word_from(bar, 0, rows::MASK);
     let mut k: usize = 0;
     while k < 64 {
         if left == 0 {

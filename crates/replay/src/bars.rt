@@ -19,7 +19,7 @@ fn put_point(answer: &mut [u64], equity: &[u64], n: usize) {
     if n < equity.len() / 2 {
         let at = 2 * n;
         let end = at + 2;
-        rows::room::put(answer, 0, &equity[at..end]);
+        words::put(answer, 0, &equity[at..end]);
     }
 }
 
@@ -28,7 +28,7 @@ fn put_trade(answer: &mut [u64], at: usize, trades: &[u64], n: usize) {
     if n < trades.len() / 8 {
         let from = 8 * n;
         let end = from + 8;
-        rows::room::put(answer, at, &trades[from..end]);
+        words::put(answer, at, &trades[from..end]);
     }
 }
 
@@ -138,7 +138,7 @@ fn finish(s: Settings, t: State, rows: &[u64], equity: &[u64], trades: &mut [u64
             let new = next.counts;
             let words = metrics::words_of(metrics);
             let mut answer = [0u64; 17];
-            rows::room::put(&mut answer, 0, &words);
+            words::put(&mut answer, 0, &words);
             if old.trades < new.trades {
                 put_trade(&mut answer, 9, trades, old.trades);
                 return lines::write_row(&answer);

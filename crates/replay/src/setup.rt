@@ -7,21 +7,21 @@ use execution::Terms;
 use judge::Settings;
 
 fn word(words: &[u64], at: usize) -> u64 {
-    rows::word_from(words, at, 0)
+    words::word_from(words, at, 0)
 }
 
 fn float(words: &[u64], at: usize) -> f64 {
-    floats::float_of(rows::word_from(words, at, 0))
+    floats::float_of(words::word_from(words, at, 0))
 }
 
 fn flag(words: &[u64], at: usize) -> bool {
-    rows::word_from(words, at, 0) != 0
+    words::word_from(words, at, 0) != 0
 }
 
 // A level: whether it is there, and its value.
 fn level(words: &[u64], at: usize) -> Optional {
     if flag(words, at) {
-        Optional::Of(floats::float_of(rows::word_from(words, at, 1)))
+        Optional::Of(floats::float_of(words::word_from(words, at, 1)))
     } else {
         Optional::Absent
     }

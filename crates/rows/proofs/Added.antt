@@ -1,33 +1,48 @@
 -- A row more in a room, case by case. Assumes nothing.
 use Prim.Native.Nat.{ℕ, _+_, _-_, _*_, _<_, _≤_}
-use mathlib.Core.Path.{_≡_, refl}
+use mathlib.Core.Path.{_≡_, refl, sym, ap, _∙_}
 use mathlib.Core.List.{List, _++_}
 use native.Mathlib.Omega.{arith}
 use native.Mathlib.Nat.{div-zero, mul-le-mul-right}
-use lib.ListN.{length, take, drop}
-use borrow.Author.Tests.{lt-ltb, le-ltb, le-leb, lt-leb, ne-eqb}
-use Rattle.rows.specs.Room.{over, places, withRow, heldWith}
-use Rattle.rows.proofs.Copy.{moved-and-put}
+use lib.ListN.{length, take, drop, length-drop}
+use lib.Seq.{drop-append-add, drop-drop, length-take-le, take-at}
+use borrow.Author.Tests.{lt-ltb, le-ltb, ne-eqb}
+use Rattle.words.specs.Words.{overwrite, shifted}
+use Rattle.words.specs.Laws.Overwrite.{overwrite-fits, shifted-fits}
+use Rattle.rows.specs.Room.{places, withRow, heldWith}
 use Rattle.rows.proofs.Places.{rows-fit}
 
-module _ (room : List ℕ) (at : ℕ) (words : List ℕ) where
-  pub over-fits : at + length words ≤ length room → over room at words ≡ take at room ++ words ++ drop (at + length words) room
-  unfolding over
-  over-fits h = simp (le-leb _ _ h)
+-- how many words stand from w up to n
+rest-length : (d : List ℕ) (w n : ℕ) → n ≤ length d → length (drop w (take n d)) ≡ n - w
+rest-length d w n k = length-drop w (take n d) ∙ ap (λ (m : ℕ). m - w) (length-take-le n d k)
 
-  pub over-late : length room < at + length words → room ≡ over room at words
-  unfolding over
-  over-late h = simp (lt-leb _ _ h)
+-- a row over the last place after the move to the front
+last : (d r : List ℕ) (n : ℕ) → length r ≤ n → n ≤ length d →
+    (let m : List ℕ = drop (length r) (take n d) ++ drop (n - length r) d in
+    take (n - length r) m ++ r ++ drop (n - length r + length r) m) ≡ drop (length r) (take n d) ++ r ++ drop n d
+last d r n h k =
+    let w : ℕ = length r in
+    let s : List ℕ = drop w (take n d) in
+    let e : length s ≡ n - w = rest-length d w n k in
+    let f : drop (n - w + w) (s ++ drop (n - w) d) ≡ drop n d =
+    ap (λ (m : ℕ). drop (m + w) (s ++ drop (n - w) d)) (sym e) ∙ drop-append-add s (drop (n - w) d) w ∙ drop-drop w (n - w) d ∙ ap (λ (m : ℕ). drop m d) {x = n - w + w} {y = n} (omega arith) in
+    ap (λ (l : List ℕ). l ++ r ++ drop (n - w + w) (s ++ drop (n - w) d)) (take-at s (drop (n - w) d) (n - w) e)
+    ∙ ap (λ (l : List ℕ). s ++ r ++ l) f
+
+moved-and-put : (d m p r : List ℕ) (n : ℕ) → length r ≤ n → n ≤ length d → m ≡ drop (length r) (take n d) ++ drop (n - length r) d
+    → p ≡ take (n - length r) m ++ r ++ drop (n - length r + length r) m → p ≡ drop (length r) (take n d) ++ r ++ drop n d
+moved-and-put d m p r n h k e f =
+    f ∙ ap (λ (l : List ℕ). take (n - length r) l ++ r ++ drop (n - length r + length r) l) e ∙ last d r n h k
 
 module _ (room : List ℕ) (held : ℕ) (row : List ℕ) where
   -- there is a place, and the row ends by the room's end
   pub place-fits : 0 < length row → held < places room row → held * length row + length row ≤ length room
   place-fits s h = let l : (held + 1) * length row ≤ length room = rows-fit (length room) (length row) s (held + 1) (omega arith) in omega arith
 
-  pub added : held < places room row → (p : List ℕ) → p ≡ take (held * length row) room ++ row ++ drop (held * length row + length row) room
+  pub added : 0 < length row → held < places room row → (p : List ℕ) → p ≡ overwrite room (held * length row) row
       → (held + 1 ≡ heldWith room held row) × (p ≡ withRow room held row)
   unfolding withRow heldWith
-  added h p e = simp (lt-ltb _ _ h) (refl, e)
+  added s h p e = simp (lt-ltb _ _ h) (refl, e ∙ overwrite-fits room (held * length row) row (place-fits s h))
 
   -- no place at all
   pub roomless : places room row ≡ 0 → (0 ≡ heldWith room held row) × (room ≡ withRow room held row)
@@ -45,9 +60,14 @@ module _ (room : List ℕ) (held : ℕ) (row : List ℕ) where
   places-hold h = let l : 1 * length row ≤ places room row * length row = mul-le-mul-right (length row) (omega arith) in omega arith
 
   pub moved-up : 0 < length row → places room row ≤ held → (places room row ≡ 0 → ⊥) → (m p : List ℕ)
-      → m ≡ drop (length row) (take (places room row * length row) room) ++ drop (places room row * length row - length row) room
-      → p ≡ take (places room row * length row - length row) m ++ row ++ drop (places room row * length row - length row + length row) m
+      → length m ≡ length room → m ≡ shifted room (length row) (places room row * length row)
+      → p ≡ overwrite m (places room row * length row - length row) row
       → (places room row ≡ heldWith room held row) × (p ≡ withRow room held row)
   unfolding withRow heldWith
-  moved-up s h n m p e f =
-      simp (le-ltb _ _ h, ne-eqb _ _ n) (refl, moved-and-put room m p row (places room row * length row) (places-hold n) (places-fit s) e f)
+  moved-up s h n m p l e f =
+      let end = places room row * length row in
+      let hold = places-hold n in
+      let fit = places-fit s in
+      let last : end - length row + length row ≤ length m = omega arith in
+      simp (le-ltb _ _ h, ne-eqb _ _ n)
+      (refl, moved-and-put room m p row end hold fit (e ∙ shifted-fits room (length row) end hold fit) (f ∙ overwrite-fits m (end - length row) row last))

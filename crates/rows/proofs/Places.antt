@@ -1,9 +1,9 @@
 -- Where rows of one width stand in a list of words. Assumes nothing.
 use Prim.Native.Nat.{ℕ, _+_, _-_, _*_, _/_, _<_, _≤_}
-use mathlib.Core.Path.{_≡_, sym}
+use mathlib.Core.Path.{_≡_}
 use mathlib.Core.List.{List}
 use native.Mathlib.Omega.{arith}
-use lib.ListN.{length, getD, take, drop, length-drop, List·getD-eq-default}
+use lib.ListN.{length, take, drop, length-drop}
 use lib.Seq.{take-all}
 use native.Mathlib.Nat.{le-div-iff-mul-le, div-eq-of-lt, zero-mul, le-refl}
 use Rattle.rows.specs.History.{historyOf, width, lastRows}
@@ -15,10 +15,6 @@ rows-fit n w some i h = le-div-iff-mul-le {k = w} some .0 h
 -- a list shorter than a row holds none
 pub no-rows : (n w : ℕ) → n < w → 0 ≡ n / w
 no-rows n w h = let e : n / w ≡ 0 = div-eq-of-lt h in omega arith
-
--- past the end stands 0
-pub past-end : (l : List ℕ) (n : ℕ) → length l ≤ n → 0 ≡ getD l n 0
-past-end l n h = sym (List·getD-eq-default l 0 h)
 
 module _ (K D held : ℕ) (ws : List ℕ) (count : held ≡ historyOf K ws .rows) where
   -- the rows before the last D lie within the list

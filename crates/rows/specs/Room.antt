@@ -3,12 +3,7 @@ use Prim.Native.Nat.{ℕ, _+_, _*_, _/_}
 use mathlib.Core.Bool.{cond}
 use mathlib.Core.List.{List, _++_}
 use lib.ListN.{length, take, drop}
-use lib.Dec.{ltb, leb, eqb}
-
--- words written over a room's from `at` on; a write that does not fit changes nothing
-unfoldable pub over : List ℕ → ℕ → List ℕ → List ℕ
-over room at words =
-    cond (leb (at + length words) (length room)) (take at room ++ words ++ drop (at + length words) room) room
+use lib.Dec.{ltb, eqb}
 
 -- how many rows of `row`'s width the room has a place for
 abbrev pub places : List ℕ → List ℕ → ℕ

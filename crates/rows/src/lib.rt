@@ -45,20 +45,6 @@ pub fn are_whole(rows: &[u64], slots: usize) -> bool
     n % (FIXED + slots) == 0
 }
 
-// The word j places after `base`, 0 past the end: for a reader that knows where its row begins.
-pub fn word_from(rows: &[u64], base: usize, j: usize) -> u64
-    ensures { λ r. ⌜ r ≡ getD (now (rows .entry)) (base + j) 0 ⌝ }
-{
-    let n = rows.len();
-    if n <= base {
-        return 0;
-    }
-    if n - base <= j {
-        return 0;
-    }
-    rows[base + j]
-}
-
 // The window: the end part of the rows, the last `depth` of them, or all where there are fewer.
 pub fn window(rows: &[u64], slots: usize, depth: usize) -> &[u64]
     ensures { λ r. ⌜ now r ≡ lastRows slots depth (now (rows .entry)) ⌝ }

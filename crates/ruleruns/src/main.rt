@@ -54,17 +54,17 @@ fn read_table(line: &[u8], table: &mut [u8]) -> usize
 
 // The position state of a line's last four words, the first of them at `at`.
 fn state_at(words: &[u64], at: usize) -> PositionState {
-    let known = rows::word_from(words, at, 1);
-    let bar = rows::word_from(words, at, 2);
+    let known = words::word_from(words, at, 1);
+    let bar = words::word_from(words, at, 2);
     let entered = if known == 0 {
         Entered::Never
     } else {
         Entered::Bar(bar)
     };
     PositionState {
-        qty: floats::float_of(rows::word_from(words, at, 0)),
+        qty: floats::float_of(words::word_from(words, at, 0)),
         entered,
-        bars_seen: rows::word_from(words, at, 3),
+        bars_seen: words::word_from(words, at, 3),
     }
 }
 

@@ -30,14 +30,14 @@ pub fn price_at(rows: &[u64], base: usize, selector: u8) -> f64
 fn field_at(rows: &[u64], base: usize, j: usize) -> f64
     ensures { λ r. ⌜ r ≡ floatOf (wordsFrom (now (rows .entry)) base j) ⌝ }
 {
-    floats::float_of(rows::word_from(rows, base, j))
+    floats::float_of(words::word_from(rows, base, j))
 }
 
 // A slot of the row that begins at word `base`, missing where its bit of the mask is 0.
 pub fn slot_at(rows: &[u64], base: usize, slot: u64) -> Value
     ensures { λ r. ⌜ r ≡ slotOf (wordsFrom (now (rows .entry)) base) slot ⌝ }
 {
-    let mask = rows::word_from(rows, base, rows::MASK);
+    let mask = words::word_from(rows, base, rows::MASK);
     if 64 <= slot {
         return Value::Missing;
     }

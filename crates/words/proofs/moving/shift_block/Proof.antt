@@ -2,9 +2,9 @@
 use borrow.Author.Needs.{needs}
 use native.Mathlib.Omega.{arith}
 use Prim.Native.Nat.{_+_}
-use Rattle.rows.proofs.Copy.{block}
-use Rattle.rows.proofs.room.shift_block.Statement.{statement}
-use Rattle.rows.proofs.room.shift_block.Tie as tie
+use Rattle.words.proofs.Copying.{block}
+use Rattle.words.proofs.moving.shift_block.Statement.{statement}
+use Rattle.words.proofs.moving.shift_block.Tie as tie
 
 returns : tie.Need-returns
 returns c =

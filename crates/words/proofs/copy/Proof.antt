@@ -6,9 +6,9 @@ use mathlib.Core.List.{List}
 use Prim.Native.Nat.{ℕ, _+_, _-_, _≤_, _<_}
 use lib.ListN.{length, set, getD, length-set}
 use lib.Seq.{paste, paste-zero}
-use Rattle.rows.proofs.Copy.{turn, done}
-use Rattle.rows.proofs.room.copy.Statement.{statement}
-use Rattle.rows.proofs.room.copy.Tie as tie
+use Rattle.words.proofs.Copying.{turn, done}
+use Rattle.words.proofs.copy.Statement.{statement}
+use Rattle.words.proofs.copy.Tie as tie
 
 abbrev Inv-loop : tie.InvT-loop
 Inv-loop room₀ at words i₀ room i = (i ≤ length words) × (room ≡ paste room₀ at words i) × (length room ≡ length room₀)

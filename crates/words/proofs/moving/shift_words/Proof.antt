@@ -5,9 +5,9 @@ use mathlib.Core.Path.{_≡_, refl, _∙_}
 use Prim.Native.Nat.{_+_, _-_, _≤_}
 use lib.ListN.{length, drop, length-set}
 use lib.Seq.{paste-zero}
-use Rattle.rows.proofs.Copy.{moved, moved-on, one-word}
-use Rattle.rows.proofs.room.shift_words.Statement.{statement}
-use Rattle.rows.proofs.room.shift_words.Tie as tie
+use Rattle.words.proofs.Copying.{moved, moved-on, one-word}
+use Rattle.words.proofs.moving.shift_words.Statement.{statement}
+use Rattle.words.proofs.moving.shift_words.Tie as tie
 
 abbrev Inv-loop : tie.InvT-loop
 Inv-loop room₀ width at count i₀ room i = (i ≤ count) × (room ≡ moved room₀ width at i) × (length room ≡ length room₀)

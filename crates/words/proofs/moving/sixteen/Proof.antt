@@ -1,8 +1,8 @@
 -- Sixteen reads within the words, and `each-take` of what they give. Assumes nothing.
 use borrow.Author.Needs.{needs}
-use Rattle.rows.proofs.Copy.{each-take}
-use Rattle.rows.proofs.room.sixteen.Statement.{statement}
-use Rattle.rows.proofs.room.sixteen.Tie as tie
+use Rattle.words.proofs.Copying.{each-take}
+use Rattle.words.proofs.moving.sixteen.Statement.{statement}
+use Rattle.words.proofs.moving.sixteen.Tie as tie
 
 returns : tie.Need-returns
 returns c =

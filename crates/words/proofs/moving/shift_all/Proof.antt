@@ -2,9 +2,9 @@
 use borrow.Author.Needs.{needs}
 use native.Mathlib.Omega.{arith}
 use Prim.Native.Nat.{_-_, _*_, _/_, _%_}
-use Rattle.rows.proofs.Copy.{moved-all, moved-in-turn}
-use Rattle.rows.proofs.room.shift.Statement.{statement}
-use Rattle.rows.proofs.room.shift.Tie as tie
+use Rattle.words.proofs.Copying.{moved-all, moved-in-turn}
+use Rattle.words.proofs.moving.shift_all.Statement.{statement}
+use Rattle.words.proofs.moving.shift_all.Tie as tie
 
 returns : tie.Need-returns
 returns c =
@@ -22,8 +22,8 @@ returns-2 c =
     moved-in-turn (a .room .now) (p .shift-words .last .0) (q .shift-blocks .last .0) (r .shift-words2 .last .0) (a .width) (a .end) odd (16 * blocks)
     (omega arith) (omega arith) (omega arith) (p .shift-words .ensures) (q .shift-blocks .ensures) (r .shift-words2 .ensures)
 
-pub shift-spec : {M : Type 1} → statement M
-shift-spec =
+pub shift-all-spec : {M : Type 1} → statement M
+shift-all-spec =
     tie.close
     (tie.spec
     (λ c. search needs)
