@@ -5,18 +5,19 @@ use mathlib.Core.List.{List}
 use Rattle.words.specs.Words.{overwrite}
 use Rattle.metrics.specs.declared.Metrics.{Metrics}
 use Rattle.metrics.specs.Figures.{wordsOf}
-use Rattle.judge.specs.declared.Settings.{Settings}
-use Rattle.judge.specs.declared.State.{State}
-use Rattle.judge.specs.declared.Verdict.{Verdict}
-use Rattle.judge.specs.declared.Verdict.the-variants.{Fine, Bad}
-use Rattle.judge.specs.Rooms.{Rooms, roomJudged}
+use Rattle.records.specs.declared.settings.Settings.{Settings}
+use Rattle.records.specs.declared.state.State.{State}
+use Rattle.refusals.specs.declared.Verdict.{Verdict}
+use Rattle.refusals.specs.declared.Verdict.the-variants.{Fine, Bad}
+use Rattle.records.specs.Lent.{Rooms}
+use Rattle.refusals.specs.Rooms.{roomJudged}
 use Rattle.engine.specs.declared.Finished.{Finished}
 use Rattle.engine.specs.declared.Finished.the-variants.{Refused, Done}
 use Rattle.engine.specs.Step.{Is}
 use Rattle.engine.specs.Finish.{finishOf}
 use Rattle.capi.specs.Words.{answerWord, wordsJudged, metricsJudged}
-use Rattle.capi.specs.Settings.{settingsOf}
-use Rattle.capi.specs.State.{stateOf, stateWords}
+use Rattle.records.specs.Settings.{settingsOf}
+use Rattle.records.specs.StateWords.{stateOf, stateWords}
 use Rattle.capi.specs.Bars.{lentJudged}
 use Rattle.capi.specs.Finish.{finishRefused, finishBy, finishLent, finishCall}
 

@@ -2,16 +2,17 @@
 use Prim.Native.Nat.{ℕ}
 use mathlib.Core.List.{List}
 use Rattle.words.specs.Words.{overwrite}
-use Rattle.judge.specs.declared.Verdict.{Verdict}
-use Rattle.judge.specs.declared.Verdict.the-variants.{Fine, Bad}
-use Rattle.judge.specs.Lists.{Lists}
-use Rattle.judge.specs.Rooms.{Rooms, roomJudged}
+use Rattle.refusals.specs.declared.Verdict.{Verdict}
+use Rattle.refusals.specs.declared.Verdict.the-variants.{Fine, Bad}
+use Rattle.records.specs.Lent.{Lists}
+use Rattle.records.specs.Lent.{Rooms}
+use Rattle.refusals.specs.Rooms.{roomJudged}
 use Rattle.engine.specs.declared.Answer.{Answer}
 use Rattle.engine.specs.declared.Answer.the-variants.{Refused, Done}
 use Rattle.engine.specs.Step.{With, stepOf}
 use Rattle.capi.specs.Words.{answerWord, wordsJudged}
-use Rattle.capi.specs.Settings.{settingsOf}
-use Rattle.capi.specs.State.{stateOf, stateWords}
+use Rattle.records.specs.Settings.{settingsOf}
+use Rattle.records.specs.StateWords.{stateOf, stateWords}
 
 -- "Under one number the lowest place is given": the room of rows is number 0, and so comes before those that only a C call has.
 -- A setting past the end of the words reads as 0.

@@ -3,16 +3,16 @@ use Prim.Native.Nat.{ℕ}
 use mathlib.Core.List.{List}
 use Rattle.words.specs.Words.{overwrite}
 use Rattle.metrics.specs.Figures.{wordsOf}
-use Rattle.judge.specs.declared.Verdict.{Verdict}
-use Rattle.judge.specs.declared.Verdict.the-variants.{Fine, Bad}
-use Rattle.judge.specs.Rooms.{Rooms}
+use Rattle.refusals.specs.declared.Verdict.{Verdict}
+use Rattle.refusals.specs.declared.Verdict.the-variants.{Fine, Bad}
+use Rattle.records.specs.Lent.{Rooms}
 use Rattle.engine.specs.declared.Finished.{Finished}
 use Rattle.engine.specs.declared.Finished.the-variants.{Refused, Done}
 use Rattle.engine.specs.Step.{With}
 use Rattle.engine.specs.Finish.{finishOf}
 use Rattle.capi.specs.Words.{answerWord, metricsJudged}
-use Rattle.capi.specs.Settings.{settingsOf}
-use Rattle.capi.specs.State.{stateOf, stateWords}
+use Rattle.records.specs.Settings.{settingsOf}
+use Rattle.records.specs.StateWords.{stateOf, stateWords}
 use Rattle.capi.specs.Bars.{lentJudged}
 
 -- the answer, the state's words, the room of trades and that of the metrics as they are left

@@ -2,12 +2,12 @@
 use Prim.Native.Nat.{ℕ}
 use mathlib.Core.List.{List}
 use Rattle.words.specs.Words.{overwrite}
-use Rattle.judge.specs.declared.Verdict.{Verdict}
-use Rattle.judge.specs.declared.Verdict.the-variants.{Fine, Bad}
-use Rattle.judge.specs.State.{freshState}
+use Rattle.refusals.specs.declared.Verdict.{Verdict}
+use Rattle.refusals.specs.declared.Verdict.the-variants.{Fine, Bad}
+use Rattle.records.specs.State.{freshState}
 use Rattle.capi.specs.Words.{answerWord, wordsJudged}
-use Rattle.capi.specs.Settings.{settingsOf}
-use Rattle.capi.specs.State.{stateWords}
+use Rattle.records.specs.Settings.{settingsOf}
+use Rattle.records.specs.StateWords.{stateWords}
 
 -- the answer, and the room of the state as it is left
 pub record FreshCall : Type 0 where

@@ -14,7 +14,7 @@ use Rattle.steps.specs.declared.RunAnswer.{RunAnswer}
 use Rattle.steps.specs.declared.RunAnswer.the-variants.{Runs, Refuses as RunRefuses}
 use Rattle.steps.specs.Running.{runs}
 use Rattle.capi.specs.Words.{answerWord, bitOf}
-use Rattle.capi.specs.State.{enteredOf}
+use Rattle.records.specs.StateWords.{enteredOf}
 
 -- a table has four trees; that of a higher number is absent, as each call says
 abbrev pub trees : ℕ

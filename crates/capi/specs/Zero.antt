@@ -4,22 +4,24 @@ use mathlib.Core.Path.{_≡_, refl}
 use mathlib.Core.Bool.{Bool, true, false}
 use mathlib.Core.List.{List}
 use native.Mathlib.Omega.{arith}
-use Rattle.judge.specs.declared.State.{State}
-use Rattle.judge.specs.declared.Settings.{Settings}
-use Rattle.judge.specs.declared.Verdict.{Verdict}
-use Rattle.judge.specs.declared.Verdict.the-variants.{Fine, Bad}
-use Rattle.judge.specs.Verdict.{checked}
-use Rattle.judge.specs.Settings.{depthJudged, sizingJudged, slippageJudged, riskJudged, termsJudged, settingsJudged}
-use Rattle.judge.specs.Rooms.{Rooms, roomJudged, mostJudged, heldJudged, stateJudged, placeJudged}
-use Rattle.judge.specs.Bar.{candleJudged, barJudged}
-use Rattle.judge.specs.Lists.{Lists, formJudged, listsJudged}
-use Rattle.judge.specs.Judgement.{stepJudged}
+use Rattle.records.specs.declared.state.State.{State}
+use Rattle.records.specs.declared.settings.Settings.{Settings}
+use Rattle.refusals.specs.declared.Verdict.{Verdict}
+use Rattle.refusals.specs.declared.Verdict.the-variants.{Fine, Bad}
+use Rattle.refusals.specs.Verdict.{checked}
+use Rattle.refusals.specs.Settings.{depthJudged, sizingJudged, slippageJudged, riskJudged, termsJudged, settingsJudged}
+use Rattle.records.specs.Lent.{Rooms}
+use Rattle.refusals.specs.Rooms.{roomJudged, mostJudged, heldJudged, stateJudged, placeJudged}
+use Rattle.refusals.specs.Bar.{candleJudged, barJudged}
+use Rattle.records.specs.Lent.{Lists}
+use Rattle.refusals.specs.Lists.{formJudged, listsJudged}
+use Rattle.refusals.specs.Judgement.{stepJudged}
 use Rattle.steps.specs.declared.Formed.{Formed}
 use Rattle.steps.specs.declared.Formed.the-variants.{Well, Bad as BadStep}
 use Rattle.engine.specs.Step.{With, stepped, answered, stepOf}
 use Rattle.capi.specs.Words.{answerWord, wordsJudged}
-use Rattle.capi.specs.Settings.{settingsOf}
-use Rattle.capi.specs.State.{stateOf}
+use Rattle.records.specs.Settings.{settingsOf}
+use Rattle.records.specs.StateWords.{stateOf}
 use Rattle.capi.specs.Bars.{lentJudged, stepRefused, stepBy, stepLent, stepCall}
 
 -- the numbers of a verdict's refusals

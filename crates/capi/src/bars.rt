@@ -11,7 +11,7 @@ use crate::words::judge_metrics;
 use crate::words::judge_words;
 use engine::Answer;
 use engine::Finished;
-use judge::Verdict;
+use refusals::Verdict;
 
 // One bar.
 #[no_mangle]
@@ -30,7 +30,11 @@ pub extern "C" fn ysh_step<'a>(
     ensures { λ r. ⌜ stepCall (now (settings .entry)) (now (state .entry)) (now (bar .entry)) (record { rows = now (rows .entry); equity = now (equity .entry); trades = now (trades .entry) }) (record { entry = now (entry .entry); «exit» = now («exit» .entry); «short_entry» = now («short_entry» .entry); «short_exit» = now («short_exit» .entry) }) ≡ record { answer = r; state = now (state .exit); rooms = record { rows = now (rows .exit); equity = now (equity .exit); trades = now (trades .exit) } } ⌝ }
 {
     let chosen = settings_of(settings);
-    let lent = judge::rooms::judge_room(chosen, rows, judge_words(settings, state, Verdict::Fine));
+    let lent = refusals::rooms::judge_room(
+        chosen,
+        rows,
+        judge_words(settings, state, Verdict::Fine),
+    );
     if let Verdict::Bad(number, place) = lent {
         return answer_word(number, place);
     }
@@ -68,7 +72,7 @@ pub extern "C" fn ysh_finish(
     ensures { λ r. ⌜ finishCall (now (settings .entry)) (now (state .entry)) (record { rows = now (rows .entry); equity = now (equity .entry); trades = now (trades .entry) }) (now (metrics .entry)) ≡ record { answer = r; state = now (state .exit); trades = now (trades .exit); metrics = now (metrics .exit) } ⌝ }
 {
     let chosen = settings_of(settings);
-    let lent = judge::rooms::judge_room(
+    let lent = refusals::rooms::judge_room(
         chosen,
         rows,
         judge_words(settings, state, judge_metrics(metrics)),

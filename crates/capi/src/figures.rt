@@ -7,9 +7,9 @@ ghost use Rattle.floats.specs.Sqrt.{sqrt};
 ghost use Rattle.capi.specs.Figures.{metricsCall};
 use crate::words::answer_word;
 use crate::words::judge_metrics;
-use judge::Verdict;
 use metrics::Answer;
 use metrics::Metrics;
+use refusals::Verdict;
 
 // Writes the nine metrics over the first words of a room; nothing where it is shorter.
 pub(crate) fn put_metrics(room: &mut [u64], m: Metrics)

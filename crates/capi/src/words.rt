@@ -2,7 +2,7 @@
 ghost use mathlib.Core.Path.{_≡_};
 ghost use lib.ListN.{getD};
 ghost use Rattle.capi.specs.Words.{answerWord, bitOf, wordsJudged, metricsJudged};
-use judge::Verdict;
+use refusals::Verdict;
 
 // Words of the settings, of a state and of the metrics.
 pub const SETTING_WORDS: usize = 21;
@@ -48,8 +48,8 @@ pub(crate) fn bit_of(b: bool) -> u64
 pub(crate) fn judge_words(settings: &[u64], state: &[u64], rest: Verdict) -> Verdict
     ensures { λ r. ⌜ r ≡ wordsJudged (now (settings .entry)) (now (state .entry)) rest ⌝ }
 {
-    let state_fits = judge::check(STATE_WORDS <= state.len(), SHORT_ROOM, STATE_ROOM, rest);
-    judge::check(
+    let state_fits = refusals::check(STATE_WORDS <= state.len(), SHORT_ROOM, STATE_ROOM, rest);
+    refusals::check(
         SETTING_WORDS <= settings.len(),
         SHORT_ROOM,
         SETTINGS_ROOM,
@@ -61,7 +61,7 @@ pub(crate) fn judge_words(settings: &[u64], state: &[u64], rest: Verdict) -> Ver
 pub(crate) fn judge_metrics(metrics: &[u64]) -> Verdict
     ensures { λ r. ⌜ r ≡ metricsJudged (now (metrics .entry)) ⌝ }
 {
-    judge::check(
+    refusals::check(
         METRIC_WORDS <= metrics.len(),
         SHORT_ROOM,
         METRICS_ROOM,

@@ -11,9 +11,9 @@ use execution::Risk;
 use execution::Sizing;
 use execution::Slippage;
 use execution::Terms;
-use judge::Settings;
-use judge::State;
 use metrics::Metrics;
+use records::settings::Settings;
+use records::state::State;
 use rules::Tree;
 use steps::DepthAnswer;
 use steps::Translated;
@@ -251,7 +251,7 @@ fn run_day<'a>(
     trades: &mut [u64],
 ) -> State {
     let mut day = Day {
-        state: judge::fresh(settings()),
+        state: refusals::fresh(settings()),
         market: bars::opening(),
     };
     let mut minute: u64 = 0;

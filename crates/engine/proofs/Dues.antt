@@ -6,10 +6,10 @@ use lib.Dec.{ltb}
 use Rattle.rows.specs.History.{History}
 use Rattle.portfolio.specs.declared.Candle.{Candle}
 use Rattle.execution.specs.declared.Side.the-variants.{Long, Short}
-use Rattle.judge.specs.declared.Order.{Order}
-use Rattle.judge.specs.declared.Order.the-variants.{Idle, EnterLong, EnterShort, Exit as ExitOrder}
-use Rattle.judge.specs.declared.Position.{Position}
-use Rattle.judge.specs.declared.Settings.{Settings}
+use Rattle.records.specs.declared.state.Order.{Order}
+use Rattle.records.specs.declared.state.Order.the-variants.{Idle, EnterLong, EnterShort, Exit as ExitOrder}
+use Rattle.records.specs.declared.state.Position.{Position}
+use Rattle.records.specs.declared.settings.Settings.{Settings}
 use Rattle.engine.specs.declared.account.Due.{Due}
 use Rattle.engine.specs.declared.account.Due.the-variants.{Waits, Enters, Leaves}
 use Rattle.engine.specs.declared.account.Filled.{Filled}

@@ -5,16 +5,16 @@ use mathlib.Core.List.{List}
 use Rattle.rows.specs.History.{historyOf}
 use Rattle.rows.specs.Room.{withRow, heldWith}
 use Rattle.portfolio.specs.declared.Candle.{Candle}
-use Rattle.judge.specs.declared.Order.{Order}
-use Rattle.judge.specs.declared.Position.{Position}
-use Rattle.judge.specs.declared.Settings.{Settings}
-use Rattle.judge.specs.declared.State.{State}
-use Rattle.judge.specs.declared.Verdict.the-variants.{Fine, Bad}
-use Rattle.judge.specs.Bar.{candleOf}
-use Rattle.judge.specs.Fine.{step-fine}
-use Rattle.judge.specs.Judgement.{stepJudged}
-use Rattle.judge.specs.Lists.{Lists}
-use Rattle.judge.specs.Rooms.{Rooms}
+use Rattle.records.specs.declared.state.Order.{Order}
+use Rattle.records.specs.declared.state.Position.{Position}
+use Rattle.records.specs.declared.settings.Settings.{Settings}
+use Rattle.records.specs.declared.state.State.{State}
+use Rattle.refusals.specs.declared.Verdict.the-variants.{Fine, Bad}
+use Rattle.records.specs.Bar.{candleOf}
+use Rattle.refusals.specs.Fine.{step-fine}
+use Rattle.refusals.specs.Judgement.{stepJudged}
+use Rattle.records.specs.Lent.{Lists}
+use Rattle.records.specs.Lent.{Rooms}
 use Rattle.engine.specs.declared.account.Filled.{Filled}
 use Rattle.engine.specs.declared.account.Left.{Left}
 use Rattle.engine.specs.declared.Answer.{Answer}

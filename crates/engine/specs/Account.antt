@@ -19,12 +19,12 @@ use Rattle.execution.specs.declared.Side.the-variants.{Long, Short}
 use Rattle.execution.specs.Costs.{chargeFunding}
 use Rattle.execution.specs.Fills.{executeEntry, executeExit}
 use Rattle.execution.specs.Intrabar.{extremeWith, applyIntrabarExits}
-use Rattle.judge.specs.declared.Order.{Order}
-use Rattle.judge.specs.declared.Order.the-variants.{Idle, EnterLong, EnterShort, Exit as ExitOrder}
-use Rattle.judge.specs.declared.Position.{Position}
-use Rattle.judge.specs.declared.Settings.{Settings}
-use Rattle.judge.specs.Bar.{fundingOf}
-use Rattle.judge.specs.Rooms.{pointPlaces, tradePlaces}
+use Rattle.records.specs.declared.state.Order.{Order}
+use Rattle.records.specs.declared.state.Order.the-variants.{Idle, EnterLong, EnterShort, Exit as ExitOrder}
+use Rattle.records.specs.declared.state.Position.{Position}
+use Rattle.records.specs.declared.settings.Settings.{Settings}
+use Rattle.records.specs.Bar.{fundingOf}
+use Rattle.records.specs.Lent.{pointPlaces, tradePlaces}
 use Rattle.engine.specs.declared.account.Due.{Due}
 use Rattle.engine.specs.declared.account.Due.the-variants.{Waits, Enters, Leaves}
 use Rattle.engine.specs.declared.account.Filled.{Filled}

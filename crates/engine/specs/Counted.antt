@@ -5,15 +5,15 @@ use mathlib.Core.List.{List, [], _∷_}
 use native.Mathlib.Omega.{arith}
 use lib.ListN.{length}
 use Rattle.rows.specs.History.{historyOf}
-use Rattle.judge.specs.declared.Settings.{Settings}
-use Rattle.judge.specs.declared.State.{State}
-use Rattle.judge.specs.declared.Verdict.{Verdict}
-use Rattle.judge.specs.declared.Verdict.the-variants.{Fine, Bad}
-use Rattle.judge.specs.Bar.{candleOf}
-use Rattle.judge.specs.Judgement.{stepJudged}
-use Rattle.judge.specs.Lists.{Lists}
-use Rattle.judge.specs.Rooms.{Rooms, rowPlaces, pointPlaces, tradePlaces}
-use Rattle.judge.specs.State.{freshState}
+use Rattle.records.specs.declared.settings.Settings.{Settings}
+use Rattle.records.specs.declared.state.State.{State}
+use Rattle.refusals.specs.declared.Verdict.{Verdict}
+use Rattle.refusals.specs.declared.Verdict.the-variants.{Fine, Bad}
+use Rattle.records.specs.Bar.{candleOf}
+use Rattle.refusals.specs.Judgement.{stepJudged}
+use Rattle.records.specs.Lent.{Lists}
+use Rattle.records.specs.Lent.{Rooms, rowPlaces, pointPlaces, tradePlaces}
+use Rattle.records.specs.State.{freshState}
 use Rattle.engine.specs.Account.{filled, left, charged, booked}
 use Rattle.engine.specs.Kept.{row-fits, booked-fits, marked-fits}
 use Rattle.engine.specs.Record.{heldRows}

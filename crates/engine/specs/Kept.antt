@@ -17,8 +17,8 @@ use Rattle.portfolio.specs.declared.Candle.{Candle}
 use Rattle.floats.specs.Floats.{wordOf}
 use Rattle.portfolio.specs.Portfolio.{equity}
 use Rattle.portfolio.specs.Trade.{tradeWords}
-use Rattle.judge.specs.declared.Position.{Position}
-use Rattle.judge.specs.Rooms.{pointPlaces, tradePlaces}
+use Rattle.records.specs.declared.state.Position.{Position}
+use Rattle.records.specs.Lent.{pointPlaces, tradePlaces}
 use Rattle.engine.specs.Account.{Held, booked, marked}
 use Rattle.engine.specs.Record.{listed, rowWord, rowOf}
 

@@ -17,10 +17,10 @@ use Rattle.steps.specs.Bytes.{bytesOf}
 use Rattle.steps.specs.Fields.{Bytes}
 use Rattle.steps.specs.Translating.{stepsOf}
 use Rattle.steps.specs.Window.{window-steps}
-use Rattle.judge.specs.declared.Order.the-variants.{Idle}
-use Rattle.judge.specs.declared.Position.{Position}
-use Rattle.judge.specs.declared.Settings.{Settings}
-use Rattle.judge.specs.Lists.{Lists}
+use Rattle.records.specs.declared.state.Order.the-variants.{Idle}
+use Rattle.records.specs.declared.state.Position.{Position}
+use Rattle.records.specs.declared.settings.Settings.{Settings}
+use Rattle.records.specs.Lent.{Lists}
 use Rattle.engine.specs.Decide.{says, stateAt, Answers, answersOf, ordered, decided}
 
 -- a list's answer over the last D rows, any rows and any position state, is what the condition means over all

@@ -4,18 +4,18 @@ use Prim.Native.Nat.{ℕ, _<_}
 use mathlib.Core.Path.{_≡_, refl, sym, _∙_}
 use mathlib.Core.List.{List, _++_}
 use Rattle.rows.specs.History.{historyOf, lastRows}
-use Rattle.judge.specs.declared.Order.{Order}
-use Rattle.judge.specs.declared.Order.the-variants.{Idle, EnterLong, EnterShort, Exit}
-use Rattle.judge.specs.declared.Position.{Position}
-use Rattle.judge.specs.declared.Settings.{Settings}
-use Rattle.judge.specs.declared.State.{State}
-use Rattle.judge.specs.declared.Verdict.the-variants.{Fine}
-use Rattle.judge.specs.Bar.{candleOf}
-use Rattle.judge.specs.Fine.{StepFine, step-fine}
-use Rattle.judge.specs.Judgement.{stepJudged}
-use Rattle.judge.specs.Lists.{Lists}
-use Rattle.judge.specs.Rooms.{Rooms}
-use Rattle.judge.specs.Settings.{lookback}
+use Rattle.records.specs.declared.state.Order.{Order}
+use Rattle.records.specs.declared.state.Order.the-variants.{Idle, EnterLong, EnterShort, Exit}
+use Rattle.records.specs.declared.state.Position.{Position}
+use Rattle.records.specs.declared.settings.Settings.{Settings}
+use Rattle.records.specs.declared.state.State.{State}
+use Rattle.refusals.specs.declared.Verdict.the-variants.{Fine}
+use Rattle.records.specs.Bar.{candleOf}
+use Rattle.refusals.specs.Fine.{StepFine, step-fine}
+use Rattle.refusals.specs.Judgement.{stepJudged}
+use Rattle.records.specs.Lent.{Lists}
+use Rattle.records.specs.Lent.{Rooms}
+use Rattle.refusals.specs.Settings.{lookback}
 use Rattle.engine.specs.declared.account.Filled.{Filled}
 use Rattle.engine.specs.Account.{filled}
 use Rattle.engine.specs.Decide.{decided}

@@ -18,14 +18,14 @@ use Rattle.execution.specs.declared.Exit.the-variants.{NoExit, Exited}
 use Rattle.execution.specs.Costs.{closed}
 use Rattle.execution.specs.Fills.{executeExit}
 use Rattle.execution.specs.Intrabar.{applyIntrabarExits}
-use Rattle.judge.specs.declared.Order.{Order}
-use Rattle.judge.specs.declared.Order.the-variants.{Idle, EnterLong, EnterShort, Exit as ExitOrder}
-use Rattle.judge.specs.declared.Position.{Position}
-use Rattle.judge.specs.declared.Settings.{Settings}
-use Rattle.judge.specs.declared.State.{State}
-use Rattle.judge.specs.Bar.{candleOf}
-use Rattle.judge.specs.Lists.{Lists}
-use Rattle.judge.specs.Rooms.{Rooms, tradePlaces}
+use Rattle.records.specs.declared.state.Order.{Order}
+use Rattle.records.specs.declared.state.Order.the-variants.{Idle, EnterLong, EnterShort, Exit as ExitOrder}
+use Rattle.records.specs.declared.state.Position.{Position}
+use Rattle.records.specs.declared.settings.Settings.{Settings}
+use Rattle.records.specs.declared.state.State.{State}
+use Rattle.records.specs.Bar.{candleOf}
+use Rattle.records.specs.Lent.{Lists}
+use Rattle.records.specs.Lent.{Rooms, tradePlaces}
 use Rattle.engine.specs.declared.account.Filled.{Filled}
 use Rattle.engine.specs.Account.{Held, leaving, entered, filled, left, booked}
 use Rattle.engine.specs.Account as Account

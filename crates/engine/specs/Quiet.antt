@@ -7,12 +7,12 @@ use Rattle.rows.specs.History.{historyOf, lastRows}
 use Rattle.portfolio.specs.Portfolio.{inPosition}
 use Rattle.execution.specs.Costs.{chargeFunding}
 use Rattle.execution.specs.Intrabar.{extremeWith, applyIntrabarExits}
-use Rattle.judge.specs.declared.Order.the-variants.{Idle}
-use Rattle.judge.specs.declared.Position.{Position}
-use Rattle.judge.specs.declared.Settings.{Settings}
-use Rattle.judge.specs.declared.State.{State}
-use Rattle.judge.specs.Lists.{Lists}
-use Rattle.judge.specs.Rooms.{Rooms}
+use Rattle.records.specs.declared.state.Order.the-variants.{Idle}
+use Rattle.records.specs.declared.state.Position.{Position}
+use Rattle.records.specs.declared.settings.Settings.{Settings}
+use Rattle.records.specs.declared.state.State.{State}
+use Rattle.records.specs.Lent.{Lists}
+use Rattle.records.specs.Lent.{Rooms}
 use Rattle.engine.specs.Account.{leaving, filled, left, charged, booked}
 use Rattle.engine.specs.Decide.{says, stateAt, answersOf, ordered, openingOrder, decided}
 use Rattle.engine.specs.Step.{stepped}

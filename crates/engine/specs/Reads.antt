@@ -16,11 +16,11 @@ use Rattle.execution.specs.declared.Terms.{Terms}
 use Rattle.execution.specs.Fills.{volatilityFor, executeEntry}
 use Rattle.execution.specs.Volatility.{realizedVol}
 use Rattle.execution.specs.VolatilityWindow.{same-volatility}
-use Rattle.judge.specs.declared.Order.{Order}
-use Rattle.judge.specs.declared.Order.the-variants.{Idle, EnterLong, EnterShort, Exit}
-use Rattle.judge.specs.declared.Position.{Position}
-use Rattle.judge.specs.declared.Settings.{Settings}
-use Rattle.judge.specs.Settings.{lookback}
+use Rattle.records.specs.declared.state.Order.{Order}
+use Rattle.records.specs.declared.state.Order.the-variants.{Idle, EnterLong, EnterShort, Exit}
+use Rattle.records.specs.declared.state.Position.{Position}
+use Rattle.records.specs.declared.settings.Settings.{Settings}
+use Rattle.refusals.specs.Settings.{lookback}
 use Rattle.engine.specs.Account.{entered, filled}
 
 module _ (K D : ℕ) (rows : List ℕ) where

@@ -9,16 +9,18 @@ use native.Mathlib.Omega.{arith}
 use borrow.Author.Tests.{ltb-false, leb-true, le-leb}
 use lib.Dec.{ltb, leb}
 use Rattle.rows.specs.Room.{places, heldWith}
-use Rattle.judge.specs.declared.Counts.{Counts}
-use Rattle.judge.specs.declared.Settings.{Settings}
-use Rattle.judge.specs.declared.State.{State}
-use Rattle.judge.specs.declared.Verdict.{Verdict}
-use Rattle.judge.specs.declared.Verdict.the-variants.{Fine, Bad}
-use Rattle.judge.specs.Judgement.{stepJudged, finishJudged}
-use Rattle.judge.specs.Lists.{Lists}
-use Rattle.judge.specs.Rooms.{Rooms, rowPlaces, most, roomJudged, mostJudged, heldJudged, stateJudged, placeJudged, toClose, closeJudged}
-use Rattle.judge.specs.State.{freshState}
-use Rattle.judge.specs.Verdict.{checked}
+use Rattle.records.specs.declared.state.Counts.{Counts}
+use Rattle.records.specs.declared.settings.Settings.{Settings}
+use Rattle.records.specs.declared.state.State.{State}
+use Rattle.refusals.specs.declared.Verdict.{Verdict}
+use Rattle.refusals.specs.declared.Verdict.the-variants.{Fine, Bad}
+use Rattle.refusals.specs.Judgement.{stepJudged, finishJudged}
+use Rattle.records.specs.Lent.{Lists}
+use Rattle.words.specs.Limits.{mostCount}
+use Rattle.records.specs.Lent.{Rooms, rowPlaces}
+use Rattle.refusals.specs.Rooms.{roomJudged, mostJudged, heldJudged, stateJudged, placeJudged, toClose, closeJudged}
+use Rattle.records.specs.State.{freshState}
+use Rattle.refusals.specs.Verdict.{checked}
 use Rattle.engine.specs.Counted.{goOn, runOver}
 use Rattle.engine.specs.Finish.{lastExit, endState, ended}
 use Rattle.engine.specs.Kept.{row-fits}
@@ -34,7 +36,7 @@ pub record Roomy (s : Settings) (t : State) (m : Rooms) : Type 0 where
 
 -- ---- a bar
 
--- a bar adds a row at most
+-- a bar adds a row at mostCount
 row-more : (room : List ℕ) (held : ℕ) (row : List ℕ) → heldWith room held row ≤ held + 1
 unfolding heldWith
 row-more room held row = go (ltb held (places room row)) refl
@@ -64,9 +66,9 @@ passing false b number place rest h = refl
 
 -- rows that are no more than the bars seen exceed 4,294,967,295 only where those do
 most-judged : (n : Counts) (rest : Verdict) → n .«rows_held» ≤ n .«bars_seen» → mostJudged n rest
-    ≡ checked (leb (n .«bars_seen») most) 13 0 (checked (leb (n .«equity_points») most) 13 0 (checked (leb (n .trades) most) 13 0 rest))
+    ≡ checked (leb (n .«bars_seen») mostCount) 13 0 (checked (leb (n .«equity_points») mostCount) 13 0 (checked (leb (n .trades) mostCount) 13 0 rest))
 unfolding mostJudged
-most-judged n rest h = passing _ _ 13 0 _ (λ e. le-leb (n .«rows_held») most (omega (arith, leb-true (n .«bars_seen») most e)))
+most-judged n rest h = passing _ _ 13 0 _ (λ e. le-leb (n .«rows_held») mostCount (omega (arith, leb-true (n .«bars_seen») mostCount e)))
 
 -- two boxes that are near refuse the same bars, with the same number and place
 pub judged-near : (s : Settings) (t t′ : State) (bar : List ℕ) (m m′ : Rooms) (ls : Lists) → Roomy s t m → Roomy s t′ m′

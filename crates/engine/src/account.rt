@@ -13,11 +13,11 @@ use execution::Side;
 use execution::costs;
 use execution::fills;
 use execution::intrabar;
-use judge::Order;
-use judge::Position;
-use judge::Settings;
 use portfolio::Candle;
 use portfolio::SIGNAL;
+use records::settings::Settings;
+use records::state::Order;
+use records::state::Position;
 use rules::Entered;
 
 // The fill's order and position, and the trade where it closed one.
@@ -196,7 +196,7 @@ pub(crate) fn charge_funding(s: Settings, p: Position, bar: &[u64]) -> Position
 {
     let account = p.portfolio;
     let entered = p.entered;
-    let funding = judge::bar::funding_of(bar, s.slots);
+    let funding = records::bar::funding_of(bar, s.slots);
     Position {
         portfolio: costs::charge_funding(s.funding, funding, account),
         entered,
@@ -211,10 +211,10 @@ pub(crate) fn book(trades: &mut [u64], n: usize, exit: Exit) -> usize
     match exit {
         Exit::NoExit => n,
         Exit::Exited(c) => {
-            if n < trades.len() / judge::rooms::TRADE_WORDS {
+            if n < trades.len() / words::limits::TRADE_WORDS {
                 let trade = c.trade;
                 let words = trade.words();
-                words::put(trades, n * judge::rooms::TRADE_WORDS, &words);
+                words::put(trades, n * words::limits::TRADE_WORDS, &words);
                 return n + 1;
             }
             n
@@ -226,10 +226,10 @@ pub(crate) fn book(trades: &mut [u64], n: usize, exit: Exit) -> usize
 pub(crate) fn mark_equity(equity: &mut [u64], n: usize, candle: Candle, p: Position) -> usize
     ensures { λ r. ⌜ (r ≡ marked (now (equity .entry)) n candle p .count) × (now (equity .exit) ≡ marked (now (equity .entry)) n candle p .room) ⌝ }
 {
-    if n < equity.len() / judge::rooms::POINT_WORDS {
+    if n < equity.len() / words::limits::POINT_WORDS {
         let account = p.portfolio;
         let words = [candle.time, floats::word_of(account.equity(candle.close))];
-        words::put(equity, n * judge::rooms::POINT_WORDS, &words);
+        words::put(equity, n * words::limits::POINT_WORDS, &words);
         return n + 1;
     }
     n

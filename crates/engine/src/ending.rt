@@ -6,11 +6,11 @@ use crate::account;
 use crate::record;
 use execution::Exit;
 use execution::costs;
-use judge::Counts;
-use judge::Settings;
-use judge::State;
 use metrics::Metrics;
 use portfolio::END;
+use records::settings::Settings;
+use records::state::Counts;
+use records::state::State;
 
 // The state and the figures of a run that has ended.
 pub struct Ended {
@@ -22,7 +22,7 @@ pub struct Ended {
 fn last_exit(s: Settings, t: State) -> Exit
     ensures { λ r. ⌜ r ≡ lastExit s t ⌝ }
 {
-    if judge::rooms::to_close(t) {
+    if refusals::rooms::to_close(t) {
         let terms = s.terms;
         let position = t.position;
         let account = position.portfolio;
@@ -58,8 +58,8 @@ fn end_state(t: State, exit: Exit, trades: usize) -> State
 fn measure(s: Settings, equity: &[u64], points: usize, trades: &[u64], count: usize) -> Metrics
     ensures { λ r. ⌜ r ≡ measured s (now (equity .entry)) points (now (trades .entry)) count ⌝ }
 {
-    let marked = record::first_records(equity, points, judge::rooms::POINT_WORDS);
-    let closed = record::first_records(trades, count, judge::rooms::TRADE_WORDS);
+    let marked = record::first_records(equity, points, words::limits::POINT_WORDS);
+    let closed = record::first_records(trades, count, words::limits::TRADE_WORDS);
     metrics::metrics_of(s.capital, marked, closed)
 }
 

@@ -7,12 +7,12 @@ mod record;
 
 ghost use Rattle.engine.specs.Finish.{finishOf};
 ghost use Rattle.engine.specs.Step.{Ready, Is, stepped, stepOf};
-use judge::Counts;
-use judge::Last;
-use judge::Settings;
-use judge::State;
-use judge::Verdict;
 use metrics::Metrics;
+use records::settings::Settings;
+use records::state::Counts;
+use records::state::Last;
+use records::state::State;
+use refusals::Verdict;
 
 // What a step gives: the new state, or a refusal's number and place with the state that was given.
 pub enum Answer {
@@ -46,7 +46,7 @@ fn advance<'a>(
     let order = t.order;
     let position = t.position;
     let number = n.bars_seen;
-    let candle = judge::bar::candle_of(bar);
+    let candle = records::bar::candle_of(bar);
     let filled = account::fill_working_order(s, order, position, candle, rows, n.rows_held, number);
     let working = filled.order;
     let opened = filled.position;
@@ -103,7 +103,7 @@ pub fn step<'a>(
 ) -> Answer
     ensures { λ r. ⌜ Is Answer (stepOf s t (now (bar .entry)) (record { rows = now (rows .entry); equity = now (equity .entry); trades = now (trades .entry) }) (record { entry = now (entry .entry); «exit» = now («exit» .entry); «short_entry» = now («short_entry» .entry); «short_exit» = now («short_exit» .entry) })) r (now (rows .exit)) (now (equity .exit)) (now (trades .exit)) ⌝ }
 {
-    let verdict = judge::judge_step(
+    let verdict = refusals::judge_step(
         s,
         t,
         bar,
@@ -137,7 +137,7 @@ pub fn step<'a>(
 pub fn finish(s: Settings, t: State, rows: &[u64], equity: &[u64], trades: &mut [u64]) -> Finished
     ensures { λ r. ⌜ Is Finished (finishOf s t (record { rows = now (rows .entry); equity = now (equity .entry); trades = now (trades .entry) })) r (now (rows .entry)) (now (equity .entry)) (now (trades .exit)) ⌝ }
 {
-    let verdict = judge::judge_finish(s, t, rows, equity, trades);
+    let verdict = refusals::judge_finish(s, t, rows, equity, trades);
     match verdict {
         Verdict::Bad(number, place) => Finished::Refused(number, place, t),
         Verdict::Fine => {

@@ -10,7 +10,7 @@ use Rattle.rules.specs.Values.{held}
 use Rattle.portfolio.specs.declared.Portfolio.{Portfolio}
 use Rattle.portfolio.specs.Portfolio.{inPosition, isLong}
 use Rattle.steps.specs.Choice.{exitList}
-use Rattle.judge.specs.Lists.{Lists}
+use Rattle.records.specs.Lent.{Lists}
 use Rattle.engine.specs.Decide.{says, answersOf, ordered, openingOrder, closingOrder}
 use borrow.Author.Needs.{needs}
 use Rattle.engine.proofs.decide.order_of.Statement.{statement}

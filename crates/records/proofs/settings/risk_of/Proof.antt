@@ -1,0 +1,28 @@
+-- Each field is read from its own word.
+use Rattle.records.specs.Settings.{riskOf}
+use borrow.Author.Needs.{needs}
+use Rattle.records.proofs.settings.risk_of.Statement.{statement}
+use Rattle.records.proofs.settings.risk_of.Tie as tie
+
+returns : tie.Need-returns
+unfolding riskOf
+returns c = cc
+
+pub risk-of-spec : {M : Type 1} → statement M
+risk-of-spec =
+    tie.close
+    (tie.spec
+    (λ c κs. search needs)
+    (λ c κs. search needs)
+    (λ c κs. search needs)
+    (λ c κs. search needs)
+    (λ c κs. search needs)
+    (λ c κs. search needs)
+    (λ c κs. search needs)
+    (λ c κs. search needs)
+    (λ c κs. search needs)
+    (λ c κs. search needs)
+    (λ c κs. search needs)
+    (λ c κs. search needs)
+    (λ c κs. search needs)
+    returns)

@@ -1,0 +1,22 @@
+use Rattle.records.specs.Settings.{settingsOf}
+use borrow.Author.Needs.{needs}
+use Rattle.records.proofs.settings.settings_of.Statement.{statement}
+use Rattle.records.proofs.settings.settings_of.Tie as tie
+
+returns : tie.Need-returns
+unfolding settingsOf
+returns c = cc
+
+pub settings-of-spec : {M : Type 1} → statement M
+settings-of-spec =
+    tie.close
+    (tie.spec
+    (λ c κs. search needs)
+    (λ c κs. search needs)
+    (λ c κs. search needs)
+    (λ c κs. search needs)
+    (λ c κs. search needs)
+    (λ c κs. search needs)
+    (λ c κs. search needs)
+    (λ c κs. search needs)
+    returns)

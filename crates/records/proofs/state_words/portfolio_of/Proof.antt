@@ -1,0 +1,20 @@
+use Rattle.records.specs.StateWords.{portfolioOf}
+use borrow.Author.Needs.{needs}
+use Rattle.records.proofs.state_words.portfolio_of.Statement.{statement}
+use Rattle.records.proofs.state_words.portfolio_of.Tie as tie
+
+returns : tie.Need-returns
+unfolding portfolioOf
+returns c = cc
+
+pub portfolio-of-spec : {M : Type 1} → statement M
+portfolio-of-spec =
+    tie.close
+    (tie.spec
+    (λ c κs. search needs)
+    (λ c κs. search needs)
+    (λ c κs. search needs)
+    (λ c κs. search needs)
+    (λ c κs. search needs)
+    (λ c κs. search needs)
+    returns)

@@ -1,0 +1,19 @@
+use Rattle.records.specs.StateWords.{positionOf}
+use borrow.Author.Needs.{needs}
+use Rattle.records.proofs.state_words.position_of.Statement.{statement}
+use Rattle.records.proofs.state_words.position_of.Tie as tie
+
+returns : tie.Need-returns
+unfolding positionOf
+returns c = cc
+
+pub position-of-spec : {M : Type 1} → statement M
+position-of-spec =
+    tie.close
+    (tie.spec
+    (λ c κs. search needs)
+    (λ c κs. search needs)
+    (λ c κs. search needs)
+    (λ c κs. search needs)
+    (λ c κs. search needs)
+    returns)

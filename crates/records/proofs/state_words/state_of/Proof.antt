@@ -1,0 +1,21 @@
+use Rattle.records.specs.StateWords.{stateOf}
+use borrow.Author.Needs.{needs}
+use Rattle.records.proofs.state_words.state_of.Statement.{statement}
+use Rattle.records.proofs.state_words.state_of.Tie as tie
+
+returns : tie.Need-returns
+unfolding stateOf
+returns c = cc
+
+pub state-of-spec : {M : Type 1} → statement M
+state-of-spec =
+    tie.close
+    (tie.spec
+    (λ c κs. search needs)
+    (λ c κs. search needs)
+    (λ c κs. search needs)
+    (λ c κs. search needs)
+    (λ c κs. search needs)
+    (λ c κs. search needs)
+    (λ c κs. search needs)
+    returns)

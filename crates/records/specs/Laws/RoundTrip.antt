@@ -1,0 +1,61 @@
+-- A caller loses nothing between calls: the words of a state mean that state.
+use Prim.Native.Nat.{ℕ, _≤_}
+use mathlib.Core.Path.{_≡_, refl}
+use mathlib.Core.List.{List, _++_}
+use borrow.Author.Tests.{le-leb}
+use lib.Dec.{T}
+use lib.ListN.{length}
+use lib.Ieee.{binary64, fits}
+use lib.Ieee.Bits.{ofBits-toBits}
+use Rattle.rules.specs.declared.Entered.{Entered}
+use Rattle.rules.specs.declared.Entered.the-variants.{Never, Bar}
+use Rattle.words.specs.Words.{overwrite}
+use Rattle.records.specs.declared.state.Order.{Order}
+use Rattle.records.specs.declared.state.Order.the-variants.{Idle, EnterLong, EnterShort, Exit}
+use Rattle.records.specs.declared.state.State.{State}
+use Rattle.words.specs.Limits.{stateWords}
+use Rattle.records.specs.StateWords.{countsOf, orderOf, enteredOf, portfolioOf, positionOf, stateOf, orderKind, orderDelay, enteredKind, entryBar, wordsOf}
+
+-- the floats of a state, each an f64 in the code
+pub record Floats64 (s : State) : Type 0 where
+  pub cash : T (fits binary64 (s .position .portfolio .cash))
+  pub qty : T (fits binary64 (s .position .portfolio .qty))
+  pub «entry_price» : T (fits binary64 (s .position .portfolio .«entry_price»))
+  pub «entry_fee» : T (fits binary64 (s .position .portfolio .«entry_fee»))
+  pub «fees_paid» : T (fits binary64 (s .position .portfolio .«fees_paid»))
+  pub extreme : T (fits binary64 (s .position .extreme))
+  pub close : T (fits binary64 (s .last .close))
+
+-- an order and an entry bar come back as they were
+order-back : (o : Order) → orderOf (orderKind o) (orderDelay o) ≡ o
+unfolding orderOf orderKind orderDelay
+order-back Idle = refl
+order-back (EnterLong delay) = refl
+order-back (EnterShort delay) = refl
+order-back (Exit delay) = refl
+
+entered-back : (e : Entered) → enteredOf (enteredKind e) (entryBar e) ≡ e
+unfolding enteredOf enteredKind entryBar
+entered-back Never = refl
+entered-back (Bar bar) = refl
+
+-- and so does the state, whatever stands behind its words; a NaN comes back as the one NaN there is
+pub state-back : (s : State) → Floats64 s → (rest : List ℕ) → stateOf (wordsOf s ++ rest) ≡ s
+unfolding stateOf wordsOf countsOf positionOf portfolioOf
+state-back s h rest =
+    simp (
+      order-back (s .order),
+      entered-back (s .position .entered),
+      ofBits-toBits binary64 _ (h .cash),
+      ofBits-toBits binary64 _ (h .qty),
+      ofBits-toBits binary64 _ (h .«entry_price»),
+      ofBits-toBits binary64 _ (h .«entry_fee»),
+      ofBits-toBits binary64 _ (h .«fees_paid»),
+      ofBits-toBits binary64 _ (h .extreme),
+      ofBits-toBits binary64 _ (h .close),
+    )
+
+-- in a room that has the words of a state
+pub state-kept : (s : State) → Floats64 s → (room : List ℕ) → stateWords ≤ length room → stateOf (overwrite room 0 (wordsOf s)) ≡ s
+unfolding overwrite wordsOf
+state-kept s h room fits = rw (le-leb _ _ fits) (state-back s h _)

@@ -1,0 +1,88 @@
+-- The state's words: what they mean, and those of a state. Definitions only.
+use Prim.Native.Nat.{ℕ}
+use mathlib.Core.Bool.{cond}
+use mathlib.Core.List.{List, [], _∷_}
+use lib.Dec.{eqb}
+use Rattle.floats.specs.Floats.{wordOf}
+use Rattle.rules.specs.declared.Entered.{Entered}
+use Rattle.rules.specs.declared.Entered.the-variants.{Never, Bar}
+use Rattle.portfolio.specs.declared.Portfolio.{Portfolio}
+use Rattle.records.specs.declared.state.Counts.{Counts}
+use Rattle.records.specs.declared.state.Order.{Order}
+use Rattle.records.specs.declared.state.Order.the-variants.{Idle, EnterLong, EnterShort, Exit}
+use Rattle.records.specs.declared.state.Position.{Position}
+use Rattle.records.specs.declared.state.State.{State}
+use Rattle.words.specs.Words.{word}
+use Rattle.records.specs.Fields.{floatAt}
+
+-- 0 bars seen, 1 rows held, 2 equity points, 3 trades
+unfoldable pub countsOf : List ℕ → Counts
+countsOf ws = record { «bars_seen» = word ws 0; «rows_held» = word ws 1; «equity_points» = word ws 2; trades = word ws 3 }
+
+-- 4 the working order: 1 enter long, 2 enter short, 3 exit, any other none; 5 the bars that it still waits
+unfoldable pub orderOf : ℕ → ℕ → Order
+orderOf kind delay =
+    cond (eqb kind 1) (EnterLong delay)
+    (cond (eqb kind 2) (EnterShort delay)
+    (cond (eqb kind 3) (Exit delay)
+    Idle))
+
+-- 6 the entry bar: 0 none, any other word one; 7 its number
+unfoldable pub enteredOf : ℕ → ℕ → Entered
+enteredOf there bar = cond (eqb there 0) Never (Bar bar)
+
+-- 8 cash, 9 quantity, 10 entry price, 11 entry time, 12 entry fee, 13 fees paid
+unfoldable pub portfolioOf : List ℕ → Portfolio
+portfolioOf ws = record {
+  cash = floatAt ws 8;
+  qty = floatAt ws 9;
+  «entry_price» = floatAt ws 10;
+  «entry_time» = word ws 11;
+  «entry_fee» = floatAt ws 12;
+  «fees_paid» = floatAt ws 13;
+}
+
+-- 14 the favourable extreme
+unfoldable pub positionOf : List ℕ → Position
+positionOf ws = record { portfolio = portfolioOf ws; entered = enteredOf (word ws 6) (word ws 7); extreme = floatAt ws 14 }
+
+-- 15 the last bar's time, 16 its close
+unfoldable pub stateOf : List ℕ → State
+stateOf ws = record {
+  counts = countsOf ws;
+  order = orderOf (word ws 4) (word ws 5);
+  position = positionOf ws;
+  last = record { time = word ws 15; close = floatAt ws 16 };
+}
+
+-- ---- back: no order waits 0 bars, no entry bar is number 0
+
+unfoldable pub orderKind : Order → ℕ
+orderKind Idle = 0
+orderKind (EnterLong delay) = 1
+orderKind (EnterShort delay) = 2
+orderKind (Exit delay) = 3
+
+unfoldable pub orderDelay : Order → ℕ
+orderDelay Idle = 0
+orderDelay (EnterLong delay) = delay
+orderDelay (EnterShort delay) = delay
+orderDelay (Exit delay) = delay
+
+unfoldable pub enteredKind : Entered → ℕ
+enteredKind Never = 0
+enteredKind (Bar bar) = 1
+
+unfoldable pub entryBar : Entered → ℕ
+entryBar Never = 0
+entryBar (Bar bar) = bar
+
+unfoldable pub wordsOf : State → List ℕ
+wordsOf s =
+    s .counts .«bars_seen» ∷ s .counts .«rows_held» ∷ s .counts .«equity_points» ∷ s .counts .trades
+    ∷ orderKind (s .order) ∷ orderDelay (s .order)
+    ∷ enteredKind (s .position .entered) ∷ entryBar (s .position .entered)
+    ∷ wordOf (s .position .portfolio .cash) ∷ wordOf (s .position .portfolio .qty)
+    ∷ wordOf (s .position .portfolio .«entry_price») ∷ s .position .portfolio .«entry_time»
+    ∷ wordOf (s .position .portfolio .«entry_fee») ∷ wordOf (s .position .portfolio .«fees_paid»)
+    ∷ wordOf (s .position .extreme) ∷ s .last .time ∷ wordOf (s .last .close) ∷ []

@@ -1,0 +1,119 @@
+// The settings, and what their words mean.
+ghost use mathlib.Core.Path.{_≡_};
+ghost use Rattle.records.specs.Settings.{flagOf, levelOf, sizingOf, slippageOf, riskOf, termsOf, settingsOf};
+use crate::fields::float_at;
+use execution::Optional;
+use execution::Risk;
+use execution::Sizing;
+use execution::Slippage;
+use execution::Terms;
+use words::word;
+
+// The settings, with their numbers.
+pub struct Settings {
+    // 0: K, the slots of a bar
+    pub slots: usize,
+    // 1: D, the rows of the window
+    pub depth: usize,
+    // 2
+    pub capital: f64,
+    // 3: bars numbered below it decide nothing
+    pub warmup: u64,
+    // 4: the bars that an order waits
+    pub delay: u64,
+    // 5 to 7 sizing, 8 taker fee, 9 and 10 slippage, 12 to 17 risk, 18 partial fills, 19 participation
+    pub terms: Terms,
+    // 11: whether funding is charged
+    pub funding: bool,
+}
+
+// The word of the mask that says which optional settings are given.
+const GIVEN: usize = 31;
+
+// Off is 0, on is any other word.
+fn flag_of(w: u64) -> bool
+    ensures { λ r. ⌜ r ≡ flagOf w ⌝ }
+{
+    w != 0
+}
+
+// A level, given where the lowest bit is set.
+fn level_of(bits: u64, w: u64) -> Optional
+    ensures { λ r. ⌜ r ≡ levelOf bits w ⌝ }
+{
+    if bits % 2 == 1 {
+        return Optional::Of(floats::float_of(w));
+    }
+    Optional::Absent
+}
+
+// Settings 5 to 7.
+fn sizing_of(kind: u64, value: u64, lookback: u64) -> Sizing
+    ensures { λ r. ⌜ r ≡ sizingOf kind value lookback ⌝ }
+{
+    let x = floats::float_of(value);
+    match kind {
+        0 => Sizing::FixedFraction(x),
+        1 => Sizing::FixedQty(x),
+        2 => Sizing::FixedCash(x),
+        3 => Sizing::VolTarget(x, lookback),
+        4 => Sizing::RiskPerTrade(x),
+        _ => Sizing::Unknown,
+    }
+}
+
+// Settings 9 and 10.
+fn slippage_of(kind: u64, value: u64) -> Slippage
+    ensures { λ r. ⌜ r ≡ slippageOf kind value ⌝ }
+{
+    let x = floats::float_of(value);
+    match kind {
+        0 => Slippage::FixedBps(x),
+        1 => Slippage::VolumeImpact(x),
+        _ => Slippage::Unknown,
+    }
+}
+
+// Settings 12 to 17. Bit i of the mask is set where setting i is given.
+fn risk_of(words: &[u64]) -> Risk
+    ensures { λ r. ⌜ r ≡ riskOf (now (words .entry)) ⌝ }
+{
+    let given = word(words, GIVEN);
+    Risk {
+        stop_loss_pct: level_of(given / 4096, word(words, 12)),
+        trailing_stop_pct: level_of(given / 8192, word(words, 13)),
+        take_profit_pct: level_of(given / 16384, word(words, 14)),
+        max_leverage: level_of(given / 32768, word(words, 15)),
+        max_position_pct: level_of(given / 65536, word(words, 16)),
+        liquidation: flag_of(word(words, 17)),
+    }
+}
+
+// Settings 5 to 10 and 12 to 19.
+fn terms_of(words: &[u64]) -> Terms
+    ensures { λ r. ⌜ r ≡ termsOf (now (words .entry)) ⌝ }
+{
+    Terms {
+        sizing: sizing_of(word(words, 5), word(words, 6), word(words, 7)),
+        risk: risk_of(words),
+        taker_bps: float_at(words, 8),
+        slippage: slippage_of(word(words, 9), word(words, 10)),
+        partial_fills: flag_of(word(words, 18)),
+        max_participation: float_at(words, 19),
+    }
+}
+
+// The settings of a list of words; a word past the end is 0.
+pub fn settings_of(words: &[u64]) -> Settings
+    ensures { λ r. ⌜ r ≡ settingsOf (now (words .entry)) ⌝ }
+{
+    Settings {
+        slots: word(words, 0) as usize,
+        depth: word(words, 1) as usize,
+        capital: float_at(words, 2),
+        warmup: word(words, 3),
+        delay: word(words, 4),
+        terms: terms_of(words),
+        funding: flag_of(word(words, 11)),
+    }
+}

@@ -1,0 +1,60 @@
+-- Laws of a walk over the bits of a mask.
+use Prim.Native.Nat.{ℕ, zero, suc, _+_, _-_, _/_, _^_, _≤_, _<_}
+use mathlib.Core.Path.{_≡_, refl, sym, ap, _∙_}
+use mathlib.Core.Bool.{Bool, true, false, _&&_}
+use mathlib.Core.List.{List}
+use native.Mathlib.Nat.{add-suc, add-zero, pow-suc, div-div-eq-div-mul, zero-div}
+use lib.ListN.{getD}
+use lib.Pow.{pow-add}
+use native.Mathlib.Numerals.{add-one, unary-clauses}
+use native.Mathlib.Omega.{arith}
+use Rattle.refusals.specs.Bar.{every, bitFine, slotFine, slotsFine}
+
+-- one number more
+pub every-more : (f : ℕ → Bool) (n : ℕ) → every n f ≡ true → f n ≡ true → every (n + 1) f ≡ true
+unfolding every
+every-more f n a b = rw add-one (simp (a, b))
+
+and-no : (b : Bool) → (b && false) ≡ false
+and-no true = refl
+and-no false = refl
+
+-- where it is not so of k, it is not so of each number below one above k
+every-not : (f : ℕ → Bool) (k : ℕ) → f k ≡ false → (n : ℕ) → every (k + suc n) f ≡ false
+unfolding every
+every-not f k e zero = simp (unary-clauses, e) (and-no (every k f))
+every-not f k e (suc n) = rw (add-suc k (suc n)) (simp (every-not f k e n))
+
+-- where it is so of each number below k and of each from k on, it is so of each below n
+every-rest : (f : ℕ → Bool) (k : ℕ) → ((j : ℕ) → k ≤ j → f j ≡ true) → every k f ≡ true → (n : ℕ) → every (k + n) f ≡ true
+unfolding every
+every-rest f k g e zero = rw (add-zero k) e
+every-rest f k g e (suc n) = rw (add-suc k n) (simp (every-rest f k g e n, g (k + n) (omega arith)))
+
+-- the bits from k on are the halves of what is left
+pub halved : (m k : ℕ) → m / 2 ^ k / 2 ≡ m / 2 ^ (k + 1)
+halved m k = div-div-eq-div-mul m (2 ^ k) 2 ∙ ap (λ (x : ℕ). m / x) (sym (ap (λ (n : ℕ). 2 ^ n) (add-one k) ∙ pow-suc 2 k))
+
+-- nothing is left, so every bit from k on is clear
+clear : (K : ℕ) (bar : List ℕ) (m k : ℕ) → m / 2 ^ k ≡ 0 → (j : ℕ) → k ≤ j → bitFine K bar (m / 2 ^ j) j ≡ true
+unfolding bitFine
+clear K bar m k e j h =
+    let d : j ≡ k + (j - k) = omega arith in
+    let z : m / 2 ^ j ≡ 0 =
+    ap (λ (n : ℕ). m / 2 ^ n) d ∙ ap (λ (n : ℕ). m / n) (pow-add 2 k (j - k)) ∙ sym (div-div-eq-div-mul m (2 ^ k) (2 ^ (j - k)))
+    ∙ ap (λ (n : ℕ). n / 2 ^ (j - k)) e ∙ zero-div (2 ^ (j - k)) in
+    rw z refl
+
+-- the bits below k are fine, and nothing is left
+pub all-fine : (K : ℕ) (bar : List ℕ) (k : ℕ) → k ≤ 64 → every k (slotFine K bar) ≡ true → getD bar 6 0 / 2 ^ k ≡ 0 → slotsFine K bar ≡ true
+unfolding slotsFine
+all-fine K bar k h e z =
+    let n : 64 ≡ k + (64 - k) = omega arith in
+    ap (λ (m : ℕ). every m (slotFine K bar)) n ∙ every-rest (slotFine K bar) k (clear K bar (getD bar 6 0) k z) e (64 - k)
+
+-- bit k is not fine
+pub one-bad : (K : ℕ) (bar : List ℕ) (k : ℕ) → k < 64 → slotFine K bar k ≡ false → slotsFine K bar ≡ false
+unfolding slotsFine
+one-bad K bar k h e =
+    let n : 64 ≡ k + suc (63 - k) = omega arith in
+    ap (λ (m : ℕ). every m (slotFine K bar)) n ∙ every-not (slotFine K bar) k e (63 - k)

@@ -1,0 +1,26 @@
+-- A bad step's place is below 1,024, so the sum fits. Assumes nothing.
+use mathlib.Core.Path.{sym, _∙_}
+use native.Mathlib.Omega.{arith}
+use Rattle.refusals.specs.Lines.{judged}
+use Rattle.refusals.proofs.Formed.{bad-below}
+use borrow.Author.Needs.{needs}
+use Rattle.refusals.proofs.lists.judge_list.Statement.{statement}
+use Rattle.refusals.proofs.lists.judge_list.Tie as tie
+
+add-place : tie.Need-add-place
+add-place c =
+    let a = c .before .before .before .before .before .args in
+    omega (arith, bad-below (a .slots) (a .depth) (a .steps .now) _ (sym (c .before .before .before .check .ensures) ∙ c .before .form .given .1))
+
+returns : tie.Need-returns
+unfolding judged
+returns c = simp (sym (c .before .before .check .ensures) ∙ c .enum-told .given .1)
+
+returns-2 : tie.Need-returns-2
+unfolding judged
+returns-2 c = simp (sym (c .before .before .before .check .ensures) ∙ c .before .form .given .1)
+
+pub judge-list-spec : {M : Type 1} → statement M
+judge-list-spec =
+    tie.close
+    (tie.spec (λ c κs. search needs) (λ c. search needs) (λ c. search needs) (λ c. search needs) add-place returns returns-2)

@@ -1,0 +1,52 @@
+-- A list of lines, judged from the top: what holds of it as a whole, and of a list that stands below another.
+use Prim.Native.Nat.{ℕ}
+use mathlib.Core.Path.{_≡_, refl, sym}
+use mathlib.Core.Bool.{Bool, true, false, cond}
+use mathlib.Core.List.{List, [], _∷_, _++_}
+use native.Mathlib.Omega.{arith}
+use Rattle.words.specs.declared.refusal.Refusal.{Refusal}
+use Rattle.refusals.specs.declared.verdict.Verdict.{Verdict}
+use Rattle.refusals.specs.declared.verdict.Verdict.the-variants.{Fine, Bad}
+use Rattle.refusals.specs.Lines.{Line, judged}
+
+-- no verdict is both
+never : {A : Type 0} {r : Refusal} → Bad r ≡ Fine → A
+never e = absurd (let z : _≡_ {A = ℕ} 0 1 = cc in omega arith)
+
+-- a line that is passed, and what the lines below it say
+passed : (ok : Bool) (v : Verdict) (r : Refusal) → cond ok v (Bad r) ≡ Fine → (ok ≡ true) × (v ≡ Fine)
+passed true v r h = (refl, h)
+passed false v r h = never h
+
+-- in a fine list the first line holds, and what is below it is fine
+pub first-holds : (l : Line) (ls : List Line) → judged (l ∷ ls) ≡ Fine → (l .ok ≡ true) × (judged ls ≡ Fine)
+unfolding judged
+first-holds l ls h = passed (l .ok) (judged ls) _ h
+
+-- lines below others are asked where those above hold
+pub below-fine : (a b : List Line) → judged a ≡ Fine → judged (a ++ b) ≡ judged b
+unfolding judged
+below-fine [] b h = refl
+below-fine (l ∷ a) b h =
+    let p = passed (l .ok) (judged a) _ h in
+    simp (p .0) (below-fine a b (p .1))
+
+-- a line says the same of two verdicts below it that say the same of r
+by-line : (ok : Bool) (v w : Verdict) (q r : Refusal) → (v ≡ Bad r → w ≡ Bad r) → cond ok v (Bad q) ≡ Bad r → cond ok w (Bad q) ≡ Bad r
+by-line true v w q r below e = below e
+by-line false v w q r below e = e
+
+-- and not where one of them does not
+pub below-bad : (a b : List Line) (r : Refusal) → judged a ≡ Bad r → judged (a ++ b) ≡ Bad r
+unfolding judged
+below-bad [] b r h = never (sym h)
+below-bad (l ∷ a) b r h = by-line (l .ok) (judged a) (judged (a ++ b)) _ r (below-bad a b r) h
+
+-- of two lists, one below the other, both are fine where the whole is
+pub both-fine : (a b : List Line) → judged (a ++ b) ≡ Fine → (judged a ≡ Fine) × (judged b ≡ Fine)
+unfolding judged
+both-fine [] b h = (refl, h)
+both-fine (l ∷ a) b h =
+    let p = passed (l .ok) (judged (a ++ b)) _ h in
+    let rest = both-fine a b (p .1) in
+    (simp (p .0) (rest .0), rest .1)

@@ -1,0 +1,25 @@
+-- The table of refusals as a list of lines. Definitions only.
+use Prim.Native.Nat.{ℕ}
+use mathlib.Core.Bool.{Bool, cond}
+use mathlib.Core.List.{List, [], _∷_}
+use Rattle.words.specs.declared.refusal.Refusal.{Refusal}
+use Rattle.refusals.specs.declared.verdict.Verdict.{Verdict}
+use Rattle.refusals.specs.declared.verdict.Verdict.the-variants.{Fine, Bad}
+
+-- A line: what has to hold, and the number and place that are given where it does not.
+pub record Line : Type 0 where
+  pub ok : Bool
+  pub number : ℕ
+  pub place : ℕ
+
+abbrev pub line : Bool → ℕ → ℕ → Line
+line ok number place = record { ok = ok; number = number; place = place }
+
+abbrev pub refusal : ℕ → ℕ → Refusal
+refusal number place = record { number = number; place = place }
+
+-- The first line that does not hold decides. "Under one number the lowest place is given": lines stand in the order of the
+-- numbers in "10, 12, 13, 14, 11, 15", and of the places under one.
+unfoldable pub judged : List Line → Verdict
+judged [] = Fine
+judged (l ∷ ls) = cond (l .ok) (judged ls) (Bad (refusal (l .number) (l .place)))

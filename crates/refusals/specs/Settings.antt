@@ -1,0 +1,121 @@
+-- Refusal 12. Settings are numbered as docs/ lists them.
+use Prim.Native.Nat.{ℕ}
+use mathlib.Core.Bool.{Bool, true, false, _&&_}
+use mathlib.Core.List.{List, [], _∷_, _++_}
+use lib.Dec.{ltb, leb}
+use lib.Ieee.{Float}
+use Rattle.floats.specs.Floats.{finite, zero}
+use Rattle.execution.specs.declared.Optional.{Optional}
+use Rattle.execution.specs.declared.Optional.the-variants.{Absent, Of}
+use Rattle.execution.specs.declared.Risk.{Risk}
+use Rattle.execution.specs.declared.Sizing.{Sizing}
+use Rattle.execution.specs.declared.Sizing.the-variants.{FixedFraction, FixedQty, FixedCash, VolTarget, RiskPerTrade, Unknown}
+use Rattle.execution.specs.declared.Slippage.{Slippage}
+use Rattle.execution.specs.declared.Slippage.the-variants.{FixedBps, VolumeImpact, Unknown as UnknownSlippage}
+use Rattle.execution.specs.declared.Terms.{Terms}
+use Rattle.records.specs.declared.settings.Settings.{Settings}
+use Rattle.words.specs.Limits.{mostSlots, mostRows, mostReach}
+use Rattle.refusals.specs.Lines.{Line, line}
+
+-- setting 7: only VolTarget has one
+abbrev pub lookback : Sizing → ℕ
+lookback (VolTarget x n) = n
+lookback (FixedFraction x) = 0
+lookback (FixedQty x) = 0
+lookback (FixedCash x) = 0
+lookback (RiskPerTrade x) = 0
+lookback Unknown = 0
+
+-- "of an unknown kind": setting 5
+abbrev pub sizingKnown : Sizing → Bool
+sizingKnown Unknown = false
+sizingKnown (FixedFraction x) = true
+sizingKnown (FixedQty x) = true
+sizingKnown (FixedCash x) = true
+sizingKnown (VolTarget x n) = true
+sizingKnown (RiskPerTrade x) = true
+
+-- setting 6
+abbrev pub sizingValue : Sizing → Float
+sizingValue (FixedFraction x) = x
+sizingValue (FixedQty x) = x
+sizingValue (FixedCash x) = x
+sizingValue (VolTarget x n) = x
+sizingValue (RiskPerTrade x) = x
+sizingValue Unknown = zero
+
+-- "of an unknown kind": setting 9
+abbrev pub slippageKnown : Slippage → Bool
+slippageKnown UnknownSlippage = false
+slippageKnown (FixedBps x) = true
+slippageKnown (VolumeImpact x) = true
+
+-- setting 10
+abbrev pub slippageValue : Slippage → Float
+slippageValue (FixedBps x) = x
+slippageValue (VolumeImpact x) = x
+slippageValue UnknownSlippage = zero
+
+-- "a setting not finite": a level that is absent is none
+abbrev pub levelFine : Optional → Bool
+levelFine Absent = true
+levelFine (Of x) = finite x
+
+-- "risk sizing without stop loss"
+abbrev pub stopThere : Sizing → Optional → Bool
+stopThere (RiskPerTrade x) Absent = false
+stopThere (RiskPerTrade x) (Of p) = true
+stopThere (FixedFraction x) stop = true
+stopThere (FixedQty x) stop = true
+stopThere (FixedCash x) stop = true
+stopThere (VolTarget x n) stop = true
+stopThere Unknown stop = true
+
+-- "a given D outside 1 to 4,096 or not above a VolTarget lookback": setting 1
+abbrev pub depthFine : ℕ → Sizing → Bool
+depthFine D sizing = leb 1 D && leb D mostRows && ltb (lookback sizing) D
+
+-- settings 5 to 7
+unfoldable pub sizingLines : Sizing → List Line
+sizingLines sizing =
+    line (sizingKnown sizing) 12 5
+    ∷ line (finite (sizingValue sizing)) 12 6
+    ∷ line (leb (lookback sizing) mostReach) 12 7
+    ∷ []
+
+-- settings 9 and 10
+unfoldable pub slippageLines : Slippage → List Line
+slippageLines slippage =
+    line (slippageKnown slippage) 12 9
+    ∷ line (finite (slippageValue slippage)) 12 10
+    ∷ []
+
+-- settings 12 to 16
+unfoldable pub riskLines : Sizing → Risk → List Line
+riskLines sizing risk =
+    line (stopThere sizing (risk .«stop_loss_pct»)) 12 12
+    ∷ line (levelFine (risk .«stop_loss_pct»)) 12 12
+    ∷ line (levelFine (risk .«trailing_stop_pct»)) 12 13
+    ∷ line (levelFine (risk .«take_profit_pct»)) 12 14
+    ∷ line (levelFine (risk .«max_leverage»)) 12 15
+    ∷ line (levelFine (risk .«max_position_pct»)) 12 16
+    ∷ []
+
+-- settings 5 to 19 but 11
+unfoldable pub termLines : Terms → List Line
+termLines t =
+    sizingLines (t .sizing)
+    ++ (line (finite (t .«taker_bps»)) 12 8
+    ∷ (slippageLines (t .slippage)
+    ++ (riskLines (t .sizing) (t .risk)
+    ++ (line (finite (t .«max_participation»)) 12 19
+    ∷ []))))
+
+-- "12: a setting not finite or of an unknown kind, lookback above 4,095, risk sizing without stop loss; a given K above
+-- 64, a given D outside 1 to 4,096 or not above a VolTarget lookback"; the place is the setting's number.
+unfoldable pub settingLines : Settings → List Line
+settingLines s =
+    line (leb (s .slots) mostSlots) 12 0
+    ∷ line (depthFine (s .depth) (s .terms .sizing)) 12 1
+    ∷ line (finite (s .capital)) 12 2
+    ∷ termLines (s .terms)
