@@ -4,8 +4,8 @@ use mathlib.Core.List.{List}
 use Rattle.floats.specs.Floats.{floatOf}
 use Rattle.words.specs.Words.{overwrite}
 use Rattle.metrics.specs.Figures.{Said, figures, refusal, computed, wordsOf}
-use Rattle.refusals.specs.declared.Verdict.{Verdict}
-use Rattle.refusals.specs.declared.Verdict.the-variants.{Fine, Bad}
+use Rattle.refusals.specs.declared.verdict.Verdict.{Verdict}
+use Rattle.refusals.specs.declared.verdict.Verdict.the-variants.{Fine, Bad}
 use Rattle.capi.specs.Words.{answerWord, metricsJudged}
 
 -- the answer, and the room of the metrics as it is left

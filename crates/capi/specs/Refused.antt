@@ -3,11 +3,10 @@ use Prim.Native.Nat.{ℕ}
 use mathlib.Core.Path.{_≡_, refl}
 use mathlib.Core.List.{List}
 use Rattle.records.specs.declared.state.State.{State}
-use Rattle.refusals.specs.declared.Verdict.{Verdict}
-use Rattle.refusals.specs.declared.Verdict.the-variants.{Fine, Bad}
+use Rattle.refusals.specs.declared.verdict.Verdict.{Verdict}
+use Rattle.refusals.specs.declared.verdict.Verdict.the-variants.{Fine, Bad}
 use Rattle.refusals.specs.Judgement.{stepJudged}
-use Rattle.records.specs.Lent.{Lists}
-use Rattle.records.specs.Lent.{Rooms}
+use Rattle.records.specs.Lent.{Lists, Rooms}
 use Rattle.engine.specs.Step.{With, stepped, answered, stepOf}
 use Rattle.records.specs.Settings.{settingsOf}
 use Rattle.records.specs.StateWords.{stateOf}

@@ -4,8 +4,8 @@ use mathlib.Core.Bool.{Bool, true, false}
 use mathlib.Core.List.{List}
 use lib.ListN.{length, getD}
 use lib.Dec.{leb}
-use Rattle.refusals.specs.declared.Verdict.{Verdict}
-use Rattle.refusals.specs.declared.Verdict.the-variants.{Fine}
+use Rattle.refusals.specs.declared.verdict.Verdict.{Verdict}
+use Rattle.refusals.specs.declared.verdict.Verdict.the-variants.{Fine}
 use Rattle.refusals.specs.Verdict.{checked}
 
 -- word i; 0 past the end

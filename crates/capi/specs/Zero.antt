@@ -6,8 +6,8 @@ use mathlib.Core.List.{List}
 use native.Mathlib.Omega.{arith}
 use Rattle.records.specs.declared.state.State.{State}
 use Rattle.records.specs.declared.settings.Settings.{Settings}
-use Rattle.refusals.specs.declared.Verdict.{Verdict}
-use Rattle.refusals.specs.declared.Verdict.the-variants.{Fine, Bad}
+use Rattle.refusals.specs.declared.verdict.Verdict.{Verdict}
+use Rattle.refusals.specs.declared.verdict.Verdict.the-variants.{Fine, Bad}
 use Rattle.refusals.specs.Verdict.{checked}
 use Rattle.refusals.specs.Settings.{depthJudged, sizingJudged, slippageJudged, riskJudged, termsJudged, settingsJudged}
 use Rattle.records.specs.Lent.{Rooms}

@@ -11,7 +11,7 @@ use crate::words::judge_metrics;
 use crate::words::judge_words;
 use engine::Answer;
 use engine::Finished;
-use refusals::Verdict;
+use refusals::verdict::Verdict;
 
 // One bar.
 #[no_mangle]
@@ -27,7 +27,7 @@ pub extern "C" fn ysh_step<'a>(
     short_entry: &[u8],
     short_exit: &'a [u8],
 ) -> u64
-    ensures { λ r. ⌜ stepCall (now (settings .entry)) (now (state .entry)) (now (bar .entry)) (record { rows = now (rows .entry); equity = now (equity .entry); trades = now (trades .entry) }) (record { entry = now (entry .entry); «exit» = now («exit» .entry); «short_entry» = now («short_entry» .entry); «short_exit» = now («short_exit» .entry) }) ≡ record { answer = r; state = now (state .exit); rooms = record { rows = now (rows .exit); equity = now (equity .exit); trades = now (trades .exit) } } ⌝ }
+    ensures { λ r. ⌜ stepCall (now (settings .entry)) (now (state .entry)) (now (bar .entry)) (rooms (now (rows .entry)) (now (equity .entry)) (now (trades .entry))) (lists (now (entry .entry)) (now («exit» .entry)) (now («short_entry» .entry)) (now («short_exit» .entry))) ≡ record { answer = r; state = now (state .exit); rooms = rooms (now (rows .exit)) (now (equity .exit)) (now (trades .exit)) } ⌝ }
 {
     let chosen = settings_of(settings);
     let lent = refusals::rooms::judge_room(
@@ -69,7 +69,7 @@ pub extern "C" fn ysh_finish(
     trades: &mut [u64],
     metrics: &mut [u64],
 ) -> u64
-    ensures { λ r. ⌜ finishCall (now (settings .entry)) (now (state .entry)) (record { rows = now (rows .entry); equity = now (equity .entry); trades = now (trades .entry) }) (now (metrics .entry)) ≡ record { answer = r; state = now (state .exit); trades = now (trades .exit); metrics = now (metrics .exit) } ⌝ }
+    ensures { λ r. ⌜ finishCall (now (settings .entry)) (now (state .entry)) (rooms (now (rows .entry)) (now (equity .entry)) (now (trades .entry))) (now (metrics .entry)) ≡ record { answer = r; state = now (state .exit); trades = now (trades .exit); metrics = now (metrics .exit) } ⌝ }
 {
     let chosen = settings_of(settings);
     let lent = refusals::rooms::judge_room(

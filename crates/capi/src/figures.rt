@@ -9,7 +9,7 @@ use crate::words::answer_word;
 use crate::words::judge_metrics;
 use metrics::Answer;
 use metrics::Metrics;
-use refusals::Verdict;
+use refusals::verdict::Verdict;
 
 // Writes the nine metrics over the first words of a room; nothing where it is shorter.
 pub(crate) fn put_metrics(room: &mut [u64], m: Metrics)

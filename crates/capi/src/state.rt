@@ -5,7 +5,7 @@ use crate::words::answer_word;
 use crate::words::judge_words;
 use records::settings::settings_of;
 use records::state_words::put_state;
-use refusals::Verdict;
+use refusals::verdict::Verdict;
 
 // The state before the first bar.
 #[no_mangle]

@@ -2,7 +2,7 @@
 ghost use mathlib.Core.Path.{_≡_};
 ghost use lib.ListN.{getD};
 ghost use Rattle.capi.specs.Words.{answerWord, bitOf, wordsJudged, metricsJudged};
-use refusals::Verdict;
+use refusals::verdict::Verdict;
 
 // Words of the settings, of a state and of the metrics.
 pub const SETTING_WORDS: usize = 21;

@@ -4,9 +4,10 @@ use mathlib.Core.Path.{_≡_, refl, ap}
 use mathlib.Core.List.{List}
 use Rattle.execution.specs.declared.Exit.{Exit}
 use Rattle.metrics.specs.declared.Metrics.{Metrics}
+use Rattle.words.specs.declared.refusal.Refusal.{Refusal}
 use Rattle.records.specs.declared.settings.Settings.{Settings}
 use Rattle.records.specs.declared.state.State.{State}
-use Rattle.refusals.specs.declared.Verdict.the-variants.{Fine, Bad}
+use Rattle.refusals.specs.declared.verdict.Verdict.the-variants.{Fine, Bad}
 use Rattle.refusals.specs.Judgement.{finishJudged}
 use Rattle.records.specs.Lent.{Rooms}
 use Rattle.engine.specs.declared.ending.Ended.{Ended}
@@ -27,10 +28,10 @@ module _ (s : Settings) (t : State) (m : Rooms) where
   endings x st f count ts ex eb es ef =
       rw (ef, es, eb .0, eb .1, ex) (record { result = refl; rows = refl; equity = refl; trades = refl })
 
-  pub refused : (number place : ℕ) → finishJudged s t m ≡ Bad number place
-      → Is Finished (finishOf s t m) (Refused number place t) (m .rows) (m .equity) (m .trades)
+  pub refused : (why : Refusal) → finishJudged s t m ≡ Bad why
+      → Is Finished (finishOf s t m) (Refused why t) (m .rows) (m .equity) (m .trades)
   unfolding finishOf concluded
-  refused number place h = rw h (record { result = refl; rows = refl; equity = refl; trades = refl })
+  refused why h = rw h (record { result = refl; rows = refl; equity = refl; trades = refl })
 
   pub went : finishJudged s t m ≡ Fine → (r : Ended) (ws es ts : List ℕ) → Is Ended (ended s t m) r ws es ts
       → Is Finished (finishOf s t m) (Done (r .state) (r .metrics)) ws es ts

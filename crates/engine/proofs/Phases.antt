@@ -5,16 +5,16 @@ use mathlib.Core.List.{List}
 use Rattle.rows.specs.History.{historyOf}
 use Rattle.rows.specs.Room.{withRow, heldWith}
 use Rattle.portfolio.specs.declared.Candle.{Candle}
+use Rattle.words.specs.declared.refusal.Refusal.{Refusal}
 use Rattle.records.specs.declared.state.Order.{Order}
 use Rattle.records.specs.declared.state.Position.{Position}
 use Rattle.records.specs.declared.settings.Settings.{Settings}
 use Rattle.records.specs.declared.state.State.{State}
-use Rattle.refusals.specs.declared.Verdict.the-variants.{Fine, Bad}
+use Rattle.refusals.specs.declared.verdict.Verdict.the-variants.{Fine, Bad}
 use Rattle.records.specs.Bar.{candleOf}
-use Rattle.refusals.specs.Fine.{step-fine}
+use Rattle.refusals.specs.Laws.Fine.{step-fine}
 use Rattle.refusals.specs.Judgement.{stepJudged}
-use Rattle.records.specs.Lent.{Lists}
-use Rattle.records.specs.Lent.{Rooms}
+use Rattle.records.specs.Lent.{Lists, Rooms}
 use Rattle.engine.specs.declared.account.Filled.{Filled}
 use Rattle.engine.specs.declared.account.Left.{Left}
 use Rattle.engine.specs.declared.Answer.{Answer}
@@ -49,12 +49,12 @@ module _ (s : Settings) (t : State) (bar : List ℕ) (m : Rooms) (ls : Lists) wh
       (record { result = refl; rows = refl; equity = refl; trades = refl })
 
   pub ready : stepJudged s t bar m ls ≡ Fine → Ready s t
-  ready h = let f = step-fine s t bar m ls h in record { slots = f .slots; bars = f .bars }
+  ready h = let f = step-fine s t bar m ls h in record { slots = f .settings .slots; bars = f .bars }
 
-  pub refused : (number place : ℕ) → stepJudged s t bar m ls ≡ Bad number place
-      → Is Answer (stepOf s t bar m ls) (Refused number place t) (m .rows) (m .equity) (m .trades)
+  pub refused : (why : Refusal) → stepJudged s t bar m ls ≡ Bad why
+      → Is Answer (stepOf s t bar m ls) (Refused why t) (m .rows) (m .equity) (m .trades)
   unfolding stepOf answered
-  refused number place h = rw h (record { result = refl; rows = refl; equity = refl; trades = refl })
+  refused why h = rw h (record { result = refl; rows = refl; equity = refl; trades = refl })
 
   pub went : stepJudged s t bar m ls ≡ Fine → (r : State) (ws es us : List ℕ) → Is State (stepped s t bar m ls) r ws es us
       → Is Answer (stepOf s t bar m ls) (Done r) ws es us

@@ -7,12 +7,11 @@ use lib.ListN.{length}
 use Rattle.rows.specs.History.{historyOf}
 use Rattle.records.specs.declared.settings.Settings.{Settings}
 use Rattle.records.specs.declared.state.State.{State}
-use Rattle.refusals.specs.declared.Verdict.{Verdict}
-use Rattle.refusals.specs.declared.Verdict.the-variants.{Fine, Bad}
+use Rattle.refusals.specs.declared.verdict.Verdict.{Verdict}
+use Rattle.refusals.specs.declared.verdict.Verdict.the-variants.{Fine, Bad}
 use Rattle.records.specs.Bar.{candleOf}
 use Rattle.refusals.specs.Judgement.{stepJudged}
-use Rattle.records.specs.Lent.{Lists}
-use Rattle.records.specs.Lent.{Rooms, rowPlaces, pointPlaces, tradePlaces}
+use Rattle.records.specs.Lent.{Lists, Rooms, rowPlaces, pointPlaces, tradePlaces}
 use Rattle.records.specs.State.{freshState}
 use Rattle.engine.specs.Account.{filled, left, charged, booked}
 use Rattle.engine.specs.Kept.{row-fits, booked-fits, marked-fits}
@@ -21,7 +20,7 @@ use Rattle.engine.specs.Step.{With, stepped}
 
 -- Bar after bar, until one is refused.
 unfoldable pub goOn : Verdict → With State → With State → With State
-goOn (Bad number place) stopped went = stopped
+goOn (Bad why) stopped went = stopped
 goOn Fine stopped went = went
 
 unfoldable pub runOver : Settings → Lists → State → Rooms → List (List ℕ) → With State
@@ -78,7 +77,7 @@ stays : (s : Settings) (v : Verdict) (m : Rooms) (a b : With State) → Counted 
     → Counted s (b .result) (b .rooms) × AsLong m (b .rooms)
     → Counted s (goOn v a b .result) (goOn v a b .rooms) × AsLong m (goOn v a b .rooms)
 unfolding goOn
-stays s (Bad number place) m a b x y = x
+stays s (Bad why) m a b x y = x
 stays s Fine m a b x y = y
 
 run-counted : (s : Settings) (ls : Lists) (bars : List (List ℕ)) (t : State) (m : Rooms) → Counted s t m

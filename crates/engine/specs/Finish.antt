@@ -12,8 +12,8 @@ use Rattle.metrics.specs.Figures.{metricsOf}
 use Rattle.metrics.specs.Records.{equityOf, pnlsOf}
 use Rattle.records.specs.declared.settings.Settings.{Settings}
 use Rattle.records.specs.declared.state.State.{State}
-use Rattle.refusals.specs.declared.Verdict.{Verdict}
-use Rattle.refusals.specs.declared.Verdict.the-variants.{Fine, Bad}
+use Rattle.refusals.specs.declared.verdict.Verdict.{Verdict}
+use Rattle.refusals.specs.declared.verdict.Verdict.the-variants.{Fine, Bad}
 use Rattle.refusals.specs.Judgement.{finishJudged}
 use Rattle.records.specs.Lent.{Rooms}
 use Rattle.refusals.specs.Rooms.{toClose}
@@ -59,7 +59,7 @@ ended s t m =
 
 -- The paper's values for each case of the answer.
 unfoldable pub concluded : Verdict → State → Rooms → With Ended → With Finished
-concluded (Bad number place) t m done = record { result = Refused number place t; rooms = m }
+concluded (Bad why) t m done = record { result = Refused why t; rooms = m }
 concluded Fine t m done = record { result = Done (done .result .state) (done .result .metrics); rooms = done .rooms }
 
 unfoldable pub finishOf : Settings → State → Rooms → With Finished

@@ -9,12 +9,11 @@ use Rattle.records.specs.declared.state.Order.the-variants.{Idle, EnterLong, En
 use Rattle.records.specs.declared.state.Position.{Position}
 use Rattle.records.specs.declared.settings.Settings.{Settings}
 use Rattle.records.specs.declared.state.State.{State}
-use Rattle.refusals.specs.declared.Verdict.the-variants.{Fine}
+use Rattle.refusals.specs.declared.verdict.Verdict.the-variants.{Fine}
 use Rattle.records.specs.Bar.{candleOf}
-use Rattle.refusals.specs.Fine.{StepFine, step-fine}
+use Rattle.refusals.specs.Laws.Fine.{StepFine, step-fine}
 use Rattle.refusals.specs.Judgement.{stepJudged}
-use Rattle.records.specs.Lent.{Lists}
-use Rattle.records.specs.Lent.{Rooms}
+use Rattle.records.specs.Lent.{Lists, Rooms}
 use Rattle.refusals.specs.Settings.{lookback}
 use Rattle.engine.specs.declared.account.Filled.{Filled}
 use Rattle.engine.specs.Account.{filled}
@@ -72,7 +71,7 @@ window-after : (s : Settings) (t : State) (bar : List ℕ) (m : Rooms) (ls : Lis
 unfolding stepped
 window-after s t bar m ls f =
     window-added (s .slots) (s .depth) (m .rows) (t .counts .«rows_held») (rowOf (s .slots) bar) (row-long (s .slots) bar)
-    (f .depth) (f .room) (f .held)
+    (f .settings .depth) (f .room) (f .held)
 
 -- THE STEP: of two boxes that are near, and that both take the bar
 pub step-near : (s : Settings) (t t′ : State) (bar : List ℕ) (m m′ : Rooms) (ls : Lists)
@@ -80,7 +79,7 @@ pub step-near : (s : Settings) (t t′ : State) (bar : List ℕ) (m m′ : Rooms
     → Near s (stepped s t bar m ls .result) (stepped s t′ bar m′ ls .result) (stepped s t bar m ls .rooms) (stepped s t′ bar m′ ls .rooms)
 unfolding stepped
 step-near s t t′ bar m m′ ls h h′ near =
-    let fills : fillOf s t bar m ≡ fillOf s t′ bar m′ = fills-near s t t′ bar m m′ (step-fine s t bar m ls h .behind) near in
+    let fills : fillOf s t bar m ≡ fillOf s t′ bar m′ = fills-near s t t′ bar m m′ (step-fine s t bar m ls h .settings .behind) near in
     let windows : windowOf s (stepped s t bar m ls .result) (stepped s t bar m ls .rooms)
     ≡ windowOf s (stepped s t′ bar m′ ls .result) (stepped s t′ bar m′ ls .rooms) =
     window-after s t bar m ls (step-fine s t bar m ls h)

@@ -24,8 +24,7 @@ use Rattle.records.specs.declared.state.Position.{Position}
 use Rattle.records.specs.declared.settings.Settings.{Settings}
 use Rattle.records.specs.declared.state.State.{State}
 use Rattle.records.specs.Bar.{candleOf}
-use Rattle.records.specs.Lent.{Lists}
-use Rattle.records.specs.Lent.{Rooms, tradePlaces}
+use Rattle.records.specs.Lent.{Lists, Rooms, tradePlaces}
 use Rattle.engine.specs.declared.account.Filled.{Filled}
 use Rattle.engine.specs.Account.{Held, leaving, entered, filled, left, booked}
 use Rattle.engine.specs.Account as Account

@@ -11,8 +11,7 @@ use Rattle.records.specs.declared.state.Order.the-variants.{Idle}
 use Rattle.records.specs.declared.state.Position.{Position}
 use Rattle.records.specs.declared.settings.Settings.{Settings}
 use Rattle.records.specs.declared.state.State.{State}
-use Rattle.records.specs.Lent.{Lists}
-use Rattle.records.specs.Lent.{Rooms}
+use Rattle.records.specs.Lent.{Lists, Rooms}
 use Rattle.engine.specs.Account.{leaving, filled, left, charged, booked}
 use Rattle.engine.specs.Decide.{says, stateAt, answersOf, ordered, openingOrder, decided}
 use Rattle.engine.specs.Step.{stepped}

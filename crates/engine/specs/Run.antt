@@ -2,7 +2,7 @@
 -- bars, and comes to the same orders, position, trades and equity.
 use Prim.Native.Nat.{ℕ, _+_, _≤_}
 use mathlib.Core.Path.{_≡_, refl, _∙_}
-use mathlib.Core.Bool.{Bool, true, false, cond}
+use mathlib.Core.Bool.{Bool, true, false, cond, _&&_}
 use mathlib.Core.List.{List, [], _∷_}
 use native.Mathlib.Nat.{zero-mul}
 use native.Mathlib.Omega.{arith}
@@ -12,15 +12,14 @@ use Rattle.rows.specs.Room.{places, heldWith}
 use Rattle.records.specs.declared.state.Counts.{Counts}
 use Rattle.records.specs.declared.settings.Settings.{Settings}
 use Rattle.records.specs.declared.state.State.{State}
-use Rattle.refusals.specs.declared.Verdict.{Verdict}
-use Rattle.refusals.specs.declared.Verdict.the-variants.{Fine, Bad}
-use Rattle.refusals.specs.Judgement.{stepJudged, finishJudged}
+use Rattle.refusals.specs.declared.verdict.Verdict.{Verdict}
+use Rattle.refusals.specs.declared.verdict.Verdict.the-variants.{Fine, Bad}
+use Rattle.refusals.specs.Judgement.{runLines, stepLines, stepJudged, finishLines, finishJudged}
 use Rattle.records.specs.Lent.{Lists}
 use Rattle.words.specs.Limits.{mostCount}
 use Rattle.records.specs.Lent.{Rooms, rowPlaces}
-use Rattle.refusals.specs.Rooms.{roomJudged, mostJudged, heldJudged, stateJudged, placeJudged, toClose, closeJudged}
+use Rattle.refusals.specs.Rooms.{roomLines, stateLines, placeLines, toClose, closeLines}
 use Rattle.records.specs.State.{freshState}
-use Rattle.refusals.specs.Verdict.{checked}
 use Rattle.engine.specs.Counted.{goOn, runOver}
 use Rattle.engine.specs.Finish.{lastExit, endState, ended}
 use Rattle.engine.specs.Kept.{row-fits}
@@ -36,7 +35,7 @@ pub record Roomy (s : Settings) (t : State) (m : Rooms) : Type 0 where
 
 -- ---- a bar
 
--- a bar adds a row at mostCount
+-- a bar adds a row at most
 row-more : (room : List ℕ) (held : ℕ) (row : List ℕ) → heldWith room held row ≤ held + 1
 unfolding heldWith
 row-more room held row = go (ltb held (places room row)) refl
@@ -57,26 +56,23 @@ step-roomy s t bar m ls r =
       seen = omega (arith, r .seen, row-more (m .rows) (t .counts .«rows_held») (rowOf (s .slots) bar));
     }
 
--- a line of the table of refusals that is passed where the one above it is
-passing : (a b : Bool) (number place : ℕ) (rest : Verdict) → (a ≡ true → b ≡ true)
-    → checked a number place (checked b number place rest) ≡ checked a number place rest
-unfolding checked
-passing true b number place rest h = rw (h refl)
-passing false b number place rest h = refl
+-- a test that holds where the one before it does
+passing : (a b : Bool) → (a ≡ true → b ≡ true) → (a && b) ≡ a
+passing true b h = h refl
+passing false b h = refl
 
 -- rows that are no more than the bars seen exceed 4,294,967,295 only where those do
-most-judged : (n : Counts) (rest : Verdict) → n .«rows_held» ≤ n .«bars_seen» → mostJudged n rest
-    ≡ checked (leb (n .«bars_seen») mostCount) 13 0 (checked (leb (n .«equity_points») mostCount) 13 0 (checked (leb (n .trades) mostCount) 13 0 rest))
-unfolding mostJudged
-most-judged n rest h = passing _ _ 13 0 _ (λ e. le-leb (n .«rows_held») mostCount (omega (arith, leb-true (n .«bars_seen») mostCount e)))
+rows-below : (n : Counts) → n .«rows_held» ≤ n .«bars_seen»
+    → (leb (n .«bars_seen») mostCount && leb (n .«rows_held») mostCount) ≡ leb (n .«bars_seen») mostCount
+rows-below n h = passing _ _ (λ e. le-leb (n .«rows_held») mostCount (omega (arith, leb-true (n .«bars_seen») mostCount e)))
 
 -- two boxes that are near refuse the same bars, with the same number and place
 pub judged-near : (s : Settings) (t t′ : State) (bar : List ℕ) (m m′ : Rooms) (ls : Lists) → Roomy s t m → Roomy s t′ m′
     → Near s t t′ m m′ → stepJudged s t bar m ls ≡ stepJudged s t′ bar m′ ls
-unfolding stepJudged roomJudged stateJudged heldJudged placeJudged
+unfolding stepJudged stepLines runLines roomLines stateLines placeLines
 judged-near s t t′ bar m m′ ls r r′ near =
-    rw (le-leb _ _ (r .depth), most-judged (t .counts) _ (r .seen), le-leb _ _ (r .held))
-    (rw (le-leb _ _ (r′ .depth), most-judged (t′ .counts) _ (r′ .seen), le-leb _ _ (r′ .held))
+    rw (le-leb _ _ (r .depth), rows-below (t .counts) (r .seen), le-leb _ _ (r .held))
+    (rw (le-leb _ _ (r′ .depth), rows-below (t′ .counts) (r′ .seen), le-leb _ _ (r′ .held))
     (rw (near .bars, near .points, near .trades, near .equity, near .closed, near .position)))
 
 -- ---- a run
@@ -86,7 +82,7 @@ on-near : (s : Settings) (v : Verdict) (a a′ b b′ : With State) → Near s (
     → (v ≡ Fine → Near s (b .result) (b′ .result) (b .rooms) (b′ .rooms))
     → Near s (goOn v a b .result) (goOn v a′ b′ .result) (goOn v a b .rooms) (goOn v a′ b′ .rooms)
 unfolding goOn
-on-near s (Bad number place) a a′ b b′ x y = x
+on-near s (Bad why) a a′ b b′ x y = x
 on-near s Fine a a′ b b′ x y = y refl
 
 -- from any two boxes that are near
@@ -122,10 +118,10 @@ run-near s ls m m′ bars p p′ e c =
 -- two boxes that are near refuse to finish alike
 pub finish-judged-near : (s : Settings) (t t′ : State) (m m′ : Rooms) → Roomy s t m → Roomy s t′ m′ → Near s t t′ m m′
     → finishJudged s t m ≡ finishJudged s t′ m′
-unfolding finishJudged roomJudged stateJudged heldJudged closeJudged toClose
+unfolding finishJudged finishLines roomLines stateLines closeLines toClose
 finish-judged-near s t t′ m m′ r r′ near =
-    rw (le-leb _ _ (r .depth), most-judged (t .counts) _ (r .seen), le-leb _ _ (r .held))
-    (rw (le-leb _ _ (r′ .depth), most-judged (t′ .counts) _ (r′ .seen), le-leb _ _ (r′ .held))
+    rw (le-leb _ _ (r .depth), rows-below (t .counts) (r .seen), le-leb _ _ (r .held))
+    (rw (le-leb _ _ (r′ .depth), rows-below (t′ .counts) (r′ .seen), le-leb _ _ (r′ .held))
     (rw (near .bars, near .points, near .trades, near .equity, near .closed, near .position)))
 
 -- THE END: of two boxes that are near, the same figures, and they are near again

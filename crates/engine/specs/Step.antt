@@ -7,12 +7,11 @@ use Rattle.rows.specs.History.{historyOf}
 use Rattle.rows.specs.Room.{withRow, heldWith}
 use Rattle.records.specs.declared.settings.Settings.{Settings}
 use Rattle.records.specs.declared.state.State.{State}
-use Rattle.refusals.specs.declared.Verdict.{Verdict}
-use Rattle.refusals.specs.declared.Verdict.the-variants.{Fine, Bad}
+use Rattle.refusals.specs.declared.verdict.Verdict.{Verdict}
+use Rattle.refusals.specs.declared.verdict.Verdict.the-variants.{Fine, Bad}
 use Rattle.records.specs.Bar.{candleOf}
 use Rattle.refusals.specs.Judgement.{stepJudged}
-use Rattle.records.specs.Lent.{Lists}
-use Rattle.records.specs.Lent.{Rooms}
+use Rattle.records.specs.Lent.{Lists, Rooms}
 use Rattle.engine.specs.declared.Answer.{Answer}
 use Rattle.engine.specs.declared.Answer.the-variants.{Refused, Done}
 use Rattle.engine.specs.Account.{filled, left, charged, booked, marked}
@@ -51,7 +50,7 @@ stepped s t bar m ls =
 -- The paper's values for each case of the answer. "A refusal returns number, place and the state it was given, and changes
 -- nothing lent."
 unfoldable pub answered : Verdict → State → Rooms → With State → With Answer
-answered (Bad number place) t m done = record { result = Refused number place t; rooms = m }
+answered (Bad why) t m done = record { result = Refused why t; rooms = m }
 answered Fine t m done = record { result = Done (done .result); rooms = done .rooms }
 
 unfoldable pub stepOf : Settings → State → List ℕ → Rooms → Lists → With Answer

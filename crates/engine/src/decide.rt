@@ -2,6 +2,7 @@
 ghost use mathlib.Core.Path.{_≡_};
 ghost use Prim.Native.Nat.{_<_, _≤_};
 ghost use Rattle.rows.specs.History.{historyOf};
+ghost use Rattle.records.specs.Lent.{lists};
 ghost use Rattle.engine.specs.Decide.{says, answersOf, ordered, decided};
 ghost use Rattle.engine.specs.Record.{heldRows};
 use crate::record;
@@ -33,7 +34,7 @@ fn order_of<'a>(
     short_entry: &[u8],
     short_exit: &'a [u8],
 ) -> Order
-    ensures { λ r. ⌜ r ≡ ordered delay account (answersOf (historyOf slots (now (window .entry))) state (record { entry = now (entry .entry); «exit» = now («exit» .entry); «short_entry» = now («short_entry» .entry); «short_exit» = now («short_exit» .entry) })) ⌝ }
+    ensures { λ r. ⌜ r ≡ ordered delay account (answersOf (historyOf slots (now (window .entry))) state (lists (now (entry .entry)) (now («exit» .entry)) (now («short_entry» .entry)) (now («short_exit» .entry)))) ⌝ }
 {
     if account.in_position() {
         let list = choice::exit_list(account.qty, exit, short_exit);
@@ -65,7 +66,7 @@ pub(crate) fn decide_next_action<'a>(
     short_exit: &'a [u8],
 ) -> Order
     requires { ⌜ (s .slots ≤ 64) × (number < 4294967295) ⌝ }
-    ensures { λ r. ⌜ r ≡ decided s order p number (heldRows (s .slots) held (now (rows .entry))) (record { entry = now (entry .entry); «exit» = now («exit» .entry); «short_entry» = now («short_entry» .entry); «short_exit» = now («short_exit» .entry) }) ⌝ }
+    ensures { λ r. ⌜ r ≡ decided s order p number (heldRows (s .slots) held (now (rows .entry))) (lists (now (entry .entry)) (now («exit» .entry)) (now («short_entry» .entry)) (now («short_exit» .entry))) ⌝ }
 {
     match order {
         Order::EnterLong(n) => Order::EnterLong(n),

@@ -1,5 +1,6 @@
 // The end of a run: the last trade and the figures.
 ghost use mathlib.Core.Path.{_≡_};
+ghost use Rattle.records.specs.Lent.{rooms};
 ghost use Rattle.engine.specs.Finish.{lastExit, endState, measured, ended};
 ghost use Rattle.engine.specs.Step.{Is};
 use crate::account;
@@ -71,7 +72,7 @@ pub(crate) fn conclude(
     equity: &[u64],
     trades: &mut [u64],
 ) -> Ended
-    ensures { λ r. ⌜ Is Ended (ended s t (record { rows = now (rows .entry); equity = now (equity .entry); trades = now (trades .entry) })) r (now (rows .entry)) (now (equity .entry)) (now (trades .exit)) ⌝ }
+    ensures { λ r. ⌜ Is Ended (ended s t (rooms (now (rows .entry)) (now (equity .entry)) (now (trades .entry)))) r (now (rows .entry)) (now (equity .entry)) (now (trades .exit)) ⌝ }
 {
     let n = t.counts;
     let exit = last_exit(s, t);

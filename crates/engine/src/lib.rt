@@ -5,6 +5,7 @@ mod decide;
 mod ending;
 mod record;
 
+ghost use Rattle.records.specs.Lent.{rooms, lists};
 ghost use Rattle.engine.specs.Finish.{finishOf};
 ghost use Rattle.engine.specs.Step.{Ready, Is, stepped, stepOf};
 use metrics::Metrics;
@@ -12,17 +13,18 @@ use records::settings::Settings;
 use records::state::Counts;
 use records::state::Last;
 use records::state::State;
-use refusals::Verdict;
+use refusals::verdict::Verdict;
+use words::refusal::Refusal;
 
-// What a step gives: the new state, or a refusal's number and place with the state that was given.
+// What a step gives: the new state, or a refusal with the state that was given.
 pub enum Answer {
-    Refused(u64, u64, State),
+    Refused(Refusal, State),
     Done(State),
 }
 
 // What finish gives: the last state and the figures, or a refusal with the state that was given.
 pub enum Finished {
-    Refused(u64, u64, State),
+    Refused(Refusal, State),
     Done(State, Metrics),
 }
 
@@ -40,7 +42,7 @@ fn advance<'a>(
     short_exit: &'a [u8],
 ) -> State
     requires { ⌜ Ready s t ⌝ }
-    ensures { λ r. ⌜ Is State (stepped s t (now (bar .entry)) (record { rows = now (rows .entry); equity = now (equity .entry); trades = now (trades .entry) }) (record { entry = now (entry .entry); «exit» = now («exit» .entry); «short_entry» = now («short_entry» .entry); «short_exit» = now («short_exit» .entry) })) r (now (rows .exit)) (now (equity .exit)) (now (trades .exit)) ⌝ }
+    ensures { λ r. ⌜ Is State (stepped s t (now (bar .entry)) (rooms (now (rows .entry)) (now (equity .entry)) (now (trades .entry))) (lists (now (entry .entry)) (now («exit» .entry)) (now («short_entry» .entry)) (now («short_exit» .entry)))) r (now (rows .exit)) (now (equity .exit)) (now (trades .exit)) ⌝ }
 {
     let n = t.counts;
     let order = t.order;
@@ -101,7 +103,7 @@ pub fn step<'a>(
     short_entry: &[u8],
     short_exit: &'a [u8],
 ) -> Answer
-    ensures { λ r. ⌜ Is Answer (stepOf s t (now (bar .entry)) (record { rows = now (rows .entry); equity = now (equity .entry); trades = now (trades .entry) }) (record { entry = now (entry .entry); «exit» = now («exit» .entry); «short_entry» = now («short_entry» .entry); «short_exit» = now («short_exit» .entry) })) r (now (rows .exit)) (now (equity .exit)) (now (trades .exit)) ⌝ }
+    ensures { λ r. ⌜ Is Answer (stepOf s t (now (bar .entry)) (rooms (now (rows .entry)) (now (equity .entry)) (now (trades .entry))) (lists (now (entry .entry)) (now («exit» .entry)) (now («short_entry» .entry)) (now («short_exit» .entry)))) r (now (rows .exit)) (now (equity .exit)) (now (trades .exit)) ⌝ }
 {
     let verdict = refusals::judge_step(
         s,
@@ -116,7 +118,7 @@ pub fn step<'a>(
         short_exit,
     );
     match verdict {
-        Verdict::Bad(number, place) => Answer::Refused(number, place, t),
+        Verdict::Bad(refusal) => Answer::Refused(refusal, t),
         Verdict::Fine => Answer::Done(advance(
             s,
             t,
@@ -135,11 +137,11 @@ pub fn step<'a>(
 // The end of a run: an open position is closed at the last close, and the figures are made. Of the rows nothing is read:
 // they are handed over so that the state is judged by all the rooms that it counts.
 pub fn finish(s: Settings, t: State, rows: &[u64], equity: &[u64], trades: &mut [u64]) -> Finished
-    ensures { λ r. ⌜ Is Finished (finishOf s t (record { rows = now (rows .entry); equity = now (equity .entry); trades = now (trades .entry) })) r (now (rows .entry)) (now (equity .entry)) (now (trades .exit)) ⌝ }
+    ensures { λ r. ⌜ Is Finished (finishOf s t (rooms (now (rows .entry)) (now (equity .entry)) (now (trades .entry)))) r (now (rows .entry)) (now (equity .entry)) (now (trades .exit)) ⌝ }
 {
     let verdict = refusals::judge_finish(s, t, rows, equity, trades);
     match verdict {
-        Verdict::Bad(number, place) => Finished::Refused(number, place, t),
+        Verdict::Bad(refusal) => Finished::Refused(refusal, t),
         Verdict::Fine => {
             let ended = ending::conclude(s, t, rows, equity, trades);
             let state = ended.state;

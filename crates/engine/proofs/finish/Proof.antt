@@ -10,7 +10,7 @@ returns c =
     let judged = c .before .before .before in
     let a = judged .before .before .before .before .before .args in
     refused (a .s) (a .t) (record { rows = a .rows .now; equity = a .equity .now; trades = a .trades .now })
-    _ _ (sym (judged .judge-finish .ensures) ∙ c .before .verdict .given .1)
+    _ (sym (judged .judge-finish .ensures) ∙ c .before .verdict .given .1)
 
 returns-2 : tie.Need-returns-2
 returns-2 c =

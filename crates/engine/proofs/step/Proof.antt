@@ -17,7 +17,7 @@ returns c =
     let a = c .before .before .before .before .before .before .before .before .before .before .before .before .before .before .before .args in
     refused (a .s) (a .t) (a .bar .now) (record { rows = a .rows .now; equity = a .equity .now; trades = a .trades .now })
     (record { entry = a .entry .now; «exit» = a .exit .now; «short_entry» = a .«short-entry» .now; «short_exit» = a .«short-exit» .now })
-    _ _ (sym (c .before .before .before .judge-step .ensures) ∙ c .before .verdict .given .1)
+    _ (sym (c .before .before .before .judge-step .ensures) ∙ c .before .verdict .given .1)
 
 returns-2 : tie.Need-returns-2
 returns-2 c =

@@ -1,7 +1,7 @@
 -- A list of lines, judged from the top: what holds of it as a whole, and of a list that stands below another.
 use Prim.Native.Nat.{ℕ}
 use mathlib.Core.Path.{_≡_, refl, sym}
-use mathlib.Core.Bool.{Bool, true, false, cond}
+use mathlib.Core.Bool.{Bool, true, false, cond, _&&_}
 use mathlib.Core.List.{List, [], _∷_, _++_}
 use native.Mathlib.Omega.{arith}
 use Rattle.words.specs.declared.refusal.Refusal.{Refusal}
@@ -10,8 +10,13 @@ use Rattle.refusals.specs.declared.verdict.Verdict.the-variants.{Fine, B
 use Rattle.refusals.specs.Lines.{Line, judged}
 
 -- no verdict is both
-never : {A : Type 0} {r : Refusal} → Bad r ≡ Fine → A
+pub never : {A : Type 0} {r : Refusal} → Bad r ≡ Fine → A
 never e = absurd (let z : _≡_ {A = ℕ} 0 1 = cc in omega arith)
+
+-- of two tests in one, both hold
+pub and-true : (a b : Bool) → (a && b) ≡ true → (a ≡ true) × (b ≡ true)
+and-true true b h = (refl, h)
+and-true false b h = absurd (let z : _≡_ {A = ℕ} 0 1 = cc in omega arith)
 
 -- a line that is passed, and what the lines below it say
 passed : (ok : Bool) (v : Verdict) (r : Refusal) → cond ok v (Bad r) ≡ Fine → (ok ≡ true) × (v ≡ Fine)
