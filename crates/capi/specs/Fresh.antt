@@ -2,21 +2,14 @@
 use Prim.Native.Nat.{ℕ}
 use mathlib.Core.List.{List}
 use Rattle.words.specs.Words.{overwrite}
-use Rattle.refusals.specs.declared.verdict.Verdict.{Verdict}
-use Rattle.refusals.specs.declared.verdict.Verdict.the-variants.{Fine, Bad}
-use Rattle.records.specs.State.{freshState}
-use Rattle.capi.specs.Words.{answerWord, wordsJudged}
+use Rattle.words.specs.Outcome.{gives}
 use Rattle.records.specs.Settings.{settingsOf}
-use Rattle.records.specs.StateWords.{stateWords}
+use Rattle.records.specs.State.{freshState}
+use Rattle.records.specs.StateWords.{wordsOf}
+use Rattle.refusals.specs.Lines.{judged}
+use Rattle.capi.specs.Call.{Call, callOf, unlessBad, wordLines}
 
--- the answer, and the room of the state as it is left
-pub record FreshCall : Type 0 where
-  pub answer : ℕ
-  pub state : List ℕ
-
-unfoldable pub freshBy : Verdict → List ℕ → List ℕ → FreshCall
-freshBy (Bad number place) settings state = record { answer = answerWord number place; state = state }
-freshBy Fine settings state = record { answer = 0; state = overwrite state 0 (stateWords (freshState (settingsOf settings))) }
-
-unfoldable pub freshCall : List ℕ → List ℕ → FreshCall
-freshCall settings state = freshBy (wordsJudged settings state Fine) settings state
+-- lent: the room of the state
+unfoldable pub freshCall : List ℕ → List ℕ → Call (List ℕ)
+freshCall settings state =
+    callOf (unlessBad (judged (wordLines settings state)) (gives (overwrite state 0 (wordsOf (freshState (settingsOf settings)))))) state

@@ -1,16 +1,17 @@
 // One bar, and the end of a run.
 ghost use mathlib.Core.Path.{_≡_};
+ghost use Rattle.records.specs.Lent.{rooms, lists};
 ghost use Rattle.capi.specs.Bars.{stepCall};
 ghost use Rattle.capi.specs.Finish.{finishCall};
+use crate::calls::answer_word;
+use crate::calls::judge_metrics;
+use crate::calls::judge_words;
 use crate::figures::put_metrics;
-use crate::settings::settings_of;
-use crate::state::put_state;
-use crate::state::state_of;
-use crate::words::answer_word;
-use crate::words::judge_metrics;
-use crate::words::judge_words;
 use engine::Answer;
 use engine::Finished;
+use records::settings::settings_of;
+use records::state_words::put_state;
+use records::state_words::state_of;
 use refusals::verdict::Verdict;
 
 // One bar.
@@ -27,16 +28,20 @@ pub extern "C" fn ysh_step<'a>(
     short_entry: &[u8],
     short_exit: &'a [u8],
 ) -> u64
-    ensures { λ r. ⌜ stepCall (now (settings .entry)) (now (state .entry)) (now (bar .entry)) (rooms (now (rows .entry)) (now (equity .entry)) (now (trades .entry))) (lists (now (entry .entry)) (now («exit» .entry)) (now («short_entry» .entry)) (now («short_exit» .entry))) ≡ record { answer = r; state = now (state .exit); rooms = rooms (now (rows .exit)) (now (equity .exit)) (now (trades .exit)) } ⌝ }
+    ensures { λ r. ⌜ stepCall (now (settings .entry)) (now (state .entry)) (now (bar .entry))
+        (rooms (now (rows .entry)) (now (equity .entry)) (now (trades .entry)))
+        (lists (now (entry .entry)) (now («exit» .entry)) (now («short_entry» .entry)) (now («short_exit» .entry)))
+        ≡ record {
+          answer = r;
+          lent = record { state = now (state .exit); rooms = rooms (now (rows .exit)) (now (equity .exit)) (now (trades .exit)) };
+        } ⌝ }
 {
     let chosen = settings_of(settings);
-    let lent = refusals::rooms::judge_room(
-        chosen,
-        rows,
-        judge_words(settings, state, Verdict::Fine),
-    );
-    if let Verdict::Bad(number, place) = lent {
-        return answer_word(number, place);
+    if let Verdict::Bad(refusal) = refusals::rooms::judge_room(chosen, rows) {
+        return answer_word(refusal);
+    }
+    if let Verdict::Bad(refusal) = judge_words(settings, state) {
+        return answer_word(refusal);
     }
     let answer = engine::step(
         chosen,
@@ -51,7 +56,7 @@ pub extern "C" fn ysh_step<'a>(
         short_exit,
     );
     match answer {
-        Answer::Refused(number, place, _) => answer_word(number, place),
+        Answer::Refused(refusal, _) => answer_word(refusal),
         Answer::Done(next) => {
             put_state(state, next);
             0
@@ -69,20 +74,23 @@ pub extern "C" fn ysh_finish(
     trades: &mut [u64],
     metrics: &mut [u64],
 ) -> u64
-    ensures { λ r. ⌜ finishCall (now (settings .entry)) (now (state .entry)) (rooms (now (rows .entry)) (now (equity .entry)) (now (trades .entry))) (now (metrics .entry)) ≡ record { answer = r; state = now (state .exit); trades = now (trades .exit); metrics = now (metrics .exit) } ⌝ }
+    ensures { λ r. ⌜ finishCall (now (settings .entry)) (now (state .entry))
+        (rooms (now (rows .entry)) (now (equity .entry)) (now (trades .entry))) (now (metrics .entry))
+        ≡ record { answer = r; lent = record { state = now (state .exit); trades = now (trades .exit); metrics = now (metrics .exit) } } ⌝ }
 {
     let chosen = settings_of(settings);
-    let lent = refusals::rooms::judge_room(
-        chosen,
-        rows,
-        judge_words(settings, state, judge_metrics(metrics)),
-    );
-    if let Verdict::Bad(number, place) = lent {
-        return answer_word(number, place);
+    if let Verdict::Bad(refusal) = refusals::rooms::judge_room(chosen, rows) {
+        return answer_word(refusal);
+    }
+    if let Verdict::Bad(refusal) = judge_words(settings, state) {
+        return answer_word(refusal);
+    }
+    if let Verdict::Bad(refusal) = judge_metrics(metrics) {
+        return answer_word(refusal);
     }
     let finished = engine::finish(chosen, state_of(state), rows, equity, trades);
     match finished {
-        Finished::Refused(number, place, _) => answer_word(number, place),
+        Finished::Refused(refusal, _) => answer_word(refusal),
         Finished::Done(next, figures) => {
             put_state(state, next);
             put_metrics(metrics, figures);

@@ -5,8 +5,8 @@ ghost use Rattle.metrics.specs.Figures.{wordsOf};
 ghost use Rattle.floats.specs.Floats.{wordOf, floatOf};
 ghost use Rattle.floats.specs.Sqrt.{sqrt};
 ghost use Rattle.capi.specs.Figures.{metricsCall};
-use crate::words::answer_word;
-use crate::words::judge_metrics;
+use crate::calls::answer_word;
+use crate::calls::judge_metrics;
 use metrics::Answer;
 use metrics::Metrics;
 use refusals::verdict::Verdict;
@@ -27,20 +27,18 @@ pub extern "C" fn ysh_metrics(
     trades: &[u64],
     metrics: &mut [u64],
 ) -> u64
-    ensures { λ r. ⌜ metricsCall initial (now (equity .entry)) (now (trades .entry)) (now (metrics .entry)) ≡ record { answer = r; metrics = now (metrics .exit) } ⌝ }
+    ensures { λ r. ⌜ metricsCall initial (now (equity .entry)) (now (trades .entry)) (now (metrics .entry))
+        ≡ record { answer = r; lent = now (metrics .exit) } ⌝ }
 {
-    let lent = judge_metrics(metrics);
-    match lent {
-        Verdict::Bad(number, place) => answer_word(number, place),
-        Verdict::Fine => {
-            let computed = metrics::compute(floats::float_of(initial), equity, trades);
-            match computed {
-                Answer::Refused(number, place) => answer_word(number, place),
-                Answer::Done(m) => {
-                    put_metrics(metrics, m);
-                    0
-                }
-            }
+    if let Verdict::Bad(refusal) = judge_metrics(metrics) {
+        return answer_word(refusal);
+    }
+    let computed = metrics::compute(floats::float_of(initial), equity, trades);
+    match computed {
+        Answer::Refused(refusal) => answer_word(refusal),
+        Answer::Done(m) => {
+            put_metrics(metrics, m);
+            0
         }
     }
 }

@@ -1,8 +1,7 @@
 // The C interface: words in, words out. include/yshturpa.h declares its calls, docs/INTERFACE.md describes them.
 pub mod bars;
+mod calls;
 pub mod figures;
 pub mod run;
-mod settings;
 pub mod state;
 pub mod tables;
-mod words;

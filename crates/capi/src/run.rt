@@ -1,16 +1,14 @@
 // One rule of a table over rows, and a list of steps over rows.
 ghost use mathlib.Core.Path.{_≡_};
 ghost use Rattle.capi.specs.Run.{treeOf, positionState, saysOf, ruleCall, runCall};
-use crate::state::entered_of;
-use crate::words::answer_word;
-use crate::words::bit_of;
+use crate::calls::answer_word;
+use crate::calls::bit_of;
+use records::state_words::entered_of;
 use rules::PositionState;
 use rules::RuleAnswer;
 use rules::Tree;
 use steps::RunAnswer;
-
-// How many trees a table has.
-pub const TREES: u64 = 4;
+use words::limits::TREES;
 
 // A tree by its number; that of a higher number is absent, and its callers say so.
 pub(crate) fn tree_of(number: u64) -> Tree
@@ -53,12 +51,13 @@ pub extern "C" fn ysh_rule(
     bars_seen: u64,
     answer: &mut u64,
 ) -> u64
-    ensures { λ r. ⌜ ruleCall (now (table .entry)) tree (now (rows .entry)) (positionState qty entered «entry_bar» «bars_seen») (now (answer .entry)) ≡ record { answer = r; says = now (answer .exit) } ⌝ }
+    ensures { λ r. ⌜ ruleCall (now (table .entry)) tree (now (rows .entry)) (positionState qty entered «entry_bar» «bars_seen») (now (answer .entry))
+        ≡ record { answer = r; lent = now (answer .exit) } ⌝ }
 {
     let position = position_state(qty, entered, entry_bar, bars_seen);
     let said = rules::answers::answer_rule(table, tree_of(tree), rows, position);
     match said {
-        RuleAnswer::Refuses(number, place) => answer_word(number as u64, place as u64),
+        RuleAnswer::Refuses(refusal) => answer_word(refusal),
         RuleAnswer::Says(yes) => {
             *answer = says_of(tree, yes);
             0
@@ -80,12 +79,14 @@ pub extern "C" fn ysh_run(
     answer: &mut u64,
     visits: &mut u64,
 ) -> u64
-    ensures { λ r. ⌜ runCall (now (steps .entry)) (now (rows .entry)) slots depth (positionState qty entered «entry_bar» «bars_seen») (now (answer .entry)) (now (visits .entry)) ≡ record { answer = r; says = now (answer .exit); visits = now (visits .exit) } ⌝ }
+    ensures { λ r. ⌜ runCall (now (steps .entry)) (now (rows .entry)) slots depth (positionState qty entered «entry_bar» «bars_seen»)
+        (record { says = now (answer .entry); visits = now (visits .entry) })
+        ≡ record { answer = r; lent = record { says = now (answer .exit); visits = now (visits .exit) } } ⌝ }
 {
     let position = position_state(qty, entered, entry_bar, bars_seen);
     let ran = steps::running::run(steps, rows, slots as usize, depth as usize, position);
     match ran {
-        RunAnswer::Refuses(number, place) => answer_word(number as u64, place as u64),
+        RunAnswer::Refuses(refusal) => answer_word(refusal),
         RunAnswer::Runs(run) => {
             *answer = bit_of(run.answer);
             *visits = run.visits as u64;

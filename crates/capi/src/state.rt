@@ -1,8 +1,8 @@
 // The state before the first bar.
 ghost use mathlib.Core.Path.{_≡_};
 ghost use Rattle.capi.specs.Fresh.{freshCall};
-use crate::words::answer_word;
-use crate::words::judge_words;
+use crate::calls::answer_word;
+use crate::calls::judge_words;
 use records::settings::settings_of;
 use records::state_words::put_state;
 use refusals::verdict::Verdict;
@@ -10,14 +10,11 @@ use refusals::verdict::Verdict;
 // The state before the first bar.
 #[no_mangle]
 pub extern "C" fn ysh_fresh(settings: &[u64], state: &mut [u64]) -> u64
-    ensures { λ r. ⌜ freshCall (now (settings .entry)) (now (state .entry)) ≡ record { answer = r; state = now (state .exit) } ⌝ }
+    ensures { λ r. ⌜ freshCall (now (settings .entry)) (now (state .entry)) ≡ record { answer = r; lent = now (state .exit) } ⌝ }
 {
-    let judged = judge_words(settings, state, Verdict::Fine);
-    match judged {
-        Verdict::Bad(number, place) => answer_word(number, place),
-        Verdict::Fine => {
-            put_state(state, records::state::fresh(settings_of(settings)));
-            0
-        }
+    if let Verdict::Bad(refusal) = judge_words(settings, state) {
+        return answer_word(refusal);
     }
+    put_state(state, records::state::fresh(settings_of(settings)));
+    0
 }

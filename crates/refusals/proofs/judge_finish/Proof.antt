@@ -1,6 +1,6 @@
 -- Room, settings and state are blocks, each judged by itself; the trade to be closed comes last.
 use Rattle.refusals.specs.Judgement.{finishJudged, finishLines}
-use Rattle.refusals.proofs.Lines.{fine-block, bad-block}
+use Rattle.refusals.specs.Laws.Descent.{fine-block, bad-block}
 use borrow.Author.Needs.{needs}
 use Rattle.refusals.proofs.judge_finish.Statement.{statement}
 use Rattle.refusals.proofs.judge_finish.Tie as tie

@@ -1,6 +1,6 @@
 -- Room and settings are blocks, each judged by itself; the state comes last.
 use Rattle.refusals.specs.Judgement.{runLines}
-use Rattle.refusals.proofs.Lines.{fine-block, bad-block}
+use Rattle.refusals.specs.Laws.Descent.{fine-block, bad-block}
 use borrow.Author.Needs.{needs}
 use Rattle.refusals.proofs.judge_run.Statement.{statement}
 use Rattle.refusals.proofs.judge_run.Tie as tie

@@ -1,6 +1,6 @@
 -- Run, places and bar are blocks, each judged by itself; the lists come last.
 use Rattle.refusals.specs.Judgement.{stepJudged, stepLines}
-use Rattle.refusals.proofs.Lines.{so, not-so, fine-line, bad-line, fine-block, bad-block}
+use Rattle.refusals.specs.Laws.Descent.{so, not-so, fine-line, bad-line, fine-block, bad-block}
 use borrow.Author.Needs.{needs}
 use Rattle.refusals.proofs.judge_step.Statement.{statement}
 use Rattle.refusals.proofs.judge_step.Tie as tie

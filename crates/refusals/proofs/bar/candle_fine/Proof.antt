@@ -1,5 +1,5 @@
 -- Test by test: those passed hold, and the first that does not decides.
-use Rattle.refusals.proofs.Lines.{so, not-so}
+use Rattle.refusals.specs.Laws.Descent.{so, not-so}
 use borrow.Author.Needs.{needs}
 use Rattle.refusals.proofs.bar.candle_fine.Statement.{statement}
 use Rattle.refusals.proofs.bar.candle_fine.Tie as tie

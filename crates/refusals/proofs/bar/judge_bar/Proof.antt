@@ -2,7 +2,7 @@
 use mathlib.Core.Path.{refl, ap, _∙_}
 use borrow.Author.Tests.{not-true, not-false}
 use Rattle.refusals.specs.Bar.{fundingFine, barLines}
-use Rattle.refusals.proofs.Lines.{so, not-so, no-line, fine-line, bad-line}
+use Rattle.refusals.specs.Laws.Descent.{so, not-so, no-line, fine-line, bad-line}
 use borrow.Author.Needs.{needs}
 use Rattle.refusals.proofs.bar.judge_bar.Statement.{statement}
 use Rattle.refusals.proofs.bar.judge_bar.Tie as tie

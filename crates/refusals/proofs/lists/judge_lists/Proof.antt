@@ -1,6 +1,6 @@
 -- Each list is a block, judged by itself.
 use Rattle.refusals.specs.Lists.{listLines}
-use Rattle.refusals.proofs.Lines.{fine-block, bad-block}
+use Rattle.refusals.specs.Laws.Descent.{fine-block, bad-block}
 use borrow.Author.Needs.{needs}
 use Rattle.refusals.proofs.lists.judge_lists.Statement.{statement}
 use Rattle.refusals.proofs.lists.judge_lists.Tie as tie

@@ -2,7 +2,7 @@
 use mathlib.Core.Path.{refl, sym, _∙_}
 use borrow.Author.Tests.{lt-ltb, le-ltb}
 use Rattle.refusals.specs.Rooms.{closeLines}
-use Rattle.refusals.proofs.Lines.{no-line, fine-line, bad-line}
+use Rattle.refusals.specs.Laws.Descent.{no-line, fine-line, bad-line}
 use borrow.Author.Needs.{needs}
 use Rattle.refusals.proofs.rooms.judge_close.Statement.{statement}
 use Rattle.refusals.proofs.rooms.judge_close.Tie as tie

@@ -2,7 +2,7 @@
 use borrow.Author.Tests.{lt-leb, le-leb}
 use Rattle.rows.specs.History.{historyOf}
 use Rattle.refusals.specs.Rooms.{roomLines}
-use Rattle.refusals.proofs.Lines.{no-line, fine-line, bad-line}
+use Rattle.refusals.specs.Laws.Descent.{no-line, fine-line, bad-line}
 use borrow.Author.Needs.{needs}
 use Rattle.refusals.proofs.rooms.judge_room.Statement.{statement}
 use Rattle.refusals.proofs.rooms.judge_room.Tie as tie

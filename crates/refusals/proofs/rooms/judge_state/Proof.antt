@@ -1,6 +1,6 @@
 -- Counts and rooms are one test each, and the entry bar a third.
 use Rattle.refusals.specs.Rooms.{stateLines}
-use Rattle.refusals.proofs.Lines.{so, not-so, no-line, fine-line, bad-line}
+use Rattle.refusals.specs.Laws.Descent.{so, not-so, no-line, fine-line, bad-line}
 use borrow.Author.Needs.{needs}
 use Rattle.refusals.proofs.rooms.judge_state.Statement.{statement}
 use Rattle.refusals.proofs.rooms.judge_state.Tie as tie

@@ -1,6 +1,6 @@
 -- Line by line: those passed are fine, and the first that is not decides.
 use Rattle.refusals.specs.Settings.{riskLines}
-use Rattle.refusals.proofs.Lines.{so, not-so, no-line, fine-line, bad-line}
+use Rattle.refusals.specs.Laws.Descent.{so, not-so, no-line, fine-line, bad-line}
 use borrow.Author.Needs.{needs}
 use Rattle.refusals.proofs.setting.judge_risk.Statement.{statement}
 use Rattle.refusals.proofs.setting.judge_risk.Tie as tie

@@ -1,7 +1,7 @@
 -- Line by line: those of setting 1 are one test, and settings 5 and on come last.
 use borrow.Author.Tests.{not-true, not-false, lt-leb, le-leb}
 use Rattle.refusals.specs.Settings.{settingLines}
-use Rattle.refusals.proofs.Lines.{so, not-so, fine-line, bad-line}
+use Rattle.refusals.specs.Laws.Descent.{so, not-so, fine-line, bad-line}
 use borrow.Author.Needs.{needs}
 use Rattle.refusals.proofs.setting.judge_settings.Statement.{statement}
 use Rattle.refusals.proofs.setting.judge_settings.Tie as tie

@@ -3,7 +3,7 @@ use mathlib.Core.Path.{refl, ap, _∙_}
 use borrow.Author.Tests.{lt-leb, le-leb}
 use Rattle.floats.specs.Floats.{finite}
 use Rattle.refusals.specs.Settings.{sizingLines}
-use Rattle.refusals.proofs.Lines.{so, not-so, no-line, fine-line, bad-line}
+use Rattle.refusals.specs.Laws.Descent.{so, not-so, no-line, fine-line, bad-line}
 use borrow.Author.Needs.{needs}
 use Rattle.refusals.proofs.setting.judge_sizing.Statement.{statement}
 use Rattle.refusals.proofs.setting.judge_sizing.Tie as tie

@@ -2,7 +2,7 @@
 use mathlib.Core.Path.{refl, ap, _∙_}
 use Rattle.floats.specs.Floats.{finite}
 use Rattle.refusals.specs.Settings.{slippageLines}
-use Rattle.refusals.proofs.Lines.{so, not-so, no-line, fine-line, bad-line}
+use Rattle.refusals.specs.Laws.Descent.{so, not-so, no-line, fine-line, bad-line}
 use borrow.Author.Needs.{needs}
 use Rattle.refusals.proofs.setting.judge_slippage.Statement.{statement}
 use Rattle.refusals.proofs.setting.judge_slippage.Tie as tie

@@ -1,0 +1,56 @@
+// What every call shares: the word that it answers, and refusal 10 for the rooms that only the C calls have.
+ghost use mathlib.Core.Path.{_≡_};
+ghost use Rattle.refusals.specs.Lines.{judged};
+ghost use Rattle.capi.specs.Call.{answerWord, bitOf, wordLines, metricLines};
+use refusals::verdict::Verdict;
+use words::limits::METRIC_WORDS;
+use words::limits::SETTING_WORDS;
+use words::limits::STATE_WORDS;
+use words::refusal::Refusal;
+
+// The numbers of these rooms.
+const SETTINGS_ROOM: u64 = 7;
+
+const STATE_ROOM: u64 = 8;
+
+const METRICS_ROOM: u64 = 9;
+
+// A part of an answer: the refusal's number stands in the upper half of the word, its place in the lower.
+const HALF: u64 = 4_294_967_296;
+
+// A refusal as one word.
+pub(crate) fn answer_word(refusal: Refusal) -> u64
+    ensures { λ r. ⌜ r ≡ answerWord refusal ⌝ }
+{
+    refusal.number % HALF * HALF + refusal.place % HALF
+}
+
+// Yes is 1, no is 0.
+pub(crate) fn bit_of(b: bool) -> u64
+    ensures { λ r. ⌜ r ≡ bitOf b ⌝ }
+{
+    if b { 1 } else { 0 }
+}
+
+// 10: settings and state have their words.
+pub(crate) fn judge_words(settings: &[u64], state: &[u64]) -> Verdict
+    ensures { λ r. ⌜ r ≡ judged (wordLines (now (settings .entry)) (now (state .entry))) ⌝ }
+{
+    if settings.len() < SETTING_WORDS {
+        return Verdict::Bad(Refusal { number: 10, place: SETTINGS_ROOM });
+    }
+    if state.len() < STATE_WORDS {
+        return Verdict::Bad(Refusal { number: 10, place: STATE_ROOM });
+    }
+    Verdict::Fine
+}
+
+// 10: the metrics have their words.
+pub(crate) fn judge_metrics(metrics: &[u64]) -> Verdict
+    ensures { λ r. ⌜ r ≡ judged (metricLines (now (metrics .entry))) ⌝ }
+{
+    if metrics.len() < METRIC_WORDS {
+        return Verdict::Bad(Refusal { number: 10, place: METRICS_ROOM });
+    }
+    Verdict::Fine
+}
