@@ -1,3 +1,3 @@
-pub mod StepLaws
-pub mod FinishLaws
-pub mod WritesLaws
+pub mod Calling
+pub mod Stepping
+pub mod Finishing

@@ -1,13 +1,4 @@
-pub mod Words
-pub mod Answers
-pub mod Settings
-pub mod State
-pub mod RoundTrip
+pub mod Call
 pub mod Fresh
-pub mod Figures
-pub mod Run
-pub mod Tables
 pub mod Bars
 pub mod Finish
-pub mod Refused
-pub mod Zero

@@ -2,6 +2,4 @@
 pub mod bars;
 mod calls;
 pub mod figures;
-pub mod run;
 pub mod state;
-pub mod tables;

@@ -1,7 +1,7 @@
--- The definition goes by the same cases.
-use Rattle.capi.specs.Words.{bitOf}
-use Rattle.capi.proofs.words.bit_of.Statement.{statement}
-use Rattle.capi.proofs.words.bit_of.Tie as tie
+-- One word for each case.
+use Rattle.capi.specs.Call.{bitOf}
+use Rattle.capi.proofs.calls.bit_of.Statement.{statement}
+use Rattle.capi.proofs.calls.bit_of.Tie as tie
 
 returns : tie.Need-returns
 unfolding bitOf

@@ -1,0 +1,79 @@
+-- A C call that ends a run is the engine's end on what its words mean.
+use Prim.Native.Nat.{ℕ}
+use mathlib.Core.Path.{_≡_, refl, sym, _∙_}
+use mathlib.Core.List.{List, _++_}
+use native.Mathlib.Omega.{arith}
+use Rattle.words.specs.declared.refusal.Refusal.{Refusal}
+use Rattle.words.specs.Words.{overwrite}
+use Rattle.words.specs.Outcome.{Outcome, gives, refuses}
+use Rattle.metrics.specs.declared.Metrics.{Metrics}
+use Rattle.metrics.specs.Figures as Figures
+use Rattle.records.specs.declared.settings.Settings.{Settings}
+use Rattle.records.specs.declared.state.State.{State}
+use Rattle.records.specs.Lent.{Rooms}
+use Rattle.records.specs.Settings.{settingsOf}
+use Rattle.records.specs.StateWords.{stateOf, wordsOf}
+use Rattle.refusals.specs.declared.verdict.Verdict.{Verdict}
+use Rattle.refusals.specs.declared.verdict.Verdict.the-variants.{Fine, Bad}
+use Rattle.refusals.specs.Lines.{judged}
+use Rattle.refusals.specs.Judgement.{finishJudged}
+use Rattle.refusals.specs.Laws.Lines.{below-fine, below-bad}
+use Rattle.engine.specs.declared.Finished.{Finished}
+use Rattle.engine.specs.declared.Finished.the-variants.{Refused, Done}
+use Rattle.engine.specs.declared.ending.Ended.{Ended}
+use Rattle.engine.specs.Step.{With, Is}
+use Rattle.engine.specs.Finish.{ended, concluded, finishOf}
+use Rattle.capi.specs.Call.{Call, answerWord, metricLines}
+use Rattle.capi.specs.Bars.{lentLines}
+use Rattle.capi.specs.Finish.{FinishLent, finishGives, finishCall}
+use Rattle.capi.proofs.Calling.{call-bad, call-refused, call-gives}
+
+-- a refused end changes no room
+by-verdict : (v : Verdict) (t : State) (m : Rooms) (done : With Ended) (r : Refusal) (u : State)
+    → concluded v t m done .result ≡ Refused r u → concluded v t m done .rooms ≡ m
+unfolding concluded
+by-verdict (Bad why) t m done r u e = refl
+by-verdict Fine t m done r u e = absurd (let z : _≡_ {A = ℕ} 0 1 = cc in omega arith)
+
+finish-keeps : (s : Settings) (t : State) (m : Rooms) (r : Refusal) (u : State) → finishOf s t m .result ≡ Refused r u → finishOf s t m .rooms ≡ m
+unfolding finishOf
+finish-keeps s t m r u e = by-verdict (finishJudged s t m) t m (ended s t m) r u e
+
+module _ (settings state : List ℕ) (m : Rooms) (metrics : List ℕ) where
+  -- what a call that changes nothing answers
+  abbrev kept : ℕ → Call FinishLent
+  kept a = record { answer = a; lent = record { state = state; trades = m .trades; metrics = metrics } }
+
+  pub finish-short : {r : Refusal} {a : ℕ} → judged (lentLines settings state (m .rows)) ≡ Bad r → a ≡ answerWord r
+      → finishCall settings state m metrics ≡ kept a
+  unfolding finishCall
+  finish-short {r} bad word = call-bad _ _ _ (below-bad (lentLines settings state (m .rows)) (metricLines metrics) r bad) word
+
+  module _ {v : Verdict} (fine : judged (lentLines settings state (m .rows)) ≡ Fine) (room : v ≡ judged (metricLines metrics)) where
+    all-lent : judged (lentLines settings state (m .rows) ++ metricLines metrics) ≡ v
+    all-lent = below-fine (lentLines settings state (m .rows)) (metricLines metrics) fine ∙ sym room
+
+    pub finish-roomless : {r : Refusal} {a : ℕ} → v ≡ Bad r → a ≡ answerWord r → finishCall settings state m metrics ≡ kept a
+    unfolding finishCall
+    finish-roomless bad word = call-bad _ _ _ (all-lent ∙ bad) word
+
+    module _
+        {s : Settings} {t : State} {finished : Finished} {ts : List ℕ} (all : v ≡ Fine) (read : s ≡ settingsOf settings) (given : t ≡ stateOf state)
+        (ran : Is Finished (finishOf s t m) finished (m .rows) (m .equity) ts) where
+      finish-ran : let d = finishOf (settingsOf settings) (stateOf state) m in
+          finishGives (d .result) state (d .rooms .trades) metrics ≡ finishGives finished state ts metrics
+      finish-ran = let d = rw (read, given) at ran in simp (d .result, d .trades)
+
+      pub finish-refused : {r : Refusal} {a : ℕ} {u : State} → finished ≡ Refused r u → a ≡ answerWord r
+          → finishCall settings state m metrics ≡ record { answer = a; lent = record { state = state; trades = ts; metrics = metrics } }
+      unfolding finishCall finishGives
+      finish-refused {r = r} {u = u} refused word =
+          let d = rw (read, given) at ran in
+          let unchanged = finish-keeps (settingsOf settings) (stateOf state) m r u (sym (d .result) ∙ refused) in
+          call-refused _ _ _ (all-lent ∙ all) (finish-ran ∙ simp refused) word ∙ simp (d .trades, unchanged)
+
+      pub finish-done : {next : State} {figures : Metrics} {words nine : List ℕ} → finished ≡ Done next figures
+          → words ≡ overwrite state 0 (wordsOf next) → nine ≡ overwrite metrics 0 (Figures.wordsOf figures)
+          → finishCall settings state m metrics ≡ record { answer = 0; lent = record { state = words; trades = ts; metrics = nine } }
+      unfolding finishCall finishGives
+      finish-done done put nine = call-gives _ _ _ (all-lent ∙ all) (finish-ran ∙ simp (done, put, nine))
