@@ -1,12 +1,17 @@
 /* Yshturpa: a trading-rule engine whose answers, and the depth of bar history they need, are proved.
  *
  * Words in, words out. All words are 64 bits: a float's word is its IEEE 754 binary64 bit pattern, a time's its two's
- * complement; every NaN is written as 0x7ff8000000000000. Link libcapi.a.
+ * complement. A float that a call works out and that is a NaN is written as 0x7ff8000000000000. Link libcapi.a.
  *
  * Every call but ysh_root answers one word: 0 where it did its work, else a refusal: the refusal's number times 2^32 plus
- * its place (YSH_NUMBER, YSH_PLACE; docs/INTERFACE.md lists them). A refused call changes nothing that was lent to it.
- * There is nothing a caller has to see to beyond what the types say: each pointer points at as many elements as the length
- * behind it says, and what is lent for writing overlaps nothing else. Any content of any room gets an answer.
+ * its place (YSH_NUMBER, YSH_PLACE; what each number means stands below). A refused call changes nothing that was lent to it.
+ *
+ * What a caller has to see to is what the types say and no more: each pointer points at as many elements as the length
+ * behind it says, words lie on 8-byte boundaries, and what is lent for writing overlaps nothing else. A list or room of length 0 is
+ * empty and its pointer is not looked at: it may be null. A pointer with no length behind it (nodes, rows, bytes, used,
+ * answer, visits) points at one word and is never null. Any content of any room gets an answer.
+ *
+ * docs/INTERFACE.md has the records, rooms and calls in full, docs/RULES.md what a rule, a fill and each figure mean.
  */
 #ifndef YSHTURPA_H
 #define YSHTURPA_H
@@ -21,10 +26,61 @@ extern "C" {
 #define YSH_NUMBER(answer) ((uint32_t)((answer) >> 32))
 #define YSH_PLACE(answer) ((uint32_t)(answer))
 
+/* ---- refusals, by number: what is said, and what commonly causes it */
+
+enum {
+    /* 1 to 9: the rule table. Nothing else was looked at. */
+    YSH_REFUSED_SIZE = 1,       /* under 16 bytes: an empty file, or a length that is not the table's. Place 0 */
+    YSH_REFUSED_MARK = 2,       /* the first three bytes are not "RTB": it is no rule table. Place 0 */
+    YSH_REFUSED_VERSION = 3,    /* the version is not 1: a later format, or written with the high byte first. Place 0 */
+    YSH_REFUSED_COUNTS = 4,     /* K above 64; nodes not 2 to 256; no entry or no exit; four counts that do not sum to the nodes;
+                                 * a count written with the high byte first. Place 0 */
+    YSH_REFUSED_LENGTH = 5,     /* not 16 + 16 * nodes bytes: cut short, or something follows it, a newline perhaps. Place 0 */
+    YSH_REFUSED_NODE = 6,       /* a node's own bytes: a kind that does not exist, a selector out of range, a slot at or above K (K was
+                                 * not raised with it), a constant that is not finite, a field that the kind does not use and that
+                                 * is not 0 (memory that was not cleared). Place: the lowest such node */
+    YSH_REFUSED_TREE = 7,       /* an operand where a condition belongs, or the other way round; nodes not in prefix order; a tree that
+                                 * wants more or fewer nodes than its count. Place: the first node that cannot stand there; just past
+                                 * the tree's count where it is cut short; the first surplus node */
+    YSH_REFUSED_NESTING = 8,    /* deeper than 32 levels, the root being 1, operands counted too. Place: the lowest such node */
+    YSH_REFUSED_REACH = 9,      /* a tree that looks back more than 4,095 bars, its Prevs added up. Place: the first such tree's root */
+
+    /* 10 to 15: the other things handed over. */
+    YSH_REFUSED_ROOM = 10,      /* a room is too small. Place: its number (YSH_ROOM_ROWS ..). Commonly: the rows were laid out for another
+                                 * D or K than settings 0 and 1 say; the room for steps was sized by steps and not by nodes; the
+                                 * settings are those of an older header, with fewer words */
+    YSH_REFUSED_BAR = 11,       /* a price, the volume, a present slot, or the mark or rate of a supplied funding is not finite, or a bit
+                                 * of the mask at or above K is set. Commonly: an indicator that has no value yet was handed over as a
+                                 * NaN, with its bit set, in place of absent. Place: the bars seen, which is this bar's number */
+    YSH_REFUSED_SETTING = 12,   /* a setting. Place: its number (YSH_SLOTS ..). 0: K above 64. 1: D is 0, above 4,096, or not above the lookback
+                                 * of a volatility target. 5, 9: a kind that does not exist. 12: risk sizing without a stop loss (its
+                                 * word may be there and its bit of YSH_GIVEN not). 7: from ysh_depth alone, a lookback above
+                                 * 4,095. Else, and 12 too: not finite */
+    YSH_REFUSED_RECORDS = 13,   /* Place 0. Any of these:
+                                 * - the bar is not exactly 10 + K words: two bars at once, the three words of funding left out, or
+                                 *   another K than the settings';
+                                 * - rows for ysh_rule or ysh_run that are not whole rows of 7 + K words;
+                                 * - equity points or trades for ysh_metrics that are not whole records;
+                                 * - the state counts more rows, equity points or trades than the room has places for: a smaller room
+                                 *   than the call before had, or a state that ysh_fresh did not begin;
+                                 * - a count of the state, or the bars seen of a position, is above 4,294,967,295;
+                                 * - an entry bar that is not below the bars seen */
+    YSH_REFUSED_FULL = 14,      /* Place 0. Any of these:
+                                 * - a step, and the equity room has no free place, or the trade room has none, even where nothing is open;
+                                 * - a step, and 4,294,967,295 bars were seen;
+                                 * - finish, a position is to be closed, and the trade room has no free place */
+    YSH_REFUSED_STEPS = 15      /* a list of steps. Place: 1,024 times the list (0 to 3, as the trees) plus its lowest bad step. Any of these:
+                                 * - the whole room was handed over and not the `used` bytes of it: bad at the first step past the list;
+                                 * - it is not a multiple of 16 bytes, or above 1,024 steps: bad at 0;
+                                 * - it was translated from a table with more slots than setting 0 says, or that looks further back
+                                 *   than D, setting 1, allows (a look-back has to be below D);
+                                 * - a kind that does not exist, an unused field that is not 0, a jump past the end of the list */
+};
+
 /* ---- sizes, in words unless said */
 
 #define YSH_TABLE_BYTES 4112                      /* the largest table, in bytes: 16 + 16 * 256 */
-#define YSH_SETTING_WORDS 21                      /* word i is setting i (0..19); word 20: which optional ones are given */
+#define YSH_SETTING_WORDS 32                      /* word i is setting i; word 31: which optional ones are given */
 #define YSH_STATE_WORDS 17
 #define YSH_BAR_WORDS(slots) (10 + (slots))       /* time open high low close volume mask, slots, supplied mark rate */
 #define YSH_ROW_WORDS(slots) (7 + (slots))        /* time open high low close volume mask, slots */
@@ -32,6 +88,16 @@ extern "C" {
 #define YSH_TRADE_WORDS 8
 #define YSH_METRIC_WORDS 9
 #define YSH_STEP_BYTES(nodes) (64 * (nodes))      /* room for the steps of a tree of so many nodes, in bytes */
+
+/* ---- limits */
+
+#define YSH_MOST_SLOTS 64                         /* K */
+#define YSH_MOST_DEPTH 4096                       /* D, in rows */
+#define YSH_MOST_REACH 4095                       /* of a tree, and a volatility target's lookback */
+#define YSH_MOST_NODES 256
+#define YSH_MOST_NESTING 32
+#define YSH_MOST_STEPS 1024                       /* of a list */
+#define YSH_MOST_BARS 4294967295                  /* bars seen, and every other count of a state */
 
 /* ---- rooms, by number: the place of refusal 10 */
 
@@ -41,32 +107,143 @@ enum {
     YSH_ROOM_SETTINGS, YSH_ROOM_STATE, YSH_ROOM_METRICS
 };
 
-/* ---- settings, by number: the place of refusal 12, and the word that holds them */
+/* ---- the trees of a table, by number */
+
+enum { YSH_TREE_ENTRY, YSH_TREE_EXIT, YSH_TREE_SHORT_ENTRY, YSH_TREE_SHORT_EXIT };
+
+/* ---- the kinds of a node */
 
 enum {
-    YSH_SLOTS, YSH_DEPTH, YSH_CAPITAL, YSH_WARMUP, YSH_DELAY,
-    YSH_SIZING_KIND,            /* 0 fraction, 1 quantity, 2 cash, 3 volatility target, 4 risk; any other is refused (12) */
-    YSH_SIZING_VALUE,
-    YSH_LOOKBACK,               /* looked at for a volatility target only */
-    YSH_TAKER_BPS,
-    YSH_SLIPPAGE_KIND,          /* 0 fixed, 1 volume impact; any other is refused (12) */
-    YSH_SLIPPAGE_VALUE,
-    YSH_FUNDING,                /* 0 off, any other on; so too YSH_LIQUIDATION and YSH_PARTIAL_FILLS */
-    YSH_STOP_LOSS, YSH_TRAILING_STOP, YSH_TAKE_PROFIT, YSH_MAX_LEVERAGE, YSH_MAX_POSITION,
-    YSH_LIQUIDATION, YSH_PARTIAL_FILLS, YSH_PARTICIPATION,
-    YSH_GIVEN                   /* bit i is set where setting i is given, i from 12 to 16; other bits are not looked at */
+    /* operands */
+    YSH_CONST = 1,              /* the constant of bytes 8 to 15 */
+    YSH_REF = 2,                /* slot n */
+    YSH_PRICE = 3,              /* of this bar; selector YSH_OPEN .. YSH_OHLC4 */
+    YSH_PREV = 4,               /* its operand, n bars back */
+    YSH_ADD = 5, YSH_SUB = 6, YSH_MUL = 7,
+    YSH_DIV = 8,                /* a NaN where the divisor is nearer to 0 than 2^-52 */
+    /* conditions */
+    YSH_GT = 16, YSH_LT = 17, YSH_GE = 18, YSH_LE = 19,
+    YSH_EQ = 20, YSH_NE = 21,   /* nearer than 2^-52, or not */
+    YSH_CROSS_ABOVE = 22,       /* at or below a bar before, above now */
+    YSH_CROSS_BELOW = 23,       /* at or above a bar before, below now */
+    YSH_BETWEEN = 24,           /* value, low, high: both ends belong to it */
+    YSH_RISING = 25,            /* above what it was n bars back */
+    YSH_FALLING = 26,           /* below what it was n bars back */
+    YSH_ALL = 27, YSH_ANY = 28, /* of the conditions below, bytes 2 and 3 say how many */
+    YSH_NOT = 29,
+    YSH_IN_POSITION = 30,       /* selector YSH_FLAT or YSH_HELD */
+    YSH_BARS_SINCE_ENTRY = 31   /* selector YSH_SINCE_GT .., against n */
+};
+
+/* the selectors of YSH_PRICE, of YSH_IN_POSITION and of YSH_BARS_SINCE_ENTRY */
+
+enum { YSH_OPEN, YSH_HIGH, YSH_LOW, YSH_CLOSE, YSH_VOLUME, YSH_HLC3, YSH_OHLC4 };
+
+enum { YSH_FLAT, YSH_HELD };
+
+enum { YSH_SINCE_GT, YSH_SINCE_LT, YSH_SINCE_GE, YSH_SINCE_LE, YSH_SINCE_EQ };
+
+/* ---- the kinds of a step that are no node's, or mean another thing there */
+
+enum {
+    YSH_STEP_YES = 27, YSH_STEP_NO = 28,                  /* sets the answer */
+    YSH_STEP_JUMP_AT_NO = 32, YSH_STEP_JUMP_AT_YES = 33   /* passes over as many steps as bytes 2 and 3 say */
+};
+
+/* ---- settings, by number: the place of refusal 12, and the word that holds them. F: a float's word; N: a number */
+
+enum {
+    YSH_SLOTS,                  /* N  K, at most 64: the table's byte 3 */
+    YSH_DEPTH,                  /* N  D, 1 to 4,096: what ysh_depth says, or more */
+    YSH_CAPITAL,                /* F  the cash at the start */
+    YSH_WARMUP,                 /* N  nothing is decided on bars numbered below it */
+    YSH_DELAY,                  /* N  bars that an order waits: with 0 it fills at the next bar's open */
+    YSH_SIZING_KIND,            /* N  YSH_SIZE_FRACTION .. */
+    YSH_SIZING_VALUE,           /* F */
+    YSH_LOOKBACK,               /* N  rows; looked at for a volatility target only */
+    YSH_TAKER_BPS,              /* F  the fee of every fill, basis points of its value */
+    YSH_SLIPPAGE_KIND,          /* N  YSH_SLIP_FIXED or YSH_SLIP_VOLUME */
+    YSH_SLIPPAGE_VALUE,         /* F */
+    YSH_FUNDING,                /*    0 off, any other on; so too YSH_LIQUIDATION and YSH_PARTIAL_FILLS */
+    YSH_STOP_LOSS,              /* F  percent of the entry price, where given */
+    YSH_TRAILING_STOP,          /* F  percent of the most favourable price since the entry, where given */
+    YSH_TAKE_PROFIT,            /* F  percent of the entry price, where given */
+    YSH_MAX_LEVERAGE,           /* F  times the equity, 1 where not given */
+    YSH_MAX_POSITION,           /* F  percent of the equity, where given */
+    YSH_LIQUIDATION,
+    YSH_PARTIAL_FILLS,
+    YSH_PARTICIPATION,          /* F  with partial fills: the share of a bar's volume that an entry may take, 1 being all of it */
+    /* 20 to 24 are kept for later requests, and 25 to 30 are spare: none of them is looked at; write 0 */
+    YSH_GIVEN = 31              /* bit i is set where setting i is given, i from 12 to 16; other bits are not looked at */
+};
+
+/* the kinds of sizing: what YSH_SIZING_VALUE is. Any other kind is refused (12 at 5) */
+
+enum {
+    YSH_SIZE_FRACTION,          /* the fraction of the equity: 0.5 is half */
+    YSH_SIZE_QUANTITY,          /* the quantity */
+    YSH_SIZE_CASH,              /* the money */
+    YSH_SIZE_VOLATILITY,        /* the volatility of a bar that the position is to have: 0.01 is 1 percent; YSH_LOOKBACK rows measure it */
+    YSH_SIZE_RISK               /* percent of the equity lost where the stop loss is met, which has to be given */
+};
+
+/* the kinds of slippage: what YSH_SLIPPAGE_VALUE is. Any other kind is refused (12 at 9) */
+
+enum {
+    YSH_SLIP_FIXED,             /* basis points of the price */
+    YSH_SLIP_VOLUME             /* a coefficient: times the quantity, over the bar's volume, it is a fraction of the price */
 };
 
 /* ---- the state's words */
 
 enum {
     YSH_BARS_SEEN, YSH_ROWS_HELD, YSH_EQUITY_POINTS, YSH_TRADES,
-    YSH_ORDER,                  /* 1 enter long, 2 enter short, 3 exit; any other: none */
-    YSH_ORDER_DELAY,
+    YSH_ORDER,                  /* YSH_ORDER_NONE .. */
+    YSH_ORDER_DELAY,            /* the bars that it still waits */
     YSH_ENTERED,                /* 0: no entry bar; any other: YSH_ENTRY_BAR is one */
     YSH_ENTRY_BAR,
-    YSH_CASH, YSH_QTY, YSH_ENTRY_PRICE, YSH_ENTRY_TIME, YSH_ENTRY_FEE, YSH_FEES_PAID,
-    YSH_EXTREME, YSH_LAST_TIME, YSH_LAST_CLOSE
+    YSH_CASH,
+    YSH_QTY,                    /* below 0 for a short */
+    YSH_ENTRY_PRICE, YSH_ENTRY_TIME, YSH_ENTRY_FEE, YSH_FEES_PAID,
+    YSH_EXTREME,                /* the most favourable price since the entry */
+    YSH_LAST_TIME, YSH_LAST_CLOSE
+};
+
+/* the orders that may be working; any other word is none */
+
+enum { YSH_ORDER_NONE, YSH_ORDER_LONG, YSH_ORDER_SHORT, YSH_ORDER_EXIT };
+
+/* ---- the words of a bar and of a row: slot k is word YSH_SLOT + k */
+
+enum { YSH_BAR_TIME, YSH_BAR_OPEN, YSH_BAR_HIGH, YSH_BAR_LOW, YSH_BAR_CLOSE, YSH_BAR_VOLUME, YSH_BAR_MASK, YSH_SLOT };
+
+/* a bar's last three words, by its K: 0 where no funding is supplied and any other word where it is, mark, rate */
+
+#define YSH_BAR_FUNDED(slots) (7 + (slots))
+#define YSH_BAR_MARK(slots) (8 + (slots))
+#define YSH_BAR_RATE(slots) (9 + (slots))
+
+/* ---- the words of a trade, and why it ended */
+
+enum {
+    YSH_TRADE_ENTRY_TIME, YSH_TRADE_EXIT_TIME, YSH_TRADE_ENTRY_PRICE, YSH_TRADE_EXIT_PRICE,
+    YSH_TRADE_QTY, YSH_TRADE_PNL, YSH_TRADE_RETURN_PCT, YSH_TRADE_REASON
+};
+
+enum {
+    YSH_REASON_SIGNAL = 1,      /* the exit rule, or the short exit rule */
+    YSH_REASON_STOP_LOSS = 2,
+    YSH_REASON_TRAILING_STOP = 3,
+    YSH_REASON_TAKE_PROFIT = 4,
+    YSH_REASON_LIQUIDATION = 5, /* the equity would have been 0 at a price that the bar reached */
+    YSH_REASON_END = 6          /* ysh_finish closed it */
+};
+
+/* ---- the words of the metrics: floats, but the last, which is a number */
+
+enum {
+    YSH_PNL, YSH_RETURN_PCT, YSH_SHARPE, YSH_SORTINO, YSH_CALMAR, YSH_MAX_DRAWDOWN_PCT, YSH_WIN_RATE_PCT, YSH_PROFIT_FACTOR,
+    YSH_NUM_TRADES
 };
 
 /* ---- calls */
@@ -75,15 +252,16 @@ enum {
 uint64_t ysh_check(const uint8_t *table, size_t table_len, uint64_t *nodes, uint64_t *rows);
 
 /* How deep the window has to be: the rows a table's rules need and, for a volatility target, one more than its lookback
- * (give 0 where sizing is another); and the bytes that so many rows take. Refusals 1 to 9, then 12 for the lookback. */
+ * (give 0 where sizing is another); and the bytes that so many rows take. Refusals 1 to 9, then 12 at 7 for a lookback above 4,095. */
 uint64_t ysh_depth(const uint8_t *table, size_t table_len, uint64_t lookback, uint64_t *rows, uint64_t *bytes);
 
 /* Translates tree 0 entry, 1 exit, 2 short entry or 3 short exit of a table into steps, 16 bytes each. Done: how many bytes
- * of the room the list takes; 0 for an absent tree, and for a tree of any other number. Refusals 1 to 9, then 10. */
+ * of the room the list takes (hand these over, not the whole room); 0 for an absent tree, and for a tree of any other number.
+ * Refusals 1 to 9, then 10 (room 3 + tree). */
 uint64_t ysh_translate(const uint8_t *table, size_t table_len, uint64_t tree,
                        uint8_t *room, size_t room_len, uint64_t *used);
 
-/* The state before the first bar. Refusal 10 (room 7 or 8). */
+/* The state before the first bar. Refusal 10 (room 7 or 8); the settings themselves are judged by ysh_step. */
 uint64_t ysh_fresh(const uint64_t *settings, size_t settings_len, uint64_t *state, size_t state_len);
 
 /* One bar. Refusals 10 (room 0, 7 or 8), 12, 13, 14, 11, 15, in this order. */
@@ -106,8 +284,8 @@ uint64_t ysh_finish(const uint64_t *settings, size_t settings_len, uint64_t *sta
 uint64_t ysh_rule(const uint8_t *table, size_t table_len, uint64_t tree, const uint64_t *rows, size_t rows_len,
                   uint64_t qty, uint64_t entered, uint64_t entry_bar, uint64_t bars_seen, uint64_t *answer);
 
-/* Runs a list of steps over rows, with a window of `depth` rows: no step of it looks further back. Done: 1 yes or 0 no, and
- * how many steps were visited. Refusals 12 for slots or depth, then 13, then 15 at the lowest bad step. */
+/* Runs a list of steps over all the rows handed over; no step of it looks back `depth` bars or more. Done: 1 yes or 0 no, and
+ * how many steps were visited. Refusals 12 for slots (at 0) or depth (at 1), then 13, then 15 at the lowest bad step. */
 uint64_t ysh_run(const uint8_t *steps, size_t steps_len, const uint64_t *rows, size_t rows_len,
                  uint64_t slots, uint64_t depth,
                  uint64_t qty, uint64_t entered, uint64_t entry_bar, uint64_t bars_seen,

@@ -51,13 +51,13 @@ static void write_table(uint8_t table[TABLE_BYTES])
     static const uint8_t header[16] = {'R', 'T', 'B', SLOTS, 1, 0, 7, 0, 3, 0, 4, 0, 0, 0, 0, 0};
     memset(table, 0, TABLE_BYTES);
     memcpy(table, header, sizeof header);
-    put_node(table, 0, 22, 0, 0); /* CrossAbove */
-    put_node(table, 1, 2, 0, 0);  /*   slot 0 */
-    put_node(table, 2, 2, 0, 1);  /*   slot 1 */
-    put_node(table, 3, 17, 0, 0); /* Lt */
-    put_node(table, 4, 3, 3, 0);  /*   close */
-    put_node(table, 5, 4, 0, 2);  /*   Prev, 2 bars */
-    put_node(table, 6, 3, 3, 0);  /*     close */
+    put_node(table, 0, YSH_CROSS_ABOVE, 0, 0);
+    put_node(table, 1, YSH_REF, 0, 0);           /* slot 0 */
+    put_node(table, 2, YSH_REF, 0, 1);           /* slot 1 */
+    put_node(table, 3, YSH_LT, 0, 0);
+    put_node(table, 4, YSH_PRICE, YSH_CLOSE, 0);
+    put_node(table, 5, YSH_PREV, 0, 2);          /* 2 bars back: */
+    put_node(table, 6, YSH_PRICE, YSH_CLOSE, 0);
 }
 
 /* ---- the bars: a wave of sixteen bars that climbs a little with each turn */
@@ -81,19 +81,19 @@ static void write_bar(uint64_t words[YSH_BAR_WORDS(SLOTS)], int bar)
 {
     double last = close_of(bar), before = bar > 0 ? close_of(bar - 1) : last;
     memset(words, 0, sizeof(uint64_t) * YSH_BAR_WORDS(SLOTS));
-    words[0] = (uint64_t)bar * 60000;
-    words[1] = word_of(before);
-    words[2] = word_of((last > before ? last : before) + 0.5);
-    words[3] = word_of((last < before ? last : before) - 0.5);
-    words[4] = word_of(last);
-    words[5] = word_of(1000.0);
-    if (bar + 1 >= FAST) {
-        words[6] |= 1;
-        words[7] = word_of(average(bar, FAST));
+    words[YSH_BAR_TIME] = (uint64_t)bar * 60000;
+    words[YSH_BAR_OPEN] = word_of(before);
+    words[YSH_BAR_HIGH] = word_of((last > before ? last : before) + 0.5);
+    words[YSH_BAR_LOW] = word_of((last < before ? last : before) - 0.5);
+    words[YSH_BAR_CLOSE] = word_of(last);
+    words[YSH_BAR_VOLUME] = word_of(1000.0);
+    if (bar + 1 >= FAST) { /* an average that has too few bars is absent: its bit is 0, and its word is not looked at */
+        words[YSH_BAR_MASK] |= 1;
+        words[YSH_SLOT] = word_of(average(bar, FAST));
     }
     if (bar + 1 >= SLOW) {
-        words[6] |= 2;
-        words[8] = word_of(average(bar, SLOW));
+        words[YSH_BAR_MASK] |= 2;
+        words[YSH_SLOT + 1] = word_of(average(bar, SLOW));
     }
 }
 
@@ -112,9 +112,10 @@ static void choose_settings(uint64_t settings[YSH_SETTING_WORDS], uint64_t depth
     settings[YSH_SLOTS] = SLOTS;
     settings[YSH_DEPTH] = depth;
     settings[YSH_CAPITAL] = word_of(10000.0);
-    settings[YSH_SIZING_KIND] = 0;
+    settings[YSH_SIZING_KIND] = YSH_SIZE_FRACTION;
     settings[YSH_SIZING_VALUE] = word_of(0.5);
     settings[YSH_TAKER_BPS] = word_of(5.0);
+    settings[YSH_SLIPPAGE_KIND] = YSH_SLIP_FIXED;
     settings[YSH_SLIPPAGE_VALUE] = word_of(2.0);
     settings[YSH_STOP_LOSS] = word_of(10.0);
     settings[YSH_GIVEN] = UINT64_C(1) << YSH_STOP_LOSS;
@@ -143,7 +144,7 @@ static void try_bad_bar(Run *run)
     uint64_t bar[YSH_BAR_WORDS(SLOTS)], answer;
     before = *run;
     write_bar(bar, 20);
-    bar[4] = UINT64_C(0x7ff8000000000000);
+    bar[YSH_BAR_CLOSE] = UINT64_C(0x7ff8000000000000);
     answer = step(run, bar);
     printf("bad bar: refused %" PRIu32 " at %" PRIu32 ", %s\n", YSH_NUMBER(answer), YSH_PLACE(answer),
            memcmp(&before, run, sizeof before) == 0 ? "nothing changed" : "SOMETHING CHANGED");
@@ -175,8 +176,9 @@ static void print_trades(const Run *run)
     for (uint64_t i = 0; i < run->state[YSH_TRADES]; i++) {
         const uint64_t *trade = run->trades + i * YSH_TRADE_WORDS;
         printf("trade %" PRIu64 ": in at %" PRId64 " for %.4f, out at %" PRId64 " for %.4f, quantity %.6f, pnl %.4f, %s\n", i,
-               (int64_t)trade[0], float_of(trade[2]), (int64_t)trade[1], float_of(trade[3]), float_of(trade[4]),
-               float_of(trade[5]), reasons[trade[7] <= 6 ? trade[7] : 0]);
+               (int64_t)trade[YSH_TRADE_ENTRY_TIME], float_of(trade[YSH_TRADE_ENTRY_PRICE]), (int64_t)trade[YSH_TRADE_EXIT_TIME],
+               float_of(trade[YSH_TRADE_EXIT_PRICE]), float_of(trade[YSH_TRADE_QTY]), float_of(trade[YSH_TRADE_PNL]),
+               reasons[trade[YSH_TRADE_REASON] <= YSH_REASON_END ? trade[YSH_TRADE_REASON] : 0]);
     }
 }
 
@@ -184,9 +186,9 @@ static void print_metrics(const uint64_t metrics[YSH_METRIC_WORDS])
 {
     static const char *const names[] = {"pnl", "return %", "sharpe", "sortino", "calmar", "max drawdown %", "win rate %",
                                         "profit factor"};
-    for (int i = 0; i < 8; i++)
+    for (int i = 0; i < YSH_NUM_TRADES; i++)
         printf("%s %.6f\n", names[i], float_of(metrics[i]));
-    printf("trades %" PRIu64 "\n", metrics[8]);
+    printf("trades %" PRIu64 "\n", metrics[YSH_NUM_TRADES]);
 }
 
 int main(void)

@@ -21,7 +21,8 @@ pub struct Engine {
 
 impl Engine {
     /// A run before its first bar, with places for so many bars and trades. `settings.depth` is at least what
-    /// [`crate::depth`] says; at most 4,096 rows and 64 slots are of use, and more is refused by the first step (12).
+    /// [`crate::depth`] says. At most 4,096 rows of 64 slots are laid out: a depth or a number of slots above that finds the room
+    /// for rows too small, and the first step is refused (10 at 0; a depth of 0 is refused too, with 12).
     pub fn new(table: &[u8], settings: &Settings, bars: usize, trades: usize) -> Result<Engine, Refusal> {
         let width = raw::ROW_FIXED + settings.slots.min(64);
         let mut engine = Engine {

@@ -1,6 +1,10 @@
 //! The C interface as include/yshturpa.h declares it.
 
-pub const SETTING_WORDS: usize = 21;
+pub const SETTING_WORDS: usize = 32;
+
+/// The word of the settings that says which optional ones are given.
+pub const GIVEN: usize = 31;
+
 pub const STATE_WORDS: usize = 17;
 pub const POINT_WORDS: usize = 2;
 pub const TRADE_WORDS: usize = 8;

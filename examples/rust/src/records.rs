@@ -99,7 +99,7 @@ impl Settings {
         for (i, level) in levels.into_iter().enumerate() {
             if let Some(x) = level {
                 words[12 + i] = x.to_bits();
-                words[20] |= 1 << (12 + i);
+                words[raw::GIVEN] |= 1 << (12 + i);
             }
         }
         words[17] = self.liquidation as u64;
