@@ -317,7 +317,8 @@ def nodes():
         for constant in (1, 1 << 63, bits(1.5), bits(math.inf), bits(-math.inf), bits(math.nan), 0x7FEFFFFFFFFFFFFF, 0xFFF0000000000001):
             yield table(2, YES, [node(kind, constant=constant)])
     # a constant, finite or not
-    for word in (0, 1 << 63, 1, 0x000FFFFFFFFFFFFF, 0x7FEFFFFFFFFFFFFF, 0xFFEFFFFFFFFFFFFF, 0x7FF0000000000000, 0xFFF0000000000000, 0x7FF0000000000001, 0x7FF8000000000000, 0xFFFFFFFFFFFFFFFF):
+    for word in (0, 1 << 63, 1, 0x000FFFFFFFFFFFFF, 0x7FEFFFFFFFFFFFFF, 0xFFEFFFFFFFFFFFFF, 0x7FF0000000000000,
+                 0xFFF0000000000000, 0x7FF0000000000001, 0x7FF8000000000000, 0xFFFFFFFFFFFFFFFF):
         yield table(0, two(16, [node(1, constant=word)], CLOSE), YES)
     # slots on both sides of K
     for slots in (0, 1, 2, 63, 64):

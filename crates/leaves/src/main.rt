@@ -29,20 +29,33 @@ fn closes_at(case: &[u64]) -> usize
     }
 }
 
-// Puts each close of a case into its row, and says how many words the rows have.
-fn fill_rows(case: &[u64], rows: &mut [u64]) -> usize {
+fn smaller(a: usize, b: usize) -> usize
+    ensures { λ r. ⌜ r ≤ b ⌝ }
+{
+    if a < b { a } else { b }
+}
+
+// How many closes a case has, and no more than there are rows for.
+fn closes(case: &[u64], most: usize) -> usize
+    ensures { λ r. ⌜ r ≤ most ⌝ }
+{
     let at = closes_at(case);
     if at == 0 {
         return 0;
     }
-    let most = rows.len() / rows::FIXED;
-    let held = cases::word(case, at, 0) as usize;
+    smaller(cases::word(case, at, 0) as usize, most)
+}
+
+// Puts each close of a case into its row, and says how many words the rows have.
+fn fill_rows(case: &[u64], rows: &mut [u64]) -> usize {
+    let first = closes_at(case) + 1;
+    let n = closes(case, rows.len() / rows::FIXED);
     let mut i = 0;
-    while i < held && i < most {
-        rows[rows::FIXED * i + rows::CLOSE] = cases::word(case, at + 1, i);
+    while i < n {
+        rows[rows::FIXED * i + rows::CLOSE] = cases::word(case, first, i);
         i += 1;
     }
-    rows::FIXED * i
+    rows::FIXED * n
 }
 
 // The portfolio, the entry bar and the extreme after an entry.

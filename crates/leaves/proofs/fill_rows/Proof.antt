@@ -7,10 +7,10 @@ use Rattle.leaves.proofs.fill_rows.Statement.{statement}
 use Rattle.leaves.proofs.fill_rows.Tie as tie
 
 abbrev Inv-loop : tie.InvT-loop
-Inv-loop case rows₀ at most held i₀ rows i = (i ≤ most) × (7 * most ≤ length rows₀) × (length rows ≡ length rows₀)
+Inv-loop case rows₀ first n i₀ rows i = (i ≤ n) × (7 * n ≤ length rows₀) × (length rows ≡ length rows₀)
 
 abbrev μ-loop : tie.MeasureT-loop
-μ-loop case rows₀ at most held i₀ rows i = most - i
+μ-loop case rows₀ first n i₀ rows i = n - i
 
 pub fill-rows-spec : {M : Type 1} → statement M
 fill-rows-spec =
@@ -21,7 +21,6 @@ fill-rows-spec =
     (λ c κs. search needs)
     (λ c. search needs)
     (λ c κs. search needs)
-    (λ c. search needs)
     (λ c. search needs)
     (λ c κs. search needs)
     (λ c. search needs)
