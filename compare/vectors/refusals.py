@@ -28,6 +28,8 @@ GOOD = {
     "time": 4, "bar_words": None, "prices": [1.0] * 4, "volume": 1.0, "mask": 0b01, "slots": [1.0, 0.0],
     "funding": None, "unsupplied": (0.0, 0.0),
     "lists": [b"", b"", b"", b""],
+    # the room of the C interface that is a word too short
+    "cut": None,
 }
 
 
@@ -130,6 +132,8 @@ def finish_refusals(c):
 def common_refusals(c):
     if c["rows_room"] < c["D"] * (7 + c["K"]):
         yield 10, 0
+    if c["cut"] is not None:
+        yield 10, c["cut"]
     yield from ((12, place) for place in settings_broken(c))
     if state_broken(c):
         yield 13, 0
@@ -174,8 +178,9 @@ def bar_of(c):
 
 
 def lent(c):
-    yield lend(SETTINGS, settings_of(c))
-    yield lend(STATE, state_of(c))
+    rooms = {SETTINGS: settings_of(c), STATE: state_of(c), METRICS: [0] * METRIC_WORDS}
+    for room, content in rooms.items():
+        yield lend(room, content[:-1] if c["cut"] == room else content)
     yield lend(ROWS, [], c["rows_room"])
     yield lend(EQUITY, [], c["equity_room"])
     yield lend(TRADES, [], c["trades_room"])
@@ -233,6 +238,9 @@ STEPS = [
     ("room of rows just large enough", {}),
     ("room of rows one word short", {"rows_room": 26}),
     ("room of no rows", {"rows_room": 0}),
+    ("settings one word short", {"cut": SETTINGS}),
+    ("state one word short", {"cut": STATE}),
+    ("settings and room of rows one word short", {"cut": SETTINGS, "rows_room": 26}),
     # 12: K, D, lookback
     ("K 64", {"K": 64, "rows_room": 213, "bar_words": 74, "mask": 0}),
     ("K 65", {"K": 65, "rows_room": 216, "bar_words": 75, "mask": 0}),
@@ -323,6 +331,9 @@ STEPS = [
 
 FINISHES = [
     ("room of rows one word short", {"rows_room": 26}),
+    ("settings one word short", {"cut": SETTINGS}),
+    ("state one word short", {"cut": STATE}),
+    ("metrics one word short", {"cut": METRICS}),
     ("D 0", {"D": 0}),
     ("D 3", {"D": 3}),
     ("capital infinite", {"capital": INF}),
@@ -343,7 +354,6 @@ def calls(figures_of):
     for _, change in STEPS:
         yield from lent(GOOD | change)
         yield step_call(GOOD | change)
-    yield lend(METRICS, [], METRIC_WORDS)
     for _, change in FINISHES:
         yield from lent(GOOD | change)
         yield finish_call(GOOD | change, figures_of)

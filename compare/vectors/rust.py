@@ -8,7 +8,7 @@ import subprocess
 import steps
 import tables
 from words import (EQUITY, FIGURES, FINISH, FRESH, METRIC_WORDS, METRICS, ROOT, ROWS, RULE, RUN, SETTINGS, STATE, STATE_WORDS, STEP,
-                   TABLE, TRADES, bits, lend, lend_bytes, line, setting_words, words)
+                   TABLE, TRADES, bits, lend, lend_bytes, line, refusal, setting_words, words)
 
 HERE = os.path.dirname(os.path.abspath(__file__))
 ORACLE = os.path.join(HERE, "../oracle/target/release/oracle")
@@ -75,11 +75,11 @@ def figures():
 
 def ragged_figures():
     """13: trades, then points, that are not whole records."""
-    refused = line(13 << 32)
-    for equity, trades in (([], [1, 2, 3, 4, 5, 6]), ([], list(range(9))), ([0], []), ([0, bits(100.0), 0], [])):
+    two = points([bits(100.0), bits(101.0)])
+    for equity, trades in (([], list(range(7))), (two, list(range(9))), (two[:1], []), (two[:3], list(range(8)))):
         yield lend(EQUITY, equity)
         yield lend(TRADES, trades)
-        yield line(FIGURES, bits(100.0)), refused
+        yield line(FIGURES, bits(100.0)), line(refusal(13, 0))
 
 
 def figures_of(initial, equities, trades):
