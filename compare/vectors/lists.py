@@ -12,6 +12,9 @@ import roots
 import rust
 import tables
 
+# The argument of `depth`.
+LOOKBACK = 10
+
 CRATES = os.path.join(rust.HERE, "../../crates")
 
 
@@ -40,6 +43,9 @@ def main():
     store_lines("leaves", *rust.leaves())
     assert tables.told(tables.EXAMPLE) == "accepted nodes 7 rows 3\n" and len(tables.EXAMPLE) == 128
     store("tablecheck", tables.EXAMPLE, tables.told(tables.EXAMPLE).encode())
+    store("depth", tables.EXAMPLE, tables.told_depth(tables.EXAMPLE, LOOKBACK).encode())
+    with open(os.path.join(CRATES, "depth", "args"), "w") as out:
+        out.write("%d\n" % LOOKBACK)
 
 
 main()

@@ -166,6 +166,13 @@ def depth_call(data, lookback):
     return line(DEPTH, lookback), line(*answer)
 
 
+def told_depth(data, lookback):
+    """What `depth` writes of an accepted table."""
+    slots, rows = window(data, lookback)
+    row = 8 * (7 + slots)
+    return "rows %d\nbytes a row %d\nbytes of the window %d\n" % (rows, row, row * rows)
+
+
 def translate_call(data, tree, short_by=0):
     """A tree into a room of 64 bytes a node, or of so many bytes less."""
     size = NODE_ROOM * struct.unpack("<4H", data[8:16])[tree] - short_by

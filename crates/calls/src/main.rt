@@ -1,6 +1,6 @@
 // A line a call of the C interface (docs/INTERFACE.md): what it is handed, and what it answers. A line is words of 16 hexadecimal
-// digits. Where the first is below 32 it is the number of a room, 31 that of the table, and the line says how many words or bytes of
-// the room are lent and what stands there; bytes are eight to a word. Else it is a call over the rooms as they are, and it is
+// digits. Where the first is below 20 (hex) it is the number of a room, 1f that of the table, and the line says how many words or bytes
+// of the room are lent and what stands there; bytes are eight to a word. Else it is a call over the rooms as they are, and it is
 // answered with a line. compare/README.md has the list of calls; compare/vectors/make makes the stored lines.
 mod rooms;
 mod rules;
@@ -44,7 +44,7 @@ fn lend(
         7 => rooms::fill(settings, line),
         8 => rooms::fill(state, line),
         9 => rooms::fill(metrics, line),
-        31 => rooms::fill_bytes(table, line),
+        0x1f => rooms::fill_bytes(table, line),
         _ => rooms::fill_list(lists, line),
     }
 }
@@ -52,15 +52,20 @@ fn lend(
 // Makes a call that a table or rows are lent to.
 fn call_rules(line: &[u64], sizes: &mut [u64], table: &[u8], lists: &mut [u8], rows: &[u64]) {
     match word(line, 0) {
-        32 => tables::check(sizes, table),
-        33 => tables::depth(line, sizes, table),
-        34 => tables::translate(line, sizes, table, lists),
-        35 => rules::rule(
+        0x20 => tables::check(sizes, table),
+        0x21 => tables::depth(line, sizes, table),
+        0x22 => tables::translate(line, sizes, table, lists),
+        0x23 => rules::rule(
             line,
             tables::table(sizes, table),
-            rooms::words_of(sizes, 0, rows),
+            rooms::words_of(sizes, rooms::ROWS, rows),
         ),
-        _ => rules::run(line, sizes, rooms::words_of(sizes, 0, rows), lists),
+        _ => rules::run(
+            line,
+            sizes,
+            rooms::words_of(sizes, rooms::ROWS, rows),
+            lists,
+        ),
     }
 }
 
@@ -77,10 +82,10 @@ fn call_run(
     metrics: &mut [u64],
 ) {
     match word(line, 0) {
-        37 => runs::fresh(sizes, settings, state),
-        38 => runs::step(line, sizes, settings, state, rows, equity, trades, lists),
-        39 => runs::finish(sizes, settings, state, rows, equity, trades, metrics),
-        40 => runs::metrics(line, sizes, equity, trades, metrics),
+        0x25 => runs::fresh(sizes, settings, state),
+        0x26 => runs::step(line, sizes, settings, state, rows, equity, trades, lists),
+        0x27 => runs::finish(sizes, settings, state, rows, equity, trades, metrics),
+        0x28 => runs::metrics(line, sizes, equity, trades, metrics),
         _ => text::write_words(&[capi::figures::ysh_root(word(line, 1))], b'\n'),
     }
 }
@@ -99,7 +104,7 @@ fn take(
     metrics: &mut [u64],
 ) {
     match word(line, 0) {
-        0..=31 => lend(
+        0..=0x1f => lend(
             line,
             sizes,
             table,
@@ -111,7 +116,7 @@ fn take(
             trades,
             metrics,
         ),
-        32..=36 => call_rules(line, sizes, table, lists, rows),
+        0x20..=0x24 => call_rules(line, sizes, table, lists, rows),
         _ => call_run(
             line,
             sizes,
@@ -126,7 +131,7 @@ fn take(
     }
 }
 
-// Takes the next line, and says whether there was one.
+// Takes the next line, and says whether there was one: at the end of the input there is no word, and a room of none is lent.
 fn take_next(
     room: &mut [u64],
     sizes: &mut [u64],

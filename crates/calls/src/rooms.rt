@@ -2,6 +2,23 @@
 // line said.
 ghost use Prim.Native.Nat.{_<_, _≤_};
 
+// Rooms by their numbers (docs/INTERFACE.md); the table is no room there.
+pub(crate) const ROWS: usize = 0;
+
+pub(crate) const EQUITY: usize = 1;
+
+pub(crate) const TRADES: usize = 2;
+
+pub(crate) const FIRST_LIST: u64 = 3;
+
+pub(crate) const SETTINGS: usize = 7;
+
+pub(crate) const STATE: usize = 8;
+
+pub(crate) const METRICS: usize = 9;
+
+pub(crate) const TABLE: usize = 31;
+
 // The bytes of the largest list of steps. The four lists stand one after another.
 pub(crate) const LIST: usize = 16384;
 
@@ -58,22 +75,28 @@ pub(crate) fn bytes(room: &[u8], from: usize, to: usize) -> &[u8] {
     &room[from..to]
 }
 
-// Where the list of a tree begins.
-pub(crate) fn list_at(tree: u64) -> usize
+// The room of a tree's list.
+pub(crate) fn list_room(tree: u64) -> u64 {
+    FIRST_LIST + tree % 4
+}
+
+// Where the list of a room begins.
+pub(crate) fn list_at(room: u64) -> usize
     ensures { λ r. ⌜ r ≤ 49152 ⌝ }
 {
-    match tree {
-        0 => 0,
-        1 => LIST,
-        2 => 2 * LIST,
+    match room {
+        3 => 0,
+        4 => LIST,
+        5 => 2 * LIST,
         _ => 3 * LIST,
     }
 }
 
 // The list of a tree, as it is lent.
 pub(crate) fn list<'a>(sizes: &[u64], tree: u64, lists: &'a [u8]) -> &'a [u8] {
-    let from = list_at(tree);
-    let n = lent(sizes, 3 + (tree % 4) as usize, LIST);
+    let room = list_room(tree);
+    let from = list_at(room);
+    let n = lent(sizes, room as usize, LIST);
     bytes(lists, from, from + n)
 }
 
@@ -113,9 +136,9 @@ pub(crate) fn fill_bytes(room: &mut [u8], line: &[u64]) {
     }
 }
 
-// The same for the list of room 3, 4, 5 or 6.
+// The same for the list of a room.
 pub(crate) fn fill_list(lists: &mut [u8], line: &[u64]) {
-    let from = list_at((word(line, 0) % 8 + 1) % 4);
+    let from = list_at(word(line, 0));
     let to = from + LIST;
     if lists.len() < to {
         return;

@@ -4,19 +4,6 @@ use crate::rooms::word;
 use judge::rooms::POINT_WORDS;
 use judge::rooms::TRADE_WORDS;
 
-// Rooms by their numbers.
-const ROWS: usize = 0;
-
-const EQUITY: usize = 1;
-
-const TRADES: usize = 2;
-
-const SETTINGS: usize = 7;
-
-const STATE: usize = 8;
-
-const METRICS: usize = 9;
-
 // The words of a state that count its equity points and its trades.
 const POINTS: usize = 2;
 
@@ -60,9 +47,9 @@ fn write_closed(answer: u64, words: &[u64], before: u64, after: u64, trades: &[u
 
 fn fresh_call(sizes: &[u64], settings: &[u64], state: &mut [u64]) -> u64 {
     let from: usize = 0;
-    let s = rooms::lent(sizes, STATE, state.len());
+    let s = rooms::lent(sizes, rooms::STATE, state.len());
     capi::state::ysh_fresh(
-        rooms::words_of(sizes, SETTINGS, settings),
+        rooms::words_of(sizes, rooms::SETTINGS, settings),
         &mut state[from..s],
     )
 }
@@ -70,7 +57,7 @@ fn fresh_call(sizes: &[u64], settings: &[u64], state: &mut [u64]) -> u64 {
 // The answer and the state.
 pub(crate) fn fresh(sizes: &[u64], settings: &[u64], state: &mut [u64]) {
     let answer = fresh_call(sizes, settings, state);
-    write_done(answer, rooms::words_of(sizes, STATE, state));
+    write_done(answer, rooms::words_of(sizes, rooms::STATE, state));
 }
 
 fn step_call(
@@ -84,12 +71,12 @@ fn step_call(
     lists: &[u8],
 ) -> u64 {
     let from: usize = 0;
-    let s = rooms::lent(sizes, STATE, state.len());
-    let r = rooms::lent(sizes, ROWS, rows.len());
-    let e = rooms::lent(sizes, EQUITY, equity.len());
-    let t = rooms::lent(sizes, TRADES, trades.len());
+    let s = rooms::lent(sizes, rooms::STATE, state.len());
+    let r = rooms::lent(sizes, rooms::ROWS, rows.len());
+    let e = rooms::lent(sizes, rooms::EQUITY, equity.len());
+    let t = rooms::lent(sizes, rooms::TRADES, trades.len());
     capi::bars::ysh_step(
-        rooms::words_of(sizes, SETTINGS, settings),
+        rooms::words_of(sizes, rooms::SETTINGS, settings),
         &mut state[from..s],
         bar,
         &mut rows[from..r],
@@ -136,14 +123,14 @@ fn finish_call(
     metrics: &mut [u64],
 ) -> u64 {
     let from: usize = 0;
-    let s = rooms::lent(sizes, STATE, state.len());
-    let t = rooms::lent(sizes, TRADES, trades.len());
-    let m = rooms::lent(sizes, METRICS, metrics.len());
+    let s = rooms::lent(sizes, rooms::STATE, state.len());
+    let t = rooms::lent(sizes, rooms::TRADES, trades.len());
+    let m = rooms::lent(sizes, rooms::METRICS, metrics.len());
     capi::bars::ysh_finish(
-        rooms::words_of(sizes, SETTINGS, settings),
+        rooms::words_of(sizes, rooms::SETTINGS, settings),
         &mut state[from..s],
-        rooms::words_of(sizes, ROWS, rows),
-        rooms::words_of(sizes, EQUITY, equity),
+        rooms::words_of(sizes, rooms::ROWS, rows),
+        rooms::words_of(sizes, rooms::EQUITY, equity),
         &mut trades[from..t],
         &mut metrics[from..m],
     )
@@ -161,7 +148,7 @@ pub(crate) fn finish(
 ) {
     let closed = word(state, CLOSED);
     let answer = finish_call(sizes, settings, state, rows, equity, trades, metrics);
-    let figures = rooms::words_of(sizes, METRICS, metrics);
+    let figures = rooms::words_of(sizes, rooms::METRICS, metrics);
     write_closed(answer, figures, closed, word(state, CLOSED), trades);
 }
 
@@ -173,11 +160,11 @@ fn metrics_call(
     room: &mut [u64],
 ) -> u64 {
     let from: usize = 0;
-    let m = rooms::lent(sizes, METRICS, room.len());
+    let m = rooms::lent(sizes, rooms::METRICS, room.len());
     capi::figures::ysh_metrics(
         initial,
-        rooms::words_of(sizes, EQUITY, equity),
-        rooms::words_of(sizes, TRADES, trades),
+        rooms::words_of(sizes, rooms::EQUITY, equity),
+        rooms::words_of(sizes, rooms::TRADES, trades),
         &mut room[from..m],
     )
 }
@@ -191,5 +178,5 @@ pub(crate) fn metrics(
     room: &mut [u64],
 ) {
     let answer = metrics_call(word(line, 1), sizes, equity, trades, room);
-    write_done(answer, rooms::words_of(sizes, METRICS, room));
+    write_done(answer, rooms::words_of(sizes, rooms::METRICS, room));
 }

@@ -2,12 +2,12 @@
 use crate::rooms;
 use crate::rooms::word;
 
-// The table's room.
-const TABLE: usize = 31;
+// What stands for an answer where a line asks for a larger room than there is.
+const NO_ROOM: u64 = u64::MAX;
 
 // The table that is lent.
 pub(crate) fn table<'a>(sizes: &[u64], room: &'a [u8]) -> &'a [u8] {
-    rooms::bytes(room, 0, rooms::size(sizes, TABLE))
+    rooms::bytes(room, 0, rooms::size(sizes, rooms::TABLE))
 }
 
 // The answer, the nodes and the rows.
@@ -28,14 +28,14 @@ pub(crate) fn depth(line: &[u64], sizes: &[u64], room: &[u8]) {
 
 // Translates a tree into so many bytes of the room of its list.
 fn translated(table: &[u8], tree: u64, lists: &mut [u8], size: u64, used: &mut u64) -> u64 {
-    let from = rooms::list_at(tree);
+    let from = rooms::list_at(rooms::list_room(tree));
     let n = size as usize;
     if rooms::LIST < n {
-        return 0;
+        return NO_ROOM;
     }
     let to = from + n;
     if lists.len() < to {
-        return 0;
+        return NO_ROOM;
     }
     capi::tables::ysh_translate(table, tree, &mut lists[from..to], used)
 }
@@ -62,8 +62,8 @@ pub(crate) fn translate(line: &[u64], sizes: &mut [u64], room: &[u8], lists: &mu
     let tree = word(line, 1);
     let mut used = 0u64;
     let answer = translated(table(sizes, room), tree, lists, word(line, 2), &mut used);
-    rooms::set_size(sizes, 3 + tree % 4, used);
+    rooms::set_size(sizes, rooms::list_room(tree), used);
     text::write_words(&[answer], b' ');
     io::print_hex(1, used, 16);
-    write_bytes(rooms::list(sizes, tree % 4, lists));
+    write_bytes(rooms::list(sizes, tree, lists));
 }
