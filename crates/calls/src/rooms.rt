@@ -1,6 +1,6 @@
 // What a caller holds between calls: rooms of words and of bytes. A call is lent the first part of a room, as much as the room's
 // line said.
-ghost use Prim.Native.Nat.{_<_, _≤_};
+ghost use Prim.Native.Nat.{_≤_};
 
 // Rooms by their numbers (docs/INTERFACE.md); the table is no room there.
 pub(crate) const ROWS: usize = 0;
@@ -64,7 +64,7 @@ pub(crate) fn words_of<'a>(sizes: &[u64], i: usize, room: &'a [u64]) -> &'a [u64
     part(room, 0, size(sizes, i))
 }
 
-// The first bytes of a room; none where there are not as many.
+// The same for bytes.
 pub(crate) fn bytes(room: &[u8], from: usize, to: usize) -> &[u8] {
     if to < from {
         return &room[room.len()..];
