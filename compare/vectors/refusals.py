@@ -1,18 +1,18 @@
-#!/usr/bin/env python3
-"""Refusals 10 to 15 on both sides of each edge, as the vector for the program `refusals`.
+"""Refusals 10 to 15 on both sides of each edge, as calls for the program `calls`.
 
-    compare/vectors/refusals.py crates/refusals      writes stdout there, a line a case
-
-A case is a good call with something changed, named here and, by the same name and in the same order, in crates/refusals/src.
-What the call is answered with is worked out here from document 01, "Refusal numbers": every line of that table that is
-broken is collected, over the whole call, and then the first of the paper's order and of it the lowest place is taken.
+A case is a good call with something changed. What the call is answered with is worked out here from document 01, "Refusal
+numbers": every line of that table that is broken is collected, over the whole call, and then the first of the paper's order
+and of it the lowest place is taken. A call that is done leaves the equity point of its bar, or the figures that the Rust gives.
 """
 import math
-import os
 import sys
+
+from words import (EQUITY, FINISH, LISTS, METRIC_WORDS, METRICS, ROWS, SETTINGS, STATE, STATE_WORDS, STEP, TRADES, bits, lend,
+                   lend_bytes, line, refusal, setting_words)
 
 INF, NAN = math.inf, math.nan
 MOST = 4_294_967_295
+LAST_TIME = 3
 ORDER = [10, 12, 13, 14, 11, 15]
 
 # Settings by name, with their numbers. Sizing and slippage are (kind, value ..); a level that is None is absent.
@@ -22,11 +22,14 @@ LEVELS = {"stop": 12, "trailing": 13, "profit": 14, "leverage": 15, "position": 
 GOOD = {
     "K": 2, "D": 3, "capital": 1000.0, "taker": 0.0, "participation": 0.0,
     "sizing": ("fraction", 0.5), "slippage": ("fixed", 0.0),
-    "stop": None, "trailing": None, "profit": None, "leverage": None, "position": None,
+    "stop": None, "trailing": None, "profit": None, "leverage": None, "position": None, "liquidation": 0,
     "bars": 3, "held": 3, "points": 3, "trades": 1, "entered": 2, "qty": 1.0,
     "rows_room": 27, "equity_room": 8, "trades_room": 16,
-    "bar_words": None, "prices": [1.0] * 4, "volume": 1.0, "mask": 0b01, "slots": [1.0, 0.0], "funding": None,
+    "time": 4, "bar_words": None, "prices": [1.0] * 4, "volume": 1.0, "mask": 0b01, "slots": [1.0, 0.0],
+    "funding": None, "unsupplied": (0.0, 0.0),
     "lists": [b"", b"", b"", b""],
+    # the room of the C interface that is a word too short
+    "cut": None,
 }
 
 
@@ -129,14 +132,79 @@ def finish_refusals(c):
 def common_refusals(c):
     if c["rows_room"] < c["D"] * (7 + c["K"]):
         yield 10, 0
+    if c["cut"] is not None:
+        yield 10, c["cut"]
     yield from ((12, place) for place in settings_broken(c))
     if state_broken(c):
         yield 13, 0
 
 
 def answer(refusals):
+    """The answer of a call: 0 where nothing is broken."""
     found = sorted(refusals, key=lambda r: (ORDER.index(r[0]), r[1]))
-    return "refused %d at %d" % found[0] if found else "done"
+    return refusal(*found[0]) if found else 0
+
+
+# ---- the words of a call
+
+SIZINGS = ["fraction", "quantity", "cash", "target", "risk", "unknown"]
+SLIPPAGES = ["fixed", "impact", "unknown"]
+
+
+def settings_of(c):
+    sizing, (slippage, cost) = c["sizing"], c["slippage"]
+    lookback = sizing[2] if sizing[0] == "target" else 0
+    values = [c["K"], c["D"], bits(c["capital"]), 0, 0, SIZINGS.index(sizing[0]), bits(sizing[1]), lookback, bits(c["taker"]),
+              SLIPPAGES.index(slippage), bits(cost), 0, 0, 0, 0, 0, 0, c["liquidation"], 0, bits(c["participation"])]
+    return setting_words(values, [None if c[name] is None else bits(c[name]) for name in LEVELS])
+
+
+def state_of(c):
+    """One unit is held, bought for 1 of 1,000; or none."""
+    held = c["qty"] != 0
+    entered = [0, 0] if c["entered"] is None else [1, c["entered"]]
+    account = [999.0, 1.0, 1.0] if held else [1000.0, 0.0, 0.0]
+    words = [c["bars"], c["held"], c["points"], c["trades"], 0, 0, *entered, *map(bits, account), LAST_TIME if held else 0, 0, 0,
+             bits(1.0 if held else 0.0), LAST_TIME, bits(1.0)]
+    return words + [0] * (STATE_WORDS - len(words))
+
+
+def bar_of(c):
+    slots = (c["slots"] + [0.0] * c["K"])[: c["K"]]
+    funding = [0, *map(bits, c["unsupplied"])] if c["funding"] is None else [1, *map(bits, c["funding"])]
+    words = [c["time"], *map(bits, c["prices"]), bits(c["volume"]), c["mask"], *map(bits, slots), *funding]
+    size = len(words) if c["bar_words"] is None else c["bar_words"]
+    return (words + [0] * size)[:size]
+
+
+def lent(c):
+    rooms = {SETTINGS: settings_of(c), STATE: state_of(c), METRICS: [0] * METRIC_WORDS}
+    for room, content in rooms.items():
+        yield lend(room, content[:-1] if c["cut"] == room else content)
+    yield lend(ROWS, [], c["rows_room"])
+    yield lend(EQUITY, [], c["equity_room"])
+    yield lend(TRADES, [], c["trades_room"])
+    for i, listed in enumerate(c["lists"]):
+        yield lend_bytes(LISTS + i, listed)
+
+
+def step_call(c):
+    """What is held is worth its price at the close."""
+    told = answer(step_refusals(c))
+    done = [] if told else [c["time"], bits(999.0 + c["prices"][3])]
+    return line(STEP, *bar_of(c)), line(told, *done)
+
+
+def finish_call(c, figures_of):
+    """What is held is sold at the last close, for what it was bought; the points and the trades before are of zeros."""
+    told = answer(finish_refusals(c))
+    if told:
+        return line(FINISH), line(told)
+    closed = c["qty"] != 0 and c["bars"] > 0
+    trade = [LAST_TIME, LAST_TIME, bits(1.0), bits(1.0), bits(1.0), 0, 0, 6]
+    trades = [0] * 8 * c["trades"] + (trade if closed else [])
+    figures = figures_of(bits(c["capital"]), [0] * c["points"], trades)
+    return line(FINISH), line(told, *figures, *(trade if closed else []))
 
 
 def price(at, x):
@@ -158,7 +226,7 @@ def in_list(i, steps):
 DEEP = {"K": 0, "rows_room": 28679, "mask": 0, "slots": []}
 SHORT, BAD_SECOND, GOOD_TWO = bytes([27] * 15), step(27) + step(34), step(27) + step(28)
 TREES = ["entry", "exit", "short entry", "short exit"]
-GIVEN = {name: 1.0 for name in LEVELS}
+GIVEN = {name: 1.0 for name in LEVELS} | {"liquidation": 1}
 FULL = {"trades": 2, "entered": None}
 # One fault for each number, in the paper's order.
 FAULTS = [(10, {"rows_room": 26}), (12, {"capital": NAN}), (13, {"trades": 3}), (14, {"points": 4}),
@@ -170,6 +238,9 @@ STEPS = [
     ("room of rows just large enough", {}),
     ("room of rows one word short", {"rows_room": 26}),
     ("room of no rows", {"rows_room": 0}),
+    ("settings one word short", {"cut": SETTINGS}),
+    ("state one word short", {"cut": STATE}),
+    ("settings and room of rows one word short", {"cut": SETTINGS, "rows_room": 26}),
     # 12: K, D, lookback
     ("K 64", {"K": 64, "rows_room": 213, "bar_words": 74, "mask": 0}),
     ("K 65", {"K": 65, "rows_room": 216, "bar_words": 75, "mask": 0}),
@@ -198,7 +269,7 @@ STEPS = [
     ("capital no number", {"capital": NAN}),
     ("sizing by quantity", {"sizing": ("quantity", 1.0)}),
     ("sizing by cash", {"sizing": ("cash", 1.0)}),
-    ("sizing of an unknown kind", {"sizing": ("unknown",)}),
+    ("sizing of an unknown kind", {"sizing": ("unknown", 0.0)}),
     ("fraction no number", {"sizing": ("fraction", NAN)}),
     ("quantity infinite", {"sizing": ("quantity", INF)}),
     ("cash infinite", {"sizing": ("cash", INF)}),
@@ -206,7 +277,7 @@ STEPS = [
     ("taker fee below 0", {"taker": -1.0}),
     ("taker fee no number", {"taker": NAN}),
     ("slippage by volume", {"slippage": ("impact", 1.0)}),
-    ("slippage of an unknown kind", {"slippage": ("unknown",)}),
+    ("slippage of an unknown kind", {"slippage": ("unknown", 0.0)}),
     ("basis points infinite", {"slippage": ("fixed", INF)}),
     ("impact no number", {"slippage": ("impact", NAN)}),
     ("participation 1", {"participation": 1.0}),
@@ -223,7 +294,7 @@ STEPS = [
     ("risk sizing without a stop loss", {"sizing": ("risk", 1.0)}),
     ("risk no number, no stop loss", {"sizing": ("risk", NAN)}),
     # 11
-    ("time any word", {}),
+    ("time any word", {"time": bits(NAN)}),
     ("open no number", price(0, NAN)),
     ("high infinite", price(1, INF)),
     ("low no number", price(2, NAN)),
@@ -238,7 +309,7 @@ STEPS = [
     ("funding supplied", {"funding": (0.0, 0.0)}),
     ("mark infinite", {"funding": (INF, 0.0)}),
     ("rate no number", {"funding": (0.0, NAN)}),
-    ("mark and rate of no funding", {"funding": None}),
+    ("mark and rate of no funding", {"unsupplied": (INF, NAN)}),
     ("volume no number on the last bar", {"volume": NAN, "bars": MOST - 1}),
     # 15
     *[("kind %d" % kind, entry(kind)) for kind in (0, 4, 27, 33, 34)],
@@ -260,6 +331,9 @@ STEPS = [
 
 FINISHES = [
     ("room of rows one word short", {"rows_room": 26}),
+    ("settings one word short", {"cut": SETTINGS}),
+    ("state one word short", {"cut": STATE}),
+    ("metrics one word short", {"cut": METRICS}),
     ("D 0", {"D": 0}),
     ("D 3", {"D": 3}),
     ("capital infinite", {"capital": INF}),
@@ -276,12 +350,10 @@ FINISHES = [
 ]
 
 
-def main():
-    lines = [name + " " + answer(step_refusals(GOOD | change)) for name, change in STEPS]
-    lines += ["finish: " + name + " " + answer(finish_refusals(GOOD | change)) for name, change in FINISHES]
-    with open(os.path.join(sys.argv[1], "stdout"), "w") as out:
-        out.write("".join(line + "\n" for line in lines))
-
-
-if __name__ == "__main__":
-    main()
+def calls(figures_of):
+    for _, change in STEPS:
+        yield from lent(GOOD | change)
+        yield step_call(GOOD | change)
+    for _, change in FINISHES:
+        yield from lent(GOOD | change)
+        yield finish_call(GOOD | change, figures_of)

@@ -1,17 +1,12 @@
-#!/usr/bin/env python3
-"""Square roots of floats, as vectors for the program `roots`.
+"""Square roots of floats, as calls for the program `calls`.
 
-    compare/vectors/roots.py crates/roots      writes stdin and stdout there, one word a line
-
-A word is a float's bit pattern as 16 hexadecimal digits. The answers are worked out here with whole numbers only (Python's
-exact math.isqrt), from the definition of correct rounding and not from the engine's way of working; each is then compared with
-this machine's own square root, and a difference stops the script. Every NaN is 7ff8000000000000.
+The answers are worked out here with whole numbers only (Python's exact math.isqrt), from the definition of correct rounding and
+not from the engine's way of working; each is then compared with this machine's own square root, and a difference stops the script.
 """
 import math
-import os
 import random
-import struct
-import sys
+
+from words import ROOT, bits, line, number
 
 NAN = 0x7FF8000000000000
 INF = 0x7FF0000000000000
@@ -53,10 +48,8 @@ def root(word):
 
 def machine(word):
     """The same by this machine's square root."""
-    number = struct.unpack('<d', struct.pack('<Q', word))[0]
-    if number != number or number < 0:
-        return NAN
-    return struct.unpack('<Q', struct.pack('<d', math.sqrt(number)))[0]
+    x = number(word)
+    return NAN if x != x or x < 0 else bits(math.sqrt(x))
 
 
 def word_of(digits, scale):
@@ -113,15 +106,8 @@ def vectors():
     yield from (chance.randrange(1, 1 << 52) for _ in range(40))
 
 
-def main():
-    words = list(dict.fromkeys(vectors()))
-    roots = [root(w) for w in words]
-    for word, answer in zip(words, roots):
-        assert answer == machine(word), f'{word:016x}: {answer:016x} here, {machine(word):016x} by this machine'
-    for name, column in (('stdin', words), ('stdout', roots)):
-        with open(os.path.join(sys.argv[1], name), 'w') as f:
-            f.writelines(f'{w:016x}\n' for w in column)
-    print(len(words), 'vectors')
-
-
-main()
+def calls():
+    for word in dict.fromkeys(vectors()):
+        answer = root(word)
+        assert answer == machine(word), f"{word:016x}: {answer:016x} here, {machine(word):016x} by this machine"
+        yield line(ROOT, word), line(answer)

@@ -1,17 +1,14 @@
-#!/usr/bin/env python3
-"""Rule tables and the answers to them, as vectors for the programs `tables` and `tablecheck`.
+"""Rule tables: the check, the depth of the window and the steps of each, as calls for the program `calls`.
 
-    compare/vectors/tables.py crates        writes tables/{stdin,stdout} and tablecheck/{stdin,stdout} there
-
-A list is tables one after another, each behind its length in two bytes, the lower first; `tables` answers a line each.
 The answers are worked out here from document 01, "The rule table" and "Refusal numbers", by recursive descent over the
 nodes; the engine goes over the table from its last node to its first and knows nothing of this.
 """
 import math
-import os
 import random
 import struct
-import sys
+
+import steps
+from words import CHECK, DEPTH, NODE_ROOM, TABLE, TRANSLATE, bits, lend_bytes, line, refusal
 
 OPERAND, CONDITION = "operand", "condition"
 
@@ -126,28 +123,66 @@ def check(data):
             if past != at + count:
                 raise Refused(7, past)
             trees.append(tree)
+        else:
+            trees.append(None)
         at += count
-    deep = [number for tree in trees for number in too_deep(tree, 1)]
+    there = [tree for tree in trees if tree]
+    deep = [number for tree in there for number in too_deep(tree, 1)]
     if deep:
         raise Refused(8, min(deep))
-    for tree in trees:
+    for tree in there:
         if reach(tree) > 4095:
             raise Refused(9, tree[0])
-    return total, max(reach(tree) for tree in trees) + 1
+    return total, max(reach(tree) for tree in there) + 1, trees
 
 
-def answer(data):
+def told(data):
+    """What `tablecheck` writes."""
     try:
-        return "accepted nodes %d rows %d" % check(data)
-    except Refused as refusal:
-        return "refused %d at %d" % refusal.args
+        return "accepted nodes %d rows %d\n" % check(data)[:2]
+    except Refused as why:
+        return "refused %d at %d\n" % why.args
+
+
+def check_call(data):
+    try:
+        return line(CHECK), line(0, *check(data)[:2])
+    except Refused as why:
+        return line(CHECK), line(refusal(*why.args), 0, 0)
+
+
+def window(data, lookback):
+    """K and D of an accepted table."""
+    rows = check(data)[1]
+    return data[3], max(rows, lookback + 1)
+
+
+def depth_call(data, lookback):
+    try:
+        slots, rows = window(data, lookback)
+        answer = (0, rows, 8 * (7 + slots) * rows) if lookback <= 4095 else (refusal(12, 7), 0, 0)
+    except Refused as why:
+        answer = (refusal(*why.args), 0, 0)
+    return line(DEPTH, lookback), line(*answer)
+
+
+def told_depth(data, lookback):
+    """What `depth` writes of an accepted table."""
+    slots, rows = window(data, lookback)
+    row = 8 * (7 + slots)
+    return "rows %d\nbytes a row %d\nbytes of the window %d\n" % (rows, row, row * rows)
+
+
+def translate_call(data, tree, short_by=0):
+    """A tree into a room of 64 bytes a node, or of so many bytes less."""
+    size = NODE_ROOM * struct.unpack("<4H", data[8:16])[tree] - short_by
+    if short_by:
+        return line(TRANSLATE, tree, size), line(refusal(10, 3 + tree), 0)
+    listed = steps.code(check(data)[2][tree])
+    return line(TRANSLATE, tree, size), line(0, len(listed), *steps.words(listed))
 
 
 # ---- writing tables
-
-
-def bits(x):
-    return struct.unpack("<Q", struct.pack("<d", x))[0]
 
 
 def node(kind, selector=0, children=0, n=0, constant=0):
@@ -289,7 +324,8 @@ def nodes():
         for constant in (1, 1 << 63, bits(1.5), bits(math.inf), bits(-math.inf), bits(math.nan), 0x7FEFFFFFFFFFFFFF, 0xFFF0000000000001):
             yield table(2, YES, [node(kind, constant=constant)])
     # a constant, finite or not
-    for word in (0, 1 << 63, 1, 0x000FFFFFFFFFFFFF, 0x7FEFFFFFFFFFFFFF, 0xFFEFFFFFFFFFFFFF, 0x7FF0000000000000, 0xFFF0000000000000, 0x7FF0000000000001, 0x7FF8000000000000, 0xFFFFFFFFFFFFFFFF):
+    for word in (0, 1 << 63, 1, 0x000FFFFFFFFFFFFF, 0x7FEFFFFFFFFFFFFF, 0xFFEFFFFFFFFFFFFF, 0x7FF0000000000000,
+                 0xFFF0000000000000, 0x7FF0000000000001, 0x7FF8000000000000, 0xFFFFFFFFFFFFFFFF):
         yield table(0, two(16, [node(1, constant=word)], CLOSE), YES)
     # slots on both sides of K
     for slots in (0, 1, 2, 63, 64):
@@ -472,22 +508,26 @@ def cases():
         yield from part()
 
 
-def main():
-    folder = sys.argv[1]
-    listed = list(cases())
-    answers = [answer(data) for data in listed]
-    assert answers[0] == "accepted nodes 7 rows 3" and len(EXAMPLE) == 128
-    missing = {str(n) for n in range(1, 10)} - {line.split()[1] for line in answers if line.startswith("refused")}
-    assert not missing, missing
-    for name, given, told in (
-        ("tables", b"".join(struct.pack("<H", len(data)) + data for data in listed), answers),
-        ("tablecheck", EXAMPLE, answers[:1]),
-    ):
-        with open(os.path.join(folder, name, "stdin"), "wb") as out:
-            out.write(given)
-        with open(os.path.join(folder, name, "stdout"), "w") as out:
-            out.write("".join(line + "\n" for line in told))
-    print("%d tables, %d accepted" % (len(listed), sum(line.startswith("accepted") for line in answers)))
+# A lookback within the reach of most tables, above it, the largest, and one more.
+LOOKBACKS = [0, 1, 100, 4095, 4096]
+# As many nodes as a table has whose steps are listed.
+FEW_NODES = 40
 
 
-main()
+def calls():
+    refused = set()
+    for i, data in enumerate(cases()):
+        yield lend_bytes(TABLE, data)
+        yield check_call(data)
+        yield depth_call(data, LOOKBACKS[i % len(LOOKBACKS)])
+        try:
+            total = check(data)[0]
+        except Refused as why:
+            refused.add(why.args[0])
+            yield line(TRANSLATE, i % 4, NODE_ROOM), line(refusal(*why.args), 0)
+            continue
+        if total <= FEW_NODES:
+            yield translate_call(data, i % 2)
+            yield translate_call(data, i % 2, short_by=1)
+            yield translate_call(data, 2 + i % 2)
+    assert refused == set(range(1, 10)), refused

@@ -1,2 +1,3 @@
 -- What the proofs of the functions use.
 pub mod Pieces
+pub mod Writing

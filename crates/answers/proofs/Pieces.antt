@@ -1,5 +1,4 @@
 -- Four pieces put one after another into a room of newlines, and the newline after them.
--- Assumes nothing.
 use mathlib.Core.Path.{_≡_, refl, sym, _∙_, ap}
 use mathlib.Core.Bool.{Bool, true, false, cond}
 use mathlib.Core.List.{List, [], _∷_, _++_}
@@ -10,9 +9,10 @@ use lib.Seq.{length-take-le}
 use lib.Dec.{ltb, leb}
 use borrow.Author.Tests.{leb-true}
 use Rattle.io.specs.Counts.{Counts}
-use Rattle.text.specs.Text.{put, next, places, decimal}
-use Rattle.text.specs.Pieces.{next-fits, put-fits, put-put, length-put, length-digits}
+use Rattle.answers.specs.Text.{put, next, places, decimal}
+use Rattle.answers.specs.Laws.Pieces.{next-fits, put-fits, put-put, length-put, length-digits}
 
+-- at most one digit more than asked for
 places-few : (k n : ℕ) → places k n ≤ k + 1
 unfolding places
 places-few zero n = omega arith
@@ -41,27 +41,30 @@ more l l′ s p n n′ hl hn room hn′ hl′ =
       hl′ ∙ ap (λ (r : List ℕ). put r n p) hl ∙ ap (λ (m : ℕ). put (put newlines 0 s) m p) (sym place) ∙ put-put newlines 0 s p (omega arith),
     )
 
+-- the pieces s, put at the start of a room of newlines, end at d
 pub record Put (s : List ℕ) (d : ℕ) (l : List ℕ) : Type 0 where
   pub count : d ≡ length s
   pub room : l ≡ put newlines 0 s
   pub few : length s ≤ 62
 
-pub four : (what then : List ℕ) (x y : ℕ) (l1 l2 l3 l4 : List ℕ) (a b c d : ℕ) → length what ≤ 16 → length then ≤ 6
-    → a ≡ next newlines 0 what → l1 ≡ put newlines 0 what → b ≡ next l1 a (decimal x) → l2 ≡ put l1 a (decimal x)
-    → c ≡ next l2 b then → l3 ≡ put l2 b then → d ≡ next l3 c (decimal y) → l4 ≡ put l3 c (decimal y)
+-- four pieces, each put after the one before it
+pub four : (what then : List ℕ) (x y : ℕ) (l1 l2 l3 l4 : List ℕ) (a b c d : ℕ) → (length what ≤ 16) × (length then ≤ 6)
+    → (a ≡ next newlines 0 what) × (l1 ≡ put newlines 0 what) → (b ≡ next l1 a (decimal x)) × (l2 ≡ put l1 a (decimal x))
+    → (c ≡ next l2 b then) × (l3 ≡ put l2 b then) → (d ≡ next l3 c (decimal y)) × (l4 ≡ put l3 c (decimal y))
     → Put (what ++ decimal x ++ then ++ decimal y) d l4
-four what then x y l1 l2 l3 l4 a b c d hw ht ha h1 hb h2 hc h3 hd h4 =
+four what then x y l1 l2 l3 l4 a b c d few h1 h2 h3 h4 =
     let dx = decimal-few x in
     let dy = decimal-few y in
     let e2 = length-append what (decimal x) in
     let e3 = length-append (what ++ decimal x) then in
     let e4 = length-append (what ++ decimal x ++ then) (decimal y) in
-    let first : a ≡ length what = ha ∙ next-fits newlines 0 what (omega arith) ∙ omega arith in
-    let m2 = more l1 l2 what (decimal x) a b h1 first (omega arith) hb h2 in
-    let m3 = more l2 l3 (what ++ decimal x) then b c (m2 .1) (m2 .0) (omega arith) hc h3 in
-    let m4 = more l3 l4 (what ++ decimal x ++ then) (decimal y) c d (m3 .1) (m3 .0) (omega arith) hd h4 in
+    let first : a ≡ length what = h1 .0 ∙ next-fits newlines 0 what (omega arith) ∙ omega arith in
+    let m2 = more l1 l2 what (decimal x) a b (h1 .1) first (omega arith) (h2 .0) (h2 .1) in
+    let m3 = more l2 l3 (what ++ decimal x) then b c (m2 .1) (m2 .0) (omega arith) (h3 .0) (h3 .1) in
+    let m4 = more l3 l4 (what ++ decimal x ++ then) (decimal y) c d (m3 .1) (m3 .0) (omega arith) (h4 .0) (h4 .1) in
     record { count = m4 .0; room = m4 .1; few = omega arith }
 
+-- a newline stands after them
 drop-newlines : (m n : ℕ) → n < m → take {A = ℕ} 1 (drop n (replicate m 10)) ≡ 10 ∷ []
 drop-newlines zero n h = absurd (never h)
   where
@@ -70,6 +73,7 @@ drop-newlines zero n h = absurd (never h)
 drop-newlines (suc m) zero h = refl
 drop-newlines (suc m) (suc n) h = drop-newlines m n (omega arith)
 
+-- as many bytes as a piece has, and one more
 take-one-more : (s r : List ℕ) → take (length s + 1) (s ++ r) ≡ s ++ take 1 r
 take-one-more [] r = refl
 take-one-more (x ∷ s) r =
@@ -86,6 +90,7 @@ with-newline s l d p =
     ∙ take-one-more s (drop (length s) newlines)
     ∙ ap (λ (r : List ℕ). s ++ r) (drop-newlines 64 (length s) (omega (arith, p .few)))
 
+-- the newline lies within the room
 pub room-long : (s l : List ℕ) (d : ℕ) → Put s d l → d + 1 ≤ length l
 room-long s l d p = omega (arith, p .count, p .few, ap length (p .room) ∙ length-put newlines 0 s)
 

@@ -1,1 +1,4 @@
+pub mod Text
 pub mod Lines
+pub mod Examples
+pub mod Laws

@@ -1,7 +1,7 @@
 -- The answer to a table as a line. Definitions only.
 use mathlib.Core.List.{List, [], _∷_, _++_}
 use Prim.Native.Nat.{ℕ}
-use Rattle.text.specs.Text.{decimal}
+use Rattle.answers.specs.Text.{decimal}
 use Rattle.table.specs.declared.Answer.{Answer}
 use Rattle.table.specs.declared.Answer.the-variants.{Accepted, Refused}
 

@@ -1,10 +1,14 @@
 // The answer to a rule table as a line of text: `accepted nodes 7 rows 3` or `refused 6 at 2`, and a newline.
+mod put;
+
+use put::put;
+use put::put_decimal;
 use table::Answer;
 ghost use mathlib.Core.Path.{_≡_};
 ghost use Prim.Native.Nat.{_≤_};
 ghost use lib.ListN.{length};
 ghost use Rattle.io.specs.Counts.{Counts};
-ghost use Rattle.text.specs.Text.{put, next};
+ghost use Rattle.answers.specs.Text.{put, next};
 ghost use Rattle.answers.specs.Lines.{twoNumbers, lineOf};
 
 // Puts a line with two numbers in it at the start of the room and answers how many bytes it has; where it does not fit, 0.
@@ -15,11 +19,11 @@ fn put_numbers(room: &mut [u8], what: &[u8], first: u64, then: &[u8], second: u6
     ensures { λ r. ⌜ Counts r (now (room .exit)) ⌝ }
 {
     let mut line = [10u8; 64];
-    let a = text::put(&mut line, 0, what);
-    let b = text::put_decimal(&mut line, a, first);
-    let c = text::put(&mut line, b, then);
-    let d = text::put_decimal(&mut line, c, second);
-    text::put(room, 0, &line[..d + 1])
+    let a = put(&mut line, 0, what);
+    let b = put_decimal(&mut line, a, first);
+    let c = put(&mut line, b, then);
+    let d = put_decimal(&mut line, c, second);
+    put(room, 0, &line[..d + 1])
 }
 
 // Puts the line of an answer at the start of the room and answers how many bytes it has, 62 at the most; where it does not

@@ -272,7 +272,11 @@ fn say_depth() {
         DepthAnswer::Needs { rows, row, window } => {
             report::say_count(b"accepted        its window is ", rows, b" rows deep\n");
             report::say_count(b"window          ", row, b" bytes a row, ");
-            report::say_count(b"", window, b" bytes to write when the supply drops\n");
+            report::say_count(
+                b"",
+                window,
+                b" bytes of rows to write when the supply drops, and the state on top\n",
+            );
         }
     }
 }

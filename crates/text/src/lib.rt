@@ -1,188 +1,91 @@
-// Text that programs read and write: words as 16 hexadecimal digits, numbers in decimal, and bytes as they are, put into
-// a lent room one after another. Each function is total: what does not fit changes nothing. `Counts` says of a count that
-// it lies within the room, in the form in which a caller's `&room[..n]` is proved with no file.
-ghost use mathlib.Core.Path.{_≡_};
-ghost use Prim.Native.Nat.{_-_, _≤_};
-ghost use lib.ListN.{length};
+// Lines of words, for the programs that replay stored cases. A word is 64 bits, written as 16 hexadecimal digits with one byte
+// after them: a space, or a newline at a line's end. Nothing is promised of what is read and written, since no contract can say
+// what a call of the operating system moves: the answers are held to stored ones.
 ghost use Rattle.io.specs.Counts.{Counts};
-ghost use Rattle.text.specs.Text.{next, wordAt, wordsOf, over, lineAt, hex, cell, row, decimal};
-ghost use Rattle.text.specs.Text as Text;
 
-// What stands at a place of a text.
-pub enum Spelt {
-    Word(u64),
-    Nothing,
+const NEWLINE: u8 = 10;
+
+const SPACE: u8 = 32;
+
+// A word of the input and the byte after it, which is 0 where the input ends.
+struct Read {
+    word: u64,
+    after: u8,
 }
 
-// The value of a digit's byte, 0 to 9 and a to f; 16 for any other byte.
-fn digit(b: u8) -> u64
-    ensures { λ r. ⌜ r ≡ Text.digit b ⌝ }
-{
-    if b < 48 {
-        return 16;
+// What a digit stands for; 0 for any other byte.
+fn digit(byte: u8) -> u8 {
+    match byte {
+        b'0'..=b'9' => byte - b'0',
+        b'a'..=b'f' => byte - b'a' + 10,
+        _ => 0,
     }
-    if b < 58 {
-        return b as u64 - 48;
-    }
-    if b < 97 {
-        return 16;
-    }
-    if b < 103 {
-        return b as u64 - 87;
-    }
-    16
 }
 
-// The word that the 16 bytes from `at` on spell.
-pub fn word_at(text: &[u8], at: usize) -> Spelt
-    ensures { λ r. ⌜ r ≡ wordAt (now (text .entry)) at ⌝ }
-{
+fn wide(byte: u8) -> u64 {
+    byte as u64
+}
+
+// The word that digits spell; of more than 16 the last 16 count.
+fn word_of(digits: &[u8]) -> u64 {
     let mut word = 0u64;
-    let mut i = at;
-    let mut left = 16u64;
-    while left > 0 {
-        if text.len() <= i {
-            return Spelt::Nothing;
-        }
-        let d = digit(text[i]);
-        if 15 < d {
-            return Spelt::Nothing;
-        }
-        word = 16 * word + d;
-        i = i + 1;
-        left = left - 1;
+    let mut i = 0;
+    while i < digits.len() {
+        word = word % 0x1000_0000_0000_0000 * 16 + wide(digit(digits[i])) % 16;
+        i += 1;
     }
-    Spelt::Word(word)
+    word
 }
 
-// Puts the words of a text into the room's first places and answers how many there are: 16 digits each and one byte
-// after each, a newline or a space, up to the first that is none or the end of the room.
-pub fn words(text: &[u8], room: &mut [u64]) -> usize
-    ensures { λ r. ⌜ r ≡ length (wordsOf (length (now (room .entry))) (now (text .entry)) 0) ⌝ }
-    ensures { λ _. ⌜ now (room .exit) ≡ over (now (room .entry)) (wordsOf (length (now (room .entry))) (now (text .entry)) 0) ⌝ }
+// The next word of the input.
+fn next_word() -> Read {
+    let mut digits = [0u8; 16];
+    let mut after = [0u8; 1];
+    io::read_full(0, &mut digits);
+    io::read_full(0, &mut after);
+    Read {
+        word: word_of(&digits),
+        after: after[0],
+    }
+}
+
+// Reads a line into the room's first places and answers how many words it has, 0 at the end of the input. A line that is longer
+// than the room is taken for two.
+pub fn read_line(room: &mut [u64]) -> usize
     ensures { λ r. ⌜ Counts r (now (room .exit)) ⌝ }
 {
-    let most = text.len() / 17;
     let mut n = 0;
     while n < room.len() {
-        if most < n {
+        let read = next_word();
+        let after = read.after;
+        if after == 0 {
             return n;
         }
-        let Spelt::Word(w) = word_at(text, 17 * n) else {
+        room[n] = read.word;
+        n += 1;
+        if after == NEWLINE {
             return n;
-        };
-        room[n] = w;
-        n = n + 1;
+        }
     }
     n
 }
 
-// The line that begins at `at`, without its newline.
-pub fn line_at(text: &[u8], at: usize) -> &[u8]
-    ensures { λ r. ⌜ now r ≡ lineAt (now (text .entry)) at ⌝ }
-    ensures { λ r. ⌜ length (now r) ≤ length (now (text .entry)) - at ⌝ }
-{
-    if text.len() <= at {
-        return &text[text.len()..];
-    }
-    let mut end = at;
-    while end < text.len() {
-        if text[end] == 10 {
-            return &text[at..end];
+fn write_word(word: u64, after: u8) {
+    io::print_hex(1, word, 16);
+    let end = [after];
+    io::write_all(1, &end);
+}
+
+// Writes the words, a space after each but the last, and after that one the byte `end`.
+pub fn write_words(words: &[u64], end: u8) {
+    let n = words.len();
+    let mut i = 0;
+    while i < n {
+        if i + 1 < n {
+            write_word(words[i], SPACE);
+        } else {
+            write_word(words[i], end);
         }
-        end = end + 1;
+        i += 1;
     }
-    &text[at..end]
-}
-
-// Puts bytes into the room from `at` on and answers the place just past them; where they do not fit, `at`.
-pub fn put(room: &mut [u8], at: usize, bytes: &[u8]) -> usize
-    ensures { λ r. ⌜ r ≡ next (now (room .entry)) at (now (bytes .entry)) ⌝ }
-    ensures { λ _. ⌜ now (room .exit) ≡ Text.put (now (room .entry)) at (now (bytes .entry)) ⌝ }
-{
-    if room.len() < at {
-        return at;
-    }
-    if room.len() - at < bytes.len() {
-        return at;
-    }
-    let mut i = 0;
-    while i < bytes.len() {
-        room[at + i] = bytes[i];
-        i = i + 1;
-    }
-    at + bytes.len()
-}
-
-// Puts a word's 16 digits into the room, as `put` does.
-pub fn put_word(room: &mut [u8], at: usize, word: u64) -> usize
-    ensures { λ r. ⌜ r ≡ next (now (room .entry)) at (hex word) ⌝ }
-    ensures { λ _. ⌜ now (room .exit) ≡ Text.put (now (room .entry)) at (hex word) ⌝ }
-{
-    let mut spelt = [0u8; 16];
-    let k = io::hex(word, 16, &mut spelt);
-    put(room, at, &spelt[..k])
-}
-
-// Puts a number's decimal digits into the room, as `put` does.
-pub fn put_decimal(room: &mut [u8], at: usize, n: u64) -> usize
-    ensures { λ r. ⌜ r ≡ next (now (room .entry)) at (decimal n) ⌝ }
-    ensures { λ _. ⌜ now (room .exit) ≡ Text.put (now (room .entry)) at (decimal n) ⌝ }
-{
-    let mut spelt = [0u8; 20];
-    let k = io::decimal(n, &mut spelt);
-    put(room, at, &spelt[..k])
-}
-
-// Puts a word and the byte after it into the room, as `put` does.
-pub fn put_cell(room: &mut [u8], at: usize, word: u64, after: u8) -> usize
-    ensures { λ r. ⌜ r ≡ next (now (room .entry)) at (cell word after) ⌝ }
-    ensures { λ _. ⌜ now (room .exit) ≡ Text.put (now (room .entry)) at (cell word after) ⌝ }
-{
-    let mut spelt = [after; 17];
-    put_word(&mut spelt, 0, word);
-    put(room, at, &spelt)
-}
-
-// Puts words on one line into the room, as `put` does: a space after each but the last, and a newline.
-pub fn put_row(room: &mut [u8], at: usize, words: &[u64]) -> usize
-    ensures { λ r. ⌜ r ≡ next (now (room .entry)) at (row (now (words .entry))) ⌝ }
-    ensures { λ _. ⌜ now (room .exit) ≡ Text.put (now (room .entry)) at (row (now (words .entry))) ⌝ }
-{
-    if words.len() == 0 {
-        return put(room, at, b"\n");
-    }
-    if room.len() < at {
-        return at;
-    }
-    if (room.len() - at) / 17 < words.len() {
-        return at;
-    }
-    let last = words.len() - 1;
-    let mut end = at;
-    let mut i = 0;
-    while i < last {
-        end = put_cell(room, end, words[i], 32);
-        i = i + 1;
-    }
-    put_cell(room, end, words[i], 10)
-}
-
-// Puts a line for each word at the start of the room and answers the place just past them;
-// where they do not fit, 0.
-pub fn lines(words: &[u64], room: &mut [u8]) -> usize
-    ensures { λ r. ⌜ r ≡ next (now (room .entry)) 0 (Text.lines (now (words .entry))) ⌝ }
-    ensures { λ _. ⌜ now (room .exit) ≡ Text.put (now (room .entry)) 0 (Text.lines (now (words .entry))) ⌝ }
-    ensures { λ r. ⌜ Counts r (now (room .exit)) ⌝ }
-{
-    if room.len() / 17 < words.len() {
-        return 0;
-    }
-    let mut at = 0;
-    let mut i = 0;
-    while i < words.len() {
-        at = put_cell(room, at, words[i], 10);
-        i = i + 1;
-    }
-    at
 }

@@ -84,7 +84,7 @@ pub fn compare(seed: u64, runs: u64) -> bool {
     true
 }
 
-/// Compares the runs of a list on standard input, as compare/vectors has them.
+/// Compares the runs of a list on standard input, as `oracle gen` writes them.
 pub fn replay() -> io::Result<bool> {
     let lines: Vec<String> = io::stdin().lock().lines().collect::<io::Result<_>>()?;
     let cases = Case::of_lines(&lines);

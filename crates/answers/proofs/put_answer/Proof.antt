@@ -1,9 +1,8 @@
 -- `put_answer` meets its contract: each answer has its own two words.
--- Assumes nothing.
 use mathlib.Core.Path.{sym, _∙_, ap}
 use mathlib.Core.List.{List}
 use Prim.Native.Nat.{ℕ}
-use Rattle.text.specs.Text.{put, next}
+use Rattle.answers.specs.Text.{put, next}
 use Rattle.answers.specs.Lines.{lineOf}
 use borrow.Author.Needs.{needs}
 use Rattle.answers.proofs.put_answer.Statement.{statement}

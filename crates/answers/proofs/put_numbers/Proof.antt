@@ -1,11 +1,10 @@
 -- `put_numbers` meets its contract: four pieces in a row of newlines, and the newline after them.
--- Assumes nothing.
 use mathlib.Core.Path.{sym, _∙_, ap}
 use mathlib.Core.List.{List}
 use Prim.Native.Nat.{ℕ}
 use native.Mathlib.Omega.{arith}
 use lib.Seq.{length-take-le}
-use Rattle.text.specs.Text.{put, next}
+use Rattle.answers.specs.Text.{put, next}
 use Rattle.answers.specs.Lines.{twoNumbers}
 use Rattle.answers.proofs.Pieces.{four, with-newline, room-long, counted}
 use borrow.Author.Needs.{needs}
@@ -15,30 +14,42 @@ use Rattle.answers.proofs.put_numbers.Tie as tie
 add-line : tie.Need-add-line
 add-line c =
     let q = c .before .before in
-    let a = q .before .before .before .before .before .before .before .before .before .before .before .before .before .before in
-    let p = four _ _ _ _ _ _ _ _ _ _ _ _ (a .pre .0) (a .pre .1) (q .before .before .before .before .before .before .before .before .before .put .ensures .0) (q .before .before .before .before .before .before .before .before .before .put .ensures .1) (q .before .before .before .before .before .before .put-decimal .ensures .0) (q .before .before .before .before .before .before .put-decimal .ensures .1) (q .before .before .before .put2 .ensures .0) (q .before .before .before .put2 .ensures .1) (q .put-decimal2 .ensures .0) (q .put-decimal2 .ensures .1) in
+    let put2 = q .before .before .before in
+    let number = put2 .before .before .before in
+    let put1 = number .before .before .before in
+    let a = put1 .before .before .before .before .before in
+    let p = four _ _ _ _ _ _ _ _ _ _ _ _ (a .pre) (put1 .put .ensures) (number .put-decimal .ensures) (put2 .put2 .ensures) (q .put-decimal2 .ensures) in
     omega (arith, p .count, p .few)
 
 array-share-prefix-line : tie.Need-array-share-prefix-line
 array-share-prefix-line c =
     let q = c .before .before in
-    let a = q .before .before .before .before .before .before .before .before .before .before .before .before .before .before in
-    let p = four _ _ _ _ _ _ _ _ _ _ _ _ (a .pre .0) (a .pre .1) (q .before .before .before .before .before .before .before .before .before .put .ensures .0) (q .before .before .before .before .before .before .before .before .before .put .ensures .1) (q .before .before .before .before .before .before .put-decimal .ensures .0) (q .before .before .before .before .before .before .put-decimal .ensures .1) (q .before .before .before .put2 .ensures .0) (q .before .before .before .put2 .ensures .1) (q .put-decimal2 .ensures .0) (q .put-decimal2 .ensures .1) in
+    let put2 = q .before .before .before in
+    let number = put2 .before .before .before in
+    let put1 = number .before .before .before in
+    let a = put1 .before .before .before .before .before in
+    let p = four _ _ _ _ _ _ _ _ _ _ _ _ (a .pre) (put1 .put .ensures) (number .put-decimal .ensures) (put2 .put2 .ensures) (q .put-decimal2 .ensures) in
     room-long _ _ _ p
 
 slice-aggregate-put-3 : tie.Need-slice-aggregate-put-3
 slice-aggregate-put-3 c =
     let q = c .before .before .before in
-    let a = q .before .before .before .before .before .before .before .before .before .before .before .before .before .before in
-    let p = four _ _ _ _ _ _ _ _ _ _ _ _ (a .pre .0) (a .pre .1) (q .before .before .before .before .before .before .before .before .before .put .ensures .0) (q .before .before .before .before .before .before .before .before .before .put .ensures .1) (q .before .before .before .before .before .before .put-decimal .ensures .0) (q .before .before .before .before .before .before .put-decimal .ensures .1) (q .before .before .before .put2 .ensures .0) (q .before .before .before .put2 .ensures .1) (q .put-decimal2 .ensures .0) (q .put-decimal2 .ensures .1) in
+    let put2 = q .before .before .before in
+    let number = put2 .before .before .before in
+    let put1 = number .before .before .before in
+    let a = put1 .before .before .before .before .before in
+    let p = four _ _ _ _ _ _ _ _ _ _ _ _ (a .pre) (put1 .put .ensures) (number .put-decimal .ensures) (put2 .put2 .ensures) (q .put-decimal2 .ensures) in
     sym (length-take-le _ _ (room-long _ _ _ p))
 
 returns : tie.Need-returns
 unfolding twoNumbers
 returns c =
     let q = c .before .before .before .before .before .before in
-    let a = q .before .before .before .before .before .before .before .before .before .before .before .before .before .before in
-    let p = four _ _ _ _ _ _ _ _ _ _ _ _ (a .pre .0) (a .pre .1) (q .before .before .before .before .before .before .before .before .before .put .ensures .0) (q .before .before .before .before .before .before .before .before .before .put .ensures .1) (q .before .before .before .before .before .before .put-decimal .ensures .0) (q .before .before .before .before .before .before .put-decimal .ensures .1) (q .before .before .before .put2 .ensures .0) (q .before .before .before .put2 .ensures .1) (q .put-decimal2 .ensures .0) (q .put-decimal2 .ensures .1) in
+    let put2 = q .before .before .before in
+    let number = put2 .before .before .before in
+    let put1 = number .before .before .before in
+    let a = put1 .before .before .before .before .before in
+    let p = four _ _ _ _ _ _ _ _ _ _ _ _ (a .pre) (put1 .put .ensures) (number .put-decimal .ensures) (put2 .put2 .ensures) (q .put-decimal2 .ensures) in
     let e = with-newline _ _ _ p in
     let r = c .before .before .put3 in
     let room = a .args .room .now in

@@ -1,0 +1,194 @@
+// A line a call of the C interface (docs/INTERFACE.md): what it is handed, and what it answers. A line is words of 16 hexadecimal
+// digits. Where the first is below 20 (hex) it is the number of a room, 1f that of the table, and the line says how many words or bytes
+// of the room are lent and what stands there; bytes are eight to a word. Else it is a call over the rooms as they are, and it is
+// answered with a line. compare/README.md has the list of calls; compare/vectors/make makes the stored lines.
+mod rooms;
+mod rules;
+mod runs;
+mod tables;
+
+use rooms::word;
+
+// The words of the longest line.
+const LINE: usize = 8192;
+
+// The table and the four lists in bytes; the other rooms in words.
+const TABLE: usize = 8192;
+
+const LISTS: usize = 4 * rooms::LIST;
+
+const ROWS: usize = 32768;
+
+const RECORDS: usize = 8192;
+
+const FEW: usize = 64;
+
+// Fills the room that the line names.
+fn lend(
+    line: &[u64],
+    sizes: &mut [u64],
+    table: &mut [u8],
+    lists: &mut [u8],
+    settings: &mut [u64],
+    state: &mut [u64],
+    rows: &mut [u64],
+    equity: &mut [u64],
+    trades: &mut [u64],
+    metrics: &mut [u64],
+) {
+    rooms::set_size(sizes, word(line, 0), word(line, 1));
+    match word(line, 0) {
+        0 => rooms::fill(rows, line),
+        1 => rooms::fill(equity, line),
+        2 => rooms::fill(trades, line),
+        7 => rooms::fill(settings, line),
+        8 => rooms::fill(state, line),
+        9 => rooms::fill(metrics, line),
+        0x1f => rooms::fill_bytes(table, line),
+        _ => rooms::fill_list(lists, line),
+    }
+}
+
+// Makes a call that a table or rows are lent to.
+fn call_rules(line: &[u64], sizes: &mut [u64], table: &[u8], lists: &mut [u8], rows: &[u64]) {
+    match word(line, 0) {
+        0x20 => tables::check(sizes, table),
+        0x21 => tables::depth(line, sizes, table),
+        0x22 => tables::translate(line, sizes, table, lists),
+        0x23 => rules::rule(
+            line,
+            tables::table(sizes, table),
+            rooms::words_of(sizes, rooms::ROWS, rows),
+        ),
+        _ => rules::run(
+            line,
+            sizes,
+            rooms::words_of(sizes, rooms::ROWS, rows),
+            lists,
+        ),
+    }
+}
+
+// Makes a call of a run, of the metrics or of the root.
+fn call_run(
+    line: &[u64],
+    sizes: &[u64],
+    lists: &[u8],
+    settings: &[u64],
+    state: &mut [u64],
+    rows: &mut [u64],
+    equity: &mut [u64],
+    trades: &mut [u64],
+    metrics: &mut [u64],
+) {
+    match word(line, 0) {
+        0x25 => runs::fresh(sizes, settings, state),
+        0x26 => runs::step(line, sizes, settings, state, rows, equity, trades, lists),
+        0x27 => runs::finish(sizes, settings, state, rows, equity, trades, metrics),
+        0x28 => runs::metrics(line, sizes, equity, trades, metrics),
+        _ => text::write_words(&[capi::figures::ysh_root(word(line, 1))], b'\n'),
+    }
+}
+
+// Takes a line: a room is lent, or a call made.
+fn take(
+    line: &[u64],
+    sizes: &mut [u64],
+    table: &mut [u8],
+    lists: &mut [u8],
+    settings: &mut [u64],
+    state: &mut [u64],
+    rows: &mut [u64],
+    equity: &mut [u64],
+    trades: &mut [u64],
+    metrics: &mut [u64],
+) {
+    match word(line, 0) {
+        0..=0x1f => lend(
+            line,
+            sizes,
+            table,
+            lists,
+            settings,
+            state,
+            rows,
+            equity,
+            trades,
+            metrics,
+        ),
+        0x20..=0x24 => call_rules(line, sizes, table, lists, rows),
+        _ => call_run(
+            line,
+            sizes,
+            lists,
+            settings,
+            state,
+            rows,
+            equity,
+            trades,
+            metrics,
+        ),
+    }
+}
+
+// Takes the next line, and says whether there was one: at the end of the input there is no word, and a room of none is lent.
+fn take_next(
+    room: &mut [u64],
+    sizes: &mut [u64],
+    table: &mut [u8],
+    lists: &mut [u8],
+    settings: &mut [u64],
+    state: &mut [u64],
+    rows: &mut [u64],
+    equity: &mut [u64],
+    trades: &mut [u64],
+    metrics: &mut [u64],
+) -> bool {
+    let n = text::read_line(room);
+    let line = rooms::part(room, 0, n);
+    take(
+        line,
+        sizes,
+        table,
+        lists,
+        settings,
+        state,
+        rows,
+        equity,
+        trades,
+        metrics,
+    );
+    n > 0
+}
+
+// A proved loop has to end, and nothing says that the input does, so the loop counts its turns down from a number that
+// no run uses up.
+fn main() {
+    let mut line = [0u64; LINE];
+    let mut sizes = [0u64; FEW];
+    let mut table = [0u8; TABLE];
+    let mut lists = [0u8; LISTS];
+    let mut settings = [0u64; FEW];
+    let mut state = [0u64; FEW];
+    let mut rows = [0u64; ROWS];
+    let mut equity = [0u64; RECORDS];
+    let mut trades = [0u64; RECORDS];
+    let mut metrics = [0u64; FEW];
+    let mut turns = u64::MAX;
+    while turns > 0
+        && take_next(
+            &mut line,
+            &mut sizes,
+            &mut table,
+            &mut lists,
+            &mut settings,
+            &mut state,
+            &mut rows,
+            &mut equity,
+            &mut trades,
+            &mut metrics,
+        )
+    {
+        turns -= 1;
+    }
+}

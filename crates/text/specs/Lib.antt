@@ -1,3 +1,0 @@
-pub mod Text
-pub mod Examples
-pub mod Pieces
