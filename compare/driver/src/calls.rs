@@ -4,7 +4,10 @@
 //! writes is lent to it, so that a caller can see what it did to it.
 
 /// Words of the records and rooms.
-pub const SETTING_WORDS: usize = 21;
+pub const SETTING_WORDS: usize = 32;
+
+/// The word of the mask that says which optional settings are given.
+pub const GIVEN: usize = 31;
 pub const STATE_WORDS: usize = 17;
 pub const POINT_WORDS: usize = 2;
 pub const TRADE_WORDS: usize = 8;

@@ -6,7 +6,7 @@ use oracle::table::{slots_of, Table};
 use oracle::words::{bytes_of_hex, Words};
 use oracle::Settings;
 
-use crate::calls::SETTING_WORDS;
+use crate::calls::{GIVEN, SETTING_WORDS};
 
 /// What stands in words that must not be looked at: a NaN of an odd pattern.
 pub const JUNK: u64 = 0xfff4_dead_beef_f00d;
@@ -93,7 +93,7 @@ pub fn setting_words(s: &Settings) -> [u64; SETTING_WORDS] {
     ]);
     for (i, level) in optional.into_iter().enumerate() {
         words[12 + i] = level.map_or(JUNK, f64::to_bits);
-        words[20] |= u64::from(level.is_some()) << (12 + i);
+        words[GIVEN] |= u64::from(level.is_some()) << (12 + i);
     }
     words[17] = s.risk.liquidation.into();
     words[18] = s.partial_fills.into();

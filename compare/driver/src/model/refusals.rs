@@ -1,7 +1,7 @@
 //! Refusals 10 to 15, in the paper's order: 10, 12, 13, 14, 11, 15; under one number the lowest place.
 
 use super::{finite, refusal, steps, table};
-use crate::calls::{bar_words, state, Position, METRIC_WORDS, NODE_STEP_BYTES, SETTING_WORDS, STATE_WORDS};
+use crate::calls::{bar_words, state, Position, GIVEN, METRIC_WORDS, NODE_STEP_BYTES, SETTING_WORDS, STATE_WORDS};
 
 const MOST: u64 = 4_294_967_295;
 const MOST_SLOTS: u64 = 64;
@@ -40,7 +40,7 @@ fn words(settings: &[u64], state: &[u64]) -> Checked {
 /// 12, setting by setting.
 fn settings(s: &[u64]) -> Checked {
     let lookback = if s[5] == 3 { s[7] } else { 0 };
-    let given = |i: usize| s[20] >> i & 1 == 1;
+    let given = |i: usize| s[GIVEN] >> i & 1 == 1;
     need(s[0] <= MOST_SLOTS, 12, 0)?;
     need((1..=MOST_DEPTH).contains(&s[1]) && lookback < s[1], 12, 1)?;
     need(finite(s[2]), 12, 2)?;
