@@ -5,7 +5,7 @@ use mathlib.Core.List.{List}
 use native.Mathlib.Omega.{arith}
 use lib.ListN.{getD}
 use borrow.Author.Tests.{lt-ltb}
-use Rattle.table.specs.declared.Kind.{Kind}
+use Rattle.table.specs.declared.kinds.Kind.{Kind}
 use Rattle.table.specs.declared.Answer.the-variants.{Accepted}
 use Rattle.table.specs.Kinds.{kinds, kindOf, arithmetic, comparison, crossing, group}
 use Rattle.table.specs.Kinds as Kinds

@@ -13,7 +13,7 @@ use Rattle.table.specs.Forest.{firstTrees, otherTrees, over, trees, fore
 use Rattle.table.specs.Nesting.{deeper, tooDeep}
 use Rattle.table.specs.Reach.{back, ownBack, weigh, forestReach, treeReach, farAt, tooFar, rowsNeeded}
 use Rattle.table.specs.Trees.{ref, price, prev, compare, cross}
-use Rattle.table.specs.Reading.{operandFrom, operands, firstOf, conditionFrom, conditions, present, treeOf}
+use Rattle.table.specs.Reading.{operandBy, operandFrom, operands, firstOf, conditionBy, conditionFrom, conditions, present, treeOf}
 use Rattle.table.specs.Writing.{absent, shortOf, ruleOf}
 use Rattle.table.specs.Checked.{orRefused, orHeader, from9, from8, from7, checked}
 
@@ -38,5 +38,5 @@ pub example-rule : ruleOf example ≡ record {
   shortEntry = absent;
   shortExit = absent;
 }
-unfolding example ruleOf shortOf present treeOf forestOf root trees over otherTrees firstTrees u16 u32 u64 kindOf kinds nodeAt childCountAt childCount conditions conditionFrom operands operandFrom firstOf
+unfolding example ruleOf shortOf present treeOf forestOf root trees over otherTrees firstTrees u16 u32 u64 kindOf kinds nodeAt childCountAt childCount conditions conditionBy conditionFrom operands operandBy operandFrom firstOf
 example-rule = refl

@@ -1,124 +1,201 @@
--- The rows of the table of kinds, by ranges; and which kinds are operands and which are conditions.
+-- THE VIEW of a node's kind: one case for each class of operands and one for each class of conditions, with what the table
+-- of kinds says there. Whoever goes by the kind of a node goes by these cases.
 -- Assumes nothing.
-use mathlib.Core.Path.{_≡_, refl, sym, _∙_, ap, subst}
+use mathlib.Core.Path.{_≡_, refl, sym, _∙_, ap}
 use mathlib.Core.Bool.{Bool, true, cond, _&&_}
 use mathlib.Core.Logic.{⊎-elim}
 use mathlib.Core.List.{List, [], _∷_}
 use Prim.Native.Nat.{ℕ, zero, suc, _+_, _-_, _≤_, _<_}
 use native.Mathlib.Omega.{arith}
-use native.Mathlib.Nat.{add-zero, eq-or-lt-of-le, eq-zero-or-pos}
-use lib.ListN.{length, getD, List·getD-eq-default}
+use native.Mathlib.Nat.{eq-zero-or-pos}
+use lib.ListN.{List·getD-eq-default}
 use lib.Dec.{leb, eqb}
-use borrow.Author.Tests.{leb-true, eq-eqb}
-use Rattle.table.specs.declared.Kind.{Kind}
-use Rattle.table.specs.Kinds.{noKind, arithmetic, comparison, crossing, trend, group, kinds, kindOf}
+use borrow.Author.Tests.{leb-true, eqb-true}
+use Rattle.table.specs.declared.kinds.Kind.{Kind}
+use Rattle.table.specs.declared.kinds.OperandClass.{OperandClass}
+use Rattle.table.specs.declared.kinds.OperandClass.the-variants.{NoOperand, Const, Ref, Price, Prev, Arith}
+use Rattle.table.specs.declared.kinds.ConditionClass.{ConditionClass}
+use Rattle.table.specs.declared.kinds.ConditionClass.the-variants.{NoCondition, Compare, Cross, Between, Trend, All, Any, Not}
+use Rattle.table.specs.declared.kinds.ConditionClass.the-variants.{InPosition, BarsSince}
+use Rattle.table.specs.Kinds as Kinds
+use Rattle.table.specs.Kinds.{kinds, kindOf, noKind, constant, reference, price, previous, arithmetic}
+use Rattle.table.specs.Kinds.{comparison, crossing, between, trend, allOf, anyOf, negation, position, barsSince}
 use Rattle.table.specs.HeaderLaws.{both}
 
--- a number from a on: a itself, or one from a + 1 on
-split : (P : Type 0) (a k : ℕ) → a ≤ k → (k ≡ a → P) → (a + 1 ≤ k → P) → P
-split P a k h here above = ⊎-elim (λ same. here (sym same)) (λ l. above (omega arith)) (eq-or-lt-of-le h)
+-- ---- what holds of the 32 rows, and of no row past them
 
--- a statement of every number from a to k, one number at a time
-from : (P : ℕ → Type 0) (a k : ℕ) → P a → (a + 1 ≤ k → P k) → a ≤ k → P k
-from P a k here above h = ⊎-elim (λ same. subst P same here) (λ l. above (omega arith)) (eq-or-lt-of-le h)
+-- the values of f at m numbers from i on
+listed : {A : Type 0} → (ℕ → A) → ℕ → ℕ → List A
+listed f zero i = []
+listed f (suc m) i = f i ∷ listed f m (suc i)
 
-past : (P : ℕ → Type 0) (a k : ℕ) → k < a → a ≤ k → P k
-past P a k h g = absurd (never h g)
-  where
-    never : k < a → a ≤ k → ⊥
-    never h′ g′ = omega arith
-
-abbrev Is : Kind → ℕ → Type 0
-Is row k = kindOf k ≡ row
-
-pub arithmetic-kind : (k : ℕ) → 5 ≤ k → k ≤ 8 → kindOf k ≡ arithmetic
-unfolding kindOf kinds
-arithmetic-kind k lo hi = from (Is arithmetic) 5 k refl (from (Is arithmetic) 6 k refl (from (Is arithmetic) 7 k refl (from (Is arithmetic) 8 k refl (past (Is arithmetic) 9 k (omega arith))))) lo
-
-pub comparison-kind : (k : ℕ) → 16 ≤ k → k ≤ 21 → kindOf k ≡ comparison
-unfolding kindOf kinds
-comparison-kind k lo hi = from (Is comparison) 16 k refl (from (Is comparison) 17 k refl (from (Is comparison) 18 k refl (from (Is comparison) 19 k refl (from (Is comparison) 20 k refl (from (Is comparison) 21 k refl (past (Is comparison) 22 k (omega arith))))))) lo
-
-pub crossing-kind : (k : ℕ) → 22 ≤ k → k ≤ 23 → kindOf k ≡ crossing
-unfolding kindOf kinds
-crossing-kind k lo hi = from (Is crossing) 22 k refl (from (Is crossing) 23 k refl (past (Is crossing) 24 k (omega arith))) lo
-
-pub trend-kind : (k : ℕ) → 25 ≤ k → k ≤ 26 → kindOf k ≡ trend
-unfolding kindOf kinds
-trend-kind k lo hi = from (Is trend) 25 k refl (from (Is trend) 26 k refl (past (Is trend) 27 k (omega arith))) lo
-
-pub group-kind : (k : ℕ) → 27 ≤ k → k ≤ 28 → kindOf k ≡ group
-unfolding kindOf kinds
-group-kind k lo hi = from (Is group) 27 k refl (from (Is group) 28 k refl (past (Is group) 29 k (omega arith))) lo
-
--- A test that holds of every row, with its number.
-each : (ℕ → Kind → Bool) → ℕ → List Kind → Bool
-each f i [] = true
-each f i (k ∷ ks) = f i k && each f (suc i) ks
-
-row-at : (f : ℕ → Kind → Bool) (ks : List Kind) (i j : ℕ) → each f i ks ≡ true → j < length ks → f (i + j) (getD ks j noKind) ≡ true
-unfolding each
-row-at f [] i j h l = absurd (none l)
-  where
-    none : j < 0 → ⊥
-    none l′ = omega arith
-row-at f (k ∷ ks) i zero h l = ap (λ (n : ℕ). f n k) (add-zero i) ∙ both (f i k) _ h .0
-row-at f (k ∷ ks) i (suc j) h l =
+-- two functions with the same list agree there
+same-at : {A : Type 0} (f g : ℕ → A) (m i j : ℕ) → listed f m i ≡ listed g m i → j < m → f (i + j) ≡ g (i + j)
+unfolding listed
+same-at f g zero i j h l = absurd (omega arith)
+same-at {A} f g (suc m) i zero h l =
+    let place : i + 0 ≡ i = omega arith in
+    let first : f i ≡ g i = cc in
+    rw place first
+same-at f g (suc m) i (suc j) h l =
     let place : i + suc j ≡ suc i + j = omega arith in
-    ap (λ (n : ℕ). f n (getD ks j noKind)) place ∙ row-at f ks (suc i) j (both (f i k) _ h .1) (omega arith)
+    let rest : listed f m (suc i) ≡ listed g m (suc i) = cc in
+    rw place (same-at f g m (suc i) j rest (omega arith))
 
--- operands are the kinds 1 to 8, conditions 16 to 31
-ranged : ℕ → Kind → Bool
-ranged i k = cond (eqb (k .sort) 1) (leb 1 i && leb i 8) (cond (eqb (k .sort) 2) (leb 16 i && leb i 31) true)
-
-all-ranged : each ranged 0 kinds ≡ true
-unfolding each ranged kinds
-all-ranged = refl
-
-low-row : (k : ℕ) → k < 32 → ranged k (getD kinds k noKind) ≡ true
-unfolding kinds
-low-row k h =
+of-rows : {A : Type 0} (f g : ℕ → A) → listed f 32 0 ≡ listed g 32 0 → (k : ℕ) → k < 32 → f k ≡ g k
+of-rows f g h k l =
     let place : 0 + k ≡ k = omega arith in
-    ap (λ (n : ℕ). ranged n (getD kinds k noKind)) (sym place) ∙ row-at ranged kinds 0 k all-ranged h
+    rw place at (same-at f g 32 0 k h l)
 
-high-row : (k : ℕ) → 32 ≤ k → ranged k (getD kinds k noKind) ≡ true
-unfolding kinds ranged
-high-row k h = ap (λ (r : Kind). ranged k r) (List·getD-eq-default kinds noKind h)
+past-rows : (k : ℕ) → 32 ≤ k → kindOf k ≡ noKind
+unfolding kindOf kinds
+past-rows k h = List·getD-eq-default kinds noKind h
 
-ranged-at : (k : ℕ) → ranged k (kindOf k) ≡ true
-unfolding kindOf
-ranged-at k = ⊎-elim (λ h. low-row k (omega arith)) (λ h. high-row k (omega arith)) (eq-zero-or-pos (k - 31))
+-- a kind that has a sort has a row
+pub known : (k : ℕ) (row : Kind) → kindOf k ≡ row → 0 < row .sort → k < 32
+known k row h some = ⊎-elim
+    (λ z. omega arith)
+    (λ z. absurd (none (sym h ∙ past-rows k (omega arith))))
+    (eq-zero-or-pos (k - 31))
+  where
+    none : row ≡ noKind → ⊥
+    none e = let z : row .sort ≡ 0 = ap (λ (r : Kind). r .sort) e in omega arith
 
-pub operand-kind : (k : ℕ) → kindOf k .sort ≡ 1 → (1 ≤ k) × (k ≤ 8)
-unfolding ranged
-operand-kind k h =
-    let g = both (leb 1 k) (leb k 8) (sym (rw (eq-eqb (kindOf k .sort) 1 h)) ∙ ranged-at k) in
-    (leb-true 1 k (g .0), leb-true k 8 (g .1))
+-- ---- operands
 
-pub condition-kind : (k : ℕ) → kindOf k .sort ≡ 2 → (16 ≤ k) × (k ≤ 31)
-unfolding ranged
-condition-kind k h =
-    let g = both (leb 16 k) (leb k 31) (simp h at (ranged-at k)) in
-    (leb-true 16 k (g .0), leb-true k 31 (g .1))
+pub data OperandKind (k : ℕ) : Type 0 where
+  a-const : k ≡ Kinds.aConst → kindOf k ≡ constant → OperandKind k
+  a-ref : k ≡ Kinds.aRef → kindOf k ≡ reference → OperandKind k
+  a-price : k ≡ Kinds.aPrice → kindOf k ≡ price → OperandKind k
+  a-prev : k ≡ Kinds.aPrev → kindOf k ≡ previous → OperandKind k
+  an-arith : kindOf k ≡ arithmetic → OperandKind k
 
--- The cases of an operand's kind, and of a condition's.
-pub operand-cases : (P : Type 0) (k : ℕ) → kindOf k .sort ≡ 1
-    → (k ≡ 1 → P) → (k ≡ 2 → P) → (k ≡ 3 → P) → (k ≡ 4 → P) → (5 ≤ k → k ≤ 8 → P) → P
-operand-cases P k s const ref price prev sums =
-    let r = operand-kind k s in
-    split P 1 k (r .0) const (λ h2. split P 2 k h2 ref (λ h3. split P 3 k h3 price (λ h4. split P 4 k h4 prev (λ h5. sums h5 (r .1)))))
+-- the row of a class, and the numbers of its kinds
+operandRow : OperandClass → Kind
+operandRow NoOperand = noKind
+operandRow Const = constant
+operandRow Ref = reference
+operandRow Price = price
+operandRow Prev = previous
+operandRow Arith = arithmetic
 
-pub condition-cases : (P : Type 0) (k : ℕ) → kindOf k .sort ≡ 2
-    → (16 ≤ k → k ≤ 21 → P) → (22 ≤ k → k ≤ 23 → P) → (k ≡ 24 → P) → (25 ≤ k → k ≤ 26 → P)
-    → (k ≡ 27 → P) → (k ≡ 28 → P) → (k ≡ 29 → P) → (k ≡ 30 → P) → (k ≡ 31 → P) → P
-condition-cases P k s compare cross between trend every any negated position bars =
-    let r = condition-kind k s in
-    ⊎-elim (λ z. compare (r .0) (omega arith)) (λ z.
-    ⊎-elim (λ y. cross (omega arith) (omega arith)) (λ y.
-    split P 24 k (omega arith) between (λ h25.
-    ⊎-elim (λ x. trend h25 (omega arith)) (λ x.
-    split P 27 k (omega arith) every (λ h28. split P 28 k h28 any (λ h29. split P 29 k h29 negated (λ h30. split P 30 k h30 position
-    (λ h31. bars (omega (arith, r .1)))))))
-    (eq-zero-or-pos (k - 26))))
-    (eq-zero-or-pos (k - 23)))
-    (eq-zero-or-pos (k - 21))
+operandNumber : OperandClass → ℕ → Bool
+operandNumber NoOperand k = true
+operandNumber Const k = eqb k Kinds.aConst
+operandNumber Ref k = eqb k Kinds.aRef
+operandNumber Price k = eqb k Kinds.aPrice
+operandNumber Prev k = eqb k Kinds.aPrev
+operandNumber Arith k = leb Kinds.add k && leb k Kinds.div
+
+operandAsTold : ℕ → Kind
+operandAsTold k = cond (eqb (kindOf k .sort) 1) (operandRow (kindOf k .operand)) (kindOf k)
+
+operand-row : (k : ℕ) → k < 32 → kindOf k .sort ≡ 1 → kindOf k ≡ operandRow (kindOf k .operand)
+unfolding operandAsTold
+operand-row k l s = of-rows kindOf operandAsTold (unfold listed kindOf kinds operandRow in refl) k l ∙ rw s
+
+operand-number : (k : ℕ) → k < 32 → operandNumber (kindOf k .operand) k ≡ true
+operand-number k l =
+    of-rows (λ i. operandNumber (kindOf i .operand) i) (λ i. true) (unfold listed kindOf kinds operandNumber in refl) k l
+
+pub operand-kind : (k : ℕ) → kindOf k .sort ≡ 1 → OperandKind k
+unfolding operandRow operandNumber
+operand-kind k s = go (kindOf k .operand) (operand-row k low s) (operand-number k low)
+  where
+    low : k < 32
+    low = known k (kindOf k) refl (omega arith)
+
+    go : (c : OperandClass) → kindOf k ≡ operandRow c → operandNumber c k ≡ true → OperandKind k
+    go NoOperand r n = absurd (omega (arith, s, ap (λ (row : Kind). row .sort) r))
+    go Const r n = a-const (eqb-true k 1 n) r
+    go Ref r n = a-ref (eqb-true k 2 n) r
+    go Price r n = a-price (eqb-true k 3 n) r
+    go Prev r n = a-prev (eqb-true k 4 n) r
+    go Arith r n = an-arith r
+
+-- "5..8 Add, Sub, Mul, Div"
+pub arith-numbers : (k : ℕ) → kindOf k ≡ arithmetic → (5 ≤ k) × (k ≤ 8)
+unfolding operandNumber
+arith-numbers k r =
+    let in-range = both (leb 5 k) (leb k 8) (rw r at (operand-number k (known k arithmetic r (omega arith)))) in
+    (leb-true 5 k (in-range .0), leb-true k 8 (in-range .1))
+
+-- ---- conditions
+
+pub data ConditionKind (k : ℕ) : Type 0 where
+  a-compare : kindOf k ≡ comparison → ConditionKind k
+  a-cross : kindOf k ≡ crossing → ConditionKind k
+  a-between : k ≡ Kinds.aBetween → kindOf k ≡ between → ConditionKind k
+  a-trend : kindOf k ≡ trend → ConditionKind k
+  an-all : k ≡ Kinds.all → kindOf k ≡ allOf → ConditionKind k
+  an-any : k ≡ Kinds.any → kindOf k ≡ anyOf → ConditionKind k
+  a-not : k ≡ Kinds.aNot → kindOf k ≡ negation → ConditionKind k
+  a-position : k ≡ Kinds.inPosition → kindOf k ≡ position → ConditionKind k
+  a-count : k ≡ Kinds.barsSinceEntry → kindOf k ≡ barsSince → ConditionKind k
+
+conditionRow : ConditionClass → Kind
+conditionRow NoCondition = noKind
+conditionRow Compare = comparison
+conditionRow Cross = crossing
+conditionRow Between = between
+conditionRow Trend = trend
+conditionRow All = allOf
+conditionRow Any = anyOf
+conditionRow Not = negation
+conditionRow InPosition = position
+conditionRow BarsSince = barsSince
+
+conditionNumber : ConditionClass → ℕ → Bool
+conditionNumber NoCondition k = true
+conditionNumber Compare k = leb Kinds.gt k && leb k Kinds.ne
+conditionNumber Cross k = leb Kinds.crossAbove k && leb k Kinds.crossBelow
+conditionNumber Between k = eqb k Kinds.aBetween
+conditionNumber Trend k = leb Kinds.rising k && leb k Kinds.falling
+conditionNumber All k = eqb k Kinds.all
+conditionNumber Any k = eqb k Kinds.any
+conditionNumber Not k = eqb k Kinds.aNot
+conditionNumber InPosition k = eqb k Kinds.inPosition
+conditionNumber BarsSince k = eqb k Kinds.barsSinceEntry
+
+conditionAsTold : ℕ → Kind
+conditionAsTold k = cond (eqb (kindOf k .sort) 2) (conditionRow (kindOf k .condition)) (kindOf k)
+
+condition-row : (k : ℕ) → k < 32 → kindOf k .sort ≡ 2 → kindOf k ≡ conditionRow (kindOf k .condition)
+unfolding conditionAsTold
+condition-row k l s = of-rows kindOf conditionAsTold (unfold listed kindOf kinds conditionRow in refl) k l ∙ rw s
+
+condition-number : (k : ℕ) → k < 32 → conditionNumber (kindOf k .condition) k ≡ true
+condition-number k l =
+    of-rows (λ i. conditionNumber (kindOf i .condition) i) (λ i. true) (unfold listed kindOf kinds conditionNumber in refl) k l
+
+pub condition-kind : (k : ℕ) → kindOf k .sort ≡ 2 → ConditionKind k
+unfolding conditionRow conditionNumber
+condition-kind k s = go (kindOf k .condition) (condition-row k low s) (condition-number k low)
+  where
+    low : k < 32
+    low = known k (kindOf k) refl (omega arith)
+
+    go : (c : ConditionClass) → kindOf k ≡ conditionRow c → conditionNumber c k ≡ true → ConditionKind k
+    go NoCondition r n = absurd (omega (arith, s, ap (λ (row : Kind). row .sort) r))
+    go Compare r n = a-compare r
+    go Cross r n = a-cross r
+    go Between r n = a-between (eqb-true k 24 n) r
+    go Trend r n = a-trend r
+    go All r n = an-all (eqb-true k 27 n) r
+    go Any r n = an-any (eqb-true k 28 n) r
+    go Not r n = a-not (eqb-true k 29 n) r
+    go InPosition r n = a-position (eqb-true k 30 n) r
+    go BarsSince r n = a-count (eqb-true k 31 n) r
+
+-- "16..21 Gt, Lt, Ge, Le, Eq, Ne and 22, 23 CrossAbove, CrossBelow"
+pub compare-numbers : (k : ℕ) → kindOf k ≡ comparison → (16 ≤ k) × (k ≤ 21)
+unfolding conditionNumber
+compare-numbers k r =
+    let in-range = both (leb 16 k) (leb k 21) (rw r at (condition-number k (known k comparison r (omega arith)))) in
+    (leb-true 16 k (in-range .0), leb-true k 21 (in-range .1))
+
+pub cross-numbers : (k : ℕ) → kindOf k ≡ crossing → (22 ≤ k) × (k ≤ 23)
+unfolding conditionNumber
+cross-numbers k r =
+    let in-range = both (leb 22 k) (leb k 23) (rw r at (condition-number k (known k crossing r (omega arith)))) in
+    (leb-true 22 k (in-range .0), leb-true k 23 (in-range .1))

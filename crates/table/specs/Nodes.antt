@@ -5,7 +5,7 @@ use Prim.Native.Nat.{ℕ, zero, suc, _+_, _*_}
 use lib.ListN.{getD}
 use lib.Dec.{ltb, eqb}
 use Rattle.floats.specs.Floats.{finite, floatOf}
-use Rattle.table.specs.declared.Kind.{Kind}
+use Rattle.table.specs.declared.kinds.Kind.{Kind}
 use Rattle.table.specs.declared.Node.{Node}
 use Rattle.table.specs.declared.Place.{Place}
 use Rattle.table.specs.declared.Place.the-variants.{Nowhere, At}

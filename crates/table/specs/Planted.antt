@@ -18,10 +18,9 @@ use Rattle.table.specs.Forest.{Forest, sorts, Sorted}
 use Rattle.table.specs.Forest as Forest
 use Rattle.table.specs.Nesting.{deeper}
 use Rattle.table.specs.Trees.{Operand, const, ref, price, prev, arith as sums, Condition, Conditions, compare, cross, between, trend, every, any, negated, inPosition, barsSince, none, more}
-use Rattle.table.specs.Reading.{operandFrom, operands, firstOf, conditionFrom, conditions}
+use Rattle.table.specs.Reading.{operandBy, operandFrom, operands, firstOf, conditionBy, conditionFrom, conditions}
 use Rattle.table.specs.Writing.{manyOf, nodesIn, nodesOf}
 use Rattle.table.specs.Limits.{Within, WithinOf, WithinAll, levels, levelsOf, levelsOfAll}
-use Rattle.table.specs.KindLaws.{arithmetic-kind, comparison-kind, crossing-kind, trend-kind}
 use Rattle.table.specs.WritingLaws.{Right}
 use Rattle.table.specs.Planting.{plant, plantOf, plantAll}
 
@@ -35,19 +34,19 @@ module _ (k : ℕ) where
   right (price s) i rest w r = (rw (lt-ltb s 7 w), tt, r)
   right (prev a n) i rest w r = (refl, right a (i + 1) Forest.none (w .1) tt, r)
   right (sums kind a b) i rest w r =
-      (rw (arithmetic-kind kind (w .0) (w .1)), right a (i + 1) _ (w .2) (right b (i + 1 + nodesIn a) Forest.none (w .3) tt), r)
+      (rw (w .0), right a (i + 1) _ (w .1) (right b (i + 1 + nodesIn a) Forest.none (w .2) tt), r)
 
   mutual
     unfolding WithinOf plantOf Right kindOf kinds ownRight childrenRight nRight constantRight
 
     pub rightOf : (c : Condition) (i : ℕ) (rest : Forest) → WithinOf k c → Right k rest → Right k (plantOf i c rest)
     rightOf (compare kind a b) i rest w r =
-        (rw (comparison-kind kind (w .0) (w .1)), right a (i + 1) _ (w .2) (right b (i + 1 + nodesIn a) Forest.none (w .3) tt), r)
+        (rw (w .0), right a (i + 1) _ (w .1) (right b (i + 1 + nodesIn a) Forest.none (w .2) tt), r)
     rightOf (cross kind a b) i rest w r =
-        (rw (crossing-kind kind (w .0) (w .1)), right a (i + 1) _ (w .2) (right b (i + 1 + nodesIn a) Forest.none (w .3) tt), r)
+        (rw (w .0), right a (i + 1) _ (w .1) (right b (i + 1 + nodesIn a) Forest.none (w .2) tt), r)
     rightOf (between x a b) i rest w r =
         (refl, right x (i + 1) _ (w .0) (right a (i + 1 + nodesIn x) _ (w .1) (right b (i + 1 + nodesIn x + nodesIn a) Forest.none (w .2) tt)), r)
-    rightOf (trend kind a n) i rest w r = (rw (trend-kind kind (w .0) (w .1)), right a (i + 1) Forest.none (w .3) tt, r)
+    rightOf (trend kind a n) i rest w r = (rw (w .0), right a (i + 1) Forest.none (w .2) tt, r)
     rightOf (every cs) i rest w r = (refl, rightAll cs (i + 1) Forest.none w tt, r)
     rightOf (any cs) i rest w r = (refl, rightAll cs (i + 1) Forest.none w tt, r)
     rightOf (negated c) i rest w r = (refl, rightOf c (i + 1) Forest.none w tt, r)
@@ -67,14 +66,14 @@ plant-sorts i (const x) rest k w = refl
 plant-sorts i (ref s) rest k w = refl
 plant-sorts i (price s) rest k w = refl
 plant-sorts i (prev a n) rest k w = refl
-plant-sorts i (sums kind a b) rest k w = rw (arithmetic-kind kind (w .0) (w .1))
+plant-sorts i (sums kind a b) rest k w = rw (w .0)
 
 pub plantOf-sorts : (i : ℕ) (c : Condition) (rest : Forest) (k : ℕ) → WithinOf k c → sorts (plantOf i c rest) ≡ 2 ∷ sorts rest
 unfolding WithinOf plantOf sorts kindOf kinds
-plantOf-sorts i (compare kind a b) rest k w = rw (comparison-kind kind (w .0) (w .1))
-plantOf-sorts i (cross kind a b) rest k w = rw (crossing-kind kind (w .0) (w .1))
+plantOf-sorts i (compare kind a b) rest k w = rw (w .0)
+plantOf-sorts i (cross kind a b) rest k w = rw (w .0)
 plantOf-sorts i (between x a b) rest k w = refl
-plantOf-sorts i (trend kind a n) rest k w = rw (trend-kind kind (w .0) (w .1))
+plantOf-sorts i (trend kind a n) rest k w = rw (w .0)
 plantOf-sorts i (every cs) rest k w = refl
 plantOf-sorts i (any cs) rest k w = refl
 plantOf-sorts i (negated c) rest k w = refl
@@ -104,8 +103,8 @@ module _ (k : ℕ) where
   sorted (price s) i rest w r = (refl, tt, r)
   sorted (prev a n) i rest w r = (one-below (i + 1) a (w .1), sorted a (i + 1) Forest.none (w .1) tt, r)
   sorted (sums kind a b) i rest w r = (
-    rw (arithmetic-kind kind (w .0) (w .1)) (two-below (i + 1) (i + 1 + nodesIn a) a b (w .2) (w .3)),
-    sorted a (i + 1) _ (w .2) (sorted b (i + 1 + nodesIn a) Forest.none (w .3) tt),
+    rw (w .0) (two-below (i + 1) (i + 1 + nodesIn a) a b (w .1) (w .2)),
+    sorted a (i + 1) _ (w .1) (sorted b (i + 1 + nodesIn a) Forest.none (w .2) tt),
     r,
   )
 
@@ -114,13 +113,13 @@ module _ (k : ℕ) where
 
     pub sortedOf : (c : Condition) (i : ℕ) (rest : Forest) → WithinOf k c → Sorted rest → Sorted (plantOf i c rest)
     sortedOf (compare kind a b) i rest w r = (
-      rw (comparison-kind kind (w .0) (w .1)) (two-below (i + 1) (i + 1 + nodesIn a) a b (w .2) (w .3)),
-      sorted a (i + 1) _ (w .2) (sorted b (i + 1 + nodesIn a) Forest.none (w .3) tt),
+      rw (w .0) (two-below (i + 1) (i + 1 + nodesIn a) a b (w .1) (w .2)),
+      sorted a (i + 1) _ (w .1) (sorted b (i + 1 + nodesIn a) Forest.none (w .2) tt),
       r,
     )
     sortedOf (cross kind a b) i rest w r = (
-      rw (crossing-kind kind (w .0) (w .1)) (two-below (i + 1) (i + 1 + nodesIn a) a b (w .2) (w .3)),
-      sorted a (i + 1) _ (w .2) (sorted b (i + 1 + nodesIn a) Forest.none (w .3) tt),
+      rw (w .0) (two-below (i + 1) (i + 1 + nodesIn a) a b (w .1) (w .2)),
+      sorted a (i + 1) _ (w .1) (sorted b (i + 1 + nodesIn a) Forest.none (w .2) tt),
       r,
     )
     sortedOf (between x a b) i rest w r = (
@@ -129,7 +128,7 @@ module _ (k : ℕ) where
       r,
     )
     sortedOf (trend kind a n) i rest w r =
-        (rw (trend-kind kind (w .0) (w .1)) (one-below (i + 1) a (w .3)), sorted a (i + 1) Forest.none (w .3) tt, r)
+        (rw (w .0) (one-below (i + 1) a (w .2)), sorted a (i + 1) Forest.none (w .2) tt, r)
     sortedOf (every cs) i rest w r = (plantAll-sorts (i + 1) cs k w, sortedAll cs (i + 1) Forest.none w tt, r)
     sortedOf (any cs) i rest w r = (plantAll-sorts (i + 1) cs k w, sortedAll cs (i + 1) Forest.none w tt, r)
     sortedOf (negated c) i rest w r = (plantOf-sorts (i + 1) c Forest.none k w, sortedOf c (i + 1) Forest.none w tt, r)
@@ -200,19 +199,15 @@ mutual
 
 module _ (k : ℕ) where
   pub reads : (a : Operand) (i : ℕ) (rest : Forest) → Within k a → operands (plant i a rest) ≡ a ∷ operands rest
-  unfolding Within plant operands operandFrom
+  unfolding Within plant operands operandFrom operandBy kindOf kinds
   reads (const x) i rest w = refl
   reads (ref s) i rest w = refl
   reads (price s) i rest w = refl
   reads (prev a n) i rest w = rw (reads a (i + 1) Forest.none (w .1))
   reads (sums kind a b) i rest w =
-      let no1 : eqb kind 1 ≡ false = ne-eqb kind 1 (λ z. omega (arith, w .0)) in
-      let no2 : eqb kind 2 ≡ false = ne-eqb kind 2 (λ z. omega (arith, w .0)) in
-      let no3 : eqb kind 3 ≡ false = ne-eqb kind 3 (λ z. omega (arith, w .0)) in
-      let no4 : eqb kind 4 ≡ false = ne-eqb kind 4 (λ z. omega (arith, w .0)) in
       let below : operands (plant (i + 1) a (plant (i + 1 + nodesIn a) b Forest.none)) ≡ a ∷ b ∷ [] =
-      reads a (i + 1) _ (w .2) ∙ ap (λ (l : List Operand). a ∷ l) (reads b (i + 1 + nodesIn a) Forest.none (w .3)) in
-      simp (no1, no2, no3, no4, below)
+      reads a (i + 1) _ (w .1) ∙ ap (λ (l : List Operand). a ∷ l) (reads b (i + 1 + nodesIn a) Forest.none (w .2)) in
+      simp (w .0, below)
 
   reads-two : (i j : ℕ) (a b : Operand) → Within k a → Within k b → operands (plant i a (plant j b Forest.none)) ≡ a ∷ b ∷ []
   unfolding operands
@@ -226,23 +221,13 @@ module _ (k : ℕ) where
   want-back false = refl
 
   mutual
-    unfolding WithinOf plantOf conditions conditionFrom operands firstOf
+    unfolding WithinOf plantOf conditions conditionFrom conditionBy operands firstOf kindOf kinds
 
     pub readsOf : (c : Condition) (i : ℕ) (rest : Forest) → WithinOf k c → conditions (plantOf i c rest) ≡ more c (conditions rest)
-    readsOf (compare kind a b) i rest w =
-        let in22 : ltb kind 22 ≡ true = lt-ltb kind 22 (omega (arith, w .1)) in
-        simp (in22, reads-two (i + 1) (i + 1 + nodesIn a) a b (w .2) (w .3))
-    readsOf (cross kind a b) i rest w =
-        let out22 : ltb kind 22 ≡ false = le-ltb kind 22 (w .0) in
-        let in24 : ltb kind 24 ≡ true = lt-ltb kind 24 (omega (arith, w .1)) in
-        simp (out22, in24, reads-two (i + 1) (i + 1 + nodesIn a) a b (w .2) (w .3))
+    readsOf (compare kind a b) i rest w = simp (w .0, reads-two (i + 1) (i + 1 + nodesIn a) a b (w .1) (w .2))
+    readsOf (cross kind a b) i rest w = simp (w .0, reads-two (i + 1) (i + 1 + nodesIn a) a b (w .1) (w .2))
     readsOf (between x a b) i rest w = simp (reads-three (i + 1) (i + 1 + nodesIn x) (i + 1 + nodesIn x + nodesIn a) x a b (w .0) (w .1) (w .2))
-    readsOf (trend kind a n) i rest w =
-        let out22 : ltb kind 22 ≡ false = le-ltb kind 22 (omega (arith, w .0)) in
-        let out24 : ltb kind 24 ≡ false = le-ltb kind 24 (omega (arith, w .0)) in
-        let no24 : eqb kind 24 ≡ false = ne-eqb kind 24 (λ z. omega (arith, w .0)) in
-        let in27 : ltb kind 27 ≡ true = lt-ltb kind 27 (omega (arith, w .1)) in
-        simp (out22, out24, no24, in27, reads a (i + 1) Forest.none (w .3))
+    readsOf (trend kind a n) i rest w = simp (w .0, reads a (i + 1) Forest.none (w .2))
     readsOf (every cs) i rest w = rw (readsAll cs (i + 1) w)
     readsOf (any cs) i rest w = rw (readsAll cs (i + 1) w)
     readsOf (negated c) i rest w = rw (readsOf c (i + 1) Forest.none w)

@@ -9,13 +9,12 @@ use lib.ListN.{length, getD, drop}
 use lib.Seq.{getD-drop, drop-drop, drop-at}
 use Rattle.table.specs.declared.Node.{Node}
 use Rattle.table.specs.Bytes.{u16, u32, u64}
-use Rattle.table.specs.Kinds.{kinds, kindOf, group}
+use Rattle.table.specs.Kinds.{kinds, kindOf, asWritten}
 use Rattle.table.specs.Nodes.{nodeAt, childCount, childCountAt}
 use Rattle.table.specs.Forest.{Forest, firstTrees, otherTrees, over, trees}
 use Rattle.table.specs.Forest as Forest
 use Rattle.table.specs.Trees.{Operand, const, ref, price, prev, arith as sums, Condition, Conditions, compare, cross, between, trend, every, any, negated, inPosition, barsSince, none, more}
 use Rattle.table.specs.Limits.{Within, WithinOf, WithinAll}
-use Rattle.table.specs.KindLaws.{arithmetic-kind, comparison-kind, crossing-kind, trend-kind}
 use Rattle.table.specs.WritingLaws.{operand-long, condition-long}
 use Rattle.table.specs.Writing.{le16, le32, le64, node, write, nodesIn, manyOf, writeOf, writeAll, nodesOf, nodesOfAll}
 
@@ -217,8 +216,8 @@ module _ (t : List ℕ) (k : ℕ) where
       let g = h ∙ regroup-two (node kind 0 0 0 0) (write a) (write b) l in
       let g1 = nodes-after t i _ _ _ _ _ _ g in
       let place : i + 1 + nodesIn a + nodesIn b ≡ i + (1 + nodesIn a + nodesIn b) = omega arith in
-      grown t i _ (nodesIn a + (nodesIn b + m)) 2 _ (node-there t i _ _ _ _ _ _ g) (rw (arithmetic-kind kind (w .0) (w .1))) (omega arith)
-      ∙ ap (over _ 2) (grows a (i + 1) (nodesIn b + m) (write b ++ l) (w .2) g1 ∙ ap (plant (i + 1) a) (grows b (i + 1 + nodesIn a) m l (w .3) (past t (i + 1) (nodesIn a) (write a) (write b ++ l) (operand-long a) g1)))
+      grown t i _ (nodesIn a + (nodesIn b + m)) 2 _ (node-there t i _ _ _ _ _ _ g) (rw (w .0)) (omega arith)
+      ∙ ap (over _ 2) (grows a (i + 1) (nodesIn b + m) (write b ++ l) (w .1) g1 ∙ ap (plant (i + 1) a) (grows b (i + 1 + nodesIn a) m l (w .2) (past t (i + 1) (nodesIn a) (write a) (write b ++ l) (operand-long a) g1)))
       ∙ over-two _ (i + 1) (i + 1 + nodesIn a) a b _
       ∙ ap (λ (j : ℕ). Forest.tree (nd i kind 0 0 0 0) (plant (i + 1) a (plant (i + 1 + nodesIn a) b Forest.none)) (trees t m j)) place
 
@@ -243,10 +242,10 @@ over-condition n j c rest = rw (plantOf-first 0 j c rest, plantOf-other 0 j c re
 
 module _ (t : List ℕ) (k : ℕ) where
   -- two operands under a node of a known row
-  pair-grows : (n : Node) (i kind m : ℕ) (a b : Operand) (l : List ℕ) → nodeAt t i ≡ n → childCount n (kindOf (n .kind)) ≡ 2 → Within k a → Within k b
+  pair-grows : (n : Node) (i m : ℕ) (a b : Operand) (l : List ℕ) → nodeAt t i ≡ n → childCount n (kindOf (n .kind)) ≡ 2 → Within k a → Within k b
       → From t (i + 1) (write a ++ (write b ++ l))
       → trees t (1 + nodesIn a + nodesIn b + m) i ≡ Forest.tree n (plant (i + 1) a (plant (i + 1 + nodesIn a) b Forest.none)) (trees t m (i + (1 + nodesIn a + nodesIn b)))
-  pair-grows n i kind m a b l there count wa wb g =
+  pair-grows n i m a b l there count wa wb g =
       let place : i + 1 + nodesIn a + nodesIn b ≡ i + (1 + nodesIn a + nodesIn b) = omega arith in
       grown t i _ (nodesIn a + (nodesIn b + m)) 2 n there count (omega arith)
       ∙ ap (over n 2) (grows t k a (i + 1) (nodesIn b + m) (write b ++ l) wa g ∙ ap (plant (i + 1) a) (grows t k b (i + 1 + nodesIn a) m l wb (past t (i + 1) (nodesIn a) (write a) (write b ++ l) (operand-long a) g)))
@@ -254,7 +253,7 @@ module _ (t : List ℕ) (k : ℕ) where
       ∙ ap (λ (j : ℕ). Forest.tree n (plant (i + 1) a (plant (i + 1 + nodesIn a) b Forest.none)) (trees t m j)) place
 
   -- All and Any, once what is below them has grown
-  group-grows : (kind : ℕ) (cs : Conditions) (i m : ℕ) (l : List ℕ) → kindOf kind ≡ group → From t i (node kind 0 (manyOf cs) 0 0 ++ writeAll cs ++ l)
+  group-grows : (kind : ℕ) (cs : Conditions) (i m : ℕ) (l : List ℕ) → kindOf kind .children ≡ asWritten → From t i (node kind 0 (manyOf cs) 0 0 ++ writeAll cs ++ l)
       → (From t (i + 1) (writeAll cs ++ l) → trees t (nodesOfAll cs + m) (i + 1) ≡ plantAll (i + 1) cs (trees t m (i + 1 + nodesOfAll cs)))
       → trees t (1 + nodesOfAll cs + m) i ≡ Forest.tree (nd i kind 0 (manyOf cs) 0 0) (plantAll (i + 1) cs Forest.none) (trees t m (i + (1 + nodesOfAll cs)))
   unfolding childCount
@@ -272,10 +271,10 @@ module _ (t : List ℕ) (k : ℕ) where
     pub growsOf : (c : Condition) (i m : ℕ) (l : List ℕ) → WithinOf k c → From t i (writeOf c ++ l) → trees t (nodesOf c + m) i ≡ plantOf i c (trees t m (i + nodesOf c))
     growsOf (compare kind a b) i m l w h =
         let g = h ∙ regroup-two (node kind 0 0 0 0) (write a) (write b) l in
-        pair-grows _ i kind m a b l (node-there t i _ _ _ _ _ _ g) (rw (comparison-kind kind (w .0) (w .1))) (w .2) (w .3) (nodes-after t i _ _ _ _ _ _ g)
+        pair-grows _ i m a b l (node-there t i _ _ _ _ _ _ g) (rw (w .0)) (w .1) (w .2) (nodes-after t i _ _ _ _ _ _ g)
     growsOf (cross kind a b) i m l w h =
         let g = h ∙ regroup-two (node kind 0 0 0 0) (write a) (write b) l in
-        pair-grows _ i kind m a b l (node-there t i _ _ _ _ _ _ g) (rw (crossing-kind kind (w .0) (w .1))) (w .2) (w .3) (nodes-after t i _ _ _ _ _ _ g)
+        pair-grows _ i m a b l (node-there t i _ _ _ _ _ _ g) (rw (w .0)) (w .1) (w .2) (nodes-after t i _ _ _ _ _ _ g)
     growsOf (between x a b) i m l w h =
         let g = h ∙ regroup-three (node 24 0 0 0 0) (write x) (write a) (write b) l in
         let g1 = nodes-after t i _ _ _ _ _ _ g in
@@ -293,8 +292,8 @@ module _ (t : List ℕ) (k : ℕ) where
     growsOf (trend kind a n) i m l w h =
         let g = h ∙ regroup (node kind 0 0 n 0) (write a) l in
         let place : i + 1 + nodesIn a ≡ i + (1 + nodesIn a) = omega arith in
-        grown t i _ (nodesIn a + m) 1 _ (node-there t i _ _ _ _ _ _ g) (rw (trend-kind kind (w .0) (w .1))) (omega arith)
-        ∙ ap (over _ 1) (grows t k a (i + 1) m l (w .3) (nodes-after t i _ _ _ _ _ _ g))
+        grown t i _ (nodesIn a + m) 1 _ (node-there t i _ _ _ _ _ _ g) (rw (w .0)) (omega arith)
+        ∙ ap (over _ 1) (grows t k a (i + 1) m l (w .2) (nodes-after t i _ _ _ _ _ _ g))
         ∙ over-one _ (i + 1) a _
         ∙ ap (λ (j : ℕ). Forest.tree (nd i kind 0 0 n 0) (plant (i + 1) a Forest.none) (trees t m j)) place
     growsOf (every cs) i m l w h = group-grows 27 cs i m l refl h (λ g. growsAll cs (i + 1) m l w g)

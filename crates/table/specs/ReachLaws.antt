@@ -1,31 +1,28 @@
 -- The reach of the typed trees is the reach that the checker weighs, and the rows needed are one more than the greatest.
 -- Assumes nothing.
 use mathlib.Core.Path.{_≡_, refl, sym, _∙_, ap}
-use mathlib.Core.Bool.{true, false}
 use mathlib.Core.Logic.{⊎-elim}
 use mathlib.Core.List.{List, [], _∷_}
 use Prim.Native.Nat.{ℕ, zero, suc, _+_, _≤_, _<_, max}
 use native.Mathlib.Omega.{arith}
 use native.Mathlib.Nat.{eq-zero-or-pos}
 use lib.ListN.{length, replicate, length-replicate}
-use lib.Dec.{ltb, eqb}
-use borrow.Author.Tests.{ne-eqb, lt-ltb, le-ltb}
 use Rattle.table.specs.declared.Node.{Node}
-use Rattle.table.specs.declared.Kind.{Kind}
+use Rattle.table.specs.declared.kinds.Kind.{Kind}
 use Rattle.table.specs.declared.Answer.the-variants.{Accepted}
-use Rattle.table.specs.Kinds.{kinds, kindOf, arithmetic, comparison, crossing, group}
-use Rattle.table.specs.Kinds as Kinds
+use Rattle.table.specs.Kinds.{kindOf}
 use Rattle.table.specs.Header.{count}
 use Rattle.table.specs.Nodes.{childCount}
 use Rattle.table.specs.Forest.{Forest, trees, forestOf, sorts, Sorted}
 use Rattle.table.specs.Forest as Forest
 use Rattle.table.specs.Reach.{back, ownBack, weigh, forestReach, treeReach, rowsNeeded}
 use Rattle.table.specs.Checked.{checked}
-use Rattle.table.specs.Trees.{Operand, price, Conditions, between, trend, barsSince, none, more, reach, reachOf, reachOfAll}
-use Rattle.table.specs.Reading.{child, operandFrom, operands, firstOf, conditionFrom, conditions, treeOf}
+use Rattle.table.specs.Trees.{Operand, Conditions, none, more, reach, reachOf, reachOfAll}
+use Rattle.table.specs.Reading.{child, operandBy, operandFrom, operands, firstOf, conditionBy, conditionFrom, conditions, treeOf}
 use Rattle.table.specs.Writing.{manyOf}
 use Rattle.table.specs.ReadingLaws.{as-many, many-conditions, below-operand}
-use Rattle.table.specs.KindLaws.{operand-cases, condition-cases, arithmetic-kind, comparison-kind, crossing-kind, trend-kind}
+use Rattle.table.specs.KindLaws.{OperandKind, a-const, a-ref, a-price, a-prev, an-arith, operand-kind}
+use Rattle.table.specs.KindLaws.{ConditionKind, a-compare, a-cross, a-between, a-trend, an-all, an-any, a-not, a-position, a-count, condition-kind}
 use Rattle.table.specs.Accepted.{accepted, tree-sorts}
 
 -- the greatest reach of operands in a row
@@ -80,51 +77,13 @@ module _ (n : Node) (os : List Operand) (many : length os ≡ childCount n (kind
   count-by : (row : Kind) → kindOf (n .kind) ≡ row → length os ≡ childCount n row
   count-by row h = many ∙ ap (childCount n) h
 
-  abbrev Adds : Type 0
-  Adds = ownBack n + reachOfRow os ≡ reach (operandFrom n os)
-
-  adds-const : n .kind ≡ 1 → Adds
-  unfolding kindOf kinds back childCount operandFrom reach
-  adds-const h =
-      let b : ownBack n ≡ 0 = back-by n Kinds.constant (ap kindOf h) in
-      let o : reachOfRow os ≡ 0 = row-none os (count-by Kinds.constant (ap kindOf h)) in
-      simp (b, o, h)
-
-  adds-ref : n .kind ≡ 2 → Adds
-  unfolding kindOf kinds back childCount operandFrom reach
-  adds-ref h =
-      let b : ownBack n ≡ 0 = back-by n Kinds.reference (ap kindOf h) in
-      let o : reachOfRow os ≡ 0 = row-none os (count-by Kinds.reference (ap kindOf h)) in
-      simp (b, o, h)
-
-  adds-price : n .kind ≡ 3 → Adds
-  unfolding kindOf kinds back childCount operandFrom reach
-  adds-price h =
-      let b : ownBack n ≡ 0 = back-by n Kinds.price (ap kindOf h) in
-      let o : reachOfRow os ≡ 0 = row-none os (count-by Kinds.price (ap kindOf h)) in
-      simp (b, o, h)
-
-  adds-prev : n .kind ≡ 4 → Adds
-  unfolding kindOf kinds back childCount operandFrom reach
-  adds-prev h =
-      let b : ownBack n ≡ n .n = back-by n Kinds.previous (ap kindOf h) in
-      let o : reachOfRow os ≡ reach (child os 0) = row-one os (count-by Kinds.previous (ap kindOf h)) in
-      simp (b, o, h)
-
-  adds-arith : 5 ≤ n .kind → n .kind ≤ 8 → Adds
-  unfolding back childCount operandFrom reach
-  adds-arith lo hi =
-      let row = arithmetic-kind (n .kind) lo hi in
-      let b : ownBack n ≡ 0 = back-by n arithmetic row in
-      let o : reachOfRow os ≡ max (reach (child os 0)) (reach (child os 1)) = row-two os (count-by arithmetic row) in
-      let no1 : eqb (n .kind) 1 ≡ false = ne-eqb (n .kind) 1 (λ z. omega arith) in
-      let no2 : eqb (n .kind) 2 ≡ false = ne-eqb (n .kind) 2 (λ z. omega arith) in
-      let no3 : eqb (n .kind) 3 ≡ false = ne-eqb (n .kind) 3 (λ z. omega arith) in
-      let no4 : eqb (n .kind) 4 ≡ false = ne-eqb (n .kind) 4 (λ z. omega arith) in
-      simp (b, o, no1, no2, no3, no4) (omega arith)
-
-  adds-operand : kindOf (n .kind) .sort ≡ 1 → Adds
-  adds-operand s = operand-cases Adds (n .kind) s adds-const adds-ref adds-price adds-prev adds-arith
+  adds-operand : OperandKind (n .kind) → ownBack n + reachOfRow os ≡ reach (operandFrom n os)
+  unfolding back childCount operandFrom operandBy reach
+  adds-operand (a-const k row) = simp (row, back-by n _ row, row-none os (count-by _ row))
+  adds-operand (a-ref k row) = simp (row, back-by n _ row, row-none os (count-by _ row))
+  adds-operand (a-price k row) = simp (row, back-by n _ row, row-none os (count-by _ row))
+  adds-operand (a-prev k row) = simp (row, back-by n _ row, row-one os (count-by _ row))
+  adds-operand (an-arith row) = simp (row, back-by n _ row, row-two os (count-by _ row)) (omega arith)
 
 -- operands in a row reach as far as the forest weighs
 row-reach : (f : Forest) (k : ℕ) → Sorted f → sorts f ≡ replicate k 1 → weigh ownBack f ≡ reachOfRow (operands f)
@@ -137,11 +96,12 @@ row-reach (Forest.tree n below rest) zero h s = absurd never
 row-reach (Forest.tree n below rest) (suc k) h s =
     let sort : kindOf (n .kind) .sort ≡ 1 = cc in
     let others : sorts rest ≡ replicate k 1 = cc in
-    let under : sorts below ≡ replicate (childCount n (kindOf (n .kind))) 1 = h .0 ∙ below-operand n sort in
+    let kind = operand-kind (n .kind) sort in
+    let under : sorts below ≡ replicate (childCount n (kindOf (n .kind))) 1 = h .0 ∙ below-operand n kind in
     let many : length (operands below) ≡ childCount n (kindOf (n .kind)) = as-many below ∙ ap length under ∙ length-replicate _ _ in
     let a : weigh ownBack below ≡ reachOfRow (operands below) = row-reach below (childCount n (kindOf (n .kind))) (h .1) under in
     let b : weigh ownBack rest ≡ reachOfRow (operands rest) = row-reach rest k (h .2) others in
-    let c : ownBack n + reachOfRow (operands below) ≡ reach (operandFrom n (operands below)) = adds-operand n (operands below) many sort in
+    let c : ownBack n + reachOfRow (operands below) ≡ reach (operandFrom n (operands below)) = adds-operand n (operands below) many kind in
     rw (a, b, c)
 
 -- what a condition's node adds, over what is below it
@@ -149,9 +109,6 @@ module _ (n : Node) (below : Forest) (w : ℕ)
     (under : sorts below ≡ replicate (childCount n (kindOf (n .kind))) (kindOf (n .kind) .below))
     (of-operands : (k : ℕ) → sorts below ≡ replicate k 1 → w ≡ reachOfRow (operands below))
     (of-conditions : (k : ℕ) → sorts below ≡ replicate k 2 → w ≡ reachOfAll (conditions below)) where
-  abbrev AddsTo : Type 0
-  AddsTo = ownBack n + w ≡ reachOf (conditionFrom n (operands below) (conditions below))
-
   under-by : (row : Kind) → kindOf (n .kind) ≡ row → sorts below ≡ replicate (childCount n row) (row .below)
   under-by row h = under ∙ ap (λ (r : Kind). replicate (childCount n r) (r .below)) h
 
@@ -162,89 +119,38 @@ module _ (n : Node) (below : Forest) (w : ℕ)
   some-conditions : (k : ℕ) → sorts below ≡ replicate k 2 → manyOf (conditions below) ≡ k
   some-conditions k h = many-conditions below ∙ ap length h ∙ length-replicate k 2
 
-  adds-compare : 16 ≤ n .kind → n .kind ≤ 21 → AddsTo
-  unfolding back childCount conditionFrom reachOf
-  adds-compare lo hi =
-      let row = comparison-kind (n .kind) lo hi in
-      let two : sorts below ≡ replicate 2 1 = under-by comparison row in
-      let b : ownBack n ≡ 0 = back-by n comparison row in
-      let o : w ≡ max (reach (child (operands below) 0)) (reach (child (operands below) 1)) = of-operands 2 two ∙ row-two (operands below) (some-operands 2 two) in
-      let in22 : ltb (n .kind) 22 ≡ true = lt-ltb (n .kind) 22 (omega arith) in
-      simp (b, o, in22) (omega arith)
+  -- what the k operands below weigh
+  row-below : (k : ℕ) (row : Kind) → kindOf (n .kind) ≡ row → replicate (childCount n row) (row .below) ≡ replicate k 1
+      → (w ≡ reachOfRow (operands below)) × (length (operands below) ≡ k)
+  row-below k row h same =
+      let here : sorts below ≡ replicate k 1 = under-by row h ∙ same in
+      (of-operands k here, some-operands k here)
 
-  adds-cross : 22 ≤ n .kind → n .kind ≤ 23 → AddsTo
-  unfolding back childCount conditionFrom reachOf
-  adds-cross lo hi =
-      let row = crossing-kind (n .kind) lo hi in
-      let two : sorts below ≡ replicate 2 1 = under-by crossing row in
-      let b : ownBack n ≡ 1 = back-by n crossing row in
-      let o : w ≡ max (reach (child (operands below) 0)) (reach (child (operands below) 1)) = of-operands 2 two ∙ row-two (operands below) (some-operands 2 two) in
-      let out22 : ltb (n .kind) 22 ≡ false = le-ltb (n .kind) 22 lo in
-      let in24 : ltb (n .kind) 24 ≡ true = lt-ltb (n .kind) 24 (omega arith) in
-      simp (b, o, out22, in24)
-
-  adds-between : n .kind ≡ 24 → AddsTo
-  unfolding kindOf kinds back childCount conditionFrom reachOf
-  adds-between h =
-      let three : sorts below ≡ replicate 3 1 = under-by Kinds.between (ap kindOf h) in
-      let b : ownBack n ≡ 0 = back-by n Kinds.between (ap kindOf h) in
-      let o : w ≡ max (reach (child (operands below) 0)) (max (reach (child (operands below) 1)) (reach (child (operands below) 2))) = of-operands 3 three ∙ row-three (operands below) (some-operands 3 three) in
-      simp (b, o, h) (omega arith)
-
-  adds-trend : 25 ≤ n .kind → n .kind ≤ 26 → AddsTo
-  unfolding back childCount conditionFrom reachOf
-  adds-trend lo hi =
-      let row = trend-kind (n .kind) lo hi in
-      let one : sorts below ≡ replicate 1 1 = under-by Kinds.trend row in
-      let b : ownBack n ≡ n .n = back-by n Kinds.trend row in
-      let o : w ≡ reach (child (operands below) 0) = of-operands 1 one ∙ row-one (operands below) (some-operands 1 one) in
-      let out22 : ltb (n .kind) 22 ≡ false = le-ltb (n .kind) 22 (omega arith) in
-      let out24 : ltb (n .kind) 24 ≡ false = le-ltb (n .kind) 24 (omega arith) in
-      let no24 : eqb (n .kind) 24 ≡ false = ne-eqb (n .kind) 24 (λ z. omega arith) in
-      let in27 : ltb (n .kind) 27 ≡ true = lt-ltb (n .kind) 27 (omega arith) in
-      simp (b, o, out22, out24, no24, in27)
-
-  adds-every : n .kind ≡ 27 → AddsTo
-  unfolding kindOf kinds back childCount conditionFrom reachOf
-  adds-every h =
-      let b : ownBack n ≡ 0 = back-by n group (ap kindOf h) in
-      let o : w ≡ reachOfAll (conditions below) = of-conditions (n .children) (under-by group (ap kindOf h)) in
-      simp (b, o, h) (omega arith)
-
-  adds-any : n .kind ≡ 28 → AddsTo
-  unfolding kindOf kinds back childCount conditionFrom reachOf
-  adds-any h =
-      let b : ownBack n ≡ 0 = back-by n group (ap kindOf h) in
-      let o : w ≡ reachOfAll (conditions below) = of-conditions (n .children) (under-by group (ap kindOf h)) in
-      simp (b, o, h) (omega arith)
-
-  adds-negated : n .kind ≡ 29 → AddsTo
-  unfolding kindOf kinds back childCount conditionFrom reachOf
-  adds-negated h =
-      let one : sorts below ≡ replicate 1 2 = under-by Kinds.negation (ap kindOf h) in
-      let b : ownBack n ≡ 0 = back-by n Kinds.negation (ap kindOf h) in
-      let o : w ≡ reachOf (firstOf (conditions below)) = of-conditions 1 one ∙ conditions-one (conditions below) (some-conditions 1 one) in
-      simp (b, o, h) (omega arith)
-
-  adds-position : n .kind ≡ 30 → AddsTo
-  unfolding kindOf kinds back childCount conditionFrom reachOf
-  adds-position h =
-      let nothing : sorts below ≡ replicate 0 1 = under-by Kinds.position (ap kindOf h) in
-      let b : ownBack n ≡ 0 = back-by n Kinds.position (ap kindOf h) in
-      let o : w ≡ 0 = of-operands 0 nothing ∙ row-none (operands below) (some-operands 0 nothing) in
-      simp (b, o, h)
-
-  adds-bars : n .kind ≡ 31 → AddsTo
-  unfolding kindOf kinds back childCount conditionFrom reachOf
-  adds-bars h =
-      let nothing : sorts below ≡ replicate 0 1 = under-by Kinds.barsSince (ap kindOf h) in
-      let b : ownBack n ≡ 0 = back-by n Kinds.barsSince (ap kindOf h) in
-      let o : w ≡ 0 = of-operands 0 nothing ∙ row-none (operands below) (some-operands 0 nothing) in
-      simp (b, o, h)
-
-  adds-condition : kindOf (n .kind) .sort ≡ 2 → AddsTo
-  adds-condition s =
-      condition-cases AddsTo (n .kind) s adds-compare adds-cross adds-between adds-trend adds-every adds-any adds-negated adds-position adds-bars
+  adds-condition : ConditionKind (n .kind) → ownBack n + w ≡ reachOf (conditionFrom n (operands below) (conditions below))
+  unfolding back childCount conditionFrom conditionBy reachOf
+  adds-condition (a-compare row) =
+      let b = row-below 2 _ row refl in
+      simp (row, back-by n _ row, b .0, row-two (operands below) (b .1)) (omega arith)
+  adds-condition (a-cross row) =
+      let b = row-below 2 _ row refl in
+      simp (row, back-by n _ row, b .0, row-two (operands below) (b .1))
+  adds-condition (a-between k row) =
+      let b = row-below 3 _ row refl in
+      simp (row, back-by n _ row, b .0, row-three (operands below) (b .1)) (omega arith)
+  adds-condition (a-trend row) =
+      let b = row-below 1 _ row refl in
+      simp (row, back-by n _ row, b .0, row-one (operands below) (b .1))
+  adds-condition (an-all k row) = simp (row, back-by n _ row, of-conditions (n .children) (under-by _ row)) (omega arith)
+  adds-condition (an-any k row) = simp (row, back-by n _ row, of-conditions (n .children) (under-by _ row)) (omega arith)
+  adds-condition (a-not k row) =
+      let one : sorts below ≡ replicate 1 2 = under-by _ row in
+      simp (row, back-by n _ row, of-conditions 1 one, conditions-one (conditions below) (some-conditions 1 one)) (omega arith)
+  adds-condition (a-position k row) =
+      let b = row-below 0 _ row refl in
+      simp (row, back-by n _ row, b .0, row-none (operands below) (b .1))
+  adds-condition (a-count k row) =
+      let b = row-below 0 _ row refl in
+      simp (row, back-by n _ row, b .0, row-none (operands below) (b .1))
 
 -- conditions in a row reach as far as the forest weighs
 pub all-reach : (f : Forest) (k : ℕ) → Sorted f → sorts f ≡ replicate k 2 → weigh ownBack f ≡ reachOfAll (conditions f)
@@ -259,7 +165,8 @@ all-reach (Forest.tree n below rest) (suc k) h s =
     let others : sorts rest ≡ replicate k 2 = cc in
     let b : weigh ownBack rest ≡ reachOfAll (conditions rest) = all-reach rest k (h .2) others in
     let c : ownBack n + weigh ownBack below ≡ reachOf (conditionFrom n (operands below) (conditions below)) =
-    adds-condition n below (weigh ownBack below) (h .0) (λ m g. row-reach below m (h .1) g) (λ m g. all-reach below m (h .1) g) sort in
+    adds-condition n below (weigh ownBack below) (h .0) (λ m g. row-reach below m (h .1) g) (λ m g. all-reach below m (h .1) g)
+    (condition-kind (n .kind) sort) in
     rw (c, b)
 
 -- The reach of a tree of an accepted table, as a tree and as the checker weighs it; an absent tree's is 0 both ways.

@@ -2,21 +2,16 @@
 -- reads as. `Whole` is of Accepted, `tree-whole` gives it for each tree of an accepted table.
 -- Assumes nothing.
 use mathlib.Core.Path.{_≡_, refl, sym, _∙_, ap}
-use mathlib.Core.Bool.{true, false}
 use mathlib.Core.List.{List, [], _∷_}
 use Prim.Native.Nat.{ℕ, zero, suc, _+_, _-_, _≤_, _<_}
 use native.Mathlib.Omega.{arith}
 use native.Mathlib.Nat.{eq-zero-or-pos}
 use mathlib.Core.Logic.{⊎-elim}
 use lib.ListN.{replicate}
-use lib.Dec.{ltb, eqb}
-use borrow.Author.Tests.{ne-eqb, lt-ltb, le-ltb}
 use Rattle.table.specs.declared.Node.{Node}
 use Rattle.table.specs.declared.Answer.the-variants.{Accepted}
 use Rattle.table.specs.declared.Place.the-variants.{Nowhere}
-use Rattle.table.specs.declared.Kind.{Kind}
-use Rattle.table.specs.Kinds.{kinds, kindOf, arithmetic, comparison, crossing, group}
-use Rattle.table.specs.Kinds as Kinds
+use Rattle.table.specs.Kinds.{kindOf}
 use Rattle.table.specs.Header.{count, root}
 use Rattle.table.specs.Nodes.{nodeAt, sortAt, childCount, childCountAt, childSortAt}
 use Rattle.table.specs.Order.{orElse}
@@ -25,11 +20,10 @@ use Rattle.table.specs.Forest as Forest
 use Rattle.table.specs.Nesting.{deeper}
 use Rattle.table.specs.Checked.{checked}
 use Rattle.table.specs.Ends.{Link}
-use Rattle.table.specs.Trees.{Operand, const, ref, price, prev, arith as sums, compare, cross, between, trend, every, any, negated, inPosition, barsSince, none, more}
+use Rattle.table.specs.Trees.{none, more}
 use Rattle.table.specs.Reading.{treeOf, child, operandFrom, operands, firstOf, conditionFrom, conditions, operandsAt, conditionsAt, operandAt, conditionAt}
 use Rattle.table.specs.ForestLaws.{left-suc, left-zero, first-none}
 use Rattle.table.specs.OrderLaws.{never-at}
-use Rattle.table.specs.KindLaws.{arithmetic-kind, comparison-kind, crossing-kind, trend-kind, group-kind}
 use Rattle.table.specs.Accepted.{or-none, Whole, tree-sorts, tree-nesting}
 
 -- ---- what stands where
@@ -154,142 +148,17 @@ module _ (t : List ℕ) (e j : ℕ) where
     unfolding conditionsAt conditionAt conditions firstOf firstTrees otherTrees over
     conditions-more h k = rw (sym (link .next), node-first t e j h)
 
--- ---- what a node reads as, kind by kind
+-- ---- what a node reads as, over what is below it
 
 module _ (t : List ℕ) (e i : ℕ) (h : i < e) where
-  operand-is : operandAt t e i ≡ operandFrom (nodeAt t i) (operandsAt t e (i + 1) (childCountAt t i))
+  pub operand-is : operandAt t e i ≡ operandFrom (nodeAt t i) (operandsAt t e (i + 1) (childCountAt t i))
   unfolding operandAt operandsAt operands firstTrees over
   operand-is = rw (node-first t e i h)
 
-  condition-is : conditionAt t e i ≡ conditionFrom (nodeAt t i) (operandsAt t e (i + 1) (childCountAt t i)) (conditionsAt t e (i + 1) (childCountAt t i))
+  pub condition-is : conditionAt t e i
+      ≡ conditionFrom (nodeAt t i) (operandsAt t e (i + 1) (childCountAt t i)) (conditionsAt t e (i + 1) (childCountAt t i))
   unfolding conditionAt conditionsAt operandsAt conditions firstOf firstTrees over
   condition-is = rw (node-first t e i h)
-
-  count-by : (row : Kind) → kindOf (nodeAt t i .kind) ≡ row → childCountAt t i ≡ childCount (nodeAt t i) row
-  unfolding childCountAt
-  count-by row k = rw k
-
-  -- how many children a node takes, by its kind
-  pub one-child : (nodeAt t i .kind ≡ 4) → childCountAt t i ≡ 1
-  unfolding kindOf kinds childCount
-  one-child k = count-by Kinds.previous (ap kindOf k)
-
-  pub two-operands : 5 ≤ nodeAt t i .kind → nodeAt t i .kind ≤ 8 → childCountAt t i ≡ 2
-  unfolding childCount
-  two-operands lo hi = count-by arithmetic (arithmetic-kind _ lo hi)
-
-  pub two-compared : 16 ≤ nodeAt t i .kind → nodeAt t i .kind ≤ 21 → childCountAt t i ≡ 2
-  unfolding childCount
-  two-compared lo hi = count-by comparison (comparison-kind _ lo hi)
-
-  pub two-crossing : 22 ≤ nodeAt t i .kind → nodeAt t i .kind ≤ 23 → childCountAt t i ≡ 2
-  unfolding childCount
-  two-crossing lo hi = count-by crossing (crossing-kind _ lo hi)
-
-  pub three-operands : nodeAt t i .kind ≡ 24 → childCountAt t i ≡ 3
-  unfolding kindOf kinds childCount
-  three-operands k = count-by Kinds.between (ap kindOf k)
-
-  pub one-trend : 25 ≤ nodeAt t i .kind → nodeAt t i .kind ≤ 26 → childCountAt t i ≡ 1
-  unfolding childCount
-  one-trend lo hi = count-by Kinds.trend (trend-kind _ lo hi)
-
-  pub as-written : 27 ≤ nodeAt t i .kind → nodeAt t i .kind ≤ 28 → childCountAt t i ≡ nodeAt t i .children
-  unfolding childCount
-  as-written lo hi = count-by group (group-kind _ lo hi)
-
-  pub one-condition : nodeAt t i .kind ≡ 29 → childCountAt t i ≡ 1
-  unfolding kindOf kinds childCount
-  one-condition k = count-by Kinds.negation (ap kindOf k)
-
-  pub reads-const : nodeAt t i .kind ≡ 1 → operandAt t e i ≡ const (nodeAt t i .constant)
-  unfolding operandFrom
-  reads-const k = operand-is ∙ simp k
-
-  pub reads-ref : nodeAt t i .kind ≡ 2 → operandAt t e i ≡ ref (nodeAt t i .n)
-  unfolding operandFrom
-  reads-ref k = operand-is ∙ simp k
-
-  pub reads-price : nodeAt t i .kind ≡ 3 → operandAt t e i ≡ price (nodeAt t i .selector)
-  unfolding operandFrom
-  reads-price k = operand-is ∙ simp k
-
-  pub reads-prev : nodeAt t i .kind ≡ 4 → operandAt t e i ≡ prev (operandAt t e (i + 1)) (nodeAt t i .n)
-  unfolding operandFrom
-  reads-prev k = operand-is ∙ simp (one-child k, k) (ap (λ (a : Operand). prev a (nodeAt t i .n)) (child-first t e (i + 1) 0))
-
-  -- two operands: the first stands at i + 1, the second at the first one's end
-  module _ (v : ℕ) (link : Link t e (i + 1) v) where
-    first-of-two : child (operandsAt t e (i + 1) 2) 0 ≡ operandAt t e (i + 1)
-    first-of-two = child-first t e (i + 1) 1
-
-    second-of-two : child (operandsAt t e (i + 1) 2) 1 ≡ operandAt t e v
-    second-of-two = child-next t e (i + 1) v link 1 0 ∙ child-first t e v 0
-
-    pub reads-arith : 5 ≤ nodeAt t i .kind → nodeAt t i .kind ≤ 8
-        → operandAt t e i ≡ sums (nodeAt t i .kind) (operandAt t e (i + 1)) (operandAt t e v)
-    unfolding operandFrom
-    reads-arith lo hi =
-        let no1 : eqb (nodeAt t i .kind) 1 ≡ false = ne-eqb (nodeAt t i .kind) 1 (λ z. omega arith) in
-        let no2 : eqb (nodeAt t i .kind) 2 ≡ false = ne-eqb (nodeAt t i .kind) 2 (λ z. omega arith) in
-        let no3 : eqb (nodeAt t i .kind) 3 ≡ false = ne-eqb (nodeAt t i .kind) 3 (λ z. omega arith) in
-        let no4 : eqb (nodeAt t i .kind) 4 ≡ false = ne-eqb (nodeAt t i .kind) 4 (λ z. omega arith) in
-        operand-is ∙ simp (no1, no2, no3, no4, two-operands lo hi) (cc (first-of-two, second-of-two))
-
-    pub reads-compare : 16 ≤ nodeAt t i .kind → nodeAt t i .kind ≤ 21
-        → conditionAt t e i ≡ compare (nodeAt t i .kind) (operandAt t e (i + 1)) (operandAt t e v)
-    unfolding conditionFrom
-    reads-compare lo hi =
-        let below : ltb (nodeAt t i .kind) 22 ≡ true = lt-ltb (nodeAt t i .kind) 22 (omega arith) in
-        condition-is ∙ simp (below, two-compared lo hi) (cc (first-of-two, second-of-two))
-
-    pub reads-cross : 22 ≤ nodeAt t i .kind → nodeAt t i .kind ≤ 23
-        → conditionAt t e i ≡ cross (nodeAt t i .kind) (operandAt t e (i + 1)) (operandAt t e v)
-    unfolding conditionFrom
-    reads-cross lo hi =
-        let from22 : ltb (nodeAt t i .kind) 22 ≡ false = le-ltb (nodeAt t i .kind) 22 lo in
-        let below : ltb (nodeAt t i .kind) 24 ≡ true = lt-ltb (nodeAt t i .kind) 24 (omega arith) in
-        condition-is ∙ simp (from22, below, two-crossing lo hi) (cc (first-of-two, second-of-two))
-
-    -- three: the third stands at the second one's end
-    pub reads-between : (w : ℕ) → Link t e v w → nodeAt t i .kind ≡ 24
-        → conditionAt t e i ≡ between (operandAt t e (i + 1)) (operandAt t e v) (operandAt t e w)
-    unfolding conditionFrom
-    reads-between w link′ k =
-        let x : child (operandsAt t e (i + 1) 3) 0 ≡ operandAt t e (i + 1) = child-first t e (i + 1) 2 in
-        let y : child (operandsAt t e (i + 1) 3) 1 ≡ operandAt t e v = child-next t e (i + 1) v link 2 0 ∙ child-first t e v 1 in
-        let z : child (operandsAt t e (i + 1) 3) 2 ≡ operandAt t e w = child-next t e (i + 1) v link 2 1 ∙ child-next t e v w link′ 1 0 ∙ child-first t e w 0 in
-        condition-is ∙ simp (three-operands k, k) (cc (x, y, z))
-
-  pub reads-trend : 25 ≤ nodeAt t i .kind → nodeAt t i .kind ≤ 26
-      → conditionAt t e i ≡ trend (nodeAt t i .kind) (operandAt t e (i + 1)) (nodeAt t i .n)
-  unfolding conditionFrom
-  reads-trend lo hi =
-      let from22 : ltb (nodeAt t i .kind) 22 ≡ false = le-ltb (nodeAt t i .kind) 22 (omega arith) in
-      let from24 : ltb (nodeAt t i .kind) 24 ≡ false = le-ltb (nodeAt t i .kind) 24 (omega arith) in
-      let no24 : eqb (nodeAt t i .kind) 24 ≡ false = ne-eqb (nodeAt t i .kind) 24 (λ z. omega arith) in
-      let below : ltb (nodeAt t i .kind) 27 ≡ true = lt-ltb (nodeAt t i .kind) 27 (omega arith) in
-      condition-is ∙ simp (from22, from24, no24, below, one-trend lo hi) (cc (child-first t e (i + 1) 0))
-
-  pub reads-every : nodeAt t i .kind ≡ 27 → conditionAt t e i ≡ every (conditionsAt t e (i + 1) (nodeAt t i .children))
-  unfolding conditionFrom
-  reads-every k = condition-is ∙ simp (as-written (omega arith) (omega arith), k)
-
-  pub reads-any : nodeAt t i .kind ≡ 28 → conditionAt t e i ≡ any (conditionsAt t e (i + 1) (nodeAt t i .children))
-  unfolding conditionFrom
-  reads-any k = condition-is ∙ simp (as-written (omega arith) (omega arith), k)
-
-  pub reads-negated : nodeAt t i .kind ≡ 29 → conditionAt t e i ≡ negated (conditionAt t e (i + 1))
-  unfolding conditionFrom
-  reads-negated k = condition-is ∙ simp (one-condition k, k) (ap negated (condition-first t e (i + 1) 0))
-
-  pub reads-position : nodeAt t i .kind ≡ 30 → conditionAt t e i ≡ inPosition (eqb (nodeAt t i .selector) 1)
-  unfolding conditionFrom
-  reads-position k = condition-is ∙ simp k
-
-  pub reads-bars : nodeAt t i .kind ≡ 31 → conditionAt t e i ≡ barsSince (nodeAt t i .selector) (nodeAt t i .n)
-  unfolding conditionFrom
-  reads-bars k = condition-is ∙ simp k
 
 -- ---- where a walk begins: tree x, at its root
 

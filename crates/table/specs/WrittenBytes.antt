@@ -1,10 +1,14 @@
 -- The table of a rule within the limits is a byte string: each of its numbers is below 256.
 -- Assumes nothing.
+use mathlib.Core.Path.{_≡_}
 use mathlib.Core.Bool.{true, false}
 use mathlib.Core.List.{List, [], _∷_, _++_}
 use Prim.Native.Nat.{ℕ, zero, suc, _/_, _%_, _≤_, _<_}
 use native.Mathlib.Omega.{arith}
 use lib.ListN.{getD}
+use Rattle.table.specs.declared.kinds.Kind.{Kind}
+use Rattle.table.specs.Kinds.{kindOf}
+use Rattle.table.specs.KindLaws.{known}
 use Rattle.table.specs.Trees.{Operand, const, ref, price, prev, arith as sums, Condition, Conditions, compare, cross, between, trend, every, any, negated, inPosition, barsSince, none, more}
 use Rattle.table.specs.Writing.{le16, le32, le64, node, write, writeOf, writeAll, manyOf, nodesOf, nodesOfAll, Short, absent, given, Rule, nodesOfShort, writeShort, nodesOfRule, headerOf, tableOf}
 use Rattle.table.specs.Limits.{Within, WithinOf, WithinAll, ShortWithin, RuleWithin}
@@ -53,6 +57,10 @@ small-none : Small []
 unfolding Small
 small-none = tt
 
+-- the kinds of the table are bytes
+row-byte : (kind : ℕ) (row : Kind) → kindOf kind ≡ row → 0 < row .sort → kind < 256
+row-byte kind row h some = omega (arith, known kind row h some)
+
 module _ (k : ℕ) (few : k ≤ 64) where
   small-operand : (a : Operand) → Within k a → Small (write a)
   unfolding Within write
@@ -61,7 +69,7 @@ module _ (k : ℕ) (few : k ≤ 64) where
   small-operand (price s) w = small-node 3 s 0 0 0 (omega arith) (omega arith) (omega arith) (omega arith) (omega arith)
   small-operand (prev a n) w = small-over 4 n (write a) (omega arith) (w .0) (small-operand a (w .1))
   small-operand (sums kind a b) w =
-      small-two (node kind 0 0 0 0 ++ write a) (write b) (small-over kind 0 (write a) (omega (arith, w .1)) (omega arith) (small-operand a (w .2))) (small-operand b (w .3))
+      small-two (node kind 0 0 0 0 ++ write a) (write b) (small-over kind 0 (write a) (row-byte kind _ (w .0) (omega arith)) (omega arith) (small-operand a (w .1))) (small-operand b (w .2))
 
   two-operands : (kind : ℕ) (a b : Operand) → kind < 256 → Within k a → Within k b → Small (node kind 0 0 0 0 ++ write a ++ write b)
   two-operands kind a b h wa wb =
@@ -79,10 +87,10 @@ module _ (k : ℕ) (few : k ≤ 64) where
     unfolding WithinOf writeOf nodesOf
 
     small-condition : (c : Condition) → WithinOf k c → nodesOf c ≤ 256 → Small (writeOf c)
-    small-condition (compare kind a b) w h = two-operands kind a b (omega (arith, w .1)) (w .2) (w .3)
-    small-condition (cross kind a b) w h = two-operands kind a b (omega (arith, w .1)) (w .2) (w .3)
+    small-condition (compare kind a b) w h = two-operands kind a b (row-byte kind _ (w .0) (omega arith)) (w .1) (w .2)
+    small-condition (cross kind a b) w h = two-operands kind a b (row-byte kind _ (w .0) (omega arith)) (w .1) (w .2)
     small-condition (between x a b) w h = small-two _ (write b) (two-operands 24 x a (omega arith) (w .0) (w .1)) (small-operand b (w .2))
-    small-condition (trend kind a n) w h = small-over kind n (write a) (omega (arith, w .1)) (w .2) (small-operand a (w .3))
+    small-condition (trend kind a n) w h = small-over kind n (write a) (row-byte kind _ (w .0) (omega arith)) (w .1) (small-operand a (w .2))
     small-condition (every cs) w h = small-group 27 (manyOf cs) (writeAll cs) (omega arith) (omega (arith, as-many cs)) (small-all cs w (omega arith))
     small-condition (any cs) w h = small-group 28 (manyOf cs) (writeAll cs) (omega arith) (omega (arith, as-many cs)) (small-all cs w (omega arith))
     small-condition (negated c) w h = small-over 29 0 (writeOf c) (omega arith) (omega arith) (small-condition c w (omega arith))

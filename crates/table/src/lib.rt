@@ -21,17 +21,6 @@ ghost use Rattle.table.specs.Checked.{checked, from7, from8, from9};
 ghost use Rattle.table.specs.Ends.{endsAll, endsFor, endsBeside};
 ghost use Rattle.table.specs.Passes.{Roots, LinkedAll};
 
-// What a kind takes: a row of the table of kinds.
-pub struct Kind {
-    pub sort: u8,
-    pub children: u8,
-    pub below: u8,
-    pub selectors: u8,
-    pub n: u8,
-    pub constant: u8,
-    pub back: u8,
-}
-
 // A node: its number in the table, and its fields.
 pub struct Node {
     pub number: usize,

@@ -1,5 +1,4 @@
 // Nodes, what the table of kinds says of them, and rule 6: their own bytes.
-use crate::Kind;
 use crate::Node;
 use crate::Place;
 use crate::bytes::byte;
@@ -8,6 +7,7 @@ use crate::bytes::read32;
 use crate::bytes::read64;
 use crate::header::slots;
 use crate::kinds::AS_WRITTEN;
+use crate::kinds::Kind;
 use crate::kinds::SLOT;
 use crate::kinds::kind_of;
 ghost use mathlib.Core.Path.{_≡_};
