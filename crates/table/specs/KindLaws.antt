@@ -17,7 +17,7 @@ use Rattle.table.specs.declared.kinds.OperandClass.the-variants.{NoOpera
 use Rattle.table.specs.declared.kinds.ConditionClass.{ConditionClass}
 use Rattle.table.specs.declared.kinds.ConditionClass.the-variants.{NoCondition, Compare, Cross, Between, Trend, All, Any, Not}
 use Rattle.table.specs.declared.kinds.ConditionClass.the-variants.{InPosition, BarsSince}
-use Rattle.table.specs.Kinds as Kinds
+use Rattle.table.specs.Named as Named
 use Rattle.table.specs.Kinds.{kinds, kindOf, noKind, constant, reference, price, previous, arithmetic}
 use Rattle.table.specs.Kinds.{comparison, crossing, between, trend, allOf, anyOf, negation, position, barsSince}
 use Rattle.table.specs.HeaderLaws.{both}
@@ -64,10 +64,10 @@ known k row h some = ⊎-elim
 -- ---- operands
 
 pub data OperandKind (k : ℕ) : Type 0 where
-  a-const : k ≡ Kinds.aConst → kindOf k ≡ constant → OperandKind k
-  a-ref : k ≡ Kinds.aRef → kindOf k ≡ reference → OperandKind k
-  a-price : k ≡ Kinds.aPrice → kindOf k ≡ price → OperandKind k
-  a-prev : k ≡ Kinds.aPrev → kindOf k ≡ previous → OperandKind k
+  a-const : k ≡ Named.const → kindOf k ≡ constant → OperandKind k
+  a-ref : k ≡ Named.ref → kindOf k ≡ reference → OperandKind k
+  a-price : k ≡ Named.price → kindOf k ≡ price → OperandKind k
+  a-prev : k ≡ Named.prev → kindOf k ≡ previous → OperandKind k
   an-arith : kindOf k ≡ arithmetic → OperandKind k
 
 -- the row of a class, and the numbers of its kinds
@@ -81,11 +81,11 @@ operandRow Arith = arithmetic
 
 operandNumber : OperandClass → ℕ → Bool
 operandNumber NoOperand k = true
-operandNumber Const k = eqb k Kinds.aConst
-operandNumber Ref k = eqb k Kinds.aRef
-operandNumber Price k = eqb k Kinds.aPrice
-operandNumber Prev k = eqb k Kinds.aPrev
-operandNumber Arith k = leb Kinds.add k && leb k Kinds.div
+operandNumber Const k = eqb k Named.const
+operandNumber Ref k = eqb k Named.ref
+operandNumber Price k = eqb k Named.price
+operandNumber Prev k = eqb k Named.prev
+operandNumber Arith k = leb Named.add k && leb k Named.div
 
 operandAsTold : ℕ → Kind
 operandAsTold k = cond (eqb (kindOf k .sort) 1) (operandRow (kindOf k .operand)) (kindOf k)
@@ -107,31 +107,31 @@ operand-kind k s = go (kindOf k .operand) (operand-row k low s) (operand-number 
 
     go : (c : OperandClass) → kindOf k ≡ operandRow c → operandNumber c k ≡ true → OperandKind k
     go NoOperand r n = absurd (omega (arith, s, ap (λ (row : Kind). row .sort) r))
-    go Const r n = a-const (eqb-true k 1 n) r
-    go Ref r n = a-ref (eqb-true k 2 n) r
-    go Price r n = a-price (eqb-true k 3 n) r
-    go Prev r n = a-prev (eqb-true k 4 n) r
+    go Const r n = a-const (eqb-true k Named.const n) r
+    go Ref r n = a-ref (eqb-true k Named.ref n) r
+    go Price r n = a-price (eqb-true k Named.price n) r
+    go Prev r n = a-prev (eqb-true k Named.prev n) r
     go Arith r n = an-arith r
 
 -- "5..8 Add, Sub, Mul, Div"
-pub arith-numbers : (k : ℕ) → kindOf k ≡ arithmetic → (5 ≤ k) × (k ≤ 8)
+pub arith-numbers : (k : ℕ) → kindOf k ≡ arithmetic → (Named.add ≤ k) × (k ≤ Named.div)
 unfolding operandNumber
 arith-numbers k r =
-    let in-range = both (leb 5 k) (leb k 8) (rw r at (operand-number k (known k arithmetic r (omega arith)))) in
-    (leb-true 5 k (in-range .0), leb-true k 8 (in-range .1))
+    let in-range = both (leb Named.add k) (leb k Named.div) (rw r at (operand-number k (known k arithmetic r (omega arith)))) in
+    (leb-true Named.add k (in-range .0), leb-true k Named.div (in-range .1))
 
 -- ---- conditions
 
 pub data ConditionKind (k : ℕ) : Type 0 where
   a-compare : kindOf k ≡ comparison → ConditionKind k
   a-cross : kindOf k ≡ crossing → ConditionKind k
-  a-between : k ≡ Kinds.aBetween → kindOf k ≡ between → ConditionKind k
+  a-between : k ≡ Named.between → kindOf k ≡ between → ConditionKind k
   a-trend : kindOf k ≡ trend → ConditionKind k
-  an-all : k ≡ Kinds.all → kindOf k ≡ allOf → ConditionKind k
-  an-any : k ≡ Kinds.any → kindOf k ≡ anyOf → ConditionKind k
-  a-not : k ≡ Kinds.aNot → kindOf k ≡ negation → ConditionKind k
-  a-position : k ≡ Kinds.inPosition → kindOf k ≡ position → ConditionKind k
-  a-count : k ≡ Kinds.barsSinceEntry → kindOf k ≡ barsSince → ConditionKind k
+  an-all : k ≡ Named.all → kindOf k ≡ allOf → ConditionKind k
+  an-any : k ≡ Named.any → kindOf k ≡ anyOf → ConditionKind k
+  a-not : k ≡ Named.not → kindOf k ≡ negation → ConditionKind k
+  a-position : k ≡ Named.inPosition → kindOf k ≡ position → ConditionKind k
+  a-count : k ≡ Named.barsSinceEntry → kindOf k ≡ barsSince → ConditionKind k
 
 conditionRow : ConditionClass → Kind
 conditionRow NoCondition = noKind
@@ -147,15 +147,15 @@ conditionRow BarsSince = barsSince
 
 conditionNumber : ConditionClass → ℕ → Bool
 conditionNumber NoCondition k = true
-conditionNumber Compare k = leb Kinds.gt k && leb k Kinds.ne
-conditionNumber Cross k = leb Kinds.crossAbove k && leb k Kinds.crossBelow
-conditionNumber Between k = eqb k Kinds.aBetween
-conditionNumber Trend k = leb Kinds.rising k && leb k Kinds.falling
-conditionNumber All k = eqb k Kinds.all
-conditionNumber Any k = eqb k Kinds.any
-conditionNumber Not k = eqb k Kinds.aNot
-conditionNumber InPosition k = eqb k Kinds.inPosition
-conditionNumber BarsSince k = eqb k Kinds.barsSinceEntry
+conditionNumber Compare k = leb Named.gt k && leb k Named.ne
+conditionNumber Cross k = leb Named.crossAbove k && leb k Named.crossBelow
+conditionNumber Between k = eqb k Named.between
+conditionNumber Trend k = leb Named.rising k && leb k Named.falling
+conditionNumber All k = eqb k Named.all
+conditionNumber Any k = eqb k Named.any
+conditionNumber Not k = eqb k Named.not
+conditionNumber InPosition k = eqb k Named.inPosition
+conditionNumber BarsSince k = eqb k Named.barsSinceEntry
 
 conditionAsTold : ℕ → Kind
 conditionAsTold k = cond (eqb (kindOf k .sort) 2) (conditionRow (kindOf k .condition)) (kindOf k)
@@ -179,23 +179,23 @@ condition-kind k s = go (kindOf k .condition) (condition-row k low s) (condition
     go NoCondition r n = absurd (omega (arith, s, ap (λ (row : Kind). row .sort) r))
     go Compare r n = a-compare r
     go Cross r n = a-cross r
-    go Between r n = a-between (eqb-true k 24 n) r
+    go Between r n = a-between (eqb-true k Named.between n) r
     go Trend r n = a-trend r
-    go All r n = an-all (eqb-true k 27 n) r
-    go Any r n = an-any (eqb-true k 28 n) r
-    go Not r n = a-not (eqb-true k 29 n) r
-    go InPosition r n = a-position (eqb-true k 30 n) r
-    go BarsSince r n = a-count (eqb-true k 31 n) r
+    go All r n = an-all (eqb-true k Named.all n) r
+    go Any r n = an-any (eqb-true k Named.any n) r
+    go Not r n = a-not (eqb-true k Named.not n) r
+    go InPosition r n = a-position (eqb-true k Named.inPosition n) r
+    go BarsSince r n = a-count (eqb-true k Named.barsSinceEntry n) r
 
 -- "16..21 Gt, Lt, Ge, Le, Eq, Ne and 22, 23 CrossAbove, CrossBelow"
-pub compare-numbers : (k : ℕ) → kindOf k ≡ comparison → (16 ≤ k) × (k ≤ 21)
+pub compare-numbers : (k : ℕ) → kindOf k ≡ comparison → (Named.gt ≤ k) × (k ≤ Named.ne)
 unfolding conditionNumber
 compare-numbers k r =
-    let in-range = both (leb 16 k) (leb k 21) (rw r at (condition-number k (known k comparison r (omega arith)))) in
-    (leb-true 16 k (in-range .0), leb-true k 21 (in-range .1))
+    let in-range = both (leb Named.gt k) (leb k Named.ne) (rw r at (condition-number k (known k comparison r (omega arith)))) in
+    (leb-true Named.gt k (in-range .0), leb-true k Named.ne (in-range .1))
 
-pub cross-numbers : (k : ℕ) → kindOf k ≡ crossing → (22 ≤ k) × (k ≤ 23)
+pub cross-numbers : (k : ℕ) → kindOf k ≡ crossing → (Named.crossAbove ≤ k) × (k ≤ Named.crossBelow)
 unfolding conditionNumber
 cross-numbers k r =
-    let in-range = both (leb 22 k) (leb k 23) (rw r at (condition-number k (known k crossing r (omega arith)))) in
-    (leb-true 22 k (in-range .0), leb-true k 23 (in-range .1))
+    let in-range = both (leb Named.crossAbove k) (leb k Named.crossBelow) (rw r at (condition-number k (known k crossing r (omega arith)))) in
+    (leb-true Named.crossAbove k (in-range .0), leb-true k Named.crossBelow (in-range .1))

@@ -1,4 +1,4 @@
--- The kinds of nodes by name, and what each one takes. Definitions only.
+-- The table of kinds: what a node of each kind takes. `Named` has the kinds by name. Definitions only.
 use mathlib.Core.List.{List, [], _∷_}
 use Prim.Native.Nat.{ℕ}
 use lib.ListN.{getD}
@@ -8,85 +8,6 @@ use Rattle.table.specs.declared.kinds.ConditionClass.{ConditionClass}
 use Rattle.table.specs.declared.kinds.OperandClass.the-variants.{NoOperand, Const, Ref, Price, Prev, Arith}
 use Rattle.table.specs.declared.kinds.ConditionClass.the-variants.{NoCondition, Compare, Cross, Between, Trend, All, Any, Not}
 use Rattle.table.specs.declared.kinds.ConditionClass.the-variants.{InPosition, BarsSince}
-
--- ---- the kinds' numbers
-
--- "Kinds: 1 Const (constant, finite); 2 Ref (n = slot, below K); 3 Price (selector 0..6: open, high, low, close, volume,
--- hlc3, ohlc4); 4 Prev (n; one operand); 5..8 Add, Sub, Mul, Div, 16..21 Gt, Lt, Ge, Le, Eq, Ne and 22, 23 CrossAbove,
--- CrossBelow (two operands); 24 Between (value, low, high); 25, 26 Rising, Falling (n; one operand); 27, 28 All, Any (0 or
--- more conditions); 29 Not (one condition); 30 InPosition (selector 0 or 1); 31 BarsSinceEntry (selector 0..4: Gt, Lt, Ge,
--- Le, Eq; n = k)."
-abbrev pub aConst : ℕ
-aConst = 1
-
-abbrev pub aRef : ℕ
-aRef = 2
-
-abbrev pub aPrice : ℕ
-aPrice = 3
-
-abbrev pub aPrev : ℕ
-aPrev = 4
-
-abbrev pub add : ℕ
-add = 5
-
-abbrev pub sub : ℕ
-sub = 6
-
-abbrev pub mul : ℕ
-mul = 7
-
-abbrev pub div : ℕ
-div = 8
-
-abbrev pub gt : ℕ
-gt = 16
-
-abbrev pub lt : ℕ
-lt = 17
-
-abbrev pub ge : ℕ
-ge = 18
-
-abbrev pub le : ℕ
-le = 19
-
-abbrev pub eq : ℕ
-eq = 20
-
-abbrev pub ne : ℕ
-ne = 21
-
-abbrev pub crossAbove : ℕ
-crossAbove = 22
-
-abbrev pub crossBelow : ℕ
-crossBelow = 23
-
-abbrev pub aBetween : ℕ
-aBetween = 24
-
-abbrev pub rising : ℕ
-rising = 25
-
-abbrev pub falling : ℕ
-falling = 26
-
-abbrev pub all : ℕ
-all = 27
-
-abbrev pub any : ℕ
-any = 28
-
-abbrev pub aNot : ℕ
-aNot = 29
-
-abbrev pub inPosition : ℕ
-inPosition = 30
-
-abbrev pub barsSinceEntry : ℕ
-barsSinceEntry = 31
 
 -- ---- what a row says
 
@@ -172,6 +93,11 @@ aCondition class = row NoOperand class condition
 
 -- ---- the rows
 
+-- "Kinds: 1 Const (constant, finite); 2 Ref (n = slot, below K); 3 Price (selector 0..6: open, high, low, close, volume,
+-- hlc3, ohlc4); 4 Prev (n; one operand); 5..8 Add, Sub, Mul, Div, 16..21 Gt, Lt, Ge, Le, Eq, Ne and 22, 23 CrossAbove,
+-- CrossBelow (two operands); 24 Between (value, low, high); 25, 26 Rising, Falling (n; one operand); 27, 28 All, Any (0 or
+-- more conditions); 29 Not (one condition); 30 InPosition (selector 0 or 1); 31 BarsSinceEntry (selector 0..4: Gt, Lt, Ge,
+-- Le, Eq; n = k)."
 abbrev pub noKind : Kind
 noKind = row NoOperand NoCondition 0 leaf (selectorBelow 0) nothing
 

@@ -1,5 +1,6 @@
 -- ---- definitions, in document 01's order
 pub mod Bytes
+pub mod Named
 pub mod Kinds
 pub mod Header
 pub mod Nodes

@@ -9,6 +9,7 @@ use lib.ListN.{length, getD, drop}
 use lib.Seq.{getD-drop, drop-drop, drop-at}
 use Rattle.table.specs.declared.Node.{Node}
 use Rattle.table.specs.Bytes.{u16, u32, u64}
+use Rattle.table.specs.Named as Named
 use Rattle.table.specs.Kinds.{kinds, kindOf, asWritten}
 use Rattle.table.specs.Nodes.{nodeAt, childCount, childCountAt}
 use Rattle.table.specs.Forest.{Forest, firstTrees, otherTrees, over, trees}
@@ -22,10 +23,10 @@ abbrev nd : ℕ → ℕ → ℕ → ℕ → ℕ → ℕ → Node
 nd i kind selector children n constant = record { number = i; kind = kind; selector = selector; children = children; n = n; constant = constant }
 
 unfoldable pub plant : ℕ → Operand → Forest → Forest
-plant i (const x) rest = Forest.tree (nd i 1 0 0 0 x) Forest.none rest
-plant i (ref s) rest = Forest.tree (nd i 2 0 0 s 0) Forest.none rest
-plant i (price s) rest = Forest.tree (nd i 3 s 0 0 0) Forest.none rest
-plant i (prev a n) rest = Forest.tree (nd i 4 0 0 n 0) (plant (i + 1) a Forest.none) rest
+plant i (const x) rest = Forest.tree (nd i Named.const 0 0 0 x) Forest.none rest
+plant i (ref s) rest = Forest.tree (nd i Named.ref 0 0 s 0) Forest.none rest
+plant i (price s) rest = Forest.tree (nd i Named.price s 0 0 0) Forest.none rest
+plant i (prev a n) rest = Forest.tree (nd i Named.prev 0 0 n 0) (plant (i + 1) a Forest.none) rest
 plant i (sums k a b) rest = Forest.tree (nd i k 0 0 0 0) (plant (i + 1) a (plant (i + 1 + nodesIn a) b Forest.none)) rest
 
 unfoldable mutual
@@ -33,13 +34,13 @@ unfoldable mutual
   plantOf i (compare k a b) rest = Forest.tree (nd i k 0 0 0 0) (plant (i + 1) a (plant (i + 1 + nodesIn a) b Forest.none)) rest
   plantOf i (cross k a b) rest = Forest.tree (nd i k 0 0 0 0) (plant (i + 1) a (plant (i + 1 + nodesIn a) b Forest.none)) rest
   plantOf i (between x a b) rest =
-      Forest.tree (nd i 24 0 0 0 0) (plant (i + 1) x (plant (i + 1 + nodesIn x) a (plant (i + 1 + nodesIn x + nodesIn a) b Forest.none))) rest
+      Forest.tree (nd i Named.between 0 0 0 0) (plant (i + 1) x (plant (i + 1 + nodesIn x) a (plant (i + 1 + nodesIn x + nodesIn a) b Forest.none))) rest
   plantOf i (trend k a n) rest = Forest.tree (nd i k 0 0 n 0) (plant (i + 1) a Forest.none) rest
-  plantOf i (every cs) rest = Forest.tree (nd i 27 0 (manyOf cs) 0 0) (plantAll (i + 1) cs Forest.none) rest
-  plantOf i (any cs) rest = Forest.tree (nd i 28 0 (manyOf cs) 0 0) (plantAll (i + 1) cs Forest.none) rest
-  plantOf i (negated c) rest = Forest.tree (nd i 29 0 0 0 0) (plantOf (i + 1) c Forest.none) rest
-  plantOf i (inPosition w) rest = Forest.tree (nd i 30 (cond w 1 0) 0 0 0) Forest.none rest
-  plantOf i (barsSince s k) rest = Forest.tree (nd i 31 s 0 k 0) Forest.none rest
+  plantOf i (every cs) rest = Forest.tree (nd i Named.all 0 (manyOf cs) 0 0) (plantAll (i + 1) cs Forest.none) rest
+  plantOf i (any cs) rest = Forest.tree (nd i Named.any 0 (manyOf cs) 0 0) (plantAll (i + 1) cs Forest.none) rest
+  plantOf i (negated c) rest = Forest.tree (nd i Named.not 0 0 0 0) (plantOf (i + 1) c Forest.none) rest
+  plantOf i (inPosition w) rest = Forest.tree (nd i Named.inPosition (cond w 1 0) 0 0 0) Forest.none rest
+  plantOf i (barsSince s k) rest = Forest.tree (nd i Named.barsSinceEntry s 0 k 0) Forest.none rest
 
   pub plantAll : ℕ → Conditions → Forest → Forest
   plantAll i none rest = rest
