@@ -4,23 +4,35 @@ use mathlib.Core.Path.{_≡_, sym, ap, _∙_}
 use mathlib.Core.List.{List}
 use native.Mathlib.Omega.{arith}
 use lib.ListN.{getD}
-use borrow.Author.Tests.{lt-ltb}
+use borrow.Author.Tests.{lt-ltb, lt-leb}
 use Rattle.table.specs.declared.kinds.Kind.{Kind}
 use Rattle.table.specs.declared.Answer.the-variants.{Accepted}
-use Rattle.table.specs.Kinds.{kinds, kindOf, arithmetic, comparison, crossing, group}
-use Rattle.table.specs.Kinds as Kinds
-use Rattle.table.specs.KindLaws.{arithmetic-kind, comparison-kind, crossing-kind, trend-kind, group-kind, operand-kind, condition-kind}
+use Rattle.table.specs.Kinds.{kindOf}
+use Rattle.table.specs.KindLaws.{OperandKind, a-const, a-ref, a-price, a-prev, an-arith, operand-kind}
+use Rattle.table.specs.KindLaws.{ConditionKind, a-compare, a-cross, a-between, a-trend, an-all, an-any, a-not, a-position, a-count, condition-kind}
 use Rattle.table.specs.Header.{count, root}
-use Rattle.table.specs.Nodes.{nodeAt, sortAt, childCountAt, childSortAt}
+use Rattle.table.specs.Nodes.{nodeAt, sortAt, childCount, childCountAt, childSortAt}
 use Rattle.table.specs.Checked.{checked}
 use Rattle.table.specs.Ends.{endsAll, endsBeside, Link, Linked}
 use Rattle.table.specs.Reading as Reading
-use Rattle.table.specs.Reading.{treeOf}
+use Rattle.table.specs.Reading.{child, operandBy, operandFrom, conditionBy, conditionFrom, treeOf}
 use Rattle.table.specs.Accepted.{Whole, tree-whole, ends-of}
-use Rattle.table.specs.Walking.{Stands, node-there, sort-there, level-left, stands-one, stands-next, stands-below, conditions-none, conditions-more, one-child, two-operands, two-compared, two-crossing, three-operands, one-trend, as-written, one-condition, reads-const, reads-ref, reads-price, reads-prev, reads-arith, reads-compare, reads-cross, reads-between, reads-trend, reads-every, reads-any, reads-negated, reads-position, reads-bars, tree-reads, tree-stands}
-use Rattle.rules.specs.Shapes.{endIn, operandShape, conditionShape}
-use Rattle.rules.specs.ShapeLaws.{OperandKind, a-const, a-ref, a-price, a-prev, an-arith, operand-kinds, ConditionKind, a-compare, a-cross, a-between, a-trend, an-all, an-any, a-not, a-position, a-count, condition-kinds, shape-const, shape-ref, shape-price, shape-prev, shape-arith, shape-compare, shape-cross, shape-between, shape-trend, shape-all, shape-any, shape-not, shape-position, shape-count}
+use Rattle.table.specs.Walking.{Stands, node-there, sort-there, level-left, stands-one, stands-next, stands-below, child-first, child-next}
+use Rattle.table.specs.Walking.{condition-first, conditions-none, conditions-more, operand-is, condition-is, tree-reads, tree-stands}
+use Rattle.rules.specs.Shapes.{endIn, operandOf, conditionOf, operandShape, conditionShape}
 use Rattle.rules.specs.Flat.{growOperand, operandAt, growConditions, group as groupOf, growCondition, conditionAt}
+
+-- the shape of a node that is there
+operand-node : (t ends : List ℕ) (i : ℕ) → i < 256
+    → operandShape t ends i ≡ operandOf (kindOf (nodeAt t i .kind) .operand) (nodeAt t i) (i + 1) (endIn ends (i + 1))
+unfolding operandShape
+operand-node t ends i low = rw (lt-leb 256 i low)
+
+condition-node : (t ends : List ℕ) (i : ℕ) → i < 256
+    → conditionShape t ends i
+    ≡ conditionOf (kindOf (nodeAt t i .kind) .condition) (nodeAt t i) (i + 1) (endIn ends (i + 1)) (endIn ends (endIn ends (i + 1)))
+unfolding conditionShape
+condition-node t ends i low = rw (lt-leb 256 i low)
 
 module _ (t ends : List ℕ) (b e : ℕ) (whole : Whole t ends b e) where
   -- the word of a node of the tree, and where it leads
@@ -38,16 +50,19 @@ module _ (t ends : List ℕ) (b e : ℕ) (whole : Whole t ends b e) where
       let less : suc left - 1 ≡ left = omega arith in
       rw (many, sort, less) at (stands-below t e i 0 s (suc left) here ends b whole lo)
 
-  sort-below : (i : ℕ) (kind : Kind) → kindOf (nodeAt t i .kind) ≡ kind → childSortAt t i ≡ kind .below
-  unfolding childSortAt
-  sort-below i kind k = ap (λ (row : Kind). row .below) k
+  -- what the row of its kind says of a node's children
+  below-by : (i s left : ℕ) (row : Kind) → Stands t e i 1 s (suc left) → b ≤ i → kindOf (nodeAt t i .kind) ≡ row
+      → Stands t e (i + 1) (childCount (nodeAt t i) row) (row .below) left
+  unfolding childCountAt childSortAt
+  below-by i s left row here lo k =
+      children i s left here lo (childCount (nodeAt t i) row) (row .below) (ap (childCount (nodeAt t i)) k) (ap (λ (r : Kind). r .below) k)
 
   -- one level of an operand, where the level below is joined
   operand-level : (left : ℕ) → ((i : ℕ) → Stands t e i 1 1 left → b ≤ i → operandAt left t ends i ≡ Reading.operandAt t e i)
       → (i : ℕ) → Stands t e i 1 1 (suc left) → b ≤ i → OperandKind (nodeAt t i .kind)
       → growOperand (operandAt left t ends) (operandShape t ends i) ≡ Reading.operandAt t e i
-  unfolding growOperand kindOf kinds
-  operand-level left joined i here lo sort = go sort
+  unfolding growOperand operandOf operandFrom operandBy childCountAt childCount
+  operand-level left joined i here lo kind = rw (operand-node t ends i low, operand-is t e i there) (go kind)
     where
       there : i < e
       there = node-there t e i 0 1 (suc left) here
@@ -55,25 +70,29 @@ module _ (t ends : List ℕ) (b e : ℕ) (whole : Whole t ends b e) where
       low : i < 256
       low = omega (arith, whole .small, there)
 
-      go : OperandKind (nodeAt t i .kind) → growOperand (operandAt left t ends) (operandShape t ends i) ≡ Reading.operandAt t e i
-      go (a-const k) = rw (shape-const t ends i low k) (sym (reads-const t e i there k))
-      go (a-ref k) = rw (shape-ref t ends i low k) (sym (reads-ref t e i there k))
-      go (a-price k) = rw (shape-price t ends i low k) (sym (reads-price t e i there k))
-      go (a-prev k) =
-          let below : Stands t e (i + 1) 1 1 left = children i 1 left here lo 1 1 (one-child t e i there k) (sort-below i Kinds.previous (ap kindOf k)) in
-          rw (shape-prev t ends i low k, joined (i + 1) below (omega arith)) (sym (reads-prev t e i there k))
-      go (an-arith l h) =
-          let two : Stands t e (i + 1) 2 1 left = children i 1 left here lo 2 1 (two-operands t e i there l h) (sort-below i arithmetic (arithmetic-kind (nodeAt t i .kind) l h)) in
+      go : OperandKind (nodeAt t i .kind)
+          → growOperand (operandAt left t ends) (operandOf (kindOf (nodeAt t i .kind) .operand) (nodeAt t i) (i + 1) (endIn ends (i + 1)))
+          ≡ operandFrom (nodeAt t i) (Reading.operandsAt t e (i + 1) (childCountAt t i))
+      go (a-const k row) = rw row
+      go (a-ref k row) = rw row
+      go (a-price k row) = rw row
+      go (a-prev k row) =
+          let one : Stands t e (i + 1) 1 1 left = below-by i 1 left _ here lo row in
+          rw (row, joined (i + 1) one (omega arith), child-first t e (i + 1) 0)
+      go (an-arith row) =
+          let two : Stands t e (i + 1) 2 1 left = below-by i 1 left _ here lo row in
           let near : i + 1 < e = node-there t e (i + 1) 1 1 left two in
-          let link : Link t e (i + 1) (getD ends (i + 1) 0) = link-at (i + 1) (omega arith) near in
-          rw (shape-arith t ends i low l h, end-is (i + 1) near, joined (i + 1) (stands-one t e (i + 1) 1 1 left two) (omega arith), joined (getD ends (i + 1) 0) (stands-next t e (i + 1) 1 1 left two (getD ends (i + 1) 0) link) (omega (arith, link .beyond))) (sym (reads-arith t e i there (getD ends (i + 1) 0) link l h))
+          let v : ℕ = getD ends (i + 1) 0 in
+          let link : Link t e (i + 1) v = link-at (i + 1) (omega arith) near in
+          let first = joined (i + 1) (stands-one t e (i + 1) 1 1 left two) (omega arith) in
+          let second = joined v (stands-next t e (i + 1) 1 1 left two v link) (omega (arith, link .beyond)) in
+          rw (row, end-is (i + 1) near, first, second, child-first t e (i + 1) 1, child-next t e (i + 1) v link 1 0, child-first t e v 0)
 
   pub operand-joined : (left i : ℕ) → Stands t e i 1 1 left → b ≤ i → operandAt left t ends i ≡ Reading.operandAt t e i
   unfolding operandAt sortAt
   operand-joined zero i here lo = absurd (omega (arith, level-left t e i 0 1 0 here))
   operand-joined (suc left) i here lo =
-      let range = operand-kind (nodeAt t i .kind) (sort-there t e i 0 1 (suc left) here) in
-      operand-level left (operand-joined left) i here lo (operand-kinds (nodeAt t i .kind) (range .0) (range .1))
+      operand-level left (operand-joined left) i here lo (operand-kind (nodeAt t i .kind) (sort-there t e i 0 1 (suc left) here))
 
   -- conditions one after the other, where each is joined
   conditions-joined : (left : ℕ) → ((i : ℕ) → Stands t e i 1 2 left → b ≤ i → conditionAt left t ends i ≡ Reading.conditionAt t e i)
@@ -89,8 +108,8 @@ module _ (t ends : List ℕ) (b e : ℕ) (whole : Whole t ends b e) where
   condition-level : (left : ℕ) → ((i : ℕ) → Stands t e i 1 2 left → b ≤ i → conditionAt left t ends i ≡ Reading.conditionAt t e i)
       → (i : ℕ) → Stands t e i 1 2 (suc left) → b ≤ i → ConditionKind (nodeAt t i .kind)
       → growCondition (operandAt left t ends) (conditionAt left t ends) ends (conditionShape t ends i) ≡ Reading.conditionAt t e i
-  unfolding growCondition groupOf kindOf kinds
-  condition-level left joined i here lo sort = go sort
+  unfolding growCondition groupOf conditionOf conditionFrom conditionBy childCountAt childCount
+  condition-level left joined i here lo kind = rw (condition-node t ends i low, condition-is t e i there) (go kind)
     where
       there : i < e
       there = node-there t e i 0 2 (suc left) here
@@ -98,69 +117,81 @@ module _ (t ends : List ℕ) (b e : ℕ) (whole : Whole t ends b e) where
       low : i < 256
       low = omega (arith, whole .small, there)
 
-      kind : ℕ
-      kind = nodeAt t i .kind
+      -- where the first child ends
+      v : ℕ
+      v = getD ends (i + 1) 0
 
-      -- two operands, and what the flat reading makes of them
+      link-first : (k : ℕ) → Stands t e (i + 1) (suc k) 1 left → Link t e (i + 1) v
+      link-first k some = link-at (i + 1) (omega arith) (node-there t e (i + 1) k 1 left some)
+
+      end-first : (k : ℕ) → Stands t e (i + 1) (suc k) 1 left → endIn ends (i + 1) ≡ v
+      end-first k some = end-is (i + 1) (node-there t e (i + 1) k 1 left some)
+
+      -- the first operand, the operands after it, and the second of them
       first : (k : ℕ) → Stands t e (i + 1) (suc k) 1 left → operandAt left t ends (i + 1) ≡ Reading.operandAt t e (i + 1)
-      first k two = operand-joined left (i + 1) (stands-one t e (i + 1) k 1 left two) (omega arith)
+      first k some = operand-joined left (i + 1) (stands-one t e (i + 1) k 1 left some) (omega arith)
 
-      link-first : (k s : ℕ) → Stands t e (i + 1) (suc k) s left → Link t e (i + 1) (getD ends (i + 1) 0)
-      link-first k s two = link-at (i + 1) (omega arith) (node-there t e (i + 1) k s left two)
+      rest : (k : ℕ) → Stands t e (i + 1) (suc k) 1 left → Stands t e v k 1 left
+      rest k some = stands-next t e (i + 1) k 1 left some v (link-first k some)
 
-      end-first : (k s : ℕ) → Stands t e (i + 1) (suc k) s left → endIn ends (i + 1) ≡ getD ends (i + 1) 0
-      end-first k s two = end-is (i + 1) (node-there t e (i + 1) k s left two)
+      after : (k : ℕ) → Stands t e (i + 1) (suc k) 1 left → b ≤ v
+      after k some = omega (arith, link-first k some .beyond)
 
-      rest : (k : ℕ) → Stands t e (i + 1) (suc k) 1 left → Stands t e (getD ends (i + 1) 0) k 1 left
-      rest k two = stands-next t e (i + 1) k 1 left two (getD ends (i + 1) 0) (link-first k 1 two)
+      second : (k : ℕ) → Stands t e (i + 1) (suc (suc k)) 1 left → operandAt left t ends v ≡ Reading.operandAt t e v
+      second k some = operand-joined left v (stands-one t e v k 1 left (rest (suc k) some)) (after (suc k) some)
 
-      after : (k : ℕ) → Stands t e (i + 1) (suc k) 1 left → b ≤ getD ends (i + 1) 0
-      after k two = omega (arith, link-first k 1 two .beyond)
+      -- what the reading has for the second of k + 2 operands
+      second-read : (k : ℕ) → Stands t e (i + 1) (suc (suc k)) 1 left
+          → child (Reading.operandsAt t e (i + 1) (suc (suc k))) 1 ≡ Reading.operandAt t e v
+      second-read k some = child-next t e (i + 1) v (link-first (suc k) some) (suc k) 0 ∙ child-first t e v k
 
-      second : (k : ℕ) → Stands t e (i + 1) (suc (suc k)) 1 left → operandAt left t ends (getD ends (i + 1) 0) ≡ Reading.operandAt t e (getD ends (i + 1) 0)
-      second k two = operand-joined left (getD ends (i + 1) 0) (stands-one t e (getD ends (i + 1) 0) k 1 left (rest (suc k) two)) (after (suc k) two)
+      below : (row : Kind) → kindOf (nodeAt t i .kind) ≡ row → Stands t e (i + 1) (childCount (nodeAt t i) row) (row .below) left
+      below row = below-by i 2 left row here lo
 
-      many : (k c : ℕ) → childCountAt t i ≡ k → childSortAt t i ≡ c → Stands t e (i + 1) k c left
-      many = children i 2 left here lo
-
-      go : ConditionKind (nodeAt t i .kind) → growCondition (operandAt left t ends) (conditionAt left t ends) ends (conditionShape t ends i) ≡ Reading.conditionAt t e i
-      go (a-compare l h) =
-          let two : Stands t e (i + 1) 2 1 left = many 2 1 (two-compared t e i there l h) (sort-below i comparison (comparison-kind kind l h)) in
-          rw (shape-compare t ends i low l h, end-first 1 1 two, first 1 two, second 0 two) (sym (reads-compare t e i there (getD ends (i + 1) 0) (link-first 1 1 two) l h))
-      go (a-cross l h) =
-          let two : Stands t e (i + 1) 2 1 left = many 2 1 (two-crossing t e i there l h) (sort-below i crossing (crossing-kind kind l h)) in
-          rw (shape-cross t ends i low l h, end-first 1 1 two, first 1 two, second 0 two) (sym (reads-cross t e i there (getD ends (i + 1) 0) (link-first 1 1 two) l h))
-      go (a-between k) =
-          let three : Stands t e (i + 1) 3 1 left = many 3 1 (three-operands t e i there k) (sort-below i Kinds.between (ap kindOf k)) in
-          let v : ℕ = getD ends (i + 1) 0 in
+      go : ConditionKind (nodeAt t i .kind)
+          → growCondition (operandAt left t ends) (conditionAt left t ends) ends
+          (conditionOf (kindOf (nodeAt t i .kind) .condition) (nodeAt t i) (i + 1) (endIn ends (i + 1)) (endIn ends (endIn ends (i + 1))))
+          ≡ conditionFrom (nodeAt t i) (Reading.operandsAt t e (i + 1) (childCountAt t i)) (Reading.conditionsAt t e (i + 1) (childCountAt t i))
+      go (a-compare row) =
+          let two : Stands t e (i + 1) 2 1 left = below _ row in
+          rw (row, end-first 1 two, first 1 two, second 0 two, child-first t e (i + 1) 1, second-read 0 two)
+      go (a-cross row) =
+          let two : Stands t e (i + 1) 2 1 left = below _ row in
+          rw (row, end-first 1 two, first 1 two, second 0 two, child-first t e (i + 1) 1, second-read 0 two)
+      go (a-between k row) =
+          let three : Stands t e (i + 1) 3 1 left = below _ row in
           let two : Stands t e v 2 1 left = rest 2 three in
           let near : v < e = node-there t e v 1 1 left two in
-          let link : Link t e v (getD ends v 0) = link-at v (after 2 three) near in
-          let third : operandAt left t ends (getD ends v 0) ≡ Reading.operandAt t e (getD ends v 0) = operand-joined left (getD ends v 0) (stands-next t e v 1 1 left two (getD ends v 0) link) (omega (arith, link .beyond, after 2 three)) in
-          rw (shape-between t ends i low k, end-first 2 1 three, end-is v near, first 2 three, second 1 three, third) (sym (reads-between t e i there v (link-first 2 1 three) (getD ends v 0) link k))
-      go (a-trend l h) =
-          let one : Stands t e (i + 1) 1 1 left = many 1 1 (one-trend t e i there l h) (sort-below i Kinds.trend (trend-kind kind l h)) in
-          rw (shape-trend t ends i low l h, first 0 one) (sym (reads-trend t e i there l h))
-      go (an-all k) =
-          let group-here : kindOf kind ≡ group = group-kind kind (omega arith) (omega arith) in
-          let below : Stands t e (i + 1) (nodeAt t i .children) 2 left = many (nodeAt t i .children) 2 (as-written t e i there (omega arith) (omega arith)) (sort-below i group group-here) in
-          rw (shape-all t ends i low k, conditions-joined left joined (nodeAt t i .children) (i + 1) below (omega arith)) (sym (reads-every t e i there k))
-      go (an-any k) =
-          let group-here : kindOf kind ≡ group = group-kind kind (omega arith) (omega arith) in
-          let below : Stands t e (i + 1) (nodeAt t i .children) 2 left = many (nodeAt t i .children) 2 (as-written t e i there (omega arith) (omega arith)) (sort-below i group group-here) in
-          rw (shape-any t ends i low k, conditions-joined left joined (nodeAt t i .children) (i + 1) below (omega arith)) (sym (reads-any t e i there k))
-      go (a-not k) =
-          let one : Stands t e (i + 1) 1 2 left = many 1 2 (one-condition t e i there k) (sort-below i Kinds.negation (ap kindOf k)) in
-          rw (shape-not t ends i low k, joined (i + 1) one (omega arith)) (sym (reads-negated t e i there k))
-      go (a-position k) = rw (shape-position t ends i low k) (sym (reads-position t e i there k))
-      go (a-count k) = rw (shape-count t ends i low k) (sym (reads-bars t e i there k))
+          let u : ℕ = getD ends v 0 in
+          let link : Link t e v u = link-at v (after 2 three) near in
+          let third = operand-joined left u (stands-next t e v 1 1 left two u link) (omega (arith, link .beyond, after 2 three)) in
+          let third-read : child (Reading.operandsAt t e (i + 1) 3) 2 ≡ Reading.operandAt t e u =
+          child-next t e (i + 1) v (link-first 2 three) 2 1 ∙ child-next t e v u link 1 0 ∙ child-first t e u 0 in
+          rw (
+            row,
+            end-first 2 three,
+            end-is v near,
+            first 2 three,
+            second 1 three,
+            third,
+            child-first t e (i + 1) 2,
+            second-read 1 three,
+            third-read,
+          )
+      go (a-trend row) =
+          let one : Stands t e (i + 1) 1 1 left = below _ row in
+          rw (row, first 0 one, child-first t e (i + 1) 0)
+      go (an-all k row) = rw (row, conditions-joined left joined (nodeAt t i .children) (i + 1) (below _ row) (omega arith))
+      go (an-any k row) = rw (row, conditions-joined left joined (nodeAt t i .children) (i + 1) (below _ row) (omega arith))
+      go (a-not k row) = rw (row, joined (i + 1) (below _ row) (omega arith), condition-first t e (i + 1) 0)
+      go (a-position k row) = rw row
+      go (a-count k row) = rw row
 
   pub condition-joined : (left i : ℕ) → Stands t e i 1 2 left → b ≤ i → conditionAt left t ends i ≡ Reading.conditionAt t e i
   unfolding conditionAt sortAt
   condition-joined zero i here lo = absurd (omega (arith, level-left t e i 0 2 0 here))
   condition-joined (suc left) i here lo =
-      let range = condition-kind (nodeAt t i .kind) (sort-there t e i 0 2 (suc left) here) in
-      condition-level left (condition-joined left) i here lo (condition-kinds (nodeAt t i .kind) (range .0) (range .1))
+      condition-level left (condition-joined left) i here lo (condition-kind (nodeAt t i .kind) (sort-there t e i 0 2 (suc left) here))
 
 -- THE JOIN: tree x of an accepted table, read at its root with 32 levels of nesting and the array beside the answer.
 pub tree-joined : (t : List ℕ) (n r : ℕ) → checked t ≡ Accepted n r → (x : ℕ) → x < 4 → 0 < count t x

@@ -3,7 +3,6 @@ pub mod Meaning
 pub mod Shapes
 pub mod Flat
 pub mod Laws
-pub mod ShapeLaws
 pub mod Joined
 pub mod Answers
 pub mod AnswerLaws
