@@ -7,6 +7,7 @@ use native.Mathlib.Omega.{arith}
 use lib.ListN.{length, length-append}
 use lib.Dec.{eqb}
 use Rattle.table.specs.Trees.{Operand, const, ref, price, prev, arith as sums, Condition, Conditions, compare, cross, between, trend, every, any, negated, inPosition, barsSince, none, more, reach, reachOf, reachOfAll}
+use Rattle.table.specs.KindLaws.{arith-numbers, compare-numbers, cross-numbers}
 use Rattle.table.specs.Limits.{Within, WithinOf, WithinAll}
 use Rattle.steps.specs.declared.Op.{Op}
 use Rattle.steps.specs.declared.Op.the-variants.{Const, Ref, Price, Arith, Compare, Cross, Between, Answer, Turn, InPosition, BarsSinceEntry, JumpIf, Unknown}
@@ -69,8 +70,8 @@ module _ (K D : ℕ) where
   operand-good (price selector) n r l = one-good (Price selector n) (omega arith)
   operand-good (prev a m) n r l = operand-good a (n + m) (r .1) (omega arith)
   operand-good (sums kind a b) n r l =
-      good-append (code a n) (code b n ++ Arith kind ∷ []) (operand-good a n (r .2) (omega arith))
-      (then-good (code b n) (Arith kind) (operand-good b n (r .3) (omega arith)) (r .0, omega (arith, r .1)))
+      good-append (code a n) (code b n ++ Arith kind ∷ []) (operand-good a n (r .1) (omega arith))
+      (then-good (code b n) (Arith kind) (operand-good b n (r .2) (omega arith)) (omega (arith, arith-numbers kind (r .0))))
 
   trend-good : (kind : ℕ) → Good K D 0 (Compare (trendTest kind))
   unfolding Good
@@ -85,20 +86,20 @@ module _ (K D : ℕ) where
 
     condition-good : (c : Condition) → WithinOf K c → reachOf c < D → length (codeOf c) < 65536 → AllGood K D (codeOf c)
     condition-good (compare kind a b) r l f =
-        good-append (code a 0) (code b 0 ++ Compare kind ∷ []) (operand-good a 0 (r .2) (omega arith))
-        (then-good (code b 0) (Compare kind) (operand-good b 0 (r .3) (omega arith)) (r .0, omega (arith, r .1)))
+        good-append (code a 0) (code b 0 ++ Compare kind ∷ []) (operand-good a 0 (r .1) (omega arith))
+        (then-good (code b 0) (Compare kind) (operand-good b 0 (r .2) (omega arith)) (omega (arith, compare-numbers kind (r .0))))
     condition-good (cross kind a b) r l f =
-        good-append (code a 0) (code b 0 ++ (code a 1 ++ (code b 1 ++ Cross kind ∷ []))) (operand-good a 0 (r .2) (omega arith))
-        (good-append (code b 0) (code a 1 ++ (code b 1 ++ Cross kind ∷ [])) (operand-good b 0 (r .3) (omega arith))
-        (good-append (code a 1) (code b 1 ++ Cross kind ∷ []) (operand-good a 1 (r .2) (omega arith))
-        (then-good (code b 1) (Cross kind) (operand-good b 1 (r .3) (omega arith)) (r .0, omega (arith, r .1)))))
+        good-append (code a 0) (code b 0 ++ (code a 1 ++ (code b 1 ++ Cross kind ∷ []))) (operand-good a 0 (r .1) (omega arith))
+        (good-append (code b 0) (code a 1 ++ (code b 1 ++ Cross kind ∷ [])) (operand-good b 0 (r .2) (omega arith))
+        (good-append (code a 1) (code b 1 ++ Cross kind ∷ []) (operand-good a 1 (r .1) (omega arith))
+        (then-good (code b 1) (Cross kind) (operand-good b 1 (r .2) (omega arith)) (omega (arith, cross-numbers kind (r .0))))))
     condition-good (between x lo hi) r l f =
         good-append (code x 0) (code lo 0 ++ (code hi 0 ++ Between ∷ [])) (operand-good x 0 (r .0) (omega arith))
         (good-append (code lo 0) (code hi 0 ++ Between ∷ []) (operand-good lo 0 (r .1) (omega arith))
         (then-good (code hi 0) Between (operand-good hi 0 (r .2) (omega arith)) tt))
     condition-good (trend kind a n) r l f =
-        good-append (code a 0) (code a n ++ Compare (trendTest kind) ∷ []) (operand-good a 0 (r .3) (omega arith))
-        (then-good (code a n) (Compare (trendTest kind)) (operand-good a n (r .3) (omega arith)) (trend-good kind))
+        good-append (code a 0) (code a n ++ Compare (trendTest kind) ∷ []) (operand-good a 0 (r .2) (omega arith))
+        (then-good (code a n) (Compare (trendTest kind)) (operand-good a n (r .2) (omega arith)) (trend-good kind))
     condition-good (every cs) r l f = (tt, each-good false cs r l (omega arith))
     condition-good (any cs) r l f = (tt, each-good true cs r l (omega arith))
     condition-good (negated c) r l f = then-good (codeOf c) Turn (condition-good c r l (omega (arith, length-append (codeOf c) (Turn ∷ [])))) tt

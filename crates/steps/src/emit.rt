@@ -1,6 +1,7 @@
 // Steps written into a lent room: a step's bytes, the steps of an operand, and those of the tests on operands.
 use rules::shapes;
 use rules::shapes::OperandShape;
+use table::kinds;
 ghost use mathlib.Core.Path.{_≡_};
 ghost use mathlib.Core.List.{[], _∷_};
 ghost use Prim.Native.Nat.{_+_, _*_, _%_, _≤_};
@@ -81,19 +82,27 @@ pub(crate) fn emit_operand(
     ensures { λ r. ⌜ Wrote (now (room .entry)) at (code (operandAt left (now (t .entry)) (now (ends .entry)) i) back) (now (room .exit)) r ⌝ }
 {
     if left == 0 {
-        return put_step(room, at, 1, 0, 0, back, 0);
+        return put_step(room, at, kinds::CONST, 0, 0, back, 0);
     }
     match shapes::operand_shape(t, ends, i) {
-        OperandShape::Const(bits) => put_step(room, at, 1, 0, 0, back, bits),
-        OperandShape::Ref(slot) => put_step(room, at, 2, slot, 0, back, 0),
-        OperandShape::Price(selector) => put_step(room, at, 3, selector as u64, 0, back, 0),
+        OperandShape::Const(bits) => put_step(room, at, kinds::CONST, 0, 0, back, bits),
+        OperandShape::Ref(slot) => put_step(room, at, kinds::REF, slot, 0, back, 0),
+        OperandShape::Price(selector) => put_step(
+            room,
+            at,
+            kinds::PRICE,
+            selector as u64,
+            0,
+            back,
+            0,
+        ),
         OperandShape::Prev(a, n) => emit_operand(t, ends, a, back + n, left - 1, room, at),
         OperandShape::Arith(kind, a, b) => {
             let p = emit_operand(t, ends, a, back, left - 1, room, at);
             let q = emit_operand(t, ends, b, back, left - 1, room, p);
             put_step(room, q, kind, 0, 0, 0, 0)
         }
-        OperandShape::NoOperand => put_step(room, at, 1, 0, 0, back, 0),
+        OperandShape::NoOperand => put_step(room, at, kinds::CONST, 0, 0, back, 0),
     }
 }
 
@@ -157,14 +166,18 @@ pub(crate) fn emit_between(
     let p = emit_operand(t, ends, x, 0, left, room, at);
     let q = emit_operand(t, ends, low, 0, left, room, p);
     let r = emit_operand(t, ends, high, 0, left, room, q);
-    put_step(room, r, 24, 0, 0, 0, 0)
+    put_step(room, r, kinds::BETWEEN, 0, 0, 0, 0)
 }
 
-// The kind that Rising (25) or Falling compares by.
+// The kind that Rising or Falling compares by.
 fn trend_test(kind: u8) -> u8
     ensures { λ r. ⌜ r ≡ trendTest kind ⌝ }
 {
-    if kind == 25 { 16 } else { 17 }
+    if kind == kinds::RISING {
+        kinds::GT
+    } else {
+        kinds::LT
+    }
 }
 
 // Those of Rising and Falling: the operand now and n rows back.
