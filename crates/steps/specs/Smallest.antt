@@ -6,6 +6,7 @@ use mathlib.Core.List.{List, [], _∷_, _++_}
 use lib.Ieee as Ieee
 use Rattle.floats.specs.Floats.{zero, abs}
 use Rattle.rows.specs.History.{historyOf, lastRows}
+use Rattle.table.specs.Named as Named
 use Rattle.table.specs.Trees.{Operand, const, ref, price, prev, Condition, compare, cross, trend, reach, reachOf}
 use Rattle.rules.specs.declared.PositionState.{PositionState}
 use Rattle.rules.specs.declared.Entered.the-variants.{Never}
@@ -53,12 +54,12 @@ falling = row eleven ten ten ++ (row eleven ten eleven ++ (row eleven eleven ten
 -- Prev of a constant, which is kept from being folded.
 pub cases : List Pair
 cases =
-    both-ways rising (cross 22 (ref 0) (ref 1)) ∷
-    both-ways falling (compare 17 close (prev close 2)) ∷
-    both-ways falling (cross 23 (ref 0) (ref 1)) ∷
-    both-ways rising (trend 25 close 3) ∷
-    both-ways falling (trend 26 close 1) ∷
-    both-ways rising (compare 16 (prev (const eleven) 3) (const ten)) ∷ []
+    both-ways rising (cross Named.crossAbove (ref 0) (ref 1)) ∷
+    both-ways falling (compare Named.lt close (prev close 2)) ∷
+    both-ways falling (cross Named.crossBelow (ref 0) (ref 1)) ∷
+    both-ways rising (trend Named.rising close 3) ∷
+    both-ways falling (trend Named.falling close 1) ∷
+    both-ways rising (compare Named.gt (prev (const eleven) 3) (const ten)) ∷ []
 
 abbrev split : Pair
 split = record { enough = true; short = false }

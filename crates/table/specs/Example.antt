@@ -12,6 +12,7 @@ use Rattle.table.specs.Order.{fits, misfit, orElse, ofFour, misfits}
 use Rattle.table.specs.Forest.{firstTrees, otherTrees, over, trees, forestOf}
 use Rattle.table.specs.Nesting.{deeper, tooDeep}
 use Rattle.table.specs.Reach.{back, ownBack, weigh, forestReach, treeReach, farAt, tooFar, rowsNeeded}
+use Rattle.table.specs.Named as Named
 use Rattle.table.specs.Trees.{ref, price, prev, compare, cross}
 use Rattle.table.specs.Reading.{operandBy, operandFrom, operands, firstOf, conditionBy, conditionFrom, conditions, present, treeOf}
 use Rattle.table.specs.Writing.{absent, shortOf, ruleOf}
@@ -33,8 +34,8 @@ example-accepted = refl
 
 -- and it holds those two trees
 pub example-rule : ruleOf example ≡ record {
-  entry = cross 22 (ref 0) (ref 1);
-  exit = compare 17 (price 3) (prev (price 3) 2);
+  entry = cross Named.crossAbove (ref 0) (ref 1);
+  exit = compare Named.lt (price 3) (prev (price 3) 2);
   shortEntry = absent;
   shortExit = absent;
 }
