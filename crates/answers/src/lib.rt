@@ -1,5 +1,5 @@
 // The answer to a rule table as a line of text: `accepted nodes 7 rows 3` or `refused 6 at 2`, and a newline.
-use table::Answer;
+use table::answer::Answer;
 ghost use mathlib.Core.Path.{_≡_};
 ghost use Prim.Native.Nat.{_≤_};
 ghost use lib.ListN.{length};

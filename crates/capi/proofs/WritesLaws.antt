@@ -6,11 +6,11 @@ use mathlib.Core.List.{List, _++_}
 use native.Mathlib.Omega.{arith}
 use lib.Dec.{ltb}
 use lib.ListN.{length, drop, length-append}
-use Rattle.table.specs.declared.Answer.{Answer}
-use Rattle.table.specs.declared.Answer.the-variants.{Accepted, Refused}
+use Rattle.table.specs.declared.answer.Answer.{Answer}
+use Rattle.table.specs.declared.answer.Answer.the-variants.{Accepted, Refused}
 use Rattle.table.specs.Checked.{checked}
-use Rattle.rules.specs.declared.Tree.{Tree}
-use Rattle.rules.specs.Answers.{treeNumber}
+use Rattle.table.specs.declared.trees.Tree.{Tree}
+use Rattle.table.specs.Header.{treeNumber}
 use Rattle.steps.specs.declared.Translated.the-variants.{Writes, Refuses}
 use Rattle.steps.specs.Bytes.{bytesOf}
 use Rattle.steps.specs.Encoding.{steps-long}

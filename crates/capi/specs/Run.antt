@@ -7,8 +7,8 @@ use Rattle.floats.specs.Floats.{floatOf}
 use Rattle.rules.specs.declared.PositionState.{PositionState}
 use Rattle.rules.specs.declared.RuleAnswer.{RuleAnswer}
 use Rattle.rules.specs.declared.RuleAnswer.the-variants.{Says, Refuses}
-use Rattle.rules.specs.declared.Tree.{Tree}
-use Rattle.rules.specs.declared.Tree.the-variants.{Entry, Exit, ShortEntry, ShortExit}
+use Rattle.table.specs.declared.trees.Tree.{Tree}
+use Rattle.table.specs.declared.trees.Tree.the-variants.{Entry, Exit, ShortEntry, ShortExit}
 use Rattle.rules.specs.Answers.{answered}
 use Rattle.steps.specs.declared.RunAnswer.{RunAnswer}
 use Rattle.steps.specs.declared.RunAnswer.the-variants.{Runs, Refuses as RunRefuses}

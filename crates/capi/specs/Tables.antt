@@ -3,14 +3,14 @@ use Prim.Native.Nat.{ℕ, _*_}
 use mathlib.Core.Bool.{cond}
 use mathlib.Core.List.{List}
 use lib.Dec.{leb}
-use Rattle.table.specs.declared.Answer.{Answer}
-use Rattle.table.specs.declared.Answer.the-variants.{Accepted, Refused}
+use Rattle.table.specs.declared.answer.Answer.{Answer}
+use Rattle.table.specs.declared.answer.Answer.the-variants.{Accepted, Refused}
 use Rattle.table.specs.Checked.{checked}
-use Rattle.steps.specs.declared.DepthAnswer.{DepthAnswer}
-use Rattle.steps.specs.declared.DepthAnswer.the-variants.{Needs, Refuses as DepthRefuses}
+use Rattle.table.specs.declared.depth.DepthAnswer.{DepthAnswer}
+use Rattle.table.specs.declared.depth.DepthAnswer.the-variants.{Needs, Refuses as DepthRefuses}
 use Rattle.steps.specs.declared.Translated.{Translated}
 use Rattle.steps.specs.declared.Translated.the-variants.{Writes, Refuses}
-use Rattle.steps.specs.Depth.{depthAnswer}
+use Rattle.table.specs.Depth.{depthAnswer}
 use Rattle.steps.specs.Translating.{afterTable, translates, roomLeft}
 use Rattle.capi.specs.Words.{answerWord}
 use Rattle.capi.specs.Run.{trees, treeOf}

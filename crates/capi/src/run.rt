@@ -6,8 +6,8 @@ use crate::words::answer_word;
 use crate::words::bit_of;
 use rules::PositionState;
 use rules::RuleAnswer;
-use rules::Tree;
 use steps::RunAnswer;
+use table::trees::Tree;
 
 // How many trees a table has.
 pub const TREES: u64 = 4;

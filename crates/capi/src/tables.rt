@@ -4,9 +4,9 @@ ghost use Rattle.capi.specs.Tables.{checkCall, depthCall, translateCall}
 use crate::run::TREES;
 use crate::run::tree_of;
 use crate::words::answer_word;
-use steps::DepthAnswer;
 use steps::Translated;
-use table::Answer;
+use table::answer::Answer;
+use table::depth::DepthAnswer;
 
 // Bytes of a step.
 const STEP_BYTES: u64 = 16;
@@ -36,7 +36,7 @@ pub extern "C" fn ysh_check(table: &[u8], nodes: &mut u64, rows: &mut u64) -> u6
 pub extern "C" fn ysh_depth(table: &[u8], lookback: u64, rows: &mut u64, bytes: &mut u64) -> u64
     ensures { λ r. ⌜ depthCall (now (table .entry)) lookback (now (rows .entry)) (now (bytes .entry)) ≡ record { answer = r; rows = now (rows .exit); bytes = now (bytes .exit) } ⌝ }
 {
-    let depth = steps::depth::depth(table, lookback);
+    let depth = table::depth::depth(table, lookback);
     match depth {
         DepthAnswer::Refuses(number, place) => answer_word(number as u64, place as u64),
         DepthAnswer::Needs {

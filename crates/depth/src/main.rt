@@ -1,7 +1,7 @@
 // Reads a rule table from standard input and writes how much row room its rules need: the rows, the bytes of a row, and the bytes of
 // the window. A volatility target needs one row more than its lookback where that is more. The stored input is the worked example of
 // document 01.
-use steps::DepthAnswer;
+use table::depth::DepthAnswer;
 
 // "the first 4,113 bytes": one more than the longest table has, so that a longer input is refused.
 const MOST: usize = 4113;
@@ -14,7 +14,7 @@ fn tell(what: &[u8], n: u64) {
 fn main() {
     let mut input = [0u8; MOST];
     let n = io::read_full(0, &mut input);
-    let answer = steps::depth::depth(&input[..n], 0);
+    let answer = table::depth::depth(&input[..n], 0);
     match answer {
         DepthAnswer::Needs { rows, row, window } => {
             tell(b"rows ", rows);

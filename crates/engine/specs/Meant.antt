@@ -6,7 +6,7 @@ use mathlib.Core.List.{List}
 use native.Mathlib.Omega.{arith}
 use lib.Dec.{ltb}
 use Rattle.rows.specs.History.{History, historyOf, lastRows}
-use Rattle.table.specs.declared.Answer.the-variants.{Accepted}
+use Rattle.table.specs.declared.answer.Answer.the-variants.{Accepted}
 use Rattle.table.specs.Checked.{checked}
 use Rattle.table.specs.Header.{slots}
 use Rattle.table.specs.Reading.{treeOf}

@@ -6,8 +6,8 @@ mod setup;
 
 ghost use Prim.Native.Nat.{_<_};
 use judge::Settings;
-use rules::Tree;
 use steps::Translated;
+use table::trees::Tree;
 
 // The words of a run's first line.
 const HEAD_WORDS: usize = 25;

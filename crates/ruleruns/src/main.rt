@@ -5,7 +5,7 @@
 use rules::Entered;
 use rules::PositionState;
 use rules::RuleAnswer;
-use rules::Tree;
+use table::trees::Tree;
 use text::Spelt;
 ghost use Prim.Native.Nat.{_≤_};
 ghost use Rattle.io.specs.Counts.{Counts};

@@ -7,18 +7,18 @@ use native.Mathlib.Omega.{arith}
 use lib.Dec.{eqb}
 use borrow.Author.Tests.{eqb-true, eqb-false}
 use Rattle.rows.specs.History.{History}
-use Rattle.table.specs.declared.Answer.the-variants.{Accepted}
+use Rattle.table.specs.declared.answer.Answer.the-variants.{Accepted}
 use Rattle.table.specs.Header.{count, root}
 use Rattle.table.specs.Forest.{trees, forestOf}
 use Rattle.table.specs.Checked.{checked}
 use Rattle.table.specs.Ends.{endsBeside}
 use Rattle.table.specs.Reading.{firstOf, conditions, treeOf}
 use Rattle.rules.specs.declared.PositionState.{PositionState}
-use Rattle.rules.specs.declared.Tree.{Tree}
-use Rattle.rules.specs.declared.Tree.the-variants.{Entry, Exit, ShortEntry, ShortExit}
+use Rattle.table.specs.declared.trees.Tree.{Tree}
+use Rattle.table.specs.declared.trees.Tree.the-variants.{Entry, Exit, ShortEntry, ShortExit}
 use Rattle.rules.specs.Meaning.{holds, says}
 use Rattle.rules.specs.Flat.{conditionAt}
-use Rattle.rules.specs.Answers.{treeNumber}
+use Rattle.table.specs.Header.{treeNumber}
 use Rattle.rules.specs.Joined.{tree-joined}
 
 pub tree-of-four : (tree : Tree) → treeNumber tree < 4

@@ -6,7 +6,7 @@ use native.Mathlib.Omega.{arith}
 use lib.ListN.{getD}
 use borrow.Author.Tests.{lt-ltb, lt-leb}
 use Rattle.table.specs.declared.kinds.Kind.{Kind}
-use Rattle.table.specs.declared.Answer.the-variants.{Accepted}
+use Rattle.table.specs.declared.answer.Answer.the-variants.{Accepted}
 use Rattle.table.specs.Kinds.{kindOf}
 use Rattle.table.specs.KindLaws.{OperandKind, a-const, a-ref, a-price, a-prev, an-arith, operand-kind}
 use Rattle.table.specs.KindLaws.{ConditionKind, a-compare, a-cross, a-between, a-trend, an-all, an-any, a-not, a-position, a-count, condition-kind}

@@ -6,16 +6,17 @@ use native.Mathlib.Omega.{arith}
 use native.Mathlib.Nat.{le-div-iff-mul-le, mul-add-mod-self-right}
 use lib.ListN.{length, length-drop}
 use Rattle.rows.specs.History.{historyOf, wholeRows, lastRows}
-use Rattle.table.specs.declared.Answer.the-variants.{Accepted}
+use Rattle.table.specs.declared.answer.Answer.the-variants.{Accepted}
 use Rattle.table.specs.Trees.{reachOf}
 use Rattle.table.specs.Header.{slots}
 use Rattle.table.specs.Checked.{checked}
 use Rattle.table.specs.Reading.{treeOf}
 use Rattle.table.specs.ReachLaws.{rows-are}
 use Rattle.rules.specs.declared.PositionState.{PositionState}
-use Rattle.rules.specs.declared.Tree.{Tree}
-use Rattle.rules.specs.declared.Tree.the-variants.{Entry, Exit, ShortEntry, ShortExit}
-use Rattle.rules.specs.Answers.{treeNumber, judged, afterCheck, answered}
+use Rattle.table.specs.declared.trees.Tree.{Tree}
+use Rattle.table.specs.declared.trees.Tree.the-variants.{Entry, Exit, ShortEntry, ShortExit}
+use Rattle.table.specs.Header.{treeNumber}
+use Rattle.rules.specs.Answers.{judged, afterCheck, answered}
 use Rattle.rules.specs.Window.{window}
 
 -- The last rows are whole where all are.

@@ -1,10 +1,10 @@
 // How a node of the table is made up: its kind's data, and the nodes where its children begin. The class of its kind, in the
 // table of kinds, says which. The first child comes right after its node, each further one at the end of the one before. The
 // evaluator and the translator go by this.
-use table::Node;
 use table::kinds::ConditionClass;
 use table::kinds::OperandClass;
 use table::kinds::kind_of;
+use table::nodes::Node;
 use table::nodes::node_at;
 ghost use mathlib.Core.Path.{_≡_};
 ghost use Rattle.rules.specs.Shapes.{endIn, operandOf, conditionOf, operandShape, conditionShape};

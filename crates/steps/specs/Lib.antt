@@ -8,7 +8,6 @@ pub mod Translation
 pub mod Translating
 -- ---- beside a run
 pub mod Choice
-pub mod Depth
 -- ---- THE THEOREMS
 pub mod Fields
 pub mod Window

@@ -2,13 +2,13 @@
 use crate::Translated;
 use crate::decode;
 use crate::emit;
-use rules::Tree;
-use rules::answers;
 use rules::shapes;
 use rules::shapes::ConditionShape;
-use table::Answer;
+use table::answer::Answer;
 use table::header;
 use table::kinds;
+use table::trees::Tree;
+use table::trees::tree_number;
 ghost use mathlib.Core.Path.{_≡_};
 ghost use mathlib.Core.Bool.{cond, not};
 ghost use Prim.Native.Nat.{_≤_};
@@ -180,7 +180,7 @@ pub fn translate(t: &[u8], tree: Tree, room: &mut [u8]) -> Translated
     match answer {
         Answer::Refused { number, place } => Translated::Refuses(number, place),
         Answer::Accepted { nodes: _, rows: _ } => {
-            let x = answers::tree_number(tree);
+            let x = tree_number(tree);
             let count = header::count(t, x);
             if room.len() < NODE_ROOM * count {
                 return Translated::Refuses(10, FIRST_ROOM + x as usize);

@@ -8,9 +8,9 @@ use native.Mathlib.Omega.{arith}
 use native.Mathlib.Nat.{eq-zero-or-pos}
 use lib.ListN.{length, getD, replicate}
 use borrow.Author.Tests.{lt-ltb, le-ltb}
-use Rattle.table.specs.declared.Place.{Place}
-use Rattle.table.specs.declared.Place.the-variants.{Nowhere, At}
-use Rattle.table.specs.declared.Answer.the-variants.{Accepted, Refused}
+use Rattle.table.specs.declared.places.Place.{Place}
+use Rattle.table.specs.declared.places.Place.the-variants.{Nowhere, At}
+use Rattle.table.specs.declared.answer.Answer.the-variants.{Accepted, Refused}
 use Rattle.table.specs.Bytes.{u16}
 use Rattle.table.specs.Header.{count, root}
 use Rattle.table.specs.Nodes.{sortAt}

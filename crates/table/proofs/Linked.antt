@@ -7,7 +7,7 @@ use Prim.Native.Nat.{ℕ, _+_, _-_, _≤_, _<_}
 use native.Mathlib.Omega.{arith}
 use native.Mathlib.Nat.{eq-zero-or-pos, lt-of-le-of-lt}
 use lib.ListN.{getD}
-use Rattle.table.specs.declared.Place.the-variants.{Nowhere}
+use Rattle.table.specs.declared.places.Place.the-variants.{Nowhere}
 use Rattle.table.specs.Nodes.{sortAt}
 use Rattle.table.specs.Order.{fits, misfit}
 use Rattle.table.specs.Ends.{placeOr, endAt, Link, Linked}

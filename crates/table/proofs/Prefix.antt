@@ -9,7 +9,7 @@ use mathlib.Core.Logic.{⊎-elim, _≢_}
 use lib.ListN.{length, getD, set, replicate}
 use lib.Seq.{getD-set-same, getD-set-other}
 use borrow.Author.Tests.{eq-eqb, ne-eqb, lt-ltb, le-ltb}
-use Rattle.table.specs.declared.Place.the-variants.{Nowhere, At}
+use Rattle.table.specs.declared.places.Place.the-variants.{Nowhere, At}
 use Rattle.table.specs.Nodes.{sortAt, childCountAt, childSortAt}
 use Rattle.table.specs.Order.{fits, misfit}
 use Rattle.table.specs.Passes.{after, Ended, EndedFrom, Ordered}

@@ -8,9 +8,9 @@ use native.Mathlib.Omega.{arith}
 use native.Mathlib.Nat.{le-trans, eq-or-lt-of-le, eq-zero-or-pos}
 use lib.ListN.{length, getD, set}
 use lib.Seq.{getD-set-same, getD-set-other}
-use Rattle.table.specs.declared.Node.{Node}
-use Rattle.table.specs.declared.Place.{Place}
-use Rattle.table.specs.declared.Place.the-variants.{Nowhere, At}
+use Rattle.table.specs.declared.nodes.Node.{Node}
+use Rattle.table.specs.declared.places.Place.{Place}
+use Rattle.table.specs.declared.places.Place.the-variants.{Nowhere, At}
 use Rattle.table.specs.Nodes.{nodeAt, childCountAt}
 use Rattle.table.specs.Order.{orElse}
 use Rattle.table.specs.Forest.{Forest, none, tree, firstTrees, otherTrees, over, trees}

@@ -10,10 +10,10 @@ use mathlib.Core.Logic.{⊎-elim}
 use lib.ListN.{getD}
 use lib.Dec.{ltb, eqb}
 use borrow.Author.Tests.{eqb-true, ne-eqb, lt-ltb, le-ltb}
-use Rattle.table.specs.declared.Place.{Place}
-use Rattle.table.specs.declared.Place.the-variants.{Nowhere, At}
-use Rattle.table.specs.declared.Answer.{Answer}
-use Rattle.table.specs.declared.Answer.the-variants.{Accepted, Refused}
+use Rattle.table.specs.declared.places.Place.{Place}
+use Rattle.table.specs.declared.places.Place.the-variants.{Nowhere, At}
+use Rattle.table.specs.declared.answer.Answer.{Answer}
+use Rattle.table.specs.declared.answer.Answer.the-variants.{Accepted, Refused}
 use Rattle.table.specs.Header.{total, count, root, headerRefusal}
 use Rattle.table.specs.Nodes.{nodeRight, wrongNode}
 use Rattle.table.specs.Order.{fits, misfit, misfits, orElse, ofFour}

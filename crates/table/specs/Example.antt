@@ -3,7 +3,7 @@
 use mathlib.Core.Path.{_≡_, refl}
 use mathlib.Core.List.{List, [], _∷_, _++_}
 use Prim.Native.Nat.{ℕ}
-use Rattle.table.specs.declared.Answer.the-variants.{Accepted}
+use Rattle.table.specs.declared.answer.Answer.the-variants.{Accepted}
 use Rattle.table.specs.Bytes.{u16, u32, u64}
 use Rattle.table.specs.Kinds.{kinds, kindOf}
 use Rattle.table.specs.Header.{markRight, countsRight, headerRefusal, root}

@@ -3,7 +3,7 @@ use mathlib.Core.Path.{_≡_}
 use mathlib.Core.List.{List, [], _∷_, _++_}
 use Prim.Native.Nat.{ℕ, zero, suc, _+_}
 use lib.ListN.{replicate}
-use Rattle.table.specs.declared.Node.{Node}
+use Rattle.table.specs.declared.nodes.Node.{Node}
 use Rattle.table.specs.Kinds.{kindOf}
 use Rattle.table.specs.Header.{count, root}
 use Rattle.table.specs.Nodes.{nodeAt, childCount, childCountAt}

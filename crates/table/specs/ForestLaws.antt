@@ -6,7 +6,7 @@ use Prim.Native.Nat.{ℕ, zero, suc, _+_, _-_, _≤_, _<_}
 use native.Mathlib.Omega.{arith}
 use native.Mathlib.Nat.{zero-add, suc-add}
 use lib.ListN.{replicate}
-use Rattle.table.specs.declared.Node.{Node}
+use Rattle.table.specs.declared.nodes.Node.{Node}
 use Rattle.table.specs.Nodes.{nodeAt, childCountAt}
 use Rattle.table.specs.Forest.{Forest, none, tree, firstTrees, otherTrees, over, trees, size, flat, nodes, sorts, Sorted}
 

@@ -12,6 +12,7 @@ pub mod Checked
 pub mod Ends
 pub mod Trees
 pub mod Reading
+pub mod Depth
 pub mod Writing
 pub mod Limits
 -- ---- what the passes of the check promise each other

@@ -9,8 +9,8 @@ use native.Mathlib.Nat.{zero-add, suc-add, add-zero, sub-zero}
 use borrow.Author.Tests.{eqb-true}
 use lib.ListN.{length, replicate, length-append, length-replicate}
 use lib.Dec.{eqb}
-use Rattle.table.specs.declared.Place.{Place}
-use Rattle.table.specs.declared.Place.the-variants.{Nowhere, At}
+use Rattle.table.specs.declared.places.Place.{Place}
+use Rattle.table.specs.declared.places.Place.the-variants.{Nowhere, At}
 use Rattle.table.specs.Nodes.{sortAt, childCountAt, childSortAt}
 use Rattle.table.specs.Order.{fits}
 use Rattle.table.specs.Forest.{firstTrees, otherTrees, over, trees, size, sorts, Sorted}

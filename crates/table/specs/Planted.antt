@@ -9,8 +9,8 @@ use native.Mathlib.Omega.{arith}
 use lib.ListN.{replicate}
 use lib.Dec.{ltb, eqb}
 use borrow.Author.Tests.{ne-eqb, lt-ltb, le-ltb}
-use Rattle.table.specs.declared.Node.{Node}
-use Rattle.table.specs.declared.Place.the-variants.{Nowhere}
+use Rattle.table.specs.declared.nodes.Node.{Node}
+use Rattle.table.specs.declared.places.Place.the-variants.{Nowhere}
 use Rattle.table.specs.Kinds.{kinds, kindOf}
 use Rattle.table.specs.Nodes.{childCount, childrenRight, nRight, constantRight, ownRight}
 use Rattle.table.specs.Order.{orElse}

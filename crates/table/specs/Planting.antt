@@ -7,7 +7,7 @@ use Prim.Native.Nat.{ℕ, suc, _+_, _*_, _/_, _%_}
 use native.Mathlib.Omega.{arith}
 use lib.ListN.{length, getD, drop}
 use lib.Seq.{getD-drop, drop-drop, drop-at}
-use Rattle.table.specs.declared.Node.{Node}
+use Rattle.table.specs.declared.nodes.Node.{Node}
 use Rattle.table.specs.Bytes.{u16, u32, u64}
 use Rattle.table.specs.Named as Named
 use Rattle.table.specs.Kinds.{kinds, kindOf, asWritten}

@@ -5,7 +5,7 @@ use mathlib.Core.List.{List, [], _∷_}
 use Prim.Native.Nat.{ℕ, _-_}
 use lib.ListN.{getD}
 use lib.Dec.{eqb}
-use Rattle.table.specs.declared.Node.{Node}
+use Rattle.table.specs.declared.nodes.Node.{Node}
 use Rattle.table.specs.declared.kinds.OperandClass.{OperandClass}
 use Rattle.table.specs.declared.kinds.OperandClass.the-variants as AsOperand
 use Rattle.table.specs.declared.kinds.ConditionClass.{ConditionClass}

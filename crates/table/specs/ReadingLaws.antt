@@ -3,7 +3,7 @@
 use mathlib.Core.Path.{_≡_, refl, ap}
 use Prim.Native.Nat.{suc}
 use lib.ListN.{length, replicate}
-use Rattle.table.specs.declared.Node.{Node}
+use Rattle.table.specs.declared.nodes.Node.{Node}
 use Rattle.table.specs.Kinds.{kindOf}
 use Rattle.table.specs.Nodes.{childCount}
 use Rattle.table.specs.Forest.{Forest, sorts}

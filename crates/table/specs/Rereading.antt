@@ -9,9 +9,9 @@ use native.Mathlib.Nat.{add-zero, suc-add}
 use lib.ListN.{length, replicate, length-append}
 use lib.Dec.{ltb, eqb}
 use borrow.Author.Tests.{le-ltb, eq-eqb, ne-eqb}
-use Rattle.table.specs.declared.Place.{Place}
-use Rattle.table.specs.declared.Place.the-variants.{Nowhere}
-use Rattle.table.specs.declared.Answer.the-variants.{Accepted}
+use Rattle.table.specs.declared.places.Place.{Place}
+use Rattle.table.specs.declared.places.Place.the-variants.{Nowhere}
+use Rattle.table.specs.declared.answer.Answer.the-variants.{Accepted}
 use Rattle.table.specs.Bytes.{u16}
 use Rattle.table.specs.Kinds.{kindOf}
 use Rattle.table.specs.Header.{slots, version, total, count, root, markRight, countsRight, headerRefusal}

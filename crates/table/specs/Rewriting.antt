@@ -11,7 +11,7 @@ use native.Mathlib.Nat.{eq-zero-or-pos}
 use lib.ListN.{length, getD, length-append}
 use lib.Dec.{eqb}
 use borrow.Author.Tests.{ne-eqb, eqb-true}
-use Rattle.table.specs.declared.Answer.the-variants.{Accepted}
+use Rattle.table.specs.declared.answer.Answer.the-variants.{Accepted}
 use Rattle.table.specs.Bytes.{u16, u32, u64}
 use Rattle.table.specs.Header.{slots, total, count, root, markRight}
 use Rattle.table.specs.Nodes.{nodeAt, childCountAt, nodeRight}

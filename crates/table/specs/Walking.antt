@@ -8,9 +8,9 @@ use native.Mathlib.Omega.{arith}
 use native.Mathlib.Nat.{eq-zero-or-pos}
 use mathlib.Core.Logic.{⊎-elim}
 use lib.ListN.{replicate}
-use Rattle.table.specs.declared.Node.{Node}
-use Rattle.table.specs.declared.Answer.the-variants.{Accepted}
-use Rattle.table.specs.declared.Place.the-variants.{Nowhere}
+use Rattle.table.specs.declared.nodes.Node.{Node}
+use Rattle.table.specs.declared.answer.Answer.the-variants.{Accepted}
+use Rattle.table.specs.declared.places.Place.the-variants.{Nowhere}
 use Rattle.table.specs.Kinds.{kindOf}
 use Rattle.table.specs.Header.{count, root}
 use Rattle.table.specs.Nodes.{nodeAt, sortAt, childCount, childCountAt, childSortAt}

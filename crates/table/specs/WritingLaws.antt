@@ -9,7 +9,7 @@ use native.Mathlib.Omega.{arith}
 use lib.ListN.{length, replicate, length-replicate, length-append}
 use lib.Dec.{ltb, eqb}
 use borrow.Author.Tests.{ltb-true, eqb-true}
-use Rattle.table.specs.declared.Node.{Node}
+use Rattle.table.specs.declared.nodes.Node.{Node}
 use Rattle.table.specs.declared.kinds.Kind.{Kind}
 use Rattle.table.specs.Kinds.{kindOf, constant, reference, price, previous, arithmetic}
 use Rattle.table.specs.Kinds.{comparison, crossing, between, trend, allOf, anyOf, negation, position, barsSince}

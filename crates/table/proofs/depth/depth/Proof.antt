@@ -3,10 +3,10 @@ use borrow.Author.Needs.{needs}
 use native.Mathlib.Omega.{arith}
 use borrow.Author.Tests.{lt-ltb, le-ltb}
 use mathlib.Core.Path.{sym, _∙_}
-use Rattle.steps.specs.Depth.{depthAnswer}
-use Rattle.steps.proofs.Needed.{few, needed, product}
-use Rattle.steps.proofs.depth.depth.Statement.{statement}
-use Rattle.steps.proofs.depth.depth.Tie as tie
+use Rattle.table.specs.Depth.{depthAnswer}
+use Rattle.table.proofs.Needed.{few, needed, product}
+use Rattle.table.proofs.depth.depth.Statement.{statement}
+use Rattle.table.proofs.depth.depth.Tie as tie
 
 pub depth-spec : {M : Type 1} → statement M
 unfolding depthAnswer

@@ -1,9 +1,9 @@
 -- Eight bytes a word.
 use borrow.Author.Needs.{needs}
 use native.Mathlib.Omega.{arith}
-use Rattle.steps.specs.Depth.{rowBytes}
-use Rattle.steps.proofs.depth.row_bytes.Statement.{statement}
-use Rattle.steps.proofs.depth.row_bytes.Tie as tie
+use Rattle.table.specs.Depth.{rowBytes}
+use Rattle.table.proofs.depth.row_bytes.Statement.{statement}
+use Rattle.table.proofs.depth.row_bytes.Tie as tie
 
 pub row-bytes-spec : {M : Type 1} → statement M
 unfolding rowBytes

@@ -3,14 +3,14 @@ use Prim.Native.Nat.{ℕ, _+_, _*_, max}
 use mathlib.Core.Bool.{cond}
 use mathlib.Core.List.{List}
 use lib.Dec.{ltb}
-use Rattle.table.specs.declared.Answer.{Answer}
-use Rattle.table.specs.declared.Answer.the-variants.{Accepted, Refused}
+use Rattle.table.specs.declared.answer.Answer.{Answer}
+use Rattle.table.specs.declared.answer.Answer.the-variants.{Accepted, Refused}
 use Rattle.table.specs.Trees.{reachOf}
 use Rattle.table.specs.Reading.{treeOf}
 use Rattle.table.specs.Header.{slots}
 use Rattle.rows.specs.History.{width}
-use Rattle.steps.specs.declared.DepthAnswer.{DepthAnswer}
-use Rattle.steps.specs.declared.DepthAnswer.the-variants.{Needs, Refuses}
+use Rattle.table.specs.declared.depth.DepthAnswer.{DepthAnswer}
+use Rattle.table.specs.declared.depth.DepthAnswer.the-variants.{Needs, Refuses}
 
 -- "the greatest of the four reaches"
 unfoldable pub greatestReach : List ℕ → ℕ

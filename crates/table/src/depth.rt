@@ -1,10 +1,17 @@
 // How many rows a rule needs, so that the row room can be measured before anything runs.
-use crate::DepthAnswer;
-use table::Answer;
+use crate::answer::Answer;
+use crate::check;
+use crate::header::slots;
 ghost use mathlib.Core.Path.{_≡_};
 ghost use Prim.Native.Nat.{max, _<_};
 ghost use Rattle.table.specs.Checked.{checked};
-ghost use Rattle.steps.specs.Depth.{depthAnswer, rowBytes};
+ghost use Rattle.table.specs.Depth.{depthAnswer, rowBytes};
+
+// The answer to how many rows a rule needs: their number, the bytes of a row and of all of them, or the refusal's number and place.
+pub enum DepthAnswer {
+    Needs { rows: u64, row: u64, window: u64 },
+    Refuses(u8, usize),
+}
 
 // "lookback above 4,095" is refused.
 pub const MOST_LOOKBACK: u64 = 4095;
@@ -22,14 +29,14 @@ fn larger(a: u64, b: u64) -> u64
 fn row_bytes(t: &[u8]) -> u64
     ensures { λ r. ⌜ (r ≡ rowBytes (now (t .entry))) × (r < 4096) ⌝ }
 {
-    8 * (7 + table::header::slots(t) as u64)
+    8 * (7 + slots(t) as u64)
 }
 
 // The rows that the rules of a table need beside a volatility target's lookback, which is 0 where there is none.
 pub fn depth(t: &[u8], lookback: u64) -> DepthAnswer
     ensures { λ r. ⌜ r ≡ depthAnswer (checked (now (t .entry))) (now (t .entry)) lookback ⌝ }
 {
-    let checked = table::check(t);
+    let checked = check(t);
     let answer = checked.answer;
     match answer {
         Answer::Refused { number, place } => DepthAnswer::Refuses(number, place),

@@ -4,12 +4,12 @@ use mathlib.Core.Path.{_≡_}
 use mathlib.Core.List.{List}
 use native.Mathlib.Omega.{arith}
 use native.Mathlib.Nat.{mul-le-mul-right}
-use Rattle.table.specs.declared.Answer.the-variants.{Accepted}
+use Rattle.table.specs.declared.answer.Answer.the-variants.{Accepted}
 use Rattle.table.specs.Checked.{checked}
 use Rattle.table.specs.Reach.{rowsNeeded}
 use Rattle.table.specs.Accepted.{accepted, tree-reach}
 use Rattle.table.specs.ReachLaws.{rows-are}
-use Rattle.steps.specs.Depth.{greatestReach, depthOf}
+use Rattle.table.specs.Depth.{greatestReach, depthOf}
 
 pub needed : (t : List ℕ) (n r lookback : ℕ) → checked t ≡ Accepted n r → max r (lookback + 1) ≡ depthOf t lookback
 unfolding depthOf greatestReach
