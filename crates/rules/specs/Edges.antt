@@ -85,5 +85,7 @@ pub edges : starred ≡
     answer true ∷ answer false ∷
     answer false ∷ answer true ∷
     reaches 6 ∷ [])
-unfolding num0 num1 num5 num10 close gt crossAbove oneByZero row row10 row11 rowAbsent flat ask starred historyOf newest there value holds says priceOf slotOf divide combine both tested compared crossed reach reachOf abs Ieee.lt Ieee.le Ieee.add Ieee.sub Ieee.mul Ieee.div Ieee.neg Ieee.ofBits
+unfolding num0 num1 num5 num10 close gt crossAbove oneByZero row row10 row11 rowAbsent flat ask starred historyOf newest there value holds says
+    priceOf slotOf divide combine both tested compared crossed reach reachOf abs Ieee.lt Ieee.le Ieee.add Ieee.sub Ieee.mul Ieee.div Ieee.neg
+    Ieee.ofBits
 edges = refl

@@ -102,7 +102,12 @@ module _ (t ends : List ℕ) (b e : ℕ) (whole : Whole t ends b e) where
   conditions-joined left joined (suc n) j here lo =
       let there : j < e = node-there t e j n 2 left here in
       let link : Link t e j (getD ends j 0) = link-at j lo there in
-      rw (end-is j there, joined j (stands-one t e j n 2 left here) lo, conditions-joined left joined n (getD ends j 0) (stands-next t e j n 2 left here (getD ends j 0) link) (omega (arith, link .beyond))) (sym (conditions-more t e j (getD ends j 0) link there n))
+      rw (
+        end-is j there,
+        joined j (stands-one t e j n 2 left here) lo,
+        conditions-joined left joined n (getD ends j 0)
+            (stands-next t e j n 2 left here (getD ends j 0) link) (omega (arith, link .beyond)),
+      ) (sym (conditions-more t e j (getD ends j 0) link there n))
 
   -- one level of a condition, where the level below is joined
   condition-level : (left : ℕ) → ((i : ℕ) → Stands t e i 1 2 left → b ≤ i → conditionAt left t ends i ≡ Reading.conditionAt t e i)

@@ -26,7 +26,8 @@ window-whole K D ws =
     let s : ℕ = historyOf K ws .rows - D in
     let long : s * (7 + K) ≤ length ws = le-div-iff-mul-le {k = 7 + K} (omega arith) .0 (omega arith) in
     let split : length ws ≡ s * (7 + K) + (length ws - s * (7 + K)) = omega arith in
-    let same : length ws % (7 + K) ≡ (length ws - s * (7 + K)) % (7 + K) = ap (λ (n : ℕ). n % (7 + K)) split ∙ mul-add-mod-self-right s (7 + K) (length ws - s * (7 + K)) in
+    let same : length ws % (7 + K) ≡ (length ws - s * (7 + K)) % (7 + K) =
+    ap (λ (n : ℕ). n % (7 + K)) split ∙ mul-add-mod-self-right s (7 + K) (length ws - s * (7 + K)) in
     rw (length-drop, same)
 
 -- "The window is D = 1 + the greatest of the four reaches": it reaches further than each tree.

@@ -49,7 +49,9 @@ pub fn newest(rows: &[u64], slots: usize) -> usize
 
 // What a tree says at the newest bar, by the evaluator; an absent tree says no.
 fn eval_tree(t: &[u8], ends: &[usize; 256], tree: u8, rows: &[u64], s: PositionState) -> bool
-    ensures { λ r. ⌜ r ≡ cond (eqb (count (now (t .entry)) tree) 0) false (says (historyOf (slots (now (t .entry))) (now (rows .entry))) s (conditionAt 32 (now (t .entry)) (now (ends .entry)) (root (now (t .entry)) tree))) ⌝ }
+    ensures { λ r. ⌜ r ≡ cond (eqb (count (now (t .entry)) tree) 0) false
+        (says (historyOf (slots (now (t .entry))) (now (rows .entry))) s
+        (conditionAt 32 (now (t .entry)) (now (ends .entry)) (root (now (t .entry)) tree))) ⌝ }
 {
     if table::header::count(t, tree) == 0 {
         return false;

@@ -33,10 +33,24 @@ module _ (h : History) where
     where
       go : (t u : Bool) → ltb n (h .rows) ≡ t → ltb (h .rows - 1 - n) m ≡ u → ago h (prev a m) n ≡ ago h a (n + m)
       go false u e f = simp (e, le-ltb (n + m) (h .rows) (omega (arith, ltb-false n (h .rows) e)))
-      go true true e f = simp (e, f, lt-ltb (h .rows - 1 - n) (h .rows) (omega (arith, ltb-true n (h .rows) e)), le-ltb (n + m) (h .rows) (omega (arith, ltb-true (h .rows - 1 - n) m f)))
+      go true true e f =
+          simp (
+            e,
+            f,
+            lt-ltb (h .rows - 1 - n) (h .rows) (omega (arith, ltb-true n (h .rows) e)),
+            le-ltb (n + m) (h .rows)
+                (omega (arith, ltb-true (h .rows - 1 - n) m f)),
+          )
       go true false e f =
           let at : h .rows - 1 - n - m ≡ h .rows - 1 - (n + m) = omega arith in
-          simp (e, f, at, lt-ltb (h .rows - 1 - n) (h .rows) (omega (arith, ltb-true n (h .rows) e)), lt-ltb (n + m) (h .rows) (omega (arith, ltb-true n (h .rows) e, ltb-false (h .rows - 1 - n) m f)))
+          simp (
+            e,
+            f,
+            at,
+            lt-ltb (h .rows - 1 - n) (h .rows) (omega (arith, ltb-true n (h .rows) e)),
+            lt-ltb (n + m) (h .rows)
+                (omega (arith, ltb-true n (h .rows) e, ltb-false (h .rows - 1 - n) m f)),
+          )
 
   at-ago : (a : Operand) (n : ℕ) → n ≤ newest h → ago h a n ≡ value h a (newest h - n)
   unfolding ago newest
@@ -92,6 +106,7 @@ module _ (h : History) where
       ≡ not (ltb (newest h) n) && trended k (value h a (newest h)) (value h a (newest h - n))
   trend-ago k a n = go (ltb (newest h) n) refl
     where
-      go : (t : Bool) → ltb (newest h) n ≡ t → compared (trendTest k) (ago h a 0) (ago h a n) ≡ not t && trended k (value h a (newest h)) (value h a (newest h - n))
+      go : (t : Bool) → ltb (newest h) n ≡ t
+          → compared (trendTest k) (ago h a 0) (ago h a n) ≡ not t && trended k (value h a (newest h)) (value h a (newest h - n))
       go true e = rw (late-ago h a n (ltb-true (newest h) n e)) (compared-late (trendTest k) (ago h a 0))
       go false e = rw (now-ago h a, at-ago h a n (ltb-false (newest h) n e)) (trend-test k _ _)

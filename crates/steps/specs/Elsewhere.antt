@@ -16,7 +16,8 @@ use Rattle.rules.specs.Window.{Without, operand-same, without-first}
 use Rattle.steps.specs.declared.Formed.{Formed}
 use Rattle.steps.specs.declared.Formed.the-variants.{Well, Bad}
 use Rattle.steps.specs.declared.Op.{Op}
-use Rattle.steps.specs.declared.Op.the-variants.{Const, Ref, Price, Arith, Compare, Cross, Between, Answer, Turn, InPosition, BarsSinceEntry, JumpIf, Unknown}
+use Rattle.steps.specs.declared.Op.the-variants.{Const, Ref, Price, Arith, Compare, Cross, Between, Answer, Turn, InPosition, BarsSinceEntry, JumpIf}
+use Rattle.steps.specs.declared.Op.the-variants.{Unknown}
 use Rattle.steps.specs.Bytes.{opOf, stepAt, opsFrom, opsOf, stepsIn}
 use Rattle.steps.specs.Machine.{Values, ago, effect, does, after, run, places, start, ranOver}
 use Rattle.steps.specs.WellFormed.{plain, bounded, goodStep, formedFrom, formed}

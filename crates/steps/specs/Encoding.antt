@@ -11,7 +11,8 @@ use borrow.Author.Tests.{lt-ltb, le-ltb, ne-eqb}
 use Rattle.table.specs.Bytes.{u16, u32, u64}
 use Rattle.steps.specs.declared.Step.{Step}
 use Rattle.steps.specs.declared.Op.{Op}
-use Rattle.steps.specs.declared.Op.the-variants.{Const, Ref, Price, Arith, Compare, Cross, Between, Answer, Turn, InPosition, BarsSinceEntry, JumpIf, Unknown}
+use Rattle.steps.specs.declared.Op.the-variants.{Const, Ref, Price, Arith, Compare, Cross, Between, Answer, Turn, InPosition, BarsSinceEntry, JumpIf}
+use Rattle.steps.specs.declared.Op.the-variants.{Unknown}
 use Rattle.steps.specs.Bytes.{readStep, stepAt, stepsIn, operandOp, testOp, answerOp, opOf, opsFrom, opsOf, stepOf, stepBytes, bytesOf}
 
 -- ---- the fields that a step has room for
@@ -85,7 +86,14 @@ says-back (Const bits n) s = refl
 says-back (Ref k n) s = refl
 says-back (Price p n) s = refl
 says-back (Arith k) s =
-    simp (lt-ltb k 16 (omega arith), ne-eqb k 1 (λ e. omega arith), ne-eqb k 2 (λ e. omega arith), ne-eqb k 3 (λ e. omega arith), le-ltb k 5 (omega arith), lt-ltb k 9 (omega arith))
+    simp (
+      lt-ltb k 16 (omega arith),
+      ne-eqb k 1 (λ e. omega arith),
+      ne-eqb k 2 (λ e. omega arith),
+      ne-eqb k 3 (λ e. omega arith),
+      le-ltb k 5 (omega arith),
+      lt-ltb k 9 (omega arith),
+    )
 says-back (Compare k) s = simp (le-ltb k 16 (omega arith), lt-ltb k 27 (omega arith), lt-ltb k 22 (omega arith))
 says-back (Cross k) s = simp (le-ltb k 16 (omega arith), lt-ltb k 27 (omega arith), le-ltb k 22 (omega arith), lt-ltb k 24 (omega arith))
 says-back Between s = refl

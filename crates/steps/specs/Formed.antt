@@ -60,7 +60,8 @@ module _ (K D : ℕ) (few : K ≤ 64) (near : D ≤ 4096) where
   well-from pre p e (x ∷ xs) g =
       let sb : List ℕ = stepBytes (stepOf x) in
       let sixteen : length sb ≡ 16 = unfold stepBytes in refl in
-      let rest : formedFrom K D ((pre ++ sb) ++ bytesOf xs) (p + 1) (length xs) ≡ Well = well-from (pre ++ sb) (p + 1) (omega (arith, length-append pre sb)) xs (g .1) in
+      let rest : formedFrom K D ((pre ++ sb) ++ bytesOf xs) (p + 1) (length xs) ≡ Well =
+      well-from (pre ++ sb) (p + 1) (omega (arith, length-append pre sb)) xs (g .1) in
       rw (step-there pre p e x (bytesOf xs) (sayable (length xs) x (g .0)), good-step (length xs) x (g .0), ← append-assoc pre sb (bytesOf xs), rest)
 
   -- the bytes of good steps are a well-formed list

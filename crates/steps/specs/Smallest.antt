@@ -65,5 +65,6 @@ abbrev split : Pair
 split = record { enough = true; short = false }
 
 pub one-row-less : cases ≡ (split ∷ split ∷ split ∷ split ∷ split ∷ split ∷ [])
-unfolding row ten eleven flat over both-ways close rising falling cases historyOf lastRows newest there value priceOf slotOf both tested compared crossed reach reachOf keep ago effect does after run code codeOf abs Ieee.lt Ieee.le Ieee.sub Ieee.ofBits
+unfolding row ten eleven flat over both-ways close rising falling cases historyOf lastRows newest there value priceOf slotOf both tested compared
+    crossed reach reachOf keep ago effect does after run code codeOf abs Ieee.lt Ieee.le Ieee.sub Ieee.ofBits
 one-row-less = refl

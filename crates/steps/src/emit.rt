@@ -4,9 +4,9 @@ use rules::shapes::OperandShape;
 use table::kinds;
 ghost use mathlib.Core.Path.{_≡_};
 ghost use mathlib.Core.List.{[], _∷_};
-ghost use Prim.Native.Nat.{_+_, _*_, _%_, _≤_};
+ghost use Prim.Native.Nat.{ℕ, _+_, _*_, _%_, _≤_};
 ghost use lib.ListN.{length};
-ghost use Rattle.table.specs.Trees.{reach, reachOf, compare, cross, between, trend};
+ghost use Rattle.table.specs.Trees.{Operand, reach, reachOf, compare, cross, between, trend};
 ghost use Rattle.rules.specs.Flat.{operandAt};
 ghost use Rattle.steps.specs.Bytes.{four, fields, stepBytes, write, Fits, Wrote};
 ghost use Rattle.steps.specs.Translation.{code, trendTest, codeOf};
@@ -119,7 +119,8 @@ pub(crate) fn emit_compare(
 ) -> usize
     requires { ⌜ reachOf (compare kind (operandAt left (now t) (now ends) a) (operandAt left (now t) (now ends) b)) ≤ 4096 ⌝ }
     requires { ⌜ Fits (now room) at (codeOf (compare kind (operandAt left (now t) (now ends) a) (operandAt left (now t) (now ends) b))) ⌝ }
-    ensures { λ r. ⌜ Wrote (now (room .entry)) at (codeOf (compare kind (operandAt left (now (t .entry)) (now (ends .entry)) a) (operandAt left (now (t .entry)) (now (ends .entry)) b))) (now (room .exit)) r ⌝ }
+    ensures { λ r. ⌜ (let o : ℕ → Operand = operandAt left (now (t .entry)) (now (ends .entry)) in
+        Wrote (now (room .entry)) at (codeOf (compare kind (o a) (o b))) (now (room .exit)) r) ⌝ }
 {
     let p = emit_operand(t, ends, a, 0, left, room, at);
     let q = emit_operand(t, ends, b, 0, left, room, p);
@@ -139,7 +140,8 @@ pub(crate) fn emit_cross(
 ) -> usize
     requires { ⌜ reachOf (cross kind (operandAt left (now t) (now ends) a) (operandAt left (now t) (now ends) b)) ≤ 4096 ⌝ }
     requires { ⌜ Fits (now room) at (codeOf (cross kind (operandAt left (now t) (now ends) a) (operandAt left (now t) (now ends) b))) ⌝ }
-    ensures { λ r. ⌜ Wrote (now (room .entry)) at (codeOf (cross kind (operandAt left (now (t .entry)) (now (ends .entry)) a) (operandAt left (now (t .entry)) (now (ends .entry)) b))) (now (room .exit)) r ⌝ }
+    ensures { λ r. ⌜ (let o : ℕ → Operand = operandAt left (now (t .entry)) (now (ends .entry)) in
+        Wrote (now (room .entry)) at (codeOf (cross kind (o a) (o b))) (now (room .exit)) r) ⌝ }
 {
     let p = emit_operand(t, ends, a, 0, left, room, at);
     let q = emit_operand(t, ends, b, 0, left, room, p);
@@ -159,9 +161,10 @@ pub(crate) fn emit_between(
     room: &mut [u8],
     at: usize,
 ) -> usize
-    requires { ⌜ reachOf (between (operandAt left (now t) (now ends) x) (operandAt left (now t) (now ends) low) (operandAt left (now t) (now ends) high)) ≤ 4096 ⌝ }
-    requires { ⌜ Fits (now room) at (codeOf (between (operandAt left (now t) (now ends) x) (operandAt left (now t) (now ends) low) (operandAt left (now t) (now ends) high))) ⌝ }
-    ensures { λ r. ⌜ Wrote (now (room .entry)) at (codeOf (between (operandAt left (now (t .entry)) (now (ends .entry)) x) (operandAt left (now (t .entry)) (now (ends .entry)) low) (operandAt left (now (t .entry)) (now (ends .entry)) high))) (now (room .exit)) r ⌝ }
+    requires { ⌜ (let o : ℕ → Operand = operandAt left (now t) (now ends) in reachOf (between (o x) (o low) (o high)) ≤ 4096) ⌝ }
+    requires { ⌜ (let o : ℕ → Operand = operandAt left (now t) (now ends) in Fits (now room) at (codeOf (between (o x) (o low) (o high)))) ⌝ }
+    ensures { λ r. ⌜ (let o : ℕ → Operand = operandAt left (now (t .entry)) (now (ends .entry)) in
+        Wrote (now (room .entry)) at (codeOf (between (o x) (o low) (o high))) (now (room .exit)) r) ⌝ }
 {
     let p = emit_operand(t, ends, x, 0, left, room, at);
     let q = emit_operand(t, ends, low, 0, left, room, p);

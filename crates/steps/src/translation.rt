@@ -150,7 +150,9 @@ fn emit_each(
 ) -> usize
     requires { ⌜ reachOfAll (growConditions (conditionAt left (now t) (now ends)) (now ends) n j) ≤ 4096 ⌝ }
     requires { ⌜ Fits (now room) at (codeEach (not all) (growConditions (conditionAt left (now t) (now ends)) (now ends) n j)) ⌝ }
-    ensures { λ r. ⌜ Wrote (now (room .entry)) at (codeEach (not all) (growConditions (conditionAt left (now (t .entry)) (now (ends .entry))) (now (ends .entry)) n j)) (now (room .exit)) r ⌝ }
+    ensures { λ r. ⌜ Wrote (now (room .entry)) at
+        (codeEach (not all) (growConditions (conditionAt left (now (t .entry)) (now (ends .entry))) (now (ends .entry)) n j))
+        (now (room .exit)) r ⌝ }
 {
     if n == 0 {
         return at;

@@ -106,7 +106,8 @@ ends-are t ends a b c e k all l =
     (λ j h. end-at t ends a b c e k all l j ∙ ap (endOf t) (sym (zero-add j)) ∙ sym (from-at (endOf t) 256 0 j (omega (arith, all .long))))
 
 module _ (t : List ℕ) (x : Answer) (es ends : List ℕ) where
-  right : (x ≡ orHeader (headerRefusal t) (orRefused 6 (wrongNode t (u16 t 6) 0) (from7 t))) × (es ≡ endsFor (orHeader (headerRefusal t) (orRefused 6 (wrongNode t (u16 t 6) 0) (from7 t))) ends)
+  right : (x ≡ orHeader (headerRefusal t) (orRefused 6 (wrongNode t (u16 t 6) 0) (from7 t)))
+      × (es ≡ endsFor (orHeader (headerRefusal t) (orRefused 6 (wrongNode t (u16 t 6) 0) (from7 t))) ends)
       → (x ≡ checked t) × (es ≡ endsFor (checked t) ends)
   right h = rw (checked-is t) h
 

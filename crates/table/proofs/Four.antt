@@ -89,7 +89,9 @@ order-four t a b c e z w x y r k zero′ long o0 o1 o2 o3 =
 -- A tree that keeps rule 7 ends where its nodes do.
 root-end : (t ends : List ℕ) (b e : ℕ) → misfit t (e - b) b ≡ Nowhere → EndedFrom t ends b e → b < e → getD ends b 0 ≡ e
 unfolding EndedFrom
-root-end t ends b e h k l = ⊎-elim (λ z. omega (arith, known .within low)) (λ z. absurd (never-at (getD ends b 0) (sym (fits-soon t e _ (omega arith)) ∙ after))) (eq-zero-or-pos (e - getD ends b 0))
+root-end t ends b e h k l =
+    ⊎-elim (λ z. omega (arith, known .within low)) (λ z. absurd (never-at (getD ends b 0) (sym (fits-soon t e _ (omega arith)) ∙ after)))
+    (eq-zero-or-pos (e - getD ends b 0))
   where
     whole : fits t (e - b) b (2 ∷ []) ≡ Nowhere
     whole = fits-two t b e l ∙ h

@@ -16,7 +16,8 @@ use Rattle.table.specs.OrderLaws.{never-at, each, link-end}
 use Rattle.table.proofs.Prefix.{after-at, after-end, fits-two, fits-soon, fits-done}
 
 pub word-end : (t : List ℕ) (e j v : ℕ) (us : List ℕ) → fits t (e - j) j (sortAt t j ∷ us) ≡ Nowhere → Ended t e j v → v < 512
-word-end t e j v us g k = ⊎-elim (λ z. omega arith) (λ l. absurd (never-at (v - 512) (sym (after-at t e v us (omega arith)) ∙ sym (k .skips us) ∙ g))) (eq-zero-or-pos (v - 511))
+word-end t e j v us g k =
+    ⊎-elim (λ z. omega arith) (λ l. absurd (never-at (v - 512) (sym (after-at t e v us (omega arith)) ∙ sym (k .skips us) ∙ g))) (eq-zero-or-pos (v - 511))
 
 -- a word that is an end is the definition's
 pub end-word : (t : List ℕ) (e j v : ℕ) → j < e → v < 512 → Ended t e j v → v ≡ endAt t (e - j) j

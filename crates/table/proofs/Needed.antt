@@ -18,7 +18,14 @@ needed t n r lookback ok = omega (arith, rows-are t n r ok)
 pub few : (t : List ℕ) (n r : ℕ) → checked t ≡ Accepted n r → r ≤ 4096
 unfolding rowsNeeded
 few t n r ok =
-    omega (arith, accepted t n r ok .rows, tree-reach t n r ok 0 (omega arith), tree-reach t n r ok 1 (omega arith), tree-reach t n r ok 2 (omega arith), tree-reach t n r ok 3 (omega arith))
+    omega (
+      arith,
+      accepted t n r ok .rows,
+      tree-reach t n r ok 0 (omega arith),
+      tree-reach t n r ok 1 (omega arith),
+      tree-reach t n r ok 2 (omega arith),
+      tree-reach t n r ok 3 (omega arith),
+    )
 
 pub product : (a b : ℕ) → a ≤ 4096 → b < 4096 → a * b < 16777216
 product a b few narrow = omega (arith, mul-le-mul-right b few)

@@ -53,7 +53,8 @@ module _ (t words : List ℕ) (i e : ℕ) where
         pred : left ≡ suc (left - 1)
         pred = omega arith
 
-        split : weigh w (firstTrees left (trees t (e - j) j)) ≡ max (weigh w (firstTrees 1 (trees t (e - j) j))) (weigh w (firstTrees (left - 1) (trees t (e - v) v)))
+        split : weigh w (firstTrees left (trees t (e - j) j))
+            ≡ max (weigh w (firstTrees 1 (trees t (e - j) j))) (weigh w (firstTrees (left - 1) (trees t (e - v) v)))
         split = ap (λ (x : ℕ). weigh w (firstTrees x (trees t (e - j) j))) pred ∙ weigh-row w (left - 1) (trees t (e - j) j)
             ∙ ap (λ (f : Forest). max (weigh w (firstTrees 1 (trees t (e - j) j))) (weigh w (firstTrees (left - 1) f))) (k .next)
 
@@ -90,7 +91,8 @@ words-more t w e i i′ o m x words step hi room k own most sum j lo h = ⊎-eli
     new = omega (arith, own, most w (λ j′ lo′ hi′. k j′ (omega arith) hi′), sum, first-weight w t i′ e (omega arith))
 
     here : i′ ≡ j → getD (set words i′ x) j 0 ≡ min (weigh w (firstTrees 1 (trees t (e - j) j))) 4096
-    here same = subst (λ (y : ℕ). getD (set words i′ x) y 0 ≡ min (weigh w (firstTrees 1 (trees t (e - y) y))) 4096) same (getD-set-same words i′ x 0 room ∙ new)
+    here same =
+        subst (λ (y : ℕ). getD (set words i′ x) y 0 ≡ min (weigh w (firstTrees 1 (trees t (e - y) y))) 4096) same (getD-set-same words i′ x 0 room ∙ new)
 
     other : i′ < j → j ≢ i′
     other l = omega arith
@@ -181,7 +183,8 @@ module _ (t : List ℕ) (e j left : ℕ) where
     unfolding deeper trees over below above
     two = ap (λ (m : ℕ). deeper left (trees t m j)) (left-suc e j h) ∙
         ap (λ (l : ℕ). deeper l (trees t (suc (e - (j + 1))) j)) pred ∙
-        ap (λ (l : ℕ). orElse (deeper (left - 1) (firstTrees (childCountAt t j) (trees t (e - (j + 1)) (j + 1)))) (deeper l (otherTrees (childCountAt t j) (trees t (e - (j + 1)) (j + 1))))) (sym pred)
+        ap (λ (l : ℕ). orElse (deeper (left - 1) (firstTrees (childCountAt t j) (trees t (e - (j + 1)) (j + 1))))
+        (deeper l (otherTrees (childCountAt t j) (trees t (e - (j + 1)) (j + 1))))) (sym pred)
 
     pub deep-down : left < x → deeper left (trees t (e - j) j) ≡ deeper (left - 1) (trees t (e - (j + 1)) (j + 1))
     unfolding orElse below

@@ -211,7 +211,9 @@ module _ (t : List ℕ) (n r : ℕ) (ok : checked t ≡ Accepted n r) where
     unfolding Linked
     tree-whole = record {
       small = omega (arith, tree-ends, header-of .most);
-      links = λ j lo hi. subst (λ (v : ℕ). Link t (root t (suc x)) j v) (sym (ends-at t j (low j hi) ∙ end-in t x j l lo hi)) (link-end t (root t x) (root t (suc x)) j (2 ∷ []) (region (some-nodes j lo hi)) lo hi);
+      links =
+          λ j lo hi. subst (λ (v : ℕ). Link t (root t (suc x)) j v) (sym (ends-at t j (low j hi) ∙ end-in t x j l lo hi))
+          (link-end t (root t x) (root t (suc x)) j (2 ∷ []) (region (some-nodes j lo hi)) lo hi);
       sorted = λ i lo hi. sorted-at i lo hi;
       own = λ i lo hi. node-of i (omega (arith, tree-ends));
     }

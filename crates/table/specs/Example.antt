@@ -29,7 +29,9 @@ example =
     node 17 0 0 ++ node 3 3 0 ++ node 4 0 2 ++ node 3 3 0
 
 pub example-accepted : checked example ≡ Accepted 7 3
-unfolding example checked orHeader orRefused from7 from8 from9 tooFar rowsNeeded farAt tooDeep misfits ofFour treeReach forestOf root forestReach weigh ownBack back deeper orElse trees over otherTrees firstTrees u16 u32 u64 kindOf kinds nodeAt headerRefusal markRight countsRight wrongNode nodeRight ownRight nRight constantRight childrenRight sortAt childCountAt childCount childSortAt fits misfit
+unfolding example checked orHeader orRefused from7 from8 from9 tooFar rowsNeeded farAt tooDeep misfits ofFour treeReach forestOf root forestReach
+    weigh ownBack back deeper orElse trees over otherTrees firstTrees u16 u32 u64 kindOf kinds nodeAt headerRefusal markRight countsRight wrongNode
+    nodeRight ownRight nRight constantRight childrenRight sortAt childCountAt childCount childSortAt fits misfit
 example-accepted = refl
 
 -- and it holds those two trees
@@ -39,5 +41,6 @@ pub example-rule : ruleOf example ≡ record {
   shortEntry = absent;
   shortExit = absent;
 }
-unfolding example ruleOf shortOf present treeOf forestOf root trees over otherTrees firstTrees u16 u32 u64 kindOf kinds nodeAt childCountAt childCount conditions conditionBy conditionFrom operands operandBy operandFrom firstOf
+unfolding example ruleOf shortOf present treeOf forestOf root trees over otherTrees firstTrees u16 u32 u64 kindOf kinds nodeAt childCountAt childCount
+    conditions conditionBy conditionFrom operands operandBy operandFrom firstOf
 example-rule = refl

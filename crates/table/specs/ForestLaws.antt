@@ -43,7 +43,8 @@ pub flat-split : (k : ℕ) (f : Forest) → flat (firstTrees k f) ++ flat (other
 unfolding flat firstTrees otherTrees
 flat-split zero f = refl
 flat-split (suc k) none = refl
-flat-split (suc k) (tree n below rest) = ap (λ (l : List Node). n ∷ l) (append-assoc (flat below) _ _ ∙ ap (λ (l : List Node). flat below ++ l) (flat-split k rest))
+flat-split (suc k) (tree n below rest) =
+    ap (λ (l : List Node). n ∷ l) (append-assoc (flat below) _ _ ∙ ap (λ (l : List Node). flat below ++ l) (flat-split k rest))
 
 pub sorts-first : (k s : ℕ) (f : Forest) (ws : List ℕ) → sorts f ≡ replicate k s ++ ws
     → (sorts (firstTrees k f) ≡ replicate k s) × (sorts (otherTrees k f) ≡ ws)

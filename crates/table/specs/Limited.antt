@@ -27,7 +27,8 @@ use Rattle.table.specs.WithinLaws.{Small, SmallAll, first-in, all-fine}
 -- the fields of a node read from bytes fit
 small-node : (t : List ℕ) → Bytes t → (i : ℕ) → Small (nodeAt t i)
 unfolding nodeAt u64
-small-node t small i = record { number = u32-small t small (20 + 16 * i); constant = both (u32-small t small (24 + 16 * i)) (u32-small t small (24 + 16 * i + 4)) }
+small-node t small i =
+    record { number = u32-small t small (20 + 16 * i); constant = both (u32-small t small (24 + 16 * i)) (u32-small t small (24 + 16 * i + 4)) }
   where
     both : {a b : ℕ} → a < 4294967296 → b < 4294967296 → a + 4294967296 * b < 18446744073709551616
     both p q = omega arith

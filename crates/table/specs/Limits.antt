@@ -5,7 +5,8 @@ use Prim.Native.Nat.{ℕ, _+_, _≤_, _<_, max}
 use Rattle.floats.specs.Floats.{finite, floatOf}
 use Rattle.table.specs.Kinds as Kinds
 use Rattle.table.specs.Kinds.{kindOf, arithmetic, comparison, crossing}
-use Rattle.table.specs.Trees.{Operand, const, ref, price, prev, arith, Condition, Conditions, compare, cross, between, trend, every, any, negated, inPosition, barsSince, none, more, reachOf}
+use Rattle.table.specs.Trees.{Operand, const, ref, price, prev, arith, Condition, Conditions, compare, cross, between, trend, every, any, negated}
+use Rattle.table.specs.Trees.{inPosition, barsSince, none, more, reachOf}
 use Rattle.table.specs.Writing.{Short, absent, given, Rule, nodesOfRule}
 
 -- With k slots: "Const (constant, finite)", its bits a 64-bit word; "Ref (n = slot, below K)"; "Price (selector 0..6 ..)"; n

@@ -88,7 +88,9 @@ skip-node t m j v vs s k =
       m′ = k .m′;
       adds = ap suc (k .adds) ∙ sym (suc-add (k .d) (k .m′));
       jump = λ us. rw s (ap (λ (l : List ℕ). fits t m (j + 1) l) (sym (append-assoc kids vs us)) ∙ k .jump us ∙ ap (λ (x : ℕ). fits t (k .m′) x us) place);
-      rest = other-other (childCountAt t j) (length vs) (trees t m (j + 1)) ∙ ap (λ (n : ℕ). otherTrees n (trees t m (j + 1))) (sym long) ∙ k .rest ∙ ap (λ (x : ℕ). trees t (k .m′) x) place;
+      rest =
+          other-other (childCountAt t j) (length vs) (trees t m (j + 1)) ∙ ap (λ (n : ℕ). otherTrees n (trees t m (j + 1))) (sym long) ∙ k .rest ∙ ap
+          (λ (x : ℕ). trees t (k .m′) x) place;
       many = count;
     }
   where
@@ -101,8 +103,10 @@ skip-node t m j v vs s k =
     long : length (kids ++ vs) ≡ childCountAt t j + length vs
     long = length-append kids vs ∙ ap (λ (n : ℕ). n + length vs) (length-replicate (childCountAt t j) (childSortAt t j))
 
-    count : suc (k .d) ≡ 1 + size (firstTrees (childCountAt t j) (trees t m (j + 1))) + size (firstTrees (length vs) (otherTrees (childCountAt t j) (trees t m (j + 1))))
-    count = omega (arith, k .many ∙ ap (λ (n : ℕ). size (firstTrees n (trees t m (j + 1)))) long ∙ size-split (childCountAt t j) (length vs) (trees t m (j + 1)))
+    count : suc (k .d) ≡ 1 + size (firstTrees (childCountAt t j) (trees t m (j + 1)))
+        + size (firstTrees (length vs) (otherTrees (childCountAt t j) (trees t m (j + 1))))
+    count =
+        omega (arith, k .many ∙ ap (λ (n : ℕ). size (firstTrees n (trees t m (j + 1)))) long ∙ size-split (childCountAt t j) (length vs) (trees t m (j + 1)))
 
 skip-none : (t : List ℕ) (m j : ℕ) → Skip t m j []
 unfolding otherTrees firstTrees size

@@ -17,7 +17,8 @@ use Rattle.table.specs.Order.{orElse}
 use Rattle.table.specs.Forest.{Forest, sorts, Sorted}
 use Rattle.table.specs.Forest as Forest
 use Rattle.table.specs.Nesting.{deeper}
-use Rattle.table.specs.Trees.{Operand, const, ref, price, prev, arith as sums, Condition, Conditions, compare, cross, between, trend, every, any, negated, inPosition, barsSince, none, more}
+use Rattle.table.specs.Trees.{Operand, const, ref, price, prev, arith as sums, Condition, Conditions, compare, cross, between, trend, every, any, negated}
+use Rattle.table.specs.Trees.{inPosition, barsSince, none, more}
 use Rattle.table.specs.Reading.{operandBy, operandFrom, operands, firstOf, conditionBy, conditionFrom, conditions}
 use Rattle.table.specs.Writing.{manyOf, nodesIn, nodesOf}
 use Rattle.table.specs.Limits.{Within, WithinOf, WithinAll, levels, levelsOf, levelsOfAll}
@@ -164,7 +165,8 @@ shallow (prev a n) i l rest h =
     one-level _ l _ rest (omega arith) (shallow a (i + 1) (l - 1) Forest.none (omega arith) ∙ no-levels (l - 1))
 shallow (sums kind a b) i l rest h =
     one-level _ l _ rest (omega arith)
-    (shallow a (i + 1) (l - 1) (plant (i + 1 + nodesIn a) b Forest.none) (omega arith) ∙ shallow b (i + 1 + nodesIn a) (l - 1) Forest.none (omega arith) ∙ no-levels (l - 1))
+    (shallow a (i + 1) (l - 1) (plant (i + 1 + nodesIn a) b Forest.none) (omega arith) ∙ shallow b (i + 1 + nodesIn a) (l - 1) Forest.none (omega arith)
+    ∙ no-levels (l - 1))
 
 mutual
   unfolding plantOf levelsOf
@@ -172,10 +174,12 @@ mutual
   pub shallowOf : (c : Condition) (i l : ℕ) (rest : Forest) → levelsOf c ≤ l → deeper l (plantOf i c rest) ≡ deeper l rest
   shallowOf (compare kind a b) i l rest h =
       one-level _ l _ rest (omega arith)
-      (shallow a (i + 1) (l - 1) (plant (i + 1 + nodesIn a) b Forest.none) (omega arith) ∙ shallow b (i + 1 + nodesIn a) (l - 1) Forest.none (omega arith) ∙ no-levels (l - 1))
+      (shallow a (i + 1) (l - 1) (plant (i + 1 + nodesIn a) b Forest.none) (omega arith) ∙ shallow b (i + 1 + nodesIn a) (l - 1) Forest.none (omega arith)
+      ∙ no-levels (l - 1))
   shallowOf (cross kind a b) i l rest h =
       one-level _ l _ rest (omega arith)
-      (shallow a (i + 1) (l - 1) (plant (i + 1 + nodesIn a) b Forest.none) (omega arith) ∙ shallow b (i + 1 + nodesIn a) (l - 1) Forest.none (omega arith) ∙ no-levels (l - 1))
+      (shallow a (i + 1) (l - 1) (plant (i + 1 + nodesIn a) b Forest.none) (omega arith) ∙ shallow b (i + 1 + nodesIn a) (l - 1) Forest.none (omega arith)
+      ∙ no-levels (l - 1))
   shallowOf (between x a b) i l rest h =
       one-level _ l _ rest (omega arith)
       (shallow x (i + 1) (l - 1) (plant (i + 1 + nodesIn x) a (plant (i + 1 + nodesIn x + nodesIn a) b Forest.none)) (omega arith)

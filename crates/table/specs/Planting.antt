@@ -14,7 +14,8 @@ use Rattle.table.specs.Kinds.{kinds, kindOf, asWritten}
 use Rattle.table.specs.Nodes.{nodeAt, childCount, childCountAt}
 use Rattle.table.specs.Forest.{Forest, firstTrees, otherTrees, over, trees}
 use Rattle.table.specs.Forest as Forest
-use Rattle.table.specs.Trees.{Operand, const, ref, price, prev, arith as sums, Condition, Conditions, compare, cross, between, trend, every, any, negated, inPosition, barsSince, none, more}
+use Rattle.table.specs.Trees.{Operand, const, ref, price, prev, arith as sums, Condition, Conditions, compare, cross, between, trend, every, any, negated}
+use Rattle.table.specs.Trees.{inPosition, barsSince, none, more}
 use Rattle.table.specs.Limits.{Within, WithinOf, WithinAll}
 use Rattle.table.specs.WritingLaws.{operand-long, condition-long}
 use Rattle.table.specs.Writing.{le16, le32, le64, node, write, nodesIn, manyOf, writeOf, writeAll, nodesOf, nodesOfAll}
@@ -218,7 +219,8 @@ module _ (t : List ℕ) (k : ℕ) where
       let g1 = nodes-after t i _ _ _ _ _ _ g in
       let place : i + 1 + nodesIn a + nodesIn b ≡ i + (1 + nodesIn a + nodesIn b) = omega arith in
       grown t i _ (nodesIn a + (nodesIn b + m)) 2 _ (node-there t i _ _ _ _ _ _ g) (rw (w .0)) (omega arith)
-      ∙ ap (over _ 2) (grows a (i + 1) (nodesIn b + m) (write b ++ l) (w .1) g1 ∙ ap (plant (i + 1) a) (grows b (i + 1 + nodesIn a) m l (w .2) (past t (i + 1) (nodesIn a) (write a) (write b ++ l) (operand-long a) g1)))
+      ∙ ap (over _ 2) (grows a (i + 1) (nodesIn b + m) (write b ++ l) (w .1) g1 ∙ ap (plant (i + 1) a)
+      (grows b (i + 1 + nodesIn a) m l (w .2) (past t (i + 1) (nodesIn a) (write a) (write b ++ l) (operand-long a) g1)))
       ∙ over-two _ (i + 1) (i + 1 + nodesIn a) a b _
       ∙ ap (λ (j : ℕ). Forest.tree (nd i kind 0 0 0 0) (plant (i + 1) a (plant (i + 1 + nodesIn a) b Forest.none)) (trees t m j)) place
 
@@ -245,16 +247,19 @@ module _ (t : List ℕ) (k : ℕ) where
   -- two operands under a node of a known row
   pair-grows : (n : Node) (i m : ℕ) (a b : Operand) (l : List ℕ) → nodeAt t i ≡ n → childCount n (kindOf (n .kind)) ≡ 2 → Within k a → Within k b
       → From t (i + 1) (write a ++ (write b ++ l))
-      → trees t (1 + nodesIn a + nodesIn b + m) i ≡ Forest.tree n (plant (i + 1) a (plant (i + 1 + nodesIn a) b Forest.none)) (trees t m (i + (1 + nodesIn a + nodesIn b)))
+      → trees t (1 + nodesIn a + nodesIn b + m) i ≡ Forest.tree n (plant (i + 1) a (plant (i + 1 + nodesIn a) b Forest.none))
+      (trees t m (i + (1 + nodesIn a + nodesIn b)))
   pair-grows n i m a b l there count wa wb g =
       let place : i + 1 + nodesIn a + nodesIn b ≡ i + (1 + nodesIn a + nodesIn b) = omega arith in
       grown t i _ (nodesIn a + (nodesIn b + m)) 2 n there count (omega arith)
-      ∙ ap (over n 2) (grows t k a (i + 1) (nodesIn b + m) (write b ++ l) wa g ∙ ap (plant (i + 1) a) (grows t k b (i + 1 + nodesIn a) m l wb (past t (i + 1) (nodesIn a) (write a) (write b ++ l) (operand-long a) g)))
+      ∙ ap (over n 2) (grows t k a (i + 1) (nodesIn b + m) (write b ++ l) wa g ∙ ap (plant (i + 1) a)
+      (grows t k b (i + 1 + nodesIn a) m l wb (past t (i + 1) (nodesIn a) (write a) (write b ++ l) (operand-long a) g)))
       ∙ over-two n (i + 1) (i + 1 + nodesIn a) a b _
       ∙ ap (λ (j : ℕ). Forest.tree n (plant (i + 1) a (plant (i + 1 + nodesIn a) b Forest.none)) (trees t m j)) place
 
   -- All and Any, once what is below them has grown
-  group-grows : (kind : ℕ) (cs : Conditions) (i m : ℕ) (l : List ℕ) → kindOf kind .children ≡ asWritten → From t i (node kind 0 (manyOf cs) 0 0 ++ writeAll cs ++ l)
+  group-grows : (kind : ℕ) (cs : Conditions) (i m : ℕ) (l : List ℕ) → kindOf kind .children ≡ asWritten
+      → From t i (node kind 0 (manyOf cs) 0 0 ++ writeAll cs ++ l)
       → (From t (i + 1) (writeAll cs ++ l) → trees t (nodesOfAll cs + m) (i + 1) ≡ plantAll (i + 1) cs (trees t m (i + 1 + nodesOfAll cs)))
       → trees t (1 + nodesOfAll cs + m) i ≡ Forest.tree (nd i kind 0 (manyOf cs) 0 0) (plantAll (i + 1) cs Forest.none) (trees t m (i + (1 + nodesOfAll cs)))
   unfolding childCount
@@ -269,7 +274,8 @@ module _ (t : List ℕ) (k : ℕ) where
   mutual
     unfolding WithinOf writeOf nodesOf plantOf over firstTrees otherTrees kindOf kinds childCount
 
-    pub growsOf : (c : Condition) (i m : ℕ) (l : List ℕ) → WithinOf k c → From t i (writeOf c ++ l) → trees t (nodesOf c + m) i ≡ plantOf i c (trees t m (i + nodesOf c))
+    pub growsOf : (c : Condition) (i m : ℕ) (l : List ℕ) → WithinOf k c → From t i (writeOf c ++ l)
+        → trees t (nodesOf c + m) i ≡ plantOf i c (trees t m (i + nodesOf c))
     growsOf (compare kind a b) i m l w h =
         let g = h ∙ regroup-two (node kind 0 0 0 0) (write a) (write b) l in
         pair-grows _ i m a b l (node-there t i _ _ _ _ _ _ g) (rw (w .0)) (w .1) (w .2) (nodes-after t i _ _ _ _ _ _ g)
@@ -289,7 +295,8 @@ module _ (t : List ℕ) (k : ℕ) where
         (grows t k a (i + 1 + nodesIn x) (nodesIn b + m) (write b ++ l) (w .1) g2
         ∙ ap (plant (i + 1 + nodesIn x) a) (grows t k b (i + 1 + nodesIn x + nodesIn a) m l (w .2) g3)))
         ∙ over-three _ (i + 1) (i + 1 + nodesIn x) (i + 1 + nodesIn x + nodesIn a) x a b _
-        ∙ ap (λ (j : ℕ). Forest.tree (nd i 24 0 0 0 0) (plant (i + 1) x (plant (i + 1 + nodesIn x) a (plant (i + 1 + nodesIn x + nodesIn a) b Forest.none))) (trees t m j)) place
+        ∙ ap (λ (j : ℕ). Forest.tree (nd i 24 0 0 0 0) (plant (i + 1) x (plant (i + 1 + nodesIn x) a (plant (i + 1 + nodesIn x + nodesIn a) b Forest.none)))
+        (trees t m j)) place
     growsOf (trend kind a n) i m l w h =
         let g = h ∙ regroup (node kind 0 0 n 0) (write a) l in
         let place : i + 1 + nodesIn a ≡ i + (1 + nodesIn a) = omega arith in
@@ -309,7 +316,8 @@ module _ (t : List ℕ) (k : ℕ) where
     growsOf (inPosition want) i m l w h = grown t i _ m 0 _ (node-there t i _ _ _ _ _ l h) refl (omega arith)
     growsOf (barsSince s n) i m l w h = grown t i _ m 0 _ (node-there t i _ _ _ _ _ l h) refl (omega arith)
 
-    pub growsAll : (cs : Conditions) (i m : ℕ) (l : List ℕ) → WithinAll k cs → From t i (writeAll cs ++ l) → trees t (nodesOfAll cs + m) i ≡ plantAll i cs (trees t m (i + nodesOfAll cs))
+    pub growsAll : (cs : Conditions) (i m : ℕ) (l : List ℕ) → WithinAll k cs → From t i (writeAll cs ++ l)
+        → trees t (nodesOfAll cs + m) i ≡ plantAll i cs (trees t m (i + nodesOfAll cs))
     growsAll none i m l w h =
         let zero-m : 0 + m ≡ m = omega arith in
         let place : i ≡ i + 0 = omega arith in
@@ -320,4 +328,5 @@ module _ (t : List ℕ) (k : ℕ) where
         let place : i + nodesOf c + nodesOfAll cs ≡ i + (nodesOf c + nodesOfAll cs) = omega arith in
         ap (λ (x : ℕ). trees t x i) many
         ∙ growsOf c i (nodesOfAll cs + m) (writeAll cs ++ l) (w .0) g
-        ∙ ap (plantOf i c) (growsAll cs (i + nodesOf c) m l (w .1) (past t i (nodesOf c) (writeOf c) (writeAll cs ++ l) (condition-long c) g) ∙ ap (λ (j : ℕ). plantAll (i + nodesOf c) cs (trees t m j)) place)
+        ∙ ap (plantOf i c) (growsAll cs (i + nodesOf c) m l (w .1) (past t i (nodesOf c) (writeOf c) (writeAll cs ++ l) (condition-long c) g) ∙ ap
+        (λ (j : ℕ). plantAll (i + nodesOf c) cs (trees t m j)) place)

@@ -14,7 +14,8 @@ use Rattle.table.specs.Kinds.{kindOf}
 use Rattle.table.specs.Header.{count}
 use Rattle.table.specs.Forest.{Forest, firstTrees, trees, forestOf}
 use Rattle.table.specs.Forest as Forest
-use Rattle.table.specs.Trees.{Operand, const, ref, price, prev, arith, Condition, Conditions, compare, cross, between, trend, every, any, negated, inPosition, barsSince, none, more}
+use Rattle.table.specs.Trees.{Operand, const, ref, price, prev, arith, Condition, Conditions, compare, cross, between, trend, every, any, negated}
+use Rattle.table.specs.Trees.{inPosition, barsSince, none, more}
 
 -- operand k of those in a row
 abbrev pub child : List Operand → ℕ → Operand

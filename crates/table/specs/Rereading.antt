@@ -24,7 +24,8 @@ use Rattle.table.specs.Reach.{weigh, ownBack, forestReach, treeReach, fa
 use Rattle.table.specs.Checked.{checked}
 use Rattle.table.specs.Trees.{Condition, compare, cross, between, trend, every, any, negated, inPosition, barsSince, reachOf, reachOfAll}
 use Rattle.table.specs.Reading.{conditions, firstOf, present, treeOf}
-use Rattle.table.specs.Writing.{le16, writeOf, nodesOf, Short, absent, given, Rule, nodesOfShort, writeShort, nodesOfRule, headerOf, tableOf, shortOf, ruleOf}
+use Rattle.table.specs.Writing.{le16, writeOf, nodesOf, Short, absent, given, Rule, nodesOfShort, writeShort, nodesOfRule, headerOf, tableOf, shortOf}
+use Rattle.table.specs.Writing.{ruleOf}
 use Rattle.table.specs.Limits.{WithinOf, ShortWithin, RuleWithin}
 use Rattle.table.specs.ReachLaws.{all-reach}
 use Rattle.table.specs.WritingLaws.{Right, condition-long}
@@ -63,7 +64,8 @@ unfolding Sorted trees over fits sorts sortAt childCountAt childSortAt
 in-order t zero i s = refl
 in-order t (suc m) i s =
     let f = trees t m (i + 1) in
-    let same : eqb (kindOf (nodeAt t i .kind) .sort) (kindOf (nodeAt t i .kind) .sort) ≡ true = eq-eqb (kindOf (nodeAt t i .kind) .sort) (kindOf (nodeAt t i .kind) .sort) refl in
+    let same : eqb (kindOf (nodeAt t i .kind) .sort) (kindOf (nodeAt t i .kind) .sort) ≡ true =
+    eq-eqb (kindOf (nodeAt t i .kind) .sort) (kindOf (nodeAt t i .kind) .sort) refl in
     let row : replicate (childCountAt t i) (childSortAt t i) ++ sorts (otherTrees (childCountAt t i) f) ≡ sorts f =
     ap (λ (l : List ℕ). l ++ sorts (otherTrees (childCountAt t i) f)) (sym (s .0)) ∙ sorts-join (childCountAt t i) f in
     rw same (ap (fits t m (i + 1)) row ∙ in-order t m (i + 1) (sorted-join (childCountAt t i) f (s .1) (s .2)))
@@ -239,8 +241,10 @@ module _ (k : ℕ) (r : Rule) where
       let c = writeShort (r .shortEntry) in
       let d = writeShort (r .shortExit) in
       length-append (h ++ a ++ b ++ c) d
-      ∙ ap (λ (m : ℕ). m + length d) (length-append (h ++ a ++ b) c ∙ ap (λ (m : ℕ). m + length c) (length-append (h ++ a) b ∙ ap (λ (m : ℕ). m + length b) (length-append h a)))
-      ∙ sizes (length h) (length a) (length b) (length c) (length d) _ _ _ _ header-long (condition-long (r .entry)) (condition-long (r .exit)) (short-long (r .shortEntry)) (short-long (r .shortExit))
+      ∙ ap (λ (m : ℕ). m + length d) (length-append (h ++ a ++ b) c ∙ ap (λ (m : ℕ). m + length c)
+      (length-append (h ++ a) b ∙ ap (λ (m : ℕ). m + length b) (length-append h a)))
+      ∙ sizes (length h) (length a) (length b) (length c) (length d) _ _ _ _ header-long (condition-long (r .entry)) (condition-long (r .exit))
+      (short-long (r .shortEntry)) (short-long (r .shortExit))
     where
       sizes : (h a b c d x y z w : ℕ) → h ≡ 16 → a ≡ 16 * x → b ≡ 16 * y → c ≡ 16 * z → d ≡ 16 * w → h + a + b + c + d ≡ 16 + 16 * (x + y + z + w)
       sizes h a b c d x y z w e1 e2 e3 e4 e5 = omega arith
@@ -266,7 +270,8 @@ module _ (k : ℕ) (r : Rule) where
         let most : ltb 256 (nodesOfRule r) ≡ false = le-ltb 256 (nodesOfRule r) (w .few-nodes) in
         let some0 : ltb (nodesOf (r .entry)) 1 ≡ false = le-ltb (nodesOf (r .entry)) 1 (positive (nodesOf (r .entry)) (some-nodes (r .entry))) in
         let some1 : ltb (nodesOf (r .exit)) 1 ≡ false = le-ltb (nodesOf (r .exit)) 1 (positive (nodesOf (r .exit)) (some-nodes (r .exit))) in
-        let sums : eqb (nodesOf (r .entry) + nodesOf (r .exit) + nodesOfShort (r .shortEntry) + nodesOfShort (r .shortExit)) (nodesOfRule r) ≡ true = eq-eqb _ _ sums-are in
+        let sums : eqb (nodesOf (r .entry) + nodesOf (r .exit) + nodesOfShort (r .shortEntry) + nodesOfShort (r .shortExit)) (nodesOfRule r) ≡ true =
+        eq-eqb _ _ sums-are in
         simp (slots-are, total-is, count-0, count-1, count-2, count-3, k64, two, most, some0, some1, sums)
 
     header-is : headerRefusal t ≡ 0
@@ -288,7 +293,9 @@ module _ (k : ℕ) (r : Rule) where
     from-2 = past t _ (nodesOf (r .exit)) (writeOf (r .exit)) _ (condition-long (r .exit)) from-1
 
     from-3 : From t (0 + nodesOf (r .entry) + nodesOf (r .exit) + nodesOfShort (r .shortEntry)) (writeShort (r .shortExit) ++ [])
-    from-3 = past t _ (nodesOfShort (r .shortEntry)) (writeShort (r .shortEntry)) _ (short-long (r .shortEntry)) from-2 ∙ sym (append-nil (writeShort (r .shortExit)))
+    from-3 =
+        past t _ (nodesOfShort (r .shortEntry)) (writeShort (r .shortEntry)) _ (short-long (r .shortEntry)) from-2 ∙ sym
+        (append-nil (writeShort (r .shortExit)))
 
     root-1 : 0 + nodesOf (r .entry) ≡ root t 1
     unfolding root
@@ -349,21 +356,30 @@ module _ (k : ℕ) (r : Rule) where
     unfolding rowsNeeded reachOfShort
     rows-of = rw (held-reach t k 0 _ held-0, held-reach t k 1 _ held-1, held-reach t k 2 _ held-2, held-reach t k 3 _ held-3)
 
-    pub is-accepted : checked t ≡ Accepted (nodesOfRule r) (max (max (reachOf (r .entry)) (reachOf (r .exit))) (max (reachOfShort (r .shortEntry)) (reachOfShort (r .shortExit))) + 1)
+    pub is-accepted : checked t
+        ≡ Accepted (nodesOfRule r)
+        (max (max (reachOf (r .entry)) (reachOf (r .exit))) (max (reachOfShort (r .shortEntry)) (reachOfShort (r .shortExit))) + 1)
     unfolding misfits tooDeep tooFar
     is-accepted = all-kept t _ _ (record {
       header = header-is;
       own = all-right;
-      order = none-of-four (λ x. misfit t (count t x) (root t x)) (held-fits t k 0 _ held-0) (held-fits t k 1 _ held-1) (held-fits t k 2 _ held-2) (held-fits t k 3 _ held-3);
-      nesting = none-of-four (λ x. deeper 32 (forestOf t x)) (held-deep t k 0 _ held-0) (held-deep t k 1 _ held-1) (held-deep t k 2 _ held-2) (held-deep t k 3 _ held-3);
-      reaches = none-of-four (λ x. farAt (treeReach t x) (root t x)) (held-near t k 0 _ held-0) (held-near t k 1 _ held-1) (held-near t k 2 _ held-2) (held-near t k 3 _ held-3);
+      order =
+          none-of-four (λ x. misfit t (count t x) (root t x)) (held-fits t k 0 _ held-0) (held-fits t k 1 _ held-1) (held-fits t k 2 _ held-2)
+          (held-fits t k 3 _ held-3);
+      nesting =
+          none-of-four (λ x. deeper 32 (forestOf t x)) (held-deep t k 0 _ held-0) (held-deep t k 1 _ held-1) (held-deep t k 2 _ held-2)
+          (held-deep t k 3 _ held-3);
+      reaches =
+          none-of-four (λ x. farAt (treeReach t x) (root t x)) (held-near t k 0 _ held-0) (held-near t k 1 _ held-1) (held-near t k 2 _ held-2)
+          (held-near t k 3 _ held-3);
       nodes = sym total-is;
       rows = sym rows-of;
     })
 
     given-tree : (x : ℕ) (c : Condition) → Held t k x (given c) → treeOf t x ≡ c
     unfolding treeOf plantShort firstOf ShortWithin
-    given-tree x c h = ap (λ (f : Forest). firstOf (conditions f)) (planted t k x (given c) h) ∙ ap firstOf (readsOf k c (root t x) Forest.none (h .within .fields))
+    given-tree x c h =
+        ap (λ (f : Forest). firstOf (conditions f)) (planted t k x (given c) h) ∙ ap firstOf (readsOf k c (root t x) Forest.none (h .within .fields))
 
     pub reads-back : ruleOf t ≡ r
     unfolding ruleOf

@@ -21,7 +21,8 @@ use Rattle.table.specs.Checked.{checked}
 use Rattle.table.specs.Ends.{from}
 use Rattle.table.specs.Trees.{arith as sums, none}
 use Rattle.table.specs.Reading.{conditions, treeOf, present}
-use Rattle.table.specs.Writing.{le16, le32, le64, node, nodeBytes, nodesBytes, writeOf, nodesOf, Short, absent, given, nodesOfShort, writeShort, nodesOfRule, headerOf, tableOf, shortOf, ruleOf}
+use Rattle.table.specs.Writing.{le16, le32, le64, node, nodeBytes, nodesBytes, writeOf, nodesOf, Short, absent, given, nodesOfShort, writeShort}
+use Rattle.table.specs.Writing.{nodesOfRule, headerOf, tableOf, shortOf, ruleOf}
 use Rattle.table.specs.EndsLaws.{from-two, from-all}
 use Rattle.table.specs.HeaderLaws.{both, HeaderRight}
 use Rattle.table.specs.ForestLaws.{flat-trees}
@@ -175,7 +176,15 @@ module _ (t : List ℕ) (small : Bytes t) (n r : ℕ) (ok : checked t ≡ Accept
 
   pub rule-nodes : nodesOfRule (ruleOf t) ≡ total t
   unfolding nodesOfRule ruleOf
-  rule-nodes = omega (arith, tree-nodes t n r ok 0 (omega arith) some-entry, tree-nodes t n r ok 1 (omega arith) some-exit, short-nodes t n r ok 2 (omega arith), short-nodes t n r ok 3 (omega arith), right .sums)
+  rule-nodes =
+      omega (
+        arith,
+        tree-nodes t n r ok 0 (omega arith) some-entry,
+        tree-nodes t n r ok 1 (omega arith) some-exit,
+        short-nodes t n r ok 2 (omega arith),
+        short-nodes t n r ok 3 (omega arith),
+        right .sums,
+      )
 
   -- the header's numbers, two bytes each
   two-back : (x at : ℕ) → x ≡ u16 t at → le16 x ≡ from b 2 at

@@ -21,7 +21,8 @@ use Rattle.table.specs.Nesting.{deeper}
 use Rattle.table.specs.Checked.{checked}
 use Rattle.table.specs.Ends.{Link}
 use Rattle.table.specs.Trees.{none, more}
-use Rattle.table.specs.Reading.{treeOf, child, operandFrom, operands, firstOf, conditionFrom, conditions, operandsAt, conditionsAt, operandAt, conditionAt}
+use Rattle.table.specs.Reading.{treeOf, child, operandFrom, operands, firstOf, conditionFrom, conditions, operandsAt, conditionsAt, operandAt}
+use Rattle.table.specs.Reading.{conditionAt}
 use Rattle.table.specs.ForestLaws.{left-suc, left-zero, first-none}
 use Rattle.table.specs.OrderLaws.{never-at}
 use Rattle.table.specs.Accepted.{or-none, Whole, tree-sorts, tree-nesting}
@@ -81,7 +82,9 @@ module _ (t : List ℕ) (e j k s l : ℕ) (here : Stands t e j (suc k) s l) wher
 
   pub sort-there : sortAt t j ≡ s
   unfolding sorts firstTrees over sortAt
-  sort-there = let h : sorts (firstTrees (suc k) (over (nodeAt t j) (childCountAt t j) (trees t (e - (j + 1)) (j + 1)))) ≡ replicate (suc k) s = ap (λ (f : Forest). sorts (firstTrees (suc k) f)) (sym split) ∙ here .sorted in cc
+  sort-there =
+      let h : sorts (firstTrees (suc k) (over (nodeAt t j) (childCountAt t j) (trees t (e - (j + 1)) (j + 1)))) ≡ replicate (suc k) s = ap
+      (λ (f : Forest). sorts (firstTrees (suc k) f)) (sym split) ∙ here .sorted in cc
 
   -- the first of them by itself
   pub stands-one : Stands t e j 1 s l

@@ -4,7 +4,8 @@ use mathlib.Core.List.{List, [], _∷_, _++_}
 use Prim.Native.Nat.{ℕ, suc, _+_, _/_, _%_}
 use Rattle.table.specs.declared.nodes.Node.{Node}
 use Rattle.table.specs.Named as Named
-use Rattle.table.specs.Trees.{Operand, const, ref, price, prev, arith, Condition, Conditions, compare, cross, between, trend, every, any, negated, inPosition, barsSince, none, more}
+use Rattle.table.specs.Trees.{Operand, const, ref, price, prev, arith, Condition, Conditions, compare, cross, between, trend, every, any, negated}
+use Rattle.table.specs.Trees.{inPosition, barsSince, none, more}
 use Rattle.table.specs.Reading.{treeOf, present}
 
 -- "Little-endian."

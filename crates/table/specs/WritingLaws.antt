@@ -17,7 +17,8 @@ use Rattle.table.specs.Nodes.{childCount, childrenRight, nRight, constan
 use Rattle.table.specs.Forest.{Forest, sorts, Sorted, flat}
 use Rattle.table.specs.Forest as Forest
 use Rattle.table.specs.Trees as Tree
-use Rattle.table.specs.Trees.{Operand, const, ref, prev, arith as sums, Condition, Conditions, compare, cross, every, any, negated, inPosition, none, more}
+use Rattle.table.specs.Trees.{Operand, const, ref, prev, arith as sums, Condition, Conditions, compare, cross, every, any, negated, inPosition, none}
+use Rattle.table.specs.Trees.{more}
 use Rattle.table.specs.Reading.{child, operandBy, operandFrom, operands, firstOf, conditionBy, conditionFrom, conditions}
 use Rattle.table.specs.Writing.{le16, le32, le64, node, nodeBytes, nodesBytes, write, writeRow, manyOf, writeOf, writeAll, nodesIn, nodesOf, nodesOfAll}
 use Rattle.table.specs.HeaderLaws.{both}
@@ -77,7 +78,8 @@ own-fields k n row h =
     let h1 = both (not (eqb (row .sort) 0)) (ltb (n .selector) (row .selectors)) (h2 .0) in
     record { selector = ltb-true _ _ (h1 .1); children = h2 .1; number = h3 .1; constant = h4 .1 }
 
-fields : (n : Node) (kind selector children number constant : ℕ) → n .kind ≡ kind → n .selector ≡ selector → n .children ≡ children → n .n ≡ number → n .constant ≡ constant
+fields : (n : Node) (kind selector children number constant : ℕ) → n .kind ≡ kind → n .selector ≡ selector → n .children ≡ children → n .n ≡ number
+    → n .constant ≡ constant
     → nodeBytes n ≡ node kind selector children number constant
 unfolding nodeBytes
 fields n kind selector children number constant a b c d e = cc

@@ -9,8 +9,10 @@ use lib.ListN.{getD}
 use Rattle.table.specs.declared.kinds.Kind.{Kind}
 use Rattle.table.specs.Kinds.{kindOf}
 use Rattle.table.specs.KindLaws.{known}
-use Rattle.table.specs.Trees.{Operand, const, ref, price, prev, arith as sums, Condition, Conditions, compare, cross, between, trend, every, any, negated, inPosition, barsSince, none, more}
-use Rattle.table.specs.Writing.{le16, le32, le64, node, write, writeOf, writeAll, manyOf, nodesOf, nodesOfAll, Short, absent, given, Rule, nodesOfShort, writeShort, nodesOfRule, headerOf, tableOf}
+use Rattle.table.specs.Trees.{Operand, const, ref, price, prev, arith as sums, Condition, Conditions, compare, cross, between, trend, every, any, negated}
+use Rattle.table.specs.Trees.{inPosition, barsSince, none, more}
+use Rattle.table.specs.Writing.{le16, le32, le64, node, write, writeOf, writeAll, manyOf, nodesOf, nodesOfAll, Short, absent, given, Rule, nodesOfShort}
+use Rattle.table.specs.Writing.{writeShort, nodesOfRule, headerOf, tableOf}
 use Rattle.table.specs.Limits.{Within, WithinOf, WithinAll, ShortWithin, RuleWithin}
 use Rattle.table.specs.Rewriting.{Bytes}
 use Rattle.table.specs.Rereading.{some-nodes}
@@ -44,7 +46,8 @@ small64 x h = small-two (le32 (x % 4294967296)) (le32 (x / 4294967296)) (small32
 
 small-node : (k s c n x : ℕ) → k < 256 → s < 256 → c < 65536 → n < 4294967296 → x < 18446744073709551616 → Small (node k s c n x)
 unfolding node Small
-small-node k s c n x hk hs hc hn hx = (hk, (hs, small-two (le16 c ++ le32 n) (le64 x) (small-two (le16 c) (le32 n) (small16 c hc) (small32 n hn)) (small64 x hx)))
+small-node k s c n x hk hs hc hn hx =
+    (hk, (hs, small-two (le16 c ++ le32 n) (le64 x) (small-two (le16 c) (le32 n) (small16 c hc) (small32 n hn)) (small64 x hx)))
 
 -- a node with no number but its kind and its n
 small-plain : (k n : ℕ) → k < 256 → n < 4294967296 → Small (node k 0 0 n 0)
@@ -69,7 +72,8 @@ module _ (k : ℕ) (few : k ≤ 64) where
   small-operand (price s) w = small-node 3 s 0 0 0 (omega arith) (omega arith) (omega arith) (omega arith) (omega arith)
   small-operand (prev a n) w = small-over 4 n (write a) (omega arith) (w .0) (small-operand a (w .1))
   small-operand (sums kind a b) w =
-      small-two (node kind 0 0 0 0 ++ write a) (write b) (small-over kind 0 (write a) (row-byte kind _ (w .0) (omega arith)) (omega arith) (small-operand a (w .1))) (small-operand b (w .2))
+      small-two (node kind 0 0 0 0 ++ write a) (write b)
+      (small-over kind 0 (write a) (row-byte kind _ (w .0) (omega arith)) (omega arith) (small-operand a (w .1))) (small-operand b (w .2))
 
   two-operands : (kind : ℕ) (a b : Operand) → kind < 256 → Within k a → Within k b → Small (node kind 0 0 0 0 ++ write a ++ write b)
   two-operands kind a b h wa wb =
@@ -124,7 +128,8 @@ small-header k r w =
           (
             omega arith,
             small-six
-                (le16 1) (le16 (nodesOfRule r)) (le16 (nodesOf (r .entry))) (le16 (nodesOf (r .exit))) (le16 (nodesOfShort (r .shortEntry))) (le16 (nodesOfShort (r .shortExit)))
+                (le16 1) (le16 (nodesOfRule r)) (le16 (nodesOf (r .entry))) (le16 (nodesOf (r .exit))) (le16 (nodesOfShort (r .shortEntry)))
+                (le16 (nodesOfShort (r .shortExit)))
                 (small16 1 (omega arith))
                 (small16 (nodesOfRule r) (omega arith))
                 (small16 (nodesOf (r .entry)) (omega arith))

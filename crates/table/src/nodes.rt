@@ -11,7 +11,8 @@ use crate::kinds::kind_of;
 use crate::places::Place;
 ghost use mathlib.Core.Path.{_≡_};
 ghost use Prim.Native.Nat.{_<_};
-ghost use Rattle.table.specs.Nodes.{nodeAt, childrenRight, nRight, constantRight, ownRight, nodeRight, wrongNode, sortAt, childCount, childCountAt, childSortAt};
+ghost use Rattle.table.specs.Nodes.{nodeAt, childrenRight, nRight, constantRight, ownRight, nodeRight, wrongNode};
+ghost use Rattle.table.specs.Nodes.{sortAt, childCount, childCountAt, childSortAt};
 
 // A node: its number in the table, and its fields.
 pub struct Node {

@@ -20,6 +20,20 @@ depth-spec =
     (λ c. omega (arith, c .if1 .left))
     (λ c κs. search needs)
     (λ c κs. search needs)
-    (λ c. omega (arith, product (c .before .larger .result) (c .row-bytes .result) (rw (c .before .larger .ensures) (omega (arith, c .before .before .if1 .left, few _ _ _ (sym (c .before .before .before .before .before .before .check .ensures .0) ∙ c .before .before .before .before .answer2 .given .1)))) (c .row-bytes .ensures .1)))
+    (λ c. let p = c .before .before .before .before in let q = p .before .before in
+    omega (
+      arith,
+      product (c .before .larger .result) (c .row-bytes .result)
+          (rw (c .before .larger .ensures) (omega (arith, c .before .before .if1 .left, few _ _ _ (sym (q .check .ensures .0) ∙ p .answer2 .given .1))))
+          (c .row-bytes .ensures .1),
+    ))
     (λ c. rw (← c .before .before .before .check .ensures .0, c .before .answer .given .1))
-    (λ c. rw (← c .before .before .before .before .before .before .check .ensures .0, c .before .before .before .before .answer2 .given .1, le-ltb _ _ (c .before .before .if1 .left), c .before .larger .ensures, c .row-bytes .ensures .0, needed _ _ _ _ (sym (c .before .before .before .before .before .before .check .ensures .0) ∙ c .before .before .before .before .answer2 .given .1))))
+    (λ c. let p = c .before .before .before .before in let q = p .before .before in
+    rw (
+      ← q .check .ensures .0,
+      p .answer2 .given .1,
+      le-ltb _ _ (c .before .before .if1 .left),
+      c .before .larger .ensures,
+      c .row-bytes .ensures .0,
+      needed _ _ _ _ (sym (q .check .ensures .0) ∙ p .answer2 .given .1),
+    )))
