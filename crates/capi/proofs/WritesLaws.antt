@@ -13,7 +13,7 @@ use Rattle.table.specs.declared.trees.Tree.{Tree}
 use Rattle.table.specs.Header.{treeNumber}
 use Rattle.steps.specs.declared.Translated.the-variants.{Writes, Refuses}
 use Rattle.steps.specs.Bytes.{bytesOf}
-use Rattle.steps.specs.Encoding.{steps-long}
+use Rattle.steps.specs.Laws.Encoding.{steps-long}
 use Rattle.steps.specs.Translating.{stepsOf, roomFor, writesOr, afterTable, translates, roomAfter, roomLeft}
 
 counted : (a : Answer) (short : Bool) (place m n : ℕ) → afterTable a (cond short (Refuses 10 place) (Writes m)) ≡ Writes n → m ≡ n

@@ -14,7 +14,7 @@ use Rattle.table.specs.Trees.{Condition, reachOf}
 use Rattle.rules.specs.declared.PositionState.{PositionState}
 use Rattle.rules.specs.Meaning as Meaning
 use Rattle.steps.specs.Bytes.{bytesOf}
-use Rattle.steps.specs.Fields.{Bytes}
+use Rattle.table.specs.Bytes.{Bytes}
 use Rattle.steps.specs.Translating.{stepsOf}
 use Rattle.steps.specs.Window.{window-steps}
 use Rattle.judge.specs.declared.Order.the-variants.{Idle}

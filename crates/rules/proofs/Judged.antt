@@ -17,7 +17,7 @@ use Rattle.rules.specs.Meaning.{says}
 use Rattle.rules.specs.Flat.{conditionAt}
 use Rattle.table.specs.Header.{treeNumber}
 use Rattle.rules.specs.Answers.{stateRight, judged, afterCheck, answered}
-use Rattle.rules.specs.AnswerLaws.{tree-of-four, flat-says}
+use Rattle.rules.specs.Laws.Answers.{tree-of-four, flat-says}
 
 module _ (t : List ℕ) (tree : Tree) (rows : List ℕ) (s : PositionState) where
   pub refused : (a : Answer) (number place : ℕ) → a ≡ checked t → a ≡ Refused number place → Refuses number place ≡ answered t tree rows s

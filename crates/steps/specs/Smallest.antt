@@ -29,8 +29,8 @@ flat : PositionState
 flat = record { qty = zero; entered = Never; «bars_seen» = 1 }
 
 -- the steps of a condition over the last `rows` of the rows
-over : ℕ → List ℕ → Condition → Bool
-over rows ws c = answers (historyOf 2 (lastRows 2 rows ws)) flat (codeOf c)
+overLast : ℕ → List ℕ → Condition → Bool
+overLast rows ws c = answers (historyOf 2 (lastRows 2 rows ws)) flat (codeOf c)
 
 -- over D rows, and over one less
 pub record Pair : Type 0 where
@@ -38,7 +38,7 @@ pub record Pair : Type 0 where
   pub short : Bool
 
 both-ways : List ℕ → Condition → Pair
-both-ways ws c = record { enough = over (reachOf c + 1) ws c; short = over (reachOf c) ws c }
+both-ways ws c = record { enough = overLast (reachOf c + 1) ws c; short = overLast (reachOf c) ws c }
 
 close : Operand
 close = price 3
@@ -65,6 +65,6 @@ abbrev split : Pair
 split = record { enough = true; short = false }
 
 pub one-row-less : cases ≡ (split ∷ split ∷ split ∷ split ∷ split ∷ split ∷ [])
-unfolding row ten eleven flat over both-ways close rising falling cases historyOf lastRows newest there value priceOf slotOf both tested compared
+unfolding row ten eleven flat overLast both-ways close rising falling cases historyOf lastRows newest there value priceOf slotOf both tested compared
     crossed reach reachOf keep ago effect does after run code codeOf abs Ieee.lt Ieee.le Ieee.sub Ieee.ofBits
 one-row-less = refl

@@ -14,26 +14,26 @@ use Rattle.table.specs.Trees.{reachOf}
 use Rattle.table.specs.Header.{slots, count, root}
 use Rattle.table.specs.Checked.{checked}
 use Rattle.table.specs.Reading.{treeOf, present}
-use Rattle.table.specs.Accepted.{header-of, tree-ends}
+use Rattle.table.specs.Laws.Accepted.{header-of, tree-ends}
 use Rattle.table.specs.Limits.{TreeWithin}
-use Rattle.table.specs.Limited.{tree-within}
-use Rattle.table.specs.Rewriting.{tree-nodes}
+use Rattle.table.specs.Laws.AcceptedWithin.{tree-within}
+use Rattle.table.specs.Laws.AcceptedWritten.{tree-nodes}
 use Rattle.rules.specs.declared.PositionState.{PositionState}
 use Rattle.rules.specs.Meaning.{says}
 use Rattle.rules.specs.Answers.{stateRight}
-use Rattle.rules.specs.AnswerLaws.{absent-says}
+use Rattle.rules.specs.Laws.Answers.{absent-says}
 use Rattle.rules.specs.Window.{window}
 use Rattle.steps.specs.declared.Formed.the-variants.{Well}
 use Rattle.steps.specs.declared.RunAnswer.the-variants.{Runs}
 use Rattle.steps.specs.Machine.{run, answers, visited}
 use Rattle.steps.specs.Bytes.{bytesOf, opsFrom, opsOf}
 use Rattle.steps.specs.Translation.{codeOf}
-use Rattle.steps.specs.Compiled.{compiled}
+use Rattle.steps.specs.Laws.Compiled.{compiled}
 use Rattle.steps.specs.Room.{two-a-node}
 use Rattle.steps.specs.WellFormed.{formedFrom, formed}
-use Rattle.steps.specs.Fields.{Bytes}
-use Rattle.steps.specs.Good.{AllGood, translated-good}
-use Rattle.steps.specs.Formed.{well-formed, reads-back}
+use Rattle.table.specs.Bytes.{Bytes}
+use Rattle.steps.specs.Laws.TranslatedSteps.{AllGood, translated-good}
+use Rattle.steps.specs.Laws.WrittenSteps.{well-formed, reads-back}
 use Rattle.steps.specs.Translating.{stepsOf}
 use Rattle.steps.specs.Running.{ranIf, runs}
 

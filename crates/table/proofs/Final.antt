@@ -21,8 +21,8 @@ use Rattle.table.specs.Nodes.{wrongNode}
 use Rattle.table.specs.Checked.{orRefused, orHeader, from9, from8, from7, checked}
 use Rattle.table.specs.Ends.{endsFor, endAt, from, endOf, endsAll, Linked}
 use Rattle.table.specs.Passes.{EndedFrom, Roots, EndedAll, LinkedAll}
-use Rattle.table.specs.EndsLaws.{from-long, from-at}
-use Rattle.table.specs.HeaderLaws.{header-right}
+use Rattle.table.specs.Laws.Ends.{from-long, from-at}
+use Rattle.table.specs.Laws.Header.{header-right}
 use Rattle.table.proofs.Linked.{end-word}
 
 -- One rule: it is broken, or what is left decides.

@@ -21,8 +21,8 @@ use Rattle.table.specs.Reach.{forestReach, treeReach, tooFar, rowsNeeded
 use Rattle.table.specs.Checked.{orRefused, from9}
 use Rattle.table.specs.Passes.{Ended, EndedFrom, Ordered, Roots, EndedAll, WholeTree, LinkedAll}
 use Rattle.table.proofs.Prefix.{fits-two, fits-soon, pass}
-use Rattle.table.specs.Accepted.{or-none}
-use Rattle.table.specs.OrderLaws.{first-sort, never-at}
+use Rattle.table.specs.Laws.Accepted.{or-none}
+use Rattle.table.specs.Laws.Order.{first-sort, never-at}
 use Rattle.table.proofs.Linked.{linked, word-end}
 
 root-zero : (t : List ℕ) → 0 ≡ root t 0

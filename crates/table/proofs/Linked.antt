@@ -12,7 +12,7 @@ use Rattle.table.specs.Nodes.{sortAt}
 use Rattle.table.specs.Order.{fits, misfit}
 use Rattle.table.specs.Ends.{placeOr, endAt, Link, Linked}
 use Rattle.table.specs.Passes.{Ended, EndedFrom}
-use Rattle.table.specs.OrderLaws.{never-at, each, link-end}
+use Rattle.table.specs.Laws.Order.{never-at, each, link-end}
 use Rattle.table.proofs.Prefix.{after-at, after-end, fits-two, fits-soon, fits-done}
 
 pub word-end : (t : List ℕ) (e j v : ℕ) (us : List ℕ) → fits t (e - j) j (sortAt t j ∷ us) ≡ Nowhere → Ended t e j v → v < 512

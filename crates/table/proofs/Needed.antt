@@ -7,8 +7,8 @@ use native.Mathlib.Nat.{mul-le-mul-right}
 use Rattle.table.specs.declared.answer.Answer.the-variants.{Accepted}
 use Rattle.table.specs.Checked.{checked}
 use Rattle.table.specs.Reach.{rowsNeeded}
-use Rattle.table.specs.Accepted.{accepted, tree-reach}
-use Rattle.table.specs.ReachLaws.{rows-are}
+use Rattle.table.specs.Laws.Accepted.{accepted, tree-reach}
+use Rattle.table.specs.Laws.Reach.{rows-are}
 use Rattle.table.specs.Depth.{greatestReach, depthOf}
 
 pub needed : (t : List ℕ) (n r lookback : ℕ) → checked t ≡ Accepted n r → max r (lookback + 1) ≡ depthOf t lookback

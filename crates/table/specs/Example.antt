@@ -9,7 +9,7 @@ use Rattle.table.specs.Kinds.{kinds, kindOf}
 use Rattle.table.specs.Header.{markRight, countsRight, headerRefusal, root}
 use Rattle.table.specs.Nodes.{nodeAt, childrenRight, nRight, constantRight, ownRight, nodeRight, wrongNode, sortAt, childCount, childCountAt, childSortAt}
 use Rattle.table.specs.Order.{fits, misfit, orElse, ofFour, misfits}
-use Rattle.table.specs.Forest.{firstTrees, otherTrees, over, trees, forestOf}
+use Rattle.table.specs.Forest.{firstTrees, otherTrees, nodeOver, trees, forestOf}
 use Rattle.table.specs.Nesting.{deeper, tooDeep}
 use Rattle.table.specs.Reach.{back, ownBack, weigh, forestReach, treeReach, farAt, tooFar, rowsNeeded}
 use Rattle.table.specs.Named as Named
@@ -30,7 +30,7 @@ example =
 
 pub example-accepted : checked example ≡ Accepted 7 3
 unfolding example checked orHeader orRefused from7 from8 from9 tooFar rowsNeeded farAt tooDeep misfits ofFour treeReach forestOf root forestReach
-    weigh ownBack back deeper orElse trees over otherTrees firstTrees u16 u32 u64 kindOf kinds nodeAt headerRefusal markRight countsRight wrongNode
+    weigh ownBack back deeper orElse trees nodeOver otherTrees firstTrees u16 u32 u64 kindOf kinds nodeAt headerRefusal markRight countsRight wrongNode
     nodeRight ownRight nRight constantRight childrenRight sortAt childCountAt childCount childSortAt fits misfit
 example-accepted = refl
 
@@ -41,6 +41,6 @@ pub example-rule : ruleOf example ≡ record {
   shortEntry = absent;
   shortExit = absent;
 }
-unfolding example ruleOf shortOf present treeOf forestOf root trees over otherTrees firstTrees u16 u32 u64 kindOf kinds nodeAt childCountAt childCount
+unfolding example ruleOf shortOf present treeOf forestOf root trees nodeOver otherTrees firstTrees u16 u32 u64 kindOf kinds nodeAt childCountAt childCount
     conditions conditionBy conditionFrom operands operandBy operandFrom firstOf
 example-rule = refl

@@ -5,7 +5,7 @@ use borrow.Author.Needs.{needs}
 use Rattle.rows.specs.History.{historyOf}
 use Rattle.rules.specs.Values.{both}
 use Rattle.rules.specs.Flat.{growOperand}
-use Rattle.rules.specs.Laws.{past, const-value, ref-value, price-value, early-value, prev-value, arith-value}
+use Rattle.rules.specs.Laws.Meaning.{past, const-value, ref-value, price-value, early-value, prev-value, arith-value}
 use Rattle.rules.proofs.Grown.{no-operand, grown-operand, below, above}
 use Prim.Native.Nat.{ℕ, _+_, _*_, _<_}
 use borrow.Fn.Kinds.{In}

@@ -22,8 +22,8 @@ use Rattle.table.specs.Trees.{inPosition, barsSince, none, more}
 use Rattle.table.specs.Reading.{operandBy, operandFrom, operands, firstOf, conditionBy, conditionFrom, conditions}
 use Rattle.table.specs.Writing.{manyOf, nodesIn, nodesOf}
 use Rattle.table.specs.Limits.{Within, WithinOf, WithinAll, levels, levelsOf, levelsOfAll}
-use Rattle.table.specs.WritingLaws.{Right}
-use Rattle.table.specs.Planting.{plant, plantOf, plantAll}
+use Rattle.table.specs.Laws.Writing.{Right}
+use Rattle.table.specs.Laws.WrittenForest.{plant, plantOf, plantAll}
 
 -- ---- own bytes
 

@@ -15,7 +15,7 @@ use Rattle.table.specs.Kinds.{kindOf}
 use Rattle.table.specs.Header.{count, root}
 use Rattle.table.specs.Nodes.{nodeAt, sortAt, childCount, childCountAt, childSortAt}
 use Rattle.table.specs.Order.{orElse}
-use Rattle.table.specs.Forest.{Forest, forestOf, firstTrees, otherTrees, over, trees, sorts, Sorted}
+use Rattle.table.specs.Forest.{Forest, forestOf, firstTrees, otherTrees, nodeOver, trees, sorts, Sorted}
 use Rattle.table.specs.Forest as Forest
 use Rattle.table.specs.Nesting.{deeper}
 use Rattle.table.specs.Checked.{checked}
@@ -23,9 +23,9 @@ use Rattle.table.specs.Ends.{Link}
 use Rattle.table.specs.Trees.{none, more}
 use Rattle.table.specs.Reading.{treeOf, child, operandFrom, operands, firstOf, conditionFrom, conditions, operandsAt, conditionsAt, operandAt}
 use Rattle.table.specs.Reading.{conditionAt}
-use Rattle.table.specs.ForestLaws.{left-suc, left-zero, first-none}
-use Rattle.table.specs.OrderLaws.{never-at}
-use Rattle.table.specs.Accepted.{or-none, Whole, tree-sorts, tree-nesting}
+use Rattle.table.specs.Laws.Forest.{left-suc, left-zero, first-none}
+use Rattle.table.specs.Laws.Order.{never-at}
+use Rattle.table.specs.Laws.Accepted.{or-none, Whole, tree-sorts, tree-nesting}
 
 -- ---- what stands where
 
@@ -36,7 +36,7 @@ pub record Stands (t : List ℕ) (e j k s l : ℕ) : Type 0 where
 
 -- the node at i, over its children, and the trees after it
 node-first : (t : List ℕ) (e i : ℕ) → i < e
-    → trees t (e - i) i ≡ over (nodeAt t i) (childCountAt t i) (trees t (e - (i + 1)) (i + 1))
+    → trees t (e - i) i ≡ nodeOver (nodeAt t i) (childCountAt t i) (trees t (e - (i + 1)) (i + 1))
 unfolding trees
 node-first t e i h = rw (left-suc e i h)
 
@@ -77,13 +77,13 @@ module _ (t : List ℕ) (e j k s l : ℕ) (here : Stands t e j (suc k) s l) wher
       (λ z. omega arith)
       (eq-zero-or-pos (e - j))
 
-  split : trees t (e - j) j ≡ over (nodeAt t j) (childCountAt t j) (trees t (e - (j + 1)) (j + 1))
+  split : trees t (e - j) j ≡ nodeOver (nodeAt t j) (childCountAt t j) (trees t (e - (j + 1)) (j + 1))
   split = node-first t e j node-there
 
   pub sort-there : sortAt t j ≡ s
-  unfolding sorts firstTrees over sortAt
+  unfolding sorts firstTrees nodeOver sortAt
   sort-there =
-      let h : sorts (firstTrees (suc k) (over (nodeAt t j) (childCountAt t j) (trees t (e - (j + 1)) (j + 1)))) ≡ replicate (suc k) s = ap
+      let h : sorts (firstTrees (suc k) (nodeOver (nodeAt t j) (childCountAt t j) (trees t (e - (j + 1)) (j + 1)))) ≡ replicate (suc k) s = ap
       (λ (f : Forest). sorts (firstTrees (suc k) f)) (sym split) ∙ here .sorted in cc
 
   -- the first of them by itself
@@ -98,7 +98,7 @@ module _ (t : List ℕ) (e j k s l : ℕ) (here : Stands t e j (suc k) s l) wher
   }
 
   below-two : (0 < l) × (deeper (l - 1) (firstTrees (childCountAt t j) (trees t (e - (j + 1)) (j + 1))) ≡ Nowhere)
-  unfolding firstTrees over
+  unfolding firstTrees nodeOver
   below-two = deep-below l _ _ _ (ap (λ (f : Forest). deeper l (firstTrees (suc k) f)) (sym split) ∙ here .shallow)
 
   pub level-left : 0 < l
@@ -106,7 +106,7 @@ module _ (t : List ℕ) (e j k s l : ℕ) (here : Stands t e j (suc k) s l) wher
 
   -- the children of the first one
   pub stands-below : (ends : List ℕ) (b : ℕ) → Whole t ends b e → b ≤ j → Stands t e (j + 1) (childCountAt t j) (childSortAt t j) (l - 1)
-  unfolding Sorted over childCountAt childSortAt
+  unfolding Sorted nodeOver childCountAt childSortAt
   stands-below ends b w lo = record {
     sorted = (rw split at (w .sorted j lo node-there)) .0;
     shallow = below-two .1;
@@ -148,19 +148,19 @@ module _ (t : List ℕ) (e j : ℕ) where
     child-next k m = next-operand k m (trees t (e - j) j) ∙ ap (λ (f : Forest). child (operands (firstTrees k f)) m) (link .next)
 
     pub conditions-more : j < e → (k : ℕ) → conditionsAt t e j (suc k) ≡ more (conditionAt t e j) (conditionsAt t e v k)
-    unfolding conditionsAt conditionAt conditions firstOf firstTrees otherTrees over
+    unfolding conditionsAt conditionAt conditions firstOf firstTrees otherTrees nodeOver
     conditions-more h k = rw (sym (link .next), node-first t e j h)
 
 -- ---- what a node reads as, over what is below it
 
 module _ (t : List ℕ) (e i : ℕ) (h : i < e) where
   pub operand-is : operandAt t e i ≡ operandFrom (nodeAt t i) (operandsAt t e (i + 1) (childCountAt t i))
-  unfolding operandAt operandsAt operands firstTrees over
+  unfolding operandAt operandsAt operands firstTrees nodeOver
   operand-is = rw (node-first t e i h)
 
   pub condition-is : conditionAt t e i
       ≡ conditionFrom (nodeAt t i) (operandsAt t e (i + 1) (childCountAt t i)) (conditionsAt t e (i + 1) (childCountAt t i))
-  unfolding conditionAt conditionsAt operandsAt conditions firstOf firstTrees over
+  unfolding conditionAt conditionsAt operandsAt conditions firstOf firstTrees nodeOver
   condition-is = rw (node-first t e i h)
 
 -- ---- where a walk begins: tree x, at its root

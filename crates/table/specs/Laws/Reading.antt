@@ -10,7 +10,7 @@ use Rattle.table.specs.Forest.{Forest, sorts}
 use Rattle.table.specs.Forest as Forest
 use Rattle.table.specs.Reading.{operands, conditions}
 use Rattle.table.specs.Writing.{manyOf}
-use Rattle.table.specs.KindLaws.{OperandKind, a-const, a-ref, a-price, a-prev, an-arith}
+use Rattle.table.specs.Laws.Kinds.{OperandKind, a-const, a-ref, a-price, a-prev, an-arith}
 
 pub as-many : (f : Forest) → length (operands f) ≡ length (sorts f)
 unfolding operands sorts

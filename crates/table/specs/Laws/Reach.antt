@@ -20,10 +20,10 @@ use Rattle.table.specs.Checked.{checked}
 use Rattle.table.specs.Trees.{Operand, Conditions, none, more, reach, reachOf, reachOfAll}
 use Rattle.table.specs.Reading.{child, operandBy, operandFrom, operands, firstOf, conditionBy, conditionFrom, conditions, treeOf}
 use Rattle.table.specs.Writing.{manyOf}
-use Rattle.table.specs.ReadingLaws.{as-many, many-conditions, below-operand}
-use Rattle.table.specs.KindLaws.{OperandKind, a-const, a-ref, a-price, a-prev, an-arith, operand-kind}
-use Rattle.table.specs.KindLaws.{ConditionKind, a-compare, a-cross, a-between, a-trend, an-all, an-any, a-not, a-position, a-count, condition-kind}
-use Rattle.table.specs.Accepted.{accepted, tree-sorts}
+use Rattle.table.specs.Laws.Reading.{as-many, many-conditions, below-operand}
+use Rattle.table.specs.Laws.Kinds.{OperandKind, a-const, a-ref, a-price, a-prev, an-arith, operand-kind}
+use Rattle.table.specs.Laws.Kinds.{ConditionKind, a-compare, a-cross, a-between, a-trend, an-all, an-any, a-not, a-position, a-count, condition-kind}
+use Rattle.table.specs.Laws.Accepted.{accepted, tree-sorts}
 
 -- the greatest reach of operands in a row
 unfoldable pub reachOfRow : List Operand → ℕ

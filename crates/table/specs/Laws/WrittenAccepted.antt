@@ -17,7 +17,7 @@ use Rattle.table.specs.Kinds.{kindOf}
 use Rattle.table.specs.Header.{slots, version, total, count, root, markRight, countsRight, headerRefusal}
 use Rattle.table.specs.Nodes.{nodeAt, nodeRight, wrongNode, sortAt, childCountAt, childSortAt}
 use Rattle.table.specs.Order.{fits, misfit, misfits, orElse, ofFour}
-use Rattle.table.specs.Forest.{Forest, firstTrees, otherTrees, over, trees, forestOf, sorts, Sorted}
+use Rattle.table.specs.Forest.{Forest, firstTrees, otherTrees, nodeOver, trees, forestOf, sorts, Sorted}
 use Rattle.table.specs.Forest as Forest
 use Rattle.table.specs.Nesting.{deeper, tooDeep}
 use Rattle.table.specs.Reach.{weigh, ownBack, forestReach, treeReach, farAt, tooFar, rowsNeeded}
@@ -27,12 +27,12 @@ use Rattle.table.specs.Reading.{conditions, firstOf, present, treeOf}
 use Rattle.table.specs.Writing.{le16, writeOf, nodesOf, Short, absent, given, Rule, nodesOfShort, writeShort, nodesOfRule, headerOf, tableOf, shortOf}
 use Rattle.table.specs.Writing.{ruleOf}
 use Rattle.table.specs.Limits.{WithinOf, ShortWithin, RuleWithin}
-use Rattle.table.specs.ReachLaws.{all-reach}
-use Rattle.table.specs.WritingLaws.{Right, condition-long}
-use Rattle.table.specs.Accepted.{all-kept, right-node}
-use Rattle.table.specs.Planting.{plantOf, pair, From, past, regroup-two, growsOf}
-use Rattle.table.specs.Rewriting.{short-long}
-use Rattle.table.specs.Planted.{rightOf, sortedOf, plantOf-sorts, shallowOf, readsOf}
+use Rattle.table.specs.Laws.Reach.{all-reach}
+use Rattle.table.specs.Laws.Writing.{Right, condition-long}
+use Rattle.table.specs.Laws.Accepted.{all-kept, right-node}
+use Rattle.table.specs.Laws.WrittenForest.{plantOf, pair, From, past, regroup-two, growsOf}
+use Rattle.table.specs.Laws.AcceptedWritten.{short-long}
+use Rattle.table.specs.Laws.WrittenForestKept.{rightOf, sortedOf, plantOf-sorts, shallowOf, readsOf}
 
 -- ---- from the forest back to the rules
 
@@ -55,12 +55,12 @@ sorts-join (suc l) Forest.none = refl
 sorts-join (suc l) (Forest.tree n below rest) = ap (λ (x : List ℕ). kindOf (n .kind) .sort ∷ x) (sorts-join l rest)
 
 no-wrong : (t : List ℕ) (m i : ℕ) → Right (slots t) (trees t m i) → wrongNode t m i ≡ Nowhere
-unfolding Right trees over wrongNode nodeRight
+unfolding Right trees nodeOver wrongNode nodeRight
 no-wrong t zero i r = refl
 no-wrong t (suc m) i r = rw (r .0) (no-wrong t m (i + 1) (right-join (slots t) (childCountAt t i) (trees t m (i + 1)) (r .1) (r .2)))
 
 in-order : (t : List ℕ) (m i : ℕ) → Sorted (trees t m i) → fits t m i (sorts (trees t m i)) ≡ Nowhere
-unfolding Sorted trees over fits sorts sortAt childCountAt childSortAt
+unfolding Sorted trees nodeOver fits sorts sortAt childCountAt childSortAt
 in-order t zero i s = refl
 in-order t (suc m) i s =
     let f = trees t m (i + 1) in

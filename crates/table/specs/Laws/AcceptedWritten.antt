@@ -12,10 +12,10 @@ use lib.ListN.{length, getD, length-append}
 use lib.Dec.{eqb}
 use borrow.Author.Tests.{ne-eqb, eqb-true}
 use Rattle.table.specs.declared.answer.Answer.the-variants.{Accepted}
-use Rattle.table.specs.Bytes.{u16, u32, u64}
+use Rattle.table.specs.Bytes.{Bytes, u16, u32, u64}
 use Rattle.table.specs.Header.{slots, total, count, root, markRight}
 use Rattle.table.specs.Nodes.{nodeAt, childCountAt, nodeRight}
-use Rattle.table.specs.Forest.{Forest, firstTrees, otherTrees, over, trees, forestOf, nodes}
+use Rattle.table.specs.Forest.{Forest, firstTrees, otherTrees, nodeOver, trees, forestOf, nodes}
 use Rattle.table.specs.Forest as Forest
 use Rattle.table.specs.Checked.{checked}
 use Rattle.table.specs.Ends.{from}
@@ -23,12 +23,12 @@ use Rattle.table.specs.Trees.{arith as sums, none}
 use Rattle.table.specs.Reading.{conditions, treeOf, present}
 use Rattle.table.specs.Writing.{le16, le32, le64, node, nodeBytes, nodesBytes, writeOf, nodesOf, Short, absent, given, nodesOfShort, writeShort}
 use Rattle.table.specs.Writing.{nodesOfRule, headerOf, tableOf, shortOf, ruleOf}
-use Rattle.table.specs.EndsLaws.{from-two, from-all}
-use Rattle.table.specs.HeaderLaws.{both, HeaderRight}
-use Rattle.table.specs.ForestLaws.{flat-trees}
-use Rattle.table.specs.ReadingLaws.{many-conditions}
-use Rattle.table.specs.WritingLaws.{Right, all-one, written-all, node-long, condition-long}
-use Rattle.table.specs.Accepted.{header-of, node-of, tree-ends, tree-sorts}
+use Rattle.table.specs.Laws.Ends.{from-two, from-all}
+use Rattle.table.specs.Laws.Header.{both, HeaderRight}
+use Rattle.table.specs.Laws.Forest.{flat-trees}
+use Rattle.table.specs.Laws.Reading.{many-conditions}
+use Rattle.table.specs.Laws.Writing.{Right, all-one, written-all, node-long, condition-long}
+use Rattle.table.specs.Laws.Accepted.{header-of, node-of, tree-ends, tree-sorts}
 
 -- ---- each tree
 
@@ -41,7 +41,7 @@ right-first k (suc l) (Forest.tree n below rest) r =
     ((r .0, r .1, g .0), g .1)
 
 pub right-trees : (t : List ℕ) (m i : ℕ) → ((j : ℕ) → i ≤ j → j < i + m → nodeRight t j ≡ true) → Right (slots t) (trees t m i)
-unfolding Right trees over nodeRight
+unfolding Right trees nodeOver nodeRight
 right-trees t zero i h = tt
 right-trees t (suc m) i h =
     let g = right-first (slots t) (childCountAt t i) (trees t m (i + 1)) (right-trees t m (i + 1) (λ j lo hi. h j (omega arith) (omega arith))) in
@@ -87,10 +87,6 @@ module _ (t : List ℕ) (n r : ℕ) (ok : checked t ≡ Accepted n r) where
   short-nodes x l = omega (arith, short-long (shortOf t x), ap length (short-written t n r ok x l), nodes-long t (count t x) (root t x))
 
 -- ---- bytes
-
--- what a byte string is: `t` is one where it is the contents of a `&[u8]`
-unfoldable pub Bytes : List ℕ → Type 0
-Bytes t = (i : ℕ) → getD t i 0 < 256
 
 pair-back : (a b : ℕ) → a < 256 → le16 (a + 256 * b) ≡ a ∷ b ∷ []
 unfolding le16

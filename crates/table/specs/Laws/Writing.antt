@@ -21,10 +21,10 @@ use Rattle.table.specs.Trees.{Operand, const, ref, prev, arith as sums, 
 use Rattle.table.specs.Trees.{more}
 use Rattle.table.specs.Reading.{child, operandBy, operandFrom, operands, firstOf, conditionBy, conditionFrom, conditions}
 use Rattle.table.specs.Writing.{le16, le32, le64, node, nodeBytes, nodesBytes, write, writeRow, manyOf, writeOf, writeAll, nodesIn, nodesOf, nodesOfAll}
-use Rattle.table.specs.HeaderLaws.{both}
-use Rattle.table.specs.KindLaws.{OperandKind, a-const, a-ref, a-price, a-prev, an-arith, operand-kind}
-use Rattle.table.specs.KindLaws.{ConditionKind, a-compare, a-cross, a-between, a-trend, an-all, an-any, a-not, a-position, a-count, condition-kind}
-use Rattle.table.specs.ReadingLaws.{as-many, many-conditions, below-operand}
+use Rattle.table.specs.Laws.Header.{both}
+use Rattle.table.specs.Laws.Kinds.{OperandKind, a-const, a-ref, a-price, a-prev, an-arith, operand-kind}
+use Rattle.table.specs.Laws.Kinds.{ConditionKind, a-compare, a-cross, a-between, a-trend, an-all, an-any, a-not, a-position, a-count, condition-kind}
+use Rattle.table.specs.Laws.Reading.{as-many, many-conditions, below-operand}
 
 -- ---- rows of a known length
 

@@ -12,17 +12,18 @@ use Rattle.table.specs.declared.answer.Answer.the-variants.{Accepted}
 use Rattle.table.specs.Bytes.{u64}
 use Rattle.table.specs.Header.{slots, count, root}
 use Rattle.table.specs.Nodes.{nodeAt, childCountAt}
-use Rattle.table.specs.Forest.{Forest, firstTrees, otherTrees, over, trees, forestOf}
+use Rattle.table.specs.Forest.{Forest, firstTrees, otherTrees, nodeOver, trees, forestOf}
 use Rattle.table.specs.Forest as Forest
 use Rattle.table.specs.Checked.{checked}
 use Rattle.table.specs.Reading.{conditions, present, treeOf}
 use Rattle.table.specs.Writing.{shortOf, ruleOf}
 use Rattle.table.specs.Limits.{TreeWithin, ShortWithin, RuleWithin}
-use Rattle.table.specs.ReadingLaws.{many-conditions}
-use Rattle.table.specs.ReachLaws.{tree-reach-is}
-use Rattle.table.specs.Accepted.{header-of, node-of, tree-ends, tree-sorts, tree-nesting, tree-reach}
-use Rattle.table.specs.Rewriting.{Bytes, right-trees, u32-small, rule-nodes}
-use Rattle.table.specs.WithinLaws.{Small, SmallAll, first-in, all-fine}
+use Rattle.table.specs.Laws.Reading.{many-conditions}
+use Rattle.table.specs.Laws.Reach.{tree-reach-is}
+use Rattle.table.specs.Laws.Accepted.{header-of, node-of, tree-ends, tree-sorts, tree-nesting, tree-reach}
+use Rattle.table.specs.Bytes.{Bytes}
+use Rattle.table.specs.Laws.AcceptedWritten.{right-trees, u32-small, rule-nodes}
+use Rattle.table.specs.Laws.Limits.{Small, SmallAll, first-in, all-fine}
 
 -- the fields of a node read from bytes fit
 small-node : (t : List ℕ) → Bytes t → (i : ℕ) → Small (nodeAt t i)
@@ -42,7 +43,7 @@ small-first (suc l) (Forest.tree n below rest) s =
     ((s .0, s .1, g .0), g .1)
 
 small-trees : (t : List ℕ) → Bytes t → (m i : ℕ) → SmallAll (trees t m i)
-unfolding SmallAll trees over
+unfolding SmallAll trees nodeOver
 small-trees t small zero i = tt
 small-trees t small (suc m) i =
     let g = small-first (childCountAt t i) (trees t m (i + 1)) (small-trees t small m (i + 1)) in

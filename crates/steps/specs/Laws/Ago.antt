@@ -12,7 +12,7 @@ use Rattle.rules.specs.declared.Value.{Value}
 use Rattle.rules.specs.declared.Value.the-variants.{Missing, Number}
 use Rattle.rules.specs.Values.{both, compared, crossed, trended}
 use Rattle.rules.specs.Meaning.{there, value, newest}
-use Rattle.rules.specs.Laws.{past}
+use Rattle.rules.specs.Laws.Meaning.{past}
 use Rattle.steps.specs.Machine.{ago}
 use Rattle.steps.specs.Translation.{trendTest}
 

@@ -8,14 +8,14 @@ use native.Mathlib.Omega.{arith}
 use lib.ListN.{getD}
 use Rattle.table.specs.declared.kinds.Kind.{Kind}
 use Rattle.table.specs.Kinds.{kindOf}
-use Rattle.table.specs.KindLaws.{known}
+use Rattle.table.specs.Laws.Kinds.{known}
 use Rattle.table.specs.Trees.{Operand, const, ref, price, prev, arith as sums, Condition, Conditions, compare, cross, between, trend, every, any, negated}
 use Rattle.table.specs.Trees.{inPosition, barsSince, none, more}
 use Rattle.table.specs.Writing.{le16, le32, le64, node, write, writeOf, writeAll, manyOf, nodesOf, nodesOfAll, Short, absent, given, Rule, nodesOfShort}
 use Rattle.table.specs.Writing.{writeShort, nodesOfRule, headerOf, tableOf}
 use Rattle.table.specs.Limits.{Within, WithinOf, WithinAll, ShortWithin, RuleWithin}
-use Rattle.table.specs.Rewriting.{Bytes}
-use Rattle.table.specs.Rereading.{some-nodes}
+use Rattle.table.specs.Bytes.{Bytes}
+use Rattle.table.specs.Laws.WrittenAccepted.{some-nodes}
 
 unfoldable Small : List ℕ → Type 0
 Small [] = Unit

@@ -8,7 +8,7 @@ use lib.ListN.{length, length-append}
 use lib.Dec.{eqb}
 use Rattle.table.specs.Trees.{Operand, const, ref, price, prev, arith as sums, Condition, Conditions, compare, cross, between, trend, every, any, negated}
 use Rattle.table.specs.Trees.{inPosition, barsSince, none, more, reach, reachOf, reachOfAll}
-use Rattle.table.specs.KindLaws.{arith-numbers, compare-numbers, cross-numbers}
+use Rattle.table.specs.Laws.Kinds.{arith-numbers, compare-numbers, cross-numbers}
 use Rattle.table.specs.Limits.{Within, WithinOf, WithinAll}
 use Rattle.steps.specs.declared.Op.{Op}
 use Rattle.steps.specs.declared.Op.the-variants.{Const, Ref, Price, Arith, Compare, Cross, Between, Answer, Turn, InPosition, BarsSinceEntry, JumpIf}

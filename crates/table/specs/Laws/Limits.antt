@@ -19,12 +19,12 @@ use Rattle.table.specs.Trees.{Operand, Condition, Conditions, none, more
 use Rattle.table.specs.Reading.{child, operandBy, operandFrom, operands, firstOf, conditionBy, conditionFrom, conditions}
 use Rattle.table.specs.Writing.{manyOf}
 use Rattle.table.specs.Limits.{Within, WithinOf, WithinAll, levels, levelsOf, levelsOfAll}
-use Rattle.table.specs.OrderLaws.{never-at}
-use Rattle.table.specs.Accepted.{or-none}
-use Rattle.table.specs.KindLaws.{OperandKind, a-const, a-ref, a-price, a-prev, an-arith, operand-kind}
-use Rattle.table.specs.KindLaws.{ConditionKind, a-compare, a-cross, a-between, a-trend, an-all, an-any, a-not, a-position, a-count, condition-kind}
-use Rattle.table.specs.ReadingLaws.{as-many, many-conditions, below-operand}
-use Rattle.table.specs.WritingLaws.{Right, Own, own-fields}
+use Rattle.table.specs.Laws.Order.{never-at}
+use Rattle.table.specs.Laws.Accepted.{or-none}
+use Rattle.table.specs.Laws.Kinds.{OperandKind, a-const, a-ref, a-price, a-prev, an-arith, operand-kind}
+use Rattle.table.specs.Laws.Kinds.{ConditionKind, a-compare, a-cross, a-between, a-trend, an-all, an-any, a-not, a-position, a-count, condition-kind}
+use Rattle.table.specs.Laws.Reading.{as-many, many-conditions, below-operand}
+use Rattle.table.specs.Laws.Writing.{Right, Own, own-fields}
 
 -- ---- operands in a row
 

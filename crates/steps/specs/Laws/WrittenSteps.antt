@@ -11,8 +11,8 @@ use Rattle.steps.specs.declared.Op.the-variants.{Const, Ref, Price, Arit
 use Rattle.steps.specs.declared.Formed.the-variants.{Well}
 use Rattle.steps.specs.Bytes.{stepOf, stepBytes, bytesOf, stepsIn, opsOf}
 use Rattle.steps.specs.WellFormed.{zeros, plain, bounded, goodStep, formedFrom, formed}
-use Rattle.steps.specs.Encoding.{Sayable, AllSayable, says-back, step-there, steps-long, ops-of-bytes}
-use Rattle.steps.specs.Good.{Good, AllGood}
+use Rattle.steps.specs.Laws.Encoding.{Sayable, AllSayable, says-back, step-there, steps-long, ops-of-bytes}
+use Rattle.steps.specs.Laws.TranslatedSteps.{Good, AllGood}
 
 module _ (K D : ℕ) (few : K ≤ 64) (near : D ≤ 4096) where
   sayable : (after : ℕ) (x : Op) → Good K D after x → Sayable x

@@ -19,7 +19,7 @@ use Rattle.table.specs.declared.trees.Tree.the-variants.{Entry, Exit, ShortEntr
 use Rattle.rules.specs.Meaning.{holds, says}
 use Rattle.rules.specs.Flat.{conditionAt}
 use Rattle.table.specs.Header.{treeNumber}
-use Rattle.rules.specs.Joined.{tree-joined}
+use Rattle.rules.specs.Laws.FlatReading.{tree-joined}
 
 pub tree-of-four : (tree : Tree) → treeNumber tree < 4
 tree-of-four Entry = omega arith

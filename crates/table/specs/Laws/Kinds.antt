@@ -20,7 +20,7 @@ use Rattle.table.specs.declared.kinds.ConditionClass.the-variants.{InPos
 use Rattle.table.specs.Named as Named
 use Rattle.table.specs.Kinds.{kinds, kindOf, noKind, constant, reference, price, previous, arithmetic}
 use Rattle.table.specs.Kinds.{comparison, crossing, between, trend, allOf, anyOf, negation, position, barsSince}
-use Rattle.table.specs.HeaderLaws.{both}
+use Rattle.table.specs.Laws.Header.{both}
 
 -- ---- what holds of the 32 rows, and of no row past them
 

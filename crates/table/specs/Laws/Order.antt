@@ -13,9 +13,9 @@ use Rattle.table.specs.declared.places.Place.{Place}
 use Rattle.table.specs.declared.places.Place.the-variants.{Nowhere, At}
 use Rattle.table.specs.Nodes.{sortAt, childCountAt, childSortAt}
 use Rattle.table.specs.Order.{fits}
-use Rattle.table.specs.Forest.{firstTrees, otherTrees, over, trees, size, sorts, Sorted}
+use Rattle.table.specs.Forest.{firstTrees, otherTrees, nodeOver, trees, size, sorts, Sorted}
 use Rattle.table.specs.Ends.{placeOr, endAt, Link}
-use Rattle.table.specs.ForestLaws.{left-suc, other-other, size-split, sorts-first, sorted-first}
+use Rattle.table.specs.Laws.Forest.{left-suc, other-other, size-split, sorts-first, sorted-first}
 
 pub never-at : (i : ℕ) → At i ≡ Nowhere → ⊥
 never-at i e = let z : _≡_ {A = ℕ} 0 1 = cc in omega arith
@@ -43,7 +43,7 @@ fits-short t i w ws h = never-at i h
 
 -- The sorts of the trees are those wanted, and each node has the children that its kind takes.
 pub sorts-trees : (t : List ℕ) (m i : ℕ) (ws : List ℕ) → fits t m i ws ≡ Nowhere → (sorts (trees t m i) ≡ ws) × Sorted (trees t m i)
-unfolding trees over sorts Sorted sortAt childCountAt childSortAt
+unfolding trees nodeOver sorts Sorted sortAt childCountAt childSortAt
 sorts-trees t zero i [] h = (refl, tt)
 sorts-trees t zero i (w ∷ ws) h = absurd (fits-short t i w ws h)
 sorts-trees t (suc m) i [] h = absurd (fits-none t m i h)
@@ -81,7 +81,7 @@ record Skip (t : List ℕ) (m j : ℕ) (vs : List ℕ) : Type 0 where
 
 skip-node : (t : List ℕ) (m j v : ℕ) (vs : List ℕ) → eqb (sortAt t j) v ≡ true
     → Skip t m (j + 1) (replicate (childCountAt t j) (childSortAt t j) ++ vs) → Skip t (suc m) j (v ∷ vs)
-unfolding fits otherTrees firstTrees size trees over
+unfolding fits otherTrees firstTrees size trees nodeOver
 skip-node t m j v vs s k =
     record {
       d = suc (k .d);
@@ -121,7 +121,7 @@ skip-none t m j =
     }
 
 skip : (t : List ℕ) (m j : ℕ) (vs ws : List ℕ) → fits t m j (vs ++ ws) ≡ Nowhere → Skip t m j vs
-unfolding fits otherTrees firstTrees size trees over
+unfolding fits otherTrees firstTrees size trees nodeOver
 skip t zero j [] ws h = skip-none t zero j
 skip t zero j (v ∷ vs) ws h = absurd (never-at j h)
 skip t (suc m) j [] ws h = skip-none t (suc m) j
@@ -137,7 +137,7 @@ complete t zero p e h = omega arith
 complete t (suc m) p e h = refl
 
 some-size : (t : List ℕ) (e j : ℕ) → j < e → 0 < size (firstTrees 1 (trees t (e - j) j))
-unfolding size firstTrees trees over
+unfolding size firstTrees trees nodeOver
 some-size t e j h = rw (left-suc e j h) (omega arith)
 
 link-here : (t : List ℕ) (e j : ℕ) (us : List ℕ) → j < e → fits t (e - j) j (sortAt t j ∷ us) ≡ Nowhere → Link t e j (endAt t (e - j) j)

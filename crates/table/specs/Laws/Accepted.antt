@@ -22,9 +22,9 @@ use Rattle.table.specs.Nesting.{deeper, tooDeep}
 use Rattle.table.specs.Reach.{treeReach, farAt, tooFar, rowsNeeded}
 use Rattle.table.specs.Checked.{orRefused, orHeader, from9, from8, from7, checked}
 use Rattle.table.specs.Ends.{endAt, endOf, endsAll, endsFor, endsBeside, Link, Linked}
-use Rattle.table.specs.EndsLaws.{from-at}
-use Rattle.table.specs.HeaderLaws.{HeaderRight, header-right}
-use Rattle.table.specs.OrderLaws.{never-at, sorts-trees, each, link-end}
+use Rattle.table.specs.Laws.Ends.{from-at}
+use Rattle.table.specs.Laws.Header.{HeaderRight, header-right}
+use Rattle.table.specs.Laws.Order.{never-at, sorts-trees, each, link-end}
 
 -- ---- from the answer to the rules
 

@@ -8,7 +8,7 @@ use native.Mathlib.Nat.{zero-add, suc-add}
 use lib.ListN.{replicate}
 use Rattle.table.specs.declared.nodes.Node.{Node}
 use Rattle.table.specs.Nodes.{nodeAt, childCountAt}
-use Rattle.table.specs.Forest.{Forest, none, tree, firstTrees, otherTrees, over, trees, size, flat, nodes, sorts, Sorted}
+use Rattle.table.specs.Forest.{Forest, none, tree, firstTrees, otherTrees, nodeOver, trees, size, flat, nodes, sorts, Sorted}
 
 -- The nodes from node i up to e: how many are left.
 pub left-suc : (e i : ℕ) → i < e → e - i ≡ suc (e - (i + 1))
@@ -68,6 +68,6 @@ sorted-first (suc k) (tree n below rest) h =
 
 -- Of every byte string: the trees' nodes in prefix order are the table's nodes.
 pub flat-trees : (t : List ℕ) (m i : ℕ) → flat (trees t m i) ≡ nodes t m i
-unfolding flat trees over nodes
+unfolding flat trees nodeOver nodes
 flat-trees t zero i = refl
 flat-trees t (suc m) i = ap (λ (l : List Node). nodeAt t i ∷ l) (flat-split (childCountAt t i) (trees t m (i + 1)) ∙ flat-trees t m (i + 1))

@@ -18,7 +18,7 @@ use Rattle.steps.specs.declared.Op.{Op}
 use Rattle.steps.specs.declared.Op.the-variants.{Arith, Compare, Cross, Between, Turn, JumpIf}
 use Rattle.steps.specs.Machine.{Values, ago, keep, does, effect, after, run, start, answers}
 use Rattle.steps.specs.Translation.{code, codeOf, codeEach, trendTest}
-use Rattle.steps.specs.Ago.{arith-ago, prev-ago, now-ago, cross-ago, trend-ago}
+use Rattle.steps.specs.Laws.Ago.{arith-ago, prev-ago, now-ago, cross-ago, trend-ago}
 
 abbrev holding : Bool → List Value → Values
 holding b vs = record { stack = vs; answer = b }

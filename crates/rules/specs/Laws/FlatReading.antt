@@ -8,17 +8,17 @@ use borrow.Author.Tests.{lt-ltb, lt-leb}
 use Rattle.table.specs.declared.kinds.Kind.{Kind}
 use Rattle.table.specs.declared.answer.Answer.the-variants.{Accepted}
 use Rattle.table.specs.Kinds.{kindOf}
-use Rattle.table.specs.KindLaws.{OperandKind, a-const, a-ref, a-price, a-prev, an-arith, operand-kind}
-use Rattle.table.specs.KindLaws.{ConditionKind, a-compare, a-cross, a-between, a-trend, an-all, an-any, a-not, a-position, a-count, condition-kind}
+use Rattle.table.specs.Laws.Kinds.{OperandKind, a-const, a-ref, a-price, a-prev, an-arith, operand-kind}
+use Rattle.table.specs.Laws.Kinds.{ConditionKind, a-compare, a-cross, a-between, a-trend, an-all, an-any, a-not, a-position, a-count, condition-kind}
 use Rattle.table.specs.Header.{count, root}
 use Rattle.table.specs.Nodes.{nodeAt, sortAt, childCount, childCountAt, childSortAt}
 use Rattle.table.specs.Checked.{checked}
 use Rattle.table.specs.Ends.{endsAll, endsBeside, Link, Linked}
 use Rattle.table.specs.Reading as Reading
 use Rattle.table.specs.Reading.{child, operandBy, operandFrom, conditionBy, conditionFrom, treeOf}
-use Rattle.table.specs.Accepted.{Whole, tree-whole, ends-of}
-use Rattle.table.specs.Walking.{Stands, node-there, sort-there, level-left, stands-one, stands-next, stands-below, child-first, child-next}
-use Rattle.table.specs.Walking.{condition-first, conditions-none, conditions-more, operand-is, condition-is, tree-reads, tree-stands}
+use Rattle.table.specs.Laws.Accepted.{Whole, tree-whole, ends-of}
+use Rattle.table.specs.Laws.Walking.{Stands, node-there, sort-there, level-left, stands-one, stands-next, stands-below, child-first, child-next}
+use Rattle.table.specs.Laws.Walking.{condition-first, conditions-none, conditions-more, operand-is, condition-is, tree-reads, tree-stands}
 use Rattle.rules.specs.Shapes.{endIn, operandOf, conditionOf, operandShape, conditionShape}
 use Rattle.rules.specs.Flat.{growOperand, operandAt, growConditions, group as groupOf, growCondition, conditionAt}
 
