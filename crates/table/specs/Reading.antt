@@ -1,6 +1,6 @@
 -- The trees of a table as trees: read off the forest of its nodes, each node over what is below it. Bytes that are no
 -- accepted table read as some tree too; RoundTrip says why the reading is right. Definitions only.
-use mathlib.Core.Bool.{Bool, not, cond}
+use mathlib.Core.Bool.{Bool, not}
 use mathlib.Core.List.{List, [], _∷_}
 use Prim.Native.Nat.{ℕ, _-_}
 use lib.ListN.{getD}

@@ -13,7 +13,7 @@ use Rattle.table.specs.Limits.{levels, levelsOf, levelsOfAll}
 use Rattle.rules.specs.declared.PositionState.{PositionState}
 use Rattle.rules.specs.declared.Value.{Value}
 use Rattle.rules.specs.Values.{both}
-use Rattle.rules.specs.Meaning.{value, holds, allHold, anyHolds, newest, says}
+use Rattle.rules.specs.Meaning.{holds, allHold, anyHolds, newest, says}
 use Rattle.steps.specs.declared.Op.{Op}
 use Rattle.steps.specs.declared.Op.the-variants.{Arith, Compare, Cross, Between, Turn, JumpIf}
 use Rattle.steps.specs.Machine.{Values, ago, keep, does, effect, after, run, start, answers}

@@ -11,9 +11,8 @@ use lib.ListN.{replicate}
 use Rattle.table.specs.declared.nodes.Node.{Node}
 use Rattle.table.specs.declared.answer.Answer.the-variants.{Accepted}
 use Rattle.table.specs.declared.places.Place.the-variants.{Nowhere}
-use Rattle.table.specs.Kinds.{kindOf}
 use Rattle.table.specs.Header.{count, root}
-use Rattle.table.specs.Nodes.{nodeAt, sortAt, childCount, childCountAt, childSortAt}
+use Rattle.table.specs.Nodes.{nodeAt, sortAt, childCountAt, childSortAt}
 use Rattle.table.specs.Order.{orElse}
 use Rattle.table.specs.Forest.{Forest, forestOf, firstTrees, otherTrees, nodeOver, trees, sorts, Sorted}
 use Rattle.table.specs.Forest as Forest
