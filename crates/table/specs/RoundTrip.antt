@@ -15,7 +15,8 @@ use Rattle.table.specs.Bytes.{Bytes}
 use Rattle.table.specs.Laws.AcceptedWritten.{round-trip}
 use Rattle.table.specs.Laws.AcceptedWithin.{rule-within}
 use Rattle.table.specs.Laws.WrittenBytes.{written-bytes}
-use Rattle.table.specs.Laws.WrittenAccepted.{reachOfShort, is-accepted, reads-back}
+use Rattle.table.specs.Laws.WrittenTrees.{reachOfShort}
+use Rattle.table.specs.Laws.WrittenAccepted.{is-accepted, reads-back}
 
 -- **An accepted table is the table of the rule that it holds**: its four trees, written in prefix order under the paper's
 -- header, are its own bytes. (`Bytes`: each is below 256, as in every `&[u8]`.)

@@ -27,7 +27,9 @@ use Rattle.table.specs.Laws.Ends.{from-two, from-all}
 use Rattle.table.specs.Laws.Header.{both, HeaderRight}
 use Rattle.table.specs.Laws.Forest.{flat-trees}
 use Rattle.table.specs.Laws.Reading.{many-conditions}
-use Rattle.table.specs.Laws.Writing.{Right, all-one, written-all, node-long, condition-long}
+use Rattle.table.specs.Laws.Writing.{Right, written-all}
+use Rattle.table.specs.Laws.OwnBytes.{all-one}
+use Rattle.table.specs.Laws.NodeBytes.{node-long, condition-long}
 use Rattle.table.specs.Laws.Accepted.{header-of, node-of, tree-ends, tree-sorts}
 
 -- ---- each tree

@@ -24,7 +24,8 @@ use Rattle.table.specs.Laws.Accepted.{or-none}
 use Rattle.table.specs.Laws.Kinds.{OperandKind, a-const, a-ref, a-price, a-prev, an-arith, operand-kind}
 use Rattle.table.specs.Laws.Kinds.{ConditionKind, a-compare, a-cross, a-between, a-trend, an-all, an-any, a-not, a-position, a-count, condition-kind}
 use Rattle.table.specs.Laws.Reading.{as-many, many-conditions, below-operand}
-use Rattle.table.specs.Laws.Writing.{Right, Own, own-fields}
+use Rattle.table.specs.Laws.Writing.{Right}
+use Rattle.table.specs.Laws.OwnBytes.{Own, own-fields}
 
 -- ---- operands in a row
 

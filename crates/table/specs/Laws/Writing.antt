@@ -2,13 +2,13 @@
 -- the forest's own nodes back, in prefix order.
 -- Assumes nothing.
 use mathlib.Core.Path.{_≡_, refl, sym, _∙_, ap}
-use mathlib.Core.Bool.{true, cond, not}
+use mathlib.Core.Bool.{true, cond}
 use mathlib.Core.List.{List, [], _∷_, _++_, append-assoc, append-nil}
-use Prim.Native.Nat.{ℕ, zero, suc, _+_, _*_, _<_}
+use Prim.Native.Nat.{ℕ, zero, suc, _+_, _<_}
 use native.Mathlib.Omega.{arith}
-use lib.ListN.{length, replicate, length-replicate, length-append}
-use lib.Dec.{ltb, eqb}
-use borrow.Author.Tests.{ltb-true, eqb-true}
+use lib.ListN.{length, replicate, length-replicate}
+use lib.Dec.{eqb}
+use borrow.Author.Tests.{eqb-true}
 use Rattle.table.specs.declared.nodes.Node.{Node}
 use Rattle.table.specs.declared.kinds.Kind.{Kind}
 use Rattle.table.specs.Kinds.{kindOf, constant, reference, price, previous, arithmetic}
@@ -16,82 +16,13 @@ use Rattle.table.specs.Kinds.{comparison, crossing, between, trend, allO
 use Rattle.table.specs.Nodes.{childCount, childrenRight, nRight, constantRight, ownRight}
 use Rattle.table.specs.Forest.{Forest, sorts, Sorted, flat}
 use Rattle.table.specs.Forest as Forest
-use Rattle.table.specs.Trees as Tree
-use Rattle.table.specs.Trees.{Operand, const, ref, prev, arith as sums, Condition, Conditions, compare, cross, every, any, negated, inPosition, none}
-use Rattle.table.specs.Trees.{more}
-use Rattle.table.specs.Reading.{child, operandBy, operandFrom, operands, firstOf, conditionBy, conditionFrom, conditions}
-use Rattle.table.specs.Writing.{le16, le32, le64, node, nodeBytes, nodesBytes, write, writeRow, manyOf, writeOf, writeAll, nodesIn, nodesOf, nodesOfAll}
-use Rattle.table.specs.Laws.Header.{both}
+use Rattle.table.specs.Trees.{Operand, none}
+use Rattle.table.specs.Reading.{operandBy, operandFrom, operands, conditionBy, conditionFrom, conditions}
+use Rattle.table.specs.Writing.{node, nodeBytes, nodesBytes, write, writeRow, manyOf, writeOf, writeAll}
 use Rattle.table.specs.Laws.Kinds.{OperandKind, a-const, a-ref, a-price, a-prev, an-arith, operand-kind}
 use Rattle.table.specs.Laws.Kinds.{ConditionKind, a-compare, a-cross, a-between, a-trend, an-all, an-any, a-not, a-position, a-count, condition-kind}
 use Rattle.table.specs.Laws.Reading.{as-many, many-conditions, below-operand}
-
--- ---- rows of a known length
-
-zero-suc : (n : ℕ) → 0 ≡ suc n → ⊥
-zero-suc n h = omega arith
-
-write-none : (os : List Operand) → length os ≡ 0 → writeRow os ≡ []
-unfolding writeRow
-write-none [] h = refl
-write-none (a ∷ os) h = absurd (zero-suc (length os) (sym h))
-
-write-one : (os : List Operand) → length os ≡ 1 → writeRow os ≡ write (child os 0)
-unfolding writeRow
-write-one [] h = absurd (zero-suc 0 h)
-write-one (a ∷ os) h = rw (write-none os (omega arith)) (append-nil (write a))
-
-write-two : (os : List Operand) → length os ≡ 2 → writeRow os ≡ write (child os 0) ++ write (child os 1)
-unfolding writeRow
-write-two [] h = absurd (zero-suc 1 h)
-write-two (a ∷ os) h = rw (write-one os (omega arith))
-
-write-three : (os : List Operand) → length os ≡ 3 → writeRow os ≡ write (child os 0) ++ write (child os 1) ++ write (child os 2)
-unfolding writeRow
-write-three [] h = absurd (zero-suc 2 h)
-write-three (a ∷ os) h = rw (write-two os (omega arith)) (sym (append-assoc (write a) _ _))
-
-all-none : (cs : Conditions) → manyOf cs ≡ 0 → writeAll cs ≡ []
-unfolding manyOf writeAll
-all-none none h = refl
-all-none (more c cs) h = absurd (zero-suc (manyOf cs) (sym h))
-
-pub all-one : (cs : Conditions) → manyOf cs ≡ 1 → writeAll cs ≡ writeOf (firstOf cs)
-unfolding manyOf writeAll firstOf
-all-one none h = absurd (zero-suc 0 h)
-all-one (more c cs) h = rw (all-none cs (omega arith)) (append-nil (writeOf c))
-
--- ---- a node's own bytes
-
-pub record Own (k : ℕ) (n : Node) (row : Kind) : Type 0 where
-  pub selector : n .selector < row .selectors
-  pub children : childrenRight (n .children) (row .children) ≡ true
-  pub number : nRight k (n .n) (row .n) ≡ true
-  pub constant : constantRight (n .constant) (row .constant) ≡ true
-
-pub own-fields : (k : ℕ) (n : Node) (row : Kind) → ownRight k n row ≡ true → Own k n row
-unfolding ownRight
-own-fields k n row h =
-    let h4 = both _ (constantRight (n .constant) (row .constant)) h in
-    let h3 = both _ (nRight k (n .n) (row .n)) (h4 .0) in
-    let h2 = both _ (childrenRight (n .children) (row .children)) (h3 .0) in
-    let h1 = both (not (eqb (row .sort) 0)) (ltb (n .selector) (row .selectors)) (h2 .0) in
-    record { selector = ltb-true _ _ (h1 .1); children = h2 .1; number = h3 .1; constant = h4 .1 }
-
-fields : (n : Node) (kind selector children number constant : ℕ) → n .kind ≡ kind → n .selector ≡ selector → n .children ≡ children → n .n ≡ number
-    → n .constant ≡ constant
-    → nodeBytes n ≡ node kind selector children number constant
-unfolding nodeBytes
-fields n kind selector children number constant a b c d e = cc
-
--- a node that uses its n beside its kind, and one that uses its kind alone
-number-node : (n : Node) (kind : ℕ) → n .kind ≡ kind → n .selector < 1 → eqb (n .children) 0 ≡ true → eqb (n .constant) 0 ≡ true
-    → nodeBytes n ≡ node kind 0 0 (n .n) 0
-number-node n kind k s c x = fields n kind 0 0 (n .n) 0 k (omega arith) (eqb-true _ _ c) refl (eqb-true _ _ x)
-
-plain-node : (n : Node) (kind : ℕ) → n .kind ≡ kind → n .selector < 1 → eqb (n .children) 0 ≡ true → eqb (n .n) 0 ≡ true
-    → eqb (n .constant) 0 ≡ true → nodeBytes n ≡ node kind 0 0 0 0
-plain-node n kind k s c m x = fields n kind 0 0 0 0 k (omega arith) (eqb-true _ _ c) (eqb-true _ _ m) (eqb-true _ _ x)
+use Rattle.table.specs.Laws.OwnBytes.{write-none, write-one, write-two, write-three, all-one, Own, own-fields, fields, number-node, plain-node}
 
 -- ---- an operand's node, over the operands below it
 
@@ -271,47 +202,3 @@ written-all k (Forest.tree n below rest) (suc m) r h s =
     writes-condition k n below (nodesBytes (flat below)) (r .0) (h .0) (λ j g. written-row k below j (r .1) (h .1) g)
     (λ j g. written-all k below j (r .1) (h .1) g) (condition-kind (n .kind) sort) in
     tree-bytes n below rest ∙ rw (a, b)
-
--- ---- sixteen bytes a node
-
-pub node-long : (a b c d e : ℕ) → length (node a b c d e) ≡ 16
-unfolding node le64 le32 le16
-node-long a b c d e = refl
-
-over-one : (k d : ℕ) (a : List ℕ) → length (node k 0 0 d 0 ++ a) ≡ 16 + length a
-over-one k d a = length-append (node k 0 0 d 0) a ∙ ap (λ (m : ℕ). m + length a) (node-long k 0 0 d 0)
-
-over-two : (k : ℕ) (a b : List ℕ) → length (node k 0 0 0 0 ++ a ++ b) ≡ 16 + length a + length b
-over-two k a b = length-append (node k 0 0 0 0 ++ a) b ∙ ap (λ (m : ℕ). m + length b) (over-one k 0 a)
-
-over-three : (k : ℕ) (a b c : List ℕ) → length (node k 0 0 0 0 ++ a ++ b ++ c) ≡ 16 + length a + length b + length c
-over-three k a b c = length-append (node k 0 0 0 0 ++ a ++ b) c ∙ ap (λ (m : ℕ). m + length c) (over-two k a b)
-
-over-group : (k m : ℕ) (a : List ℕ) → length (node k 0 m 0 0 ++ a) ≡ 16 + length a
-over-group k m a = length-append (node k 0 m 0 0) a ∙ ap (λ (x : ℕ). x + length a) (node-long k 0 m 0 0)
-
-pub operand-long : (a : Operand) → length (write a) ≡ 16 * nodesIn a
-unfolding write nodesIn
-operand-long (const x) = node-long 1 0 0 0 x
-operand-long (ref x) = node-long 2 0 0 x 0
-operand-long (Tree.price x) = node-long 3 x 0 0 0
-operand-long (prev a x) = over-one 4 x (write a) ∙ omega (arith, operand-long a)
-operand-long (sums k a b) = over-two k (write a) (write b) ∙ omega (arith, operand-long a, operand-long b)
-
-mutual
-  unfolding writeOf nodesOf
-
-  pub condition-long : (c : Condition) → length (writeOf c) ≡ 16 * nodesOf c
-  condition-long (compare k a b) = over-two k (write a) (write b) ∙ omega (arith, operand-long a, operand-long b)
-  condition-long (cross k a b) = over-two k (write a) (write b) ∙ omega (arith, operand-long a, operand-long b)
-  condition-long (Tree.between x a b) = over-three 24 (write x) (write a) (write b) ∙ omega (arith, operand-long x, operand-long a, operand-long b)
-  condition-long (Tree.trend k a x) = over-one k x (write a) ∙ omega (arith, operand-long a)
-  condition-long (every cs) = over-group 27 _ (writeAll cs) ∙ omega (arith, conditions-long cs)
-  condition-long (any cs) = over-group 28 _ (writeAll cs) ∙ omega (arith, conditions-long cs)
-  condition-long (negated c) = over-one 29 0 (writeOf c) ∙ omega (arith, condition-long c)
-  condition-long (inPosition w) = node-long 30 (cond w 1 0) 0 0 0
-  condition-long (Tree.barsSince p k) = node-long 31 p 0 k 0
-
-  pub conditions-long : (cs : Conditions) → length (writeAll cs) ≡ 16 * nodesOfAll cs
-  conditions-long none = refl
-  conditions-long (more c cs) = length-append (writeOf c) (writeAll cs) ∙ omega (arith, condition-long c, conditions-long cs)

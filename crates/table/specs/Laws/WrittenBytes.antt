@@ -15,7 +15,7 @@ use Rattle.table.specs.Writing.{le16, le32, le64, node, write, writeOf, 
 use Rattle.table.specs.Writing.{writeShort, nodesOfRule, headerOf, tableOf}
 use Rattle.table.specs.Limits.{Within, WithinOf, WithinAll, ShortWithin, RuleWithin}
 use Rattle.table.specs.Bytes.{Bytes}
-use Rattle.table.specs.Laws.WrittenAccepted.{some-nodes}
+use Rattle.table.specs.Laws.WrittenTrees.{some-nodes}
 
 unfoldable Small : List ℕ → Type 0
 Small [] = Unit
