@@ -259,10 +259,10 @@ unfolding growCondition stepOf
     ))
     (λ c. omega (arith, c .before .before .before .before .if1 .left))
     (λ c κs. search needs)
-    (λ c. let p = c .before .before .before .before in let q = p .before .before in let r = q .before .before .before in let s = r .args in
-    omega (
+    (λ c. omega (
       arith,
-      fits-after _ _ _ (p .emit-condition .ensures)
+      let p = c .before .before .before .before in let q = p .before .before in let r = q .before .before .before in let s = r .args in
+          fits-after _ _ _ (p .emit-condition .ensures)
           (rw (one-more (conditionAt (s .left) (s .t .now) (s .ends .now)) (s .ends .now) (s .n) (s .j) (q .if1 .left), code-more) at (r .pre .1 .1)) .bytes,
     ))
     (λ c κs. let p = c .before .before .before .before in let q = p .before .before in let r = q .before .before .before in let s = r .args in
