@@ -3,7 +3,7 @@ mod put;
 
 use put::put;
 use put::put_decimal;
-use table::Answer;
+use table::answer::Answer;
 ghost use mathlib.Core.Path.{_≡_};
 ghost use Prim.Native.Nat.{_≤_};
 ghost use lib.ListN.{length};

@@ -14,9 +14,9 @@ use execution::Terms;
 use metrics::Metrics;
 use records::settings::Settings;
 use records::state::State;
-use rules::Tree;
-use steps::DepthAnswer;
 use steps::Translated;
+use table::depth::DepthAnswer;
+use table::trees::Tree;
 
 // The paper's worked example: entry CrossAbove(slot 0, slot 1); exit Lt(close, Prev(close, 2)). K is 2.
 const TABLE: [u8; 128] = [
@@ -267,7 +267,7 @@ fn say_depth() {
     report::say(
         b"rule table      entry CrossAbove(slot 0, slot 1), exit Lt(close, Prev(close, 2))\n",
     );
-    match steps::depth::depth(&TABLE, 0) {
+    match table::depth::depth(&TABLE, 0) {
         DepthAnswer::Refuses(number, place) => say_refusal(number as u64, place as u64),
         DepthAnswer::Needs { rows, row, window } => {
             report::say_count(b"accepted        its window is ", rows, b" rows deep\n");

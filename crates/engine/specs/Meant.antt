@@ -6,7 +6,7 @@ use mathlib.Core.List.{List}
 use native.Mathlib.Omega.{arith}
 use lib.Dec.{ltb}
 use Rattle.rows.specs.History.{History, historyOf, lastRows}
-use Rattle.table.specs.declared.Answer.the-variants.{Accepted}
+use Rattle.table.specs.declared.answer.Answer.the-variants.{Accepted}
 use Rattle.table.specs.Checked.{checked}
 use Rattle.table.specs.Header.{slots}
 use Rattle.table.specs.Reading.{treeOf}
@@ -14,7 +14,7 @@ use Rattle.table.specs.Trees.{Condition, reachOf}
 use Rattle.rules.specs.declared.PositionState.{PositionState}
 use Rattle.rules.specs.Meaning as Meaning
 use Rattle.steps.specs.Bytes.{bytesOf}
-use Rattle.steps.specs.Fields.{Bytes}
+use Rattle.table.specs.Bytes.{Bytes}
 use Rattle.steps.specs.Translating.{stepsOf}
 use Rattle.steps.specs.Window.{window-steps}
 use Rattle.records.specs.declared.state.Order.the-variants.{Idle}

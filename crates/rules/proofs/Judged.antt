@@ -5,18 +5,19 @@ use mathlib.Core.Bool.{Bool, true, false, cond}
 use mathlib.Core.List.{List}
 use lib.Dec.{eqb}
 use Rattle.rows.specs.History.{historyOf, wholeRows}
-use Rattle.table.specs.declared.Answer.{Answer}
-use Rattle.table.specs.declared.Answer.the-variants.{Accepted, Refused}
+use Rattle.table.specs.declared.answer.Answer.{Answer}
+use Rattle.table.specs.declared.answer.Answer.the-variants.{Accepted, Refused}
 use Rattle.table.specs.Header.{slots, count, root}
 use Rattle.table.specs.Checked.{checked}
 use Rattle.table.specs.Ends.{endsBeside}
 use Rattle.rules.specs.declared.PositionState.{PositionState}
-use Rattle.rules.specs.declared.Tree.{Tree}
+use Rattle.table.specs.declared.trees.Tree.{Tree}
 use Rattle.rules.specs.declared.RuleAnswer.the-variants.{Says, Refuses}
 use Rattle.rules.specs.Meaning.{says}
 use Rattle.rules.specs.Flat.{conditionAt}
-use Rattle.rules.specs.Answers.{treeNumber, stateRight, judged, afterCheck, answered}
-use Rattle.rules.specs.AnswerLaws.{tree-of-four, flat-says}
+use Rattle.table.specs.Header.{treeNumber}
+use Rattle.rules.specs.Answers.{stateRight, judged, afterCheck, answered}
+use Rattle.rules.specs.Laws.Answers.{tree-of-four, flat-says}
 
 module _ (t : List ℕ) (tree : Tree) (rows : List ℕ) (s : PositionState) where
   pub refused : (a : Answer) (number place : ℕ) → a ≡ checked t → a ≡ Refused number place → Refuses number place ≡ answered t tree rows s

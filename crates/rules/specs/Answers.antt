@@ -4,26 +4,18 @@ use mathlib.Core.Bool.{Bool, true, cond, _&&_}
 use mathlib.Core.List.{List}
 use lib.Dec.{ltb, leb}
 use Rattle.rows.specs.History.{historyOf, wholeRows}
-use Rattle.table.specs.declared.Answer.{Answer}
-use Rattle.table.specs.declared.Answer.the-variants.{Accepted, Refused}
-use Rattle.table.specs.Header.{slots}
+use Rattle.table.specs.declared.answer.Answer.{Answer}
+use Rattle.table.specs.declared.answer.Answer.the-variants.{Accepted, Refused}
+use Rattle.table.specs.Header.{treeNumber, slots}
 use Rattle.table.specs.Checked.{checked}
 use Rattle.table.specs.Reading.{treeOf}
 use Rattle.rules.specs.declared.Entered.{Entered}
 use Rattle.rules.specs.declared.Entered.the-variants.{Never, Bar}
 use Rattle.rules.specs.declared.PositionState.{PositionState}
-use Rattle.rules.specs.declared.Tree.{Tree}
-use Rattle.rules.specs.declared.Tree.the-variants.{Entry, Exit, ShortEntry, ShortExit}
+use Rattle.table.specs.declared.trees.Tree.{Tree}
 use Rattle.rules.specs.declared.RuleAnswer.{RuleAnswer}
 use Rattle.rules.specs.declared.RuleAnswer.the-variants.{Says, Refuses}
 use Rattle.rules.specs.Meaning.{says}
-
--- "entry, exit, short entry, short exit": the trees in the header's order
-abbrev pub treeNumber : Tree → ℕ
-treeNumber Entry = 0
-treeNumber Exit = 1
-treeNumber ShortEntry = 2
-treeNumber ShortExit = 3
 
 -- "13: counts in the state exceed .. 4,294,967,295 .. or an entry bar is not below the bars seen": this is where neither.
 abbrev pub entryBelow : ℕ → Entered → Bool

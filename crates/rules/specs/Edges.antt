@@ -6,6 +6,7 @@ use mathlib.Core.List.{List, [], _∷_, _++_}
 use lib.Ieee as Ieee
 use Rattle.floats.specs.Floats.{zero, abs}
 use Rattle.rows.specs.History.{historyOf}
+use Rattle.table.specs.Named as Named
 use Rattle.table.specs.Trees.{Operand, const, price, ref, prev, arith, Condition, compare, cross, every, any, negated, none, reach, reachOf}
 use Rattle.rules.specs.declared.PositionState.{PositionState}
 use Rattle.rules.specs.declared.Entered.the-variants.{Never}
@@ -29,14 +30,14 @@ close : Operand
 close = price 3
 
 gt : Operand → Operand → Condition
-gt = compare 16
+gt = compare Named.gt
 
 crossAbove : Operand → Operand → Condition
-crossAbove = cross 22
+crossAbove = cross Named.crossAbove
 
 oneByZero : Operand
 unfolding num0 num1
-oneByZero = arith 8 num1 num0
+oneByZero = arith Named.div num1 num0
 
 -- a row with this close and no slot, and one whose only slot is absent
 row : ℕ → List ℕ
@@ -68,8 +69,8 @@ starred =
     answer (ask 0 (row10 ++ row11) (crossAbove close num10)) ∷
     answer (ask 1 rowAbsent (gt (ref 0) num0)) ∷
     answer (ask 1 rowAbsent (negated (gt (ref 0) num0))) ∷
-    answer (ask 0 row10 (compare 20 oneByZero oneByZero)) ∷
-    answer (ask 0 row10 (compare 21 oneByZero oneByZero)) ∷
+    answer (ask 0 row10 (compare Named.eq oneByZero oneByZero)) ∷
+    answer (ask 0 row10 (compare Named.ne oneByZero oneByZero)) ∷
     answer (ask 0 row10 (every none)) ∷
     answer (ask 0 row10 (any none)) ∷
     answer (ask 0 (row10 ++ row10 ++ row10) (gt (prev num5 3) num1)) ∷
@@ -84,5 +85,7 @@ pub edges : starred ≡
     answer true ∷ answer false ∷
     answer false ∷ answer true ∷
     reaches 6 ∷ [])
-unfolding num0 num1 num5 num10 close gt crossAbove oneByZero row row10 row11 rowAbsent flat ask starred historyOf newest there value holds says priceOf slotOf divide combine both tested compared crossed reach reachOf abs Ieee.lt Ieee.le Ieee.add Ieee.sub Ieee.mul Ieee.div Ieee.neg Ieee.ofBits
+unfolding num0 num1 num5 num10 close gt crossAbove oneByZero row row10 row11 rowAbsent flat ask starred historyOf newest there value holds says
+    priceOf slotOf divide combine both tested compared crossed reach reachOf abs Ieee.lt Ieee.le Ieee.add Ieee.sub Ieee.mul Ieee.div Ieee.neg
+    Ieee.ofBits
 edges = refl

@@ -3,7 +3,8 @@
 use Prim.Native.Nat.{ℕ, zero, suc}
 use mathlib.Core.Bool.{Bool, true, false}
 use mathlib.Core.List.{List}
-use Rattle.table.specs.Trees.{Operand, const, ref, price, prev, arith, Condition, Conditions, compare, cross, between, trend, every, any, negated, inPosition, barsSince, none, more}
+use Rattle.table.specs.Trees.{Operand, const, ref, price, prev, arith, Condition, Conditions, compare, cross, between, trend, every, any, negated, inPosition}
+use Rattle.table.specs.Trees.{barsSince, none, more}
 use Rattle.rules.specs.declared.shapes.OperandShape.{OperandShape}
 use Rattle.rules.specs.declared.shapes.OperandShape.the-variants.{Const, Ref, Price, Prev, Arith, NoOperand}
 use Rattle.rules.specs.declared.shapes.ConditionShape.{ConditionShape}

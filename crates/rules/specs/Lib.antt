@@ -1,12 +1,12 @@
+-- ---- definitions: what a rule means, and how it is read off a flat table
 pub mod Values
 pub mod Meaning
 pub mod Shapes
 pub mod Flat
-pub mod Laws
-pub mod ShapeLaws
-pub mod Joined
 pub mod Answers
-pub mod AnswerLaws
-pub mod Window
+-- ---- laws of the definitions
+pub mod Laws
+-- ---- THE THEOREMS: the starred cases, and the window
 pub mod Edges
+pub mod Window
 pub mod WindowAnswers

@@ -6,6 +6,7 @@ use lib.ListN.{getD}
 use lib.Dec.{ltb, leb, eqb}
 use lib.Ieee.{Float, nan}
 use Rattle.floats.specs.Floats.{_⊕_, _⊖_, _⊗_, _⊘_, _≺_, _≼_, floatOf, abs, eps, three, four}
+use Rattle.table.specs.Named as Named
 use Rattle.rules.specs.declared.Value.{Value}
 use Rattle.rules.specs.declared.Value.the-variants.{Missing, Number}
 use Rattle.rules.specs.declared.Entered.{Entered}
@@ -34,7 +35,7 @@ divide x y = cond (abs y ≺ eps) nan (x ⊘ y)
 
 -- "5..8 Add, Sub, Mul, Div"
 unfoldable pub combine : ℕ → Float → Float → Float
-combine kind x y = cond (eqb kind 5) (x ⊕ y) (cond (eqb kind 6) (x ⊖ y) (cond (eqb kind 7) (x ⊗ y) (divide x y)))
+combine kind x y = cond (eqb kind Named.add) (x ⊕ y) (cond (eqb kind Named.sub) (x ⊖ y) (cond (eqb kind Named.mul) (x ⊗ y) (divide x y)))
 
 -- "Arithmetic is missing if either side is."
 unfoldable pub both : ℕ → Value → Value → Value
@@ -45,11 +46,11 @@ both kind (Number x) (Number y) = Number (combine kind x y)
 -- "16..21 Gt, Lt, Ge, Le, Eq, Ne". "Eq is |x − y| < EPS, Ne is |x − y| ≥ EPS."
 unfoldable pub tested : ℕ → Float → Float → Bool
 tested kind x y =
-    cond (eqb kind 16) (y ≺ x)
-    (cond (eqb kind 17) (x ≺ y)
-    (cond (eqb kind 18) (y ≼ x)
-    (cond (eqb kind 19) (x ≼ y)
-    (cond (eqb kind 20) (abs (x ⊖ y) ≺ eps) (eps ≼ abs (x ⊖ y))))))
+    cond (eqb kind Named.gt) (y ≺ x)
+    (cond (eqb kind Named.lt) (x ≺ y)
+    (cond (eqb kind Named.ge) (y ≼ x)
+    (cond (eqb kind Named.le) (x ≼ y)
+    (cond (eqb kind Named.eq) (abs (x ⊖ y) ≺ eps) (eps ≼ abs (x ⊖ y))))))
 
 -- "A comparison with a missing side is no."
 unfoldable pub compared : ℕ → Value → Value → Bool
@@ -57,19 +58,19 @@ compared kind Missing b = false
 compared kind (Number x) Missing = false
 compared kind (Number x) (Number y) = tested kind x y
 
--- "A cross is no .. if any of its four values is missing; above is then ≤ before and > now, below is ≥ and <." 22 is above.
+-- "A cross is no .. if any of its four values is missing; above is then ≤ before and > now, below is ≥ and <."
 unfoldable pub crossed : ℕ → Value → Value → Value → Value → Bool
 crossed kind a b aBefore bBefore =
-    cond (eqb kind 22) (compared 19 aBefore bBefore && compared 16 a b)
-    (compared 18 aBefore bBefore && compared 17 a b)
+    cond (eqb kind Named.crossAbove) (compared Named.le aBefore bBefore && compared Named.gt a b)
+    (compared Named.ge aBefore bBefore && compared Named.lt a b)
 
 -- "Between is closed at both ends."
 unfoldable pub within : Value → Value → Value → Bool
-within x low high = compared 19 low x && compared 19 x high
+within x low high = compared Named.le low x && compared Named.le x high
 
 -- "Rising compares now > then, n bars back"; Falling, the other kind, now < then.
 unfoldable pub trended : ℕ → Value → Value → Bool
-trended kind now then = cond (eqb kind 25) (compared 16 now then) (compared 17 now then)
+trended kind now then = cond (eqb kind Named.rising) (compared Named.gt now then) (compared Named.lt now then)
 
 -- "BarsSinceEntry (selector 0..4: Gt, Lt, Ge, Le, Eq; n = k)": n bars since the entry.
 unfoldable pub counted : ℕ → ℕ → ℕ → Bool

@@ -6,16 +6,17 @@ use native.Mathlib.Omega.{arith}
 use native.Mathlib.Nat.{le-div-iff-mul-le, mul-add-mod-self-right}
 use lib.ListN.{length, length-drop}
 use Rattle.rows.specs.History.{historyOf, wholeRows, lastRows}
-use Rattle.table.specs.declared.Answer.the-variants.{Accepted}
+use Rattle.table.specs.declared.answer.Answer.the-variants.{Accepted}
 use Rattle.table.specs.Trees.{reachOf}
 use Rattle.table.specs.Header.{slots}
 use Rattle.table.specs.Checked.{checked}
 use Rattle.table.specs.Reading.{treeOf}
-use Rattle.table.specs.ReachLaws.{rows-are}
+use Rattle.table.specs.Laws.Reach.{rows-are}
 use Rattle.rules.specs.declared.PositionState.{PositionState}
-use Rattle.rules.specs.declared.Tree.{Tree}
-use Rattle.rules.specs.declared.Tree.the-variants.{Entry, Exit, ShortEntry, ShortExit}
-use Rattle.rules.specs.Answers.{treeNumber, judged, afterCheck, answered}
+use Rattle.table.specs.declared.trees.Tree.{Tree}
+use Rattle.table.specs.declared.trees.Tree.the-variants.{Entry, Exit, ShortEntry, ShortExit}
+use Rattle.table.specs.Header.{treeNumber}
+use Rattle.rules.specs.Answers.{judged, afterCheck, answered}
 use Rattle.rules.specs.Window.{window}
 
 -- The last rows are whole where all are.
@@ -25,7 +26,8 @@ window-whole K D ws =
     let s : ℕ = historyOf K ws .rows - D in
     let long : s * (7 + K) ≤ length ws = le-div-iff-mul-le {k = 7 + K} (omega arith) .0 (omega arith) in
     let split : length ws ≡ s * (7 + K) + (length ws - s * (7 + K)) = omega arith in
-    let same : length ws % (7 + K) ≡ (length ws - s * (7 + K)) % (7 + K) = ap (λ (n : ℕ). n % (7 + K)) split ∙ mul-add-mod-self-right s (7 + K) (length ws - s * (7 + K)) in
+    let same : length ws % (7 + K) ≡ (length ws - s * (7 + K)) % (7 + K) =
+    ap (λ (n : ℕ). n % (7 + K)) split ∙ mul-add-mod-self-right s (7 + K) (length ws - s * (7 + K)) in
     rw (length-drop, same)
 
 -- "The window is D = 1 + the greatest of the four reaches": it reaches further than each tree.

@@ -2,9 +2,10 @@
 use super::Entered;
 use super::PositionState;
 use super::RuleAnswer;
-use super::Tree;
 use super::conditions::eval_condition;
-use table::Answer;
+use table::answer::Answer;
+use table::trees::Tree;
+use table::trees::tree_number;
 ghost use mathlib.Core.Path.{_≡_};
 ghost use mathlib.Core.Bool.{cond, false};
 ghost use lib.Dec.{eqb};
@@ -13,25 +14,13 @@ ghost use Rattle.table.specs.Header.{slots, count, root};
 ghost use Rattle.rules.specs.Meaning as Meaning;
 ghost use Rattle.rules.specs.Meaning.{says};
 ghost use Rattle.rules.specs.Flat.{conditionAt};
-ghost use Rattle.rules.specs.Answers.{treeNumber, stateRight, answered};
+ghost use Rattle.rules.specs.Answers.{stateRight, answered};
 
 // "nesting above 32" is refused.
 const NESTING: usize = 32;
 
 // The most bars that can have been seen.
 const MOST_BARS: u64 = 4_294_967_295;
-
-// The trees in the header's order.
-pub fn tree_number(tree: Tree) -> u8
-    ensures { λ r. ⌜ r ≡ treeNumber tree ⌝ }
-{
-    match tree {
-        Tree::Entry => 0,
-        Tree::Exit => 1,
-        Tree::ShortEntry => 2,
-        Tree::ShortExit => 3,
-    }
-}
 
 // Whether the counts of a position state are in order.
 pub fn state_right(s: PositionState) -> bool
@@ -60,7 +49,9 @@ pub fn newest(rows: &[u64], slots: usize) -> usize
 
 // What a tree says at the newest bar, by the evaluator; an absent tree says no.
 fn eval_tree(t: &[u8], ends: &[usize; 256], tree: u8, rows: &[u64], s: PositionState) -> bool
-    ensures { λ r. ⌜ r ≡ cond (eqb (count (now (t .entry)) tree) 0) false (says (historyOf (slots (now (t .entry))) (now (rows .entry))) s (conditionAt 32 (now (t .entry)) (now (ends .entry)) (root (now (t .entry)) tree))) ⌝ }
+    ensures { λ r. ⌜ r ≡ cond (eqb (count (now (t .entry)) tree) 0) false
+        (says (historyOf (slots (now (t .entry))) (now (rows .entry))) s
+        (conditionAt 32 (now (t .entry)) (now (ends .entry)) (root (now (t .entry)) tree))) ⌝ }
 {
     if table::header::count(t, tree) == 0 {
         return false;

@@ -196,7 +196,8 @@ fn eval_group(
     bar: usize,
     left: usize,
 ) -> bool
-    ensures { λ r. ⌜ r ≡ holds (historyOf slots (now (rows .entry))) s (group all (growConditions (conditionAt left (now (t .entry)) (now (ends .entry))) (now (ends .entry)) n first)) bar ⌝ }
+    ensures { λ r. ⌜ r ≡ holds (historyOf slots (now (rows .entry))) s
+        (group all (growConditions (conditionAt left (now (t .entry)) (now (ends .entry))) (now (ends .entry)) n first)) bar ⌝ }
 {
     let mut at = first;
     let mut m = n;

@@ -24,14 +24,6 @@ pub struct PositionState {
     pub bars_seen: u64,
 }
 
-// One of a table's four trees.
-pub enum Tree {
-    Entry,
-    Exit,
-    ShortEntry,
-    ShortExit,
-}
-
 // What a rule over rows comes to: yes or no, or a refusal's number and place.
 pub enum RuleAnswer {
     Says(bool),

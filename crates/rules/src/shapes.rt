@@ -1,6 +1,11 @@
-// How a node of the table is made up: its kind's data, and the nodes where its children begin. The first child comes
-// right after its node, each further one at the end of the one before. The evaluator and the translator go by this.
-use table::Node;
+// How a node of the table is made up: its kind's data, and the nodes where its children begin. The class of its kind, in the
+// table of kinds, says which. The first child comes right after its node, each further one at the end of the one before. The
+// evaluator and the translator go by this.
+use table::kinds::ConditionClass;
+use table::kinds::OperandClass;
+use table::kinds::kind_of;
+use table::nodes::Node;
+use table::nodes::node_at;
 ghost use mathlib.Core.Path.{_≡_};
 ghost use Rattle.rules.specs.Shapes.{endIn, operandOf, conditionOf, operandShape, conditionShape};
 
@@ -32,63 +37,42 @@ pub fn end_in(ends: &[usize; 256], i: usize) -> usize
     if i < 256 { ends[i] } else { 0 }
 }
 
-fn operand_of(node: Node, first: usize, second: usize) -> OperandShape
-    ensures { λ r. ⌜ r ≡ operandOf node first second ⌝ }
+// The shape of an operand's node by the class of its kind: `first` and `second` are the nodes where its children begin.
+fn operand_of(class: OperandClass, node: Node, first: usize, second: usize) -> OperandShape
+    ensures { λ r. ⌜ r ≡ operandOf class node first second ⌝ }
 {
-    let kind = node.kind;
-    if kind == 1 {
-        return OperandShape::Const(node.constant);
+    match class {
+        OperandClass::Const => OperandShape::Const(node.constant),
+        OperandClass::Ref => OperandShape::Ref(node.n),
+        OperandClass::Price => OperandShape::Price(node.selector),
+        OperandClass::Prev => OperandShape::Prev(first, node.n),
+        OperandClass::Arith => OperandShape::Arith(node.kind, first, second),
+        OperandClass::NoOperand => OperandShape::NoOperand,
     }
-    if kind == 2 {
-        return OperandShape::Ref(node.n);
-    }
-    if kind == 3 {
-        return OperandShape::Price(node.selector);
-    }
-    if kind == 4 {
-        return OperandShape::Prev(first, node.n);
-    }
-    if kind < 5 {
-        return OperandShape::NoOperand;
-    }
-    if kind < 9 {
-        return OperandShape::Arith(kind, first, second);
-    }
-    OperandShape::NoOperand
 }
 
-fn condition_of(node: Node, first: usize, second: usize, third: usize) -> ConditionShape
-    ensures { λ r. ⌜ r ≡ conditionOf node first second third ⌝ }
+// The same of a condition's node.
+fn condition_of(
+    class: ConditionClass,
+    node: Node,
+    first: usize,
+    second: usize,
+    third: usize,
+) -> ConditionShape
+    ensures { λ r. ⌜ r ≡ conditionOf class node first second third ⌝ }
 {
-    let kind = node.kind;
-    if kind < 16 {
-        return ConditionShape::NoCondition;
+    match class {
+        ConditionClass::Compare => ConditionShape::Compare(node.kind, first, second),
+        ConditionClass::Cross => ConditionShape::Cross(node.kind, first, second),
+        ConditionClass::Between => ConditionShape::Between(first, second, third),
+        ConditionClass::Trend => ConditionShape::Trend(node.kind, first, node.n),
+        ConditionClass::All => ConditionShape::Group(true, node.children, first),
+        ConditionClass::Any => ConditionShape::Group(false, node.children, first),
+        ConditionClass::Not => ConditionShape::Not(first),
+        ConditionClass::InPosition => ConditionShape::InPosition(node.selector == 1),
+        ConditionClass::BarsSince => ConditionShape::BarsSince(node.selector, node.n),
+        ConditionClass::NoCondition => ConditionShape::NoCondition,
     }
-    if kind < 22 {
-        return ConditionShape::Compare(kind, first, second);
-    }
-    if kind < 24 {
-        return ConditionShape::Cross(kind, first, second);
-    }
-    if kind == 24 {
-        return ConditionShape::Between(first, second, third);
-    }
-    if kind < 27 {
-        return ConditionShape::Trend(kind, first, node.n);
-    }
-    if kind < 29 {
-        return ConditionShape::Group(kind == 27, node.children, first);
-    }
-    if kind == 29 {
-        return ConditionShape::Not(first);
-    }
-    if kind == 30 {
-        return ConditionShape::InPosition(node.selector == 1);
-    }
-    if kind == 31 {
-        return ConditionShape::BarsSince(node.selector, node.n);
-    }
-    ConditionShape::NoCondition
 }
 
 // The node at i as an operand. A node that is none has a shape of its own; so has a place past the 256.
@@ -99,7 +83,10 @@ pub fn operand_shape(t: &[u8], ends: &[usize; 256], i: usize) -> OperandShape
         return OperandShape::NoOperand;
     }
     let second = end_in(ends, i + 1);
-    operand_of(table::nodes::node_at(t, i), i + 1, second)
+    let node = node_at(t, i);
+    let row = kind_of(node.kind);
+    let class = row.operand;
+    operand_of(class, node, i + 1, second)
 }
 
 // The node at i as a condition.
@@ -111,5 +98,8 @@ pub fn condition_shape(t: &[u8], ends: &[usize; 256], i: usize) -> ConditionShap
     }
     let second = end_in(ends, i + 1);
     let third = end_in(ends, second);
-    condition_of(table::nodes::node_at(t, i), i + 1, second, third)
+    let node = node_at(t, i);
+    let row = kind_of(node.kind);
+    let class = row.condition;
+    condition_of(class, node, i + 1, second, third)
 }

@@ -3,6 +3,7 @@
 use super::Entered;
 use super::PositionState;
 use super::Value;
+use table::kinds;
 ghost use mathlib.Core.Path.{_≡_};
 ghost use Prim.Native.Nat.{_-_};
 ghost use Rattle.floats.specs.Floats.{floatOf};
@@ -52,13 +53,13 @@ pub fn slot_at(rows: &[u64], base: usize, slot: u64) -> Value
 pub fn combine(kind: u8, x: f64, y: f64) -> f64
     ensures { λ r. ⌜ r ≡ Values.combine kind x y ⌝ }
 {
-    if kind == 5 {
+    if kind == kinds::ADD {
         return x + y;
     }
-    if kind == 6 {
+    if kind == kinds::SUB {
         return x - y;
     }
-    if kind == 7 {
+    if kind == kinds::MUL {
         return x * y;
     }
     divided(x, y)
@@ -90,19 +91,19 @@ pub fn both(kind: u8, a: Value, b: Value) -> Value
 fn test(kind: u8, x: f64, y: f64) -> bool
     ensures { λ r. ⌜ r ≡ tested kind x y ⌝ }
 {
-    if kind == 16 {
+    if kind == kinds::GT {
         return x > y;
     }
-    if kind == 17 {
+    if kind == kinds::LT {
         return x < y;
     }
-    if kind == 18 {
+    if kind == kinds::GE {
         return x >= y;
     }
-    if kind == 19 {
+    if kind == kinds::LE {
         return x <= y;
     }
-    if kind == 20 {
+    if kind == kinds::EQ {
         return floats::abs(x - y) < floats::EPS;
     }
     floats::abs(x - y) >= floats::EPS
@@ -125,14 +126,14 @@ pub fn compared(kind: u8, a: Value, b: Value) -> bool
 pub fn crossed(kind: u8, a: Value, b: Value, a_before: Value, b_before: Value) -> bool
     ensures { λ r. ⌜ r ≡ Values.crossed kind a b «a_before» «b_before» ⌝ }
 {
-    if kind == 22 {
-        if compared(19, a_before, b_before) {
-            return compared(16, a, b);
+    if kind == kinds::CROSS_ABOVE {
+        if compared(kinds::LE, a_before, b_before) {
+            return compared(kinds::GT, a, b);
         }
         return false;
     }
-    if compared(18, a_before, b_before) {
-        return compared(17, a, b);
+    if compared(kinds::GE, a_before, b_before) {
+        return compared(kinds::LT, a, b);
     }
     false
 }
@@ -141,8 +142,8 @@ pub fn crossed(kind: u8, a: Value, b: Value, a_before: Value, b_before: Value) -
 pub fn within(x: Value, low: Value, high: Value) -> bool
     ensures { λ r. ⌜ r ≡ Values.within x low high ⌝ }
 {
-    if compared(19, low, x) {
-        return compared(19, x, high);
+    if compared(kinds::LE, low, x) {
+        return compared(kinds::LE, x, high);
     }
     false
 }
@@ -151,10 +152,10 @@ pub fn within(x: Value, low: Value, high: Value) -> bool
 pub fn trended(kind: u8, now: Value, then: Value) -> bool
     ensures { λ r. ⌜ r ≡ Values.trended kind now then ⌝ }
 {
-    if kind == 25 {
-        return compared(16, now, then);
+    if kind == kinds::RISING {
+        return compared(kinds::GT, now, then);
     }
-    compared(17, now, then)
+    compared(kinds::LT, now, then)
 }
 
 // A number of bars against k, by the selector: the Rust's `int_pred`.

@@ -6,7 +6,8 @@ use mathlib.Core.List.{List, [], _∷_, _++_}
 use native.Mathlib.Omega.{arith}
 use native.Mathlib.Numerals.{sub-one}
 use lib.ListN.{length}
-use Rattle.table.specs.Trees.{Operand, Condition, Conditions, compare, cross, between, trend, any, negated, inPosition, barsSince, none, more, reach, reachOf, reachOfAll}
+use Rattle.table.specs.Trees.{Operand, Condition, Conditions, compare, cross, between, trend, any, negated, inPosition, barsSince, none, more, reach, reachOf}
+use Rattle.table.specs.Trees.{reachOfAll}
 use Rattle.rules.specs.declared.shapes.ConditionShape.{ConditionShape}
 use Rattle.rules.specs.Shapes.{endIn, conditionShape}
 use Rattle.rules.specs.Flat.{operandAt, growConditions, group, growCondition, conditionAt}

@@ -8,20 +8,20 @@ use lib.ListN.{length, set, drop, length-append}
 use lib.Seq.{set-append-seam}
 use lib.Dec.{ltb}
 use borrow.Author.Tests.{eq-eqb, ne-eqb, lt-ltb, le-ltb}
-use Rattle.table.specs.declared.Answer.the-variants.{Accepted, Refused}
+use Rattle.table.specs.declared.answer.Answer.the-variants.{Accepted, Refused}
 use Rattle.table.specs.Trees.{reachOf}
 use Rattle.table.specs.Header.{count, root}
 use Rattle.table.specs.Checked.{checked}
 use Rattle.table.specs.Ends.{endsBeside}
 use Rattle.table.specs.Reading.{treeOf, present}
-use Rattle.table.specs.Accepted.{tree-reach}
-use Rattle.table.specs.ReachLaws.{tree-reach-is}
-use Rattle.table.specs.Rewriting.{tree-nodes}
+use Rattle.table.specs.Laws.Accepted.{tree-reach}
+use Rattle.table.specs.Laws.Reach.{tree-reach-is}
+use Rattle.table.specs.Laws.AcceptedWritten.{tree-nodes}
 use Rattle.rules.specs.Flat.{conditionAt}
-use Rattle.rules.specs.Joined.{tree-joined}
-use Rattle.rules.specs.declared.Tree.{Tree}
-use Rattle.rules.specs.Answers.{treeNumber}
-use Rattle.rules.specs.AnswerLaws.{tree-of-four}
+use Rattle.rules.specs.Laws.FlatReading.{tree-joined}
+use Rattle.table.specs.declared.trees.Tree.{Tree}
+use Rattle.table.specs.Header.{treeNumber}
+use Rattle.rules.specs.Laws.Answers.{tree-of-four}
 use Rattle.steps.specs.declared.Translated.the-variants.{Writes, Refuses}
 use Rattle.steps.specs.declared.Op.{Op}
 use Rattle.steps.specs.Bytes.{writeFrom, write, written, bytesOf, Fits, Wrote}

@@ -125,7 +125,8 @@ module _ (h : History) (s : PositionState) (bs : List ℕ) where
   unfolding run
   run-cons xs x v = refl
 
-  places-cons : (p : ℕ) (xs : List Op) (x : Op) (v : Values) → places h s p (x ∷ xs) 0 v ≡ p ∷ places h s (p + 1) xs (does h s x v .skip) (after (does h s x v) v)
+  places-cons : (p : ℕ) (xs : List Op) (x : Op) (v : Values)
+      → places h s p (x ∷ xs) 0 v ≡ p ∷ places h s (p + 1) xs (does h s x v .skip) (after (does h s x v) v)
   unfolding places
   places-cons p xs x v = refl
 

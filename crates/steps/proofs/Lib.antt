@@ -6,5 +6,4 @@ pub mod Writes
 pub mod Operands
 pub mod Conditions
 pub mod Falls
-pub mod Needed
 pub mod Fitting

@@ -10,7 +10,7 @@ use Rattle.table.specs.Trees.{Operand, const, ref, price}
 use Rattle.rules.specs.declared.Value.the-variants.{Missing, Number}
 use Rattle.rules.specs.Values.{wordsFrom, priceOf, slotOf}
 use Rattle.rules.specs.Meaning.{value, newest}
-use Rattle.rules.specs.Laws.{const-value, ref-value, price-value}
+use Rattle.rules.specs.Laws.Meaning.{const-value, ref-value, price-value}
 use Rattle.steps.specs.Machine.{ago}
 
 there-ago : (h : History) (a : Operand) (n : ℕ) → n < h .rows → ago h a n ≡ value h a (h .rows - 1 - n)

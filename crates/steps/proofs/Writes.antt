@@ -26,7 +26,8 @@ shift l i j k (v ∷ vs) =
 
 append-from : (l : List ℕ) (i j : ℕ) (xs ys : List ℕ) → writeFrom l i j (xs ++ ys) ≡ writeFrom (writeFrom l i j xs) i (j + length xs) ys
 append-from l i j [] ys = ap (λ (n : ℕ). writeFrom l i n ys) (omega arith)
-append-from l i j (x ∷ xs) ys = append-from (set l (i + j) x) i (suc j) xs ys ∙ ap (λ (n : ℕ). writeFrom (writeFrom (set l (i + j) x) i (suc j) xs) i n ys) (omega arith)
+append-from l i j (x ∷ xs) ys =
+    append-from (set l (i + j) x) i (suc j) xs ys ∙ ap (λ (n : ℕ). writeFrom (writeFrom (set l (i + j) x) i (suc j) xs) i n ys) (omega arith)
 
 pub write-append : (l : List ℕ) (i : ℕ) (xs ys : List ℕ) → write l i (xs ++ ys) ≡ write (write l i xs) (i + length xs) ys
 unfolding write
@@ -63,7 +64,8 @@ four-sets l p a b c d = ap (λ (q : ℕ). set (set (set (set l q a) (p + 1) b) (
 
 -- a step's bytes, four at a time
 pub step-written : (l : List ℕ) (p k s skip n b : ℕ)
-    → write (write (write (write l p (k ∷ s % 256 ∷ skip % 256 ∷ skip / 256 % 256 ∷ [])) (p + 4) (four n)) (p + 8) (four (b % 4294967296))) (p + 12) (four (b / 4294967296))
+    → write (write (write (write l p (k ∷ s % 256 ∷ skip % 256 ∷ skip / 256 % 256 ∷ [])) (p + 4) (four n)) (p + 8) (four (b % 4294967296))) (p + 12)
+    (four (b / 4294967296))
     ≡ write l p (stepBytes (fields k s skip n b))
 unfolding stepBytes
 step-written l p k s skip n b =
@@ -83,7 +85,8 @@ set-before l p v i j (y ∷ ys) lt =
     ∙ ap (λ (m : List ℕ). writeFrom m i (suc j) ys) (set-comm l (i + j) p y v (λ e. absurd (omega arith)))
 
 -- bytes written before what is written
-from-before : (l : List ℕ) (a b i j : ℕ) (xs ys : List ℕ) → a + b + length xs ≤ i + j → writeFrom (writeFrom l i j ys) a b xs ≡ writeFrom (writeFrom l a b xs) i j ys
+from-before : (l : List ℕ) (a b i j : ℕ) (xs ys : List ℕ) → a + b + length xs ≤ i + j
+    → writeFrom (writeFrom l i j ys) a b xs ≡ writeFrom (writeFrom l a b xs) i j ys
 from-before l a b i j [] ys le = refl
 from-before l a b i j (x ∷ xs) ys le =
     rw (set-before l (a + b) x i j ys (omega arith)) (from-before (set l (a + b) x) a (suc b) i j xs ys (omega arith))

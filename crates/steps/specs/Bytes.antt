@@ -5,10 +5,12 @@ use mathlib.Core.Bool.{cond}
 use mathlib.Core.List.{List, [], _∷_, _++_}
 use lib.ListN.{length, getD, set}
 use lib.Dec.{ltb, eqb}
+use Rattle.table.specs.Named as Named
 use Rattle.table.specs.Bytes.{u16, u32, u64}
 use Rattle.steps.specs.declared.Step.{Step}
 use Rattle.steps.specs.declared.Op.{Op}
-use Rattle.steps.specs.declared.Op.the-variants.{Const, Ref, Price, Arith, Compare, Cross, Between, Answer, Turn, InPosition, BarsSinceEntry, JumpIf, Unknown}
+use Rattle.steps.specs.declared.Op.the-variants.{Const, Ref, Price, Arith, Compare, Cross, Between, Answer, Turn, InPosition, BarsSinceEntry, JumpIf}
+use Rattle.steps.specs.declared.Op.the-variants.{Unknown}
 
 -- ---- reading
 
@@ -27,32 +29,39 @@ stepsIn bs = length bs / 16
 unfoldable pub stepAt : List ℕ → ℕ → Step
 stepAt bs p = cond (ltb p (stepsIn bs)) (readStep bs (16 * p)) (fields 0 0 0 0 0)
 
--- What a step says, by its kind: the paper's kind numbers, and 32, 33 for the jumps. Kinds below 16 are of operands,
+-- A step has the number of the kind that it stands for. Jumps stand for no kind and have numbers of their own.
+abbrev pub jumpAtNo : ℕ
+jumpAtNo = 32
+
+abbrev pub jumpAtYes : ℕ
+jumpAtYes = 33
+
+-- What a step says, by its kind. Kinds below Gt are of operands,
 unfoldable pub operandOp : Step → Op
 operandOp x =
-    cond (eqb (x .kind) 1) (Const (x .bits) (x .n))
-    (cond (eqb (x .kind) 2) (Ref (x .selector) (x .n))
-    (cond (eqb (x .kind) 3) (Price (x .selector) (x .n))
-    (cond (ltb (x .kind) 5) Unknown
+    cond (eqb (x .kind) Named.const) (Const (x .bits) (x .n))
+    (cond (eqb (x .kind) Named.ref) (Ref (x .selector) (x .n))
+    (cond (eqb (x .kind) Named.price) (Price (x .selector) (x .n))
+    (cond (ltb (x .kind) Named.add) Unknown
     (cond (ltb (x .kind) 9) (Arith (x .kind)) Unknown))))
 
--- those below 27 of tests on values,
+-- those below All of tests on values,
 unfoldable pub testOp : Step → Op
 testOp x =
-    cond (ltb (x .kind) 22) (Compare (x .kind))
-    (cond (ltb (x .kind) 24) (Cross (x .kind)) (cond (eqb (x .kind) 24) Between Unknown))
+    cond (ltb (x .kind) Named.crossAbove) (Compare (x .kind))
+    (cond (ltb (x .kind) Named.between) (Cross (x .kind)) (cond (eqb (x .kind) Named.between) Between Unknown))
 
--- and the rest set, turn or read the answer: 27 yes, 28 no (All and Any begin so), 29 Not, 32 a jump at a no, 33 a jump at a yes.
+-- and the rest set the answer (All and Any begin with a yes and a no), turn it, read the position, or jump.
 unfoldable pub answerOp : Step → Op
 answerOp x =
-    cond (ltb (x .kind) 29) (Answer (eqb (x .kind) 27))
-    (cond (eqb (x .kind) 29) Turn
-    (cond (eqb (x .kind) 30) (InPosition (eqb (x .selector) 1))
-    (cond (eqb (x .kind) 31) (BarsSinceEntry (x .selector) (x .n))
-    (cond (ltb (x .kind) 34) (JumpIf (eqb (x .kind) 33) (x .skip)) Unknown))))
+    cond (ltb (x .kind) Named.not) (Answer (eqb (x .kind) Named.all))
+    (cond (eqb (x .kind) Named.not) Turn
+    (cond (eqb (x .kind) Named.inPosition) (InPosition (eqb (x .selector) 1))
+    (cond (eqb (x .kind) Named.barsSinceEntry) (BarsSinceEntry (x .selector) (x .n))
+    (cond (ltb (x .kind) 34) (JumpIf (eqb (x .kind) jumpAtYes) (x .skip)) Unknown))))
 
 unfoldable pub opOf : Step → Op
-opOf x = cond (ltb (x .kind) 16) (operandOp x) (cond (ltb (x .kind) 27) (testOp x) (answerOp x))
+opOf x = cond (ltb (x .kind) Named.gt) (operandOp x) (cond (ltb (x .kind) Named.all) (testOp x) (answerOp x))
 
 -- m steps from place p on
 unfoldable pub opsFrom : List ℕ → ℕ → ℕ → List Op
@@ -67,18 +76,18 @@ opsOf bs = opsFrom bs 0 (stepsIn bs)
 
 -- The fields of a step that says so; those that its kind does not use are zero.
 unfoldable pub stepOf : Op → Step
-stepOf (Const bits n) = fields 1 0 0 n bits
-stepOf (Ref k n) = fields 2 k 0 n 0
-stepOf (Price p n) = fields 3 p 0 n 0
+stepOf (Const bits n) = fields Named.const 0 0 n bits
+stepOf (Ref k n) = fields Named.ref k 0 n 0
+stepOf (Price p n) = fields Named.price p 0 n 0
 stepOf (Arith k) = fields k 0 0 0 0
 stepOf (Compare k) = fields k 0 0 0 0
 stepOf (Cross k) = fields k 0 0 0 0
-stepOf Between = fields 24 0 0 0 0
-stepOf (Answer w) = fields (cond w 27 28) 0 0 0 0
-stepOf Turn = fields 29 0 0 0 0
-stepOf (InPosition w) = fields 30 (cond w 1 0) 0 0 0
-stepOf (BarsSinceEntry p k) = fields 31 p 0 k 0
-stepOf (JumpIf w skip) = fields (cond w 33 32) 0 skip 0 0
+stepOf Between = fields Named.between 0 0 0 0
+stepOf (Answer w) = fields (cond w Named.all Named.any) 0 0 0 0
+stepOf Turn = fields Named.not 0 0 0 0
+stepOf (InPosition w) = fields Named.inPosition (cond w 1 0) 0 0 0
+stepOf (BarsSinceEntry p k) = fields Named.barsSinceEntry p 0 k 0
+stepOf (JumpIf w skip) = fields (cond w jumpAtYes jumpAtNo) 0 skip 0 0
 stepOf Unknown = fields 0 0 0 0 0
 
 -- Two, four and eight bytes, the lowest first.

@@ -3,6 +3,7 @@ use mathlib.Core.Path.{_≡_, refl}
 use mathlib.Core.List.{List, _∷_, _++_}
 use Prim.Native.Nat.{ℕ}
 use lib.ListN.{replicate}
+use Rattle.table.specs.Named as Named
 use Rattle.table.specs.Trees.{ref, price, prev, compare, cross}
 use Rattle.steps.specs.Bytes.{stepOf, stepBytes, bytesOf}
 use Rattle.steps.specs.Translation.{code, codeOf}
@@ -12,11 +13,11 @@ step : ℕ → ℕ → ℕ → List ℕ
 step kind selector n = kind ∷ selector ∷ 0 ∷ 0 ∷ n ∷ replicate 11 0
 
 -- both slots now, both one row back, and the cross (22): five steps
-entry : bytesOf (codeOf (cross 22 (ref 0) (ref 1))) ≡ step 2 0 0 ++ step 2 1 0 ++ step 2 0 1 ++ step 2 1 1 ++ step 22 0 0
+entry : bytesOf (codeOf (cross Named.crossAbove (ref 0) (ref 1))) ≡ step 2 0 0 ++ step 2 1 0 ++ step 2 0 1 ++ step 2 1 1 ++ step 22 0 0
 unfolding step code codeOf stepOf stepBytes bytesOf
 entry = refl
 
 -- the close now, the close two rows back, and the comparison (17): three steps, none for Prev
-exit : bytesOf (codeOf (compare 17 (price 3) (prev (price 3) 2))) ≡ step 3 3 0 ++ step 3 3 2 ++ step 17 0 0
+exit : bytesOf (codeOf (compare Named.lt (price 3) (prev (price 3) 2))) ≡ step 3 3 0 ++ step 3 3 2 ++ step 17 0 0
 unfolding step code codeOf stepOf stepBytes bytesOf
 exit = refl

@@ -8,18 +8,12 @@ pub mod Translation
 pub mod Translating
 -- ---- beside a run
 pub mod Choice
-pub mod Depth
--- ---- THE THEOREMS
-pub mod Fields
-pub mod Window
-pub mod Elsewhere
-pub mod Smallest
+-- ---- laws of the definitions
+pub mod Laws
+-- ---- THE THEOREMS: the worked example, the room and the visits; the window of a translated tree, and of any list; D is the least
 pub mod Example
-pub mod Visits
 pub mod Room
--- ---- laws that they rest on
-pub mod Ago
-pub mod Compiled
-pub mod Encoding
-pub mod Good
-pub mod Formed
+pub mod Visits
+pub mod Window
+pub mod AnyList
+pub mod Smallest

@@ -6,6 +6,7 @@ use mathlib.Core.List.{List, [], _∷_, _++_}
 use lib.Ieee as Ieee
 use Rattle.floats.specs.Floats.{zero, abs}
 use Rattle.rows.specs.History.{historyOf, lastRows}
+use Rattle.table.specs.Named as Named
 use Rattle.table.specs.Trees.{Operand, const, ref, price, prev, Condition, compare, cross, trend, reach, reachOf}
 use Rattle.rules.specs.declared.PositionState.{PositionState}
 use Rattle.rules.specs.declared.Entered.the-variants.{Never}
@@ -28,8 +29,8 @@ flat : PositionState
 flat = record { qty = zero; entered = Never; «bars_seen» = 1 }
 
 -- the steps of a condition over the last `rows` of the rows
-over : ℕ → List ℕ → Condition → Bool
-over rows ws c = answers (historyOf 2 (lastRows 2 rows ws)) flat (codeOf c)
+overLast : ℕ → List ℕ → Condition → Bool
+overLast rows ws c = answers (historyOf 2 (lastRows 2 rows ws)) flat (codeOf c)
 
 -- over D rows, and over one less
 pub record Pair : Type 0 where
@@ -37,7 +38,7 @@ pub record Pair : Type 0 where
   pub short : Bool
 
 both-ways : List ℕ → Condition → Pair
-both-ways ws c = record { enough = over (reachOf c + 1) ws c; short = over (reachOf c) ws c }
+both-ways ws c = record { enough = overLast (reachOf c + 1) ws c; short = overLast (reachOf c) ws c }
 
 close : Operand
 close = price 3
@@ -53,16 +54,17 @@ falling = row eleven ten ten ++ (row eleven ten eleven ++ (row eleven eleven ten
 -- Prev of a constant, which is kept from being folded.
 pub cases : List Pair
 cases =
-    both-ways rising (cross 22 (ref 0) (ref 1)) ∷
-    both-ways falling (compare 17 close (prev close 2)) ∷
-    both-ways falling (cross 23 (ref 0) (ref 1)) ∷
-    both-ways rising (trend 25 close 3) ∷
-    both-ways falling (trend 26 close 1) ∷
-    both-ways rising (compare 16 (prev (const eleven) 3) (const ten)) ∷ []
+    both-ways rising (cross Named.crossAbove (ref 0) (ref 1)) ∷
+    both-ways falling (compare Named.lt close (prev close 2)) ∷
+    both-ways falling (cross Named.crossBelow (ref 0) (ref 1)) ∷
+    both-ways rising (trend Named.rising close 3) ∷
+    both-ways falling (trend Named.falling close 1) ∷
+    both-ways rising (compare Named.gt (prev (const eleven) 3) (const ten)) ∷ []
 
 abbrev split : Pair
 split = record { enough = true; short = false }
 
 pub one-row-less : cases ≡ (split ∷ split ∷ split ∷ split ∷ split ∷ split ∷ [])
-unfolding row ten eleven flat over both-ways close rising falling cases historyOf lastRows newest there value priceOf slotOf both tested compared crossed reach reachOf keep ago effect does after run code codeOf abs Ieee.lt Ieee.le Ieee.sub Ieee.ofBits
+unfolding row ten eleven flat overLast both-ways close rising falling cases historyOf lastRows newest there value priceOf slotOf both tested compared
+    crossed reach reachOf keep ago effect does after run code codeOf abs Ieee.lt Ieee.le Ieee.sub Ieee.ofBits
 one-row-less = refl

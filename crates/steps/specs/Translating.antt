@@ -4,13 +4,13 @@ use mathlib.Core.Bool.{cond}
 use mathlib.Core.List.{List, [], _++_}
 use lib.ListN.{length, drop}
 use lib.Dec.{ltb}
-use Rattle.table.specs.declared.Answer.{Answer}
-use Rattle.table.specs.declared.Answer.the-variants.{Accepted, Refused}
+use Rattle.table.specs.declared.answer.Answer.{Answer}
+use Rattle.table.specs.declared.answer.Answer.the-variants.{Accepted, Refused}
 use Rattle.table.specs.Header.{count}
 use Rattle.table.specs.Checked.{checked}
 use Rattle.table.specs.Reading.{treeOf, present}
-use Rattle.rules.specs.declared.Tree.{Tree}
-use Rattle.rules.specs.Answers.{treeNumber}
+use Rattle.table.specs.declared.trees.Tree.{Tree}
+use Rattle.table.specs.Header.{treeNumber}
 use Rattle.steps.specs.declared.Op.{Op}
 use Rattle.steps.specs.declared.Translated.{Translated}
 use Rattle.steps.specs.declared.Translated.the-variants.{Writes, Refuses}

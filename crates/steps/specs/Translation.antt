@@ -4,7 +4,9 @@ use mathlib.Core.Bool.{Bool, true, false, cond}
 use mathlib.Core.List.{List, [], _∷_, _++_}
 use lib.ListN.{length}
 use lib.Dec.{eqb}
-use Rattle.table.specs.Trees.{Operand, const, ref, price, prev, arith, Condition, Conditions, compare, cross, between, trend, every, any, negated, inPosition, barsSince, none, more}
+use Rattle.table.specs.Named as Named
+use Rattle.table.specs.Trees.{Operand, const, ref, price, prev, arith, Condition, Conditions, compare, cross, between, trend, every, any, negated, inPosition}
+use Rattle.table.specs.Trees.{barsSince, none, more}
 use Rattle.steps.specs.declared.Op.{Op}
 use Rattle.steps.specs.declared.Op.the-variants.{Const, Ref, Price, Arith, Compare, Cross, Between, Answer, Turn, InPosition, BarsSinceEntry, JumpIf}
 
@@ -17,9 +19,9 @@ code (price p) n = Price p n ∷ []
 code (prev a m) n = code a (n + m)
 code (arith k a b) n = code a n ++ (code b n ++ Arith k ∷ [])
 
--- Rising (25) compares now with then as Gt (16) does; Falling, the other kind, as Lt (17).
+-- Rising compares now with then as Gt does; Falling, the other kind, as Lt.
 abbrev pub trendTest : ℕ → ℕ
-trendTest kind = cond (eqb kind 25) 16 17
+trendTest kind = cond (eqb kind Named.rising) Named.gt Named.lt
 
 -- The steps of a condition. A cross runs both operands now and one row back; All and Any set the answer, and after each child a
 -- jump passes over the rest where the child decided it: for All a no, for Any a yes.

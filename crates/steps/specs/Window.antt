@@ -9,31 +9,31 @@ use mathlib.Core.Logic.{⊎-elim}
 use lib.ListN.{length}
 use borrow.Author.Tests.{eq-eqb, ne-eqb, le-ltb}
 use Rattle.rows.specs.History.{History, historyOf, lastRows, wholeRows}
-use Rattle.table.specs.declared.Answer.the-variants.{Accepted}
+use Rattle.table.specs.declared.answer.Answer.the-variants.{Accepted}
 use Rattle.table.specs.Trees.{reachOf}
 use Rattle.table.specs.Header.{slots, count, root}
 use Rattle.table.specs.Checked.{checked}
 use Rattle.table.specs.Reading.{treeOf, present}
-use Rattle.table.specs.Accepted.{header-of, tree-ends}
+use Rattle.table.specs.Laws.Accepted.{header-of, tree-ends}
 use Rattle.table.specs.Limits.{TreeWithin}
-use Rattle.table.specs.Limited.{tree-within}
-use Rattle.table.specs.Rewriting.{tree-nodes}
+use Rattle.table.specs.Laws.AcceptedWithin.{tree-within}
+use Rattle.table.specs.Laws.AcceptedWritten.{tree-nodes}
 use Rattle.rules.specs.declared.PositionState.{PositionState}
 use Rattle.rules.specs.Meaning.{says}
 use Rattle.rules.specs.Answers.{stateRight}
-use Rattle.rules.specs.AnswerLaws.{absent-says}
+use Rattle.rules.specs.Laws.Answers.{absent-says}
 use Rattle.rules.specs.Window.{window}
 use Rattle.steps.specs.declared.Formed.the-variants.{Well}
 use Rattle.steps.specs.declared.RunAnswer.the-variants.{Runs}
 use Rattle.steps.specs.Machine.{run, answers, visited}
 use Rattle.steps.specs.Bytes.{bytesOf, opsFrom, opsOf}
 use Rattle.steps.specs.Translation.{codeOf}
-use Rattle.steps.specs.Compiled.{compiled}
+use Rattle.steps.specs.Laws.Compiled.{compiled}
 use Rattle.steps.specs.Room.{two-a-node}
 use Rattle.steps.specs.WellFormed.{formedFrom, formed}
-use Rattle.steps.specs.Fields.{Bytes}
-use Rattle.steps.specs.Good.{AllGood, translated-good}
-use Rattle.steps.specs.Formed.{well-formed, reads-back}
+use Rattle.table.specs.Bytes.{Bytes}
+use Rattle.steps.specs.Laws.TranslatedSteps.{AllGood, translated-good}
+use Rattle.steps.specs.Laws.WrittenSteps.{well-formed, reads-back}
 use Rattle.steps.specs.Translating.{stepsOf}
 use Rattle.steps.specs.Running.{ranIf, runs}
 
@@ -61,7 +61,8 @@ module _ (t : List ℕ) (n r : ℕ) (ok : checked t ≡ Accepted n r) (bytes : B
     reads-there : opsOf (bytesOf (stepsOf t x)) ≡ codeOf (treeOf t x)
     reads-there =
         let reach : reachOf (treeOf t x) ≤ 4095 = within .reaches in
-        rw there (reads-back (slots t) (reachOf (treeOf t x) + 1) (header-of t n r ok .few-slots) (omega arith) (codeOf (treeOf t x)) (good (reachOf (treeOf t x) + 1) (omega arith)))
+        rw there (reads-back (slots t) (reachOf (treeOf t x) + 1) (header-of t n r ok .few-slots) (omega arith) (codeOf (treeOf t x))
+        (good (reachOf (treeOf t x) + 1) (omega arith)))
 
     says-there : (h : History) (s : PositionState) → answers h s (opsOf (bytesOf (stepsOf t x))) ≡ says h s (treeOf t x)
     says-there h s = rw reads-there (compiled h s (treeOf t x) (omega (arith, within .nesting)))

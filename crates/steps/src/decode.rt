@@ -1,11 +1,17 @@
 // A step's 16 bytes, read and taken for what they say.
 use crate::Op;
 use crate::Step;
+use table::kinds;
 ghost use mathlib.Core.Path.{_≡_};
 ghost use Prim.Native.Nat.{_+_, _*_, _/_, _<_, _≤_};
 ghost use lib.ListN.{length};
 ghost use Rattle.table.specs.Bytes.{u16, u32, u64};
 ghost use Rattle.steps.specs.Bytes.{readStep, stepAt, opOf, operandOp, testOp, answerOp};
+
+// A step has the number of the kind that it stands for. Jumps stand for no kind and have numbers of their own.
+pub const JUMP_AT_NO: u8 = 32;
+
+pub const JUMP_AT_YES: u8 = 33;
 
 // A byte as a number of 64 bits.
 fn wide(b: u8) -> u64
@@ -70,16 +76,16 @@ pub fn step_at(list: &[u8], p: usize) -> Step
 fn operand_op(x: Step) -> Op
     ensures { λ r. ⌜ r ≡ operandOp x ⌝ }
 {
-    if x.kind == 1 {
+    if x.kind == kinds::CONST {
         return Op::Const(x.bits, x.n);
     }
-    if x.kind == 2 {
+    if x.kind == kinds::REF {
         return Op::Ref(x.selector, x.n);
     }
-    if x.kind == 3 {
+    if x.kind == kinds::PRICE {
         return Op::Price(x.selector, x.n);
     }
-    if x.kind < 5 {
+    if x.kind < kinds::ADD {
         return Op::Unknown;
     }
     if x.kind < 9 {
@@ -92,13 +98,13 @@ fn operand_op(x: Step) -> Op
 fn test_op(x: Step) -> Op
     ensures { λ r. ⌜ r ≡ testOp x ⌝ }
 {
-    if x.kind < 22 {
+    if x.kind < kinds::CROSS_ABOVE {
         return Op::Compare(x.kind);
     }
-    if x.kind < 24 {
+    if x.kind < kinds::BETWEEN {
         return Op::Cross(x.kind);
     }
-    if x.kind == 24 {
+    if x.kind == kinds::BETWEEN {
         return Op::Between;
     }
     Op::Unknown
@@ -108,20 +114,20 @@ fn test_op(x: Step) -> Op
 fn answer_op(x: Step) -> Op
     ensures { λ r. ⌜ r ≡ answerOp x ⌝ }
 {
-    if x.kind < 29 {
-        return Op::Answer(x.kind == 27);
+    if x.kind < kinds::NOT {
+        return Op::Answer(x.kind == kinds::ALL);
     }
-    if x.kind == 29 {
+    if x.kind == kinds::NOT {
         return Op::Turn;
     }
-    if x.kind == 30 {
+    if x.kind == kinds::IN_POSITION {
         return Op::InPosition(x.selector == 1);
     }
-    if x.kind == 31 {
+    if x.kind == kinds::BARS_SINCE_ENTRY {
         return Op::BarsSinceEntry(x.selector, x.n);
     }
     if x.kind < 34 {
-        return Op::JumpIf(x.kind == 33, x.skip);
+        return Op::JumpIf(x.kind == JUMP_AT_YES, x.skip);
     }
     Op::Unknown
 }
@@ -130,10 +136,10 @@ fn answer_op(x: Step) -> Op
 pub fn op_of(x: Step) -> Op
     ensures { λ r. ⌜ r ≡ opOf x ⌝ }
 {
-    if x.kind < 16 {
+    if x.kind < kinds::GT {
         return operand_op(x);
     }
-    if x.kind < 27 {
+    if x.kind < kinds::ALL {
         return test_op(x);
     }
     answer_op(x)

@@ -1,11 +1,12 @@
 // Steps written into a lent room: a step's bytes, the steps of an operand, and those of the tests on operands.
 use rules::shapes;
 use rules::shapes::OperandShape;
+use table::kinds;
 ghost use mathlib.Core.Path.{_≡_};
 ghost use mathlib.Core.List.{[], _∷_};
-ghost use Prim.Native.Nat.{_+_, _*_, _%_, _≤_};
+ghost use Prim.Native.Nat.{ℕ, _+_, _*_, _%_, _≤_};
 ghost use lib.ListN.{length};
-ghost use Rattle.table.specs.Trees.{reach, reachOf, compare, cross, between, trend};
+ghost use Rattle.table.specs.Trees.{Operand, reach, reachOf, compare, cross, between, trend};
 ghost use Rattle.rules.specs.Flat.{operandAt};
 ghost use Rattle.steps.specs.Bytes.{four, fields, stepBytes, write, Fits, Wrote};
 ghost use Rattle.steps.specs.Translation.{code, trendTest, codeOf};
@@ -81,19 +82,27 @@ pub(crate) fn emit_operand(
     ensures { λ r. ⌜ Wrote (now (room .entry)) at (code (operandAt left (now (t .entry)) (now (ends .entry)) i) back) (now (room .exit)) r ⌝ }
 {
     if left == 0 {
-        return put_step(room, at, 1, 0, 0, back, 0);
+        return put_step(room, at, kinds::CONST, 0, 0, back, 0);
     }
     match shapes::operand_shape(t, ends, i) {
-        OperandShape::Const(bits) => put_step(room, at, 1, 0, 0, back, bits),
-        OperandShape::Ref(slot) => put_step(room, at, 2, slot, 0, back, 0),
-        OperandShape::Price(selector) => put_step(room, at, 3, selector as u64, 0, back, 0),
+        OperandShape::Const(bits) => put_step(room, at, kinds::CONST, 0, 0, back, bits),
+        OperandShape::Ref(slot) => put_step(room, at, kinds::REF, slot, 0, back, 0),
+        OperandShape::Price(selector) => put_step(
+            room,
+            at,
+            kinds::PRICE,
+            selector as u64,
+            0,
+            back,
+            0,
+        ),
         OperandShape::Prev(a, n) => emit_operand(t, ends, a, back + n, left - 1, room, at),
         OperandShape::Arith(kind, a, b) => {
             let p = emit_operand(t, ends, a, back, left - 1, room, at);
             let q = emit_operand(t, ends, b, back, left - 1, room, p);
             put_step(room, q, kind, 0, 0, 0, 0)
         }
-        OperandShape::NoOperand => put_step(room, at, 1, 0, 0, back, 0),
+        OperandShape::NoOperand => put_step(room, at, kinds::CONST, 0, 0, back, 0),
     }
 }
 
@@ -110,7 +119,8 @@ pub(crate) fn emit_compare(
 ) -> usize
     requires { ⌜ reachOf (compare kind (operandAt left (now t) (now ends) a) (operandAt left (now t) (now ends) b)) ≤ 4096 ⌝ }
     requires { ⌜ Fits (now room) at (codeOf (compare kind (operandAt left (now t) (now ends) a) (operandAt left (now t) (now ends) b))) ⌝ }
-    ensures { λ r. ⌜ Wrote (now (room .entry)) at (codeOf (compare kind (operandAt left (now (t .entry)) (now (ends .entry)) a) (operandAt left (now (t .entry)) (now (ends .entry)) b))) (now (room .exit)) r ⌝ }
+    ensures { λ r. ⌜ (let o : ℕ → Operand = operandAt left (now (t .entry)) (now (ends .entry)) in
+        Wrote (now (room .entry)) at (codeOf (compare kind (o a) (o b))) (now (room .exit)) r) ⌝ }
 {
     let p = emit_operand(t, ends, a, 0, left, room, at);
     let q = emit_operand(t, ends, b, 0, left, room, p);
@@ -130,7 +140,8 @@ pub(crate) fn emit_cross(
 ) -> usize
     requires { ⌜ reachOf (cross kind (operandAt left (now t) (now ends) a) (operandAt left (now t) (now ends) b)) ≤ 4096 ⌝ }
     requires { ⌜ Fits (now room) at (codeOf (cross kind (operandAt left (now t) (now ends) a) (operandAt left (now t) (now ends) b))) ⌝ }
-    ensures { λ r. ⌜ Wrote (now (room .entry)) at (codeOf (cross kind (operandAt left (now (t .entry)) (now (ends .entry)) a) (operandAt left (now (t .entry)) (now (ends .entry)) b))) (now (room .exit)) r ⌝ }
+    ensures { λ r. ⌜ (let o : ℕ → Operand = operandAt left (now (t .entry)) (now (ends .entry)) in
+        Wrote (now (room .entry)) at (codeOf (cross kind (o a) (o b))) (now (room .exit)) r) ⌝ }
 {
     let p = emit_operand(t, ends, a, 0, left, room, at);
     let q = emit_operand(t, ends, b, 0, left, room, p);
@@ -150,21 +161,26 @@ pub(crate) fn emit_between(
     room: &mut [u8],
     at: usize,
 ) -> usize
-    requires { ⌜ reachOf (between (operandAt left (now t) (now ends) x) (operandAt left (now t) (now ends) low) (operandAt left (now t) (now ends) high)) ≤ 4096 ⌝ }
-    requires { ⌜ Fits (now room) at (codeOf (between (operandAt left (now t) (now ends) x) (operandAt left (now t) (now ends) low) (operandAt left (now t) (now ends) high))) ⌝ }
-    ensures { λ r. ⌜ Wrote (now (room .entry)) at (codeOf (between (operandAt left (now (t .entry)) (now (ends .entry)) x) (operandAt left (now (t .entry)) (now (ends .entry)) low) (operandAt left (now (t .entry)) (now (ends .entry)) high))) (now (room .exit)) r ⌝ }
+    requires { ⌜ (let o : ℕ → Operand = operandAt left (now t) (now ends) in reachOf (between (o x) (o low) (o high)) ≤ 4096) ⌝ }
+    requires { ⌜ (let o : ℕ → Operand = operandAt left (now t) (now ends) in Fits (now room) at (codeOf (between (o x) (o low) (o high)))) ⌝ }
+    ensures { λ r. ⌜ (let o : ℕ → Operand = operandAt left (now (t .entry)) (now (ends .entry)) in
+        Wrote (now (room .entry)) at (codeOf (between (o x) (o low) (o high))) (now (room .exit)) r) ⌝ }
 {
     let p = emit_operand(t, ends, x, 0, left, room, at);
     let q = emit_operand(t, ends, low, 0, left, room, p);
     let r = emit_operand(t, ends, high, 0, left, room, q);
-    put_step(room, r, 24, 0, 0, 0, 0)
+    put_step(room, r, kinds::BETWEEN, 0, 0, 0, 0)
 }
 
-// The kind that Rising (25) or Falling compares by.
+// The kind that Rising or Falling compares by.
 fn trend_test(kind: u8) -> u8
     ensures { λ r. ⌜ r ≡ trendTest kind ⌝ }
 {
-    if kind == 25 { 16 } else { 17 }
+    if kind == kinds::RISING {
+        kinds::GT
+    } else {
+        kinds::LT
+    }
 }
 
 // Those of Rising and Falling: the operand now and n rows back.

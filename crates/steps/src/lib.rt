@@ -1,7 +1,6 @@
 // The list of steps: a rule's tree as a flat list of 16-byte steps, how such a list is run over rows, and which lists are well formed.
 pub mod choice;
 pub mod decode;
-pub mod depth;
 mod emit;
 pub mod machine;
 pub mod running;
@@ -66,11 +65,5 @@ pub enum RunAnswer {
 // The answer to a translation: how many steps were written, or the refusal's number and place.
 pub enum Translated {
     Writes(usize),
-    Refuses(u8, usize),
-}
-
-// The answer to how many rows a rule needs: their number, the bytes of a row and of all of them, or the refusal's number and place.
-pub enum DepthAnswer {
-    Needs { rows: u64, row: u64, window: u64 },
     Refuses(u8, usize),
 }

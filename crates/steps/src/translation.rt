@@ -1,12 +1,14 @@
 // The steps of a condition, written into a lent room.
 use crate::Translated;
+use crate::decode;
 use crate::emit;
-use rules::Tree;
-use rules::answers;
 use rules::shapes;
 use rules::shapes::ConditionShape;
-use table::Answer;
+use table::answer::Answer;
 use table::header;
+use table::kinds;
+use table::trees::Tree;
+use table::trees::tree_number;
 ghost use mathlib.Core.Path.{_≡_};
 ghost use mathlib.Core.Bool.{cond, not};
 ghost use Prim.Native.Nat.{_≤_};
@@ -26,14 +28,18 @@ pub const FIRST_ROOM: usize = 3;
 fn group_kind(all: bool) -> u8
     ensures { λ r. ⌜ r ≡ cond all 27 28 ⌝ }
 {
-    if all { 27 } else { 28 }
+    if all { kinds::ALL } else { kinds::ANY }
 }
 
 // The kind of the jump after a child: All is decided by a no, Any by a yes.
 fn jump_kind(all: bool) -> u8
     ensures { λ r. ⌜ r ≡ cond (not all) 33 32 ⌝ }
 {
-    if all { 32 } else { 33 }
+    if all {
+        decode::JUMP_AT_NO
+    } else {
+        decode::JUMP_AT_YES
+    }
 }
 
 fn flag(wanted: bool) -> u64
@@ -57,7 +63,7 @@ fn emit_condition(
     ensures { λ r. ⌜ Wrote (now (room .entry)) at (codeOf (conditionAt left (now (t .entry)) (now (ends .entry)) i)) (now (room .exit)) r ⌝ }
 {
     if left == 0 {
-        return emit::put_step(room, at, 28, 0, 0, 0, 0);
+        return emit::put_step(room, at, kinds::ANY, 0, 0, 0, 0);
     }
     match shapes::condition_shape(t, ends, i) {
         ConditionShape::Compare(kind, a, b) => emit::emit_compare(
@@ -106,19 +112,27 @@ fn emit_condition(
         }
         ConditionShape::Not(a) => {
             let p = emit_condition(t, ends, a, left - 1, room, at);
-            emit::put_step(room, p, 29, 0, 0, 0, 0)
+            emit::put_step(room, p, kinds::NOT, 0, 0, 0, 0)
         }
-        ConditionShape::InPosition(wanted) => emit::put_step(room, at, 30, flag(wanted), 0, 0, 0),
+        ConditionShape::InPosition(wanted) => emit::put_step(
+            room,
+            at,
+            kinds::IN_POSITION,
+            flag(wanted),
+            0,
+            0,
+            0,
+        ),
         ConditionShape::BarsSince(selector, k) => emit::put_step(
             room,
             at,
-            31,
+            kinds::BARS_SINCE_ENTRY,
             selector as u64,
             0,
             k,
             0,
         ),
-        ConditionShape::NoCondition => emit::put_step(room, at, 28, 0, 0, 0, 0),
+        ConditionShape::NoCondition => emit::put_step(room, at, kinds::ANY, 0, 0, 0, 0),
     }
 }
 
@@ -136,7 +150,9 @@ fn emit_each(
 ) -> usize
     requires { ⌜ reachOfAll (growConditions (conditionAt left (now t) (now ends)) (now ends) n j) ≤ 4096 ⌝ }
     requires { ⌜ Fits (now room) at (codeEach (not all) (growConditions (conditionAt left (now t) (now ends)) (now ends) n j)) ⌝ }
-    ensures { λ r. ⌜ Wrote (now (room .entry)) at (codeEach (not all) (growConditions (conditionAt left (now (t .entry)) (now (ends .entry))) (now (ends .entry)) n j)) (now (room .exit)) r ⌝ }
+    ensures { λ r. ⌜ Wrote (now (room .entry)) at
+        (codeEach (not all) (growConditions (conditionAt left (now (t .entry)) (now (ends .entry))) (now (ends .entry)) n j))
+        (now (room .exit)) r ⌝ }
 {
     if n == 0 {
         return at;
@@ -166,7 +182,7 @@ pub fn translate(t: &[u8], tree: Tree, room: &mut [u8]) -> Translated
     match answer {
         Answer::Refused { number, place } => Translated::Refuses(number, place),
         Answer::Accepted { nodes: _, rows: _ } => {
-            let x = answers::tree_number(tree);
+            let x = tree_number(tree);
             let count = header::count(t, x);
             if room.len() < NODE_ROOM * count {
                 return Translated::Refuses(10, FIRST_ROOM + x as usize);

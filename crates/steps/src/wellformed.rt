@@ -83,7 +83,8 @@ fn good_step(slots: u64, depth: u64, after: u64, x: Step) -> bool
 // head: kind + 256 selector + 65,536 skip + 2^32 n. A no says nothing. Every bar looks through its lists, so the order counts.
 fn quick_yes(head: u64, bits: u64, depth: u64, after: u64) -> bool
     requires { ⌜ after < 65536 ⌝ }
-    ensures { λ r. ⌜ (r ≡ true → (slots : ℕ) → goodStep slots depth after (fields (head % 256) (head / 256 % 256) (head / 65536 % 65536) (head / 4294967296) bits) ≡ true) ⌝ }
+    ensures { λ r. ⌜ (r ≡ true → (slots : ℕ) → goodStep slots depth after
+        (fields (head % 256) (head / 256 % 256) (head / 65536 % 65536) (head / 4294967296) bits) ≡ true) ⌝ }
 {
     if bits != 0 {
         // A constant: kind 1, selector and skip zero.

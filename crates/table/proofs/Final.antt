@@ -11,18 +11,18 @@ use lib.ListN.{getD, replicate}
 use lib.Seq.{ext-getD}
 use lib.Dec.{ltb}
 use borrow.Author.Tests.{lt-ltb, le-ltb, eq-eqb, ne-eqb}
-use Rattle.table.specs.declared.Place.{Place}
-use Rattle.table.specs.declared.Place.the-variants.{Nowhere, At}
-use Rattle.table.specs.declared.Answer.{Answer}
-use Rattle.table.specs.declared.Answer.the-variants.{Accepted, Refused}
+use Rattle.table.specs.declared.places.Place.{Place}
+use Rattle.table.specs.declared.places.Place.the-variants.{Nowhere, At}
+use Rattle.table.specs.declared.answer.Answer.{Answer}
+use Rattle.table.specs.declared.answer.Answer.the-variants.{Accepted, Refused}
 use Rattle.table.specs.Bytes.{u16}
 use Rattle.table.specs.Header.{total, headerRefusal, root}
 use Rattle.table.specs.Nodes.{wrongNode}
 use Rattle.table.specs.Checked.{orRefused, orHeader, from9, from8, from7, checked}
 use Rattle.table.specs.Ends.{endsFor, endAt, from, endOf, endsAll, Linked}
 use Rattle.table.specs.Passes.{EndedFrom, Roots, EndedAll, LinkedAll}
-use Rattle.table.specs.EndsLaws.{from-long, from-at}
-use Rattle.table.specs.HeaderLaws.{header-right}
+use Rattle.table.specs.Laws.Ends.{from-long, from-at}
+use Rattle.table.specs.Laws.Header.{header-right}
 use Rattle.table.proofs.Linked.{end-word}
 
 -- One rule: it is broken, or what is left decides.
@@ -106,7 +106,8 @@ ends-are t ends a b c e k all l =
     (λ j h. end-at t ends a b c e k all l j ∙ ap (endOf t) (sym (zero-add j)) ∙ sym (from-at (endOf t) 256 0 j (omega (arith, all .long))))
 
 module _ (t : List ℕ) (x : Answer) (es ends : List ℕ) where
-  right : (x ≡ orHeader (headerRefusal t) (orRefused 6 (wrongNode t (u16 t 6) 0) (from7 t))) × (es ≡ endsFor (orHeader (headerRefusal t) (orRefused 6 (wrongNode t (u16 t 6) 0) (from7 t))) ends)
+  right : (x ≡ orHeader (headerRefusal t) (orRefused 6 (wrongNode t (u16 t 6) 0) (from7 t)))
+      × (es ≡ endsFor (orHeader (headerRefusal t) (orRefused 6 (wrongNode t (u16 t 6) 0) (from7 t))) ends)
       → (x ≡ checked t) × (es ≡ endsFor (checked t) ends)
   right h = rw (checked-is t) h
 

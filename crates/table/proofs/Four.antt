@@ -8,9 +8,9 @@ use native.Mathlib.Omega.{arith}
 use native.Mathlib.Nat.{eq-zero-or-pos}
 use lib.ListN.{length, getD, replicate}
 use borrow.Author.Tests.{lt-ltb, le-ltb}
-use Rattle.table.specs.declared.Place.{Place}
-use Rattle.table.specs.declared.Place.the-variants.{Nowhere, At}
-use Rattle.table.specs.declared.Answer.the-variants.{Accepted, Refused}
+use Rattle.table.specs.declared.places.Place.{Place}
+use Rattle.table.specs.declared.places.Place.the-variants.{Nowhere, At}
+use Rattle.table.specs.declared.answer.Answer.the-variants.{Accepted, Refused}
 use Rattle.table.specs.Bytes.{u16}
 use Rattle.table.specs.Header.{count, root}
 use Rattle.table.specs.Nodes.{sortAt}
@@ -21,8 +21,8 @@ use Rattle.table.specs.Reach.{forestReach, treeReach, tooFar, rowsNeeded
 use Rattle.table.specs.Checked.{orRefused, from9}
 use Rattle.table.specs.Passes.{Ended, EndedFrom, Ordered, Roots, EndedAll, WholeTree, LinkedAll}
 use Rattle.table.proofs.Prefix.{fits-two, fits-soon, pass}
-use Rattle.table.specs.Accepted.{or-none}
-use Rattle.table.specs.OrderLaws.{first-sort, never-at}
+use Rattle.table.specs.Laws.Accepted.{or-none}
+use Rattle.table.specs.Laws.Order.{first-sort, never-at}
 use Rattle.table.proofs.Linked.{linked, word-end}
 
 root-zero : (t : List ℕ) → 0 ≡ root t 0
@@ -89,7 +89,9 @@ order-four t a b c e z w x y r k zero′ long o0 o1 o2 o3 =
 -- A tree that keeps rule 7 ends where its nodes do.
 root-end : (t ends : List ℕ) (b e : ℕ) → misfit t (e - b) b ≡ Nowhere → EndedFrom t ends b e → b < e → getD ends b 0 ≡ e
 unfolding EndedFrom
-root-end t ends b e h k l = ⊎-elim (λ z. omega (arith, known .within low)) (λ z. absurd (never-at (getD ends b 0) (sym (fits-soon t e _ (omega arith)) ∙ after))) (eq-zero-or-pos (e - getD ends b 0))
+root-end t ends b e h k l =
+    ⊎-elim (λ z. omega (arith, known .within low)) (λ z. absurd (never-at (getD ends b 0) (sym (fits-soon t e _ (omega arith)) ∙ after)))
+    (eq-zero-or-pos (e - getD ends b 0))
   where
     whole : fits t (e - b) b (2 ∷ []) ≡ Nowhere
     whole = fits-two t b e l ∙ h

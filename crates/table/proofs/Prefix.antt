@@ -9,11 +9,11 @@ use mathlib.Core.Logic.{⊎-elim, _≢_}
 use lib.ListN.{length, getD, set, replicate}
 use lib.Seq.{getD-set-same, getD-set-other}
 use borrow.Author.Tests.{eq-eqb, ne-eqb, lt-ltb, le-ltb}
-use Rattle.table.specs.declared.Place.the-variants.{Nowhere, At}
+use Rattle.table.specs.declared.places.Place.the-variants.{Nowhere, At}
 use Rattle.table.specs.Nodes.{sortAt, childCountAt, childSortAt}
 use Rattle.table.specs.Order.{fits, misfit}
 use Rattle.table.specs.Passes.{after, Ended, EndedFrom, Ordered}
-use Rattle.table.specs.ForestLaws.{left-suc, left-zero}
+use Rattle.table.specs.Laws.Forest.{left-suc, left-zero}
 
 module _ (t : List ℕ) (e i : ℕ) where
   pub fits-node : i < e → (w : ℕ) (ws : List ℕ) → sortAt t i ≡ w

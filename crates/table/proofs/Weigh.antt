@@ -8,17 +8,17 @@ use native.Mathlib.Omega.{arith}
 use native.Mathlib.Nat.{le-trans, eq-or-lt-of-le, eq-zero-or-pos}
 use lib.ListN.{length, getD, set}
 use lib.Seq.{getD-set-same, getD-set-other}
-use Rattle.table.specs.declared.Node.{Node}
-use Rattle.table.specs.declared.Place.{Place}
-use Rattle.table.specs.declared.Place.the-variants.{Nowhere, At}
+use Rattle.table.specs.declared.nodes.Node.{Node}
+use Rattle.table.specs.declared.places.Place.{Place}
+use Rattle.table.specs.declared.places.Place.the-variants.{Nowhere, At}
 use Rattle.table.specs.Nodes.{nodeAt, childCountAt}
 use Rattle.table.specs.Order.{orElse}
-use Rattle.table.specs.Forest.{Forest, none, tree, firstTrees, otherTrees, over, trees}
+use Rattle.table.specs.Forest.{Forest, none, tree, firstTrees, otherTrees, nodeOver, trees}
 use Rattle.table.specs.Nesting.{deeper}
 use Rattle.table.specs.Reach.{weigh, ownBack, forestReach}
 use Rattle.table.specs.Ends.{Link, Linked}
 use Rattle.table.specs.Passes.{WordsFrom, Most, weight}
-use Rattle.table.specs.ForestLaws.{left-suc, left-zero, first-none}
+use Rattle.table.specs.Laws.Forest.{left-suc, left-zero, first-none}
 
 weigh-row : (w : Node → ℕ) (l : ℕ) (f : Forest) → weigh w (firstTrees (suc l) f) ≡ max (weigh w (firstTrees 1 f)) (weigh w (firstTrees l (otherTrees 1 f)))
 unfolding weigh firstTrees otherTrees
@@ -53,7 +53,8 @@ module _ (t words : List ℕ) (i e : ℕ) where
         pred : left ≡ suc (left - 1)
         pred = omega arith
 
-        split : weigh w (firstTrees left (trees t (e - j) j)) ≡ max (weigh w (firstTrees 1 (trees t (e - j) j))) (weigh w (firstTrees (left - 1) (trees t (e - v) v)))
+        split : weigh w (firstTrees left (trees t (e - j) j))
+            ≡ max (weigh w (firstTrees 1 (trees t (e - j) j))) (weigh w (firstTrees (left - 1) (trees t (e - v) v)))
         split = ap (λ (x : ℕ). weigh w (firstTrees x (trees t (e - j) j))) pred ∙ weigh-row w (left - 1) (trees t (e - j) j)
             ∙ ap (λ (f : Forest). max (weigh w (firstTrees 1 (trees t (e - j) j))) (weigh w (firstTrees (left - 1) f))) (k .next)
 
@@ -71,7 +72,7 @@ module _ (t words : List ℕ) (i e : ℕ) where
 -- A node's word, from its own weight and its children's greatest.
 first-weight : (w : Node → ℕ) (t : List ℕ) (i e : ℕ) → i < e
     → weigh w (firstTrees 1 (trees t (e - i) i)) ≡ w (nodeAt t i) + weigh w (firstTrees (childCountAt t i) (trees t (e - (i + 1)) (i + 1)))
-unfolding weigh firstTrees trees over
+unfolding weigh firstTrees trees nodeOver
 first-weight w t i e h = rw (left-suc e i h) (omega arith)
 
 pub words-none : (t words : List ℕ) (w : Node → ℕ) (e : ℕ) → WordsFrom t words w e e
@@ -90,7 +91,8 @@ words-more t w e i i′ o m x words step hi room k own most sum j lo h = ⊎-eli
     new = omega (arith, own, most w (λ j′ lo′ hi′. k j′ (omega arith) hi′), sum, first-weight w t i′ e (omega arith))
 
     here : i′ ≡ j → getD (set words i′ x) j 0 ≡ min (weigh w (firstTrees 1 (trees t (e - j) j))) 4096
-    here same = subst (λ (y : ℕ). getD (set words i′ x) y 0 ≡ min (weigh w (firstTrees 1 (trees t (e - y) y))) 4096) same (getD-set-same words i′ x 0 room ∙ new)
+    here same =
+        subst (λ (y : ℕ). getD (set words i′ x) y 0 ≡ min (weigh w (firstTrees 1 (trees t (e - y) y))) 4096) same (getD-set-same words i′ x 0 room ∙ new)
 
     other : i′ < j → j ≢ i′
     other l = omega arith
@@ -156,7 +158,7 @@ found (suc l) (tree n below rest) h =
 
 module _ (t : List ℕ) (e j left : ℕ) where
   pub deep-here : j < e → left ≡ 0 → At j ≡ deeper left (trees t (e - j) j)
-  unfolding deeper trees over nodeAt
+  unfolding deeper trees nodeOver nodeAt
   deep-here h z = rw (left-suc e j h, z)
 
   pub deep-end : e ≤ j → Nowhere ≡ deeper left (trees t (e - j) j)
@@ -178,10 +180,11 @@ module _ (t : List ℕ) (e j left : ℕ) where
     own = first-weight (weight 0) t j e h
 
     two : deeper left (trees t (e - j) j) ≡ orElse (deeper (left - 1) below) (deeper left above)
-    unfolding deeper trees over below above
+    unfolding deeper trees nodeOver below above
     two = ap (λ (m : ℕ). deeper left (trees t m j)) (left-suc e j h) ∙
         ap (λ (l : ℕ). deeper l (trees t (suc (e - (j + 1))) j)) pred ∙
-        ap (λ (l : ℕ). orElse (deeper (left - 1) (firstTrees (childCountAt t j) (trees t (e - (j + 1)) (j + 1)))) (deeper l (otherTrees (childCountAt t j) (trees t (e - (j + 1)) (j + 1))))) (sym pred)
+        ap (λ (l : ℕ). orElse (deeper (left - 1) (firstTrees (childCountAt t j) (trees t (e - (j + 1)) (j + 1))))
+        (deeper l (otherTrees (childCountAt t j) (trees t (e - (j + 1)) (j + 1))))) (sym pred)
 
     pub deep-down : left < x → deeper left (trees t (e - j) j) ≡ deeper (left - 1) (trees t (e - (j + 1)) (j + 1))
     unfolding orElse below
@@ -190,7 +193,7 @@ module _ (t : List ℕ) (e j left : ℕ) where
         two ∙ rw (p .1) (sym (deeper-split (left - 1) (childCountAt t j) (trees t (e - (j + 1)) (j + 1)) ∙ rw (p .1)))
 
     skipped : otherTrees 1 (trees t (e - j) j) ≡ above
-    unfolding otherTrees trees over above
+    unfolding otherTrees trees nodeOver above
     skipped = rw (left-suc e j h)
 
     pub deep-over : (v : ℕ) → x ≤ left → left ≤ 32 → Link t e j v → deeper left (trees t (e - j) j) ≡ deeper left (trees t (e - v) v)

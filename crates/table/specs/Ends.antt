@@ -5,10 +5,10 @@ use mathlib.Core.List.{List, [], _∷_}
 use Prim.Native.Nat.{ℕ, zero, suc, _+_, _-_, _≤_, _<_}
 use lib.ListN.{getD, replicate}
 use lib.Dec.{ltb}
-use Rattle.table.specs.declared.Place.{Place}
-use Rattle.table.specs.declared.Place.the-variants.{Nowhere, At}
-use Rattle.table.specs.declared.Answer.{Answer}
-use Rattle.table.specs.declared.Answer.the-variants.{Accepted, Refused}
+use Rattle.table.specs.declared.places.Place.{Place}
+use Rattle.table.specs.declared.places.Place.the-variants.{Nowhere, At}
+use Rattle.table.specs.declared.answer.Answer.{Answer}
+use Rattle.table.specs.declared.answer.Answer.the-variants.{Accepted, Refused}
 use Rattle.table.specs.Header.{root}
 use Rattle.table.specs.Nodes.{sortAt}
 use Rattle.table.specs.Order.{fits}

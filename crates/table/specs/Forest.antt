@@ -3,7 +3,7 @@ use mathlib.Core.Path.{_≡_}
 use mathlib.Core.List.{List, [], _∷_, _++_}
 use Prim.Native.Nat.{ℕ, zero, suc, _+_}
 use lib.ListN.{replicate}
-use Rattle.table.specs.declared.Node.{Node}
+use Rattle.table.specs.declared.nodes.Node.{Node}
 use Rattle.table.specs.Kinds.{kindOf}
 use Rattle.table.specs.Header.{count, root}
 use Rattle.table.specs.Nodes.{nodeAt, childCount, childCountAt}
@@ -24,13 +24,13 @@ otherTrees (suc k) none = none
 otherTrees (suc k) (tree n below rest) = otherTrees k rest
 
 -- a node over its k children, which are the first k of the trees that follow it
-unfoldable pub over : Node → ℕ → Forest → Forest
-over n k f = tree n (firstTrees k f) (otherTrees k f)
+unfoldable pub nodeOver : Node → ℕ → Forest → Forest
+nodeOver n k f = tree n (firstTrees k f) (otherTrees k f)
 
 -- the trees that the m nodes from node i on are, in prefix order
 unfoldable pub trees : List ℕ → ℕ → ℕ → Forest
 trees t zero i = none
-trees t (suc m) i = over (nodeAt t i) (childCountAt t i) (trees t m (i + 1))
+trees t (suc m) i = nodeOver (nodeAt t i) (childCountAt t i) (trees t m (i + 1))
 
 -- tree x of the table: 0 entry, 1 exit, 2 short entry, 3 short exit
 unfoldable pub forestOf : List ℕ → ℕ → Forest

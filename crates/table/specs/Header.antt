@@ -5,6 +5,8 @@ use Prim.Native.Nat.{ℕ, zero, suc, _+_, _*_}
 use lib.ListN.{length, getD}
 use lib.Dec.{ltb, eqb}
 use Rattle.table.specs.Bytes.{u16}
+use Rattle.table.specs.declared.trees.Tree.{Tree}
+use Rattle.table.specs.declared.trees.Tree.the-variants.{Entry, Exit, ShortEntry, ShortExit}
 
 -- "Header, 16 bytes: mark `RTB`; slot count K (one byte, 0 to 64); version, 16 bits, 1; total nodes (16 bits, 2 to 256); node
 -- counts of entry, exit, short entry, short exit (16 bits each; the first two at least 1, 0 means absent; they sum to the
@@ -50,3 +52,10 @@ headerRefusal t =
 unfoldable pub root : List ℕ → ℕ → ℕ
 root t zero = 0
 root t (suc x) = root t x + count t x
+
+-- "entry, exit, short entry, short exit": the trees in the header's order
+abbrev pub treeNumber : Tree → ℕ
+treeNumber Entry = 0
+treeNumber Exit = 1
+treeNumber ShortEntry = 2
+treeNumber ShortExit = 3

@@ -1,15 +1,97 @@
--- The kinds of nodes: what each one takes. Definitions only.
+-- The table of kinds: what a node of each kind takes. `Named` has the kinds by name. Definitions only.
 use mathlib.Core.List.{List, [], _∷_}
 use Prim.Native.Nat.{ℕ}
 use lib.ListN.{getD}
-use Rattle.table.specs.declared.Kind.{Kind}
+use Rattle.table.specs.declared.kinds.Kind.{Kind}
+use Rattle.table.specs.declared.kinds.OperandClass.{OperandClass}
+use Rattle.table.specs.declared.kinds.ConditionClass.{ConditionClass}
+use Rattle.table.specs.declared.kinds.OperandClass.the-variants.{NoOperand, Const, Ref, Price, Prev, Arith}
+use Rattle.table.specs.declared.kinds.ConditionClass.the-variants.{NoCondition, Compare, Cross, Between, Trend, All, Any, Not}
+use Rattle.table.specs.declared.kinds.ConditionClass.the-variants.{InPosition, BarsSince}
 
--- A row: the node's sort (1 an operand, 2 a condition, 0 no such kind), how many children it takes (255: as many as the node
--- says) and of which sort, how many selectors it has (1: the field is unused, so zero), what n is (0 unused, 1 a slot, 2
--- any number), whether it uses the constant, and how much it adds to the reach (0 nothing, 1 its n, 2 one bar).
-abbrev pub row : ℕ → ℕ → ℕ → ℕ → ℕ → ℕ → ℕ → Kind
-row sort children below selectors n constant back =
-    record { sort = sort; children = children; below = below; selectors = selectors; n = n; constant = constant; back = back }
+-- ---- what a row says
+
+-- The sort of a node.
+abbrev pub operand : ℕ
+operand = 1
+
+abbrev pub condition : ℕ
+condition = 2
+
+-- What stands below a node: how many children, and of which sort. 255 children: as many as the node says.
+pub record Takes : Type 0 where
+  pub children : ℕ
+  pub sort : ℕ
+
+abbrev pub leaf : Takes
+leaf = record { children = 0; sort = 0 }
+
+abbrev pub operands : ℕ → Takes
+operands m = record { children = m; sort = operand }
+
+abbrev pub conditions : ℕ → Takes
+conditions m = record { children = m; sort = condition }
+
+abbrev pub asWritten : ℕ
+asWritten = 255
+
+-- Which fields a node uses beside its kind. An unused selector has one value, zero; n is unused (0), a slot (1) or any
+-- number (2); the constant is unused (0) or used (1).
+pub record Uses : Type 0 where
+  pub selectors : ℕ
+  pub n : ℕ
+  pub constant : ℕ
+
+abbrev pub kindAlone : Uses
+kindAlone = record { selectors = 1; n = 0; constant = 0 }
+
+abbrev pub theConstant : Uses
+theConstant = record { selectors = 1; n = 0; constant = 1 }
+
+abbrev pub slotBelowK : Uses
+slotBelowK = record { selectors = 1; n = 1; constant = 0 }
+
+abbrev pub itsNumber : Uses
+itsNumber = record { selectors = 1; n = 2; constant = 0 }
+
+abbrev pub selectorBelow : ℕ → Uses
+selectorBelow m = record { selectors = m; n = 0; constant = 0 }
+
+abbrev pub numberAndSelectorBelow : ℕ → Uses
+numberAndSelectorBelow m = record { selectors = m; n = 2; constant = 0 }
+
+-- What a node adds to the reach: "Prev, Rising and Falling add n, a cross adds 1".
+abbrev pub nothing : ℕ
+nothing = 0
+
+abbrev pub itsN : ℕ
+itsN = 1
+
+abbrev pub oneBar : ℕ
+oneBar = 2
+
+-- A row: the class of the node, what stands below it, which fields it uses, what it adds to the reach.
+abbrev pub row : OperandClass → ConditionClass → ℕ → Takes → Uses → ℕ → Kind
+row o c sort takes uses back =
+    record {
+      operand = o;
+      condition = c;
+      sort = sort;
+      children = takes .children;
+      below = takes .sort;
+      selectors = uses .selectors;
+      n = uses .n;
+      constant = uses .constant;
+      back = back;
+    }
+
+abbrev pub anOperand : OperandClass → Takes → Uses → ℕ → Kind
+anOperand class = row class NoCondition operand
+
+abbrev pub aCondition : ConditionClass → Takes → Uses → ℕ → Kind
+aCondition class = row NoOperand class condition
+
+-- ---- the rows
 
 -- "Kinds: 1 Const (constant, finite); 2 Ref (n = slot, below K); 3 Price (selector 0..6: open, high, low, close, volume,
 -- hlc3, ohlc4); 4 Prev (n; one operand); 5..8 Add, Sub, Mul, Div, 16..21 Gt, Lt, Ge, Le, Eq, Ne and 22, 23 CrossAbove,
@@ -17,46 +99,49 @@ row sort children below selectors n constant back =
 -- more conditions); 29 Not (one condition); 30 InPosition (selector 0 or 1); 31 BarsSinceEntry (selector 0..4: Gt, Lt, Ge,
 -- Le, Eq; n = k)."
 abbrev pub noKind : Kind
-noKind = row 0 0 0 0 0 0 0
+noKind = row NoOperand NoCondition 0 leaf (selectorBelow 0) nothing
 
 abbrev pub constant : Kind
-constant = row 1 0 0 1 0 1 0
+constant = anOperand Const leaf theConstant nothing
 
 abbrev pub reference : Kind
-reference = row 1 0 0 1 1 0 0
+reference = anOperand Ref leaf slotBelowK nothing
 
 abbrev pub price : Kind
-price = row 1 0 0 7 0 0 0
+price = anOperand Price leaf (selectorBelow 7) nothing
 
 abbrev pub previous : Kind
-previous = row 1 1 1 1 2 0 1
+previous = anOperand Prev (operands 1) itsNumber itsN
 
 abbrev pub arithmetic : Kind
-arithmetic = row 1 2 1 1 0 0 0
+arithmetic = anOperand Arith (operands 2) kindAlone nothing
 
 abbrev pub comparison : Kind
-comparison = row 2 2 1 1 0 0 0
+comparison = aCondition Compare (operands 2) kindAlone nothing
 
 abbrev pub crossing : Kind
-crossing = row 2 2 1 1 0 0 2
+crossing = aCondition Cross (operands 2) kindAlone oneBar
 
 abbrev pub between : Kind
-between = row 2 3 1 1 0 0 0
+between = aCondition Between (operands 3) kindAlone nothing
 
 abbrev pub trend : Kind
-trend = row 2 1 1 1 2 0 1
+trend = aCondition Trend (operands 1) itsNumber itsN
 
-abbrev pub group : Kind
-group = row 2 255 2 1 0 0 0
+abbrev pub allOf : Kind
+allOf = aCondition All (conditions asWritten) kindAlone nothing
+
+abbrev pub anyOf : Kind
+anyOf = aCondition Any (conditions asWritten) kindAlone nothing
 
 abbrev pub negation : Kind
-negation = row 2 1 2 1 0 0 0
+negation = aCondition Not (conditions 1) kindAlone nothing
 
 abbrev pub position : Kind
-position = row 2 0 0 2 0 0 0
+position = aCondition InPosition leaf (selectorBelow 2) nothing
 
 abbrev pub barsSince : Kind
-barsSince = row 2 0 0 5 2 0 0
+barsSince = aCondition BarsSince leaf (numberAndSelectorBelow 5) nothing
 
 -- "How many children each kind takes, and of which sort, stands in one constant table indexed by kind."
 unfoldable pub kinds : List Kind
@@ -65,7 +150,7 @@ kinds =
     arithmetic ∷ arithmetic ∷ arithmetic ∷ arithmetic ∷
     noKind ∷ noKind ∷ noKind ∷ noKind ∷ noKind ∷ noKind ∷ noKind ∷
     comparison ∷ comparison ∷ comparison ∷ comparison ∷ comparison ∷ comparison ∷
-    crossing ∷ crossing ∷ between ∷ trend ∷ trend ∷ group ∷ group ∷ negation ∷ position ∷ barsSince ∷ []
+    crossing ∷ crossing ∷ between ∷ trend ∷ trend ∷ allOf ∷ anyOf ∷ negation ∷ position ∷ barsSince ∷ []
 
 unfoldable pub kindOf : ℕ → Kind
 kindOf k = getD kinds k noKind

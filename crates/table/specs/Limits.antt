@@ -3,7 +3,10 @@ use mathlib.Core.Path.{_≡_}
 use mathlib.Core.Bool.{true}
 use Prim.Native.Nat.{ℕ, _+_, _≤_, _<_, max}
 use Rattle.floats.specs.Floats.{finite, floatOf}
-use Rattle.table.specs.Trees.{Operand, const, ref, price, prev, arith, Condition, Conditions, compare, cross, between, trend, every, any, negated, inPosition, barsSince, none, more, reachOf}
+use Rattle.table.specs.Kinds as Kinds
+use Rattle.table.specs.Kinds.{kindOf, arithmetic, comparison, crossing}
+use Rattle.table.specs.Trees.{Operand, const, ref, price, prev, arith, Condition, Conditions, compare, cross, between, trend, every, any, negated}
+use Rattle.table.specs.Trees.{inPosition, barsSince, none, more, reachOf}
 use Rattle.table.specs.Writing.{Short, absent, given, Rule, nodesOfRule}
 
 -- With k slots: "Const (constant, finite)", its bits a 64-bit word; "Ref (n = slot, below K)"; "Price (selector 0..6 ..)"; n
@@ -13,15 +16,15 @@ Within k (const bits) = (bits < 18446744073709551616) × (finite (floatOf bits) 
 Within k (ref slot) = slot < k
 Within k (price selector) = selector < 7
 Within k (prev a n) = (n < 4294967296) × Within k a
-Within k (arith kind a b) = (5 ≤ kind) × (kind ≤ 8) × Within k a × Within k b
+Within k (arith kind a b) = (kindOf kind ≡ arithmetic) × Within k a × Within k b
 
 -- "16..21 Gt, Lt, Ge, Le, Eq, Ne and 22, 23 CrossAbove, CrossBelow"; "25, 26 Rising, Falling"; "31 BarsSinceEntry (selector 0..4 ..)"
 unfoldable mutual
   pub WithinOf : ℕ → Condition → Type 0
-  WithinOf k (compare kind a b) = (16 ≤ kind) × (kind ≤ 21) × Within k a × Within k b
-  WithinOf k (cross kind a b) = (22 ≤ kind) × (kind ≤ 23) × Within k a × Within k b
+  WithinOf k (compare kind a b) = (kindOf kind ≡ comparison) × Within k a × Within k b
+  WithinOf k (cross kind a b) = (kindOf kind ≡ crossing) × Within k a × Within k b
   WithinOf k (between x low high) = Within k x × Within k low × Within k high
-  WithinOf k (trend kind a n) = (25 ≤ kind) × (kind ≤ 26) × (n < 4294967296) × Within k a
+  WithinOf k (trend kind a n) = (kindOf kind ≡ Kinds.trend) × (n < 4294967296) × Within k a
   WithinOf k (every cs) = WithinAll k cs
   WithinOf k (any cs) = WithinAll k cs
   WithinOf k (negated c) = WithinOf k c

@@ -6,9 +6,9 @@ use mathlib.Core.List.{List, _∷_}
 use Prim.Native.Nat.{ℕ, _+_, _-_, _≤_, _<_, min}
 use lib.ListN.{length, getD}
 use lib.Dec.{ltb, eqb}
-use Rattle.table.specs.declared.Node.{Node}
-use Rattle.table.specs.declared.Place.{Place}
-use Rattle.table.specs.declared.Place.the-variants.{At}
+use Rattle.table.specs.declared.nodes.Node.{Node}
+use Rattle.table.specs.declared.places.Place.{Place}
+use Rattle.table.specs.declared.places.Place.the-variants.{At}
 use Rattle.table.specs.Header.{total, root}
 use Rattle.table.specs.Nodes.{sortAt, childCountAt}
 use Rattle.table.specs.Order.{fits}

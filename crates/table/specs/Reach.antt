@@ -3,10 +3,10 @@ use mathlib.Core.Bool.{cond}
 use mathlib.Core.List.{List}
 use Prim.Native.Nat.{ℕ, _+_, max}
 use lib.Dec.{ltb, eqb}
-use Rattle.table.specs.declared.Kind.{Kind}
-use Rattle.table.specs.declared.Node.{Node}
-use Rattle.table.specs.declared.Place.{Place}
-use Rattle.table.specs.declared.Place.the-variants.{Nowhere, At}
+use Rattle.table.specs.declared.kinds.Kind.{Kind}
+use Rattle.table.specs.declared.nodes.Node.{Node}
+use Rattle.table.specs.declared.places.Place.{Place}
+use Rattle.table.specs.declared.places.Place.the-variants.{Nowhere, At}
 use Rattle.table.specs.Kinds.{kindOf}
 use Rattle.table.specs.Header.{root}
 use Rattle.table.specs.Order.{ofFour}

@@ -1,28 +1,37 @@
 -- The trees of a table as trees: read off the forest of its nodes, each node over what is below it. Bytes that are no
 -- accepted table read as some tree too; RoundTrip says why the reading is right. Definitions only.
-use mathlib.Core.Bool.{Bool, not, cond}
+use mathlib.Core.Bool.{Bool, not}
 use mathlib.Core.List.{List, [], _∷_}
 use Prim.Native.Nat.{ℕ, _-_}
 use lib.ListN.{getD}
-use lib.Dec.{ltb, eqb}
-use Rattle.table.specs.declared.Node.{Node}
+use lib.Dec.{eqb}
+use Rattle.table.specs.declared.nodes.Node.{Node}
+use Rattle.table.specs.declared.kinds.OperandClass.{OperandClass}
+use Rattle.table.specs.declared.kinds.OperandClass.the-variants as AsOperand
+use Rattle.table.specs.declared.kinds.ConditionClass.{ConditionClass}
+use Rattle.table.specs.declared.kinds.ConditionClass.the-variants as AsCondition
+use Rattle.table.specs.Kinds.{kindOf}
 use Rattle.table.specs.Header.{count}
 use Rattle.table.specs.Forest.{Forest, firstTrees, trees, forestOf}
 use Rattle.table.specs.Forest as Forest
-use Rattle.table.specs.Trees.{Operand, const, ref, price, prev, arith, Condition, Conditions, compare, cross, between, trend, every, any, negated, inPosition, barsSince, none, more}
+use Rattle.table.specs.Trees.{Operand, const, ref, price, prev, arith, Condition, Conditions, compare, cross, between, trend, every, any, negated}
+use Rattle.table.specs.Trees.{inPosition, barsSince, none, more}
 
 -- operand k of those in a row
 abbrev pub child : List Operand → ℕ → Operand
 child os k = getD os k (const 0)
 
--- An operand, from its node and the operands below it: 1 Const, 2 Ref, 3 Price, 4 Prev, 5..8 Add, Sub, Mul, Div.
+-- An operand, from its node and the operands below it, by the class of its kind. A node that is no operand reads as 0.
+unfoldable pub operandBy : OperandClass → Node → List Operand → Operand
+operandBy AsOperand.Const n below = const (n .constant)
+operandBy AsOperand.Ref n below = ref (n .n)
+operandBy AsOperand.Price n below = price (n .selector)
+operandBy AsOperand.Prev n below = prev (child below 0) (n .n)
+operandBy AsOperand.Arith n below = arith (n .kind) (child below 0) (child below 1)
+operandBy AsOperand.NoOperand n below = const 0
+
 unfoldable pub operandFrom : Node → List Operand → Operand
-operandFrom n below =
-    cond (eqb (n .kind) 1) (const (n .constant))
-    (cond (eqb (n .kind) 2) (ref (n .n))
-    (cond (eqb (n .kind) 3) (price (n .selector))
-    (cond (eqb (n .kind) 4) (prev (child below 0) (n .n))
-    (arith (n .kind) (child below 0) (child below 1)))))
+operandFrom n below = operandBy (kindOf (n .kind) .operand) n below
 
 unfoldable pub operands : Forest → List Operand
 operands Forest.none = []
@@ -33,19 +42,22 @@ unfoldable pub firstOf : Conditions → Condition
 firstOf none = any none
 firstOf (more c cs) = c
 
--- A condition, from its node and the operands or the conditions below it: 16..21 Gt, Lt, Ge, Le, Eq, Ne, 22, 23 CrossAbove,
--- CrossBelow, 24 Between, 25, 26 Rising, Falling, 27 All, 28 Any, 29 Not, 30 InPosition, 31 BarsSinceEntry.
+-- A condition, from its node and the operands or the conditions below it, by the class of its kind. A node that is no
+-- condition reads as Any of none.
+unfoldable pub conditionBy : ConditionClass → Node → List Operand → Conditions → Condition
+conditionBy AsCondition.Compare n os cs = compare (n .kind) (child os 0) (child os 1)
+conditionBy AsCondition.Cross n os cs = cross (n .kind) (child os 0) (child os 1)
+conditionBy AsCondition.Between n os cs = between (child os 0) (child os 1) (child os 2)
+conditionBy AsCondition.Trend n os cs = trend (n .kind) (child os 0) (n .n)
+conditionBy AsCondition.All n os cs = every cs
+conditionBy AsCondition.Any n os cs = any cs
+conditionBy AsCondition.Not n os cs = negated (firstOf cs)
+conditionBy AsCondition.InPosition n os cs = inPosition (eqb (n .selector) 1)
+conditionBy AsCondition.BarsSince n os cs = barsSince (n .selector) (n .n)
+conditionBy AsCondition.NoCondition n os cs = any none
+
 unfoldable pub conditionFrom : Node → List Operand → Conditions → Condition
-conditionFrom n os cs =
-    cond (ltb (n .kind) 22) (compare (n .kind) (child os 0) (child os 1))
-    (cond (ltb (n .kind) 24) (cross (n .kind) (child os 0) (child os 1))
-    (cond (eqb (n .kind) 24) (between (child os 0) (child os 1) (child os 2))
-    (cond (ltb (n .kind) 27) (trend (n .kind) (child os 0) (n .n))
-    (cond (eqb (n .kind) 27) (every cs)
-    (cond (eqb (n .kind) 28) (any cs)
-    (cond (eqb (n .kind) 29) (negated (firstOf cs))
-    (cond (eqb (n .kind) 30) (inPosition (eqb (n .selector) 1))
-    (barsSince (n .selector) (n .n)))))))))
+conditionFrom n os cs = conditionBy (kindOf (n .kind) .condition) n os cs
 
 unfoldable pub conditions : Forest → Conditions
 conditions Forest.none = none

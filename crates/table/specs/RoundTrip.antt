@@ -5,16 +5,18 @@
 use mathlib.Core.Path.{_≡_}
 use mathlib.Core.List.{List}
 use Prim.Native.Nat.{ℕ, _+_, max}
-use Rattle.table.specs.declared.Answer.the-variants.{Accepted}
+use Rattle.table.specs.declared.answer.Answer.the-variants.{Accepted}
 use Rattle.table.specs.Header.{slots}
 use Rattle.table.specs.Checked.{checked}
 use Rattle.table.specs.Trees.{reachOf}
 use Rattle.table.specs.Writing.{Rule, nodesOfRule, tableOf, ruleOf}
 use Rattle.table.specs.Limits.{RuleWithin}
-use Rattle.table.specs.Rewriting.{Bytes, round-trip}
-use Rattle.table.specs.Limited.{rule-within}
-use Rattle.table.specs.WrittenBytes.{written-bytes}
-use Rattle.table.specs.Rereading.{reachOfShort, is-accepted, reads-back}
+use Rattle.table.specs.Bytes.{Bytes}
+use Rattle.table.specs.Laws.AcceptedWritten.{round-trip}
+use Rattle.table.specs.Laws.AcceptedWithin.{rule-within}
+use Rattle.table.specs.Laws.WrittenBytes.{written-bytes}
+use Rattle.table.specs.Laws.WrittenTrees.{reachOfShort}
+use Rattle.table.specs.Laws.WrittenAccepted.{is-accepted, reads-back}
 
 -- **An accepted table is the table of the rule that it holds**: its four trees, written in prefix order under the paper's
 -- header, are its own bytes. (`Bytes`: each is below 256, as in every `&[u8]`.)

@@ -2,8 +2,10 @@
 use mathlib.Core.Bool.{cond}
 use mathlib.Core.List.{List, [], _∷_, _++_}
 use Prim.Native.Nat.{ℕ, suc, _+_, _/_, _%_}
-use Rattle.table.specs.declared.Node.{Node}
-use Rattle.table.specs.Trees.{Operand, const, ref, price, prev, arith, Condition, Conditions, compare, cross, between, trend, every, any, negated, inPosition, barsSince, none, more}
+use Rattle.table.specs.declared.nodes.Node.{Node}
+use Rattle.table.specs.Named as Named
+use Rattle.table.specs.Trees.{Operand, const, ref, price, prev, arith, Condition, Conditions, compare, cross, between, trend, every, any, negated}
+use Rattle.table.specs.Trees.{inPosition, barsSince, none, more}
 use Rattle.table.specs.Reading.{treeOf, present}
 
 -- "Little-endian."
@@ -34,10 +36,10 @@ plain kind = node kind 0 0 0 0
 
 -- "each tree in prefix order"
 unfoldable pub write : Operand → List ℕ
-write (const bits) = node 1 0 0 0 bits
-write (ref slot) = node 2 0 0 slot 0
-write (price selector) = node 3 selector 0 0 0
-write (prev a n) = node 4 0 0 n 0 ++ write a
+write (const bits) = node Named.const 0 0 0 bits
+write (ref slot) = node Named.ref 0 0 slot 0
+write (price selector) = node Named.price selector 0 0 0
+write (prev a n) = node Named.prev 0 0 n 0 ++ write a
 write (arith kind a b) = plain kind ++ write a ++ write b
 
 -- operands in a row
@@ -54,13 +56,13 @@ unfoldable mutual
   pub writeOf : Condition → List ℕ
   writeOf (compare kind a b) = plain kind ++ write a ++ write b
   writeOf (cross kind a b) = plain kind ++ write a ++ write b
-  writeOf (between x low high) = plain 24 ++ write x ++ write low ++ write high
+  writeOf (between x low high) = plain Named.between ++ write x ++ write low ++ write high
   writeOf (trend kind a n) = node kind 0 0 n 0 ++ write a
-  writeOf (every cs) = node 27 0 (manyOf cs) 0 0 ++ writeAll cs
-  writeOf (any cs) = node 28 0 (manyOf cs) 0 0 ++ writeAll cs
-  writeOf (negated c) = plain 29 ++ writeOf c
-  writeOf (inPosition want) = node 30 (cond want 1 0) 0 0 0
-  writeOf (barsSince selector k) = node 31 selector 0 k 0
+  writeOf (every cs) = node Named.all 0 (manyOf cs) 0 0 ++ writeAll cs
+  writeOf (any cs) = node Named.any 0 (manyOf cs) 0 0 ++ writeAll cs
+  writeOf (negated c) = plain Named.not ++ writeOf c
+  writeOf (inPosition want) = node Named.inPosition (cond want 1 0) 0 0 0
+  writeOf (barsSince selector k) = node Named.barsSinceEntry selector 0 k 0
 
   pub writeAll : Conditions → List ℕ
   writeAll none = []

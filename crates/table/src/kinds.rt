@@ -1,7 +1,92 @@
-// The constant table of kinds: what a node of each kind takes. Checker, reach and translator read it.
-use crate::Kind;
+// The kinds of nodes by name, and the constant table of kinds: what a node of each kind takes. Checker, reach, evaluator and
+// translator read it.
 ghost use mathlib.Core.Path.{_≡_};
 ghost use Rattle.table.specs.Kinds.{kindOf};
+
+// The kinds, by number.
+pub const CONST: u8 = 1;
+
+pub const REF: u8 = 2;
+
+pub const PRICE: u8 = 3;
+
+pub const PREV: u8 = 4;
+
+pub const ADD: u8 = 5;
+
+pub const SUB: u8 = 6;
+
+pub const MUL: u8 = 7;
+
+pub const DIV: u8 = 8;
+
+pub const GT: u8 = 16;
+
+pub const LT: u8 = 17;
+
+pub const GE: u8 = 18;
+
+pub const LE: u8 = 19;
+
+pub const EQ: u8 = 20;
+
+pub const NE: u8 = 21;
+
+pub const CROSS_ABOVE: u8 = 22;
+
+pub const CROSS_BELOW: u8 = 23;
+
+pub const BETWEEN: u8 = 24;
+
+pub const RISING: u8 = 25;
+
+pub const FALLING: u8 = 26;
+
+pub const ALL: u8 = 27;
+
+pub const ANY: u8 = 28;
+
+pub const NOT: u8 = 29;
+
+pub const IN_POSITION: u8 = 30;
+
+pub const BARS_SINCE_ENTRY: u8 = 31;
+
+// How an operand's node is made up, and a condition's. Kinds of one class differ in what is done with their operands alone.
+pub enum OperandClass {
+    NoOperand,
+    Const,
+    Ref,
+    Price,
+    Prev,
+    Arith,
+}
+
+pub enum ConditionClass {
+    NoCondition,
+    Compare,
+    Cross,
+    Between,
+    Trend,
+    All,
+    Any,
+    Not,
+    InPosition,
+    BarsSince,
+}
+
+// What a kind takes: a row of the table of kinds.
+pub struct Kind {
+    pub operand: OperandClass,
+    pub condition: ConditionClass,
+    pub sort: u8,
+    pub children: u8,
+    pub below: u8,
+    pub selectors: u8,
+    pub n: u8,
+    pub constant: u8,
+    pub back: u8,
+}
 
 // Sorts.
 pub const OPERAND: u8 = 1;
@@ -12,11 +97,11 @@ pub const CONDITION: u8 = 2;
 pub const AS_WRITTEN: u8 = 255;
 
 // What n is: unused and so zero, a slot below K, or any number.
-const ZERO: u8 = 0;
+const UNUSED: u8 = 0;
 
 pub const SLOT: u8 = 1;
 
-const ANY: u8 = 2;
+const NUMBER: u8 = 2;
 
 // What the node adds to the reach: nothing, its n, or one bar.
 const NOTHING: u8 = 0;
@@ -25,27 +110,33 @@ pub const ITS_N: u8 = 1;
 
 pub const ONE_BAR: u8 = 2;
 
-const UNKNOWN: Kind = Kind {
+const UNKNOWN_ROW: Kind = Kind {
+    operand: OperandClass::NoOperand,
+    condition: ConditionClass::NoCondition,
     sort: 0,
     children: 0,
     below: 0,
     selectors: 0,
-    n: ZERO,
+    n: UNUSED,
     constant: 0,
     back: NOTHING,
 };
 
-const CONST: Kind = Kind {
+const CONST_ROW: Kind = Kind {
+    operand: OperandClass::Const,
+    condition: ConditionClass::NoCondition,
     sort: OPERAND,
     children: 0,
     below: 0,
     selectors: 1,
-    n: ZERO,
+    n: UNUSED,
     constant: 1,
     back: NOTHING,
 };
 
-const REF: Kind = Kind {
+const REF_ROW: Kind = Kind {
+    operand: OperandClass::Ref,
+    condition: ConditionClass::NoCondition,
     sort: OPERAND,
     children: 0,
     below: 0,
@@ -55,150 +146,184 @@ const REF: Kind = Kind {
     back: NOTHING,
 };
 
-const PRICE: Kind = Kind {
+const PRICE_ROW: Kind = Kind {
+    operand: OperandClass::Price,
+    condition: ConditionClass::NoCondition,
     sort: OPERAND,
     children: 0,
     below: 0,
     selectors: 7,
-    n: ZERO,
+    n: UNUSED,
     constant: 0,
     back: NOTHING,
 };
 
-const PREV: Kind = Kind {
+const PREV_ROW: Kind = Kind {
+    operand: OperandClass::Prev,
+    condition: ConditionClass::NoCondition,
     sort: OPERAND,
     children: 1,
     below: OPERAND,
     selectors: 1,
-    n: ANY,
+    n: NUMBER,
     constant: 0,
     back: ITS_N,
 };
 
-const ARITH: Kind = Kind {
+const ARITH_ROW: Kind = Kind {
+    operand: OperandClass::Arith,
+    condition: ConditionClass::NoCondition,
     sort: OPERAND,
     children: 2,
     below: OPERAND,
     selectors: 1,
-    n: ZERO,
+    n: UNUSED,
     constant: 0,
     back: NOTHING,
 };
 
-const COMPARE: Kind = Kind {
+const COMPARE_ROW: Kind = Kind {
+    operand: OperandClass::NoOperand,
+    condition: ConditionClass::Compare,
     sort: CONDITION,
     children: 2,
     below: OPERAND,
     selectors: 1,
-    n: ZERO,
+    n: UNUSED,
     constant: 0,
     back: NOTHING,
 };
 
-const CROSS: Kind = Kind {
+const CROSS_ROW: Kind = Kind {
+    operand: OperandClass::NoOperand,
+    condition: ConditionClass::Cross,
     sort: CONDITION,
     children: 2,
     below: OPERAND,
     selectors: 1,
-    n: ZERO,
+    n: UNUSED,
     constant: 0,
     back: ONE_BAR,
 };
 
-const BETWEEN: Kind = Kind {
+const BETWEEN_ROW: Kind = Kind {
+    operand: OperandClass::NoOperand,
+    condition: ConditionClass::Between,
     sort: CONDITION,
     children: 3,
     below: OPERAND,
     selectors: 1,
-    n: ZERO,
+    n: UNUSED,
     constant: 0,
     back: NOTHING,
 };
 
-const TREND: Kind = Kind {
+const TREND_ROW: Kind = Kind {
+    operand: OperandClass::NoOperand,
+    condition: ConditionClass::Trend,
     sort: CONDITION,
     children: 1,
     below: OPERAND,
     selectors: 1,
-    n: ANY,
+    n: NUMBER,
     constant: 0,
     back: ITS_N,
 };
 
-const GROUP: Kind = Kind {
+const ALL_ROW: Kind = Kind {
+    operand: OperandClass::NoOperand,
+    condition: ConditionClass::All,
     sort: CONDITION,
     children: AS_WRITTEN,
     below: CONDITION,
     selectors: 1,
-    n: ZERO,
+    n: UNUSED,
     constant: 0,
     back: NOTHING,
 };
 
-const NOT: Kind = Kind {
+const ANY_ROW: Kind = Kind {
+    operand: OperandClass::NoOperand,
+    condition: ConditionClass::Any,
+    sort: CONDITION,
+    children: AS_WRITTEN,
+    below: CONDITION,
+    selectors: 1,
+    n: UNUSED,
+    constant: 0,
+    back: NOTHING,
+};
+
+const NOT_ROW: Kind = Kind {
+    operand: OperandClass::NoOperand,
+    condition: ConditionClass::Not,
     sort: CONDITION,
     children: 1,
     below: CONDITION,
     selectors: 1,
-    n: ZERO,
+    n: UNUSED,
     constant: 0,
     back: NOTHING,
 };
 
-const IN_POSITION: Kind = Kind {
+const IN_POSITION_ROW: Kind = Kind {
+    operand: OperandClass::NoOperand,
+    condition: ConditionClass::InPosition,
     sort: CONDITION,
     children: 0,
     below: 0,
     selectors: 2,
-    n: ZERO,
+    n: UNUSED,
     constant: 0,
     back: NOTHING,
 };
 
-const BARS_SINCE: Kind = Kind {
+const BARS_SINCE_ROW: Kind = Kind {
+    operand: OperandClass::NoOperand,
+    condition: ConditionClass::BarsSince,
     sort: CONDITION,
     children: 0,
     below: 0,
     selectors: 5,
-    n: ANY,
+    n: NUMBER,
     constant: 0,
     back: NOTHING,
 };
 
 // Rows 0 to 31.
 const KINDS: [Kind; 32] = [
-    UNKNOWN,
-    CONST,
-    REF,
-    PRICE,
-    PREV,
-    ARITH,
-    ARITH,
-    ARITH,
-    ARITH,
-    UNKNOWN,
-    UNKNOWN,
-    UNKNOWN,
-    UNKNOWN,
-    UNKNOWN,
-    UNKNOWN,
-    UNKNOWN,
-    COMPARE,
-    COMPARE,
-    COMPARE,
-    COMPARE,
-    COMPARE,
-    COMPARE,
-    CROSS,
-    CROSS,
-    BETWEEN,
-    TREND,
-    TREND,
-    GROUP,
-    GROUP,
-    NOT,
-    IN_POSITION,
-    BARS_SINCE,
+    UNKNOWN_ROW,
+    CONST_ROW,
+    REF_ROW,
+    PRICE_ROW,
+    PREV_ROW,
+    ARITH_ROW,
+    ARITH_ROW,
+    ARITH_ROW,
+    ARITH_ROW,
+    UNKNOWN_ROW,
+    UNKNOWN_ROW,
+    UNKNOWN_ROW,
+    UNKNOWN_ROW,
+    UNKNOWN_ROW,
+    UNKNOWN_ROW,
+    UNKNOWN_ROW,
+    COMPARE_ROW,
+    COMPARE_ROW,
+    COMPARE_ROW,
+    COMPARE_ROW,
+    COMPARE_ROW,
+    COMPARE_ROW,
+    CROSS_ROW,
+    CROSS_ROW,
+    BETWEEN_ROW,
+    TREND_ROW,
+    TREND_ROW,
+    ALL_ROW,
+    ANY_ROW,
+    NOT_ROW,
+    IN_POSITION_ROW,
+    BARS_SINCE_ROW,
 ];
 
 // The row of a kind; a kind from 32 on has the row of an unknown one.
@@ -206,5 +331,5 @@ pub fn kind_of(k: u8) -> Kind
     ensures { λ r. ⌜ r ≡ kindOf k ⌝ }
 {
     let i = k as usize;
-    if i < 32 { KINDS[i] } else { UNKNOWN }
+    if i < 32 { KINDS[i] } else { UNKNOWN_ROW }
 }

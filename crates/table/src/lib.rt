@@ -1,18 +1,24 @@
 // The rule table: its bytes, its nodes, the table of kinds, and the checker with its refusals 1 to 9.
+pub mod answer;
 pub mod bytes;
+pub mod depth;
 pub mod header;
 pub mod kinds;
 mod nesting;
 pub mod nodes;
 mod order;
-mod places;
+pub mod places;
 pub mod reach;
+pub mod trees;
 mod weighing;
 
+use answer::Answer;
+use answer::Checked;
 use nesting::too_deep;
 use nodes::wrong_node;
 use order::misfits_of;
 use order::order_all;
+use places::Place;
 use reach::far_or_accepted;
 ghost use mathlib.Core.Path.{_≡_};
 ghost use lib.ListN.{replicate};
@@ -20,45 +26,6 @@ ghost use Rattle.table.specs.Header.{headerRefusal};
 ghost use Rattle.table.specs.Checked.{checked, from7, from8, from9};
 ghost use Rattle.table.specs.Ends.{endsAll, endsFor, endsBeside};
 ghost use Rattle.table.specs.Passes.{Roots, LinkedAll};
-
-// What a kind takes: a row of the table of kinds.
-pub struct Kind {
-    pub sort: u8,
-    pub children: u8,
-    pub below: u8,
-    pub selectors: u8,
-    pub n: u8,
-    pub constant: u8,
-    pub back: u8,
-}
-
-// A node: its number in the table, and its fields.
-pub struct Node {
-    pub number: usize,
-    pub kind: u8,
-    pub selector: u8,
-    pub children: usize,
-    pub n: u64,
-    pub constant: u64,
-}
-
-// Where a rule is broken.
-pub enum Place {
-    Nowhere,
-    At(usize),
-}
-
-// The answer to a table: how many nodes it has and how many rows it needs, or the refusal's number and place.
-pub enum Answer {
-    Accepted { nodes: usize, rows: u64 },
-    Refused { number: u8, place: usize },
-}
-
-// The answer, and the subtree ends of an accepted table.
-pub struct Checked {
-    pub answer: Answer,
-    pub ends: [usize; 256],
-}
 
 fn refused(number: u8, place: usize) -> Checked
     ensures { λ r. ⌜ (r .answer ≡ Answer.Refused number place) × (r .ends ≡ replicate 256 0) ⌝ }

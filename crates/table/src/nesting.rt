@@ -1,5 +1,5 @@
 // Rule 8: nesting above 32.
-use crate::Place;
+use crate::places::Place;
 use crate::places::or_else;
 use crate::weighing::LEVELS;
 use crate::weighing::weigh_tree;

@@ -1,18 +1,28 @@
 // Nodes, what the table of kinds says of them, and rule 6: their own bytes.
-use crate::Kind;
-use crate::Node;
-use crate::Place;
 use crate::bytes::byte;
 use crate::bytes::read16;
 use crate::bytes::read32;
 use crate::bytes::read64;
 use crate::header::slots;
 use crate::kinds::AS_WRITTEN;
+use crate::kinds::Kind;
 use crate::kinds::SLOT;
 use crate::kinds::kind_of;
+use crate::places::Place;
 ghost use mathlib.Core.Path.{_≡_};
 ghost use Prim.Native.Nat.{_<_};
-ghost use Rattle.table.specs.Nodes.{nodeAt, childrenRight, nRight, constantRight, ownRight, nodeRight, wrongNode, sortAt, childCount, childCountAt, childSortAt};
+ghost use Rattle.table.specs.Nodes.{nodeAt, childrenRight, nRight, constantRight, ownRight, nodeRight, wrongNode};
+ghost use Rattle.table.specs.Nodes.{sortAt, childCount, childCountAt, childSortAt};
+
+// A node: its number in the table, and its fields.
+pub struct Node {
+    pub number: usize,
+    pub kind: u8,
+    pub selector: u8,
+    pub children: usize,
+    pub n: u64,
+    pub constant: u64,
+}
 
 // Node i; past the end of the table every field but the number is 0.
 pub fn node_at(t: &[u8], i: usize) -> Node

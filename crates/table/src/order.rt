@@ -1,9 +1,9 @@
 // Rule 7: each tree in prefix order. The array of subtree ends is filled on the way, from a tree's last node to its first.
-use crate::Place;
 use crate::kinds::CONDITION;
 use crate::nodes::child_count_at;
 use crate::nodes::child_sort_at;
 use crate::nodes::sort_at;
+use crate::places::Place;
 use crate::places::or_else;
 ghost use mathlib.Core.Path.{_≡_};
 ghost use Prim.Native.Nat.{_+_, _-_, _≤_, _<_};

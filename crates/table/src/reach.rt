@@ -1,6 +1,6 @@
 // Rule 9: a reach above 4,095; and the rows that the table needs.
-use crate::Answer;
-use crate::Place;
+use crate::answer::Answer;
+use crate::places::Place;
 use crate::places::or_else;
 use crate::weighing::BARS;
 use crate::weighing::cut;

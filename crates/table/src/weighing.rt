@@ -1,10 +1,10 @@
 // What rules 8 and 9 share: what each subtree weighs, from a tree's last node to its first. A node's weight is 1 where levels
 // are counted, and what it adds to the reach where bars are. Weights are cut at 4,096, so no sum wraps.
-use crate::Kind;
-use crate::Node;
 use crate::kinds::ITS_N;
+use crate::kinds::Kind;
 use crate::kinds::ONE_BAR;
 use crate::kinds::kind_of;
+use crate::nodes::Node;
 use crate::nodes::child_count_at;
 use crate::nodes::node_at;
 ghost use mathlib.Core.Path.{_≡_};

@@ -12,8 +12,11 @@ use Rattle.table.proofs.check_order.Statement.{statement}
 use Rattle.table.proofs.check_order.Tie as tie
 
 check-nesting-requires : tie.Need-check-nesting-requires
-check-nesting-requires c κs =
-    (c .before .before .before .before .before .before .pre, linked-all _ _ _ _ _ _ (c .before .before .before .before .before .before .pre) (c .before .before .before .before .order-all .ensures) (sym (c .before .before .misfits-of .ensures) ∙ c .enum-told .given .1))
+check-nesting-requires c κs = (
+  c .before .before .before .before .before .before .pre,
+  linked-all _ _ _ _ _ _ (c .before .before .before .before .before .before .pre)
+      (c .before .before .before .before .order-all .ensures) (sym (c .before .before .misfits-of .ensures) ∙ c .enum-told .given .1),
+)
 
 returns : tie.Need-returns
 unfolding from7
@@ -26,9 +29,13 @@ unfolding from7
 returns-2 c =
     let none = sym (c .before .before .before .misfits-of .ensures) ∙ c .before .enum-told .given .1 in
     let t = c .before .before .before .before .before .before .before .args .t .now in
-    let links = linked-all t _ _ _ _ _ (c .before .before .before .before .before .before .before .pre) (c .before .before .before .before .before .order-all .ensures) none in
+    let links =
+    linked-all t _ _ _ _ _ (c .before .before .before .before .before .before .before .pre)
+    (c .before .before .before .before .before .order-all .ensures) none in
     stage-none 7 _ _ _ _ _ none (c .check-nesting .ensures .0)
-    (c .check-nesting .ensures .1 ∙ ap (λ (l : List ℕ). endsFor (from8 t) l) (ends-are t _ _ _ _ _ (c .before .before .before .before .before .before .before .pre) (c .before .before .before .before .before .order-all .ensures) links))
+    (c .check-nesting .ensures .1 ∙ ap (λ (l : List ℕ). endsFor (from8 t) l)
+    (ends-are t _ _ _ _ _ (c .before .before .before .before .before .before .before .pre)
+    (c .before .before .before .before .before .order-all .ensures) links))
 
 pub check-order-spec : {M : Type 1} → statement M
 check-order-spec =

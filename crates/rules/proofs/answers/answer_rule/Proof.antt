@@ -10,7 +10,9 @@ returns c =
     let w = f .before .before in
     let k = w .before .before in
     let e = k .before in
-    answers _ _ _ _ _ _ _ (e .before .before .check .ensures .0) (e .enum-told .given .1) _ (rw (← k .slots .ensures) (w .before .are-whole .ensures)) (w .if1 .taken) _ (f .before .state-right .ensures) (f .if2 .taken) _ (e .before .before .check .ensures .1) _ (c .before .tree-number .ensures) _ (c .eval-tree .ensures)
+    answers _ _ _ _ _ _ _ (e .before .before .check .ensures .0) (e .enum-told .given .1) _ (rw (← k .slots .ensures) (w .before .are-whole .ensures))
+    (w .if1 .taken) _ (f .before .state-right .ensures) (f .if2 .taken) _ (e .before .before .check .ensures .1) _ (c .before .tree-number .ensures) _
+    (c .eval-tree .ensures)
 
 returns-2 : tie.Need-returns-2
 returns-2 c = refused _ _ _ _ _ _ _ (c .before .before .before .check .ensures .0) (c .before .answer .given .1)
@@ -20,13 +22,15 @@ returns-3 c =
     let w = c .before .before in
     let k = w .before .before in
     let e = k .before in
-    unright _ _ _ _ _ _ _ (e .before .before .check .ensures .0) (e .enum-told .given .1) _ (rw (← k .slots .ensures) (w .before .are-whole .ensures)) (w .if1 .taken) _ (c .before .state-right .ensures) (c .if2 .left)
+    unright _ _ _ _ _ _ _ (e .before .before .check .ensures .0) (e .enum-told .given .1) _ (rw (← k .slots .ensures) (w .before .are-whole .ensures))
+    (w .if1 .taken) _ (c .before .state-right .ensures) (c .if2 .left)
 
 returns-4 : tie.Need-returns-4
 returns-4 c =
     let k = c .before .before in
     let e = k .before in
-    unwhole _ _ _ _ _ _ _ (e .before .before .check .ensures .0) (e .enum-told .given .1) _ (rw (← k .slots .ensures) (c .before .are-whole .ensures)) (c .if1 .left)
+    unwhole _ _ _ _ _ _ _ (e .before .before .check .ensures .0) (e .enum-told .given .1) _ (rw (← k .slots .ensures) (c .before .are-whole .ensures))
+    (c .if1 .left)
 
 pub answer-rule-spec : {M : Type 1} → statement M
 answer-rule-spec =

@@ -21,4 +21,5 @@ eval-tree-spec =
     let n = c .before in
     let r = n .before in
     let k = r .before in
-    rw (← k .before .before .count .ensures .0, ne-eqb _ _ (k .before .if1 .left), ← k .slots .ensures, ← r .root .ensures .0, ← n .newest .ensures) (c .eval-condition .ensures)))
+    rw (← k .before .before .count .ensures .0, ne-eqb _ _ (k .before .if1 .left), ← k .slots .ensures, ← r .root .ensures .0, ← n .newest .ensures)
+    (c .eval-condition .ensures)))

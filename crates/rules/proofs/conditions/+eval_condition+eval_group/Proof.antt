@@ -116,14 +116,30 @@ unfolding holds growCondition
     (λ c. search needs)
     (λ c κs. search needs)
     (λ c. search needs)
-    (λ c. let e = c .before .before .before .before in rw (grown-condition _ _ _ _ (e .before .if1 .left) _ _ (e .condition-shape .ensures) (c .before .before .kind .given .1)) (c .compare .ensures))
-    (λ c. let e = c .before .before .before .before in rw (grown-condition _ _ _ _ (e .before .if1 .left) _ _ (e .condition-shape .ensures) (c .before .before .kind2 .given .1)) (c .cross .ensures))
-    (λ c. let e = c .before .before .before .before in rw (grown-condition _ _ _ _ (e .before .if1 .left) _ _ (e .condition-shape .ensures) (c .before .before .x .given .1)) (c .between .ensures))
-    (λ c. let e = c .before .before .before .before in rw (grown-condition _ _ _ _ (e .before .if1 .left) _ _ (e .condition-shape .ensures) (c .before .before .kind3 .given .1)) (c .compare-prev .ensures))
-    (λ c. let e = c .before .before .before .before in rw (grown-condition _ _ _ _ (e .before .if1 .left) _ _ (e .condition-shape .ensures) (c .before .before .all .given .1)) (c .eval-group .ensures))
-    (λ c. let e = c .before .before .before .before in rw (grown-condition _ _ _ _ (e .before .if1 .left) _ _ (e .condition-shape .ensures) (c .before .before .a .given .1), ← c .eval-condition .ensures))
-    (λ c. let e = c .before .before .before .before in rw (grown-condition _ _ _ _ (e .before .if1 .left) _ _ (e .condition-shape .ensures) (c .before .before .wanted .given .1)) (c .in-position .ensures))
-    (λ c. let e = c .before .before .before .before in rw (grown-condition _ _ _ _ (e .before .if1 .left) _ _ (e .condition-shape .ensures) (c .before .before .selector .given .1)) (c .since-entry .ensures))
+    (λ c. let p = c .before .before .before .before in
+    let e = p in rw (grown-condition _ _ _ _ (e .before .if1 .left) _ _ (e .condition-shape .ensures) (c .before .before .kind .given .1))
+    (c .compare .ensures))
+    (λ c. let p = c .before .before .before .before in
+    let e = p in rw (grown-condition _ _ _ _ (e .before .if1 .left) _ _ (e .condition-shape .ensures) (c .before .before .kind2 .given .1)) (c .cross .ensures))
+    (λ c. let p = c .before .before .before .before in
+    let e = p in rw (grown-condition _ _ _ _ (e .before .if1 .left) _ _ (e .condition-shape .ensures) (c .before .before .x .given .1)) (c .between .ensures))
+    (λ c. let p = c .before .before .before .before in
+    let e = p in rw (grown-condition _ _ _ _ (e .before .if1 .left) _ _ (e .condition-shape .ensures) (c .before .before .kind3 .given .1))
+    (c .compare-prev .ensures))
+    (λ c. let p = c .before .before .before .before in
+    let e = p in rw (grown-condition _ _ _ _ (e .before .if1 .left) _ _ (e .condition-shape .ensures) (c .before .before .all .given .1))
+    (c .eval-group .ensures))
+    (λ c. let p = c .before .before .before .before in
+    let e = p in rw (
+      grown-condition _ _ _ _ (e .before .if1 .left) _ _ (e .condition-shape .ensures) (c .before .before .a .given .1),
+      ← c .eval-condition .ensures,
+    ))
+    (λ c. let p = c .before .before .before .before in
+    let e = p in rw (grown-condition _ _ _ _ (e .before .if1 .left) _ _ (e .condition-shape .ensures) (c .before .before .wanted .given .1))
+    (c .in-position .ensures))
+    (λ c. let p = c .before .before .before .before in
+    let e = p in rw (grown-condition _ _ _ _ (e .before .if1 .left) _ _ (e .condition-shape .ensures) (c .before .before .selector .given .1))
+    (c .since-entry .ensures))
     (λ c. let e = c .before .before in rw (grown-condition _ _ _ _ (e .before .if1 .left) _ _ (e .condition-shape .ensures) (c .enum-told .given .1))))
     λ t. eval-group-lts.spec
     (eval-condition-below t, eval-condition.Post, end-in-reads.Asked, end-in-reads.Learnt)
@@ -133,9 +149,13 @@ unfolding holds growCondition
     eval-group-μ-loop
     (λ c. refl)
     (λ c κs. search needs)
-    (λ c. let l = c .before .before .before in rw (l .loop .inv, group-front _ _ _ _ (c .before .before .loop-test .taken)) (sym (group-off _ _ _ _ _ _ _ (c .before .eval-condition .ensures) (c .if1 .taken))))
+    (λ c.
+    let l = c .before .before .before in rw (l .loop .inv, group-front _ _ _ _ (c .before .before .loop-test .taken))
+    (sym (group-off _ _ _ _ _ _ _ (c .before .eval-condition .ensures) (c .if1 .taken))))
     (λ c κs. search needs)
     (λ c. search needs)
     (λ c. omega arith)
-    (λ c. let d = c .before in let l = d .before .before .before in rw (l .loop .inv, group-front _ _ _ _ (d .before .before .loop-test .taken)) (rw (c .end-in .ensures) (group-on _ _ _ _ _ _ _ (d .before .eval-condition .ensures) (d .if1 .left))))
+    (λ c.
+    let d = c .before in let l = d .before .before .before in rw (l .loop .inv, group-front _ _ _ _ (d .before .before .loop-test .taken))
+    (rw (c .end-in .ensures) (group-on _ _ _ _ _ _ _ (d .before .eval-condition .ensures) (d .if1 .left))))
     (λ c. rw (c .before .loop .inv, group-end _ _ _ _ (c .loop-test .left)) (sym (group-none _ _ _ _)))

@@ -11,4 +11,6 @@ between-spec =
     (λ c κs. search needs)
     (λ c κs. search needs)
     (λ c κs. search needs)
-    (λ c. rw (← c .before .before .before .eval-operand .ensures, ← c .before .before .eval-operand2 .ensures, ← c .before .eval-operand3 .ensures) (c .within .ensures)))
+    (λ c.
+    rw (← c .before .before .before .eval-operand .ensures, ← c .before .before .eval-operand2 .ensures, ← c .before .eval-operand3 .ensures)
+    (c .within .ensures)))

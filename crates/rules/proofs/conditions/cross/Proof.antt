@@ -21,4 +21,5 @@ cross-spec =
     let p = d .before in
     let y = p .before in
     let x = y .before in
-    rw (ne-eqb _ _ (x .before .if1 .left), ← x .eval-operand .ensures, ← y .eval-operand2 .ensures, ← p .eval-operand3 .ensures, ← d .eval-operand4 .ensures) (c .crossed .ensures)))
+    rw (ne-eqb _ _ (x .before .if1 .left), ← x .eval-operand .ensures, ← y .eval-operand2 .ensures, ← p .eval-operand3 .ensures, ← d .eval-operand4 .ensures)
+    (c .crossed .ensures)))

@@ -5,7 +5,7 @@ use borrow.Author.Needs.{needs}
 use Rattle.rows.specs.History.{historyOf}
 use Rattle.rules.specs.Values.{both}
 use Rattle.rules.specs.Flat.{growOperand}
-use Rattle.rules.specs.Laws.{past, const-value, ref-value, price-value, early-value, prev-value, arith-value}
+use Rattle.rules.specs.Laws.Meaning.{past, const-value, ref-value, price-value, early-value, prev-value, arith-value}
 use Rattle.rules.proofs.Grown.{no-operand, grown-operand, below, above}
 use Prim.Native.Nat.{ℕ, _+_, _*_, _<_}
 use borrow.Fn.Kinds.{In}
@@ -67,8 +67,11 @@ unfolding both growOperand
     (λ c. search needs)
     (λ c κs. search needs)
     (λ c. rw (← c .before .before .eval-operand .ensures, c .enum-told .given .1))
-    (λ c. let x = c .before .before .before .before in rw (← x .before .before .eval-operand .ensures, x .x .given .1, ← c .before .before .eval-operand2 .ensures, c .enum-told2 .given .1))
-    (λ c. let y = c .before .before in let x = y .before .before .before .before in rw (← x .before .before .eval-operand .ensures, x .x .given .1, ← y .before .before .eval-operand2 .ensures, y .y .given .1, c .combine .ensures)))
+    (λ c. let p = c .before .before .before .before in
+    let x = p in rw (← x .before .before .eval-operand .ensures, x .x .given .1, ← c .before .before .eval-operand2 .ensures, c .enum-told2 .given .1))
+    (λ c.
+    let y = c .before .before in let x = y .before .before .before .before in rw
+    (← x .before .before .eval-operand .ensures, x .x .given .1, ← y .before .before .eval-operand2 .ensures, y .y .given .1, c .combine .ensures)))
     λ t. eval-operand-lts.spec (
       row-count-reads.Asked,
       row-count-reads.Learnt,
@@ -89,7 +92,12 @@ unfolding both growOperand
     eval-operand.Post
     (λ c κs. search needs)
     (λ c. sym (past _ _ _ (above (c .before .row-count .ensures) (c .if1 .taken))))
-    (λ c. let a = c .before .before .before .before .before .args in rw (no-operand _ _ _ _ (c .if2 .taken), const-value (historyOf (a .slots) (a .rows .now)) (a .bar) (below (c .before .before .row-count .ensures) (c .before .if1 .left))))
+    (λ c. let p = c .before .before .before .before .before in
+    let a = p .args in rw (
+      no-operand _ _ _ _ (c .if2 .taken),
+      const-value (historyOf (a .slots) (a .rows .now)) (a .bar)
+          (below (c .before .before .row-count .ensures) (c .before .if1 .left)),
+    ))
     (λ c κs. search needs)
     (λ c. search needs)
     (λ c κs. search needs)
@@ -98,16 +106,49 @@ unfolding both growOperand
     (λ c. search needs)
     (λ c κs. below (c .before .before .before .before .before .before .row-count .ensures) (c .before .before .before .before .before .if1 .left))
     (λ c. search needs)
-    (λ c. let o = c .before .before .before .before in let r = o .before .before .before in let a = r .before .before .before .args in rw (grown-operand _ _ _ _ (o .before .if2 .left) _ _ (o .operand-shape .ensures) (c .before .before .a .given .1)) (sym (early-value (historyOf (a .slots) (a .rows .now)) (a .bar) (below (r .row-count .ensures) (o .before .before .if1 .left)) _ _ (c .if3 .taken))))
+    (λ c. let p = c .before .before .before .before in
+    let o = p in let r = o .before .before .before in let a = r .before .before .before .args in rw
+    (grown-operand _ _ _ _ (o .before .if2 .left) _ _ (o .operand-shape .ensures) (c .before .before .a .given .1))
+    (sym (early-value (historyOf (a .slots) (a .rows .now)) (a .bar) (below (r .row-count .ensures) (o .before .before .if1 .left)) _ _ (c .if3 .taken))))
     (λ c. search needs)
     (λ c κs. search needs)
     (λ c. search needs)
     (λ c. search needs)
     (λ c κs. search needs)
     (λ c. search needs)
-    (λ c. let o = c .before .before .before .before in let r = o .before .before .before in let a = r .before .before .before .args in rw (grown-operand _ _ _ _ (o .before .if2 .left) _ _ (o .operand-shape .ensures) (c .before .before .bits .given .1), const-value (historyOf (a .slots) (a .rows .now)) (a .bar) (below (r .row-count .ensures) (o .before .before .if1 .left)), ← c .float-of .ensures))
-    (λ c. let o = c .before .before .before .before in let r = o .before .before .before in let a = r .before .before .before .args in rw (grown-operand _ _ _ _ (o .before .if2 .left) _ _ (o .operand-shape .ensures) (c .before .before .slot .given .1), ref-value (historyOf (a .slots) (a .rows .now)) (a .bar) (below (r .row-count .ensures) (o .before .before .if1 .left))) (c .slot-of-bar .ensures))
-    (λ c. let o = c .before .before .before .before in let r = o .before .before .before in let a = r .before .before .before .args in rw (grown-operand _ _ _ _ (o .before .if2 .left) _ _ (o .operand-shape .ensures) (c .before .before .selector .given .1), price-value (historyOf (a .slots) (a .rows .now)) (a .bar) (below (r .row-count .ensures) (o .before .before .if1 .left)), ← c .price-of-bar .ensures))
-    (λ c. let o = c .before .before .before .before .before in let r = o .before .before .before in let a = r .before .before .before .args in rw (grown-operand _ _ _ _ (o .before .if2 .left) _ _ (o .operand-shape .ensures) (c .before .before .before .a .given .1), prev-value (historyOf (a .slots) (a .rows .now)) (a .bar) (below (r .row-count .ensures) (o .before .before .if1 .left)) _ _ (c .before .if3 .left)) (c .eval-operand .ensures))
-    (λ c. let o = c .before .before .before .before in rw (grown-operand _ _ _ _ (o .before .if2 .left) _ _ (o .operand-shape .ensures) (c .before .before .kind .given .1), arith-value) (c .binary .ensures))
-    (λ c. let o = c .before .before in let r = o .before .before .before in let a = r .before .before .before .args in rw (grown-operand _ _ _ _ (o .before .if2 .left) _ _ (o .operand-shape .ensures) (c .enum-told .given .1), const-value (historyOf (a .slots) (a .rows .now)) (a .bar) (below (r .row-count .ensures) (o .before .before .if1 .left))))
+    (λ c. let p = c .before .before .before .before in
+    let o = p in let r = o .before .before .before in let a = r .before .before .before .args in rw (
+      grown-operand _ _ _ _ (o .before .if2 .left) _ _ (o .operand-shape .ensures) (c .before .before .bits .given .1),
+      const-value
+          (historyOf (a .slots) (a .rows .now)) (a .bar) (below (r .row-count .ensures) (o .before .before .if1 .left)),
+      ← c .float-of .ensures,
+    ))
+    (λ c. let p = c .before .before .before .before in
+    let o = p in let r = o .before .before .before in let a = r .before .before .before .args in rw (
+      grown-operand _ _ _ _ (o .before .if2 .left) _ _ (o .operand-shape .ensures) (c .before .before .slot .given .1),
+      ref-value
+          (historyOf (a .slots) (a .rows .now)) (a .bar) (below (r .row-count .ensures) (o .before .before .if1 .left)),
+    ) (c .slot-of-bar .ensures))
+    (λ c. let p = c .before .before .before .before in
+    let o = p in let r = o .before .before .before in let a = r .before .before .before .args in rw (
+      grown-operand _ _ _ _ (o .before .if2 .left) _ _ (o .operand-shape .ensures) (c .before .before .selector .given .1),
+      price-value
+          (historyOf (a .slots) (a .rows .now)) (a .bar) (below (r .row-count .ensures) (o .before .before .if1 .left)),
+      ← c .price-of-bar .ensures,
+    ))
+    (λ c. let p = c .before .before .before .before .before in
+    let o = p in let r = o .before .before .before in let a = r .before .before .before .args in rw (
+      grown-operand _ _ _ _ (o .before .if2 .left) _ _ (o .operand-shape .ensures) (c .before .before .before .a .given .1),
+      prev-value
+          (historyOf (a .slots) (a .rows .now)) (a .bar) (below (r .row-count .ensures) (o .before .before .if1 .left)) _ _ (c .before .if3 .left),
+    )
+    (c .eval-operand .ensures))
+    (λ c. let p = c .before .before .before .before in
+    let o = p in rw (grown-operand _ _ _ _ (o .before .if2 .left) _ _ (o .operand-shape .ensures) (c .before .before .kind .given .1), arith-value)
+    (c .binary .ensures))
+    (λ c.
+    let o = c .before .before in let r = o .before .before .before in let a = r .before .before .before .args in rw (
+      grown-operand _ _ _ _ (o .before .if2 .left) _ _ (o .operand-shape .ensures) (c .enum-told .given .1),
+      const-value (historyOf (a .slots) (a .rows .now))
+          (a .bar) (below (r .row-count .ensures) (o .before .before .if1 .left)),
+    ))

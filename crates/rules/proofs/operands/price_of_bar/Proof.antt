@@ -2,7 +2,7 @@
 use borrow.Author.Needs.{needs}
 use native.Mathlib.Omega.{arith}
 use Rattle.rows.specs.History.{historyOf}
-use Rattle.rules.specs.Laws.{row-fits}
+use Rattle.rules.specs.Laws.Meaning.{row-fits}
 use Rattle.rules.proofs.operands.price_of_bar.Statement.{statement}
 use Rattle.rules.proofs.operands.price_of_bar.Tie as tie
 

@@ -1,4 +1,4 @@
--- The test on the place, and then the node's own shape. Assumes nothing.
+-- The test on the place, and then the node's own shape by its kind's row. Assumes nothing.
 use borrow.Author.Needs.{needs}
 use borrow.Author.Tests.{le-leb, lt-leb}
 use Rattle.rules.specs.Shapes.{conditionShape}
@@ -15,6 +15,17 @@ condition-shape-spec =
     (λ c κs. search needs)
     (λ c κs. search needs)
     (λ c κs. search needs)
+    (λ c κs. search needs)
     (λ c. search needs)
     (λ c κs. search needs)
-    (λ c. simp (lt-leb _ _ (c .before .before .before .before .if1 .left), ← c .before .before .before .end-in .ensures, ← c .before .before .end-in2 .ensures, ← c .before .node-at .ensures) (c .condition-of .ensures)))
+    (λ c.
+    let n = c .before .before in
+    let e = n .before in
+    simp (
+      lt-leb _ _ (e .before .before .if1 .left),
+      ← e .before .end-in .ensures,
+      ← e .end-in2 .ensures,
+      ← n .node-at .ensures,
+      ← c .before .kind-of .ensures,
+    )
+    (c .condition-of .ensures)))

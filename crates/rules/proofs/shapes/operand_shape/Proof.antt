@@ -1,4 +1,4 @@
--- The test on the place, and then the node's own shape. Assumes nothing.
+-- The test on the place, and then the node's own shape by its kind's row. Assumes nothing.
 use borrow.Author.Needs.{needs}
 use borrow.Author.Tests.{le-leb, lt-leb}
 use Rattle.rules.specs.Shapes.{operandShape}
@@ -14,6 +14,10 @@ operand-shape-spec =
     (λ c. search needs)
     (λ c κs. search needs)
     (λ c κs. search needs)
+    (λ c κs. search needs)
     (λ c. search needs)
     (λ c κs. search needs)
-    (λ c. simp (lt-leb _ _ (c .before .before .before .if1 .left), ← c .before .before .end-in .ensures, ← c .before .node-at .ensures) (c .operand-of .ensures)))
+    (λ c.
+    let n = c .before .before in
+    simp (lt-leb _ _ (n .before .before .if1 .left), ← n .before .end-in .ensures, ← n .node-at .ensures, ← c .before .kind-of .ensures)
+    (c .operand-of .ensures)))

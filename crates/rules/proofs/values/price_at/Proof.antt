@@ -16,6 +16,21 @@ price-at-spec =
     (λ c κs. search needs)
     (λ c κs. search needs)
     (λ c κs. search needs)
-    (λ c. simp (le-ltb _ _ (c .before .before .before .before .if1 .left), eq-eqb _ _ (c .if2 .taken), c .before .before .before .field-at2 .ensures, c .before .before .field-at3 .ensures, c .before .field-at4 .ensures))
+    (λ c. let p = c .before .before .before .before in
+    simp (
+      le-ltb _ _ (p .if1 .left),
+      eq-eqb _ _ (c .if2 .taken),
+      c .before .before .before .field-at2 .ensures,
+      c .before .before .field-at3 .ensures,
+      c .before .field-at4 .ensures,
+    ))
     (λ c κs. search needs)
-    (λ c. simp (le-ltb _ _ (c .before .before .before .before .before .if1 .left), ne-eqb _ _ (c .before .if2 .left), c .field-at5 .ensures, c .before .before .before .before .field-at2 .ensures, c .before .before .before .field-at3 .ensures, c .before .before .field-at4 .ensures)))
+    (λ c. let p = c .before .before .before .before in let q = p .before in
+    simp (
+      le-ltb _ _ (q .if1 .left),
+      ne-eqb _ _ (c .before .if2 .left),
+      c .field-at5 .ensures,
+      p .field-at2 .ensures,
+      c .before .before .before .field-at3 .ensures,
+      c .before .before .field-at4 .ensures,
+    )))

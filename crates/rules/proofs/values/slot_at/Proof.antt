@@ -10,7 +10,9 @@ use Rattle.rules.proofs.values.slot_at.Tie as tie
 
 returns : tie.Need-returns
 unfolding slotOf
-returns c = let w = c .before .word-from .result in let h : w < 18446744073709551616 = omega arith in rw (← c .before .word-from .ensures, no-bit w (c .before .before .before .args .slot) h (c .if1 .taken))
+returns c =
+    let w = c .before .word-from .result in let h : w < 18446744073709551616 = omega arith in rw
+    (← c .before .word-from .ensures, no-bit w (c .before .before .before .args .slot) h (c .if1 .taken))
 
 returns-2 : tie.Need-returns-2
 unfolding slotOf

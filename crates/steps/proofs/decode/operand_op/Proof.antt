@@ -12,6 +12,23 @@ operand-op-spec =
     (λ c. simp (eq-eqb _ _ (c .if1 .taken)))
     (λ c. simp (eq-eqb _ _ (c .if2 .taken), ne-eqb _ _ (c .before .before .if1 .left)))
     (λ c. simp (eq-eqb _ _ (c .if3 .taken), ne-eqb _ _ (c .before .before .if2 .left), ne-eqb _ _ (c .before .before .before .before .if1 .left)))
-    (λ c. simp (lt-ltb _ _ (c .if4 .taken), ne-eqb _ _ (c .before .before .if3 .left), ne-eqb _ _ (c .before .before .before .before .if2 .left), ne-eqb _ _ (c .before .before .before .before .before .before .if1 .left)))
-    (λ c. simp (lt-ltb _ _ (c .if5 .taken), le-ltb _ _ (c .before .before .if4 .left), ne-eqb _ _ (c .before .before .before .before .if3 .left), ne-eqb _ _ (c .before .before .before .before .before .before .if2 .left), ne-eqb _ _ (c .before .before .before .before .before .before .before .before .if1 .left)))
-    (λ c. simp (le-ltb _ _ (c .if5 .left), le-ltb _ _ (c .before .before .if4 .left), ne-eqb _ _ (c .before .before .before .before .if3 .left), ne-eqb _ _ (c .before .before .before .before .before .before .if2 .left), ne-eqb _ _ (c .before .before .before .before .before .before .before .before .if1 .left))))
+    (λ c. let p = c .before .before .before .before in let q = p .before .before in
+    simp (lt-ltb _ _ (c .if4 .taken), ne-eqb _ _ (c .before .before .if3 .left), ne-eqb _ _ (p .if2 .left), ne-eqb _ _ (q .if1 .left)))
+    (λ c. let p = c .before .before .before .before in let q = p .before .before in let r = q .before .before in
+    simp (
+      lt-ltb _ _ (c .if5 .taken),
+      le-ltb _ _ (c .before .before .if4 .left),
+      ne-eqb _ _ (p .if3 .left),
+      ne-eqb _ _ (q .if2 .left),
+      ne-eqb _ _
+          (r .if1 .left),
+    ))
+    (λ c. let p = c .before .before .before .before in let q = p .before .before in let r = q .before .before in
+    simp (
+      le-ltb _ _ (c .if5 .left),
+      le-ltb _ _ (c .before .before .if4 .left),
+      ne-eqb _ _ (p .if3 .left),
+      ne-eqb _ _ (q .if2 .left),
+      ne-eqb _ _
+          (r .if1 .left),
+    )))

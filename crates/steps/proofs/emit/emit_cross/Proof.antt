@@ -14,9 +14,35 @@ emit-cross-spec =
     tie.close
     (tie.spec
     (λ c κs. (omega (arith, cross-reach _ _ _ (c .before .before .before .pre .0) .0), fits-first _ _ (rw code-cross at (c .before .before .before .pre .1))))
-    (λ c κs. (omega (arith, cross-reach _ _ _ (c .before .before .before .before .before .before .before .pre .0) .1), fits-first _ _ (fits-rest _ _ (c .before .before .before .emit-operand .ensures) (rw code-cross at (c .before .before .before .before .before .before .before .pre .1)))))
-    (λ c κs. (cross-reach _ _ _ (c .before .before .before .before .before .before .before .before .before .before .before .pre .0) .0, fits-first _ _ (fits-rest _ _ (c .before .before .before .emit-operand2 .ensures) (fits-rest _ _ (c .before .before .before .before .before .before .before .emit-operand .ensures) (rw code-cross at (c .before .before .before .before .before .before .before .before .before .before .before .pre .1))))))
-    (λ c κs. (cross-reach _ _ _ (c .before .before .before .before .before .before .before .before .before .before .before .before .before .before .before .pre .0) .1, fits-first _ _ (fits-rest _ _ (c .before .before .before .emit-operand3 .ensures) (fits-rest _ _ (c .before .before .before .before .before .before .before .emit-operand2 .ensures) (fits-rest _ _ (c .before .before .before .before .before .before .before .before .before .before .before .emit-operand .ensures) (rw code-cross at (c .before .before .before .before .before .before .before .before .before .before .before .before .before .before .before .pre .1)))))))
-    (λ c κs. fits-one _ (fits-rest _ _ (c .before .before .before .emit-operand4 .ensures) (fits-rest _ _ (c .before .before .before .before .before .before .before .emit-operand3 .ensures) (fits-rest _ _ (c .before .before .before .before .before .before .before .before .before .before .before .emit-operand2 .ensures) (fits-rest _ _ (c .before .before .before .before .before .before .before .before .before .before .before .before .before .before .before .emit-operand .ensures) (rw code-cross at (c .before .before .before .before .before .before .before .before .before .before .before .before .before .before .before .before .before .before .before .pre .1)))))))
-    (λ c. c .before .before .put-step .kept .0 ∙ c .before .before .before .before .before .before .emit-operand4 .kept .1 .1 .1 .1 .1 .0 ∙ c .before .before .before .before .before .before .before .before .before .before .emit-operand3 .kept .1 .1 .1 .1 .1 .0 ∙ c .before .before .before .before .before .before .before .before .before .before .before .before .before .before .emit-operand2 .kept .1 .1 .1 .1 .1 .0 ∙ c .before .before .before .before .before .before .before .before .before .before .before .before .before .before .before .before .before .before .emit-operand .kept .1 .1 .1 .1 .1 .0)
-    (λ c. rw code-cross (wrote-then _ _ (c .before .before .before .before .before .before .before .before .before .before .before .before .before .before .before .before .before .before .emit-operand .ensures) (wrote-then _ _ (c .before .before .before .before .before .before .before .before .before .before .before .before .before .before .emit-operand2 .ensures) (wrote-then _ _ (c .before .before .before .before .before .before .before .before .before .before .emit-operand3 .ensures) (wrote-then _ _ (c .before .before .before .before .before .before .emit-operand4 .ensures) (wrote-one _ _ (Cross _) _ _ (c .before .before .put-step .ensures .0) (c .before .before .put-step .ensures .1))))))))
+    (λ c κs. let p = c .before .before .before .before .before .before .before in (
+      omega (arith, cross-reach _ _ _ (p .pre .0) .1),
+      fits-first _ _
+          (fits-rest _ _ (c .before .before .before .emit-operand .ensures) (rw code-cross at (p .pre .1))),
+    ))
+    (λ c κs. let p = c .before .before .before .before .before .before .before in let q = p .before .before .before .before in (
+      cross-reach _ _ _ (q .pre .0) .0,
+      fits-first _ _
+          (fits-rest _ _ (c .before .before .before .emit-operand2 .ensures) (fits-rest _ _ (p .emit-operand .ensures) (rw code-cross at (q .pre .1)))),
+    ))
+    (λ c κs. let p = c .before .before .before .before .before .before .before in let q = p .before .before .before .before in
+    let r = q .before .before .before .before in (
+      cross-reach _ _ _ (r .pre .0) .1,
+      fits-first _ _
+          (fits-rest _ _ (c .before .before .before .emit-operand3 .ensures)
+          (fits-rest _ _ (p .emit-operand2 .ensures) (fits-rest _ _ (q .emit-operand .ensures) (rw code-cross at (r .pre .1))))),
+    ))
+    (λ c κs. let p = c .before .before .before .before .before .before .before in let q = p .before .before .before .before in
+    let r = q .before .before .before .before in let s = r .before .before .before .before in
+    fits-one _ (fits-rest _ _ (c .before .before .before .emit-operand4 .ensures)
+    (fits-rest _ _ (p .emit-operand3 .ensures)
+    (fits-rest _ _ (q .emit-operand2 .ensures) (fits-rest _ _ (r .emit-operand .ensures) (rw code-cross at (s .pre .1)))))))
+    (λ c. let p = c .before .before .before .before .before .before in let q = p .before .before .before .before in let r = q .before .before .before .before in
+    let s = r .before .before .before .before in
+    c .before .before .put-step .kept .0 ∙ p .emit-operand4 .kept .1 .1 .1 .1 .1 .0 ∙ q .emit-operand3 .kept .1 .1 .1 .1 .1 .0
+    ∙ r .emit-operand2 .kept .1 .1 .1 .1 .1 .0 ∙ s .emit-operand .kept .1 .1 .1 .1 .1 .0)
+    (λ c. let p = c .before .before in let q = p .before .before .before .before in let r = q .before .before .before .before in
+    let s = r .before .before .before .before in let u = s .before .before .before .before in
+    rw code-cross (wrote-then _ _ (u .emit-operand .ensures)
+    (wrote-then _ _ (s .emit-operand2 .ensures)
+    (wrote-then _ _ (r .emit-operand3 .ensures)
+    (wrote-then _ _ (q .emit-operand4 .ensures) (wrote-one _ _ (Cross _) _ _ (p .put-step .ensures .0) (p .put-step .ensures .1))))))))

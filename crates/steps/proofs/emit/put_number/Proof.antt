@@ -13,4 +13,5 @@ put-number-spec =
     (λ c κs. search needs)
     (λ c κs. search needs)
     (λ c. c .before .before .put-four .kept .0)
-    (λ c. rw (c .before .before .put-four .ensures, c .before .before .before .low4 .ensures, c .before .before .before .before .low3 .ensures, c .before .before .before .before .before .low2 .ensures, c .before .before .before .before .before .before .low .ensures)))
+    (λ c. let p = c .before .before .before .before in let q = p .before in let r = q .before in
+    rw (c .before .before .put-four .ensures, c .before .before .before .low4 .ensures, p .low3 .ensures, q .low2 .ensures, r .low .ensures)))

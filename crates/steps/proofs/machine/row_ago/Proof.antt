@@ -2,7 +2,7 @@
 use borrow.Author.Needs.{needs}
 use native.Mathlib.Omega.{arith}
 use Prim.Native.Nat.{_-_}
-use Rattle.rules.specs.Laws.{row-fits}
+use Rattle.rules.specs.Laws.Meaning.{row-fits}
 use Rattle.steps.proofs.machine.row_ago.Statement.{statement}
 use Rattle.steps.proofs.machine.row_ago.Tie as tie
 

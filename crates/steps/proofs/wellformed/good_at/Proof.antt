@@ -15,7 +15,8 @@ good-at-spec =
     (λ c κs. search needs)
     (λ c.
     rw (
-      of-words (c .before .before .before .before .before .args .list .now) _ (λ i. omega (arith, c .before .before .before .before .shared-slice-known .given i)),
+      of-words (c .before .before .before .before .before .args .list .now) _
+          (λ i. omega (arith, c .before .before .before .before .shared-slice-known .given i)),
       ← c .before .before .before .eight-at .ensures,
       ← c .before .before .eight-at2 .ensures,
       c .before .quick-yes .ensures (c .if1 .taken),

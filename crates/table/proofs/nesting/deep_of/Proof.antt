@@ -28,8 +28,13 @@ returns c = let l = c .before .before .loop in deep-here _ _ (l .j) (l .left) (s
 loop-again : tie.Need-loop-again Inv-loop μ-loop
 unfolding WordsFrom
 loop-again c =
-    let l = c .before .before .before .loop in
-    (search needs, search needs, search needs, l .inv .3 ∙ deep-down _ _ (l .j) (l .left) _ (search needs) (c .before .before .before .before .weigh-tree .ensures (l .j) (search needs) (search needs)) (search needs) (search needs))
+    let l = c .before .before .before .loop in (
+      search needs,
+      search needs,
+      search needs,
+      l .inv .3 ∙ deep-down _ _ (l .j) (l .left) _ (search needs)
+          (c .before .before .before .before .weigh-tree .ensures (l .j) (search needs) (search needs)) (search needs) (search needs),
+    )
 
 loop-less-2 : tie.Need-loop-less-2 Inv-loop μ-loop
 unfolding Linked
@@ -42,8 +47,14 @@ loop-again-2 : tie.Need-loop-again-2 Inv-loop μ-loop
 unfolding Linked WordsFrom
 loop-again-2 c =
     let l = c .before .before .before .before .loop in
-    let k = c .before .before .before .before .before .before .before .pre .1 (l .j) (search needs) (search needs) in
-    (omega (arith, k .beyond), k .within, search needs, l .inv .3 ∙ deep-over _ _ (l .j) (l .left) _ (search needs) (c .before .before .before .before .before .weigh-tree .ensures (l .j) (search needs) (search needs)) (search needs) _ (search needs) (search needs) k)
+    let k = c .before .before .before .before .before .before .before .pre .1 (l .j) (search needs) (search needs) in (
+      omega (arith, k .beyond),
+      k .within,
+      search needs,
+      l .inv .3 ∙ deep-over _ _ (l .j) (l .left) _ (search needs)
+          (c .before .before .before .before .before .weigh-tree .ensures (l .j) (search needs) (search needs)) (search needs) _ (search needs)
+          (search needs) k,
+    )
 
 returns-2 : tie.Need-returns-2 Inv-loop μ-loop
 returns-2 c = let l = c .before .loop in deep-end _ _ (l .j) (l .left) (search needs) ∙ sym (l .inv .3)

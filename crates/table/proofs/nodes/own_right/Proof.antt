@@ -5,8 +5,8 @@ use mathlib.Core.Bool.{true, false}
 use Prim.Native.Nat.{ℕ, _≤_, _<_}
 use borrow.Author.Tests.{lt-ltb, le-ltb, eq-eqb, ne-eqb}
 use borrow.Author.Needs.{needs}
-use Rattle.table.specs.declared.Kind.{Kind}
-use Rattle.table.specs.declared.Node.{Node}
+use Rattle.table.specs.declared.kinds.Kind.{Kind}
+use Rattle.table.specs.declared.nodes.Node.{Node}
 use Rattle.table.specs.Nodes.{childrenRight, nRight, constantRight, ownRight}
 use Rattle.table.proofs.nodes.own_right.Statement.{statement}
 use Rattle.table.proofs.nodes.own_right.Tie as tie

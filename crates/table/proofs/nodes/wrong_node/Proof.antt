@@ -5,9 +5,9 @@ use mathlib.Core.Bool.{true, false}
 use mathlib.Core.List.{List}
 use Prim.Native.Nat.{ℕ, _+_, _-_, _≤_, _<_}
 use native.Mathlib.Nat.{sub-zero}
-use Rattle.table.specs.declared.Place.the-variants.{Nowhere, At}
+use Rattle.table.specs.declared.places.Place.the-variants.{Nowhere, At}
 use Rattle.table.specs.Nodes.{nodeRight, wrongNode}
-use Rattle.table.specs.ForestLaws.{left-suc, left-zero}
+use Rattle.table.specs.Laws.Forest.{left-suc, left-zero}
 use borrow.Author.Needs.{needs}
 use Rattle.table.proofs.nodes.wrong_node.Statement.{statement}
 use Rattle.table.proofs.nodes.wrong_node.Tie as tie

@@ -43,8 +43,12 @@ unfolding EndedFrom
 loop-again c =
     let l = c .before .before .before .before .before .before .loop in
     let of = c .before .before .before .before .before .before .before .before .child-sort-at .result in
-    let k = c .before .before .before .before .before .before .before .before .before .before .pre .1 (l .j) (search needs) (search needs) in
-    (omega (arith, k .beyond (search needs)), k .within (search needs), turn _ _ _ of (l .left) (l .j) (l .inv .2) (search needs) _ (search needs) (search needs) k)
+    let k = c .before .before .before .before .before .before .before .before .before .before .pre .1 (l .j) (search needs) (search needs) in (
+      omega (arith, k .beyond (search needs)),
+      k .within (search needs),
+      turn _ _ _ of (l .left) (l .j) (l .inv .2) (search needs) _ (search needs)
+          (search needs) k,
+    )
 
 returns-4 : tie.Need-returns-4 Inv-loop μ-loop
 returns-4 c =

@@ -25,8 +25,13 @@ end-of-requires c κs = let l = c .before .before .loop in (search needs, from-n
 
 loop-again : tie.Need-loop-again Inv-loop μ-loop
 loop-again c =
-    let l = c .before .before .before .loop in
-    (search needs, search needs, simp length-set (l .inv .2), order-more _ _ (l .i) _ _ _ _ (omega arith) (search needs) (omega arith) (l .inv .3) (c .end-of .ensures))
+    let l = c .before .before .before .loop in (
+      search needs,
+      search needs,
+      simp length-set (l .inv .2),
+      order-more _ _ (l .i) _ _ _ _ (omega arith) (search needs) (omega arith) (l .inv .3)
+          (c .end-of .ensures),
+    )
 
 returns : tie.Need-returns Inv-loop μ-loop
 returns c = order-at _ _ _ _ _ _ (omega arith) (c .before .loop .inv .3)

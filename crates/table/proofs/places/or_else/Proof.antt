@@ -1,7 +1,7 @@
 -- `or_else` meets its contract.
 -- Assumes nothing.
 use mathlib.Core.Path.{sym, ap}
-use Rattle.table.specs.declared.Place.{Place}
+use Rattle.table.specs.declared.places.Place.{Place}
 use Rattle.table.specs.Order.{orElse}
 use borrow.Author.Needs.{needs}
 use Rattle.table.proofs.places.or_else.Statement.{statement}

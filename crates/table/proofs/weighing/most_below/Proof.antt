@@ -31,8 +31,12 @@ loop-again : tie.Need-loop-again Inv-loop μ-loop
 unfolding Linked
 loop-again c =
     let l = c .before .before .before .before .before .loop in
-    let k = c .before .before .before .before .before .before .before .before .pre .1 (l .j) (search needs) (search needs) in
-    (omega (arith, k .beyond), k .within, rest-turn _ _ _ _ (l .left) (l .most) (l .j) (l .inv .2) _ _ (c .before .greater .ensures) (search needs) (search needs) (search needs) k)
+    let k = c .before .before .before .before .before .before .before .before .pre .1 (l .j) (search needs) (search needs) in (
+      omega (arith, k .beyond),
+      k .within,
+      rest-turn _ _ _ _ (l .left) (l .most) (l .j) (l .inv .2) _ _ (c .before .greater .ensures) (search needs)
+          (search needs) (search needs) k,
+    )
 
 returns-2 : tie.Need-returns-2 Inv-loop μ-loop
 returns-2 c = let l = c .before .loop in rest-end _ _ _ _ (l .left) (l .most) (l .j) (l .inv .2) (search needs)

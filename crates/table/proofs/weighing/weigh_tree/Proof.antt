@@ -32,8 +32,13 @@ add-cut c =
 
 loop-again : tie.Need-loop-again Inv-loop μ-loop
 loop-again c =
-    let l = c .before .before .before .before .before .loop in
-    (search needs, search needs, simp length-set (l .inv .2), words-more _ _ _ (l .i) _ _ _ _ _ (omega arith) (search needs) (omega arith) (l .inv .3) (c .before .before .before .weight-at .ensures) (c .before .most-below .ensures) (c .cut .ensures))
+    let l = c .before .before .before .before .before .loop in (
+      search needs,
+      search needs,
+      simp length-set (l .inv .2),
+      words-more _ _ _ (l .i) _ _ _ _ _ (omega arith) (search needs) (omega arith) (l .inv .3)
+          (c .before .before .before .weight-at .ensures) (c .before .most-below .ensures) (c .cut .ensures),
+    )
 
 returns : tie.Need-returns Inv-loop μ-loop
 returns c = words-at _ _ _ _ _ _ (omega arith) (c .before .loop .inv .3)

@@ -1,0 +1,42 @@
+-- The answer as the evaluator finds it. Assumes nothing.
+use Prim.Native.Nat.{ℕ, _<_}
+use mathlib.Core.Path.{_≡_, refl, ap}
+use mathlib.Core.Bool.{Bool, true, false, cond}
+use mathlib.Core.List.{List}
+use native.Mathlib.Omega.{arith}
+use lib.Dec.{eqb}
+use borrow.Author.Tests.{eqb-true, eqb-false}
+use Rattle.rows.specs.History.{History}
+use Rattle.table.specs.declared.answer.Answer.the-variants.{Accepted}
+use Rattle.table.specs.Header.{count, root}
+use Rattle.table.specs.Forest.{trees, forestOf}
+use Rattle.table.specs.Checked.{checked}
+use Rattle.table.specs.Ends.{endsBeside}
+use Rattle.table.specs.Reading.{firstOf, conditions, treeOf}
+use Rattle.rules.specs.declared.PositionState.{PositionState}
+use Rattle.table.specs.declared.trees.Tree.{Tree}
+use Rattle.table.specs.declared.trees.Tree.the-variants.{Entry, Exit, ShortEntry, ShortExit}
+use Rattle.rules.specs.Meaning.{holds, says}
+use Rattle.rules.specs.Flat.{conditionAt}
+use Rattle.table.specs.Header.{treeNumber}
+use Rattle.rules.specs.Laws.FlatReading.{tree-joined}
+
+pub tree-of-four : (tree : Tree) → treeNumber tree < 4
+tree-of-four Entry = omega arith
+tree-of-four Exit = omega arith
+tree-of-four ShortEntry = omega arith
+tree-of-four ShortExit = omega arith
+
+-- An absent tree says no.
+pub absent-says : (t : List ℕ) (x : ℕ) → count t x ≡ 0 → (h : History) (s : PositionState) → says h s (treeOf t x) ≡ false
+unfolding says holds treeOf forestOf trees conditions firstOf
+absent-says t x none h s = rw none
+
+-- The flat reading of a tree of an accepted table says what the tree says.
+pub flat-says : (t : List ℕ) (n r : ℕ) → checked t ≡ Accepted n r → (x : ℕ) → x < 4 → (h : History) (s : PositionState)
+    → cond (eqb (count t x) 0) false (says h s (conditionAt 32 t (endsBeside t) (root t x))) ≡ says h s (treeOf t x)
+flat-says t n r ok x l h s = go (eqb (count t x) 0) refl
+  where
+    go : (b : Bool) → eqb (count t x) 0 ≡ b → cond b false (says h s (conditionAt 32 t (endsBeside t) (root t x))) ≡ says h s (treeOf t x)
+    go true e = rw (absent-says t x (eqb-true (count t x) 0 e) h s)
+    go false e = ap (says h s) (tree-joined t n r ok x l (omega (arith, eqb-false (count t x) 0 e)))

@@ -1,0 +1,144 @@
+-- A well-formed list, wherever it comes from, answers over the last D rows what it answers over all, and visits the same steps.
+use Prim.Native.Nat.{ℕ, zero, suc, _+_, _-_, _%_, _≤_, _<_}
+use mathlib.Core.Path.{_≡_, refl, sym, ap}
+use mathlib.Core.Bool.{Bool, true, false, cond, _&&_}
+use mathlib.Core.List.{List, [], _∷_}
+use native.Mathlib.Omega.{arith}
+use lib.Dec.{ltb, eqb}
+use lib.ListN.{length}
+use borrow.Author.Tests.{lt-ltb, le-ltb, ltb-true, ltb-false}
+use Rattle.rows.specs.History.{History, historyOf, lastRows}
+use Rattle.table.specs.Trees.{Operand, const, ref, price, reach}
+use Rattle.rules.specs.declared.PositionState.{PositionState}
+use Rattle.rules.specs.declared.Value.{Value}
+use Rattle.rules.specs.Meaning.{newest, holds}
+use Rattle.rules.specs.Window.{Without, operand-same, without-first}
+use Rattle.steps.specs.declared.Formed.{Formed}
+use Rattle.steps.specs.declared.Formed.the-variants.{Well, Bad}
+use Rattle.steps.specs.declared.Op.{Op}
+use Rattle.steps.specs.declared.Op.the-variants.{Const, Ref, Price, Arith, Compare, Cross, Between, Answer, Turn, InPosition, BarsSinceEntry, JumpIf}
+use Rattle.steps.specs.declared.Op.the-variants.{Unknown}
+use Rattle.steps.specs.Bytes.{opOf, stepAt, opsFrom, opsOf, stepsIn}
+use Rattle.steps.specs.Machine.{Values, ago, effect, does, after, run, places, start, ranOver}
+use Rattle.steps.specs.WellFormed.{plain, bounded, goodStep, formedFrom, formed}
+
+-- ---- a well-formed list has its look-backs below D
+
+Bounded : ℕ → ℕ → List Op → Type 0
+Bounded K D [] = Unit
+Bounded K D (x ∷ xs) = (bounded K D (length xs) x ≡ true) × Bounded K D xs
+
+second : (a b : Bool) → (a && b) ≡ true → b ≡ true
+second true b e = e
+second false b e = cc
+
+well-first : (b : Bool) (f : Formed) (p : ℕ) → cond b f (Bad p) ≡ Well → (b ≡ true) × (f ≡ Well)
+well-first true f p e = (refl, e)
+well-first false f p e = let never : _≡_ {A = ℕ} 0 1 = cc in absurd (omega arith)
+
+length-ops : (bs : List ℕ) (p m : ℕ) → length (opsFrom bs p m) ≡ m
+unfolding opsFrom
+length-ops bs p zero = refl
+length-ops bs p (suc m) = ap suc (length-ops bs (p + 1) m)
+
+bounded-from : (K D : ℕ) (bs : List ℕ) (p m : ℕ) → formedFrom K D bs p m ≡ Well → Bounded K D (opsFrom bs p m)
+unfolding formedFrom opsFrom Bounded goodStep
+bounded-from K D bs p zero w = tt
+bounded-from K D bs p (suc m) w =
+    let here = well-first (plain (stepAt bs p) (opOf (stepAt bs p)) && bounded K D m (opOf (stepAt bs p))) (formedFrom K D bs (p + 1) m) p w in (
+      rw (length-ops bs (p + 1) m) (second (plain (stepAt bs p) (opOf (stepAt bs p))) (bounded K D m (opOf (stepAt bs p))) (here .0)),
+      bounded-from K D bs (p + 1) m (here .1),
+    )
+
+-- of the parts of `formed`
+well-parts : (a b : Bool) (f : Formed) → cond a (cond b (Bad 0) f) (Bad 0) ≡ Well → f ≡ Well
+well-parts true true f e = cc
+well-parts true false f e = e
+well-parts false b f e = cc
+
+bounded-ops : (K D : ℕ) (bs : List ℕ) → formed K D bs ≡ Well → Bounded K D (opsOf bs)
+unfolding formed opsOf
+bounded-ops K D bs w = bounded-from K D bs 0 (stepsIn bs) (well-parts (eqb (length bs % 16) 0) (ltb 1024 (stepsIn bs)) (formedFrom K D bs 0 (stepsIn bs)) w)
+
+-- ---- a leaf less than D rows back
+
+module _ (K D : ℕ) (ws : List ℕ) where
+  h : History
+  h = historyOf K ws
+
+  w : History
+  w = historyOf K (lastRows K D ws)
+
+  gone : ℕ
+  gone = historyOf K ws .rows - D
+
+  part : Without h w gone
+  unfolding h w gone lastRows historyOf
+  part = without-first K (historyOf K ws .rows - D) ws (omega arith)
+
+  few : w .rows ≤ D
+  unfolding gone h
+  few = omega (arith, part .count)
+
+  leaf-same : (a : Operand) (n : ℕ) → reach a ≡ 0 → n < D → ago w a n ≡ ago h a n
+  unfolding ago newest
+  leaf-same a n flat near = go (ltb n (w .rows)) refl
+    where
+      go : (b : Bool) → ltb n (w .rows) ≡ b → ago w a n ≡ ago h a n
+      go true e =
+          let there : n < w .rows = ltb-true n (w .rows) e in
+          let also : ltb n (h .rows) ≡ true = lt-ltb n (h .rows) (omega (arith, part .count)) in
+          let at : h .rows - 1 - n ≡ gone + (w .rows - 1 - n) = omega (arith, part .count) in
+          rw (e, also, at) (sym (operand-same h w gone part a (w .rows - 1 - n) (omega arith)))
+      go false e =
+          let late : w .rows ≤ n = ltb-false n (w .rows) e in
+          let also : ltb n (h .rows) ≡ false = le-ltb n (h .rows) (unfold gone h in omega (arith, part .count)) in
+          rw (e, also)
+
+  -- ---- a step, a run
+
+  module _ (s : PositionState) where
+    effect-same : (m : ℕ) (x : Op) → bounded K D m x ≡ true → (a b c d : Value) (y : Bool) → effect w s x a b c d y ≡ effect h s x a b c d y
+    unfolding effect bounded reach holds
+    effect-same m (Const bits n) e a b c d y = rw (leaf-same (const bits) n refl (ltb-true n D e))
+    effect-same m (Ref k n) e a b c d y = rw (leaf-same (ref k) n refl (ltb-true n D (second (ltb k K) (ltb n D) e)))
+    effect-same m (Price p n) e a b c d y = rw (leaf-same (price p) n refl (ltb-true n D e))
+    effect-same m (Arith k) e a b c d y = refl
+    effect-same m (Compare k) e a b c d y = refl
+    effect-same m (Cross k) e a b c d y = refl
+    effect-same m Between e a b c d y = refl
+    effect-same m (Answer v) e a b c d y = refl
+    effect-same m Turn e a b c d y = refl
+    effect-same m (InPosition v) e a b c d y = refl
+    effect-same m (BarsSinceEntry p k) e a b c d y = refl
+    effect-same m (JumpIf v n) e a b c d y = refl
+    effect-same m Unknown e a b c d y = refl
+
+    does-same : (m : ℕ) (x : Op) → bounded K D m x ≡ true → (v : Values) → does w s x v ≡ does h s x v
+    unfolding does
+    does-same m x e v = effect-same m x e _ _ _ _ (v .answer)
+
+    run-same : (xs : List Op) → Bounded K D xs → (k : ℕ) (v : Values) → run w s xs k v ≡ run h s xs k v
+    unfolding run Bounded
+    run-same [] g k v = refl
+    run-same (x ∷ xs) g (suc k) v = run-same xs (g .1) k v
+    run-same (x ∷ xs) g zero v = rw (does-same (length xs) x (g .0) v) (run-same xs (g .1) (does h s x v .skip) (after (does h s x v) v))
+
+    places-same : (p : ℕ) (xs : List Op) → Bounded K D xs → (k : ℕ) (v : Values) → places w s p xs k v ≡ places h s p xs k v
+    unfolding places Bounded
+    places-same p [] g k v = refl
+    places-same p (x ∷ xs) g (suc k) v = places-same (p + 1) xs (g .1) k v
+    places-same p (x ∷ xs) g zero v =
+        rw (does-same (length xs) x (g .0) v) (ap (λ (ps : List ℕ). p ∷ ps) (places-same (p + 1) xs (g .1) (does h s x v .skip) (after (does h s x v) v)))
+
+    ran-same : (xs : List Op) → Bounded K D xs → ranOver w s xs ≡ ranOver h s xs
+    ran-same xs g =
+        let said : ranOver w s xs .answer ≡ ranOver h s xs .answer = ap (λ (v : Values). v .answer) (run-same xs g 0 start) in
+        let seen : ranOver w s xs .visits ≡ ranOver h s xs .visits = ap length (places-same 0 xs g 0 start) in
+        rw (said, seen)
+
+-- THE WINDOW of any list: well formed for D, it gives over the last D rows the answer and the visits that it gives over all.
+pub window-any : (K D : ℕ) (ws bs : List ℕ) (s : PositionState) → formed K D bs ≡ Well
+    → ranOver (historyOf K (lastRows K D ws)) s (opsOf bs) ≡ ranOver (historyOf K ws) s (opsOf bs)
+unfolding h w
+window-any K D ws bs s well = ran-same K D ws s (opsOf bs) (bounded-ops K D bs well)

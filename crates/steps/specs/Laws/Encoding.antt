@@ -1,0 +1,185 @@
+-- Steps written as bytes read back as the same steps.
+use Prim.Native.Nat.{ℕ, _+_, _*_, _/_, _%_, _<_, _≤_}
+use mathlib.Core.Path.{_≡_, refl, _∙_}
+use mathlib.Core.Bool.{true, false}
+use mathlib.Core.List.{List, [], _∷_, _++_, append-assoc}
+use native.Mathlib.Omega.{arith}
+use native.Mathlib.Nat.{mod-eq-of-lt, mod-add-div, div-div-eq-div-mul}
+use lib.ListN.{length, getD, length-append}
+use lib.Seq.{getD-append-add}
+use borrow.Author.Tests.{lt-ltb, le-ltb, ne-eqb}
+use Rattle.table.specs.Bytes.{u16, u32, u64}
+use Rattle.steps.specs.declared.Step.{Step}
+use Rattle.steps.specs.declared.Op.{Op}
+use Rattle.steps.specs.declared.Op.the-variants.{Const, Ref, Price, Arith, Compare, Cross, Between, Answer, Turn, InPosition, BarsSinceEntry, JumpIf}
+use Rattle.steps.specs.declared.Op.the-variants.{Unknown}
+use Rattle.steps.specs.Bytes.{readStep, stepAt, stepsIn, operandOp, testOp, answerOp, opOf, opsFrom, opsOf, stepOf, stepBytes, bytesOf}
+
+-- ---- the fields that a step has room for
+
+pub record Sized (x : Step) : Type 0 where
+  pub selector : x .selector < 256
+  pub skip : x .skip < 65536
+  pub n : x .n < 4294967296
+  pub bits : x .bits < 18446744073709551616
+
+-- what a step can say
+unfoldable pub Sayable : Op → Type 0
+Sayable (Const bits n) = (n < 4294967296) × (bits < 18446744073709551616)
+Sayable (Ref k n) = (k < 256) × (n < 4294967296)
+Sayable (Price p n) = (p < 256) × (n < 4294967296)
+Sayable (Arith k) = (5 ≤ k) × (k < 9)
+Sayable (Compare k) = (16 ≤ k) × (k < 22)
+Sayable (Cross k) = (22 ≤ k) × (k < 24)
+Sayable Between = Unit
+Sayable (Answer w) = Unit
+Sayable Turn = Unit
+Sayable (InPosition w) = Unit
+Sayable (BarsSinceEntry p k) = (p < 256) × (k < 4294967296)
+Sayable (JumpIf w skip) = skip < 65536
+Sayable Unknown = ⊥
+
+-- every step of a list can be said
+unfoldable pub AllSayable : List Op → Type 0
+AllSayable [] = Unit
+AllSayable (x ∷ xs) = Sayable x × AllSayable xs
+
+-- ---- numbers
+
+two-back : (n : ℕ) → n < 65536 → n % 256 + 256 * (n / 256 % 256) ≡ n
+two-back n l =
+    let high : n / 256 % 256 ≡ n / 256 = mod-eq-of-lt (omega arith) in
+    omega (arith, high, mod-add-div n 256)
+
+joined : (n a b c r₀ r₁ r₂ r₃ : ℕ) → r₀ + 256 * a ≡ n → r₁ + 256 * b ≡ a → r₂ + 256 * c ≡ b → r₃ ≡ c
+    → r₀ + 256 * r₁ + 65536 * (r₂ + 256 * r₃) ≡ n
+joined n a b c r₀ r₁ r₂ r₃ e₀ e₁ e₂ e₃ = omega arith
+
+four-back : (n : ℕ) → n < 4294967296 → n % 256 + 256 * (n / 256 % 256) + 65536 * (n / 65536 % 256 + 256 * (n / 16777216 % 256)) ≡ n
+four-back n l =
+    let e₁ : n / 256 % 256 + 256 * (n / 65536) ≡ n / 256 = rw (← (div-div-eq-div-mul n 256 256)) (mod-add-div (n / 256) 256) in
+    let e₂ : n / 65536 % 256 + 256 * (n / 16777216) ≡ n / 65536 = rw (← (div-div-eq-div-mul n 65536 256)) (mod-add-div (n / 65536) 256) in
+    joined n (n / 256) (n / 65536) (n / 16777216) _ _ _ _ (mod-add-div n 256) e₁ e₂ (mod-eq-of-lt (omega arith))
+
+-- ---- a step
+
+-- a step's bytes read back as its fields
+step-back : (x : Step) (rest : List ℕ) → Sized x → readStep (stepBytes x ++ rest) 0 ≡ x
+unfolding readStep stepBytes u16 u32 u64
+step-back x rest z =
+    let low : x .bits % 4294967296 < 4294967296 = omega arith in
+    let high : x .bits / 4294967296 < 4294967296 = omega (arith, z .bits) in
+    let whole : x .bits % 4294967296 + 4294967296 * (x .bits / 4294967296) ≡ x .bits = omega arith in
+    rw (
+      mod-eq-of-lt (z .selector),
+      two-back (x .skip) (z .skip),
+      four-back (x .n) (z .n),
+      four-back (x .bits % 4294967296) low,
+      four-back (x .bits / 4294967296) high,
+      whole,
+    )
+
+-- and say what was to be said
+pub says-back : (x : Op) → Sayable x → opOf (stepOf x) ≡ x
+unfolding Sayable stepOf opOf operandOp testOp answerOp
+says-back (Const bits n) s = refl
+says-back (Ref k n) s = refl
+says-back (Price p n) s = refl
+says-back (Arith k) s =
+    simp (
+      lt-ltb k 16 (omega arith),
+      ne-eqb k 1 (λ e. omega arith),
+      ne-eqb k 2 (λ e. omega arith),
+      ne-eqb k 3 (λ e. omega arith),
+      le-ltb k 5 (omega arith),
+      lt-ltb k 9 (omega arith),
+    )
+says-back (Compare k) s = simp (le-ltb k 16 (omega arith), lt-ltb k 27 (omega arith), lt-ltb k 22 (omega arith))
+says-back (Cross k) s = simp (le-ltb k 16 (omega arith), lt-ltb k 27 (omega arith), le-ltb k 22 (omega arith), lt-ltb k 24 (omega arith))
+says-back Between s = refl
+says-back (Answer true) s = refl
+says-back (Answer false) s = refl
+says-back Turn s = refl
+says-back (InPosition true) s = refl
+says-back (InPosition false) s = refl
+says-back (BarsSinceEntry p k) s = refl
+says-back (JumpIf true skip) s = refl
+says-back (JumpIf false skip) s = refl
+
+sized : (x : Op) → Sayable x → Sized (stepOf x)
+unfolding Sayable stepOf
+sized (Const bits n) s = record { selector = omega arith; skip = omega arith; n = omega arith; bits = omega arith }
+sized (Ref k n) s = record { selector = omega arith; skip = omega arith; n = omega arith; bits = omega arith }
+sized (Price p n) s = record { selector = omega arith; skip = omega arith; n = omega arith; bits = omega arith }
+sized (Arith k) s = record { selector = omega arith; skip = omega arith; n = omega arith; bits = omega arith }
+sized (Compare k) s = record { selector = omega arith; skip = omega arith; n = omega arith; bits = omega arith }
+sized (Cross k) s = record { selector = omega arith; skip = omega arith; n = omega arith; bits = omega arith }
+sized Between s = record { selector = omega arith; skip = omega arith; n = omega arith; bits = omega arith }
+sized (Answer w) s = record { selector = omega arith; skip = omega arith; n = omega arith; bits = omega arith }
+sized Turn s = record { selector = omega arith; skip = omega arith; n = omega arith; bits = omega arith }
+sized (InPosition true) s = record { selector = omega arith; skip = omega arith; n = omega arith; bits = omega arith }
+sized (InPosition false) s = record { selector = omega arith; skip = omega arith; n = omega arith; bits = omega arith }
+sized (BarsSinceEntry p k) s = record { selector = omega arith; skip = omega arith; n = omega arith; bits = omega arith }
+sized (JumpIf w skip) s = record { selector = omega arith; skip = omega arith; n = omega arith; bits = omega arith }
+
+-- ---- a list of steps
+
+module _ (pre l : List ℕ) where
+  at-after : (k m : ℕ) → k ≡ length pre + m → getD (pre ++ l) k 0 ≡ getD l m 0
+  at-after k m e = rw e (getD-append-add pre l m 0)
+
+  -- what stands after other bytes reads as it does alone
+  read-after : readStep (pre ++ l) (length pre) ≡ readStep l 0
+  unfolding readStep u16 u32 u64
+  read-after =
+      simp (
+        at-after (length pre + 8 + 4 + 2 + 1) 15 (omega arith),
+        at-after (length pre + 8 + 4 + 2) 14 (omega arith),
+        at-after (length pre + 8 + 4 + 1) 13 (omega arith),
+        at-after (length pre + 8 + 4) 12 (omega arith),
+        at-after (length pre + 8 + 2 + 1) 11 (omega arith),
+        at-after (length pre + 8 + 2) 10 (omega arith),
+        at-after (length pre + 8 + 1) 9 (omega arith),
+        at-after (length pre + 8) 8 (omega arith),
+        at-after (length pre + 4 + 2 + 1) 7 (omega arith),
+        at-after (length pre + 4 + 2) 6 (omega arith),
+        at-after (length pre + 4 + 1) 5 (omega arith),
+        at-after (length pre + 4) 4 (omega arith),
+        at-after (length pre + 2 + 1) 3 (omega arith),
+        at-after (length pre + 2) 2 (omega arith),
+        at-after (length pre + 1) 1 (omega arith),
+        at-after (length pre) 0 (omega arith),
+      )
+
+pub steps-long : (xs : List Op) → length (bytesOf xs) ≡ 16 * length xs
+unfolding bytesOf stepBytes
+steps-long [] = refl
+steps-long (x ∷ xs) = omega (arith, steps-long xs)
+
+-- a step that stands after the bytes of p steps, and before others
+pub step-there : (pre : List ℕ) (p : ℕ) → length pre ≡ 16 * p → (x : Op) (rest : List ℕ) → Sayable x
+    → stepAt (pre ++ (stepBytes (stepOf x) ++ rest)) p ≡ stepOf x
+unfolding stepAt
+step-there pre p e x rest s =
+    let sb : List ℕ = stepBytes (stepOf x) in
+    let sixteen : length sb ≡ 16 = unfold stepBytes in refl in
+    let long : length (pre ++ (sb ++ rest)) ≡ 16 * p + (16 + length rest) = length-append pre (sb ++ rest) ∙ rw (length-append sb rest, e, sixteen) in
+    let within : p < length (pre ++ (sb ++ rest)) / 16 = omega arith in
+    rw (lt-ltb p (length (pre ++ (sb ++ rest)) / 16) within, ← e) (read-after pre (sb ++ rest) ∙ step-back (stepOf x) rest (sized x s))
+
+-- the steps from place p on, where the bytes before them are those of p steps
+ops-back : (pre : List ℕ) (p : ℕ) → length pre ≡ 16 * p → (xs : List Op) → AllSayable xs → opsFrom (pre ++ bytesOf xs) p (length xs) ≡ xs
+unfolding opsFrom AllSayable bytesOf
+ops-back pre p e [] s = refl
+ops-back pre p e (x ∷ xs) s =
+    let sb : List ℕ = stepBytes (stepOf x) in
+    let sixteen : length sb ≡ 16 = unfold stepBytes in refl in
+    let rest : opsFrom ((pre ++ sb) ++ bytesOf xs) (p + 1) (length xs) ≡ xs = ops-back (pre ++ sb) (p + 1) (omega (arith, length-append pre sb)) xs (s .1) in
+    rw (step-there pre p e x (bytesOf xs) (s .0), says-back x (s .0), ← append-assoc pre sb (bytesOf xs), rest)
+
+-- a list of steps, written and read
+pub ops-of-bytes : (xs : List Op) → AllSayable xs → opsOf (bytesOf xs) ≡ xs
+unfolding opsOf
+ops-of-bytes xs s =
+    let count : stepsIn (bytesOf xs) ≡ length xs = omega (arith, steps-long xs) in
+    rw count (ops-back [] 0 refl xs s)

@@ -1,0 +1,78 @@
+-- A list that is written from good steps is well formed, and reads back as those steps.
+use Prim.Native.Nat.{ℕ, _+_, _*_, _%_, _≤_}
+use mathlib.Core.Path.{_≡_, refl}
+use mathlib.Core.Bool.{true, _&&_}
+use mathlib.Core.List.{List, [], _∷_, _++_, append-assoc}
+use native.Mathlib.Omega.{arith}
+use lib.ListN.{length, length-append}
+use borrow.Author.Tests.{lt-ltb, le-ltb, le-leb, eq-eqb}
+use Rattle.steps.specs.declared.Op.{Op}
+use Rattle.steps.specs.declared.Op.the-variants.{Const, Ref, Price, Arith, Compare, Cross, Between, Answer, Turn, InPosition, BarsSinceEntry, JumpIf}
+use Rattle.steps.specs.declared.Formed.the-variants.{Well}
+use Rattle.steps.specs.Bytes.{stepOf, stepBytes, bytesOf, stepsIn, opsOf}
+use Rattle.steps.specs.WellFormed.{zeros, plain, bounded, goodStep, formedFrom, formed}
+use Rattle.steps.specs.Laws.Encoding.{Sayable, AllSayable, says-back, step-there, steps-long, ops-of-bytes}
+use Rattle.steps.specs.Laws.TranslatedSteps.{Good, AllGood}
+
+module _ (K D : ℕ) (few : K ≤ 64) (near : D ≤ 4096) where
+  sayable : (after : ℕ) (x : Op) → Good K D after x → Sayable x
+  unfolding Good Sayable
+  sayable after (Const bits n) g = (omega (arith, g .0), g .1)
+  sayable after (Ref k n) g = (omega (arith, g .0), omega (arith, g .1))
+  sayable after (Price p n) g = (g .0, omega (arith, g .1))
+  sayable after (Arith k) g = g
+  sayable after (Compare k) g = g
+  sayable after (Cross k) g = g
+  sayable after Between g = tt
+  sayable after (Answer w) g = tt
+  sayable after Turn g = tt
+  sayable after (InPosition w) g = tt
+  sayable after (BarsSinceEntry p k) g = g
+  sayable after (JumpIf w skip) g = g .1
+
+  all-sayable : (xs : List Op) → AllGood K D xs → AllSayable xs
+  unfolding AllGood AllSayable
+  all-sayable [] g = tt
+  all-sayable (x ∷ xs) g = (sayable (length xs) x (g .0), all-sayable xs (g .1))
+
+  good-is : (after : ℕ) (x : Op) → Good K D after x → (plain (stepOf x) x && bounded K D after x) ≡ true
+  unfolding Good plain zeros bounded stepOf
+  good-is after (Const bits n) g = rw (lt-ltb n D (g .0))
+  good-is after (Ref k n) g = rw (lt-ltb k K (g .0), lt-ltb n D (g .1))
+  good-is after (Price p n) g = rw (lt-ltb n D (g .1))
+  good-is after (Arith k) g = refl
+  good-is after (Compare k) g = refl
+  good-is after (Cross k) g = refl
+  good-is after Between g = refl
+  good-is after (Answer w) g = refl
+  good-is after Turn g = refl
+  good-is after (InPosition w) g = refl
+  good-is after (BarsSinceEntry p k) g = refl
+  good-is after (JumpIf w skip) g = rw (le-leb skip after (g .0))
+
+  good-step : (after : ℕ) (x : Op) → Good K D after x → goodStep K D after (stepOf x) ≡ true
+  unfolding goodStep
+  good-step after x g = rw (says-back x (sayable after x g)) (good-is after x g)
+
+  well-from : (pre : List ℕ) (p : ℕ) → length pre ≡ 16 * p → (xs : List Op) → AllGood K D xs → formedFrom K D (pre ++ bytesOf xs) p (length xs) ≡ Well
+  unfolding formedFrom AllGood bytesOf
+  well-from pre p e [] g = refl
+  well-from pre p e (x ∷ xs) g =
+      let sb : List ℕ = stepBytes (stepOf x) in
+      let sixteen : length sb ≡ 16 = unfold stepBytes in refl in
+      let rest : formedFrom K D ((pre ++ sb) ++ bytesOf xs) (p + 1) (length xs) ≡ Well =
+      well-from (pre ++ sb) (p + 1) (omega (arith, length-append pre sb)) xs (g .1) in
+      rw (step-there pre p e x (bytesOf xs) (sayable (length xs) x (g .0)), good-step (length xs) x (g .0), ← append-assoc pre sb (bytesOf xs), rest)
+
+  -- the bytes of good steps are a well-formed list
+  pub well-formed : (xs : List Op) → length xs ≤ 1024 → AllGood K D xs → formed K D (bytesOf xs) ≡ Well
+  unfolding formed
+  well-formed xs short g =
+      let long : length (bytesOf xs) ≡ 16 * length xs = steps-long xs in
+      let whole : length (bytesOf xs) % 16 ≡ 0 = omega arith in
+      let count : stepsIn (bytesOf xs) ≡ length xs = omega arith in
+      rw (eq-eqb (length (bytesOf xs) % 16) 0 whole, count, le-ltb 1024 (length xs) short) (well-from [] 0 refl xs g)
+
+  -- and say those steps
+  pub reads-back : (xs : List Op) → AllGood K D xs → opsOf (bytesOf xs) ≡ xs
+  reads-back xs g = ops-of-bytes xs (all-sayable xs g)

@@ -1,0 +1,229 @@
+-- What an accepted table is: every rule is kept, and what follows for each of its trees.
+-- Assumes nothing.
+use mathlib.Core.Path.{_≡_, refl, sym, _∙_, ap, subst}
+use mathlib.Core.Bool.{Bool, true, false, cond}
+use mathlib.Core.List.{List, [], _∷_}
+use Prim.Native.Nat.{ℕ, zero, suc, _+_, _-_, _≤_, _<_}
+use native.Mathlib.Omega.{arith}
+use native.Mathlib.Nat.{eq-zero-or-pos, zero-add, add-zero}
+use mathlib.Core.Logic.{⊎-elim}
+use lib.ListN.{getD}
+use lib.Dec.{ltb, eqb}
+use borrow.Author.Tests.{eqb-true, ne-eqb, lt-ltb, le-ltb}
+use Rattle.table.specs.declared.places.Place.{Place}
+use Rattle.table.specs.declared.places.Place.the-variants.{Nowhere, At}
+use Rattle.table.specs.declared.answer.Answer.{Answer}
+use Rattle.table.specs.declared.answer.Answer.the-variants.{Accepted, Refused}
+use Rattle.table.specs.Header.{total, count, root, headerRefusal}
+use Rattle.table.specs.Nodes.{nodeRight, wrongNode}
+use Rattle.table.specs.Order.{fits, misfit, misfits, orElse, ofFour}
+use Rattle.table.specs.Forest.{trees, sorts, Sorted, forestOf}
+use Rattle.table.specs.Nesting.{deeper, tooDeep}
+use Rattle.table.specs.Reach.{treeReach, farAt, tooFar, rowsNeeded}
+use Rattle.table.specs.Checked.{orRefused, orHeader, from9, from8, from7, checked}
+use Rattle.table.specs.Ends.{endAt, endOf, endsAll, endsFor, endsBeside, Link, Linked}
+use Rattle.table.specs.Laws.Ends.{from-at}
+use Rattle.table.specs.Laws.Header.{HeaderRight, header-right}
+use Rattle.table.specs.Laws.Order.{never-at, sorts-trees, each, link-end}
+
+-- ---- from the answer to the rules
+
+refused-not : (nr p n r : ℕ) → Refused nr p ≡ Accepted n r → ⊥
+refused-not nr p n r h = let z : _≡_ {A = ℕ} 0 1 = cc in omega arith
+
+rule-kept : (nr n r : ℕ) (q : Place) (a : Answer) → orRefused nr q a ≡ Accepted n r → (q ≡ Nowhere) × (a ≡ Accepted n r)
+unfolding orRefused
+rule-kept nr n r Nowhere a h = (refl, h)
+rule-kept nr n r (At p) a h = absurd (refused-not nr p n r h)
+
+header-kept : (b : Bool) (nr n r : ℕ) (a : Answer) → cond b a (Refused nr 0) ≡ Accepted n r → (b ≡ true) × (a ≡ Accepted n r)
+header-kept true nr n r a h = (refl, h)
+header-kept false nr n r a h = absurd (refused-not nr 0 n r h)
+
+-- Every rule is kept, and the answer's two numbers are those of the paper.
+pub record Kept (t : List ℕ) (n r : ℕ) : Type 0 where
+  pub header : headerRefusal t ≡ 0
+  pub own : wrongNode t (total t) 0 ≡ Nowhere
+  pub order : misfits t ≡ Nowhere
+  pub nesting : tooDeep t ≡ Nowhere
+  pub reaches : tooFar t ≡ Nowhere
+  pub nodes : n ≡ total t
+  pub rows : r ≡ rowsNeeded t
+
+pub accepted : (t : List ℕ) (n r : ℕ) → checked t ≡ Accepted n r → Kept t n r
+unfolding checked orHeader from7 from8 from9
+accepted t n r h =
+    let h0 = header-kept (eqb (headerRefusal t) 0) (headerRefusal t) n r _ h in
+    let h6 = rule-kept 6 n r _ _ (h0 .1) in
+    let h7 = rule-kept 7 n r _ _ (h6 .1) in
+    let h8 = rule-kept 8 n r _ _ (h7 .1) in
+    let h9 = rule-kept 9 n r _ _ (h8 .1) in
+    record {
+      header = eqb-true _ _ (h0 .0);
+      own = h6 .0;
+      order = h7 .0;
+      nesting = h8 .0;
+      reaches = h9 .0;
+      nodes = cc (h9 .1);
+      rows = cc (h9 .1);
+    }
+
+-- and the other way round
+pub all-kept : (t : List ℕ) (n r : ℕ) → Kept t n r → checked t ≡ Accepted n r
+unfolding checked orHeader orRefused from7 from8 from9
+all-kept t n r k = rw (k .header, k .own, k .order, k .nesting, k .reaches) (cc (k .nodes, k .rows))
+
+-- ---- from the rules to each node and each tree
+
+pub right-node : (b : Bool) (p : Place) (i : ℕ) → cond b p (At i) ≡ Nowhere → (b ≡ true) × (p ≡ Nowhere)
+right-node true p i h = (refl, h)
+right-node false p i h = absurd (never-at i h)
+
+right-from : (t : List ℕ) (m i j : ℕ) → wrongNode t m i ≡ Nowhere → j < m → nodeRight t (i + j) ≡ true
+unfolding wrongNode
+right-from t zero i j h l = absurd (none-below l)
+  where
+    none-below : j < 0 → ⊥
+    none-below l′ = omega arith
+right-from t (suc m) i zero h l = ap (nodeRight t) (add-zero i) ∙ right-node (nodeRight t i) _ i h .0
+right-from t (suc m) i (suc j) h l =
+    let place : i + suc j ≡ i + 1 + j = omega arith in
+    rw place (right-from t m (i + 1) j (right-node (nodeRight t i) _ i h .1) (omega arith))
+
+pub or-none : (p q : Place) → orElse p q ≡ Nowhere → (p ≡ Nowhere) × (q ≡ Nowhere)
+unfolding orElse
+or-none Nowhere q h = (refl, h)
+or-none (At x) q h = absurd (never-at x h)
+
+pub of-four : (f : ℕ → Place) → ofFour f ≡ Nowhere → (x : ℕ) → x < 4 → f x ≡ Nowhere
+unfolding ofFour
+of-four f h x l =
+    let h0 = or-none (f 0) (orElse (f 1) (orElse (f 2) (f 3))) h in
+    let h1 = or-none (f 1) (orElse (f 2) (f 3)) (h0 .1) in
+    let h2 = or-none (f 2) (f 3) (h1 .1) in
+    pick (h0 .0) (h1 .0) (h2 .0) (h2 .1) x l
+  where
+    pick : f 0 ≡ Nowhere → f 1 ≡ Nowhere → f 2 ≡ Nowhere → f 3 ≡ Nowhere → (x : ℕ) → x < 4 → f x ≡ Nowhere
+    pick a b c d zero l = a
+    pick a b c d (suc zero) l = b
+    pick a b c d (suc (suc zero)) l = c
+    pick a b c d (suc (suc (suc zero))) l = d
+    pick a b c d (suc (suc (suc (suc x)))) l = absurd (none-left x l)
+      where
+        none-left : (x : ℕ) → suc (suc (suc (suc x))) < 4 → ⊥
+        none-left x l = omega arith
+
+-- The trees stand one after the other.
+root-up : (t : List ℕ) (x : ℕ) → x < 4 → root t (suc x) ≤ root t 4
+unfolding root
+root-up t zero l = omega arith
+root-up t (suc zero) l = omega arith
+root-up t (suc (suc zero)) l = omega arith
+root-up t (suc (suc (suc zero))) l = omega arith
+root-up t (suc (suc (suc (suc x)))) l = absurd (none-left l)
+  where
+    none-left : suc (suc (suc (suc x))) < 4 → ⊥
+    none-left l′ = omega arith
+
+-- Node j's word in the array is its end in the tree that it stands in.
+pub ends-at : (t : List ℕ) (j : ℕ) → j < 256 → getD (endsAll t) j 0 ≡ endOf t j
+unfolding endsAll
+ends-at t j h = from-at (endOf t) 256 0 j h ∙ ap (endOf t) (zero-add j)
+
+end-in : (t : List ℕ) (x j : ℕ) → x < 4 → root t x ≤ j → j < root t (suc x) → endOf t j ≡ endAt t (root t (suc x) - j) j
+unfolding endOf root
+end-in t zero j l lo hi = simp (lt-ltb j (root t 1) hi)
+end-in t (suc zero) j l lo hi = simp (le-ltb j (root t 1) lo, lt-ltb j (root t 2) hi)
+end-in t (suc (suc zero)) j l lo hi =
+    let h1 : ltb j (root t 1) ≡ false = le-ltb j (root t 1) (omega arith) in
+    simp (h1, le-ltb j (root t 2) lo, lt-ltb j (root t 3) hi)
+end-in t (suc (suc (suc zero))) j l lo hi =
+    let h1 : ltb j (root t 1) ≡ false = le-ltb j (root t 1) (omega arith) in
+    let h2 : ltb j (root t 2) ≡ false = le-ltb j (root t 2) (omega arith) in
+    simp (h1, h2, le-ltb j (root t 3) lo, lt-ltb j (root t 4) hi)
+end-in t (suc (suc (suc (suc x)))) j l lo hi = absurd (none-left l)
+  where
+    none-left : suc (suc (suc (suc x))) < 4 → ⊥
+    none-left l′ = omega arith
+
+-- ---- an accepted table's trees
+
+-- The nodes from b up to e, with the array of ends: each has right bytes and the children that its kind takes, and its word
+-- leads past its subtree.
+pub record Whole (t ends : List ℕ) (b e : ℕ) : Type 0 where
+  pub small : e ≤ 256
+  pub links : Linked t ends b e
+  pub sorted : (i : ℕ) → b ≤ i → i < e → Sorted (trees t (e - i) i)
+  pub own : (i : ℕ) → b ≤ i → i < e → nodeRight t i ≡ true
+
+module _ (t : List ℕ) (n r : ℕ) (ok : checked t ≡ Accepted n r) where
+  kept : Kept t n r
+  kept = accepted t n r ok
+
+  pub header-of : HeaderRight t
+  header-of = header-right t (kept .header)
+
+  pub node-of : (i : ℕ) → i < total t → nodeRight t i ≡ true
+  node-of i l = subst (λ (k : ℕ). nodeRight t k ≡ true) (zero-add i) (right-from t (total t) 0 i (kept .own) l)
+
+  -- the array beside the answer is the subtree ends
+  pub ends-of : endsBeside t ≡ endsAll t
+  unfolding endsBeside endsFor
+  ends-of = rw ok
+
+  module _ (x : ℕ) (l : x < 4) where
+    pub tree-ends : root t (suc x) ≤ total t
+    unfolding root
+    tree-ends = omega (arith, root-up t x l, header-of .sums)
+
+    pub tree-nesting : deeper 32 (forestOf t x) ≡ Nowhere
+    unfolding tooDeep
+    tree-nesting = of-four (λ y. deeper 32 (forestOf t y)) (kept .nesting) x l
+
+    pub tree-reach : treeReach t x ≤ 4095
+    unfolding tooFar farAt
+    tree-reach = near (treeReach t x) (root t x) (of-four (λ y. farAt (treeReach t y) (root t y)) (kept .reaches) x l)
+      where
+        near : (far b : ℕ) → cond (ltb 4095 far) (At b) Nowhere ≡ Nowhere → far ≤ 4095
+        near far b h = ⊎-elim (λ z. omega arith) (λ z. absurd (never-at b (sym (rw (lt-ltb 4095 far (omega arith))) ∙ h))) (eq-zero-or-pos (far - 4095))
+
+    -- a tree that is there is one condition
+    tree-fits : 0 < count t x → fits t (count t x) (root t x) (2 ∷ []) ≡ Nowhere
+    unfolding misfits misfit
+    tree-fits some = simp (ne-eqb (count t x) 0 (λ z. omega arith)) at (of-four (λ y. misfit t (count t y) (root t y)) (kept .order) x l)
+
+    pub tree-sorts : 0 < count t x → (sorts (forestOf t x) ≡ 2 ∷ []) × Sorted (forestOf t x)
+    unfolding forestOf
+    tree-sorts some = sorts-trees t (count t x) (root t x) (2 ∷ []) (tree-fits some)
+
+    -- its nodes, from its root up to the next tree's
+    region : 0 < count t x → fits t (root t (suc x) - root t x) (root t x) (2 ∷ []) ≡ Nowhere
+    unfolding root
+    region some =
+        let many : root t x + count t x - root t x ≡ count t x = omega arith in
+        rw many (tree-fits some)
+
+    some-nodes : (i : ℕ) → root t x ≤ i → i < root t (suc x) → 0 < count t x
+    unfolding root
+    some-nodes i lo hi = omega arith
+
+    pub tree-whole : Whole t (endsAll t) (root t x) (root t (suc x))
+    unfolding Linked
+    tree-whole = record {
+      small = omega (arith, tree-ends, header-of .most);
+      links =
+          λ j lo hi. subst (λ (v : ℕ). Link t (root t (suc x)) j v) (sym (ends-at t j (low j hi) ∙ end-in t x j l lo hi))
+          (link-end t (root t x) (root t (suc x)) j (2 ∷ []) (region (some-nodes j lo hi)) lo hi);
+      sorted = λ i lo hi. sorted-at i lo hi;
+      own = λ i lo hi. node-of i (omega (arith, tree-ends));
+    }
+      where
+        low : (j : ℕ) → j < root t (suc x) → j < 256
+        low j hi = omega (arith, tree-ends, header-of .most)
+
+        sorted-at : (i : ℕ) → root t x ≤ i → i < root t (suc x) → Sorted (trees t (root t (suc x) - i) i)
+        sorted-at i lo hi =
+            let g = each t (root t (suc x) - root t x) (root t x) (i - root t x) (2 ∷ []) (region (some-nodes i lo hi)) (omega arith) in
+            let less : root t (suc x) - root t x - (i - root t x) ≡ root t (suc x) - i = omega arith in
+            let place : root t x + (i - root t x) ≡ i = omega arith in
+            sorts-trees t (root t (suc x) - i) i _ (rw (less, place) at (g .1)) .1

@@ -1,0 +1,201 @@
+-- THE VIEW of a node's kind: one case for each class of operands and one for each class of conditions, with what the table
+-- of kinds says there. Whoever goes by the kind of a node goes by these cases.
+-- Assumes nothing.
+use mathlib.Core.Path.{_≡_, refl, sym, _∙_, ap}
+use mathlib.Core.Bool.{Bool, true, cond, _&&_}
+use mathlib.Core.Logic.{⊎-elim}
+use mathlib.Core.List.{List, [], _∷_}
+use Prim.Native.Nat.{ℕ, zero, suc, _+_, _-_, _≤_, _<_}
+use native.Mathlib.Omega.{arith}
+use native.Mathlib.Nat.{eq-zero-or-pos}
+use lib.ListN.{List·getD-eq-default}
+use lib.Dec.{leb, eqb}
+use borrow.Author.Tests.{leb-true, eqb-true}
+use Rattle.table.specs.declared.kinds.Kind.{Kind}
+use Rattle.table.specs.declared.kinds.OperandClass.{OperandClass}
+use Rattle.table.specs.declared.kinds.OperandClass.the-variants.{NoOperand, Const, Ref, Price, Prev, Arith}
+use Rattle.table.specs.declared.kinds.ConditionClass.{ConditionClass}
+use Rattle.table.specs.declared.kinds.ConditionClass.the-variants.{NoCondition, Compare, Cross, Between, Trend, All, Any, Not}
+use Rattle.table.specs.declared.kinds.ConditionClass.the-variants.{InPosition, BarsSince}
+use Rattle.table.specs.Named as Named
+use Rattle.table.specs.Kinds.{kinds, kindOf, noKind, constant, reference, price, previous, arithmetic}
+use Rattle.table.specs.Kinds.{comparison, crossing, between, trend, allOf, anyOf, negation, position, barsSince}
+use Rattle.table.specs.Laws.Header.{both}
+
+-- ---- what holds of the 32 rows, and of no row past them
+
+-- the values of f at m numbers from i on
+listed : {A : Type 0} → (ℕ → A) → ℕ → ℕ → List A
+listed f zero i = []
+listed f (suc m) i = f i ∷ listed f m (suc i)
+
+-- two functions with the same list agree there
+same-at : {A : Type 0} (f g : ℕ → A) (m i j : ℕ) → listed f m i ≡ listed g m i → j < m → f (i + j) ≡ g (i + j)
+unfolding listed
+same-at f g zero i j h l = absurd (omega arith)
+same-at {A} f g (suc m) i zero h l =
+    let place : i + 0 ≡ i = omega arith in
+    let first : f i ≡ g i = cc in
+    rw place first
+same-at f g (suc m) i (suc j) h l =
+    let place : i + suc j ≡ suc i + j = omega arith in
+    let rest : listed f m (suc i) ≡ listed g m (suc i) = cc in
+    rw place (same-at f g m (suc i) j rest (omega arith))
+
+of-rows : {A : Type 0} (f g : ℕ → A) → listed f 32 0 ≡ listed g 32 0 → (k : ℕ) → k < 32 → f k ≡ g k
+of-rows f g h k l =
+    let place : 0 + k ≡ k = omega arith in
+    rw place at (same-at f g 32 0 k h l)
+
+past-rows : (k : ℕ) → 32 ≤ k → kindOf k ≡ noKind
+unfolding kindOf kinds
+past-rows k h = List·getD-eq-default kinds noKind h
+
+-- a kind that has a sort has a row
+pub known : (k : ℕ) (row : Kind) → kindOf k ≡ row → 0 < row .sort → k < 32
+known k row h some = ⊎-elim
+    (λ z. omega arith)
+    (λ z. absurd (none (sym h ∙ past-rows k (omega arith))))
+    (eq-zero-or-pos (k - 31))
+  where
+    none : row ≡ noKind → ⊥
+    none e = let z : row .sort ≡ 0 = ap (λ (r : Kind). r .sort) e in omega arith
+
+-- ---- operands
+
+pub data OperandKind (k : ℕ) : Type 0 where
+  a-const : k ≡ Named.const → kindOf k ≡ constant → OperandKind k
+  a-ref : k ≡ Named.ref → kindOf k ≡ reference → OperandKind k
+  a-price : k ≡ Named.price → kindOf k ≡ price → OperandKind k
+  a-prev : k ≡ Named.prev → kindOf k ≡ previous → OperandKind k
+  an-arith : kindOf k ≡ arithmetic → OperandKind k
+
+-- the row of a class, and the numbers of its kinds
+operandRow : OperandClass → Kind
+operandRow NoOperand = noKind
+operandRow Const = constant
+operandRow Ref = reference
+operandRow Price = price
+operandRow Prev = previous
+operandRow Arith = arithmetic
+
+operandNumber : OperandClass → ℕ → Bool
+operandNumber NoOperand k = true
+operandNumber Const k = eqb k Named.const
+operandNumber Ref k = eqb k Named.ref
+operandNumber Price k = eqb k Named.price
+operandNumber Prev k = eqb k Named.prev
+operandNumber Arith k = leb Named.add k && leb k Named.div
+
+operandAsTold : ℕ → Kind
+operandAsTold k = cond (eqb (kindOf k .sort) 1) (operandRow (kindOf k .operand)) (kindOf k)
+
+operand-row : (k : ℕ) → k < 32 → kindOf k .sort ≡ 1 → kindOf k ≡ operandRow (kindOf k .operand)
+unfolding operandAsTold
+operand-row k l s = of-rows kindOf operandAsTold (unfold listed kindOf kinds operandRow in refl) k l ∙ rw s
+
+operand-number : (k : ℕ) → k < 32 → operandNumber (kindOf k .operand) k ≡ true
+operand-number k l =
+    of-rows (λ i. operandNumber (kindOf i .operand) i) (λ i. true) (unfold listed kindOf kinds operandNumber in refl) k l
+
+pub operand-kind : (k : ℕ) → kindOf k .sort ≡ 1 → OperandKind k
+unfolding operandRow operandNumber
+operand-kind k s = go (kindOf k .operand) (operand-row k low s) (operand-number k low)
+  where
+    low : k < 32
+    low = known k (kindOf k) refl (omega arith)
+
+    go : (c : OperandClass) → kindOf k ≡ operandRow c → operandNumber c k ≡ true → OperandKind k
+    go NoOperand r n = absurd (omega (arith, s, ap (λ (row : Kind). row .sort) r))
+    go Const r n = a-const (eqb-true k Named.const n) r
+    go Ref r n = a-ref (eqb-true k Named.ref n) r
+    go Price r n = a-price (eqb-true k Named.price n) r
+    go Prev r n = a-prev (eqb-true k Named.prev n) r
+    go Arith r n = an-arith r
+
+-- "5..8 Add, Sub, Mul, Div"
+pub arith-numbers : (k : ℕ) → kindOf k ≡ arithmetic → (Named.add ≤ k) × (k ≤ Named.div)
+unfolding operandNumber
+arith-numbers k r =
+    let in-range = both (leb Named.add k) (leb k Named.div) (rw r at (operand-number k (known k arithmetic r (omega arith)))) in
+    (leb-true Named.add k (in-range .0), leb-true k Named.div (in-range .1))
+
+-- ---- conditions
+
+pub data ConditionKind (k : ℕ) : Type 0 where
+  a-compare : kindOf k ≡ comparison → ConditionKind k
+  a-cross : kindOf k ≡ crossing → ConditionKind k
+  a-between : k ≡ Named.between → kindOf k ≡ between → ConditionKind k
+  a-trend : kindOf k ≡ trend → ConditionKind k
+  an-all : k ≡ Named.all → kindOf k ≡ allOf → ConditionKind k
+  an-any : k ≡ Named.any → kindOf k ≡ anyOf → ConditionKind k
+  a-not : k ≡ Named.not → kindOf k ≡ negation → ConditionKind k
+  a-position : k ≡ Named.inPosition → kindOf k ≡ position → ConditionKind k
+  a-count : k ≡ Named.barsSinceEntry → kindOf k ≡ barsSince → ConditionKind k
+
+conditionRow : ConditionClass → Kind
+conditionRow NoCondition = noKind
+conditionRow Compare = comparison
+conditionRow Cross = crossing
+conditionRow Between = between
+conditionRow Trend = trend
+conditionRow All = allOf
+conditionRow Any = anyOf
+conditionRow Not = negation
+conditionRow InPosition = position
+conditionRow BarsSince = barsSince
+
+conditionNumber : ConditionClass → ℕ → Bool
+conditionNumber NoCondition k = true
+conditionNumber Compare k = leb Named.gt k && leb k Named.ne
+conditionNumber Cross k = leb Named.crossAbove k && leb k Named.crossBelow
+conditionNumber Between k = eqb k Named.between
+conditionNumber Trend k = leb Named.rising k && leb k Named.falling
+conditionNumber All k = eqb k Named.all
+conditionNumber Any k = eqb k Named.any
+conditionNumber Not k = eqb k Named.not
+conditionNumber InPosition k = eqb k Named.inPosition
+conditionNumber BarsSince k = eqb k Named.barsSinceEntry
+
+conditionAsTold : ℕ → Kind
+conditionAsTold k = cond (eqb (kindOf k .sort) 2) (conditionRow (kindOf k .condition)) (kindOf k)
+
+condition-row : (k : ℕ) → k < 32 → kindOf k .sort ≡ 2 → kindOf k ≡ conditionRow (kindOf k .condition)
+unfolding conditionAsTold
+condition-row k l s = of-rows kindOf conditionAsTold (unfold listed kindOf kinds conditionRow in refl) k l ∙ rw s
+
+condition-number : (k : ℕ) → k < 32 → conditionNumber (kindOf k .condition) k ≡ true
+condition-number k l =
+    of-rows (λ i. conditionNumber (kindOf i .condition) i) (λ i. true) (unfold listed kindOf kinds conditionNumber in refl) k l
+
+pub condition-kind : (k : ℕ) → kindOf k .sort ≡ 2 → ConditionKind k
+unfolding conditionRow conditionNumber
+condition-kind k s = go (kindOf k .condition) (condition-row k low s) (condition-number k low)
+  where
+    low : k < 32
+    low = known k (kindOf k) refl (omega arith)
+
+    go : (c : ConditionClass) → kindOf k ≡ conditionRow c → conditionNumber c k ≡ true → ConditionKind k
+    go NoCondition r n = absurd (omega (arith, s, ap (λ (row : Kind). row .sort) r))
+    go Compare r n = a-compare r
+    go Cross r n = a-cross r
+    go Between r n = a-between (eqb-true k Named.between n) r
+    go Trend r n = a-trend r
+    go All r n = an-all (eqb-true k Named.all n) r
+    go Any r n = an-any (eqb-true k Named.any n) r
+    go Not r n = a-not (eqb-true k Named.not n) r
+    go InPosition r n = a-position (eqb-true k Named.inPosition n) r
+    go BarsSince r n = a-count (eqb-true k Named.barsSinceEntry n) r
+
+-- "16..21 Gt, Lt, Ge, Le, Eq, Ne and 22, 23 CrossAbove, CrossBelow"
+pub compare-numbers : (k : ℕ) → kindOf k ≡ comparison → (Named.gt ≤ k) × (k ≤ Named.ne)
+unfolding conditionNumber
+compare-numbers k r =
+    let in-range = both (leb Named.gt k) (leb k Named.ne) (rw r at (condition-number k (known k comparison r (omega arith)))) in
+    (leb-true Named.gt k (in-range .0), leb-true k Named.ne (in-range .1))
+
+pub cross-numbers : (k : ℕ) → kindOf k ≡ crossing → (Named.crossAbove ≤ k) × (k ≤ Named.crossBelow)
+unfolding conditionNumber
+cross-numbers k r =
+    let in-range = both (leb Named.crossAbove k) (leb k Named.crossBelow) (rw r at (condition-number k (known k crossing r (omega arith)))) in
+    (leb-true Named.crossAbove k (in-range .0), leb-true k Named.crossBelow (in-range .1))

@@ -1,0 +1,11 @@
+// The answer to a table: how many nodes it has and how many rows it needs, or the refusal's number and place.
+pub enum Answer {
+    Accepted { nodes: usize, rows: u64 },
+    Refused { number: u8, place: usize },
+}
+
+// The answer, and the subtree ends of an accepted table.
+pub struct Checked {
+    pub answer: Answer,
+    pub ends: [usize; 256],
+}

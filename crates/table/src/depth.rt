@@ -1,0 +1,56 @@
+// How many rows a rule needs, so that the row room can be measured before anything runs.
+use crate::answer::Answer;
+use crate::check;
+use crate::header::slots;
+ghost use mathlib.Core.Path.{_≡_};
+ghost use Prim.Native.Nat.{max, _<_};
+ghost use Rattle.table.specs.Checked.{checked};
+ghost use Rattle.table.specs.Depth.{depthAnswer, rowBytes};
+
+// The answer to how many rows a rule needs: their number, the bytes of a row and of all of them, or the refusal's number and place.
+pub enum DepthAnswer {
+    Needs { rows: u64, row: u64, window: u64 },
+    Refuses(u8, usize),
+}
+
+// "lookback above 4,095" is refused.
+pub const MOST_LOOKBACK: u64 = 4095;
+
+// The number of that setting.
+pub const SETTING_LOOKBACK: usize = 7;
+
+fn larger(a: u64, b: u64) -> u64
+    ensures { λ r. ⌜ r ≡ max a b ⌝ }
+{
+    if a < b { b } else { a }
+}
+
+// How many bytes a row of a table's width takes.
+fn row_bytes(t: &[u8]) -> u64
+    ensures { λ r. ⌜ (r ≡ rowBytes (now (t .entry))) × (r < 4096) ⌝ }
+{
+    8 * (7 + slots(t) as u64)
+}
+
+// The rows that the rules of a table need beside a volatility target's lookback, which is 0 where there is none.
+pub fn depth(t: &[u8], lookback: u64) -> DepthAnswer
+    ensures { λ r. ⌜ r ≡ depthAnswer (checked (now (t .entry))) (now (t .entry)) lookback ⌝ }
+{
+    let checked = check(t);
+    let answer = checked.answer;
+    match answer {
+        Answer::Refused { number, place } => DepthAnswer::Refuses(number, place),
+        Answer::Accepted { nodes: _, rows } => {
+            if MOST_LOOKBACK < lookback {
+                return DepthAnswer::Refuses(12, SETTING_LOOKBACK);
+            }
+            let needed = larger(rows, lookback + 1);
+            let row = row_bytes(t);
+            DepthAnswer::Needs {
+                rows: needed,
+                row,
+                window: needed * row,
+            }
+        }
+    }
+}
