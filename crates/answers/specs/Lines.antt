@@ -13,5 +13,5 @@ twoNumbers what first then second = what ++ decimal first ++ then ++ decimal sec
 unfoldable pub lineOf : Answer → List ℕ
 lineOf (Accepted nodes rows) =
     twoNumbers (97 ∷ 99 ∷ 99 ∷ 101 ∷ 112 ∷ 116 ∷ 101 ∷ 100 ∷ 32 ∷ 110 ∷ 111 ∷ 100 ∷ 101 ∷ 115 ∷ 32 ∷ []) nodes (32 ∷ 114 ∷ 111 ∷ 119 ∷ 115 ∷ 32 ∷ []) rows
-lineOf (Refused number place) =
-    twoNumbers (114 ∷ 101 ∷ 102 ∷ 117 ∷ 115 ∷ 101 ∷ 100 ∷ 32 ∷ []) number (32 ∷ 97 ∷ 116 ∷ 32 ∷ []) place
+lineOf (Refused why) =
+    twoNumbers (114 ∷ 101 ∷ 102 ∷ 117 ∷ 115 ∷ 101 ∷ 100 ∷ 32 ∷ []) (why .number) (32 ∷ 97 ∷ 116 ∷ 32 ∷ []) (why .place)

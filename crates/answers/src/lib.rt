@@ -41,12 +41,12 @@ pub fn put_answer(room: &mut [u8], answer: Answer) -> usize
             b" rows ",
             rows,
         ),
-        Answer::Refused { number, place } => put_numbers(
+        Answer::Refused(refusal) => put_numbers(
             room,
             b"refused ",
-            number as u64,
+            refusal.number,
             b" at ",
-            place as u64,
+            refusal.place,
         ),
     }
 }

@@ -189,7 +189,7 @@ fn settings() -> Settings {
 fn state_after(answer: Answer) -> State {
     match answer {
         Answer::Done(state) => state,
-        Answer::Refused(_, _, state) => state,
+        Answer::Refused(_, state) => state,
     }
 }
 
@@ -197,7 +197,7 @@ fn state_after(answer: Answer) -> State {
 fn bytes_written(answer: Translated) -> usize {
     match answer {
         Translated::Writes(n) => if n < 1024 { 16 * n } else { 0 },
-        Translated::Refuses(_, _) => 0,
+        Translated::Refuses(_) => 0,
     }
 }
 
@@ -268,7 +268,7 @@ fn say_depth() {
         b"rule table      entry CrossAbove(slot 0, slot 1), exit Lt(close, Prev(close, 2))\n",
     );
     match table::depth::depth(&TABLE, 0) {
-        DepthAnswer::Refuses(number, place) => say_refusal(number as u64, place as u64),
+        DepthAnswer::Refuses(refusal) => say_refusal(refusal.number, refusal.place),
         DepthAnswer::Needs { rows, row, window } => {
             report::say_count(b"accepted        its window is ", rows, b" rows deep\n");
             report::say_count(b"window          ", row, b" bytes a row, ");
@@ -337,7 +337,7 @@ fn say_end(state: State, rows: &[u64], equity: &[u64], trades: &mut [u64]) {
     let seen = state.counts;
     report::say_count(b"bars            ", seen.bars_seen, b" minutes\n");
     match engine::finish(settings(), state, rows, equity, trades) {
-        Finished::Refused(number, place, _) => say_refusal(number, place),
+        Finished::Refused(refusal, _) => say_refusal(refusal.number, refusal.place),
         Finished::Done(last, figures) => {
             let counts = last.counts;
             say_trades(trades, counts.trades);

@@ -64,9 +64,9 @@ fn tell_depth(table: &[u8], lookback: u64) {
             tell(b"\nbytes a row ", row);
             tell(b"\nbytes of the window ", window);
         }
-        DepthAnswer::Refuses(number, place) => {
-            tell(b"refused ", number as u64);
-            tell(b" at ", place as u64);
+        DepthAnswer::Refuses(refusal) => {
+            tell(b"refused ", refusal.number);
+            tell(b" at ", refusal.place);
         }
     }
     io::write_all(1, b"\n");

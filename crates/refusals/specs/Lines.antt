@@ -2,7 +2,7 @@
 use Prim.Native.Nat.{ℕ}
 use mathlib.Core.Bool.{Bool, cond}
 use mathlib.Core.List.{List, [], _∷_}
-use Rattle.words.specs.declared.refusal.Refusal.{Refusal}
+use Rattle.words.specs.Outcome.{refusal}
 use Rattle.refusals.specs.declared.verdict.Verdict.{Verdict}
 use Rattle.refusals.specs.declared.verdict.Verdict.the-variants.{Fine, Bad}
 
@@ -14,9 +14,6 @@ pub record Line : Type 0 where
 
 abbrev pub line : Bool → ℕ → ℕ → Line
 line ok number place = record { ok = ok; number = number; place = place }
-
-abbrev pub refusal : ℕ → ℕ → Refusal
-refusal number place = record { number = number; place = place }
 
 -- The first line that does not hold decides. "Under one number the lowest place is given": lines stand in the order of the
 -- numbers in "10, 12, 13, 14, 11, 15", and of the places under one.

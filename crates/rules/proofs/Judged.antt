@@ -4,6 +4,8 @@ use mathlib.Core.Path.{_≡_, sym, ap, _∙_}
 use mathlib.Core.Bool.{Bool, true, false, cond}
 use mathlib.Core.List.{List}
 use lib.Dec.{eqb}
+use Rattle.words.specs.declared.refusal.Refusal.{Refusal}
+use Rattle.words.specs.Outcome.{refusal}
 use Rattle.rows.specs.History.{historyOf, wholeRows}
 use Rattle.table.specs.declared.answer.Answer.{Answer}
 use Rattle.table.specs.declared.answer.Answer.the-variants.{Accepted, Refused}
@@ -20,7 +22,7 @@ use Rattle.rules.specs.Answers.{stateRight, judged, afterCheck, answered
 use Rattle.rules.specs.Laws.Answers.{tree-of-four, flat-says}
 
 module _ (t : List ℕ) (tree : Tree) (rows : List ℕ) (s : PositionState) where
-  pub refused : (a : Answer) (number place : ℕ) → a ≡ checked t → a ≡ Refused number place → Refuses number place ≡ answered t tree rows s
+  pub refused : (a : Answer) (why : Refusal) → a ≡ checked t → a ≡ Refused why → Refuses why ≡ answered t tree rows s
   unfolding answered afterCheck
   refused a number place e f = rw (← e, f)
 
@@ -28,12 +30,12 @@ module _ (t : List ℕ) (tree : Tree) (rows : List ℕ) (s : PositionState) wher
     ok : checked t ≡ Accepted n r
     ok = sym found ∙ accepted
 
-    pub unwhole : whole ≡ false → Refuses 13 0 ≡ answered t tree rows s
+    pub unwhole : whole ≡ false → Refuses (refusal 13 0) ≡ answered t tree rows s
     unfolding answered afterCheck judged
     unwhole e = rw (ok, ← w, e)
 
     module _ (e : whole ≡ true) (right : Bool) (p : right ≡ stateRight s) where
-      pub unright : right ≡ false → Refuses 13 0 ≡ answered t tree rows s
+      pub unright : right ≡ false → Refuses (refusal 13 0) ≡ answered t tree rows s
       unfolding answered afterCheck judged
       unright f = rw (ok, ← w, ← p, e, f)
 

@@ -3,6 +3,7 @@ use Prim.Native.Nat.{ℕ}
 use mathlib.Core.Bool.{Bool, true, cond, _&&_}
 use mathlib.Core.List.{List}
 use lib.Dec.{ltb, leb}
+use Rattle.words.specs.Outcome.{refusal}
 use Rattle.rows.specs.History.{historyOf, wholeRows}
 use Rattle.table.specs.declared.answer.Answer.{Answer}
 use Rattle.table.specs.declared.answer.Answer.the-variants.{Accepted, Refused}
@@ -29,11 +30,11 @@ stateRight s = leb (s .«bars_seen») 4294967295 && entryBelow (s .«bars_seen»
 -- reads as Any of none, and so says no.
 unfoldable pub judged : List ℕ → ℕ → List ℕ → PositionState → RuleAnswer
 judged t x rows s =
-    cond (wholeRows (slots t) rows && stateRight s) (Says (says (historyOf (slots t) rows) s (treeOf t x))) (Refuses 13 0)
+    cond (wholeRows (slots t) rows && stateRight s) (Says (says (historyOf (slots t) rows) s (treeOf t x))) (Refuses (refusal 13 0))
 
 -- "1 to 9 come first", with their places.
 unfoldable pub afterCheck : Answer → RuleAnswer → RuleAnswer
-afterCheck (Refused number place) a = Refuses number place
+afterCheck (Refused why) a = Refuses why
 afterCheck (Accepted nodes needed) a = a
 
 unfoldable pub answered : List ℕ → Tree → List ℕ → PositionState → RuleAnswer

@@ -6,6 +6,7 @@ use super::conditions::eval_condition;
 use table::answer::Answer;
 use table::trees::Tree;
 use table::trees::tree_number;
+use words::refusal::Refusal;
 ghost use mathlib.Core.Path.{_≡_};
 ghost use mathlib.Core.Bool.{cond, false};
 ghost use lib.Dec.{eqb};
@@ -68,7 +69,7 @@ pub fn answer_rule(t: &[u8], tree: Tree, rows: &[u64], s: PositionState) -> Rule
     let checked = table::check(t);
     let answer = checked.answer;
     match answer {
-        Answer::Refused { number, place } => RuleAnswer::Refuses(number, place),
+        Answer::Refused(refusal) => RuleAnswer::Refuses(refusal),
         Answer::Accepted { nodes: _, rows: _ } => {
             let slots = table::header::slots(t) as usize;
             if rows::are_whole(rows, slots) {
@@ -77,7 +78,7 @@ pub fn answer_rule(t: &[u8], tree: Tree, rows: &[u64], s: PositionState) -> Rule
                     return RuleAnswer::Says(eval_tree(t, &ends, tree_number(tree), rows, s));
                 }
             }
-            RuleAnswer::Refuses(13, 0)
+            RuleAnswer::Refuses(Refusal { number: 13, place: 0 })
         }
     }
 }

@@ -5,6 +5,8 @@ pub mod operands;
 pub mod shapes;
 pub mod values;
 
+use words::refusal::Refusal;
+
 // What an operand is at a bar: a number, or missing.
 pub enum Value {
     Missing,
@@ -27,5 +29,5 @@ pub struct PositionState {
 // What a rule over rows comes to: yes or no, or a refusal's number and place.
 pub enum RuleAnswer {
     Says(bool),
-    Refuses(u8, usize),
+    Refuses(Refusal),
 }

@@ -8,6 +8,8 @@ use lib.ListN.{length, set, drop, length-append}
 use lib.Seq.{set-append-seam}
 use lib.Dec.{ltb}
 use borrow.Author.Tests.{eq-eqb, ne-eqb, lt-ltb, le-ltb}
+use Rattle.words.specs.declared.refusal.Refusal.{Refusal}
+use Rattle.words.specs.Outcome.{refusal}
 use Rattle.table.specs.declared.answer.Answer.the-variants.{Accepted, Refused}
 use Rattle.table.specs.Trees.{reachOf}
 use Rattle.table.specs.Header.{count, root}
@@ -67,12 +69,12 @@ module _ (t : List ℕ) (n r x : ℕ) (ok : checked t ≡ Accepted n r) (l : x <
 -- ---- the translation's answers, and the room that each leaves
 
 module _ (t room : List ℕ) (tree : Tree) where
-  pub refuses-table : (number place : ℕ) → checked t ≡ Refused number place → (Refuses number place ≡ translates t tree room) × (room ≡ roomLeft t tree room)
+  pub refuses-table : (why : Refusal) → checked t ≡ Refused why → (Refuses why ≡ translates t tree room) × (room ≡ roomLeft t tree room)
   unfolding translates afterTable roomLeft roomAfter
-  refuses-table number place bad = (rw bad, rw bad)
+  refuses-table why bad = (rw bad, rw bad)
 
   module _ (n r x k : ℕ) (ok : checked t ≡ Accepted n r) (of : x ≡ treeNumber tree) (is : k ≡ count t x) where
-    pub refuses-room : length room < 64 * k → (Refuses 10 (3 + x) ≡ translates t tree room) × (room ≡ roomLeft t tree room)
+    pub refuses-room : length room < 64 * k → (Refuses (refusal 10 (3 + x)) ≡ translates t tree room) × (room ≡ roomLeft t tree room)
     unfolding translates afterTable writesOr roomLeft roomAfter
     refuses-room small =
         let short : ltb (length room) (64 * count t (treeNumber tree)) ≡ true = rw (← of, ← is) (lt-ltb (length room) (64 * k) small) in

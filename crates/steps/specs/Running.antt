@@ -3,6 +3,7 @@ use Prim.Native.Nat.{ℕ}
 use mathlib.Core.Bool.{cond, _&&_}
 use mathlib.Core.List.{List}
 use lib.Dec.{ltb}
+use Rattle.words.specs.Outcome.{refusal}
 use Rattle.rows.specs.History.{historyOf, wholeRows}
 use Rattle.rules.specs.declared.PositionState.{PositionState}
 use Rattle.rules.specs.Answers.{stateRight}
@@ -18,14 +19,14 @@ use Rattle.steps.specs.WellFormed.{formed}
 -- "15: a step list is not well formed: 1,024 times the list .. plus its lowest bad step". Decided: a list that is run by itself is list 0.
 unfoldable pub ranIf : Formed → Ran → RunAnswer
 ranIf Well r = Runs r
-ranIf (Bad p) r = Refuses 15 p
+ranIf (Bad p) r = Refuses (refusal 15 p)
 
 -- "12: a given K above 64, a given D outside 1 to 4,096: setting number", K's 0 and D's 1.
 -- "13: a row .. list is not whole records, or an entry bar is not below the bars seen": place 0. "10, 12, 13, 14, 11, 15."
 unfoldable pub runs : List ℕ → List ℕ → ℕ → ℕ → PositionState → RunAnswer
 runs bs ws K D s =
-    cond (ltb 64 K) (Refuses 12 0)
-    (cond (ltb D 1) (Refuses 12 1)
-    (cond (ltb 4096 D) (Refuses 12 1)
+    cond (ltb 64 K) (Refuses (refusal 12 0))
+    (cond (ltb D 1) (Refuses (refusal 12 1))
+    (cond (ltb 4096 D) (Refuses (refusal 12 1))
     (cond (wholeRows K ws && stateRight s) (ranIf (formed K D bs) (ranOver (historyOf K ws) s (opsOf bs)))
-    (Refuses 13 0))))
+    (Refuses (refusal 13 0)))))

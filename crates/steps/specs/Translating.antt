@@ -4,6 +4,7 @@ use mathlib.Core.Bool.{cond}
 use mathlib.Core.List.{List, [], _++_}
 use lib.ListN.{length, drop}
 use lib.Dec.{ltb}
+use Rattle.words.specs.Outcome.{refusal}
 use Rattle.table.specs.declared.answer.Answer.{Answer}
 use Rattle.table.specs.declared.answer.Answer.the-variants.{Accepted, Refused}
 use Rattle.table.specs.Header.{count}
@@ -27,11 +28,11 @@ roomFor t x = 64 * count t x
 
 -- "10: a lent room below the size these papers name: room number". The rooms of steps are 3 to 6, in the order of the trees.
 unfoldable pub writesOr : List ℕ → ℕ → List ℕ → Translated
-writesOr t x room = cond (ltb (length room) (roomFor t x)) (Refuses 10 (3 + x)) (Writes (length (stepsOf t x)))
+writesOr t x room = cond (ltb (length room) (roomFor t x)) (Refuses (refusal 10 (3 + x))) (Writes (length (stepsOf t x)))
 
 -- "1 to 9 come first"
 unfoldable pub afterTable : Answer → Translated → Translated
-afterTable (Refused number place) a = Refuses number place
+afterTable (Refused why) a = Refuses why
 afterTable (Accepted nodes rows) a = a
 
 unfoldable pub translates : List ℕ → Tree → List ℕ → Translated
@@ -39,7 +40,7 @@ translates t tree room = afterTable (checked t) (writesOr t (treeNumber tree) ro
 
 -- "The bytes used are those of a written definition; the rest of the room is untouched." "A refusal .. changes nothing lent."
 unfoldable pub roomAfter : Translated → List ℕ → List ℕ → List ℕ
-roomAfter (Refuses number place) bytes room = room
+roomAfter (Refuses why) bytes room = room
 roomAfter (Writes n) bytes room = bytes ++ drop (length bytes) room
 
 unfoldable pub roomLeft : List ℕ → Tree → List ℕ → List ℕ

@@ -7,6 +7,8 @@ pub mod running;
 pub mod translation;
 pub mod wellformed;
 
+use words::refusal::Refusal;
+
 // The fields of a step's 16 bytes, laid out as a node's: kind (1), selector (1), skip (2), n (4), constant bits (8).
 pub struct Step {
     pub kind: u8,
@@ -59,11 +61,11 @@ pub enum Formed {
 // The answer to a run: what it came to, or the refusal's number and place.
 pub enum RunAnswer {
     Runs(Ran),
-    Refuses(u8, usize),
+    Refuses(Refusal),
 }
 
 // The answer to a translation: how many steps were written, or the refusal's number and place.
 pub enum Translated {
     Writes(usize),
-    Refuses(u8, usize),
+    Refuses(Refusal),
 }

@@ -5,6 +5,7 @@ use crate::machine;
 use crate::wellformed;
 use rules::PositionState;
 use rules::answers;
+use words::refusal::Refusal;
 ghost use mathlib.Core.Path.{_≡_};
 ghost use Rattle.steps.specs.Running.{runs};
 
@@ -14,30 +15,30 @@ pub const MOST_SLOTS: usize = 64;
 pub const MOST_ROWS: usize = 4096;
 
 // The numbers of these two settings.
-pub const SETTING_SLOTS: usize = 0;
+pub const SETTING_SLOTS: u64 = 0;
 
-pub const SETTING_DEPTH: usize = 1;
+pub const SETTING_DEPTH: u64 = 1;
 
 // Runs a list over rows of `slots` slots, with a window of `depth` rows.
 pub fn run(list: &[u8], rows: &[u64], slots: usize, depth: usize, s: PositionState) -> RunAnswer
     ensures { λ r. ⌜ r ≡ runs (now (list .entry)) (now (rows .entry)) slots depth s ⌝ }
 {
     if MOST_SLOTS < slots {
-        return RunAnswer::Refuses(12, SETTING_SLOTS);
+        return RunAnswer::Refuses(Refusal { number: 12, place: SETTING_SLOTS });
     }
     if depth < 1 {
-        return RunAnswer::Refuses(12, SETTING_DEPTH);
+        return RunAnswer::Refuses(Refusal { number: 12, place: SETTING_DEPTH });
     }
     if MOST_ROWS < depth {
-        return RunAnswer::Refuses(12, SETTING_DEPTH);
+        return RunAnswer::Refuses(Refusal { number: 12, place: SETTING_DEPTH });
     }
     if rows::are_whole(rows, slots) {
         if answers::state_right(s) {
             match wellformed::check(list, slots as u64, depth as u64) {
                 Formed::Well => return RunAnswer::Runs(machine::run(list, rows, slots, s)),
-                Formed::Bad(p) => return RunAnswer::Refuses(15, p),
+                Formed::Bad(p) => return RunAnswer::Refuses(Refusal { number: 15, place: p as u64 }),
             }
         }
     }
-    RunAnswer::Refuses(13, 0)
+    RunAnswer::Refuses(Refusal { number: 13, place: 0 })
 }

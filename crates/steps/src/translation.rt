@@ -9,6 +9,7 @@ use table::header;
 use table::kinds;
 use table::trees::Tree;
 use table::trees::tree_number;
+use words::refusal::Refusal;
 ghost use mathlib.Core.Path.{_≡_};
 ghost use mathlib.Core.Bool.{cond, not};
 ghost use Prim.Native.Nat.{_≤_};
@@ -22,7 +23,7 @@ ghost use Rattle.steps.specs.Translating.{translates, roomLeft};
 pub const NODE_ROOM: usize = 64;
 
 // The number of the room for the entry steps; those of the exit, short entry and short exit steps follow.
-pub const FIRST_ROOM: usize = 3;
+pub const FIRST_ROOM: u64 = 3;
 
 // The kind of the step that begins All or Any: it sets the answer to yes or no.
 fn group_kind(all: bool) -> u8
@@ -180,12 +181,12 @@ pub fn translate(t: &[u8], tree: Tree, room: &mut [u8]) -> Translated
     let checked = table::check(t);
     let answer = checked.answer;
     match answer {
-        Answer::Refused { number, place } => Translated::Refuses(number, place),
+        Answer::Refused(refusal) => Translated::Refuses(refusal),
         Answer::Accepted { nodes: _, rows: _ } => {
             let x = tree_number(tree);
             let count = header::count(t, x);
             if room.len() < NODE_ROOM * count {
-                return Translated::Refuses(10, FIRST_ROOM + x as usize);
+                return Translated::Refuses(Refusal { number: 10, place: FIRST_ROOM + x as u64 });
             }
             if count == 0 {
                 return Translated::Writes(0);

@@ -11,6 +11,8 @@ use lib.ListN.{getD, replicate}
 use lib.Seq.{ext-getD}
 use lib.Dec.{ltb}
 use borrow.Author.Tests.{lt-ltb, le-ltb, eq-eqb, ne-eqb}
+use Rattle.words.specs.declared.refusal.Refusal.{Refusal}
+use Rattle.words.specs.Outcome.{refusal}
 use Rattle.table.specs.declared.places.Place.{Place}
 use Rattle.table.specs.declared.places.Place.the-variants.{Nowhere, At}
 use Rattle.table.specs.declared.answer.Answer.{Answer}
@@ -27,7 +29,7 @@ use Rattle.table.proofs.Linked.{end-word}
 
 -- One rule: it is broken, or what is left decides.
 module _ (nr : ℕ) (q : Place) (x rest : Answer) (es ends : List ℕ) where
-  pub stage-at : (p : ℕ) → q ≡ At p → x ≡ Refused nr p → es ≡ replicate 256 0
+  pub stage-at : (p : ℕ) → q ≡ At p → x ≡ Refused (refusal nr p) → es ≡ replicate 256 0
       → (x ≡ orRefused nr q rest) × (es ≡ endsFor (orRefused nr q rest) ends)
   unfolding orRefused endsFor
   stage-at p h hx he = rw h (hx, he)
@@ -37,7 +39,7 @@ module _ (nr : ℕ) (q : Place) (x rest : Answer) (es ends : List ℕ) where
   stage-none h hx he = rw h (hx, he)
 
 module _ (nr : ℕ) (x rest : Answer) (es ends : List ℕ) where
-  pub head-at : (nr ≡ 0 → ⊥) → x ≡ Refused nr 0 → es ≡ replicate 256 0 → (x ≡ orHeader nr rest) × (es ≡ endsFor (orHeader nr rest) ends)
+  pub head-at : (nr ≡ 0 → ⊥) → x ≡ Refused (refusal nr 0) → es ≡ replicate 256 0 → (x ≡ orHeader nr rest) × (es ≡ endsFor (orHeader nr rest) ends)
   unfolding orHeader endsFor
   head-at h hx he = simp (ne-eqb _ _ h) (hx, he)
 
@@ -50,10 +52,10 @@ unfolding checked from7 from8 from9
 checked-is t = refl
 
 -- An answer that is handed on, with the array beside it.
-pub keep-refused : (a x : Answer) (es ends : List ℕ) (n p : ℕ) → a ≡ Refused n p → x ≡ Refused n p → es ≡ replicate 256 0
+pub keep-refused : (a x : Answer) (es ends : List ℕ) (why : Refusal) → a ≡ Refused why → x ≡ Refused why → es ≡ replicate 256 0
     → (x ≡ a) × (es ≡ endsFor a ends)
 unfolding endsFor
-keep-refused a x es ends n p ha hx he = rw ha (hx, he)
+keep-refused a x es ends why ha hx he = rw ha (hx, he)
 
 pub keep-accepted : (a : Answer) (ends : List ℕ) (n r : ℕ) → a ≡ Accepted n r → (Accepted n r ≡ a) × (ends ≡ endsFor a ends)
 unfolding endsFor
@@ -111,15 +113,15 @@ module _ (t : List ℕ) (x : Answer) (es ends : List ℕ) where
       → (x ≡ checked t) × (es ≡ endsFor (checked t) ends)
   right h = rw (checked-is t) h
 
-  pub one-at : (nr : ℕ) → nr ≡ headerRefusal t → (nr ≡ 0 → ⊥) → x ≡ Refused nr 0 → es ≡ replicate 256 0 → (x ≡ checked t) × (es ≡ endsFor (checked t) ends)
+  pub one-at : (nr : ℕ) → nr ≡ headerRefusal t → (nr ≡ 0 → ⊥) → x ≡ Refused (refusal nr 0) → es ≡ replicate 256 0 → (x ≡ checked t) × (es ≡ endsFor (checked t) ends)
   one-at nr h some hx he =
-      right (head-at (headerRefusal t) x _ es ends (λ z. some (h ∙ z)) (hx ∙ ap (λ (n : ℕ). Refused n 0) h) he)
+      right (head-at (headerRefusal t) x _ es ends (λ z. some (h ∙ z)) (hx ∙ ap (λ (n : ℕ). Refused (refusal n 0)) h) he)
 
   module _ (h : headerRefusal t ≡ 0) (n : ℕ) (all : n ≡ u16 t 6) (q : Place) (found : q ≡ wrongNode t n 0) where
     place : q ≡ wrongNode t (u16 t 6) 0
     place = found ∙ ap (λ (m : ℕ). wrongNode t m 0) all
 
-    pub six-at : (p : ℕ) → q ≡ At p → x ≡ Refused 6 p → es ≡ replicate 256 0 → (x ≡ checked t) × (es ≡ endsFor (checked t) ends)
+    pub six-at : (p : ℕ) → q ≡ At p → x ≡ Refused (refusal 6 p) → es ≡ replicate 256 0 → (x ≡ checked t) × (es ≡ endsFor (checked t) ends)
     six-at p hp hx he =
         let g = stage-at 6 (wrongNode t (u16 t 6) 0) x (from7 t) es ends p (sym place ∙ hp) hx he in
         right (head-none (headerRefusal t) x _ es ends h (g .0) (g .1))

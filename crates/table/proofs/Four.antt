@@ -8,6 +8,7 @@ use native.Mathlib.Omega.{arith}
 use native.Mathlib.Nat.{eq-zero-or-pos}
 use lib.ListN.{length, getD, replicate}
 use borrow.Author.Tests.{lt-ltb, le-ltb}
+use Rattle.words.specs.Outcome.{refusal}
 use Rattle.table.specs.declared.places.Place.{Place}
 use Rattle.table.specs.declared.places.Place.the-variants.{Nowhere, At}
 use Rattle.table.specs.declared.answer.Answer.the-variants.{Accepted, Refused}
@@ -138,7 +139,7 @@ far-cut r b x h = ⊎-elim
     (λ z. simp (lt-ltb 4095 r (omega arith), lt-ltb 4095 x (omega arith)))
     (eq-zero-or-pos (r - 4095))
 
-pub nine-refused : (t : List ℕ) (p : ℕ) → tooFar t ≡ At p → Refused 9 p ≡ from9 t
+pub nine-refused : (t : List ℕ) (p : ℕ) → tooFar t ≡ At p → Refused (refusal 9 p) ≡ from9 t
 unfolding from9 orRefused
 nine-refused t p h = rw h
 

@@ -3,6 +3,7 @@ use mathlib.Core.Bool.{cond}
 use mathlib.Core.List.{List}
 use Prim.Native.Nat.{ℕ}
 use lib.Dec.{eqb}
+use Rattle.words.specs.Outcome.{refusal}
 use Rattle.table.specs.declared.places.Place.{Place}
 use Rattle.table.specs.declared.places.Place.the-variants.{Nowhere, At}
 use Rattle.table.specs.declared.answer.Answer.{Answer}
@@ -16,11 +17,11 @@ use Rattle.table.specs.Reach.{tooFar, rowsNeeded}
 -- a rule that is broken at a place refuses the table; else the rules after it decide
 unfoldable pub orRefused : ℕ → Place → Answer → Answer
 orRefused number Nowhere a = a
-orRefused number (At p) a = Refused number p
+orRefused number (At p) a = Refused (refusal number p)
 
 -- rules 1 to 5 have place 0
 unfoldable pub orHeader : ℕ → Answer → Answer
-orHeader number a = cond (eqb number 0) a (Refused number 0)
+orHeader number a = cond (eqb number 0) a (Refused (refusal number 0))
 
 -- "Several at once: 1 to 9 come first, in that order, each over the whole table."
 unfoldable pub from9 : List ℕ → Answer

@@ -3,12 +3,13 @@ use Prim.Native.Nat.{ℕ, _+_, _*_, max}
 use mathlib.Core.Bool.{cond}
 use mathlib.Core.List.{List}
 use lib.Dec.{ltb}
+use Rattle.words.specs.Limits.{rowWords, mostReach}
+use Rattle.words.specs.Outcome.{refusal}
 use Rattle.table.specs.declared.answer.Answer.{Answer}
 use Rattle.table.specs.declared.answer.Answer.the-variants.{Accepted, Refused}
 use Rattle.table.specs.Trees.{reachOf}
 use Rattle.table.specs.Reading.{treeOf}
 use Rattle.table.specs.Header.{slots}
-use Rattle.rows.specs.History.{width}
 use Rattle.table.specs.declared.depth.DepthAnswer.{DepthAnswer}
 use Rattle.table.specs.declared.depth.DepthAnswer.the-variants.{Needs, Refuses}
 
@@ -20,12 +21,12 @@ greatestReach t = max (max (reachOf (treeOf t 0)) (reachOf (treeOf t 1))) (max (
 unfoldable pub depthOf : List ℕ → ℕ → ℕ
 depthOf t lookback = 1 + max (greatestReach t) lookback
 
--- "Row as it is kept: .. 7 + K words" of 8 bytes.
+-- "A row is the bar's six words, the presence mask and K slots", each word of 8 bytes
 unfoldable pub rowBytes : List ℕ → ℕ
-rowBytes t = 8 * width (slots t)
+rowBytes t = 8 * rowWords (slots t)
 
 -- "12: .. lookback above 4,095": the lookback is setting 7.
 unfoldable pub depthAnswer : Answer → List ℕ → ℕ → DepthAnswer
-depthAnswer (Refused number place) t lookback = Refuses number place
+depthAnswer (Refused why) t lookback = Refuses why
 depthAnswer (Accepted nodes rows) t lookback =
-    cond (ltb 4095 lookback) (Refuses 12 7) (Needs (depthOf t lookback) (rowBytes t) (depthOf t lookback * rowBytes t))
+    cond (ltb mostReach lookback) (Refuses (refusal 12 7)) (Needs (depthOf t lookback) (rowBytes t) (depthOf t lookback * rowBytes t))

@@ -44,7 +44,7 @@ endsAll t = from (endOf t) 256 0
 -- the array beside an answer: zeros beside a refusal (decided)
 unfoldable pub endsFor : Answer → List ℕ → List ℕ
 endsFor (Accepted n r) ends = ends
-endsFor (Refused nr p) ends = replicate 256 0
+endsFor (Refused why) ends = replicate 256 0
 
 unfoldable pub endsBeside : List ℕ → List ℕ
 endsBeside t = endsFor (checked t) (endsAll t)

@@ -2,22 +2,21 @@
 use crate::answer::Answer;
 use crate::check;
 use crate::header::slots;
+use words::limits::MOST_REACH;
+use words::refusal::Refusal;
 ghost use mathlib.Core.Path.{_≡_};
 ghost use Prim.Native.Nat.{max, _<_};
 ghost use Rattle.table.specs.Checked.{checked};
 ghost use Rattle.table.specs.Depth.{depthAnswer, rowBytes};
 
-// The answer to how many rows a rule needs: their number, the bytes of a row and of all of them, or the refusal's number and place.
+// The answer to how many rows a rule needs: their number, the bytes of a row and of all of them, or the refusal.
 pub enum DepthAnswer {
     Needs { rows: u64, row: u64, window: u64 },
-    Refuses(u8, usize),
+    Refuses(Refusal),
 }
 
-// "lookback above 4,095" is refused.
-pub const MOST_LOOKBACK: u64 = 4095;
-
 // The number of that setting.
-pub const SETTING_LOOKBACK: usize = 7;
+pub const SETTING_LOOKBACK: u64 = 7;
 
 fn larger(a: u64, b: u64) -> u64
     ensures { λ r. ⌜ r ≡ max a b ⌝ }
@@ -39,10 +38,10 @@ pub fn depth(t: &[u8], lookback: u64) -> DepthAnswer
     let checked = check(t);
     let answer = checked.answer;
     match answer {
-        Answer::Refused { number, place } => DepthAnswer::Refuses(number, place),
+        Answer::Refused(refusal) => DepthAnswer::Refuses(refusal),
         Answer::Accepted { nodes: _, rows } => {
-            if MOST_LOOKBACK < lookback {
-                return DepthAnswer::Refuses(12, SETTING_LOOKBACK);
+            if MOST_REACH < lookback {
+                return DepthAnswer::Refuses(Refusal { number: 12, place: SETTING_LOOKBACK });
             }
             let needed = larger(rows, lookback + 1);
             let row = row_bytes(t);

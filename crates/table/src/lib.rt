@@ -20,6 +20,7 @@ use order::misfits_of;
 use order::order_all;
 use places::Place;
 use reach::far_or_accepted;
+use words::refusal::Refusal;
 ghost use mathlib.Core.Path.{_≡_};
 ghost use lib.ListN.{replicate};
 ghost use Rattle.table.specs.Header.{headerRefusal};
@@ -27,11 +28,11 @@ ghost use Rattle.table.specs.Checked.{checked, from7, from8, from9};
 ghost use Rattle.table.specs.Ends.{endsAll, endsFor, endsBeside};
 ghost use Rattle.table.specs.Passes.{Roots, LinkedAll};
 
-fn refused(number: u8, place: usize) -> Checked
-    ensures { λ r. ⌜ (r .answer ≡ Answer.Refused number place) × (r .ends ≡ replicate 256 0) ⌝ }
+fn refused(refusal: Refusal) -> Checked
+    ensures { λ r. ⌜ (r .answer ≡ Answer.Refused refusal) × (r .ends ≡ replicate 256 0) ⌝ }
 {
     Checked {
-        answer: Answer::Refused { number, place },
+        answer: Answer::Refused(refusal),
         ends: [0usize; 256],
     }
 }
@@ -43,7 +44,7 @@ fn check_reach(t: &[u8], ends: [usize; 256], a: usize, b: usize, c: usize, e: us
 {
     let answer = far_or_accepted(t, &ends, a, b, c, e);
     match answer {
-        Answer::Refused { number, place } => refused(number, place),
+        Answer::Refused(refusal) => refused(refusal),
         Answer::Accepted { nodes, rows } => Checked {
             answer: Answer::Accepted { nodes, rows },
             ends,
@@ -58,7 +59,7 @@ fn check_nesting(t: &[u8], ends: [usize; 256], a: usize, b: usize, c: usize, e: 
 {
     let deep = too_deep(t, &ends, a, b, c, e);
     match deep {
-        Place::At(p) => refused(8, p),
+        Place::At(p) => refused(Refusal { number: 8, place: p as u64 }),
         Place::Nowhere => check_reach(t, ends, a, b, c, e),
     }
 }
@@ -70,7 +71,7 @@ fn check_order(t: &[u8], a: usize, b: usize, c: usize, e: usize) -> Checked
     let ends = order_all(t, a, b, c, e);
     let bad = misfits_of(t, &ends, a, b, c, e);
     match bad {
-        Place::At(p) => refused(7, p),
+        Place::At(p) => refused(Refusal { number: 7, place: p as u64 }),
         Place::Nowhere => check_nesting(t, ends, a, b, c, e),
     }
 }
@@ -82,7 +83,7 @@ fn check_nodes(t: &[u8]) -> Checked
     let total = header::total(t);
     let wrong = wrong_node(t, total);
     match wrong {
-        Place::At(p) => refused(6, p),
+        Place::At(p) => refused(Refusal { number: 6, place: p as u64 }),
         Place::Nowhere => {
             let a = header::root(t, 1);
             let b = header::root(t, 2);
@@ -100,6 +101,6 @@ pub fn check(t: &[u8]) -> Checked
     if number == 0 {
         check_nodes(t)
     } else {
-        refused(number, 0)
+        refused(Refusal { number: number as u64, place: 0 })
     }
 }

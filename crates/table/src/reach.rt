@@ -6,6 +6,7 @@ use crate::weighing::BARS;
 use crate::weighing::cut;
 use crate::weighing::greater;
 use crate::weighing::weigh_tree;
+use words::refusal::Refusal;
 ghost use mathlib.Core.Path.{_≡_};
 ghost use Prim.Native.Nat.{_+_, _-_, _≤_, _<_, min, max};
 ghost use lib.ListN.{getD};
@@ -83,10 +84,7 @@ pub(crate) fn far_or_accepted(
     let far = too_far(w, x, y, z, a, b, c);
     let rows = rows_needed(w, x, y, z);
     match far {
-        Place::At(p) => Answer::Refused {
-            number: 9,
-            place: p,
-        },
+        Place::At(p) => Answer::Refused(Refusal { number: 9, place: p as u64 }),
         Place::Nowhere => Answer::Accepted { nodes: e, rows },
     }
 }

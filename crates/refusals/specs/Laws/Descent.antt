@@ -5,9 +5,10 @@ use mathlib.Core.Bool.{Bool, true, false, not}
 use mathlib.Core.List.{List, [], _∷_, _++_}
 use borrow.Author.Tests.{not-true, not-false}
 use Rattle.words.specs.declared.refusal.Refusal.{Refusal}
+use Rattle.words.specs.Outcome.{refusal}
 use Rattle.refusals.specs.declared.verdict.Verdict.{Verdict}
 use Rattle.refusals.specs.declared.verdict.Verdict.the-variants.{Fine, Bad}
-use Rattle.refusals.specs.Lines.{Line, refusal, judged}
+use Rattle.refusals.specs.Lines.{Line, judged}
 use Rattle.refusals.specs.Laws.Lines.{below-fine, below-bad}
 
 -- a test that a function answers with yes

@@ -8,7 +8,7 @@ use Rattle.table.proofs.check_reach.Tie as tie
 
 returns : tie.Need-returns
 returns c =
-    keep-refused _ _ _ _ _ _
+    keep-refused _ _ _ _ _
     (sym (c .before .before .before .before .far-or-accepted .ensures) ∙ c .before .before .answer .given .1) (c .refused .ensures .0)
     (c .refused .ensures .1)
 

@@ -10,6 +10,8 @@ use mathlib.Core.Logic.{⊎-elim}
 use lib.ListN.{getD}
 use lib.Dec.{ltb, eqb}
 use borrow.Author.Tests.{eqb-true, ne-eqb, lt-ltb, le-ltb}
+use Rattle.words.specs.declared.refusal.Refusal.{Refusal}
+use Rattle.words.specs.Outcome.{refusal}
 use Rattle.table.specs.declared.places.Place.{Place}
 use Rattle.table.specs.declared.places.Place.the-variants.{Nowhere, At}
 use Rattle.table.specs.declared.answer.Answer.{Answer}
@@ -28,17 +30,17 @@ use Rattle.table.specs.Laws.Order.{never-at, sorts-trees, each, link-end
 
 -- ---- from the answer to the rules
 
-refused-not : (nr p n r : ℕ) → Refused nr p ≡ Accepted n r → ⊥
-refused-not nr p n r h = let z : _≡_ {A = ℕ} 0 1 = cc in omega arith
+refused-not : (why : Refusal) (n r : ℕ) → Refused why ≡ Accepted n r → ⊥
+refused-not why n r h = let z : _≡_ {A = ℕ} 0 1 = cc in omega arith
 
 rule-kept : (nr n r : ℕ) (q : Place) (a : Answer) → orRefused nr q a ≡ Accepted n r → (q ≡ Nowhere) × (a ≡ Accepted n r)
 unfolding orRefused
 rule-kept nr n r Nowhere a h = (refl, h)
-rule-kept nr n r (At p) a h = absurd (refused-not nr p n r h)
+rule-kept nr n r (At p) a h = absurd (refused-not _ n r h)
 
-header-kept : (b : Bool) (nr n r : ℕ) (a : Answer) → cond b a (Refused nr 0) ≡ Accepted n r → (b ≡ true) × (a ≡ Accepted n r)
+header-kept : (b : Bool) (nr n r : ℕ) (a : Answer) → cond b a (Refused (refusal nr 0)) ≡ Accepted n r → (b ≡ true) × (a ≡ Accepted n r)
 header-kept true nr n r a h = (refl, h)
-header-kept false nr n r a h = absurd (refused-not nr 0 n r h)
+header-kept false nr n r a h = absurd (refused-not _ n r h)
 
 -- Every rule is kept, and the answer's two numbers are those of the paper.
 pub record Kept (t : List ℕ) (n r : ℕ) : Type 0 where

@@ -15,7 +15,7 @@ returns c =
     (c .eval-tree .ensures)
 
 returns-2 : tie.Need-returns-2
-returns-2 c = refused _ _ _ _ _ _ _ (c .before .before .before .check .ensures .0) (c .before .answer .given .1)
+returns-2 c = refused _ _ _ _ _ _ (c .before .before .before .check .ensures .0) (c .before .answer .given .1)
 
 returns-3 : tie.Need-returns-3
 returns-3 c =

@@ -29,7 +29,7 @@ translate-spec =
     let v = u .before .before in let w = v .before .before .before in
     can-write _ _ (w .args .tree) _ _ _ _ (sym (v .check .ensures .0) ∙ u .enum-told .given .1) (s .tree-number .ensures) (r .count .ensures .0) (q .if1 .left)
     (p .if2 .left) _ _ (v .check .ensures .1) (c .before .root .ensures .0))
-    (λ c. refuses-table _ _ _ _ _ (sym (c .before .before .before .check .ensures .0) ∙ c .before .answer .given .1))
+    (λ c. refuses-table _ _ _ _ (sym (c .before .before .before .check .ensures .0) ∙ c .before .answer .given .1))
     (λ c. c .before .before .emit-condition .kept .1 .1 .1 .1 .0)
     (λ c. let p = c .before .before .before .before in let q = p .before .before .before in let r = q .before in let s = r .before in let u = s .before in
     let v = u .before in let w = v .before .before in
