@@ -16,7 +16,7 @@ use Rattle.execution.specs.declared.Exit.the-variants.{NoExit, Exited}
 use Rattle.portfolio.specs.declared.Candle.{Candle}
 use Rattle.floats.specs.Floats.{wordOf}
 use Rattle.portfolio.specs.Portfolio.{equity}
-use Rattle.portfolio.specs.Trade.{tradeWords}
+use Rattle.portfolio.specs.Trade.{wordsOfTrade}
 use Rattle.records.specs.declared.state.Position.{Position}
 use Rattle.records.specs.Lent.{pointPlaces, tradePlaces}
 use Rattle.engine.specs.Account.{Held, booked, marked}
@@ -105,8 +105,8 @@ booked-fits room n NoExit h = (refl, h)
 booked-fits room n (Exited c) h = go (ltb n (tradePlaces room)) refl
   where
     go : (b : Bool) → ltb n (tradePlaces room) ≡ b
-        → Fits 8 (cond b (record { count = n + 1; room = overwrite room (n * 8) (tradeWords (c .trade)) }) (record { count = n; room = room })) room
-    go true e = (overwrite-kept room (n * 8) (tradeWords (c .trade)), omega (arith, ltb-true n (tradePlaces room) e))
+        → Fits 8 (cond b (record { count = n + 1; room = overwrite room (n * 8) (wordsOfTrade (c .trade)) }) (record { count = n; room = room })) room
+    go true e = (overwrite-kept room (n * 8) (wordsOfTrade (c .trade)), omega (arith, ltb-true n (tradePlaces room) e))
     go false e = (refl, h)
 
 pub marked-fits : (room : List ℕ) (n : ℕ) (k : Candle) (p : Position) → n ≤ pointPlaces room → Fits 2 (marked room n k p) room
