@@ -9,7 +9,7 @@ use Rattle.words.specs.Words.{overwrite}
 use Rattle.rules.specs.declared.Entered.the-variants.{Never, Bar}
 use Rattle.portfolio.specs.declared.Candle.{Candle}
 use Rattle.portfolio.specs.Portfolio.{equity}
-use Rattle.portfolio.specs.Trade.{tradeWords, signal}
+use Rattle.portfolio.specs.Trade.{wordsOfTrade, signal}
 use Rattle.execution.specs.declared.Entry.{Entry}
 use Rattle.execution.specs.declared.Entry.the-variants.{NoEntry, Entered}
 use Rattle.execution.specs.declared.Exit.{Exit}
@@ -107,7 +107,7 @@ unfoldable pub booked : List ℕ → ℕ → Exit → Held
 booked room n NoExit = record { count = n; room = room }
 booked room n (Exited c) =
     cond (ltb n (tradePlaces room))
-    (record { count = n + 1; room = overwrite room (n * 8) (tradeWords (c .trade)) })
+    (record { count = n + 1; room = overwrite room (n * 8) (wordsOfTrade (c .trade)) })
     (record { count = n; room = room })
 
 -- "equity at the close": a point is the bar's time and the equity. One that finds no place is not kept, as above.

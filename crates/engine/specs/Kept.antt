@@ -10,13 +10,13 @@ use lib.ListN.{length, take, drop, length-append, length-drop}
 use lib.Seq.{length-take-le}
 use lib.Dec.{ltb, leb, eqb}
 use Rattle.words.specs.Words.{overwrite}
-use Rattle.rows.specs.Room.{places, withRow, heldWith}
+use Rattle.rows.specs.Room.{placesFor, withRow, heldWith}
 use Rattle.execution.specs.declared.Exit.{Exit}
 use Rattle.execution.specs.declared.Exit.the-variants.{NoExit, Exited}
 use Rattle.portfolio.specs.declared.Candle.{Candle}
 use Rattle.floats.specs.Floats.{wordOf}
 use Rattle.portfolio.specs.Portfolio.{equity}
-use Rattle.portfolio.specs.Trade.{tradeWords}
+use Rattle.portfolio.specs.Trade.{wordsOfTrade}
 use Rattle.records.specs.declared.state.Position.{Position}
 use Rattle.records.specs.Lent.{pointPlaces, tradePlaces}
 use Rattle.engine.specs.Account.{Held, booked, marked}
@@ -48,33 +48,33 @@ shifted l row end h k =
 
 module _ (room : List ℕ) (held : ℕ) (row : List ℕ) (wide : 0 < length row) where
   -- the places of a room lie within it
-  within : (n : ℕ) → n ≤ places room row → n * length row ≤ length room
+  within : (n : ℕ) → n ≤ placesFor room row → n * length row ≤ length room
   within n h = le-div-iff-mul-le {k = length row} wide .0 h
 
   row-kept : length (withRow room held row) ≡ length room
   unfolding withRow
-  row-kept = go (ltb held (places room row)) (eqb (places room row) 0) refl refl
+  row-kept = go (ltb held (placesFor room row)) (eqb (placesFor room row) 0) refl refl
     where
-      go : (a b : Bool) → ltb held (places room row) ≡ a → eqb (places room row) 0 ≡ b
+      go : (a b : Bool) → ltb held (placesFor room row) ≡ a → eqb (placesFor room row) 0 ≡ b
           → length (cond a (take (held * length row) room ++ row ++ drop (held * length row + length row) room)
-          (cond b room (drop (length row) (take (places room row * length row) room) ++ row ++ drop (places room row * length row) room)))
+          (cond b room (drop (length row) (take (placesFor room row * length row) room) ++ row ++ drop (placesFor room row * length row) room)))
           ≡ length room
       go true b e d =
-          let f : suc held * length row ≤ length room = within (suc held) (omega (arith, ltb-true held (places room row) e)) in
+          let f : suc held * length row ≤ length room = within (suc held) (omega (arith, ltb-true held (placesFor room row) e)) in
           pasted room row (held * length row) (rw (suc-mul held (length row)) at f)
       go false true e d = refl
       go false false e d =
-          let f : places room row * length row ≤ length room = within (places room row) (le-refl _) in
-          let p : 1 ≤ places room row = omega (arith, eqb-false (places room row) 0 d) in
-          let g : 1 * length row ≤ places room row * length row = mul-le-mul-right (length row) p in
-          shifted room row (places room row * length row) (omega (arith, g)) f
+          let f : placesFor room row * length row ≤ length room = within (placesFor room row) (le-refl _) in
+          let p : 1 ≤ placesFor room row = omega (arith, eqb-false (placesFor room row) 0 d) in
+          let g : 1 * length row ≤ placesFor room row * length row = mul-le-mul-right (length row) p in
+          shifted room row (placesFor room row * length row) (omega (arith, g)) f
 
-  row-held : heldWith room held row ≤ places room row
+  row-held : heldWith room held row ≤ placesFor room row
   unfolding heldWith
-  row-held = go (ltb held (places room row)) refl
+  row-held = go (ltb held (placesFor room row)) refl
     where
-      go : (b : Bool) → ltb held (places room row) ≡ b → cond b (held + 1) (places room row) ≤ places room row
-      go true e = omega (arith, ltb-true held (places room row) e)
+      go : (b : Bool) → ltb held (placesFor room row) ≡ b → cond b (held + 1) (placesFor room row) ≤ placesFor room row
+      go true e = omega (arith, ltb-true held (placesFor room row) e)
       go false e = le-refl _
 
 -- a row is 7 + K words
@@ -105,8 +105,8 @@ booked-fits room n NoExit h = (refl, h)
 booked-fits room n (Exited c) h = go (ltb n (tradePlaces room)) refl
   where
     go : (b : Bool) → ltb n (tradePlaces room) ≡ b
-        → Fits 8 (cond b (record { count = n + 1; room = overwrite room (n * 8) (tradeWords (c .trade)) }) (record { count = n; room = room })) room
-    go true e = (overwrite-kept room (n * 8) (tradeWords (c .trade)), omega (arith, ltb-true n (tradePlaces room) e))
+        → Fits 8 (cond b (record { count = n + 1; room = overwrite room (n * 8) (wordsOfTrade (c .trade)) }) (record { count = n; room = room })) room
+    go true e = (overwrite-kept room (n * 8) (wordsOfTrade (c .trade)), omega (arith, ltb-true n (tradePlaces room) e))
     go false e = (refl, h)
 
 pub marked-fits : (room : List ℕ) (n : ℕ) (k : Candle) (p : Position) → n ≤ pointPlaces room → Fits 2 (marked room n k p) room

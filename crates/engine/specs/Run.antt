@@ -8,7 +8,7 @@ use native.Mathlib.Nat.{zero-mul}
 use native.Mathlib.Omega.{arith}
 use borrow.Author.Tests.{ltb-false, leb-true, le-leb}
 use lib.Dec.{ltb, leb}
-use Rattle.rows.specs.Room.{places, heldWith}
+use Rattle.rows.specs.Room.{placesFor, heldWith}
 use Rattle.records.specs.declared.state.Counts.{Counts}
 use Rattle.records.specs.declared.settings.Settings.{Settings}
 use Rattle.records.specs.declared.state.State.{State}
@@ -38,11 +38,11 @@ pub record Roomy (s : Settings) (t : State) (m : Rooms) : Type 0 where
 -- a bar adds a row at most
 row-more : (room : List ℕ) (held : ℕ) (row : List ℕ) → heldWith room held row ≤ held + 1
 unfolding heldWith
-row-more room held row = go (ltb held (places room row)) refl
+row-more room held row = go (ltb held (placesFor room row)) refl
   where
-    go : (b : Bool) → ltb held (places room row) ≡ b → cond b (held + 1) (places room row) ≤ held + 1
+    go : (b : Bool) → ltb held (placesFor room row) ≡ b → cond b (held + 1) (placesFor room row) ≤ held + 1
     go true e = omega arith
-    go false e = omega (arith, ltb-false held (places room row) e)
+    go false e = omega (arith, ltb-false held (placesFor room row) e)
 
 -- so it is again after a bar
 step-roomy : (s : Settings) (t : State) (bar : List ℕ) (m : Rooms) (ls : Lists) → Roomy s t m

@@ -1,33 +1,39 @@
 -- The two passes of `realized_vol`, put together. Assumes nothing.
 use mathlib.Core.Path.{_≡_, sym, ap, _∙_}
-use mathlib.Core.List.{List, map}
+use mathlib.Core.List.{List, map, map-id}
 use Prim.Native.Nat.{ℕ, suc, _-_, _≤_}
+use native.Mathlib.Nat.{zero-add}
 use native.Mathlib.Omega.{arith}
 use borrow.Author.Tests.{le-ltb, eq-eqb, ne-eqb}
-use lib.IntN.{pos}
 use lib.ListN.{length}
-use lib.Ieee.{Float, binary64, ofInt}
+use lib.Ieee.{Float}
 use Rattle.floats.specs.Floats as Floats
 use Rattle.floats.specs.Floats.{_⊘_}
+use Rattle.floats.specs.Sums.{sumFrom, sum, counted}
 use Rattle.floats.specs.Sqrt.{sqrt}
 use Rattle.rows.specs.History.{History}
-use Rattle.execution.specs.Volatility.{closes, returns, sum, counted, meanOf, squareFrom, deviation, ifPositive, spread, realizedVol}
-use Rattle.execution.specs.Tally.{tallyFrom}
+use Rattle.execution.specs.Volatility.{closes, returns, meanOf, squareFrom, deviation, ifPositive, spread, realizedVol}
+use Rattle.execution.specs.Tally.{termOf, tallyFrom}
 use Rattle.execution.specs.declared.Optional.{Optional}
 use Rattle.execution.specs.declared.Optional.the-variants.{Absent}
 use Rattle.execution.specs.declared.volatility.Tally.{Tally}
+use Rattle.execution.specs.declared.volatility.Term.{Term}
 use Rattle.execution.specs.declared.volatility.Term.the-variants.{Itself, Squared}
-use Rattle.execution.proofs.Passes.{rest, count-is, sum-is, squares-is}
+use Rattle.execution.proofs.Passes.{rest}
 
 module _ (h : History) (held back : ℕ) (are : held ≡ h .rows) (two : 2 ≤ back) (enough : back ≤ held) where
   rets : List Float
   rets = returns (closes h (h .rows - back) back)
 
-  same : rest h (held - back) (held - 1) ≡ rets
-  unfolding rets
-  same =
+  -- what a pass over the last rows gives
+  abbrev pub pass : Term → Tally
+  pass k = tallyFrom k 0 Floats.zero (rest h (held - back) (held - 1))
+
+  over-rets : (k : Term) → pass k ≡ record { count = length rets; total = sum (map (termOf k) rets) }
+  unfolding rets tallyFrom
+  over-rets k =
       let n : suc (held - 1 - (held - back)) ≡ back = omega arith in
-      rw (n, are)
+      rw (n, are, zero-add)
 
   is-spread : realizedVol h back ≡ spread rets
   unfolding realizedVol rets
@@ -35,21 +41,24 @@ module _ (h : History) (held back : ℕ) (are : held ≡ h .rows) (two : 2 ≤ b
       let fits : back ≤ h .rows = omega arith in
       simp (le-ltb _ _ two, le-ltb _ _ fits)
 
-  module _ (t : Tally) (first : t ≡ tallyFrom Itself 0 Floats.zero (rest h (held - back) (held - 1))) where
+  module _ (t : Tally) (first : t ≡ pass Itself) where
     count : t .count ≡ length rets
-    count = rw (first, count-is, same) (omega arith)
+    count = rw (first, over-rets)
 
-    pub empty : t .count ≡ 0 → Absent ≡ realizedVol h back
+    -- no return was kept
+    pub no-returns : t .count ≡ 0 → Absent ≡ realizedVol h back
     unfolding spread
-    empty z = rw is-spread (simp (eq-eqb _ _ (sym count ∙ z)))
+    no-returns z = rw is-spread (simp (eq-eqb _ _ (sym count ∙ z)))
 
-    pub full : (n sd : Float) (u : Tally) (r : Optional) → (t .count ≡ 0 → ⊥) → n ≡ ofInt binary64 (pos (t .count)) → u ≡ tallyFrom (Squared (t .total ⊘ n)) 0 Floats.zero (rest h (held - back) (held - 1)) → sd ≡ sqrt (u .total ⊘ n) → r ≡ ifPositive sd → r ≡ realizedVol h back
-    unfolding spread deviation meanOf
-    full n sd u r some e f g k =
-        let n-is : n ≡ counted rets = e ∙ ap (λ (x : ℕ). ofInt binary64 (pos x)) count in
-        let total : t .total ≡ sum rets = rw (first, sum-is, same) in
+    -- some were, and a second pass had their mean
+    pub some-returns : (n sd : Float) (u : Tally) (r : Optional) → (t .count ≡ 0 → ⊥) → n ≡ counted (t .count)
+        → u ≡ pass (Squared (t .total ⊘ n)) → sd ≡ sqrt (u .total ⊘ n) → r ≡ ifPositive sd → r ≡ realizedVol h back
+    unfolding spread deviation meanOf termOf
+    some-returns n sd u r some e f g k =
+        let n-is : n ≡ counted (length rets) = rw count at e in
+        let total : t .total ≡ sum rets = rw (first, over-rets) (ap (sumFrom Floats.zero) (map-id rets)) in
         let mean : t .total ⊘ n ≡ meanOf rets = rw (total, n-is) in
-        let squares : u .total ≡ sum (map (squareFrom (meanOf rets)) rets) = rw (f, squares-is, same, mean) in
+        let squares : u .total ≡ sum (map (squareFrom (meanOf rets)) rets) = rw (f, over-rets, mean) in
         let deviates : sd ≡ deviation rets = g ∙ rw (squares, n-is) in
         let more : length rets ≡ 0 → ⊥ = λ z. some (count ∙ z) in
         rw is-spread (simp (ne-eqb _ _ more) (k ∙ ap ifPositive deviates))

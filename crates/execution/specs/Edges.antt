@@ -10,7 +10,7 @@ use Rattle.floats.specs.Floats.{_⊗_, _⊘_}
 use Rattle.portfolio.specs.declared.Candle.{Candle}
 use Rattle.portfolio.specs.Trade.{stopLoss}
 use Rattle.execution.specs.Size.{capped}
-use Rattle.execution.specs.Intrabar.{fallTo, under, over, firstOf, longExit, intrabarExit}
+use Rattle.execution.specs.Intrabar.{fallTo, fillUnder, fillOver, fired, orElse, firstOf, longExit, intrabarExit}
 use Rattle.execution.specs.declared.Optional.the-variants.{Absent, Of}
 use Rattle.execution.specs.declared.Risk.{Risk}
 use Rattle.execution.specs.declared.Trigger.the-variants.{Untouched, At}
@@ -41,7 +41,8 @@ module _ (time : ℕ) (high close volume extreme : Float) where
   pub stop-edges : (intrabarExit (bar (num 70) (num 68)) stopOnly (num 100) extreme true ≡ At (num 70) stopLoss)
       × (intrabarExit (bar (num 80) (num 75)) stopOnly (num 100) extreme true ≡ At (num 75) stopLoss)
       × (intrabarExit (bar (num 80) seventyFiveAndAHalf) stopOnly (num 100) extreme true ≡ Untouched)
-  unfolding intrabarExit longExit firstOf under fallTo over Floats.min Ieee.ofInt Ieee.ofBits Ieee.isNan Ieee.lt Ieee.le Ieee.sub Ieee.mul Ieee.div
+  unfolding intrabarExit longExit firstOf orElse fired fillUnder fallTo fillOver Floats.min
+      Ieee.ofInt Ieee.ofBits Ieee.isNan Ieee.lt Ieee.le Ieee.sub Ieee.mul Ieee.div
   stop-edges = (refl, refl, refl)
 
 -- "Letting a NaN size through the cap as NaN (it becomes the cap)."

@@ -1,5 +1,6 @@
 -- Exits inside a bar: levels, then liquidation. Definitions only, each under what the Rust writes.
 use mathlib.Core.Bool.{Bool, cond}
+use Prim.Native.Nat.{ℕ}
 use lib.Ieee as Ieee
 use lib.Ieee.{Float}
 use Rattle.floats.specs.Floats.{_⊕_, _⊖_, _⊗_, _⊘_, _≺_, _≼_, min, max, zero, one, hundred}
@@ -34,35 +35,41 @@ unfoldable pub riseTo : Float → Float → Float → Optional
 riseTo level first high = cond (level ≼ high) (Of (max level first)) Absent
 
 -- `if let Some(p) = .. { let level = base * (1.0 - p / 100.0); .. }`
-unfoldable pub under : Candle → Float → Optional → Optional
-under k base Absent = Absent
-under k base (Of p) = fallTo (base ⊗ (one ⊖ p ⊘ hundred)) (k .«open») (k .low)
+unfoldable pub fillUnder : Candle → Float → Optional → Optional
+fillUnder k base Absent = Absent
+fillUnder k base (Of p) = fallTo (base ⊗ (one ⊖ p ⊘ hundred)) (k .«open») (k .low)
 
 -- `if let Some(p) = .. { let level = base * (1.0 + p / 100.0); .. }`
-unfoldable pub over : Candle → Float → Optional → Optional
-over k base Absent = Absent
-over k base (Of p) = riseTo (base ⊗ (one ⊕ p ⊘ hundred)) (k .«open») (k .high)
+unfoldable pub fillOver : Candle → Float → Optional → Optional
+fillOver k base Absent = Absent
+fillOver k base (Of p) = riseTo (base ⊗ (one ⊕ p ⊘ hundred)) (k .«open») (k .high)
+
+-- `return Some((.., reason))`
+unfoldable pub fired : Optional → ℕ → Trigger
+fired Absent reason = Untouched
+fired (Of price) reason = At price reason
+
+unfoldable pub orElse : Trigger → Trigger → Trigger
+orElse (At price reason) second = At price reason
+orElse Untouched second = second
 
 -- the stop before the trailing stop, and that before the target
 unfoldable pub firstOf : Optional → Optional → Optional → Trigger
-firstOf (Of price) trail take = At price stopLoss
-firstOf Absent (Of price) take = At price trailingStop
-firstOf Absent Absent (Of price) = At price takeProfit
-firstOf Absent Absent Absent = Untouched
+firstOf stop trail take = orElse (fired stop stopLoss) (orElse (fired trail trailingStop) (fired take takeProfit))
 
 -- `if is_long { .. }`
 unfoldable pub longExit : Candle → Risk → Float → Float → Trigger
 longExit k r entry extreme =
-    firstOf (under k entry (r .«stop_loss_pct»))
-    (under k extreme (r .«trailing_stop_pct»))
-    (over k entry (r .«take_profit_pct»))
+    firstOf (fillUnder k entry (r .«stop_loss_pct»))
+    (fillUnder k extreme (r .«trailing_stop_pct»))
+    (fillOver k entry (r .«take_profit_pct»))
 
 -- `else { .. }`: a short's stops stand above, its target below
 unfoldable pub shortExit : Candle → Risk → Float → Float → Trigger
 shortExit k r entry extreme =
-    firstOf (over k entry (r .«stop_loss_pct»))
-    (over k extreme (r .«trailing_stop_pct»))
-    (under k entry (r .«take_profit_pct»))
+    firstOf (fillOver k entry (r .«stop_loss_pct»))
+    (fillOver k extreme (r .«trailing_stop_pct»))
+    (fillUnder k entry (r .«take_profit_pct»))
 
 -- `intrabar_exit`: `if entry <= 0.0 { return None; }`
 unfoldable pub intrabarExit : Candle → Risk → Float → Float → Bool → Trigger

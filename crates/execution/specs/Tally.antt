@@ -1,8 +1,9 @@
 -- One pass over the returns, as `realized_vol` goes: how many there are, and a sum over them. Definitions only.
-use mathlib.Core.List.{List, [], _∷_}
+use mathlib.Core.List.{List, map}
 use Prim.Native.Nat.{ℕ, _+_}
+use lib.ListN.{length}
 use lib.Ieee.{Float}
-use Rattle.floats.specs.Floats.{_⊕_}
+use Rattle.floats.specs.Sums.{sumFrom}
 use Rattle.execution.specs.Volatility.{squareFrom}
 use Rattle.execution.specs.declared.volatility.Tally.{Tally}
 use Rattle.execution.specs.declared.volatility.Term.{Term}
@@ -13,6 +14,6 @@ unfoldable pub termOf : Term → Float → Float
 termOf Itself r = r
 termOf (Squared mean) r = squareFrom mean r
 
+-- a pass that has counted and summed so far, over the returns to come
 unfoldable pub tallyFrom : Term → ℕ → Float → List Float → Tally
-tallyFrom k count total [] = record { count = count; total = total }
-tallyFrom k count total (r ∷ rs) = tallyFrom k (count + 1) (total ⊕ termOf k r) rs
+tallyFrom k count total rs = record { count = count + length rs; total = sumFrom total (map (termOf k) rs) }

@@ -5,10 +5,10 @@ use mathlib.Core.List.{List, [], _∷_, map}
 use Prim.Native.Nat.{ℕ, zero, suc, _-_}
 use lib.Dec.{ltb, eqb}
 use lib.ListN.{length}
-use lib.IntN.{pos}
-use lib.Ieee.{Float, binary64, ofInt}
+use lib.Ieee.{Float}
 use Rattle.floats.specs.Floats as Floats
-use Rattle.floats.specs.Floats.{_⊕_, _⊖_, _⊗_, _⊘_, _≺_, abs, eps}
+use Rattle.floats.specs.Floats.{_⊖_, _⊘_, _≺_, abs, eps}
+use Rattle.floats.specs.Sums.{sum, counted, square}
 use Rattle.floats.specs.Sqrt.{sqrt}
 use Rattle.rows.specs.History.{History, field}
 use Rattle.execution.specs.declared.Optional.{Optional}
@@ -37,29 +37,17 @@ returns [] = []
 returns (c ∷ []) = []
 returns (c ∷ d ∷ cs) = kept (simpleReturn c d) (returns (d ∷ cs))
 
--- "sums run left to right from +0.0"
-unfoldable pub sumFrom : Float → List Float → Float
-sumFrom total [] = total
-sumFrom total (x ∷ xs) = sumFrom (total ⊕ x) xs
-
-abbrev pub sum : List Float → Float
-sum xs = sumFrom Floats.zero xs
-
--- `rets.len() as f64`
-abbrev pub counted : List Float → Float
-counted xs = ofInt binary64 (pos (length xs))
-
 -- `let mean = rets.iter().sum::<f64>() / rets.len() as f64;`
 unfoldable pub meanOf : List Float → Float
-meanOf rets = sum rets ⊘ counted rets
+meanOf rets = sum rets ⊘ counted (length rets)
 
--- `(r - mean).powi(2)`, and "powi(2) is one product"
+-- `(r - mean).powi(2)`
 unfoldable pub squareFrom : Float → Float → Float
-squareFrom mean r = (r ⊖ mean) ⊗ (r ⊖ mean)
+squareFrom mean r = square (r ⊖ mean)
 
 -- `let var = rets.iter().map(|r| (r - mean).powi(2)).sum::<f64>() / rets.len() as f64;  let sd = var.sqrt();`
 unfoldable pub deviation : List Float → Float
-deviation rets = sqrt (sum (map (squareFrom (meanOf rets)) rets) ⊘ counted rets)
+deviation rets = sqrt (sum (map (squareFrom (meanOf rets)) rets) ⊘ counted (length rets))
 
 -- `(sd > 0.0).then_some(sd)`
 unfoldable pub ifPositive : Float → Optional

@@ -13,7 +13,9 @@ use portfolio::STOP_LOSS;
 use portfolio::TAKE_PROFIT;
 use portfolio::TRAILING_STOP;
 ghost use mathlib.Core.Path.{_≡_};
-ghost use Rattle.execution.specs.Intrabar.{favourable, extremeWith, fallTo, riseTo, under, over, firstOf, longExit, shortExit, intrabarExit, breached, liquidated, orLiquidated, closedBy, applyIntrabarExits};
+ghost use Rattle.execution.specs.Intrabar.{favourable, extremeWith, fallTo, riseTo, fillUnder, fillOver};
+ghost use Rattle.execution.specs.Intrabar.{fired, orElse, firstOf, longExit, shortExit, intrabarExit};
+ghost use Rattle.execution.specs.Intrabar.{breached, liquidated, orLiquidated, closedBy, applyIntrabarExits};
 
 // The most favourable price since the entry, this bar counted.
 pub fn favourable(candle: Candle, extreme: f64, is_long: bool) -> f64
@@ -56,8 +58,8 @@ fn rise_to(level: f64, open: f64, high: f64) -> Optional
 }
 
 // The fill at a level `pct` percent under `base`.
-fn under(candle: Candle, base: f64, pct: Optional) -> Optional
-    ensures { λ r. ⌜ r ≡ under candle base pct ⌝ }
+fn fill_under(candle: Candle, base: f64, pct: Optional) -> Optional
+    ensures { λ r. ⌜ r ≡ fillUnder candle base pct ⌝ }
 {
     match pct {
         Optional::Absent => Optional::Absent,
@@ -66,8 +68,8 @@ fn under(candle: Candle, base: f64, pct: Optional) -> Optional
 }
 
 // The fill at a level `pct` percent over `base`.
-fn over(candle: Candle, base: f64, pct: Optional) -> Optional
-    ensures { λ r. ⌜ r ≡ over candle base pct ⌝ }
+fn fill_over(candle: Candle, base: f64, pct: Optional) -> Optional
+    ensures { λ r. ⌜ r ≡ fillOver candle base pct ⌝ }
 {
     match pct {
         Optional::Absent => Optional::Absent,
@@ -75,20 +77,34 @@ fn over(candle: Candle, base: f64, pct: Optional) -> Optional
     }
 }
 
+// A level's fill and its reason.
+fn fired(price: Optional, reason: u64) -> Trigger
+    ensures { λ r. ⌜ r ≡ fired price reason ⌝ }
+{
+    match price {
+        Optional::Absent => Trigger::Untouched,
+        Optional::Of(p) => Trigger::At(p, reason),
+    }
+}
+
+// The first of two that fired.
+fn or_else(first: Trigger, second: Trigger) -> Trigger
+    ensures { λ r. ⌜ r ≡ orElse first second ⌝ }
+{
+    match first {
+        Trigger::At(price, reason) => Trigger::At(price, reason),
+        Trigger::Untouched => second,
+    }
+}
+
 // The stop is taken to be hit before the trailing stop, and that before the target.
 fn first_of(stop: Optional, trail: Optional, take: Optional) -> Trigger
     ensures { λ r. ⌜ r ≡ firstOf stop trail take ⌝ }
 {
-    if let Optional::Of(price) = stop {
-        return Trigger::At(price, STOP_LOSS);
-    }
-    if let Optional::Of(price) = trail {
-        return Trigger::At(price, TRAILING_STOP);
-    }
-    if let Optional::Of(price) = take {
-        return Trigger::At(price, TAKE_PROFIT);
-    }
-    Trigger::Untouched
+    let stopped = fired(stop, STOP_LOSS);
+    let trailed = fired(trail, TRAILING_STOP);
+    let taken = fired(take, TAKE_PROFIT);
+    or_else(stopped, or_else(trailed, taken))
 }
 
 // A long's stops stand under, its target over.
@@ -98,9 +114,9 @@ fn long_exit(candle: Candle, risk: Risk, entry: f64, extreme: f64) -> Trigger
     let stop_loss_pct = risk.stop_loss_pct;
     let trailing_stop_pct = risk.trailing_stop_pct;
     let take_profit_pct = risk.take_profit_pct;
-    let stop = under(candle, entry, stop_loss_pct);
-    let trail = under(candle, extreme, trailing_stop_pct);
-    let take = over(candle, entry, take_profit_pct);
+    let stop = fill_under(candle, entry, stop_loss_pct);
+    let trail = fill_under(candle, extreme, trailing_stop_pct);
+    let take = fill_over(candle, entry, take_profit_pct);
     first_of(stop, trail, take)
 }
 
@@ -111,9 +127,9 @@ fn short_exit(candle: Candle, risk: Risk, entry: f64, extreme: f64) -> Trigger
     let stop_loss_pct = risk.stop_loss_pct;
     let trailing_stop_pct = risk.trailing_stop_pct;
     let take_profit_pct = risk.take_profit_pct;
-    let stop = over(candle, entry, stop_loss_pct);
-    let trail = over(candle, extreme, trailing_stop_pct);
-    let take = under(candle, entry, take_profit_pct);
+    let stop = fill_over(candle, entry, stop_loss_pct);
+    let trail = fill_over(candle, extreme, trailing_stop_pct);
+    let take = fill_under(candle, entry, take_profit_pct);
     first_of(stop, trail, take)
 }
 

@@ -44,7 +44,7 @@ fn term_of(term: Term, r: f64) -> f64
 {
     match term {
         Term::Itself => r,
-        Term::Squared(mean) => (r - mean) * (r - mean),
+        Term::Squared(mean) => floats::sums::square(r - mean),
     }
 }
 
@@ -97,7 +97,7 @@ pub fn realized_vol(rows: &[u64], slots: usize, lookback: u64) -> Optional
     if sum.count == 0 {
         return Optional::Absent;
     }
-    let n = std::num::nearest_u64_to_f64(sum.count);
+    let n = floats::sums::counted(sum.count);
     let mean = sum.total / n;
     let squares = tally_of(rows, slots, first, last, Term::Squared(mean));
     if_positive(floats::root::sqrt(squares.total / n))

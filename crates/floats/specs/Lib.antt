@@ -1,4 +1,5 @@
 pub mod Floats
+pub mod Sums
 pub mod Sqrt
-pub mod Examples
 pub mod Root
+pub mod Examples

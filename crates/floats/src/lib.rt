@@ -1,5 +1,7 @@
-// Floats: what the Rust calls as methods of f64, written out, and the words that hold floats. The square root is in root.rt.
+// Floats: what the Rust calls as methods of f64, written out, and the words that hold floats. The square root is in root.rt; counts,
+// squares and returns are in sums.rt.
 pub mod root;
+pub mod sums;
 
 ghost use mathlib.Core.Path.{_≡_};
 ghost use Rattle.floats.specs.Floats.{wordOf, floatOf, finite};

@@ -114,7 +114,7 @@ pub fn sqrt(x: f64) -> f64
     ensures { λ r. ⌜ r ≡ Sqrt.sqrt x ⌝ }
 {
     if x != x {
-        return x;
+        return 0.0 / 0.0;
     }
     if x < 0.0 {
         return 0.0 / 0.0;
@@ -123,7 +123,7 @@ pub fn sqrt(x: f64) -> f64
         return x;
     }
     if x == 1.0 / 0.0 {
-        return x;
+        return 1.0 / 0.0;
     }
     f64::from_bits(root_bits(f64::to_bits(x)))
 }

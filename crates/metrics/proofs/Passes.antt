@@ -7,7 +7,7 @@ use lib.Ieee.{Float}
 use Rattle.floats.specs.Floats as Floats
 use Rattle.floats.specs.Floats.{_⊕_, _⊘_}
 use Rattle.metrics.specs.declared.returns.Part.{Part}
-use Rattle.metrics.specs.Sums.{sumFrom, sum, counted}
+use Rattle.floats.specs.Sums.{sumFrom, sum, counted}
 use Rattle.metrics.specs.Returns.{barReturn, returnsFrom, barReturns, partOf, meanOf}
 use Rattle.metrics.proofs.Neighbours.{returns-first}
 use Rattle.metrics.proofs.Walks.{turn, done}

@@ -2,8 +2,7 @@
 use mathlib.Core.List.{List, [], _∷_}
 use mathlib.Core.Bool.{cond}
 use lib.Ieee.{Float}
-use Rattle.floats.specs.Floats.{_⊖_, _⊗_, _⊘_, _≺_, zero, hundred}
-use Rattle.metrics.specs.Sums.{minusInfinity}
+use Rattle.floats.specs.Floats.{_⊖_, _⊗_, _⊘_, _≺_, floatOf, zero, hundred}
 
 -- `if e > peak { peak = e; }`
 unfoldable pub peakAt : Float → Float → Float
@@ -20,6 +19,10 @@ deepestAt peak deepest e = cond (zero ≺ peak) (cond (deepest ≺ fallPct peak 
 unfoldable pub drawdownFrom : Float → Float → List Float → Float
 drawdownFrom peak deepest [] = deepest
 drawdownFrom peak deepest (e ∷ later) = drawdownFrom (peakAt peak e) (deepestAt (peakAt peak e) deepest e) later
+
+-- `f64::NEG_INFINITY`
+abbrev pub minusInfinity : Float
+minusInfinity = floatOf 0xfff0_0000_0000_0000
 
 -- The peak starts below every point, not at the capital.
 unfoldable pub maxDrawdownPct : List Float → Float

@@ -5,13 +5,15 @@ use Prim.Native.Nat.{ℕ}
 use lib.IntN.{ℤ, pos, negsuc}
 use lib.Ieee as Ieee
 use lib.Ieee.{Float, binary64}
+use Rattle.words.specs.Outcome.{refuses}
 use Rattle.floats.specs.Floats as Floats
+use Rattle.floats.specs.Sums.{sumFrom}
 use Rattle.metrics.specs.Records.{whole}
-use Rattle.metrics.specs.Sums.{sumFrom, infinity, gainOver}
+use Rattle.metrics.specs.Quotients.{infinity, gainOver}
 use Rattle.metrics.specs.Returns.{barReturn, returnsFrom, barReturns}
 use Rattle.metrics.specs.Drawdown.{peakAt, fallPct, deepestAt, drawdownFrom, maxDrawdownPct}
 use Rattle.metrics.specs.Trades.{sizesOn, winRate, gross, profitFactor}
-use Rattle.metrics.specs.Figures.{refusal, computed}
+use Rattle.metrics.specs.Figures.{notWhole, computed}
 
 abbrev num : ℤ → Float
 num n = Ieee.ofInt binary64 n
@@ -47,7 +49,7 @@ no-trade = (refl, refl)
 
 -- A point and a half, and seven words of a trade: refused.
 pub not-whole : (initial : Float) (t e : ℕ)
-    → (computed initial (t ∷ e ∷ t ∷ []) [] ≡ refusal 13 0)
-    × (computed initial [] (t ∷ e ∷ t ∷ e ∷ t ∷ e ∷ t ∷ []) ≡ refusal 13 0)
+    → (computed initial (t ∷ e ∷ t ∷ []) [] ≡ refuses notWhole)
+    × (computed initial [] (t ∷ e ∷ t ∷ e ∷ t ∷ e ∷ t ∷ []) ≡ refuses notWhole)
 unfolding computed whole
 not-whole initial t e = (refl, refl)

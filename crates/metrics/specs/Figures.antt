@@ -4,12 +4,15 @@ use mathlib.Core.Bool.{cond}
 use Prim.Native.Nat.{ℕ}
 use lib.ListN.{length}
 use lib.Ieee.{Float}
-use Rattle.floats.specs.Floats.{_⊖_, _⊗_, _⊘_, _≺_, wordOf, abs, eps, zero, hundred}
+use Rattle.words.specs.declared.refusal.Refusal.{Refusal}
+use Rattle.words.specs.Outcome.{Outcome, gives, refuses}
+use Rattle.floats.specs.Floats.{_⊖_, wordOf}
+use Rattle.floats.specs.Sums.{returnPct}
 use Rattle.metrics.specs.declared.Metrics.{Metrics}
 use Rattle.metrics.specs.declared.Answer.{Answer}
 use Rattle.metrics.specs.declared.Answer.the-variants.{Done, Refused}
 use Rattle.metrics.specs.Records.{equityOf, pnlsOf, whole}
-use Rattle.metrics.specs.Sums.{gainOver}
+use Rattle.metrics.specs.Quotients.{gainOver}
 use Rattle.metrics.specs.Returns.{sharpeRatio, sortinoRatio}
 use Rattle.metrics.specs.Drawdown.{maxDrawdownPct}
 use Rattle.metrics.specs.Trades.{winRate, profitFactor}
@@ -19,15 +22,11 @@ unfoldable pub finalEquity : Float → List Float → Float
 finalEquity initial [] = initial
 finalEquity initial (e ∷ later) = finalEquity e later
 
--- `return_pct`
-unfoldable pub returnPct : Float → Float → Float
-returnPct initial pnl = cond (abs initial ≺ eps) zero (pnl ⊘ initial ⊗ hundred)
-
 -- `compute`, over the points' equity and the trades' pnl
 unfoldable pub metricsOf : Float → List Float → List Float → Metrics
 metricsOf initial equity pnls =
     let pnl = finalEquity initial equity ⊖ initial in
-    let return = returnPct initial pnl in
+    let return = returnPct pnl initial in
     let drawdown = maxDrawdownPct equity in
     record {
       pnl = pnl;
@@ -41,18 +40,18 @@ metricsOf initial equity pnls =
       «num_trades» = length pnls;
     }
 
--- What a call says in the paper's terms: the figures, or a refusal's number and place.
-pub data Said : Type 0 where
-  figures : Metrics → Said
-  refusal : ℕ → ℕ → Said
-
-unfoldable pub said : Answer → Said
-said (Done m) = figures m
-said (Refused number place) = refusal number place
+-- What an answer says in the paper's terms: the figures, or a refusal.
+unfoldable pub outcome : Answer → Outcome Metrics
+outcome (Done m) = gives m
+outcome (Refused refusal) = refuses refusal
 
 -- "13 | .. a row, bar or trade list is not whole records .. | 0"
-unfoldable pub computed : Float → List ℕ → List ℕ → Said
-computed initial equity trades = cond (whole equity trades) (figures (metricsOf initial (equityOf equity) (pnlsOf trades))) (refusal 13 0)
+abbrev pub notWhole : Refusal
+notWhole = record { number = 13; place = 0 }
+
+unfoldable pub computed : Float → List ℕ → List ℕ → Outcome Metrics
+computed initial equity trades =
+    cond (whole equity trades) (gives (metricsOf initial (equityOf equity) (pnlsOf trades))) (refuses notWhole)
 
 -- The nine figures as words, in the Rust record's order.
 unfoldable pub wordsOf : Metrics → List ℕ

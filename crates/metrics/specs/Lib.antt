@@ -1,9 +1,9 @@
 pub mod Records
-pub mod Sums
+pub mod Quotients
 pub mod Returns
 pub mod Drawdown
 pub mod Trades
 pub mod Figures
-pub mod Columns
+pub mod Laws
 pub mod Only
 pub mod Examples

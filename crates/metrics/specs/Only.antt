@@ -1,12 +1,12 @@
--- What a call says determines its answer: no second answer meets the promise of `compute`.
+-- What an answer says determines it: no second answer meets the promise of `compute`.
 use mathlib.Core.Path.{_≡_}
 use Rattle.metrics.specs.declared.Answer.{Answer}
 use Rattle.metrics.specs.declared.Answer.the-variants.{Done, Refused}
-use Rattle.metrics.specs.Figures.{said}
+use Rattle.metrics.specs.Figures.{outcome}
 
-pub said-only : (a b : Answer) → said a ≡ said b → a ≡ b
-unfolding said
-said-only (Done m) (Done n) h = cc
-said-only (Done m) (Refused n p) h = cc
-said-only (Refused n p) (Done m) h = cc
-said-only (Refused n p) (Refused m q) h = cc
+pub outcome-only : (a b : Answer) → outcome a ≡ outcome b → a ≡ b
+unfolding outcome
+outcome-only (Done m) (Done n) h = cc
+outcome-only (Done m) (Refused q) h = cc
+outcome-only (Refused r) (Done m) h = cc
+outcome-only (Refused r) (Refused q) h = cc

@@ -5,15 +5,16 @@ use Prim.Native.Nat.{ℕ, zero, suc, _/_, _%_}
 use lib.Dec.{eqb}
 use lib.ListN.{length, getD, drop}
 use lib.Ieee.{Float}
+use Rattle.words.specs.Limits.{pointWords, tradeWords}
 use Rattle.floats.specs.Floats.{floatOf}
 
--- An equity point is two words: time, equity.
-abbrev pub pointWords : ℕ
-pointWords = 2
+-- where a point has its equity: its words are time, equity
+abbrev pub equityWord : ℕ
+equityWord = 1
 
--- "A trade takes eight 64-bit words in the Rust record's order": entry time, exit time, entry price, exit price, quantity, pnl, return, reason.
-abbrev pub tradeWords : ℕ
-tradeWords = 8
+-- where a trade has its pnl, "in the Rust record's order": entry time, exit time, entry price, exit price, quantity, pnl, return, reason
+abbrev pub pnlWord : ℕ
+pnlWord = 5
 
 -- word j of each of the first n records of w words
 unfoldable pub column : ℕ → ℕ → ℕ → List ℕ → List Float
@@ -23,12 +24,12 @@ column (suc n) w j words = floatOf (getD words j 0) ∷ column n w j (drop w wor
 -- the equity of each point
 unfoldable pub equityOf : List ℕ → List Float
 unfolding column
-equityOf words = column (length words / pointWords) pointWords 1 words
+equityOf words = column (length words / pointWords) pointWords equityWord words
 
 -- the pnl of each trade
 unfoldable pub pnlsOf : List ℕ → List Float
 unfolding column
-pnlsOf words = column (length words / tradeWords) tradeWords 5 words
+pnlsOf words = column (length words / tradeWords) tradeWords pnlWord words
 
 -- Both lists are whole records.
 unfoldable pub whole : List ℕ → List ℕ → Bool

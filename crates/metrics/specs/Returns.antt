@@ -5,10 +5,11 @@ use lib.Dec.{ltb}
 use lib.ListN.{length}
 use lib.Ieee.{Float}
 use Rattle.floats.specs.Floats.{_⊖_, _⊘_, _≺_, abs, min, eps, zero, one}
+use Rattle.floats.specs.Sums.{sum, counted, square}
 use Rattle.floats.specs.Sqrt.{sqrt}
 use Rattle.metrics.specs.declared.returns.Part.{Part}
 use Rattle.metrics.specs.declared.returns.Part.the-variants.{Itself, Away, Below}
-use Rattle.metrics.specs.Sums.{sum, counted, square, meanOver}
+use Rattle.metrics.specs.Quotients.{meanOver}
 
 -- `bar_returns`: of each two neighbours, 0 where the first is next to nothing
 unfoldable pub barReturn : Float → Float → Float

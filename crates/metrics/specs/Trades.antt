@@ -6,9 +6,10 @@ use lib.ListN.{length}
 use lib.Ieee as Ieee
 use lib.Ieee.{Float}
 use Rattle.floats.specs.Floats.{_⊗_, _⊘_, _≺_, zero, hundred}
+use Rattle.floats.specs.Sums.{sum, counted}
 use Rattle.metrics.specs.declared.trades.Side.{Side}
 use Rattle.metrics.specs.declared.trades.Side.the-variants.{Wins, Losses}
-use Rattle.metrics.specs.Sums.{sum, counted, gainOver}
+use Rattle.metrics.specs.Quotients.{gainOver}
 
 -- `filter(|t| t.pnl > 0.0)`, and `filter(|t| t.pnl < 0.0)`
 abbrev pub isOn : Side → Float → Bool

@@ -1,8 +1,9 @@
 // The deepest fall of the equity from a peak before it.
 use super::records;
 ghost use mathlib.Core.Path.{_≡_};
+ghost use Rattle.floats.specs.Floats.{zero};
 ghost use Rattle.metrics.specs.Records.{equityOf};
-ghost use Rattle.metrics.specs.Drawdown.{peakAt, deepestAt, maxDrawdownPct};
+ghost use Rattle.metrics.specs.Drawdown.{peakAt, deepestAt, drawdownFrom, maxDrawdownPct};
 
 // The peak once an equity is seen.
 fn peak_at(peak: f64, e: f64) -> f64
@@ -28,8 +29,15 @@ fn deepest_at(peak: f64, deepest: f64, e: f64) -> f64
 pub fn max_drawdown_pct(equity: &[u64]) -> f64
     ensures { λ r. ⌜ r ≡ maxDrawdownPct (equityOf (now (equity .entry))) ⌝ }
 {
+    drawdown_from(floats::float_of(0xfff0_0000_0000_0000), equity)
+}
+
+// The deepest fall from a peak that starts at `start`.
+pub(crate) fn drawdown_from(start: f64, equity: &[u64]) -> f64
+    ensures { λ r. ⌜ r ≡ drawdownFrom start zero (equityOf (now (equity .entry))) ⌝ }
+{
     let n = records::point_count(equity);
-    let mut peak = floats::float_of(0xfff0_0000_0000_0000);
+    let mut peak = start;
     let mut deepest = 0.0;
     let mut i = 0;
     while i < n {

@@ -5,9 +5,14 @@ pub mod records;
 pub mod returns;
 pub mod trades;
 
+use words::limits::METRIC_WORDS;
+use words::limits::POINT_WORDS;
+use words::limits::TRADE_WORDS;
+use words::refusal::Refusal;
 ghost use mathlib.Core.Path.{_≡_};
 ghost use Rattle.metrics.specs.Records.{equityOf, pnlsOf};
-ghost use Rattle.metrics.specs.Figures.{finalEquity, returnPct, metricsOf, said, computed, wordsOf};
+ghost use Rattle.metrics.specs.declared.Answer.the-variants.{Refused};
+ghost use Rattle.metrics.specs.Figures.{finalEquity, metricsOf, notWhole, outcome, computed, wordsOf};
 
 // Summary performance metrics.
 pub struct Metrics {
@@ -31,10 +36,20 @@ pub struct Metrics {
     pub num_trades: u64,
 }
 
-// The figures, or a refusal's number and place.
+// The figures, or a refusal.
 pub enum Answer {
     Done(Metrics),
-    Refused(u64, u64),
+    Refused(Refusal),
+}
+
+// 13 at 0: a list is not whole records.
+fn not_whole() -> Answer
+    ensures { λ r. ⌜ r ≡ Refused notWhole ⌝ }
+{
+    Answer::Refused(Refusal {
+        number: 13,
+        place: 0,
+    })
 }
 
 // The last point's equity, or the capital where there is no point.
@@ -48,22 +63,12 @@ fn final_equity(initial: f64, equity: &[u64]) -> f64
     records::equity_at(equity, n - 1)
 }
 
-// What the pnl is of the capital, in percent.
-fn return_pct(initial: f64, pnl: f64) -> f64
-    ensures { λ r. ⌜ r ≡ returnPct initial pnl ⌝ }
-{
-    if floats::abs(initial) < floats::EPS {
-        return 0.0;
-    }
-    pnl / initial * 100.0
-}
-
 // The figures of the whole records of two lists; what is left over at the end of a list is not read.
 pub fn metrics_of(initial: f64, equity: &[u64], trades: &[u64]) -> Metrics
     ensures { λ r. ⌜ r ≡ metricsOf initial (equityOf (now (equity .entry))) (pnlsOf (now (trades .entry))) ⌝ }
 {
     let pnl = final_equity(initial, equity) - initial;
-    let return_pct = return_pct(initial, pnl);
+    let return_pct = floats::sums::return_pct(pnl, initial);
     let max_drawdown = drawdown::max_drawdown_pct(equity);
     let ratios = returns::ratios_of(equity);
     Metrics {
@@ -81,21 +86,19 @@ pub fn metrics_of(initial: f64, equity: &[u64], trades: &[u64]) -> Metrics
 
 // The figures of two lists of whole records; refusal 13 where one is not.
 pub fn compute(initial: f64, equity: &[u64], trades: &[u64]) -> Answer
-    ensures { λ r. ⌜ said r ≡ computed initial (now (equity .entry)) (now (trades .entry)) ⌝ }
+    ensures { λ r. ⌜ outcome r ≡ computed initial (now (equity .entry)) (now (trades .entry)) ⌝ }
 {
-    if equity.len() % records::POINT_WORDS != 0 {
-        return Answer::Refused(13, 0);
+    if equity.len() % POINT_WORDS != 0 {
+        return not_whole();
     }
-    if trades.len() % records::TRADE_WORDS != 0 {
-        return Answer::Refused(13, 0);
+    if trades.len() % TRADE_WORDS != 0 {
+        return not_whole();
     }
     Answer::Done(metrics_of(initial, equity, trades))
 }
 
-// The nine figures as words, in the Rust record's order.
-pub type Words = [u64; 9];
-
-pub fn words_of(m: Metrics) -> Words
+// The figures as words, in the Rust record's order.
+pub fn words_of(m: Metrics) -> [u64; METRIC_WORDS]
     ensures { λ r. ⌜ r ≡ wordsOf m ⌝ }
 {
     [

@@ -1,17 +1,10 @@
-// Counts and quotients as metrics.rs forms them.
+// Quotients as metrics.rs forms them.
 ghost use mathlib.Core.Path.{_≡_};
-ghost use Rattle.metrics.specs.Sums as Sums;
-
-// The float nearest to a count.
-pub fn counted(n: usize) -> f64
-    ensures { λ r. ⌜ r ≡ Sums.counted n ⌝ }
-{
-    std::num::nearest_u64_to_f64(n as u64)
-}
+ghost use Rattle.metrics.specs.Quotients as Quotients;
 
 // A mean over a deviation, and 0 where there is none.
 pub fn mean_over(mean: f64, deviation: f64) -> f64
-    ensures { λ r. ⌜ r ≡ Sums.meanOver mean deviation ⌝ }
+    ensures { λ r. ⌜ r ≡ Quotients.meanOver mean deviation ⌝ }
 {
     if floats::abs(deviation) < floats::EPS {
         return 0.0;
@@ -21,7 +14,7 @@ pub fn mean_over(mean: f64, deviation: f64) -> f64
 
 // A gain over a loss; where there is none, a gain is infinite and anything else is 0.
 pub fn gain_over(gain: f64, loss: f64) -> f64
-    ensures { λ r. ⌜ r ≡ Sums.gainOver gain loss ⌝ }
+    ensures { λ r. ⌜ r ≡ Quotients.gainOver gain loss ⌝ }
 {
     if floats::abs(loss) < floats::EPS {
         if 0.0 < gain {

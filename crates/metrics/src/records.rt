@@ -1,20 +1,18 @@
 // Lists of records in lent words, and the floats that the figures read of them.
+use words::limits::POINT_WORDS;
+use words::limits::TRADE_WORDS;
 ghost use mathlib.Core.Path.{_≡_};
 ghost use Prim.Native.Nat.{_/_, _<_};
 ghost use lib.ListN.{length, getD};
 ghost use Rattle.floats.specs.Floats.{zero};
 ghost use Rattle.metrics.specs.Records.{column, equityOf, pnlsOf};
 
-// An equity point: time, equity.
-pub const POINT_WORDS: usize = 2;
+// Where an equity point has its equity: time, equity.
+const EQUITY: usize = 1;
 
-pub const EQUITY: usize = 1;
-
-// A trade, in the Rust record's order: entry time, exit time, entry price, exit price, quantity, pnl,
+// Where a trade has its pnl, in the Rust record's order: entry time, exit time, entry price, exit price, quantity, pnl,
 // return, reason.
-pub const TRADE_WORDS: usize = 8;
-
-pub const PNL: usize = 5;
+const PNL: usize = 5;
 
 // Word `at` of record i, of those of `width` words that the list has whole, as a float; 0 past the last.
 fn float_at(words: &[u64], width: usize, at: usize, i: usize) -> f64

@@ -4,16 +4,8 @@ use super::records;
 ghost use mathlib.Core.Path.{_≡_};
 ghost use lib.ListN.{length};
 ghost use Rattle.metrics.specs.Records.{equityOf};
-ghost use Rattle.metrics.specs.Sums as Sums;
 ghost use Rattle.metrics.specs.declared.returns.Part.the-variants.{Itself, Away, Below};
 ghost use Rattle.metrics.specs.Returns.{barReturn, barReturns, partOf, meanOf, sharpeRatio, sortinoRatio};
-
-// x times itself, in one product.
-fn square(x: f64) -> f64
-    ensures { λ r. ⌜ r ≡ Sums.square x ⌝ }
-{
-    x * x
-}
 
 // The return from one equity to the next.
 pub fn bar_return(before: f64, now: f64) -> f64
@@ -52,8 +44,8 @@ pub fn part_of(part: Part, r: f64) -> f64
 {
     match part {
         Part::Itself => r,
-        Part::Away(mean) => square(r - mean),
-        Part::Below => square(floats::min(r, 0.0)),
+        Part::Away(mean) => floats::sums::square(r - mean),
+        Part::Below => floats::sums::square(floats::min(r, 0.0)),
     }
 }
 
@@ -81,7 +73,7 @@ fn means_of(equity: &[u64]) -> Means
         before = now;
         i = i + 1;
     }
-    let n = quotient::counted(return_count(equity));
+    let n = floats::sums::counted(return_count(equity) as u64);
     Means {
         itself: itself / n,
         below: below / n,
@@ -102,7 +94,7 @@ fn var_of(equity: &[u64], mean: f64) -> f64
         before = now;
         i = i + 1;
     }
-    total / quotient::counted(return_count(equity))
+    total / floats::sums::counted(return_count(equity) as u64)
 }
 
 // The mean return over two deviations of the returns.

@@ -58,7 +58,7 @@ pub fn win_rate(trades: &[u64]) -> f64
         return 0.0;
     }
     let wins = count_on(trades, Side::Wins);
-    quotient::counted(wins) / quotient::counted(n) * 100.0
+    floats::sums::counted(wins as u64) / floats::sums::counted(n as u64) * 100.0
 }
 
 // What the trades of a side add up to: gross profit, or gross loss.

@@ -1,12 +1,12 @@
--- The one-position portfolio, each definition under the name of the Rust's function.
+-- The one-position portfolio, each definition under the name of the Rust's function. Definitions only.
 use mathlib.Core.Bool.{Bool}
 use Prim.Native.Nat.{ℕ}
 use lib.Ieee.{Float}
 use Rattle.floats.specs.Floats.{_⊕_, _⊖_, _⊗_, _≺_, abs, eps, zero}
+use Rattle.floats.specs.Sums.{returnPct}
 use Rattle.portfolio.specs.declared.Portfolio.{Portfolio}
 use Rattle.portfolio.specs.declared.Trade.{Trade}
 use Rattle.portfolio.specs.declared.Closed.{Closed}
-use Rattle.portfolio.specs.Trade.{returnPct}
 
 -- `new`
 unfoldable pub fresh : Float → Portfolio

@@ -2,7 +2,7 @@
 // A portfolio goes in and comes out by value, and a closed trade is handed to the caller, who keeps it.
 ghost use mathlib.Core.Path.{_≡_};
 ghost use Rattle.portfolio.specs.Portfolio.{fresh, inPosition, isLong, equity, funded, entered, exited};
-ghost use Rattle.portfolio.specs.Trade.{returnPct, tradeWords};
+ghost use Rattle.portfolio.specs.Trade.{wordsOfTrade};
 
 // One bar's prices and volume.
 pub struct Candle {
@@ -120,7 +120,7 @@ impl Portfolio {
     {
         let notional = floats::abs(self.qty) * self.entry_price;
         let pnl = self.qty * (price - self.entry_price) - self.entry_fee - fee;
-        let return_pct = return_pct(pnl, notional);
+        let return_pct = floats::sums::return_pct(pnl, notional);
         Closed {
             portfolio: Portfolio {
                 cash: self.cash + (self.qty * price - fee),
@@ -144,21 +144,10 @@ impl Portfolio {
     }
 }
 
-// The return on the entry's notional, in percent: 0 where that is next to nothing.
-fn return_pct(pnl: f64, notional: f64) -> f64
-    ensures { λ r. ⌜ r ≡ returnPct pnl notional ⌝ }
-{
-    if floats::abs(notional) < floats::EPS {
-        0.0
-    } else {
-        pnl / notional * 100.0
-    }
-}
-
 impl Trade {
-    // The trade as its eight words, in the Rust record's order.
-    pub fn words(self) -> [u64; 8]
-        ensures { λ r. ⌜ r ≡ tradeWords self ⌝ }
+    // The trade as its words, in the Rust record's order.
+    pub fn words(self) -> [u64; words::limits::TRADE_WORDS]
+        ensures { λ r. ⌜ r ≡ wordsOfTrade self ⌝ }
     {
         [
             self.entry_time,

@@ -9,7 +9,7 @@ use lib.Seq.{drop-append-add, drop-drop, length-take-le, take-at}
 use borrow.Author.Tests.{lt-ltb, le-ltb, ne-eqb}
 use Rattle.words.specs.Words.{overwrite, shifted}
 use Rattle.words.specs.Laws.Overwrite.{overwrite-fits, shifted-fits}
-use Rattle.rows.specs.Room.{places, withRow, heldWith}
+use Rattle.rows.specs.Room.{placesFor, withRow, heldWith}
 use Rattle.rows.proofs.Places.{rows-fit}
 
 -- how many words stand from w up to n
@@ -25,7 +25,8 @@ last d r n h k =
     let s : List ℕ = drop w (take n d) in
     let e : length s ≡ n - w = rest-length d w n k in
     let f : drop (n - w + w) (s ++ drop (n - w) d) ≡ drop n d =
-    ap (λ (m : ℕ). drop (m + w) (s ++ drop (n - w) d)) (sym e) ∙ drop-append-add s (drop (n - w) d) w ∙ drop-drop w (n - w) d ∙ ap (λ (m : ℕ). drop m d) {x = n - w + w} {y = n} (omega arith) in
+    ap (λ (m : ℕ). drop (m + w) (s ++ drop (n - w) d)) (sym e) ∙ drop-append-add s (drop (n - w) d) w ∙ drop-drop w (n - w) d
+    ∙ ap (λ (m : ℕ). drop m d) {x = n - w + w} {y = n} (omega arith) in
     ap (λ (l : List ℕ). l ++ r ++ drop (n - w + w) (s ++ drop (n - w) d)) (take-at s (drop (n - w) d) (n - w) e)
     ∙ ap (λ (l : List ℕ). s ++ r ++ l) f
 
@@ -36,16 +37,16 @@ moved-and-put d m p r n h k e f =
 
 module _ (room : List ℕ) (held : ℕ) (row : List ℕ) where
   -- there is a place, and the row ends by the room's end
-  pub place-fits : 0 < length row → held < places room row → held * length row + length row ≤ length room
+  pub place-fits : 0 < length row → held < placesFor room row → held * length row + length row ≤ length room
   place-fits s h = let l : (held + 1) * length row ≤ length room = rows-fit (length room) (length row) s (held + 1) (omega arith) in omega arith
 
-  pub added : 0 < length row → held < places room row → (p : List ℕ) → p ≡ overwrite room (held * length row) row
+  pub added : 0 < length row → held < placesFor room row → (p : List ℕ) → p ≡ overwrite room (held * length row) row
       → (held + 1 ≡ heldWith room held row) × (p ≡ withRow room held row)
   unfolding withRow heldWith
   added s h p e = simp (lt-ltb _ _ h) (refl, e ∙ overwrite-fits room (held * length row) row (place-fits s h))
 
   -- no place at all
-  pub roomless : places room row ≡ 0 → (0 ≡ heldWith room held row) × (room ≡ withRow room held row)
+  pub roomless : placesFor room row ≡ 0 → (0 ≡ heldWith room held row) × (room ≡ withRow room held row)
   unfolding withRow heldWith
   roomless h = simp (h, le-ltb held 0 (omega arith)) (refl, refl)
 
@@ -53,19 +54,19 @@ module _ (room : List ℕ) (held : ℕ) (row : List ℕ) where
   widthless h = roomless (rw (h, div-zero))
 
   -- the places end by the room's end, and are at least one row
-  pub places-fit : 0 < length row → places room row * length row ≤ length room
-  places-fit s = rows-fit (length room) (length row) s (places room row) (omega arith)
+  pub places-fit : 0 < length row → placesFor room row * length row ≤ length room
+  places-fit s = rows-fit (length room) (length row) s (placesFor room row) (omega arith)
 
-  pub places-hold : (places room row ≡ 0 → ⊥) → length row ≤ places room row * length row
-  places-hold h = let l : 1 * length row ≤ places room row * length row = mul-le-mul-right (length row) (omega arith) in omega arith
+  pub places-hold : (placesFor room row ≡ 0 → ⊥) → length row ≤ placesFor room row * length row
+  places-hold h = let l : 1 * length row ≤ placesFor room row * length row = mul-le-mul-right (length row) (omega arith) in omega arith
 
-  pub moved-up : 0 < length row → places room row ≤ held → (places room row ≡ 0 → ⊥) → (m p : List ℕ)
-      → length m ≡ length room → m ≡ shifted room (length row) (places room row * length row)
-      → p ≡ overwrite m (places room row * length row - length row) row
-      → (places room row ≡ heldWith room held row) × (p ≡ withRow room held row)
+  pub moved-up : 0 < length row → placesFor room row ≤ held → (placesFor room row ≡ 0 → ⊥) → (m p : List ℕ)
+      → length m ≡ length room → m ≡ shifted room (length row) (placesFor room row * length row)
+      → p ≡ overwrite m (placesFor room row * length row - length row) row
+      → (placesFor room row ≡ heldWith room held row) × (p ≡ withRow room held row)
   unfolding withRow heldWith
   moved-up s h n m p l e f =
-      let end = places room row * length row in
+      let end = placesFor room row * length row in
       let hold = places-hold n in
       let fit = places-fit s in
       let last : end - length row + length row ≤ length m = omega arith in

@@ -6,17 +6,17 @@ use lib.ListN.{length, take, drop}
 use lib.Dec.{ltb, eqb}
 
 -- how many rows of `row`'s width the room has a place for
-abbrev pub places : List ℕ → List ℕ → ℕ
-places room row = length room / length row
+abbrev pub placesFor : List ℕ → List ℕ → ℕ
+placesFor room row = length room / length row
 
 -- "A row is added at the end while there is a place, then the oldest goes and the rest move up." The room's end that is
 -- no whole place stays as it was; where there is no place at all, so does the room.
 unfoldable pub withRow : List ℕ → ℕ → List ℕ → List ℕ
 withRow room held row =
-    cond (ltb held (places room row)) (take (held * length row) room ++ row ++ drop (held * length row + length row) room)
-    (cond (eqb (places room row) 0) room
-    (drop (length row) (take (places room row * length row) room) ++ row ++ drop (places room row * length row) room))
+    cond (ltb held (placesFor room row)) (take (held * length row) room ++ row ++ drop (held * length row + length row) room)
+    (cond (eqb (placesFor room row) 0) room
+    (drop (length row) (take (placesFor room row * length row) room) ++ row ++ drop (placesFor room row * length row) room))
 
 -- how many rows the room holds then
 unfoldable pub heldWith : List ℕ → ℕ → List ℕ → ℕ
-heldWith room held row = cond (ltb held (places room row)) (held + 1) (places room row)
+heldWith room held row = cond (ltb held (placesFor room row)) (held + 1) (placesFor room row)

@@ -46,7 +46,8 @@ word-most m e h = mul-le-mul {n₂ = 2 ^ 53 - 1} {m₂ = 2048} (pred m h) (most 
 
 -- so M has the size that its root asks
 pub word-sized : (m e : ℕ) → 2 ^ 52 ≤ m → m < 2 ^ 53 → Sized (word m e * 2 ^ 42)
-word-sized m e h k = record { least = from-below (word m e) (mul-le-mul {n₁ = 2 ^ 52} {m₁ = 1024} h (least (e % 2))); most = from-above (word m e) (word-most m e k) }
+word-sized m e h k =
+    record { least = from-below (word m e) (mul-le-mul {n₁ = 2 ^ 52} {m₁ = 1024} h (least (e % 2))); most = from-above (word m e) (word-most m e k) }
   where
     least : (x : ℕ) → 1024 ≤ 1024 + 1024 * x
     least x = omega arith
@@ -103,10 +104,12 @@ pattern-root b m e s h n k =
     let l : p < 0x7ff0_0000_0000_0000 = fine e s (n .scale) (k .s-most) in
     let x = ofBits binary64 b in
     let r = ofBits binary64 p in
-    let v : HasValue r false (s * 2 ^ (e / 2 + 485)) (2 ^ 1074) = subst (λ (z : ℕ). HasValue r false z (2 ^ 1074)) (put-together (e / 2 + 485) s (k .s-least) (k .s-most)) (bits-value p l) in
+    let v : HasValue r false (s * 2 ^ (e / 2 + 485)) (2 ^ 1074) =
+    subst (λ (z : ℕ). HasValue r false z (2 ^ 1074)) (put-together (e / 2 + 485) s (k .s-least) (k .s-most)) (bits-value p l) in
     let w = word m e in (
       is-sqrt x r (ofBits-fits binary64 b) (ofBits-fits binary64 p)
-          (root-is-sqrt x r (root-at x r (unitsOf b) (e / 2) (w * 2 ^ 42) s (bits-value b h) v (moves (unitsOf b) m e (n .made)) (word-sized m e (n .least) (n .most)) k)),
+          (root-is-sqrt x r (root-at x r (unitsOf b) (e / 2) (w * 2 ^ 42) s (bits-value b h) v (moves (unitsOf b) m e (n .made))
+          (word-sized m e (n .least) (n .most)) k)),
       l,
     )
   where

@@ -50,7 +50,12 @@ less-one (suc s) h = ap (λ (z : ℕ). z * z + 4 * suc s) (pred s) ∙ out s
 pub nearer-down : {M s r : ℕ} → WholeRoot M s r → Sized M → r ≤ s → Near M s
 nearer-down {M} {s} {r} w z l =
     let some : 0 < s = le-trans (pow-pos 52) (root-least w z) in
-    record { s-least = root-least w z; s-most = root-most w z; above = left s r M (2 * s - 1) (w .made) (less-one s some) some; below = right s r M (w .made) l }
+    record {
+      s-least = root-least w z;
+      s-most = root-most w z;
+      above = left s r M (2 * s - 1) (w .made) (less-one s some) some;
+      below = right s r M (w .made) l;
+    }
   where
     left : (x y n d : ℕ) → x * x + y ≡ n → d * d + 4 * x ≡ 4 * (x * x) + 1 → 0 < x → d * d < 4 * n
     left x y n d f g h = omega arith

@@ -47,7 +47,8 @@ pub root-at : (x r : Float) (n h M s : ℕ) → HasValue x false n (2 ^ 1074) �
     → Sized M → Near M s → Root x r
 root-at x r n h M s v w e z near =
     let t = minus h 589 in
-    let scale : up t * 2 ^ 589 ≡ 2 ^ h * down t = ap (λ (z : ℕ). z * 2 ^ 589) (sym (one-mul (up t))) ∙ minus-val 1 h 589 ∙ ap (λ (z : ℕ). z * down t) (one-mul (2 ^ h)) in
+    let scale : up t * 2 ^ 589 ≡ 2 ^ h * down t =
+    ap (λ (z : ℕ). z * 2 ^ 589) (sym (one-mul (up t))) ∙ minus-val 1 h 589 ∙ ap (λ (z : ℕ). z * down t) (one-mul (2 ^ h)) in
     record {
       s = s;
       t = t;

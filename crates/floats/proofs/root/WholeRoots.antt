@@ -34,7 +34,9 @@ whole-root (suc k) n h =
     digit : (s x : ℕ) → s * s ≤ x / 4 → x / 4 < (s + 1) * (s + 1)
         → (cond (leb ((2 * s + 1) * (2 * s + 1)) x) (2 * s + 1) (2 * s) * cond (leb ((2 * s + 1) * (2 * s + 1)) x) (2 * s + 1) (2 * s) ≤ x)
         × (x < (cond (leb ((2 * s + 1) * (2 * s + 1)) x) (2 * s + 1) (2 * s) + 1) * (cond (leb ((2 * s + 1) * (2 * s + 1)) x) (2 * s + 1) (2 * s) + 1))
-    digit s x f g = pick (leb ((2 * s + 1) * (2 * s + 1)) x) (2 * s) x (leb→le ((2 * s + 1) * (2 * s + 1)) x) (nleb→lt ((2 * s + 1) * (2 * s + 1)) x) (low s x f) (high s x g)
+    digit s x f g =
+        pick (leb ((2 * s + 1) * (2 * s + 1)) x) (2 * s) x (leb→le ((2 * s + 1) * (2 * s + 1)) x) (nleb→lt ((2 * s + 1) * (2 * s + 1)) x) (low s x f)
+        (high s x g)
 
 -- of the M of a root
 pub near-root : (M : ℕ) → Sized M → Near M (nearRoot M)

@@ -33,12 +33,14 @@ final-last d (e ∷ es) n l h = final-at d e es ∙ ap (λ (k : ℕ). getD (e �
     less x y g = omega arith
 
 returns : tie.Need-returns
-returns c = let es = equityOf (c .before .before .before .args .equity .now) in sym (final-none _ es (sym (c .before .point-count .ensures) ∙ c .if1 .taken))
+returns c =
+    let n = c .before in
+    sym (final-none _ (equityOf (n .before .before .args .equity .now)) (sym (n .point-count .ensures) ∙ c .if1 .taken))
 
 returns-2 : tie.Need-returns-2
 returns-2 c =
-    c .equity-at .ensures
-    ∙ sym (final-last _ (equityOf (c .before .before .before .before .args .equity .now)) _ (c .before .before .point-count .ensures) (c .before .if1 .left))
+    let n = c .before .before in
+    c .equity-at .ensures ∙ sym (final-last _ (equityOf (n .before .before .args .equity .now)) _ (n .point-count .ensures) (c .before .if1 .left))
 
 pub final-equity-spec : {M : Type 1} → statement M
 final-equity-spec =

@@ -6,7 +6,18 @@ use Rattle.execution.proofs.fills.execute_entry.Tie as tie
 
 returns : tie.Need-returns
 unfolding executeEntry
-returns c = simp (c .filled .ensures, c .before .size .ensures, c .before .before .slippage-rate .ensures, c .before .before .before .probe-qty .ensures, c .before .before .before .before .volatility-for .ensures, c .before .before .before .before .before .direction .ensures)
+returns c =
+    let slip = c .before .before in
+    let probe = slip .before in
+    let vol = probe .before in
+    simp (
+      c .filled .ensures,
+      c .before .size .ensures,
+      slip .slippage-rate .ensures,
+      probe .probe-qty .ensures,
+      vol .volatility-for .ensures,
+      vol .before .direction .ensures,
+    )
 
 pub execute-entry-spec : {M : Type 1} → statement M
 execute-entry-spec =

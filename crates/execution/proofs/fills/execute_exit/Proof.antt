@@ -7,13 +7,17 @@ use Rattle.execution.proofs.fills.execute_exit.Tie as tie
 
 returns : tie.Need-returns
 unfolding executeExit
-returns c = simp (sym (c .before .before .before .before .in-position .ensures) ∙ c .before .before .before .if1 .taken, c .close .ensures, c .before .slippage-rate .ensures, c .before .before .exit-direction .ensures)
-
-returns-2 : tie.Need-returns-2
-unfolding executeExit
-returns-2 c = simp (sym (c .before .in-position .ensures) ∙ c .if1 .left)
+returns c =
+    let side = c .before .before in
+    simp (
+      sym (side .before .before .in-position .ensures) ∙ side .before .if1 .taken,
+      c .close .ensures,
+      c .before .slippage-rate .ensures,
+      side .exit-direction .ensures,
+    )
 
 pub execute-exit-spec : {M : Type 1} → statement M
+unfolding executeExit
 execute-exit-spec =
     tie.close
     (tie.spec
@@ -22,4 +26,4 @@ execute-exit-spec =
     (λ c κs. search needs)
     (λ c κs. search needs)
     returns
-    returns-2)
+    (λ c. simp (sym (c .before .in-position .ensures) ∙ c .if1 .left)))

@@ -4,15 +4,14 @@ use borrow.Author.Needs.{needs}
 use Rattle.execution.proofs.fills.filled.Statement.{statement}
 use Rattle.execution.proofs.fills.filled.Tie as tie
 
-returns : tie.Need-returns
-unfolding filled
-returns c = simp (c .enum-told .given .1)
-
-returns-2 : tie.Need-returns-2
-unfolding filled
-returns-2 c = simp (c .booked .ensures, c .before .within-volume .ensures, c .before .before .before .sized .given .1)
-
 pub filled-spec : {M : Type 1} → statement M
+unfolding filled
 filled-spec =
     tie.close
-    (tie.spec (λ c. search needs) (λ c. search needs) (λ c κs. search needs) (λ c κs. search needs) returns returns-2)
+    (tie.spec
+    (λ c. search needs)
+    (λ c. search needs)
+    (λ c κs. search needs)
+    (λ c κs. search needs)
+    (λ c. simp (c .enum-told .given .1))
+    (λ c. simp (c .booked .ensures, c .before .within-volume .ensures, c .before .before .before .sized .given .1)))

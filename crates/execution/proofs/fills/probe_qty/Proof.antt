@@ -4,19 +4,8 @@ use borrow.Author.Needs.{needs}
 use Rattle.execution.proofs.fills.probe_qty.Statement.{statement}
 use Rattle.execution.proofs.fills.probe_qty.Tie as tie
 
-returns : tie.Need-returns
-unfolding probeQty
-returns c = simp (c .unwrap-or .ensures, c .before .size .ensures, c .before .before .enum-told .given .1)
-
-returns-2 : tie.Need-returns-2
-unfolding probeQty
-returns-2 c = simp (c .enum-told2 .given .1)
-
-returns-3 : tie.Need-returns-3
-unfolding probeQty
-returns-3 c = simp (c .enum-told3 .given .1)
-
 pub probe-qty-spec : {M : Type 1} → statement M
+unfolding probeQty
 probe-qty-spec =
     tie.close
     (tie.spec
@@ -25,6 +14,6 @@ probe-qty-spec =
     (λ c κs. search needs)
     (λ c. search needs)
     (λ c. search needs)
-    returns
-    returns-2
-    returns-3)
+    (λ c. simp (c .unwrap-or .ensures, c .before .size .ensures, c .before .before .enum-told .given .1))
+    (λ c. simp (c .enum-told2 .given .1))
+    (λ c. simp (c .enum-told3 .given .1)))

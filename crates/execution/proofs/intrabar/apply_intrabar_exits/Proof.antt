@@ -7,13 +7,19 @@ use Rattle.execution.proofs.intrabar.apply_intrabar_exits.Tie as tie
 
 returns : tie.Need-returns
 unfolding touched applyIntrabarExits
-returns c = simp (sym (c .before .before .before .before .before .before .in-position .ensures) ∙ c .before .before .before .before .before .if1 .taken, c .closed-by .ensures, c .before .or-liquidated .ensures, c .before .before .intrabar-exit .ensures, c .before .before .before .is-long .ensures)
-
-returns-2 : tie.Need-returns-2
-unfolding touched applyIntrabarExits
-returns-2 c = simp (sym (c .before .in-position .ensures) ∙ c .if1 .left)
+returns c =
+    let fired = c .before .before in
+    let in-position = fired .before .before .before in
+    simp (
+      sym (in-position .before .in-position .ensures) ∙ in-position .if1 .taken,
+      c .closed-by .ensures,
+      c .before .or-liquidated .ensures,
+      fired .intrabar-exit .ensures,
+      fired .before .is-long .ensures,
+    )
 
 pub apply-intrabar-exits-spec : {M : Type 1} → statement M
+unfolding touched applyIntrabarExits
 apply-intrabar-exits-spec =
     tie.close
     (tie.spec
@@ -23,4 +29,4 @@ apply-intrabar-exits-spec =
     (λ c κs. search needs)
     (λ c κs. search needs)
     returns
-    returns-2)
+    (λ c. simp (sym (c .before .in-position .ensures) ∙ c .if1 .left)))

@@ -5,15 +5,13 @@ use borrow.Author.Needs.{needs}
 use Rattle.execution.proofs.intrabar.extreme_with.Statement.{statement}
 use Rattle.execution.proofs.intrabar.extreme_with.Tie as tie
 
-returns : tie.Need-returns
-unfolding extremeWith
-returns c = simp (sym (c .before .before .before .in-position .ensures) ∙ c .before .before .if1 .taken, c .favourable .ensures, c .before .is-long .ensures)
-
-returns-2 : tie.Need-returns-2
-unfolding extremeWith
-returns-2 c = simp (sym (c .before .in-position .ensures) ∙ c .if1 .left)
-
 pub extreme-with-spec : {M : Type 1} → statement M
+unfolding extremeWith
 extreme-with-spec =
     tie.close
-    (tie.spec (λ c κs. search needs) (λ c κs. search needs) (λ c κs. search needs) returns returns-2)
+    (tie.spec
+    (λ c κs. search needs)
+    (λ c κs. search needs)
+    (λ c κs. search needs)
+    (λ c. let i = c .before .before in simp (sym (i .before .in-position .ensures) ∙ i .if1 .taken, c .favourable .ensures, c .before .is-long .ensures))
+    (λ c. simp (sym (c .before .in-position .ensures) ∙ c .if1 .left)))

@@ -4,19 +4,14 @@ use borrow.Author.Needs.{needs}
 use Rattle.execution.proofs.intrabar.or_liquidated.Statement.{statement}
 use Rattle.execution.proofs.intrabar.or_liquidated.Tie as tie
 
-returns : tie.Need-returns
-unfolding orLiquidated
-returns c = simp (c .liquidation .ensures, c .before .if1 .taken, c .before .before .enum-told .given .1)
-
-returns-2 : tie.Need-returns-2
-unfolding orLiquidated
-returns-2 c = simp (c .before .fired .given .1)
-
-returns-3 : tie.Need-returns-3
-unfolding orLiquidated
-returns-3 c = simp (c .if1 .left, c .before .enum-told .given .1)
-
 pub or-liquidated-spec : {M : Type 1} → statement M
+unfolding orLiquidated
 or-liquidated-spec =
     tie.close
-    (tie.spec (λ c. search needs) (λ c. search needs) (λ c κs. search needs) returns returns-2 returns-3)
+    (tie.spec
+    (λ c. search needs)
+    (λ c. search needs)
+    (λ c κs. search needs)
+    (λ c. simp (c .liquidation .ensures, c .before .if1 .taken, c .before .before .enum-told .given .1))
+    (λ c. simp (c .before .fired .given .1))
+    (λ c. simp (c .if1 .left, c .before .enum-told .given .1)))

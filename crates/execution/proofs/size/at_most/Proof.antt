@@ -4,14 +4,13 @@ use borrow.Author.Needs.{needs}
 use Rattle.execution.proofs.size.at_most.Statement.{statement}
 use Rattle.execution.proofs.size.at_most.Tie as tie
 
-returns : tie.Need-returns
-unfolding atMost
-returns c = simp (c .enum-told .given .1)
-
-returns-2 : tie.Need-returns-2
-unfolding atMost
-returns-2 c = simp (c .min .ensures, c .before .before .max-position-pct .given .1)
-
 pub at-most-spec : {M : Type 1} → statement M
+unfolding atMost
 at-most-spec =
-    tie.close (tie.spec (λ c. search needs) (λ c. search needs) (λ c κs. search needs) returns returns-2)
+    tie.close
+    (tie.spec
+    (λ c. search needs)
+    (λ c. search needs)
+    (λ c κs. search needs)
+    (λ c. simp (c .enum-told .given .1))
+    (λ c. simp (c .min .ensures, c .before .before .max-position-pct .given .1)))

@@ -3,8 +3,5 @@ use borrow.Author.Needs.{needs}
 use Rattle.execution.proofs.size.capped.Statement.{statement}
 use Rattle.execution.proofs.size.capped.Tie as tie
 
-returns : tie.Need-returns
-returns c = simp (c .min .ensures)
-
 pub capped-spec : {M : Type 1} → statement M
-capped-spec = tie.close (tie.spec (λ c κs. search needs) returns)
+capped-spec = tie.close (tie.spec (λ c κs. search needs) (λ c. cc))

@@ -15,15 +15,13 @@ ends K ws i l =
     let whole : (i + 1) * (7 + K) ≤ length ws = le-div-iff-mul-le {k = 7 + K} (omega arith) .0 (omega arith) in
     omega arith
 
-add-base : tie.Need-add-base
-add-base c = let a = c .before .args in omega (arith, ends (a .slots) (a .rows .now) (a .i) (c .before .pre))
-
-mul-base : tie.Need-mul-base
-mul-base c = let a = c .before .args in omega (arith, ends (a .slots) (a .rows .now) (a .i) (c .before .pre))
-
-returns : tie.Need-returns
-unfolding historyOf field
-returns c = simp (c .float-of .ensures, c .before .word-from .ensures)
-
 pub close-at-spec : {M : Type 1} → statement M
-close-at-spec = tie.close (tie.spec add-base mul-base (λ c κs. search needs) (λ c κs. search needs) returns)
+unfolding historyOf field
+close-at-spec =
+    tie.close
+    (tie.spec
+    (λ c. let a = c .before .args in omega (arith, ends (a .slots) (a .rows .now) (a .i) (c .before .pre)))
+    (λ c. let a = c .before .args in omega (arith, ends (a .slots) (a .rows .now) (a .i) (c .before .pre)))
+    (λ c κs. search needs)
+    (λ c κs. search needs)
+    (λ c. cc))

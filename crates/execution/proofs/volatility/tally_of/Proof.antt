@@ -1,5 +1,5 @@
 -- `tally_of`: at each row, what the pass has and what is left of it come to the whole. `before` is the row's close.
-use mathlib.Core.Path.{_≡_, sym, ap, _∙_}
+use mathlib.Core.Path.{_≡_}
 use Prim.Native.Nat.{_-_, _≤_}
 use native.Mathlib.Omega.{arith}
 use borrow.Author.Needs.{needs}
@@ -7,7 +7,7 @@ use Rattle.floats.specs.Floats as Floats
 use Rattle.rows.specs.History.{historyOf}
 use Rattle.execution.specs.Volatility.{closeAt}
 use Rattle.execution.specs.Tally.{tallyFrom}
-use Rattle.execution.proofs.Passes.{rest, added, passed, over}
+use Rattle.execution.proofs.Passes.{rest, added, passed, ended}
 use Rattle.execution.proofs.volatility.tally_of.Statement.{statement}
 use Rattle.execution.proofs.volatility.tally_of.Tie as tie
 
@@ -22,23 +22,25 @@ abbrev μ-loop : tie.MeasureT-loop
 
 loop-again : tie.Need-loop-again Inv-loop μ-loop
 loop-again c =
-    let inv = c .before .before .before .before .before .before .before .loop .inv in (
-      c .before .before .before .before .before .close-at2 .ensures,
-      added _ _ _ _ _ _ (c .before .before .before .before .before .before .loop-test .taken) (inv .0) (c .before .before .before .before .before .close-at2 .ensures) (c .before .before .before .before .simple-return .ensures) (inv .1) (c .before .before .change .given .1) (c .term-of .ensures),
+    let found = c .before .before .before .before in
+    let now = found .before in
+    let inv = now .before .before .loop .inv in (
+      now .close-at2 .ensures,
+      added _ _ _ _ _ _ (now .before .loop-test .taken) (inv .0) (now .close-at2 .ensures) (found .simple-return .ensures) (inv .1)
+          (c .before .before .change .given .1) (c .term-of .ensures),
       omega arith,
     )
 
 loop-again-2 : tie.Need-loop-again-2 Inv-loop μ-loop
 loop-again-2 c =
-    let inv = c .before .before .before .before .before .loop .inv in (
-      c .before .before .before .close-at2 .ensures,
-      passed _ _ _ _ _ _ (c .before .before .before .before .loop-test .taken) (inv .0) (c .before .before .before .close-at2 .ensures) (c .before .before .simple-return .ensures) (inv .1) (c .enum-told .given .1),
+    let found = c .before .before in
+    let now = found .before in
+    let inv = now .before .before .loop .inv in (
+      now .close-at2 .ensures,
+      passed _ _ _ _ _ _ (now .before .loop-test .taken) (inv .0) (now .close-at2 .ensures) (found .simple-return .ensures) (inv .1)
+          (c .enum-told .given .1),
       omega arith,
     )
-
-returns : tie.Need-returns Inv-loop μ-loop
-unfolding tallyFrom
-returns c = ap (tallyFrom (c .before .before .before .before .args .term) (c .before .loop .count) (c .before .loop .total)) (sym (over _ _ _ (c .loop-test .left))) ∙ c .before .loop .inv .1
 
 pub tally-of-spec : {M : Type 1} → statement M
 tally-of-spec =
@@ -59,4 +61,4 @@ tally-of-spec =
     loop-again
     (λ c. omega arith)
     loop-again-2
-    returns)
+    (λ c. ended _ _ _ _ _ _ (c .loop-test .left) (c .before .loop .inv .1)))

@@ -48,4 +48,15 @@ returns-2 c =
 
 pub digit-spec : {M : Type 1} → statement M
 digit-spec =
-    tie.close (tie.spec (λ c. search needs) (λ c. search needs) (λ c. search needs) (λ c. search needs) add-t9 mul-t10 add-t11 (λ c. search needs) returns returns-2)
+    tie.close
+    (tie.spec
+    (λ c. search needs)
+    (λ c. search needs)
+    (λ c. search needs)
+    (λ c. search needs)
+    add-t9
+    mul-t10
+    add-t11
+    (λ c. search needs)
+    returns
+    returns-2)

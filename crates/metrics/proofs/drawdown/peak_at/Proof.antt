@@ -3,13 +3,6 @@ use Rattle.metrics.specs.Drawdown.{peakAt}
 use Rattle.metrics.proofs.drawdown.peak_at.Statement.{statement}
 use Rattle.metrics.proofs.drawdown.peak_at.Tie as tie
 
-returns : tie.Need-returns
-unfolding peakAt
-returns c = simp (c .if1 .taken)
-
-returns-2 : tie.Need-returns-2
-unfolding peakAt
-returns-2 c = simp (c .if1 .left)
-
 pub peak-at-spec : {M : Type 1} → statement M
-peak-at-spec = tie.close (tie.spec returns returns-2)
+unfolding peakAt
+peak-at-spec = tie.close (tie.spec (λ c. simp (c .if1 .taken)) (λ c. simp (c .if1 .left)))

@@ -1,6 +1,6 @@
 -- The three ways of the definition.
 use mathlib.Core.Path.{_∙_}
-use Rattle.metrics.specs.Sums.{gainOver}
+use Rattle.metrics.specs.Quotients.{gainOver}
 use borrow.Author.Needs.{needs}
 use Rattle.metrics.proofs.quotient.gain_over.Statement.{statement}
 use Rattle.metrics.proofs.quotient.gain_over.Tie as tie
@@ -9,13 +9,13 @@ returns : tie.Need-returns
 unfolding gainOver
 returns c = c .float-of .ensures ∙ simp (← c .before .before .before .abs .ensures, c .before .before .if1 .taken, c .before .if2 .taken)
 
-returns-2 : tie.Need-returns-2
-unfolding gainOver
-returns-2 c = simp (← c .before .before .abs .ensures, c .before .if1 .taken, c .if2 .left)
-
-returns-3 : tie.Need-returns-3
-unfolding gainOver
-returns-3 c = simp (← c .before .abs .ensures, c .if1 .left)
-
 pub gain-over-spec : {M : Type 1} → statement M
-gain-over-spec = tie.close (tie.spec (λ c κs. search needs) (λ c κs. search needs) returns returns-2 returns-3)
+unfolding gainOver
+gain-over-spec =
+    tie.close
+    (tie.spec
+    (λ c κs. search needs)
+    (λ c κs. search needs)
+    returns
+    (λ c. simp (← c .before .before .abs .ensures, c .before .if1 .taken, c .if2 .left))
+    (λ c. simp (← c .before .abs .ensures, c .if1 .left)))

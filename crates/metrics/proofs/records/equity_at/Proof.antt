@@ -4,9 +4,6 @@ use borrow.Author.Needs.{needs}
 use Rattle.metrics.proofs.records.equity_at.Statement.{statement}
 use Rattle.metrics.proofs.records.equity_at.Tie as tie
 
-returns : tie.Need-returns
-unfolding equityOf
-returns c = c .float-at .ensures
-
 pub equity-at-spec : {M : Type 1} → statement M
-equity-at-spec = tie.close (tie.spec (λ c κs. search needs) returns)
+unfolding equityOf
+equity-at-spec = tie.close (tie.spec (λ c κs. search needs) (λ c. c .float-at .ensures))

@@ -3,27 +3,15 @@ use mathlib.Core.Path.{sym, _∙_}
 use Prim.Native.Nat.{_+_, _*_, _<_}
 use native.Mathlib.Omega.{arith}
 use lib.ListN.{length}
-use Rattle.metrics.specs.Columns.{in-record, column-at, column-past}
+use Rattle.metrics.specs.Laws.Columns.{in-record, column-at, column-past}
 use borrow.Author.Needs.{needs}
 use Rattle.metrics.proofs.records.float_at.Statement.{statement}
 use Rattle.metrics.proofs.records.float_at.Tie as tie
 
-there : (c : tie.Then1) → c .before .before .args .width * c .before .before .args .i + c .before .before .args .at < length (c .before .before .args .words .now)
+there : (c : tie.Then1) → let a = c .before .before .args in a .width * a .i + a .at < length (a .words .now)
 there c =
     let start = c .before .before in
     in-record (start .args .width) (start .args .at) (start .args .i) (length (start .args .words .now)) (start .pre) (c .if1 .taken)
-
-mul-float-of : tie.Need-mul-float-of
-mul-float-of c = omega (arith, there c)
-
-add-float-of : tie.Need-add-float-of
-add-float-of c = omega (arith, there c)
-
-mul-float-of-2 : tie.Need-mul-float-of-2
-mul-float-of-2 c = omega (arith, there c)
-
-shared-slice-read-float-of : tie.Need-shared-slice-read-float-of
-shared-slice-read-float-of c = there (c .before)
 
 returns : tie.Need-returns
 returns c =
@@ -38,10 +26,10 @@ float-at-spec =
     tie.close
     (tie.spec
     (λ c. search needs)
-    mul-float-of
-    add-float-of
-    mul-float-of-2
-    shared-slice-read-float-of
+    (λ c. omega (arith, there c))
+    (λ c. omega (arith, there c))
+    (λ c. omega (arith, there c))
+    (λ c. there (c .before))
     (λ c κs. search needs)
     returns
     returns-2)

@@ -4,9 +4,6 @@ use borrow.Author.Needs.{needs}
 use Rattle.metrics.proofs.records.pnl_at.Statement.{statement}
 use Rattle.metrics.proofs.records.pnl_at.Tie as tie
 
-returns : tie.Need-returns
-unfolding pnlsOf
-returns c = c .float-at .ensures
-
 pub pnl-at-spec : {M : Type 1} → statement M
-pnl-at-spec = tie.close (tie.spec (λ c κs. search needs) returns)
+unfolding pnlsOf
+pnl-at-spec = tie.close (tie.spec (λ c κs. search needs) (λ c. c .float-at .ensures))

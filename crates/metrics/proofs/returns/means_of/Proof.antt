@@ -15,9 +15,6 @@ Inv-loop equity points before₀ itself₀ below₀ i₀ before itself below i =
 abbrev μ-loop : tie.MeasureT-loop
 μ-loop equity points before₀ itself₀ below₀ i₀ before itself below i = points - i
 
-loop-holds : tie.Need-loop-holds Inv-loop μ-loop
-loop-holds c = (starts (c .equity-at .ensures), starts (c .equity-at .ensures))
-
 loop-again : tie.Need-loop-again Inv-loop μ-loop
 loop-again c =
     let now = c .before .before .before in
@@ -46,7 +43,7 @@ means-of-spec =
     μ-loop
     (λ c κs. search needs)
     (λ c κs. search needs)
-    loop-holds
+    (λ c. (starts (c .equity-at .ensures), starts (c .equity-at .ensures)))
     (λ c κs. search needs)
     (λ c κs. search needs)
     (λ c κs. search needs)

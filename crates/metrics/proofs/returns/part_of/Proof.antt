@@ -4,12 +4,6 @@ use borrow.Author.Needs.{needs}
 use Rattle.metrics.proofs.returns.part_of.Statement.{statement}
 use Rattle.metrics.proofs.returns.part_of.Tie as tie
 
-returns-2 : tie.Need-returns-2
-returns-2 c = c .square .ensures ∙ simp (c .before .before .part .given .1)
-
-returns-3 : tie.Need-returns-3
-returns-3 c = c .square2 .ensures ∙ simp (c .before .min .ensures, c .before .before .enum-told2 .given .1)
-
 pub part-of-spec : {M : Type 1} → statement M
 part-of-spec =
     tie.close
@@ -21,5 +15,5 @@ part-of-spec =
     (λ c κs. search needs)
     (λ c κs. search needs)
     (λ c. search needs)
-    returns-2
-    returns-3)
+    (λ c. c .square .ensures ∙ simp (c .before .before .part .given .1))
+    (λ c. c .square2 .ensures ∙ simp (c .before .min .ensures, c .before .before .enum-told2 .given .1)))

@@ -17,12 +17,13 @@ returns c =
 returns-2 : tie.Need-returns-2
 unfolding sharpeRatio sortinoRatio
 returns-2 c =
-    let means = c .before .before .before .before .before in
-    let es = equityOf (means .before .before .before .before .args .equity .now) in
-    let two = le-ltb (length es) 2 (rw (means .before .before .point-count .ensures) at (means .before .if1 .left)) in
+    let sharpe = c .before .before in
+    let var = sharpe .before .before in
+    let means = var .before in
+    let count = means .before .before in
+    let two = le-ltb (length (equityOf (count .before .before .args .equity .now))) 2 (rw (count .point-count .ensures) at (means .before .if1 .left)) in
     let mean = means .means-of .ensures .0 in (
-      c .before .before .mean-over .ensures
-          ∙ simp (two, c .before .before .before .sqrt .ensures, c .before .before .before .before .var-of .ensures, mean),
+      sharpe .mean-over .ensures ∙ simp (two, sharpe .before .sqrt .ensures, var .var-of .ensures, mean),
       c .mean-over2 .ensures ∙ simp (two, c .before .sqrt2 .ensures, means .means-of .ensures .1, mean),
     )
 

@@ -6,11 +6,11 @@ use borrow.Author.Needs.{needs}
 use Rattle.metrics.proofs.returns.return_count.Statement.{statement}
 use Rattle.metrics.proofs.returns.return_count.Tie as tie
 
-returns : tie.Need-returns
-returns c = omega (arith, length-returns (equityOf (c .before .before .before .args .equity .now)))
-
-returns-2 : tie.Need-returns-2
-returns-2 c = omega (arith, length-returns (equityOf (c .before .before .before .args .equity .now)))
-
 pub return-count-spec : {M : Type 1} → statement M
-return-count-spec = tie.close (tie.spec (λ c κs. search needs) returns (λ c. search needs) returns-2)
+return-count-spec =
+    tie.close
+    (tie.spec
+    (λ c κs. search needs)
+    (λ c. omega (arith, length-returns (equityOf (c .before .before .before .args .equity .now))))
+    (λ c. search needs)
+    (λ c. omega (arith, length-returns (equityOf (c .before .before .before .args .equity .now)))))

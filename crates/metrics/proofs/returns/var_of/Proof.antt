@@ -14,20 +14,18 @@ Inv-loop equity mean points before₀ total₀ i₀ before total i = Summing (Aw
 abbrev μ-loop : tie.MeasureT-loop
 μ-loop equity mean points before₀ total₀ i₀ before total i = points - i
 
-loop-holds : tie.Need-loop-holds Inv-loop μ-loop
-loop-holds c = starts (c .equity-at .ensures)
-
 loop-again : tie.Need-loop-again Inv-loop μ-loop
 loop-again c =
-    let loop = c .before .before .before .before .loop in
-    goes-on (c .before .before .before .before .before .before .point-count .ensures) (c .before .before .before .loop-test .taken)
-    (c .before .before .equity-at2 .ensures) (c .before .bar-return .ensures) (c .part-of .ensures) (loop .inv)
+    let now = c .before .before in
+    let loop = now .before .before in
+    goes-on (loop .before .before .point-count .ensures) (now .before .loop-test .taken) (now .equity-at2 .ensures) (c .before .bar-return .ensures)
+    (c .part-of .ensures) (loop .loop .inv)
 
 returns : tie.Need-returns Inv-loop μ-loop
 returns c =
-    let loop = c .before .before .before .loop in
-    ends (c .before .before .before .before .before .point-count .ensures) (c .before .before .loop-test .left)
-    (c .before .return-count .ensures) (c .counted .ensures) (loop .inv)
+    let after = c .before .before in
+    let loop = after .before in
+    ends (loop .before .before .point-count .ensures) (after .loop-test .left) (c .before .return-count .ensures) (c .counted .ensures) (loop .loop .inv)
 
 pub var-of-spec : {M : Type 1} → statement M
 var-of-spec =
@@ -37,7 +35,7 @@ var-of-spec =
     μ-loop
     (λ c κs. search needs)
     (λ c κs. search needs)
-    loop-holds
+    (λ c. starts (c .equity-at .ensures))
     (λ c κs. search needs)
     (λ c κs. search needs)
     (λ c κs. search needs)

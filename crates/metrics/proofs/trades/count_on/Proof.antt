@@ -20,19 +20,18 @@ Inv-loop trades side n count₀ i₀ count i = (count ≤ i) × (count + length 
 abbrev μ-loop : tie.MeasureT-loop
 μ-loop trades side n count₀ i₀ count i = n - i
 
-loop-holds : tie.Need-loop-holds Inv-loop μ-loop
-loop-holds c = (omega arith, zero-add _)
-
 loop-again : tie.Need-loop-again Inv-loop μ-loop
 loop-again c =
-    let args = c .before .before .before .before .before .before .before .args in
-    let loop = c .before .before .before .before .loop in
+    let at = c .before .before in
+    let loop = at .before .before .loop in
+    let count = at .before .before .before in
+    let args = count .before .before .args in
     let ps = pnlsOf (args .trades .now) in
     let later = drop (loop .i + 1) ps in
-    let pnl = c .before .before .pnl-at .result in
+    let pnl = at .pnl-at .result in
     let p =
     turn (λ (rest : List Float). loop .count + length (sizesOn (args .side) rest)) ps (loop .i)
-    (c .before .before .before .before .before .trade-count .ensures) (c .before .before .before .loop-test .taken) (c .before .before .pnl-at .ensures) (loop .inv .1) in
+    (count .trade-count .ensures) (at .before .loop-test .taken) (at .pnl-at .ensures) (loop .inv .1) in
     let is-on = c .before .is-on .ensures in
     ⊎-elim
     (λ w. let q = rw (one-on (args .side) pnl later (sym is-on ∙ w .0 .taken)) at p in omega (arith, w .1))
@@ -55,7 +54,7 @@ count-on-spec =
     Inv-loop
     μ-loop
     (λ c κs. search needs)
-    loop-holds
+    (λ c. (omega arith, zero-add _))
     (λ c κs. search needs)
     (λ c κs. search needs)
     (λ c. omega arith)

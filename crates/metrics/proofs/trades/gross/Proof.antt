@@ -8,7 +8,7 @@ use Prim.Native.Nat.{_+_, _-_}
 use lib.ListN.{drop}
 use lib.Ieee.{Float}
 use Rattle.metrics.specs.Records.{pnlsOf}
-use Rattle.metrics.specs.Sums.{sumFrom}
+use Rattle.floats.specs.Sums.{sumFrom}
 use Rattle.metrics.specs.Trades.{sizesOn, gross}
 use Rattle.metrics.proofs.Walks.{turn, done, one-on, not-on}
 use Rattle.metrics.proofs.trades.gross.Statement.{statement}
@@ -20,21 +20,19 @@ Inv-loop trades side n total₀ i₀ total i = sumFrom total (sizesOn side (drop
 abbrev μ-loop : tie.MeasureT-loop
 μ-loop trades side n total₀ i₀ total i = n - i
 
-loop-holds : tie.Need-loop-holds Inv-loop μ-loop
-unfolding gross
-loop-holds c = refl
-
 loop-again : tie.Need-loop-again Inv-loop μ-loop
 unfolding sumFrom
 loop-again c =
-    let args = c .before .before .before .before .before .before .before .args in
-    let loop = c .before .before .before .before .loop in
+    let at = c .before .before in
+    let loop = at .before .before .loop in
+    let count = at .before .before .before in
+    let args = count .before .before .args in
     let ps = pnlsOf (args .trades .now) in
     let later = drop (loop .i + 1) ps in
-    let pnl = c .before .before .pnl-at .result in
+    let pnl = at .pnl-at .result in
     let p =
     turn (λ (rest : List Float). sumFrom (loop .total) (sizesOn (args .side) rest)) ps (loop .i)
-    (c .before .before .before .before .before .trade-count .ensures) (c .before .before .before .loop-test .taken) (c .before .before .pnl-at .ensures) (loop .inv) in
+    (count .trade-count .ensures) (at .before .loop-test .taken) (at .pnl-at .ensures) (loop .inv) in
     let is-on = c .before .is-on .ensures in
     ⊎-elim
     (λ w. rw (w .2, w .1 .ensures) (rw (one-on (args .side) pnl later (sym is-on ∙ w .0 .taken)) at p))
@@ -50,13 +48,14 @@ returns c =
     (c .before .before .trade-count .ensures) (c .loop-test .left) (loop .inv)
 
 pub gross-spec : {M : Type 1} → statement M
+unfolding gross
 gross-spec =
     tie.close
     (tie.spec
     Inv-loop
     μ-loop
     (λ c κs. search needs)
-    loop-holds
+    (λ c. refl)
     (λ c κs. search needs)
     (λ c κs. search needs)
     (λ c κs. search needs)

@@ -5,10 +5,12 @@ use borrow.Author.Needs.{needs}
 use Rattle.metrics.proofs.trades.profit_factor.Statement.{statement}
 use Rattle.metrics.proofs.trades.profit_factor.Tie as tie
 
-returns : tie.Need-returns
-unfolding profitFactor
-returns c = c .gain-over .ensures ∙ simp (c .before .gross2 .ensures, c .before .before .gross .ensures)
-
 pub profit-factor-spec : {M : Type 1} → statement M
+unfolding profitFactor
 profit-factor-spec =
-    tie.close (tie.spec (λ c κs. search needs) (λ c κs. search needs) (λ c κs. search needs) returns)
+    tie.close
+    (tie.spec
+    (λ c κs. search needs)
+    (λ c κs. search needs)
+    (λ c κs. search needs)
+    (λ c. c .gain-over .ensures ∙ simp (c .before .gross2 .ensures, c .before .before .gross .ensures)))

@@ -15,10 +15,11 @@ returns c = simp (eq-eqb (length (pnlsOf (c .before .before .before .args .trade
 returns-2 : tie.Need-returns-2
 unfolding winRate
 returns-2 c =
-    let ps = pnlsOf (c .before .before .before .before .before .before .args .trades .now) in
-    let n = c .before .before .before .before .trade-count .ensures in
-    let some = ne-eqb (length ps) 0 (λ z. c .before .before .before .if1 .left (n ∙ z)) in
-    simp (some, c .counted2 .ensures, c .before .counted .ensures, c .before .before .count-on .ensures, n)
+    let on = c .before .before in
+    let count = on .before .before in
+    let n = count .trade-count .ensures in
+    let some = ne-eqb (length (pnlsOf (count .before .before .args .trades .now))) 0 (λ z. on .before .if1 .left (n ∙ z)) in
+    simp (some, c .counted2 .ensures, c .before .counted .ensures, on .count-on .ensures, n)
 
 pub win-rate-spec : {M : Type 1} → statement M
 win-rate-spec =

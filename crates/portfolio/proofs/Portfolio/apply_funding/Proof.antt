@@ -4,9 +4,6 @@ use Rattle.portfolio.specs.Portfolio.{funded}
 use Rattle.portfolio.proofs.Portfolio.apply_funding.Statement.{statement}
 use Rattle.portfolio.proofs.Portfolio.apply_funding.Tie as tie
 
-returns : tie.Need-returns
-unfolding funded
-returns c = refl
-
 pub apply-funding-spec : {M : Type 1} → statement M
-apply-funding-spec = tie.close (tie.spec returns)
+unfolding funded
+apply-funding-spec = tie.close (tie.spec (λ c. refl))

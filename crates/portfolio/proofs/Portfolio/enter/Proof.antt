@@ -4,9 +4,6 @@ use Rattle.portfolio.specs.Portfolio.{entered}
 use Rattle.portfolio.proofs.Portfolio.enter.Statement.{statement}
 use Rattle.portfolio.proofs.Portfolio.enter.Tie as tie
 
-returns : tie.Need-returns
-unfolding entered
-returns c = refl
-
 pub enter-spec : {M : Type 1} → statement M
-enter-spec = tie.close (tie.spec returns)
+unfolding entered
+enter-spec = tie.close (tie.spec (λ c. refl))

@@ -4,9 +4,6 @@ use borrow.Author.Needs.{needs}
 use Rattle.portfolio.proofs.Portfolio.exit.Statement.{statement}
 use Rattle.portfolio.proofs.Portfolio.exit.Tie as tie
 
-returns : tie.Need-returns
-unfolding notional pnl tradeOf exited
-returns c = simp (c .before .before .before .return-pct .ensures, c .before .before .before .before .before .before .before .before .abs .ensures)
-
 pub exit-spec : {M : Type 1} → statement M
-exit-spec = tie.close (tie.spec (λ c κs. search needs) (λ c κs. search needs) returns)
+unfolding notional pnl tradeOf exited
+exit-spec = tie.close (tie.spec (λ c κs. search needs) (λ c κs. search needs) (λ c. cc))

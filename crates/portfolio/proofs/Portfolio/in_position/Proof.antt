@@ -4,9 +4,6 @@ use borrow.Author.Needs.{needs}
 use Rattle.portfolio.proofs.Portfolio.in_position.Statement.{statement}
 use Rattle.portfolio.proofs.Portfolio.in_position.Tie as tie
 
-returns : tie.Need-returns
-unfolding inPosition
-returns c = simp (c .abs .ensures)
-
 pub in-position-spec : {M : Type 1} → statement M
-in-position-spec = tie.close (tie.spec (λ c κs. search needs) returns)
+unfolding inPosition
+in-position-spec = tie.close (tie.spec (λ c κs. search needs) (λ c. cc))

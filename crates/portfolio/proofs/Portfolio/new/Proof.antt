@@ -4,9 +4,6 @@ use Rattle.portfolio.specs.Portfolio.{fresh}
 use Rattle.portfolio.proofs.Portfolio.new.Statement.{statement}
 use Rattle.portfolio.proofs.Portfolio.new.Tie as tie
 
-returns : tie.Need-returns
-unfolding fresh
-returns c = refl
-
 pub new-spec : {M : Type 1} → statement M
-new-spec = tie.close (tie.spec returns)
+unfolding fresh
+new-spec = tie.close (tie.spec (λ c. refl))

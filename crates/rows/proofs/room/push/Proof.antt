@@ -7,11 +7,10 @@ use Rattle.rows.proofs.Added.{place-fits, added, roomless, widthless, p
 use Rattle.rows.proofs.room.push.Statement.{statement}
 use Rattle.rows.proofs.room.push.Tie as tie
 
-returns : tie.Need-returns
-returns c = let a = c .before .before .before .args in widthless (a .room .now) (a .held) (a .row .now) (c .if1 .taken)
-
 mul-put : tie.Need-mul-put
-mul-put c = let a = c .before .before .before .before .before .args in omega (arith, place-fits (a .room .now) (a .held) (a .row .now) (omega arith) (omega arith))
+mul-put c =
+    let a = c .before .before .before .before .before .args in
+    omega (arith, place-fits (a .room .now) (a .held) (a .row .now) (omega arith) (omega arith))
 
 add-result : tie.Need-add-result
 add-result c =
@@ -21,14 +20,14 @@ add-result c =
 
 returns-2 : tie.Need-returns-2
 returns-2 c =
-    let a = c .before .before .before .before .before .before .before .before .args in
-    added (a .room .now) (a .held) (a .row .now) (omega arith) (omega arith) (c .before .before .put .last .0) (c .before .before .put .ensures)
-
-returns-3 : tie.Need-returns-3
-returns-3 c = let a = c .before .before .before .before .before .args in roomless (a .room .now) (a .held) (a .row .now) (c .if3 .taken)
+    let p = c .before .before in
+    let a = p .before .before .before .before .before .before .args in
+    added (a .room .now) (a .held) (a .row .now) (omega arith) (omega arith) (p .put .last .0) (p .put .ensures)
 
 mul-end : tie.Need-mul-end
-mul-end c = let a = c .before .before .before .before .before .args in omega (arith, places-fit (a .room .now) (a .held) (a .row .now) (omega arith))
+mul-end c =
+    let a = c .before .before .before .before .before .args in
+    omega (arith, places-fit (a .room .now) (a .held) (a .row .now) (omega arith))
 
 sub-put : tie.Need-sub-put
 sub-put c =
@@ -49,14 +48,14 @@ pub push-spec : {M : Type 1} → statement M
 push-spec =
     tie.close
     (tie.spec
-    returns
+    (λ c. let a = c .before .before .before .args in widthless (a .room .now) (a .held) (a .row .now) (c .if1 .taken))
     (λ c. search needs)
     mul-put
     (λ c κs. search needs)
     add-result
     (λ c. search needs)
     returns-2
-    returns-3
+    (λ c. let a = c .before .before .before .before .before .args in roomless (a .room .now) (a .held) (a .row .now) (c .if3 .taken))
     mul-end
     (λ c κs. search needs)
     sub-put

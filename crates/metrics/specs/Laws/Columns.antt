@@ -8,7 +8,8 @@ use lib.ListN.{length, getD, drop, List·getD-eq-default}
 use lib.Seq.{getD-drop}
 use Rattle.floats.specs.Floats as Floats
 use Rattle.floats.specs.Floats.{floatOf}
-use Rattle.metrics.specs.Records.{pointWords, tradeWords, column, equityOf, pnlsOf}
+use Rattle.words.specs.Limits.{pointWords, tradeWords}
+use Rattle.metrics.specs.Records.{equityWord, pnlWord, column, equityOf, pnlsOf}
 
 -- a word of a whole record is there
 pub in-record : (w j i len : ℕ) → j < w → i < len / w → w * i + j < len
@@ -39,8 +40,8 @@ column-past n w j ws i h = List·getD-eq-default (column n w j ws) Floats.zero (
 
 pub length-equity : (ws : List ℕ) → length (equityOf ws) ≡ length ws / pointWords
 unfolding equityOf
-length-equity ws = length-column (length ws / pointWords) pointWords 1 ws
+length-equity ws = length-column (length ws / pointWords) pointWords equityWord ws
 
 pub length-pnls : (ws : List ℕ) → length (pnlsOf ws) ≡ length ws / tradeWords
 unfolding pnlsOf
-length-pnls ws = length-column (length ws / tradeWords) tradeWords 5 ws
+length-pnls ws = length-column (length ws / tradeWords) tradeWords pnlWord ws
