@@ -24,7 +24,7 @@ use Rattle.rules.specs.Laws.Answers.{tree-of-four, flat-says}
 module _ (t : List ℕ) (tree : Tree) (rows : List ℕ) (s : PositionState) where
   pub refused : (a : Answer) (why : Refusal) → a ≡ checked t → a ≡ Refused why → Refuses why ≡ answered t tree rows s
   unfolding answered afterCheck
-  refused a number place e f = rw (← e, f)
+  refused a why e f = rw (← e, f)
 
   module _ (a : Answer) (n r : ℕ) (found : a ≡ checked t) (accepted : a ≡ Accepted n r) (whole : Bool) (w : whole ≡ wholeRows (slots t) rows) where
     ok : checked t ≡ Accepted n r
