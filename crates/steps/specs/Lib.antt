@@ -1,6 +1,7 @@
 -- ---- the step and the machine
 pub mod Bytes
 pub mod Machine
+pub mod Places
 pub mod WellFormed
 pub mod Running
 -- ---- the translation
@@ -15,6 +16,7 @@ pub mod Window
 pub mod Elsewhere
 pub mod Smallest
 pub mod Example
+pub mod ManyValues
 pub mod Visits
 pub mod Room
 -- ---- laws that they rest on

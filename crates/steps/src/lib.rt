@@ -5,6 +5,7 @@ pub mod depth;
 mod emit;
 pub mod machine;
 pub mod running;
+mod stack;
 pub mod translation;
 pub mod wellformed;
 
