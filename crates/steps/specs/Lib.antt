@@ -25,3 +25,5 @@ pub mod Compiled
 pub mod Encoding
 pub mod Good
 pub mod Formed
+-- ---- DEMAND 3
+pub mod Demand
