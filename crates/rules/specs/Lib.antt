@@ -10,3 +10,6 @@ pub mod AnswerLaws
 pub mod Window
 pub mod Edges
 pub mod WindowAnswers
+pub mod Shortage
+pub mod Silence
+pub mod AnyWindow
