@@ -37,3 +37,6 @@ pub mod Limited
 pub mod WrittenBytes
 pub mod RoundTrip
 pub mod Example
+-- ---- tests that fall silent
+pub mod Silent
+pub mod SilentLaws

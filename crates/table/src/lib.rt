@@ -7,6 +7,7 @@ pub mod nodes;
 mod order;
 mod places;
 pub mod reach;
+pub mod silent;
 mod weighing;
 
 use nesting::too_deep;
