@@ -4,14 +4,16 @@ use mathlib.Core.Path.{_≡_, refl, ap}
 use mathlib.Core.Bool.{Bool, true, false, not, cond, _&&_}
 use mathlib.Core.List.{List}
 use native.Mathlib.Omega.{arith}
-use lib.Dec.{ltb}
-use borrow.Author.Tests.{lt-ltb, ltb-true, ltb-false}
+use lib.Dec.{leb}
+use borrow.Author.Tests.{lt-leb, leb-true, leb-false}
 use Rattle.rows.specs.History.{History, historyOf, lastRows}
-use Rattle.table.specs.Trees.{Condition, Conditions, compare, cross, between, trend, every, any, negated, inPosition, barsSince, none, more, reachOf, reachOfAll}
+use Rattle.table.specs.Trees.{Condition, Conditions, compare, cross, between, trend, every, any, negated, inPosition, barsSince, none, more}
+use Rattle.table.specs.Trees.{reachOf, reachOfAll}
+use Rattle.table.specs.Silent.{isTest, silent}
 use Rattle.rules.specs.declared.PositionState.{PositionState}
 use Rattle.rules.specs.Meaning.{newest, holds, allHold, anyHolds, says}
 use Rattle.rules.specs.Window.{Without, without-first, window}
-use Rattle.rules.specs.Shortage.{isTest, silent, unlessSilent, struckOut, struckOutAll}
+use Rattle.rules.specs.Shortage.{unlessSilent, struckOut, struckOutAll}
 use Rattle.rules.specs.Silence.{test-silent}
 
 module _ (K d : ℕ) (ws : List ℕ) (p : PositionState) where
@@ -31,12 +33,12 @@ module _ (K d : ℕ) (ws : List ℕ) (p : PositionState) where
   -- a test: as over all rows where it is near, no where it is far
   test : (c : Condition) → isTest c ≡ true → holds w p c (newest w) ≡ holds h p (unlessSilent d c) (newest h)
   unfolding unlessSilent silent h w
-  test c is = rw is (go (ltb (reachOf c) d) refl)
+  test c is = rw is (go (leb d (reachOf c)) refl)
     where
-      go : (t : Bool) → ltb (reachOf c) d ≡ t → holds (historyOf K (lastRows K d ws)) p c (newest (historyOf K (lastRows K d ws)))
-          ≡ holds (historyOf K ws) p (cond (not t) (any none) c) (newest (historyOf K ws))
-      go true e = unfold says in window K d ws p c (ltb-true (reachOf c) d e)
-      go false e = unfold holds says in test-silent (historyOf K (lastRows K d ws)) p c is (unfold w in omega (arith, few, ltb-false (reachOf c) d e))
+      go : (t : Bool) → leb d (reachOf c) ≡ t → holds (historyOf K (lastRows K d ws)) p c (newest (historyOf K (lastRows K d ws)))
+          ≡ holds (historyOf K ws) p (cond t (any none) c) (newest (historyOf K ws))
+      go true e = unfold holds says in test-silent (historyOf K (lastRows K d ws)) p c is (unfold w in omega (arith, few, leb-true d (reachOf c) e))
+      go false e = unfold says in window K d ws p c (leb-false d (reachOf c) e)
 
   mutual
     unfolding struckOut holds isTest
@@ -72,10 +74,10 @@ mutual
   unfolding struckOut struckOutAll unlessSilent silent isTest reachOf
 
   pub enough : (d : ℕ) (c : Condition) → reachOf c < d → struckOut d c ≡ c
-  enough d (compare k a b) l = rw (lt-ltb (reachOf (compare k a b)) d l)
-  enough d (cross k a b) l = rw (lt-ltb (reachOf (cross k a b)) d l)
-  enough d (between x lo hi) l = rw (lt-ltb (reachOf (between x lo hi)) d l)
-  enough d (trend k a n) l = rw (lt-ltb (reachOf (trend k a n)) d l)
+  enough d (compare k a b) l = rw (lt-leb d (reachOf (compare k a b)) l)
+  enough d (cross k a b) l = rw (lt-leb d (reachOf (cross k a b)) l)
+  enough d (between x lo hi) l = rw (lt-leb d (reachOf (between x lo hi)) l)
+  enough d (trend k a n) l = rw (lt-leb d (reachOf (trend k a n)) l)
   enough d (every cs) l = ap every (enough-all d cs l)
   enough d (any cs) l = ap any (enough-all d cs l)
   enough d (negated c) l = ap negated (enough d c l)

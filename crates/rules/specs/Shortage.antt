@@ -1,24 +1,8 @@
 -- What a window that is too short does to a rule: each test that reaches back beyond it is struck out. Definitions only.
 use Prim.Native.Nat.{ℕ}
-use mathlib.Core.Bool.{Bool, true, false, not, cond, _&&_}
-use lib.Dec.{ltb}
-use Rattle.table.specs.Trees.{Condition, Conditions, compare, cross, between, trend, every, any, negated, inPosition, barsSince, none, more, reachOf}
-
--- The tests: a comparison, a cross, Between, Rising and Falling. All else only joins their answers, or reads the position.
-unfoldable pub isTest : Condition → Bool
-isTest (compare kind a b) = true
-isTest (cross kind a b) = true
-isTest (between x low high) = true
-isTest (trend kind a n) = true
-isTest (every cs) = false
-isTest (any cs) = false
-isTest (negated c) = false
-isTest (inPosition wanted) = false
-isTest (barsSince selector k) = false
-
--- A test falls silent over d rows where it reaches back d bars or more.
-unfoldable pub silent : ℕ → Condition → Bool
-silent d c = isTest c && not (ltb (reachOf c) d)
+use mathlib.Core.Bool.{cond}
+use Rattle.table.specs.Trees.{Condition, Conditions, compare, cross, between, trend, every, any, negated, inPosition, barsSince, none, more}
+use Rattle.table.specs.Silent.{silent}
 
 -- A test, or in its place Any of none, which is no, where it falls silent over d rows.
 unfoldable pub unlessSilent : ℕ → Condition → Condition

@@ -8,13 +8,13 @@ use borrow.Author.Tests.{ltb-true, ltb-false, leb-true, leb-false, eqb-false}
 use Rattle.rows.specs.History.{History}
 use Rattle.table.specs.Trees.{Operand, const, ref, price, prev, arith as sums, reach}
 use Rattle.table.specs.Trees.{Condition, compare, cross, between, trend, every, any, negated, inPosition, barsSince, reachOf}
+use Rattle.table.specs.Silent.{isTest}
 use Rattle.rules.specs.declared.PositionState.{PositionState}
 use Rattle.rules.specs.declared.Value.{Value}
 use Rattle.rules.specs.declared.Value.the-variants.{Missing, Number}
 use Rattle.rules.specs.Values.{both, compared, crossed, within, trended}
 use Rattle.rules.specs.Meaning.{newest, there, value, holds, says}
 use Rattle.rules.specs.Laws.{past}
-use Rattle.rules.specs.Shortage.{isTest}
 
 -- ---- an operand that reaches back beyond bar 0 is missing
 
@@ -122,7 +122,8 @@ module _ (h : History) (p : PositionState) where
       go true t e g = rw (gone h x (leb-true (h .rows) (reach x) e)) (within-value (value h l (newest h)) (value h u (newest h)))
       go false true e g = rw (gone h l (leb-true (h .rows) (reach l) g)) (within-low (value h x (newest h)) (value h u (newest h)))
       go false false e g =
-          rw (gone h u (omega (arith, leb-false (h .rows) (reach x) e, leb-false (h .rows) (reach l) g))) (within-high (value h x (newest h)) (value h l (newest h)))
+          rw (gone h u (omega (arith, leb-false (h .rows) (reach x) e, leb-false (h .rows) (reach l) g)))
+          (within-high (value h x (newest h)) (value h l (newest h)))
 
   few-cross : (k : ℕ) (a b : Operand) → h .rows ≤ reachOf (cross k a b) → holds h p (cross k a b) (newest h) ≡ false
   unfolding holds reachOf newest
@@ -135,8 +136,12 @@ module _ (h : History) (p : PositionState) where
         where
           side : (u : Bool) → ltb (h .rows - 1 - 1) (reach a) ≡ u
               → crossed k (value h a (h .rows - 1)) (value h b (h .rows - 1)) (value h a (h .rows - 1 - 1)) (value h b (h .rows - 1 - 1)) ≡ false
-          side true g = rw (far h a (h .rows - 1 - 1) (ltb-true (h .rows - 1 - 1) (reach a) g)) (crossed-first k (value h a (h .rows - 1)) (value h b (h .rows - 1)) (value h b (h .rows - 1 - 1)))
-          side false g = rw (far h b (h .rows - 1 - 1) (omega (arith, ltb-false (h .rows - 1 - 1) (reach a) g, eqb-false (h .rows - 1) 0 e))) (crossed-second k (value h a (h .rows - 1)) (value h b (h .rows - 1)) (value h a (h .rows - 1 - 1)))
+          side true g =
+              rw (far h a (h .rows - 1 - 1) (ltb-true (h .rows - 1 - 1) (reach a) g))
+              (crossed-first k (value h a (h .rows - 1)) (value h b (h .rows - 1)) (value h b (h .rows - 1 - 1)))
+          side false g =
+              rw (far h b (h .rows - 1 - 1) (omega (arith, ltb-false (h .rows - 1 - 1) (reach a) g, eqb-false (h .rows - 1) 0 e)))
+              (crossed-second k (value h a (h .rows - 1)) (value h b (h .rows - 1)) (value h a (h .rows - 1 - 1)))
 
   few-trend : (k : ℕ) (a : Operand) (n : ℕ) → h .rows ≤ reachOf (trend k a n) → holds h p (trend k a n) (newest h) ≡ false
   unfolding holds reachOf newest
