@@ -25,5 +25,6 @@ pub mod Compiled
 pub mod Encoding
 pub mod Good
 pub mod Formed
--- ---- DEMAND 3
+-- ---- DEMAND 3, and what a window that is too short does
 pub mod Demand
+pub mod Short
