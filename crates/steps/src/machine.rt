@@ -20,6 +20,9 @@ ghost use Rattle.steps.specs.Bytes.{opOf, opsFrom, opsOf, stepsIn, steps
 ghost use Rattle.steps.specs.Machine.{ago, giving, saying, effect, ranOver};
 ghost use Rattle.steps.specs.Places.{Tries, Fresh};
 
+// The places for values that a run has at first. No translated list needs more.
+const FEW_PLACES: usize = 64;
+
 // How far a run with so many places for values came, and whether it stopped because a value found no place.
 struct Tried {
     full: bool,
@@ -183,8 +186,8 @@ fn steps_run(list: &[u8]) -> usize
     }
 }
 
-// The run of the first n steps with so many places for values. Below the values lie four places that are always missing. The kinds
-// are asked for in the order of how often they stand in a list; a jump is an `if`, not a sum, so that the next step need not
+// The run of the first n steps with so many places for values. Below these lie four that are always missing: no step takes more. The
+// kinds are asked for in the order of how often they stand in a list; a jump is an `if`, not a sum, so that the next step need not
 // wait for the answer.
 fn run_with(
     list: &[u8],
@@ -260,7 +263,16 @@ fn run_whole(list: &[u8], n: usize, rows: &[u64], slots: usize, s: PositionState
 {
     let mut numbers = [0.0; 1028];
     let mut there = [false; 1028];
-    let tried = run_with(list, n, rows, slots, s, 1024, &mut numbers, &mut there);
+    let tried = run_with(
+        list,
+        n,
+        rows,
+        slots,
+        s,
+        wellformed::MOST_STEPS,
+        &mut numbers,
+        &mut there,
+    );
     tried.ran
 }
 
@@ -278,7 +290,16 @@ pub fn run(list: &[u8], rows: &[u64], slots: usize, s: PositionState) -> Ran
     }
     let mut numbers = [0.0; 68];
     let mut there = [false; 68];
-    let tried = run_with(list, n, rows, slots, s, 64, &mut numbers, &mut there);
+    let tried = run_with(
+        list,
+        n,
+        rows,
+        slots,
+        s,
+        FEW_PLACES,
+        &mut numbers,
+        &mut there,
+    );
     if tried.full {
         return run_whole(list, n, rows, slots, s);
     }
