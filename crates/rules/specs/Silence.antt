@@ -1,5 +1,5 @@
 -- A test that reaches back as many bars as there are rows, or more, answers no. Assumes nothing.
-use Prim.Native.Nat.{ℕ, _+_, _-_, _≤_, _<_}
+use Prim.Native.Nat.{ℕ, _-_, _≤_, _<_}
 use mathlib.Core.Path.{_≡_, refl, sym}
 use mathlib.Core.Bool.{Bool, true, false, not, cond, true≢false, _&&_}
 use native.Mathlib.Omega.{arith}

@@ -8,7 +8,7 @@ use native.Mathlib.Nat.{ne-of-lt, sub-zero}
 use native.Mathlib.Numerals.{add-one, sub-one}
 use lib.Dec.{ltb}
 use lib.Ieee.{Float, nan}
-use lib.ListN.{length, getD, drop, set, length-set, replicate, length-replicate, getD-replicate}
+use lib.ListN.{length, drop, set, length-set, length-replicate, getD-replicate}
 use lib.Seq.{getD-set-same, getD-set-other}
 use borrow.Author.Tests.{ltb-true, ltb-false}
 use Rattle.rows.specs.History.{History}
@@ -141,7 +141,8 @@ pub record Room (most : ℕ) (ns : List Float) (ts : List Bool) : Type 0 where
   pub low : (j : ℕ) → j < 4 → valueAt ns ts j ≡ Missing
 
 -- a run that has come to place p
-pub record Going (h : History) (s : PositionState) (bs : List ℕ) (n most : ℕ) (ns : List Float) (ts : List Bool) (top : ℕ) (y : Bool) (visits p : ℕ) : Type 0 where
+pub record Going (h : History) (s : PositionState) (bs : List ℕ) (n most : ℕ) (ns : List Float) (ts : List Bool) (top : ℕ)
+    (y : Bool) (visits p : ℕ) : Type 0 where
   pub room : Room most ns ts
   pub tall : top ≤ most
   pub pushed : top ≤ p

@@ -31,7 +31,7 @@ use Rattle.steps.specs.Translating.{stepsOf, translates, roomLeft}
 use Rattle.steps.specs.Running.{ranIf, runs}
 use Rattle.steps.specs.Fields.{Bytes}
 use Rattle.steps.specs.Window.{translated-well-formed, translated-says}
-use Rattle.steps.specs.Demand.{written-there, Deep, deep, depth-above, depth-most}
+use Rattle.steps.specs.Demand.{written-there, deep, depth-above, depth-most}
 
 -- the public run of a translated tree, over any rows
 runs-any : (t : List ℕ) (n r : ℕ) → checked t ≡ Accepted n r → Bytes t → (x : ℕ) → x < 4 → (D : ℕ) → reachOf (treeOf t x) < D → D ≤ 4096

@@ -61,7 +61,8 @@ module _ (t : List ℕ) (n r : ℕ) (ok : checked t ≡ Accepted n r) (bytes : B
     reads-there : opsOf (bytesOf (stepsOf t x)) ≡ codeOf (treeOf t x)
     reads-there =
         let reach : reachOf (treeOf t x) ≤ 4095 = within .reaches in
-        rw there (reads-back (slots t) (reachOf (treeOf t x) + 1) (header-of t n r ok .few-slots) (omega arith) (codeOf (treeOf t x)) short (good (reachOf (treeOf t x) + 1) (omega arith)))
+        let D : ℕ = reachOf (treeOf t x) + 1 in
+        rw there (reads-back (slots t) D (header-of t n r ok .few-slots) (omega arith) (codeOf (treeOf t x)) short (good D (omega arith)))
 
     says-there : (h : History) (s : PositionState) → answers h s (opsOf (bytesOf (stepsOf t x))) ≡ says h s (treeOf t x)
     says-there h s = rw reads-there (compiled h s (treeOf t x))

@@ -12,7 +12,6 @@ ghost use mathlib.Core.Path.{_≡_};
 ghost use mathlib.Core.Bool.{Bool, cond, not, _&&_};
 ghost use Prim.Native.Nat.{_+_, _-_, _*_, _<_, _≤_, min};
 ghost use lib.Dec.{ltb, leb};
-ghost use lib.ListN.{length};
 ghost use Rattle.rows.specs.History.{History, historyOf};
 ghost use Rattle.rules.specs.Values as Values;
 ghost use Rattle.table.specs.Trees.{const, ref, price};

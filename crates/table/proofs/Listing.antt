@@ -1,5 +1,5 @@
 -- Silent tests put into a list, node by node. Assumes nothing.
-use Prim.Native.Nat.{ℕ, zero, suc, _+_, _-_, _≤_, _<_, min}
+use Prim.Native.Nat.{ℕ, suc, _+_, _-_, _≤_, _<_, min}
 use mathlib.Core.Path.{_≡_, refl, sym, ap, _∙_}
 use mathlib.Core.Bool.{Bool, true, false, cond, _&&_}
 use mathlib.Core.List.{List, [], _∷_, _++_}
@@ -18,7 +18,7 @@ use Rattle.table.specs.Reach.{ownBack, weigh}
 use Rattle.table.specs.Checked.{checked}
 use Rattle.table.specs.Rewriting.{Bytes}
 use Rattle.table.specs.Ends.{endsBeside}
-use Rattle.table.specs.Accepted.{Whole, ends-of, tree-whole}
+use Rattle.table.specs.Accepted.{ends-of, tree-whole}
 use Rattle.table.specs.Silent.{WholeAll, silentTests, silentAnswer, listAfter, silentNode, silentNodes, fourSilent, putAll}
 use Rattle.table.specs.SilentLaws.{next-node, no-node, silent-found}
 

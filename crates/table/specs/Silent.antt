@@ -1,6 +1,6 @@
 -- The tests of a table that fall silent over so few rows. Definitions only.
 use Prim.Native.Nat.{ℕ, _+_, _<_, min}
-use mathlib.Core.Bool.{Bool, true, false, not, cond, _&&_}
+use mathlib.Core.Bool.{Bool, true, false, cond, _&&_}
 use mathlib.Core.List.{List, [], _∷_, _++_}
 use lib.Dec.{ltb, leb}
 use lib.ListN.{length, drop, set}

@@ -13,14 +13,17 @@ list-all-spec =
     (tie.spec
     (λ c κs. (omega arith, (c .before .before .before .pre 0 (omega arith), omega arith)))
     (λ c κs.
-    let before = c .before .before .before in
-    (omega arith, (before .before .before .before .before .pre 1 (omega arith), before .list-tree .ensures .0 .1)))
+    let first = c .before .before .before in
+    let start = first .before .before .before .before in
+    (omega arith, (start .pre 1 (omega arith), first .list-tree .ensures .0 .1)))
     (λ c κs.
-    let before = c .before .before .before in
-    (omega arith, (before .before .before .before .before .before .before .before .before .pre 2 (omega arith), before .list-tree2 .ensures .0 .1)))
+    let second = c .before .before .before in
+    let start = second .before .before .before .before .before .before .before .before in
+    (omega arith, (start .pre 2 (omega arith), second .list-tree2 .ensures .0 .1)))
     (λ c κs.
-    let before = c .before .before .before in
-    (omega arith, (before .before .before .before .before .before .before .before .before .before .before .before .before .pre 3 (omega arith), before .list-tree3 .ensures .0 .1)))
+    let third = c .before .before .before in
+    let start = third .before .before .before .before .before .before .before .before .before .before .before .before in
+    (omega arith, (start .pre 3 (omega arith), third .list-tree3 .ensures .0 .1)))
     (λ c. search needs)
     (λ c.
     let four = c .before .before in

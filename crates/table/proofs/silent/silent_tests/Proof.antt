@@ -3,7 +3,7 @@ use borrow.Author.Needs.{needs}
 use mathlib.Core.Path.{sym, _∙_}
 use native.Mathlib.Omega.{arith}
 use Rattle.table.specs.Rewriting.{Bytes}
-use Rattle.table.proofs.Listing.{whole-all, Answers, answers-refused, answers-small, answers-lists}
+use Rattle.table.proofs.Listing.{whole-all, answers-refused, answers-small, answers-lists}
 use Rattle.table.proofs.silent.silent_tests.Statement.{statement}
 use Rattle.table.proofs.silent.silent_tests.Tie as tie
 
