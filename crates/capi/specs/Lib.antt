@@ -7,6 +7,7 @@ pub mod Fresh
 pub mod Figures
 pub mod Run
 pub mod Tables
+pub mod Silent
 pub mod Bars
 pub mod Finish
 pub mod Refused

@@ -3,6 +3,7 @@ pub mod bars;
 pub mod figures;
 pub mod run;
 mod settings;
+pub mod silent;
 pub mod state;
 pub mod tables;
 mod words;
