@@ -255,6 +255,13 @@ uint64_t ysh_check(const uint8_t *table, size_t table_len, uint64_t *nodes, uint
  * (give 0 where sizing is another); and the bytes that so many rows take. Refusals 1 to 9, then 12 at 7 for a lookback above 4,095. */
 uint64_t ysh_depth(const uint8_t *table, size_t table_len, uint64_t lookback, uint64_t *rows, uint64_t *bytes);
 
+/* Which tests of a table fall silent over a window of so many rows: a comparison, a cross, Between, Rising or Falling that
+ * reaches back so many bars or more answers no, whatever the rows hold, and every other test answers as over all rows. Done:
+ * the numbers of their nodes, in table order, and how many there are: none for as many rows as ysh_check names. 256 words are
+ * always enough. Refusals 1 to 9, then 10. */
+uint64_t ysh_silent(const uint8_t *table, size_t table_len, uint64_t rows,
+                    uint64_t *list, size_t list_len, uint64_t *count);
+
 /* Translates tree 0 entry, 1 exit, 2 short entry or 3 short exit of a table into steps, 16 bytes each. Done: how many bytes
  * of the room the list takes (hand these over, not the whole room); 0 for an absent tree, and for a tree of any other number.
  * Refusals 1 to 9, then 10 (room 3 + tree). */

@@ -2,4 +2,6 @@
 pub mod bars;
 mod calls;
 pub mod figures;
+pub mod run;
+pub mod silent;
 pub mod state;

@@ -10,3 +10,6 @@ pub mod Laws
 pub mod Edges
 pub mod Window
 pub mod WindowAnswers
+pub mod Shortage
+pub mod Silence
+pub mod AnyWindow

@@ -1,75 +1,75 @@
--- A run taken one step further, with the values in an array: the four places below them are always missing.
+-- A run taken one step further, with the values in two lists: the four places below them are always missing.
 use Prim.Native.Nat.{ℕ, zero, suc, _+_, _-_, _≤_, _<_, min}
 use mathlib.Core.Path.{_≡_, refl, sym, ap, _∙_}
-use mathlib.Core.Bool.{Bool, true, false, cond}
+use mathlib.Core.Bool.{Bool, true, false, cond, true≢false}
 use mathlib.Core.List.{List, [], _∷_}
 use native.Mathlib.Omega.{arith}
 use native.Mathlib.Nat.{ne-of-lt, sub-zero}
 use native.Mathlib.Numerals.{add-one, sub-one}
 use lib.Dec.{ltb}
-use lib.ListN.{length, getD, drop, set, length-set, replicate, length-replicate, getD-replicate}
+use lib.Ieee.{Float, nan}
+use lib.ListN.{length, drop, set, length-set, length-replicate, getD-replicate}
 use lib.Seq.{getD-set-same, getD-set-other}
 use borrow.Author.Tests.{ltb-true, ltb-false}
 use Rattle.rows.specs.History.{History}
 use Rattle.rules.specs.declared.PositionState.{PositionState}
 use Rattle.rules.specs.declared.Value.{Value}
-use Rattle.rules.specs.declared.Value.the-variants.{Missing}
+use Rattle.rules.specs.declared.Value.the-variants.{Missing, Number}
 use Rattle.steps.specs.declared.Op.{Op}
+use Rattle.steps.specs.declared.Ran.{Ran}
 use Rattle.steps.specs.Bytes.{opOf, stepAt, opsFrom}
-use Rattle.steps.specs.Machine.{Values, Effect, nth, keep, given, giving, saying, passing, effect, does, after, run, places, start, ranOver}
+use Rattle.steps.specs.Machine.{Values, Effect, nth, given, giving, saying, passing, effect, does, after, run, places, start, ranOver}
+use Rattle.steps.specs.Places.{numberOf, isThere, valueAt, Fresh, Tries}
 
 -- ---- the values
 
 -- the first `top` values above the four, the last first
-pub shown : List Value → ℕ → List Value
-shown st zero = []
-shown st (suc p) = getD st (p + 4) Missing ∷ shown st p
+pub shown : List Float → List Bool → ℕ → List Value
+shown ns ts zero = []
+shown ns ts (suc p) = valueAt ns ts (p + 4) ∷ shown ns ts p
 
-length-shown : (st : List Value) (top : ℕ) → length (shown st top) ≡ top
+-- the four places below the values
+abbrev Low : List Float → List Bool → Type 0
+Low ns ts = (j : ℕ) → j < 4 → valueAt ns ts j ≡ Missing
+
+module _ (ns : List Float) (ts : List Bool) where
+  nth-shown : Low ns ts → (top j : ℕ) → j ≤ 3 → nth (shown ns ts top) j ≡ valueAt ns ts (top + 3 - j)
+  unfolding shown
+  nth-shown low zero j le = sym (low (0 + 3 - j) (omega arith))
+  nth-shown low (suc p) zero le = ap (λ (n : ℕ). valueAt ns ts n) (omega arith)
+  nth-shown low (suc p) (suc j) le = nth-shown low p j (omega arith) ∙ ap (λ (n : ℕ). valueAt ns ts n) (omega arith)
+
+  drop-shown : (top m : ℕ) → drop m (shown ns ts top) ≡ shown ns ts (top - m)
+  unfolding shown
+  drop-shown top zero = rw (sub-zero top)
+  drop-shown zero (suc m) = let e : 0 - suc m ≡ 0 = omega arith in rw e
+  drop-shown (suc p) (suc m) = let e : suc p - suc m ≡ p - m = omega arith in rw e (drop-shown p m)
+
+-- a value is its number where it is there
+two : (v : Value) → cond (isThere v) (Number (numberOf v)) Missing ≡ v
+unfolding isThere numberOf
+two Missing = refl
+two (Number x) = refl
+
+-- a value put at place i
+module _ (ns : List Float) (ts : List Bool) (i : ℕ) (v : Value) where
+  put-other : (j : ℕ) → j < i → valueAt (set ns i (numberOf v)) (set ts i (isThere v)) j ≡ valueAt ns ts j
+  unfolding valueAt
+  put-other j l = rw (getD-set-other ts i j (isThere v) false (ne-of-lt l), getD-set-other ns i j (numberOf v) nan (ne-of-lt l))
+
+  put-same : i < length ns → i < length ts → valueAt (set ns i (numberOf v)) (set ts i (isThere v)) i ≡ v
+  unfolding valueAt
+  put-same l m = rw (getD-set-same ts i (isThere v) false m, getD-set-same ns i (numberOf v) nan l) (two v)
+
+  set-shown : (top : ℕ) → top + 4 ≤ i → shown (set ns i (numberOf v)) (set ts i (isThere v)) top ≡ shown ns ts top
+  unfolding shown
+  set-shown zero le = refl
+  set-shown (suc p) le = rw (put-other (p + 4) (omega arith), set-shown p (omega arith))
+
+put-shown : (ns : List Float) (ts : List Bool) (v : Value) (under : ℕ) → under + 4 < length ns → under + 4 < length ts
+    → shown (set ns (under + 4) (numberOf v)) (set ts (under + 4) (isThere v)) (under + 1) ≡ v ∷ shown ns ts under
 unfolding shown
-length-shown st zero = refl
-length-shown st (suc p) = ap suc (length-shown st p)
-
-nth-shown : (st : List Value) → ((j : ℕ) → j < 4 → getD st j Missing ≡ Missing) → (top j : ℕ) → j ≤ 3
-    → nth (shown st top) j ≡ getD st (top + 3 - j) Missing
-unfolding shown
-nth-shown st low zero j le = sym (low (0 + 3 - j) (omega arith))
-nth-shown st low (suc p) zero le = ap (λ (n : ℕ). getD st n Missing) (omega arith)
-nth-shown st low (suc p) (suc j) le = nth-shown st low p j (omega arith) ∙ ap (λ (n : ℕ). getD st n Missing) (omega arith)
-
-drop-shown : (st : List Value) (top m : ℕ) → drop m (shown st top) ≡ shown st (top - m)
-unfolding shown
-drop-shown st top zero = rw (sub-zero top)
-drop-shown st zero (suc m) = let e : 0 - suc m ≡ 0 = omega arith in rw e
-drop-shown st (suc p) (suc m) = let e : suc p - suc m ≡ p - m = omega arith in rw e (drop-shown st p m)
-
-set-shown : (st : List Value) (v : Value) (i top : ℕ) → top + 4 ≤ i → shown (set st i v) top ≡ shown st top
-unfolding shown
-set-shown st v i zero le = refl
-set-shown st v i (suc p) le = rw (getD-set-other st i (p + 4) v Missing (ne-of-lt (omega arith)), set-shown st v i p (omega arith))
-
-put-one : (st : List Value) (v : Value) (top : ℕ) → top + 4 < length st → shown (set st (top + 4) v) (suc top) ≡ v ∷ shown st top
-unfolding shown
-put-one st v top fit = rw (getD-set-same st (top + 4) v Missing fit, set-shown st v (top + 4) top (omega arith))
-
--- how many values there are once one more is given
-abbrev pub raisedOf : ℕ → ℕ
-raisedOf under = cond (ltb under 64) (under + 1) under
-
-raised-fits : (under : ℕ) → under ≤ 64 → raisedOf under ≤ 64
-raised-fits under le = go (ltb under 64) refl
-  where
-    go : (t : Bool) → ltb under 64 ≡ t → cond t (under + 1) under ≤ 64
-    go true e = omega (arith, ltb-true under 64 e)
-    go false e = le
-
-put-shown : (st : List Value) (v : Value) (under : ℕ) → under ≤ 64 → length st ≡ 69
-    → shown (set st (under + 4) v) (raisedOf under) ≡ keep v (shown st under)
-put-shown st v under le room = unfold keep in rw (length-shown st under) (go (ltb under 64))
-  where
-    go : (t : Bool) → shown (set st (under + 4) v) (cond t (under + 1) under) ≡ cond t (v ∷ shown st under) (shown st under)
-    go true = rw (add-one under) (put-one st v under (omega arith))
-    go false = set-shown st v (under + 4) under (omega arith)
+put-shown ns ts v under l m = rw (add-one under, put-same ns ts (under + 4) v l m, set-shown ns ts (under + 4) v under (omega arith))
 
 -- ---- jumps
 
@@ -135,25 +135,32 @@ module _ (h : History) (s : PositionState) (bs : List ℕ) where
 abbrev pub holding : Bool → List Value → Values
 holding b vs = record { stack = vs; answer = b }
 
+-- two lists with so many places above the four
+pub record Room (most : ℕ) (ns : List Float) (ts : List Bool) : Type 0 where
+  pub numbers : length ns ≡ most + 4
+  pub theres : length ts ≡ most + 4
+  pub low : (j : ℕ) → j < 4 → valueAt ns ts j ≡ Missing
+
 -- a run that has come to place p
-pub record Going (h : History) (s : PositionState) (bs : List ℕ) (n : ℕ) (st : List Value) (top : ℕ) (y : Bool) (visits p : ℕ) : Type 0 where
-  pub room : length st ≡ 69
-  pub low : (j : ℕ) → j < 4 → getD st j Missing ≡ Missing
-  pub tall : top ≤ 64
+pub record Going (h : History) (s : PositionState) (bs : List ℕ) (n most : ℕ) (ns : List Float) (ts : List Bool) (top : ℕ)
+    (y : Bool) (visits p : ℕ) : Type 0 where
+  pub room : Room most ns ts
+  pub tall : top ≤ most
+  pub pushed : top ≤ p
   pub seen : visits ≤ p
   pub on : p ≤ n
-  pub same : run h s (opsFrom bs 0 n) 0 start ≡ run h s (opsFrom bs p (n - p)) 0 (holding y (shown st top))
-  pub count : length (places h s 0 (opsFrom bs 0 n) 0 start) ≡ visits + length (places h s p (opsFrom bs p (n - p)) 0 (holding y (shown st top)))
+  pub same : run h s (opsFrom bs 0 n) 0 start ≡ run h s (opsFrom bs p (n - p)) 0 (holding y (shown ns ts top))
+  pub count : length (places h s 0 (opsFrom bs 0 n) 0 start) ≡ visits + length (places h s p (opsFrom bs p (n - p)) 0 (holding y (shown ns ts top)))
 
 -- ---- a step further
 
-module _ (h : History) (s : PositionState) (bs : List ℕ) (n : ℕ) (st : List Value) (top : ℕ) (y : Bool) (visits p : ℕ)
-    (g : Going h s bs n st top y visits p) (more : p < n) where
+module _ (h : History) (s : PositionState) (bs : List ℕ) (n most : ℕ) (ns : List Float) (ts : List Bool) (top : ℕ) (y : Bool) (visits p : ℕ)
+    (g : Going h s bs n most ns ts top y visits p) (more : p < n) where
   -- what the step at p does
   abbrev pub done : Effect
-  done = effect h s (opOf (stepAt bs p)) (getD st (top + 3) Missing) (getD st (top + 2) Missing) (getD st (top + 1) Missing) (getD st top Missing) y
+  done = effect h s (opOf (stepAt bs p)) (valueAt ns ts (top + 3)) (valueAt ns ts (top + 2)) (valueAt ns ts (top + 1)) (valueAt ns ts top) y
 
-  did : does h s (opOf (stepAt bs p)) (holding y (shown st top)) ≡ done
+  did : does h s (opOf (stepAt bs p)) (holding y (shown ns ts top)) ≡ done
   unfolding does
   did =
       let at0 : top + 3 - 0 ≡ top + 3 = omega arith in
@@ -161,36 +168,35 @@ module _ (h : History) (s : PositionState) (bs : List ℕ) (n : ℕ) (st : List 
       let at2 : top + 3 - 2 ≡ top + 1 = omega arith in
       let at3 : top + 3 - 3 ≡ top = omega arith in
       rw (
-        nth-shown st (g .low) top 0 (omega arith),
-        nth-shown st (g .low) top 1 (omega arith),
-        nth-shown st (g .low) top 2 (omega arith),
-        nth-shown st (g .low) top 3 (omega arith),
+        nth-shown ns ts (g .room .low) top 0 (omega arith),
+        nth-shown ns ts (g .room .low) top 1 (omega arith),
+        nth-shown ns ts (g .room .low) top 2 (omega arith),
+        nth-shown ns ts (g .room .low) top 3 (omega arith),
         at0,
         at1,
         at2,
         at3,
       )
 
-  module _ (e : Effect) (is : done ≡ e) (st' : List Value) (top' : ℕ) (room : length st' ≡ 69)
-      (low : (j : ℕ) → j < 4 → getD st' j Missing ≡ Missing) (tall : top' ≤ 64)
-      (leaves : shown st' top' ≡ given (e .gives) (e .value) (shown st (top - e .take))) where
+  module _ (e : Effect) (is : done ≡ e) (ns' : List Float) (ts' : List Bool) (top' : ℕ) (room : Room most ns' ts') (tall : top' ≤ most)
+      (pushed : top' ≤ min n (p + 1 + e .skip)) (leaves : shown ns' ts' top' ≡ given (e .gives) (e .value) (shown ns ts (top - e .take))) where
     left : Values
-    left = holding (e .answer) (shown st' top')
+    left = holding (e .answer) (shown ns' ts' top')
 
-    after-it : after e (holding y (shown st top)) ≡ left
+    after-it : after e (holding y (shown ns ts top)) ≡ left
     unfolding after left
-    after-it = rw (drop-shown st top (e .take), leaves)
+    after-it = rw (drop-shown ns ts top (e .take), leaves)
 
     q : ℕ
     q = p + 1 + e .skip
 
-    run-next : run h s (opsFrom bs p (n - p)) 0 (holding y (shown st top)) ≡ run h s (opsFrom bs (min n q) (n - min n q)) 0 left
+    run-next : run h s (opsFrom bs p (n - p)) 0 (holding y (shown ns ts top)) ≡ run h s (opsFrom bs (min n q) (n - min n q)) 0 left
     unfolding q
     run-next =
         let rest : n - p - 1 - e .skip ≡ n - (p + 1 + e .skip) = omega arith in
         rw (
           one-more h s bs p (n - p) (omega arith),
-          run-cons h s bs (opsFrom bs (p + 1) (n - p - 1)) (opOf (stepAt bs p)) (holding y (shown st top)),
+          run-cons h s bs (opsFrom bs (p + 1) (n - p - 1)) (opOf (stepAt bs p)) (holding y (shown ns ts top)),
           did,
           is,
           after-it,
@@ -198,13 +204,13 @@ module _ (h : History) (s : PositionState) (bs : List ℕ) (n : ℕ) (st : List 
           rest,
         ) (run-landed h s bs n (p + 1 + e .skip) left)
 
-    places-next : places h s p (opsFrom bs p (n - p)) 0 (holding y (shown st top)) ≡ p ∷ places h s (min n q) (opsFrom bs (min n q) (n - min n q)) 0 left
+    places-next : places h s p (opsFrom bs p (n - p)) 0 (holding y (shown ns ts top)) ≡ p ∷ places h s (min n q) (opsFrom bs (min n q) (n - min n q)) 0 left
     unfolding q
     places-next =
         let rest : n - p - 1 - e .skip ≡ n - (p + 1 + e .skip) = omega arith in
         rw (
           one-more h s bs p (n - p) (omega arith),
-          places-cons h s bs p (opsFrom bs (p + 1) (n - p - 1)) (opOf (stepAt bs p)) (holding y (shown st top)),
+          places-cons h s bs p (opsFrom bs (p + 1) (n - p - 1)) (opOf (stepAt bs p)) (holding y (shown ns ts top)),
           did,
           is,
           after-it,
@@ -212,13 +218,13 @@ module _ (h : History) (s : PositionState) (bs : List ℕ) (n : ℕ) (st : List 
           rest,
         ) (ap (λ (ps : List ℕ). p ∷ ps) (places-landed h s bs n (p + 1 + e .skip) left))
 
-    going-on : Going h s bs n st' top' (e .answer) (visits + 1) (min n (p + 1 + e .skip))
+    going-on : Going h s bs n most ns' ts' top' (e .answer) (visits + 1) (min n (p + 1 + e .skip))
     unfolding left q
     going-on =
         record {
           room = room;
-          low = low;
           tall = tall;
+          pushed = pushed;
           seen = omega (arith, g .seen);
           on = omega arith;
           same = g .same ∙ run-next;
@@ -228,54 +234,84 @@ module _ (h : History) (s : PositionState) (bs : List ℕ) (n : ℕ) (st : List 
   next : min n (p + 1 + 0) ≡ p + 1
   next = omega (arith, more)
 
-  -- a step that takes m values and gives one
-  pub going-give : (m : ℕ) (v : Value) → done ≡ giving m v y → Going h s bs n (set st (top - m + 4) v) (raisedOf (top - m)) y (visits + 1) (p + 1)
-  going-give m v is =
-      rw next at (going-on (giving m v y) is (set st (top - m + 4) v) (raisedOf (top - m))
-      (length-set st (top - m + 4) v ∙ g .room)
-      (λ j l. getD-set-other st (top - m + 4) j v Missing (ne-of-lt (omega arith)) ∙ g .low j l)
-      (raised-fits (top - m) (omega (arith, g .tall)))
-      (put-shown st v (top - m) (omega (arith, g .tall)) (g .room)))
+  -- a step that takes m values and gives one, for which there is a place
+  pub going-give : (m : ℕ) (v : Value) → top - m < most → done ≡ giving m v y
+      → Going h s bs n most (set ns (top - m + 4) (numberOf v)) (set ts (top - m + 4) (isThere v)) (top - m + 1) y (visits + 1) (p + 1)
+  going-give m v free is =
+      rw next at (going-on (giving m v y) is (set ns (top - m + 4) (numberOf v)) (set ts (top - m + 4) (isThere v)) (top - m + 1)
+      (record {
+        numbers = length-set ns (top - m + 4) (numberOf v) ∙ g .room .numbers;
+        theres = length-set ts (top - m + 4) (isThere v) ∙ g .room .theres;
+        low = λ j l. put-other ns ts (top - m + 4) v j (omega arith) ∙ g .room .low j l;
+      })
+      (omega (arith, free))
+      (omega (arith, g .pushed, more))
+      (put-shown ns ts v (top - m) (omega (arith, free, g .room .numbers)) (omega (arith, free, g .room .theres))))
 
   -- a leaf: none is taken
-  pub going-leaf : (v : Value) → done ≡ giving 0 v y → Going h s bs n (set st (top + 4) v) (raisedOf top) y (visits + 1) (p + 1)
-  going-leaf v is = rw (sub-zero top) at (going-give 0 v is)
+  pub going-leaf : (v : Value) → top < most → done ≡ giving 0 v y
+      → Going h s bs n most (set ns (top + 4) (numberOf v)) (set ts (top + 4) (isThere v)) (top + 1) y (visits + 1) (p + 1)
+  going-leaf v free is = rw (sub-zero top) at (going-give 0 v (omega (arith, free)) is)
 
   -- a step that takes m values and answers
-  pub going-say : (m : ℕ) (w : Bool) → done ≡ saying m w → Going h s bs n st (top - m) w (visits + 1) (p + 1)
-  going-say m w is = rw next at (going-on (saying m w) is st (top - m) (g .room) (g .low) (omega (arith, g .tall)) refl)
+  pub going-say : (m : ℕ) (w : Bool) → done ≡ saying m w → Going h s bs n most ns ts (top - m) w (visits + 1) (p + 1)
+  going-say m w is =
+      rw next at (going-on (saying m w) is ns ts (top - m) (g .room) (omega (arith, g .tall)) (omega (arith, g .pushed, more)) refl)
 
   -- a step that sets the answer: none is taken
-  pub going-set : (w : Bool) → done ≡ saying 0 w → Going h s bs n st top w (visits + 1) (p + 1)
+  pub going-set : (w : Bool) → done ≡ saying 0 w → Going h s bs n most ns ts top w (visits + 1) (p + 1)
   going-set w is = rw (sub-zero top) at (going-say 0 w is)
 
   -- a step that passes over k others
-  pub going-pass : (k : ℕ) → done ≡ passing k y → Going h s bs n st top y (visits + 1) (min n (p + 1 + k))
-  going-pass k is = going-on (passing k y) is st top (g .room) (g .low) (g .tall) (rw (sub-zero top))
+  pub going-pass : (k : ℕ) → done ≡ passing k y → Going h s bs n most ns ts top y (visits + 1) (min n (p + 1 + k))
+  going-pass k is = going-on (passing k y) is ns ts top (g .room) (g .tall) (omega (arith, g .pushed, more)) (rw (sub-zero top))
 
   -- a jump that is not taken
-  pub going-stay : done ≡ passing 0 y → Going h s bs n st top y (visits + 1) (p + 1)
+  pub going-stay : done ≡ passing 0 y → Going h s bs n most ns ts top y (visits + 1) (p + 1)
   going-stay is = rw next at (going-pass 0 is)
 
-pub going-start : (h : History) (s : PositionState) (bs : List ℕ) (n : ℕ) → Going h s bs n (replicate 69 Missing) 0 false 0 0
-unfolding shown
-going-start h s bs n =
+-- the second list is as long as the first
+pub fresh-long : (most : ℕ) (ns : List Float) (ts : List Bool) → Fresh most ns ts → length ts ≡ most + 4
+fresh-long most ns ts f = rw (f .none) (length-replicate (most + 4) false)
+
+pub going-start : (h : History) (s : PositionState) (bs : List ℕ) (n most : ℕ) (ns : List Float) (ts : List Bool) → Fresh most ns ts
+    → Going h s bs n most ns ts 0 false 0 0
+unfolding shown valueAt
+going-start h s bs n most ns ts f =
     let z : n - 0 ≡ n = omega arith in
     record {
-      room = length-replicate 69 Missing;
-      low = λ j l. getD-replicate 69 j Missing Missing (omega arith);
+      room = record {
+        numbers = f .long;
+        theres = fresh-long most ns ts f;
+        low = λ j l. rw (f .none, getD-replicate (most + 4) j false false (omega arith));
+      };
       tall = omega arith;
+      pushed = omega arith;
       seen = omega arith;
       on = omega arith;
       same = rw z;
       count = rw z (omega arith);
     }
 
-pub going-end : (h : History) (s : PositionState) (bs : List ℕ) (n : ℕ) (st : List Value) (top : ℕ) (y : Bool) (visits p : ℕ)
-    → Going h s bs n st top y visits p → n ≤ p → record { answer = y; visits = visits } ≡ ranOver h s (opsFrom bs 0 n)
+pub going-end : (h : History) (s : PositionState) (bs : List ℕ) (n most : ℕ) (ns : List Float) (ts : List Bool) (top : ℕ) (y : Bool) (visits p : ℕ)
+    → Going h s bs n most ns ts top y visits p → n ≤ p → record { answer = y; visits = visits } ≡ ranOver h s (opsFrom bs 0 n)
 unfolding run places
-going-end h s bs n st top y visits p g le =
+going-end h s bs n most ns ts top y visits p g le =
     let none : opsFrom bs p (n - p) ≡ [] = none-left h s bs p (n - p) (omega arith) in
     let said : y ≡ ranOver h s (opsFrom bs 0 n) .answer = rw (g .same, none) in
     let seen : visits ≡ ranOver h s (opsFrom bs 0 n) .visits = rw (g .count, none) (omega arith) in
     rw (said, seen)
+
+-- ---- a run with so many places for values
+
+-- with a place for each step it is the run
+pub tried-whole : (ran : Ran) (n most : ℕ) (full : Bool) (r : Ran) → n ≤ most → Tries ran n most full r → r ≡ ran
+unfolding Tries
+tried-whole ran n most true r le t = absurd (omega arith)
+tried-whole ran n most false r le t = t
+
+-- and so it is where no value was short of one
+pub tried-through : (ran : Ran) (n most : ℕ) (full : Bool) (r : Ran) → full ≡ false → Tries ran n most full r → r ≡ ran
+unfolding Tries
+tried-through ran n most true r e t = absurd (true≢false e)
+tried-through ran n most false r e t = t

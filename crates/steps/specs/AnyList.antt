@@ -1,5 +1,5 @@
 -- A well-formed list, wherever it comes from, answers over the last D rows what it answers over all, and visits the same steps.
-use Prim.Native.Nat.{ℕ, zero, suc, _+_, _-_, _%_, _≤_, _<_}
+use Prim.Native.Nat.{ℕ, zero, suc, _+_, _-_, _%_, _≤_, _<_, min}
 use mathlib.Core.Path.{_≡_, refl, sym, ap}
 use mathlib.Core.Bool.{Bool, true, false, cond, _&&_}
 use mathlib.Core.List.{List, [], _∷_}
@@ -18,7 +18,7 @@ use Rattle.steps.specs.declared.Formed.the-variants.{Well, Bad}
 use Rattle.steps.specs.declared.Op.{Op}
 use Rattle.steps.specs.declared.Op.the-variants.{Const, Ref, Price, Arith, Compare, Cross, Between, Answer, Turn, InPosition, BarsSinceEntry, JumpIf}
 use Rattle.steps.specs.declared.Op.the-variants.{Unknown}
-use Rattle.steps.specs.Bytes.{opOf, stepAt, opsFrom, opsOf, stepsIn}
+use Rattle.steps.specs.Bytes.{opOf, stepAt, opsFrom, opsOf, stepsIn, stepsRun}
 use Rattle.steps.specs.Machine.{Values, ago, effect, does, after, run, places, start, ranOver}
 use Rattle.steps.specs.WellFormed.{plain, bounded, goodStep, formedFrom, formed}
 
@@ -51,14 +51,25 @@ bounded-from K D bs p (suc m) w =
     )
 
 -- of the parts of `formed`
-well-parts : (a b : Bool) (f : Formed) → cond a (cond b (Bad 0) f) (Bad 0) ≡ Well → f ≡ Well
-well-parts true true f e = cc
-well-parts true false f e = e
-well-parts false b f e = cc
+well-parts : (a b : Bool) (f : Formed) → cond a (cond b (Bad 0) f) (Bad 0) ≡ Well → (b ≡ false) × (f ≡ Well)
+well-parts true true f e = let never : _≡_ {A = ℕ} 0 1 = cc in absurd (omega arith)
+well-parts true false f e = (refl, e)
+well-parts false b f e = let never : _≡_ {A = ℕ} 0 1 = cc in absurd (omega arith)
 
-bounded-ops : (K D : ℕ) (bs : List ℕ) → formed K D bs ≡ Well → Bounded K D (opsOf bs)
-unfolding formed opsOf
-bounded-ops K D bs w = bounded-from K D bs 0 (stepsIn bs) (well-parts (eqb (length bs % 16) 0) (ltb 1024 (stepsIn bs)) (formedFrom K D bs 0 (stepsIn bs)) w)
+module _ (K D : ℕ) (bs : List ℕ) (well : formed K D bs ≡ Well) where
+  parts : (ltb 1024 (stepsIn bs) ≡ false) × (formedFrom K D bs 0 (stepsIn bs) ≡ Well)
+  unfolding formed
+  parts = well-parts (eqb (length bs % 16) 0) (ltb 1024 (stepsIn bs)) (formedFrom K D bs 0 (stepsIn bs)) well
+
+  -- a well-formed list is run whole: it has no step past the 1,024th
+  pub run-whole : opsOf bs ≡ opsFrom bs 0 (stepsIn bs)
+  unfolding opsOf stepsRun
+  run-whole =
+      let all : min 1024 (stepsIn bs) ≡ stepsIn bs = omega (arith, ltb-false 1024 (stepsIn bs) (parts .0)) in
+      rw all
+
+  bounded-ops : Bounded K D (opsOf bs)
+  bounded-ops = rw run-whole (bounded-from K D bs 0 (stepsIn bs) (parts .1))
 
 -- ---- a leaf less than D rows back
 

@@ -1,5 +1,5 @@
 -- A list of steps as bytes: read and written. Definitions only.
-use Prim.Native.Nat.{ℕ, zero, suc, _+_, _*_, _/_, _%_, _≤_}
+use Prim.Native.Nat.{ℕ, zero, suc, _+_, _*_, _/_, _%_, _≤_, min}
 use mathlib.Core.Path.{_≡_}
 use mathlib.Core.Bool.{cond}
 use mathlib.Core.List.{List, [], _∷_, _++_}
@@ -68,9 +68,16 @@ unfoldable pub opsFrom : List ℕ → ℕ → ℕ → List Op
 opsFrom bs p zero = []
 opsFrom bs p (suc m) = opOf (stepAt bs p) ∷ opsFrom bs (p + 1) m
 
+-- "A list is well formed when it is whole steps, at most 1,024". Decided: of a longer one, which no run takes (15), no more count.
+abbrev pub mostSteps : ℕ
+mostSteps = 1024
+
+unfoldable pub stepsRun : List ℕ → ℕ
+stepsRun bs = min mostSteps (stepsIn bs)
+
 -- What all of its steps say.
 unfoldable pub opsOf : List ℕ → List Op
-opsOf bs = opsFrom bs 0 (stepsIn bs)
+opsOf bs = opsFrom bs 0 (stepsRun bs)
 
 -- ---- writing
 

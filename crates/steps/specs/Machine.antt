@@ -22,14 +22,6 @@ pub record Values : Type 0 where
   pub stack : List Value
   pub answer : Bool
 
--- Decided: the machine holds 64 values.
-abbrev pub capacity : ℕ
-capacity = 64
-
--- Decided: "a value that finds no place is not kept".
-unfoldable pub keep : Value → List Value → List Value
-keep v vs = cond (ltb (length vs) capacity) (v ∷ vs) vs
-
 -- "a value not there counts as missing": the value j places below the last.
 abbrev pub nth : List Value → ℕ → Value
 nth vs j = getD vs j Missing
@@ -87,7 +79,7 @@ does h s x v =
 
 -- one value more, or none
 abbrev pub given : Bool → Value → List Value → List Value
-given true v vs = keep v vs
+given true v vs = v ∷ vs
 given false v vs = vs
 
 -- the values after a step

@@ -12,7 +12,7 @@ use Rattle.rules.specs.declared.PositionState.{PositionState}
 use Rattle.rules.specs.declared.Entered.the-variants.{Never}
 use Rattle.rules.specs.Values.{priceOf, slotOf, both, tested, compared, crossed}
 use Rattle.rules.specs.Meaning.{newest, there, value}
-use Rattle.steps.specs.Machine.{keep, ago, effect, does, after, run, answers}
+use Rattle.steps.specs.Machine.{ago, effect, does, after, run, answers}
 use Rattle.steps.specs.Translation.{code, codeOf}
 
 -- a row of two slots, both present, with this close and these slot words
@@ -66,5 +66,5 @@ split = record { enough = true; short = false }
 
 pub one-row-less : cases ≡ (split ∷ split ∷ split ∷ split ∷ split ∷ split ∷ [])
 unfolding row ten eleven flat overLast both-ways close rising falling cases historyOf lastRows newest there value priceOf slotOf both tested compared
-    crossed reach reachOf keep ago effect does after run code codeOf abs Ieee.lt Ieee.le Ieee.sub Ieee.ofBits
+    crossed reach reachOf ago effect does after run code codeOf abs Ieee.lt Ieee.le Ieee.sub Ieee.ofBits
 one-row-less = refl

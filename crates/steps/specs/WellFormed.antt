@@ -10,7 +10,7 @@ use Rattle.steps.specs.declared.Formed.the-variants.{Well, Bad}
 use Rattle.steps.specs.declared.Op.{Op}
 use Rattle.steps.specs.declared.Op.the-variants.{Const, Ref, Price, Arith, Compare, Cross, Between, Answer, Turn, InPosition, BarsSinceEntry, JumpIf}
 use Rattle.steps.specs.declared.Op.the-variants.{Unknown}
-use Rattle.steps.specs.Bytes.{stepAt, opOf, stepsIn}
+use Rattle.steps.specs.Bytes.{stepAt, opOf, stepsIn, mostSteps}
 
 unfoldable pub zeros : ℕ → ℕ → ℕ → ℕ → Bool
 zeros selector skip n bits = eqb selector 0 && eqb skip 0 && eqb n 0 && eqb bits 0
@@ -56,9 +56,6 @@ formedFrom K D bs p zero = Well
 formedFrom K D bs p (suc m) = cond (goodStep K D m (stepAt bs p)) (formedFrom K D bs (p + 1) m) (Bad p)
 
 -- "A list is well formed when it is whole steps, at most 1,024, each of ..": "0 for a bad length"
-abbrev pub mostSteps : ℕ
-mostSteps = 1024
-
 unfoldable pub formed : ℕ → ℕ → List ℕ → Formed
 formed K D bs =
     cond (eqb (length bs % 16) 0) (cond (ltb mostSteps (stepsIn bs)) (Bad 0) (formedFrom K D bs 0 (stepsIn bs))) (Bad 0)

@@ -26,7 +26,7 @@ use Rattle.rules.specs.Window.{window}
 use Rattle.steps.specs.declared.Formed.the-variants.{Well}
 use Rattle.steps.specs.declared.RunAnswer.the-variants.{Runs}
 use Rattle.steps.specs.Machine.{run, answers, visited}
-use Rattle.steps.specs.Bytes.{bytesOf, opsFrom, opsOf}
+use Rattle.steps.specs.Bytes.{bytesOf, opsFrom, opsOf, stepsRun}
 use Rattle.steps.specs.Translation.{codeOf}
 use Rattle.steps.specs.Laws.Compiled.{compiled}
 use Rattle.steps.specs.Room.{two-a-node}
@@ -61,11 +61,11 @@ module _ (t : List ℕ) (n r : ℕ) (ok : checked t ≡ Accepted n r) (bytes : B
     reads-there : opsOf (bytesOf (stepsOf t x)) ≡ codeOf (treeOf t x)
     reads-there =
         let reach : reachOf (treeOf t x) ≤ 4095 = within .reaches in
-        rw there (reads-back (slots t) (reachOf (treeOf t x) + 1) (header-of t n r ok .few-slots) (omega arith) (codeOf (treeOf t x))
-        (good (reachOf (treeOf t x) + 1) (omega arith)))
+        let D : ℕ = reachOf (treeOf t x) + 1 in
+        rw there (reads-back (slots t) D (header-of t n r ok .few-slots) (omega arith) (codeOf (treeOf t x)) short (good D (omega arith)))
 
     says-there : (h : History) (s : PositionState) → answers h s (opsOf (bytesOf (stepsOf t x))) ≡ says h s (treeOf t x)
-    says-there h s = rw reads-there (compiled h s (treeOf t x) (omega (arith, within .nesting)))
+    says-there h s = rw reads-there (compiled h s (treeOf t x))
 
   -- ---- an absent tree has no steps, and says no
 
@@ -79,7 +79,7 @@ module _ (t : List ℕ) (n r : ℕ) (ok : checked t ≡ Accepted n r) (bytes : B
     well-absent D = rw absent refl
 
     says-absent : (h : History) (s : PositionState) → answers h s (opsOf (bytesOf (stepsOf t x))) ≡ says h s (treeOf t x)
-    unfolding run opsOf opsFrom bytesOf
+    unfolding run opsOf opsFrom stepsRun bytesOf
     says-absent h s = rw (absent, absent-says t x none h s)
 
   -- ---- any tree

@@ -4,6 +4,7 @@ pub mod decode;
 mod emit;
 pub mod machine;
 pub mod running;
+mod stack;
 pub mod translation;
 pub mod wellformed;
 

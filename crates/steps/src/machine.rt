@@ -1,8 +1,10 @@
-// The step machine: what one step does, and the run of a whole list. It holds 64 values; a value that finds no place is not kept, and
-// a value that is not there counts as missing.
+// The step machine: what one step does, and the run of a whole list. "a value not there counts as missing", and every value is kept:
+// a list is run with a few places for values, and the rare list that needs more is run again with a place for each of its steps.
 use crate::Ran;
 use crate::Step;
 use crate::decode;
+use crate::stack;
+use crate::wellformed;
 use rules::PositionState;
 use rules::Value;
 use rules::values;
@@ -13,11 +15,18 @@ ghost use lib.Dec.{ltb, leb};
 ghost use Rattle.rows.specs.History.{History, historyOf};
 ghost use Rattle.rules.specs.Values as Values;
 ghost use Rattle.table.specs.Trees.{const, ref, price};
-ghost use Rattle.steps.specs.Bytes.{opOf, opsOf};
+ghost use Rattle.steps.specs.Bytes.{opOf, opsFrom, opsOf, stepsIn, stepsRun};
 ghost use Rattle.steps.specs.Machine.{ago, giving, saying, effect, ranOver};
+ghost use Rattle.steps.specs.Places.{Tries, Fresh};
 
-// "the machine holds 64 values"
-pub const CAPACITY: usize = 64;
+// The places for values that a run has at first. No translated list needs more.
+const FEW_PLACES: usize = 64;
+
+// How far a run with so many places for values came, and whether it stopped because a value found no place.
+struct Tried {
+    full: bool,
+    ran: Ran,
+}
 
 // A constant, `n` rows before the newest of `held` rows: missing where there are not more than n.
 fn const_ago(rows: &[u64], slots: usize, held: usize, bits: u64, n: u64) -> Value
@@ -152,13 +161,6 @@ fn left(top: usize, take: usize) -> usize
     if top < take { 0 } else { top - take }
 }
 
-// How many values there are once one more is given: it is kept where there is a place.
-fn raised(top: usize) -> usize
-    ensures { λ r. ⌜ r ≡ cond (ltb top 64) (top + 1) top ⌝ }
-{
-    if top < CAPACITY { top + 1 } else { top }
-}
-
 // The next place after p, of n places, where so many are passed over.
 fn landing(p: usize, skip: u64, n: usize) -> usize
     requires { ⌜ p < n ⌝ }
@@ -171,21 +173,37 @@ fn landing(p: usize, skip: u64, n: usize) -> usize
     n
 }
 
-// Runs a list over rows of so many slots each. Bytes at the end that are no whole step are not looked at. Below the values lie four
-// places that are always missing, and above them one for a value that is not kept. The kinds are asked for in the order of how
-// often they stand in a list; a jump is an `if`, not a sum, so that the next step need not wait for the answer.
-pub fn run(list: &[u8], rows: &[u64], slots: usize, s: PositionState) -> Ran
-    ensures { λ r. ⌜ r ≡ ranOver (historyOf slots (now (rows .entry))) s (opsOf (now (list .entry))) ⌝ }
+// How many steps of a list are run: whole ones, and no more than 1,024.
+fn steps_run(list: &[u8]) -> usize
+    ensures { λ r. ⌜ r ≡ stepsRun (now (list .entry)) ⌝ }
 {
-    let n = list.len() / 16;
-    if n == 0 {
-        return Ran {
-            answer: false,
-            visits: 0,
-        };
+    let whole = list.len() / 16;
+    if whole < wellformed::MOST_STEPS {
+        whole
+    } else {
+        wellformed::MOST_STEPS
     }
+}
+
+// The run of the first n steps with so many places for values. Below these lie four that are always missing: no step takes more. The
+// kinds are asked for in the order of how often they stand in a list; a jump is an `if`, not a sum, so that the next step need not
+// wait for the answer.
+fn run_with(
+    list: &[u8],
+    n: usize,
+    rows: &[u64],
+    slots: usize,
+    s: PositionState,
+    places: usize,
+    numbers: &mut [f64],
+    there: &mut [bool],
+) -> Tried
+    requires { ⌜ n ≤ stepsIn (now list) ⌝ }
+    requires { ⌜ (1 ≤ places) × (places ≤ 1024) ⌝ }
+    requires { ⌜ Fresh places (now numbers) (now there) ⌝ }
+    ensures { λ r. ⌜ Tries (ranOver (historyOf slots (now (rows .entry))) s (opsFrom (now (list .entry)) 0 n)) n places (r .full) (r .ran) ⌝ }
+{
     let held = rows::row_count(rows, slots);
-    let mut stack = [Value::Missing; 69];
     let mut top: usize = 0;
     let mut answer = false;
     let mut visits: usize = 0;
@@ -195,15 +213,20 @@ pub fn run(list: &[u8], rows: &[u64], slots: usize, s: PositionState) -> Ran
         let kind = x.kind;
         visits += 1;
         if is_among(kind, 1, 4) {
-            let v = leaf(x, rows, slots, held);
-            stack[top + 4] = v;
-            top = raised(top);
+            if top == places {
+                return Tried {
+                    full: true,
+                    ran: Ran { answer, visits },
+                };
+            }
+            stack::put(numbers, there, top + 4, leaf(x, rows, slots, held));
+            top += 1;
             p += 1;
         } else if is_among(kind, 16, 25) {
-            let a = stack[top + 3];
-            let b = stack[top + 2];
-            let c = stack[top + 1];
-            let d = stack[top];
+            let a = stack::at(numbers, there, top + 3);
+            let b = stack::at(numbers, there, top + 2);
+            let c = stack::at(numbers, there, top + 1);
+            let d = stack::at(numbers, there, top);
             answer = tested(kind, a, b, c, d);
             top = left(top, taken(kind));
             p += 1;
@@ -214,17 +237,70 @@ pub fn run(list: &[u8], rows: &[u64], slots: usize, s: PositionState) -> Ran
                 p += 1;
             }
         } else if is_among(kind, 5, 9) {
-            let a = stack[top + 3];
-            let b = stack[top + 2];
-            let v = values::both(kind, b, a);
+            let a = stack::at(numbers, there, top + 3);
+            let b = stack::at(numbers, there, top + 2);
             let under = left(top, 2);
-            stack[under + 4] = v;
-            top = raised(under);
+            stack::put(numbers, there, under + 4, values::both(kind, b, a));
+            top = under + 1;
             p += 1;
         } else {
             answer = said(x, s, answer);
             p += 1;
         }
     }
-    Ran { answer, visits }
+    Tried {
+        full: false,
+        ran: Ran { answer, visits },
+    }
+}
+
+// The run of a list of n steps, at most 1,024, with a place for each: none can be short of one.
+fn run_whole(list: &[u8], n: usize, rows: &[u64], slots: usize, s: PositionState) -> Ran
+    requires { ⌜ n ≤ stepsIn (now list) ⌝ }
+    requires { ⌜ n ≤ 1024 ⌝ }
+    ensures { λ r. ⌜ r ≡ ranOver (historyOf slots (now (rows .entry))) s (opsFrom (now (list .entry)) 0 n) ⌝ }
+{
+    let mut numbers = [0.0; 1028];
+    let mut there = [false; 1028];
+    let tried = run_with(
+        list,
+        n,
+        rows,
+        slots,
+        s,
+        wellformed::MOST_STEPS,
+        &mut numbers,
+        &mut there,
+    );
+    tried.ran
+}
+
+// Runs a list over rows of so many slots each. Bytes at the end that are no whole step are not looked at, nor steps past the
+// 1,024th.
+pub fn run(list: &[u8], rows: &[u64], slots: usize, s: PositionState) -> Ran
+    ensures { λ r. ⌜ r ≡ ranOver (historyOf slots (now (rows .entry))) s (opsOf (now (list .entry))) ⌝ }
+{
+    let n = steps_run(list);
+    if n == 0 {
+        return Ran {
+            answer: false,
+            visits: 0,
+        };
+    }
+    let mut numbers = [0.0; 68];
+    let mut there = [false; 68];
+    let tried = run_with(
+        list,
+        n,
+        rows,
+        slots,
+        s,
+        FEW_PLACES,
+        &mut numbers,
+        &mut there,
+    );
+    if tried.full {
+        return run_whole(list, n, rows, slots, s);
+    }
+    tried.ran
 }

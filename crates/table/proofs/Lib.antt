@@ -6,3 +6,4 @@ pub mod Weigh
 pub mod Four
 pub mod Final
 pub mod Needed
+pub mod Listing

@@ -25,3 +25,5 @@ pub mod WrittenForestRead
 pub mod WrittenTrees
 pub mod WrittenAccepted
 pub mod WrittenBytes
+-- ---- the tests that fall silent
+pub mod Silent

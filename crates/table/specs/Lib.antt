@@ -15,6 +15,7 @@ pub mod Reading
 pub mod Depth
 pub mod Writing
 pub mod Limits
+pub mod Silent
 -- ---- what the passes of the check promise each other
 pub mod Passes
 -- ---- laws of the definitions

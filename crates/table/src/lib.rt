@@ -9,6 +9,7 @@ pub mod nodes;
 mod order;
 pub mod places;
 pub mod reach;
+pub mod silent;
 pub mod trees;
 mod weighing;
 

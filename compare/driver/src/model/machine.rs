@@ -3,9 +3,6 @@
 use super::steps::{steps, Step};
 use crate::calls::{row_words, Position};
 
-/// The machine holds so many values; one that finds no place is not kept.
-const CAPACITY: usize = 64;
-
 struct Machine<'a> {
     rows: &'a [u64],
     width: usize,
@@ -77,9 +74,7 @@ impl Machine<'_> {
     }
 
     fn push(&mut self, value: Option<f64>) {
-        if self.values.len() < CAPACITY {
-            self.values.push(value);
-        }
+        self.values.push(value);
     }
 
     fn push_from(&mut self, back: u32, value: impl Fn(&[u64]) -> Option<f64>) {

@@ -1,22 +1,18 @@
 -- The steps of a tree answer what the tree means.
-use Prim.Native.Nat.{ℕ, _+_, _≤_, _<_}
+use Prim.Native.Nat.{ℕ, _+_}
 use mathlib.Core.Path.{_≡_, refl, sym, ap, _∙_}
 use mathlib.Core.Bool.{Bool, true, false, not, cond, _&&_, _||_}
 use mathlib.Core.List.{List, [], _∷_, _++_, append-assoc, append-nil}
-use native.Mathlib.Omega.{arith}
 use lib.ListN.{length}
-use borrow.Author.Tests.{lt-ltb}
 use Rattle.rows.specs.History.{History}
 use Rattle.table.specs.Trees.{Operand, const, ref, price, prev, arith as sums, Condition, Conditions, compare, cross, between, trend, every, any, negated}
 use Rattle.table.specs.Trees.{inPosition, barsSince, none, more}
-use Rattle.table.specs.Limits.{levels, levelsOf, levelsOfAll}
 use Rattle.rules.specs.declared.PositionState.{PositionState}
 use Rattle.rules.specs.declared.Value.{Value}
-use Rattle.rules.specs.Values.{both}
-use Rattle.rules.specs.Meaning.{holds, allHold, anyHolds, newest, says}
+use Rattle.rules.specs.Meaning.{value, holds, allHold, anyHolds, newest, says}
 use Rattle.steps.specs.declared.Op.{Op}
 use Rattle.steps.specs.declared.Op.the-variants.{Arith, Compare, Cross, Between, Turn, JumpIf}
-use Rattle.steps.specs.Machine.{Values, ago, keep, does, effect, after, run, start, answers}
+use Rattle.steps.specs.Machine.{Values, ago, does, effect, after, run, start, answers}
 use Rattle.steps.specs.Translation.{code, codeOf, codeEach, trendTest}
 use Rattle.steps.specs.Laws.Ago.{arith-ago, prev-ago, now-ago, cross-ago, trend-ago}
 
@@ -26,28 +22,22 @@ holding b vs = record { stack = vs; answer = b }
 abbrev push : Value → Values → Values
 push v x = record { stack = v ∷ x .stack; answer = x .answer }
 
--- a value that finds a place is kept
-kept : (v : Value) (vs : List Value) → length vs < 64 → keep v vs ≡ v ∷ vs
-unfolding keep
-kept v vs fit = rw (lt-ltb (length vs) 64 fit)
-
 module _ (h : History) (s : PositionState) where
   -- the steps of an operand push its value
-  operand-run : (a : Operand) (n : ℕ) (xs : List Op) (v : Values) → length (v .stack) + levels a ≤ 64
+  operand-run : (a : Operand) (n : ℕ) (xs : List Op) (v : Values)
       → run h s (code a n ++ xs) 0 v ≡ run h s xs 0 (push (ago h a n) v)
-  unfolding code run does effect after levels
-  operand-run (const b) n xs v fit = rw (kept (ago h (const b) n) (v .stack) (omega arith))
-  operand-run (ref k) n xs v fit = rw (kept (ago h (ref k) n) (v .stack) (omega arith))
-  operand-run (price k) n xs v fit = rw (kept (ago h (price k) n) (v .stack) (omega arith))
-  operand-run (prev a m) n xs v fit = rw (prev-ago h a m n) (operand-run a (n + m) xs v (omega arith))
-  operand-run (sums k a b) n xs v fit =
+  unfolding code run does effect after
+  operand-run (const b) n xs v = refl
+  operand-run (ref k) n xs v = refl
+  operand-run (price k) n xs v = refl
+  operand-run (prev a m) n xs v = rw (prev-ago h a m n) (operand-run a (n + m) xs v)
+  operand-run (sums k a b) n xs v =
       rw (
         append-assoc (code a n) (code b n ++ Arith k ∷ []) xs,
-        operand-run a n ((code b n ++ Arith k ∷ []) ++ xs) v (omega arith),
+        operand-run a n ((code b n ++ Arith k ∷ []) ++ xs) v,
         append-assoc (code b n) (Arith k ∷ []) xs,
-        operand-run b n (Arith k ∷ xs) (push (ago h a n) v) (omega arith),
+        operand-run b n (Arith k ∷ xs) (push (ago h a n) v),
         arith-ago h k a b n,
-        kept (both k (ago h a n) (ago h b n)) (v .stack) (omega arith),
       )
 
   -- a jump over the whole of a list
@@ -56,14 +46,14 @@ module _ (h : History) (s : PositionState) where
   passed [] xs v = refl
   passed (y ∷ ys) xs v = passed ys xs v
 
-  two-run : (a b : Operand) (m n : ℕ) (x : Op) (xs : List Op) (v : Values) → length (v .stack) + levels a ≤ 64 → length (v .stack) + 1 + levels b ≤ 64
+  two-run : (a b : Operand) (m n : ℕ) (x : Op) (xs : List Op) (v : Values)
       → run h s ((code a m ++ (code b n ++ x ∷ [])) ++ xs) 0 v ≡ run h s (x ∷ xs) 0 (push (ago h b n) (push (ago h a m) v))
-  two-run a b m n x xs v fit-a fit-b =
+  two-run a b m n x xs v =
       rw (
         append-assoc (code a m) (code b n ++ x ∷ []) xs,
-        operand-run a m ((code b n ++ x ∷ []) ++ xs) v fit-a,
+        operand-run a m ((code b n ++ x ∷ []) ++ xs) v,
         append-assoc (code b n) (x ∷ []) xs,
-        operand-run b n (x ∷ xs) (push (ago h a m) v) (omega arith),
+        operand-run b n (x ∷ xs) (push (ago h a m) v),
       )
 
   -- a child's answer b, and t for the rest: All (w is no) goes on at a yes, Any (w is yes) at a no
@@ -76,59 +66,59 @@ module _ (h : History) (s : PositionState) where
   each-next false false t ys xs vs ih = passed ys xs (holding false vs)
 
   mutual
-    unfolding codeOf holds run does effect after levelsOf
+    unfolding codeOf holds run does effect after
 
-    pub condition-run : (c : Condition) (xs : List Op) (v : Values) → length (v .stack) + levelsOf c + 2 ≤ 64
+    pub condition-run : (c : Condition) (xs : List Op) (v : Values)
         → run h s (codeOf c ++ xs) 0 v ≡ run h s xs 0 (holding (holds h s c (newest h)) (v .stack))
-    condition-run (compare k a b) xs v fit = rw (two-run a b 0 0 (Compare k) xs v (omega arith) (omega arith), now-ago h a, now-ago h b)
-    condition-run (cross k a b) xs v fit =
+    condition-run (compare k a b) xs v = rw (two-run a b 0 0 (Compare k) xs v, now-ago h a, now-ago h b)
+    condition-run (cross k a b) xs v =
         rw (
           append-assoc (code a 0) (code b 0 ++ (code a 1 ++ (code b 1 ++ Cross k ∷ []))) xs,
-          operand-run a 0 ((code b 0 ++ (code a 1 ++ (code b 1 ++ Cross k ∷ []))) ++ xs) v (omega arith),
+          operand-run a 0 ((code b 0 ++ (code a 1 ++ (code b 1 ++ Cross k ∷ []))) ++ xs) v,
           append-assoc (code b 0) (code a 1 ++ (code b 1 ++ Cross k ∷ [])) xs,
-          operand-run b 0 ((code a 1 ++ (code b 1 ++ Cross k ∷ [])) ++ xs) (push (ago h a 0) v) (omega arith),
-          two-run a b 1 1 (Cross k) xs (push (ago h b 0) (push (ago h a 0) v)) (omega arith) (omega arith),
+          operand-run b 0 ((code a 1 ++ (code b 1 ++ Cross k ∷ [])) ++ xs) (push (ago h a 0) v),
+          two-run a b 1 1 (Cross k) xs (push (ago h b 0) (push (ago h a 0) v)),
           cross-ago h k a b,
         )
-    condition-run (between x l u) xs v fit =
+    condition-run (between x l u) xs v =
         rw (
           append-assoc (code x 0) (code l 0 ++ (code u 0 ++ Between ∷ [])) xs,
-          operand-run x 0 ((code l 0 ++ (code u 0 ++ Between ∷ [])) ++ xs) v (omega arith),
-          two-run l u 0 0 Between xs (push (ago h x 0) v) (omega arith) (omega arith),
+          operand-run x 0 ((code l 0 ++ (code u 0 ++ Between ∷ [])) ++ xs) v,
+          two-run l u 0 0 Between xs (push (ago h x 0) v),
           now-ago h x,
           now-ago h l,
           now-ago h u,
         )
-    condition-run (trend k a n) xs v fit = rw (two-run a a 0 n (Compare (trendTest k)) xs v (omega arith) (omega arith), trend-ago h k a n)
-    condition-run (every cs) xs v fit = all-run cs xs (v .stack) (omega arith)
-    condition-run (any cs) xs v fit = any-run cs xs (v .stack) (omega arith)
-    condition-run (negated c) xs v fit = rw (append-assoc (codeOf c) (Turn ∷ []) xs, condition-run c (Turn ∷ xs) v (omega arith))
-    condition-run (inPosition w) xs v fit = refl
-    condition-run (barsSince p k) xs v fit = refl
+    condition-run (trend k a n) xs v = rw (two-run a a 0 n (Compare (trendTest k)) xs v, trend-ago h k a n)
+    condition-run (every cs) xs v = all-run cs xs (v .stack)
+    condition-run (any cs) xs v = any-run cs xs (v .stack)
+    condition-run (negated c) xs v = rw (append-assoc (codeOf c) (Turn ∷ []) xs, condition-run c (Turn ∷ xs) v)
+    condition-run (inPosition w) xs v = refl
+    condition-run (barsSince p k) xs v = refl
 
-    all-run : (cs : Conditions) (xs : List Op) (vs : List Value) → length vs + levelsOfAll cs + 2 ≤ 64
+    all-run : (cs : Conditions) (xs : List Op) (vs : List Value)
         → run h s (codeEach false cs ++ xs) 0 (holding true vs) ≡ run h s xs 0 (holding (allHold h s cs (newest h)) vs)
-    all-run none xs vs fit = refl
-    all-run (more c cs) xs vs fit =
+    all-run none xs vs = refl
+    all-run (more c cs) xs vs =
         rw (
           append-assoc (codeOf c) (JumpIf false (length (codeEach false cs)) ∷ codeEach false cs) xs,
-          condition-run c (JumpIf false (length (codeEach false cs)) ∷ codeEach false cs ++ xs) (holding true vs) (omega arith),
+          condition-run c (JumpIf false (length (codeEach false cs)) ∷ codeEach false cs ++ xs) (holding true vs),
         )
-        (each-next false (holds h s c (newest h)) (allHold h s cs (newest h)) (codeEach false cs) xs vs (all-run cs xs vs (omega arith)))
+        (each-next false (holds h s c (newest h)) (allHold h s cs (newest h)) (codeEach false cs) xs vs (all-run cs xs vs))
 
-    any-run : (cs : Conditions) (xs : List Op) (vs : List Value) → length vs + levelsOfAll cs + 2 ≤ 64
+    any-run : (cs : Conditions) (xs : List Op) (vs : List Value)
         → run h s (codeEach true cs ++ xs) 0 (holding false vs) ≡ run h s xs 0 (holding (anyHolds h s cs (newest h)) vs)
-    any-run none xs vs fit = refl
-    any-run (more c cs) xs vs fit =
+    any-run none xs vs = refl
+    any-run (more c cs) xs vs =
         rw (
           append-assoc (codeOf c) (JumpIf true (length (codeEach true cs)) ∷ codeEach true cs) xs,
-          condition-run c (JumpIf true (length (codeEach true cs)) ∷ codeEach true cs ++ xs) (holding false vs) (omega arith),
+          condition-run c (JumpIf true (length (codeEach true cs)) ∷ codeEach true cs ++ xs) (holding false vs),
         )
-        (each-next true (holds h s c (newest h)) (anyHolds h s cs (newest h)) (codeEach true cs) xs vs (any-run cs xs vs (omega arith)))
+        (each-next true (holds h s c (newest h)) (anyHolds h s cs (newest h)) (codeEach true cs) xs vs (any-run cs xs vs))
 
 -- THE TRANSLATION: the steps of a condition, run from the start, answer what the condition means at the newest bar.
-pub compiled : (h : History) (s : PositionState) (c : Condition) → levelsOf c ≤ 62 → answers h s (codeOf c) ≡ says h s c
+pub compiled : (h : History) (s : PositionState) (c : Condition) → answers h s (codeOf c) ≡ says h s c
 unfolding run says
-compiled h s c fit =
+compiled h s c =
     ap (λ (xs : List Op). answers h s xs) (sym (append-nil (codeOf c)))
-    ∙ ap (λ (v : Values). v .answer) (condition-run h s c [] start (omega arith))
+    ∙ ap (λ (v : Values). v .answer) (condition-run h s c [] start)

@@ -13,7 +13,7 @@ use Rattle.steps.specs.declared.Step.{Step}
 use Rattle.steps.specs.declared.Op.{Op}
 use Rattle.steps.specs.declared.Op.the-variants.{Const, Ref, Price, Arith, Compare, Cross, Between, Answer, Turn, InPosition, BarsSinceEntry, JumpIf}
 use Rattle.steps.specs.declared.Op.the-variants.{Unknown}
-use Rattle.steps.specs.Bytes.{readStep, stepAt, stepsIn, operandOp, testOp, answerOp, opOf, opsFrom, opsOf, stepOf, stepBytes, bytesOf}
+use Rattle.steps.specs.Bytes.{readStep, stepAt, stepsRun, operandOp, testOp, answerOp, opOf, opsFrom, opsOf, stepOf, stepBytes, bytesOf}
 
 -- ---- the fields that a step has room for
 
@@ -178,8 +178,8 @@ ops-back pre p e (x ∷ xs) s =
     rw (step-there pre p e x (bytesOf xs) (s .0), says-back x (s .0), ← append-assoc pre sb (bytesOf xs), rest)
 
 -- a list of steps, written and read
-pub ops-of-bytes : (xs : List Op) → AllSayable xs → opsOf (bytesOf xs) ≡ xs
-unfolding opsOf
-ops-of-bytes xs s =
-    let count : stepsIn (bytesOf xs) ≡ length xs = omega (arith, steps-long xs) in
+pub ops-of-bytes : (xs : List Op) → length xs ≤ 1024 → AllSayable xs → opsOf (bytesOf xs) ≡ xs
+unfolding opsOf stepsRun
+ops-of-bytes xs short s =
+    let count : stepsRun (bytesOf xs) ≡ length xs = omega (arith, steps-long xs) in
     rw count (ops-back [] 0 refl xs s)

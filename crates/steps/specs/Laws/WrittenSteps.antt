@@ -74,5 +74,5 @@ module _ (K D : ℕ) (few : K ≤ 64) (near : D ≤ 4096) where
       rw (eq-eqb (length (bytesOf xs) % 16) 0 whole, count, le-ltb 1024 (length xs) short) (well-from [] 0 refl xs g)
 
   -- and say those steps
-  pub reads-back : (xs : List Op) → AllGood K D xs → opsOf (bytesOf xs) ≡ xs
-  reads-back xs g = ops-of-bytes xs (all-sayable xs g)
+  pub reads-back : (xs : List Op) → length xs ≤ 1024 → AllGood K D xs → opsOf (bytesOf xs) ≡ xs
+  reads-back xs short g = ops-of-bytes xs short (all-sayable xs g)

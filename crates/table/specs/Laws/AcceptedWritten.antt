@@ -111,7 +111,7 @@ sixteen f at =
     ∙ ap (λ (j : ℕ). from f 2 (at + 2) ++ from f 4 (at + 4) ++ from f 8 j) p8)
 
 module _ (t : List ℕ) (small : Bytes t) where
-  byte : ℕ → ℕ
+  unfoldable pub byte : ℕ → ℕ
   byte i = getD t i 0
 
   back16 : (at : ℕ) → le16 (u16 t at) ≡ from byte 2 at
@@ -149,7 +149,7 @@ module _ (t : List ℕ) (small : Bytes t) where
       let p24 : 24 + 16 * i ≡ 16 + 16 * i + 8 = omega arith in
       rw (back16 (18 + 16 * i), back32 (20 + 16 * i), back64 (24 + 16 * i), p17, p18, p20, p24) (sym (sixteen byte (16 + 16 * i)))
 
-  nodes-back : (m i : ℕ) → nodesBytes (nodes t m i) ≡ from byte (16 * m) (16 + 16 * i)
+  pub nodes-back : (m i : ℕ) → nodesBytes (nodes t m i) ≡ from byte (16 * m) (16 + 16 * i)
   unfolding nodesBytes nodes from
   nodes-back zero i = refl
   nodes-back (suc m) i =

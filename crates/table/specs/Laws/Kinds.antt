@@ -199,3 +199,10 @@ unfolding conditionNumber
 cross-numbers k r =
     let in-range = both (leb Named.crossAbove k) (leb k Named.crossBelow) (rw r at (condition-number k (known k crossing r (omega arith)))) in
     (leb-true Named.crossAbove k (in-range .0), leb-true k Named.crossBelow (in-range .1))
+
+-- "25, 26 Rising, Falling"
+pub trend-numbers : (k : ℕ) → kindOf k ≡ trend → (Named.rising ≤ k) × (k ≤ Named.falling)
+unfolding conditionNumber
+trend-numbers k r =
+    let in-range = both (leb Named.rising k) (leb k Named.falling) (rw r at (condition-number k (known k trend r (omega arith)))) in
+    (leb-true Named.rising k (in-range .0), leb-true k Named.falling (in-range .1))

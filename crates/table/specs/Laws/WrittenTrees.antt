@@ -125,7 +125,7 @@ unfolding ShortWithin plantShort deeper
 short-shallow k absent i w = refl
 short-shallow k (given c) i w = shallowOf c i 32 Forest.none (w .nesting)
 
-given-reach : (k : ℕ) (c : Condition) (i : ℕ) → WithinOf k c → weigh ownBack (plantOf i c Forest.none) ≡ reachOf c
+pub given-reach : (k : ℕ) (c : Condition) (i : ℕ) → WithinOf k c → weigh ownBack (plantOf i c Forest.none) ≡ reachOf c
 unfolding sorts conditions reachOfAll Sorted
 given-reach k c i w =
     all-reach (plantOf i c Forest.none) 1 (sortedOf k c i Forest.none w tt) (plantOf-sorts i c Forest.none k w)

@@ -1,0 +1,232 @@
+-- The loop's invariant is that the run has come to place p; a step of each kind takes it one further, and a value that finds no
+-- place is one more than there are places.
+use borrow.Author.Needs.{needs}
+use mathlib.Core.Path.{sym, _∙_}
+use native.Mathlib.Omega.{arith}
+use Prim.Native.Nat.{_-_}
+use Rattle.rows.specs.History.{historyOf}
+use Rattle.steps.specs.Places.{Tries}
+use Rattle.steps.proofs.Said.{range-in, range-out, does-test, does-jump, does-arith}
+use Rattle.steps.proofs.Going.{Going, fresh-long, going-start, going-leaf, going-give, going-say, going-set, going-pass, going-stay, going-end}
+use Rattle.steps.proofs.machine.run_with.Statement.{statement}
+use Rattle.steps.proofs.machine.run_with.Tie as tie
+
+abbrev Inv-loop : tie.InvT-loop
+Inv-loop list n rows slots s places numbers₀ there₀ held top₀ answer₀ visits₀ p₀ numbers there top answer visits p =
+    Going (historyOf slots rows) s list n places numbers there top answer visits p
+
+abbrev μ-loop : tie.MeasureT-loop
+μ-loop list n rows slots s places numbers₀ there₀ held top₀ answer₀ visits₀ p₀ numbers there top answer visits p = n - p
+
+-- a leaf
+leaf-again : tie.Need-loop-again Inv-loop μ-loop
+leaf-again c =
+    let put = c .before .before .before .before in
+    let leaf = put .before in
+    let full = leaf .before .before .before in
+    let x = full .before .before .before in
+    rw (put .put .ensures .0, put .put .ensures .1)
+    (going-leaf _ _ _ _ _ _ _ _ _ _ _ (x .before .before .loop .inv) (x .before .loop-test .taken) _
+    (omega (arith, x .before .before .loop .inv .tall, full .if2 .left))
+    (rw (← x .step-at .ensures) (leaf .leaf .ensures _ _ _ _ _ _)))
+
+-- a test
+test-again : tie.Need-loop-again-2 Inv-loop μ-loop
+test-again c =
+    let tested = c .before .before in
+    let read = tested .before .before .before .before .before .before .before .before .before .before .before .before .before in
+    let i = read .before in
+    let x = i .before .before .before in
+    let kind = range-in _ _ _ (sym (i .is-among2 .ensures) ∙ read .if3 .taken) in
+    rw (
+      c .left .ensures,
+      c .before .taken .ensures,
+      tested .tested .ensures,
+      tested .before .at4 .ensures,
+      tested .before .before .before .before .at3 .ensures,
+      tested .before .before .before .before .before .before .before .at2 .ensures,
+      tested .before .before .before .before .before .before .before .before .before .before .at .ensures,
+    )
+    (going-say _ _ _ _ _ _ _ _ _ _ _ (x .before .before .loop .inv) (x .before .loop-test .taken) _ _
+    (rw (← x .step-at .ensures) (does-test _ _ _ _ _ _ _ _ (kind .0) (kind .1))))
+
+-- a jump that is taken
+jump-again : tie.Need-loop-again-3 Inv-loop μ-loop
+jump-again c =
+    let i = c .before .before .before in
+    let x = i .before .before .before .before .before in
+    let kind = range-in _ _ _ (sym (i .is-among3 .ensures) ∙ c .before .before .if4 .taken) in
+    rw (c .landing .ensures)
+    (going-pass _ _ _ _ _ _ _ _ _ _ _ (x .before .before .loop .inv) (x .before .loop-test .taken) _
+    (rw (← x .step-at .ensures) (does-jump _ _ _ _ _ _ _ _ (kind .0) (kind .1) ∙ rw (c .before .if5 .taken))))
+
+-- one that is not
+stay-again : tie.Need-loop-again-4 Inv-loop μ-loop
+stay-again c =
+    let i = c .before .before in
+    let x = i .before .before .before .before .before in
+    let kind = range-in _ _ _ (sym (i .is-among3 .ensures) ∙ c .before .if4 .taken) in
+    going-stay _ _ _ _ _ _ _ _ _ _ _ (x .before .before .loop .inv) (x .before .loop-test .taken)
+    (rw (← x .step-at .ensures) (does-jump _ _ _ _ _ _ _ _ (kind .0) (kind .1) ∙ rw (c .if5 .left)))
+
+-- an operation
+arith-again : tie.Need-loop-again-5 Inv-loop μ-loop
+arith-again c =
+    let put = c .before .before .before .before in
+    let left = put .before .before .before .before in
+    let i = left .before .before .before .before .before .before .before .before in
+    let x = i .before .before .before .before .before .before .before in
+    let kind = range-in _ _ _ (sym (i .is-among4 .ensures) ∙ left .before .before .before .before .before .before .before .if6 .taken) in
+    rw (
+      put .put2 .ensures .0,
+      put .put2 .ensures .1,
+      put .before .both .ensures,
+      left .left2 .ensures,
+      left .before .at6 .ensures,
+      left .before .before .before .before .at5 .ensures,
+    )
+    (going-give _ _ _ _ _ _ _ _ _ _ _ (x .before .before .loop .inv) (x .before .loop-test .taken) 2 _
+    (omega (arith, x .before .before .loop .inv .tall, x .before .before .before .before .before .before .before .before .pre .1 .0 .0))
+    (rw (← x .step-at .ensures) (does-arith _ _ _ _ _ _ _ _ (kind .0) (kind .1))))
+
+-- its result has a place: two are taken first, and there is at least one
+arith-fits : tie.Need-add-put-2 Inv-loop μ-loop
+arith-fits c =
+    let left = c .before .before in
+    let i = left .before .before .before .before .before .before .before .before in
+    let loop = i .before .before .before .before .before .before .before .before .before in
+    omega (arith, left .left2 .ensures, loop .loop .inv .tall, loop .before .before .before .before .before .before .pre .1 .0)
+
+arith-room : tie.Need-put-requires-2 Inv-loop μ-loop
+arith-room c κs =
+    let left = c .before .before .before in
+    let i = left .before .before .before .before .before .before .before .before in
+    let loop = i .before .before .before .before .before .before .before .before .before in
+    let inv = loop .loop .inv in (
+      omega (arith, left .left2 .ensures, inv .tall, inv .room .numbers, loop .before .before .before .before .before .before .pre .1 .0),
+      omega (arith, left .left2 .ensures, inv .tall, inv .room .theres, loop .before .before .before .before .before .before .pre .1 .0),
+    )
+
+arith-tall : tie.Need-add-top-2 Inv-loop μ-loop
+arith-tall c =
+    let left = c .before .before .before .before .before .before .before .before in
+    let i = left .before .before .before .before .before .before .before .before in
+    let loop = i .before .before .before .before .before .before .before .before .before in
+    omega (arith, left .left2 .ensures, loop .loop .inv .tall, loop .before .before .before .before .before .before .pre .1 .0)
+
+-- a step further is within the list
+arith-on : tie.Need-add-p-4 Inv-loop μ-loop
+arith-on c =
+    let i = c .before .before .before .before .before .before .before .before .before .before .before .before .before .before .before .before in
+    let test = i .before .before .before .before .before .before .before .before in
+    omega (arith, test .loop-test .taken, test .before .before .before .before .before .before .before .good)
+
+arith-less : tie.Need-loop-less-5 Inv-loop μ-loop
+arith-less c =
+    let i = c .before .before .before .before .before .before .before .before .before .before .before .before .before .before .before .before in
+    omega (arith, i .before .before .before .before .before .before .before .before .loop-test .taken)
+
+test-on : tie.Need-add-p-2 Inv-loop μ-loop
+test-on c =
+    let i = c .before .before .before .before .before .before .before .before .before .before .before .before .before .before .before .before in
+    let test = i .before .before .before .before in
+    omega (arith, test .loop-test .taken, test .before .before .before .before .before .before .before .good)
+
+test-less : tie.Need-loop-less-2 Inv-loop μ-loop
+test-less c =
+    let i = c .before .before .before .before .before .before .before .before .before .before .before .before .before .before .before .before in
+    omega (arith, i .before .before .before .before .loop-test .taken)
+
+-- what is left
+set-again : tie.Need-loop-again-6 Inv-loop μ-loop
+set-again c =
+    let x = c .before .before .before .before .before .before .before .before .before in
+    going-set _ _ _ _ _ _ _ _ _ _ _ (x .before .before .loop .inv) (x .before .loop-test .taken) _
+    (rw (← x .step-at .ensures) (c .said .ensures _ _ _ _ _))
+
+-- its kind is none of the others'
+said-requires : tie.Need-said-requires Inv-loop μ-loop
+said-requires c κs =
+    let i4 = c .before in
+    let i3 = i4 .before .before in
+    let i2 = i3 .before .before in
+    let i1 = i2 .before .before in (
+      range-out _ _ _ (sym (i1 .is-among .ensures) ∙ i2 .before .if1 .left),
+      range-out _ _ _ (sym (i4 .is-among4 .ensures) ∙ c .if6 .left),
+      range-out _ _ _ (sym (i2 .is-among2 .ensures) ∙ i3 .before .if3 .left),
+      range-out _ _ _ (sym (i3 .is-among3 .ensures) ∙ i4 .before .if4 .left),
+    )
+
+-- a leaf's kind is one of the three
+leaf-requires : tie.Need-leaf-requires Inv-loop μ-loop
+leaf-requires c κs =
+    let i = c .before .before .before .before in
+    (i .before .before .before .before .row-count .ensures, range-in _ _ _ (sym (i .is-among .ensures) ∙ c .before .before .before .if1 .taken))
+
+pub run-with-spec : {M : Type 1} → statement M
+unfolding Tries
+run-with-spec =
+    tie.close
+    (tie.spec
+    Inv-loop
+    μ-loop
+    (λ c κs. search needs)
+    (λ c. going-start _ _ _ _ _ _ _ (c .before .before .before .before .before .pre .1 .1))
+    (λ c κs. search needs)
+    (λ c. omega arith)
+    (λ c κs. search needs)
+    (λ c.
+    let loop = c .before .before .before .before .before in
+    omega (arith, loop .loop .inv .room .numbers, loop .before .before .before .before .before .before .pre .1 .1 .long))
+    (λ c.
+    let loop = c .before .before .before .before .before in
+    omega (arith, loop .loop .inv .room .theres, fresh-long _ _ _ (loop .before .before .before .before .before .before .pre .1 .1)))
+    (λ c. let test = c .before .before .before .before in omega (arith, test .before .loop .inv .pushed, test .loop-test .taken, c .if2 .taken))
+    (λ c. omega arith)
+    leaf-requires
+    (λ c κs. search needs)
+    (λ c. omega arith)
+    (λ c. omega arith)
+    (λ c. omega arith)
+    leaf-again
+    (λ c κs. search needs)
+    (λ c. omega arith)
+    (λ c κs. search needs)
+    (λ c. omega arith)
+    (λ c κs. search needs)
+    (λ c. omega arith)
+    (λ c κs. search needs)
+    (λ c κs. search needs)
+    (λ c κs. search needs)
+    (λ c κs. search needs)
+    (λ c κs. search needs)
+    test-on
+    test-less
+    test-again
+    (λ c κs. search needs)
+    (λ c κs. search needs)
+    (λ c. omega arith)
+    jump-again
+    (λ c. omega arith)
+    (λ c. omega arith)
+    stay-again
+    (λ c κs. search needs)
+    (λ c. omega arith)
+    (λ c κs. search needs)
+    (λ c. omega arith)
+    (λ c κs. search needs)
+    (λ c κs. search needs)
+    arith-fits
+    (λ c κs. search needs)
+    arith-room
+    arith-tall
+    arith-on
+    arith-less
+    arith-again
+    said-requires
+    (λ c. omega arith)
+    (λ c. omega arith)
+    set-again
+    (λ c. omega (arith, c .before .loop .inv .room .numbers, c .before .before .before .before .before .before .before .pre .1 .1 .long))
+    (λ c. omega (arith, c .before .loop .inv .room .theres, fresh-long _ _ _ (c .before .before .before .before .before .before .before .pre .1 .1)))
+    (λ c. going-end _ _ _ _ _ _ _ _ _ _ _ (c .before .loop .inv) (c .loop-test .left)))

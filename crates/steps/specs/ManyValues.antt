@@ -1,0 +1,90 @@
+-- "a value not there counts as missing", and every value is kept: a well-formed list that holds 65 values at once, from elsewhere.
+use Prim.Native.Nat.{ℕ, zero, suc, _+_, _-_, _≤_}
+use mathlib.Core.Path.{_≡_, refl}
+use mathlib.Core.Bool.{Bool, true, false, cond}
+use mathlib.Core.List.{List, [], _∷_}
+use native.Mathlib.Omega.{arith}
+use lib.Dec.{ltb}
+use lib.Ieee as Ieee
+use lib.ListN.{length}
+use borrow.Author.Tests.{le-ltb}
+use Rattle.floats.specs.Floats.{floatOf}
+use Rattle.rows.specs.History.{History, historyOf, wholeRows}
+use Rattle.table.specs.Trees.{const}
+use Rattle.rules.specs.declared.PositionState.{PositionState}
+use Rattle.rules.specs.declared.Value.the-variants.{Missing, Number}
+use Rattle.rules.specs.Values.{tested, compared}
+use Rattle.rules.specs.Meaning.{newest, there, value}
+use Rattle.rules.specs.Answers.{stateRight}
+use Rattle.steps.specs.declared.Op.{Op}
+use Rattle.steps.specs.declared.Op.the-variants.{Const, Compare}
+use Rattle.steps.specs.declared.RunAnswer.the-variants.{Runs}
+use Rattle.steps.specs.Bytes.{bytesOf}
+use Rattle.steps.specs.Machine.{Values, ago, effect, does, after, run, places, start}
+use Rattle.steps.specs.Running.{ranIf, runs}
+use Rattle.steps.specs.Laws.TranslatedSteps.{Good, AllGood}
+use Rattle.steps.specs.Laws.WrittenSteps.{well-formed, reads-back}
+
+five : ℕ
+five = 0x4014_0000_0000_0000
+
+three : ℕ
+three = 0x4008_0000_0000_0000
+
+-- constants 5 and 3, and Lt (17)
+last : List Op
+last = Const five 0 ∷ Const three 0 ∷ Compare 17 ∷ []
+
+-- so many constants 0 before them
+after-zeros : ℕ → List Op
+after-zeros zero = last
+after-zeros (suc n) = Const 0 0 ∷ after-zeros n
+
+-- 63 of them: 66 steps
+pub five-below-three : List Op
+five-below-three = after-zeros 63
+
+module _ (h : History) (s : PositionState) where
+  not-below : compared 17 (ago h (const five) 0) (ago h (const three) 0) ≡ false
+  unfolding ago value there newest compared tested five three Ieee.lt Ieee.ofBits
+  not-below = go (ltb 0 (h .rows)) (ltb (h .rows - 1 - 0) (h .rows))
+    where
+      go : (t u : Bool) → compared 17 (cond t (cond u (Number (floatOf five)) Missing) Missing)
+          (cond t (cond u (Number (floatOf three)) Missing) Missing) ≡ false
+      go true true = refl
+      go true false = refl
+      go false u = refl
+
+  -- whatever values lie below
+  says-no : (n : ℕ) (v : Values) → run h s (after-zeros n) 0 v .answer ≡ false
+  unfolding after-zeros last run does effect after
+  says-no zero v = not-below
+  says-no (suc n) v = says-no n (after (does h s (Const 0 0) v) v)
+
+  sees-all : (n p : ℕ) (v : Values) → length (places h s p (after-zeros n) 0 v) ≡ n + 3
+  unfolding after-zeros last places does effect
+  sees-all zero p v = refl
+  sees-all (suc n) p v = omega (arith, sees-all n (p + 1) (after (does h s (Const 0 0) v) v))
+
+module _ (K D : ℕ) (deep : 1 ≤ D) where
+  all-good : (n : ℕ) → AllGood K D (after-zeros n)
+  unfolding AllGood Good after-zeros last five three
+  all-good zero = ((omega arith, omega arith), ((omega arith, omega arith), ((omega arith, omega arith), tt)))
+  all-good (suc n) = ((omega arith, omega arith), all-good n)
+
+  -- Run over any rows it answers no, since 5 < 3 is no. (A machine of 64 places would lose the 3, and find 0 < 5.)
+  pub many-values : K ≤ 64 → D ≤ 4096 → (ws : List ℕ) (s : PositionState) → wholeRows K ws ≡ true → stateRight s ≡ true
+      → runs (bytesOf five-below-three) ws K D s ≡ Runs (record { answer = false; visits = 66 })
+  unfolding runs ranIf five-below-three
+  many-values few most ws s whole fine =
+      rw (
+        le-ltb 64 K few,
+        le-ltb D 1 deep,
+        le-ltb 4096 D most,
+        whole,
+        fine,
+        well-formed K D few most five-below-three (unfold after-zeros last in omega arith) (all-good 63),
+        reads-back K D few most five-below-three (unfold after-zeros last in omega arith) (all-good 63),
+        says-no (historyOf K ws) s 63 start,
+        sees-all (historyOf K ws) s 63 0 start,
+      )

@@ -1,0 +1,34 @@
+-- A run with so many places for values, for the code alone: the machine of Machine.antt has no end of them. Definitions only.
+use Prim.Native.Nat.{ℕ, _+_, _<_}
+use mathlib.Core.Path.{_≡_}
+use mathlib.Core.Bool.{Bool, true, false, cond}
+use mathlib.Core.List.{List}
+use lib.Ieee.{Float, nan}
+use lib.ListN.{length, getD, replicate}
+use Rattle.floats.specs.Floats.{zero}
+use Rattle.rules.specs.declared.Value.{Value}
+use Rattle.rules.specs.declared.Value.the-variants.{Missing, Number}
+use Rattle.steps.specs.declared.Ran.{Ran}
+
+-- A value as two: its number, 0 where it is missing, and whether it is there.
+unfoldable pub numberOf : Value → Float
+numberOf Missing = zero
+numberOf (Number x) = x
+
+unfoldable pub isThere : Value → Bool
+isThere Missing = false
+isThere (Number x) = true
+
+-- The value at place i of two such lists.
+unfoldable pub valueAt : List Float → List Bool → ℕ → Value
+valueAt numbers there i = cond (getD there i false) (Number (getD numbers i nan)) Missing
+
+-- Two lists with so many places above the four that are always missing, and no value yet.
+pub record Fresh (places : ℕ) (numbers : List Float) (there : List Bool) : Type 0 where
+  pub long : length numbers ≡ places + 4
+  pub none : there ≡ replicate (places + 4) false
+
+-- What it comes to, where it is told whether a value found no place: if one did, there are more steps than places; if not, it is the run.
+unfoldable pub Tries : Ran → ℕ → ℕ → Bool → Ran → Type 0
+Tries ran steps places true r = places < steps
+Tries ran steps places false r = r ≡ ran

@@ -1,0 +1,16 @@
+-- Past its end a list stays as it is.
+use borrow.Author.Needs.{needs}
+use mathlib.Core.Path.{sym}
+use lib.Seq.{set-out}
+use Rattle.table.proofs.silent.put.Statement.{statement}
+use Rattle.table.proofs.silent.put.Tie as tie
+
+pub put-spec : {M : Type 1} → statement M
+put-spec =
+    tie.close
+    (tie.spec
+    (λ c. search needs)
+    (λ c. search needs)
+    (λ c. search needs)
+    (λ c. search needs)
+    (λ c. sym (set-out _ _ _ (c .if1 .left))))
