@@ -14,7 +14,7 @@ use Rattle.rules.specs.declared.Value.{Value}
 use Rattle.rules.specs.declared.Value.the-variants.{Missing, Number}
 use Rattle.rules.specs.Values.{both, compared, crossed, within, trended}
 use Rattle.rules.specs.Meaning.{newest, there, value, holds, says}
-use Rattle.rules.specs.Laws.{past}
+use Rattle.rules.specs.Laws.Meaning.{past}
 
 -- ---- an operand that reaches back beyond bar 0 is missing
 
