@@ -14,6 +14,17 @@ use Rattle.refusals.specs.Laws.Lines.{below-fine, below-bad}
 use Rattle.capi.specs.Call.{Call, answerWord, callOf, unlessBad, wordLines}
 use Rattle.capi.specs.Bars.{lentLines}
 
+module _ {A : Type 0} (o : Outcome A) (before : A) where
+  -- a refusal
+  pub call-refuses : {r : Refusal} {a : ℕ} → o ≡ refuses r → a ≡ answerWord r → callOf o before ≡ record { answer = a; lent = before }
+  unfolding callOf
+  call-refuses refused word = simp (refused, word)
+
+  -- the call does its work
+  pub call-does : {after : A} → o ≡ gives after → callOf o before ≡ record { answer = 0; lent = after }
+  unfolding callOf
+  call-does given = simp given
+
 module _ {A : Type 0} (v : Verdict) (o : Outcome A) (before : A) where
   -- a verdict that is not fine
   pub call-bad : {r : Refusal} {a : ℕ} → v ≡ Bad r → a ≡ answerWord r → callOf (unlessBad v o) before ≡ record { answer = a; lent = before }

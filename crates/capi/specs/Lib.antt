@@ -1,5 +1,7 @@
 pub mod Call
+pub mod Tables
+pub mod Run
 pub mod Fresh
-pub mod Silent
 pub mod Bars
 pub mod Finish
+pub mod Figures

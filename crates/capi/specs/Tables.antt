@@ -2,48 +2,71 @@
 use Prim.Native.Nat.{ℕ, _*_}
 use mathlib.Core.Bool.{cond}
 use mathlib.Core.List.{List}
-use lib.Dec.{leb}
+use lib.Dec.{leb, eqb}
+use lib.ListN.{length}
+use Rattle.words.specs.Limits.{trees}
+use Rattle.words.specs.Outcome.{Outcome, gives, refuses}
 use Rattle.table.specs.declared.answer.Answer.{Answer}
 use Rattle.table.specs.declared.answer.Answer.the-variants.{Accepted, Refused}
-use Rattle.table.specs.Checked.{checked}
 use Rattle.table.specs.declared.depth.DepthAnswer.{DepthAnswer}
 use Rattle.table.specs.declared.depth.DepthAnswer.the-variants.{Needs, Refuses as DepthRefuses}
+use Rattle.table.specs.declared.silent.SilentAnswer.{SilentAnswer}
+use Rattle.table.specs.declared.silent.SilentAnswer.the-variants.{Lists, Refuses as SilentRefuses}
+use Rattle.table.specs.declared.trees.Tree.{Tree}
+use Rattle.table.specs.declared.trees.Tree.the-variants.{Entry, Exit, ShortEntry, ShortExit}
+use Rattle.table.specs.Checked.{checked}
+use Rattle.table.specs.Depth.{depthAnswer}
+use Rattle.table.specs.Silent.{silentTests, silentAnswer, listAfter}
 use Rattle.steps.specs.declared.Translated.{Translated}
 use Rattle.steps.specs.declared.Translated.the-variants.{Writes, Refuses}
-use Rattle.table.specs.Depth.{depthAnswer}
 use Rattle.steps.specs.Translating.{afterTable, translates, roomLeft}
-use Rattle.capi.specs.Words.{answerWord}
-use Rattle.capi.specs.Run.{trees, treeOf}
+use Rattle.capi.specs.Call.{Call, callOf}
 
--- the answer, and what is written where the call did its work: the nodes, and the rows that the rules need
-pub record CheckCall : Type 0 where
-  pub answer : ℕ
+-- a tree by its number; that of a higher number is absent, as each call says
+unfoldable pub treeOf : ℕ → Tree
+treeOf number = cond (eqb number 0) Entry (cond (eqb number 1) Exit (cond (eqb number 2) ShortEntry ShortExit))
+
+-- ---- lent: the nodes, and the rows that the rules need
+pub record CheckLent : Type 0 where
   pub nodes : ℕ
   pub rows : ℕ
 
-unfoldable pub checkBy : Answer → ℕ → ℕ → CheckCall
-checkBy (Refused number place) nodes rows = record { answer = answerWord number place; nodes = nodes; rows = rows }
-checkBy (Accepted n needed) nodes rows = record { answer = 0; nodes = n; rows = needed }
+unfoldable pub checkGives : Answer → Outcome CheckLent
+checkGives (Refused why) = refuses why
+checkGives (Accepted n needed) = gives (record { nodes = n; rows = needed })
 
-unfoldable pub checkCall : List ℕ → ℕ → ℕ → CheckCall
-checkCall table nodes rows = checkBy (checked table) nodes rows
+unfoldable pub checkCall : List ℕ → CheckLent → Call CheckLent
+checkCall table before = callOf (checkGives (checked table)) before
 
--- the answer, and what is written where the call did its work: the rows of the window, and the bytes that they take
-pub record DepthCall : Type 0 where
-  pub answer : ℕ
+-- ---- lent: the rows of the window, and the bytes that they take
+pub record DepthLent : Type 0 where
   pub rows : ℕ
   pub bytes : ℕ
 
-unfoldable pub depthBy : DepthAnswer → ℕ → ℕ → DepthCall
-depthBy (DepthRefuses number place) rows bytes = record { answer = answerWord number place; rows = rows; bytes = bytes }
-depthBy (Needs needed row window) rows bytes = record { answer = 0; rows = needed; bytes = window }
+unfoldable pub depthGives : DepthAnswer → Outcome DepthLent
+depthGives (DepthRefuses why) = refuses why
+depthGives (Needs needed row window) = gives (record { rows = needed; bytes = window })
 
-unfoldable pub depthCall : List ℕ → ℕ → ℕ → ℕ → DepthCall
-depthCall table lookback rows bytes = depthBy (depthAnswer (checked table) table lookback) rows bytes
+unfoldable pub depthCall : List ℕ → ℕ → DepthLent → Call DepthLent
+depthCall table lookback before = callOf (depthGives (depthAnswer (checked table) table lookback)) before
 
--- the answer, the bytes that the steps take where the call did its work, and the room as it is left
-pub record TranslateCall : Type 0 where
-  pub answer : ℕ
+-- ---- lent: how many tests fall silent, and the list of their nodes
+pub record SilentLent : Type 0 where
+  pub count : ℕ
+  pub list : List ℕ
+
+unfoldable pub silentGives : SilentAnswer → List ℕ → Outcome SilentLent
+silentGives (SilentRefuses why) list = refuses why
+silentGives (Lists many) list = gives (record { count = many; list = list })
+
+unfoldable pub silentCall : List ℕ → ℕ → SilentLent → Call SilentLent
+silentCall table rows before =
+    let numbers = silentTests table rows in
+    let answer = silentAnswer (checked table) numbers (length (before .list)) in
+    callOf (silentGives answer (listAfter answer numbers (before .list))) before
+
+-- ---- lent: the bytes that the steps take, and the room of steps
+pub record TranslateLent : Type 0 where
   pub used : ℕ
   pub room : List ℕ
 
@@ -51,12 +74,15 @@ pub record TranslateCall : Type 0 where
 abbrev pub stepBytes : ℕ
 stepBytes = 16
 
-unfoldable pub translateBy : Translated → ℕ → List ℕ → TranslateCall
-translateBy (Refuses number place) used room = record { answer = answerWord number place; used = used; room = room }
-translateBy (Writes count) used room = record { answer = 0; used = stepBytes * count; room = room }
+unfoldable pub translateGives : Translated → List ℕ → Outcome TranslateLent
+translateGives (Refuses why) room = refuses why
+translateGives (Writes count) room = gives (record { used = stepBytes * count; room = room })
 
 -- a tree that no table has writes nothing, once the table is accepted
-unfoldable pub translateCall : List ℕ → ℕ → List ℕ → ℕ → TranslateCall
-translateCall table tree room used =
-    cond (leb trees tree) (translateBy (afterTable (checked table) (Writes 0)) used room)
-    (translateBy (translates table (treeOf tree) room) used (roomLeft table (treeOf tree) room))
+unfoldable pub translateOutcome : List ℕ → ℕ → List ℕ → Outcome TranslateLent
+translateOutcome table tree room =
+    cond (leb trees tree) (translateGives (afterTable (checked table) (Writes 0)) room)
+    (translateGives (translates table (treeOf tree) room) (roomLeft table (treeOf tree) room))
+
+unfoldable pub translateCall : List ℕ → ℕ → TranslateLent → Call TranslateLent
+translateCall table tree before = callOf (translateOutcome table tree (before .room)) before

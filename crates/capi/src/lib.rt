@@ -3,5 +3,5 @@ pub mod bars;
 mod calls;
 pub mod figures;
 pub mod run;
-pub mod silent;
 pub mod state;
+pub mod tables;

@@ -1,26 +1,14 @@
 // One rule of a table over rows, and a list of steps over rows.
 ghost use mathlib.Core.Path.{_≡_};
-ghost use Rattle.capi.specs.Run.{treeOf, positionState, saysOf, ruleCall, runCall};
+ghost use Rattle.capi.specs.Run.{positionState, saysOf, ruleCall, runCall};
 use crate::calls::answer_word;
 use crate::calls::bit_of;
+use crate::tables::tree_of;
 use records::state_words::entered_of;
 use rules::PositionState;
 use rules::RuleAnswer;
-use rules::Tree;
 use steps::RunAnswer;
 use words::limits::TREES;
-
-// A tree by its number; that of a higher number is absent, and its callers say so.
-pub(crate) fn tree_of(number: u64) -> Tree
-    ensures { λ r. ⌜ r ≡ treeOf number ⌝ }
-{
-    match number {
-        0 => Tree::Entry,
-        1 => Tree::Exit,
-        2 => Tree::ShortEntry,
-        _ => Tree::ShortExit,
-    }
-}
 
 fn position_state(qty: u64, entered: u64, entry_bar: u64, bars_seen: u64) -> PositionState
     ensures { λ r. ⌜ r ≡ positionState qty entered «entry_bar» «bars_seen» ⌝ }

@@ -1,15 +1,28 @@
 // Checking a rule table, how deep a window it needs, and its trees as steps.
 ghost use mathlib.Core.Path.{_≡_};
-ghost use Rattle.capi.specs.Tables.{checkCall, depthCall, translateCall};
-use crate::run::tree_of;
+ghost use Rattle.capi.specs.Tables.{treeOf, checkCall, depthCall, silentCall, translateCall};
 use crate::calls::answer_word;
-use steps::DepthAnswer;
 use steps::Translated;
-use table::Answer;
+use table::answer::Answer;
+use table::depth::DepthAnswer;
+use table::silent::SilentAnswer;
+use table::trees::Tree;
 use words::limits::TREES;
 
 // Bytes of a step.
 const STEP_BYTES: u64 = 16;
+
+// A tree by its number; that of a higher number is absent, and its callers say so.
+pub(crate) fn tree_of(number: u64) -> Tree
+    ensures { λ r. ⌜ r ≡ treeOf number ⌝ }
+{
+    match number {
+        0 => Tree::Entry,
+        1 => Tree::Exit,
+        2 => Tree::ShortEntry,
+        _ => Tree::ShortExit,
+    }
+}
 
 // Checks a rule table: how many nodes it has, and how many rows its rules need.
 #[no_mangle]
@@ -38,7 +51,7 @@ pub extern "C" fn ysh_depth(table: &[u8], lookback: u64, rows: &mut u64, bytes: 
     ensures { λ r. ⌜ depthCall (now (table .entry)) lookback (record { rows = now (rows .entry); bytes = now (bytes .entry) })
         ≡ record { answer = r; lent = record { rows = now (rows .exit); bytes = now (bytes .exit) } } ⌝ }
 {
-    let depth = steps::depth::depth(table, lookback);
+    let depth = table::depth::depth(table, lookback);
     match depth {
         DepthAnswer::Refuses(refusal) => answer_word(refusal),
         DepthAnswer::Needs {
@@ -48,6 +61,22 @@ pub extern "C" fn ysh_depth(table: &[u8], lookback: u64, rows: &mut u64, bytes: 
         } => {
             *rows = needed;
             *bytes = window;
+            0
+        }
+    }
+}
+
+// Lists the nodes of the tests that answer no over `rows` rows, whatever the rows hold, and counts them.
+#[no_mangle]
+pub extern "C" fn ysh_silent(table: &[u8], rows: u64, list: &mut [u64], count: &mut u64) -> u64
+    ensures { λ r. ⌜ silentCall (now (table .entry)) rows (record { count = now (count .entry); list = now (list .entry) })
+        ≡ record { answer = r; lent = record { count = now (count .exit); list = now (list .exit) } } ⌝ }
+{
+    let silent = table::silent::silent_tests(table, rows, list);
+    match silent {
+        SilentAnswer::Refuses(refusal) => answer_word(refusal),
+        SilentAnswer::Lists(many) => {
+            *count = many as u64;
             0
         }
     }

@@ -1,0 +1,19 @@
+-- The call that gives the metrics. Definitions only.
+use Prim.Native.Nat.{ℕ}
+use mathlib.Core.List.{List}
+use Rattle.words.specs.Words.{overwrite}
+use Rattle.words.specs.Outcome.{Outcome, gives, refuses}
+use Rattle.floats.specs.Floats.{floatOf}
+use Rattle.metrics.specs.declared.Metrics.{Metrics}
+use Rattle.metrics.specs.Figures.{computed, wordsOf}
+use Rattle.refusals.specs.Lines.{judged}
+use Rattle.capi.specs.Call.{Call, callOf, unlessBad, metricLines}
+
+-- lent: the room of the metrics
+unfoldable pub metricsGives : Outcome Metrics → List ℕ → Outcome (List ℕ)
+metricsGives (refuses why) room = refuses why
+metricsGives (gives m) room = gives (overwrite room 0 (wordsOf m))
+
+unfoldable pub metricsCall : ℕ → List ℕ → List ℕ → List ℕ → Call (List ℕ)
+metricsCall initial equity trades room =
+    callOf (unlessBad (judged (metricLines room)) (metricsGives (computed (floatOf initial) equity trades) room)) room
