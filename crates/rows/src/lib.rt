@@ -3,8 +3,6 @@
 pub mod room;
 
 ghost use mathlib.Core.Path.{_≡_};
-ghost use Prim.Native.Nat.{_+_};
-ghost use lib.ListN.{getD};
 ghost use Rattle.rows.specs.History.{historyOf, wholeRows, lastRows};
 
 // The words of a row before its slots.

@@ -4,8 +4,14 @@ use borrow.Author.Needs.{needs}
 use Rattle.execution.proofs.intrabar.first_of.Statement.{statement}
 use Rattle.execution.proofs.intrabar.first_of.Tie as tie
 
-pub first-of-spec : {M : Type 1} → statement M
+returns : tie.Need-returns
 unfolding firstOf
+returns c =
+    let take = c .before .before in
+    let trail = take .before in
+    simp (c .or-else2 .ensures, c .before .or-else .ensures, take .fired3 .ensures, trail .fired2 .ensures, trail .before .fired .ensures)
+
+pub first-of-spec : {M : Type 1} → statement M
 first-of-spec =
     tie.close
     (tie.spec
@@ -14,4 +20,4 @@ first-of-spec =
     (λ c κs. search needs)
     (λ c κs. search needs)
     (λ c κs. search needs)
-    (λ c. cc))
+    returns)
