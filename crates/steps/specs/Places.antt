@@ -4,10 +4,12 @@ use mathlib.Core.Path.{_≡_}
 use mathlib.Core.Bool.{Bool, true, false, cond}
 use mathlib.Core.List.{List}
 use lib.Ieee.{Float, nan}
+use lib.Dec.{ltb}
 use lib.ListN.{length, getD, replicate}
 use Rattle.floats.specs.Floats.{zero}
 use Rattle.rules.specs.declared.Value.{Value}
 use Rattle.rules.specs.declared.Value.the-variants.{Missing, Number}
+use Rattle.rules.specs.Values.{compared, crossed, within}
 use Rattle.steps.specs.declared.Ran.{Ran}
 
 -- A value as two: its number, 0 where it is missing, and whether it is there.
@@ -22,6 +24,14 @@ isThere (Number x) = true
 -- The value at place i of two such lists.
 unfoldable pub valueAt : List Float → List Bool → ℕ → Value
 valueAt numbers there i = cond (getD there i false) (Number (getD numbers i nan)) Missing
+
+-- What a test answers of the last values, the last at place top + 3: a comparison, a cross or Between, by its kind.
+abbrev pub testedAt : ℕ → List Float → List Bool → ℕ → Bool
+testedAt kind numbers there top =
+    cond (ltb kind 22) (compared kind (valueAt numbers there (top + 2)) (valueAt numbers there (top + 3)))
+    (cond (ltb kind 24)
+    (crossed kind (valueAt numbers there top) (valueAt numbers there (top + 1)) (valueAt numbers there (top + 2)) (valueAt numbers there (top + 3)))
+    (within (valueAt numbers there (top + 1)) (valueAt numbers there (top + 2)) (valueAt numbers there (top + 3))))
 
 -- Two lists with so many places above the four that are always missing, and no value yet.
 pub record Fresh (places : ℕ) (numbers : List Float) (there : List Bool) : Type 0 where

@@ -12,12 +12,13 @@ ghost use mathlib.Core.Path.{_≡_};
 ghost use mathlib.Core.Bool.{Bool, cond, not, _&&_};
 ghost use Prim.Native.Nat.{_+_, _-_, _*_, _<_, _≤_, min};
 ghost use lib.Dec.{ltb, leb};
+ghost use lib.ListN.{length};
 ghost use Rattle.rows.specs.History.{History, historyOf};
 ghost use Rattle.rules.specs.Values as Values;
 ghost use Rattle.table.specs.Trees.{const, ref, price};
 ghost use Rattle.steps.specs.Bytes.{opOf, opsFrom, opsOf, stepsIn, stepsRun};
 ghost use Rattle.steps.specs.Machine.{ago, giving, saying, effect, ranOver};
-ghost use Rattle.steps.specs.Places.{Tries, Fresh};
+ghost use Rattle.steps.specs.Places.{testedAt, Tries, Fresh};
 
 // The places for values that a run has at first. No translated list needs more.
 const FEW_PLACES: usize = 64;
@@ -108,14 +109,20 @@ fn taken(kind: u8) -> usize
     3
 }
 
-// What a test answers, where a, b, c, d are the last four values, the last first.
-fn tested(kind: u8, a: Value, b: Value, c: Value, d: Value) -> bool
-    ensures { λ r. ⌜ r ≡ cond (ltb kind 22) (Values.compared kind b a) (cond (ltb kind 24) (Values.crossed kind d c b a) (Values.within c b a)) ⌝ }
+// What a test answers of the last values, of which it reads no more than it takes.
+fn tested(kind: u8, numbers: &[f64], there: &[bool], top: usize) -> bool
+    requires { ⌜ top + 3 < length (now numbers) ⌝ }
+    requires { ⌜ top + 3 < length (now there) ⌝ }
+    ensures { λ r. ⌜ r ≡ testedAt kind (now (numbers .entry)) (now (there .entry)) top ⌝ }
 {
+    let a = stack::at(numbers, there, top + 3);
+    let b = stack::at(numbers, there, top + 2);
     if kind < 22 {
         return values::compared(kind, b, a);
     }
+    let c = stack::at(numbers, there, top + 1);
     if kind < 24 {
+        let d = stack::at(numbers, there, top);
         return values::crossed(kind, d, c, b, a);
     }
     values::within(c, b, a)
@@ -223,11 +230,7 @@ fn run_with(
             top += 1;
             p += 1;
         } else if is_among(kind, 16, 25) {
-            let a = stack::at(numbers, there, top + 3);
-            let b = stack::at(numbers, there, top + 2);
-            let c = stack::at(numbers, there, top + 1);
-            let d = stack::at(numbers, there, top);
-            answer = tested(kind, a, b, c, d);
+            answer = tested(kind, numbers, there, top);
             top = left(top, taken(kind));
             p += 1;
         } else if is_among(kind, 32, 34) {

@@ -34,19 +34,11 @@ leaf-again c =
 test-again : tie.Need-loop-again-2 Inv-loop μ-loop
 test-again c =
     let tested = c .before .before in
-    let read = tested .before .before .before .before .before .before .before .before .before .before .before .before .before in
+    let read = tested .before .before .before in
     let i = read .before in
     let x = i .before .before .before in
     let kind = range-in _ _ _ (sym (i .is-among2 .ensures) ∙ read .if3 .taken) in
-    rw (
-      c .left .ensures,
-      c .before .taken .ensures,
-      tested .tested .ensures,
-      tested .before .at4 .ensures,
-      tested .before .before .before .before .at3 .ensures,
-      tested .before .before .before .before .before .before .before .at2 .ensures,
-      tested .before .before .before .before .before .before .before .before .before .before .at .ensures,
-    )
+    rw (c .left .ensures, c .before .taken .ensures, tested .tested .ensures)
     (going-say _ _ _ _ _ _ _ _ _ _ _ (x .before .before .loop .inv) (x .before .loop-test .taken) _ _
     (rw (← x .step-at .ensures) (does-test _ _ _ _ _ _ _ _ (kind .0) (kind .1))))
 
@@ -82,8 +74,8 @@ arith-again c =
       put .put2 .ensures .1,
       put .before .both .ensures,
       left .left2 .ensures,
-      left .before .at6 .ensures,
-      left .before .before .before .before .at5 .ensures,
+      left .before .at2 .ensures,
+      left .before .before .before .before .at .ensures,
     )
     (going-give _ _ _ _ _ _ _ _ _ _ _ (x .before .before .loop .inv) (x .before .loop-test .taken) 2 _
     (omega (arith, x .before .before .loop .inv .tall, x .before .before .before .before .before .before .before .before .pre .1 .0 .0))
@@ -125,17 +117,6 @@ arith-less : tie.Need-loop-less-5 Inv-loop μ-loop
 arith-less c =
     let i = c .before .before .before .before .before .before .before .before .before .before .before .before .before .before .before .before in
     omega (arith, i .before .before .before .before .before .before .before .before .loop-test .taken)
-
-test-on : tie.Need-add-p-2 Inv-loop μ-loop
-test-on c =
-    let i = c .before .before .before .before .before .before .before .before .before .before .before .before .before .before .before .before in
-    let test = i .before .before .before .before in
-    omega (arith, test .loop-test .taken, test .before .before .before .before .before .before .before .good)
-
-test-less : tie.Need-loop-less-2 Inv-loop μ-loop
-test-less c =
-    let i = c .before .before .before .before .before .before .before .before .before .before .before .before .before .before .before .before in
-    omega (arith, i .before .before .before .before .loop-test .taken)
 
 -- what is left
 set-again : tie.Need-loop-again-6 Inv-loop μ-loop
@@ -190,18 +171,11 @@ run-with-spec =
     (λ c. omega arith)
     leaf-again
     (λ c κs. search needs)
+    (λ c κs. search needs)
+    (λ c κs. search needs)
+    (λ c κs. search needs)
     (λ c. omega arith)
-    (λ c κs. search needs)
     (λ c. omega arith)
-    (λ c κs. search needs)
-    (λ c. omega arith)
-    (λ c κs. search needs)
-    (λ c κs. search needs)
-    (λ c κs. search needs)
-    (λ c κs. search needs)
-    (λ c κs. search needs)
-    test-on
-    test-less
     test-again
     (λ c κs. search needs)
     (λ c κs. search needs)

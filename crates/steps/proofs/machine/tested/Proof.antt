@@ -1,4 +1,4 @@
--- The tests are those of the contract.
+-- The tests are those of the definition.
 use borrow.Author.Needs.{needs}
 use borrow.Author.Tests.{lt-ltb, le-ltb}
 use Rattle.steps.proofs.machine.tested.Statement.{statement}
@@ -8,9 +8,39 @@ pub tested-spec : {M : Type 1} → statement M
 tested-spec =
     tie.close
     (tie.spec
+    (λ c. search needs)
     (λ c κs. search needs)
-    (λ c. rw (lt-ltb _ _ (c .before .if1 .taken)) (c .compared .ensures))
+    (λ c. search needs)
     (λ c κs. search needs)
-    (λ c. rw (le-ltb _ _ (c .before .before .if1 .left), lt-ltb _ _ (c .before .if2 .taken)) (c .crossed .ensures))
     (λ c κs. search needs)
-    (λ c. rw (le-ltb _ _ (c .before .before .if1 .left), le-ltb _ _ (c .before .if2 .left)) (c .within .ensures)))
+    (λ c.
+    let second = c .before .before in
+    rw (lt-ltb _ _ (c .before .if1 .taken), c .compared .ensures, second .at2 .ensures, second .before .at .ensures))
+    (λ c. search needs)
+    (λ c κs. search needs)
+    (λ c κs. search needs)
+    (λ c κs. search needs)
+    (λ c.
+    let third = c .before .before .before in
+    let second = third .before .before in
+    rw (
+      le-ltb _ _ (third .before .if1 .left),
+      lt-ltb _ _ (c .before .before .if2 .taken),
+      c .crossed .ensures,
+      c .before .at4 .ensures,
+      third .at3 .ensures,
+      second .at2 .ensures,
+      second .before .at .ensures,
+    ))
+    (λ c κs. search needs)
+    (λ c.
+    let third = c .before .before in
+    let second = third .before .before in
+    rw (
+      le-ltb _ _ (third .before .if1 .left),
+      le-ltb _ _ (c .before .if2 .left),
+      c .within .ensures,
+      third .at3 .ensures,
+      second .at2 .ensures,
+      second .before .at .ensures,
+    )))
