@@ -1,3 +1,4 @@
 pub mod Calling
 pub mod Stepping
 pub mod Finishing
+pub mod Writing

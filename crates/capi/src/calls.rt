@@ -37,10 +37,16 @@ pub(crate) fn judge_words(settings: &[u64], state: &[u64]) -> Verdict
     ensures { λ r. ⌜ r ≡ judged (wordLines (now (settings .entry)) (now (state .entry))) ⌝ }
 {
     if settings.len() < SETTING_WORDS {
-        return Verdict::Bad(Refusal { number: 10, place: SETTINGS_ROOM });
+        return Verdict::Bad(Refusal {
+            number: 10,
+            place: SETTINGS_ROOM,
+        });
     }
     if state.len() < STATE_WORDS {
-        return Verdict::Bad(Refusal { number: 10, place: STATE_ROOM });
+        return Verdict::Bad(Refusal {
+            number: 10,
+            place: STATE_ROOM,
+        });
     }
     Verdict::Fine
 }
@@ -50,7 +56,10 @@ pub(crate) fn judge_metrics(metrics: &[u64]) -> Verdict
     ensures { λ r. ⌜ r ≡ judged (metricLines (now (metrics .entry))) ⌝ }
 {
     if metrics.len() < METRIC_WORDS {
-        return Verdict::Bad(Refusal { number: 10, place: METRICS_ROOM });
+        return Verdict::Bad(Refusal {
+            number: 10,
+            place: METRICS_ROOM,
+        });
     }
     Verdict::Fine
 }

@@ -81,13 +81,22 @@ pub fn judge_bar(slots: usize, bar: &[u64], seen: u64) -> Verdict
     ensures { λ r. ⌜ r ≡ judged (barLines slots (now (bar .entry)) seen) ⌝ }
 {
     if !candle_fine(candle_of(bar)) {
-        return Verdict::Bad(Refusal { number: 11, place: seen });
+        return Verdict::Bad(Refusal {
+            number: 11,
+            place: seen,
+        });
     }
     if !slots_fine(bar, slots) {
-        return Verdict::Bad(Refusal { number: 11, place: seen });
+        return Verdict::Bad(Refusal {
+            number: 11,
+            place: seen,
+        });
     }
     if !funding_fine(funding_of(bar, slots)) {
-        return Verdict::Bad(Refusal { number: 11, place: seen });
+        return Verdict::Bad(Refusal {
+            number: 11,
+            place: seen,
+        });
     }
     Verdict::Fine
 }

@@ -51,7 +51,10 @@ pub fn judge_step(
         return Verdict::Bad(refusal);
     }
     if !records::bar::is_whole(bar, s.slots) {
-        return Verdict::Bad(Refusal { number: 13, place: 0 });
+        return Verdict::Bad(Refusal {
+            number: 13,
+            place: 0,
+        });
     }
     let n = t.counts;
     if let Verdict::Bad(refusal) = rooms::judge_place(n, equity, trades) {

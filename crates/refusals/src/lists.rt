@@ -21,7 +21,10 @@ fn judge_list(slots: usize, depth: usize, steps: &[u8], list: u64) -> Verdict
         Formed::Well => Verdict::Fine,
         Formed::Bad(p) => {
             let place = MOST_STEPS as u64 * list + p as u64;
-            Verdict::Bad(Refusal { number: 15, place: place })
+            Verdict::Bad(Refusal {
+                number: 15,
+                place: place,
+            })
         }
     }
 }

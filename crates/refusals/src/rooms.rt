@@ -18,7 +18,10 @@ pub fn judge_room(s: Settings, rows: &[u64]) -> Verdict
     ensures { λ r. ⌜ r ≡ judged (roomLines s (now (rows .entry))) ⌝ }
 {
     if rows::row_count(rows, s.slots) < s.depth {
-        return Verdict::Bad(Refusal { number: 10, place: 0 });
+        return Verdict::Bad(Refusal {
+            number: 10,
+            place: 0,
+        });
     }
     Verdict::Fine
 }
@@ -63,26 +66,29 @@ fn entry_below(entered: Entered, seen: u64) -> bool
 }
 
 // 13, all of the state.
-pub fn judge_state(
-    s: Settings,
-    t: State,
-    rows: &[u64],
-    equity: &[u64],
-    trades: &[u64],
-) -> Verdict
+pub fn judge_state(s: Settings, t: State, rows: &[u64], equity: &[u64], trades: &[u64]) -> Verdict
     ensures { λ r. ⌜ r ≡ judged (stateLines s t (rooms (now (rows .entry)) (now (equity .entry)) (now (trades .entry)))) ⌝ }
 {
     let n = t.counts;
     if !counts_fine(n) {
-        return Verdict::Bad(Refusal { number: 13, place: 0 });
+        return Verdict::Bad(Refusal {
+            number: 13,
+            place: 0,
+        });
     }
     if !held_fine(s.slots, n, rows, equity, trades) {
-        return Verdict::Bad(Refusal { number: 13, place: 0 });
+        return Verdict::Bad(Refusal {
+            number: 13,
+            place: 0,
+        });
     }
     let position = t.position;
     let entered = position.entered;
     if !entry_below(entered, n.bars_seen) {
-        return Verdict::Bad(Refusal { number: 13, place: 0 });
+        return Verdict::Bad(Refusal {
+            number: 13,
+            place: 0,
+        });
     }
     Verdict::Fine
 }
@@ -92,13 +98,22 @@ pub fn judge_place(n: Counts, equity: &[u64], trades: &[u64]) -> Verdict
     ensures { λ r. ⌜ r ≡ judged (placeLines n (now (equity .entry)) (now (trades .entry))) ⌝ }
 {
     if equity.len() / POINT_WORDS <= n.equity_points {
-        return Verdict::Bad(Refusal { number: 14, place: 0 });
+        return Verdict::Bad(Refusal {
+            number: 14,
+            place: 0,
+        });
     }
     if trades.len() / TRADE_WORDS <= n.trades {
-        return Verdict::Bad(Refusal { number: 14, place: 0 });
+        return Verdict::Bad(Refusal {
+            number: 14,
+            place: 0,
+        });
     }
     if MOST_COUNT <= n.bars_seen {
-        return Verdict::Bad(Refusal { number: 14, place: 0 });
+        return Verdict::Bad(Refusal {
+            number: 14,
+            place: 0,
+        });
     }
     Verdict::Fine
 }
@@ -123,7 +138,10 @@ pub fn judge_close(t: State, trades: &[u64]) -> Verdict
     let n = t.counts;
     if to_close(t) {
         if trades.len() / TRADE_WORDS <= n.trades {
-            return Verdict::Bad(Refusal { number: 14, place: 0 });
+            return Verdict::Bad(Refusal {
+                number: 14,
+                place: 0,
+            });
         }
     }
     Verdict::Fine

@@ -120,13 +120,22 @@ fn judge_sizing(sizing: Sizing) -> Verdict
     ensures { λ r. ⌜ r ≡ judged (sizingLines sizing) ⌝ }
 {
     if !sizing_known(sizing) {
-        return Verdict::Bad(Refusal { number: 12, place: 5 });
+        return Verdict::Bad(Refusal {
+            number: 12,
+            place: 5,
+        });
     }
     if !floats::is_finite(sizing_value(sizing)) {
-        return Verdict::Bad(Refusal { number: 12, place: 6 });
+        return Verdict::Bad(Refusal {
+            number: 12,
+            place: 6,
+        });
     }
     if MOST_REACH < lookback_of(sizing) {
-        return Verdict::Bad(Refusal { number: 12, place: 7 });
+        return Verdict::Bad(Refusal {
+            number: 12,
+            place: 7,
+        });
     }
     Verdict::Fine
 }
@@ -136,10 +145,16 @@ fn judge_slippage(slippage: Slippage) -> Verdict
     ensures { λ r. ⌜ r ≡ judged (slippageLines slippage) ⌝ }
 {
     if !slippage_known(slippage) {
-        return Verdict::Bad(Refusal { number: 12, place: 9 });
+        return Verdict::Bad(Refusal {
+            number: 12,
+            place: 9,
+        });
     }
     if !floats::is_finite(slippage_value(slippage)) {
-        return Verdict::Bad(Refusal { number: 12, place: 10 });
+        return Verdict::Bad(Refusal {
+            number: 12,
+            place: 10,
+        });
     }
     Verdict::Fine
 }
@@ -154,22 +169,40 @@ fn judge_risk(sizing: Sizing, risk: Risk) -> Verdict
     let leverage = risk.max_leverage;
     let position = risk.max_position_pct;
     if !stop_there(sizing, stop) {
-        return Verdict::Bad(Refusal { number: 12, place: 12 });
+        return Verdict::Bad(Refusal {
+            number: 12,
+            place: 12,
+        });
     }
     if !level_fine(stop) {
-        return Verdict::Bad(Refusal { number: 12, place: 12 });
+        return Verdict::Bad(Refusal {
+            number: 12,
+            place: 12,
+        });
     }
     if !level_fine(trailing) {
-        return Verdict::Bad(Refusal { number: 12, place: 13 });
+        return Verdict::Bad(Refusal {
+            number: 12,
+            place: 13,
+        });
     }
     if !level_fine(take) {
-        return Verdict::Bad(Refusal { number: 12, place: 14 });
+        return Verdict::Bad(Refusal {
+            number: 12,
+            place: 14,
+        });
     }
     if !level_fine(leverage) {
-        return Verdict::Bad(Refusal { number: 12, place: 15 });
+        return Verdict::Bad(Refusal {
+            number: 12,
+            place: 15,
+        });
     }
     if !level_fine(position) {
-        return Verdict::Bad(Refusal { number: 12, place: 16 });
+        return Verdict::Bad(Refusal {
+            number: 12,
+            place: 16,
+        });
     }
     Verdict::Fine
 }
@@ -185,7 +218,10 @@ fn judge_terms(t: Terms) -> Verdict
         return Verdict::Bad(refusal);
     }
     if !floats::is_finite(t.taker_bps) {
-        return Verdict::Bad(Refusal { number: 12, place: 8 });
+        return Verdict::Bad(Refusal {
+            number: 12,
+            place: 8,
+        });
     }
     if let Verdict::Bad(refusal) = judge_slippage(slippage) {
         return Verdict::Bad(refusal);
@@ -194,7 +230,10 @@ fn judge_terms(t: Terms) -> Verdict
         return Verdict::Bad(refusal);
     }
     if !floats::is_finite(t.max_participation) {
-        return Verdict::Bad(Refusal { number: 12, place: 19 });
+        return Verdict::Bad(Refusal {
+            number: 12,
+            place: 19,
+        });
     }
     Verdict::Fine
 }
@@ -206,13 +245,22 @@ pub fn judge_settings(s: Settings) -> Verdict
     let terms = s.terms;
     let sizing = terms.sizing;
     if MOST_SLOTS < s.slots {
-        return Verdict::Bad(Refusal { number: 12, place: 0 });
+        return Verdict::Bad(Refusal {
+            number: 12,
+            place: 0,
+        });
     }
     if !depth_fine(s.depth, sizing) {
-        return Verdict::Bad(Refusal { number: 12, place: 1 });
+        return Verdict::Bad(Refusal {
+            number: 12,
+            place: 1,
+        });
     }
     if !floats::is_finite(s.capital) {
-        return Verdict::Bad(Refusal { number: 12, place: 2 });
+        return Verdict::Bad(Refusal {
+            number: 12,
+            place: 2,
+        });
     }
     judge_terms(terms)
 }

@@ -78,7 +78,10 @@ pub fn answer_rule(t: &[u8], tree: Tree, rows: &[u64], s: PositionState) -> Rule
                     return RuleAnswer::Says(eval_tree(t, &ends, tree_number(tree), rows, s));
                 }
             }
-            RuleAnswer::Refuses(Refusal { number: 13, place: 0 })
+            RuleAnswer::Refuses(Refusal {
+                number: 13,
+                place: 0,
+            })
         }
     }
 }

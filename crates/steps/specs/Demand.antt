@@ -41,7 +41,7 @@ use Rattle.steps.specs.AnyList.{window-any}
 
 -- ---- the start of the room is what was written
 
-counted : (a : Answer) (short : Bool) (place m n : ℕ) → afterTable a (cond short (Refuses (refusal 10 place)) (Writes m)) ≡ Writes n → m ≡ n
+pub counted : (a : Answer) (short : Bool) (place m n : ℕ) → afterTable a (cond short (Refuses (refusal 10 place)) (Writes m)) ≡ Writes n → m ≡ n
 unfolding afterTable
 counted (Refused why) short place m n e = absurd (let z : _≡_ {A = ℕ} 0 1 = cc in omega arith)
 counted (Accepted nodes rows) true place m n e = absurd (let z : _≡_ {A = ℕ} 0 1 = cc in omega arith)

@@ -24,21 +24,36 @@ pub fn run(list: &[u8], rows: &[u64], slots: usize, depth: usize, s: PositionSta
     ensures { λ r. ⌜ r ≡ runs (now (list .entry)) (now (rows .entry)) slots depth s ⌝ }
 {
     if MOST_SLOTS < slots {
-        return RunAnswer::Refuses(Refusal { number: 12, place: SETTING_SLOTS });
+        return RunAnswer::Refuses(Refusal {
+            number: 12,
+            place: SETTING_SLOTS,
+        });
     }
     if depth < 1 {
-        return RunAnswer::Refuses(Refusal { number: 12, place: SETTING_DEPTH });
+        return RunAnswer::Refuses(Refusal {
+            number: 12,
+            place: SETTING_DEPTH,
+        });
     }
     if MOST_ROWS < depth {
-        return RunAnswer::Refuses(Refusal { number: 12, place: SETTING_DEPTH });
+        return RunAnswer::Refuses(Refusal {
+            number: 12,
+            place: SETTING_DEPTH,
+        });
     }
     if rows::are_whole(rows, slots) {
         if answers::state_right(s) {
             match wellformed::check(list, slots as u64, depth as u64) {
                 Formed::Well => return RunAnswer::Runs(machine::run(list, rows, slots, s)),
-                Formed::Bad(p) => return RunAnswer::Refuses(Refusal { number: 15, place: p as u64 }),
+                Formed::Bad(p) => return RunAnswer::Refuses(Refusal {
+                    number: 15,
+                    place: p as u64,
+                }),
             }
         }
     }
-    RunAnswer::Refuses(Refusal { number: 13, place: 0 })
+    RunAnswer::Refuses(Refusal {
+        number: 13,
+        place: 0,
+    })
 }

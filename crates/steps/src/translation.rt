@@ -186,7 +186,10 @@ pub fn translate(t: &[u8], tree: Tree, room: &mut [u8]) -> Translated
             let x = tree_number(tree);
             let count = header::count(t, x);
             if room.len() < NODE_ROOM * count {
-                return Translated::Refuses(Refusal { number: 10, place: FIRST_ROOM + x as u64 });
+                return Translated::Refuses(Refusal {
+                    number: 10,
+                    place: FIRST_ROOM + x as u64,
+                });
             }
             if count == 0 {
                 return Translated::Writes(0);

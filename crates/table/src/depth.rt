@@ -41,7 +41,10 @@ pub fn depth(t: &[u8], lookback: u64) -> DepthAnswer
         Answer::Refused(refusal) => DepthAnswer::Refuses(refusal),
         Answer::Accepted { nodes: _, rows } => {
             if MOST_REACH < lookback {
-                return DepthAnswer::Refuses(Refusal { number: 12, place: SETTING_LOOKBACK });
+                return DepthAnswer::Refuses(Refusal {
+                    number: 12,
+                    place: SETTING_LOOKBACK,
+                });
             }
             let needed = larger(rows, lookback + 1);
             let row = row_bytes(t);

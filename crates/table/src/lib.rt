@@ -60,7 +60,10 @@ fn check_nesting(t: &[u8], ends: [usize; 256], a: usize, b: usize, c: usize, e: 
 {
     let deep = too_deep(t, &ends, a, b, c, e);
     match deep {
-        Place::At(p) => refused(Refusal { number: 8, place: p as u64 }),
+        Place::At(p) => refused(Refusal {
+            number: 8,
+            place: p as u64,
+        }),
         Place::Nowhere => check_reach(t, ends, a, b, c, e),
     }
 }
@@ -72,7 +75,10 @@ fn check_order(t: &[u8], a: usize, b: usize, c: usize, e: usize) -> Checked
     let ends = order_all(t, a, b, c, e);
     let bad = misfits_of(t, &ends, a, b, c, e);
     match bad {
-        Place::At(p) => refused(Refusal { number: 7, place: p as u64 }),
+        Place::At(p) => refused(Refusal {
+            number: 7,
+            place: p as u64,
+        }),
         Place::Nowhere => check_nesting(t, ends, a, b, c, e),
     }
 }
@@ -84,7 +90,10 @@ fn check_nodes(t: &[u8]) -> Checked
     let total = header::total(t);
     let wrong = wrong_node(t, total);
     match wrong {
-        Place::At(p) => refused(Refusal { number: 6, place: p as u64 }),
+        Place::At(p) => refused(Refusal {
+            number: 6,
+            place: p as u64,
+        }),
         Place::Nowhere => {
             let a = header::root(t, 1);
             let b = header::root(t, 2);
@@ -102,6 +111,9 @@ pub fn check(t: &[u8]) -> Checked
     if number == 0 {
         check_nodes(t)
     } else {
-        refused(Refusal { number: number as u64, place: 0 })
+        refused(Refusal {
+            number: number as u64,
+            place: 0,
+        })
     }
 }

@@ -84,7 +84,10 @@ pub(crate) fn far_or_accepted(
     let far = too_far(w, x, y, z, a, b, c);
     let rows = rows_needed(w, x, y, z);
     match far {
-        Place::At(p) => Answer::Refused(Refusal { number: 9, place: p as u64 }),
+        Place::At(p) => Answer::Refused(Refusal {
+            number: 9,
+            place: p as u64,
+        }),
         Place::Nowhere => Answer::Accepted { nodes: e, rows },
     }
 }

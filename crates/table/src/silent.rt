@@ -101,7 +101,10 @@ pub fn silent_tests(t: &[u8], d: u64, list: &mut [u64]) -> SilentAnswer
             let mut first = [0u64; 1];
             let count = list_all(t, &ends, d, &mut first);
             if list.len() < count {
-                return SilentAnswer::Refuses(Refusal { number: 10, place: ROOM_SILENT });
+                return SilentAnswer::Refuses(Refusal {
+                    number: 10,
+                    place: ROOM_SILENT,
+                });
             }
             SilentAnswer::Lists(list_all(t, &ends, d, list))
         }
