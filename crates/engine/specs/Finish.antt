@@ -20,7 +20,8 @@ use Rattle.refusals.specs.Rooms.{toClose}
 use Rattle.engine.specs.declared.ending.Ended.{Ended}
 use Rattle.engine.specs.declared.Finished.{Finished}
 use Rattle.engine.specs.declared.Finished.the-variants.{Refused, Done}
-use Rattle.engine.specs.Account.{booked, leaving}
+use Rattle.engine.specs.Account.{leaving}
+use Rattle.engine.specs.Books.{booked}
 use Rattle.engine.specs.Step.{With}
 
 -- "Finish closes an open position, if a bar was seen, at the last close with a taker fee, reason end."

@@ -1,10 +1,10 @@
-use Rattle.engine.specs.Account.{left}
+use Rattle.engine.specs.Account.{intrabar}
 use borrow.Author.Needs.{needs}
 use Rattle.engine.proofs.account.apply_intrabar_exits.Statement.{statement}
 use Rattle.engine.proofs.account.apply_intrabar_exits.Tie as tie
 
 returns : tie.Need-returns
-unfolding left
+unfolding intrabar
 returns c =
     let c1 = c .before in
     let c2 = c1 .before in

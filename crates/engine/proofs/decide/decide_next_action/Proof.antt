@@ -1,11 +1,11 @@
 use borrow.Author.Tests.{le-ltb, lt-ltb}
-use Rattle.engine.specs.Decide.{decided, stateAt}
+use Rattle.engine.specs.Decide.{orderAfter, decided, stateAt}
 use borrow.Author.Needs.{needs}
 use Rattle.engine.proofs.decide.decide_next_action.Statement.{statement}
 use Rattle.engine.proofs.decide.decide_next_action.Tie as tie
 
 returns : tie.Need-returns
-unfolding decided stateAt
+unfolding decided orderAfter stateAt
 returns c =
     let c1 = c .before .before in
     simp (
@@ -14,25 +14,25 @@ returns c =
     )
 
 returns-2 : tie.Need-returns-2
-unfolding decided stateAt
+unfolding decided orderAfter stateAt
 returns-2 c =
     let c1 = c .before in
     simp (c1 .order .given .1)
 
 returns-3 : tie.Need-returns-3
-unfolding decided stateAt
+unfolding decided orderAfter stateAt
 returns-3 c =
     let c1 = c .before in
     simp (c1 .order2 .given .1)
 
 returns-4 : tie.Need-returns-4
-unfolding decided stateAt
+unfolding decided orderAfter stateAt
 returns-4 c =
     let c1 = c .before in
     simp (c1 .order3 .given .1)
 
 returns-5 : tie.Need-returns-5
-unfolding decided stateAt
+unfolding decided orderAfter stateAt
 returns-5 c =
     let c1 = c .before in
     let c2 = c1 .before in

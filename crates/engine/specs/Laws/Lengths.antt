@@ -14,12 +14,10 @@ use Rattle.rows.specs.Room.{places, withRow, heldWith}
 use Rattle.execution.specs.declared.Exit.{Exit}
 use Rattle.execution.specs.declared.Exit.the-variants.{NoExit, Exited}
 use Rattle.portfolio.specs.declared.Candle.{Candle}
-use Rattle.floats.specs.Floats.{wordOf}
-use Rattle.portfolio.specs.Portfolio.{equity}
 use Rattle.portfolio.specs.Trade.{tradeWords}
 use Rattle.records.specs.declared.state.Position.{Position}
 use Rattle.records.specs.Lent.{pointPlaces, tradePlaces}
-use Rattle.engine.specs.Account.{Held, booked, marked}
+use Rattle.engine.specs.Books.{Held, wordsOfPoint, pointOf, booked, marked}
 use Rattle.engine.specs.Record.{listed, rowWord, rowOf}
 
 -- ---- lengths
@@ -109,12 +107,20 @@ booked-fits room n (Exited c) h = go (ltb n (tradePlaces room)) refl
     go true e = (overwrite-kept room (n * 8) (tradeWords (c .trade)), omega (arith, ltb-true n (tradePlaces room) e))
     go false e = (refl, h)
 
+-- and another after it
+pub twice-booked-fits : (room : List ℕ) (n : ℕ) (x y : Exit) → n ≤ tradePlaces room
+    → Fits 8 (booked (booked room n x .room) (booked room n x .count) y) room
+twice-booked-fits room n x y h =
+    let a = booked-fits room n x h in
+    let b = booked-fits (booked room n x .room) (booked room n x .count) y (rw (a .0) (a .1)) in
+    (b .0 ∙ a .0, rw (a .0) at (b .1))
+
 pub marked-fits : (room : List ℕ) (n : ℕ) (k : Candle) (p : Position) → n ≤ pointPlaces room → Fits 2 (marked room n k p) room
 unfolding marked
 marked-fits room n k p h = go (ltb n (pointPlaces room)) refl
   where
     point : List ℕ
-    point = k .time ∷ wordOf (equity (p .portfolio) (k .close)) ∷ []
+    point = wordsOfPoint (pointOf k p)
 
     go : (b : Bool) → ltb n (pointPlaces room) ≡ b
         → Fits 2 (cond b (record { count = n + 1; room = overwrite room (n * 2) point }) (record { count = n; room = room })) room

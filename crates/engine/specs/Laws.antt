@@ -1,0 +1,12 @@
+pub mod Refusal
+pub mod OneTrade
+pub mod Quiet
+pub mod Meaning
+pub mod Lengths
+pub mod Runs
+pub mod Counts
+pub mod FillWindow
+pub mod Window
+pub mod BooksGrow
+pub mod AccountStep
+pub mod Follows

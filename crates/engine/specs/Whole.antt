@@ -1,0 +1,90 @@
+-- A run that keeps every row: what a bar does to an account, over all rows before it, and what it adds to the books.
+use Prim.Native.Nat.{ℕ, _+_}
+use mathlib.Core.List.{List, [], _∷_, _++_}
+use Rattle.rows.specs.History.{historyOf, lastRows}
+use Rattle.rules.specs.declared.PositionState.{PositionState}
+use Rattle.portfolio.specs.declared.Trade.{Trade}
+use Rattle.records.specs.declared.settings.Settings.{Settings}
+use Rattle.records.specs.declared.state.Last.{Last}
+use Rattle.records.specs.declared.state.Order.{Order}
+use Rattle.records.specs.declared.state.Position.{Position}
+use Rattle.records.specs.declared.state.State.{State}
+use Rattle.records.specs.Bar.{candleOf}
+use Rattle.records.specs.Lent.{Lists, Rooms}
+use Rattle.engine.specs.Account.{filled, intrabar, charged}
+use Rattle.engine.specs.Books.{Point, pointOf, tradesOf}
+use Rattle.engine.specs.Decide.{Answers, answersOf, stateAt, orderAfter}
+use Rattle.engine.specs.Record.{rowOf, heldRows}
+use Rattle.engine.specs.Rules.{Rules, meanings}
+
+-- ---- the account
+
+-- What a state carries on from bar to bar beside the rows and the books.
+pub record Account : Type 0 where
+  pub seen : ℕ
+  pub order : Order
+  pub position : Position
+  pub last : Last
+
+abbrev pub accountOf : State → Account
+accountOf t = record { seen = t .counts .«bars_seen»; order = t .order; position = t .position; last = t .last }
+
+-- the rows that a state counts in its room
+abbrev pub rowsHeld : Settings → State → Rooms → List ℕ
+rowsHeld s t m = heldRows (s .slots) (t .counts .«rows_held») (m .rows)
+
+-- ---- what the rules answer, over rows of which this bar's is the last
+
+abbrev pub Asked : Type 0
+Asked = List ℕ → PositionState → Answers
+
+-- asked of their lists, over the last D rows
+unfoldable pub byLists : Settings → Lists → Asked
+byLists s ls rows p = answersOf (historyOf (s .slots) (lastRows (s .slots) (s .depth) rows)) p ls
+
+-- asked of what they mean, over all rows
+unfoldable pub byMeaning : Settings → Rules → Asked
+byMeaning s rs rows p = meanings (historyOf (s .slots) rows) p rs
+
+-- ---- a bar
+
+-- What a bar comes to: the account after it, its equity point, and the trades that it closes.
+pub record Taken : Type 0 where
+  pub account : Account
+  pub point : Point
+  pub trades : List Trade
+
+-- "fill the working order, record the row, intrabar exits, funding, equity at the close, decide": `rows` are those of all bars
+-- before this one
+unfoldable pub taken : Settings → Asked → Account → List ℕ → List ℕ → Taken
+taken s asked a rows bar =
+    let k = candleOf bar in
+    let f = filled s (a .order) (a .position) k (historyOf (s .slots) rows) (a .seen) in
+    let x = intrabar s (f .position) k in
+    let p = charged s (x .position) bar in
+    record {
+      account = record {
+        seen = a .seen + 1;
+        order = orderAfter s (f .order) p (a .seen) (asked (rows ++ rowOf (s .slots) bar) (stateAt p (a .seen)));
+        position = p;
+        last = record { time = k .time; close = k .close };
+      };
+      point = pointOf k p;
+      trades = tradesOf (f .«exit») ++ tradesOf (x .«exit»);
+    }
+
+-- ---- bar after bar
+
+-- What bars come to: the account after the last of them, and the points and trades of all.
+pub record Whole : Type 0 where
+  pub account : Account
+  pub points : List Point
+  pub trades : List Trade
+
+-- each bar reads the rows of every bar before it
+unfoldable pub wholeRun : Settings → Asked → Account → List ℕ → List (List ℕ) → Whole
+wholeRun s asked a rows [] = record { account = a; points = []; trades = [] }
+wholeRun s asked a rows (bar ∷ bars) =
+    let b = taken s asked a rows bar in
+    let later = wholeRun s asked (b .account) (rows ++ rowOf (s .slots) bar) bars in
+    record { account = later .account; points = b .point ∷ later .points; trades = b .trades ++ later .trades }
