@@ -64,3 +64,12 @@ heldPoints t m = take (t .counts .«equity_points» * 2) (m .equity)
 
 unfoldable pub heldTrades : State → Rooms → List ℕ
 heldTrades t m = take (t .counts .trades * 8) (m .trades)
+
+-- the books emptied by the caller: their counts are 0, and nothing else changes
+unfoldable pub emptied : State → State
+emptied t = record {
+  counts = record { «bars_seen» = t .counts .«bars_seen»; «rows_held» = t .counts .«rows_held»; «equity_points» = 0; trades = 0 };
+  order = t .order;
+  position = t .position;
+  last = t .last;
+}

@@ -10,3 +10,8 @@ pub mod Window
 pub mod BooksGrow
 pub mod AccountStep
 pub mod Follows
+pub mod Verdicts
+pub mod Alike
+pub mod TwoRuns
+pub mod NeverTen
+pub mod Finishes

@@ -8,4 +8,7 @@ pub mod Run
 pub mod Rules
 pub mod Whole
 pub mod Laws
+pub mod WholeHistory
+pub mod WholeRun
+pub mod OtherBooks
 pub mod Edges

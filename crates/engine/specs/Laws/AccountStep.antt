@@ -1,6 +1,6 @@
 -- What a step does to the account is what a bar does to it over the rows held; and no row older than the last D matters.
 use Prim.Native.Nat.{ℕ, _<_}
-use mathlib.Core.Path.{_≡_, sym, _∙_}
+use mathlib.Core.Path.{_≡_, sym, ap, _∙_}
 use mathlib.Core.List.{List, _++_}
 use Rattle.rows.specs.History.{historyOf, lastRows}
 use Rattle.portfolio.specs.declared.Candle.{Candle}
@@ -20,6 +20,21 @@ use Rattle.engine.specs.Rules.{rulesOf, FromTable}
 use Rattle.engine.specs.Laws.Meaning.{lists-mean}
 use Rattle.engine.specs.Step.{stepped}
 use Rattle.engine.specs.Whole.{Account, accountOf, rowsHeld, byLists, byMeaning, taken}
+
+-- the parts of an account
+pub record SameParts (t t′ : State) : Type 0 where
+  pub seen : t .counts .«bars_seen» ≡ t′ .counts .«bars_seen»
+  pub order : t .order ≡ t′ .order
+  pub position : t .position ≡ t′ .position
+  pub last : t .last ≡ t′ .last
+
+pub same-parts : (t t′ : State) → accountOf t ≡ accountOf t′ → SameParts t t′
+same-parts t t′ e = record {
+  seen = ap (λ (a : Account). a .seen) e;
+  order = ap (λ (a : Account). a .order) e;
+  position = ap (λ (a : Account). a .position) e;
+  last = ap (λ (a : Account). a .last) e;
+}
 
 -- the last D of rows
 abbrev pub lastOf : Settings → List ℕ → List ℕ

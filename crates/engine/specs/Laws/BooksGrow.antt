@@ -1,5 +1,5 @@
 -- The books after a bar are the books before it, its point and its trades at their end, whatever stale words lie behind.
-use Prim.Native.Nat.{ℕ, _+_, _*_, _/_, _≤_, _<_}
+use Prim.Native.Nat.{ℕ, _+_, _-_, _*_, _/_, _≤_, _<_}
 use mathlib.Core.Path.{_≡_, refl, sym, _∙_}
 use mathlib.Core.List.{List, [], _∷_, _++_, append-nil, append-assoc, flatMap}
 use native.Mathlib.Nat.{le-div-iff-mul-le, suc-mul}
@@ -7,7 +7,7 @@ use native.Mathlib.Numerals.{add-one}
 use native.Mathlib.Omega.{arith}
 use borrow.Author.Tests.{lt-ltb, le-ltb}
 use lib.ListN.{length, take, drop, length-append}
-use lib.Seq.{length-take-le, take-at}
+use lib.Seq.{length-take-le, take-at, drop-at, drop-drop}
 use Rattle.words.specs.Words.{overwrite}
 use Rattle.words.specs.Laws.Overwrite.{overwrite-fits}
 use Rattle.portfolio.specs.declared.Candle.{Candle}
@@ -20,7 +20,7 @@ use Rattle.records.specs.declared.settings.Settings.{Settings}
 use Rattle.records.specs.declared.state.Position.{Position}
 use Rattle.records.specs.declared.state.State.{State}
 use Rattle.records.specs.Lent.{Lists, Rooms, pointPlaces, tradePlaces}
-use Rattle.engine.specs.Books.{Point, pointOf, wordsOfPoint, tradesOf, booked, marked, heldPoints, heldTrades}
+use Rattle.engine.specs.Books.{Point, pointOf, wordsOfPoint, tradesOf, Held, booked, marked, heldPoints, heldTrades}
 use Rattle.engine.specs.Laws.OneTrade.{one-exit}
 use Rattle.engine.specs.Step.{stepped}
 use Rattle.engine.specs.Whole.{Asked, accountOf, rowsHeld, taken}
@@ -31,6 +31,9 @@ pub record Grown (t : State) (m : Rooms) (u : State) (n : Rooms) (ps : List Poin
   pub trades : u .counts .trades ≡ t .counts .trades + length xs
   pub equity : heldPoints u n ≡ heldPoints t m ++ flatMap wordsOfPoint ps
   pub closed : heldTrades u n ≡ heldTrades t m ++ flatMap tradeWords xs
+  -- what lies behind is untouched
+  pub behindPoints : drop (u .counts .«equity_points» * 2) (n .equity) ≡ drop (u .counts .«equity_points» * 2) (m .equity)
+  pub behindTrades : drop (u .counts .trades * 8) (n .trades) ≡ drop (u .counts .trades * 8) (m .trades)
 
 -- ---- growth after growth
 
@@ -41,41 +44,63 @@ flat-append f (x ∷ xs) ys = rw (flat-append f xs ys, append-assoc)
 
 pub grown-none : (t : State) (m : Rooms) → Grown t m t m [] []
 unfolding flatMap
-grown-none t m = record { points = omega arith; trades = omega arith; equity = sym (append-nil _); closed = sym (append-nil _) }
+grown-none t m = record {
+  points = omega arith;
+  trades = omega arith;
+  equity = sym (append-nil _);
+  closed = sym (append-nil _);
+  behindPoints = refl;
+  behindTrades = refl;
+}
+
+-- what is the same behind i is so behind a later j
+behind : (i j : ℕ) (room room′ : List ℕ) → i ≤ j → drop i room ≡ drop i room′ → drop j room ≡ drop j room′
+behind i j room room′ h e =
+    let sum : i + (j - i) ≡ j = omega arith in
+    rw (← sum, ← (drop-drop (j - i) i room), ← (drop-drop (j - i) i room′), e)
 
 pub grown-more : {t u w : State} {m n o : Rooms} {ps qs : List Point} {xs ys : List Trade} → Grown t m u n ps xs → Grown u n w o qs ys
     → Grown t m w o (ps ++ qs) (xs ++ ys)
-grown-more {ps = ps} {qs = qs} {xs = xs} {ys = ys} a b = record {
+grown-more {u = u} {w = w} {m = m} {n = n} {ps = ps} {qs = qs} {xs = xs} {ys = ys} a b = record {
   points = omega (arith, a .points, b .points, length-append ps qs);
   trades = omega (arith, a .trades, b .trades, length-append xs ys);
   equity = rw (b .equity, a .equity, flat-append wordsOfPoint ps qs, append-assoc);
   closed = rw (b .closed, a .closed, flat-append tradeWords xs ys, append-assoc);
+  behindPoints = b .behindPoints ∙ behind (u .counts .«equity_points» * 2) (w .counts .«equity_points» * 2) (n .equity) (m .equity) (omega (arith, b .points)) (a .behindPoints);
+  behindTrades = b .behindTrades ∙ behind (u .counts .trades * 8) (w .counts .trades * 8) (n .trades) (m .trades) (omega (arith, b .trades)) (a .behindTrades);
 }
 
 -- ---- a record
 
--- a record that is written just past the n that a room holds is held after them
+-- a record that is written just past the n that a room holds is held after them, and what lies behind is untouched
 written-last : (w n : ℕ) (room words : List ℕ) → 0 < w → length words ≡ w → n < length room / w
-    → take ((n + 1) * w) (overwrite room (n * w) words) ≡ take (n * w) room ++ words
+    → (take ((n + 1) * w) (overwrite room (n * w) words) ≡ take (n * w) room ++ words)
+    × (drop ((n + 1) * w) (overwrite room (n * w) words) ≡ drop ((n + 1) * w) room)
 written-last w n room words some long place =
     let end : (n + 1) * w ≡ n * w + w = rw (add-one, suc-mul) in
     let fits : (n + 1) * w ≤ length room = le-div-iff-mul-le {k = w} some .0 (omega arith) in
     let old : length (take (n * w) room) ≡ n * w = length-take-le (n * w) room (omega arith) in
-    rw (overwrite-fits room (n * w) words (omega arith))
-    (take-at (take (n * w) room ++ words) (drop (n * w + length words) room) ((n + 1) * w) (omega (arith, length-append (take (n * w) room) words)))
+    let both : length (take (n * w) room ++ words) ≡ (n + 1) * w = omega (arith, length-append (take (n * w) room) words) in
+    let at : n * w + length words ≡ (n + 1) * w = omega arith in
+    rw (overwrite-fits room (n * w) words (omega arith)) (
+      take-at (take (n * w) room ++ words) (drop (n * w + length words) room) ((n + 1) * w) both,
+      drop-at (take (n * w) room ++ words) (drop (n * w + length words) room) ((n + 1) * w) both ∙ rw at,
+    )
 
 -- ---- a trade, a point
 
-abbrev Trades : List ℕ → ℕ → List ℕ → ℕ → List Trade → Type 0
-Trades room n after count trades = (count ≡ n + length trades) × (take (count * 8) after ≡ take (n * 8) room ++ flatMap tradeWords trades)
+-- a room that held n holds count after it, with these words at the end, and is untouched behind
+abbrev Added : ℕ → List ℕ → ℕ → Held → ℕ → List ℕ → Type 0
+Added w room n h more words =
+    (h .count ≡ n + more) × (take (h .count * w) (h .room) ≡ take (n * w) room ++ words) × (drop (h .count * w) (h .room) ≡ drop (h .count * w) room)
 
 pub trade-booked : (room : List ℕ) (n : ℕ) (x : Exit) → n < tradePlaces room
-    → Trades room n (booked room n x .room) (booked room n x .count) (tradesOf x)
+    → Added 8 room n (booked room n x) (length (tradesOf x)) (flatMap tradeWords (tradesOf x))
 unfolding booked tradesOf flatMap
-trade-booked room n NoExit h = (omega arith, sym (append-nil _))
+trade-booked room n NoExit h = (omega arith, sym (append-nil _), refl)
 trade-booked room n (Exited c) h =
-    rw (lt-ltb n (tradePlaces room) h, append-nil)
-    (refl, written-last 8 n room (tradeWords (c .trade)) (omega arith) (unfold tradeWords in refl) h)
+    let w = written-last 8 n room (tradeWords (c .trade)) (omega arith) (unfold tradeWords in refl) h in
+    rw (lt-ltb n (tradePlaces room) h, append-nil) (refl, w .0, w .1)
 
 -- where there is no place, nothing is booked
 pub none-booked : (room : List ℕ) (n : ℕ) (x : Exit) → tradePlaces room ≤ n → booked room n x ≡ record { count = n; room = room }
@@ -87,18 +112,17 @@ none-booked room n (Exited c) h = rw (le-ltb n (tradePlaces room) h)
 two-booked : (room : List ℕ) (n : ℕ) (x y : Exit) → ((c : Closed) → x ≡ Exited c → y ≡ NoExit) → n < tradePlaces room
     → let first = booked room n x in
     let second = booked (first .room) (first .count) y in
-    Trades room n (second .room) (second .count) (tradesOf x ++ tradesOf y)
+    Added 8 room n second (length (tradesOf x ++ tradesOf y)) (flatMap tradeWords (tradesOf x ++ tradesOf y))
 unfolding booked tradesOf
 two-booked room n NoExit y only h = trade-booked room n y h
 two-booked room n (Exited c) y only h = rw (only c refl) (trade-booked room n (Exited c) h)
 
 point-marked : (room : List ℕ) (n : ℕ) (k : Candle) (p : Position) → n < pointPlaces room
-    → (marked room n k p .count ≡ n + 1)
-    × (take (marked room n k p .count * 2) (marked room n k p .room) ≡ take (n * 2) room ++ flatMap wordsOfPoint (pointOf k p ∷ []))
+    → Added 2 room n (marked room n k p) 1 (flatMap wordsOfPoint (pointOf k p ∷ []))
 unfolding marked flatMap
 point-marked room n k p h =
-    rw (lt-ltb n (pointPlaces room) h, append-nil)
-    (refl, written-last 2 n room (wordsOfPoint (pointOf k p)) (omega arith) (unfold wordsOfPoint in refl) h)
+    let w = written-last 2 n room (wordsOfPoint (pointOf k p)) (omega arith) (unfold wordsOfPoint in refl) h in
+    rw (lt-ltb n (pointPlaces room) h, append-nil) (refl, w .0, w .1)
 
 -- THE BOOKS of a step for which there is a place. How the rules are asked does not matter.
 pub books-grow : (s : Settings) (asked : Asked) (t : State) (bar : List ℕ) (m : Rooms) (ls : Lists)
@@ -110,4 +134,4 @@ unfolding stepped taken heldPoints heldTrades
 books-grow s asked t bar m ls p q =
     let point = point-marked (m .equity) (t .counts .«equity_points») _ _ p in
     let trades = two-booked (m .trades) (t .counts .trades) _ _ (one-exit s (t .order) (t .position) _ _ (t .counts .«bars_seen»)) q in
-    record { points = point .0; trades = trades .0; equity = point .1; closed = trades .1 }
+    record { points = point .0; trades = trades .0; equity = point .1; closed = trades .1; behindPoints = point .2; behindTrades = trades .2 }

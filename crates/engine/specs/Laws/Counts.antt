@@ -84,7 +84,7 @@ module _ (s : Settings) (t : State) (bar : List ℕ) (m : Rooms) (ls : Lists) wh
 
 -- ---- a run
 
-fresh-within : (s : Settings) (m : Rooms) → WithinRooms s (freshState s) m
+pub fresh-within : (s : Settings) (m : Rooms) → WithinRooms s (freshState s) m
 unfolding freshState
 fresh-within s m = omega arith
 

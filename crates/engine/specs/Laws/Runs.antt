@@ -46,3 +46,16 @@ module _ (s : Settings) (ls : Lists) (P : State → Rooms → Type 0)
           → P (runOver s ls t m (bar ∷ bars) .state) (runOver s ls t m (bar ∷ bars) .rooms)
       go (Bad why) e goes = rw (run-stops s ls t m bar bars why e) p
       go Fine e goes = rw (run-takes s ls t m bar bars e) (goes e)
+
+  module _ (E : Verdict → Type 0) (fine : E Fine) (judges : (t : State) (m : Rooms) (bar : List ℕ) → P t m → E (stepJudged s t bar m ls)) where
+    -- What holds of every verdict on a bar, where P holds before it, holds of the verdict that ends a run.
+    pub run-ends : (bars : List (List ℕ)) (t : State) (m : Rooms) → P t m → E (runOver s ls t m bars .verdict)
+    run-ends [] t m p = rw run-none fine
+    run-ends (bar ∷ bars) t m p =
+        go (stepJudged s t bar m ls) refl (λ h. run-ends bars (stepped s t bar m ls .result) (stepped s t bar m ls .rooms) (step t m bar h p))
+      where
+        go : (v : Verdict) → stepJudged s t bar m ls ≡ v
+            → (stepJudged s t bar m ls ≡ Fine → E (runOver s ls (stepped s t bar m ls .result) (stepped s t bar m ls .rooms) bars .verdict))
+            → E (runOver s ls t m (bar ∷ bars) .verdict)
+        go (Bad why) e goes = rw (run-stops s ls t m bar bars why e, ← e) (judges t m bar p)
+        go Fine e goes = rw (run-takes s ls t m bar bars e) (goes e)
