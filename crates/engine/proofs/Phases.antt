@@ -30,7 +30,8 @@ module _ (s : Settings) (t : State) (bar : List ℕ) (m : Rooms) (ls : Lists) wh
       → k ≡ candleOf bar
       → f ≡ filled s (t .order) (t .position) k (historyOf (s .slots) (heldRows (s .slots) (t .counts .«rows_held») (m .rows))) (t .counts .«bars_seen»)
       → (sold ≡ booked (m .trades) (t .counts .trades) (f .«exit») .count) × (ts ≡ booked (m .trades) (t .counts .trades) (f .«exit») .room)
-      → (held ≡ heldWith (m .rows) (t .counts .«rows_held») (rowOf (s .slots) bar)) × (ws ≡ withRow (m .rows) (t .counts .«rows_held») (rowOf (s .slots) bar))
+      → (held ≡ heldWith (m .rows) (t .counts .«rows_held») (rowOf (s .slots) bar))
+      × (ws ≡ withRow (m .rows) (t .counts .«rows_held») (rowOf (s .slots) bar))
       → x ≡ intrabar s (f .position) k
       → (stopped ≡ booked ts sold (x .«exit») .count) × (us ≡ booked ts sold (x .«exit») .room)
       → p ≡ charged s (x .position) bar

@@ -66,8 +66,12 @@ grown-more {u = u} {w = w} {m = m} {n = n} {ps = ps} {qs = qs} {xs = xs} {ys = y
   trades = omega (arith, a .trades, b .trades, length-append xs ys);
   equity = rw (b .equity, a .equity, flat-append wordsOfPoint ps qs, append-assoc);
   closed = rw (b .closed, a .closed, flat-append tradeWords xs ys, append-assoc);
-  behindPoints = b .behindPoints ∙ behind (u .counts .«equity_points» * 2) (w .counts .«equity_points» * 2) (n .equity) (m .equity) (omega (arith, b .points)) (a .behindPoints);
-  behindTrades = b .behindTrades ∙ behind (u .counts .trades * 8) (w .counts .trades * 8) (n .trades) (m .trades) (omega (arith, b .trades)) (a .behindTrades);
+  behindPoints =
+      b .behindPoints
+      ∙ behind (u .counts .«equity_points» * 2) (w .counts .«equity_points» * 2) (n .equity) (m .equity) (omega (arith, b .points)) (a .behindPoints);
+  behindTrades =
+      b .behindTrades
+      ∙ behind (u .counts .trades * 8) (w .counts .trades * 8) (n .trades) (m .trades) (omega (arith, b .trades)) (a .behindTrades);
 }
 
 -- ---- a record

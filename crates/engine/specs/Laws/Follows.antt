@@ -1,6 +1,6 @@
 -- A box keeps the last D rows, and its run is one that keeps every row.
-use Prim.Native.Nat.{ℕ, _+_}
-use mathlib.Core.Path.{_≡_, refl, sym, ap, _∙_}
+use Prim.Native.Nat.{ℕ}
+use mathlib.Core.Path.{_≡_, refl, _∙_}
 use mathlib.Core.List.{List, [], _∷_, _++_, append-nil, append-assoc, flatMap}
 use native.Mathlib.Numerals.{add-one}
 use lib.ListN.{take}
@@ -17,7 +17,7 @@ use Rattle.engine.specs.Laws.Runs.{run-none, run-stops, run-takes}
 use Rattle.engine.specs.Record.{rowOf}
 use Rattle.engine.specs.Run.{Run, runOver}
 use Rattle.engine.specs.Step.{With, stepped}
-use Rattle.engine.specs.Whole.{Account, accountOf, rowsHeld, byLists, taken, Whole, wholeRun}
+use Rattle.engine.specs.Whole.{Account, accountOf, rowsHeld, byLists, taken, wholeRun}
 
 -- The box (t, m) has this account, and the last D of the rows that it holds are the last D of these.
 pub record Follows (s : Settings) (t : State) (m : Rooms) (a : Account) (rows : List ℕ) : Type 0 where

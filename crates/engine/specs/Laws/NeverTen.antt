@@ -12,7 +12,7 @@ use Rattle.records.specs.declared.state.State.{State}
 use Rattle.records.specs.Lent.{Lists, Rooms, rowPlaces}
 use Rattle.records.specs.State.{freshState}
 use Rattle.refusals.specs.declared.verdict.Verdict.{Verdict}
-use Rattle.refusals.specs.declared.verdict.Verdict.the-variants.{Fine, Bad}
+use Rattle.refusals.specs.declared.verdict.Verdict.the-variants.{Bad}
 use Rattle.refusals.specs.Bar.{barLines}
 use Rattle.refusals.specs.Judgement.{runLines, stepLines, stepJudged}
 use Rattle.refusals.specs.Laws.Lines.{never, and-true}

@@ -97,5 +97,4 @@ pub one-trade : (s : Settings) (t : State) (bar : List ℕ) (m : Rooms) (ls : Li
     → stepped s t bar m ls .result .counts .trades ≤ t .counts .trades + 1
 unfolding stepped
 one-trade s t bar m ls =
-    at-most-one (m .trades) (t .counts .trades) _ _
-    (one-exit s (t .order) (t .position) (candleOf bar) (historyOf (s .slots) (heldRows (s .slots) (t .counts .«rows_held») (m .rows))) (t .counts .«bars_seen»))
+    at-most-one (m .trades) (t .counts .trades) _ _ (one-exit s (t .order) (t .position) (candleOf bar) _ (t .counts .«bars_seen»))
