@@ -9,6 +9,8 @@ pub mod Rules
 pub mod Whole
 pub mod Laws
 pub mod WholeHistory
+pub mod AsMeant
+pub mod SameRun
 pub mod WholeRun
 pub mod OtherBooks
 pub mod Edges

@@ -1,9 +1,13 @@
 -- A run that keeps every row: what a bar does to an account, over all rows before it, and what it adds to the books.
 use Prim.Native.Nat.{ℕ, _+_}
-use mathlib.Core.List.{List, [], _∷_, _++_}
+use mathlib.Core.List.{List, [], _∷_, _++_, flatMap}
 use Rattle.rows.specs.History.{historyOf, lastRows}
 use Rattle.rules.specs.declared.PositionState.{PositionState}
 use Rattle.portfolio.specs.declared.Trade.{Trade}
+use Rattle.portfolio.specs.Trade.{tradeWords}
+use Rattle.metrics.specs.declared.Metrics.{Metrics}
+use Rattle.metrics.specs.Figures.{metricsOf}
+use Rattle.metrics.specs.Records.{equityOf, pnlsOf}
 use Rattle.records.specs.declared.settings.Settings.{Settings}
 use Rattle.records.specs.declared.state.Last.{Last}
 use Rattle.records.specs.declared.state.Order.{Order}
@@ -11,9 +15,10 @@ use Rattle.records.specs.declared.state.Position.{Position}
 use Rattle.records.specs.declared.state.State.{State}
 use Rattle.records.specs.Bar.{candleOf}
 use Rattle.records.specs.Lent.{Lists, Rooms}
-use Rattle.engine.specs.Account.{filled, intrabar, charged}
-use Rattle.engine.specs.Books.{Point, pointOf, tradesOf}
+use Rattle.engine.specs.Account.{leaving, filled, intrabar, charged}
+use Rattle.engine.specs.Books.{Point, pointOf, wordsOfPoint, tradesOf}
 use Rattle.engine.specs.Decide.{Answers, answersOf, stateAt, orderAfter}
+use Rattle.engine.specs.Finish.{lastExit}
 use Rattle.engine.specs.Record.{rowOf, heldRows}
 use Rattle.engine.specs.Rules.{Rules, meanings}
 
@@ -88,3 +93,28 @@ wholeRun s asked a rows (bar ∷ bars) =
     let b = taken s asked a rows bar in
     let later = wholeRun s asked (b .account) (rows ++ rowOf (s .slots) bar) bars in
     record { account = later .account; points = b .point ∷ later .points; trades = b .trades ++ later .trades }
+
+-- ---- the end
+
+-- an account as a state that holds nothing
+abbrev pub stateOf : Account → State
+stateOf a = record {
+  counts = record { «bars_seen» = a .seen; «rows_held» = 0; «equity_points» = 0; trades = 0 };
+  order = a .order;
+  position = a .position;
+  last = a .last;
+}
+
+-- "Finish closes an open position, if a bar was seen, at the last close with a taker fee, reason end."
+unfoldable pub wholeEnd : Settings → Whole → Whole
+wholeEnd s w =
+    let x = lastExit s (stateOf (w .account)) in
+    let a = w .account in
+    record {
+      account = record { seen = a .seen; order = a .order; position = leaving (a .position) x; last = a .last };
+      points = w .points;
+      trades = w .trades ++ tradesOf x;
+    }
+
+unfoldable pub wholeMetrics : Settings → Whole → Metrics
+wholeMetrics s w = metricsOf (s .capital) (equityOf (flatMap wordsOfPoint (w .points))) (pnlsOf (flatMap tradeWords (w .trades)))

@@ -6,7 +6,7 @@ use native.Mathlib.Nat.{le-div-iff-mul-le, suc-mul}
 use native.Mathlib.Numerals.{add-one}
 use native.Mathlib.Omega.{arith}
 use borrow.Author.Tests.{lt-ltb, le-ltb}
-use lib.ListN.{length, take, drop, length-append}
+use lib.ListN.{length, take, drop, length-append, take-append-drop}
 use lib.Seq.{length-take-le, take-at, drop-at, drop-drop}
 use Rattle.words.specs.Words.{overwrite}
 use Rattle.words.specs.Laws.Overwrite.{overwrite-fits}
@@ -37,7 +37,7 @@ pub record Grown (t : State) (m : Rooms) (u : State) (n : Rooms) (ps : List Poin
 
 -- ---- growth after growth
 
-flat-append : {A : Type 0} (f : A → List ℕ) (xs ys : List A) → flatMap f (xs ++ ys) ≡ flatMap f xs ++ flatMap f ys
+pub flat-append : {A : Type 0} (f : A → List ℕ) (xs ys : List A) → flatMap f (xs ++ ys) ≡ flatMap f xs ++ flatMap f ys
 unfolding flatMap
 flat-append f [] ys = refl
 flat-append f (x ∷ xs) ys = rw (flat-append f xs ys, append-assoc)
@@ -74,6 +74,10 @@ grown-more {u = u} {w = w} {m = m} {n = n} {ps = ps} {qs = qs} {xs = xs} {ys = y
       ∙ behind (u .counts .trades * 8) (w .counts .trades * 8) (n .trades) (m .trades) (omega (arith, b .trades)) (a .behindTrades);
 }
 
+-- rooms that are the same before a place and behind it are the same
+pub same-room : (i j : ℕ) (room room′ : List ℕ) → take i room ≡ take j room′ → drop i room ≡ drop j room′ → room ≡ room′
+same-room i j room room′ held rest = sym (take-append-drop i room) ∙ rw (held, rest) (take-append-drop j room′)
+
 -- ---- a record
 
 -- a record that is written just past the n that a room holds is held after them, and what lies behind is untouched
@@ -94,14 +98,18 @@ written-last w n room words some long place =
 -- ---- a trade, a point
 
 -- a room that held n holds count after it, with these words at the end, and is untouched behind
-abbrev Added : ℕ → List ℕ → ℕ → Held → ℕ → List ℕ → Type 0
+abbrev pub Added : ℕ → List ℕ → ℕ → Held → ℕ → List ℕ → Type 0
 Added w room n h more words =
     (h .count ≡ n + more) × (take (h .count * w) (h .room) ≡ take (n * w) room ++ words) × (drop (h .count * w) (h .room) ≡ drop (h .count * w) room)
+
+pub none-added : (room : List ℕ) (n : ℕ) → Added 8 room n (booked room n NoExit) (length (tradesOf NoExit)) (flatMap tradeWords (tradesOf NoExit))
+unfolding booked tradesOf flatMap
+none-added room n = (omega arith, sym (append-nil _), refl)
 
 pub trade-booked : (room : List ℕ) (n : ℕ) (x : Exit) → n < tradePlaces room
     → Added 8 room n (booked room n x) (length (tradesOf x)) (flatMap tradeWords (tradesOf x))
 unfolding booked tradesOf flatMap
-trade-booked room n NoExit h = (omega arith, sym (append-nil _), refl)
+trade-booked room n NoExit h = none-added room n
 trade-booked room n (Exited c) h =
     let w = written-last 8 n room (tradeWords (c .trade)) (omega arith) (unfold tradeWords in refl) h in
     rw (lt-ltb n (tradePlaces room) h, append-nil) (refl, w .0, w .1)

@@ -1,21 +1,28 @@
 -- Two boxes that differ in their rows alone finish alike.
-use Prim.Native.Nat.{ℕ, _*_}
+use Prim.Native.Nat.{ℕ, _*_, _<_}
 use mathlib.Core.Path.{_≡_, refl, sym, _∙_}
 use mathlib.Core.Bool.{Bool, true, false}
-use mathlib.Core.List.{List}
+use mathlib.Core.List.{List, [], append-nil, flatMap}
+use native.Mathlib.Omega.{arith}
 use borrow.Author.Tests.{ltb-true, ltb-false}
 use lib.Dec.{ltb}
-use lib.ListN.{take}
+use lib.ListN.{length, take}
+use Rattle.portfolio.specs.Trade.{tradeWords}
 use Rattle.execution.specs.declared.Exit.{Exit}
+use Rattle.execution.specs.declared.Exit.the-variants.{NoExit}
 use Rattle.records.specs.declared.settings.Settings.{Settings}
 use Rattle.records.specs.declared.state.State.{State}
 use Rattle.records.specs.Lent.{Rooms, tradePlaces}
-use Rattle.refusals.specs.Rooms.{toClose}
-use Rattle.engine.specs.Books.{booked, heldPoints, heldTrades}
+use Rattle.refusals.specs.declared.verdict.Verdict.the-variants.{Fine}
+use Rattle.refusals.specs.Judgement.{finishLines, finishJudged}
+use Rattle.refusals.specs.Laws.Lines.{first-holds, both-fine}
+use Rattle.refusals.specs.Rooms.{roomLines, stateLines, toClose, closeLines}
+use Rattle.refusals.specs.Settings.{settingLines}
+use Rattle.engine.specs.Books.{tradesOf, booked, heldPoints, heldTrades}
 use Rattle.engine.specs.Finish.{lastExit, endState, measured, ended}
 use Rattle.engine.specs.Laws.AccountStep.{same-parts}
 use Rattle.engine.specs.Laws.Alike.{SameButRows}
-use Rattle.engine.specs.Laws.BooksGrow.{trade-booked, none-booked}
+use Rattle.engine.specs.Laws.BooksGrow.{Grown, Added, trade-booked, none-added, none-booked}
 
 -- a trade booked after the same trades
 same-booked : (room room′ : List ℕ) (n n′ : ℕ) (x : Exit) → n ≡ n′ → tradePlaces room ≡ tradePlaces room′ → take (n * 8) room ≡ take (n′ * 8) room′
@@ -59,3 +66,38 @@ module _ (s : Settings) (t : State) (m : Rooms) (t′ : State) (m′ : Rooms) (s
   pub same-end-room : m .trades ≡ m′ .trades → ended s t m .rooms .trades ≡ ended s t′ m′ .rooms .trades
   unfolding ended
   same-end-room e = rw (exit-same, same .trades, e)
+
+-- ---- what a finish adds to the books
+
+-- a finish that is fine has a place for the trade that it closes
+close-place : (s : Settings) (t : State) (m : Rooms) → finishJudged s t m ≡ Fine → toClose t ≡ true → t .counts .trades < tradePlaces (m .trades)
+unfolding finishJudged finishLines closeLines
+close-place s t m fine closes =
+    let a = both-fine (roomLines s (m .rows)) _ fine .1 in
+    let b = both-fine (settingLines s) _ a .1 in
+    let c = both-fine (stateLines s t m) _ b .1 in
+    ltb-true _ _ (rw closes at (first-holds _ _ c .0))
+
+-- so the trade is booked, where there is one
+close-booked : (s : Settings) (t : State) (m : Rooms) → finishJudged s t m ≡ Fine
+    → let x = lastExit s t in
+    Added 8 (m .trades) (t .counts .trades) (booked (m .trades) (t .counts .trades) x) (length (tradesOf x)) (flatMap tradeWords (tradesOf x))
+close-booked s t m fine = go (toClose t) refl
+  where
+    none : toClose t ≡ false → lastExit s t ≡ NoExit
+    none h = unfold lastExit in rw h
+
+    go : (b : Bool) → toClose t ≡ b
+        → let x = lastExit s t in
+        Added 8 (m .trades) (t .counts .trades) (booked (m .trades) (t .counts .trades) x) (length (tradesOf x)) (flatMap tradeWords (tradesOf x))
+    go true h = trade-booked (m .trades) (t .counts .trades) (lastExit s t) (close-place s t m fine h)
+    go false h = rw (none h) (none-added (m .trades) (t .counts .trades))
+
+-- A finish adds the trade that it closes, and nothing else.
+pub end-grows : (s : Settings) (t : State) (m : Rooms) → finishJudged s t m ≡ Fine
+    → let e = ended s t m in
+    Grown t m (e .result .state) (e .rooms) [] (tradesOf (lastExit s t))
+unfolding ended endState heldPoints heldTrades flatMap
+end-grows s t m fine =
+    let b = close-booked s t m fine in
+    record { points = omega arith; trades = b .0; equity = sym (append-nil _); closed = b .1; behindPoints = refl; behindTrades = b .2 }

@@ -8,7 +8,7 @@ use lib.Dec.{ltb}
 use lib.Ieee as Ieee
 use lib.Ieee.{Float}
 use Rattle.floats.specs.Floats as Floats
-use Rattle.rows.specs.History.{History, historyOf}
+use Rattle.rows.specs.History.{History}
 use Rattle.portfolio.specs.declared.Candle.{Candle}
 use Rattle.portfolio.specs.declared.Closed.{Closed}
 use Rattle.portfolio.specs.declared.Portfolio.{Portfolio}
@@ -29,7 +29,6 @@ use Rattle.engine.specs.declared.account.Filled.{Filled}
 use Rattle.engine.specs.Account.{leaving, entered, filled, intrabar}
 use Rattle.engine.specs.Books.{Held, booked}
 use Rattle.engine.specs.Account as Account
-use Rattle.engine.specs.Record.{heldRows}
 use Rattle.engine.specs.Step.{stepped}
 
 never : {A : Type 0} (c : Closed) → NoExit ≡ Exited c → A

@@ -2,6 +2,8 @@
 use Prim.Native.Nat.{ℕ}
 use mathlib.Core.Path.{_≡_, refl}
 use mathlib.Core.List.{List, [], _∷_}
+use native.Mathlib.Omega.{arith}
+use lib.ListN.{length}
 use Rattle.words.specs.declared.refusal.Refusal.{Refusal}
 use Rattle.records.specs.declared.settings.Settings.{Settings}
 use Rattle.records.specs.declared.state.State.{State}
@@ -9,6 +11,7 @@ use Rattle.records.specs.Lent.{Lists, Rooms}
 use Rattle.refusals.specs.declared.verdict.Verdict.{Verdict}
 use Rattle.refusals.specs.declared.verdict.Verdict.the-variants.{Fine, Bad}
 use Rattle.refusals.specs.Judgement.{stepJudged}
+use Rattle.refusals.specs.Laws.Lines.{never}
 use Rattle.engine.specs.Run.{Run, oneMore, goesOn, runOver}
 use Rattle.engine.specs.Step.{stepped, answered, stepOf}
 
@@ -29,6 +32,21 @@ module _ (s : Settings) (ls : Lists) (t : State) (m : Rooms) (bar : List ℕ) (b
       → runOver s ls t m (bar ∷ bars) ≡ oneMore (runOver s ls (stepped s t bar m ls .result) (stepped s t bar m ls .rooms) bars)
   unfolding runOver stepOf answered goesOn
   run-takes h = rw h
+
+-- A run whose verdict is fine took all bars.
+pub fine-took-all : (s : Settings) (ls : Lists) (bars : List (List ℕ)) (t : State) (m : Rooms) → runOver s ls t m bars .verdict ≡ Fine
+    → runOver s ls t m bars .done ≡ length bars
+fine-took-all s ls [] t m = rw run-none (λ h. refl)
+fine-took-all s ls (bar ∷ bars) t m =
+    go (stepJudged s t bar m ls) refl (fine-took-all s ls bars (stepped s t bar m ls .result) (stepped s t bar m ls .rooms))
+  where
+    later : Run
+    later = runOver s ls (stepped s t bar m ls .result) (stepped s t bar m ls .rooms) bars
+
+    go : (v : Verdict) → stepJudged s t bar m ls ≡ v → (later .verdict ≡ Fine → later .done ≡ length bars)
+        → runOver s ls t m (bar ∷ bars) .verdict ≡ Fine → runOver s ls t m (bar ∷ bars) .done ≡ length (bar ∷ bars)
+    go (Bad why) e goes = rw (run-stops s ls t m bar bars why e) (λ h. never h)
+    go Fine e goes = rw (run-takes s ls t m bar bars e) (λ h. omega (arith, goes h))
 
 module _ (s : Settings) (ls : Lists) (P : State → Rooms → Type 0)
     (step : (t : State) (m : Rooms) (bar : List ℕ) → stepJudged s t bar m ls ≡ Fine → P t m
