@@ -4,7 +4,7 @@ use mathlib.Core.Path.{_≡_, refl, sym, _∙_}
 use mathlib.Core.List.{List, [], _∷_, _++_, append-nil, flatMap}
 use native.Mathlib.Nat.{zero-add}
 use native.Mathlib.Omega.{arith}
-use lib.ListN.{length, take, length-append}
+use lib.ListN.{take, length-append}
 use Rattle.portfolio.specs.Trade.{tradeWords}
 use Rattle.metrics.specs.Figures.{metricsOf}
 use Rattle.metrics.specs.Records.{equityOf, pnlsOf}
@@ -16,23 +16,16 @@ use Rattle.refusals.specs.declared.verdict.Verdict.the-variants.{Fine}
 use Rattle.refusals.specs.Judgement.{finishJudged}
 use Rattle.refusals.specs.Rooms.{toClose}
 use Rattle.engine.specs.Books.{wordsOfPoint, tradesOf, heldPoints, heldTrades}
+use Rattle.engine.specs.Boxes.{Grown, Holds}
 use Rattle.engine.specs.Finish.{lastExit, endState, measured, ended}
 use Rattle.engine.specs.Laws.AccountStep.{taken-as-meant}
-use Rattle.engine.specs.Laws.BooksGrow.{flat-append, Grown}
+use Rattle.engine.specs.Laws.BooksGrow.{flat-append}
 use Rattle.engine.specs.Laws.Finishes.{end-grows}
 use Rattle.engine.specs.Laws.Follows.{run-follows}
 use Rattle.engine.specs.Rules.{rulesOf, FromTable}
 use Rattle.engine.specs.Run.{Run, runOver}
-use Rattle.engine.specs.Whole.{Account, accountOf, stateOf, byLists, byMeaning, Whole, wholeRun, wholeEnd, wholeMetrics}
+use Rattle.engine.specs.Whole.{Account, accountOf, stateOf, byLists, byMeaning, Whole, wholeRun, wholeEnd, wholeMetrics, meantRun}
 use Rattle.engine.specs.WholeHistory.{fresh-follows}
-
--- The box (t, m) has the account of a whole run, and holds exactly its points and trades.
-pub record Holds (t : State) (m : Rooms) (w : Whole) : Type 0 where
-  pub account : accountOf t ≡ w .account
-  pub points : t .counts .«equity_points» ≡ length (w .points)
-  pub trades : t .counts .trades ≡ length (w .trades)
-  pub equity : heldPoints t m ≡ flatMap wordsOfPoint (w .points)
-  pub closed : heldTrades t m ≡ flatMap tradeWords (w .trades)
 
 -- what grew from a fresh state's books is all that they hold
 from-fresh : (s : Settings) (m : Rooms) (u : State) (n : Rooms) (w : Whole) → accountOf u ≡ w .account
@@ -106,9 +99,9 @@ pub record IsWhole (s : Settings) (r : Run) (w : Whole) : Type 0 where
 -- whose rules, by their meaning, and whose volatility read the rows of every bar ever seen; and so are the figures at the end.
 pub as-meant : (table : List ℕ) (s : Settings) (ls : Lists) → FromTable table s ls → (m : Rooms) (bars : List (List ℕ))
     → let r = runOver s ls (freshState s) m bars in
-    IsWhole s r (wholeRun s (byMeaning s (rulesOf table)) (accountOf (freshState s)) [] (take (r .done) bars))
+    IsWhole s r (meantRun table s (take (r .done) bars))
 as-meant table s ls f m bars =
     let r : Run = runOver s ls (freshState s) m bars in
-    let h : Holds (r .state) (r .rooms) (wholeRun s (byMeaning s (rulesOf table)) (accountOf (freshState s)) [] (take (r .done) bars)) =
+    let h : Holds (r .state) (r .rooms) (meantRun table s (take (r .done) bars)) =
     rw (← (whole-as-meant table s ls f _ _ _)) (by-lists s ls m bars) in
     record { holds = h; ends = ends-whole s (r .state) (r .rooms) _ h }

@@ -7,6 +7,7 @@ pub mod Finish
 pub mod Run
 pub mod Rules
 pub mod Whole
+pub mod Boxes
 pub mod Laws
 pub mod WholeHistory
 pub mod AsMeant

@@ -10,11 +10,9 @@ use Rattle.records.specs.declared.state.State.{State}
 use Rattle.records.specs.Lent.{Lists, Rooms, rooms, rowPlaces}
 use Rattle.records.specs.State.{freshState}
 use Rattle.engine.specs.Books.{Point, heldPoints, heldTrades, emptied}
-use Rattle.engine.specs.Laws.Alike.{Alike}
-use Rattle.engine.specs.Laws.BooksGrow.{Grown}
+use Rattle.engine.specs.Boxes.{Grown, Sound, NotFull, Alike}
 use Rattle.engine.specs.Laws.Follows.{run-follows}
 use Rattle.engine.specs.Laws.TwoRuns.{fresh-sound, run-sound, other-books-run}
-use Rattle.engine.specs.Laws.Verdicts.{Sound, NotFull}
 use Rattle.engine.specs.Run.{Run, runOver}
 use Rattle.engine.specs.Whole.{accountOf, rowsHeld}
 

@@ -45,8 +45,8 @@ listsOf t = record {
   «short_exit» = bytesOf (stepsOf t 3);
 }
 
--- Settings and lists that belong to a table: it is accepted, K is its slots, D lies above each of its reaches, and the lists are
--- those it is translated into.
+-- Settings and lists that belong to a table: it is accepted, K is its slots, D lies above each of its reaches, and the lists are those
+-- that it is translated into. (The D that `depth` answers lies above them: Laws/Meaning, `from-depth`.)
 pub record FromTable (table : List ℕ) (s : Settings) (ls : Lists) : Type 0 where
   pub nodes : ℕ
   pub rows : ℕ

@@ -7,19 +7,18 @@ use Rattle.records.specs.declared.state.State.{State}
 use Rattle.records.specs.Lent.{Lists, Rooms, rowPlaces, pointPlaces, tradePlaces}
 use Rattle.records.specs.State.{freshState}
 use Rattle.refusals.specs.Judgement.{finishJudged}
-use Rattle.engine.specs.AsMeant.{Holds, by-lists}
+use Rattle.engine.specs.AsMeant.{by-lists}
 use Rattle.engine.specs.Books.{heldPoints, heldTrades}
+use Rattle.engine.specs.Boxes.{SameCounts, Alike, SameButRows, Holds}
 use Rattle.engine.specs.Finish.{ended}
-use Rattle.engine.specs.Laws.AccountStep.{lastOf}
-use Rattle.engine.specs.Laws.Alike.{Alike, SameButRows}
 use Rattle.engine.specs.Laws.BooksGrow.{same-room}
 use Rattle.engine.specs.Laws.Counts.{counts-never-exceed}
 use Rattle.engine.specs.Laws.Finishes.{same-end, same-end-room}
 use Rattle.engine.specs.Laws.Follows.{run-follows}
 use Rattle.engine.specs.Laws.TwoRuns.{fresh-sound, run-sound, same-counts-run}
-use Rattle.engine.specs.Laws.Verdicts.{SameCounts, roomy, same-finish-verdict}
+use Rattle.engine.specs.Laws.Verdicts.{roomy, same-finish-verdict}
 use Rattle.engine.specs.Run.{Run, runOver}
-use Rattle.engine.specs.Whole.{accountOf, rowsHeld, Whole}
+use Rattle.engine.specs.Whole.{accountOf, rowsHeld, Whole, lastOf}
 use Rattle.engine.specs.WholeHistory.{fresh-follows, whole-history}
 
 -- Two runs that differ in their rows alone, and finish alike.

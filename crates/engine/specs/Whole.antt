@@ -15,12 +15,13 @@ use Rattle.records.specs.declared.state.Position.{Position}
 use Rattle.records.specs.declared.state.State.{State}
 use Rattle.records.specs.Bar.{candleOf}
 use Rattle.records.specs.Lent.{Lists, Rooms}
+use Rattle.records.specs.State.{freshState}
 use Rattle.engine.specs.Account.{leaving, filled, intrabar, charged}
 use Rattle.engine.specs.Books.{Point, pointOf, wordsOfPoint, tradesOf}
 use Rattle.engine.specs.Decide.{Answers, answersOf, stateAt, orderAfter}
 use Rattle.engine.specs.Finish.{lastExit}
 use Rattle.engine.specs.Record.{rowOf, heldRows}
-use Rattle.engine.specs.Rules.{Rules, meanings}
+use Rattle.engine.specs.Rules.{Rules, rulesOf, meanings}
 
 -- ---- the account
 
@@ -38,6 +39,14 @@ accountOf t = record { seen = t .counts .«bars_seen»; order = t .order; positi
 abbrev pub rowsHeld : Settings → State → Rooms → List ℕ
 rowsHeld s t m = heldRows (s .slots) (t .counts .«rows_held») (m .rows)
 
+-- the rows of bars, oldest first
+abbrev pub rowsOf : Settings → List (List ℕ) → List ℕ
+rowsOf s bars = flatMap (rowOf (s .slots)) bars
+
+-- the last D of rows
+abbrev pub lastOf : Settings → List ℕ → List ℕ
+lastOf s rows = lastRows (s .slots) (s .depth) rows
+
 -- ---- what the rules answer, over rows of which this bar's is the last
 
 abbrev pub Asked : Type 0
@@ -45,7 +54,7 @@ Asked = List ℕ → PositionState → Answers
 
 -- asked of their lists, over the last D rows
 unfoldable pub byLists : Settings → Lists → Asked
-byLists s ls rows p = answersOf (historyOf (s .slots) (lastRows (s .slots) (s .depth) rows)) p ls
+byLists s ls rows p = answersOf (historyOf (s .slots) (lastOf s rows)) p ls
 
 -- asked of what they mean, over all rows
 unfoldable pub byMeaning : Settings → Rules → Asked
@@ -93,6 +102,10 @@ wholeRun s asked a rows (bar ∷ bars) =
     let b = taken s asked a rows bar in
     let later = wholeRun s asked (b .account) (rows ++ rowOf (s .slots) bar) bars in
     record { account = later .account; points = b .point ∷ later .points; trades = b .trades ++ later .trades }
+
+-- from a fresh state, by what the rules of a table mean
+abbrev pub meantRun : List ℕ → Settings → List (List ℕ) → Whole
+meantRun table s bars = wholeRun s (byMeaning s (rulesOf table)) (accountOf (freshState s)) [] bars
 
 -- ---- the end
 

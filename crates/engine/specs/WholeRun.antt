@@ -4,7 +4,7 @@
 -- bar in both."
 use Prim.Native.Nat.{ℕ, _≤_}
 use mathlib.Core.Path.{_≡_}
-use mathlib.Core.List.{List, [], flatMap}
+use mathlib.Core.List.{List}
 use lib.ListN.{length, take}
 use Rattle.words.specs.declared.refusal.Refusal.{Refusal}
 use Rattle.records.specs.declared.settings.Settings.{Settings}
@@ -13,11 +13,10 @@ use Rattle.records.specs.State.{freshState}
 use Rattle.refusals.specs.declared.verdict.Verdict.the-variants.{Bad}
 use Rattle.engine.specs.AsMeant.{IsWhole, as-meant}
 use Rattle.engine.specs.Laws.NeverTen.{never-ten}
-use Rattle.engine.specs.Record.{rowOf}
-use Rattle.engine.specs.Rules.{rulesOf, FromTable}
+use Rattle.engine.specs.Rules.{FromTable}
 use Rattle.engine.specs.Run.{Run, runOver}
 use Rattle.engine.specs.SameRun.{SameRun, same-run}
-use Rattle.engine.specs.Whole.{accountOf, rowsHeld, byMeaning, wholeRun}
+use Rattle.engine.specs.Whole.{rowsHeld, rowsOf, meantRun}
 use Rattle.engine.specs.WholeHistory.{whole-history}
 
 -- r and r′ are the runs over m and m′
@@ -28,10 +27,10 @@ pub record WholeRun (s : Settings) (ls : Lists) (m′ : Rooms) (bars : List (Lis
   pub noTen : (why : Refusal) → r .verdict ≡ Bad why → why .number ≡ 10 → ⊥
   -- where m′ has a place for every bar, r′ keeps everything
   pub everything : length bars ≤ rowPlaces (s .slots) (m′ .rows)
-      → rowsHeld s (r′ .state) (r′ .rooms) ≡ flatMap (rowOf (s .slots)) (take (r′ .done) bars)
+      → rowsHeld s (r′ .state) (r′ .rooms) ≡ rowsOf s (take (r′ .done) bars)
   -- and both are the run whose rules, by their meaning, and whose volatility read every bar ever seen
   pub meant : (table : List ℕ) → FromTable table s ls
-      → IsWhole s r (wholeRun s (byMeaning s (rulesOf table)) (accountOf (freshState s)) [] (take (r .done) bars))
+      → IsWhole s r (meantRun table s (take (r .done) bars))
 
 -- REQUEST 13: over any bars, from a fresh state, over two row rooms that each have places for D rows or more, and equity and trade rooms with
 -- as many places, whatever stale words they hold

@@ -2,7 +2,7 @@
 use Prim.Native.Nat.{ℕ, _<_}
 use mathlib.Core.Path.{_≡_, sym, ap, _∙_}
 use mathlib.Core.List.{List, _++_}
-use Rattle.rows.specs.History.{historyOf, lastRows}
+use Rattle.rows.specs.History.{historyOf}
 use Rattle.records.specs.declared.settings.Settings.{Settings}
 use Rattle.records.specs.declared.state.State.{State}
 use Rattle.records.specs.Bar.{candleOf}
@@ -11,14 +11,14 @@ use Rattle.refusals.specs.Laws.Fine.{StepFine}
 use Rattle.refusals.specs.Settings.{lookback}
 use Rattle.engine.specs.Account.{filled}
 use Rattle.engine.specs.Decide.{decided}
-use Rattle.engine.specs.Laws.FillWindow.{fill-near}
+use Rattle.engine.specs.Laws.FillWindow.{fill-over-last}
 use Rattle.engine.specs.Laws.Lengths.{row-long}
 use Rattle.engine.specs.Laws.Window.{last-added, window-added}
 use Rattle.engine.specs.Record.{rowOf}
 use Rattle.engine.specs.Rules.{rulesOf, FromTable}
 use Rattle.engine.specs.Laws.Meaning.{lists-mean}
 use Rattle.engine.specs.Step.{stepped}
-use Rattle.engine.specs.Whole.{Account, accountOf, rowsHeld, byLists, byMeaning, taken}
+use Rattle.engine.specs.Whole.{Account, accountOf, rowsHeld, byLists, byMeaning, taken, lastOf}
 
 -- the parts of an account
 pub record SameParts (t t′ : State) : Type 0 where
@@ -34,10 +34,6 @@ same-parts t t′ e = record {
   position = ap (λ (a : Account). a .position) e;
   last = ap (λ (a : Account). a .last) e;
 }
-
--- the last D of rows
-abbrev pub lastOf : Settings → List ℕ → List ℕ
-lastOf s rows = lastRows (s .slots) (s .depth) rows
 
 module _ (s : Settings) (t : State) (bar : List ℕ) (m : Rooms) (ls : Lists) (f : StepFine s t bar m) where
   -- the last D rows after a step are those of the rows held before it and the bar's row
@@ -58,8 +54,8 @@ module _ (s : Settings) (a : Account) (rows : List ℕ) (bar : List ℕ) where
       → filled s (a .order) (a .position) (candleOf bar) (historyOf (s .slots) rows) (a .seen)
       ≡ filled s (a .order) (a .position) (candleOf bar) (historyOf (s .slots) rows′) (a .seen)
   fill-alike rows′ h e =
-      sym (fill-near (s .slots) (s .depth) rows s (a .order) (a .position) (candleOf bar) (a .seen) h)
-      ∙ rw e (fill-near (s .slots) (s .depth) rows′ s (a .order) (a .position) (candleOf bar) (a .seen) h)
+      sym (fill-over-last (s .slots) (s .depth) rows s (a .order) (a .position) (candleOf bar) (a .seen) h)
+      ∙ rw e (fill-over-last (s .slots) (s .depth) rows′ s (a .order) (a .position) (candleOf bar) (a .seen) h)
 
   -- a row after the same last D leaves the same last D
   pub last-alike : (rows′ : List ℕ) → lastOf s rows ≡ lastOf s rows′ → lastOf s (rows ++ rowOf (s .slots) bar) ≡ lastOf s (rows′ ++ rowOf (s .slots) bar)
@@ -68,10 +64,10 @@ module _ (s : Settings) (a : Account) (rows : List ℕ) (bar : List ℕ) where
       ∙ rw e (sym (last-added (s .slots) (s .depth) rows′ (rowOf (s .slots) bar) (row-long (s .slots) bar)))
 
   -- NO ROW OLDER THAN THE LAST D matters to a bar whose rules are asked of their lists.
-  pub taken-near : (ls : Lists) (rows′ : List ℕ) → lookback (s .terms .sizing) < s .depth → lastOf s rows ≡ lastOf s rows′
+  pub taken-alike : (ls : Lists) (rows′ : List ℕ) → lookback (s .terms .sizing) < s .depth → lastOf s rows ≡ lastOf s rows′
       → taken s (byLists s ls) a rows bar ≡ taken s (byLists s ls) a rows′ bar
   unfolding taken byLists
-  taken-near ls rows′ h e = rw (fill-alike rows′ h e, last-alike rows′ e)
+  taken-alike ls rows′ h e = rw (fill-alike rows′ h e, last-alike rows′ e)
 
   -- Asked of a table's lists, a bar comes to what it comes to by the rules' meaning over all rows.
   pub taken-as-meant : (table : List ℕ) (ls : Lists) → FromTable table s ls

@@ -7,27 +7,11 @@ use Rattle.records.specs.declared.state.State.{State}
 use Rattle.records.specs.Lent.{Lists, Rooms}
 use Rattle.refusals.specs.declared.verdict.Verdict.the-variants.{Fine}
 use Rattle.refusals.specs.Judgement.{stepJudged}
-use Rattle.engine.specs.Books.{heldPoints, heldTrades}
-use Rattle.engine.specs.Laws.AccountStep.{lastOf}
+use Rattle.engine.specs.Boxes.{Follows, Sound, SameCounts, Alike, SameButRows}
 use Rattle.engine.specs.Laws.Counts.{step-within, step-lengths}
-use Rattle.engine.specs.Laws.Follows.{Follows, step-follows, step-grows}
-use Rattle.engine.specs.Laws.Verdicts.{Sound, SameCounts}
+use Rattle.engine.specs.Laws.Follows.{step-follows, step-grows}
 use Rattle.engine.specs.Step.{stepped}
 use Rattle.engine.specs.Whole.{accountOf, rowsHeld}
-
--- Alike in account and last D rows, whatever older rows and whatever books they hold.
-pub record Alike (s : Settings) (t : State) (m : Rooms) (t′ : State) (m′ : Rooms) : Type 0 where
-  pub account : accountOf t ≡ accountOf t′
-  pub window : lastOf s (rowsHeld s t m) ≡ lastOf s (rowsHeld s t′ m′)
-
--- Alike in everything but the rows: all of the state but their count, and the points and trades held. The words behind what is held
--- may differ.
-pub record SameButRows (t : State) (m : Rooms) (t′ : State) (m′ : Rooms) : Type 0 where
-  pub account : accountOf t ≡ accountOf t′
-  pub points : t .counts .«equity_points» ≡ t′ .counts .«equity_points»
-  pub trades : t .counts .trades ≡ t′ .counts .trades
-  pub equity : heldPoints t m ≡ heldPoints t′ m′
-  pub closed : heldTrades t m ≡ heldTrades t′ m′
 
 module _ (s : Settings) (ls : Lists) (t : State) (m : Rooms) (t′ : State) (m′ : Rooms) (bar : List ℕ) (alike : Alike s t m t′ m′)
     (fine : stepJudged s t bar m ls ≡ Fine) (fine′ : stepJudged s t′ bar m′ ls ≡ Fine) where

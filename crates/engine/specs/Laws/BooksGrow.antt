@@ -21,19 +21,10 @@ use Rattle.records.specs.declared.state.Position.{Position}
 use Rattle.records.specs.declared.state.State.{State}
 use Rattle.records.specs.Lent.{Lists, Rooms, pointPlaces, tradePlaces}
 use Rattle.engine.specs.Books.{Point, pointOf, wordsOfPoint, tradesOf, Held, booked, marked, heldPoints, heldTrades}
+use Rattle.engine.specs.Boxes.{Grown}
 use Rattle.engine.specs.Laws.OneTrade.{one-exit}
 use Rattle.engine.specs.Step.{stepped}
 use Rattle.engine.specs.Whole.{Asked, accountOf, rowsHeld, taken}
-
--- The books of (t, m), with these points and trades at their end, are those of (u, n).
-pub record Grown (t : State) (m : Rooms) (u : State) (n : Rooms) (ps : List Point) (xs : List Trade) : Type 0 where
-  pub points : u .counts .«equity_points» ≡ t .counts .«equity_points» + length ps
-  pub trades : u .counts .trades ≡ t .counts .trades + length xs
-  pub equity : heldPoints u n ≡ heldPoints t m ++ flatMap wordsOfPoint ps
-  pub closed : heldTrades u n ≡ heldTrades t m ++ flatMap tradeWords xs
-  -- what lies behind is untouched
-  pub behindPoints : drop (u .counts .«equity_points» * 2) (n .equity) ≡ drop (u .counts .«equity_points» * 2) (m .equity)
-  pub behindTrades : drop (u .counts .trades * 8) (n .trades) ≡ drop (u .counts .trades * 8) (m .trades)
 
 -- ---- growth after growth
 

@@ -6,36 +6,21 @@ use mathlib.Core.List.{List}
 use native.Mathlib.Omega.{arith}
 use borrow.Author.Tests.{ltb-false}
 use lib.Dec.{ltb}
-use lib.ListN.{length}
 use Rattle.rows.specs.Room.{places, heldWith}
 use Rattle.portfolio.specs.declared.Candle.{Candle}
 use Rattle.records.specs.declared.settings.Settings.{Settings}
 use Rattle.records.specs.declared.state.Position.{Position}
 use Rattle.records.specs.declared.state.State.{State}
-use Rattle.records.specs.Lent.{Lists, Rooms, rowPlaces, pointPlaces, tradePlaces}
+use Rattle.records.specs.Lent.{Lists, Rooms, pointPlaces}
 use Rattle.records.specs.State.{freshState}
 use Rattle.engine.specs.Books.{Held, marked}
+use Rattle.engine.specs.Boxes.{WithinRooms, SameLengths}
 use Rattle.engine.specs.Laws.Lengths.{row-fits, twice-booked-fits, marked-fits}
 use Rattle.engine.specs.Laws.OneTrade.{one-trade}
 use Rattle.engine.specs.Laws.Runs.{run-keeps}
 use Rattle.engine.specs.Record.{rowOf}
 use Rattle.engine.specs.Run.{runOver}
 use Rattle.engine.specs.Step.{stepped}
-
--- no count exceeds its room, nor the bars seen
-pub record WithinRooms (s : Settings) (t : State) (m : Rooms) : Type 0 where
-  pub rows : t .counts .«rows_held» ≤ rowPlaces (s .slots) (m .rows)
-  pub points : t .counts .«equity_points» ≤ pointPlaces (m .equity)
-  pub trades : t .counts .trades ≤ tradePlaces (m .trades)
-  pub rowsSeen : t .counts .«rows_held» ≤ t .counts .«bars_seen»
-  pub pointsSeen : t .counts .«equity_points» ≤ t .counts .«bars_seen»
-  pub tradesSeen : t .counts .trades ≤ t .counts .«bars_seen»
-
--- each room is as long as it was
-pub record SameLengths (m n : Rooms) : Type 0 where
-  pub rows : length (n .rows) ≡ length (m .rows)
-  pub equity : length (n .equity) ≡ length (m .equity)
-  pub trades : length (n .trades) ≡ length (m .trades)
 
 -- ---- a bar
 

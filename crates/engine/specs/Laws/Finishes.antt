@@ -19,10 +19,10 @@ use Rattle.refusals.specs.Laws.Lines.{first-holds, both-fine}
 use Rattle.refusals.specs.Rooms.{roomLines, stateLines, toClose, closeLines}
 use Rattle.refusals.specs.Settings.{settingLines}
 use Rattle.engine.specs.Books.{tradesOf, booked, heldPoints, heldTrades}
+use Rattle.engine.specs.Boxes.{Grown, SameButRows}
 use Rattle.engine.specs.Finish.{lastExit, endState, measured, ended}
 use Rattle.engine.specs.Laws.AccountStep.{same-parts}
-use Rattle.engine.specs.Laws.Alike.{SameButRows}
-use Rattle.engine.specs.Laws.BooksGrow.{Grown, Added, trade-booked, none-added, none-booked}
+use Rattle.engine.specs.Laws.BooksGrow.{Added, trade-booked, none-added, none-booked}
 
 -- a trade booked after the same trades
 same-booked : (room room′ : List ℕ) (n n′ : ℕ) (x : Exit) → n ≡ n′ → tradePlaces room ≡ tradePlaces room′ → take (n * 8) room ≡ take (n′ * 8) room′

@@ -11,18 +11,14 @@ use Rattle.refusals.specs.declared.verdict.Verdict.{Verdict}
 use Rattle.refusals.specs.declared.verdict.Verdict.the-variants.{Fine, Bad}
 use Rattle.refusals.specs.Judgement.{stepJudged}
 use Rattle.refusals.specs.Laws.Fine.{step-fine}
-use Rattle.engine.specs.Laws.AccountStep.{lastOf, window-after, account-after, last-alike, taken-near}
-use Rattle.engine.specs.Laws.BooksGrow.{Grown, grown-none, grown-more, books-grow}
+use Rattle.engine.specs.Boxes.{Grown, Follows}
+use Rattle.engine.specs.Laws.AccountStep.{window-after, account-after, last-alike, taken-alike}
+use Rattle.engine.specs.Laws.BooksGrow.{grown-none, grown-more, books-grow}
 use Rattle.engine.specs.Laws.Runs.{run-none, run-stops, run-takes}
 use Rattle.engine.specs.Record.{rowOf}
 use Rattle.engine.specs.Run.{Run, runOver}
 use Rattle.engine.specs.Step.{With, stepped}
-use Rattle.engine.specs.Whole.{Account, accountOf, rowsHeld, byLists, taken, wholeRun}
-
--- The box (t, m) has this account, and the last D of the rows that it holds are the last D of these.
-pub record Follows (s : Settings) (t : State) (m : Rooms) (a : Account) (rows : List ℕ) : Type 0 where
-  pub account : accountOf t ≡ a
-  pub window : lastOf s (rowsHeld s t m) ≡ lastOf s rows
+use Rattle.engine.specs.Whole.{Account, accountOf, rowsHeld, byLists, taken, wholeRun, rowsOf}
 
 -- ---- a bar
 
@@ -30,7 +26,7 @@ module _ (s : Settings) (ls : Lists) (t : State) (m : Rooms) (bar : List ℕ) (f
     (a : Account) (rows : List ℕ) (f : Follows s t m a rows) where
   -- what the bar comes to over all rows is what it comes to over those held
   same-taken : taken s (byLists s ls) (accountOf t) (rowsHeld s t m) bar ≡ taken s (byLists s ls) a rows bar
-  same-taken = rw (← (f .account)) (taken-near s (accountOf t) (rowsHeld s t m) bar ls rows (step-fine s t bar m ls fine .settings .behind) (f .window))
+  same-taken = rw (← (f .account)) (taken-alike s (accountOf t) (rowsHeld s t m) bar ls rows (step-fine s t bar m ls fine .settings .behind) (f .window))
 
   pub step-follows : let d = stepped s t bar m ls in
       Follows s (d .result) (d .rooms) (taken s (byLists s ls) a rows bar .account) (rows ++ rowOf (s .slots) bar)
@@ -51,7 +47,7 @@ module _ (s : Settings) (ls : Lists) (t : State) (m : Rooms) (bar : List ℕ) (f
 -- From (t, m) to (u, n): what these bars come to in a run that keeps every row, and what they add to the books.
 pub record RunsWhole (s : Settings) (ls : Lists) (t : State) (m : Rooms) (a : Account) (rows : List ℕ) (bars : List (List ℕ)) (u : State) (n : Rooms)
     : Type 0 where
-  pub follows : Follows s u n (wholeRun s (byLists s ls) a rows bars .account) (rows ++ flatMap (rowOf (s .slots)) bars)
+  pub follows : Follows s u n (wholeRun s (byLists s ls) a rows bars .account) (rows ++ rowsOf s bars)
   pub grows : Grown t m u n (wholeRun s (byLists s ls) a rows bars .points) (wholeRun s (byLists s ls) a rows bars .trades)
 
 module _ (s : Settings) (ls : Lists) (t : State) (m : Rooms) (a : Account) (rows : List ℕ) (f : Follows s t m a rows) where

@@ -22,24 +22,24 @@ use Rattle.engine.specs.Record.{listed, rowWord, rowOf}
 
 -- ---- lengths
 
-pasted : (l w : List ℕ) (at : ℕ) → at + length w ≤ length l → length (take at l ++ w ++ drop (at + length w) l) ≡ length l
-pasted l w at h =
+pasted-length : (l w : List ℕ) (at : ℕ) → at + length w ≤ length l → length (take at l ++ w ++ drop (at + length w) l) ≡ length l
+pasted-length l w at h =
     let a : length (take at l) ≡ at = length-take-le at l (omega arith) in
     omega (arith, a, length-append (take at l ++ w) (drop (at + length w) l), length-append (take at l) w, length-drop (at + length w) l)
 
-pub overwrite-kept : (room : List ℕ) (at : ℕ) (words : List ℕ) → length (overwrite room at words) ≡ length room
+pub overwrite-length : (room : List ℕ) (at : ℕ) (words : List ℕ) → length (overwrite room at words) ≡ length room
 unfolding overwrite
-overwrite-kept room at words = go (leb (at + length words) (length room)) refl
+overwrite-length room at words = go (leb (at + length words) (length room)) refl
   where
     go : (b : Bool) → leb (at + length words) (length room) ≡ b
         → length (cond b (take at room ++ words ++ drop (at + length words) room) room) ≡ length room
-    go true e = pasted room words at (leb-true _ _ e)
+    go true e = pasted-length room words at (leb-true _ _ e)
     go false e = refl
 
 -- the oldest w words go, and the rest move up
-shifted : (l row : List ℕ) (end : ℕ) → length row ≤ end → end ≤ length l
+shifted-length : (l row : List ℕ) (end : ℕ) → length row ≤ end → end ≤ length l
     → length (drop (length row) (take end l) ++ row ++ drop end l) ≡ length l
-shifted l row end h k =
+shifted-length l row end h k =
     let a : length (take end l) ≡ end = length-take-le end l k in
     let b : length (drop (length row) (take end l)) ≡ end - length row = length-drop (length row) (take end l) ∙ ap (λ (n : ℕ). n - length row) a in
     omega (arith, b, length-append (drop (length row) (take end l) ++ row) (drop end l), length-append (drop (length row) (take end l)) row, length-drop end l)
@@ -49,9 +49,9 @@ module _ (room : List ℕ) (held : ℕ) (row : List ℕ) (wide : 0 < length row)
   within : (n : ℕ) → n ≤ places room row → n * length row ≤ length room
   within n h = le-div-iff-mul-le {k = length row} wide .0 h
 
-  row-kept : length (withRow room held row) ≡ length room
+  row-length : length (withRow room held row) ≡ length room
   unfolding withRow
-  row-kept = go (ltb held (places room row)) (eqb (places room row) 0) refl refl
+  row-length = go (ltb held (places room row)) (eqb (places room row) 0) refl refl
     where
       go : (a b : Bool) → ltb held (places room row) ≡ a → eqb (places room row) 0 ≡ b
           → length (cond a (take (held * length row) room ++ row ++ drop (held * length row + length row) room)
@@ -59,13 +59,13 @@ module _ (room : List ℕ) (held : ℕ) (row : List ℕ) (wide : 0 < length row)
           ≡ length room
       go true b e d =
           let f : suc held * length row ≤ length room = within (suc held) (omega (arith, ltb-true held (places room row) e)) in
-          pasted room row (held * length row) (rw (suc-mul held (length row)) at f)
+          pasted-length room row (held * length row) (rw (suc-mul held (length row)) at f)
       go false true e d = refl
       go false false e d =
           let f : places room row * length row ≤ length room = within (places room row) (le-refl _) in
           let p : 1 ≤ places room row = omega (arith, eqb-false (places room row) 0 d) in
           let g : 1 * length row ≤ places room row * length row = mul-le-mul-right (length row) p in
-          shifted room row (places room row * length row) (omega (arith, g)) f
+          shifted-length room row (places room row * length row) (omega (arith, g)) f
 
   row-held : heldWith room held row ≤ places room row
   unfolding heldWith
@@ -90,7 +90,7 @@ pub row-fits : (K : ℕ) (room : List ℕ) (held : ℕ) (bar : List ℕ)
     → (heldWith room held (rowOf K bar) ≤ length room / (7 + K)) × (length (withRow room held (rowOf K bar)) ≡ length room)
 row-fits K room held bar =
     let w : length (rowOf K bar) ≡ 7 + K = row-long K bar in
-    (rw w at (row-held room held (rowOf K bar) (omega (arith, w))), row-kept room held (rowOf K bar) (omega (arith, w)))
+    (rw w at (row-held room held (rowOf K bar) (omega (arith, w))), row-length room held (rowOf K bar) (omega (arith, w)))
 
 -- ---- counts
 
@@ -104,7 +104,7 @@ booked-fits room n (Exited c) h = go (ltb n (tradePlaces room)) refl
   where
     go : (b : Bool) → ltb n (tradePlaces room) ≡ b
         → Fits 8 (cond b (record { count = n + 1; room = overwrite room (n * 8) (tradeWords (c .trade)) }) (record { count = n; room = room })) room
-    go true e = (overwrite-kept room (n * 8) (tradeWords (c .trade)), omega (arith, ltb-true n (tradePlaces room) e))
+    go true e = (overwrite-length room (n * 8) (tradeWords (c .trade)), omega (arith, ltb-true n (tradePlaces room) e))
     go false e = (refl, h)
 
 -- and another after it
@@ -124,5 +124,5 @@ marked-fits room n k p h = go (ltb n (pointPlaces room)) refl
 
     go : (b : Bool) → ltb n (pointPlaces room) ≡ b
         → Fits 2 (cond b (record { count = n + 1; room = overwrite room (n * 2) point }) (record { count = n; room = room })) room
-    go true e = (overwrite-kept room (n * 2) point, omega (arith, ltb-true n (pointPlaces room) e))
+    go true e = (overwrite-length room (n * 2) point, omega (arith, ltb-true n (pointPlaces room) e))
     go false e = (refl, h)

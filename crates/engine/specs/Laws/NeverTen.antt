@@ -20,10 +20,10 @@ use Rattle.refusals.specs.Lines.{Line, refusal, judged}
 use Rattle.refusals.specs.Lists.{listLines}
 use Rattle.refusals.specs.Rooms.{roomLines, stateLines, placeLines}
 use Rattle.refusals.specs.Settings.{sizingLines, slippageLines, riskLines, termLines, settingLines}
+use Rattle.engine.specs.Boxes.{Sound}
 use Rattle.engine.specs.Laws.Alike.{step-sound}
 use Rattle.engine.specs.Laws.Runs.{run-ends}
 use Rattle.engine.specs.Laws.TwoRuns.{fresh-sound}
-use Rattle.engine.specs.Laws.Verdicts.{Sound}
 use Rattle.engine.specs.Run.{runOver}
 
 -- each line has a number above 10, or holds

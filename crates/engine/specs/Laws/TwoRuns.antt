@@ -10,10 +10,11 @@ use Rattle.refusals.specs.declared.verdict.Verdict.{Verdict}
 use Rattle.refusals.specs.declared.verdict.Verdict.the-variants.{Fine, Bad}
 use Rattle.refusals.specs.Judgement.{stepJudged}
 use Rattle.refusals.specs.Laws.Lines.{never}
-use Rattle.engine.specs.Laws.Alike.{Alike, step-alike, step-counts, step-sound}
+use Rattle.engine.specs.Boxes.{Sound, SameCounts, NotFull, Alike}
+use Rattle.engine.specs.Laws.Alike.{step-alike, step-counts, step-sound}
 use Rattle.engine.specs.Laws.Counts.{fresh-within}
 use Rattle.engine.specs.Laws.Runs.{run-none, run-stops, run-takes, run-keeps}
-use Rattle.engine.specs.Laws.Verdicts.{Sound, roomy, SameCounts, NotFull, same-verdict, same-unless-full}
+use Rattle.engine.specs.Laws.Verdicts.{roomy, same-verdict, same-unless-full}
 use Rattle.engine.specs.Run.{Run, runOver}
 use Rattle.engine.specs.Step.{With, stepped}
 

@@ -12,7 +12,7 @@ use Rattle.words.specs.declared.refusal.Refusal.{Refusal}
 use Rattle.records.specs.declared.settings.Settings.{Settings}
 use Rattle.records.specs.declared.state.Counts.{Counts}
 use Rattle.records.specs.declared.state.State.{State}
-use Rattle.records.specs.Lent.{Lists, Rooms, rowPlaces, pointPlaces, tradePlaces}
+use Rattle.records.specs.Lent.{Lists, Rooms, pointPlaces, tradePlaces}
 use Rattle.refusals.specs.declared.verdict.Verdict.{Verdict}
 use Rattle.refusals.specs.declared.verdict.Verdict.the-variants.{Fine, Bad}
 use Rattle.refusals.specs.Judgement.{runLines, stepLines, stepJudged, finishLines, finishJudged}
@@ -21,20 +21,9 @@ use Rattle.refusals.specs.Lines.{Line, line, refusal, judged}
 use Rattle.refusals.specs.Bar.{barLines}
 use Rattle.refusals.specs.Lists.{listLines}
 use Rattle.refusals.specs.Rooms.{entryBelow, roomLines, stateLines, placeLines, toClose, closeLines}
+use Rattle.engine.specs.Boxes.{WithinRooms, Roomy, Sound, SameCounts, NotFull}
 use Rattle.engine.specs.Laws.AccountStep.{same-parts}
-use Rattle.engine.specs.Laws.Counts.{WithinRooms}
 use Rattle.engine.specs.Whole.{accountOf}
-
--- a box whose row room has places for D rows, and that holds no more rows than places and bars seen
-pub record Roomy (s : Settings) (t : State) (m : Rooms) : Type 0 where
-  pub depth : s .depth ≤ rowPlaces (s .slots) (m .rows)
-  pub rows : t .counts .«rows_held» ≤ rowPlaces (s .slots) (m .rows)
-  pub rowsSeen : t .counts .«rows_held» ≤ t .counts .«bars_seen»
-
--- what a run from a fresh state has at each bar, where its row room has places for D rows
-pub record Sound (s : Settings) (t : State) (m : Rooms) : Type 0 where
-  pub depth : s .depth ≤ rowPlaces (s .slots) (m .rows)
-  pub within : WithinRooms s t m
 
 pub roomy : {s : Settings} {t : State} {m : Rooms} → Sound s t m → Roomy s t m
 roomy r = record { depth = r .depth; rows = r .within .rows; rowsSeen = r .within .rowsSeen }
@@ -69,13 +58,6 @@ module _ (s : Settings) (t : State) (m : Rooms) where
 
 -- ---- the same books, as far as their counts and places go
 
--- Their books count as much and have places for as much, whatever words they hold.
-pub record SameCounts (t : State) (m : Rooms) (t′ : State) (m′ : Rooms) : Type 0 where
-  pub points : t .counts .«equity_points» ≡ t′ .counts .«equity_points»
-  pub trades : t .counts .trades ≡ t′ .counts .trades
-  pub equity : pointPlaces (m .equity) ≡ pointPlaces (m′ .equity)
-  pub closed : tradePlaces (m .trades) ≡ tradePlaces (m′ .trades)
-
 module _ (s : Settings) (t t′ : State) (m m′ : Rooms) (r : Roomy s t m) (r′ : Roomy s t′ m′) (same : accountOf t ≡ accountOf t′)
     (c : SameCounts t m t′ m′) where
   -- THE SAME VERDICT, number and place, on a bar
@@ -95,10 +77,6 @@ module _ (s : Settings) (t t′ : State) (m m′ : Rooms) (r : Roomy s t m) (r�
       (rw (p .seen, p .position, c .points, c .trades, c .equity, c .closed))
 
 -- ---- other books: the same verdict, unless one is full
-
--- not refused with 14
-unfoldable pub NotFull : Verdict → Type 0
-NotFull v = (why : Refusal) → v ≡ Bad why → why .number ≡ 14 → ⊥
 
 by-14 : (ok : Bool) (v : Verdict) (why : Refusal) → (v ≡ Bad why → why .number ≡ 14) → cond ok v (Bad (refusal 14 0)) ≡ Bad why → why .number ≡ 14
 by-14 true v why below e = below e
