@@ -5,6 +5,7 @@ use mathlib.Core.List.{List, [], _∷_}
 use lib.Dec.{ltb}
 use lib.Ieee.{Float}
 use lib.ListN.{take}
+use Rattle.words.specs.Limits as Limits
 use Rattle.floats.specs.Floats.{wordOf}
 use Rattle.words.specs.Words.{overwrite}
 use Rattle.portfolio.specs.declared.Candle.{Candle}
@@ -48,22 +49,22 @@ unfoldable pub booked : List ℕ → ℕ → Exit → Held
 booked room n NoExit = record { count = n; room = room }
 booked room n (Exited c) =
     cond (ltb n (tradePlaces room))
-    (record { count = n + 1; room = overwrite room (n * 8) (tradeWords (c .trade)) })
+    (record { count = n + 1; room = overwrite room (n * Limits.tradeWords) (tradeWords (c .trade)) })
     (record { count = n; room = room })
 
 -- "equity at the close". A point that finds no place is not kept, as above.
 unfoldable pub marked : List ℕ → ℕ → Candle → Position → Held
 marked room n k p =
     cond (ltb n (pointPlaces room))
-    (record { count = n + 1; room = overwrite room (n * 2) (wordsOfPoint (pointOf k p)) })
+    (record { count = n + 1; room = overwrite room (n * Limits.pointWords) (wordsOfPoint (pointOf k p)) })
     (record { count = n; room = room })
 
 -- what the rooms hold, whatever stands behind it
 unfoldable pub heldPoints : State → Rooms → List ℕ
-heldPoints t m = take (t .counts .«equity_points» * 2) (m .equity)
+heldPoints t m = take (t .counts .«equity_points» * Limits.pointWords) (m .equity)
 
 unfoldable pub heldTrades : State → Rooms → List ℕ
-heldTrades t m = take (t .counts .trades * 8) (m .trades)
+heldTrades t m = take (t .counts .trades * Limits.tradeWords) (m .trades)
 
 -- the books emptied by the caller: their counts are 0, and nothing else changes
 unfoldable pub emptied : State → State

@@ -3,6 +3,7 @@ use Prim.Native.Nat.{ℕ, _+_, _*_, _≤_}
 use mathlib.Core.Path.{_≡_}
 use mathlib.Core.List.{List, _++_, flatMap}
 use lib.ListN.{length, drop}
+use Rattle.words.specs.Limits as Limits
 use Rattle.words.specs.declared.refusal.Refusal.{Refusal}
 use Rattle.portfolio.specs.declared.Trade.{Trade}
 use Rattle.portfolio.specs.Trade.{tradeWords}
@@ -66,8 +67,8 @@ pub record Grown (t : State) (m : Rooms) (u : State) (n : Rooms) (ps : List Poin
   pub equity : heldPoints u n ≡ heldPoints t m ++ flatMap wordsOfPoint ps
   pub closed : heldTrades u n ≡ heldTrades t m ++ flatMap tradeWords xs
   -- what lies behind is untouched
-  pub behindPoints : drop (u .counts .«equity_points» * 2) (n .equity) ≡ drop (u .counts .«equity_points» * 2) (m .equity)
-  pub behindTrades : drop (u .counts .trades * 8) (n .trades) ≡ drop (u .counts .trades * 8) (m .trades)
+  pub behindPoints : drop (u .counts .«equity_points» * Limits.pointWords) (n .equity) ≡ drop (u .counts .«equity_points» * Limits.pointWords) (m .equity)
+  pub behindTrades : drop (u .counts .trades * Limits.tradeWords) (n .trades) ≡ drop (u .counts .trades * Limits.tradeWords) (m .trades)
 
 -- ---- two boxes
 

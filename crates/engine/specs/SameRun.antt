@@ -2,6 +2,7 @@
 use Prim.Native.Nat.{ℕ, _*_, _≤_}
 use mathlib.Core.Path.{_≡_, refl, sym, _∙_}
 use mathlib.Core.List.{List, []}
+use Rattle.words.specs.Limits as Limits
 use Rattle.records.specs.declared.settings.Settings.{Settings}
 use Rattle.records.specs.declared.state.State.{State}
 use Rattle.records.specs.Lent.{Lists, Rooms, rowPlaces, pointPlaces, tradePlaces}
@@ -92,9 +93,9 @@ module _ (s : Settings) (ls : Lists) (m m′ : Rooms) (bars : List (List ℕ))
       let g′ = run-follows s ls bars (freshState s) m′ (accountOf (freshState s)) [] (fresh-follows s m′) .grows in
       let box = same-run .box in
       let closed : r .rooms .trades ≡ r′ .rooms .trades =
-      same-room (r .state .counts .trades * 8) (r′ .state .counts .trades * 8) _ _ (box .closed)
+      same-room (r .state .counts .trades * Limits.tradeWords) (r′ .state .counts .trades * Limits.tradeWords) _ _ (box .closed)
       (g .behindTrades ∙ rw (box .trades, c) (sym (g′ .behindTrades))) in (
-        same-room (r .state .counts .«equity_points» * 2) (r′ .state .counts .«equity_points» * 2) _ _ (box .equity)
+        same-room (r .state .counts .«equity_points» * Limits.pointWords) (r′ .state .counts .«equity_points» * Limits.pointWords) _ _ (box .equity)
             (g .behindPoints ∙ rw (box .points, e) (sym (g′ .behindPoints))),
         closed,
         same-end-room s (r .state) (r .rooms) (r′ .state) (r′ .rooms) box closed,

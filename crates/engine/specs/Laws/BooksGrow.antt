@@ -8,6 +8,7 @@ use native.Mathlib.Omega.{arith}
 use borrow.Author.Tests.{lt-ltb, le-ltb}
 use lib.ListN.{length, take, drop, length-append, take-append-drop}
 use lib.Seq.{length-take-le, take-at, drop-at, drop-drop}
+use Rattle.words.specs.Limits as Limits
 use Rattle.words.specs.Words.{overwrite}
 use Rattle.words.specs.Laws.Overwrite.{overwrite-fits}
 use Rattle.portfolio.specs.declared.Candle.{Candle}
@@ -59,10 +60,12 @@ grown-more {u = u} {w = w} {m = m} {n = n} {ps = ps} {qs = qs} {xs = xs} {ys = y
   closed = rw (b .closed, a .closed, flat-append tradeWords xs ys, append-assoc);
   behindPoints =
       b .behindPoints
-      ∙ behind (u .counts .«equity_points» * 2) (w .counts .«equity_points» * 2) (n .equity) (m .equity) (omega (arith, b .points)) (a .behindPoints);
+      ∙ behind (u .counts .«equity_points» * Limits.pointWords) (w .counts .«equity_points» * Limits.pointWords) (n .equity) (m .equity)
+      (omega (arith, b .points)) (a .behindPoints);
   behindTrades =
       b .behindTrades
-      ∙ behind (u .counts .trades * 8) (w .counts .trades * 8) (n .trades) (m .trades) (omega (arith, b .trades)) (a .behindTrades);
+      ∙ behind (u .counts .trades * Limits.tradeWords) (w .counts .trades * Limits.tradeWords) (n .trades) (m .trades)
+      (omega (arith, b .trades)) (a .behindTrades);
 }
 
 -- rooms that are the same before a place and behind it are the same
@@ -93,16 +96,19 @@ abbrev pub Added : ℕ → List ℕ → ℕ → Held → ℕ → List ℕ → Ty
 Added w room n h more words =
     (h .count ≡ n + more) × (take (h .count * w) (h .room) ≡ take (n * w) room ++ words) × (drop (h .count * w) (h .room) ≡ drop (h .count * w) room)
 
-pub none-added : (room : List ℕ) (n : ℕ) → Added 8 room n (booked room n NoExit) (length (tradesOf NoExit)) (flatMap tradeWords (tradesOf NoExit))
+-- no trade
+pub none-added : (room : List ℕ) (n : ℕ)
+    → Added Limits.tradeWords room n (booked room n NoExit) (length (tradesOf NoExit)) (flatMap tradeWords (tradesOf NoExit))
 unfolding booked tradesOf flatMap
 none-added room n = (omega arith, sym (append-nil _), refl)
 
+-- a trade, where there is one and a place for it
 pub trade-booked : (room : List ℕ) (n : ℕ) (x : Exit) → n < tradePlaces room
-    → Added 8 room n (booked room n x) (length (tradesOf x)) (flatMap tradeWords (tradesOf x))
+    → Added Limits.tradeWords room n (booked room n x) (length (tradesOf x)) (flatMap tradeWords (tradesOf x))
 unfolding booked tradesOf flatMap
 trade-booked room n NoExit h = none-added room n
 trade-booked room n (Exited c) h =
-    let w = written-last 8 n room (tradeWords (c .trade)) (omega arith) (unfold tradeWords in refl) h in
+    let w = written-last Limits.tradeWords n room (tradeWords (c .trade)) (omega arith) (unfold tradeWords in refl) h in
     rw (lt-ltb n (tradePlaces room) h, append-nil) (refl, w .0, w .1)
 
 -- where there is no place, nothing is booked
@@ -115,16 +121,17 @@ none-booked room n (Exited c) h = rw (le-ltb n (tradePlaces room) h)
 two-booked : (room : List ℕ) (n : ℕ) (x y : Exit) → ((c : Closed) → x ≡ Exited c → y ≡ NoExit) → n < tradePlaces room
     → let first = booked room n x in
     let second = booked (first .room) (first .count) y in
-    Added 8 room n second (length (tradesOf x ++ tradesOf y)) (flatMap tradeWords (tradesOf x ++ tradesOf y))
+    Added Limits.tradeWords room n second (length (tradesOf x ++ tradesOf y)) (flatMap tradeWords (tradesOf x ++ tradesOf y))
 unfolding booked tradesOf
 two-booked room n NoExit y only h = trade-booked room n y h
 two-booked room n (Exited c) y only h = rw (only c refl) (trade-booked room n (Exited c) h)
 
+-- a point, where there is a place for it
 point-marked : (room : List ℕ) (n : ℕ) (k : Candle) (p : Position) → n < pointPlaces room
-    → Added 2 room n (marked room n k p) 1 (flatMap wordsOfPoint (pointOf k p ∷ []))
+    → Added Limits.pointWords room n (marked room n k p) 1 (flatMap wordsOfPoint (pointOf k p ∷ []))
 unfolding marked flatMap
 point-marked room n k p h =
-    let w = written-last 2 n room (wordsOfPoint (pointOf k p)) (omega arith) (unfold wordsOfPoint in refl) h in
+    let w = written-last Limits.pointWords n room (wordsOfPoint (pointOf k p)) (omega arith) (unfold wordsOfPoint in refl) h in
     rw (lt-ltb n (pointPlaces room) h, append-nil) (refl, w .0, w .1)
 
 -- THE BOOKS of a step for which there is a place. How the rules are asked does not matter.

@@ -7,6 +7,7 @@ use native.Mathlib.Omega.{arith}
 use borrow.Author.Tests.{ltb-true, ltb-false}
 use lib.Dec.{ltb}
 use lib.ListN.{length, take}
+use Rattle.words.specs.Limits as Limits
 use Rattle.portfolio.specs.Trade.{tradeWords}
 use Rattle.execution.specs.declared.Exit.{Exit}
 use Rattle.execution.specs.declared.Exit.the-variants.{NoExit}
@@ -24,16 +25,21 @@ use Rattle.engine.specs.Finish.{lastExit, endState, measured, ended}
 use Rattle.engine.specs.Laws.AccountStep.{same-parts}
 use Rattle.engine.specs.Laws.BooksGrow.{Added, trade-booked, none-added, none-booked}
 
+-- the trades that a room holds
+abbrev tradesIn : List ℕ → ℕ → List ℕ
+tradesIn room n = take (n * Limits.tradeWords) room
+
 -- a trade booked after the same trades
-same-booked : (room room′ : List ℕ) (n n′ : ℕ) (x : Exit) → n ≡ n′ → tradePlaces room ≡ tradePlaces room′ → take (n * 8) room ≡ take (n′ * 8) room′
+same-booked : (room room′ : List ℕ) (n n′ : ℕ) (x : Exit) → n ≡ n′ → tradePlaces room ≡ tradePlaces room′ → tradesIn room n ≡ tradesIn room′ n′
     → let b = booked room n x in
     let b′ = booked room′ n′ x in
-    (b .count ≡ b′ .count) × (take (b .count * 8) (b .room) ≡ take (b′ .count * 8) (b′ .room))
+    (b .count ≡ b′ .count) × (tradesIn (b .room) (b .count) ≡ tradesIn (b′ .room) (b′ .count))
 same-booked room room′ n n′ x e places held = go (ltb n (tradePlaces room)) refl
   where
-    go : (b : Bool) → ltb n (tradePlaces room) ≡ b
-        → (booked room n x .count ≡ booked room′ n′ x .count)
-        × (take (booked room n x .count * 8) (booked room n x .room) ≡ take (booked room′ n′ x .count * 8) (booked room′ n′ x .room))
+    go : (t : Bool) → ltb n (tradePlaces room) ≡ t
+        → let b = booked room n x in
+        let b′ = booked room′ n′ x in
+        (b .count ≡ b′ .count) × (tradesIn (b .room) (b .count) ≡ tradesIn (b′ .room) (b′ .count))
     go true h =
         let a = trade-booked room n x (ltb-true _ _ h) in
         let a′ = trade-booked room′ n′ x (rw (← places, ← e) (ltb-true _ _ h)) in
@@ -78,18 +84,18 @@ close-place s t m fine closes =
     let c = both-fine (stateLines s t m) _ b .1 in
     ltb-true _ _ (rw closes at (first-holds _ _ c .0))
 
--- so the trade is booked, where there is one
-close-booked : (s : Settings) (t : State) (m : Rooms) → finishJudged s t m ≡ Fine
-    → let x = lastExit s t in
-    Added 8 (m .trades) (t .counts .trades) (booked (m .trades) (t .counts .trades) x) (length (tradesOf x)) (flatMap tradeWords (tradesOf x))
+-- the trade of a finish is in the room
+abbrev Closed : State → Rooms → Exit → Type 0
+Closed t m x =
+    Added Limits.tradeWords (m .trades) (t .counts .trades) (booked (m .trades) (t .counts .trades) x) (length (tradesOf x)) (flatMap tradeWords (tradesOf x))
+
+close-booked : (s : Settings) (t : State) (m : Rooms) → finishJudged s t m ≡ Fine → Closed t m (lastExit s t)
 close-booked s t m fine = go (toClose t) refl
   where
     none : toClose t ≡ false → lastExit s t ≡ NoExit
     none h = unfold lastExit in rw h
 
-    go : (b : Bool) → toClose t ≡ b
-        → let x = lastExit s t in
-        Added 8 (m .trades) (t .counts .trades) (booked (m .trades) (t .counts .trades) x) (length (tradesOf x)) (flatMap tradeWords (tradesOf x))
+    go : (b : Bool) → toClose t ≡ b → Closed t m (lastExit s t)
     go true h = trade-booked (m .trades) (t .counts .trades) (lastExit s t) (close-place s t m fine h)
     go false h = rw (none h) (none-added (m .trades) (t .counts .trades))
 

@@ -9,7 +9,9 @@ use borrow.Author.Tests.{ltb-true, leb-true, eqb-false}
 use lib.ListN.{length, take, drop, length-append, length-drop}
 use lib.Seq.{length-take-le}
 use lib.Dec.{ltb, leb, eqb}
+use Rattle.words.specs.Limits as Limits
 use Rattle.words.specs.Words.{overwrite}
+use Rattle.rows.specs.History.{width}
 use Rattle.rows.specs.Room.{places, withRow, heldWith}
 use Rattle.execution.specs.declared.Exit.{Exit}
 use Rattle.execution.specs.declared.Exit.the-variants.{NoExit, Exited}
@@ -81,15 +83,15 @@ unfolding listed
 listed-long zero f = refl
 listed-long (suc n) f = length-append (listed n f) (f n ∷ []) ∙ omega (arith, listed-long n f)
 
-pub row-long : (K : ℕ) (bar : List ℕ) → length (rowOf K bar) ≡ 7 + K
+pub row-long : (K : ℕ) (bar : List ℕ) → length (rowOf K bar) ≡ width K
 unfolding rowOf
-row-long K bar = listed-long (7 + K) (rowWord bar)
+row-long K bar = listed-long (width K) (rowWord bar)
 
 -- a bar's row in a room
 pub row-fits : (K : ℕ) (room : List ℕ) (held : ℕ) (bar : List ℕ)
-    → (heldWith room held (rowOf K bar) ≤ length room / (7 + K)) × (length (withRow room held (rowOf K bar)) ≡ length room)
+    → (heldWith room held (rowOf K bar) ≤ length room / (width K)) × (length (withRow room held (rowOf K bar)) ≡ length room)
 row-fits K room held bar =
-    let w : length (rowOf K bar) ≡ 7 + K = row-long K bar in
+    let w : length (rowOf K bar) ≡ width K = row-long K bar in
     (rw w at (row-held room held (rowOf K bar) (omega (arith, w))), row-length room held (rowOf K bar) (omega (arith, w)))
 
 -- ---- counts
@@ -97,25 +99,26 @@ row-fits K room held bar =
 abbrev Fits : ℕ → Held → List ℕ → Type 0
 Fits w h room = (length (h .room) ≡ length room) × (h .count ≤ length room / w)
 
-pub booked-fits : (room : List ℕ) (n : ℕ) (x : Exit) → n ≤ tradePlaces room → Fits 8 (booked room n x) room
+pub booked-fits : (room : List ℕ) (n : ℕ) (x : Exit) → n ≤ tradePlaces room → Fits Limits.tradeWords (booked room n x) room
 unfolding booked
 booked-fits room n NoExit h = (refl, h)
 booked-fits room n (Exited c) h = go (ltb n (tradePlaces room)) refl
   where
     go : (b : Bool) → ltb n (tradePlaces room) ≡ b
-        → Fits 8 (cond b (record { count = n + 1; room = overwrite room (n * 8) (tradeWords (c .trade)) }) (record { count = n; room = room })) room
-    go true e = (overwrite-length room (n * 8) (tradeWords (c .trade)), omega (arith, ltb-true n (tradePlaces room) e))
+        → Fits Limits.tradeWords
+        (cond b (record { count = n + 1; room = overwrite room (n * Limits.tradeWords) (tradeWords (c .trade)) }) (record { count = n; room = room })) room
+    go true e = (overwrite-length room (n * Limits.tradeWords) (tradeWords (c .trade)), omega (arith, ltb-true n (tradePlaces room) e))
     go false e = (refl, h)
 
 -- and another after it
 pub twice-booked-fits : (room : List ℕ) (n : ℕ) (x y : Exit) → n ≤ tradePlaces room
-    → Fits 8 (booked (booked room n x .room) (booked room n x .count) y) room
+    → Fits Limits.tradeWords (booked (booked room n x .room) (booked room n x .count) y) room
 twice-booked-fits room n x y h =
     let a = booked-fits room n x h in
     let b = booked-fits (booked room n x .room) (booked room n x .count) y (rw (a .0) (a .1)) in
     (b .0 ∙ a .0, rw (a .0) at (b .1))
 
-pub marked-fits : (room : List ℕ) (n : ℕ) (k : Candle) (p : Position) → n ≤ pointPlaces room → Fits 2 (marked room n k p) room
+pub marked-fits : (room : List ℕ) (n : ℕ) (k : Candle) (p : Position) → n ≤ pointPlaces room → Fits Limits.pointWords (marked room n k p) room
 unfolding marked
 marked-fits room n k p h = go (ltb n (pointPlaces room)) refl
   where
@@ -123,6 +126,7 @@ marked-fits room n k p h = go (ltb n (pointPlaces room)) refl
     point = wordsOfPoint (pointOf k p)
 
     go : (b : Bool) → ltb n (pointPlaces room) ≡ b
-        → Fits 2 (cond b (record { count = n + 1; room = overwrite room (n * 2) point }) (record { count = n; room = room })) room
-    go true e = (overwrite-length room (n * 2) point, omega (arith, ltb-true n (pointPlaces room) e))
+        → Fits Limits.pointWords
+        (cond b (record { count = n + 1; room = overwrite room (n * Limits.pointWords) point }) (record { count = n; room = room })) room
+    go true e = (overwrite-length room (n * Limits.pointWords) point, omega (arith, ltb-true n (pointPlaces room) e))
     go false e = (refl, h)
