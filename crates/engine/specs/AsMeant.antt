@@ -5,7 +5,7 @@ use mathlib.Core.List.{List, [], _∷_, _++_, append-nil, flatMap}
 use native.Mathlib.Nat.{zero-add}
 use native.Mathlib.Omega.{arith}
 use lib.ListN.{take, length-append}
-use Rattle.portfolio.specs.Trade.{tradeWords}
+use Rattle.portfolio.specs.Trade.{tradeWords as wordsOfTrade}
 use Rattle.metrics.specs.Figures.{metricsOf}
 use Rattle.metrics.specs.Records.{equityOf, pnlsOf}
 use Rattle.records.specs.declared.settings.Settings.{Settings}
@@ -67,8 +67,8 @@ ends-whole s t m w h fine =
     rw (← (h .account), ← (exit-of-account s t)) (end-grows s t m fine) in
     let equity : heldPoints (ended s t m .result .state) (ended s t m .rooms) ≡ flatMap wordsOfPoint (w .points) =
     g .equity ∙ rw (h .equity) (unfold flatMap in append-nil _) in
-    let closed : heldTrades (ended s t m .result .state) (ended s t m .rooms) ≡ flatMap tradeWords (w .trades ++ tradesOf x) =
-    g .closed ∙ rw (h .closed) (sym (flat-append tradeWords (w .trades) (tradesOf x))) in (
+    let closed : heldTrades (ended s t m .result .state) (ended s t m .rooms) ≡ flatMap wordsOfTrade (w .trades ++ tradesOf x) =
+    g .closed ∙ rw (h .closed) (sym (flat-append wordsOfTrade (w .trades) (tradesOf x))) in (
       record {
         account = rw (← (h .account), ← (exit-of-account s t)) (unfold ended endState in refl);
         points = omega (arith, g .points, h .points);

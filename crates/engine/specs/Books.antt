@@ -11,7 +11,7 @@ use Rattle.words.specs.Words.{overwrite}
 use Rattle.portfolio.specs.declared.Candle.{Candle}
 use Rattle.portfolio.specs.declared.Trade.{Trade}
 use Rattle.portfolio.specs.Portfolio.{equity}
-use Rattle.portfolio.specs.Trade.{tradeWords}
+use Rattle.portfolio.specs.Trade.{tradeWords as wordsOfTrade}
 use Rattle.execution.specs.declared.Exit.{Exit}
 use Rattle.execution.specs.declared.Exit.the-variants.{NoExit, Exited}
 use Rattle.records.specs.declared.state.Position.{Position}
@@ -49,7 +49,7 @@ unfoldable pub booked : List ℕ → ℕ → Exit → Held
 booked room n NoExit = record { count = n; room = room }
 booked room n (Exited c) =
     cond (ltb n (tradePlaces room))
-    (record { count = n + 1; room = overwrite room (n * Limits.tradeWords) (tradeWords (c .trade)) })
+    (record { count = n + 1; room = overwrite room (n * Limits.tradeWords) (wordsOfTrade (c .trade)) })
     (record { count = n; room = room })
 
 -- "equity at the close". A point that finds no place is not kept, as above.

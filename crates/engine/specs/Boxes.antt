@@ -6,7 +6,7 @@ use lib.ListN.{length, drop}
 use Rattle.words.specs.Limits as Limits
 use Rattle.words.specs.declared.refusal.Refusal.{Refusal}
 use Rattle.portfolio.specs.declared.Trade.{Trade}
-use Rattle.portfolio.specs.Trade.{tradeWords}
+use Rattle.portfolio.specs.Trade.{tradeWords as wordsOfTrade}
 use Rattle.records.specs.declared.settings.Settings.{Settings}
 use Rattle.records.specs.declared.state.State.{State}
 use Rattle.records.specs.Lent.{Rooms, rowPlaces, pointPlaces, tradePlaces}
@@ -56,7 +56,7 @@ pub record Holds (t : State) (m : Rooms) (w : Whole) : Type 0 where
   pub points : t .counts .«equity_points» ≡ length (w .points)
   pub trades : t .counts .trades ≡ length (w .trades)
   pub equity : heldPoints t m ≡ flatMap wordsOfPoint (w .points)
-  pub closed : heldTrades t m ≡ flatMap tradeWords (w .trades)
+  pub closed : heldTrades t m ≡ flatMap wordsOfTrade (w .trades)
 
 -- ---- a box, and what bars make of it
 
@@ -65,7 +65,7 @@ pub record Grown (t : State) (m : Rooms) (u : State) (n : Rooms) (ps : List Poin
   pub points : u .counts .«equity_points» ≡ t .counts .«equity_points» + length ps
   pub trades : u .counts .trades ≡ t .counts .trades + length xs
   pub equity : heldPoints u n ≡ heldPoints t m ++ flatMap wordsOfPoint ps
-  pub closed : heldTrades u n ≡ heldTrades t m ++ flatMap tradeWords xs
+  pub closed : heldTrades u n ≡ heldTrades t m ++ flatMap wordsOfTrade xs
   -- what lies behind is untouched
   pub behindPoints : drop (u .counts .«equity_points» * Limits.pointWords) (n .equity) ≡ drop (u .counts .«equity_points» * Limits.pointWords) (m .equity)
   pub behindTrades : drop (u .counts .trades * Limits.tradeWords) (n .trades) ≡ drop (u .counts .trades * Limits.tradeWords) (m .trades)

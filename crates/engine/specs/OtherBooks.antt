@@ -52,10 +52,11 @@ books-do-not-matter s ls bars t m t′ m′ alike sound sound′ free free′ =
 -- ---- the books emptied
 
 module _ (s : Settings) (t : State) (m : Rooms) (equity trades : List ℕ) where
-  -- a box whose books are emptied, and that is lent any equity and trade rooms from then on, is alike
-  pub emptied-alike : Alike s t m (emptied t) (rooms (m .rows) equity trades)
+  -- A box whose books are emptied, and that is lent any equity and trade rooms from then on, is alike to all that it was alike to: so
+  -- the law above goes on holding, however often they are emptied.
+  pub emptied-alike : (u : State) (n : Rooms) → Alike s u n t m → Alike s u n (emptied t) (rooms (m .rows) equity trades)
   unfolding emptied
-  emptied-alike = record { account = refl; window = refl }
+  emptied-alike u n a = record { account = a .account; window = a .window }
 
   pub emptied-sound : Sound s t m → Sound s (emptied t) (rooms (m .rows) equity trades)
   unfolding emptied
@@ -81,8 +82,8 @@ pub record Emptied (s : Settings) (t : State) (m : Rooms) (u e : Run) : Type 0 w
   pub equity : heldPoints (u .state) (u .rooms) ≡ heldPoints t m ++ heldPoints (e .state) (e .rooms)
   pub closed : heldTrades (u .state) (u .rooms) ≡ heldTrades t m ++ heldTrades (e .state) (e .rooms)
 
--- THE CALLER MAY EMPTY THE BOOKS between any two bars: after any bars `before`, over any `bars` from then on, as long as neither run is refused with
--- 14.
+-- THE CALLER MAY EMPTY THE BOOKS between any two bars: after any bars `before`, over any `bars` from then on, as long as neither run is
+-- refused with 14.
 pub emptied-goes-on : (s : Settings) (ls : Lists) (m : Rooms) (before bars : List (List ℕ)) (equity trades : List ℕ)
     → s .depth ≤ rowPlaces (s .slots) (m .rows)
     → let b = runOver s ls (freshState s) m before in
@@ -94,7 +95,8 @@ emptied-goes-on s ls m before bars equity trades deep free free′ =
     let b : Run = runOver s ls (freshState s) m before in
     let sound = run-sound s ls before (freshState s) m (fresh-sound s m deep) in
     let x = books-do-not-matter s ls bars (b .state) (b .rooms) (emptied (b .state)) (rooms (b .rooms .rows) equity trades)
-    (emptied-alike s (b .state) (b .rooms) equity trades) sound (emptied-sound s (b .state) (b .rooms) equity trades sound) free free′ in
+    (emptied-alike s (b .state) (b .rooms) equity trades (b .state) (b .rooms) (record { account = refl; window = refl }))
+    sound (emptied-sound s (b .state) (b .rooms) equity trades sound) free free′ in
     record {
       done = x .done;
       verdict = x .verdict;

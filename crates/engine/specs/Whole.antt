@@ -4,7 +4,7 @@ use mathlib.Core.List.{List, [], _∷_, _++_, flatMap}
 use Rattle.rows.specs.History.{historyOf, lastRows}
 use Rattle.rules.specs.declared.PositionState.{PositionState}
 use Rattle.portfolio.specs.declared.Trade.{Trade}
-use Rattle.portfolio.specs.Trade.{tradeWords}
+use Rattle.portfolio.specs.Trade.{tradeWords as wordsOfTrade}
 use Rattle.metrics.specs.declared.Metrics.{Metrics}
 use Rattle.metrics.specs.Figures.{metricsOf}
 use Rattle.metrics.specs.Records.{equityOf, pnlsOf}
@@ -130,4 +130,4 @@ wholeEnd s w =
     }
 
 unfoldable pub wholeMetrics : Settings → Whole → Metrics
-wholeMetrics s w = metricsOf (s .capital) (equityOf (flatMap wordsOfPoint (w .points))) (pnlsOf (flatMap tradeWords (w .trades)))
+wholeMetrics s w = metricsOf (s .capital) (equityOf (flatMap wordsOfPoint (w .points))) (pnlsOf (flatMap wordsOfTrade (w .trades)))

@@ -14,7 +14,7 @@ use Rattle.words.specs.Laws.Overwrite.{overwrite-fits}
 use Rattle.portfolio.specs.declared.Candle.{Candle}
 use Rattle.portfolio.specs.declared.Closed.{Closed}
 use Rattle.portfolio.specs.declared.Trade.{Trade}
-use Rattle.portfolio.specs.Trade.{tradeWords}
+use Rattle.portfolio.specs.Trade.{tradeWords as wordsOfTrade}
 use Rattle.execution.specs.declared.Exit.{Exit}
 use Rattle.execution.specs.declared.Exit.the-variants.{NoExit, Exited}
 use Rattle.records.specs.declared.settings.Settings.{Settings}
@@ -57,7 +57,7 @@ grown-more {u = u} {w = w} {m = m} {n = n} {ps = ps} {qs = qs} {xs = xs} {ys = y
   points = omega (arith, a .points, b .points, length-append ps qs);
   trades = omega (arith, a .trades, b .trades, length-append xs ys);
   equity = rw (b .equity, a .equity, flat-append wordsOfPoint ps qs, append-assoc);
-  closed = rw (b .closed, a .closed, flat-append tradeWords xs ys, append-assoc);
+  closed = rw (b .closed, a .closed, flat-append wordsOfTrade xs ys, append-assoc);
   behindPoints =
       b .behindPoints
       ∙ behind (u .counts .«equity_points» * Limits.pointWords) (w .counts .«equity_points» * Limits.pointWords) (n .equity) (m .equity)
@@ -98,17 +98,17 @@ Added w room n h more words =
 
 -- no trade
 pub none-added : (room : List ℕ) (n : ℕ)
-    → Added Limits.tradeWords room n (booked room n NoExit) (length (tradesOf NoExit)) (flatMap tradeWords (tradesOf NoExit))
+    → Added Limits.tradeWords room n (booked room n NoExit) (length (tradesOf NoExit)) (flatMap wordsOfTrade (tradesOf NoExit))
 unfolding booked tradesOf flatMap
 none-added room n = (omega arith, sym (append-nil _), refl)
 
 -- a trade, where there is one and a place for it
 pub trade-booked : (room : List ℕ) (n : ℕ) (x : Exit) → n < tradePlaces room
-    → Added Limits.tradeWords room n (booked room n x) (length (tradesOf x)) (flatMap tradeWords (tradesOf x))
+    → Added Limits.tradeWords room n (booked room n x) (length (tradesOf x)) (flatMap wordsOfTrade (tradesOf x))
 unfolding booked tradesOf flatMap
 trade-booked room n NoExit h = none-added room n
 trade-booked room n (Exited c) h =
-    let w = written-last Limits.tradeWords n room (tradeWords (c .trade)) (omega arith) (unfold tradeWords in refl) h in
+    let w = written-last Limits.tradeWords n room (wordsOfTrade (c .trade)) (omega arith) (unfold wordsOfTrade in refl) h in
     rw (lt-ltb n (tradePlaces room) h, append-nil) (refl, w .0, w .1)
 
 -- where there is no place, nothing is booked
@@ -121,7 +121,7 @@ none-booked room n (Exited c) h = rw (le-ltb n (tradePlaces room) h)
 two-booked : (room : List ℕ) (n : ℕ) (x y : Exit) → ((c : Closed) → x ≡ Exited c → y ≡ NoExit) → n < tradePlaces room
     → let first = booked room n x in
     let second = booked (first .room) (first .count) y in
-    Added Limits.tradeWords room n second (length (tradesOf x ++ tradesOf y)) (flatMap tradeWords (tradesOf x ++ tradesOf y))
+    Added Limits.tradeWords room n second (length (tradesOf x ++ tradesOf y)) (flatMap wordsOfTrade (tradesOf x ++ tradesOf y))
 unfolding booked tradesOf
 two-booked room n NoExit y only h = trade-booked room n y h
 two-booked room n (Exited c) y only h = rw (only c refl) (trade-booked room n (Exited c) h)

@@ -8,7 +8,7 @@ use borrow.Author.Tests.{ltb-true, ltb-false}
 use lib.Dec.{ltb}
 use lib.ListN.{length, take}
 use Rattle.words.specs.Limits as Limits
-use Rattle.portfolio.specs.Trade.{tradeWords}
+use Rattle.portfolio.specs.Trade.{tradeWords as wordsOfTrade}
 use Rattle.execution.specs.declared.Exit.{Exit}
 use Rattle.execution.specs.declared.Exit.the-variants.{NoExit}
 use Rattle.records.specs.declared.settings.Settings.{Settings}
@@ -87,7 +87,7 @@ close-place s t m fine closes =
 -- the trade of a finish is in the room
 abbrev Closed : State → Rooms → Exit → Type 0
 Closed t m x =
-    Added Limits.tradeWords (m .trades) (t .counts .trades) (booked (m .trades) (t .counts .trades) x) (length (tradesOf x)) (flatMap tradeWords (tradesOf x))
+    Added Limits.tradeWords (m .trades) (t .counts .trades) (booked (m .trades) (t .counts .trades) x) (length (tradesOf x)) (flatMap wordsOfTrade (tradesOf x))
 
 close-booked : (s : Settings) (t : State) (m : Rooms) → finishJudged s t m ≡ Fine → Closed t m (lastExit s t)
 close-booked s t m fine = go (toClose t) refl

@@ -16,7 +16,7 @@ use Rattle.rows.specs.Room.{places, withRow, heldWith}
 use Rattle.execution.specs.declared.Exit.{Exit}
 use Rattle.execution.specs.declared.Exit.the-variants.{NoExit, Exited}
 use Rattle.portfolio.specs.declared.Candle.{Candle}
-use Rattle.portfolio.specs.Trade.{tradeWords}
+use Rattle.portfolio.specs.Trade.{tradeWords as wordsOfTrade}
 use Rattle.records.specs.declared.state.Position.{Position}
 use Rattle.records.specs.Lent.{pointPlaces, tradePlaces}
 use Rattle.engine.specs.Books.{Held, wordsOfPoint, pointOf, booked, marked}
@@ -106,8 +106,8 @@ booked-fits room n (Exited c) h = go (ltb n (tradePlaces room)) refl
   where
     go : (b : Bool) → ltb n (tradePlaces room) ≡ b
         → Fits Limits.tradeWords
-        (cond b (record { count = n + 1; room = overwrite room (n * Limits.tradeWords) (tradeWords (c .trade)) }) (record { count = n; room = room })) room
-    go true e = (overwrite-length room (n * Limits.tradeWords) (tradeWords (c .trade)), omega (arith, ltb-true n (tradePlaces room) e))
+        (cond b (record { count = n + 1; room = overwrite room (n * Limits.tradeWords) (wordsOfTrade (c .trade)) }) (record { count = n; room = room })) room
+    go true e = (overwrite-length room (n * Limits.tradeWords) (wordsOfTrade (c .trade)), omega (arith, ltb-true n (tradePlaces room) e))
     go false e = (refl, h)
 
 -- and another after it
