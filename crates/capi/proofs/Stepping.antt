@@ -16,7 +16,7 @@ use Rattle.refusals.specs.Lines.{judged}
 use Rattle.engine.specs.declared.Answer.{Answer}
 use Rattle.engine.specs.declared.Answer.the-variants.{Refused, Done}
 use Rattle.engine.specs.Step.{Is, stepOf}
-use Rattle.engine.specs.Refusal.{refusal-changes-nothing}
+use Rattle.engine.specs.Laws.Refusal.{refusal-changes-nothing}
 use Rattle.capi.specs.Call.{Call, answerWord}
 use Rattle.capi.specs.Bars.{StepLent, lentLines, stepGives, stepCall}
 use Rattle.capi.proofs.Calling.{call-bad, call-refused, call-gives}

@@ -13,7 +13,7 @@ use Rattle.records.specs.Lent.{Rooms}
 use Rattle.engine.specs.declared.ending.Ended.{Ended}
 use Rattle.engine.specs.declared.Finished.{Finished}
 use Rattle.engine.specs.declared.Finished.the-variants.{Refused, Done}
-use Rattle.engine.specs.Account.{booked}
+use Rattle.engine.specs.Books.{booked}
 use Rattle.engine.specs.Finish.{lastExit, endState, measured, ended, concluded, finishOf}
 use Rattle.engine.specs.Step.{Is}
 

@@ -19,7 +19,8 @@ use Rattle.engine.specs.declared.account.Filled.{Filled}
 use Rattle.engine.specs.declared.account.Left.{Left}
 use Rattle.engine.specs.declared.Answer.{Answer}
 use Rattle.engine.specs.declared.Answer.the-variants.{Refused, Done}
-use Rattle.engine.specs.Account.{filled, left, charged, booked, marked}
+use Rattle.engine.specs.Account.{filled, intrabar, charged}
+use Rattle.engine.specs.Books.{booked, marked}
 use Rattle.engine.specs.Decide.{decided}
 use Rattle.engine.specs.Record.{rowOf, heldRows}
 use Rattle.engine.specs.Step.{Is, Ready, stepped, answered, stepOf}
@@ -29,8 +30,9 @@ module _ (s : Settings) (t : State) (bar : List ℕ) (m : Rooms) (ls : Lists) wh
       → k ≡ candleOf bar
       → f ≡ filled s (t .order) (t .position) k (historyOf (s .slots) (heldRows (s .slots) (t .counts .«rows_held») (m .rows))) (t .counts .«bars_seen»)
       → (sold ≡ booked (m .trades) (t .counts .trades) (f .«exit») .count) × (ts ≡ booked (m .trades) (t .counts .trades) (f .«exit») .room)
-      → (held ≡ heldWith (m .rows) (t .counts .«rows_held») (rowOf (s .slots) bar)) × (ws ≡ withRow (m .rows) (t .counts .«rows_held») (rowOf (s .slots) bar))
-      → x ≡ left s (f .position) k
+      → (held ≡ heldWith (m .rows) (t .counts .«rows_held») (rowOf (s .slots) bar))
+      × (ws ≡ withRow (m .rows) (t .counts .«rows_held») (rowOf (s .slots) bar))
+      → x ≡ intrabar s (f .position) k
       → (stopped ≡ booked ts sold (x .«exit») .count) × (us ≡ booked ts sold (x .«exit») .room)
       → p ≡ charged s (x .position) bar
       → (points ≡ marked (m .equity) (t .counts .«equity_points») k p .count) × (es ≡ marked (m .equity) (t .counts .«equity_points») k p .room)

@@ -1,15 +1,12 @@
--- "One bar", what it does to the account: the fill, the exits inside the bar, funding, the trades and the equity.
-use Prim.Native.Nat.{ℕ, _+_, _-_, _*_}
+-- "One bar", what it does to the account: the fill, the exits inside the bar, funding.
+use Prim.Native.Nat.{ℕ, _-_}
 use mathlib.Core.Bool.{cond}
-use mathlib.Core.List.{List, [], _∷_}
+use mathlib.Core.List.{List}
 use lib.Dec.{ltb}
-use Rattle.floats.specs.Floats.{wordOf}
 use Rattle.rows.specs.History.{History}
-use Rattle.words.specs.Words.{overwrite}
 use Rattle.rules.specs.declared.Entered.the-variants.{Never, Bar}
 use Rattle.portfolio.specs.declared.Candle.{Candle}
-use Rattle.portfolio.specs.Portfolio.{equity}
-use Rattle.portfolio.specs.Trade.{wordsOfTrade, signal}
+use Rattle.portfolio.specs.Trade.{signal}
 use Rattle.execution.specs.declared.Entry.{Entry}
 use Rattle.execution.specs.declared.Entry.the-variants.{NoEntry, Entered}
 use Rattle.execution.specs.declared.Exit.{Exit}
@@ -24,7 +21,6 @@ use Rattle.records.specs.declared.state.Order.the-variants.{Idle, EnterLong, En
 use Rattle.records.specs.declared.state.Position.{Position}
 use Rattle.records.specs.declared.settings.Settings.{Settings}
 use Rattle.records.specs.Bar.{fundingOf}
-use Rattle.records.specs.Lent.{pointPlaces, tradePlaces}
 use Rattle.engine.specs.declared.account.Due.{Due}
 use Rattle.engine.specs.declared.account.Due.the-variants.{Waits, Enters, Leaves}
 use Rattle.engine.specs.declared.account.Filled.{Filled}
@@ -78,8 +74,8 @@ dueOf (ExitOrder n) = cond (ltb 0 n) (Waits (ExitOrder (n - 1))) Leaves
 
 -- "Intrabar: only in a position, as `intrabar_exit`, without slippage. The favourable extreme takes this bar first; if no
 -- exit fires, liquidation where switched on."
-unfoldable pub left : Settings → Position → Candle → Left
-left s p k =
+unfoldable pub intrabar : Settings → Position → Candle → Left
+intrabar s p k =
     let extreme = extremeWith k (p .portfolio) (p .extreme) in
     let x = applyIntrabarExits k (s .terms) (p .portfolio) extreme in
     record { position = leaving (record { portfolio = p .portfolio; entered = p .entered; extreme = extreme }) x; «exit» = x }
@@ -93,26 +89,3 @@ charged s p bar = record {
   entered = p .entered;
   extreme = p .extreme;
 }
-
--- ---- the rooms of trades and equity
-
--- a room of records and how many it holds
-pub record Held : Type 0 where
-  pub count : ℕ
-  pub room : List ℕ
-
--- "A trade takes eight 64-bit words in the Rust record's order." One that finds no place is not kept: no step that is
--- not refused comes to that.
-unfoldable pub booked : List ℕ → ℕ → Exit → Held
-booked room n NoExit = record { count = n; room = room }
-booked room n (Exited c) =
-    cond (ltb n (tradePlaces room))
-    (record { count = n + 1; room = overwrite room (n * 8) (wordsOfTrade (c .trade)) })
-    (record { count = n; room = room })
-
--- "equity at the close": a point is the bar's time and the equity. One that finds no place is not kept, as above.
-unfoldable pub marked : List ℕ → ℕ → Candle → Position → Held
-marked room n k p =
-    cond (ltb n (pointPlaces room))
-    (record { count = n + 1; room = overwrite room (n * 2) (k .time ∷ wordOf (equity (p .portfolio) (k .close)) ∷ []) })
-    (record { count = n; room = room })

@@ -53,11 +53,14 @@ ordered delay account a =
     (cond (isLong account) (closingOrder delay (a .«exit»)) (closingOrder delay (a .«short_exit»)))
     (openingOrder delay (a .entry) (a .«short_entry»))
 
--- "nothing on a bar numbered below warmup, nor while an order works": the rows are those held, this bar's the last
+-- "nothing on a bar numbered below warmup, nor while an order works"
+unfoldable pub orderAfter : Settings → Order → Position → ℕ → Answers → Order
+orderAfter s (EnterLong n) p number a = EnterLong n
+orderAfter s (EnterShort n) p number a = EnterShort n
+orderAfter s (Exit n) p number a = Exit n
+orderAfter s Idle p number a = cond (ltb number (s .warmup)) Idle (ordered (s .delay) (p .portfolio) a)
+
+-- the rows are those held, this bar's the last; a rule reads the last D of them
 unfoldable pub decided : Settings → Order → Position → ℕ → List ℕ → Lists → Order
-decided s (EnterLong n) p number rows ls = EnterLong n
-decided s (EnterShort n) p number rows ls = EnterShort n
-decided s (Exit n) p number rows ls = Exit n
-decided s Idle p number rows ls =
-    cond (ltb number (s .warmup)) Idle
-    (ordered (s .delay) (p .portfolio) (answersOf (historyOf (s .slots) (lastRows (s .slots) (s .depth) rows)) (stateAt p number) ls))
+decided s o p number rows ls =
+    orderAfter s o p number (answersOf (historyOf (s .slots) (lastRows (s .slots) (s .depth) rows)) (stateAt p number) ls)

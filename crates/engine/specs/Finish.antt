@@ -3,6 +3,7 @@ use Prim.Native.Nat.{ℕ, _*_}
 use mathlib.Core.Bool.{cond}
 use mathlib.Core.List.{List}
 use lib.ListN.{take}
+use Rattle.words.specs.Limits as Limits
 use Rattle.portfolio.specs.Trade.{end}
 use Rattle.execution.specs.declared.Exit.{Exit}
 use Rattle.execution.specs.declared.Exit.the-variants.{NoExit, Exited}
@@ -20,7 +21,8 @@ use Rattle.refusals.specs.Rooms.{toClose}
 use Rattle.engine.specs.declared.ending.Ended.{Ended}
 use Rattle.engine.specs.declared.Finished.{Finished}
 use Rattle.engine.specs.declared.Finished.the-variants.{Refused, Done}
-use Rattle.engine.specs.Account.{booked, leaving}
+use Rattle.engine.specs.Account.{leaving}
+use Rattle.engine.specs.Books.{booked}
 use Rattle.engine.specs.Step.{With}
 
 -- "Finish closes an open position, if a bar was seen, at the last close with a taker fee, reason end."
@@ -46,7 +48,8 @@ endState t x trades = record {
 
 -- "Metrics take their equity from the marked points only, as `finish` does."; the trades are all, the last one too
 unfoldable pub measured : Settings → List ℕ → ℕ → List ℕ → ℕ → Metrics
-measured s equity points trades count = metricsOf (s .capital) (equityOf (take (points * 2) equity)) (pnlsOf (take (count * 8) trades))
+measured s equity points trades count =
+    metricsOf (s .capital) (equityOf (take (points * Limits.pointWords) equity)) (pnlsOf (take (count * Limits.tradeWords) trades))
 
 unfoldable pub ended : Settings → State → Rooms → With Ended
 ended s t m =

@@ -14,7 +14,8 @@ use Rattle.refusals.specs.Judgement.{stepJudged}
 use Rattle.records.specs.Lent.{Lists, Rooms}
 use Rattle.engine.specs.declared.Answer.{Answer}
 use Rattle.engine.specs.declared.Answer.the-variants.{Refused, Done}
-use Rattle.engine.specs.Account.{filled, left, charged, booked, marked}
+use Rattle.engine.specs.Account.{filled, intrabar, charged}
+use Rattle.engine.specs.Books.{booked, marked}
 use Rattle.engine.specs.Decide.{decided}
 use Rattle.engine.specs.Record.{rowOf, heldRows}
 
@@ -33,7 +34,7 @@ stepped s t bar m ls =
     let sold = booked (m .trades) (n .trades) (f .«exit») in
     let rows = withRow (m .rows) (n .«rows_held») (rowOf (s .slots) bar) in
     let held = heldWith (m .rows) (n .«rows_held») (rowOf (s .slots) bar) in
-    let x = left s (f .position) k in
+    let x = intrabar s (f .position) k in
     let stopped = booked (sold .room) (sold .count) (x .«exit») in
     let p = charged s (x .position) bar in
     let e = marked (m .equity) (n .«equity_points») k p in

@@ -5,7 +5,8 @@ ghost use Prim.Native.Nat.{_≤_};
 ghost use Rattle.rows.specs.History.{historyOf};
 ghost use Rattle.engine.specs.Record.{heldRows};
 ghost use Rattle.engine.specs.Account as Account;
-ghost use Rattle.engine.specs.Account.{leaving, entering, dueOf, booked, marked, charged};
+ghost use Rattle.engine.specs.Account.{leaving, entering, dueOf, charged};
+ghost use Rattle.engine.specs.Books.{booked, marked};
 use crate::record;
 use execution::Entry;
 use execution::Exit;
@@ -174,7 +175,7 @@ pub(crate) fn fill_working_order(
 
 // The open position against the bar's range.
 pub(crate) fn apply_intrabar_exits(s: Settings, p: Position, candle: Candle) -> Left
-    ensures { λ r. ⌜ r ≡ Account.left s p candle ⌝ }
+    ensures { λ r. ⌜ r ≡ Account.intrabar s p candle ⌝ }
 {
     let terms = s.terms;
     let account = p.portfolio;

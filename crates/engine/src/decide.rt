@@ -34,7 +34,8 @@ fn order_of<'a>(
     short_entry: &[u8],
     short_exit: &'a [u8],
 ) -> Order
-    ensures { λ r. ⌜ r ≡ ordered delay account (answersOf (historyOf slots (now (window .entry))) state (lists (now (entry .entry)) (now («exit» .entry)) (now («short_entry» .entry)) (now («short_exit» .entry)))) ⌝ }
+    ensures { λ r. ⌜ r ≡ ordered delay account (answersOf (historyOf slots (now (window .entry))) state
+        (lists (now (entry .entry)) (now («exit» .entry)) (now («short_entry» .entry)) (now («short_exit» .entry)))) ⌝ }
 {
     if account.in_position() {
         let list = choice::exit_list(account.qty, exit, short_exit);
@@ -66,7 +67,8 @@ pub(crate) fn decide_next_action<'a>(
     short_exit: &'a [u8],
 ) -> Order
     requires { ⌜ (s .slots ≤ 64) × (number < 4294967295) ⌝ }
-    ensures { λ r. ⌜ r ≡ decided s order p number (heldRows (s .slots) held (now (rows .entry))) (lists (now (entry .entry)) (now («exit» .entry)) (now («short_entry» .entry)) (now («short_exit» .entry))) ⌝ }
+    ensures { λ r. ⌜ r ≡ decided s order p number (heldRows (s .slots) held (now (rows .entry)))
+        (lists (now (entry .entry)) (now («exit» .entry)) (now («short_entry» .entry)) (now («short_exit» .entry))) ⌝ }
 {
     match order {
         Order::EnterLong(n) => Order::EnterLong(n),

@@ -72,7 +72,8 @@ pub(crate) fn conclude(
     equity: &[u64],
     trades: &mut [u64],
 ) -> Ended
-    ensures { λ r. ⌜ Is Ended (ended s t (rooms (now (rows .entry)) (now (equity .entry)) (now (trades .entry)))) r (now (rows .entry)) (now (equity .entry)) (now (trades .exit)) ⌝ }
+    ensures { λ r. ⌜ Is Ended (ended s t (rooms (now (rows .entry)) (now (equity .entry)) (now (trades .entry))))
+        r (now (rows .entry)) (now (equity .entry)) (now (trades .exit)) ⌝ }
 {
     let n = t.counts;
     let exit = last_exit(s, t);

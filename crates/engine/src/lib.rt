@@ -42,7 +42,10 @@ fn advance<'a>(
     short_exit: &'a [u8],
 ) -> State
     requires { ⌜ Ready s t ⌝ }
-    ensures { λ r. ⌜ Is State (stepped s t (now (bar .entry)) (rooms (now (rows .entry)) (now (equity .entry)) (now (trades .entry))) (lists (now (entry .entry)) (now («exit» .entry)) (now («short_entry» .entry)) (now («short_exit» .entry)))) r (now (rows .exit)) (now (equity .exit)) (now (trades .exit)) ⌝ }
+    ensures { λ r. ⌜ Is State (stepped s t (now (bar .entry))
+        (rooms (now (rows .entry)) (now (equity .entry)) (now (trades .entry)))
+        (lists (now (entry .entry)) (now («exit» .entry)) (now («short_entry» .entry)) (now («short_exit» .entry))))
+        r (now (rows .exit)) (now (equity .exit)) (now (trades .exit)) ⌝ }
 {
     let n = t.counts;
     let order = t.order;
@@ -103,7 +106,10 @@ pub fn step<'a>(
     short_entry: &[u8],
     short_exit: &'a [u8],
 ) -> Answer
-    ensures { λ r. ⌜ Is Answer (stepOf s t (now (bar .entry)) (rooms (now (rows .entry)) (now (equity .entry)) (now (trades .entry))) (lists (now (entry .entry)) (now («exit» .entry)) (now («short_entry» .entry)) (now («short_exit» .entry)))) r (now (rows .exit)) (now (equity .exit)) (now (trades .exit)) ⌝ }
+    ensures { λ r. ⌜ Is Answer (stepOf s t (now (bar .entry))
+        (rooms (now (rows .entry)) (now (equity .entry)) (now (trades .entry)))
+        (lists (now (entry .entry)) (now («exit» .entry)) (now («short_entry» .entry)) (now («short_exit» .entry))))
+        r (now (rows .exit)) (now (equity .exit)) (now (trades .exit)) ⌝ }
 {
     let verdict = refusals::judge_step(
         s,
@@ -137,7 +143,8 @@ pub fn step<'a>(
 // The end of a run: an open position is closed at the last close, and the figures are made. Of the rows nothing is read:
 // they are handed over so that the state is judged by all the rooms that it counts.
 pub fn finish(s: Settings, t: State, rows: &[u64], equity: &[u64], trades: &mut [u64]) -> Finished
-    ensures { λ r. ⌜ Is Finished (finishOf s t (rooms (now (rows .entry)) (now (equity .entry)) (now (trades .entry)))) r (now (rows .entry)) (now (equity .entry)) (now (trades .exit)) ⌝ }
+    ensures { λ r. ⌜ Is Finished (finishOf s t (rooms (now (rows .entry)) (now (equity .entry)) (now (trades .entry))))
+        r (now (rows .entry)) (now (equity .entry)) (now (trades .exit)) ⌝ }
 {
     let verdict = refusals::judge_finish(s, t, rows, equity, trades);
     match verdict {

@@ -61,7 +61,8 @@ fn fill_row(row: &mut [u64], bar: &[u64], slots: usize)
 // Adds the bar's row to a room that holds `held` rows; the result is how many it holds then.
 pub(crate) fn record_bar(rows: &mut [u64], held: usize, bar: &[u64], slots: usize) -> usize
     requires { ⌜ slots ≤ 64 ⌝ }
-    ensures { λ r. ⌜ (r ≡ heldWith (now (rows .entry)) held (rowOf slots (now (bar .entry)))) × (now (rows .exit) ≡ withRow (now (rows .entry)) held (rowOf slots (now (bar .entry)))) ⌝ }
+    ensures { λ r. ⌜ (r ≡ heldWith (now (rows .entry)) held (rowOf slots (now (bar .entry))))
+        × (now (rows .exit) ≡ withRow (now (rows .entry)) held (rowOf slots (now (bar .entry)))) ⌝ }
 {
     let mut row = [0u64; MOST_WORDS];
     fill_row(&mut row, bar, slots);

@@ -2,7 +2,7 @@
 // line is words of 16 hexadecimal digits, the first a tag; so is its answer. compare/vectors/make makes the stored lines.
 mod answers;
 mod cases;
-mod words;
+mod fields;
 
 ghost use Prim.Native.Nat.{_≤_};
 use execution::Exit;
@@ -61,8 +61,8 @@ fn fill_rows(case: &[u64], rows: &mut [u64]) -> usize {
 // The portfolio, the entry bar and the extreme after an entry.
 fn write_entry(case: &[u64], rows: &[u64]) {
     let entry = answers::entry_of(case, rows);
-    let pf = words::portfolio_words(words::after_entry(entry, cases::portfolio(case, 28)));
-    let marks = words::entry_marks(entry, case);
+    let pf = fields::portfolio_words(fields::after_entry(entry, cases::portfolio(case, 28)));
+    let marks = fields::entry_marks(entry, case);
     write_words(&pf, b' ');
     write_words(&marks, b'\n');
 }
@@ -70,18 +70,18 @@ fn write_entry(case: &[u64], rows: &[u64]) {
 // The portfolio and the entry bar after an exit.
 fn write_left(exit: Exit, case: &[u64], portfolio_at: usize, entry_bar_at: usize) {
     let pf = cases::portfolio(case, portfolio_at);
-    let words = words::portfolio_words(words::after_exit(exit, pf));
+    let words = fields::portfolio_words(fields::after_exit(exit, pf));
     let flag = cases::word(case, entry_bar_at, 0);
     let bar = cases::word(case, entry_bar_at, 1);
-    let entry_bar = words::entry_bar(exit, flag, bar);
+    let entry_bar = fields::entry_bar(exit, flag, bar);
     write_words(&words, b' ');
     write_words(&entry_bar, b' ');
 }
 
 // Whether an exit closed a trade, and the trade.
 fn write_trade(exit: Exit) {
-    let flag = [words::closed_flag(exit)];
-    let trade = words::closed_words(exit);
+    let flag = [fields::closed_flag(exit)];
+    let trade = fields::closed_words(exit);
     write_words(&flag, b' ');
     write_words(&trade, b'\n');
 }
@@ -103,19 +103,19 @@ fn write_intrabar(case: &[u64]) {
 fn write_closed(closed: Closed) {
     let pf = closed.portfolio;
     let trade = closed.trade;
-    let words = words::portfolio_words(pf);
+    let words = fields::portfolio_words(pf);
     let trade_words = trade.words();
     write_words(&words, b' ');
     write_words(&trade_words, b'\n');
 }
 
 fn write_optional(value: Optional) {
-    let words = words::optional_words(value);
+    let words = fields::optional_words(value);
     write_words(&words, b'\n');
 }
 
 fn write_portfolio(pf: Portfolio) {
-    let words = words::portfolio_words(pf);
+    let words = fields::portfolio_words(pf);
     write_words(&words, b'\n');
 }
 
@@ -132,14 +132,14 @@ fn write_answer(case: &[u64], rows: &[u64]) {
         5 => write_exit(case),
         6 => write_intrabar(case),
         7 => {
-            let words = words::trigger_words(answers::trigger_of(case));
+            let words = fields::trigger_words(answers::trigger_of(case));
             write_words(&words, b'\n');
         }
         8 => write_portfolio(answers::entered_of(case)),
         9 => write_closed(answers::exited_of(case)),
         10 => write_portfolio(answers::funded_of(case)),
         11 => {
-            let words = words::state_words(case);
+            let words = fields::state_words(case);
             write_words(&words, b'\n');
         }
         12 => write_portfolio(answers::charged_of(case)),

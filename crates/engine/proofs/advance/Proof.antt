@@ -10,18 +10,32 @@ fill-working-order-requires : tie.Need-fill-working-order-requires
 fill-working-order-requires c κs = c .before .before .before .before .before .before .before .before .before .before .before .before .pre .slots
 
 record-bar-requires : tie.Need-record-bar-requires
-record-bar-requires c κs = c .before .before .before .before .before .before .before .before .before .before .before .before .before .before .before .before .before .before .before .pre .slots
+record-bar-requires c κs =
+    let sell = c .before .before .before in
+    let candle = sell .before .before .before .before .before in
+    candle .before .before .before .before .before .before .before .before .before .before .before .pre .slots
 
 decide-next-action-requires : tie.Need-decide-next-action-requires
 decide-next-action-requires c κs =
-    let pre = c .before .before .before .before .before .before .before .before .before .before .before .before .before .before .before .before .before .before .before .before .before .before .before .before .before .before .before .before .before .before .before .before .before .before .pre in
-    (pre .slots, pre .bars)
+    let stop = c .before .before .before .before .before .before .before .before in
+    let sell = stop .before .before .before .before .before .before .before .before .before .before in
+    let candle = sell .before .before .before .before .before in
+    let start = candle .before .before .before .before .before .before .before .before .before .before .before in
+    (start .pre .slots, start .pre .bars)
 
 add-seen : tie.Need-add-seen
-add-seen c = omega (arith, c .before .before .before .before .before .before .before .before .before .before .before .before .before .before .before .before .before .before .before .before .before .before .before .before .before .before .before .before .before .before .before .before .before .before .before .pre .bars)
+add-seen c =
+    let stop = c .before .before .before .before .before .before .before .before .before in
+    let sell = stop .before .before .before .before .before .before .before .before .before .before in
+    let candle = sell .before .before .before .before .before in
+    let start = candle .before .before .before .before .before .before .before .before .before .before .before in
+    omega (arith, start .pre .bars)
 
 same-length-3 : tie.Need-same-length-3
-same-length-3 c = let stop = c .before .before .before .before .before .before .before .before .before in stop .book2 .kept .0 ∙ stop .before .before .before .before .before .before .before .before .before .before .book .kept .0
+same-length-3 c =
+    let stop = c .before .before .before .before .before .before .before .before .before in
+    let sell = stop .before .before .before .before .before .before .before .before .before .before in
+    stop .book2 .kept .0 ∙ sell .book .kept .0
 
 returns : tie.Need-returns
 returns c =

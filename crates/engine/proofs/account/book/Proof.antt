@@ -1,6 +1,6 @@
 use borrow.Author.Needs.{needs}
 use borrow.Author.Tests.{le-ltb, lt-ltb}
-use Rattle.engine.specs.Account.{booked}
+use Rattle.engine.specs.Books.{booked}
 use Rattle.engine.proofs.account.book.Statement.{statement}
 use Rattle.engine.proofs.account.book.Tie as tie
 

@@ -1,11 +1,11 @@
 use borrow.Author.Needs.{needs}
 use borrow.Author.Tests.{le-ltb, lt-ltb}
-use Rattle.engine.specs.Account.{marked}
+use Rattle.engine.specs.Books.{wordsOfPoint, marked}
 use Rattle.engine.proofs.account.mark_equity.Statement.{statement}
 use Rattle.engine.proofs.account.mark_equity.Tie as tie
 
 returns : tie.Need-returns
-unfolding marked
+unfolding marked wordsOfPoint
 returns c =
     let put = c .before .before in
     let word = put .before .before .before in
@@ -15,7 +15,7 @@ returns c =
     )
 
 returns-2 : tie.Need-returns-2
-unfolding marked
+unfolding marked wordsOfPoint
 returns-2 c = (simp (le-ltb _ _ (c .if1 .left)), simp (le-ltb _ _ (c .if1 .left)))
 
 pub mark-equity-spec : {M : Type 1} → statement M

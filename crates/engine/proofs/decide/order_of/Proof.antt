@@ -26,64 +26,53 @@ leaving : (d : ℕ) (p : Portfolio) (h : History) (st : PositionState) (ls : Lis
 unfolding ordered answersOf inPosition isLong exitList held
 leaving d p h st ls leave i e = rw (e, i) (by-side d h st (ls .«exit») (ls .«short_exit») (zero ≺ p .qty))
 
+opening : (d : ℕ) (p : Portfolio) (h : History) (st : PositionState) (ls : Lists) (long short : Bool) → inPosition p ≡ false
+    → long ≡ says h st (ls .entry) → short ≡ says h st (ls .«short_entry») → openingOrder d long short ≡ ordered d p (answersOf h st ls)
+unfolding ordered answersOf
+opening d p h st ls long short i e f = rw (e, f, i)
+
 returns : tie.Need-returns
 unfolding closingOrder
 returns c =
-    let c1 = c .before in
-    let c2 = c1 .before in
-    let c3 = c2 .before in
-    let c4 = c3 .before in
-    leaving _ _ _ _ _ true (sym (c4 .in-position .ensures) ∙ c3 .if1 .taken)
-    (sym (c .if2 .taken) ∙ c1 .says .ensures ∙ ap (says _ _) (c2 .exit-list .ensures))
+    let ran = c .before in
+    let list = ran .before in
+    let test = list .before in
+    leaving _ _ _ _ _ true (sym (test .before .in-position .ensures) ∙ test .if1 .taken)
+    (sym (c .if2 .taken) ∙ ran .says .ensures ∙ ap (says _ _) (list .exit-list .ensures))
 
 returns-2 : tie.Need-returns-2
 unfolding closingOrder
 returns-2 c =
-    let c1 = c .before in
-    let c2 = c1 .before in
-    let c3 = c2 .before in
-    let c4 = c3 .before in
-    leaving _ _ _ _ _ false (sym (c4 .in-position .ensures) ∙ c3 .if1 .taken)
-    (sym (c .if2 .left) ∙ c1 .says .ensures ∙ ap (says _ _) (c2 .exit-list .ensures))
+    let ran = c .before in
+    let list = ran .before in
+    let test = list .before in
+    leaving _ _ _ _ _ false (sym (test .before .in-position .ensures) ∙ test .if1 .taken)
+    (sym (c .if2 .left) ∙ ran .says .ensures ∙ ap (says _ _) (list .exit-list .ensures))
 
 returns-3 : tie.Need-returns-3
-unfolding answersOf ordered openingOrder
+unfolding openingOrder
 returns-3 c =
-    let c1 = c .before in
-    let c2 = c1 .before in
-    let c3 = c2 .before in
-    simp (
-      sym (c1 .says2 .ensures) ∙ c .if3 .taken,
-      sym (c3 .in-position .ensures) ∙ c2 .if1 .left,
-    )
+    let long = c .before in
+    let test = long .before in
+    opening _ _ _ _ _ true _ (sym (test .before .in-position .ensures) ∙ test .if1 .left) (sym (c .if3 .taken) ∙ long .says2 .ensures) refl
 
 returns-4 : tie.Need-returns-4
-unfolding answersOf ordered openingOrder
+unfolding openingOrder
 returns-4 c =
-    let c1 = c .before in
-    let c2 = c1 .before in
-    let c3 = c2 .before in
-    let c4 = c3 .before in
-    let c5 = c4 .before in
-    simp (
-      sym (c1 .says3 .ensures) ∙ c .if4 .taken,
-      sym (c3 .says2 .ensures) ∙ c2 .if3 .left,
-      sym (c5 .in-position .ensures) ∙ c4 .if1 .left,
-    )
+    let short = c .before in
+    let told = short .before in
+    let test = told .before .before in
+    opening _ _ _ _ _ false true (sym (test .before .in-position .ensures) ∙ test .if1 .left)
+    (sym (told .if3 .left) ∙ told .before .says2 .ensures) (sym (c .if4 .taken) ∙ short .says3 .ensures)
 
 returns-5 : tie.Need-returns-5
-unfolding answersOf ordered openingOrder
+unfolding openingOrder
 returns-5 c =
-    let c1 = c .before in
-    let c2 = c1 .before in
-    let c3 = c2 .before in
-    let c4 = c3 .before in
-    let c5 = c4 .before in
-    simp (
-      sym (c1 .says3 .ensures) ∙ c .if4 .left,
-      sym (c3 .says2 .ensures) ∙ c2 .if3 .left,
-      sym (c5 .in-position .ensures) ∙ c4 .if1 .left,
-    )
+    let short = c .before in
+    let told = short .before in
+    let test = told .before .before in
+    opening _ _ _ _ _ false false (sym (test .before .in-position .ensures) ∙ test .if1 .left)
+    (sym (told .if3 .left) ∙ told .before .says2 .ensures) (sym (c .if4 .left) ∙ short .says3 .ensures)
 
 pub order-of-spec : {M : Type 1} → statement M
 order-of-spec =

@@ -3,10 +3,6 @@ use borrow.Author.Needs.{needs}
 use Rattle.engine.proofs.decide.says.Statement.{statement}
 use Rattle.engine.proofs.decide.says.Tie as tie
 
-returns : tie.Need-returns
-unfolding says
-returns c =
-    simp (c .run .ensures)
-
 pub says-spec : {M : Type 1} → statement M
-says-spec = tie.close (tie.spec (λ c κs. search needs) returns)
+unfolding says
+says-spec = tie.close (tie.spec (λ c κs. search needs) (λ c. simp (c .run .ensures)))

@@ -4,9 +4,6 @@ use Rattle.engine.specs.Finish.{endState}
 use Rattle.engine.proofs.ending.end_state.Statement.{statement}
 use Rattle.engine.proofs.ending.end_state.Tie as tie
 
-returns : tie.Need-returns
-unfolding endState
-returns c = simp (c .leaving .ensures)
-
 pub end-state-spec : {M : Type 1} → statement M
-end-state-spec = tie.close (tie.spec (λ c κs. search needs) returns)
+unfolding endState
+end-state-spec = tie.close (tie.spec (λ c κs. search needs) (λ c. cc))

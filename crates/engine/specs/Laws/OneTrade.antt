@@ -8,7 +8,7 @@ use lib.Dec.{ltb}
 use lib.Ieee as Ieee
 use lib.Ieee.{Float}
 use Rattle.floats.specs.Floats as Floats
-use Rattle.rows.specs.History.{History, historyOf}
+use Rattle.rows.specs.History.{History}
 use Rattle.portfolio.specs.declared.Candle.{Candle}
 use Rattle.portfolio.specs.declared.Closed.{Closed}
 use Rattle.portfolio.specs.declared.Portfolio.{Portfolio}
@@ -26,9 +26,9 @@ use Rattle.records.specs.declared.state.State.{State}
 use Rattle.records.specs.Bar.{candleOf}
 use Rattle.records.specs.Lent.{Lists, Rooms, tradePlaces}
 use Rattle.engine.specs.declared.account.Filled.{Filled}
-use Rattle.engine.specs.Account.{Held, leaving, entered, filled, left, booked}
+use Rattle.engine.specs.Account.{leaving, entered, filled, intrabar}
+use Rattle.engine.specs.Books.{Held, booked}
 use Rattle.engine.specs.Account as Account
-use Rattle.engine.specs.Record.{heldRows}
 use Rattle.engine.specs.Step.{stepped}
 
 never : {A : Type 0} (c : Closed) → NoExit ≡ Exited c → A
@@ -65,8 +65,8 @@ fill-flat s (EnterShort n) p k h number = either (ltb 0 n) _ _ never never
 fill-flat s (ExitOrder n) p k h number = either (ltb 0 n) _ _ never (exit-flat s p k)
 
 -- a flat position is not left inside the bar
-stays-flat : (s : Settings) (p : Position) (k : Candle) → inPosition (p .portfolio) ≡ false → left s p k .«exit» ≡ NoExit
-unfolding left applyIntrabarExits
+stays-flat : (s : Settings) (p : Position) (k : Candle) → inPosition (p .portfolio) ≡ false → intrabar s p k .«exit» ≡ NoExit
+unfolding intrabar applyIntrabarExits
 stays-flat s p k h = rw h
 
 -- a room grows by one trade at most
@@ -86,12 +86,14 @@ unfolding booked
 at-most-one room n NoExit y h = books room n y
 at-most-one room n (Exited c) y h = rw (h c refl) (books room n (Exited c))
 
+-- where the fill of a bar closed a trade, no exit inside it does
+pub one-exit : (s : Settings) (o : Order) (p : Position) (k : Candle) (h : History) (number : ℕ) (c : Closed)
+    → filled s o p k h number .«exit» ≡ Exited c → intrabar s (filled s o p k h number .position) k .«exit» ≡ NoExit
+one-exit s o p k h number c e = stays-flat s (filled s o p k h number .position) k (fill-flat s o p k h number c e)
+
+-- A step records at most one trade.
 pub one-trade : (s : Settings) (t : State) (bar : List ℕ) (m : Rooms) (ls : Lists)
     → stepped s t bar m ls .result .counts .trades ≤ t .counts .trades + 1
 unfolding stepped
 one-trade s t bar m ls =
-    let k = candleOf bar in
-    let h = historyOf (s .slots) (heldRows (s .slots) (t .counts .«rows_held») (m .rows)) in
-    let f = filled s (t .order) (t .position) k h (t .counts .«bars_seen») in
-    at-most-one (m .trades) (t .counts .trades) (f .«exit») (left s (f .position) k .«exit»)
-    (λ c e. stays-flat s (f .position) k (fill-flat s (t .order) (t .position) k h (t .counts .«bars_seen») c e))
+    at-most-one (m .trades) (t .counts .trades) _ _ (one-exit s (t .order) (t .position) (candleOf bar) _ (t .counts .«bars_seen»))

@@ -28,30 +28,30 @@ module _ (K D : ℕ) (rows : List ℕ) where
   unfolding lastRows historyOf
   older = without-first K (historyOf K rows .rows - D) rows (omega arith)
 
-  vol-near : (n : ℕ) → n < D → realizedVol (historyOf K (lastRows K D rows)) n ≡ realizedVol (historyOf K rows) n
-  vol-near n h =
+  volatility-over-last : (n : ℕ) → n < D → realizedVol (historyOf K (lastRows K D rows)) n ≡ realizedVol (historyOf K rows) n
+  volatility-over-last n h =
       same-volatility (historyOf K rows) (historyOf K (lastRows K D rows)) (historyOf K rows .rows - D) (older .count) (older .same) n
       (λ l. omega (arith, older .count))
 
-  for-near : (z : Sizing) → lookback z < D → volatilityFor z (historyOf K (lastRows K D rows)) ≡ volatilityFor z (historyOf K rows)
+  sizing-over-last : (z : Sizing) → lookback z < D → volatilityFor z (historyOf K (lastRows K D rows)) ≡ volatilityFor z (historyOf K rows)
   unfolding volatilityFor
-  for-near (VolTarget x n) h = vol-near n h
-  for-near (FixedFraction x) h = refl
-  for-near (FixedQty x) h = refl
-  for-near (FixedCash x) h = refl
-  for-near (RiskPerTrade x) h = refl
-  for-near Unknown h = refl
+  sizing-over-last (VolTarget x n) h = volatility-over-last n h
+  sizing-over-last (FixedFraction x) h = refl
+  sizing-over-last (FixedQty x) h = refl
+  sizing-over-last (FixedCash x) h = refl
+  sizing-over-last (RiskPerTrade x) h = refl
+  sizing-over-last Unknown h = refl
 
-  entry-near : (side : Side) (raw : Float) (terms : Terms) (k : Candle) (p : Portfolio) → lookback (terms .sizing) < D
+  entry-over-last : (side : Side) (raw : Float) (terms : Terms) (k : Candle) (p : Portfolio) → lookback (terms .sizing) < D
       → executeEntry side raw terms k p (historyOf K (lastRows K D rows)) ≡ executeEntry side raw terms k p (historyOf K rows)
   unfolding executeEntry
-  entry-near side raw terms k p h = rw (for-near (terms .sizing) h)
+  entry-over-last side raw terms k p h = rw (sizing-over-last (terms .sizing) h)
 
   -- a fill over the last D rows is the fill over all
-  pub fill-near : (s : Settings) (o : Order) (p : Position) (k : Candle) (number : ℕ) → lookback (s .terms .sizing) < D
+  pub fill-over-last : (s : Settings) (o : Order) (p : Position) (k : Candle) (number : ℕ) → lookback (s .terms .sizing) < D
       → filled s o p k (historyOf K (lastRows K D rows)) number ≡ filled s o p k (historyOf K rows) number
   unfolding filled entered
-  fill-near s Idle p k number h = refl
-  fill-near s (EnterLong n) p k number h = rw (entry-near _ _ (s .terms) k (p .portfolio) h)
-  fill-near s (EnterShort n) p k number h = rw (entry-near _ _ (s .terms) k (p .portfolio) h)
-  fill-near s (Exit n) p k number h = refl
+  fill-over-last s Idle p k number h = refl
+  fill-over-last s (EnterLong n) p k number h = rw (entry-over-last _ _ (s .terms) k (p .portfolio) h)
+  fill-over-last s (EnterShort n) p k number h = rw (entry-over-last _ _ (s .terms) k (p .portfolio) h)
+  fill-over-last s (Exit n) p k number h = refl

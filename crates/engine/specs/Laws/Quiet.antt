@@ -12,8 +12,9 @@ use Rattle.records.specs.declared.state.Position.{Position}
 use Rattle.records.specs.declared.settings.Settings.{Settings}
 use Rattle.records.specs.declared.state.State.{State}
 use Rattle.records.specs.Lent.{Lists, Rooms}
-use Rattle.engine.specs.Account.{leaving, filled, left, charged, booked}
-use Rattle.engine.specs.Decide.{says, stateAt, answersOf, ordered, openingOrder, decided}
+use Rattle.engine.specs.Account.{leaving, filled, intrabar, charged}
+use Rattle.engine.specs.Books.{booked}
+use Rattle.engine.specs.Decide.{says, stateAt, answersOf, ordered, openingOrder, orderAfter, decided}
 use Rattle.engine.specs.Step.{stepped}
 
 same : {A : Type 0} (b : Bool) (x : A) → cond b x x ≡ x
@@ -27,7 +28,7 @@ pub record Quiet (s : Settings) (t : State) (bar : List ℕ) (m : Rooms) (ls : L
 
 pub quiet : (s : Settings) (t : State) (bar : List ℕ) (m : Rooms) (ls : Lists)
     → t .order ≡ Idle → inPosition (t .position .portfolio) ≡ false → Quiet s t bar m ls
-unfolding stepped filled left charged booked leaving extremeWith applyIntrabarExits chargeFunding
+unfolding stepped filled intrabar charged booked leaving extremeWith applyIntrabarExits chargeFunding
 quiet s t bar m ls o f = record {
   position = simp (o, f, same);
   count = simp (o, f);
@@ -39,5 +40,5 @@ pub no-rule-no-order : (s : Settings) (p : Position) (number : ℕ) (rows : List
     → says (historyOf (s .slots) (lastRows (s .slots) (s .depth) rows)) (stateAt p number) (ls .entry) ≡ false
     → says (historyOf (s .slots) (lastRows (s .slots) (s .depth) rows)) (stateAt p number) (ls .«short_entry») ≡ false
     → decided s Idle p number rows ls ≡ Idle
-unfolding decided answersOf ordered openingOrder
+unfolding decided orderAfter answersOf ordered openingOrder
 no-rule-no-order s p number rows ls f a b = simp (f, a, b, same)

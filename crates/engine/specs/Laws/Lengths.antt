@@ -9,39 +9,39 @@ use borrow.Author.Tests.{ltb-true, leb-true, eqb-false}
 use lib.ListN.{length, take, drop, length-append, length-drop}
 use lib.Seq.{length-take-le}
 use lib.Dec.{ltb, leb, eqb}
+use Rattle.words.specs.Limits as Limits
 use Rattle.words.specs.Words.{overwrite}
+use Rattle.rows.specs.History.{width}
 use Rattle.rows.specs.Room.{placesFor, withRow, heldWith}
 use Rattle.execution.specs.declared.Exit.{Exit}
 use Rattle.execution.specs.declared.Exit.the-variants.{NoExit, Exited}
 use Rattle.portfolio.specs.declared.Candle.{Candle}
-use Rattle.floats.specs.Floats.{wordOf}
-use Rattle.portfolio.specs.Portfolio.{equity}
 use Rattle.portfolio.specs.Trade.{wordsOfTrade}
 use Rattle.records.specs.declared.state.Position.{Position}
 use Rattle.records.specs.Lent.{pointPlaces, tradePlaces}
-use Rattle.engine.specs.Account.{Held, booked, marked}
+use Rattle.engine.specs.Books.{Held, wordsOfPoint, pointOf, booked, marked}
 use Rattle.engine.specs.Record.{listed, rowWord, rowOf}
 
 -- ---- lengths
 
-pasted : (l w : List ℕ) (at : ℕ) → at + length w ≤ length l → length (take at l ++ w ++ drop (at + length w) l) ≡ length l
-pasted l w at h =
+pasted-length : (l w : List ℕ) (at : ℕ) → at + length w ≤ length l → length (take at l ++ w ++ drop (at + length w) l) ≡ length l
+pasted-length l w at h =
     let a : length (take at l) ≡ at = length-take-le at l (omega arith) in
     omega (arith, a, length-append (take at l ++ w) (drop (at + length w) l), length-append (take at l) w, length-drop (at + length w) l)
 
-pub overwrite-kept : (room : List ℕ) (at : ℕ) (words : List ℕ) → length (overwrite room at words) ≡ length room
+pub overwrite-length : (room : List ℕ) (at : ℕ) (words : List ℕ) → length (overwrite room at words) ≡ length room
 unfolding overwrite
-overwrite-kept room at words = go (leb (at + length words) (length room)) refl
+overwrite-length room at words = go (leb (at + length words) (length room)) refl
   where
     go : (b : Bool) → leb (at + length words) (length room) ≡ b
         → length (cond b (take at room ++ words ++ drop (at + length words) room) room) ≡ length room
-    go true e = pasted room words at (leb-true _ _ e)
+    go true e = pasted-length room words at (leb-true _ _ e)
     go false e = refl
 
 -- the oldest w words go, and the rest move up
-shifted : (l row : List ℕ) (end : ℕ) → length row ≤ end → end ≤ length l
+shifted-length : (l row : List ℕ) (end : ℕ) → length row ≤ end → end ≤ length l
     → length (drop (length row) (take end l) ++ row ++ drop end l) ≡ length l
-shifted l row end h k =
+shifted-length l row end h k =
     let a : length (take end l) ≡ end = length-take-le end l k in
     let b : length (drop (length row) (take end l)) ≡ end - length row = length-drop (length row) (take end l) ∙ ap (λ (n : ℕ). n - length row) a in
     omega (arith, b, length-append (drop (length row) (take end l) ++ row) (drop end l), length-append (drop (length row) (take end l)) row, length-drop end l)
@@ -51,9 +51,9 @@ module _ (room : List ℕ) (held : ℕ) (row : List ℕ) (wide : 0 < length row)
   within : (n : ℕ) → n ≤ placesFor room row → n * length row ≤ length room
   within n h = le-div-iff-mul-le {k = length row} wide .0 h
 
-  row-kept : length (withRow room held row) ≡ length room
+  row-length : length (withRow room held row) ≡ length room
   unfolding withRow
-  row-kept = go (ltb held (placesFor room row)) (eqb (placesFor room row) 0) refl refl
+  row-length = go (ltb held (placesFor room row)) (eqb (placesFor room row) 0) refl refl
     where
       go : (a b : Bool) → ltb held (placesFor room row) ≡ a → eqb (placesFor room row) 0 ≡ b
           → length (cond a (take (held * length row) room ++ row ++ drop (held * length row + length row) room)
@@ -61,13 +61,13 @@ module _ (room : List ℕ) (held : ℕ) (row : List ℕ) (wide : 0 < length row)
           ≡ length room
       go true b e d =
           let f : suc held * length row ≤ length room = within (suc held) (omega (arith, ltb-true held (placesFor room row) e)) in
-          pasted room row (held * length row) (rw (suc-mul held (length row)) at f)
+          pasted-length room row (held * length row) (rw (suc-mul held (length row)) at f)
       go false true e d = refl
       go false false e d =
           let f : placesFor room row * length row ≤ length room = within (placesFor room row) (le-refl _) in
           let p : 1 ≤ placesFor room row = omega (arith, eqb-false (placesFor room row) 0 d) in
           let g : 1 * length row ≤ placesFor room row * length row = mul-le-mul-right (length row) p in
-          shifted room row (placesFor room row * length row) (omega (arith, g)) f
+          shifted-length room row (placesFor room row * length row) (omega (arith, g)) f
 
   row-held : heldWith room held row ≤ placesFor room row
   unfolding heldWith
@@ -83,40 +83,50 @@ unfolding listed
 listed-long zero f = refl
 listed-long (suc n) f = length-append (listed n f) (f n ∷ []) ∙ omega (arith, listed-long n f)
 
-pub row-long : (K : ℕ) (bar : List ℕ) → length (rowOf K bar) ≡ 7 + K
+pub row-long : (K : ℕ) (bar : List ℕ) → length (rowOf K bar) ≡ width K
 unfolding rowOf
-row-long K bar = listed-long (7 + K) (rowWord bar)
+row-long K bar = listed-long (width K) (rowWord bar)
 
 -- a bar's row in a room
 pub row-fits : (K : ℕ) (room : List ℕ) (held : ℕ) (bar : List ℕ)
-    → (heldWith room held (rowOf K bar) ≤ length room / (7 + K)) × (length (withRow room held (rowOf K bar)) ≡ length room)
+    → (heldWith room held (rowOf K bar) ≤ length room / (width K)) × (length (withRow room held (rowOf K bar)) ≡ length room)
 row-fits K room held bar =
-    let w : length (rowOf K bar) ≡ 7 + K = row-long K bar in
-    (rw w at (row-held room held (rowOf K bar) (omega (arith, w))), row-kept room held (rowOf K bar) (omega (arith, w)))
+    let w : length (rowOf K bar) ≡ width K = row-long K bar in
+    (rw w at (row-held room held (rowOf K bar) (omega (arith, w))), row-length room held (rowOf K bar) (omega (arith, w)))
 
 -- ---- counts
 
 abbrev Fits : ℕ → Held → List ℕ → Type 0
 Fits w h room = (length (h .room) ≡ length room) × (h .count ≤ length room / w)
 
-pub booked-fits : (room : List ℕ) (n : ℕ) (x : Exit) → n ≤ tradePlaces room → Fits 8 (booked room n x) room
+pub booked-fits : (room : List ℕ) (n : ℕ) (x : Exit) → n ≤ tradePlaces room → Fits Limits.tradeWords (booked room n x) room
 unfolding booked
 booked-fits room n NoExit h = (refl, h)
 booked-fits room n (Exited c) h = go (ltb n (tradePlaces room)) refl
   where
     go : (b : Bool) → ltb n (tradePlaces room) ≡ b
-        → Fits 8 (cond b (record { count = n + 1; room = overwrite room (n * 8) (wordsOfTrade (c .trade)) }) (record { count = n; room = room })) room
-    go true e = (overwrite-kept room (n * 8) (wordsOfTrade (c .trade)), omega (arith, ltb-true n (tradePlaces room) e))
+        → Fits Limits.tradeWords
+        (cond b (record { count = n + 1; room = overwrite room (n * Limits.tradeWords) (wordsOfTrade (c .trade)) }) (record { count = n; room = room })) room
+    go true e = (overwrite-length room (n * Limits.tradeWords) (wordsOfTrade (c .trade)), omega (arith, ltb-true n (tradePlaces room) e))
     go false e = (refl, h)
 
-pub marked-fits : (room : List ℕ) (n : ℕ) (k : Candle) (p : Position) → n ≤ pointPlaces room → Fits 2 (marked room n k p) room
+-- and another after it
+pub twice-booked-fits : (room : List ℕ) (n : ℕ) (x y : Exit) → n ≤ tradePlaces room
+    → Fits Limits.tradeWords (booked (booked room n x .room) (booked room n x .count) y) room
+twice-booked-fits room n x y h =
+    let a = booked-fits room n x h in
+    let b = booked-fits (booked room n x .room) (booked room n x .count) y (rw (a .0) (a .1)) in
+    (b .0 ∙ a .0, rw (a .0) at (b .1))
+
+pub marked-fits : (room : List ℕ) (n : ℕ) (k : Candle) (p : Position) → n ≤ pointPlaces room → Fits Limits.pointWords (marked room n k p) room
 unfolding marked
 marked-fits room n k p h = go (ltb n (pointPlaces room)) refl
   where
     point : List ℕ
-    point = k .time ∷ wordOf (equity (p .portfolio) (k .close)) ∷ []
+    point = wordsOfPoint (pointOf k p)
 
     go : (b : Bool) → ltb n (pointPlaces room) ≡ b
-        → Fits 2 (cond b (record { count = n + 1; room = overwrite room (n * 2) point }) (record { count = n; room = room })) room
-    go true e = (overwrite-kept room (n * 2) point, omega (arith, ltb-true n (pointPlaces room) e))
+        → Fits Limits.pointWords
+        (cond b (record { count = n + 1; room = overwrite room (n * Limits.pointWords) point }) (record { count = n; room = room })) room
+    go true e = (overwrite-length room (n * Limits.pointWords) point, omega (arith, ltb-true n (pointPlaces room) e))
     go false e = (refl, h)

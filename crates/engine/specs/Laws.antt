@@ -1,0 +1,17 @@
+pub mod Lengths
+pub mod OneTrade
+pub mod Quiet
+pub mod Refusal
+pub mod Runs
+pub mod Counts
+pub mod FillWindow
+pub mod Window
+pub mod Meaning
+pub mod AccountStep
+pub mod BooksGrow
+pub mod Follows
+pub mod Verdicts
+pub mod NeverTen
+pub mod Alike
+pub mod TwoRuns
+pub mod Finishes

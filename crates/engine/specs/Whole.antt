@@ -1,0 +1,133 @@
+-- A run that keeps every row: what a bar does to an account, over all rows before it, and what it adds to the books.
+use Prim.Native.Nat.{ℕ, _+_}
+use mathlib.Core.List.{List, [], _∷_, _++_, flatMap}
+use Rattle.rows.specs.History.{historyOf, lastRows}
+use Rattle.rules.specs.declared.PositionState.{PositionState}
+use Rattle.portfolio.specs.declared.Trade.{Trade}
+use Rattle.portfolio.specs.Trade.{wordsOfTrade}
+use Rattle.metrics.specs.declared.Metrics.{Metrics}
+use Rattle.metrics.specs.Figures.{metricsOf}
+use Rattle.metrics.specs.Records.{equityOf, pnlsOf}
+use Rattle.records.specs.declared.settings.Settings.{Settings}
+use Rattle.records.specs.declared.state.Last.{Last}
+use Rattle.records.specs.declared.state.Order.{Order}
+use Rattle.records.specs.declared.state.Position.{Position}
+use Rattle.records.specs.declared.state.State.{State}
+use Rattle.records.specs.Bar.{candleOf}
+use Rattle.records.specs.Lent.{Lists, Rooms}
+use Rattle.records.specs.State.{freshState}
+use Rattle.engine.specs.Account.{leaving, filled, intrabar, charged}
+use Rattle.engine.specs.Books.{Point, pointOf, wordsOfPoint, tradesOf}
+use Rattle.engine.specs.Decide.{Answers, answersOf, stateAt, orderAfter}
+use Rattle.engine.specs.Finish.{lastExit}
+use Rattle.engine.specs.Record.{rowOf, heldRows}
+use Rattle.engine.specs.Rules.{Rules, rulesOf, meanings}
+
+-- ---- the account
+
+-- What a state carries on from bar to bar beside the rows and the books.
+pub record Account : Type 0 where
+  pub seen : ℕ
+  pub order : Order
+  pub position : Position
+  pub last : Last
+
+abbrev pub accountOf : State → Account
+accountOf t = record { seen = t .counts .«bars_seen»; order = t .order; position = t .position; last = t .last }
+
+-- the rows that a state counts in its room
+abbrev pub rowsHeld : Settings → State → Rooms → List ℕ
+rowsHeld s t m = heldRows (s .slots) (t .counts .«rows_held») (m .rows)
+
+-- the rows of bars, oldest first
+abbrev pub rowsOf : Settings → List (List ℕ) → List ℕ
+rowsOf s bars = flatMap (rowOf (s .slots)) bars
+
+-- the last D of rows
+abbrev pub lastOf : Settings → List ℕ → List ℕ
+lastOf s rows = lastRows (s .slots) (s .depth) rows
+
+-- ---- what the rules answer, over rows of which this bar's is the last
+
+abbrev pub Asked : Type 0
+Asked = List ℕ → PositionState → Answers
+
+-- asked of their lists, over the last D rows
+unfoldable pub byLists : Settings → Lists → Asked
+byLists s ls rows p = answersOf (historyOf (s .slots) (lastOf s rows)) p ls
+
+-- asked of what they mean, over all rows
+unfoldable pub byMeaning : Settings → Rules → Asked
+byMeaning s rs rows p = meanings (historyOf (s .slots) rows) p rs
+
+-- ---- a bar
+
+-- What a bar comes to: the account after it, its equity point, and the trades that it closes.
+pub record Taken : Type 0 where
+  pub account : Account
+  pub point : Point
+  pub trades : List Trade
+
+-- "fill the working order, record the row, intrabar exits, funding, equity at the close, decide": `rows` are those of all bars
+-- before this one
+unfoldable pub taken : Settings → Asked → Account → List ℕ → List ℕ → Taken
+taken s asked a rows bar =
+    let k = candleOf bar in
+    let f = filled s (a .order) (a .position) k (historyOf (s .slots) rows) (a .seen) in
+    let x = intrabar s (f .position) k in
+    let p = charged s (x .position) bar in
+    record {
+      account = record {
+        seen = a .seen + 1;
+        order = orderAfter s (f .order) p (a .seen) (asked (rows ++ rowOf (s .slots) bar) (stateAt p (a .seen)));
+        position = p;
+        last = record { time = k .time; close = k .close };
+      };
+      point = pointOf k p;
+      trades = tradesOf (f .«exit») ++ tradesOf (x .«exit»);
+    }
+
+-- ---- bar after bar
+
+-- What bars come to: the account after the last of them, and the points and trades of all.
+pub record Whole : Type 0 where
+  pub account : Account
+  pub points : List Point
+  pub trades : List Trade
+
+-- each bar reads the rows of every bar before it
+unfoldable pub wholeRun : Settings → Asked → Account → List ℕ → List (List ℕ) → Whole
+wholeRun s asked a rows [] = record { account = a; points = []; trades = [] }
+wholeRun s asked a rows (bar ∷ bars) =
+    let b = taken s asked a rows bar in
+    let later = wholeRun s asked (b .account) (rows ++ rowOf (s .slots) bar) bars in
+    record { account = later .account; points = b .point ∷ later .points; trades = b .trades ++ later .trades }
+
+-- from a fresh state, by what the rules of a table mean
+abbrev pub meantRun : List ℕ → Settings → List (List ℕ) → Whole
+meantRun table s bars = wholeRun s (byMeaning s (rulesOf table)) (accountOf (freshState s)) [] bars
+
+-- ---- the end
+
+-- an account as a state that holds nothing
+abbrev pub stateOf : Account → State
+stateOf a = record {
+  counts = record { «bars_seen» = a .seen; «rows_held» = 0; «equity_points» = 0; trades = 0 };
+  order = a .order;
+  position = a .position;
+  last = a .last;
+}
+
+-- "Finish closes an open position, if a bar was seen, at the last close with a taker fee, reason end."
+unfoldable pub wholeEnd : Settings → Whole → Whole
+wholeEnd s w =
+    let x = lastExit s (stateOf (w .account)) in
+    let a = w .account in
+    record {
+      account = record { seen = a .seen; order = a .order; position = leaving (a .position) x; last = a .last };
+      points = w .points;
+      trades = w .trades ++ tradesOf x;
+    }
+
+unfoldable pub wholeMetrics : Settings → Whole → Metrics
+wholeMetrics s w = metricsOf (s .capital) (equityOf (flatMap wordsOfPoint (w .points))) (pnlsOf (flatMap wordsOfTrade (w .trades)))
