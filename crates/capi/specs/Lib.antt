@@ -5,3 +5,4 @@ pub mod Fresh
 pub mod Bars
 pub mod Finish
 pub mod Figures
+pub mod Laws

@@ -1,0 +1,119 @@
+-- The calls that begin a run, step over a bar, end a run and give the metrics: each of their refusals has a number, so of each the law
+-- over calls holds.
+use Prim.Native.Nat.{ℕ, _≤_}
+use mathlib.Core.Path.{_≡_, refl}
+use mathlib.Core.Bool.{Bool, true, false, cond}
+use mathlib.Core.List.{List, _++_}
+use native.Mathlib.Omega.{arith}
+use lib.Ieee.{Float}
+use Rattle.words.specs.declared.refusal.Refusal.{Refusal}
+use Rattle.words.specs.Outcome.{Outcome, gives, refuses}
+use Rattle.metrics.specs.declared.Metrics.{Metrics}
+use Rattle.metrics.specs.Records.{whole}
+use Rattle.metrics.specs.Figures.{notWhole, computed}
+use Rattle.records.specs.declared.state.State.{State}
+use Rattle.records.specs.Lent.{Rooms, Lists}
+use Rattle.records.specs.Settings.{settingsOf}
+use Rattle.records.specs.StateWords.{stateOf}
+use Rattle.refusals.specs.declared.verdict.Verdict.{Verdict}
+use Rattle.refusals.specs.declared.verdict.Verdict.the-variants.{Fine, Bad}
+use Rattle.refusals.specs.Lines.{Line, judged}
+use Rattle.refusals.specs.Rooms.{roomLines}
+use Rattle.refusals.specs.Judgement.{stepLines, stepJudged, finishLines, finishJudged}
+use Rattle.refusals.specs.Laws.Numbers.{numbered, number-within, step-numbered, finish-numbered}
+use Rattle.engine.specs.declared.Answer.{Answer}
+use Rattle.engine.specs.declared.Answer.the-variants.{Refused, Done}
+use Rattle.engine.specs.declared.ending.Ended.{Ended}
+use Rattle.engine.specs.declared.Finished.{Finished}
+use Rattle.engine.specs.declared.Finished.the-variants.{Refused as NotEnded, Done as AtEnd}
+use Rattle.engine.specs.Step.{With, stepOf}
+use Rattle.engine.specs.Finish.{ended, concluded, finishOf}
+use Rattle.engine.specs.Laws.Refusal.{refusal-changes-nothing}
+use Rattle.capi.specs.Call.{callOf, unlessBad, wordLines, metricLines}
+use Rattle.capi.specs.Bars.{StepLent, lentLines, stepGives}
+use Rattle.capi.specs.Finish.{FinishLent, finishGives}
+use Rattle.capi.specs.Figures.{metricsGives}
+use Rattle.capi.specs.Laws.Calls.{Small, Numbered, Honest, honest, never-refuses, one-refusal, after-verdict}
+
+-- lines that have the paper's numbers
+lines-small : (ls : List Line) → numbered ls ≡ true → (r : Refusal) → judged ls ≡ Bad r → Small r
+lines-small ls n r e = let w = number-within ls r n e in (omega (arith, w .0), omega (arith, w .1))
+
+lent-numbered : (settings state rows : List ℕ) → numbered (lentLines settings state rows) ≡ true
+unfolding numbered lentLines roomLines wordLines
+lent-numbered settings state rows = refl
+
+-- ---- ysh_fresh
+
+pub fresh-honest : (settings state after : List ℕ) → Honest (unlessBad (judged (wordLines settings state)) (gives after)) state
+unfolding numbered wordLines
+fresh-honest settings state after =
+    honest _ state (after-verdict _ _ (lines-small (wordLines settings state) refl) (never-refuses after))
+
+-- ---- ysh_step
+
+step-by : (answer : Answer) (state : List ℕ) (m : Rooms) → ((r : Refusal) (u : State) → answer ≡ Refused r u → Small r)
+    → Numbered (stepGives answer state m)
+unfolding stepGives
+step-by (Refused r u) state m s = one-refusal r (s r u refl)
+step-by (Done next) state m s = never-refuses _
+
+pub step-honest : (settings state bar : List ℕ) (m : Rooms) (ls : Lists) →
+    (let d = stepOf (settingsOf settings) (stateOf state) bar m ls in
+    Honest (unlessBad (judged (lentLines settings state (m .rows))) (stepGives (d .result) state (d .rooms))) (record { state = state; rooms = m }))
+unfolding stepJudged
+step-honest settings state bar m ls =
+    let s = settingsOf settings in
+    let t = stateOf state in
+    honest _ _
+    (after-verdict _ _ (lines-small (lentLines settings state (m .rows)) (lent-numbered settings state (m .rows)))
+    (step-by (stepOf s t bar m ls .result) state _
+    (λ r u e. lines-small (stepLines s t bar m ls) (step-numbered s t bar m ls) r (refusal-changes-nothing s t bar m ls r u e .0))))
+
+-- ---- ysh_finish
+
+finish-by : (finished : Finished) (state trades metrics : List ℕ) → ((r : Refusal) (u : State) → finished ≡ NotEnded r u → Small r)
+    → Numbered (finishGives finished state trades metrics)
+unfolding finishGives
+finish-by (NotEnded r u) state trades metrics s = one-refusal r (s r u refl)
+finish-by (AtEnd next figures) state trades metrics s = never-refuses _
+
+finish-said : (v : Verdict) (t : State) (m : Rooms) (done : With Ended) (r : Refusal) (u : State) → concluded v t m done .result ≡ NotEnded r u → v ≡ Bad r
+unfolding concluded
+finish-said (Bad why) t m done r u e = cc
+finish-said Fine t m done r u e = absurd (let z : _≡_ {A = ℕ} 0 1 = cc in omega arith)
+
+finish-lines : (settings state rows metrics : List ℕ) → numbered (lentLines settings state rows ++ metricLines metrics) ≡ true
+unfolding numbered lentLines roomLines wordLines metricLines
+finish-lines settings state rows metrics = refl
+
+pub finish-honest : (settings state : List ℕ) (m : Rooms) (metrics : List ℕ) →
+    (let d = finishOf (settingsOf settings) (stateOf state) m in
+    Honest (unlessBad (judged (lentLines settings state (m .rows) ++ metricLines metrics)) (finishGives (d .result) state (d .rooms .trades) metrics))
+    (record { state = state; trades = m .trades; metrics = metrics }))
+unfolding finishOf finishJudged
+finish-honest settings state m metrics =
+    let s = settingsOf settings in
+    let t = stateOf state in
+    honest _ _
+    (after-verdict _ _ (lines-small _ (finish-lines settings state (m .rows) metrics))
+    (finish-by (finishOf s t m .result) state _ metrics
+    (λ r u e. lines-small (finishLines s t m) (finish-numbered s t m) r (finish-said (finishJudged s t m) t m (ended s t m) r u e))))
+
+-- ---- ysh_metrics
+
+metrics-by : (o : Outcome Metrics) (room : List ℕ) → ((r : Refusal) → o ≡ refuses r → Small r) → Numbered (metricsGives o room)
+unfolding metricsGives
+metrics-by (refuses why) room s = one-refusal why (s why refl)
+metrics-by (gives m) room s = never-refuses _
+
+computed-small : (b : Bool) (m : Metrics) (r : Refusal) → cond b (gives m) (refuses notWhole) ≡ refuses r → Small r
+computed-small true m r e = absurd (let z : _≡_ {A = ℕ} 0 1 = cc in omega arith)
+computed-small false m r e = let same : 13 ≡ r .number = cc in (omega arith, omega arith)
+
+pub metrics-honest : (initial : Float) (equity trades room : List ℕ)
+    → Honest (unlessBad (judged (metricLines room)) (metricsGives (computed initial equity trades) room)) room
+unfolding numbered metricLines computed
+metrics-honest initial equity trades room =
+    honest _ room
+    (after-verdict _ _ (lines-small (metricLines room) refl) (metrics-by (computed initial equity trades) room (computed-small (whole equity trades) _)))

@@ -1,0 +1,201 @@
+-- The calls over a table, and over rows and lists of steps: each of their refusals has a number, so of each the law over calls holds.
+use Prim.Native.Nat.{ℕ, _+_, _*_, _<_, _≤_}
+use mathlib.Core.Path.{_≡_, refl}
+use mathlib.Core.Bool.{Bool, true, false, cond, not, _&&_}
+use mathlib.Core.List.{List}
+use native.Mathlib.Omega.{arith}
+use lib.Dec.{eqb, ltb, leb}
+use lib.ListN.{length}
+use borrow.Author.Tests.{eqb-false}
+use Rattle.words.specs.declared.refusal.Refusal.{Refusal}
+use Rattle.words.specs.Limits.{mostReach, trees}
+use Rattle.words.specs.Outcome.{Outcome, refusal}
+use Rattle.rows.specs.History.{wholeRows}
+use Rattle.table.specs.declared.answer.Answer.{Answer}
+use Rattle.table.specs.declared.answer.Answer.the-variants.{Accepted, Refused}
+use Rattle.table.specs.declared.places.Place.{Place}
+use Rattle.table.specs.declared.places.Place.the-variants.{At, Nowhere}
+use Rattle.table.specs.declared.silent.SilentAnswer.the-variants.{Lists, Refuses as SilentRefuses}
+use Rattle.table.specs.declared.depth.DepthAnswer.the-variants.{Needs, Refuses as DepthRefuses}
+use Rattle.table.specs.declared.trees.Tree.{Tree}
+use Rattle.table.specs.declared.trees.Tree.the-variants.{Entry, Exit, ShortEntry, ShortExit}
+use Rattle.table.specs.Header.{markRight, version, countsRight, total, headerRefusal, slots, treeNumber}
+use Rattle.table.specs.Checked.{orRefused, orHeader, from7, from8, from9, checked}
+use Rattle.table.specs.Depth.{depthAnswer}
+use Rattle.table.specs.Silent.{silentTests, silentAnswer, listAfter}
+use Rattle.rules.specs.declared.PositionState.{PositionState}
+use Rattle.rules.specs.declared.RuleAnswer.the-variants.{Says, Refuses as RuleRefuses}
+use Rattle.rules.specs.Answers.{stateRight, afterCheck, judged, answered}
+use Rattle.steps.specs.declared.Formed.{Formed}
+use Rattle.steps.specs.declared.Formed.the-variants.{Well, Bad}
+use Rattle.steps.specs.declared.Ran.{Ran}
+use Rattle.steps.specs.declared.RunAnswer.the-variants.{Runs, Refuses as RunRefuses}
+use Rattle.steps.specs.declared.Translated.the-variants.{Writes, Refuses}
+use Rattle.steps.specs.Running.{ranIf, runs}
+use Rattle.steps.specs.Translating.{roomFor, writesOr, afterTable, translates}
+use Rattle.capi.specs.Tables.{treeOf, CheckLent, checkGives, DepthLent, depthGives, SilentLent, silentGives, TranslateLent, translateGives, translateOutcome}
+use Rattle.capi.specs.Run.{ruleGives, RunLent, runGives}
+use Rattle.capi.specs.Laws.Calls.{Small, Numbered, Honest, honest, one-refusal, never-refuses}
+
+-- ---- the numbers of a table's refusals
+
+five : (a b c d e : Bool) → cond a 1 (cond b 2 (cond c 3 (cond d 4 (cond e 5 0)))) ≤ 9
+five true b c d e = omega arith
+five false true c d e = omega arith
+five false false true d e = omega arith
+five false false false true e = omega arith
+five false false false false true = omega arith
+five false false false false false = omega arith
+
+header-number : (t : List ℕ) → headerRefusal t ≤ 9
+unfolding headerRefusal
+header-number t =
+    five (ltb (length t) 16) (not (markRight t)) (not (eqb (version t) 1)) (not (countsRight t)) (not (eqb (length t) (16 + 16 * total t)))
+
+-- a rule of the table that is broken, or what the rules below it say
+rule-number : (n : ℕ) (q : Place) (a : Answer) (why : Refusal) → 0 < n → n ≤ 9 → (a ≡ Refused why → Small why) → orRefused n q a ≡ Refused why
+    → Small why
+unfolding orRefused
+rule-number n Nowhere a why lo hi below e = below e
+rule-number n (At p) a why lo hi below e = let same : n ≡ why .number = cc in (omega arith, omega arith)
+
+header-or : (n : ℕ) (a : Answer) (why : Refusal) → n ≤ 9 → (a ≡ Refused why → Small why) → orHeader n a ≡ Refused why → Small why
+unfolding orHeader
+header-or n a why hi below e = go (eqb n 0) refl e
+  where
+    go : (b : Bool) → eqb n 0 ≡ b → cond b a (Refused (refusal n 0)) ≡ Refused why → Small why
+    go true d f = below f
+    go false d f = let same : n ≡ why .number = cc in (omega (arith, eqb-false n 0 d), omega arith)
+
+accepted-not : (n r : ℕ) (why : Refusal) → Accepted n r ≡ Refused why → Small why
+accepted-not n r why e = absurd (let z : _≡_ {A = ℕ} 0 1 = cc in omega arith)
+
+-- "1 to 9 come first"
+pub table-number : (t : List ℕ) (why : Refusal) → checked t ≡ Refused why → Small why
+unfolding checked from7 from8 from9
+table-number t why =
+    header-or (headerRefusal t) _ why (header-number t)
+    (rule-number 6 _ _ why (omega arith) (omega arith)
+    (rule-number 7 _ _ why (omega arith) (omega arith)
+    (rule-number 8 _ _ why (omega arith) (omega arith) (rule-number 9 _ _ why (omega arith) (omega arith) (accepted-not _ _ why)))))
+
+-- what a call goes by: its answer to a table
+abbrev ByTable : Answer → Type 0
+ByTable a = (why : Refusal) → a ≡ Refused why → Small why
+
+-- ---- ysh_check
+
+check-numbered : (a : Answer) → ByTable a → Numbered (checkGives a)
+unfolding checkGives
+check-numbered (Refused why) s = one-refusal why (s why refl)
+check-numbered (Accepted n r) s = never-refuses _
+
+pub check-honest : (t : List ℕ) (before : CheckLent) → Honest (checkGives (checked t)) before
+check-honest t before = honest _ before (check-numbered (checked t) (table-number t))
+
+-- ---- ysh_depth
+
+depth-by : (b : Bool) (rows row window : ℕ) → Numbered (depthGives (cond b (DepthRefuses (refusal 12 7)) (Needs rows row window)))
+unfolding depthGives
+depth-by true rows row window = one-refusal _ (omega arith, omega arith)
+depth-by false rows row window = never-refuses _
+
+depth-numbered : (a : Answer) (t : List ℕ) (back : ℕ) → ByTable a → Numbered (depthGives (depthAnswer a t back))
+unfolding depthGives depthAnswer
+depth-numbered (Refused why) t back s = one-refusal why (s why refl)
+depth-numbered (Accepted n r) t back s = depth-by (ltb mostReach back) _ _ _
+
+pub depth-honest : (t : List ℕ) (back : ℕ) (before : DepthLent) → Honest (depthGives (depthAnswer (checked t) t back)) before
+depth-honest t back before = honest _ before (depth-numbered (checked t) t back (table-number t))
+
+-- ---- ysh_silent
+
+silent-by : (b : Bool) (many : ℕ) (list : List ℕ) → Numbered (silentGives (cond b (SilentRefuses (refusal 10 18)) (Lists many)) list)
+unfolding silentGives
+silent-by true many list = one-refusal _ (omega arith, omega arith)
+silent-by false many list = never-refuses _
+
+silent-numbered : (a : Answer) (numbers : List ℕ) (places : ℕ) (list : List ℕ) → ByTable a → Numbered (silentGives (silentAnswer a numbers places) list)
+unfolding silentGives silentAnswer
+silent-numbered (Refused why) numbers places list s = one-refusal why (s why refl)
+silent-numbered (Accepted n r) numbers places list s = silent-by (ltb places (length numbers)) (length numbers) list
+
+pub silent-honest : (t : List ℕ) (rows : ℕ) (before : SilentLent) →
+    (let answer = silentAnswer (checked t) (silentTests t rows) (length (before .list)) in
+    Honest (silentGives answer (listAfter answer (silentTests t rows) (before .list))) before)
+silent-honest t rows before = honest _ before (silent-numbered (checked t) (silentTests t rows) (length (before .list)) _ (table-number t))
+
+-- ---- ysh_translate
+
+translate-by : (b : Bool) (x count : ℕ) (room : List ℕ) → x ≤ 3
+    → Numbered (translateGives (cond b (Refuses (refusal 10 (3 + x))) (Writes count)) room)
+unfolding translateGives
+translate-by true x count room h = one-refusal _ (omega arith, omega arith)
+translate-by false x count room h = never-refuses _
+
+translate-numbered : (a : Answer) (t : List ℕ) (x : ℕ) (lent after : List ℕ) → x ≤ 3 → ByTable a
+    → Numbered (translateGives (afterTable a (writesOr t x lent)) after)
+unfolding translateGives afterTable writesOr
+translate-numbered (Refused why) t x lent after h s = one-refusal why (s why refl)
+translate-numbered (Accepted n r) t x lent after h s = translate-by (ltb (length lent) (roomFor t x)) x _ after h
+
+absent-numbered : (a : Answer) (room : List ℕ) → ByTable a → Numbered (translateGives (afterTable a (Writes 0)) room)
+unfolding translateGives afterTable
+absent-numbered (Refused why) room s = one-refusal why (s why refl)
+absent-numbered (Accepted n r) room s = never-refuses _
+
+tree-number : (tree : Tree) → treeNumber tree ≤ 3
+tree-number Entry = omega arith
+tree-number Exit = omega arith
+tree-number ShortEntry = omega arith
+tree-number ShortExit = omega arith
+
+either-numbered : {A : Type 0} (b : Bool) (x y : Outcome A) → Numbered x → Numbered y → Numbered (cond b x y)
+either-numbered true x y n m = n
+either-numbered false x y n m = m
+
+pub translate-honest : (t : List ℕ) (tree : ℕ) (before : TranslateLent) → Honest (translateOutcome t tree (before .room)) before
+unfolding translateOutcome translates
+translate-honest t tree before =
+    honest _ before
+    (either-numbered (leb trees tree) _ _ (absent-numbered (checked t) (before .room) (table-number t))
+    (translate-numbered (checked t) t _ (before .room) _ (tree-number (treeOf tree)) (table-number t)))
+
+-- ---- ysh_rule
+
+rule-by : (b said : Bool) (tree : ℕ) → Numbered (ruleGives (cond b (Says said) (RuleRefuses (refusal 13 0))) tree)
+unfolding ruleGives
+rule-by true said tree = never-refuses _
+rule-by false said tree = one-refusal _ (omega arith, omega arith)
+
+rule-numbered : (a : Answer) (t : List ℕ) (x : ℕ) (rows : List ℕ) (s : PositionState) (tree : ℕ) → ByTable a
+    → Numbered (ruleGives (afterCheck a (judged t x rows s)) tree)
+unfolding ruleGives afterCheck judged
+rule-numbered (Refused why) t x rows s tree n = one-refusal why (n why refl)
+rule-numbered (Accepted n r) t x rows s tree m = rule-by (wholeRows (slots t) rows && stateRight s) _ tree
+
+pub rule-honest : (t : List ℕ) (tree : ℕ) (rows : List ℕ) (s : PositionState) (before : ℕ)
+    → Honest (ruleGives (answered t (treeOf tree) rows s) tree) before
+unfolding answered
+rule-honest t tree rows s before = honest _ before (rule-numbered (checked t) t _ rows s tree (table-number t))
+
+-- ---- ysh_run
+
+run-formed : (f : Formed) (r : Ran) → Numbered (runGives (ranIf f r))
+unfolding runGives ranIf
+run-formed Well r = never-refuses _
+run-formed (Bad p) r = one-refusal _ (omega arith, omega arith)
+
+run-by : (b c d e : Bool) (f : Formed) (r : Ran)
+    → Numbered (runGives (cond b (RunRefuses (refusal 12 0)) (cond c (RunRefuses (refusal 12 1)) (cond d (RunRefuses (refusal 12 1))
+    (cond e (ranIf f r) (RunRefuses (refusal 13 0)))))))
+unfolding runGives
+run-by true c d e f r = one-refusal _ (omega arith, omega arith)
+run-by false true d e f r = one-refusal _ (omega arith, omega arith)
+run-by false false true e f r = one-refusal _ (omega arith, omega arith)
+run-by false false false true f r = run-formed f r
+run-by false false false false f r = one-refusal _ (omega arith, omega arith)
+
+pub run-honest : (list rows : List ℕ) (K D : ℕ) (s : PositionState) (before : RunLent) → Honest (runGives (runs list rows K D s)) before
+unfolding runs
+run-honest list rows K D s before = honest _ before (run-by (ltb 64 K) (ltb D 1) (ltb 4096 D) (wholeRows K rows && stateRight s) _ _)
