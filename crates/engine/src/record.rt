@@ -25,7 +25,7 @@ pub(crate) fn held_rows(rows: &[u64], slots: usize, held: usize) -> &[u64]
     requires { ⌜ slots ≤ 64 ⌝ }
     ensures { λ r. ⌜ now r ≡ heldRows slots held (now (rows .entry)) ⌝ }
 {
-    first_records(rows, held, rows::FIXED + slots)
+    first_records(rows, held, words::limits::ROW_FIXED + slots)
 }
 
 // Word j of the row of a bar.
@@ -34,11 +34,11 @@ fn row_word(bar: &[u64], j: usize) -> u64
     ensures { λ r. ⌜ r ≡ rowWord (now (bar .entry)) j ⌝ }
 {
     let word = words::word_from(bar, 0, j);
-    if j < rows::FIXED {
+    if j < words::limits::ROW_FIXED {
         return word;
     }
     let mask = words::word_from(bar, 0, rows::MASK);
-    let slot = j - rows::FIXED;
+    let slot = j - words::limits::ROW_FIXED;
     if (mask >> slot) % 2 == 1 {
         return word;
     }
@@ -50,7 +50,7 @@ fn fill_row(row: &mut [u64], bar: &[u64], slots: usize)
     requires { ⌜ (slots ≤ 64) × (length (now row) ≡ 71) ⌝ }
     ensures { λ _. ⌜ (length (now (row .exit)) ≡ 71) × (take (7 + slots) (now (row .exit)) ≡ rowOf slots (now (bar .entry))) ⌝ }
 {
-    let width = rows::FIXED + slots;
+    let width = words::limits::ROW_FIXED + slots;
     let mut j: usize = 0;
     while j < width {
         row[j] = row_word(bar, j);
@@ -66,6 +66,6 @@ pub(crate) fn record_bar(rows: &mut [u64], held: usize, bar: &[u64], slots: usiz
 {
     let mut row = [0u64; MOST_WORDS];
     fill_row(&mut row, bar, slots);
-    let width = rows::FIXED + slots;
+    let width = words::limits::ROW_FIXED + slots;
     rows::room::push(rows, held, &row[..width])
 }

@@ -25,7 +25,7 @@ fn close_at(rows: &[u64], slots: usize, i: usize) -> f64
     requires { ⌜ i < historyOf slots (now rows) .rows ⌝ }
     ensures { λ r. ⌜ r ≡ closeAt (historyOf slots (now (rows .entry))) i ⌝ }
 {
-    let base = i * (rows::FIXED + slots);
+    let base = i * (words::limits::ROW_FIXED + slots);
     floats::float_of(words::word_from(rows, base, rows::CLOSE))
 }
 

@@ -49,13 +49,13 @@ fn closes(case: &[u64], most: usize) -> usize
 // Puts each close of a case into its row, and says how many words the rows have.
 fn fill_rows(case: &[u64], rows: &mut [u64]) -> usize {
     let first = closes_at(case) + 1;
-    let n = closes(case, rows.len() / rows::FIXED);
+    let n = closes(case, rows.len() / words::limits::ROW_FIXED);
     let mut i = 0;
     while i < n {
-        rows[rows::FIXED * i + rows::CLOSE] = cases::word(case, first, i);
+        rows[words::limits::ROW_FIXED * i + rows::CLOSE] = cases::word(case, first, i);
         i += 1;
     }
-    rows::FIXED * n
+    words::limits::ROW_FIXED * n
 }
 
 // The portfolio, the entry bar and the extreme after an entry.

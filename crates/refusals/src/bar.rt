@@ -15,7 +15,7 @@ fn slot_fine(bar: &[u64], slots: usize, left: u64, k: usize) -> bool
 {
     if left % 2 == 1 {
         if k < slots {
-            return floats::word_is_finite(words::word_from(bar, rows::FIXED, k));
+            return floats::word_is_finite(words::word_from(bar, words::limits::ROW_FIXED, k));
         }
         return false;
     }

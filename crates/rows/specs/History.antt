@@ -5,6 +5,7 @@ use mathlib.Core.List.{List}
 use lib.ListN.{length, getD, drop}
 use lib.Dec.{eqb}
 use lib.Ieee.{Float}
+use Rattle.words.specs.Limits.{rowWords}
 use Rattle.floats.specs.Floats.{floatOf}
 
 -- How many rows there are, and word j of row i. Row 0 is the oldest.
@@ -15,7 +16,7 @@ pub record History : Type 0 where
 -- "A row is the bar's six words, the presence mask and K slots": word 0 is the time, 1 to 5 open, high, low, close and
 -- volume, 6 the mask, 7 + k slot k.
 abbrev pub width : ℕ → ℕ
-width K = 7 + K
+width K = rowWords K
 
 -- The rows that stand one after another in a list of words. A part of a row at the end is no row.
 unfoldable pub historyOf : ℕ → List ℕ → History

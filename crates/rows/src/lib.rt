@@ -4,9 +4,7 @@ pub mod room;
 
 ghost use mathlib.Core.Path.{_≡_};
 ghost use Rattle.rows.specs.History.{historyOf, wholeRows, lastRows};
-
-// The words of a row before its slots.
-pub const FIXED: usize = 7;
+use words::limits::ROW_FIXED;
 
 // Where a row has its words.
 pub const OPEN: usize = 1;
@@ -29,7 +27,7 @@ pub fn row_count(rows: &[u64], slots: usize) -> usize
     if n < slots {
         return 0;
     }
-    n / (FIXED + slots)
+    n / (ROW_FIXED + slots)
 }
 
 // Whether the words are whole rows, with no part of one at the end.
@@ -40,7 +38,7 @@ pub fn are_whole(rows: &[u64], slots: usize) -> bool
     if n < slots {
         return n == 0;
     }
-    n % (FIXED + slots) == 0
+    n % (ROW_FIXED + slots) == 0
 }
 
 // The window: the end part of the rows, the last `depth` of them, or all where there are fewer.
@@ -51,6 +49,6 @@ pub fn window(rows: &[u64], slots: usize, depth: usize) -> &[u64]
     if held <= depth {
         return rows;
     }
-    let first = (held - depth) * (FIXED + slots);
+    let first = (held - depth) * (ROW_FIXED + slots);
     &rows[first..]
 }

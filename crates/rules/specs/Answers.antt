@@ -3,6 +3,7 @@ use Prim.Native.Nat.{ℕ}
 use mathlib.Core.Bool.{Bool, true, cond, _&&_}
 use mathlib.Core.List.{List}
 use lib.Dec.{ltb, leb}
+use Rattle.words.specs.Limits.{mostCount}
 use Rattle.words.specs.Outcome.{refusal}
 use Rattle.rows.specs.History.{historyOf, wholeRows}
 use Rattle.table.specs.declared.answer.Answer.{Answer}
@@ -24,7 +25,7 @@ entryBelow seen Never = true
 entryBelow seen (Bar bar) = ltb bar seen
 
 unfoldable pub stateRight : PositionState → Bool
-stateRight s = leb (s .«bars_seen») 4294967295 && entryBelow (s .«bars_seen») (s .entered)
+stateRight s = leb (s .«bars_seen») mostCount && entryBelow (s .«bars_seen») (s .entered)
 
 -- "13: .. a row .. list is not whole records" comes to the same number and place. Else the rule's answer; an absent tree
 -- reads as Any of none, and so says no.

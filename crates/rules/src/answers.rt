@@ -6,6 +6,8 @@ use super::conditions::eval_condition;
 use table::answer::Answer;
 use table::trees::Tree;
 use table::trees::tree_number;
+use words::limits::MOST_COUNT;
+use words::limits::MOST_NESTING;
 use words::refusal::Refusal;
 ghost use mathlib.Core.Path.{_≡_};
 ghost use mathlib.Core.Bool.{cond, false};
@@ -17,17 +19,11 @@ ghost use Rattle.rules.specs.Meaning.{says};
 ghost use Rattle.rules.specs.Flat.{conditionAt};
 ghost use Rattle.rules.specs.Answers.{stateRight, answered};
 
-// "nesting above 32" is refused.
-const NESTING: usize = 32;
-
-// The most bars that can have been seen.
-const MOST_BARS: u64 = 4_294_967_295;
-
 // Whether the counts of a position state are in order.
 pub fn state_right(s: PositionState) -> bool
     ensures { λ r. ⌜ r ≡ stateRight s ⌝ }
 {
-    if s.bars_seen > MOST_BARS {
+    if s.bars_seen > MOST_COUNT {
         return false;
     }
     let entered = s.entered;
@@ -59,7 +55,16 @@ fn eval_tree(t: &[u8], ends: &[usize; 256], tree: u8, rows: &[u64], s: PositionS
     }
     let slots = table::header::slots(t) as usize;
     let root = table::header::root(t, tree);
-    eval_condition(t, ends, rows, slots, s, root, newest(rows, slots), NESTING)
+    eval_condition(
+        t,
+        ends,
+        rows,
+        slots,
+        s,
+        root,
+        newest(rows, slots),
+        MOST_NESTING,
+    )
 }
 
 // The answer of one tree of a table over rows: at the newest bar, with the position as it is.

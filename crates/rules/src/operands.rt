@@ -16,7 +16,7 @@ fn price_of_bar(rows: &[u64], slots: usize, bar: usize, selector: u8) -> f64
     requires { ⌜ bar < historyOf slots (now rows) .rows ⌝ }
     ensures { λ r. ⌜ r ≡ priceOf (historyOf slots (now (rows .entry)) .word bar) selector ⌝ }
 {
-    values::price_at(rows, bar * (rows::FIXED + slots), selector)
+    values::price_at(rows, bar * (words::limits::ROW_FIXED + slots), selector)
 }
 
 // A slot of the row of a bar that is there.
@@ -24,7 +24,7 @@ fn slot_of_bar(rows: &[u64], slots: usize, bar: usize, slot: u64) -> Value
     requires { ⌜ bar < historyOf slots (now rows) .rows ⌝ }
     ensures { λ r. ⌜ r ≡ slotOf (historyOf slots (now (rows .entry)) .word bar) slot ⌝ }
 {
-    values::slot_at(rows, bar * (rows::FIXED + slots), slot)
+    values::slot_at(rows, bar * (words::limits::ROW_FIXED + slots), slot)
 }
 
 // The operand at node i, at bar `bar`.

@@ -43,7 +43,7 @@ pub fn slot_at(rows: &[u64], base: usize, slot: u64) -> Value
         return Value::Missing;
     }
     if (mask >> slot) % 2 == 1 {
-        Value::Number(field_at(rows, base, rows::FIXED + slot as usize))
+        Value::Number(field_at(rows, base, words::limits::ROW_FIXED + slot as usize))
     } else {
         Value::Missing
     }

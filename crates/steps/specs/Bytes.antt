@@ -5,6 +5,7 @@ use mathlib.Core.Bool.{cond}
 use mathlib.Core.List.{List, [], _∷_, _++_}
 use lib.ListN.{length, getD, set}
 use lib.Dec.{ltb, eqb}
+use Rattle.words.specs.Limits.{mostSteps}
 use Rattle.table.specs.Named as Named
 use Rattle.table.specs.Bytes.{u16, u32, u64}
 use Rattle.steps.specs.declared.Step.{Step}
@@ -69,9 +70,6 @@ opsFrom bs p zero = []
 opsFrom bs p (suc m) = opOf (stepAt bs p) ∷ opsFrom bs (p + 1) m
 
 -- "A list is well formed when it is whole steps, at most 1,024". Decided: of a longer one, which no run takes (15), no more count.
-abbrev pub mostSteps : ℕ
-mostSteps = 1024
-
 unfoldable pub stepsRun : List ℕ → ℕ
 stepsRun bs = min mostSteps (stepsIn bs)
 

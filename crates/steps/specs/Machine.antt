@@ -13,7 +13,8 @@ use Rattle.rules.specs.Values.{both, compared, crossed, within}
 use Rattle.rules.specs.Meaning.{value, holds, newest}
 use Rattle.steps.specs.declared.Ran.{Ran}
 use Rattle.steps.specs.declared.Op.{Op}
-use Rattle.steps.specs.declared.Op.the-variants.{Const, Ref, Price, Arith, Compare, Cross, Between, Answer, Turn, InPosition, BarsSinceEntry, JumpIf, Unknown}
+use Rattle.steps.specs.declared.Op.the-variants.{Const, Ref, Price, Arith, Compare, Cross, Between, Answer, Turn, InPosition, BarsSinceEntry}
+use Rattle.steps.specs.declared.Op.the-variants.{JumpIf, Unknown}
 
 -- ---- the values so far
 

@@ -3,6 +3,7 @@ use Prim.Native.Nat.{ℕ}
 use mathlib.Core.Bool.{cond, _&&_}
 use mathlib.Core.List.{List}
 use lib.Dec.{ltb}
+use Rattle.words.specs.Limits.{mostSlots, mostRows}
 use Rattle.words.specs.Outcome.{refusal}
 use Rattle.rows.specs.History.{historyOf, wholeRows}
 use Rattle.rules.specs.declared.PositionState.{PositionState}
@@ -25,8 +26,8 @@ ranIf (Bad p) r = Refuses (refusal 15 p)
 -- "13: a row .. list is not whole records, or an entry bar is not below the bars seen": place 0. "10, 12, 13, 14, 11, 15."
 unfoldable pub runs : List ℕ → List ℕ → ℕ → ℕ → PositionState → RunAnswer
 runs bs ws K D s =
-    cond (ltb 64 K) (Refuses (refusal 12 0))
+    cond (ltb mostSlots K) (Refuses (refusal 12 0))
     (cond (ltb D 1) (Refuses (refusal 12 1))
-    (cond (ltb 4096 D) (Refuses (refusal 12 1))
+    (cond (ltb mostRows D) (Refuses (refusal 12 1))
     (cond (wholeRows K ws && stateRight s) (ranIf (formed K D bs) (ranOver (historyOf K ws) s (opsOf bs)))
     (Refuses (refusal 13 0)))))

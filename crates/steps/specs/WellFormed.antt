@@ -4,13 +4,14 @@ use mathlib.Core.Bool.{Bool, true, false, cond, _&&_}
 use mathlib.Core.List.{List}
 use lib.ListN.{length}
 use lib.Dec.{ltb, leb, eqb}
+use Rattle.words.specs.Limits.{mostSteps}
 use Rattle.steps.specs.declared.Step.{Step}
 use Rattle.steps.specs.declared.Formed.{Formed}
 use Rattle.steps.specs.declared.Formed.the-variants.{Well, Bad}
 use Rattle.steps.specs.declared.Op.{Op}
 use Rattle.steps.specs.declared.Op.the-variants.{Const, Ref, Price, Arith, Compare, Cross, Between, Answer, Turn, InPosition, BarsSinceEntry, JumpIf}
 use Rattle.steps.specs.declared.Op.the-variants.{Unknown}
-use Rattle.steps.specs.Bytes.{stepAt, opOf, stepsIn, mostSteps}
+use Rattle.steps.specs.Bytes.{stepAt, opOf, stepsIn}
 
 unfoldable pub zeros : ℕ → ℕ → ℕ → ℕ → Bool
 zeros selector skip n bits = eqb selector 0 && eqb skip 0 && eqb n 0 && eqb bits 0

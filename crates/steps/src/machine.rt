@@ -4,10 +4,10 @@ use crate::Ran;
 use crate::Step;
 use crate::decode;
 use crate::stack;
-use crate::wellformed;
 use rules::PositionState;
 use rules::Value;
 use rules::values;
+use words::limits::MOST_STEPS;
 ghost use mathlib.Core.Path.{_≡_};
 ghost use mathlib.Core.Bool.{Bool, cond, not, _&&_};
 ghost use Prim.Native.Nat.{_+_, _-_, _*_, _<_, _≤_, min};
@@ -46,7 +46,7 @@ fn row_ago(rows: &[u64], slots: usize, held: usize, n: u64) -> usize
     requires { ⌜ n < held ⌝ }
     ensures { λ r. ⌜ r ≡ (held - 1 - n) * (7 + slots) ⌝ }
 {
-    (held - 1 - n as usize) * (rows::FIXED + slots)
+    (held - 1 - n as usize) * (words::limits::ROW_FIXED + slots)
 }
 
 // A slot, n rows back.
@@ -185,10 +185,10 @@ fn steps_run(list: &[u8]) -> usize
     ensures { λ r. ⌜ r ≡ stepsRun (now (list .entry)) ⌝ }
 {
     let whole = list.len() / 16;
-    if whole < wellformed::MOST_STEPS {
+    if whole < MOST_STEPS {
         whole
     } else {
-        wellformed::MOST_STEPS
+        MOST_STEPS
     }
 }
 
@@ -271,7 +271,7 @@ fn run_whole(list: &[u8], n: usize, rows: &[u64], slots: usize, s: PositionState
         rows,
         slots,
         s,
-        wellformed::MOST_STEPS,
+        MOST_STEPS,
         &mut numbers,
         &mut there,
     );

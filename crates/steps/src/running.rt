@@ -5,14 +5,11 @@ use crate::machine;
 use crate::wellformed;
 use rules::PositionState;
 use rules::answers;
+use words::limits::MOST_ROWS;
+use words::limits::MOST_SLOTS;
 use words::refusal::Refusal;
 ghost use mathlib.Core.Path.{_≡_};
 ghost use Rattle.steps.specs.Running.{runs};
-
-// "K above 64", "D outside 1 to 4,096".
-pub const MOST_SLOTS: usize = 64;
-
-pub const MOST_ROWS: usize = 4096;
 
 // The numbers of these two settings.
 pub const SETTING_SLOTS: u64 = 0;

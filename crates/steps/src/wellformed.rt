@@ -3,15 +3,13 @@ use crate::Formed;
 use crate::Op;
 use crate::Step;
 use crate::decode;
+use words::limits::MOST_STEPS;
 ghost use mathlib.Core.Path.{_≡_};
 ghost use mathlib.Core.Bool.{true};
 ghost use Prim.Native.Nat.{ℕ, _+_, _/_, _%_, _<_, _≤_};
 ghost use lib.ListN.{length};
 ghost use Rattle.steps.specs.Bytes.{fields, readStep};
 ghost use Rattle.steps.specs.WellFormed.{zeros, plain, bounded, goodStep, formed};
-
-// "at most 1,024" steps in a list.
-pub const MOST_STEPS: usize = 1024;
 
 fn zeros(selector: u8, skip: u64, n: u64, bits: u64) -> bool
     ensures { λ r. ⌜ r ≡ zeros selector skip n bits ⌝ }

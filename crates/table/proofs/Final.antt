@@ -113,7 +113,8 @@ module _ (t : List ℕ) (x : Answer) (es ends : List ℕ) where
       → (x ≡ checked t) × (es ≡ endsFor (checked t) ends)
   right h = rw (checked-is t) h
 
-  pub one-at : (nr : ℕ) → nr ≡ headerRefusal t → (nr ≡ 0 → ⊥) → x ≡ Refused (refusal nr 0) → es ≡ replicate 256 0 → (x ≡ checked t) × (es ≡ endsFor (checked t) ends)
+  pub one-at : (nr : ℕ) → nr ≡ headerRefusal t → (nr ≡ 0 → ⊥) → x ≡ Refused (refusal nr 0) → es ≡ replicate 256 0
+      → (x ≡ checked t) × (es ≡ endsFor (checked t) ends)
   one-at nr h some hx he =
       right (head-at (headerRefusal t) x _ es ends (λ z. some (h ∙ z)) (hx ∙ ap (λ (n : ℕ). Refused (refusal n 0)) h) he)
 
@@ -121,7 +122,8 @@ module _ (t : List ℕ) (x : Answer) (es ends : List ℕ) where
     place : q ≡ wrongNode t (u16 t 6) 0
     place = found ∙ ap (λ (m : ℕ). wrongNode t m 0) all
 
-    pub six-at : (p : ℕ) → q ≡ At p → x ≡ Refused (refusal 6 p) → es ≡ replicate 256 0 → (x ≡ checked t) × (es ≡ endsFor (checked t) ends)
+    pub six-at : (p : ℕ) → q ≡ At p → x ≡ Refused (refusal 6 p) → es ≡ replicate 256 0
+        → (x ≡ checked t) × (es ≡ endsFor (checked t) ends)
     six-at p hp hx he =
         let g = stage-at 6 (wrongNode t (u16 t 6) 0) x (from7 t) es ends p (sym place ∙ hp) hx he in
         right (head-none (headerRefusal t) x _ es ends h (g .0) (g .1))

@@ -3,6 +3,7 @@ use mathlib.Core.Bool.{cond}
 use mathlib.Core.List.{List}
 use Prim.Native.Nat.{ℕ, _+_, max}
 use lib.Dec.{ltb, eqb}
+use Rattle.words.specs.Limits.{mostReach}
 use Rattle.table.specs.declared.kinds.Kind.{Kind}
 use Rattle.table.specs.declared.nodes.Node.{Node}
 use Rattle.table.specs.declared.places.Place.{Place}
@@ -33,7 +34,7 @@ treeReach t x = forestReach (forestOf t x)
 
 -- "9 a reach above 4,095: first such tree's root"
 unfoldable pub farAt : ℕ → ℕ → Place
-farAt r b = cond (ltb 4095 r) (At b) Nowhere
+farAt r b = cond (ltb mostReach r) (At b) Nowhere
 
 unfoldable pub tooFar : List ℕ → Place
 tooFar t = ofFour (λ x. farAt (treeReach t x) (root t x))

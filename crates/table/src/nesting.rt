@@ -3,15 +3,13 @@ use crate::places::Place;
 use crate::places::or_else;
 use crate::weighing::LEVELS;
 use crate::weighing::weigh_tree;
+use words::limits::MOST_NESTING;
 ghost use mathlib.Core.Path.{_≡_};
 ghost use Prim.Native.Nat.{_-_, _≤_};
 ghost use Rattle.table.specs.Forest.{trees};
 ghost use Rattle.table.specs.Nesting.{deeper, tooDeep};
 ghost use Rattle.table.specs.Ends.{Linked};
 ghost use Rattle.table.specs.Passes.{Roots, LinkedAll};
-
-// "nesting above 32 (root is 1)"
-const LEVELS_ALLOWED: u64 = 32;
 
 // The first node of one tree below more than 32 levels: down where a subtree is too tall, past it where it is not.
 fn deep_of(t: &[u8], ends: &[usize; 256], b: usize, e: usize) -> Place
@@ -20,7 +18,7 @@ fn deep_of(t: &[u8], ends: &[usize; 256], b: usize, e: usize) -> Place
     ensures { λ r. ⌜ r ≡ deeper 32 (trees (now (t .entry)) (e - b) b) ⌝ }
 {
     let tall = weigh_tree(t, ends, LEVELS, b, e);
-    let mut left: u64 = LEVELS_ALLOWED;
+    let mut left: u64 = MOST_NESTING as u64;
     let mut j = b;
     while j < e {
         if left == 0 {

@@ -6,6 +6,7 @@ use crate::weighing::BARS;
 use crate::weighing::cut;
 use crate::weighing::greater;
 use crate::weighing::weigh_tree;
+use words::limits::MOST_REACH;
 use words::refusal::Refusal;
 ghost use mathlib.Core.Path.{_≡_};
 ghost use Prim.Native.Nat.{_+_, _-_, _≤_, _<_, min, max};
@@ -16,9 +17,6 @@ ghost use Rattle.table.specs.Reach.{forestReach, farAt};
 ghost use Rattle.table.specs.Ends.{Linked};
 ghost use Rattle.table.specs.Checked.{from9};
 ghost use Rattle.table.specs.Passes.{Roots, LinkedAll};
-
-// The greatest reach that a table may have.
-pub const REACH: u64 = 4095;
 
 // How far back one tree reads, cut at 4,096.
 fn reach_of(t: &[u8], ends: &[usize; 256], b: usize, e: usize) -> u64
@@ -37,7 +35,7 @@ fn reach_of(t: &[u8], ends: &[usize; 256], b: usize, e: usize) -> u64
 fn far_at(reach: u64, b: usize) -> Place
     ensures { λ r. ⌜ r ≡ farAt reach b ⌝ }
 {
-    if REACH < reach {
+    if MOST_REACH < reach {
         Place::At(b)
     } else {
         Place::Nowhere

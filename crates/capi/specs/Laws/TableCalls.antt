@@ -33,7 +33,8 @@ use Rattle.steps.specs.declared.RunAnswer.the-variants.{Runs, Refuses as RunRef
 use Rattle.steps.specs.declared.Translated.the-variants.{Writes, Refuses}
 use Rattle.steps.specs.Running.{ranIf, runs}
 use Rattle.steps.specs.Translating.{roomFor, writesOr, afterTable, translates}
-use Rattle.capi.specs.Tables.{treeOf, CheckLent, checkGives, DepthLent, depthGives, SilentLent, silentGives, TranslateLent, translateGives, translateOutcome}
+use Rattle.capi.specs.Tables.{treeOf, CheckLent, checkGives, DepthLent, depthGives, SilentLent, silentGives}
+use Rattle.capi.specs.Tables.{TranslateLent, translateGives, translateOutcome}
 use Rattle.capi.specs.Run.{ruleGives, RunLent, runGives}
 use Rattle.capi.specs.Laws.Calls.{Small, Numbered, Honest, honest, one-refusal, never-refuses}
 

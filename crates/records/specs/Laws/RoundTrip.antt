@@ -14,7 +14,8 @@ use Rattle.records.specs.declared.state.Order.{Order}
 use Rattle.records.specs.declared.state.Order.the-variants.{Idle, EnterLong, EnterShort, Exit}
 use Rattle.records.specs.declared.state.State.{State}
 use Rattle.words.specs.Limits.{stateWords}
-use Rattle.records.specs.StateWords.{countsOf, orderOf, enteredOf, portfolioOf, positionOf, stateOf, orderKind, orderDelay, enteredKind, entryBar, wordsOf}
+use Rattle.records.specs.StateWords.{countsOf, orderOf, enteredOf, portfolioOf, positionOf, stateOf}
+use Rattle.records.specs.StateWords.{orderKind, orderDelay, enteredKind, entryBar, wordsOf}
 
 -- the floats of a state, each an f64 in the code
 pub record Floats64 (s : State) : Type 0 where

@@ -25,7 +25,8 @@ loop-again c =
     let a = l .before .args in
     let h : a .at + l .loop .i < length (a .room .now) = omega (arith, l .before .pre) in (
       search needs,
-      ap (λ (xs : List ℕ). set xs (a .at + l .loop .i) (getD (a .words .now) (l .loop .i) 0)) (l .loop .inv .1) ∙ turn (a .room .now) (a .at) (a .words .now) (l .loop .i) h (c .before .loop-test .taken),
+      ap (λ (xs : List ℕ). set xs (a .at + l .loop .i) (getD (a .words .now) (l .loop .i) 0)) (l .loop .inv .1)
+          ∙ turn (a .room .now) (a .at) (a .words .now) (l .loop .i) h (c .before .loop-test .taken),
       simp length-set (l .loop .inv .2),
     )
 

@@ -27,7 +27,10 @@ returns-5 c = simp (c .match .keys5, c .before .float-of .ensures)
 
 returns-6 : tie.Need-returns-6
 unfolding sizingOf
-returns-6 c = simp (ne-eqb _ _ (c .match .rest .1), ne-eqb _ _ (c .match .rest .0 .1), ne-eqb _ _ (c .match .rest .0 .0 .1), ne-eqb _ _ (c .match .rest .0 .0 .0 .1), ne-eqb _ _ (c .match .rest .0 .0 .0 .0 .1))
+returns-6 c =
+    let not3 = c .match .rest .0 in
+    let not1 = not3 .0 .0 in
+    simp (ne-eqb _ _ (c .match .rest .1), ne-eqb _ _ (not3 .1), ne-eqb _ _ (not3 .0 .1), ne-eqb _ _ (not1 .1), ne-eqb _ _ (not1 .0 .1))
 
 pub sizing-of-spec : {M : Type 1} → statement M
 sizing-of-spec =

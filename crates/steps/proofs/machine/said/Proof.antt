@@ -19,9 +19,13 @@ said-spec =
     (λ c h a b c2 d. rw (says-answer (c .before .before .before .before .before .args .x) (c .before .before .before .if1 .left) (c .before .if2 .taken)))
     (λ c h a b c2 d. rw (says-turn (c .before .before .before .before .before .before .args .x) (c .if3 .taken)))
     (λ c κs. search needs)
-    (λ c h a b c2 d. rw (says-in-position (c .before .before .before .before .before .before .before .before .before .before .args .x) (c .before .before .if4 .taken), c .position .ensures))
+    (λ c h a b c2 d.
+    let s = c .before .before .before .before .before .before .before .before .before .before in
+    rw (says-in-position (s .args .x) (c .before .before .if4 .taken), c .position .ensures))
     (λ c κs. search needs)
-    (λ c h a b c2 d. rw (says-bars (c .before .before .before .before .before .before .before .before .before .before .before .args .x) (c .before .if5 .taken), c .since-entry .ensures))
+    (λ c h a b c2 d.
+    let s = c .before .before .before .before .before .before .before .before .before .before .before in
+    rw (says-bars (s .args .x) (c .before .if5 .taken), c .since-entry .ensures))
     (λ c h a b c2 d.
     let first = c .before .before .before .before .before .before .before .before .before .before in
     let from : 32 ≤ first .args .x .kind =

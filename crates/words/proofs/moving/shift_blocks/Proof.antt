@@ -28,7 +28,8 @@ loop-again c =
     let i = l .loop .i in (
       search needs,
       s .shift-block .ensures
-          ∙ moved-on (a .room .now) (l .loop .room) (a .width) (a .at) (16 * i) (a .at + 16 * i) 16 (16 * (i + 1)) refl (omega arith) (omega arith) (l .loop .inv .1),
+          ∙ moved-on (a .room .now) (l .loop .room) (a .width) (a .at) (16 * i) (a .at + 16 * i) 16 (16 * (i + 1))
+          refl (omega arith) (omega arith) (l .loop .inv .1),
       search needs,
     )
 
