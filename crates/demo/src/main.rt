@@ -251,7 +251,7 @@ fn run_day<'a>(
     trades: &mut [u64],
 ) -> State {
     let mut day = Day {
-        state: refusals::fresh(settings()),
+        state: records::state::fresh(settings()),
         market: bars::opening(),
     };
     let mut minute: u64 = 0;
