@@ -8,8 +8,8 @@
  *
  * What a caller has to see to is what the types say and no more: each pointer points at as many elements as the length
  * behind it says, words lie on 8-byte boundaries, and what is lent for writing overlaps nothing else. A list or room of length 0 is
- * empty and its pointer is not looked at: it may be null. A pointer with no length behind it (nodes, rows, bytes, used,
- * answer, visits) points at one word and is never null. Any content of any room gets an answer.
+ * empty and its pointer is not looked at: it may be null. A pointer with no length behind it (nodes, rows, bytes, count,
+ * used, answer, visits) points at one word and is never null. Any content of any room gets an answer.
  *
  * docs/INTERFACE.md has the records, rooms and calls in full, docs/RULES.md what a rule, a fill and each figure mean.
  */
@@ -104,7 +104,9 @@ enum {
 enum {
     YSH_ROOM_ROWS, YSH_ROOM_EQUITY, YSH_ROOM_TRADES,
     YSH_ROOM_ENTRY, YSH_ROOM_EXIT, YSH_ROOM_SHORT_ENTRY, YSH_ROOM_SHORT_EXIT,
-    YSH_ROOM_SETTINGS, YSH_ROOM_STATE, YSH_ROOM_METRICS
+    YSH_ROOM_SETTINGS, YSH_ROOM_STATE, YSH_ROOM_METRICS,
+    /* 10 to 17 are kept for later requests */
+    YSH_ROOM_SILENT = 18
 };
 
 /* ---- the trees of a table, by number */
@@ -258,7 +260,7 @@ uint64_t ysh_depth(const uint8_t *table, size_t table_len, uint64_t lookback, ui
 /* Which tests of a table fall silent over a window of so many rows: a comparison, a cross, Between, Rising or Falling that
  * reaches back so many bars or more answers no, whatever the rows hold, and every other test answers as over all rows. Done:
  * the numbers of their nodes, in table order, and how many there are: none for as many rows as ysh_check names. 256 words are
- * always enough. Refusals 1 to 9, then 10. */
+ * always enough. Refusals 1 to 9, then 10 (room 18). */
 uint64_t ysh_silent(const uint8_t *table, size_t table_len, uint64_t rows,
                     uint64_t *list, size_t list_len, uint64_t *count);
 
