@@ -1,6 +1,6 @@
 -- What a call answers and leaves, by what was refused or given; and the rooms of settings, state and rows, judged in turn.
 use Prim.Native.Nat.{ℕ}
-use mathlib.Core.Path.{_≡_, refl, sym, _∙_}
+use mathlib.Core.Path.{_≡_, sym, _∙_}
 use mathlib.Core.List.{List}
 use Rattle.words.specs.declared.refusal.Refusal.{Refusal}
 use Rattle.words.specs.Outcome.{Outcome, gives, refuses}
@@ -11,7 +11,7 @@ use Rattle.refusals.specs.declared.verdict.Verdict.the-variants.{Fine, Bad}
 use Rattle.refusals.specs.Lines.{judged}
 use Rattle.refusals.specs.Rooms.{roomLines}
 use Rattle.refusals.specs.Laws.Lines.{below-fine, below-bad}
-use Rattle.capi.specs.Call.{Call, answerWord, callOf, unlessBad, wordLines}
+use Rattle.capi.specs.Call.{answerWord, callOf, unlessBad, wordLines}
 use Rattle.capi.specs.Bars.{lentLines}
 
 module _ {A : Type 0} (o : Outcome A) (before : A) where

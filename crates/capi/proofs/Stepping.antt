@@ -1,16 +1,15 @@
 -- A C call over a bar is the engine's step on what its words mean.
 use Prim.Native.Nat.{ℕ}
-use mathlib.Core.Path.{_≡_, refl, sym, _∙_}
+use mathlib.Core.Path.{_≡_, sym, _∙_}
 use mathlib.Core.List.{List}
 use Rattle.words.specs.declared.refusal.Refusal.{Refusal}
 use Rattle.words.specs.Words.{overwrite}
-use Rattle.words.specs.Outcome.{Outcome, gives, refuses}
+use Rattle.words.specs.Outcome.{gives}
 use Rattle.records.specs.declared.settings.Settings.{Settings}
 use Rattle.records.specs.declared.state.State.{State}
 use Rattle.records.specs.Lent.{Rooms, Lists, rooms}
 use Rattle.records.specs.Settings.{settingsOf}
 use Rattle.records.specs.StateWords.{stateOf, wordsOf}
-use Rattle.refusals.specs.declared.verdict.Verdict.{Verdict}
 use Rattle.refusals.specs.declared.verdict.Verdict.the-variants.{Fine, Bad}
 use Rattle.refusals.specs.Lines.{judged}
 use Rattle.engine.specs.declared.Answer.{Answer}

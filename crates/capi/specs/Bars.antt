@@ -10,7 +10,7 @@ use Rattle.refusals.specs.Lines.{Line, judged}
 use Rattle.refusals.specs.Rooms.{roomLines}
 use Rattle.engine.specs.declared.Answer.{Answer}
 use Rattle.engine.specs.declared.Answer.the-variants.{Refused, Done}
-use Rattle.engine.specs.Step.{With, stepOf}
+use Rattle.engine.specs.Step.{stepOf}
 use Rattle.capi.specs.Call.{Call, callOf, unlessBad, wordLines}
 
 -- "Under one number the lowest place is given": the room of rows is number 0, and so comes before those that only a C call has.

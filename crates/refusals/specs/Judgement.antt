@@ -1,6 +1,6 @@
 -- What a call is judged by: "then 10, 12, 13, 14, 11, 15. Under one number the lowest place is given."
 use Prim.Native.Nat.{ℕ}
-use mathlib.Core.List.{List, [], _∷_, _++_}
+use mathlib.Core.List.{List, _∷_, _++_}
 use lib.ListN.{length}
 use lib.Dec.{eqb}
 use Rattle.words.specs.Limits.{barWords}

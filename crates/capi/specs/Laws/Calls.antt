@@ -1,8 +1,7 @@
 -- Of every call: an answer other than 0 leaves all that was lent as it was, and an answer of 0 means that nothing was refused. One law
 -- over calls; TableCalls and RunCalls say for each call that its refusals have numbers.
-use Prim.Native.Nat.{ℕ, _<_, _≤_, _^_}
+use Prim.Native.Nat.{ℕ, _<_, _^_}
 use mathlib.Core.Path.{_≡_, refl}
-use mathlib.Core.List.{List}
 use native.Mathlib.Omega.{arith}
 use Rattle.words.specs.declared.refusal.Refusal.{Refusal}
 use Rattle.words.specs.Outcome.{Outcome, gives, refuses}

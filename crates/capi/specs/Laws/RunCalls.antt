@@ -1,6 +1,6 @@
 -- The calls that begin a run, step over a bar, end a run and give the metrics: each of their refusals has a number, so of each the law
 -- over calls holds.
-use Prim.Native.Nat.{ℕ, _≤_}
+use Prim.Native.Nat.{ℕ}
 use mathlib.Core.Path.{_≡_, refl}
 use mathlib.Core.Bool.{Bool, true, false, cond}
 use mathlib.Core.List.{List, _++_}
@@ -29,9 +29,9 @@ use Rattle.engine.specs.declared.Finished.the-variants.{Refused as NotEnded, Do
 use Rattle.engine.specs.Step.{With, stepOf}
 use Rattle.engine.specs.Finish.{ended, concluded, finishOf}
 use Rattle.engine.specs.Laws.Refusal.{refusal-changes-nothing}
-use Rattle.capi.specs.Call.{callOf, unlessBad, wordLines, metricLines}
-use Rattle.capi.specs.Bars.{StepLent, lentLines, stepGives}
-use Rattle.capi.specs.Finish.{FinishLent, finishGives}
+use Rattle.capi.specs.Call.{unlessBad, wordLines, metricLines}
+use Rattle.capi.specs.Bars.{lentLines, stepGives}
+use Rattle.capi.specs.Finish.{finishGives}
 use Rattle.capi.specs.Figures.{metricsGives}
 use Rattle.capi.specs.Laws.Calls.{Small, Numbered, Honest, honest, never-refuses, one-refusal, after-verdict}
 

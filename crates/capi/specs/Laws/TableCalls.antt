@@ -29,7 +29,7 @@ use Rattle.rules.specs.Answers.{stateRight, afterCheck, judged, answered}
 use Rattle.steps.specs.declared.Formed.{Formed}
 use Rattle.steps.specs.declared.Formed.the-variants.{Well, Bad}
 use Rattle.steps.specs.declared.Ran.{Ran}
-use Rattle.steps.specs.declared.RunAnswer.the-variants.{Runs, Refuses as RunRefuses}
+use Rattle.steps.specs.declared.RunAnswer.the-variants.{Refuses as RunRefuses}
 use Rattle.steps.specs.declared.Translated.the-variants.{Writes, Refuses}
 use Rattle.steps.specs.Running.{ranIf, runs}
 use Rattle.steps.specs.Translating.{roomFor, writesOr, afterTable, translates}

@@ -12,7 +12,6 @@ use Rattle.refusals.specs.declared.verdict.Verdict.the-variants.{Fine}
 use Rattle.refusals.specs.Lines.{judged}
 use Rattle.refusals.specs.Settings.{lookback, settingLines}
 use Rattle.refusals.specs.Rooms.{roomLines, stateLines, placeLines}
-use Rattle.refusals.specs.Bar.{barLines}
 use Rattle.refusals.specs.Judgement.{runLines, stepLines, stepJudged}
 use Rattle.refusals.specs.Laws.Lines.{and-true, first-holds, both-fine}
 

@@ -12,7 +12,7 @@ use Rattle.records.specs.declared.settings.Settings.{Settings}
 use Rattle.records.specs.declared.state.State.{State}
 use Rattle.records.specs.Lent.{Rooms, Lists}
 use Rattle.refusals.specs.declared.verdict.Verdict.{Verdict}
-use Rattle.refusals.specs.declared.verdict.Verdict.the-variants.{Fine, Bad}
+use Rattle.refusals.specs.declared.verdict.Verdict.the-variants.{Bad}
 use Rattle.refusals.specs.Lines.{Line, judged}
 use Rattle.refusals.specs.Settings.{sizingLines, slippageLines, riskLines, termLines, settingLines}
 use Rattle.refusals.specs.Rooms.{roomLines, stateLines, placeLines, closeLines}

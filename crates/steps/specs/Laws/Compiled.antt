@@ -9,7 +9,7 @@ use Rattle.table.specs.Trees.{Operand, const, ref, price, prev, arith as sums, 
 use Rattle.table.specs.Trees.{inPosition, barsSince, none, more}
 use Rattle.rules.specs.declared.PositionState.{PositionState}
 use Rattle.rules.specs.declared.Value.{Value}
-use Rattle.rules.specs.Meaning.{value, holds, allHold, anyHolds, newest, says}
+use Rattle.rules.specs.Meaning.{holds, allHold, anyHolds, newest, says}
 use Rattle.steps.specs.declared.Op.{Op}
 use Rattle.steps.specs.declared.Op.the-variants.{Arith, Compare, Cross, Between, Turn, JumpIf}
 use Rattle.steps.specs.Machine.{Values, ago, does, effect, after, run, start, answers}

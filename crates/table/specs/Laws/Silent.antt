@@ -1,4 +1,4 @@
--- The tests that the code finds silent are those of the trees; and a table has none nodeOver as many rows as it needs. Assumes nothing.
+-- The tests that the code finds silent are those of the trees; and a table has none over as many rows as it needs. Assumes nothing.
 use Prim.Native.Nat.{ℕ, zero, suc, _+_, _-_, _*_, _≤_, _<_, min, max}
 use mathlib.Core.Path.{_≡_, refl, sym, ap, _∙_}
 use mathlib.Core.Bool.{Bool, true, false, cond, _&&_}
@@ -207,7 +207,7 @@ both-none [] ys e = (refl, e)
 both-none (x ∷ xs) ys e = absurd (let z : _≡_ {A = ℕ} 0 1 = cc in omega arith)
 
 module _ (d : ℕ) where
-  -- nodeOver more rows than it reaches back no test is silent
+  -- over more rows than it reaches back no test is silent
   not-listed : (c : Condition) (i : ℕ) → reachOf c < d → listed d c i ≡ []
   unfolding listed silent
   not-listed c i l = rw (lt-leb d (reachOf c) l) (go (isTest c))
@@ -264,7 +264,7 @@ module _ (d : ℕ) where
         omega (arith, near some c i (two .0), near-all some cs (i + nodesOf c) (two .1))
 
 module _ (t : List ℕ) (n r : ℕ) (ok : checked t ≡ Accepted n r) (d : ℕ) where
-  -- NONE OVER ENOUGH ROWS: nodeOver as many rows as the check says the table needs, or more, no test falls silent;
+  -- NONE OVER ENOUGH ROWS: over as many rows as the check says the table needs, or more, no test falls silent;
   pub enough-rows : r ≤ d → silentTests t d ≡ []
   unfolding silentTests silentOf
   enough-rows enough =
@@ -275,7 +275,7 @@ module _ (t : List ℕ) (n r : ℕ) (ok : checked t ≡ Accepted n r) (d : ℕ) 
         none-silent d (treeOf t 3) (root t 3) (omega (arith, rows-are t n r ok)),
       )
 
-  -- AND ONLY THEN: a row or more nodeOver which no test falls silent are as many as the table needs.
+  -- AND ONLY THEN: a row or more over which no test falls silent are as many as the table needs.
   pub only-enough : 0 < d → silentTests t d ≡ [] → r ≤ d
   unfolding silentTests silentOf
   only-enough some e =

@@ -1,3 +1,4 @@
+-- The extreme first, then the exits, as the definition has them.
 use Rattle.engine.specs.Account.{intrabar}
 use borrow.Author.Needs.{needs}
 use Rattle.engine.proofs.account.apply_intrabar_exits.Statement.{statement}

@@ -1,3 +1,4 @@
+-- The portfolio alone changes.
 use Rattle.engine.specs.Account.{charged}
 use borrow.Author.Needs.{needs}
 use Rattle.engine.proofs.account.charge_funding.Statement.{statement}

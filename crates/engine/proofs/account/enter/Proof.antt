@@ -1,3 +1,4 @@
+-- The entry over the rows held, then the position with it.
 use Rattle.engine.specs.Account.{entered}
 use borrow.Author.Needs.{needs}
 use Rattle.engine.proofs.account.enter.Statement.{statement}

@@ -1,3 +1,4 @@
+-- By the cases of the entry.
 use Rattle.engine.specs.Account.{entering}
 use borrow.Author.Needs.{needs}
 use Rattle.engine.proofs.account.entering.Statement.{statement}

@@ -1,3 +1,4 @@
+-- The exit, then the position without it.
 use Rattle.engine.specs.Account.{exited}
 use borrow.Author.Needs.{needs}
 use Rattle.engine.proofs.account.leave.Statement.{statement}

@@ -1,3 +1,4 @@
+-- By the cases of the exit.
 use Rattle.engine.specs.Account.{leaving}
 use borrow.Author.Needs.{needs}
 use Rattle.engine.proofs.account.leaving.Statement.{statement}

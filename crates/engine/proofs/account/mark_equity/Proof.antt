@@ -1,3 +1,4 @@
+-- A point that has a place is written there; else nothing is done.
 use borrow.Author.Needs.{needs}
 use borrow.Author.Tests.{le-ltb, lt-ltb}
 use Rattle.engine.specs.Books.{wordsOfPoint, marked}

@@ -1,3 +1,4 @@
+-- The run's answer.
 use Rattle.engine.specs.Decide.{says}
 use borrow.Author.Needs.{needs}
 use Rattle.engine.proofs.decide.says.Statement.{statement}

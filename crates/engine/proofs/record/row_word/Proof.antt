@@ -1,3 +1,4 @@
+-- A word before the slots, a slot that is present, a slot that is absent.
 use borrow.Author.Tests.{eq-eqb, le-ltb, lt-ltb, ne-eqb}
 use Rattle.engine.specs.Record.{rowWord}
 use native.Mathlib.Nat.{zero-add}

@@ -1,3 +1,4 @@
+-- Field by field, what each call gives.
 use Rattle.records.specs.Bar.{candleOf}
 use borrow.Author.Needs.{needs}
 use Rattle.records.proofs.bar.candle_of.Statement.{statement}

@@ -1,3 +1,4 @@
+-- None where the word behind the slots is 0, else what the two words after it hold.
 use mathlib.Core.Path.{sym, _∙_}
 use borrow.Author.Tests.{eq-eqb, ne-eqb}
 use Rattle.records.specs.Bar.{fundingOf}

@@ -1,3 +1,4 @@
+-- The float of the word.
 use borrow.Author.Needs.{needs}
 use Rattle.records.proofs.fields.float_at.Statement.{statement}
 use Rattle.records.proofs.fields.float_at.Tie as tie

@@ -1,3 +1,4 @@
+-- Field by field, what each call gives.
 use Rattle.records.specs.Settings.{settingsOf}
 use borrow.Author.Needs.{needs}
 use Rattle.records.proofs.settings.settings_of.Statement.{statement}

@@ -1,3 +1,4 @@
+-- Field by field, what each call gives.
 use Rattle.records.specs.Settings.{termsOf}
 use borrow.Author.Needs.{needs}
 use Rattle.records.proofs.settings.terms_of.Statement.{statement}

@@ -1,3 +1,4 @@
+-- The account is the only part that a call makes.
 use Rattle.records.specs.State.{freshState}
 use borrow.Author.Needs.{needs}
 use Rattle.records.proofs.state.fresh.Statement.{statement}

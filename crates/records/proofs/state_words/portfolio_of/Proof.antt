@@ -1,3 +1,4 @@
+-- Field by field, what each call gives.
 use Rattle.records.specs.StateWords.{portfolioOf}
 use borrow.Author.Needs.{needs}
 use Rattle.records.proofs.state_words.portfolio_of.Statement.{statement}

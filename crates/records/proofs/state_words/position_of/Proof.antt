@@ -1,3 +1,4 @@
+-- Part by part, what each call gives.
 use Rattle.records.specs.StateWords.{positionOf}
 use borrow.Author.Needs.{needs}
 use Rattle.records.proofs.state_words.position_of.Statement.{statement}

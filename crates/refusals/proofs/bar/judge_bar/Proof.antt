@@ -1,5 +1,5 @@
 -- The candle is one test, the slots and the funding two more.
-use mathlib.Core.Path.{refl, ap, _∙_}
+use mathlib.Core.Path.{ap, _∙_}
 use borrow.Author.Tests.{not-true, not-false}
 use Rattle.refusals.specs.Bar.{fundingFine, barLines}
 use Rattle.refusals.specs.Laws.Descent.{so, not-so, no-line, fine-line, bad-line}

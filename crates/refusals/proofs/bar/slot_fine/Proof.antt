@@ -1,3 +1,4 @@
+-- By the bit, then by the slot's number.
 use borrow.Author.Tests.{eq-eqb, le-ltb, lt-ltb, ne-eqb}
 use Rattle.refusals.specs.Bar.{bitFine}
 use borrow.Author.Needs.{needs}

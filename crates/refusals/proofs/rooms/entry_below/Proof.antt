@@ -1,3 +1,4 @@
+-- By the cases of the entry bar.
 use borrow.Author.Needs.{needs}
 use Rattle.refusals.proofs.rooms.entry_below.Statement.{statement}
 use Rattle.refusals.proofs.rooms.entry_below.Tie as tie

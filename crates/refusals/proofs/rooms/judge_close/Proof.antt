@@ -1,5 +1,5 @@
 -- One line: no trade is to be closed, or it has a place.
-use mathlib.Core.Path.{refl, sym, _∙_}
+use mathlib.Core.Path.{sym, _∙_}
 use borrow.Author.Tests.{lt-ltb, le-ltb}
 use Rattle.refusals.specs.Rooms.{closeLines}
 use Rattle.refusals.specs.Laws.Descent.{no-line, fine-line, bad-line}

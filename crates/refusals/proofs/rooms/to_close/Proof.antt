@@ -1,3 +1,4 @@
+-- In a position, and a bar was seen.
 use Rattle.refusals.specs.Rooms.{toClose}
 use mathlib.Core.Path.{sym, _∙_}
 use borrow.Author.Needs.{needs}

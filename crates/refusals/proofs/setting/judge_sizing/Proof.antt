@@ -1,5 +1,5 @@
 -- Line by line: those passed are fine, and the first that is not decides.
-use mathlib.Core.Path.{refl, ap, _∙_}
+use mathlib.Core.Path.{ap, _∙_}
 use borrow.Author.Tests.{lt-leb, le-leb}
 use Rattle.floats.specs.Floats.{finite}
 use Rattle.refusals.specs.Settings.{sizingLines}

@@ -1,5 +1,5 @@
 -- Line by line: those passed are fine, and the first that is not decides.
-use mathlib.Core.Path.{refl, ap, _∙_}
+use mathlib.Core.Path.{ap, _∙_}
 use Rattle.floats.specs.Floats.{finite}
 use Rattle.refusals.specs.Settings.{slippageLines}
 use Rattle.refusals.specs.Laws.Descent.{so, not-so, no-line, fine-line, bad-line}
