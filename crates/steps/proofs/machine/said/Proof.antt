@@ -29,5 +29,6 @@ said-spec =
     (λ c h a b c2 d.
     let first = c .before .before .before .before .before .before .before .before .before .before in
     let from : 32 ≤ first .args .x .kind =
-    omega (arith, c .before .before .before .before .before .before .if2 .left, c .before .before .before .before .if3 .left, c .before .before .if4 .left, c .if5 .left) in
+    let third = c .before .before .before .before in
+    omega (arith, third .before .before .if2 .left, third .if3 .left, c .before .before .if4 .left, c .if5 .left) in
     rw (says-nothing-late (first .args .x) (first .pre .3 from))))
