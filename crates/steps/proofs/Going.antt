@@ -19,7 +19,7 @@ use Rattle.steps.specs.declared.Op.{Op}
 use Rattle.steps.specs.declared.Ran.{Ran}
 use Rattle.steps.specs.Bytes.{opOf, stepAt, opsFrom}
 use Rattle.steps.specs.Machine.{Values, Effect, nth, given, giving, saying, passing, effect, does, after, run, places, start, ranOver}
-use Rattle.steps.specs.Places.{numberOf, isThere, valueAt, Fresh, Tries}
+use Rattle.steps.specs.Places.{numbersWith, isThere, valueAt, Fresh, Tries}
 
 -- ---- the values
 
@@ -45,29 +45,30 @@ module _ (ns : List Float) (ts : List Bool) where
   drop-shown zero (suc m) = let e : 0 - suc m ≡ 0 = omega arith in rw e
   drop-shown (suc p) (suc m) = let e : suc p - suc m ≡ p - m = omega arith in rw e (drop-shown p m)
 
--- a value is its number where it is there
-two : (v : Value) → cond (isThere v) (Number (numberOf v)) Missing ≡ v
-unfolding isThere numberOf
-two Missing = refl
-two (Number x) = refl
-
 -- a value put at place i
-module _ (ns : List Float) (ts : List Bool) (i : ℕ) (v : Value) where
-  put-other : (j : ℕ) → j < i → valueAt (set ns i (numberOf v)) (set ts i (isThere v)) j ≡ valueAt ns ts j
-  unfolding valueAt
-  put-other j l = rw (getD-set-other ts i j (isThere v) false (ne-of-lt l), getD-set-other ns i j (numberOf v) nan (ne-of-lt l))
+module _ (ns : List Float) (ts : List Bool) (i : ℕ) where
+  put-other : (v : Value) (j : ℕ) → j < i → valueAt (numbersWith ns i v) (set ts i (isThere v)) j ≡ valueAt ns ts j
+  unfolding valueAt numbersWith isThere
+  put-other Missing j l = rw (getD-set-other ts i j false false (ne-of-lt l))
+  put-other (Number x) j l = rw (getD-set-other ts i j true false (ne-of-lt l), getD-set-other ns i j x nan (ne-of-lt l))
 
-  put-same : i < length ns → i < length ts → valueAt (set ns i (numberOf v)) (set ts i (isThere v)) i ≡ v
-  unfolding valueAt
-  put-same l m = rw (getD-set-same ts i (isThere v) false m, getD-set-same ns i (numberOf v) nan l) (two v)
+  put-same : (v : Value) → i < length ns → i < length ts → valueAt (numbersWith ns i v) (set ts i (isThere v)) i ≡ v
+  unfolding valueAt numbersWith isThere
+  put-same Missing l m = rw (getD-set-same ts i false false m)
+  put-same (Number x) l m = rw (getD-set-same ts i true false m, getD-set-same ns i x nan l)
 
-  set-shown : (top : ℕ) → top + 4 ≤ i → shown (set ns i (numberOf v)) (set ts i (isThere v)) top ≡ shown ns ts top
+  put-length : (v : Value) → length (numbersWith ns i v) ≡ length ns
+  unfolding numbersWith
+  put-length Missing = refl
+  put-length (Number x) = length-set ns i x
+
+  set-shown : (v : Value) (top : ℕ) → top + 4 ≤ i → shown (numbersWith ns i v) (set ts i (isThere v)) top ≡ shown ns ts top
   unfolding shown
-  set-shown zero le = refl
-  set-shown (suc p) le = rw (put-other (p + 4) (omega arith), set-shown p (omega arith))
+  set-shown v zero le = refl
+  set-shown v (suc p) le = rw (put-other v (p + 4) (omega arith), set-shown v p (omega arith))
 
 put-shown : (ns : List Float) (ts : List Bool) (v : Value) (under : ℕ) → under + 4 < length ns → under + 4 < length ts
-    → shown (set ns (under + 4) (numberOf v)) (set ts (under + 4) (isThere v)) (under + 1) ≡ v ∷ shown ns ts under
+    → shown (numbersWith ns (under + 4) v) (set ts (under + 4) (isThere v)) (under + 1) ≡ v ∷ shown ns ts under
 unfolding shown
 put-shown ns ts v under l m = rw (add-one under, put-same ns ts (under + 4) v l m, set-shown ns ts (under + 4) v under (omega arith))
 
@@ -236,11 +237,11 @@ module _ (h : History) (s : PositionState) (bs : List ℕ) (n most : ℕ) (ns : 
 
   -- a step that takes m values and gives one, for which there is a place
   pub going-give : (m : ℕ) (v : Value) → top - m < most → done ≡ giving m v y
-      → Going h s bs n most (set ns (top - m + 4) (numberOf v)) (set ts (top - m + 4) (isThere v)) (top - m + 1) y (visits + 1) (p + 1)
+      → Going h s bs n most (numbersWith ns (top - m + 4) v) (set ts (top - m + 4) (isThere v)) (top - m + 1) y (visits + 1) (p + 1)
   going-give m v free is =
-      rw next at (going-on (giving m v y) is (set ns (top - m + 4) (numberOf v)) (set ts (top - m + 4) (isThere v)) (top - m + 1)
+      rw next at (going-on (giving m v y) is (numbersWith ns (top - m + 4) v) (set ts (top - m + 4) (isThere v)) (top - m + 1)
       (record {
-        numbers = length-set ns (top - m + 4) (numberOf v) ∙ g .room .numbers;
+        numbers = put-length ns ts (top - m + 4) v ∙ g .room .numbers;
         theres = length-set ts (top - m + 4) (isThere v) ∙ g .room .theres;
         low = λ j l. put-other ns ts (top - m + 4) v j (omega arith) ∙ g .room .low j l;
       })
@@ -250,7 +251,7 @@ module _ (h : History) (s : PositionState) (bs : List ℕ) (n most : ℕ) (ns : 
 
   -- a leaf: none is taken
   pub going-leaf : (v : Value) → top < most → done ≡ giving 0 v y
-      → Going h s bs n most (set ns (top + 4) (numberOf v)) (set ts (top + 4) (isThere v)) (top + 1) y (visits + 1) (p + 1)
+      → Going h s bs n most (numbersWith ns (top + 4) v) (set ts (top + 4) (isThere v)) (top + 1) y (visits + 1) (p + 1)
   going-leaf v free is = rw (sub-zero top) at (going-give 0 v (omega (arith, free)) is)
 
   -- a step that takes m values and answers

@@ -177,18 +177,20 @@ module _ (x : Step) where
     unfolding effect
     does-arith le l = rw (says-arith le l)
 
-    -- a comparison, a crossing or Between
-    pub does-test : 16 ≤ x .kind → x .kind < 25 → effect h s (opOf x) a b c d y
-        ≡ saying (cond (ltb (x .kind) 22) 2 (cond (ltb (x .kind) 24) 4 3))
-        (cond (ltb (x .kind) 22) (compared (x .kind) b a) (cond (ltb (x .kind) 24) (crossed (x .kind) d c b a) (within c b a)))
+    pub does-compare : 16 ≤ x .kind → x .kind < 22 → effect h s (opOf x) a b c d y ≡ saying 2 (compared (x .kind) b a)
     unfolding effect
-    does-test le l = go (ltb (x .kind) 22) refl (ltb (x .kind) 24) refl
+    does-compare le l = rw (says-compare le l)
+
+    -- a crossing or Between
+    pub does-test : 22 ≤ x .kind → x .kind < 25 → effect h s (opOf x) a b c d y
+        ≡ saying (cond (ltb (x .kind) 24) 4 3) (cond (ltb (x .kind) 24) (crossed (x .kind) d c b a) (within c b a))
+    unfolding effect
+    does-test le l = go (ltb (x .kind) 24) refl
       where
-        go : (t : Bool) → ltb (x .kind) 22 ≡ t → (u : Bool) → ltb (x .kind) 24 ≡ u → effect h s (opOf x) a b c d y
-            ≡ saying (cond t 2 (cond u 4 3)) (cond t (compared (x .kind) b a) (cond u (crossed (x .kind) d c b a) (within c b a)))
-        go true e u f = rw (says-compare le (ltb-true (x .kind) 22 e))
-        go false e true f = rw (says-cross (ltb-false (x .kind) 22 e) (ltb-true (x .kind) 24 f))
-        go false e false f = rw (says-between (omega (arith, ltb-false (x .kind) 24 f)))
+        go : (t : Bool) → ltb (x .kind) 24 ≡ t → effect h s (opOf x) a b c d y
+            ≡ saying (cond t 4 3) (cond t (crossed (x .kind) d c b a) (within c b a))
+        go true f = rw (says-cross le (ltb-true (x .kind) 24 f))
+        go false f = rw (says-between (omega (arith, ltb-false (x .kind) 24 f)))
 
     pub does-jump : 32 ≤ x .kind → x .kind < 34 → effect h s (opOf x) a b c d y ≡ passing (cond (beq y (eqb (x .kind) 33)) (x .skip) 0) y
     unfolding effect

@@ -5,17 +5,16 @@ use mathlib.Core.Bool.{Bool, true, false, cond}
 use mathlib.Core.List.{List}
 use lib.Ieee.{Float, nan}
 use lib.Dec.{ltb}
-use lib.ListN.{length, getD, replicate}
-use Rattle.floats.specs.Floats.{zero}
+use lib.ListN.{length, getD, replicate, set}
 use Rattle.rules.specs.declared.Value.{Value}
 use Rattle.rules.specs.declared.Value.the-variants.{Missing, Number}
-use Rattle.rules.specs.Values.{compared, crossed, within}
+use Rattle.rules.specs.Values.{crossed, within}
 use Rattle.steps.specs.declared.Ran.{Ran}
 
--- A value as two: its number, 0 where it is missing, and whether it is there.
-unfoldable pub numberOf : Value → Float
-numberOf Missing = zero
-numberOf (Number x) = x
+-- A value as two: its number, which is written where there is one, and whether it is there.
+unfoldable pub numbersWith : List Float → ℕ → Value → List Float
+numbersWith numbers i Missing = numbers
+numbersWith numbers i (Number x) = set numbers i x
 
 unfoldable pub isThere : Value → Bool
 isThere Missing = false
@@ -25,13 +24,12 @@ isThere (Number x) = true
 unfoldable pub valueAt : List Float → List Bool → ℕ → Value
 valueAt numbers there i = cond (getD there i false) (Number (getD numbers i nan)) Missing
 
--- What a test answers of the last values, the last at place top + 3: a comparison, a cross or Between, by its kind.
+-- What a cross or Between answers of the last values, the last at place top + 3, by its kind.
 abbrev pub testedAt : ℕ → List Float → List Bool → ℕ → Bool
 testedAt kind numbers there top =
-    cond (ltb kind 22) (compared kind (valueAt numbers there (top + 2)) (valueAt numbers there (top + 3)))
-    (cond (ltb kind 24)
+    cond (ltb kind 24)
     (crossed kind (valueAt numbers there top) (valueAt numbers there (top + 1)) (valueAt numbers there (top + 2)) (valueAt numbers there (top + 3)))
-    (within (valueAt numbers there (top + 1)) (valueAt numbers there (top + 2)) (valueAt numbers there (top + 3))))
+    (within (valueAt numbers there (top + 1)) (valueAt numbers there (top + 2)) (valueAt numbers there (top + 3)))
 
 -- Two lists with so many places above the four that are always missing, and no value yet.
 pub record Fresh (places : ℕ) (numbers : List Float) (there : List Bool) : Type 0 where

@@ -6,7 +6,7 @@ ghost use mathlib.Core.Path.{_≡_};
 ghost use Prim.Native.Nat.{_+_, _*_, _/_, _<_, _≤_};
 ghost use lib.ListN.{length};
 ghost use Rattle.table.specs.Bytes.{u16, u32, u64};
-ghost use Rattle.steps.specs.Bytes.{readStep, stepAt, opOf, operandOp, testOp, answerOp};
+ghost use Rattle.steps.specs.Bytes.{readStep, stepAt, stepsIn, opOf, operandOp, testOp, answerOp};
 
 // A step has the number of the kind that it stands for. Jumps stand for no kind and have numbers of their own.
 pub const JUMP_AT_NO: u8 = 32;
@@ -56,20 +56,12 @@ pub(crate) fn read_step(list: &[u8], at: usize) -> Step
     }
 }
 
-// The fields of the step at place p, all zeros past the last.
-pub fn step_at(list: &[u8], p: usize) -> Step
+// The fields of the step at place p, which the list has.
+pub(crate) fn step_at(list: &[u8], p: usize) -> Step
+    requires { ⌜ p < stepsIn (now list) ⌝ }
     ensures { λ r. ⌜ r ≡ stepAt (now (list .entry)) p ⌝ }
 {
-    if p < list.len() / 16 {
-        return read_step(list, 16 * p);
-    }
-    Step {
-        kind: 0,
-        selector: 0,
-        skip: 0,
-        n: 0,
-        bits: 0,
-    }
+    read_step(list, 16 * p)
 }
 
 // What a step of an operand says: kinds below 16.

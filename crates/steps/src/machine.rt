@@ -96,20 +96,14 @@ fn leaf(x: Step, rows: &[u64], slots: usize, held: usize) -> Value
     price_ago(rows, slots, held, x.selector, x.n)
 }
 
-// How many values a test takes.
+// How many values a cross or Between takes.
 fn taken(kind: u8) -> usize
-    ensures { λ r. ⌜ r ≡ cond (ltb kind 22) 2 (cond (ltb kind 24) 4 3) ⌝ }
+    ensures { λ r. ⌜ r ≡ cond (ltb kind 24) 4 3 ⌝ }
 {
-    if kind < 22 {
-        return 2;
-    }
-    if kind < 24 {
-        return 4;
-    }
-    3
+    if kind < 24 { 4 } else { 3 }
 }
 
-// What a test answers of the last values, of which it reads no more than it takes.
+// What a cross or Between answers of the last values, of which it reads no more than it takes.
 fn tested(kind: u8, numbers: &[f64], there: &[bool], top: usize) -> bool
     requires { ⌜ top + 3 < length (now numbers) ⌝ }
     requires { ⌜ top + 3 < length (now there) ⌝ }
@@ -117,9 +111,6 @@ fn tested(kind: u8, numbers: &[f64], there: &[bool], top: usize) -> bool
 {
     let a = stack::at(numbers, there, top + 3);
     let b = stack::at(numbers, there, top + 2);
-    if kind < 22 {
-        return values::compared(kind, b, a);
-    }
     let c = stack::at(numbers, there, top + 1);
     if kind < 24 {
         let d = stack::at(numbers, there, top);
@@ -229,9 +220,11 @@ fn run_with(
             stack::put(numbers, there, top + 4, leaf(x, rows, slots, held));
             top += 1;
             p += 1;
-        } else if is_among(kind, 16, 25) {
-            answer = tested(kind, numbers, there, top);
-            top = left(top, taken(kind));
+        } else if is_among(kind, 16, 22) {
+            let a = stack::at(numbers, there, top + 3);
+            let b = stack::at(numbers, there, top + 2);
+            answer = values::compared(kind, b, a);
+            top = left(top, 2);
             p += 1;
         } else if is_among(kind, 32, 34) {
             if answer == (kind == 33) {
@@ -245,6 +238,10 @@ fn run_with(
             let under = left(top, 2);
             stack::put(numbers, there, under + 4, values::both(kind, b, a));
             top = under + 1;
+            p += 1;
+        } else if is_among(kind, 22, 25) {
+            answer = tested(kind, numbers, there, top);
+            top = left(top, taken(kind));
             p += 1;
         } else {
             answer = said(x, s, answer);

@@ -3,7 +3,7 @@ use rules::Value;
 ghost use mathlib.Core.Path.{_≡_};
 ghost use Prim.Native.Nat.{_<_};
 ghost use lib.ListN.{length, set};
-ghost use Rattle.steps.specs.Places.{valueAt, numberOf, isThere};
+ghost use Rattle.steps.specs.Places.{valueAt, numbersWith, isThere};
 
 // The value at a place.
 pub(crate) fn at(numbers: &[f64], there: &[bool], i: usize) -> Value
@@ -17,16 +17,15 @@ pub(crate) fn at(numbers: &[f64], there: &[bool], i: usize) -> Value
     Value::Missing
 }
 
-// A value put at a place.
+// A value put at a place. Of a missing one nothing but that is written.
 pub(crate) fn put(numbers: &mut [f64], there: &mut [bool], i: usize, v: Value)
     requires { ⌜ i < length (now numbers) ⌝ }
     requires { ⌜ i < length (now there) ⌝ }
-    ensures { λ _. ⌜ now (numbers .exit) ≡ set (now (numbers .entry)) i (numberOf v) ⌝ }
+    ensures { λ _. ⌜ now (numbers .exit) ≡ numbersWith (now (numbers .entry)) i v ⌝ }
     ensures { λ _. ⌜ now (there .exit) ≡ set (now (there .entry)) i (isThere v) ⌝ }
 {
     match v {
         Value::Missing => {
-            numbers[i] = 0.0;
             there[i] = false;
         }
         Value::Number(x) => {

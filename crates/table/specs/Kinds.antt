@@ -5,6 +5,7 @@ use lib.ListN.{getD}
 use Rattle.table.specs.declared.kinds.Kind.{Kind}
 use Rattle.table.specs.declared.kinds.OperandClass.{OperandClass}
 use Rattle.table.specs.declared.kinds.ConditionClass.{ConditionClass}
+use Rattle.table.specs.declared.kinds.Row.{Row}
 use Rattle.table.specs.declared.kinds.OperandClass.the-variants.{NoOperand, Const, Ref, Price, Prev, Arith}
 use Rattle.table.specs.declared.kinds.ConditionClass.the-variants.{NoCondition, Compare, Cross, Between, Trend, All, Any, Not}
 use Rattle.table.specs.declared.kinds.ConditionClass.the-variants.{InPosition, BarsSince}
@@ -142,6 +143,24 @@ position = aCondition InPosition leaf (selectorBelow 2) nothing
 
 abbrev pub barsSince : Kind
 barsSince = aCondition BarsSince leaf (numberAndSelectorBelow 5) nothing
+
+-- The rows by name.
+unfoldable pub rowOf : Row → Kind
+rowOf Row.Unknown = noKind
+rowOf Row.Const = constant
+rowOf Row.Ref = reference
+rowOf Row.Price = price
+rowOf Row.Prev = previous
+rowOf Row.Arith = arithmetic
+rowOf Row.Compare = comparison
+rowOf Row.Cross = crossing
+rowOf Row.Between = between
+rowOf Row.Trend = trend
+rowOf Row.All = allOf
+rowOf Row.Any = anyOf
+rowOf Row.Not = negation
+rowOf Row.InPosition = position
+rowOf Row.BarsSince = barsSince
 
 -- "How many children each kind takes, and of which sort, stands in one constant table indexed by kind."
 unfoldable pub kinds : List Kind

@@ -1,7 +1,7 @@
 // The kinds of nodes by name, and the constant table of kinds: what a node of each kind takes. Checker, reach, evaluator and
 // translator read it.
 ghost use mathlib.Core.Path.{_≡_};
-ghost use Rattle.table.specs.Kinds.{kindOf};
+ghost use Rattle.table.specs.Kinds.{kindOf, rowOf};
 
 // The kinds, by number.
 pub const CONST: u8 = 1;
@@ -290,46 +290,92 @@ const BARS_SINCE_ROW: Kind = Kind {
     back: NOTHING,
 };
 
-// Rows 0 to 31.
-const KINDS: [Kind; 32] = [
-    UNKNOWN_ROW,
-    CONST_ROW,
-    REF_ROW,
-    PRICE_ROW,
-    PREV_ROW,
-    ARITH_ROW,
-    ARITH_ROW,
-    ARITH_ROW,
-    ARITH_ROW,
-    UNKNOWN_ROW,
-    UNKNOWN_ROW,
-    UNKNOWN_ROW,
-    UNKNOWN_ROW,
-    UNKNOWN_ROW,
-    UNKNOWN_ROW,
-    UNKNOWN_ROW,
-    COMPARE_ROW,
-    COMPARE_ROW,
-    COMPARE_ROW,
-    COMPARE_ROW,
-    COMPARE_ROW,
-    COMPARE_ROW,
-    CROSS_ROW,
-    CROSS_ROW,
-    BETWEEN_ROW,
-    TREND_ROW,
-    TREND_ROW,
-    ALL_ROW,
-    ANY_ROW,
-    NOT_ROW,
-    IN_POSITION_ROW,
-    BARS_SINCE_ROW,
+// The rows by name, so that the table of kinds is one byte a kind: an array of rows would be copied whole at each look-up.
+pub enum Row {
+    Unknown,
+    Const,
+    Ref,
+    Price,
+    Prev,
+    Arith,
+    Compare,
+    Cross,
+    Between,
+    Trend,
+    All,
+    Any,
+    Not,
+    InPosition,
+    BarsSince,
+}
+
+// The names of rows 0 to 31.
+const KINDS: [Row; 32] = [
+    Row::Unknown,
+    Row::Const,
+    Row::Ref,
+    Row::Price,
+    Row::Prev,
+    Row::Arith,
+    Row::Arith,
+    Row::Arith,
+    Row::Arith,
+    Row::Unknown,
+    Row::Unknown,
+    Row::Unknown,
+    Row::Unknown,
+    Row::Unknown,
+    Row::Unknown,
+    Row::Unknown,
+    Row::Compare,
+    Row::Compare,
+    Row::Compare,
+    Row::Compare,
+    Row::Compare,
+    Row::Compare,
+    Row::Cross,
+    Row::Cross,
+    Row::Between,
+    Row::Trend,
+    Row::Trend,
+    Row::All,
+    Row::Any,
+    Row::Not,
+    Row::InPosition,
+    Row::BarsSince,
 ];
+
+// The row of a name.
+fn row_of(name: Row) -> Kind
+    ensures { λ r. ⌜ r ≡ rowOf name ⌝ }
+{
+    match name {
+        Row::Unknown => UNKNOWN_ROW,
+        Row::Const => CONST_ROW,
+        Row::Ref => REF_ROW,
+        Row::Price => PRICE_ROW,
+        Row::Prev => PREV_ROW,
+        Row::Arith => ARITH_ROW,
+        Row::Compare => COMPARE_ROW,
+        Row::Cross => CROSS_ROW,
+        Row::Between => BETWEEN_ROW,
+        Row::Trend => TREND_ROW,
+        Row::All => ALL_ROW,
+        Row::Any => ANY_ROW,
+        Row::Not => NOT_ROW,
+        Row::InPosition => IN_POSITION_ROW,
+        Row::BarsSince => BARS_SINCE_ROW,
+    }
+}
 
 // The row of a kind; a kind from 32 on has the row of an unknown one.
 pub fn kind_of(k: u8) -> Kind
     ensures { λ r. ⌜ r ≡ kindOf k ⌝ }
 {
     let i = k as usize;
-    if i < 32 { KINDS[i] } else { UNKNOWN_ROW }
+    if i < 32 {
+        row_of(KINDS[i])
+    } else {
+        UNKNOWN_ROW
+    }
 }

@@ -25,7 +25,7 @@ use Rattle.table.specs.Laws.Header.{both}
 -- ---- what holds of the 32 rows, and of no row past them
 
 -- the values of f at m numbers from i on
-listed : {A : Type 0} → (ℕ → A) → ℕ → ℕ → List A
+unfoldable pub listed : {A : Type 0} → (ℕ → A) → ℕ → ℕ → List A
 listed f zero i = []
 listed f (suc m) i = f i ∷ listed f m (suc i)
 
@@ -42,7 +42,7 @@ same-at f g (suc m) i (suc j) h l =
     let rest : listed f m (suc i) ≡ listed g m (suc i) = cc in
     rw place (same-at f g m (suc i) j rest (omega arith))
 
-of-rows : {A : Type 0} (f g : ℕ → A) → listed f 32 0 ≡ listed g 32 0 → (k : ℕ) → k < 32 → f k ≡ g k
+pub of-rows : {A : Type 0} (f g : ℕ → A) → listed f 32 0 ≡ listed g 32 0 → (k : ℕ) → k < 32 → f k ≡ g k
 of-rows f g h k l =
     let place : 0 + k ≡ k = omega arith in
     rw place at (same-at f g 32 0 k h l)

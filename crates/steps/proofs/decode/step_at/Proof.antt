@@ -1,16 +1,10 @@
 -- A place below the number of whole steps has its 16 bytes in the list.
 use borrow.Author.Needs.{needs}
-use borrow.Author.Tests.{le-ltb, lt-ltb}
+use borrow.Author.Tests.{lt-ltb}
 use Rattle.steps.specs.Bytes.{stepAt}
 use Rattle.steps.proofs.decode.step_at.Statement.{statement}
 use Rattle.steps.proofs.decode.step_at.Tie as tie
 
 pub step-at-spec : {M : Type 1} → statement M
 unfolding stepAt
-step-at-spec =
-    tie.close
-    (tie.spec
-    (λ c. search needs)
-    (λ c κs. search needs)
-    (λ c. simp (c .read-step .ensures, lt-ltb _ _ (c .before .if1 .taken)))
-    (λ c. simp (le-ltb _ _ (c .if1 .left))))
+step-at-spec = tie.close (tie.spec (λ c. search needs) (λ c κs. search needs) (λ c. simp (c .read-step .ensures, lt-ltb _ _ (c .before .before .pre))))

@@ -6,7 +6,7 @@ use native.Mathlib.Omega.{arith}
 use Prim.Native.Nat.{_-_}
 use Rattle.rows.specs.History.{historyOf}
 use Rattle.steps.specs.Places.{Tries}
-use Rattle.steps.proofs.Said.{range-in, range-out, does-test, does-jump, does-arith}
+use Rattle.steps.proofs.Said.{range-in, range-out, does-compare, does-test, does-jump, does-arith}
 use Rattle.steps.proofs.Going.{Going, fresh-long, going-start, going-leaf, going-give, going-say, going-set, going-pass, going-stay, going-end}
 use Rattle.steps.proofs.machine.run_with.Statement.{statement}
 use Rattle.steps.proofs.machine.run_with.Tie as tie
@@ -30,17 +30,17 @@ leaf-again c =
     (omega (arith, x .before .before .loop .inv .tall, full .if2 .left))
     (rw (← x .step-at .ensures) (leaf .leaf .ensures _ _ _ _ _ _)))
 
--- a test
-test-again : tie.Need-loop-again-2 Inv-loop μ-loop
-test-again c =
-    let tested = c .before .before in
-    let read = tested .before .before .before in
-    let i = read .before in
+-- a comparison
+compare-again : tie.Need-loop-again-2 Inv-loop μ-loop
+compare-again c =
+    let second = c .before .before in
+    let first = second .before .before .before in
+    let i = first .before .before .before .before in
     let x = i .before .before .before in
-    let kind = range-in _ _ _ (sym (i .is-among2 .ensures) ∙ read .if3 .taken) in
-    rw (c .left .ensures, c .before .taken .ensures, tested .tested .ensures)
-    (going-say _ _ _ _ _ _ _ _ _ _ _ (x .before .before .loop .inv) (x .before .loop-test .taken) _ _
-    (rw (← x .step-at .ensures) (does-test _ _ _ _ _ _ _ _ (kind .0) (kind .1))))
+    let kind = range-in _ _ _ (sym (i .is-among2 .ensures) ∙ first .before .before .before .if3 .taken) in
+    rw (c .left .ensures, c .before .compared .ensures, second .at2 .ensures, first .at .ensures)
+    (going-say _ _ _ _ _ _ _ _ _ _ _ (x .before .before .loop .inv) (x .before .loop-test .taken) 2 _
+    (rw (← x .step-at .ensures) (does-compare _ _ _ _ _ _ _ _ (kind .0) (kind .1))))
 
 -- a jump that is taken
 jump-again : tie.Need-loop-again-3 Inv-loop μ-loop
@@ -74,8 +74,8 @@ arith-again c =
       put .put2 .ensures .1,
       put .before .both .ensures,
       left .left2 .ensures,
-      left .before .at2 .ensures,
-      left .before .before .before .before .at .ensures,
+      left .before .at4 .ensures,
+      left .before .before .before .before .at3 .ensures,
     )
     (going-give _ _ _ _ _ _ _ _ _ _ _ (x .before .before .loop .inv) (x .before .loop-test .taken) 2 _
     (omega (arith, x .before .before .loop .inv .tall, x .before .before .before .before .before .before .before .before .pre .1 .0 .0))
@@ -118,23 +118,47 @@ arith-less c =
     let i = c .before .before .before .before .before .before .before .before .before .before .before .before .before .before .before .before in
     omega (arith, i .before .before .before .before .before .before .before .before .loop-test .taken)
 
+-- a cross or Between
+test-again : tie.Need-loop-again-6 Inv-loop μ-loop
+test-again c =
+    let tested = c .before .before in
+    let read = tested .before .before .before in
+    let i = read .before in
+    let x = i .before .before .before .before .before .before .before .before .before in
+    let kind = range-in _ _ _ (sym (i .is-among5 .ensures) ∙ read .if7 .taken) in
+    rw (c .left3 .ensures, c .before .taken .ensures, tested .tested .ensures)
+    (going-say _ _ _ _ _ _ _ _ _ _ _ (x .before .before .loop .inv) (x .before .loop-test .taken) _ _
+    (rw (← x .step-at .ensures) (does-test _ _ _ _ _ _ _ _ (kind .0) (kind .1))))
+
+test-on : tie.Need-add-p-5 Inv-loop μ-loop
+test-on c =
+    let i = c .before .before .before .before .before .before in
+    let test = i .before .before .before .before .before .before .before .before .before .before in
+    omega (arith, test .loop-test .taken, test .before .before .before .before .before .before .before .good)
+
+test-less : tie.Need-loop-less-6 Inv-loop μ-loop
+test-less c =
+    let i = c .before .before .before .before .before .before in
+    omega (arith, i .before .before .before .before .before .before .before .before .before .before .loop-test .taken)
+
 -- what is left
-set-again : tie.Need-loop-again-6 Inv-loop μ-loop
+set-again : tie.Need-loop-again-7 Inv-loop μ-loop
 set-again c =
-    let x = c .before .before .before .before .before .before .before .before .before in
+    let x = c .before .before .before .before .before .before .before .before .before .before .before in
     going-set _ _ _ _ _ _ _ _ _ _ _ (x .before .before .loop .inv) (x .before .loop-test .taken) _
     (rw (← x .step-at .ensures) (c .said .ensures _ _ _ _ _))
 
 -- its kind is none of the others'
 said-requires : tie.Need-said-requires Inv-loop μ-loop
 said-requires c κs =
-    let i4 = c .before in
+    let i5 = c .before in
+    let i4 = i5 .before .before in
     let i3 = i4 .before .before in
     let i2 = i3 .before .before in
     let i1 = i2 .before .before in (
       range-out _ _ _ (sym (i1 .is-among .ensures) ∙ i2 .before .if1 .left),
-      range-out _ _ _ (sym (i4 .is-among4 .ensures) ∙ c .if6 .left),
-      range-out _ _ _ (sym (i2 .is-among2 .ensures) ∙ i3 .before .if3 .left),
+      range-out _ _ _ (sym (i4 .is-among4 .ensures) ∙ i5 .before .if6 .left),
+      λ from. range-out _ _ _ (sym (i5 .is-among5 .ensures) ∙ c .if7 .left) (range-out _ _ _ (sym (i2 .is-among2 .ensures) ∙ i3 .before .if3 .left) from),
       range-out _ _ _ (sym (i3 .is-among3 .ensures) ∙ i4 .before .if4 .left),
     )
 
@@ -171,12 +195,15 @@ run-with-spec =
     (λ c. omega arith)
     leaf-again
     (λ c κs. search needs)
+    (λ c. omega arith)
+    (λ c κs. search needs)
+    (λ c. omega arith)
     (λ c κs. search needs)
     (λ c κs. search needs)
     (λ c κs. search needs)
     (λ c. omega arith)
     (λ c. omega arith)
-    test-again
+    compare-again
     (λ c κs. search needs)
     (λ c κs. search needs)
     (λ c. omega arith)
@@ -197,6 +224,13 @@ run-with-spec =
     arith-on
     arith-less
     arith-again
+    (λ c κs. search needs)
+    (λ c κs. search needs)
+    (λ c κs. search needs)
+    (λ c κs. search needs)
+    test-on
+    test-less
+    test-again
     said-requires
     (λ c. omega arith)
     (λ c. omega arith)

@@ -1,12 +1,7 @@
--- The tests are those of the contract.
+-- The test is that of the contract.
 use borrow.Author.Tests.{lt-ltb, le-ltb}
 use Rattle.steps.proofs.machine.taken.Statement.{statement}
 use Rattle.steps.proofs.machine.taken.Tie as tie
 
 pub taken-spec : {M : Type 1} → statement M
-taken-spec =
-    tie.close
-    (tie.spec
-    (λ c. rw (lt-ltb _ _ (c .if1 .taken)))
-    (λ c. rw (le-ltb _ _ (c .before .if1 .left), lt-ltb _ _ (c .if2 .taken)))
-    (λ c. rw (le-ltb _ _ (c .before .if1 .left), le-ltb _ _ (c .if2 .left))))
+taken-spec = tie.close (tie.spec (λ c. rw (lt-ltb _ _ (c .if1 .taken))) (λ c. rw (le-ltb _ _ (c .if1 .left))))

@@ -1,4 +1,4 @@
--- The tests are those of the definition.
+-- The test is that of the definition.
 use borrow.Author.Needs.{needs}
 use borrow.Author.Tests.{lt-ltb, le-ltb}
 use Rattle.steps.proofs.machine.tested.Statement.{statement}
@@ -12,20 +12,15 @@ tested-spec =
     (λ c κs. search needs)
     (λ c. search needs)
     (λ c κs. search needs)
-    (λ c κs. search needs)
-    (λ c.
-    let second = c .before .before in
-    rw (lt-ltb _ _ (c .before .if1 .taken), c .compared .ensures, second .at2 .ensures, second .before .at .ensures))
     (λ c. search needs)
     (λ c κs. search needs)
     (λ c κs. search needs)
     (λ c κs. search needs)
     (λ c.
     let third = c .before .before .before in
-    let second = third .before .before in
+    let second = third .before in
     rw (
-      le-ltb _ _ (third .before .if1 .left),
-      lt-ltb _ _ (c .before .before .if2 .taken),
+      lt-ltb _ _ (c .before .before .if1 .taken),
       c .crossed .ensures,
       c .before .at4 .ensures,
       third .at3 .ensures,
@@ -35,10 +30,9 @@ tested-spec =
     (λ c κs. search needs)
     (λ c.
     let third = c .before .before in
-    let second = third .before .before in
+    let second = third .before in
     rw (
-      le-ltb _ _ (third .before .if1 .left),
-      le-ltb _ _ (c .before .if2 .left),
+      le-ltb _ _ (c .before .if1 .left),
       c .within .ensures,
       third .at3 .ensures,
       second .at2 .ensures,

@@ -1,18 +1,15 @@
 -- Case by case.
 use borrow.Author.Needs.{needs}
 use mathlib.Core.Path.{refl}
-use Rattle.steps.specs.Places.{numberOf, isThere}
+use Rattle.steps.specs.Places.{numbersWith, isThere}
 use Rattle.steps.proofs.stack.put.Statement.{statement}
 use Rattle.steps.proofs.stack.put.Tie as tie
 
 pub put-spec : {M : Type 1} → statement M
-unfolding numberOf isThere
+unfolding numbersWith isThere
 put-spec =
     tie.close
     (tie.spec
-    (λ c. search needs)
-    (λ c. search needs)
-    (λ c. search needs)
     (λ c. search needs)
     (λ c. search needs)
     (λ c. search needs)

@@ -1,16 +1,31 @@
--- `kind_of` meets its contract: the code's table is the definition's, row by row.
--- Assumes nothing.
-use Rattle.table.specs.Kinds.{kindOf, kinds, noKind}
-use mathlib.Core.Path.{refl, sym}
+-- The code's names of rows name the rows of the definition's table, one by one.
+use mathlib.Core.Path.{_≡_, refl, sym, _∙_}
+use mathlib.Core.List.{List, [], _∷_}
+use Prim.Native.Nat.{ℕ, _<_}
 use borrow.Author.Needs.{needs}
-use lib.ListN.{List·getD-eq-default}
-use Rattle.table.specs.Kinds.{kindOf, kinds, noKind}
+use lib.ListN.{getD, List·getD-eq-default}
+use Rattle.table.specs.declared.kinds.Row.{Row}
+use Rattle.table.specs.declared.kinds.Row.the-variants.{Unknown, Const, Ref, Price, Prev, Arith, Compare, Cross, Between, Trend}
+use Rattle.table.specs.declared.kinds.Row.the-variants.{All, Any, Not, InPosition, BarsSince}
+use Rattle.table.specs.Kinds.{kindOf, kinds, noKind, rowOf}
+use Rattle.table.specs.Laws.Kinds.{listed, of-rows}
 use Rattle.table.proofs.kinds.kind_of.Statement.{statement}
 use Rattle.table.proofs.kinds.kind_of.Tie as tie
 
+-- the code's names
+names : List Row
+names =
+    Unknown ∷ Const ∷ Ref ∷ Price ∷ Prev ∷ Arith ∷ Arith ∷ Arith ∷ Arith ∷
+    Unknown ∷ Unknown ∷ Unknown ∷ Unknown ∷ Unknown ∷ Unknown ∷ Unknown ∷
+    Compare ∷ Compare ∷ Compare ∷ Compare ∷ Compare ∷ Compare ∷
+    Cross ∷ Cross ∷ Between ∷ Trend ∷ Trend ∷ All ∷ Any ∷ Not ∷ InPosition ∷ BarsSince ∷ []
+
+named : (k : ℕ) → k < 32 → rowOf (getD names k Unknown) ≡ kindOf k
+named = of-rows (λ k. rowOf (getD names k Unknown)) kindOf (unfold listed kindOf kinds rowOf names in refl)
+
 returns : tie.Need-returns
-unfolding kindOf kinds
-returns c = refl
+unfolding names
+returns c = c .row-of .ensures ∙ named _ (c .before .before .if1 .taken)
 
 returns-2 : tie.Need-returns-2
 unfolding kindOf kinds
