@@ -282,10 +282,10 @@ uint64_t ysh_step(const uint64_t *settings, size_t settings_len, uint64_t *state
                   const uint8_t *short_entry, size_t short_entry_len,
                   const uint8_t *short_exit, size_t short_exit_len);
 
-/* Closes an open position at the last close, if a bar was seen, and gives the nine metrics. Refusals 10 (room 0, 7, 8
- * or 9), 12, 13, 14. */
+/* Closes an open position at the last close, if a bar was seen; the last equity point, where there is one, becomes the equity
+ * after that, and the nine metrics are given. Refusals 10 (room 0, 7, 8 or 9), 12, 13, 14. */
 uint64_t ysh_finish(const uint64_t *settings, size_t settings_len, uint64_t *state, size_t state_len,
-                    const uint64_t *rows, size_t rows_len, const uint64_t *equity, size_t equity_len,
+                    const uint64_t *rows, size_t rows_len, uint64_t *equity, size_t equity_len,
                     uint64_t *trades, size_t trades_len, uint64_t *metrics, size_t metrics_len);
 
 /* Answers one tree of a table (0 to 3) over rows and a position, at the newest row: 1 yes, 0 no; no where the tree is

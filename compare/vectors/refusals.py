@@ -196,14 +196,18 @@ def step_call(c):
 
 
 def finish_call(c, figures_of):
-    """What is held is sold at the last close, for what it was bought; the points and the trades before are of zeros."""
+    """What is held is sold at the last close, for what it was bought, and the last point is what is left; the points and the trades before are
+    of zeros."""
     told = answer(finish_refusals(c))
     if told:
         return line(FINISH), line(told)
     closed = c["qty"] != 0 and c["bars"] > 0
     trade = [LAST_TIME, LAST_TIME, bits(1.0), bits(1.0), bits(1.0), 0, 0, 6]
     trades = [0] * 8 * c["trades"] + (trade if closed else [])
-    figures = figures_of(bits(c["capital"]), [0] * c["points"], trades)
+    points = [0] * c["points"]
+    if closed and points:
+        points[-1] = bits(1000.0)
+    figures = figures_of(bits(c["capital"]), points, trades)
     return line(FINISH), line(told, *figures, *(trade if closed else []))
 
 

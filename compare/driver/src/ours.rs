@@ -89,7 +89,7 @@ impl Ours {
             settings: &self.settings,
             state: &mut self.state,
             rows: &self.rows,
-            equity: &self.equity,
+            equity: &mut self.equity,
             trades: &mut self.trades,
             metrics: &mut metrics,
         }))?;
@@ -102,6 +102,22 @@ impl Ours {
         let (points, trades) = (self.points_held(), self.trades_held());
         done(calls::metrics(self.settings[2], points, trades, &mut metrics))?;
         Ok(metrics)
+    }
+
+    /// The same with the last point, where there is one, as given.
+    pub fn metrics_with_last(&self, point: [u64; POINT_WORDS]) -> Result<[u64; METRIC_WORDS], Refusal> {
+        let mut metrics = [UNTOUCHED; METRIC_WORDS];
+        let mut points = self.points_held().to_vec();
+        if let Some(last) = points.last_chunk_mut() {
+            *last = point;
+        }
+        done(calls::metrics(self.settings[2], &points, self.trades_held(), &mut metrics))?;
+        Ok(metrics)
+    }
+
+    /// The last equity point; zeros where there is none.
+    pub fn newest_point(&self) -> [u64; POINT_WORDS] {
+        self.points_held().last_chunk().copied().unwrap_or_default()
     }
 
     fn count(&self, word: usize) -> usize {
@@ -151,7 +167,7 @@ impl Ours {
             0 => [0, 0],
             _ => [1, s[state::ENTRY_BAR]],
         };
-        let point = self.points_held().last_chunk::<2>().copied().unwrap_or_default();
+        let point = self.newest_point();
         let trade = self.trades_held().last_chunk::<8>().copied().unwrap_or_default();
         let held = &s[state::CASH..];
         View::of(&[

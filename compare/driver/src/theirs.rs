@@ -17,9 +17,10 @@ pub struct Theirs {
     reading: Reading,
 }
 
-/// What a run ends with: the nine figures, how many trades, the newest of them, and the fees paid.
+/// What a run ends with: the nine figures, the last equity point, how many trades, the newest of them, and the fees paid.
 pub struct Ending {
     pub metrics: Vec<u64>,
+    pub point: Vec<u64>,
     pub trades: u64,
     pub newest: Vec<u64>,
     pub fees_paid: u64,
@@ -81,13 +82,16 @@ impl Theirs {
         let reading = self.reading;
         let BacktestReport {
             metrics,
+            equity,
             trades,
             fees_paid,
             ..
         } = self.run.finish();
         let metrics = Line::new().metrics(&by_reading(metrics, reading));
+        let point = equity.last().map_or((0, 0.0), |point| (point.time, point.equity));
         Ending {
             metrics: metrics.words().to_vec(),
+            point: Line::new().time(point.0).float(point.1).words().to_vec(),
             trades: trades.len() as u64,
             newest: newest(&trades),
             fees_paid: Line::new().float(fees_paid).words()[0],

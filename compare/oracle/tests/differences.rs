@@ -43,10 +43,19 @@ fn a_working_exit_is_decided_again_in_the_text() {
 }
 
 #[test]
-fn an_entry_of_at_most_eps_counts_bars_in_the_text() {
+fn an_entry_of_at_most_eps_is_booked_by_the_text() {
     let (paper, rust) = both_readings(3);
-    let equity = |x: f64| Line::new().word(120).float(x).text();
-    assert_eq!((&paper[2], &rust[2]), (&equity(9_990.0), &equity(10_000.0)));
+    let equity = |x: f64| Line::new().word(60).float(x).text();
+    assert_eq!((&paper[1], &rust[1]), (&equity(10_000.0), &equity(10_010.0)));
+}
+
+#[test]
+fn the_last_fee_is_missing_from_the_figures_of_the_text() {
+    let (paper, rust) = both_readings(6);
+    let pnl = |answers: &[String]| answers[2][..16].to_string();
+    let word = |x: f64| Line::new().float(x).text();
+    assert_eq!((pnl(&paper), pnl(&rust)), (word(-10.0), word(-5.0)));
+    assert_eq!(paper[2][17 * 8..], rust[2][17 * 8..]);
 }
 
 #[test]

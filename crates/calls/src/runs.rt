@@ -118,19 +118,20 @@ fn finish_call(
     settings: &[u64],
     state: &mut [u64],
     rows: &[u64],
-    equity: &[u64],
+    equity: &mut [u64],
     trades: &mut [u64],
     metrics: &mut [u64],
 ) -> u64 {
     let from: usize = 0;
     let s = rooms::lent(sizes, rooms::STATE, state.len());
+    let e = rooms::lent(sizes, rooms::EQUITY, equity.len());
     let t = rooms::lent(sizes, rooms::TRADES, trades.len());
     let m = rooms::lent(sizes, rooms::METRICS, metrics.len());
     capi::bars::ysh_finish(
         rooms::words_of(sizes, rooms::SETTINGS, settings),
         &mut state[from..s],
         rooms::words_of(sizes, rooms::ROWS, rows),
-        rooms::words_of(sizes, rooms::EQUITY, equity),
+        &mut equity[from..e],
         &mut trades[from..t],
         &mut metrics[from..m],
     )
@@ -142,7 +143,7 @@ pub(crate) fn finish(
     settings: &[u64],
     state: &mut [u64],
     rows: &[u64],
-    equity: &[u64],
+    equity: &mut [u64],
     trades: &mut [u64],
     metrics: &mut [u64],
 ) {

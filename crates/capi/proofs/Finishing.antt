@@ -10,7 +10,7 @@ use Rattle.metrics.specs.declared.Metrics.{Metrics}
 use Rattle.metrics.specs.Figures as Figures
 use Rattle.records.specs.declared.settings.Settings.{Settings}
 use Rattle.records.specs.declared.state.State.{State}
-use Rattle.records.specs.Lent.{Rooms}
+use Rattle.records.specs.Lent.{Rooms, rooms}
 use Rattle.records.specs.Settings.{settingsOf}
 use Rattle.records.specs.StateWords.{stateOf, wordsOf}
 use Rattle.refusals.specs.declared.verdict.Verdict.{Verdict}
@@ -42,7 +42,7 @@ finish-keeps s t m r u e = by-verdict (finishJudged s t m) t m (ended s t m) r u
 module _ (settings state : List ℕ) (m : Rooms) (metrics : List ℕ) where
   -- what a call that changes nothing answers
   abbrev kept : ℕ → Call FinishLent
-  kept a = record { answer = a; lent = record { state = state; trades = m .trades; metrics = metrics } }
+  kept a = record { answer = a; lent = record { state = state; equity = m .equity; trades = m .trades; metrics = metrics } }
 
   pub finish-short : {r : Refusal} {a : ℕ} → judged (lentLines settings state (m .rows)) ≡ Bad r → a ≡ answerWord r
       → finishCall settings state m metrics ≡ kept a
@@ -58,22 +58,22 @@ module _ (settings state : List ℕ) (m : Rooms) (metrics : List ℕ) where
     finish-roomless bad word = call-bad _ _ _ (all-lent ∙ bad) word
 
     module _
-        {s : Settings} {t : State} {finished : Finished} {ts : List ℕ} (all : v ≡ Fine) (read : s ≡ settingsOf settings) (given : t ≡ stateOf state)
-        (ran : Is Finished (finishOf s t m) finished (m .rows) (m .equity) ts) where
+        {s : Settings} {t : State} {finished : Finished} {es ts : List ℕ} (all : v ≡ Fine) (read : s ≡ settingsOf settings) (given : t ≡ stateOf state)
+        (ran : Is Finished (finishOf s t m) finished (m .rows) es ts) where
       finish-ran : let d = finishOf (settingsOf settings) (stateOf state) m in
-          finishGives (d .result) state (d .rooms .trades) metrics ≡ finishGives finished state ts metrics
-      finish-ran = let d = rw (read, given) at ran in simp (d .result, d .trades)
+          finishGives (d .result) state (d .rooms) metrics ≡ finishGives finished state (rooms (m .rows) es ts) metrics
+      finish-ran = let d = rw (read, given) at ran in simp (d .result, d .rows, d .equity, d .trades)
 
       pub finish-refused : {r : Refusal} {a : ℕ} {u : State} → finished ≡ Refused r u → a ≡ answerWord r
-          → finishCall settings state m metrics ≡ record { answer = a; lent = record { state = state; trades = ts; metrics = metrics } }
+          → finishCall settings state m metrics ≡ record { answer = a; lent = record { state = state; equity = es; trades = ts; metrics = metrics } }
       unfolding finishCall finishGives
       finish-refused {r = r} {u = u} refused word =
           let d = rw (read, given) at ran in
           let unchanged = finish-keeps (settingsOf settings) (stateOf state) m r u (sym (d .result) ∙ refused) in
-          call-refused _ _ _ (all-lent ∙ all) (finish-ran ∙ simp refused) word ∙ simp (d .trades, unchanged)
+          call-refused _ _ _ (all-lent ∙ all) (finish-ran ∙ simp refused) word ∙ simp (d .equity, d .trades, unchanged)
 
       pub finish-done : {next : State} {figures : Metrics} {words nine : List ℕ} → finished ≡ Done next figures
           → words ≡ overwrite state 0 (wordsOf next) → nine ≡ overwrite metrics 0 (Figures.wordsOf figures)
-          → finishCall settings state m metrics ≡ record { answer = 0; lent = record { state = words; trades = ts; metrics = nine } }
+          → finishCall settings state m metrics ≡ record { answer = 0; lent = record { state = words; equity = es; trades = ts; metrics = nine } }
       unfolding finishCall finishGives
       finish-done done put nine = call-gives _ _ _ (all-lent ∙ all) (finish-ran ∙ simp (done, put, nine))

@@ -14,20 +14,25 @@ use Rattle.engine.specs.Finish.{finishOf}
 use Rattle.capi.specs.Call.{Call, callOf, unlessBad, metricLines}
 use Rattle.capi.specs.Bars.{lentLines}
 
--- the state's words, the room of trades and that of the metrics
+-- the state's words, the rooms of equity points and of trades, and that of the metrics
 pub record FinishLent : Type 0 where
   pub state : List ℕ
+  pub equity : List ℕ
   pub trades : List ℕ
   pub metrics : List ℕ
 
 -- what the engine's end comes to, in words
-unfoldable pub finishGives : Finished → List ℕ → List ℕ → List ℕ → Outcome FinishLent
-finishGives (Refused why given) state trades metrics = refuses why
-finishGives (Done next figures) state trades metrics =
-    gives (record { state = overwrite state 0 (wordsOf next); trades = trades; metrics = overwrite metrics 0 (Figures.wordsOf figures) })
+unfoldable pub finishGives : Finished → List ℕ → Rooms → List ℕ → Outcome FinishLent
+finishGives (Refused why given) state rooms metrics = refuses why
+finishGives (Done next figures) state rooms metrics = gives (record {
+  state = overwrite state 0 (wordsOf next);
+  equity = rooms .equity;
+  trades = rooms .trades;
+  metrics = overwrite metrics 0 (Figures.wordsOf figures);
+})
 
 unfoldable pub finishCall : List ℕ → List ℕ → Rooms → List ℕ → Call FinishLent
 finishCall settings state rooms metrics =
     let d = finishOf (settingsOf settings) (stateOf state) rooms in
-    callOf (unlessBad (judged (lentLines settings state (rooms .rows) ++ metricLines metrics)) (finishGives (d .result) state (d .rooms .trades) metrics))
-    (record { state = state; trades = rooms .trades; metrics = metrics })
+    callOf (unlessBad (judged (lentLines settings state (rooms .rows) ++ metricLines metrics)) (finishGives (d .result) state (d .rooms) metrics))
+    (record { state = state; equity = rooms .equity; trades = rooms .trades; metrics = metrics })

@@ -64,19 +64,27 @@ pub extern "C" fn ysh_step<'a>(
     }
 }
 
-// The end of a run: an open position is closed, and the metrics are given.
+// The end of a run: an open position is closed, the last equity point counts its fee, and the metrics are given.
 #[no_mangle]
 pub extern "C" fn ysh_finish(
     settings: &[u64],
     state: &mut [u64],
     rows: &[u64],
-    equity: &[u64],
+    equity: &mut [u64],
     trades: &mut [u64],
     metrics: &mut [u64],
 ) -> u64
     ensures { λ r. ⌜ finishCall (now (settings .entry)) (now (state .entry))
         (rooms (now (rows .entry)) (now (equity .entry)) (now (trades .entry))) (now (metrics .entry))
-        ≡ record { answer = r; lent = record { state = now (state .exit); trades = now (trades .exit); metrics = now (metrics .exit) } } ⌝ }
+        ≡ record {
+          answer = r;
+          lent = record {
+            state = now (state .exit);
+            equity = now (equity .exit);
+            trades = now (trades .exit);
+            metrics = now (metrics .exit);
+          };
+        } ⌝ }
 {
     let chosen = settings_of(settings);
     if let Verdict::Bad(refusal) = refusals::rooms::judge_room(chosen, rows) {

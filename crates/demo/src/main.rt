@@ -333,7 +333,7 @@ fn say_metrics(m: Metrics) {
 }
 
 // The end of the run.
-fn say_end(state: State, rows: &[u64], equity: &[u64], trades: &mut [u64]) {
+fn say_end(state: State, rows: &[u64], equity: &mut [u64], trades: &mut [u64]) {
     let seen = state.counts;
     report::say_count(b"bars            ", seen.bars_seen, b" minutes\n");
     match engine::finish(settings(), state, rows, equity, trades) {

@@ -1,8 +1,18 @@
 -- The parts of a run's end, each by its own definition, make the whole.
-use Prim.Native.Nat.{ℕ}
-use mathlib.Core.Path.{_≡_, refl, ap}
+use Prim.Native.Nat.{ℕ, _+_, _-_, _*_, _/_, _<_}
+use mathlib.Core.Path.{_≡_, refl, sym, ap}
 use mathlib.Core.List.{List}
+use native.Mathlib.Omega.{arith}
+use borrow.Author.Tests.{lt-ltb, le-ltb}
+use lib.Ieee.{Float}
+use lib.ListN.{length, set}
+use lib.Seq.{set-out}
+use Rattle.words.specs.Limits as Limits
+use Rattle.floats.specs.Floats.{wordOf}
+use Rattle.portfolio.specs.declared.Closed.{Closed}
+use Rattle.portfolio.specs.Portfolio.{equity}
 use Rattle.execution.specs.declared.Exit.{Exit}
+use Rattle.execution.specs.declared.Exit.the-variants.{NoExit, Exited}
 use Rattle.metrics.specs.declared.Metrics.{Metrics}
 use Rattle.words.specs.declared.refusal.Refusal.{Refusal}
 use Rattle.records.specs.declared.settings.Settings.{Settings}
@@ -14,19 +24,36 @@ use Rattle.engine.specs.declared.ending.Ended.{Ended}
 use Rattle.engine.specs.declared.Finished.{Finished}
 use Rattle.engine.specs.declared.Finished.the-variants.{Refused, Done}
 use Rattle.engine.specs.Books.{booked}
-use Rattle.engine.specs.Finish.{lastExit, endState, measured, ended, concluded, finishOf}
+use Rattle.engine.specs.Finish.{lastExit, remarked, endState, measured, ended, concluded, finishOf}
 use Rattle.engine.specs.Step.{Is}
 
+-- the last point: there is none, it lies past the room, or it is written
+pub no-point : (room : List ℕ) (n : ℕ) (x : Exit) (close : Float) → n ≡ 0 → room ≡ remarked room n x close
+unfolding remarked
+no-point room n NoExit close h = refl
+no-point room n (Exited c) close h = rw (le-ltb 0 n (omega arith))
+
+pub late-point : (room : List ℕ) (n : ℕ) (x : Exit) (close : Float) → length room / Limits.pointWords < n → room ≡ remarked room n x close
+unfolding remarked
+late-point room n NoExit close h = refl
+late-point room n (Exited c) close h = rw (lt-ltb 0 n (omega arith)) (sym (set-out room ((n - 1) * Limits.pointWords + 1) _ (omega arith)))
+
+pub last-point : (room : List ℕ) (n : ℕ) (x : Exit) (close : Float) (c : Closed) (w : ℕ)
+    → x ≡ Exited c → (n ≡ 0 → ⊥) → w ≡ wordOf (equity (c .portfolio) close) → set room ((n - 1) * Limits.pointWords + 1) w ≡ remarked room n x close
+unfolding remarked
+last-point room n x close c w e some v = rw (e, lt-ltb 0 n (omega arith), v)
+
 module _ (s : Settings) (t : State) (m : Rooms) where
-  pub endings : (x : Exit) (st : State) (f : Metrics) (count : ℕ) (ts : List ℕ)
+  pub endings : (x : Exit) (st : State) (f : Metrics) (count : ℕ) (es ts : List ℕ)
       → x ≡ lastExit s t
       → (count ≡ booked (m .trades) (t .counts .trades) x .count) × (ts ≡ booked (m .trades) (t .counts .trades) x .room)
+      → es ≡ remarked (m .equity) (t .counts .«equity_points») x (t .last .close)
       → st ≡ endState t x count
-      → f ≡ measured s (m .equity) (t .counts .«equity_points») ts count
-      → Is Ended (ended s t m) (record { state = st; metrics = f }) (m .rows) (m .equity) ts
+      → f ≡ measured s es (t .counts .«equity_points») ts count
+      → Is Ended (ended s t m) (record { state = st; metrics = f }) (m .rows) es ts
   unfolding ended
-  endings x st f count ts ex eb es ef =
-      rw (ef, es, eb .0, eb .1, ex) (record { result = refl; rows = refl; equity = refl; trades = refl })
+  endings x st f count es ts ex eb ee est ef =
+      rw (ef, est, ee, eb .0, eb .1, ex) (record { result = refl; rows = refl; equity = refl; trades = refl })
 
   pub refused : (why : Refusal) → finishJudged s t m ≡ Bad why
       → Is Finished (finishOf s t m) (Refused why t) (m .rows) (m .equity) (m .trades)

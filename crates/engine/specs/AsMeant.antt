@@ -1,7 +1,7 @@
 -- A box that keeps D rows is a run that keeps everything, and whose rules are asked of what they mean.
 use Prim.Native.Nat.{ℕ}
-use mathlib.Core.Path.{_≡_, refl, sym, _∙_}
-use mathlib.Core.List.{List, [], _∷_, _++_, append-nil, flatMap}
+use mathlib.Core.Path.{_≡_, refl, sym, ap, _∙_}
+use mathlib.Core.List.{List, [], _∷_, _++_, flatMap}
 use native.Mathlib.Nat.{zero-add}
 use native.Mathlib.Omega.{arith}
 use lib.ListN.{take, length-append}
@@ -20,11 +20,12 @@ use Rattle.engine.specs.Boxes.{Grown, Holds}
 use Rattle.engine.specs.Finish.{lastExit, endState, measured, ended}
 use Rattle.engine.specs.Laws.AccountStep.{taken-as-meant}
 use Rattle.engine.specs.Laws.BooksGrow.{flat-append}
-use Rattle.engine.specs.Laws.Finishes.{end-grows}
+use Rattle.engine.specs.Laws.Finishes.{Closes, end-closes}
 use Rattle.engine.specs.Laws.Follows.{run-follows}
+use Rattle.engine.specs.Laws.LastPoint.{remarked-points, end-count}
 use Rattle.engine.specs.Rules.{rulesOf, FromTable}
 use Rattle.engine.specs.Run.{Run, runOver}
-use Rattle.engine.specs.Whole.{Account, accountOf, stateOf, byLists, byMeaning, Whole, wholeRun, wholeEnd, wholeMetrics, meantRun}
+use Rattle.engine.specs.Whole.{Account, accountOf, stateOf, byLists, byMeaning, Whole, wholeRun, endPoints, wholeEnd, wholeMetrics, meantRun}
 use Rattle.engine.specs.WholeHistory.{fresh-follows}
 
 -- what grew from a fresh state's books is all that they hold
@@ -49,7 +50,7 @@ unfolding lastExit toClose
 exit-of-account s t = refl
 
 -- the figures are those of the points and trades held
-figures : (s : Settings) (t : State) (m : Rooms)
+pub figures : (s : Settings) (t : State) (m : Rooms)
     → let e = ended s t m in
     e .result .metrics
     ≡ metricsOf (s .capital) (equityOf (heldPoints (e .result .state) (e .rooms))) (pnlsOf (heldTrades (e .result .state) (e .rooms)))
@@ -63,15 +64,16 @@ pub ends-whole : (s : Settings) (t : State) (m : Rooms) (w : Whole) → Holds t 
 unfolding wholeEnd wholeMetrics
 ends-whole s t m w h fine =
     let x = lastExit s (stateOf (w .account)) in
-    let g : Grown t m (ended s t m .result .state) (ended s t m .rooms) [] (tradesOf x) =
-    rw (← (h .account), ← (exit-of-account s t)) (end-grows s t m fine) in
-    let equity : heldPoints (ended s t m .result .state) (ended s t m .rooms) ≡ flatMap wordsOfPoint (w .points) =
-    g .equity ∙ rw (h .equity) (unfold flatMap in append-nil _) in
+    let close = w .account .last .close in
+    let g : Closes t m (ended s t m .result .state) (ended s t m .rooms) x =
+    rw (← (h .account), ← (exit-of-account s t)) (end-closes s t m fine) in
+    let equity : heldPoints (ended s t m .result .state) (ended s t m .rooms) ≡ flatMap wordsOfPoint (endPoints (w .points) x close) =
+    g .equity ∙ rw (h .equity, h .points, ap (λ (a : Account). a .last) (h .account)) (remarked-points (w .points) close x) in
     let closed : heldTrades (ended s t m .result .state) (ended s t m .rooms) ≡ flatMap wordsOfTrade (w .trades ++ tradesOf x) =
     g .closed ∙ rw (h .closed) (sym (flat-append wordsOfTrade (w .trades) (tradesOf x))) in (
       record {
         account = rw (← (h .account), ← (exit-of-account s t)) (unfold ended endState in refl);
-        points = omega (arith, g .points, h .points);
+        points = g .points ∙ h .points ∙ sym (end-count (w .points) x close);
         trades = omega (arith, g .trades, h .trades, length-append (w .trades) (tradesOf x));
         equity = equity;
         closed = closed;

@@ -31,6 +31,12 @@ pointOf k p = record { time = k .time; equity = equity (p .portfolio) (k .close)
 unfoldable pub wordsOfPoint : Point → List ℕ
 wordsOfPoint p = p .time ∷ wordOf (p .equity) ∷ []
 
+-- the last of these points with another equity; its time stays
+unfoldable pub lastBecomes : List Point → Float → List Point
+lastBecomes [] e = []
+lastBecomes (p ∷ []) e = record { time = p .time; equity = e } ∷ []
+lastBecomes (p ∷ (q ∷ ps)) e = p ∷ lastBecomes (q ∷ ps) e
+
 -- the trade of an exit, where there is one
 unfoldable pub tradesOf : Exit → List Trade
 tradesOf NoExit = []

@@ -1,9 +1,13 @@
 -- The end of a run.
-use Prim.Native.Nat.{ℕ, _*_}
+use Prim.Native.Nat.{ℕ, _+_, _-_, _*_}
 use mathlib.Core.Bool.{cond}
 use mathlib.Core.List.{List}
-use lib.ListN.{take}
+use lib.Dec.{ltb}
+use lib.Ieee.{Float}
+use lib.ListN.{take, set}
 use Rattle.words.specs.Limits as Limits
+use Rattle.floats.specs.Floats.{wordOf}
+use Rattle.portfolio.specs.Portfolio.{equity}
 use Rattle.portfolio.specs.Trade.{end}
 use Rattle.execution.specs.declared.Exit.{Exit}
 use Rattle.execution.specs.declared.Exit.the-variants.{NoExit, Exited}
@@ -32,6 +36,13 @@ lastExit s t =
     (Exited (closed (t .position .portfolio) (t .last .close) (t .last .time) (s .terms .«taker_bps») end))
     NoExit
 
+-- "If finish closes a position, the last equity point, where there is one, becomes the equity after closing" (request 7): the account's
+-- at the last close, with nothing open. The point's time stays.
+unfoldable pub remarked : List ℕ → ℕ → Exit → Float → List ℕ
+remarked room points NoExit close = room
+remarked room points (Exited c) close =
+    cond (ltb 0 points) (set room ((points - 1) * Limits.pointWords + 1) (wordOf (equity (c .portfolio) close))) room
+
 -- what is left of the state: the position is left, and the trade is counted
 unfoldable pub endState : State → Exit → ℕ → State
 endState t x trades = record {
@@ -46,7 +57,8 @@ endState t x trades = record {
   last = t .last;
 }
 
--- "Metrics take their equity from the marked points only, as `finish` does."; the trades are all, the last one too
+-- "Metrics take their equity from the marked points only, as `finish` does.": the last of them with the closing fee. The trades are all, the
+-- last one too.
 unfoldable pub measured : Settings → List ℕ → ℕ → List ℕ → ℕ → Metrics
 measured s equity points trades count =
     metricsOf (s .capital) (equityOf (take (points * Limits.pointWords) equity)) (pnlsOf (take (count * Limits.tradeWords) trades))
@@ -55,9 +67,10 @@ unfoldable pub ended : Settings → State → Rooms → With Ended
 ended s t m =
     let x = lastExit s t in
     let b = booked (m .trades) (t .counts .trades) x in
+    let e = remarked (m .equity) (t .counts .«equity_points») x (t .last .close) in
     record {
-      result = record { state = endState t x (b .count); metrics = measured s (m .equity) (t .counts .«equity_points») (b .room) (b .count) };
-      rooms = record { rows = m .rows; equity = m .equity; trades = b .room };
+      result = record { state = endState t x (b .count); metrics = measured s e (t .counts .«equity_points») (b .room) (b .count) };
+      rooms = record { rows = m .rows; equity = e; trades = b .room };
     }
 
 -- The paper's values for each case of the answer.

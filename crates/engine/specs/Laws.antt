@@ -14,4 +14,5 @@ pub mod Verdicts
 pub mod NeverTen
 pub mod Alike
 pub mod TwoRuns
+pub mod LastPoint
 pub mod Finishes

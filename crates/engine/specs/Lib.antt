@@ -14,4 +14,5 @@ pub mod AsMeant
 pub mod SameRun
 pub mod WholeRun
 pub mod OtherBooks
+pub mod LastFee
 pub mod Edges

@@ -14,7 +14,7 @@ use Rattle.engine.specs.Boxes.{SameCounts, Alike, SameButRows, Holds}
 use Rattle.engine.specs.Finish.{ended}
 use Rattle.engine.specs.Laws.BooksGrow.{same-room}
 use Rattle.engine.specs.Laws.Counts.{counts-never-exceed}
-use Rattle.engine.specs.Laws.Finishes.{same-end, same-end-room}
+use Rattle.engine.specs.Laws.Finishes.{same-end, same-end-points, same-end-room}
 use Rattle.engine.specs.Laws.Follows.{run-follows}
 use Rattle.engine.specs.Laws.TwoRuns.{fresh-sound, run-sound, same-counts-run}
 use Rattle.engine.specs.Laws.Verdicts.{roomy, same-finish-verdict}
@@ -84,6 +84,7 @@ module _ (s : Settings) (ls : Lists) (m m′ : Rooms) (bars : List (List ℕ))
       → let r = runOver s ls (freshState s) m bars in
       let r′ = runOver s ls (freshState s) m′ bars in
       (r .rooms .equity ≡ r′ .rooms .equity) × (r .rooms .trades ≡ r′ .rooms .trades)
+      × (ended s (r .state) (r .rooms) .rooms .equity ≡ ended s (r′ .state) (r′ .rooms) .rooms .equity)
       × (ended s (r .state) (r .rooms) .rooms .trades ≡ ended s (r′ .state) (r′ .rooms) .rooms .trades)
   unfolding heldPoints heldTrades
   same-rooms e c =
@@ -94,9 +95,12 @@ module _ (s : Settings) (ls : Lists) (m m′ : Rooms) (bars : List (List ℕ))
       let box = same-run .box in
       let closed : r .rooms .trades ≡ r′ .rooms .trades =
       same-room (r .state .counts .trades * Limits.tradeWords) (r′ .state .counts .trades * Limits.tradeWords) _ _ (box .closed)
-      (g .behindTrades ∙ rw (box .trades, c) (sym (g′ .behindTrades))) in (
-        same-room (r .state .counts .«equity_points» * Limits.pointWords) (r′ .state .counts .«equity_points» * Limits.pointWords) _ _ (box .equity)
-            (g .behindPoints ∙ rw (box .points, e) (sym (g′ .behindPoints))),
+      (g .behindTrades ∙ rw (box .trades, c) (sym (g′ .behindTrades))) in
+      let points : r .rooms .equity ≡ r′ .rooms .equity =
+      same-room (r .state .counts .«equity_points» * Limits.pointWords) (r′ .state .counts .«equity_points» * Limits.pointWords) _ _ (box .equity)
+      (g .behindPoints ∙ rw (box .points, e) (sym (g′ .behindPoints))) in (
+        points,
         closed,
+        same-end-points s (r .state) (r .rooms) (r′ .state) (r′ .rooms) box points,
         same-end-room s (r .state) (r .rooms) (r′ .state) (r′ .rooms) box closed,
       )

@@ -1,10 +1,14 @@
 -- A run that keeps every row: what a bar does to an account, over all rows before it, and what it adds to the books.
 use Prim.Native.Nat.{ℕ, _+_}
 use mathlib.Core.List.{List, [], _∷_, _++_, flatMap}
+use lib.Ieee.{Float}
 use Rattle.rows.specs.History.{historyOf, lastRows}
 use Rattle.rules.specs.declared.PositionState.{PositionState}
 use Rattle.portfolio.specs.declared.Trade.{Trade}
+use Rattle.portfolio.specs.Portfolio.{equity}
 use Rattle.portfolio.specs.Trade.{wordsOfTrade}
+use Rattle.execution.specs.declared.Exit.{Exit}
+use Rattle.execution.specs.declared.Exit.the-variants.{NoExit, Exited}
 use Rattle.metrics.specs.declared.Metrics.{Metrics}
 use Rattle.metrics.specs.Figures.{metricsOf}
 use Rattle.metrics.specs.Records.{equityOf, pnlsOf}
@@ -17,7 +21,7 @@ use Rattle.records.specs.Bar.{candleOf}
 use Rattle.records.specs.Lent.{Lists, Rooms}
 use Rattle.records.specs.State.{freshState}
 use Rattle.engine.specs.Account.{leaving, filled, intrabar, charged}
-use Rattle.engine.specs.Books.{Point, pointOf, wordsOfPoint, tradesOf}
+use Rattle.engine.specs.Books.{Point, pointOf, wordsOfPoint, lastBecomes, tradesOf}
 use Rattle.engine.specs.Decide.{Answers, answersOf, stateAt, orderAfter}
 use Rattle.engine.specs.Finish.{lastExit}
 use Rattle.engine.specs.Record.{rowOf, heldRows}
@@ -118,6 +122,11 @@ stateOf a = record {
   last = a .last;
 }
 
+-- "If finish closes a position, the last equity point, where there is one, becomes the equity after closing"
+unfoldable pub endPoints : List Point → Exit → Float → List Point
+endPoints ps NoExit close = ps
+endPoints ps (Exited c) close = lastBecomes ps (equity (c .portfolio) close)
+
 -- "Finish closes an open position, if a bar was seen, at the last close with a taker fee, reason end."
 unfoldable pub wholeEnd : Settings → Whole → Whole
 wholeEnd s w =
@@ -125,7 +134,7 @@ wholeEnd s w =
     let a = w .account in
     record {
       account = record { seen = a .seen; order = a .order; position = leaving (a .position) x; last = a .last };
-      points = w .points;
+      points = endPoints (w .points) x (a .last .close);
       trades = w .trades ++ tradesOf x;
     }
 

@@ -1,7 +1,7 @@
 // The end of a run: the last trade and the figures.
 ghost use mathlib.Core.Path.{_≡_};
 ghost use Rattle.records.specs.Lent.{rooms};
-ghost use Rattle.engine.specs.Finish.{lastExit, endState, measured, ended};
+ghost use Rattle.engine.specs.Finish.{lastExit, remarked, endState, measured, ended};
 ghost use Rattle.engine.specs.Step.{Is};
 use crate::account;
 use crate::record;
@@ -31,6 +31,26 @@ fn last_exit(s: Settings, t: State) -> Exit
         return Exit::Exited(costs::close(account, last.close, last.time, terms.taker_bps, END));
     }
     Exit::NoExit
+}
+
+// The last equity point, where there is one, becomes the equity after closing; its time stays.
+fn remark(equity: &mut [u64], n: usize, exit: Exit, close: f64)
+    ensures { λ _. ⌜ now (equity .exit) ≡ remarked (now (equity .entry)) n «exit» close ⌝ }
+{
+    match exit {
+        Exit::NoExit => {}
+        Exit::Exited(c) => {
+            if n == 0 {
+                return;
+            }
+            if equity.len() / words::limits::POINT_WORDS < n {
+                return;
+            }
+            let account = c.portfolio;
+            let at = (n - 1) * words::limits::POINT_WORDS + 1;
+            equity[at] = floats::word_of(account.equity(close));
+        }
+    }
 }
 
 // The state with its position left and its trades counted anew.
@@ -69,15 +89,17 @@ pub(crate) fn conclude(
     s: Settings,
     t: State,
     rows: &[u64],
-    equity: &[u64],
+    equity: &mut [u64],
     trades: &mut [u64],
 ) -> Ended
     ensures { λ r. ⌜ Is Ended (ended s t (rooms (now (rows .entry)) (now (equity .entry)) (now (trades .entry))))
-        r (now (rows .entry)) (now (equity .entry)) (now (trades .exit)) ⌝ }
+        r (now (rows .entry)) (now (equity .exit)) (now (trades .exit)) ⌝ }
 {
     let n = t.counts;
+    let last = t.last;
     let exit = last_exit(s, t);
     let count = account::book(trades, n.trades, exit);
+    remark(equity, n.equity_points, exit, last.close);
     let state = end_state(t, exit, count);
     let metrics = measure(s, equity, n.equity_points, trades, count);
     Ended { state, metrics }

@@ -140,11 +140,17 @@ pub fn step<'a>(
     }
 }
 
-// The end of a run: an open position is closed at the last close, and the figures are made. Of the rows nothing is read:
-// they are handed over so that the state is judged by all the rooms that it counts.
-pub fn finish(s: Settings, t: State, rows: &[u64], equity: &[u64], trades: &mut [u64]) -> Finished
+// The end of a run: an open position is closed at the last close, the last equity point counts its fee, and the figures are made. Of
+// the rows nothing is read: they are handed over so that the state is judged by all the rooms that it counts.
+pub fn finish(
+    s: Settings,
+    t: State,
+    rows: &[u64],
+    equity: &mut [u64],
+    trades: &mut [u64],
+) -> Finished
     ensures { λ r. ⌜ Is Finished (finishOf s t (rooms (now (rows .entry)) (now (equity .entry)) (now (trades .entry))))
-        r (now (rows .entry)) (now (equity .entry)) (now (trades .exit)) ⌝ }
+        r (now (rows .entry)) (now (equity .exit)) (now (trades .exit)) ⌝ }
 {
     let verdict = refusals::judge_finish(s, t, rows, equity, trades);
     match verdict {

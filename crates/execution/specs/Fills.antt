@@ -3,7 +3,7 @@ use mathlib.Core.Bool.{cond}
 use Prim.Native.Nat.{ℕ}
 use lib.Ieee as Ieee
 use lib.Ieee.{Float}
-use Rattle.floats.specs.Floats.{_⊗_, _≺_, min, zero, one}
+use Rattle.floats.specs.Floats.{_⊗_, _≺_, min, eps, zero, one}
 use Rattle.rows.specs.History.{History}
 use Rattle.portfolio.specs.declared.Candle.{Candle}
 use Rattle.portfolio.specs.declared.Portfolio.{Portfolio}
@@ -53,10 +53,11 @@ probeQty Slippage.Unknown sizing r cash raw rv = zero
 unfoldable pub withinVolume : Terms → Float → Float → Float
 withinVolume terms base volume = cond (terms .«partial_fills») (min base (terms .«max_participation» ⊗ volume)) base
 
--- `if base > 0.0 { let fee = base * fill * taker;  pf.enter(dir * base, fill, candle.time, fee); .. }`
+-- `if base > 0.0 { let fee = base * fill * taker;  pf.enter(dir * base, fill, candle.time, fee); .. }`, where request 7 puts EPS for 0:
+-- "an entry whose quantity is at most EPS takes cash but counts as flat .. such an entry is now dropped"
 unfoldable pub booked : Float → Float → Float → Terms → Candle → Portfolio → Entry
 booked dir base fill terms k p =
-    cond (zero ≺ base)
+    cond (eps ≺ base)
     (Entered (entered p (dir ⊗ base) fill (k .time) (base ⊗ fill ⊗ takerRate (terms .«taker_bps»))) fill)
     NoEntry
 

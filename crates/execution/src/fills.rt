@@ -67,11 +67,11 @@ fn within_volume(terms: Terms, base: f64, volume: f64) -> f64
     base
 }
 
-// The position opened, where there is anything to open.
+// The position opened, where it would not count as flat.
 fn booked(dir: f64, base: f64, fill: f64, terms: Terms, candle: Candle, pf: Portfolio) -> Entry
     ensures { λ r. ⌜ r ≡ booked dir base fill terms candle pf ⌝ }
 {
-    if base > 0.0 {
+    if base > floats::EPS {
         let taker = terms.taker_bps / 10_000.0;
         let fee = base * fill * taker;
         return Entry::Entered(pf.enter(dir * base, fill, candle.time, fee), fill);

@@ -82,10 +82,10 @@ impl Engine {
         })
     }
 
-    /// Closes an open position at the last close, if a bar was seen, and gives the metrics.
+    /// Closes an open position at the last close, if a bar was seen, and gives the metrics. The last equity point counts its fee.
     pub fn finish(&mut self) -> Result<Metrics, Refusal> {
         let mut metrics = [0; raw::METRIC_WORDS];
-        // SAFETY: each pointer and length is a slice's; those lent for writing are two fields of self and a local.
+        // SAFETY: each pointer and length is a slice's; those lent for writing are three fields of self and a local.
         answered(unsafe {
             raw::ysh_finish(
                 self.settings.as_ptr(),
@@ -94,7 +94,7 @@ impl Engine {
                 self.state.len(),
                 self.rows.as_ptr(),
                 self.rows.len(),
-                self.equity.as_ptr(),
+                self.equity.as_mut_ptr(),
                 self.equity.len(),
                 self.trades.as_mut_ptr(),
                 self.trades.len(),

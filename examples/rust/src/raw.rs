@@ -30,7 +30,7 @@ extern "C" {
     ) -> u64;
     pub fn ysh_finish(
         settings: *const u64, settings_len: usize, state: *mut u64, state_len: usize, rows: *const u64, rows_len: usize,
-        equity: *const u64, equity_len: usize, trades: *mut u64, trades_len: usize, metrics: *mut u64, metrics_len: usize,
+        equity: *mut u64, equity_len: usize, trades: *mut u64, trades_len: usize, metrics: *mut u64, metrics_len: usize,
     ) -> u64;
     pub fn ysh_root(word: u64) -> u64;
 }

@@ -50,6 +50,7 @@ pub fn same_ending(
     tally: &mut Tally,
 ) -> Result<(), Mismatch> {
     let mut parted = unlike(&METRICS, &ours.metrics, &theirs.metrics);
+    parted.extend(unlike(&["point time", "equity"], &ours.point, &theirs.point));
     parted.extend(unlike(&NAMES[NAMES.len() - 8..], &ours.newest, &theirs.newest));
     parted.extend(unlike(
         &["trades", "fees paid"],

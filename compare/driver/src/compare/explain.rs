@@ -12,16 +12,17 @@ use crate::view::{Unlike, View};
 pub enum Entry {
     AbsentShortExit = 1,
     WorkingExit = 2,
-    FlatEntryBar = 3,
     FundingNotSupplied = 4,
     ProfitFactor = 5,
     ZeroSigns = 6,
+    LastFee = 9,
+    Dust = 10,
 }
 
-/// How many runs each entry parted; entry 6 does not end a comparison.
+/// How many runs each entry parted; entries 6 and 9 do not end a comparison.
 #[derive(Debug, Clone, Copy, Default)]
 pub struct Explained {
-    entries: [u64; 7],
+    entries: [u64; 11],
     /// Runs in which the text as it stands agreed to the end.
     pub undivided: u64,
 }
@@ -37,7 +38,7 @@ impl Explained {
     }
 
     pub fn text(&self) -> String {
-        let each: Vec<String> = (1..7).map(|n| format!("{n}: {}", self.entries[n])).collect();
+        let each: Vec<String> = [1, 2, 4, 5, 6, 9, 10].map(|n| format!("{n}: {}", self.entries[n])).to_vec();
         each.join(", ")
     }
 }
@@ -55,9 +56,8 @@ pub fn met(entry: Entry, case: &Case, i: usize, view: &View) -> bool {
             let counted_down = view.word("order delay") < case.settings.delay.into();
             decides && view.in_position() && view.word("order") == 3 && counted_down
         }
-        Entry::FlatEntryBar => decides && view.word("entered") == 1 && !view.in_position(),
         Entry::FundingNotSupplied => case.settings.funding && bar.funding.is_none(),
-        Entry::ProfitFactor => false,
+        Entry::ProfitFactor | Entry::LastFee | Entry::Dust => false,
         Entry::ZeroSigns => has_a_zero_price(bar),
     }
 }
@@ -73,8 +73,35 @@ pub fn are_zero_signs(parted: &[Unlike]) -> bool {
     parted.iter().all(sign)
 }
 
+/// What an entry that is booked, and what is decided after it, shows in.
+const BOOKED: [&str; 12] = [
+    "equity",
+    "order",
+    "order delay",
+    "entered",
+    "entry bar",
+    "cash",
+    "qty",
+    "entry price",
+    "entry time",
+    "entry fee",
+    "fees paid",
+    "extreme",
+];
+
+/// Entry 10: on bar `i` the text has booked an entry of at most EPS, and here the account is flat with no entry bar.
+fn is_dust(parted: &[Unlike], i: usize, ours: &View, theirs: &View) -> bool {
+    let entered = theirs.word("entered") == 1 && theirs.word("entry bar") == i as u64;
+    let dust = theirs.float("qty") != 0.0 && !theirs.in_position();
+    let flat = ours.word("entered") == 0 && !ours.in_position();
+    entered && dust && flat && parted.iter().all(|one| BOOKED.contains(&one.what))
+}
+
 /// The entry that parted the text from us on bar `i`, where one was met. Deciding shows in the order alone.
-pub fn parted_by(parted: &[Unlike], case: &Case, i: usize, view: &View) -> Option<Entry> {
+pub fn parted_by(parted: &[Unlike], case: &Case, i: usize, view: &View, theirs: &View) -> Option<Entry> {
+    if is_dust(parted, i, view, theirs) {
+        return Some(Entry::Dust);
+    }
     let (decided, other): (Vec<_>, Vec<_>) = parted
         .iter()
         .cloned()
@@ -82,7 +109,7 @@ pub fn parted_by(parted: &[Unlike], case: &Case, i: usize, view: &View) -> Optio
     if decided.is_empty() || !are_zero_signs(&other) {
         return None;
     }
-    [Entry::AbsentShortExit, Entry::WorkingExit, Entry::FlatEntryBar]
+    [Entry::AbsentShortExit, Entry::WorkingExit]
         .into_iter()
         .find(|&entry| met(entry, case, i, view))
 }

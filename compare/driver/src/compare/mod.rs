@@ -66,6 +66,7 @@ const RUST: &str = "the Rust as it stands";
 const LARGER: &str = "the same run with a larger room for rows";
 const ROWS: &str = "the rows handed over";
 const METRICS_CALL: &str = "the metrics by the call of their own";
+const TWICE: &str = "a second finish";
 
 /// Compares a case; what was compared, or the first place where the two sides part.
 pub fn compare_case(case: &Case, plan: Plan) -> Result<Tally, Mismatch> {
@@ -181,7 +182,7 @@ impl<'a> Comparison<'a> {
             }
             Err(_) => return Err(Mismatch::one(Some(i), RUST, "refused", 0, 1)),
         };
-        if let Some(entry) = explain::parted_by(&parted, self.case, i, &view) {
+        if let Some(entry) = explain::parted_by(&parted, self.case, i, &view, &rust.view()) {
             self.tally.explained.count(entry);
             return Ok(());
         }
@@ -193,17 +194,24 @@ impl<'a> Comparison<'a> {
     fn finish(mut self) -> Result<Tally, Mismatch> {
         self.rows_agree()?;
         let refused = |refusal| Mismatch::refused(None, PAPER, refusal);
+        let marked = self.tight.newest_point();
         let metrics = self.tight.finish().map_err(refused)?;
         let again = self.larger.finish().map_err(refused)?;
         let called = self.tight.metrics().map_err(refused)?;
-        for (against, theirs) in [(LARGER, again), (METRICS_CALL, called)] {
+        let (state, equity) = (self.tight.state, self.tight.equity.clone());
+        let twice = self.tight.finish().map_err(refused)?;
+        if (state, &equity) != (self.tight.state, &self.tight.equity) {
+            return Err(Mismatch::one(None, TWICE, "words changed", 1, 0));
+        }
+        for (against, theirs) in [(LARGER, again), (METRICS_CALL, called), (TWICE, twice)] {
             let parted = unlike(&METRICS, &metrics, &theirs);
             if !parted.is_empty() {
                 return Err(Mismatch::new(None, against, parted));
             }
         }
-        let ending = Ending {
+        let mut ending = Ending {
             metrics: metrics.to_vec(),
+            point: self.tight.newest_point().to_vec(),
             trades: self.tight.state[calls::state::TRADES],
             newest: self
                 .tight
@@ -215,6 +223,13 @@ impl<'a> Comparison<'a> {
         let signs = self.signs;
         same_ending(PAPER, &ending, &self.paper.finish(), signs, &mut self.tally)?;
         if let Some(rust) = self.rust.take() {
+            // Entry 9: with the last point as the last bar marked it, the figures are the text's.
+            let before = self.tight.metrics_with_last(marked).map_err(refused)?;
+            if before != metrics {
+                self.tally.explained.count(Entry::LastFee);
+            }
+            ending.metrics = before.to_vec();
+            ending.point = marked.to_vec();
             same_ending(RUST, &ending, &rust.finish(), signs, &mut self.tally)?;
             self.tally.explained.undivided += 1;
         }

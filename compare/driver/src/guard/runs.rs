@@ -163,7 +163,7 @@ impl Guard {
             settings: lent.settings.lent(),
             state: lent.state.lent_mut(),
             rows: lent.rows.lent(),
-            equity: lent.equity.lent(),
+            equity: lent.equity.lent_mut(),
             trades: lent.trades.lent_mut(),
             metrics: lent.metrics.lent_mut(),
         });
@@ -173,9 +173,11 @@ impl Guard {
             let trades = lent.state.content[state::TRADES];
             let closed = (lent.state.lent()[state::TRADES] - trades) as usize;
             let at = TRADE_WORDS * trades as usize;
+            // Where a position was closed, the last point has another equity.
+            let last = POINT_WORDS * lent.state.content[state::EQUITY_POINTS] as usize;
             let in_place = closed <= 1
                 && lent.rows.is_unchanged()
-                && lent.equity.is_unchanged()
+                && lent.equity.is_unchanged_outside(last - closed.min(last), last)
                 && lent.trades.is_unchanged_outside(at, at + closed * TRADE_WORDS)
                 && lent.metrics.is_unchanged_outside(0, METRIC_WORDS)
                 && lent.state.is_unchanged_outside(0, STATE_WORDS);

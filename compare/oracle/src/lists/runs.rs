@@ -101,7 +101,7 @@ fn edges() -> Vec<String> {
     let six = [100.0, 101.0, 102.0, 101.0, 103.0, 104.0];
     let short = trees(never(), always(), Some(always()), None);
     let held_long = trees(always(), bars_since(2, 2), Some(never()), Some(never()));
-    // An entry of at most EPS is flat, so it has no bars since entry; at such prices it can be seen in the cash.
+    // An entry of at most EPS is dropped; at such prices it would be seen in the cash.
     let tiny = trees(
         negated(bars_since(2, 0)),
         never(),
@@ -241,13 +241,16 @@ fn edges() -> Vec<String> {
     .concat()
 }
 
-/// The smallest run on each point where document 01 and the Rust differ, in the order of docs/DIFFERENCES.md.
+/// The smallest run on each point where document 01 or a request and the Rust differ; docs/DIFFERENCES.md gives their numbers.
 pub fn differences() -> Vec<String> {
     let tiny = Settings {
         sizing: Sizing::FixedQty { qty: 1e-16 },
         ..plain()
     };
-    let forgetful = trees(negated(bars_since(2, 0)), never(), None, None);
+    let fee = Settings {
+        taker_bps: 10.0,
+        ..plain()
+    };
     let both = trees(always(), always(), None, None);
     let hold = trees(always(), never(), None, None);
     [
@@ -257,7 +260,11 @@ pub fn differences() -> Vec<String> {
             &level(&[100.0; 3]),
         ),
         run(Settings { delay: 1, ..plain() }, &both, &level(&[100.0; 5])),
-        run(tiny, &forgetful, &level(&[1e17; 3])),
+        run(
+            tiny,
+            &hold,
+            &bars(&[(1e17, 1e17, 1e17, 1e17), (1e17, 2e17, 1e17, 2e17)]),
+        ),
         run(
             plain(),
             &hold,
@@ -271,6 +278,7 @@ pub fn differences() -> Vec<String> {
             &hold,
             &level(&[100.0]),
         ),
+        run(fee, &hold, &level(&[100.0; 2])),
     ]
     .concat()
 }
@@ -412,8 +420,8 @@ fn steady_walk(dice: &mut Dice, count: u64) -> Vec<Bar> {
     (0..count).map(&mut step).collect()
 }
 
-/// One long run in which every reason to leave occurs, and in which document 01 and the Rust agree. The fee is a rebate:
-/// it alone leaves something to trade with after a liquidation.
+/// One long run in which every reason to leave occurs, and in which both readings agree but for the last fee. The fee is a
+/// rebate: it alone leaves something to trade with after a liquidation.
 pub fn run_long(seed: u64) -> Vec<String> {
     let dice = &mut Dice::new(seed);
     let wanted = |kind: u64, level: f64| compare(kind, slot(0), number(level));

@@ -46,13 +46,15 @@ pub fn intrabar_exit(candle: &Candle, risk: &Risk, entry: f64, extreme: f64, is_
 }
 
 /// What an account holds besides its rows: what fills and exits change.
+#[derive(Clone)]
 pub struct Account {
     pub portfolio: Portfolio,
     pub entry_bar: Option<usize>,
     pub extreme: f64,
 }
 
-/// A market entry at `raw_price` on bar number `bar`, with the closes of the rows before it.
+/// A market entry at `raw_price` on bar number `bar`, with the closes of the rows before it; by request 7 one that leaves the account flat is
+/// dropped.
 pub fn execute_entry(
     spec: &StrategySpec,
     side: u64,
@@ -64,8 +66,13 @@ pub fn execute_entry(
 ) -> Result<()> {
     let history = rows_of(closes);
     let ctx = context(spec, candle, &history, bar);
+    let before = account.clone();
     let Account { portfolio, entry_bar, extreme } = account;
-    super::execute_entry(side_of(side), raw_price, false, &ctx, portfolio, entry_bar, extreme)
+    super::execute_entry(side_of(side), raw_price, false, &ctx, portfolio, entry_bar, extreme)?;
+    if !account.portfolio.in_position() {
+        *account = before;
+    }
+    Ok(())
 }
 
 /// A market exit by signal at `raw_price`.
@@ -146,13 +153,13 @@ impl Run {
         }
     }
 
-    /// The parts of `step_with_feeds`, in its order, with document 01's three departures: a bar without funding is not
-    /// refused, nothing is decided while an order works, and an entry bar does not count while flat.
+    /// The parts of `step_with_feeds`, in its order, with three departures: a bar without funding is not refused and nothing is decided
+    /// while an order works (document 01), and an entry of at most EPS is dropped (request 7).
     fn step_by_paper(&mut self, candle: &Candle, tick: Option<&DerivativesTick>) -> Result<()> {
         let run = &mut self.text;
         let bar = bar_of(candle, tick, run.bars_seen);
         run.last = Some((candle.time, candle.close));
-        run.fill_working_order(&bar)?;
+        fill_but_no_dust(run, &bar)?;
         let idx = run.record_bar(&bar);
         run.apply_intrabar_exits(&bar);
         run.charge_funding(&bar);
@@ -160,13 +167,7 @@ impl Run {
         if run.pending.is_some() {
             return Ok(());
         }
-        let entry_bar = run.entry_bar;
-        if !run.pf.in_position() {
-            run.entry_bar = None;
-        }
-        let decided = run.decide_next_action(&bar, idx);
-        run.entry_bar = entry_bar;
-        decided
+        run.decide_next_action(&bar, idx)
     }
 
     /// The newest equity point, and how many trades have been closed.
@@ -195,8 +196,37 @@ impl Run {
         }
     }
 
-    pub fn finish(self) -> BacktestReport {
+    pub fn finish(mut self) -> BacktestReport {
+        if self.reading == Reading::Paper {
+            count_the_last_fee(&mut self.text);
+        }
         self.text.finish()
+    }
+}
+
+/// The working order is filled; an entry that leaves the account flat is dropped.
+fn fill_but_no_dust(run: &mut StreamingBacktest, bar: &Bar) -> Result<()> {
+    let enters = run.pending.as_ref().is_some_and(|pending| matches!(pending.action, Action::Enter { .. }));
+    if !enters {
+        return run.fill_working_order(bar);
+    }
+    let (portfolio, entry_bar, extreme) = (run.pf.clone(), run.entry_bar, run.extreme);
+    run.fill_working_order(bar)?;
+    if !run.pf.in_position() {
+        (run.pf, run.entry_bar, run.extreme) = (portfolio, entry_bar, extreme);
+    }
+    Ok(())
+}
+
+/// Where finish will close a position, the last equity point becomes the equity after closing (request 7).
+fn count_the_last_fee(run: &mut StreamingBacktest) {
+    let (Some((time, close)), Some(point)) = (run.last, run.equity.last_mut()) else {
+        return;
+    };
+    if run.pf.in_position() {
+        let mut closed = run.pf.clone();
+        closed.exit(close, time, run.pf.qty.abs() * close * run.taker, "end");
+        point.equity = closed.equity(close);
     }
 }
 

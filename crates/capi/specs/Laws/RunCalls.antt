@@ -72,11 +72,11 @@ step-honest settings state bar m ls =
 
 -- ---- ysh_finish
 
-finish-by : (finished : Finished) (state trades metrics : List ℕ) → ((r : Refusal) (u : State) → finished ≡ NotEnded r u → Small r)
-    → Numbered (finishGives finished state trades metrics)
+finish-by : (finished : Finished) (state : List ℕ) (m : Rooms) (metrics : List ℕ) → ((r : Refusal) (u : State) → finished ≡ NotEnded r u → Small r)
+    → Numbered (finishGives finished state m metrics)
 unfolding finishGives
-finish-by (NotEnded r u) state trades metrics s = one-refusal r (s r u refl)
-finish-by (AtEnd next figures) state trades metrics s = never-refuses _
+finish-by (NotEnded r u) state m metrics s = one-refusal r (s r u refl)
+finish-by (AtEnd next figures) state m metrics s = never-refuses _
 
 finish-said : (v : Verdict) (t : State) (m : Rooms) (done : With Ended) (r : Refusal) (u : State) → concluded v t m done .result ≡ NotEnded r u → v ≡ Bad r
 unfolding concluded
@@ -89,8 +89,8 @@ finish-lines settings state rows metrics = refl
 
 pub finish-honest : (settings state : List ℕ) (m : Rooms) (metrics : List ℕ) →
     (let d = finishOf (settingsOf settings) (stateOf state) m in
-    Honest (unlessBad (judged (lentLines settings state (m .rows) ++ metricLines metrics)) (finishGives (d .result) state (d .rooms .trades) metrics))
-    (record { state = state; trades = m .trades; metrics = metrics }))
+    Honest (unlessBad (judged (lentLines settings state (m .rows) ++ metricLines metrics)) (finishGives (d .result) state (d .rooms) metrics))
+    (record { state = state; equity = m .equity; trades = m .trades; metrics = metrics }))
 unfolding finishOf finishJudged
 finish-honest settings state m metrics =
     let s = settingsOf settings in

@@ -1,12 +1,11 @@
 -- Two boxes that differ in their rows alone finish alike.
-use Prim.Native.Nat.{ℕ, _*_, _<_}
+use Prim.Native.Nat.{ℕ, _+_, _*_, _<_}
 use mathlib.Core.Path.{_≡_, refl, sym, _∙_}
 use mathlib.Core.Bool.{Bool, true, false}
-use mathlib.Core.List.{List, [], append-nil, flatMap}
-use native.Mathlib.Omega.{arith}
+use mathlib.Core.List.{List, _++_, flatMap}
 use borrow.Author.Tests.{ltb-true, ltb-false}
 use lib.Dec.{ltb}
-use lib.ListN.{length, take}
+use lib.ListN.{length, take, drop}
 use Rattle.words.specs.Limits as Limits
 use Rattle.portfolio.specs.Trade.{wordsOfTrade}
 use Rattle.execution.specs.declared.Exit.{Exit}
@@ -20,10 +19,11 @@ use Rattle.refusals.specs.Laws.Lines.{first-holds, both-fine}
 use Rattle.refusals.specs.Rooms.{roomLines, stateLines, toClose, closeLines}
 use Rattle.refusals.specs.Settings.{settingLines}
 use Rattle.engine.specs.Books.{tradesOf, booked, heldPoints, heldTrades}
-use Rattle.engine.specs.Boxes.{Grown, SameButRows}
-use Rattle.engine.specs.Finish.{lastExit, endState, measured, ended}
+use Rattle.engine.specs.Boxes.{SameButRows}
+use Rattle.engine.specs.Finish.{lastExit, remarked, endState, measured, ended}
 use Rattle.engine.specs.Laws.AccountStep.{same-parts}
 use Rattle.engine.specs.Laws.BooksGrow.{Added, trade-booked, none-added, none-booked}
+use Rattle.engine.specs.Laws.LastPoint.{remarked-held, remarked-behind}
 
 -- the trades that a room holds
 abbrev tradesIn : List ℕ → ℕ → List ℕ
@@ -63,12 +63,21 @@ module _ (s : Settings) (t : State) (m : Rooms) (t′ : State) (m′ : Rooms) (s
   same-end places =
       let b = same-booked (m .trades) (m′ .trades) (t .counts .trades) (t′ .counts .trades) (lastExit s t′) (same .trades) places (same .closed) in
       let p = same-parts t t′ (same .account) in
+      let held : take (t .counts .«equity_points» * Limits.pointWords) (remarked (m .equity) (t .counts .«equity_points») (lastExit s t′) (t .last .close))
+      ≡ take (t′ .counts .«equity_points» * Limits.pointWords) (remarked (m′ .equity) (t′ .counts .«equity_points») (lastExit s t′) (t′ .last .close)) =
+      remarked-held (m .equity) (t .counts .«equity_points») (t .last .close) (lastExit s t′)
+      ∙ rw (same .equity, same .points, p .last)
+      (sym (remarked-held (m′ .equity) (t′ .counts .«equity_points») (t′ .last .close) (lastExit s t′))) in
       rw exit-same (
-        rw (same .equity, b .1),
-        record { account = rw (p .seen, p .position, p .order, p .last); points = same .points; trades = b .0; equity = same .equity; closed = b .1 },
+        rw (held, b .1),
+        record { account = rw (p .seen, p .position, p .order, p .last); points = same .points; trades = b .0; equity = held; closed = b .1 },
       )
 
-  -- where the trade rooms hold the same words, behind the trades too, they do so again
+  -- where the rooms hold the same words, behind what they hold too, they do so again
+  pub same-end-points : m .equity ≡ m′ .equity → ended s t m .rooms .equity ≡ ended s t′ m′ .rooms .equity
+  unfolding ended
+  same-end-points e = rw (exit-same, same .points, same-parts t t′ (same .account) .last, e)
+
   pub same-end-room : m .trades ≡ m′ .trades → ended s t m .rooms .trades ≡ ended s t′ m′ .rooms .trades
   unfolding ended
   same-end-room e = rw (exit-same, same .trades, e)
@@ -76,7 +85,7 @@ module _ (s : Settings) (t : State) (m : Rooms) (t′ : State) (m′ : Rooms) (s
 -- ---- what a finish adds to the books
 
 -- a finish that is fine has a place for the trade that it closes
-close-place : (s : Settings) (t : State) (m : Rooms) → finishJudged s t m ≡ Fine → toClose t ≡ true → t .counts .trades < tradePlaces (m .trades)
+pub close-place : (s : Settings) (t : State) (m : Rooms) → finishJudged s t m ≡ Fine → toClose t ≡ true → t .counts .trades < tradePlaces (m .trades)
 unfolding finishJudged finishLines closeLines
 close-place s t m fine closes =
     let a = both-fine (roomLines s (m .rows)) _ fine .1 in
@@ -99,11 +108,28 @@ close-booked s t m fine = go (toClose t) refl
     go true h = trade-booked (m .trades) (t .counts .trades) (lastExit s t) (close-place s t m fine h)
     go false h = rw (none h) (none-added (m .trades) (t .counts .trades))
 
--- A finish adds the trade that it closes, and nothing else.
-pub end-grows : (s : Settings) (t : State) (m : Rooms) → finishJudged s t m ≡ Fine
+-- The books of (t, m), with the trade of the exit x at their end and the last point as it leaves the account, are those of (u, n).
+pub record Closes (t : State) (m : Rooms) (u : State) (n : Rooms) (x : Exit) : Type 0 where
+  pub points : u .counts .«equity_points» ≡ t .counts .«equity_points»
+  pub trades : u .counts .trades ≡ t .counts .trades + length (tradesOf x)
+  pub equity : heldPoints u n ≡ remarked (heldPoints t m) (t .counts .«equity_points») x (t .last .close)
+  pub closed : heldTrades u n ≡ heldTrades t m ++ flatMap wordsOfTrade (tradesOf x)
+  -- what lies behind is untouched
+  pub behindPoints : drop (u .counts .«equity_points» * Limits.pointWords) (n .equity) ≡ drop (u .counts .«equity_points» * Limits.pointWords) (m .equity)
+  pub behindTrades : drop (u .counts .trades * Limits.tradeWords) (n .trades) ≡ drop (u .counts .trades * Limits.tradeWords) (m .trades)
+
+-- A finish adds the trade that it closes, puts its fee into the last point, and does nothing else.
+pub end-closes : (s : Settings) (t : State) (m : Rooms) → finishJudged s t m ≡ Fine
     → let e = ended s t m in
-    Grown t m (e .result .state) (e .rooms) [] (tradesOf (lastExit s t))
+    Closes t m (e .result .state) (e .rooms) (lastExit s t)
 unfolding ended endState heldPoints heldTrades flatMap
-end-grows s t m fine =
+end-closes s t m fine =
     let b = close-booked s t m fine in
-    record { points = omega arith; trades = b .0; equity = sym (append-nil _); closed = b .1; behindPoints = refl; behindTrades = b .2 }
+    record {
+      points = refl;
+      trades = b .0;
+      equity = remarked-held (m .equity) (t .counts .«equity_points») (t .last .close) (lastExit s t);
+      closed = b .1;
+      behindPoints = remarked-behind (m .equity) (t .counts .«equity_points») (t .last .close) (lastExit s t);
+      behindTrades = b .2;
+    }

@@ -35,7 +35,7 @@ never : {A : Type 0} (c : Closed) → NoExit ≡ Exited c → A
 never c e = absurd (let z : _≡_ {A = ℕ} 0 1 = cc in omega arith)
 
 -- a position that was closed is flat
-closed-is-flat : (p : Portfolio) (price : Float) (time : ℕ) (bps : Float) (reason : ℕ) → inPosition (closed p price time bps reason .portfolio) ≡ false
+pub closed-is-flat : (p : Portfolio) (price : Float) (time : ℕ) (bps : Float) (reason : ℕ) → inPosition (closed p price time bps reason .portfolio) ≡ false
 unfolding closed exited inPosition Floats.abs Ieee.lt Ieee.ofBits
 closed-is-flat p price time bps reason = refl
 
@@ -74,7 +74,7 @@ books-one : (b : Bool) (n : ℕ) (x y : List ℕ) → cond {A = Held} b (record 
 books-one true n x y = omega arith
 books-one false n x y = omega arith
 
-books : (room : List ℕ) (n : ℕ) (x : Exit) → booked room n x .count ≤ n + 1
+pub books : (room : List ℕ) (n : ℕ) (x : Exit) → booked room n x .count ≤ n + 1
 unfolding booked
 books room n NoExit = omega arith
 books room n (Exited c) = books-one (ltb n (tradePlaces room)) n _ _

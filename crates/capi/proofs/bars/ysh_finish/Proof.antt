@@ -32,8 +32,8 @@ returns-3 c =
 
 returns-4 : tie.Need-returns-4
 returns-4 c =
-    let ran = c .before .before .before .before .before .before in
-    let given = ran .before .before in
+    let ran = c .before .before .before .before .before .before .before .before in
+    let given = ran .before .before .before in
     let nine = given .before .before .before .before in
     let words = nine .before .before .before .before in
     let room = words .before .before .before .before in
@@ -48,8 +48,8 @@ returns-5 c =
     let figures = c .before .before in
     let put = figures .before .before .before .before in
     let told = put .before .before .before in
-    let ran = told .before .before .before .before in
-    let given = ran .before .before in
+    let ran = told .before .before .before .before .before .before in
+    let given = ran .before .before .before in
     let nine = given .before .before .before .before in
     let words = nine .before .before .before .before in
     let room = words .before .before .before .before in
@@ -93,7 +93,9 @@ ysh-finish-spec =
     (λ c. search needs)
     (λ c. search needs)
     (λ c. search needs)
+    (λ c. search needs)
     returns-4
+    (λ c. search needs)
     (λ c. search needs)
     (λ c. search needs)
     (λ c. search needs)

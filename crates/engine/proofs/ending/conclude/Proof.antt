@@ -1,4 +1,4 @@
--- The exit, the trade, the state and the figures, each by its own definition. Assumes nothing.
+-- The exit, the trade, the last point, the state and the figures, each by its own definition. Assumes nothing.
 use borrow.Author.Needs.{needs}
 use Rattle.engine.proofs.Endings.{endings}
 use Rattle.engine.proofs.ending.conclude.Statement.{statement}
@@ -6,12 +6,13 @@ use Rattle.engine.proofs.ending.conclude.Tie as tie
 
 returns : tie.Need-returns
 returns c =
-    let state = c .before .before in
-    let book = state .before .before .before in
+    let state = c .before .before .before in
+    let mark = state .before .before .before in
+    let book = mark .before .before .before .before in
     let exit = book .before .before in
-    let a = exit .before .before .before .before .before .args in
+    let a = exit .before .before .before .before .before .before .args in
     endings (a .s) (a .t) (record { rows = a .rows .now; equity = a .equity .now; trades = a .trades .now })
-    _ _ _ _ _ (exit .last-exit .ensures) (book .book .ensures) (state .end-state .ensures) (c .measure .ensures)
+    _ _ _ _ _ _ (exit .last-exit .ensures) (book .book .ensures) (mark .remark .ensures) (state .end-state .ensures) (c .measure .ensures)
 
 pub conclude-spec : {M : Type 1} → statement M
 conclude-spec =
@@ -21,5 +22,7 @@ conclude-spec =
     (λ c κs. search needs)
     (λ c κs. search needs)
     (λ c κs. search needs)
+    (λ c κs. search needs)
+    (λ c. search needs)
     (λ c. search needs)
     returns)
