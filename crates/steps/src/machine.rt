@@ -220,12 +220,18 @@ fn run_with(
             stack::put(numbers, there, top + 4, leaf(x, rows, slots, held));
             top += 1;
             p += 1;
-        } else if is_among(kind, 16, 22) {
-            let a = stack::at(numbers, there, top + 3);
-            let b = stack::at(numbers, there, top + 2);
-            answer = values::compared(kind, b, a);
-            top = left(top, 2);
-            p += 1;
+        } else if is_among(kind, 16, 25) {
+            if kind < 22 {
+                let a = stack::at(numbers, there, top + 3);
+                let b = stack::at(numbers, there, top + 2);
+                answer = values::compared(kind, b, a);
+                top = left(top, 2);
+                p += 1;
+            } else {
+                answer = tested(kind, numbers, there, top);
+                top = left(top, taken(kind));
+                p += 1;
+            }
         } else if is_among(kind, 32, 34) {
             if answer == (kind == 33) {
                 p = landing(p, x.skip, n);
@@ -238,10 +244,6 @@ fn run_with(
             let under = left(top, 2);
             stack::put(numbers, there, under + 4, values::both(kind, b, a));
             top = under + 1;
-            p += 1;
-        } else if is_among(kind, 22, 25) {
-            answer = tested(kind, numbers, there, top);
-            top = left(top, taken(kind));
             p += 1;
         } else {
             answer = said(x, s, answer);

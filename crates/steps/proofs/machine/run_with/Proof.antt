@@ -35,45 +35,58 @@ compare-again : tie.Need-loop-again-2 Inv-loop μ-loop
 compare-again c =
     let second = c .before .before in
     let first = second .before .before .before in
-    let i = first .before .before .before .before in
+    let small = first .before .before .before in
+    let i = small .before .before in
     let x = i .before .before .before in
-    let kind = range-in _ _ _ (sym (i .is-among2 .ensures) ∙ first .before .before .before .if3 .taken) in
+    let kind = range-in _ _ _ (sym (i .is-among2 .ensures) ∙ small .before .if3 .taken) in
     rw (c .left .ensures, c .before .compared .ensures, second .at2 .ensures, first .at .ensures)
     (going-say _ _ _ _ _ _ _ _ _ _ _ (x .before .before .loop .inv) (x .before .loop-test .taken) 2 _
-    (rw (← x .step-at .ensures) (does-compare _ _ _ _ _ _ _ _ (kind .0) (kind .1))))
+    (rw (← x .step-at .ensures) (does-compare _ _ _ _ _ _ _ _ (kind .0) (small .if4 .taken))))
+
+-- a cross or Between
+test-again : tie.Need-loop-again-3 Inv-loop μ-loop
+test-again c =
+    let tested = c .before .before in
+    let large = tested .before .before .before in
+    let i = large .before .before in
+    let x = i .before .before .before in
+    let kind = range-in _ _ _ (sym (i .is-among2 .ensures) ∙ large .before .if3 .taken) in
+    rw (c .left2 .ensures, c .before .taken .ensures, tested .tested .ensures)
+    (going-say _ _ _ _ _ _ _ _ _ _ _ (x .before .before .loop .inv) (x .before .loop-test .taken) _ _
+    (rw (← x .step-at .ensures) (does-test _ _ _ _ _ _ _ _ (large .if4 .left) (kind .1))))
 
 -- a jump that is taken
-jump-again : tie.Need-loop-again-3 Inv-loop μ-loop
+jump-again : tie.Need-loop-again-4 Inv-loop μ-loop
 jump-again c =
     let i = c .before .before .before in
     let x = i .before .before .before .before .before in
-    let kind = range-in _ _ _ (sym (i .is-among3 .ensures) ∙ c .before .before .if4 .taken) in
+    let kind = range-in _ _ _ (sym (i .is-among3 .ensures) ∙ c .before .before .if5 .taken) in
     rw (c .landing .ensures)
     (going-pass _ _ _ _ _ _ _ _ _ _ _ (x .before .before .loop .inv) (x .before .loop-test .taken) _
-    (rw (← x .step-at .ensures) (does-jump _ _ _ _ _ _ _ _ (kind .0) (kind .1) ∙ rw (c .before .if5 .taken))))
+    (rw (← x .step-at .ensures) (does-jump _ _ _ _ _ _ _ _ (kind .0) (kind .1) ∙ rw (c .before .if6 .taken))))
 
 -- one that is not
-stay-again : tie.Need-loop-again-4 Inv-loop μ-loop
+stay-again : tie.Need-loop-again-5 Inv-loop μ-loop
 stay-again c =
     let i = c .before .before in
     let x = i .before .before .before .before .before in
-    let kind = range-in _ _ _ (sym (i .is-among3 .ensures) ∙ c .before .if4 .taken) in
+    let kind = range-in _ _ _ (sym (i .is-among3 .ensures) ∙ c .before .if5 .taken) in
     going-stay _ _ _ _ _ _ _ _ _ _ _ (x .before .before .loop .inv) (x .before .loop-test .taken)
-    (rw (← x .step-at .ensures) (does-jump _ _ _ _ _ _ _ _ (kind .0) (kind .1) ∙ rw (c .if5 .left)))
+    (rw (← x .step-at .ensures) (does-jump _ _ _ _ _ _ _ _ (kind .0) (kind .1) ∙ rw (c .if6 .left)))
 
 -- an operation
-arith-again : tie.Need-loop-again-5 Inv-loop μ-loop
+arith-again : tie.Need-loop-again-6 Inv-loop μ-loop
 arith-again c =
     let put = c .before .before .before .before in
     let left = put .before .before .before .before in
     let i = left .before .before .before .before .before .before .before .before in
     let x = i .before .before .before .before .before .before .before in
-    let kind = range-in _ _ _ (sym (i .is-among4 .ensures) ∙ left .before .before .before .before .before .before .before .if6 .taken) in
+    let kind = range-in _ _ _ (sym (i .is-among4 .ensures) ∙ left .before .before .before .before .before .before .before .if7 .taken) in
     rw (
       put .put2 .ensures .0,
       put .put2 .ensures .1,
       put .before .both .ensures,
-      left .left2 .ensures,
+      left .left3 .ensures,
       left .before .at4 .ensures,
       left .before .before .before .before .at3 .ensures,
     )
@@ -87,7 +100,7 @@ arith-fits c =
     let left = c .before .before in
     let i = left .before .before .before .before .before .before .before .before in
     let loop = i .before .before .before .before .before .before .before .before .before in
-    omega (arith, left .left2 .ensures, loop .loop .inv .tall, loop .before .before .before .before .before .before .pre .1 .0)
+    omega (arith, left .left3 .ensures, loop .loop .inv .tall, loop .before .before .before .before .before .before .pre .1 .0)
 
 arith-room : tie.Need-put-requires-2 Inv-loop μ-loop
 arith-room c κs =
@@ -95,8 +108,8 @@ arith-room c κs =
     let i = left .before .before .before .before .before .before .before .before in
     let loop = i .before .before .before .before .before .before .before .before .before in
     let inv = loop .loop .inv in (
-      omega (arith, left .left2 .ensures, inv .tall, inv .room .numbers, loop .before .before .before .before .before .before .pre .1 .0),
-      omega (arith, left .left2 .ensures, inv .tall, inv .room .theres, loop .before .before .before .before .before .before .pre .1 .0),
+      omega (arith, left .left3 .ensures, inv .tall, inv .room .numbers, loop .before .before .before .before .before .before .pre .1 .0),
+      omega (arith, left .left3 .ensures, inv .tall, inv .room .theres, loop .before .before .before .before .before .before .pre .1 .0),
     )
 
 arith-tall : tie.Need-add-top-2 Inv-loop μ-loop
@@ -104,62 +117,38 @@ arith-tall c =
     let left = c .before .before .before .before .before .before .before .before in
     let i = left .before .before .before .before .before .before .before .before in
     let loop = i .before .before .before .before .before .before .before .before .before in
-    omega (arith, left .left2 .ensures, loop .loop .inv .tall, loop .before .before .before .before .before .before .pre .1 .0)
+    omega (arith, left .left3 .ensures, loop .loop .inv .tall, loop .before .before .before .before .before .before .pre .1 .0)
 
 -- a step further is within the list
-arith-on : tie.Need-add-p-4 Inv-loop μ-loop
+arith-on : tie.Need-add-p-5 Inv-loop μ-loop
 arith-on c =
     let i = c .before .before .before .before .before .before .before .before .before .before .before .before .before .before .before .before in
     let test = i .before .before .before .before .before .before .before .before in
     omega (arith, test .loop-test .taken, test .before .before .before .before .before .before .before .good)
 
-arith-less : tie.Need-loop-less-5 Inv-loop μ-loop
+arith-less : tie.Need-loop-less-6 Inv-loop μ-loop
 arith-less c =
     let i = c .before .before .before .before .before .before .before .before .before .before .before .before .before .before .before .before in
     omega (arith, i .before .before .before .before .before .before .before .before .loop-test .taken)
 
--- a cross or Between
-test-again : tie.Need-loop-again-6 Inv-loop μ-loop
-test-again c =
-    let tested = c .before .before in
-    let read = tested .before .before .before in
-    let i = read .before in
-    let x = i .before .before .before .before .before .before .before .before .before in
-    let kind = range-in _ _ _ (sym (i .is-among5 .ensures) ∙ read .if7 .taken) in
-    rw (c .left3 .ensures, c .before .taken .ensures, tested .tested .ensures)
-    (going-say _ _ _ _ _ _ _ _ _ _ _ (x .before .before .loop .inv) (x .before .loop-test .taken) _ _
-    (rw (← x .step-at .ensures) (does-test _ _ _ _ _ _ _ _ (kind .0) (kind .1))))
-
-test-on : tie.Need-add-p-5 Inv-loop μ-loop
-test-on c =
-    let i = c .before .before .before .before .before .before in
-    let test = i .before .before .before .before .before .before .before .before .before .before in
-    omega (arith, test .loop-test .taken, test .before .before .before .before .before .before .before .good)
-
-test-less : tie.Need-loop-less-6 Inv-loop μ-loop
-test-less c =
-    let i = c .before .before .before .before .before .before in
-    omega (arith, i .before .before .before .before .before .before .before .before .before .before .loop-test .taken)
-
 -- what is left
 set-again : tie.Need-loop-again-7 Inv-loop μ-loop
 set-again c =
-    let x = c .before .before .before .before .before .before .before .before .before .before .before in
+    let x = c .before .before .before .before .before .before .before .before .before in
     going-set _ _ _ _ _ _ _ _ _ _ _ (x .before .before .loop .inv) (x .before .loop-test .taken) _
     (rw (← x .step-at .ensures) (c .said .ensures _ _ _ _ _))
 
 -- its kind is none of the others'
 said-requires : tie.Need-said-requires Inv-loop μ-loop
 said-requires c κs =
-    let i5 = c .before in
-    let i4 = i5 .before .before in
+    let i4 = c .before in
     let i3 = i4 .before .before in
     let i2 = i3 .before .before in
     let i1 = i2 .before .before in (
       range-out _ _ _ (sym (i1 .is-among .ensures) ∙ i2 .before .if1 .left),
-      range-out _ _ _ (sym (i4 .is-among4 .ensures) ∙ i5 .before .if6 .left),
-      λ from. range-out _ _ _ (sym (i5 .is-among5 .ensures) ∙ c .if7 .left) (range-out _ _ _ (sym (i2 .is-among2 .ensures) ∙ i3 .before .if3 .left) from),
-      range-out _ _ _ (sym (i3 .is-among3 .ensures) ∙ i4 .before .if4 .left),
+      range-out _ _ _ (sym (i4 .is-among4 .ensures) ∙ c .if7 .left),
+      range-out _ _ _ (sym (i2 .is-among2 .ensures) ∙ i3 .before .if3 .left),
+      range-out _ _ _ (sym (i3 .is-among3 .ensures) ∙ i4 .before .if5 .left),
     )
 
 -- a leaf's kind is one of the three
@@ -206,6 +195,12 @@ run-with-spec =
     compare-again
     (λ c κs. search needs)
     (λ c κs. search needs)
+    (λ c κs. search needs)
+    (λ c. omega arith)
+    (λ c. omega arith)
+    test-again
+    (λ c κs. search needs)
+    (λ c κs. search needs)
     (λ c. omega arith)
     jump-again
     (λ c. omega arith)
@@ -224,13 +219,6 @@ run-with-spec =
     arith-on
     arith-less
     arith-again
-    (λ c κs. search needs)
-    (λ c κs. search needs)
-    (λ c κs. search needs)
-    (λ c κs. search needs)
-    test-on
-    test-less
-    test-again
     said-requires
     (λ c. omega arith)
     (λ c. omega arith)
