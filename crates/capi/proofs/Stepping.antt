@@ -14,7 +14,7 @@ use Rattle.refusals.specs.declared.verdict.Verdict.the-variants.{Fine, Bad}
 use Rattle.refusals.specs.Lines.{judged}
 use Rattle.engine.specs.declared.Answer.{Answer}
 use Rattle.engine.specs.declared.Answer.the-variants.{Refused, Done}
-use Rattle.engine.specs.Step.{Is, stepOf}
+use Rattle.engine.specs.Step.{Is, stepAnswer}
 use Rattle.engine.specs.Laws.Refusal.{refusal-changes-nothing}
 use Rattle.capi.specs.Call.{Call, answerWord}
 use Rattle.capi.specs.Bars.{StepLent, lentLines, stepGives, stepCall}
@@ -32,8 +32,10 @@ module _ (settings state bar : List ℕ) (m : Rooms) (ls : Lists) where
 
   module _
       {s : Settings} {t : State} {answer : Answer} {ws es ts : List ℕ} (fine : judged (lentLines settings state (m .rows)) ≡ Fine)
-      (read : s ≡ settingsOf settings) (given : t ≡ stateOf state) (ran : Is Answer (stepOf s t bar m ls) answer ws es ts) where
-    step-ran : let d = stepOf (settingsOf settings) (stateOf state) bar m ls in stepGives (d .result) state (d .rooms) ≡ stepGives answer state (rooms ws es ts)
+      (read : s ≡ settingsOf settings) (given : t ≡ stateOf state) (ran : Is Answer (stepAnswer s t bar m ls) answer ws es ts) where
+    step-ran :
+        let d = stepAnswer (settingsOf settings) (stateOf state) bar m ls in
+        stepGives (d .result) state (d .rooms) ≡ stepGives answer state (rooms ws es ts)
     step-ran = let d = rw (read, given) at ran in simp (d .result, d .rows, d .equity, d .trades)
 
     pub step-refused : {r : Refusal} {a : ℕ} {u : State} → answer ≡ Refused r u → a ≡ answerWord r

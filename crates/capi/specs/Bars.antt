@@ -10,7 +10,7 @@ use Rattle.refusals.specs.Lines.{Line, judged}
 use Rattle.refusals.specs.Rooms.{roomLines}
 use Rattle.engine.specs.declared.Answer.{Answer}
 use Rattle.engine.specs.declared.Answer.the-variants.{Refused, Done}
-use Rattle.engine.specs.Step.{stepOf}
+use Rattle.engine.specs.Step.{stepAnswer}
 use Rattle.capi.specs.Call.{Call, callOf, unlessBad, wordLines}
 
 -- "Under one number the lowest place is given": the room of rows is number 0, and so comes before those that only a C call has.
@@ -30,6 +30,6 @@ stepGives (Done next) state rooms = gives (record { state = overwrite state 0 (w
 
 unfoldable pub stepCall : List ℕ → List ℕ → List ℕ → Rooms → Lists → Call StepLent
 stepCall settings state bar rooms lists =
-    let d = stepOf (settingsOf settings) (stateOf state) bar rooms lists in
+    let d = stepAnswer (settingsOf settings) (stateOf state) bar rooms lists in
     callOf (unlessBad (judged (lentLines settings state (rooms .rows))) (stepGives (d .result) state (d .rooms)))
     (record { state = state; rooms = rooms })

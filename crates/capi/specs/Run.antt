@@ -15,7 +15,7 @@ use Rattle.steps.specs.declared.RunAnswer.the-variants.{Runs, Refuses as RunRef
 use Rattle.steps.specs.Running.{runs}
 use Rattle.records.specs.StateWords.{enteredOf}
 use Rattle.capi.specs.Call.{Call, callOf, bitOf}
-use Rattle.capi.specs.Tables.{treeOf}
+use Rattle.capi.specs.Tables.{numberedTree}
 
 -- a position state by its words
 unfoldable pub positionState : ℕ → ℕ → ℕ → ℕ → PositionState
@@ -31,7 +31,7 @@ ruleGives (Refuses why) tree = refuses why
 ruleGives (Says said) tree = gives (saysOf tree said)
 
 unfoldable pub ruleCall : List ℕ → ℕ → List ℕ → PositionState → ℕ → Call ℕ
-ruleCall table tree rows position before = callOf (ruleGives (answered table (treeOf tree) rows position) tree) before
+ruleCall table tree rows position before = callOf (ruleGives (answered table (numberedTree tree) rows position) tree) before
 
 -- ---- lent: what the list says, and how many steps were visited
 pub record RunLent : Type 0 where

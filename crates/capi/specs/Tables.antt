@@ -23,8 +23,8 @@ use Rattle.steps.specs.Translating.{afterTable, translates, roomLeft}
 use Rattle.capi.specs.Call.{Call, callOf}
 
 -- a tree by its number; that of a higher number is absent, as each call says
-unfoldable pub treeOf : ℕ → Tree
-treeOf number = cond (eqb number 0) Entry (cond (eqb number 1) Exit (cond (eqb number 2) ShortEntry ShortExit))
+unfoldable pub numberedTree : ℕ → Tree
+numberedTree number = cond (eqb number 0) Entry (cond (eqb number 1) Exit (cond (eqb number 2) ShortEntry ShortExit))
 
 -- ---- lent: the nodes, and the rows that the rules need
 pub record CheckLent : Type 0 where
@@ -82,7 +82,7 @@ translateGives (Writes count) room = gives (record { used = stepBytes * count; r
 unfoldable pub translateOutcome : List ℕ → ℕ → List ℕ → Outcome TranslateLent
 translateOutcome table tree room =
     cond (leb trees tree) (translateGives (afterTable (checked table) (Writes 0)) room)
-    (translateGives (translates table (treeOf tree) room) (roomLeft table (treeOf tree) room))
+    (translateGives (translates table (numberedTree tree) room) (roomLeft table (numberedTree tree) room))
 
 unfoldable pub translateCall : List ℕ → ℕ → TranslateLent → Call TranslateLent
 translateCall table tree before = callOf (translateOutcome table tree (before .room)) before

@@ -3,7 +3,7 @@ ghost use mathlib.Core.Path.{_≡_};
 ghost use Rattle.capi.specs.Run.{positionState, saysOf, ruleCall, runCall};
 use crate::calls::answer_word;
 use crate::calls::bit_of;
-use crate::tables::tree_of;
+use crate::tables::numbered_tree;
 use records::state_words::entered_of;
 use rules::PositionState;
 use rules::RuleAnswer;
@@ -43,7 +43,7 @@ pub extern "C" fn ysh_rule(
         ≡ record { answer = r; lent = now (answer .exit) } ⌝ }
 {
     let position = position_state(qty, entered, entry_bar, bars_seen);
-    let said = rules::answers::answer_rule(table, tree_of(tree), rows, position);
+    let said = rules::answers::answer_rule(table, numbered_tree(tree), rows, position);
     match said {
         RuleAnswer::Refuses(refusal) => answer_word(refusal),
         RuleAnswer::Says(yes) => {

@@ -1,6 +1,6 @@
 // Checking a rule table, how deep a window it needs, and its trees as steps.
 ghost use mathlib.Core.Path.{_≡_};
-ghost use Rattle.capi.specs.Tables.{treeOf, checkCall, depthCall, silentCall, translateCall};
+ghost use Rattle.capi.specs.Tables.{numberedTree, checkCall, depthCall, silentCall, translateCall};
 use crate::calls::answer_word;
 use steps::Translated;
 use table::answer::Answer;
@@ -13,8 +13,8 @@ use words::limits::TREES;
 const STEP_BYTES: u64 = 16;
 
 // A tree by its number; that of a higher number is absent, and its callers say so.
-pub(crate) fn tree_of(number: u64) -> Tree
-    ensures { λ r. ⌜ r ≡ treeOf number ⌝ }
+pub(crate) fn numbered_tree(number: u64) -> Tree
+    ensures { λ r. ⌜ r ≡ numberedTree number ⌝ }
 {
     match number {
         0 => Tree::Entry,
@@ -99,7 +99,7 @@ pub extern "C" fn ysh_translate(table: &[u8], tree: u64, room: &mut [u8], used: 
             }
         }
     }
-    let translated = steps::translation::translate(table, tree_of(tree), room);
+    let translated = steps::translation::translate(table, numbered_tree(tree), room);
     match translated {
         Translated::Refuses(refusal) => answer_word(refusal),
         Translated::Writes(count) => {

@@ -23,7 +23,7 @@ use Rattle.engine.specs.Account.{filled, intrabar, charged}
 use Rattle.engine.specs.Books.{booked, marked}
 use Rattle.engine.specs.Decide.{decided}
 use Rattle.engine.specs.Record.{rowOf, heldRows}
-use Rattle.engine.specs.Step.{Is, Ready, stepped, answered, stepOf}
+use Rattle.engine.specs.Step.{Is, Ready, stepped, answered, stepAnswer}
 
 module _ (s : Settings) (t : State) (bar : List ℕ) (m : Rooms) (ls : Lists) where
   pub phases : (k : Candle) (f : Filled) (x : Left) (p : Position) (o : Order) (sold held stopped points : ℕ) (ts us ws es : List ℕ)
@@ -54,11 +54,11 @@ module _ (s : Settings) (t : State) (bar : List ℕ) (m : Rooms) (ls : Lists) wh
   ready h = let f = step-fine s t bar m ls h in record { slots = f .settings .slots; bars = f .bars }
 
   pub refused : (why : Refusal) → stepJudged s t bar m ls ≡ Bad why
-      → Is Answer (stepOf s t bar m ls) (Refused why t) (m .rows) (m .equity) (m .trades)
-  unfolding stepOf answered
+      → Is Answer (stepAnswer s t bar m ls) (Refused why t) (m .rows) (m .equity) (m .trades)
+  unfolding stepAnswer answered
   refused why h = rw h (record { result = refl; rows = refl; equity = refl; trades = refl })
 
   pub went : stepJudged s t bar m ls ≡ Fine → (r : State) (ws es us : List ℕ) → Is State (stepped s t bar m ls) r ws es us
-      → Is Answer (stepOf s t bar m ls) (Done r) ws es us
-  unfolding stepOf answered
+      → Is Answer (stepAnswer s t bar m ls) (Done r) ws es us
+  unfolding stepAnswer answered
   went h r ws es us d = rw h (record { result = ap Done (d .result); rows = d .rows; equity = d .equity; trades = d .trades })

@@ -1,16 +1,12 @@
 -- The first records of a list, and the words of a row.
-use Prim.Native.Nat.{ℕ, _+_, _*_, _/_, _≤_, _<_}
+use Prim.Native.Nat.{ℕ, _+_, _*_, _/_, _<_}
 use mathlib.Core.Path.{_≡_, sym, _∙_}
 use mathlib.Core.List.{List}
-use native.Mathlib.Nat.{le-div-iff-mul-le, div-lt-iff-lt-mul, le-of-lt}
+use native.Mathlib.Nat.{div-lt-iff-lt-mul, le-of-lt}
 use native.Mathlib.Numerals.{add-one}
 use lib.ListN.{length, take, set}
 use lib.Seq.{take-all, take-suc-set}
 use Rattle.engine.specs.Record.{listed}
-
--- so many records of w words fit
-pub fit : (w n : ℕ) (l : List ℕ) → 0 < w → n ≤ length l / w → n * w ≤ length l
-fit w n l p h = le-div-iff-mul-le {k = w} p .0 h
 
 -- where more are asked for than there are places, the first of them are all
 pub all-of-them : (w n : ℕ) (l : List ℕ) → 0 < w → length l / w < n → l ≡ take (n * w) l

@@ -16,8 +16,8 @@ use Rattle.records.specs.declared.settings.Settings.{Settings}
 use Rattle.records.specs.Lent.{Lists}
 
 -- what a rule's list of steps answers
-unfoldable pub says : History → PositionState → List ℕ → Bool
-says h p list = ranOver h p (opsOf list) .answer
+unfoldable pub listSays : History → PositionState → List ℕ → Bool
+listSays h p list = ranOver h p (opsOf list) .answer
 
 -- "a rule takes this bar's number from the position state (bars seen, this one counted, less 1)"
 unfoldable pub stateAt : Position → ℕ → PositionState
@@ -40,10 +40,10 @@ pub record Answers : Type 0 where
 
 unfoldable pub answersOf : History → PositionState → Lists → Answers
 answersOf h state ls = record {
-  entry = says h state (ls .entry);
-  «exit» = says h state (ls .«exit»);
-  «short_entry» = says h state (ls .«short_entry»);
-  «short_exit» = says h state (ls .«short_exit»);
+  entry = listSays h state (ls .entry);
+  «exit» = listSays h state (ls .«exit»);
+  «short_entry» = listSays h state (ls .«short_entry»);
+  «short_exit» = listSays h state (ls .«short_exit»);
 }
 
 -- the order of a bar on which none works

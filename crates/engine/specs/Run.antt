@@ -8,7 +8,7 @@ use Rattle.refusals.specs.declared.verdict.Verdict.{Verdict}
 use Rattle.refusals.specs.declared.verdict.Verdict.the-variants.{Fine, Bad}
 use Rattle.engine.specs.declared.Answer.{Answer}
 use Rattle.engine.specs.declared.Answer.the-variants.{Refused, Done}
-use Rattle.engine.specs.Step.{stepOf}
+use Rattle.engine.specs.Step.{stepAnswer}
 
 -- What a run comes to: how many bars it took, the verdict that ended it (fine where it took all), and what it leaves.
 pub record Run : Type 0 where
@@ -30,5 +30,5 @@ goesOn (Done t) m later = oneMore (later t)
 unfoldable pub runOver : Settings → Lists → State → Rooms → List (List ℕ) → Run
 runOver s ls t m [] = record { done = 0; verdict = Fine; state = t; rooms = m }
 runOver s ls t m (bar ∷ bars) =
-    let a = stepOf s t bar m ls in
+    let a = stepAnswer s t bar m ls in
     goesOn (a .result) (a .rooms) (λ u. runOver s ls u (a .rooms) bars)

@@ -3,6 +3,7 @@
 use Prim.Native.Nat.{ℕ, _+_, _≤_, _<_}
 use mathlib.Core.Path.{_≡_}
 use mathlib.Core.List.{List}
+use Rattle.words.specs.Limits.{mostCount, mostSlots}
 use Rattle.rows.specs.History.{historyOf}
 use Rattle.rows.specs.Room.{withRow, heldWith}
 use Rattle.records.specs.declared.settings.Settings.{Settings}
@@ -54,8 +55,8 @@ unfoldable pub answered : Verdict → State → Rooms → With State → With An
 answered (Bad why) t m done = record { result = Refused why t; rooms = m }
 answered Fine t m done = record { result = Done (done .result); rooms = done .rooms }
 
-unfoldable pub stepOf : Settings → State → List ℕ → Rooms → Lists → With Answer
-stepOf s t bar m ls = answered (stepJudged s t bar m ls) t m (stepped s t bar m ls)
+unfoldable pub stepAnswer : Settings → State → List ℕ → Rooms → Lists → With Answer
+stepAnswer s t bar m ls = answered (stepJudged s t bar m ls) t m (stepped s t bar m ls)
 
 -- each part is the definition's
 pub record Is (A : Type 0) (d : With A) (r : A) (ws es ts : List ℕ) : Type 0 where
@@ -66,5 +67,5 @@ pub record Is (A : Type 0) (d : With A) (r : A) (ws es ts : List ℕ) : Type 0 w
 
 -- what the phases ask of a step: the judgement has seen to it
 pub record Ready (s : Settings) (t : State) : Type 0 where
-  pub slots : s .slots ≤ 64
-  pub bars : t .counts .«bars_seen» < 4294967295
+  pub slots : s .slots ≤ mostSlots
+  pub bars : t .counts .«bars_seen» < mostCount

@@ -2,6 +2,7 @@
 // trades and equity points.
 ghost use mathlib.Core.Path.{_≡_};
 ghost use Prim.Native.Nat.{_≤_};
+ghost use Rattle.words.specs.Limits.{mostSlots};
 ghost use Rattle.rows.specs.History.{historyOf};
 ghost use Rattle.engine.specs.Record.{heldRows};
 ghost use Rattle.engine.specs.Account as Account;
@@ -82,7 +83,7 @@ fn enter(
     held: usize,
     number: u64,
 ) -> Filled
-    requires { ⌜ s .slots ≤ 64 ⌝ }
+    requires { ⌜ s .slots ≤ mostSlots ⌝ }
     ensures { λ r. ⌜ r ≡ Account.entered side s p candle (historyOf (s .slots) (heldRows (s .slots) held (now (rows .entry)))) number ⌝ }
 {
     let terms = s.terms;
@@ -162,7 +163,7 @@ pub(crate) fn fill_working_order(
     held: usize,
     number: u64,
 ) -> Filled
-    requires { ⌜ s .slots ≤ 64 ⌝ }
+    requires { ⌜ s .slots ≤ mostSlots ⌝ }
     ensures { λ r. ⌜ r ≡ Account.filled s order p candle (historyOf (s .slots) (heldRows (s .slots) held (now (rows .entry)))) number ⌝ }
 {
     let due = due_of(order);

@@ -1,9 +1,10 @@
 // What is decided at a bar's close.
 ghost use mathlib.Core.Path.{_≡_};
 ghost use Prim.Native.Nat.{_<_, _≤_};
+ghost use Rattle.words.specs.Limits.{mostSlots, mostCount};
 ghost use Rattle.rows.specs.History.{historyOf};
 ghost use Rattle.records.specs.Lent.{lists};
-ghost use Rattle.engine.specs.Decide.{says, answersOf, ordered, decided};
+ghost use Rattle.engine.specs.Decide.{listSays, answersOf, ordered, decided};
 ghost use Rattle.engine.specs.Record.{heldRows};
 use crate::record;
 use portfolio::Portfolio;
@@ -15,8 +16,8 @@ use steps::choice;
 use steps::machine;
 
 // What a rule's list of steps answers over the window.
-fn says(window: &[u64], slots: usize, state: PositionState, list: &[u8]) -> bool
-    ensures { λ r. ⌜ r ≡ says (historyOf slots (now (window .entry))) state (now (list .entry)) ⌝ }
+fn list_says(window: &[u64], slots: usize, state: PositionState, list: &[u8]) -> bool
+    ensures { λ r. ⌜ r ≡ listSays (historyOf slots (now (window .entry))) state (now (list .entry)) ⌝ }
 {
     let ran = machine::run(list, window, slots, state);
     ran.answer
@@ -39,15 +40,15 @@ fn order_of<'a>(
 {
     if account.in_position() {
         let list = choice::exit_list(account.qty, exit, short_exit);
-        if says(window, slots, state, list) {
+        if list_says(window, slots, state, list) {
             return Order::Exit(delay);
         }
         return Order::Idle;
     }
-    if says(window, slots, state, entry) {
+    if list_says(window, slots, state, entry) {
         return Order::EnterLong(delay);
     }
-    if says(window, slots, state, short_entry) {
+    if list_says(window, slots, state, short_entry) {
         return Order::EnterShort(delay);
     }
     Order::Idle
@@ -66,7 +67,7 @@ pub(crate) fn decide_next_action<'a>(
     short_entry: &[u8],
     short_exit: &'a [u8],
 ) -> Order
-    requires { ⌜ (s .slots ≤ 64) × (number < 4294967295) ⌝ }
+    requires { ⌜ (s .slots ≤ mostSlots) × (number < mostCount) ⌝ }
     ensures { λ r. ⌜ r ≡ decided s order p number (heldRows (s .slots) held (now (rows .entry)))
         (lists (now (entry .entry)) (now («exit» .entry)) (now («short_entry» .entry)) (now («short_exit» .entry))) ⌝ }
 {

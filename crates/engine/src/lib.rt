@@ -7,7 +7,7 @@ mod record;
 
 ghost use Rattle.records.specs.Lent.{rooms, lists};
 ghost use Rattle.engine.specs.Finish.{finishOf};
-ghost use Rattle.engine.specs.Step.{Ready, Is, stepped, stepOf};
+ghost use Rattle.engine.specs.Step.{Ready, Is, stepped, stepAnswer};
 use metrics::Metrics;
 use records::settings::Settings;
 use records::state::Counts;
@@ -106,7 +106,7 @@ pub fn step<'a>(
     short_entry: &[u8],
     short_exit: &'a [u8],
 ) -> Answer
-    ensures { λ r. ⌜ Is Answer (stepOf s t (now (bar .entry))
+    ensures { λ r. ⌜ Is Answer (stepAnswer s t (now (bar .entry))
         (rooms (now (rows .entry)) (now (equity .entry)) (now (trades .entry)))
         (lists (now (entry .entry)) (now («exit» .entry)) (now («short_entry» .entry)) (now («short_exit» .entry))))
         r (now (rows .exit)) (now (equity .exit)) (now (trades .exit)) ⌝ }

@@ -1,12 +1,13 @@
 // The row of a bar, and the rows that a room holds.
 ghost use mathlib.Core.Path.{_≡_};
-ghost use Prim.Native.Nat.{_+_, _*_, _<_, _≤_};
+ghost use Prim.Native.Nat.{_*_, _<_, _≤_};
 ghost use lib.ListN.{length, take};
+ghost use Rattle.words.specs.Limits.{rowWords, mostSlots};
 ghost use Rattle.rows.specs.Room.{withRow, heldWith};
 ghost use Rattle.engine.specs.Record.{rowWord, rowOf, heldRows};
 
-// The words of the widest row, of 64 slots.
-const MOST_WORDS: usize = 71;
+// The words of the widest row.
+const MOST_WORDS: usize = words::limits::ROW_FIXED + words::limits::MOST_SLOTS;
 
 // The first n records of a list, each of so many words; all where there are fewer.
 pub(crate) fn first_records(list: &[u64], n: usize, words: usize) -> &[u64]
@@ -22,7 +23,7 @@ pub(crate) fn first_records(list: &[u64], n: usize, words: usize) -> &[u64]
 
 // The rows that a room holds.
 pub(crate) fn held_rows(rows: &[u64], slots: usize, held: usize) -> &[u64]
-    requires { ⌜ slots ≤ 64 ⌝ }
+    requires { ⌜ slots ≤ mostSlots ⌝ }
     ensures { λ r. ⌜ now r ≡ heldRows slots held (now (rows .entry)) ⌝ }
 {
     first_records(rows, held, words::limits::ROW_FIXED + slots)
@@ -30,7 +31,7 @@ pub(crate) fn held_rows(rows: &[u64], slots: usize, held: usize) -> &[u64]
 
 // Word j of the row of a bar.
 fn row_word(bar: &[u64], j: usize) -> u64
-    requires { ⌜ j < 71 ⌝ }
+    requires { ⌜ j < rowWords mostSlots ⌝ }
     ensures { λ r. ⌜ r ≡ rowWord (now (bar .entry)) j ⌝ }
 {
     let word = words::word_from(bar, 0, j);
@@ -47,8 +48,8 @@ fn row_word(bar: &[u64], j: usize) -> u64
 
 // Writes the row of a bar over the first words of a list.
 fn fill_row(row: &mut [u64], bar: &[u64], slots: usize)
-    requires { ⌜ (slots ≤ 64) × (length (now row) ≡ 71) ⌝ }
-    ensures { λ _. ⌜ (length (now (row .exit)) ≡ 71) × (take (7 + slots) (now (row .exit)) ≡ rowOf slots (now (bar .entry))) ⌝ }
+    requires { ⌜ (slots ≤ mostSlots) × (length (now row) ≡ rowWords mostSlots) ⌝ }
+    ensures { λ _. ⌜ (length (now (row .exit)) ≡ rowWords mostSlots) × (take (rowWords slots) (now (row .exit)) ≡ rowOf slots (now (bar .entry))) ⌝ }
 {
     let width = words::limits::ROW_FIXED + slots;
     let mut j: usize = 0;
@@ -60,7 +61,7 @@ fn fill_row(row: &mut [u64], bar: &[u64], slots: usize)
 
 // Adds the bar's row to a room that holds `held` rows; the result is how many it holds then.
 pub(crate) fn record_bar(rows: &mut [u64], held: usize, bar: &[u64], slots: usize) -> usize
-    requires { ⌜ slots ≤ 64 ⌝ }
+    requires { ⌜ slots ≤ mostSlots ⌝ }
     ensures { λ r. ⌜ (r ≡ heldWith (now (rows .entry)) held (rowOf slots (now (bar .entry))))
         × (now (rows .exit) ≡ withRow (now (rows .entry)) held (rowOf slots (now (bar .entry)))) ⌝ }
 {

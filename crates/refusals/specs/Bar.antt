@@ -4,6 +4,7 @@ use mathlib.Core.Bool.{Bool, true, false, cond, _&&_}
 use mathlib.Core.List.{List, [], _∷_}
 use lib.ListN.{getD}
 use lib.Dec.{ltb, eqb}
+use Rattle.words.specs.Limits.{mostSlots}
 use Rattle.floats.specs.Floats.{finite, floatOf}
 use Rattle.portfolio.specs.declared.Candle.{Candle}
 use Rattle.execution.specs.declared.Funding.{Funding}
@@ -27,7 +28,7 @@ every (suc n) f = every n f && f n
 
 -- the mask is a word: 64 bits
 unfoldable pub slotsFine : ℕ → List ℕ → Bool
-slotsFine K bar = every 64 (slotFine K bar)
+slotsFine K bar = every mostSlots (slotFine K bar)
 
 -- "mark, rate .. not finite"
 abbrev pub fundingFine : Funding → Bool

@@ -28,7 +28,7 @@ fn slots_fine(bar: &[u64], slots: usize) -> bool
 {
     let mut left = words::word_from(bar, 0, rows::MASK);
     let mut k: usize = 0;
-    while k < 64 {
+    while k < words::limits::MOST_SLOTS {
         if left == 0 {
             return true;
         }

@@ -10,7 +10,7 @@ use borrow.Author.Tests.{lt-ltb, le-ltb, ne-eqb}
 use Rattle.words.specs.Words.{overwrite, shifted}
 use Rattle.words.specs.Laws.Overwrite.{overwrite-fits, shifted-fits}
 use Rattle.rows.specs.Room.{placesFor, withRow, heldWith}
-use Rattle.rows.proofs.Places.{rows-fit}
+use Rattle.words.specs.Laws.Records.{records-fit, record-ends}
 
 -- how many words stand from w up to n
 rest-length : (d : List ℕ) (w n : ℕ) → n ≤ length d → length (drop w (take n d)) ≡ n - w
@@ -38,7 +38,7 @@ moved-and-put d m p r n h k e f =
 module _ (room : List ℕ) (held : ℕ) (row : List ℕ) where
   -- there is a place, and the row ends by the room's end
   pub place-fits : 0 < length row → held < placesFor room row → held * length row + length row ≤ length room
-  place-fits s h = let l : (held + 1) * length row ≤ length room = rows-fit (length room) (length row) s (held + 1) (omega arith) in omega arith
+  place-fits s h = record-ends (length room) (length row) s held h
 
   pub added : 0 < length row → held < placesFor room row → (p : List ℕ) → p ≡ overwrite room (held * length row) row
       → (held + 1 ≡ heldWith room held row) × (p ≡ withRow room held row)
@@ -55,7 +55,7 @@ module _ (room : List ℕ) (held : ℕ) (row : List ℕ) where
 
   -- the places end by the room's end, and are at least one row
   pub places-fit : 0 < length row → placesFor room row * length row ≤ length room
-  places-fit s = rows-fit (length room) (length row) s (placesFor room row) (omega arith)
+  places-fit s = records-fit (length room) (length row) s (placesFor room row) (omega arith)
 
   pub places-hold : (placesFor room row ≡ 0 → ⊥) → length row ≤ placesFor room row * length row
   places-hold h = let l : 1 * length row ≤ placesFor room row * length row = mul-le-mul-right (length row) (omega arith) in omega arith

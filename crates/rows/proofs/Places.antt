@@ -5,12 +5,9 @@ use mathlib.Core.List.{List}
 use native.Mathlib.Omega.{arith}
 use lib.ListN.{length, take, drop, length-drop}
 use lib.Seq.{take-all}
-use native.Mathlib.Nat.{le-div-iff-mul-le, div-eq-of-lt, zero-mul, le-refl}
+use native.Mathlib.Nat.{div-eq-of-lt, zero-mul, le-refl}
+use Rattle.words.specs.Laws.Records.{records-fit}
 use Rattle.rows.specs.History.{historyOf, width, lastRows}
-
--- as many rows as there are, or fewer, end by the list's end
-pub rows-fit : (n w : ℕ) → 0 < w → (i : ℕ) → i ≤ n / w → i * w ≤ n
-rows-fit n w some i h = le-div-iff-mul-le {k = w} some .0 h
 
 -- a list shorter than a row holds none
 pub no-rows : (n w : ℕ) → n < w → 0 ≡ n / w
@@ -20,12 +17,12 @@ module _ (K D held : ℕ) (ws : List ℕ) (count : held ≡ historyOf K ws .rows
   -- the rows before the last D lie within the list
   pub skipped-fit : (held - D) * width K ≤ length ws
   unfolding historyOf
-  skipped-fit = rows-fit (length ws) (7 + K) (omega arith) (held - D) (omega arith)
+  skipped-fit = records-fit (length ws) (7 + K) (omega arith) (held - D) (omega arith)
 
   -- a list that holds a row is as long as one
   pub row-fits : D < held → width K ≤ length ws
   unfolding historyOf
-  row-fits l = let h : 1 * (7 + K) ≤ length ws = rows-fit (length ws) (7 + K) (omega arith) 1 (omega arith) in omega arith
+  row-fits l = let h : 1 * (7 + K) ≤ length ws = records-fit (length ws) (7 + K) (omega arith) 1 (omega arith) in omega arith
 
   pub window-all : held ≤ D → ws ≡ lastRows K D ws
   unfolding historyOf lastRows

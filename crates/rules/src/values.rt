@@ -39,7 +39,7 @@ pub fn slot_at(rows: &[u64], base: usize, slot: u64) -> Value
     ensures { λ r. ⌜ r ≡ slotOf (wordsFrom (now (rows .entry)) base) slot ⌝ }
 {
     let mask = words::word_from(rows, base, rows::MASK);
-    if 64 <= slot {
+    if words::limits::MOST_SLOTS as u64 <= slot {
         return Value::Missing;
     }
     if (mask >> slot) % 2 == 1 {

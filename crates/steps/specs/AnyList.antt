@@ -7,6 +7,7 @@ use native.Mathlib.Omega.{arith}
 use lib.Dec.{ltb, eqb}
 use lib.ListN.{length}
 use borrow.Author.Tests.{lt-ltb, le-ltb, ltb-true, ltb-false}
+use Rattle.words.specs.Limits.{mostSteps}
 use Rattle.rows.specs.History.{History, historyOf, lastRows}
 use Rattle.table.specs.Trees.{Operand, const, ref, price, reach}
 use Rattle.rules.specs.declared.PositionState.{PositionState}
@@ -57,15 +58,15 @@ well-parts true false f e = (refl, e)
 well-parts false b f e = let never : _≡_ {A = ℕ} 0 1 = cc in absurd (omega arith)
 
 module _ (K D : ℕ) (bs : List ℕ) (well : formed K D bs ≡ Well) where
-  parts : (ltb 1024 (stepsIn bs) ≡ false) × (formedFrom K D bs 0 (stepsIn bs) ≡ Well)
+  parts : (ltb mostSteps (stepsIn bs) ≡ false) × (formedFrom K D bs 0 (stepsIn bs) ≡ Well)
   unfolding formed
-  parts = well-parts (eqb (length bs % 16) 0) (ltb 1024 (stepsIn bs)) (formedFrom K D bs 0 (stepsIn bs)) well
+  parts = well-parts (eqb (length bs % 16) 0) (ltb mostSteps (stepsIn bs)) (formedFrom K D bs 0 (stepsIn bs)) well
 
   -- a well-formed list is run whole: it has no step past the 1,024th
   pub run-whole : opsOf bs ≡ opsFrom bs 0 (stepsIn bs)
   unfolding opsOf stepsRun
   run-whole =
-      let all : min 1024 (stepsIn bs) ≡ stepsIn bs = omega (arith, ltb-false 1024 (stepsIn bs) (parts .0)) in
+      let all : min mostSteps (stepsIn bs) ≡ stepsIn bs = omega (arith, ltb-false mostSteps (stepsIn bs) (parts .0)) in
       rw all
 
   bounded-ops : Bounded K D (opsOf bs)

@@ -8,6 +8,7 @@ use lib.Dec.{ltb}
 use lib.ListN.{length, take, drop}
 use lib.Seq.{take-at}
 use borrow.Author.Tests.{le-ltb, ltb-false}
+use Rattle.words.specs.Limits.{mostRows, mostReach}
 use Rattle.words.specs.Outcome.{refusal}
 use Rattle.rows.specs.History.{historyOf, lastRows, wholeRows}
 use Rattle.table.specs.declared.answer.Answer.{Answer}
@@ -64,24 +65,24 @@ pub record Deep (t : List ℕ) (lookback D : ℕ) : Type 0 where
   pub nodes : ℕ
   pub rows : ℕ
   pub accepted : checked t ≡ Accepted nodes rows
-  pub near : lookback ≤ 4095
+  pub near : lookback ≤ mostReach
   pub is : D ≡ depthOf t lookback
 
 module _ (t : List ℕ) (lookback D row window : ℕ) where
-  told : (a : Answer) (far : Bool) → checked t ≡ a → ltb 4095 lookback ≡ far → depthAnswer a t lookback ≡ Needs D row window → Deep t lookback D
+  told : (a : Answer) (far : Bool) → checked t ≡ a → ltb mostReach lookback ≡ far → depthAnswer a t lookback ≡ Needs D row window → Deep t lookback D
   unfolding depthAnswer
   told (Refused why) far e f d = absurd (let z : _≡_ {A = ℕ} 0 1 = cc in omega arith)
   told (Accepted n r) true e f d = absurd (let z : _≡_ {A = ℕ} 0 1 = cc (f, d) in omega arith)
-  told (Accepted n r) false e f d = record { nodes = n; rows = r; accepted = e; near = ltb-false 4095 lookback f; is = cc (f, d) }
+  told (Accepted n r) false e f d = record { nodes = n; rows = r; accepted = e; near = ltb-false mostReach lookback f; is = cc (f, d) }
 
   pub deep : depthAnswer (checked t) t lookback ≡ Needs D row window → Deep t lookback D
-  deep = told (checked t) (ltb 4095 lookback) refl refl
+  deep = told (checked t) (ltb mostReach lookback) refl refl
 
 module _ (t : List ℕ) (n r : ℕ) (ok : checked t ≡ Accepted n r) (lookback : ℕ) where
   -- every lookback up to 4,095 is answered, with D rows
-  pub depth-answers : lookback ≤ 4095 → depthAnswer (checked t) t lookback ≡ Needs (depthOf t lookback) (rowBytes t) (depthOf t lookback * rowBytes t)
+  pub depth-answers : lookback ≤ mostReach → depthAnswer (checked t) t lookback ≡ Needs (depthOf t lookback) (rowBytes t) (depthOf t lookback * rowBytes t)
   unfolding depthAnswer
-  depth-answers l = rw (ok, le-ltb 4095 lookback l)
+  depth-answers l = rw (ok, le-ltb mostReach lookback l)
 
   -- D lies above every reach,
   pub depth-above : (tree : Tree) → reachOf (treeOf t (treeNumber tree)) < depthOf t lookback
@@ -89,7 +90,7 @@ module _ (t : List ℕ) (n r : ℕ) (ok : checked t ≡ Accepted n r) (lookback 
   depth-above tree = omega (arith, tree-near t n r ok tree, rows-are t n r ok)
 
   -- and is no more than 4,096
-  pub depth-most : lookback ≤ 4095 → depthOf t lookback ≤ 4096
+  pub depth-most : lookback ≤ mostReach → depthOf t lookback ≤ mostRows
   unfolding depthOf greatestReach
   depth-most l =
       omega (
@@ -128,7 +129,7 @@ demand-three t bytes lookback D row window needs tree room used writes ws whole 
     let d = deep t lookback D row window needs in
     let ok = d .accepted in
     let above : reachOf (treeOf t x) < D = rw (d .is) (depth-above t _ _ ok lookback tree) in
-    let most : D ≤ 4096 = rw (d .is) (depth-most t _ _ ok lookback (d .near)) in
+    let most : D ≤ mostRows = rw (d .is) (depth-most t _ _ ok lookback (d .near)) in
     let well = translated-well-formed t _ _ ok bytes x four D above most in
     let seen = ap (λ (a : Ran). a .visits) (window-any K D ws (bytesOf (stepsOf t x)) s well) in
     rw (written-there t tree room used writes)

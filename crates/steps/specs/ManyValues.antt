@@ -8,6 +8,7 @@ use lib.Dec.{ltb}
 use lib.Ieee as Ieee
 use lib.ListN.{length}
 use borrow.Author.Tests.{le-ltb}
+use Rattle.words.specs.Limits.{mostSlots, mostRows}
 use Rattle.floats.specs.Floats.{floatOf}
 use Rattle.rows.specs.History.{History, historyOf, wholeRows}
 use Rattle.table.specs.Trees.{const}
@@ -73,14 +74,14 @@ module _ (K D : ℕ) (deep : 1 ≤ D) where
   all-good (suc n) = ((omega arith, omega arith), all-good n)
 
   -- Run over any rows it answers no, since 5 < 3 is no. (A machine of 64 places would lose the 3, and find 0 < 5.)
-  pub many-values : K ≤ 64 → D ≤ 4096 → (ws : List ℕ) (s : PositionState) → wholeRows K ws ≡ true → stateRight s ≡ true
+  pub many-values : K ≤ mostSlots → D ≤ mostRows → (ws : List ℕ) (s : PositionState) → wholeRows K ws ≡ true → stateRight s ≡ true
       → runs (bytesOf five-below-three) ws K D s ≡ Runs (record { answer = false; visits = 66 })
   unfolding runs ranIf five-below-three
   many-values few most ws s whole fine =
       rw (
-        le-ltb 64 K few,
+        le-ltb mostSlots K few,
         le-ltb D 1 deep,
-        le-ltb 4096 D most,
+        le-ltb mostRows D most,
         whole,
         fine,
         well-formed K D few most five-below-three (unfold after-zeros last in omega arith) (all-good 63),

@@ -6,6 +6,7 @@ use mathlib.Core.List.{List}
 use lib.ListN.{length, take}
 use native.Mathlib.Omega.{arith}
 use borrow.Author.Tests.{le-ltb}
+use Rattle.words.specs.Limits.{mostSlots, mostRows}
 use Rattle.rows.specs.History.{historyOf, lastRows, wholeRows}
 use Rattle.table.specs.declared.answer.Answer.the-variants.{Accepted}
 use Rattle.table.specs.Trees.{reachOf}
@@ -35,7 +36,7 @@ use Rattle.steps.specs.Window.{translated-well-formed, translated-says}
 use Rattle.steps.specs.Demand.{written-there, deep, depth-above, depth-most}
 
 -- the public run of a translated tree, over any rows
-runs-any : (t : List ℕ) (n r : ℕ) → checked t ≡ Accepted n r → Bytes t → (x : ℕ) → x < 4 → (D : ℕ) → reachOf (treeOf t x) < D → D ≤ 4096
+runs-any : (t : List ℕ) (n r : ℕ) → checked t ≡ Accepted n r → Bytes t → (x : ℕ) → x < 4 → (D : ℕ) → reachOf (treeOf t x) < D → D ≤ mostRows
     → (ws : List ℕ) (s : PositionState) → wholeRows (slots t) ws ≡ true → stateRight s ≡ true
     → runs (bytesOf (stepsOf t x)) ws (slots t) D s
     ≡ Runs (record {
@@ -45,9 +46,9 @@ runs-any : (t : List ℕ) (n r : ℕ) → checked t ≡ Accepted n r → Bytes t
 unfolding runs ranIf
 runs-any t n r ok bytes x four D above most ws s whole fine =
     rw (
-      le-ltb 64 (slots t) (header-of t n r ok .few-slots),
+      le-ltb mostSlots (slots t) (header-of t n r ok .few-slots),
       le-ltb D 1 (omega arith),
-      le-ltb 4096 D most,
+      le-ltb mostRows D most,
       whole,
       fine,
       translated-well-formed t n r ok bytes x four D above most,
@@ -73,7 +74,7 @@ short-runs t bytes lookback D row window needs tree room used writes ws whole s 
     let known = deep t lookback D row window needs in
     let ok = known .accepted in
     let above : reachOf (treeOf t x) < D = rw (known .is) (depth-above t _ _ ok lookback tree) in
-    let most : D ≤ 4096 = rw (known .is) (depth-most t _ _ ok lookback (known .near)) in
+    let most : D ≤ mostRows = rw (known .is) (depth-most t _ _ ok lookback (known .near)) in
     rw (written-there t tree room used writes)
     (runs-any t _ _ ok bytes x (tree-of-four tree) D above most (lastRows K d ws) s (window-whole K d ws ∙ whole) fine
     ∙ rw (any-window K d ws s (treeOf t x)))

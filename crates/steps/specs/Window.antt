@@ -8,6 +8,7 @@ use native.Mathlib.Nat.{eq-zero-or-pos}
 use mathlib.Core.Logic.{⊎-elim}
 use lib.ListN.{length}
 use borrow.Author.Tests.{eq-eqb, ne-eqb, le-ltb}
+use Rattle.words.specs.Limits.{mostSlots, mostRows, mostReach, mostSteps}
 use Rattle.rows.specs.History.{History, historyOf, lastRows, wholeRows}
 use Rattle.table.specs.declared.answer.Answer.the-variants.{Accepted}
 use Rattle.table.specs.Trees.{reachOf}
@@ -48,19 +49,19 @@ module _ (t : List ℕ) (n r : ℕ) (ok : checked t ≡ Accepted n r) (bytes : B
     within : TreeWithin (slots t) (treeOf t x)
     within = tree-within t bytes n r ok x l some
 
-    short : length (codeOf (treeOf t x)) ≤ 1024
+    short : length (codeOf (treeOf t x)) ≤ mostSteps
     unfolding root
     short = omega (arith, two-a-node (treeOf t x), tree-nodes t n r ok x l some, tree-ends t n r ok x l, header-of t n r ok .most)
 
     good : (D : ℕ) → reachOf (treeOf t x) < D → AllGood (slots t) D (codeOf (treeOf t x))
     good D near = translated-good (slots t) D (treeOf t x) (within .fields) near (omega (arith, short))
 
-    well-there : (D : ℕ) → reachOf (treeOf t x) < D → D ≤ 4096 → formed (slots t) D (bytesOf (stepsOf t x)) ≡ Well
+    well-there : (D : ℕ) → reachOf (treeOf t x) < D → D ≤ mostRows → formed (slots t) D (bytesOf (stepsOf t x)) ≡ Well
     well-there D near most = rw there (well-formed (slots t) D (header-of t n r ok .few-slots) most (codeOf (treeOf t x)) short (good D near))
 
     reads-there : opsOf (bytesOf (stepsOf t x)) ≡ codeOf (treeOf t x)
     reads-there =
-        let reach : reachOf (treeOf t x) ≤ 4095 = within .reaches in
+        let reach : reachOf (treeOf t x) ≤ mostReach = within .reaches in
         let D : ℕ = reachOf (treeOf t x) + 1 in
         rw there (reads-back (slots t) D (header-of t n r ok .few-slots) (omega arith) (codeOf (treeOf t x)) short (good D (omega arith)))
 
@@ -85,7 +86,7 @@ module _ (t : List ℕ) (n r : ℕ) (ok : checked t ≡ Accepted n r) (bytes : B
   -- ---- any tree
 
   -- Every translated list is well formed, for its table's K and any D above its reach.
-  pub translated-well-formed : (D : ℕ) → reachOf (treeOf t x) < D → D ≤ 4096 → formed (slots t) D (bytesOf (stepsOf t x)) ≡ Well
+  pub translated-well-formed : (D : ℕ) → reachOf (treeOf t x) < D → D ≤ mostRows → formed (slots t) D (bytesOf (stepsOf t x)) ≡ Well
   translated-well-formed D near most = ⊎-elim (λ none. well-absent none D) (λ some. well-there some D near most) (eq-zero-or-pos (count t x))
 
   -- The bytes of a translated tree answer what the tree means, over any rows.
@@ -98,7 +99,7 @@ module _ (t : List ℕ) (n r : ℕ) (ok : checked t ≡ Accepted n r) (bytes : B
   window-steps D near ws s = translated-says (historyOf (slots t) (lastRows (slots t) D ws)) s ∙ window (slots t) D ws s (treeOf t x) near
 
   -- The same of the public run: it refuses nothing, answers so, and reports the places visited.
-  pub window-runs : (D : ℕ) → reachOf (treeOf t x) < D → D ≤ 4096 → (ws : List ℕ) (s : PositionState)
+  pub window-runs : (D : ℕ) → reachOf (treeOf t x) < D → D ≤ mostRows → (ws : List ℕ) (s : PositionState)
       → wholeRows (slots t) (lastRows (slots t) D ws) ≡ true → stateRight s ≡ true
       → runs (bytesOf (stepsOf t x)) (lastRows (slots t) D ws) (slots t) D s
       ≡ Runs (record {
@@ -108,9 +109,9 @@ module _ (t : List ℕ) (n r : ℕ) (ok : checked t ≡ Accepted n r) (bytes : B
   unfolding runs ranIf
   window-runs D near most ws s whole fine =
       rw (
-        le-ltb 64 (slots t) (header-of t n r ok .few-slots),
+        le-ltb mostSlots (slots t) (header-of t n r ok .few-slots),
         le-ltb D 1 (omega arith),
-        le-ltb 4096 D most,
+        le-ltb mostRows D most,
         whole,
         fine,
         translated-well-formed D near most,

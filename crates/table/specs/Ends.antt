@@ -5,6 +5,7 @@ use mathlib.Core.List.{List, [], _∷_}
 use Prim.Native.Nat.{ℕ, zero, suc, _+_, _-_, _≤_, _<_}
 use lib.ListN.{getD, replicate}
 use lib.Dec.{ltb}
+use Rattle.words.specs.Limits.{mostNodes}
 use Rattle.table.specs.declared.places.Place.{Place}
 use Rattle.table.specs.declared.places.Place.the-variants.{Nowhere, At}
 use Rattle.table.specs.declared.answer.Answer.{Answer}
@@ -39,12 +40,12 @@ from f zero i = []
 from f (suc m) i = f i ∷ from f m (i + 1)
 
 unfoldable pub endsAll : List ℕ → List ℕ
-endsAll t = from (endOf t) 256 0
+endsAll t = from (endOf t) mostNodes 0
 
 -- the array beside an answer: zeros beside a refusal (decided)
 unfoldable pub endsFor : Answer → List ℕ → List ℕ
 endsFor (Accepted n r) ends = ends
-endsFor (Refused why) ends = replicate 256 0
+endsFor (Refused why) ends = replicate mostNodes 0
 
 unfoldable pub endsBeside : List ℕ → List ℕ
 endsBeside t = endsFor (checked t) (endsAll t)

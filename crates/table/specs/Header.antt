@@ -4,6 +4,7 @@ use mathlib.Core.List.{List}
 use Prim.Native.Nat.{ℕ, zero, suc, _+_, _*_}
 use lib.ListN.{length, getD}
 use lib.Dec.{ltb, eqb}
+use Rattle.words.specs.Limits.{mostSlots, mostNodes}
 use Rattle.table.specs.Bytes.{u16}
 use Rattle.table.specs.declared.trees.Tree.{Tree}
 use Rattle.table.specs.declared.trees.Tree.the-variants.{Entry, Exit, ShortEntry, ShortExit}
@@ -29,9 +30,9 @@ count t x = u16 t (8 + 2 * x)
 
 unfoldable pub countsRight : List ℕ → Bool
 countsRight t =
-    not (ltb 64 (slots t))
+    not (ltb mostSlots (slots t))
     && not (ltb (total t) 2)
-    && not (ltb 256 (total t))
+    && not (ltb mostNodes (total t))
     && not (ltb (count t 0) 1)
     && not (ltb (count t 1) 1)
     && eqb (count t 0 + count t 1 + count t 2 + count t 3) (total t)

@@ -2,6 +2,7 @@
 use mathlib.Core.Path.{_≡_}
 use mathlib.Core.Bool.{true}
 use Prim.Native.Nat.{ℕ, _+_, _≤_, _<_, max}
+use Rattle.words.specs.Limits.{mostSlots, mostReach, mostNesting, mostNodes}
 use Rattle.floats.specs.Floats.{finite, floatOf}
 use Rattle.table.specs.Kinds as Kinds
 use Rattle.table.specs.Kinds.{kindOf, arithmetic, comparison, crossing}
@@ -62,8 +63,8 @@ unfoldable mutual
 -- a tree: its fields, "nesting above 32" and "a reach above 4,095" refused
 pub record TreeWithin (k : ℕ) (c : Condition) : Type 0 where
   pub fields : WithinOf k c
-  pub nesting : levelsOf c ≤ 32
-  pub reaches : reachOf c ≤ 4095
+  pub nesting : levelsOf c ≤ mostNesting
+  pub reaches : reachOf c ≤ mostReach
 
 unfoldable pub ShortWithin : ℕ → Short → Type 0
 ShortWithin k absent = Unit
@@ -71,8 +72,8 @@ ShortWithin k (given c) = TreeWithin k c
 
 -- a rule: "slot count K (.. 0 to 64)", "total nodes (.. 2 to 256)" (two trees have two nodes at least)
 pub record RuleWithin (k : ℕ) (r : Rule) : Type 0 where
-  pub few-slots : k ≤ 64
-  pub few-nodes : nodesOfRule r ≤ 256
+  pub few-slots : k ≤ mostSlots
+  pub few-nodes : nodesOfRule r ≤ mostNodes
   pub entry : TreeWithin k (r .entry)
   pub exit : TreeWithin k (r .exit)
   pub shortEntry : ShortWithin k (r .shortEntry)

@@ -1,6 +1,7 @@
 -- Rule 8: nesting. Definitions only.
 use mathlib.Core.List.{List}
 use Prim.Native.Nat.{ℕ, zero, suc}
+use Rattle.words.specs.Limits.{mostNesting}
 use Rattle.table.specs.declared.places.Place.{Place}
 use Rattle.table.specs.declared.places.Place.the-variants.{Nowhere, At}
 use Rattle.table.specs.Order.{orElse, ofFour}
@@ -14,4 +15,4 @@ deeper (suc l) (tree n below rest) = orElse (deeper l below) (deeper (suc l) res
 
 -- "8 nesting above 32 (root is 1): lowest such node". Operands count too.
 unfoldable pub tooDeep : List ℕ → Place
-tooDeep t = ofFour (λ x. deeper 32 (forestOf t x))
+tooDeep t = ofFour (λ x. deeper mostNesting (forestOf t x))

@@ -6,6 +6,7 @@ use mathlib.Core.List.{List, _∷_}
 use Prim.Native.Nat.{ℕ, _+_, _-_, _≤_, _<_, min}
 use lib.ListN.{length, getD}
 use lib.Dec.{ltb, eqb}
+use Rattle.words.specs.Limits.{mostRows, mostNodes}
 use Rattle.table.specs.declared.nodes.Node.{Node}
 use Rattle.table.specs.declared.places.Place.{Place}
 use Rattle.table.specs.declared.places.Place.the-variants.{At}
@@ -43,12 +44,12 @@ unfoldable pub weight : ℕ → Node → ℕ
 weight what n = cond (eqb what 0) 1 (ownBack n)
 
 unfoldable pub WordsFrom : List ℕ → List ℕ → (Node → ℕ) → ℕ → ℕ → Type 0
-WordsFrom t words w b e = (j : ℕ) → b ≤ j → j < e → getD words j 0 ≡ min (weigh w (firstTrees 1 (trees t (e - j) j))) 4096
+WordsFrom t words w b e = (j : ℕ) → b ≤ j → j < e → getD words j 0 ≡ min (weigh w (firstTrees 1 (trees t (e - j) j))) mostRows
 
 -- r is the greatest word of node i's children
 unfoldable pub Most : List ℕ → List ℕ → ℕ → ℕ → ℕ → Type 0
 Most t words i e r =
-    (w : Node → ℕ) → WordsFrom t words w (i + 1) e → r ≡ min (weigh w (firstTrees (childCountAt t i) (trees t (e - (i + 1)) (i + 1)))) 4096
+    (w : Node → ℕ) → WordsFrom t words w (i + 1) e → r ≡ min (weigh w (firstTrees (childCountAt t i) (trees t (e - (i + 1)) (i + 1)))) mostRows
 
 -- The four trees: their roots and the table's end, and what the array says of all of them.
 pub record Roots (t : List ℕ) (a b c e : ℕ) : Type 0 where
@@ -57,7 +58,7 @@ pub record Roots (t : List ℕ) (a b c e : ℕ) : Type 0 where
   pub three : c ≡ root t 3
   pub four : e ≡ root t 4
   pub all : e ≡ total t
-  pub small : e ≤ 256
+  pub small : e ≤ mostNodes
   pub low : a ≤ b
   pub mid : b ≤ c
   pub high : c ≤ e
@@ -68,7 +69,7 @@ pub record EndedAll (t ends : List ℕ) (a b c e : ℕ) : Type 0 where
   pub shortEntry : EndedFrom t ends b c
   pub shortExit : EndedFrom t ends c e
   pub past : (j : ℕ) → e ≤ j → getD ends j 0 ≡ 0
-  pub long : length ends ≡ 256
+  pub long : length ends ≡ mostNodes
 
 pub record WholeTree (t ends : List ℕ) (b e : ℕ) : Type 0 where
   pub links : Linked t ends b e

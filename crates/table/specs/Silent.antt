@@ -4,6 +4,7 @@ use mathlib.Core.Bool.{Bool, true, false, cond, _&&_}
 use mathlib.Core.List.{List, [], _∷_, _++_}
 use lib.Dec.{ltb, leb}
 use lib.ListN.{length, drop, set}
+use Rattle.words.specs.Limits.{mostRows}
 use Rattle.words.specs.Outcome.{refusal}
 use Rattle.table.specs.declared.nodes.Node.{Node}
 use Rattle.table.specs.declared.answer.Answer.{Answer}
@@ -84,7 +85,7 @@ WholeAll t ends = (x : ℕ) → x < 4 → Whole t ends (root t x) (root t (x + 1
 -- ---- as the code finds them: a node of kind 16 to 26 whose subtree weighs d bars or more, weights being cut at 4,096
 
 unfoldable pub silentNode : ℕ → Node → ℕ → List ℕ
-silentNode d n back = cond (leb 16 (n .kind) && ltb (n .kind) 27 && leb d (min back 4096)) (n .number ∷ []) []
+silentNode d n back = cond (leb 16 (n .kind) && ltb (n .kind) 27 && leb d (min back mostRows)) (n .number ∷ []) []
 
 unfoldable pub silentNodes : ℕ → Forest → List ℕ
 silentNodes d Forest.none = []

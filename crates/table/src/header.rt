@@ -1,6 +1,8 @@
 // The header, and rules 1 to 5.
 use crate::bytes::byte;
 use crate::bytes::read16;
+use words::limits::MOST_NODES;
+use words::limits::MOST_SLOTS;
 ghost use mathlib.Core.Path.{_≡_};
 ghost use Prim.Native.Nat.{_<_, _≤_, _*_};
 ghost use Rattle.table.specs.Header as Header;
@@ -56,13 +58,13 @@ fn mark_right(t: &[u8]) -> bool
 fn counts_right(t: &[u8]) -> bool
     ensures { λ r. ⌜ r ≡ countsRight (now (t .entry)) ⌝ }
 {
-    if slots(t) > 64 {
+    if slots(t) as usize > MOST_SLOTS {
         return false;
     }
     if total(t) < 2 {
         return false;
     }
-    if total(t) > 256 {
+    if total(t) > MOST_NODES {
         return false;
     }
     let entry = count(t, 0);

@@ -7,6 +7,7 @@ use crate::kinds::kind_of;
 use crate::nodes::Node;
 use crate::nodes::child_count_at;
 use crate::nodes::node_at;
+use words::limits::MOST_ROWS;
 ghost use mathlib.Core.Path.{_≡_};
 ghost use Prim.Native.Nat.{_+_, _≤_, _<_, min, max};
 ghost use Rattle.table.specs.Nodes.{nodeAt};
@@ -27,7 +28,8 @@ pub fn greater(a: u64, b: u64) -> u64
 pub fn cut(a: u64) -> u64
     ensures { λ r. ⌜ r ≡ min a 4096 ⌝ }
 {
-    if a < 4096 { a } else { 4096 }
+    let most = MOST_ROWS as u64;
+    if a < most { a } else { most }
 }
 
 // What a node adds to the reach.

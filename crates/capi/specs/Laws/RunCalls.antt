@@ -26,7 +26,7 @@ use Rattle.engine.specs.declared.Answer.the-variants.{Refused, Done}
 use Rattle.engine.specs.declared.ending.Ended.{Ended}
 use Rattle.engine.specs.declared.Finished.{Finished}
 use Rattle.engine.specs.declared.Finished.the-variants.{Refused as NotEnded, Done as AtEnd}
-use Rattle.engine.specs.Step.{With, stepOf}
+use Rattle.engine.specs.Step.{With, stepAnswer}
 use Rattle.engine.specs.Finish.{ended, concluded, finishOf}
 use Rattle.engine.specs.Laws.Refusal.{refusal-changes-nothing}
 use Rattle.capi.specs.Call.{unlessBad, wordLines, metricLines}
@@ -59,7 +59,7 @@ step-by (Refused r u) state m s = one-refusal r (s r u refl)
 step-by (Done next) state m s = never-refuses _
 
 pub step-honest : (settings state bar : List ℕ) (m : Rooms) (ls : Lists) →
-    (let d = stepOf (settingsOf settings) (stateOf state) bar m ls in
+    (let d = stepAnswer (settingsOf settings) (stateOf state) bar m ls in
     Honest (unlessBad (judged (lentLines settings state (m .rows))) (stepGives (d .result) state (d .rooms))) (record { state = state; rooms = m }))
 unfolding stepJudged
 step-honest settings state bar m ls =
@@ -67,7 +67,7 @@ step-honest settings state bar m ls =
     let t = stateOf state in
     honest _ _
     (after-verdict _ _ (lines-small (lentLines settings state (m .rows)) (lent-numbered settings state (m .rows)))
-    (step-by (stepOf s t bar m ls .result) state _
+    (step-by (stepAnswer s t bar m ls .result) state _
     (λ r u e. lines-small (stepLines s t bar m ls) (step-numbered s t bar m ls) r (refusal-changes-nothing s t bar m ls r u e .0))))
 
 -- ---- ysh_finish

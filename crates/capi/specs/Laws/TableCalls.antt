@@ -8,7 +8,7 @@ use lib.Dec.{eqb, ltb, leb}
 use lib.ListN.{length}
 use borrow.Author.Tests.{eqb-false}
 use Rattle.words.specs.declared.refusal.Refusal.{Refusal}
-use Rattle.words.specs.Limits.{mostReach, trees}
+use Rattle.words.specs.Limits.{mostSlots, mostRows, mostReach, trees}
 use Rattle.words.specs.Outcome.{Outcome, refusal}
 use Rattle.rows.specs.History.{wholeRows}
 use Rattle.table.specs.declared.answer.Answer.{Answer}
@@ -33,7 +33,7 @@ use Rattle.steps.specs.declared.RunAnswer.the-variants.{Refuses as RunRefuses}
 use Rattle.steps.specs.declared.Translated.the-variants.{Writes, Refuses}
 use Rattle.steps.specs.Running.{ranIf, runs}
 use Rattle.steps.specs.Translating.{roomFor, writesOr, afterTable, translates}
-use Rattle.capi.specs.Tables.{treeOf, CheckLent, checkGives, DepthLent, depthGives, SilentLent, silentGives}
+use Rattle.capi.specs.Tables.{numberedTree, CheckLent, checkGives, DepthLent, depthGives, SilentLent, silentGives}
 use Rattle.capi.specs.Tables.{TranslateLent, translateGives, translateOutcome}
 use Rattle.capi.specs.Run.{ruleGives, RunLent, runGives}
 use Rattle.capi.specs.Laws.Calls.{Small, Numbered, Honest, honest, one-refusal, never-refuses}
@@ -160,7 +160,7 @@ unfolding translateOutcome translates
 translate-honest t tree before =
     honest _ before
     (either-numbered (leb trees tree) _ _ (absent-numbered (checked t) (before .room) (table-number t))
-    (translate-numbered (checked t) t _ (before .room) _ (tree-number (treeOf tree)) (table-number t)))
+    (translate-numbered (checked t) t _ (before .room) _ (tree-number (numberedTree tree)) (table-number t)))
 
 -- ---- ysh_rule
 
@@ -176,7 +176,7 @@ rule-numbered (Refused why) t x rows s tree n = one-refusal why (n why refl)
 rule-numbered (Accepted n r) t x rows s tree m = rule-by (wholeRows (slots t) rows && stateRight s) _ tree
 
 pub rule-honest : (t : List ℕ) (tree : ℕ) (rows : List ℕ) (s : PositionState) (before : ℕ)
-    → Honest (ruleGives (answered t (treeOf tree) rows s) tree) before
+    → Honest (ruleGives (answered t (numberedTree tree) rows s) tree) before
 unfolding answered
 rule-honest t tree rows s before = honest _ before (rule-numbered (checked t) t _ rows s tree (table-number t))
 
@@ -199,4 +199,4 @@ run-by false false false false f r = one-refusal _ (omega arith, omega arith)
 
 pub run-honest : (list rows : List ℕ) (K D : ℕ) (s : PositionState) (before : RunLent) → Honest (runGives (runs list rows K D s)) before
 unfolding runs
-run-honest list rows K D s before = honest _ before (run-by (ltb 64 K) (ltb D 1) (ltb 4096 D) (wholeRows K rows && stateRight s) _ _)
+run-honest list rows K D s before = honest _ before (run-by (ltb mostSlots K) (ltb D 1) (ltb mostRows D) (wholeRows K rows && stateRight s) _ _)

@@ -20,7 +20,7 @@ use Rattle.records.specs.declared.state.Order.{Order}
 use Rattle.records.specs.declared.state.Position.{Position}
 use Rattle.records.specs.declared.settings.Settings.{Settings}
 use Rattle.records.specs.Lent.{Lists}
-use Rattle.engine.specs.Decide.{says, stateAt, answersOf, orderAfter, decided}
+use Rattle.engine.specs.Decide.{listSays, stateAt, answersOf, orderAfter, decided}
 use Rattle.engine.specs.Rules.{rulesOf, listsOf, meanings, FromTable}
 use Rattle.engine.specs.Whole.{byLists, byMeaning}
 
@@ -49,9 +49,9 @@ from-depth table n r ok bytes s same back deep = record {
 module _ (table : List ℕ) (s : Settings) (ls : Lists) (f : FromTable table s ls) (rows : List ℕ) where
   -- the list of one tree, an absent one too
   tree-means : (p : PositionState) (x : ℕ) → x < 4
-      → says (historyOf (s .slots) (lastRows (s .slots) (s .depth) rows)) p (bytesOf (stepsOf table x))
+      → listSays (historyOf (s .slots) (lastRows (s .slots) (s .depth) rows)) p (bytesOf (stepsOf table x))
       ≡ Meaning.says (historyOf (s .slots) rows) p (treeOf table x)
-  unfolding says
+  unfolding listSays
   tree-means p x four = rw (f .slots) (window-steps table (f .nodes) (f .rows) (f .accepted) (f .bytes) x four (s .depth) (f .depth x four) rows p)
 
   -- Asked of a table's lists over the last D rows, the rules answer what they mean over all.

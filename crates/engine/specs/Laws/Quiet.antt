@@ -14,7 +14,7 @@ use Rattle.records.specs.declared.state.State.{State}
 use Rattle.records.specs.Lent.{Lists, Rooms}
 use Rattle.engine.specs.Account.{leaving, filled, intrabar, charged}
 use Rattle.engine.specs.Books.{booked}
-use Rattle.engine.specs.Decide.{says, stateAt, answersOf, ordered, openingOrder, orderAfter, decided}
+use Rattle.engine.specs.Decide.{listSays, stateAt, answersOf, ordered, openingOrder, orderAfter, decided}
 use Rattle.engine.specs.Step.{stepped}
 
 same : {A : Type 0} (b : Bool) (x : A) → cond b x x ≡ x
@@ -37,8 +37,8 @@ quiet s t bar m ls o f = record {
 
 -- no rule says yes: no order
 pub no-rule-no-order : (s : Settings) (p : Position) (number : ℕ) (rows : List ℕ) (ls : Lists) → inPosition (p .portfolio) ≡ false
-    → says (historyOf (s .slots) (lastRows (s .slots) (s .depth) rows)) (stateAt p number) (ls .entry) ≡ false
-    → says (historyOf (s .slots) (lastRows (s .slots) (s .depth) rows)) (stateAt p number) (ls .«short_entry») ≡ false
+    → listSays (historyOf (s .slots) (lastRows (s .slots) (s .depth) rows)) (stateAt p number) (ls .entry) ≡ false
+    → listSays (historyOf (s .slots) (lastRows (s .slots) (s .depth) rows)) (stateAt p number) (ls .«short_entry») ≡ false
     → decided s Idle p number rows ls ≡ Idle
 unfolding decided orderAfter answersOf ordered openingOrder
 no-rule-no-order s p number rows ls f a b = simp (f, a, b, same)

@@ -11,7 +11,7 @@ use Rattle.refusals.specs.declared.verdict.Verdict.the-variants.{Fine, Bad}
 use Rattle.refusals.specs.Judgement.{stepJudged}
 use Rattle.records.specs.Lent.{Lists, Rooms}
 use Rattle.engine.specs.declared.Answer.the-variants.{Refused}
-use Rattle.engine.specs.Step.{With, stepped, answered, stepOf}
+use Rattle.engine.specs.Step.{With, stepped, answered, stepAnswer}
 
 by-verdict : (v : Verdict) (t : State) (m : Rooms) (done : With State) (why : Refusal) (u : State)
     → answered v t m done .result ≡ Refused why u → (v ≡ Bad why) × (u ≡ t) × (answered v t m done .rooms ≡ m)
@@ -21,7 +21,7 @@ by-verdict Fine t m done why u e = absurd (let z : _≡_ {A = ℕ} 0 1 = cc in o
 
 -- Whatever a step refuses, the judgement said so, the state is the one given, and no room has changed.
 pub refusal-changes-nothing : (s : Settings) (t : State) (bar : List ℕ) (m : Rooms) (ls : Lists) (why : Refusal) (u : State)
-    → stepOf s t bar m ls .result ≡ Refused why u
-    → (stepJudged s t bar m ls ≡ Bad why) × (u ≡ t) × (stepOf s t bar m ls .rooms ≡ m)
-unfolding stepOf
+    → stepAnswer s t bar m ls .result ≡ Refused why u
+    → (stepJudged s t bar m ls ≡ Bad why) × (u ≡ t) × (stepAnswer s t bar m ls .rooms ≡ m)
+unfolding stepAnswer
 refusal-changes-nothing s t bar m ls why u e = by-verdict (stepJudged s t bar m ls) t m (stepped s t bar m ls) why u e

@@ -13,7 +13,7 @@ use Rattle.refusals.specs.declared.verdict.Verdict.the-variants.{Fine, Bad}
 use Rattle.refusals.specs.Judgement.{stepJudged}
 use Rattle.refusals.specs.Laws.Lines.{never}
 use Rattle.engine.specs.Run.{Run, oneMore, goesOn, runOver}
-use Rattle.engine.specs.Step.{stepped, answered, stepOf}
+use Rattle.engine.specs.Step.{stepped, answered, stepAnswer}
 
 -- no bars
 pub run-none : (s : Settings) (ls : Lists) (t : State) (m : Rooms) → runOver s ls t m [] ≡ record { done = 0; verdict = Fine; state = t; rooms = m }
@@ -24,13 +24,13 @@ module _ (s : Settings) (ls : Lists) (t : State) (m : Rooms) (bar : List ℕ) (b
   -- a bar that is refused
   pub run-stops : (why : Refusal) → stepJudged s t bar m ls ≡ Bad why
       → runOver s ls t m (bar ∷ bars) ≡ record { done = 0; verdict = Bad why; state = t; rooms = m }
-  unfolding runOver stepOf answered goesOn
+  unfolding runOver stepAnswer answered goesOn
   run-stops why h = rw h
 
   -- a bar that is taken
   pub run-takes : stepJudged s t bar m ls ≡ Fine
       → runOver s ls t m (bar ∷ bars) ≡ oneMore (runOver s ls (stepped s t bar m ls .result) (stepped s t bar m ls .rooms) bars)
-  unfolding runOver stepOf answered goesOn
+  unfolding runOver stepAnswer answered goesOn
   run-takes h = rw h
 
 -- A run whose verdict is fine took all bars.

@@ -2,18 +2,19 @@
 use mathlib.Core.Path.{_≡_, refl, sym, ap, _∙_}
 use mathlib.Core.List.{List}
 use Prim.Native.Nat.{ℕ, zero, suc, _+_, _*_, _/_, _≤_, _<_}
-use native.Mathlib.Nat.{mul-suc, mul-zero, mul-le-mul-left, mul-div-le, zero-add, not-suc-le-zero, le-of-suc-le-suc, le-trans, le-of-eq}
+use native.Mathlib.Nat.{mul-suc, mul-zero, mul-comm, zero-add, not-suc-le-zero, le-of-suc-le-suc}
 use native.Mathlib.Omega.{arith}
 use lib.ListN.{length, getD, drop, List·getD-eq-default}
 use lib.Seq.{getD-drop}
 use Rattle.floats.specs.Floats as Floats
 use Rattle.floats.specs.Floats.{floatOf}
 use Rattle.words.specs.Limits.{pointWords, tradeWords}
+use Rattle.words.specs.Laws.Records.{record-ends}
 use Rattle.metrics.specs.Records.{equityWord, pnlWord, column, equityOf, pnlsOf}
 
 -- a word of a whole record is there
 pub in-record : (w j i len : ℕ) → j < w → i < len / w → w * i + j < len
-in-record w j i len h l = within (w * i) j w len h (le-trans (le-of-eq (sym (mul-suc w i))) (le-trans (mul-le-mul-left w l) (mul-div-le len w)))
+in-record w j i len h l = within (w * i) j w len h (rw (mul-comm w i) (record-ends len w (omega arith) i l))
   where
     within : (x y z n : ℕ) → y < z → x + z ≤ n → x + y < n
     within x y z n g k = omega arith

@@ -1,17 +1,15 @@
 -- Laws of the meaning of operands and conditions, for the proofs that cite it. Assumes nothing.
-use Prim.Native.Nat.{ℕ, _+_, _-_, _*_, _≤_, _<_}
+use Prim.Native.Nat.{ℕ, _-_, _*_, _≤_, _<_}
 use mathlib.Core.Path.{_≡_, refl}
 use mathlib.Core.Bool.{Bool, true, false, cond}
-use mathlib.Core.List.{List}
 use native.Mathlib.Omega.{arith}
-use native.Mathlib.Nat.{le-div-iff-mul-le, le-refl, sub-zero}
-use lib.ListN.{length}
+use native.Mathlib.Nat.{le-refl, sub-zero}
 use lib.Dec.{ltb, eqb}
 use lib.Ieee as Ieee
 use lib.Ieee.{Float, nan, inf, fin}
 use borrow.Author.Tests.{lt-ltb, le-ltb}
 use Rattle.floats.specs.Floats.{_≺_, floatOf}
-use Rattle.rows.specs.History.{History, historyOf}
+use Rattle.rows.specs.History.{History}
 use Rattle.table.specs.Trees.{Operand, const, ref, price, prev, arith as sums, trend}
 use Rattle.rules.specs.declared.Value.{Value}
 use Rattle.rules.specs.declared.Value.the-variants.{Missing, Number}
@@ -63,11 +61,6 @@ module _ (h : History) (i : ℕ) (l : i < h .rows) where
 pub arith-value : (h : History) (kind : ℕ) (a b : Operand) (i : ℕ) → value h (sums kind a b) i ≡ both kind (value h a i) (value h b i)
 unfolding value
 arith-value h kind a b i = refl
-
--- The row of a bar that exists lies within the list of words.
-pub row-fits : (K : ℕ) (ws : List ℕ) (i : ℕ) → i < historyOf K ws .rows → i * (7 + K) + (7 + K) ≤ length ws
-unfolding historyOf
-row-fits K ws i l = let whole : (i + 1) * (7 + K) ≤ length ws = le-div-iff-mul-le {k = 7 + K} (omega arith) .0 (omega arith) in omega arith
 
 not-below : (n : ℕ) → ltb n n ≡ false
 not-below n = le-ltb n n (le-refl n)

@@ -8,6 +8,7 @@ use native.Mathlib.Nat.{mod-eq-of-lt, mod-add-div, div-div-eq-div-mul}
 use lib.ListN.{length, getD, length-append}
 use lib.Seq.{getD-append-add}
 use borrow.Author.Tests.{lt-ltb, le-ltb, ne-eqb}
+use Rattle.words.specs.Limits.{mostSteps}
 use Rattle.table.specs.Bytes.{u16, u32, u64}
 use Rattle.steps.specs.declared.Step.{Step}
 use Rattle.steps.specs.declared.Op.{Op}
@@ -178,7 +179,7 @@ ops-back pre p e (x ∷ xs) s =
     rw (step-there pre p e x (bytesOf xs) (s .0), says-back x (s .0), ← append-assoc pre sb (bytesOf xs), rest)
 
 -- a list of steps, written and read
-pub ops-of-bytes : (xs : List Op) → length xs ≤ 1024 → AllSayable xs → opsOf (bytesOf xs) ≡ xs
+pub ops-of-bytes : (xs : List Op) → length xs ≤ mostSteps → AllSayable xs → opsOf (bytesOf xs) ≡ xs
 unfolding opsOf stepsRun
 ops-of-bytes xs short s =
     let count : stepsRun (bytesOf xs) ≡ length xs = omega (arith, steps-long xs) in

@@ -6,6 +6,7 @@ use mathlib.Core.List.{List, [], _∷_, _++_, append-assoc}
 use native.Mathlib.Omega.{arith}
 use lib.ListN.{length, length-append}
 use borrow.Author.Tests.{lt-ltb, le-ltb, le-leb, eq-eqb}
+use Rattle.words.specs.Limits.{mostSlots, mostRows, mostSteps}
 use Rattle.steps.specs.declared.Op.{Op}
 use Rattle.steps.specs.declared.Op.the-variants.{Const, Ref, Price, Arith, Compare, Cross, Between, Answer, Turn, InPosition, BarsSinceEntry, JumpIf}
 use Rattle.steps.specs.declared.Formed.the-variants.{Well}
@@ -14,7 +15,7 @@ use Rattle.steps.specs.WellFormed.{zeros, plain, bounded, goodStep, form
 use Rattle.steps.specs.Laws.Encoding.{Sayable, AllSayable, says-back, step-there, steps-long, ops-of-bytes}
 use Rattle.steps.specs.Laws.TranslatedSteps.{Good, AllGood}
 
-module _ (K D : ℕ) (few : K ≤ 64) (near : D ≤ 4096) where
+module _ (K D : ℕ) (few : K ≤ mostSlots) (near : D ≤ mostRows) where
   sayable : (after : ℕ) (x : Op) → Good K D after x → Sayable x
   unfolding Good Sayable
   sayable after (Const bits n) g = (omega (arith, g .0), g .1)
@@ -65,14 +66,14 @@ module _ (K D : ℕ) (few : K ≤ 64) (near : D ≤ 4096) where
       rw (step-there pre p e x (bytesOf xs) (sayable (length xs) x (g .0)), good-step (length xs) x (g .0), ← append-assoc pre sb (bytesOf xs), rest)
 
   -- the bytes of good steps are a well-formed list
-  pub well-formed : (xs : List Op) → length xs ≤ 1024 → AllGood K D xs → formed K D (bytesOf xs) ≡ Well
+  pub well-formed : (xs : List Op) → length xs ≤ mostSteps → AllGood K D xs → formed K D (bytesOf xs) ≡ Well
   unfolding formed
   well-formed xs short g =
       let long : length (bytesOf xs) ≡ 16 * length xs = steps-long xs in
       let whole : length (bytesOf xs) % 16 ≡ 0 = omega arith in
       let count : stepsIn (bytesOf xs) ≡ length xs = omega arith in
-      rw (eq-eqb (length (bytesOf xs) % 16) 0 whole, count, le-ltb 1024 (length xs) short) (well-from [] 0 refl xs g)
+      rw (eq-eqb (length (bytesOf xs) % 16) 0 whole, count, le-ltb mostSteps (length xs) short) (well-from [] 0 refl xs g)
 
   -- and say those steps
-  pub reads-back : (xs : List Op) → length xs ≤ 1024 → AllGood K D xs → opsOf (bytesOf xs) ≡ xs
+  pub reads-back : (xs : List Op) → length xs ≤ mostSteps → AllGood K D xs → opsOf (bytesOf xs) ≡ xs
   reads-back xs short g = ops-of-bytes xs short (all-sayable xs g)

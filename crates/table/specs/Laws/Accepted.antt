@@ -10,6 +10,7 @@ use mathlib.Core.Logic.{⊎-elim}
 use lib.ListN.{getD}
 use lib.Dec.{ltb, eqb}
 use borrow.Author.Tests.{eqb-true, ne-eqb, lt-ltb, le-ltb}
+use Rattle.words.specs.Limits.{mostReach, mostNesting, mostNodes}
 use Rattle.words.specs.declared.refusal.Refusal.{Refusal}
 use Rattle.words.specs.Outcome.{refusal}
 use Rattle.table.specs.declared.places.Place.{Place}
@@ -128,9 +129,9 @@ root-up t (suc (suc (suc (suc x)))) l = absurd (none-left l)
     none-left l′ = omega arith
 
 -- Node j's word in the array is its end in the tree that it stands in.
-pub ends-at : (t : List ℕ) (j : ℕ) → j < 256 → getD (endsAll t) j 0 ≡ endOf t j
+pub ends-at : (t : List ℕ) (j : ℕ) → j < mostNodes → getD (endsAll t) j 0 ≡ endOf t j
 unfolding endsAll
-ends-at t j h = from-at (endOf t) 256 0 j h ∙ ap (endOf t) (zero-add j)
+ends-at t j h = from-at (endOf t) mostNodes 0 j h ∙ ap (endOf t) (zero-add j)
 
 end-in : (t : List ℕ) (x j : ℕ) → x < 4 → root t x ≤ j → j < root t (suc x) → endOf t j ≡ endAt t (root t (suc x) - j) j
 unfolding endOf root
@@ -153,7 +154,7 @@ end-in t (suc (suc (suc (suc x)))) j l lo hi = absurd (none-left l)
 -- The nodes from b up to e, with the array of ends: each has right bytes and the children that its kind takes, and its word
 -- leads past its subtree.
 pub record Whole (t ends : List ℕ) (b e : ℕ) : Type 0 where
-  pub small : e ≤ 256
+  pub small : e ≤ mostNodes
   pub links : Linked t ends b e
   pub sorted : (i : ℕ) → b ≤ i → i < e → Sorted (trees t (e - i) i)
   pub own : (i : ℕ) → b ≤ i → i < e → nodeRight t i ≡ true
@@ -178,16 +179,17 @@ module _ (t : List ℕ) (n r : ℕ) (ok : checked t ≡ Accepted n r) where
     unfolding root
     tree-ends = omega (arith, root-up t x l, header-of .sums)
 
-    pub tree-nesting : deeper 32 (forestOf t x) ≡ Nowhere
+    pub tree-nesting : deeper mostNesting (forestOf t x) ≡ Nowhere
     unfolding tooDeep
-    tree-nesting = of-four (λ y. deeper 32 (forestOf t y)) (kept .nesting) x l
+    tree-nesting = of-four (λ y. deeper mostNesting (forestOf t y)) (kept .nesting) x l
 
-    pub tree-reach : treeReach t x ≤ 4095
+    pub tree-reach : treeReach t x ≤ mostReach
     unfolding tooFar farAt
     tree-reach = near (treeReach t x) (root t x) (of-four (λ y. farAt (treeReach t y) (root t y)) (kept .reaches) x l)
       where
-        near : (far b : ℕ) → cond (ltb 4095 far) (At b) Nowhere ≡ Nowhere → far ≤ 4095
-        near far b h = ⊎-elim (λ z. omega arith) (λ z. absurd (never-at b (sym (rw (lt-ltb 4095 far (omega arith))) ∙ h))) (eq-zero-or-pos (far - 4095))
+        near : (far b : ℕ) → cond (ltb mostReach far) (At b) Nowhere ≡ Nowhere → far ≤ mostReach
+        near far b h =
+            ⊎-elim (λ z. omega arith) (λ z. absurd (never-at b (sym (rw (lt-ltb mostReach far (omega arith))) ∙ h))) (eq-zero-or-pos (far - mostReach))
 
     -- a tree that is there is one condition
     tree-fits : 0 < count t x → fits t (count t x) (root t x) (2 ∷ []) ≡ Nowhere
@@ -220,7 +222,7 @@ module _ (t : List ℕ) (n r : ℕ) (ok : checked t ≡ Accepted n r) where
       own = λ i lo hi. node-of i (omega (arith, tree-ends));
     }
       where
-        low : (j : ℕ) → j < root t (suc x) → j < 256
+        low : (j : ℕ) → j < root t (suc x) → j < mostNodes
         low j hi = omega (arith, tree-ends, header-of .most)
 
         sorted-at : (i : ℕ) → root t x ≤ i → i < root t (suc x) → Sorted (trees t (root t (suc x) - i) i)

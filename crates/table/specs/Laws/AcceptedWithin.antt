@@ -8,6 +8,7 @@ use native.Mathlib.Omega.{arith}
 use native.Mathlib.Nat.{eq-zero-or-pos}
 use lib.ListN.{length}
 use borrow.Author.Tests.{eq-eqb, ne-eqb}
+use Rattle.words.specs.Limits.{mostNesting}
 use Rattle.table.specs.declared.answer.Answer.the-variants.{Accepted}
 use Rattle.table.specs.Bytes.{u64}
 use Rattle.table.specs.Header.{slots, count, root}
@@ -56,8 +57,8 @@ module _ (t : List ℕ) (small : Bytes t) (n r : ℕ) (ok : checked t ≡ Accept
       let g = tree-sorts t n r ok x l some in
       let right = right-trees t (count t x) (root t x) (λ j lo hi. node-of t n r ok j (omega (arith, tree-ends t n r ok x l))) in
       let f = trees t (count t x) (root t x) in
-      let fine = first-in (slots t) 32 (conditions f) (many-conditions f ∙ ap length (g .0))
-      (all-fine f (slots t) 32 1 right (small-trees t small (count t x) (root t x)) (g .1) (g .0) (tree-nesting t n r ok x l)) in
+      let fine = first-in (slots t) mostNesting (conditions f) (many-conditions f ∙ ap length (g .0))
+      (all-fine f (slots t) mostNesting 1 right (small-trees t small (count t x) (root t x)) (g .1) (g .0) (tree-nesting t n r ok x l)) in
       record { fields = fine .0; nesting = fine .1; reaches = omega (arith, tree-reach t n r ok x l, tree-reach-is t n r x ok l) }
 
   pub short-within : (x : ℕ) → x < 4 → ShortWithin (slots t) (shortOf t x)

@@ -8,6 +8,7 @@ use native.Mathlib.Omega.{arith}
 use lib.ListN.{length}
 use lib.Dec.{ltb, eqb}
 use borrow.Author.Tests.{ltb-false, eqb-true, not-true}
+use Rattle.words.specs.Limits.{mostSlots, mostNodes}
 use Rattle.table.specs.Header.{slots, version, total, count, markRight, countsRight, headerRefusal}
 
 true-false : false ≡ true → ⊥
@@ -28,9 +29,9 @@ not-not false h = absurd (true-false (sym h))
 pub record HeaderRight (t : List ℕ) : Type 0 where
   pub mark : markRight t ≡ true
   pub first : version t ≡ 1
-  pub few-slots : slots t ≤ 64
+  pub few-slots : slots t ≤ mostSlots
   pub least : 2 ≤ total t
-  pub most : total t ≤ 256
+  pub most : total t ≤ mostNodes
   pub has-entry : 1 ≤ count t 0
   pub has-exit : 1 ≤ count t 1
   pub sums : count t 0 + count t 1 + count t 2 + count t 3 ≡ total t
@@ -47,14 +48,14 @@ header-right t h =
     let c5 = both _ (eqb (count t 0 + count t 1 + count t 2 + count t 3) (total t)) (not-not _ (h4 .0)) in
     let c4 = both _ (not (ltb (count t 1) 1)) (c5 .0) in
     let c3 = both _ (not (ltb (count t 0) 1)) (c4 .0) in
-    let c2 = both _ (not (ltb 256 (total t))) (c3 .0) in
-    let c1 = both (not (ltb 64 (slots t))) (not (ltb (total t) 2)) (c2 .0) in
+    let c2 = both _ (not (ltb mostNodes (total t))) (c3 .0) in
+    let c1 = both (not (ltb mostSlots (slots t))) (not (ltb (total t) 2)) (c2 .0) in
     record {
       mark = not-not _ (h2 .0);
       first = eqb-true _ _ (not-not _ (h3 .0));
-      few-slots = ltb-false 64 (slots t) (not-true _ (c1 .0));
+      few-slots = ltb-false mostSlots (slots t) (not-true _ (c1 .0));
       least = ltb-false (total t) 2 (not-true _ (c1 .1));
-      most = ltb-false 256 (total t) (not-true _ (c2 .1));
+      most = ltb-false mostNodes (total t) (not-true _ (c2 .1));
       has-entry = ltb-false (count t 0) 1 (not-true _ (c3 .1));
       has-exit = ltb-false (count t 1) 1 (not-true _ (c4 .1));
       sums = eqb-true _ _ (c5 .1);

@@ -10,6 +10,7 @@ use lib.Dec.{leb}
 use lib.ListN.{length, getD, drop}
 use lib.Seq.{drop-at}
 use borrow.Author.Tests.{lt-ltb, le-leb, lt-leb, leb-false}
+use Rattle.words.specs.Limits.{mostRows, mostReach}
 use Rattle.table.specs.declared.nodes.Node.{Node}
 use Rattle.table.specs.declared.answer.Answer.the-variants.{Accepted}
 use Rattle.table.specs.Header.{count, root}
@@ -85,16 +86,16 @@ module _ (d k : ℕ) where
       )
 
   -- a test is found where it is silent
-  test-found : (c : Condition) (n : Node) (back : ℕ) → isTest c ≡ true → 16 ≤ n .kind → n .kind < 27 → back ≡ reachOf c → reachOf c ≤ 4095
+  test-found : (c : Condition) (n : Node) (back : ℕ) → isTest c ≡ true → 16 ≤ n .kind → n .kind < 27 → back ≡ reachOf c → reachOf c ≤ mostReach
       → silentNode d n back ≡ listed d c (n .number)
   unfolding silentNode listed silent
   test-found c n back is lo hi same near =
-      let uncut : min (reachOf c) 4096 ≡ reachOf c = omega (arith, near) in
+      let uncut : min (reachOf c) mostRows ≡ reachOf c = omega (arith, near) in
       rw (le-leb 16 (n .kind) lo, lt-ltb (n .kind) 27 hi, same, uncut, is)
 
   -- a node of a test, over operands
   test-tree : (c : Condition) (n : Node) (below rest : Forest) → isTest c ≡ true → 16 ≤ n .kind → n .kind < 27
-      → weigh ownBack (Forest.tree n below Forest.none) ≡ reachOf c → reachOf c ≤ 4095 → silentNodes d below ≡ []
+      → weigh ownBack (Forest.tree n below Forest.none) ≡ reachOf c → reachOf c ≤ mostReach → silentNodes d below ≡ []
       → silentNodes d (Forest.tree n below rest) ≡ listed d c (n .number) ++ silentNodes d rest
   unfolding silentNodes weigh
   test-tree c n below rest is lo hi heavy near empty =
@@ -109,7 +110,7 @@ module _ (d k : ℕ) where
     unfolding plantOf silentNodes silentNode silentIn isTest reachOf WithinOf
 
     -- a tree's nodes, and what follows them
-    planted : (c : Condition) (i : ℕ) (rest : Forest) → WithinOf k c → reachOf c ≤ 4095
+    planted : (c : Condition) (i : ℕ) (rest : Forest) → WithinOf k c → reachOf c ≤ mostReach
         → silentNodes d (plantOf i c rest) ≡ silentIn d c i ++ silentNodes d rest
     planted (compare kind a b) i rest w near =
         let n = compare-numbers kind (w .0) in
@@ -133,7 +134,7 @@ module _ (d k : ℕ) where
     planted (inPosition wanted) i rest w near = refl
     planted (barsSince selector n) i rest w near = refl
 
-    planted-all : (cs : Conditions) (i : ℕ) (rest : Forest) → WithinAll k cs → reachOfAll cs ≤ 4095
+    planted-all : (cs : Conditions) (i : ℕ) (rest : Forest) → WithinAll k cs → reachOfAll cs ≤ mostReach
         → silentNodes d (plantAll i cs rest) ≡ silentInAll d cs i ++ silentNodes d rest
     planted-all none i rest w near = refl
     planted-all (more c cs) i rest w near =

@@ -8,6 +8,7 @@ use native.Mathlib.Omega.{arith}
 use native.Mathlib.Nat.{eq-zero-or-pos}
 use mathlib.Core.Logic.{⊎-elim}
 use lib.ListN.{replicate}
+use Rattle.words.specs.Limits.{mostNesting}
 use Rattle.table.specs.declared.nodes.Node.{Node}
 use Rattle.table.specs.declared.answer.Answer.the-variants.{Accepted}
 use Rattle.table.specs.declared.places.Place.the-variants.{Nowhere}
@@ -190,7 +191,7 @@ module _ (t : List ℕ) (x : ℕ) where
   unfolding treeOf forestOf conditionAt conditionsAt
   tree-reads = rw nodes-of (first-is (trees t (count t x) (root t x)))
 
-  pub tree-stands : (n r : ℕ) → checked t ≡ Accepted n r → x < 4 → 0 < count t x → Stands t (root t (suc x)) (root t x) 1 2 32
+  pub tree-stands : (n r : ℕ) → checked t ≡ Accepted n r → x < 4 → 0 < count t x → Stands t (root t (suc x)) (root t x) 1 2 mostNesting
   unfolding forestOf
   tree-stands n r ok l some =
       let g = tree-sorts t n r ok x l some in

@@ -8,6 +8,7 @@ use native.Mathlib.Omega.{arith}
 use lib.ListN.{length, length-append}
 use lib.Dec.{ltb, eqb}
 use borrow.Author.Tests.{le-ltb, eq-eqb}
+use Rattle.words.specs.Limits.{mostSlots, mostNesting, mostNodes}
 use Rattle.table.specs.declared.places.Place.{Place}
 use Rattle.table.specs.declared.places.Place.the-variants.{Nowhere}
 use Rattle.table.specs.declared.answer.Answer.the-variants.{Accepted}
@@ -107,9 +108,9 @@ module _ (k : ℕ) (r : Rule) where
     counts-are : countsRight t ≡ true
     unfolding countsRight
     counts-are =
-        let k64 : ltb 64 k ≡ false = le-ltb 64 k (w .few-slots) in
+        let k64 : ltb mostSlots k ≡ false = le-ltb mostSlots k (w .few-slots) in
         let two : ltb (nodesOfRule r) 2 ≡ false = le-ltb (nodesOfRule r) 2 least in
-        let most : ltb 256 (nodesOfRule r) ≡ false = le-ltb 256 (nodesOfRule r) (w .few-nodes) in
+        let most : ltb mostNodes (nodesOfRule r) ≡ false = le-ltb mostNodes (nodesOfRule r) (w .few-nodes) in
         let some0 : ltb (nodesOf (r .entry)) 1 ≡ false = le-ltb (nodesOf (r .entry)) 1 (positive (nodesOf (r .entry)) (some-nodes (r .entry))) in
         let some1 : ltb (nodesOf (r .exit)) 1 ≡ false = le-ltb (nodesOf (r .exit)) 1 (positive (nodesOf (r .exit)) (some-nodes (r .exit))) in
         let sums : eqb (nodesOf (r .entry) + nodesOf (r .exit) + nodesOfShort (r .shortEntry) + nodesOfShort (r .shortExit)) (nodesOfRule r) ≡ true =
@@ -209,7 +210,7 @@ module _ (k : ℕ) (r : Rule) where
           none-of-four (λ x. misfit t (count t x) (root t x)) (held-fits t k 0 _ held-0) (held-fits t k 1 _ held-1) (held-fits t k 2 _ held-2)
           (held-fits t k 3 _ held-3);
       nesting =
-          none-of-four (λ x. deeper 32 (forestOf t x)) (held-deep t k 0 _ held-0) (held-deep t k 1 _ held-1) (held-deep t k 2 _ held-2)
+          none-of-four (λ x. deeper mostNesting (forestOf t x)) (held-deep t k 0 _ held-0) (held-deep t k 1 _ held-1) (held-deep t k 2 _ held-2)
           (held-deep t k 3 _ held-3);
       reaches =
           none-of-four (λ x. farAt (treeReach t x) (root t x)) (held-near t k 0 _ held-0) (held-near t k 1 _ held-1) (held-near t k 2 _ held-2)

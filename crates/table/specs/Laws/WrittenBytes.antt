@@ -6,6 +6,7 @@ use mathlib.Core.List.{List, [], _∷_, _++_}
 use Prim.Native.Nat.{ℕ, zero, suc, _/_, _%_, _≤_, _<_}
 use native.Mathlib.Omega.{arith}
 use lib.ListN.{getD}
+use Rattle.words.specs.Limits.{mostSlots, mostNodes}
 use Rattle.table.specs.declared.kinds.Kind.{Kind}
 use Rattle.table.specs.Kinds.{kindOf}
 use Rattle.table.specs.Laws.Kinds.{known}
@@ -64,7 +65,7 @@ small-none = tt
 row-byte : (kind : ℕ) (row : Kind) → kindOf kind ≡ row → 0 < row .sort → kind < 256
 row-byte kind row h some = omega (arith, known kind row h some)
 
-module _ (k : ℕ) (few : k ≤ 64) where
+module _ (k : ℕ) (few : k ≤ mostSlots) where
   small-operand : (a : Operand) → Within k a → Small (write a)
   unfolding Within write
   small-operand (const x) w = small-node 1 0 0 0 x (omega arith) (omega arith) (omega arith) (omega arith) (w .0)
@@ -90,7 +91,7 @@ module _ (k : ℕ) (few : k ≤ 64) where
   mutual
     unfolding WithinOf writeOf nodesOf
 
-    small-condition : (c : Condition) → WithinOf k c → nodesOf c ≤ 256 → Small (writeOf c)
+    small-condition : (c : Condition) → WithinOf k c → nodesOf c ≤ mostNodes → Small (writeOf c)
     small-condition (compare kind a b) w h = two-operands kind a b (row-byte kind _ (w .0) (omega arith)) (w .1) (w .2)
     small-condition (cross kind a b) w h = two-operands kind a b (row-byte kind _ (w .0) (omega arith)) (w .1) (w .2)
     small-condition (between x a b) w h = small-two _ (write b) (two-operands 24 x a (omega arith) (w .0) (w .1)) (small-operand b (w .2))
@@ -102,11 +103,11 @@ module _ (k : ℕ) (few : k ≤ 64) where
     small-condition (inPosition false) w h = small-plain 30 0 (omega arith) (omega arith)
     small-condition (barsSince s n) w h = small-node 31 s 0 n 0 (omega arith) (omega (arith, w .0)) (omega arith) (w .1) (omega arith)
 
-    small-all : (cs : Conditions) → WithinAll k cs → nodesOfAll cs ≤ 256 → Small (writeAll cs)
+    small-all : (cs : Conditions) → WithinAll k cs → nodesOfAll cs ≤ mostNodes → Small (writeAll cs)
     small-all none w h = small-none
     small-all (more c cs) w h = small-two (writeOf c) (writeAll cs) (small-condition c (w .0) (omega arith)) (small-all cs (w .1) (omega arith))
 
-  small-short : (s : Short) → ShortWithin k s → nodesOfShort s ≤ 256 → Small (writeShort s)
+  small-short : (s : Short) → ShortWithin k s → nodesOfShort s ≤ mostNodes → Small (writeShort s)
   unfolding ShortWithin writeShort nodesOfShort
   small-short absent w h = small-none
   small-short (given c) w h = small-condition c (w .fields) h

@@ -9,6 +9,7 @@ use native.Mathlib.Nat.{add-zero, suc-add}
 use lib.ListN.{replicate}
 use lib.Dec.{eqb}
 use borrow.Author.Tests.{le-ltb, eq-eqb, ne-eqb}
+use Rattle.words.specs.Limits.{mostNesting}
 use Rattle.table.specs.declared.places.Place.the-variants.{Nowhere}
 use Rattle.table.specs.Kinds.{kindOf}
 use Rattle.table.specs.Header.{slots, count, root}
@@ -120,10 +121,10 @@ unfolding ShortWithin plantShort Right
 short-right k absent i w = tt
 short-right k (given c) i w = rightOf k c i Forest.none (w .fields) tt
 
-short-shallow : (k : ℕ) (s : Short) (i : ℕ) → ShortWithin k s → deeper 32 (plantShort i s) ≡ Nowhere
+short-shallow : (k : ℕ) (s : Short) (i : ℕ) → ShortWithin k s → deeper mostNesting (plantShort i s) ≡ Nowhere
 unfolding ShortWithin plantShort deeper
 short-shallow k absent i w = refl
-short-shallow k (given c) i w = shallowOf c i 32 Forest.none (w .nesting)
+short-shallow k (given c) i w = shallowOf c i mostNesting Forest.none (w .nesting)
 
 pub given-reach : (k : ℕ) (c : Condition) (i : ℕ) → WithinOf k c → weigh ownBack (plantOf i c Forest.none) ≡ reachOf c
 unfolding sorts conditions reachOfAll Sorted
@@ -163,8 +164,8 @@ module _ (t : List ℕ) (k x : ℕ) (s : Short) (h : Held t k x s) where
   unfolding forestOf
   planted = ap (λ (m : ℕ). trees t m (root t x)) (h .many) ∙ h .forest
 
-  pub held-deep : deeper 32 (forestOf t x) ≡ Nowhere
-  held-deep = ap (deeper 32) planted ∙ short-shallow k s (root t x) (h .within)
+  pub held-deep : deeper mostNesting (forestOf t x) ≡ Nowhere
+  held-deep = ap (deeper mostNesting) planted ∙ short-shallow k s (root t x) (h .within)
 
   pub held-reach : treeReach t x ≡ reachOfShort s
   unfolding treeReach

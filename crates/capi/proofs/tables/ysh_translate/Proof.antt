@@ -34,8 +34,8 @@ unfolding translateCall translateOutcome translateGives roomLeft roomAfter
 returns-3 c =
     let call = c .before .before .before .before .before .before in
     let tree = call .before .before in
-    let told = sym (rw (tree .tree-of .ensures) at (call .translate .ensures .0)) ∙ c .before .before .translated .given .1 in
-    let room = rw (tree .tree-of .ensures) at (call .translate .ensures .1) in
+    let told = sym (rw (tree .numbered-tree .ensures) at (call .translate .ensures .0)) ∙ c .before .before .translated .given .1 in
+    let room = rw (tree .numbered-tree .ensures) at (call .translate .ensures .1) in
     call-refuses _ _ (simp (lt-leb _ _ (tree .before .if1 .left), told)) (c .answer-word2 .ensures) ∙ simp (room, told)
 
 returns-4 : tie.Need-returns-4
@@ -43,8 +43,8 @@ unfolding translateCall translateOutcome translateGives
 returns-4 c =
     let call = c .before .before .before .before .before in
     let tree = call .before .before in
-    let told = sym (rw (tree .tree-of .ensures) at (call .translate .ensures .0)) ∙ c .before .translated2 .given .1 in
-    let room = rw (tree .tree-of .ensures) at (call .translate .ensures .1) in
+    let told = sym (rw (tree .numbered-tree .ensures) at (call .translate .ensures .0)) ∙ c .before .translated2 .given .1 in
+    let room = rw (tree .numbered-tree .ensures) at (call .translate .ensures .1) in
     call-does _ _ (simp (lt-leb _ _ (tree .before .if1 .left), told, room))
 
 pub ysh-translate-spec : {M : Type 1} → statement M

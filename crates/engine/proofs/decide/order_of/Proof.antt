@@ -11,23 +11,23 @@ use Rattle.portfolio.specs.declared.Portfolio.{Portfolio}
 use Rattle.portfolio.specs.Portfolio.{inPosition, isLong}
 use Rattle.steps.specs.Choice.{exitList}
 use Rattle.records.specs.Lent.{Lists}
-use Rattle.engine.specs.Decide.{says, answersOf, ordered, openingOrder, closingOrder}
+use Rattle.engine.specs.Decide.{listSays, answersOf, ordered, openingOrder, closingOrder}
 use borrow.Author.Needs.{needs}
 use Rattle.engine.proofs.decide.order_of.Statement.{statement}
 use Rattle.engine.proofs.decide.order_of.Tie as tie
 
 by-side : (d : ℕ) (h : History) (st : PositionState) (x y : List ℕ) (long : Bool)
-    → closingOrder d (says h st (cond long x y)) ≡ cond long (closingOrder d (says h st x)) (closingOrder d (says h st y))
+    → closingOrder d (listSays h st (cond long x y)) ≡ cond long (closingOrder d (listSays h st x)) (closingOrder d (listSays h st y))
 by-side d h st x y true = refl
 by-side d h st x y false = refl
 
 leaving : (d : ℕ) (p : Portfolio) (h : History) (st : PositionState) (ls : Lists) (leave : Bool) → inPosition p ≡ true
-    → leave ≡ says h st (exitList (p .qty) (ls .«exit») (ls .«short_exit»)) → closingOrder d leave ≡ ordered d p (answersOf h st ls)
+    → leave ≡ listSays h st (exitList (p .qty) (ls .«exit») (ls .«short_exit»)) → closingOrder d leave ≡ ordered d p (answersOf h st ls)
 unfolding ordered answersOf inPosition isLong exitList held
 leaving d p h st ls leave i e = rw (e, i) (by-side d h st (ls .«exit») (ls .«short_exit») (zero ≺ p .qty))
 
 opening : (d : ℕ) (p : Portfolio) (h : History) (st : PositionState) (ls : Lists) (long short : Bool) → inPosition p ≡ false
-    → long ≡ says h st (ls .entry) → short ≡ says h st (ls .«short_entry») → openingOrder d long short ≡ ordered d p (answersOf h st ls)
+    → long ≡ listSays h st (ls .entry) → short ≡ listSays h st (ls .«short_entry») → openingOrder d long short ≡ ordered d p (answersOf h st ls)
 unfolding ordered answersOf
 opening d p h st ls long short i e f = rw (e, f, i)
 
@@ -38,7 +38,7 @@ returns c =
     let list = ran .before in
     let test = list .before in
     leaving _ _ _ _ _ true (sym (test .before .in-position .ensures) ∙ test .if1 .taken)
-    (sym (c .if2 .taken) ∙ ran .says .ensures ∙ ap (says _ _) (list .exit-list .ensures))
+    (sym (c .if2 .taken) ∙ ran .list-says .ensures ∙ ap (listSays _ _) (list .exit-list .ensures))
 
 returns-2 : tie.Need-returns-2
 unfolding closingOrder
@@ -47,14 +47,14 @@ returns-2 c =
     let list = ran .before in
     let test = list .before in
     leaving _ _ _ _ _ false (sym (test .before .in-position .ensures) ∙ test .if1 .taken)
-    (sym (c .if2 .left) ∙ ran .says .ensures ∙ ap (says _ _) (list .exit-list .ensures))
+    (sym (c .if2 .left) ∙ ran .list-says .ensures ∙ ap (listSays _ _) (list .exit-list .ensures))
 
 returns-3 : tie.Need-returns-3
 unfolding openingOrder
 returns-3 c =
     let long = c .before in
     let test = long .before in
-    opening _ _ _ _ _ true _ (sym (test .before .in-position .ensures) ∙ test .if1 .left) (sym (c .if3 .taken) ∙ long .says2 .ensures) refl
+    opening _ _ _ _ _ true _ (sym (test .before .in-position .ensures) ∙ test .if1 .left) (sym (c .if3 .taken) ∙ long .list-says2 .ensures) refl
 
 returns-4 : tie.Need-returns-4
 unfolding openingOrder
@@ -63,7 +63,7 @@ returns-4 c =
     let told = short .before in
     let test = told .before .before in
     opening _ _ _ _ _ false true (sym (test .before .in-position .ensures) ∙ test .if1 .left)
-    (sym (told .if3 .left) ∙ told .before .says2 .ensures) (sym (c .if4 .taken) ∙ short .says3 .ensures)
+    (sym (told .if3 .left) ∙ told .before .list-says2 .ensures) (sym (c .if4 .taken) ∙ short .list-says3 .ensures)
 
 returns-5 : tie.Need-returns-5
 unfolding openingOrder
@@ -72,7 +72,7 @@ returns-5 c =
     let told = short .before in
     let test = told .before .before in
     opening _ _ _ _ _ false false (sym (test .before .in-position .ensures) ∙ test .if1 .left)
-    (sym (told .if3 .left) ∙ told .before .says2 .ensures) (sym (c .if4 .left) ∙ short .says3 .ensures)
+    (sym (told .if3 .left) ∙ told .before .list-says2 .ensures) (sym (c .if4 .left) ∙ short .list-says3 .ensures)
 
 pub order-of-spec : {M : Type 1} → statement M
 order-of-spec =

@@ -4,13 +4,14 @@ use mathlib.Core.Path.{_≡_, refl, subst}
 use native.Mathlib.Omega.{arith}
 use borrow.Author.Needs.{needs}
 use lib.ListN.{length, take, length-set}
+use Rattle.words.specs.Limits.{rowWords, mostSlots}
 use Rattle.engine.specs.Record.{rowWord, listed, rowOf}
 use Rattle.engine.proofs.Rows.{word-more}
 use Rattle.engine.proofs.record.fill_row.Statement.{statement}
 use Rattle.engine.proofs.record.fill_row.Tie as tie
 
 abbrev Inv-loop : tie.InvT-loop
-Inv-loop row₀ bar slots width j₀ row j = (j ≤ 7 + slots) × (length row ≡ 71) × (take j row ≡ listed j (rowWord bar))
+Inv-loop row₀ bar slots width j₀ row j = (j ≤ 7 + slots) × (length row ≡ rowWords mostSlots) × (take j row ≡ listed j (rowWord bar))
 
 abbrev μ-loop : tie.MeasureT-loop
 μ-loop row₀ bar slots width j₀ row j = 7 + slots - j

@@ -2,7 +2,7 @@
 use borrow.Author.Needs.{needs}
 use native.Mathlib.Omega.{arith}
 use Rattle.rows.specs.History.{historyOf}
-use Rattle.rules.specs.Laws.Meaning.{row-fits}
+use Rattle.rows.specs.Laws.RowEnds.{row-ends}
 use Rattle.rules.proofs.operands.price_of_bar.Statement.{statement}
 use Rattle.rules.proofs.operands.price_of_bar.Tie as tie
 
@@ -11,7 +11,7 @@ unfolding historyOf
 price-of-bar-spec =
     tie.close
     (tie.spec
-    (λ c. omega (arith, let a = c .before .args in row-fits (a .slots) (a .rows .now) (a .bar) (c .before .pre)))
-    (λ c. omega (arith, let a = c .before .args in row-fits (a .slots) (a .rows .now) (a .bar) (c .before .pre)))
+    (λ c. omega (arith, let a = c .before .args in row-ends (a .slots) (a .rows .now) (a .bar) (c .before .pre)))
+    (λ c. omega (arith, let a = c .before .args in row-ends (a .slots) (a .rows .now) (a .bar) (c .before .pre)))
     (λ c κs. search needs)
     (λ c. c .price-at .ensures))

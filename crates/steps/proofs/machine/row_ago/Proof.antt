@@ -2,7 +2,7 @@
 use borrow.Author.Needs.{needs}
 use native.Mathlib.Omega.{arith}
 use Prim.Native.Nat.{_-_}
-use Rattle.rules.specs.Laws.Meaning.{row-fits}
+use Rattle.rows.specs.Laws.RowEnds.{row-ends}
 use Rattle.steps.proofs.machine.row_ago.Statement.{statement}
 use Rattle.steps.proofs.machine.row_ago.Tie as tie
 
@@ -12,6 +12,6 @@ row-ago-spec =
     (tie.spec
     (λ c. search needs)
     (λ c. search needs)
-    (λ c. omega (arith, row-fits (c .args .slots) (c .args .rows .now) (c .args .n) (omega (arith, c .pre .0, c .pre .1)), c .good))
-    (λ c. omega (arith, row-fits (c .args .slots) (c .args .rows .now) (c .args .held - 1 - c .args .n) (omega (arith, c .pre .0, c .pre .1)), c .good))
+    (λ c. omega (arith, row-ends (c .args .slots) (c .args .rows .now) (c .args .n) (omega (arith, c .pre .0, c .pre .1)), c .good))
+    (λ c. omega (arith, row-ends (c .args .slots) (c .args .rows .now) (c .args .held - 1 - c .args .n) (omega (arith, c .pre .0, c .pre .1)), c .good))
     (λ c. search needs))

@@ -67,6 +67,7 @@ counts-right-spec =
     tie.close
     (tie.spec
     (λ c κs. search needs)
+    (λ c. search needs)
     returns
     (λ c κs. search needs)
     returns-2
