@@ -1,4 +1,5 @@
 pub mod Answers
 pub mod Calls
+pub mod TablePlaces
 pub mod TableCalls
 pub mod RunCalls

@@ -5,4 +5,6 @@ pub mod Fresh
 pub mod Bars
 pub mod Finish
 pub mod Figures
+pub mod WordRun
 pub mod Laws
+pub mod Joined

@@ -4,6 +4,7 @@ pub mod Quiet
 pub mod Refusal
 pub mod Runs
 pub mod Counts
+pub mod Floats
 pub mod FillWindow
 pub mod Window
 pub mod Meaning

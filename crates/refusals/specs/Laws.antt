@@ -1,4 +1,6 @@
 pub mod Lines
 pub mod Descent
 pub mod Numbers
+pub mod BadStep
+pub mod Places
 pub mod Fine

@@ -1,6 +1,6 @@
--- Of every call: an answer other than 0 leaves all that was lent as it was, and an answer of 0 means that nothing was refused. One law
--- over calls; TableCalls and RunCalls say for each call that its refusals have numbers.
-use Prim.Native.Nat.{ℕ, _<_, _^_}
+-- Of every call: an answer other than 0 leaves all that was lent as it was, its halves are the number and the place of what is refused, and
+-- an answer of 0 means that nothing was refused. One law over calls; TableCalls and RunCalls say for each call that its refusals are small.
+use Prim.Native.Nat.{ℕ, _<_, _/_, _%_, _^_}
 use mathlib.Core.Path.{_≡_, refl}
 use native.Mathlib.Omega.{arith}
 use Rattle.words.specs.declared.refusal.Refusal.{Refusal}
@@ -8,10 +8,13 @@ use Rattle.words.specs.Outcome.{Outcome, gives, refuses}
 use Rattle.refusals.specs.declared.verdict.Verdict.{Verdict}
 use Rattle.refusals.specs.declared.verdict.Verdict.the-variants.{Fine, Bad}
 use Rattle.capi.specs.Call.{answerWord, callOf, unlessBad}
+use Rattle.capi.specs.Laws.Answers.{answer-number, answer-place}
 
--- a number that stands in the upper half of an answer, and makes it no 0
-abbrev pub Small : Refusal → Type 0
-Small r = (0 < r .number) × (r .number < 2 ^ 32)
+-- a number and a place that stand in the halves of an answer, and make it no 0
+pub record Small (r : Refusal) : Type 0 where
+  pub some : 0 < r .number
+  pub number : r .number < 2 ^ 32
+  pub place : r .place < 2 ^ 32
 
 pub record Numbered {A : Type 0} (o : Outcome A) : Type 0 where
   pub small : (r : Refusal) → o ≡ refuses r → Small r
@@ -20,26 +23,42 @@ pub record Numbered {A : Type 0} (o : Outcome A) : Type 0 where
 pub record Honest {A : Type 0} (o : Outcome A) (before : A) : Type 0 where
   -- "A refusal .. changes nothing lent."
   pub keeps : (callOf o before .answer ≡ 0 → ⊥) → callOf o before .lent ≡ before
+  -- the number is the upper half of the answer, the place its lower half
+  pub number : (r : Refusal) → o ≡ refuses r → callOf o before .answer / 2 ^ 32 ≡ r .number
+  pub place : (r : Refusal) → o ≡ refuses r → callOf o before .answer % 2 ^ 32 ≡ r .place
   -- 0: nothing was refused, and what is lent is what was given
   pub does : callOf o before .answer ≡ 0 → o ≡ gives (callOf o before .lent)
 
-refused-word : (r : Refusal) → Small r → answerWord r ≡ 0 → ⊥
+pub refused-word : (r : Refusal) → Small r → answerWord r ≡ 0 → ⊥
 unfolding answerWord
-refused-word r s e = omega (arith, s .0, s .1)
+refused-word r s e = omega (arith, s .some, s .number)
+
+gives-not : {A B : Type 0} {after : A} {r : Refusal} → gives after ≡ refuses r → B
+gives-not e = absurd (let z : _≡_ {A = ℕ} 0 1 = cc in omega arith)
 
 -- THE LAW over calls
 pub honest : {A : Type 0} (o : Outcome A) (before : A) → Numbered o → Honest o before
 unfolding callOf
-honest (gives after) before n = record { keeps = λ z. absurd (z refl); does = λ z. refl }
-honest (refuses r) before n = record { keeps = λ z. refl; does = λ z. absurd (refused-word r (n .small r refl) z) }
+honest (gives after) before n = record {
+  keeps = λ z. absurd (z refl);
+  number = λ r e. gives-not e;
+  place = λ r e. gives-not e;
+  does = λ z. refl;
+}
+honest (refuses q) before n = record {
+  keeps = λ z. refl;
+  number = λ r e. let s = n .small r e in let same : q ≡ r = cc in rw same (answer-number r (s .number) (s .place));
+  place = λ r e. let s = n .small r e in let same : q ≡ r = cc in rw same (answer-place r (s .number) (s .place));
+  does = λ z. absurd (refused-word q (n .small q refl) z);
+}
 
 -- what gives refuses nothing
 pub never-refuses : {A : Type 0} (after : A) → Numbered (gives after)
-never-refuses after = record { small = λ r e. absurd (let z : _≡_ {A = ℕ} 0 1 = cc in omega arith) }
+never-refuses after = record { small = λ r e. gives-not e }
 
 -- one refusal
 pub one-refusal : {A : Type 0} (r : Refusal) → Small r → Numbered {A = A} (refuses r)
-one-refusal r s = record { small = λ q e. let same : r .number ≡ q .number = cc in (omega (arith, s .0), omega (arith, s .1)) }
+one-refusal r s = record { small = λ q e. let same : r ≡ q = cc in rw same at s }
 
 -- a verdict before an outcome
 pub after-verdict : {A : Type 0} (v : Verdict) (o : Outcome A) → ((r : Refusal) → v ≡ Bad r → Small r) → Numbered o → Numbered (unlessBad v o)

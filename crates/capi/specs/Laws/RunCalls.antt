@@ -1,6 +1,6 @@
--- The calls that begin a run, step over a bar, end a run and give the metrics: each of their refusals has a number, so of each the law
--- over calls holds.
-use Prim.Native.Nat.{ℕ}
+-- The calls that begin a run, step over a bar, end a run and give the metrics: each of their refusals has a number and a place that an
+-- answer can hold, so of each the law over calls holds.
+use Prim.Native.Nat.{ℕ, _<_, _^_}
 use mathlib.Core.Path.{_≡_, refl}
 use mathlib.Core.Bool.{Bool, true, false, cond}
 use mathlib.Core.List.{List, _++_}
@@ -11,6 +11,7 @@ use Rattle.words.specs.Outcome.{Outcome, gives, refuses}
 use Rattle.metrics.specs.declared.Metrics.{Metrics}
 use Rattle.metrics.specs.Records.{whole}
 use Rattle.metrics.specs.Figures.{notWhole, computed}
+use Rattle.records.specs.declared.settings.Settings.{Settings}
 use Rattle.records.specs.declared.state.State.{State}
 use Rattle.records.specs.Lent.{Rooms, Lists}
 use Rattle.records.specs.Settings.{settingsOf}
@@ -21,6 +22,7 @@ use Rattle.refusals.specs.Lines.{Line, judged}
 use Rattle.refusals.specs.Rooms.{roomLines}
 use Rattle.refusals.specs.Judgement.{stepLines, stepJudged, finishLines, finishJudged}
 use Rattle.refusals.specs.Laws.Numbers.{numbered, number-within, step-numbered, finish-numbered}
+use Rattle.refusals.specs.Laws.Places.{named, named-placed, place-below, step-place, finish-place}
 use Rattle.engine.specs.declared.Answer.{Answer}
 use Rattle.engine.specs.declared.Answer.the-variants.{Refused, Done}
 use Rattle.engine.specs.declared.ending.Ended.{Ended}
@@ -35,20 +37,30 @@ use Rattle.capi.specs.Finish.{finishGives}
 use Rattle.capi.specs.Figures.{metricsGives}
 use Rattle.capi.specs.Laws.Calls.{Small, Numbered, Honest, honest, never-refuses, one-refusal, after-verdict}
 
--- lines that have the paper's numbers
-lines-small : (ls : List Line) → numbered ls ≡ true → (r : Refusal) → judged ls ≡ Bad r → Small r
-lines-small ls n r e = let w = number-within ls r n e in (omega (arith, w .0), omega (arith, w .1))
+-- lines that have the paper's numbers, and places below 2^32
+lines-small : (ls : List Line) → numbered ls ≡ true → (r : Refusal) → judged ls ≡ Bad r → r .place < 2 ^ 32 → Small r
+lines-small ls n r e near =
+    let w = number-within ls r n e in
+    record { some = omega (arith, w .0); number = omega (arith, w .1); place = near }
+
+-- and those whose places the papers name
+named-small : (ls : List Line) → numbered ls ≡ true → named ls ≡ true → (r : Refusal) → judged ls ≡ Bad r → Small r
+named-small ls n p r e = lines-small ls n r e (place-below ls r (named-placed ls p) e)
 
 lent-numbered : (settings state rows : List ℕ) → numbered (lentLines settings state rows) ≡ true
 unfolding numbered lentLines roomLines wordLines
 lent-numbered settings state rows = refl
 
+lent-named : (settings state rows : List ℕ) → named (lentLines settings state rows) ≡ true
+unfolding named lentLines roomLines wordLines
+lent-named settings state rows = refl
+
 -- ---- ysh_fresh
 
 pub fresh-honest : (settings state after : List ℕ) → Honest (unlessBad (judged (wordLines settings state)) (gives after)) state
-unfolding numbered wordLines
+unfolding numbered named wordLines
 fresh-honest settings state after =
-    honest _ state (after-verdict _ _ (lines-small (wordLines settings state) refl) (never-refuses after))
+    honest _ state (after-verdict _ _ (named-small (wordLines settings state) refl refl) (never-refuses after))
 
 -- ---- ysh_step
 
@@ -58,17 +70,20 @@ unfolding stepGives
 step-by (Refused r u) state m s = one-refusal r (s r u refl)
 step-by (Done next) state m s = never-refuses _
 
+pub step-small : (s : Settings) (t : State) (bar : List ℕ) (m : Rooms) (ls : Lists) (r : Refusal) → stepJudged s t bar m ls ≡ Bad r → Small r
+step-small s t bar m ls r e =
+    lines-small (stepLines s t bar m ls) (step-numbered s t bar m ls) r (unfold stepJudged in e) (step-place s t bar m ls r e)
+
 pub step-honest : (settings state bar : List ℕ) (m : Rooms) (ls : Lists) →
     (let d = stepAnswer (settingsOf settings) (stateOf state) bar m ls in
     Honest (unlessBad (judged (lentLines settings state (m .rows))) (stepGives (d .result) state (d .rooms))) (record { state = state; rooms = m }))
-unfolding stepJudged
 step-honest settings state bar m ls =
     let s = settingsOf settings in
     let t = stateOf state in
     honest _ _
-    (after-verdict _ _ (lines-small (lentLines settings state (m .rows)) (lent-numbered settings state (m .rows)))
-    (step-by (stepAnswer s t bar m ls .result) state _
-    (λ r u e. lines-small (stepLines s t bar m ls) (step-numbered s t bar m ls) r (refusal-changes-nothing s t bar m ls r u e .0))))
+    (after-verdict _ _
+    (named-small (lentLines settings state (m .rows)) (lent-numbered settings state (m .rows)) (lent-named settings state (m .rows)))
+    (step-by (stepAnswer s t bar m ls .result) state _ (λ r u e. step-small s t bar m ls r (refusal-changes-nothing s t bar m ls r u e .0))))
 
 -- ---- ysh_finish
 
@@ -87,18 +102,25 @@ finish-lines : (settings state rows metrics : List ℕ) → numbered (lentLines 
 unfolding numbered lentLines roomLines wordLines metricLines
 finish-lines settings state rows metrics = refl
 
+finish-rooms : (settings state rows metrics : List ℕ) → named (lentLines settings state rows ++ metricLines metrics) ≡ true
+unfolding named lentLines roomLines wordLines metricLines
+finish-rooms settings state rows metrics = refl
+
+pub finish-small : (s : Settings) (t : State) (m : Rooms) (r : Refusal) → finishJudged s t m ≡ Bad r → Small r
+finish-small s t m r e = lines-small (finishLines s t m) (finish-numbered s t m) r (unfold finishJudged in e) (finish-place s t m r e)
+
 pub finish-honest : (settings state : List ℕ) (m : Rooms) (metrics : List ℕ) →
     (let d = finishOf (settingsOf settings) (stateOf state) m in
     Honest (unlessBad (judged (lentLines settings state (m .rows) ++ metricLines metrics)) (finishGives (d .result) state (d .rooms) metrics))
     (record { state = state; equity = m .equity; trades = m .trades; metrics = metrics }))
-unfolding finishOf finishJudged
+unfolding finishOf
 finish-honest settings state m metrics =
     let s = settingsOf settings in
     let t = stateOf state in
     honest _ _
-    (after-verdict _ _ (lines-small _ (finish-lines settings state (m .rows) metrics))
+    (after-verdict _ _ (named-small _ (finish-lines settings state (m .rows) metrics) (finish-rooms settings state (m .rows) metrics))
     (finish-by (finishOf s t m .result) state _ metrics
-    (λ r u e. lines-small (finishLines s t m) (finish-numbered s t m) r (finish-said (finishJudged s t m) t m (ended s t m) r u e))))
+    (λ r u e. finish-small s t m r (finish-said (finishJudged s t m) t m (ended s t m) r u e))))
 
 -- ---- ysh_metrics
 
@@ -109,11 +131,14 @@ metrics-by (gives m) room s = never-refuses _
 
 computed-small : (b : Bool) (m : Metrics) (r : Refusal) → cond b (gives m) (refuses notWhole) ≡ refuses r → Small r
 computed-small true m r e = absurd (let z : _≡_ {A = ℕ} 0 1 = cc in omega arith)
-computed-small false m r e = let same : 13 ≡ r .number = cc in (omega arith, omega arith)
+computed-small false m r e =
+    let same : notWhole ≡ r = cc in
+    let small : Small notWhole = record { some = omega arith; number = omega arith; place = omega arith } in
+    rw same at small
 
 pub metrics-honest : (initial : Float) (equity trades room : List ℕ)
     → Honest (unlessBad (judged (metricLines room)) (metricsGives (computed initial equity trades) room)) room
-unfolding numbered metricLines computed
+unfolding numbered named metricLines computed
 metrics-honest initial equity trades room =
     honest _ room
-    (after-verdict _ _ (lines-small (metricLines room) refl) (metrics-by (computed initial equity trades) room (computed-small (whole equity trades) _)))
+    (after-verdict _ _ (named-small (metricLines room) refl refl) (metrics-by (computed initial equity trades) room (computed-small (whole equity trades) _)))

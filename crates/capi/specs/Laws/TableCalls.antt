@@ -1,4 +1,5 @@
--- The calls over a table, and over rows and lists of steps: each of their refusals has a number, so of each the law over calls holds.
+-- The calls over a table, and over rows and lists of steps: each of their refusals has a number and a place that an answer can hold, so of
+-- each the law over calls holds.
 use Prim.Native.Nat.{ℕ, _+_, _*_, _<_, _≤_}
 use mathlib.Core.Path.{_≡_, refl}
 use mathlib.Core.Bool.{Bool, true, false, cond, not, _&&_}
@@ -6,9 +7,9 @@ use mathlib.Core.List.{List}
 use native.Mathlib.Omega.{arith}
 use lib.Dec.{eqb, ltb, leb}
 use lib.ListN.{length}
-use borrow.Author.Tests.{eqb-false}
+use borrow.Author.Tests.{eqb-true, eqb-false}
 use Rattle.words.specs.declared.refusal.Refusal.{Refusal}
-use Rattle.words.specs.Limits.{mostSlots, mostRows, mostReach, trees}
+use Rattle.words.specs.Limits.{mostSlots, mostRows, mostReach, mostNodes, mostSteps, trees}
 use Rattle.words.specs.Outcome.{Outcome, refusal}
 use Rattle.rows.specs.History.{wholeRows}
 use Rattle.table.specs.declared.answer.Answer.{Answer}
@@ -22,6 +23,7 @@ use Rattle.table.specs.declared.trees.Tree.the-variants.{Entry, Exit, ShortEntr
 use Rattle.table.specs.Header.{markRight, version, countsRight, total, headerRefusal, slots, treeNumber}
 use Rattle.table.specs.Checked.{orRefused, orHeader, from7, from8, from9, checked}
 use Rattle.table.specs.Depth.{depthAnswer}
+use Rattle.table.specs.Laws.Header.{header-right}
 use Rattle.table.specs.Silent.{silentTests, silentAnswer, listAfter}
 use Rattle.rules.specs.declared.PositionState.{PositionState}
 use Rattle.rules.specs.declared.RuleAnswer.the-variants.{Says, Refuses as RuleRefuses}
@@ -33,9 +35,11 @@ use Rattle.steps.specs.declared.RunAnswer.the-variants.{Refuses as RunRefuses}
 use Rattle.steps.specs.declared.Translated.the-variants.{Writes, Refuses}
 use Rattle.steps.specs.Running.{ranIf, runs}
 use Rattle.steps.specs.Translating.{roomFor, writesOr, afterTable, translates}
+use Rattle.refusals.specs.Laws.BadStep.{bad-below}
 use Rattle.capi.specs.Tables.{numberedTree, CheckLent, checkGives, DepthLent, depthGives, SilentLent, silentGives}
 use Rattle.capi.specs.Tables.{TranslateLent, translateGives, translateOutcome}
 use Rattle.capi.specs.Run.{ruleGives, RunLent, runGives}
+use Rattle.capi.specs.Laws.TablePlaces.{UpTo, wrong-within, misfits-within, deep-within, far-within}
 use Rattle.capi.specs.Laws.Calls.{Small, Numbered, Honest, honest, one-refusal, never-refuses}
 
 -- ---- the numbers of a table's refusals
@@ -53,20 +57,26 @@ unfolding headerRefusal
 header-number t =
     five (ltb (length t) 16) (not (markRight t)) (not (eqb (version t) 1)) (not (countsRight t)) (not (eqb (length t) (16 + 16 * total t)))
 
--- a rule of the table that is broken, or what the rules below it say
-rule-number : (n : ℕ) (q : Place) (a : Answer) (why : Refusal) → 0 < n → n ≤ 9 → (a ≡ Refused why → Small why) → orRefused n q a ≡ Refused why
-    → Small why
-unfolding orRefused
-rule-number n Nowhere a why lo hi below e = below e
-rule-number n (At p) a why lo hi below e = let same : n ≡ why .number = cc in (omega arith, omega arith)
+-- a refusal with a small number and place
+small : (n p : ℕ) → 0 < n → n ≤ 15 → p ≤ 1024 → Small (refusal n p)
+small n p lo hi near = record { some = lo; number = omega arith; place = omega arith }
 
-header-or : (n : ℕ) (a : Answer) (why : Refusal) → n ≤ 9 → (a ≡ Refused why → Small why) → orHeader n a ≡ Refused why → Small why
+-- a rule of the table that is broken, or what the rules below it say
+rule-number : (n : ℕ) (q : Place) (a : Answer) (why : Refusal) → 0 < n → n ≤ 9 → UpTo mostNodes q → (a ≡ Refused why → Small why)
+    → orRefused n q a ≡ Refused why → Small why
+unfolding orRefused UpTo
+rule-number n Nowhere a why lo hi near below e = below e
+rule-number n (At p) a why lo hi near below e =
+    let same : refusal n p ≡ why = cc in rw same at (small n p lo (omega arith) (omega (arith, near)))
+
+header-or : (n : ℕ) (a : Answer) (why : Refusal) → n ≤ 9 → (n ≡ 0 → a ≡ Refused why → Small why) → orHeader n a ≡ Refused why → Small why
 unfolding orHeader
 header-or n a why hi below e = go (eqb n 0) refl e
   where
     go : (b : Bool) → eqb n 0 ≡ b → cond b a (Refused (refusal n 0)) ≡ Refused why → Small why
-    go true d f = below f
-    go false d f = let same : n ≡ why .number = cc in (omega (arith, eqb-false n 0 d), omega arith)
+    go true d f = below (eqb-true n 0 d) f
+    go false d f =
+        let same : refusal n 0 ≡ why = cc in rw same at (small n 0 (omega (arith, eqb-false n 0 d)) (omega arith) (omega arith))
 
 accepted-not : (n r : ℕ) (why : Refusal) → Accepted n r ≡ Refused why → Small why
 accepted-not n r why e = absurd (let z : _≡_ {A = ℕ} 0 1 = cc in omega arith)
@@ -76,9 +86,11 @@ pub table-number : (t : List ℕ) (why : Refusal) → checked t ≡ Refused why 
 unfolding checked from7 from8 from9
 table-number t why =
     header-or (headerRefusal t) _ why (header-number t)
-    (rule-number 6 _ _ why (omega arith) (omega arith)
-    (rule-number 7 _ _ why (omega arith) (omega arith)
-    (rule-number 8 _ _ why (omega arith) (omega arith) (rule-number 9 _ _ why (omega arith) (omega arith) (accepted-not _ _ why)))))
+    (λ h. let r = header-right t h in
+    rule-number 6 _ _ why (omega arith) (omega arith) (wrong-within t r)
+    (rule-number 7 _ _ why (omega arith) (omega arith) (misfits-within t r)
+    (rule-number 8 _ _ why (omega arith) (omega arith) (deep-within t r)
+    (rule-number 9 _ _ why (omega arith) (omega arith) (far-within t r) (accepted-not _ _ why)))))
 
 -- what a call goes by: its answer to a table
 abbrev ByTable : Answer → Type 0
@@ -98,7 +110,7 @@ check-honest t before = honest _ before (check-numbered (checked t) (table-numbe
 
 depth-by : (b : Bool) (rows row window : ℕ) → Numbered (depthGives (cond b (DepthRefuses (refusal 12 7)) (Needs rows row window)))
 unfolding depthGives
-depth-by true rows row window = one-refusal _ (omega arith, omega arith)
+depth-by true rows row window = one-refusal _ (small _ _ (omega arith) (omega arith) (omega arith))
 depth-by false rows row window = never-refuses _
 
 depth-numbered : (a : Answer) (t : List ℕ) (back : ℕ) → ByTable a → Numbered (depthGives (depthAnswer a t back))
@@ -113,7 +125,7 @@ depth-honest t back before = honest _ before (depth-numbered (checked t) t back 
 
 silent-by : (b : Bool) (many : ℕ) (list : List ℕ) → Numbered (silentGives (cond b (SilentRefuses (refusal 10 18)) (Lists many)) list)
 unfolding silentGives
-silent-by true many list = one-refusal _ (omega arith, omega arith)
+silent-by true many list = one-refusal _ (small _ _ (omega arith) (omega arith) (omega arith))
 silent-by false many list = never-refuses _
 
 silent-numbered : (a : Answer) (numbers : List ℕ) (places : ℕ) (list : List ℕ) → ByTable a → Numbered (silentGives (silentAnswer a numbers places) list)
@@ -131,7 +143,7 @@ silent-honest t rows before = honest _ before (silent-numbered (checked t) (sile
 translate-by : (b : Bool) (x count : ℕ) (room : List ℕ) → x ≤ 3
     → Numbered (translateGives (cond b (Refuses (refusal 10 (3 + x))) (Writes count)) room)
 unfolding translateGives
-translate-by true x count room h = one-refusal _ (omega arith, omega arith)
+translate-by true x count room h = one-refusal _ (small _ _ (omega arith) (omega arith) (omega arith))
 translate-by false x count room h = never-refuses _
 
 translate-numbered : (a : Answer) (t : List ℕ) (x : ℕ) (lent after : List ℕ) → x ≤ 3 → ByTable a
@@ -167,7 +179,7 @@ translate-honest t tree before =
 rule-by : (b said : Bool) (tree : ℕ) → Numbered (ruleGives (cond b (Says said) (RuleRefuses (refusal 13 0))) tree)
 unfolding ruleGives
 rule-by true said tree = never-refuses _
-rule-by false said tree = one-refusal _ (omega arith, omega arith)
+rule-by false said tree = one-refusal _ (small _ _ (omega arith) (omega arith) (omega arith))
 
 rule-numbered : (a : Answer) (t : List ℕ) (x : ℕ) (rows : List ℕ) (s : PositionState) (tree : ℕ) → ByTable a
     → Numbered (ruleGives (afterCheck a (judged t x rows s)) tree)
@@ -182,21 +194,26 @@ rule-honest t tree rows s before = honest _ before (rule-numbered (checked t) t 
 
 -- ---- ysh_run
 
-run-formed : (f : Formed) (r : Ran) → Numbered (runGives (ranIf f r))
-unfolding runGives ranIf
-run-formed Well r = never-refuses _
-run-formed (Bad p) r = one-refusal _ (omega arith, omega arith)
+-- a list's bad step is one of its at most 1,024
+abbrev Near : Formed → Type 0
+Near f = (p : ℕ) → f ≡ Bad p → p < mostSteps
 
-run-by : (b c d e : Bool) (f : Formed) (r : Ran)
+run-formed : (f : Formed) (r : Ran) → Near f → Numbered (runGives (ranIf f r))
+unfolding runGives ranIf
+run-formed Well r near = never-refuses _
+run-formed (Bad p) r near = one-refusal _ (small _ _ (omega arith) (omega arith) (omega (arith, near p refl)))
+
+run-by : (b c d e : Bool) (f : Formed) (r : Ran) → Near f
     → Numbered (runGives (cond b (RunRefuses (refusal 12 0)) (cond c (RunRefuses (refusal 12 1)) (cond d (RunRefuses (refusal 12 1))
     (cond e (ranIf f r) (RunRefuses (refusal 13 0)))))))
 unfolding runGives
-run-by true c d e f r = one-refusal _ (omega arith, omega arith)
-run-by false true d e f r = one-refusal _ (omega arith, omega arith)
-run-by false false true e f r = one-refusal _ (omega arith, omega arith)
-run-by false false false true f r = run-formed f r
-run-by false false false false f r = one-refusal _ (omega arith, omega arith)
+run-by true c d e f r near = one-refusal _ (small _ _ (omega arith) (omega arith) (omega arith))
+run-by false true d e f r near = one-refusal _ (small _ _ (omega arith) (omega arith) (omega arith))
+run-by false false true e f r near = one-refusal _ (small _ _ (omega arith) (omega arith) (omega arith))
+run-by false false false true f r near = run-formed f r near
+run-by false false false false f r near = one-refusal _ (small _ _ (omega arith) (omega arith) (omega arith))
 
 pub run-honest : (list rows : List ℕ) (K D : ℕ) (s : PositionState) (before : RunLent) → Honest (runGives (runs list rows K D s)) before
 unfolding runs
-run-honest list rows K D s before = honest _ before (run-by (ltb mostSlots K) (ltb D 1) (ltb mostRows D) (wholeRows K rows && stateRight s) _ _)
+run-honest list rows K D s before =
+    honest _ before (run-by (ltb mostSlots K) (ltb D 1) (ltb mostRows D) (wholeRows K rows && stateRight s) _ _ (bad-below K D list))

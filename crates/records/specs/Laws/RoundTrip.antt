@@ -1,12 +1,16 @@
--- A caller loses nothing between calls: the words of a state mean that state.
+-- A caller loses nothing between calls: the words of a state mean that state, if its floats are f64, as they are in every state that words
+-- mean and in a fresh one.
 use Prim.Native.Nat.{ℕ, _≤_}
 use mathlib.Core.Path.{_≡_, refl}
 use mathlib.Core.List.{List, _++_}
+use native.Mathlib.Omega.{arith}
 use borrow.Author.Tests.{le-leb}
 use lib.Dec.{T}
-use lib.ListN.{length}
+use lib.ListN.{length, drop}
 use lib.Ieee.{binary64, fits}
-use lib.Ieee.Bits.{ofBits-toBits}
+use lib.Ieee.Bits.{ofBits-toBits, ofBits-fits}
+use Rattle.portfolio.specs.Portfolio.{fresh}
+use Rattle.floats.specs.Floats.{floatOf}
 use Rattle.rules.specs.declared.Entered.{Entered}
 use Rattle.rules.specs.declared.Entered.the-variants.{Never, Bar}
 use Rattle.words.specs.Words.{overwrite}
@@ -14,6 +18,8 @@ use Rattle.records.specs.declared.state.Order.{Order}
 use Rattle.records.specs.declared.state.Order.the-variants.{Idle, EnterLong, EnterShort, Exit}
 use Rattle.records.specs.declared.state.State.{State}
 use Rattle.words.specs.Limits.{stateWords}
+use Rattle.records.specs.Settings.{settingsOf}
+use Rattle.records.specs.State.{freshState}
 use Rattle.records.specs.StateWords.{countsOf, orderOf, enteredOf, portfolioOf, positionOf, stateOf}
 use Rattle.records.specs.StateWords.{orderKind, orderDelay, enteredKind, entryBar, wordsOf}
 
@@ -60,3 +66,43 @@ state-back s h rest =
 pub state-kept : (s : State) → Floats64 s → (room : List ℕ) → stateWords ≤ length room → stateOf (overwrite room 0 (wordsOf s)) ≡ s
 unfolding overwrite wordsOf
 state-kept s h room fits = rw (le-leb _ _ fits) (state-back s h _)
+
+-- a state written over another is as if it stood alone
+pub state-again : (s u : State) (room : List ℕ) → stateWords ≤ length room
+    → overwrite (overwrite room 0 (wordsOf s)) 0 (wordsOf u) ≡ overwrite room 0 (wordsOf u)
+unfolding overwrite wordsOf
+state-again s u room fits =
+    let long : stateWords ≤ length (wordsOf s ++ drop stateWords room) = omega arith in
+    rw (le-leb _ _ fits, le-leb _ _ long)
+
+-- ---- states whose floats are f64
+
+-- a float that a word holds
+word-fits : (w : ℕ) → T (fits binary64 (floatOf w))
+word-fits w = ofBits-fits binary64 w
+
+-- the state that words mean, whatever they are
+pub words-floats : (ws : List ℕ) → Floats64 (stateOf ws)
+unfolding stateOf positionOf portfolioOf
+words-floats ws = record {
+  cash = word-fits _;
+  qty = word-fits _;
+  «entry_price» = word-fits _;
+  «entry_fee» = word-fits _;
+  «fees_paid» = word-fits _;
+  extreme = word-fits _;
+  close = word-fits _;
+}
+
+-- the fresh state of settings that words mean
+pub fresh-floats : (ws : List ℕ) → Floats64 (freshState (settingsOf ws))
+unfolding freshState settingsOf fresh
+fresh-floats ws = record {
+  cash = word-fits _;
+  qty = word-fits 0;
+  «entry_price» = word-fits 0;
+  «entry_fee» = word-fits 0;
+  «fees_paid» = word-fits 0;
+  extreme = word-fits 0;
+  close = word-fits 0;
+}

@@ -2,7 +2,7 @@
 use mathlib.Core.Path.{sym, _∙_}
 use native.Mathlib.Omega.{arith}
 use Rattle.refusals.specs.Lines.{judged}
-use Rattle.refusals.proofs.Formed.{bad-below}
+use Rattle.refusals.specs.Laws.BadStep.{bad-below}
 use borrow.Author.Needs.{needs}
 use Rattle.refusals.proofs.lists.judge_list.Statement.{statement}
 use Rattle.refusals.proofs.lists.judge_list.Tie as tie

@@ -7,6 +7,7 @@ use native.Mathlib.Omega.{arith}
 use borrow.Author.Tests.{ltb-false}
 use lib.ListN.{length}
 use lib.Dec.{eqb, ltb}
+use Rattle.words.specs.Limits.{mostSteps}
 use Rattle.steps.specs.declared.Formed.the-variants.{Bad}
 use Rattle.steps.specs.Bytes.{stepAt, stepsIn}
 use Rattle.steps.specs.WellFormed.{goodStep, formedFrom, formed}
@@ -21,11 +22,11 @@ among K D bs p (suc m) q e = go (goodStep K D m (stepAt bs p)) (among K D bs (p 
     go true ih h = omega (arith, ih h)
     go false ih h = let z : p ≡ q = cc in omega arith
 
-pub bad-below : (K D : ℕ) (bs : List ℕ) (q : ℕ) → formed K D bs ≡ Bad q → q < 1024
+pub bad-below : (K D : ℕ) (bs : List ℕ) (q : ℕ) → formed K D bs ≡ Bad q → q < mostSteps
 unfolding formed
-bad-below K D bs q e = go (eqb (length bs % 16) 0) (ltb 1024 (stepsIn bs)) refl e
+bad-below K D bs q e = go (eqb (length bs % 16) 0) (ltb mostSteps (stepsIn bs)) refl e
   where
-    go : (a b : Bool) → ltb 1024 (stepsIn bs) ≡ b → cond a (cond b (Bad 0) (formedFrom K D bs 0 (stepsIn bs))) (Bad 0) ≡ Bad q → q < 1024
+    go : (a b : Bool) → ltb mostSteps (stepsIn bs) ≡ b → cond a (cond b (Bad 0) (formedFrom K D bs 0 (stepsIn bs))) (Bad 0) ≡ Bad q → q < mostSteps
     go false b d h = let z : 0 ≡ q = cc in omega arith
     go true true d h = let z : 0 ≡ q = cc in omega arith
-    go true false d h = omega (arith, among K D bs 0 (stepsIn bs) q h, ltb-false 1024 (stepsIn bs) d)
+    go true false d h = omega (arith, among K D bs 0 (stepsIn bs) q h, ltb-false mostSteps (stepsIn bs) d)

@@ -1,0 +1,45 @@
+-- A run through the C interface: a call of ysh_step for each bar, over the words that the one before left. Definitions only.
+use Prim.Native.Nat.{ℕ, _+_}
+use mathlib.Core.Bool.{cond}
+use mathlib.Core.List.{List, [], _∷_}
+use lib.Dec.{eqb}
+use Rattle.words.specs.Words.{overwrite}
+use Rattle.records.specs.declared.state.State.{State}
+use Rattle.records.specs.Lent.{Rooms, Lists}
+use Rattle.records.specs.StateWords.{wordsOf}
+use Rattle.refusals.specs.declared.verdict.Verdict.{Verdict}
+use Rattle.refusals.specs.declared.verdict.Verdict.the-variants.{Fine, Bad}
+use Rattle.engine.specs.Run.{Run}
+use Rattle.capi.specs.Bars.{StepLent, stepCall}
+use Rattle.capi.specs.Call.{answerWord}
+
+-- How many calls did their work, the answer of the one that ended the run (0 where all did), and what is left.
+pub record WordRun : Type 0 where
+  pub done : ℕ
+  pub answer : ℕ
+  pub lent : StepLent
+
+-- a call more, before those of a run
+abbrev pub callMore : WordRun → WordRun
+callMore r = record { done = r .done + 1; answer = r .answer; lent = r .lent }
+
+-- until a call answers other than 0
+unfoldable pub callsOver : List ℕ → Lists → StepLent → List (List ℕ) → WordRun
+callsOver settings ls lent [] = record { done = 0; answer = 0; lent = lent }
+callsOver settings ls lent (bar ∷ bars) =
+    let c = stepCall settings (lent .state) bar (lent .rooms) ls in
+    cond (eqb (c .answer) 0) (callMore (callsOver settings ls (c .lent) bars)) (record { done = 0; answer = c .answer; lent = c .lent })
+
+-- ---- the engine's, in words
+
+-- what a verdict answers
+unfoldable pub answerOf : Verdict → ℕ
+answerOf Fine = 0
+answerOf (Bad r) = answerWord r
+
+-- a state's words stand at the start of the room that is lent for them
+abbrev pub lentWith : List ℕ → State → Rooms → StepLent
+lentWith room t m = record { state = overwrite room 0 (wordsOf t); rooms = m }
+
+abbrev pub inWords : List ℕ → Run → WordRun
+inWords room r = record { done = r .done; answer = answerOf (r .verdict); lent = lentWith room (r .state) (r .rooms) }
