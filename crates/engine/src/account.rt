@@ -18,6 +18,7 @@ use execution::intrabar;
 use portfolio::Candle;
 use portfolio::SIGNAL;
 use records::settings::Settings;
+use records::state::Counts;
 use records::state::Order;
 use records::state::Position;
 use rules::Entered;
@@ -224,15 +225,18 @@ pub(crate) fn book(trades: &mut [u64], n: usize, exit: Exit) -> usize
     }
 }
 
-// Adds the equity at the close to a room that holds n points; the result is how many it holds then.
-pub(crate) fn mark_equity(equity: &mut [u64], n: usize, candle: Candle, p: Position) -> usize
-    ensures { λ r. ⌜ (r ≡ marked (now (equity .entry)) n candle p .count) × (now (equity .exit) ≡ marked (now (equity .entry)) n candle p .room) ⌝ }
+// Adds the equity at the close to a room that holds so many points; the result is how many it holds then.
+pub(crate) fn mark_equity(equity: &mut [u64], n: Counts, candle: Candle, p: Position) -> usize
+    ensures { λ r. ⌜ (r ≡ marked (now (equity .entry)) (n .«equity_points») candle p .count)
+        × (now (equity .exit) ≡ marked (now (equity .entry)) (n .«equity_points») candle p .room) ⌝ }
 {
-    if n < equity.len() / words::limits::POINT_WORDS {
+    let points = n.equity_points;
+    let places = equity.len() / words::limits::POINT_WORDS;
+    if points < places {
         let account = p.portfolio;
         let words = [candle.time, floats::word_of(account.equity(candle.close))];
-        words::put(equity, n * words::limits::POINT_WORDS, &words);
-        return n + 1;
+        words::put(equity, points * words::limits::POINT_WORDS, &words);
+        return points + 1;
     }
-    n
+    points
 }

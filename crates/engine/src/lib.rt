@@ -63,7 +63,7 @@ fn advance<'a>(
     let stopped = left.exit;
     let closed = account::book(trades, before, stopped);
     let charged = account::charge_funding(s, open, bar);
-    let points = account::mark_equity(equity, n.equity_points, candle, charged);
+    let points = account::mark_equity(equity, n, candle, charged);
     let next = decide::decide_next_action(
         s,
         working,

@@ -6,7 +6,16 @@ use Rattle.records.proofs.state_words.position_of.Tie as tie
 
 returns : tie.Need-returns
 unfolding positionOf
-returns c = cc
+returns c =
+    let entry = c .before in
+    let bar = entry .before in
+    rw (
+      c .float-at .ensures,
+      entry .entered-of .ensures,
+      bar .word2 .ensures,
+      bar .before .word .ensures,
+      bar .before .before .portfolio-of .ensures,
+    )
 
 pub position-of-spec : {M : Type 1} → statement M
 position-of-spec =
