@@ -8,7 +8,7 @@ import random
 import struct
 
 import steps
-from words import CHECK, DEPTH, NODE_ROOM, TABLE, TRANSLATE, bits, lend_bytes, line, refusal
+from words import CHECK, DEPTH, NODE_ROOM, SILENT, TABLE, TRANSLATE, UNTOUCHED, bits, lend_bytes, line, refusal
 
 OPERAND, CONDITION = "operand", "condition"
 
@@ -164,6 +164,33 @@ def depth_call(data, lookback):
     except Refused as why:
         answer = (refusal(*why.args), 0, 0)
     return line(DEPTH, lookback), line(*answer)
+
+
+def tests(tree):
+    """The tests of a tree in table order, as (number, reach): comparisons, crosses, Between, Rising and Falling."""
+    number, (kind, *_), below = tree
+    own = [(number, reach(tree))] if 16 <= kind <= 26 else []
+    return own + [test for child in below for test in tests(child)]
+
+
+def silent(data, rows):
+    """The numbers of the tests that reach back so many bars or more."""
+    return [number for tree in check(data)[2] if tree for number, back in tests(tree) if back >= rows]
+
+
+def silent_call(data, rows, size=None, short_by=0):
+    """The silent tests into a list of so many words, of one for each of them, or of so many less."""
+    try:
+        numbers = silent(data, rows)
+        places = len(numbers) - short_by if size is None else size
+        if places < len(numbers):
+            answer = [refusal(10, 18)] + [UNTOUCHED] * places + [0]
+        else:
+            answer = [0] + numbers + [UNTOUCHED] * (places - len(numbers)) + [len(numbers)]
+    except Refused as why:
+        places = size or 0
+        answer = [refusal(*why.args)] + [UNTOUCHED] * places + [0]
+    return line(SILENT, rows, places), line(*answer)
 
 
 def told_depth(data, lookback):
@@ -510,6 +537,8 @@ def cases():
 
 # A lookback within the reach of most tables, above it, the largest, and one more.
 LOOKBACKS = [0, 1, 100, 4095, 4096]
+# Numbers of rows that have nothing to do with the table.
+WINDOWS = [0, 1, 2, 500, 4095, 4096, 4097, (1 << 64) - 1]
 # As many nodes as a table has whose steps are listed.
 FEW_NODES = 40
 
@@ -521,11 +550,18 @@ def calls():
         yield check_call(data)
         yield depth_call(data, LOOKBACKS[i % len(LOOKBACKS)])
         try:
-            total = check(data)[0]
+            total, needed = check(data)[:2]
         except Refused as why:
+            yield silent_call(data, 1, size=i % 3)
             refused.add(why.args[0])
             yield line(TRANSLATE, i % 4, NODE_ROOM), line(refusal(*why.args), 0)
             continue
+        # one row short, half of them, as many as are needed, any number; a list of just enough places, and of one more or less
+        for rows in sorted({needed - 1, needed // 2, needed, WINDOWS[i % len(WINDOWS)]}):
+            yield silent_call(data, rows)
+        yield silent_call(data, needed - 1, size=len(silent(data, needed - 1)) + 1)
+        if silent(data, needed - 1):
+            yield silent_call(data, needed - 1, short_by=1)
         if total <= FEW_NODES:
             yield translate_call(data, i % 2)
             yield translate_call(data, i % 2, short_by=1)

@@ -73,6 +73,14 @@ mod c {
     extern "C" {
         pub fn ysh_check(table: *const u8, table_len: usize, nodes: *mut u64, rows: *mut u64) -> u64;
         pub fn ysh_depth(table: *const u8, table_len: usize, lookback: u64, rows: *mut u64, bytes: *mut u64) -> u64;
+        pub fn ysh_silent(
+            table: *const u8,
+            table_len: usize,
+            rows: u64,
+            list: *mut u64,
+            list_len: usize,
+            count: *mut u64,
+        ) -> u64;
         pub fn ysh_translate(
             table: *const u8,
             table_len: usize,
@@ -165,6 +173,10 @@ pub fn check(table: &[u8], nodes: &mut u64, rows: &mut u64) -> u64 {
 
 pub fn depth(table: &[u8], lookback: u64, rows: &mut u64, bytes: &mut u64) -> u64 {
     unsafe { c::ysh_depth(table.as_ptr(), table.len(), lookback, rows, bytes) }
+}
+
+pub fn silent(table: &[u8], rows: u64, list: &mut [u64], count: &mut u64) -> u64 {
+    unsafe { c::ysh_silent(table.as_ptr(), table.len(), rows, list.as_mut_ptr(), list.len(), count) }
 }
 
 pub fn translate(table: &[u8], tree: u64, room: &mut [u8], used: &mut u64) -> u64 {

@@ -55,6 +55,7 @@ fn call_rules(line: &[u64], sizes: &mut [u64], table: &[u8], lists: &mut [u8], r
         0x20 => tables::check(sizes, table),
         0x21 => tables::depth(line, sizes, table),
         0x22 => tables::translate(line, sizes, table, lists),
+        0x2a => tables::silent(line, sizes, table),
         0x23 => rules::rule(
             line,
             tables::table(sizes, table),
@@ -116,7 +117,7 @@ fn take(
             trades,
             metrics,
         ),
-        0x20..=0x24 => call_rules(line, sizes, table, lists, rows),
+        0x20..=0x24 | 0x2a => call_rules(line, sizes, table, lists, rows),
         _ => call_run(
             line,
             sizes,

@@ -1,4 +1,4 @@
-// Calls over a table: its check, the depth of its window, its trees as steps.
+// Calls over a table: its check, the depth of its window, its silent tests, its trees as steps.
 use crate::rooms;
 use crate::rooms::word;
 
@@ -24,6 +24,26 @@ pub(crate) fn depth(line: &[u64], sizes: &[u64], room: &[u8]) {
     let mut bytes = 0u64;
     let answer = capi::tables::ysh_depth(table(sizes, room), word(line, 1), &mut rows, &mut bytes);
     text::write_words(&[answer, rows, bytes], b'\n');
+}
+
+// Lists the tests that fall silent over so many rows in so many words of a room. The answer, these words and the count.
+fn list_silent(table: &[u8], rows: u64, size: u64, room: &mut [u64]) {
+    let n = size as usize;
+    let mut count = 0u64;
+    if room.len() < n {
+        text::write_words(&[NO_ROOM], b'\n');
+        return;
+    }
+    let answer = capi::tables::ysh_silent(table, rows, &mut room[..n], &mut count);
+    text::write_words(&[answer], b' ');
+    text::write_words(&room[..n], b' ');
+    text::write_words(&[count], b'\n');
+}
+
+// Word 1 is the rows, word 2 how many words are lent, each with every bit set.
+pub(crate) fn silent(line: &[u64], sizes: &[u64], room: &[u8]) {
+    let mut list = [u64::MAX; words::limits::MOST_NODES];
+    list_silent(table(sizes, room), word(line, 1), word(line, 2), &mut list);
 }
 
 // Translates a tree into so many bytes of the room of its list.

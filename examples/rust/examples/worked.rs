@@ -1,7 +1,7 @@
 //! The papers' worked rule, run from Rust: enter long where the fast average crosses above the slow one, leave where the
 //! close is below the close two bars before.
 
-use yshturpa::{check, depth, Bar, Engine, Refusal, Settings, Sizing, Slippage};
+use yshturpa::{check, depth, silent, Bar, Engine, Refusal, Settings, Sizing, Slippage};
 
 const FAST: usize = 3;
 const SLOW: usize = 8;
@@ -55,6 +55,7 @@ fn main() -> Result<(), Refusal> {
     println!("accepted nodes {} rows {}", accepted.nodes, accepted.rows);
     let window = depth(&table, 0)?;
     println!("window {} rows, {} bytes", window.rows, window.bytes);
+    println!("silent over a row less: nodes {:?}", silent(&table, window.rows - 1)?);
     let mut settings = Settings::new(2, window.rows as usize, 10_000.0, Sizing::FixedFraction(0.5));
     settings.taker_bps = 5.0;
     settings.slippage = Slippage::FixedBps(2.0);

@@ -74,6 +74,19 @@ pub fn depth(table: &[u8], lookback: u64) -> Result<Depth, Refusal> {
     Ok(Depth { rows, bytes })
 }
 
+/// The tests that answer no over a window of so many rows, whatever the rows hold, by the numbers of their nodes in table order. A test is a
+/// comparison, a cross, Between, Rising or Falling. There are none where `rows` is at least what [`check`] says.
+pub fn silent(table: &[u8], rows: u64) -> Result<Vec<u64>, Refusal> {
+    let mut list = vec![0; raw::MOST_NODES];
+    let mut count = 0;
+    // SAFETY: both pointers and lengths are those of slices, of which the second is ours alone, and the word is a local.
+    answered(unsafe {
+        raw::ysh_silent(table.as_ptr(), table.len(), rows, list.as_mut_ptr(), list.len(), &mut count)
+    })?;
+    list.truncate(count as usize);
+    Ok(list)
+}
+
 /// The steps of one tree of a table; none where it is absent.
 pub fn translate(table: &[u8], tree: Tree) -> Result<Vec<u8>, Refusal> {
     let nodes = check(table)?.nodes as usize;

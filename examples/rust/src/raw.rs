@@ -13,6 +13,9 @@ pub const METRIC_WORDS: usize = 9;
 /// Words of a kept row besides its slots.
 pub const ROW_FIXED: usize = 7;
 
+/// As many nodes as a table may have.
+pub const MOST_NODES: usize = 256;
+
 /// Room for the steps of a tree, in bytes a node.
 pub const STEP_BYTES: usize = 64;
 
@@ -20,6 +23,7 @@ pub const STEP_BYTES: usize = 64;
 extern "C" {
     pub fn ysh_check(table: *const u8, table_len: usize, nodes: *mut u64, rows: *mut u64) -> u64;
     pub fn ysh_depth(table: *const u8, table_len: usize, lookback: u64, rows: *mut u64, bytes: *mut u64) -> u64;
+    pub fn ysh_silent(table: *const u8, table_len: usize, rows: u64, list: *mut u64, list_len: usize, count: *mut u64) -> u64;
     pub fn ysh_translate(table: *const u8, table_len: usize, tree: u64, room: *mut u8, room_len: usize, used: *mut u64) -> u64;
     pub fn ysh_fresh(settings: *const u64, settings_len: usize, state: *mut u64, state_len: usize) -> u64;
     pub fn ysh_step(

@@ -16,6 +16,7 @@ pub struct Lent {
     pub trades: Room<u64>,
     pub metrics: Room<u64>,
     pub steps: Room<u8>,
+    pub tests: Room<u64>,
     pub out: Room<u64>,
 }
 
@@ -25,7 +26,7 @@ impl Lent {
         [&self.table, entry, exit, short_entry, short_exit, &self.steps]
     }
 
-    fn words(&self) -> [&Room<u64>; 8] {
+    fn words(&self) -> [&Room<u64>; 9] {
         [
             &self.settings,
             &self.bar,
@@ -34,6 +35,7 @@ impl Lent {
             &self.equity,
             &self.trades,
             &self.metrics,
+            &self.tests,
             &self.out,
         ]
     }
@@ -50,7 +52,7 @@ impl Lent {
         [&mut self.table, entry, exit, short_entry, short_exit, &mut self.steps]
     }
 
-    fn words_mut(&mut self) -> [&mut Room<u64>; 8] {
+    fn words_mut(&mut self) -> [&mut Room<u64>; 9] {
         [
             &mut self.settings,
             &mut self.bar,
@@ -59,6 +61,7 @@ impl Lent {
             &mut self.equity,
             &mut self.trades,
             &mut self.metrics,
+            &mut self.tests,
             &mut self.out,
         ]
     }
@@ -98,7 +101,17 @@ impl Lent {
         let names = ["table", "entry", "exit", "short entry", "short exit", "step room"];
         let bytes = names.iter().zip(self.bytes());
         let bytes = bytes.map(|(name, room)| format!("{name}: {}", oracle::words::hex_of_bytes(&room.content)));
-        let names = ["settings", "bar", "state", "rows", "equity", "trades", "metrics", "out"];
+        let names = [
+            "settings",
+            "bar",
+            "state",
+            "rows",
+            "equity",
+            "trades",
+            "metrics",
+            "silent tests",
+            "out",
+        ];
         let words = names.iter().zip(self.words());
         let words = words.map(|(name, room)| format!("{name}: {:x?} then {:x?}", room.content, room.lent()));
         bytes.chain(words).collect::<Vec<_>>().join("\n")

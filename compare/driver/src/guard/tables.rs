@@ -1,4 +1,4 @@
-//! The calls on tables: check, depth, translate.
+//! The calls on tables: check, depth, silent tests, translate.
 
 use oracle::lists::dice::Dice;
 use oracle::lists::trees::{close, compare, negated, never, prev};
@@ -7,7 +7,7 @@ use oracle::table::Table;
 
 use super::{damage, Guard, Outcome};
 use crate::calls;
-use crate::model::{refusals, table};
+use crate::model::{refusals, silent, table};
 
 /// Two nodes change places.
 fn swap_nodes(dice: &mut Dice, table: &mut [u8]) {
@@ -81,6 +81,32 @@ impl Guard {
             let out = self.lent.out.lent();
             if needed != Ok(out[0]) || out[1] != out[0] * width * 8 {
                 return Err("depth: another depth".into());
+            }
+        }
+        Ok(())
+    }
+
+    pub fn silent(&mut self, base: usize) -> Outcome {
+        self.lend_table(base);
+        // Around the table's own reaches as often as far from them.
+        let near = table::checked(&self.lent.table.content).map_or(1, |(_, rows)| rows);
+        let rows = match self.dice.below(3) {
+            0 => self.dice.pick(&[0, 1, 2, 4_095, 4_096, 4_097, u64::MAX]),
+            1 => self.dice.below(near + 1),
+            _ => near.saturating_sub(self.dice.below(3)),
+        };
+        let places = self.dice.pick(&[0, 1, 2, 5, 20, 256]);
+        self.lent.tests.content.resize(places, 0x5a5a);
+        self.lent.lay();
+        let [count, _] = out(&mut self.lent.out);
+        let answer = calls::silent(self.lent.table.lent(), rows, self.lent.tests.lent_mut(), count);
+        let expected = refusals::silent(&self.lent.table.content, rows, places);
+        if self.judge("silent", answer, expected)? {
+            let tests = silent::silent(&self.lent.table.content, rows);
+            let listed = &self.lent.tests;
+            let right = self.lent.out.lent()[0] == tests.len() as u64 && listed.lent()[..tests.len()] == tests;
+            if !right || !listed.is_unchanged_outside(0, tests.len()) {
+                return Err(format!("silent: over {rows} rows, expected {tests:?}"));
             }
         }
         Ok(())

@@ -3,6 +3,7 @@
 
 pub mod machine;
 pub mod refusals;
+pub mod silent;
 pub mod steps;
 pub mod table;
 

@@ -1,6 +1,6 @@
 //! Refusals 10 to 15, in the paper's order: 10, 12, 13, 14, 11, 15; under one number the lowest place.
 
-use super::{finite, refusal, steps, table};
+use super::{finite, refusal, silent, steps, table};
 use crate::calls::{bar_words, state, Position, GIVEN, METRIC_WORDS, NODE_STEP_BYTES, SETTING_WORDS, STATE_WORDS};
 
 const MOST: u64 = 4_294_967_295;
@@ -8,6 +8,8 @@ const MOST_SLOTS: u64 = 64;
 const MOST_DEPTH: u64 = 4_096;
 const MOST_LOOKBACK: u64 = 4_095;
 const LOOKBACK: u64 = 7;
+/// The room of the silent tests.
+const SILENT_ROOM: u64 = 18;
 
 type Checked = Result<(), u64>;
 
@@ -143,6 +145,11 @@ fn position(rows: &[u64], slots: u64, at: Position) -> Checked {
 pub fn depth(bytes: &[u8], lookback: u64) -> Checked {
     table::checked(bytes)?;
     need(lookback <= MOST_LOOKBACK, 12, LOOKBACK)
+}
+
+pub fn silent(bytes: &[u8], rows: u64, places: usize) -> Checked {
+    table::checked(bytes)?;
+    need(silent::silent(bytes, rows).len() <= places, 10, SILENT_ROOM)
 }
 
 pub fn translate(bytes: &[u8], tree: u64, room: usize) -> Checked {

@@ -8,13 +8,13 @@ const MOST_LEVELS: usize = 32;
 const MOST_REACH: u64 = 4_095;
 
 #[derive(Clone, Copy, PartialEq, Eq)]
-enum Sort {
+pub enum Sort {
     Operand,
     Condition,
 }
 
-struct Node {
-    kind: u8,
+pub struct Node {
+    pub kind: u8,
     selector: u8,
     children: u16,
     n: u32,
@@ -22,7 +22,7 @@ struct Node {
 }
 
 /// The table's fields, where it has them.
-struct Fields<'a>(&'a [u8]);
+pub struct Fields<'a>(pub &'a [u8]);
 
 impl Fields<'_> {
     fn u16(&self, at: usize) -> u16 {
@@ -33,11 +33,11 @@ impl Fields<'_> {
         [8, 10, 12, 14].map(|at| self.u16(at).into())
     }
 
-    fn total(&self) -> usize {
+    pub fn total(&self) -> usize {
         self.u16(6).into()
     }
 
-    fn node(&self, i: usize) -> Node {
+    pub fn node(&self, i: usize) -> Node {
         let bytes = &self.0[16 + 16 * i..32 + 16 * i];
         let number = |bytes: &[u8]| bytes.iter().rev().fold(0, |n, &byte| n << 8 | u64::from(byte));
         Node {
@@ -59,7 +59,7 @@ impl Node {
     }
 
     /// How many children, and of which sort.
-    fn below(&self) -> (usize, Sort) {
+    pub fn below(&self) -> (usize, Sort) {
         match self.kind {
             4 | 25 | 26 => (1, Sort::Operand),
             5..=8 | 16..=23 => (2, Sort::Operand),
@@ -94,7 +94,7 @@ impl Node {
     }
 
     /// What its kind adds to the reach of what is below it.
-    fn back(&self) -> u64 {
+    pub fn back(&self) -> u64 {
         match self.kind {
             4 | 25 | 26 => self.n.into(),
             22 | 23 => 1,
