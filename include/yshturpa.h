@@ -45,7 +45,7 @@ enum {
     YSH_REFUSED_NESTING = 8,    /* deeper than 32 levels, the root being 1, operands counted too. Place: the lowest such node */
     YSH_REFUSED_REACH = 9,      /* a tree that looks back more than 4,095 bars, its Prevs added up. Place: the first such tree's root */
 
-    /* 10 to 15: the other things handed over. */
+    /* 10 to 16: the other things handed over. */
     YSH_REFUSED_ROOM = 10,      /* a room is too small. Place: its number (YSH_ROOM_ROWS ..). Commonly: the rows were laid out for another
                                  * D or K than settings 0 and 1 say; the room for steps was sized by steps and not by nodes; the
                                  * settings are those of an older header, with fewer words */
@@ -55,7 +55,7 @@ enum {
     YSH_REFUSED_SETTING = 12,   /* a setting. Place: its number (YSH_SLOTS ..). 0: K above 64. 1: D is 0, above 4,096, or not above the lookback
                                  * of a volatility target. 5, 9: a kind that does not exist. 12: risk sizing without a stop loss (its
                                  * word may be there and its bit of YSH_GIVEN not). 7: from ysh_depth alone, a lookback above
-                                 * 4,095. Else, and 12 too: not finite */
+                                 * 4,095. 24: negative, or not finite. Else, and 12 too: not finite */
     YSH_REFUSED_RECORDS = 13,   /* Place 0. Any of these:
                                  * - the bar is not exactly 10 + K words: two bars at once, the three words of funding left out, or
                                  *   another K than the settings';
@@ -69,12 +69,16 @@ enum {
                                  * - a step, and the equity room has no free place, or the trade room has none, even where nothing is open;
                                  * - a step, and 4,294,967,295 bars were seen;
                                  * - finish, a position is to be closed, and the trade room has no free place */
-    YSH_REFUSED_STEPS = 15      /* a list of steps. Place: 1,024 times the list (0 to 3, as the trees) plus its lowest bad step. Any of these:
+    YSH_REFUSED_STEPS = 15,     /* a list of steps. Place: 1,024 times the list (0 to 3, as the trees) plus its lowest bad step. Any of these:
                                  * - the whole room was handed over and not the `used` bytes of it: bad at the first step past the list;
                                  * - it is not a multiple of 16 bytes, or above 1,024 steps: bad at 0;
                                  * - it was translated from a table with more slots than setting 0 says, or that looks further back
                                  *   than D, setting 1, allows (a look-back has to be below D);
                                  * - a kind that does not exist, an unused field that is not 0, a jump past the end of the list */
+    YSH_REFUSED_QUANTITY = 16   /* an entry is due, and its quantity, or with slippage by volume the one that is probed for it, is 2^53 lots or
+                                 * more. Commonly: a lot in other units than the quantity, or far too small a one. Nothing has changed, and
+                                 * the same order is due again at the next step: another lot, sizing or cap in its settings, or another
+                                 * open, lets the run go on. Place: the bars seen, which is this bar's number */
 };
 
 /* ---- sizes, in words unless said */
@@ -175,7 +179,8 @@ enum {
     YSH_LIQUIDATION,
     YSH_PARTIAL_FILLS,
     YSH_PARTICIPATION,          /* F  with partial fills: the share of a bar's volume that an entry may take, 1 being all of it */
-    /* 20 to 24 are kept for later requests, and 25 to 30 are spare: none of them is looked at; write 0 */
+    /* 20 to 23 are kept for later requests, and 25 to 30 are spare: none of them is looked at; write 0 */
+    YSH_LOT = 24,               /* F  a quantity is a whole number of lots, rounded down; 0: any quantity */
     YSH_GIVEN = 31              /* bit i is set where setting i is given, i from 12 to 16; other bits are not looked at */
 };
 
@@ -273,7 +278,7 @@ uint64_t ysh_translate(const uint8_t *table, size_t table_len, uint64_t tree,
 /* The state before the first bar. Refusal 10 (room 7 or 8); the settings themselves are judged by ysh_step. */
 uint64_t ysh_fresh(const uint64_t *settings, size_t settings_len, uint64_t *state, size_t state_len);
 
-/* One bar. Refusals 10 (room 0, 7 or 8), 12, 13, 14, 11, 15, in this order. */
+/* One bar. Refusals 10 (room 0, 7 or 8), 12, 13, 14, 11, 15, 16, in this order. */
 uint64_t ysh_step(const uint64_t *settings, size_t settings_len, uint64_t *state, size_t state_len,
                   const uint64_t *bar, size_t bar_len,
                   uint64_t *rows, size_t rows_len, uint64_t *equity, size_t equity_len,

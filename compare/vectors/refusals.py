@@ -1,4 +1,4 @@
-"""Refusals 10 to 15 on both sides of each edge, as calls for the program `calls`.
+"""Refusals 10 to 16 on both sides of each edge, as calls for the program `calls`.
 
 A case is a good call with something changed. What the call is answered with is worked out here from document 01, "Refusal
 numbers": every line of that table that is broken is collected, over the whole call, and then the first of the paper's order
@@ -13,7 +13,9 @@ from words import (EQUITY, FINISH, LISTS, METRIC_WORDS, METRICS, ROWS, SETTINGS,
 INF, NAN = math.inf, math.nan
 MOST = 4_294_967_295
 LAST_TIME = 3
-ORDER = [10, 12, 13, 14, 11, 15]
+ORDER = [10, 12, 13, 14, 11, 15, 16]
+# The orders to enter: long, short.
+ENTRIES = (1, 2)
 
 # Settings by name, with their numbers. Sizing and slippage are (kind, value ..); a level that is None is absent.
 VALUES = {"capital": 2, "taker": 8, "participation": 19}
@@ -22,6 +24,7 @@ LEVELS = {"stop": 12, "trailing": 13, "profit": 14, "leverage": 15, "position": 
 GOOD = {
     "K": 2, "D": 3, "capital": 1000.0, "taker": 0.0, "participation": 0.0,
     "sizing": ("fraction", 0.5), "slippage": ("fixed", 0.0),
+    "lot": 0.0, "order": 0,
     "stop": None, "trailing": None, "profit": None, "leverage": None, "position": None, "liquidation": 0,
     "bars": 3, "held": 3, "points": 3, "trades": 1, "entered": 2, "qty": 1.0,
     "rows_room": 27, "equity_room": 8, "trades_room": 16,
@@ -59,6 +62,8 @@ def settings_broken(c):
             yield number
     if sizing[0] == "risk" and c["stop"] is None:
         yield 12
+    if not math.isfinite(c["lot"]) or c["lot"] < 0:
+        yield 24
 
 
 def places(c):
@@ -111,6 +116,22 @@ def lists_broken(c):
                 yield 1024 * i + p
 
 
+def cash_of(c):
+    return 999.0 if c["qty"] != 0 else 1000.0
+
+
+def ordered(c):
+    """What an entry at the open orders, by its kind and after the leverage cap."""
+    (kind, value), price, cash = c["sizing"][:2], c["prices"][0], cash_of(c)
+    wanted = {"fraction": cash * value / price, "quantity": value, "cash": value / price}[kind]
+    return min(wanted * price, cash) / price
+
+
+def lots_broken(c):
+    """16: an entry is due and is of 2^53 lots or more. These cases have no slippage."""
+    return c["order"] in ENTRIES and c["lot"] > 0 and ordered(c) / c["lot"] >= 2.0**53
+
+
 def step_refusals(c):
     yield from common_refusals(c)
     if c["bar_words"] not in (None, 10 + c["K"]):
@@ -121,6 +142,8 @@ def step_refusals(c):
     if bar_broken(c):
         yield 11, c["bars"]
     yield from ((15, place) for place in lists_broken(c))
+    if lots_broken(c):
+        yield 16, c["bars"]
 
 
 def finish_refusals(c):
@@ -155,7 +178,8 @@ def settings_of(c):
     sizing, (slippage, cost) = c["sizing"], c["slippage"]
     lookback = sizing[2] if sizing[0] == "target" else 0
     values = [c["K"], c["D"], bits(c["capital"]), 0, 0, SIZINGS.index(sizing[0]), bits(sizing[1]), lookback, bits(c["taker"]),
-              SLIPPAGES.index(slippage), bits(cost), 0, 0, 0, 0, 0, 0, c["liquidation"], 0, bits(c["participation"])]
+              SLIPPAGES.index(slippage), bits(cost), 0, 0, 0, 0, 0, 0, c["liquidation"], 0, bits(c["participation"]), 0, 0, 0, 0,
+              bits(c["lot"])]
     return setting_words(values, [None if c[name] is None else bits(c[name]) for name in LEVELS])
 
 
@@ -163,8 +187,8 @@ def state_of(c):
     """One unit is held, bought for 1 of 1,000; or none."""
     held = c["qty"] != 0
     entered = [0, 0] if c["entered"] is None else [1, c["entered"]]
-    account = [999.0, 1.0, 1.0] if held else [1000.0, 0.0, 0.0]
-    words = [c["bars"], c["held"], c["points"], c["trades"], 0, 0, *entered, *map(bits, account), LAST_TIME if held else 0, 0, 0,
+    account = [cash_of(c), 1.0, 1.0] if held else [cash_of(c), 0.0, 0.0]
+    words = [c["bars"], c["held"], c["points"], c["trades"], c["order"], 0, *entered, *map(bits, account), LAST_TIME if held else 0, 0, 0,
              bits(1.0 if held else 0.0), LAST_TIME, bits(1.0)]
     return words + [0] * (STATE_WORDS - len(words))
 
@@ -188,11 +212,24 @@ def lent(c):
         yield lend_bytes(LISTS + i, listed)
 
 
+def held_after(c):
+    """What is held after the fill, and the cash: an entry takes the place of what was held."""
+    if c["order"] not in ENTRIES:
+        return c["qty"], cash_of(c)
+    qty = ordered(c)
+    if c["lot"] > 0:
+        qty = math.floor(qty / c["lot"]) * c["lot"]
+    signed = qty if c["order"] == 1 else -qty
+    return (signed, cash_of(c) - signed * c["prices"][0]) if qty > 2.0**-52 else (c["qty"], cash_of(c))
+
+
 def step_call(c):
     """What is held is worth its price at the close."""
     told = answer(step_refusals(c))
-    done = [] if told else [c["time"], bits(999.0 + c["prices"][3])]
-    return line(STEP, *bar_of(c)), line(told, *done)
+    if told:
+        return line(STEP, *bar_of(c)), line(told)
+    qty, cash = held_after(c)
+    return line(STEP, *bar_of(c)), line(told, c["time"], bits(cash + qty * c["prices"][3]))
 
 
 def finish_call(c, figures_of):
@@ -232,9 +269,11 @@ SHORT, BAD_SECOND, GOOD_TWO = bytes([27] * 15), step(27) + step(34), step(27) + 
 TREES = ["entry", "exit", "short entry", "short exit"]
 GIVEN = {name: 1.0 for name in LEVELS} | {"liquidation": 1}
 FULL = {"trades": 2, "entered": None}
+# An entry is due, flat.
+DUE = {"order": 1, "qty": 0.0, "entered": None}
 # One fault for each number, in the paper's order.
 FAULTS = [(10, {"rows_room": 26}), (12, {"capital": NAN}), (13, {"trades": 3}), (14, {"points": 4}),
-          (11, price(0, INF)), (15, entry(0))]
+          (11, price(0, INF)), (15, entry(0)), (16, {"order": 1, "lot": 2.0**-60})]
 
 STEPS = [
     ("step", {}),
@@ -297,6 +336,7 @@ STEPS = [
     ("risk sizing with a stop loss", {"sizing": ("risk", 1.0), "stop": 1.0}),
     ("risk sizing without a stop loss", {"sizing": ("risk", 1.0)}),
     ("risk no number, no stop loss", {"sizing": ("risk", NAN)}),
+    *[("lot %r" % lot, {"lot": lot}) for lot in (1.0, -0.0, -5e-324, -1.0, INF, -INF, NAN)],
     # 11
     ("time any word", {"time": bits(NAN)}),
     ("open no number", price(0, NAN)),
@@ -328,6 +368,14 @@ STEPS = [
     *[("second step of " + tree, in_list(i, BAD_SECOND)) for i, tree in enumerate(TREES)],
     ("second step of all four", {"lists": [BAD_SECOND] * 4}),
     ("four good lists", {"lists": [GOOD_TWO] * 4}),
+    # 16
+    *[("%r in lots of %r" % (q, lot), DUE | {"sizing": ("quantity", q), "lot": lot})
+      for q, lot in ((3.7, 1.0), (0.5, 1.0), (1.0, 2.0**-52), (1.0, 2.0**-53), (1.0 - 2.0**-53, 2.0**-53), (1.0, 5e-324), (900.0, 1e300))],
+    ("short in lots of 3", DUE | {"order": 2, "lot": 3.0}),
+    ("the cap in too many lots", DUE | {"sizing": ("quantity", 1e300), "lot": 2.0**-44}),
+    ("the cap in lots", DUE | {"sizing": ("quantity", 1e300), "lot": 2.0**-43}),
+    ("no entry due, a lot of the least number", {"lot": 5e-324}),
+    ("an exit due, a lot of the least number", {"order": 3, "lot": 5e-324, "qty": 0.0, "entered": None}),
     # several at once
     *[(" ".join(str(n) for n, _ in FAULTS[i:]), {k: v for _, fault in reversed(FAULTS[i:]) for k, v in fault.items()})
       for i in range(len(FAULTS))],

@@ -15,7 +15,9 @@ ORACLE = os.path.join(HERE, "../oracle/target/release/oracle")
 
 # The rooms of a run.
 ROW_ROOM, EQUITY_ROOM, TRADE_ROOM = 4096, 4096, 8192
+# A run's settings, and one word more where it has a lot, which is setting 24.
 RUN_WORDS = 25
+LOT = 24
 
 
 def oracle(*args, given=None):
@@ -120,9 +122,10 @@ def rule_case(data, rows, count, position, told):
 
 def settings_of(run):
     """The settings of a run's first line, in which each optional one stands behind a flag."""
-    assert len(run) == RUN_WORDS
+    assert len(run) in (RUN_WORDS, RUN_WORDS + 1)
     optional = [run[i + 1] if run[i] else None for i in range(12, 22, 2)]
-    return setting_words([*run[:12], 0, 0, 0, 0, 0, *run[22:]], optional)
+    values = [*run[:12], 0, 0, 0, 0, 0, *run[22:RUN_WORDS]]
+    return setting_words([*values, *[0] * (LOT - len(values)), *run[RUN_WORDS:]], optional)
 
 
 def fresh_call(run):
@@ -144,13 +147,17 @@ def runs(name):
             yield lend(EQUITY, [], EQUITY_ROOM)
             yield lend(TRADES, [], TRADE_ROOM)
             yield fresh_call(run)
+            seen = 0
         elif letter == "T":
             data = bytes.fromhex(rest)
             yield lend_bytes(TABLE, data)
             for tree in range(4):
                 yield tables.translate_call(data, tree)
         elif letter == "B":
-            yield line(STEP, *words(rest)), line(0, *words(next(answers)))
+            answer = next(answers)
+            refused = answer == "refused 16"
+            yield line(STEP, *words(rest)), line(refusal(16, seen)) if refused else line(0, *words(answer))
+            seen += not refused
         else:
             yield line(FINISH), line(0, *words(next(answers)))
     assert next(answers, None) is None

@@ -61,7 +61,7 @@ def lend_bytes(room, data):
 
 
 def setting_words(values, optional):
-    """Settings 0 to 19; the optional ones, None where they are not given, stand from 12 on."""
+    """Settings from 0 on; the optional ones, None where they are not given, stand from 12 on."""
     values = list(values)
     mask = 0
     for i, value in enumerate(optional, FIRST_OPTIONAL):

@@ -98,6 +98,7 @@ pub fn setting_words(s: &Settings) -> [u64; SETTING_WORDS] {
     words[17] = s.risk.liquidation.into();
     words[18] = s.partial_fills.into();
     words[19] = s.participation.to_bits();
+    words[24] = s.lot.to_bits();
     words
 }
 

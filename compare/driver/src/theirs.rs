@@ -48,6 +48,11 @@ impl Theirs {
         Self { run, reading }
     }
 
+    /// Whether the bar is to be refused with 16: an entry that is due would be of too many lots.
+    pub fn is_turned_away(&self, bar: &Bar) -> bool {
+        self.run.is_turned_away(&bar.candle).expect("sizing that the original takes")
+    }
+
     /// One bar; what the original refuses it with.
     pub fn step(&mut self, bar: &Bar) -> Result<(), String> {
         let stepped = self.run.step(&bar.candle, &bar.slots, tick(bar).as_ref());

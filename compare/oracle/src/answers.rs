@@ -86,6 +86,7 @@ pub fn bare_settings() -> Settings {
         risk: Risk::default(),
         partial_fills: false,
         participation: 0.0,
+        lot: 0.0,
     }
 }
 
@@ -308,6 +309,9 @@ impl Runs {
         let slots = slots_of(&mut words, mask, self.settings.expect("R stands before B").slots);
         let tick = funding_of(&mut words);
         assert!(words.is_done(), "words left over");
+        if self.reading == Reading::Paper && run.is_turned_away(&candle).expect("sizing that the original takes") {
+            return TURNED_AWAY.into();
+        }
         let closed = run.latest().1.len();
         if let Err(refusal) = run.step(&candle, &slots, tick.as_ref()) {
             return refused(&refusal);
@@ -326,6 +330,9 @@ impl Runs {
         report.trades[closed..].iter().fold(line, Line::trade).text()
     }
 }
+
+/// What a bar of too many lots is answered with: refusal 16, at the bars seen.
+const TURNED_AWAY: &str = "refused 16";
 
 /// What the original refuses and document 01 does not (`Reading::Rust` only).
 fn refused(refusal: &BacktestError) -> String {

@@ -38,6 +38,8 @@ pub struct Settings {
     pub risk: Risk,
     pub partial_fills: bool,
     pub participation: f64,
+    /// Number 24; the text has no lots.
+    pub lot: f64,
 }
 
 /// The square root.
@@ -84,7 +86,7 @@ pub fn spec_of(settings: &Settings, table: &table::Table, reading: Reading) -> S
 
 /// A run of a table, ready for its first bar.
 pub fn run_of(settings: &Settings, table: &table::Table, reading: Reading) -> Result<engine::reach::Run> {
-    engine::reach::Run::new(spec_of(settings, table, reading), settings.capital, reading)
+    engine::reach::Run::new(spec_of(settings, table, reading), settings.capital, settings.lot, reading)
 }
 
 /// Metrics; by document 01 a profit factor without a win is +0.0, in the text −0.0.

@@ -179,6 +179,7 @@ impl Words {
             risk: self.risk(),
             partial_fills: self.flag(),
             participation: self.float(),
+            lot: if self.is_done() { 0.0 } else { self.float() },
         }
     }
 }
@@ -311,5 +312,15 @@ impl Line {
             .risk(&s.risk)
             .flag(s.partial_fills)
             .float(s.participation)
+            .lot(s.lot)
+    }
+
+    /// A lot of +0.0 is left out: a line of settings without one is what it was before there were lots.
+    fn lot(self, lot: f64) -> Self {
+        if lot.to_bits() == 0 {
+            self
+        } else {
+            self.float(lot)
+        }
     }
 }

@@ -59,6 +59,14 @@ fn the_last_fee_is_missing_from_the_figures_of_the_text() {
 }
 
 #[test]
+fn the_text_has_no_lots() {
+    let (paper, rust) = both_readings(7);
+    let qty = |answers: &[String]| answers[2].split(' ').nth(9 + 4).map(str::to_string);
+    let word = |x: f64| Some(Line::new().float(x).text());
+    assert_eq!((qty(&paper), qty(&rust)), (word(48.0), word(50.0)));
+}
+
+#[test]
 fn a_sum_of_nothing_is_minus_zero_in_the_text() {
     let loss = Line::new()
         .word(0)
@@ -105,7 +113,7 @@ fn a_run_of_no_bars_is_refused_by_the_batch_calls_and_finishes_bar_by_bar() {
     };
     let spec = spec_of(&bare_settings(), &table, Reading::Rust);
     assert!(run_with_capital(&spec, &[], 100.0).is_err());
-    let report = Run::new(spec, 100.0, Reading::Rust).expect("a good spec").finish();
+    let report = Run::new(spec, 100.0, 0.0, Reading::Rust).expect("a good spec").finish();
     assert_eq!((report.metrics.num_trades, report.equity.len()), (0, 0));
 }
 

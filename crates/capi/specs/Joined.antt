@@ -28,7 +28,8 @@ use Rattle.engine.specs.Laws.Floats.{step-floats, run-floats, end-floats}
 use Rattle.engine.specs.Laws.Lengths.{overwrite-length}
 use Rattle.engine.specs.Laws.Runs.{run-none, run-stops, run-takes}
 use Rattle.engine.specs.Run.{runOver}
-use Rattle.engine.specs.Step.{With, stepped, answered, stepAnswer}
+use Rattle.engine.specs.Laws.Verdict.{handed-bad}
+use Rattle.engine.specs.Step.{With, stepped, answered, sizeLines, stepVerdict, stepAnswer}
 use Rattle.capi.specs.Call.{Call, answerWord, callOf, unlessBad, wordLines, metricLines}
 use Rattle.capi.specs.Bars.{StepLent, lentLines, stepGives, stepCall}
 use Rattle.capi.specs.Finish.{FinishLent, finishGives, finishCall}
@@ -70,18 +71,20 @@ module _ (settings room : List ℕ) (set : settingWords ≤ length settings) (lo
 
 -- and the engine asks for it first
 room-first : (s : Settings) (t : State) (bar : List ℕ) (m : Rooms) (ls : Lists) (r : Refusal) → judged (roomLines s (m .rows)) ≡ Bad r
-    → stepJudged s t bar m ls ≡ Bad r
+    → stepVerdict s t bar m ls ≡ Bad r
 unfolding stepJudged stepLines runLines
-room-first s t bar m ls r e = below-bad (runLines s t m) _ r (unfold runLines in below-bad (roomLines s (m .rows)) _ r e)
+room-first s t bar m ls r e = handed-bad s t bar m ls r (below-bad (runLines s t m) _ r (unfold runLines in below-bad (roomLines s (m .rows)) _ r e))
 
 finish-room-first : (s : Settings) (t : State) (m : Rooms) (r : Refusal) → judged (roomLines s (m .rows)) ≡ Bad r → finishJudged s t m ≡ Bad r
 unfolding finishJudged finishLines
 finish-room-first s t m r e = below-bad (roomLines s (m .rows)) _ r e
 
 -- where the engine goes on, the room of rows has passed
-room-passed : (s : Settings) (t : State) (bar : List ℕ) (m : Rooms) (ls : Lists) → stepJudged s t bar m ls ≡ Fine → judged (roomLines s (m .rows)) ≡ Fine
-unfolding stepJudged stepLines runLines
-room-passed s t bar m ls e = both-fine (roomLines s (m .rows)) _ (both-fine (runLines s t m) _ e .0) .0
+room-passed : (s : Settings) (t : State) (bar : List ℕ) (m : Rooms) (ls : Lists) → stepVerdict s t bar m ls ≡ Fine → judged (roomLines s (m .rows)) ≡ Fine
+unfolding stepVerdict stepLines runLines
+room-passed s t bar m ls e =
+    let handed = both-fine (stepLines s t bar m ls) (sizeLines s t bar m) e .0 in
+    both-fine (roomLines s (m .rows)) _ (both-fine (runLines s t m) _ handed .0) .0
 
 finish-room-passed : (s : Settings) (t : State) (m : Rooms) → finishJudged s t m ≡ Fine → judged (roomLines s (m .rows)) ≡ Fine
 unfolding finishJudged finishLines
@@ -94,7 +97,7 @@ module _ (settings room : List ℕ) (set : settingWords ≤ length settings) (lo
   words-long = rw overwrite-length long
 
   -- a bar that the engine refuses
-  step-bad : (bar : List ℕ) (ls : Lists) (r : Refusal) → stepJudged (settingsOf settings) t bar m ls ≡ Bad r
+  step-bad : (bar : List ℕ) (ls : Lists) (r : Refusal) → stepVerdict (settingsOf settings) t bar m ls ≡ Bad r
       → stepCall settings (overwrite room 0 (wordsOf t)) bar m ls ≡ record { answer = answerWord r; lent = lentWith room t m }
   unfolding stepCall stepAnswer answered stepGives callOf
   step-bad bar ls r e =
@@ -104,7 +107,7 @@ module _ (settings room : List ℕ) (set : settingWords ≤ length settings) (lo
       rw (state-kept t h room long, e, lent-fine settings (overwrite room 0 (wordsOf t)) set words-long (m .rows), again)
 
   -- a bar that it takes
-  step-fine : (bar : List ℕ) (ls : Lists) → stepJudged (settingsOf settings) t bar m ls ≡ Fine →
+  step-fine : (bar : List ℕ) (ls : Lists) → stepVerdict (settingsOf settings) t bar m ls ≡ Fine →
       (let d = stepped (settingsOf settings) t bar m ls in
       stepCall settings (overwrite room 0 (wordsOf t)) bar m ls ≡ record { answer = 0; lent = lentWith room (d .result) (d .rooms) })
   unfolding stepCall stepAnswer answered stepGives callOf unlessBad
@@ -120,7 +123,7 @@ module _ (settings room : List ℕ) (set : settingWords ≤ length settings) (lo
 -- ---- bar after bar
 
 module _ (settings room : List ℕ) (set : settingWords ≤ length settings) (long : stateWords ≤ length room) (ls : Lists) where
-  one-bar : (bar : List ℕ) (bars : List (List ℕ)) (t : State) (m : Rooms) → Floats64 t → (v : Verdict) → stepJudged (settingsOf settings) t bar m ls ≡ v →
+  one-bar : (bar : List ℕ) (bars : List (List ℕ)) (t : State) (m : Rooms) → Floats64 t → (v : Verdict) → stepVerdict (settingsOf settings) t bar m ls ≡ v →
       (let d = stepped (settingsOf settings) t bar m ls in
       callsOver settings ls (lentWith room (d .result) (d .rooms)) bars ≡ inWords room (runOver (settingsOf settings) ls (d .result) (d .rooms) bars))
       → callsOver settings ls (lentWith room t m) (bar ∷ bars) ≡ inWords room (runOver (settingsOf settings) ls t m (bar ∷ bars))
@@ -140,7 +143,7 @@ module _ (settings room : List ℕ) (set : settingWords ≤ length settings) (lo
       → callsOver settings ls (lentWith room t m) bars ≡ inWords room (runOver (settingsOf settings) ls t m bars)
   calls-run [] t m h = rw run-none (unfold callsOver answerOf in refl)
   calls-run (bar ∷ bars) t m h =
-      one-bar bar bars t m h (stepJudged (settingsOf settings) t bar m ls) refl (calls-run bars _ _ (step-floats (settingsOf settings) t bar m ls h))
+      one-bar bar bars t m h (stepVerdict (settingsOf settings) t bar m ls) refl (calls-run bars _ _ (step-floats (settingsOf settings) t bar m ls h))
 
 -- ---- the end
 
@@ -176,8 +179,12 @@ module _ (settings room : List ℕ) (set : settingWords ≤ length settings) (lo
       let s : Settings = settingsOf settings in
       let again : _≡_ {A = Outcome FinishLent} (unlessBad (judged (roomLines s (m .rows))) (refuses r)) (refuses r) =
       first-agrees _ _ (λ q f. let same : Bad r ≡ Bad q = sym e ∙ finish-room-first s t m q f in cc) in
-      rw (state-kept t h room long, e,
-      finish-fine settings (overwrite room 0 (wordsOf t)) set (words-long settings room set long t h m) metrics nine (m .rows), again)
+      rw (
+        state-kept t h room long,
+        e,
+        finish-fine settings (overwrite room 0 (wordsOf t)) set (words-long settings room set long t h m) metrics nine (m .rows),
+        again,
+      )
 
   end-fine : finishJudged (settingsOf settings) t m ≡ Fine
       → (call .answer ≡ 0) × (call .lent .state ≡ overwrite room 0 (wordsOf (end .result .state))) × (call .lent .equity ≡ end .rooms .equity)

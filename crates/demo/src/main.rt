@@ -180,6 +180,7 @@ fn settings() -> Settings {
             slippage: Slippage::FixedBps(0.0),
             partial_fills: false,
             max_participation: 0.0,
+            lot: 0.0,
         },
         funding: false,
     }

@@ -1,11 +1,13 @@
 -- The phases of a step, each by its own definition, make the whole.
 use Prim.Native.Nat.{ℕ, _+_}
 use mathlib.Core.Path.{_≡_, refl, ap}
+use mathlib.Core.Bool.{true, false}
 use mathlib.Core.List.{List}
 use Rattle.rows.specs.History.{historyOf}
 use Rattle.rows.specs.Room.{withRow, heldWith}
 use Rattle.portfolio.specs.declared.Candle.{Candle}
 use Rattle.words.specs.declared.refusal.Refusal.{Refusal}
+use Rattle.words.specs.Outcome.{refusal}
 use Rattle.records.specs.declared.state.Order.{Order}
 use Rattle.records.specs.declared.state.Position.{Position}
 use Rattle.records.specs.declared.settings.Settings.{Settings}
@@ -13,6 +15,7 @@ use Rattle.records.specs.declared.state.State.{State}
 use Rattle.refusals.specs.declared.verdict.Verdict.the-variants.{Fine, Bad}
 use Rattle.records.specs.Bar.{candleOf}
 use Rattle.refusals.specs.Laws.Fine.{step-fine}
+use Rattle.refusals.specs.Lines.{judged}
 use Rattle.refusals.specs.Judgement.{stepJudged}
 use Rattle.records.specs.Lent.{Lists, Rooms}
 use Rattle.engine.specs.declared.account.Filled.{Filled}
@@ -23,7 +26,8 @@ use Rattle.engine.specs.Account.{filled, intrabar, charged}
 use Rattle.engine.specs.Books.{booked, marked}
 use Rattle.engine.specs.Decide.{decided}
 use Rattle.engine.specs.Record.{rowOf, heldRows}
-use Rattle.engine.specs.Step.{Is, Ready, stepped, answered, stepAnswer}
+use Rattle.engine.specs.Laws.Verdict.{handed-bad, handed-fine}
+use Rattle.engine.specs.Step.{Is, Ready, fillOf, stepped, answered, sizeLines, advanced, stepAnswer}
 
 module _ (s : Settings) (t : State) (bar : List ℕ) (m : Rooms) (ls : Lists) where
   pub phases : (k : Candle) (f : Filled) (x : Left) (p : Position) (o : Order) (sold held stopped points : ℕ) (ts us ws es : List ℕ)
@@ -50,15 +54,31 @@ module _ (s : Settings) (t : State) (bar : List ℕ) (m : Rooms) (ls : Lists) wh
       rw (eo, em .0, em .1, ep, es₂ .0, es₂ .1, ex, er .0, er .1, es₁ .0, es₁ .1, ef, ek)
       (record { result = refl; rows = refl; equity = refl; trades = refl })
 
+  -- a fill that is turned away, and one that is not
+  module _ {k : Candle} {f : Filled} (ek : k ≡ candleOf bar)
+      (ef : f ≡ filled s (t .order) (t .position) k
+      (historyOf (s .slots) (heldRows (s .slots) (t .counts .«rows_held») (m .rows))) (t .counts .«bars_seen»)) where
+    same-fill : fillOf s t bar m .«turned_away» ≡ f .«turned_away»
+    same-fill = rw (ef, ek)
+
+    pub away : f .«turned_away» ≡ true → Is Answer (advanced s t bar m ls) (Refused (refusal 16 (t .counts .«bars_seen»)) t) (m .rows) (m .equity) (m .trades)
+    unfolding advanced answered sizeLines judged
+    away h = rw (same-fill, h) (record { result = refl; rows = refl; equity = refl; trades = refl })
+
+    pub goes : f .«turned_away» ≡ false → (r : State) (ws es us : List ℕ) → Is State (stepped s t bar m ls) r ws es us
+        → Is Answer (advanced s t bar m ls) (Done r) ws es us
+    unfolding advanced answered sizeLines judged
+    goes h r ws es us d = rw (same-fill, h) (record { result = ap Done (d .result); rows = d .rows; equity = d .equity; trades = d .trades })
+
   pub ready : stepJudged s t bar m ls ≡ Fine → Ready s t
   ready h = let f = step-fine s t bar m ls h in record { slots = f .settings .slots; bars = f .bars }
 
   pub refused : (why : Refusal) → stepJudged s t bar m ls ≡ Bad why
       → Is Answer (stepAnswer s t bar m ls) (Refused why t) (m .rows) (m .equity) (m .trades)
   unfolding stepAnswer answered
-  refused why h = rw h (record { result = refl; rows = refl; equity = refl; trades = refl })
+  refused why h = rw (handed-bad s t bar m ls why h) (record { result = refl; rows = refl; equity = refl; trades = refl })
 
-  pub went : stepJudged s t bar m ls ≡ Fine → (r : State) (ws es us : List ℕ) → Is State (stepped s t bar m ls) r ws es us
-      → Is Answer (stepAnswer s t bar m ls) (Done r) ws es us
-  unfolding stepAnswer answered
-  went h r ws es us d = rw h (record { result = ap Done (d .result); rows = d .rows; equity = d .equity; trades = d .trades })
+  pub went : stepJudged s t bar m ls ≡ Fine → (r : Answer) (ws es us : List ℕ) → Is Answer (advanced s t bar m ls) r ws es us
+      → Is Answer (stepAnswer s t bar m ls) r ws es us
+  unfolding stepAnswer advanced
+  went h r ws es us d = rw (handed-fine s t bar m ls h) d

@@ -1,6 +1,6 @@
 -- "One bar", what it does to the account: the fill, the exits inside the bar, funding.
 use Prim.Native.Nat.{ℕ, _-_}
-use mathlib.Core.Bool.{cond}
+use mathlib.Core.Bool.{false, cond}
 use mathlib.Core.List.{List}
 use lib.Dec.{ltb}
 use Rattle.rows.specs.History.{History}
@@ -8,13 +8,13 @@ use Rattle.rules.specs.declared.Entered.the-variants.{Never, Bar}
 use Rattle.portfolio.specs.declared.Candle.{Candle}
 use Rattle.portfolio.specs.Trade.{signal}
 use Rattle.execution.specs.declared.Entry.{Entry}
-use Rattle.execution.specs.declared.Entry.the-variants.{NoEntry, Entered}
+use Rattle.execution.specs.declared.Entry.the-variants.{NoEntry, TooLarge, Entered}
 use Rattle.execution.specs.declared.Exit.{Exit}
 use Rattle.execution.specs.declared.Exit.the-variants.{NoExit, Exited}
 use Rattle.execution.specs.declared.Side.{Side}
 use Rattle.execution.specs.declared.Side.the-variants.{Long, Short}
 use Rattle.execution.specs.Costs.{chargeFunding}
-use Rattle.execution.specs.Fills.{executeEntry, executeExit}
+use Rattle.execution.specs.Fills.{executeEntry, executeExit, isTurnedAway}
 use Rattle.execution.specs.Intrabar.{extremeWith, applyIntrabarExits}
 use Rattle.records.specs.declared.state.Order.{Order}
 use Rattle.records.specs.declared.state.Order.the-variants.{Idle, EnterLong, EnterShort, Exit as ExitOrder}
@@ -38,23 +38,25 @@ leaving p (Exited c) = record { portfolio = c .portfolio; entered = Never; extre
 -- `execute_entry`: where it opens a position, `entry_bar = Some(bar);  extreme = fill;`. "An entry that sizes to nothing is dropped."
 unfoldable pub entering : Position → Entry → ℕ → Position
 entering p NoEntry number = p
+entering p TooLarge number = p
 entering p (Entered portfolio fill) number = record { portfolio = portfolio; entered = Bar number; extreme = fill }
 
 -- nothing happens but to the order
 abbrev pub waiting : Order → Position → Filled
-waiting order p = record { order = order; position = p; «exit» = NoExit }
+waiting order p = record { order = order; position = p; «exit» = NoExit; «turned_away» = false }
 
 -- "at the open, with the rate of `slippage_rate`"; "Realized volatility reads the rows before this bar."
 -- Decided: an order filled or dropped no longer works.
 unfoldable pub entered : Side → Settings → Position → Candle → History → ℕ → Filled
 entered side s p k before number =
-    waiting Idle (entering p (executeEntry side (k .«open») (s .terms) k (p .portfolio) before) number)
+    let e = executeEntry side (k .«open») (s .terms) k (p .portfolio) before in
+    record { order = Idle; position = entering p e number; «exit» = NoExit; «turned_away» = isTurnedAway e }
 
 -- "Exit only if |qty| > EPS."
 unfoldable pub exited : Settings → Position → Candle → Filled
 exited s p k =
     let x = executeExit signal (k .«open») (s .terms) k (p .portfolio) in
-    record { order = Idle; position = leaving p x; «exit» = x }
+    record { order = Idle; position = leaving p x; «exit» = x; «turned_away» = false }
 
 -- "Fill: a delay above 0 counts down by 1; otherwise at the open"
 unfoldable pub filled : Settings → Order → Position → Candle → History → ℕ → Filled

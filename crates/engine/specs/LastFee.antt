@@ -28,9 +28,8 @@ use Rattle.records.specs.Lent.{Lists, Rooms, rowPlaces, pointPlaces, tradePlace
 use Rattle.records.specs.State.{freshState}
 use Rattle.refusals.specs.declared.verdict.Verdict.{Verdict}
 use Rattle.refusals.specs.declared.verdict.Verdict.the-variants.{Fine, Bad}
-use Rattle.refusals.specs.Judgement.{stepJudged, finishLines, finishJudged}
+use Rattle.refusals.specs.Judgement.{finishLines, finishJudged}
 use Rattle.refusals.specs.Lines.{judged}
-use Rattle.refusals.specs.Laws.Fine.{step-fine}
 use Rattle.refusals.specs.Laws.Lines.{and-true, first-holds, below-fine, both-fine}
 use Rattle.refusals.specs.Rooms.{roomLines, stateLines, toClose, closeLines}
 use Rattle.refusals.specs.Settings.{settingLines}
@@ -45,8 +44,9 @@ use Rattle.engine.specs.Laws.LastPoint.{remarked-length}
 use Rattle.engine.specs.Laws.Lengths.{overwrite-length, booked-fits}
 use Rattle.engine.specs.Laws.OneTrade.{closed-is-flat, books}
 use Rattle.engine.specs.Laws.Runs.{run-keeps}
+use Rattle.engine.specs.Laws.Verdict.{verdict-fine}
 use Rattle.engine.specs.Run.{Run, runOver}
-use Rattle.engine.specs.Step.{With, stepped}
+use Rattle.engine.specs.Step.{With, stepped, stepVerdict}
 
 -- what a finish that is not refused gives
 finish-gives : (v : Verdict) (t : State) (m : Rooms) (done : With Ended) (u : State) (f : Metrics) → concluded v t m done .result ≡ Done u f
@@ -84,12 +84,12 @@ second-word room n a b h =
     (rw long at (getD-append-add (take at room) ((a ∷ b ∷ []) ++ drop (at + 2) room) 1 0))
 
 -- the step marks what the account is worth
-step-marked : (s : Settings) (ls : Lists) (t : State) (m : Rooms) (bar : List ℕ) → stepJudged s t bar m ls ≡ Fine
+step-marked : (s : Settings) (ls : Lists) (t : State) (m : Rooms) (bar : List ℕ) → stepVerdict s t bar m ls ≡ Fine
     → Marked (stepped s t bar m ls .result) (stepped s t bar m ls .rooms)
 unfolding stepped marked wordsOfPoint
 step-marked s ls t m bar fine =
     let n : ℕ = t .counts .«equity_points» in
-    let place = step-fine s t bar m ls fine .points in
+    let place = verdict-fine s t bar m ls fine .points in
     let back : n + 1 - 1 ≡ n = omega arith in
     rw (lt-ltb n (pointPlaces (m .equity)) place)
     (record {

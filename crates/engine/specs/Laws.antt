@@ -2,6 +2,7 @@ pub mod Lengths
 pub mod OneTrade
 pub mod Quiet
 pub mod Refusal
+pub mod Verdict
 pub mod Runs
 pub mod Counts
 pub mod Floats

@@ -9,6 +9,7 @@ pub mod Rules
 pub mod Whole
 pub mod Boxes
 pub mod Laws
+pub mod Lots
 pub mod WholeHistory
 pub mod AsMeant
 pub mod SameRun

@@ -2,7 +2,8 @@
 -- close, decide."
 use Prim.Native.Nat.{ℕ, _+_, _≤_, _<_}
 use mathlib.Core.Path.{_≡_}
-use mathlib.Core.List.{List}
+use mathlib.Core.Bool.{not}
+use mathlib.Core.List.{List, [], _∷_, _++_}
 use Rattle.words.specs.Limits.{mostCount, mostSlots}
 use Rattle.rows.specs.History.{historyOf}
 use Rattle.rows.specs.Room.{withRow, heldWith}
@@ -11,10 +12,12 @@ use Rattle.records.specs.declared.state.State.{State}
 use Rattle.refusals.specs.declared.verdict.Verdict.{Verdict}
 use Rattle.refusals.specs.declared.verdict.Verdict.the-variants.{Fine, Bad}
 use Rattle.records.specs.Bar.{candleOf}
-use Rattle.refusals.specs.Judgement.{stepJudged}
+use Rattle.refusals.specs.Lines.{Line, line, judged}
+use Rattle.refusals.specs.Judgement.{stepLines}
 use Rattle.records.specs.Lent.{Lists, Rooms}
 use Rattle.engine.specs.declared.Answer.{Answer}
 use Rattle.engine.specs.declared.Answer.the-variants.{Refused, Done}
+use Rattle.engine.specs.declared.account.Filled.{Filled}
 use Rattle.engine.specs.Account.{filled, intrabar, charged}
 use Rattle.engine.specs.Books.{booked, marked}
 use Rattle.engine.specs.Decide.{decided}
@@ -25,13 +28,18 @@ pub record With (A : Type 0) : Type 0 where
   pub result : A
   pub rooms : Rooms
 
+-- what the working order comes to as the bar opens, over the rows held before it
+abbrev pub fillOf : Settings → State → List ℕ → Rooms → Filled
+fillOf s t bar m =
+    filled s (t .order) (t .position) (candleOf bar)
+    (historyOf (s .slots) (heldRows (s .slots) (t .counts .«rows_held») (m .rows))) (t .counts .«bars_seen»)
+
 -- The phases in the paper's order. Each takes the part of the state that it changes.
 unfoldable pub stepped : Settings → State → List ℕ → Rooms → Lists → With State
 stepped s t bar m ls =
     let n = t .counts in
     let k = candleOf bar in
-    let before = historyOf (s .slots) (heldRows (s .slots) (n .«rows_held») (m .rows)) in
-    let f = filled s (t .order) (t .position) k before (n .«bars_seen») in
+    let f = fillOf s t bar m in
     let sold = booked (m .trades) (n .trades) (f .«exit») in
     let rows = withRow (m .rows) (n .«rows_held») (rowOf (s .slots) bar) in
     let held = heldWith (m .rows) (n .«rows_held») (rowOf (s .slots) bar) in
@@ -55,8 +63,20 @@ unfoldable pub answered : Verdict → State → Rooms → With State → With An
 answered (Bad why) t m done = record { result = Refused why t; rooms = m }
 answered Fine t m done = record { result = Done (done .result); rooms = done .rooms }
 
+-- "too large a quotient gives 16 at bars seen, after 15, and the step changes nothing"
+unfoldable pub sizeLines : Settings → State → List ℕ → Rooms → List Line
+sizeLines s t bar m = line (not (fillOf s t bar m .«turned_away»)) 16 (t .counts .«bars_seen») ∷ []
+
+-- of a step that was handed what it can use
+unfoldable pub advanced : Settings → State → List ℕ → Rooms → Lists → With Answer
+advanced s t bar m ls = answered (judged (sizeLines s t bar m)) t m (stepped s t bar m ls)
+
+-- "10, 12, 13, 14, 11, 15", then 16
+unfoldable pub stepVerdict : Settings → State → List ℕ → Rooms → Lists → Verdict
+stepVerdict s t bar m ls = judged (stepLines s t bar m ls ++ sizeLines s t bar m)
+
 unfoldable pub stepAnswer : Settings → State → List ℕ → Rooms → Lists → With Answer
-stepAnswer s t bar m ls = answered (stepJudged s t bar m ls) t m (stepped s t bar m ls)
+stepAnswer s t bar m ls = answered (stepVerdict s t bar m ls) t m (stepped s t bar m ls)
 
 -- each part is the definition's
 pub record Is (A : Type 0) (d : With A) (r : A) (ws es ts : List ℕ) : Type 0 where

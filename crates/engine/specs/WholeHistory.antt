@@ -14,7 +14,6 @@ use Rattle.records.specs.Lent.{Lists, Rooms, rowPlaces}
 use Rattle.records.specs.State.{freshState}
 use Rattle.refusals.specs.declared.verdict.Verdict.{Verdict}
 use Rattle.refusals.specs.declared.verdict.Verdict.the-variants.{Fine, Bad}
-use Rattle.refusals.specs.Judgement.{stepJudged}
 use Rattle.engine.specs.Boxes.{Grown, Follows}
 use Rattle.engine.specs.Laws.AccountStep.{taken-as-meant}
 use Rattle.engine.specs.Laws.Follows.{step-follows, step-grows, run-follows}
@@ -24,7 +23,7 @@ use Rattle.engine.specs.Laws.Window.{row-added}
 use Rattle.engine.specs.Record.{rowOf, heldRows}
 use Rattle.engine.specs.Rules.{rulesOf, FromTable}
 use Rattle.engine.specs.Run.{Run, runOver}
-use Rattle.engine.specs.Step.{With, stepped}
+use Rattle.engine.specs.Step.{With, stepped, stepVerdict}
 use Rattle.engine.specs.Whole.{accountOf, rowsHeld, byMeaning, taken, lastOf, rowsOf}
 
 -- ---- a room with a place for every bar
@@ -53,7 +52,7 @@ unfolding flatMap
 rows-all s ls [] t m fit = rw (run-none s ls t m) (sym (append-nil _))
 rows-all s ls (bar ∷ bars) t m fit =
     let more = rows-more s ls t m bar (omega arith) in
-    go (stepJudged s t bar m ls) refl
+    go (stepVerdict s t bar m ls) refl
     (rows-all s ls bars (stepped s t bar m ls .result) (stepped s t bar m ls .rooms) (rw (more .0, more .1) (omega arith)))
   where
     d : With State
@@ -62,7 +61,7 @@ rows-all s ls (bar ∷ bars) t m fit =
     later : Run
     later = runOver s ls (d .result) (d .rooms) bars
 
-    go : (v : Verdict) → stepJudged s t bar m ls ≡ v
+    go : (v : Verdict) → stepVerdict s t bar m ls ≡ v
         → rowsHeld s (later .state) (later .rooms) ≡ rowsHeld s (d .result) (d .rooms) ++ rowsOf s (take (later .done) bars)
         → let r = runOver s ls t m (bar ∷ bars) in
         rowsHeld s (r .state) (r .rooms) ≡ rowsHeld s t m ++ rowsOf s (take (r .done) (bar ∷ bars))
@@ -91,7 +90,7 @@ pub record WholeHistory (s : Settings) (ls : Lists) (m : Rooms) (bars : List (Li
       → rowsHeld s (r .state) (r .rooms) ≡ rowsOf s (take (r .done) bars)
   -- The next bar that is taken: its fill, volatility sizing too, is over the rows of ALL bars before it, and its decision is what
   -- the table's rules mean over the rows of all bars and its own; so are the point and the trades that it adds.
-  pub next : (table : List ℕ) → FromTable table s ls → (bar : List ℕ) → stepJudged s (r .state) bar (r .rooms) ls ≡ Fine
+  pub next : (table : List ℕ) → FromTable table s ls → (bar : List ℕ) → stepVerdict s (r .state) bar (r .rooms) ls ≡ Fine
       → let d = stepped s (r .state) bar (r .rooms) ls in
       let b = taken s (byMeaning s (rulesOf table)) (accountOf (r .state)) (rowsOf s (take (r .done) bars)) bar in
       (accountOf (d .result) ≡ b .account) × Grown (r .state) (r .rooms) (d .result) (d .rooms) (b .point ∷ []) (b .trades)

@@ -23,11 +23,12 @@ use records::state::Order;
 use records::state::Position;
 use rules::Entered;
 
-// The fill's order and position, and the trade where it closed one.
+// The fill's order and position, the trade where it closed one, and whether its quantity is too large: the step is then refused.
 pub struct Filled {
     pub order: Order,
     pub position: Position,
     pub exit: Exit,
+    pub turned_away: bool,
 }
 
 // What is due at a bar's open for the working order: it only waits, a position is entered, or it is left.
@@ -66,6 +67,7 @@ fn entering(p: Position, entry: Entry, number: u64) -> Position
 {
     match entry {
         Entry::NoEntry => p,
+        Entry::TooLarge => p,
         Entry::Entered(account, fill) => Position {
             portfolio: account,
             entered: Entered::Bar(number),
@@ -97,6 +99,7 @@ fn enter(
         order: Order::Idle,
         position,
         exit: Exit::NoExit,
+        turned_away: entry.is_turned_away(),
     }
 }
 
@@ -112,6 +115,7 @@ fn leave(s: Settings, p: Position, candle: Candle) -> Filled
         order: Order::Idle,
         position,
         exit,
+        turned_away: false,
     }
 }
 
@@ -123,6 +127,7 @@ fn wait(order: Order, p: Position) -> Filled
         order,
         position: p,
         exit: Exit::NoExit,
+        turned_away: false,
     }
 }
 

@@ -7,7 +7,7 @@ mod record;
 
 ghost use Rattle.records.specs.Lent.{rooms, lists};
 ghost use Rattle.engine.specs.Finish.{finishOf};
-ghost use Rattle.engine.specs.Step.{Ready, Is, stepped, stepAnswer};
+ghost use Rattle.engine.specs.Step.{Ready, Is, advanced, stepAnswer};
 use metrics::Metrics;
 use records::settings::Settings;
 use records::state::Counts;
@@ -28,7 +28,8 @@ pub enum Finished {
     Done(State, Metrics),
 }
 
-// The phases in order, for a step that was judged fine.
+// The phases in order, for a step that was handed what it can use. The fill is known before anything is written: one that is turned
+// away is refused with 16.
 fn advance<'a>(
     s: Settings,
     t: State,
@@ -40,9 +41,9 @@ fn advance<'a>(
     exit: &'a [u8],
     short_entry: &[u8],
     short_exit: &'a [u8],
-) -> State
+) -> Answer
     requires { ⌜ Ready s t ⌝ }
-    ensures { λ r. ⌜ Is State (stepped s t (now (bar .entry))
+    ensures { λ r. ⌜ Is Answer (advanced s t (now (bar .entry))
         (rooms (now (rows .entry)) (now (equity .entry)) (now (trades .entry)))
         (lists (now (entry .entry)) (now («exit» .entry)) (now («short_entry» .entry)) (now («short_exit» .entry))))
         r (now (rows .exit)) (now (equity .exit)) (now (trades .exit)) ⌝ }
@@ -53,6 +54,15 @@ fn advance<'a>(
     let number = n.bars_seen;
     let candle = records::bar::candle_of(bar);
     let filled = account::fill_working_order(s, order, position, candle, rows, n.rows_held, number);
+    if filled.turned_away {
+        return Answer::Refused(
+            Refusal {
+                number: 16,
+                place: number,
+            },
+            t,
+        );
+    }
     let working = filled.order;
     let opened = filled.position;
     let sold = filled.exit;
@@ -77,7 +87,7 @@ fn advance<'a>(
         short_exit,
     );
     let seen = number + 1;
-    State {
+    Answer::Done(State {
         counts: Counts {
             bars_seen: seen,
             rows_held: held,
@@ -90,7 +100,7 @@ fn advance<'a>(
             time: candle.time,
             close: candle.close,
         },
-    }
+    })
 }
 
 // One bar. Any settings, state, bar and rooms get an answer; a refusal changes nothing lent.
@@ -125,7 +135,7 @@ pub fn step<'a>(
     );
     match verdict {
         Verdict::Bad(refusal) => Answer::Refused(refusal, t),
-        Verdict::Fine => Answer::Done(advance(
+        Verdict::Fine => advance(
             s,
             t,
             bar,
@@ -136,7 +146,7 @@ pub fn step<'a>(
             exit,
             short_entry,
             short_exit,
-        )),
+        ),
     }
 }
 

@@ -7,11 +7,15 @@ use lib.Ieee as Ieee
 use lib.Ieee.{Float, binary64, fin}
 use Rattle.floats.specs.Floats as Floats
 use Rattle.floats.specs.Floats.{_⊗_, _⊘_}
+use Rattle.floats.specs.Floor.{floor}
+use Rattle.floats.specs.Sums.{counted}
 use Rattle.portfolio.specs.declared.Candle.{Candle}
 use Rattle.portfolio.specs.Trade.{stopLoss}
 use Rattle.execution.specs.Size.{capped}
+use Rattle.execution.specs.Lots.{wholeLots, inLots}
 use Rattle.execution.specs.Intrabar.{fallTo, fillUnder, fillOver, fired, orElse, firstOf, longExit, intrabarExit}
 use Rattle.execution.specs.declared.Optional.the-variants.{Absent, Of}
+use Rattle.execution.specs.declared.Quantity.the-variants as Quantity
 use Rattle.execution.specs.declared.Risk.{Risk}
 use Rattle.execution.specs.declared.Trigger.the-variants.{Untouched, At}
 
@@ -49,3 +53,13 @@ module _ (time : ℕ) (high close volume extreme : Float) where
 pub nan-capped : (qty price most : Float) → Ieee.isNan (qty ⊗ price) ≡ true → capped qty price most ≡ most ⊘ price
 unfolding Floats.min
 nan-capped qty price most e = rw e
+
+-- 0.1
+abbrev tenth : Float
+tenth = Floats.floatOf 0x3fb9_9999_9999_999a
+
+-- Taken literally, "and again after the partial-fill cap" can lose a lot: 4.35 holds 43 lots of 0.1, and 43 · 0.1 holds 42 by its float quotient.
+pub a-lot-lost : (inLots tenth (Floats.floatOf 0x4011_6666_6666_6666) ≡ Quantity.Of (num 43 ⊗ tenth))
+    × (inLots tenth (num 43 ⊗ tenth) ≡ Quantity.Of (num 42 ⊗ tenth))
+unfolding inLots wholeLots counted floor Ieee.toUnsigned Ieee.ofInt Ieee.ofBits Ieee.eq Ieee.le Ieee.lt Ieee.mul Ieee.div
+a-lot-lost = (refl, refl)

@@ -1,24 +1,26 @@
 -- `execute_entry` and `execute_exit`. Definitions only, each under what the Rust writes.
-use mathlib.Core.Bool.{cond}
+use mathlib.Core.Bool.{Bool, true, false, cond}
 use Prim.Native.Nat.{ℕ}
 use lib.Ieee as Ieee
 use lib.Ieee.{Float}
-use Rattle.floats.specs.Floats.{_⊗_, _≺_, min, eps, zero, one}
+use Rattle.floats.specs.Floats.{_⊗_, _≺_, min, eps, one}
 use Rattle.rows.specs.History.{History}
 use Rattle.portfolio.specs.declared.Candle.{Candle}
 use Rattle.portfolio.specs.declared.Portfolio.{Portfolio}
 use Rattle.portfolio.specs.Portfolio.{inPosition, isLong, entered}
-use Rattle.execution.specs.Optional.{unwrapOr}
 use Rattle.execution.specs.Size.{size}
+use Rattle.execution.specs.Lots.{inLots, sizeInLots, isTooLarge, orZero}
 use Rattle.execution.specs.Volatility.{realizedVol}
 use Rattle.execution.specs.Costs.{slippageRate, fillPrice, takerRate, closed}
 use Rattle.execution.specs.declared.Entry.{Entry}
-use Rattle.execution.specs.declared.Entry.the-variants.{NoEntry, Entered}
+use Rattle.execution.specs.declared.Entry.the-variants.{NoEntry, TooLarge, Entered}
 use Rattle.execution.specs.declared.Exit.{Exit}
 use Rattle.execution.specs.declared.Exit.the-variants.{NoExit, Exited}
 use Rattle.execution.specs.declared.Optional.{Optional}
-use Rattle.execution.specs.declared.Optional.the-variants.{Absent, Of}
-use Rattle.execution.specs.declared.Risk.{Risk}
+use Rattle.execution.specs.declared.Optional.the-variants.{Absent}
+use Rattle.execution.specs.declared.Quantity.{Quantity}
+use Rattle.execution.specs.declared.Quantity.the-variants.{Nothing, Of}
+use Rattle.execution.specs.declared.Quantity.the-variants as Quantity
 use Rattle.execution.specs.declared.Side.{Side}
 use Rattle.execution.specs.declared.Side.the-variants.{Long, Short}
 use Rattle.execution.specs.declared.Sizing.{Sizing}
@@ -43,37 +45,50 @@ volatilityFor (FixedCash cash) h = Absent
 volatilityFor (RiskPerTrade pct) h = Absent
 volatilityFor Sizing.Unknown h = Absent
 
--- `let probe_qty = match slippage { Slippage::VolumeImpact { .. } => size(..)?.unwrap_or(0.0), _ => 0.0 };`
-unfoldable pub probeQty : Slippage → Sizing → Risk → Float → Float → Optional → Float
-probeQty (VolumeImpact coef) sizing r cash raw rv = unwrapOr (size sizing r cash raw rv) zero
-probeQty (FixedBps bps) sizing r cash raw rv = zero
-probeQty Slippage.Unknown sizing r cash raw rv = zero
+-- `size(spec, equity, price, rv)?`, in lots (request 5)
+unfoldable pub quantity : Terms → Float → Float → Optional → Quantity
+quantity terms cash price rv = sizeInLots (terms .lot) (size (terms .sizing) (terms .risk) cash price rv)
 
--- `let base = if partial_fills { base.min(max_participation * volume) } else { base };`
-unfoldable pub withinVolume : Terms → Float → Float → Float
-withinVolume terms base volume = cond (terms .«partial_fills») (min base (terms .«max_participation» ⊗ volume)) base
+-- `let probe_qty = match slippage { Slippage::VolumeImpact { .. } => size(..)?.unwrap_or(0.0), _ => 0.0 };`. "volume slippage probes the
+-- quantity in lots"
+unfoldable pub probeQty : Slippage → Terms → Float → Float → Optional → Quantity
+probeQty (VolumeImpact coef) terms cash raw rv = quantity terms cash raw rv
+probeQty (FixedBps bps) terms cash raw rv = Nothing
+probeQty Slippage.Unknown terms cash raw rv = Nothing
+
+-- `let base = if partial_fills { base.min(max_participation * volume) } else { base };`. "and again after the partial-fill cap where that
+-- is on"
+unfoldable pub withinVolume : Terms → Quantity → Float → Quantity
+withinVolume terms Nothing volume = Nothing
+withinVolume terms Quantity.TooLarge volume = Quantity.TooLarge
+withinVolume terms (Of base) volume =
+    cond (terms .«partial_fills») (inLots (terms .lot) (min base (terms .«max_participation» ⊗ volume))) (Of base)
 
 -- `if base > 0.0 { let fee = base * fill * taker;  pf.enter(dir * base, fill, candle.time, fee); .. }`, where request 7 puts EPS for 0:
 -- "an entry whose quantity is at most EPS takes cash but counts as flat .. such an entry is now dropped"
-unfoldable pub booked : Float → Float → Float → Terms → Candle → Portfolio → Entry
-booked dir base fill terms k p =
+unfoldable pub booked : Float → Quantity → Float → Terms → Candle → Portfolio → Entry
+booked dir Nothing fill terms k p = NoEntry
+booked dir Quantity.TooLarge fill terms k p = TooLarge
+booked dir (Of base) fill terms k p =
     cond (eps ≺ base)
     (Entered (entered p (dir ⊗ base) fill (k .time) (base ⊗ fill ⊗ takerRate (terms .«taker_bps»))) fill)
     NoEntry
 
--- `if let Some(base) = size(..)? { .. }`
-unfoldable pub filled : Optional → Float → Float → Terms → Candle → Portfolio → Entry
-filled Absent dir fill terms k p = NoEntry
-filled (Of base) dir fill terms k p = booked dir (withinVolume terms base (k .volume)) fill terms k p
-
--- `execute_entry`: from flat, so that the equity is the cash
+-- `execute_entry`: from flat, so that the equity is the cash. "too large a quotient gives 16", in the probe too.
 unfoldable pub executeEntry : Side → Float → Terms → Candle → Portfolio → History → Entry
 executeEntry side raw terms k p h =
     let dir = direction side in
     let rv = volatilityFor (terms .sizing) h in
-    let probe = probeQty (terms .slippage) (terms .sizing) (terms .risk) (p .cash) raw rv in
-    let fill = fillPrice raw dir (slippageRate (terms .slippage) probe (k .volume)) in
-    filled (size (terms .sizing) (terms .risk) (p .cash) fill rv) dir fill terms k p
+    let probe = probeQty (terms .slippage) terms (p .cash) raw rv in
+    let fill = fillPrice raw dir (slippageRate (terms .slippage) (orZero probe) (k .volume)) in
+    cond (isTooLarge probe) TooLarge
+    (booked dir (withinVolume terms (quantity terms (p .cash) fill rv) (k .volume)) fill terms k p)
+
+-- whether an entry is turned away: its quantity is too large
+abbrev pub isTurnedAway : Entry → Bool
+isTurnedAway NoEntry = false
+isTurnedAway TooLarge = true
+isTurnedAway (Entered p fill) = false
 
 -- `let dir = if pf.is_long() { -1.0 } else { 1.0 };`: a long sells, a short buys
 unfoldable pub exitDirection : Portfolio → Float

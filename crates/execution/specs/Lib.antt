@@ -1,9 +1,12 @@
 pub mod Optional
 pub mod Size
+pub mod Lots
 pub mod Volatility
 pub mod Tally
 pub mod Costs
 pub mod Intrabar
 pub mod Fills
+pub mod RustEntry
+pub mod WholeLots
 pub mod VolatilityWindow
 pub mod Edges

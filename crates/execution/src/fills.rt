@@ -2,19 +2,20 @@
 use crate::Entry;
 use crate::Exit;
 use crate::Optional;
-use crate::Risk;
+use crate::Quantity;
 use crate::Side;
 use crate::Sizing;
 use crate::Slippage;
 use crate::Terms;
 use crate::costs;
+use crate::lots;
 use crate::size;
 use crate::volatility;
 use portfolio::Candle;
 use portfolio::Portfolio;
 ghost use mathlib.Core.Path.{_≡_};
 ghost use Rattle.rows.specs.History.{historyOf};
-ghost use Rattle.execution.specs.Fills.{direction, volatilityFor, probeQty, withinVolume, booked, filled, executeEntry, exitDirection, executeExit};
+ghost use Rattle.execution.specs.Fills.{direction, volatilityFor, quantity, probeQty, withinVolume, booked, executeEntry, exitDirection, executeExit};
 
 fn direction(side: Side) -> f64
     ensures { λ r. ⌜ r ≡ direction side ⌝ }
@@ -39,61 +40,64 @@ fn volatility_for(sizing: Sizing, rows: &[u64], slots: usize) -> Optional
     }
 }
 
+// What an entry at `price` orders, in lots.
+fn quantity(terms: Terms, cash: f64, price: f64, rv: Optional) -> Quantity
+    ensures { λ r. ⌜ r ≡ quantity terms cash price rv ⌝ }
+{
+    let sizing = terms.sizing;
+    let risk = terms.risk;
+    lots::size_in_lots(terms.lot, size::size(sizing, risk, cash, price, rv))
+}
+
 // Slippage by volume needs the order's size: what it would be at the price before slippage.
-fn probe_qty(
-    slippage: Slippage,
-    sizing: Sizing,
-    risk: Risk,
-    cash: f64,
-    raw_price: f64,
-    rv: Optional,
-) -> f64
-    ensures { λ r. ⌜ r ≡ probeQty slippage sizing risk cash «raw_price» rv ⌝ }
+fn probe_qty(slippage: Slippage, terms: Terms, cash: f64, raw_price: f64, rv: Optional) -> Quantity
+    ensures { λ r. ⌜ r ≡ probeQty slippage terms cash «raw_price» rv ⌝ }
 {
     match slippage {
-        Slippage::VolumeImpact(_) => size::size(sizing, risk, cash, raw_price, rv).unwrap_or(0.0),
-        Slippage::FixedBps(_) => 0.0,
-        Slippage::Unknown => 0.0,
+        Slippage::VolumeImpact(_) => quantity(terms, cash, raw_price, rv),
+        Slippage::FixedBps(_) => Quantity::Nothing,
+        Slippage::Unknown => Quantity::Nothing,
     }
 }
 
-// A partial fill takes at most a share of the bar's volume.
-fn within_volume(terms: Terms, base: f64, volume: f64) -> f64
-    ensures { λ r. ⌜ r ≡ withinVolume terms base volume ⌝ }
+// A partial fill takes at most a share of the bar's volume, in lots again.
+fn within_volume(terms: Terms, sized: Quantity, volume: f64) -> Quantity
+    ensures { λ r. ⌜ r ≡ withinVolume terms sized volume ⌝ }
 {
-    if terms.partial_fills {
-        return floats::min(base, terms.max_participation * volume);
+    match sized {
+        Quantity::Nothing => Quantity::Nothing,
+        Quantity::TooLarge => Quantity::TooLarge,
+        Quantity::Of(base) => {
+            if terms.partial_fills {
+                let share = floats::min(base, terms.max_participation * volume);
+                return lots::in_lots(terms.lot, share);
+            }
+            Quantity::Of(base)
+        }
     }
-    base
 }
 
 // The position opened, where it would not count as flat.
-fn booked(dir: f64, base: f64, fill: f64, terms: Terms, candle: Candle, pf: Portfolio) -> Entry
-    ensures { λ r. ⌜ r ≡ booked dir base fill terms candle pf ⌝ }
-{
-    if base > floats::EPS {
-        let taker = terms.taker_bps / 10_000.0;
-        let fee = base * fill * taker;
-        return Entry::Entered(pf.enter(dir * base, fill, candle.time, fee), fill);
-    }
-    Entry::NoEntry
-}
-
-fn filled(
-    sized: Optional,
+fn booked(
     dir: f64,
+    ordered: Quantity,
     fill: f64,
     terms: Terms,
     candle: Candle,
     pf: Portfolio,
 ) -> Entry
-    ensures { λ r. ⌜ r ≡ filled sized dir fill terms candle pf ⌝ }
+    ensures { λ r. ⌜ r ≡ booked dir ordered fill terms candle pf ⌝ }
 {
-    match sized {
-        Optional::Absent => Entry::NoEntry,
-        Optional::Of(base) => {
-            let most = within_volume(terms, base, candle.volume);
-            booked(dir, most, fill, terms, candle, pf)
+    match ordered {
+        Quantity::Nothing => Entry::NoEntry,
+        Quantity::TooLarge => Entry::TooLarge,
+        Quantity::Of(base) => {
+            if base > floats::EPS {
+                let taker = terms.taker_bps / 10_000.0;
+                let fee = base * fill * taker;
+                return Entry::Entered(pf.enter(dir * base, fill, candle.time, fee), fill);
+            }
+            Entry::NoEntry
         }
     }
 }
@@ -111,15 +115,18 @@ pub fn execute_entry(
     ensures { λ r. ⌜ r ≡ executeEntry side «raw_price» terms candle pf (historyOf slots (now (rows .entry))) ⌝ }
 {
     let sizing = terms.sizing;
-    let risk = terms.risk;
     let slippage = terms.slippage;
     let dir = direction(side);
     let rv = volatility_for(sizing, rows, slots);
-    let probe = probe_qty(slippage, sizing, risk, pf.cash, raw_price, rv);
-    let slip = costs::slippage_rate(slippage, probe, candle.volume);
+    let probe = probe_qty(slippage, terms, pf.cash, raw_price, rv);
+    if probe.is_too_large() {
+        return Entry::TooLarge;
+    }
+    let slip = costs::slippage_rate(slippage, probe.or_zero(), candle.volume);
     let fill = raw_price * (1.0 + dir * slip);
-    let sized = size::size(sizing, risk, pf.cash, fill, rv);
-    filled(sized, dir, fill, terms, candle, pf)
+    let sized = quantity(terms, pf.cash, fill, rv);
+    let ordered = within_volume(terms, sized, candle.volume);
+    booked(dir, ordered, fill, terms, candle, pf)
 }
 
 // A long exit sells and fills lower, a short exit buys and fills higher.

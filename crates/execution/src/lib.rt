@@ -3,6 +3,7 @@
 pub mod costs;
 pub mod fills;
 pub mod intrabar;
+pub mod lots;
 pub mod size;
 pub mod volatility;
 
@@ -10,6 +11,8 @@ use portfolio::Closed;
 use portfolio::Portfolio;
 ghost use mathlib.Core.Path.{_≡_};
 ghost use Rattle.execution.specs.Optional.{unwrapOr};
+ghost use Rattle.execution.specs.Lots.{isTooLarge, orZero};
+ghost use Rattle.execution.specs.Fills.{isTurnedAway};
 
 // A number that may not be there.
 pub enum Optional {
@@ -65,6 +68,8 @@ pub struct Terms {
     pub slippage: Slippage,
     pub partial_fills: bool,
     pub max_participation: f64,
+    // a quantity is a whole number of these; 0: any quantity
+    pub lot: f64,
 }
 
 pub enum Side {
@@ -78,10 +83,54 @@ pub enum Funding {
     Supplied(f64, f64),
 }
 
-// An entry order's answer: the portfolio with the position, and the fill price.
+// How much to order: nothing, more lots than can be counted, or so much.
+pub enum Quantity {
+    Nothing,
+    TooLarge,
+    Of(f64),
+}
+
+impl Quantity {
+    pub fn is_too_large(self) -> bool
+        ensures { λ r. ⌜ r ≡ isTooLarge self ⌝ }
+    {
+        match self {
+            Quantity::Nothing => false,
+            Quantity::TooLarge => true,
+            Quantity::Of(_) => false,
+        }
+    }
+
+    // The quantity, or 0 where there is none.
+    pub fn or_zero(self) -> f64
+        ensures { λ r. ⌜ r ≡ orZero self ⌝ }
+    {
+        match self {
+            Quantity::Nothing => 0.0,
+            Quantity::TooLarge => 0.0,
+            Quantity::Of(qty) => qty,
+        }
+    }
+}
+
+// An entry order's answer: the portfolio with the position, and the fill price. A quantity that is too large enters nothing, and the
+// step that meets one is refused.
 pub enum Entry {
     NoEntry,
+    TooLarge,
     Entered(Portfolio, f64),
+}
+
+impl Entry {
+    pub fn is_turned_away(self) -> bool
+        ensures { λ r. ⌜ r ≡ isTurnedAway self ⌝ }
+    {
+        match self {
+            Entry::NoEntry => false,
+            Entry::TooLarge => true,
+            Entry::Entered(_, _) => false,
+        }
+    }
 }
 
 // An exit's answer: the portfolio without the position, and the trade.

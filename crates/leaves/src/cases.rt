@@ -127,6 +127,7 @@ pub(crate) fn entry_terms(case: &[u64]) -> Terms {
         slippage,
         partial_fills: flag(case, 0, 20),
         max_participation: float(case, 0, 21),
+        lot: 0.0,
     }
 }
 
@@ -139,6 +140,7 @@ pub(crate) fn exit_terms(risk: Risk, taker_bps: f64, slippage: Slippage) -> Term
         slippage,
         partial_fills: false,
         max_participation: 0.0,
+        lot: 0.0,
     }
 }
 

@@ -34,6 +34,7 @@ pub(crate) fn portfolio_words(pf: Portfolio) -> [u64; 6] {
 pub(crate) fn after_entry(entry: Entry, pf: Portfolio) -> Portfolio {
     match entry {
         Entry::NoEntry => pf,
+        Entry::TooLarge => pf,
         Entry::Entered(opened, _) => opened,
     }
 }
@@ -48,13 +49,19 @@ pub(crate) fn after_exit(exit: Exit, pf: Portfolio) -> Portfolio {
     }
 }
 
+// The marks that a case has before its order.
+fn marks_before(case: &[u64]) -> [u64; 3] {
+    [
+        cases::word(case, 0, 34),
+        cases::word(case, 0, 35),
+        floats::word_of(cases::float(case, 0, 36)),
+    ]
+}
+
 pub(crate) fn entry_marks(entry: Entry, case: &[u64]) -> [u64; 3] {
     match entry {
-        Entry::NoEntry => [
-            cases::word(case, 0, 34),
-            cases::word(case, 0, 35),
-            floats::word_of(cases::float(case, 0, 36)),
-        ],
+        Entry::NoEntry => marks_before(case),
+        Entry::TooLarge => marks_before(case),
         Entry::Entered(_, fill) => [1, cases::word(case, 0, 37), floats::word_of(fill)],
     }
 }

@@ -57,7 +57,7 @@ riskOf ws = record {
   liquidation = flagOf (word ws 17);
 }
 
--- 8 taker fee, bps; 18 partial fills on; 19 participation
+-- 8 taker fee, bps; 18 partial fills on; 19 participation; 24 lot
 unfoldable pub termsOf : List ℕ → Terms
 termsOf ws = record {
   sizing = sizingOf (word ws 5) (word ws 6) (word ws 7);
@@ -66,6 +66,7 @@ termsOf ws = record {
   slippage = slippageOf (word ws 9) (word ws 10);
   «partial_fills» = flagOf (word ws 18);
   «max_participation» = floatAt ws 19;
+  lot = floatAt ws 24;
 }
 
 -- 0 K, slots; 1 D, window rows; 2 capital; 3 warmup, bars; 4 delay, bars; 11 funding on

@@ -21,7 +21,7 @@ pub struct Settings {
     pub warmup: u64,
     // 4: the bars that an order waits
     pub delay: u64,
-    // 5 to 7 sizing, 8 taker fee, 9 and 10 slippage, 12 to 17 risk, 18 partial fills, 19 participation
+    // 5 to 7 sizing, 8 taker fee, 9 and 10 slippage, 12 to 17 risk, 18 partial fills, 19 participation, 24 lot
     pub terms: Terms,
     // 11: whether funding is charged
     pub funding: bool,
@@ -89,7 +89,7 @@ fn risk_of(words: &[u64]) -> Risk
     }
 }
 
-// Settings 5 to 10 and 12 to 19.
+// Settings 5 to 10, 12 to 19 and 24.
 fn terms_of(words: &[u64]) -> Terms
     ensures { λ r. ⌜ r ≡ termsOf (now (words .entry)) ⌝ }
 {
@@ -100,6 +100,7 @@ fn terms_of(words: &[u64]) -> Terms
         slippage: slippage_of(word(words, 9), word(words, 10)),
         partial_fills: flag_of(word(words, 18)),
         max_participation: float_at(words, 19),
+        lot: float_at(words, 24),
     }
 }
 

@@ -4,7 +4,7 @@ use mathlib.Core.Bool.{Bool, true, false, _&&_}
 use mathlib.Core.List.{List, [], _∷_, _++_}
 use lib.Dec.{ltb, leb}
 use lib.Ieee.{Float}
-use Rattle.floats.specs.Floats.{finite, zero}
+use Rattle.floats.specs.Floats.{_≼_, finite, zero}
 use Rattle.execution.specs.declared.Optional.{Optional}
 use Rattle.execution.specs.declared.Optional.the-variants.{Absent, Of}
 use Rattle.execution.specs.declared.Risk.{Risk}
@@ -75,6 +75,10 @@ stopThere Unknown stop = true
 abbrev pub depthFine : ℕ → Sizing → Bool
 depthFine D sizing = leb 1 D && leb D mostRows && ltb (lookback sizing) D
 
+-- "a negative lot gives 12", as one that is not finite: setting 24. A lot of -0.0 is one of 0.
+abbrev pub lotFine : Float → Bool
+lotFine lot = finite lot && (zero ≼ lot)
+
 -- settings 5 to 7
 unfoldable pub sizingLines : Sizing → List Line
 sizingLines sizing =
@@ -101,7 +105,7 @@ riskLines sizing risk =
     ∷ line (levelFine (risk .«max_position_pct»)) 12 16
     ∷ []
 
--- settings 5 to 19 but 11
+-- settings 5 to 19 but 11, and 24
 unfoldable pub termLines : Terms → List Line
 termLines t =
     sizingLines (t .sizing)
@@ -109,6 +113,7 @@ termLines t =
     ∷ (slippageLines (t .slippage)
     ++ (riskLines (t .sizing) (t .risk)
     ++ (line (finite (t .«max_participation»)) 12 19
+    ∷ line (lotFine (t .lot)) 12 24
     ∷ []))))
 
 -- "12: a setting not finite or of an unknown kind, lookback above 4,095, risk sizing without stop loss; a given K above

@@ -1,7 +1,7 @@
 // Refusal 12: the settings.
 ghost use mathlib.Core.Path.{_≡_};
 ghost use Rattle.refusals.specs.Lines.{judged};
-ghost use Rattle.refusals.specs.Settings.{lookback, sizingKnown, sizingValue, slippageKnown, slippageValue, levelFine, stopThere};
+ghost use Rattle.refusals.specs.Settings.{lookback, sizingKnown, sizingValue, slippageKnown, slippageValue, levelFine, stopThere, lotFine};
 ghost use Rattle.refusals.specs.Settings.{depthFine, sizingLines, slippageLines, riskLines, termLines, settingLines};
 use crate::verdict::Verdict;
 use execution::Optional;
@@ -115,6 +115,16 @@ fn depth_fine(depth: usize, sizing: Sizing) -> bool
     lookback_of(sizing) < depth as u64
 }
 
+// A lot is finite and not negative.
+fn lot_fine(lot: f64) -> bool
+    ensures { λ r. ⌜ r ≡ lotFine lot ⌝ }
+{
+    if floats::is_finite(lot) {
+        return 0.0 <= lot;
+    }
+    false
+}
+
 // Settings 5 to 7.
 fn judge_sizing(sizing: Sizing) -> Verdict
     ensures { λ r. ⌜ r ≡ judged (sizingLines sizing) ⌝ }
@@ -207,7 +217,7 @@ fn judge_risk(sizing: Sizing, risk: Risk) -> Verdict
     Verdict::Fine
 }
 
-// Settings 5 to 19 but 11.
+// Settings 5 to 19 but 11, and 24.
 fn judge_terms(t: Terms) -> Verdict
     ensures { λ r. ⌜ r ≡ judged (termLines t) ⌝ }
 {
@@ -233,6 +243,12 @@ fn judge_terms(t: Terms) -> Verdict
         return Verdict::Bad(Refusal {
             number: 12,
             place: 19,
+        });
+    }
+    if !lot_fine(t.lot) {
+        return Verdict::Bad(Refusal {
+            number: 12,
+            place: 24,
         });
     }
     Verdict::Fine

@@ -39,6 +39,8 @@ pub struct Settings {
     pub liquidation: bool,
     pub partial_fills: bool,
     pub max_participation: f64,
+    /// A quantity is a whole number of lots; 0: any quantity.
+    pub lot: f64,
 }
 
 impl Settings {
@@ -61,6 +63,7 @@ impl Settings {
             liquidation: false,
             partial_fills: false,
             max_participation: 0.0,
+            lot: 0.0,
         }
     }
 
@@ -105,6 +108,7 @@ impl Settings {
         words[17] = self.liquidation as u64;
         words[18] = self.partial_fills as u64;
         words[19] = self.max_participation.to_bits();
+        words[24] = self.lot.to_bits();
         words
     }
 }

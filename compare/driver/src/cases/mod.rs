@@ -60,7 +60,7 @@ pub fn some_case(seed: u64, number: u64) -> (Case, Plan) {
     } else {
         settings::some(dice)
     };
-    let settings = settings_for(settings, &table);
+    let settings = settings_for(settings::in_lots(dice, settings), &table);
     let count = bars::some_count(dice, settings.depth);
     let mut bars = bars::some(dice, count, table.slots, settings.funding);
     if zeros {

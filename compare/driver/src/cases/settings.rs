@@ -19,6 +19,18 @@ pub fn some(dice: &mut Dice) -> Settings {
     }
 }
 
+/// Some with a lot: tiny ones, of which a quantity holds 2^53 and more, and huge ones, of which it holds none.
+pub fn in_lots(dice: &mut Dice, settings: Settings) -> Settings {
+    let lot = match dice.below(10) {
+        0..=5 => 0.0,
+        6 => dice.pick(&[-0.0, 1.0, 0.1, 0.01, 0.001]),
+        7 => dice.pick(&[0.1, 0.01, 0.25, 1.0, 3.7, 10.0]),
+        8 => dice.pick(&[1e-12, 1e-14, 1e-15, 1e-16, 1e-17, 1e6, 1e9]),
+        _ => edge(dice).abs(),
+    };
+    Settings { lot, ..settings }
+}
+
 /// Delays and warmups.
 fn slow(dice: &mut Dice, settings: Settings) -> Settings {
     Settings {

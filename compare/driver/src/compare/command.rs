@@ -14,6 +14,8 @@ impl Tally {
         self.rules += other.rules;
         self.yes += other.yes;
         self.trades += other.trades;
+        self.lots += other.lots;
+        self.turned_away += other.turned_away;
         self.reasons.iter_mut().zip(other.reasons).for_each(|(a, b)| *a += b);
         self.explained.add(&other.explained);
     }
@@ -24,6 +26,10 @@ impl Tally {
             "trades {}: signal {signal}, stop loss {stop}, trailing stop {trailing}, take profit {take}, \
              liquidation {liquidation}, end {end}; rule answers {}, of them yes {}",
             self.trades, self.rules, self.yes
+        );
+        println!(
+            "runs with a lot, which the Rust as it stands has not: {}; bars refused with 16 in them: {}",
+            self.lots, self.turned_away
         );
         println!(
             "runs that the Rust as it stands answers alike to the end: {}; parted by an entry of docs/DIFFERENCES.md: {}",

@@ -35,6 +35,9 @@ pub struct Tally {
     pub rules: u64,
     pub yes: u64,
     pub trades: u64,
+    /// Runs with a lot, and bars that were refused with 16.
+    pub lots: u64,
+    pub turned_away: u64,
     pub reasons: [u64; 7],
     pub explained: Explained,
 }
@@ -67,6 +70,7 @@ const LARGER: &str = "the same run with a larger room for rows";
 const ROWS: &str = "the rows handed over";
 const METRICS_CALL: &str = "the metrics by the call of their own";
 const TWICE: &str = "a second finish";
+const AWAY: &str = "a bar of too many lots";
 
 /// Compares a case; what was compared, or the first place where the two sides part.
 pub fn compare_case(case: &Case, plan: Plan) -> Result<Tally, Mismatch> {
@@ -86,6 +90,8 @@ struct Comparison<'a> {
     /// Until it parts from us by a listed difference.
     rust: Option<Theirs>,
     rules: Rules<'a>,
+    /// The rows of all bars that were taken.
+    rows: Vec<u64>,
     /// Whether a sign of a zero has parted the two, by entry 6.
     signs: bool,
     tally: Tally,
@@ -102,10 +108,15 @@ impl<'a> Comparison<'a> {
             tight: ours(depth)?,
             larger: ours(depth + plan.spare)?,
             paper: Theirs::new(case, Reading::Paper),
-            rust: Some(Theirs::new(case, Reading::Rust)),
+            // The text has no lots.
+            rust: (case.settings.lot == 0.0).then(|| Theirs::new(case, Reading::Rust)),
             rules: Rules::new(case),
+            rows: Vec::new(),
             signs: false,
-            tally: Tally::default(),
+            tally: Tally {
+                lots: u64::from(case.settings.lot != 0.0),
+                ..Tally::default()
+            },
         })
     }
 
@@ -113,6 +124,9 @@ impl<'a> Comparison<'a> {
         let bar = &self.case.bars[i];
         let words = bar_words(bar);
         let refused = |refusal| Mismatch::refused(Some(i), PAPER, refusal);
+        if self.paper.is_turned_away(bar) {
+            return self.turned_away(i, &words);
+        }
         self.tight.step(&words).map_err(refused)?;
         self.larger.step(&words).map_err(refused)?;
         self.paper.step(bar).expect("the paper's reading refuses no bar");
@@ -123,10 +137,29 @@ impl<'a> Comparison<'a> {
         self.agree(i, PAPER, parted, view)?;
         self.against_rust(i, view)?;
         self.rules.push(bar);
+        self.rows.extend(row_words(bar));
         if (i + 1).is_multiple_of(self.plan.ask_every) {
             self.rules.ask(i, &self.tight, &mut self.tally)?;
         }
         self.tally.bars += 1;
+        Ok(())
+    }
+
+    /// A bar of too many lots is refused with 16 at the bars seen in both rooms, and the run goes on from where it was.
+    fn turned_away(&mut self, i: usize, words: &[u64]) -> Result<(), Mismatch> {
+        let number = self.tight.state[calls::state::BARS_SEEN];
+        for run in [&mut self.tight, &mut self.larger] {
+            let before = (run.state, run.rows.clone(), run.equity.clone(), run.trades.clone());
+            match run.step(words) {
+                Err(Refusal { number: 16, place }) if place == number => {}
+                Err(refusal) => return Err(Mismatch::refused(Some(i), AWAY, refusal)),
+                Ok(()) => return Err(Mismatch::one(Some(i), AWAY, "refused", 0, 16 << 32 | number)),
+            }
+            if before != (run.state, run.rows.clone(), run.equity.clone(), run.trades.clone()) {
+                return Err(Mismatch::one(Some(i), AWAY, "words changed", 1, 0));
+            }
+        }
+        self.tally.turned_away += 1;
         Ok(())
     }
 
@@ -245,7 +278,7 @@ impl<'a> Comparison<'a> {
 
     /// Both rooms hold the last rows of those handed over.
     fn rows_agree(&self) -> Result<(), Mismatch> {
-        let all: Vec<u64> = self.case.bars.iter().flat_map(row_words).collect();
+        let all = &self.rows;
         for run in [&self.tight, &self.larger] {
             let held = run.rows_held();
             let full = held.len() == all.len().min(run.rows.len());

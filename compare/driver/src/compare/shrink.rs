@@ -155,7 +155,7 @@ fn parts(condition: &Condition) -> Vec<Condition> {
 type Simpler = fn(&mut Settings, &Settings);
 
 /// Each setting, put back to the plain one.
-const SIMPLER: [Simpler; 15] = [
+const SIMPLER: [Simpler; 16] = [
     |s, plain| s.warmup = plain.warmup,
     |s, plain| s.delay = plain.delay,
     |s, plain| s.taker_bps = plain.taker_bps,
@@ -168,6 +168,7 @@ const SIMPLER: [Simpler; 15] = [
     |s, _| s.risk.liquidation = false,
     |s, plain| s.partial_fills = plain.partial_fills,
     |s, plain| s.participation = plain.participation,
+    |s, plain| s.lot = plain.lot,
     |s, plain| s.sizing = plain.sizing,
     |s, plain| s.capital = plain.capital,
     |s, _| {

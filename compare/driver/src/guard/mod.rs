@@ -27,8 +27,8 @@ pub struct Guard {
     dice: Dice,
     bases: Vec<Base>,
     lent: Lent,
-    /// Answers by number: 0 for work done, 1 to 15.
-    answers: [u64; 16],
+    /// Answers by number: 0 for work done, 1 to 16.
+    answers: [u64; 17],
 }
 
 /// What went wrong.
@@ -40,7 +40,7 @@ impl Guard {
             dice: Dice::new(seed),
             bases: Base::some(seed, BASES),
             lent: Lent::default(),
-            answers: [0; 16],
+            answers: [0; 17],
         }
     }
 

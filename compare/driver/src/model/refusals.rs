@@ -1,4 +1,8 @@
-//! Refusals 10 to 15, in the paper's order: 10, 12, 13, 14, 11, 15; under one number the lowest place.
+//! Refusals 10 to 16, in the paper's order: 10, 12, 13, 14, 11, 15, then 16; under one number the lowest place.
+
+use oracle::engine::reach::{realized_vol, Lots, Order};
+use oracle::lists::dice::sizing_of;
+use oracle::spec::{Risk, Sizing, Slippage};
 
 use super::{finite, refusal, silent, steps, table};
 use crate::calls::{bar_words, state, Position, GIVEN, METRIC_WORDS, NODE_STEP_BYTES, SETTING_WORDS, STATE_WORDS};
@@ -56,7 +60,8 @@ fn settings(s: &[u64]) -> Checked {
     for (i, &level) in s.iter().enumerate().take(17).skip(12) {
         need(!given(i) || finite(level), 12, i as u64)?;
     }
-    need(finite(s[19]), 12, 19)
+    need(finite(s[19]), 12, 19)?;
+    need(finite(s[24]) && f64::from_bits(s[24]) >= 0.0, 12, 24)
 }
 
 /// The places that a room has for records of `width` words.
@@ -101,6 +106,50 @@ fn lists(lists: [&[u8]; 4], slots: u64, depth: u64) -> Checked {
     Ok(())
 }
 
+/// What an entry is sized by, of settings that 12 has passed.
+fn order(s: &[u64]) -> Order {
+    let float = |i: usize| f64::from_bits(s[i]);
+    let level = |i: usize| (s[GIVEN] >> i & 1 == 1).then(|| float(i));
+    Order {
+        sizing: sizing_of(s[5], float(6), s[7] as u32),
+        risk: Risk {
+            stop_loss_pct: level(12),
+            trailing_stop_pct: level(13),
+            take_profit_pct: level(14),
+            max_leverage: level(15),
+            max_position_pct: level(16),
+            liquidation: s[17] != 0,
+        },
+        slippage: match s[9] {
+            0 => Slippage::FixedBps { bps: float(10) },
+            _ => Slippage::VolumeImpact { coef: float(10) },
+        },
+        participation: (s[18] != 0).then(|| float(19)),
+        lot: float(24),
+    }
+}
+
+/// 16: an entry that is due would be of 2^53 lots or more.
+fn lots(with: &Lent, new: &[u64]) -> Checked {
+    let (s, order) = (with.state, order(with.settings));
+    let dir = match (s[state::ORDER], s[state::ORDER_DELAY]) {
+        (1, 0) => 1.0,
+        (2, 0) => -1.0,
+        _ => return Ok(()),
+    };
+    let width = 7 + with.settings[0] as usize;
+    let held = &with.rows[..width * s[state::ROWS_HELD] as usize];
+    let closes: Vec<f64> = held.chunks(width).map(|row| f64::from_bits(row[4])).collect();
+    let rv = match order.sizing {
+        Sizing::VolTarget { lookback, .. } => realized_vol(&closes, lookback as usize),
+        _ => None,
+    };
+    let (open, volume) = (f64::from_bits(new[1]), f64::from_bits(new[5]));
+    let filled = order.fill(dir, open, volume, f64::from_bits(s[state::CASH]), rv);
+    let quantity = filled.expect("12 has seen to the stop loss").1;
+    need(quantity != Lots::TooLarge, 16, s[state::BARS_SEEN])
+}
+
 pub fn fresh(settings: &[u64], state: &[u64]) -> Checked {
     words(settings, state)
 }
@@ -123,7 +172,8 @@ pub fn step(with: &Lent, new: &[u64], four: [&[u8]; 4]) -> Checked {
     let free = s[state::EQUITY_POINTS] < places(with.equity, 2) && s[state::TRADES] < places(with.trades, 8);
     need(free && s[state::BARS_SEEN] < MOST, 14, 0)?;
     bar(new, slots as usize, s[state::BARS_SEEN])?;
-    lists(four, slots, depth)
+    lists(four, slots, depth)?;
+    lots(with, new)
 }
 
 pub fn finish(with: &Lent, metrics: &[u64]) -> Checked {

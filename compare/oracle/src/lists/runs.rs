@@ -237,8 +237,36 @@ fn edges() -> Vec<String> {
             &both(),
             &level(&six),
         ),
+        in_lots(),
     ]
     .concat()
+}
+
+/// Runs with a lot: whole ones, tenths, part fills that lose a lot, probes in lots, too few, too many.
+fn in_lots() -> Vec<String> {
+    let both = trees(always(), always(), None, None);
+    let short = trees(never(), never(), Some(always()), Some(always()));
+    let prices = [100.0, 101.5, 99.75, 103.0, 98.5, 104.0];
+    let with = |lot: f64, settings: Settings| Settings { lot, ..settings };
+    let partial = Settings {
+        partial_fills: true,
+        participation: 0.0043,
+        ..plain()
+    };
+    let by_volume = Settings {
+        slippage: Slippage::VolumeImpact { coef: 0.1 },
+        ..plain()
+    };
+    let target = Settings {
+        sizing: sizing_of(3, 0.01, 2),
+        ..plain()
+    };
+    let lots = [3.0, 0.1, 0.01, -0.0, 1e300, 1e-12, 1e-15, 5e-324];
+    let whole = lots.map(|lot| run(with(lot, plain()), &both, &level(&prices)));
+    let others = [partial, by_volume, target, Settings { partial_fills: true, ..by_volume }]
+        .map(|settings| [0.1, 0.25, 1e-15].map(|lot| run(with(lot, settings), &both, &level(&prices))).concat());
+    let shorts = [3.0, 1e-15].map(|lot| run(with(lot, by_volume), &short, &level(&prices)));
+    [whole.concat(), others.concat(), shorts.concat()].concat()
 }
 
 /// The smallest run on each point where document 01 or a request and the Rust differ; docs/DIFFERENCES.md gives their numbers.
@@ -279,6 +307,7 @@ pub fn differences() -> Vec<String> {
             &level(&[100.0]),
         ),
         run(fee, &hold, &level(&[100.0; 2])),
+        run(Settings { lot: 3.0, ..plain() }, &hold, &level(&[100.0; 2])),
     ]
     .concat()
 }

@@ -129,16 +129,117 @@ fn bar_of<'a>(candle: &'a Candle, tick: Option<&DerivativesTick>, index: usize) 
     }
 }
 
+/// How much an entry orders in whole lots (request 5), which the text does not have.
+#[derive(Debug, Clone, Copy, PartialEq)]
+pub enum Lots {
+    Nothing,
+    TooLarge,
+    Of(f64),
+}
+
+/// The quantity as the largest whole number of lots in it; a lot of 0 leaves it as it is.
+fn in_lots(qty: f64, lot: f64) -> Lots {
+    let quotient = qty / lot;
+    if lot == 0.0 {
+        Lots::Of(qty)
+    } else if quotient >= 2f64.powi(53) {
+        Lots::TooLarge
+    } else if quotient >= 1.0 {
+        Lots::Of(quotient.floor() * lot)
+    } else {
+        Lots::Nothing
+    }
+}
+
+/// What of the settings an entry is sized by.
+#[derive(Debug, Clone, Copy)]
+pub struct Order {
+    pub sizing: Sizing,
+    pub risk: Risk,
+    pub slippage: Slippage,
+    pub participation: Option<f64>,
+    pub lot: f64,
+}
+
+impl Order {
+    /// `size`, in lots.
+    fn size(&self, cash: f64, price: f64, rv: Option<f64>) -> Result<Lots> {
+        let sized = super::size(self.sizing, &self.risk, cash, price, rv)?;
+        Ok(sized.map_or(Lots::Nothing, |qty| in_lots(qty, self.lot)))
+    }
+
+    /// The fill price of an entry at `raw_price` and its quantity: `execute_entry` with lots after the leverage cap, in the probe, and
+    /// after the partial-fill cap.
+    pub fn fill(&self, dir: f64, raw_price: f64, volume: f64, cash: f64, rv: Option<f64>) -> Result<(f64, Lots)> {
+        let probe = match self.slippage {
+            Slippage::VolumeImpact { .. } => self.size(cash, raw_price, rv)?,
+            _ => Lots::Nothing,
+        };
+        let probe_qty = match probe {
+            Lots::Nothing => 0.0,
+            Lots::TooLarge => return Ok((raw_price, Lots::TooLarge)),
+            Lots::Of(qty) => qty,
+        };
+        let fill = raw_price * (1.0 + dir * super::slippage_rate(self.slippage, None, probe_qty, volume));
+        let quantity = match (self.size(cash, fill, rv)?, self.participation) {
+            (Lots::Of(qty), Some(share)) => in_lots(qty.min(share * volume), self.lot),
+            (other, _) => other,
+        };
+        Ok((fill, quantity))
+    }
+}
+
 /// A run, bar by bar.
 pub struct Run {
     text: StreamingBacktest<'static>,
+    lot: f64,
     reading: Reading,
 }
 
 impl Run {
-    pub fn new(spec: StrategySpec, capital: f64, reading: Reading) -> Result<Self> {
+    pub fn new(spec: StrategySpec, capital: f64, lot: f64, reading: Reading) -> Result<Self> {
         let text = StreamingBacktest::new_owned(spec, capital)?;
-        Ok(Self { text, reading })
+        Ok(Self { text, lot, reading })
+    }
+
+    /// Whether an entry is due at this bar and would be of too many lots.
+    pub fn is_turned_away(&self, candle: &Candle) -> Result<bool> {
+        match side_due(&self.text) {
+            Some(dir) => Ok(self.entry_at(candle, dir)?.1 == Lots::TooLarge),
+            None => Ok(false),
+        }
+    }
+
+    /// The fill price and quantity of an entry that is due.
+    fn entry_at(&self, candle: &Candle, dir: f64) -> Result<(f64, Lots)> {
+        let run = &self.text;
+        let order = Order {
+            sizing: run.spec.sizing,
+            risk: run.spec.risk,
+            slippage: run.spec.costs.slippage,
+            participation: run.spec.execution.partial_fills.then(|| run.spec.execution.max_participation.unwrap_or(0.0)),
+            lot: self.lot,
+        };
+        let rv = match order.sizing {
+            Sizing::VolTarget { lookback, .. } => super::realized_vol(&run.history, lookback as usize),
+            _ => None,
+        };
+        order.fill(dir, candle.open, candle.volume, run.pf.cash, rv)
+    }
+
+    /// The entry that is due, in lots; one of at most EPS is dropped, as one of nothing.
+    fn enter_in_lots(&mut self, candle: &Candle, dir: f64) -> Result<()> {
+        let (fill, quantity) = self.entry_at(candle, dir)?;
+        let run = &mut self.text;
+        run.pending = None;
+        if let Lots::Of(qty) = quantity {
+            if qty > f64::EPSILON {
+                run.pf.enter(dir * qty, fill, candle.time, qty * fill * run.taker);
+                run.entry_bar = Some(run.bars_seen);
+                run.extreme = fill;
+            }
+        }
+        Ok(())
     }
 
     /// One bar with its slots and, where supplied, its derivatives tick.
@@ -153,13 +254,16 @@ impl Run {
         }
     }
 
-    /// The parts of `step_with_feeds`, in its order, with three departures: a bar without funding is not refused and nothing is decided
-    /// while an order works (document 01), and an entry of at most EPS is dropped (request 7).
+    /// The parts of `step_with_feeds`, in its order, with four departures: a bar without funding is not refused and nothing is decided
+    /// while an order works (document 01), an entry of at most EPS is dropped (request 7), and with a lot an entry is in lots (request 5).
     fn step_by_paper(&mut self, candle: &Candle, tick: Option<&DerivativesTick>) -> Result<()> {
+        let bar = bar_of(candle, tick, self.text.bars_seen);
+        self.text.last = Some((candle.time, candle.close));
+        match side_due(&self.text) {
+            Some(dir) if self.lot != 0.0 => self.enter_in_lots(candle, dir)?,
+            _ => fill_but_no_dust(&mut self.text, &bar)?,
+        }
         let run = &mut self.text;
-        let bar = bar_of(candle, tick, run.bars_seen);
-        run.last = Some((candle.time, candle.close));
-        fill_but_no_dust(run, &bar)?;
         let idx = run.record_bar(&bar);
         run.apply_intrabar_exits(&bar);
         run.charge_funding(&bar);
@@ -201,6 +305,16 @@ impl Run {
             count_the_last_fee(&mut self.text);
         }
         self.text.finish()
+    }
+}
+
+/// The sign of the side that an entry is due for.
+fn side_due(run: &StreamingBacktest) -> Option<f64> {
+    let pending = run.pending.as_ref().filter(|pending| pending.delay == 0)?;
+    match pending.action {
+        Action::Enter { side: Side::Long, .. } => Some(1.0),
+        Action::Enter { side: Side::Short, .. } => Some(-1.0),
+        Action::Exit(_) => None,
     }
 }
 

@@ -1,4 +1,4 @@
--- The judgement decides: refused, or the phases. Assumes nothing.
+-- The judgement of what was handed over decides: refused, or the phases, whose fill may be turned away. Assumes nothing.
 use mathlib.Core.Path.{sym, _∙_}
 use borrow.Author.Needs.{needs}
 use Rattle.engine.proofs.Phases.{ready, refused, went}

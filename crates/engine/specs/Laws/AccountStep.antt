@@ -50,7 +50,7 @@ module _ (s : Settings) (t : State) (bar : List ℕ) (m : Rooms) (ls : Lists) (f
 
 module _ (s : Settings) (a : Account) (rows : List ℕ) (bar : List ℕ) where
   -- a fill reads fewer than D
-  fill-alike : (rows′ : List ℕ) → lookback (s .terms .sizing) < s .depth → lastOf s rows ≡ lastOf s rows′
+  pub fill-alike : (rows′ : List ℕ) → lookback (s .terms .sizing) < s .depth → lastOf s rows ≡ lastOf s rows′
       → filled s (a .order) (a .position) (candleOf bar) (historyOf (s .slots) rows) (a .seen)
       ≡ filled s (a .order) (a .position) (candleOf bar) (historyOf (s .slots) rows′) (a .seen)
   fill-alike rows′ h e =

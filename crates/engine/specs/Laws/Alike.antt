@@ -6,15 +6,14 @@ use Rattle.records.specs.declared.settings.Settings.{Settings}
 use Rattle.records.specs.declared.state.State.{State}
 use Rattle.records.specs.Lent.{Lists, Rooms}
 use Rattle.refusals.specs.declared.verdict.Verdict.the-variants.{Fine}
-use Rattle.refusals.specs.Judgement.{stepJudged}
 use Rattle.engine.specs.Boxes.{Follows, Sound, SameCounts, Alike, SameButRows}
 use Rattle.engine.specs.Laws.Counts.{step-within, step-lengths}
 use Rattle.engine.specs.Laws.Follows.{step-follows, step-grows}
-use Rattle.engine.specs.Step.{stepped}
+use Rattle.engine.specs.Step.{stepped, stepVerdict}
 use Rattle.engine.specs.Whole.{accountOf, rowsHeld}
 
 module _ (s : Settings) (ls : Lists) (t : State) (m : Rooms) (t′ : State) (m′ : Rooms) (bar : List ℕ) (alike : Alike s t m t′ m′)
-    (fine : stepJudged s t bar m ls ≡ Fine) (fine′ : stepJudged s t′ bar m′ ls ≡ Fine) where
+    (fine : stepVerdict s t bar m ls ≡ Fine) (fine′ : stepVerdict s t′ bar m′ ls ≡ Fine) where
   -- both follow the first
   one : Follows s t m (accountOf t) (rowsHeld s t m)
   one = record { account = refl; window = refl }

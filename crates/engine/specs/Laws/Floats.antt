@@ -16,13 +16,15 @@ use Rattle.portfolio.specs.declared.Portfolio.{Portfolio}
 use Rattle.portfolio.specs.Portfolio.{inPosition, isLong, funded, entered, exited}
 use Rattle.portfolio.specs.Trade.{signal, end}
 use Rattle.execution.specs.declared.Entry.{Entry}
-use Rattle.execution.specs.declared.Entry.the-variants.{NoEntry, Entered}
+use Rattle.execution.specs.declared.Entry.the-variants.{NoEntry, TooLarge, Entered}
 use Rattle.execution.specs.declared.Exit.{Exit}
 use Rattle.execution.specs.declared.Exit.the-variants.{NoExit, Exited}
 use Rattle.execution.specs.declared.Funding.{Funding}
 use Rattle.execution.specs.declared.Funding.the-variants.{NotSupplied, Supplied}
 use Rattle.execution.specs.declared.Optional.{Optional}
-use Rattle.execution.specs.declared.Optional.the-variants.{Absent, Of}
+use Rattle.execution.specs.declared.Quantity.{Quantity}
+use Rattle.execution.specs.declared.Quantity.the-variants.{Nothing, Of}
+use Rattle.execution.specs.declared.Quantity.the-variants as Quantity
 use Rattle.execution.specs.declared.Side.{Side}
 use Rattle.execution.specs.declared.Side.the-variants.{Long, Short}
 use Rattle.execution.specs.declared.Terms.{Terms}
@@ -30,9 +32,9 @@ use Rattle.execution.specs.declared.Trigger.{Trigger}
 use Rattle.execution.specs.declared.Trigger.the-variants.{Untouched, At}
 use Rattle.execution.specs.Costs.{slippageRate, fillPrice, takerRate, closed, withFunding, chargeFunding}
 use Rattle.execution.specs.Fills as Fills
-use Rattle.execution.specs.Fills.{direction, volatilityFor, probeQty, withinVolume, executeEntry, exitDirection, executeExit}
+use Rattle.execution.specs.Fills.{direction, volatilityFor, quantity, probeQty, withinVolume, executeEntry, exitDirection, executeExit}
 use Rattle.execution.specs.Intrabar.{favourable, extremeWith, touched, closedBy, applyIntrabarExits}
-use Rattle.execution.specs.Size.{size}
+use Rattle.execution.specs.Lots.{isTooLarge, orZero}
 use Rattle.records.specs.declared.settings.Settings.{Settings}
 use Rattle.records.specs.declared.state.Order.{Order}
 use Rattle.records.specs.declared.state.Order.the-variants.{Idle, EnterLong, EnterShort, Exit as ExitOrder}
@@ -103,6 +105,7 @@ executed-64 reason raw terms k p a =
 
 data Entry64 : Entry → Type 0 where
   none : Entry64 NoEntry
+  away : Entry64 TooLarge
   one : (p : Portfolio) (fill : Float) → Account64 p → Is64 fill → Entry64 (Entered p fill)
 
 booked-64 : (b : Bool) (p : Portfolio) (qty fill : Float) (time : ℕ) (fee : Float) → Is64 qty → Is64 fill → Is64 fee
@@ -117,24 +120,31 @@ booked-64 true p qty fill time fee q f e = one (entered p qty fill time fee) fil
 }) f
 booked-64 false p qty fill time fee q f e = none
 
-sized-64 : (o : Optional) (dir fill : Float) (terms : Terms) (k : Candle) (p : Portfolio) → Is64 fill → Entry64 (Fills.filled o dir fill terms k p)
-unfolding Fills.filled Fills.booked
-sized-64 Absent dir fill terms k p f = none
-sized-64 (Of base) dir fill terms k p f =
-    let taken : Float = withinVolume terms base (k .volume) in
-    booked-64 (eps ≺ taken) p (dir ⊗ taken) fill (k .time) (taken ⊗ fill ⊗ takerRate (terms .«taker_bps»)) (mul-fits binary64 _ _) f (mul-fits binary64 _ _)
+ordered-64 : (q : Quantity) (dir fill : Float) (terms : Terms) (k : Candle) (p : Portfolio) → Is64 fill → Entry64 (Fills.booked dir q fill terms k p)
+unfolding Fills.booked
+ordered-64 Nothing dir fill terms k p f = none
+ordered-64 Quantity.TooLarge dir fill terms k p f = away
+ordered-64 (Of base) dir fill terms k p f =
+    booked-64 (eps ≺ base) p (dir ⊗ base) fill (k .time) (base ⊗ fill ⊗ takerRate (terms .«taker_bps»)) (mul-fits binary64 _ _) f (mul-fits binary64 _ _)
+
+turned-64 : (b : Bool) (x : Entry) → Entry64 x → Entry64 (cond b TooLarge x)
+turned-64 true x e = away
+turned-64 false x e = e
 
 entry-64 : (side : Side) (raw : Float) (terms : Terms) (k : Candle) (p : Portfolio) (h : History) → Entry64 (executeEntry side raw terms k p h)
 unfolding executeEntry
 entry-64 side raw terms k p h =
     let rv : Optional = volatilityFor (terms .sizing) h in
-    let probe : Float = probeQty (terms .slippage) (terms .sizing) (terms .risk) (p .cash) raw rv in
-    let fill : Float = fillPrice raw (direction side) (slippageRate (terms .slippage) probe (k .volume)) in
-    sized-64 (size (terms .sizing) (terms .risk) (p .cash) fill rv) (direction side) fill terms k p (mul-fits binary64 _ _)
+    let probe : Quantity = probeQty (terms .slippage) terms (p .cash) raw rv in
+    let fill : Float = fillPrice raw (direction side) (slippageRate (terms .slippage) (orZero probe) (k .volume)) in
+    let ordered : Quantity = withinVolume terms (quantity terms (p .cash) fill rv) (k .volume) in
+    turned-64 (isTooLarge probe) (Fills.booked (direction side) ordered fill terms k p)
+    (ordered-64 ordered (direction side) fill terms k p (mul-fits binary64 _ _))
 
 entering-64 : (p : Position) (x : Entry) (number : ℕ) → Position64 p → Entry64 x → Position64 (entering p x number)
 unfolding entering
 entering-64 p NoEntry number h e = h
+entering-64 p TooLarge number h e = h
 entering-64 p (Entered account fill) number h (one _ _ a f) = record { account = a; extreme = f }
 
 filled-either : (b : Bool) (f g : Filled) → Position64 (f .position) → Position64 (g .position) → Position64 (cond b f g .position)

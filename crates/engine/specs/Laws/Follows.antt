@@ -9,37 +9,36 @@ use Rattle.records.specs.declared.state.State.{State}
 use Rattle.records.specs.Lent.{Lists, Rooms}
 use Rattle.refusals.specs.declared.verdict.Verdict.{Verdict}
 use Rattle.refusals.specs.declared.verdict.Verdict.the-variants.{Fine, Bad}
-use Rattle.refusals.specs.Judgement.{stepJudged}
-use Rattle.refusals.specs.Laws.Fine.{step-fine}
 use Rattle.engine.specs.Boxes.{Grown, Follows}
 use Rattle.engine.specs.Laws.AccountStep.{window-after, account-after, last-alike, taken-alike}
 use Rattle.engine.specs.Laws.BooksGrow.{grown-none, grown-more, books-grow}
 use Rattle.engine.specs.Laws.Runs.{run-none, run-stops, run-takes}
+use Rattle.engine.specs.Laws.Verdict.{verdict-fine}
 use Rattle.engine.specs.Record.{rowOf}
 use Rattle.engine.specs.Run.{Run, runOver}
-use Rattle.engine.specs.Step.{With, stepped}
+use Rattle.engine.specs.Step.{With, stepped, stepVerdict}
 use Rattle.engine.specs.Whole.{Account, accountOf, rowsHeld, byLists, taken, wholeRun, rowsOf}
 
 -- ---- a bar
 
-module _ (s : Settings) (ls : Lists) (t : State) (m : Rooms) (bar : List ℕ) (fine : stepJudged s t bar m ls ≡ Fine)
+module _ (s : Settings) (ls : Lists) (t : State) (m : Rooms) (bar : List ℕ) (fine : stepVerdict s t bar m ls ≡ Fine)
     (a : Account) (rows : List ℕ) (f : Follows s t m a rows) where
   -- what the bar comes to over all rows is what it comes to over those held
   same-taken : taken s (byLists s ls) (accountOf t) (rowsHeld s t m) bar ≡ taken s (byLists s ls) a rows bar
-  same-taken = rw (← (f .account)) (taken-alike s (accountOf t) (rowsHeld s t m) bar ls rows (step-fine s t bar m ls fine .settings .behind) (f .window))
+  same-taken = rw (← (f .account)) (taken-alike s (accountOf t) (rowsHeld s t m) bar ls rows (verdict-fine s t bar m ls fine .settings .behind) (f .window))
 
   pub step-follows : let d = stepped s t bar m ls in
       Follows s (d .result) (d .rooms) (taken s (byLists s ls) a rows bar .account) (rows ++ rowOf (s .slots) bar)
   step-follows = record {
-    account = account-after s t bar m ls (step-fine s t bar m ls fine) ∙ rw same-taken;
-    window = window-after s t bar m ls (step-fine s t bar m ls fine) ∙ last-alike s a (rowsHeld s t m) bar rows (f .window);
+    account = account-after s t bar m ls (verdict-fine s t bar m ls fine) ∙ rw same-taken;
+    window = window-after s t bar m ls (verdict-fine s t bar m ls fine) ∙ last-alike s a (rowsHeld s t m) bar rows (f .window);
   }
 
   pub step-grows : let d = stepped s t bar m ls in
       let b = taken s (byLists s ls) a rows bar in
       Grown t m (d .result) (d .rooms) (b .point ∷ []) (b .trades)
   step-grows =
-      let there = step-fine s t bar m ls fine in
+      let there = verdict-fine s t bar m ls fine in
       rw (← same-taken) (books-grow s (byLists s ls) t bar m ls (there .points) (there .trades))
 
 -- ---- bars
@@ -55,7 +54,7 @@ module _ (s : Settings) (ls : Lists) (t : State) (m : Rooms) (a : Account) (rows
   unfolding wholeRun flatMap
   whole-none = record { follows = record { account = f .account; window = rw append-nil (f .window) }; grows = grown-none t m }
 
-  whole-more : (bar : List ℕ) (bars : List (List ℕ)) (u : State) (n : Rooms) → stepJudged s t bar m ls ≡ Fine
+  whole-more : (bar : List ℕ) (bars : List (List ℕ)) (u : State) (n : Rooms) → stepVerdict s t bar m ls ≡ Fine
       → let d = stepped s t bar m ls in
       RunsWhole s ls (d .result) (d .rooms) (taken s (byLists s ls) a rows bar .account) (rows ++ rowOf (s .slots) bar) bars u n
       → RunsWhole s ls t m a rows (bar ∷ bars) u n
@@ -71,7 +70,7 @@ pub run-follows : (s : Settings) (ls : Lists) (bars : List (List ℕ)) (t : Stat
     RunsWhole s ls t m a rows (take (r .done) bars) (r .state) (r .rooms)
 run-follows s ls [] t m a rows f = rw (run-none s ls t m) (whole-none s ls t m a rows f)
 run-follows s ls (bar ∷ bars) t m a rows f =
-    go (stepJudged s t bar m ls) refl
+    go (stepVerdict s t bar m ls) refl
     (λ h. run-follows s ls bars (stepped s t bar m ls .result) (stepped s t bar m ls .rooms) _ _ (step-follows s ls t m bar h a rows f))
   where
     d : With State
@@ -80,8 +79,8 @@ run-follows s ls (bar ∷ bars) t m a rows f =
     later : Run
     later = runOver s ls (d .result) (d .rooms) bars
 
-    go : (v : Verdict) → stepJudged s t bar m ls ≡ v
-        → (stepJudged s t bar m ls ≡ Fine → RunsWhole s ls (d .result) (d .rooms)
+    go : (v : Verdict) → stepVerdict s t bar m ls ≡ v
+        → (stepVerdict s t bar m ls ≡ Fine → RunsWhole s ls (d .result) (d .rooms)
         (taken s (byLists s ls) a rows bar .account) (rows ++ rowOf (s .slots) bar) (take (later .done) bars) (later .state) (later .rooms))
         → let r = runOver s ls t m (bar ∷ bars) in
         RunsWhole s ls t m a rows (take (r .done) (bar ∷ bars)) (r .state) (r .rooms)

@@ -2,7 +2,7 @@
 use Prim.Native.Nat.{ℕ, _≤_}
 use mathlib.Core.Path.{_≡_, refl, sym}
 use mathlib.Core.Bool.{Bool, true, false, cond, _&&_, _||_}
-use mathlib.Core.List.{List, [], _∷_}
+use mathlib.Core.List.{List, [], _∷_, _++_}
 use native.Mathlib.Omega.{arith}
 use borrow.Author.Tests.{le-leb, leb-true}
 use lib.Dec.{leb}
@@ -14,7 +14,7 @@ use Rattle.records.specs.State.{freshState}
 use Rattle.refusals.specs.declared.verdict.Verdict.{Verdict}
 use Rattle.refusals.specs.declared.verdict.Verdict.the-variants.{Bad}
 use Rattle.refusals.specs.Bar.{barLines}
-use Rattle.refusals.specs.Judgement.{runLines, stepLines, stepJudged}
+use Rattle.refusals.specs.Judgement.{runLines, stepLines}
 use Rattle.refusals.specs.Laws.Lines.{never, and-true}
 use Rattle.words.specs.Outcome.{refusal}
 use Rattle.refusals.specs.Lines.{Line, judged}
@@ -26,6 +26,7 @@ use Rattle.engine.specs.Laws.Alike.{step-sound}
 use Rattle.engine.specs.Laws.Runs.{run-ends}
 use Rattle.engine.specs.Laws.TwoRuns.{fresh-sound}
 use Rattle.engine.specs.Run.{runOver}
+use Rattle.engine.specs.Step.{sizeLines, stepVerdict}
 
 -- each line has a number above 10, or holds
 aboveTen : List Line → Bool
@@ -48,8 +49,8 @@ above-ten (l ∷ ls) why a e =
 
 -- the first line of a step holds, and the others have other numbers
 step-above : (s : Settings) (t : State) (bar : List ℕ) (m : Rooms) (ls : Lists) → s .depth ≤ rowPlaces (s .slots) (m .rows)
-    → aboveTen (stepLines s t bar m ls) ≡ true
-unfolding aboveTen stepLines runLines roomLines settingLines termLines sizingLines slippageLines riskLines stateLines placeLines barLines listLines
+    → aboveTen (stepLines s t bar m ls ++ sizeLines s t bar m) ≡ true
+unfolding aboveTen sizeLines stepLines runLines roomLines settingLines termLines sizingLines slippageLines riskLines stateLines placeLines barLines listLines
 step-above s t bar m ls deep = rw (le-leb _ _ deep)
 
 -- Over any bars from a fresh state.
@@ -59,6 +60,6 @@ never-ten s ls m bars deep why e ten =
     let above : (why : Refusal) → runOver s ls (freshState s) m bars .verdict ≡ Bad why → 11 ≤ why .number =
     run-ends s ls (Sound s) (λ t m bar h r. step-sound s t bar m ls r)
     (λ v. (why : Refusal) → v ≡ Bad why → 11 ≤ why .number) (λ why e. never (sym e))
-    (λ t m bar r why e. above-ten (stepLines s t bar m ls) why (step-above s t bar m ls (r .depth)) (unfold stepJudged in e))
+    (λ t m bar r why e. above-ten (stepLines s t bar m ls ++ sizeLines s t bar m) why (step-above s t bar m ls (r .depth)) (unfold stepVerdict in e))
     bars (freshState s) m (fresh-sound s m deep) in
     omega (arith, above why e)

@@ -8,7 +8,6 @@ use Rattle.records.specs.Lent.{Lists, Rooms, rowPlaces}
 use Rattle.records.specs.State.{freshState}
 use Rattle.refusals.specs.declared.verdict.Verdict.{Verdict}
 use Rattle.refusals.specs.declared.verdict.Verdict.the-variants.{Fine, Bad}
-use Rattle.refusals.specs.Judgement.{stepJudged}
 use Rattle.refusals.specs.Laws.Lines.{never}
 use Rattle.engine.specs.Boxes.{Sound, SameCounts, NotFull, Alike}
 use Rattle.engine.specs.Laws.Alike.{step-alike, step-counts, step-sound}
@@ -16,7 +15,7 @@ use Rattle.engine.specs.Laws.Counts.{fresh-within}
 use Rattle.engine.specs.Laws.Runs.{run-none, run-stops, run-takes, run-keeps}
 use Rattle.engine.specs.Laws.Verdicts.{roomy, same-verdict, same-unless-full}
 use Rattle.engine.specs.Run.{Run, runOver}
-use Rattle.engine.specs.Step.{With, stepped}
+use Rattle.engine.specs.Step.{With, stepped, stepVerdict}
 
 -- ---- a box that is sound stays so
 
@@ -33,9 +32,9 @@ run-sound s ls bars t m r = run-keeps s ls (Sound s) (λ u n bar h q. step-sound
 -- take as many bars and end with the same verdict.
 module _ (s : Settings) (ls : Lists) (Free : Verdict → Type 0) (free : Free Fine) (Q : State → Rooms → State → Rooms → Type 0)
     (judge : (t : State) (m : Rooms) (t′ : State) (m′ : Rooms) (bar : List ℕ) → Alike s t m t′ m′ → Q t m t′ m′
-    → Free (stepJudged s t bar m ls) → Free (stepJudged s t′ bar m′ ls) → stepJudged s t bar m ls ≡ stepJudged s t′ bar m′ ls)
+    → Free (stepVerdict s t bar m ls) → Free (stepVerdict s t′ bar m′ ls) → stepVerdict s t bar m ls ≡ stepVerdict s t′ bar m′ ls)
     (keep : (t : State) (m : Rooms) (t′ : State) (m′ : Rooms) (bar : List ℕ) → Alike s t m t′ m′
-    → stepJudged s t bar m ls ≡ Fine → stepJudged s t′ bar m′ ls ≡ Fine → Q t m t′ m′
+    → stepVerdict s t bar m ls ≡ Fine → stepVerdict s t′ bar m′ ls ≡ Fine → Q t m t′ m′
     → Q (stepped s t bar m ls .result) (stepped s t bar m ls .rooms) (stepped s t′ bar m′ ls .result) (stepped s t′ bar m′ ls .rooms)) where
   abbrev Ends : Run → Run → Type 0
   Ends r r′ = Free (r .verdict) → Free (r′ .verdict) → (r .done ≡ r′ .done) × (r .verdict ≡ r′ .verdict)
@@ -44,7 +43,7 @@ module _ (s : Settings) (ls : Lists) (Free : Verdict → Type 0) (free : Free Fi
       → Ends (runOver s ls t m bars) (runOver s ls t′ m′ bars)
   two-runs [] t m t′ m′ alike q = rw (run-none s ls t m, run-none s ls t′ m′) (λ f f′. (refl, refl))
   two-runs (bar ∷ bars) t m t′ m′ alike q =
-      go (stepJudged s t bar m ls) (stepJudged s t′ bar m′ ls) refl refl
+      go (stepVerdict s t bar m ls) (stepVerdict s t′ bar m′ ls) refl refl
       (λ h h′. two-runs bars _ _ _ _ (step-alike s ls t m t′ m′ bar alike h h′) (keep t m t′ m′ bar alike h h′ q))
     where
       d : With State
@@ -54,11 +53,11 @@ module _ (s : Settings) (ls : Lists) (Free : Verdict → Type 0) (free : Free Fi
       d′ = stepped s t′ bar m′ ls
 
       -- judged the same, were both verdicts free
-      so : (v v′ : Verdict) → stepJudged s t bar m ls ≡ v → stepJudged s t′ bar m′ ls ≡ v′ → Free v → Free v′ → v ≡ v′
+      so : (v v′ : Verdict) → stepVerdict s t bar m ls ≡ v → stepVerdict s t′ bar m′ ls ≡ v′ → Free v → Free v′ → v ≡ v′
       so v v′ e e′ f f′ = sym e ∙ judge t m t′ m′ bar alike q (rw e f) (rw e′ f′) ∙ e′
 
-      go : (v v′ : Verdict) → stepJudged s t bar m ls ≡ v → stepJudged s t′ bar m′ ls ≡ v′
-          → (stepJudged s t bar m ls ≡ Fine → stepJudged s t′ bar m′ ls ≡ Fine
+      go : (v v′ : Verdict) → stepVerdict s t bar m ls ≡ v → stepVerdict s t′ bar m′ ls ≡ v′
+          → (stepVerdict s t bar m ls ≡ Fine → stepVerdict s t′ bar m′ ls ≡ Fine
           → Ends (runOver s ls (d .result) (d .rooms) bars) (runOver s ls (d′ .result) (d′ .rooms) bars))
           → Ends (runOver s ls t m (bar ∷ bars)) (runOver s ls t′ m′ (bar ∷ bars))
       go (Bad w) (Bad w′) e e′ later =
@@ -77,7 +76,7 @@ pub same-counts-run : (s : Settings) (ls : Lists) (bars : List (List ℕ)) (t : 
     (r .done ≡ r′ .done) × (r .verdict ≡ r′ .verdict)
 same-counts-run s ls bars t m t′ m′ alike sound sound′ counts =
     two-runs s ls (λ v. Unit {0}) tt (λ t m t′ m′. Sound s t m × Sound s t′ m′ × SameCounts t m t′ m′)
-    (λ t m t′ m′ bar a q f f′. same-verdict s t t′ m m′ (roomy (q .0)) (roomy (q .1)) (a .account) (q .2) bar ls)
+    (λ t m t′ m′ bar a q f f′. same-verdict s t t′ m m′ (roomy (q .0)) (roomy (q .1)) a (q .2) bar ls)
     (λ t m t′ m′ bar a h h′ q. (
       step-sound s t bar m ls (q .0),
       step-sound s t′ bar m′ ls (q .1),
@@ -94,6 +93,6 @@ pub other-books-run : (s : Settings) (ls : Lists) (bars : List (List ℕ)) (t : 
 unfolding NotFull
 other-books-run s ls bars t m t′ m′ alike sound sound′ =
     two-runs s ls NotFull (λ why e. never (sym e)) (λ t m t′ m′. Sound s t m × Sound s t′ m′)
-    (λ t m t′ m′ bar a q f f′. same-unless-full s t t′ m m′ (q .0) (q .1) (a .account) bar ls f f′)
+    (λ t m t′ m′ bar a q f f′. same-unless-full s t t′ m m′ (q .0) (q .1) a bar ls f f′)
     (λ t m t′ m′ bar a h h′ q. (step-sound s t bar m ls (q .0), step-sound s t′ bar m′ ls (q .1)))
     bars t m t′ m′ alike (sound, sound′)

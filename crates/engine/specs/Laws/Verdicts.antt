@@ -1,5 +1,5 @@
--- Two boxes with the same account and room for D rows are judged by the same lines, but for those of a full book.
-use Prim.Native.Nat.{ℕ, _≤_}
+-- Two boxes with the same account, the same last D rows and room for D rows are judged by the same lines, but for those of a full book.
+use Prim.Native.Nat.{ℕ, _≤_, _<_}
 use mathlib.Core.Path.{_≡_, refl, sym, _∙_}
 use mathlib.Core.Bool.{Bool, true, false, cond, _&&_}
 use mathlib.Core.List.{List, [], _∷_, _++_}
@@ -21,10 +21,13 @@ use Rattle.words.specs.Outcome.{refusal}
 use Rattle.refusals.specs.Lines.{Line, line, judged}
 use Rattle.refusals.specs.Bar.{barLines}
 use Rattle.refusals.specs.Lists.{listLines}
+use Rattle.refusals.specs.Settings.{lookback}
 use Rattle.refusals.specs.Rooms.{entryBelow, roomLines, stateLines, placeLines, toClose, closeLines}
-use Rattle.engine.specs.Boxes.{WithinRooms, Roomy, Sound, SameCounts, NotFull}
-use Rattle.engine.specs.Laws.AccountStep.{same-parts}
-use Rattle.engine.specs.Whole.{accountOf}
+use Rattle.engine.specs.Boxes.{WithinRooms, Roomy, Sound, SameCounts, Alike, NotFull}
+use Rattle.engine.specs.Laws.AccountStep.{same-parts, fill-alike}
+use Rattle.engine.specs.Laws.Verdict.{handed-bad, verdicts-alike}
+use Rattle.engine.specs.Step.{sizeLines, stepVerdict}
+use Rattle.engine.specs.Whole.{accountOf, rowsHeld}
 
 pub roomy : {s : Settings} {t : State} {m : Rooms} → Sound s t m → Roomy s t m
 roomy r = record { depth = r .depth; rows = r .within .rows; rowsSeen = r .within .rowsSeen }
@@ -61,21 +64,34 @@ module _ (s : Settings) (t : State) (m : Rooms) where
 
 module _ (s : Settings) (t t′ : State) (m m′ : Rooms) (r : Roomy s t m) (r′ : Roomy s t′ m′) (same : accountOf t ≡ accountOf t′)
     (c : SameCounts t m t′ m′) where
-  -- THE SAME VERDICT, number and place, on a bar
-  pub same-verdict : (bar : List ℕ) (ls : Lists) → stepJudged s t bar m ls ≡ stepJudged s t′ bar m′ ls
+  same-handed : (bar : List ℕ) (ls : Lists) → stepJudged s t bar m ls ≡ stepJudged s t′ bar m′ ls
   unfolding stepJudged stepLines runLines placeLines
-  same-verdict bar ls =
+  same-handed bar ls =
       let p = same-parts t t′ same in
       rw (room-lines s t m r, room-lines s t′ m′ r′, state-lines s t m r, state-lines s t′ m′ r′)
       (rw (p .seen, p .position, c .points, c .trades, c .equity, c .closed))
 
-  -- and at the end
+  -- THE SAME VERDICT, number and place, at the end
   pub same-finish-verdict : finishJudged s t m ≡ finishJudged s t′ m′
   unfolding finishJudged finishLines closeLines toClose
   same-finish-verdict =
       let p = same-parts t t′ same in
       rw (room-lines s t m r, room-lines s t′ m′ r′, state-lines s t m r, state-lines s t′ m′ r′)
       (rw (p .seen, p .position, c .points, c .trades, c .equity, c .closed))
+
+-- what is filled is the same, where the lookback is below D
+same-sizes : (s : Settings) (t t′ : State) (m m′ : Rooms) → Alike s t m t′ m′ → (bar : List ℕ) → lookback (s .terms .sizing) < s .depth
+    → sizeLines s t bar m ≡ sizeLines s t′ bar m′
+unfolding sizeLines
+same-sizes s t t′ m m′ a bar deep =
+    let p = same-parts t t′ (a .account) in
+    rw (fill-alike s (accountOf t) (rowsHeld s t m) bar (rowsHeld s t′ m′) deep (a .window)) (rw (p .seen, p .order, p .position))
+
+-- THE SAME VERDICT, number and place, on a bar: also of 16, which reads the rows
+pub same-verdict : (s : Settings) (t t′ : State) (m m′ : Rooms) → Roomy s t m → Roomy s t′ m′ → Alike s t m t′ m′ → SameCounts t m t′ m′
+    → (bar : List ℕ) (ls : Lists) → stepVerdict s t bar m ls ≡ stepVerdict s t′ bar m′ ls
+same-verdict s t t′ m m′ r r′ a c bar ls =
+    verdicts-alike s t t′ bar m m′ ls (same-handed s t t′ m m′ r r′ (a .account) c bar ls) (λ f. same-sizes s t t′ m m′ a bar (f .settings .behind))
 
 -- ---- other books: the same verdict, unless one is full
 
@@ -121,12 +137,11 @@ books-within s t m w = (
   rw (le-leb _ _ (w .points), le-leb _ _ (w .trades)),
 )
 
--- THE SAME VERDICT on a bar, whatever the books, unless one is refused with 14
-pub same-unless-full : (s : Settings) (t t′ : State) (m m′ : Rooms) → Sound s t m → Sound s t′ m′ → accountOf t ≡ accountOf t′
+handed-unless-full : (s : Settings) (t t′ : State) (m m′ : Rooms) → Sound s t m → Sound s t′ m′ → accountOf t ≡ accountOf t′
     → (bar : List ℕ) (ls : Lists) → NotFull (stepJudged s t bar m ls) → NotFull (stepJudged s t′ bar m′ ls)
     → stepJudged s t bar m ls ≡ stepJudged s t′ bar m′ ls
 unfolding stepJudged stepLines runLines
-same-unless-full s t t′ m m′ r r′ same bar ls f f′ =
+handed-unless-full s t t′ m m′ r r′ same bar ls f f′ =
     let start : List Line = runLines s t′ m′ in
     let whole : Line = line (eqb (length bar) (barWords (s .slots))) 13 0 in
     let rest : List Line = barLines (s .slots) bar (t′ .counts .«bars_seen») ++ listLines (s .slots) (s .depth) ls in
@@ -142,3 +157,14 @@ same-unless-full s t t′ m m′ r r′ same bar ls f f′ =
     (above (whole ∷ []) (p ++ rest) (p′ ++ rest)
     (λ g g′. places-passed (t .counts) (m .equity) (m .trades) rest g ∙ sym (places-passed (t′ .counts) (m′ .equity) (m′ .trades) rest g′)))
     (rw e at f) f′)
+
+-- THE SAME VERDICT on a bar, whatever the books, unless one is refused with 14
+pub same-unless-full : (s : Settings) (t t′ : State) (m m′ : Rooms) → Sound s t m → Sound s t′ m′ → Alike s t m t′ m′
+    → (bar : List ℕ) (ls : Lists) → NotFull (stepVerdict s t bar m ls) → NotFull (stepVerdict s t′ bar m′ ls)
+    → stepVerdict s t bar m ls ≡ stepVerdict s t′ bar m′ ls
+unfolding NotFull
+same-unless-full s t t′ m m′ r r′ a bar ls f f′ =
+    verdicts-alike s t t′ bar m m′ ls
+    (handed-unless-full s t t′ m m′ r r′ (a .account) bar ls
+    (λ why e. f why (handed-bad s t bar m ls why e)) (λ why e. f′ why (handed-bad s t′ bar m′ ls why e)))
+    (λ fine. same-sizes s t t′ m m′ a bar (fine .settings .behind))

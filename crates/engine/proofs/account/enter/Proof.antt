@@ -12,4 +12,7 @@ enter-spec =
     (λ c κs. search needs)
     (λ c κs. search needs)
     (λ c κs. search needs)
-    (λ c. simp (c .entering .ensures, c .before .execute-entry .ensures, c .before .before .held-rows .ensures)))
+    (λ c κs. search needs)
+    (λ c.
+    let entry = c .before in
+    simp (c .is-turned-away .ensures, entry .entering .ensures, entry .before .execute-entry .ensures, entry .before .before .held-rows .ensures)))

@@ -11,9 +11,13 @@ returns c =
 
 returns-2 : tie.Need-returns-2
 unfolding entering
-returns-2 c =
+returns-2 c = simp (c .enum-told2 .given .1)
+
+returns-3 : tie.Need-returns-3
+unfolding entering
+returns-3 c =
     let c1 = c .before in
     simp (c1 .entry .given .1)
 
 pub entering-spec : {M : Type 1} → statement M
-entering-spec = tie.close (tie.spec (λ c. search needs) (λ c. search needs) returns returns-2)
+entering-spec = tie.close (tie.spec (λ c. search needs) (λ c. search needs) (λ c. search needs) returns returns-2 returns-3)

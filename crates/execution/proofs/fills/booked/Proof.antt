@@ -1,4 +1,4 @@
--- `booked`: one test, then `enter`.
+-- `booked`: a case each, then one test and `enter`.
 use Rattle.execution.specs.Fills.{booked}
 use borrow.Author.Needs.{needs}
 use Rattle.execution.proofs.fills.booked.Statement.{statement}
@@ -6,4 +6,16 @@ use Rattle.execution.proofs.fills.booked.Tie as tie
 
 pub booked-spec : {M : Type 1} → statement M
 unfolding booked
-booked-spec = tie.close (tie.spec (λ c κs. search needs) (λ c. simp (c .enter .ensures, c .before .before .if1 .taken)) (λ c. simp (c .if1 .left)))
+booked-spec =
+    tie.close
+    (tie.spec
+    (λ c. search needs)
+    (λ c. search needs)
+    (λ c. search needs)
+    (λ c κs. search needs)
+    (λ c.
+    let test = c .before .before in
+    simp (c .enter .ensures, test .if1 .taken, test .before .before .ordered .given .1))
+    (λ c. simp (c .enum-told .given .1))
+    (λ c. simp (c .enum-told2 .given .1))
+    (λ c. simp (c .if1 .left, c .before .before .ordered .given .1)))

@@ -1,4 +1,5 @@
--- `execute_entry`: the calls, one in the other.
+-- `execute_entry`: whether the probe is too large, then the calls, one in the other.
+use mathlib.Core.Path.{sym, _∙_}
 use Rattle.execution.specs.Fills.{executeEntry}
 use borrow.Author.Needs.{needs}
 use Rattle.execution.proofs.fills.execute_entry.Statement.{statement}
@@ -7,16 +8,26 @@ use Rattle.execution.proofs.fills.execute_entry.Tie as tie
 returns : tie.Need-returns
 unfolding executeEntry
 returns c =
-    let slip = c .before .before in
-    let probe = slip .before in
-    let vol = probe .before in
+    let probe = c .before .before in
+    simp (simp (probe .probe-qty .ensures, probe .before .volatility-for .ensures) at (sym (c .before .is-too-large .ensures) ∙ c .if1 .taken))
+
+returns-2 : tie.Need-returns-2
+unfolding executeEntry
+returns-2 c =
+    let sized = c .before .before in
+    let slip = sized .before in
+    let none = slip .before .before in
+    let probe = none .before .before in
     simp (
-      c .filled .ensures,
-      c .before .size .ensures,
+      c .booked .ensures,
+      c .before .within-volume .ensures,
+      sized .quantity .ensures,
       slip .slippage-rate .ensures,
+      slip .before .or-zero .ensures,
+      simp (probe .probe-qty .ensures, probe .before .volatility-for .ensures) at (sym (none .before .is-too-large .ensures) ∙ none .if1 .left),
       probe .probe-qty .ensures,
-      vol .volatility-for .ensures,
-      vol .before .direction .ensures,
+      probe .before .volatility-for .ensures,
+      probe .before .before .direction .ensures,
     )
 
 pub execute-entry-spec : {M : Type 1} → statement M
@@ -27,6 +38,10 @@ execute-entry-spec =
     (λ c κs. search needs)
     (λ c κs. search needs)
     (λ c κs. search needs)
+    returns
     (λ c κs. search needs)
     (λ c κs. search needs)
-    returns)
+    (λ c κs. search needs)
+    (λ c κs. search needs)
+    (λ c κs. search needs)
+    returns-2)

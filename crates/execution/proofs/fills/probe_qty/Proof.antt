@@ -11,9 +11,8 @@ probe-qty-spec =
     (tie.spec
     (λ c. search needs)
     (λ c κs. search needs)
-    (λ c κs. search needs)
     (λ c. search needs)
     (λ c. search needs)
-    (λ c. simp (c .unwrap-or .ensures, c .before .size .ensures, c .before .before .enum-told .given .1))
+    (λ c. simp (c .quantity .ensures, c .before .enum-told .given .1))
     (λ c. simp (c .enum-told2 .given .1))
     (λ c. simp (c .enum-told3 .given .1)))

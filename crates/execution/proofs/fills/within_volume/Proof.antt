@@ -1,4 +1,4 @@
--- `within_volume`: the switch, then what `min` ensures.
+-- `within_volume`: a case each, then the switch, and the two calls, one in the other.
 use Rattle.execution.specs.Fills.{withinVolume}
 use borrow.Author.Needs.{needs}
 use Rattle.execution.proofs.fills.within_volume.Statement.{statement}
@@ -7,4 +7,16 @@ use Rattle.execution.proofs.fills.within_volume.Tie as tie
 pub within-volume-spec : {M : Type 1} → statement M
 unfolding withinVolume
 within-volume-spec =
-    tie.close (tie.spec (λ c κs. search needs) (λ c. simp (c .min .ensures, c .before .before .if1 .taken)) (λ c. simp (c .if1 .left)))
+    tie.close
+    (tie.spec
+    (λ c. search needs)
+    (λ c. search needs)
+    (λ c. search needs)
+    (λ c κs. search needs)
+    (λ c κs. search needs)
+    (λ c.
+    let test = c .before .before .before in
+    simp (c .in-lots .ensures, c .before .min .ensures, test .if1 .taken, test .before .before .sized .given .1))
+    (λ c. simp (c .enum-told .given .1))
+    (λ c. simp (c .enum-told2 .given .1))
+    (λ c. simp (c .if1 .left, c .before .before .sized .given .1)))

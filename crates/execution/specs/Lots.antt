@@ -1,0 +1,39 @@
+-- Whole lots: "Brokers reject 3.7 contracts. Sizing gains a lot." Definitions only.
+use mathlib.Core.Bool.{Bool, true, false, cond}
+use lib.Ieee as Ieee
+use lib.Ieee.{Float}
+use Rattle.floats.specs.Floats.{_⊗_, _⊘_, _≼_, zero, one}
+use Rattle.floats.specs.Floor.{floor, twoTo53}
+use Rattle.floats.specs.Sums.{counted}
+use Rattle.execution.specs.declared.Optional.{Optional}
+use Rattle.execution.specs.declared.Optional.the-variants as Optional
+use Rattle.execution.specs.declared.Quantity.{Quantity}
+use Rattle.execution.specs.declared.Quantity.the-variants.{Nothing, TooLarge, Of}
+
+-- "k the largest whole number at most qty/lot as floats compute it; a quotient of 2^53 or more is turned away. A k of 0 or less, or a
+-- quotient that is NaN, means no order."
+unfoldable pub wholeLots : Float → Float → Quantity
+wholeLots lot quotient =
+    cond (twoTo53 ≼ quotient) TooLarge
+    (cond (one ≼ quotient) (Of (counted (floor quotient) ⊗ lot)) Nothing)
+
+-- "The quantity becomes k·lot"; "A lot of 0 means as before."
+unfoldable pub inLots : Float → Float → Quantity
+inLots lot qty = cond (Ieee.eq lot zero) (Of qty) (wholeLots lot (qty ⊘ lot))
+
+-- "This applies after the leverage cap": to what `size` gives
+unfoldable pub sizeInLots : Float → Optional → Quantity
+sizeInLots lot Optional.Absent = Nothing
+sizeInLots lot (Optional.Of qty) = inLots lot qty
+
+-- ---- of a quantity
+
+abbrev pub isTooLarge : Quantity → Bool
+isTooLarge Nothing = false
+isTooLarge TooLarge = true
+isTooLarge (Of qty) = false
+
+abbrev pub orZero : Quantity → Float
+orZero Nothing = zero
+orZero TooLarge = zero
+orZero (Of qty) = qty

@@ -1,0 +1,42 @@
+-- An entry as the Rust has it, with no lots: what `executeEntry` is with a lot of 0 (WholeLots, `no-lots`). Definitions only, each under what
+-- the Rust writes.
+use mathlib.Core.Bool.{cond}
+use lib.Ieee.{Float}
+use Rattle.floats.specs.Floats.{_⊗_, min, zero}
+use Rattle.rows.specs.History.{History}
+use Rattle.portfolio.specs.declared.Candle.{Candle}
+use Rattle.portfolio.specs.declared.Portfolio.{Portfolio}
+use Rattle.execution.specs.Optional.{unwrapOr}
+use Rattle.execution.specs.Size.{size}
+use Rattle.execution.specs.Costs.{slippageRate, fillPrice}
+use Rattle.execution.specs.Fills.{direction, volatilityFor, booked}
+use Rattle.execution.specs.declared.Entry.{Entry}
+use Rattle.execution.specs.declared.Entry.the-variants.{NoEntry}
+use Rattle.execution.specs.declared.Optional.{Optional}
+use Rattle.execution.specs.declared.Optional.the-variants.{Absent, Of}
+use Rattle.execution.specs.declared.Quantity.the-variants as Quantity
+use Rattle.execution.specs.declared.Side.{Side}
+use Rattle.execution.specs.declared.Slippage.{Slippage}
+use Rattle.execution.specs.declared.Slippage.the-variants.{FixedBps, VolumeImpact, Unknown}
+use Rattle.execution.specs.declared.Terms.{Terms}
+
+-- `let probe_qty = match slippage { Slippage::VolumeImpact { .. } => size(..)?.unwrap_or(0.0), _ => 0.0 };`
+unfoldable pub rustProbe : Slippage → Terms → Float → Float → Optional → Float
+rustProbe (VolumeImpact coef) terms cash raw rv = unwrapOr (size (terms .sizing) (terms .risk) cash raw rv) zero
+rustProbe (FixedBps bps) terms cash raw rv = zero
+rustProbe Unknown terms cash raw rv = zero
+
+-- `if let Some(base) = size(..)? { let base = if partial_fills { base.min(max_participation * volume) } else { base }; .. }`
+unfoldable pub rustFill : Optional → Float → Float → Terms → Candle → Portfolio → Entry
+rustFill Absent dir fill terms k p = NoEntry
+rustFill (Of base) dir fill terms k p =
+    booked dir (Quantity.Of (cond (terms .«partial_fills») (min base (terms .«max_participation» ⊗ k .volume)) base)) fill terms k p
+
+-- `execute_entry`
+unfoldable pub rustEntry : Side → Float → Terms → Candle → Portfolio → History → Entry
+rustEntry side raw terms k p h =
+    let dir = direction side in
+    let rv = volatilityFor (terms .sizing) h in
+    let probe = rustProbe (terms .slippage) terms (p .cash) raw rv in
+    let fill = fillPrice raw dir (slippageRate (terms .slippage) probe (k .volume)) in
+    rustFill (size (terms .sizing) (terms .risk) (p .cash) fill rv) dir fill terms k p

@@ -1,0 +1,171 @@
+-- What whole lots come to: with a lot of 0 an entry is the Rust's, and with any other every quantity that is entered is k·lot.
+use mathlib.Core.Path.{_≡_, refl, ap, subst, _∙_}
+use mathlib.Core.Bool.{Bool, true, false, cond}
+use Prim.Native.Nat.{ℕ}
+use native.Mathlib.Omega.{arith}
+use lib.Ieee as Ieee
+use lib.Ieee.{Float}
+use Rattle.floats.specs.Floats.{_⊗_, _⊘_, _≺_, _≼_, min, eps, zero, one}
+use Rattle.floats.specs.Floor.{floor, twoTo53}
+use Rattle.floats.specs.Laws.Floor.{Counts, counts}
+use Rattle.floats.specs.Sums.{counted}
+use Rattle.rows.specs.History.{History}
+use Rattle.portfolio.specs.declared.Candle.{Candle}
+use Rattle.portfolio.specs.declared.Portfolio.{Portfolio}
+use Rattle.portfolio.specs.Portfolio.{entered}
+use Rattle.execution.specs.Costs.{slippageRate, fillPrice, takerRate}
+use Rattle.execution.specs.Optional.{unwrapOr}
+use Rattle.execution.specs.Size.{size}
+use Rattle.execution.specs.Lots.{wholeLots, inLots, sizeInLots, isTooLarge, orZero}
+use Rattle.execution.specs.Fills.{direction, volatilityFor, quantity, probeQty, withinVolume, booked, executeEntry, isTurnedAway}
+use Rattle.execution.specs.RustEntry.{rustProbe, rustFill, rustEntry}
+use Rattle.execution.specs.declared.Entry.{Entry}
+use Rattle.execution.specs.declared.Entry.the-variants.{NoEntry, Entered}
+use Rattle.execution.specs.declared.Entry.the-variants as Entry
+use Rattle.execution.specs.declared.Optional.{Optional}
+use Rattle.execution.specs.declared.Optional.the-variants as Optional
+use Rattle.execution.specs.declared.Quantity.{Quantity}
+use Rattle.execution.specs.declared.Quantity.the-variants.{Nothing, TooLarge, Of}
+use Rattle.execution.specs.declared.Side.{Side}
+use Rattle.execution.specs.declared.Slippage.{Slippage}
+use Rattle.execution.specs.declared.Slippage.the-variants.{FixedBps, VolumeImpact, Unknown}
+use Rattle.execution.specs.declared.Terms.{Terms}
+
+-- ---- a lot of 0
+
+-- the Rust turns none away
+quantity-booked : (dir base fill : Float) (terms : Terms) (k : Candle) (p : Portfolio) → isTurnedAway (booked dir (Of base) fill terms k p) ≡ false
+unfolding booked
+quantity-booked dir base fill terms k p =
+    by-test (eps ≺ base) (entered p (dir ⊗ base) fill (k .time) (base ⊗ fill ⊗ takerRate (terms .«taker_bps»)))
+  where
+    by-test : (some : Bool) (q : Portfolio) → isTurnedAway (cond some (Entered q fill) NoEntry) ≡ false
+    by-test true q = refl
+    by-test false q = refl
+
+rust-fills : (sized : Optional) (dir fill : Float) (terms : Terms) (k : Candle) (p : Portfolio) → isTurnedAway (rustFill sized dir fill terms k p) ≡ false
+unfolding rustFill
+rust-fills Optional.Absent dir fill terms k p = refl
+rust-fills (Optional.Of base) dir fill terms k p = quantity-booked dir _ fill terms k p
+
+module _ (terms : Terms) (none : Ieee.eq (terms .lot) zero ≡ true) where
+  unchanged : (qty : Float) → inLots (terms .lot) qty ≡ Of qty
+  unfolding inLots
+  unchanged qty = rw none
+
+  probe-as-before : (slippage : Slippage) (cash raw : Float) (rv : Optional)
+      → (isTooLarge (probeQty slippage terms cash raw rv) ≡ false) × (orZero (probeQty slippage terms cash raw rv) ≡ rustProbe slippage terms cash raw rv)
+  unfolding probeQty quantity rustProbe sizeInLots unwrapOr
+  probe-as-before (FixedBps bps) cash raw rv = (refl, refl)
+  probe-as-before Unknown cash raw rv = (refl, refl)
+  probe-as-before (VolumeImpact coef) cash raw rv = sized (size (terms .sizing) (terms .risk) cash raw rv)
+    where
+      sized : (o : Optional) → (isTooLarge (sizeInLots (terms .lot) o) ≡ false) × (orZero (sizeInLots (terms .lot) o) ≡ unwrapOr o zero)
+      sized Optional.Absent = (refl, refl)
+      sized (Optional.Of qty) = rw (unchanged qty) (refl, refl)
+
+  fill-as-before : (sized : Optional) (dir fill : Float) (k : Candle) (p : Portfolio)
+      → booked dir (withinVolume terms (sizeInLots (terms .lot) sized) (k .volume)) fill terms k p ≡ rustFill sized dir fill terms k p
+  unfolding sizeInLots withinVolume booked rustFill
+  fill-as-before Optional.Absent dir fill k p = refl
+  fill-as-before (Optional.Of qty) dir fill k p = rw (unchanged qty) (by-switch (terms .«partial_fills»))
+    where
+      by-switch : (on : Bool) → booked dir (cond on (inLots (terms .lot) (min qty (terms .«max_participation» ⊗ k .volume))) (Of qty)) fill terms k p
+          ≡ booked dir (Of (cond on (min qty (terms .«max_participation» ⊗ k .volume)) qty)) fill terms k p
+      by-switch true = rw (unchanged _)
+      by-switch false = refl
+
+  -- WITH A LOT OF 0 an entry is the Rust's.
+  pub no-lots : (side : Side) (raw : Float) (k : Candle) (p : Portfolio) (h : History) → executeEntry side raw terms k p h ≡ rustEntry side raw terms k p h
+  unfolding executeEntry rustEntry quantity
+  no-lots side raw k p h =
+      let probe = probe-as-before (terms .slippage) (p .cash) raw (volatilityFor (terms .sizing) h) in
+      rw (probe .0, probe .1) (fill-as-before _ _ _ k p)
+
+  -- and none is turned away
+  pub none-turned-away : (side : Side) (raw : Float) (k : Candle) (p : Portfolio) (h : History) → isTurnedAway (executeEntry side raw terms k p h) ≡ false
+  unfolding rustEntry
+  none-turned-away side raw k p h = ap isTurnedAway (no-lots side raw k p h) ∙ rust-fills _ _ _ terms k p
+
+-- ---- any other lot
+
+-- q is k·lot, where k is the largest whole number at most some quantity's quotient by the lot, from 1 to below 2^53 and exact as a float.
+pub record Whole (lot q : Float) : Type 0 where
+  pub qty : Float
+  pub k : ℕ
+  pub counts : Counts (qty ⊘ lot) k
+  pub made : q ≡ counted k ⊗ lot
+
+-- a quantity that is entered: such a q with the side's sign
+pub record EntersLots (lot dir qty : Float) : Type 0 where
+  pub q : Float
+  pub whole : Whole lot q
+  pub made : qty ≡ dir ⊗ q
+
+module _ (lot : Float) (some : Ieee.eq lot zero ≡ false) where
+  in-lots : (qty q : Float) → inLots lot qty ≡ Of q → Whole lot q
+  unfolding inLots wholeLots
+  in-lots qty q e = go (twoTo53 ≼ (qty ⊘ lot)) (one ≼ (qty ⊘ lot)) refl refl (rw some at e)
+    where
+      go : (large counted-at : Bool) → twoTo53 ≼ (qty ⊘ lot) ≡ large → one ≼ (qty ⊘ lot) ≡ counted-at
+          → cond large TooLarge (cond counted-at (Of (counted (floor (qty ⊘ lot)) ⊗ lot)) Nothing) ≡ Of q → Whole lot q
+      go true b l h e = absurd (let z : _≡_ {A = ℕ} 0 1 = cc in omega arith)
+      go false false l h e = absurd (let z : _≡_ {A = ℕ} 0 1 = cc in omega arith)
+      go false true l h e = record { qty = qty; k = floor (qty ⊘ lot); counts = counts (qty ⊘ lot) h l; made = cc }
+
+  -- a size in lots
+  sized-in-lots : (o : Optional) (q : Float) → sizeInLots lot o ≡ Of q → Whole lot q
+  unfolding sizeInLots
+  sized-in-lots Optional.Absent q e = absurd (let z : _≡_ {A = ℕ} 0 1 = cc in omega arith)
+  sized-in-lots (Optional.Of qty) q e = in-lots qty q e
+
+-- what the partial-fill cap leaves is in lots where the size is
+within-in-lots : (terms : Terms) (volume : Float) → Ieee.eq (terms .lot) zero ≡ false → (w : Quantity) (q : Float)
+    → ((b : Float) → w ≡ Of b → Whole (terms .lot) b) → withinVolume terms w volume ≡ Of q → Whole (terms .lot) q
+unfolding withinVolume
+within-in-lots terms volume some Nothing q sized e = absurd (let z : _≡_ {A = ℕ} 0 1 = cc in omega arith)
+within-in-lots terms volume some TooLarge q sized e = absurd (let z : _≡_ {A = ℕ} 0 1 = cc in omega arith)
+within-in-lots terms volume some (Of b) q sized e = by-switch (terms .«partial_fills») e
+  where
+    by-switch : (on : Bool) → cond on (inLots (terms .lot) (min b (terms .«max_participation» ⊗ volume))) (Of b) ≡ Of q → Whole (terms .lot) q
+    by-switch true e = in-lots (terms .lot) some _ q e
+    by-switch false e = sized q e
+
+-- what is entered is what was ordered, with its sign
+booked-qty : (dir : Float) (w : Quantity) (fill : Float) (terms : Terms) (k : Candle) (p q : Portfolio) (at : Float) (P : Float → Type 0)
+    → ((b : Float) → w ≡ Of b → P (dir ⊗ b)) → booked dir w fill terms k p ≡ Entered q at → P (q .qty)
+unfolding booked entered
+booked-qty dir Nothing fill terms k p q at P each e = absurd (let z : _≡_ {A = ℕ} 0 1 = cc in omega arith)
+booked-qty dir TooLarge fill terms k p q at P each e = absurd (let z : _≡_ {A = ℕ} 0 1 = cc in omega arith)
+booked-qty dir (Of b) fill terms k p q at P each e = by-test (eps ≺ b) e
+  where
+    opened : Portfolio
+    opened = entered p (dir ⊗ b) fill (k .time) (b ⊗ fill ⊗ takerRate (terms .«taker_bps»))
+
+    by-test : (some : Bool) → cond some (Entered opened fill) NoEntry ≡ Entered q at → P (q .qty)
+    by-test true e = let same : opened ≡ q = cc in subst (λ (x : Portfolio). P (x .qty)) same (each b refl)
+    by-test false e = absurd (let z : _≡_ {A = ℕ} 0 1 = cc in omega arith)
+
+-- WITH ANY OTHER LOT every quantity that is entered is k·lot for a whole k from 1 to below 2^53.
+pub entered-in-lots : (side : Side) (raw : Float) (terms : Terms) (k : Candle) (p q : Portfolio) (h : History) (fill : Float)
+    → Ieee.eq (terms .lot) zero ≡ false → executeEntry side raw terms k p h ≡ Entered q fill → EntersLots (terms .lot) (direction side) (q .qty)
+unfolding executeEntry quantity
+entered-in-lots side raw terms k p q h fill some e =
+    let rv = volatilityFor (terms .sizing) h in
+    let probe = probeQty (terms .slippage) terms (p .cash) raw rv in
+    by-probe (isTooLarge probe) (fillPrice raw (direction side) (slippageRate (terms .slippage) (orZero probe) (k .volume))) e
+  where
+    ordered : Float → Quantity
+    ordered price =
+        withinVolume terms (sizeInLots (terms .lot) (size (terms .sizing) (terms .risk) (p .cash) price (volatilityFor (terms .sizing) h))) (k .volume)
+
+    by-probe : (large : Bool) (price : Float) → cond large Entry.TooLarge (booked (direction side) (ordered price) price terms k p) ≡ Entered q fill
+        → EntersLots (terms .lot) (direction side) (q .qty)
+    by-probe true price e = absurd (let z : _≡_ {A = ℕ} 0 1 = cc in omega arith)
+    by-probe false price e =
+        booked-qty (direction side) (ordered price) price terms k p q fill (EntersLots (terms .lot) (direction side))
+        (λ b t. record {
+          q = b;
+          whole = within-in-lots terms (k .volume) some _ b (sized-in-lots (terms .lot) some _) t;
+          made = refl;
+        }) e
