@@ -48,14 +48,16 @@ enum {
     /* 10 to 16: the other things handed over. */
     YSH_REFUSED_ROOM = 10,      /* a room is too small. Place: its number (YSH_ROOM_ROWS ..). Commonly: the rows were laid out for another
                                  * D or K than settings 0 and 1 say; the room for steps was sized by steps and not by nodes; the
-                                 * settings are those of an older header, with fewer words */
+                                 * settings or the state are those of an older header, with fewer words */
     YSH_REFUSED_BAR = 11,       /* a price, the volume, a present slot, or the mark or rate of a supplied funding is not finite, or a bit
                                  * of the mask at or above K is set. Commonly: an indicator that has no value yet was handed over as a
                                  * NaN, with its bit set, in place of absent. Place: the bars seen, which is this bar's number */
     YSH_REFUSED_SETTING = 12,   /* a setting. Place: its number (YSH_SLOTS ..). 0: K above 64. 1: D is 0, above 4,096, or not above the lookback
-                                 * of a volatility target. 5, 9: a kind that does not exist. 12: risk sizing without a stop loss (its
-                                 * word may be there and its bit of YSH_GIVEN not). 7: from ysh_depth alone, a lookback above
-                                 * 4,095. 24: negative, or not finite. Else, and 12 too: not finite */
+                                 * of a volatility target. 5, 9, 20: a kind that does not exist. 12: risk sizing without a stop loss
+                                 * (its word may be there and its bit of YSH_GIVEN not). 7: from ysh_depth alone, a lookback above
+                                 * 4,095. 24: negative, or not finite. Else, and 12 too: not finite. 20 to 24 commonly: words that were
+                                 * spare in an older header and were not cleared; 21 and 22 are looked at even where the order kind
+                                 * does not use them */
     YSH_REFUSED_RECORDS = 13,   /* Place 0. Any of these:
                                  * - the bar is not exactly 10 + K words: two bars at once, the three words of funding left out, or
                                  *   another K than the settings';
@@ -75,21 +77,22 @@ enum {
                                  * - it was translated from a table with more slots than setting 0 says, or that looks further back
                                  *   than D, setting 1, allows (a look-back has to be below D);
                                  * - a kind that does not exist, an unused field that is not 0, a jump past the end of the list */
-    YSH_REFUSED_QUANTITY = 16   /* an entry is due, and its quantity, or with slippage by volume the one that is probed for it, is 2^53 lots or
-                                 * more. Commonly: a lot in other units than the quantity, or far too small a one. Nothing has changed, and
-                                 * the same order is due again at the next step: another lot, sizing or cap in its settings, or another
-                                 * open, lets the run go on. Place: the bars seen, which is this bar's number */
+    YSH_REFUSED_QUANTITY = 16   /* an entry is due, the bar reaches its level where it has one, and its quantity, or with slippage by volume the
+                                 * one that is probed for it, is 2^53 lots or more. Commonly: a lot in other units than the quantity, or far
+                                 * too small a one. Nothing has changed, and the same order is due again at the next step: another lot,
+                                 * sizing or cap in its settings, or another price, lets the run go on. Place: the bars seen, which is this
+                                 * bar's number */
 };
 
 /* ---- sizes, in words unless said */
 
 #define YSH_TABLE_BYTES 4112                      /* the largest table, in bytes: 16 + 16 * 256 */
 #define YSH_SETTING_WORDS 32                      /* word i is setting i; word 31: which optional ones are given */
-#define YSH_STATE_WORDS 17
+#define YSH_STATE_WORDS 22
 #define YSH_BAR_WORDS(slots) (10 + (slots))       /* time open high low close volume mask, slots, supplied mark rate */
 #define YSH_ROW_WORDS(slots) (7 + (slots))        /* time open high low close volume mask, slots */
 #define YSH_POINT_WORDS 2                         /* time, equity */
-#define YSH_TRADE_WORDS 8
+#define YSH_TRADE_WORDS 10
 #define YSH_METRIC_WORDS 9
 #define YSH_STEP_BYTES(nodes) (64 * (nodes))      /* room for the steps of a tree of so many nodes, in bytes */
 
@@ -163,11 +166,11 @@ enum {
     YSH_DEPTH,                  /* N  D, 1 to 4,096: what ysh_depth says, or more */
     YSH_CAPITAL,                /* F  the cash at the start */
     YSH_WARMUP,                 /* N  nothing is decided on bars numbered below it */
-    YSH_DELAY,                  /* N  bars that an order waits: with 0 it fills at the next bar's open */
+    YSH_DELAY,                  /* N  bars that an order waits: with 0 it is due on the next bar, a market order at its open */
     YSH_SIZING_KIND,            /* N  YSH_SIZE_FRACTION .. */
     YSH_SIZING_VALUE,           /* F */
     YSH_LOOKBACK,               /* N  rows; looked at for a volatility target only */
-    YSH_TAKER_BPS,              /* F  the fee of every fill, basis points of its value */
+    YSH_TAKER_BPS,              /* F  the fee of every fill but a limit's (YSH_MAKER_BPS), basis points of its value */
     YSH_SLIPPAGE_KIND,          /* N  YSH_SLIP_FIXED or YSH_SLIP_VOLUME */
     YSH_SLIPPAGE_VALUE,         /* F */
     YSH_FUNDING,                /*    0 off, any other on; so too YSH_LIQUIDATION and YSH_PARTIAL_FILLS */
@@ -179,8 +182,13 @@ enum {
     YSH_LIQUIDATION,
     YSH_PARTIAL_FILLS,
     YSH_PARTICIPATION,          /* F  with partial fills: the share of a bar's volume that an entry may take, 1 being all of it */
-    /* 20 to 23 are kept for later requests, and 25 to 30 are spare: none of them is looked at; write 0 */
-    YSH_LOT = 24,               /* F  a quantity is a whole number of lots, rounded down; 0: any quantity */
+    YSH_ENTRY_KIND,             /* N  YSH_AT_MARKET .. */
+    YSH_LEVEL_PCT,              /* F  percent that a limit or a stop, or a stop-limit's stop, stands over the deciding bar's close; below
+                                 *    0 it stands under it, for a long and for a short alike */
+    YSH_LIMIT_PCT,              /* F  percent, in the same way, of a stop-limit's limit; finite, but not used, for the other kinds */
+    YSH_MAKER_BPS,              /* F  the fee of a limit's entry, basis points of its value */
+    YSH_LOT,                    /* F  a quantity is a whole number of lots, rounded down; 0: any quantity */
+    /* 25 to 30 are spare: none of them is looked at; write 0 */
     YSH_GIVEN = 31              /* bit i is set where setting i is given, i from 12 to 16; other bits are not looked at */
 };
 
@@ -201,6 +209,15 @@ enum {
     YSH_SLIP_VOLUME             /* a coefficient: times the quantity, over the bar's volume, it is a fraction of the price */
 };
 
+/* the order kinds of an entry: when it fills, and at which price before slippage. Any other kind is refused (12 at 20) */
+
+enum {
+    YSH_AT_MARKET,              /* at the open */
+    YSH_AT_LIMIT,               /* a long where low <= level, at the level, or at the open where that is lower; a short mirrors */
+    YSH_AT_STOP,                /* a long where high >= level, at the level, or at the open where that is higher; a short mirrors */
+    YSH_AT_STOP_LIMIT           /* as a stop where its price is no worse than the limit, else at the limit where the bar reaches that */
+};
+
 /* ---- the state's words */
 
 enum {
@@ -213,7 +230,12 @@ enum {
     YSH_QTY,                    /* below 0 for a short */
     YSH_ENTRY_PRICE, YSH_ENTRY_TIME, YSH_ENTRY_FEE, YSH_FEES_PAID,
     YSH_EXTREME,                /* the most favourable price since the entry */
-    YSH_LAST_TIME, YSH_LAST_CLOSE
+    YSH_LAST_TIME, YSH_LAST_CLOSE,
+    YSH_ORDER_KIND,             /* YSH_AT_MARKET .. of an entry that works; any other word is a market order. 0 for an exit or none */
+    YSH_ORDER_LEVEL,            /* its level, a price; 0 where it has none */
+    YSH_ORDER_LIMIT,            /* a stop-limit's limit, a price; 0 where it has none */
+    YSH_OPEN_FUNDING,           /* what the open trade has paid in funding; below 0 it was received */
+    YSH_OPEN_WORST              /* its least favourable price so far */
 };
 
 /* the orders that may be working; any other word is none */
@@ -234,7 +256,10 @@ enum { YSH_BAR_TIME, YSH_BAR_OPEN, YSH_BAR_HIGH, YSH_BAR_LOW, YSH_BAR_CLOSE, YSH
 
 enum {
     YSH_TRADE_ENTRY_TIME, YSH_TRADE_EXIT_TIME, YSH_TRADE_ENTRY_PRICE, YSH_TRADE_EXIT_PRICE,
-    YSH_TRADE_QTY, YSH_TRADE_PNL, YSH_TRADE_RETURN_PCT, YSH_TRADE_REASON
+    YSH_TRADE_QTY, YSH_TRADE_PNL, YSH_TRADE_RETURN_PCT, YSH_TRADE_REASON,
+    YSH_TRADE_FUNDING,          /* funding paid during it, not part of the pnl; below 0 it was received */
+    YSH_TRADE_WORST             /* the least favourable price: the entry's fill, then each bar's low for a long or high for a short, from the
+                                 * entry bar to the closing bar, both included */
 };
 
 enum {

@@ -7,7 +7,7 @@ and of it the lowest place is taken. A call that is done leaves the equity point
 import math
 import sys
 
-from words import (EQUITY, FINISH, LISTS, METRIC_WORDS, METRICS, ROWS, SETTINGS, STATE, STATE_WORDS, STEP, TRADES, bits, lend,
+from words import (EQUITY, FINISH, LISTS, METRIC_WORDS, METRICS, ROWS, SETTINGS, STATE, STATE_WORDS, STEP, TRADES, TRADE_WORDS, bits, lend,
                    lend_bytes, line, refusal, setting_words)
 
 INF, NAN = math.inf, math.nan
@@ -16,18 +16,24 @@ LAST_TIME = 3
 ORDER = [10, 12, 13, 14, 11, 15, 16]
 # The orders to enter: long, short.
 ENTRIES = (1, 2)
+# A kind that names nothing: a market order, whose level and limit are not looked at.
+AT_MARKET = (0x5A5AA5A55A5AA5A5, NAN, INF)
+LIMIT, STOP, STOP_LIMIT = 1, 2, 3
 
 # Settings by name, with their numbers. Sizing and slippage are (kind, value ..); a level that is None is absent.
-VALUES = {"capital": 2, "taker": 8, "participation": 19}
+VALUES = {"capital": 2, "taker": 8, "participation": 19, "level": 21, "limit": 22, "maker": 23}
 LEVELS = {"stop": 12, "trailing": 13, "profit": 14, "leverage": 15, "position": 16}
 
 GOOD = {
     "K": 2, "D": 3, "capital": 1000.0, "taker": 0.0, "participation": 0.0,
     "sizing": ("fraction", 0.5), "slippage": ("fixed", 0.0),
-    "lot": 0.0, "order": 0,
+    "lot": 0.0,
     "stop": None, "trailing": None, "profit": None, "leverage": None, "position": None, "liquidation": 0,
+    "kind": "market", "level": 0.0, "limit": 0.0, "maker": 0.0,
+    # the working order, and what an entry waits for: its kind, level and limit
+    "order": 0, "waits": AT_MARKET,
     "bars": 3, "held": 3, "points": 3, "trades": 1, "entered": 2, "qty": 1.0,
-    "rows_room": 27, "equity_room": 8, "trades_room": 16,
+    "rows_room": 27, "equity_room": 8, "trades_room": 20,
     "time": 4, "bar_words": None, "prices": [1.0] * 4, "volume": 1.0, "mask": 0b01, "slots": [1.0, 0.0],
     "funding": None, "unsupplied": (0.0, 0.0),
     "lists": [b"", b"", b"", b""],
@@ -53,6 +59,8 @@ def settings_broken(c):
         yield 6
     if lookback is not None and lookback > 4095:
         yield 7
+    if c["kind"] not in ("market", "limit", "stop", "stop-limit"):
+        yield 20
     if slippage[0] not in ("fixed", "impact"):
         yield 9
     elif not math.isfinite(slippage[1]):
@@ -67,7 +75,7 @@ def settings_broken(c):
 
 
 def places(c):
-    return {"held": c["rows_room"] // (7 + c["K"]), "points": c["equity_room"] // 2, "trades": c["trades_room"] // 8}
+    return {"held": c["rows_room"] // (7 + c["K"]), "points": c["equity_room"] // 2, "trades": c["trades_room"] // TRADE_WORDS}
 
 
 def state_broken(c):
@@ -120,16 +128,34 @@ def cash_of(c):
     return 999.0 if c["qty"] != 0 else 1000.0
 
 
+def raw_price(c):
+    """Where a working entry fills, by request 1's words; None where the bar does not reach its level."""
+    (kind, level, limit), (start, high, low, _), buys = c["waits"], c["prices"], c["order"] == 1
+    below, above = min(start, level) if low <= level else None, max(start, level) if high >= level else None
+    if kind == LIMIT:
+        return below if buys else above
+    if kind not in (STOP, STOP_LIMIT):
+        return start
+    stop = above if buys else below
+    if kind == STOP or stop is None or (stop <= limit if buys else stop >= limit):
+        return stop
+    return limit if (low <= limit if buys else high >= limit) else None
+
+
+def fills(c):
+    return c["order"] in ENTRIES and raw_price(c) is not None
+
+
 def ordered(c):
-    """What an entry at the open orders, by its kind and after the leverage cap."""
-    (kind, value), price, cash = c["sizing"][:2], c["prices"][0], cash_of(c)
+    """What an entry that fills orders, by its kind and after the leverage cap."""
+    (kind, value), price, cash = c["sizing"][:2], raw_price(c), cash_of(c)
     wanted = {"fraction": cash * value / price, "quantity": value, "cash": value / price}[kind]
     return min(wanted * price, cash) / price
 
 
 def lots_broken(c):
-    """16: an entry is due and is of 2^53 lots or more. These cases have no slippage."""
-    return c["order"] in ENTRIES and c["lot"] > 0 and ordered(c) / c["lot"] >= 2.0**53
+    """16: an entry is due, reached, and of 2^53 lots or more. These cases have no slippage."""
+    return c["lot"] > 0 and fills(c) and ordered(c) / c["lot"] >= 2.0**53
 
 
 def step_refusals(c):
@@ -172,14 +198,15 @@ def answer(refusals):
 
 SIZINGS = ["fraction", "quantity", "cash", "target", "risk", "unknown"]
 SLIPPAGES = ["fixed", "impact", "unknown"]
+KINDS = ["market", "limit", "stop", "stop-limit", "unknown"]
 
 
 def settings_of(c):
     sizing, (slippage, cost) = c["sizing"], c["slippage"]
     lookback = sizing[2] if sizing[0] == "target" else 0
     values = [c["K"], c["D"], bits(c["capital"]), 0, 0, SIZINGS.index(sizing[0]), bits(sizing[1]), lookback, bits(c["taker"]),
-              SLIPPAGES.index(slippage), bits(cost), 0, 0, 0, 0, 0, 0, c["liquidation"], 0, bits(c["participation"]), 0, 0, 0, 0,
-              bits(c["lot"])]
+              SLIPPAGES.index(slippage), bits(cost), 0, 0, 0, 0, 0, 0, c["liquidation"], 0, bits(c["participation"]),
+              KINDS.index(c["kind"]), bits(c["level"]), bits(c["limit"]), bits(c["maker"]), bits(c["lot"])]
     return setting_words(values, [None if c[name] is None else bits(c[name]) for name in LEVELS])
 
 
@@ -188,9 +215,11 @@ def state_of(c):
     held = c["qty"] != 0
     entered = [0, 0] if c["entered"] is None else [1, c["entered"]]
     account = [cash_of(c), 1.0, 1.0] if held else [cash_of(c), 0.0, 0.0]
+    kind, level, limit = c["waits"]
     words = [c["bars"], c["held"], c["points"], c["trades"], c["order"], 0, *entered, *map(bits, account), LAST_TIME if held else 0, 0, 0,
-             bits(1.0 if held else 0.0), LAST_TIME, bits(1.0)]
-    return words + [0] * (STATE_WORDS - len(words))
+             bits(1.0 if held else 0.0), LAST_TIME, bits(1.0), kind, bits(level), bits(limit), bits(0.25), bits(0.5)]
+    assert len(words) == STATE_WORDS
+    return words
 
 
 def bar_of(c):
@@ -214,13 +243,13 @@ def lent(c):
 
 def held_after(c):
     """What is held after the fill, and the cash: an entry takes the place of what was held."""
-    if c["order"] not in ENTRIES:
+    if not fills(c):
         return c["qty"], cash_of(c)
     qty = ordered(c)
     if c["lot"] > 0:
         qty = math.floor(qty / c["lot"]) * c["lot"]
     signed = qty if c["order"] == 1 else -qty
-    return (signed, cash_of(c) - signed * c["prices"][0]) if qty > 2.0**-52 else (c["qty"], cash_of(c))
+    return (signed, cash_of(c) - signed * raw_price(c)) if qty > 2.0**-52 else (c["qty"], cash_of(c))
 
 
 def step_call(c):
@@ -241,11 +270,12 @@ def finish_call(c, figures_of):
     closed = c["qty"] != 0 and c["bars"] > 0
     trade = [LAST_TIME, LAST_TIME, bits(1.0), bits(1.0), bits(1.0), 0, 0, 6]
     trades = [0] * 8 * c["trades"] + (trade if closed else [])
+    noted = [bits(0.25), bits(0.5)]
     points = [0] * c["points"]
     if closed and points:
         points[-1] = bits(1000.0)
     figures = figures_of(bits(c["capital"]), points, trades)
-    return line(FINISH), line(told, *figures, *(trade if closed else []))
+    return line(FINISH), line(told, *figures, *(trade + noted if closed else []))
 
 
 def price(at, x):
@@ -271,6 +301,8 @@ GIVEN = {name: 1.0 for name in LEVELS} | {"liquidation": 1}
 FULL = {"trades": 2, "entered": None}
 # An entry is due, flat.
 DUE = {"order": 1, "qty": 0.0, "entered": None}
+# The same on a bar with a range.
+WIDE = DUE | {"prices": [2.0, 4.0, 1.0, 3.0]}
 # One fault for each number, in the paper's order.
 FAULTS = [(10, {"rows_room": 26}), (12, {"capital": NAN}), (13, {"trades": 3}), (14, {"points": 4}),
           (11, price(0, INF)), (15, entry(0)), (16, {"order": 1, "lot": 2.0**-60})]
@@ -325,6 +357,14 @@ STEPS = [
     ("impact no number", {"slippage": ("impact", NAN)}),
     ("participation 1", {"participation": 1.0}),
     ("participation infinite", {"participation": INF}),
+    # 12: entries
+    *[("order kind " + kind, {"kind": kind}) for kind in KINDS],
+    *[("%s %s" % (name, x), {name: x}) for name in ("level", "limit", "maker") for x in (-5.0, INF, NAN)],
+    ("level infinite, of a limit", {"kind": "limit", "level": -INF}),
+    ("limit no number, of a stop", {"kind": "stop", "limit": NAN}),
+    ("order kind unknown, all three not finite", {"kind": "unknown", "level": INF, "limit": NAN, "maker": INF}),
+    ("limit and maker not finite", {"limit": INF, "maker": INF}),
+    ("participation and order kind", {"participation": NAN, "kind": "unknown"}),
     # 12: levels
     ("levels given", GIVEN),
     ("stop loss infinite", GIVEN | {"stop": INF}),
@@ -337,6 +377,7 @@ STEPS = [
     ("risk sizing without a stop loss", {"sizing": ("risk", 1.0)}),
     ("risk no number, no stop loss", {"sizing": ("risk", NAN)}),
     *[("lot %r" % lot, {"lot": lot}) for lot in (1.0, -0.0, -5e-324, -1.0, INF, -INF, NAN)],
+    ("maker and lot", {"maker": INF, "lot": -1.0}),
     # 11
     ("time any word", {"time": bits(NAN)}),
     ("open no number", price(0, NAN)),
@@ -376,6 +417,9 @@ STEPS = [
     ("the cap in lots", DUE | {"sizing": ("quantity", 1e300), "lot": 2.0**-43}),
     ("no entry due, a lot of the least number", {"lot": 5e-324}),
     ("an exit due, a lot of the least number", {"order": 3, "lot": 5e-324, "qty": 0.0, "entered": None}),
+    *[("kind %d at %r and %r of order %d in lots of %r" % (*waits, order, lot), WIDE | {"order": order, "waits": waits, "lot": lot})
+      for waits in ((LIMIT, 0.5, 0.0), (LIMIT, 1.5, 0.0), (STOP, 3.5, 0.0), (STOP, 5.0, 0.0), (STOP_LIMIT, 3.5, 3.0), (STOP_LIMIT, 1.5, 5.0))
+      for order in ENTRIES for lot in (3.0, 2.0**-50)],
     # several at once
     *[(" ".join(str(n) for n, _ in FAULTS[i:]), {k: v for _, fault in reversed(FAULTS[i:]) for k, v in fault.items()})
       for i in range(len(FAULTS))],

@@ -8,16 +8,14 @@ import subprocess
 import steps
 import tables
 from words import (EQUITY, FIGURES, FINISH, FRESH, METRIC_WORDS, METRICS, ROOT, ROWS, RULE, RUN, SETTINGS, STATE, STATE_WORDS, STEP,
-                   TABLE, TRADES, bits, lend, lend_bytes, line, refusal, setting_words, words)
+                   TABLE, TRADES, TRADE_WORDS, bits, lend, lend_bytes, line, refusal, setting_words, words)
 
 HERE = os.path.dirname(os.path.abspath(__file__))
 ORACLE = os.path.join(HERE, "../oracle/target/release/oracle")
 
 # The rooms of a run.
 ROW_ROOM, EQUITY_ROOM, TRADE_ROOM = 4096, 4096, 8192
-# A run's settings, and one word more where it has a lot, which is setting 24.
-RUN_WORDS = 25
-LOT = 24
+RUN_WORDS = 30
 
 
 def oracle(*args, given=None):
@@ -65,12 +63,22 @@ def points(equities):
     return [word for equity in equities for word in (0, equity)]
 
 
+RUST_TRADE = 8
+# Two words of a trade that no figure reads.
+UNREAD = [0x5A5AA5A55A5AA5A5, 0x7FF0000000000000]
+
+
+def ten_words(trades):
+    """Trades of the Rust's eight words as trades of ten."""
+    return [word for i in range(0, len(trades), RUST_TRADE) for word in trades[i : i + RUST_TRADE] + UNREAD]
+
+
 def figures():
     yield lend(METRICS, [], METRIC_WORDS)
     for given, told in pairs("metrics"):
         initial, count, *rest = words(given[2:])
         yield lend(EQUITY, points(rest[:count]))
-        yield lend(TRADES, rest[count + 1 :])
+        yield lend(TRADES, ten_words(rest[count + 1 :]))
         yield line(FIGURES, initial), line(0, *words(told))
     yield from ragged_figures()
 
@@ -78,15 +86,16 @@ def figures():
 def ragged_figures():
     """13: trades, then points, that are not whole records."""
     two = points([bits(100.0), bits(101.0)])
-    for equity, trades in (([], list(range(7))), (two, list(range(9))), (two[:1], []), (two[:3], list(range(8)))):
+    one = TRADE_WORDS
+    for equity, trades in (([], list(range(one - 1))), (two, list(range(one + 1))), (two[:1], []), (two[:3], list(range(one)))):
         yield lend(EQUITY, equity)
         yield lend(TRADES, trades)
         yield line(FIGURES, bits(100.0)), line(refusal(13, 0))
 
 
 def figures_of(initial, equities, trades):
-    """The nine figures of one case."""
-    given = "M " + line(initial, len(equities), *equities, len(trades) // 8, *trades)
+    """The nine figures of one case; trades have the Rust's eight words."""
+    given = "M " + line(initial, len(equities), *equities, len(trades) // RUST_TRADE, *trades)
     return words(oracle("metrics", given=given + "\n"))
 
 
@@ -122,10 +131,9 @@ def rule_case(data, rows, count, position, told):
 
 def settings_of(run):
     """The settings of a run's first line, in which each optional one stands behind a flag."""
-    assert len(run) in (RUN_WORDS, RUN_WORDS + 1)
+    assert len(run) == RUN_WORDS
     optional = [run[i + 1] if run[i] else None for i in range(12, 22, 2)]
-    values = [*run[:12], 0, 0, 0, 0, 0, *run[22:RUN_WORDS]]
-    return setting_words([*values, *[0] * (LOT - len(values)), *run[RUN_WORDS:]], optional)
+    return setting_words([*run[:12], 0, 0, 0, 0, 0, *run[22:]], optional)
 
 
 def fresh_call(run):
@@ -161,3 +169,23 @@ def runs(name):
         else:
             yield line(FINISH), line(0, *words(next(answers)))
     assert next(answers, None) is None
+
+
+# The runs of `orders` before those that may decide twice, and every how many-th is taken.
+DECIDED_ONCE, EVERY = 69, 4
+
+
+def kept_orders():
+    """Runs of `orders` whose settings name market orders from the second bar on: an order keeps its kind, level and limit."""
+    number, stepped, settings = 0, False, None
+    for given, told in runs("orders"):
+        taken = number < DECIDED_ONCE and number % EVERY == 0
+        call, *content = words(given)
+        if call == SETTINGS:
+            stepped, settings = False, content[1:]
+        if taken:
+            yield given, told
+        if taken and call == STEP and not stepped:
+            stepped = True
+            yield lend(SETTINGS, settings[:20] + [0, bits(-50.0), bits(50.0)] + settings[23:])
+        number += call == FINISH

@@ -7,7 +7,8 @@ import struct
 
 # Widths. The mask of the given settings is their last word.
 SETTING_WORDS = 32
-STATE_WORDS = 17
+STATE_WORDS = 22
+TRADE_WORDS = 10
 METRIC_WORDS = 9
 
 # Rooms, by their numbers; 3 to 6 are the lists of steps.

@@ -175,9 +175,10 @@ static void print_trades(const Run *run)
     static const char *const reasons[] = {"?", "signal", "stop_loss", "trailing_stop", "take_profit", "liquidation", "end"};
     for (uint64_t i = 0; i < run->state[YSH_TRADES]; i++) {
         const uint64_t *trade = run->trades + i * YSH_TRADE_WORDS;
-        printf("trade %" PRIu64 ": in at %" PRId64 " for %.4f, out at %" PRId64 " for %.4f, quantity %.6f, pnl %.4f, %s\n", i,
+        printf("trade %" PRIu64 ": in at %" PRId64 " for %.4f, out at %" PRId64 " for %.4f, quantity %.6f, pnl %.4f, worst %.4f, %s\n", i,
                (int64_t)trade[YSH_TRADE_ENTRY_TIME], float_of(trade[YSH_TRADE_ENTRY_PRICE]), (int64_t)trade[YSH_TRADE_EXIT_TIME],
                float_of(trade[YSH_TRADE_EXIT_PRICE]), float_of(trade[YSH_TRADE_QTY]), float_of(trade[YSH_TRADE_PNL]),
+               float_of(trade[YSH_TRADE_WORST]),
                reasons[trade[YSH_TRADE_REASON] <= YSH_REASON_END ? trade[YSH_TRADE_REASON] : 0]);
     }
 }

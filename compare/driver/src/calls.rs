@@ -3,18 +3,29 @@
 //! Every call but `root` answers one word: 0 where it did its work, else a refusal's number times 2^32 plus its place. What a call
 //! writes is lent to it, so that a caller can see what it did to it.
 
+use oracle::portfolio::Trade;
+use oracle::words::Line;
+
 /// Words of the records and rooms.
 pub const SETTING_WORDS: usize = 32;
 
 /// The word of the mask that says which optional settings are given.
 pub const GIVEN: usize = 31;
-pub const STATE_WORDS: usize = 17;
+pub const STATE_WORDS: usize = 22;
 pub const POINT_WORDS: usize = 2;
-pub const TRADE_WORDS: usize = 8;
+pub const TRADE_WORDS: usize = 10;
 pub const METRIC_WORDS: usize = 9;
 pub const STEP_BYTES: usize = 16;
 /// Bytes of step room that a node takes.
 pub const NODE_STEP_BYTES: usize = 64;
+
+/// The words of a trade that the Rust has not, as no metric reads them.
+const UNREAD: [u64; 2] = [0x5a5a_a5a5_5a5a_a5a5, 0x7ff0_0000_0000_0000];
+
+/// A trade of the Rust's eight words, and two more that no metric reads.
+pub fn ten_words(line: Line, trade: &Trade) -> Line {
+    UNREAD.into_iter().fold(line.trade(trade), Line::word)
+}
 
 pub fn bar_words(slots: usize) -> usize {
     10 + slots
@@ -37,6 +48,10 @@ pub mod state {
     pub const CASH: usize = 8;
     pub const QTY: usize = 9;
     pub const FEES_PAID: usize = 13;
+    pub const ORDER_KIND: usize = 17;
+    pub const ORDER_LEVEL: usize = 18;
+    pub const ORDER_LIMIT: usize = 19;
+    pub const FUNDING: usize = 20;
 }
 
 /// What a rule reads of the position.

@@ -3,7 +3,7 @@
 use oracle::lists::runs::{run_lines, Bar};
 use oracle::spec::{Sizing, Slippage};
 use oracle::table::{slots_of, Table};
-use oracle::words::{bytes_of_hex, Words};
+use oracle::words::{bytes_of_hex, order_number, Words};
 use oracle::Settings;
 
 use crate::calls::{GIVEN, SETTING_WORDS};
@@ -98,7 +98,8 @@ pub fn setting_words(s: &Settings) -> [u64; SETTING_WORDS] {
     words[17] = s.risk.liquidation.into();
     words[18] = s.partial_fills.into();
     words[19] = s.participation.to_bits();
-    words[24] = s.lot.to_bits();
+    words[20] = order_number(s.order_type);
+    words[21..25].copy_from_slice(&[s.level_pct, s.limit_pct, s.maker_bps, s.lot].map(f64::to_bits));
     words
 }
 

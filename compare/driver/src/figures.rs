@@ -136,7 +136,7 @@ pub fn metrics(seed: u64, count: u64) -> bool {
     let mut progress = Progress::new("metrics", count);
     for number in 0..count {
         let figures = some_figures(dice);
-        let trades = figures.trades.iter().fold(Line::new(), Line::trade);
+        let trades = figures.trades.iter().fold(Line::new(), calls::ten_words);
         let mut ours = [0; METRIC_WORDS];
         let points = points_of(&figures.equity);
         let called = calls::metrics(figures.initial.to_bits(), &points, trades.words(), &mut ours);

@@ -111,7 +111,12 @@ impl Ours {
         if let Some(last) = points.last_chunk_mut() {
             *last = point;
         }
-        done(calls::metrics(self.settings[2], &points, self.trades_held(), &mut metrics))?;
+        done(calls::metrics(
+            self.settings[2],
+            &points,
+            self.trades_held(),
+            &mut metrics,
+        ))?;
         Ok(metrics)
     }
 
@@ -168,14 +173,21 @@ impl Ours {
             _ => [1, s[state::ENTRY_BAR]],
         };
         let point = self.newest_point();
-        let trade = self.trades_held().last_chunk::<8>().copied().unwrap_or_default();
-        let held = &s[state::CASH..];
+        let trade = self
+            .trades_held()
+            .last_chunk::<TRADE_WORDS>()
+            .copied()
+            .unwrap_or_default();
+        let waits = &s[state::ORDER_KIND..=state::ORDER_LIMIT];
+        let held = &s[state::CASH..state::ORDER_KIND];
         View::of(&[
             &[s[state::BARS_SEEN], s[state::EQUITY_POINTS], s[state::TRADES]],
             &point,
             &order,
+            waits,
             &entry,
             held,
+            &s[state::FUNDING..],
             &trade,
         ])
     }

@@ -2,13 +2,14 @@
 
 use oracle::answers::tick_of;
 use oracle::data::DerivativesTick;
-use oracle::engine::reach::{history_depth, Run};
+use oracle::engine::reach::{history_depth, During, Run, Waits};
 use oracle::lists::runs::Bar;
 use oracle::portfolio::Trade;
 use oracle::report::BacktestReport;
 use oracle::words::Line;
 use oracle::{by_reading, run_of, spec_of, Reading};
 
+use crate::calls::TRADE_WORDS;
 use crate::case::Case;
 use crate::view::View;
 
@@ -35,11 +36,12 @@ pub fn depth(case: &Case) -> usize {
     history_depth(&spec_of(&case.settings, &case.table, Reading::Rust))
 }
 
-fn newest(trades: &[Trade]) -> Vec<u64> {
-    let none = || vec![0; 8];
-    trades
-        .last()
-        .map_or_else(none, |trade| Line::new().trade(trade).words().to_vec())
+/// The words of the newest trade, with those of request 6 (0 by the text as it stands).
+fn newest(trades: &[Trade], noted: Option<&During>) -> Vec<u64> {
+    let none = || vec![0; TRADE_WORDS];
+    let During { funding, worst } = noted.copied().unwrap_or_default();
+    let words = |trade| Line::new().trade(trade).floats(&[funding, worst]).words().to_vec();
+    trades.last().map_or_else(none, words)
 }
 
 impl Theirs {
@@ -50,7 +52,9 @@ impl Theirs {
 
     /// Whether the bar is to be refused with 16: an entry that is due would be of too many lots.
     pub fn is_turned_away(&self, bar: &Bar) -> bool {
-        self.run.is_turned_away(&bar.candle).expect("sizing that the original takes")
+        self.run
+            .is_turned_away(&bar.candle)
+            .expect("sizing that the original takes")
     }
 
     /// One bar; what the original refuses it with.
@@ -62,7 +66,8 @@ impl Theirs {
     pub fn view(&self) -> View {
         let held = self.run.held();
         let (point, trades) = self.run.latest();
-        let (number, delay) = held.order.unwrap_or((0, 0));
+        let (during, noted) = self.run.noted();
+        let (number, delay, waits) = held.order.unwrap_or((0, 0, Waits::NOTHING));
         let (time, equity) = point.map_or((0, 0.0), |point| (point.time, point.equity));
         let (last_time, last_close) = held.last.unwrap_or((0, 0.0));
         // Every bar marks one point.
@@ -75,30 +80,38 @@ impl Theirs {
             .float(equity)
             .word(number)
             .word(delay.into())
+            .word(waits.kind)
+            .floats(&[waits.level, waits.limit])
             .entry_bar(held.entry_bar)
             .portfolio(held.portfolio)
             .float(held.extreme)
             .time(last_time)
-            .float(last_close);
-        View::of(&[line.words(), &newest(trades)])
+            .float(last_close)
+            .floats(&[during.funding, during.worst]);
+        View::of(&[line.words(), &newest(trades, noted.last())])
     }
 
     pub fn finish(self) -> Ending {
         let reading = self.reading;
+        let mut noted = self.run.noted().1.to_vec();
+        let (report, during) = self.run.finish();
         let BacktestReport {
             metrics,
             equity,
             trades,
             fees_paid,
             ..
-        } = self.run.finish();
+        } = report;
+        if reading == Reading::Paper {
+            noted.resize(trades.len(), during);
+        }
         let metrics = Line::new().metrics(&by_reading(metrics, reading));
         let point = equity.last().map_or((0, 0.0), |point| (point.time, point.equity));
         Ending {
             metrics: metrics.words().to_vec(),
             point: Line::new().time(point.0).float(point.1).words().to_vec(),
             trades: trades.len() as u64,
-            newest: newest(&trades),
+            newest: newest(&trades, noted.last()),
             fees_paid: Line::new().float(fees_paid).words()[0],
         }
     }

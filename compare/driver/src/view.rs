@@ -1,7 +1,7 @@
 //! What can be seen of a run after a bar, as words, whichever side it comes from.
 
 /// What each word of a view is.
-pub const NAMES: [&str; 26] = [
+pub const NAMES: [&str; 33] = [
     "bars seen",
     "equity points",
     "trades",
@@ -9,6 +9,9 @@ pub const NAMES: [&str; 26] = [
     "equity",
     "order",
     "order delay",
+    "order kind",
+    "order level",
+    "order limit",
     "entered",
     "entry bar",
     "cash",
@@ -20,6 +23,8 @@ pub const NAMES: [&str; 26] = [
     "extreme",
     "last time",
     "last close",
+    "funding",
+    "worst",
     "trade entry time",
     "trade exit time",
     "trade entry price",
@@ -28,7 +33,12 @@ pub const NAMES: [&str; 26] = [
     "trade pnl",
     "trade return",
     "trade reason",
+    "trade funding",
+    "trade worst",
 ];
+
+/// Those that the Rust as it stands has not.
+pub const NOT_THE_RUSTS: [&str; 4] = ["funding", "worst", "trade funding", "trade worst"];
 
 /// What each word of the metrics is.
 pub const METRICS: [&str; 9] = [

@@ -2,11 +2,11 @@
 
 use crate::data::DerivativesTick;
 use crate::engine::reach as engine;
-use crate::engine::reach::{Account, Run};
+use crate::engine::reach::{Account, During, Run};
 use crate::error::BacktestError;
 use crate::portfolio::Trade;
 use crate::rules::{eval_condition, BarRow, RuleState};
-use crate::spec::{Risk, Sizing, Slippage, StrategySpec};
+use crate::spec::{OrderType, Risk, Sizing, Slippage, StrategySpec};
 use crate::table::{row_of, slots_of, Table};
 use crate::words::{bytes_of_hex, reason_name, reason_number, Line, Words};
 use crate::{by_reading, metrics_of, root, run_of, spec_of, Reading, Settings};
@@ -86,6 +86,10 @@ pub fn bare_settings() -> Settings {
         risk: Risk::default(),
         partial_fills: false,
         participation: 0.0,
+        order_type: OrderType::Market,
+        level_pct: 0.0,
+        limit_pct: 0.0,
+        maker_bps: 0.0,
         lot: 0.0,
     }
 }
@@ -319,15 +323,31 @@ impl Runs {
         let (point, trades) = run.latest();
         let point = point.expect("every bar marks equity");
         let line = Line::new().time(point.time).float(point.equity);
-        trades[closed..].iter().fold(line, Line::trade).text()
+        match &trades[closed..] {
+            [trade] => closed_line(line, trade, run.noted().1.last()).text(),
+            _ => line.text(),
+        }
     }
 
     fn finish(&mut self) -> String {
         let run = self.run.take().expect("T stands before F");
         let closed = run.latest().1.len();
-        let report = run.finish();
+        let (report, during) = run.finish();
         let line = Line::new().metrics(&by_reading(report.metrics, self.reading));
-        report.trades[closed..].iter().fold(line, Line::trade).text()
+        let noted = (self.reading == Reading::Paper).then_some(&during);
+        match &report.trades[closed..] {
+            [trade] => closed_line(line, trade, noted).text(),
+            _ => line.text(),
+        }
+    }
+}
+
+/// A trade after other words: the text's eight, and the two of request 6 where they are known (`Reading::Paper`).
+fn closed_line(line: Line, trade: &Trade, noted: Option<&During>) -> Line {
+    let line = line.trade(trade);
+    match noted {
+        Some(during) => line.floats(&[during.funding, during.worst]),
+        None => line,
     }
 }
 

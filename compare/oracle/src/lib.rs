@@ -14,7 +14,7 @@ pub mod words;
 use error::Result;
 use metrics::Metrics;
 use portfolio::Trade;
-use spec::{Condition, Costs, Execution, Risk, Sizing, Slippage, StrategySpec};
+use spec::{Condition, Costs, Execution, OrderType, Risk, Sizing, Slippage, StrategySpec};
 
 /// Which of the two decides where document 01 differs from the text: see docs/DIFFERENCES.md.
 #[derive(Debug, Clone, Copy, PartialEq, Eq)]
@@ -38,7 +38,12 @@ pub struct Settings {
     pub risk: Risk,
     pub partial_fills: bool,
     pub participation: f64,
-    /// Number 24; the text has no lots.
+    /// The order kind of an entry; how far its level stands from the deciding close, in percent, and a stop-limit's limit.
+    pub order_type: OrderType,
+    pub level_pct: f64,
+    pub limit_pct: f64,
+    pub maker_bps: f64,
+    /// The text has no lots.
     pub lot: f64,
 }
 
@@ -68,7 +73,7 @@ pub fn spec_of(settings: &Settings, table: &table::Table, reading: Reading) -> S
         short_exit,
         sizing: settings.sizing,
         costs: Costs {
-            maker_bps: 0.0,
+            maker_bps: settings.maker_bps,
             taker_bps: settings.taker_bps,
             slippage: settings.slippage,
             funding: settings.funding,
@@ -78,15 +83,37 @@ pub fn spec_of(settings: &Settings, table: &table::Table, reading: Reading) -> S
             latency_bars: settings.delay,
             partial_fills: settings.partial_fills,
             max_participation: Some(settings.participation),
-            ..Execution::default()
+            ..order_of(settings)
         },
         warmup: Some(settings.warmup),
     }
 }
 
+/// The order kind of entries, with the percentages that it uses. The text has a name for a limit's and one for a stop's; here the first is
+/// the level of either and the stop of a stop-limit, and the second is a stop-limit's limit.
+fn order_of(settings: &Settings) -> Execution {
+    let (limit, stop) = match settings.order_type {
+        OrderType::Market => (None, None),
+        OrderType::Limit => (Some(settings.level_pct), None),
+        OrderType::Stop => (None, Some(settings.level_pct)),
+        OrderType::StopLimit => (Some(settings.limit_pct), Some(settings.level_pct)),
+    };
+    Execution {
+        order_type: settings.order_type,
+        limit_offset_pct: limit,
+        stop_offset_pct: stop,
+        ..Execution::default()
+    }
+}
+
 /// A run of a table, ready for its first bar.
 pub fn run_of(settings: &Settings, table: &table::Table, reading: Reading) -> Result<engine::reach::Run> {
-    engine::reach::Run::new(spec_of(settings, table, reading), settings.capital, settings.lot, reading)
+    engine::reach::Run::new(
+        spec_of(settings, table, reading),
+        settings.capital,
+        settings.lot,
+        reading,
+    )
 }
 
 /// Metrics; by document 01 a profit factor without a win is +0.0, in the text −0.0.

@@ -4,7 +4,7 @@ use crate::data::Candle;
 use crate::engine::reach::Account;
 use crate::metrics::Metrics;
 use crate::portfolio::{reach, Portfolio, Trade};
-use crate::spec::{Risk, Sizing, Slippage};
+use crate::spec::{OrderType, Risk, Sizing, Slippage};
 use crate::Settings;
 
 /// The one pattern in which a NaN is written.
@@ -27,6 +27,18 @@ pub fn reason_number(reason: &str) -> u64 {
 
 pub fn reason_name(number: u64) -> &'static str {
     REASONS.get(number as usize).copied().unwrap_or("")
+}
+
+/// The order kinds of an entry, by their numbers.
+pub const ORDER_TYPES: [OrderType; 4] = [
+    OrderType::Market,
+    OrderType::Limit,
+    OrderType::Stop,
+    OrderType::StopLimit,
+];
+
+pub fn order_number(kind: OrderType) -> u64 {
+    ORDER_TYPES.iter().position(|one| *one == kind).unwrap_or(0) as u64
 }
 
 /// The bytes written in hex, two digits each.
@@ -165,6 +177,11 @@ impl Words {
         }
     }
 
+    pub fn order_type(&mut self) -> OrderType {
+        let kind = self.number();
+        *ORDER_TYPES.get(kind).unwrap_or_else(|| panic!("order kind {kind}"))
+    }
+
     pub fn settings(&mut self) -> Settings {
         Settings {
             slots: self.number(),
@@ -179,7 +196,11 @@ impl Words {
             risk: self.risk(),
             partial_fills: self.flag(),
             participation: self.float(),
-            lot: if self.is_done() { 0.0 } else { self.float() },
+            order_type: self.order_type(),
+            level_pct: self.float(),
+            limit_pct: self.float(),
+            maker_bps: self.float(),
+            lot: self.float(),
         }
     }
 }
@@ -312,15 +333,7 @@ impl Line {
             .risk(&s.risk)
             .flag(s.partial_fills)
             .float(s.participation)
-            .lot(s.lot)
-    }
-
-    /// A lot of +0.0 is left out: a line of settings without one is what it was before there were lots.
-    fn lot(self, lot: f64) -> Self {
-        if lot.to_bits() == 0 {
-            self
-        } else {
-            self.float(lot)
-        }
+            .word(order_number(s.order_type))
+            .floats(&[s.level_pct, s.limit_pct, s.maker_bps, s.lot])
     }
 }

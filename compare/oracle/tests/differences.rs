@@ -1,7 +1,9 @@
 //! Each point of docs/DIFFERENCES.md, shown on the Rust text: `cargo test --release --offline`.
 
 use oracle::answers::{leaf_line, metrics_line, rule_line, Runs};
-use oracle::engine::{reach::Run, run_with_capital};
+use oracle::data::Candle;
+use oracle::engine::reach::{level_fill, Run, Waits};
+use oracle::engine::run_with_capital;
 use oracle::lists;
 use oracle::spec::{Condition, Operand, OperandExpr, Sizing};
 use oracle::table::{nodes_of, Table};
@@ -26,7 +28,12 @@ fn reasons(answers: &[String]) -> Vec<u64> {
             .map(|word| u64::from_str_radix(word, 16).expect("a word"))
             .collect()
     };
-    let closed = |words: Vec<u64>| matches!(words.len(), 10 | 17).then(|| words[words.len() - 1]);
+    // After a point or nine figures: the text's eight words, and two more by the other reading.
+    let closed = |words: Vec<u64>| match words.len() {
+        10 | 12 => Some(words[9]),
+        17 | 19 => Some(words[16]),
+        _ => None,
+    };
     answers.iter().map(words).filter_map(closed).collect()
 }
 
@@ -55,7 +62,7 @@ fn the_last_fee_is_missing_from_the_figures_of_the_text() {
     let pnl = |answers: &[String]| answers[2][..16].to_string();
     let word = |x: f64| Line::new().float(x).text();
     assert_eq!((pnl(&paper), pnl(&rust)), (word(-10.0), word(-5.0)));
-    assert_eq!(paper[2][17 * 8..], rust[2][17 * 8..]);
+    assert_eq!(paper[2][17 * 8..17 * 17 - 1], rust[2][17 * 8..]);
 }
 
 #[test]
@@ -64,6 +71,45 @@ fn the_text_has_no_lots() {
     let qty = |answers: &[String]| answers[2].split(' ').nth(9 + 4).map(str::to_string);
     let word = |x: f64| Some(Line::new().float(x).text());
     assert_eq!((qty(&paper), qty(&rust)), (word(48.0), word(50.0)));
+}
+
+/// The stop's price is within the limit on a bar whose low is over its open and over the limit.
+#[test]
+fn a_stop_limit_wants_the_low_within_the_limit_in_the_text() {
+    let (paper, rust) = both_readings(8);
+    let equity = |x: f64| Line::new().word(60).float(x).text();
+    assert_eq!((&paper[1], &rust[1]), (&equity(10_050.0), &equity(10_000.0)));
+    assert_eq!((reasons(&paper), reasons(&rust)), (vec![6], vec![]));
+}
+
+/// A stop-limit whose stop and limit are zeros of unlike sign: by request 1 it fills at the stop's, whichever that is. No run shows it, as
+/// an entry at a price of 0 sizes to nothing. Rust leaves open which of the two its `min` and `max` give.
+#[test]
+fn of_two_equal_zeros_the_text_does_not_always_fill_at_the_stop() {
+    let bar = |open: f64| Candle {
+        time: 0,
+        open,
+        high: 1.0,
+        low: -1.0,
+        close: 0.0,
+        volume: 0.0,
+    };
+    let sign = |side: u64, stop: f64, reading: Reading| {
+        let waits = Waits {
+            kind: 3,
+            level: stop,
+            limit: -stop,
+        };
+        let open = if side == 0 { -1.0 } else { 1.0 };
+        let price = level_fill(side, waits, &bar(open), reading).expect("the bar reaches it");
+        assert_eq!(price, 0.0);
+        price.is_sign_negative()
+    };
+    for side in [0, 1] {
+        let signs = |reading| [0.0, -0.0].map(|stop| sign(side, stop, reading));
+        assert_eq!(signs(Reading::Paper), [false, true]);
+        assert_ne!(signs(Reading::Rust), [false, true]);
+    }
 }
 
 #[test]
@@ -82,9 +128,10 @@ fn a_sum_of_nothing_is_minus_zero_in_the_text() {
     assert_ne!(paper[2], rust[2]);
 }
 
-/// A long from 5 with a stop of 100%: the level is +0.0, the bar opens at −0.0, and the fill is the lesser of the two.
+/// A long from 5 with a stop of 100%: the level is +0.0, the bar opens at −0.0, and the fill is the lesser of the two. Here it is the level; builds
+/// of the text give either, as Rust leaves it open.
 #[test]
-fn a_min_of_two_zeros_is_the_negative_one_in_the_text() {
+fn a_min_of_two_zeros_is_either_in_the_text() {
     let stop = Line::new()
         .word(7)
         .optional(Some(100.0))
@@ -94,7 +141,8 @@ fn a_min_of_two_zeros_is_the_negative_one_in_the_text() {
         .optional(None);
     let bar = stop.word(0).word(0).floats(&[-0.0, 1.0, -1.0, 0.0, 0.0]);
     let line = bar.floats(&[5.0, 5.0]).word(1).text();
-    assert_eq!(leaf_line(&line), Line::new().word(2).float(-0.0).text());
+    let filled_at = |zero: f64| leaf_line(&line) == Line::new().word(2).float(zero).text();
+    assert!(filled_at(0.0) || filled_at(-0.0));
 }
 
 #[test]
@@ -113,7 +161,10 @@ fn a_run_of_no_bars_is_refused_by_the_batch_calls_and_finishes_bar_by_bar() {
     };
     let spec = spec_of(&bare_settings(), &table, Reading::Rust);
     assert!(run_with_capital(&spec, &[], 100.0).is_err());
-    let report = Run::new(spec, 100.0, 0.0, Reading::Rust).expect("a good spec").finish();
+    let report = Run::new(spec, 100.0, 0.0, Reading::Rust)
+        .expect("a good spec")
+        .finish()
+        .0;
     assert_eq!((report.metrics.num_trades, report.equity.len()), (0, 0));
 }
 

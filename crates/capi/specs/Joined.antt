@@ -72,8 +72,9 @@ module _ (settings room : List ℕ) (set : settingWords ≤ length settings) (lo
 -- and the engine asks for it first
 room-first : (s : Settings) (t : State) (bar : List ℕ) (m : Rooms) (ls : Lists) (r : Refusal) → judged (roomLines s (m .rows)) ≡ Bad r
     → stepVerdict s t bar m ls ≡ Bad r
-unfolding stepJudged stepLines runLines
-room-first s t bar m ls r e = handed-bad s t bar m ls r (below-bad (runLines s t m) _ r (unfold runLines in below-bad (roomLines s (m .rows)) _ r e))
+room-first s t bar m ls r e =
+    handed-bad s t bar m ls r
+    (unfold stepJudged stepLines runLines in below-bad (runLines s t m) _ r (unfold runLines in below-bad (roomLines s (m .rows)) _ r e))
 
 finish-room-first : (s : Settings) (t : State) (m : Rooms) (r : Refusal) → judged (roomLines s (m .rows)) ≡ Bad r → finishJudged s t m ≡ Bad r
 unfolding finishJudged finishLines
@@ -83,8 +84,7 @@ finish-room-first s t m r e = below-bad (roomLines s (m .rows)) _ r e
 room-passed : (s : Settings) (t : State) (bar : List ℕ) (m : Rooms) (ls : Lists) → stepVerdict s t bar m ls ≡ Fine → judged (roomLines s (m .rows)) ≡ Fine
 unfolding stepVerdict stepLines runLines
 room-passed s t bar m ls e =
-    let handed = both-fine (stepLines s t bar m ls) (sizeLines s t bar m) e .0 in
-    both-fine (roomLines s (m .rows)) _ (both-fine (runLines s t m) _ handed .0) .0
+    both-fine (roomLines s (m .rows)) _ (both-fine (runLines s t m) _ (both-fine (stepLines s t bar m ls) (sizeLines s t bar m) e .0) .0) .0
 
 finish-room-passed : (s : Settings) (t : State) (m : Rooms) → finishJudged s t m ≡ Fine → judged (roomLines s (m .rows)) ≡ Fine
 unfolding finishJudged finishLines

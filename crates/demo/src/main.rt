@@ -11,6 +11,8 @@ use execution::Risk;
 use execution::Sizing;
 use execution::Slippage;
 use execution::Terms;
+use execution::level::Entries;
+use execution::level::OrderType;
 use metrics::Metrics;
 use records::settings::Settings;
 use records::state::State;
@@ -183,6 +185,12 @@ fn settings() -> Settings {
             lot: 0.0,
         },
         funding: false,
+        entries: Entries {
+            order_type: OrderType::Market,
+            level_pct: 0.0,
+            limit_pct: 0.0,
+            maker_bps: 0.0,
+        },
     }
 }
 
@@ -287,9 +295,9 @@ fn say_refusal(number: u64, place: u64) {
     report::say_count(b"", place, b"\n");
 }
 
-// One trade: its prices, what it earned, and why it ended.
+// One trade: its prices, what it earned, how far it went against the account, and why it ended.
 fn say_trade(trades: &[u64], i: usize) {
-    let base = i % 1000 * 8;
+    let base = i % 1000 * words::limits::TRADE_WORDS;
     report::say_count(b"  trade ", i as u64, b"");
     report::say_float(
         b"       in ",
@@ -304,6 +312,11 @@ fn say_trade(trades: &[u64], i: usize) {
     report::say_float(
         b", pnl ",
         floats::float_of(words::word_from(trades, base, 5)),
+        b", worst ",
+    );
+    report::say_float(
+        b"",
+        floats::float_of(words::word_from(trades, base, 9)),
         b", ",
     );
     report::say_reason(words::word_from(trades, base, 7));
@@ -395,7 +408,7 @@ fn main() {
     let mut exit = [0u8; 256];
     let mut rows = [0u64; 27];
     let mut equity = [0u64; 2880];
-    let mut trades = [0u64; 8000];
+    let mut trades = [0u64; 10000];
     let sizes = translated(&mut entry, &mut exit);
     say_steps(sizes);
     run_and_say(

@@ -40,7 +40,7 @@ module _ (s : Settings) (t : State) (bar : List ℕ) (m : Rooms) (ls : Lists) wh
       → (stopped ≡ booked ts sold (x .«exit») .count) × (us ≡ booked ts sold (x .«exit») .room)
       → p ≡ charged s (x .position) bar
       → (points ≡ marked (m .equity) (t .counts .«equity_points») k p .count) × (es ≡ marked (m .equity) (t .counts .«equity_points») k p .room)
-      → o ≡ decided s (f .order) p (t .counts .«bars_seen») (heldRows (s .slots) held ws) ls
+      → o ≡ decided s (f .order) p (t .counts .«bars_seen») (k .close) (heldRows (s .slots) held ws) ls
       → Is State (stepped s t bar m ls)
       (record {
         counts = record { «bars_seen» = t .counts .«bars_seen» + 1; «rows_held» = held; «equity_points» = points; trades = stopped };

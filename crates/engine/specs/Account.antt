@@ -3,9 +3,11 @@ use Prim.Native.Nat.{ℕ, _-_}
 use mathlib.Core.Bool.{false, cond}
 use mathlib.Core.List.{List}
 use lib.Dec.{ltb}
+use lib.Ieee.{Float}
 use Rattle.rows.specs.History.{History}
 use Rattle.rules.specs.declared.Entered.the-variants.{Never, Bar}
 use Rattle.portfolio.specs.declared.Candle.{Candle}
+use Rattle.portfolio.specs.Portfolio.{worsened}
 use Rattle.portfolio.specs.Trade.{signal}
 use Rattle.execution.specs.declared.Entry.{Entry}
 use Rattle.execution.specs.declared.Entry.the-variants.{NoEntry, TooLarge, Entered}
@@ -13,6 +15,10 @@ use Rattle.execution.specs.declared.Exit.{Exit}
 use Rattle.execution.specs.declared.Exit.the-variants.{NoExit, Exited}
 use Rattle.execution.specs.declared.Side.{Side}
 use Rattle.execution.specs.declared.Side.the-variants.{Long, Short}
+use Rattle.execution.specs.declared.Optional.{Optional}
+use Rattle.execution.specs.declared.Optional.the-variants.{Absent, Of}
+use Rattle.execution.specs.declared.level.OrderKind.{OrderKind}
+use Rattle.execution.specs.Level.{levelFill, feeBps}
 use Rattle.execution.specs.Costs.{chargeFunding}
 use Rattle.execution.specs.Fills.{executeEntry, executeExit, isTurnedAway}
 use Rattle.execution.specs.Intrabar.{extremeWith, applyIntrabarExits}
@@ -45,32 +51,45 @@ entering p (Entered portfolio fill) number = record { portfolio = portfolio; ent
 abbrev pub waiting : Order → Position → Filled
 waiting order p = record { order = order; position = p; «exit» = NoExit; «turned_away» = false }
 
--- "at the open, with the rate of `slippage_rate`"; "Realized volatility reads the rows before this bar."
+-- at the raw price that the order's kind gives, "with the rate of `slippage_rate`"; "Realized volatility reads the rows before this bar."
 -- Decided: an order filled or dropped no longer works.
-unfoldable pub entered : Side → Settings → Position → Candle → History → ℕ → Filled
-entered side s p k before number =
-    let e = executeEntry side (k .«open») (s .terms) k (p .portfolio) before in
+unfoldable pub entered : Side → OrderKind → Float → Settings → Position → Candle → History → ℕ → Filled
+entered side kind price s p k before number =
+    let bps = feeBps kind (s .entries .«maker_bps») (s .terms .«taker_bps») in
+    let e = executeEntry side price bps (s .terms) k (p .portfolio) before in
     record { order = Idle; position = entering p e number; «exit» = NoExit; «turned_away» = isTurnedAway e }
+
+-- an open position takes this bar. Request 6: "the least favourable price from the entry bar on .. up to and with the closing bar"
+unfoldable pub facing : Position → Candle → Position
+facing p k = record { portfolio = worsened (p .portfolio) k; entered = p .entered; extreme = p .extreme }
 
 -- "Exit only if |qty| > EPS."
 unfoldable pub exited : Settings → Position → Candle → Filled
 exited s p k =
-    let x = executeExit signal (k .«open») (s .terms) k (p .portfolio) in
-    record { order = Idle; position = leaving p x; «exit» = x; «turned_away» = false }
+    let q = facing p k in
+    let x = executeExit signal (k .«open») (s .terms) k (q .portfolio) in
+    record { order = Idle; position = leaving q x; «exit» = x; «turned_away» = false }
 
--- "Fill: a delay above 0 counts down by 1; otherwise at the open"
+-- What is due at a bar: an entry where it is reached, at its price; ".. else works on unchanged"
+unfoldable pub reached : Side → OrderKind → Order → Optional → Due
+reached side kind order Absent = Waits order
+reached side kind order (Of price) = Enters side kind price
+
+-- "Fill: a delay above 0 counts down by 1; otherwise at the open", or where the bar reaches the level
+unfoldable pub dueOf : Order → Candle → Due
+dueOf Idle k = Waits Idle
+dueOf (EnterLong n kind) k = cond (ltb 0 n) (Waits (EnterLong (n - 1) kind)) (reached Long kind (EnterLong n kind) (levelFill Long kind k))
+dueOf (EnterShort n kind) k = cond (ltb 0 n) (Waits (EnterShort (n - 1) kind)) (reached Short kind (EnterShort n kind) (levelFill Short kind k))
+dueOf (ExitOrder n) k = cond (ltb 0 n) (Waits (ExitOrder (n - 1))) Leaves
+
+-- and what is due is done
+unfoldable pub doneOf : Due → Settings → Position → Candle → History → ℕ → Filled
+doneOf (Waits order) s p k before number = waiting order p
+doneOf (Enters side kind price) s p k before number = entered side kind price s p k before number
+doneOf Leaves s p k before number = exited s p k
+
 unfoldable pub filled : Settings → Order → Position → Candle → History → ℕ → Filled
-filled s Idle p k before number = waiting Idle p
-filled s (EnterLong n) p k before number = cond (ltb 0 n) (waiting (EnterLong (n - 1)) p) (entered Long s p k before number)
-filled s (EnterShort n) p k before number = cond (ltb 0 n) (waiting (EnterShort (n - 1)) p) (entered Short s p k before number)
-filled s (ExitOrder n) p k before number = cond (ltb 0 n) (waiting (ExitOrder (n - 1)) p) (exited s p k)
-
--- What is due at the open, by the order alone.
-unfoldable pub dueOf : Order → Due
-dueOf Idle = Waits Idle
-dueOf (EnterLong n) = cond (ltb 0 n) (Waits (EnterLong (n - 1))) (Enters Long)
-dueOf (EnterShort n) = cond (ltb 0 n) (Waits (EnterShort (n - 1))) (Enters Short)
-dueOf (ExitOrder n) = cond (ltb 0 n) (Waits (ExitOrder (n - 1))) Leaves
+filled s order p k before number = doneOf (dueOf order k) s p k before number
 
 -- ---- exits inside the bar
 
@@ -78,9 +97,10 @@ dueOf (ExitOrder n) = cond (ltb 0 n) (Waits (ExitOrder (n - 1))) Leaves
 -- exit fires, liquidation where switched on."
 unfoldable pub intrabar : Settings → Position → Candle → Left
 intrabar s p k =
-    let extreme = extremeWith k (p .portfolio) (p .extreme) in
-    let x = applyIntrabarExits k (s .terms) (p .portfolio) extreme in
-    record { position = leaving (record { portfolio = p .portfolio; entered = p .entered; extreme = extreme }) x; «exit» = x }
+    let q = facing p k in
+    let extreme = extremeWith k (q .portfolio) (q .extreme) in
+    let x = applyIntrabarExits k (s .terms) (q .portfolio) extreme in
+    record { position = leaving (record { portfolio = q .portfolio; entered = q .entered; extreme = extreme }) x; «exit» = x }
 
 -- ---- funding
 

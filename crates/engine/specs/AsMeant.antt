@@ -25,7 +25,8 @@ use Rattle.engine.specs.Laws.Follows.{run-follows}
 use Rattle.engine.specs.Laws.LastPoint.{remarked-points, end-count}
 use Rattle.engine.specs.Rules.{rulesOf, FromTable}
 use Rattle.engine.specs.Run.{Run, runOver}
-use Rattle.engine.specs.Whole.{Account, accountOf, stateOf, byLists, byMeaning, Whole, wholeRun, endPoints, wholeEnd, wholeMetrics, meantRun}
+use Rattle.engine.specs.Whole.{Account, accountOf, stateOf, byLists, byMeaning, Whole, wholeRun, wholeRunBy, endPoints, wholeEnd, wholeMetrics}
+use Rattle.engine.specs.Whole.{meantRun}
 use Rattle.engine.specs.WholeHistory.{fresh-follows}
 
 -- what grew from a fresh state's books is all that they hold
@@ -86,7 +87,7 @@ ends-whole s t m w h fine =
 -- lists of a table say what its rules mean, bar after bar
 whole-as-meant : (table : List ℕ) (s : Settings) (ls : Lists) → FromTable table s ls → (bars : List (List ℕ)) (a : Account) (rows : List ℕ)
     → wholeRun s (byLists s ls) a rows bars ≡ wholeRun s (byMeaning s (rulesOf table)) a rows bars
-unfolding wholeRun
+unfolding wholeRunBy
 whole-as-meant table s ls f [] a rows = refl
 whole-as-meant table s ls f (bar ∷ bars) a rows = rw (taken-as-meant s a rows bar table ls f, whole-as-meant table s ls f bars _ _)
 

@@ -49,7 +49,7 @@ pub record Held : Type 0 where
   pub count : ℕ
   pub room : List ℕ
 
--- "A trade takes eight 64-bit words in the Rust record's order." One that finds no place is not kept: no step that is
+-- "A trade record grows from eight words to ten". One that finds no place is not kept: no step that is
 -- not refused comes to that.
 unfoldable pub booked : List ℕ → ℕ → Exit → Held
 booked room n NoExit = record { count = n; room = room }

@@ -3,12 +3,15 @@ use Prim.Native.Nat.{ℕ, _+_}
 use mathlib.Core.Bool.{Bool, cond}
 use mathlib.Core.List.{List}
 use lib.Dec.{ltb}
+use lib.Ieee.{Float}
 use Rattle.rows.specs.History.{History, historyOf, lastRows}
 use Rattle.rules.specs.declared.PositionState.{PositionState}
 use Rattle.portfolio.specs.declared.Portfolio.{Portfolio}
 use Rattle.portfolio.specs.Portfolio.{inPosition, isLong}
 use Rattle.steps.specs.Bytes.{opsOf}
 use Rattle.steps.specs.Machine.{ranOver}
+use Rattle.execution.specs.declared.level.OrderKind.{OrderKind}
+use Rattle.execution.specs.Level.{entryTrigger}
 use Rattle.records.specs.declared.state.Order.{Order}
 use Rattle.records.specs.declared.state.Order.the-variants.{Idle, EnterLong, EnterShort, Exit}
 use Rattle.records.specs.declared.state.Position.{Position}
@@ -24,8 +27,8 @@ unfoldable pub stateAt : Position → ℕ → PositionState
 stateAt p number = record { qty = p .portfolio .qty; entered = p .entered; «bars_seen» = number + 1 }
 
 -- "Flat: entry, else short entry." "A new order starts with the delay setting."
-unfoldable pub openingOrder : ℕ → Bool → Bool → Order
-openingOrder delay long short = cond long (EnterLong delay) (cond short (EnterShort delay) Idle)
+unfoldable pub openingOrder : ℕ → OrderKind → Bool → Bool → Order
+openingOrder delay kind long short = cond long (EnterLong delay kind) (cond short (EnterShort delay kind) Idle)
 
 -- "Long: exit. Short: short exit."
 unfoldable pub closingOrder : ℕ → Bool → Order
@@ -47,20 +50,22 @@ answersOf h state ls = record {
 }
 
 -- the order of a bar on which none works
-unfoldable pub ordered : ℕ → Portfolio → Answers → Order
-ordered delay account a =
+unfoldable pub ordered : ℕ → OrderKind → Portfolio → Answers → Order
+ordered delay kind account a =
     cond (inPosition account)
     (cond (isLong account) (closingOrder delay (a .«exit»)) (closingOrder delay (a .«short_exit»)))
-    (openingOrder delay (a .entry) (a .«short_entry»))
+    (openingOrder delay kind (a .entry) (a .«short_entry»))
 
 -- "nothing on a bar numbered below warmup, nor while an order works"
-unfoldable pub orderAfter : Settings → Order → Position → ℕ → Answers → Order
-orderAfter s (EnterLong n) p number a = EnterLong n
-orderAfter s (EnterShort n) p number a = EnterShort n
-orderAfter s (Exit n) p number a = Exit n
-orderAfter s Idle p number a = cond (ltb number (s .warmup)) Idle (ordered (s .delay) (p .portfolio) a)
+-- "the level is the deciding bar's close times (1 + pct/100)": an entry keeps its kind and levels from this close
+unfoldable pub orderAfter : Settings → Order → Position → ℕ → Float → Answers → Order
+orderAfter s (EnterLong n kind) p number close a = EnterLong n kind
+orderAfter s (EnterShort n kind) p number close a = EnterShort n kind
+orderAfter s (Exit n) p number close a = Exit n
+orderAfter s Idle p number close a =
+    cond (ltb number (s .warmup)) Idle (ordered (s .delay) (entryTrigger (s .entries) close) (p .portfolio) a)
 
 -- the rows are those held, this bar's the last; a rule reads the last D of them
-unfoldable pub decided : Settings → Order → Position → ℕ → List ℕ → Lists → Order
-decided s o p number rows ls =
-    orderAfter s o p number (answersOf (historyOf (s .slots) (lastRows (s .slots) (s .depth) rows)) (stateAt p number) ls)
+unfoldable pub decided : Settings → Order → Position → ℕ → Float → List ℕ → Lists → Order
+decided s o p number close rows ls =
+    orderAfter s o p number close (answersOf (historyOf (s .slots) (lastRows (s .slots) (s .depth) rows)) (stateAt p number) ls)

@@ -1,6 +1,7 @@
 pub mod Lengths
 pub mod OneTrade
 pub mod Quiet
+pub mod Resting
 pub mod Refusal
 pub mod Verdict
 pub mod Runs
@@ -18,3 +19,4 @@ pub mod Alike
 pub mod TwoRuns
 pub mod LastPoint
 pub mod Finishes
+pub mod Forgets

@@ -7,6 +7,8 @@ pub mod Finish
 pub mod Run
 pub mod Rules
 pub mod Whole
+pub mod Forgotten
+pub mod During
 pub mod Boxes
 pub mod Laws
 pub mod Lots
@@ -16,4 +18,8 @@ pub mod SameRun
 pub mod WholeRun
 pub mod OtherBooks
 pub mod LastFee
+pub mod AtOpen
+pub mod Before
+pub mod Worst
+pub mod Recorded
 pub mod Edges

@@ -1,23 +1,25 @@
 -- Whole lots in a step: with a lot of 0 no bar is refused with 16, and with any other what is entered is k·lot.
 use Prim.Native.Nat.{ℕ}
 use mathlib.Core.Path.{_≡_, refl, sym, _∙_}
-use mathlib.Core.Bool.{Bool, true, false, cond}
+use mathlib.Core.Bool.{true, false}
 use mathlib.Core.List.{List}
 use mathlib.Core.Logic.{_⊎_, inl, inr}
-use lib.Dec.{ltb}
 use lib.Ieee as Ieee
+use lib.Ieee.{Float}
 use Rattle.floats.specs.Floats.{zero}
 use Rattle.rows.specs.History.{History}
 use Rattle.portfolio.specs.declared.Candle.{Candle}
 use Rattle.execution.specs.declared.Entry.{Entry}
 use Rattle.execution.specs.declared.Entry.the-variants.{NoEntry, TooLarge, Entered}
 use Rattle.execution.specs.declared.Side.{Side}
+use Rattle.execution.specs.declared.level.OrderKind.{OrderKind}
 use Rattle.execution.specs.Fills.{direction, executeEntry}
+use Rattle.execution.specs.Level.{feeBps}
 use Rattle.execution.specs.RustEntry.{rustEntry}
 use Rattle.execution.specs.WholeLots.{EntersLots, no-lots, none-turned-away, entered-in-lots}
 use Rattle.records.specs.declared.settings.Settings.{Settings}
 use Rattle.records.specs.declared.state.Order.{Order}
-use Rattle.records.specs.declared.state.Order.the-variants.{Idle, EnterLong, EnterShort, Exit}
+use Rattle.records.specs.declared.state.Order.the-variants.{Idle}
 use Rattle.records.specs.declared.state.Position.{Position}
 use Rattle.records.specs.declared.state.State.{State}
 use Rattle.records.specs.Lent.{Lists, Rooms}
@@ -25,24 +27,24 @@ use Rattle.refusals.specs.declared.verdict.Verdict.{Verdict}
 use Rattle.refusals.specs.declared.verdict.Verdict.the-variants.{Fine, Bad}
 use Rattle.refusals.specs.Judgement.{stepJudged}
 use Rattle.refusals.specs.Lines.{judged}
-use Rattle.engine.specs.declared.account.Filled.{Filled}
-use Rattle.engine.specs.Account.{waiting, entering, entered, exited, filled}
+use Rattle.engine.specs.declared.account.Due.{Due}
+use Rattle.engine.specs.declared.account.Due.the-variants.{Waits, Enters, Leaves}
+use Rattle.engine.specs.Account.{waiting, entering, entered, exited, dueOf, doneOf, filled}
 use Rattle.engine.specs.Laws.Verdict.{handed-bad, handed-fine}
 use Rattle.engine.specs.Step.{sizeLines, stepVerdict}
 
 -- ---- a lot of 0
 
-either : (b : Bool) (x y : Filled) → x .«turned_away» ≡ false → y .«turned_away» ≡ false → cond b x y .«turned_away» ≡ false
-either true x y f g = f
-either false x y f g = g
-
 module _ (s : Settings) (none : Ieee.eq (s .terms .lot) zero ≡ true) where
+  done-taken : (due : Due) (p : Position) (k : Candle) (h : History) (number : ℕ) → doneOf due s p k h number .«turned_away» ≡ false
+  unfolding doneOf entered exited
+  done-taken (Waits o) p k h number = refl
+  done-taken (Enters side kind price) p k h number = none-turned-away (s .terms) none side price _ k (p .portfolio) h
+  done-taken Leaves p k h number = refl
+
   fill-taken : (o : Order) (p : Position) (k : Candle) (h : History) (number : ℕ) → filled s o p k h number .«turned_away» ≡ false
-  unfolding filled entered exited
-  fill-taken Idle p k h number = refl
-  fill-taken (EnterLong n) p k h number = either (ltb 0 n) _ _ refl (none-turned-away (s .terms) none _ _ k (p .portfolio) h)
-  fill-taken (EnterShort n) p k h number = either (ltb 0 n) _ _ refl (none-turned-away (s .terms) none _ _ k (p .portfolio) h)
-  fill-taken (Exit n) p k h number = either (ltb 0 n) _ _ refl refl
+  unfolding filled
+  fill-taken o p k h number = done-taken (dueOf o k) p k h number
 
   sizes-fine : (t : State) (bar : List ℕ) (m : Rooms) → judged (sizeLines s t bar m) ≡ Fine
   unfolding sizeLines judged
@@ -57,23 +59,28 @@ module _ (s : Settings) (none : Ieee.eq (s .terms .lot) zero ≡ true) where
       go (Bad why) e = handed-bad s t bar m ls why e ∙ sym e
 
   -- WITH A LOT OF 0 what an entry that is due comes to is what it was: the Rust's entry, and nothing is turned away.
-  pub entered-as-before : (side : Side) (p : Position) (k : Candle) (h : History) (number : ℕ)
-      → entered side s p k h number ≡ waiting Idle (entering p (rustEntry side (k .«open») (s .terms) k (p .portfolio) h) number)
+  pub entered-as-before : (side : Side) (kind : OrderKind) (price : Float) (p : Position) (k : Candle) (h : History) (number : ℕ)
+      → let bps = feeBps kind (s .entries .«maker_bps») (s .terms .«taker_bps») in
+      entered side kind price s p k h number ≡ waiting Idle (entering p (rustEntry side price bps (s .terms) k (p .portfolio) h) number)
   unfolding entered
-  entered-as-before side p k h number =
-      rw (none-turned-away (s .terms) none side (k .«open») k (p .portfolio) h, no-lots (s .terms) none side (k .«open») k (p .portfolio) h)
+  entered-as-before side kind price p k h number =
+      rw (none-turned-away (s .terms) none side price _ k (p .portfolio) h, no-lots (s .terms) none side price _ k (p .portfolio) h)
 
 -- ---- any other lot
 
 -- WITH ANY OTHER LOT an entry that is due leaves the position as it was, or one of k·lot for a whole k from 1 to below 2^53.
-pub fills-in-lots : (side : Side) (s : Settings) (p : Position) (k : Candle) (h : History) (number : ℕ) → Ieee.eq (s .terms .lot) zero ≡ false
-    → let f = entered side s p k h number in
+pub fills-in-lots : (side : Side) (kind : OrderKind) (price : Float) (s : Settings) (p : Position) (k : Candle) (h : History) (number : ℕ)
+    → Ieee.eq (s .terms .lot) zero ≡ false
+    → let f = entered side kind price s p k h number in
     (f .position ≡ p) ⊎ EntersLots (s .terms .lot) (direction side) (f .position .portfolio .qty)
 unfolding entered entering
-fills-in-lots side s p k h number some = go (executeEntry side (k .«open») (s .terms) k (p .portfolio) h) refl
+fills-in-lots side kind price s p k h number some = go (executeEntry side price bps (s .terms) k (p .portfolio) h) refl
   where
-    go : (e : Entry) → executeEntry side (k .«open») (s .terms) k (p .portfolio) h ≡ e
+    bps : Float
+    bps = feeBps kind (s .entries .«maker_bps») (s .terms .«taker_bps»)
+
+    go : (e : Entry) → executeEntry side price bps (s .terms) k (p .portfolio) h ≡ e
         → (entering p e number ≡ p) ⊎ EntersLots (s .terms .lot) (direction side) (entering p e number .portfolio .qty)
     go NoEntry e = inl refl
     go TooLarge e = inl refl
-    go (Entered q fill) e = inr (entered-in-lots side _ (s .terms) k (p .portfolio) q h fill some e)
+    go (Entered q fill) e = inr (entered-in-lots side price bps (s .terms) k (p .portfolio) q h fill some e)

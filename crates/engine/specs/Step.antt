@@ -50,7 +50,7 @@ stepped s t bar m ls =
     record {
       result = record {
         counts = record { «bars_seen» = n .«bars_seen» + 1; «rows_held» = held; «equity_points» = e .count; trades = stopped .count };
-        order = decided s (f .order) p (n .«bars_seen») (heldRows (s .slots) held rows) ls;
+        order = decided s (f .order) p (n .«bars_seen») (k .close) (heldRows (s .slots) held rows) ls;
         position = p;
         last = record { time = k .time; close = k .close };
       };

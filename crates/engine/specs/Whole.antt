@@ -2,8 +2,9 @@
 use Prim.Native.Nat.{ℕ, _+_}
 use mathlib.Core.List.{List, [], _∷_, _++_, flatMap}
 use lib.Ieee.{Float}
-use Rattle.rows.specs.History.{historyOf, lastRows}
+use Rattle.rows.specs.History.{History, historyOf, lastRows}
 use Rattle.rules.specs.declared.PositionState.{PositionState}
+use Rattle.portfolio.specs.declared.Candle.{Candle}
 use Rattle.portfolio.specs.declared.Trade.{Trade}
 use Rattle.portfolio.specs.Portfolio.{equity}
 use Rattle.portfolio.specs.Trade.{wordsOfTrade}
@@ -20,6 +21,7 @@ use Rattle.records.specs.declared.state.State.{State}
 use Rattle.records.specs.Bar.{candleOf}
 use Rattle.records.specs.Lent.{Lists, Rooms}
 use Rattle.records.specs.State.{freshState}
+use Rattle.engine.specs.declared.account.Filled.{Filled}
 use Rattle.engine.specs.Account.{leaving, filled, intrabar, charged}
 use Rattle.engine.specs.Books.{Point, pointOf, wordsOfPoint, lastBecomes, tradesOf}
 use Rattle.engine.specs.Decide.{Answers, answersOf, stateAt, orderAfter}
@@ -66,6 +68,10 @@ byMeaning s rs rows p = meanings (historyOf (s .slots) rows) p rs
 
 -- ---- a bar
 
+-- how the working order is filled at a bar, over the rows before it
+abbrev pub Fill : Type 0
+Fill = Settings → Order → Position → Candle → History → ℕ → Filled
+
 -- What a bar comes to: the account after it, its equity point, and the trades that it closes.
 pub record Taken : Type 0 where
   pub account : Account
@@ -74,22 +80,25 @@ pub record Taken : Type 0 where
 
 -- "fill the working order, record the row, intrabar exits, funding, equity at the close, decide": `rows` are those of all bars
 -- before this one
-unfoldable pub taken : Settings → Asked → Account → List ℕ → List ℕ → Taken
-taken s asked a rows bar =
+unfoldable pub takenBy : Fill → Settings → Asked → Account → List ℕ → List ℕ → Taken
+takenBy fill s asked a rows bar =
     let k = candleOf bar in
-    let f = filled s (a .order) (a .position) k (historyOf (s .slots) rows) (a .seen) in
+    let f = fill s (a .order) (a .position) k (historyOf (s .slots) rows) (a .seen) in
     let x = intrabar s (f .position) k in
     let p = charged s (x .position) bar in
     record {
       account = record {
         seen = a .seen + 1;
-        order = orderAfter s (f .order) p (a .seen) (asked (rows ++ rowOf (s .slots) bar) (stateAt p (a .seen)));
+        order = orderAfter s (f .order) p (a .seen) (k .close) (asked (rows ++ rowOf (s .slots) bar) (stateAt p (a .seen)));
         position = p;
         last = record { time = k .time; close = k .close };
       };
       point = pointOf k p;
       trades = tradesOf (f .«exit») ++ tradesOf (x .«exit»);
     }
+
+abbrev pub taken : Settings → Asked → Account → List ℕ → List ℕ → Taken
+taken = takenBy filled
 
 -- ---- bar after bar
 
@@ -100,12 +109,15 @@ pub record Whole : Type 0 where
   pub trades : List Trade
 
 -- each bar reads the rows of every bar before it
-unfoldable pub wholeRun : Settings → Asked → Account → List ℕ → List (List ℕ) → Whole
-wholeRun s asked a rows [] = record { account = a; points = []; trades = [] }
-wholeRun s asked a rows (bar ∷ bars) =
-    let b = taken s asked a rows bar in
-    let later = wholeRun s asked (b .account) (rows ++ rowOf (s .slots) bar) bars in
+unfoldable pub wholeRunBy : Fill → Settings → Asked → Account → List ℕ → List (List ℕ) → Whole
+wholeRunBy fill s asked a rows [] = record { account = a; points = []; trades = [] }
+wholeRunBy fill s asked a rows (bar ∷ bars) =
+    let b = takenBy fill s asked a rows bar in
+    let later = wholeRunBy fill s asked (b .account) (rows ++ rowOf (s .slots) bar) bars in
     record { account = later .account; points = b .point ∷ later .points; trades = b .trades ++ later .trades }
+
+abbrev pub wholeRun : Settings → Asked → Account → List ℕ → List (List ℕ) → Whole
+wholeRun = wholeRunBy filled
 
 -- from a fresh state, by what the rules of a table mean
 abbrev pub meantRun : List ℕ → Settings → List (List ℕ) → Whole

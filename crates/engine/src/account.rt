@@ -6,15 +6,18 @@ ghost use Rattle.words.specs.Limits.{mostSlots};
 ghost use Rattle.rows.specs.History.{historyOf};
 ghost use Rattle.engine.specs.Record.{heldRows};
 ghost use Rattle.engine.specs.Account as Account;
-ghost use Rattle.engine.specs.Account.{leaving, entering, dueOf, charged};
+ghost use Rattle.engine.specs.Account.{leaving, facing, entering, reached, dueOf, charged};
 ghost use Rattle.engine.specs.Books.{booked, marked};
 use crate::record;
 use execution::Entry;
 use execution::Exit;
+use execution::Optional;
 use execution::Side;
 use execution::costs;
 use execution::fills;
 use execution::intrabar;
+use execution::level;
+use execution::level::OrderKind;
 use portfolio::Candle;
 use portfolio::SIGNAL;
 use records::settings::Settings;
@@ -31,10 +34,10 @@ pub struct Filled {
     pub turned_away: bool,
 }
 
-// What is due at a bar's open for the working order: it only waits, a position is entered, or it is left.
+// What is due at a bar for the working order: it only waits, a position is entered at a raw price, or it is left.
 pub enum Due {
     Waits(Order),
-    Enters(Side),
+    Enters(Side, OrderKind, f64),
     Leaves,
 }
 
@@ -61,6 +64,19 @@ pub(crate) fn leaving(p: Position, exit: Exit) -> Position
     }
 }
 
+// An open position takes this bar into its least favourable price.
+fn facing(p: Position, candle: Candle) -> Position
+    ensures { λ r. ⌜ r ≡ facing p candle ⌝ }
+{
+    let account = p.portfolio;
+    let entered = p.entered;
+    Position {
+        portfolio: account.worsen(candle),
+        entered,
+        extreme: p.extreme,
+    }
+}
+
 // A position that was opened has this bar as its entry bar and the fill as its first extreme.
 fn entering(p: Position, entry: Entry, number: u64) -> Position
     ensures { λ r. ⌜ r ≡ entering p entry number ⌝ }
@@ -76,9 +92,11 @@ fn entering(p: Position, entry: Entry, number: u64) -> Position
     }
 }
 
-// An entry at the open.
+// An entry at the raw price that its kind gives.
 fn enter(
     side: Side,
+    kind: OrderKind,
+    price: f64,
     s: Settings,
     p: Position,
     candle: Candle,
@@ -87,13 +105,15 @@ fn enter(
     number: u64,
 ) -> Filled
     requires { ⌜ s .slots ≤ mostSlots ⌝ }
-    ensures { λ r. ⌜ r ≡ Account.entered side s p candle (historyOf (s .slots) (heldRows (s .slots) held (now (rows .entry)))) number ⌝ }
+    ensures { λ r. ⌜ r ≡ Account.entered side kind price s p candle (historyOf (s .slots) (heldRows (s .slots) held (now (rows .entry)))) number ⌝ }
 {
     let terms = s.terms;
     let account = p.portfolio;
     let slots = s.slots;
     let before = record::held_rows(rows, slots, held);
-    let entry = fills::execute_entry(side, candle.open, terms, candle, account, before, slots);
+    let entries = s.entries;
+    let fee_bps = level::fee_bps(kind, entries.maker_bps, terms.taker_bps);
+    let entry = fills::execute_entry(side, price, fee_bps, terms, candle, account, before, slots);
     let position = entering(p, entry, number);
     Filled {
         order: Order::Idle,
@@ -108,9 +128,10 @@ fn leave(s: Settings, p: Position, candle: Candle) -> Filled
     ensures { λ r. ⌜ r ≡ Account.exited s p candle ⌝ }
 {
     let terms = s.terms;
-    let account = p.portfolio;
+    let open = facing(p, candle);
+    let account = open.portfolio;
     let exit = fills::execute_exit(SIGNAL, candle.open, terms, candle, account);
-    let position = leaving(p, exit);
+    let position = leaving(open, exit);
     Filled {
         order: Order::Idle,
         position,
@@ -131,23 +152,43 @@ fn wait(order: Order, p: Position) -> Filled
     }
 }
 
-// What is due for an order: a delay above 0 counts down by 1.
-fn due_of(order: Order) -> Due
-    ensures { λ r. ⌜ r ≡ dueOf order ⌝ }
+// An entry is due where the bar reaches it; the order works on where it does not.
+fn reached(side: Side, kind: OrderKind, order: Order, price: Optional) -> Due
+    ensures { λ r. ⌜ r ≡ reached side kind order price ⌝ }
+{
+    match price {
+        Optional::Absent => Due::Waits(order),
+        Optional::Of(px) => Due::Enters(side, kind, px),
+    }
+}
+
+// What is due for an order: a delay above 0 counts down by 1, and no level is looked at meanwhile.
+fn due_of(order: Order, candle: Candle) -> Due
+    ensures { λ r. ⌜ r ≡ dueOf order candle ⌝ }
 {
     match order {
         Order::Idle => Due::Waits(Order::Idle),
-        Order::EnterLong(n) => {
+        Order::EnterLong(n, kind) => {
             if 0 < n {
-                return Due::Waits(Order::EnterLong(n - 1));
+                return Due::Waits(Order::EnterLong(n - 1, kind));
             }
-            Due::Enters(Side::Long)
+            reached(
+                Side::Long,
+                kind,
+                order,
+                level::level_fill(Side::Long, kind, candle),
+            )
         }
-        Order::EnterShort(n) => {
+        Order::EnterShort(n, kind) => {
             if 0 < n {
-                return Due::Waits(Order::EnterShort(n - 1));
+                return Due::Waits(Order::EnterShort(n - 1, kind));
             }
-            Due::Enters(Side::Short)
+            reached(
+                Side::Short,
+                kind,
+                order,
+                level::level_fill(Side::Short, kind, candle),
+            )
         }
         Order::Exit(n) => {
             if 0 < n {
@@ -172,10 +213,20 @@ pub(crate) fn fill_working_order(
     requires { ⌜ s .slots ≤ mostSlots ⌝ }
     ensures { λ r. ⌜ r ≡ Account.filled s order p candle (historyOf (s .slots) (heldRows (s .slots) held (now (rows .entry)))) number ⌝ }
 {
-    let due = due_of(order);
+    let due = due_of(order, candle);
     match due {
         Due::Waits(waiting) => wait(waiting, p),
-        Due::Enters(side) => enter(side, s, p, candle, rows, held, number),
+        Due::Enters(side, kind, price) => enter(
+            side,
+            kind,
+            price,
+            s,
+            p,
+            candle,
+            rows,
+            held,
+            number,
+        ),
         Due::Leaves => leave(s, p, candle),
     }
 }
@@ -185,9 +236,10 @@ pub(crate) fn apply_intrabar_exits(s: Settings, p: Position, candle: Candle) -> 
     ensures { λ r. ⌜ r ≡ Account.intrabar s p candle ⌝ }
 {
     let terms = s.terms;
-    let account = p.portfolio;
-    let entered = p.entered;
-    let extreme = intrabar::extreme_with(candle, account, p.extreme);
+    let open = facing(p, candle);
+    let account = open.portfolio;
+    let entered = open.entered;
+    let extreme = intrabar::extreme_with(candle, account, open.extreme);
     let exit = intrabar::apply_intrabar_exits(candle, terms, account, extreme);
     let followed = Position {
         portfolio: account,

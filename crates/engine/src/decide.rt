@@ -7,6 +7,8 @@ ghost use Rattle.records.specs.Lent.{lists};
 ghost use Rattle.engine.specs.Decide.{listSays, answersOf, ordered, decided};
 ghost use Rattle.engine.specs.Record.{heldRows};
 use crate::record;
+use execution::level;
+use execution::level::OrderKind;
 use portfolio::Portfolio;
 use records::settings::Settings;
 use records::state::Order;
@@ -26,6 +28,7 @@ fn list_says(window: &[u64], slots: usize, state: PositionState, list: &[u8]) ->
 // The order of a bar on which none works.
 fn order_of<'a>(
     delay: u64,
+    kind: OrderKind,
     account: Portfolio,
     window: &[u64],
     slots: usize,
@@ -35,7 +38,7 @@ fn order_of<'a>(
     short_entry: &[u8],
     short_exit: &'a [u8],
 ) -> Order
-    ensures { λ r. ⌜ r ≡ ordered delay account (answersOf (historyOf slots (now (window .entry))) state
+    ensures { λ r. ⌜ r ≡ ordered delay kind account (answersOf (historyOf slots (now (window .entry))) state
         (lists (now (entry .entry)) (now («exit» .entry)) (now («short_entry» .entry)) (now («short_exit» .entry)))) ⌝ }
 {
     if account.in_position() {
@@ -46,10 +49,10 @@ fn order_of<'a>(
         return Order::Idle;
     }
     if list_says(window, slots, state, entry) {
-        return Order::EnterLong(delay);
+        return Order::EnterLong(delay, kind);
     }
     if list_says(window, slots, state, short_entry) {
-        return Order::EnterShort(delay);
+        return Order::EnterShort(delay, kind);
     }
     Order::Idle
 }
@@ -60,6 +63,7 @@ pub(crate) fn decide_next_action<'a>(
     order: Order,
     p: Position,
     number: u64,
+    close: f64,
     rows: &[u64],
     held: usize,
     entry: &[u8],
@@ -68,12 +72,12 @@ pub(crate) fn decide_next_action<'a>(
     short_exit: &'a [u8],
 ) -> Order
     requires { ⌜ (s .slots ≤ mostSlots) × (number < mostCount) ⌝ }
-    ensures { λ r. ⌜ r ≡ decided s order p number (heldRows (s .slots) held (now (rows .entry)))
+    ensures { λ r. ⌜ r ≡ decided s order p number close (heldRows (s .slots) held (now (rows .entry)))
         (lists (now (entry .entry)) (now («exit» .entry)) (now («short_entry» .entry)) (now («short_exit» .entry))) ⌝ }
 {
     match order {
-        Order::EnterLong(n) => Order::EnterLong(n),
-        Order::EnterShort(n) => Order::EnterShort(n),
+        Order::EnterLong(n, kind) => Order::EnterLong(n, kind),
+        Order::EnterShort(n, kind) => Order::EnterShort(n, kind),
         Order::Exit(n) => Order::Exit(n),
         Order::Idle => {
             if number < s.warmup {
@@ -82,6 +86,8 @@ pub(crate) fn decide_next_action<'a>(
             let slots = s.slots;
             let account = p.portfolio;
             let entered = p.entered;
+            let entries = s.entries;
+            let kind = level::entry_trigger(entries, close);
             let state = PositionState {
                 qty: account.qty,
                 entered,
@@ -90,6 +96,7 @@ pub(crate) fn decide_next_action<'a>(
             let window = rows::window(record::held_rows(rows, slots, held), slots, s.depth);
             order_of(
                 s.delay,
+                kind,
                 account,
                 window,
                 slots,

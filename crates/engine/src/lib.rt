@@ -79,6 +79,7 @@ fn advance<'a>(
         working,
         charged,
         number,
+        candle.close,
         rows,
         held,
         entry,

@@ -64,25 +64,26 @@ withinVolume terms Quantity.TooLarge volume = Quantity.TooLarge
 withinVolume terms (Of base) volume =
     cond (terms .«partial_fills») (inLots (terms .lot) (min base (terms .«max_participation» ⊗ volume))) (Of base)
 
--- `if base > 0.0 { let fee = base * fill * taker;  pf.enter(dir * base, fill, candle.time, fee); .. }`, where request 7 puts EPS for 0:
+-- `if base > 0.0 { let fee = base * fill * rate;  pf.enter(dir * base, fill, candle.time, fee); .. }`, where request 7 puts EPS for 0:
 -- "an entry whose quantity is at most EPS takes cash but counts as flat .. such an entry is now dropped"
-unfoldable pub booked : Float → Quantity → Float → Terms → Candle → Portfolio → Entry
-booked dir Nothing fill terms k p = NoEntry
-booked dir Quantity.TooLarge fill terms k p = TooLarge
-booked dir (Of base) fill terms k p =
+unfoldable pub booked : Float → Quantity → Float → Float → Candle → Portfolio → Entry
+booked dir Nothing fill bps k p = NoEntry
+booked dir Quantity.TooLarge fill bps k p = TooLarge
+booked dir (Of base) fill bps k p =
     cond (eps ≺ base)
-    (Entered (entered p (dir ⊗ base) fill (k .time) (base ⊗ fill ⊗ takerRate (terms .«taker_bps»))) fill)
+    (Entered (entered p (dir ⊗ base) fill (k .time) (base ⊗ fill ⊗ takerRate bps)) fill)
     NoEntry
 
--- `execute_entry`: from flat, so that the equity is the cash. "too large a quotient gives 16", in the probe too.
-unfoldable pub executeEntry : Side → Float → Terms → Candle → Portfolio → History → Entry
-executeEntry side raw terms k p h =
+-- `execute_entry`: from flat, so that the equity is the cash; at a raw price, with a fee of so many basis points. "too large a quotient gives
+-- 16", in the probe too.
+unfoldable pub executeEntry : Side → Float → Float → Terms → Candle → Portfolio → History → Entry
+executeEntry side raw bps terms k p h =
     let dir = direction side in
     let rv = volatilityFor (terms .sizing) h in
     let probe = probeQty (terms .slippage) terms (p .cash) raw rv in
     let fill = fillPrice raw dir (slippageRate (terms .slippage) (orZero probe) (k .volume)) in
     cond (isTooLarge probe) TooLarge
-    (booked dir (withinVolume terms (quantity terms (p .cash) fill rv) (k .volume)) fill terms k p)
+    (booked dir (withinVolume terms (quantity terms (p .cash) fill rv) (k .volume)) fill bps k p)
 
 -- whether an entry is turned away: its quantity is too large
 abbrev pub isTurnedAway : Entry → Bool

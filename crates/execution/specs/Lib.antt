@@ -5,8 +5,10 @@ pub mod Volatility
 pub mod Tally
 pub mod Costs
 pub mod Intrabar
+pub mod Level
 pub mod Fills
 pub mod RustEntry
 pub mod WholeLots
+pub mod Laws
 pub mod VolatilityWindow
 pub mod Edges

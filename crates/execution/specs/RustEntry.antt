@@ -27,16 +27,16 @@ rustProbe (FixedBps bps) terms cash raw rv = zero
 rustProbe Unknown terms cash raw rv = zero
 
 -- `if let Some(base) = size(..)? { let base = if partial_fills { base.min(max_participation * volume) } else { base }; .. }`
-unfoldable pub rustFill : Optional → Float → Float → Terms → Candle → Portfolio → Entry
-rustFill Absent dir fill terms k p = NoEntry
-rustFill (Of base) dir fill terms k p =
-    booked dir (Quantity.Of (cond (terms .«partial_fills») (min base (terms .«max_participation» ⊗ k .volume)) base)) fill terms k p
+unfoldable pub rustFill : Optional → Float → Float → Float → Terms → Candle → Portfolio → Entry
+rustFill Absent dir fill bps terms k p = NoEntry
+rustFill (Of base) dir fill bps terms k p =
+    booked dir (Quantity.Of (cond (terms .«partial_fills») (min base (terms .«max_participation» ⊗ k .volume)) base)) fill bps k p
 
 -- `execute_entry`
-unfoldable pub rustEntry : Side → Float → Terms → Candle → Portfolio → History → Entry
-rustEntry side raw terms k p h =
+unfoldable pub rustEntry : Side → Float → Float → Terms → Candle → Portfolio → History → Entry
+rustEntry side raw bps terms k p h =
     let dir = direction side in
     let rv = volatilityFor (terms .sizing) h in
     let probe = rustProbe (terms .slippage) terms (p .cash) raw rv in
     let fill = fillPrice raw dir (slippageRate (terms .slippage) probe (k .volume)) in
-    rustFill (size (terms .sizing) (terms .risk) (p .cash) fill rv) dir fill terms k p
+    rustFill (size (terms .sizing) (terms .risk) (p .cash) fill rv) dir fill bps terms k p

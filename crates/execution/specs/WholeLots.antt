@@ -34,19 +34,20 @@ use Rattle.execution.specs.declared.Terms.{Terms}
 -- ---- a lot of 0
 
 -- the Rust turns none away
-quantity-booked : (dir base fill : Float) (terms : Terms) (k : Candle) (p : Portfolio) → isTurnedAway (booked dir (Of base) fill terms k p) ≡ false
+quantity-booked : (dir base fill bps : Float) (k : Candle) (p : Portfolio) → isTurnedAway (booked dir (Of base) fill bps k p) ≡ false
 unfolding booked
-quantity-booked dir base fill terms k p =
-    by-test (eps ≺ base) (entered p (dir ⊗ base) fill (k .time) (base ⊗ fill ⊗ takerRate (terms .«taker_bps»)))
+quantity-booked dir base fill bps k p =
+    by-test (eps ≺ base) (entered p (dir ⊗ base) fill (k .time) (base ⊗ fill ⊗ takerRate bps))
   where
     by-test : (some : Bool) (q : Portfolio) → isTurnedAway (cond some (Entered q fill) NoEntry) ≡ false
     by-test true q = refl
     by-test false q = refl
 
-rust-fills : (sized : Optional) (dir fill : Float) (terms : Terms) (k : Candle) (p : Portfolio) → isTurnedAway (rustFill sized dir fill terms k p) ≡ false
+rust-fills : (sized : Optional) (dir fill bps : Float) (terms : Terms) (k : Candle) (p : Portfolio)
+    → isTurnedAway (rustFill sized dir fill bps terms k p) ≡ false
 unfolding rustFill
-rust-fills Optional.Absent dir fill terms k p = refl
-rust-fills (Optional.Of base) dir fill terms k p = quantity-booked dir _ fill terms k p
+rust-fills Optional.Absent dir fill bps terms k p = refl
+rust-fills (Optional.Of base) dir fill bps terms k p = quantity-booked dir _ fill bps k p
 
 module _ (terms : Terms) (none : Ieee.eq (terms .lot) zero ≡ true) where
   unchanged : (qty : Float) → inLots (terms .lot) qty ≡ Of qty
@@ -64,28 +65,30 @@ module _ (terms : Terms) (none : Ieee.eq (terms .lot) zero ≡ true) where
       sized Optional.Absent = (refl, refl)
       sized (Optional.Of qty) = rw (unchanged qty) (refl, refl)
 
-  fill-as-before : (sized : Optional) (dir fill : Float) (k : Candle) (p : Portfolio)
-      → booked dir (withinVolume terms (sizeInLots (terms .lot) sized) (k .volume)) fill terms k p ≡ rustFill sized dir fill terms k p
+  fill-as-before : (sized : Optional) (dir fill bps : Float) (k : Candle) (p : Portfolio)
+      → booked dir (withinVolume terms (sizeInLots (terms .lot) sized) (k .volume)) fill bps k p ≡ rustFill sized dir fill bps terms k p
   unfolding sizeInLots withinVolume booked rustFill
-  fill-as-before Optional.Absent dir fill k p = refl
-  fill-as-before (Optional.Of qty) dir fill k p = rw (unchanged qty) (by-switch (terms .«partial_fills»))
+  fill-as-before Optional.Absent dir fill bps k p = refl
+  fill-as-before (Optional.Of qty) dir fill bps k p = rw (unchanged qty) (by-switch (terms .«partial_fills»))
     where
-      by-switch : (on : Bool) → booked dir (cond on (inLots (terms .lot) (min qty (terms .«max_participation» ⊗ k .volume))) (Of qty)) fill terms k p
-          ≡ booked dir (Of (cond on (min qty (terms .«max_participation» ⊗ k .volume)) qty)) fill terms k p
+      by-switch : (on : Bool) → booked dir (cond on (inLots (terms .lot) (min qty (terms .«max_participation» ⊗ k .volume))) (Of qty)) fill bps k p
+          ≡ booked dir (Of (cond on (min qty (terms .«max_participation» ⊗ k .volume)) qty)) fill bps k p
       by-switch true = rw (unchanged _)
       by-switch false = refl
 
   -- WITH A LOT OF 0 an entry is the Rust's.
-  pub no-lots : (side : Side) (raw : Float) (k : Candle) (p : Portfolio) (h : History) → executeEntry side raw terms k p h ≡ rustEntry side raw terms k p h
+  pub no-lots : (side : Side) (raw bps : Float) (k : Candle) (p : Portfolio) (h : History)
+      → executeEntry side raw bps terms k p h ≡ rustEntry side raw bps terms k p h
   unfolding executeEntry rustEntry quantity
-  no-lots side raw k p h =
+  no-lots side raw bps k p h =
       let probe = probe-as-before (terms .slippage) (p .cash) raw (volatilityFor (terms .sizing) h) in
-      rw (probe .0, probe .1) (fill-as-before _ _ _ k p)
+      rw (probe .0, probe .1) (fill-as-before _ _ _ bps k p)
 
   -- and none is turned away
-  pub none-turned-away : (side : Side) (raw : Float) (k : Candle) (p : Portfolio) (h : History) → isTurnedAway (executeEntry side raw terms k p h) ≡ false
+  pub none-turned-away : (side : Side) (raw bps : Float) (k : Candle) (p : Portfolio) (h : History)
+      → isTurnedAway (executeEntry side raw bps terms k p h) ≡ false
   unfolding rustEntry
-  none-turned-away side raw k p h = ap isTurnedAway (no-lots side raw k p h) ∙ rust-fills _ _ _ terms k p
+  none-turned-away side raw bps k p h = ap isTurnedAway (no-lots side raw bps k p h) ∙ rust-fills _ _ _ bps terms k p
 
 -- ---- any other lot
 
@@ -132,25 +135,25 @@ within-in-lots terms volume some (Of b) q sized e = by-switch (terms .«partial_
     by-switch false e = sized q e
 
 -- what is entered is what was ordered, with its sign
-booked-qty : (dir : Float) (w : Quantity) (fill : Float) (terms : Terms) (k : Candle) (p q : Portfolio) (at : Float) (P : Float → Type 0)
-    → ((b : Float) → w ≡ Of b → P (dir ⊗ b)) → booked dir w fill terms k p ≡ Entered q at → P (q .qty)
+booked-qty : (dir : Float) (w : Quantity) (fill bps : Float) (k : Candle) (p q : Portfolio) (at : Float) (P : Float → Type 0)
+    → ((b : Float) → w ≡ Of b → P (dir ⊗ b)) → booked dir w fill bps k p ≡ Entered q at → P (q .qty)
 unfolding booked entered
-booked-qty dir Nothing fill terms k p q at P each e = absurd (let z : _≡_ {A = ℕ} 0 1 = cc in omega arith)
-booked-qty dir TooLarge fill terms k p q at P each e = absurd (let z : _≡_ {A = ℕ} 0 1 = cc in omega arith)
-booked-qty dir (Of b) fill terms k p q at P each e = by-test (eps ≺ b) e
+booked-qty dir Nothing fill bps k p q at P each e = absurd (let z : _≡_ {A = ℕ} 0 1 = cc in omega arith)
+booked-qty dir TooLarge fill bps k p q at P each e = absurd (let z : _≡_ {A = ℕ} 0 1 = cc in omega arith)
+booked-qty dir (Of b) fill bps k p q at P each e = by-test (eps ≺ b) e
   where
     opened : Portfolio
-    opened = entered p (dir ⊗ b) fill (k .time) (b ⊗ fill ⊗ takerRate (terms .«taker_bps»))
+    opened = entered p (dir ⊗ b) fill (k .time) (b ⊗ fill ⊗ takerRate bps)
 
     by-test : (some : Bool) → cond some (Entered opened fill) NoEntry ≡ Entered q at → P (q .qty)
     by-test true e = let same : opened ≡ q = cc in subst (λ (x : Portfolio). P (x .qty)) same (each b refl)
     by-test false e = absurd (let z : _≡_ {A = ℕ} 0 1 = cc in omega arith)
 
 -- WITH ANY OTHER LOT every quantity that is entered is k·lot for a whole k from 1 to below 2^53.
-pub entered-in-lots : (side : Side) (raw : Float) (terms : Terms) (k : Candle) (p q : Portfolio) (h : History) (fill : Float)
-    → Ieee.eq (terms .lot) zero ≡ false → executeEntry side raw terms k p h ≡ Entered q fill → EntersLots (terms .lot) (direction side) (q .qty)
+pub entered-in-lots : (side : Side) (raw bps : Float) (terms : Terms) (k : Candle) (p q : Portfolio) (h : History) (fill : Float)
+    → Ieee.eq (terms .lot) zero ≡ false → executeEntry side raw bps terms k p h ≡ Entered q fill → EntersLots (terms .lot) (direction side) (q .qty)
 unfolding executeEntry quantity
-entered-in-lots side raw terms k p q h fill some e =
+entered-in-lots side raw bps terms k p q h fill some e =
     let rv = volatilityFor (terms .sizing) h in
     let probe = probeQty (terms .slippage) terms (p .cash) raw rv in
     by-probe (isTooLarge probe) (fillPrice raw (direction side) (slippageRate (terms .slippage) (orZero probe) (k .volume))) e
@@ -159,11 +162,11 @@ entered-in-lots side raw terms k p q h fill some e =
     ordered price =
         withinVolume terms (sizeInLots (terms .lot) (size (terms .sizing) (terms .risk) (p .cash) price (volatilityFor (terms .sizing) h))) (k .volume)
 
-    by-probe : (large : Bool) (price : Float) → cond large Entry.TooLarge (booked (direction side) (ordered price) price terms k p) ≡ Entered q fill
+    by-probe : (large : Bool) (price : Float) → cond large Entry.TooLarge (booked (direction side) (ordered price) price bps k p) ≡ Entered q fill
         → EntersLots (terms .lot) (direction side) (q .qty)
     by-probe true price e = absurd (let z : _≡_ {A = ℕ} 0 1 = cc in omega arith)
     by-probe false price e =
-        booked-qty (direction side) (ordered price) price terms k p q fill (EntersLots (terms .lot) (direction side))
+        booked-qty (direction side) (ordered price) price bps k p q fill (EntersLots (terms .lot) (direction side))
         (λ b t. record {
           q = b;
           whole = within-in-lots terms (k .volume) some _ b (sized-in-lots (terms .lot) some _) t;

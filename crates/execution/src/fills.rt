@@ -82,19 +82,19 @@ fn booked(
     dir: f64,
     ordered: Quantity,
     fill: f64,
-    terms: Terms,
+    fee_bps: f64,
     candle: Candle,
     pf: Portfolio,
 ) -> Entry
-    ensures { λ r. ⌜ r ≡ booked dir ordered fill terms candle pf ⌝ }
+    ensures { λ r. ⌜ r ≡ booked dir ordered fill «fee_bps» candle pf ⌝ }
 {
     match ordered {
         Quantity::Nothing => Entry::NoEntry,
         Quantity::TooLarge => Entry::TooLarge,
         Quantity::Of(base) => {
             if base > floats::EPS {
-                let taker = terms.taker_bps / 10_000.0;
-                let fee = base * fill * taker;
+                let rate = fee_bps / 10_000.0;
+                let fee = base * fill * rate;
                 return Entry::Entered(pf.enter(dir * base, fill, candle.time, fee), fill);
             }
             Entry::NoEntry
@@ -106,13 +106,14 @@ fn booked(
 pub fn execute_entry(
     side: Side,
     raw_price: f64,
+    fee_bps: f64,
     terms: Terms,
     candle: Candle,
     pf: Portfolio,
     rows: &[u64],
     slots: usize,
 ) -> Entry
-    ensures { λ r. ⌜ r ≡ executeEntry side «raw_price» terms candle pf (historyOf slots (now (rows .entry))) ⌝ }
+    ensures { λ r. ⌜ r ≡ executeEntry side «raw_price» «fee_bps» terms candle pf (historyOf slots (now (rows .entry))) ⌝ }
 {
     let sizing = terms.sizing;
     let slippage = terms.slippage;
@@ -126,7 +127,7 @@ pub fn execute_entry(
     let fill = raw_price * (1.0 + dir * slip);
     let sized = quantity(terms, pf.cash, fill, rv);
     let ordered = within_volume(terms, sized, candle.volume);
-    booked(dir, ordered, fill, terms, candle, pf)
+    booked(dir, ordered, fill, fee_bps, candle, pf)
 }
 
 // A long exit sells and fills lower, a short exit buys and fills higher.

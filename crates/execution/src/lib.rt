@@ -3,6 +3,7 @@
 pub mod costs;
 pub mod fills;
 pub mod intrabar;
+pub mod level;
 pub mod lots;
 pub mod size;
 pub mod volatility;

@@ -33,7 +33,7 @@ pub(crate) fn entry_of(case: &[u64], rows: &[u64]) -> Entry {
     let terms = cases::entry_terms(case);
     let candle = cases::candle(case, 22);
     let pf = cases::portfolio(case, 28);
-    fills::execute_entry(side, raw, terms, candle, pf, rows, 0)
+    fills::execute_entry(side, raw, terms.taker_bps, terms, candle, pf, rows, 0)
 }
 
 pub(crate) fn exit_of(case: &[u64]) -> Exit {

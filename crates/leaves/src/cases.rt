@@ -98,6 +98,8 @@ pub(crate) fn portfolio(case: &[u64], base: usize) -> Portfolio {
         entry_time: word(case, base, 3),
         entry_fee: float(case, base, 4),
         fees_paid: float(case, base, 5),
+        funding: 0.0,
+        worst: 0.0,
     }
 }
 

@@ -5,6 +5,7 @@ use execution::Exit;
 use execution::Optional;
 use execution::Trigger;
 use portfolio::Portfolio;
+use portfolio::Trade;
 
 pub(crate) fn optional_words(value: Optional) -> [u64; 2] {
     match value {
@@ -80,12 +81,18 @@ pub(crate) fn closed_flag(exit: Exit) -> u64 {
     }
 }
 
+// The words of a trade that the Rust has.
+pub(crate) fn trade_words(trade: Trade) -> [u64; 8] {
+    let w = trade.words();
+    [w[0], w[1], w[2], w[3], w[4], w[5], w[6], w[7]]
+}
+
 pub(crate) fn closed_words(exit: Exit) -> [u64; 8] {
     match exit {
         Exit::NoExit => [0; 8],
         Exit::Exited(closed) => {
             let trade = closed.trade;
-            trade.words()
+            trade_words(trade)
         }
     }
 }

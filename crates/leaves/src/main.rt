@@ -104,7 +104,7 @@ fn write_closed(closed: Closed) {
     let pf = closed.portfolio;
     let trade = closed.trade;
     let words = fields::portfolio_words(pf);
-    let trade_words = trade.words();
+    let trade_words = fields::trade_words(trade);
     write_words(&words, b' ');
     write_words(&trade_words, b'\n');
 }

@@ -23,7 +23,7 @@ liquidation = 5
 abbrev pub end : ℕ
 end = 6
 
--- "A trade takes eight 64-bit words in the Rust record's order."
+-- "A trade takes eight 64-bit words in the Rust record's order."; request 6: "ten: funding paid during it, and the least favourable price"
 unfoldable pub wordsOfTrade : Trade → List ℕ
 wordsOfTrade t =
     t .«entry_time»
@@ -34,4 +34,6 @@ wordsOfTrade t =
     ∷ wordOf (t .pnl)
     ∷ wordOf (t .«return_pct»)
     ∷ t .reason
+    ∷ wordOf (t .funding)
+    ∷ wordOf (t .worst)
     ∷ []

@@ -1,7 +1,7 @@
 // Cash and at most one signed position, long where qty is above 0 and short where it is below: the Rust's portfolio.rs.
 // A portfolio goes in and comes out by value, and a closed trade is handed to the caller, who keeps it.
 ghost use mathlib.Core.Path.{_≡_};
-ghost use Rattle.portfolio.specs.Portfolio.{fresh, inPosition, isLong, equity, funded, entered, exited};
+ghost use Rattle.portfolio.specs.Portfolio.{fresh, inPosition, isLong, equity, funded, worse, worsened, entered, exited};
 ghost use Rattle.portfolio.specs.Trade.{wordsOfTrade};
 
 // One bar's prices and volume.
@@ -22,6 +22,9 @@ pub struct Portfolio {
     pub entry_time: u64,
     pub entry_fee: f64,
     pub fees_paid: f64,
+    // what the open trade has paid in funding, and its least favourable price
+    pub funding: f64,
+    pub worst: f64,
 }
 
 // A completed round trip.
@@ -34,6 +37,8 @@ pub struct Trade {
     pub pnl: f64,
     pub return_pct: f64,
     pub reason: u64,
+    pub funding: f64,
+    pub worst: f64,
 }
 
 // A portfolio whose position was closed, and the trade that this made.
@@ -55,6 +60,16 @@ pub const LIQUIDATION: u64 = 5;
 
 pub const END: u64 = 6;
 
+// The less favourable of a price and a bar's: its low for a long, its high for a short.
+fn worse(candle: Candle, price: f64, long: bool) -> f64
+    ensures { λ r. ⌜ r ≡ worse candle price long ⌝ }
+{
+    if long {
+        return floats::min(price, candle.low);
+    }
+    floats::max(price, candle.high)
+}
+
 impl Portfolio {
     // A portfolio with cash of starting capital.
     pub fn new(cash: f64) -> Portfolio
@@ -67,6 +82,8 @@ impl Portfolio {
             entry_time: 0,
             entry_fee: 0.0,
             fees_paid: 0.0,
+            funding: 0.0,
+            worst: 0.0,
         }
     }
 
@@ -91,12 +108,32 @@ impl Portfolio {
         self.cash + self.qty * mark
     }
 
-    // A funding payment leaves cash, and counts among the fees; below 0 it is received.
+    // A funding payment leaves cash, and counts among the fees and in the open trade's funding; below 0 it is received.
     pub fn apply_funding(mut self, payment: f64) -> Portfolio
         ensures { λ r. ⌜ r ≡ funded self payment ⌝ }
     {
         self.cash = self.cash - payment;
         self.fees_paid = self.fees_paid + payment;
+        self.funding = self.funding + payment;
+        self
+    }
+
+    // The open position's least favourable price takes a bar: its low for a long, its high for a short.
+    pub fn worsen(self, candle: Candle) -> Portfolio
+        ensures { λ r. ⌜ r ≡ worsened self candle ⌝ }
+    {
+        if self.in_position() {
+            return Portfolio {
+                cash: self.cash,
+                qty: self.qty,
+                entry_price: self.entry_price,
+                entry_time: self.entry_time,
+                entry_fee: self.entry_fee,
+                fees_paid: self.fees_paid,
+                funding: self.funding,
+                worst: worse(candle, self.worst, self.is_long()),
+            };
+        }
         self
     }
 
@@ -111,6 +148,8 @@ impl Portfolio {
             entry_time: time,
             entry_fee: fee,
             fees_paid: self.fees_paid + fee,
+            funding: 0.0,
+            worst: price,
         }
     }
 
@@ -129,6 +168,8 @@ impl Portfolio {
                 entry_time: self.entry_time,
                 entry_fee: 0.0,
                 fees_paid: self.fees_paid + fee,
+                funding: self.funding,
+                worst: self.worst,
             },
             trade: Trade {
                 entry_time: self.entry_time,
@@ -139,13 +180,15 @@ impl Portfolio {
                 pnl,
                 return_pct,
                 reason,
+                funding: self.funding,
+                worst: self.worst,
             },
         }
     }
 }
 
 impl Trade {
-    // The trade as its words, in the Rust record's order.
+    // The trade as its words: in the Rust record's order, then the two that the Rust has not.
     pub fn words(self) -> [u64; words::limits::TRADE_WORDS]
         ensures { λ r. ⌜ r ≡ wordsOfTrade self ⌝ }
     {
@@ -158,6 +201,8 @@ impl Trade {
             floats::word_of(self.pnl),
             floats::word_of(self.return_pct),
             self.reason,
+            floats::word_of(self.funding),
+            floats::word_of(self.worst),
         ]
     }
 }

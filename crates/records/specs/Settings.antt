@@ -12,6 +12,9 @@ use Rattle.execution.specs.declared.Sizing.the-variants.{FixedFraction, FixedQt
 use Rattle.execution.specs.declared.Slippage.{Slippage}
 use Rattle.execution.specs.declared.Slippage.the-variants.{FixedBps, VolumeImpact, Unknown as UnknownSlippage}
 use Rattle.execution.specs.declared.Terms.{Terms}
+use Rattle.execution.specs.declared.level.Entries.{Entries}
+use Rattle.execution.specs.declared.level.OrderType.{OrderType}
+use Rattle.execution.specs.declared.level.OrderType.the-variants.{Market, Limit, Stop, StopLimit, Unknown as UnknownType}
 use Rattle.words.specs.Words.{word}
 use Rattle.records.specs.declared.settings.Settings.{Settings}
 use Rattle.records.specs.Fields.{floatAt}
@@ -69,6 +72,24 @@ termsOf ws = record {
   lot = floatAt ws 24;
 }
 
+-- 20 order kind of an entry: 0 market, 1 limit, 2 stop, 3 stop-limit
+unfoldable pub orderTypeOf : ℕ → OrderType
+orderTypeOf kind =
+    cond (eqb kind 0) Market
+    (cond (eqb kind 1) Limit
+    (cond (eqb kind 2) Stop
+    (cond (eqb kind 3) StopLimit
+    UnknownType)))
+
+-- 21 its level, 22 the limit of a stop-limit, both in percent of the deciding close; 23 maker fee, bps
+unfoldable pub entriesOf : List ℕ → Entries
+entriesOf ws = record {
+  «order_type» = orderTypeOf (word ws 20);
+  «level_pct» = floatAt ws 21;
+  «limit_pct» = floatAt ws 22;
+  «maker_bps» = floatAt ws 23;
+}
+
 -- 0 K, slots; 1 D, window rows; 2 capital; 3 warmup, bars; 4 delay, bars; 11 funding on
 unfoldable pub settingsOf : List ℕ → Settings
 settingsOf ws = record {
@@ -79,4 +100,5 @@ settingsOf ws = record {
   delay = word ws 4;
   terms = termsOf ws;
   funding = flagOf (word ws 11);
+  entries = entriesOf ws;
 }

@@ -1,12 +1,14 @@
 // The settings, and what their words mean.
 ghost use mathlib.Core.Path.{_≡_};
-ghost use Rattle.records.specs.Settings.{flagOf, levelOf, sizingOf, slippageOf, riskOf, termsOf, settingsOf};
+ghost use Rattle.records.specs.Settings.{flagOf, levelOf, sizingOf, slippageOf, riskOf, termsOf, orderTypeOf, entriesOf, settingsOf};
 use crate::fields::float_at;
 use execution::Optional;
 use execution::Risk;
 use execution::Sizing;
 use execution::Slippage;
 use execution::Terms;
+use execution::level::Entries;
+use execution::level::OrderType;
 use words::word;
 
 // The settings, with their numbers.
@@ -25,6 +27,8 @@ pub struct Settings {
     pub terms: Terms,
     // 11: whether funding is charged
     pub funding: bool,
+    // 20 to 22 how an entry is ordered, 23 maker fee
+    pub entries: Entries,
 }
 
 // The word of the mask that says which optional settings are given.
@@ -104,6 +108,31 @@ fn terms_of(words: &[u64]) -> Terms
     }
 }
 
+// Setting 20.
+fn order_type_of(kind: u64) -> OrderType
+    ensures { λ r. ⌜ r ≡ orderTypeOf kind ⌝ }
+{
+    match kind {
+        0 => OrderType::Market,
+        1 => OrderType::Limit,
+        2 => OrderType::Stop,
+        3 => OrderType::StopLimit,
+        _ => OrderType::Unknown,
+    }
+}
+
+// Settings 20 to 23.
+fn entries_of(words: &[u64]) -> Entries
+    ensures { λ r. ⌜ r ≡ entriesOf (now (words .entry)) ⌝ }
+{
+    Entries {
+        order_type: order_type_of(word(words, 20)),
+        level_pct: float_at(words, 21),
+        limit_pct: float_at(words, 22),
+        maker_bps: float_at(words, 23),
+    }
+}
+
 // The settings of a list of words; a word past the end is 0.
 pub fn settings_of(words: &[u64]) -> Settings
     ensures { λ r. ⌜ r ≡ settingsOf (now (words .entry)) ⌝ }
@@ -116,5 +145,6 @@ pub fn settings_of(words: &[u64]) -> Settings
         delay: word(words, 4),
         terms: terms_of(words),
         funding: flag_of(word(words, 11)),
+        entries: entries_of(words),
     }
 }

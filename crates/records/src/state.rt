@@ -2,6 +2,7 @@
 ghost use mathlib.Core.Path.{_≡_};
 ghost use Rattle.records.specs.State.{freshState};
 use crate::settings::Settings;
+use execution::level::OrderKind;
 use portfolio::Portfolio;
 use rules::Entered;
 
@@ -13,11 +14,11 @@ pub struct Counts {
     pub trades: usize,
 }
 
-// The working order, with the bars that it still waits.
+// The working order, with the bars that it still waits; an entry's with what it waits for then.
 pub enum Order {
     Idle,
-    EnterLong(u64),
-    EnterShort(u64),
+    EnterLong(u64, OrderKind),
+    EnterShort(u64, OrderKind),
     Exit(u64),
 }
 

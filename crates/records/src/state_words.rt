@@ -1,26 +1,39 @@
 // The state's words: what they mean, and those of a state.
 ghost use mathlib.Core.Path.{_≡_};
 ghost use Rattle.words.specs.Words.{overwrite};
-ghost use Rattle.records.specs.StateWords.{orderOf, enteredOf, countsOf, portfolioOf, positionOf, stateOf};
-ghost use Rattle.records.specs.StateWords.{orderKind, orderDelay, enteredKind, entryBar, wordsOf};
+ghost use Rattle.records.specs.StateWords.{orderOf, kindOf, enteredOf, countsOf, portfolioOf, positionOf, stateOf};
+ghost use Rattle.records.specs.StateWords.{orderKind, orderDelay, waitsFor, kindWord, levelWord, limitWord};
+ghost use Rattle.records.specs.StateWords.{enteredKind, entryBar, wordsOf};
 use crate::fields::float_at;
 use crate::state::Counts;
 use crate::state::Last;
 use crate::state::Order;
 use crate::state::Position;
 use crate::state::State;
+use execution::level::OrderKind;
 use portfolio::Portfolio;
 use rules::Entered;
 use words::word;
 
-fn order_of(kind: u64, delay: u64) -> Order
-    ensures { λ r. ⌜ r ≡ orderOf kind delay ⌝ }
+fn order_of(order: u64, delay: u64, kind: OrderKind) -> Order
+    ensures { λ r. ⌜ r ≡ orderOf order delay kind ⌝ }
 {
-    match kind {
-        1 => Order::EnterLong(delay),
-        2 => Order::EnterShort(delay),
+    match order {
+        1 => Order::EnterLong(delay, kind),
+        2 => Order::EnterShort(delay, kind),
         3 => Order::Exit(delay),
         _ => Order::Idle,
+    }
+}
+
+fn kind_of(kind: u64, level: f64, limit: f64) -> OrderKind
+    ensures { λ r. ⌜ r ≡ kindOf kind level limit ⌝ }
+{
+    match kind {
+        1 => OrderKind::Limit(level),
+        2 => OrderKind::Stop(level),
+        3 => OrderKind::StopLimit(level, limit),
+        _ => OrderKind::Market,
     }
 }
 
@@ -54,6 +67,8 @@ fn portfolio_of(words: &[u64]) -> Portfolio
         entry_time: word(words, 11),
         entry_fee: float_at(words, 12),
         fees_paid: float_at(words, 13),
+        funding: float_at(words, 20),
+        worst: float_at(words, 21),
     }
 }
 
@@ -73,7 +88,11 @@ pub fn state_of(words: &[u64]) -> State
 {
     State {
         counts: counts_of(words),
-        order: order_of(word(words, 4), word(words, 5)),
+        order: order_of(
+            word(words, 4),
+            word(words, 5),
+            kind_of(word(words, 17), float_at(words, 18), float_at(words, 19)),
+        ),
         position: position_of(words),
         last: Last {
             time: word(words, 15),
@@ -87,8 +106,8 @@ fn order_kind(order: Order) -> u64
 {
     match order {
         Order::Idle => 0,
-        Order::EnterLong(_) => 1,
-        Order::EnterShort(_) => 2,
+        Order::EnterLong(_, _) => 1,
+        Order::EnterShort(_, _) => 2,
         Order::Exit(_) => 3,
     }
 }
@@ -98,9 +117,54 @@ fn order_delay(order: Order) -> u64
 {
     match order {
         Order::Idle => 0,
-        Order::EnterLong(delay) => delay,
-        Order::EnterShort(delay) => delay,
+        Order::EnterLong(delay, _) => delay,
+        Order::EnterShort(delay, _) => delay,
         Order::Exit(delay) => delay,
+    }
+}
+
+// What an order waits for.
+fn waits_for(order: Order) -> OrderKind
+    ensures { λ r. ⌜ r ≡ waitsFor order ⌝ }
+{
+    match order {
+        Order::Idle => OrderKind::Market,
+        Order::EnterLong(_, kind) => kind,
+        Order::EnterShort(_, kind) => kind,
+        Order::Exit(_) => OrderKind::Market,
+    }
+}
+
+fn kind_word(kind: OrderKind) -> u64
+    ensures { λ r. ⌜ r ≡ kindWord kind ⌝ }
+{
+    match kind {
+        OrderKind::Market => 0,
+        OrderKind::Limit(_) => 1,
+        OrderKind::Stop(_) => 2,
+        OrderKind::StopLimit(_, _) => 3,
+    }
+}
+
+fn level_word(kind: OrderKind) -> u64
+    ensures { λ r. ⌜ r ≡ levelWord kind ⌝ }
+{
+    match kind {
+        OrderKind::Market => 0,
+        OrderKind::Limit(level) => floats::word_of(level),
+        OrderKind::Stop(level) => floats::word_of(level),
+        OrderKind::StopLimit(stop, _) => floats::word_of(stop),
+    }
+}
+
+fn limit_word(kind: OrderKind) -> u64
+    ensures { λ r. ⌜ r ≡ limitWord kind ⌝ }
+{
+    match kind {
+        OrderKind::Market => 0,
+        OrderKind::Limit(_) => 0,
+        OrderKind::Stop(_) => 0,
+        OrderKind::StopLimit(_, limit) => floats::word_of(limit),
     }
 }
 
@@ -128,6 +192,7 @@ pub fn put_state(room: &mut [u64], s: State)
 {
     let counts = s.counts;
     let order = s.order;
+    let waiting = waits_for(order);
     let position = s.position;
     let entered = position.entered;
     let account = position.portfolio;
@@ -150,6 +215,11 @@ pub fn put_state(room: &mut [u64], s: State)
         floats::word_of(position.extreme),
         last.time,
         floats::word_of(last.close),
+        kind_word(waiting),
+        level_word(waiting),
+        limit_word(waiting),
+        floats::word_of(account.funding),
+        floats::word_of(account.worst),
     ];
     words::put(room, 0, &words);
 }

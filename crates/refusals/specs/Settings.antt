@@ -13,6 +13,9 @@ use Rattle.execution.specs.declared.Sizing.the-variants.{FixedFraction, FixedQt
 use Rattle.execution.specs.declared.Slippage.{Slippage}
 use Rattle.execution.specs.declared.Slippage.the-variants.{FixedBps, VolumeImpact, Unknown as UnknownSlippage}
 use Rattle.execution.specs.declared.Terms.{Terms}
+use Rattle.execution.specs.declared.level.Entries.{Entries}
+use Rattle.execution.specs.declared.level.OrderType.{OrderType}
+use Rattle.execution.specs.declared.level.OrderType.the-variants.{Market, Limit, Stop, StopLimit, Unknown as UnknownType}
 use Rattle.records.specs.declared.settings.Settings.{Settings}
 use Rattle.words.specs.Limits.{mostSlots, mostRows, mostReach}
 use Rattle.refusals.specs.Lines.{Line, line}
@@ -105,7 +108,7 @@ riskLines sizing risk =
     ∷ line (levelFine (risk .«max_position_pct»)) 12 16
     ∷ []
 
--- settings 5 to 19 but 11, and 24
+-- settings 5 to 19 but 11
 unfoldable pub termLines : Terms → List Line
 termLines t =
     sizingLines (t .sizing)
@@ -113,8 +116,25 @@ termLines t =
     ∷ (slippageLines (t .slippage)
     ++ (riskLines (t .sizing) (t .risk)
     ++ (line (finite (t .«max_participation»)) 12 19
-    ∷ line (lotFine (t .lot)) 12 24
     ∷ []))))
+
+-- "an unknown order kind gives 12": setting 20
+abbrev pub orderTypeKnown : OrderType → Bool
+orderTypeKnown UnknownType = false
+orderTypeKnown Market = true
+orderTypeKnown Limit = true
+orderTypeKnown Stop = true
+orderTypeKnown StopLimit = true
+
+-- settings 20 to 24: "a setting not finite", a percentage that its kind does not use too
+unfoldable pub entryLines : Entries → Float → List Line
+entryLines e lot =
+    line (orderTypeKnown (e .«order_type»)) 12 20
+    ∷ line (finite (e .«level_pct»)) 12 21
+    ∷ line (finite (e .«limit_pct»)) 12 22
+    ∷ line (finite (e .«maker_bps»)) 12 23
+    ∷ line (lotFine lot) 12 24
+    ∷ []
 
 -- "12: a setting not finite or of an unknown kind, lookback above 4,095, risk sizing without stop loss; a given K above
 -- 64, a given D outside 1 to 4,096 or not above a VolTarget lookback"; the place is the setting's number.
@@ -123,4 +143,5 @@ settingLines s =
     line (leb (s .slots) mostSlots) 12 0
     ∷ line (depthFine (s .depth) (s .terms .sizing)) 12 1
     ∷ line (finite (s .capital)) 12 2
-    ∷ termLines (s .terms)
+    ∷ (termLines (s .terms)
+    ++ entryLines (s .entries) (s .terms .lot))

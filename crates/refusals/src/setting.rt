@@ -1,8 +1,9 @@
 // Refusal 12: the settings.
 ghost use mathlib.Core.Path.{_≡_};
 ghost use Rattle.refusals.specs.Lines.{judged};
-ghost use Rattle.refusals.specs.Settings.{lookback, sizingKnown, sizingValue, slippageKnown, slippageValue, levelFine, stopThere, lotFine};
+ghost use Rattle.refusals.specs.Settings.{lookback, sizingKnown, sizingValue, slippageKnown, slippageValue, levelFine, stopThere};
 ghost use Rattle.refusals.specs.Settings.{depthFine, sizingLines, slippageLines, riskLines, termLines, settingLines};
+use crate::entries;
 use crate::verdict::Verdict;
 use execution::Optional;
 use execution::Risk;
@@ -115,16 +116,6 @@ fn depth_fine(depth: usize, sizing: Sizing) -> bool
     lookback_of(sizing) < depth as u64
 }
 
-// A lot is finite and not negative.
-fn lot_fine(lot: f64) -> bool
-    ensures { λ r. ⌜ r ≡ lotFine lot ⌝ }
-{
-    if floats::is_finite(lot) {
-        return 0.0 <= lot;
-    }
-    false
-}
-
 // Settings 5 to 7.
 fn judge_sizing(sizing: Sizing) -> Verdict
     ensures { λ r. ⌜ r ≡ judged (sizingLines sizing) ⌝ }
@@ -217,7 +208,7 @@ fn judge_risk(sizing: Sizing, risk: Risk) -> Verdict
     Verdict::Fine
 }
 
-// Settings 5 to 19 but 11, and 24.
+// Settings 5 to 19 but 11.
 fn judge_terms(t: Terms) -> Verdict
     ensures { λ r. ⌜ r ≡ judged (termLines t) ⌝ }
 {
@@ -245,12 +236,6 @@ fn judge_terms(t: Terms) -> Verdict
             place: 19,
         });
     }
-    if !lot_fine(t.lot) {
-        return Verdict::Bad(Refusal {
-            number: 12,
-            place: 24,
-        });
-    }
     Verdict::Fine
 }
 
@@ -259,6 +244,7 @@ pub fn judge_settings(s: Settings) -> Verdict
     ensures { λ r. ⌜ r ≡ judged (settingLines s) ⌝ }
 {
     let terms = s.terms;
+    let placing = s.entries;
     let sizing = terms.sizing;
     if MOST_SLOTS < s.slots {
         return Verdict::Bad(Refusal {
@@ -278,5 +264,8 @@ pub fn judge_settings(s: Settings) -> Verdict
             place: 2,
         });
     }
-    judge_terms(terms)
+    if let Verdict::Bad(refusal) = judge_terms(terms) {
+        return Verdict::Bad(refusal);
+    }
+    entries::judge_entries(placing, terms.lot)
 }

@@ -15,9 +15,9 @@ barWords K = 10 + K
 abbrev pub pointWords : ℕ
 pointWords = 2
 
--- "A trade takes eight 64-bit words"
+-- "A trade record grows from eight words to ten" (request 6)
 abbrev pub tradeWords : ℕ
-tradeWords = 8
+tradeWords = 10
 
 abbrev pub metricWords : ℕ
 metricWords = 9
@@ -26,8 +26,9 @@ metricWords = 9
 abbrev pub settingWords : ℕ
 settingWords = 32
 
+-- Decided: 17 to 19 are not looked at yet, 20 and 21 are of the open trade.
 abbrev pub stateWords : ℕ
-stateWords = 17
+stateWords = 22
 
 -- ---- limits
 

@@ -8,7 +8,7 @@ mod raw;
 mod records;
 
 pub use engine::Engine;
-pub use records::{Bar, Funding, Metrics, Point, Reason, Settings, Sizing, Slippage, Trade};
+pub use records::{Bar, EntryOrder, Funding, Metrics, Point, Reason, Settings, Sizing, Slippage, Trade};
 
 use std::fmt;
 

@@ -5,9 +5,9 @@ pub const SETTING_WORDS: usize = 32;
 /// The word of the settings that says which optional ones are given.
 pub const GIVEN: usize = 31;
 
-pub const STATE_WORDS: usize = 17;
+pub const STATE_WORDS: usize = 22;
 pub const POINT_WORDS: usize = 2;
-pub const TRADE_WORDS: usize = 8;
+pub const TRADE_WORDS: usize = 10;
 pub const METRIC_WORDS: usize = 9;
 
 /// Words of a kept row besides its slots.

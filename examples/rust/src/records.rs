@@ -19,7 +19,16 @@ pub enum Slippage {
     VolumeImpact(f64),
 }
 
-/// What a run is made with. `Settings::new` has no costs, no levels and no delay.
+/// When an entry fills. Levels are percent over the deciding bar's close, under it where they are negative, for both sides.
+#[derive(Clone, Copy, Debug, PartialEq)]
+pub enum EntryOrder {
+    Market,
+    Limit { level_pct: f64 },
+    Stop { level_pct: f64 },
+    StopLimit { stop_pct: f64, limit_pct: f64 },
+}
+
+/// What a run is made with. `Settings::new` has no costs, no levels and no delay, and market entries.
 #[derive(Clone, Debug, PartialEq)]
 pub struct Settings {
     pub slots: usize,
@@ -39,6 +48,9 @@ pub struct Settings {
     pub liquidation: bool,
     pub partial_fills: bool,
     pub max_participation: f64,
+    pub entry_order: EntryOrder,
+    /// The fee of a limit's entry; every other fill pays `taker_bps`.
+    pub maker_bps: f64,
     /// A quantity is a whole number of lots; 0: any quantity.
     pub lot: f64,
 }
@@ -63,6 +75,8 @@ impl Settings {
             liquidation: false,
             partial_fills: false,
             max_participation: 0.0,
+            entry_order: EntryOrder::Market,
+            maker_bps: 0.0,
             lot: 0.0,
         }
     }
@@ -78,6 +92,12 @@ impl Settings {
         let (slippage, slip) = match self.slippage {
             Slippage::FixedBps(x) => (0, x),
             Slippage::VolumeImpact(x) => (1, x),
+        };
+        let (kind, level, limit) = match self.entry_order {
+            EntryOrder::Market => (0, 0.0, 0.0),
+            EntryOrder::Limit { level_pct } => (1, level_pct, 0.0),
+            EntryOrder::Stop { level_pct } => (2, level_pct, 0.0),
+            EntryOrder::StopLimit { stop_pct, limit_pct } => (3, stop_pct, limit_pct),
         };
         let levels = [
             self.stop_loss_pct,
@@ -108,6 +128,8 @@ impl Settings {
         words[17] = self.liquidation as u64;
         words[18] = self.partial_fills as u64;
         words[19] = self.max_participation.to_bits();
+        words[20] = kind;
+        words[21..24].copy_from_slice(&[level, limit, self.maker_bps].map(f64::to_bits));
         words[24] = self.lot.to_bits();
         words
     }
@@ -204,6 +226,10 @@ pub struct Trade {
     pub pnl: f64,
     pub return_pct: f64,
     pub reason: Reason,
+    /// Funding paid during it, which is not part of the pnl.
+    pub funding: f64,
+    /// The least favourable price, from the entry bar to the closing bar.
+    pub worst: f64,
 }
 
 impl Trade {
@@ -217,6 +243,8 @@ impl Trade {
             pnl: f64::from_bits(words[5]),
             return_pct: f64::from_bits(words[6]),
             reason: Reason::of(words[7]),
+            funding: f64::from_bits(words[8]),
+            worst: f64::from_bits(words[9]),
         }
     }
 }

@@ -38,7 +38,7 @@ fn metrics() {
     let equity: Vec<f64> = (0..POINTS).map(|_| next()).collect();
     let trades: Vec<Trade> = (0..TRADES).map(|_| trade(dice)).collect();
     let points: Vec<u64> = equity.iter().flat_map(|x| [0, x.to_bits()]).collect();
-    let trade_words = trades.iter().fold(Line::new(), Line::trade);
+    let trade_words = trades.iter().fold(Line::new(), calls::ten_words);
     let initial = 10_000.0f64;
     let mut words = [0; METRIC_WORDS];
     let ours = each(POINTS, || {

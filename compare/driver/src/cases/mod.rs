@@ -5,7 +5,9 @@ mod settings;
 mod tables;
 
 use oracle::lists::dice::Dice;
+use oracle::lists::orders::around_levels;
 use oracle::lists::runs::settings_for;
+use oracle::spec::OrderType;
 
 use crate::case::Case;
 use crate::compare::Plan;
@@ -60,11 +62,15 @@ pub fn some_case(seed: u64, number: u64) -> (Case, Plan) {
     } else {
         settings::some(dice)
     };
+    let settings = settings::ordered(dice, settings, zeros);
     let settings = settings_for(settings::in_lots(dice, settings), &table);
     let count = bars::some_count(dice, settings.depth);
     let mut bars = bars::some(dice, count, table.slots, settings.funding);
     if zeros {
         bars::zeros(dice, &mut bars);
+    }
+    if settings.order_type != OrderType::Market && dice.percent(60) {
+        around_levels(dice, &settings, &mut bars);
     }
     let mut case = Case { settings, table, bars };
     if dice.percent(20) {

@@ -1,6 +1,7 @@
 //! Settings of every kind; all numbers are finite, as the domain has it.
 
 use oracle::lists::dice::{sizing_of, Dice};
+use oracle::lists::orders::some_order;
 use oracle::lists::runs::lively_settings;
 use oracle::spec::{Risk, Slippage};
 use oracle::Settings;
@@ -81,6 +82,26 @@ pub fn to_zero(dice: &mut Dice) -> Settings {
         partial_fills: false,
         warmup: 0,
         ..lively
+    }
+}
+
+/// Half of the entries away from the market; levels at the edges now and then, and at zero for prices around it.
+pub fn ordered(dice: &mut Dice, settings: Settings, zeros: bool) -> Settings {
+    if dice.percent(50) {
+        return settings;
+    }
+    let usual = some_order(dice, settings);
+    let mut pct = |usual: f64| match dice.below(if zeros { 4 } else { 20 }) {
+        0 => dice.pick(&[-100.0, -200.0, 100.0, -99.9]),
+        1 => edge(dice),
+        _ => usual,
+    };
+    let (level_pct, limit_pct) = (pct(usual.level_pct), pct(usual.limit_pct));
+    Settings {
+        level_pct,
+        limit_pct,
+        maker_bps: if dice.percent(5) { edge(dice) } else { usual.maker_bps },
+        ..usual
     }
 }
 

@@ -7,6 +7,7 @@ use super::{compare_case, Mismatch, Plan, Tally};
 use crate::case::Case;
 use crate::cases;
 use crate::progress::Progress;
+use crate::view::View;
 
 impl Tally {
     fn add(&mut self, other: &Self) {
@@ -17,10 +18,32 @@ impl Tally {
         self.lots += other.lots;
         self.turned_away += other.turned_away;
         self.reasons.iter_mut().zip(other.reasons).for_each(|(a, b)| *a += b);
+        self.entries.iter_mut().zip(other.entries).for_each(|(a, b)| *a += b);
+        self.not_reached += other.not_reached;
         self.explained.add(&other.explained);
     }
 
+    /// What became of an entry that was due on a bar.
+    pub fn order(&mut self, before: &View, after: &View) {
+        let due = matches!(before.word("order"), 1 | 2) && before.word("order delay") == 0;
+        if due && after.word("entered") == 1 && after.word("entry bar") == before.word("bars seen") {
+            self.entries[before.word("order kind") as usize] += 1;
+        }
+        let works_on = ["order", "order level", "order limit"]
+            .iter()
+            .all(|name| before.word(name) == after.word(name));
+        if due && before.word("order kind") != 0 && works_on {
+            self.not_reached += 1;
+        }
+    }
+
     fn print(&self) {
+        let [market, limit, stop, stop_limit] = self.entries;
+        println!(
+            "entries held at the close of their bar: market {market}, limit {limit}, stop {stop}, stop-limit {stop_limit}; \
+             bars on which one was due and not reached: {}",
+            self.not_reached
+        );
         let [_, signal, stop, trailing, take, liquidation, end] = self.reasons;
         println!(
             "trades {}: signal {signal}, stop loss {stop}, trailing stop {trailing}, take profit {take}, \

@@ -4,7 +4,7 @@ use oracle::spec::Sizing;
 
 use super::explain::{self, Entry};
 use super::{Mismatch, Tally, RUST};
-use crate::calls;
+use crate::calls::{self, TRADE_WORDS};
 use crate::case::Case;
 use crate::ours::done;
 use crate::theirs::{self, Ending};
@@ -51,12 +51,19 @@ pub fn same_ending(
 ) -> Result<(), Mismatch> {
     let mut parted = unlike(&METRICS, &ours.metrics, &theirs.metrics);
     parted.extend(unlike(&["point time", "equity"], &ours.point, &theirs.point));
-    parted.extend(unlike(&NAMES[NAMES.len() - 8..], &ours.newest, &theirs.newest));
+    parted.extend(unlike(
+        &NAMES[NAMES.len() - TRADE_WORDS..],
+        &ours.newest,
+        &theirs.newest,
+    ));
     parted.extend(unlike(
         &["trades", "fees paid"],
         &[ours.trades, ours.fees_paid],
         &[theirs.trades, theirs.fees_paid],
     ));
+    if against == RUST {
+        parted = explain::but_for_added(parted);
+    }
     if against == RUST && parted.iter().any(explain::is_profit_factor) {
         tally.explained.count(Entry::ProfitFactor);
         parted.retain(|one| !explain::is_profit_factor(one));

@@ -5,7 +5,7 @@
 use oracle::lists::runs::Bar;
 
 use crate::case::Case;
-use crate::view::{Unlike, View};
+use crate::view::{Unlike, View, NOT_THE_RUSTS};
 
 /// The entries that can part a run, under their numbers.
 #[derive(Debug, Clone, Copy, PartialEq, Eq)]
@@ -17,12 +17,13 @@ pub enum Entry {
     ZeroSigns = 6,
     LastFee = 9,
     Dust = 10,
+    StopLimitHeldBack = 13,
 }
 
 /// How many runs each entry parted; entries 6 and 9 do not end a comparison.
 #[derive(Debug, Clone, Copy, Default)]
 pub struct Explained {
-    entries: [u64; 11],
+    entries: [u64; 14],
     /// Runs in which the text as it stands agreed to the end.
     pub undivided: u64,
 }
@@ -38,7 +39,9 @@ impl Explained {
     }
 
     pub fn text(&self) -> String {
-        let each: Vec<String> = [1, 2, 4, 5, 6, 9, 10].map(|n| format!("{n}: {}", self.entries[n])).to_vec();
+        let each: Vec<String> = [1, 2, 4, 5, 6, 9, 10, 13]
+            .map(|n| format!("{n}: {}", self.entries[n]))
+            .to_vec();
         each.join(", ")
     }
 }
@@ -57,7 +60,7 @@ pub fn met(entry: Entry, case: &Case, i: usize, view: &View) -> bool {
             decides && view.in_position() && view.word("order") == 3 && counted_down
         }
         Entry::FundingNotSupplied => case.settings.funding && bar.funding.is_none(),
-        Entry::ProfitFactor | Entry::LastFee | Entry::Dust => false,
+        Entry::ProfitFactor | Entry::LastFee | Entry::Dust | Entry::StopLimitHeldBack => false,
         Entry::ZeroSigns => has_a_zero_price(bar),
     }
 }
@@ -74,10 +77,13 @@ pub fn are_zero_signs(parted: &[Unlike]) -> bool {
 }
 
 /// What an entry that is booked, and what is decided after it, shows in.
-const BOOKED: [&str; 12] = [
+const BOOKED: [&str; 15] = [
     "equity",
     "order",
     "order delay",
+    "order kind",
+    "order level",
+    "order limit",
     "entered",
     "entry bar",
     "cash",
@@ -97,8 +103,32 @@ fn is_dust(parted: &[Unlike], i: usize, ours: &View, theirs: &View) -> bool {
     entered && dust && flat && parted.iter().all(|one| BOOKED.contains(&one.what))
 }
 
-/// The entry that parted the text from us on bar `i`, where one was met. Deciding shows in the order alone.
-pub fn parted_by(parted: &[Unlike], case: &Case, i: usize, view: &View, theirs: &View) -> Option<Entry> {
+/// The words of the working order.
+fn order(view: &View) -> [u64; 5] {
+    ["order", "order delay", "order kind", "order level", "order limit"].map(|name| view.word(name))
+}
+
+/// Entry 13: a stop-limit that was due works on in the text, although the bar reached its stop at a price within the limit, as the whole bar
+/// but its open is past the limit. Here it was filled, and may have been left on the same bar.
+fn is_held_back(parted: &[Unlike], bar: &Bar, before: &View, theirs: &View) -> bool {
+    let c = &bar.candle;
+    let (stop, limit) = (before.float("order level"), before.float("order limit"));
+    let held_back = match before.word("order") {
+        1 => c.high >= stop && c.open.max(stop) <= limit && c.low > limit,
+        2 => c.low <= stop && c.open.min(stop) >= limit && c.high < limit,
+        _ => false,
+    };
+    let due = before.word("order kind") == 3 && before.word("order delay") == 0;
+    let shows = |one: &Unlike| BOOKED.contains(&one.what) || one.what.starts_with("trade");
+    due && held_back && order(before) == order(theirs) && parted.iter().all(shows)
+}
+
+/// The entry that parted the text from us on bar `i`, where one was met; `before` is what was seen before it, `view` and `theirs` after it.
+/// Deciding shows in the order alone.
+pub fn parted_by(parted: &[Unlike], case: &Case, i: usize, before: &View, view: &View, theirs: &View) -> Option<Entry> {
+    if is_held_back(parted, &case.bars[i], before, theirs) {
+        return (!parted.is_empty()).then_some(Entry::StopLimitHeldBack);
+    }
     if is_dust(parted, i, view, theirs) {
         return Some(Entry::Dust);
     }
@@ -112,6 +142,12 @@ pub fn parted_by(parted: &[Unlike], case: &Case, i: usize, view: &View, theirs: 
     [Entry::AbsentShortExit, Entry::WorkingExit]
         .into_iter()
         .find(|&entry| met(entry, case, i, view))
+}
+
+/// Request 6 adds words that the text as it stands has not.
+pub fn but_for_added(parted: Vec<Unlike>) -> Vec<Unlike> {
+    let both = parted.into_iter().filter(|one| !NOT_THE_RUSTS.contains(&one.what));
+    both.collect()
 }
 
 /// Entry 5: a profit factor of +0.0 here and −0.0 there.

@@ -10,7 +10,7 @@ pub use command::{compare, replay};
 
 use oracle::Reading;
 
-use crate::calls;
+use crate::calls::{self, TRADE_WORDS};
 use crate::case::{bar_words, row_words, Case};
 use crate::ours::{Ours, Refusal};
 use crate::theirs::{Ending, Theirs};
@@ -39,6 +39,9 @@ pub struct Tally {
     pub lots: u64,
     pub turned_away: u64,
     pub reasons: [u64; 7],
+    /// Entries by their order kind, and bars on which one that was due did not come to its level.
+    pub entries: [u64; 4],
+    pub not_reached: u64,
     pub explained: Explained,
 }
 
@@ -123,6 +126,7 @@ impl<'a> Comparison<'a> {
     fn bar(&mut self, i: usize) -> Result<(), Mismatch> {
         let bar = &self.case.bars[i];
         let words = bar_words(bar);
+        let before = self.tight.view();
         let refused = |refusal| Mismatch::refused(Some(i), PAPER, refusal);
         if self.paper.is_turned_away(bar) {
             return self.turned_away(i, &words);
@@ -135,7 +139,8 @@ impl<'a> Comparison<'a> {
         self.row_kept(i)?;
         let parted = unlike(&NAMES, &view.0, &self.paper.view().0);
         self.agree(i, PAPER, parted, view)?;
-        self.against_rust(i, view)?;
+        self.tally.order(&before, &view);
+        self.against_rust(i, before, view)?;
         self.rules.push(bar);
         self.rows.extend(row_words(bar));
         if (i + 1).is_multiple_of(self.plan.ask_every) {
@@ -203,19 +208,19 @@ impl<'a> Comparison<'a> {
     }
 
     /// Against the text as it stands: a run parts from ours only on a bar on which it met a listed difference.
-    fn against_rust(&mut self, i: usize, view: View) -> Result<(), Mismatch> {
+    fn against_rust(&mut self, i: usize, before: View, view: View) -> Result<(), Mismatch> {
         let Some(mut rust) = self.rust.take() else {
             return Ok(());
         };
         let parted = match rust.step(&self.case.bars[i]) {
-            Ok(()) => unlike(&NAMES, &view.0, &rust.view().0),
+            Ok(()) => explain::but_for_added(unlike(&NAMES, &view.0, &rust.view().0)),
             Err(_) if explain::met(Entry::FundingNotSupplied, self.case, i, &view) => {
                 self.tally.explained.count(Entry::FundingNotSupplied);
                 return Ok(());
             }
             Err(_) => return Err(Mismatch::one(Some(i), RUST, "refused", 0, 1)),
         };
-        if let Some(entry) = explain::parted_by(&parted, self.case, i, &view, &rust.view()) {
+        if let Some(entry) = explain::parted_by(&parted, self.case, i, &before, &view, &rust.view()) {
             self.tally.explained.count(entry);
             return Ok(());
         }
@@ -249,8 +254,8 @@ impl<'a> Comparison<'a> {
             newest: self
                 .tight
                 .trades_held()
-                .last_chunk::<8>()
-                .map_or(vec![0; 8], |t| t.to_vec()),
+                .last_chunk::<TRADE_WORDS>()
+                .map_or(vec![0; TRADE_WORDS], |t| t.to_vec()),
             fees_paid: self.tight.state[calls::state::FEES_PAID],
         };
         let signs = self.signs;
@@ -269,7 +274,7 @@ impl<'a> Comparison<'a> {
         if !(self.tight.rest_untouched() && self.larger.rest_untouched()) {
             return Err(Mismatch::one(None, "what was lent", "words past the lists", 1, 0));
         }
-        for trade in self.tight.trades_held().chunks(8) {
+        for trade in self.tight.trades_held().chunks(TRADE_WORDS) {
             self.tally.trades += 1;
             self.tally.reasons[trade[7].min(6) as usize] += 1;
         }

@@ -155,7 +155,7 @@ fn parts(condition: &Condition) -> Vec<Condition> {
 type Simpler = fn(&mut Settings, &Settings);
 
 /// Each setting, put back to the plain one.
-const SIMPLER: [Simpler; 16] = [
+const SIMPLER: [Simpler; 20] = [
     |s, plain| s.warmup = plain.warmup,
     |s, plain| s.delay = plain.delay,
     |s, plain| s.taker_bps = plain.taker_bps,
@@ -170,6 +170,10 @@ const SIMPLER: [Simpler; 16] = [
     |s, plain| s.participation = plain.participation,
     |s, plain| s.lot = plain.lot,
     |s, plain| s.sizing = plain.sizing,
+    |s, plain| s.order_type = plain.order_type,
+    |s, plain| s.level_pct = plain.level_pct,
+    |s, plain| s.limit_pct = plain.limit_pct,
+    |s, plain| s.maker_bps = plain.maker_bps,
     |s, plain| s.capital = plain.capital,
     |s, _| {
         if !matches!(s.sizing, oracle::spec::Sizing::RiskPerTrade { .. }) {

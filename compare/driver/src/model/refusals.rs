@@ -1,11 +1,14 @@
 //! Refusals 10 to 16, in the paper's order: 10, 12, 13, 14, 11, 15, then 16; under one number the lowest place.
 
-use oracle::engine::reach::{realized_vol, Lots, Order};
+use oracle::data::Candle;
+use oracle::engine::reach::{raw_price, realized_vol, Lots, Order, Waits};
 use oracle::lists::dice::sizing_of;
 use oracle::spec::{Risk, Sizing, Slippage};
 
 use super::{finite, refusal, silent, steps, table};
-use crate::calls::{bar_words, state, Position, GIVEN, METRIC_WORDS, NODE_STEP_BYTES, SETTING_WORDS, STATE_WORDS};
+use crate::calls::{
+    bar_words, state, Position, GIVEN, METRIC_WORDS, NODE_STEP_BYTES, SETTING_WORDS, STATE_WORDS, TRADE_WORDS,
+};
 
 const MOST: u64 = 4_294_967_295;
 const MOST_SLOTS: u64 = 64;
@@ -61,6 +64,8 @@ fn settings(s: &[u64]) -> Checked {
         need(!given(i) || finite(level), 12, i as u64)?;
     }
     need(finite(s[19]), 12, 19)?;
+    need(s[20] <= 3, 12, 20)?;
+    (21..24).try_for_each(|i| need(finite(s[i]), 12, i as u64))?;
     need(finite(s[24]) && f64::from_bits(s[24]) >= 0.0, 12, 24)
 }
 
@@ -75,7 +80,7 @@ fn counts(s: &[u64], slots: u64, rows: &[u64], equity: &[u64], trades: &[u64]) -
         (state::BARS_SEEN, MOST),
         (state::ROWS_HELD, places(rows, 7 + slots)),
         (state::EQUITY_POINTS, places(equity, 2)),
-        (state::TRADES, places(trades, 8)),
+        (state::TRADES, places(trades, TRADE_WORDS as u64)),
     ];
     for (count, most) in counts {
         need(s[count] <= most.min(MOST), 13, 0)?;
@@ -129,13 +134,37 @@ fn order(s: &[u64]) -> Order {
     }
 }
 
-/// 16: an entry that is due would be of 2^53 lots or more.
+/// What the working entry of a state waits for; a kind that names nothing is a market order.
+fn waits(s: &[u64]) -> Waits {
+    Waits {
+        kind: s[state::ORDER_KIND],
+        level: f64::from_bits(s[state::ORDER_LEVEL]),
+        limit: f64::from_bits(s[state::ORDER_LIMIT]),
+    }
+}
+
+fn candle(new: &[u64]) -> Candle {
+    let price = |i: usize| f64::from_bits(new[i]);
+    Candle {
+        time: new[0] as i64,
+        open: price(1),
+        high: price(2),
+        low: price(3),
+        close: price(4),
+        volume: price(5),
+    }
+}
+
+/// 16: an entry that is due and reached would be of 2^53 lots or more.
 fn lots(with: &Lent, new: &[u64]) -> Checked {
-    let (s, order) = (with.state, order(with.settings));
-    let dir = match (s[state::ORDER], s[state::ORDER_DELAY]) {
-        (1, 0) => 1.0,
-        (2, 0) => -1.0,
+    let (s, order, candle) = (with.state, order(with.settings), candle(new));
+    let (side, dir) = match (s[state::ORDER], s[state::ORDER_DELAY]) {
+        (1, 0) => (0, 1.0),
+        (2, 0) => (1, -1.0),
         _ => return Ok(()),
+    };
+    let Some(price) = raw_price(side, waits(s), &candle) else {
+        return Ok(());
     };
     let width = 7 + with.settings[0] as usize;
     let held = &with.rows[..width * s[state::ROWS_HELD] as usize];
@@ -144,8 +173,7 @@ fn lots(with: &Lent, new: &[u64]) -> Checked {
         Sizing::VolTarget { lookback, .. } => realized_vol(&closes, lookback as usize),
         _ => None,
     };
-    let (open, volume) = (f64::from_bits(new[1]), f64::from_bits(new[5]));
-    let filled = order.fill(dir, open, volume, f64::from_bits(s[state::CASH]), rv);
+    let filled = order.fill(dir, price, candle.volume, f64::from_bits(s[state::CASH]), rv);
     let quantity = filled.expect("12 has seen to the stop loss").1;
     need(quantity != Lots::TooLarge, 16, s[state::BARS_SEEN])
 }
@@ -169,7 +197,8 @@ pub fn step(with: &Lent, new: &[u64], four: [&[u8]; 4]) -> Checked {
     let (slots, depth, s) = (with.settings[0], with.settings[1], with.state);
     counts(s, slots, with.rows, with.equity, with.trades)?;
     need(new.len() == bar_words(slots as usize), 13, 0)?;
-    let free = s[state::EQUITY_POINTS] < places(with.equity, 2) && s[state::TRADES] < places(with.trades, 8);
+    let free =
+        s[state::EQUITY_POINTS] < places(with.equity, 2) && s[state::TRADES] < places(with.trades, TRADE_WORDS as u64);
     need(free && s[state::BARS_SEEN] < MOST, 14, 0)?;
     bar(new, slots as usize, s[state::BARS_SEEN])?;
     lists(four, slots, depth)?;
@@ -183,7 +212,11 @@ pub fn finish(with: &Lent, metrics: &[u64]) -> Checked {
     let s = with.state;
     counts(s, with.settings[0], with.rows, with.equity, with.trades)?;
     let closes = f64::from_bits(s[state::QTY]).abs() > f64::EPSILON && s[state::BARS_SEEN] > 0;
-    need(!closes || s[state::TRADES] < places(with.trades, 8), 14, 0)
+    need(
+        !closes || s[state::TRADES] < places(with.trades, TRADE_WORDS as u64),
+        14,
+        0,
+    )
 }
 
 fn position(rows: &[u64], slots: u64, at: Position) -> Checked {
@@ -222,5 +255,9 @@ pub fn run(list: &[u8], rows: &[u64], (slots, depth): (u64, u64), at: Position) 
 
 pub fn metrics(equity: &[u64], trades: &[u64], room: usize) -> Checked {
     need(room >= METRIC_WORDS, 10, 9)?;
-    need(equity.len().is_multiple_of(2) && trades.len().is_multiple_of(8), 13, 0)
+    need(
+        equity.len().is_multiple_of(2) && trades.len().is_multiple_of(TRADE_WORDS),
+        13,
+        0,
+    )
 }

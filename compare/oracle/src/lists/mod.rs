@@ -3,6 +3,7 @@
 pub mod dice;
 mod figures;
 mod leaves;
+pub mod orders;
 mod rules;
 pub mod runs;
 pub mod trees;
@@ -22,6 +23,7 @@ pub fn list(name: &str, seed: u64) -> Option<Vec<String>> {
         "portfolio" => leaves::portfolio_list(seed),
         "rule" => rules::rule(seed),
         "runs" => runs::runs(seed),
+        "orders" => orders::orders(seed),
         "run_long" => runs::run_long(seed),
         "differences" => runs::differences(),
         _ => return None,

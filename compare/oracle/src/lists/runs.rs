@@ -5,7 +5,7 @@ use super::rules::slot_words;
 use super::trees::{always, bars_since, close, compare, negated, never, number, prev, slot, Wood};
 use crate::answers::bare_settings;
 use crate::data::Candle;
-use crate::spec::{Condition, Risk, Sizing, Slippage};
+use crate::spec::{Condition, OrderType, Risk, Sizing, Slippage};
 use crate::table::Table;
 use crate::words::{hex_of_bytes, Line};
 use crate::Settings;
@@ -48,7 +48,7 @@ pub fn run_lines(settings: &Settings, table: &Table, bars: &[Bar]) -> Vec<String
     lines
 }
 
-fn run(settings: Settings, table: &Table, bars: &[Bar]) -> Vec<String> {
+pub(super) fn run(settings: Settings, table: &Table, bars: &[Bar]) -> Vec<String> {
     run_lines(&settings_for(settings, table), table, bars)
 }
 
@@ -73,7 +73,7 @@ pub fn plain() -> Settings {
 }
 
 /// Bars without slots or funding, from (open, high, low, close).
-fn bars(list: &[(f64, f64, f64, f64)]) -> Vec<Bar> {
+pub(super) fn bars(list: &[(f64, f64, f64, f64)]) -> Vec<Bar> {
     let bar = |(i, &(open, high, low, close)): (usize, &(f64, f64, f64, f64))| Bar {
         candle: Candle {
             time: 60 * i as i64,
@@ -263,8 +263,20 @@ fn in_lots() -> Vec<String> {
     };
     let lots = [3.0, 0.1, 0.01, -0.0, 1e300, 1e-12, 1e-15, 5e-324];
     let whole = lots.map(|lot| run(with(lot, plain()), &both, &level(&prices)));
-    let others = [partial, by_volume, target, Settings { partial_fills: true, ..by_volume }]
-        .map(|settings| [0.1, 0.25, 1e-15].map(|lot| run(with(lot, settings), &both, &level(&prices))).concat());
+    let others = [
+        partial,
+        by_volume,
+        target,
+        Settings {
+            partial_fills: true,
+            ..by_volume
+        },
+    ]
+    .map(|settings| {
+        [0.1, 0.25, 1e-15]
+            .map(|lot| run(with(lot, settings), &both, &level(&prices)))
+            .concat()
+    });
     let shorts = [3.0, 1e-15].map(|lot| run(with(lot, by_volume), &short, &level(&prices)));
     [whole.concat(), others.concat(), shorts.concat()].concat()
 }
@@ -308,6 +320,14 @@ pub fn differences() -> Vec<String> {
         ),
         run(fee, &hold, &level(&[100.0; 2])),
         run(Settings { lot: 3.0, ..plain() }, &hold, &level(&[100.0; 2])),
+        run(
+            Settings {
+                order_type: OrderType::StopLimit,
+                ..plain()
+            },
+            &hold,
+            &bars(&[(100.0, 100.0, 100.0, 100.0), (100.0, 101.0, 101.0, 101.0)]),
+        ),
     ]
     .concat()
 }

@@ -45,6 +45,71 @@ pub fn intrabar_exit(candle: &Candle, risk: &Risk, entry: f64, extreme: f64, is_
     super::intrabar_exit(candle, risk, entry, extreme, is_long)
 }
 
+/// What an entry waits for: 0 nothing, 1 a limit, 2 a stop, 3 a stop and then a limit; its level, and a stop-limit's limit.
+#[derive(Debug, Clone, Copy, PartialEq)]
+pub struct Waits {
+    pub kind: u64,
+    pub level: f64,
+    pub limit: f64,
+}
+
+impl Waits {
+    pub const NOTHING: Self = Self { kind: 0, level: 0.0, limit: 0.0 };
+
+    fn of(trigger: Option<(f64, LevelKind)>) -> Self {
+        match trigger {
+            None => Self::NOTHING,
+            Some((level, LevelKind::Limit)) => Self { kind: 1, level, limit: 0.0 },
+            Some((level, LevelKind::Stop)) => Self { kind: 2, level, limit: 0.0 },
+            Some((level, LevelKind::StopLimit { limit })) => Self { kind: 3, level, limit },
+        }
+    }
+
+    fn trigger(self) -> Option<(f64, LevelKind)> {
+        let kind = match self.kind {
+            1 => LevelKind::Limit,
+            2 => LevelKind::Stop,
+            3 => LevelKind::StopLimit { limit: self.limit },
+            _ => return None,
+        };
+        Some((self.level, kind))
+    }
+}
+
+/// The price at which an entry that waits for a level fills on a bar, before slippage; nothing where the bar does not reach it.
+pub fn level_fill(side: u64, waits: Waits, candle: &Candle, reading: Reading) -> Option<f64> {
+    let (level, kind) = waits.trigger()?;
+    match reading {
+        Reading::Rust => super::level_fill(side_of(side), level, kind, candle),
+        Reading::Paper => fill_by_request(side_of(side), level, kind, candle),
+    }
+}
+
+/// The price at which an entry fills on a bar, before slippage, by the requests' words: the open where it waits for nothing.
+pub fn raw_price(side: u64, waits: Waits, candle: &Candle) -> Option<f64> {
+    match waits.trigger() {
+        None => Some(candle.open),
+        Some((level, kind)) => fill_by_request(side_of(side), level, kind, candle),
+    }
+}
+
+/// Request 1's words: a stop-limit that reaches its stop fills at the stop's price where that is no worse than the limit, else at the limit
+/// where the bar reaches it. A limit and a stop fill as in the text.
+fn fill_by_request(side: Side, level: f64, kind: LevelKind, candle: &Candle) -> Option<f64> {
+    let LevelKind::StopLimit { limit } = kind else {
+        return super::level_fill(side, level, kind, candle);
+    };
+    let price = super::level_fill(side, level, LevelKind::Stop, candle)?;
+    let (no_worse, reached) = match side {
+        Side::Long => (price <= limit, candle.low <= limit),
+        Side::Short => (price >= limit, candle.high >= limit),
+    };
+    if no_worse {
+        return Some(price);
+    }
+    reached.then_some(limit)
+}
+
 /// What an account holds besides its rows: what fills and exits change.
 #[derive(Clone)]
 pub struct Account {
@@ -189,29 +254,56 @@ impl Order {
     }
 }
 
+/// Request 6: what a trade has paid in funding, and its least favourable price. The text has neither: both are worked out here.
+#[derive(Debug, Clone, Copy, Default)]
+pub struct During {
+    pub funding: f64,
+    pub worst: f64,
+}
+
+impl During {
+    /// A bar's low for a long, its high for a short.
+    fn takes(&mut self, candle: &Candle, long: bool) {
+        let price = if long { candle.low } else { candle.high };
+        let worse = if long { price < self.worst } else { price > self.worst };
+        if worse || self.worst.is_nan() {
+            self.worst = price;
+        }
+    }
+}
+
 /// A run, bar by bar.
 pub struct Run {
     text: StreamingBacktest<'static>,
     lot: f64,
     reading: Reading,
+    /// Of the open trade, and of each closed one (`Reading::Paper` only).
+    during: During,
+    noted: Vec<During>,
 }
 
 impl Run {
     pub fn new(spec: StrategySpec, capital: f64, lot: f64, reading: Reading) -> Result<Self> {
         let text = StreamingBacktest::new_owned(spec, capital)?;
-        Ok(Self { text, lot, reading })
+        Ok(Self {
+            text,
+            lot,
+            reading,
+            during: During::default(),
+            noted: Vec::new(),
+        })
     }
 
-    /// Whether an entry is due at this bar and would be of too many lots.
+    /// Whether an entry is due at this bar, reached, and of too many lots.
     pub fn is_turned_away(&self, candle: &Candle) -> Result<bool> {
-        match side_due(&self.text) {
-            Some(dir) => Ok(self.entry_at(candle, dir)?.1 == Lots::TooLarge),
+        match entry_due(&self.text, candle) {
+            Some(due) => Ok(self.entry_at(candle, due)?.1 == Lots::TooLarge),
             None => Ok(false),
         }
     }
 
     /// The fill price and quantity of an entry that is due.
-    fn entry_at(&self, candle: &Candle, dir: f64) -> Result<(f64, Lots)> {
+    fn entry_at(&self, candle: &Candle, due: Due) -> Result<(f64, Lots)> {
         let run = &self.text;
         let order = Order {
             sizing: run.spec.sizing,
@@ -224,17 +316,18 @@ impl Run {
             Sizing::VolTarget { lookback, .. } => super::realized_vol(&run.history, lookback as usize),
             _ => None,
         };
-        order.fill(dir, candle.open, candle.volume, run.pf.cash, rv)
+        order.fill(due.dir, due.raw_price, candle.volume, run.pf.cash, rv)
     }
 
     /// The entry that is due, in lots; one of at most EPS is dropped, as one of nothing.
-    fn enter_in_lots(&mut self, candle: &Candle, dir: f64) -> Result<()> {
-        let (fill, quantity) = self.entry_at(candle, dir)?;
+    fn enter_in_lots(&mut self, candle: &Candle, due: Due) -> Result<()> {
+        let (fill, quantity) = self.entry_at(candle, due)?;
         let run = &mut self.text;
         run.pending = None;
         if let Lots::Of(qty) = quantity {
             if qty > f64::EPSILON {
-                run.pf.enter(dir * qty, fill, candle.time, qty * fill * run.taker);
+                let rate = if due.maker { run.maker } else { run.taker };
+                run.pf.enter(due.dir * qty, fill, candle.time, qty * fill * rate);
                 run.entry_bar = Some(run.bars_seen);
                 run.extreme = fill;
             }
@@ -254,19 +347,35 @@ impl Run {
         }
     }
 
-    /// The parts of `step_with_feeds`, in its order, with four departures: a bar without funding is not refused and nothing is decided
-    /// while an order works (document 01), an entry of at most EPS is dropped (request 7), and with a lot an entry is in lots (request 5).
+    /// The parts of `step_with_feeds`, in its order, with five departures: a bar without funding is not refused and nothing is decided
+    /// while an order works (document 01), an entry of at most EPS is dropped (request 7), a stop-limit fills by request 1's words, and with
+    /// a lot an entry is in lots (request 5). Beside them what request 6 adds to a trade is kept.
     fn step_by_paper(&mut self, candle: &Candle, tick: Option<&DerivativesTick>) -> Result<()> {
         let bar = bar_of(candle, tick, self.text.bars_seen);
         self.text.last = Some((candle.time, candle.close));
-        match side_due(&self.text) {
-            Some(dir) if self.lot != 0.0 => self.enter_in_lots(candle, dir)?,
+        let open = self.text.pf.in_position();
+        if open {
+            self.during.takes(candle, self.text.pf.is_long());
+        }
+        match entry_due(&self.text, candle) {
+            Some(due) if self.lot != 0.0 => self.enter_in_lots(candle, due)?,
             _ => fill_but_no_dust(&mut self.text, &bar)?,
         }
         let run = &mut self.text;
+        if !open && run.pf.in_position() {
+            self.during = During {
+                funding: 0.0,
+                worst: run.pf.entry_price,
+            };
+            self.during.takes(candle, run.pf.is_long());
+        }
         let idx = run.record_bar(&bar);
         run.apply_intrabar_exits(&bar);
+        self.noted.resize(run.pf.trades.len(), self.during);
         run.charge_funding(&bar);
+        if let Some(tick) = tick.filter(|_| run.spec.costs.funding && run.pf.in_position()) {
+            self.during.funding += run.pf.qty * tick.mark_price * tick.funding_rate;
+        }
         run.mark_equity(&bar);
         if run.pending.is_some() {
             return Ok(());
@@ -279,16 +388,21 @@ impl Run {
         (self.text.latest_equity(), &self.text.pf.trades)
     }
 
+    /// What request 6 adds to the open trade, and to each closed one.
+    pub fn noted(&self) -> (During, &[During]) {
+        (self.during, &self.noted)
+    }
+
     /// What the run holds between two bars.
     pub fn held(&self) -> Held<'_> {
         let run = &self.text;
         let order = run.pending.as_ref().map(|pending| {
-            let number = match pending.action {
-                Action::Enter { side: Side::Long, .. } => 1,
-                Action::Enter { side: Side::Short, .. } => 2,
-                Action::Exit(_) => 3,
+            let (number, waits) = match pending.action {
+                Action::Enter { side: Side::Long, trigger } => (1, Waits::of(trigger)),
+                Action::Enter { side: Side::Short, trigger } => (2, Waits::of(trigger)),
+                Action::Exit(_) => (3, Waits::NOTHING),
             };
-            (number, pending.delay)
+            (number, pending.delay, waits)
         });
         Held {
             bars_seen: run.bars_seen,
@@ -300,22 +414,35 @@ impl Run {
         }
     }
 
-    pub fn finish(mut self) -> BacktestReport {
+    /// The report, and what request 6 adds to the trade that finish closes, where it closes one.
+    pub fn finish(mut self) -> (BacktestReport, During) {
         if self.reading == Reading::Paper {
             count_the_last_fee(&mut self.text);
         }
-        self.text.finish()
+        (self.text.finish(), self.during)
     }
 }
 
-/// The sign of the side that an entry is due for.
-fn side_due(run: &StreamingBacktest) -> Option<f64> {
+/// An entry that is due and reached: the sign of its side, its price before slippage, and whether it pays the maker fee.
+#[derive(Clone, Copy)]
+struct Due {
+    dir: f64,
+    raw_price: f64,
+    maker: bool,
+}
+
+/// The entry that fills on a bar, by the requests' words.
+fn entry_due(run: &StreamingBacktest, candle: &Candle) -> Option<Due> {
     let pending = run.pending.as_ref().filter(|pending| pending.delay == 0)?;
-    match pending.action {
-        Action::Enter { side: Side::Long, .. } => Some(1.0),
-        Action::Enter { side: Side::Short, .. } => Some(-1.0),
-        Action::Exit(_) => None,
-    }
+    let Action::Enter { side, trigger } = pending.action else {
+        return None;
+    };
+    let (number, dir) = if matches!(side, Side::Long) { (0, 1.0) } else { (1, -1.0) };
+    Some(Due {
+        dir,
+        raw_price: raw_price(number, Waits::of(trigger), candle)?,
+        maker: matches!(trigger, Some((_, LevelKind::Limit))),
+    })
 }
 
 /// The working order is filled; an entry that leaves the account flat is dropped.
@@ -325,11 +452,26 @@ fn fill_but_no_dust(run: &mut StreamingBacktest, bar: &Bar) -> Result<()> {
         return run.fill_working_order(bar);
     }
     let (portfolio, entry_bar, extreme) = (run.pf.clone(), run.entry_bar, run.extreme);
-    run.fill_working_order(bar)?;
+    fill_stop_limit_by_request(run, bar)?;
     if !run.pf.in_position() {
         (run.pf, run.entry_bar, run.extreme) = (portfolio, entry_bar, extreme);
     }
     Ok(())
+}
+
+/// The working entry is filled. A stop-limit that is due fills by request 1's words: where they give a price, the text is asked for a market
+/// entry on a bar that opens at it; of a bar an entry looks at the open, the time and the volume alone.
+fn fill_stop_limit_by_request(run: &mut StreamingBacktest, bar: &Bar) -> Result<()> {
+    let due = run.pending.as_ref().filter(|pending| pending.delay == 0).map(|pending| &pending.action);
+    let Some(&Action::Enter { side, trigger: Some((stop, kind @ LevelKind::StopLimit { .. })) }) = due else {
+        return run.fill_working_order(bar);
+    };
+    let Some(open) = fill_by_request(side, stop, kind, bar.candle) else {
+        return Ok(());
+    };
+    let action = Action::Enter { side, trigger: None };
+    run.pending = Some(Pending { action, delay: 0 });
+    run.fill_working_order(&bar_of(&Candle { open, ..*bar.candle }, None, bar.index))
 }
 
 /// Where finish will close a position, the last equity point becomes the equity after closing (request 7).
@@ -347,8 +489,8 @@ fn count_the_last_fee(run: &mut StreamingBacktest) {
 /// What a run holds between two bars, besides its rows and lists.
 pub struct Held<'a> {
     pub bars_seen: usize,
-    /// The working order: 1 enter long, 2 enter short, 3 exit; and its delay.
-    pub order: Option<(u64, u32)>,
+    /// The working order: 1 enter long, 2 enter short, 3 exit; its delay, and what it waits for then.
+    pub order: Option<(u64, u32, Waits)>,
     pub entry_bar: Option<usize>,
     pub portfolio: &'a Portfolio,
     pub extreme: f64,

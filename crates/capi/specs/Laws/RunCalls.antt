@@ -20,18 +20,18 @@ use Rattle.refusals.specs.declared.verdict.Verdict.{Verdict}
 use Rattle.refusals.specs.declared.verdict.Verdict.the-variants.{Fine, Bad}
 use Rattle.refusals.specs.Lines.{Line, judged}
 use Rattle.refusals.specs.Rooms.{roomLines}
-use Rattle.refusals.specs.Judgement.{finishLines, finishJudged}
-use Rattle.refusals.specs.Laws.Numbers.{numbered, number-within, finish-numbered}
+use Rattle.refusals.specs.Judgement.{stepLines, finishLines, finishJudged}
+use Rattle.refusals.specs.Laws.Numbers.{numbered, number-within, both-numbered, step-numbered, finish-numbered}
 use Rattle.refusals.specs.Laws.Places.{named, named-placed, place-below, finish-place}
 use Rattle.engine.specs.declared.Answer.{Answer}
 use Rattle.engine.specs.declared.Answer.the-variants.{Refused, Done}
 use Rattle.engine.specs.declared.ending.Ended.{Ended}
 use Rattle.engine.specs.declared.Finished.{Finished}
 use Rattle.engine.specs.declared.Finished.the-variants.{Refused as NotEnded, Done as AtEnd}
-use Rattle.engine.specs.Step.{With, stepVerdict, stepAnswer}
+use Rattle.engine.specs.Step.{With, sizeLines, stepVerdict, stepAnswer}
 use Rattle.engine.specs.Finish.{ended, concluded, finishOf}
 use Rattle.engine.specs.Laws.Refusal.{refusal-changes-nothing}
-use Rattle.engine.specs.Laws.Verdict.{verdict-number, verdict-place}
+use Rattle.engine.specs.Laws.Verdict.{verdict-place}
 use Rattle.capi.specs.Call.{unlessBad, wordLines, metricLines}
 use Rattle.capi.specs.Bars.{lentLines, stepGives}
 use Rattle.capi.specs.Finish.{finishGives}
@@ -72,9 +72,11 @@ step-by (Refused r u) state m s = one-refusal r (s r u refl)
 step-by (Done next) state m s = never-refuses _
 
 pub step-small : (s : Settings) (t : State) (bar : List ℕ) (m : Rooms) (ls : Lists) (r : Refusal) → stepVerdict s t bar m ls ≡ Bad r → Small r
+unfolding sizeLines numbered
 step-small s t bar m ls r e =
-    let w = verdict-number s t bar m ls r e in
-    record { some = omega (arith, w .0); number = omega (arith, w .1); place = verdict-place s t bar m ls r e }
+    lines-small (stepLines s t bar m ls ++ sizeLines s t bar m)
+    (both-numbered (stepLines s t bar m ls) (sizeLines s t bar m) (step-numbered s t bar m ls) refl) r
+    (unfold stepVerdict in e) (verdict-place s t bar m ls r e)
 
 pub step-honest : (settings state bar : List ℕ) (m : Rooms) (ls : Lists) →
     (let d = stepAnswer (settingsOf settings) (stateOf state) bar m ls in

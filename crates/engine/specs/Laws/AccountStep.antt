@@ -18,7 +18,7 @@ use Rattle.engine.specs.Record.{rowOf}
 use Rattle.engine.specs.Rules.{rulesOf, FromTable}
 use Rattle.engine.specs.Laws.Meaning.{lists-mean}
 use Rattle.engine.specs.Step.{stepped}
-use Rattle.engine.specs.Whole.{Account, accountOf, rowsHeld, byLists, byMeaning, taken, lastOf}
+use Rattle.engine.specs.Whole.{Account, accountOf, rowsHeld, byLists, byMeaning, taken, takenBy, lastOf}
 
 -- the parts of an account
 pub record SameParts (t t′ : State) : Type 0 where
@@ -45,7 +45,7 @@ module _ (s : Settings) (t : State) (bar : List ℕ) (m : Rooms) (ls : Lists) (f
 
   -- THE ACCOUNT after a step: nothing in it depends on the books.
   pub account-after : accountOf (stepped s t bar m ls .result) ≡ taken s (byLists s ls) (accountOf t) (rowsHeld s t m) bar .account
-  unfolding stepped taken byLists decided
+  unfolding stepped takenBy byLists decided
   account-after = rw window-after
 
 module _ (s : Settings) (a : Account) (rows : List ℕ) (bar : List ℕ) where
@@ -66,11 +66,11 @@ module _ (s : Settings) (a : Account) (rows : List ℕ) (bar : List ℕ) where
   -- NO ROW OLDER THAN THE LAST D matters to a bar whose rules are asked of their lists.
   pub taken-alike : (ls : Lists) (rows′ : List ℕ) → lookback (s .terms .sizing) < s .depth → lastOf s rows ≡ lastOf s rows′
       → taken s (byLists s ls) a rows bar ≡ taken s (byLists s ls) a rows′ bar
-  unfolding taken byLists
+  unfolding takenBy byLists
   taken-alike ls rows′ h e = rw (fill-alike rows′ h e, last-alike rows′ e)
 
   -- Asked of a table's lists, a bar comes to what it comes to by the rules' meaning over all rows.
   pub taken-as-meant : (table : List ℕ) (ls : Lists) → FromTable table s ls
       → taken s (byLists s ls) a rows bar ≡ taken s (byMeaning s (rulesOf table)) a rows bar
-  unfolding taken
+  unfolding takenBy
   taken-as-meant table ls f = rw (lists-mean table s ls f (rows ++ rowOf (s .slots) bar))

@@ -25,7 +25,7 @@ use Rattle.engine.specs.Books.{Point, pointOf, wordsOfPoint, tradesOf, H
 use Rattle.engine.specs.Boxes.{Grown}
 use Rattle.engine.specs.Laws.OneTrade.{one-exit}
 use Rattle.engine.specs.Step.{stepped}
-use Rattle.engine.specs.Whole.{Asked, accountOf, rowsHeld, taken}
+use Rattle.engine.specs.Whole.{Asked, accountOf, rowsHeld, taken, takenBy}
 
 -- ---- growth after growth
 
@@ -140,7 +140,7 @@ pub books-grow : (s : Settings) (asked : Asked) (t : State) (bar : List ℕ) (m 
     → let after = stepped s t bar m ls in
     let b = taken s asked (accountOf t) (rowsHeld s t m) bar in
     Grown t m (after .result) (after .rooms) (b .point ∷ []) (b .trades)
-unfolding stepped taken heldPoints heldTrades
+unfolding stepped takenBy heldPoints heldTrades
 books-grow s asked t bar m ls p q =
     let point = point-marked (m .equity) (t .counts .«equity_points») _ _ p in
     let trades = two-booked (m .trades) (t .counts .trades) _ _ (one-exit s (t .order) (t .position) _ _ (t .counts .«bars_seen»)) q in

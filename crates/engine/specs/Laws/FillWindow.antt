@@ -17,11 +17,12 @@ use Rattle.execution.specs.Fills.{volatilityFor, executeEntry}
 use Rattle.execution.specs.Volatility.{realizedVol}
 use Rattle.execution.specs.VolatilityWindow.{same-volatility}
 use Rattle.records.specs.declared.state.Order.{Order}
-use Rattle.records.specs.declared.state.Order.the-variants.{Idle, EnterLong, EnterShort, Exit}
 use Rattle.records.specs.declared.state.Position.{Position}
 use Rattle.records.specs.declared.settings.Settings.{Settings}
 use Rattle.refusals.specs.Settings.{lookback}
-use Rattle.engine.specs.Account.{entered, filled}
+use Rattle.engine.specs.declared.account.Due.{Due}
+use Rattle.engine.specs.declared.account.Due.the-variants.{Waits, Enters, Leaves}
+use Rattle.engine.specs.Account.{entered, dueOf, doneOf, filled}
 
 module _ (K D : ℕ) (rows : List ℕ) where
   older : Without (historyOf K rows) (historyOf K (lastRows K D rows)) (historyOf K rows .rows - D)
@@ -42,16 +43,20 @@ module _ (K D : ℕ) (rows : List ℕ) where
   sizing-over-last (RiskPerTrade x) h = refl
   sizing-over-last Unknown h = refl
 
-  entry-over-last : (side : Side) (raw : Float) (terms : Terms) (k : Candle) (p : Portfolio) → lookback (terms .sizing) < D
-      → executeEntry side raw terms k p (historyOf K (lastRows K D rows)) ≡ executeEntry side raw terms k p (historyOf K rows)
+  entry-over-last : (side : Side) (raw bps : Float) (terms : Terms) (k : Candle) (p : Portfolio) → lookback (terms .sizing) < D
+      → executeEntry side raw bps terms k p (historyOf K (lastRows K D rows)) ≡ executeEntry side raw bps terms k p (historyOf K rows)
   unfolding executeEntry
-  entry-over-last side raw terms k p h = rw (sizing-over-last (terms .sizing) h)
+  entry-over-last side raw bps terms k p h = rw (sizing-over-last (terms .sizing) h)
+
+  done-over-last : (due : Due) (s : Settings) (p : Position) (k : Candle) (number : ℕ) → lookback (s .terms .sizing) < D
+      → doneOf due s p k (historyOf K (lastRows K D rows)) number ≡ doneOf due s p k (historyOf K rows) number
+  unfolding doneOf entered
+  done-over-last (Waits o) s p k number h = refl
+  done-over-last (Enters side kind price) s p k number h = rw (entry-over-last side price _ (s .terms) k (p .portfolio) h)
+  done-over-last Leaves s p k number h = refl
 
   -- a fill over the last D rows is the fill over all
   pub fill-over-last : (s : Settings) (o : Order) (p : Position) (k : Candle) (number : ℕ) → lookback (s .terms .sizing) < D
       → filled s o p k (historyOf K (lastRows K D rows)) number ≡ filled s o p k (historyOf K rows) number
-  unfolding filled entered
-  fill-over-last s Idle p k number h = refl
-  fill-over-last s (EnterLong n) p k number h = rw (entry-over-last _ _ (s .terms) k (p .portfolio) h)
-  fill-over-last s (EnterShort n) p k number h = rw (entry-over-last _ _ (s .terms) k (p .portfolio) h)
-  fill-over-last s (Exit n) p k number h = refl
+  unfolding filled
+  fill-over-last s o p k number h = done-over-last (dueOf o k) s p k number h

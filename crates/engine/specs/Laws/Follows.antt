@@ -17,7 +17,7 @@ use Rattle.engine.specs.Laws.Verdict.{verdict-fine}
 use Rattle.engine.specs.Record.{rowOf}
 use Rattle.engine.specs.Run.{Run, runOver}
 use Rattle.engine.specs.Step.{With, stepped, stepVerdict}
-use Rattle.engine.specs.Whole.{Account, accountOf, rowsHeld, byLists, taken, wholeRun, rowsOf}
+use Rattle.engine.specs.Whole.{Account, accountOf, rowsHeld, byLists, taken, wholeRun, wholeRunBy, rowsOf}
 
 -- ---- a bar
 
@@ -51,14 +51,14 @@ pub record RunsWhole (s : Settings) (ls : Lists) (t : State) (m : Rooms) (a : Ac
 
 module _ (s : Settings) (ls : Lists) (t : State) (m : Rooms) (a : Account) (rows : List ℕ) (f : Follows s t m a rows) where
   whole-none : RunsWhole s ls t m a rows [] t m
-  unfolding wholeRun flatMap
+  unfolding wholeRunBy flatMap
   whole-none = record { follows = record { account = f .account; window = rw append-nil (f .window) }; grows = grown-none t m }
 
   whole-more : (bar : List ℕ) (bars : List (List ℕ)) (u : State) (n : Rooms) → stepVerdict s t bar m ls ≡ Fine
       → let d = stepped s t bar m ls in
       RunsWhole s ls (d .result) (d .rooms) (taken s (byLists s ls) a rows bar .account) (rows ++ rowOf (s .slots) bar) bars u n
       → RunsWhole s ls t m a rows (bar ∷ bars) u n
-  unfolding wholeRun flatMap
+  unfolding wholeRunBy flatMap
   whole-more bar bars u n fine later = record {
     follows = record { account = later .follows .account; window = rw (← append-assoc) (later .follows .window) };
     grows = grown-more (step-grows s ls t m bar fine a rows f) (later .grows);

@@ -3,6 +3,7 @@ use Prim.Native.Nat.{ℕ, zero, suc, _≤_, _<_}
 use mathlib.Core.Path.{_≡_, refl, ap}
 use mathlib.Core.List.{List}
 use native.Mathlib.Omega.{arith}
+use lib.Ieee.{Float}
 use Rattle.rows.specs.History.{historyOf, lastRows}
 use Rattle.table.specs.declared.answer.Answer.the-variants.{Accepted}
 use Rattle.table.specs.Checked.{checked}
@@ -62,7 +63,7 @@ module _ (table : List ℕ) (s : Settings) (ls : Lists) (f : FromTable table s l
 
   -- THE DECISION: with the lists translated from an accepted table and a D above every reach, a step decides what the table's rules
   -- mean over all rows.
-  pub table-decides : (o : Order) (p : Position) (number : ℕ)
-      → decided s o p number rows ls ≡ orderAfter s o p number (byMeaning s (rulesOf table) rows (stateAt p number))
+  pub table-decides : (o : Order) (p : Position) (number : ℕ) (close : Float)
+      → decided s o p number close rows ls ≡ orderAfter s o p number close (byMeaning s (rulesOf table) rows (stateAt p number))
   unfolding decided byLists
-  table-decides o p number = ap (orderAfter s o p number) (lists-mean (stateAt p number))
+  table-decides o p number close = ap (orderAfter s o p number close) (lists-mean (stateAt p number))

@@ -20,7 +20,7 @@ use Rattle.words.specs.Outcome.{refusal}
 use Rattle.refusals.specs.Lines.{Line, judged}
 use Rattle.refusals.specs.Lists.{listLines}
 use Rattle.refusals.specs.Rooms.{roomLines, stateLines, placeLines}
-use Rattle.refusals.specs.Settings.{sizingLines, slippageLines, riskLines, termLines, settingLines}
+use Rattle.refusals.specs.Settings.{sizingLines, slippageLines, riskLines, termLines, entryLines, settingLines}
 use Rattle.engine.specs.Boxes.{Sound}
 use Rattle.engine.specs.Laws.Alike.{step-sound}
 use Rattle.engine.specs.Laws.Runs.{run-ends}
@@ -50,7 +50,8 @@ above-ten (l ∷ ls) why a e =
 -- the first line of a step holds, and the others have other numbers
 step-above : (s : Settings) (t : State) (bar : List ℕ) (m : Rooms) (ls : Lists) → s .depth ≤ rowPlaces (s .slots) (m .rows)
     → aboveTen (stepLines s t bar m ls ++ sizeLines s t bar m) ≡ true
-unfolding aboveTen sizeLines stepLines runLines roomLines settingLines termLines sizingLines slippageLines riskLines stateLines placeLines barLines listLines
+unfolding aboveTen sizeLines stepLines runLines roomLines settingLines termLines entryLines sizingLines slippageLines riskLines stateLines placeLines barLines
+    listLines
 step-above s t bar m ls deep = rw (le-leb _ _ deep)
 
 -- Over any bars from a fresh state.

@@ -12,21 +12,22 @@ use Rattle.rows.specs.History.{History}
 use Rattle.portfolio.specs.declared.Candle.{Candle}
 use Rattle.portfolio.specs.declared.Closed.{Closed}
 use Rattle.portfolio.specs.declared.Portfolio.{Portfolio}
-use Rattle.portfolio.specs.Portfolio.{inPosition, exited}
+use Rattle.portfolio.specs.Portfolio.{inPosition, worsened, exited}
 use Rattle.execution.specs.declared.Exit.{Exit}
 use Rattle.execution.specs.declared.Exit.the-variants.{NoExit, Exited}
 use Rattle.execution.specs.Costs.{closed}
 use Rattle.execution.specs.Fills.{executeExit}
 use Rattle.execution.specs.Intrabar.{applyIntrabarExits}
 use Rattle.records.specs.declared.state.Order.{Order}
-use Rattle.records.specs.declared.state.Order.the-variants.{Idle, EnterLong, EnterShort, Exit as ExitOrder}
 use Rattle.records.specs.declared.state.Position.{Position}
 use Rattle.records.specs.declared.settings.Settings.{Settings}
 use Rattle.records.specs.declared.state.State.{State}
 use Rattle.records.specs.Bar.{candleOf}
 use Rattle.records.specs.Lent.{Lists, Rooms, tradePlaces}
+use Rattle.engine.specs.declared.account.Due.{Due}
+use Rattle.engine.specs.declared.account.Due.the-variants.{Waits, Enters, Leaves}
 use Rattle.engine.specs.declared.account.Filled.{Filled}
-use Rattle.engine.specs.Account.{leaving, entered, filled, intrabar}
+use Rattle.engine.specs.Account.{leaving, facing, entered, dueOf, doneOf, filled, intrabar}
 use Rattle.engine.specs.Books.{Held, booked}
 use Rattle.engine.specs.Account as Account
 use Rattle.engine.specs.Step.{stepped}
@@ -43,10 +44,6 @@ closed-is-flat p price time bps reason = refl
 abbrev Flat : Filled → Type 0
 Flat f = (c : Closed) → f .«exit» ≡ Exited c → inPosition (f .position .portfolio) ≡ false
 
-either : (b : Bool) (x y : Filled) → Flat x → Flat y → Flat (cond b x y)
-either true x y f g = f
-either false x y f g = g
-
 left-flat : (b : Bool) (p : Position) (d : Closed) → inPosition (d .portfolio) ≡ false → (c : Closed)
     → cond b (Exited d) NoExit ≡ Exited c → inPosition (leaving p (cond b (Exited d) NoExit) .portfolio) ≡ false
 unfolding leaving
@@ -55,19 +52,27 @@ left-flat false p d h c e = never c e
 
 exit-flat : (s : Settings) (p : Position) (k : Candle) → Flat (Account.exited s p k)
 unfolding Account.exited executeExit
-exit-flat s p k c e = left-flat (inPosition (p .portfolio)) p _ (closed-is-flat _ _ _ _ _) c e
+exit-flat s p k c e = left-flat (inPosition (facing p k .portfolio)) (facing p k) _ (closed-is-flat _ _ _ _ _) c e
+
+done-flat : (due : Due) (s : Settings) (p : Position) (k : Candle) (h : History) (number : ℕ) → Flat (doneOf due s p k h number)
+unfolding doneOf entered
+done-flat (Waits o) s p k h number = never
+done-flat (Enters side kind price) s p k h number = never
+done-flat Leaves s p k h number = exit-flat s p k
 
 fill-flat : (s : Settings) (o : Order) (p : Position) (k : Candle) (h : History) (number : ℕ) → Flat (filled s o p k h number)
-unfolding filled entered
-fill-flat s Idle p k h number = never
-fill-flat s (EnterLong n) p k h number = either (ltb 0 n) _ _ never never
-fill-flat s (EnterShort n) p k h number = either (ltb 0 n) _ _ never never
-fill-flat s (ExitOrder n) p k h number = either (ltb 0 n) _ _ never (exit-flat s p k)
+unfolding filled
+fill-flat s o p k h number = done-flat (dueOf o k) s p k h number
 
--- a flat position is not left inside the bar
+-- a flat position takes no bar
+pub flat-faces : (p : Position) (k : Candle) → inPosition (p .portfolio) ≡ false → facing p k ≡ p
+unfolding facing worsened
+flat-faces p k h = rw h
+
+-- and is not left inside the bar
 stays-flat : (s : Settings) (p : Position) (k : Candle) → inPosition (p .portfolio) ≡ false → intrabar s p k .«exit» ≡ NoExit
 unfolding intrabar applyIntrabarExits
-stays-flat s p k h = rw h
+stays-flat s p k h = rw (flat-faces p k h, h)
 
 -- a room grows by one trade at most
 books-one : (b : Bool) (n : ℕ) (x y : List ℕ) → cond {A = Held} b (record { count = n + 1; room = x }) (record { count = n; room = y }) .count ≤ n + 1

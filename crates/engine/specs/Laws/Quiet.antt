@@ -3,6 +3,7 @@ use Prim.Native.Nat.{ℕ}
 use mathlib.Core.Path.{_≡_, refl}
 use mathlib.Core.Bool.{Bool, true, false, cond}
 use mathlib.Core.List.{List}
+use lib.Ieee.{Float}
 use Rattle.rows.specs.History.{historyOf, lastRows}
 use Rattle.portfolio.specs.Portfolio.{inPosition}
 use Rattle.execution.specs.Costs.{chargeFunding}
@@ -11,10 +12,12 @@ use Rattle.records.specs.declared.state.Order.the-variants.{Idle}
 use Rattle.records.specs.declared.state.Position.{Position}
 use Rattle.records.specs.declared.settings.Settings.{Settings}
 use Rattle.records.specs.declared.state.State.{State}
+use Rattle.records.specs.Bar.{candleOf}
 use Rattle.records.specs.Lent.{Lists, Rooms}
-use Rattle.engine.specs.Account.{leaving, filled, intrabar, charged}
+use Rattle.engine.specs.Account.{leaving, dueOf, doneOf, filled, intrabar, charged}
 use Rattle.engine.specs.Books.{booked}
 use Rattle.engine.specs.Decide.{listSays, stateAt, answersOf, ordered, openingOrder, orderAfter, decided}
+use Rattle.engine.specs.Laws.OneTrade.{flat-faces}
 use Rattle.engine.specs.Step.{stepped}
 
 same : {A : Type 0} (b : Bool) (x : A) → cond b x x ≡ x
@@ -28,17 +31,15 @@ pub record Quiet (s : Settings) (t : State) (bar : List ℕ) (m : Rooms) (ls : L
 
 pub quiet : (s : Settings) (t : State) (bar : List ℕ) (m : Rooms) (ls : Lists)
     → t .order ≡ Idle → inPosition (t .position .portfolio) ≡ false → Quiet s t bar m ls
-unfolding stepped filled intrabar charged booked leaving extremeWith applyIntrabarExits chargeFunding
-quiet s t bar m ls o f = record {
-  position = simp (o, f, same);
-  count = simp (o, f);
-  trades = simp (o, f);
-}
+unfolding stepped filled dueOf doneOf intrabar charged booked leaving extremeWith applyIntrabarExits chargeFunding
+quiet s t bar m ls o f =
+    let met = flat-faces (t .position) (candleOf bar) f in
+    record { position = simp (o, met, f, same); count = simp (o, met, f); trades = simp (o, met, f) }
 
 -- no rule says yes: no order
-pub no-rule-no-order : (s : Settings) (p : Position) (number : ℕ) (rows : List ℕ) (ls : Lists) → inPosition (p .portfolio) ≡ false
+pub no-rule-no-order : (s : Settings) (p : Position) (number : ℕ) (close : Float) (rows : List ℕ) (ls : Lists) → inPosition (p .portfolio) ≡ false
     → listSays (historyOf (s .slots) (lastRows (s .slots) (s .depth) rows)) (stateAt p number) (ls .entry) ≡ false
     → listSays (historyOf (s .slots) (lastRows (s .slots) (s .depth) rows)) (stateAt p number) (ls .«short_entry») ≡ false
-    → decided s Idle p number rows ls ≡ Idle
+    → decided s Idle p number close rows ls ≡ Idle
 unfolding decided orderAfter answersOf ordered openingOrder
-no-rule-no-order s p number rows ls f a b = simp (f, a, b, same)
+no-rule-no-order s p number close rows ls f a b = simp (f, a, b, same)

@@ -2,17 +2,20 @@
 -- mean and in a fresh one.
 use Prim.Native.Nat.{ℕ, _≤_}
 use mathlib.Core.Path.{_≡_, refl}
+use mathlib.Core.Bool.{Bool, true, false, cond}
 use mathlib.Core.List.{List, _++_}
 use native.Mathlib.Omega.{arith}
 use borrow.Author.Tests.{le-leb}
-use lib.Dec.{T}
+use lib.Dec.{T, eqb}
 use lib.ListN.{length, drop}
-use lib.Ieee.{binary64, fits}
+use lib.Ieee.{Float, binary64, fits}
 use lib.Ieee.Bits.{ofBits-toBits, ofBits-fits}
 use Rattle.portfolio.specs.Portfolio.{fresh}
 use Rattle.floats.specs.Floats.{floatOf}
 use Rattle.rules.specs.declared.Entered.{Entered}
 use Rattle.rules.specs.declared.Entered.the-variants.{Never, Bar}
+use Rattle.execution.specs.declared.level.OrderKind.{OrderKind}
+use Rattle.execution.specs.declared.level.OrderKind.the-variants.{Market, Limit, Stop, StopLimit}
 use Rattle.words.specs.Words.{overwrite}
 use Rattle.records.specs.declared.state.Order.{Order}
 use Rattle.records.specs.declared.state.Order.the-variants.{Idle, EnterLong, EnterShort, Exit}
@@ -20,8 +23,15 @@ use Rattle.records.specs.declared.state.State.{State}
 use Rattle.words.specs.Limits.{stateWords}
 use Rattle.records.specs.Settings.{settingsOf}
 use Rattle.records.specs.State.{freshState}
-use Rattle.records.specs.StateWords.{countsOf, orderOf, enteredOf, portfolioOf, positionOf, stateOf}
-use Rattle.records.specs.StateWords.{orderKind, orderDelay, enteredKind, entryBar, wordsOf}
+use Rattle.records.specs.StateWords.{countsOf, orderOf, kindOf, enteredOf, portfolioOf, positionOf, stateOf}
+use Rattle.records.specs.StateWords.{orderKind, orderDelay, waitsFor, kindWord, levelWord, limitWord, enteredKind, entryBar, wordsOf}
+
+-- the levels of an entry, each an f64 in the code
+unfoldable pub KindFits : OrderKind → Type 0
+KindFits Market = Unit {0}
+KindFits (Limit level) = T (fits binary64 level)
+KindFits (Stop level) = T (fits binary64 level)
+KindFits (StopLimit stop limit) = T (fits binary64 stop) × T (fits binary64 limit)
 
 -- the floats of a state, each an f64 in the code
 pub record Floats64 (s : State) : Type 0 where
@@ -30,15 +40,25 @@ pub record Floats64 (s : State) : Type 0 where
   pub «entry_price» : T (fits binary64 (s .position .portfolio .«entry_price»))
   pub «entry_fee» : T (fits binary64 (s .position .portfolio .«entry_fee»))
   pub «fees_paid» : T (fits binary64 (s .position .portfolio .«fees_paid»))
+  pub funding : T (fits binary64 (s .position .portfolio .funding))
+  pub worst : T (fits binary64 (s .position .portfolio .worst))
   pub extreme : T (fits binary64 (s .position .extreme))
   pub close : T (fits binary64 (s .last .close))
+  pub order : KindFits (waitsFor (s .order))
 
 -- an order and an entry bar come back as they were
-order-back : (o : Order) → orderOf (orderKind o) (orderDelay o) ≡ o
-unfolding orderOf orderKind orderDelay
+kind-back : (kind : OrderKind) → KindFits kind → kindOf (kindWord kind) (floatOf (levelWord kind)) (floatOf (limitWord kind)) ≡ kind
+unfolding KindFits kindOf kindWord levelWord limitWord
+kind-back Market h = refl
+kind-back (Limit level) h = simp (ofBits-toBits binary64 level h)
+kind-back (Stop level) h = simp (ofBits-toBits binary64 level h)
+kind-back (StopLimit stop limit) h = simp (ofBits-toBits binary64 stop (h .0), ofBits-toBits binary64 limit (h .1))
+
+order-back : (o : Order) → orderOf (orderKind o) (orderDelay o) (waitsFor o) ≡ o
+unfolding orderOf orderKind orderDelay waitsFor
 order-back Idle = refl
-order-back (EnterLong delay) = refl
-order-back (EnterShort delay) = refl
+order-back (EnterLong delay kind) = refl
+order-back (EnterShort delay kind) = refl
 order-back (Exit delay) = refl
 
 entered-back : (e : Entered) → enteredOf (enteredKind e) (entryBar e) ≡ e
@@ -51,6 +71,7 @@ pub state-back : (s : State) → Floats64 s → (rest : List ℕ) → stateOf (w
 unfolding stateOf wordsOf countsOf positionOf portfolioOf
 state-back s h rest =
     simp (
+      kind-back (waitsFor (s .order)) (h .order),
       order-back (s .order),
       entered-back (s .position .entered),
       ofBits-toBits binary64 _ (h .cash),
@@ -58,6 +79,8 @@ state-back s h rest =
       ofBits-toBits binary64 _ (h .«entry_price»),
       ofBits-toBits binary64 _ (h .«entry_fee»),
       ofBits-toBits binary64 _ (h .«fees_paid»),
+      ofBits-toBits binary64 _ (h .funding),
+      ofBits-toBits binary64 _ (h .worst),
       ofBits-toBits binary64 _ (h .extreme),
       ofBits-toBits binary64 _ (h .close),
     )
@@ -81,6 +104,27 @@ state-again s u room fits =
 word-fits : (w : ℕ) → T (fits binary64 (floatOf w))
 word-fits w = ofBits-fits binary64 w
 
+-- an order that words mean
+kind-fits : (kind : ℕ) (level limit : Float) → T (fits binary64 level) → T (fits binary64 limit) → KindFits (kindOf kind level limit)
+unfolding KindFits kindOf
+kind-fits kind level limit p q = go (eqb kind 1) (eqb kind 2) (eqb kind 3)
+  where
+    go : (a b c : Bool) → KindFits (cond a (Limit level) (cond b (Stop level) (cond c (StopLimit level limit) Market)))
+    go true b c = p
+    go false true c = p
+    go false false true = (p, q)
+    go false false false = tt
+
+order-fits : (order delay : ℕ) (kind : OrderKind) → KindFits kind → KindFits (waitsFor (orderOf order delay kind))
+unfolding KindFits orderOf waitsFor
+order-fits order delay kind h = go (eqb order 1) (eqb order 2) (eqb order 3)
+  where
+    go : (a b c : Bool) → KindFits (waitsFor (cond a (EnterLong delay kind) (cond b (EnterShort delay kind) (cond c (Exit delay) Idle))))
+    go true b c = h
+    go false true c = h
+    go false false true = tt
+    go false false false = tt
+
 -- the state that words mean, whatever they are
 pub words-floats : (ws : List ℕ) → Floats64 (stateOf ws)
 unfolding stateOf positionOf portfolioOf
@@ -90,19 +134,25 @@ words-floats ws = record {
   «entry_price» = word-fits _;
   «entry_fee» = word-fits _;
   «fees_paid» = word-fits _;
+  funding = word-fits _;
+  worst = word-fits _;
   extreme = word-fits _;
   close = word-fits _;
+  order = order-fits _ _ _ (kind-fits _ _ _ (word-fits _) (word-fits _));
 }
 
 -- the fresh state of settings that words mean
 pub fresh-floats : (ws : List ℕ) → Floats64 (freshState (settingsOf ws))
-unfolding freshState settingsOf fresh
+unfolding freshState settingsOf fresh waitsFor KindFits
 fresh-floats ws = record {
   cash = word-fits _;
   qty = word-fits 0;
   «entry_price» = word-fits 0;
   «entry_fee» = word-fits 0;
   «fees_paid» = word-fits 0;
+  funding = word-fits 0;
+  worst = word-fits 0;
   extreme = word-fits 0;
   close = word-fits 0;
+  order = tt;
 }

@@ -14,7 +14,7 @@ use Rattle.records.specs.Lent.{Rooms, Lists}
 use Rattle.refusals.specs.declared.verdict.Verdict.{Verdict}
 use Rattle.refusals.specs.declared.verdict.Verdict.the-variants.{Bad}
 use Rattle.refusals.specs.Lines.{Line, judged}
-use Rattle.refusals.specs.Settings.{sizingLines, slippageLines, riskLines, termLines, settingLines}
+use Rattle.refusals.specs.Settings.{sizingLines, slippageLines, riskLines, termLines, entryLines, settingLines}
 use Rattle.refusals.specs.Rooms.{roomLines, stateLines, placeLines, closeLines}
 use Rattle.refusals.specs.Bar.{barLines}
 use Rattle.refusals.specs.Lists.{listLines}
@@ -49,9 +49,9 @@ both-numbered (l ∷ a) b n k =
     rw (own .0) (both-numbered a b (own .1) k)
 
 pub step-numbered : (s : Settings) (t : State) (bar : List ℕ) (m : Rooms) (ls : Lists) → numbered (stepLines s t bar m ls) ≡ true
-unfolding numbered stepLines runLines roomLines settingLines termLines sizingLines slippageLines riskLines stateLines placeLines barLines listLines
+unfolding numbered stepLines runLines roomLines settingLines termLines entryLines sizingLines slippageLines riskLines stateLines placeLines barLines listLines
 step-numbered s t bar m ls = refl
 
 pub finish-numbered : (s : Settings) (t : State) (m : Rooms) → numbered (finishLines s t m) ≡ true
-unfolding numbered finishLines roomLines settingLines termLines sizingLines slippageLines riskLines stateLines closeLines
+unfolding numbered finishLines roomLines settingLines termLines entryLines sizingLines slippageLines riskLines stateLines closeLines
 finish-numbered s t m = refl

@@ -1,6 +1,6 @@
 -- Every place of a refusal of a step and of a finish is below 2^32: those that the papers name are small, a bad step's is below 4 times 1,024,
 -- and the bars seen are below 4,294,967,295 where a bar is looked at, since 14 comes before 11.
-use Prim.Native.Nat.{ℕ, _+_, _*_, _<_, _≤_, _^_}
+use Prim.Native.Nat.{ℕ, _+_, _<_, _^_}
 use mathlib.Core.Path.{_≡_, refl, sym}
 use mathlib.Core.Bool.{Bool, true, false, cond, _&&_}
 use mathlib.Core.List.{List, [], _∷_, _++_}
@@ -16,14 +16,13 @@ use Rattle.steps.specs.WellFormed.{formed}
 use Rattle.records.specs.declared.settings.Settings.{Settings}
 use Rattle.records.specs.declared.state.State.{State}
 use Rattle.records.specs.Lent.{Rooms, Lists}
-use Rattle.refusals.specs.declared.verdict.Verdict.{Verdict}
 use Rattle.refusals.specs.declared.verdict.Verdict.the-variants.{Fine, Bad}
-use Rattle.refusals.specs.Lines.{Line, line, judged}
-use Rattle.refusals.specs.Settings.{sizingLines, slippageLines, riskLines, termLines, settingLines}
+use Rattle.refusals.specs.Lines.{Line, judged}
+use Rattle.refusals.specs.Settings.{sizingLines, slippageLines, riskLines, termLines, entryLines, settingLines}
 use Rattle.refusals.specs.Rooms.{roomLines, stateLines, placeLines, closeLines}
 use Rattle.refusals.specs.Bar.{barLines}
 use Rattle.refusals.specs.Lists.{badStep, listLines}
-use Rattle.refusals.specs.Judgement.{runLines, stepLines, stepJudged, finishLines, finishJudged}
+use Rattle.refusals.specs.Judgement.{runLines, stepLines, finishLines, finishJudged}
 use Rattle.refusals.specs.Laws.Lines.{never, and-true, first-holds}
 use Rattle.refusals.specs.Laws.BadStep.{bad-below}
 
@@ -44,7 +43,7 @@ place-below (l ∷ ls) r p e = go (l .ok) refl (λ h. place-below ls r (p .1 h))
     go false h below d = let same : l .place ≡ r .place = cc in omega (arith, p .0)
 
 -- lines below others
-placed-under : (a b : List Line) → Placed a → (judged a ≡ Fine → Placed b) → Placed (a ++ b)
+pub placed-under : (a b : List Line) → Placed a → (judged a ≡ Fine → Placed b) → Placed (a ++ b)
 unfolding judged Placed
 placed-under [] b p q = q refl
 placed-under (l ∷ a) b p q = (p .0, λ h. placed-under a b (p .1 h) (λ e. q (rw h e)))
@@ -86,7 +85,7 @@ unfolding Placed barLines
 bar-placed K bar seen h = (omega arith, λ a. (omega arith, λ b. (omega arith, λ c. tt)))
 
 run-named : (s : Settings) (t : State) (m : Rooms) → named (runLines s t m) ≡ true
-unfolding named runLines roomLines settingLines termLines sizingLines slippageLines riskLines stateLines
+unfolding named runLines roomLines settingLines termLines entryLines sizingLines slippageLines riskLines stateLines
 run-named s t m = refl
 
 places-named : (t : State) (m : Rooms) → named (placeLines (t .counts) (m .equity) (m .trades)) ≡ true
@@ -99,19 +98,18 @@ unfolding placeLines
 few-bars t m h = ltb-true _ _ (first-holds _ _ (first-holds _ _ (first-holds _ _ h .1) .1) .0)
 
 -- EVERY PLACE of a step
-pub step-place : (s : Settings) (t : State) (bar : List ℕ) (m : Rooms) (ls : Lists) (r : Refusal) → stepJudged s t bar m ls ≡ Bad r → r .place < 2 ^ 32
-unfolding stepJudged stepLines Placed
-step-place s t bar m ls r =
-    place-below _ r
-    (placed-under (runLines s t m) _ (named-placed _ (run-named s t m))
+pub step-placed : (s : Settings) (t : State) (bar : List ℕ) (m : Rooms) (ls : Lists) → Placed (stepLines s t bar m ls)
+unfolding stepLines Placed
+step-placed s t bar m ls =
+    placed-under (runLines s t m) _ (named-placed _ (run-named s t m))
     (λ e. (
       omega arith,
       λ h. placed-under (placeLines (t .counts) (m .equity) (m .trades)) _ (named-placed _ (places-named t m))
           (λ f. placed-under (barLines (s .slots) bar (t .counts .«bars_seen»)) _ (bar-placed _ bar _ (few-bars t m f)) (λ g. lists-placed _ _ ls)),
-    )))
+    ))
 
 finish-named : (s : Settings) (t : State) (m : Rooms) → named (finishLines s t m) ≡ true
-unfolding named finishLines roomLines settingLines termLines sizingLines slippageLines riskLines stateLines closeLines
+unfolding named finishLines roomLines settingLines termLines entryLines sizingLines slippageLines riskLines stateLines closeLines
 finish-named s t m = refl
 
 -- and of a finish

@@ -13,6 +13,13 @@ enter-spec =
     (λ c κs. search needs)
     (λ c κs. search needs)
     (λ c κs. search needs)
+    (λ c κs. search needs)
     (λ c.
     let entry = c .before in
-    simp (c .is-turned-away .ensures, entry .entering .ensures, entry .before .execute-entry .ensures, entry .before .before .held-rows .ensures)))
+    simp (
+      c .is-turned-away .ensures,
+      entry .entering .ensures,
+      entry .before .execute-entry .ensures,
+      entry .before .before .fee-bps .ensures,
+      entry .before .before .before .before .held-rows .ensures,
+    )))

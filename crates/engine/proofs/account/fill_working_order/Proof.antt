@@ -1,10 +1,12 @@
 -- What is due is done.
+use Rattle.engine.specs.Account.{doneOf}
 use borrow.Author.Needs.{needs}
 use Rattle.engine.proofs.Dues.{so-filled}
 use Rattle.engine.proofs.account.fill_working_order.Statement.{statement}
 use Rattle.engine.proofs.account.fill_working_order.Tie as tie
 
 pub fill-working-order-spec : {M : Type 1} → statement M
+unfolding doneOf
 fill-working-order-spec =
     tie.close
     (tie.spec

@@ -6,4 +6,4 @@ use Rattle.engine.proofs.account.leave.Tie as tie
 
 pub leave-spec : {M : Type 1} → statement M
 unfolding exited
-leave-spec = tie.close (tie.spec (λ c κs. search needs) (λ c κs. search needs) (λ c. cc))
+leave-spec = tie.close (tie.spec (λ c κs. search needs) (λ c κs. search needs) (λ c κs. search needs) (λ c. cc))

@@ -10,11 +10,13 @@ unfolding decided orderAfter stateAt
 returns-5 c =
     let window = c .before in
     let held = window .before in
-    let test = held .before .before in
+    let kind = held .before in
+    let test = kind .before .before .before in
     simp (
       c .order-of .ensures,
       window .window .ensures,
       held .held-rows .ensures,
+      kind .entry-trigger .ensures,
       le-ltb _ _ (test .if1 .left),
       test .before .before .enum-told .given .1,
     )
@@ -29,6 +31,7 @@ decide-next-action-spec =
     (λ c. search needs)
     (λ c. search needs)
     (λ c. simp (lt-ltb _ _ (c .if1 .taken), c .before .before .enum-told .given .1))
+    (λ c κs. search needs)
     (λ c. search needs)
     (λ c κs. search needs)
     (λ c κs. search needs)

@@ -8,6 +8,7 @@ use Rattle.rows.specs.History.{History}
 use Rattle.rules.specs.declared.PositionState.{PositionState}
 use Rattle.rules.specs.Values.{held}
 use Rattle.portfolio.specs.declared.Portfolio.{Portfolio}
+use Rattle.execution.specs.declared.level.OrderKind.{OrderKind}
 use Rattle.portfolio.specs.Portfolio.{inPosition, isLong}
 use Rattle.steps.specs.Choice.{exitList}
 use Rattle.records.specs.Lent.{Lists}
@@ -21,15 +22,15 @@ by-side : (d : ℕ) (h : History) (st : PositionState) (x y : List ℕ) (long : 
 by-side d h st x y true = refl
 by-side d h st x y false = refl
 
-leaving : (d : ℕ) (p : Portfolio) (h : History) (st : PositionState) (ls : Lists) (leave : Bool) → inPosition p ≡ true
-    → leave ≡ listSays h st (exitList (p .qty) (ls .«exit») (ls .«short_exit»)) → closingOrder d leave ≡ ordered d p (answersOf h st ls)
+leaving : (d : ℕ) (kind : OrderKind) (p : Portfolio) (h : History) (st : PositionState) (ls : Lists) (leave : Bool) → inPosition p ≡ true
+    → leave ≡ listSays h st (exitList (p .qty) (ls .«exit») (ls .«short_exit»)) → closingOrder d leave ≡ ordered d kind p (answersOf h st ls)
 unfolding ordered answersOf inPosition isLong exitList held
-leaving d p h st ls leave i e = rw (e, i) (by-side d h st (ls .«exit») (ls .«short_exit») (zero ≺ p .qty))
+leaving d kind p h st ls leave i e = rw (e, i) (by-side d h st (ls .«exit») (ls .«short_exit») (zero ≺ p .qty))
 
-opening : (d : ℕ) (p : Portfolio) (h : History) (st : PositionState) (ls : Lists) (long short : Bool) → inPosition p ≡ false
-    → long ≡ listSays h st (ls .entry) → short ≡ listSays h st (ls .«short_entry») → openingOrder d long short ≡ ordered d p (answersOf h st ls)
+opening : (d : ℕ) (kind : OrderKind) (p : Portfolio) (h : History) (st : PositionState) (ls : Lists) (long short : Bool) → inPosition p ≡ false
+    → long ≡ listSays h st (ls .entry) → short ≡ listSays h st (ls .«short_entry») → openingOrder d kind long short ≡ ordered d kind p (answersOf h st ls)
 unfolding ordered answersOf
-opening d p h st ls long short i e f = rw (e, f, i)
+opening d kind p h st ls long short i e f = rw (e, f, i)
 
 returns : tie.Need-returns
 unfolding closingOrder
@@ -37,7 +38,7 @@ returns c =
     let ran = c .before in
     let list = ran .before in
     let test = list .before in
-    leaving _ _ _ _ _ true (sym (test .before .in-position .ensures) ∙ test .if1 .taken)
+    leaving _ _ _ _ _ _ true (sym (test .before .in-position .ensures) ∙ test .if1 .taken)
     (sym (c .if2 .taken) ∙ ran .list-says .ensures ∙ ap (listSays _ _) (list .exit-list .ensures))
 
 returns-2 : tie.Need-returns-2
@@ -46,7 +47,7 @@ returns-2 c =
     let ran = c .before in
     let list = ran .before in
     let test = list .before in
-    leaving _ _ _ _ _ false (sym (test .before .in-position .ensures) ∙ test .if1 .taken)
+    leaving _ _ _ _ _ _ false (sym (test .before .in-position .ensures) ∙ test .if1 .taken)
     (sym (c .if2 .left) ∙ ran .list-says .ensures ∙ ap (listSays _ _) (list .exit-list .ensures))
 
 returns-3 : tie.Need-returns-3
@@ -54,7 +55,7 @@ unfolding openingOrder
 returns-3 c =
     let long = c .before in
     let test = long .before in
-    opening _ _ _ _ _ true _ (sym (test .before .in-position .ensures) ∙ test .if1 .left) (sym (c .if3 .taken) ∙ long .list-says2 .ensures) refl
+    opening _ _ _ _ _ _ true _ (sym (test .before .in-position .ensures) ∙ test .if1 .left) (sym (c .if3 .taken) ∙ long .list-says2 .ensures) refl
 
 returns-4 : tie.Need-returns-4
 unfolding openingOrder
@@ -62,7 +63,7 @@ returns-4 c =
     let short = c .before in
     let told = short .before in
     let test = told .before .before in
-    opening _ _ _ _ _ false true (sym (test .before .in-position .ensures) ∙ test .if1 .left)
+    opening _ _ _ _ _ _ false true (sym (test .before .in-position .ensures) ∙ test .if1 .left)
     (sym (told .if3 .left) ∙ told .before .list-says2 .ensures) (sym (c .if4 .taken) ∙ short .list-says3 .ensures)
 
 returns-5 : tie.Need-returns-5
@@ -71,7 +72,7 @@ returns-5 c =
     let short = c .before in
     let told = short .before in
     let test = told .before .before in
-    opening _ _ _ _ _ false false (sym (test .before .in-position .ensures) ∙ test .if1 .left)
+    opening _ _ _ _ _ _ false false (sym (test .before .in-position .ensures) ∙ test .if1 .left)
     (sym (told .if3 .left) ∙ told .before .list-says2 .ensures) (sym (c .if4 .left) ∙ short .list-says3 .ensures)
 
 pub order-of-spec : {M : Type 1} → statement M

@@ -14,7 +14,7 @@ booked-spec =
     (λ c. search needs)
     (λ c κs. search needs)
     (λ c.
-    let test = c .before .before in
+    let test = c .before in
     simp (c .enter .ensures, test .if1 .taken, test .before .before .ordered .given .1))
     (λ c. simp (c .enum-told .given .1))
     (λ c. simp (c .enum-told2 .given .1))

@@ -7,14 +7,16 @@ use Rattle.records.proofs.settings.terms_of.Tie as tie
 returns : tie.Need-returns
 unfolding termsOf
 returns c =
-    let flag = c .before in
+    let part = c .before in
+    let flag = part .before in
     let slip = flag .before .before in
     let taker = slip .before .before .before in
     let risk = taker .before in
     let size = risk .before in
     let lookback = size .before in
     rw (
-      c .float-at2 .ensures,
+      c .float-at3 .ensures,
+      part .float-at2 .ensures,
       flag .flag-of .ensures,
       flag .before .word6 .ensures,
       slip .slippage-of .ensures,

@@ -1,7 +1,7 @@
--- Line by line: those of setting 1 are one test, and settings 5 and on come last.
+-- Line by line: those of setting 1 are one test, then two blocks, settings 5 to 19 and 20 to 24.
 use borrow.Author.Tests.{not-true, not-false, lt-leb, le-leb}
 use Rattle.refusals.specs.Settings.{settingLines}
-use Rattle.refusals.specs.Laws.Descent.{so, not-so, fine-line, bad-line}
+use Rattle.refusals.specs.Laws.Descent.{so, not-so, fine-line, bad-line, fine-block, bad-block}
 use borrow.Author.Needs.{needs}
 use Rattle.refusals.proofs.setting.judge_settings.Statement.{statement}
 use Rattle.refusals.proofs.setting.judge_settings.Tie as tie
@@ -31,13 +31,27 @@ returns-3 c =
 returns-4 : tie.Need-returns-4
 unfolding settingLines
 returns-4 c =
-    let c1 = c .before .before in
+    let j = c .before .before .before in
+    let c1 = j .before .before in
     let c2 = c1 .before .before in
     fine-line _ _ (le-leb _ _ (c2 .before .if1 .left))
     (rw (← c2 .depth-fine .ensures)
     (fine-line _ _ (not-false _ (c1 .before .if2 .left))
-    (fine-line _ _ (so (c1 .is-finite .ensures) (c .before .if3 .left))
-    (c .judge-terms .ensures))))
+    (fine-line _ _ (so (c1 .is-finite .ensures) (j .before .if3 .left))
+    (bad-block _ _ (j .judge-terms .ensures) (c .before .refusal .given .1)))))
+
+returns-5 : tie.Need-returns-5
+unfolding settingLines
+returns-5 c =
+    let j = c .before .before .before in
+    let c1 = j .before .before in
+    let c2 = c1 .before .before in
+    fine-line _ _ (le-leb _ _ (c2 .before .if1 .left))
+    (rw (← c2 .depth-fine .ensures)
+    (fine-line _ _ (not-false _ (c1 .before .if2 .left))
+    (fine-line _ _ (so (c1 .is-finite .ensures) (j .before .if3 .left))
+    (fine-block _ _ (j .judge-terms .ensures) (c .before .enum-told .given .1)
+    (c .judge-entries .ensures)))))
 
 pub judge-settings-spec : {M : Type 1} → statement M
 judge-settings-spec =
@@ -49,4 +63,8 @@ judge-settings-spec =
     (λ c κs. search needs)
     returns-3
     (λ c κs. search needs)
-    returns-4)
+    (λ c. search needs)
+    returns-4
+    (λ c. search needs)
+    (λ c κs. search needs)
+    returns-5)

@@ -1,9 +1,5 @@
 -- Settings 5 to 7, 9 and 10, and 12 to 16 are blocks, each judged by itself; the others are lines.
-use mathlib.Core.Path.{_≡_}
-use mathlib.Core.List.{[], _∷_}
-use Rattle.refusals.specs.declared.verdict.Verdict.{Verdict}
-use Rattle.refusals.specs.Lines.{line, judged}
-use Rattle.refusals.specs.Settings.{lotFine, termLines}
+use Rattle.refusals.specs.Settings.{termLines}
 use Rattle.refusals.specs.Laws.Descent.{so, not-so, no-line, fine-line, bad-line, fine-block, bad-block}
 use borrow.Author.Needs.{needs}
 use Rattle.refusals.proofs.setting.judge_terms.Statement.{statement}
@@ -59,13 +55,9 @@ returns-5 c =
     (fine-block _ _ (c2 .judge-risk .ensures) (c1 .enum-told3 .given .1)
     (bad-line _ _ (not-so (c .before .is-finite2 .ensures) (c .if2 .taken))))))
 
--- where all lines above it hold, that of the lot decides
-above-lot : (c : tie.Else2) {v : Verdict}
-    → let c4 = c .before .before .before .before .before .before .before .before .before in
-    let t = c4 .before .before .before .before .before .args .t in
-    v ≡ judged (line (lotFine (t .lot)) 12 24 ∷ []) → v ≡ judged (termLines t)
+returns-6 : tie.Need-returns-6
 unfolding termLines
-above-lot c e =
+returns-6 c =
     let c1 = c .before .before in
     let c2 = c1 .before .before in
     let c3 = c2 .before .before .before in
@@ -75,13 +67,7 @@ above-lot c e =
     (fine-line _ _ (so (c4 .is-finite .ensures) (c3 .before .if1 .left))
     (fine-block _ _ (c3 .judge-slippage .ensures) (c2 .before .enum-told2 .given .1)
     (fine-block _ _ (c2 .judge-risk .ensures) (c1 .enum-told3 .given .1)
-    (fine-line _ _ (so (c .before .is-finite2 .ensures) (c .if2 .left)) e))))
-
-returns-6 : tie.Need-returns-6
-returns-6 c = above-lot (c .before .before) (bad-line _ _ (not-so (c .before .lot-fine .ensures) (c .if3 .taken)))
-
-returns-7 : tie.Need-returns-7
-returns-7 c = above-lot (c .before .before) (fine-line _ _ (so (c .before .lot-fine .ensures) (c .if3 .left)) no-line)
+    (fine-line _ _ (so (c .before .is-finite2 .ensures) (c .if2 .left)) no-line))))
 
 pub judge-terms-spec : {M : Type 1} → statement M
 judge-terms-spec =
@@ -103,6 +89,4 @@ judge-terms-spec =
     (λ c. search needs)
     (λ c κs. search needs)
     returns-5
-    (λ c κs. search needs)
-    returns-6
-    returns-7)
+    returns-6)

@@ -1,8 +1,8 @@
 -- The two tests, one after the other.
 use mathlib.Core.Path.{sym, _∙_}
 use borrow.Author.Needs.{needs}
-use Rattle.refusals.proofs.setting.lot_fine.Statement.{statement}
-use Rattle.refusals.proofs.setting.lot_fine.Tie as tie
+use Rattle.refusals.proofs.entries.lot_fine.Statement.{statement}
+use Rattle.refusals.proofs.entries.lot_fine.Tie as tie
 
 pub lot-fine-spec : {M : Type 1} → statement M
 lot-fine-spec =

@@ -1,0 +1,106 @@
+-- What a client may count on of an entry away from the market: it fills only on a bar that reaches its level, and its raw price, before slippage, is no
+-- worse than a limit and no better than a stop. Assumes nothing.
+use mathlib.Core.Path.{_≡_, refl}
+use mathlib.Core.Bool.{Bool, true, false, cond}
+use lib.Ieee.{Float}
+use Rattle.floats.specs.Floats.{_≼_, min, max}
+use Rattle.floats.specs.Laws.Order.{numbers, itself, min-second, max-second}
+use Rattle.portfolio.specs.declared.Candle.{Candle}
+use Rattle.execution.specs.declared.Optional.{Optional}
+use Rattle.execution.specs.declared.Optional.the-variants.{Absent, Of}
+use Rattle.execution.specs.declared.Side.the-variants.{Long, Short}
+use Rattle.execution.specs.declared.level.OrderKind.the-variants.{Limit, Stop, StopLimit}
+use Rattle.execution.specs.Level.{reachedBelow, reachedAbove, noDearerThan, noCheaperThan, longFill, shortFill, levelFill}
+
+-- so of the price, where there is a fill
+unfoldable pub WhereFilled : (Float → Type 0) → Optional → Type 0
+WhereFilled P Absent = Unit {0}
+WhereFilled P (Of price) = P price
+
+-- a price that is given on a test alone
+tested : (P : Float → Type 0) (b : Bool) (price : Float) → (b ≡ true → P price) → WhereFilled P (cond b (Of price) Absent)
+unfolding WhereFilled
+tested P true price h = h refl
+tested P false price h = tt
+
+module _ (k : Candle) (level : Float) where
+  -- filled from above: the bar came down to the level, and the price is at most it
+  from-above : WhereFilled (λ price. (k .low ≼ level ≡ true) × (price ≼ level ≡ true)) (reachedBelow level k)
+  unfolding reachedBelow
+  from-above =
+      tested (λ price. (k .low ≼ level ≡ true) × (price ≼ level ≡ true)) (k .low ≼ level) (min (k .«open») level)
+      (λ e. (e, min-second (k .«open») level (numbers (k .low) level e .1)))
+
+  -- filled from below: the bar came up to the level, and the price is at least it
+  from-below : WhereFilled (λ price. (level ≼ k .high ≡ true) × (level ≼ price ≡ true)) (reachedAbove level k)
+  unfolding reachedAbove
+  from-below =
+      tested (λ price. (level ≼ k .high ≡ true) × (level ≼ price ≡ true)) (level ≼ k .high) (max (k .«open») level)
+      (λ e. (e, max-second (k .«open») level (numbers level (k .high) e .0)))
+
+  -- A long limit fills only on a bar whose low is at most its level, and at a raw price of at most its level.
+  pub long-limit : WhereFilled (λ price. (k .low ≼ level ≡ true) × (price ≼ level ≡ true)) (levelFill Long (Limit level) k)
+  unfolding levelFill longFill
+  long-limit = from-above
+
+  -- A short limit fills only on a bar whose high is at least its level, and at a raw price of at least its level.
+  pub short-limit : WhereFilled (λ price. (level ≼ k .high ≡ true) × (level ≼ price ≡ true)) (levelFill Short (Limit level) k)
+  unfolding levelFill shortFill
+  short-limit = from-below
+
+  -- A long stop fills only on a bar whose high is at least its level, and at a raw price of at least its level.
+  pub long-stop : WhereFilled (λ price. (level ≼ k .high ≡ true) × (level ≼ price ≡ true)) (levelFill Long (Stop level) k)
+  unfolding levelFill longFill
+  long-stop = from-below
+
+  -- A short stop fills only on a bar whose low is at most its level, and at a raw price of at most its level.
+  pub short-stop : WhereFilled (λ price. (k .low ≼ level ≡ true) × (price ≼ level ≡ true)) (levelFill Short (Stop level) k)
+  unfolding levelFill shortFill
+  short-stop = from-above
+
+-- ---- a stop-limit
+
+-- held to a limit, from what is so of the stop's price
+module _ (k : Candle) (limit : Float) (S : Type 0) where
+  within : (o : Optional) → WhereFilled (λ price. S) o → WhereFilled (λ price. S × (price ≼ limit ≡ true)) (noDearerThan limit o k)
+  unfolding WhereFilled noDearerThan
+  within Absent h = tt
+  within (Of price) h = go (price ≼ limit) (k .low ≼ limit) refl refl
+    where
+      go : (a b : Bool) → price ≼ limit ≡ a → k .low ≼ limit ≡ b
+          → WhereFilled (λ x. S × (x ≼ limit ≡ true)) (cond a (Of price) (cond b (Of limit) Absent))
+      go true b e f = (h, e)
+      go false true e f = (h, itself limit (numbers (k .low) limit f .1))
+      go false false e f = tt
+
+  above : (o : Optional) → WhereFilled (λ price. S) o → WhereFilled (λ price. S × (limit ≼ price ≡ true)) (noCheaperThan limit o k)
+  unfolding WhereFilled noCheaperThan
+  above Absent h = tt
+  above (Of price) h = go (limit ≼ price) (limit ≼ k .high) refl refl
+    where
+      go : (a b : Bool) → limit ≼ price ≡ a → limit ≼ k .high ≡ b
+          → WhereFilled (λ x. S × (limit ≼ x ≡ true)) (cond a (Of price) (cond b (Of limit) Absent))
+      go true b e f = (h, e)
+      go false true e f = (h, itself limit (numbers limit (k .high) f .0))
+      go false false e f = tt
+
+-- what is so of a price with more is so with less
+first-of : (S : Type 0) (P : Float → Type 0) (o : Optional) → WhereFilled (λ price. S × P price) o → WhereFilled (λ price. S) o
+unfolding WhereFilled
+first-of S P Absent h = tt
+first-of S P (Of price) h = h .0
+
+module _ (k : Candle) (stop limit : Float) where
+  -- A long stop-limit fills only on a bar whose high reaches its stop, and at a raw price of at most its limit.
+  pub long-stop-limit : WhereFilled (λ price. (stop ≼ k .high ≡ true) × (price ≼ limit ≡ true)) (levelFill Long (StopLimit stop limit) k)
+  unfolding levelFill longFill
+  long-stop-limit =
+      within k limit (stop ≼ k .high ≡ true) (reachedAbove stop k)
+      (first-of (stop ≼ k .high ≡ true) (λ price. stop ≼ price ≡ true) (reachedAbove stop k) (from-below k stop))
+
+  -- A short stop-limit fills only on a bar whose low reaches its stop, and at a raw price of at least its limit.
+  pub short-stop-limit : WhereFilled (λ price. (k .low ≼ stop ≡ true) × (limit ≼ price ≡ true)) (levelFill Short (StopLimit stop limit) k)
+  unfolding levelFill shortFill
+  short-stop-limit =
+      above k limit (k .low ≼ stop ≡ true) (reachedBelow stop k)
+      (first-of (k .low ≼ stop ≡ true) (λ price. price ≼ stop ≡ true) (reachedBelow stop k) (from-above k stop))
