@@ -26,24 +26,30 @@ pub(crate) fn depth(line: &[u64], sizes: &[u64], room: &[u8]) {
     text::write_words(&[answer, rows, bytes], b'\n');
 }
 
-// Lists the tests that fall silent over so many rows in so many words of a room. The answer, these words and the count.
-fn list_silent(table: &[u8], rows: u64, size: u64, room: &mut [u64]) {
-    let n = size as usize;
+// Lists the tests that fall silent over so many rows. The answer, the words that were lent and the count.
+fn list_silent(table: &[u8], rows: u64, list: &mut [u64]) {
     let mut count = 0u64;
-    if room.len() < n {
+    let answer = capi::tables::ysh_silent(table, rows, list, &mut count);
+    text::write_words(&[answer], b' ');
+    text::write_words(list, b' ');
+    text::write_words(&[count], b'\n');
+}
+
+// Lends so many words of a room.
+fn silent_in(table: &[u8], rows: u64, size: u64, room: &mut [u64]) {
+    let from: usize = 0;
+    let to = size as usize;
+    if room.len() < to {
         text::write_words(&[NO_ROOM], b'\n');
         return;
     }
-    let answer = capi::tables::ysh_silent(table, rows, &mut room[..n], &mut count);
-    text::write_words(&[answer], b' ');
-    text::write_words(&room[..n], b' ');
-    text::write_words(&[count], b'\n');
+    list_silent(table, rows, &mut room[from..to]);
 }
 
 // Word 1 is the rows, word 2 how many words are lent, each with every bit set.
 pub(crate) fn silent(line: &[u64], sizes: &[u64], room: &[u8]) {
     let mut list = [u64::MAX; words::limits::MOST_NODES];
-    list_silent(table(sizes, room), word(line, 1), word(line, 2), &mut list);
+    silent_in(table(sizes, room), word(line, 1), word(line, 2), &mut list);
 }
 
 // Translates a tree into so many bytes of the room of its list.
