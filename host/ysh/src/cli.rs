@@ -1,0 +1,104 @@
+//! The arguments of `ysh`.
+
+use std::path::PathBuf;
+
+use clap::{Args, Parser, Subcommand};
+
+use crate::holdup::asked::Holdup;
+
+/// From a strategy to the capacitors: how deep a box's window of bars has to be, how long its dump takes, and how large a capacitor
+/// that needs. Every answer about rules is the proved library's.
+#[derive(Debug, Parser)]
+#[command(name = "ysh", version, max_term_width = 110)]
+pub struct Cli {
+    #[command(subcommand)]
+    pub command: Command,
+}
+
+#[derive(Debug, Subcommand)]
+pub enum Command {
+    /// A strategy to a rule table and the settings beside it
+    Compile(Compile),
+    /// A table or a strategy as readable rules, a node a line
+    Show(Show),
+    /// How deep each file's window is, its bytes, and what makes it that deep
+    Depth(Depth),
+    /// Which tests fall silent in a window of so many rows
+    Short(Short),
+    /// How long the dumps take after the supply drops, and how large a capacitor that needs
+    Holdup(Holdup),
+}
+
+#[derive(Debug, Args)]
+pub struct Compile {
+    /// The strategy, a JSON document
+    pub strategy: PathBuf,
+    /// The rule table to write; its settings go to TABLE.settings.json
+    #[arg(short, long, value_name = "TABLE")]
+    pub output: PathBuf,
+    /// Bars on which nothing is decided, where the strategy leaves that to its indicators
+    #[arg(long, value_name = "BARS", value_parser = parse_count, allow_hyphen_values = true)]
+    pub warmup: Option<u64>,
+    /// The cash at the start
+    #[arg(long, value_name = "MONEY", default_value = "10000", value_parser = parse_money, allow_hyphen_values = true)]
+    pub capital: f64,
+    /// The slots in this order, read by a rule or not; left out, they are the names that rules read, by their letters
+    #[arg(long, value_name = "NAME", value_delimiter = ',')]
+    pub slots: Option<Vec<String>>,
+    /// Leave a short exit absent that the strategy leaves out beside a short entry, in place of the exit rule
+    #[arg(long)]
+    pub absent_short_exit: bool,
+    /// A file for the settings as a box's 32 words, little-endian
+    #[arg(long, value_name = "FILE")]
+    pub words: Option<PathBuf>,
+}
+
+#[derive(Debug, Args)]
+pub struct Show {
+    /// A rule table or a strategy
+    pub file: PathBuf,
+    /// Write the rules as a strategy document, which `ysh compile` reads
+    #[arg(long)]
+    pub json: bool,
+    #[command(flatten)]
+    pub lookback: Lookback,
+}
+
+#[derive(Debug, Args)]
+pub struct Depth {
+    /// Rule tables, strategies, or folders of them (files that end in .rtb or .json)
+    #[arg(required = true)]
+    pub files: Vec<PathBuf>,
+    #[command(flatten)]
+    pub lookback: Lookback,
+}
+
+#[derive(Debug, Args)]
+pub struct Short {
+    /// Rule tables, strategies, or folders of them (files that end in .rtb or .json)
+    #[arg(required = true)]
+    pub files: Vec<PathBuf>,
+    /// The rows of the window
+    #[arg(long, value_name = "N", value_parser = parse_count, allow_hyphen_values = true)]
+    pub rows: u64,
+    #[command(flatten)]
+    pub lookback: Lookback,
+}
+
+#[derive(Clone, Copy, Debug, Args)]
+pub struct Lookback {
+    /// The lookback of a volatility target, for a table that has no settings beside it
+    #[arg(long, value_name = "BARS", value_parser = parse_count, allow_hyphen_values = true)]
+    pub lookback: Option<u64>,
+}
+
+fn parse_count(text: &str) -> Result<u64, String> {
+    text.parse().map_err(|_| "a whole number from 0 up was expected".to_owned())
+}
+
+fn parse_money(text: &str) -> Result<f64, String> {
+    match text.parse::<f64>() {
+        Ok(x) if x.is_finite() => Ok(x),
+        _ => Err("a finite number was expected".to_owned()),
+    }
+}

@@ -1,0 +1,87 @@
+//! `ysh compile`: a strategy to a rule table and the settings beside it.
+
+use std::fs;
+use std::path::Path;
+
+use yshturpa::Settings;
+
+use super::Answer;
+use crate::cli::Compile;
+use crate::columns::{counted, grouped};
+use crate::compile::{settings, Choices, Rules};
+use crate::files::{bytes_of, name_of, text_of};
+use crate::problem::Problem;
+use crate::settings_file::SettingsFile;
+use crate::source::{Size, Source};
+use crate::strategy::Strategy;
+
+pub fn answer(asked: &Compile) -> Answer {
+    compiled(asked).unwrap_or_else(Answer::from)
+}
+
+fn compiled(asked: &Compile) -> Result<Answer, Problem> {
+    let file = name_of(&asked.strategy);
+    let text = text_of(&file, bytes_of(&asked.strategy)?)?;
+    let same =
+        |path: &Path| path.canonicalize().is_ok_and(|path| asked.strategy.canonicalize().is_ok_and(|own| own == path));
+    if same(&asked.output) {
+        return Err(Problem::input(&file, "--output", "another file than the strategy itself was expected"));
+    }
+    let choices = Choices { order: asked.slots.as_deref(), absent_short_exit: asked.absent_short_exit };
+    let source = Source::of_strategy(&file, &text, choices)?;
+    let strategy = source.strategy.as_ref().expect("it was read from a strategy");
+    let warmup = warmup(&file, strategy, asked.warmup)?;
+    let rules = Rules { table: source.table.clone(), names: source.names.clone(), paths: source.paths.clone() };
+    let settings = settings(strategy, &rules, warmup, asked.capital).map_err(|stopped| Problem::of(&file, stopped))?;
+    write(asked, strategy, &rules, &settings)?;
+    let mut answer = report(&source, &source.size()?, &asked.output);
+    answer.notes(&file, &source.notes);
+    Ok(answer)
+}
+
+/// The warmup of the strategy, or the one that was given. With no indicators the original's is 0.
+fn warmup(file: &str, strategy: &Strategy, given: Option<u64>) -> Result<u64, Problem> {
+    match (strategy.warmup, given) {
+        (Some(own), Some(given)) if given != u64::from(own) => {
+            let text = format!("the strategy says {own} and --warmup {given}; one of the two was expected");
+            Err(Problem::input(file, "warmup", text))
+        }
+        (Some(own), _) => Ok(own.into()),
+        (None, Some(given)) => Ok(given),
+        (None, None) if strategy.indicators.is_empty() => Ok(0),
+        (None, None) => {
+            let text = "the strategy leaves it to its indicators, which are not here; --warmup BARS was expected";
+            Err(Problem::input(file, "warmup", text))
+        }
+    }
+}
+
+fn write(asked: &Compile, strategy: &Strategy, rules: &Rules, settings: &Settings) -> Result<(), Problem> {
+    let beside = SettingsFile::new(&rules.names, strategy.sizing, strategy.costs.slippage, settings);
+    put(&asked.output, &rules.table)?;
+    put(&SettingsFile::beside(&asked.output), beside.text().as_bytes())?;
+    if let Some(path) = &asked.words {
+        put(path, &settings.words().map(u64::to_le_bytes).concat())?;
+    }
+    Ok(())
+}
+
+fn put(path: &Path, bytes: &[u8]) -> Result<(), Problem> {
+    fs::write(path, bytes).map_err(|error| Problem::io(path.display().to_string(), "written", &error))
+}
+
+fn report(source: &Source, size: &Size, output: &Path) -> Answer {
+    let mut answer = Answer::default();
+    let nodes = counted(source.forest.nodes.len() as u64, "node", "nodes");
+    answer.line(format!("{}: {nodes}, {}", output.display(), counted(size.slots, "slot", "slots")));
+    answer.line(format!(
+        "window {}, {} bytes; dump {} bytes",
+        counted(size.rows, "row", "rows"),
+        grouped(size.window),
+        grouped(size.dump)
+    ));
+    for (slot, name) in source.names.iter().enumerate() {
+        answer.line(format!("slot {slot:>2}  {name}"));
+    }
+    answer
+}

@@ -1,0 +1,81 @@
+//! A drawing as SVG text: lines, bars and letters. The classes are those of the page's style.
+
+/// How wide a letter of the drawing's font is, at most.
+pub const LETTER: f64 = 7.4;
+
+/// Which end of a text stands at its place.
+#[derive(Clone, Copy, Debug, PartialEq, Eq)]
+pub enum Anchor {
+    Middle,
+    End,
+}
+
+pub struct Svg {
+    text: String,
+}
+
+/// Stripes for what is over the limit, so that it shows in black and white too.
+const HATCH: &str = concat!(
+    r#"<defs><pattern id="hatch" width="7" height="7" patternUnits="userSpaceOnUse" patternTransform="rotate(45)">"#,
+    r##"<rect width="7" height="7" fill="#e9b5b0"/><line x1="0" y1="0" x2="0" y2="7" stroke="#a3211a" stroke-width="4"/>"##,
+    "</pattern></defs>"
+);
+
+impl Svg {
+    pub fn new(width: f64, height: f64, what: &str) -> Svg {
+        let what = escape(what);
+        Svg { text: format!(r#"<svg role="img" aria-label="{what}" viewBox="0 0 {width} {height}">{HATCH}"#) }
+    }
+
+    pub fn line(&mut self, class: &str, (x1, y1): (f64, f64), (x2, y2): (f64, f64)) {
+        let line = format!(r#"<line class="{class}" x1="{x1:.1}" y1="{y1:.1}" x2="{x2:.1}" y2="{y2:.1}"/>"#);
+        self.text.push_str(&line);
+    }
+
+    pub fn bar(&mut self, class: &str, (x, y): (f64, f64), (width, height): (f64, f64), title: &str) {
+        let title = escape(title);
+        let place = format!(r#"x="{x:.2}" y="{y:.1}" width="{width:.2}" height="{height:.1}""#);
+        self.text.push_str(&format!(r#"<rect class="{class}" {place}><title>{title}</title></rect>"#));
+    }
+
+    pub fn text(&mut self, class: &str, (x, y): (f64, f64), anchor: Anchor, text: &str) {
+        let anchor = match anchor {
+            Anchor::Middle => "middle",
+            Anchor::End => "end",
+        };
+        let text = escape(text);
+        self.text
+            .push_str(&format!(r#"<text class="{class}" x="{x:.1}" y="{y:.1}" text-anchor="{anchor}">{text}</text>"#));
+    }
+
+    pub fn done(self) -> String {
+        self.text + "</svg>"
+    }
+}
+
+pub fn escape(text: &str) -> String {
+    let mut escaped = String::with_capacity(text.len());
+    for c in text.chars() {
+        match c {
+            '&' => escaped.push_str("&amp;"),
+            '<' => escaped.push_str("&lt;"),
+            '>' => escaped.push_str("&gt;"),
+            '"' => escaped.push_str("&quot;"),
+            c => escaped.push(c),
+        }
+    }
+    escaped
+}
+
+#[cfg(test)]
+mod tests {
+    use super::*;
+
+    #[test]
+    fn what_is_written_is_escaped() {
+        let mut svg = Svg::new(10.0, 10.0, "a \"b\"");
+        svg.text("name", (1.0, 2.0), Anchor::End, "<c & d>");
+        let text = svg.done();
+        assert!(text.contains("aria-label=\"a &quot;b&quot;\"") && text.contains(">&lt;c &amp; d&gt;</text></svg>"));
+    }
+}

@@ -1,0 +1,65 @@
+//! `ysh`, a host tool over the proved engine Yshturpa: strategies to tables, tables in words, how deep a window has to be, and how long a
+//! box needs power to write it. It decides nothing itself: every answer about rules comes from the library's calls.
+#![forbid(unsafe_code)]
+
+mod cli;
+mod columns;
+mod commands;
+pub mod compile;
+pub mod decompile;
+mod files;
+mod holdup;
+mod problem;
+mod progress;
+mod settings_file;
+mod source;
+pub mod strategy;
+pub mod table;
+
+use std::ffi::OsString;
+use std::io::Write;
+
+use clap::error::ErrorKind;
+use clap::Parser;
+
+use cli::{Cli, Command};
+pub use problem::Problem;
+pub use source::Source;
+
+/// What the program was asked, answered; its exit status: 0, 1 where the library refused something, 2 where input is bad.
+pub fn run(arguments: impl IntoIterator<Item = OsString>, out: &mut dyn Write, err: &mut dyn Write) -> u8 {
+    let cli = match Cli::try_parse_from(arguments) {
+        Ok(cli) => cli,
+        Err(error) => return not_understood(&error, out, err),
+    };
+    let (text, problems) = match cli.command {
+        Command::Compile(asked) => commands::compile::answer(&asked),
+        Command::Show(asked) => commands::show::answer(&asked),
+        Command::Depth(asked) => commands::depth::answer(&asked),
+        Command::Short(asked) => commands::short::answer(&asked),
+        Command::Holdup(asked) => commands::holdup::answer(&asked),
+    }
+    .into_parts();
+    let _ = out.write_all(text.as_bytes());
+    for line in &problems.lines {
+        let _ = writeln!(err, "ysh: {line}");
+    }
+    problems.status
+}
+
+/// Help as it is; of anything else the first paragraph, in a line.
+fn not_understood(error: &clap::Error, out: &mut dyn Write, err: &mut dyn Write) -> u8 {
+    let text = error.to_string();
+    if matches!(error.kind(), ErrorKind::DisplayHelp | ErrorKind::DisplayVersion) {
+        let _ = out.write_all(text.as_bytes());
+        return 0;
+    }
+    if error.kind() == ErrorKind::DisplayHelpOnMissingArgumentOrSubcommand {
+        let _ = err.write_all(text.as_bytes());
+        return 2;
+    }
+    let paragraph = text.lines().take_while(|line| !line.trim().is_empty()).map(str::trim);
+    let line = paragraph.collect::<Vec<_>>().join(" ");
+    let _ = writeln!(err, "ysh: {} (`ysh --help` has what there is)", line.strip_prefix("error: ").unwrap_or(&line));
+    2
+}

@@ -1,0 +1,90 @@
+//! The settings that stand beside a table, as JSON: what each slot is called, and every setting by name.
+
+use std::path::{Path, PathBuf};
+
+use serde::{Deserialize, Serialize};
+use yshturpa::Settings;
+
+use crate::problem::Problem;
+use crate::strategy::spec::{Sizing, Slippage};
+
+#[derive(Clone, Debug, PartialEq, Serialize, Deserialize)]
+#[serde(deny_unknown_fields)]
+pub struct SettingsFile {
+    /// Slot 0 first.
+    pub slots: Vec<String>,
+    pub depth: usize,
+    pub capital: f64,
+    pub warmup: u64,
+    pub delay: u64,
+    pub sizing: Sizing,
+    pub taker_bps: f64,
+    pub slippage: Slippage,
+    pub funding: bool,
+    pub stop_loss_pct: Option<f64>,
+    pub trailing_stop_pct: Option<f64>,
+    pub take_profit_pct: Option<f64>,
+    pub max_leverage: Option<f64>,
+    pub max_position_pct: Option<f64>,
+    pub liquidation: bool,
+    pub partial_fills: bool,
+    pub max_participation: f64,
+}
+
+impl SettingsFile {
+    /// The file that stands beside a table: the table's name and `.settings.json`.
+    pub fn beside(table: &Path) -> PathBuf {
+        let mut name = table.as_os_str().to_owned();
+        name.push(".settings.json");
+        name.into()
+    }
+
+    pub fn new(slots: &[String], sizing: Sizing, slippage: Slippage, settings: &Settings) -> SettingsFile {
+        SettingsFile {
+            slots: slots.to_vec(),
+            depth: settings.depth,
+            capital: settings.capital,
+            warmup: settings.warmup,
+            delay: settings.delay,
+            sizing,
+            taker_bps: settings.taker_bps,
+            slippage,
+            funding: settings.funding,
+            stop_loss_pct: settings.stop_loss_pct,
+            trailing_stop_pct: settings.trailing_stop_pct,
+            take_profit_pct: settings.take_profit_pct,
+            max_leverage: settings.max_leverage,
+            max_position_pct: settings.max_position_pct,
+            liquidation: settings.liquidation,
+            partial_fills: settings.partial_fills,
+            max_participation: settings.max_participation,
+        }
+    }
+
+    pub fn lookback(&self) -> u64 {
+        match self.sizing {
+            Sizing::VolTarget { lookback, .. } => lookback.into(),
+            _ => 0,
+        }
+    }
+
+    pub fn text(&self) -> String {
+        serde_json::to_string_pretty(self).expect("settings are JSON") + "\n"
+    }
+
+    /// Reads the file beside a table; none where there is no such file.
+    pub fn read(table: &Path) -> Result<Option<SettingsFile>, Problem> {
+        let path = SettingsFile::beside(table);
+        let name = path.display().to_string();
+        let text = match std::fs::read_to_string(&path) {
+            Ok(text) => text,
+            Err(error) if error.kind() == std::io::ErrorKind::NotFound => return Ok(None),
+            Err(error) => return Err(Problem::io(name, "read", &error)),
+        };
+        serde_json::from_str(&text).map(Some).map_err(|error| {
+            let place = format!("line {} column {}", error.line(), error.column());
+            let said = error.to_string();
+            Problem::input(&name, &place, said.strip_suffix(&format!(" at {place}")).unwrap_or(&said))
+        })
+    }
+}

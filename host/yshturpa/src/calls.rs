@@ -1,0 +1,193 @@
+//! The C interface as include/yshturpa.h declares it, and each call once over slices: all the `unsafe` there is.
+#![allow(unsafe_code)]
+
+use crate::Refusal;
+
+#[rustfmt::skip]
+mod raw {
+    extern "C" {
+        pub fn ysh_check(table: *const u8, table_len: usize, nodes: *mut u64, rows: *mut u64) -> u64;
+        pub fn ysh_depth(table: *const u8, table_len: usize, lookback: u64, rows: *mut u64, bytes: *mut u64) -> u64;
+        pub fn ysh_silent(table: *const u8, table_len: usize, rows: u64, list: *mut u64, list_len: usize, count: *mut u64) -> u64;
+        pub fn ysh_translate(table: *const u8, table_len: usize, tree: u64, room: *mut u8, room_len: usize, used: *mut u64) -> u64;
+        pub fn ysh_fresh(settings: *const u64, settings_len: usize, state: *mut u64, state_len: usize) -> u64;
+        pub fn ysh_step(
+            settings: *const u64, settings_len: usize, state: *mut u64, state_len: usize, bar: *const u64, bar_len: usize,
+            rows: *mut u64, rows_len: usize, equity: *mut u64, equity_len: usize, trades: *mut u64, trades_len: usize,
+            entry: *const u8, entry_len: usize, exit: *const u8, exit_len: usize,
+            short_entry: *const u8, short_entry_len: usize, short_exit: *const u8, short_exit_len: usize,
+        ) -> u64;
+        pub fn ysh_finish(
+            settings: *const u64, settings_len: usize, state: *mut u64, state_len: usize, rows: *const u64, rows_len: usize,
+            equity: *const u64, equity_len: usize, trades: *mut u64, trades_len: usize, metrics: *mut u64, metrics_len: usize,
+        ) -> u64;
+        pub fn ysh_rule(
+            table: *const u8, table_len: usize, tree: u64, rows: *const u64, rows_len: usize,
+            qty: u64, entered: u64, entry_bar: u64, bars_seen: u64, answer: *mut u64,
+        ) -> u64;
+        pub fn ysh_run(
+            steps: *const u8, steps_len: usize, rows: *const u64, rows_len: usize, slots: u64, depth: u64,
+            qty: u64, entered: u64, entry_bar: u64, bars_seen: u64, answer: *mut u64, visits: *mut u64,
+        ) -> u64;
+        pub fn ysh_metrics(
+            initial: u64, equity: *const u64, equity_len: usize, trades: *const u64, trades_len: usize,
+            metrics: *mut u64, metrics_len: usize,
+        ) -> u64;
+        pub fn ysh_root(word: u64) -> u64;
+    }
+}
+
+// SAFETY, of every call below: each pointer and the length behind it are one slice's, what is lent for writing is a slice that is
+// ours alone, and a pointer with no length behind it is a local word's. The header asks for no more.
+
+type Answer<T> = Result<T, Refusal>;
+
+pub fn check(table: &[u8]) -> Answer<(u64, u64)> {
+    let (mut nodes, mut rows) = (0, 0);
+    Refusal::of(unsafe { raw::ysh_check(table.as_ptr(), table.len(), &mut nodes, &mut rows) })?;
+    Ok((nodes, rows))
+}
+
+pub fn depth(table: &[u8], lookback: u64) -> Answer<(u64, u64)> {
+    let (mut rows, mut bytes) = (0, 0);
+    Refusal::of(unsafe { raw::ysh_depth(table.as_ptr(), table.len(), lookback, &mut rows, &mut bytes) })?;
+    Ok((rows, bytes))
+}
+
+pub fn silent(table: &[u8], rows: u64, list: &mut [u64]) -> Answer<u64> {
+    let mut count = 0;
+    Refusal::of(unsafe {
+        raw::ysh_silent(table.as_ptr(), table.len(), rows, list.as_mut_ptr(), list.len(), &mut count)
+    })?;
+    Ok(count)
+}
+
+pub fn translate(table: &[u8], tree: u64, room: &mut [u8]) -> Answer<u64> {
+    let mut used = 0;
+    Refusal::of(unsafe {
+        raw::ysh_translate(table.as_ptr(), table.len(), tree, room.as_mut_ptr(), room.len(), &mut used)
+    })?;
+    Ok(used)
+}
+
+pub fn fresh(settings: &[u64], state: &mut [u64]) -> Answer<()> {
+    Refusal::of(unsafe { raw::ysh_fresh(settings.as_ptr(), settings.len(), state.as_mut_ptr(), state.len()) })
+}
+
+/// The rooms that a step and finish write to.
+pub struct Rooms<'a> {
+    pub state: &'a mut [u64],
+    pub rows: &'a mut [u64],
+    pub equity: &'a mut [u64],
+    pub trades: &'a mut [u64],
+}
+
+pub fn step(settings: &[u64], rooms: Rooms, bar: &[u64], steps: [&[u8]; 4]) -> Answer<()> {
+    let [entry, exit, short_entry, short_exit] = steps;
+    Refusal::of(unsafe {
+        raw::ysh_step(
+            settings.as_ptr(),
+            settings.len(),
+            rooms.state.as_mut_ptr(),
+            rooms.state.len(),
+            bar.as_ptr(),
+            bar.len(),
+            rooms.rows.as_mut_ptr(),
+            rooms.rows.len(),
+            rooms.equity.as_mut_ptr(),
+            rooms.equity.len(),
+            rooms.trades.as_mut_ptr(),
+            rooms.trades.len(),
+            entry.as_ptr(),
+            entry.len(),
+            exit.as_ptr(),
+            exit.len(),
+            short_entry.as_ptr(),
+            short_entry.len(),
+            short_exit.as_ptr(),
+            short_exit.len(),
+        )
+    })
+}
+
+pub fn finish(settings: &[u64], rooms: Rooms, metrics: &mut [u64]) -> Answer<()> {
+    Refusal::of(unsafe {
+        raw::ysh_finish(
+            settings.as_ptr(),
+            settings.len(),
+            rooms.state.as_mut_ptr(),
+            rooms.state.len(),
+            rooms.rows.as_ptr(),
+            rooms.rows.len(),
+            rooms.equity.as_ptr(),
+            rooms.equity.len(),
+            rooms.trades.as_mut_ptr(),
+            rooms.trades.len(),
+            metrics.as_mut_ptr(),
+            metrics.len(),
+        )
+    })
+}
+
+/// A position as its four words: quantity, whether there is an entry bar, its number, bars seen.
+pub type PositionWords = [u64; 4];
+
+pub fn rule(table: &[u8], tree: u64, rows: &[u64], position: PositionWords) -> Answer<u64> {
+    let [qty, entered, entry_bar, bars_seen] = position;
+    let mut answer = 0;
+    Refusal::of(unsafe {
+        raw::ysh_rule(
+            table.as_ptr(),
+            table.len(),
+            tree,
+            rows.as_ptr(),
+            rows.len(),
+            qty,
+            entered,
+            entry_bar,
+            bars_seen,
+            &mut answer,
+        )
+    })?;
+    Ok(answer)
+}
+
+pub fn run(steps: &[u8], rows: &[u64], slots: u64, depth: u64, position: PositionWords) -> Answer<(u64, u64)> {
+    let [qty, entered, entry_bar, bars_seen] = position;
+    let (mut answer, mut visits) = (0, 0);
+    Refusal::of(unsafe {
+        raw::ysh_run(
+            steps.as_ptr(),
+            steps.len(),
+            rows.as_ptr(),
+            rows.len(),
+            slots,
+            depth,
+            qty,
+            entered,
+            entry_bar,
+            bars_seen,
+            &mut answer,
+            &mut visits,
+        )
+    })?;
+    Ok((answer, visits))
+}
+
+pub fn metrics(initial: u64, equity: &[u64], trades: &[u64], metrics: &mut [u64]) -> Answer<()> {
+    Refusal::of(unsafe {
+        raw::ysh_metrics(
+            initial,
+            equity.as_ptr(),
+            equity.len(),
+            trades.as_ptr(),
+            trades.len(),
+            metrics.as_mut_ptr(),
+            metrics.len(),
+        )
+    })
+}
+
+pub fn root(word: u64) -> u64 {
+    unsafe { raw::ysh_root(word) }
+}

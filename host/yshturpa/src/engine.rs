@@ -1,0 +1,119 @@
+//! One run: the engine's state and every room it is lent.
+
+use crate::calls::{self, Rooms};
+use crate::layout::{state, METRIC_WORDS, MOST_DEPTH, POINT_WORDS, ROW_FIXED, SETTING_WORDS, STATE_WORDS, TRADE_WORDS};
+use crate::{depth, slots_of, translate};
+use crate::{Bar, Error, Metrics, Point, Refusal, Rows, Saved, Settings, State, Trade, Tree};
+
+/// A run of one table's rules. It owns its rooms, so a step allocates nothing.
+#[derive(Clone, Debug)]
+pub struct Engine {
+    slots: usize,
+    settings: [u64; SETTING_WORDS],
+    state: [u64; STATE_WORDS],
+    bar: Vec<u64>,
+    rows: Vec<u64>,
+    equity: Vec<u64>,
+    trades: Vec<u64>,
+    steps: [Vec<u8>; 4],
+}
+
+impl Engine {
+    /// A run before its first bar, with places for so many bars and trades (a step needs a free place for a trade, even where
+    /// nothing is open). The window is `settings.depth` rows: at least what [`crate::depth`] says, or it is an error; so is a
+    /// number of slots that is not the table's.
+    pub fn new(table: &[u8], settings: &Settings, bars: usize, trades: usize) -> Result<Engine, Error> {
+        fitting(table, settings)?;
+        let mut engine = Engine {
+            slots: settings.slots,
+            settings: settings.words(),
+            state: [0; STATE_WORDS],
+            bar: Vec::new(),
+            rows: vec![0; (ROW_FIXED + settings.slots) * settings.depth],
+            equity: vec![0; POINT_WORDS * bars],
+            trades: vec![0; TRADE_WORDS * trades],
+            steps: [
+                translate(table, Tree::Entry)?,
+                translate(table, Tree::Exit)?,
+                translate(table, Tree::ShortEntry)?,
+                translate(table, Tree::ShortExit)?,
+            ],
+        };
+        calls::fresh(&engine.settings, &mut engine.state)?;
+        Ok(engine)
+    }
+
+    /// A run that goes on from a saved state and its rows, with empty rooms for equity and trades, counted from 0.
+    pub fn resumed(
+        table: &[u8],
+        settings: &Settings,
+        bars: usize,
+        trades: usize,
+        saved: &Saved,
+    ) -> Result<Engine, Error> {
+        let mut engine = Engine::new(table, settings, bars, trades)?;
+        let saved = Saved::of_words(settings.slots, &saved.words())?;
+        if saved.rows().len() > engine.rows.len() {
+            return Err(Error::Saved { words: saved.words().len() });
+        }
+        engine.rows[..saved.rows().len()].copy_from_slice(saved.rows());
+        engine.state = *saved.state().words();
+        engine.state[state::EQUITY_POINTS] = 0;
+        engine.state[state::TRADES] = 0;
+        Ok(engine)
+    }
+
+    /// The state and the rows as they are now.
+    pub fn save(&self) -> Saved {
+        Saved::new(self.state(), self.rows().words().to_vec())
+    }
+
+    /// One bar. A refused one has changed nothing: the run goes on with the next call.
+    pub fn step(&mut self, bar: &Bar) -> Result<(), Refusal> {
+        let Engine { slots, settings, state, bar: words, rows, equity, trades, steps } = self;
+        bar.words(*slots, words);
+        let [entry, exit, short_entry, short_exit] = steps;
+        calls::step(settings, Rooms { state, rows, equity, trades }, words, [entry, exit, short_entry, short_exit])
+    }
+
+    /// Closes an open position at the last close, if a bar was seen, and gives the metrics.
+    pub fn finish(&mut self) -> Result<Metrics, Refusal> {
+        let mut metrics = [0; METRIC_WORDS];
+        let Engine { settings, state, rows, equity, trades, .. } = self;
+        calls::finish(settings, Rooms { state, rows, equity, trades }, &mut metrics)?;
+        Ok(Metrics::of(&metrics))
+    }
+
+    pub fn state(&self) -> State {
+        State { words: self.state }
+    }
+
+    /// The rows held, the oldest first.
+    pub fn rows(&self) -> Rows {
+        let held = self.state().rows_held() as usize * (ROW_FIXED + self.slots);
+        Rows::of_words(self.slots, self.rows[..held].to_vec()).expect("whole rows are held")
+    }
+
+    /// The equity at each close so far.
+    pub fn equity(&self) -> impl Iterator<Item = Point> + '_ {
+        self.equity.chunks_exact(POINT_WORDS).take(self.state[state::EQUITY_POINTS] as usize).map(Point::of)
+    }
+
+    /// The trades so far.
+    pub fn trades(&self) -> impl Iterator<Item = Trade> + '_ {
+        self.trades.chunks_exact(TRADE_WORDS).take(self.state[state::TRADES] as usize).map(Trade::of)
+    }
+}
+
+/// K is the table's, and D is no less than the library says that table and settings need.
+fn fitting(table: &[u8], settings: &Settings) -> Result<(), Error> {
+    let slots = slots_of(table)?;
+    if settings.slots != slots {
+        return Err(Error::Slots { given: settings.slots, table: slots });
+    }
+    let needed = depth(table, settings.lookback())?.rows as usize;
+    if settings.depth < needed || settings.depth > MOST_DEPTH {
+        return Err(Error::Depth { given: settings.depth, needed, most: MOST_DEPTH });
+    }
+    Ok(())
+}

@@ -1,0 +1,35 @@
+//! Yshturpa from Rust: a trading-rule engine whose answers, and the depth of bar history they need, are proved.
+//!
+//! Every call of the C interface is here, over records in place of words. [`Engine`] owns every room that the interface is lent,
+//! so nothing here can be misused from safe code. What a call refuses comes back as a [`Refusal`] with the papers' number and
+//! place, and a refused call has changed nothing.
+#![deny(unsafe_code)]
+
+mod bar;
+mod calls;
+mod engine;
+mod error;
+pub mod layout;
+mod refusal;
+mod results;
+mod rule;
+mod saved;
+mod settings;
+mod state;
+mod table;
+
+pub use bar::{Bar, Funding, Rows};
+pub use engine::Engine;
+pub use error::Error;
+pub use refusal::Refusal;
+pub use results::{metrics, Metrics, Point, Reason, Trade};
+pub use rule::{rule, run, Ran};
+pub use saved::Saved;
+pub use settings::{Settings, Sizing, Slippage};
+pub use state::{Order, Position, State};
+pub use table::{check, depth, dump_bytes, silent, slots_of, translate, Accepted, Depth, Tree};
+
+/// The square root, correctly rounded, computed from the bits alone.
+pub fn root(x: f64) -> f64 {
+    f64::from_bits(calls::root(x.to_bits()))
+}

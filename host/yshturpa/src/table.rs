@@ -1,0 +1,86 @@
+//! What can be asked of a rule table: whether it is accepted, how deep it looks, what falls silent, its steps.
+
+use crate::layout::{HEADER_BYTES, MOST_NODES, ROW_FIXED, STEP_ROOM};
+use crate::{calls, Refusal};
+
+/// The four trees of a rule table.
+#[derive(Clone, Copy, Debug, PartialEq, Eq, Hash)]
+pub enum Tree {
+    Entry,
+    Exit,
+    ShortEntry,
+    ShortExit,
+}
+
+impl Tree {
+    pub const ALL: [Tree; 4] = [Tree::Entry, Tree::Exit, Tree::ShortEntry, Tree::ShortExit];
+
+    pub fn name(self) -> &'static str {
+        ["entry", "exit", "short entry", "short exit"][self as usize]
+    }
+}
+
+/// An accepted table: its nodes, and the rows that its rules need.
+#[derive(Clone, Copy, Debug, PartialEq, Eq)]
+pub struct Accepted {
+    pub nodes: u64,
+    pub rows: u64,
+}
+
+/// Checks a rule table.
+pub fn check(table: &[u8]) -> Result<Accepted, Refusal> {
+    let (nodes, rows) = calls::check(table)?;
+    Ok(Accepted { nodes, rows })
+}
+
+/// K, the slots of an accepted table.
+pub fn slots_of(table: &[u8]) -> Result<usize, Refusal> {
+    check(table).map(|_| usize::from(table[3]))
+}
+
+/// How deep a window has to be, and the bytes that its rows take.
+#[derive(Clone, Copy, Debug, PartialEq, Eq)]
+pub struct Depth {
+    pub rows: u64,
+    pub bytes: u64,
+}
+
+/// The rows that a table's rules need and, for a volatility target, one more than its lookback (0 where sizing is another).
+pub fn depth(table: &[u8], lookback: u64) -> Result<Depth, Refusal> {
+    let (rows, bytes) = calls::depth(table, lookback)?;
+    Ok(Depth { rows, bytes })
+}
+
+/// The bytes of the dump that is written when the supply drops.
+///
+/// The library has no call for it yet; request 11: "The size is 256 + D·8·(7 + K) bytes, always, with zero rows while fewer than
+/// D exist; for D = 14 and K = 2 that is 1,264."
+pub fn dump_bytes(depth: u64, slots: u64) -> u64 {
+    256 + depth * 8 * (ROW_FIXED as u64 + slots)
+}
+
+/// The tests of a table that fall silent over a window of so many rows: their node numbers, in table order.
+pub fn silent(table: &[u8], rows: u64) -> Result<Vec<u64>, Refusal> {
+    let mut list = vec![0; MOST_NODES];
+    let count = calls::silent(table, rows, &mut list)?;
+    list.truncate(count as usize);
+    Ok(list)
+}
+
+/// The steps of one tree of a table; none where it is absent.
+pub fn translate(table: &[u8], tree: Tree) -> Result<Vec<u8>, Refusal> {
+    let mut room = vec![0; STEP_ROOM * table.len().saturating_sub(HEADER_BYTES).min(MOST_NODES * 16) / 16];
+    let used = calls::translate(table, tree as u64, &mut room)?;
+    room.truncate(used as usize);
+    Ok(room)
+}
+
+#[cfg(test)]
+mod tests {
+    use super::*;
+
+    #[test]
+    fn the_dump_of_the_papers_example_is_1264_bytes() {
+        assert_eq!(dump_bytes(14, 2), 1264);
+    }
+}

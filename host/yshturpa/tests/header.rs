@@ -1,0 +1,134 @@
+//! The wrapper against include/yshturpa.h: every call is there, and every width, limit and number is the header's.
+
+use std::collections::BTreeMap;
+
+use yshturpa::layout::{self, kind, room, setting, state};
+
+fn header() -> String {
+    let text = std::fs::read_to_string(concat!(env!("CARGO_MANIFEST_DIR"), "/../../include/yshturpa.h")).unwrap();
+    let mut plain = String::new();
+    for (place, part) in text.split("/*").enumerate() {
+        plain.push_str(if place == 0 { part } else { part.split_once("*/").unwrap().1 });
+    }
+    plain
+}
+
+/// Every name that the header gives a number to: plain macros, and the cases of its enums.
+fn numbers(header: &str) -> BTreeMap<String, u64> {
+    let mut found = BTreeMap::new();
+    for line in header.lines() {
+        let words: Vec<&str> = line.split_whitespace().collect();
+        if let ["#define", name, value] = words[..] {
+            value.parse().map(|value| found.insert(name.to_owned(), value)).ok();
+        }
+    }
+    for block in header.split("enum {").skip(1) {
+        let mut next = 0;
+        for case in block.split('}').next().unwrap().split(',').map(str::trim).filter(|case| !case.is_empty()) {
+            let (name, value) = match case.split_once('=') {
+                Some((name, value)) => (name.trim(), value.trim().parse().unwrap()),
+                None => (case, next),
+            };
+            found.insert(name.to_owned(), value);
+            next = value + 1;
+        }
+    }
+    found
+}
+
+#[test]
+fn every_call_is_wrapped() {
+    let calls = include_str!("../src/calls.rs");
+    let header = header();
+    let declared: Vec<&str> =
+        header.lines().filter_map(|line| line.strip_prefix("uint64_t ")?.split('(').next()).collect();
+    assert!(declared.len() >= 11, "{declared:?}");
+    for call in declared {
+        assert!(calls.contains(&format!("pub fn {call}(")), "{call} is not declared");
+        assert!(calls.contains(&format!("raw::{call}(")), "{call} is not called");
+    }
+}
+
+#[test]
+fn every_number_is_the_headers() {
+    let numbers = numbers(&header());
+    let small = |values: &[(&'static str, usize)]| values.iter().map(|(n, v)| (*n, *v as u64)).collect::<Vec<_>>();
+    let mut ours = small(&[
+        ("SETTING_WORDS", layout::SETTING_WORDS),
+        ("STATE_WORDS", layout::STATE_WORDS),
+        ("POINT_WORDS", layout::POINT_WORDS),
+        ("TRADE_WORDS", layout::TRADE_WORDS),
+        ("METRIC_WORDS", layout::METRIC_WORDS),
+        ("TABLE_BYTES", layout::TABLE_BYTES),
+        ("MOST_SLOTS", layout::MOST_SLOTS),
+        ("MOST_DEPTH", layout::MOST_DEPTH),
+        ("MOST_REACH", layout::MOST_REACH),
+        ("MOST_NODES", layout::MOST_NODES),
+        ("MOST_NESTING", layout::MOST_NESTING),
+        ("GIVEN", layout::GIVEN),
+        ("SLOTS", setting::SLOTS),
+        ("DEPTH", setting::DEPTH),
+        ("LOOKBACK", setting::LOOKBACK),
+        ("FUNDING", setting::FUNDING),
+        ("STOP_LOSS", setting::STOP_LOSS),
+        ("MAX_POSITION", setting::MAX_POSITION),
+        ("PARTICIPATION", setting::PARTICIPATION),
+        ("BARS_SEEN", state::BARS_SEEN),
+        ("ROWS_HELD", state::ROWS_HELD),
+        ("EQUITY_POINTS", state::EQUITY_POINTS),
+        ("TRADES", state::TRADES),
+        ("ORDER_DELAY", state::ORDER_DELAY),
+        ("ENTRY_BAR", state::ENTRY_BAR),
+        ("QTY", state::QTY),
+        ("EXTREME", state::EXTREME),
+        ("LAST_CLOSE", state::LAST_CLOSE),
+    ]);
+    ours.extend([("ROOM_ROWS", room::ROWS), ("ROOM_SILENT", room::SILENT)].map(|(n, v)| (n, v.into())));
+    let kinds = [
+        ("CONST", kind::CONST),
+        ("REF", kind::REF),
+        ("PRICE", kind::PRICE),
+        ("PREV", kind::PREV),
+        ("DIV", kind::DIV),
+        ("GT", kind::GT),
+        ("NE", kind::NE),
+        ("CROSS_ABOVE", kind::CROSS_ABOVE),
+        ("CROSS_BELOW", kind::CROSS_BELOW),
+        ("BETWEEN", kind::BETWEEN),
+        ("RISING", kind::RISING),
+        ("FALLING", kind::FALLING),
+        ("ALL", kind::ALL),
+        ("ANY", kind::ANY),
+        ("NOT", kind::NOT),
+        ("IN_POSITION", kind::IN_POSITION),
+        ("BARS_SINCE_ENTRY", kind::BARS_SINCE_ENTRY),
+    ];
+    ours.extend(kinds.map(|(n, v)| (n, v.into())));
+    for (name, value) in ours {
+        assert_eq!(numbers.get(&format!("YSH_{name}")), Some(&value), "{name}");
+    }
+}
+
+/// Of a row and a bar the header has functions of K; of a trade, the metrics and the state the last word's name.
+#[test]
+fn widths_that_the_header_says_otherwise() {
+    let header = header();
+    let (bar, row) = (layout::BAR_FIXED, layout::ROW_FIXED);
+    assert!(header.contains(&format!("YSH_BAR_WORDS(slots) ({bar} + (slots))")));
+    assert!(header.contains(&format!("YSH_ROW_WORDS(slots) ({row} + (slots))")));
+    assert!(header.contains(&format!("YSH_STEP_BYTES(nodes) ({} * (nodes))", layout::STEP_ROOM)));
+    let numbers = numbers(&header);
+    assert_eq!(numbers["YSH_NUM_TRADES"] as usize + 1, layout::METRIC_WORDS);
+    assert_eq!(numbers["YSH_REASON_END"], yshturpa::Reason::End as u64);
+}
+
+/// Every refusal that the header names has words here.
+#[test]
+fn every_refusal_has_words() {
+    let numbers = numbers(&header());
+    let refusals = numbers.iter().filter(|(name, _)| name.starts_with("YSH_REFUSED_"));
+    for (name, &number) in refusals {
+        let refusal = yshturpa::Refusal { number: number as u32, place: 0 };
+        assert_ne!(refusal.meaning(), "a number that this wrapper does not know", "{name}");
+    }
+}
