@@ -160,10 +160,10 @@ fn execution(dice: &mut Dice) -> Value {
     let mut fields = Map::new();
     let mut put = |name: &str, value: Value| fields.insert(name.to_owned(), value);
     let needed = dice.percent(90);
-    if dice.percent(30) {
+    if dice.percent(60) {
         put(
             "order_type",
-            json!(dice.pick(&["market", "market", "market", "limit", "stop", "stop_limit"])),
+            json!(dice.pick(&["market", "limit", "stop", "stop_limit"])),
         );
     }
     if dice.percent(20) {

@@ -3,7 +3,7 @@
 use std::collections::BTreeSet;
 
 use crate::rules::condition_lookback;
-use crate::spec::{Condition, FillTiming, Operand, OperandExpr, OrderType, Slippage, StrategySpec};
+use crate::spec::{Condition, FillTiming, Operand, OperandExpr, Slippage, StrategySpec};
 
 /// The trees as the engine of the text asks them: a short exit that is left out beside a short entry is the exit.
 pub fn trees(spec: &StrategySpec) -> [Option<&Condition>; 4] {
@@ -21,9 +21,7 @@ pub fn trees(spec: &StrategySpec) -> [Option<&Condition>; 4] {
 
 /// What has no counterpart in a box.
 pub fn lacking(spec: &StrategySpec) -> bool {
-    matches!(spec.costs.slippage, Slippage::Spread)
-        || spec.execution.order_type != OrderType::Market
-        || spec.execution.fill_timing != FillTiming::NextOpen
+    matches!(spec.costs.slippage, Slippage::Spread) || spec.execution.fill_timing != FillTiming::NextOpen
 }
 
 #[derive(Debug, Default)]

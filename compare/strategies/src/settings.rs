@@ -3,7 +3,7 @@
 use yshturpa::{depth, Settings};
 
 use crate::limits::Size;
-use crate::spec::{Sizing, Slippage, StrategySpec};
+use crate::spec::{OrderType, Sizing, Slippage, StrategySpec};
 use ysh::compile::{self, Rules};
 use ysh::strategy::Strategy;
 
@@ -37,6 +37,8 @@ fn same_words(theirs: &StrategySpec, ours: &Settings) -> bool {
     let risk = &theirs.risk;
     let numbers = [
         (ours.taker_bps, theirs.costs.taker_bps),
+        (ours.maker_bps, theirs.costs.maker_bps),
+        (ours.lot, 0.0),
         (
             ours.max_participation,
             theirs.execution.max_participation.unwrap_or(0.0),
@@ -60,6 +62,22 @@ fn same_words(theirs: &StrategySpec, ours: &Settings) -> bool {
         && levels.iter().all(|(a, b)| bits(*a) == bits(*b))
         && switches.iter().all(|(a, b)| a == b)
         && same_kinds(theirs, ours)
+        && same_order(theirs, ours)
+}
+
+/// The words 20 to 22 of an entry's order: its kind, and the offsets of `entry_trigger`, the first of which is where it triggers.
+fn same_order(theirs: &StrategySpec, ours: &Settings) -> bool {
+    let execution = &theirs.execution;
+    let (limit, stop) = (execution.limit_offset_pct, execution.stop_offset_pct);
+    let wanted = match execution.order_type {
+        OrderType::Market => (0, Some(0.0), Some(0.0)),
+        OrderType::Limit => (1, limit, Some(0.0)),
+        OrderType::Stop => (2, stop, Some(0.0)),
+        OrderType::StopLimit => (3, stop, limit),
+    };
+    let words = ours.words();
+    let found = (words[20], Some(words[21]), Some(words[22]));
+    found == (wanted.0, wanted.1.map(f64::to_bits), wanted.2.map(f64::to_bits))
 }
 
 /// Sizing and slippage, kind and value.

@@ -42,6 +42,9 @@ pub struct Compile {
     /// The cash at the start
     #[arg(long, value_name = "MONEY", default_value = "10000", value_parser = parse_money, allow_hyphen_values = true)]
     pub capital: f64,
+    /// A quantity is a whole number of lots of this size, rounded down; 0 is any quantity
+    #[arg(long, value_name = "SIZE", default_value = "0", value_parser = parse_lot, allow_hyphen_values = true)]
+    pub lot: f64,
     /// The slots in this order, read by a rule or not; left out, they are the names that rules read, by their letters
     #[arg(long, value_name = "NAME", value_delimiter = ',')]
     pub slots: Option<Vec<String>>,
@@ -94,6 +97,13 @@ pub struct Lookback {
 
 fn parse_count(text: &str) -> Result<u64, String> {
     text.parse().map_err(|_| "a whole number from 0 up was expected".to_owned())
+}
+
+fn parse_lot(text: &str) -> Result<f64, String> {
+    match text.parse::<f64>() {
+        Ok(x) if x.is_finite() && x >= 0.0 => Ok(x),
+        _ => Err("a finite number from 0 up was expected".to_owned()),
+    }
 }
 
 fn parse_money(text: &str) -> Result<f64, String> {

@@ -4,11 +4,11 @@
 use std::collections::BTreeMap;
 
 use yshturpa::layout::kind;
-use yshturpa::Tree;
+use yshturpa::{EntryOrder, Tree};
 
 use crate::settings_file::SettingsFile;
 use crate::source::Source;
-use crate::strategy::spec::{Bars, Condition, Costs, Execution, Expr, Indicator, Operand, PriceField};
+use crate::strategy::spec::{Bars, Condition, Costs, Execution, Expr, Indicator, Operand, OrderType, PriceField};
 use crate::strategy::spec::{Risk, Sizing, Strategy, NEWEST};
 use crate::table::Forest;
 
@@ -38,7 +38,12 @@ pub fn strategy(source: &Source) -> Strategy {
 }
 
 fn costs(settings: &SettingsFile) -> Costs {
-    Costs { maker_bps: 0.0, taker_bps: settings.taker_bps, slippage: settings.slippage, funding: settings.funding }
+    Costs {
+        maker_bps: settings.maker_bps,
+        taker_bps: settings.taker_bps,
+        slippage: settings.slippage,
+        funding: settings.funding,
+    }
 }
 
 fn risk(settings: &SettingsFile) -> Risk {
@@ -53,10 +58,19 @@ fn risk(settings: &SettingsFile) -> Risk {
 }
 
 fn execution(settings: &SettingsFile) -> Execution {
+    let (order_type, limit_offset_pct, stop_offset_pct) = match settings.entry_order {
+        EntryOrder::Market => (OrderType::Market, None, None),
+        EntryOrder::Limit { level_pct } => (OrderType::Limit, Some(level_pct), None),
+        EntryOrder::Stop { level_pct } => (OrderType::Stop, None, Some(level_pct)),
+        EntryOrder::StopLimit { stop_pct, limit_pct } => (OrderType::StopLimit, Some(limit_pct), Some(stop_pct)),
+    };
     Execution {
+        order_type,
+        limit_offset_pct,
+        stop_offset_pct,
         latency_bars: settings.delay.try_into().unwrap_or(u32::MAX),
         partial_fills: settings.partial_fills,
-        max_participation: settings.partial_fills.then_some(settings.max_participation),
+        max_participation: Some(settings.max_participation),
         ..Execution::default()
     }
 }

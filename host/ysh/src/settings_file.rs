@@ -3,7 +3,7 @@
 use std::path::{Path, PathBuf};
 
 use serde::{Deserialize, Serialize};
-use yshturpa::Settings;
+use yshturpa::{EntryOrder, Settings};
 
 use crate::problem::Problem;
 use crate::strategy::spec::{Sizing, Slippage};
@@ -29,6 +29,21 @@ pub struct SettingsFile {
     pub liquidation: bool,
     pub partial_fills: bool,
     pub max_participation: f64,
+    #[serde(with = "Entry")]
+    pub entry_order: EntryOrder,
+    pub maker_bps: f64,
+    /// 0: any quantity.
+    pub lot: f64,
+}
+
+/// How an entry order is written.
+#[derive(Serialize, Deserialize)]
+#[serde(remote = "EntryOrder", tag = "type", rename_all = "snake_case")]
+enum Entry {
+    Market,
+    Limit { level_pct: f64 },
+    Stop { level_pct: f64 },
+    StopLimit { stop_pct: f64, limit_pct: f64 },
 }
 
 impl SettingsFile {
@@ -58,6 +73,9 @@ impl SettingsFile {
             liquidation: settings.liquidation,
             partial_fills: settings.partial_fills,
             max_participation: settings.max_participation,
+            entry_order: settings.entry_order,
+            maker_bps: settings.maker_bps,
+            lot: settings.lot,
         }
     }
 

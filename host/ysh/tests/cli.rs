@@ -155,19 +155,54 @@ fn what_has_no_counterpart_is_refused_by_its_path_and_name() {
     let folder = folder("cli-lacking");
     for (part, path, name) in [
         (r#""costs": {"slippage": {"type": "spread"}}"#, "costs.slippage.type", "\"spread\""),
-        (r#""execution": {"order_type": "limit", "limit_offset_pct": 1}"#, "execution.order_type", "\"limit\""),
-        (r#""execution": {"order_type": "stop", "stop_offset_pct": 1}"#, "execution.order_type", "\"stop\""),
-        (
-            r#""execution": {"order_type": "stop_limit", "limit_offset_pct": 1, "stop_offset_pct": 1}"#,
-            "execution.order_type",
-            "\"stop_limit\"",
-        ),
         (r#""execution": {"fill_timing": "close"}"#, "execution.fill_timing", "\"close\""),
     ] {
         let file = put(&folder, "s.json", STRATEGY.replace("\"warmup\": 26", &format!("\"warmup\": 26, {part}")));
         for command in [vec!["depth", &file], vec!["show", &file], vec!["compile", &file, "-o", "/nowhere/t"]] {
             one_line(&command, 2, &[&file, path, name, "no counterpart here"]);
         }
+    }
+}
+
+/// Words 20 to 24 of the settings, and what `show` says of them.
+#[test]
+fn entries_by_their_order_kind() {
+    let folder = folder("cli-entries");
+    let at = |name: &str| folder.join(name).to_str().unwrap().to_owned();
+    for (part, wanted, shown, note) in [
+        ("{}", (0, 0.0, 0.0), "entries  market orders\n", true),
+        (
+            r#"{"order_type": "limit", "limit_offset_pct": -0.5, "stop_offset_pct": 9}"#,
+            (1, -0.5, 0.0),
+            "entries  limit orders 0.5% under the deciding close, maker fee 2.5 bps\n",
+            false,
+        ),
+        (
+            r#"{"order_type": "stop", "limit_offset_pct": 9, "stop_offset_pct": 1.5}"#,
+            (2, 1.5, 0.0),
+            "entries  stop orders 1.5% over the deciding close\n",
+            true,
+        ),
+        (
+            r#"{"order_type": "stop_limit", "limit_offset_pct": 3, "stop_offset_pct": 0}"#,
+            (3, 0.0, 3.0),
+            "entries  stop-limit orders, the stop at the deciding close, the limit 3% over the deciding close\n",
+            true,
+        ),
+    ] {
+        let more = format!("\"warmup\": 26, \"costs\": {{\"maker_bps\": 2.5}}, \"execution\": {part}");
+        let file = put(&folder, "s.json", STRATEGY.replace("\"warmup\": 26", &more));
+        let (table, words) = (at("s.rtb"), at("s.words"));
+        let (status, _, err) = ysh(&["compile", &file, "-o", &table, "--words", &words, "--lot", "0.25"]);
+        assert_eq!((status, err.contains("costs.maker_bps: the maker fee: only a limit order's entry")), (0, note));
+        let words = fs::read(&words).unwrap();
+        let word = |n: usize| u64::from_le_bytes(words[8 * n..8 * n + 8].try_into().unwrap());
+        let float = |n: usize| f64::from_bits(word(n));
+        assert_eq!((word(20), float(21), float(22), float(23), float(24)), (wanted.0, wanted.1, wanted.2, 2.5, 0.25));
+        assert!(ysh(&["show", &file]).1.contains(shown), "{}", ysh(&["show", &file]).1);
+        let lots = shown.replace('\n', "; whole lots of 0.25\n");
+        assert!(ysh(&["show", &table]).1.contains(&lots), "{}", ysh(&["show", &table]).1);
+        assert!(ysh(&["show", "--json", &table]).2.contains("compile this with --lot 0.25"));
     }
 }
 
@@ -274,6 +309,7 @@ fn bad_arguments_get_one_line() {
         (vec!["short", &file, "--rows", "many"], "'many' for '--rows <N>': a whole number from 0 up was expected"),
         (vec!["short", &file], "--rows <N>"),
         (vec!["compile", &file, "-o", "t", "--capital", "NaN"], "a finite number was expected"),
+        (vec!["compile", &file, "-o", "t", "--lot", "-1"], "'-1' for '--lot <SIZE>': a finite number from 0 up"),
         (vec!["frobnicate"], "'frobnicate'"),
     ] {
         one_line(&arguments, 2, &[part]);

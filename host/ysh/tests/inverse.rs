@@ -4,7 +4,7 @@ mod common;
 
 use std::fs;
 
-use common::{folder, table, ysh, Dice};
+use common::{folder, table, ysh, Dice, STRATEGY};
 use ysh::compile::{rules, Choices};
 use ysh::decompile::{condition, slot_names};
 use ysh::strategy::spec::{Costs, Execution, Indicator, Risk, Sizing, Strategy};
@@ -135,6 +135,58 @@ fn the_readable_rules_hold_the_whole_table() {
             assert_eq!(status, 0);
             assert!(table_of(&shown, forest.slots) == table, "{shown}");
         }
+    }
+}
+
+/// What a strategy may say beside its rules, of every kind. An offset that its order does not use is not kept.
+fn settings(dice: &mut Dice) -> String {
+    let mut x = || dice.below(4000) as f64 / 8.0 - 250.0;
+    let sizings = [
+        format!(r#"{{"type": "fixed_fraction", "fraction": {}}}"#, x()),
+        format!(r#"{{"type": "fixed_cash", "cash": {}}}"#, x()),
+        format!(r#"{{"type": "vol_target", "target_vol": {}, "lookback": 33}}"#, x()),
+        format!(r#"{{"type": "risk_per_trade", "risk_pct": {}}}"#, x()),
+    ];
+    let slippages = [
+        format!(r#"{{"type": "fixed_bps", "bps": {}}}"#, x()),
+        format!(r#"{{"type": "volume_impact", "coef": {}}}"#, x()),
+    ];
+    let numbers = [x(), x(), x(), x(), x(), x(), x()];
+    let [maker, taker, limit, stop, loss, trail, share] = numbers;
+    let (sizing, slippage) = (dice.pick(&sizings), dice.pick(&slippages));
+    let order = dice.pick(&["market", "limit", "stop", "stop_limit"]);
+    let (funding, partial) = (dice.percent(50), dice.percent(50));
+    format!(
+        r#""sizing": {sizing},
+        "costs": {{"maker_bps": {maker}, "taker_bps": {taker}, "slippage": {slippage}, "funding": {funding}}},
+        "risk": {{"stop_loss_pct": {loss}, "trailing_stop_pct": {trail}}},
+        "execution": {{"order_type": "{order}", "limit_offset_pct": {limit}, "stop_offset_pct": {stop}, "latency_bars": {},
+            "partial_fills": {partial}, "max_participation": {share}}}"#,
+        dice.below(5)
+    )
+}
+
+/// A strategy compiled, shown from its table and the settings beside it, and compiled again: table, settings file and words are the
+/// same ones.
+#[test]
+fn the_settings_too() {
+    let folder = folder("inverse-settings");
+    let at = |name: &str| folder.join(name).to_str().unwrap().to_owned();
+    let mut dice = Dice(17);
+    let compile = |document: &str, name: &str| {
+        let (table, words) = (at(&format!("{name}.rtb")), at(&format!("{name}.words")));
+        let (status, _, said) = ysh(&["compile", document, "-o", &table, "--words", &words]);
+        assert_eq!(status, 0, "{said}");
+        [table.clone(), format!("{table}.settings.json"), words].map(|path| fs::read(path).unwrap())
+    };
+    for _ in 0..200 {
+        let own = r#""sizing": {"type": "fixed_qty", "qty": 1}"#;
+        fs::write(at("a.json"), STRATEGY.replace(own, &settings(&mut dice))).unwrap();
+        let first = compile(&at("a.json"), "a");
+        let (status, shown, _) = ysh(&["show", "--json", &at("a.rtb")]);
+        assert_eq!(status, 0);
+        fs::write(at("b.json"), shown).unwrap();
+        assert_eq!(compile(&at("b.json"), "b"), first);
     }
 }
 

@@ -19,7 +19,7 @@ mod raw {
         ) -> u64;
         pub fn ysh_finish(
             settings: *const u64, settings_len: usize, state: *mut u64, state_len: usize, rows: *const u64, rows_len: usize,
-            equity: *const u64, equity_len: usize, trades: *mut u64, trades_len: usize, metrics: *mut u64, metrics_len: usize,
+            equity: *mut u64, equity_len: usize, trades: *mut u64, trades_len: usize, metrics: *mut u64, metrics_len: usize,
         ) -> u64;
         pub fn ysh_rule(
             table: *const u8, table_len: usize, tree: u64, rows: *const u64, rows_len: usize,
@@ -119,7 +119,7 @@ pub fn finish(settings: &[u64], rooms: Rooms, metrics: &mut [u64]) -> Answer<()>
             rooms.state.len(),
             rooms.rows.as_ptr(),
             rooms.rows.len(),
-            rooms.equity.as_ptr(),
+            rooms.equity.as_mut_ptr(),
             rooms.equity.len(),
             rooms.trades.as_mut_ptr(),
             rooms.trades.len(),

@@ -76,7 +76,7 @@ impl Engine {
         calls::step(settings, Rooms { state, rows, equity, trades }, words, [entry, exit, short_entry, short_exit])
     }
 
-    /// Closes an open position at the last close, if a bar was seen, and gives the metrics.
+    /// Closes an open position at the last close, if a bar was seen, and gives the metrics. The last equity point counts its fee.
     pub fn finish(&mut self) -> Result<Metrics, Refusal> {
         let mut metrics = [0; METRIC_WORDS];
         let Engine { settings, state, rows, equity, trades, .. } = self;

@@ -5,9 +5,9 @@ pub const SETTING_WORDS: usize = 32;
 pub const GIVEN: usize = 31;
 
 /// Words of the state, of an equity point, of a trade and of the metrics.
-pub const STATE_WORDS: usize = 17;
+pub const STATE_WORDS: usize = 22;
 pub const POINT_WORDS: usize = 2;
-pub const TRADE_WORDS: usize = 8;
+pub const TRADE_WORDS: usize = 10;
 pub const METRIC_WORDS: usize = 9;
 
 /// Words of a kept row, and of a bar as it is handed over, besides their slots.
@@ -55,9 +55,14 @@ pub mod setting {
     pub const LIQUIDATION: usize = 17;
     pub const PARTIAL_FILLS: usize = 18;
     pub const PARTICIPATION: usize = 19;
+    pub const ENTRY_KIND: usize = 20;
+    pub const LEVEL_PCT: usize = 21;
+    pub const LIMIT_PCT: usize = 22;
+    pub const MAKER_BPS: usize = 23;
+    pub const LOT: usize = 24;
 
-    /// What each is called; a number beyond these is kept for later or spare.
-    pub const NAMES: [&str; 20] = [
+    /// What each is called; a number beyond these is spare.
+    pub const NAMES: [&str; 25] = [
         "slots (K)",
         "depth (D)",
         "capital",
@@ -78,6 +83,11 @@ pub mod setting {
         "liquidation",
         "partial fills",
         "participation",
+        "order kind of an entry",
+        "level of an entry",
+        "limit of a stop-limit",
+        "maker fee",
+        "lot",
     ];
 }
 
@@ -100,6 +110,11 @@ pub mod state {
     pub const EXTREME: usize = 14;
     pub const LAST_TIME: usize = 15;
     pub const LAST_CLOSE: usize = 16;
+    pub const ORDER_KIND: usize = 17;
+    pub const ORDER_LEVEL: usize = 18;
+    pub const ORDER_LIMIT: usize = 19;
+    pub const OPEN_FUNDING: usize = 20;
+    pub const OPEN_WORST: usize = 21;
 }
 
 /// Rooms, by number: the place of refusal 10.

@@ -25,8 +25,8 @@ pub use refusal::Refusal;
 pub use results::{metrics, Metrics, Point, Reason, Trade};
 pub use rule::{rule, run, Ran};
 pub use saved::Saved;
-pub use settings::{Settings, Sizing, Slippage};
-pub use state::{Order, Position, State};
+pub use settings::{EntryOrder, Settings, Sizing, Slippage};
+pub use state::{Order, OrderLevel, Position, State};
 pub use table::{check, depth, dump_bytes, silent, slots_of, translate, Accepted, Depth, Tree};
 
 /// The square root, correctly rounded, computed from the bits alone.

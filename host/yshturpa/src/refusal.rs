@@ -46,7 +46,7 @@ impl Refusal {
                 Some((_, name)) => format!("the room for {name}"),
                 None => format!("room {place}"),
             }),
-            11 => Some(format!("bar {place}")),
+            11 | 16 => Some(format!("bar {place}")),
             12 => Some(match setting::NAMES.get(place as usize) {
                 Some(name) => format!("setting {place}, {name}"),
                 None => format!("setting {place}"),
@@ -81,7 +81,7 @@ impl fmt::Display for Refusal {
 impl std::error::Error for Refusal {}
 
 /// Number, what it says, and what commonly causes it, as the header has them.
-const WORDS: [(u32, &str, &str); 15] = [
+const WORDS: [(u32, &str, &str); 16] = [
     (1, "the table is under 16 bytes", "an empty file, or a length that is not the table's"),
     (2, "the first three bytes are not RTB", "it is no rule table"),
     (3, "the table's version is not 1", "a later format, or written with the high byte first"),
@@ -110,7 +110,7 @@ const WORDS: [(u32, &str, &str); 15] = [
         10,
         "a room is too small",
         "rows laid out for another D or K than the settings say; room for steps sized by steps and not by nodes; settings of \
-         an older header, with fewer words",
+         an older header, with fewer words, or a state of one",
     ),
     (
         11,
@@ -131,6 +131,12 @@ const WORDS: [(u32, &str, &str); 15] = [
         "translated from a table with more slots than K or that looks further back than D allows; the whole room was handed \
          over and not the part that is used",
     ),
+    (
+        16,
+        "an entry is due, and its quantity is 2^53 lots or more",
+        "a lot in other units than the quantity, or far too small a one; the same order is due again at the next step, and \
+         another lot, sizing or cap, or another price, lets the run go on",
+    ),
 ];
 
 fn setting_causes(place: u32) -> &'static str {
@@ -138,6 +144,15 @@ fn setting_causes(place: u32) -> &'static str {
         setting::SLOTS => "more than 64 slots",
         setting::DEPTH => "D is 0, above 4,096, or not above the lookback of a volatility target",
         setting::SIZING_KIND | setting::SLIPPAGE_KIND => "a kind that does not exist",
+        setting::ENTRY_KIND => "a kind that does not exist; a word that was spare in an older header and was not cleared",
+        setting::LEVEL_PCT | setting::LIMIT_PCT => {
+            "a percentage that is not finite, even where the order kind does not use it; a word that was spare in an older \
+             header and was not cleared"
+        }
+        setting::MAKER_BPS => "a number that is not finite; a word that was spare in an older header and was not cleared",
+        setting::LOT => {
+            "a lot that is negative or not finite; a word that was spare in an older header and was not cleared"
+        }
         setting::LOOKBACK => "a lookback above 4,095",
         setting::STOP_LOSS => "risk sizing without a stop loss, or one that is not finite",
         _ => "a number that is not finite",
@@ -153,15 +168,20 @@ mod tests {
         let said = |number, place| Refusal { number, place }.to_string();
         assert_eq!(said(6, 2), "refused 6 at 2 (node 2): a node's own bytes are wrong");
         assert_eq!(said(12, 1), "refused 12 at 1 (setting 1, depth (D)): a setting is wrong");
+        assert_eq!(said(12, 24), "refused 12 at 24 (setting 24, lot): a setting is wrong");
+        assert_eq!(said(16, 5), "refused 16 at 5 (bar 5): an entry is due, and its quantity is 2^53 lots or more");
         assert_eq!(said(10, 0), "refused 10 at 0 (the room for rows): a room is too small");
         assert_eq!(said(15, 1027), "refused 15 at 1027 (step 3 of the exit): a list of steps is not well formed");
         assert!(format!("{:#}", Refusal { number: 12, place: 1 })
             .ends_with("not above the lookback of a volatility target"));
+        for place in 20..=24 {
+            assert!(Refusal { number: 12, place }.causes().ends_with("header and was not cleared"), "{place}");
+        }
     }
 
     #[test]
     fn every_number_has_words() {
-        for number in 1..=15 {
+        for number in 1..=16 {
             let refusal = Refusal { number, place: 0 };
             assert!(refusal.entry().is_some() && !refusal.causes().is_empty());
         }

@@ -55,6 +55,10 @@ pub struct Trade {
     pub pnl: f64,
     pub return_pct: f64,
     pub reason: Reason,
+    /// Funding paid during it, which is not part of the pnl; below 0 it was received.
+    pub funding: f64,
+    /// The least favourable price, from the entry bar to the closing bar.
+    pub worst: f64,
 }
 
 impl Trade {
@@ -69,13 +73,16 @@ impl Trade {
             pnl: x(5),
             return_pct: x(6),
             reason: Reason::of(words[7]),
+            funding: x(8),
+            worst: x(9),
         }
     }
 
     fn words(&self) -> [u64; TRADE_WORDS] {
         let [a, b, c, d, e] =
             [self.entry_price, self.exit_price, self.qty, self.pnl, self.return_pct].map(f64::to_bits);
-        [self.entry_time as u64, self.exit_time as u64, a, b, c, d, e, self.reason as u64]
+        let [funding, worst] = [self.funding, self.worst].map(f64::to_bits);
+        [self.entry_time as u64, self.exit_time as u64, a, b, c, d, e, self.reason as u64, funding, worst]
     }
 }
 
@@ -134,6 +141,8 @@ mod tests {
             pnl: -3.0,
             return_pct: 0.25,
             reason: Reason::TakeProfit,
+            funding: -0.5,
+            worst: 1.25,
         };
         assert_eq!(Trade::of(&trade.words()), trade);
     }

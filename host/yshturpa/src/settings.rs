@@ -12,6 +12,19 @@ pub enum Sizing {
     RiskPerTrade(f64),
 }
 
+impl Sizing {
+    /// The kind and its value.
+    fn parts(self) -> (u64, f64) {
+        match self {
+            Sizing::FixedFraction(x) => (0, x),
+            Sizing::FixedQty(x) => (1, x),
+            Sizing::FixedCash(x) => (2, x),
+            Sizing::VolTarget { target, .. } => (3, target),
+            Sizing::RiskPerTrade(x) => (4, x),
+        }
+    }
+}
+
 /// How far a fill is from the price it is made at.
 #[derive(Clone, Copy, Debug, PartialEq)]
 pub enum Slippage {
@@ -19,7 +32,38 @@ pub enum Slippage {
     VolumeImpact(f64),
 }
 
-/// What a run is made with. `Settings::new` has no costs, no levels and no delay.
+impl Slippage {
+    /// The kind and its value.
+    fn parts(self) -> (u64, f64) {
+        match self {
+            Slippage::FixedBps(x) => (0, x),
+            Slippage::VolumeImpact(x) => (1, x),
+        }
+    }
+}
+
+/// When an entry fills. Levels are percent over the deciding bar's close, under it where they are negative, for both sides.
+#[derive(Clone, Copy, Debug, PartialEq)]
+pub enum EntryOrder {
+    Market,
+    Limit { level_pct: f64 },
+    Stop { level_pct: f64 },
+    StopLimit { stop_pct: f64, limit_pct: f64 },
+}
+
+impl EntryOrder {
+    /// The order kind, its level and its limit; 0 where it has none.
+    fn parts(self) -> (u64, f64, f64) {
+        match self {
+            EntryOrder::Market => (0, 0.0, 0.0),
+            EntryOrder::Limit { level_pct } => (1, level_pct, 0.0),
+            EntryOrder::Stop { level_pct } => (2, level_pct, 0.0),
+            EntryOrder::StopLimit { stop_pct, limit_pct } => (3, stop_pct, limit_pct),
+        }
+    }
+}
+
+/// What a run is made with. `Settings::new` has no costs, no levels and no delay, market entries, and any quantity.
 #[derive(Clone, Debug, PartialEq)]
 pub struct Settings {
     pub slots: usize,
@@ -39,6 +83,11 @@ pub struct Settings {
     pub liquidation: bool,
     pub partial_fills: bool,
     pub max_participation: f64,
+    pub entry_order: EntryOrder,
+    /// The fee of a limit's entry; every other fill pays `taker_bps`.
+    pub maker_bps: f64,
+    /// A quantity is a whole number of lots; 0: any quantity.
+    pub lot: f64,
 }
 
 impl Settings {
@@ -61,6 +110,9 @@ impl Settings {
             liquidation: false,
             partial_fills: false,
             max_participation: 0.0,
+            entry_order: EntryOrder::Market,
+            maker_bps: 0.0,
+            lot: 0.0,
         }
     }
 
@@ -74,17 +126,9 @@ impl Settings {
 
     /// The settings as their words: what a box hands to the library.
     pub fn words(&self) -> [u64; SETTING_WORDS] {
-        let (sizing, size) = match self.sizing {
-            Sizing::FixedFraction(x) => (0, x),
-            Sizing::FixedQty(x) => (1, x),
-            Sizing::FixedCash(x) => (2, x),
-            Sizing::VolTarget { target, .. } => (3, target),
-            Sizing::RiskPerTrade(x) => (4, x),
-        };
-        let (slippage, slip) = match self.slippage {
-            Slippage::FixedBps(x) => (0, x),
-            Slippage::VolumeImpact(x) => (1, x),
-        };
+        let (sizing, size) = self.sizing.parts();
+        let (slippage, slip) = self.slippage.parts();
+        let (order, level, limit) = self.entry_order.parts();
         let mut words = [0; SETTING_WORDS];
         words[setting::SLOTS] = self.slots as u64;
         words[setting::DEPTH] = self.depth as u64;
@@ -107,6 +151,11 @@ impl Settings {
         words[setting::LIQUIDATION] = self.liquidation as u64;
         words[setting::PARTIAL_FILLS] = self.partial_fills as u64;
         words[setting::PARTICIPATION] = self.max_participation.to_bits();
+        words[setting::ENTRY_KIND] = order;
+        words[setting::LEVEL_PCT] = level.to_bits();
+        words[setting::LIMIT_PCT] = limit.to_bits();
+        words[setting::MAKER_BPS] = self.maker_bps.to_bits();
+        words[setting::LOT] = self.lot.to_bits();
         words
     }
 

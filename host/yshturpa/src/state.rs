@@ -10,6 +10,15 @@ pub enum Order {
     Exit,
 }
 
+/// What a working entry waits for, in prices. A market order waits for none.
+#[derive(Clone, Copy, Debug, PartialEq)]
+pub enum OrderLevel {
+    Market,
+    Limit { level: f64 },
+    Stop { level: f64 },
+    StopLimit { stop: f64, limit: f64 },
+}
+
 /// What the position rules look at.
 #[derive(Clone, Copy, Debug, PartialEq, Default)]
 pub struct Position {
@@ -56,6 +65,17 @@ impl State {
         Some((order, self.words[state::ORDER_DELAY]))
     }
 
+    /// What the working order waits for; a market order's nothing for an exit, and where there is no order.
+    pub fn order_level(&self) -> OrderLevel {
+        let (level, limit) = (self.float(state::ORDER_LEVEL), self.float(state::ORDER_LIMIT));
+        match self.words[state::ORDER_KIND] {
+            1 => OrderLevel::Limit { level },
+            2 => OrderLevel::Stop { level },
+            3 => OrderLevel::StopLimit { stop: level, limit },
+            _ => OrderLevel::Market,
+        }
+    }
+
     pub fn position(&self) -> Position {
         Position {
             qty: self.float(state::QTY),
@@ -95,6 +115,16 @@ impl State {
 
     pub fn last_close(&self) -> f64 {
         self.float(state::LAST_CLOSE)
+    }
+
+    /// What the open trade has paid in funding; below 0 it was received.
+    pub fn open_funding(&self) -> f64 {
+        self.float(state::OPEN_FUNDING)
+    }
+
+    /// The least favourable price of the open trade so far.
+    pub fn open_worst(&self) -> f64 {
+        self.float(state::OPEN_WORST)
     }
 
     fn float(&self, word: usize) -> f64 {

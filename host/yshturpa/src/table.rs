@@ -59,7 +59,8 @@ pub fn dump_bytes(depth: u64, slots: u64) -> u64 {
     256 + depth * 8 * (ROW_FIXED as u64 + slots)
 }
 
-/// The tests of a table that fall silent over a window of so many rows: their node numbers, in table order.
+/// The tests that answer no over a window of so many rows, whatever the rows hold, by the numbers of their nodes in table order. A
+/// test is a comparison, a cross, Between, Rising or Falling. There are none where `rows` is at least what [`check`] says.
 pub fn silent(table: &[u8], rows: u64) -> Result<Vec<u64>, Refusal> {
     let mut list = vec![0; MOST_NODES];
     let count = calls::silent(table, rows, &mut list)?;

@@ -73,6 +73,11 @@ fn every_number_is_the_headers() {
         ("STOP_LOSS", setting::STOP_LOSS),
         ("MAX_POSITION", setting::MAX_POSITION),
         ("PARTICIPATION", setting::PARTICIPATION),
+        ("ENTRY_KIND", setting::ENTRY_KIND),
+        ("LEVEL_PCT", setting::LEVEL_PCT),
+        ("LIMIT_PCT", setting::LIMIT_PCT),
+        ("MAKER_BPS", setting::MAKER_BPS),
+        ("LOT", setting::LOT),
         ("BARS_SEEN", state::BARS_SEEN),
         ("ROWS_HELD", state::ROWS_HELD),
         ("EQUITY_POINTS", state::EQUITY_POINTS),
@@ -82,6 +87,11 @@ fn every_number_is_the_headers() {
         ("QTY", state::QTY),
         ("EXTREME", state::EXTREME),
         ("LAST_CLOSE", state::LAST_CLOSE),
+        ("ORDER_KIND", state::ORDER_KIND),
+        ("ORDER_LEVEL", state::ORDER_LEVEL),
+        ("ORDER_LIMIT", state::ORDER_LIMIT),
+        ("OPEN_FUNDING", state::OPEN_FUNDING),
+        ("OPEN_WORST", state::OPEN_WORST),
     ]);
     ours.extend([("ROOM_ROWS", room::ROWS), ("ROOM_SILENT", room::SILENT)].map(|(n, v)| (n, v.into())));
     let kinds = [
@@ -119,6 +129,9 @@ fn widths_that_the_header_says_otherwise() {
     assert!(header.contains(&format!("YSH_STEP_BYTES(nodes) ({} * (nodes))", layout::STEP_ROOM)));
     let numbers = numbers(&header);
     assert_eq!(numbers["YSH_NUM_TRADES"] as usize + 1, layout::METRIC_WORDS);
+    assert_eq!(numbers["YSH_TRADE_WORST"] as usize + 1, layout::TRADE_WORDS);
+    assert_eq!(numbers["YSH_OPEN_WORST"] as usize + 1, layout::STATE_WORDS);
+    assert_eq!(numbers["YSH_LOT"] as usize + 1, setting::NAMES.len());
     assert_eq!(numbers["YSH_REASON_END"], yshturpa::Reason::End as u64);
 }
 

@@ -33,6 +33,7 @@ fn compiled(asked: &Compile) -> Result<Answer, Problem> {
     let warmup = warmup(&file, strategy, asked.warmup)?;
     let rules = Rules { table: source.table.clone(), names: source.names.clone(), paths: source.paths.clone() };
     let settings = settings(strategy, &rules, warmup, asked.capital).map_err(|stopped| Problem::of(&file, stopped))?;
+    let settings = Settings { lot: asked.lot, ..settings };
     write(asked, strategy, &rules, &settings)?;
     let mut answer = report(&source, &source.size()?, &asked.output);
     answer.notes(&file, &source.notes);

@@ -1,11 +1,12 @@
 //! `ysh show`: a table or a strategy as readable rules, a node a line.
 
-use yshturpa::{Refusal, Tree};
+use yshturpa::{EntryOrder, Refusal, Tree};
 
 use super::Answer;
 use crate::cli::Show;
 use crate::columns::{columns, counted, grouped, Side};
 use crate::commands::depth::why;
+use crate::compile::entry_order_of;
 use crate::decompile;
 use crate::problem::Problem;
 use crate::source::Source;
@@ -38,8 +39,37 @@ fn head(source: &Source, answer: &mut Answer) -> Result<(), Problem> {
     answer.line(format!("{}: {nodes}, {slots}, a window of {window}, {bytes} bytes", source.file));
     let why = why(source).map_err(|refusal| source.refused(refusal))?;
     answer.line(format!("deepest  {why}"));
+    if let Some(line) = entries(source) {
+        answer.line(format!("entries  {line}"));
+    }
     answer.line("*        marks the way to what reaches deepest in its tree");
     Ok(())
+}
+
+/// When an entry fills, what a limit's pays, and what a quantity is a whole number of; none for a table without settings.
+fn entries(source: &Source) -> Option<String> {
+    let (order, maker_bps, lot) = match (&source.strategy, &source.settings) {
+        (Some(strategy), _) => (entry_order_of(&strategy.execution), strategy.costs.maker_bps, 0.0),
+        (None, Some(settings)) => (settings.entry_order, settings.maker_bps, settings.lot),
+        (None, None) => return None,
+    };
+    let said = match order {
+        EntryOrder::Market => "market orders".to_owned(),
+        EntryOrder::Limit { level_pct } => format!("limit orders {}, maker fee {maker_bps} bps", beside(level_pct)),
+        EntryOrder::Stop { level_pct } => format!("stop orders {}", beside(level_pct)),
+        EntryOrder::StopLimit { stop_pct, limit_pct } => {
+            format!("stop-limit orders, the stop {}, the limit {}", beside(stop_pct), beside(limit_pct))
+        }
+    };
+    Some(if lot == 0.0 { said } else { format!("{said}; whole lots of {lot}") })
+}
+
+/// Where a level stands.
+fn beside(pct: f64) -> String {
+    match pct {
+        0.0 => "at the deciding close".to_owned(),
+        _ => format!("{}% {} the deciding close", pct.abs(), if pct > 0.0 { "over" } else { "under" }),
+    }
 }
 
 /// Each tree: its nodes with their numbers and reaches, the way to what reaches deepest marked with a star.
@@ -101,6 +131,10 @@ fn document(source: &Source) -> Result<Answer, Problem> {
     if source.strategy.is_none() && strategy.short_entry.is_some() && strategy.short_exit.is_none() {
         let note = "the table has no short exit: compile this with --absent-short-exit to have the same table again";
         answer.notes(&source.file, &[note.to_owned()]);
+    }
+    if let Some(lot) = source.settings.as_ref().map(|settings| settings.lot).filter(|lot| *lot != 0.0) {
+        let note = format!("a strategy says no lot: compile this with --lot {lot} to have the same settings again");
+        answer.notes(&source.file, &[note]);
     }
     answer.line(serde_json::to_string_pretty(&strategy).expect("a strategy is JSON"));
     Ok(answer)

@@ -1,6 +1,6 @@
-//! The settings of a strategy, and the same sizing and slippage in the library's records.
+//! The settings of a strategy, and the same sizing, slippage and order kind in the library's records.
 
-use yshturpa::{depth, Settings};
+use yshturpa::{depth, EntryOrder, Settings};
 
 use super::{Rules, Stopped};
 use crate::strategy::spec::{self, Strategy};
@@ -26,7 +26,22 @@ pub fn settings(strategy: &Strategy, rules: &Rules, warmup: u64, capital: f64) -
     settings.liquidation = strategy.risk.liquidation;
     settings.partial_fills = strategy.execution.partial_fills;
     settings.max_participation = strategy.execution.max_participation.unwrap_or(0.0);
+    settings.entry_order = entry_order_of(&strategy.execution);
+    settings.maker_bps = strategy.costs.maker_bps;
     Ok(settings)
+}
+
+/// The order kind with the offsets that it uses: a stop-limit's first percentage is its stop, its second its limit. An offset that
+/// the kind does not use is left out, and so is one that `validate` would have asked for, as in the original.
+pub fn entry_order_of(execution: &spec::Execution) -> EntryOrder {
+    let limit_pct = execution.limit_offset_pct.unwrap_or(0.0);
+    let stop_pct = execution.stop_offset_pct.unwrap_or(0.0);
+    match execution.order_type {
+        spec::OrderType::Market => EntryOrder::Market,
+        spec::OrderType::Limit => EntryOrder::Limit { level_pct: limit_pct },
+        spec::OrderType::Stop => EntryOrder::Stop { level_pct: stop_pct },
+        spec::OrderType::StopLimit => EntryOrder::StopLimit { stop_pct, limit_pct },
+    }
 }
 
 fn sizing_of(sizing: spec::Sizing) -> yshturpa::Sizing {

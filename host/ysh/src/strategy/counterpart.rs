@@ -13,30 +13,12 @@ struct Row {
 }
 
 /// Refused: the box would do something else than the document says.
-const LACKING: [Row; 5] = [
+const LACKING: [Row; 2] = [
     Row {
         path: "costs.slippage.type",
         name: "spread",
         there: |s| s.costs.slippage == Slippage::Spread,
         why: "a box has no order book; fixed_bps or volume_impact was expected",
-    },
-    Row {
-        path: "execution.order_type",
-        name: "limit",
-        there: |s| s.execution.order_type == OrderType::Limit,
-        why: "a box places market orders; market was expected",
-    },
-    Row {
-        path: "execution.order_type",
-        name: "stop",
-        there: |s| s.execution.order_type == OrderType::Stop,
-        why: "a box places market orders; market was expected",
-    },
-    Row {
-        path: "execution.order_type",
-        name: "stop_limit",
-        there: |s| s.execution.order_type == OrderType::StopLimit,
-        why: "a box places market orders; market was expected",
     },
     Row {
         path: "execution.fill_timing",
@@ -47,12 +29,19 @@ const LACKING: [Row; 5] = [
 ];
 
 /// Told: carried over, with a difference that docs/DIFFERENCES.md describes, or of no effect.
-const DIFFERENT: [Row; 4] = [
+const DIFFERENT: [Row; 5] = [
     Row {
         path: "execution.latency_bars",
         name: "an exit order with latency",
         there: |s| s.execution.latency_bars > 0,
         why: "an exit order that waits is kept; the original decides it anew on every bar (docs/DIFFERENCES.md, 2)",
+    },
+    Row {
+        path: "execution.order_type",
+        name: "stop_limit",
+        there: |s| s.execution.order_type == OrderType::StopLimit,
+        why: "on a bar whose low is over its open, or whose high is under it, one fills here that works on in the original \
+              (docs/DIFFERENCES.md, 13)",
     },
     Row {
         path: "costs.funding",
@@ -63,8 +52,8 @@ const DIFFERENT: [Row; 4] = [
     Row {
         path: "costs.maker_bps",
         name: "the maker fee",
-        there: |s| s.costs.maker_bps != 0.0,
-        why: "no market order pays it, so it has no effect",
+        there: |s| s.costs.maker_bps != 0.0 && s.execution.order_type != OrderType::Limit,
+        why: "only a limit order's entry pays it, so it has no effect, as in the original",
     },
     Row {
         path: "short_exit",
