@@ -3,7 +3,8 @@
 use yshturpa::layout::STATE_WORDS;
 use yshturpa::{check, depth, metrics, root, rule, run, silent, translate};
 use yshturpa::{
-    Bar, Engine, Error, Funding, Metrics, Order, Reason, Refusal, Rows, Saved, Settings, Sizing, Slippage, Tree,
+    Bar, Engine, EntryOrder, Error, Funding, Metrics, Order, OrderLevel, Reason, Refusal, Rows, Saved, Settings,
+    Sizing, Slippage, Tree,
 };
 
 const FAST: usize = 3;
@@ -73,6 +74,7 @@ fn the_run_is_that_of_the_c_example() {
     let trades: Vec<_> = engine.trades().collect();
     assert_eq!(trades.len(), 3);
     assert_eq!((trades[0].entry_time, trades[0].exit_time, trades[0].reason), (1_200_000, 1_620_000, Reason::Signal));
+    assert_eq!((trades[0].worst, trades[1].worst, trades[2].worst, trades[0].funding), (108.75, 112.75, 116.75, 0.0));
     assert_eq!(
         format!("{:.6} {:.6} {:.6}", found.pnl, found.sharpe, found.max_drawdown),
         "828.642926 0.344383 1.135846"
@@ -186,6 +188,67 @@ fn a_rule_is_asked_by_its_tree_and_by_its_steps() {
 }
 
 #[test]
+fn the_last_equity_point_counts_the_closing_fee() {
+    let mut engine = Engine::new(&table(), &settings(3), BARS, 32).unwrap();
+    (0..25).for_each(|i| engine.step(&bar(i)).unwrap());
+    let (before, held) = (engine.equity().last().unwrap(), engine.state().position().qty);
+    engine.finish().unwrap();
+    let after = engine.equity().last().unwrap();
+    assert!(held > 0.0 && engine.equity().count() == 25);
+    assert!(after.time == before.time && after.equity < before.equity, "{before:?} {after:?}");
+}
+
+#[test]
+fn an_entry_waits_for_its_level() {
+    let mut at_limit = settings(3);
+    at_limit.entry_order = EntryOrder::Limit { level_pct: -1.0 };
+    at_limit.maker_bps = 1.0;
+    let mut engine = Engine::new(&table(), &at_limit, BARS, 32).unwrap();
+    let (mut decided, mut waited) = (None, 0);
+    for i in 0..BARS {
+        engine.step(&bar(i)).unwrap();
+        match engine.state().order() {
+            Some((Order::Long, 0)) => {
+                let close: f64 = *decided.get_or_insert(close_of(i));
+                let level = close * (1.0 + -1.0 / 100.0);
+                assert_eq!(engine.state().order_level(), OrderLevel::Limit { level });
+                waited += 1;
+            }
+            _ => {
+                assert_eq!(engine.state().order_level(), OrderLevel::Market);
+                decided = None;
+            }
+        }
+    }
+    assert!(waited > 1, "{waited}");
+}
+
+#[test]
+fn an_order_kind_is_its_words() {
+    let words = |entry_order| Settings { entry_order, maker_bps: 3.0, lot: 0.5, ..settings(3) }.words();
+    let bits = |kind, rest: [f64; 4]| [&[kind][..], &rest.map(f64::to_bits)].concat();
+    assert_eq!(words(EntryOrder::Market)[20..25], bits(0, [0.0, 0.0, 3.0, 0.5]));
+    assert_eq!(words(EntryOrder::Limit { level_pct: -1.0 })[20..25], bits(1, [-1.0, 0.0, 3.0, 0.5]));
+    assert_eq!(words(EntryOrder::Stop { level_pct: 1.0 })[20..25], bits(2, [1.0, 0.0, 3.0, 0.5]));
+    let both = EntryOrder::StopLimit { stop_pct: 1.0, limit_pct: 2.0 };
+    assert_eq!(words(both)[20..25], bits(3, [1.0, 2.0, 3.0, 0.5]));
+}
+
+#[test]
+fn quantities_are_whole_lots() {
+    let run = |lot: f64| {
+        let mut engine = Engine::new(&table(), &Settings { lot, ..settings(3) }, BARS, 32).unwrap();
+        let refused = (0..BARS).find_map(|i| engine.step(&bar(i)).err());
+        (engine, refused)
+    };
+    let (engine, refused) = run(10.0);
+    assert!(refused.is_none() && engine.trades().count() > 0 && engine.trades().all(|trade| trade.qty == 40.0));
+    let (engine, refused) = run(1e-15);
+    assert_eq!((refused, engine.state().bars_seen()), (Some(Refusal { number: 16, place: 20 }), 20));
+    assert_eq!(run(-1.0).1, Some(Refusal { number: 12, place: 24 }));
+}
+
+#[test]
 fn the_state_by_name() {
     let mut held = settings(3);
     held.funding = true;
@@ -202,4 +265,5 @@ fn the_state_by_name() {
     assert_eq!((state.last_time(), state.last_close()), (59 * 60_000, close_of(59)));
     assert!(state.fees_paid() > 0.0 && state.cash() > 0.0 && state.entry_price() > 100.0);
     assert_eq!(state.rows_held(), 3);
+    assert!(engine.trades().all(|trade| trade.funding > 0.0 && trade.worst < trade.entry_price));
 }
