@@ -80,12 +80,13 @@ fn trees(source: &Source, reaches: &[u64], answer: &mut Answer) -> Result<(), Re
         let rows = counted(way.reach + 1, "row", "rows");
         answer.line(format!("\n{}: reaches {} back, needs {rows}", tree.name(), counted(way.reach, "bar", "bars")));
         let mut lines = Vec::new();
-        for node in root..forest.end(root) {
+        let end = forest.end(root);
+        for (node, reach) in (root..end).zip(&reaches[root..end]) {
             let star = if way.reach > 0 && way.path.contains(&node) { "*" } else { "" };
             let indent = "  ".repeat(forest.path(node).len() - 1);
             let said = if forest.nodes[node].is_test() { words.whole(node) } else { String::new() };
             let label = format!("{indent}{}", words.label(node));
-            lines.push(vec![star.to_owned(), node.to_string(), reaches[node].to_string(), label, said]);
+            lines.push(vec![star.to_owned(), node.to_string(), reach.to_string(), label, said]);
         }
         let heads = [("", Side::Left), ("node", Side::Right), ("reach", Side::Right), ("rule", Side::Left)];
         columns(&[&heads[..], &[("in words", Side::Left)]].concat(), &lines).iter().for_each(|line| answer.line(line));
