@@ -4,7 +4,8 @@ use std::io::{self, Write};
 use std::process::ExitCode;
 
 fn main() -> ExitCode {
-    let (mut out, mut err) = (io::BufWriter::new(io::stdout().lock()), io::stderr().lock());
+    // Neither is locked for the whole run: the progress bar writes to standard error meanwhile, from another thread.
+    let (mut out, mut err) = (io::BufWriter::new(io::stdout()), io::stderr());
     let status = ysh::run(std::env::args_os(), &mut out, &mut err);
     // A reader that has gone (`ysh show .. | head`) is no failure.
     let _ = out.flush();
