@@ -17,7 +17,7 @@ use Rattle.portfolio.specs.declared.Closed.{Closed}
 use Rattle.portfolio.specs.declared.Portfolio.{Portfolio}
 use Rattle.portfolio.specs.declared.Trade.{Trade}
 use Rattle.portfolio.specs.Portfolio.{fresh, inPosition, isLong, funded, worse, worsened, entered, tradeOf, exited}
-use Rattle.portfolio.specs.Trade.{signal}
+use Rattle.portfolio.specs.Trade.{signal, end}
 use Rattle.execution.specs.declared.Entry.{Entry}
 use Rattle.execution.specs.declared.Entry.the-variants.{NoEntry, Entered}
 use Rattle.execution.specs.declared.Entry.the-variants as Entry
@@ -45,6 +45,8 @@ use Rattle.records.specs.Bar.{candleOf, fundingOf}
 use Rattle.records.specs.Lent.{Lists, Rooms}
 use Rattle.records.specs.State.{freshState}
 use Rattle.refusals.specs.declared.verdict.Verdict.the-variants.{Fine}
+use Rattle.refusals.specs.Laws.Lines.{and-true}
+use Rattle.refusals.specs.Rooms.{toClose}
 use Rattle.engine.specs.declared.account.Due.{Due}
 use Rattle.engine.specs.declared.account.Due.the-variants.{Waits, Enters, Leaves}
 use Rattle.engine.specs.declared.account.Filled.{Filled}
@@ -52,6 +54,7 @@ use Rattle.engine.specs.Account as Account
 use Rattle.engine.specs.Account.{leaving, facing, entering, dueOf, doneOf, filled, intrabar, charged}
 use Rattle.engine.specs.Books.{Point, tradesOf}
 use Rattle.engine.specs.Boxes.{Grown, Follows}
+use Rattle.engine.specs.Finish.{lastExit}
 use Rattle.engine.specs.During.{worstOver, paidWith, paidOver}
 use Rattle.engine.specs.Laws.OneTrade.{closed-is-flat}
 use Rattle.engine.specs.Laws.Follows.{run-follows, step-grows}
@@ -463,6 +466,13 @@ run-lives s asked (bar ∷ more) bars a rows l =
 
 -- ---- a box
 
+box-lives : (s : Settings) (ls : Lists) (m : Rooms) (bars : List (List ℕ))
+    → let r = runOver s ls (freshState s) m bars in
+    Lives s (take (r .done) bars) (accountOf (r .state))
+box-lives s ls m bars =
+    let whole = run-follows s ls bars (freshState s) m (accountOf (freshState s)) [] (fresh-follows s m) .follows in
+    rw (whole .account) (run-lives s (byLists s ls) _ [] (accountOf (freshState s)) [] (fresh-lives s))
+
 -- what the next bar adds to the books of a box, each trade as recorded
 pub record Adds (s : Settings) (bars : List (List ℕ)) (bar : List ℕ) (t : State) (m : Rooms) (u : State) (n : Rooms) : Type 0 where
   pub points : List Point
@@ -481,8 +491,7 @@ recorded s ls m bars bar fine =
     let done = take (r .done) bars in
     let whole = run-follows s ls bars (freshState s) m (accountOf (freshState s)) [] (fresh-follows s m) .follows in
     let here : Follows s (r .state) (r .rooms) (accountOf (r .state)) (rowsOf s done) = record { account = refl; window = whole .window } in
-    let lives : Lives s done (accountOf (r .state)) =
-    rw (whole .account) (run-lives s (byLists s ls) done [] (accountOf (freshState s)) [] (fresh-lives s)) in
+    let lives = box-lives s ls m bars in
     let b = bar-lives s (byLists s ls) done bar (accountOf (r .state)) (rowsOf s done) lives in
     record {
       points = _;
@@ -490,3 +499,45 @@ recorded s ls m bars bar fine =
       grown = step-grows s ls (r .state) (r .rooms) bar fine _ _ here;
       each = b .1;
     }
+
+-- ---- the end
+
+-- A trade that finish closes, after `bars`: finish adds no bar.
+pub record RecordedAtEnd (s : Settings) (bars : List (List ℕ)) (t : Trade) : Type 0 where
+  pub before : List (List ℕ)
+  pub since : List (List ℕ)
+  pub split : bars ≡ before ++ since
+  pub time : t .«entry_time» ≡ firstTime since
+  pub worst : t .worst ≡ worstOver (zero ≺ t .qty) (t .«entry_price») since
+  pub funding : t .funding ≡ paidOver s (t .qty) zero since
+
+closing-end : (s : Settings) (bars : List (List ℕ)) (e : EntryBar) (p : Portfolio) (price : Float) (time : ℕ) (bps : Float) (reason : ℕ) → Open s bars e p
+    → RecordedAtEnd s bars (closed p price time bps reason .trade)
+unfolding closed exited tradeOf
+closing-end s bars e p price time bps reason o =
+    record { before = o .before; since = o .first ∷ o .rest; split = o .split; time = o .time; worst = o .worst; funding = o .funding }
+
+-- what is to be closed is open
+is-open : (t : State) → toClose t ≡ true → inPosition (t .position .portfolio) ≡ true
+unfolding toClose
+is-open t e = and-true _ _ e .0
+
+module _ (s : Settings) (bars : List (List ℕ)) (t : State) (l : Lives s bars (accountOf t)) where
+  end-open : toClose t ≡ true → Each (RecordedAtEnd s bars) (tradesOf (lastExit s t))
+  unfolding lastExit
+  end-open e =
+      let c : Closed = closed (t .position .portfolio) (t .last .close) (t .last .time) (s .terms .«taker_bps») end in
+      rw e (one-each c (RecordedAtEnd s bars) (closing-end s bars (t .position .entered) (t .position .portfolio) _ _ _ _ (l .1 (is-open t e))))
+
+  end-none : toClose t ≡ false → Each (RecordedAtEnd s bars) (tradesOf (lastExit s t))
+  unfolding lastExit Each tradesOf
+  end-none e = rw e tt
+
+-- AND SO HAS THE TRADE that finish closes (`end-closes` says that it is in the room).
+pub recorded-end : (s : Settings) (ls : Lists) (m : Rooms) (bars : List (List ℕ))
+    → let r = runOver s ls (freshState s) m bars in
+    Each (RecordedAtEnd s (take (r .done) bars)) (tradesOf (lastExit s (r .state)))
+recorded-end s ls m bars =
+    let r : Run = runOver s ls (freshState s) m bars in
+    let l = box-lives s ls m bars in
+    by-side (toClose (r .state)) (end-open s _ (r .state) l) (end-none s _ (r .state) l)
