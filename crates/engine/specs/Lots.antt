@@ -1,13 +1,13 @@
--- Whole lots in a step: with a lot of 0 no bar is refused with 16, and with any other what is entered is k·lot.
+-- Whole lots: with a lot of 0 no bar is refused with 16 and every run is what it was, and with any other what is entered is k·lot.
 use Prim.Native.Nat.{ℕ}
 use mathlib.Core.Path.{_≡_, refl, sym, _∙_}
 use mathlib.Core.Bool.{true, false}
-use mathlib.Core.List.{List}
+use mathlib.Core.List.{List, [], _∷_, _++_}
 use mathlib.Core.Logic.{_⊎_, inl, inr}
 use lib.Ieee as Ieee
 use lib.Ieee.{Float}
 use Rattle.floats.specs.Floats.{zero}
-use Rattle.rows.specs.History.{History}
+use Rattle.rows.specs.History.{History, historyOf}
 use Rattle.portfolio.specs.declared.Candle.{Candle}
 use Rattle.execution.specs.declared.Entry.{Entry}
 use Rattle.execution.specs.declared.Entry.the-variants.{NoEntry, TooLarge, Entered}
@@ -22,6 +22,7 @@ use Rattle.records.specs.declared.state.Order.{Order}
 use Rattle.records.specs.declared.state.Order.the-variants.{Idle}
 use Rattle.records.specs.declared.state.Position.{Position}
 use Rattle.records.specs.declared.state.State.{State}
+use Rattle.records.specs.Bar.{candleOf}
 use Rattle.records.specs.Lent.{Lists, Rooms}
 use Rattle.refusals.specs.declared.verdict.Verdict.{Verdict}
 use Rattle.refusals.specs.declared.verdict.Verdict.the-variants.{Fine, Bad}
@@ -29,9 +30,24 @@ use Rattle.refusals.specs.Judgement.{stepJudged}
 use Rattle.refusals.specs.Lines.{judged}
 use Rattle.engine.specs.declared.account.Due.{Due}
 use Rattle.engine.specs.declared.account.Due.the-variants.{Waits, Enters, Leaves}
+use Rattle.engine.specs.declared.account.Filled.{Filled}
 use Rattle.engine.specs.Account.{waiting, entering, entered, exited, dueOf, doneOf, filled}
 use Rattle.engine.specs.Laws.Verdict.{handed-bad, handed-fine}
+use Rattle.engine.specs.Record.{rowOf}
 use Rattle.engine.specs.Step.{sizeLines, stepVerdict}
+use Rattle.engine.specs.Whole.{Account, Asked, takenBy, taken, wholeRunBy, wholeRun}
+
+-- ---- the engine before: entries as the Rust has them, with no lots
+
+unfoldable pub doneWithoutLots : Due → Settings → Position → Candle → History → ℕ → Filled
+doneWithoutLots (Waits order) s p k before number = waiting order p
+doneWithoutLots (Enters side kind price) s p k before number =
+    let bps = feeBps kind (s .entries .«maker_bps») (s .terms .«taker_bps») in
+    waiting Idle (entering p (rustEntry side price bps (s .terms) k (p .portfolio) before) number)
+doneWithoutLots Leaves s p k before number = exited s p k
+
+unfoldable pub filledWithoutLots : Settings → Order → Position → Candle → History → ℕ → Filled
+filledWithoutLots s order p k before number = doneWithoutLots (dueOf order k) s p k before number
 
 -- ---- a lot of 0
 
@@ -65,6 +81,28 @@ module _ (s : Settings) (none : Ieee.eq (s .terms .lot) zero ≡ true) where
   unfolding entered
   entered-as-before side kind price p k h number =
       rw (none-turned-away (s .terms) none side price _ k (p .portfolio) h, no-lots (s .terms) none side price _ k (p .portfolio) h)
+
+  done-as-before : (due : Due) (p : Position) (k : Candle) (h : History) (number : ℕ) → doneOf due s p k h number ≡ doneWithoutLots due s p k h number
+  unfolding doneOf doneWithoutLots
+  done-as-before (Waits o) p k h number = refl
+  done-as-before (Enters side kind price) p k h number = entered-as-before side kind price p k h number
+  done-as-before Leaves p k h number = refl
+
+  bar-as-before : (asked : Asked) (a : Account) (rows bar : List ℕ) → taken s asked a rows bar ≡ takenBy filledWithoutLots s asked a rows bar
+  unfolding takenBy filled filledWithoutLots
+  bar-as-before asked a rows bar =
+      rw (done-as-before (dueOf (a .order) (candleOf bar)) (a .position) (candleOf bar) (historyOf (s .slots) rows) (a .seen))
+
+  -- WITH A LOT OF 0 EVERY RUN IS WHAT IT WAS, however its rules are asked, from any account and over any bars.
+  pub run-without-lots : (asked : Asked) (a : Account) (rows : List ℕ) (bars : List (List ℕ))
+      → wholeRun s asked a rows bars ≡ wholeRunBy filledWithoutLots s asked a rows bars
+  unfolding wholeRunBy
+  run-without-lots asked a rows [] = refl
+  run-without-lots asked a rows (bar ∷ bars) =
+      rw (
+        bar-as-before asked a rows bar,
+        run-without-lots asked (takenBy filledWithoutLots s asked a rows bar .account) (rows ++ rowOf (s .slots) bar) bars,
+      )
 
 -- ---- any other lot
 
