@@ -1,1 +1,2 @@
+pub mod FirstWords
 pub mod RoundTrip

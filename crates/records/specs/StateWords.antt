@@ -31,8 +31,8 @@ orderOf order delay kind =
     Idle))
 
 -- 17 an entry's order kind: 1 limit, 2 stop, 3 stop-limit, any other market; 18 its level, 19 a stop-limit's limit
-unfoldable pub kindOf : ℕ → Float → Float → OrderKind
-kindOf kind level limit =
+unfoldable pub entryKindOf : ℕ → Float → Float → OrderKind
+entryKindOf kind level limit =
     cond (eqb kind 1) (Limit level)
     (cond (eqb kind 2) (Stop level)
     (cond (eqb kind 3) (StopLimit level limit)
@@ -60,11 +60,11 @@ portfolioOf ws = record {
 unfoldable pub positionOf : List ℕ → Position
 positionOf ws = record { portfolio = portfolioOf ws; entered = enteredOf (word ws 6) (word ws 7); extreme = floatAt ws 14 }
 
--- 15 the last bar's time, 16 its close; 17 to 19 are not looked at
+-- 15 the last bar's time, 16 its close
 unfoldable pub stateOf : List ℕ → State
 stateOf ws = record {
   counts = countsOf ws;
-  order = orderOf (word ws 4) (word ws 5) (kindOf (word ws 17) (floatAt ws 18) (floatAt ws 19));
+  order = orderOf (word ws 4) (word ws 5) (entryKindOf (word ws 17) (floatAt ws 18) (floatAt ws 19));
   position = positionOf ws;
   last = record { time = word ws 15; close = floatAt ws 16 };
 }

@@ -1,7 +1,11 @@
 // The settings, and what their words mean.
 ghost use mathlib.Core.Path.{_≡_};
+ghost use Prim.Native.Nat.{_≤_};
+ghost use lib.ListN.{length};
+ghost use Rattle.words.specs.Limits.{settingWords};
 ghost use Rattle.records.specs.Settings.{flagOf, levelOf, sizingOf, slippageOf, riskOf, termsOf, orderTypeOf, entriesOf, settingsOf};
-use crate::fields::float_at;
+use crate::fields::float_in;
+use crate::fields::word_in;
 use execution::Optional;
 use execution::Risk;
 use execution::Sizing;
@@ -9,7 +13,7 @@ use execution::Slippage;
 use execution::Terms;
 use execution::level::Entries;
 use execution::level::OrderType;
-use words::word;
+use words::limits::SETTING_WORDS;
 
 // The settings, with their numbers.
 pub struct Settings {
@@ -80,31 +84,33 @@ fn slippage_of(kind: u64, value: u64) -> Slippage
 
 // Settings 12 to 17. Bit i of the mask is set where setting i is given.
 fn risk_of(words: &[u64]) -> Risk
+    requires { ⌜ settingWords ≤ length (now words) ⌝ }
     ensures { λ r. ⌜ r ≡ riskOf (now (words .entry)) ⌝ }
 {
-    let given = word(words, GIVEN);
+    let given = word_in(words, GIVEN);
     Risk {
-        stop_loss_pct: level_of(given / 4096, word(words, 12)),
-        trailing_stop_pct: level_of(given / 8192, word(words, 13)),
-        take_profit_pct: level_of(given / 16384, word(words, 14)),
-        max_leverage: level_of(given / 32768, word(words, 15)),
-        max_position_pct: level_of(given / 65536, word(words, 16)),
-        liquidation: flag_of(word(words, 17)),
+        stop_loss_pct: level_of(given / 4096, word_in(words, 12)),
+        trailing_stop_pct: level_of(given / 8192, word_in(words, 13)),
+        take_profit_pct: level_of(given / 16384, word_in(words, 14)),
+        max_leverage: level_of(given / 32768, word_in(words, 15)),
+        max_position_pct: level_of(given / 65536, word_in(words, 16)),
+        liquidation: flag_of(word_in(words, 17)),
     }
 }
 
 // Settings 5 to 10, 12 to 19 and 24.
 fn terms_of(words: &[u64]) -> Terms
+    requires { ⌜ settingWords ≤ length (now words) ⌝ }
     ensures { λ r. ⌜ r ≡ termsOf (now (words .entry)) ⌝ }
 {
     Terms {
-        sizing: sizing_of(word(words, 5), word(words, 6), word(words, 7)),
+        sizing: sizing_of(word_in(words, 5), word_in(words, 6), word_in(words, 7)),
         risk: risk_of(words),
-        taker_bps: float_at(words, 8),
-        slippage: slippage_of(word(words, 9), word(words, 10)),
-        partial_fills: flag_of(word(words, 18)),
-        max_participation: float_at(words, 19),
-        lot: float_at(words, 24),
+        taker_bps: float_in(words, 8),
+        slippage: slippage_of(word_in(words, 9), word_in(words, 10)),
+        partial_fills: flag_of(word_in(words, 18)),
+        max_participation: float_in(words, 19),
+        lot: float_in(words, 24),
     }
 }
 
@@ -123,13 +129,31 @@ fn order_type_of(kind: u64) -> OrderType
 
 // Settings 20 to 23.
 fn entries_of(words: &[u64]) -> Entries
+    requires { ⌜ settingWords ≤ length (now words) ⌝ }
     ensures { λ r. ⌜ r ≡ entriesOf (now (words .entry)) ⌝ }
 {
     Entries {
-        order_type: order_type_of(word(words, 20)),
-        level_pct: float_at(words, 21),
-        limit_pct: float_at(words, 22),
-        maker_bps: float_at(words, 23),
+        order_type: order_type_of(word_in(words, 20)),
+        level_pct: float_in(words, 21),
+        limit_pct: float_in(words, 22),
+        maker_bps: float_in(words, 23),
+    }
+}
+
+// The settings of a list that has all their words.
+fn whole_settings(words: &[u64]) -> Settings
+    requires { ⌜ settingWords ≤ length (now words) ⌝ }
+    ensures { λ r. ⌜ r ≡ settingsOf (now (words .entry)) ⌝ }
+{
+    Settings {
+        slots: word_in(words, 0) as usize,
+        depth: word_in(words, 1) as usize,
+        capital: float_in(words, 2),
+        warmup: word_in(words, 3),
+        delay: word_in(words, 4),
+        terms: terms_of(words),
+        funding: flag_of(word_in(words, 11)),
+        entries: entries_of(words),
     }
 }
 
@@ -137,14 +161,10 @@ fn entries_of(words: &[u64]) -> Entries
 pub fn settings_of(words: &[u64]) -> Settings
     ensures { λ r. ⌜ r ≡ settingsOf (now (words .entry)) ⌝ }
 {
-    Settings {
-        slots: word(words, 0) as usize,
-        depth: word(words, 1) as usize,
-        capital: float_at(words, 2),
-        warmup: word(words, 3),
-        delay: word(words, 4),
-        terms: terms_of(words),
-        funding: flag_of(word(words, 11)),
-        entries: entries_of(words),
+    if words.len() < SETTING_WORDS {
+        let mut padded = [0u64; SETTING_WORDS];
+        words::put(&mut padded, 0, words);
+        return whole_settings(&padded);
     }
+    whole_settings(words)
 }

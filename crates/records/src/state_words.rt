@@ -1,10 +1,14 @@
 // The state's words: what they mean, and those of a state.
 ghost use mathlib.Core.Path.{_≡_};
+ghost use Prim.Native.Nat.{_≤_};
+ghost use lib.ListN.{length};
+ghost use Rattle.words.specs.Limits.{stateWords};
 ghost use Rattle.words.specs.Words.{overwrite};
-ghost use Rattle.records.specs.StateWords.{orderOf, kindOf, enteredOf, countsOf, portfolioOf, positionOf, stateOf};
+ghost use Rattle.records.specs.StateWords.{orderOf, entryKindOf, enteredOf, countsOf, portfolioOf, positionOf, stateOf};
 ghost use Rattle.records.specs.StateWords.{orderKind, orderDelay, waitsFor, kindWord, levelWord, limitWord};
 ghost use Rattle.records.specs.StateWords.{enteredKind, entryBar, wordsOf};
-use crate::fields::float_at;
+use crate::fields::float_in;
+use crate::fields::word_in;
 use crate::state::Counts;
 use crate::state::Last;
 use crate::state::Order;
@@ -13,7 +17,7 @@ use crate::state::State;
 use execution::level::OrderKind;
 use portfolio::Portfolio;
 use rules::Entered;
-use words::word;
+use words::limits::STATE_WORDS;
 
 fn order_of(order: u64, delay: u64, kind: OrderKind) -> Order
     ensures { λ r. ⌜ r ≡ orderOf order delay kind ⌝ }
@@ -26,8 +30,8 @@ fn order_of(order: u64, delay: u64, kind: OrderKind) -> Order
     }
 }
 
-fn kind_of(kind: u64, level: f64, limit: f64) -> OrderKind
-    ensures { λ r. ⌜ r ≡ kindOf kind level limit ⌝ }
+fn entry_kind_of(kind: u64, level: f64, limit: f64) -> OrderKind
+    ensures { λ r. ⌜ r ≡ entryKindOf kind level limit ⌝ }
 {
     match kind {
         1 => OrderKind::Limit(level),
@@ -47,38 +51,61 @@ pub fn entered_of(kind: u64, bar: u64) -> Entered
 }
 
 fn counts_of(words: &[u64]) -> Counts
+    requires { ⌜ stateWords ≤ length (now words) ⌝ }
     ensures { λ r. ⌜ r ≡ countsOf (now (words .entry)) ⌝ }
 {
     Counts {
-        bars_seen: word(words, 0),
-        rows_held: word(words, 1) as usize,
-        equity_points: word(words, 2) as usize,
-        trades: word(words, 3) as usize,
+        bars_seen: word_in(words, 0),
+        rows_held: word_in(words, 1) as usize,
+        equity_points: word_in(words, 2) as usize,
+        trades: word_in(words, 3) as usize,
     }
 }
 
 fn portfolio_of(words: &[u64]) -> Portfolio
+    requires { ⌜ stateWords ≤ length (now words) ⌝ }
     ensures { λ r. ⌜ r ≡ portfolioOf (now (words .entry)) ⌝ }
 {
     Portfolio {
-        cash: float_at(words, 8),
-        qty: float_at(words, 9),
-        entry_price: float_at(words, 10),
-        entry_time: word(words, 11),
-        entry_fee: float_at(words, 12),
-        fees_paid: float_at(words, 13),
-        funding: float_at(words, 20),
-        worst: float_at(words, 21),
+        cash: float_in(words, 8),
+        qty: float_in(words, 9),
+        entry_price: float_in(words, 10),
+        entry_time: word_in(words, 11),
+        entry_fee: float_in(words, 12),
+        fees_paid: float_in(words, 13),
+        funding: float_in(words, 20),
+        worst: float_in(words, 21),
     }
 }
 
 fn position_of(words: &[u64]) -> Position
+    requires { ⌜ stateWords ≤ length (now words) ⌝ }
     ensures { λ r. ⌜ r ≡ positionOf (now (words .entry)) ⌝ }
 {
     Position {
         portfolio: portfolio_of(words),
-        entered: entered_of(word(words, 6), word(words, 7)),
-        extreme: float_at(words, 14),
+        entered: entered_of(word_in(words, 6), word_in(words, 7)),
+        extreme: float_in(words, 14),
+    }
+}
+
+// The state of a list that has all its words.
+fn whole_state(words: &[u64]) -> State
+    requires { ⌜ stateWords ≤ length (now words) ⌝ }
+    ensures { λ r. ⌜ r ≡ stateOf (now (words .entry)) ⌝ }
+{
+    State {
+        counts: counts_of(words),
+        order: order_of(
+            word_in(words, 4),
+            word_in(words, 5),
+            entry_kind_of(word_in(words, 17), float_in(words, 18), float_in(words, 19)),
+        ),
+        position: position_of(words),
+        last: Last {
+            time: word_in(words, 15),
+            close: float_in(words, 16),
+        },
     }
 }
 
@@ -86,19 +113,12 @@ fn position_of(words: &[u64]) -> Position
 pub fn state_of(words: &[u64]) -> State
     ensures { λ r. ⌜ r ≡ stateOf (now (words .entry)) ⌝ }
 {
-    State {
-        counts: counts_of(words),
-        order: order_of(
-            word(words, 4),
-            word(words, 5),
-            kind_of(word(words, 17), float_at(words, 18), float_at(words, 19)),
-        ),
-        position: position_of(words),
-        last: Last {
-            time: word(words, 15),
-            close: float_at(words, 16),
-        },
+    if words.len() < STATE_WORDS {
+        let mut padded = [0u64; STATE_WORDS];
+        words::put(&mut padded, 0, words);
+        return whole_state(&padded);
     }
+    whole_state(words)
 }
 
 fn order_kind(order: Order) -> u64

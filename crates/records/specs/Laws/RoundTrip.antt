@@ -23,7 +23,7 @@ use Rattle.records.specs.declared.state.State.{State}
 use Rattle.words.specs.Limits.{stateWords}
 use Rattle.records.specs.Settings.{settingsOf}
 use Rattle.records.specs.State.{freshState}
-use Rattle.records.specs.StateWords.{countsOf, orderOf, kindOf, enteredOf, portfolioOf, positionOf, stateOf}
+use Rattle.records.specs.StateWords.{countsOf, orderOf, entryKindOf, enteredOf, portfolioOf, positionOf, stateOf}
 use Rattle.records.specs.StateWords.{orderKind, orderDelay, waitsFor, kindWord, levelWord, limitWord, enteredKind, entryBar, wordsOf}
 
 -- the levels of an entry, each an f64 in the code
@@ -47,8 +47,8 @@ pub record Floats64 (s : State) : Type 0 where
   pub order : KindFits (waitsFor (s .order))
 
 -- an order and an entry bar come back as they were
-kind-back : (kind : OrderKind) → KindFits kind → kindOf (kindWord kind) (floatOf (levelWord kind)) (floatOf (limitWord kind)) ≡ kind
-unfolding KindFits kindOf kindWord levelWord limitWord
+kind-back : (kind : OrderKind) → KindFits kind → entryKindOf (kindWord kind) (floatOf (levelWord kind)) (floatOf (limitWord kind)) ≡ kind
+unfolding KindFits entryKindOf kindWord levelWord limitWord
 kind-back Market h = refl
 kind-back (Limit level) h = simp (ofBits-toBits binary64 level h)
 kind-back (Stop level) h = simp (ofBits-toBits binary64 level h)
@@ -105,8 +105,8 @@ word-fits : (w : ℕ) → T (fits binary64 (floatOf w))
 word-fits w = ofBits-fits binary64 w
 
 -- an order that words mean
-kind-fits : (kind : ℕ) (level limit : Float) → T (fits binary64 level) → T (fits binary64 limit) → KindFits (kindOf kind level limit)
-unfolding KindFits kindOf
+kind-fits : (kind : ℕ) (level limit : Float) → T (fits binary64 level) → T (fits binary64 limit) → KindFits (entryKindOf kind level limit)
+unfolding KindFits entryKindOf
 kind-fits kind level limit p q = go (eqb kind 1) (eqb kind 2) (eqb kind 3)
   where
     go : (a b c : Bool) → KindFits (cond a (Limit level) (cond b (Stop level) (cond c (StopLimit level limit) Market)))

@@ -15,19 +15,19 @@ returns c =
     let size = risk .before in
     let lookback = size .before in
     rw (
-      c .float-at3 .ensures,
-      part .float-at2 .ensures,
+      c .float-in3 .ensures,
+      part .float-in2 .ensures,
       flag .flag-of .ensures,
-      flag .before .word6 .ensures,
+      flag .before .word-in6 .ensures,
       slip .slippage-of .ensures,
-      slip .before .word5 .ensures,
-      slip .before .before .word4 .ensures,
-      taker .float-at .ensures,
+      slip .before .word-in5 .ensures,
+      slip .before .before .word-in4 .ensures,
+      taker .float-in .ensures,
       risk .risk-of .ensures,
       size .sizing-of .ensures,
-      lookback .word3 .ensures,
-      lookback .before .word2 .ensures,
-      lookback .before .before .word .ensures,
+      lookback .word-in3 .ensures,
+      lookback .before .word-in2 .ensures,
+      lookback .before .before .word-in .ensures,
     )
 
 pub terms-of-spec : {M : Type 1} → statement M

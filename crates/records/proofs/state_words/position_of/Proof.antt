@@ -10,10 +10,10 @@ returns c =
     let entry = c .before in
     let bar = entry .before in
     rw (
-      c .float-at .ensures,
+      c .float-in .ensures,
       entry .entered-of .ensures,
-      bar .word2 .ensures,
-      bar .before .word .ensures,
+      bar .word-in2 .ensures,
+      bar .before .word-in .ensures,
       bar .before .before .portfolio-of .ensures,
     )
 

@@ -1,12 +1,12 @@
 -- Each kind's number picks its case; any other number none of them.
-use Rattle.records.specs.StateWords.{kindOf}
+use Rattle.records.specs.StateWords.{entryKindOf}
 use borrow.Author.Tests.{ne-eqb}
-use Rattle.records.proofs.state_words.kind_of.Statement.{statement}
-use Rattle.records.proofs.state_words.kind_of.Tie as tie
+use Rattle.records.proofs.state_words.entry_kind_of.Statement.{statement}
+use Rattle.records.proofs.state_words.entry_kind_of.Tie as tie
 
-pub kind-of-spec : {M : Type 1} → statement M
-unfolding kindOf
-kind-of-spec =
+pub entry-kind-of-spec : {M : Type 1} → statement M
+unfolding entryKindOf
+entry-kind-of-spec =
     tie.close
     (tie.spec
     (λ c. simp (c .match .keys1))

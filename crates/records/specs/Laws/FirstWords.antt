@@ -1,0 +1,95 @@
+-- Settings and states are made of their first words alone: lists that agree in these have the same.
+use Prim.Native.Nat.{ℕ, zero, suc, _<_, _≤_}
+use mathlib.Core.Path.{_≡_, refl, ap, _∙_}
+use mathlib.Core.Bool.{Bool, cond}
+use mathlib.Core.List.{List, [], _∷_, _++_, append-nil}
+use native.Mathlib.Nat.{zero-add}
+use native.Mathlib.Omega.{arith}
+use borrow.Author.Tests.{le-leb}
+use lib.ListN.{length, drop, replicate, length-replicate}
+use Rattle.words.specs.Limits.{settingWords, stateWords}
+use Rattle.words.specs.Words.{word, overwrite}
+use Rattle.records.specs.Settings.{settingsOf, termsOf, riskOf, entriesOf}
+use Rattle.records.specs.StateWords.{stateOf, countsOf, positionOf, portfolioOf}
+
+-- two lists with the same first n words
+abbrev pub Agree : ℕ → List ℕ → List ℕ → Type 0
+Agree n a b = (i : ℕ) → i < n → word a i ≡ word b i
+
+-- zeros behind a list are what a reader finds past its end
+zeros-behind : (n : ℕ) (ws : List ℕ) (i : ℕ) → word (ws ++ drop (length ws) (replicate n 0)) i ≡ word ws i
+zeros-behind zero [] i = refl
+zeros-behind (suc n) [] zero = refl
+zeros-behind (suc n) [] (suc i) = zeros-behind n [] i
+zeros-behind n (w ∷ ws) zero = refl
+zeros-behind zero (w ∷ ws) (suc i) = ap (λ (l : List ℕ). word l i) (append-nil ws)
+zeros-behind (suc n) (w ∷ ws) (suc i) = zeros-behind n ws i
+
+-- a short list written over zeros
+pub padded-agree : (n : ℕ) (ws : List ℕ) → length ws ≤ n → Agree n (overwrite (replicate n 0) 0 ws) ws
+unfolding overwrite
+padded-agree n ws short i h =
+    rw (zero-add (length ws), length-replicate {A = ℕ} n 0)
+    (ap (λ (b : Bool). word (cond b (ws ++ drop (length ws) (replicate n 0)) (replicate n 0)) i) (le-leb _ _ short) ∙ zeros-behind n ws i)
+
+-- settings are made of 32 words
+pub settings-agree : (a b : List ℕ) → Agree settingWords a b → settingsOf a ≡ settingsOf b
+unfolding settingsOf termsOf riskOf entriesOf
+settings-agree a b same =
+    rw (
+      same 0 (omega arith),
+      same 1 (omega arith),
+      same 2 (omega arith),
+      same 3 (omega arith),
+      same 4 (omega arith),
+      same 5 (omega arith),
+      same 6 (omega arith),
+      same 7 (omega arith),
+      same 8 (omega arith),
+      same 9 (omega arith),
+      same 10 (omega arith),
+      same 11 (omega arith),
+      same 12 (omega arith),
+      same 13 (omega arith),
+      same 14 (omega arith),
+      same 15 (omega arith),
+      same 16 (omega arith),
+      same 17 (omega arith),
+      same 18 (omega arith),
+      same 19 (omega arith),
+      same 20 (omega arith),
+      same 21 (omega arith),
+      same 22 (omega arith),
+      same 23 (omega arith),
+      same 24 (omega arith),
+      same 31 (omega arith),
+    )
+
+-- a state is made of 22 words
+pub state-agree : (a b : List ℕ) → Agree stateWords a b → stateOf a ≡ stateOf b
+unfolding stateOf countsOf positionOf portfolioOf
+state-agree a b same =
+    rw (
+      same 0 (omega arith),
+      same 1 (omega arith),
+      same 2 (omega arith),
+      same 3 (omega arith),
+      same 4 (omega arith),
+      same 5 (omega arith),
+      same 6 (omega arith),
+      same 7 (omega arith),
+      same 8 (omega arith),
+      same 9 (omega arith),
+      same 10 (omega arith),
+      same 11 (omega arith),
+      same 12 (omega arith),
+      same 13 (omega arith),
+      same 14 (omega arith),
+      same 15 (omega arith),
+      same 16 (omega arith),
+      same 17 (omega arith),
+      same 18 (omega arith),
+      same 19 (omega arith),
+      same 20 (omega arith),
+      same 21 (omega arith),
+    )
