@@ -145,22 +145,22 @@ abbrev pub barsSince : Kind
 barsSince = aCondition BarsSince leaf (numberAndSelectorBelow 5) nothing
 
 -- The rows by name.
-unfoldable pub rowOf : Row → Kind
-rowOf Row.Unknown = noKind
-rowOf Row.Const = constant
-rowOf Row.Ref = reference
-rowOf Row.Price = price
-rowOf Row.Prev = previous
-rowOf Row.Arith = arithmetic
-rowOf Row.Compare = comparison
-rowOf Row.Cross = crossing
-rowOf Row.Between = between
-rowOf Row.Trend = trend
-rowOf Row.All = allOf
-rowOf Row.Any = anyOf
-rowOf Row.Not = negation
-rowOf Row.InPosition = position
-rowOf Row.BarsSince = barsSince
+unfoldable pub rowNamed : Row → Kind
+rowNamed Row.Unknown = noKind
+rowNamed Row.Const = constant
+rowNamed Row.Ref = reference
+rowNamed Row.Price = price
+rowNamed Row.Prev = previous
+rowNamed Row.Arith = arithmetic
+rowNamed Row.Compare = comparison
+rowNamed Row.Cross = crossing
+rowNamed Row.Between = between
+rowNamed Row.Trend = trend
+rowNamed Row.All = allOf
+rowNamed Row.Any = anyOf
+rowNamed Row.Not = negation
+rowNamed Row.InPosition = position
+rowNamed Row.BarsSince = barsSince
 
 -- "How many children each kind takes, and of which sort, stands in one constant table indexed by kind."
 unfoldable pub kinds : List Kind

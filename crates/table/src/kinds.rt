@@ -1,7 +1,7 @@
 // The kinds of nodes by name, and the constant table of kinds: what a node of each kind takes. Checker, reach, evaluator and
 // translator read it.
 ghost use mathlib.Core.Path.{_≡_};
-ghost use Rattle.table.specs.Kinds.{kindOf, rowOf};
+ghost use Rattle.table.specs.Kinds.{kindOf, rowNamed};
 
 // The kinds, by number.
 pub const CONST: u8 = 1;
@@ -346,8 +346,8 @@ const KINDS: [Row; 32] = [
 ];
 
 // The row of a name.
-fn row_of(name: Row) -> Kind
-    ensures { λ r. ⌜ r ≡ rowOf name ⌝ }
+fn row_named(name: Row) -> Kind
+    ensures { λ r. ⌜ r ≡ rowNamed name ⌝ }
 {
     match name {
         Row::Unknown => UNKNOWN_ROW,
@@ -374,7 +374,7 @@ pub fn kind_of(k: u8) -> Kind
 {
     let i = k as usize;
     if i < 32 {
-        row_of(KINDS[i])
+        row_named(KINDS[i])
     } else {
         UNKNOWN_ROW
     }

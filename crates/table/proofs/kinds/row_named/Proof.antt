@@ -1,12 +1,12 @@
 -- Name by name.
 use borrow.Author.Needs.{needs}
-use Rattle.table.specs.Kinds.{rowOf}
-use Rattle.table.proofs.kinds.row_of.Statement.{statement}
-use Rattle.table.proofs.kinds.row_of.Tie as tie
+use Rattle.table.specs.Kinds.{rowNamed}
+use Rattle.table.proofs.kinds.row_named.Statement.{statement}
+use Rattle.table.proofs.kinds.row_named.Tie as tie
 
-pub row-of-spec : {M : Type 1} → statement M
-unfolding rowOf
-row-of-spec =
+pub row-named-spec : {M : Type 1} → statement M
+unfolding rowNamed
+row-named-spec =
     tie.close
     (tie.spec
     (λ c. search needs)
