@@ -5,7 +5,7 @@ use Prim.Native.Nat.{ℕ, _<_}
 use borrow.Author.Needs.{needs}
 use lib.ListN.{getD, List·getD-eq-default}
 use Rattle.table.specs.declared.kinds.Row.{Row}
-use Rattle.table.specs.declared.kinds.Row.the-variants.{Unknown, Const, Ref, Price, Prev, Arith, Compare, Cross, Between, Trend}
+use Rattle.table.specs.declared.kinds.Row.the-variants.{Unknown, Const, Ref, Price, Prev, Arith, Extreme, Compare, Cross, Between, Trend}
 use Rattle.table.specs.declared.kinds.Row.the-variants.{All, Any, Not, InPosition, BarsSince}
 use Rattle.table.specs.Kinds.{kindOf, kinds, noKind, rowNamed}
 use Rattle.table.specs.Laws.Kinds.{listed, of-rows}
@@ -16,7 +16,7 @@ use Rattle.table.proofs.kinds.kind_of.Tie as tie
 names : List Row
 names =
     Unknown ∷ Const ∷ Ref ∷ Price ∷ Prev ∷ Arith ∷ Arith ∷ Arith ∷ Arith ∷
-    Unknown ∷ Unknown ∷ Unknown ∷ Unknown ∷ Unknown ∷ Unknown ∷ Unknown ∷
+    Extreme ∷ Extreme ∷ Unknown ∷ Unknown ∷ Unknown ∷ Unknown ∷ Unknown ∷
     Compare ∷ Compare ∷ Compare ∷ Compare ∷ Compare ∷ Compare ∷
     Cross ∷ Cross ∷ Between ∷ Trend ∷ Trend ∷ All ∷ Any ∷ Not ∷ InPosition ∷ BarsSince ∷ []
 
