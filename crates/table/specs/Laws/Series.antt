@@ -1,22 +1,24 @@
 -- The child of Highest and Lowest is a series: where each node has the children that its kind takes, it is a Price or a Ref.
 -- Assumes nothing.
-use mathlib.Core.Path.{_≡_, refl, sym, _∙_}
-use mathlib.Core.Bool.{true, false, true≢false}
+use mathlib.Core.Path.{_≡_, refl, sym}
+use mathlib.Core.Bool.{true, true≢false}
 use mathlib.Core.List.{List, [], _∷_}
-use Prim.Native.Nat.{ℕ, _+_, _*_, _≤_, _<_}
+use Prim.Native.Nat.{ℕ}
 use native.Mathlib.Omega.{arith}
-use lib.ListN.{length, replicate}
+use lib.ListN.{replicate}
 use lib.Dec.{eqb}
 use Rattle.table.specs.declared.nodes.Node.{Node}
 use Rattle.table.specs.declared.header.Form.{Form}
 use Rattle.table.specs.declared.series.Series.{Series}
 use Rattle.table.specs.declared.series.Series.the-variants.{Price, Slot}
+use Rattle.table.specs.declared.kinds.OperandClass.{OperandClass}
+use Rattle.table.specs.declared.kinds.OperandClass.the-variants as AsOperand
 use Rattle.table.specs.Kinds.{kindOf, extremum, aSeries}
 use Rattle.table.specs.Nodes.{childCount, childFits}
 use Rattle.table.specs.Forest.{Forest, sorts, Fitting}
 use Rattle.table.specs.Forest as Forest
 use Rattle.table.specs.Trees.{Operand, reach}
-use Rattle.table.specs.Series.{asSeries, asOperand}
+use Rattle.table.specs.Series.{asSeries, asOperand, seriesBy}
 use Rattle.table.specs.Reading.{child, operandBy, operandFrom, operands}
 use Rattle.table.specs.Writing.{write, writeSeries}
 use Rattle.table.specs.Limits.{Within, WithinSeries}
@@ -47,6 +49,21 @@ series-child n (Forest.tree c f rest) under fit row =
     let here : kindOf (c .kind) .sort ∷ sorts rest ≡ 1 ∷ [] = rw row at under in
     let sort : kindOf (c .kind) .sort ≡ 1 = cc in
     series-node c (operands f) (rw row at fit) (operand-kind (c .kind) sort)
+
+by-class : (c : OperandClass) (n : Node) (os : List Operand) → asSeries (operandBy c n os) ≡ seriesBy c n
+unfolding operandBy asSeries seriesBy
+by-class AsOperand.Const n os = refl
+by-class AsOperand.Ref n os = refl
+by-class AsOperand.Price n os = refl
+by-class AsOperand.Prev n os = refl
+by-class AsOperand.Arith n os = refl
+by-class AsOperand.Extreme n os = refl
+by-class AsOperand.NoOperand n os = refl
+
+-- Whatever the node is, what it reads as is as a series what its own bytes say.
+pub series-read : (n : Node) (os : List Operand) → asSeries (operandFrom n os) ≡ seriesBy (kindOf (n .kind) .operand) n
+unfolding operandFrom
+series-read n os = by-class (kindOf (n .kind) .operand) n os
 
 -- ---- a series is a leaf
 

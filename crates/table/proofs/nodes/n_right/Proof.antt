@@ -1,6 +1,5 @@
 -- `n_right` meets its contract, use by use.
 -- Assumes nothing.
-use native.Mathlib.Omega.{arith}
 use borrow.Author.Tests.{eq-eqb, ne-eqb, lt-leb, le-leb}
 use Rattle.table.specs.Nodes.{nRight}
 use Rattle.table.proofs.nodes.n_right.Statement.{statement}
