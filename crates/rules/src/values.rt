@@ -28,7 +28,7 @@ pub fn price_at(rows: &[u64], base: usize, selector: u8) -> f64
 }
 
 // Word j of the row that begins at word `base`, as a float.
-fn field_at(rows: &[u64], base: usize, j: usize) -> f64
+pub fn field_at(rows: &[u64], base: usize, j: usize) -> f64
     ensures { λ r. ⌜ r ≡ floatOf (wordsFrom (now (rows .entry)) base j) ⌝ }
 {
     floats::float_of(words::word_from(rows, base, j))
@@ -84,6 +84,40 @@ pub fn both(kind: u8, a: Value, b: Value) -> Value
             Value::Missing => Value::Missing,
             Value::Number(y) => Value::Number(combine(kind, x, y)),
         },
+    }
+}
+
+// Whether a later number takes the place of the best before it, by the kind: strictly greater for Highest, strictly less for Lowest.
+fn better(kind: u8, best: f64, later: f64) -> bool
+    ensures { λ r. ⌜ r ≡ Values.better kind best later ⌝ }
+{
+    if kind == kinds::HIGHEST {
+        return best < later;
+    }
+    later < best
+}
+
+// The best of a value and a later one: missing if either is.
+pub fn pick(kind: u8, best: Value, later: Value) -> Value
+    ensures { λ r. ⌜ r ≡ Values.pick kind best later ⌝ }
+{
+    match best {
+        Value::Missing => Value::Missing,
+        Value::Number(x) => match later {
+            Value::Missing => Value::Missing,
+            Value::Number(y) => Value::Number(took(kind, x, y)),
+        },
+    }
+}
+
+// The better of a number and a later one.
+pub fn took(kind: u8, best: f64, later: f64) -> f64
+    ensures { λ r. ⌜ r ≡ Values.took kind best later ⌝ }
+{
+    if better(kind, best, later) {
+        later
+    } else {
+        best
     }
 }
 
