@@ -3,7 +3,7 @@ ghost use mathlib.Core.Path.{_≡_};
 ghost use mathlib.Core.List.{_++_};
 ghost use Prim.Native.Nat.{_≤_};
 ghost use lib.ListN.{length, take, drop};
-ghost use Rattle.rows.specs.Ring.{firstOf, nextStart, ringWith, ringAfter, turned};
+ghost use Rattle.rows.specs.Ring.{firstOf, ringPlace, nextStart, ringWith, ringAfter, turned};
 
 // How many rows a room holds, and which of them is the oldest. While there is a place left that is row 0.
 pub struct Ring {
@@ -16,6 +16,19 @@ pub fn first_of(places: usize, start: usize) -> usize
     ensures { λ r. ⌜ r ≡ firstOf places start ⌝ }
 {
     if start < places { start } else { 0 }
+}
+
+// Where row i of them stands.
+pub fn place(places: usize, first: usize, i: usize) -> usize
+    ensures { λ r. ⌜ r ≡ ringPlace places first i ⌝ }
+{
+    if places <= i {
+        return i;
+    }
+    if first < places - i {
+        return first + i;
+    }
+    first - (places - i)
 }
 
 // The row after `start`, and after the last the first.

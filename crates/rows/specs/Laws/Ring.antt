@@ -34,6 +34,26 @@ first-once places start =
     zero true = refl
     zero false = refl
 
+-- the row that rows begin at is one of them, or there is none
+pub first-fits : (places start : ℕ) → firstOf places start ≤ places
+unfolding firstOf
+first-fits places start =
+    ⊎-elim (λ there. rw (lt-ltb start places there) (omega arith)) (λ past. rw (le-ltb start places past) (omega arith)) (less-or-not start places)
+
+-- a row of them stands where there is a row
+pub place-within : (places first i : ℕ) → first ≤ places → i < places → ringPlace places first i < places
+unfolding ringPlace
+place-within places first i f h =
+    ⊎-elim (λ early. rw (lt-ltb i places h, lt-ltb (first + i) places early) early)
+    (λ late. rw (lt-ltb i places h, le-ltb (first + i) places late) (omega arith)) (less-or-not (first + i) places)
+
+-- to begin past the last row is to begin at row 0
+all-round : (places i : ℕ) → i < places → ringPlace places places i ≡ i
+unfolding ringPlace
+all-round places i h =
+    let back : places + i - places ≡ i = omega arith in
+    rw (lt-ltb i places h, le-ltb (places + i) places (omega arith), back)
+
 -- from row 0 on, the rows stand where they do
 stay : (places i : ℕ) → ringPlace places (firstOf places 0) i ≡ i
 unfolding ringPlace firstOf
@@ -57,6 +77,20 @@ unfolding ringOf
 ring-first K start ws =
     ap (λ (n : ℕ). record { rows = historyOf K ws .rows; word = λ i. historyOf K ws .word (ringPlace (historyOf K ws .rows) n i) })
     (first-once (historyOf K ws .rows) start)
+
+-- the words of a row, where `first` is one of the rows, or one past the last
+pub ring-row : (K first : ℕ) (ws : List ℕ) (i : ℕ) → first ≤ historyOf K ws .rows → i < historyOf K ws .rows
+    → ringOf K first ws .word i ≡ historyOf K ws .word (ringPlace (historyOf K ws .rows) first i)
+unfolding ringOf
+ring-row K first ws i f h =
+    let p = historyOf K ws .rows in
+    ap (historyOf K ws .word)
+    (⊎-elim (λ (there : first < p). let is : firstOf p first ≡ first = unfold firstOf in rw (lt-ltb first p there) in rw is)
+    (λ (past : p ≤ first).
+    let last : first ≡ p = omega arith in
+    let none : firstOf p p ≡ firstOf p 0 = unfold firstOf in rw (le-ltb p p (omega arith), lt-ltb 0 p (omega arith)) in
+    rw (last, none, stay p i, all-round p i h))
+    (less-or-not first p))
 
 -- two histories of as many rows, whose rows have the same words up to the width
 pub record Alike (K : ℕ) (g h : History) : Type 0 where
