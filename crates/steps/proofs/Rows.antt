@@ -7,19 +7,22 @@ use mathlib.Core.List.{List}
 use native.Mathlib.Omega.{arith}
 use borrow.Author.Tests.{lt-ltb, le-ltb}
 use lib.Dec.{ltb}
+use lib.ListN.{length}
 use Rattle.words.specs.Laws.Numbers.{less-or-not}
 use Rattle.floats.specs.Floats.{floatOf}
 use Rattle.rows.specs.History.{History, historyOf}
 use Rattle.rows.specs.Ring.{ringPlace, ringOf}
-use Rattle.rows.specs.Laws.Ring.{ring-row}
+use Rattle.rows.specs.Laws.RowEnds.{row-ends}
+use Rattle.rows.specs.Laws.Ring.{place-within, ring-row}
+use Rattle.table.specs.declared.series.Series.the-variants as Over
 use Rattle.table.specs.Trees.{Operand, const, ref, price}
 use Rattle.rules.specs.declared.Value.the-variants.{Missing, Number}
 use Rattle.rules.specs.Values.{wordsFrom, priceOf, slotOf}
-use Rattle.rules.specs.Meaning.{value, newest}
-use Rattle.rules.specs.Laws.Meaning.{const-value, ref-value, price-value}
+use Rattle.rules.specs.Meaning.{seriesAt, value, newest}
+use Rattle.rules.specs.Laws.Meaning.{const-value, ref-value, price-value, price-series, slot-series}
 use Rattle.steps.specs.Machine.{ago}
 
-there-ago : (h : History) (a : Operand) (n : ℕ) → n < h .rows → ago h a n ≡ value h a (h .rows - 1 - n)
+pub there-ago : (h : History) (a : Operand) (n : ℕ) → n < h .rows → ago h a n ≡ value h a (h .rows - 1 - n)
 unfolding ago newest
 there-ago h a n l = rw (lt-ltb n (h .rows) l)
 
@@ -45,6 +48,17 @@ module _ (K first : ℕ) (ws : List ℕ) (held n : ℕ) (is : held ≡ historyOf
   row-there i l =
       ring-row K first ws i (rw is at fits) (rw is at l)
       ∙ (unfold historyOf in ap (λ (r : ℕ). wordsFrom ws (ringPlace r first i * (7 + K))) (sym is))
+
+  -- it ends by the list's end
+  pub place-ends : (i : ℕ) → i < held → ringPlace held first i * (7 + K) + (7 + K) ≤ length ws
+  place-ends i l = row-ends K ws (ringPlace held first i) (rw (← is) (place-within held first i fits l))
+
+  -- a price and a slot of it
+  pub price-in : (p i : ℕ) → i < held → seriesAt (ringOf K first ws) (Over.Price p) i ≡ Number (priceOf (wordsFrom ws (ringPlace held first i * (7 + K))) p)
+  price-in p i l = price-series (ringOf K first ws) i (rw all at l) p ∙ rw (row-there i l)
+
+  pub slot-in : (k i : ℕ) → i < held → seriesAt (ringOf K first ws) (Over.Slot k) i ≡ slotOf (wordsFrom ws (ringPlace held first i * (7 + K))) k
+  slot-in k i l = slot-series (ringOf K first ws) i (rw all at l) k ∙ rw (row-there i l)
 
   pub ago-ref : (k : ℕ) → n < held → ago (ringOf K first ws) (ref k) n ≡ slotOf (wordsFrom ws (ringPlace held first (held - 1 - n) * (7 + K))) k
   ago-ref k l =

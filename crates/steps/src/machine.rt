@@ -8,18 +8,20 @@ use rows::ring;
 use rules::PositionState;
 use rules::Value;
 use rules::values;
+use table::series::Series;
 use words::limits::MOST_STEPS;
 ghost use mathlib.Core.Path.{_≡_};
-ghost use mathlib.Core.Bool.{Bool, cond, not, _&&_};
+ghost use mathlib.Core.Bool.{Bool, true, cond, not, _&&_};
 ghost use Prim.Native.Nat.{_+_, _-_, _*_, _<_, _≤_, min};
 ghost use lib.Dec.{ltb, leb};
 ghost use lib.ListN.{length};
 ghost use Rattle.rows.specs.History.{History, historyOf};
 ghost use Rattle.rows.specs.Ring.{ringPlace, ringOf};
 ghost use Rattle.rules.specs.Values as Values;
-ghost use Rattle.table.specs.Trees.{const, ref, price};
+ghost use Rattle.table.specs.Trees.{const, ref, price, extreme};
+ghost use Rattle.rules.specs.Meaning.{seriesAt, extremeOver};
 ghost use Rattle.steps.specs.Bytes.{opOf, opsFrom, opsOf, stepsIn, stepsRun};
-ghost use Rattle.steps.specs.Machine.{ago, giving, saying, effect, ranOver};
+ghost use Rattle.steps.specs.Machine.{ago, giving, viewing, saying, effect, ranOver};
 ghost use Rattle.steps.specs.Places.{testedAt, Tries, Fresh};
 
 // The places for values that a run has at first. No translated list needs more.
@@ -106,6 +108,83 @@ fn leaf(x: Step, rows: &[u64], slots: usize, held: usize, first: usize) -> Value
     price_ago(rows, slots, held, first, x.selector, x.n)
 }
 
+// What Highest and Lowest look over, in row i of the `held` rows that begin at row `first`.
+fn series_at(rows: &[u64], slots: usize, held: usize, first: usize, over: Series, i: usize) -> Value
+    requires { ⌜ (held ≡ historyOf slots (now rows) .rows) × (first ≤ held) × (i < held) ⌝ }
+    ensures { λ r. ⌜ r ≡ seriesAt (ringOf slots first (now (rows .entry))) over i ⌝ }
+{
+    let base = ring::place(held, first, i) * (words::limits::ROW_FIXED + slots);
+    match over {
+        Series::Price(selector) => Value::Number(values::price_at(rows, base, selector)),
+        Series::Slot(slot) => values::slot_at(rows, base, slot),
+    }
+}
+
+// The best of the rows from `oldest` to `newest`: it starts at the oldest.
+fn extreme_over(
+    kind: u8,
+    rows: &[u64],
+    slots: usize,
+    held: usize,
+    first: usize,
+    over: Series,
+    oldest: usize,
+    newest: usize,
+) -> Value
+    requires { ⌜ (held ≡ historyOf slots (now rows) .rows) × (first ≤ held) × (oldest ≤ newest) × (newest < held) ⌝ }
+    ensures { λ r. ⌜ r ≡ extremeOver (ringOf slots first (now (rows .entry))) kind over oldest (newest - oldest) ⌝ }
+{
+    let mut best = series_at(rows, slots, held, first, over, oldest);
+    let mut at = oldest;
+    while at < newest {
+        at += 1;
+        best = values::pick(kind, best, series_at(rows, slots, held, first, over, at));
+    }
+    best
+}
+
+// Highest or Lowest over n rows, the newest of them `back` rows before the newest of all.
+fn extreme_ago(
+    kind: u8,
+    rows: &[u64],
+    slots: usize,
+    held: usize,
+    first: usize,
+    over: Series,
+    n: u64,
+    back: u64,
+) -> Value
+    requires { ⌜ (held ≡ historyOf slots (now rows) .rows) × (first ≤ held) ⌝ }
+    ensures { λ r. ⌜ r ≡ ago (ringOf slots first (now (rows .entry))) (extreme kind over n) back ⌝ }
+{
+    if held as u64 <= back {
+        return Value::Missing;
+    }
+    let newest = held - 1 - back as usize;
+    let rest = decode::before(n);
+    if (newest as u64) < rest {
+        return Value::Missing;
+    }
+    let oldest = newest - rest as usize;
+    extreme_over(kind, rows, slots, held, first, over, oldest, newest)
+}
+
+// The value that a step of Highest or Lowest gives.
+fn look(x: Step, rows: &[u64], slots: usize, held: usize, first: usize) -> Value
+    requires { ⌜ (held ≡ historyOf slots (now rows) .rows) × (first ≤ held) ⌝ }
+    requires { ⌜ (9 ≤ x .kind) × (x .kind < 13) ⌝ }
+    ensures { λ r. ⌜ ((s : PositionState) (a b c d : Value) (y : Bool)
+        → effect (ringOf slots first (now (rows .entry))) s (opOf x) a b c d y ≡ viewing (x .skip) r y) ⌝ }
+{
+    let back = decode::newest_back(x.n, x.skip);
+    if x.kind < decode::HIGHEST_SLOT {
+        let over = Series::Price(x.selector);
+        return extreme_ago(x.kind, rows, slots, held, first, over, x.skip, back);
+    }
+    let over = Series::Slot(x.selector as u64);
+    extreme_ago(x.kind - 2, rows, slots, held, first, over, x.skip, back)
+}
+
 // How many values a cross or Between takes.
 fn taken(kind: u8) -> usize
     ensures { λ r. ⌜ r ≡ cond (ltb kind 24) 4 3 ⌝ }
@@ -141,7 +220,7 @@ fn position(wanted: bool, qty: f64) -> bool
 
 // What the answer is after a step that neither takes nor gives a value, nor jumps. One of no known kind leaves it as it was.
 fn said(x: Step, s: PositionState, answer: bool) -> bool
-    requires { ⌜ (1 ≤ x .kind → 4 ≤ x .kind) × (5 ≤ x .kind → 9 ≤ x .kind) × (16 ≤ x .kind → 25 ≤ x .kind) × (32 ≤ x .kind → 34 ≤ x .kind) ⌝ }
+    requires { ⌜ (1 ≤ x .kind → 4 ≤ x .kind) × (5 ≤ x .kind → 9 ≤ x .kind) × (9 ≤ x .kind → 13 ≤ x .kind) × (16 ≤ x .kind → 25 ≤ x .kind) × (32 ≤ x .kind → 34 ≤ x .kind) ⌝ }
     ensures { λ r. ⌜ ((h : History) (a b c d : Value) → effect h s (opOf x) a b c d answer ≡ saying 0 r) ⌝ }
 {
     if x.kind < 27 {
@@ -193,6 +272,16 @@ fn steps_run(list: &[u8]) -> usize
     }
 }
 
+// A run that stopped because a value found no place.
+fn stopped(answer: bool, visits: usize) -> Tried
+    ensures { λ r. ⌜ r .full ≡ true ⌝ }
+{
+    Tried {
+        full: true,
+        ran: Ran { answer, visits },
+    }
+}
+
 // The run of the first n steps with so many places for values. Below these lie four that are always missing: no step takes more. The
 // kinds are asked for in the order of how often they stand in a list; a jump is an `if`, not a sum, so that the next step need not
 // wait for the answer.
@@ -208,7 +297,7 @@ fn run_with(
     there: &mut [bool],
 ) -> Tried
     requires { ⌜ n ≤ stepsIn (now list) ⌝ }
-    requires { ⌜ (1 ≤ places) × (places ≤ 1024) × (first ≤ historyOf slots (now rows) .rows) ⌝ }
+    requires { ⌜ (1 ≤ places) × (places ≤ 1024) × (first ≤ historyOf slots (now rows) .rows) × (n ≤ 1024) ⌝ }
     requires { ⌜ Fresh places (now numbers) (now there) ⌝ }
     ensures { λ r. ⌜ Tries (ranOver (ringOf slots first (now (rows .entry))) s (opsFrom (now (list .entry)) 0 n)) n places (r .full) (r .ran) ⌝ }
 {
@@ -255,6 +344,15 @@ fn run_with(
             let under = left(top, 2);
             stack::put(numbers, there, under + 4, values::both(kind, b, a));
             top = under + 1;
+            p += 1;
+        } else if is_among(kind, 9, 13) {
+            if top == places {
+                return stopped(answer, visits);
+            }
+            visits += decode::before(x.skip) as usize;
+            let value = look(x, rows, slots, held, first);
+            stack::put(numbers, there, top + 4, value);
+            top += 1;
             p += 1;
         } else {
             answer = said(x, s, answer);

@@ -7,7 +7,7 @@ use native.Mathlib.Omega.{arith}
 use lib.ListN.{length-replicate}
 use Rattle.floats.specs.Floats.{zero}
 use Rattle.steps.specs.Bytes.{opsOf, opsFrom, stepsIn, stepsRun}
-use Rattle.steps.specs.Machine.{run, places}
+use Rattle.steps.specs.Machine.{run, visitCount}
 use Rattle.steps.proofs.Going.{tried-through}
 use Rattle.steps.proofs.machine.run_from.Statement.{statement}
 use Rattle.steps.proofs.machine.run_from.Tie as tie
@@ -18,7 +18,7 @@ unfolding stepsRun
 few-run bs n e = (omega arith, omega arith)
 
 pub run-from-spec : {M : Type 1} → statement M
-unfolding opsOf opsFrom run places
+unfolding opsOf opsFrom run visitCount
 run-from-spec =
     tie.close
     (tie.spec
@@ -26,10 +26,9 @@ run-from-spec =
     (λ c. rw (sym (c .before .steps-run .ensures) ∙ c .if1 .taken))
     (λ c. search needs)
     (λ c. search needs)
-    (λ c κs. (
-      few-run _ _ (c .before .before .before .steps-run .ensures) .0,
-      ((omega arith, omega arith, search needs), record { long = length-replicate 68 zero; none = refl }),
-    ))
+    (λ c κs.
+    let few = few-run _ _ (c .before .before .before .steps-run .ensures) in
+    (few .0, ((omega arith, omega arith, search needs, few .1), record { long = length-replicate 68 zero; none = refl })))
     (λ c κs. let few = few-run _ _ (c .before .before .before .before .before .before .before .steps-run .ensures) in (few .0, (few .1, search needs)))
     (λ c. rw (← c .before .before .before .before .before .before .before .before .steps-run .ensures) (c .run-whole .ensures))
     (λ c.
