@@ -32,14 +32,16 @@ enum {
     /* 1 to 9: the rule table. Nothing else was looked at. */
     YSH_REFUSED_SIZE = 1,       /* under 16 bytes: an empty file, or a length that is not the table's. Place 0 */
     YSH_REFUSED_MARK = 2,       /* the first three bytes are not "RTB": it is no rule table. Place 0 */
-    YSH_REFUSED_VERSION = 3,    /* the version is not 1: a later format, or written with the high byte first. Place 0 */
+    YSH_REFUSED_VERSION = 3,    /* the version is not 1 or 2: a later format, or written with the high byte first. Place 0 */
     YSH_REFUSED_COUNTS = 4,     /* K above 64; nodes not 2 to 256; no entry or no exit; four counts that do not sum to the nodes;
                                  * a count written with the high byte first. Place 0 */
     YSH_REFUSED_LENGTH = 5,     /* not 16 + 16 * nodes bytes: cut short, or something follows it, a newline perhaps. Place 0 */
-    YSH_REFUSED_NODE = 6,       /* a node's own bytes: a kind that does not exist, a selector out of range, a slot at or above K (K was
+    YSH_REFUSED_NODE = 6,       /* a node's own bytes: a kind that does not exist (Highest and Lowest in a table of version 1), an n of
+                                 * theirs that is not 1 to 4,095, a selector out of range, a slot at or above K (K was
                                  * not raised with it), a constant that is not finite, a field that the kind does not use and that
                                  * is not 0 (memory that was not cleared). Place: the lowest such node */
-    YSH_REFUSED_TREE = 7,       /* an operand where a condition belongs, or the other way round; nodes not in prefix order; a tree that
+    YSH_REFUSED_TREE = 7,       /* an operand where a condition belongs, or the other way round; Highest or Lowest over what is no Price and
+                                 * no Ref; nodes not in prefix order; a tree that
                                  * wants more or fewer nodes than its count. Place: the first node that cannot stand there; just past
                                  * the tree's count where it is cut short; the first surplus node */
     YSH_REFUSED_NESTING = 8,    /* deeper than 32 levels, the root being 1, operands counted too. Place: the lowest such node */

@@ -95,6 +95,7 @@ def bar_broken(c):
 # The steps' kinds (docs/INTERFACE.md, "Steps") and the fields that each uses.
 USES = {1: "nc", 2: "sn", 3: "sn", 24: "", 27: "", 28: "", 29: "", 30: "s", 31: "sn", 32: "k", 33: "k"}
 USES.update({kind: "" for kind in (*range(5, 9), *range(16, 24))})
+USES.update({kind: "skn" for kind in range(9, 13)})
 
 
 def step_good(c, step, after):
@@ -105,9 +106,11 @@ def step_good(c, step, after):
     unused = {"s": selector, "k": skip, "n": n, "c": int.from_bytes(step[8:], "little")}
     if any(value for field, value in unused.items() if field not in USES[kind]):
         return False
-    if kind == 2 and selector >= c["K"]:
+    if kind in (2, 11, 12) and selector >= c["K"]:
         return False
-    if kind in (1, 2, 3) and n >= c["D"]:
+    if (kind in (1, 2, 3) or 9 <= kind <= 12) and n >= c["D"]:
+        return False
+    if 9 <= kind <= 12 and not 1 <= skip <= n + 1:
         return False
     return not (kind in (32, 33) and skip > after)
 
@@ -397,7 +400,10 @@ STEPS = [
     ("mark and rate of no funding", {"unsupplied": (INF, NAN)}),
     ("volume no number on the last bar", {"volume": NAN, "bars": MOST - 1}),
     # 15
-    *[("kind %d" % kind, entry(kind)) for kind in (0, 4, 27, 33, 34)],
+    *[("kind %d" % kind, entry(kind)) for kind in (0, 4, 9, 12, 13, 27, 33, 34)],
+    *[("kind %d over %d rows from %d back" % (kind, skip, n), entry(kind, 1, skip, n))
+      for kind in (9, 10, 11, 12) for skip, n in ((0, 2), (1, 0), (2, 0), (3, 2), (4, 2), (1, 3), (65535, 2))],
+    *[("kind %d over %d" % (kind, selector), entry(kind, selector, 1)) for kind in (10, 11) for selector in (2, 6, 7, 255)],
     ("slot 1", entry(2, 1)),
     ("slot 2", entry(2, 2)),
     ("look-back 2", entry(2, 1, n=2)),

@@ -24,6 +24,9 @@ def operand(tree, back):
         return step(3, selector, n=back)
     if kind == 4:
         return operand(below[0], back + n)
+    if kind in (9, 10):
+        _, (over, of_price, _, of_slot, _), _ = below[0]
+        return step(kind if over == 3 else kind + 2, of_price if over == 3 else of_slot, n, back + n - 1)
     return operand(below[0], back) + operand(below[1], back) + step(kind)
 
 
@@ -84,6 +87,21 @@ TAKES = {22: 4, 23: 4, 24: 3}
 SINCE = [lambda a, k: a > k, lambda a, k: a < k, lambda a, k: a >= k, lambda a, k: a <= k, lambda a, k: a == k]
 
 
+def extreme(rows, kind, selector, count, back):
+    """Over the row so far back and the ones after it, count in all: from the oldest on, a later one only if strictly better."""
+    if back >= len(rows):
+        return None
+    oldest = len(rows) - 1 - back
+    values = [(price if kind <= 10 else slot)(row, selector) for row in rows[oldest : oldest + count]]
+    if None in values:
+        return None
+    best = values[0]
+    for later in values[1:]:
+        if later > best if kind in (9, 11) else later < best:
+            best = later
+    return best
+
+
 def in_position(position):
     return abs(number(position[0])) > EPS
 
@@ -94,15 +112,17 @@ def since_entry(position, selector, k):
 
 
 def run(listed, rows, position):
-    """The answer of a list over rows, and how many steps it visits."""
+    """The answer of a list over rows, and how many visits it counts: one a step, and for Highest and Lowest one a row."""
     values, answer, visits, at = [], False, 0, 0
     while at < len(listed):
         kind, selector, skip, n, constant = struct.unpack("<BBHIQ", listed[at : at + 16])
-        visits, at = visits + 1, at + 16
+        visits, at = visits + (skip if 9 <= kind <= 12 else 1), at + 16
         row = rows[-1 - n] if n < len(rows) else None
         if kind <= 3:
             read = (lambda: number(constant), lambda: slot(row, selector), lambda: price(row, selector))[kind - 1]
             values.append(None if row is None else read())
+        elif 9 <= kind <= 12:
+            values.append(extreme(rows, kind, selector, skip, n))
         elif kind <= 24:
             count = TAKES.get(kind, 2)
             taken, values = values[-count:], values[:-count]

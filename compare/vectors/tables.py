@@ -1,6 +1,6 @@
 """Rule tables: the check, the depth of the window and the steps of each, as calls for the program `calls`.
 
-The answers are worked out here from document 01, "The rule table" and "Refusal numbers", by recursive descent over the
+The answers are worked out here from document 01, "The rule table" and "Refusal numbers", and request 8, by recursive descent over the
 nodes; the engine goes over the table from its last node to its first and knows nothing of this.
 """
 import math
@@ -10,7 +10,11 @@ import struct
 import steps
 from words import CHECK, DEPTH, NODE_ROOM, SILENT, TABLE, TRANSLATE, UNTOUCHED, bits, lend_bytes, line, refusal
 
-OPERAND, CONDITION = "operand", "condition"
+OPERAND, CONDITION, SERIES = "operand", "condition", "series"
+
+# "one child that must be a Price or a Ref" (request 8)
+SERIES_KINDS = (2, 3)
+EXTREMES = (9, 10)
 
 # "Kinds": the sort; the children's sorts (None: as many conditions as the node says); selectors; what n is; the constant.
 KINDS = {
@@ -29,6 +33,8 @@ KINDS = {
 }
 for kind in range(5, 9):
     KINDS[kind] = (OPERAND, [OPERAND] * 2, 1, "zero", "zero")
+for kind in EXTREMES:
+    KINDS[kind] = (OPERAND, [SERIES], 1, "bars", "zero")
 for kind in range(16, 24):
     KINDS[kind] = (CONDITION, [OPERAND] * 2, 1, "zero", "zero")
 
@@ -44,9 +50,9 @@ class Misfit(Exception):
     pass
 
 
-def own_bytes_right(node, slots):
+def own_bytes_right(node, version, slots):
     kind, selector, children, n, bits = node
-    if kind not in KINDS:
+    if kind not in KINDS or (version == 1 and kind in EXTREMES):
         return False
     _, takes, selectors, use_of_n, constant = KINDS[kind]
     if selector >= selectors:
@@ -56,6 +62,8 @@ def own_bytes_right(node, slots):
     if use_of_n == "zero" and n != 0:
         return False
     if use_of_n == "slot" and n >= slots:
+        return False
+    if use_of_n == "bars" and not 1 <= n <= 4095:
         return False
     if constant == "zero":
         return bits == 0
@@ -68,7 +76,7 @@ def read_tree(nodes, at, end, sort):
         raise Misfit(at)
     node = nodes[at]
     has, takes = KINDS[node[0]][:2]
-    if has != sort:
+    if has != sort if sort != SERIES else node[0] not in SERIES_KINDS:
         raise Misfit(at)
     wanted = [CONDITION] * node[2] if takes is None else takes
     below, next_at = [], at + 1
@@ -93,6 +101,8 @@ def reach(tree):
         return n + most
     if kind in (22, 23):
         return 1 + most
+    if kind in EXTREMES:
+        return n - 1 + most
     return most
 
 
@@ -103,7 +113,7 @@ def check(data):
         raise Refused(2, 0)
     slots = data[3]
     version, total, *counts = struct.unpack("<6H", data[4:16])
-    if version != 1:
+    if version not in (1, 2):
         raise Refused(3, 0)
     if slots > 64 or not 2 <= total <= 256 or counts[0] < 1 or counts[1] < 1 or sum(counts) != total:
         raise Refused(4, 0)
@@ -111,7 +121,7 @@ def check(data):
         raise Refused(5, 0)
     nodes = [struct.unpack("<BBHIQ", data[16 + 16 * i : 32 + 16 * i]) for i in range(total)]
     for number, node in enumerate(nodes):
-        if not own_bytes_right(node, slots):
+        if not own_bytes_right(node, version, slots):
             raise Refused(6, number)
     trees, at = [], 0
     for count in counts:
@@ -235,6 +245,10 @@ def prev(a, n):
     return [node(4, n=n)] + a
 
 
+def extreme(kind, series, n):
+    return [node(kind, n=n)] + series
+
+
 def two(kind, a, b):
     return [node(kind)] + a + b
 
@@ -341,7 +355,7 @@ def nodes():
     for kind in list(range(0, 36)) + [64, 128, 255]:
         yield from with_node(node(kind))
     # each field of each kind: set where it is unused, and out of its range
-    for kind in sorted(KINDS):
+    for kind in sorted(set(KINDS) - set(EXTREMES)):
         for selector in (1, 2, 4, 5, 6, 7, 255):
             yield table(2, YES, [node(kind, selector)])
         for children in (1, 2, 256, 65535):
@@ -462,6 +476,34 @@ def reaches():
     yield table(0, YES, trend(25, CLOSE, 4095), trend(25, CLOSE, 4097), YES)
 
 
+def extremes():
+    """Highest and Lowest: n, what they stand over, their reach, their version (request 8)."""
+    for kind in EXTREMES:
+        for n in (0, 1, 2, 20, 4094, 4095, 4096, 65536, 4294967295):
+            for version in (1, 2):
+                yield table(1, two(16, CLOSE, extreme(kind, price(1), n)), two(17, extreme(kind, ref(0), n), CLOSE), version=version)
+        for below in (const(1.0), ref(0), ref(1), price(6), price(7), prev(CLOSE, 1), two(5, CLOSE, CLOSE), YES, [], extreme(9, CLOSE, 2)):
+            yield table(1, YES, two(16, extreme(kind, below, 3), CLOSE), version=2)
+            yield table(1, trend(25, extreme(kind, below, 3), 1), YES, version=2)
+        # over the next tree's node, which is no child of it
+        yield table(0, [node(16)] + CLOSE + [node(kind, n=2)], two(16, CLOSE, CLOSE), version=2)
+        yield table(0, [node(25), node(kind, n=2)], CLOSE, version=2)
+        for fields in ({"selector": 1}, {"children": 1}, {"constant": 1}):
+            yield table(0, two(16, [node(kind, n=2, **fields)] + CLOSE, CLOSE), YES, version=2)
+        # n - 1 and what is above it, on both sides of 4,095
+        for n, back in ((4095, 0), (4095, 1), (4095, 2), (2048, 2048), (2048, 2049), (1, 4095), (1, 4096), (2, 4294967295)):
+            yield table(0, two(16, CLOSE, prev(extreme(kind, CLOSE, n), back)), YES, version=2)
+            yield table(0, YES, trend(26, extreme(kind, CLOSE, n), back), version=2)
+        yield table(0, two(22, extreme(kind, CLOSE, 4095), CLOSE), YES, version=2)
+        yield table(0, YES, NO, [], two(23, CLOSE, prev(extreme(kind, CLOSE, 4095), 1)), version=2)
+        # on the 31st, 32nd and 33rd level
+        for levels in (30, 31, 32):
+            yield table(0, nest_operand(levels)[:-2] + extreme(kind, CLOSE, 5) + CLOSE, YES, version=2)
+    # the example, of either version, and of none
+    for version in (1, 2, 3, 258, 512):
+        yield EXAMPLE[:4] + version.to_bytes(2, "little") + EXAMPLE[6:]
+
+
 def random_operand(rng, slots, room):
     if room < 3 or rng.random() < 0.4:
         leaves = [lambda: const(rng.uniform(-100, 100)), lambda: price(rng.randrange(7))]
@@ -531,7 +573,7 @@ def at_random():
 
 
 def cases():
-    for part in (headers, nodes, orders, nestings, reaches, at_random):
+    for part in (headers, nodes, orders, nestings, reaches, at_random, extremes):
         yield from part()
 
 

@@ -5,6 +5,7 @@ mod calls;
 mod case;
 mod cases;
 mod compare;
+mod extremes;
 mod figures;
 mod guard;
 mod model;
@@ -16,7 +17,7 @@ mod view;
 use std::process::ExitCode;
 
 const USAGE: &str = "usage: driver compare SEED RUNS | guard SEED CALLS | root SEED COUNT | metrics SEED COUNT
-       driver replay < runs | bench";
+       driver extremes SEED COUNT | replay < runs | bench";
 
 fn usage() -> ! {
     eprintln!("{USAGE}");
@@ -33,6 +34,7 @@ fn main() -> ExitCode {
     let agree = match args[..] {
         ["compare", seed, runs] => compare::compare(number(seed), number(runs)),
         ["guard", seed, count] => guard::guard(number(seed), number(count)),
+        ["extremes", seed, count] => extremes::extremes(number(seed), number(count)),
         ["bench"] => bench::bench(),
         ["replay"] => compare::replay().expect("standard input can be read"),
         ["root", seed, count] => figures::roots(number(seed), number(count)),

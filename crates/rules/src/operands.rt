@@ -10,7 +10,8 @@ ghost use mathlib.Core.Path.{_≡_};
 ghost use Prim.Native.Nat.{ℕ, _-_, _≤_, _<_};
 ghost use Rattle.rows.specs.History.{historyOf};
 ghost use Rattle.rules.specs.Values.{priceOf, slotOf, both};
-ghost use Rattle.rules.specs.Meaning.{seriesAt, extremeOver, extremeAt, value};
+ghost use Rattle.rules.specs.Meaning.{extremeOver, extremeAt, value};
+ghost use Rattle.rules.specs.declared.Value.the-variants.{Number};
 ghost use Rattle.rules.specs.Flat.{operandAt};
 
 // A price of the row of a bar that is there.
@@ -29,18 +30,63 @@ fn slot_of_bar(rows: &[u64], slots: usize, bar: usize, slot: u64) -> Value
     values::slot_at(rows, bar * (words::limits::ROW_FIXED + slots), slot)
 }
 
-// What Highest and Lowest look over, at a bar that is there.
-fn series_of_bar(rows: &[u64], slots: usize, bar: usize, over: Series) -> Value
-    requires { ⌜ bar < historyOf slots (now rows) .rows ⌝ }
-    ensures { λ r. ⌜ r ≡ seriesAt (historyOf slots (now (rows .entry))) over bar ⌝ }
+// One of the five numbers that a row itself holds, of a bar that is there.
+fn field_of_bar(rows: &[u64], slots: usize, bar: usize, selector: u8) -> f64
+    requires { ⌜ (bar < historyOf slots (now rows) .rows) × (selector < 5) ⌝ }
+    ensures { λ r. ⌜ r ≡ priceOf (historyOf slots (now (rows .entry)) .word bar) selector ⌝ }
 {
-    match over {
-        Series::Price(selector) => Value::Number(price_of_bar(rows, slots, bar, selector)),
-        Series::Slot(slot) => slot_of_bar(rows, slots, bar, slot),
-    }
+    values::field_at(
+        rows,
+        bar * (words::limits::ROW_FIXED + slots),
+        selector as usize + 1,
+    )
 }
 
-// The best of the bars from `oldest` to `bar`, which is there: it starts at the oldest.
+// The best of such a number over the bars from `oldest` to `bar`, which is there: it starts at the oldest. A loop over words.
+fn field_over(kind: u8, rows: &[u64], slots: usize, selector: u8, oldest: usize, bar: usize) -> f64
+    requires { ⌜ (oldest ≤ bar) × (bar < historyOf slots (now rows) .rows) × (selector < 5) ⌝ }
+    ensures { λ r. ⌜ Number r ≡ extremeOver (historyOf slots (now (rows .entry))) kind (Series.Price selector) oldest (bar - oldest) ⌝ }
+{
+    let mut best = field_of_bar(rows, slots, oldest, selector);
+    let mut at = oldest;
+    while at < bar {
+        at += 1;
+        best = values::took(kind, best, field_of_bar(rows, slots, at, selector));
+    }
+    best
+}
+
+// The best of any price over the same bars.
+fn price_over(kind: u8, rows: &[u64], slots: usize, selector: u8, oldest: usize, bar: usize) -> f64
+    requires { ⌜ (oldest ≤ bar) × (bar < historyOf slots (now rows) .rows) ⌝ }
+    ensures { λ r. ⌜ Number r ≡ extremeOver (historyOf slots (now (rows .entry))) kind (Series.Price selector) oldest (bar - oldest) ⌝ }
+{
+    if selector < 5 {
+        return field_over(kind, rows, slots, selector, oldest, bar);
+    }
+    let mut best = price_of_bar(rows, slots, oldest, selector);
+    let mut at = oldest;
+    while at < bar {
+        at += 1;
+        best = values::took(kind, best, price_of_bar(rows, slots, at, selector));
+    }
+    best
+}
+
+// The best of a slot over the same bars: missing if it is absent in any.
+fn slot_over(kind: u8, rows: &[u64], slots: usize, slot: u64, oldest: usize, bar: usize) -> Value
+    requires { ⌜ (oldest ≤ bar) × (bar < historyOf slots (now rows) .rows) ⌝ }
+    ensures { λ r. ⌜ r ≡ extremeOver (historyOf slots (now (rows .entry))) kind (Series.Slot slot) oldest (bar - oldest) ⌝ }
+{
+    let mut best = slot_of_bar(rows, slots, oldest, slot);
+    let mut at = oldest;
+    while at < bar {
+        at += 1;
+        best = values::pick(kind, best, slot_of_bar(rows, slots, at, slot));
+    }
+    best
+}
+
 fn extreme_over(
     kind: u8,
     rows: &[u64],
@@ -52,13 +98,24 @@ fn extreme_over(
     requires { ⌜ (oldest ≤ bar) × (bar < historyOf slots (now rows) .rows) ⌝ }
     ensures { λ r. ⌜ r ≡ extremeOver (historyOf slots (now (rows .entry))) kind over oldest (bar - oldest) ⌝ }
 {
-    let mut best = series_of_bar(rows, slots, oldest, over);
-    let mut at = oldest;
-    while at < bar {
-        at += 1;
-        best = values::pick(kind, best, series_of_bar(rows, slots, at, over));
+    match over {
+        Series::Price(selector) => Value::Number(price_over(
+            kind,
+            rows,
+            slots,
+            selector,
+            oldest,
+            bar,
+        )),
+        Series::Slot(slot) => slot_over(kind, rows, slots, slot, oldest, bar),
     }
-    best
+}
+
+// How many bars before its own a look over n bars takes in.
+fn bars_before(n: u64) -> usize
+    ensures { λ r. ⌜ r ≡ n - 1 ⌝ }
+{
+    if n < 1 { 0 } else { n as usize - 1 }
 }
 
 // Highest or Lowest at a bar that is there: over that bar and the n - 1 before it.
@@ -66,11 +123,7 @@ fn extreme_of_bar(kind: u8, rows: &[u64], slots: usize, over: Series, n: u64, ba
     requires { ⌜ bar < historyOf slots (now rows) .rows ⌝ }
     ensures { λ r. ⌜ r ≡ extremeAt (historyOf slots (now (rows .entry))) kind over n bar ⌝ }
 {
-    let bars = n as usize;
-    if bars <= 1 {
-        return series_of_bar(rows, slots, bar, over);
-    }
-    let before = bars - 1;
+    let before = bars_before(n);
     if bar < before {
         return Value::Missing;
     }

@@ -28,7 +28,7 @@ pub fn price_at(rows: &[u64], base: usize, selector: u8) -> f64
 }
 
 // Word j of the row that begins at word `base`, as a float.
-fn field_at(rows: &[u64], base: usize, j: usize) -> f64
+pub fn field_at(rows: &[u64], base: usize, j: usize) -> f64
     ensures { λ r. ⌜ r ≡ floatOf (wordsFrom (now (rows .entry)) base j) ⌝ }
 {
     floats::float_of(words::word_from(rows, base, j))
@@ -110,7 +110,8 @@ pub fn pick(kind: u8, best: Value, later: Value) -> Value
     }
 }
 
-fn took(kind: u8, best: f64, later: f64) -> f64
+// The better of a number and a later one.
+pub fn took(kind: u8, best: f64, later: f64) -> f64
     ensures { λ r. ⌜ r ≡ Values.took kind best later ⌝ }
 {
     if better(kind, best, later) {

@@ -28,7 +28,7 @@ pub fn run(list: &[u8], rows: &[u64], (slots, depth): (u64, u64), at: Position) 
             pass -= 1;
             continue;
         }
-        visits += 1;
+        visits += step.weight();
         pass = machine.step(step);
     }
     (machine.answer.into(), visits)
@@ -41,6 +41,7 @@ impl Machine<'_> {
             1 => self.push_from(step.n, |_| Some(f64::from_bits(step.constant))),
             2 => self.push_from(step.n, |row| slot(row, step.selector)),
             3 => self.push_from(step.n, |row| Some(price(row, step.selector))),
+            9..=12 => self.push_extreme(step),
             5..=8 => {
                 let [x, y] = self.take();
                 self.push(x.zip(y).map(|(x, y)| arithmetic(step.kind, x, y)));
@@ -84,6 +85,26 @@ impl Machine<'_> {
         self.push(found);
     }
 
+    /// Over the row n back and the `skip` - 1 after it: it starts at the oldest, and a later one takes its place only if strictly
+    /// greater, for Lowest less.
+    fn push_extreme(&mut self, step: Step) {
+        let rows: Vec<&[u64]> = self.rows.chunks_exact(self.width).collect();
+        let oldest = rows.len().checked_sub(1 + step.n as usize);
+        let value = |row: &[u64]| match step.kind {
+            9 | 10 => Some(price(row, step.selector)),
+            _ => slot(row, step.selector),
+        };
+        let higher = matches!(step.kind, 9 | 11);
+        let better = |best: f64, later: f64| if higher { later > best } else { later < best };
+        let pick = |best, later| if better(best, later) { later } else { best };
+        let all = oldest.and_then(|oldest| {
+            let mut values = rows[oldest..].iter().take(step.skip.into()).map(|row| value(row));
+            let first = values.next().flatten();
+            values.fold(first, |best, later| Some(pick(best?, later?)))
+        });
+        self.push(all);
+    }
+
     /// The last values, in the order in which they were pushed; one that is not there is missing.
     fn take<const N: usize>(&mut self) -> [Option<f64>; N] {
         let mut taken = [None; N];
@@ -113,11 +134,11 @@ impl Machine<'_> {
     }
 }
 
-fn slot(row: &[u64], k: u8) -> Option<f64> {
+pub fn slot(row: &[u64], k: u8) -> Option<f64> {
     (row[6] >> k & 1 == 1).then(|| f64::from_bits(row[7 + usize::from(k)]))
 }
 
-fn price(row: &[u64], selector: u8) -> f64 {
+pub fn price(row: &[u64], selector: u8) -> f64 {
     let [open, high, low, close, volume] = [1, 2, 3, 4, 5].map(|j| f64::from_bits(row[j]));
     match selector {
         0 => open,
@@ -130,7 +151,7 @@ fn price(row: &[u64], selector: u8) -> f64 {
     }
 }
 
-fn arithmetic(kind: u8, x: f64, y: f64) -> f64 {
+pub fn arithmetic(kind: u8, x: f64, y: f64) -> f64 {
     match kind {
         5 => x + y,
         6 => x - y,
@@ -140,7 +161,7 @@ fn arithmetic(kind: u8, x: f64, y: f64) -> f64 {
     }
 }
 
-fn compared(kind: u8, x: f64, y: f64) -> bool {
+pub fn compared(kind: u8, x: f64, y: f64) -> bool {
     match kind {
         16 => x > y,
         17 => x < y,

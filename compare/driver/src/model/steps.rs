@@ -24,20 +24,36 @@ pub fn steps(list: &[u8]) -> impl Iterator<Item = Step> + '_ {
 }
 
 impl Step {
-    /// Known kinds: 1 to 3 values, 5 to 8 arithmetic, 16 to 24 tests, 27 to 29 the answer set to yes, to no, turned, 30 and 31 the
+    /// Highest or Lowest, over a price (9, 10) or a slot (11, 12).
+    fn is_extreme(&self) -> bool {
+        matches!(self.kind, 9..=12)
+    }
+
+    /// How many visits it counts.
+    pub fn weight(&self) -> u64 {
+        if self.is_extreme() {
+            self.skip.into()
+        } else {
+            1
+        }
+    }
+
+    /// Known kinds: 1 to 3 values, 5 to 8 arithmetic, 9 to 12 Highest and Lowest over a price and over a slot, 16 to 24 tests, 27 to 29 the answer set to yes, to no, turned, 30 and 31 the
     /// position, 32 and 33 jumps at a no and at a yes. `after` steps stand after this one.
     fn is_right(&self, after: usize, slots: u64, depth: u64) -> bool {
-        let looks_back = matches!(self.kind, 1..=3);
-        let selector = matches!(self.kind, 2 | 3 | 30 | 31);
+        let extreme = self.is_extreme();
+        let looks_back = extreme || matches!(self.kind, 1..=3);
+        let selector = extreme || matches!(self.kind, 2 | 3 | 30 | 31);
         let n = looks_back || self.kind == 31;
         let jumps = matches!(self.kind, 32 | 33);
-        matches!(self.kind, 1..=3 | 5..=8 | 16..=24 | 27..=33)
+        matches!(self.kind, 1..=3 | 5..=12 | 16..=24 | 27..=33)
             && (selector || self.selector == 0)
-            && (jumps || self.skip == 0)
+            && (jumps || extreme || self.skip == 0)
             && (n || self.n == 0)
             && (self.kind == 1 || self.constant == 0)
             && (!looks_back || u64::from(self.n) < depth)
-            && (self.kind != 2 || u64::from(self.selector) < slots)
+            && (!matches!(self.kind, 2 | 11 | 12) || u64::from(self.selector) < slots)
+            && (!extreme || (1..=u64::from(self.n) + 1).contains(&self.skip.into()))
             && (!jumps || usize::from(self.skip) <= after)
     }
 }

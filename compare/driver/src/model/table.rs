@@ -11,6 +11,8 @@ const MOST_REACH: u64 = 4_095;
 pub enum Sort {
     Operand,
     Condition,
+    /// An operand that is a Price or a Ref.
+    Series,
 }
 
 pub struct Node {
@@ -53,8 +55,16 @@ impl Fields<'_> {
 impl Node {
     fn sort(&self) -> Sort {
         match self.kind {
-            1..=8 => Sort::Operand,
+            1..=10 => Sort::Operand,
             _ => Sort::Condition,
+        }
+    }
+
+    /// Whether it can stand where that sort is wanted.
+    fn fits(&self, wanted: Sort) -> bool {
+        match wanted {
+            Sort::Series => matches!(self.kind, 2 | 3),
+            _ => self.sort() == wanted,
         }
     }
 
@@ -62,6 +72,7 @@ impl Node {
     pub fn below(&self) -> (usize, Sort) {
         match self.kind {
             4 | 25 | 26 => (1, Sort::Operand),
+            9 | 10 => (1, Sort::Series),
             5..=8 | 16..=23 => (2, Sort::Operand),
             24 => (3, Sort::Operand),
             27 | 28 => (self.children.into(), Sort::Condition),
@@ -70,18 +81,20 @@ impl Node {
         }
     }
 
-    /// Whether its own bytes are right: a known kind, its fields in range, the others zero.
-    fn is_right(&self, slots: u8) -> bool {
+    /// Whether its own bytes are right: a kind that the version knows, its fields in range, the others zero.
+    fn is_right(&self, version: u16, slots: u8) -> bool {
         let selectors = match self.kind {
             3 => 7,
             30 => 2,
             31 => 5,
             1 | 2 | 4..=8 | 16..=29 => 1,
+            9 | 10 if version == 2 => 1,
             _ => return false,
         };
         let n = match self.kind {
             2 => self.n < slots.into(),
             4 | 25 | 26 | 31 => true,
+            9 | 10 => (1..=MOST_REACH).contains(&self.n.into()),
             _ => self.n == 0,
         };
         let children = matches!(self.kind, 27 | 28) || self.children == 0;
@@ -98,6 +111,7 @@ impl Node {
         match self.kind {
             4 | 25 | 26 => self.n.into(),
             22 | 23 => 1,
+            9 | 10 => u64::from(self.n) - 1,
             _ => 0,
         }
     }
@@ -131,7 +145,7 @@ fn walk(table: &Fields, from: usize, end: usize) -> Walk {
             walk.misfit = (at < end).then_some(at);
             return walk;
         };
-        if at == end || table.node(at).sort() != last.1 {
+        if at == end || !table.node(at).fits(last.1) {
             walk.misfit = Some(at);
             return walk;
         }
@@ -161,7 +175,8 @@ pub fn checked(bytes: &[u8]) -> Result<(u64, u64), u64> {
     if &bytes[..3] != b"RTB" {
         return Err(refusal(2, 0));
     }
-    if table.u16(4) != 1 {
+    let version = table.u16(4);
+    if !(1..=2).contains(&version) {
         return Err(refusal(3, 0));
     }
     let (counts, total) = (table.counts(), table.total());
@@ -172,7 +187,7 @@ pub fn checked(bytes: &[u8]) -> Result<(u64, u64), u64> {
     if bytes.len() != 16 + 16 * total {
         return Err(refusal(5, 0));
     }
-    if let Some(wrong) = (0..total).find(|&i| !table.node(i).is_right(bytes[3])) {
+    if let Some(wrong) = (0..total).find(|&i| !table.node(i).is_right(version, bytes[3])) {
         return Err(refusal(6, wrong as u64));
     }
     let roots = |tree: usize| counts[..tree].iter().sum::<usize>();
@@ -235,7 +250,9 @@ mod tests {
         };
         assert_eq!(checked(&example()[..15]), Err(refusal(1, 0)));
         assert_eq!(with(2, b'C'), Err(refusal(2, 0)));
-        assert_eq!(with(4, 2), Err(refusal(3, 0)));
+        assert_eq!(with(4, 0), Err(refusal(3, 0)));
+        assert_eq!(with(4, 2), Ok((7, 3)));
+        assert_eq!(with(4, 3), Err(refusal(3, 0)));
         assert_eq!(with(3, 65), Err(refusal(4, 0)));
         assert_eq!(with(8, 0), Err(refusal(4, 0)));
         assert_eq!(checked(&example()[..127]), Err(refusal(5, 0)));
@@ -266,6 +283,31 @@ mod tests {
         let mut long = example();
         (long[8], long[10]) = (4, 3);
         assert_eq!(checked(&long), Err(refusal(7, 3)), "entry is complete too soon");
+    }
+
+    /// Lt(close, Highest(close, 20)) as the exit, in the place of the example's Prev.
+    #[test]
+    fn highest_and_lowest() {
+        let with = |version: u8, kind: u8, n: u16, child: u8| {
+            let mut table = example();
+            table[4] = version;
+            table[16 + 16 * 5] = kind;
+            table[16 + 16 * 5 + 4..16 + 16 * 5 + 6].copy_from_slice(&n.to_le_bytes());
+            table[16 + 16 * 6] = child;
+            checked(&table)
+        };
+        assert_eq!(with(2, 9, 20, 3), Ok((7, 20)));
+        assert_eq!(with(2, 10, 4_095, 3), Ok((7, 4_095)));
+        assert_eq!(with(1, 9, 20, 3), Err(refusal(6, 5)), "version 1 has none");
+        assert_eq!(with(2, 9, 0, 3), Err(refusal(6, 5)));
+        assert_eq!(with(2, 9, 4_096, 3), Err(refusal(6, 5)));
+        assert_eq!(with(2, 11, 20, 3), Err(refusal(6, 5)), "no such kind");
+        let mut over_a_prev = example();
+        over_a_prev[4] = 2;
+        (over_a_prev[16 + 16 * 3], over_a_prev[16 + 16 * 4]) = (25, 9);
+        over_a_prev[16 + 16 * 4 + 1] = 0;
+        over_a_prev[16 + 16 * 4 + 4] = 3;
+        assert_eq!(checked(&over_a_prev), Err(refusal(7, 5)), "no Price and no Ref");
     }
 
     #[test]

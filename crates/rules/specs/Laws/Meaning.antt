@@ -1,6 +1,6 @@
 -- Laws of the meaning of operands and conditions, for the proofs that cite it. Assumes nothing.
 use Prim.Native.Nat.{ℕ, zero, suc, _+_, _-_, _*_, _≤_, _<_}
-use mathlib.Core.Path.{_≡_, refl, ap, _∙_}
+use mathlib.Core.Path.{_≡_, refl, sym, ap, _∙_}
 use mathlib.Core.Bool.{Bool, true, false, cond}
 use native.Mathlib.Omega.{arith}
 use native.Mathlib.Nat.{le-refl, sub-zero}
@@ -16,7 +16,7 @@ use Rattle.table.specs.Trees.{Operand, const, ref, price, prev, arith as sums, 
 use Rattle.rules.specs.declared.Value.{Value}
 use Rattle.rules.specs.declared.Value.the-variants.{Missing, Number}
 use Rattle.rules.specs.declared.PositionState.{PositionState}
-use Rattle.rules.specs.Values.{priceOf, slotOf, both, pick, tested, compared, trended}
+use Rattle.rules.specs.Values.{priceOf, slotOf, both, took, pick, tested, compared, trended}
 use Rattle.rules.specs.Meaning.{there, seriesAt, extremeOver, extremeAt, value, holds}
 
 -- What is asked of a row that is there, and of one that is not.
@@ -70,12 +70,6 @@ module _ (h : History) (kind : ℕ) (s : Series) where
       let more : at + 1 - oldest ≡ suc (at - oldest) = omega arith in
       let last : oldest + suc (at - oldest) ≡ at + 1 = omega arith in
       rw (more, last)
-
-  pub extreme-now : (n i : ℕ) → n ≤ 1 → extremeAt h kind s n i ≡ seriesAt h s i
-  unfolding extremeAt extremeOver
-  extreme-now n i l =
-      let none : n - 1 ≡ 0 = omega arith in
-      rw (none, le-ltb i 0 (omega arith), sub-zero)
 
   pub extreme-early : (n i : ℕ) → i < n - 1 → extremeAt h kind s n i ≡ Missing
   unfolding extremeAt
@@ -134,6 +128,18 @@ module _ (h : History) (i : ℕ) (l : i < h .rows) where
   pub slot-series : (slot : ℕ) → seriesAt h (Slot slot) i ≡ slotOf (h .word i) slot
   unfolding seriesAt
   slot-series slot = row-there h i (slotOf (h .word i) slot) l
+
+-- The best price so far, one bar, and one bar more, where the rows are there.
+module _ (h : History) (kind selector oldest : ℕ) where
+  pub price-one : oldest < h .rows → Number (priceOf (h .word oldest) selector) ≡ extremeOver h kind (Price selector) oldest (oldest - oldest)
+  price-one l = sym (extreme-one h kind (Price selector) oldest ∙ price-series h oldest l selector)
+
+  pub price-more : (best : Float) (at : ℕ) → oldest ≤ at → at + 1 < h .rows
+      → Number best ≡ extremeOver h kind (Price selector) oldest (at - oldest)
+      → Number (took kind best (priceOf (h .word (at + 1)) selector)) ≡ extremeOver h kind (Price selector) oldest (at + 1 - oldest)
+  unfolding pick
+  price-more best at l there so-far =
+      rw (extreme-more h kind (Price selector) oldest at l, ← so-far, price-series h (at + 1) there selector)
 
 pub extreme-value : (h : History) (kind : ℕ) (s : Series) (n i : ℕ) → value h (extreme kind s n) i ≡ extremeAt h kind s n i
 unfolding value
