@@ -1,5 +1,5 @@
 -- A run taken one step further, with the values in two lists: the four places below them are always missing.
-use Prim.Native.Nat.{ℕ, zero, suc, _+_, _-_, _≤_, _<_, min}
+use Prim.Native.Nat.{ℕ, zero, suc, _+_, _-_, _*_, _≤_, _<_, min}
 use mathlib.Core.Path.{_≡_, refl, sym, ap, _∙_}
 use mathlib.Core.Bool.{Bool, true, false, true≢false}
 use mathlib.Core.List.{List, [], _∷_}
@@ -18,7 +18,7 @@ use Rattle.rules.specs.declared.Value.the-variants.{Missing, Number}
 use Rattle.steps.specs.declared.Op.{Op}
 use Rattle.steps.specs.declared.Ran.{Ran}
 use Rattle.steps.specs.Bytes.{opOf, stepAt, opsFrom}
-use Rattle.steps.specs.Machine.{Values, Effect, nth, given, giving, saying, passing, effect, does, after, run, places, start, ranOver}
+use Rattle.steps.specs.Machine.{Values, Effect, nth, given, giving, viewing, saying, passing, effect, does, after, run, visitCount, start, ranOver}
 use Rattle.steps.specs.Places.{numbersWith, isThere, valueAt, Fresh, Tries}
 
 -- ---- the values
@@ -84,14 +84,14 @@ module _ (h : History) (s : PositionState) (bs : List ℕ) where
       let b : suc m - suc k ≡ m - k = omega arith in
       rw (a, b) (run-on m (p + 1) k v)
 
-  places-on : (m p k : ℕ) (v : Values) → places h s p (opsFrom bs p m) k v ≡ places h s (p + k) (opsFrom bs (p + k) (m - k)) 0 v
-  unfolding places opsFrom
-  places-on m p zero v = let a : p + 0 ≡ p = omega arith in let b : m - 0 ≡ m = omega arith in rw (a, b)
-  places-on zero p (suc k) v = let b : 0 - suc k ≡ 0 = omega arith in rw b
-  places-on (suc m) p (suc k) v =
+  count-on : (m p k : ℕ) (v : Values) → visitCount h s (opsFrom bs p m) k v ≡ visitCount h s (opsFrom bs (p + k) (m - k)) 0 v
+  unfolding visitCount opsFrom
+  count-on m p zero v = let a : p + 0 ≡ p = omega arith in let b : m - 0 ≡ m = omega arith in rw (a, b)
+  count-on zero p (suc k) v = let b : 0 - suc k ≡ 0 = omega arith in rw b
+  count-on (suc m) p (suc k) v =
       let a : p + suc k ≡ p + 1 + k = omega arith in
       let b : suc m - suc k ≡ m - k = omega arith in
-      rw (a, b) (places-on m (p + 1) k v)
+      rw (a, b) (count-on m (p + 1) k v)
 
   none-left : (p m : ℕ) → m ≡ 0 → opsFrom bs p m ≡ []
   unfolding opsFrom
@@ -112,11 +112,10 @@ module _ (h : History) (s : PositionState) (bs : List ℕ) where
           rw (none-left q (n - q) (omega arith), none-left (min n q) (n - min n q) (omega arith))
       go false e = let at : min n q ≡ q = omega (arith, ltb-false n q e) in rw at
 
-  places-landed : (n q : ℕ) (v : Values) → places h s q (opsFrom bs q (n - q)) 0 v ≡ places h s (min n q) (opsFrom bs (min n q) (n - min n q)) 0 v
-  unfolding places
-  places-landed n q v = go (ltb n q) refl
+  count-landed : (n q : ℕ) (v : Values) → visitCount h s (opsFrom bs q (n - q)) 0 v ≡ visitCount h s (opsFrom bs (min n q) (n - min n q)) 0 v
+  count-landed n q v = go (ltb n q) refl
     where
-      go : (t : Bool) → ltb n q ≡ t → places h s q (opsFrom bs q (n - q)) 0 v ≡ places h s (min n q) (opsFrom bs (min n q) (n - min n q)) 0 v
+      go : (t : Bool) → ltb n q ≡ t → visitCount h s (opsFrom bs q (n - q)) 0 v ≡ visitCount h s (opsFrom bs (min n q) (n - min n q)) 0 v
       go true e =
           let past : n < q = ltb-true n q e in
           rw (none-left q (n - q) (omega arith), none-left (min n q) (n - min n q) (omega arith))
@@ -126,10 +125,10 @@ module _ (h : History) (s : PositionState) (bs : List ℕ) where
   unfolding run
   run-cons xs x v = refl
 
-  places-cons : (p : ℕ) (xs : List Op) (x : Op) (v : Values)
-      → places h s p (x ∷ xs) 0 v ≡ p ∷ places h s (p + 1) xs (does h s x v .skip) (after (does h s x v) v)
-  unfolding places
-  places-cons p xs x v = refl
+  count-cons : (xs : List Op) (x : Op) (v : Values)
+      → visitCount h s (x ∷ xs) 0 v ≡ does h s x v .visits + visitCount h s xs (does h s x v .skip) (after (does h s x v) v)
+  unfolding visitCount
+  count-cons xs x v = refl
 
 -- ---- the loop
 
@@ -148,10 +147,10 @@ pub record Going (h : History) (s : PositionState) (bs : List ℕ) (n most : ℕ
   pub room : Room most ns ts
   pub tall : top ≤ most
   pub pushed : top ≤ p
-  pub seen : visits ≤ p
+  pub seen : visits ≤ 65536 * p
   pub on : p ≤ n
   pub same : run h s (opsFrom bs 0 n) 0 start ≡ run h s (opsFrom bs p (n - p)) 0 (holding y (shown ns ts top))
-  pub count : length (places h s 0 (opsFrom bs 0 n) 0 start) ≡ visits + length (places h s p (opsFrom bs p (n - p)) 0 (holding y (shown ns ts top)))
+  pub count : visitCount h s (opsFrom bs 0 n) 0 start ≡ visits + visitCount h s (opsFrom bs p (n - p)) 0 (holding y (shown ns ts top))
 
 -- ---- a step further
 
@@ -180,7 +179,7 @@ module _ (h : History) (s : PositionState) (bs : List ℕ) (n most : ℕ) (ns : 
       )
 
   module _ (e : Effect) (is : done ≡ e) (ns' : List Float) (ts' : List Bool) (top' : ℕ) (room : Room most ns' ts') (tall : top' ≤ most)
-      (pushed : top' ≤ min n (p + 1 + e .skip)) (leaves : shown ns' ts' top' ≡ given (e .gives) (e .value) (shown ns ts (top - e .take))) where
+      (pushed : top' ≤ min n (p + 1 + e .skip)) (few : e .visits ≤ 65536) (leaves : shown ns' ts' top' ≡ given (e .gives) (e .value) (shown ns ts (top - e .take))) where
     left : Values
     left = holding (e .answer) (shown ns' ts' top')
 
@@ -205,31 +204,32 @@ module _ (h : History) (s : PositionState) (bs : List ℕ) (n most : ℕ) (ns : 
           rest,
         ) (run-landed h s bs n (p + 1 + e .skip) left)
 
-    places-next : places h s p (opsFrom bs p (n - p)) 0 (holding y (shown ns ts top)) ≡ p ∷ places h s (min n q) (opsFrom bs (min n q) (n - min n q)) 0 left
+    count-next : visitCount h s (opsFrom bs p (n - p)) 0 (holding y (shown ns ts top))
+        ≡ e .visits + visitCount h s (opsFrom bs (min n q) (n - min n q)) 0 left
     unfolding q
-    places-next =
+    count-next =
         let rest : n - p - 1 - e .skip ≡ n - (p + 1 + e .skip) = omega arith in
         rw (
           one-more h s bs p (n - p) (omega arith),
-          places-cons h s bs p (opsFrom bs (p + 1) (n - p - 1)) (opOf (stepAt bs p)) (holding y (shown ns ts top)),
+          count-cons h s bs (opsFrom bs (p + 1) (n - p - 1)) (opOf (stepAt bs p)) (holding y (shown ns ts top)),
           did,
           is,
           after-it,
-          places-on h s bs (n - p - 1) (p + 1) (e .skip) left,
+          count-on h s bs (n - p - 1) (p + 1) (e .skip) left,
           rest,
-        ) (ap (λ (ps : List ℕ). p ∷ ps) (places-landed h s bs n (p + 1 + e .skip) left))
+        ) (ap (λ (m : ℕ). e .visits + m) (count-landed h s bs n (p + 1 + e .skip) left))
 
-    going-on : Going h s bs n most ns' ts' top' (e .answer) (visits + 1) (min n (p + 1 + e .skip))
+    going-on : Going h s bs n most ns' ts' top' (e .answer) (visits + e .visits) (min n (p + 1 + e .skip))
     unfolding left q
     going-on =
         record {
           room = room;
           tall = tall;
           pushed = pushed;
-          seen = omega (arith, g .seen);
+          seen = omega (arith, g .seen, few, more);
           on = omega arith;
           same = g .same ∙ run-next;
-          count = g .count ∙ rw places-next (omega arith);
+          count = g .count ∙ rw count-next (omega arith);
         }
 
   next : min n (p + 1 + 0) ≡ p + 1
@@ -247,6 +247,7 @@ module _ (h : History) (s : PositionState) (bs : List ℕ) (n most : ℕ) (ns : 
       })
       (omega (arith, free))
       (omega (arith, g .pushed, more))
+      (omega arith)
       (put-shown ns ts v (top - m) (omega (arith, free, g .room .numbers)) (omega (arith, free, g .room .theres))))
 
   -- a leaf: none is taken
@@ -254,10 +255,26 @@ module _ (h : History) (s : PositionState) (bs : List ℕ) (n most : ℕ) (ns : 
       → Going h s bs n most (numbersWith ns (top + 4) v) (set ts (top + 4) (isThere v)) (top + 1) y (visits + 1) (p + 1)
   going-leaf v free is = rw (sub-zero top) at (going-give 0 v (omega (arith, free)) is)
 
+  -- a look over k rows: none is taken, and it counts k visits
+  pub going-look : (k : ℕ) (v : Value) → k < 65536 → top < most → done ≡ viewing k v y
+      → Going h s bs n most (numbersWith ns (top + 4) v) (set ts (top + 4) (isThere v)) (top + 1) y (visits + 1 + (k - 1)) (p + 1)
+  going-look k v small free is =
+      let counted : visits + (1 + (k - 1)) ≡ visits + 1 + (k - 1) = omega arith in
+      rw (next, counted) at (going-on (viewing k v y) is (numbersWith ns (top + 4) v) (set ts (top + 4) (isThere v)) (top + 1)
+      (record {
+        numbers = put-length ns ts (top + 4) v ∙ g .room .numbers;
+        theres = length-set ts (top + 4) (isThere v) ∙ g .room .theres;
+        low = λ j l. put-other ns ts (top + 4) v j (omega arith) ∙ g .room .low j l;
+      })
+      (omega (arith, free))
+      (omega (arith, g .pushed, more))
+      (omega arith)
+      (rw (sub-zero top) (put-shown ns ts v top (omega (arith, free, g .room .numbers)) (omega (arith, free, g .room .theres)))))
+
   -- a step that takes m values and answers
   pub going-say : (m : ℕ) (w : Bool) → done ≡ saying m w → Going h s bs n most ns ts (top - m) w (visits + 1) (p + 1)
   going-say m w is =
-      rw next at (going-on (saying m w) is ns ts (top - m) (g .room) (omega (arith, g .tall)) (omega (arith, g .pushed, more)) refl)
+      rw next at (going-on (saying m w) is ns ts (top - m) (g .room) (omega (arith, g .tall)) (omega (arith, g .pushed, more)) (omega arith) refl)
 
   -- a step that sets the answer: none is taken
   pub going-set : (w : Bool) → done ≡ saying 0 w → Going h s bs n most ns ts top w (visits + 1) (p + 1)
@@ -265,7 +282,7 @@ module _ (h : History) (s : PositionState) (bs : List ℕ) (n most : ℕ) (ns : 
 
   -- a step that passes over k others
   pub going-pass : (k : ℕ) → done ≡ passing k y → Going h s bs n most ns ts top y (visits + 1) (min n (p + 1 + k))
-  going-pass k is = going-on (passing k y) is ns ts top (g .room) (g .tall) (omega (arith, g .pushed, more)) (rw (sub-zero top))
+  going-pass k is = going-on (passing k y) is ns ts top (g .room) (g .tall) (omega (arith, g .pushed, more)) (omega arith) (rw (sub-zero top))
 
   -- a jump that is not taken
   pub going-stay : done ≡ passing 0 y → Going h s bs n most ns ts top y (visits + 1) (p + 1)
@@ -296,7 +313,7 @@ going-start h s bs n most ns ts f =
 
 pub going-end : (h : History) (s : PositionState) (bs : List ℕ) (n most : ℕ) (ns : List Float) (ts : List Bool) (top : ℕ) (y : Bool) (visits p : ℕ)
     → Going h s bs n most ns ts top y visits p → n ≤ p → record { answer = y; visits = visits } ≡ ranOver h s (opsFrom bs 0 n)
-unfolding run places
+unfolding run visitCount
 going-end h s bs n most ns ts top y visits p g le =
     let none : opsFrom bs p (n - p) ≡ [] = none-left h s bs p (n - p) (omega arith) in
     let said : y ≡ ranOver h s (opsFrom bs 0 n) .answer = rw (g .same, none) in

@@ -4,9 +4,11 @@ use mathlib.Core.Path.{_≡_, refl}
 use mathlib.Core.List.{List, [], _∷_, _++_}
 use native.Mathlib.Omega.{arith}
 use native.Mathlib.Numerals.{sub-one}
-use Rattle.table.specs.Trees.{Operand, const, ref, price, prev, arith as sums, reach}
+use Rattle.table.specs.Trees.{Operand, const, ref, price, prev, arith as sums, extreme, reach}
+use Rattle.table.specs.declared.series.Series.{Series}
+use Rattle.table.specs.Series.{seriesIn}
 use Rattle.rules.specs.declared.shapes.OperandShape.{OperandShape}
-use Rattle.rules.specs.declared.shapes.OperandShape.the-variants.{Const, Ref, Price, Prev, Arith, NoOperand}
+use Rattle.rules.specs.declared.shapes.OperandShape.the-variants.{Const, Ref, Price, Prev, Arith, Extreme, NoOperand}
 use Rattle.rules.specs.Shapes.{operandShape}
 use Rattle.rules.specs.Flat.{growOperand, operandAt}
 use Rattle.steps.specs.declared.Op.the-variants as Op
@@ -18,7 +20,7 @@ module _ (t ends : List ℕ) (i : ℕ) where
   ground left e = rw e
 
   grown : (left : ℕ) → (left ≡ 0 → ⊥) → (s x : OperandShape) → s ≡ operandShape t ends i → s ≡ x
-      → operandAt left t ends i ≡ growOperand (operandAt (left - 1) t ends) x
+      → operandAt left t ends i ≡ growOperand (seriesIn t) (operandAt (left - 1) t ends) x
   unfolding operandAt
   grown zero e s x p q = absurd (e refl)
   grown (suc left) e s x p q = rw (sub-one (suc left), ← p, q)
@@ -44,6 +46,10 @@ module _ (t ends : List ℕ) (i : ℕ) where
         → operandAt left t ends i ≡ sums kind (operandAt (left - 1) t ends a) (operandAt (left - 1) t ends b)
     unfolding growOperand
     a-sum kind a b q = grown left more s (Arith kind a b) p q
+
+    pub an-extreme : (kind a n : ℕ) → s ≡ Extreme kind a n → operandAt left t ends i ≡ extreme kind (seriesIn t a) n
+    unfolding growOperand
+    an-extreme kind a n q = grown left more s (Extreme kind a n) p q
 
     pub no-operand : s ≡ NoOperand → operandAt left t ends i ≡ const 0
     unfolding growOperand
@@ -71,7 +77,15 @@ pub code-sum : (k : ℕ) (a b : Operand) (n : ℕ) → code (sums k a b) n ≡ c
 unfolding code
 code-sum k a b n = refl
 
+pub code-extreme : (kind : ℕ) (over : Series) (m n : ℕ) → code (extreme kind over m) n ≡ Op.Extreme kind over m n ∷ []
+unfolding code
+code-extreme kind over m n = refl
+
 -- ---- look-backs stay small
+
+pub extreme-reach : (kind : ℕ) (over : Series) (m n : ℕ) → n + reach (extreme kind over m) ≤ 8192 → n + (m - 1) ≤ 8192
+unfolding reach
+extreme-reach kind over m n h = h
 
 pub prev-reach : (a : Operand) (m n : ℕ) → n + reach (prev a m) ≤ 8192 → n + m + reach a ≤ 8192
 unfolding reach

@@ -1,18 +1,19 @@
 -- What a step says, by the range in which its kind lies.
-use Prim.Native.Nat.{ℕ, _≤_, _<_}
+use Prim.Native.Nat.{ℕ, _-_, _≤_, _<_}
 use mathlib.Core.Path.{_≡_, refl, sym}
 use mathlib.Core.Bool.{Bool, true, false, cond, true≢false, _&&_, Bool·beq as beq}
 use native.Mathlib.Omega.{arith}
 use lib.Dec.{ltb, leb, eqb}
-use borrow.Author.Tests.{leb-true, ltb-true, ltb-false, eq-eqb, ne-eqb, le-leb, lt-ltb, le-ltb}
+use borrow.Author.Tests.{leb-true, ltb-true, ltb-false, eq-eqb, ne-eqb, le-leb, lt-leb, lt-ltb, le-ltb}
 use Rattle.steps.specs.declared.Step.{Step}
 use Rattle.steps.specs.declared.Op.the-variants.{Const, Ref, Price, Arith, Compare, Cross, Between, Answer, Turn, InPosition, BarsSinceEntry, JumpIf}
-use Rattle.steps.specs.declared.Op.the-variants.{Unknown}
+use Rattle.steps.specs.declared.Op.the-variants.{Extreme, Unknown}
+use Rattle.table.specs.declared.series.Series.the-variants as Over
 use Rattle.rows.specs.History.{History}
 use Rattle.rules.specs.declared.PositionState.{PositionState}
 use Rattle.rules.specs.declared.Value.{Value}
 use Rattle.rules.specs.Values.{both, compared, crossed, within}
-use Rattle.steps.specs.Bytes.{opOf, operandOp, testOp, answerOp}
+use Rattle.steps.specs.Bytes.{opOf, extremeOp, operandOp, testOp, answerOp}
 use Rattle.steps.specs.Machine.{giving, saying, passing, effect}
 
 -- ---- a range, as it is asked for
@@ -60,6 +61,28 @@ module _ (x : Step) where
   unfolding operandOp
   says-price e =
       rw (operand (omega arith), ne-eqb (x .kind) 1 (λ f. omega arith), ne-eqb (x .kind) 2 (λ f. omega arith), eq-eqb (x .kind) 3 e)
+
+  -- Highest and Lowest
+  extreme-kind : 9 ≤ x .kind → x .kind < 13 → opOf x ≡ extremeOp x
+  unfolding operandOp
+  extreme-kind le l =
+      rw (
+        operand (omega arith),
+        ne-eqb (x .kind) 1 (λ f. omega arith),
+        ne-eqb (x .kind) 2 (λ f. omega arith),
+        ne-eqb (x .kind) 3 (λ f. omega arith),
+        le-ltb (x .kind) 5 (omega arith),
+        le-ltb (x .kind) 9 le,
+        le-leb (x .kind) 12 (omega arith),
+      )
+
+  pub says-over-price : 9 ≤ x .kind → x .kind < 11 → opOf x ≡ Extreme (x .kind) (Over.Price (x .selector)) (x .skip) (x .n - (x .skip - 1))
+  unfolding extremeOp
+  says-over-price le l = rw (extreme-kind le (omega arith), lt-ltb (x .kind) 11 l)
+
+  pub says-over-slot : 11 ≤ x .kind → x .kind < 13 → opOf x ≡ Extreme (x .kind - 2) (Over.Slot (x .selector)) (x .skip) (x .n - (x .skip - 1))
+  unfolding extremeOp
+  says-over-slot le l = rw (extreme-kind (omega arith) l, le-ltb (x .kind) 11 le)
 
   says-arith : 5 ≤ x .kind → x .kind < 9 → opOf x ≡ Arith (x .kind)
   unfolding operandOp
@@ -138,10 +161,11 @@ module _ (x : Step) where
   pub says-nothing-late : 34 ≤ x .kind → opOf x ≡ Unknown
   says-nothing-late le = rw (late (omega arith), le-ltb (x .kind) 34 le)
 
-  -- a kind below 27 that is neither a leaf, an operation nor a test
-  pub says-nothing-early : (1 ≤ x .kind → 4 ≤ x .kind) → (5 ≤ x .kind → 9 ≤ x .kind) → (16 ≤ x .kind → 25 ≤ x .kind) → x .kind < 27 → opOf x ≡ Unknown
+  -- a kind below 27 that is neither a leaf, an operation, a look over rows nor a test
+  pub says-nothing-early : (1 ≤ x .kind → 4 ≤ x .kind) → (5 ≤ x .kind → 9 ≤ x .kind) → (9 ≤ x .kind → 13 ≤ x .kind) → (16 ≤ x .kind → 25 ≤ x .kind)
+      → x .kind < 27 → opOf x ≡ Unknown
   unfolding operandOp testOp
-  says-nothing-early leaf operation tests l = go (ltb (x .kind) 16) refl
+  says-nothing-early leaf operation look tests l = go (ltb (x .kind) 16) refl
     where
       below : x .kind < 16 → opOf x ≡ Unknown
       below small =
@@ -152,9 +176,12 @@ module _ (x : Step) where
             ne-eqb (x .kind) 3 (λ f. omega (arith, leaf (omega arith))),
           ) (ends (ltb (x .kind) 5) refl)
         where
-          ends : (t : Bool) → ltb (x .kind) 5 ≡ t → cond t Unknown (cond (ltb (x .kind) 9) (Arith (x .kind)) Unknown) ≡ Unknown
+          ends : (t : Bool) → ltb (x .kind) 5 ≡ t
+              → cond t Unknown (cond (ltb (x .kind) 9) (Arith (x .kind)) (cond (leb (x .kind) 12) (extremeOp x) Unknown)) ≡ Unknown
           ends true e = refl
-          ends false e = rw (le-ltb (x .kind) 9 (operation (ltb-false (x .kind) 5 e)))
+          ends false e =
+              let past = operation (ltb-false (x .kind) 5 e) in
+              rw (le-ltb (x .kind) 9 past, lt-leb (x .kind) 12 (look past))
 
       above : 16 ≤ x .kind → opOf x ≡ Unknown
       above le =

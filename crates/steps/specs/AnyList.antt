@@ -1,27 +1,35 @@
 -- A well-formed list, wherever it comes from, answers over the last D rows what it answers over all, and visits the same steps.
-use Prim.Native.Nat.{ℕ, zero, suc, _+_, _-_, _%_, _≤_, _<_, min}
-use mathlib.Core.Path.{_≡_, refl, sym, ap}
+use Prim.Native.Nat.{ℕ, zero, suc, _+_, _-_, _/_, _%_, _≤_, _<_, min}
+use mathlib.Core.Path.{_≡_, refl, sym, ap, _∙_}
+use mathlib.Core.Logic.{⊎-elim}
 use mathlib.Core.Bool.{Bool, true, false, cond, _&&_}
 use mathlib.Core.List.{List, [], _∷_}
 use native.Mathlib.Omega.{arith}
+use native.Mathlib.Nat.{zero-mul}
 use lib.Dec.{ltb, eqb}
 use lib.ListN.{length}
 use borrow.Author.Tests.{lt-ltb, le-ltb, ltb-true, ltb-false}
 use Rattle.words.specs.Limits.{mostSteps}
-use Rattle.rows.specs.History.{History, historyOf, lastRows}
-use Rattle.table.specs.Trees.{Operand, const, ref, price, reach}
+use Rattle.words.specs.Laws.Numbers.{less-or-not}
+use Rattle.rows.specs.History.{History, historyOf, width, lastRows}
+use Rattle.rows.specs.Ring.{ringOf, turned}
+use Rattle.rows.specs.Laws.Ring.{Alike, ring-turned}
+use Rattle.table.specs.declared.series.Series.{Series}
+use Rattle.table.specs.declared.series.Series.the-variants as Over
+use Rattle.table.specs.Trees.{Operand, const, ref, price, extreme, reach}
 use Rattle.rules.specs.declared.PositionState.{PositionState}
 use Rattle.rules.specs.declared.Value.{Value}
-use Rattle.rules.specs.Meaning.{newest, holds}
+use Rattle.rules.specs.Values.{priceOf, slotOf}
+use Rattle.rules.specs.Meaning.{there, seriesAt, extremeOver, extremeAt, value, newest, holds}
 use Rattle.rules.specs.Window.{Without, operand-same, without-first}
 use Rattle.steps.specs.declared.Formed.{Formed}
 use Rattle.steps.specs.declared.Formed.the-variants.{Well, Bad}
 use Rattle.steps.specs.declared.Op.{Op}
 use Rattle.steps.specs.declared.Op.the-variants.{Const, Ref, Price, Arith, Compare, Cross, Between, Answer, Turn, InPosition, BarsSinceEntry, JumpIf}
-use Rattle.steps.specs.declared.Op.the-variants.{Unknown}
+use Rattle.steps.specs.declared.Op.the-variants.{Extreme, Unknown}
 use Rattle.steps.specs.Bytes.{opOf, stepAt, opsFrom, opsOf, stepsIn, stepsRun}
-use Rattle.steps.specs.Machine.{Values, ago, effect, does, after, run, places, start, ranOver}
-use Rattle.steps.specs.WellFormed.{plain, bounded, goodStep, formedFrom, formed}
+use Rattle.steps.specs.Machine.{Values, ago, effect, does, after, run, visitCount, start, ranOver}
+use Rattle.steps.specs.WellFormed.{plain, seriesWithin, looksWithin, bounded, goodStep, formedFrom, formed}
 
 -- ---- a well-formed list has its look-backs below D
 
@@ -72,7 +80,66 @@ module _ (K D : ℕ) (bs : List ℕ) (well : formed K D bs ≡ Well) where
   bounded-ops : Bounded K D (opsOf bs)
   bounded-ops = rw run-whole (bounded-from K D bs 0 (stepsIn bs) (parts .1))
 
--- ---- a leaf less than D rows back
+-- ---- two histories whose leaves are the same, less than D rows back
+
+-- of prices, constants, and slots below K
+pub record LeavesSame (K D : ℕ) (w h : History) : Type 0 where
+  pub constant : (bits n : ℕ) → n < D → ago w (const bits) n ≡ ago h (const bits) n
+  pub slot : (k n : ℕ) → k < K → n < D → ago w (ref k) n ≡ ago h (ref k) n
+  pub cost : (p n : ℕ) → n < D → ago w (price p) n ≡ ago h (price p) n
+  pub look : (kind : ℕ) (over : Series) (n back : ℕ) → seriesWithin K over ≡ true → back + (n - 1) < D
+      → ago w (extreme kind over n) back ≡ ago h (extreme kind over n) back
+
+first : (a b : Bool) → (a && b) ≡ true → a ≡ true
+first true b e = refl
+first false b e = e
+
+module _ (K D : ℕ) (w h : History) (leaves : LeavesSame K D w h) (s : PositionState) where
+  effect-same : (m : ℕ) (x : Op) → bounded K D m x ≡ true → (a b c d : Value) (y : Bool) → effect w s x a b c d y ≡ effect h s x a b c d y
+  unfolding effect bounded looksWithin holds
+  effect-same m (Const bits n) e a b c d y = rw (leaves .constant bits n (ltb-true n D e))
+  effect-same m (Ref k n) e a b c d y = rw (leaves .slot k n (ltb-true k K (first (ltb k K) (ltb n D) e)) (ltb-true n D (second (ltb k K) (ltb n D) e)))
+  effect-same m (Price p n) e a b c d y = rw (leaves .cost p n (ltb-true n D e))
+  effect-same m (Extreme kind over n back) e a b c d y =
+      let within = first (seriesWithin K over) (ltb (back + (n - 1)) D) e in
+      let near = ltb-true (back + (n - 1)) D (second (seriesWithin K over) (ltb (back + (n - 1)) D) e) in
+      rw (leaves .look kind over n back within near)
+  effect-same m (Arith k) e a b c d y = refl
+  effect-same m (Compare k) e a b c d y = refl
+  effect-same m (Cross k) e a b c d y = refl
+  effect-same m Between e a b c d y = refl
+  effect-same m (Answer v) e a b c d y = refl
+  effect-same m Turn e a b c d y = refl
+  effect-same m (InPosition v) e a b c d y = refl
+  effect-same m (BarsSinceEntry p k) e a b c d y = refl
+  effect-same m (JumpIf v n) e a b c d y = refl
+  effect-same m Unknown e a b c d y = refl
+
+  does-same : (m : ℕ) (x : Op) → bounded K D m x ≡ true → (v : Values) → does w s x v ≡ does h s x v
+  unfolding does
+  does-same m x e v = effect-same m x e _ _ _ _ (v .answer)
+
+  run-same : (xs : List Op) → Bounded K D xs → (k : ℕ) (v : Values) → run w s xs k v ≡ run h s xs k v
+  unfolding run Bounded
+  run-same [] g k v = refl
+  run-same (x ∷ xs) g (suc k) v = run-same xs (g .1) k v
+  run-same (x ∷ xs) g zero v = rw (does-same (length xs) x (g .0) v) (run-same xs (g .1) (does h s x v .skip) (after (does h s x v) v))
+
+  counts-same : (xs : List Op) → Bounded K D xs → (k : ℕ) (v : Values) → visitCount w s xs k v ≡ visitCount h s xs k v
+  unfolding visitCount Bounded
+  counts-same [] g k v = refl
+  counts-same (x ∷ xs) g (suc k) v = counts-same xs (g .1) k v
+  counts-same (x ∷ xs) g zero v =
+      rw (does-same (length xs) x (g .0) v)
+      (ap (λ (n : ℕ). does h s x v .visits + n) (counts-same xs (g .1) (does h s x v .skip) (after (does h s x v) v)))
+
+  ran-same : (xs : List Op) → Bounded K D xs → ranOver w s xs ≡ ranOver h s xs
+  ran-same xs g =
+      let said : ranOver w s xs .answer ≡ ranOver h s xs .answer = ap (λ (v : Values). v .answer) (run-same xs g 0 start) in
+      let seen : ranOver w s xs .visits ≡ ranOver h s xs .visits = counts-same xs g 0 start in
+      rw (said, seen)
+
+-- ---- a leaf less than D rows back, over the last D rows
 
 module _ (K D : ℕ) (ws : List ℕ) where
   h : History
@@ -88,69 +155,105 @@ module _ (K D : ℕ) (ws : List ℕ) where
   unfolding h w gone lastRows historyOf
   part = without-first K (historyOf K ws .rows - D) ws (omega arith)
 
-  few : w .rows ≤ D
-  unfolding gone h
-  few = omega (arith, part .count)
+  -- all rows are among the last D, or D are left
+  all-left : h .rows ≤ D → w ≡ h
+  unfolding h w lastRows historyOf
+  all-left l =
+      let none : length ws / width K - D ≡ 0 = omega arith in
+      rw (none, zero-mul)
 
-  leaf-same : (a : Operand) (n : ℕ) → reach a ≡ 0 → n < D → ago w a n ≡ ago h a n
+  leaf-left : (a : Operand) (n : ℕ) → n + reach a < D → D < h .rows → ago w a n ≡ ago h a n
   unfolding ago newest
-  leaf-same a n flat near = go (ltb n (w .rows)) refl
-    where
-      go : (b : Bool) → ltb n (w .rows) ≡ b → ago w a n ≡ ago h a n
-      go true e =
-          let there : n < w .rows = ltb-true n (w .rows) e in
-          let also : ltb n (h .rows) ≡ true = lt-ltb n (h .rows) (omega (arith, part .count)) in
-          let at : h .rows - 1 - n ≡ gone + (w .rows - 1 - n) = omega (arith, part .count) in
-          rw (e, also, at) (sym (operand-same h w gone part a (w .rows - 1 - n) (omega arith)))
-      go false e =
-          let late : w .rows ≤ n = ltb-false n (w .rows) e in
-          let also : ltb n (h .rows) ≡ false = le-ltb n (h .rows) (unfold gone h in omega (arith, part .count)) in
-          rw (e, also)
+  leaf-left a n near l =
+      let left : w .rows ≡ D = unfold gone h in omega (arith, part .count) in
+      let at : h .rows - 1 - n ≡ gone + (w .rows - 1 - n) = omega (arith, part .count) in
+      rw (lt-ltb n (w .rows) (omega arith), lt-ltb n (h .rows) (omega arith), at)
+      (sym (operand-same h w gone part a (w .rows - 1 - n) (omega arith)))
 
-  -- ---- a step, a run
+  leaf-same : (a : Operand) (n : ℕ) → n + reach a < D → ago w a n ≡ ago h a n
+  leaf-same a n near = ⊎-elim (leaf-left a n near) (λ all. ap (λ (x : History). ago x a n) (all-left all)) (less-or-not D (h .rows))
 
-  module _ (s : PositionState) where
-    effect-same : (m : ℕ) (x : Op) → bounded K D m x ≡ true → (a b c d : Value) (y : Bool) → effect w s x a b c d y ≡ effect h s x a b c d y
-    unfolding effect bounded reach holds
-    effect-same m (Const bits n) e a b c d y = rw (leaf-same (const bits) n refl (ltb-true n D e))
-    effect-same m (Ref k n) e a b c d y = rw (leaf-same (ref k) n refl (ltb-true n D (second (ltb k K) (ltb n D) e)))
-    effect-same m (Price p n) e a b c d y = rw (leaf-same (price p) n refl (ltb-true n D e))
-    effect-same m (Arith k) e a b c d y = refl
-    effect-same m (Compare k) e a b c d y = refl
-    effect-same m (Cross k) e a b c d y = refl
-    effect-same m Between e a b c d y = refl
-    effect-same m (Answer v) e a b c d y = refl
-    effect-same m Turn e a b c d y = refl
-    effect-same m (InPosition v) e a b c d y = refl
-    effect-same m (BarsSinceEntry p k) e a b c d y = refl
-    effect-same m (JumpIf v n) e a b c d y = refl
-    effect-same m Unknown e a b c d y = refl
+  last-same : LeavesSame K D w h
+  unfolding reach
+  last-same =
+      record {
+        constant = λ bits n near. leaf-same (const bits) n (omega arith);
+        slot = λ k n below near. leaf-same (ref k) n (omega arith);
+        cost = λ p n near. leaf-same (price p) n (omega arith);
+        look = λ kind over n back within near. leaf-same (extreme kind over n) back near;
+      }
 
-    does-same : (m : ℕ) (x : Op) → bounded K D m x ≡ true → (v : Values) → does w s x v ≡ does h s x v
-    unfolding does
-    does-same m x e v = effect-same m x e _ _ _ _ (v .answer)
+-- ---- rows from a row on, and the rows turned
 
-    run-same : (xs : List Op) → Bounded K D xs → (k : ℕ) (v : Values) → run w s xs k v ≡ run h s xs k v
-    unfolding run Bounded
-    run-same [] g k v = refl
-    run-same (x ∷ xs) g (suc k) v = run-same xs (g .1) k v
-    run-same (x ∷ xs) g zero v = rw (does-same (length xs) x (g .0) v) (run-same xs (g .1) (does h s x v .skip) (after (does h s x v) v))
+-- words that agree below the width give the same price, and the same slot below K
+price-alike : (K p : ℕ) (f g : ℕ → ℕ) → ((j : ℕ) → j < width K → f j ≡ g j) → priceOf f p ≡ priceOf g p
+unfolding priceOf
+price-alike K p f g same =
+    ⊎-elim (λ (one : p < 5). rw (lt-ltb p 5 one, same (p + 1) (omega arith)))
+    (λ (more : 5 ≤ p). rw (le-ltb p 5 more, same 1 (omega arith), same 2 (omega arith), same 3 (omega arith), same 4 (omega arith)))
+    (less-or-not p 5)
 
-    places-same : (p : ℕ) (xs : List Op) → Bounded K D xs → (k : ℕ) (v : Values) → places w s p xs k v ≡ places h s p xs k v
-    unfolding places Bounded
-    places-same p [] g k v = refl
-    places-same p (x ∷ xs) g (suc k) v = places-same (p + 1) xs (g .1) k v
-    places-same p (x ∷ xs) g zero v =
-        rw (does-same (length xs) x (g .0) v) (ap (λ (ps : List ℕ). p ∷ ps) (places-same (p + 1) xs (g .1) (does h s x v .skip) (after (does h s x v) v)))
+slot-alike : (K k : ℕ) (f g : ℕ → ℕ) → ((j : ℕ) → j < width K → f j ≡ g j) → k < K → slotOf f k ≡ slotOf g k
+unfolding slotOf
+slot-alike K k f g same below = rw (same 6 (omega arith), same (7 + k) (omega arith))
 
-    ran-same : (xs : List Op) → Bounded K D xs → ranOver w s xs ≡ ranOver h s xs
-    ran-same xs g =
-        let said : ranOver w s xs .answer ≡ ranOver h s xs .answer = ap (λ (v : Values). v .answer) (run-same xs g 0 start) in
-        let seen : ranOver w s xs .visits ≡ ranOver h s xs .visits = ap length (places-same 0 xs g 0 start) in
-        rw (said, seen)
+module _ (K D : ℕ) (w h : History) (alike : Alike K w h) where
+  series-alike : (over : Series) (i : ℕ) → seriesWithin K over ≡ true → i < w .rows → seriesAt w over i ≡ seriesAt h over i
+  unfolding seriesAt there seriesWithin
+  series-alike (Over.Price p) i e l =
+      rw (← alike .count, price-alike K p (w .word i) (h .word i) (λ j m. alike .words i j l m))
+  series-alike (Over.Slot k) i e l =
+      rw (← alike .count, slot-alike K k (w .word i) (h .word i) (λ j m. alike .words i j l m) (ltb-true k K e))
+
+  extreme-alike : (kind : ℕ) (over : Series) (oldest m : ℕ) → seriesWithin K over ≡ true → oldest + m < w .rows
+      → extremeOver w kind over oldest m ≡ extremeOver h kind over oldest m
+  unfolding extremeOver
+  extreme-alike kind over oldest zero e l = series-alike over oldest e (omega arith)
+  extreme-alike kind over oldest (suc m) e l =
+      rw (extreme-alike kind over oldest m e (omega arith), series-alike over (oldest + suc m) e l)
+
+  extreme-at-alike : (kind : ℕ) (over : Series) (n i : ℕ) → seriesWithin K over ≡ true → i < w .rows
+      → extremeAt w kind over n i ≡ extremeAt h kind over n i
+  unfolding extremeAt
+  extreme-at-alike kind over n i e l =
+      ⊎-elim (λ (few : i < n - 1). rw (lt-ltb i (n - 1) few))
+      (λ (many : n - 1 ≤ i). rw (le-ltb i (n - 1) many) (extreme-alike kind over (i - (n - 1)) (n - 1) e (omega arith))) (less-or-not i (n - 1))
+
+  alike-same : LeavesSame K D w h
+  unfolding ago value there newest
+  alike-same =
+      let count = alike .count in
+      record {
+        constant = λ bits n near. rw count;
+        slot = λ k n below near.
+            ⊎-elim
+            (λ (held : n < w .rows).
+            let i = w .rows - 1 - n in
+            rw (← count, slot-alike K k (w .word i) (h .word i) (λ j l. alike .words i j (omega arith) l) below))
+            (λ (late : w .rows ≤ n). rw (← count, le-ltb n (w .rows) late)) (less-or-not n (w .rows));
+        cost = λ p n near.
+            ⊎-elim
+            (λ (held : n < w .rows).
+            let i = w .rows - 1 - n in
+            rw (← count, price-alike K p (w .word i) (h .word i) (λ j l. alike .words i j (omega arith) l)))
+            (λ (late : w .rows ≤ n). rw (← count, le-ltb n (w .rows) late)) (less-or-not n (w .rows));
+        look = λ kind over n back within near.
+            ⊎-elim (λ (held : back < w .rows). rw (extreme-at-alike kind over n (w .rows - 1 - back) within (omega arith), count))
+            (λ (late : w .rows ≤ back). rw (← count, le-ltb back (w .rows) late)) (less-or-not back (w .rows));
+      }
+
+-- ---- the theorems
 
 -- THE WINDOW of any list: well formed for D, it gives over the last D rows the answer and the visits that it gives over all.
 pub window-any : (K D : ℕ) (ws bs : List ℕ) (s : PositionState) → formed K D bs ≡ Well
     → ranOver (historyOf K (lastRows K D ws)) s (opsOf bs) ≡ ranOver (historyOf K ws) s (opsOf bs)
 unfolding h w
-window-any K D ws bs s well = ran-same K D ws s (opsOf bs) (bounded-ops K D bs well)
+window-any K D ws bs s well = ran-same K D (w K D ws) (h K D ws) (last-same K D ws) s (opsOf bs) (bounded-ops K D bs well)
+
+-- THE RING of any list: well formed for D, it gives over rows from row `start` on what it gives over the last D of the turned rows.
+pub ring-any : (K D start : ℕ) (ws bs : List ℕ) (s : PositionState) → formed K D bs ≡ Well
+    → ranOver (ringOf K start ws) s (opsOf bs) ≡ ranOver (historyOf K (lastRows K D (turned (width K) start ws))) s (opsOf bs)
+ring-any K D start ws bs s well =
+    let T = historyOf K (turned (width K) start ws) in
+    ran-same K D (ringOf K start ws) T (alike-same K D (ringOf K start ws) T (ring-turned K start ws)) s (opsOf bs) (bounded-ops K D bs well)
+    ∙ sym (window-any K D (turned (width K) start ws) bs s well)

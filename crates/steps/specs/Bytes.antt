@@ -1,17 +1,19 @@
 -- A list of steps as bytes: read and written. Definitions only.
-use Prim.Native.Nat.{ℕ, zero, suc, _+_, _*_, _/_, _%_, _≤_, min}
+use Prim.Native.Nat.{ℕ, zero, suc, _+_, _-_, _*_, _/_, _%_, _≤_, min}
 use mathlib.Core.Path.{_≡_}
 use mathlib.Core.Bool.{cond}
 use mathlib.Core.List.{List, [], _∷_, _++_}
 use lib.ListN.{length, getD, set}
-use lib.Dec.{ltb, eqb}
+use lib.Dec.{ltb, leb, eqb}
 use Rattle.words.specs.Limits.{mostSteps}
 use Rattle.table.specs.Named as Named
+use Rattle.table.specs.declared.series.Series.{Series}
+use Rattle.table.specs.declared.series.Series.the-variants as Over
 use Rattle.table.specs.Bytes.{u16, u32, u64}
 use Rattle.steps.specs.declared.Step.{Step}
 use Rattle.steps.specs.declared.Op.{Op}
 use Rattle.steps.specs.declared.Op.the-variants.{Const, Ref, Price, Arith, Compare, Cross, Between, Answer, Turn, InPosition, BarsSinceEntry, JumpIf}
-use Rattle.steps.specs.declared.Op.the-variants.{Unknown}
+use Rattle.steps.specs.declared.Op.the-variants.{Extreme, Unknown}
 
 -- ---- reading
 
@@ -37,6 +39,22 @@ jumpAtNo = 32
 abbrev pub jumpAtYes : ℕ
 jumpAtYes = 33
 
+-- "Kinds of steps 9, 10 over a price and 11, 12 over a slot" (decided): Highest and Lowest over a price have the kind's number.
+abbrev pub highestSlot : ℕ
+highestSlot = 11
+
+abbrev pub lowestSlot : ℕ
+lowestSlot = 12
+
+unfoldable pub slotKind : ℕ → ℕ
+slotKind kind = cond (eqb kind Named.highest) highestSlot lowestSlot
+
+-- Decided: the selector is the price or the slot, skip is how many rows, n the look-back to the oldest of them.
+unfoldable pub extremeOp : Step → Op
+extremeOp x =
+    cond (ltb (x .kind) highestSlot) (Extreme (x .kind) (Over.Price (x .selector)) (x .skip) (x .n - (x .skip - 1)))
+    (Extreme (x .kind - 2) (Over.Slot (x .selector)) (x .skip) (x .n - (x .skip - 1)))
+
 -- What a step says, by its kind. Kinds below Gt are of operands,
 unfoldable pub operandOp : Step → Op
 operandOp x =
@@ -44,7 +62,8 @@ operandOp x =
     (cond (eqb (x .kind) Named.ref) (Ref (x .selector) (x .n))
     (cond (eqb (x .kind) Named.price) (Price (x .selector) (x .n))
     (cond (ltb (x .kind) Named.add) Unknown
-    (cond (ltb (x .kind) 9) (Arith (x .kind)) Unknown))))
+    (cond (ltb (x .kind) Named.highest) (Arith (x .kind))
+    (cond (leb (x .kind) lowestSlot) (extremeOp x) Unknown)))))
 
 -- those below All of tests on values,
 unfoldable pub testOp : Step → Op
@@ -79,11 +98,17 @@ opsOf bs = opsFrom bs 0 (stepsRun bs)
 
 -- ---- writing
 
+-- Highest or Lowest over n rows, the oldest of them so many back.
+unfoldable pub extremeStep : ℕ → Series → ℕ → ℕ → Step
+extremeStep kind (Over.Price p) n oldest = fields kind p n oldest 0
+extremeStep kind (Over.Slot k) n oldest = fields (slotKind kind) k n oldest 0
+
 -- The fields of a step that says so; those that its kind does not use are zero.
 unfoldable pub stepOf : Op → Step
 stepOf (Const bits n) = fields Named.const 0 0 n bits
 stepOf (Ref k n) = fields Named.ref k 0 n 0
 stepOf (Price p n) = fields Named.price p 0 n 0
+stepOf (Extreme kind over n back) = extremeStep kind over n (back + (n - 1))
 stepOf (Arith k) = fields k 0 0 0 0
 stepOf (Compare k) = fields k 0 0 0 0
 stepOf (Cross k) = fields k 0 0 0 0

@@ -31,7 +31,7 @@ use Rattle.steps.specs.declared.Ran.{Ran}
 use Rattle.steps.specs.declared.RunAnswer.the-variants.{Runs}
 use Rattle.steps.specs.declared.Translated.the-variants.{Writes, Refuses}
 use Rattle.steps.specs.Bytes.{bytesOf, opsOf}
-use Rattle.steps.specs.Machine.{visited}
+use Rattle.steps.specs.Machine.{visitsOf}
 use Rattle.table.specs.Depth.{greatestReach, depthOf, rowBytes, depthAnswer}
 use Rattle.steps.specs.Laws.Encoding.{steps-long}
 use Rattle.steps.specs.Translating.{stepsOf, roomFor, writesOr, afterTable, translates, roomAfter, roomLeft}
@@ -120,7 +120,7 @@ pub demand-three : (t : List ℕ) → Bytes t
     → runs (take (16 * used) (roomLeft t tree room)) (lastRows (slots t) D ws) (slots t) D s
     ≡ Runs (record {
       answer = says (historyOf (slots t) ws) s (treeOf t (treeNumber tree));
-      visits = length (visited (historyOf (slots t) ws) s (opsOf (take (16 * used) (roomLeft t tree room))));
+      visits = visitsOf (historyOf (slots t) ws) s (opsOf (take (16 * used) (roomLeft t tree room)));
     })
 demand-three t bytes lookback D row window needs tree room used writes ws whole s fine =
     let K = slots t in

@@ -2,10 +2,10 @@
 use Prim.Native.Nat.{ℕ, zero, suc, _+_, _-_}
 use mathlib.Core.Bool.{Bool, true, false, not, cond, Bool·beq as beq}
 use mathlib.Core.List.{List, [], _∷_}
-use lib.ListN.{length, getD, drop}
+use lib.ListN.{getD, drop}
 use lib.Dec.{ltb}
 use Rattle.rows.specs.History.{History}
-use Rattle.table.specs.Trees.{Operand, const, ref, price, inPosition, barsSince}
+use Rattle.table.specs.Trees.{Operand, const, ref, price, extreme, inPosition, barsSince}
 use Rattle.rules.specs.declared.PositionState.{PositionState}
 use Rattle.rules.specs.declared.Value.{Value}
 use Rattle.rules.specs.declared.Value.the-variants.{Missing}
@@ -14,7 +14,7 @@ use Rattle.rules.specs.Meaning.{value, holds, newest}
 use Rattle.steps.specs.declared.Ran.{Ran}
 use Rattle.steps.specs.declared.Op.{Op}
 use Rattle.steps.specs.declared.Op.the-variants.{Const, Ref, Price, Arith, Compare, Cross, Between, Answer, Turn, InPosition, BarsSinceEntry}
-use Rattle.steps.specs.declared.Op.the-variants.{JumpIf, Unknown}
+use Rattle.steps.specs.declared.Op.the-variants.{Extreme, JumpIf, Unknown}
 
 -- ---- the values so far
 
@@ -33,13 +33,14 @@ start = record { stack = []; answer = false }
 
 -- ---- a step
 
--- What a step does: it takes so many values, gives one or none, leaves an answer and passes over so many steps.
+-- What a step does: it takes so many values, gives one or none, leaves an answer and passes over so many steps. It counts so many visits.
 pub record Effect : Type 0 where
   pub take : ℕ
   pub gives : Bool
   pub value : Value
   pub answer : Bool
   pub skip : ℕ
+  pub visits : ℕ
 
 -- An operand n rows before the newest, missing where there are not more than n rows.
 unfoldable pub ago : History → Operand → ℕ → Value
@@ -47,15 +48,20 @@ ago h a n = cond (ltb n (h .rows)) (value h a (newest h - n)) Missing
 
 -- Takes m values and gives one, the answer as it was.
 abbrev pub giving : ℕ → Value → Bool → Effect
-giving m v y = record { take = m; gives = true; value = v; answer = y; skip = 0 }
+giving m v y = record { take = m; gives = true; value = v; answer = y; skip = 0; visits = 1 }
+
+-- "Such a step counts n visits" (request 8): a look over n rows takes no value and gives one. One visit where n is 0: no well-formed list
+-- has such a step.
+abbrev pub viewing : ℕ → Value → Bool → Effect
+viewing n v y = record { take = 0; gives = true; value = v; answer = y; skip = 0; visits = 1 + (n - 1) }
 
 -- Takes m values and answers.
 abbrev pub saying : ℕ → Bool → Effect
-saying m y = record { take = m; gives = false; value = Missing; answer = y; skip = 0 }
+saying m y = record { take = m; gives = false; value = Missing; answer = y; skip = 0; visits = 1 }
 
 -- Passes over n steps, the answer as it was.
 abbrev pub passing : ℕ → Bool → Effect
-passing n y = record { take = 0; gives = false; value = Missing; answer = y; skip = n }
+passing n y = record { take = 0; gives = false; value = Missing; answer = y; skip = n; visits = 1 }
 
 -- "What a step does depends on its own 16 bytes, the rows, the position state and the values so far": a, b, c, d are the last four
 -- values, the last first, and y is the answer so far.
@@ -63,6 +69,7 @@ unfoldable pub effect : History → PositionState → Op → Value → Value →
 effect h s (Const bits n) a b c d y = giving 0 (ago h (const bits) n) y
 effect h s (Ref k n) a b c d y = giving 0 (ago h (ref k) n) y
 effect h s (Price p n) a b c d y = giving 0 (ago h (price p) n) y
+effect h s (Extreme kind over n back) a b c d y = viewing n (ago h (extreme kind over n) back) y
 effect h s (Arith k) a b c d y = giving 2 (both k b a) y
 effect h s (Compare k) a b c d y = saying 2 (compared k b a)
 effect h s (Cross k) a b c d y = saying 4 (crossed k d c b a)
@@ -101,6 +108,12 @@ places h s p [] k v = []
 places h s p (x ∷ xs) (suc k) v = places h s (p + 1) xs k v
 places h s p (x ∷ xs) zero v = p ∷ places h s (p + 1) xs (does h s x v .skip) (after (does h s x v) v)
 
+-- "a run reports how many steps it visited", a look over n rows counting n times
+unfoldable pub visitCount : History → PositionState → List Op → ℕ → Values → ℕ
+visitCount h s [] k v = 0
+visitCount h s (x ∷ xs) (suc k) v = visitCount h s xs k v
+visitCount h s (x ∷ xs) zero v = does h s x v .visits + visitCount h s xs (does h s x v .skip) (after (does h s x v) v)
+
 -- The answer of a whole list.
 abbrev pub answers : History → PositionState → List Op → Bool
 answers h s xs = run h s xs 0 start .answer
@@ -109,6 +122,9 @@ answers h s xs = run h s xs 0 start .answer
 abbrev pub visited : History → PositionState → List Op → List ℕ
 visited h s xs = places h s 0 xs 0 start
 
--- "a run reports how many steps it visited"
+-- What it counts.
+abbrev pub visitsOf : History → PositionState → List Op → ℕ
+visitsOf h s xs = visitCount h s xs 0 start
+
 abbrev pub ranOver : History → PositionState → List Op → Ran
-ranOver h s xs = record { answer = answers h s xs; visits = length (visited h s xs) }
+ranOver h s xs = record { answer = answers h s xs; visits = visitsOf h s xs }

@@ -6,7 +6,6 @@ use mathlib.Core.List.{List, [], _∷_}
 use native.Mathlib.Omega.{arith}
 use lib.Dec.{ltb}
 use lib.Ieee as Ieee
-use lib.ListN.{length}
 use borrow.Author.Tests.{le-ltb}
 use Rattle.words.specs.Limits.{mostSlots, mostRows}
 use Rattle.floats.specs.Floats.{floatOf}
@@ -21,7 +20,7 @@ use Rattle.steps.specs.declared.Op.{Op}
 use Rattle.steps.specs.declared.Op.the-variants.{Const, Compare}
 use Rattle.steps.specs.declared.RunAnswer.the-variants.{Runs}
 use Rattle.steps.specs.Bytes.{bytesOf}
-use Rattle.steps.specs.Machine.{Values, ago, effect, does, after, run, places, start}
+use Rattle.steps.specs.Machine.{Values, ago, effect, does, after, run, visitCount, start}
 use Rattle.steps.specs.Running.{ranIf, runs}
 use Rattle.steps.specs.Laws.TranslatedSteps.{Good, AllGood}
 use Rattle.steps.specs.Laws.WrittenSteps.{well-formed, reads-back}
@@ -62,10 +61,10 @@ module _ (h : History) (s : PositionState) where
   says-no zero v = not-below
   says-no (suc n) v = says-no n (after (does h s (Const 0 0) v) v)
 
-  sees-all : (n p : ℕ) (v : Values) → length (places h s p (after-zeros n) 0 v) ≡ n + 3
-  unfolding after-zeros last places does effect
-  sees-all zero p v = refl
-  sees-all (suc n) p v = omega (arith, sees-all n (p + 1) (after (does h s (Const 0 0) v) v))
+  sees-all : (n : ℕ) (v : Values) → visitCount h s (after-zeros n) 0 v ≡ n + 3
+  unfolding after-zeros last visitCount does effect
+  sees-all zero v = refl
+  sees-all (suc n) v = omega (arith, sees-all n (after (does h s (Const 0 0) v) v))
 
 module _ (K D : ℕ) (deep : 1 ≤ D) where
   all-good : (n : ℕ) → AllGood K D (after-zeros n)
@@ -87,5 +86,5 @@ module _ (K D : ℕ) (deep : 1 ≤ D) where
         well-formed K D few most five-below-three (unfold after-zeros last in omega arith) (all-good 63),
         reads-back K D few most five-below-three (unfold after-zeros last in omega arith) (all-good 63),
         says-no (historyOf K ws) s 63 start,
-        sees-all (historyOf K ws) s 63 0 start,
+        sees-all (historyOf K ws) s 63 start,
       )

@@ -3,8 +3,8 @@ use Prim.Native.Nat.{ℕ, _+_, _*_, _≤_}
 use mathlib.Core.Bool.{Bool, true, false}
 use native.Mathlib.Omega.{arith}
 use lib.ListN.{length, length-append}
-use Rattle.table.specs.Trees.{Operand, const, ref, price, prev, arith as sums, Condition, Conditions, compare, cross, between, trend, every, any, negated}
-use Rattle.table.specs.Trees.{inPosition, barsSince, none, more}
+use Rattle.table.specs.Trees.{Operand, const, ref, price, prev, arith as sums, extreme, Condition, Conditions, compare, cross, between, trend, every, any}
+use Rattle.table.specs.Trees.{negated, inPosition, barsSince, none, more}
 use Rattle.table.specs.Writing.{nodesIn, nodesOf, nodesOfAll}
 use Rattle.steps.specs.Translation.{code, codeOf, codeEach}
 
@@ -14,6 +14,7 @@ operand-room (const b) n = omega arith
 operand-room (ref k) n = omega arith
 operand-room (price s) n = omega arith
 operand-room (prev a m) n = omega (arith, operand-room a (n + m))
+operand-room (extreme k over m) n = omega arith
 operand-room (sums k a b) n = simp length-append (omega (arith, operand-room a n, operand-room b n))
 
 mutual

@@ -3,7 +3,7 @@ use Prim.Native.Nat.{ℕ, _*_, _≤_, _<_}
 use mathlib.Core.Path.{_≡_, _∙_}
 use mathlib.Core.Bool.{true}
 use mathlib.Core.List.{List}
-use lib.ListN.{length, take}
+use lib.ListN.{take}
 use native.Mathlib.Omega.{arith}
 use borrow.Author.Tests.{le-ltb}
 use Rattle.words.specs.Limits.{mostSlots, mostRows}
@@ -27,7 +27,7 @@ use Rattle.table.specs.declared.depth.DepthAnswer.the-variants.{Needs}
 use Rattle.steps.specs.declared.RunAnswer.the-variants.{Runs}
 use Rattle.steps.specs.declared.Translated.the-variants.{Writes}
 use Rattle.steps.specs.Bytes.{bytesOf, opsOf}
-use Rattle.steps.specs.Machine.{visited}
+use Rattle.steps.specs.Machine.{visitsOf}
 use Rattle.table.specs.Depth.{depthAnswer}
 use Rattle.steps.specs.Translating.{stepsOf, translates, roomLeft}
 use Rattle.steps.specs.Running.{ranIf, runs}
@@ -41,7 +41,7 @@ runs-any : (t : List ℕ) (n r : ℕ) → checked t ≡ Accepted n r → Bytes t
     → runs (bytesOf (stepsOf t x)) ws (slots t) D s
     ≡ Runs (record {
       answer = says (historyOf (slots t) ws) s (treeOf t x);
-      visits = length (visited (historyOf (slots t) ws) s (opsOf (bytesOf (stepsOf t x))));
+      visits = visitsOf (historyOf (slots t) ws) s (opsOf (bytesOf (stepsOf t x)));
     })
 unfolding runs ranIf
 runs-any t n r ok bytes x four D above most ws s whole fine =
@@ -66,7 +66,7 @@ pub short-runs : (t : List ℕ) → Bytes t
     → runs (take (16 * used) (roomLeft t tree room)) (lastRows (slots t) d ws) (slots t) D s
     ≡ Runs (record {
       answer = says (historyOf (slots t) ws) s (struckOut d (treeOf t (treeNumber tree)));
-      visits = length (visited (historyOf (slots t) (lastRows (slots t) d ws)) s (opsOf (take (16 * used) (roomLeft t tree room))));
+      visits = visitsOf (historyOf (slots t) (lastRows (slots t) d ws)) s (opsOf (take (16 * used) (roomLeft t tree room)));
     })
 short-runs t bytes lookback D row window needs tree room used writes ws whole s fine d =
     let K = slots t in

@@ -5,10 +5,10 @@ use mathlib.Core.List.{List, [], _∷_, _++_}
 use lib.ListN.{length}
 use lib.Dec.{eqb}
 use Rattle.table.specs.Named as Named
-use Rattle.table.specs.Trees.{Operand, const, ref, price, prev, arith, Condition, Conditions, compare, cross, between, trend, every, any, negated, inPosition}
-use Rattle.table.specs.Trees.{barsSince, none, more}
+use Rattle.table.specs.Trees.{Operand, const, ref, price, prev, arith, extreme, Condition, Conditions, compare, cross, between, trend, every, any, negated}
+use Rattle.table.specs.Trees.{inPosition, barsSince, none, more}
 use Rattle.steps.specs.declared.Op.{Op}
-use Rattle.steps.specs.declared.Op.the-variants.{Const, Ref, Price, Arith, Compare, Cross, Between, Answer, Turn, InPosition, BarsSinceEntry, JumpIf}
+use Rattle.steps.specs.declared.Op.the-variants.{Const, Ref, Price, Extreme, Arith, Compare, Cross, Between, Answer, Turn, InPosition, BarsSinceEntry, JumpIf}
 
 -- The steps of an operand, n rows back. Prev makes no step of its own: it adds its n to the look-back of the leaves below it, so
 -- nothing is folded and "missing" is kept.
@@ -17,6 +17,7 @@ code (const bits) n = Const bits n ∷ []
 code (ref k) n = Ref k n ∷ []
 code (price p) n = Price p n ∷ []
 code (prev a m) n = code a (n + m)
+code (extreme kind over m) n = Extreme kind over m n ∷ []
 code (arith k a b) n = code a n ++ (code b n ++ Arith k ∷ [])
 
 -- Rising compares now with then as Gt does; Falling, the other kind, as Lt.

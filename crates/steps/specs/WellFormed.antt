@@ -1,26 +1,33 @@
 -- Which lists of steps are well formed. Definitions only.
-use Prim.Native.Nat.{ℕ, zero, suc, _+_, _%_}
+use Prim.Native.Nat.{ℕ, zero, suc, _+_, _-_, _%_}
 use mathlib.Core.Bool.{Bool, true, false, cond, _&&_}
 use mathlib.Core.List.{List}
 use lib.ListN.{length}
 use lib.Dec.{ltb, leb, eqb}
 use Rattle.words.specs.Limits.{mostSteps}
+use Rattle.table.specs.declared.series.Series.{Series}
+use Rattle.table.specs.declared.series.Series.the-variants as Over
 use Rattle.steps.specs.declared.Step.{Step}
 use Rattle.steps.specs.declared.Formed.{Formed}
 use Rattle.steps.specs.declared.Formed.the-variants.{Well, Bad}
 use Rattle.steps.specs.declared.Op.{Op}
 use Rattle.steps.specs.declared.Op.the-variants.{Const, Ref, Price, Arith, Compare, Cross, Between, Answer, Turn, InPosition, BarsSinceEntry, JumpIf}
-use Rattle.steps.specs.declared.Op.the-variants.{Unknown}
+use Rattle.steps.specs.declared.Op.the-variants.{Extreme, Unknown}
 use Rattle.steps.specs.Bytes.{stepAt, opOf, stepsIn}
 
 unfoldable pub zeros : ℕ → ℕ → ℕ → ℕ → Bool
 zeros selector skip n bits = eqb selector 0 && eqb skip 0 && eqb n 0 && eqb bits 0
+
+-- Highest and Lowest (decided): "1 ≤ skip ≤ look-back + 1", and the constant, which they do not use, is zero
+unfoldable pub rowsFit : ℕ → ℕ → ℕ → Bool
+rowsFit skip n bits = leb 1 skip && leb (skip - 1) n && eqb bits 0
 
 -- "each of a known kind with unused fields zero": what the kind uses stands as 0 here.
 unfoldable pub plain : Step → Op → Bool
 plain x (Const bits n) = zeros (x .selector) (x .skip) 0 0
 plain x (Ref k n) = zeros 0 (x .skip) 0 (x .bits)
 plain x (Price p n) = zeros 0 (x .skip) 0 (x .bits)
+plain x (Extreme kind over n back) = rowsFit (x .skip) (x .n) (x .bits)
 plain x (Arith k) = zeros (x .selector) (x .skip) (x .n) (x .bits)
 plain x (Compare k) = zeros (x .selector) (x .skip) (x .n) (x .bits)
 plain x (Cross k) = zeros (x .selector) (x .skip) (x .n) (x .bits)
@@ -32,11 +39,20 @@ plain x (BarsSinceEntry p k) = zeros 0 (x .skip) 0 (x .bits)
 plain x (JumpIf w skip) = zeros (x .selector) 0 (x .n) (x .bits)
 plain x Unknown = false
 
+-- "a slot below K and a look-back below D", the look-back to the oldest of n rows
+unfoldable pub seriesWithin : ℕ → Series → Bool
+seriesWithin K (Over.Price p) = true
+seriesWithin K (Over.Slot k) = ltb k K
+
+unfoldable pub looksWithin : ℕ → ℕ → Series → ℕ → ℕ → Bool
+looksWithin K D over n back = seriesWithin K over && ltb (back + (n - 1)) D
+
 -- "a jump that lands later in the list or just past it, a slot below K and a look-back below D", where `after` steps stand after it
 unfoldable pub bounded : ℕ → ℕ → ℕ → Op → Bool
 bounded K D after (Const bits n) = ltb n D
 bounded K D after (Ref k n) = ltb k K && ltb n D
 bounded K D after (Price p n) = ltb n D
+bounded K D after (Extreme kind over n back) = looksWithin K D over n back
 bounded K D after (Arith k) = true
 bounded K D after (Compare k) = true
 bounded K D after (Cross k) = true

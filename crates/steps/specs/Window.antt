@@ -12,7 +12,7 @@ use Rattle.words.specs.Limits.{mostSlots, mostRows, mostReach, mostSteps}
 use Rattle.rows.specs.History.{History, historyOf, lastRows, wholeRows}
 use Rattle.table.specs.declared.answer.Answer.the-variants.{Accepted}
 use Rattle.table.specs.Trees.{reachOf}
-use Rattle.table.specs.Header.{slots, count, root}
+use Rattle.table.specs.Header.{slots, count, root, formOf}
 use Rattle.table.specs.Checked.{checked}
 use Rattle.table.specs.Reading.{treeOf, present}
 use Rattle.table.specs.Laws.Accepted.{header-of, tree-ends}
@@ -26,7 +26,7 @@ use Rattle.rules.specs.Laws.Answers.{absent-says}
 use Rattle.rules.specs.Window.{window}
 use Rattle.steps.specs.declared.Formed.the-variants.{Well}
 use Rattle.steps.specs.declared.RunAnswer.the-variants.{Runs}
-use Rattle.steps.specs.Machine.{run, answers, visited}
+use Rattle.steps.specs.Machine.{run, answers, visitsOf}
 use Rattle.steps.specs.Bytes.{bytesOf, opsFrom, opsOf, stepsRun}
 use Rattle.steps.specs.Translation.{codeOf}
 use Rattle.steps.specs.Laws.Compiled.{compiled}
@@ -46,7 +46,7 @@ module _ (t : List ℕ) (n r : ℕ) (ok : checked t ≡ Accepted n r) (bytes : B
     unfolding stepsOf present
     there = rw (ne-eqb (count t x) 0 (λ e. omega arith))
 
-    within : TreeWithin (slots t) (treeOf t x)
+    within : TreeWithin (formOf t) (treeOf t x)
     within = tree-within t bytes n r ok x l some
 
     short : length (codeOf (treeOf t x)) ≤ mostSteps
@@ -54,7 +54,7 @@ module _ (t : List ℕ) (n r : ℕ) (ok : checked t ≡ Accepted n r) (bytes : B
     short = omega (arith, two-a-node (treeOf t x), tree-nodes t n r ok x l some, tree-ends t n r ok x l, header-of t n r ok .most)
 
     good : (D : ℕ) → reachOf (treeOf t x) < D → AllGood (slots t) D (codeOf (treeOf t x))
-    good D near = translated-good (slots t) D (treeOf t x) (within .fields) near (omega (arith, short))
+    good D near = translated-good (formOf t) D (treeOf t x) (within .fields) near (omega (arith, short))
 
     well-there : (D : ℕ) → reachOf (treeOf t x) < D → D ≤ mostRows → formed (slots t) D (bytesOf (stepsOf t x)) ≡ Well
     well-there D near most = rw there (well-formed (slots t) D (header-of t n r ok .few-slots) most (codeOf (treeOf t x)) short (good D near))
@@ -104,7 +104,7 @@ module _ (t : List ℕ) (n r : ℕ) (ok : checked t ≡ Accepted n r) (bytes : B
       → runs (bytesOf (stepsOf t x)) (lastRows (slots t) D ws) (slots t) D s
       ≡ Runs (record {
         answer = says (historyOf (slots t) ws) s (treeOf t x);
-        visits = length (visited (historyOf (slots t) (lastRows (slots t) D ws)) s (opsOf (bytesOf (stepsOf t x))));
+        visits = visitsOf (historyOf (slots t) (lastRows (slots t) D ws)) s (opsOf (bytesOf (stepsOf t x)));
       })
   unfolding runs ranIf
   window-runs D near most ws s whole fine =

@@ -2,16 +2,22 @@
 use crate::Op;
 use crate::Step;
 use table::kinds;
+use table::series::Series;
 ghost use mathlib.Core.Path.{_≡_};
-ghost use Prim.Native.Nat.{_+_, _*_, _/_, _<_, _≤_};
+ghost use Prim.Native.Nat.{_+_, _-_, _*_, _/_, _<_, _≤_};
 ghost use lib.ListN.{length};
 ghost use Rattle.table.specs.Bytes.{u16, u32, u64};
-ghost use Rattle.steps.specs.Bytes.{readStep, stepAt, stepsIn, opOf, operandOp, testOp, answerOp};
+ghost use Rattle.steps.specs.Bytes.{readStep, stepAt, stepsIn, opOf, extremeOp, operandOp, testOp, answerOp};
 
 // A step has the number of the kind that it stands for. Jumps stand for no kind and have numbers of their own.
 pub const JUMP_AT_NO: u8 = 32;
 
 pub const JUMP_AT_YES: u8 = 33;
+
+// Highest and Lowest over a price have the kind's number; over a slot they have numbers of their own.
+pub const HIGHEST_SLOT: u8 = 11;
+
+pub const LOWEST_SLOT: u8 = 12;
 
 // A byte as a number of 64 bits.
 fn wide(b: u8) -> u64
@@ -45,7 +51,7 @@ pub(crate) fn eight_at(list: &[u8], at: usize) -> u64
 // The fields of the step whose bytes begin at `at`.
 pub(crate) fn read_step(list: &[u8], at: usize) -> Step
     requires { ⌜ at + 16 ≤ length (now list) ⌝ }
-    ensures { λ r. ⌜ r ≡ readStep (now (list .entry)) at ⌝ }
+    ensures { λ r. ⌜ (r ≡ readStep (now (list .entry)) at) × (r .skip < 65536) ⌝ }
 {
     Step {
         kind: list[at],
@@ -59,9 +65,42 @@ pub(crate) fn read_step(list: &[u8], at: usize) -> Step
 // The fields of the step at place p, which the list has.
 pub(crate) fn step_at(list: &[u8], p: usize) -> Step
     requires { ⌜ p < stepsIn (now list) ⌝ }
-    ensures { λ r. ⌜ r ≡ stepAt (now (list .entry)) p ⌝ }
+    ensures { λ r. ⌜ (r ≡ stepAt (now (list .entry)) p) × (r .skip < 65536) ⌝ }
 {
     read_step(list, 16 * p)
+}
+
+// One less than n; 0 where n is 0.
+pub(crate) fn before(n: u64) -> u64
+    ensures { λ r. ⌜ r ≡ n - 1 ⌝ }
+{
+    if n == 0 {
+        return 0;
+    }
+    n - 1
+}
+
+// The look-back to the newest of n rows, from that to the oldest; 0 where there are not so many.
+pub(crate) fn newest_back(oldest: u64, n: u64) -> u64
+    ensures { λ r. ⌜ r ≡ oldest - (n - 1) ⌝ }
+{
+    let rest = before(n);
+    if oldest < rest {
+        return 0;
+    }
+    oldest - rest
+}
+
+// What a step of Highest or Lowest says: kinds 9 to 12.
+fn extreme_op(x: Step) -> Op
+    requires { ⌜ (9 ≤ x .kind) × (x .kind < 13) ⌝ }
+    ensures { λ r. ⌜ r ≡ extremeOp x ⌝ }
+{
+    let back = newest_back(x.n, x.skip);
+    if x.kind < HIGHEST_SLOT {
+        return Op::Extreme(x.kind, Series::Price(x.selector), x.skip, back);
+    }
+    Op::Extreme(x.kind - 2, Series::Slot(x.selector as u64), x.skip, back)
 }
 
 // What a step of an operand says: kinds below 16.
@@ -80,8 +119,11 @@ fn operand_op(x: Step) -> Op
     if x.kind < kinds::ADD {
         return Op::Unknown;
     }
-    if x.kind < 9 {
+    if x.kind < kinds::HIGHEST {
         return Op::Arith(x.kind);
+    }
+    if x.kind <= LOWEST_SLOT {
+        return extreme_op(x);
     }
     Op::Unknown
 }

@@ -1,14 +1,18 @@
 // Steps written into a lent room: a step's bytes, the steps of an operand, and those of the tests on operands.
+use crate::decode;
 use rules::shapes;
 use rules::shapes::OperandShape;
 use table::kinds;
+use table::series::Series;
+use table::series::series_in;
 ghost use mathlib.Core.Path.{_≡_};
 ghost use mathlib.Core.List.{[], _∷_};
-ghost use Prim.Native.Nat.{ℕ, _+_, _*_, _%_, _≤_};
+ghost use Prim.Native.Nat.{ℕ, _+_, _-_, _*_, _%_, _≤_};
 ghost use lib.ListN.{length};
 ghost use Rattle.table.specs.Trees.{Operand, reach, reachOf, compare, cross, between, trend};
 ghost use Rattle.rules.specs.Flat.{operandAt};
-ghost use Rattle.steps.specs.Bytes.{four, fields, stepBytes, write, Fits, Wrote};
+ghost use Rattle.steps.specs.Bytes.{four, fields, slotKind, stepBytes, write, Fits, Wrote};
+ghost use Rattle.steps.specs.declared.Op.the-variants as Op;
 ghost use Rattle.steps.specs.Translation.{code, trendTest, codeOf};
 
 // Four bytes, the first at p.
@@ -66,6 +70,28 @@ pub(crate) fn put_step(
     at + 1
 }
 
+// The kind of a step of Highest or Lowest over a slot.
+fn slot_kind(kind: u8) -> u8
+    ensures { λ r. ⌜ r ≡ slotKind kind ⌝ }
+{
+    if kind == kinds::HIGHEST {
+        return decode::HIGHEST_SLOT;
+    }
+    decode::LOWEST_SLOT
+}
+
+// The step of Highest or Lowest over n rows, the newest of them `back` rows back.
+fn put_extreme(room: &mut [u8], at: usize, kind: u8, over: Series, n: u64, back: u64) -> usize
+    requires { ⌜ (back + (n - 1) ≤ 8192) × Fits (now room) at (Op.Extreme kind over n back ∷ []) ⌝ }
+    ensures { λ r. ⌜ Wrote (now (room .entry)) at (Op.Extreme kind over n back ∷ []) (now (room .exit)) r ⌝ }
+{
+    let oldest = back + decode::before(n);
+    match over {
+        Series::Price(selector) => put_step(room, at, kind, selector as u64, n, oldest, 0),
+        Series::Slot(slot) => put_step(room, at, slot_kind(kind), slot, n, oldest, 0),
+    }
+}
+
 // The steps of the operand at node i, `back` rows back, from place `at` on. The next free place is returned. `left` levels of nesting
 // are left, the node's own counted.
 pub(crate) fn emit_operand(
@@ -101,6 +127,10 @@ pub(crate) fn emit_operand(
             let p = emit_operand(t, ends, a, back, left - 1, room, at);
             let q = emit_operand(t, ends, b, back, left - 1, room, p);
             put_step(room, q, kind, 0, 0, 0, 0)
+        }
+        OperandShape::Extreme(kind, a, n) => {
+            let over = series_in(t, a);
+            put_extreme(room, at, kind, over, n, back)
         }
         OperandShape::NoOperand => put_step(room, at, kinds::CONST, 0, 0, back, 0),
     }

@@ -8,6 +8,7 @@ mod stack;
 pub mod translation;
 pub mod wellformed;
 
+use table::series::Series;
 use words::refusal::Refusal;
 
 // The fields of a step's 16 bytes, laid out as a node's: kind (1), selector (1), skip (2), n (4), constant bits (8).
@@ -27,6 +28,8 @@ pub enum Op {
     Ref(u8, u64),
     // A price by its selector, at a look-back.
     Price(u8, u64),
+    // Highest or Lowest, by the kind, of a price or a slot: over so many rows, the newest of them at a look-back.
+    Extreme(u8, Series, u64, u64),
     // Add, Sub, Mul, Div, by the kind.
     Arith(u8),
     // Gt, Lt, Ge, Le, Eq, Ne, by the kind.

@@ -3,13 +3,14 @@ use crate::Formed;
 use crate::Op;
 use crate::Step;
 use crate::decode;
+use table::series::Series;
 use words::limits::MOST_STEPS;
 ghost use mathlib.Core.Path.{_≡_};
 ghost use mathlib.Core.Bool.{true};
 ghost use Prim.Native.Nat.{ℕ, _+_, _/_, _%_, _<_, _≤_};
 ghost use lib.ListN.{length};
 ghost use Rattle.steps.specs.Bytes.{fields, readStep};
-ghost use Rattle.steps.specs.WellFormed.{zeros, plain, bounded, goodStep, formed};
+ghost use Rattle.steps.specs.WellFormed.{zeros, rowsFit, plain, seriesWithin, looksWithin, bounded, goodStep, formed};
 
 fn zeros(selector: u8, skip: u64, n: u64, bits: u64) -> bool
     ensures { λ r. ⌜ r ≡ zeros selector skip n bits ⌝ }
@@ -24,6 +25,43 @@ fn zeros(selector: u8, skip: u64, n: u64, bits: u64) -> bool
     false
 }
 
+// Whether a look over `skip` rows, the oldest of them n rows back, is over one at least, and ends by the newest; and the constant is zero.
+fn rows_fit(skip: u64, n: u64, bits: u64) -> bool
+    ensures { λ r. ⌜ r ≡ rowsFit skip n bits ⌝ }
+{
+    if skip == 0 {
+        return false;
+    }
+    if skip - 1 <= n {
+        return bits == 0;
+    }
+    false
+}
+
+// Whether the slot that is looked over, if it is one, is below `slots`.
+fn series_within(slots: u64, over: Series) -> bool
+    ensures { λ r. ⌜ r ≡ seriesWithin slots over ⌝ }
+{
+    match over {
+        Series::Price(_) => true,
+        Series::Slot(k) => k < slots,
+    }
+}
+
+// Whether a look over n rows, the newest of them `back` rows back, has its oldest below `depth`.
+fn looks_within(slots: u64, depth: u64, over: Series, n: u64, back: u64) -> bool
+    ensures { λ r. ⌜ r ≡ looksWithin slots depth over n back ⌝ }
+{
+    if series_within(slots, over) {
+        let rest = decode::before(n);
+        if depth <= rest {
+            return false;
+        }
+        return back < depth - rest;
+    }
+    false
+}
+
 // Whether the step is of a known kind and the fields that its kind does not use are zero.
 fn plain(x: Step, op: Op) -> bool
     ensures { λ r. ⌜ r ≡ plain x op ⌝ }
@@ -32,6 +70,7 @@ fn plain(x: Step, op: Op) -> bool
         Op::Const(_, _) => zeros(x.selector, x.skip, 0, 0),
         Op::Ref(_, _) => zeros(0, x.skip, 0, x.bits),
         Op::Price(_, _) => zeros(0, x.skip, 0, x.bits),
+        Op::Extreme(_, _, _, _) => rows_fit(x.skip, x.n, x.bits),
         Op::Arith(_) => zeros(x.selector, x.skip, x.n, x.bits),
         Op::Compare(_) => zeros(x.selector, x.skip, x.n, x.bits),
         Op::Cross(_) => zeros(x.selector, x.skip, x.n, x.bits),
@@ -53,6 +92,7 @@ fn bounded(slots: u64, depth: u64, after: u64, op: Op) -> bool
         Op::Const(_, n) => n < depth,
         Op::Ref(k, n) => if (k as u64) < slots { n < depth } else { false },
         Op::Price(_, n) => n < depth,
+        Op::Extreme(_, over, n, back) => looks_within(slots, depth, over, n, back),
         Op::Arith(_) => true,
         Op::Compare(_) => true,
         Op::Cross(_) => true,

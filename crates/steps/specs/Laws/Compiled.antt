@@ -5,8 +5,8 @@ use mathlib.Core.Bool.{Bool, true, false, not, cond, _&&_, _||_}
 use mathlib.Core.List.{List, [], _∷_, _++_, append-assoc, append-nil}
 use lib.ListN.{length}
 use Rattle.rows.specs.History.{History}
-use Rattle.table.specs.Trees.{Operand, const, ref, price, prev, arith as sums, Condition, Conditions, compare, cross, between, trend, every, any, negated}
-use Rattle.table.specs.Trees.{inPosition, barsSince, none, more}
+use Rattle.table.specs.Trees.{Operand, const, ref, price, prev, arith as sums, extreme, Condition, Conditions, compare, cross, between, trend, every, any}
+use Rattle.table.specs.Trees.{negated, inPosition, barsSince, none, more}
 use Rattle.rules.specs.declared.PositionState.{PositionState}
 use Rattle.rules.specs.declared.Value.{Value}
 use Rattle.rules.specs.Meaning.{holds, allHold, anyHolds, newest, says}
@@ -30,6 +30,7 @@ module _ (h : History) (s : PositionState) where
   operand-run (const b) n xs v = refl
   operand-run (ref k) n xs v = refl
   operand-run (price k) n xs v = refl
+  operand-run (extreme k over m) n xs v = refl
   operand-run (prev a m) n xs v = rw (prev-ago h a m n) (operand-run a (n + m) xs v)
   operand-run (sums k a b) n xs v =
       rw (

@@ -1,7 +1,8 @@
 -- Steps written as bytes read back as the same steps.
-use Prim.Native.Nat.{ℕ, _+_, _*_, _/_, _%_, _<_, _≤_}
+use Prim.Native.Nat.{ℕ, _+_, _-_, _*_, _/_, _%_, _<_, _≤_}
 use mathlib.Core.Path.{_≡_, refl, _∙_}
 use mathlib.Core.Bool.{true, false}
+use mathlib.Core.Logic.{⊎-elim}
 use mathlib.Core.List.{List, [], _∷_, _++_, append-assoc}
 use native.Mathlib.Omega.{arith}
 use native.Mathlib.Nat.{mod-eq-of-lt, mod-add-div, div-div-eq-div-mul}
@@ -9,12 +10,15 @@ use lib.ListN.{length, getD, length-append}
 use lib.Seq.{getD-append-add}
 use borrow.Author.Tests.{lt-ltb, le-ltb, ne-eqb}
 use Rattle.words.specs.Limits.{mostSteps}
+use Rattle.words.specs.Laws.Numbers.{less-or-not}
+use Rattle.table.specs.declared.series.Series.{Series}
+use Rattle.table.specs.declared.series.Series.the-variants as Over
 use Rattle.table.specs.Bytes.{u16, u32, u64}
 use Rattle.steps.specs.declared.Step.{Step}
 use Rattle.steps.specs.declared.Op.{Op}
 use Rattle.steps.specs.declared.Op.the-variants.{Const, Ref, Price, Arith, Compare, Cross, Between, Answer, Turn, InPosition, BarsSinceEntry, JumpIf}
-use Rattle.steps.specs.declared.Op.the-variants.{Unknown}
-use Rattle.steps.specs.Bytes.{readStep, stepAt, stepsRun, operandOp, testOp, answerOp, opOf, opsFrom, opsOf, stepOf, stepBytes, bytesOf}
+use Rattle.steps.specs.declared.Op.the-variants.{Extreme, Unknown}
+use Rattle.steps.specs.Bytes.{readStep, stepAt, stepsRun, slotKind, extremeOp, operandOp, testOp, answerOp, opOf, opsFrom, opsOf, extremeStep, stepOf, stepBytes, bytesOf}
 
 -- ---- the fields that a step has room for
 
@@ -24,11 +28,16 @@ pub record Sized (x : Step) : Type 0 where
   pub n : x .n < 4294967296
   pub bits : x .bits < 18446744073709551616
 
+unfoldable pub SayableSeries : Series → Type 0
+SayableSeries (Over.Price p) = p < 256
+SayableSeries (Over.Slot k) = k < 256
+
 -- what a step can say
 unfoldable pub Sayable : Op → Type 0
 Sayable (Const bits n) = (n < 4294967296) × (bits < 18446744073709551616)
 Sayable (Ref k n) = (k < 256) × (n < 4294967296)
 Sayable (Price p n) = (p < 256) × (n < 4294967296)
+Sayable (Extreme kind over n back) = (9 ≤ kind) × (kind ≤ 10) × (1 ≤ n) × (n < 65536) × SayableSeries over × (back + (n - 1) < 4294967296)
 Sayable (Arith k) = (5 ≤ k) × (k < 9)
 Sayable (Compare k) = (16 ≤ k) × (k < 22)
 Sayable (Cross k) = (22 ≤ k) × (k < 24)
@@ -80,12 +89,31 @@ step-back x rest z =
       whole,
     )
 
+-- Highest or Lowest, over a price or a slot
+extreme-back : (kind : ℕ) (over : Series) (n back : ℕ) → 9 ≤ kind → kind ≤ 10 → opOf (extremeStep kind over n (back + (n - 1))) ≡ Extreme kind over n back
+unfolding opOf operandOp extremeOp extremeStep slotKind
+extreme-back kind over n back low high =
+    ⊎-elim (λ (less : kind < 10). let nine : kind ≡ 9 = omega arith in rw nine (highest over))
+    (λ (more : 10 ≤ kind). let ten : kind ≡ 10 = omega arith in rw ten (lowest over)) (less-or-not kind 10)
+  where
+    at : back + (n - 1) - (n - 1) ≡ back
+    at = omega arith
+
+    highest : (o : Series) → opOf (extremeStep 9 o n (back + (n - 1))) ≡ Extreme 9 o n back
+    highest (Over.Price p) = rw at
+    highest (Over.Slot k) = rw at
+
+    lowest : (o : Series) → opOf (extremeStep 10 o n (back + (n - 1))) ≡ Extreme 10 o n back
+    lowest (Over.Price p) = rw at
+    lowest (Over.Slot k) = rw at
+
 -- and say what was to be said
 pub says-back : (x : Op) → Sayable x → opOf (stepOf x) ≡ x
 unfolding Sayable stepOf opOf operandOp testOp answerOp
 says-back (Const bits n) s = refl
 says-back (Ref k n) s = refl
 says-back (Price p n) s = refl
+says-back (Extreme kind over n back) s = extreme-back kind over n back (s .0) (s .1)
 says-back (Arith k) s =
     simp (
       lt-ltb k 16 (omega arith),
@@ -108,10 +136,12 @@ says-back (JumpIf true skip) s = refl
 says-back (JumpIf false skip) s = refl
 
 sized : (x : Op) → Sayable x → Sized (stepOf x)
-unfolding Sayable stepOf
+unfolding Sayable SayableSeries stepOf extremeStep
 sized (Const bits n) s = record { selector = omega arith; skip = omega arith; n = omega arith; bits = omega arith }
 sized (Ref k n) s = record { selector = omega arith; skip = omega arith; n = omega arith; bits = omega arith }
 sized (Price p n) s = record { selector = omega arith; skip = omega arith; n = omega arith; bits = omega arith }
+sized (Extreme kind (Over.Price p) n back) s = record { selector = s .4; skip = s .3; n = s .5; bits = omega arith }
+sized (Extreme kind (Over.Slot k) n back) s = record { selector = s .4; skip = s .3; n = s .5; bits = omega arith }
 sized (Arith k) s = record { selector = omega arith; skip = omega arith; n = omega arith; bits = omega arith }
 sized (Compare k) s = record { selector = omega arith; skip = omega arith; n = omega arith; bits = omega arith }
 sized (Cross k) s = record { selector = omega arith; skip = omega arith; n = omega arith; bits = omega arith }

@@ -1,5 +1,5 @@
 -- A list that is written from good steps is well formed, and reads back as those steps.
-use Prim.Native.Nat.{ℕ, _+_, _*_, _%_, _≤_}
+use Prim.Native.Nat.{ℕ, _+_, _-_, _*_, _%_, _<_, _≤_}
 use mathlib.Core.Path.{_≡_, refl}
 use mathlib.Core.Bool.{true, _&&_}
 use mathlib.Core.List.{List, [], _∷_, _++_, append-assoc}
@@ -7,20 +7,29 @@ use native.Mathlib.Omega.{arith}
 use lib.ListN.{length, length-append}
 use borrow.Author.Tests.{lt-ltb, le-ltb, le-leb, eq-eqb}
 use Rattle.words.specs.Limits.{mostSlots, mostRows, mostSteps}
+use Rattle.table.specs.declared.series.Series.{Series}
+use Rattle.table.specs.declared.series.Series.the-variants as Over
 use Rattle.steps.specs.declared.Op.{Op}
+use Rattle.steps.specs.declared.Op.the-variants.{Extreme}
 use Rattle.steps.specs.declared.Op.the-variants.{Const, Ref, Price, Arith, Compare, Cross, Between, Answer, Turn, InPosition, BarsSinceEntry, JumpIf}
 use Rattle.steps.specs.declared.Formed.the-variants.{Well}
-use Rattle.steps.specs.Bytes.{stepOf, stepBytes, bytesOf, stepsIn, opsOf}
-use Rattle.steps.specs.WellFormed.{zeros, plain, bounded, goodStep, formedFrom, formed}
-use Rattle.steps.specs.Laws.Encoding.{Sayable, AllSayable, says-back, step-there, steps-long, ops-of-bytes}
-use Rattle.steps.specs.Laws.TranslatedSteps.{Good, AllGood}
+use Rattle.steps.specs.Bytes.{extremeStep, stepOf, stepBytes, bytesOf, stepsIn, opsOf}
+use Rattle.steps.specs.WellFormed.{zeros, rowsFit, plain, seriesWithin, looksWithin, bounded, goodStep, formedFrom, formed}
+use Rattle.steps.specs.Laws.Encoding.{SayableSeries, Sayable, AllSayable, says-back, step-there, steps-long, ops-of-bytes}
+use Rattle.steps.specs.Laws.TranslatedSteps.{GoodSeries, Good, AllGood}
 
 module _ (K D : ℕ) (few : K ≤ mostSlots) (near : D ≤ mostRows) where
+  series-sayable : (over : Series) → GoodSeries K over → SayableSeries over
+  unfolding GoodSeries SayableSeries
+  series-sayable (Over.Price p) g = g
+  series-sayable (Over.Slot k) g = omega arith
+
   sayable : (after : ℕ) (x : Op) → Good K D after x → Sayable x
   unfolding Good Sayable
   sayable after (Const bits n) g = (omega (arith, g .0), g .1)
   sayable after (Ref k n) g = (omega (arith, g .0), omega (arith, g .1))
   sayable after (Price p n) g = (g .0, omega (arith, g .1))
+  sayable after (Extreme kind over n back) g = (g .0, g .1, g .2, omega (arith, g .3), series-sayable over (g .4), omega (arith, g .5))
   sayable after (Arith k) g = g
   sayable after (Compare k) g = g
   sayable after (Cross k) g = g
@@ -36,11 +45,21 @@ module _ (K D : ℕ) (few : K ≤ mostSlots) (near : D ≤ mostRows) where
   all-sayable [] g = tt
   all-sayable (x ∷ xs) g = (sayable (length xs) x (g .0), all-sayable xs (g .1))
 
+  -- a look over rows, by what it looks over
+  look-is : (kind : ℕ) (over : Series) (n back : ℕ) → 1 ≤ n → GoodSeries K over → back + (n - 1) < D
+      → (plain (extremeStep kind over n (back + (n - 1))) (Extreme kind over n back) && looksWithin K D over n back) ≡ true
+  unfolding GoodSeries plain rowsFit extremeStep looksWithin seriesWithin
+  look-is kind (Over.Price p) n back some g near =
+      rw (le-leb 1 n some, le-leb (n - 1) (back + (n - 1)) (omega arith), lt-ltb (back + (n - 1)) D near)
+  look-is kind (Over.Slot k) n back some g near =
+      rw (le-leb 1 n some, le-leb (n - 1) (back + (n - 1)) (omega arith), lt-ltb k K g, lt-ltb (back + (n - 1)) D near)
+
   good-is : (after : ℕ) (x : Op) → Good K D after x → (plain (stepOf x) x && bounded K D after x) ≡ true
   unfolding Good plain zeros bounded stepOf
   good-is after (Const bits n) g = rw (lt-ltb n D (g .0))
   good-is after (Ref k n) g = rw (lt-ltb k K (g .0), lt-ltb n D (g .1))
   good-is after (Price p n) g = rw (lt-ltb n D (g .1))
+  good-is after (Extreme kind over n back) g = look-is kind over n back (g .2) (g .4) (g .5)
   good-is after (Arith k) g = refl
   good-is after (Compare k) g = refl
   good-is after (Cross k) g = refl

@@ -1,5 +1,6 @@
 -- The tests are those of the definition, in its order.
-use borrow.Author.Tests.{eq-eqb, le-ltb, lt-ltb, ne-eqb}
+use native.Mathlib.Omega.{arith}
+use borrow.Author.Tests.{eq-eqb, le-leb, lt-leb, le-ltb, lt-ltb, ne-eqb}
 use Rattle.steps.specs.Bytes.{operandOp}
 use Rattle.steps.proofs.decode.operand_op.Statement.{statement}
 use Rattle.steps.proofs.decode.operand_op.Tie as tie
@@ -23,12 +24,29 @@ operand-op-spec =
       ne-eqb _ _
           (r .if1 .left),
     ))
-    (λ c. let p = c .before .before .before .before in let q = p .before .before in let r = q .before .before in
+    (λ c κs. omega arith)
+    (λ c.
+    let b = c .before .before .before in
+    let p = b .before .before .before .before in
+    let q = p .before .before in
     simp (
-      le-ltb _ _ (c .if5 .left),
-      le-ltb _ _ (c .before .before .if4 .left),
+      c .extreme-op .ensures,
+      le-leb _ _ (c .before .if6 .taken),
+      le-ltb _ _ (b .if5 .left),
+      le-ltb _ _ (b .before .before .if4 .left),
       ne-eqb _ _ (p .if3 .left),
       ne-eqb _ _ (q .if2 .left),
-      ne-eqb _ _
-          (r .if1 .left),
+      ne-eqb _ _ (q .before .before .if1 .left),
+    ))
+    (λ c.
+    let b = c .before .before in
+    let p = b .before .before .before .before in
+    let q = p .before .before in
+    simp (
+      lt-leb _ _ (c .if6 .left),
+      le-ltb _ _ (b .if5 .left),
+      le-ltb _ _ (b .before .before .if4 .left),
+      ne-eqb _ _ (p .if3 .left),
+      ne-eqb _ _ (q .if2 .left),
+      ne-eqb _ _ (q .before .before .if1 .left),
     )))

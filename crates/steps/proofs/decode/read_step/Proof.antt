@@ -18,4 +18,4 @@ read-step-spec =
     (λ c κs. search needs)
     (λ c. search needs)
     (λ c κs. search needs)
-    (λ c. simp (c .eight-at .ensures, c .before .four-at .ensures .0, c .before .before .two-at .ensures .0)))
+    (λ c. (simp (c .eight-at .ensures, c .before .four-at .ensures .0, c .before .before .two-at .ensures .0), c .before .before .two-at .ensures .1)))

@@ -7,7 +7,7 @@ use Rattle.steps.specs.declared.Op.the-variants as Op
 use Rattle.steps.specs.Bytes.{stepOf}
 use Rattle.steps.proofs.Writes.{fits-first, fits-rest, fits-one, wrote-then, wrote-one}
 use Rattle.steps.proofs.Operands.{ground, a-const, a-ref, a-price, a-prev, a-sum, no-operand, code-const, code-ref, code-price, code-prev, code-sum}
-use Rattle.steps.proofs.Operands.{prev-reach, first-reach, second-reach}
+use Rattle.steps.proofs.Operands.{an-extreme, code-extreme, extreme-reach, prev-reach, first-reach, second-reach}
 use borrow.Fn.Kinds.{In}
 use borrow.Fn.PlainCycle.{Measures, is, falls, and}
 use Rattle.steps.proofs.emit.emit_operand.Reads as emit-operand
@@ -15,6 +15,8 @@ use Rattle.steps.proofs.emit.emit_operand.Kinds as emit-operand-kinds
 use Rattle.steps.proofs.emit.+emit_operand.Lts-emit_operand as emit-operand-lts
 use Rattle.rules.proofs.shapes.operand_shape.Reads as operand-shape-reads
 use Rattle.steps.proofs.emit.put_step.Reads as put-step-reads
+use Rattle.table.proofs.series.series_in.Reads as series-in-reads
+use Rattle.steps.proofs.emit.put_extreme.Reads as put-extreme-reads
 use Rattle.steps.proofs.emit.+emit_operand.{statement}
 use Rattle.steps.proofs.emit.+emit_operand.Tie.{close}
 
@@ -42,6 +44,10 @@ unfolding stepOf
   operand-shape-reads.Learnt,
   emit-operand-below t,
   emit-operand.Post,
+  series-in-reads.Asked,
+  series-in-reads.Learnt,
+  put-extreme-reads.Asked,
+  put-extreme-reads.Learnt,
 )
     (emit-operand-at t)
     emit-operand.Post
@@ -125,6 +131,13 @@ unfolding stepOf
       code-sum,
     ) at (u .pre .1 .1)))))
     (λ c. search needs)
+    (λ c κs. search needs)
+    (λ c κs. let o = c .before .before .before in let p = o .before .before in let q = p .before in let r = q .before .before .before in let s = r .args in
+    let is = an-extreme (s .t .now) (s .ends .now) (s .i) (s .left) (q .if1 .left) _ (p .operand-shape .ensures) _ _ _ (o .kind2 .given .1) in (
+      extreme-reach _ _ _ _ (rw is at (r .pre .1 .0)),
+      rw (is, code-extreme, ← c .before .series-in .ensures) at (r .pre .1 .1),
+    ))
+    (λ c. search needs)
     (λ c κs. let p = c .before .before .before .before in let q = p .before .before .before in let r = q .args in
     fits-one _ (rw (
       no-operand (r .t .now) (r .ends .now) (r .i) (r .left) (p .if1 .left) _ (c .before .before .before .operand-shape .ensures)
@@ -158,6 +171,14 @@ unfolding stepOf
     rw (a-sum (x .t .now) (x .ends .now) (x .i) (x .left) (v .if1 .left) _ (u .operand-shape .ensures) _ _ _ (s .kind .given .1), code-sum)
     (wrote-then _ _ (r .emit-operand2 .ensures)
     (wrote-then _ _ (q .emit-operand3 .ensures) (wrote-one _ _ (Op.Arith _) _ _ (p .put-step5 .ensures .0) (p .put-step5 .ensures .1)))))
+    (λ c. search needs)
+    (λ c. let put = c .before .before in let over = put .before .before in let o = over .before .before in let p = o .before .before in let q = p .before in
+    let r = q .before .before .before in let s = r .args in
+    rw (
+      an-extreme (s .t .now) (s .ends .now) (s .i) (s .left) (q .if1 .left) _ (p .operand-shape .ensures) _ _ _ (o .kind2 .given .1),
+      code-extreme,
+      ← over .series-in .ensures,
+    ) (put .put-extreme .ensures))
     (λ c. search needs)
     (λ c. let p = c .before .before in let q = p .before .before in let r = q .before .before in let s = r .before in let u = s .before .before .before in
     let v = u .args in

@@ -4,19 +4,19 @@ use borrow.Author.Needs.{needs}
 use mathlib.Core.Path.{sym, _∙_}
 use native.Mathlib.Omega.{arith}
 use Prim.Native.Nat.{_-_}
-use Rattle.rows.specs.History.{historyOf}
+use Rattle.rows.specs.Ring.{ringOf}
 use Rattle.steps.specs.Places.{Tries}
 use Rattle.steps.proofs.Said.{range-in, range-out, does-compare, does-test, does-jump, does-arith}
-use Rattle.steps.proofs.Going.{Going, fresh-long, going-start, going-leaf, going-give, going-say, going-set, going-pass, going-stay, going-end}
+use Rattle.steps.proofs.Going.{Going, fresh-long, going-start, going-leaf, going-give, going-look, going-say, going-set, going-pass, going-stay, going-end}
 use Rattle.steps.proofs.machine.run_with.Statement.{statement}
 use Rattle.steps.proofs.machine.run_with.Tie as tie
 
 abbrev Inv-loop : tie.InvT-loop
-Inv-loop list n rows slots s places numbers₀ there₀ held top₀ answer₀ visits₀ p₀ numbers there top answer visits p =
-    Going (historyOf slots rows) s list n places numbers there top answer visits p
+Inv-loop list n rows slots first s places numbers₀ there₀ held top₀ answer₀ visits₀ p₀ numbers there top answer visits p =
+    Going (ringOf slots first rows) s list n places numbers there top answer visits p
 
 abbrev μ-loop : tie.MeasureT-loop
-μ-loop list n rows slots s places numbers₀ there₀ held top₀ answer₀ visits₀ p₀ numbers there top answer visits p = n - p
+μ-loop list n rows slots first s places numbers₀ there₀ held top₀ answer₀ visits₀ p₀ numbers there top answer visits p = n - p
 
 -- a leaf
 leaf-again : tie.Need-loop-again Inv-loop μ-loop
@@ -28,7 +28,7 @@ leaf-again c =
     rw (put .put .ensures .0, put .put .ensures .1)
     (going-leaf _ _ _ _ _ _ _ _ _ _ _ (x .before .before .loop .inv) (x .before .loop-test .taken) _
     (omega (arith, x .before .before .loop .inv .tall, full .if2 .left))
-    (rw (← x .step-at .ensures) (leaf .leaf .ensures _ _ _ _ _ _)))
+    (rw (← x .step-at .ensures .0) (leaf .leaf .ensures _ _ _ _ _ _)))
 
 -- a comparison
 compare-again : tie.Need-loop-again-2 Inv-loop μ-loop
@@ -41,7 +41,7 @@ compare-again c =
     let kind = range-in _ _ _ (sym (i .is-among2 .ensures) ∙ small .before .if3 .taken) in
     rw (c .left .ensures, c .before .compared .ensures, second .at2 .ensures, first .at .ensures)
     (going-say _ _ _ _ _ _ _ _ _ _ _ (x .before .before .loop .inv) (x .before .loop-test .taken) 2 _
-    (rw (← x .step-at .ensures) (does-compare _ _ _ _ _ _ _ _ (kind .0) (small .if4 .taken))))
+    (rw (← x .step-at .ensures .0) (does-compare _ _ _ _ _ _ _ _ (kind .0) (small .if4 .taken))))
 
 -- a cross or Between
 test-again : tie.Need-loop-again-3 Inv-loop μ-loop
@@ -53,7 +53,7 @@ test-again c =
     let kind = range-in _ _ _ (sym (i .is-among2 .ensures) ∙ large .before .if3 .taken) in
     rw (c .left2 .ensures, c .before .taken .ensures, tested .tested .ensures)
     (going-say _ _ _ _ _ _ _ _ _ _ _ (x .before .before .loop .inv) (x .before .loop-test .taken) _ _
-    (rw (← x .step-at .ensures) (does-test _ _ _ _ _ _ _ _ (large .if4 .left) (kind .1))))
+    (rw (← x .step-at .ensures .0) (does-test _ _ _ _ _ _ _ _ (large .if4 .left) (kind .1))))
 
 -- a jump that is taken
 jump-again : tie.Need-loop-again-4 Inv-loop μ-loop
@@ -63,7 +63,7 @@ jump-again c =
     let kind = range-in _ _ _ (sym (i .is-among3 .ensures) ∙ c .before .before .if5 .taken) in
     rw (c .landing .ensures)
     (going-pass _ _ _ _ _ _ _ _ _ _ _ (x .before .before .loop .inv) (x .before .loop-test .taken) _
-    (rw (← x .step-at .ensures) (does-jump _ _ _ _ _ _ _ _ (kind .0) (kind .1) ∙ rw (c .before .if6 .taken))))
+    (rw (← x .step-at .ensures .0) (does-jump _ _ _ _ _ _ _ _ (kind .0) (kind .1) ∙ rw (c .before .if6 .taken))))
 
 -- one that is not
 stay-again : tie.Need-loop-again-5 Inv-loop μ-loop
@@ -72,7 +72,7 @@ stay-again c =
     let x = i .before .before .before .before .before in
     let kind = range-in _ _ _ (sym (i .is-among3 .ensures) ∙ c .before .if5 .taken) in
     going-stay _ _ _ _ _ _ _ _ _ _ _ (x .before .before .loop .inv) (x .before .loop-test .taken)
-    (rw (← x .step-at .ensures) (does-jump _ _ _ _ _ _ _ _ (kind .0) (kind .1) ∙ rw (c .if6 .left)))
+    (rw (← x .step-at .ensures .0) (does-jump _ _ _ _ _ _ _ _ (kind .0) (kind .1) ∙ rw (c .if6 .left)))
 
 -- an operation
 arith-again : tie.Need-loop-again-6 Inv-loop μ-loop
@@ -92,7 +92,7 @@ arith-again c =
     )
     (going-give _ _ _ _ _ _ _ _ _ _ _ (x .before .before .loop .inv) (x .before .loop-test .taken) 2 _
     (omega (arith, x .before .before .loop .inv .tall, x .before .before .before .before .before .before .before .before .pre .1 .0 .0))
-    (rw (← x .step-at .ensures) (does-arith _ _ _ _ _ _ _ _ (kind .0) (kind .1))))
+    (rw (← x .step-at .ensures .0) (does-arith _ _ _ _ _ _ _ _ (kind .0) (kind .1))))
 
 -- its result has a place: two are taken first, and there is at least one
 arith-fits : tie.Need-add-put-2 Inv-loop μ-loop
@@ -131,22 +131,87 @@ arith-less c =
     let i = c .before .before .before .before .before .before .before .before .before .before .before .before .before .before .before .before in
     omega (arith, i .before .before .before .before .before .before .before .before .loop-test .taken)
 
+-- a look over rows
+look-again : tie.Need-loop-again-7 Inv-loop μ-loop
+look-again c =
+    let put = c .before .before .before .before in
+    let got = put .before .before .before in
+    let more = got .before in
+    let free = more .before in
+    let x = free .before .before .before .before .before .before .before .before .before .before .before in
+    rw (put .put3 .ensures .0, put .put3 .ensures .1, more .before2 .ensures)
+    (going-look _ _ _ _ _ _ _ _ _ _ _ (x .before .before .loop .inv) (x .before .loop-test .taken) _ _ (x .step-at .ensures .1)
+    (omega (arith, x .before .before .loop .inv .tall, free .if9 .left))
+    (rw (← x .step-at .ensures .0) (got .look .ensures _ _ _ _ _ _)))
+
+-- at most 65,536 visits for each step
+look-counts : tie.Need-add-visits-2 Inv-loop μ-loop
+look-counts c =
+    let x = c .before .before .before .before .before .before .before .before .before .before .before .before in
+    let loop = x .before .before in
+    omega (arith, c .before2 .ensures, x .step-at .ensures .1, x .before .loop-test .taken, loop .loop .inv .seen, loop .before .before .before .before .before .before .pre .1 .0 .3)
+
+-- its kind is one of the four
+look-requires : tie.Need-look-requires Inv-loop μ-loop
+look-requires c κs =
+    let i = c .before .before .before in
+    let rows = i .before .before .before .before .before .before .before .before .before .before .before .before in
+    let held = rows .row-count .ensures in
+    ((held, rw held (rows .before .before .before .before .before .pre .1 .0 .2)), range-in _ _ _ (sym (i .is-among5 .ensures) ∙ c .before .before .if8 .taken))
+
+-- its value has a place
+look-room : tie.Need-put-requires-3 Inv-loop μ-loop
+look-room c κs =
+    let free = c .before .before .before .before in
+    let loop = free .before .before .before .before .before .before .before .before .before .before .before .before .before in
+    let inv = loop .loop .inv in
+    (omega (arith, free .if9 .left, inv .tall, inv .room .numbers), omega (arith, free .if9 .left, inv .tall, inv .room .theres))
+
+look-fits : tie.Need-add-put-3 Inv-loop μ-loop
+look-fits c =
+    let loop = c .before .before .before .before .before .before .before .before .before .before .before .before .before .before .before .before .before in
+    omega (arith, loop .loop .inv .tall, loop .before .before .before .before .before .before .pre .1 .0 .1)
+
+look-tall : tie.Need-add-top-3 Inv-loop μ-loop
+look-tall c =
+    let loop = c .before .before .before .before .before .before .before .before .before .before .before .before .before .before .before .before .before .before .before .before .before .before in
+    omega (arith, loop .loop .inv .tall, loop .before .before .before .before .before .before .pre .1 .0 .1)
+
+look-on : tie.Need-add-p-6 Inv-loop μ-loop
+look-on c =
+    let test = c .before .before .before .before .before .before .before .before .before .before .before .before .before .before .before .before .before .before .before .before .before in
+    omega (arith, test .loop-test .taken, test .before .before .before .before .before .before .before .pre .1 .0 .3)
+
+look-less : tie.Need-loop-less-7 Inv-loop μ-loop
+look-less c = omega (arith, c .before .before .before .before .before .before .before .before .before .before .before .before .before .before .before .before .before .before .before .before .before .loop-test .taken)
+
+-- it finds none
+look-stops : tie.Need-returns-2 Inv-loop μ-loop
+unfolding Tries
+look-stops c =
+    let i = c .before .before .before in
+    let loop = i .before .before .before .before .before .before .before .before .before .before .before in
+    rw (c .stopped .ensures) (omega (arith, loop .loop .inv .pushed, i .before .before .before .before .before .before .before .before .before .before .loop-test .taken, c .before .if9 .taken))
+
 -- what is left
-set-again : tie.Need-loop-again-7 Inv-loop μ-loop
+set-again : tie.Need-loop-again-8 Inv-loop μ-loop
 set-again c =
-    let x = c .before .before .before .before .before .before .before .before .before in
+    let i = c .before .before in
+    let x = i .before .before .before .before .before .before .before .before .before in
     going-set _ _ _ _ _ _ _ _ _ _ _ (x .before .before .loop .inv) (x .before .loop-test .taken) _
-    (rw (← x .step-at .ensures) (c .said .ensures _ _ _ _ _))
+    (rw (← x .step-at .ensures .0) (c .said .ensures _ _ _ _ _))
 
 -- its kind is none of the others'
 said-requires : tie.Need-said-requires Inv-loop μ-loop
 said-requires c κs =
-    let i4 = c .before in
+    let i5 = c .before in
+    let i4 = i5 .before .before in
     let i3 = i4 .before .before in
     let i2 = i3 .before .before in
     let i1 = i2 .before .before in (
       range-out _ _ _ (sym (i1 .is-among .ensures) ∙ i2 .before .if1 .left),
-      range-out _ _ _ (sym (i4 .is-among4 .ensures) ∙ c .if7 .left),
+      range-out _ _ _ (sym (i4 .is-among4 .ensures) ∙ i5 .before .if7 .left),
+      range-out _ _ _ (sym (i5 .is-among5 .ensures) ∙ c .if8 .left),
       range-out _ _ _ (sym (i2 .is-among2 .ensures) ∙ i3 .before .if3 .left),
       range-out _ _ _ (sym (i3 .is-among3 .ensures) ∙ i4 .before .if5 .left),
     )
@@ -155,7 +220,10 @@ said-requires c κs =
 leaf-requires : tie.Need-leaf-requires Inv-loop μ-loop
 leaf-requires c κs =
     let i = c .before .before .before .before in
-    (i .before .before .before .before .row-count .ensures, range-in _ _ _ (sym (i .is-among .ensures) ∙ c .before .before .before .if1 .taken))
+    let rows = i .before .before .before .before in
+    let held = rows .row-count .ensures in
+    let kind = range-in _ _ _ (sym (i .is-among .ensures) ∙ c .before .before .before .if1 .taken) in
+    ((held, rw held (rows .before .before .before .before .before .pre .1 .0 .2)), kind)
 
 pub run-with-spec : {M : Type 1} → statement M
 unfolding Tries
@@ -167,7 +235,7 @@ run-with-spec =
     (λ c κs. search needs)
     (λ c. going-start _ _ _ _ _ _ _ (c .before .before .before .before .before .pre .1 .1))
     (λ c κs. search needs)
-    (λ c. omega arith)
+    (λ c. omega (arith, c .before .loop-test .taken, c .before .before .loop .inv .seen, c .before .before .before .before .before .before .before .before .pre .1 .0 .3))
     (λ c κs. search needs)
     (λ c.
     let loop = c .before .before .before .before .before in
@@ -219,6 +287,26 @@ run-with-spec =
     arith-on
     arith-less
     arith-again
+    (λ c κs. search needs)
+    (λ c κs. search needs)
+    (λ c.
+    let i = c .before .before .before in
+    let loop = i .before .before .before .before .before .before .before .before .before .before .before in
+    omega (arith, loop .loop .inv .room .numbers, loop .before .before .before .before .before .before .pre .1 .1 .long))
+    (λ c.
+    let i = c .before .before .before in
+    let loop = i .before .before .before .before .before .before .before .before .before .before .before in
+    omega (arith, loop .loop .inv .room .theres, fresh-long _ _ _ (loop .before .before .before .before .before .before .pre .1 .1)))
+    look-stops
+    (λ c κs. search needs)
+    look-counts
+    look-requires
+    look-fits
+    look-room
+    look-tall
+    look-on
+    look-less
+    look-again
     said-requires
     (λ c. omega arith)
     (λ c. omega arith)

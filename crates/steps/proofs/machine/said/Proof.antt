@@ -15,7 +15,7 @@ said-spec =
     (tie.spec
     (λ c h a b c2 d.
     let first = c .before .before in
-    rw (says-nothing-early (first .args .x) (first .pre .0) (first .pre .1) (first .pre .2) (c .if1 .taken)))
+    rw (says-nothing-early (first .args .x) (first .pre .0) (first .pre .1) (first .pre .2) (first .pre .3) (c .if1 .taken)))
     (λ c h a b c2 d. rw (says-answer (c .before .before .before .before .before .args .x) (c .before .before .before .if1 .left) (c .before .if2 .taken)))
     (λ c h a b c2 d. rw (says-turn (c .before .before .before .before .before .before .args .x) (c .if3 .taken)))
     (λ c κs. search needs)
@@ -31,4 +31,4 @@ said-spec =
     let from : 32 ≤ first .args .x .kind =
     let third = c .before .before .before .before in
     omega (arith, third .before .before .if2 .left, third .if3 .left, c .before .before .if4 .left, c .if5 .left) in
-    rw (says-nothing-late (first .args .x) (first .pre .3 from))))
+    rw (says-nothing-late (first .args .x) (first .pre .4 from))))

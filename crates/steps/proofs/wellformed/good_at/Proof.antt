@@ -23,4 +23,4 @@ good-at-spec =
     ))
     (λ c κs. search needs)
     (λ c κs. search needs)
-    (λ c. rw (← c .before .read-step .ensures) (c .good-step .ensures)))
+    (λ c. rw (← c .before .read-step .ensures .0) (c .good-step .ensures)))
