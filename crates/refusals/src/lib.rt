@@ -1,6 +1,7 @@
 // Refusals 10 to 15: whether what a call is handed can be used. The lines of the table of refusals are judged in the paper's order,
 // and none is looked at below the first that does not hold.
 pub mod bar;
+pub mod day;
 pub mod entries;
 pub mod lists;
 pub mod rooms;
