@@ -21,7 +21,7 @@ use Rattle.refusals.specs.declared.verdict.Verdict.the-variants.{Fine, Bad}
 use Rattle.refusals.specs.Lines.{Line, judged}
 use Rattle.refusals.specs.Rooms.{roomLines}
 use Rattle.refusals.specs.Judgement.{runLines, stepLines, stepJudged, finishLines, finishJudged}
-use Rattle.refusals.specs.Laws.Lines.{below-bad, both-fine}
+use Rattle.refusals.specs.Laws.Lines.{below-bad, fine-adds-nothing, both-fine}
 use Rattle.engine.specs.declared.ending.Ended.{Ended}
 use Rattle.engine.specs.Finish.{ended, concluded, finishOf}
 use Rattle.engine.specs.Laws.Floats.{step-floats, run-floats, end-floats}
@@ -45,12 +45,6 @@ first-agrees : {A : Type 0} (v : Verdict) (o : Outcome A) → ((r : Refusal) →
 unfolding unlessBad
 first-agrees (Bad r) o h = sym (h r refl)
 first-agrees Fine o h = refl
-
--- lines below others that are fine add nothing
-fine-adds-nothing : (a b : List Line) → judged b ≡ Fine → judged (a ++ b) ≡ judged a
-unfolding judged
-fine-adds-nothing [] b h = h
-fine-adds-nothing (l ∷ a) b h = rw (fine-adds-nothing a b h)
 
 module _ (settings room : List ℕ) (set : settingWords ≤ length settings) (long : stateWords ≤ length room) where
   words-fine : judged (wordLines settings room) ≡ Fine

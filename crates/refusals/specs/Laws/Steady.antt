@@ -20,7 +20,7 @@ use Rattle.refusals.specs.Judgement.{runLines, stepLines, stepJudged}
 use Rattle.refusals.specs.Lists.{listLines}
 use Rattle.refusals.specs.Rooms.{heldFine, entryBelow, roomLines, stateLines, placeLines}
 use Rattle.refusals.specs.Settings.{settingLines}
-use Rattle.refusals.specs.Laws.Lines.{first-holds, below-fine, below-bad, both-fine}
+use Rattle.refusals.specs.Laws.Lines.{first-holds, below-fine, below-bad, fine-adds-nothing, both-fine}
 
 -- a room for D rows, fine settings, counts that are within the rooms, and an entry bar below the bars seen
 pub record Steady (s : Settings) (t : State) (m : Rooms) : Type 0 where
@@ -39,12 +39,6 @@ stops-there : (a b : List Line) (number place : ℕ) → judged (a ++ (line fals
 unfolding judged
 stops-there [] b number place = refl
 stops-there (l ∷ a) b number place = rw (stops-there a b number place)
-
--- a line that holds, last, adds nothing
-adds-nothing : (a : List Line) (number place : ℕ) → judged (a ++ (line true number place ∷ [])) ≡ judged a
-unfolding judged
-adds-nothing [] number place = refl
-adds-nothing (l ∷ a) number place = rw (adds-nothing a number place)
 
 module _ (s : Settings) (t : State) (bars : List ℕ) (m : Rooms) where
   abbrev whole : Line
@@ -69,7 +63,9 @@ module _ (s : Settings) (t : State) (bars : List ℕ) (m : Rooms) where
     -- where it is not, no bar of whole bars is taken
     pub day-bad : wholeBars (s .slots) bars ≡ true → (bar : List ℕ) → stepJudged s t bar m ls ≡ Bad why
     unfolding stepJudged stepLines
-    day-bad h bar = below-bad (runLines s t m) _ why (sym (adds-nothing (runLines s t m) 13 0) ∙ (rw (day-lines, h) at bad))
+    day-bad h bar =
+        let run = fine-adds-nothing (runLines s t m) (line true 13 0 ∷ []) (unfold judged in refl) in
+        below-bad (runLines s t m) _ why (sym run ∙ (rw (day-lines, h) at bad))
 
     -- nor a list that is not whole bars, as a bar
     pub day-ragged : wholeBars (s .slots) bars ≡ false → stepJudged s t bars m ls ≡ Bad why
