@@ -20,3 +20,5 @@ pub mod TwoRuns
 pub mod LastPoint
 pub mod Finishes
 pub mod Forgets
+pub mod Underway
+pub mod Days

@@ -1,6 +1,7 @@
 // One bar, and the end of a run: the Rust's engine.rs. A step fills the working order, records the row, looks for exits
 // inside the bar, charges funding, marks the equity and decides, in that order.
 mod account;
+pub mod day;
 mod decide;
 mod ending;
 mod record;
@@ -30,7 +31,7 @@ pub enum Finished {
 
 // The phases in order, for a step that was handed what it can use. The fill is known before anything is written: one that is turned
 // away is refused with 16.
-fn advance<'a>(
+pub(crate) fn advance<'a>(
     s: Settings,
     t: State,
     bar: &[u64],
