@@ -41,18 +41,18 @@ use Rattle.capi.specs.Laws.RunCalls.{step-small}
 -- ---- rooms that have their words
 
 -- a first verdict that the second repeats where it is bad
-first-agrees : {A : Type 0} (v : Verdict) (o : Outcome A) → ((r : Refusal) → v ≡ Bad r → o ≡ refuses r) → unlessBad v o ≡ o
+pub first-agrees : {A : Type 0} (v : Verdict) (o : Outcome A) → ((r : Refusal) → v ≡ Bad r → o ≡ refuses r) → unlessBad v o ≡ o
 unfolding unlessBad
 first-agrees (Bad r) o h = sym (h r refl)
 first-agrees Fine o h = refl
 
 module _ (settings room : List ℕ) (set : settingWords ≤ length settings) (long : stateWords ≤ length room) where
-  words-fine : judged (wordLines settings room) ≡ Fine
+  pub words-fine : judged (wordLines settings room) ≡ Fine
   unfolding judged wordLines
   words-fine = rw (le-leb _ _ set, le-leb _ _ long)
 
   -- so the room of rows is all that a call asks for besides
-  lent-fine : (rows : List ℕ) → judged (lentLines settings room rows) ≡ judged (roomLines (settingsOf settings) rows)
+  pub lent-fine : (rows : List ℕ) → judged (lentLines settings room rows) ≡ judged (roomLines (settingsOf settings) rows)
   unfolding lentLines
   lent-fine rows = fine-adds-nothing (roomLines (settingsOf settings) rows) _ words-fine
 
@@ -64,7 +64,7 @@ module _ (settings room : List ℕ) (set : settingWords ≤ length settings) (lo
         metrics-fine = unfold judged metricLines in rw (le-leb _ _ nine)
 
 -- and the engine asks for it first
-room-first : (s : Settings) (t : State) (bar : List ℕ) (m : Rooms) (ls : Lists) (r : Refusal) → judged (roomLines s (m .rows)) ≡ Bad r
+pub room-first : (s : Settings) (t : State) (bar : List ℕ) (m : Rooms) (ls : Lists) (r : Refusal) → judged (roomLines s (m .rows)) ≡ Bad r
     → stepVerdict s t bar m ls ≡ Bad r
 room-first s t bar m ls r e =
     handed-bad s t bar m ls r
@@ -75,7 +75,7 @@ unfolding finishJudged finishLines
 finish-room-first s t m r e = below-bad (roomLines s (m .rows)) _ r e
 
 -- where the engine goes on, the room of rows has passed
-room-passed : (s : Settings) (t : State) (bar : List ℕ) (m : Rooms) (ls : Lists) → stepVerdict s t bar m ls ≡ Fine → judged (roomLines s (m .rows)) ≡ Fine
+pub room-passed : (s : Settings) (t : State) (bar : List ℕ) (m : Rooms) (ls : Lists) → stepVerdict s t bar m ls ≡ Fine → judged (roomLines s (m .rows)) ≡ Fine
 unfolding stepVerdict stepLines runLines
 room-passed s t bar m ls e =
     both-fine (roomLines s (m .rows)) _ (both-fine (runLines s t m) _ (both-fine (stepLines s t bar m ls) (sizeLines s t bar m) e .0) .0) .0

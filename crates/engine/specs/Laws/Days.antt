@@ -123,31 +123,38 @@ not-below n w some e = go (ltb n w) refl
     go true h = absurd (omega (arith, mod-eq-of-lt (ltb-true n w h), e))
     go false h = ltb-false n w h
 
+module _ (K : ℕ) (bars : List ℕ) where
+  pub bars-none : length bars ≡ 0 → barsIn K bars ≡ []
+  unfolding barsIn wholeBars cut
+  bars-none none = rw (none, zero-mod, zero-div)
+
+  module _ (some : 0 < length bars) (whole : wholeBars K bars ≡ true) where
+    -- a first bar
+    pub whole-one : barWords K ≤ length bars
+    unfolding wholeBars
+    whole-one = not-below (length bars) (barWords K) some (eqb-true _ _ whole)
+
+    pub some-bars : 0 < length bars / barWords K
+    some-bars = le-div-iff-mul-le {k = barWords K} (omega arith) .1 (omega (arith, whole-one))
+
 module _ (s : Settings) (t : State) (bars : List ℕ) (m : Rooms) (ls : Lists) where
   -- no bars
   pub day-none : length bars ≡ 0 → dayOf s t bars m ls ≡ record { done = 0; verdict = Fine; state = t; rooms = m }
-  unfolding dayOf barsIn wholeBars cut
-  day-none none = rw (none, zero-mod, zero-div) (run-none s ls t m)
+  unfolding dayOf
+  day-none none = rw (bars-none (s .slots) bars none) (run-none s ls t m)
 
   -- whole bars
-  pub day-whole : wholeBars (s .slots) bars ≡ true → dayOf s t bars m ls ≡ runOver s ls t m (cut (length bars / barWords (s .slots)) (barWords (s .slots)) bars)
+  pub day-whole : wholeBars (s .slots) bars ≡ true
+      → dayOf s t bars m ls ≡ runOver s ls t m (cut (length bars / barWords (s .slots)) (barWords (s .slots)) bars)
   unfolding dayOf barsIn
   day-whole h = rw h
 
   module _ (some : 0 < length bars) where
-    -- some of them
-    pub whole-one : wholeBars (s .slots) bars ≡ true → barWords (s .slots) ≤ length bars
-    unfolding wholeBars
-    whole-one h = not-below (length bars) (barWords (s .slots)) some (eqb-true _ _ h)
-
-    first-of : wholeBars (s .slots) bars ≡ true → 0 < length bars / barWords (s .slots)
-    first-of h = le-div-iff-mul-le {k = barWords (s .slots)} (omega arith) .1 (omega (arith, whole-one h))
-
     -- whole bars whose first is refused
     first-bad : wholeBars (s .slots) bars ≡ true → (why : Refusal) → stepJudged s t (take (barWords (s .slots)) bars) m ls ≡ Bad why
         → dayOf s t bars m ls ≡ runWith (stopped t why) m
     first-bad h why bad =
-        day-whole h ∙ rw (cut-next _ (barWords (s .slots)) bars (first-of h)) (run-stops s ls t m _ _ why (handed-bad s t _ m ls why bad))
+        day-whole h ∙ rw (cut-next _ (barWords (s .slots)) bars (some-bars (s .slots) bars some h)) (run-stops s ls t m _ _ why (handed-bad s t _ m ls why bad))
 
     -- WHAT IS LOOKED AT ONCE is what the first bar would be refused with
     pub day-stops : (why : Refusal) → judged (dayLines s t bars m) ≡ Bad why → dayOf s t bars m ls ≡ runWith (stopped t why) m
@@ -171,7 +178,7 @@ module _ (s : Settings) (t : State) (bars : List ℕ) (m : Rooms) (ls : Lists) w
         own = nextLines (s .slots) (t .counts) first (m .equity) (m .trades)
 
         judge : stepJudged s t first m ls ≡ judged (own ++ listLines (s .slots) (s .depth) ls)
-        judge = next-judged s t first m ls steady (length-take-le _ bars (whole-one h))
+        judge = next-judged s t first m ls steady (length-take-le _ bars (whole-one (s .slots) bars some h))
 
         go : (v : Verdict) → judged own ≡ v → dayOf s t bars m ls ≡ runWith (unlistedBy v t fifteen) m
         go (Bad why) e = first-bad h why (judge ∙ below-bad own _ why e)

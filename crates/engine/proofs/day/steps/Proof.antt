@@ -29,8 +29,7 @@ unlisted-requires c κs =
     let a = judged .before .before .before .before .before .before .before .before .before .before .before .before .before .args in
     let once = day-fine (a .s) (a .t) (a .bars .now) (rooms (a .rows .now) (a .equity .now) (a .trades .now))
     (sym (judged .judge-day .ensures) ∙ c .before .before .before .before .before .before .enum-told .given .1) in
-    whole-one (a .s) (a .t) (a .bars .now) (rooms (a .rows .now) (a .equity .now) (a .trades .now))
-    (lists (a .entry .now) (a .exit .now) (a .«short-entry» .now) (a .«short-exit» .now)) (omega (arith, judged .before .before .before .before .if1 .left)) (once .1)
+    whole-one (a .s .slots) (a .bars .now) (omega (arith, judged .before .before .before .before .if1 .left)) (once .1)
 
 returns-3 : tie.Need-returns-3
 returns-3 c =
@@ -54,10 +53,11 @@ take-bars-requires c κs =
 
 returns-4 : tie.Need-returns-4
 returns-4 c =
-    let judged = c .before .before .before .before .before .before .before .before .before .before .before .before .before .before .before in
+    let told = c .before .before .before .before .before .before .before .before .before .before .before .before .before in
+    let judged = told .before .before in
     let a = judged .before .before .before .before .before .before .before .before .before .before .before .before .before .args in
     let once = day-fine (a .s) (a .t) (a .bars .now) (rooms (a .rows .now) (a .equity .now) (a .trades .now))
-    (sym (judged .judge-day .ensures) ∙ c .before .before .before .before .before .before .before .before .before .before .before .before .before .enum-told .given .1) in
+    (sym (judged .judge-day .ensures) ∙ told .enum-told .given .1) in
     day-whole (a .s) (a .t) (a .bars .now) (rooms (a .rows .now) (a .equity .now) (a .trades .now))
     (lists (a .entry .now) (a .exit .now) (a .«short-entry» .now) (a .«short-exit» .now)) (once .1)
     ∙ c .before .before .before .before .before .before .take-bars .ensures

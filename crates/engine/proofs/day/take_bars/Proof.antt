@@ -19,7 +19,9 @@ abbrev μ-loop : tie.MeasureT-loop
 μ-loop s bars rows₀ equity₀ trades₀ entry «exit» shortEntry shortExit width count t₀ done₀ rows equity trades t done = count - done
 
 add-width : tie.Need-add-width Inv-loop μ-loop
-add-width c = let start = c .before .before .before .before .before .before .before .before .before in omega (arith, settings-fine (start .args .s) (start .pre .steady .settings) .slots)
+add-width c =
+    let start = c .before .before .before .before .before .before .before .before .before in
+    omega (arith, settings-fine (start .args .s) (start .pre .steady .settings) .slots)
 
 loop-holds : tie.Need-loop-holds Inv-loop μ-loop
 loop-holds c = begins _ _ _ _ _ (c .before .before .before .before .before .before .before .before .before .pre)
@@ -54,25 +56,34 @@ next-bar-requires c κs =
 
 -- the rooms are as long as they were, also after the bar that was refused
 same-length : tie.Need-same-length Inv-loop μ-loop
-same-length c = let ran = c .before .before .before .before .before .before .before .before .before in ran .next-bar .kept .1 .1 .1 .0 ∙ ran .before .before .before .before .before .before .loop .inv .lengths .rows
+same-length c =
+    let ran = c .before .before .before .before .before .before .before .before .before in
+    ran .next-bar .kept .1 .1 .1 .0 ∙ ran .before .before .before .before .before .before .loop .inv .lengths .rows
 
 same-length-2 : tie.Need-same-length-2 Inv-loop μ-loop
-same-length-2 c = let ran = c .before .before .before .before .before .before .before .before .before in ran .next-bar .kept .1 .1 .1 .1 .0 ∙ ran .before .before .before .before .before .before .loop .inv .lengths .equity
+same-length-2 c =
+    let ran = c .before .before .before .before .before .before .before .before .before in
+    ran .next-bar .kept .1 .1 .1 .1 .0 ∙ ran .before .before .before .before .before .before .loop .inv .lengths .equity
 
 same-length-3 : tie.Need-same-length-3 Inv-loop μ-loop
-same-length-3 c = let ran = c .before .before .before .before .before .before .before .before .before in ran .next-bar .kept .1 .1 .1 .1 .1 .0 ∙ ran .before .before .before .before .before .before .loop .inv .lengths .trades
+same-length-3 c =
+    let ran = c .before .before .before .before .before .before .before .before .before in
+    ran .next-bar .kept .1 .1 .1 .1 .1 .0 ∙ ran .before .before .before .before .before .before .loop .inv .lengths .trades
 
 -- a bar is refused
 returns : tie.Need-returns Inv-loop μ-loop
 returns c =
     let ran = c .before .before .before .before .before .before .before .before .before in
     let test = ran .before .before .before .before .before in
-    stops _ _ _ _ _ _ _ _ (test .before .loop .inv) (test .loop-test .taken) (answered (ran .next-bar .ensures) (c .before .answer .given .1))
+    stops _ _ _ _ _ _ _ _ (test .before .loop .inv) (test .loop-test .taken)
+    (answered (ran .next-bar .ensures) (c .before .answer .given .1))
 
 add-done : tie.Need-add-done Inv-loop μ-loop
 add-done c =
-    let good = c .before .before .before .before .before .before .before .before .before .before .before .before .before .before .before .before .before .before .before .before .before .before .before .before .before .good in
-    omega (arith, div-le-self (length (c .before .before .before .before .before .before .before .before .before .before .before .before .before .before .before .before .before .before .before .before .before .before .before .before .before .args .bars .now)) (10 + c .before .before .before .before .before .before .before .before .before .before .before .before .before .before .before .before .before .before .before .before .before .before .before .before .before .args .s .slots), c .before .before .before .before .before .before .before .before .before .before .before .before .before .before .loop-test .taken)
+    let test = c .before .before .before .before .before .before .before .before .before .before .before .before .before .before in
+    let start = test .before .before .before .before .before .before .before .before .before .before .before in
+    let good = start .good in
+    omega (arith, div-le-self (length (start .args .bars .now)) (10 + start .args .s .slots), test .loop-test .taken)
 
 loop-less : tie.Need-loop-less Inv-loop μ-loop
 loop-less c = omega (arith, c .before .before .before .before .before .before .before .before .before .before .before .before .before .before .loop-test .taken)
@@ -81,7 +92,8 @@ loop-again : tie.Need-loop-again Inv-loop μ-loop
 loop-again c =
     let ran = c .before .before .before .before .before .before .before .before .before in
     let test = ran .before .before .before .before .before in
-    one-more _ _ _ _ _ _ _ _ (test .before .loop .inv) (test .loop-test .taken) (answered (ran .next-bar .ensures) (c .before .answer2 .given .1))
+    one-more _ _ _ _ _ _ _ _ (test .before .loop .inv) (test .loop-test .taken)
+    (answered (ran .next-bar .ensures) (c .before .answer2 .given .1))
     (ran .next-bar .kept .1 .1 .1 .0) (ran .next-bar .kept .1 .1 .1 .1 .0) (ran .next-bar .kept .1 .1 .1 .1 .1 .0)
 
 -- all are done

@@ -12,7 +12,9 @@ add-width : tie.Need-add-width
 add-width c = let start = c .before .before .before .before .before in let good = start .good in omega (arith, start .pre)
 
 slice-aggregate-judge-next : tie.Need-slice-aggregate-judge-next
-slice-aggregate-judge-next c = let start = c .before .before .before .before .before .before in sym (length-take-le (10 + start .args .s .slots) (start .args .bars .now) (start .pre))
+slice-aggregate-judge-next c =
+    let start = c .before .before .before .before .before .before in
+    sym (length-take-le (10 + start .args .s .slots) (start .args .bars .now) (start .pre))
 
 returns : tie.Need-returns
 unfolding unlistedBy
