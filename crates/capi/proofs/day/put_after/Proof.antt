@@ -12,7 +12,9 @@ returns c = rw (eq-eqb _ 0 (c .if1 .taken))
 
 returns-2 : tie.Need-returns-2
 unfolding stateAfter
-returns-2 c = rw (ne-eqb (c .before .before .before .before .before .before .args .done) 0 (c .before .before .before .before .if1 .left)) (c .before .before .put-state .ensures)
+returns-2 c =
+    let test = c .before .before .before .before in
+    rw (ne-eqb (test .before .before .args .done) 0 (test .if1 .left)) (c .before .before .put-state .ensures)
 
 pub put-after-spec : {M : Type 1} → statement M
 put-after-spec = tie.close (tie.spec returns (λ c κs. search needs) (λ c. search needs) returns-2)

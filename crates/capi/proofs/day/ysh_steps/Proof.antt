@@ -13,8 +13,8 @@ returns-2 c =
     let ran = c .before .before .before .before .before .before .before .before .before .before .before .before in
     let given = ran .before .before .before .before in
     let read = given .before .before in
-    day-ran _ _ _ _ _ (read .before .before .before .judge-lent .ensures) (read .before .enum-told .given .1) (read .settings-of .ensures) (given .state-of .ensures)
-    (ran .steps .ensures) (put .put-after .ensures) (c .answer-of .ensures)
+    day-ran _ _ _ _ _ (read .before .before .before .judge-lent .ensures) (read .before .enum-told .given .1) (read .settings-of .ensures)
+    (given .state-of .ensures) (ran .steps .ensures) (put .put-after .ensures) (c .answer-of .ensures)
 
 pub ysh-steps-spec : {M : Type 1} → statement M
 ysh-steps-spec =
