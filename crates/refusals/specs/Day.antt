@@ -1,6 +1,6 @@
 -- A whole day in one call (request 3): what is looked at once for all of its bars, and what is looked at for each.
 use Prim.Native.Nat.{ℕ, _%_}
-use mathlib.Core.Bool.{Bool}
+use mathlib.Core.Bool.{Bool, true, false}
 use mathlib.Core.List.{List, [], _∷_, _++_}
 use lib.ListN.{length}
 use lib.Dec.{eqb}
@@ -18,9 +18,14 @@ use Rattle.refusals.specs.Settings.{settingLines}
 unfoldable pub wholeBars : ℕ → List ℕ → Bool
 wholeBars K bars = eqb (length bars % barWords K) 0
 
+-- A call that takes one bar is handed exactly one record.
+unfoldable pub wholeFor : Bool → ℕ → List ℕ → Bool
+wholeFor true K bars = eqb (length bars) (barWords K)
+wholeFor false K bars = wholeBars K bars
+
 -- Once: 10, 12 and 13, of the rooms, the settings, the state and the list of bars.
-unfoldable pub dayLines : Settings → State → List ℕ → Rooms → List Line
-dayLines s t bars m = roomLines s (m .rows) ++ (settingLines s ++ (stateLines s t m ++ (line (wholeBars (s .slots) bars) 13 0 ∷ [])))
+unfoldable pub dayLines : Bool → Settings → State → List ℕ → Rooms → List Line
+dayLines one s t bars m = roomLines s (m .rows) ++ (settingLines s ++ (stateLines s t m ++ (line (wholeFor one (s .slots) bars) 13 0 ∷ [])))
 
 -- For each bar: 13 of the counts, which grow, 14, and 11.
 unfoldable pub nextLines : ℕ → Counts → List ℕ → List ℕ → List ℕ → List Line

@@ -2,7 +2,7 @@
 ghost use mathlib.Core.Path.{_≡_};
 ghost use Rattle.records.specs.Lent.{rooms};
 ghost use Rattle.refusals.specs.Lines.{judged};
-ghost use Rattle.refusals.specs.Day.{wholeBars, dayLines, nextLines};
+ghost use Rattle.refusals.specs.Day.{wholeBars, wholeFor, dayLines, nextLines};
 use crate::bar;
 use crate::rooms;
 use crate::setting;
@@ -24,8 +24,19 @@ fn are_whole(bars: &[u64], slots: usize) -> bool
     n % (BAR_FIXED + slots) == 0
 }
 
+// Whether they are what a call of one bar, or of many, is handed.
+fn are_for(one: bool, bars: &[u64], slots: usize) -> bool
+    ensures { λ r. ⌜ r ≡ wholeFor one slots (now (bars .entry)) ⌝ }
+{
+    if one {
+        return records::bar::is_whole(bars, slots);
+    }
+    are_whole(bars, slots)
+}
+
 // Whether the bars of a call can be stepped over one after another: 10, 12 and 13.
 pub fn judge_day(
+    one: bool,
     s: Settings,
     t: State,
     bars: &[u64],
@@ -33,7 +44,7 @@ pub fn judge_day(
     equity: &[u64],
     trades: &[u64],
 ) -> Verdict
-    ensures { λ r. ⌜ r ≡ judged (dayLines s t (now (bars .entry)) (rooms (now (rows .entry)) (now (equity .entry)) (now (trades .entry)))) ⌝ }
+    ensures { λ r. ⌜ r ≡ judged (dayLines one s t (now (bars .entry)) (rooms (now (rows .entry)) (now (equity .entry)) (now (trades .entry)))) ⌝ }
 {
     if let Verdict::Bad(refusal) = rooms::judge_room(s, rows) {
         return Verdict::Bad(refusal);
@@ -44,7 +55,7 @@ pub fn judge_day(
     if let Verdict::Bad(refusal) = rooms::judge_state(s, t, rows, equity, trades) {
         return Verdict::Bad(refusal);
     }
-    if are_whole(bars, s.slots) {
+    if are_for(one, bars, s.slots) {
         return Verdict::Fine;
     }
     Verdict::Bad(Refusal {

@@ -1,7 +1,7 @@
 -- What stays as it is from bar to bar is looked at once: where it is fine, a step is judged by its counts, its places, its bar and the lists.
 use Prim.Native.Nat.{ℕ, _%_}
 use mathlib.Core.Path.{_≡_, refl, sym, _∙_}
-use mathlib.Core.Bool.{true, false}
+use mathlib.Core.Bool.{Bool, true, false}
 use mathlib.Core.List.{List, [], _∷_, _++_, append-assoc}
 use native.Mathlib.Nat.{mod-self}
 use borrow.Author.Tests.{eq-eqb, ne-eqb, eqb-false}
@@ -15,7 +15,7 @@ use Rattle.records.specs.Lent.{Rooms, Lists}
 use Rattle.refusals.specs.declared.verdict.Verdict.the-variants.{Fine, Bad}
 use Rattle.refusals.specs.Lines.{Line, line, judged}
 use Rattle.refusals.specs.Bar.{barLines}
-use Rattle.refusals.specs.Day.{wholeBars, dayLines, nextLines}
+use Rattle.refusals.specs.Day.{wholeBars, wholeFor, dayLines, nextLines}
 use Rattle.refusals.specs.Judgement.{runLines, stepLines, stepJudged}
 use Rattle.refusals.specs.Lists.{listLines}
 use Rattle.refusals.specs.Rooms.{heldFine, entryBelow, roomLines, stateLines, placeLines}
@@ -40,17 +40,23 @@ unfolding judged
 stops-there [] b number place = refl
 stops-there (l ∷ a) b number place = rw (stops-there a b number place)
 
-module _ (s : Settings) (t : State) (bars : List ℕ) (m : Rooms) where
+-- what a call of one bar is handed that is not a bar, and what a call of many is handed that is not whole bars
+no-bar : (one : Bool) (K : ℕ) (bars : List ℕ) → wholeFor one K bars ≡ false → eqb (length bars) (barWords K) ≡ false
+unfolding wholeFor
+no-bar true K bars h = h
+no-bar false K bars h = not-a-bar K bars h
+
+module _ (one : Bool) (s : Settings) (t : State) (bars : List ℕ) (m : Rooms) where
   abbrev whole : Line
-  whole = line (wholeBars (s .slots) bars) 13 0
+  whole = line (wholeFor one (s .slots) bars) 13 0
 
   -- what is looked at once stands before anything else that a step looks at
-  day-lines : dayLines s t bars m ≡ runLines s t m ++ (whole ∷ [])
+  day-lines : dayLines one s t bars m ≡ runLines s t m ++ (whole ∷ [])
   unfolding dayLines runLines
   day-lines = simp append-assoc
 
   -- where it is fine, it is steady, and the bars are whole
-  pub day-fine : judged (dayLines s t bars m) ≡ Fine → Steady s t m × (wholeBars (s .slots) bars ≡ true)
+  pub day-fine : judged (dayLines one s t bars m) ≡ Fine → Steady s t m × (wholeFor one (s .slots) bars ≡ true)
   unfolding dayLines stateLines
   day-fine h =
       let room = both-fine (roomLines s (m .rows)) _ h in
@@ -59,18 +65,18 @@ module _ (s : Settings) (t : State) (bars : List ℕ) (m : Rooms) where
       let entry = first-holds _ _ (held .1) in
       (record { room = room .0; settings = settings .0; held = held .0; entry = entry .0 }, first-holds _ _ (entry .1) .0)
 
-  module _ (ls : Lists) (why : Refusal) (bad : judged (dayLines s t bars m) ≡ Bad why) where
+  module _ (ls : Lists) (why : Refusal) (bad : judged (dayLines one s t bars m) ≡ Bad why) where
     -- where it is not, no bar of whole bars is taken
-    pub day-bad : wholeBars (s .slots) bars ≡ true → (bar : List ℕ) → stepJudged s t bar m ls ≡ Bad why
+    pub day-bad : wholeFor one (s .slots) bars ≡ true → (bar : List ℕ) → stepJudged s t bar m ls ≡ Bad why
     unfolding stepJudged stepLines
     day-bad h bar =
         let run = fine-adds-nothing (runLines s t m) (line true 13 0 ∷ []) (unfold judged in refl) in
         below-bad (runLines s t m) _ why (sym run ∙ (rw (day-lines, h) at bad))
 
     -- nor a list that is not whole bars, as a bar
-    pub day-ragged : wholeBars (s .slots) bars ≡ false → stepJudged s t bars m ls ≡ Bad why
+    pub day-ragged : wholeFor one (s .slots) bars ≡ false → stepJudged s t bars m ls ≡ Bad why
     unfolding stepJudged stepLines
-    day-ragged h = rw (not-a-bar (s .slots) bars h) (stops-there (runLines s t m) _ 13 0 ∙ (rw (day-lines, h) at bad))
+    day-ragged h = rw (no-bar one (s .slots) bars h) (stops-there (runLines s t m) _ 13 0 ∙ (rw (day-lines, h) at bad))
 
 -- THE LINES OF EACH BAR say of it what all lines of a step say.
 pub next-judged : (s : Settings) (t : State) (bar : List ℕ) (m : Rooms) (ls : Lists) → Steady s t m → length bar ≡ barWords (s .slots)

@@ -39,7 +39,7 @@ returns-4 c =
     fine-block _ _ (c3 .judge-room .ensures) (c2 .before .enum-told .given .1)
     (fine-block _ _ (c2 .judge-settings .ensures) (c1 .before .enum-told2 .given .1)
     (fine-block _ _ (c1 .judge-state .ensures) (c .before .before .enum-told3 .given .1)
-    (fine-line _ _ (sym (c .before .are-whole .ensures) ∙ c .if1 .taken) no-line)))
+    (fine-line _ _ (sym (c .before .are-for .ensures) ∙ c .if1 .taken) no-line)))
 
 returns-5 : tie.Need-returns-5
 unfolding dayLines
@@ -50,7 +50,7 @@ returns-5 c =
     fine-block _ _ (c3 .judge-room .ensures) (c2 .before .enum-told .given .1)
     (fine-block _ _ (c2 .judge-settings .ensures) (c1 .before .enum-told2 .given .1)
     (fine-block _ _ (c1 .judge-state .ensures) (c .before .before .enum-told3 .given .1)
-    (bad-line _ _ (sym (c .before .are-whole .ensures) ∙ c .if1 .left))))
+    (bad-line _ _ (sym (c .before .are-for .ensures) ∙ c .if1 .left))))
 
 pub judge-day-spec : {M : Type 1} → statement M
 judge-day-spec =
