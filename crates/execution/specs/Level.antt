@@ -15,12 +15,12 @@ use Rattle.execution.specs.declared.level.OrderKind.{OrderKind}
 use Rattle.execution.specs.declared.level.OrderKind.the-variants.{Market, Limit, Stop, StopLimit}
 
 -- "the level is the deciding bar's close times (1 + pct/100)"
-unfoldable pub levelOf : Float → Float → Float
-levelOf close pct = close ⊗ (one ⊕ pct ⊘ hundred)
+unfoldable pub levelFrom : Float → Float → Float
+levelFrom close pct = close ⊗ (one ⊕ pct ⊘ hundred)
 
 -- "Settings gain an order kind and two percentages: the level is the deciding bar's close times (1 + pct/100), the second is a stop-limit's limit."
 unfoldable pub entryTrigger : Entries → Float → OrderKind
-entryTrigger e close = triggerOf (e .«order_type») (levelOf close (e .«level_pct»)) (levelOf close (e .«limit_pct»))
+entryTrigger e close = triggerOf (e .«order_type») (levelFrom close (e .«level_pct»)) (levelFrom close (e .«limit_pct»))
   where
     triggerOf : OrderType → Float → Float → OrderKind
     triggerOf MarketType level limit = Market

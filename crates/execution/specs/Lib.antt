@@ -11,4 +11,5 @@ pub mod RustEntry
 pub mod WholeLots
 pub mod Laws
 pub mod VolatilityWindow
+pub mod RingEntry
 pub mod Edges

@@ -10,7 +10,7 @@ use Rattle.rows.specs.History.{History, field}
 use Rattle.execution.specs.Volatility.{closeAt, closes, realizedVol}
 
 -- rows that close alike, one for one
-closes-alike : (g h : History) (i k n : ℕ) → ((j : ℕ) → j < n → closeAt g (i + j) ≡ closeAt h (k + j)) → closes g i n ≡ closes h k n
+pub closes-alike : (g h : History) (i k n : ℕ) → ((j : ℕ) → j < n → closeAt g (i + j) ≡ closeAt h (k + j)) → closes g i n ≡ closes h k n
 unfolding closes
 closes-alike g h i k zero e = refl
 closes-alike g h i k (suc n) e =

@@ -15,6 +15,7 @@ use portfolio::Candle;
 use portfolio::Portfolio;
 ghost use mathlib.Core.Path.{_≡_};
 ghost use Rattle.rows.specs.History.{historyOf};
+ghost use Rattle.rows.specs.Ring.{ringOf};
 ghost use Rattle.execution.specs.Fills.{direction, volatilityFor, quantity, probeQty, withinVolume, booked, executeEntry, exitDirection, executeExit};
 
 fn direction(side: Side) -> f64
@@ -26,12 +27,17 @@ fn direction(side: Side) -> f64
     }
 }
 
-// The volatility that the sizing asks for, over the rows before this bar.
-fn volatility_for(sizing: Sizing, rows: &[u64], slots: usize) -> Optional
-    ensures { λ r. ⌜ r ≡ volatilityFor sizing (historyOf slots (now (rows .entry))) ⌝ }
+// The volatility that the sizing asks for, over the rows before this bar, which begin at row `start`.
+fn volatility_for(sizing: Sizing, rows: &[u64], slots: usize, start: usize) -> Optional
+    ensures { λ r. ⌜ r ≡ volatilityFor sizing (ringOf slots start (now (rows .entry))) ⌝ }
 {
     match sizing {
-        Sizing::VolTarget(_, lookback) => volatility::realized_vol(rows, slots, lookback),
+        Sizing::VolTarget(_, lookback) => volatility::realized_vol_ring(
+            rows,
+            slots,
+            start,
+            lookback,
+        ),
         Sizing::FixedFraction(_) => Optional::Absent,
         Sizing::FixedQty(_) => Optional::Absent,
         Sizing::FixedCash(_) => Optional::Absent,
@@ -115,10 +121,27 @@ pub fn execute_entry(
 ) -> Entry
     ensures { λ r. ⌜ r ≡ executeEntry side «raw_price» «fee_bps» terms candle pf (historyOf slots (now (rows .entry))) ⌝ }
 {
+    execute_entry_ring(side, raw_price, fee_bps, terms, candle, pf, rows, slots, 0)
+}
+
+// The same where the rows before this bar begin at row `start`, go on to the last and then from the first.
+pub fn execute_entry_ring(
+    side: Side,
+    raw_price: f64,
+    fee_bps: f64,
+    terms: Terms,
+    candle: Candle,
+    pf: Portfolio,
+    rows: &[u64],
+    slots: usize,
+    start: usize,
+) -> Entry
+    ensures { λ r. ⌜ r ≡ executeEntry side «raw_price» «fee_bps» terms candle pf (ringOf slots start (now (rows .entry))) ⌝ }
+{
     let sizing = terms.sizing;
     let slippage = terms.slippage;
     let dir = direction(side);
-    let rv = volatility_for(sizing, rows, slots);
+    let rv = volatility_for(sizing, rows, slots, start);
     let probe = probe_qty(slippage, terms, pf.cash, raw_price, rv);
     if probe.is_too_large() {
         return Entry::TooLarge;

@@ -3,7 +3,7 @@ use crate::Optional;
 use crate::Side;
 use portfolio::Candle;
 ghost use mathlib.Core.Path.{_≡_};
-ghost use Rattle.execution.specs.Level.{levelOf, entryTrigger, feeBps, reachedBelow, reachedAbove, noDearerThan, noCheaperThan};
+ghost use Rattle.execution.specs.Level.{levelFrom, entryTrigger, feeBps, reachedBelow, reachedAbove, noDearerThan, noCheaperThan};
 ghost use Rattle.execution.specs.Level.{longFill, shortFill, levelFill};
 
 // The order kind that a setting names. Unknown stands for one that the papers do not name: it counts as market.
@@ -32,8 +32,8 @@ pub enum OrderKind {
 }
 
 // The level that stands `pct` percent over a close; under it where pct is negative.
-fn level_of(close: f64, pct: f64) -> f64
-    ensures { λ r. ⌜ r ≡ levelOf close pct ⌝ }
+fn level_from(close: f64, pct: f64) -> f64
+    ensures { λ r. ⌜ r ≡ levelFrom close pct ⌝ }
 {
     close * (1.0 + pct / 100.0)
 }
@@ -43,8 +43,8 @@ pub fn entry_trigger(entries: Entries, close: f64) -> OrderKind
     ensures { λ r. ⌜ r ≡ entryTrigger entries close ⌝ }
 {
     let order_type = entries.order_type;
-    let level = level_of(close, entries.level_pct);
-    let limit = level_of(close, entries.limit_pct);
+    let level = level_from(close, entries.level_pct);
+    let limit = level_from(close, entries.limit_pct);
     match order_type {
         OrderType::Market => OrderKind::Market,
         OrderType::Limit => OrderKind::Limit(level),

@@ -1,10 +1,12 @@
 // `realized_vol`: the standard deviation of the close-to-close returns of the last rows. The returns are formed anew in
 // each of the two passes, so that no room is needed for them.
 use crate::Optional;
+use rows::ring;
 ghost use mathlib.Core.Path.{_≡_};
 ghost use Prim.Native.Nat.{suc, _-_, _<_, _≤_};
 ghost use Rattle.floats.specs.Floats.{zero};
 ghost use Rattle.rows.specs.History.{historyOf};
+ghost use Rattle.rows.specs.Ring.{ringOf};
 ghost use Rattle.execution.specs.Volatility.{closeAt, closes, simpleReturn, returns, ifPositive, realizedVol};
 ghost use Rattle.execution.specs.Tally.{termOf, tallyFrom};
 
@@ -20,12 +22,12 @@ struct Tally {
     total: f64,
 }
 
-// The close of row i.
-fn close_at(rows: &[u64], slots: usize, i: usize) -> f64
-    requires { ⌜ i < historyOf slots (now rows) .rows ⌝ }
-    ensures { λ r. ⌜ r ≡ closeAt (historyOf slots (now (rows .entry))) i ⌝ }
+// The close of row i of the `held` rows that begin at row `start`.
+fn close_at(rows: &[u64], slots: usize, held: usize, start: usize, i: usize) -> f64
+    requires { ⌜ (held ≡ historyOf slots (now rows) .rows) × (start ≤ held) × (i < held) ⌝ }
+    ensures { λ r. ⌜ r ≡ closeAt (ringOf slots start (now (rows .entry))) i ⌝ }
 {
-    let base = i * (words::limits::ROW_FIXED + slots);
+    let base = ring::place(held, start, i) * (words::limits::ROW_FIXED + slots);
     floats::float_of(words::word_from(rows, base, rows::CLOSE))
 }
 
@@ -49,17 +51,25 @@ fn term_of(term: Term, r: f64) -> f64
 }
 
 // One pass over the returns between row `first` and row `last`.
-fn tally_of(rows: &[u64], slots: usize, first: usize, last: usize, term: Term) -> Tally
-    requires { ⌜ (first ≤ last) × (last < historyOf slots (now rows) .rows) ⌝ }
-    ensures { λ r. ⌜ r ≡ tallyFrom term 0 zero (returns (closes (historyOf slots (now (rows .entry))) first (suc (last - first)))) ⌝ }
+fn tally_of(
+    rows: &[u64],
+    slots: usize,
+    held: usize,
+    start: usize,
+    first: usize,
+    last: usize,
+    term: Term,
+) -> Tally
+    requires { ⌜ (held ≡ historyOf slots (now rows) .rows) × (start ≤ held) × (first ≤ last) × (last < held) ⌝ }
+    ensures { λ r. ⌜ r ≡ tallyFrom term 0 zero (returns (closes (ringOf slots start (now (rows .entry))) first (suc (last - first)))) ⌝ }
 {
     let mut count: u64 = 0;
     let mut total = 0.0;
     let mut i = first;
-    let mut before = close_at(rows, slots, first);
+    let mut before = close_at(rows, slots, held, start, first);
     while i < last {
         i = i + 1;
-        let now = close_at(rows, slots, i);
+        let now = close_at(rows, slots, held, start, i);
         let change = simple_return(before, now);
         if let Optional::Of(r) = change {
             count = count + 1;
@@ -83,6 +93,13 @@ fn if_positive(sd: f64) -> Optional
 pub fn realized_vol(rows: &[u64], slots: usize, lookback: u64) -> Optional
     ensures { λ r. ⌜ r ≡ realizedVol (historyOf slots (now (rows .entry))) lookback ⌝ }
 {
+    realized_vol_ring(rows, slots, 0, lookback)
+}
+
+// The same of rows that begin at row `start`, go on to the last and then from the first.
+pub fn realized_vol_ring(rows: &[u64], slots: usize, start: usize, lookback: u64) -> Optional
+    ensures { λ r. ⌜ r ≡ realizedVol (ringOf slots start (now (rows .entry))) lookback ⌝ }
+{
     if lookback < 2 {
         return Optional::Absent;
     }
@@ -91,14 +108,15 @@ pub fn realized_vol(rows: &[u64], slots: usize, lookback: u64) -> Optional
     if held < back {
         return Optional::Absent;
     }
+    let oldest = ring::first_of(held, start);
     let first = held - back;
     let last = held - 1;
-    let sum = tally_of(rows, slots, first, last, Term::Itself);
+    let sum = tally_of(rows, slots, held, oldest, first, last, Term::Itself);
     if sum.count == 0 {
         return Optional::Absent;
     }
     let n = floats::sums::counted(sum.count);
     let mean = sum.total / n;
-    let squares = tally_of(rows, slots, first, last, Term::Squared(mean));
+    let squares = tally_of(rows, slots, held, oldest, first, last, Term::Squared(mean));
     if_positive(floats::root::sqrt(squares.total / n))
 }

@@ -1,1 +1,3 @@
 pub mod RowEnds
+pub mod Turned
+pub mod Ring

@@ -1,3 +1,4 @@
 pub mod History
 pub mod Room
+pub mod Ring
 pub mod Laws

@@ -1,11 +1,17 @@
 -- A leaf n rows before the newest, in a list of words.
 use Prim.Native.Nat.{ℕ, _+_, _-_, _*_, _<_, _≤_}
 use mathlib.Core.Path.{_≡_, sym, ap, _∙_}
+use mathlib.Core.Bool.{cond}
+use mathlib.Core.Logic.{⊎-elim}
 use mathlib.Core.List.{List}
 use native.Mathlib.Omega.{arith}
 use borrow.Author.Tests.{lt-ltb, le-ltb}
+use lib.Dec.{ltb}
+use Rattle.words.specs.Laws.Numbers.{less-or-not}
 use Rattle.floats.specs.Floats.{floatOf}
 use Rattle.rows.specs.History.{History, historyOf}
+use Rattle.rows.specs.Ring.{ringPlace, ringOf}
+use Rattle.rows.specs.Laws.Ring.{ring-row}
 use Rattle.table.specs.Trees.{Operand, const, ref, price}
 use Rattle.rules.specs.declared.Value.the-variants.{Missing, Number}
 use Rattle.rules.specs.Values.{wordsFrom, priceOf, slotOf}
@@ -17,25 +23,54 @@ there-ago : (h : History) (a : Operand) (n : ℕ) → n < h .rows → ago h a n 
 unfolding ago newest
 there-ago h a n l = rw (lt-ltb n (h .rows) l)
 
--- held is the number of rows
-module _ (K : ℕ) (ws : List ℕ) (held n : ℕ) (is : held ≡ historyOf K ws .rows) where
-  pub ago-late : (a : Operand) → held ≤ n → ago (historyOf K ws) a n ≡ Missing
-  unfolding ago
-  ago-late a l = rw (← is, le-ltb n held l)
+pub ago-late : (h : History) (a : Operand) (held n : ℕ) → held ≡ h .rows → held ≤ n → ago h a n ≡ Missing
+unfolding ago
+ago-late h a held n is l = rw (← is, le-ltb n held l)
 
-  pub ago-const : (bits : ℕ) → n < held → ago (historyOf K ws) (const bits) n ≡ Number (floatOf bits)
-  ago-const bits l = there-ago (historyOf K ws) (const bits) n (rw is at l) ∙ const-value (historyOf K ws) (historyOf K ws .rows - 1 - n) (omega arith) bits
+pub ago-const : (h : History) (held n bits : ℕ) → held ≡ h .rows → n < held → ago h (const bits) n ≡ Number (floatOf bits)
+ago-const h held n bits is l = there-ago h (const bits) n (rw is at l) ∙ const-value h (h .rows - 1 - n) (omega arith) bits
 
-  pub ago-ref : (k : ℕ) → n < held → ago (historyOf K ws) (ref k) n ≡ slotOf (wordsFrom ws ((held - 1 - n) * (7 + K))) k
-  unfolding historyOf
+-- rows that begin at row `first` are as many as the list has
+pub ring-held : (K first : ℕ) (ws : List ℕ) (held : ℕ) → held ≡ historyOf K ws .rows → held ≡ ringOf K first ws .rows
+unfolding ringOf
+ring-held K first ws held is = is
+
+-- of `held` rows that begin at row `first`
+module _ (K first : ℕ) (ws : List ℕ) (held n : ℕ) (is : held ≡ historyOf K ws .rows) (fits : first ≤ held) where
+  all : held ≡ ringOf K first ws .rows
+  all = ring-held K first ws held is
+
+  -- row i of them
+  row-there : (i : ℕ) → i < held → ringOf K first ws .word i ≡ wordsFrom ws (ringPlace held first i * (7 + K))
+  row-there i l =
+      ring-row K first ws i (rw is at fits) (rw is at l)
+      ∙ (unfold historyOf in ap (λ (r : ℕ). wordsFrom ws (ringPlace r first i * (7 + K))) (sym is))
+
+  pub ago-ref : (k : ℕ) → n < held → ago (ringOf K first ws) (ref k) n ≡ slotOf (wordsFrom ws (ringPlace held first (held - 1 - n) * (7 + K))) k
   ago-ref k l =
-      there-ago (historyOf K ws) (ref k) n (rw is at l)
-      ∙ ref-value (historyOf K ws) (historyOf K ws .rows - 1 - n) (omega (arith, is)) k
-      ∙ ap (λ (r : ℕ). slotOf (wordsFrom ws ((r - 1 - n) * (7 + K))) k) (sym is)
+      let h = ringOf K first ws in
+      there-ago h (ref k) n (rw all at l)
+      ∙ ref-value h (h .rows - 1 - n) (omega (arith, all)) k
+      ∙ rw (← all, row-there (held - 1 - n) (omega arith))
 
-  pub ago-price : (p : ℕ) → n < held → ago (historyOf K ws) (price p) n ≡ Number (priceOf (wordsFrom ws ((held - 1 - n) * (7 + K))) p)
-  unfolding historyOf
+  pub ago-price : (p : ℕ) → n < held
+      → ago (ringOf K first ws) (price p) n ≡ Number (priceOf (wordsFrom ws (ringPlace held first (held - 1 - n) * (7 + K))) p)
   ago-price p l =
-      there-ago (historyOf K ws) (price p) n (rw is at l)
-      ∙ price-value (historyOf K ws) (historyOf K ws .rows - 1 - n) (omega (arith, is)) p
-      ∙ ap (λ (r : ℕ). Number (priceOf (wordsFrom ws ((r - 1 - n) * (7 + K))) p)) (sym is)
+      let h = ringOf K first ws in
+      there-ago h (price p) n (rw all at l)
+      ∙ price-value h (h .rows - 1 - n) (omega (arith, all)) p
+      ∙ rw (← all, row-there (held - 1 - n) (omega arith))
+
+-- where the row n before the newest stands
+pub place-ago : (held first n : ℕ) → first ≤ held → n < held → ringPlace held first (held - 1 - n) ≡ cond (ltb n first) (first - 1 - n) (held - 1 - (n - first))
+unfolding ringPlace
+place-ago held first n f l =
+    let within = lt-ltb (held - 1 - n) held (omega arith) in
+    ⊎-elim
+    (λ (near : n < first).
+    let at : first + (held - 1 - n) - held ≡ first - 1 - n = omega arith in
+    rw (within, le-ltb (first + (held - 1 - n)) held (omega arith), lt-ltb n first near, at))
+    (λ (far : first ≤ n).
+    let at : first + (held - 1 - n) ≡ held - 1 - (n - first) = omega arith in
+    rw (within, lt-ltb (first + (held - 1 - n)) held (omega arith), le-ltb n first far, at))
+    (less-or-not n first)

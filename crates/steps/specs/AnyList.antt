@@ -1,6 +1,7 @@
 -- A well-formed list, wherever it comes from, answers over the last D rows what it answers over all, and visits the same steps.
 use Prim.Native.Nat.{ℕ, zero, suc, _+_, _-_, _%_, _≤_, _<_, min}
-use mathlib.Core.Path.{_≡_, refl, sym, ap}
+use mathlib.Core.Path.{_≡_, refl, sym, ap, _∙_}
+use mathlib.Core.Logic.{⊎-elim}
 use mathlib.Core.Bool.{Bool, true, false, cond, _&&_}
 use mathlib.Core.List.{List, [], _∷_}
 use native.Mathlib.Omega.{arith}
@@ -8,11 +9,15 @@ use lib.Dec.{ltb, eqb}
 use lib.ListN.{length}
 use borrow.Author.Tests.{lt-ltb, le-ltb, ltb-true, ltb-false}
 use Rattle.words.specs.Limits.{mostSteps}
-use Rattle.rows.specs.History.{History, historyOf, lastRows}
+use Rattle.words.specs.Laws.Numbers.{less-or-not}
+use Rattle.rows.specs.History.{History, historyOf, width, lastRows}
+use Rattle.rows.specs.Ring.{ringOf, turned}
+use Rattle.rows.specs.Laws.Ring.{Alike, ring-turned}
 use Rattle.table.specs.Trees.{Operand, const, ref, price, reach}
 use Rattle.rules.specs.declared.PositionState.{PositionState}
 use Rattle.rules.specs.declared.Value.{Value}
-use Rattle.rules.specs.Meaning.{newest, holds}
+use Rattle.rules.specs.Values.{priceOf, slotOf}
+use Rattle.rules.specs.Meaning.{there, value, newest, holds}
 use Rattle.rules.specs.Window.{Without, operand-same, without-first}
 use Rattle.steps.specs.declared.Formed.{Formed}
 use Rattle.steps.specs.declared.Formed.the-variants.{Well, Bad}
@@ -72,7 +77,59 @@ module _ (K D : ℕ) (bs : List ℕ) (well : formed K D bs ≡ Well) where
   bounded-ops : Bounded K D (opsOf bs)
   bounded-ops = rw run-whole (bounded-from K D bs 0 (stepsIn bs) (parts .1))
 
--- ---- a leaf less than D rows back
+-- ---- two histories whose leaves are the same, less than D rows back
+
+-- of prices, constants, and slots below K
+pub record LeavesSame (K D : ℕ) (w h : History) : Type 0 where
+  pub constant : (bits n : ℕ) → n < D → ago w (const bits) n ≡ ago h (const bits) n
+  pub slot : (k n : ℕ) → k < K → n < D → ago w (ref k) n ≡ ago h (ref k) n
+  pub cost : (p n : ℕ) → n < D → ago w (price p) n ≡ ago h (price p) n
+
+first : (a b : Bool) → (a && b) ≡ true → a ≡ true
+first true b e = refl
+first false b e = e
+
+module _ (K D : ℕ) (w h : History) (leaves : LeavesSame K D w h) (s : PositionState) where
+  effect-same : (m : ℕ) (x : Op) → bounded K D m x ≡ true → (a b c d : Value) (y : Bool) → effect w s x a b c d y ≡ effect h s x a b c d y
+  unfolding effect bounded holds
+  effect-same m (Const bits n) e a b c d y = rw (leaves .constant bits n (ltb-true n D e))
+  effect-same m (Ref k n) e a b c d y = rw (leaves .slot k n (ltb-true k K (first (ltb k K) (ltb n D) e)) (ltb-true n D (second (ltb k K) (ltb n D) e)))
+  effect-same m (Price p n) e a b c d y = rw (leaves .cost p n (ltb-true n D e))
+  effect-same m (Arith k) e a b c d y = refl
+  effect-same m (Compare k) e a b c d y = refl
+  effect-same m (Cross k) e a b c d y = refl
+  effect-same m Between e a b c d y = refl
+  effect-same m (Answer v) e a b c d y = refl
+  effect-same m Turn e a b c d y = refl
+  effect-same m (InPosition v) e a b c d y = refl
+  effect-same m (BarsSinceEntry p k) e a b c d y = refl
+  effect-same m (JumpIf v n) e a b c d y = refl
+  effect-same m Unknown e a b c d y = refl
+
+  does-same : (m : ℕ) (x : Op) → bounded K D m x ≡ true → (v : Values) → does w s x v ≡ does h s x v
+  unfolding does
+  does-same m x e v = effect-same m x e _ _ _ _ (v .answer)
+
+  run-same : (xs : List Op) → Bounded K D xs → (k : ℕ) (v : Values) → run w s xs k v ≡ run h s xs k v
+  unfolding run Bounded
+  run-same [] g k v = refl
+  run-same (x ∷ xs) g (suc k) v = run-same xs (g .1) k v
+  run-same (x ∷ xs) g zero v = rw (does-same (length xs) x (g .0) v) (run-same xs (g .1) (does h s x v .skip) (after (does h s x v) v))
+
+  places-same : (p : ℕ) (xs : List Op) → Bounded K D xs → (k : ℕ) (v : Values) → places w s p xs k v ≡ places h s p xs k v
+  unfolding places Bounded
+  places-same p [] g k v = refl
+  places-same p (x ∷ xs) g (suc k) v = places-same (p + 1) xs (g .1) k v
+  places-same p (x ∷ xs) g zero v =
+      rw (does-same (length xs) x (g .0) v) (ap (λ (ps : List ℕ). p ∷ ps) (places-same (p + 1) xs (g .1) (does h s x v .skip) (after (does h s x v) v)))
+
+  ran-same : (xs : List Op) → Bounded K D xs → ranOver w s xs ≡ ranOver h s xs
+  ran-same xs g =
+      let said : ranOver w s xs .answer ≡ ranOver h s xs .answer = ap (λ (v : Values). v .answer) (run-same xs g 0 start) in
+      let seen : ranOver w s xs .visits ≡ ranOver h s xs .visits = ap length (places-same 0 xs g 0 start) in
+      rw (said, seen)
+
+-- ---- a leaf less than D rows back, over the last D rows
 
 module _ (K D : ℕ) (ws : List ℕ) where
   h : History
@@ -107,50 +164,61 @@ module _ (K D : ℕ) (ws : List ℕ) where
           let also : ltb n (h .rows) ≡ false = le-ltb n (h .rows) (unfold gone h in omega (arith, part .count)) in
           rw (e, also)
 
-  -- ---- a step, a run
+  last-same : LeavesSame K D w h
+  unfolding reach
+  last-same =
+      record {
+        constant = λ bits n near. leaf-same (const bits) n refl near;
+        slot = λ k n below near. leaf-same (ref k) n refl near;
+        cost = λ p n near. leaf-same (price p) n refl near;
+      }
 
-  module _ (s : PositionState) where
-    effect-same : (m : ℕ) (x : Op) → bounded K D m x ≡ true → (a b c d : Value) (y : Bool) → effect w s x a b c d y ≡ effect h s x a b c d y
-    unfolding effect bounded reach holds
-    effect-same m (Const bits n) e a b c d y = rw (leaf-same (const bits) n refl (ltb-true n D e))
-    effect-same m (Ref k n) e a b c d y = rw (leaf-same (ref k) n refl (ltb-true n D (second (ltb k K) (ltb n D) e)))
-    effect-same m (Price p n) e a b c d y = rw (leaf-same (price p) n refl (ltb-true n D e))
-    effect-same m (Arith k) e a b c d y = refl
-    effect-same m (Compare k) e a b c d y = refl
-    effect-same m (Cross k) e a b c d y = refl
-    effect-same m Between e a b c d y = refl
-    effect-same m (Answer v) e a b c d y = refl
-    effect-same m Turn e a b c d y = refl
-    effect-same m (InPosition v) e a b c d y = refl
-    effect-same m (BarsSinceEntry p k) e a b c d y = refl
-    effect-same m (JumpIf v n) e a b c d y = refl
-    effect-same m Unknown e a b c d y = refl
+-- ---- rows from a row on, and the rows turned
 
-    does-same : (m : ℕ) (x : Op) → bounded K D m x ≡ true → (v : Values) → does w s x v ≡ does h s x v
-    unfolding does
-    does-same m x e v = effect-same m x e _ _ _ _ (v .answer)
+-- words that agree below the width give the same price, and the same slot below K
+price-alike : (K p : ℕ) (f g : ℕ → ℕ) → ((j : ℕ) → j < width K → f j ≡ g j) → priceOf f p ≡ priceOf g p
+unfolding priceOf
+price-alike K p f g same =
+    ⊎-elim (λ (one : p < 5). rw (lt-ltb p 5 one, same (p + 1) (omega arith)))
+    (λ (more : 5 ≤ p). rw (le-ltb p 5 more, same 1 (omega arith), same 2 (omega arith), same 3 (omega arith), same 4 (omega arith)))
+    (less-or-not p 5)
 
-    run-same : (xs : List Op) → Bounded K D xs → (k : ℕ) (v : Values) → run w s xs k v ≡ run h s xs k v
-    unfolding run Bounded
-    run-same [] g k v = refl
-    run-same (x ∷ xs) g (suc k) v = run-same xs (g .1) k v
-    run-same (x ∷ xs) g zero v = rw (does-same (length xs) x (g .0) v) (run-same xs (g .1) (does h s x v .skip) (after (does h s x v) v))
+slot-alike : (K k : ℕ) (f g : ℕ → ℕ) → ((j : ℕ) → j < width K → f j ≡ g j) → k < K → slotOf f k ≡ slotOf g k
+unfolding slotOf
+slot-alike K k f g same below = rw (same 6 (omega arith), same (7 + k) (omega arith))
 
-    places-same : (p : ℕ) (xs : List Op) → Bounded K D xs → (k : ℕ) (v : Values) → places w s p xs k v ≡ places h s p xs k v
-    unfolding places Bounded
-    places-same p [] g k v = refl
-    places-same p (x ∷ xs) g (suc k) v = places-same (p + 1) xs (g .1) k v
-    places-same p (x ∷ xs) g zero v =
-        rw (does-same (length xs) x (g .0) v) (ap (λ (ps : List ℕ). p ∷ ps) (places-same (p + 1) xs (g .1) (does h s x v .skip) (after (does h s x v) v)))
+alike-same : (K D : ℕ) (w h : History) → Alike K w h → LeavesSame K D w h
+unfolding ago value there newest
+alike-same K D w h alike =
+    let count = alike .count in
+    record {
+      constant = λ bits n near. rw count;
+      slot = λ k n below near.
+          ⊎-elim
+          (λ (held : n < w .rows).
+          let i = w .rows - 1 - n in
+          rw (← count, slot-alike K k (w .word i) (h .word i) (λ j l. alike .words i j (omega arith) l) below))
+          (λ (late : w .rows ≤ n). rw (← count, le-ltb n (w .rows) late)) (less-or-not n (w .rows));
+      cost = λ p n near.
+          ⊎-elim
+          (λ (held : n < w .rows).
+          let i = w .rows - 1 - n in
+          rw (← count, price-alike K p (w .word i) (h .word i) (λ j l. alike .words i j (omega arith) l)))
+          (λ (late : w .rows ≤ n). rw (← count, le-ltb n (w .rows) late)) (less-or-not n (w .rows));
+    }
 
-    ran-same : (xs : List Op) → Bounded K D xs → ranOver w s xs ≡ ranOver h s xs
-    ran-same xs g =
-        let said : ranOver w s xs .answer ≡ ranOver h s xs .answer = ap (λ (v : Values). v .answer) (run-same xs g 0 start) in
-        let seen : ranOver w s xs .visits ≡ ranOver h s xs .visits = ap length (places-same 0 xs g 0 start) in
-        rw (said, seen)
+-- ---- the theorems
 
 -- THE WINDOW of any list: well formed for D, it gives over the last D rows the answer and the visits that it gives over all.
 pub window-any : (K D : ℕ) (ws bs : List ℕ) (s : PositionState) → formed K D bs ≡ Well
     → ranOver (historyOf K (lastRows K D ws)) s (opsOf bs) ≡ ranOver (historyOf K ws) s (opsOf bs)
 unfolding h w
-window-any K D ws bs s well = ran-same K D ws s (opsOf bs) (bounded-ops K D bs well)
+window-any K D ws bs s well = ran-same K D (w K D ws) (h K D ws) (last-same K D ws) s (opsOf bs) (bounded-ops K D bs well)
+
+-- THE RING of any list: well formed for D, it gives over rows from row `start` on what it gives over the last D of the turned rows.
+pub ring-any : (K D start : ℕ) (ws bs : List ℕ) (s : PositionState) → formed K D bs ≡ Well
+    → ranOver (ringOf K start ws) s (opsOf bs) ≡ ranOver (historyOf K (lastRows K D (turned (width K) start ws))) s (opsOf bs)
+ring-any K D start ws bs s well =
+    let T = historyOf K (turned (width K) start ws) in
+    ran-same K D (ringOf K start ws) T (alike-same K D (ringOf K start ws) T (ring-turned K start ws)) s (opsOf bs) (bounded-ops K D bs well)
+    ∙ sym (window-any K D (turned (width K) start ws) bs s well)

@@ -4,6 +4,7 @@ use crate::Ran;
 use crate::Step;
 use crate::decode;
 use crate::stack;
+use rows::ring;
 use rules::PositionState;
 use rules::Value;
 use rules::values;
@@ -14,6 +15,7 @@ ghost use Prim.Native.Nat.{_+_, _-_, _*_, _<_, _≤_, min};
 ghost use lib.Dec.{ltb, leb};
 ghost use lib.ListN.{length};
 ghost use Rattle.rows.specs.History.{History, historyOf};
+ghost use Rattle.rows.specs.Ring.{ringPlace, ringOf};
 ghost use Rattle.rules.specs.Values as Values;
 ghost use Rattle.table.specs.Trees.{const, ref, price};
 ghost use Rattle.steps.specs.Bytes.{opOf, opsFrom, opsOf, stepsIn, stepsRun};
@@ -30,9 +32,8 @@ struct Tried {
 }
 
 // A constant, `n` rows before the newest of `held` rows: missing where there are not more than n.
-fn const_ago(rows: &[u64], slots: usize, held: usize, bits: u64, n: u64) -> Value
-    requires { ⌜ held ≡ historyOf slots (now rows) .rows ⌝ }
-    ensures { λ r. ⌜ r ≡ ago (historyOf slots (now (rows .entry))) (const bits) n ⌝ }
+fn const_ago(held: usize, bits: u64, n: u64) -> Value
+    ensures { λ r. ⌜ ((h : History) → held ≡ h .rows → r ≡ ago h (const bits) n) ⌝ }
 {
     if n < held as u64 {
         return Value::Number(floats::float_of(bits));
@@ -40,33 +41,41 @@ fn const_ago(rows: &[u64], slots: usize, held: usize, bits: u64, n: u64) -> Valu
     Value::Missing
 }
 
-// The word where the row begins that stands `n` rows before the newest of `held` rows.
-fn row_ago(rows: &[u64], slots: usize, held: usize, n: u64) -> usize
-    requires { ⌜ held ≡ historyOf slots (now rows) .rows ⌝ }
-    requires { ⌜ n < held ⌝ }
-    ensures { λ r. ⌜ r ≡ (held - 1 - n) * (7 + slots) ⌝ }
+// The word where the row begins that stands `n` rows before the newest of `held` rows. They begin at row `first`, so the newest is
+// the one before it.
+fn row_ago(rows: &[u64], slots: usize, held: usize, first: usize, n: u64) -> usize
+    requires { ⌜ (held ≡ historyOf slots (now rows) .rows) × (first ≤ held) × (n < held) ⌝ }
+    ensures { λ r. ⌜ r ≡ ringPlace held first (held - 1 - n) * (7 + slots) ⌝ }
 {
-    (held - 1 - n as usize) * (words::limits::ROW_FIXED + slots)
+    let back = n as usize;
+    if back < first {
+        return (first - 1 - back) * (words::limits::ROW_FIXED + slots);
+    }
+    (held - 1 - (back - first)) * (words::limits::ROW_FIXED + slots)
 }
 
 // A slot, n rows back.
-fn ref_ago(rows: &[u64], slots: usize, held: usize, slot: u8, n: u64) -> Value
-    requires { ⌜ held ≡ historyOf slots (now rows) .rows ⌝ }
-    ensures { λ r. ⌜ r ≡ ago (historyOf slots (now (rows .entry))) (ref slot) n ⌝ }
+fn ref_ago(rows: &[u64], slots: usize, held: usize, first: usize, slot: u8, n: u64) -> Value
+    requires { ⌜ (held ≡ historyOf slots (now rows) .rows) × (first ≤ held) ⌝ }
+    ensures { λ r. ⌜ r ≡ ago (ringOf slots first (now (rows .entry))) (ref slot) n ⌝ }
 {
     if n < held as u64 {
-        return values::slot_at(rows, row_ago(rows, slots, held, n), slot as u64);
+        return values::slot_at(rows, row_ago(rows, slots, held, first, n), slot as u64);
     }
     Value::Missing
 }
 
 // A price, n rows back.
-fn price_ago(rows: &[u64], slots: usize, held: usize, selector: u8, n: u64) -> Value
-    requires { ⌜ held ≡ historyOf slots (now rows) .rows ⌝ }
-    ensures { λ r. ⌜ r ≡ ago (historyOf slots (now (rows .entry))) (price selector) n ⌝ }
+fn price_ago(rows: &[u64], slots: usize, held: usize, first: usize, selector: u8, n: u64) -> Value
+    requires { ⌜ (held ≡ historyOf slots (now rows) .rows) × (first ≤ held) ⌝ }
+    ensures { λ r. ⌜ r ≡ ago (ringOf slots first (now (rows .entry))) (price selector) n ⌝ }
 {
     if n < held as u64 {
-        return Value::Number(values::price_at(rows, row_ago(rows, slots, held, n), selector));
+        return Value::Number(values::price_at(
+            rows,
+            row_ago(rows, slots, held, first, n),
+            selector,
+        ));
     }
     Value::Missing
 }
@@ -82,18 +91,19 @@ fn is_among(kind: u8, low: u8, high: u8) -> bool
 }
 
 // The value that a leaf gives.
-fn leaf(x: Step, rows: &[u64], slots: usize, held: usize) -> Value
-    requires { ⌜ held ≡ historyOf slots (now rows) .rows ⌝ }
+fn leaf(x: Step, rows: &[u64], slots: usize, held: usize, first: usize) -> Value
+    requires { ⌜ (held ≡ historyOf slots (now rows) .rows) × (first ≤ held) ⌝ }
     requires { ⌜ (1 ≤ x .kind) × (x .kind < 4) ⌝ }
-    ensures { λ r. ⌜ ((s : PositionState) (a b c d : Value) (y : Bool) → effect (historyOf slots (now (rows .entry))) s (opOf x) a b c d y ≡ giving 0 r y) ⌝ }
+    ensures { λ r. ⌜ ((s : PositionState) (a b c d : Value) (y : Bool)
+        → effect (ringOf slots first (now (rows .entry))) s (opOf x) a b c d y ≡ giving 0 r y) ⌝ }
 {
     if x.kind == 1 {
-        return const_ago(rows, slots, held, x.bits, x.n);
+        return const_ago(held, x.bits, x.n);
     }
     if x.kind == 2 {
-        return ref_ago(rows, slots, held, x.selector, x.n);
+        return ref_ago(rows, slots, held, first, x.selector, x.n);
     }
-    price_ago(rows, slots, held, x.selector, x.n)
+    price_ago(rows, slots, held, first, x.selector, x.n)
 }
 
 // How many values a cross or Between takes.
@@ -191,15 +201,16 @@ fn run_with(
     n: usize,
     rows: &[u64],
     slots: usize,
+    first: usize,
     s: PositionState,
     places: usize,
     numbers: &mut [f64],
     there: &mut [bool],
 ) -> Tried
     requires { ⌜ n ≤ stepsIn (now list) ⌝ }
-    requires { ⌜ (1 ≤ places) × (places ≤ 1024) ⌝ }
+    requires { ⌜ (1 ≤ places) × (places ≤ 1024) × (first ≤ historyOf slots (now rows) .rows) ⌝ }
     requires { ⌜ Fresh places (now numbers) (now there) ⌝ }
-    ensures { λ r. ⌜ Tries (ranOver (historyOf slots (now (rows .entry))) s (opsFrom (now (list .entry)) 0 n)) n places (r .full) (r .ran) ⌝ }
+    ensures { λ r. ⌜ Tries (ranOver (ringOf slots first (now (rows .entry))) s (opsFrom (now (list .entry)) 0 n)) n places (r .full) (r .ran) ⌝ }
 {
     let held = rows::row_count(rows, slots);
     let mut top: usize = 0;
@@ -217,7 +228,7 @@ fn run_with(
                     ran: Ran { answer, visits },
                 };
             }
-            stack::put(numbers, there, top + 4, leaf(x, rows, slots, held));
+            stack::put(numbers, there, top + 4, leaf(x, rows, slots, held, first));
             top += 1;
             p += 1;
         } else if is_among(kind, 16, 25) {
@@ -257,10 +268,17 @@ fn run_with(
 }
 
 // The run of a list of n steps, at most 1,024, with a place for each: none can be short of one.
-fn run_whole(list: &[u8], n: usize, rows: &[u64], slots: usize, s: PositionState) -> Ran
+fn run_whole(
+    list: &[u8],
+    n: usize,
+    rows: &[u64],
+    slots: usize,
+    first: usize,
+    s: PositionState,
+) -> Ran
     requires { ⌜ n ≤ stepsIn (now list) ⌝ }
-    requires { ⌜ n ≤ 1024 ⌝ }
-    ensures { λ r. ⌜ r ≡ ranOver (historyOf slots (now (rows .entry))) s (opsFrom (now (list .entry)) 0 n) ⌝ }
+    requires { ⌜ (n ≤ 1024) × (first ≤ historyOf slots (now rows) .rows) ⌝ }
+    ensures { λ r. ⌜ r ≡ ranOver (ringOf slots first (now (rows .entry))) s (opsFrom (now (list .entry)) 0 n) ⌝ }
 {
     let mut numbers = [0.0; 1028];
     let mut there = [false; 1028];
@@ -269,6 +287,7 @@ fn run_whole(list: &[u8], n: usize, rows: &[u64], slots: usize, s: PositionState
         n,
         rows,
         slots,
+        first,
         s,
         MOST_STEPS,
         &mut numbers,
@@ -277,10 +296,11 @@ fn run_whole(list: &[u8], n: usize, rows: &[u64], slots: usize, s: PositionState
     tried.ran
 }
 
-// Runs a list over rows of so many slots each. Bytes at the end that are no whole step are not looked at, nor steps past the
-// 1,024th.
-pub fn run(list: &[u8], rows: &[u64], slots: usize, s: PositionState) -> Ran
-    ensures { λ r. ⌜ r ≡ ranOver (historyOf slots (now (rows .entry))) s (opsOf (now (list .entry))) ⌝ }
+// Runs a list over rows of so many slots each, the oldest of them row `first`. Bytes at the end that are no whole step are not
+// looked at, nor steps past the 1,024th.
+fn run_from(list: &[u8], rows: &[u64], slots: usize, first: usize, s: PositionState) -> Ran
+    requires { ⌜ first ≤ historyOf slots (now rows) .rows ⌝ }
+    ensures { λ r. ⌜ r ≡ ranOver (ringOf slots first (now (rows .entry))) s (opsOf (now (list .entry))) ⌝ }
 {
     let n = steps_run(list);
     if n == 0 {
@@ -296,13 +316,29 @@ pub fn run(list: &[u8], rows: &[u64], slots: usize, s: PositionState) -> Ran
         n,
         rows,
         slots,
+        first,
         s,
         FEW_PLACES,
         &mut numbers,
         &mut there,
     );
     if tried.full {
-        return run_whole(list, n, rows, slots, s);
+        return run_whole(list, n, rows, slots, first, s);
     }
     tried.ran
+}
+
+// Runs a list over rows of so many slots each.
+pub fn run(list: &[u8], rows: &[u64], slots: usize, s: PositionState) -> Ran
+    ensures { λ r. ⌜ r ≡ ranOver (historyOf slots (now (rows .entry))) s (opsOf (now (list .entry))) ⌝ }
+{
+    run_from(list, rows, slots, 0, s)
+}
+
+// The same over rows that begin at row `start`, go on to the last and then from the first.
+pub fn run_ring(list: &[u8], rows: &[u64], slots: usize, start: usize, s: PositionState) -> Ran
+    ensures { λ r. ⌜ r ≡ ranOver (ringOf slots start (now (rows .entry))) s (opsOf (now (list .entry))) ⌝ }
+{
+    let first = ring::first_of(rows::row_count(rows, slots), start);
+    run_from(list, rows, slots, first, s)
 }

@@ -40,7 +40,7 @@ use Rattle.execution.specs.declared.Trigger.{Trigger}
 use Rattle.execution.specs.declared.Trigger.the-variants.{Untouched, At}
 use Rattle.execution.specs.Costs.{slippageRate, fillPrice, takerRate, closed, withFunding, chargeFunding}
 use Rattle.execution.specs.Fills.{direction, volatilityFor, quantity, probeQty, withinVolume, booked, executeEntry, exitDirection, executeExit}
-use Rattle.execution.specs.Level.{levelOf, entryTrigger, feeBps, levelFill}
+use Rattle.execution.specs.Level.{levelFrom, entryTrigger, feeBps, levelFill}
 use Rattle.execution.specs.Lots.{isTooLarge, orZero}
 use Rattle.execution.specs.Intrabar.{favourable, extremeWith, touched, closedBy, applyIntrabarExits}
 use Rattle.records.specs.declared.settings.Settings.{Settings}
@@ -249,7 +249,7 @@ module _ (s : Settings) (p : Position) (k : Candle) (before : History) (number :
   waits-64 (ExitOrder n) h = due-either (ltb 0 n) (Waits (ExitOrder (n - 1))) Leaves tt tt
 
 trigger-64 : (e : Entries) (close : Float) → KindFits (entryTrigger e close)
-unfolding entryTrigger levelOf KindFits
+unfolding entryTrigger levelFrom KindFits
 trigger-64 e close = go (e .«order_type») refl
   where
     go : (t : OrderType) → e .«order_type» ≡ t → KindFits (entryTrigger e close)

@@ -16,7 +16,7 @@ volatility-for-spec =
     (λ c. search needs)
     (λ c. search needs)
     (λ c. search needs)
-    (λ c. simp (c .realized-vol .ensures, c .before .before .sizing .given .1))
+    (λ c. simp (c .realized-vol-ring .ensures, c .before .before .sizing .given .1))
     (λ c. simp (c .enum-told .given .1))
     (λ c. simp (c .enum-told2 .given .1))
     (λ c. simp (c .enum-told3 .given .1))

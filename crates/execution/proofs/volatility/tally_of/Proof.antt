@@ -4,7 +4,7 @@ use Prim.Native.Nat.{_-_, _≤_}
 use native.Mathlib.Omega.{arith}
 use borrow.Author.Needs.{needs}
 use Rattle.floats.specs.Floats as Floats
-use Rattle.rows.specs.History.{historyOf}
+use Rattle.rows.specs.Ring.{ringOf}
 use Rattle.execution.specs.Volatility.{closeAt}
 use Rattle.execution.specs.Tally.{tallyFrom}
 use Rattle.execution.proofs.Passes.{rest, added, passed, ended}
@@ -12,13 +12,13 @@ use Rattle.execution.proofs.volatility.tally_of.Statement.{statement}
 use Rattle.execution.proofs.volatility.tally_of.Tie as tie
 
 abbrev Inv-loop : tie.InvT-loop
-Inv-loop rows slots first last term count₀ total₀ i₀ before₀ count total i before =
-    (before ≡ closeAt (historyOf slots rows) i)
-    × (tallyFrom term count total (rest (historyOf slots rows) i last) ≡ tallyFrom term 0 Floats.zero (rest (historyOf slots rows) first last))
+Inv-loop rows slots held start first last term count₀ total₀ i₀ before₀ count total i before =
+    (before ≡ closeAt (ringOf slots start rows) i)
+    × (tallyFrom term count total (rest (ringOf slots start rows) i last) ≡ tallyFrom term 0 Floats.zero (rest (ringOf slots start rows) first last))
     × (count ≤ i)
 
 abbrev μ-loop : tie.MeasureT-loop
-μ-loop rows slots first last term count₀ total₀ i₀ before₀ count total i before = last - i
+μ-loop rows slots held start first last term count₀ total₀ i₀ before₀ count total i before = last - i
 
 loop-again : tie.Need-loop-again Inv-loop μ-loop
 loop-again c =

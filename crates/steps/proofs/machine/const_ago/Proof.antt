@@ -10,5 +10,5 @@ const-ago-spec =
     tie.close
     (tie.spec
     (λ c κs. search needs)
-    (λ c. rw (c .float-of .ensures) (sym (ago-const _ _ _ _ (c .before .before .before .pre) _ (c .before .if1 .taken))))
-    (λ c. sym (ago-late _ _ _ _ (c .before .before .pre) _ (c .if1 .left))))
+    (λ c h is. rw (c .float-of .ensures) (sym (ago-const h _ _ _ is (c .before .if1 .taken))))
+    (λ c h is. sym (ago-late h _ _ _ is (c .if1 .left))))

@@ -2,7 +2,9 @@
 use borrow.Author.Needs.{needs}
 use mathlib.Core.Path.{_≡_}
 use native.Mathlib.Omega.{arith}
+use Rattle.rows.specs.Ring.{ringOf}
 use Rattle.steps.specs.Machine.{effect}
+use Rattle.steps.proofs.Rows.{ring-held}
 use Rattle.steps.proofs.Said.{says-const, says-ref, says-price}
 use Rattle.steps.proofs.machine.leaf.Statement.{statement}
 use Rattle.steps.proofs.machine.leaf.Tie as tie
@@ -13,7 +15,10 @@ leaf-spec =
     tie.close
     (tie.spec
     (λ c κs. search needs)
-    (λ c s a b c2 d y. rw (says-const (c .before .before .before .before .args .x) (c .before .if1 .taken), c .const-ago .ensures))
+    (λ c s a b c2 d y.
+    let first = c .before .before .before .before in
+    let g = first .args in
+    rw (says-const (g .x) (c .before .if1 .taken), c .const-ago .ensures (ringOf (g .slots) (g .first) (g .rows .now)) (ring-held _ _ _ _ (first .pre .0 .0))))
     (λ c κs. search needs)
     (λ c s a b c2 d y. rw (says-ref (c .before .before .before .before .before .before .args .x) (c .before .if2 .taken), c .ref-ago .ensures))
     (λ c κs. search needs)

@@ -14,5 +14,9 @@ run-whole-spec =
     (tie.spec
     (λ c. search needs)
     (λ c. search needs)
-    (λ c κs. (c .before .before .before .before .pre .0, ((omega arith, omega arith), record { long = length-replicate 1028 zero; none = refl })))
-    (λ c. tried-whole _ _ 1024 _ _ (c .before .before .before .before .before .before .before .before .pre .1) (c .before .before .before .run-with .ensures)))
+    (λ c κs.
+    let p = c .before .before .before .before .pre in
+    (p .0, ((omega arith, omega arith, p .1 .1), record { long = length-replicate 1028 zero; none = refl })))
+    (λ c.
+    let r = c .before .before .before in
+    tried-whole _ _ 1024 _ _ (r .before .before .before .before .before .pre .1 .0) (r .run-with .ensures)))

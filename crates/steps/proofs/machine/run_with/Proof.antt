@@ -4,7 +4,7 @@ use borrow.Author.Needs.{needs}
 use mathlib.Core.Path.{sym, _∙_}
 use native.Mathlib.Omega.{arith}
 use Prim.Native.Nat.{_-_}
-use Rattle.rows.specs.History.{historyOf}
+use Rattle.rows.specs.Ring.{ringOf}
 use Rattle.steps.specs.Places.{Tries}
 use Rattle.steps.proofs.Said.{range-in, range-out, does-compare, does-test, does-jump, does-arith}
 use Rattle.steps.proofs.Going.{Going, fresh-long, going-start, going-leaf, going-give, going-say, going-set, going-pass, going-stay, going-end}
@@ -12,11 +12,11 @@ use Rattle.steps.proofs.machine.run_with.Statement.{statement}
 use Rattle.steps.proofs.machine.run_with.Tie as tie
 
 abbrev Inv-loop : tie.InvT-loop
-Inv-loop list n rows slots s places numbers₀ there₀ held top₀ answer₀ visits₀ p₀ numbers there top answer visits p =
-    Going (historyOf slots rows) s list n places numbers there top answer visits p
+Inv-loop list n rows slots first s places numbers₀ there₀ held top₀ answer₀ visits₀ p₀ numbers there top answer visits p =
+    Going (ringOf slots first rows) s list n places numbers there top answer visits p
 
 abbrev μ-loop : tie.MeasureT-loop
-μ-loop list n rows slots s places numbers₀ there₀ held top₀ answer₀ visits₀ p₀ numbers there top answer visits p = n - p
+μ-loop list n rows slots first s places numbers₀ there₀ held top₀ answer₀ visits₀ p₀ numbers there top answer visits p = n - p
 
 -- a leaf
 leaf-again : tie.Need-loop-again Inv-loop μ-loop
@@ -155,7 +155,10 @@ said-requires c κs =
 leaf-requires : tie.Need-leaf-requires Inv-loop μ-loop
 leaf-requires c κs =
     let i = c .before .before .before .before in
-    (i .before .before .before .before .row-count .ensures, range-in _ _ _ (sym (i .is-among .ensures) ∙ c .before .before .before .if1 .taken))
+    let rows = i .before .before .before .before in
+    let held = rows .row-count .ensures in
+    let kind = range-in _ _ _ (sym (i .is-among .ensures) ∙ c .before .before .before .if1 .taken) in
+    ((held, rw held (rows .before .before .before .before .before .pre .1 .0 .2)), kind)
 
 pub run-with-spec : {M : Type 1} → statement M
 unfolding Tries

@@ -1,0 +1,104 @@
+// A full room used as a ring, so that nothing moves while rows are added; and a room turned so that its oldest row stands first again.
+ghost use mathlib.Core.Path.{_≡_};
+ghost use mathlib.Core.List.{_++_};
+ghost use Prim.Native.Nat.{_≤_};
+ghost use lib.ListN.{length, take, drop};
+ghost use Rattle.rows.specs.Ring.{firstOf, ringPlace, nextStart, ringWith, ringAfter, turned};
+
+// How many rows a room holds, and which of them is the oldest. While there is a place left that is row 0.
+pub struct Ring {
+    pub held: usize,
+    pub start: usize,
+}
+
+// The row that rows of so many places begin at: the first where there is no such row.
+pub fn first_of(places: usize, start: usize) -> usize
+    ensures { λ r. ⌜ r ≡ firstOf places start ⌝ }
+{
+    if start < places { start } else { 0 }
+}
+
+// Where row i of them stands.
+pub fn place(places: usize, first: usize, i: usize) -> usize
+    ensures { λ r. ⌜ r ≡ ringPlace places first i ⌝ }
+{
+    if places <= i {
+        return i;
+    }
+    if first < places - i {
+        return first + i;
+    }
+    first - (places - i)
+}
+
+// The row after `start`, and after the last the first.
+fn next_start(places: usize, start: usize) -> usize
+    ensures { λ r. ⌜ r ≡ nextStart places start ⌝ }
+{
+    if places == 0 {
+        return 0;
+    }
+    if start < places - 1 {
+        return start + 1;
+    }
+    0
+}
+
+// Adds a row to a room: at the end while there is a place, then over the oldest.
+pub fn push(room: &mut [u64], ring: Ring, row: &[u64]) -> Ring
+    ensures { λ r. ⌜ (r ≡ ringAfter (now (room .entry)) ring (now (row .entry))) × (now (room .exit) ≡ ringWith (now (room .entry)) ring (now (row .entry))) ⌝ }
+{
+    let held = ring.held;
+    let start = ring.start;
+    let width = row.len();
+    if width == 0 {
+        return Ring { held: 0, start: 0 };
+    }
+    let places = room.len() / width;
+    if held < places {
+        words::put(room, held * width, row);
+        return Ring {
+            held: held + 1,
+            start,
+        };
+    }
+    if start < places {
+        words::put(room, start * width, row);
+        return Ring {
+            held: places,
+            start: next_start(places, start),
+        };
+    }
+    Ring {
+        held: places,
+        start: 0,
+    }
+}
+
+// The words before `at` and those from there up to `end` change places: each of the two is turned round, and then both as one.
+fn change_places(room: &mut [u64], at: usize, end: usize)
+    requires { ⌜ (at ≤ end) × (end ≤ length (now room)) ⌝ }
+    ensures { λ _. ⌜ now (room .exit) ≡ drop at (take end (now (room .entry))) ++ take at (take end (now (room .entry))) ++ drop end (now (room .entry)) ⌝ }
+{
+    let front: usize = 0;
+    words::moving::reverse(&mut room[front..at]);
+    words::moving::reverse(&mut room[at..end]);
+    words::moving::reverse(&mut room[front..end]);
+}
+
+// Turns a room so that row `start` stands first, each row `width` words wide. A part of a row at the end is not touched.
+pub fn turn(room: &mut [u64], width: usize, start: usize)
+    ensures { λ _. ⌜ now (room .exit) ≡ turned width start (now (room .entry)) ⌝ }
+{
+    if start == 0 {
+        return;
+    }
+    if width == 0 {
+        return;
+    }
+    let places = room.len() / width;
+    if places <= start {
+        return;
+    }
+    change_places(room, start * width, places * width);
+}
