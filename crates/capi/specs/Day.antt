@@ -1,9 +1,8 @@
 -- The call that steps over many bars (request 3). Definitions only.
 use Prim.Native.Nat.{ℕ}
-use mathlib.Core.Bool.{cond}
+use mathlib.Core.Bool.{Bool, false, cond}
 use mathlib.Core.List.{List}
 use lib.Dec.{eqb}
-use lib.ListN.{length}
 use Rattle.words.specs.Words.{overwrite}
 use Rattle.records.specs.declared.state.State.{State}
 use Rattle.records.specs.Lent.{Rooms, Lists}
@@ -12,7 +11,7 @@ use Rattle.records.specs.StateWords.{stateOf, wordsOf}
 use Rattle.refusals.specs.declared.verdict.Verdict.{Verdict}
 use Rattle.refusals.specs.declared.verdict.Verdict.the-variants.{Fine, Bad}
 use Rattle.refusals.specs.Lines.{Line, judged}
-use Rattle.engine.specs.Day.{dayOf}
+use Rattle.engine.specs.Day.{noBars, dayOf}
 use Rattle.engine.specs.Run.{Run}
 use Rattle.capi.specs.Call.{Call, answerWord, wordLines}
 use Rattle.capi.specs.Bars.{lentLines}
@@ -25,8 +24,8 @@ pub record DayLent : Type 0 where
   pub done : ℕ
 
 -- Decided: no bars make no step, so of the rooms only those of the settings and the state are asked for.
-unfoldable pub dayLentLines : List ℕ → List ℕ → List ℕ → List ℕ → List Line
-dayLentLines settings state bars rows = cond (eqb (length bars) 0) (wordLines settings state) (lentLines settings state rows)
+unfoldable pub dayLentLines : Bool → List ℕ → List ℕ → List ℕ → List ℕ → List Line
+dayLentLines one settings state bars rows = cond (noBars one bars) (wordLines settings state) (lentLines settings state rows)
 
 -- "That bar itself changes nothing": where no bar was done, the words of the state are those that were given
 unfoldable pub stateAfter : List ℕ → ℕ → State → List ℕ
@@ -40,6 +39,10 @@ dayGives Fine state m run = record {
   lent = record { state = stateAfter state (run .done) (run .state); rooms = run .rooms; done = run .done };
 }
 
-unfoldable pub stepsCall : List ℕ → List ℕ → List ℕ → Rooms → Lists → Call DayLent
-stepsCall settings state bars m ls =
-    dayGives (judged (dayLentLines settings state bars (m .rows))) state m (dayOf (settingsOf settings) (stateOf state) bars m ls)
+-- of one bar, or of many
+unfoldable pub dayCall : Bool → List ℕ → List ℕ → List ℕ → Rooms → Lists → Call DayLent
+dayCall one settings state bars m ls =
+    dayGives (judged (dayLentLines one settings state bars (m .rows))) state m (dayOf one (settingsOf settings) (stateOf state) bars m ls)
+
+abbrev pub stepsCall : List ℕ → List ℕ → List ℕ → Rooms → Lists → Call DayLent
+stepsCall = dayCall false

@@ -17,18 +17,18 @@ use Rattle.records.specs.Settings.{settingsOf}
 use Rattle.records.specs.StateWords.{stateOf}
 use Rattle.refusals.specs.declared.verdict.Verdict.{Verdict}
 use Rattle.refusals.specs.declared.verdict.Verdict.the-variants.{Fine, Bad}
-use Rattle.refusals.specs.Day.{wholeBars}
+use Rattle.refusals.specs.Day.{wholeBars, wholeFor}
 use Rattle.refusals.specs.Lines.{judged}
 use Rattle.refusals.specs.Rooms.{roomLines}
-use Rattle.engine.specs.Day.{cut, barsIn, dayOf}
-use Rattle.engine.specs.Laws.Days.{cut-next, bars-none, some-bars}
+use Rattle.engine.specs.Day.{cut, barsIn, barsFor, noBars, dayOf}
+use Rattle.engine.specs.Laws.Days.{cut-next, bars-none, whole-one, some-bars}
 use Rattle.engine.specs.Laws.Floats.{step-floats}
 use Rattle.engine.specs.Laws.Runs.{run-none, run-stops, run-takes}
 use Rattle.engine.specs.Run.{Run, runOver}
 use Rattle.engine.specs.Step.{answered, stepped, stepVerdict, stepAnswer}
 use Rattle.capi.specs.Bars.{StepLent, stepGives, stepCall}
 use Rattle.capi.specs.Call.{Call, answerWord, callOf, unlessBad}
-use Rattle.capi.specs.Day.{DayLent, dayLentLines, stateAfter, dayGives, stepsCall}
+use Rattle.capi.specs.Day.{DayLent, dayLentLines, stateAfter, dayGives, dayCall, stepsCall}
 use Rattle.capi.specs.Joined.{first-agrees, words-fine, lent-fine, room-first, room-passed, calls-run}
 use Rattle.capi.specs.Laws.Calls.{refused-word}
 use Rattle.capi.specs.Laws.RunCalls.{step-small}
@@ -89,12 +89,12 @@ module _ (settings state : List ℕ) (set : settingWords ≤ length settings) (l
   -- ---- the call over many bars
 
   no-bars : (bars : List ℕ) → length bars ≡ 0 → stepsCall settings state bars m ls ≡ inOne (callsOver settings ls given (barsIn (s .slots) bars))
-  unfolding stepsCall dayLentLines dayGives dayOf callsOver stateAfter answerOf
+  unfolding dayCall dayLentLines noBars dayGives dayOf barsFor callsOver stateAfter answerOf
   no-bars bars none = rw (none, words-fine settings state set long, bars-none (s .slots) bars none, run-none)
 
   some-of : (bars bar : List ℕ) (more : List (List ℕ)) → 0 < length bars → barsIn (s .slots) bars ≡ bar ∷ more
       → stepsCall settings state bars m ls ≡ inOne (callsOver settings ls given (barsIn (s .slots) bars))
-  unfolding stepsCall dayLentLines dayOf
+  unfolding dayCall dayLentLines noBars dayOf barsFor
   some-of bars bar more some e =
       let many = ne-eqb (length bars) 0 (λ (z : length bars ≡ 0). omega arith) in
       rw (e, many, calls-from bar more, lent-fine settings state set long (m .rows)) (go (judged (roomLines s (m .rows))) refl)
@@ -114,6 +114,7 @@ module _ (settings state : List ℕ) (set : settingWords ≤ length settings) (l
 
       go : (b : Bool) → wholeBars K (w ∷ ws) ≡ b → stepsCall settings state (w ∷ ws) m ls ≡ inOne (callsOver settings ls given (barsIn K (w ∷ ws)))
       go true h =
+          let first = whole-one K (w ∷ ws) false (unfold noBars in refl) (unfold wholeFor in h) in
           some-of (w ∷ ws) (take (barWords K) (w ∷ ws)) (cut (length (w ∷ ws) / barWords K - 1) (barWords K) (drop (barWords K) (w ∷ ws))) (omega arith)
-          (unfold barsIn in rw h (cut-next _ (barWords K) (w ∷ ws) (some-bars K (w ∷ ws) (omega arith) h)))
+          (unfold barsIn in rw h (cut-next _ (barWords K) (w ∷ ws) (some-bars K (w ∷ ws) first)))
       go false h = some-of (w ∷ ws) (w ∷ ws) [] (omega arith) (unfold barsIn in rw h)

@@ -18,7 +18,7 @@ use Rattle.records.specs.StateWords.{wordsOf}
 use Rattle.records.specs.Laws.RoundTrip.{Floats64, state-kept, state-again, fresh-floats}
 use Rattle.refusals.specs.declared.verdict.Verdict.{Verdict}
 use Rattle.refusals.specs.declared.verdict.Verdict.the-variants.{Fine, Bad}
-use Rattle.refusals.specs.Lines.{Line, judged}
+use Rattle.refusals.specs.Lines.{judged}
 use Rattle.refusals.specs.Rooms.{roomLines}
 use Rattle.refusals.specs.Judgement.{runLines, stepLines, stepJudged, finishLines, finishJudged}
 use Rattle.refusals.specs.Laws.Lines.{below-bad, fine-adds-nothing, both-fine}

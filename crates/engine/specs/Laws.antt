@@ -21,4 +21,5 @@ pub mod LastPoint
 pub mod Finishes
 pub mod Forgets
 pub mod Underway
+pub mod InPlace
 pub mod Days

@@ -6,6 +6,7 @@ pub mod Step
 pub mod Finish
 pub mod Run
 pub mod Day
+pub mod InPlace
 pub mod Rules
 pub mod Whole
 pub mod Forgotten

@@ -1,14 +1,14 @@
 -- A call over many bars is a step for each: its first bar, one bar more, and what is judged once.
 use Prim.Native.Nat.{ℕ, zero, suc, _+_, _-_, _*_, _/_, _%_, _<_, _≤_}
-use mathlib.Core.Path.{_≡_, refl, sym, _∙_}
-use mathlib.Core.Bool.{Bool, true, false, cond}
+use mathlib.Core.Path.{_≡_, refl, sym, ap, _∙_}
+use mathlib.Core.Bool.{Bool, true, false}
 use mathlib.Core.List.{List, [], _∷_, _++_}
-use native.Mathlib.Nat.{zero-mod, zero-div, le-div-iff-mul-le, mod-eq-of-lt}
+use native.Mathlib.Nat.{zero-mod, zero-div, le-div-iff-mul-le, mod-eq-of-lt, div-self}
 use native.Mathlib.Omega.{arith}
-use borrow.Author.Tests.{eqb-true, ltb-true, ltb-false}
+use borrow.Author.Tests.{eqb-true, eqb-false, ltb-true, ltb-false}
 use lib.Dec.{ltb}
 use lib.ListN.{length, take, drop}
-use lib.Seq.{drop-drop, length-take-le}
+use lib.Seq.{drop-drop, length-take-le, take-all}
 use Rattle.words.specs.Limits.{barWords}
 use Rattle.words.specs.declared.refusal.Refusal.{Refusal}
 use Rattle.records.specs.declared.settings.Settings.{Settings}
@@ -16,7 +16,7 @@ use Rattle.records.specs.declared.state.State.{State}
 use Rattle.records.specs.Lent.{Lists, Rooms, rooms}
 use Rattle.refusals.specs.declared.verdict.Verdict.{Verdict}
 use Rattle.refusals.specs.declared.verdict.Verdict.the-variants.{Fine, Bad}
-use Rattle.refusals.specs.Day.{wholeBars, dayLines, nextLines}
+use Rattle.refusals.specs.Day.{wholeBars, wholeFor, dayLines, nextLines}
 use Rattle.refusals.specs.Judgement.{stepJudged}
 use Rattle.refusals.specs.Laws.Lines.{below-fine, below-bad}
 use Rattle.refusals.specs.Laws.Steady.{Steady, day-bad, day-ragged, next-judged}
@@ -24,7 +24,7 @@ use Rattle.refusals.specs.Lines.{Line, judged}
 use Rattle.refusals.specs.Lists.{listLines}
 use Rattle.engine.specs.declared.Answer.{Answer}
 use Rattle.engine.specs.declared.Answer.the-variants.{Refused, Done}
-use Rattle.engine.specs.Day.{Underway, cut, barsIn, dayOf, stopped, runWith, unlistedBy}
+use Rattle.engine.specs.Day.{Underway, cut, barsIn, barsFor, noBars, dayOf, stopped, runWith, unlistedBy}
 use Rattle.engine.specs.Run.{Run, oneMore, goesOn, runOver}
 use Rattle.engine.specs.Step.{With, Is, answered, stepped, stepVerdict, stepAnswer}
 use Rattle.engine.specs.Laws.Runs.{run-none, run-stops}
@@ -115,6 +115,10 @@ module _ (s : Settings) (ls : Lists) (t₀ : State) (m₀ : Rooms) (bars : List 
 
 -- ---- the call
 
+pos-of-ne : (n : ℕ) → (n ≡ 0 → ⊥) → 0 < n
+pos-of-ne zero h = absurd (h refl)
+pos-of-ne (suc n) h = omega arith
+
 -- a number above 0 that leaves nothing is no less than what divides it
 not-below : (n w : ℕ) → 0 < n → n % w ≡ 0 → w ≤ n
 not-below n w some e = go (ltb n w) refl
@@ -128,45 +132,71 @@ module _ (K : ℕ) (bars : List ℕ) where
   unfolding barsIn wholeBars cut
   bars-none none = rw (none, zero-mod, zero-div)
 
-  module _ (some : 0 < length bars) (whole : wholeBars K bars ≡ true) where
-    -- a first bar
-    pub whole-one : barWords K ≤ length bars
-    unfolding wholeBars
-    whole-one = not-below (length bars) (barWords K) some (eqb-true _ _ whole)
+  -- one bar or more, and whole: a first bar
+  pub whole-one : (one : Bool) → noBars one bars ≡ false → wholeFor one K bars ≡ true → barWords K ≤ length bars
+  unfolding noBars wholeFor wholeBars
+  whole-one true some whole = omega (arith, eqb-true (length bars) (barWords K) whole)
+  whole-one false some whole =
+      not-below (length bars) (barWords K) (pos-of-ne (length bars) (eqb-false (length bars) 0 some)) (eqb-true (length bars % barWords K) 0 whole)
 
-    pub some-bars : 0 < length bars / barWords K
-    some-bars = le-div-iff-mul-le {k = barWords K} (omega arith) .1 (omega (arith, whole-one))
+  pub some-bars : barWords K ≤ length bars → 0 < length bars / barWords K
+  some-bars h = le-div-iff-mul-le {k = barWords K} (omega arith) .1 (omega (arith, h))
 
-module _ (s : Settings) (t : State) (bars : List ℕ) (m : Rooms) (ls : Lists) where
+  -- the bars of whole bars
+  pub whole-bars : (one : Bool) → wholeFor one K bars ≡ true → barsFor one K bars ≡ cut (length bars / barWords K) (barWords K) bars
+  unfolding barsFor wholeFor barsIn cut
+  whole-bars true whole =
+      let long : length bars ≡ barWords K = eqb-true (length bars) (barWords K) whole in
+      let once : length bars / barWords K ≡ 1 = rw long (div-self {n = barWords K} (omega arith)) in
+      rw once (ap (λ (l : List ℕ). l ∷ []) (sym (take-all (barWords K) bars (omega arith))))
+  whole-bars false whole = rw whole
+
+  -- and of others
+  pub ragged-bars : (one : Bool) → wholeFor one K bars ≡ false → barsFor one K bars ≡ bars ∷ []
+  unfolding barsFor wholeFor barsIn
+  ragged-bars true h = refl
+  ragged-bars false h = rw h
+
+-- a call of many that is handed none makes no step
+no-bars : (one : Bool) (K : ℕ) (bars : List ℕ) → noBars one bars ≡ true → barsFor one K bars ≡ []
+unfolding noBars barsFor
+no-bars true K bars h = absurd (let z : _≡_ {A = ℕ} 0 1 = cc in omega arith)
+no-bars false K bars h = bars-none K bars (eqb-true (length bars) 0 h)
+
+module _ (one : Bool) (s : Settings) (t : State) (bars : List ℕ) (m : Rooms) (ls : Lists) where
   -- no bars
-  pub day-none : length bars ≡ 0 → dayOf s t bars m ls ≡ record { done = 0; verdict = Fine; state = t; rooms = m }
+  pub day-none : noBars one bars ≡ true → dayOf one s t bars m ls ≡ record { done = 0; verdict = Fine; state = t; rooms = m }
   unfolding dayOf
-  day-none none = rw (bars-none (s .slots) bars none) (run-none s ls t m)
+  day-none none = rw (no-bars one (s .slots) bars none) (run-none s ls t m)
 
   -- whole bars
-  pub day-whole : wholeBars (s .slots) bars ≡ true
-      → dayOf s t bars m ls ≡ runOver s ls t m (cut (length bars / barWords (s .slots)) (barWords (s .slots)) bars)
-  unfolding dayOf barsIn
-  day-whole h = rw h
+  pub day-whole : wholeFor one (s .slots) bars ≡ true
+      → dayOf one s t bars m ls ≡ runOver s ls t m (cut (length bars / barWords (s .slots)) (barWords (s .slots)) bars)
+  unfolding dayOf
+  day-whole h = rw (whole-bars (s .slots) bars one h)
 
-  module _ (some : 0 < length bars) where
+  module _ (some : noBars one bars ≡ false) where
     -- whole bars whose first is refused
-    first-bad : wholeBars (s .slots) bars ≡ true → (why : Refusal) → stepJudged s t (take (barWords (s .slots)) bars) m ls ≡ Bad why
-        → dayOf s t bars m ls ≡ runWith (stopped t why) m
+    first-bad : wholeFor one (s .slots) bars ≡ true → (why : Refusal) → stepJudged s t (take (barWords (s .slots)) bars) m ls ≡ Bad why
+        → dayOf one s t bars m ls ≡ runWith (stopped t why) m
     first-bad h why bad =
-        day-whole h ∙ rw (cut-next _ (barWords (s .slots)) bars (some-bars (s .slots) bars some h)) (run-stops s ls t m _ _ why (handed-bad s t _ m ls why bad))
+        day-whole h ∙ rw (cut-next _ (barWords (s .slots)) bars (some-bars (s .slots) bars (whole-one (s .slots) bars one some h)))
+        (run-stops s ls t m _ _ why (handed-bad s t _ m ls why bad))
 
     -- WHAT IS LOOKED AT ONCE is what the first bar would be refused with
-    pub day-stops : (why : Refusal) → judged (dayLines s t bars m) ≡ Bad why → dayOf s t bars m ls ≡ runWith (stopped t why) m
-    day-stops why bad = go (wholeBars (s .slots) bars) refl
+    pub day-stops : (why : Refusal) → judged (dayLines one s t bars m) ≡ Bad why → dayOf one s t bars m ls ≡ runWith (stopped t why) m
+    day-stops why bad = go (wholeFor one (s .slots) bars) refl
       where
-        go : (b : Bool) → wholeBars (s .slots) bars ≡ b → dayOf s t bars m ls ≡ runWith (stopped t why) m
-        go true h = first-bad h why (day-bad s t bars m ls why bad h _)
-        go false h = unfold dayOf barsIn in rw h (run-stops s ls t m bars [] why (handed-bad s t bars m ls why (day-ragged s t bars m ls why bad h)))
+        go : (b : Bool) → wholeFor one (s .slots) bars ≡ b → dayOf one s t bars m ls ≡ runWith (stopped t why) m
+        go true h = first-bad h why (day-bad one s t bars m ls why bad h _)
+        go false h =
+            unfold dayOf in
+            rw (ragged-bars (s .slots) bars one h) (run-stops s ls t m bars [] why (handed-bad s t bars m ls why (day-ragged one s t bars m ls why bad h)))
 
     -- and so are the lists, after the bar itself
-    pub day-unlisted : (fifteen : Refusal) → Steady s t m → wholeBars (s .slots) bars ≡ true → judged (listLines (s .slots) (s .depth) ls) ≡ Bad fifteen
-        → dayOf s t bars m ls
+    pub day-unlisted : (fifteen : Refusal) → Steady s t m → wholeFor one (s .slots) bars ≡ true
+        → judged (listLines (s .slots) (s .depth) ls) ≡ Bad fifteen
+        → dayOf one s t bars m ls
         ≡ runWith (unlistedBy (judged (nextLines (s .slots) (t .counts) (take (barWords (s .slots)) bars) (m .equity) (m .trades))) t fifteen) m
     unfolding unlistedBy
     day-unlisted fifteen steady h bad = go (judged own) refl
@@ -178,8 +208,30 @@ module _ (s : Settings) (t : State) (bars : List ℕ) (m : Rooms) (ls : Lists) w
         own = nextLines (s .slots) (t .counts) first (m .equity) (m .trades)
 
         judge : stepJudged s t first m ls ≡ judged (own ++ listLines (s .slots) (s .depth) ls)
-        judge = next-judged s t first m ls steady (length-take-le _ bars (whole-one (s .slots) bars some h))
+        judge = next-judged s t first m ls steady (length-take-le _ bars (whole-one (s .slots) bars one some h))
 
-        go : (v : Verdict) → judged own ≡ v → dayOf s t bars m ls ≡ runWith (unlistedBy v t fifteen) m
+        go : (v : Verdict) → judged own ≡ v → dayOf one s t bars m ls ≡ runWith (unlistedBy v t fifteen) m
         go (Bad why) e = first-bad h why (judge ∙ below-bad own _ why e)
         go Fine e = first-bad h fifteen (judge ∙ (below-fine own _ e ∙ bad))
+
+-- A CALL OF ONE BAR IS A STEP: what it comes to is the step's answer.
+unfoldable pub answerIn : Verdict → State → Answer
+answerIn (Bad why) t = Refused why t
+answerIn Fine t = Done t
+
+-- a run of one bar, as an answer
+abbrev IsRun : With Answer → Run → Type 0
+IsRun d r = Is Answer d (answerIn (r .verdict) (r .state)) (r .rooms .rows) (r .rooms .equity) (r .rooms .trades)
+
+one-answer : (d : With Answer) (later : State → Run) → ((u : State) → later u ≡ record { done = 0; verdict = Fine; state = u; rooms = d .rooms })
+    → (a : Answer) → d .result ≡ a → IsRun d (goesOn a (d .rooms) later)
+unfolding goesOn answerIn
+one-answer d later none (Refused why given) f = record { result = sym f; rows = refl; equity = refl; trades = refl }
+one-answer d later none (Done u) f = rw (none u) (record { result = sym f; rows = refl; equity = refl; trades = refl })
+
+pub day-one : (s : Settings) (t : State) (bar : List ℕ) (m : Rooms) (ls : Lists) (r : Run) → dayOf true s t bar m ls ≡ r → IsRun (stepAnswer s t bar m ls) r
+unfolding dayOf barsFor runOver
+day-one s t bar m ls r e =
+    let d = stepAnswer s t bar m ls in
+    let is : IsRun d (dayOf true s t bar m ls) = one-answer d (λ u. runOver s ls u (d .rooms) []) (λ u. run-none s ls u (d .rooms)) (d .result) refl in
+    rw e at is

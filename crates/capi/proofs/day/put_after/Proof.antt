@@ -1,5 +1,4 @@
 -- Nothing is written where no bar was done. Assumes nothing.
-use mathlib.Core.Path.{_∙_}
 use borrow.Author.Needs.{needs}
 use borrow.Author.Tests.{eq-eqb, ne-eqb}
 use Rattle.capi.specs.Day.{stateAfter}
