@@ -314,6 +314,19 @@ uint64_t ysh_step(const uint64_t *settings, size_t settings_len, uint64_t *state
                   const uint8_t *short_entry, size_t short_entry_len,
                   const uint8_t *short_exit, size_t short_exit_len);
 
+/* Many bars in one call, one after another: `bars` are records of 10 + K words each. `done` is how many were done; it is written
+ * whatever the answer is. At the first bar that would be refused it stops: the bars before it stay done, that bar changes nothing, and
+ * the answer is the one that ysh_step gives for it. State and rooms are word for word those of one ysh_step a bar. A list that is
+ * not whole records is refused as a bar of that length is (10, 12, 13), and no bar is done. No bars: done is 0, and nothing is
+ * refused but rooms 7 and 8. */
+uint64_t ysh_steps(const uint64_t *settings, size_t settings_len, uint64_t *state, size_t state_len,
+                   const uint64_t *bars, size_t bars_len,
+                   uint64_t *rows, size_t rows_len, uint64_t *equity, size_t equity_len,
+                   uint64_t *trades, size_t trades_len,
+                   const uint8_t *entry, size_t entry_len, const uint8_t *exit, size_t exit_len,
+                   const uint8_t *short_entry, size_t short_entry_len,
+                   const uint8_t *short_exit, size_t short_exit_len, uint64_t *done);
+
 /* Closes an open position at the last close, if a bar was seen; the last equity point, where there is one, becomes the equity
  * after that, and the nine metrics are given. Refusals 10 (room 0, 7, 8 or 9), 12, 13, 14. */
 uint64_t ysh_finish(const uint64_t *settings, size_t settings_len, uint64_t *state, size_t state_len,

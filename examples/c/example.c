@@ -137,6 +137,19 @@ static uint64_t step(Run *run, const uint64_t bar[YSH_BAR_WORDS(SLOTS)])
                     run->steps[3], run->used[3]);
 }
 
+/* All bars from number `from` on in one call, which says how many it did. */
+static uint64_t rest_of_day(Run *run, int from, uint64_t *done)
+{
+    static uint64_t bars[BARS][YSH_BAR_WORDS(SLOTS)];
+    for (int i = from; i < BARS; i++)
+        write_bar(bars[i], i);
+    return ysh_steps(run->settings, YSH_SETTING_WORDS, run->state, YSH_STATE_WORDS,
+                     bars[from], (size_t)(BARS - from) * YSH_BAR_WORDS(SLOTS),
+                     run->rows, sizeof run->rows / 8, run->equity, sizeof run->equity / 8, run->trades, sizeof run->trades / 8,
+                     run->steps[0], run->used[0], run->steps[1], run->used[1], run->steps[2], run->used[2],
+                     run->steps[3], run->used[3], done);
+}
+
 /* Bar 20 with a close that is no number is refused, and the run goes on as if it had not been handed over. */
 static void try_bad_bar(Run *run)
 {
@@ -196,7 +209,7 @@ int main(void)
 {
     static Run run;
     uint8_t table[TABLE_BYTES];
-    uint64_t nodes, needed, depth, bytes, bar[YSH_BAR_WORDS(SLOTS)], metrics[YSH_METRIC_WORDS];
+    uint64_t nodes, needed, depth, bytes, done, bar[YSH_BAR_WORDS(SLOTS)], metrics[YSH_METRIC_WORDS];
     write_table(table);
     must("ysh_check", ysh_check(table, sizeof table, &nodes, &needed));
     printf("accepted nodes %" PRIu64 " rows %" PRIu64 "\n", nodes, needed);
@@ -204,12 +217,13 @@ int main(void)
     printf("window %" PRIu64 " rows, %" PRIu64 " bytes\n", depth, bytes);
     begin(&run, table, depth);
     printf("steps %" PRIu64 " and %" PRIu64 "\n", run.used[0] / 16, run.used[1] / 16);
-    for (int i = 0; i < BARS; i++) {
-        if (i == 20)
-            try_bad_bar(&run);
+    for (int i = 0; i < 20; i++) {
         write_bar(bar, i);
         must("ysh_step", step(&run, bar));
     }
+    try_bad_bar(&run);
+    must("ysh_steps", rest_of_day(&run, 20, &done));
+    printf("the rest of the day: %" PRIu64 " bars in one call\n", done);
     ask_exit(&run, table);
     finish(&run, metrics);
     print_trades(&run);

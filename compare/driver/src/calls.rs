@@ -127,6 +127,29 @@ mod c {
             short_exit: *const u8,
             short_exit_len: usize,
         ) -> u64;
+        pub fn ysh_steps(
+            settings: *const u64,
+            settings_len: usize,
+            state: *mut u64,
+            state_len: usize,
+            bars: *const u64,
+            bars_len: usize,
+            rows: *mut u64,
+            rows_len: usize,
+            equity: *mut u64,
+            equity_len: usize,
+            trades: *mut u64,
+            trades_len: usize,
+            entry: *const u8,
+            entry_len: usize,
+            exit: *const u8,
+            exit_len: usize,
+            short_entry: *const u8,
+            short_entry_len: usize,
+            short_exit: *const u8,
+            short_exit_len: usize,
+            done: *mut u64,
+        ) -> u64;
         pub fn ysh_finish(
             settings: *const u64,
             settings_len: usize,
@@ -226,6 +249,36 @@ pub fn step(with: Step) -> u64 {
             short_entry.len(),
             short_exit.as_ptr(),
             short_exit.len(),
+        )
+    }
+}
+
+/// As `step`, with many bars in the place of one: how many were done.
+pub fn steps(with: Step, done: &mut u64) -> u64 {
+    let [entry, exit, short_entry, short_exit] = with.lists;
+    unsafe {
+        c::ysh_steps(
+            with.settings.as_ptr(),
+            with.settings.len(),
+            with.state.as_mut_ptr(),
+            with.state.len(),
+            with.bar.as_ptr(),
+            with.bar.len(),
+            with.rows.as_mut_ptr(),
+            with.rows.len(),
+            with.equity.as_mut_ptr(),
+            with.equity.len(),
+            with.trades.as_mut_ptr(),
+            with.trades.len(),
+            entry.as_ptr(),
+            entry.len(),
+            exit.as_ptr(),
+            exit.len(),
+            short_entry.as_ptr(),
+            short_entry.len(),
+            short_exit.as_ptr(),
+            short_exit.len(),
+            done,
         )
     }
 }

@@ -83,6 +83,25 @@ impl Ours {
         }))
     }
 
+    /// Many bars in one call: how many were done, and what stopped it.
+    pub fn steps(&mut self, bars: &[u64]) -> (usize, Result<(), Refusal>) {
+        let [entry, exit, short_entry, short_exit] = &self.lists;
+        let mut count = UNTOUCHED;
+        let answer = calls::steps(
+            Step {
+                settings: &self.settings,
+                state: &mut self.state,
+                bar: bars,
+                rows: &mut self.rows,
+                equity: &mut self.equity,
+                trades: &mut self.trades,
+                lists: [entry, exit, short_entry, short_exit],
+            },
+            &mut count,
+        );
+        (count as usize, done(answer))
+    }
+
     pub fn finish(&mut self) -> Result<[u64; METRIC_WORDS], Refusal> {
         let mut metrics = [UNTOUCHED; METRIC_WORDS];
         done(calls::finish(Finish {

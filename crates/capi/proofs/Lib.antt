@@ -1,4 +1,5 @@
 pub mod Calling
 pub mod Stepping
+pub mod Days
 pub mod Finishing
 pub mod Writing

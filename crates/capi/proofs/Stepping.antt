@@ -1,51 +1,58 @@
--- A C call over a bar is the engine's step on what its words mean.
+-- A C call over a bar is the call over bars that takes one.
 use Prim.Native.Nat.{ℕ}
-use mathlib.Core.Path.{_≡_, sym, _∙_}
+use mathlib.Core.Path.{_≡_, refl, _∙_}
+use mathlib.Core.Bool.{true}
 use mathlib.Core.List.{List}
-use Rattle.words.specs.declared.refusal.Refusal.{Refusal}
-use Rattle.words.specs.Words.{overwrite}
 use Rattle.records.specs.declared.settings.Settings.{Settings}
 use Rattle.records.specs.declared.state.State.{State}
-use Rattle.records.specs.Lent.{Rooms, Lists, rooms}
+use Rattle.records.specs.Lent.{Rooms, Lists}
 use Rattle.records.specs.Settings.{settingsOf}
-use Rattle.records.specs.StateWords.{stateOf, wordsOf}
+use Rattle.records.specs.StateWords.{stateOf}
+use Rattle.refusals.specs.declared.verdict.Verdict.{Verdict}
 use Rattle.refusals.specs.declared.verdict.Verdict.the-variants.{Fine, Bad}
 use Rattle.refusals.specs.Lines.{judged}
 use Rattle.engine.specs.declared.Answer.{Answer}
 use Rattle.engine.specs.declared.Answer.the-variants.{Refused, Done}
-use Rattle.engine.specs.Step.{Is, stepAnswer}
+use Rattle.engine.specs.Day.{barsFor, noBars, dayOf}
+use Rattle.engine.specs.Run.{goesOn, runOver}
+use Rattle.engine.specs.Step.{With, stepAnswer}
 use Rattle.engine.specs.Laws.Refusal.{refusal-changes-nothing}
-use Rattle.capi.specs.Call.{Call, answerWord}
+use Rattle.capi.specs.Call.{Call, callOf, unlessBad}
 use Rattle.capi.specs.Bars.{StepLent, lentLines, stepGives, stepCall}
-use Rattle.capi.proofs.Calling.{call-bad, call-refused, call-gives}
+use Rattle.capi.specs.Day.{DayLent, dayLentLines, stateAfter, dayGives, dayCall}
+use Rattle.capi.specs.WordRun.{answerOf}
+
+-- without the count
+abbrev uncounted : Call DayLent → Call StepLent
+uncounted c = record { answer = c .answer; lent = record { state = c .lent .state; rooms = c .lent .rooms } }
 
 module _ (settings state bar : List ℕ) (m : Rooms) (ls : Lists) where
-  -- what a call that changes nothing answers
-  abbrev kept : ℕ → Call StepLent
-  kept a = record { answer = a; lent = record { state = state; rooms = m } }
+  abbrev s : Settings
+  s = settingsOf settings
 
-  pub step-short : {r : Refusal} {a : ℕ} → judged (lentLines settings state (m .rows)) ≡ Bad r → a ≡ answerWord r
-      → stepCall settings state bar m ls ≡ kept a
-  unfolding stepCall
-  step-short bad word = call-bad _ _ _ bad word
+  abbrev t : State
+  t = stateOf state
 
-  module _
-      {s : Settings} {t : State} {answer : Answer} {ws es ts : List ℕ} (fine : judged (lentLines settings state (m .rows)) ≡ Fine)
-      (read : s ≡ settingsOf settings) (given : t ≡ stateOf state) (ran : Is Answer (stepAnswer s t bar m ls) answer ws es ts) where
-    step-ran :
-        let d = stepAnswer (settingsOf settings) (stateOf state) bar m ls in
-        stepGives (d .result) state (d .rooms) ≡ stepGives answer state (rooms ws es ts)
-    step-ran = let d = rw (read, given) at ran in simp (d .result, d .rows, d .equity, d .trades)
+  abbrev d : With Answer
+  d = stepAnswer s t bar m ls
 
-    pub step-refused : {r : Refusal} {a : ℕ} {u : State} → answer ≡ Refused r u → a ≡ answerWord r
-        → stepCall settings state bar m ls ≡ record { answer = a; lent = record { state = state; rooms = rooms ws es ts } }
-    unfolding stepCall stepGives
-    step-refused {r = r} {u = u} refused word =
-        let d = rw (read, given) at ran in
-        let unchanged = refusal-changes-nothing (settingsOf settings) (stateOf state) bar m ls r u (sym (d .result) ∙ refused) .2 in
-        call-refused _ _ _ fine (step-ran ∙ simp refused) word ∙ simp (d .rows, d .equity, d .trades, unchanged)
+  by-answer : (a : Answer) → d .result ≡ a
+      → callOf (stepGives (d .result) state (d .rooms)) (record { state = state; rooms = m }) ≡ uncounted (dayGives Fine state m (dayOf true s t bar m ls))
+  unfolding stepGives callOf dayGives dayOf barsFor runOver goesOn stateAfter answerOf
+  by-answer (Refused why u) f = rw (f, refusal-changes-nothing s t bar m ls why u f .2)
+  by-answer (Done u) f = rw f
 
-    pub step-done : {next : State} {words : List ℕ} → answer ≡ Done next → words ≡ overwrite state 0 (wordsOf next)
-        → stepCall settings state bar m ls ≡ record { answer = 0; lent = record { state = words; rooms = rooms ws es ts } }
-    unfolding stepCall stepGives
-    step-done done put = call-gives _ _ _ fine (step-ran ∙ simp (done, put))
+  same-call : stepCall settings state bar m ls ≡ uncounted (dayCall true settings state bar m ls)
+  unfolding stepCall dayCall dayLentLines noBars
+  same-call = go (judged (lentLines settings state (m .rows)))
+    where
+      go : (v : Verdict)
+          → callOf (unlessBad v (stepGives (d .result) state (d .rooms))) (record { state = state; rooms = m })
+          ≡ uncounted (dayGives v state m (dayOf true s t bar m ls))
+      go (Bad r) = unfold callOf unlessBad dayGives in refl
+      go Fine = unfold unlessBad in by-answer (d .result) refl
+
+  pub one-call : {a n : ℕ} {words : List ℕ} {r : Rooms}
+      → dayCall true settings state bar m ls ≡ record { answer = a; lent = record { state = words; rooms = r; done = n } }
+      → stepCall settings state bar m ls ≡ record { answer = a; lent = record { state = words; rooms = r } }
+  one-call e = same-call ∙ rw e

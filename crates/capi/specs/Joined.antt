@@ -18,10 +18,10 @@ use Rattle.records.specs.StateWords.{wordsOf}
 use Rattle.records.specs.Laws.RoundTrip.{Floats64, state-kept, state-again, fresh-floats}
 use Rattle.refusals.specs.declared.verdict.Verdict.{Verdict}
 use Rattle.refusals.specs.declared.verdict.Verdict.the-variants.{Fine, Bad}
-use Rattle.refusals.specs.Lines.{Line, judged}
+use Rattle.refusals.specs.Lines.{judged}
 use Rattle.refusals.specs.Rooms.{roomLines}
 use Rattle.refusals.specs.Judgement.{runLines, stepLines, stepJudged, finishLines, finishJudged}
-use Rattle.refusals.specs.Laws.Lines.{below-bad, both-fine}
+use Rattle.refusals.specs.Laws.Lines.{below-bad, fine-adds-nothing, both-fine}
 use Rattle.engine.specs.declared.ending.Ended.{Ended}
 use Rattle.engine.specs.Finish.{ended, concluded, finishOf}
 use Rattle.engine.specs.Laws.Floats.{step-floats, run-floats, end-floats}
@@ -41,24 +41,18 @@ use Rattle.capi.specs.Laws.RunCalls.{step-small}
 -- ---- rooms that have their words
 
 -- a first verdict that the second repeats where it is bad
-first-agrees : {A : Type 0} (v : Verdict) (o : Outcome A) → ((r : Refusal) → v ≡ Bad r → o ≡ refuses r) → unlessBad v o ≡ o
+pub first-agrees : {A : Type 0} (v : Verdict) (o : Outcome A) → ((r : Refusal) → v ≡ Bad r → o ≡ refuses r) → unlessBad v o ≡ o
 unfolding unlessBad
 first-agrees (Bad r) o h = sym (h r refl)
 first-agrees Fine o h = refl
 
--- lines below others that are fine add nothing
-fine-adds-nothing : (a b : List Line) → judged b ≡ Fine → judged (a ++ b) ≡ judged a
-unfolding judged
-fine-adds-nothing [] b h = h
-fine-adds-nothing (l ∷ a) b h = rw (fine-adds-nothing a b h)
-
 module _ (settings room : List ℕ) (set : settingWords ≤ length settings) (long : stateWords ≤ length room) where
-  words-fine : judged (wordLines settings room) ≡ Fine
+  pub words-fine : judged (wordLines settings room) ≡ Fine
   unfolding judged wordLines
   words-fine = rw (le-leb _ _ set, le-leb _ _ long)
 
   -- so the room of rows is all that a call asks for besides
-  lent-fine : (rows : List ℕ) → judged (lentLines settings room rows) ≡ judged (roomLines (settingsOf settings) rows)
+  pub lent-fine : (rows : List ℕ) → judged (lentLines settings room rows) ≡ judged (roomLines (settingsOf settings) rows)
   unfolding lentLines
   lent-fine rows = fine-adds-nothing (roomLines (settingsOf settings) rows) _ words-fine
 
@@ -70,7 +64,7 @@ module _ (settings room : List ℕ) (set : settingWords ≤ length settings) (lo
         metrics-fine = unfold judged metricLines in rw (le-leb _ _ nine)
 
 -- and the engine asks for it first
-room-first : (s : Settings) (t : State) (bar : List ℕ) (m : Rooms) (ls : Lists) (r : Refusal) → judged (roomLines s (m .rows)) ≡ Bad r
+pub room-first : (s : Settings) (t : State) (bar : List ℕ) (m : Rooms) (ls : Lists) (r : Refusal) → judged (roomLines s (m .rows)) ≡ Bad r
     → stepVerdict s t bar m ls ≡ Bad r
 room-first s t bar m ls r e =
     handed-bad s t bar m ls r
@@ -81,7 +75,7 @@ unfolding finishJudged finishLines
 finish-room-first s t m r e = below-bad (roomLines s (m .rows)) _ r e
 
 -- where the engine goes on, the room of rows has passed
-room-passed : (s : Settings) (t : State) (bar : List ℕ) (m : Rooms) (ls : Lists) → stepVerdict s t bar m ls ≡ Fine → judged (roomLines s (m .rows)) ≡ Fine
+pub room-passed : (s : Settings) (t : State) (bar : List ℕ) (m : Rooms) (ls : Lists) → stepVerdict s t bar m ls ≡ Fine → judged (roomLines s (m .rows)) ≡ Fine
 unfolding stepVerdict stepLines runLines
 room-passed s t bar m ls e =
     both-fine (roomLines s (m .rows)) _ (both-fine (runLines s t m) _ (both-fine (stepLines s t bar m ls) (sizeLines s t bar m) e .0) .0) .0

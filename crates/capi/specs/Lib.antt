@@ -6,5 +6,7 @@ pub mod Bars
 pub mod Finish
 pub mod Figures
 pub mod WordRun
+pub mod Day
 pub mod Laws
 pub mod Joined
+pub mod DayJoined

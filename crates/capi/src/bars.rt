@@ -6,8 +6,8 @@ ghost use Rattle.capi.specs.Finish.{finishCall};
 use crate::calls::answer_word;
 use crate::calls::judge_metrics;
 use crate::calls::judge_words;
+use crate::day::call_bars;
 use crate::figures::put_metrics;
-use engine::Answer;
 use engine::Finished;
 use records::settings::settings_of;
 use records::state_words::put_state;
@@ -36,16 +36,11 @@ pub extern "C" fn ysh_step<'a>(
           lent = record { state = now (state .exit); rooms = rooms (now (rows .exit)) (now (equity .exit)) (now (trades .exit)) };
         } ⌝ }
 {
-    let chosen = settings_of(settings);
-    if let Verdict::Bad(refusal) = refusals::rooms::judge_room(chosen, rows) {
-        return answer_word(refusal);
-    }
-    if let Verdict::Bad(refusal) = judge_words(settings, state) {
-        return answer_word(refusal);
-    }
-    let answer = engine::step(
-        chosen,
-        state_of(state),
+    let mut done: u64 = 0;
+    call_bars(
+        true,
+        settings,
+        state,
         bar,
         rows,
         equity,
@@ -54,14 +49,8 @@ pub extern "C" fn ysh_step<'a>(
         exit,
         short_entry,
         short_exit,
-    );
-    match answer {
-        Answer::Refused(refusal, _) => answer_word(refusal),
-        Answer::Done(next) => {
-            put_state(state, next);
-            0
-        }
-    }
+        &mut done,
+    )
 }
 
 // The end of a run: an open position is closed, the last equity point counts its fee, and the metrics are given.

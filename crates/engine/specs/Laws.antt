@@ -20,3 +20,6 @@ pub mod TwoRuns
 pub mod LastPoint
 pub mod Finishes
 pub mod Forgets
+pub mod Underway
+pub mod InPlace
+pub mod Days

@@ -5,6 +5,8 @@ pub mod Decide
 pub mod Step
 pub mod Finish
 pub mod Run
+pub mod Day
+pub mod InPlace
 pub mod Rules
 pub mod Whole
 pub mod Forgotten

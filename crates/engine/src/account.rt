@@ -3,7 +3,7 @@
 ghost use mathlib.Core.Path.{_≡_};
 ghost use Prim.Native.Nat.{_≤_};
 ghost use Rattle.words.specs.Limits.{mostSlots};
-ghost use Rattle.rows.specs.History.{historyOf};
+ghost use Rattle.rows.specs.Ring.{ringOf};
 ghost use Rattle.engine.specs.Record.{heldRows};
 ghost use Rattle.engine.specs.Account as Account;
 ghost use Rattle.engine.specs.Account.{leaving, facing, entering, reached, dueOf, charged};
@@ -92,7 +92,7 @@ fn entering(p: Position, entry: Entry, number: u64) -> Position
     }
 }
 
-// An entry at the raw price that its kind gives.
+// An entry at the raw price that its kind gives. The rows before this bar begin at row `start` of those held.
 fn enter(
     side: Side,
     kind: OrderKind,
@@ -102,10 +102,11 @@ fn enter(
     candle: Candle,
     rows: &[u64],
     held: usize,
+    start: usize,
     number: u64,
 ) -> Filled
     requires { ⌜ s .slots ≤ mostSlots ⌝ }
-    ensures { λ r. ⌜ r ≡ Account.entered side kind price s p candle (historyOf (s .slots) (heldRows (s .slots) held (now (rows .entry)))) number ⌝ }
+    ensures { λ r. ⌜ r ≡ Account.entered side kind price s p candle (ringOf (s .slots) start (heldRows (s .slots) held (now (rows .entry)))) number ⌝ }
 {
     let terms = s.terms;
     let account = p.portfolio;
@@ -113,7 +114,17 @@ fn enter(
     let before = record::held_rows(rows, slots, held);
     let entries = s.entries;
     let fee_bps = level::fee_bps(kind, entries.maker_bps, terms.taker_bps);
-    let entry = fills::execute_entry(side, price, fee_bps, terms, candle, account, before, slots);
+    let entry = fills::execute_entry_ring(
+        side,
+        price,
+        fee_bps,
+        terms,
+        candle,
+        account,
+        before,
+        slots,
+        start,
+    );
     let position = entering(p, entry, number);
     Filled {
         order: Order::Idle,
@@ -199,7 +210,7 @@ fn due_of(order: Order, candle: Candle) -> Due
     }
 }
 
-// The working order against the new bar, before its row is recorded: `rows` are those before this bar. `enter` has this one
+// The working order against the new bar, before its row is recorded: `rows` are those before this bar, from row `start` on. `enter` has this one
 // caller for both sides, so that it is compiled into a step and a bar with nothing due copies nothing.
 pub(crate) fn fill_working_order(
     s: Settings,
@@ -208,10 +219,11 @@ pub(crate) fn fill_working_order(
     candle: Candle,
     rows: &[u64],
     held: usize,
+    start: usize,
     number: u64,
 ) -> Filled
     requires { ⌜ s .slots ≤ mostSlots ⌝ }
-    ensures { λ r. ⌜ r ≡ Account.filled s order p candle (historyOf (s .slots) (heldRows (s .slots) held (now (rows .entry)))) number ⌝ }
+    ensures { λ r. ⌜ r ≡ Account.filled s order p candle (ringOf (s .slots) start (heldRows (s .slots) held (now (rows .entry)))) number ⌝ }
 {
     let due = due_of(order, candle);
     match due {
@@ -225,6 +237,7 @@ pub(crate) fn fill_working_order(
             candle,
             rows,
             held,
+            start,
             number,
         ),
         Due::Leaves => leave(s, p, candle),

@@ -2,9 +2,10 @@
 ghost use mathlib.Core.Path.{_≡_};
 ghost use Prim.Native.Nat.{_<_, _≤_};
 ghost use Rattle.words.specs.Limits.{mostSlots, mostCount};
-ghost use Rattle.rows.specs.History.{historyOf};
+ghost use Rattle.rows.specs.Ring.{ringOf};
 ghost use Rattle.records.specs.Lent.{lists};
-ghost use Rattle.engine.specs.Decide.{listSays, answersOf, ordered, decided};
+ghost use Rattle.engine.specs.Decide.{listSays, answersOf, ordered};
+ghost use Rattle.engine.specs.InPlace.{readFrom, decidedFrom};
 ghost use Rattle.engine.specs.Record.{heldRows};
 use crate::record;
 use execution::level;
@@ -17,12 +18,23 @@ use rules::PositionState;
 use steps::choice;
 use steps::machine;
 
-// What a rule's list of steps answers over the window.
-fn list_says(window: &[u64], slots: usize, state: PositionState, list: &[u8]) -> bool
-    ensures { λ r. ⌜ r ≡ listSays (historyOf slots (now (window .entry))) state (now (list .entry)) ⌝ }
+// What a rule's list of steps answers over rows that begin at row `start`.
+fn list_says(window: &[u64], slots: usize, start: usize, state: PositionState, list: &[u8]) -> bool
+    ensures { λ r. ⌜ r ≡ listSays (ringOf slots start (now (window .entry))) state (now (list .entry)) ⌝ }
 {
-    let ran = machine::run(list, window, slots, state);
+    let ran = machine::run_ring(list, window, slots, start, state);
     ran.answer
+}
+
+// The rows that the rules read: the last D of those held, where these begin at their first; else all of them, of which no rule reads more
+// than the last D.
+fn read_from(held: &[u64], slots: usize, depth: usize, start: usize) -> &[u64]
+    ensures { λ r. ⌜ now r ≡ readFrom slots depth start (now (held .entry)) ⌝ }
+{
+    if start == 0 {
+        return rows::window(held, slots, depth);
+    }
+    held
 }
 
 // The order of a bar on which none works.
@@ -32,32 +44,33 @@ fn order_of<'a>(
     account: Portfolio,
     window: &[u64],
     slots: usize,
+    start: usize,
     state: PositionState,
     entry: &[u8],
     exit: &'a [u8],
     short_entry: &[u8],
     short_exit: &'a [u8],
 ) -> Order
-    ensures { λ r. ⌜ r ≡ ordered delay kind account (answersOf (historyOf slots (now (window .entry))) state
+    ensures { λ r. ⌜ r ≡ ordered delay kind account (answersOf (ringOf slots start (now (window .entry))) state
         (lists (now (entry .entry)) (now («exit» .entry)) (now («short_entry» .entry)) (now («short_exit» .entry)))) ⌝ }
 {
     if account.in_position() {
         let list = choice::exit_list(account.qty, exit, short_exit);
-        if list_says(window, slots, state, list) {
+        if list_says(window, slots, start, state, list) {
             return Order::Exit(delay);
         }
         return Order::Idle;
     }
-    if list_says(window, slots, state, entry) {
+    if list_says(window, slots, start, state, entry) {
         return Order::EnterLong(delay, kind);
     }
-    if list_says(window, slots, state, short_entry) {
+    if list_says(window, slots, start, state, short_entry) {
         return Order::EnterShort(delay, kind);
     }
     Order::Idle
 }
 
-// The order after this bar: nothing is decided below warmup, nor while an order works.
+// The order after this bar, whose rows begin at row `start` of those held: nothing is decided below warmup, nor while an order works.
 pub(crate) fn decide_next_action<'a>(
     s: Settings,
     order: Order,
@@ -66,13 +79,14 @@ pub(crate) fn decide_next_action<'a>(
     close: f64,
     rows: &[u64],
     held: usize,
+    start: usize,
     entry: &[u8],
     exit: &'a [u8],
     short_entry: &[u8],
     short_exit: &'a [u8],
 ) -> Order
     requires { ⌜ (s .slots ≤ mostSlots) × (number < mostCount) ⌝ }
-    ensures { λ r. ⌜ r ≡ decided s order p number close (heldRows (s .slots) held (now (rows .entry)))
+    ensures { λ r. ⌜ r ≡ decidedFrom s order p number close start (heldRows (s .slots) held (now (rows .entry)))
         (lists (now (entry .entry)) (now («exit» .entry)) (now («short_entry» .entry)) (now («short_exit» .entry))) ⌝ }
 {
     match order {
@@ -93,13 +107,14 @@ pub(crate) fn decide_next_action<'a>(
                 entered,
                 bars_seen: number + 1,
             };
-            let window = rows::window(record::held_rows(rows, slots, held), slots, s.depth);
+            let window = read_from(record::held_rows(rows, slots, held), slots, s.depth, start);
             order_of(
                 s.delay,
                 kind,
                 account,
                 window,
                 slots,
+                start,
                 state,
                 entry,
                 exit,

@@ -3,8 +3,9 @@ ghost use mathlib.Core.Path.{_≡_};
 ghost use Prim.Native.Nat.{_*_, _<_, _≤_};
 ghost use lib.ListN.{length, take};
 ghost use Rattle.words.specs.Limits.{rowWords, mostSlots};
-ghost use Rattle.rows.specs.Room.{withRow, heldWith};
 ghost use Rattle.engine.specs.Record.{rowWord, rowOf, heldRows};
+ghost use Rattle.engine.specs.InPlace.{keptRing, keptRoom};
+use rows::ring::Ring;
 
 // The words of the widest row.
 const MOST_WORDS: usize = words::limits::ROW_FIXED + words::limits::MOST_SLOTS;
@@ -59,14 +60,28 @@ fn fill_row(row: &mut [u64], bar: &[u64], slots: usize)
     }
 }
 
-// Adds the bar's row to a room that holds `held` rows; the result is how many it holds then.
-pub(crate) fn record_bar(rows: &mut [u64], held: usize, bar: &[u64], slots: usize) -> usize
+// Adds the bar's row to a room that holds `held` rows from row `start` on: in a call of one bar the rows move up where the room is full,
+// in a call of many the oldest is written over.
+pub(crate) fn record_bar(
+    one: bool,
+    rows: &mut [u64],
+    held: usize,
+    start: usize,
+    bar: &[u64],
+    slots: usize,
+) -> Ring
     requires { ⌜ slots ≤ mostSlots ⌝ }
-    ensures { λ r. ⌜ (r ≡ heldWith (now (rows .entry)) held (rowOf slots (now (bar .entry))))
-        × (now (rows .exit) ≡ withRow (now (rows .entry)) held (rowOf slots (now (bar .entry)))) ⌝ }
+    ensures { λ r. ⌜ (r ≡ keptRing one (now (rows .entry)) held start (rowOf slots (now (bar .entry))))
+        × (now (rows .exit) ≡ keptRoom one (now (rows .entry)) held start (rowOf slots (now (bar .entry)))) ⌝ }
 {
     let mut row = [0u64; MOST_WORDS];
     fill_row(&mut row, bar, slots);
     let width = words::limits::ROW_FIXED + slots;
-    rows::room::push(rows, held, &row[..width])
+    if one {
+        return Ring {
+            held: rows::room::push(rows, held, &row[..width]),
+            start: 0,
+        };
+    }
+    rows::ring::push(rows, Ring { held, start }, &row[..width])
 }

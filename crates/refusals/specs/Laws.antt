@@ -4,3 +4,4 @@ pub mod Numbers
 pub mod BadStep
 pub mod Places
 pub mod Fine
+pub mod Steady

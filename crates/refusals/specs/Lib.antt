@@ -4,4 +4,5 @@ pub mod Rooms
 pub mod Bar
 pub mod Lists
 pub mod Judgement
+pub mod Day
 pub mod Laws

@@ -27,7 +27,7 @@ pub fn judge_room(s: Settings, rows: &[u64]) -> Verdict
 }
 
 // Whether no count is above what a count may be.
-fn counts_fine(n: Counts) -> bool
+pub(crate) fn counts_fine(n: Counts) -> bool
     ensures { λ r. ⌜ r ≡ countsFine n ⌝ }
 {
     if MOST_COUNT < n.bars_seen {

@@ -17,6 +17,12 @@ mod raw {
             entry: *const u8, entry_len: usize, exit: *const u8, exit_len: usize,
             short_entry: *const u8, short_entry_len: usize, short_exit: *const u8, short_exit_len: usize,
         ) -> u64;
+        pub fn ysh_steps(
+            settings: *const u64, settings_len: usize, state: *mut u64, state_len: usize, bars: *const u64, bars_len: usize,
+            rows: *mut u64, rows_len: usize, equity: *mut u64, equity_len: usize, trades: *mut u64, trades_len: usize,
+            entry: *const u8, entry_len: usize, exit: *const u8, exit_len: usize,
+            short_entry: *const u8, short_entry_len: usize, short_exit: *const u8, short_exit_len: usize, done: *mut u64,
+        ) -> u64;
         pub fn ysh_finish(
             settings: *const u64, settings_len: usize, state: *mut u64, state_len: usize, rows: *const u64, rows_len: usize,
             equity: *mut u64, equity_len: usize, trades: *mut u64, trades_len: usize, metrics: *mut u64, metrics_len: usize,
@@ -108,6 +114,38 @@ pub fn step(settings: &[u64], rooms: Rooms, bar: &[u64], steps: [&[u8]; 4]) -> A
             short_exit.len(),
         )
     })
+}
+
+/// Many bars, one after another: how many were done, and what stopped it.
+pub fn steps(settings: &[u64], rooms: Rooms, bars: &[u64], steps: [&[u8]; 4]) -> (u64, Answer<()>) {
+    let [entry, exit, short_entry, short_exit] = steps;
+    let mut done = 0;
+    let answer = Refusal::of(unsafe {
+        raw::ysh_steps(
+            settings.as_ptr(),
+            settings.len(),
+            rooms.state.as_mut_ptr(),
+            rooms.state.len(),
+            bars.as_ptr(),
+            bars.len(),
+            rooms.rows.as_mut_ptr(),
+            rooms.rows.len(),
+            rooms.equity.as_mut_ptr(),
+            rooms.equity.len(),
+            rooms.trades.as_mut_ptr(),
+            rooms.trades.len(),
+            entry.as_ptr(),
+            entry.len(),
+            exit.as_ptr(),
+            exit.len(),
+            short_entry.as_ptr(),
+            short_entry.len(),
+            short_exit.as_ptr(),
+            short_exit.len(),
+            &mut done,
+        )
+    });
+    (done, answer)
 }
 
 pub fn finish(settings: &[u64], rooms: Rooms, metrics: &mut [u64]) -> Answer<()> {

@@ -76,6 +76,26 @@ impl Engine {
         calls::step(settings, Rooms { state, rows, equity, trades }, words, [entry, exit, short_entry, short_exit])
     }
 
+    /// Many bars in one call: how many were done, and what stopped it. A refused bar has changed nothing, and those before it stay done.
+    pub fn steps(&mut self, bars: &[Bar]) -> (usize, Result<(), Refusal>) {
+        // A bar with a surplus slot is longer than the others: it is refused by a step of its own.
+        let even = bars.iter().take_while(|bar| bar.slots.len() <= self.slots).count();
+        let mut list = Vec::new();
+        for bar in &bars[..even] {
+            bar.words(self.slots, &mut self.bar);
+            list.extend_from_slice(&self.bar);
+        }
+        let Engine { settings, state, rows, equity, trades, steps, .. } = self;
+        let [entry, exit, short_entry, short_exit] = &*steps;
+        let rooms = Rooms { state, rows, equity, trades };
+        let (done, answer) = calls::steps(settings, rooms, &list, [entry, exit, short_entry, short_exit]);
+        let answer = match (answer, bars.get(even)) {
+            (Ok(()), Some(bar)) => self.step(bar),
+            (answer, _) => answer,
+        };
+        (done as usize, answer)
+    }
+
     /// Closes an open position at the last close, if a bar was seen, and gives the metrics. The last equity point counts its fee.
     pub fn finish(&mut self) -> Result<Metrics, Refusal> {
         let mut metrics = [0; METRIC_WORDS];

@@ -267,3 +267,24 @@ fn the_state_by_name() {
     assert_eq!(state.rows_held(), 3);
     assert!(engine.trades().all(|trade| trade.funding > 0.0 && trade.worst < trade.entry_price));
 }
+
+#[test]
+fn a_day_in_one_call_is_a_call_for_each_bar() {
+    let table = table();
+    let depth = depth(&table, 0).unwrap().rows as usize;
+    let mut single = Engine::new(&table, &settings(depth), BARS, 32).unwrap();
+    let mut whole = single.clone();
+    for i in 0..BARS {
+        single.step(&bar(i)).unwrap();
+    }
+    let mut bars: Vec<Bar> = (0..BARS).map(bar).collect();
+    bars.insert(20, Bar { close: f64::NAN, ..bar(20) });
+    let (done, answer) = whole.steps(&bars);
+    assert_eq!((done, answer), (20, Err(Refusal { number: 11, place: 20 })));
+    let surplus = Bar { slots: vec![Some(1.0); 3], ..bar(0) };
+    assert_eq!(whole.steps(&[surplus]), (0, Err(Refusal { number: 13, place: 0 })));
+    assert_eq!(whole.steps(&[]), (0, Ok(())));
+    assert_eq!(whole.steps(&bars[21..]), (BARS - 20, Ok(())));
+    assert_eq!(whole.save(), single.save());
+    assert!(whole.trades().eq(single.trades()) && whole.equity().eq(single.equity()));
+}

@@ -16,13 +16,13 @@ use crate::ours::Ours;
 use crate::theirs::Theirs;
 
 /// How many bars are seen before each of the two measurements, and how many one repetition steps over.
-struct Marks {
+pub struct Marks {
     few: usize,
     many: usize,
     block: usize,
 }
 
-fn marks(depth: usize) -> Marks {
+pub fn marks(depth: usize) -> Marks {
     match depth {
         0..=1_000 => Marks {
             few: 1_000,
@@ -56,7 +56,7 @@ fn measure(marks: &Marks, mut step: impl FnMut(usize)) -> (f64, f64) {
     (at(marks.few), at(marks.many))
 }
 
-fn ours(case: &Case, marks: &Marks, rows: usize) -> (f64, f64) {
+pub fn ours(case: &Case, marks: &Marks, rows: usize) -> (f64, f64) {
     let bars: Vec<Vec<u64>> = case.bars.iter().map(bar_words).collect();
     let mut run = Ours::with_room(case, rows, marks.many + 20 * marks.block).expect("an accepted case");
     let times = measure(marks, |i| {
@@ -67,7 +67,7 @@ fn ours(case: &Case, marks: &Marks, rows: usize) -> (f64, f64) {
     times
 }
 
-fn theirs(case: &Case, marks: &Marks) -> (f64, f64) {
+pub fn theirs(case: &Case, marks: &Marks) -> (f64, f64) {
     let mut run = Theirs::new(case, Reading::Rust);
     measure(marks, |i| {
         let bar = &case.bars[i % case.bars.len()];

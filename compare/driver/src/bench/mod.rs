@@ -1,5 +1,6 @@
 //! `driver bench`: the C interface against the Rust original, on the same bars in one run, as tables in markdown.
 
+mod day;
 mod engine;
 mod figures;
 mod moving;
@@ -12,6 +13,7 @@ mod timing;
 pub fn bench() -> bool {
     engine::bench();
     engine::by_slots();
+    day::bench();
     moving::bench();
     parts::bench();
     rules::bench();

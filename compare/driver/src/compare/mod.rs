@@ -1,6 +1,7 @@
 //! One case through both sides: after every bar and after finish, everything that can be seen must be the same.
 
 mod command;
+mod day;
 mod ends;
 mod explain;
 mod rules;
@@ -15,6 +16,7 @@ use crate::case::{bar_words, row_words, Case};
 use crate::ours::{Ours, Refusal};
 use crate::theirs::{Ending, Theirs};
 use crate::view::{unlike, Unlike, View, METRICS, NAMES};
+use day::same_in_days;
 use ends::{depth_agrees, same_ending};
 use explain::{Entry, Explained};
 use rules::Rules;
@@ -231,6 +233,9 @@ impl<'a> Comparison<'a> {
 
     fn finish(mut self) -> Result<Tally, Mismatch> {
         self.rows_agree()?;
+        for run in [&self.tight, &self.larger] {
+            same_in_days(self.case, self.plan, run)?;
+        }
         let refused = |refusal| Mismatch::refused(None, PAPER, refusal);
         let marked = self.tight.newest_point();
         let metrics = self.tight.finish().map_err(refused)?;

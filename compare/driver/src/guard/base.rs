@@ -65,6 +65,12 @@ impl Base {
         &self.bars[self.next]
     }
 
+    /// So many bars from the next one on, one after another.
+    pub fn day(&self, count: usize) -> Vec<u64> {
+        let bars = self.bars.iter().cycle().skip(self.next);
+        bars.take(count).flatten().copied().collect()
+    }
+
     /// Goes on with what a step left behind; begins anew when a room is full.
     pub fn go_on(&mut self, state: &[u64], rows: &[u64], equity: &[u64], trades: &[u64]) {
         self.state.copy_from_slice(&state[..STATE_WORDS]);

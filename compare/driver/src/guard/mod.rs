@@ -7,6 +7,7 @@
 mod answers;
 mod base;
 mod damage;
+mod day;
 mod lent;
 mod room;
 mod runs;
@@ -47,7 +48,8 @@ impl Guard {
     fn call(&mut self) -> Outcome {
         let base = self.dice.below(BASES as u64) as usize;
         match self.dice.below(100) {
-            0..=44 => self.step(base),
+            0..=29 => self.step(base),
+            30..=44 => self.steps(base),
             45..=54 => self.finish(base),
             55..=64 => self.check(base),
             65..=67 => self.depth(base),

@@ -52,7 +52,7 @@ impl Guard {
         rooms.iter().all(|room| room.is_unchanged()) && lent.state.is_unchanged_outside(0, STATE_WORDS)
     }
 
-    fn damage_step(&mut self) {
+    pub fn damage_step(&mut self) {
         let (dice, lent) = (&mut self.dice, &mut self.lent);
         let list = &mut lent.lists[dice.below(4) as usize];
         match dice.below(10) {

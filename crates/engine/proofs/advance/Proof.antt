@@ -1,20 +1,23 @@
--- A fill that is turned away ends it; else each phase is its own definition, and `phases` puts them together. Assumes nothing.
+-- A fill that is turned away ends it; else each phase is its own definition, and `phases` puts them together, over the rows as they would stand
+-- had they moved. Assumes nothing.
 use mathlib.Core.Path.{_∙_}
 use native.Mathlib.Omega.{arith}
-use Rattle.records.specs.Lent.{Rooms, Lists}
+use Rattle.rows.specs.History.{width}
+use Rattle.rows.specs.Ring.{turned}
+use Rattle.records.specs.Lent.{Rooms, Lists, rooms, lists}
+use Rattle.engine.specs.Laws.InPlace.{fill-in-place, decide-in-place, placed}
 use borrow.Author.Needs.{needs}
 use Rattle.engine.proofs.Phases.{phases, away, goes}
 use Rattle.engine.proofs.advance.Statement.{statement}
 use Rattle.engine.proofs.advance.Tie as tie
 
 fill-working-order-requires : tie.Need-fill-working-order-requires
-fill-working-order-requires c κs = c .before .before .before .before .before .before .before .before .before .before .before .before .pre .slots
+fill-working-order-requires c κs = c .before .before .before .before .before .before .before .before .before .before .before .before .pre .ready .slots
 
 record-bar-requires : tie.Need-record-bar-requires
 record-bar-requires c κs =
-    let sell = c .before .before .before in
-    let candle = sell .before .before .before .before .before .before in
-    candle .before .before .before .before .before .before .before .before .before .before .before .pre .slots
+    let candle = c .before .before .before .before .before .before .before .before .before in
+    candle .before .before .before .before .before .before .before .before .before .before .before .pre .ready .slots
 
 decide-next-action-requires : tie.Need-decide-next-action-requires
 decide-next-action-requires c κs =
@@ -22,7 +25,7 @@ decide-next-action-requires c κs =
     let sell = stop .before .before .before .before .before .before .before .before .before .before in
     let candle = sell .before .before .before .before .before .before in
     let start = candle .before .before .before .before .before .before .before .before .before .before .before in
-    (start .pre .slots, start .pre .bars)
+    (start .pre .ready .slots, start .pre .ready .bars)
 
 add-seen : tie.Need-add-seen
 add-seen c =
@@ -30,7 +33,7 @@ add-seen c =
     let sell = stop .before .before .before .before .before .before .before .before .before .before in
     let candle = sell .before .before .before .before .before .before in
     let start = candle .before .before .before .before .before .before .before .before .before .before .before in
-    omega (arith, start .pre .bars)
+    omega (arith, start .pre .ready .bars)
 
 same-length-4 : tie.Need-same-length-4
 same-length-4 c =
@@ -43,10 +46,16 @@ returns : tie.Need-returns
 returns c =
     let fill = c .before in
     let candle = fill .before .before in
-    let a = candle .before .before .before .before .before .before .before .before .before .before .before .args in
-    away (a .s) (a .t) (a .bar .now) (record { rows = a .rows .now; equity = a .equity .now; trades = a .trades .now })
-    (record { entry = a .entry .now; «exit» = a .exit .now; «short_entry» = a .«short-entry» .now; «short_exit» = a .«short-exit» .now })
-    (candle .candle-of .ensures) (fill .fill-working-order .ensures) (c .if1 .taken)
+    let start = candle .before .before .before .before .before .before .before .before .before .before .before in
+    let a = start .args in
+    let n = a .t .counts in
+    let same = fill-in-place (a .s) (a .rows .now) (n .«rows_held») (a .start) (start .pre .at .ring) (a .t .order) (a .t .position) _ (n .«bars_seen») in
+    record {
+      answer = away (a .s) (a .t) (a .bar .now) (rooms (turned (width (a .s .slots)) (a .start) (a .rows .now)) (a .equity .now) (a .trades .now))
+          (lists (a .entry .now) (a .exit .now) (a .«short-entry» .now) (a .«short-exit» .now))
+          (candle .candle-of .ensures) (fill .fill-working-order .ensures ∙ same) (c .if1 .taken);
+      at = start .pre .at;
+    }
 
 returns-2 : tie.Need-returns-2
 returns-2 c =
@@ -58,21 +67,31 @@ returns-2 c =
     let sell = left .before .before .before .before .before .before .before in
     let fill = sell .before .before .before .before in
     let candle = fill .before .before in
-    let a = candle .before .before .before .before .before .before .before .before .before .before .before .args in
-    let m : Rooms = record { rows = a .rows .now; equity = a .equity .now; trades = a .trades .now } in
-    let ls : Lists = record { entry = a .entry .now; «exit» = a .exit .now; «short_entry» = a .«short-entry» .now; «short_exit» = a .«short-exit» .now } in
-    goes (a .s) (a .t) (a .bar .now) m ls (candle .candle-of .ensures) (fill .fill-working-order .ensures) (sell .before .before .before .if1 .left) _ _ _ _
-    (phases (a .s) (a .t) (a .bar .now) m ls
-    _ _ _ _ _ _ _ _ _ _ _ _ _
-    (candle .candle-of .ensures)
-    (fill .fill-working-order .ensures)
-    (sell .book .ensures)
-    (row .record-bar .ensures)
-    (left .apply-intrabar-exits .ensures)
-    (stop .book2 .ensures)
-    (fund .charge-funding .ensures)
-    (mark .mark-equity .ensures)
-    (c .decide-next-action .ensures))
+    let start = candle .before .before .before .before .before .before .before .before .before .before .before in
+    let a = start .args in
+    let n = a .t .counts in
+    let m : Rooms = rooms (turned (width (a .s .slots)) (a .start) (a .rows .now)) (a .equity .now) (a .trades .now) in
+    let ls : Lists = lists (a .entry .now) (a .exit .now) (a .«short-entry» .now) (a .«short-exit» .now) in
+    let same = fill-in-place (a .s) (a .rows .now) (n .«rows_held») (a .start) (start .pre .at .ring) (a .t .order) (a .t .position) _ (n .«bars_seen») in
+    let kept = placed (a .one) (a .s .slots) (a .rows .now) (n .«rows_held») (a .start) (a .bar .now) (start .pre .at .ring) (start .pre .at .first)
+    (row .record-bar .ensures .0) (row .record-bar .ensures .1) in
+    let decides = decide-in-place (a .s) _ _ _ (kept .ring) ls (start .pre .lists) _ _ _ _ in
+    record {
+      answer = goes (a .s) (a .t) (a .bar .now) m ls (candle .candle-of .ensures) (fill .fill-working-order .ensures ∙ same)
+          (sell .before .before .before .if1 .left) _ _ _ _
+          (phases (a .s) (a .t) (a .bar .now) m ls
+          _ _ _ _ _ _ _ _ _ _ _ _ _
+          (candle .candle-of .ensures)
+          (fill .fill-working-order .ensures ∙ same)
+          (sell .book .ensures)
+          (kept .holds, kept .turns)
+          (left .apply-intrabar-exits .ensures)
+          (stop .book2 .ensures)
+          (fund .charge-funding .ensures)
+          (mark .mark-equity .ensures)
+          (c .decide-next-action .ensures ∙ decides));
+      at = record { ring = kept .ring; first = kept .first };
+    }
 
 pub advance-spec : {M : Type 1} → statement M
 advance-spec =

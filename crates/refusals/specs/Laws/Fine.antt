@@ -21,7 +21,7 @@ pub record SettingsFine (s : Settings) : Type 0 where
   pub depth : 1 ≤ s .depth
   pub behind : lookback (s .terms .sizing) < s .depth
 
-settings-fine : (s : Settings) → judged (settingLines s) ≡ Fine → SettingsFine s
+pub settings-fine : (s : Settings) → judged (settingLines s) ≡ Fine → SettingsFine s
 unfolding settingLines
 settings-fine s h =
     let a = first-holds _ _ h in

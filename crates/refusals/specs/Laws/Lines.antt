@@ -47,6 +47,12 @@ unfolding judged
 below-bad [] b r h = never (sym h)
 below-bad (l ∷ a) b r h = by-line (l .ok) (judged a) (judged (a ++ b)) _ r (below-bad a b r) h
 
+-- lines below others that are fine add nothing
+pub fine-adds-nothing : (a b : List Line) → judged b ≡ Fine → judged (a ++ b) ≡ judged a
+unfolding judged
+fine-adds-nothing [] b h = h
+fine-adds-nothing (l ∷ a) b h = rw (fine-adds-nothing a b h)
+
 -- of two lists, one below the other, both are fine where the whole is
 pub both-fine : (a b : List Line) → judged (a ++ b) ≡ Fine → (judged a ≡ Fine) × (judged b ≡ Fine)
 unfolding judged

@@ -19,7 +19,7 @@ enter-spec =
     simp (
       c .is-turned-away .ensures,
       entry .entering .ensures,
-      entry .before .execute-entry .ensures,
+      entry .before .execute-entry-ring .ensures,
       entry .before .before .fee-bps .ensures,
       entry .before .before .before .before .held-rows .ensures,
     )))

@@ -1,12 +1,13 @@
--- An order that works stays; with none, warmup is tested, and the rules are asked over the window.
+-- An order that works stays; with none, warmup is tested, and the rules are asked over what they read.
 use borrow.Author.Tests.{le-ltb, lt-ltb}
-use Rattle.engine.specs.Decide.{orderAfter, decided, stateAt}
+use Rattle.engine.specs.Decide.{orderAfter, stateAt}
+use Rattle.engine.specs.InPlace.{decidedFrom}
 use borrow.Author.Needs.{needs}
 use Rattle.engine.proofs.decide.decide_next_action.Statement.{statement}
 use Rattle.engine.proofs.decide.decide_next_action.Tie as tie
 
 returns-5 : tie.Need-returns-5
-unfolding decided orderAfter stateAt
+unfolding decidedFrom orderAfter stateAt
 returns-5 c =
     let window = c .before in
     let held = window .before in
@@ -14,7 +15,7 @@ returns-5 c =
     let test = kind .before .before .before in
     simp (
       c .order-of .ensures,
-      window .window .ensures,
+      window .read-from .ensures,
       held .held-rows .ensures,
       kind .entry-trigger .ensures,
       le-ltb _ _ (test .if1 .left),
@@ -22,7 +23,7 @@ returns-5 c =
     )
 
 pub decide-next-action-spec : {M : Type 1} → statement M
-unfolding decided orderAfter
+unfolding decidedFrom orderAfter
 decide-next-action-spec =
     tie.close
     (tie.spec

@@ -6,4 +6,4 @@ use Rattle.engine.proofs.decide.list_says.Tie as tie
 
 pub list-says-spec : {M : Type 1} → statement M
 unfolding listSays
-list-says-spec = tie.close (tie.spec (λ c κs. search needs) (λ c. simp (c .run .ensures)))
+list-says-spec = tie.close (tie.spec (λ c κs. search needs) (λ c. simp (c .run-ring .ensures)))

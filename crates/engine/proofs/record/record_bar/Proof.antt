@@ -5,21 +5,43 @@ use native.Mathlib.Omega.{arith}
 use borrow.Author.Needs.{needs}
 use lib.ListN.{length}
 use lib.Seq.{length-take-le}
+use Rattle.engine.specs.InPlace.{keptRing, keptRoom}
 use Rattle.engine.proofs.record.record_bar.Statement.{statement}
 use Rattle.engine.proofs.record.record_bar.Tie as tie
 
 slice-aggregate-push : tie.Need-slice-aggregate-push
 slice-aggregate-push c =
-    let filled = c .before .before .before in
+    let filled = c .before .before .before .before in
+    let a = filled .before .before .before .before in
+    let h : 7 + a .args .slots ≤ length (filled .fill-row .last .0) = omega (arith, filled .fill-row .ensures .0, a .pre) in
+    sym (length-take-le (7 + a .args .slots) (filled .fill-row .last .0) h)
+
+slice-aggregate-push-2 : tie.Need-slice-aggregate-push-2
+slice-aggregate-push-2 c =
+    let filled = c .before .before .before .before in
     let a = filled .before .before .before .before in
     let h : 7 + a .args .slots ≤ length (filled .fill-row .last .0) = omega (arith, filled .fill-row .ensures .0, a .pre) in
     sym (length-take-le (7 + a .args .slots) (filled .fill-row .last .0) h)
 
 returns : tie.Need-returns
+unfolding keptRing keptRoom
 returns c =
     let push = c .before .before in
-    let filled = push .before .before .before .before in
-    (simp (push .push .ensures .0, filled .fill-row .ensures .1), simp (push .push .ensures .1, filled .fill-row .ensures .1))
+    let test = push .before .before .before in
+    let filled = test .before .before in (
+      simp (test .if1 .taken, push .push .ensures .0, filled .fill-row .ensures .1),
+      simp (test .if1 .taken, push .push .ensures .1, filled .fill-row .ensures .1),
+    )
+
+returns-2 : tie.Need-returns-2
+unfolding keptRing keptRoom
+returns-2 c =
+    let push = c .before .before in
+    let test = push .before .before .before in
+    let filled = test .before .before in (
+      simp (test .if1 .left, push .push2 .ensures .0, filled .fill-row .ensures .1),
+      simp (test .if1 .left, push .push2 .ensures .1, filled .fill-row .ensures .1),
+    )
 
 pub record-bar-spec : {M : Type 1} → statement M
 record-bar-spec =
@@ -32,4 +54,9 @@ record-bar-spec =
     slice-aggregate-push
     (λ c κs. search needs)
     (λ c. search needs)
-    returns)
+    returns
+    (λ c. search needs)
+    slice-aggregate-push-2
+    (λ c κs. search needs)
+    (λ c. search needs)
+    returns-2)

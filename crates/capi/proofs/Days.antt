@@ -1,0 +1,32 @@
+-- A C call over many bars is the engine's on what its words mean.
+use Prim.Native.Nat.{ℕ}
+use mathlib.Core.Path.{_≡_}
+use mathlib.Core.Bool.{Bool}
+use mathlib.Core.List.{List}
+use Rattle.words.specs.declared.refusal.Refusal.{Refusal}
+use Rattle.records.specs.declared.settings.Settings.{Settings}
+use Rattle.records.specs.declared.state.State.{State}
+use Rattle.records.specs.Lent.{Rooms, Lists, rooms}
+use Rattle.records.specs.Settings.{settingsOf}
+use Rattle.records.specs.StateWords.{stateOf}
+use Rattle.refusals.specs.declared.verdict.Verdict.{Verdict}
+use Rattle.refusals.specs.declared.verdict.Verdict.the-variants.{Fine, Bad}
+use Rattle.refusals.specs.Lines.{judged}
+use Rattle.engine.specs.Day.{dayOf}
+use Rattle.capi.specs.Call.{answerWord}
+use Rattle.capi.specs.Day.{dayLentLines, stateAfter, dayGives, dayCall}
+use Rattle.capi.specs.WordRun.{answerOf}
+
+module _ (one : Bool) (settings state bars : List ℕ) (m : Rooms) (ls : Lists) {v : Verdict}
+    (lent : v ≡ judged (dayLentLines one settings state bars (m .rows))) where
+  pub day-short : {r : Refusal} {a : ℕ} → v ≡ Bad r → a ≡ answerWord r
+      → dayCall one settings state bars m ls ≡ record { answer = a; lent = record { state = state; rooms = m; done = 0 } }
+  unfolding dayCall dayGives
+  day-short bad word = rw (← lent, bad, word)
+
+  pub day-ran : {s : Settings} {t u : State} {n a : ℕ} {w : Verdict} {ws es ts words : List ℕ} → v ≡ Fine → s ≡ settingsOf settings → t ≡ stateOf state
+      → dayOf one s t bars m ls ≡ record { done = n; verdict = w; state = u; rooms = rooms ws es ts }
+      → words ≡ stateAfter state n u → a ≡ answerOf w
+      → dayCall one settings state bars m ls ≡ record { answer = a; lent = record { state = words; rooms = rooms ws es ts; done = n } }
+  unfolding dayCall dayGives
+  day-ran fine read given ran put word = rw (← lent, fine, ← read, ← given, ran, put, word)

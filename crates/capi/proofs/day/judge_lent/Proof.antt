@@ -1,0 +1,42 @@
+-- No bars ask for the settings and the state alone; else the room of rows comes first. Assumes nothing.
+use mathlib.Core.Path.{sym, _∙_}
+use borrow.Author.Needs.{needs}
+use Rattle.capi.specs.Day.{dayLentLines}
+use Rattle.capi.proofs.Calling.{lent-room, lent-words}
+use Rattle.capi.proofs.day.judge_lent.Statement.{statement}
+use Rattle.capi.proofs.day.judge_lent.Tie as tie
+
+returns : tie.Need-returns
+unfolding dayLentLines
+returns c = rw (sym (c .before .before .no-bars .ensures) ∙ c .before .if1 .taken) (c .judge-words .ensures)
+
+returns-2 : tie.Need-returns-2
+unfolding dayLentLines
+returns-2 c =
+    let room = c .before .before .before in
+    let read = room .before in
+    rw (sym (read .before .before .no-bars .ensures) ∙ read .before .if1 .left)
+    (sym (lent-room _ _ _ (read .settings-of .ensures) (room .judge-room .ensures) (c .before .refusal .given .1)))
+
+returns-3 : tie.Need-returns-3
+unfolding dayLentLines
+returns-3 c =
+    let room = c .before .before .before in
+    let read = room .before in
+    rw (sym (read .before .before .no-bars .ensures) ∙ read .before .if1 .left)
+    (sym (lent-words _ _ _ (read .settings-of .ensures) (room .judge-room .ensures) (c .before .enum-told .given .1) (c .judge-words2 .ensures)))
+
+pub judge-lent-spec : {M : Type 1} → statement M
+judge-lent-spec =
+    tie.close
+    (tie.spec
+    (λ c κs. search needs)
+    (λ c κs. search needs)
+    returns
+    (λ c κs. search needs)
+    (λ c κs. search needs)
+    (λ c. search needs)
+    returns-2
+    (λ c. search needs)
+    (λ c κs. search needs)
+    returns-3)

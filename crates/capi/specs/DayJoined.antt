@@ -1,0 +1,120 @@
+-- ysh_steps is ysh_step, bar after bar: for any words of settings and state, any bars, rooms and lists.
+use Prim.Native.Nat.{ℕ, _+_, _-_, _/_, _<_, _≤_}
+use mathlib.Core.Path.{_≡_, refl, sym, _∙_}
+use mathlib.Core.Bool.{Bool, true, false}
+use mathlib.Core.List.{List, [], _∷_}
+use native.Mathlib.Omega.{arith}
+use borrow.Author.Tests.{ne-eqb}
+use lib.ListN.{length, take, drop}
+use Rattle.words.specs.Limits.{settingWords, stateWords, barWords}
+use Rattle.words.specs.declared.refusal.Refusal.{Refusal}
+use Rattle.words.specs.Outcome.{Outcome, refuses}
+use Rattle.records.specs.declared.settings.Settings.{Settings}
+use Rattle.records.specs.declared.state.State.{State}
+use Rattle.records.specs.Lent.{Rooms, Lists}
+use Rattle.records.specs.Laws.RoundTrip.{words-floats}
+use Rattle.records.specs.Settings.{settingsOf}
+use Rattle.records.specs.StateWords.{stateOf}
+use Rattle.refusals.specs.declared.verdict.Verdict.{Verdict}
+use Rattle.refusals.specs.declared.verdict.Verdict.the-variants.{Fine, Bad}
+use Rattle.refusals.specs.Day.{wholeBars, wholeFor}
+use Rattle.refusals.specs.Lines.{judged}
+use Rattle.refusals.specs.Rooms.{roomLines}
+use Rattle.engine.specs.Day.{cut, barsIn, barsFor, noBars, dayOf}
+use Rattle.engine.specs.Laws.Days.{cut-next, bars-none, whole-one, some-bars}
+use Rattle.engine.specs.Laws.Floats.{step-floats}
+use Rattle.engine.specs.Laws.Runs.{run-none, run-stops, run-takes}
+use Rattle.engine.specs.Run.{Run, runOver}
+use Rattle.engine.specs.Step.{answered, stepped, stepVerdict, stepAnswer}
+use Rattle.capi.specs.Bars.{StepLent, stepGives, stepCall}
+use Rattle.capi.specs.Call.{Call, answerWord, callOf, unlessBad}
+use Rattle.capi.specs.Day.{DayLent, dayLentLines, stateAfter, dayGives, dayCall, stepsCall}
+use Rattle.capi.specs.Joined.{first-agrees, words-fine, lent-fine, room-first, room-passed, calls-run}
+use Rattle.capi.specs.Laws.Calls.{refused-word}
+use Rattle.capi.specs.Laws.RunCalls.{step-small}
+use Rattle.capi.specs.WordRun.{WordRun, callsOver, answerOf, lentWith}
+
+-- a run in words, over a state's words as they were given
+abbrev pub fromWords : List ℕ → Run → WordRun
+fromWords state r = record { done = r .done; answer = answerOf (r .verdict); lent = record { state = stateAfter state (r .done) (r .state); rooms = r .rooms } }
+
+-- calls as one call gives them
+abbrev pub inOne : WordRun → Call DayLent
+inOne r = record { answer = r .answer; lent = record { state = r .lent .state; rooms = r .lent .rooms; done = r .done } }
+
+module _ (settings state : List ℕ) (set : settingWords ≤ length settings) (long : stateWords ≤ length state) (ls : Lists) (m : Rooms) where
+  abbrev s : Settings
+  s = settingsOf settings
+
+  abbrev t : State
+  t = stateOf state
+
+  abbrev given : StepLent
+  given = record { state = state; rooms = m }
+
+  -- ---- the first call
+
+  first-bad : (bar : List ℕ) (r : Refusal) → stepVerdict s t bar m ls ≡ Bad r
+      → stepCall settings state bar m ls ≡ record { answer = answerWord r; lent = given }
+  unfolding stepCall stepAnswer answered stepGives callOf
+  first-bad bar r e =
+      let again : _≡_ {A = Outcome StepLent} (unlessBad (judged (roomLines s (m .rows))) (refuses r)) (refuses r) =
+      first-agrees _ _ (λ q f. let same : Bad r ≡ Bad q = sym e ∙ room-first s t bar m ls q f in cc) in
+      rw (e, lent-fine settings state set long (m .rows), again)
+
+  first-fine : (bar : List ℕ) → stepVerdict s t bar m ls ≡ Fine →
+      (let d = stepped s t bar m ls in stepCall settings state bar m ls ≡ record { answer = 0; lent = lentWith state (d .result) (d .rooms) })
+  unfolding stepCall stepAnswer answered stepGives callOf unlessBad
+  first-fine bar e = rw (e, lent-fine settings state set long (m .rows), room-passed s t bar m ls e)
+
+  -- and those after it
+  calls-from : (bar : List ℕ) (bars : List (List ℕ)) → callsOver settings ls given (bar ∷ bars) ≡ fromWords state (runOver s ls t m (bar ∷ bars))
+  unfolding callsOver answerOf stateAfter
+  calls-from bar bars = go (stepVerdict s t bar m ls) refl
+    where
+      go : (v : Verdict) → stepVerdict s t bar m ls ≡ v → callsOver settings ls given (bar ∷ bars) ≡ fromWords state (runOver s ls t m (bar ∷ bars))
+      go (Bad r) e =
+          rw (first-bad bar r e, run-stops s ls t m bar bars r e, ne-eqb (answerWord r) 0 (refused-word r (step-small s t bar m ls r e)))
+      go Fine e =
+          let d = stepped s t bar m ls in
+          let later : Run = runOver s ls (d .result) (d .rooms) bars in
+          let some = ne-eqb (later .done + 1) 0 (λ (z : later .done + 1 ≡ 0). omega arith) in
+          rw (
+            first-fine bar e,
+            run-takes s ls t m bar bars e,
+            calls-run settings state set long ls bars (d .result) (d .rooms) (step-floats s t bar m ls (words-floats state)),
+            some,
+          )
+
+  -- ---- the call over many bars
+
+  no-bars : (bars : List ℕ) → length bars ≡ 0 → stepsCall settings state bars m ls ≡ inOne (callsOver settings ls given (barsIn (s .slots) bars))
+  unfolding dayCall dayLentLines noBars dayGives dayOf barsFor callsOver stateAfter answerOf
+  no-bars bars none = rw (none, words-fine settings state set long, bars-none (s .slots) bars none, run-none)
+
+  some-of : (bars bar : List ℕ) (more : List (List ℕ)) → 0 < length bars → barsIn (s .slots) bars ≡ bar ∷ more
+      → stepsCall settings state bars m ls ≡ inOne (callsOver settings ls given (barsIn (s .slots) bars))
+  unfolding dayCall dayLentLines noBars dayOf barsFor
+  some-of bars bar more some e =
+      let many = ne-eqb (length bars) 0 (λ (z : length bars ≡ 0). omega arith) in
+      rw (e, many, calls-from bar more, lent-fine settings state set long (m .rows)) (go (judged (roomLines s (m .rows))) refl)
+    where
+      go : (v : Verdict) → judged (roomLines s (m .rows)) ≡ v
+          → dayGives v state m (runOver s ls t m (bar ∷ more)) ≡ inOne (fromWords state (runOver s ls t m (bar ∷ more)))
+      go (Bad r) f = unfold dayGives stateAfter answerOf in rw (run-stops s ls t m bar more r (room-first s t bar m ls r f))
+      go Fine f = unfold dayGives in refl
+
+  -- ONE CALL IS A CALL FOR EACH BAR: the answer, how many did their work, the words of the state and of every room
+  pub steps-are-calls : (bars : List ℕ) → stepsCall settings state bars m ls ≡ inOne (callsOver settings ls given (barsIn (s .slots) bars))
+  steps-are-calls [] = no-bars [] refl
+  steps-are-calls (w ∷ ws) = go (wholeBars (s .slots) (w ∷ ws)) refl
+    where
+      K : ℕ
+      K = s .slots
+
+      go : (b : Bool) → wholeBars K (w ∷ ws) ≡ b → stepsCall settings state (w ∷ ws) m ls ≡ inOne (callsOver settings ls given (barsIn K (w ∷ ws)))
+      go true h =
+          let first = whole-one K (w ∷ ws) false (unfold noBars in refl) (unfold wholeFor in h) in
+          some-of (w ∷ ws) (take (barWords K) (w ∷ ws)) (cut (length (w ∷ ws) / barWords K - 1) (barWords K) (drop (barWords K) (w ∷ ws))) (omega arith)
+          (unfold barsIn in rw h (cut-next _ (barWords K) (w ∷ ws) (some-bars K (w ∷ ws) first)))
+      go false h = some-of (w ∷ ws) (w ∷ ws) [] (omega arith) (unfold barsIn in rw h)

@@ -1,0 +1,153 @@
+-- A bar of a call over many bars is a step that is judged by less; and a turn of the loop over them.
+use Prim.Native.Nat.{ℕ, _+_, _-_, _*_, _/_, _<_, _≤_}
+use mathlib.Core.Path.{_≡_, refl, sym, _∙_}
+use mathlib.Core.Bool.{Bool, true, _&&_}
+use mathlib.Core.List.{List, [], _∷_}
+use native.Mathlib.Omega.{arith}
+use borrow.Author.Tests.{leb-true}
+use lib.Dec.{leb}
+use lib.ListN.{length, take, drop, length-drop}
+use lib.Seq.{length-take-le}
+use Rattle.words.specs.Laws.Records.{record-ends}
+use Rattle.rows.specs.History.{width}
+use Rattle.rows.specs.Laws.Turned.{turned-none}
+use Rattle.rows.specs.Ring.{turned}
+use Rattle.words.specs.Limits.{barWords}
+use Rattle.words.specs.declared.refusal.Refusal.{Refusal}
+use Rattle.records.specs.declared.settings.Settings.{Settings}
+use Rattle.records.specs.declared.state.State.{State}
+use Rattle.records.specs.Lent.{Lists, Rooms, rooms, rowPlaces, pointPlaces, tradePlaces}
+use Rattle.refusals.specs.declared.verdict.Verdict.{Verdict}
+use Rattle.refusals.specs.declared.verdict.Verdict.the-variants.{Fine, Bad}
+use Rattle.refusals.specs.Day.{nextLines}
+use Rattle.refusals.specs.Judgement.{stepJudged}
+use Rattle.refusals.specs.Laws.Fine.{settings-fine}
+use Rattle.refusals.specs.Laws.Lines.{and-true, first-holds, fine-adds-nothing}
+use Rattle.refusals.specs.Laws.Steady.{next-judged}
+use Rattle.refusals.specs.Lines.{line, judged}
+use Rattle.refusals.specs.Lists.{listLines}
+use Rattle.refusals.specs.Rooms.{roomLines}
+use Rattle.engine.specs.declared.Advanced.{Advanced}
+use Rattle.engine.specs.declared.Answer.{Answer}
+use Rattle.engine.specs.declared.Answer.the-variants.{Refused, Done}
+use Rattle.engine.specs.Boxes.{SameLengths}
+use Rattle.engine.specs.Day.{Underway, cut, dayOf}
+use Rattle.engine.specs.InPlace.{RingAt, Turns}
+use Rattle.engine.specs.Laws.Days.{answerIn, day-one, stays-underway, After, after-none, nextBar, after-all, after-more, after-refused}
+use Rattle.engine.specs.Run.{runOver}
+use Rattle.engine.specs.Step.{Is, Ready, advanced, stepAnswer}
+use Rattle.engine.proofs.Phases.{ready, refused, went}
+
+-- ---- a bar
+
+module _ (s : Settings) (t : State) (bar : List ℕ) (m : Rooms) (ls : Lists) {v : Verdict} (whole : length bar ≡ barWords (s .slots))
+    (c : Underway s t m ls) (judges : v ≡ judged (nextLines (s .slots) (t .counts) bar (m .equity) (m .trades))) where
+  judged-so : stepJudged s t bar m ls ≡ v
+  judged-so = next-judged s t bar m ls (c .steady) whole ∙ (fine-adds-nothing _ (listLines (s .slots) (s .depth) ls) (c .lists) ∙ sym judges)
+
+  pub next-ready : v ≡ Fine → Ready s t
+  next-ready fine = ready s t bar m ls (judged-so ∙ fine)
+
+  pub next-refused : (why : Refusal) → v ≡ Bad why → Is Answer (stepAnswer s t bar m ls) (Refused why t) (m .rows) (m .equity) (m .trades)
+  next-refused why bad = refused s t bar m ls why (judged-so ∙ bad)
+
+  pub next-went : {one : Bool} {r : Advanced} {ws es us : List ℕ} → v ≡ Fine → Turns one s (advanced s t bar m ls) r ws es us
+      → Turns one s (stepAnswer s t bar m ls) r ws es us
+  next-went fine d = record { answer = went s t bar m ls (judged-so ∙ fine) _ _ _ _ (d .answer); at = d .at }
+
+-- ---- bar after bar
+
+-- what holds whenever the loop over the bars is at its test: so many are done, and the run goes on from here, over the room as it would stand
+pub record Turn (one : Bool) (s : Settings) (ls : Lists) (t₀ : State) (m₀ : Rooms) (bars : List ℕ) (done start : ℕ) (t : State) (rows equity trades : List ℕ)
+    : Type 0 where
+  pub within : done ≤ length bars / barWords (s .slots)
+  pub underway : Underway s t (rooms (turned (width (s .slots)) start rows) equity trades) ls
+  pub after : After s ls t₀ m₀ bars (length bars / barWords (s .slots)) (barWords (s .slots)) done t
+      (rooms (turned (width (s .slots)) start rows) equity trades)
+  pub at : RingAt one s t rows start
+  pub lengths : SameLengths m₀ (rooms rows equity trades)
+
+-- a room for D rows is a ring that begins at its first
+fresh-ring : (one : Bool) (s : Settings) (t : State) (m : Rooms) (ls : Lists) → Underway s t m ls → RingAt one s t (m .rows) 0
+fresh-ring one s t m ls c =
+    let fine = settings-fine s (c .steady .settings) in
+    let lines : judged (line (leb (s .depth) (rowPlaces (s .slots) (m .rows))) 10 0 ∷ []) ≡ Fine = unfold roomLines in c .steady .room in
+    let room : s .depth ≤ rowPlaces (s .slots) (m .rows) = leb-true _ _ (first-holds _ _ lines .0) in
+    let n = t .counts in
+    let rowed : Bool = leb (n .«rows_held») (rowPlaces (s .slots) (m .rows)) in
+    let pointed : Bool = leb (n .«equity_points») (pointPlaces (m .equity)) in
+    let both = and-true (rowed && pointed) (leb (n .trades) (tradePlaces (m .trades))) (c .steady .held) in
+    record {
+      ring = record { few = leb-true _ _ (and-true rowed pointed (both .0) .0); begins = λ h. refl; within = omega (arith, fine .depth, room) };
+      first = λ h. refl;
+    }
+
+pub begins : (one : Bool) (s : Settings) (ls : Lists) (t : State) (m : Rooms) (bars : List ℕ) → Underway s t m ls
+    → Turn one s ls t m bars 0 0 t (m .rows) (m .equity) (m .trades)
+begins one s ls t m bars c = record {
+  within = omega arith;
+  underway = rw turned-none c;
+  after = rw turned-none (after-none s ls t m bars _ _);
+  at = fresh-ring one s t m ls c;
+  lengths = record { rows = refl; equity = refl; trades = refl };
+}
+
+-- a bar within the list
+pub bar-ends : (K n done : ℕ) → done < n / barWords K → done * barWords K + barWords K ≤ n
+bar-ends K n done h = record-ends n (barWords K) (omega arith) done h
+
+module _ (one : Bool) (s : Settings) (ls : Lists) (t₀ : State) (m₀ : Rooms) (bars : List ℕ) (done start : ℕ) (t : State) (rows equity trades : List ℕ)
+    (c : Turn one s ls t₀ m₀ bars done start t rows equity trades) (more : done < length bars / barWords (s .slots)) where
+  -- the bar that the code takes: from its first word up to the next bar's
+  abbrev pub bar : List ℕ
+  bar = take (done * barWords (s .slots) + barWords (s .slots) - done * barWords (s .slots)) (drop (done * barWords (s .slots)) bars)
+
+  -- the rooms as they would stand
+  abbrev pub room : Rooms
+  room = rooms (turned (width (s .slots)) start rows) equity trades
+
+  same-bar : bar ≡ nextBar s ls t₀ m₀ bars (length bars / barWords (s .slots)) (barWords (s .slots)) done
+  same-bar = let w : done * barWords (s .slots) + barWords (s .slots) - done * barWords (s .slots) ≡ barWords (s .slots) = omega arith in rw w
+
+  pub bar-long : length bar ≡ barWords (s .slots)
+  bar-long =
+      let long : length (drop (done * barWords (s .slots)) bars) ≡ length bars - done * barWords (s .slots) = length-drop _ bars in
+      rw same-bar (length-take-le (barWords (s .slots)) _ (omega (arith, long, bar-ends (s .slots) (length bars) done more)))
+
+  module _ {r : Advanced} {ws es ts : List ℕ} (d : Turns one s (stepAnswer s t bar room ls) r ws es ts) where
+    pub one-more : {u : State} → r .answer ≡ Done u → length ws ≡ length rows → length es ≡ length equity → length ts ≡ length trades
+        → Turn one s ls t₀ m₀ bars (done + 1) (r .start) u ws es ts
+    one-more {u} e rowed pointed traded =
+        let went : Is Answer (stepAnswer s t bar room ls) (Done u) (turned (width (s .slots)) (r .start) ws) es ts = rw e at (d .answer) in
+        record {
+          within = omega arith;
+          underway = stays-underway s ls t room bar went (c .underway);
+          after = after-more s ls t₀ m₀ bars _ _ done more t room (c .after) (rw same-bar at went);
+          at = rw e at (d .at);
+          lengths = record { rows = rowed ∙ c .lengths .rows; equity = pointed ∙ c .lengths .equity; trades = traded ∙ c .lengths .trades };
+        }
+
+    pub stops : {why : Refusal} {u : State} → r .answer ≡ Refused why u
+        → runOver s ls t₀ m₀ (cut (length bars / barWords (s .slots)) (barWords (s .slots)) bars)
+        ≡ record { done = done; verdict = Bad why; state = u; rooms = rooms (turned (width (s .slots)) (r .start) ws) es ts }
+    stops {why} {u} e =
+        let went : Is Answer (stepAnswer s t bar room ls) (Refused why u) (turned (width (s .slots)) (r .start) ws) es ts = rw e at (d .answer) in
+        after-refused s ls t₀ m₀ bars _ _ done more t room (c .after) (rw same-bar at went)
+
+pub all-done : (one : Bool) (s : Settings) (ls : Lists) (t₀ : State) (m₀ : Rooms) (bars : List ℕ) (done start : ℕ) (t : State) (rows equity trades : List ℕ)
+    → Turn one s ls t₀ m₀ bars done start t rows equity trades → length bars / barWords (s .slots) ≤ done
+    → runOver s ls t₀ m₀ (cut (length bars / barWords (s .slots)) (barWords (s .slots)) bars)
+    ≡ record { done = done; verdict = Fine; state = t; rooms = rooms (turned (width (s .slots)) start rows) equity trades }
+all-done one s ls t₀ m₀ bars done start t rows equity trades c h = after-all s ls t₀ m₀ bars _ _ done h (c .after)
+
+-- ---- one bar
+
+module _ (s : Settings) (t : State) (bar : List ℕ) (m : Rooms) (ls : Lists) {n : ℕ} {v : Verdict} {u : State} {ws es ts : List ℕ}
+    (ran : dayOf true s t bar m ls ≡ record { done = n; verdict = v; state = u; rooms = rooms ws es ts }) where
+  pub one-refused : {why : Refusal} → v ≡ Bad why → Is Answer (stepAnswer s t bar m ls) (Refused why u) ws es ts
+  unfolding answerIn
+  one-refused bad = rw bad at (day-one s t bar m ls _ ran)
+
+  pub one-done : v ≡ Fine → Is Answer (stepAnswer s t bar m ls) (Done u) ws es ts
+  unfolding answerIn
+  one-done fine = rw fine at (day-one s t bar m ls _ ran)

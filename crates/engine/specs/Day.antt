@@ -1,0 +1,67 @@
+-- Request 3, a whole day in one call. "Take many bars at once. State, trades, equity and window afterwards equal calling once a bar. At the
+-- first bar that would be refused it stops: earlier bars stay done, and the answer gives the number, the place and how many were done."
+use Prim.Native.Nat.{ℕ, zero, suc, _/_}
+use mathlib.Core.Path.{_≡_}
+use mathlib.Core.Bool.{Bool, true, false, cond}
+use mathlib.Core.List.{List, [], _∷_}
+use lib.Dec.{eqb}
+use lib.ListN.{length, take, drop}
+use Rattle.words.specs.Limits.{barWords}
+use Rattle.records.specs.declared.settings.Settings.{Settings}
+use Rattle.records.specs.declared.state.State.{State}
+use Rattle.records.specs.Lent.{Lists, Rooms}
+use Rattle.refusals.specs.declared.verdict.Verdict.{Verdict}
+use Rattle.refusals.specs.declared.verdict.Verdict.the-variants.{Fine, Bad}
+use Rattle.refusals.specs.Day.{wholeBars}
+use Rattle.refusals.specs.Laws.Steady.{Steady}
+use Rattle.refusals.specs.Lines.{judged}
+use Rattle.refusals.specs.Lists.{listLines}
+use Rattle.words.specs.declared.refusal.Refusal.{Refusal}
+use Rattle.engine.specs.declared.day.Day.{Day}
+use Rattle.engine.specs.declared.day.Taken.{Taken}
+use Rattle.engine.specs.Run.{Run, runOver}
+
+-- the first n records of a list, each of w words
+unfoldable pub cut : ℕ → ℕ → List ℕ → List (List ℕ)
+cut zero w ws = []
+cut (suc n) w ws = take w ws ∷ cut n w (drop w ws)
+
+-- Decided: the bars are one list of records of 10 + K words. "13: .. a .. bar .. list is not whole records": it is judged as a step that is handed
+-- the list as its bar.
+unfoldable pub barsIn : ℕ → List ℕ → List (List ℕ)
+barsIn K bars = cond (wholeBars K bars) (cut (length bars / barWords K) (barWords K) bars) (bars ∷ [])
+
+-- a call of one bar takes the list as that bar
+unfoldable pub barsFor : Bool → ℕ → List ℕ → List (List ℕ)
+barsFor true K bars = bars ∷ []
+barsFor false K bars = barsIn K bars
+
+-- a call of many that is handed none
+unfoldable pub noBars : Bool → List ℕ → Bool
+noBars true bars = false
+noBars false bars = eqb (length bars) 0
+
+-- a step for each bar, over the state and the rooms that the one before left
+unfoldable pub dayOf : Bool → Settings → State → List ℕ → Rooms → Lists → Run
+dayOf one s t bars m ls = runOver s ls t m (barsFor one (s .slots) bars)
+
+-- what a call gives and leaves
+abbrev pub runWith : Day → Rooms → Run
+runWith d m = record { done = d .done; verdict = d .verdict; state = d .state; rooms = m }
+
+abbrev pub takenWith : Taken → Rooms → Run
+takenWith d m = record { done = d .done; verdict = d .verdict; state = d .state; rooms = m }
+
+-- a call whose first bar is refused
+abbrev pub stopped : State → Refusal → Day
+stopped t why = record { done = 0; verdict = Bad why; state = t }
+
+-- 15 comes last: where the first bar is refused with another number, that is given
+unfoldable pub unlistedBy : Verdict → State → Refusal → Day
+unlistedBy (Bad why) t fifteen = stopped t why
+unlistedBy Fine t fifteen = stopped t fifteen
+
+-- what was looked at once, and stays fine from bar to bar: what Steady says, and the lists
+pub record Underway (s : Settings) (t : State) (m : Rooms) (ls : Lists) : Type 0 where
+  pub steady : Steady s t m
+  pub lists : judged (listLines (s .slots) (s .depth) ls) ≡ Fine

@@ -1,0 +1,168 @@
+-- Rows that do not move are read, and added to, as if they did.
+use Prim.Native.Nat.{ℕ, _/_}
+use mathlib.Core.Path.{_≡_, refl, ap}
+use mathlib.Core.Bool.{Bool, true, false, cond}
+use mathlib.Core.List.{List}
+use native.Mathlib.Omega.{arith}
+use borrow.Author.Tests.{eqb-true}
+use lib.Dec.{eqb}
+use lib.Ieee.{Float}
+use lib.ListN.{length}
+use Rattle.rows.specs.declared.ring.Ring.{Ring}
+use Rattle.rows.specs.History.{historyOf, width, lastRows}
+use Rattle.rows.specs.Laws.Ring.{RingFine, ring-adds, ring-none, held-turned}
+use Rattle.rows.specs.Laws.Turned.{turned-none}
+use Rattle.rows.specs.Ring.{ringOf, turned}
+use Rattle.rows.specs.Room.{withRow, heldWith}
+use Rattle.rules.specs.declared.PositionState.{PositionState}
+use Rattle.portfolio.specs.declared.Candle.{Candle}
+use Rattle.execution.specs.RingEntry.{entry-turned}
+use Rattle.steps.specs.declared.Formed.{Formed}
+use Rattle.steps.specs.declared.Formed.the-variants.{Well, Bad}
+use Rattle.steps.specs.declared.Ran.{Ran}
+use Rattle.steps.specs.AnyList.{ring-any}
+use Rattle.steps.specs.WellFormed.{formed}
+use Rattle.records.specs.declared.settings.Settings.{Settings}
+use Rattle.records.specs.declared.state.Order.{Order}
+use Rattle.records.specs.declared.state.Position.{Position}
+use Rattle.records.specs.Lent.{Lists}
+use Rattle.refusals.specs.declared.verdict.Verdict.the-variants.{Fine}
+use Rattle.refusals.specs.Laws.Lines.{first-holds}
+use Rattle.refusals.specs.Lines.{judged}
+use Rattle.refusals.specs.Lists.{isWell, listLines}
+use Rattle.engine.specs.declared.account.Due.{Due}
+use Rattle.engine.specs.declared.account.Due.the-variants.{Waits, Enters, Leaves}
+use Rattle.engine.specs.Account.{entered, dueOf, doneOf, filled}
+use Rattle.engine.specs.Decide.{listSays, answersOf, stateAt, decided}
+use Rattle.engine.specs.InPlace.{keptRing, keptRoom, readFrom, decidedFrom}
+use Rattle.engine.specs.Laws.Lengths.{row-long, row-fits}
+use Rattle.engine.specs.Record.{rowOf, heldRows}
+
+-- ---- lists
+
+well : (f : Formed) → isWell f ≡ true → f ≡ Well
+well Well e = refl
+well (Bad p) e = absurd (let z : _≡_ {A = ℕ} 0 1 = cc in omega arith)
+
+-- the four lists of a call, each well formed
+record AllWell (K D : ℕ) (ls : Lists) : Type 0 where
+  entry : formed K D (ls .entry) ≡ Well
+  «exit» : formed K D (ls .«exit») ≡ Well
+  «short_entry» : formed K D (ls .«short_entry») ≡ Well
+  «short_exit» : formed K D (ls .«short_exit») ≡ Well
+
+all-well : (K D : ℕ) (ls : Lists) → judged (listLines K D ls) ≡ Fine → AllWell K D ls
+unfolding listLines
+all-well K D ls h =
+    let a = first-holds _ _ h in
+    let b = first-holds _ _ (a .1) in
+    let c = first-holds _ _ (b .1) in
+    let d = first-holds _ _ (c .1) in
+    record { entry = well _ (a .0); «exit» = well _ (b .0); «short_entry» = well _ (c .0); «short_exit» = well _ (d .0) }
+
+-- ---- reading
+
+filled-turned : (K start : ℕ) (ws : List ℕ) (due : Due) (s : Settings) (p : Position) (k : Candle) (n : ℕ)
+    → doneOf due s p k (ringOf K start ws) n ≡ doneOf due s p k (historyOf K (turned (width K) start ws)) n
+unfolding doneOf entered
+filled-turned K start ws (Waits o) s p k n = refl
+filled-turned K start ws (Enters side kind price) s p k n = rw (entry-turned K start ws)
+filled-turned K start ws Leaves s p k n = refl
+
+says-turned : (K D start : ℕ) (ws list : List ℕ) (st : PositionState) → formed K D list ≡ Well
+    → listSays (ringOf K start ws) st list ≡ listSays (historyOf K (lastRows K D (turned (width K) start ws))) st list
+unfolding listSays
+says-turned K D start ws list st w = ap (λ (r : Ran). r .answer) (ring-any K D start ws list st w)
+
+module _ (s : Settings) (ls : Lists) (fine : judged (listLines (s .slots) (s .depth) ls) ≡ Fine) where
+  answers-turned : (start : ℕ) (ws : List ℕ) (st : PositionState)
+      → answersOf (ringOf (s .slots) start (readFrom (s .slots) (s .depth) start ws)) st ls
+      ≡ answersOf (historyOf (s .slots) (lastRows (s .slots) (s .depth) (turned (width (s .slots)) start ws))) st ls
+  unfolding answersOf readFrom
+  answers-turned start ws st = go (eqb start 0) refl
+    where
+      K : ℕ
+      K = s .slots
+
+      D : ℕ
+      D = s .depth
+
+      go : (b : Bool) → eqb start 0 ≡ b
+          → answersOf (ringOf K start (cond b (lastRows K D ws) ws)) st ls ≡ answersOf (historyOf K (lastRows K D (turned (width K) start ws))) st ls
+      go true e = rw (eqb-true start 0 e, turned-none, ring-none)
+      go false e =
+          let w = all-well K D ls fine in
+          unfold answersOf in
+          rw (
+            says-turned K D start ws (ls .entry) st (w .entry),
+            says-turned K D start ws (ls .«exit») st (w .«exit»),
+            says-turned K D start ws (ls .«short_entry») st (w .«short_entry»),
+            says-turned K D start ws (ls .«short_exit») st (w .«short_exit»),
+          )
+
+module _ (s : Settings) (rows : List ℕ) (held start : ℕ) (ok : RingFine (length rows / width (s .slots)) (record { held = held; start = start })) where
+  -- the rows held, as they would stand
+  held-in-place : heldRows (s .slots) held (turned (width (s .slots)) start rows) ≡ turned (width (s .slots)) start (heldRows (s .slots) held rows)
+  unfolding heldRows
+  held-in-place = held-turned (width (s .slots)) (record { held = held; start = start }) rows (omega arith) ok
+
+  -- THE FILL over rows that did not move
+  pub fill-in-place : (o : Order) (p : Position) (k : Candle) (n : ℕ)
+      → filled s o p k (ringOf (s .slots) start (heldRows (s .slots) held rows)) n
+      ≡ filled s o p k (historyOf (s .slots) (heldRows (s .slots) held (turned (width (s .slots)) start rows))) n
+  unfolding filled
+  fill-in-place o p k n = rw held-in-place (filled-turned (s .slots) start (heldRows (s .slots) held rows) (dueOf o k) s p k n)
+
+  -- WHAT IS DECIDED over them
+  pub decide-in-place : (ls : Lists) → judged (listLines (s .slots) (s .depth) ls) ≡ Fine → (o : Order) (p : Position) (n : ℕ) (close : Float)
+      → decidedFrom s o p n close start (heldRows (s .slots) held rows) ls
+      ≡ decided s o p n close (heldRows (s .slots) held (turned (width (s .slots)) start rows)) ls
+  unfolding decidedFrom decided
+  decide-in-place ls fine o p n close = rw (held-in-place, answers-turned s ls fine start (heldRows (s .slots) held rows) (stateAt p n))
+
+-- ---- writing
+
+-- A row more, kept in place: turned, the room is what it was, turned, with that row added.
+pub record Keeps (one : Bool) (K : ℕ) (room : List ℕ) (held start : ℕ) (bar : List ℕ) : Type 0 where
+  pub turns : turned (width K) (keptRing one room held start (rowOf K bar) .start) (keptRoom one room held start (rowOf K bar))
+      ≡ withRow (turned (width K) start room) held (rowOf K bar)
+  pub holds : keptRing one room held start (rowOf K bar) .held ≡ heldWith (turned (width K) start room) held (rowOf K bar)
+  pub fine : RingFine (length (keptRoom one room held start (rowOf K bar)) / width K) (keptRing one room held start (rowOf K bar))
+  pub first : one ≡ true → keptRing one room held start (rowOf K bar) .start ≡ 0
+
+pub keeps : (one : Bool) (K : ℕ) (room : List ℕ) (held start : ℕ) (bar : List ℕ) → RingFine (length room / width K) (record { held = held; start = start })
+    → (one ≡ true → start ≡ 0) → Keeps one K room held start bar
+unfolding keptRing keptRoom
+keeps true K room held start bar ok first =
+    let fits = row-fits K room held bar in
+    let zero : start ≡ 0 = first refl in
+    record {
+      turns = rw (zero, turned-none, turned-none);
+      holds = rw (zero, turned-none);
+      fine = rw (fits .1) (record { few = fits .0; begins = λ h. refl; within = omega (arith, ok .within) });
+      first = λ h. refl;
+    }
+keeps false K room held start bar ok first =
+    let w : length (rowOf K bar) ≡ width K = row-long K bar in
+    let a = ring-adds room (record { held = held; start = start }) (rowOf K bar) (omega (arith, w)) (rw w ok) in
+    record {
+      turns = rw w at (a .turns);
+      holds = rw w at (a .holds);
+      fine = rw w at (a .fine);
+      first = λ h. absurd (let z : _≡_ {A = ℕ} 0 1 = cc in omega arith);
+    }
+
+-- as the code leaves the ring and the room
+pub record Placed (one : Bool) (K : ℕ) (room : List ℕ) (held start : ℕ) (bar : List ℕ) (kept : Ring) (rows : List ℕ) : Type 0 where
+  pub holds : kept .held ≡ heldWith (turned (width K) start room) held (rowOf K bar)
+  pub turns : turned (width K) (kept .start) rows ≡ withRow (turned (width K) start room) held (rowOf K bar)
+  pub ring : RingFine (length rows / width K) (record { held = kept .held; start = kept .start })
+  pub first : one ≡ true → kept .start ≡ 0
+
+pub placed : (one : Bool) (K : ℕ) (room : List ℕ) (held start : ℕ) (bar : List ℕ) → RingFine (length room / width K) (record { held = held; start = start })
+    → (one ≡ true → start ≡ 0) → {kept : Ring} {rows : List ℕ} → kept ≡ keptRing one room held start (rowOf K bar)
+    → rows ≡ keptRoom one room held start (rowOf K bar)
+    → Placed one K room held start bar kept rows
+placed one K room held start bar ok first is was =
+    let k = keeps one K room held start bar ok first in
+    rw (is, was) (record { holds = k .holds; turns = k .turns; ring = k .fine; first = k .first })

@@ -1,0 +1,32 @@
+-- A whole day in one call (request 3): what is looked at once for all of its bars, and what is looked at for each.
+use Prim.Native.Nat.{ℕ, _%_}
+use mathlib.Core.Bool.{Bool, true, false}
+use mathlib.Core.List.{List, [], _∷_, _++_}
+use lib.ListN.{length}
+use lib.Dec.{eqb}
+use Rattle.words.specs.Limits.{barWords}
+use Rattle.records.specs.declared.settings.Settings.{Settings}
+use Rattle.records.specs.declared.state.Counts.{Counts}
+use Rattle.records.specs.declared.state.State.{State}
+use Rattle.records.specs.Lent.{Rooms}
+use Rattle.refusals.specs.Lines.{Line, line}
+use Rattle.refusals.specs.Bar.{barLines}
+use Rattle.refusals.specs.Rooms.{countsFine, roomLines, stateLines, placeLines}
+use Rattle.refusals.specs.Settings.{settingLines}
+
+-- "13: .. a .. bar .. list is not whole records": of 10 + K words each
+unfoldable pub wholeBars : ℕ → List ℕ → Bool
+wholeBars K bars = eqb (length bars % barWords K) 0
+
+-- A call that takes one bar is handed exactly one record.
+unfoldable pub wholeFor : Bool → ℕ → List ℕ → Bool
+wholeFor true K bars = eqb (length bars) (barWords K)
+wholeFor false K bars = wholeBars K bars
+
+-- Once: 10, 12 and 13, of the rooms, the settings, the state and the list of bars.
+unfoldable pub dayLines : Bool → Settings → State → List ℕ → Rooms → List Line
+dayLines one s t bars m = roomLines s (m .rows) ++ (settingLines s ++ (stateLines s t m ++ (line (wholeFor one (s .slots) bars) 13 0 ∷ [])))
+
+-- For each bar: 13 of the counts, which grow, 14, and 11.
+unfoldable pub nextLines : ℕ → Counts → List ℕ → List ℕ → List ℕ → List Line
+nextLines K n bar equity trades = line (countsFine n) 13 0 ∷ (placeLines n equity trades ++ barLines K bar (n .«bars_seen»))
