@@ -1,0 +1,4 @@
+pub mod Leaves
+pub mod Showing
+pub mod Going
+pub mod Walking
