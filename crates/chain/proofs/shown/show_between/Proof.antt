@@ -19,12 +19,18 @@ show-between-spec =
     (λ c κs. search needs)
     (λ c κs. search needs)
     (λ c κs. search needs)
-    (λ c. 
+    (λ c.
     let o = c .before .before .before .before in
     let z = o .before in
     let y = z .before in
     let x = y .before in
     let m = x .before in
-    rw (← m .before .two-missing .ensures, ← m .first-missing .ensures, ← x .eval-operand .ensures, ← y .eval-operand2 .ensures,
-    ← z .eval-operand3 .ensures, ← o .or-else .ensures)
+    rw (
+      ← m .before .two-missing .ensures,
+      ← m .first-missing .ensures,
+      ← x .eval-operand .ensures,
+      ← y .eval-operand2 .ensures,
+      ← z .eval-operand3 .ensures,
+      ← o .or-else .ensures,
+    )
     (three-shown _ _ _ _ _ _ _ _ (c .before .before .before .value-word .ensures) (c .before .before .value-word2 .ensures) (c .before .value-word3 .ensures) (c .leaf-or .ensures))))

@@ -30,7 +30,7 @@ first-with-spec =
     (λ c κs. search needs)
     (λ c. omega arith)
     (λ c. omega arith)
-    (λ c. 
+    (λ c.
     let d = c .before in
     let l = d .before .before .before in
     rw (c .end-in .ensures) (l .loop .inv ∙ first-not _ _ _ _ _ _ (d .before .before .loop-test .taken) (d .before .eval-condition .ensures) (d .if1 .left)))

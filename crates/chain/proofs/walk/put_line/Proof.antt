@@ -18,6 +18,6 @@ put-line-spec =
     (λ c. search needs)
     (λ c κs. search needs)
     (λ c. search needs)
-    (λ c. 
+    (λ c.
     let line = c .before .before .before .before .before in
     rw (← line .before .show .ensures, ← line .before .before .eval-condition .ensures, ← line .line-of .ensures) (c .before .before .put .ensures)))
