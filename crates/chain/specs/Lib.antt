@@ -6,3 +6,6 @@ pub mod Explained
 pub mod Flat
 -- ---- laws of the definitions
 pub mod Laws
+-- ---- THE THEOREMS: no other chain, the lines are true, the window
+pub mod Chained
+pub mod Window
