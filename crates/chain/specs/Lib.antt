@@ -2,6 +2,7 @@
 pub mod Missing
 pub mod Chain
 pub mod Lines
+pub mod Looks
 pub mod Explained
 pub mod Flat
 -- ---- laws of the definitions
@@ -9,3 +10,4 @@ pub mod Laws
 -- ---- THE THEOREMS: no other chain, the lines are true, the window
 pub mod Chained
 pub mod Window
+pub mod Truth
