@@ -1,0 +1,7 @@
+pub mod Layout
+pub mod Order
+pub mod Reading
+pub mod Refused
+pub mod Dumping
+pub mod Restoring
+pub mod Laws
