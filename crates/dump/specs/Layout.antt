@@ -1,8 +1,10 @@
 -- The image: the bytes that a state and its window are written as. Definitions only.
 use Prim.Native.Nat.{ℕ, _+_, _-_, _*_, _/_, _%_}
+use mathlib.Core.Bool.{cond, _&&_}
 use mathlib.Core.List.{List, [], _∷_, _++_}
+use lib.Dec.{leb}
 use lib.ListN.{length, replicate}
-use Rattle.words.specs.Limits.{rowWords}
+use Rattle.words.specs.Limits.{rowWords, mostSlots, mostRows}
 use Rattle.words.specs.Words.{word}
 use Rattle.rows.specs.History.{lastRows}
 use Rattle.steps.specs.Bytes.{two, four, eight}
@@ -22,6 +24,10 @@ bodyBytes K D = D * (8 * rowWords K)
 -- "The size is 256 + D·8·(7 + K) bytes, always"
 unfoldable pub dumpBytes : ℕ → ℕ → ℕ
 dumpBytes K D = headBytes + bodyBytes K D
+
+-- for a D and a K that are given: 0 where no settings have them
+unfoldable pub sizeFor : ℕ → ℕ → ℕ
+sizeFor K D = cond (leb K mostSlots && (leb 1 D && leb D mostRows)) (dumpBytes K D) 0
 
 -- a number's lowest byte; `two`, `four` and `eight` are its lowest bytes, the lowest first
 abbrev pub single : ℕ → List ℕ

@@ -5,3 +5,5 @@ pub mod Refused
 pub mod Dumping
 pub mod Restoring
 pub mod Laws
+pub mod Cut
+pub mod Pages

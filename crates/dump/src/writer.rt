@@ -2,6 +2,8 @@
 use crate::bytes::lay;
 use records::settings::Settings;
 use records::state::State;
+use words::limits::MOST_ROWS;
+use words::limits::MOST_SLOTS;
 use words::limits::ROW_FIXED;
 use words::limits::STATE_WORDS;
 ghost use mathlib.Core.Path.{_≡_};
@@ -12,7 +14,7 @@ ghost use Rattle.words.specs.Limits.{mostSlots, mostRows, stateWords};
 ghost use Rattle.rows.specs.History.{lastRows};
 ghost use Rattle.records.specs.Lent.{rowPlaces};
 ghost use Rattle.engine.specs.Record.{heldRows};
-ghost use Rattle.dump.specs.Layout.{bodyBytes, imageOf};
+ghost use Rattle.dump.specs.Layout.{bodyBytes, sizeFor, imageOf};
 ghost use Rattle.dump.specs.Order.{written};
 ghost use Rattle.dump.specs.Laws.Packed.{headWords};
 ghost use Rattle.dump.specs.Laws.InOrder.{clip, partLaid, inOrder};
@@ -115,6 +117,22 @@ fn body_bytes(slots: usize, depth: usize) -> usize
     ensures { λ r. ⌜ r ≡ bodyBytes slots depth ⌝ }
 {
     depth * (8 * (ROW_FIXED + slots))
+}
+
+// The size of an image, for a D and a K; 0 where no settings have them.
+pub fn dump_bytes(slots: usize, depth: usize) -> usize
+    ensures { λ r. ⌜ r ≡ sizeFor slots depth ⌝ }
+{
+    if MOST_SLOTS < slots {
+        return 0;
+    }
+    if depth < 1 {
+        return 0;
+    }
+    if MOST_ROWS < depth {
+        return 0;
+    }
+    HEAD_BYTES + body_bytes(slots, depth)
 }
 
 // Of the rows that a room holds the last D, or all where there are fewer.

@@ -64,3 +64,8 @@ stretch-on image area from n zero = rw (add-zero n)
 stretch-on image area from n (suc m) =
     let place : from + n + m ≡ from + (n + m) = omega arith in
     rw (add-suc n m, stretch-on image area from n m, place)
+
+pub stretch-length : (image area : List ℕ) (from n : ℕ) → length (stretch image area from n) ≡ length area
+unfolding stretch
+stretch-length image area from zero = refl
+stretch-length image area from (suc n) = simp length-set (stretch-length image area from n)
