@@ -6,6 +6,7 @@
 #![deny(unsafe_code)]
 
 mod bar;
+mod bars;
 mod calls;
 mod engine;
 mod error;
@@ -19,6 +20,7 @@ mod state;
 mod table;
 
 pub use bar::{Bar, Funding, Rows};
+pub use bars::{Bars, Done};
 pub use engine::Engine;
 pub use error::Error;
 pub use refusal::Refusal;
