@@ -3,6 +3,8 @@
 pub mod compile;
 pub mod depth;
 pub mod holdup;
+pub mod manual;
+pub mod run;
 pub mod short;
 pub mod show;
 
