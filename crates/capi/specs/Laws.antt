@@ -3,3 +3,4 @@ pub mod Calls
 pub mod TablePlaces
 pub mod TableCalls
 pub mod RunCalls
+pub mod WhyCalls

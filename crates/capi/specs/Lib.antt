@@ -1,6 +1,7 @@
 pub mod Call
 pub mod Tables
 pub mod Run
+pub mod Why
 pub mod Fresh
 pub mod Bars
 pub mod Finish

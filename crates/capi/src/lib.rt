@@ -5,3 +5,4 @@ pub mod figures;
 pub mod run;
 pub mod state;
 pub mod tables;
+pub mod why;

@@ -10,7 +10,12 @@ use rules::RuleAnswer;
 use steps::RunAnswer;
 use words::limits::TREES;
 
-fn position_state(qty: u64, entered: u64, entry_bar: u64, bars_seen: u64) -> PositionState
+pub(crate) fn position_state(
+    qty: u64,
+    entered: u64,
+    entry_bar: u64,
+    bars_seen: u64,
+) -> PositionState
     ensures { λ r. ⌜ r ≡ positionState qty entered «entry_bar» «bars_seen» ⌝ }
 {
     PositionState {

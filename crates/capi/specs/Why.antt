@@ -1,0 +1,23 @@
+-- The call that says why a rule said yes or no. Definitions only.
+use Prim.Native.Nat.{ℕ}
+use mathlib.Core.List.{List}
+use Rattle.words.specs.Outcome.{Outcome, gives, refuses}
+use Rattle.rules.specs.declared.PositionState.{PositionState}
+use Rattle.chain.specs.declared.Explained.{Explained}
+use Rattle.chain.specs.declared.Explained.the-variants.{Lines, Refuses}
+use Rattle.chain.specs.Explained.{explanation, explained, linesAfter}
+use Rattle.capi.specs.Call.{Call, callOf}
+
+-- ---- lent: how many lines there are, and the list of lines
+pub record WhyLent : Type 0 where
+  pub count : ℕ
+  pub lines : List ℕ
+
+unfoldable pub whyGives : Explained → List ℕ → Outcome WhyLent
+whyGives (Refuses why) lines = refuses why
+whyGives (Lines many) lines = gives (record { count = many; lines = lines })
+
+unfoldable pub whyCall : List ℕ → ℕ → List ℕ → PositionState → WhyLent → Call WhyLent
+whyCall table tree rows position before =
+    let answer = explained table tree rows position (before .lines) in
+    callOf (whyGives answer (linesAfter answer (explanation table tree rows position) (before .lines))) before

@@ -1,0 +1,5 @@
+pub mod Leaves
+pub mod Showing
+pub mod Going
+pub mod Walking
+pub mod Explaining

@@ -1,0 +1,34 @@
+-- The lines that a walk has written. Assumes nothing.
+use Prim.Native.Nat.{ℕ, _+_, _-_, _*_}
+use mathlib.Core.Path.{_≡_, sym, _∙_}
+use mathlib.Core.List.{List}
+use native.Mathlib.Omega.{arith}
+use lib.ListN.{length}
+use Rattle.words.specs.Words.{overwrite}
+use Rattle.rows.specs.History.{History}
+use Rattle.rules.specs.declared.PositionState.{PositionState}
+use Rattle.rules.specs.Flat.{conditionAt}
+use Rattle.chain.specs.declared.Next.{Next}
+use Rattle.chain.specs.declared.Next.the-variants.{Stop, Node}
+use Rattle.chain.specs.Chain.{lineOf, chain}
+use Rattle.chain.specs.Lines.{lineWords, putLines}
+use Rattle.chain.specs.Flat.{byEnds, nextAt}
+use Rattle.chain.specs.Laws.Steps.{chain-stops, chain-goes}
+
+module _ (t ends : List ℕ) (h : History) (s : PositionState) (bar left i at : ℕ) (before after : List ℕ) (next : Next)
+    (wrote : after ≡ overwrite before (8 * at) (lineWords (lineOf (byEnds ends) h s (conditionAt left t ends i) i bar)))
+    (found : next ≡ nextAt left t ends h s i bar) where
+  -- the node's line is the last
+  pub walked-one : next ≡ Stop
+      → (at + 1 ≡ at + length (chain (byEnds ends) h s (conditionAt left t ends i) i bar))
+      × (after ≡ putLines before at (chain (byEnds ends) h s (conditionAt left t ends i) i bar))
+  unfolding putLines
+  walked-one e = rw (chain-stops t ends h s bar left i (sym found ∙ e)) (omega arith, wrote)
+
+  -- lines follow it
+  pub walked-on : (j r : ℕ) (last : List ℕ) → next ≡ Node j → r ≡ at + 1 + length (chain (byEnds ends) h s (conditionAt (left - 1) t ends j) j bar)
+      → last ≡ putLines after (at + 1) (chain (byEnds ends) h s (conditionAt (left - 1) t ends j) j bar)
+      → (r ≡ at + length (chain (byEnds ends) h s (conditionAt left t ends i) i bar))
+      × (last ≡ putLines before at (chain (byEnds ends) h s (conditionAt left t ends i) i bar))
+  unfolding putLines
+  walked-on j r last e many put = rw (chain-goes t ends h s bar left i j (sym found ∙ e)) (omega arith, rw wrote at put)

@@ -1,0 +1,6 @@
+pub mod Shapes
+pub mod Steps
+pub mod Spaced
+pub mod Numbered
+pub mod Lines
+pub mod Short

@@ -1,0 +1,71 @@
+-- How many lines there can be. Assumes nothing.
+use Prim.Native.Nat.{ℕ, _+_, _≤_, _<_, max}
+use mathlib.Core.Path.{_≡_, refl}
+use mathlib.Core.Bool.{Bool, true, false, cond, Bool·beq}
+use mathlib.Core.List.{List, []}
+use native.Mathlib.Omega.{arith}
+use lib.Dec.{leb, eqb}
+use lib.ListN.{length}
+use borrow.Author.Tests.{leb-false, eqb-false}
+use Rattle.words.specs.Limits.{trees}
+use Rattle.rows.specs.History.{History, historyOf}
+use Rattle.table.specs.declared.answer.Answer.the-variants.{Accepted}
+use Rattle.table.specs.Bytes.{Bytes}
+use Rattle.table.specs.Header.{slots, count, root}
+use Rattle.table.specs.Checked.{checked}
+use Rattle.table.specs.Reading.{treeOf}
+use Rattle.table.specs.Trees.{Condition, Conditions, compare, cross, between, trend, every, any, negated, inPosition, barsSince, none, more}
+use Rattle.table.specs.Writing.{nodesOf}
+use Rattle.table.specs.Limits.{levelsOf, levelsOfAll}
+use Rattle.table.specs.Laws.AcceptedWithin.{tree-within}
+use Rattle.rules.specs.declared.PositionState.{PositionState}
+use Rattle.rules.specs.Meaning.{newest, holds}
+use Rattle.chain.specs.Missing.{Numbering, inTable}
+use Rattle.chain.specs.Chain.{Line, chain, firstWith}
+use Rattle.chain.specs.Explained.{explanation}
+
+picked : (b : Bool) (xs ys : List Line) (m n : ℕ) → length xs ≤ m → length ys ≤ n → length (cond b xs ys) ≤ max m n
+picked true xs ys m n p q = omega arith
+picked false xs ys m n p q = omega arith
+
+module _ (after : Numbering) (h : History) (s : PositionState) (bar : ℕ) where
+  mutual
+    unfolding chain levelsOf
+
+    -- a chain has at most a line a level
+    pub chain-short : (c : Condition) (i : ℕ) → length (chain after h s c i bar) ≤ levelsOf c
+    chain-short (compare kind a b) i = omega arith
+    chain-short (cross kind a b) i = omega arith
+    chain-short (between x low high) i = omega arith
+    chain-short (trend kind a n) i = omega arith
+    chain-short (every cs) i = omega (arith, first-short false cs (i + 1))
+    chain-short (any cs) i = omega (arith, first-short true cs (i + 1))
+    chain-short (negated c) i = omega (arith, chain-short c (i + 1))
+    chain-short (inPosition wanted) i = omega arith
+    chain-short (barsSince selector k) i = omega arith
+
+    first-short : (answer : Bool) (cs : Conditions) (j : ℕ) → length (firstWith after h s answer cs j bar) ≤ levelsOfAll cs
+    first-short answer none j = omega arith
+    first-short answer (more c cs) j =
+        picked (Bool·beq (holds h s c bar) answer) (chain after h s c j bar) (firstWith after h s answer cs (after j (nodesOf c)) bar) (levelsOf c) (levelsOfAll cs)
+        (chain-short c j) (first-short answer cs (after j (nodesOf c)))
+
+-- AT MOST 32 LINES: "10 if the lent list holds fewer than 32 lines" asks for enough.
+pub few-lines : (t : List ℕ) → Bytes t → (n r : ℕ) → checked t ≡ Accepted n r → (x : ℕ) (rows : List ℕ) (s : PositionState)
+    → length (explanation t x rows s) ≤ 32
+unfolding explanation
+few-lines t small n r ok x rows s = high (leb trees x) refl
+  where
+    h : History
+    h = historyOf (slots t) rows
+
+    low : (b : Bool) → eqb (count t x) 0 ≡ b → x < 4 → length (cond b [] (chain inTable h s (treeOf t x) (root t x) (newest h))) ≤ 32
+    low true e l = omega arith
+    low false e l =
+        let w = tree-within t small n r ok x l (omega (arith, eqb-false (count t x) 0 e)) in
+        omega (arith, w .nesting, chain-short inTable h s (newest h) (treeOf t x) (root t x))
+
+    high : (b : Bool) → leb trees x ≡ b
+        → length (cond b [] (cond (eqb (count t x) 0) [] (chain inTable h s (treeOf t x) (root t x) (newest h)))) ≤ 32
+    high true e = omega arith
+    high false e = low (eqb (count t x) 0) refl (leb-false trees x e)

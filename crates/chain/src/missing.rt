@@ -1,0 +1,80 @@
+// The first missing leaf of an operand, over the flat table. `left` is how many levels of nesting are left, the operand's own
+// counted.
+use super::Found;
+use rules::Value;
+use rules::operands::eval_operand;
+use rules::shapes;
+use rules::shapes::OperandShape;
+ghost use mathlib.Core.Path.{_≡_};
+ghost use Rattle.rows.specs.History.{historyOf};
+ghost use Rattle.rules.specs.Flat.{operandAt};
+ghost use Rattle.chain.specs.Missing.{Near, leafGone, missingIn};
+ghost use Rattle.chain.specs.Missing as Missing;
+ghost use Rattle.chain.specs.Flat.{byEnds};
+
+// The one of the two that comes first.
+pub(crate) fn or_else(first: Found, second: Found) -> Found
+    ensures { λ r. ⌜ r ≡ Missing.orElse first second ⌝ }
+{
+    match first {
+        Found::Leaf(node, back) => Found::Leaf(node, back),
+        Found::Nowhere => second,
+    }
+}
+
+// Node i, a leaf, where it is missing `back` bars before `bar`.
+fn leaf_gone(
+    t: &[u8],
+    ends: &[usize; 256],
+    rows: &[u64],
+    slots: usize,
+    i: usize,
+    bar: usize,
+    back: usize,
+    left: usize,
+) -> Found
+    ensures { λ r. ⌜ r ≡ leafGone (historyOf slots (now (rows .entry))) (operandAt left (now (t .entry)) (now (ends .entry)) i) i bar back ⌝ }
+{
+    if bar < back {
+        return Found::Leaf(i, back);
+    }
+    match eval_operand(t, ends, rows, slots, i, bar - back, left) {
+        Value::Missing => Found::Leaf(i, back),
+        Value::Number(_) => Found::Nowhere,
+    }
+}
+
+// The first missing leaf of the operand at node i, looked at `back` bars before `bar`.
+pub(crate) fn first_missing(
+    t: &[u8],
+    ends: &[usize; 256],
+    rows: &[u64],
+    slots: usize,
+    i: usize,
+    bar: usize,
+    back: usize,
+    left: usize,
+) -> Found
+    requires { ⌜ Near back left ⌝ }
+    ensures { λ r. ⌜ r ≡ missingIn (byEnds (now (ends .entry))) (historyOf slots (now (rows .entry)))
+        (operandAt left (now (t .entry)) (now (ends .entry)) i) i bar back ⌝ }
+{
+    if left == 0 {
+        return leaf_gone(t, ends, rows, slots, i, bar, back, left);
+    }
+    match shapes::operand_shape(t, ends, i) {
+        OperandShape::Const(_) => leaf_gone(t, ends, rows, slots, i, bar, back, left),
+        OperandShape::Ref(_) => leaf_gone(t, ends, rows, slots, i, bar, back, left),
+        OperandShape::Price(_) => leaf_gone(t, ends, rows, slots, i, bar, back, left),
+        OperandShape::Prev(a, n) => {
+            let further = back + n as usize;
+            first_missing(t, ends, rows, slots, a, bar, further, left - 1)
+        }
+        OperandShape::Arith(_, a, b) => {
+            let x = first_missing(t, ends, rows, slots, a, bar, back, left - 1);
+            let y = first_missing(t, ends, rows, slots, b, bar, back, left - 1);
+            or_else(x, y)
+        }
+        OperandShape::NoOperand => leaf_gone(t, ends, rows, slots, i, bar, back, left),
+    }
+}
