@@ -3,6 +3,7 @@
 //! Random runs, each written as a table with its settings, as a strategy, and as a file of bars; `ysh run` reads the files, and what it
 //! writes has to be the original's to the last bit. The last line sums up; the status is 1 where anything differs.
 
+mod asked;
 mod files;
 mod ours;
 mod theirs;
@@ -46,6 +47,7 @@ struct Counts {
     refused: u64,
     trades: u64,
     zeros: u64,
+    asked: asked::Counts,
 }
 
 fn main() {
@@ -71,8 +73,8 @@ fn main() {
     let _ = std::fs::remove_dir_all(&folder);
     println!(
         "{} runs of tables and {} of strategies: the same; {} bars, {} of them refused (16), {} trades; {} zeros of the other sign; \
-         {} tables are no strategy that the original's validate takes",
-        counts.runs, counts.strategies, counts.bars, counts.refused, counts.trades, counts.zeros, counts.no_strategies
+         {} tables are no strategy that the original's validate takes; {}",
+        counts.runs, counts.strategies, counts.bars, counts.refused, counts.trades, counts.zeros, counts.no_strategies, counts.asked
     );
 }
 
@@ -85,6 +87,7 @@ fn compared(case: &Case, folder: &std::path::Path, dice: &mut Dice, counts: &mut
     counts.bars += case.bars.len() as u64;
     counts.refused += theirs.refused;
     counts.trades += theirs.trades.len() as u64;
+    asked::agrees(&written, &theirs, dice, &mut counts.asked)?;
     let Some(strategy) = written.strategy()? else {
         counts.no_strategies += 1;
         return Ok(());

@@ -14,6 +14,8 @@ pub struct Run {
     pub trades: Vec<(Trade, During)>,
     pub equity: Vec<(i64, f64)>,
     pub refused: u64,
+    /// The order that works after each bar: 1 enter long, 2 enter short, 3 exit.
+    pub orders: Vec<Option<u64>>,
 }
 
 impl Run {
@@ -21,7 +23,7 @@ impl Run {
     pub fn of(case: &Case) -> Result<Run, String> {
         let said = |error| format!("the original: {error:?}");
         let mut run = run_of(&case.settings, &case.table, Reading::Paper).map_err(said)?;
-        let mut refused = 0;
+        let (mut refused, mut orders) = (0, Vec::new());
         for bar in &case.bars {
             if case.settings.lot != 0.0 && run.is_turned_away(&bar.candle).map_err(said)? {
                 refused += 1;
@@ -29,6 +31,7 @@ impl Run {
             }
             let tick = bar.funding.map(|(mark, rate)| tick_of(mark, rate));
             run.step(&bar.candle, &bar.slots, tick.as_ref()).map_err(said)?;
+            orders.push(run.held().order.map(|(order, ..)| order));
         }
         let mut noted = run.noted().1.to_vec();
         let (report, during) = run.finish();
@@ -38,6 +41,7 @@ impl Run {
             trades: report.trades.into_iter().zip(noted).collect(),
             equity: report.equity.iter().map(|point| (point.time, point.equity)).collect(),
             refused,
+            orders,
         })
     }
 

@@ -6,6 +6,7 @@ use clap::{Args, Parser, Subcommand};
 
 use crate::holdup::asked::Holdup;
 use crate::run::asked::Run;
+use crate::why::asked::Why;
 
 /// From a strategy to the capacitors: how deep a box's window of bars has to be, how long its dump takes, and how large a capacitor
 /// that needs; and what a strategy does over bars from a file. Every answer about rules is the proved library's.
@@ -33,6 +34,8 @@ pub enum Command {
     Holdup(Holdup),
     /// A strategy or a table over bars from a file: trades, equity and the nine metrics
     Run(Run),
+    /// Why a rule said yes or no at a bar: the chain from its root to what decided, in words
+    Why(Why),
     /// The manual page of all commands; `ysh manual > ysh.1`, then `man -l ysh.1`
     Manual,
 }

@@ -1,5 +1,6 @@
 //! `ysh`, a host tool over the proved engine Yshturpa: strategies to tables, tables in words, how deep a window has to be, how long a
-//! box needs power to write it, and runs over files of bars. It decides nothing itself: every answer about rules comes from the library's calls.
+//! box needs power to write it, runs over files of bars, and why a rule said what it said. It decides nothing itself: every answer about
+//! rules comes from the library's calls.
 #![forbid(unsafe_code)]
 
 mod bars;
@@ -19,6 +20,7 @@ mod source;
 pub mod strategy;
 mod svg;
 pub mod table;
+mod why;
 
 use std::ffi::OsString;
 use std::io::Write;
@@ -43,6 +45,7 @@ pub fn run(arguments: impl IntoIterator<Item = OsString>, out: &mut dyn Write, e
         Command::Short(asked) => commands::short::answer(&asked),
         Command::Holdup(asked) => commands::holdup::answer(&asked),
         Command::Run(asked) => commands::run::answer(&asked),
+        Command::Why(asked) => commands::why::answer(&asked),
         Command::Manual => commands::manual::answer(),
     }
     .into_parts();

@@ -18,6 +18,7 @@ mod saved;
 mod settings;
 mod state;
 mod table;
+mod why;
 
 pub use bar::{Bar, Funding, Rows};
 pub use bars::{Bars, Done};
@@ -30,6 +31,7 @@ pub use saved::Saved;
 pub use settings::{EntryOrder, Settings, Sizing, Slippage};
 pub use state::{Order, OrderLevel, Position, State};
 pub use table::{check, depth, dump_bytes, silent, slots_of, translate, Accepted, Depth, Tree};
+pub use why::{why, By, WhyLine};
 
 /// The square root, correctly rounded, computed from the bits alone.
 pub fn root(x: f64) -> f64 {

@@ -7,7 +7,7 @@ mod lines;
 mod over;
 
 pub use file::BarsFile;
-pub use over::{over, At, OnRefusal, Refusals, Walked};
+pub use over::{over, At, OnRefusal, Refusals};
 
 /// What is wrong in a line, and in which column, counted from 0.
 #[derive(Clone, Debug, PartialEq, Eq)]

@@ -85,10 +85,16 @@ impl Walk<'_> {
             let stepped = engine.step_over(&part.bars, at..end);
             done(&part.bars, at..at + stepped.bars);
             at += stepped.bars;
-            match stepped.refused {
-                Some(refusal) => self.refused(&part.bars.bar(at), part.bytes[at], refusal)?,
-                None => return Ok((end < part.bars.len()).then(|| part.bars.bar(end))),
-            }
+            let refusal = match stepped.refused {
+                Some(refusal) => refusal,
+                None if end == part.bars.len() => return Ok(None),
+                // The bar that is asked for: one that is refused has no number, and the next one may have it.
+                None => match engine.clone().step(&part.bars.bar(end)) {
+                    Ok(()) => return Ok(Some(part.bars.bar(end))),
+                    Err(refusal) => refusal,
+                },
+            };
+            self.refused(&part.bars.bar(at), part.bytes[at], refusal)?;
             at += 1;
         }
     }

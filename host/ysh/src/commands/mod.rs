@@ -7,6 +7,7 @@ pub mod manual;
 pub mod run;
 pub mod short;
 pub mod show;
+pub mod why;
 
 use crate::problem::Problem;
 
