@@ -5,6 +5,7 @@
 mod common;
 
 use std::fs;
+use std::process::Command;
 use std::time::{Duration, Instant};
 
 use common::{folder, ysh, Dice};
@@ -84,4 +85,19 @@ fn a_million_bars() {
     eprintln!("a million bars: reading the file {:?} ({} s of the processor)", reading.0, reading.1);
     eprintln!("a million bars: ysh run {:?} ({} s of the processor)", running.0, running.1);
     assert!(cfg!(debug_assertions) || running.1 < 2.5 * reading.1 + 0.1, "{running:?} against {reading:?}");
+    bar_is_shown(rules.to_str().unwrap(), path.to_str().unwrap());
+}
+
+/// On a terminal a run of more than a second shows how far it has come, and ends. Where there is no `script` to make a terminal that is said.
+fn bar_is_shown(rules: &str, bars: &str) {
+    let asked = format!("{} run {rules} {bars} > /dev/null", env!("CARGO_BIN_EXE_ysh"));
+    let began = Instant::now();
+    let ran = Command::new("timeout").args(["300", "script", "-qec", &asked, "/dev/null"]).output();
+    let Some(ran) = ran.ok().filter(|ran| ran.status.code() != Some(127)) else {
+        eprintln!("no timeout or script here: the bar was not looked at");
+        return;
+    };
+    let shown = String::from_utf8_lossy(&ran.stdout);
+    assert!(ran.status.success(), "{shown}");
+    assert!(began.elapsed().as_secs() < 2 || shown.contains(" MiB, "), "{shown}");
 }
