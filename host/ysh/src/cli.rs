@@ -5,15 +5,20 @@ use std::path::PathBuf;
 use clap::{Args, Parser, Subcommand};
 
 use crate::holdup::asked::Holdup;
+use crate::run::asked::Run;
+use crate::why::asked::Why;
 
 /// From a strategy to the capacitors: how deep a box's window of bars has to be, how long its dump takes, and how large a capacitor
-/// that needs. Every answer about rules is the proved library's.
+/// that needs; and what a strategy does over bars from a file. Every answer about rules is the proved library's.
 #[derive(Debug, Parser)]
-#[command(name = "ysh", version, max_term_width = 110)]
+#[command(name = "ysh", version, max_term_width = 110, after_help = STATUS)]
 pub struct Cli {
     #[command(subcommand)]
     pub command: Command,
 }
+
+const STATUS: &str = "The exit status is 0; 1 where the library refused something, which is told with its number and place; 2 where input \
+    is bad, which is told in one line with its file and place.";
 
 #[derive(Debug, Subcommand)]
 pub enum Command {
@@ -27,6 +32,12 @@ pub enum Command {
     Short(Short),
     /// How long the dumps take after the supply drops, and how large a capacitor that needs
     Holdup(Holdup),
+    /// A strategy or a table over bars from a file: trades, equity and the nine metrics
+    Run(Run),
+    /// Why a rule said yes or no at a bar: the chain from its root to what decided, in words
+    Why(Why),
+    /// The manual page of all commands; `ysh manual > ysh.1`, then `man -l ysh.1`
+    Manual,
 }
 
 #[derive(Debug, Args)]
@@ -95,18 +106,18 @@ pub struct Lookback {
     pub lookback: Option<u64>,
 }
 
-fn parse_count(text: &str) -> Result<u64, String> {
+pub fn parse_count(text: &str) -> Result<u64, String> {
     text.parse().map_err(|_| "a whole number from 0 up was expected".to_owned())
 }
 
-fn parse_lot(text: &str) -> Result<f64, String> {
+pub fn parse_lot(text: &str) -> Result<f64, String> {
     match text.parse::<f64>() {
         Ok(x) if x.is_finite() && x >= 0.0 => Ok(x),
         _ => Err("a finite number from 0 up was expected".to_owned()),
     }
 }
 
-fn parse_money(text: &str) -> Result<f64, String> {
+pub fn parse_money(text: &str) -> Result<f64, String> {
     match text.parse::<f64>() {
         Ok(x) if x.is_finite() => Ok(x),
         _ => Err("a finite number was expected".to_owned()),

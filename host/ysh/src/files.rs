@@ -17,6 +17,10 @@ pub fn bytes_of(path: &Path) -> Result<Vec<u8>, Problem> {
     })
 }
 
+pub fn put(path: &Path, bytes: impl AsRef<[u8]>) -> Result<(), Problem> {
+    fs::write(path, bytes).map_err(|error| Problem::io(path.display().to_string(), "written", &error))
+}
+
 /// A strategy's text.
 pub fn text_of(file: &str, bytes: Vec<u8>) -> Result<String, Problem> {
     if bytes.iter().all(u8::is_ascii_whitespace) {

@@ -1,7 +1,9 @@
-//! `ysh`, a host tool over the proved engine Yshturpa: strategies to tables, tables in words, how deep a window has to be, and how long a
-//! box needs power to write it. It decides nothing itself: every answer about rules comes from the library's calls.
+//! `ysh`, a host tool over the proved engine Yshturpa: strategies to tables, tables in words, how deep a window has to be, how long a
+//! box needs power to write it, runs over files of bars, and why a rule said what it said. It decides nothing itself: every answer about
+//! rules comes from the library's calls.
 #![forbid(unsafe_code)]
 
+mod bars;
 mod cli;
 mod columns;
 mod commands;
@@ -11,10 +13,14 @@ mod files;
 mod holdup;
 mod problem;
 mod progress;
+mod run;
 mod settings_file;
+mod show;
 mod source;
 pub mod strategy;
+mod svg;
 pub mod table;
+mod why;
 
 use std::ffi::OsString;
 use std::io::Write;
@@ -38,6 +44,9 @@ pub fn run(arguments: impl IntoIterator<Item = OsString>, out: &mut dyn Write, e
         Command::Depth(asked) => commands::depth::answer(&asked),
         Command::Short(asked) => commands::short::answer(&asked),
         Command::Holdup(asked) => commands::holdup::answer(&asked),
+        Command::Run(asked) => commands::run::answer(&asked),
+        Command::Why(asked) => commands::why::answer(&asked),
+        Command::Manual => commands::manual::answer(),
     }
     .into_parts();
     let _ = out.write_all(text.as_bytes());

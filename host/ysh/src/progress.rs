@@ -1,4 +1,4 @@
-//! Work over many files, on every core, with a bar on a terminal where it takes longer than a second.
+//! Work over many files, on every core, or over one long file, with a bar on a terminal where it takes longer than a second.
 
 use std::io::IsTerminal;
 use std::time::{Duration, Instant};
@@ -10,32 +10,49 @@ const QUIET: Duration = Duration::from_secs(1);
 
 /// What a function gives for each item, in the items' order.
 pub fn each<T: Sync, R: Send>(items: &[T], work: impl Fn(&T) -> R + Sync) -> Vec<R> {
-    let bar = Late::new(items.len() as u64);
+    let bar = Late::new(items.len() as u64, "{bar:40} {pos} of {len} files, {eta} left");
     let results = items.par_iter().map(|item| bar.after(work(item))).collect();
-    bar.bar.finish_and_clear();
+    bar.ended();
     results
 }
 
 /// A bar that is not drawn before a second has passed.
-struct Late {
+pub struct Late {
     bar: ProgressBar,
     began: Instant,
 }
 
 impl Late {
-    fn new(length: u64) -> Late {
+    fn new(length: u64, template: &str) -> Late {
         let bar = ProgressBar::with_draw_target(Some(length), ProgressDrawTarget::hidden());
-        let style = ProgressStyle::with_template("{bar:40} {pos} of {len} files, {eta} left").expect("a template");
-        bar.set_style(style);
+        bar.set_style(ProgressStyle::with_template(template).expect("a template"));
         Late { bar, began: Instant::now() }
+    }
+
+    /// Over a file of so many bytes.
+    pub fn bytes(length: u64) -> Late {
+        Late::new(length, "{bar:40} {bytes} of {total_bytes}, {eta} left")
     }
 
     fn after<R>(&self, result: R) -> R {
         self.bar.inc(1);
+        self.drawn();
+        result
+    }
+
+    pub fn reached(&self, position: u64) {
+        self.bar.set_position(position);
+        self.drawn();
+    }
+
+    pub fn ended(&self) {
+        self.bar.finish_and_clear();
+    }
+
+    fn drawn(&self) {
         if self.bar.is_hidden() && due(self.began.elapsed()) && std::io::stderr().is_terminal() {
             self.bar.set_draw_target(ProgressDrawTarget::stderr());
         }
-        result
     }
 }
 

@@ -5,8 +5,10 @@ use std::path::{Path, PathBuf};
 use serde::{Deserialize, Serialize};
 use yshturpa::{EntryOrder, Settings};
 
+use crate::compile::{sizing_of, slippage_of};
 use crate::problem::Problem;
 use crate::strategy::spec::{Sizing, Slippage};
+use crate::strategy::Fault;
 
 #[derive(Clone, Debug, PartialEq, Serialize, Deserialize)]
 #[serde(deny_unknown_fields)]
@@ -77,6 +79,30 @@ impl SettingsFile {
             maker_bps: settings.maker_bps,
             lot: settings.lot,
         }
+    }
+
+    /// The settings as the library's record: what `new` was made of.
+    pub fn settings(&self) -> Result<Settings, Fault> {
+        let new = Settings::new(self.slots.len(), self.depth, self.capital, sizing_of(self.sizing));
+        Ok(Settings {
+            warmup: self.warmup,
+            delay: self.delay,
+            taker_bps: self.taker_bps,
+            slippage: slippage_of(self.slippage)?,
+            funding: self.funding,
+            stop_loss_pct: self.stop_loss_pct,
+            trailing_stop_pct: self.trailing_stop_pct,
+            take_profit_pct: self.take_profit_pct,
+            max_leverage: self.max_leverage,
+            max_position_pct: self.max_position_pct,
+            liquidation: self.liquidation,
+            partial_fills: self.partial_fills,
+            max_participation: self.max_participation,
+            entry_order: self.entry_order,
+            maker_bps: self.maker_bps,
+            lot: self.lot,
+            ..new
+        })
     }
 
     pub fn lookback(&self) -> u64 {

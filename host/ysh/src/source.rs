@@ -44,11 +44,16 @@ pub struct Size {
 impl Source {
     /// Reads a file. A lookback that is given is for a table without settings.
     pub fn read(path: &Path, lookback: Option<u64>) -> Result<Source, Problem> {
+        Source::read_with(path, lookback, Choices::default())
+    }
+
+    /// Reads a file; a strategy with what it leaves to choose.
+    pub fn read_with(path: &Path, lookback: Option<u64>, choices: Choices) -> Result<Source, Problem> {
         let file = name_of(path);
         let bytes = bytes_of(path)?;
         match bytes.starts_with(&MARK) || path.extension().is_some_and(|end| end == "rtb") {
             true => Source::of_table(path, bytes, lookback),
-            false => Source::of_strategy(&file, &text_of(&file, bytes)?, Choices::default()),
+            false => Source::of_strategy(&file, &text_of(&file, bytes)?, choices),
         }
     }
 

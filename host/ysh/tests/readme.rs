@@ -1,4 +1,5 @@
-//! The example of README, "How deep, how long, how large", as it stands: each command is run and must write what is shown below it.
+//! The examples of README, "How deep, how long, how large" and "A strategy over bars", as they stand: each command is run and must write
+//! what is shown below it.
 
 mod common;
 
@@ -6,9 +7,9 @@ use std::path::Path;
 
 use common::ysh;
 
-/// The commands of README's section, each with the lines shown below it.
-fn examples(readme: &str) -> Vec<(String, Vec<String>)> {
-    let section = readme.split("## How deep, how long, how large").nth(1).expect("the section is there");
+/// The commands of a section of README, each with the lines shown below it.
+fn examples(readme: &str, title: &str) -> Vec<(String, Vec<String>)> {
+    let section = readme.split(&format!("## {title}\n")).nth(1).expect("the section is there");
     let section = section.split("\n## ").next().unwrap();
     let mut blocks: Vec<Vec<String>> = vec![Vec::new()];
     for line in section.lines() {
@@ -36,19 +37,20 @@ fn examples(readme: &str) -> Vec<(String, Vec<String>)> {
 }
 
 #[test]
-fn the_example_runs_as_it_stands() {
+fn the_examples_run_as_they_stand() {
     let root = Path::new(env!("CARGO_MANIFEST_DIR")).join("../..");
     let readme = std::fs::read_to_string(root.join("README.md")).unwrap();
     std::env::set_current_dir(&root).unwrap();
-    let examples = examples(&readme);
-    assert_eq!(examples.len(), 2);
-    for (command, shown) in examples {
+    let (holdup, bars) =
+        (examples(&readme, "How deep, how long, how large"), examples(&readme, "A strategy over bars"));
+    assert_eq!((holdup.len(), bars.len()), (2, 3));
+    for (command, shown) in holdup.into_iter().chain(bars) {
         let arguments: Vec<&str> = command.split_whitespace().skip(1).collect();
         let (status, out, err) = ysh(&arguments);
         assert_eq!((status, err.as_str()), (0, ""), "{command}");
         let shown: Vec<&str> = shown.iter().map(String::as_str).skip_while(|line| line.is_empty()).collect();
         let written: Vec<&str> = out.lines().take(shown.len()).collect();
-        assert!(shown.len() > 10);
+        assert!(shown.len() > 5);
         assert_eq!(written, shown, "{command}");
     }
 }

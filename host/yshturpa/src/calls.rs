@@ -31,6 +31,10 @@ mod raw {
             table: *const u8, table_len: usize, tree: u64, rows: *const u64, rows_len: usize,
             qty: u64, entered: u64, entry_bar: u64, bars_seen: u64, answer: *mut u64,
         ) -> u64;
+        pub fn ysh_why(
+            table: *const u8, table_len: usize, tree: u64, rows: *const u64, rows_len: usize,
+            qty: u64, entered: u64, entry_bar: u64, bars_seen: u64, lines: *mut u64, lines_len: usize, count: *mut u64,
+        ) -> u64;
         pub fn ysh_run(
             steps: *const u8, steps_len: usize, rows: *const u64, rows_len: usize, slots: u64, depth: u64,
             qty: u64, entered: u64, entry_bar: u64, bars_seen: u64, answer: *mut u64, visits: *mut u64,
@@ -188,6 +192,28 @@ pub fn rule(table: &[u8], tree: u64, rows: &[u64], position: PositionWords) -> A
         )
     })?;
     Ok(answer)
+}
+
+pub fn why(table: &[u8], tree: u64, rows: &[u64], position: PositionWords, lines: &mut [u64]) -> Answer<u64> {
+    let [qty, entered, entry_bar, bars_seen] = position;
+    let mut count = 0;
+    Refusal::of(unsafe {
+        raw::ysh_why(
+            table.as_ptr(),
+            table.len(),
+            tree,
+            rows.as_ptr(),
+            rows.len(),
+            qty,
+            entered,
+            entry_bar,
+            bars_seen,
+            lines.as_mut_ptr(),
+            lines.len(),
+            &mut count,
+        )
+    })?;
+    Ok(count)
 }
 
 pub fn run(steps: &[u8], rows: &[u64], slots: u64, depth: u64, position: PositionWords) -> Answer<(u64, u64)> {

@@ -1,21 +1,23 @@
 //! One run: the engine's state and every room it is lent.
 
 use crate::calls::{self, Rooms};
-use crate::layout::{state, METRIC_WORDS, MOST_DEPTH, POINT_WORDS, ROW_FIXED, SETTING_WORDS, STATE_WORDS, TRADE_WORDS};
+use crate::layout::{
+    setting, state, METRIC_WORDS, MOST_DEPTH, POINT_WORDS, ROW_FIXED, SETTING_WORDS, STATE_WORDS, TRADE_WORDS,
+};
 use crate::{depth, slots_of, translate};
 use crate::{Bar, Error, Metrics, Point, Refusal, Rows, Saved, Settings, State, Trade, Tree};
 
 /// A run of one table's rules. It owns its rooms, so a step allocates nothing.
 #[derive(Clone, Debug)]
 pub struct Engine {
-    slots: usize,
-    settings: [u64; SETTING_WORDS],
-    state: [u64; STATE_WORDS],
+    pub(crate) slots: usize,
+    pub(crate) settings: [u64; SETTING_WORDS],
+    pub(crate) state: [u64; STATE_WORDS],
     bar: Vec<u64>,
-    rows: Vec<u64>,
-    equity: Vec<u64>,
-    trades: Vec<u64>,
-    steps: [Vec<u8>; 4],
+    pub(crate) rows: Vec<u64>,
+    pub(crate) equity: Vec<u64>,
+    pub(crate) trades: Vec<u64>,
+    pub(crate) steps: [Vec<u8>; 4],
 }
 
 impl Engine {
@@ -63,9 +65,12 @@ impl Engine {
         Ok(engine)
     }
 
-    /// The state and the rows as they are now.
+    /// The state as it is now, and the last D rows.
     pub fn save(&self) -> Saved {
-        Saved::new(self.state(), self.rows().words().to_vec())
+        let rows = self.rows().last(self.settings[setting::DEPTH] as usize);
+        let mut state = self.state();
+        state.words[state::ROWS_HELD] = rows.len() as u64;
+        Saved::new(state, rows.words().to_vec())
     }
 
     /// One bar. A refused one has changed nothing: the run goes on with the next call.

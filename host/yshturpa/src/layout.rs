@@ -10,6 +10,10 @@ pub const POINT_WORDS: usize = 2;
 pub const TRADE_WORDS: usize = 10;
 pub const METRIC_WORDS: usize = 9;
 
+/// Words of a line that says why, and as many lines as there may be.
+pub const WHY_WORDS: usize = 8;
+pub const WHY_LINES: usize = 32;
+
 /// Words of a kept row, and of a bar as it is handed over, besides their slots.
 pub const ROW_FIXED: usize = 7;
 pub const BAR_FIXED: usize = 10;
@@ -123,7 +127,7 @@ pub mod room {
     pub const SILENT: u32 = 18;
 
     /// What each is called, those that are kept for later left out.
-    pub const NAMES: [(u32, &str); 11] = [
+    pub const NAMES: [(u32, &str); 12] = [
         (ROWS, "rows"),
         (1, "equity"),
         (2, "trades"),
@@ -134,6 +138,7 @@ pub mod room {
         (7, "settings"),
         (8, "state"),
         (9, "metrics"),
+        (10, "lines that say why"),
         (SILENT, "silent tests"),
     ];
 }

@@ -6,6 +6,7 @@
 #![deny(unsafe_code)]
 
 mod bar;
+mod bars;
 mod calls;
 mod engine;
 mod error;
@@ -17,8 +18,10 @@ mod saved;
 mod settings;
 mod state;
 mod table;
+mod why;
 
 pub use bar::{Bar, Funding, Rows};
+pub use bars::{Bars, Done};
 pub use engine::Engine;
 pub use error::Error;
 pub use refusal::Refusal;
@@ -28,6 +31,7 @@ pub use saved::Saved;
 pub use settings::{EntryOrder, Settings, Sizing, Slippage};
 pub use state::{Order, OrderLevel, Position, State};
 pub use table::{check, depth, dump_bytes, silent, slots_of, translate, Accepted, Depth, Tree};
+pub use why::{why, By, WhyLine};
 
 /// The square root, correctly rounded, computed from the bits alone.
 pub fn root(x: f64) -> f64 {

@@ -3,8 +3,8 @@
 use yshturpa::layout::STATE_WORDS;
 use yshturpa::{check, depth, metrics, root, rule, run, silent, translate};
 use yshturpa::{
-    Bar, Engine, EntryOrder, Error, Funding, Metrics, Order, OrderLevel, Reason, Refusal, Rows, Saved, Settings,
-    Sizing, Slippage, Tree,
+    Bar, Bars, Done, Engine, EntryOrder, Error, Funding, Metrics, Order, OrderLevel, Reason, Refusal, Rows, Saved,
+    Settings, Sizing, Slippage, Tree,
 };
 
 const FAST: usize = 3;
@@ -287,4 +287,31 @@ fn a_day_in_one_call_is_a_call_for_each_bar() {
     assert_eq!(whole.steps(&bars[21..]), (BARS - 20, Ok(())));
     assert_eq!(whole.save(), single.save());
     assert!(whole.trades().eq(single.trades()) && whole.equity().eq(single.equity()));
+}
+
+/// A list of bars, a part at a time, is the same run as a call for each bar; a refused bar stops it and has changed nothing.
+#[test]
+fn many_bars_at_once() {
+    let (table, settings) = (table(), settings(3));
+    let mut one = Engine::new(&table, &settings, BARS, BARS).unwrap();
+    let mut many = Engine::new(&table, &settings, 0, 1).unwrap();
+    let mut bars = Bars::new(2);
+    for i in 0..BARS {
+        one.step(&bar(i)).unwrap();
+        bars.push(&bar(i));
+    }
+    for part in [0..7, 7..8, 8..40, 40..BARS] {
+        many.make_room(part.len());
+        assert_eq!(many.step_over(&bars, part.clone()), Done { bars: part.len(), refused: None });
+    }
+    let mut broken = Bars::new(2);
+    broken.push(&Bar { close: f64::NAN, ..bar(0) });
+    many.make_room(1);
+    let before = many.state();
+    let refused = many.step_over(&broken, 0..1);
+    assert_eq!(refused, Done { bars: 0, refused: Some(Refusal { number: 11, place: BARS as u32 }) });
+    assert_eq!(many.state(), before);
+    assert_eq!(many.save(), one.save());
+    assert_eq!(many.finish(), one.finish());
+    assert!(many.trades().count() > 1 && many.trades().eq(one.trades()) && many.equity().eq(one.equity()));
 }

@@ -1,6 +1,5 @@
 //! `ysh compile`: a strategy to a rule table and the settings beside it.
 
-use std::fs;
 use std::path::Path;
 
 use yshturpa::Settings;
@@ -8,8 +7,8 @@ use yshturpa::Settings;
 use super::Answer;
 use crate::cli::Compile;
 use crate::columns::{counted, grouped};
-use crate::compile::{settings, Choices, Rules};
-use crate::files::{bytes_of, name_of, text_of};
+use crate::compile::{settings, warmup, Choices, Rules};
+use crate::files::{bytes_of, name_of, put, text_of};
 use crate::problem::Problem;
 use crate::settings_file::SettingsFile;
 use crate::source::{Size, Source};
@@ -30,7 +29,7 @@ fn compiled(asked: &Compile) -> Result<Answer, Problem> {
     let choices = Choices { order: asked.slots.as_deref(), absent_short_exit: asked.absent_short_exit };
     let source = Source::of_strategy(&file, &text, choices)?;
     let strategy = source.strategy.as_ref().expect("it was read from a strategy");
-    let warmup = warmup(&file, strategy, asked.warmup)?;
+    let warmup = warmup(strategy, asked.warmup).map_err(|fault| Problem::fault(&file, fault))?;
     let rules = Rules { table: source.table.clone(), names: source.names.clone(), paths: source.paths.clone() };
     let settings = settings(strategy, &rules, warmup, asked.capital).map_err(|stopped| Problem::of(&file, stopped))?;
     let settings = Settings { lot: asked.lot, ..settings };
@@ -38,23 +37,6 @@ fn compiled(asked: &Compile) -> Result<Answer, Problem> {
     let mut answer = report(&source, &source.size()?, &asked.output);
     answer.notes(&file, &source.notes);
     Ok(answer)
-}
-
-/// The warmup of the strategy, or the one that was given. With no indicators the original's is 0.
-fn warmup(file: &str, strategy: &Strategy, given: Option<u64>) -> Result<u64, Problem> {
-    match (strategy.warmup, given) {
-        (Some(own), Some(given)) if given != u64::from(own) => {
-            let text = format!("the strategy says {own} and --warmup {given}; one of the two was expected");
-            Err(Problem::input(file, "warmup", text))
-        }
-        (Some(own), _) => Ok(own.into()),
-        (None, Some(given)) => Ok(given),
-        (None, None) if strategy.indicators.is_empty() => Ok(0),
-        (None, None) => {
-            let text = "the strategy leaves it to its indicators, which are not here; --warmup BARS was expected";
-            Err(Problem::input(file, "warmup", text))
-        }
-    }
 }
 
 fn write(asked: &Compile, strategy: &Strategy, rules: &Rules, settings: &Settings) -> Result<(), Problem> {
@@ -65,10 +47,6 @@ fn write(asked: &Compile, strategy: &Strategy, rules: &Rules, settings: &Setting
         put(path, &settings.words().map(u64::to_le_bytes).concat())?;
     }
     Ok(())
-}
-
-fn put(path: &Path, bytes: &[u8]) -> Result<(), Problem> {
-    fs::write(path, bytes).map_err(|error| Problem::io(path.display().to_string(), "written", &error))
 }
 
 fn report(source: &Source, size: &Size, output: &Path) -> Answer {

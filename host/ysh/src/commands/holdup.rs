@@ -1,9 +1,7 @@
 //! `ysh holdup`: the question.
 
-use std::fs;
-
 use super::Answer;
-use crate::files::files;
+use crate::files::{files, put};
 use crate::holdup::asked::Holdup;
 use crate::holdup::plan::Plan;
 use crate::holdup::report::{Filed, Report};
@@ -27,8 +25,7 @@ fn answered(asked: &Holdup) -> Result<Answer, Problem> {
         }
     }
     if let Some(path) = &asked.wanted.html {
-        fs::write(path, page::page(&report))
-            .map_err(|error| Problem::io(path.display().to_string(), "written", &error))?;
+        put(path, page::page(&report))?;
     }
     let mut answer =
         Answer { text: if asked.wanted.json { json::json(&report) } else { text::text(&report) }, ..Answer::default() };

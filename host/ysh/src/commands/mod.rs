@@ -3,8 +3,11 @@
 pub mod compile;
 pub mod depth;
 pub mod holdup;
+pub mod manual;
+pub mod run;
 pub mod short;
 pub mod show;
+pub mod why;
 
 use crate::problem::Problem;
 

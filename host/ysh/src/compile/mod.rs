@@ -13,7 +13,7 @@ mod nodes;
 mod settings;
 
 use nodes::Found;
-pub use settings::{entry_order_of, settings};
+pub use settings::{entry_order_of, settings, sizing_of, slippage_of, warmup};
 
 /// A strategy's rules as a table, what each slot is called, and where in the document each node comes from.
 #[derive(Clone, Debug)]

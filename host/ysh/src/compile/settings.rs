@@ -31,6 +31,23 @@ pub fn settings(strategy: &Strategy, rules: &Rules, warmup: u64, capital: f64) -
     Ok(settings)
 }
 
+/// The warmup of the strategy, or the one that was given. With no indicators the original's is 0.
+pub fn warmup(strategy: &Strategy, given: Option<u64>) -> Result<u64, Fault> {
+    match (strategy.warmup, given) {
+        (Some(own), Some(given)) if given != u64::from(own) => {
+            let text = format!("the strategy says {own} and --warmup {given}; one of the two was expected");
+            Err(Fault::new("warmup", text))
+        }
+        (Some(own), _) => Ok(own.into()),
+        (None, Some(given)) => Ok(given),
+        (None, None) if strategy.indicators.is_empty() => Ok(0),
+        (None, None) => {
+            let text = "the strategy leaves it to its indicators, which are not here; --warmup BARS was expected";
+            Err(Fault::new("warmup", text))
+        }
+    }
+}
+
 /// The order kind with the offsets that it uses: a stop-limit's first percentage is its stop, its second its limit. An offset that
 /// the kind does not use is left out, and so is one that `validate` would have asked for, as in the original.
 pub fn entry_order_of(execution: &spec::Execution) -> EntryOrder {
@@ -44,7 +61,7 @@ pub fn entry_order_of(execution: &spec::Execution) -> EntryOrder {
     }
 }
 
-fn sizing_of(sizing: spec::Sizing) -> yshturpa::Sizing {
+pub fn sizing_of(sizing: spec::Sizing) -> yshturpa::Sizing {
     match sizing {
         spec::Sizing::FixedFraction { fraction } => yshturpa::Sizing::FixedFraction(fraction),
         spec::Sizing::FixedQty { qty } => yshturpa::Sizing::FixedQty(qty),
@@ -56,7 +73,7 @@ fn sizing_of(sizing: spec::Sizing) -> yshturpa::Sizing {
     }
 }
 
-fn slippage_of(slippage: spec::Slippage) -> Result<yshturpa::Slippage, Fault> {
+pub fn slippage_of(slippage: spec::Slippage) -> Result<yshturpa::Slippage, Fault> {
     match slippage {
         spec::Slippage::FixedBps { bps } => Ok(yshturpa::Slippage::FixedBps(bps)),
         spec::Slippage::VolumeImpact { coef } => Ok(yshturpa::Slippage::VolumeImpact(coef)),

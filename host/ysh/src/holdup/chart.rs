@@ -2,9 +2,9 @@
 //! are many.
 
 use super::report::{Filed, Report};
-use super::svg::{Anchor, Svg, LETTER};
 use super::units::Time;
 use crate::columns::counted;
+use crate::svg::{Anchor, Svg, LETTER};
 
 /// As many files as have room for a bar with a name, and the letters of a name.
 const NAMED: usize = 40;

@@ -9,6 +9,5 @@ pub mod page;
 pub mod plan;
 pub mod report;
 pub mod supply;
-pub mod svg;
 pub mod text;
 pub mod units;

@@ -6,12 +6,12 @@ use super::formulas::{self, Formula};
 use super::plan::Plan;
 use super::report::{Filed, Report};
 use super::supply::farads;
-use super::svg::escape;
 use super::text::{asked, room};
 use super::units::Time;
 use crate::columns::{counted, grouped};
+use crate::svg::escape;
 
-const STYLE: &str = include_str!("page.css");
+const STYLE: &str = include_str!("../page.css");
 
 pub fn page(report: &Report) -> String {
     let parts = [

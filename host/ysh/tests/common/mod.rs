@@ -1,6 +1,8 @@
 //! Repeatable chance, accepted tables of every sort, and a folder for each test.
 #![allow(dead_code)]
 
+pub mod browser;
+
 use std::ffi::OsString;
 use std::path::PathBuf;
 

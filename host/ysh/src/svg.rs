@@ -32,6 +32,17 @@ impl Svg {
         self.text.push_str(&line);
     }
 
+    /// A shape by its outline.
+    pub fn path(&mut self, class: &str, outline: &str) {
+        self.text.push_str(&format!(r#"<path class="{class}" d="{outline}"/>"#));
+    }
+
+    /// A shape with a title of its own.
+    pub fn mark(&mut self, class: &str, outline: &str, title: &str) {
+        let title = escape(title);
+        self.text.push_str(&format!(r#"<path class="{class}" d="{outline}"><title>{title}</title></path>"#));
+    }
+
     pub fn bar(&mut self, class: &str, (x, y): (f64, f64), (width, height): (f64, f64), title: &str) {
         let title = escape(title);
         let place = format!(r#"x="{x:.2}" y="{y:.1}" width="{width:.2}" height="{height:.1}""#);

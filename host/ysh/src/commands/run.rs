@@ -1,0 +1,39 @@
+//! `ysh run`: rules over bars from a file.
+
+use super::Answer;
+use crate::columns::counted;
+use crate::files::put;
+use crate::problem::Problem;
+use crate::run::asked::Run;
+use crate::run::outcome::Outcome;
+use crate::run::{csv, json, page, text, Ready};
+
+/// As many refused bars as are told one by one.
+const TOLD: usize = 20;
+
+pub fn answer(asked: &Run) -> Answer {
+    answered(asked).unwrap_or_else(Answer::from)
+}
+
+fn answered(asked: &Run) -> Result<Answer, Problem> {
+    let outcome = Outcome::of(Ready::of(&asked.over)?, asked.over.on_refusal)?;
+    let wanted = &asked.wanted;
+    if let Some(path) = &wanted.trades {
+        put(path, csv::trades(&outcome.trades))?;
+    }
+    if let Some(path) = &wanted.equity {
+        put(path, csv::equity(&outcome.equity))?;
+    }
+    if let Some(path) = &wanted.html {
+        put(path, page::page(&outcome))?;
+    }
+    let text = if wanted.json { json::json(&outcome) } else { text::text(&outcome) };
+    let mut answer = Answer { text, ..Answer::default() };
+    answer.notes(&outcome.file, &outcome.notes);
+    answer.problems = outcome.refusals.told.iter().take(TOLD).cloned().collect();
+    if outcome.refusals.count > TOLD as u64 {
+        let more = counted(outcome.refusals.count - TOLD as u64, "bar more was", "bars more were");
+        answer.notes(&outcome.bars_file, &[format!("{more} refused and left out")]);
+    }
+    Ok(answer)
+}

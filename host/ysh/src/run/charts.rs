@@ -1,0 +1,279 @@
+//! The charts of a run: closes with entries and exits, equity, drawdown; all over the same bars.
+
+use yshturpa::Trade;
+
+use super::outcome::{reason_words, Outcome};
+use crate::show::{rounded, Clock};
+use crate::svg::{Anchor, Svg, LETTER};
+
+const WIDTH: f64 = 1000.0;
+const TOP: f64 = 14.0;
+const RIGHT: f64 = WIDTH - 16.0;
+
+/// As many trades as are marked.
+const MARKED: usize = 1500;
+
+/// The three drawings, their bars one below the other.
+pub struct Charts {
+    pub closes: String,
+    pub equity: String,
+    pub drawdown: String,
+}
+
+impl Charts {
+    /// None of them where there was no bar.
+    pub fn of(outcome: &Outcome) -> Option<Charts> {
+        let bars = outcome.equity.len();
+        if bars == 0 {
+            return None;
+        }
+        let fills = outcome.trades.iter().flat_map(|trade| [trade.entry_price, trade.exit_price]);
+        let equity: Vec<f64> = outcome.equity.iter().map(|point| point.equity).collect();
+        let under = under(&equity);
+        let mut frames = [
+            Frame::new(300.0, bars, outcome.closes.iter().copied().chain(fills)),
+            Frame::new(230.0, bars, equity.iter().copied().chain([outcome.capital])),
+            Frame::new(150.0, bars, under.iter().copied().chain([0.0])),
+        ];
+        let left = frames.iter().map(|frame| frame.left).fold(0.0, f64::max);
+        frames.iter_mut().for_each(|frame| frame.left = left);
+        Some(Charts {
+            closes: closes(&frames[0], outcome),
+            equity: equity_chart(&frames[1], outcome, &equity),
+            drawdown: drawdown_chart(&frames[2], outcome, &under),
+        })
+    }
+}
+
+/// Where the bars and the values of a chart stand.
+struct Frame {
+    left: f64,
+    bottom: f64,
+    low: f64,
+    high: f64,
+    bars: usize,
+}
+
+impl Frame {
+    fn new(height: f64, bars: usize, values: impl Iterator<Item = f64>) -> Frame {
+        let (low, high) = spread(values);
+        let mut frame = Frame { left: 0.0, bottom: TOP + height, low, high, bars };
+        let widest = frame.ticks().into_iter().map(|tick| rounded(tick).chars().count()).max().unwrap_or(1);
+        frame.left = 16.0 + LETTER * widest as f64;
+        frame
+    }
+
+    fn x(&self, bar: usize) -> f64 {
+        let share = if self.bars < 2 { 0.5 } else { bar as f64 / (self.bars - 1) as f64 };
+        self.left + (RIGHT - self.left) * share
+    }
+
+    /// By halves where the difference is too large for a float.
+    fn y(&self, value: f64) -> f64 {
+        let span = self.high - self.low;
+        let share = match span.is_finite() {
+            true => (value - self.low) / span,
+            false => (value / 2.0 - self.low / 2.0) / (self.high / 2.0 - self.low / 2.0),
+        };
+        self.bottom - (self.bottom - TOP) * share.clamp(0.0, 1.0)
+    }
+
+    /// Round numbers, about five of them; the two ends where there are none.
+    fn ticks(&self) -> Vec<f64> {
+        let rough = (self.high / 5.0 - self.low / 5.0).max(f64::MIN_POSITIVE);
+        let scale = 10f64.powf(rough.log10().floor());
+        let step = [1.0, 2.0, 5.0, 10.0].into_iter().map(|m| m * scale).find(|step| *step >= rough).unwrap_or(rough);
+        let first = (self.low / step).ceil();
+        let ticks: Vec<f64> = (0..8).map(|i| (first + f64::from(i)) * step).take_while(|t| *t <= self.high).collect();
+        match ticks.iter().all(|tick| tick.is_finite()) && ticks.len() > 1 {
+            true => ticks,
+            false => vec![self.low, self.high],
+        }
+    }
+
+    /// A drawing with the values' lines and the times below.
+    fn svg(&self, what: &str, outcome: &Outcome) -> Svg {
+        let mut svg = Svg::new(WIDTH, self.bottom + 26.0, what);
+        for tick in self.ticks() {
+            svg.line("grid", (self.left, self.y(tick)), (RIGHT, self.y(tick)));
+            svg.text("axis", (self.left - 6.0, self.y(tick) + 4.0), Anchor::End, &rounded(tick));
+        }
+        let clock = clock(outcome);
+        let text = |bar: usize| clock.text(outcome.equity[bar].time);
+        let widest = [0, self.bars - 1].map(|bar| text(bar).chars().count()).into_iter().max().unwrap_or(1);
+        let wide = LETTER * (widest + 3) as f64;
+        let most = (((RIGHT - self.left) / wide) as usize).clamp(2, 6).min(self.bars);
+        for label in 0..most {
+            let bar = if most < 2 { 0 } else { label * (self.bars - 1) / (most - 1) };
+            let x = self.x(bar).clamp(wide / 2.0, WIDTH - wide / 2.0);
+            svg.text("axis", (x, self.bottom + 18.0), Anchor::Middle, &text(bar));
+        }
+        svg
+    }
+
+    /// A line through the values of all bars; the least and the greatest of those that share a pixel.
+    fn line(&self, values: &[f64]) -> String {
+        let columns = (RIGHT - self.left) as usize;
+        let each = values.len().div_ceil(columns).max(1);
+        let mut outline = String::new();
+        let mut broken = true;
+        for (part, some) in values.chunks(each).enumerate() {
+            let finite = || some.iter().copied().filter(|value| value.is_finite());
+            let (least, most) = (finite().fold(f64::INFINITY, f64::min), finite().fold(f64::NEG_INFINITY, f64::max));
+            if least > most {
+                broken = true;
+                continue;
+            }
+            let x = self.x(part * each);
+            let (first, second) = if some[0] == most { (most, least) } else { (least, most) };
+            let pen = if broken { 'M' } else { 'L' };
+            outline.push_str(&format!("{pen}{x:.1},{:.1}", self.y(first)));
+            if each > 1 || broken {
+                outline.push_str(&format!("L{x:.1},{:.1}", self.y(second)));
+            }
+            broken = false;
+        }
+        outline
+    }
+}
+
+/// The least and the greatest finite value, apart from each other.
+fn spread(values: impl Iterator<Item = f64>) -> (f64, f64) {
+    let finite = values.filter(|value| value.is_finite());
+    let (low, high) = finite.fold((f64::INFINITY, f64::NEG_INFINITY), |(l, h), v| (l.min(v), h.max(v)));
+    if low > high {
+        return (0.0, 1.0);
+    }
+    if low < high {
+        return (low, high);
+    }
+    let pad = (low.abs() / 100.0).max(f64::MIN_POSITIVE);
+    ((low - pad).max(f64::MIN), (high + pad).min(f64::MAX))
+}
+
+/// How the times of a run are told.
+pub fn clock(outcome: &Outcome) -> Clock {
+    match (outcome.equity.first(), outcome.equity.last()) {
+        (Some(first), Some(last)) => Clock::of(first.time, last.time),
+        _ => Clock::Number,
+    }
+}
+
+/// The closes, with a mark at each entry and each exit.
+fn closes(frame: &Frame, outcome: &Outcome) -> String {
+    let mut svg = frame.svg("Closes, entries and exits", outcome);
+    svg.path("series", &frame.line(&outcome.closes));
+    let every = outcome.trades.len().div_ceil(MARKED).max(1);
+    let clock = clock(outcome);
+    for (number, (trade, [entry, exit])) in outcome.trades.iter().zip(places(outcome)).enumerate().step_by(every) {
+        let long = trade.qty > 0.0;
+        let name = format!("trade {}: {}", number + 1, if long { "long" } else { "short" });
+        let (x, y) = (frame.x(entry), frame.y(trade.entry_price));
+        let d = if long { 9.0 } else { -9.0 };
+        let outline = format!("M{x:.1},{y:.1}l5,{d}h-10z");
+        svg.mark(if long { "long" } else { "short" }, &outline, &format!("{name}, {}", entry_words(trade, clock)));
+        let (x, y) = (frame.x(exit), frame.y(trade.exit_price));
+        let class = if trade.pnl > 0.0 { "won" } else { "lost" };
+        svg.mark(
+            class,
+            &format!("M{x:.1},{y:.1}m-5,0l5,-5l5,5l-5,5z"),
+            &format!("{name}, {}", exit_words(trade, clock)),
+        );
+    }
+    svg.done()
+}
+
+/// What the marks mean, and whether all trades have one.
+pub fn marks(outcome: &Outcome) -> String {
+    let every = outcome.trades.len().div_ceil(MARKED);
+    let note = match every {
+        0 | 1 => String::new(),
+        n => format!(" Of {} trades every {n}th is marked.", outcome.trades.len()),
+    };
+    format!("▲ entry long, ▼ entry short, ◆ exit with a profit, ◇ exit without; each at its price.{note}")
+}
+
+fn entry_words(trade: &Trade, clock: Clock) -> String {
+    format!("entered at {}, {}", rounded(trade.entry_price), clock.text(trade.entry_time))
+}
+
+fn exit_words(trade: &Trade, clock: Clock) -> String {
+    let (price, pnl) = (rounded(trade.exit_price), rounded(trade.pnl));
+    format!("left at {price} by {}, pnl {pnl}, {}", reason_words(trade.reason), clock.text(trade.exit_time))
+}
+
+/// The bars of each trade's entry and exit. A trade has their times; one after another they are looked for from where the trade before
+/// was left, so that times which occur twice do no harm.
+fn places(outcome: &Outcome) -> Vec<[usize; 2]> {
+    let mut at = 0;
+    let mut from = |time: i64| {
+        let found = outcome.equity[at..].iter().position(|point| point.time == time);
+        at += found.unwrap_or(0);
+        at
+    };
+    outcome.trades.iter().map(|trade| [from(trade.entry_time), from(trade.exit_time)]).collect()
+}
+
+/// The equity at each close, and the capital as a broken line.
+fn equity_chart(frame: &Frame, outcome: &Outcome, values: &[f64]) -> String {
+    let mut svg = frame.svg("Equity over time", outcome);
+    let y = frame.y(outcome.capital);
+    svg.line("capital", (frame.left, y), (RIGHT, y));
+    svg.path("series", &frame.line(values));
+    svg.done()
+}
+
+/// How far each equity is under the highest so far, in percent of that, as the metrics reckon it; 0 or below.
+fn under(equity: &[f64]) -> Vec<f64> {
+    let mut peak = f64::NEG_INFINITY;
+    let one = |&equity: &f64| {
+        peak = if equity > peak { equity } else { peak };
+        if peak > 0.0 {
+            -(peak - equity) / peak * 100.0
+        } else {
+            0.0
+        }
+    };
+    equity.iter().map(one).collect()
+}
+
+fn drawdown_chart(frame: &Frame, outcome: &Outcome, values: &[f64]) -> String {
+    let mut svg = frame.svg("Drawdown over time, in percent", outcome);
+    let line = frame.line(values);
+    if !line.is_empty() {
+        let (first, last, zero) = (frame.x(0), frame.x(values.len() - 1), frame.y(0.0));
+        svg.path("under", &format!("M{first:.1},{zero:.1}L{}L{last:.1},{zero:.1}z", line[1..].replace('M', "L")));
+    }
+    svg.done()
+}
+
+#[cfg(test)]
+mod tests {
+    use super::*;
+
+    #[test]
+    fn any_values_have_a_frame() {
+        for values in [
+            vec![],
+            vec![f64::NAN],
+            vec![0.0],
+            vec![5.0, 5.0],
+            vec![f64::MAX, f64::MIN],
+            vec![5e-324, -5e-324],
+            vec![1e16, 1e16 + 2.0],
+        ] {
+            let frame = Frame::new(100.0, values.len().max(1), values.iter().copied());
+            assert!(frame.low < frame.high, "{values:?}");
+            assert!(frame.ticks().len() > 1 && frame.ticks().iter().all(|tick| tick.is_finite()), "{values:?}");
+            assert!(values.iter().filter(|v| v.is_finite()).all(|v| (TOP..=frame.bottom).contains(&frame.y(*v))));
+        }
+    }
+
+    #[test]
+    fn a_long_line_is_as_wide_as_the_chart() {
+        let values: Vec<f64> = (0..1_000_000).map(|n| f64::from(n % 7)).collect();
+        let frame = Frame::new(100.0, values.len(), values.iter().copied());
+        assert!(frame.line(&values).len() < 40_000);
+        assert_eq!(frame.line(&[1.0, f64::NAN, 2.0]).matches('M').count(), 2);
+    }
+}

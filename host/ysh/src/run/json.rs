@@ -1,0 +1,114 @@
+//! A run for programs: everything, in exact numbers.
+
+use std::collections::BTreeMap;
+
+use serde::{Serialize, Serializer};
+use yshturpa::{Point, Trade};
+
+use super::outcome::{reason_name, Outcome};
+use crate::problem::Problem;
+use crate::table::number;
+
+/// A float as it is; one that is not finite, which JSON has no number for, as a text: `inf`, `-inf` or `NaN`.
+pub struct Exact(pub f64);
+
+impl Serialize for Exact {
+    fn serialize<S: Serializer>(&self, serializer: S) -> Result<S::Ok, S::Error> {
+        match self.0.is_finite() {
+            true => serializer.serialize_f64(self.0),
+            false => serializer.serialize_str(&number(self.0)),
+        }
+    }
+}
+
+#[derive(Serialize)]
+struct Document<'a> {
+    file: &'a str,
+    bars_file: &'a str,
+    capital: Exact,
+    bars: usize,
+    metrics: MetricsJson,
+    last_equity: Exact,
+    fees_paid: Exact,
+    trades: Vec<TradeJson>,
+    equity: Vec<(i64, Exact)>,
+    refused_bars: u64,
+    /// The first of them.
+    refused: Vec<RefusedJson>,
+    columns_not_read: &'a [String],
+    notes: &'a [String],
+}
+
+#[derive(Serialize)]
+struct MetricsJson {
+    #[serde(flatten)]
+    floats: BTreeMap<&'static str, Exact>,
+    num_trades: u64,
+}
+
+#[derive(Serialize)]
+struct TradeJson {
+    entry_time: i64,
+    exit_time: i64,
+    entry_price: Exact,
+    exit_price: Exact,
+    qty: Exact,
+    pnl: Exact,
+    return_pct: Exact,
+    reason: &'static str,
+    funding: Exact,
+    worst: Exact,
+}
+
+#[derive(Serialize)]
+struct RefusedJson {
+    place: String,
+    text: String,
+    refused: Option<[u32; 2]>,
+}
+
+pub fn json(outcome: &Outcome) -> String {
+    let floats = outcome.nine().into_iter().filter(|(name, ..)| *name != "num_trades");
+    let document = Document {
+        file: &outcome.file,
+        bars_file: &outcome.bars_file,
+        capital: Exact(outcome.capital),
+        bars: outcome.equity.len(),
+        metrics: MetricsJson {
+            floats: floats.map(|(name, _, _, x)| (name, Exact(x))).collect(),
+            num_trades: outcome.metrics.num_trades,
+        },
+        last_equity: Exact(outcome.last_equity()),
+        fees_paid: Exact(outcome.fees),
+        trades: outcome.trades.iter().map(trade).collect(),
+        equity: outcome.equity.iter().map(|point: &Point| (point.time, Exact(point.equity))).collect(),
+        refused_bars: outcome.refusals.count,
+        refused: outcome.refusals.told.iter().map(refused).collect(),
+        columns_not_read: &outcome.unread,
+        notes: &outcome.notes,
+    };
+    serde_json::to_string(&document).expect("an answer is JSON") + "\n"
+}
+
+fn trade(trade: &Trade) -> TradeJson {
+    TradeJson {
+        entry_time: trade.entry_time,
+        exit_time: trade.exit_time,
+        entry_price: Exact(trade.entry_price),
+        exit_price: Exact(trade.exit_price),
+        qty: Exact(trade.qty),
+        pnl: Exact(trade.pnl),
+        return_pct: Exact(trade.return_pct),
+        reason: reason_name(trade.reason),
+        funding: Exact(trade.funding),
+        worst: Exact(trade.worst),
+    }
+}
+
+fn refused(problem: &Problem) -> RefusedJson {
+    RefusedJson {
+        place: problem.place.clone(),
+        text: problem.text.clone(),
+        refused: problem.refusal.map(|refusal| [refusal.number, refusal.place]),
+    }
+}

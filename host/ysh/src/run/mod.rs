@@ -1,0 +1,12 @@
+//! A strategy over a file of bars: how it is made ready, what came of it, and how that is written.
+
+pub mod asked;
+mod charts;
+pub mod csv;
+pub mod json;
+pub mod outcome;
+pub mod page;
+mod ready;
+pub mod text;
+
+pub use ready::Ready;

@@ -1,0 +1,112 @@
+//! What came of a run.
+
+use yshturpa::{Metrics, Point, Reason, Trade};
+
+use super::Ready;
+use crate::bars::{over, OnRefusal, Refusals};
+use crate::problem::Problem;
+
+/// A run over every bar of a file, finished.
+pub struct Outcome {
+    pub file: String,
+    pub bars_file: String,
+    /// What a strategy says that it trades, and on which bars; empty for a table.
+    pub title: String,
+    pub capital: f64,
+    pub metrics: Metrics,
+    pub trades: Vec<Trade>,
+    pub equity: Vec<Point>,
+    /// The close of each bar that was done.
+    pub closes: Vec<f64>,
+    pub fees: f64,
+    pub refusals: Refusals,
+    pub unread: Vec<String>,
+    pub notes: Vec<String>,
+}
+
+/// The reasons in their numbers' order.
+pub const REASONS: [Reason; 6] =
+    [Reason::Signal, Reason::StopLoss, Reason::TrailingStop, Reason::TakeProfit, Reason::Liquidation, Reason::End];
+
+/// What a reason is called in files.
+pub fn reason_name(reason: Reason) -> &'static str {
+    match reason {
+        Reason::Signal => "signal",
+        Reason::StopLoss => "stop_loss",
+        Reason::TrailingStop => "trailing_stop",
+        Reason::TakeProfit => "take_profit",
+        Reason::Liquidation => "liquidation",
+        Reason::End => "end",
+    }
+}
+
+/// The same for people.
+pub fn reason_words(reason: Reason) -> String {
+    reason_name(reason).replace('_', " ")
+}
+
+impl Outcome {
+    pub fn of(ready: Ready, on_refusal: OnRefusal) -> Result<Outcome, Problem> {
+        let notes = ready.notes();
+        let Ready { source, settings, bars, mut engine } = ready;
+        let mut closes = Vec::new();
+        let walked = over(&bars, &mut engine, on_refusal, None, |list, places| {
+            closes.extend(places.map(|place| list.close(place)));
+        })?;
+        let metrics = engine.finish().map_err(|refusal| source.refused(refusal))?;
+        let title = source.strategy.as_ref().map(|s| format!("{} {}", s.symbol, s.timeframe)).unwrap_or_default();
+        Ok(Outcome {
+            file: source.file.clone(),
+            bars_file: bars.name.clone(),
+            title: title.trim().to_owned(),
+            capital: settings.capital,
+            metrics,
+            trades: engine.trades().collect(),
+            equity: engine.equity().collect(),
+            closes,
+            fees: engine.state().fees_paid(),
+            refusals: walked.refusals,
+            unread: bars.columns.unread().into_iter().map(str::to_owned).collect(),
+            notes,
+        })
+    }
+
+    /// How many trades were left for a reason.
+    pub fn left_for(&self, reason: Reason) -> usize {
+        self.trades.iter().filter(|trade| trade.reason == reason).count()
+    }
+
+    pub fn won(&self) -> usize {
+        self.trades.iter().filter(|trade| trade.pnl > 0.0).count()
+    }
+
+    pub fn lost(&self) -> usize {
+        self.trades.iter().filter(|trade| trade.pnl < 0.0).count()
+    }
+
+    /// What the trades paid in funding.
+    pub fn funding(&self) -> f64 {
+        self.trades.iter().fold(0.0, |sum, trade| sum + trade.funding)
+    }
+
+    /// The equity after the last bar, the closing fee counted; the capital where there was none.
+    pub fn last_equity(&self) -> f64 {
+        self.equity.last().map_or(self.capital, |point| point.equity)
+    }
+
+    /// The nine metrics, each with its name in files, its name for people, and its unit.
+    pub fn nine(&self) -> [(&'static str, &'static str, &'static str, f64); 9] {
+        let m = &self.metrics;
+        [
+            ("pnl", "profit and loss", "", m.pnl),
+            ("return_pct", "return", "%", m.return_pct),
+            ("sharpe", "Sharpe ratio", "", m.sharpe),
+            ("sortino", "Sortino ratio", "", m.sortino),
+            ("calmar", "Calmar ratio", "", m.calmar),
+            ("max_drawdown", "greatest drawdown", "%", m.max_drawdown),
+            ("win_rate", "trades won", "%", m.win_rate),
+            ("profit_factor", "profit factor", "", m.profit_factor),
+            ("num_trades", "trades", "", m.num_trades as f64),
+        ]
+    }
+}
