@@ -44,7 +44,7 @@ module _ (K first : ℕ) (ws : List ℕ) (held n : ℕ) (is : held ≡ historyOf
   all = ring-held K first ws held is
 
   -- row i of them
-  row-there : (i : ℕ) → i < held → ringOf K first ws .word i ≡ wordsFrom ws (ringPlace held first i * (7 + K))
+  pub row-there : (i : ℕ) → i < held → ringOf K first ws .word i ≡ wordsFrom ws (ringPlace held first i * (7 + K))
   row-there i l =
       ring-row K first ws i (rw is at fits) (rw is at l)
       ∙ (unfold historyOf in ap (λ (r : ℕ). wordsFrom ws (ringPlace r first i * (7 + K))) (sym is))

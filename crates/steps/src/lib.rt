@@ -2,6 +2,7 @@
 pub mod choice;
 pub mod decode;
 mod emit;
+mod looking;
 pub mod machine;
 pub mod running;
 mod stack;

@@ -3,6 +3,7 @@
 use crate::Ran;
 use crate::Step;
 use crate::decode;
+use crate::looking;
 use crate::stack;
 use rows::ring;
 use rules::PositionState;
@@ -18,8 +19,7 @@ ghost use lib.ListN.{length};
 ghost use Rattle.rows.specs.History.{History, historyOf};
 ghost use Rattle.rows.specs.Ring.{ringPlace, ringOf};
 ghost use Rattle.rules.specs.Values as Values;
-ghost use Rattle.table.specs.Trees.{const, ref, price, extreme};
-ghost use Rattle.rules.specs.Meaning.{seriesAt, extremeOver};
+ghost use Rattle.table.specs.Trees.{const, ref, price};
 ghost use Rattle.steps.specs.Bytes.{opOf, opsFrom, opsOf, stepsIn, stepsRun};
 ghost use Rattle.steps.specs.Machine.{ago, giving, viewing, saying, effect, ranOver};
 ghost use Rattle.steps.specs.Places.{testedAt, Tries, Fresh};
@@ -108,67 +108,6 @@ fn leaf(x: Step, rows: &[u64], slots: usize, held: usize, first: usize) -> Value
     price_ago(rows, slots, held, first, x.selector, x.n)
 }
 
-// What Highest and Lowest look over, in row i of the `held` rows that begin at row `first`.
-fn series_at(rows: &[u64], slots: usize, held: usize, first: usize, over: Series, i: usize) -> Value
-    requires { ⌜ (held ≡ historyOf slots (now rows) .rows) × (first ≤ held) × (i < held) ⌝ }
-    ensures { λ r. ⌜ r ≡ seriesAt (ringOf slots first (now (rows .entry))) over i ⌝ }
-{
-    let base = ring::place(held, first, i) * (words::limits::ROW_FIXED + slots);
-    match over {
-        Series::Price(selector) => Value::Number(values::price_at(rows, base, selector)),
-        Series::Slot(slot) => values::slot_at(rows, base, slot),
-    }
-}
-
-// The best of the rows from `oldest` to `newest`: it starts at the oldest.
-fn extreme_over(
-    kind: u8,
-    rows: &[u64],
-    slots: usize,
-    held: usize,
-    first: usize,
-    over: Series,
-    oldest: usize,
-    newest: usize,
-) -> Value
-    requires { ⌜ (held ≡ historyOf slots (now rows) .rows) × (first ≤ held) × (oldest ≤ newest) × (newest < held) ⌝ }
-    ensures { λ r. ⌜ r ≡ extremeOver (ringOf slots first (now (rows .entry))) kind over oldest (newest - oldest) ⌝ }
-{
-    let mut best = series_at(rows, slots, held, first, over, oldest);
-    let mut at = oldest;
-    while at < newest {
-        at += 1;
-        best = values::pick(kind, best, series_at(rows, slots, held, first, over, at));
-    }
-    best
-}
-
-// Highest or Lowest over n rows, the newest of them `back` rows before the newest of all.
-fn extreme_ago(
-    kind: u8,
-    rows: &[u64],
-    slots: usize,
-    held: usize,
-    first: usize,
-    over: Series,
-    n: u64,
-    back: u64,
-) -> Value
-    requires { ⌜ (held ≡ historyOf slots (now rows) .rows) × (first ≤ held) ⌝ }
-    ensures { λ r. ⌜ r ≡ ago (ringOf slots first (now (rows .entry))) (extreme kind over n) back ⌝ }
-{
-    if held as u64 <= back {
-        return Value::Missing;
-    }
-    let newest = held - 1 - back as usize;
-    let rest = decode::before(n);
-    if (newest as u64) < rest {
-        return Value::Missing;
-    }
-    let oldest = newest - rest as usize;
-    extreme_over(kind, rows, slots, held, first, over, oldest, newest)
-}
-
 // The value that a step of Highest or Lowest gives.
 fn look(x: Step, rows: &[u64], slots: usize, held: usize, first: usize) -> Value
     requires { ⌜ (held ≡ historyOf slots (now rows) .rows) × (first ≤ held) ⌝ }
@@ -179,10 +118,10 @@ fn look(x: Step, rows: &[u64], slots: usize, held: usize, first: usize) -> Value
     let back = decode::newest_back(x.n, x.skip);
     if x.kind < decode::HIGHEST_SLOT {
         let over = Series::Price(x.selector);
-        return extreme_ago(x.kind, rows, slots, held, first, over, x.skip, back);
+        return looking::extreme_ago(x.kind, rows, slots, held, first, over, x.skip, back);
     }
     let over = Series::Slot(x.selector as u64);
-    extreme_ago(x.kind - 2, rows, slots, held, first, over, x.skip, back)
+    looking::extreme_ago(x.kind - 2, rows, slots, held, first, over, x.skip, back)
 }
 
 // How many values a cross or Between takes.

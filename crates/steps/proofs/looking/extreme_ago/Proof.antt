@@ -11,8 +11,8 @@ use Rattle.rules.specs.Meaning.{extremeOver}
 use Rattle.rules.specs.Laws.Meaning.{extreme-value, extreme-early, extreme-late}
 use Rattle.steps.specs.Machine.{ago}
 use Rattle.steps.proofs.Rows.{ring-held, there-ago, ago-late}
-use Rattle.steps.proofs.machine.extreme_ago.Statement.{statement}
-use Rattle.steps.proofs.machine.extreme_ago.Tie as tie
+use Rattle.steps.proofs.looking.extreme_ago.Statement.{statement}
+use Rattle.steps.proofs.looking.extreme_ago.Tie as tie
 
 module _ (h : History) (kind : ℕ) (over : Series) (n back held : ℕ) (is : held ≡ h .rows) (near : back < held) where
   too-few : held - 1 - back < n - 1 → ago h (extreme kind over n) back ≡ Missing

@@ -7,8 +7,8 @@ use native.Mathlib.Nat.{le-refl}
 use Rattle.rows.specs.Ring.{ringOf}
 use Rattle.rules.specs.Meaning.{extremeOver}
 use Rattle.rules.specs.Laws.Meaning.{extreme-one, extreme-more}
-use Rattle.steps.proofs.machine.extreme_over.Statement.{statement}
-use Rattle.steps.proofs.machine.extreme_over.Tie as tie
+use Rattle.steps.proofs.looking.series_over.Statement.{statement}
+use Rattle.steps.proofs.looking.series_over.Tie as tie
 
 abbrev Inv-loop : tie.InvT-loop
 Inv-loop kind rows slots held first over oldest newest best₀ at₀ best at =
@@ -17,8 +17,8 @@ Inv-loop kind rows slots held first over oldest newest best₀ at₀ best at =
 abbrev μ-loop : tie.MeasureT-loop
 μ-loop kind rows slots held first over oldest newest best₀ at₀ best at = newest - at
 
-pub extreme-over-spec : {M : Type 1} → statement M
-extreme-over-spec =
+pub series-over-spec : {M : Type 1} → statement M
+series-over-spec =
     tie.close
     (tie.spec
     Inv-loop

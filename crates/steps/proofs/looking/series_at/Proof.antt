@@ -5,8 +5,8 @@ use mathlib.Core.Path.{sym}
 use Prim.Native.Nat.{_+_, _*_, _≤_}
 use lib.ListN.{length}
 use Rattle.steps.proofs.Rows.{place-ends, price-in, slot-in}
-use Rattle.steps.proofs.machine.series_at.Statement.{statement}
-use Rattle.steps.proofs.machine.series_at.Tie as tie
+use Rattle.steps.proofs.looking.series_at.Statement.{statement}
+use Rattle.steps.proofs.looking.series_at.Tie as tie
 
 ends : (c : tie.After-place) → let a = c .before .before .args in c .place .result * (7 + a .slots) + (7 + a .slots) ≤ length (a .rows .now)
 ends c =
