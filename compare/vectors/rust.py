@@ -7,7 +7,7 @@ import subprocess
 
 import steps
 import tables
-from words import (EQUITY, FIGURES, FINISH, FRESH, METRIC_WORDS, METRICS, ROOT, ROWS, RULE, RUN, SETTINGS, STATE, STATE_WORDS, STEP,
+from words import (EQUITY, FIGURES, FINISH, FRESH, METRIC_WORDS, METRICS, ROOT, ROWS, RULE, RUN, SETTINGS, STATE, STATE_WORDS, STEP, STEPS,
                    TABLE, TRADES, TRADE_WORDS, bits, lend, lend_bytes, line, refusal, setting_words, words)
 
 HERE = os.path.dirname(os.path.abspath(__file__))
@@ -189,3 +189,44 @@ def kept_orders():
             stepped = True
             yield lend(SETTINGS, settings[:20] + [0, bits(-50.0), bits(50.0)] + settings[23:])
         number += call == FINISH
+
+
+# The bars of a call over many, at most: so that a line stays short.
+DAY = 16
+
+
+def days(name):
+    """The runs of a list with their bars in calls over many: a call stops at a bar that is refused, and the next goes on behind it."""
+    bars, told, trades, point = [], [], 0, []
+
+    def call(answer):
+        done = len(told)
+        pair = line(STEPS, *[word for bar in bars for word in bar]), line(answer, done, trades, *point)
+        bars.clear()
+        told.clear()
+        return pair
+
+    for given, answer in runs(name):
+        number, *content = words(given)
+        if number != STEP:
+            if bars:
+                yield call(0)
+            if number == FRESH:
+                trades, point = 0, []
+            if number == FINISH:
+                # No bars at all, and a list that is not whole bars.
+                yield call(0)
+                bars.append([0] * 7)
+                yield call(refusal(13, 0))
+            yield given, answer
+            continue
+        bars.append(content)
+        said, *rest = words(answer)
+        if said:
+            yield call(said)
+            continue
+        told.append(rest)
+        point = rest[:2]
+        trades += len(rest) > 2
+        if len(bars) == DAY:
+            yield call(0)

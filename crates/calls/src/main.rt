@@ -86,6 +86,7 @@ fn call_run(
         0x25 => runs::fresh(sizes, settings, state),
         0x26 => runs::step(line, sizes, settings, state, rows, equity, trades, lists),
         0x27 => runs::finish(sizes, settings, state, rows, equity, trades, metrics),
+        0x2b => runs::steps(line, sizes, settings, state, rows, equity, trades, lists),
         0x28 => runs::metrics(line, sizes, equity, trades, metrics),
         _ => text::write_words(&[capi::figures::ysh_root(word(line, 1))], b'\n'),
     }

@@ -113,6 +113,70 @@ pub(crate) fn step(
     );
 }
 
+fn steps_call(
+    bars: &[u64],
+    sizes: &[u64],
+    settings: &[u64],
+    state: &mut [u64],
+    rows: &mut [u64],
+    equity: &mut [u64],
+    trades: &mut [u64],
+    lists: &[u8],
+    done: &mut u64,
+) -> u64 {
+    let from: usize = 0;
+    let s = rooms::lent(sizes, rooms::STATE, state.len());
+    let r = rooms::lent(sizes, rooms::ROWS, rows.len());
+    let e = rooms::lent(sizes, rooms::EQUITY, equity.len());
+    let t = rooms::lent(sizes, rooms::TRADES, trades.len());
+    capi::day::ysh_steps(
+        rooms::words_of(sizes, rooms::SETTINGS, settings),
+        &mut state[from..s],
+        bars,
+        &mut rows[from..r],
+        &mut equity[from..e],
+        &mut trades[from..t],
+        rooms::list(sizes, 0, lists),
+        rooms::list(sizes, 1, lists),
+        rooms::list(sizes, 2, lists),
+        rooms::list(sizes, 3, lists),
+        done,
+    )
+}
+
+// The words after the first are bars. The answer, how many were done, the trades so far, and the newest equity point where there is one.
+pub(crate) fn steps(
+    line: &[u64],
+    sizes: &[u64],
+    settings: &[u64],
+    state: &mut [u64],
+    rows: &mut [u64],
+    equity: &mut [u64],
+    trades: &mut [u64],
+    lists: &[u8],
+) {
+    let mut done: u64 = 0;
+    let bars = rooms::part(line, 1, line.len());
+    let answer = steps_call(
+        bars,
+        sizes,
+        settings,
+        state,
+        rows,
+        equity,
+        trades,
+        lists,
+        &mut done,
+    );
+    let points = word(state, POINTS);
+    if 0 < points {
+        text::write_words(&[answer, done, word(state, CLOSED)], b' ');
+        text::write_words(point(equity, points - 1), b'\n');
+    } else {
+        text::write_words(&[answer, done, word(state, CLOSED)], b'\n');
+    }
+}
+
 fn finish_call(
     sizes: &[u64],
     settings: &[u64],

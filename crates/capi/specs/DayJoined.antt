@@ -42,6 +42,17 @@ fromWords state r = record { done = r .done; answer = answerOf (r .verdict); len
 abbrev pub inOne : WordRun → Call DayLent
 inOne r = record { answer = r .answer; lent = record { state = r .lent .state; rooms = r .lent .rooms; done = r .done } }
 
+-- a list of whole bars with a word has a bar
+first-bar : (K w : ℕ) (ws : List ℕ) → wholeBars K (w ∷ ws) ≡ true → barWords K ≤ length (w ∷ ws)
+unfolding noBars wholeFor
+first-bar K w ws h = whole-one K (w ∷ ws) false (ne-eqb (length (w ∷ ws)) 0 (λ (z : length (w ∷ ws) ≡ 0). omega arith)) h
+
+-- and is that bar and the others
+bars-first : (K w : ℕ) (ws : List ℕ) → wholeBars K (w ∷ ws) ≡ true
+    → barsIn K (w ∷ ws) ≡ take (barWords K) (w ∷ ws) ∷ cut (length (w ∷ ws) / barWords K - 1) (barWords K) (drop (barWords K) (w ∷ ws))
+unfolding barsIn
+bars-first K w ws h = rw h (cut-next _ (barWords K) (w ∷ ws) (some-bars K (w ∷ ws) (first-bar K w ws h)))
+
 module _ (settings state : List ℕ) (set : settingWords ≤ length settings) (long : stateWords ≤ length state) (ls : Lists) (m : Rooms) where
   abbrev s : Settings
   s = settingsOf settings
@@ -114,7 +125,6 @@ module _ (settings state : List ℕ) (set : settingWords ≤ length settings) (l
 
       go : (b : Bool) → wholeBars K (w ∷ ws) ≡ b → stepsCall settings state (w ∷ ws) m ls ≡ inOne (callsOver settings ls given (barsIn K (w ∷ ws)))
       go true h =
-          let first = whole-one K (w ∷ ws) false (unfold noBars in refl) (unfold wholeFor in h) in
           some-of (w ∷ ws) (take (barWords K) (w ∷ ws)) (cut (length (w ∷ ws) / barWords K - 1) (barWords K) (drop (barWords K) (w ∷ ws))) (omega arith)
-          (unfold barsIn in rw h (cut-next _ (barWords K) (w ∷ ws) (some-bars K (w ∷ ws) first)))
+          (bars-first K w ws h)
       go false h = some-of (w ∷ ws) (w ∷ ws) [] (omega arith) (unfold barsIn in rw h)
