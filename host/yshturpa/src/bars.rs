@@ -102,16 +102,16 @@ impl Engine {
     /// The bars at some places of a list, up to the first that is refused, which has changed nothing. Bars of another K are refused as
     /// any bar of the wrong length is (13).
     pub fn step_over(&mut self, bars: &Bars, places: Range<usize>) -> Done {
-        let Engine { settings, state, rows, equity, trades, steps, .. } = self;
+        let Engine { slots, settings, state, rows, equity, trades, steps, .. } = self;
         let [entry, exit, short_entry, short_exit] = steps;
         let lists = [&entry[..], exit, short_entry, short_exit];
         let asked = &bars.words[places.start * bars.width()..places.end * bars.width()];
-        for (done, words) in asked.chunks_exact(bars.width()).enumerate() {
-            if let Err(refusal) = calls::step(settings, Rooms { state, rows, equity, trades }, words, lists) {
-                return Done { bars: done, refused: Some(refusal) };
-            }
+        let rooms = Rooms { state, rows, equity, trades };
+        if bars.slots != *slots && !asked.is_empty() {
+            return Done { bars: 0, refused: calls::step(settings, rooms, &asked[..bars.width()], lists).err() };
         }
-        Done { bars: places.len(), refused: None }
+        let (done, answer) = calls::steps(settings, rooms, asked, lists);
+        Done { bars: done as usize, refused: answer.err() }
     }
 
     /// Places for so many bars more, and for as many trades, the one that finish may close too. The rows are cut to the last D, which is
