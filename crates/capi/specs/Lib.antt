@@ -4,6 +4,7 @@ pub mod Run
 pub mod Fresh
 pub mod Bars
 pub mod Finish
+pub mod Power
 pub mod Figures
 pub mod WordRun
 pub mod Laws
