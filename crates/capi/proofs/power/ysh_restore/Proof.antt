@@ -17,7 +17,8 @@ returns-2 c =
     let words = c .before .before .before .before in
     let told = words .before .before in
     let room = told .before .before in
-    let lent = lent-words _ _ _ (room .before .before .settings-of .ensures) (room .judge-room .ensures) (told .enum-told .given .1) (words .judge-words .ensures) in
+    let lent = lent-words _ _ _ (room .before .before .settings-of .ensures) (room .judge-room .ensures) (told .enum-told .given .1)
+    (words .judge-words .ensures) in
     restore-short _ _ _ _ (lent ∙ c .before .before .refusal2 .given .1) (c .answer-word2 .ensures)
 
 returns-3 : tie.Need-returns-3
@@ -27,7 +28,8 @@ returns-3 c =
     let words = fine .before .before in
     let told = words .before .before in
     let room = told .before .before in
-    let lent = lent-words _ _ _ (room .before .before .settings-of .ensures) (room .judge-room .ensures) (told .enum-told .given .1) (words .judge-words .ensures) in
+    let lent = lent-words _ _ _ (room .before .before .settings-of .ensures) (room .judge-room .ensures) (told .enum-told .given .1)
+    (words .judge-words .ensures) in
     restore-refused _ _ _ _ (lent ∙ fine .enum-told2 .given .1) (room .before .before .settings-of .ensures) (ran .restore .ensures)
     (c .before .before .restored .given .1) (c .answer-word3 .ensures)
 
@@ -40,7 +42,8 @@ returns-4 c =
     let words = fine .before .before in
     let told = words .before .before in
     let room = told .before .before in
-    let lent = lent-words _ _ _ (room .before .before .settings-of .ensures) (room .judge-room .ensures) (told .enum-told .given .1) (words .judge-words .ensures) in
+    let lent = lent-words _ _ _ (room .before .before .settings-of .ensures) (room .judge-room .ensures) (told .enum-told .given .1)
+    (words .judge-words .ensures) in
     restore-done _ _ _ _ (lent ∙ fine .enum-told2 .given .1) (room .before .before .settings-of .ensures) (ran .restore .ensures)
     (next .restored2 .given .1) (put .put-state .ensures)
 
