@@ -3,3 +3,4 @@ pub mod Stepping
 pub mod Days
 pub mod Finishing
 pub mod Writing
+pub mod Powering

@@ -38,6 +38,7 @@ module _ (K D bytes : ℕ) where
           sym (le-leb (256 + D * (8 * (7 + K))) bytes (rw body-words (omega arith)))
       go false e =
           let over : (bytes - 256) / 8 / (7 + K) < D = leb-false _ _ e in
-          let not-fit : D * (7 + K) ≤ (bytes - 256) / 8 → ⊥ = λ f. let g : D ≤ (bytes - 256) / 8 / (7 + K) = le-div-iff-mul-le {k = 7 + K} (omega arith) .1 f in omega arith in
+          let not-fit : D * (7 + K) ≤ (bytes - 256) / 8 → ⊥ = λ f.
+          let g : D ≤ (bytes - 256) / 8 / (7 + K) = le-div-iff-mul-le {k = 7 + K} (omega arith) .1 f in omega arith in
           let more : (bytes - 256) / 8 < D * (7 + K) = lt-of-not-le not-fit in
           sym (lt-leb (256 + D * (8 * (7 + K))) bytes (rw body-words (omega arith)))

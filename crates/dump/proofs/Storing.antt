@@ -64,7 +64,8 @@ pub laid-two : (area : List ℕ) (base : ℕ) (xs : List ℕ) (p n q m k : ℕ) 
 laid-two area base xs p n q m k e f g h = rw (f, e, g, h) (laid-on area base xs p n m)
 
 -- what of a part lies between
-pub part-laid : (area : List ℕ) (base : ℕ) (ws : List ℕ) (skip start most from upto a b : ℕ) {out : List ℕ} → a ≡ clip from start most → b ≡ clip upto start most
+pub part-laid : (area : List ℕ) (base : ℕ) (ws : List ℕ) (skip start most from upto a b : ℕ) {out : List ℕ}
+    → a ≡ clip from start most → b ≡ clip upto start most
     → out ≡ laid area base (wordsBytes ws) (skip + a) (skip + b - (skip + a)) → out ≡ partLaid area base ws skip start most from upto
 part-laid area base ws skip start most from upto a b e f g =
     let n : skip + b - (skip + a) ≡ b - a = omega arith in

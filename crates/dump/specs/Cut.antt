@@ -158,5 +158,6 @@ module _ (s : Settings) (t : State) (room : List ℕ) (held : t .counts .«rows_
         λ l rows ten twelve.
             let bad = torn after (unmarked (imageOf s t room) size n at-least-a-header (omega (arith, size-of-image))) in
             below-fine (roomLines s rows) _ ten ∙ below-fine (settingLines s) _ twelve ∙ below-bad (imageLines after) (sameLines s after) _ bad,
-        λ l. all-written (imageOf s t room) (replicate {A = ℕ} size 0) n at-least-a-header (length-replicate {A = ℕ} size 0 ∙ sym size-of-image) (omega (arith, size-of-image)),
+        λ l. all-written (imageOf s t room) (replicate {A = ℕ} size 0) n at-least-a-header
+            (length-replicate {A = ℕ} size 0 ∙ sym size-of-image) (omega (arith, size-of-image)),
       )

@@ -7,3 +7,4 @@ pub mod Restoring
 pub mod Laws
 pub mod Cut
 pub mod Pages
+pub mod RoundTrip

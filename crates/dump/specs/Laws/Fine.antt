@@ -17,7 +17,8 @@ use Rattle.refusals.specs.Laws.Lines.{and-true, first-holds, both-fine}
 use Rattle.engine.specs.Books.{emptied}
 use Rattle.dump.specs.Layout.{headBytes, dumpBytes}
 use Rattle.dump.specs.Reading.{slotsIn, versionIn, depthIn, seenIn, rowsIn}
-use Rattle.dump.specs.Refused.{areaLines, dumpStateLines, dumpLines, dumpJudged, shapeFine, numbersFine, imageLines, sameLines, restoreLines, restoreJudged}
+use Rattle.dump.specs.Refused.{areaLines, dumpStateLines, dumpLines, dumpJudged}
+use Rattle.dump.specs.Refused.{shapeFine, numbersFine, imageLines, sameLines, restoreLines, restoreJudged}
 
 pub record DumpFine (s : Settings) (t : State) (rows area : List ℕ) : Type 0 where
   pub slots : s .slots ≤ mostSlots

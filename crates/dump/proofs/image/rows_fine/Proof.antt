@@ -37,7 +37,8 @@ returns-2 c =
     let x = slots .before .before .args .image .now in
     let at = place .row-place .ensures .0 ∙ ap (λ (k : ℕ). rowPlace k (rows .read32 .result)) (slots .byte .ensures)
     ∙ ap (rowPlace (slotsIn x)) (rows .read32 .ensures .0) in
-    rows-end x (each-as x (each .each-fine .ensures) (slots .byte .ensures) (rows .read32 .ensures .0)) at (not-false _ (place .before .if1 .left)) (c .if2 .taken)
+    rows-end x (each-as x (each .each-fine .ensures) (slots .byte .ensures) (rows .read32 .ensures .0)) at (not-false _ (place .before .if1 .left))
+    (c .if2 .taken)
 
 returns-3 : tie.Need-returns-3
 returns-3 c =

@@ -17,7 +17,8 @@ mul-end c =
 slice-aggregate-window : tie.Need-slice-aggregate-window
 slice-aggregate-window c =
     let s = c .before .before in
-    sym (length-take-le (s .args .held * (7 + s .args .slots)) (s .args .rows .now) (records-fit _ (7 + s .args .slots) (omega arith) (s .args .held) (s .pre .1)))
+    sym (length-take-le (s .args .held * (7 + s .args .slots)) (s .args .rows .now)
+    (records-fit _ (7 + s .args .slots) (omega arith) (s .args .held) (s .pre .1)))
 
 returns : tie.Need-returns
 unfolding heldRows
