@@ -1,0 +1,114 @@
+-- The leaves that a test looks at, in the request's order, and what is said of them. Definitions only.
+use Prim.Native.Nat.{ℕ, _+_, _-_, _<_}
+use mathlib.Core.Path.{_≡_}
+use mathlib.Core.Bool.{Bool, true, false, not, cond}
+use mathlib.Core.Logic.{_⊎_}
+use mathlib.Core.List.{List, [], _∷_, _++_}
+use lib.Dec.{ltb}
+use lib.Ieee.{Float}
+use Rattle.rows.specs.History.{History}
+use Rattle.table.specs.Trees.{Operand, const, ref, price, prev, arith, Condition, compare, cross, between, trend, every, any, negated, inPosition, barsSince}
+use Rattle.table.specs.Writing.{nodesIn}
+use Rattle.rules.specs.declared.Value.{Value}
+use Rattle.rules.specs.declared.Value.the-variants.{Missing, Number}
+use Rattle.rules.specs.declared.PositionState.{PositionState}
+use Rattle.rules.specs.Values.{held}
+use Rattle.rules.specs.Meaning.{value, holds}
+use Rattle.chain.specs.Chain.{Shown, link, values, missing, atFirstBar, tooFewBars, position, sinceEntry, noEntry, shownFrom}
+
+-- a leaf, its node, and how many bars back it is looked at
+pub record Look : Type 0 where
+  pub leaf : Operand
+  pub node : ℕ
+  pub back : ℕ
+
+abbrev pub look : Operand → ℕ → ℕ → Look
+look leaf node back = record { leaf = leaf; node = node; back = back }
+
+-- "in table order": those of an operand whose node is number i, looked at so many bars back
+unfoldable pub looksIn : Operand → ℕ → ℕ → List Look
+looksIn (const bits) i back = look (const bits) i back ∷ []
+looksIn (ref slot) i back = look (ref slot) i back ∷ []
+looksIn (price selector) i back = look (price selector) i back ∷ []
+looksIn (prev a n) i back = looksIn a (i + 1) (back + n)
+looksIn (arith kind a b) i back = looksIn a (i + 1) back ++ looksIn b (i + 1 + nodesIn a) back
+
+-- "(this bar's before an earlier bar's)": those of a test whose node is number i
+unfoldable pub looksOf : Condition → ℕ → List Look
+looksOf (compare kind a b) i = looksIn a (i + 1) 0 ++ looksIn b (i + 1 + nodesIn a) 0
+looksOf (cross kind a b) i =
+    (looksIn a (i + 1) 0 ++ looksIn b (i + 1 + nodesIn a) 0) ++ (looksIn a (i + 1) 1 ++ looksIn b (i + 1 + nodesIn a) 1)
+looksOf (between x low high) i =
+    (looksIn x (i + 1) 0 ++ looksIn low (i + 1 + nodesIn x) 0) ++ looksIn high (i + 1 + nodesIn x + nodesIn low) 0
+looksOf (trend kind a n) i = looksIn a (i + 1) 0 ++ looksIn a (i + 1) n
+looksOf (every cs) i = []
+looksOf (any cs) i = []
+looksOf (negated c) i = []
+looksOf (inPosition wanted) i = []
+looksOf (barsSince selector k) i = []
+
+-- The values that a test compares: now, and for a cross, Rising and Falling before.
+unfoldable pub valuesOf : History → Condition → ℕ → List Value
+valuesOf h (compare kind a b) bar = value h a bar ∷ value h b bar ∷ []
+valuesOf h (cross kind a b) bar = value h a bar ∷ value h b bar ∷ value h a (bar - 1) ∷ value h b (bar - 1) ∷ []
+valuesOf h (between x low high) bar = value h x bar ∷ value h low bar ∷ value h high bar ∷ []
+valuesOf h (trend kind a n) bar = value h a bar ∷ value h a (bar - n) ∷ []
+valuesOf h (every cs) bar = []
+valuesOf h (any cs) bar = []
+valuesOf h (negated c) bar = []
+valuesOf h (inPosition wanted) bar = []
+valuesOf h (barsSince selector k) bar = []
+
+-- what a leaf is so many bars before `bar`: missing where there is no such bar
+unfoldable pub seen : History → ℕ → Look → Value
+seen h bar l = cond (ltb bar (l .back)) Missing (value h (l .leaf) (bar - l .back))
+
+-- it has a value there
+pub data IsThere : Value → Type 0 where
+  number : (x : Float) → IsThere (Number x)
+
+module _ (h : History) (bar : ℕ) where
+  -- The first missing leaf of these is this node, so many bars back: it is missing there, and each before it is not.
+  pub data FirstMissing : List Look → ℕ → ℕ → Type 0 where
+    this : (l : Look) (ls : List Look) → seen h bar l ≡ Missing → FirstMissing (l ∷ ls) (l .node) (l .back)
+    later : (l : Look) (ls : List Look) (node back : ℕ) → IsThere (seen h bar l) → FirstMissing ls node back → FirstMissing (l ∷ ls) node back
+
+  -- none of these is missing
+  pub data NoneMissing : List Look → Type 0 where
+    none-left : NoneMissing []
+    and-none : (l : Look) (ls : List Look) → IsThere (seen h bar l) → NoneMissing ls → NoneMissing (l ∷ ls)
+
+-- All, Any and Not only join the answers of others
+unfoldable pub joins : Condition → Bool
+joins (every cs) = true
+joins (any cs) = true
+joins (negated c) = true
+joins (compare kind a b) = false
+joins (cross kind a b) = false
+joins (between x low high) = false
+joins (trend kind a n) = false
+joins (inPosition wanted) = false
+joins (barsSince selector k) = false
+
+-- "a Rising or Falling with too few bars"
+unfoldable pub TooEarly : Condition → ℕ → Type 0
+TooEarly (trend kind a n) bar = bar < n
+TooEarly (compare kind a b) bar = ⊥
+TooEarly (cross kind a b) bar = ⊥
+TooEarly (between x low high) bar = ⊥
+TooEarly (every cs) bar = ⊥
+TooEarly (any cs) bar = ⊥
+TooEarly (negated c) bar = ⊥
+TooEarly (inPosition wanted) bar = ⊥
+TooEarly (barsSince selector k) bar = ⊥
+
+-- "Each line is true of the rule's meaning": what it shows of a condition whose node is number i, at a bar.
+unfoldable pub True : History → PositionState → Condition → ℕ → ℕ → Shown → Type 0
+True h s c i bar link = joins c ≡ true
+True h s c i bar (values vs) = (vs ≡ valuesOf h c bar) × NoneMissing h bar (looksOf c i)
+True h s c i bar (missing node back) = FirstMissing h bar (looksOf c i) node back
+True h s c i bar atFirstBar = (bar ≡ 0) × (holds h s c bar ≡ false)
+True h s c i bar tooFewBars = TooEarly c bar × (holds h s c bar ≡ false)
+True h s c i bar position = holds h s c bar ≡ held (s .qty) ⊎ holds h s c bar ≡ not (held (s .qty))
+True h s c i bar (sinceEntry bars) = (held (s .qty) ≡ true) × (shownFrom (s .«bars_seen») (s .entered) ≡ sinceEntry bars)
+True h s c i bar noEntry = holds h s c bar ≡ false

@@ -1,0 +1,192 @@
+-- The window: over the last rows that a table needs the chain is the chain over all rows, so a box can answer from its window.
+-- Assumes nothing.
+use Prim.Native.Nat.{ℕ, zero, suc, _+_, _-_, _*_, _≤_, _<_}
+use mathlib.Core.Path.{_≡_, refl, sym, ap, _∙_}
+use mathlib.Core.Bool.{Bool, true, false, cond}
+use mathlib.Core.List.{List, []}
+use native.Mathlib.Omega.{arith}
+use native.Mathlib.Nat.{zero-mul}
+use lib.ListN.{drop}
+use lib.Dec.{ltb, leb, eqb}
+use borrow.Author.Tests.{le-ltb, leb-true, leb-false, ne-eqb}
+use Rattle.words.specs.Limits.{trees}
+use Rattle.rows.specs.History.{History, historyOf, lastRows}
+use Rattle.table.specs.declared.answer.Answer.the-variants.{Accepted}
+use Rattle.table.specs.Header.{slots, count, root}
+use Rattle.table.specs.Checked.{checked}
+use Rattle.table.specs.Reading.{treeOf}
+use Rattle.table.specs.Trees.{Operand, const, ref, price, prev, arith as sums, Condition, Conditions, compare, cross, between, trend, every, any, negated}
+use Rattle.table.specs.Trees.{inPosition, barsSince, none, more, reach, reachOf, reachOfAll}
+use Rattle.table.specs.Writing.{nodesIn, nodesOf}
+use Rattle.table.specs.Laws.Reach.{rows-are}
+use Rattle.rules.specs.declared.PositionState.{PositionState}
+use Rattle.rules.specs.Meaning.{newest}
+use Rattle.rules.specs.Window.{Without, operand-same, condition-same, without-first}
+use Rattle.rules.specs.WindowAnswers.{window-whole}
+use Rattle.chain.specs.Missing.{inTable, leafGone, missingIn, missingInTwo, missingInThree}
+use Rattle.chain.specs.Chain.{shown, lineOf, chain, firstWith}
+use Rattle.chain.specs.Explained.{explanation, explainedBy, explained}
+
+module _ (h w : History) (s : ℕ) (part : Without h w s) where
+  -- an operand at a bar that it does not look back beyond
+  leaf-same : (a : Operand) (i bar back : ℕ) → back + reach a ≤ bar → leafGone h a i (s + bar) back ≡ leafGone w a i bar back
+  unfolding leafGone
+  leaf-same a i bar back r =
+      let far : ltb (s + bar) back ≡ false = le-ltb (s + bar) back (omega arith) in
+      let near : ltb bar back ≡ false = le-ltb bar back (omega arith) in
+      let at : s + bar - back ≡ s + (bar - back) = omega arith in
+      rw (far, near, at, operand-same h w s part a (bar - back) (omega arith))
+
+  missing-same : (a : Operand) (i bar back : ℕ) → back + reach a ≤ bar → missingIn inTable h a i (s + bar) back ≡ missingIn inTable w a i bar back
+  unfolding missingIn reach
+  missing-same (const bits) i bar back r = leaf-same (const bits) i bar back r
+  missing-same (ref slot) i bar back r = leaf-same (ref slot) i bar back r
+  missing-same (price selector) i bar back r = leaf-same (price selector) i bar back r
+  missing-same (prev a n) i bar back r = missing-same a (i + 1) bar (back + n) (omega arith)
+  missing-same (sums kind a b) i bar back r =
+      rw (missing-same a (i + 1) bar back (omega arith), missing-same b (i + 1 + nodesIn a) bar back (omega arith))
+
+  two-same : (a b : Operand) (i bar back : ℕ) → back + reach a ≤ bar → back + reach b ≤ bar
+      → missingInTwo inTable h a b i (s + bar) back ≡ missingInTwo inTable w a b i bar back
+  unfolding missingInTwo
+  two-same a b i bar back p q = rw (missing-same a i bar back p, missing-same b (i + nodesIn a) bar back q)
+
+  -- what a line shows
+  shown-same : (p : PositionState) (c : Condition) (i bar : ℕ) → reachOf c ≤ bar → shown inTable h p c i (s + bar) ≡ shown inTable w p c i bar
+  unfolding shown reachOf missingInThree
+  shown-same p (compare kind a b) i bar r =
+      rw (
+        two-same a b (i + 1) bar 0 (omega arith) (omega arith),
+        operand-same h w s part a bar (omega arith),
+        operand-same h w s part b bar (omega arith),
+      )
+  shown-same p (cross kind a b) i bar r =
+      let late : eqb (s + bar) 0 ≡ false = ne-eqb (s + bar) 0 (omega arith) in
+      let late′ : eqb bar 0 ≡ false = ne-eqb bar 0 (omega arith) in
+      let back : s + bar - 1 ≡ s + (bar - 1) = omega arith in
+      rw (
+        late,
+        late′,
+        back,
+        two-same a b (i + 1) bar 0 (omega arith) (omega arith),
+        two-same a b (i + 1) bar 1 (omega arith) (omega arith),
+        operand-same h w s part a bar (omega arith),
+        operand-same h w s part b bar (omega arith),
+        operand-same h w s part a (bar - 1) (omega arith),
+        operand-same h w s part b (bar - 1) (omega arith),
+      )
+  shown-same p (between x low high) i bar r =
+      rw (
+        two-same x low (i + 1) bar 0 (omega arith) (omega arith),
+        missing-same high (i + 1 + nodesIn x + nodesIn low) bar 0 (omega arith),
+        operand-same h w s part x bar (omega arith),
+        operand-same h w s part low bar (omega arith),
+        operand-same h w s part high bar (omega arith),
+      )
+  shown-same p (trend kind a n) i bar r =
+      let late : ltb (s + bar) n ≡ false = le-ltb (s + bar) n (omega arith) in
+      let late′ : ltb bar n ≡ false = le-ltb bar n (omega arith) in
+      let back : s + bar - n ≡ s + (bar - n) = omega arith in
+      rw (
+        late,
+        late′,
+        back,
+        missing-same a (i + 1) bar 0 (omega arith),
+        missing-same a (i + 1) bar n (omega arith),
+        operand-same h w s part a bar (omega arith),
+        operand-same h w s part a (bar - n) (omega arith),
+      )
+  shown-same p (every cs) i bar r = refl
+  shown-same p (any cs) i bar r = refl
+  shown-same p (negated c) i bar r = refl
+  shown-same p (inPosition wanted) i bar r = refl
+  shown-same p (barsSince selector k) i bar r = refl
+
+  line-same : (p : PositionState) (c : Condition) (i bar : ℕ) → reachOf c ≤ bar → lineOf inTable h p c i (s + bar) ≡ lineOf inTable w p c i bar
+  unfolding lineOf
+  line-same p c i bar r = rw (condition-same h w s part p c bar r, shown-same p c i bar r)
+
+  mutual
+    unfolding chain reachOf
+
+    chain-same : (p : PositionState) (c : Condition) (i bar : ℕ) → reachOf c ≤ bar → chain inTable h p c i (s + bar) ≡ chain inTable w p c i bar
+    chain-same p (compare kind a b) i bar r = rw (line-same p (compare kind a b) i bar r)
+    chain-same p (cross kind a b) i bar r = rw (line-same p (cross kind a b) i bar r)
+    chain-same p (between x low high) i bar r = rw (line-same p (between x low high) i bar r)
+    chain-same p (trend kind a n) i bar r = rw (line-same p (trend kind a n) i bar r)
+    chain-same p (every cs) i bar r = rw (line-same p (every cs) i bar r, first-same p false cs (i + 1) bar r)
+    chain-same p (any cs) i bar r = rw (line-same p (any cs) i bar r, first-same p true cs (i + 1) bar r)
+    chain-same p (negated c) i bar r = rw (line-same p (negated c) i bar r, chain-same p c (i + 1) bar r)
+    chain-same p (inPosition wanted) i bar r = rw (line-same p (inPosition wanted) i bar r)
+    chain-same p (barsSince selector k) i bar r = rw (line-same p (barsSince selector k) i bar r)
+
+    first-same : (p : PositionState) (answer : Bool) (cs : Conditions) (j bar : ℕ) → reachOfAll cs ≤ bar
+        → firstWith inTable h p answer cs j (s + bar) ≡ firstWith inTable w p answer cs j bar
+    first-same p answer none j bar r = refl
+    first-same p answer (more c cs) j bar r =
+        rw (
+          condition-same h w s part p c bar (omega arith),
+          chain-same p c j bar (omega arith),
+          first-same p answer cs (j + nodesOf c) bar (omega arith),
+        )
+
+-- THE WINDOW: a condition that reaches back less than D rows has over the last D rows the lines that it has over all.
+pub chain-window : (K D : ℕ) (ws : List ℕ) (p : PositionState) (c : Condition) (i : ℕ) → reachOf c < D
+    → chain inTable (historyOf K (lastRows K D ws)) p c i (newest (historyOf K (lastRows K D ws)))
+    ≡ chain inTable (historyOf K ws) p c i (newest (historyOf K ws))
+unfolding newest historyOf lastRows
+chain-window K D ws p c i r = go (leb (h .rows) D) refl
+  where
+    h : History
+    h = historyOf K ws
+
+    s : ℕ
+    s = h .rows - D
+
+    w : History
+    w = historyOf K (drop (s * (7 + K)) ws)
+
+    part : Without h w s
+    part = without-first K s ws (omega arith)
+
+    go : (b : Bool) → leb (h .rows) D ≡ b → chain inTable w p c i (w .rows - 1) ≡ chain inTable h p c i (h .rows - 1)
+    go true e =
+        let none-left : s ≡ 0 = omega (arith, leb-true (h .rows) D e) in
+        let same : w ≡ h = ap (λ (k : ℕ). historyOf K (drop (k * (7 + K)) ws)) none-left ∙ ap (λ (k : ℕ). historyOf K (drop k ws)) (zero-mul (7 + K)) in
+        ap (λ (x : History). chain inTable x p c i (x .rows - 1)) same
+    go false e =
+        let wide : D < h .rows = leb-false (h .rows) D e in
+        let at : h .rows - 1 ≡ s + (w .rows - 1) = omega (arith, part .count) in
+        sym (ap (chain inTable h p c i) at ∙ chain-same h w s part p c i (w .rows - 1) (omega (arith, part .count)))
+
+-- a tree by its number reaches back less than the rows that the table needs
+tree-near : (t : List ℕ) (n r : ℕ) → checked t ≡ Accepted n r → (x : ℕ) → x < 4 → reachOf (treeOf t x) < r
+tree-near t n r ok zero l = omega (arith, rows-are t n r ok)
+tree-near t n r ok (suc zero) l = omega (arith, rows-are t n r ok)
+tree-near t n r ok (suc (suc zero)) l = omega (arith, rows-are t n r ok)
+tree-near t n r ok (suc (suc (suc zero))) l = omega (arith, rows-are t n r ok)
+tree-near t n r ok (suc (suc (suc (suc x)))) l = absurd (omega arith)
+
+-- THE WINDOW OF A TABLE: where D is at least the rows that the check says, a tree has over the last D rows the lines that it has over
+-- all of them.
+pub explanation-window : (t : List ℕ) (n r : ℕ) → checked t ≡ Accepted n r → (D : ℕ) → r ≤ D → (x : ℕ) (rows : List ℕ) (s : PositionState)
+    → explanation t x (lastRows (slots t) D rows) s ≡ explanation t x rows s
+unfolding explanation
+explanation-window t n r ok D enough x rows s = high (leb trees x) refl
+  where
+    same : x < 4 → chain inTable (historyOf (slots t) (lastRows (slots t) D rows)) s (treeOf t x) (root t x) (newest (historyOf (slots t) (lastRows (slots t) D rows)))
+        ≡ chain inTable (historyOf (slots t) rows) s (treeOf t x) (root t x) (newest (historyOf (slots t) rows))
+    same l = chain-window (slots t) D rows s (treeOf t x) (root t x) (omega (arith, tree-near t n r ok x l))
+
+    high : (b : Bool) → leb trees x ≡ b
+        → cond b [] (cond (eqb (count t x) 0) [] (chain inTable (historyOf (slots t) (lastRows (slots t) D rows)) s (treeOf t x) (root t x)
+        (newest (historyOf (slots t) (lastRows (slots t) D rows)))))
+        ≡ cond b [] (cond (eqb (count t x) 0) [] (chain inTable (historyOf (slots t) rows) s (treeOf t x) (root t x) (newest (historyOf (slots t) rows))))
+    high true e = refl
+    high false e = rw (same (leb-false trees x e))
+
+-- and the call answers the same
+pub explained-window : (t : List ℕ) (n r : ℕ) → checked t ≡ Accepted n r → (D : ℕ) → r ≤ D → (x : ℕ) (rows : List ℕ) (s : PositionState) (list : List ℕ)
+    → explained t x (lastRows (slots t) D rows) s list ≡ explained t x rows s list
+unfolding explained explainedBy
+explained-window t n r ok D enough x rows s list = rw (ok, window-whole (slots t) D rows, explanation-window t n r ok D enough x rows s)
