@@ -33,9 +33,10 @@ pub const MOST_NESTING: usize = 32;
 pub const MOST_DEPTH: usize = 4096;
 pub const MOST_REACH: usize = 4095;
 
-/// The mark and the version that a table begins with.
+/// The mark and the version that a table begins with; the second version is for those with Highest or Lowest.
 pub const MARK: [u8; 3] = *b"RTB";
 pub const VERSION: u16 = 1;
+pub const SECOND_VERSION: u16 = 2;
 
 /// Settings, by number: the place of refusal 12, and the word that holds them.
 pub mod setting {
@@ -153,6 +154,9 @@ pub mod kind {
     pub const SUB: u8 = 6;
     pub const MUL: u8 = 7;
     pub const DIV: u8 = 8;
+    /// In tables of version 2.
+    pub const HIGHEST: u8 = 9;
+    pub const LOWEST: u8 = 10;
     pub const GT: u8 = 16;
     pub const LT: u8 = 17;
     pub const GE: u8 = 18;

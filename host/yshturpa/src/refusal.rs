@@ -84,7 +84,7 @@ impl std::error::Error for Refusal {}
 const WORDS: [(u32, &str, &str); 16] = [
     (1, "the table is under 16 bytes", "an empty file, or a length that is not the table's"),
     (2, "the first three bytes are not RTB", "it is no rule table"),
-    (3, "the table's version is not 1", "a later format, or written with the high byte first"),
+    (3, "the table's version is none that is read", "a later format, or written with the high byte first"),
     (
         4,
         "slots, nodes or tree counts are against the rules",

@@ -10,7 +10,7 @@ use crate::compile::entry_order_of;
 use crate::decompile;
 use crate::problem::Problem;
 use crate::source::Source;
-use crate::table::{deepest, reach_of, reads, Words};
+use crate::table::{deepest, reach_of, reads, Node, Words};
 
 pub fn answer(asked: &Show) -> Answer {
     let shown = |source: Source| if asked.json { document(&source) } else { rules(&source) };
@@ -128,6 +128,10 @@ fn read_back(source: &Source, reaches: &[u64], answer: &mut Answer) {
 /// The rules as a strategy document. A strategy keeps all else that it says, and a table has it from the settings beside it.
 fn document(source: &Source) -> Result<Answer, Problem> {
     let mut answer = Answer::default();
+    if let Some(node) = source.forest.nodes.iter().position(Node::is_extreme) {
+        let text = "highest and lowest have no form in a strategy; a table of version 1 was expected";
+        return Err(Problem::input(&source.file, format!("node {node}"), text));
+    }
     let strategy = source.strategy.clone().unwrap_or_else(|| decompile::strategy(source));
     if source.strategy.is_none() && strategy.short_entry.is_some() && strategy.short_exit.is_none() {
         let note = "the table has no short exit: compile this with --absent-short-exit to have the same table again";

@@ -1,6 +1,6 @@
 //! The four trees of an accepted table, and a table's bytes.
 
-use yshturpa::layout::{HEADER_BYTES, MARK, NODE_BYTES, VERSION};
+use yshturpa::layout::{HEADER_BYTES, MARK, NODE_BYTES, SECOND_VERSION, VERSION};
 use yshturpa::{check, Refusal, Tree};
 
 use super::Node;
@@ -81,7 +81,8 @@ pub fn bytes_of(slots: usize, trees: [&[Node]; 4]) -> Vec<u8> {
     let count = |n: usize| u16::try_from(n).unwrap_or(u16::MAX).to_le_bytes();
     let mut bytes = MARK.to_vec();
     bytes.push(u8::try_from(slots).unwrap_or(u8::MAX));
-    bytes.extend(VERSION.to_le_bytes());
+    let second = trees.iter().flat_map(|tree| tree.iter()).any(Node::is_extreme);
+    bytes.extend((if second { SECOND_VERSION } else { VERSION }).to_le_bytes());
     bytes.extend(count(trees.iter().map(|tree| tree.len()).sum()));
     trees.iter().for_each(|tree| bytes.extend(count(tree.len())));
     trees.iter().flat_map(|tree| tree.iter()).for_each(|node| bytes.extend(node.bytes()));
@@ -106,6 +107,13 @@ mod tests {
         assert_eq!(forest.children[3], [4, 5]);
         assert_eq!((forest.path(6), forest.tree(6)), (vec![3, 5, 6], Tree::Exit));
         assert_eq!((forest.tree_nodes(Tree::Exit), forest.tree_nodes(Tree::ShortExit)), (&exit[..], &[][..]));
+    }
+
+    #[test]
+    fn the_second_version_is_for_what_needs_it() {
+        let any = [Node::plain(kind::ANY)];
+        let highest = [Node::plain(kind::GT), Node { n: 20, ..Node::plain(kind::HIGHEST) }, Node::plain(kind::PRICE)];
+        assert_eq!((bytes_of(0, [&any, &any, &[], &[]])[4], bytes_of(0, [&highest, &any, &[], &[]])[4]), (1, 2));
     }
 
     #[test]

@@ -45,6 +45,7 @@ impl Node {
     pub fn arity(&self) -> usize {
         match self.kind {
             kind::PREV | kind::RISING | kind::FALLING | kind::NOT => 1,
+            kind::HIGHEST | kind::LOWEST => 1,
             kind::ADD..=kind::DIV | kind::GT..=kind::CROSS_BELOW => 2,
             kind::BETWEEN => 3,
             kind::ALL | kind::ANY => self.children.into(),
@@ -55,6 +56,11 @@ impl Node {
     /// A number: what is below a condition other than All, Any and Not.
     pub fn is_operand(&self) -> bool {
         self.kind < kind::GT
+    }
+
+    /// Over some bars: what only a table of the second version has.
+    pub fn is_extreme(&self) -> bool {
+        matches!(self.kind, kind::HIGHEST | kind::LOWEST)
     }
 
     /// A condition over numbers: what may fall silent.
