@@ -3,6 +3,7 @@ use Prim.Native.Nat.{ℕ, zero, suc, _-_, _<_, _≤_}
 use mathlib.Core.Path.{_≡_, refl}
 use mathlib.Core.List.{List}
 use native.Mathlib.Numerals.{sub-one}
+use Rattle.table.specs.Series.{seriesIn}
 use Rattle.table.specs.Trees.{const, any, none}
 use Rattle.rules.specs.declared.shapes.OperandShape.{OperandShape}
 use Rattle.rules.specs.declared.shapes.ConditionShape.{ConditionShape}
@@ -20,7 +21,7 @@ module _ (t ends : List ℕ) (i left : ℕ) where
 
 module _ (t ends : List ℕ) (i : ℕ) where
   pub grown-operand : (left : ℕ) → (left ≡ 0 → ⊥) → (s u : OperandShape) → s ≡ operandShape t ends i → s ≡ u
-      → operandAt left t ends i ≡ growOperand (operandAt (left - 1) t ends) u
+      → operandAt left t ends i ≡ growOperand (seriesIn t) (operandAt (left - 1) t ends) u
   unfolding operandAt
   grown-operand zero e s u p q = absurd (e refl)
   grown-operand (suc left) e s u p q = rw (sub-one (suc left), ← p, q)

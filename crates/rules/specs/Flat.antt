@@ -3,27 +3,30 @@
 use Prim.Native.Nat.{ℕ, zero, suc}
 use mathlib.Core.Bool.{Bool, true, false}
 use mathlib.Core.List.{List}
-use Rattle.table.specs.Trees.{Operand, const, ref, price, prev, arith, Condition, Conditions, compare, cross, between, trend, every, any, negated, inPosition}
-use Rattle.table.specs.Trees.{barsSince, none, more}
+use Rattle.table.specs.declared.series.Series.{Series}
+use Rattle.table.specs.Series.{seriesIn}
+use Rattle.table.specs.Trees.{Operand, const, ref, price, prev, arith, extreme, Condition, Conditions, compare, cross, between, trend, every, any, negated}
+use Rattle.table.specs.Trees.{inPosition, barsSince, none, more}
 use Rattle.rules.specs.declared.shapes.OperandShape.{OperandShape}
-use Rattle.rules.specs.declared.shapes.OperandShape.the-variants.{Const, Ref, Price, Prev, Arith, NoOperand}
+use Rattle.rules.specs.declared.shapes.OperandShape.the-variants.{Const, Ref, Price, Prev, Arith, Extreme, NoOperand}
 use Rattle.rules.specs.declared.shapes.ConditionShape.{ConditionShape}
 use Rattle.rules.specs.declared.shapes.ConditionShape.the-variants.{Compare, Cross, Between, Trend, Group, Not, InPosition, BarsSince, NoCondition}
 use Rattle.rules.specs.Shapes.{endIn, operandShape, conditionShape}
 
--- the operand of a shape, where `below` has the operands at the nodes below; a node that is no operand is read as 0
-unfoldable pub growOperand : (ℕ → Operand) → OperandShape → Operand
-growOperand below (Const bits) = const bits
-growOperand below (Ref slot) = ref slot
-growOperand below (Price selector) = price selector
-growOperand below (Prev a n) = prev (below a) n
-growOperand below (Arith kind a b) = arith kind (below a) (below b)
-growOperand below NoOperand = const 0
+-- the operand of a shape, where `below` has the operands at the nodes below and `over` the series; a node that is no operand is read as 0
+unfoldable pub growOperand : (ℕ → Series) → (ℕ → Operand) → OperandShape → Operand
+growOperand over below (Const bits) = const bits
+growOperand over below (Ref slot) = ref slot
+growOperand over below (Price selector) = price selector
+growOperand over below (Prev a n) = prev (below a) n
+growOperand over below (Arith kind a b) = arith kind (below a) (below b)
+growOperand over below (Extreme kind a n) = extreme kind (over a) n
+growOperand over below NoOperand = const 0
 
 -- the operand at node i, where `left` levels of nesting are left, its own counted
 unfoldable pub operandAt : ℕ → List ℕ → List ℕ → ℕ → Operand
 operandAt zero t ends i = const 0
-operandAt (suc left) t ends i = growOperand (operandAt left t ends) (operandShape t ends i)
+operandAt (suc left) t ends i = growOperand (seriesIn t) (operandAt left t ends) (operandShape t ends i)
 
 -- n conditions, the first at node j, each at the end of the one before
 unfoldable pub growConditions : (ℕ → Condition) → List ℕ → ℕ → ℕ → Conditions

@@ -1,15 +1,17 @@
 -- "What a rule means": operands and conditions at a bar of a history. Definitions only.
-use Prim.Native.Nat.{ℕ, _-_}
+use Prim.Native.Nat.{ℕ, zero, suc, _+_, _-_}
 use mathlib.Core.Bool.{Bool, true, false, not, cond, _&&_, _||_}
 use lib.Dec.{ltb, eqb}
 use Rattle.floats.specs.Floats.{floatOf}
 use Rattle.rows.specs.History.{History}
-use Rattle.table.specs.Trees.{Operand, const, ref, price, prev, arith, Condition, Conditions, compare, cross, between, trend, every, any, negated, inPosition}
-use Rattle.table.specs.Trees.{barsSince, none, more}
+use Rattle.table.specs.declared.series.Series.{Series}
+use Rattle.table.specs.declared.series.Series.the-variants.{Price, Slot}
+use Rattle.table.specs.Trees.{Operand, const, ref, price, prev, arith, extreme, Condition, Conditions, compare, cross, between, trend, every, any, negated}
+use Rattle.table.specs.Trees.{inPosition, barsSince, none, more}
 use Rattle.rules.specs.declared.Value.{Value}
 use Rattle.rules.specs.declared.Value.the-variants.{Missing, Number}
 use Rattle.rules.specs.declared.PositionState.{PositionState}
-use Rattle.rules.specs.Values.{priceOf, slotOf, both, compared, crossed, within, trended, held, countedSince}
+use Rattle.rules.specs.Values.{priceOf, slotOf, both, pick, compared, crossed, within, trended, held, countedSince}
 
 -- "The newest bar is the last row's; with no rows it is bar 0, whose row does not exist."
 unfoldable pub newest : History → ℕ
@@ -19,6 +21,20 @@ newest h = h .rows - 1
 unfoldable pub there : History → ℕ → Value → Value
 there h i v = cond (ltb i (h .rows)) v Missing
 
+-- "one child that must be a Price or a Ref" (request 8): that child at bar i
+unfoldable pub seriesAt : History → Series → ℕ → Value
+seriesAt h (Price selector) i = there h i (Number (priceOf (h .word i) selector))
+seriesAt h (Slot slot) i = there h i (slotOf (h .word i) slot)
+
+-- over bar `oldest` and the m after it: "it starts at the oldest, and a later one takes its place only if ..", one after the other
+unfoldable pub extremeOver : History → ℕ → Series → ℕ → ℕ → Value
+extremeOver h kind s oldest zero = seriesAt h s oldest
+extremeOver h kind s oldest (suc m) = pick kind (extremeOver h kind s oldest m) (seriesAt h s (oldest + suc m))
+
+-- "The answer is over the bar and the n − 1 before it, and missing if any is missing": missing too where there are not so many before it
+unfoldable pub extremeAt : History → ℕ → Series → ℕ → ℕ → Value
+extremeAt h kind s n i = cond (ltb i (n - 1)) Missing (extremeOver h kind s (i - (n - 1)) (n - 1))
+
 -- `eval_operand`. "Prev is missing if i < n, else its operand at i − n."
 unfoldable pub value : History → Operand → ℕ → Value
 value h (const bits) i = there h i (Number (floatOf bits))
@@ -26,6 +42,7 @@ value h (ref slot) i = there h i (slotOf (h .word i) slot)
 value h (price selector) i = there h i (Number (priceOf (h .word i) selector))
 value h (prev a n) i = there h i (cond (ltb i n) Missing (value h a (i - n)))
 value h (arith kind a b) i = both kind (value h a i) (value h b i)
+value h (extreme kind s n) i = extremeAt h kind s n i
 
 -- `eval_condition`. "A cross is no at bar 0"; Rising and Falling are no where there is no bar n back.
 unfoldable mutual

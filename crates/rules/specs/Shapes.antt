@@ -12,7 +12,7 @@ use Rattle.table.specs.declared.kinds.ConditionClass.the-variants as AsConditio
 use Rattle.table.specs.Kinds.{kindOf}
 use Rattle.table.specs.Nodes.{nodeAt}
 use Rattle.rules.specs.declared.shapes.OperandShape.{OperandShape}
-use Rattle.rules.specs.declared.shapes.OperandShape.the-variants.{Const, Ref, Price, Prev, Arith, NoOperand}
+use Rattle.rules.specs.declared.shapes.OperandShape.the-variants.{Const, Ref, Price, Prev, Arith, Extreme, NoOperand}
 use Rattle.rules.specs.declared.shapes.ConditionShape.{ConditionShape}
 use Rattle.rules.specs.declared.shapes.ConditionShape.the-variants.{Compare, Cross, Between, Trend, Group, Not}
 use Rattle.rules.specs.declared.shapes.ConditionShape.the-variants.{InPosition, BarsSince, NoCondition}
@@ -28,6 +28,7 @@ operandOf AsOperand.Ref node first second = Ref (node .n)
 operandOf AsOperand.Price node first second = Price (node .selector)
 operandOf AsOperand.Prev node first second = Prev first (node .n)
 operandOf AsOperand.Arith node first second = Arith (node .kind) first second
+operandOf AsOperand.Extreme node first second = Extreme (node .kind) first (node .n)
 operandOf AsOperand.NoOperand node first second = NoOperand
 
 -- The same of a condition's node.

@@ -6,7 +6,7 @@ use native.Mathlib.Omega.{arith}
 use lib.Dec.{ltb, leb, eqb}
 use borrow.Author.Tests.{ltb-true, ltb-false, leb-true, leb-false, eqb-false}
 use Rattle.rows.specs.History.{History}
-use Rattle.table.specs.Trees.{Operand, const, ref, price, prev, arith as sums, reach}
+use Rattle.table.specs.Trees.{Operand, const, ref, price, prev, arith as sums, extreme, reach}
 use Rattle.table.specs.Trees.{Condition, compare, cross, between, trend, every, any, negated, inPosition, barsSince, reachOf}
 use Rattle.table.specs.Silent.{isTest}
 use Rattle.rules.specs.declared.PositionState.{PositionState}
@@ -14,7 +14,7 @@ use Rattle.rules.specs.declared.Value.{Value}
 use Rattle.rules.specs.declared.Value.the-variants.{Missing, Number}
 use Rattle.rules.specs.Values.{both, compared, crossed, within, trended}
 use Rattle.rules.specs.Meaning.{newest, there, value, holds, says}
-use Rattle.rules.specs.Laws.Meaning.{past}
+use Rattle.rules.specs.Laws.Meaning.{extreme-early, past}
 
 -- ---- an operand that reaches back beyond bar 0 is missing
 
@@ -41,6 +41,7 @@ far h (prev a n) i l = go (λ k. far h a (i - n) k) (ltb i n) refl
     go : (i - n < reach a → value h a (i - n) ≡ Missing) → (b : Bool) → ltb i n ≡ b → there h i (cond b Missing (value h a (i - n))) ≡ Missing
     go below true e = missing-there h i
     go below false e = rw (below (omega (arith, ltb-false i n e))) (missing-there h i)
+far h (extreme k s n) i l = extreme-early h k s n i l
 far h (sums k a b) i l = go (λ m. far h a i m) (λ m. far h b i m) (ltb i (reach a)) refl
   where
     go : (i < reach a → value h a i ≡ Missing) → (i < reach b → value h b i ≡ Missing) → (t : Bool) → ltb i (reach a) ≡ t

@@ -43,6 +43,19 @@ both kind Missing b = Missing
 both kind (Number x) Missing = Missing
 both kind (Number x) (Number y) = Number (combine kind x y)
 
+-- "a later one takes its place only if strictly greater (for Lowest, strictly less)" (request 8)
+unfoldable pub better : ℕ → Float → Float → Bool
+better kind best later = cond (eqb kind Named.highest) (best ≺ later) (later ≺ best)
+
+unfoldable pub took : ℕ → Float → Float → Float
+took kind best later = cond (better kind best later) later best
+
+-- "missing if any is missing"
+unfoldable pub pick : ℕ → Value → Value → Value
+pick kind Missing later = Missing
+pick kind (Number best) Missing = Missing
+pick kind (Number best) (Number later) = Number (took kind best later)
+
 -- "16..21 Gt, Lt, Ge, Le, Eq, Ne". "Eq is |x − y| < EPS, Ne is |x − y| ≥ EPS."
 unfoldable pub tested : ℕ → Float → Float → Bool
 tested kind x y =

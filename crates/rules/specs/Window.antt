@@ -1,5 +1,5 @@
 -- The window: the last rows answer as the whole history does. Assumes nothing.
-use Prim.Native.Nat.{ℕ, _+_, _-_, _*_, _/_, _≤_, _<_}
+use Prim.Native.Nat.{ℕ, zero, suc, _+_, _-_, _*_, _/_, _≤_, _<_}
 use mathlib.Core.Path.{_≡_, refl, sym, ap, fun-ext, _∙_}
 use mathlib.Core.Bool.{Bool, true, false, not}
 use mathlib.Core.List.{List}
@@ -10,10 +10,12 @@ use lib.Seq.{getD-drop}
 use lib.Dec.{ltb, leb, eqb}
 use borrow.Author.Tests.{lt-ltb, le-ltb, ltb-true, ltb-false, leb-true, leb-false, ne-eqb}
 use Rattle.rows.specs.History.{History, historyOf, lastRows}
-use Rattle.table.specs.Trees.{Operand, const, ref, price, prev, arith as sums, Condition, Conditions, compare, cross, between, trend, every, any, negated}
-use Rattle.table.specs.Trees.{inPosition, barsSince, none, more, reach, reachOf, reachOfAll}
+use Rattle.table.specs.declared.series.Series.{Series}
+use Rattle.table.specs.declared.series.Series.the-variants.{Price, Slot}
+use Rattle.table.specs.Trees.{Operand, const, ref, price, prev, arith as sums, extreme, Condition, Conditions, compare, cross, between, trend, every, any}
+use Rattle.table.specs.Trees.{negated, inPosition, barsSince, none, more, reach, reachOf, reachOfAll}
 use Rattle.rules.specs.declared.PositionState.{PositionState}
-use Rattle.rules.specs.Meaning.{newest, there, value, holds, allHold, anyHolds, says}
+use Rattle.rules.specs.Meaning.{newest, there, seriesAt, extremeOver, extremeAt, value, holds, allHold, anyHolds, says}
 
 -- w is what is left of h without its first s rows
 pub record Without (h w : History) (s : ℕ) : Type 0 where
@@ -28,9 +30,21 @@ module _ (h w : History) (s : ℕ) (part : Without h w s) where
       go true e = lt-ltb (s + i) (h .rows) (omega (arith, ltb-true i (w .rows) e, part .count))
       go false e = le-ltb (s + i) (h .rows) (omega (arith, ltb-false i (w .rows) e, part .count))
 
+  series-same : (x : Series) (i : ℕ) → seriesAt h x (s + i) ≡ seriesAt w x i
+  unfolding seriesAt there
+  series-same (Price selector) i = simp (exists, part .same)
+  series-same (Slot slot) i = simp (exists, part .same)
+
+  extreme-same : (kind : ℕ) (x : Series) (oldest m : ℕ) → extremeOver h kind x (s + oldest) m ≡ extremeOver w kind x oldest m
+  unfolding extremeOver
+  extreme-same kind x oldest zero = series-same x oldest
+  extreme-same kind x oldest (suc m) =
+      let place : s + oldest + suc m ≡ s + (oldest + suc m) = omega arith in
+      rw (extreme-same kind x oldest m, place, series-same x (oldest + suc m))
+
   -- an operand at a bar that it does not look back beyond
   pub operand-same : (a : Operand) (i : ℕ) → reach a ≤ i → value h a (s + i) ≡ value w a i
-  unfolding value reach there
+  unfolding value reach there extremeAt
   operand-same (const bits) i r = simp exists
   operand-same (ref slot) i r = simp (exists, part .same)
   operand-same (price selector) i r = simp (exists, part .same)
@@ -44,6 +58,11 @@ module _ (h w : History) (s : ℕ) (part : Without h w s) where
       let ia : value h a (s + i) ≡ value w a i = operand-same a i (omega arith) in
       let ib : value h b (s + i) ≡ value w b i = operand-same b i (omega arith) in
       simp (ia, ib)
+  operand-same (extreme kind x n) i r =
+      let late : ltb (s + i) (n - 1) ≡ false = le-ltb (s + i) (n - 1) (omega arith) in
+      let late′ : ltb i (n - 1) ≡ false = le-ltb i (n - 1) (omega arith) in
+      let back : s + i - (n - 1) ≡ s + (i - (n - 1)) = omega arith in
+      rw (late, late′, back) (extreme-same kind x (i - (n - 1)) (n - 1))
 
   mutual
     unfolding holds reachOf

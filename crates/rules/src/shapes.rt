@@ -15,6 +15,7 @@ pub enum OperandShape {
     Price(u8),
     Prev(usize, u64),
     Arith(u8, usize, usize),
+    Extreme(u8, usize, u64),
     NoOperand,
 }
 
@@ -47,6 +48,7 @@ fn operand_of(class: OperandClass, node: Node, first: usize, second: usize) -> O
         OperandClass::Price => OperandShape::Price(node.selector),
         OperandClass::Prev => OperandShape::Prev(first, node.n),
         OperandClass::Arith => OperandShape::Arith(node.kind, first, second),
+        OperandClass::Extreme => OperandShape::Extreme(node.kind, first, node.n),
         OperandClass::NoOperand => OperandShape::NoOperand,
     }
 }

@@ -87,6 +87,39 @@ pub fn both(kind: u8, a: Value, b: Value) -> Value
     }
 }
 
+// Whether a later number takes the place of the best before it, by the kind: strictly greater for Highest, strictly less for Lowest.
+fn better(kind: u8, best: f64, later: f64) -> bool
+    ensures { λ r. ⌜ r ≡ Values.better kind best later ⌝ }
+{
+    if kind == kinds::HIGHEST {
+        return best < later;
+    }
+    later < best
+}
+
+// The best of a value and a later one: missing if either is.
+pub fn pick(kind: u8, best: Value, later: Value) -> Value
+    ensures { λ r. ⌜ r ≡ Values.pick kind best later ⌝ }
+{
+    match best {
+        Value::Missing => Value::Missing,
+        Value::Number(x) => match later {
+            Value::Missing => Value::Missing,
+            Value::Number(y) => Value::Number(took(kind, x, y)),
+        },
+    }
+}
+
+fn took(kind: u8, best: f64, later: f64) -> f64
+    ensures { λ r. ⌜ r ≡ Values.took kind best later ⌝ }
+{
+    if better(kind, best, later) {
+        later
+    } else {
+        best
+    }
+}
+
 // A comparison of two numbers, by its kind.
 fn test(kind: u8, x: f64, y: f64) -> bool
     ensures { λ r. ⌜ r ≡ tested kind x y ⌝ }

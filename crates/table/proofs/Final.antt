@@ -20,7 +20,7 @@ use Rattle.table.specs.declared.answer.Answer.the-variants.{Accepted, Re
 use Rattle.table.specs.Bytes.{u16}
 use Rattle.table.specs.Header.{total, headerRefusal, root}
 use Rattle.table.specs.Nodes.{wrongNode}
-use Rattle.table.specs.Checked.{orRefused, orHeader, from9, from8, from7, checked}
+use Rattle.table.specs.Checked.{orRefused, orHeader, from9, from8, from7, checkedUpTo}
 use Rattle.table.specs.Ends.{endsFor, endAt, from, endOf, endsAll, Linked}
 use Rattle.table.specs.Passes.{EndedFrom, Roots, EndedAll, LinkedAll}
 use Rattle.table.specs.Laws.Ends.{from-long, from-at}
@@ -47,9 +47,10 @@ module _ (nr : ℕ) (x rest : Answer) (es ends : List ℕ) where
   unfolding orHeader
   head-none h hx he = simp (eq-eqb _ _ h) (hx, he)
 
-pub checked-is : (t : List ℕ) → checked t ≡ orHeader (headerRefusal t) (orRefused 6 (wrongNode t (u16 t 6) 0) (from7 t))
-unfolding checked from7 from8 from9
-checked-is t = refl
+pub checked-is : (newest : ℕ) (t : List ℕ)
+    → checkedUpTo newest t ≡ orHeader (headerRefusal newest t) (orRefused 6 (wrongNode t (u16 t 6) 0) (from7 t))
+unfolding checkedUpTo from7 from8 from9
+checked-is newest t = refl
 
 -- An answer that is handed on, with the array beside it.
 pub keep-refused : (a x : Answer) (es ends : List ℕ) (why : Refusal) → a ≡ Refused why → x ≡ Refused why → es ≡ replicate 256 0
@@ -62,10 +63,10 @@ unfolding endsFor
 keep-accepted a ends n r ha = rw ha (refl, refl)
 
 -- A header that breaks no rule gives the four trees' places.
-pub head-roots : (t : List ℕ) (a b c e : ℕ) → headerRefusal t ≡ 0 → a ≡ root t 1 → b ≡ root t 2 → c ≡ root t 3 → e ≡ total t → Roots t a b c e
+pub head-roots : (newest : ℕ) (t : List ℕ) (a b c e : ℕ) → headerRefusal newest t ≡ 0 → a ≡ root t 1 → b ≡ root t 2 → c ≡ root t 3 → e ≡ total t → Roots t a b c e
 unfolding root
-head-roots t a b c e h ha hb hc he =
-    let k = header-right t h in
+head-roots newest t a b c e h ha hb hc he =
+    let k = header-right newest t h in
     record {
       one = ha;
       two = hb;
@@ -107,28 +108,28 @@ ends-are t ends a b c e k all l =
     ext-getD 0 ends (from (endOf t) 256 0) (all .long ∙ sym (from-long (endOf t) 256 0))
     (λ j h. end-at t ends a b c e k all l j ∙ ap (endOf t) (sym (zero-add j)) ∙ sym (from-at (endOf t) 256 0 j (omega (arith, all .long))))
 
-module _ (t : List ℕ) (x : Answer) (es ends : List ℕ) where
-  right : (x ≡ orHeader (headerRefusal t) (orRefused 6 (wrongNode t (u16 t 6) 0) (from7 t)))
-      × (es ≡ endsFor (orHeader (headerRefusal t) (orRefused 6 (wrongNode t (u16 t 6) 0) (from7 t))) ends)
-      → (x ≡ checked t) × (es ≡ endsFor (checked t) ends)
-  right h = rw (checked-is t) h
+module _ (newest : ℕ) (t : List ℕ) (x : Answer) (es ends : List ℕ) where
+  right : (x ≡ orHeader (headerRefusal newest t) (orRefused 6 (wrongNode t (u16 t 6) 0) (from7 t)))
+      × (es ≡ endsFor (orHeader (headerRefusal newest t) (orRefused 6 (wrongNode t (u16 t 6) 0) (from7 t))) ends)
+      → (x ≡ checkedUpTo newest t) × (es ≡ endsFor (checkedUpTo newest t) ends)
+  right h = rw (checked-is newest t) h
 
-  pub one-at : (nr : ℕ) → nr ≡ headerRefusal t → (nr ≡ 0 → ⊥) → x ≡ Refused (refusal nr 0) → es ≡ replicate 256 0
-      → (x ≡ checked t) × (es ≡ endsFor (checked t) ends)
+  pub one-at : (nr : ℕ) → nr ≡ headerRefusal newest t → (nr ≡ 0 → ⊥) → x ≡ Refused (refusal nr 0) → es ≡ replicate 256 0
+      → (x ≡ checkedUpTo newest t) × (es ≡ endsFor (checkedUpTo newest t) ends)
   one-at nr h some hx he =
-      right (head-at (headerRefusal t) x _ es ends (λ z. some (h ∙ z)) (hx ∙ ap (λ (n : ℕ). Refused (refusal n 0)) h) he)
+      right (head-at (headerRefusal newest t) x _ es ends (λ z. some (h ∙ z)) (hx ∙ ap (λ (n : ℕ). Refused (refusal n 0)) h) he)
 
-  module _ (h : headerRefusal t ≡ 0) (n : ℕ) (all : n ≡ u16 t 6) (q : Place) (found : q ≡ wrongNode t n 0) where
+  module _ (h : headerRefusal newest t ≡ 0) (n : ℕ) (all : n ≡ u16 t 6) (q : Place) (found : q ≡ wrongNode t n 0) where
     place : q ≡ wrongNode t (u16 t 6) 0
     place = found ∙ ap (λ (m : ℕ). wrongNode t m 0) all
 
     pub six-at : (p : ℕ) → q ≡ At p → x ≡ Refused (refusal 6 p) → es ≡ replicate 256 0
-        → (x ≡ checked t) × (es ≡ endsFor (checked t) ends)
+        → (x ≡ checkedUpTo newest t) × (es ≡ endsFor (checkedUpTo newest t) ends)
     six-at p hp hx he =
         let g = stage-at 6 (wrongNode t (u16 t 6) 0) x (from7 t) es ends p (sym place ∙ hp) hx he in
-        right (head-none (headerRefusal t) x _ es ends h (g .0) (g .1))
+        right (head-none (headerRefusal newest t) x _ es ends h (g .0) (g .1))
 
-    pub six-none : q ≡ Nowhere → x ≡ from7 t → es ≡ endsFor (from7 t) ends → (x ≡ checked t) × (es ≡ endsFor (checked t) ends)
+    pub six-none : q ≡ Nowhere → x ≡ from7 t → es ≡ endsFor (from7 t) ends → (x ≡ checkedUpTo newest t) × (es ≡ endsFor (checkedUpTo newest t) ends)
     six-none hp hx he =
         let g = stage-none 6 (wrongNode t (u16 t 6) 0) x (from7 t) es ends (sym place ∙ hp) hx he in
-        right (head-none (headerRefusal t) x _ es ends h (g .0) (g .1))
+        right (head-none (headerRefusal newest t) x _ es ends h (g .0) (g .1))

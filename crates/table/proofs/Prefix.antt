@@ -1,6 +1,7 @@
 -- Rule 7, one step at a time: what `fits` says at a node, and at a node whose end is known.
 -- Assumes nothing.
 use mathlib.Core.Path.{_≡_, refl, sym, _∙_, ap, subst}
+use mathlib.Core.Bool.{true, false}
 use mathlib.Core.List.{List, [], _∷_, _++_}
 use Prim.Native.Nat.{ℕ, suc, _+_, _-_, _≤_, _<_}
 use native.Mathlib.Omega.{arith}
@@ -10,16 +11,20 @@ use lib.ListN.{length, getD, set, replicate}
 use lib.Seq.{getD-set-same, getD-set-other}
 use borrow.Author.Tests.{eq-eqb, ne-eqb, lt-ltb, le-ltb}
 use Rattle.table.specs.declared.places.Place.the-variants.{Nowhere, At}
-use Rattle.table.specs.Nodes.{sortAt, childCountAt, childSortAt}
+use Rattle.table.specs.Nodes.{sortAt, childCountAt, childSortAt, childFitsAt}
 use Rattle.table.specs.Order.{fits, misfit}
 use Rattle.table.specs.Passes.{after, Ended, EndedFrom, Ordered}
 use Rattle.table.specs.Laws.Forest.{left-suc, left-zero}
 
 module _ (t : List ℕ) (e i : ℕ) where
-  pub fits-node : i < e → (w : ℕ) (ws : List ℕ) → sortAt t i ≡ w
+  pub fits-node : i < e → (w : ℕ) (ws : List ℕ) → sortAt t i ≡ w → childFitsAt t i ≡ true
       → fits t (e - i) i (w ∷ ws) ≡ fits t (e - (i + 1)) (i + 1) (replicate (childCountAt t i) (childSortAt t i) ++ ws)
   unfolding fits
-  fits-node h w ws s = rw (left-suc e i h, eq-eqb _ _ s)
+  fits-node h w ws s c = rw (left-suc e i h, eq-eqb _ _ s, c)
+
+  pub fits-child : i < e → (w : ℕ) (ws : List ℕ) → sortAt t i ≡ w → childFitsAt t i ≡ false → fits t (e - i) i (w ∷ ws) ≡ At (i + 1)
+  unfolding fits
+  fits-child h w ws s c = rw (left-suc e i h, eq-eqb _ _ s, c)
 
   pub fits-other : i < e → (w : ℕ) (ws : List ℕ) → (sortAt t i ≡ w → ⊥) → fits t (e - i) i (w ∷ ws) ≡ At i
   unfolding fits
@@ -64,11 +69,30 @@ abbrev pub Here : List ℕ → ℕ → ℕ → ℕ → ℕ → ℕ → Type 0
 Here t e i of left j = (ws : List ℕ) → fits t (e - i) i (sortAt t i ∷ ws) ≡ fits t (e - j) j (replicate left of ++ ws)
 
 module _ (t : List ℕ) (e i : ℕ) where
-  pub begin : (many of : ℕ) → i < e → many ≡ childCountAt t i → of ≡ childSortAt t i → Here t e i of many (i + 1)
-  begin many of h m o ws =
-      fits-node t e i h (sortAt t i) ws refl ∙
+  pub begin : (many of : ℕ) → i < e → childFitsAt t i ≡ true → many ≡ childCountAt t i → of ≡ childSortAt t i → Here t e i of many (i + 1)
+  begin many of h c m o ws =
+      fits-node t e i h (sortAt t i) ws refl c ∙
       ap (λ (k : ℕ). fits t (e - (i + 1)) (i + 1) (replicate k (childSortAt t i) ++ ws)) (sym m) ∙
       ap (λ (s : ℕ). fits t (e - (i + 1)) (i + 1) (replicate many s ++ ws)) (sym o)
+
+  stopped : (p : ℕ) → p < 512 → ((ws : List ℕ) → fits t (e - i) i (sortAt t i ∷ ws) ≡ At p) → Ended t e i (512 + p)
+  stopped p small all =
+      record {
+        skips = λ ws. all ws ∙ ap At less ∙ sym (after-at t e (512 + p) ws (omega arith));
+        beyond = λ l. absurd (never l);
+        within = λ l. absurd (never l);
+        small = omega arith;
+      }
+    where
+      less : p ≡ 512 + p - 512
+      less = omega arith
+
+      never : 512 + p < 512 → ⊥
+      never l = omega arith
+
+  -- the first child is none that the node takes
+  pub wrong-child : i < e → i + 1 < 512 → childFitsAt t i ≡ false → Ended t e i (512 + (i + 1))
+  wrong-child h small c = stopped (i + 1) small (λ ws. fits-child t e i h (sortAt t i) ws refl c)
 
   module _ (of left j : ℕ) (here : Here t e i of left j) (some : 0 < left) where
     at-once : (ws : List ℕ) → fits t (e - i) i (sortAt t i ∷ ws) ≡ fits t (e - j) j (of ∷ (replicate (left - 1) of ++ ws))
@@ -76,21 +100,6 @@ module _ (t : List ℕ) (e i : ℕ) where
 
     pub turn : (v : ℕ) → sortAt t j ≡ of → v < 512 → Ended t e j v → Here t e i of (left - 1) v
     turn v s h k ws = at-once ws ∙ pass t e j v k of _ s h
-
-    stopped : (p : ℕ) → p < 512 → ((ws : List ℕ) → fits t (e - i) i (sortAt t i ∷ ws) ≡ At p) → Ended t e i (512 + p)
-    stopped p small all =
-        record {
-          skips = λ ws. all ws ∙ ap At less ∙ sym (after-at t e (512 + p) ws (omega arith));
-          beyond = λ l. absurd (never l);
-          within = λ l. absurd (never l);
-          small = omega arith;
-        }
-      where
-        less : p ≡ 512 + p - 512
-        less = omega arith
-
-        never : 512 + p < 512 → ⊥
-        never l = omega arith
 
     pub cut : e ≤ j → j < 512 → Ended t e i (512 + j)
     cut h small = stopped j small (λ ws. at-once ws ∙ fits-short t e j h of _)

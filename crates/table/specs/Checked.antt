@@ -8,7 +8,7 @@ use Rattle.table.specs.declared.places.Place.{Place}
 use Rattle.table.specs.declared.places.Place.the-variants.{Nowhere, At}
 use Rattle.table.specs.declared.answer.Answer.{Answer}
 use Rattle.table.specs.declared.answer.Answer.the-variants.{Accepted, Refused}
-use Rattle.table.specs.Header.{total, headerRefusal}
+use Rattle.table.specs.Header.{newestVersion, total, headerRefusal}
 use Rattle.table.specs.Nodes.{wrongNode}
 use Rattle.table.specs.Order.{misfits}
 use Rattle.table.specs.Nesting.{tooDeep}
@@ -33,5 +33,10 @@ from8 t = orRefused 8 (tooDeep t) (from9 t)
 unfoldable pub from7 : List ℕ → Answer
 from7 t = orRefused 7 (misfits t) (from8 t)
 
+-- the answer of a reader of versions 1 to `newest`
+unfoldable pub checkedUpTo : ℕ → List ℕ → Answer
+checkedUpTo newest t = orHeader (headerRefusal newest t) (orRefused 6 (wrongNode t (total t) 0) (from7 t))
+
+-- the answer of today's reader, which reads every version that there is
 unfoldable pub checked : List ℕ → Answer
-checked t = orHeader (headerRefusal t) (orRefused 6 (wrongNode t (total t) 0) (from7 t))
+checked t = checkedUpTo newestVersion t

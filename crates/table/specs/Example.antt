@@ -6,8 +6,9 @@ use Prim.Native.Nat.{ℕ}
 use Rattle.table.specs.declared.answer.Answer.the-variants.{Accepted}
 use Rattle.table.specs.Bytes.{u16, u32, u64}
 use Rattle.table.specs.Kinds.{kinds, kindOf}
-use Rattle.table.specs.Header.{markRight, countsRight, headerRefusal, root}
-use Rattle.table.specs.Nodes.{nodeAt, childrenRight, nRight, constantRight, ownRight, nodeRight, wrongNode, sortAt, childCount, childCountAt, childSortAt}
+use Rattle.table.specs.Header.{markRight, versionRight, countsRight, headerRefusal, root}
+use Rattle.table.specs.Nodes.{nodeAt, childrenRight, nRight, constantRight, kindRight, fieldsRight, ownRight, nodeRight, wrongNode, sortAt, childCount}
+use Rattle.table.specs.Nodes.{childCountAt, childSortAt, childFits, childFitsAt}
 use Rattle.table.specs.Order.{fits, misfit, orElse, ofFour, misfits}
 use Rattle.table.specs.Forest.{firstTrees, otherTrees, nodeOver, trees, forestOf}
 use Rattle.table.specs.Nesting.{deeper, tooDeep}
@@ -16,7 +17,7 @@ use Rattle.table.specs.Named as Named
 use Rattle.table.specs.Trees.{ref, price, prev, compare, cross}
 use Rattle.table.specs.Reading.{operandBy, operandFrom, operands, firstOf, conditionBy, conditionFrom, conditions, present, treeOf}
 use Rattle.table.specs.Writing.{absent, shortOf, ruleOf}
-use Rattle.table.specs.Checked.{orRefused, orHeader, from9, from8, from7, checked}
+use Rattle.table.specs.Checked.{orRefused, orHeader, from9, from8, from7, checkedUpTo, checked}
 
 -- kind, selector and n of a node that has neither children of its own number nor a constant
 abbrev node : ℕ → ℕ → ℕ → List ℕ
@@ -29,9 +30,10 @@ example =
     node 17 0 0 ++ node 3 3 0 ++ node 4 0 2 ++ node 3 3 0
 
 pub example-accepted : checked example ≡ Accepted 7 3
-unfolding example checked orHeader orRefused from7 from8 from9 tooFar rowsNeeded farAt tooDeep misfits ofFour treeReach forestOf root forestReach
-    weigh ownBack back deeper orElse trees nodeOver otherTrees firstTrees u16 u32 u64 kindOf kinds nodeAt headerRefusal markRight countsRight wrongNode
-    nodeRight ownRight nRight constantRight childrenRight sortAt childCountAt childCount childSortAt fits misfit
+unfolding example checked checkedUpTo orHeader orRefused from7 from8 from9 tooFar rowsNeeded farAt tooDeep misfits ofFour treeReach forestOf root forestReach
+    weigh ownBack back deeper orElse trees nodeOver otherTrees firstTrees u16 u32 u64 kindOf kinds nodeAt headerRefusal markRight versionRight countsRight
+    wrongNode nodeRight ownRight kindRight fieldsRight nRight constantRight childrenRight sortAt childCountAt childCount childSortAt childFitsAt childFits
+    fits misfit
 example-accepted = refl
 
 -- and it holds those two trees

@@ -1,12 +1,13 @@
 -- Trees in a row, as the nodes of a table make them in prefix order, whatever their bytes are. Definitions only.
 use mathlib.Core.Path.{_≡_}
+use mathlib.Core.Bool.{true}
 use mathlib.Core.List.{List, [], _∷_, _++_}
 use Prim.Native.Nat.{ℕ, zero, suc, _+_}
 use lib.ListN.{replicate}
 use Rattle.table.specs.declared.nodes.Node.{Node}
 use Rattle.table.specs.Kinds.{kindOf}
 use Rattle.table.specs.Header.{count, root}
-use Rattle.table.specs.Nodes.{nodeAt, childCount, childCountAt}
+use Rattle.table.specs.Nodes.{nodeAt, childCount, childCountAt, childFits}
 
 -- no tree; or a node, the trees below it, and the trees after it
 pub data Forest : Type 0 where
@@ -55,6 +56,12 @@ unfoldable pub sorts : Forest → List ℕ
 sorts none = []
 sorts (tree n below rest) = kindOf (n .kind) .sort ∷ sorts rest
 
+-- the first child of a node is one that it takes
+unfoldable pub Fitting : Node → Forest → Type 0
+Fitting n none = Unit
+Fitting n (tree child below rest) = childFits (kindOf (n .kind)) (kindOf (child .kind)) ≡ true
+
 unfoldable pub Sorted : Forest → Type 0
 Sorted none = Unit
-Sorted (tree n below rest) = (sorts below ≡ replicate (childCount n (kindOf (n .kind))) (kindOf (n .kind) .below)) × Sorted below × Sorted rest
+Sorted (tree n below rest) =
+    (sorts below ≡ replicate (childCount n (kindOf (n .kind))) (kindOf (n .kind) .below)) × Sorted below × Sorted rest × Fitting n below

@@ -3,9 +3,10 @@ use mathlib.Core.Bool.{Bool, not, cond, _&&_}
 use mathlib.Core.List.{List}
 use Prim.Native.Nat.{ℕ, zero, suc, _+_, _*_}
 use lib.ListN.{length, getD}
-use lib.Dec.{ltb, eqb}
+use lib.Dec.{ltb, leb, eqb}
 use Rattle.words.specs.Limits.{mostSlots, mostNodes}
 use Rattle.table.specs.Bytes.{u16}
+use Rattle.table.specs.declared.header.Form.{Form}
 use Rattle.table.specs.declared.trees.Tree.{Tree}
 use Rattle.table.specs.declared.trees.Tree.the-variants.{Entry, Exit, ShortEntry, ShortExit}
 
@@ -20,6 +21,18 @@ slots t = getD t 3 0
 
 abbrev pub version : List ℕ → ℕ
 version t = u16 t 4
+
+-- what a node's own bytes are judged by beside its kind
+abbrev pub formOf : List ℕ → Form
+formOf t = record { version = version t; slots = slots t }
+
+-- "Table version 2" (request 8): the newest version that there is
+abbrev pub newestVersion : ℕ
+newestVersion = 2
+
+-- whether a reader of versions 1 to `newest` reads the table's
+unfoldable pub versionRight : ℕ → List ℕ → Bool
+versionRight newest t = leb 1 (version t) && leb (version t) newest
 
 abbrev pub total : List ℕ → ℕ
 total t = u16 t 6
@@ -39,12 +52,12 @@ countsRight t =
 
 -- The number of the first of these rules that the table breaks, 0 where it breaks none:
 -- "1 table under 16 bytes; 2 mark wrong; 3 version not 1; 4 K, total or tree counts against the rules; 5 length not
--- 16 + 16·total".
-unfoldable pub headerRefusal : List ℕ → ℕ
-headerRefusal t =
+-- 16 + 16·total". "a version 1 reader still gives 3" (request 8): 3 is for a version that the reader does not read.
+unfoldable pub headerRefusal : ℕ → List ℕ → ℕ
+headerRefusal newest t =
     cond (ltb (length t) 16) 1
     (cond (not (markRight t)) 2
-    (cond (not (eqb (version t) 1)) 3
+    (cond (not (versionRight newest t)) 3
     (cond (not (countsRight t)) 4
     (cond (not (eqb (length t) (16 + 16 * total t))) 5
     0))))

@@ -6,7 +6,7 @@ use Rattle.table.specs.declared.kinds.Kind.{Kind}
 use Rattle.table.specs.declared.kinds.OperandClass.{OperandClass}
 use Rattle.table.specs.declared.kinds.ConditionClass.{ConditionClass}
 use Rattle.table.specs.declared.kinds.Row.{Row}
-use Rattle.table.specs.declared.kinds.OperandClass.the-variants.{NoOperand, Const, Ref, Price, Prev, Arith}
+use Rattle.table.specs.declared.kinds.OperandClass.the-variants.{NoOperand, Const, Ref, Price, Prev, Arith, Extreme}
 use Rattle.table.specs.declared.kinds.ConditionClass.the-variants.{NoCondition, Compare, Cross, Between, Trend, All, Any, Not}
 use Rattle.table.specs.declared.kinds.ConditionClass.the-variants.{InPosition, BarsSince}
 
@@ -36,8 +36,8 @@ conditions m = record { children = m; sort = condition }
 abbrev pub asWritten : ℕ
 asWritten = 255
 
--- Which fields a node uses beside its kind. An unused selector has one value, zero; n is unused (0), a slot (1) or any
--- number (2); the constant is unused (0) or used (1).
+-- Which fields a node uses beside its kind. An unused selector has one value, zero; n is unused (0), a slot (1), any
+-- number (2) or how many bars (3); the constant is unused (0) or used (1).
 pub record Uses : Type 0 where
   pub selectors : ℕ
   pub n : ℕ
@@ -55,6 +55,9 @@ slotBelowK = record { selectors = 1; n = 1; constant = 0 }
 abbrev pub itsNumber : Uses
 itsNumber = record { selectors = 1; n = 2; constant = 0 }
 
+abbrev pub howManyBars : Uses
+howManyBars = record { selectors = 1; n = 3; constant = 0 }
+
 abbrev pub selectorBelow : ℕ → Uses
 selectorBelow m = record { selectors = m; n = 0; constant = 0 }
 
@@ -71,9 +74,31 @@ itsN = 1
 abbrev pub oneBar : ℕ
 oneBar = 2
 
--- A row: the class of the node, what stands below it, which fields it uses, what it adds to the reach.
-abbrev pub row : OperandClass → ConditionClass → ℕ → Takes → Uses → ℕ → Kind
-row o c sort takes uses back =
+-- "The reach is n − 1 plus the child's."
+abbrev pub barsBefore : ℕ
+barsBefore = 3
+
+-- "one child that must be a Price or a Ref": such a child is a series.
+abbrev pub neither : ℕ
+neither = 0
+
+abbrev pub aSeries : ℕ
+aSeries = 1
+
+abbrev pub overASeries : ℕ
+overASeries = 2
+
+-- The version that a kind came with.
+abbrev pub firstVersion : ℕ
+firstVersion = 1
+
+abbrev pub secondVersion : ℕ
+secondVersion = 2
+
+-- A row: the class of the node, what stands below it, which fields it uses, what it adds to the reach, whether it is a series or
+-- takes one, the version it came with.
+abbrev pub row : OperandClass → ConditionClass → ℕ → Takes → Uses → ℕ → ℕ → ℕ → Kind
+row o c sort takes uses back series since =
     record {
       operand = o;
       condition = c;
@@ -84,13 +109,18 @@ row o c sort takes uses back =
       n = uses .n;
       constant = uses .constant;
       back = back;
+      series = series;
+      since = since;
     }
 
 abbrev pub anOperand : OperandClass → Takes → Uses → ℕ → Kind
-anOperand class = row class NoCondition operand
+anOperand class takes uses back = row class NoCondition operand takes uses back neither firstVersion
+
+abbrev pub aLeafOfEachRow : OperandClass → Uses → Kind
+aLeafOfEachRow class uses = row class NoCondition operand leaf uses nothing aSeries firstVersion
 
 abbrev pub aCondition : ConditionClass → Takes → Uses → ℕ → Kind
-aCondition class = row NoOperand class condition
+aCondition class takes uses back = row NoOperand class condition takes uses back neither firstVersion
 
 -- ---- the rows
 
@@ -100,22 +130,26 @@ aCondition class = row NoOperand class condition
 -- more conditions); 29 Not (one condition); 30 InPosition (selector 0 or 1); 31 BarsSinceEntry (selector 0..4: Gt, Lt, Ge,
 -- Le, Eq; n = k)."
 abbrev pub noKind : Kind
-noKind = row NoOperand NoCondition 0 leaf (selectorBelow 0) nothing
+noKind = row NoOperand NoCondition 0 leaf (selectorBelow 0) nothing neither firstVersion
 
 abbrev pub constant : Kind
 constant = anOperand Const leaf theConstant nothing
 
 abbrev pub reference : Kind
-reference = anOperand Ref leaf slotBelowK nothing
+reference = aLeafOfEachRow Ref slotBelowK
 
 abbrev pub price : Kind
-price = anOperand Price leaf (selectorBelow 7) nothing
+price = aLeafOfEachRow Price (selectorBelow 7)
 
 abbrev pub previous : Kind
 previous = anOperand Prev (operands 1) itsNumber itsN
 
 abbrev pub arithmetic : Kind
 arithmetic = anOperand Arith (operands 2) kindAlone nothing
+
+-- "Kinds 9 and 10, Highest and Lowest, take n from 1 to 4,095 and one child that must be a Price or a Ref." (request 8)
+abbrev pub extremum : Kind
+extremum = row Extreme NoCondition operand (operands 1) howManyBars barsBefore overASeries secondVersion
 
 abbrev pub comparison : Kind
 comparison = aCondition Compare (operands 2) kindAlone nothing
@@ -145,29 +179,30 @@ abbrev pub barsSince : Kind
 barsSince = aCondition BarsSince leaf (numberAndSelectorBelow 5) nothing
 
 -- The rows by name.
-unfoldable pub rowOf : Row → Kind
-rowOf Row.Unknown = noKind
-rowOf Row.Const = constant
-rowOf Row.Ref = reference
-rowOf Row.Price = price
-rowOf Row.Prev = previous
-rowOf Row.Arith = arithmetic
-rowOf Row.Compare = comparison
-rowOf Row.Cross = crossing
-rowOf Row.Between = between
-rowOf Row.Trend = trend
-rowOf Row.All = allOf
-rowOf Row.Any = anyOf
-rowOf Row.Not = negation
-rowOf Row.InPosition = position
-rowOf Row.BarsSince = barsSince
+unfoldable pub rowNamed : Row → Kind
+rowNamed Row.Unknown = noKind
+rowNamed Row.Const = constant
+rowNamed Row.Ref = reference
+rowNamed Row.Price = price
+rowNamed Row.Prev = previous
+rowNamed Row.Arith = arithmetic
+rowNamed Row.Extreme = extremum
+rowNamed Row.Compare = comparison
+rowNamed Row.Cross = crossing
+rowNamed Row.Between = between
+rowNamed Row.Trend = trend
+rowNamed Row.All = allOf
+rowNamed Row.Any = anyOf
+rowNamed Row.Not = negation
+rowNamed Row.InPosition = position
+rowNamed Row.BarsSince = barsSince
 
 -- "How many children each kind takes, and of which sort, stands in one constant table indexed by kind."
 unfoldable pub kinds : List Kind
 kinds =
     noKind ∷ constant ∷ reference ∷ price ∷ previous ∷
     arithmetic ∷ arithmetic ∷ arithmetic ∷ arithmetic ∷
-    noKind ∷ noKind ∷ noKind ∷ noKind ∷ noKind ∷ noKind ∷ noKind ∷
+    extremum ∷ extremum ∷ noKind ∷ noKind ∷ noKind ∷ noKind ∷ noKind ∷
     comparison ∷ comparison ∷ comparison ∷ comparison ∷ comparison ∷ comparison ∷
     crossing ∷ crossing ∷ between ∷ trend ∷ trend ∷ allOf ∷ anyOf ∷ negation ∷ position ∷ barsSince ∷ []
 

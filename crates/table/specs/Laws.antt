@@ -5,6 +5,7 @@ pub mod Forest
 pub mod Ends
 pub mod Order
 pub mod Reading
+pub mod Series
 pub mod Reach
 pub mod OwnBytes
 pub mod Writing

@@ -8,6 +8,7 @@ pub mod Order
 pub mod Forest
 pub mod Nesting
 pub mod Trees
+pub mod Series
 pub mod Reach
 pub mod Checked
 pub mod Ends
@@ -22,4 +23,5 @@ pub mod Passes
 pub mod Laws
 -- ---- THE THEOREMS: tables and rules are the same thing; the worked example
 pub mod RoundTrip
+pub mod Versions
 pub mod Example

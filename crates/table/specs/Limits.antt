@@ -4,37 +4,47 @@ use mathlib.Core.Bool.{true}
 use Prim.Native.Nat.{ℕ, _+_, _≤_, _<_, max}
 use Rattle.words.specs.Limits.{mostSlots, mostReach, mostNesting, mostNodes}
 use Rattle.floats.specs.Floats.{finite, floatOf}
+use Rattle.table.specs.declared.header.Form.{Form}
+use Rattle.table.specs.declared.series.Series.{Series}
+use Rattle.table.specs.declared.series.Series.the-variants.{Price, Slot}
 use Rattle.table.specs.Kinds as Kinds
-use Rattle.table.specs.Kinds.{kindOf, arithmetic, comparison, crossing}
-use Rattle.table.specs.Trees.{Operand, const, ref, price, prev, arith, Condition, Conditions, compare, cross, between, trend, every, any, negated}
-use Rattle.table.specs.Trees.{inPosition, barsSince, none, more, reachOf}
+use Rattle.table.specs.Kinds.{kindOf, arithmetic, extremum, comparison, crossing, secondVersion}
+use Rattle.table.specs.Header.{newestVersion}
+use Rattle.table.specs.Trees.{Operand, const, ref, price, prev, arith, extreme, Condition, Conditions, compare, cross, between, trend, every, any}
+use Rattle.table.specs.Trees.{negated, inPosition, barsSince, none, more, reachOf}
 use Rattle.table.specs.Writing.{Short, absent, given, Rule, nodesOfRule}
 
--- With k slots: "Const (constant, finite)", its bits a 64-bit word; "Ref (n = slot, below K)"; "Price (selector 0..6 ..)"; n
--- 32 bits; "5..8 Add, Sub, Mul, Div".
-unfoldable pub Within : ℕ → Operand → Type 0
-Within k (const bits) = (bits < 18446744073709551616) × (finite (floatOf bits) ≡ true)
-Within k (ref slot) = slot < k
-Within k (price selector) = selector < 7
-Within k (prev a n) = (n < 4294967296) × Within k a
-Within k (arith kind a b) = (kindOf kind ≡ arithmetic) × Within k a × Within k b
+-- "Ref (n = slot, below K)"; "Price (selector 0..6 ..)"
+unfoldable pub WithinSeries : Form → Series → Type 0
+WithinSeries form (Price selector) = selector < 7
+WithinSeries form (Slot slot) = slot < form .slots
+
+-- "Const (constant, finite)", its bits a 64-bit word; "Ref (n = slot, below K)"; "Price (selector 0..6 ..)"; n 32 bits; "5..8 Add,
+-- Sub, Mul, Div". "Kinds 9 and 10, Highest and Lowest, take n from 1 to 4,095", in a table of version 2.
+unfoldable pub Within : Form → Operand → Type 0
+Within form (const bits) = (bits < 18446744073709551616) × (finite (floatOf bits) ≡ true)
+Within form (ref slot) = slot < form .slots
+Within form (price selector) = selector < 7
+Within form (prev a n) = (n < 4294967296) × Within form a
+Within form (arith kind a b) = (kindOf kind ≡ arithmetic) × Within form a × Within form b
+Within form (extreme kind s n) = (kindOf kind ≡ extremum) × (secondVersion ≤ form .version) × (1 ≤ n) × (n ≤ mostReach) × WithinSeries form s
 
 -- "16..21 Gt, Lt, Ge, Le, Eq, Ne and 22, 23 CrossAbove, CrossBelow"; "25, 26 Rising, Falling"; "31 BarsSinceEntry (selector 0..4 ..)"
 unfoldable mutual
-  pub WithinOf : ℕ → Condition → Type 0
-  WithinOf k (compare kind a b) = (kindOf kind ≡ comparison) × Within k a × Within k b
-  WithinOf k (cross kind a b) = (kindOf kind ≡ crossing) × Within k a × Within k b
-  WithinOf k (between x low high) = Within k x × Within k low × Within k high
-  WithinOf k (trend kind a n) = (kindOf kind ≡ Kinds.trend) × (n < 4294967296) × Within k a
-  WithinOf k (every cs) = WithinAll k cs
-  WithinOf k (any cs) = WithinAll k cs
-  WithinOf k (negated c) = WithinOf k c
-  WithinOf k (inPosition _) = Unit
-  WithinOf k (barsSince selector n) = (selector < 5) × (n < 4294967296)
+  pub WithinOf : Form → Condition → Type 0
+  WithinOf form (compare kind a b) = (kindOf kind ≡ comparison) × Within form a × Within form b
+  WithinOf form (cross kind a b) = (kindOf kind ≡ crossing) × Within form a × Within form b
+  WithinOf form (between x low high) = Within form x × Within form low × Within form high
+  WithinOf form (trend kind a n) = (kindOf kind ≡ Kinds.trend) × (n < 4294967296) × Within form a
+  WithinOf form (every cs) = WithinAll form cs
+  WithinOf form (any cs) = WithinAll form cs
+  WithinOf form (negated c) = WithinOf form c
+  WithinOf form (inPosition _) = Unit
+  WithinOf form (barsSince selector n) = (selector < 5) × (n < 4294967296)
 
-  pub WithinAll : ℕ → Conditions → Type 0
-  WithinAll k none = Unit
-  WithinAll k (more c cs) = WithinOf k c × WithinAll k cs
+  pub WithinAll : Form → Conditions → Type 0
+  WithinAll form none = Unit
+  WithinAll form (more c cs) = WithinOf form c × WithinAll form cs
 
 -- How many levels a tree has: "nesting .. (root is 1)".
 unfoldable pub levels : Operand → ℕ
@@ -43,6 +53,7 @@ levels (ref _) = 1
 levels (price _) = 1
 levels (prev a _) = 1 + levels a
 levels (arith _ a b) = 1 + max (levels a) (levels b)
+levels (extreme _ _ _) = 2
 
 unfoldable mutual
   pub levelsOf : Condition → ℕ
@@ -61,20 +72,22 @@ unfoldable mutual
   levelsOfAll (more c cs) = max (levelsOf c) (levelsOfAll cs)
 
 -- a tree: its fields, "nesting above 32" and "a reach above 4,095" refused
-pub record TreeWithin (k : ℕ) (c : Condition) : Type 0 where
-  pub fields : WithinOf k c
+pub record TreeWithin (form : Form) (c : Condition) : Type 0 where
+  pub fields : WithinOf form c
   pub nesting : levelsOf c ≤ mostNesting
   pub reaches : reachOf c ≤ mostReach
 
-unfoldable pub ShortWithin : ℕ → Short → Type 0
-ShortWithin k absent = Unit
-ShortWithin k (given c) = TreeWithin k c
+unfoldable pub ShortWithin : Form → Short → Type 0
+ShortWithin form absent = Unit
+ShortWithin form (given c) = TreeWithin form c
 
--- a rule: "slot count K (.. 0 to 64)", "total nodes (.. 2 to 256)" (two trees have two nodes at least)
-pub record RuleWithin (k : ℕ) (r : Rule) : Type 0 where
-  pub few-slots : k ≤ mostSlots
+-- a rule: version 1 or 2, "slot count K (.. 0 to 64)", "total nodes (.. 2 to 256)" (two trees have two nodes at least)
+pub record RuleWithin (form : Form) (r : Rule) : Type 0 where
+  pub some-version : 1 ≤ form .version
+  pub known-version : form .version ≤ newestVersion
+  pub few-slots : form .slots ≤ mostSlots
   pub few-nodes : nodesOfRule r ≤ mostNodes
-  pub entry : TreeWithin k (r .entry)
-  pub exit : TreeWithin k (r .exit)
-  pub shortEntry : ShortWithin k (r .shortEntry)
-  pub shortExit : ShortWithin k (r .shortExit)
+  pub entry : TreeWithin form (r .entry)
+  pub exit : TreeWithin form (r .exit)
+  pub shortEntry : ShortWithin form (r .shortEntry)
+  pub shortExit : ShortWithin form (r .shortExit)

@@ -27,6 +27,13 @@ mul = 7
 abbrev pub div : ℕ
 div = 8
 
+-- "Kinds 9 and 10, Highest and Lowest" (request 8)
+abbrev pub highest : ℕ
+highest = 9
+
+abbrev pub lowest : ℕ
+lowest = 10
+
 -- "16..21 Gt, Lt, Ge, Le, Eq, Ne"
 abbrev pub gt : ℕ
 gt = 16

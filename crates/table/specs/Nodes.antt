@@ -3,15 +3,17 @@ use mathlib.Core.Bool.{Bool, true, not, cond, _&&_}
 use mathlib.Core.List.{List}
 use Prim.Native.Nat.{ℕ, zero, suc, _+_, _*_}
 use lib.ListN.{getD}
-use lib.Dec.{ltb, eqb}
+use lib.Dec.{ltb, leb, eqb}
+use Rattle.words.specs.Limits.{mostReach}
 use Rattle.floats.specs.Floats.{finite, floatOf}
 use Rattle.table.specs.declared.kinds.Kind.{Kind}
 use Rattle.table.specs.declared.nodes.Node.{Node}
+use Rattle.table.specs.declared.header.Form.{Form}
 use Rattle.table.specs.declared.places.Place.{Place}
 use Rattle.table.specs.declared.places.Place.the-variants.{Nowhere, At}
 use Rattle.table.specs.Bytes.{u16, u32, u64}
-use Rattle.table.specs.Kinds.{kindOf}
-use Rattle.table.specs.Header.{slots}
+use Rattle.table.specs.Kinds.{kindOf, aSeries, overASeries, secondVersion}
+use Rattle.table.specs.Header.{formOf}
 
 -- "Then 16 bytes a node." "Node: kind (1), selector (1), children (2), n (4), constant bits (8)." The number of the node is
 -- kept beside its fields.
@@ -30,25 +32,32 @@ nodeAt t i =
 unfoldable pub childrenRight : ℕ → ℕ → Bool
 childrenRight children takes = cond (eqb takes 255) true (eqb children 0)
 
--- n: unused, so zero; a "slot, below K"; or any number
+-- n: unused, so zero; a "slot, below K"; "n from 1 to 4,095"; or any number
 unfoldable pub nRight : ℕ → ℕ → ℕ → Bool
-nRight k n used = cond (eqb used 0) (eqb n 0) (cond (eqb used 1) (ltb n k) true)
+nRight k n used = cond (eqb used 0) (eqb n 0) (cond (eqb used 1) (ltb n k) (cond (eqb used 3) (leb 1 n && leb n mostReach) true))
 
 -- "Const (constant, finite)"; an unused constant is compared as bits
 unfoldable pub constantRight : ℕ → ℕ → Bool
 constantRight bits used = cond (eqb used 1) (finite (floatOf bits)) (eqb bits 0)
 
--- a node's own bytes, in a table with k slots: a known kind, and each field as the kind uses it
-unfoldable pub ownRight : ℕ → Node → Kind → Bool
-ownRight k n w =
-    not (eqb (w .sort) 0)
-    && ltb (n .selector) (w .selectors)
+-- each field as the kind uses it, in a table with k slots
+unfoldable pub fieldsRight : ℕ → Node → Kind → Bool
+fieldsRight k n w =
+    ltb (n .selector) (w .selectors)
     && childrenRight (n .children) (w .children)
     && nRight k (n .n) (w .n)
     && constantRight (n .constant) (w .constant)
 
+-- "Version 1 tables mean what they meant": a kind that came with version 2 is none in a table of version 1.
+unfoldable pub kindRight : ℕ → ℕ → Bool
+kindRight version since = cond (eqb since secondVersion) (leb secondVersion version) true
+
+-- a node's own bytes: a known kind, and each field as the kind uses it
+unfoldable pub ownRight : Form → Node → Kind → Bool
+ownRight form n w = not (eqb (w .sort) 0) && kindRight (form .version) (w .since) && fieldsRight (form .slots) n w
+
 unfoldable pub nodeRight : List ℕ → ℕ → Bool
-nodeRight t i = ownRight (slots t) (nodeAt t i) (kindOf (nodeAt t i .kind))
+nodeRight t i = ownRight (formOf t) (nodeAt t i) (kindOf (nodeAt t i .kind))
 
 -- "6 a node's own bytes wrong: lowest such node", of the m nodes from node i on
 unfoldable pub wrongNode : List ℕ → ℕ → ℕ → Place
@@ -67,3 +76,11 @@ childCountAt t i = childCount (nodeAt t i) (kindOf (nodeAt t i .kind))
 
 unfoldable pub childSortAt : List ℕ → ℕ → ℕ
 childSortAt t i = kindOf (nodeAt t i .kind) .below
+
+-- "one child that must be a Price or a Ref": whether a node may be the child of another, its sort apart
+unfoldable pub childFits : Kind → Kind → Bool
+childFits parent child = cond (eqb (parent .series) overASeries) (eqb (child .series) aSeries) true
+
+-- of node i and its first child, which is the node after it
+unfoldable pub childFitsAt : List ℕ → ℕ → Bool
+childFitsAt t i = childFits (kindOf (nodeAt t i .kind)) (kindOf (nodeAt t (i + 1) .kind))

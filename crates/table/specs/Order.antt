@@ -7,18 +7,20 @@ use lib.Dec.{eqb}
 use Rattle.table.specs.declared.places.Place.{Place}
 use Rattle.table.specs.declared.places.Place.the-variants.{Nowhere, At}
 use Rattle.table.specs.Header.{count, root}
-use Rattle.table.specs.Nodes.{sortAt, childCountAt, childSortAt}
+use Rattle.table.specs.Nodes.{sortAt, childCountAt, childSortAt, childFitsAt}
 
 -- Do the m nodes from node i on fit the sorts that are wanted, one tree in prefix order for each? A node of the wanted sort
 -- stands there, and its children are wanted next. If not, the place:
 -- "first node that cannot stand there; just past a tree's count if cut short; just past its last fitting node if complete
--- too soon".
+-- too soon". "a wrong child is 7": Highest or Lowest over what is no Price and no Ref stops at that child.
 unfoldable pub fits : List ℕ → ℕ → ℕ → List ℕ → Place
 fits t zero i [] = Nowhere
 fits t zero i (w ∷ ws) = At i
 fits t (suc m) i [] = At i
 fits t (suc m) i (w ∷ ws) =
-    cond (eqb (sortAt t i) w) (fits t m (i + 1) (replicate (childCountAt t i) (childSortAt t i) ++ ws)) (At i)
+    cond (eqb (sortAt t i) w)
+    (cond (childFitsAt t i) (fits t m (i + 1) (replicate (childCountAt t i) (childSortAt t i) ++ ws)) (At (i + 1)))
+    (At i)
 
 -- the tree of the m nodes from node b on: one condition; absent where m is 0
 unfoldable pub misfit : List ℕ → ℕ → ℕ → Place

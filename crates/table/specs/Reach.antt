@@ -1,7 +1,7 @@
 -- Rule 9: how far back a tree reads. Definitions only.
 use mathlib.Core.Bool.{cond}
 use mathlib.Core.List.{List}
-use Prim.Native.Nat.{ℕ, _+_, max}
+use Prim.Native.Nat.{ℕ, _+_, _-_, max}
 use lib.Dec.{ltb, eqb}
 use Rattle.words.specs.Limits.{mostReach}
 use Rattle.table.specs.declared.kinds.Kind.{Kind}
@@ -14,9 +14,9 @@ use Rattle.table.specs.Order.{ofFour}
 use Rattle.table.specs.Forest.{Forest, none, tree, forestOf}
 
 -- "Reach: 0 for leaves, else the greatest child's (0 if none); Prev, Rising and Falling add n, a cross adds 1."
--- What a node adds stands in its kind's row.
+-- "The reach is n − 1 plus the child's" (request 8). What a node adds stands in its kind's row.
 unfoldable pub back : Node → Kind → ℕ
-back n w = cond (eqb (w .back) 1) (n .n) (cond (eqb (w .back) 2) 1 0)
+back n w = cond (eqb (w .back) 1) (n .n) (cond (eqb (w .back) 2) 1 (cond (eqb (w .back) 3) (n .n - 1) 0))
 
 unfoldable pub ownBack : Node → ℕ
 ownBack n = back n (kindOf (n .kind))

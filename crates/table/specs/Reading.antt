@@ -14,8 +14,9 @@ use Rattle.table.specs.Kinds.{kindOf}
 use Rattle.table.specs.Header.{count}
 use Rattle.table.specs.Forest.{Forest, firstTrees, trees, forestOf}
 use Rattle.table.specs.Forest as Forest
-use Rattle.table.specs.Trees.{Operand, const, ref, price, prev, arith, Condition, Conditions, compare, cross, between, trend, every, any, negated}
-use Rattle.table.specs.Trees.{inPosition, barsSince, none, more}
+use Rattle.table.specs.Trees.{Operand, const, ref, price, prev, arith, extreme, Condition, Conditions, compare, cross, between, trend, every, any}
+use Rattle.table.specs.Trees.{negated, inPosition, barsSince, none, more}
+use Rattle.table.specs.Series.{asSeries}
 
 -- operand k of those in a row
 abbrev pub child : List Operand → ℕ → Operand
@@ -28,6 +29,7 @@ operandBy AsOperand.Ref n below = ref (n .n)
 operandBy AsOperand.Price n below = price (n .selector)
 operandBy AsOperand.Prev n below = prev (child below 0) (n .n)
 operandBy AsOperand.Arith n below = arith (n .kind) (child below 0) (child below 1)
+operandBy AsOperand.Extreme n below = extreme (n .kind) (asSeries (child below 0)) (n .n)
 operandBy AsOperand.NoOperand n below = const 0
 
 unfoldable pub operandFrom : Node → List Operand → Operand

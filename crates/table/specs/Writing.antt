@@ -3,9 +3,12 @@ use mathlib.Core.Bool.{cond}
 use mathlib.Core.List.{List, [], _∷_, _++_}
 use Prim.Native.Nat.{ℕ, suc, _+_, _/_, _%_}
 use Rattle.table.specs.declared.nodes.Node.{Node}
+use Rattle.table.specs.declared.header.Form.{Form}
+use Rattle.table.specs.declared.series.Series.{Series}
+use Rattle.table.specs.declared.series.Series.the-variants.{Price, Slot}
 use Rattle.table.specs.Named as Named
-use Rattle.table.specs.Trees.{Operand, const, ref, price, prev, arith, Condition, Conditions, compare, cross, between, trend, every, any, negated}
-use Rattle.table.specs.Trees.{inPosition, barsSince, none, more}
+use Rattle.table.specs.Trees.{Operand, const, ref, price, prev, arith, extreme, Condition, Conditions, compare, cross, between, trend, every, any}
+use Rattle.table.specs.Trees.{negated, inPosition, barsSince, none, more}
 use Rattle.table.specs.Reading.{treeOf, present}
 
 -- "Little-endian."
@@ -34,6 +37,11 @@ nodesBytes (n ∷ ns) = nodeBytes n ++ nodesBytes ns
 abbrev pub plain : ℕ → List ℕ
 plain kind = node kind 0 0 0 0
 
+-- the child of Highest and Lowest
+unfoldable pub writeSeries : Series → List ℕ
+writeSeries (Price selector) = node Named.price selector 0 0 0
+writeSeries (Slot slot) = node Named.ref 0 0 slot 0
+
 -- "each tree in prefix order"
 unfoldable pub write : Operand → List ℕ
 write (const bits) = node Named.const 0 0 0 bits
@@ -41,6 +49,7 @@ write (ref slot) = node Named.ref 0 0 slot 0
 write (price selector) = node Named.price selector 0 0 0
 write (prev a n) = node Named.prev 0 0 n 0 ++ write a
 write (arith kind a b) = plain kind ++ write a ++ write b
+write (extreme kind s n) = node kind 0 0 n 0 ++ writeSeries s
 
 -- operands in a row
 unfoldable pub writeRow : List Operand → List ℕ
@@ -75,6 +84,7 @@ nodesIn (ref _) = 1
 nodesIn (price _) = 1
 nodesIn (prev a _) = 1 + nodesIn a
 nodesIn (arith _ a b) = 1 + nodesIn a + nodesIn b
+nodesIn (extreme _ _ _) = 2
 
 unfoldable mutual
   pub nodesOf : Condition → ℕ
@@ -114,19 +124,19 @@ writeShort (given c) = writeOf c
 unfoldable pub nodesOfRule : Rule → ℕ
 nodesOfRule r = nodesOf (r .entry) + nodesOf (r .exit) + nodesOfShort (r .shortEntry) + nodesOfShort (r .shortExit)
 
--- "Header, 16 bytes: mark `RTB`; slot count K (one byte ..); version, 16 bits, 1; total nodes (16 bits ..); node counts of
+-- "Header, 16 bytes: mark `RTB`; slot count K (one byte ..); version, 16 bits, 1 [or 2]; total nodes (16 bits ..); node counts of
 -- entry, exit, short entry, short exit (16 bits each ..)."
-unfoldable pub headerOf : ℕ → Rule → List ℕ
-headerOf k r =
-    82 ∷ 84 ∷ 66 ∷ k ∷
-    (le16 1 ++ le16 (nodesOfRule r) ++
+unfoldable pub headerOf : Form → Rule → List ℕ
+headerOf form r =
+    82 ∷ 84 ∷ 66 ∷ form .slots ∷
+    (le16 (form .version) ++ le16 (nodesOfRule r) ++
     le16 (nodesOf (r .entry)) ++ le16 (nodesOf (r .exit)) ++
     le16 (nodesOfShort (r .shortEntry)) ++ le16 (nodesOfShort (r .shortExit)))
 
--- the table of a rule with k slots
-unfoldable pub tableOf : ℕ → Rule → List ℕ
-tableOf k r =
-    headerOf k r ++
+-- the table of a rule, of a version and with a number of slots
+unfoldable pub tableOf : Form → Rule → List ℕ
+tableOf form r =
+    headerOf form r ++
     writeOf (r .entry) ++ writeOf (r .exit) ++ writeShort (r .shortEntry) ++ writeShort (r .shortExit)
 
 -- The rule that a table holds.

@@ -6,13 +6,37 @@ use words::limits::MOST_SLOTS;
 ghost use mathlib.Core.Path.{_≡_};
 ghost use Prim.Native.Nat.{_<_, _≤_, _*_};
 ghost use Rattle.table.specs.Header as Header;
-ghost use Rattle.table.specs.Header.{markRight, countsRight, headerRefusal};
+ghost use Rattle.table.specs.Header.{formOf, markRight, versionRight, countsRight, headerRefusal};
+
+// The newest version of a table that there is.
+pub const NEWEST: usize = 2;
+
+// What the header says beside its counts, and a node's own bytes are judged by: the version, and K.
+pub struct Form {
+    pub version: usize,
+    pub slots: u8,
+}
+
+// The version of the table.
+pub fn version(t: &[u8]) -> usize
+    ensures { λ r. ⌜ (r ≡ Header.version (now (t .entry))) × (r < 65536) ⌝ }
+{
+    read16(t, 4)
+}
 
 // K, the number of slots.
 pub fn slots(t: &[u8]) -> u8
     ensures { λ r. ⌜ r ≡ Header.slots (now (t .entry)) ⌝ }
 {
     byte(t, 3)
+}
+
+pub fn form_of(t: &[u8]) -> Form
+    ensures { λ r. ⌜ r ≡ formOf (now (t .entry)) ⌝ }
+{
+    let version = version(t);
+    let slots = slots(t);
+    Form { version, slots }
 }
 
 // How many nodes there are.
@@ -78,9 +102,20 @@ fn counts_right(t: &[u8]) -> bool
     entry + exit + count(t, 2) + count(t, 3) == total(t)
 }
 
-// The first of rules 1 to 5 that the table breaks, or 0.
-pub fn header_refusal(t: &[u8]) -> u8
-    ensures { λ r. ⌜ r ≡ headerRefusal (now (t .entry)) ⌝ }
+// Whether the version is one that a reader of versions 1 to `newest` reads.
+fn version_right(t: &[u8], newest: usize) -> bool
+    ensures { λ r. ⌜ r ≡ versionRight newest (now (t .entry)) ⌝ }
+{
+    let version = version(t);
+    if version < 1 {
+        return false;
+    }
+    version <= newest
+}
+
+// The first of rules 1 to 5 that the table breaks, or 0, for a reader of versions 1 to `newest`.
+pub fn header_refusal(t: &[u8], newest: usize) -> u8
+    ensures { λ r. ⌜ r ≡ headerRefusal newest (now (t .entry)) ⌝ }
 {
     if t.len() < 16 {
         return 1;
@@ -88,7 +123,7 @@ pub fn header_refusal(t: &[u8]) -> u8
     if !mark_right(t) {
         return 2;
     }
-    if read16(t, 4) != 1 {
+    if !version_right(t, newest) {
         return 3;
     }
     if !counts_right(t) {

@@ -1,7 +1,7 @@
 // The kinds of nodes by name, and the constant table of kinds: what a node of each kind takes. Checker, reach, evaluator and
 // translator read it.
 ghost use mathlib.Core.Path.{_≡_};
-ghost use Rattle.table.specs.Kinds.{kindOf, rowOf};
+ghost use Rattle.table.specs.Kinds.{kindOf, rowNamed};
 
 // The kinds, by number.
 pub const CONST: u8 = 1;
@@ -19,6 +19,10 @@ pub const SUB: u8 = 6;
 pub const MUL: u8 = 7;
 
 pub const DIV: u8 = 8;
+
+pub const HIGHEST: u8 = 9;
+
+pub const LOWEST: u8 = 10;
 
 pub const GT: u8 = 16;
 
@@ -60,6 +64,7 @@ pub enum OperandClass {
     Price,
     Prev,
     Arith,
+    Extreme,
 }
 
 pub enum ConditionClass {
@@ -86,6 +91,8 @@ pub struct Kind {
     pub n: u8,
     pub constant: u8,
     pub back: u8,
+    pub series: u8,
+    pub since: u8,
 }
 
 // Sorts.
@@ -96,19 +103,35 @@ pub const CONDITION: u8 = 2;
 // How many children: as many as the node's own field says.
 pub const AS_WRITTEN: u8 = 255;
 
-// What n is: unused and so zero, a slot below K, or any number.
+// What n is: unused and so zero, a slot below K, any number, or how many bars: 1 to 4,095.
 const UNUSED: u8 = 0;
 
 pub const SLOT: u8 = 1;
 
 const NUMBER: u8 = 2;
 
-// What the node adds to the reach: nothing, its n, or one bar.
+pub const BAR_COUNT: u8 = 3;
+
+// What the node adds to the reach: nothing, its n, one bar, or one bar less than its n.
 const NOTHING: u8 = 0;
 
 pub const ITS_N: u8 = 1;
 
 pub const ONE_BAR: u8 = 2;
+
+pub const BARS_BEFORE: u8 = 3;
+
+// Whether the node is a series, a number of each row as it stands there, or takes one as its child.
+const NEITHER: u8 = 0;
+
+pub const A_SERIES: u8 = 1;
+
+pub const OVER_A_SERIES: u8 = 2;
+
+// The version of the table that the kind came with.
+const FIRST: u8 = 1;
+
+pub const SECOND: u8 = 2;
 
 const UNKNOWN_ROW: Kind = Kind {
     operand: OperandClass::NoOperand,
@@ -120,6 +143,8 @@ const UNKNOWN_ROW: Kind = Kind {
     n: UNUSED,
     constant: 0,
     back: NOTHING,
+    series: NEITHER,
+    since: FIRST,
 };
 
 const CONST_ROW: Kind = Kind {
@@ -132,6 +157,8 @@ const CONST_ROW: Kind = Kind {
     n: UNUSED,
     constant: 1,
     back: NOTHING,
+    series: NEITHER,
+    since: FIRST,
 };
 
 const REF_ROW: Kind = Kind {
@@ -144,6 +171,8 @@ const REF_ROW: Kind = Kind {
     n: SLOT,
     constant: 0,
     back: NOTHING,
+    series: A_SERIES,
+    since: FIRST,
 };
 
 const PRICE_ROW: Kind = Kind {
@@ -156,6 +185,8 @@ const PRICE_ROW: Kind = Kind {
     n: UNUSED,
     constant: 0,
     back: NOTHING,
+    series: A_SERIES,
+    since: FIRST,
 };
 
 const PREV_ROW: Kind = Kind {
@@ -168,6 +199,8 @@ const PREV_ROW: Kind = Kind {
     n: NUMBER,
     constant: 0,
     back: ITS_N,
+    series: NEITHER,
+    since: FIRST,
 };
 
 const ARITH_ROW: Kind = Kind {
@@ -180,6 +213,22 @@ const ARITH_ROW: Kind = Kind {
     n: UNUSED,
     constant: 0,
     back: NOTHING,
+    series: NEITHER,
+    since: FIRST,
+};
+
+const EXTREME_ROW: Kind = Kind {
+    operand: OperandClass::Extreme,
+    condition: ConditionClass::NoCondition,
+    sort: OPERAND,
+    children: 1,
+    below: OPERAND,
+    selectors: 1,
+    n: BAR_COUNT,
+    constant: 0,
+    back: BARS_BEFORE,
+    series: OVER_A_SERIES,
+    since: SECOND,
 };
 
 const COMPARE_ROW: Kind = Kind {
@@ -192,6 +241,8 @@ const COMPARE_ROW: Kind = Kind {
     n: UNUSED,
     constant: 0,
     back: NOTHING,
+    series: NEITHER,
+    since: FIRST,
 };
 
 const CROSS_ROW: Kind = Kind {
@@ -204,6 +255,8 @@ const CROSS_ROW: Kind = Kind {
     n: UNUSED,
     constant: 0,
     back: ONE_BAR,
+    series: NEITHER,
+    since: FIRST,
 };
 
 const BETWEEN_ROW: Kind = Kind {
@@ -216,6 +269,8 @@ const BETWEEN_ROW: Kind = Kind {
     n: UNUSED,
     constant: 0,
     back: NOTHING,
+    series: NEITHER,
+    since: FIRST,
 };
 
 const TREND_ROW: Kind = Kind {
@@ -228,6 +283,8 @@ const TREND_ROW: Kind = Kind {
     n: NUMBER,
     constant: 0,
     back: ITS_N,
+    series: NEITHER,
+    since: FIRST,
 };
 
 const ALL_ROW: Kind = Kind {
@@ -240,6 +297,8 @@ const ALL_ROW: Kind = Kind {
     n: UNUSED,
     constant: 0,
     back: NOTHING,
+    series: NEITHER,
+    since: FIRST,
 };
 
 const ANY_ROW: Kind = Kind {
@@ -252,6 +311,8 @@ const ANY_ROW: Kind = Kind {
     n: UNUSED,
     constant: 0,
     back: NOTHING,
+    series: NEITHER,
+    since: FIRST,
 };
 
 const NOT_ROW: Kind = Kind {
@@ -264,6 +325,8 @@ const NOT_ROW: Kind = Kind {
     n: UNUSED,
     constant: 0,
     back: NOTHING,
+    series: NEITHER,
+    since: FIRST,
 };
 
 const IN_POSITION_ROW: Kind = Kind {
@@ -276,6 +339,8 @@ const IN_POSITION_ROW: Kind = Kind {
     n: UNUSED,
     constant: 0,
     back: NOTHING,
+    series: NEITHER,
+    since: FIRST,
 };
 
 const BARS_SINCE_ROW: Kind = Kind {
@@ -288,6 +353,8 @@ const BARS_SINCE_ROW: Kind = Kind {
     n: NUMBER,
     constant: 0,
     back: NOTHING,
+    series: NEITHER,
+    since: FIRST,
 };
 
 // The rows by name, so that the table of kinds is one byte a kind: an array of rows would be copied whole at each look-up.
@@ -298,6 +365,7 @@ pub enum Row {
     Price,
     Prev,
     Arith,
+    Extreme,
     Compare,
     Cross,
     Between,
@@ -320,8 +388,8 @@ const KINDS: [Row; 32] = [
     Row::Arith,
     Row::Arith,
     Row::Arith,
-    Row::Unknown,
-    Row::Unknown,
+    Row::Extreme,
+    Row::Extreme,
     Row::Unknown,
     Row::Unknown,
     Row::Unknown,
@@ -346,8 +414,8 @@ const KINDS: [Row; 32] = [
 ];
 
 // The row of a name.
-fn row_of(name: Row) -> Kind
-    ensures { λ r. ⌜ r ≡ rowOf name ⌝ }
+fn row_named(name: Row) -> Kind
+    ensures { λ r. ⌜ r ≡ rowNamed name ⌝ }
 {
     match name {
         Row::Unknown => UNKNOWN_ROW,
@@ -356,6 +424,7 @@ fn row_of(name: Row) -> Kind
         Row::Price => PRICE_ROW,
         Row::Prev => PREV_ROW,
         Row::Arith => ARITH_ROW,
+        Row::Extreme => EXTREME_ROW,
         Row::Compare => COMPARE_ROW,
         Row::Cross => CROSS_ROW,
         Row::Between => BETWEEN_ROW,
@@ -374,7 +443,7 @@ pub fn kind_of(k: u8) -> Kind
 {
     let i = k as usize;
     if i < 32 {
-        row_of(KINDS[i])
+        row_named(KINDS[i])
     } else {
         UNKNOWN_ROW
     }

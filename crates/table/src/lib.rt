@@ -9,6 +9,7 @@ pub mod nodes;
 mod order;
 pub mod places;
 pub mod reach;
+pub mod series;
 pub mod silent;
 pub mod trees;
 mod weighing;
@@ -25,7 +26,7 @@ use words::refusal::Refusal;
 ghost use mathlib.Core.Path.{_≡_};
 ghost use lib.ListN.{replicate};
 ghost use Rattle.table.specs.Header.{headerRefusal};
-ghost use Rattle.table.specs.Checked.{checked, from7, from8, from9};
+ghost use Rattle.table.specs.Checked.{checked, checkedUpTo, from7, from8, from9};
 ghost use Rattle.table.specs.Ends.{endsAll, endsFor, endsBeside};
 ghost use Rattle.table.specs.Passes.{Roots, LinkedAll};
 
@@ -83,9 +84,10 @@ fn check_order(t: &[u8], a: usize, b: usize, c: usize, e: usize) -> Checked
     }
 }
 
-fn check_nodes(t: &[u8]) -> Checked
-    requires { ⌜ headerRefusal (now t) ≡ 0 ⌝ }
-    ensures { λ r. ⌜ (r .answer ≡ checked (now (t .entry))) × (r .ends ≡ endsBeside (now (t .entry))) ⌝ }
+fn check_nodes(t: &[u8], newest: usize) -> Checked
+    requires { ⌜ headerRefusal newest (now t) ≡ 0 ⌝ }
+    ensures { λ r. ⌜ (r .answer ≡ checkedUpTo newest (now (t .entry)))
+        × (r .ends ≡ endsFor (checkedUpTo newest (now (t .entry))) (endsAll (now (t .entry)))) ⌝ }
 {
     let total = header::total(t);
     let wrong = wrong_node(t, total);
@@ -103,17 +105,26 @@ fn check_nodes(t: &[u8]) -> Checked
     }
 }
 
-// The answer to a table, whatever its bytes are, and the subtree ends of an accepted one (all 0 beside a refusal).
-pub fn check(t: &[u8]) -> Checked
-    ensures { λ r. ⌜ (r .answer ≡ checked (now (t .entry))) × (r .ends ≡ endsBeside (now (t .entry))) ⌝ }
+// The answer of a reader of versions 1 to `newest` to a table, whatever its bytes are, and the subtree ends of an accepted one (all
+// 0 beside a refusal).
+pub fn check_up_to(t: &[u8], newest: usize) -> Checked
+    ensures { λ r. ⌜ (r .answer ≡ checkedUpTo newest (now (t .entry)))
+        × (r .ends ≡ endsFor (checkedUpTo newest (now (t .entry))) (endsAll (now (t .entry)))) ⌝ }
 {
-    let number = header::header_refusal(t);
+    let number = header::header_refusal(t, newest);
     if number == 0 {
-        check_nodes(t)
+        check_nodes(t, newest)
     } else {
         refused(Refusal {
             number: number as u64,
             place: 0,
         })
     }
+}
+
+// The answer to a table of any version that there is.
+pub fn check(t: &[u8]) -> Checked
+    ensures { λ r. ⌜ (r .answer ≡ checked (now (t .entry))) × (r .ends ≡ endsBeside (now (t .entry))) ⌝ }
+{
+    check_up_to(t, header::NEWEST)
 }

@@ -3,16 +3,23 @@ use crate::bytes::byte;
 use crate::bytes::read16;
 use crate::bytes::read32;
 use crate::bytes::read64;
-use crate::header::slots;
+use crate::header::Form;
+use crate::header::form_of;
+use crate::kinds::A_SERIES;
 use crate::kinds::AS_WRITTEN;
+use crate::kinds::BAR_COUNT;
 use crate::kinds::Kind;
+use crate::kinds::OVER_A_SERIES;
+use crate::kinds::SECOND;
 use crate::kinds::SLOT;
 use crate::kinds::kind_of;
 use crate::places::Place;
+use words::limits::MOST_REACH;
 ghost use mathlib.Core.Path.{_≡_};
 ghost use Prim.Native.Nat.{_<_};
-ghost use Rattle.table.specs.Nodes.{nodeAt, childrenRight, nRight, constantRight, ownRight, nodeRight, wrongNode};
-ghost use Rattle.table.specs.Nodes.{sortAt, childCount, childCountAt, childSortAt};
+ghost use Rattle.table.specs.Kinds.{kindOf};
+ghost use Rattle.table.specs.Nodes.{nodeAt, kindRight, childrenRight, nRight, constantRight, fieldsRight, ownRight, wrongNode};
+ghost use Rattle.table.specs.Nodes.{sortAt, childCount, childCountAt, childFits};
 
 // A node: its number in the table, and its fields.
 pub struct Node {
@@ -55,6 +62,16 @@ pub fn node_at(t: &[u8], i: usize) -> Node
     }
 }
 
+fn kind_right(version: usize, since: u8) -> bool
+    ensures { λ r. ⌜ r ≡ kindRight version since ⌝ }
+{
+    if since == SECOND {
+        SECOND as usize <= version
+    } else {
+        true
+    }
+}
+
 fn children_right(children: usize, takes: u8) -> bool
     ensures { λ r. ⌜ r ≡ childrenRight children takes ⌝ }
 {
@@ -74,6 +91,12 @@ fn n_right(k: u8, n: u64, used: u8) -> bool
     if used == SLOT {
         return n < k as u64;
     }
+    if used == BAR_COUNT {
+        if n < 1 {
+            return false;
+        }
+        return n <= MOST_REACH;
+    }
     true
 }
 
@@ -87,12 +110,9 @@ fn constant_right(bits: u64, used: u8) -> bool
     }
 }
 
-fn own_right(k: u8, n: Node, w: Kind) -> bool
-    ensures { λ r. ⌜ r ≡ ownRight k n w ⌝ }
+fn fields_right(k: u8, n: Node, w: Kind) -> bool
+    ensures { λ r. ⌜ r ≡ fieldsRight k n w ⌝ }
 {
-    if w.sort == 0 {
-        return false;
-    }
     if w.selectors <= n.selector {
         return false;
     }
@@ -107,23 +127,36 @@ fn own_right(k: u8, n: Node, w: Kind) -> bool
     }
 }
 
-// Whether node i's own bytes are right.
-pub fn node_right(t: &[u8], i: usize) -> bool
-    ensures { λ r. ⌜ r ≡ nodeRight (now (t .entry)) i ⌝ }
+fn own_right(form: Form, n: Node, w: Kind) -> bool
+    ensures { λ r. ⌜ r ≡ ownRight form n w ⌝ }
+{
+    if w.sort == 0 {
+        return false;
+    }
+    if kind_right(form.version, w.since) {
+        fields_right(form.slots, n, w)
+    } else {
+        false
+    }
+}
+
+// Whether node i's own bytes are right, in a table of the form given.
+fn node_right(t: &[u8], form: Form, i: usize) -> bool
+    ensures { λ r. ⌜ r ≡ ownRight form (nodeAt (now (t .entry)) i) (kindOf (nodeAt (now (t .entry)) i .kind)) ⌝ }
 {
     let n = node_at(t, i);
-    let k = slots(t);
     let w = kind_of(n.kind);
-    own_right(k, n, w)
+    own_right(form, n, w)
 }
 
 // Rule 6: the lowest wrong node of the first `total`.
 pub fn wrong_node(t: &[u8], total: usize) -> Place
     ensures { λ r. ⌜ r ≡ wrongNode (now (t .entry)) total 0 ⌝ }
 {
+    let form = form_of(t);
     let mut i = 0;
     while i < total {
-        if node_right(t, i) {
+        if node_right(t, form, i) {
             i += 1;
         } else {
             return Place::At(i);
@@ -152,7 +185,7 @@ pub fn child_count(n: Node, w: Kind) -> usize
     }
 }
 
-// How many children node i takes, and the sort of each.
+// How many children node i takes.
 pub fn child_count_at(t: &[u8], i: usize) -> usize
     ensures { λ r. ⌜ r ≡ childCountAt (now (t .entry)) i ⌝ }
 {
@@ -161,10 +194,15 @@ pub fn child_count_at(t: &[u8], i: usize) -> usize
     child_count(n, w)
 }
 
-pub fn child_sort_at(t: &[u8], i: usize) -> u8
-    ensures { λ r. ⌜ r ≡ childSortAt (now (t .entry)) i ⌝ }
+// Whether node `next` may be a child of a node with this row, its sort apart: Highest and Lowest take a Price or a Ref alone.
+pub fn child_fits(t: &[u8], w: Kind, next: usize) -> bool
+    ensures { λ r. ⌜ r ≡ childFits w (kindOf (nodeAt (now (t .entry)) next .kind)) ⌝ }
 {
-    let n = node_at(t, i);
-    let w = kind_of(n.kind);
-    w.below
+    if w.series == OVER_A_SERIES {
+        let n = node_at(t, next);
+        let child = kind_of(n.kind);
+        child.series == A_SERIES
+    } else {
+        true
+    }
 }

@@ -1,23 +1,28 @@
 // Rule 7: each tree in prefix order. The array of subtree ends is filled on the way, from a tree's last node to its first.
 use crate::kinds::CONDITION;
-use crate::nodes::child_count_at;
-use crate::nodes::child_sort_at;
+use crate::kinds::kind_of;
+use crate::nodes::child_count;
+use crate::nodes::child_fits;
+use crate::nodes::node_at;
 use crate::nodes::sort_at;
 use crate::places::Place;
 use crate::places::or_else;
 ghost use mathlib.Core.Path.{_≡_};
 ghost use Prim.Native.Nat.{_+_, _-_, _≤_, _<_};
+ghost use mathlib.Core.Bool.{true};
+ghost use Rattle.table.specs.Nodes.{childCountAt, childSortAt, childFitsAt};
 ghost use Rattle.table.specs.Order.{misfit, misfits};
 ghost use Rattle.table.specs.Passes.{Ended, EndedFrom, Ordered, Roots, EndedAll};
 
-// The end of the subtree that begins at node i, or 512 more than the place where it stops fitting.
-fn end_of(t: &[u8], ends: &[usize; 256], i: usize, e: usize) -> usize
+// The end of the subtree that begins at node i, whose first child is one that it takes, or 512 more than the place where it stops
+// fitting: past its `many` children of the sort `below`.
+fn end_below(t: &[u8], ends: &[usize; 256], i: usize, e: usize, below: u8, many: usize) -> usize
     requires { ⌜ (i < e) × (e ≤ 256) ⌝ }
     requires { ⌜ EndedFrom (now t) (now ends) (i + 1) e ⌝ }
+    requires { ⌜ (childFitsAt (now t) i ≡ true) × (many ≡ childCountAt (now t) i) × (below ≡ childSortAt (now t) i) ⌝ }
     ensures { λ r. ⌜ Ended (now (t .entry)) e i r ⌝ }
 {
-    let below = child_sort_at(t, i);
-    let mut left = child_count_at(t, i);
+    let mut left = many;
     let mut j = i + 1;
     while 0 < left {
         if e <= j {
@@ -34,6 +39,21 @@ fn end_of(t: &[u8], ends: &[usize; 256], i: usize, e: usize) -> usize
         left -= 1;
     }
     j
+}
+
+// The end of the subtree that begins at node i, or 512 more than the place where it stops fitting.
+fn end_of(t: &[u8], ends: &[usize; 256], i: usize, e: usize) -> usize
+    requires { ⌜ (i < e) × (e ≤ 256) ⌝ }
+    requires { ⌜ EndedFrom (now t) (now ends) (i + 1) e ⌝ }
+    ensures { λ r. ⌜ Ended (now (t .entry)) e i r ⌝ }
+{
+    let node = node_at(t, i);
+    let row = kind_of(node.kind);
+    if child_fits(t, row, i + 1) {
+        end_below(t, ends, i, e, row.below, child_count(node, row))
+    } else {
+        512 + (i + 1)
+    }
 }
 
 // The ends of one tree, of the nodes from b up to e.

@@ -1,5 +1,6 @@
 // What rules 8 and 9 share: what each subtree weighs, from a tree's last node to its first. A node's weight is 1 where levels
 // are counted, and what it adds to the reach where bars are. Weights are cut at 4,096, so no sum wraps.
+use crate::kinds::BARS_BEFORE;
 use crate::kinds::ITS_N;
 use crate::kinds::Kind;
 use crate::kinds::ONE_BAR;
@@ -9,7 +10,7 @@ use crate::nodes::child_count_at;
 use crate::nodes::node_at;
 use words::limits::MOST_ROWS;
 ghost use mathlib.Core.Path.{_≡_};
-ghost use Prim.Native.Nat.{_+_, _≤_, _<_, min, max};
+ghost use Prim.Native.Nat.{_+_, _-_, _≤_, _<_, min, max};
 ghost use Rattle.table.specs.Nodes.{nodeAt};
 ghost use Rattle.table.specs.Reach.{back};
 ghost use Rattle.table.specs.Ends.{Linked};
@@ -32,6 +33,12 @@ pub fn cut(a: u64) -> u64
     if a < most { a } else { most }
 }
 
+fn one_less(a: u64) -> u64
+    ensures { λ r. ⌜ r ≡ a - 1 ⌝ }
+{
+    if a < 1 { 0 } else { a - 1 }
+}
+
 // What a node adds to the reach.
 pub fn back_of(n: Node, w: Kind) -> u64
     ensures { λ r. ⌜ r ≡ back n w ⌝ }
@@ -39,7 +46,13 @@ pub fn back_of(n: Node, w: Kind) -> u64
     if w.back == ITS_N {
         return n.n;
     }
-    if w.back == ONE_BAR { 1 } else { 0 }
+    if w.back == ONE_BAR {
+        return 1;
+    }
+    if w.back == BARS_BEFORE {
+        return one_less(n.n);
+    }
+    0
 }
 
 fn weight_at(t: &[u8], what: u8, i: usize) -> u64

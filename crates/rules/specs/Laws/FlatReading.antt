@@ -8,11 +8,13 @@ use borrow.Author.Tests.{lt-ltb, lt-leb}
 use Rattle.table.specs.declared.kinds.Kind.{Kind}
 use Rattle.table.specs.declared.answer.Answer.the-variants.{Accepted}
 use Rattle.table.specs.Kinds.{kindOf}
-use Rattle.table.specs.Laws.Kinds.{OperandKind, a-const, a-ref, a-price, a-prev, an-arith, operand-kind}
+use Rattle.table.specs.Laws.Kinds.{OperandKind, a-const, a-ref, a-price, a-prev, an-arith, an-extreme, operand-kind}
 use Rattle.table.specs.Laws.Kinds.{ConditionKind, a-compare, a-cross, a-between, a-trend, an-all, an-any, a-not, a-position, a-count, condition-kind}
 use Rattle.table.specs.Header.{count, root}
 use Rattle.table.specs.Nodes.{nodeAt, sortAt, childCount, childCountAt, childSortAt}
 use Rattle.table.specs.Checked.{checked}
+use Rattle.table.specs.Series.{asSeries, seriesIn}
+use Rattle.table.specs.Laws.Series.{series-read}
 use Rattle.table.specs.Ends.{endsAll, endsBeside, Link, Linked}
 use Rattle.table.specs.Reading as Reading
 use Rattle.table.specs.Reading.{child, operandBy, operandFrom, conditionBy, conditionFrom, treeOf}
@@ -33,6 +35,11 @@ condition-node : (t ends : List ℕ) (i : ℕ) → i < 256
     ≡ conditionOf (kindOf (nodeAt t i .kind) .condition) (nodeAt t i) (i + 1) (endIn ends (i + 1)) (endIn ends (endIn ends (i + 1)))
 unfolding conditionShape
 condition-node t ends i low = rw (lt-leb 256 i low)
+
+-- the series at a node, and what the operand there is as a series
+series-there : (t : List ℕ) (e j : ℕ) → j < e → asSeries (Reading.operandAt t e j) ≡ seriesIn t j
+unfolding seriesIn
+series-there t e j near = ap asSeries (operand-is t e j near) ∙ series-read (nodeAt t j) _
 
 module _ (t ends : List ℕ) (b e : ℕ) (whole : Whole t ends b e) where
   -- the word of a node of the tree, and where it leads
@@ -60,7 +67,7 @@ module _ (t ends : List ℕ) (b e : ℕ) (whole : Whole t ends b e) where
   -- one level of an operand, where the level below is joined
   operand-level : (left : ℕ) → ((i : ℕ) → Stands t e i 1 1 left → b ≤ i → operandAt left t ends i ≡ Reading.operandAt t e i)
       → (i : ℕ) → Stands t e i 1 1 (suc left) → b ≤ i → OperandKind (nodeAt t i .kind)
-      → growOperand (operandAt left t ends) (operandShape t ends i) ≡ Reading.operandAt t e i
+      → growOperand (seriesIn t) (operandAt left t ends) (operandShape t ends i) ≡ Reading.operandAt t e i
   unfolding growOperand operandOf operandFrom operandBy childCountAt childCount
   operand-level left joined i here lo kind = rw (operand-node t ends i low, operand-is t e i there) (go kind)
     where
@@ -71,7 +78,7 @@ module _ (t ends : List ℕ) (b e : ℕ) (whole : Whole t ends b e) where
       low = omega (arith, whole .small, there)
 
       go : OperandKind (nodeAt t i .kind)
-          → growOperand (operandAt left t ends) (operandOf (kindOf (nodeAt t i .kind) .operand) (nodeAt t i) (i + 1) (endIn ends (i + 1)))
+          → growOperand (seriesIn t) (operandAt left t ends) (operandOf (kindOf (nodeAt t i .kind) .operand) (nodeAt t i) (i + 1) (endIn ends (i + 1)))
           ≡ operandFrom (nodeAt t i) (Reading.operandsAt t e (i + 1) (childCountAt t i))
       go (a-const k row) = rw row
       go (a-ref k row) = rw row
@@ -87,6 +94,10 @@ module _ (t ends : List ℕ) (b e : ℕ) (whole : Whole t ends b e) where
           let first = joined (i + 1) (stands-one t e (i + 1) 1 1 left two) (omega arith) in
           let second = joined v (stands-next t e (i + 1) 1 1 left two v link) (omega (arith, link .beyond)) in
           rw (row, end-is (i + 1) near, first, second, child-first t e (i + 1) 1, child-next t e (i + 1) v link 1 0, child-first t e v 0)
+      go (an-extreme row) =
+          let one : Stands t e (i + 1) 1 1 left = below-by i 1 left _ here lo row in
+          let near : i + 1 < e = node-there t e (i + 1) 0 1 left one in
+          rw (row, child-first t e (i + 1) 0, series-there t e (i + 1) near)
 
   pub operand-joined : (left i : ℕ) → Stands t e i 1 1 left → b ≤ i → operandAt left t ends i ≡ Reading.operandAt t e i
   unfolding operandAt sortAt

@@ -1,21 +1,23 @@
 -- Laws of the meaning of operands and conditions, for the proofs that cite it. Assumes nothing.
-use Prim.Native.Nat.{ℕ, _-_, _*_, _≤_, _<_}
-use mathlib.Core.Path.{_≡_, refl}
+use Prim.Native.Nat.{ℕ, zero, suc, _+_, _-_, _*_, _≤_, _<_}
+use mathlib.Core.Path.{_≡_, refl, ap, _∙_}
 use mathlib.Core.Bool.{Bool, true, false, cond}
 use native.Mathlib.Omega.{arith}
 use native.Mathlib.Nat.{le-refl, sub-zero}
 use lib.Dec.{ltb, eqb}
 use lib.Ieee as Ieee
 use lib.Ieee.{Float, nan, inf, fin}
-use borrow.Author.Tests.{lt-ltb, le-ltb}
+use borrow.Author.Tests.{lt-ltb, le-ltb, ltb-true, ltb-false}
 use Rattle.floats.specs.Floats.{_≺_, floatOf}
 use Rattle.rows.specs.History.{History}
-use Rattle.table.specs.Trees.{Operand, const, ref, price, prev, arith as sums, trend}
+use Rattle.table.specs.declared.series.Series.{Series}
+use Rattle.table.specs.declared.series.Series.the-variants.{Price, Slot}
+use Rattle.table.specs.Trees.{Operand, const, ref, price, prev, arith as sums, extreme, trend}
 use Rattle.rules.specs.declared.Value.{Value}
 use Rattle.rules.specs.declared.Value.the-variants.{Missing, Number}
 use Rattle.rules.specs.declared.PositionState.{PositionState}
-use Rattle.rules.specs.Values.{priceOf, slotOf, both, tested, compared, trended}
-use Rattle.rules.specs.Meaning.{there, value, holds}
+use Rattle.rules.specs.Values.{priceOf, slotOf, both, pick, tested, compared, trended}
+use Rattle.rules.specs.Meaning.{there, seriesAt, extremeOver, extremeAt, value, holds}
 
 -- What is asked of a row that is there, and of one that is not.
 module _ (h : History) (i : ℕ) (v : Value) where
@@ -27,6 +29,72 @@ module _ (h : History) (i : ℕ) (v : Value) where
   unfolding there
   row-missing l = rw (le-ltb i (h .rows) l)
 
+pub series-past : (h : History) (s : Series) (i : ℕ) → h .rows ≤ i → seriesAt h s i ≡ Missing
+unfolding seriesAt
+series-past h (Price selector) i l = row-missing h i (Number (priceOf (h .word i) selector)) l
+series-past h (Slot slot) i l = row-missing h i (slotOf (h .word i) slot) l
+
+pick-late : (kind : ℕ) (v : Value) → pick kind v Missing ≡ Missing
+unfolding pick
+pick-late kind Missing = refl
+pick-late kind (Number best) = refl
+
+-- "missing if any is missing": bar j after the oldest
+pub any-missing : (h : History) (kind : ℕ) (s : Series) (oldest m j : ℕ) → j ≤ m → seriesAt h s (oldest + j) ≡ Missing
+    → extremeOver h kind s oldest m ≡ Missing
+unfolding extremeOver pick
+any-missing h kind s oldest zero j l e =
+    let here : oldest + j ≡ oldest = omega arith in
+    rw here at e
+any-missing h kind s oldest (suc m) j l e = go (λ near. any-missing h kind s oldest m j near e) (ltb j (suc m)) refl
+  where
+    go : (j ≤ m → extremeOver h kind s oldest m ≡ Missing) → (b : Bool) → ltb j (suc m) ≡ b
+        → pick kind (extremeOver h kind s oldest m) (seriesAt h s (oldest + suc m)) ≡ Missing
+    go before true f = rw (before (omega (arith, ltb-true j (suc m) f)))
+    go before false f =
+        let here : j ≡ suc m = omega (arith, ltb-false j (suc m) f) in
+        rw (rw here at e) (pick-late kind (extremeOver h kind s oldest m))
+
+-- one bar; one bar more; too few bars before it; and enough
+module _ (h : History) (kind : ℕ) (s : Series) where
+  pub extreme-one : (oldest : ℕ) → extremeOver h kind s oldest (oldest - oldest) ≡ seriesAt h s oldest
+  unfolding extremeOver
+  extreme-one oldest =
+      let none : oldest - oldest ≡ 0 = omega arith in
+      rw none
+
+  pub extreme-more : (oldest at : ℕ) → oldest ≤ at
+      → extremeOver h kind s oldest (at + 1 - oldest) ≡ pick kind (extremeOver h kind s oldest (at - oldest)) (seriesAt h s (at + 1))
+  unfolding extremeOver
+  extreme-more oldest at l =
+      let more : at + 1 - oldest ≡ suc (at - oldest) = omega arith in
+      let last : oldest + suc (at - oldest) ≡ at + 1 = omega arith in
+      rw (more, last)
+
+  pub extreme-now : (n i : ℕ) → n ≤ 1 → extremeAt h kind s n i ≡ seriesAt h s i
+  unfolding extremeAt extremeOver
+  extreme-now n i l =
+      let none : n - 1 ≡ 0 = omega arith in
+      rw (none, le-ltb i 0 (omega arith), sub-zero)
+
+  pub extreme-early : (n i : ℕ) → i < n - 1 → extremeAt h kind s n i ≡ Missing
+  unfolding extremeAt
+  extreme-early n i l = rw (lt-ltb i (n - 1) l)
+
+  pub extreme-late : (n i : ℕ) → n - 1 ≤ i → extremeAt h kind s n i ≡ extremeOver h kind s (i - (n - 1)) (n - 1)
+  unfolding extremeAt
+  extreme-late n i l = rw (le-ltb i (n - 1) l)
+
+extreme-past : (h : History) (kind : ℕ) (s : Series) (n i : ℕ) → h .rows ≤ i → extremeAt h kind s n i ≡ Missing
+unfolding extremeAt
+extreme-past h kind s n i l = go (ltb i (n - 1)) refl
+  where
+    go : (b : Bool) → ltb i (n - 1) ≡ b → cond b Missing (extremeOver h kind s (i - (n - 1)) (n - 1)) ≡ Missing
+    go true f = refl
+    go false f =
+        let last : i - (n - 1) + (n - 1) ≡ i = omega (arith, ltb-false i (n - 1) f) in
+        any-missing h kind s (i - (n - 1)) (n - 1) (n - 1) (le-refl (n - 1)) (ap (seriesAt h s) last ∙ series-past h s i l)
+
 -- Where the row does not exist every operand is missing.
 pub past : (h : History) (a : Operand) (i : ℕ) → h .rows ≤ i → value h a i ≡ Missing
 unfolding value both
@@ -35,6 +103,7 @@ past h (ref slot) i l = row-missing h i (slotOf (h .word i) slot) l
 past h (price selector) i l = row-missing h i (Number (priceOf (h .word i) selector)) l
 past h (prev a n) i l = row-missing h i _ l
 past h (sums kind a b) i l = rw (past h a i l)
+past h (extreme kind s n) i l = extreme-past h kind s n i l
 
 -- Each operand at a bar whose row exists.
 module _ (h : History) (i : ℕ) (l : i < h .rows) where
@@ -57,6 +126,18 @@ module _ (h : History) (i : ℕ) (l : i < h .rows) where
   pub prev-value : (a : Operand) (n : ℕ) → n ≤ i → value h (prev a n) i ≡ value h a (i - n)
   unfolding value there
   prev-value a n e = simp (le-ltb i n e, lt-ltb i (h .rows) l)
+
+  pub price-series : (selector : ℕ) → seriesAt h (Price selector) i ≡ Number (priceOf (h .word i) selector)
+  unfolding seriesAt
+  price-series selector = row-there h i (Number (priceOf (h .word i) selector)) l
+
+  pub slot-series : (slot : ℕ) → seriesAt h (Slot slot) i ≡ slotOf (h .word i) slot
+  unfolding seriesAt
+  slot-series slot = row-there h i (slotOf (h .word i) slot) l
+
+pub extreme-value : (h : History) (kind : ℕ) (s : Series) (n i : ℕ) → value h (extreme kind s n) i ≡ extremeAt h kind s n i
+unfolding value
+extreme-value h kind s n i = refl
 
 pub arith-value : (h : History) (kind : ℕ) (a b : Operand) (i : ℕ) → value h (sums kind a b) i ≡ both kind (value h a i) (value h b i)
 unfolding value

@@ -1,30 +1,27 @@
 -- `check_nodes` meets its contract: rule 6 is broken, or what is left decides.
 -- Assumes nothing.
 use borrow.Author.Needs.{needs}
-use Rattle.table.specs.Ends.{endsBeside}
 use Rattle.table.proofs.Final.{six-at, six-none, head-roots}
 use Rattle.table.proofs.check_nodes.Statement.{statement}
 use Rattle.table.proofs.check_nodes.Tie as tie
 
 check-order-requires : tie.Need-check-order-requires
 check-order-requires c κs =
-    head-roots _ _ _ _ _
+    head-roots _ _ _ _ _ _
     (c .before .before .before .before .before .before .before .before .pre) (c .before .before .root .ensures .0) (c .before .root2 .ensures .0)
     (c .root3 .ensures .0)
     (c .before .before .before .before .before .before .total .ensures .0)
 
 returns : tie.Need-returns
-unfolding endsBeside
 returns c =
-    six-at _ _ _ _
+    six-at _ _ _ _ _
     (c .before .before .before .before .before .before .before .pre) _
     (c .before .before .before .before .before .total .ensures .0) _
     (c .before .before .before .before .wrong-node .ensures) _ (c .before .before .wrong .given .1) (c .refused .ensures .0) (c .refused .ensures .1)
 
 returns-2 : tie.Need-returns-2
-unfolding endsBeside
 returns-2 c =
-    six-none _ _ _ _
+    six-none _ _ _ _ _
     (c .before .before .before .before .before .before .before .before .before .pre) _
     (c .before .before .before .before .before .before .before .total .ensures .0) _
     (c .before .before .before .before .before .before .wrong-node .ensures)

@@ -17,13 +17,13 @@ use Rattle.table.specs.declared.places.Place.{Place}
 use Rattle.table.specs.declared.places.Place.the-variants.{Nowhere, At}
 use Rattle.table.specs.declared.answer.Answer.{Answer}
 use Rattle.table.specs.declared.answer.Answer.the-variants.{Accepted, Refused}
-use Rattle.table.specs.Header.{total, count, root, headerRefusal}
+use Rattle.table.specs.Header.{newestVersion, total, count, root, headerRefusal}
 use Rattle.table.specs.Nodes.{nodeRight, wrongNode}
 use Rattle.table.specs.Order.{fits, misfit, misfits, orElse, ofFour}
 use Rattle.table.specs.Forest.{trees, sorts, Sorted, forestOf}
 use Rattle.table.specs.Nesting.{deeper, tooDeep}
 use Rattle.table.specs.Reach.{treeReach, farAt, tooFar, rowsNeeded}
-use Rattle.table.specs.Checked.{orRefused, orHeader, from9, from8, from7, checked}
+use Rattle.table.specs.Checked.{orRefused, orHeader, from9, from8, from7, checkedUpTo, checked}
 use Rattle.table.specs.Ends.{endAt, endOf, endsAll, endsFor, endsBeside, Link, Linked}
 use Rattle.table.specs.Laws.Ends.{from-at}
 use Rattle.table.specs.Laws.Header.{HeaderRight, header-right}
@@ -45,7 +45,7 @@ header-kept false nr n r a h = absurd (refused-not _ n r h)
 
 -- Every rule is kept, and the answer's two numbers are those of the paper.
 pub record Kept (t : List ℕ) (n r : ℕ) : Type 0 where
-  pub header : headerRefusal t ≡ 0
+  pub header : headerRefusal newestVersion t ≡ 0
   pub own : wrongNode t (total t) 0 ≡ Nowhere
   pub order : misfits t ≡ Nowhere
   pub nesting : tooDeep t ≡ Nowhere
@@ -54,9 +54,9 @@ pub record Kept (t : List ℕ) (n r : ℕ) : Type 0 where
   pub rows : r ≡ rowsNeeded t
 
 pub accepted : (t : List ℕ) (n r : ℕ) → checked t ≡ Accepted n r → Kept t n r
-unfolding checked orHeader from7 from8 from9
+unfolding checked checkedUpTo orHeader from7 from8 from9
 accepted t n r h =
-    let h0 = header-kept (eqb (headerRefusal t) 0) (headerRefusal t) n r _ h in
+    let h0 = header-kept (eqb (headerRefusal newestVersion t) 0) (headerRefusal newestVersion t) n r _ h in
     let h6 = rule-kept 6 n r _ _ (h0 .1) in
     let h7 = rule-kept 7 n r _ _ (h6 .1) in
     let h8 = rule-kept 8 n r _ _ (h7 .1) in
@@ -73,7 +73,7 @@ accepted t n r h =
 
 -- and the other way round
 pub all-kept : (t : List ℕ) (n r : ℕ) → Kept t n r → checked t ≡ Accepted n r
-unfolding checked orHeader orRefused from7 from8 from9
+unfolding checked checkedUpTo orHeader orRefused from7 from8 from9
 all-kept t n r k = rw (k .header, k .own, k .order, k .nesting, k .reaches) (cc (k .nodes, k .rows))
 
 -- ---- from the rules to each node and each tree
@@ -163,8 +163,8 @@ module _ (t : List ℕ) (n r : ℕ) (ok : checked t ≡ Accepted n r) where
   kept : Kept t n r
   kept = accepted t n r ok
 
-  pub header-of : HeaderRight t
-  header-of = header-right t (kept .header)
+  pub header-of : HeaderRight newestVersion t
+  header-of = header-right newestVersion t (kept .header)
 
   pub node-of : (i : ℕ) → i < total t → nodeRight t i ≡ true
   node-of i l = subst (λ (k : ℕ). nodeRight t k ≡ true) (zero-add i) (right-from t (total t) 0 i (kept .own) l)

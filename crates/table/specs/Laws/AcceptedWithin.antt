@@ -11,7 +11,7 @@ use borrow.Author.Tests.{eq-eqb, ne-eqb}
 use Rattle.words.specs.Limits.{mostNesting}
 use Rattle.table.specs.declared.answer.Answer.the-variants.{Accepted}
 use Rattle.table.specs.Bytes.{u64}
-use Rattle.table.specs.Header.{slots, count, root}
+use Rattle.table.specs.Header.{formOf, count, root}
 use Rattle.table.specs.Nodes.{nodeAt, childCountAt}
 use Rattle.table.specs.Forest.{Forest, firstTrees, otherTrees, nodeOver, trees, forestOf}
 use Rattle.table.specs.Forest as Forest
@@ -51,26 +51,28 @@ small-trees t small (suc m) i =
     (small-node t small i, g .0, g .1)
 
 module _ (t : List ℕ) (small : Bytes t) (n r : ℕ) (ok : checked t ≡ Accepted n r) where
-  pub tree-within : (x : ℕ) → x < 4 → 0 < count t x → TreeWithin (slots t) (treeOf t x)
+  pub tree-within : (x : ℕ) → x < 4 → 0 < count t x → TreeWithin (formOf t) (treeOf t x)
   unfolding treeOf forestOf root
   tree-within x l some =
       let g = tree-sorts t n r ok x l some in
       let right = right-trees t (count t x) (root t x) (λ j lo hi. node-of t n r ok j (omega (arith, tree-ends t n r ok x l))) in
       let f = trees t (count t x) (root t x) in
-      let fine = first-in (slots t) mostNesting (conditions f) (many-conditions f ∙ ap length (g .0))
-      (all-fine f (slots t) mostNesting 1 right (small-trees t small (count t x) (root t x)) (g .1) (g .0) (tree-nesting t n r ok x l)) in
+      let fine = first-in (formOf t) mostNesting (conditions f) (many-conditions f ∙ ap length (g .0))
+      (all-fine f (formOf t) mostNesting 1 right (small-trees t small (count t x) (root t x)) (g .1) (g .0) (tree-nesting t n r ok x l)) in
       record { fields = fine .0; nesting = fine .1; reaches = omega (arith, tree-reach t n r ok x l, tree-reach-is t n r x ok l) }
 
-  pub short-within : (x : ℕ) → x < 4 → ShortWithin (slots t) (shortOf t x)
+  pub short-within : (x : ℕ) → x < 4 → ShortWithin (formOf t) (shortOf t x)
   unfolding shortOf present ShortWithin
   short-within x l = ⊎-elim
       (λ z. simp (eq-eqb (count t x) 0 z) tt)
       (λ s. simp (ne-eqb (count t x) 0 (λ z. omega arith)) (tree-within x l s))
       (eq-zero-or-pos (count t x))
 
-  pub rule-within : RuleWithin (slots t) (ruleOf t)
+  pub rule-within : RuleWithin (formOf t) (ruleOf t)
   unfolding ruleOf
   rule-within = record {
+    some-version = header-of t n r ok .some-version;
+    known-version = header-of t n r ok .known-version;
     few-slots = header-of t n r ok .few-slots;
     few-nodes = omega (arith, rule-nodes t small n r ok, header-of t n r ok .most);
     entry = tree-within 0 (omega arith) (omega (arith, header-of t n r ok .has-entry));

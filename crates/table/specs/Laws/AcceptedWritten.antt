@@ -12,8 +12,9 @@ use lib.ListN.{length, getD, length-append}
 use lib.Dec.{eqb}
 use borrow.Author.Tests.{ne-eqb, eqb-true}
 use Rattle.table.specs.declared.answer.Answer.the-variants.{Accepted}
+use Rattle.table.specs.declared.header.Form.{Form}
 use Rattle.table.specs.Bytes.{Bytes, u16, u32, u64}
-use Rattle.table.specs.Header.{slots, total, count, root, markRight}
+use Rattle.table.specs.Header.{newestVersion, version, formOf, total, count, root, markRight}
 use Rattle.table.specs.Nodes.{nodeAt, childCountAt, nodeRight}
 use Rattle.table.specs.Forest.{Forest, firstTrees, otherTrees, nodeOver, trees, forestOf, nodes}
 use Rattle.table.specs.Forest as Forest
@@ -34,19 +35,19 @@ use Rattle.table.specs.Laws.Accepted.{header-of, node-of, tree-ends, tre
 
 -- ---- each tree
 
-right-first : (k l : ℕ) (f : Forest) → Right k f → Right k (firstTrees l f) × Right k (otherTrees l f)
+right-first : (form : Form) (l : ℕ) (f : Forest) → Right form f → Right form (firstTrees l f) × Right form (otherTrees l f)
 unfolding Right firstTrees otherTrees
-right-first k zero f r = (tt, r)
-right-first k (suc l) Forest.none r = (tt, tt)
-right-first k (suc l) (Forest.tree n below rest) r =
-    let g = right-first k l rest (r .2) in
+right-first form zero f r = (tt, r)
+right-first form (suc l) Forest.none r = (tt, tt)
+right-first form (suc l) (Forest.tree n below rest) r =
+    let g = right-first form l rest (r .2) in
     ((r .0, r .1, g .0), g .1)
 
-pub right-trees : (t : List ℕ) (m i : ℕ) → ((j : ℕ) → i ≤ j → j < i + m → nodeRight t j ≡ true) → Right (slots t) (trees t m i)
+pub right-trees : (t : List ℕ) (m i : ℕ) → ((j : ℕ) → i ≤ j → j < i + m → nodeRight t j ≡ true) → Right (formOf t) (trees t m i)
 unfolding Right trees nodeOver nodeRight
 right-trees t zero i h = tt
 right-trees t (suc m) i h =
-    let g = right-first (slots t) (childCountAt t i) (trees t m (i + 1)) (right-trees t m (i + 1) (λ j lo hi. h j (omega arith) (omega arith))) in
+    let g = right-first (formOf t) (childCountAt t i) (trees t m (i + 1)) (right-trees t m (i + 1) (λ j lo hi. h j (omega arith) (omega arith))) in
     (h i (omega arith) (omega arith), g .0, g .1)
 
 module _ (t : List ℕ) (n r : ℕ) (ok : checked t ≡ Accepted n r) where
@@ -57,7 +58,7 @@ module _ (t : List ℕ) (n r : ℕ) (ok : checked t ≡ Accepted n r) where
       let g = tree-sorts t n r ok x l some in
       let right = right-trees t (count t x) (root t x) (λ j lo hi. node-of t n r ok j (omega (arith, tree-ends t n r ok x l))) in
       sym (all-one (conditions (trees t (count t x) (root t x))) (many-conditions (trees t (count t x) (root t x)) ∙ ap length (g .0)))
-      ∙ sym (written-all (slots t) (trees t (count t x) (root t x)) 1 right (g .1) (g .0))
+      ∙ sym (written-all (formOf t) (trees t (count t x) (root t x)) 1 right (g .1) (g .0))
       ∙ ap nodesBytes (flat-trees t (count t x) (root t x))
 
   pub short-written : (x : ℕ) → x < 4 → writeShort (shortOf t x) ≡ nodesBytes (nodes t (count t x) (root t x))
@@ -163,7 +164,7 @@ module _ (t : List ℕ) (small : Bytes t) (n r : ℕ) (ok : checked t ≡ Accept
   abbrev b : ℕ → ℕ
   b = byte t small
 
-  right : HeaderRight t
+  right : HeaderRight newestVersion t
   right = header-of t n r ok
 
   some-entry : 0 < count t 0
@@ -188,7 +189,7 @@ module _ (t : List ℕ) (small : Bytes t) (n r : ℕ) (ok : checked t ≡ Accept
   two-back : (x at : ℕ) → x ≡ u16 t at → le16 x ≡ from b 2 at
   two-back x at h = ap le16 h ∙ back16 t small at
 
-  header-back : headerOf (slots t) (ruleOf t) ≡ from b 16 0
+  header-back : headerOf (formOf t) (ruleOf t) ≡ from b 16 0
   unfolding headerOf ruleOf markRight from byte
   header-back =
       let m2 = both _ (eqb (getD t 2 0) 66) (right .mark) in
@@ -196,7 +197,7 @@ module _ (t : List ℕ) (small : Bytes t) (n r : ℕ) (ok : checked t ≡ Accept
       let mark0 : getD t 0 0 ≡ 82 = eqb-true _ _ (m1 .0) in
       let mark1 : getD t 1 0 ≡ 84 = eqb-true _ _ (m1 .1) in
       let mark2 : getD t 2 0 ≡ 66 = eqb-true _ _ (m2 .1) in
-      let version-back = two-back 1 4 (sym (right .first)) in
+      let version-back = two-back (version t) 4 refl in
       let total-back = two-back (nodesOfRule (ruleOf t)) 6 rule-nodes in
       let entry-back = two-back (nodesOf (treeOf t 0)) 8 (tree-nodes t n r ok 0 (omega arith) some-entry) in
       let exit-back = two-back (nodesOf (treeOf t 1)) 10 (tree-nodes t n r ok 1 (omega arith) some-exit) in
@@ -213,7 +214,7 @@ module _ (t : List ℕ) (small : Bytes t) (n r : ℕ) (ok : checked t ≡ Accept
       rw (long, h, nodes-back t small (count t x) (root t x), place) (sym (from-two b (16 + 16 * m) (16 * count t x) 0))
 
   -- **An accepted table is the table of the rule that it holds.**
-  pub round-trip : tableOf (slots t) (ruleOf t) ≡ t
+  pub round-trip : tableOf (formOf t) (ruleOf t) ≡ t
   unfolding tableOf ruleOf root byte
   round-trip =
       let w0 = tree-written t n r ok 0 (omega arith) some-entry in

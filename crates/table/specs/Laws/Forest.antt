@@ -64,7 +64,7 @@ sorted-first zero f h = (tt, h)
 sorted-first (suc k) none h = (tt, tt)
 sorted-first (suc k) (tree n below rest) h =
     let g = sorted-first k rest (h .2) in
-    ((h .0, h .1, g .0), g .1)
+    ((h .0, h .1, g .0, h .3), g .1)
 
 -- Of every byte string: the trees' nodes in prefix order are the table's nodes.
 pub flat-trees : (t : List ℕ) (m i : ℕ) → flat (trees t m i) ≡ nodes t m i

@@ -6,10 +6,10 @@ use mathlib.Core.List.{List}
 use Prim.Native.Nat.{ℕ, _+_, _*_, _≤_}
 use native.Mathlib.Omega.{arith}
 use lib.ListN.{length}
-use lib.Dec.{ltb, eqb}
-use borrow.Author.Tests.{ltb-false, eqb-true, not-true}
+use lib.Dec.{ltb, leb, eqb}
+use borrow.Author.Tests.{ltb-false, leb-true, eqb-true, not-true}
 use Rattle.words.specs.Limits.{mostSlots, mostNodes}
-use Rattle.table.specs.Header.{slots, version, total, count, markRight, countsRight, headerRefusal}
+use Rattle.table.specs.Header.{slots, version, total, count, markRight, versionRight, countsRight, headerRefusal}
 
 true-false : false ≡ true → ⊥
 true-false h = let z : _≡_ {A = ℕ} 0 1 = cc in omega arith
@@ -26,9 +26,10 @@ not-not : (b : Bool) → not b ≡ false → b ≡ true
 not-not true h = refl
 not-not false h = absurd (true-false (sym h))
 
-pub record HeaderRight (t : List ℕ) : Type 0 where
+pub record HeaderRight (newest : ℕ) (t : List ℕ) : Type 0 where
   pub mark : markRight t ≡ true
-  pub first : version t ≡ 1
+  pub some-version : 1 ≤ version t
+  pub known-version : version t ≤ newest
   pub few-slots : slots t ≤ mostSlots
   pub least : 2 ≤ total t
   pub most : total t ≤ mostNodes
@@ -37,14 +38,15 @@ pub record HeaderRight (t : List ℕ) : Type 0 where
   pub sums : count t 0 + count t 1 + count t 2 + count t 3 ≡ total t
   pub long : length t ≡ 16 + 16 * total t
 
-pub header-right : (t : List ℕ) → headerRefusal t ≡ 0 → HeaderRight t
-unfolding headerRefusal countsRight
-header-right t h =
+pub header-right : (newest : ℕ) (t : List ℕ) → headerRefusal newest t ≡ 0 → HeaderRight newest t
+unfolding headerRefusal versionRight countsRight
+header-right newest t h =
     let h1 = refused-not 1 _ (ltb (length t) 16) h (λ z. omega arith) in
     let h2 = refused-not 2 _ (not (markRight t)) (h1 .1) (λ z. omega arith) in
-    let h3 = refused-not 3 _ (not (eqb (version t) 1)) (h2 .1) (λ z. omega arith) in
+    let h3 = refused-not 3 _ (not (versionRight newest t)) (h2 .1) (λ z. omega arith) in
     let h4 = refused-not 4 _ (not (countsRight t)) (h3 .1) (λ z. omega arith) in
     let h5 = refused-not 5 _ (not (eqb (length t) (16 + 16 * total t))) (h4 .1) (λ z. omega arith) in
+    let v = both (leb 1 (version t)) (leb (version t) newest) (not-not _ (h3 .0)) in
     let c5 = both _ (eqb (count t 0 + count t 1 + count t 2 + count t 3) (total t)) (not-not _ (h4 .0)) in
     let c4 = both _ (not (ltb (count t 1) 1)) (c5 .0) in
     let c3 = both _ (not (ltb (count t 0) 1)) (c4 .0) in
@@ -52,7 +54,8 @@ header-right t h =
     let c1 = both (not (ltb mostSlots (slots t))) (not (ltb (total t) 2)) (c2 .0) in
     record {
       mark = not-not _ (h2 .0);
-      first = eqb-true _ _ (not-not _ (h3 .0));
+      some-version = leb-true _ _ (v .0);
+      known-version = leb-true _ _ (v .1);
       few-slots = ltb-false mostSlots (slots t) (not-true _ (c1 .0));
       least = ltb-false (total t) 2 (not-true _ (c1 .1));
       most = ltb-false mostNodes (total t) (not-true _ (c2 .1));

@@ -2,7 +2,7 @@
 -- of kinds says there. Whoever goes by the kind of a node goes by these cases.
 -- Assumes nothing.
 use mathlib.Core.Path.{_≡_, refl, sym, _∙_, ap}
-use mathlib.Core.Bool.{Bool, true, cond, _&&_}
+use mathlib.Core.Bool.{Bool, true, cond, true≢false, _&&_}
 use mathlib.Core.Logic.{⊎-elim}
 use mathlib.Core.List.{List, [], _∷_}
 use Prim.Native.Nat.{ℕ, zero, suc, _+_, _-_, _≤_, _<_}
@@ -13,13 +13,13 @@ use lib.Dec.{leb, eqb}
 use borrow.Author.Tests.{leb-true, eqb-true}
 use Rattle.table.specs.declared.kinds.Kind.{Kind}
 use Rattle.table.specs.declared.kinds.OperandClass.{OperandClass}
-use Rattle.table.specs.declared.kinds.OperandClass.the-variants.{NoOperand, Const, Ref, Price, Prev, Arith}
+use Rattle.table.specs.declared.kinds.OperandClass.the-variants.{NoOperand, Const, Ref, Price, Prev, Arith, Extreme}
 use Rattle.table.specs.declared.kinds.ConditionClass.{ConditionClass}
 use Rattle.table.specs.declared.kinds.ConditionClass.the-variants.{NoCondition, Compare, Cross, Between, Trend, All, Any, Not}
 use Rattle.table.specs.declared.kinds.ConditionClass.the-variants.{InPosition, BarsSince}
 use Rattle.table.specs.Named as Named
-use Rattle.table.specs.Kinds.{kinds, kindOf, noKind, constant, reference, price, previous, arithmetic}
-use Rattle.table.specs.Kinds.{comparison, crossing, between, trend, allOf, anyOf, negation, position, barsSince}
+use Rattle.table.specs.Kinds.{kinds, kindOf, noKind, constant, reference, price, previous, arithmetic, extremum}
+use Rattle.table.specs.Kinds.{overASeries, comparison, crossing, between, trend, allOf, anyOf, negation, position, barsSince}
 use Rattle.table.specs.Laws.Header.{both}
 
 -- ---- what holds of the 32 rows, and of no row past them
@@ -69,6 +69,7 @@ pub data OperandKind (k : ℕ) : Type 0 where
   a-price : k ≡ Named.price → kindOf k ≡ price → OperandKind k
   a-prev : k ≡ Named.prev → kindOf k ≡ previous → OperandKind k
   an-arith : kindOf k ≡ arithmetic → OperandKind k
+  an-extreme : kindOf k ≡ extremum → OperandKind k
 
 -- the row of a class, and the numbers of its kinds
 operandRow : OperandClass → Kind
@@ -78,6 +79,7 @@ operandRow Ref = reference
 operandRow Price = price
 operandRow Prev = previous
 operandRow Arith = arithmetic
+operandRow Extreme = extremum
 
 operandNumber : OperandClass → ℕ → Bool
 operandNumber NoOperand k = true
@@ -86,6 +88,7 @@ operandNumber Ref k = eqb k Named.ref
 operandNumber Price k = eqb k Named.price
 operandNumber Prev k = eqb k Named.prev
 operandNumber Arith k = leb Named.add k && leb k Named.div
+operandNumber Extreme k = leb Named.highest k && leb k Named.lowest
 
 operandAsTold : ℕ → Kind
 operandAsTold k = cond (eqb (kindOf k .sort) 1) (operandRow (kindOf k .operand)) (kindOf k)
@@ -112,6 +115,7 @@ operand-kind k s = go (kindOf k .operand) (operand-row k low s) (operand-number 
     go Price r n = a-price (eqb-true k Named.price n) r
     go Prev r n = a-prev (eqb-true k Named.prev n) r
     go Arith r n = an-arith r
+    go Extreme r n = an-extreme r
 
 -- "5..8 Add, Sub, Mul, Div"
 pub arith-numbers : (k : ℕ) → kindOf k ≡ arithmetic → (Named.add ≤ k) × (k ≤ Named.div)
@@ -119,6 +123,27 @@ unfolding operandNumber
 arith-numbers k r =
     let in-range = both (leb Named.add k) (leb k Named.div) (rw r at (operand-number k (known k arithmetic r (omega arith)))) in
     (leb-true Named.add k (in-range .0), leb-true k Named.div (in-range .1))
+
+-- "Kinds 9 and 10, Highest and Lowest"
+pub extreme-numbers : (k : ℕ) → kindOf k ≡ extremum → (Named.highest ≤ k) × (k ≤ Named.lowest)
+unfolding operandNumber
+extreme-numbers k r =
+    let in-range = both (leb Named.highest k) (leb k Named.lowest) (rw r at (operand-number k (known k extremum r (omega arith)))) in
+    (leb-true Named.highest k (in-range .0), leb-true k Named.lowest (in-range .1))
+
+-- what takes a series takes one child
+childrenOverSeries : ℕ → ℕ
+childrenOverSeries k = cond (eqb (kindOf k .series) overASeries) (kindOf k .children) 1
+
+children-over-series : (k : ℕ) → k < 32 → childrenOverSeries k ≡ 1
+children-over-series = of-rows childrenOverSeries (λ i. 1) (unfold listed kindOf kinds childrenOverSeries in refl)
+
+pub over-series-one : (k : ℕ) → eqb (kindOf k .series) overASeries ≡ true → kindOf k .children ≡ 1
+unfolding childrenOverSeries
+over-series-one k h = ⊎-elim
+    (λ z. rw h at (children-over-series k (omega arith)))
+    (λ z. absurd (true≢false (sym h ∙ ap (λ (r : Kind). eqb (r .series) overASeries) (past-rows k (omega arith)))))
+    (eq-zero-or-pos (k - 31))
 
 -- ---- conditions
 

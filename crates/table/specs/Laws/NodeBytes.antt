@@ -6,12 +6,14 @@ use mathlib.Core.List.{List, _++_}
 use Prim.Native.Nat.{ℕ, _+_, _*_}
 use native.Mathlib.Omega.{arith}
 use lib.ListN.{length, length-append}
+use Rattle.table.specs.declared.series.Series.{Series}
+use Rattle.table.specs.declared.series.Series.the-variants.{Price, Slot}
 use Rattle.table.specs.Kinds.{price}
 use Rattle.table.specs.Kinds.{between, trend, barsSince}
 use Rattle.table.specs.Trees as Tree
-use Rattle.table.specs.Trees.{Operand, const, ref, prev, arith as sums, Condition, Conditions, compare, cross, every, any, negated, inPosition, none}
-use Rattle.table.specs.Trees.{more}
-use Rattle.table.specs.Writing.{le16, le32, le64, node, write, writeOf, writeAll, nodesIn, nodesOf, nodesOfAll}
+use Rattle.table.specs.Trees.{Operand, const, ref, prev, arith as sums, extreme, Condition, Conditions, compare, cross, every, any, negated, inPosition}
+use Rattle.table.specs.Trees.{none, more}
+use Rattle.table.specs.Writing.{le16, le32, le64, node, writeSeries, write, writeOf, writeAll, nodesIn, nodesOf, nodesOfAll}
 
 pub node-long : (a b c d e : ℕ) → length (node a b c d e) ≡ 16
 unfolding node le64 le32 le16
@@ -29,6 +31,11 @@ over-three k a b c = length-append (node k 0 0 0 0 ++ a ++ b) c ∙ ap (λ (m : 
 over-group : (k m : ℕ) (a : List ℕ) → length (node k 0 m 0 0 ++ a) ≡ 16 + length a
 over-group k m a = length-append (node k 0 m 0 0) a ∙ ap (λ (x : ℕ). x + length a) (node-long k 0 m 0 0)
 
+pub series-long : (s : Series) → length (writeSeries s) ≡ 16
+unfolding writeSeries
+series-long (Price x) = node-long 3 x 0 0 0
+series-long (Slot x) = node-long 2 0 0 x 0
+
 pub operand-long : (a : Operand) → length (write a) ≡ 16 * nodesIn a
 unfolding write nodesIn
 operand-long (const x) = node-long 1 0 0 0 x
@@ -36,6 +43,7 @@ operand-long (ref x) = node-long 2 0 0 x 0
 operand-long (Tree.price x) = node-long 3 x 0 0 0
 operand-long (prev a x) = over-one 4 x (write a) ∙ omega (arith, operand-long a)
 operand-long (sums k a b) = over-two k (write a) (write b) ∙ omega (arith, operand-long a, operand-long b)
+operand-long (extreme k s x) = over-one k x (writeSeries s) ∙ omega (arith, series-long s)
 
 mutual
   unfolding writeOf nodesOf

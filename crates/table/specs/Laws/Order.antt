@@ -11,9 +11,9 @@ use lib.ListN.{length, replicate, length-append, length-replicate}
 use lib.Dec.{eqb}
 use Rattle.table.specs.declared.places.Place.{Place}
 use Rattle.table.specs.declared.places.Place.the-variants.{Nowhere, At}
-use Rattle.table.specs.Nodes.{sortAt, childCountAt, childSortAt}
+use Rattle.table.specs.Nodes.{nodeAt, sortAt, childCountAt, childSortAt, childFitsAt}
 use Rattle.table.specs.Order.{fits}
-use Rattle.table.specs.Forest.{firstTrees, otherTrees, nodeOver, trees, size, sorts, Sorted}
+use Rattle.table.specs.Forest.{firstTrees, otherTrees, nodeOver, trees, size, sorts, Fitting, Sorted}
 use Rattle.table.specs.Ends.{placeOr, endAt, Link}
 use Rattle.table.specs.Laws.Forest.{left-suc, other-other, size-split, sorts-first, sorted-first}
 
@@ -24,11 +24,14 @@ tested : (b : Bool) (p : Place) (i : ℕ) → cond b p (At i) ≡ Nowhere → (b
 tested true p i h = (refl, h)
 tested false p i h = absurd (never-at i h)
 
--- A node is of the sort that is wanted, and the rest fits.
+-- A node is of the sort that is wanted, the rest fits, and its first child is one that it takes.
 pub wanted-first : (t : List ℕ) (m i w : ℕ) (ws : List ℕ) → fits t (suc m) i (w ∷ ws) ≡ Nowhere
-    → (sortAt t i ≡ w) × (fits t m (i + 1) (replicate (childCountAt t i) (childSortAt t i) ++ ws) ≡ Nowhere)
+    → (sortAt t i ≡ w) × (fits t m (i + 1) (replicate (childCountAt t i) (childSortAt t i) ++ ws) ≡ Nowhere) × (childFitsAt t i ≡ true)
 unfolding fits
-wanted-first t m i w ws h = (eqb-true _ _ (tested (eqb (sortAt t i) w) _ i h .0), tested (eqb (sortAt t i) w) _ i h .1)
+wanted-first t m i w ws h =
+    let sort = tested (eqb (sortAt t i) w) _ i h in
+    let child = tested (childFitsAt t i) _ (i + 1) (sort .1) in
+    (eqb-true _ _ (sort .0), child .1, child .0)
 
 pub first-sort : (t : List ℕ) (e i w : ℕ) (ws : List ℕ) → i < e → fits t (e - i) i (w ∷ ws) ≡ Nowhere → sortAt t i ≡ w
 first-sort t e i w ws l h = wanted-first t (e - (i + 1)) i w ws (ap (λ (m : ℕ). fits t m i (w ∷ ws)) (sym (left-suc e i l)) ∙ h) .0
@@ -41,6 +44,12 @@ fits-short : (t : List ℕ) (i w : ℕ) (ws : List ℕ) → fits t zero i (w ∷
 unfolding fits
 fits-short t i w ws h = never-at i h
 
+fitting-first : (t : List ℕ) (m i k : ℕ) → childFitsAt t i ≡ true → Fitting (nodeAt t i) (firstTrees k (trees t m (i + 1)))
+unfolding Fitting firstTrees trees nodeOver childFitsAt
+fitting-first t m i zero h = tt
+fitting-first t zero i (suc k) h = tt
+fitting-first t (suc m) i (suc k) h = h
+
 -- The sorts of the trees are those wanted, and each node has the children that its kind takes.
 pub sorts-trees : (t : List ℕ) (m i : ℕ) (ws : List ℕ) → fits t m i ws ≡ Nowhere → (sorts (trees t m i) ≡ ws) × Sorted (trees t m i)
 unfolding trees nodeOver sorts Sorted sortAt childCountAt childSortAt
@@ -52,7 +61,7 @@ sorts-trees t (suc m) i (w ∷ ws) h =
     let g = sorts-trees t m (i + 1) (replicate (childCountAt t i) (childSortAt t i) ++ ws) (first .1) in
     let s = sorts-first (childCountAt t i) (childSortAt t i) (trees t m (i + 1)) ws (g .0) in
     let f = sorted-first (childCountAt t i) (trees t m (i + 1)) (g .1) in
-    (cc (s .1, first .0), (s .0, f .0, f .1))
+    (cc (s .1, first .0), (s .0, f .0, f .1, fitting-first t m i (childCountAt t i) (first .2)))
 
 -- Each node of a row of trees stands where a node is wanted, and the rest fits.
 pub each : (t : List ℕ) (m i k : ℕ) (ws : List ℕ) → fits t m i ws ≡ Nowhere → k < m
@@ -79,15 +88,15 @@ record Skip (t : List ℕ) (m j : ℕ) (vs : List ℕ) : Type 0 where
   rest : otherTrees (length vs) (trees t m j) ≡ trees t m′ (j + d)
   many : d ≡ size (firstTrees (length vs) (trees t m j))
 
-skip-node : (t : List ℕ) (m j v : ℕ) (vs : List ℕ) → eqb (sortAt t j) v ≡ true
+skip-node : (t : List ℕ) (m j v : ℕ) (vs : List ℕ) → eqb (sortAt t j) v ≡ true → childFitsAt t j ≡ true
     → Skip t m (j + 1) (replicate (childCountAt t j) (childSortAt t j) ++ vs) → Skip t (suc m) j (v ∷ vs)
 unfolding fits otherTrees firstTrees size trees nodeOver
-skip-node t m j v vs s k =
+skip-node t m j v vs s c k =
     record {
       d = suc (k .d);
       m′ = k .m′;
       adds = ap suc (k .adds) ∙ sym (suc-add (k .d) (k .m′));
-      jump = λ us. rw s (ap (λ (l : List ℕ). fits t m (j + 1) l) (sym (append-assoc kids vs us)) ∙ k .jump us ∙ ap (λ (x : ℕ). fits t (k .m′) x us) place);
+      jump = λ us. rw (s, c) (ap (λ (l : List ℕ). fits t m (j + 1) l) (sym (append-assoc kids vs us)) ∙ k .jump us ∙ ap (λ (x : ℕ). fits t (k .m′) x us) place);
       rest =
           other-other (childCountAt t j) (length vs) (trees t m (j + 1)) ∙ ap (λ (n : ℕ). otherTrees n (trees t m (j + 1))) (sym long) ∙ k .rest ∙ ap
           (λ (x : ℕ). trees t (k .m′) x) place;
@@ -126,9 +135,11 @@ skip t zero j [] ws h = skip-none t zero j
 skip t zero j (v ∷ vs) ws h = absurd (never-at j h)
 skip t (suc m) j [] ws h = skip-none t (suc m) j
 skip t (suc m) j (v ∷ vs) ws h =
-    skip-node t m j v vs (tested (eqb (sortAt t j) v) _ j h .0)
+    let sort = tested (eqb (sortAt t j) v) _ j h in
+    let child = tested (childFitsAt t j) _ (j + 1) (sort .1) in
+    skip-node t m j v vs (sort .0) (child .0)
     (skip t m (j + 1) (replicate (childCountAt t j) (childSortAt t j) ++ vs) ws
-    (ap (λ (l : List ℕ). fits t m (j + 1) l) (append-assoc (replicate (childCountAt t j) (childSortAt t j)) vs ws) ∙ tested (eqb (sortAt t j) v) _ j h .1))
+    (ap (λ (l : List ℕ). fits t m (j + 1) l) (append-assoc (replicate (childCountAt t j) (childSortAt t j)) vs ws) ∙ child .1))
 
 -- A node's end leads past its subtree to the trees after it.
 complete : (t : List ℕ) (m p e : ℕ) → e ≡ p + m → placeOr e (fits t m p []) ≡ p

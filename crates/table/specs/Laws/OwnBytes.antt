@@ -10,8 +10,9 @@ use lib.Dec.{ltb, eqb}
 use borrow.Author.Tests.{ltb-true, eqb-true}
 use Rattle.table.specs.declared.nodes.Node.{Node}
 use Rattle.table.specs.declared.kinds.Kind.{Kind}
+use Rattle.table.specs.declared.header.Form.{Form}
 use Rattle.table.specs.Kinds.{constant}
-use Rattle.table.specs.Nodes.{childrenRight, nRight, constantRight, ownRight}
+use Rattle.table.specs.Nodes.{childrenRight, nRight, constantRight, kindRight, fieldsRight, ownRight}
 use Rattle.table.specs.Trees.{Operand, Conditions, none}
 use Rattle.table.specs.Trees.{more}
 use Rattle.table.specs.Reading.{child, firstOf}
@@ -55,20 +56,22 @@ all-one (more c cs) h = rw (all-none cs (omega arith)) (append-nil (writeOf c))
 
 -- ---- a node's own bytes
 
-pub record Own (k : ℕ) (n : Node) (row : Kind) : Type 0 where
+pub record Own (form : Form) (n : Node) (row : Kind) : Type 0 where
+  pub version : kindRight (form .version) (row .since) ≡ true
   pub selector : n .selector < row .selectors
   pub children : childrenRight (n .children) (row .children) ≡ true
-  pub number : nRight k (n .n) (row .n) ≡ true
+  pub number : nRight (form .slots) (n .n) (row .n) ≡ true
   pub constant : constantRight (n .constant) (row .constant) ≡ true
 
-pub own-fields : (k : ℕ) (n : Node) (row : Kind) → ownRight k n row ≡ true → Own k n row
-unfolding ownRight
-own-fields k n row h =
-    let h4 = both _ (constantRight (n .constant) (row .constant)) h in
-    let h3 = both _ (nRight k (n .n) (row .n)) (h4 .0) in
-    let h2 = both _ (childrenRight (n .children) (row .children)) (h3 .0) in
-    let h1 = both (not (eqb (row .sort) 0)) (ltb (n .selector) (row .selectors)) (h2 .0) in
-    record { selector = ltb-true _ _ (h1 .1); children = h2 .1; number = h3 .1; constant = h4 .1 }
+pub own-fields : (form : Form) (n : Node) (row : Kind) → ownRight form n row ≡ true → Own form n row
+unfolding ownRight fieldsRight
+own-fields form n row h =
+    let h0 = both _ (fieldsRight (form .slots) n row) h in
+    let k0 = both (not (eqb (row .sort) 0)) (kindRight (form .version) (row .since)) (h0 .0) in
+    let h4 = both _ (constantRight (n .constant) (row .constant)) (h0 .1) in
+    let h3 = both _ (nRight (form .slots) (n .n) (row .n)) (h4 .0) in
+    let h2 = both (ltb (n .selector) (row .selectors)) (childrenRight (n .children) (row .children)) (h3 .0) in
+    record { version = k0 .1; selector = ltb-true _ _ (h2 .0); children = h2 .1; number = h3 .1; constant = h4 .1 }
 
 pub fields : (n : Node) (kind selector children number constant : ℕ) → n .kind ≡ kind → n .selector ≡ selector → n .children ≡ children → n .n ≡ number
     → n .constant ≡ constant

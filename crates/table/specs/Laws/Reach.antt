@@ -10,7 +10,7 @@ use lib.ListN.{length, replicate, length-replicate}
 use Rattle.table.specs.declared.nodes.Node.{Node}
 use Rattle.table.specs.declared.kinds.Kind.{Kind}
 use Rattle.table.specs.declared.answer.Answer.the-variants.{Accepted}
-use Rattle.table.specs.Kinds.{kindOf}
+use Rattle.table.specs.Kinds.{kindOf, extremum}
 use Rattle.table.specs.Header.{count}
 use Rattle.table.specs.Nodes.{childCount}
 use Rattle.table.specs.Forest.{Forest, trees, forestOf, sorts, Sorted}
@@ -19,9 +19,11 @@ use Rattle.table.specs.Reach.{back, ownBack, weigh, forestReach, treeRea
 use Rattle.table.specs.Checked.{checked}
 use Rattle.table.specs.Trees.{Operand, Conditions, none, more, reach, reachOf, reachOfAll}
 use Rattle.table.specs.Reading.{child, operandBy, operandFrom, operands, firstOf, conditionBy, conditionFrom, conditions, treeOf}
+use Rattle.table.specs.Series.{asSeries}
 use Rattle.table.specs.Writing.{manyOf}
+use Rattle.table.specs.Laws.Series.{IsSeries, series-child, leaf-reach}
 use Rattle.table.specs.Laws.Reading.{as-many, many-conditions, below-operand}
-use Rattle.table.specs.Laws.Kinds.{OperandKind, a-const, a-ref, a-price, a-prev, an-arith, operand-kind}
+use Rattle.table.specs.Laws.Kinds.{OperandKind, a-const, a-ref, a-price, a-prev, an-arith, an-extreme, operand-kind}
 use Rattle.table.specs.Laws.Kinds.{ConditionKind, a-compare, a-cross, a-between, a-trend, an-all, an-any, a-not, a-position, a-count, condition-kind}
 use Rattle.table.specs.Laws.Accepted.{accepted, tree-sorts}
 
@@ -73,7 +75,8 @@ unfolding ownBack
 back-by n row h = rw h
 
 -- what an operand's node adds, over the operands below it
-module _ (n : Node) (os : List Operand) (many : length os ≡ childCount n (kindOf (n .kind))) where
+module _ (n : Node) (os : List Operand) (many : length os ≡ childCount n (kindOf (n .kind)))
+    (series : kindOf (n .kind) ≡ extremum → IsSeries (child os 0)) where
   count-by : (row : Kind) → kindOf (n .kind) ≡ row → length os ≡ childCount n row
   count-by row h = many ∙ ap (childCount n) h
 
@@ -84,6 +87,9 @@ module _ (n : Node) (os : List Operand) (many : length os ≡ childCount n (kind
   adds-operand (a-price k row) = simp (row, back-by n _ row, row-none os (count-by _ row))
   adds-operand (a-prev k row) = simp (row, back-by n _ row, row-one os (count-by _ row))
   adds-operand (an-arith row) = simp (row, back-by n _ row, row-two os (count-by _ row)) (omega arith)
+  adds-operand (an-extreme row) =
+      let none : reach (child os 0) ≡ 0 = ap reach (series row) ∙ leaf-reach (asSeries (child os 0)) in
+      simp (row, back-by n _ row, row-one os (count-by _ row), none) (omega arith)
 
 -- operands in a row reach as far as the forest weighs
 row-reach : (f : Forest) (k : ℕ) → Sorted f → sorts f ≡ replicate k 1 → weigh ownBack f ≡ reachOfRow (operands f)
@@ -101,7 +107,8 @@ row-reach (Forest.tree n below rest) (suc k) h s =
     let many : length (operands below) ≡ childCount n (kindOf (n .kind)) = as-many below ∙ ap length under ∙ length-replicate _ _ in
     let a : weigh ownBack below ≡ reachOfRow (operands below) = row-reach below (childCount n (kindOf (n .kind))) (h .1) under in
     let b : weigh ownBack rest ≡ reachOfRow (operands rest) = row-reach rest k (h .2) others in
-    let c : ownBack n + reachOfRow (operands below) ≡ reach (operandFrom n (operands below)) = adds-operand n (operands below) many kind in
+    let c : ownBack n + reachOfRow (operands below) ≡ reach (operandFrom n (operands below)) =
+    adds-operand n (operands below) many (series-child n below (h .0) (h .3)) kind in
     rw (a, b, c)
 
 -- what a condition's node adds, over what is below it

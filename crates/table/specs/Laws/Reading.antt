@@ -10,7 +10,7 @@ use Rattle.table.specs.Forest.{Forest, sorts}
 use Rattle.table.specs.Forest as Forest
 use Rattle.table.specs.Reading.{operands, conditions}
 use Rattle.table.specs.Writing.{manyOf}
-use Rattle.table.specs.Laws.Kinds.{OperandKind, a-const, a-ref, a-price, a-prev, an-arith}
+use Rattle.table.specs.Laws.Kinds.{OperandKind, a-const, a-ref, a-price, a-prev, an-arith, an-extreme}
 
 pub as-many : (f : Forest) → length (operands f) ≡ length (sorts f)
 unfolding operands sorts
@@ -31,3 +31,4 @@ below-operand n (a-ref k row) = rw row
 below-operand n (a-price k row) = rw row
 below-operand n (a-prev k row) = rw row
 below-operand n (an-arith row) = rw row
+below-operand n (an-extreme row) = rw row

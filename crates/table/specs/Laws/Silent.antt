@@ -12,6 +12,9 @@ use lib.Seq.{drop-at}
 use borrow.Author.Tests.{lt-ltb, le-leb, lt-leb, leb-false}
 use Rattle.words.specs.Limits.{mostRows, mostReach}
 use Rattle.table.specs.declared.nodes.Node.{Node}
+use Rattle.table.specs.declared.header.Form.{Form}
+use Rattle.table.specs.declared.series.Series.{Series}
+use Rattle.table.specs.declared.series.Series.the-variants.{Price, Slot}
 use Rattle.table.specs.declared.answer.Answer.the-variants.{Accepted}
 use Rattle.table.specs.Header.{count, root}
 use Rattle.table.specs.Header as Header
@@ -21,7 +24,7 @@ use Rattle.table.specs.Forest as Forest
 use Rattle.table.specs.Reach.{ownBack, weigh}
 use Rattle.table.specs.Checked.{checked}
 use Rattle.table.specs.Ends.{from}
-use Rattle.table.specs.Trees.{Operand, const, ref, price, prev, arith as sums, reachOf, reachOfAll}
+use Rattle.table.specs.Trees.{Operand, const, ref, price, prev, arith as sums, extreme, reachOf, reachOfAll}
 use Rattle.table.specs.Trees.{Condition, Conditions, compare, cross, between, trend, every, any, negated, inPosition, barsSince, none, more}
 use Rattle.table.specs.Reading.{firstOf, conditions, treeOf}
 use Rattle.table.specs.Writing.{writeOf, nodesIn, nodesOf}
@@ -32,8 +35,8 @@ use Rattle.table.specs.Laws.Reach.{rows-are}
 use Rattle.table.specs.Laws.Accepted.{header-of, tree-ends}
 use Rattle.table.specs.Bytes.{Bytes}
 use Rattle.table.specs.Laws.AcceptedWritten.{byte, nodes-back, tree-written, tree-nodes}
-use Rattle.table.specs.Laws.Kinds.{arith-numbers, compare-numbers, cross-numbers, trend-numbers}
-use Rattle.table.specs.Laws.WrittenForest.{plant, plantOf, plantAll}
+use Rattle.table.specs.Laws.Kinds.{arith-numbers, extreme-numbers, compare-numbers, cross-numbers, trend-numbers}
+use Rattle.table.specs.Laws.WrittenForest.{plantSeries, plant, plantOf, plantAll}
 use Rattle.table.specs.Laws.WrittenNodes.{From}
 use Rattle.table.specs.Laws.WrittenGrows.{growsOf}
 use Rattle.table.specs.Laws.WrittenTrees.{given-reach}
@@ -70,9 +73,14 @@ module _ (d : ℕ) where
 
 -- ---- the forest of a tree
 
-module _ (d k : ℕ) where
+module _ (d : ℕ) (form : Form) where
   -- there is no test among operands
-  operands-none : (a : Operand) (i : ℕ) (rest : Forest) → Within k a → silentNodes d (plant i a rest) ≡ silentNodes d rest
+  series-none : (s : Series) (i : ℕ) → silentNodes d (plantSeries i s) ≡ []
+  unfolding plantSeries silentNodes silentNode
+  series-none (Price x) i = refl
+  series-none (Slot x) i = refl
+
+  operands-none : (a : Operand) (i : ℕ) (rest : Forest) → Within form a → silentNodes d (plant i a rest) ≡ silentNodes d rest
   unfolding plant silentNodes silentNode Within
   operands-none (const x) i rest w = refl
   operands-none (ref s) i rest w = refl
@@ -84,6 +92,7 @@ module _ (d k : ℕ) where
         operands-none a (i + 1) (plant (i + 1 + nodesIn a) b Forest.none) (w .1),
         operands-none b (i + 1 + nodesIn a) Forest.none (w .2),
       )
+  operands-none (extreme kind s n) i rest w = rw (lt-leb 16 kind (omega (arith, extreme-numbers kind (w .0) .1)), series-none s (i + 1))
 
   -- a test is found where it is silent
   test-found : (c : Condition) (n : Node) (back : ℕ) → isTest c ≡ true → 16 ≤ n .kind → n .kind < 27 → back ≡ reachOf c → reachOf c ≤ mostReach
@@ -101,7 +110,7 @@ module _ (d k : ℕ) where
   test-tree c n below rest is lo hi heavy near empty =
       rw (test-found c n (ownBack n + weigh ownBack below) is lo hi (omega (arith, heavy)) near, empty)
 
-  two-none : (a b : Operand) (i : ℕ) → Within k a → Within k b → silentNodes d (plant (i + 1) a (plant (i + 1 + nodesIn a) b Forest.none)) ≡ []
+  two-none : (a b : Operand) (i : ℕ) → Within form a → Within form b → silentNodes d (plant (i + 1) a (plant (i + 1 + nodesIn a) b Forest.none)) ≡ []
   unfolding silentNodes
   two-none a b i wa wb =
       operands-none a (i + 1) (plant (i + 1 + nodesIn a) b Forest.none) wa ∙ operands-none b (i + 1 + nodesIn a) Forest.none wb
@@ -110,23 +119,23 @@ module _ (d k : ℕ) where
     unfolding plantOf silentNodes silentNode silentIn isTest reachOf WithinOf
 
     -- a tree's nodes, and what follows them
-    planted : (c : Condition) (i : ℕ) (rest : Forest) → WithinOf k c → reachOf c ≤ mostReach
+    planted : (c : Condition) (i : ℕ) (rest : Forest) → WithinOf form c → reachOf c ≤ mostReach
         → silentNodes d (plantOf i c rest) ≡ silentIn d c i ++ silentNodes d rest
     planted (compare kind a b) i rest w near =
         let n = compare-numbers kind (w .0) in
-        test-tree (compare kind a b) _ _ rest refl (n .0) (omega (arith, n .1)) (given-reach k (compare kind a b) i w) near (two-none a b i (w .1) (w .2))
+        test-tree (compare kind a b) _ _ rest refl (n .0) (omega (arith, n .1)) (given-reach form (compare kind a b) i w) near (two-none a b i (w .1) (w .2))
     planted (cross kind a b) i rest w near =
         let n = cross-numbers kind (w .0) in
-        test-tree (cross kind a b) _ _ rest refl (omega (arith, n .0)) (omega (arith, n .1)) (given-reach k (cross kind a b) i w) near
+        test-tree (cross kind a b) _ _ rest refl (omega (arith, n .0)) (omega (arith, n .1)) (given-reach form (cross kind a b) i w) near
         (two-none a b i (w .1) (w .2))
     planted (between x a b) i rest w near =
-        test-tree (between x a b) _ _ rest refl (omega arith) (omega arith) (given-reach k (between x a b) i w) near
+        test-tree (between x a b) _ _ rest refl (omega arith) (omega arith) (given-reach form (between x a b) i w) near
         (operands-none x (i + 1) (plant (i + 1 + nodesIn x) a (plant (i + 1 + nodesIn x + nodesIn a) b Forest.none)) (w .0)
         ∙ operands-none a (i + 1 + nodesIn x) (plant (i + 1 + nodesIn x + nodesIn a) b Forest.none) (w .1)
         ∙ operands-none b (i + 1 + nodesIn x + nodesIn a) Forest.none (w .2))
     planted (trend kind a n) i rest w near =
         let m = trend-numbers kind (w .0) in
-        test-tree (trend kind a n) _ _ rest refl (omega (arith, m .0)) (omega (arith, m .1)) (given-reach k (trend kind a n) i w) near
+        test-tree (trend kind a n) _ _ rest refl (omega (arith, m .0)) (omega (arith, m .1)) (given-reach form (trend kind a n) i w) near
         (operands-none a (i + 1) Forest.none (w .2))
     planted (every cs) i rest w near = rw (planted-all cs (i + 1) Forest.none w near, append-nil (silentInAll d cs (i + 1)))
     planted (any cs) i rest w near = rw (planted-all cs (i + 1) Forest.none w near, append-nil (silentInAll d cs (i + 1)))
@@ -134,7 +143,7 @@ module _ (d k : ℕ) where
     planted (inPosition wanted) i rest w near = refl
     planted (barsSince selector n) i rest w near = refl
 
-    planted-all : (cs : Conditions) (i : ℕ) (rest : Forest) → WithinAll k cs → reachOfAll cs ≤ mostReach
+    planted-all : (cs : Conditions) (i : ℕ) (rest : Forest) → WithinAll form cs → reachOfAll cs ≤ mostReach
         → silentNodes d (plantAll i cs rest) ≡ silentInAll d cs i ++ silentNodes d rest
     planted-all none i rest w near = refl
     planted-all (more c cs) i rest w near =
@@ -183,8 +192,8 @@ module _ (t : List ℕ) (small : Bytes t) (n r : ℕ) (ok : checked t ≡ Accept
       let w = tree-within t small n r ok x l some in
       let many : count t x ≡ nodesOf c + 0 = omega (arith, tree-nodes t n r ok x l some) in
       ap (λ (m : ℕ). silentNodes d (trees t m (root t x))) many
-      ∙ ap (silentNodes d) (growsOf t (Header.slots t) c (root t x) 0 _ (w .fields) (tree-bytes x l some))
-      ∙ planted d (Header.slots t) c (root t x) Forest.none (w .fields) (w .reaches)
+      ∙ ap (silentNodes d) (growsOf t (Header.formOf t) c (root t x) 0 _ (w .fields) (tree-bytes x l some))
+      ∙ planted d (Header.formOf t) c (root t x) Forest.none (w .fields) (w .reaches)
       ∙ append-nil (silentIn d c (root t x))
 
   silent-tree : (d x : ℕ) → x < 4 → silentNodes d (forestOf t x) ≡ silentOf t d x

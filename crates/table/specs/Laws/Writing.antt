@@ -11,27 +11,31 @@ use lib.Dec.{eqb}
 use borrow.Author.Tests.{eqb-true}
 use Rattle.table.specs.declared.nodes.Node.{Node}
 use Rattle.table.specs.declared.kinds.Kind.{Kind}
-use Rattle.table.specs.Kinds.{kindOf, constant, reference, price, previous, arithmetic}
+use Rattle.table.specs.declared.header.Form.{Form}
+use Rattle.table.specs.Kinds.{kindOf, constant, reference, price, previous, arithmetic, extremum}
 use Rattle.table.specs.Kinds.{comparison, crossing, between, trend, allOf, anyOf, negation, position, barsSince}
 use Rattle.table.specs.Nodes.{childCount, childrenRight, nRight, constantRight, ownRight}
 use Rattle.table.specs.Forest.{Forest, sorts, Sorted, flat}
 use Rattle.table.specs.Forest as Forest
 use Rattle.table.specs.Trees.{Operand, none}
-use Rattle.table.specs.Reading.{operandBy, operandFrom, operands, conditionBy, conditionFrom, conditions}
-use Rattle.table.specs.Writing.{node, nodeBytes, nodesBytes, write, writeRow, manyOf, writeOf, writeAll}
-use Rattle.table.specs.Laws.Kinds.{OperandKind, a-const, a-ref, a-price, a-prev, an-arith, operand-kind}
+use Rattle.table.specs.Reading.{child, operandBy, operandFrom, operands, conditionBy, conditionFrom, conditions}
+use Rattle.table.specs.Writing.{node, nodeBytes, nodesBytes, writeSeries, write, writeRow, manyOf, writeOf, writeAll}
+use Rattle.table.specs.Series.{asSeries}
+use Rattle.table.specs.Laws.Kinds.{OperandKind, a-const, a-ref, a-price, a-prev, an-arith, an-extreme, operand-kind}
+use Rattle.table.specs.Laws.Series.{IsSeries, series-child, leaf-written}
 use Rattle.table.specs.Laws.Kinds.{ConditionKind, a-compare, a-cross, a-between, a-trend, an-all, an-any, a-not, a-position, a-count, condition-kind}
 use Rattle.table.specs.Laws.Reading.{as-many, many-conditions, below-operand}
 use Rattle.table.specs.Laws.OwnBytes.{write-none, write-one, write-two, write-three, all-one, Own, own-fields, fields, number-node, plain-node}
 
 -- ---- an operand's node, over the operands below it
 
-module _ (k : ℕ) (n : Node) (os : List Operand) (right : ownRight k n (kindOf (n .kind)) ≡ true) (many : length os ≡ childCount n (kindOf (n .kind))) where
+module _ (form : Form) (n : Node) (os : List Operand) (right : ownRight form n (kindOf (n .kind)) ≡ true)
+    (many : length os ≡ childCount n (kindOf (n .kind))) (series : kindOf (n .kind) ≡ extremum → IsSeries (child os 0)) where
   count-by : (row : Kind) → kindOf (n .kind) ≡ row → length os ≡ childCount n row
   count-by row h = many ∙ ap (childCount n) h
 
-  own-by : (row : Kind) → kindOf (n .kind) ≡ row → Own k n row
-  own-by row h = own-fields k n row (sym (ap (ownRight k n) h) ∙ right)
+  own-by : (row : Kind) → kindOf (n .kind) ≡ row → Own form n row
+  own-by row h = own-fields form n row (sym (ap (ownRight form n) h) ∙ right)
 
   writes-operand : OperandKind (n .kind) → nodeBytes n ++ writeRow os ≡ write (operandFrom n os)
   unfolding childCount childrenRight nRight constantRight operandFrom operandBy write
@@ -57,6 +61,11 @@ module _ (k : ℕ) (n : Node) (os : List Operand) (right : ownRight k n (kindOf 
       let o = own-by arithmetic row in
       let b = plain-node n (n .kind) refl (o .selector) (o .children) (o .number) (o .constant) in
       simp (row, b, write-two os (count-by _ row), append-assoc)
+  writes-operand (an-extreme row) =
+      let o = own-by extremum row in
+      let b = number-node n (n .kind) refl (o .selector) (o .children) (o .constant) in
+      let leaf : write (child os 0) ≡ writeSeries (asSeries (child os 0)) = ap write (series row) ∙ leaf-written (asSeries (child os 0)) in
+      simp (row, b, write-one os (count-by _ row), leaf)
 
 -- ---- a condition's node, over what is below it
 
@@ -68,15 +77,15 @@ zero-or-one (suc (suc x)) h = absurd (never h)
     never : suc (suc x) < 2 → ⊥
     never h′ = omega arith
 
-module _ (k : ℕ) (n : Node) (below : Forest) (bytes : List ℕ) (right : ownRight k n (kindOf (n .kind)) ≡ true)
+module _ (form : Form) (n : Node) (below : Forest) (bytes : List ℕ) (right : ownRight form n (kindOf (n .kind)) ≡ true)
     (under : sorts below ≡ replicate (childCount n (kindOf (n .kind))) (kindOf (n .kind) .below))
     (of-operands : (m : ℕ) → sorts below ≡ replicate m 1 → bytes ≡ writeRow (operands below))
     (of-conditions : (m : ℕ) → sorts below ≡ replicate m 2 → bytes ≡ writeAll (conditions below)) where
   under-by : (row : Kind) → kindOf (n .kind) ≡ row → sorts below ≡ replicate (childCount n row) (row .below)
   under-by row h = under ∙ ap (λ (r : Kind). replicate (childCount n r) (r .below)) h
 
-  own-by′ : (row : Kind) → kindOf (n .kind) ≡ row → Own k n row
-  own-by′ row h = own-fields k n row (sym (ap (ownRight k n) h) ∙ right)
+  own-by′ : (row : Kind) → kindOf (n .kind) ≡ row → Own form n row
+  own-by′ row h = own-fields form n row (sym (ap (ownRight form n) h) ∙ right)
 
   some-operands : (m : ℕ) → sorts below ≡ replicate m 1 → length (operands below) ≡ m
   some-operands m h = as-many below ∙ ap length h ∙ length-replicate m 1
@@ -151,9 +160,9 @@ module _ (k : ℕ) (n : Node) (below : Forest) (bytes : List ℕ) (right : ownRi
 -- ---- forests
 
 -- each node's own bytes are right
-unfoldable pub Right : ℕ → Forest → Type 0
-Right k Forest.none = Unit
-Right k (Forest.tree n below rest) = (ownRight k n (kindOf (n .kind)) ≡ true) × Right k below × Right k rest
+unfoldable pub Right : Form → Forest → Type 0
+Right form Forest.none = Unit
+Right form (Forest.tree n below rest) = (ownRight form n (kindOf (n .kind)) ≡ true) × Right form below × Right form rest
 
 bytes-two : (a b : List Node) → nodesBytes (a ++ b) ≡ nodesBytes a ++ nodesBytes b
 unfolding nodesBytes
@@ -169,36 +178,36 @@ no-bytes : nodesBytes (flat Forest.none) ≡ []
 unfolding flat nodesBytes
 no-bytes = refl
 
-pub written-row : (k : ℕ) (f : Forest) (m : ℕ) → Right k f → Sorted f → sorts f ≡ replicate m 1 → nodesBytes (flat f) ≡ writeRow (operands f)
+pub written-row : (form : Form) (f : Forest) (m : ℕ) → Right form f → Sorted f → sorts f ≡ replicate m 1 → nodesBytes (flat f) ≡ writeRow (operands f)
 unfolding Right Sorted sorts operands writeRow
-written-row k Forest.none m r h s = no-bytes
-written-row k (Forest.tree n below rest) zero r h s = absurd never
+written-row form Forest.none m r h s = no-bytes
+written-row form (Forest.tree n below rest) zero r h s = absurd never
   where
     never : ⊥
     never = let z : _≡_ {A = ℕ} 0 1 = cc in omega arith
-written-row k (Forest.tree n below rest) (suc m) r h s =
+written-row form (Forest.tree n below rest) (suc m) r h s =
     let sort : kindOf (n .kind) .sort ≡ 1 = cc in
     let others : sorts rest ≡ replicate m 1 = cc in
     let kind = operand-kind (n .kind) sort in
     let under : sorts below ≡ replicate (childCount n (kindOf (n .kind))) 1 = h .0 ∙ below-operand n kind in
     let many : length (operands below) ≡ childCount n (kindOf (n .kind)) = as-many below ∙ ap length under ∙ length-replicate _ _ in
-    let a : nodesBytes (flat below) ≡ writeRow (operands below) = written-row k below (childCount n (kindOf (n .kind))) (r .1) (h .1) under in
-    let b : nodesBytes (flat rest) ≡ writeRow (operands rest) = written-row k rest m (r .2) (h .2) others in
-    let here = writes-operand k n (operands below) (r .0) many kind in
+    let a : nodesBytes (flat below) ≡ writeRow (operands below) = written-row form below (childCount n (kindOf (n .kind))) (r .1) (h .1) under in
+    let b : nodesBytes (flat rest) ≡ writeRow (operands rest) = written-row form rest m (r .2) (h .2) others in
+    let here = writes-operand form n (operands below) (r .0) many (series-child n below (h .0) (h .3)) kind in
     tree-bytes n below rest ∙ rw (a, b) (ap (λ (l : List ℕ). l ++ writeRow (operands rest)) here)
 
-pub written-all : (k : ℕ) (f : Forest) (m : ℕ) → Right k f → Sorted f → sorts f ≡ replicate m 2 → nodesBytes (flat f) ≡ writeAll (conditions f)
+pub written-all : (form : Form) (f : Forest) (m : ℕ) → Right form f → Sorted f → sorts f ≡ replicate m 2 → nodesBytes (flat f) ≡ writeAll (conditions f)
 unfolding Right Sorted sorts conditions writeAll
-written-all k Forest.none m r h s = no-bytes
-written-all k (Forest.tree n below rest) zero r h s = absurd never
+written-all form Forest.none m r h s = no-bytes
+written-all form (Forest.tree n below rest) zero r h s = absurd never
   where
     never : ⊥
     never = let z : _≡_ {A = ℕ} 0 1 = cc in omega arith
-written-all k (Forest.tree n below rest) (suc m) r h s =
+written-all form (Forest.tree n below rest) (suc m) r h s =
     let sort : kindOf (n .kind) .sort ≡ 2 = cc in
     let others : sorts rest ≡ replicate m 2 = cc in
-    let b : nodesBytes (flat rest) ≡ writeAll (conditions rest) = written-all k rest m (r .2) (h .2) others in
+    let b : nodesBytes (flat rest) ≡ writeAll (conditions rest) = written-all form rest m (r .2) (h .2) others in
     let a : nodeBytes n ++ nodesBytes (flat below) ≡ writeOf (conditionFrom n (operands below) (conditions below)) =
-    writes-condition k n below (nodesBytes (flat below)) (r .0) (h .0) (λ j g. written-row k below j (r .1) (h .1) g)
-    (λ j g. written-all k below j (r .1) (h .1) g) (condition-kind (n .kind) sort) in
+    writes-condition form n below (nodesBytes (flat below)) (r .0) (h .0) (λ j g. written-row form below j (r .1) (h .1) g)
+    (λ j g. written-all form below j (r .1) (h .1) g) (condition-kind (n .kind) sort) in
     tree-bytes n below rest ∙ rw (a, b)

@@ -7,13 +7,14 @@ use Prim.Native.Nat.{ℕ, zero, suc, _+_, _*_, _≤_, max}
 use native.Mathlib.Omega.{arith}
 use lib.ListN.{length, length-append}
 use lib.Dec.{ltb, eqb}
-use borrow.Author.Tests.{le-ltb, eq-eqb}
+use borrow.Author.Tests.{le-ltb, le-leb, eq-eqb}
 use Rattle.words.specs.Limits.{mostSlots, mostNesting, mostNodes}
 use Rattle.table.specs.declared.places.Place.{Place}
 use Rattle.table.specs.declared.places.Place.the-variants.{Nowhere}
 use Rattle.table.specs.declared.answer.Answer.the-variants.{Accepted}
+use Rattle.table.specs.declared.header.Form.{Form}
 use Rattle.table.specs.Bytes.{u16}
-use Rattle.table.specs.Header.{slots, version, total, count, root, markRight, countsRight, headerRefusal}
+use Rattle.table.specs.Header.{newestVersion, slots, version, formOf, total, count, root, markRight, versionRight, countsRight, headerRefusal}
 use Rattle.table.specs.Nodes.{wrongNode}
 use Rattle.table.specs.Order.{misfit, misfits, orElse, ofFour}
 use Rattle.table.specs.Forest.{Forest, trees, forestOf}
@@ -35,17 +36,20 @@ use Rattle.table.specs.Laws.WrittenForestRead.{readsOf}
 use Rattle.table.specs.Laws.WrittenTrees.{wrong-two, some-nodes, reachOfShort, plantShort, short-grows, Held, planted, held-deep, held-reach, held-near}
 use Rattle.table.specs.Laws.WrittenTrees.{held-fits, held-right, held-reads}
 
-module _ (k : ℕ) (r : Rule) where
+module _ (form : Form) (r : Rule) where
   abbrev t : List ℕ
-  t = tableOf k r
+  t = tableOf form r
 
-  slots-are : slots t ≡ k
+  slots-are : slots t ≡ form .slots
   unfolding tableOf headerOf
   slots-are = refl
 
-  version-is : version t ≡ 1
+  version-is : version t ≡ form .version
   unfolding u16 tableOf headerOf le16
-  version-is = refl
+  version-is = pair (form .version)
+
+  form-is : formOf t ≡ form
+  form-is = rw (version-is, slots-are)
 
   total-is : total t ≡ nodesOfRule r
   unfolding u16 tableOf headerOf le16
@@ -71,14 +75,14 @@ module _ (k : ℕ) (r : Rule) where
   unfolding markRight tableOf headerOf
   mark-is = refl
 
-  header-long : length (headerOf k r) ≡ 16
+  header-long : length (headerOf form r) ≡ 16
   unfolding headerOf le16
   header-long = refl
 
   long-is : length t ≡ 16 + 16 * nodesOfRule r
   unfolding tableOf nodesOfRule
   long-is =
-      let h = headerOf k r in
+      let h = headerOf form r in
       let a = writeOf (r .entry) in
       let b = writeOf (r .exit) in
       let c = writeShort (r .shortEntry) in
@@ -96,7 +100,7 @@ module _ (k : ℕ) (r : Rule) where
   unfolding nodesOfRule
   sums-are = refl
 
-  module _ (w : RuleWithin k r) where
+  module _ (w : RuleWithin form r) where
     positive : (m : ℕ) → (m ≡ 0 → ⊥) → 1 ≤ m
     positive zero h = absurd (h refl)
     positive (suc m) h = omega arith
@@ -108,7 +112,7 @@ module _ (k : ℕ) (r : Rule) where
     counts-are : countsRight t ≡ true
     unfolding countsRight
     counts-are =
-        let k64 : ltb mostSlots k ≡ false = le-ltb mostSlots k (w .few-slots) in
+        let k64 : ltb mostSlots (form .slots) ≡ false = le-ltb mostSlots (form .slots) (w .few-slots) in
         let two : ltb (nodesOfRule r) 2 ≡ false = le-ltb (nodesOfRule r) 2 least in
         let most : ltb mostNodes (nodesOfRule r) ≡ false = le-ltb mostNodes (nodesOfRule r) (w .few-nodes) in
         let some0 : ltb (nodesOf (r .entry)) 1 ≡ false = le-ltb (nodesOf (r .entry)) 1 (positive (nodesOf (r .entry)) (some-nodes (r .entry))) in
@@ -117,12 +121,16 @@ module _ (k : ℕ) (r : Rule) where
         eq-eqb _ _ sums-are in
         simp (slots-are, total-is, count-0, count-1, count-2, count-3, k64, two, most, some0, some1, sums)
 
-    header-is : headerRefusal t ≡ 0
+    version-read : versionRight newestVersion t ≡ true
+    unfolding versionRight
+    version-read = rw (version-is, le-leb 1 (form .version) (w .some-version), le-leb (form .version) newestVersion (w .known-version))
+
+    header-is : headerRefusal newestVersion t ≡ 0
     unfolding headerRefusal
     header-is =
         let enough : ltb (length t) 16 ≡ false = le-ltb (length t) 16 (omega (arith, long-is)) in
         let whole : eqb (length t) (16 + 16 * total t) ≡ true = eq-eqb (length t) (16 + 16 * total t) (omega (arith, long-is, total-is)) in
-        simp (enough, mark-is, version-is, counts-are, whole)
+        simp (enough, mark-is, version-read, counts-are, whole)
 
     -- where each tree's bytes begin
     from-0 : From t 0 (writeOf (r .entry) ++ (writeOf (r .exit) ++ (writeShort (r .shortEntry) ++ writeShort (r .shortExit))))
@@ -152,25 +160,25 @@ module _ (k : ℕ) (r : Rule) where
     unfolding root
     root-3 = rw (count-0, count-1, count-2)
 
-    held : (x i : ℕ) (s : Short) (l : List ℕ) → i ≡ root t x → ShortWithin k s → count t x ≡ nodesOfShort s → From t i (writeShort s ++ l) → Held t k x s
+    held : (x i : ℕ) (s : Short) (l : List ℕ) → i ≡ root t x → ShortWithin form s → count t x ≡ nodesOfShort s → From t i (writeShort s ++ l) → Held t form x s
     held x i s l at in-limits many h = record {
       within = in-limits;
       many = many;
-      forest = subst (λ (j : ℕ). trees t (nodesOfShort s) j ≡ plantShort j s) at (short-grows t k s i l in-limits h);
+      forest = subst (λ (j : ℕ). trees t (nodesOfShort s) j ≡ plantShort j s) at (short-grows t form s i l in-limits h);
     }
 
-    held-0 : Held t k 0 (given (r .entry))
+    held-0 : Held t form 0 (given (r .entry))
     unfolding root ShortWithin nodesOfShort writeShort
     held-0 = held 0 0 (given (r .entry)) _ refl (w .entry) count-0 from-0
 
-    held-1 : Held t k 1 (given (r .exit))
+    held-1 : Held t form 1 (given (r .exit))
     unfolding ShortWithin nodesOfShort writeShort
     held-1 = held 1 _ (given (r .exit)) _ root-1 (w .exit) count-1 from-1
 
-    held-2 : Held t k 2 (r .shortEntry)
+    held-2 : Held t form 2 (r .shortEntry)
     held-2 = held 2 _ (r .shortEntry) _ root-2 (w .shortEntry) count-2 from-2
 
-    held-3 : Held t k 3 (r .shortExit)
+    held-3 : Held t form 3 (r .shortExit)
     held-3 = held 3 _ (r .shortExit) [] root-3 (w .shortExit) count-3 from-3
 
     none-of-four : (f : ℕ → Place) → f 0 ≡ Nowhere → f 1 ≡ Nowhere → f 2 ≡ Nowhere → f 3 ≡ Nowhere → ofFour f ≡ Nowhere
@@ -190,14 +198,14 @@ module _ (k : ℕ) (r : Rule) where
         rw sum
         (two-at (count t 0 + count t 1 + count t 2) (count t 3) (root t 3) (omega arith)
         (two-at (count t 0 + count t 1) (count t 2) (root t 2) (omega arith)
-        (two-at (count t 0) (count t 1) (root t 1) (omega arith) (held-right t k 0 _ held-0 slots-are) (held-right t k 1 _ held-1 slots-are))
-        (held-right t k 2 _ held-2 slots-are))
-        (held-right t k 3 _ held-3 slots-are))
+        (two-at (count t 0) (count t 1) (root t 1) (omega arith) (held-right t form 0 _ held-0 form-is) (held-right t form 1 _ held-1 form-is))
+        (held-right t form 2 _ held-2 form-is))
+        (held-right t form 3 _ held-3 form-is))
 
     -- "rows = greatest reach + 1"
     pub rows-of : rowsNeeded t ≡ max (max (reachOf (r .entry)) (reachOf (r .exit))) (max (reachOfShort (r .shortEntry)) (reachOfShort (r .shortExit))) + 1
     unfolding rowsNeeded reachOfShort
-    rows-of = rw (held-reach t k 0 _ held-0, held-reach t k 1 _ held-1, held-reach t k 2 _ held-2, held-reach t k 3 _ held-3)
+    rows-of = rw (held-reach t form 0 _ held-0, held-reach t form 1 _ held-1, held-reach t form 2 _ held-2, held-reach t form 3 _ held-3)
 
     pub is-accepted : checked t
         ≡ Accepted (nodesOfRule r)
@@ -207,23 +215,23 @@ module _ (k : ℕ) (r : Rule) where
       header = header-is;
       own = all-right;
       order =
-          none-of-four (λ x. misfit t (count t x) (root t x)) (held-fits t k 0 _ held-0) (held-fits t k 1 _ held-1) (held-fits t k 2 _ held-2)
-          (held-fits t k 3 _ held-3);
+          none-of-four (λ x. misfit t (count t x) (root t x)) (held-fits t form 0 _ held-0) (held-fits t form 1 _ held-1) (held-fits t form 2 _ held-2)
+          (held-fits t form 3 _ held-3);
       nesting =
-          none-of-four (λ x. deeper mostNesting (forestOf t x)) (held-deep t k 0 _ held-0) (held-deep t k 1 _ held-1) (held-deep t k 2 _ held-2)
-          (held-deep t k 3 _ held-3);
+          none-of-four (λ x. deeper mostNesting (forestOf t x)) (held-deep t form 0 _ held-0) (held-deep t form 1 _ held-1) (held-deep t form 2 _ held-2)
+          (held-deep t form 3 _ held-3);
       reaches =
-          none-of-four (λ x. farAt (treeReach t x) (root t x)) (held-near t k 0 _ held-0) (held-near t k 1 _ held-1) (held-near t k 2 _ held-2)
-          (held-near t k 3 _ held-3);
+          none-of-four (λ x. farAt (treeReach t x) (root t x)) (held-near t form 0 _ held-0) (held-near t form 1 _ held-1) (held-near t form 2 _ held-2)
+          (held-near t form 3 _ held-3);
       nodes = sym total-is;
       rows = sym rows-of;
     })
 
-    given-tree : (x : ℕ) (c : Condition) → Held t k x (given c) → treeOf t x ≡ c
+    given-tree : (x : ℕ) (c : Condition) → Held t form x (given c) → treeOf t x ≡ c
     unfolding treeOf plantShort firstOf ShortWithin
     given-tree x c h =
-        ap (λ (f : Forest). firstOf (conditions f)) (planted t k x (given c) h) ∙ ap firstOf (readsOf k c (root t x) Forest.none (h .within .fields))
+        ap (λ (f : Forest). firstOf (conditions f)) (planted t form x (given c) h) ∙ ap firstOf (readsOf form c (root t x) Forest.none (h .within .fields))
 
     pub reads-back : ruleOf t ≡ r
     unfolding ruleOf
-    reads-back = rw (given-tree 0 (r .entry) held-0, given-tree 1 (r .exit) held-1, held-reads t k 2 _ held-2, held-reads t k 3 _ held-3)
+    reads-back = rw (given-tree 0 (r .entry) held-0, given-tree 1 (r .exit) held-1, held-reads t form 2 _ held-2, held-reads t form 3 _ held-3)

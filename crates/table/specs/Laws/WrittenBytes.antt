@@ -8,13 +8,16 @@ use native.Mathlib.Omega.{arith}
 use lib.ListN.{getD}
 use Rattle.words.specs.Limits.{mostSlots, mostNodes}
 use Rattle.table.specs.declared.kinds.Kind.{Kind}
+use Rattle.table.specs.declared.header.Form.{Form}
+use Rattle.table.specs.declared.series.Series.{Series}
+use Rattle.table.specs.declared.series.Series.the-variants.{Price, Slot}
 use Rattle.table.specs.Kinds.{kindOf}
 use Rattle.table.specs.Laws.Kinds.{known}
-use Rattle.table.specs.Trees.{Operand, const, ref, price, prev, arith as sums, Condition, Conditions, compare, cross, between, trend, every, any, negated}
-use Rattle.table.specs.Trees.{inPosition, barsSince, none, more}
-use Rattle.table.specs.Writing.{le16, le32, le64, node, write, writeOf, writeAll, manyOf, nodesOf, nodesOfAll, Short, absent, given, Rule, nodesOfShort}
-use Rattle.table.specs.Writing.{writeShort, nodesOfRule, headerOf, tableOf}
-use Rattle.table.specs.Limits.{Within, WithinOf, WithinAll, ShortWithin, RuleWithin}
+use Rattle.table.specs.Trees.{Operand, const, ref, price, prev, arith as sums, extreme, Condition, Conditions, compare, cross, between, trend, every}
+use Rattle.table.specs.Trees.{any, negated, inPosition, barsSince, none, more}
+use Rattle.table.specs.Writing.{le16, le32, le64, node, writeSeries, write, writeOf, writeAll, manyOf, nodesOf, nodesOfAll, Short, absent, given, Rule}
+use Rattle.table.specs.Writing.{nodesOfShort, writeShort, nodesOfRule, headerOf, tableOf}
+use Rattle.table.specs.Limits.{WithinSeries, Within, WithinOf, WithinAll, ShortWithin, RuleWithin}
 use Rattle.table.specs.Bytes.{Bytes}
 use Rattle.table.specs.Laws.WrittenTrees.{some-nodes}
 
@@ -65,8 +68,13 @@ small-none = tt
 row-byte : (kind : ℕ) (row : Kind) → kindOf kind ≡ row → 0 < row .sort → kind < 256
 row-byte kind row h some = omega (arith, known kind row h some)
 
-module _ (k : ℕ) (few : k ≤ mostSlots) where
-  small-operand : (a : Operand) → Within k a → Small (write a)
+module _ (form : Form) (few : form .slots ≤ mostSlots) where
+  small-series : (s : Series) → WithinSeries form s → Small (writeSeries s)
+  unfolding WithinSeries writeSeries
+  small-series (Price s) w = small-node 3 s 0 0 0 (omega arith) (omega arith) (omega arith) (omega arith) (omega arith)
+  small-series (Slot s) w = small-plain 2 s (omega arith) (omega arith)
+
+  small-operand : (a : Operand) → Within form a → Small (write a)
   unfolding Within write
   small-operand (const x) w = small-node 1 0 0 0 x (omega arith) (omega arith) (omega arith) (omega arith) (w .0)
   small-operand (ref s) w = small-plain 2 s (omega arith) (omega arith)
@@ -75,8 +83,10 @@ module _ (k : ℕ) (few : k ≤ mostSlots) where
   small-operand (sums kind a b) w =
       small-two (node kind 0 0 0 0 ++ write a) (write b)
       (small-over kind 0 (write a) (row-byte kind _ (w .0) (omega arith)) (omega arith) (small-operand a (w .1))) (small-operand b (w .2))
+  small-operand (extreme kind s n) w =
+      small-over kind n (writeSeries s) (row-byte kind _ (w .0) (omega arith)) (omega (arith, w .3)) (small-series s (w .4))
 
-  two-operands : (kind : ℕ) (a b : Operand) → kind < 256 → Within k a → Within k b → Small (node kind 0 0 0 0 ++ write a ++ write b)
+  two-operands : (kind : ℕ) (a b : Operand) → kind < 256 → Within form a → Within form b → Small (node kind 0 0 0 0 ++ write a ++ write b)
   two-operands kind a b h wa wb =
       small-two (node kind 0 0 0 0 ++ write a) (write b) (small-over kind 0 (write a) h (omega arith) (small-operand a wa)) (small-operand b wb)
 
@@ -91,7 +101,7 @@ module _ (k : ℕ) (few : k ≤ mostSlots) where
   mutual
     unfolding WithinOf writeOf nodesOf
 
-    small-condition : (c : Condition) → WithinOf k c → nodesOf c ≤ mostNodes → Small (writeOf c)
+    small-condition : (c : Condition) → WithinOf form c → nodesOf c ≤ mostNodes → Small (writeOf c)
     small-condition (compare kind a b) w h = two-operands kind a b (row-byte kind _ (w .0) (omega arith)) (w .1) (w .2)
     small-condition (cross kind a b) w h = two-operands kind a b (row-byte kind _ (w .0) (omega arith)) (w .1) (w .2)
     small-condition (between x a b) w h = small-two _ (write b) (two-operands 24 x a (omega arith) (w .0) (w .1)) (small-operand b (w .2))
@@ -103,11 +113,11 @@ module _ (k : ℕ) (few : k ≤ mostSlots) where
     small-condition (inPosition false) w h = small-plain 30 0 (omega arith) (omega arith)
     small-condition (barsSince s n) w h = small-node 31 s 0 n 0 (omega arith) (omega (arith, w .0)) (omega arith) (w .1) (omega arith)
 
-    small-all : (cs : Conditions) → WithinAll k cs → nodesOfAll cs ≤ mostNodes → Small (writeAll cs)
+    small-all : (cs : Conditions) → WithinAll form cs → nodesOfAll cs ≤ mostNodes → Small (writeAll cs)
     small-all none w h = small-none
     small-all (more c cs) w h = small-two (writeOf c) (writeAll cs) (small-condition c (w .0) (omega arith)) (small-all cs (w .1) (omega arith))
 
-  small-short : (s : Short) → ShortWithin k s → nodesOfShort s ≤ mostNodes → Small (writeShort s)
+  small-short : (s : Short) → ShortWithin form s → nodesOfShort s ≤ mostNodes → Small (writeShort s)
   unfolding ShortWithin writeShort nodesOfShort
   small-short absent w h = small-none
   small-short (given c) w h = small-condition c (w .fields) h
@@ -116,10 +126,11 @@ small-six : (a b c d e f : List ℕ) → Small a → Small b → Small c → Sma
 small-six a b c d e f sa sb sc sd se sf =
     small-two (a ++ b ++ c ++ d ++ e) f (small-two (a ++ b ++ c ++ d) e (small-two (a ++ b ++ c) d (small-two (a ++ b) c (small-two a b sa sb) sc) sd) se) sf
 
-small-header : (k : ℕ) (r : Rule) → RuleWithin k r → Small (headerOf k r)
+small-header : (form : Form) (r : Rule) → RuleWithin form r → Small (headerOf form r)
 unfolding headerOf nodesOfRule Small
-small-header k r w =
+small-header form r w =
     let few = w .few-slots in
+    let version = w .known-version in
     let total = w .few-nodes in (
       omega arith,
       (
@@ -129,9 +140,9 @@ small-header k r w =
           (
             omega arith,
             small-six
-                (le16 1) (le16 (nodesOfRule r)) (le16 (nodesOf (r .entry))) (le16 (nodesOf (r .exit))) (le16 (nodesOfShort (r .shortEntry)))
+                (le16 (form .version)) (le16 (nodesOfRule r)) (le16 (nodesOf (r .entry))) (le16 (nodesOf (r .exit))) (le16 (nodesOfShort (r .shortEntry)))
                 (le16 (nodesOfShort (r .shortExit)))
-                (small16 1 (omega arith))
+                (small16 (form .version) (omega arith))
                 (small16 (nodesOfRule r) (omega arith))
                 (small16 (nodesOf (r .entry)) (omega arith))
                 (small16 (nodesOf (r .exit)) (omega arith))
@@ -142,16 +153,16 @@ small-header k r w =
       ),
     )
 
-pub written-bytes : (k : ℕ) (r : Rule) → RuleWithin k r → Bytes (tableOf k r)
+pub written-bytes : (form : Form) (r : Rule) → RuleWithin form r → Bytes (tableOf form r)
 unfolding Bytes tableOf nodesOfRule
-written-bytes k r w i =
+written-bytes form r w i =
     let few = w .few-slots in
     let total = w .few-nodes in
     bytes-of _ i
     (small-two _ (writeShort (r .shortExit))
     (small-two _ (writeShort (r .shortEntry))
     (small-two _ (writeOf (r .exit))
-    (small-two (headerOf k r) (writeOf (r .entry)) (small-header k r w) (small-condition k few (r .entry) (w .entry .fields) (omega arith)))
-    (small-condition k few (r .exit) (w .exit .fields) (omega arith)))
-    (small-short k few (r .shortEntry) (w .shortEntry) (omega arith)))
-    (small-short k few (r .shortExit) (w .shortExit) (omega arith)))
+    (small-two (headerOf form r) (writeOf (r .entry)) (small-header form r w) (small-condition form few (r .entry) (w .entry .fields) (omega arith)))
+    (small-condition form few (r .exit) (w .exit .fields) (omega arith)))
+    (small-short form few (r .shortEntry) (w .shortEntry) (omega arith)))
+    (small-short form few (r .shortExit) (w .shortExit) (omega arith)))

@@ -4,15 +4,22 @@ use mathlib.Core.Path.{_≡_, refl}
 use mathlib.Core.Bool.{cond}
 use Prim.Native.Nat.{ℕ, suc, _+_}
 use Rattle.table.specs.declared.nodes.Node.{Node}
+use Rattle.table.specs.declared.series.Series.{Series}
+use Rattle.table.specs.declared.series.Series.the-variants.{Price, Slot}
 use Rattle.table.specs.Named as Named
 use Rattle.table.specs.Forest.{Forest, firstTrees, otherTrees}
 use Rattle.table.specs.Forest as Forest
-use Rattle.table.specs.Trees.{Operand, const, ref, price, prev, arith as sums, Condition, Conditions, compare, cross, between, trend, every, any, negated}
-use Rattle.table.specs.Trees.{inPosition, barsSince, none, more}
+use Rattle.table.specs.Trees.{Operand, const, ref, price, prev, arith as sums, extreme, Condition, Conditions, compare, cross, between, trend, every}
+use Rattle.table.specs.Trees.{any, negated, inPosition, barsSince, none, more}
 use Rattle.table.specs.Writing.{nodesIn, manyOf, nodesOf}
 
 abbrev pub nd : ℕ → ℕ → ℕ → ℕ → ℕ → ℕ → Node
 nd i kind selector children n constant = record { number = i; kind = kind; selector = selector; children = children; n = n; constant = constant }
+
+-- the child of Highest and Lowest, whose node is number i
+unfoldable pub plantSeries : ℕ → Series → Forest
+plantSeries i (Price s) = Forest.tree (nd i Named.price s 0 0 0) Forest.none Forest.none
+plantSeries i (Slot s) = Forest.tree (nd i Named.ref 0 0 s 0) Forest.none Forest.none
 
 unfoldable pub plant : ℕ → Operand → Forest → Forest
 plant i (const x) rest = Forest.tree (nd i Named.const 0 0 0 x) Forest.none rest
@@ -20,6 +27,7 @@ plant i (ref s) rest = Forest.tree (nd i Named.ref 0 0 s 0) Forest.none rest
 plant i (price s) rest = Forest.tree (nd i Named.price s 0 0 0) Forest.none rest
 plant i (prev a n) rest = Forest.tree (nd i Named.prev 0 0 n 0) (plant (i + 1) a Forest.none) rest
 plant i (sums k a b) rest = Forest.tree (nd i k 0 0 0 0) (plant (i + 1) a (plant (i + 1 + nodesIn a) b Forest.none)) rest
+plant i (extreme k s n) rest = Forest.tree (nd i k 0 0 n 0) (plantSeries (i + 1) s) rest
 
 unfoldable mutual
   pub plantOf : ℕ → Condition → Forest → Forest
@@ -48,6 +56,7 @@ module _ (k : ℕ) where
   plant-first i (price s) rest = refl
   plant-first i (prev a n) rest = refl
   plant-first i (sums kind a b) rest = refl
+  plant-first i (extreme kind s n) rest = refl
 
   pub plant-other : (i : ℕ) (a : Operand) (rest : Forest) → otherTrees (suc k) (plant i a rest) ≡ otherTrees k rest
   unfolding plant otherTrees
@@ -56,6 +65,7 @@ module _ (k : ℕ) where
   plant-other i (price s) rest = refl
   plant-other i (prev a n) rest = refl
   plant-other i (sums kind a b) rest = refl
+  plant-other i (extreme kind s n) rest = refl
 
   pub plantOf-first : (i : ℕ) (c : Condition) (rest : Forest) → firstTrees (suc k) (plantOf i c rest) ≡ plantOf i c (firstTrees k rest)
   unfolding plantOf firstTrees

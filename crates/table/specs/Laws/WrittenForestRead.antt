@@ -7,18 +7,22 @@ use Prim.Native.Nat.{ℕ, zero, suc, _+_, _-_, _≤_, _<_}
 use native.Mathlib.Omega.{arith}
 use lib.Dec.{eqb}
 use Rattle.table.specs.declared.nodes.Node.{Node}
+use Rattle.table.specs.declared.header.Form.{Form}
+use Rattle.table.specs.declared.series.Series.{Series}
+use Rattle.table.specs.declared.series.Series.the-variants.{Price, Slot}
 use Rattle.table.specs.declared.places.Place.the-variants.{Nowhere}
 use Rattle.table.specs.Kinds.{kinds, kindOf}
 use Rattle.table.specs.Order.{orElse}
 use Rattle.table.specs.Forest.{Forest}
 use Rattle.table.specs.Forest as Forest
 use Rattle.table.specs.Nesting.{deeper}
-use Rattle.table.specs.Trees.{Operand, const, ref, price, prev, arith as sums, Condition, Conditions, compare, cross, between, trend, every, any, negated}
-use Rattle.table.specs.Trees.{inPosition, barsSince, none, more}
-use Rattle.table.specs.Reading.{operandBy, operandFrom, operands, firstOf, conditionBy, conditionFrom, conditions}
+use Rattle.table.specs.Trees.{Operand, const, ref, price, prev, arith as sums, extreme, Condition, Conditions, compare, cross, between, trend, every}
+use Rattle.table.specs.Trees.{any, negated, inPosition, barsSince, none, more}
+use Rattle.table.specs.Reading.{child, operandBy, operandFrom, operands, firstOf, conditionBy, conditionFrom, conditions}
+use Rattle.table.specs.Series.{asSeries}
 use Rattle.table.specs.Writing.{nodesIn, nodesOf}
 use Rattle.table.specs.Limits.{Within, WithinOf, WithinAll, levels, levelsOf, levelsOfAll}
-use Rattle.table.specs.Laws.WrittenForest.{plant, plantOf, plantAll}
+use Rattle.table.specs.Laws.WrittenForest.{plantSeries, plant, plantOf, plantAll}
 
 -- ---- depth
 
@@ -36,6 +40,11 @@ no-levels : (l : ℕ) → deeper l Forest.none ≡ Nowhere
 unfolding deeper
 no-levels l = refl
 
+shallow-series : (s : Series) (i l : ℕ) → 1 ≤ l → deeper l (plantSeries i s) ≡ Nowhere
+unfolding plantSeries
+shallow-series (Price x) i l h = one-level _ l Forest.none Forest.none (omega arith) (no-levels (l - 1)) ∙ no-levels l
+shallow-series (Slot x) i l h = one-level _ l Forest.none Forest.none (omega arith) (no-levels (l - 1)) ∙ no-levels l
+
 pub shallow : (a : Operand) (i l : ℕ) (rest : Forest) → levels a ≤ l → deeper l (plant i a rest) ≡ deeper l rest
 unfolding plant levels
 shallow (const x) i l rest h = one-level _ l Forest.none rest (omega arith) (no-levels (l - 1))
@@ -47,6 +56,7 @@ shallow (sums kind a b) i l rest h =
     one-level _ l _ rest (omega arith)
     (shallow a (i + 1) (l - 1) (plant (i + 1 + nodesIn a) b Forest.none) (omega arith) ∙ shallow b (i + 1 + nodesIn a) (l - 1) Forest.none (omega arith)
     ∙ no-levels (l - 1))
+shallow (extreme kind s n) i l rest h = one-level _ l _ rest (omega arith) (shallow-series s (i + 1) (l - 1) (omega arith))
 
 mutual
   unfolding plantOf levelsOf
@@ -81,8 +91,13 @@ mutual
 
 -- ---- reading
 
-module _ (k : ℕ) where
-  pub reads : (a : Operand) (i : ℕ) (rest : Forest) → Within k a → operands (plant i a rest) ≡ a ∷ operands rest
+reads-series : (s : Series) (i : ℕ) → asSeries (child (operands (plantSeries i s)) 0) ≡ s
+unfolding plantSeries operands operandFrom operandBy asSeries kindOf kinds
+reads-series (Price x) i = refl
+reads-series (Slot x) i = refl
+
+module _ (form : Form) where
+  pub reads : (a : Operand) (i : ℕ) (rest : Forest) → Within form a → operands (plant i a rest) ≡ a ∷ operands rest
   unfolding Within plant operands operandFrom operandBy kindOf kinds
   reads (const x) i rest w = refl
   reads (ref s) i rest w = refl
@@ -92,12 +107,13 @@ module _ (k : ℕ) where
       let below : operands (plant (i + 1) a (plant (i + 1 + nodesIn a) b Forest.none)) ≡ a ∷ b ∷ [] =
       reads a (i + 1) _ (w .1) ∙ ap (λ (l : List Operand). a ∷ l) (reads b (i + 1 + nodesIn a) Forest.none (w .2)) in
       simp (w .0, below)
+  reads (extreme kind s n) i rest w = simp (w .0, reads-series s (i + 1))
 
-  reads-two : (i j : ℕ) (a b : Operand) → Within k a → Within k b → operands (plant i a (plant j b Forest.none)) ≡ a ∷ b ∷ []
+  reads-two : (i j : ℕ) (a b : Operand) → Within form a → Within form b → operands (plant i a (plant j b Forest.none)) ≡ a ∷ b ∷ []
   unfolding operands
   reads-two i j a b wa wb = reads a i _ wa ∙ ap (λ (l : List Operand). a ∷ l) (reads b j Forest.none wb)
 
-  reads-three : (h i j : ℕ) (x a b : Operand) → Within k x → Within k a → Within k b → operands (plant h x (plant i a (plant j b Forest.none))) ≡ x ∷ a ∷ b ∷ []
+  reads-three : (h i j : ℕ) (x a b : Operand) → Within form x → Within form a → Within form b → operands (plant h x (plant i a (plant j b Forest.none))) ≡ x ∷ a ∷ b ∷ []
   reads-three h i j x a b wx wa wb = reads x h _ wx ∙ ap (λ (l : List Operand). x ∷ l) (reads-two i j a b wa wb)
 
   want-back : (want : Bool) → eqb (cond want 1 0) 1 ≡ want
@@ -107,7 +123,7 @@ module _ (k : ℕ) where
   mutual
     unfolding WithinOf plantOf conditions conditionFrom conditionBy operands firstOf kindOf kinds
 
-    pub readsOf : (c : Condition) (i : ℕ) (rest : Forest) → WithinOf k c → conditions (plantOf i c rest) ≡ more c (conditions rest)
+    pub readsOf : (c : Condition) (i : ℕ) (rest : Forest) → WithinOf form c → conditions (plantOf i c rest) ≡ more c (conditions rest)
     readsOf (compare kind a b) i rest w = simp (w .0, reads-two (i + 1) (i + 1 + nodesIn a) a b (w .1) (w .2))
     readsOf (cross kind a b) i rest w = simp (w .0, reads-two (i + 1) (i + 1 + nodesIn a) a b (w .1) (w .2))
     readsOf (between x a b) i rest w = simp (reads-three (i + 1) (i + 1 + nodesIn x) (i + 1 + nodesIn x + nodesIn a) x a b (w .0) (w .1) (w .2))
@@ -118,6 +134,6 @@ module _ (k : ℕ) where
     readsOf (inPosition want) i rest w = rw (want-back want)
     readsOf (barsSince s n) i rest w = refl
 
-    pub readsAll : (cs : Conditions) (i : ℕ) → WithinAll k cs → conditions (plantAll i cs Forest.none) ≡ cs
+    pub readsAll : (cs : Conditions) (i : ℕ) → WithinAll form cs → conditions (plantAll i cs Forest.none) ≡ cs
     readsAll none i w = refl
     readsAll (more c cs) i w = readsOf c i _ (w .0) ∙ ap (more c) (readsAll cs (i + nodesOf c) (w .1))

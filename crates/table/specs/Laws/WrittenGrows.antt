@@ -5,16 +5,20 @@ use mathlib.Core.List.{List, _++_, append-assoc}
 use Prim.Native.Nat.{ℕ, suc, _+_}
 use native.Mathlib.Omega.{arith}
 use Rattle.table.specs.declared.nodes.Node.{Node}
+use Rattle.table.specs.declared.header.Form.{Form}
+use Rattle.table.specs.declared.series.Series.{Series}
+use Rattle.table.specs.declared.series.Series.the-variants.{Price, Slot}
+use Rattle.table.specs.Named as Named
 use Rattle.table.specs.Kinds.{kinds, kindOf, asWritten}
 use Rattle.table.specs.Nodes.{nodeAt, childCount, childCountAt}
 use Rattle.table.specs.Forest.{Forest, firstTrees, otherTrees, nodeOver, trees}
 use Rattle.table.specs.Forest as Forest
-use Rattle.table.specs.Trees.{Operand, const, ref, price, prev, arith as sums, Condition, Conditions, compare, cross, between, trend, every, any, negated}
-use Rattle.table.specs.Trees.{inPosition, barsSince, none, more}
+use Rattle.table.specs.Trees.{Operand, const, ref, price, prev, arith as sums, extreme, Condition, Conditions, compare, cross, between, trend, every}
+use Rattle.table.specs.Trees.{any, negated, inPosition, barsSince, none, more}
 use Rattle.table.specs.Limits.{Within, WithinOf, WithinAll}
 use Rattle.table.specs.Laws.NodeBytes.{operand-long, condition-long}
-use Rattle.table.specs.Writing.{node, write, nodesIn, manyOf, writeOf, writeAll, nodesOf, nodesOfAll}
-use Rattle.table.specs.Laws.WrittenForest.{nd, plant, plantOf, plantAll, plant-first, plant-other, plantOf-first, plantOf-other}
+use Rattle.table.specs.Writing.{node, writeSeries, write, nodesIn, manyOf, writeOf, writeAll, nodesOf, nodesOfAll}
+use Rattle.table.specs.Laws.WrittenForest.{nd, plantSeries, plant, plantOf, plantAll, plant-first, plant-other, plantOf-first, plantOf-other}
 use Rattle.table.specs.Laws.WrittenNodes.{From, node-there, nodes-after, past}
 
 grown : (t : List ℕ) (i all m k : ℕ) (n : Node) → nodeAt t i ≡ n → childCount n (kindOf (n .kind)) ≡ k → all ≡ suc m
@@ -36,6 +40,16 @@ over-one : (n : Node) (j : ℕ) (a : Operand) (rest : Forest) → nodeOver n 1 (
 unfolding nodeOver firstTrees otherTrees
 over-one n j a rest = rw (plant-first 0 j a rest, plant-other 0 j a rest)
 
+-- a series, and the trees after it
+unfoldable seriesThen : ℕ → Series → Forest → Forest
+seriesThen i (Price s) rest = Forest.tree (nd i Named.price s 0 0 0) Forest.none rest
+seriesThen i (Slot s) rest = Forest.tree (nd i Named.ref 0 0 s 0) Forest.none rest
+
+over-series : (n : Node) (j : ℕ) (s : Series) (rest : Forest) → nodeOver n 1 (seriesThen j s rest) ≡ Forest.tree n (plantSeries j s) rest
+unfolding nodeOver firstTrees otherTrees seriesThen plantSeries
+over-series n j (Price s) rest = refl
+over-series n j (Slot s) rest = refl
+
 over-two : (n : Node) (j p : ℕ) (a b : Operand) (rest : Forest)
     → nodeOver n 2 (plant j a (plant p b rest)) ≡ Forest.tree n (plant j a (plant p b Forest.none)) rest
 unfolding nodeOver firstTrees otherTrees
@@ -54,8 +68,14 @@ over-three n j p q a b c rest =
       plant-other 0 q c rest,
     )
 
-module _ (t : List ℕ) (k : ℕ) where
-  pub grows : (a : Operand) (i m : ℕ) (l : List ℕ) → Within k a → From t i (write a ++ l) → trees t (nodesIn a + m) i ≡ plant i a (trees t m (i + nodesIn a))
+module _ (t : List ℕ) (form : Form) where
+  -- what Highest and Lowest look over
+  series-grows : (s : Series) (i m : ℕ) (l : List ℕ) → From t i (writeSeries s ++ l) → trees t (1 + m) i ≡ seriesThen i s (trees t m (i + 1))
+  unfolding writeSeries seriesThen nodeOver firstTrees otherTrees kindOf kinds childCount
+  series-grows (Price x) i m l h = grown t i _ m 0 _ (node-there t i _ _ _ _ _ l h) refl (omega arith)
+  series-grows (Slot x) i m l h = grown t i _ m 0 _ (node-there t i _ _ _ _ _ l h) refl (omega arith)
+
+  pub grows : (a : Operand) (i m : ℕ) (l : List ℕ) → Within form a → From t i (write a ++ l) → trees t (nodesIn a + m) i ≡ plant i a (trees t m (i + nodesIn a))
   unfolding Within write nodesIn plant nodeOver firstTrees otherTrees kindOf kinds childCount
   grows (const x) i m l w h = grown t i _ m 0 _ (node-there t i _ _ _ _ _ l h) refl (omega arith)
   grows (ref s) i m l w h = grown t i _ m 0 _ (node-there t i _ _ _ _ _ l h) refl (omega arith)
@@ -76,6 +96,13 @@ module _ (t : List ℕ) (k : ℕ) where
       (grows b (i + 1 + nodesIn a) m l (w .2) (past t (i + 1) (nodesIn a) (write a) (write b ++ l) (operand-long a) g1)))
       ∙ over-two _ (i + 1) (i + 1 + nodesIn a) a b _
       ∙ ap (λ (j : ℕ). Forest.tree (nd i kind 0 0 0 0) (plant (i + 1) a (plant (i + 1 + nodesIn a) b Forest.none)) (trees t m j)) place
+  grows (extreme kind s n) i m l w h =
+      let g = h ∙ regroup (node kind 0 0 n 0) (writeSeries s) l in
+      let place : i + 1 + 1 ≡ i + 2 = omega arith in
+      grown t i _ (1 + m) 1 _ (node-there t i _ _ _ _ _ _ g) (rw (w .0)) (omega arith)
+      ∙ ap (nodeOver _ 1) (series-grows s (i + 1) m l (nodes-after t i _ _ _ _ _ _ g))
+      ∙ over-series _ (i + 1) s _
+      ∙ ap (λ (j : ℕ). Forest.tree (nd i kind 0 0 n 0) (plantSeries (i + 1) s) (trees t m j)) place
 
 -- conditions in a row: all of them, and what follows
 plantAll-first : (cs : Conditions) (j : ℕ) (rest : Forest) → firstTrees (manyOf cs) (plantAll j cs rest) ≡ plantAll j cs Forest.none
@@ -96,17 +123,17 @@ over-condition : (n : Node) (j : ℕ) (c : Condition) (rest : Forest) → nodeOv
 unfolding nodeOver firstTrees otherTrees
 over-condition n j c rest = rw (plantOf-first 0 j c rest, plantOf-other 0 j c rest)
 
-module _ (t : List ℕ) (k : ℕ) where
+module _ (t : List ℕ) (form : Form) where
   -- two operands under a node of a known row
-  pair-grows : (n : Node) (i m : ℕ) (a b : Operand) (l : List ℕ) → nodeAt t i ≡ n → childCount n (kindOf (n .kind)) ≡ 2 → Within k a → Within k b
+  pair-grows : (n : Node) (i m : ℕ) (a b : Operand) (l : List ℕ) → nodeAt t i ≡ n → childCount n (kindOf (n .kind)) ≡ 2 → Within form a → Within form b
       → From t (i + 1) (write a ++ (write b ++ l))
       → trees t (1 + nodesIn a + nodesIn b + m) i ≡ Forest.tree n (plant (i + 1) a (plant (i + 1 + nodesIn a) b Forest.none))
       (trees t m (i + (1 + nodesIn a + nodesIn b)))
   pair-grows n i m a b l there count wa wb g =
       let place : i + 1 + nodesIn a + nodesIn b ≡ i + (1 + nodesIn a + nodesIn b) = omega arith in
       grown t i _ (nodesIn a + (nodesIn b + m)) 2 n there count (omega arith)
-      ∙ ap (nodeOver n 2) (grows t k a (i + 1) (nodesIn b + m) (write b ++ l) wa g ∙ ap (plant (i + 1) a)
-      (grows t k b (i + 1 + nodesIn a) m l wb (past t (i + 1) (nodesIn a) (write a) (write b ++ l) (operand-long a) g)))
+      ∙ ap (nodeOver n 2) (grows t form a (i + 1) (nodesIn b + m) (write b ++ l) wa g ∙ ap (plant (i + 1) a)
+      (grows t form b (i + 1 + nodesIn a) m l wb (past t (i + 1) (nodesIn a) (write a) (write b ++ l) (operand-long a) g)))
       ∙ over-two n (i + 1) (i + 1 + nodesIn a) a b _
       ∙ ap (λ (j : ℕ). Forest.tree n (plant (i + 1) a (plant (i + 1 + nodesIn a) b Forest.none)) (trees t m j)) place
 
@@ -127,7 +154,7 @@ module _ (t : List ℕ) (k : ℕ) where
   mutual
     unfolding WithinOf writeOf nodesOf plantOf nodeOver firstTrees otherTrees kindOf kinds childCount
 
-    pub growsOf : (c : Condition) (i m : ℕ) (l : List ℕ) → WithinOf k c → From t i (writeOf c ++ l)
+    pub growsOf : (c : Condition) (i m : ℕ) (l : List ℕ) → WithinOf form c → From t i (writeOf c ++ l)
         → trees t (nodesOf c + m) i ≡ plantOf i c (trees t m (i + nodesOf c))
     growsOf (compare kind a b) i m l w h =
         let g = h ∙ regroup-two (node kind 0 0 0 0) (write a) (write b) l in
@@ -143,10 +170,10 @@ module _ (t : List ℕ) (k : ℕ) where
         let place : i + 1 + nodesIn x + nodesIn a + nodesIn b ≡ i + (1 + nodesIn x + nodesIn a + nodesIn b) = omega arith in
         grown t i _ (nodesIn x + (nodesIn a + (nodesIn b + m))) 3 _ (node-there t i _ _ _ _ _ _ g) refl (omega arith)
         ∙ ap (nodeOver _ 3)
-        (grows t k x (i + 1) (nodesIn a + (nodesIn b + m)) (write a ++ (write b ++ l)) (w .0) g1
+        (grows t form x (i + 1) (nodesIn a + (nodesIn b + m)) (write a ++ (write b ++ l)) (w .0) g1
         ∙ ap (plant (i + 1) x)
-        (grows t k a (i + 1 + nodesIn x) (nodesIn b + m) (write b ++ l) (w .1) g2
-        ∙ ap (plant (i + 1 + nodesIn x) a) (grows t k b (i + 1 + nodesIn x + nodesIn a) m l (w .2) g3)))
+        (grows t form a (i + 1 + nodesIn x) (nodesIn b + m) (write b ++ l) (w .1) g2
+        ∙ ap (plant (i + 1 + nodesIn x) a) (grows t form b (i + 1 + nodesIn x + nodesIn a) m l (w .2) g3)))
         ∙ over-three _ (i + 1) (i + 1 + nodesIn x) (i + 1 + nodesIn x + nodesIn a) x a b _
         ∙ ap (λ (j : ℕ). Forest.tree (nd i 24 0 0 0 0) (plant (i + 1) x (plant (i + 1 + nodesIn x) a (plant (i + 1 + nodesIn x + nodesIn a) b Forest.none)))
         (trees t m j)) place
@@ -154,7 +181,7 @@ module _ (t : List ℕ) (k : ℕ) where
         let g = h ∙ regroup (node kind 0 0 n 0) (write a) l in
         let place : i + 1 + nodesIn a ≡ i + (1 + nodesIn a) = omega arith in
         grown t i _ (nodesIn a + m) 1 _ (node-there t i _ _ _ _ _ _ g) (rw (w .0)) (omega arith)
-        ∙ ap (nodeOver _ 1) (grows t k a (i + 1) m l (w .2) (nodes-after t i _ _ _ _ _ _ g))
+        ∙ ap (nodeOver _ 1) (grows t form a (i + 1) m l (w .2) (nodes-after t i _ _ _ _ _ _ g))
         ∙ over-one _ (i + 1) a _
         ∙ ap (λ (j : ℕ). Forest.tree (nd i kind 0 0 n 0) (plant (i + 1) a Forest.none) (trees t m j)) place
     growsOf (every cs) i m l w h = group-grows 27 cs i m l refl h (λ g. growsAll cs (i + 1) m l w g)
@@ -169,7 +196,7 @@ module _ (t : List ℕ) (k : ℕ) where
     growsOf (inPosition want) i m l w h = grown t i _ m 0 _ (node-there t i _ _ _ _ _ l h) refl (omega arith)
     growsOf (barsSince s n) i m l w h = grown t i _ m 0 _ (node-there t i _ _ _ _ _ l h) refl (omega arith)
 
-    pub growsAll : (cs : Conditions) (i m : ℕ) (l : List ℕ) → WithinAll k cs → From t i (writeAll cs ++ l)
+    pub growsAll : (cs : Conditions) (i m : ℕ) (l : List ℕ) → WithinAll form cs → From t i (writeAll cs ++ l)
         → trees t (nodesOfAll cs + m) i ≡ plantAll i cs (trees t m (i + nodesOfAll cs))
     growsAll none i m l w h =
         let zero-m : 0 + m ≡ m = omega arith in

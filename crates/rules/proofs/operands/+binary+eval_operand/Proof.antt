@@ -5,7 +5,7 @@ use borrow.Author.Needs.{needs}
 use Rattle.rows.specs.History.{historyOf}
 use Rattle.rules.specs.Values.{both}
 use Rattle.rules.specs.Flat.{growOperand}
-use Rattle.rules.specs.Laws.Meaning.{past, const-value, ref-value, price-value, early-value, prev-value, arith-value}
+use Rattle.rules.specs.Laws.Meaning.{past, const-value, ref-value, price-value, early-value, prev-value, arith-value, extreme-value}
 use Rattle.rules.proofs.Grown.{no-operand, grown-operand, below, above}
 use Prim.Native.Nat.{ℕ, _+_, _*_, _<_}
 use borrow.Fn.Kinds.{In}
@@ -21,6 +21,8 @@ use Rattle.rows.proofs.row_count.Reads as row-count-reads
 use Rattle.rules.proofs.operands.price_of_bar.Reads as price-of-bar-reads
 use Rattle.rules.proofs.operands.slot_of_bar.Reads as slot-of-bar-reads
 use Rattle.rules.proofs.shapes.operand_shape.Reads as operand-shape-reads
+use Rattle.rules.proofs.operands.extreme_of_bar.Reads as extreme-of-bar-reads
+use Rattle.table.proofs.series.series_in.Reads as series-in-reads
 use Rattle.rules.proofs.values.combine.Reads as combine-reads
 use Rattle.rules.proofs.operands.+binary+eval_operand.{statement}
 use Rattle.rules.proofs.operands.+binary+eval_operand.Tie.{close}
@@ -87,6 +89,10 @@ unfolding both growOperand
       eval-operand.Post,
       binary-below t,
       binary.Post,
+      series-in-reads.Asked,
+      series-in-reads.Learnt,
+      extreme-of-bar-reads.Asked,
+      extreme-of-bar-reads.Learnt,
     )
     (eval-operand-at t)
     eval-operand.Post
@@ -115,6 +121,10 @@ unfolding both growOperand
     (λ c. search needs)
     (λ c. search needs)
     (λ c κs. search needs)
+    (λ c. search needs)
+    (λ c κs. search needs)
+    (λ c κs. below (c .before .before .before .before .before .before .before .row-count .ensures)
+    (c .before .before .before .before .before .before .if1 .left))
     (λ c. search needs)
     (λ c. let p = c .before .before .before .before in
     let o = p in let r = o .before .before .before in let a = r .before .before .before .args in rw (
@@ -146,6 +156,12 @@ unfolding both growOperand
     (λ c. let p = c .before .before .before .before in
     let o = p in rw (grown-operand _ _ _ _ (o .before .if2 .left) _ _ (o .operand-shape .ensures) (c .before .before .kind .given .1), arith-value)
     (c .binary .ensures))
+    (λ c. let p = c .before .before .before .before .before in
+    let o = p in rw (
+      grown-operand _ _ _ _ (o .before .if2 .left) _ _ (o .operand-shape .ensures) (c .before .before .before .kind2 .given .1),
+      extreme-value,
+      ← c .before .series-in .ensures,
+    ) (c .extreme-of-bar .ensures))
     (λ c.
     let o = c .before .before in let r = o .before .before .before in let a = r .before .before .before .args in rw (
       grown-operand _ _ _ _ (o .before .if2 .left) _ _ (o .operand-shape .ensures) (c .enum-told .given .1),

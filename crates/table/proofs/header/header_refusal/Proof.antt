@@ -7,53 +7,53 @@ use Prim.Native.Nat.{ℕ, _+_, _*_, _≤_, _<_}
 use lib.ListN.{length}
 use borrow.Author.Tests.{lt-ltb, le-ltb, eq-eqb, ne-eqb}
 use borrow.Author.Needs.{needs}
-use Rattle.table.specs.Header.{version, total, markRight, countsRight, headerRefusal}
+use Rattle.table.specs.Header.{total, markRight, versionRight, countsRight, headerRefusal}
 use Rattle.table.proofs.header.header_refusal.Statement.{statement}
 use Rattle.table.proofs.header.header_refusal.Tie as tie
 
-rule1 : (t : List ℕ) → length t < 16 → 1 ≡ headerRefusal t
+rule1 : (newest : ℕ) (t : List ℕ) → length t < 16 → 1 ≡ headerRefusal newest t
 unfolding headerRefusal
-rule1 t h = simp (lt-ltb _ _ h)
+rule1 newest t h = simp (lt-ltb _ _ h)
 
-rule2 : (t : List ℕ) → 16 ≤ length t → not (markRight t) ≡ true → 2 ≡ headerRefusal t
+rule2 : (newest : ℕ) (t : List ℕ) → 16 ≤ length t → not (markRight t) ≡ true → 2 ≡ headerRefusal newest t
 unfolding headerRefusal
-rule2 t h h2 = simp (le-ltb _ _ h, h2)
+rule2 newest t h h2 = simp (le-ltb _ _ h, h2)
 
-rule3 : (t : List ℕ) → 16 ≤ length t → not (markRight t) ≡ false → (version t ≡ 1 → ⊥) → 3 ≡ headerRefusal t
+rule3 : (newest : ℕ) (t : List ℕ) → 16 ≤ length t → not (markRight t) ≡ false → not (versionRight newest t) ≡ true → 3 ≡ headerRefusal newest t
 unfolding headerRefusal
-rule3 t h h2 h3 = simp (le-ltb _ _ h, h2, ne-eqb _ _ h3)
+rule3 newest t h h2 h3 = simp (le-ltb _ _ h, h2, h3)
 
-rule4 : (t : List ℕ) → 16 ≤ length t → not (markRight t) ≡ false → version t ≡ 1 → not (countsRight t) ≡ true → 4 ≡ headerRefusal t
+rule4 : (newest : ℕ) (t : List ℕ) → 16 ≤ length t → not (markRight t) ≡ false → not (versionRight newest t) ≡ false → not (countsRight t) ≡ true → 4 ≡ headerRefusal newest t
 unfolding headerRefusal
-rule4 t h h2 h3 h4 = simp (le-ltb _ _ h, h2, eq-eqb _ _ h3, h4)
+rule4 newest t h h2 h3 h4 = simp (le-ltb _ _ h, h2, h3, h4)
 
-rule5 : (t : List ℕ) → 16 ≤ length t → not (markRight t) ≡ false → version t ≡ 1 → not (countsRight t) ≡ false
-    → (length t ≡ 16 + 16 * total t → ⊥) → 5 ≡ headerRefusal t
+rule5 : (newest : ℕ) (t : List ℕ) → 16 ≤ length t → not (markRight t) ≡ false → not (versionRight newest t) ≡ false → not (countsRight t) ≡ false
+    → (length t ≡ 16 + 16 * total t → ⊥) → 5 ≡ headerRefusal newest t
 unfolding headerRefusal
-rule5 t h h2 h3 h4 h5 = simp (le-ltb _ _ h, h2, eq-eqb _ _ h3, h4, ne-eqb _ _ h5)
+rule5 newest t h h2 h3 h4 h5 = simp (le-ltb _ _ h, h2, h3, h4, ne-eqb _ _ h5)
 
-kept : (t : List ℕ) → 16 ≤ length t → not (markRight t) ≡ false → version t ≡ 1 → not (countsRight t) ≡ false
-    → length t ≡ 16 + 16 * total t → 0 ≡ headerRefusal t
+kept : (newest : ℕ) (t : List ℕ) → 16 ≤ length t → not (markRight t) ≡ false → not (versionRight newest t) ≡ false → not (countsRight t) ≡ false
+    → length t ≡ 16 + 16 * total t → 0 ≡ headerRefusal newest t
 unfolding headerRefusal
-kept t h h2 h3 h4 h5 = simp (le-ltb _ _ h, h2, eq-eqb _ _ h3, h4, eq-eqb _ _ h5)
+kept newest t h h2 h3 h4 h5 = simp (le-ltb _ _ h, h2, h3, h4, eq-eqb _ _ h5)
 
 returns : tie.Need-returns
-returns c = rule1 _ (search needs)
+returns c = rule1 _ _ (search needs)
 
 returns-2 : tie.Need-returns-2
-returns-2 c = rule2 _ (search needs) (cc)
+returns-2 c = rule2 _ _ (search needs) (cc)
 
 returns-3 : tie.Need-returns-3
-returns-3 c = rule3 _ (search needs) (cc) (search needs)
+returns-3 c = rule3 _ _ (search needs) (cc) (cc)
 
 returns-4 : tie.Need-returns-4
-returns-4 c = rule4 _ (search needs) (cc) (search needs) (cc)
+returns-4 c = rule4 _ _ (search needs) (cc) (cc) (cc)
 
 returns-5 : tie.Need-returns-5
-returns-5 c = rule5 _ (search needs) (cc) (search needs) (cc) (search needs)
+returns-5 c = rule5 _ _ (search needs) (cc) (cc) (cc) (search needs)
 
 returns-6 : tie.Need-returns-6
-returns-6 c = kept _ (search needs) (cc) (search needs) (cc) (search needs)
+returns-6 c = kept _ _ (search needs) (cc) (cc) (cc) (search needs)
 
 pub header-refusal-spec : {M : Type 1} → statement M
 header-refusal-spec =

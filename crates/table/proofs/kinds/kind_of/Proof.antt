@@ -5,9 +5,9 @@ use Prim.Native.Nat.{ℕ, _<_}
 use borrow.Author.Needs.{needs}
 use lib.ListN.{getD, List·getD-eq-default}
 use Rattle.table.specs.declared.kinds.Row.{Row}
-use Rattle.table.specs.declared.kinds.Row.the-variants.{Unknown, Const, Ref, Price, Prev, Arith, Compare, Cross, Between, Trend}
+use Rattle.table.specs.declared.kinds.Row.the-variants.{Unknown, Const, Ref, Price, Prev, Arith, Extreme, Compare, Cross, Between, Trend}
 use Rattle.table.specs.declared.kinds.Row.the-variants.{All, Any, Not, InPosition, BarsSince}
-use Rattle.table.specs.Kinds.{kindOf, kinds, noKind, rowOf}
+use Rattle.table.specs.Kinds.{kindOf, kinds, noKind, rowNamed}
 use Rattle.table.specs.Laws.Kinds.{listed, of-rows}
 use Rattle.table.proofs.kinds.kind_of.Statement.{statement}
 use Rattle.table.proofs.kinds.kind_of.Tie as tie
@@ -16,16 +16,16 @@ use Rattle.table.proofs.kinds.kind_of.Tie as tie
 names : List Row
 names =
     Unknown ∷ Const ∷ Ref ∷ Price ∷ Prev ∷ Arith ∷ Arith ∷ Arith ∷ Arith ∷
-    Unknown ∷ Unknown ∷ Unknown ∷ Unknown ∷ Unknown ∷ Unknown ∷ Unknown ∷
+    Extreme ∷ Extreme ∷ Unknown ∷ Unknown ∷ Unknown ∷ Unknown ∷ Unknown ∷
     Compare ∷ Compare ∷ Compare ∷ Compare ∷ Compare ∷ Compare ∷
     Cross ∷ Cross ∷ Between ∷ Trend ∷ Trend ∷ All ∷ Any ∷ Not ∷ InPosition ∷ BarsSince ∷ []
 
-named : (k : ℕ) → k < 32 → rowOf (getD names k Unknown) ≡ kindOf k
-named = of-rows (λ k. rowOf (getD names k Unknown)) kindOf (unfold listed kindOf kinds rowOf names in refl)
+named : (k : ℕ) → k < 32 → rowNamed (getD names k Unknown) ≡ kindOf k
+named = of-rows (λ k. rowNamed (getD names k Unknown)) kindOf (unfold listed kindOf kinds rowNamed names in refl)
 
 returns : tie.Need-returns
 unfolding names
-returns c = c .row-of .ensures ∙ named _ (c .before .before .if1 .taken)
+returns c = c .row-named .ensures ∙ named _ (c .before .before .if1 .taken)
 
 returns-2 : tie.Need-returns-2
 unfolding kindOf kinds

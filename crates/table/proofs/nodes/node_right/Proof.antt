@@ -1,14 +1,8 @@
 -- `node_right` meets its contract.
 -- Assumes nothing.
-use Rattle.table.specs.Nodes.{nodeRight}
 use borrow.Author.Needs.{needs}
 use Rattle.table.proofs.nodes.node_right.Statement.{statement}
 use Rattle.table.proofs.nodes.node_right.Tie as tie
 
-returns : tie.Need-returns
-unfolding nodeRight
-returns c = cc
-
 pub node-right-spec : {M : Type 1} → statement M
-node-right-spec =
-    tie.close (tie.spec (λ c κs. search needs) (λ c κs. search needs) (λ c κs. search needs) (λ c κs. search needs) returns)
+node-right-spec = tie.close (tie.spec (λ c κs. search needs) (λ c κs. search needs) (λ c κs. search needs) (λ c. cc))

@@ -26,18 +26,20 @@ module _ (t : List ℕ) (e i : ℕ) where
   wrong-none h = rw (left-zero e i h)
 
 abbrev Inv-loop : tie.InvT-loop
-Inv-loop t total i₀ i = (i ≤ total) × (wrongNode t total 0 ≡ wrongNode t (total - i) i)
+Inv-loop t total form i₀ i = (i ≤ total) × (wrongNode t total 0 ≡ wrongNode t (total - i) i)
 
 abbrev μ-loop : tie.MeasureT-loop
-μ-loop t total i₀ i = total - i
+μ-loop t total form i₀ i = total - i
 
 loop-holds : tie.Need-loop-holds Inv-loop μ-loop
-loop-holds c = (search needs, ap (λ (m : ℕ). wrongNode (c .before .args .t .now) m 0) (sym (sub-zero (c .before .args .total))))
+loop-holds c = (search needs, ap (λ (m : ℕ). wrongNode (c .before .before .args .t .now) m 0) (sym (sub-zero (c .before .before .args .total))))
 
 loop-again : tie.Need-loop-again Inv-loop μ-loop
+unfolding nodeRight
 loop-again c = (search needs, c .before .before .before .loop .inv .1 ∙ wrong-step _ _ _ (search needs) (cc))
 
 returns : tie.Need-returns Inv-loop μ-loop
+unfolding nodeRight
 returns c = sym (c .before .before .before .loop .inv .1 ∙ wrong-found _ _ _ (search needs) (cc))
 
 returns-2 : tie.Need-returns-2 Inv-loop μ-loop
@@ -49,6 +51,7 @@ wrong-node-spec =
     (tie.spec
     Inv-loop
     μ-loop
+    (λ c κs. search needs)
     loop-holds
     (λ c κs. search needs)
     (λ c. search needs)

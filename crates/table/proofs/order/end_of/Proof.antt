@@ -1,80 +1,60 @@
--- `end_of` meets its contract. The loop's invariant: what is wanted from node i on is, at node j, the children that are left;
--- a child's own word passes it in one step.
+-- `end_of` meets its contract: the first child is none that the node takes, or its children decide.
 -- Assumes nothing.
-use native.Mathlib.Omega.{arith}
-use Prim.Native.Nat.{_≤_, _<_}
-use Rattle.table.specs.Passes.{EndedFrom}
-use Rattle.table.proofs.Prefix.{Here, begin, turn, cut, wrong, inside, closed}
+use mathlib.Core.Path.{_≡_, sym, _∙_, ap}
+use mathlib.Core.Bool.{Bool}
+use mathlib.Core.List.{List}
+use Prim.Native.Nat.{ℕ, _+_}
+use Rattle.table.specs.declared.kinds.Kind.{Kind}
+use Rattle.table.specs.declared.nodes.Node.{Node}
+use Rattle.table.specs.Kinds.{kindOf}
+use Rattle.table.specs.Nodes.{nodeAt, childCount, childCountAt, childSortAt, childFits, childFitsAt}
+use Rattle.table.proofs.Prefix.{wrong-child}
 use borrow.Author.Needs.{needs}
 use Rattle.table.proofs.order.end_of.Statement.{statement}
 use Rattle.table.proofs.order.end_of.Tie as tie
 
-abbrev Inv-loop : tie.InvT-loop
-Inv-loop t ends i e below left₀ j₀ left j = (i < j) × (j ≤ e) × Here t e i below left j
+-- what was read of the node is what the definitions read
+module _ (t : List ℕ) (i : ℕ) (n : Node) (w : Kind) (node : n ≡ nodeAt t i) (row : w ≡ kindOf (n .kind)) where
+  row-is : w ≡ kindOf (nodeAt t i .kind)
+  row-is = row ∙ ap (λ (m : Node). kindOf (m .kind)) node
 
-abbrev μ-loop : tie.MeasureT-loop
-μ-loop t ends i e below left₀ j₀ left j = left
+  fits-is : (b : Bool) → b ≡ childFits w (kindOf (nodeAt t (i + 1) .kind)) → childFitsAt t i ≡ b
+  unfolding childFitsAt
+  fits-is b h = ap (λ (r : Kind). childFits r (kindOf (nodeAt t (i + 1) .kind))) (sym row-is) ∙ sym h
 
-loop-holds : tie.Need-loop-holds Inv-loop μ-loop
-loop-holds c = (search needs, search needs, begin _ _ _ _ _ (search needs) (c .child-count-at .ensures) (c .before .child-sort-at .ensures))
+  many-is : (k : ℕ) → k ≡ childCount n w → k ≡ childCountAt t i
+  unfolding childCountAt
+  many-is k h = h ∙ ap (λ (m : Node). childCount m w) node ∙ ap (childCount (nodeAt t i)) row-is
 
-returns : tie.Need-returns Inv-loop μ-loop
-returns c =
-    let l = c .before .before .loop in
-    let of = c .before .before .before .before .child-sort-at .result in
-    cut _ _ _ of (l .left) (l .j) (l .inv .2) (search needs) (search needs) (search needs)
+  sort-is : w .below ≡ childSortAt t i
+  unfolding childSortAt
+  sort-is = ap (λ (r : Kind). r .below) row-is
 
-returns-2 : tie.Need-returns-2 Inv-loop μ-loop
+end-below-requires : tie.Need-end-below-requires
+end-below-requires c κs =
+    let start = c .before .before .before .before .before .before in
+    let node = c .before .before .before .before .node-at .ensures in
+    let row = c .before .before .before .kind-of .ensures in
+    let fits = fits-is _ _ _ _ node row _ (c .before .before .child-fits .ensures) ∙ c .before .if1 .taken in
+    (start .pre .0, (start .pre .1, (fits, many-is _ _ _ _ node row _ (c .child-count .ensures), sort-is _ _ _ _ node row)))
+
+returns-2 : tie.Need-returns-2
 returns-2 c =
-    let l = c .before .before .before .before .loop in
-    let of = c .before .before .before .before .before .before .child-sort-at .result in
-    wrong _ _ _ of (l .left) (l .j) (l .inv .2) (search needs) (search needs) (search needs) (search needs)
-
-returns-3 : tie.Need-returns-3 Inv-loop μ-loop
-unfolding EndedFrom
-returns-3 c =
-    let l = c .before .before .before .before .before .before .loop in
-    let of = c .before .before .before .before .before .before .before .before .child-sort-at .result in
-    inside _ _ _ of (l .left) (l .j) (l .inv .2) (search needs) _ (search needs) (search needs)
-    (c .before .before .before .before .before .before .before .before .before .before .pre .1 (l .j) (search needs) (search needs))
-
-loop-again : tie.Need-loop-again Inv-loop μ-loop
-unfolding EndedFrom
-loop-again c =
-    let l = c .before .before .before .before .before .before .loop in
-    let of = c .before .before .before .before .before .before .before .before .child-sort-at .result in
-    let k = c .before .before .before .before .before .before .before .before .before .before .pre .1 (l .j) (search needs) (search needs) in (
-      omega (arith, k .beyond (search needs)),
-      k .within (search needs),
-      turn _ _ _ of (l .left) (l .j) (l .inv .2) (search needs) _ (search needs)
-          (search needs) k,
-    )
-
-returns-4 : tie.Need-returns-4 Inv-loop μ-loop
-returns-4 c =
-    let l = c .before .loop in
-    let of = c .before .before .before .child-sort-at .result in
-    closed _ _ _ of (l .left) (l .j) (l .inv .2) (search needs) (search needs) (search needs) (search needs)
+    let node = c .before .before .before .node-at .ensures in
+    let row = c .before .before .kind-of .ensures in
+    wrong-child _ _ _ (search needs) (search needs) (fits-is _ _ _ _ node row _ (c .before .child-fits .ensures) ∙ c .if1 .left)
 
 pub end-of-spec : {M : Type 1} → statement M
 end-of-spec =
     tie.close
     (tie.spec
-    Inv-loop
-    μ-loop
     (λ c κs. search needs)
     (λ c κs. search needs)
     (λ c. search needs)
-    loop-holds
-    (λ c. search needs)
-    returns
     (λ c κs. search needs)
-    (λ c. search needs)
-    returns-2
-    (λ c. search needs)
-    (λ c. search needs)
-    returns-3
+    (λ c κs. search needs)
+    end-below-requires
     (λ c. search needs)
     (λ c. search needs)
-    loop-again
-    returns-4)
+    (λ c. search needs)
+    returns-2)

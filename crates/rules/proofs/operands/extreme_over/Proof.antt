@@ -1,0 +1,49 @@
+-- The loop's invariant: the best so far is that of the bars up to the one reached. Assumes nothing.
+use borrow.Author.Needs.{needs}
+use Prim.Native.Nat.{ℕ, _-_, _≤_}
+use mathlib.Core.Path.{_≡_, sym, ap, _∙_}
+use native.Mathlib.Omega.{arith}
+use native.Mathlib.Nat.{le-refl}
+use Rattle.rows.specs.History.{historyOf}
+use Rattle.rules.specs.Meaning.{extremeOver}
+use Rattle.rules.specs.Laws.Meaning.{extreme-one, extreme-more}
+use Rattle.rules.proofs.operands.extreme_over.Statement.{statement}
+use Rattle.rules.proofs.operands.extreme_over.Tie as tie
+
+abbrev Inv-loop : tie.InvT-loop
+Inv-loop kind rows slots over oldest bar best₀ at₀ best at =
+    (oldest ≤ at) × (at ≤ bar) × (best ≡ extremeOver (historyOf slots rows) kind over oldest (at - oldest))
+
+abbrev μ-loop : tie.MeasureT-loop
+μ-loop kind rows slots over oldest bar best₀ at₀ best at = bar - at
+
+pub extreme-over-spec : {M : Type 1} → statement M
+extreme-over-spec =
+    tie.close
+    (tie.spec
+    Inv-loop
+    μ-loop
+    (λ c κs. omega (arith, c .before .pre .0, c .before .pre .1))
+    (λ c.
+    let a = c .before .before .args in (
+      le-refl (a .oldest),
+      c .before .before .pre .0,
+      c .series-of-bar .ensures ∙ sym (extreme-one (historyOf (a .slots) (a .rows .now)) (a .kind) (a .over) (a .oldest)),
+    ))
+    (λ c. search needs)
+    (λ c κs. omega (arith, c .before .before .before .before .pre .1, c .loop-test .taken))
+    (λ c κs. search needs)
+    (λ c. search needs)
+    (λ c.
+    let l = c .before .before .before .loop in
+    let a = c .before .before .before .before .before .before .args in (
+      omega (arith, l .inv .0),
+      omega (arith, c .before .before .loop-test .taken),
+      rw (extreme-more (historyOf (a .slots) (a .rows .now)) (a .kind) (a .over) (a .oldest) (l .at) (l .inv .0), ← l .inv .2, ← c .before .series-of-bar2 .ensures)
+          (c .pick .ensures),
+    ))
+    (λ c.
+    let l = c .before .loop in
+    let a = c .before .before .before .before .args in
+    let last : l .at ≡ a .bar = omega (arith, c .loop-test .left, l .inv .1) in
+    l .inv .2 ∙ ap (λ (m : ℕ). extremeOver (historyOf (a .slots) (a .rows .now)) (a .kind) (a .over) (a .oldest) (m - a .oldest)) last))

@@ -1,0 +1,16 @@
+-- `kind_right` meets its contract.
+-- Assumes nothing.
+use borrow.Author.Tests.{eq-eqb, ne-eqb}
+use Rattle.table.specs.Nodes.{kindRight}
+use borrow.Author.Needs.{needs}
+use Rattle.table.proofs.nodes.kind_right.Statement.{statement}
+use Rattle.table.proofs.nodes.kind_right.Tie as tie
+
+pub kind-right-spec : {M : Type 1} → statement M
+unfolding kindRight
+kind-right-spec =
+    tie.close
+    (tie.spec
+    (λ c. search needs)
+    (λ c. simp (eq-eqb _ _ (c .if1 .taken)))
+    (λ c. simp (ne-eqb _ _ (c .if1 .left))))
