@@ -323,6 +323,28 @@ uint64_t ysh_finish(const uint64_t *settings, size_t settings_len, uint64_t *sta
 uint64_t ysh_rule(const uint8_t *table, size_t table_len, uint64_t tree, const uint64_t *rows, size_t rows_len,
                   uint64_t qty, uint64_t entered, uint64_t entry_bar, uint64_t bars_seen, uint64_t *answer);
 
+/* Why one tree of a table (0 to 3) says yes or no over rows and a position, at the newest row: the chain of nodes from its root to
+ * what decided, a line of YSH_LINE_WORDS words for each. Done: the lines, at most YSH_MOST_LINES, and how many there are; what stands past
+ * them is not touched. None for an absent tree, and for a tree of any other number. A line: node, answer (1 yes, 0 no), sort, how many
+ * of the four words after it are used, those four (0 where unused). Refusals 1 to 9, then 10 (room 10: a list of fewer than 32
+ * lines), then 13. */
+enum {
+    YSH_LINE_WORDS = 8,
+    YSH_MOST_LINES = 32,
+    YSH_LINES_ROOM = 10,        /* the lines' number, as a room that 10 names */
+    YSH_WHY_LINK = 0,           /* All, Any or Not: the next line is the child that decided; where there is none, no child decided alone */
+    YSH_WHY_VALUES = 1,         /* the values compared: two; a cross's now, then before; Rising and Falling now, then; value, low, high */
+    YSH_WHY_MISSING = 2,        /* the first missing leaf: its node, and how many bars back it was looked at */
+    YSH_WHY_FIRST_BAR = 3,      /* a cross at bar 0 */
+    YSH_WHY_TOO_FEW_BARS = 4,   /* Rising or Falling with fewer bars before this one than it looks back */
+    YSH_WHY_POSITION = 5,       /* InPosition */
+    YSH_WHY_SINCE_ENTRY = 6,    /* BarsSinceEntry: that number of bars */
+    YSH_WHY_NO_ENTRY = 7        /* BarsSinceEntry while flat or with no entry bar */
+};
+uint64_t ysh_why(const uint8_t *table, size_t table_len, uint64_t tree, const uint64_t *rows, size_t rows_len,
+                 uint64_t qty, uint64_t entered, uint64_t entry_bar, uint64_t bars_seen,
+                 uint64_t *lines, size_t lines_len, uint64_t *count);
+
 /* Runs a list of steps over all the rows handed over; no step of it looks back `depth` bars or more. Done: 1 yes or 0 no, and
  * how many steps were visited. Refusals 12 for slots (at 0) or depth (at 1), then 13, then 15 at the lowest bad step. */
 uint64_t ysh_run(const uint8_t *steps, size_t steps_len, const uint64_t *rows, size_t rows_len,
