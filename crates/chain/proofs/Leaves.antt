@@ -35,7 +35,8 @@ module _ (t ends : List ℕ) (h : History) (i bar back left : ℕ) (r : Found) w
 
   module _ (some : left ≡ 0 → ⊥) (s : OperandShape) (e : s ≡ operandShape t ends i) where
     leaf-same : (u : OperandShape) → isLeaf u ≡ true
-        → missingIn (byEnds ends) h (growOperand (seriesIn t) (operandAt (left - 1) t ends) u) i bar back ≡ leafGone h (growOperand (seriesIn t) (operandAt (left - 1) t ends) u) i bar back
+        → missingIn (byEnds ends) h (growOperand (seriesIn t) (operandAt (left - 1) t ends) u) i bar back
+        ≡ leafGone h (growOperand (seriesIn t) (operandAt (left - 1) t ends) u) i bar back
     unfolding isLeaf missingIn growOperand
     leaf-same (Const bits) l = refl
     leaf-same (Ref slot) l = refl

@@ -24,7 +24,8 @@ use Rattle.chain.specs.declared.Found.{Found}
 use Rattle.chain.specs.declared.Found.the-variants.{Nowhere, Leaf}
 use Rattle.chain.specs.Missing.{inTable, orElse, goneIf, leafGone, newestGone, missingIn, missingInTwo, missingInThree}
 use Rattle.chain.specs.Chain.{atFirstBar, tooFewBars, position, noEntry, shownBy, shownFrom, shownSince, shown}
-use Rattle.chain.specs.Looks.{Look, look, looksBack, looksIn, looksOf, valuesOf, seen, IsThere, number, FirstMissing, this, later, NoneMissing, none-left, and-none}
+use Rattle.chain.specs.Looks.{Look, look, looksBack, looksIn, looksOf, valuesOf, seen, IsThere, number}
+use Rattle.chain.specs.Looks.{FirstMissing, this, later, NoneMissing, none-left, and-none}
 use Rattle.chain.specs.Looks.{joins, TooEarly, True}
 
 module _ (h : History) (bar : ℕ) where
@@ -111,7 +112,8 @@ module _ (h : History) (bar : ℕ) where
     by-true c i Nowhere vs e v = (v, none-true (looksOf c i) (sym e))
 
     cross-true : (kind : ℕ) (a b : Operand) (i : ℕ) (first : Bool) → eqb bar 0 ≡ first
-        → True h s (cross kind a b) i bar (cond first atFirstBar (shownBy (orElse (missingInTwo inTable h a b (i + 1) bar 0) (missingInTwo inTable h a b (i + 1) bar 1))
+        → True h s (cross kind a b) i bar (cond first atFirstBar
+        (shownBy (orElse (missingInTwo inTable h a b (i + 1) bar 0) (missingInTwo inTable h a b (i + 1) bar 1))
         (value h a bar ∷ value h b bar ∷ value h a (bar - 1) ∷ value h b (bar - 1) ∷ [])))
     cross-true kind a b i true e = unfold True holds in (eqb-true bar 0 e, rw e)
     cross-true kind a b i false e = unfold looksOf valuesOf in

@@ -182,7 +182,9 @@ pub explanation-window : (t : List ℕ) (n r : ℕ) → checked t ≡ Accepted n
 unfolding explanation
 explanation-window t n r ok D enough x rows s = high (leb trees x) refl
   where
-    same : x < 4 → chain inTable (historyOf (slots t) (lastRows (slots t) D rows)) s (treeOf t x) (root t x) (newest (historyOf (slots t) (lastRows (slots t) D rows)))
+    same : x < 4
+        → chain inTable (historyOf (slots t) (lastRows (slots t) D rows)) s (treeOf t x) (root t x)
+        (newest (historyOf (slots t) (lastRows (slots t) D rows)))
         ≡ chain inTable (historyOf (slots t) rows) s (treeOf t x) (root t x) (newest (historyOf (slots t) rows))
     same l = chain-window (slots t) D rows s (treeOf t x) (root t x) (omega (arith, tree-near t n r ok x l))
 

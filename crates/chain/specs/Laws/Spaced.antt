@@ -162,7 +162,8 @@ module _ (t ends : List ℕ) (b e : ℕ) (whole : Whole t ends b e) where
   operand-level left below i here lo kind = rw (lt-leb 256 i (omega (arith, whole .small, node-there t e i 0 1 (suc left) here))) (go kind)
     where
       go : OperandKind (nodeAt t i .kind)
-          → SpacedIn ends (growOperand (seriesIn t) (operandAt left t ends) (operandOf (kindOf (nodeAt t i .kind) .operand) (nodeAt t i) (i + 1) (endIn ends (i + 1)))) i
+          → SpacedIn ends (growOperand (seriesIn t) (operandAt left t ends)
+          (operandOf (kindOf (nodeAt t i .kind) .operand) (nodeAt t i) (i + 1) (endIn ends (i + 1)))) i
       go (a-const k row) = rw row (below-by i 1 left _ here lo row .1)
       go (a-ref k row) = rw row (below-by i 1 left _ here lo row .1)
       go (a-price k row) = rw row (below-by i 1 left _ here lo row .1)
@@ -176,7 +177,8 @@ module _ (t ends : List ℕ) (b e : ℕ) (whole : Whole t ends b e) where
           let a = below (i + 1) (stands-one t e (i + 1) 1 1 left (two .0)) (omega arith) in
           let c = below (endIn ends (i + 1)) (stands-next t e (i + 1) 1 1 left (two .0) (endIn ends (i + 1)) link) (omega (arith, link .beyond)) in
           let first = operand-end ends (operandAt left t ends (i + 1)) (i + 1) a in
-          rw row (omega (arith, two .1, first, operand-end ends (operandAt left t ends (endIn ends (i + 1))) (endIn ends (i + 1)) c), a, moved (operandAt left t ends (endIn ends (i + 1))) (endIn ends (i + 1)) _ first c)
+          let second = operand-end ends (operandAt left t ends (endIn ends (i + 1))) (endIn ends (i + 1)) c in
+          rw row (omega (arith, two .1, first, second), a, moved (operandAt left t ends (endIn ends (i + 1))) (endIn ends (i + 1)) _ first c)
       go (an-extreme row) =
           let one = below-by i 1 left _ here lo row in
           let near = node-there t e (i + 1) 0 1 left (one .0) in
@@ -222,7 +224,9 @@ module _ (t ends : List ℕ) (b e : ℕ) (whole : Whole t ends b e) where
       rest k some = stands-next t e (i + 1) k 1 left some (endIn ends (i + 1)) (link-first k some)
 
       second : (k : ℕ) → Stands t e (i + 1) (suc (suc k)) 1 left → SpacedIn ends (operandAt left t ends (endIn ends (i + 1))) (endIn ends (i + 1))
-      second k some = operand-spaced left (endIn ends (i + 1)) (stands-one t e (endIn ends (i + 1)) k 1 left (rest (suc k) some)) (omega (arith, link-first (suc k) some .beyond))
+      second k some =
+          operand-spaced left (endIn ends (i + 1)) (stands-one t e (endIn ends (i + 1)) k 1 left (rest (suc k) some))
+          (omega (arith, link-first (suc k) some .beyond))
 
       -- two operands below the node
       pair : Stands t e (i + 1) 2 1 left → endIn ends i ≡ endIn ends (endIn ends (i + 1))
@@ -233,7 +237,8 @@ module _ (t ends : List ℕ) (b e : ℕ) (whole : Whole t ends b e) where
           let a = first 1 two in
           let c = second 0 two in
           let at = operand-end ends (operandAt left t ends (i + 1)) (i + 1) a in
-          (omega (arith, over, at, operand-end ends (operandAt left t ends (endIn ends (i + 1))) (endIn ends (i + 1)) c), a, moved (operandAt left t ends (endIn ends (i + 1))) (endIn ends (i + 1)) _ at c)
+          let then = operand-end ends (operandAt left t ends (endIn ends (i + 1))) (endIn ends (i + 1)) c in
+          (omega (arith, over, at, then), a, moved (operandAt left t ends (endIn ends (i + 1))) (endIn ends (i + 1)) _ at c)
 
       go : ConditionKind (nodeAt t i .kind)
           → Spaced ends (growCondition (operandAt left t ends) (conditionAt left t ends) ends

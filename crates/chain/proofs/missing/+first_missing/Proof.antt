@@ -105,8 +105,8 @@ unfolding isLeaf Bytes
     gone-prev _ _ _ _ _ _ _ _ (k .before .if1 .left) _ (k .operand-shape .ensures) _ _ (c .before .before .a .given .1) (c .first-missing .ensures))
     (λ c.
     let k = c .before .before .before .before .before .before in
-    gone-arith _ _ _ _ _ _ _ _ (k .before .if1 .left) _ (k .operand-shape .ensures) _ _ _ _ _ (c .before .before .before .before .a2 .given .1) (c .before .before .first-missing2 .ensures)
-    (c .before .first-missing3 .ensures) (c .or-else .ensures))
+    gone-arith _ _ _ _ _ _ _ _ (k .before .if1 .left) _ (k .operand-shape .ensures) _ _ _ _ _ (c .before .before .before .before .a2 .given .1)
+    (c .before .before .first-missing2 .ensures) (c .before .first-missing3 .ensures) (c .or-else .ensures))
     (λ c.
     let k = c .before .before .before .before .before .before in
     gone-extreme _ _ _ _ _ _ _ _ (k .before .if1 .left) _ (k .operand-shape .ensures) _ _ _ _ _ (c .before .before .before .before .a3 .given .1)

@@ -29,14 +29,16 @@ newest-gone-spec =
     (λ c. search needs)
     (λ c.
     let l = c .before .before .before .before .before in
-    sym (l .loop .inv .0 ∙ newest-here _ _ _ _ _ _ _ _ _ (c .before .before .before .before .loop-test .taken) (c .before .before .before .series-gone .ensures) (c .before .node .given .1)))
+    sym (l .loop .inv .0 ∙ newest-here _ _ _ _ _ _ _ _ _ (c .before .before .before .before .loop-test .taken)
+    (c .before .before .before .series-gone .ensures) (c .before .node .given .1)))
     (λ c. search needs)
     (λ c. omega (arith, c .before .before .before .before .loop .inv .1))
     (λ c. omega arith)
     (λ c. omega arith)
     (λ c.
     let l = c .before .before .before .before in (
-      l .loop .inv .0 ∙ newest-further _ _ _ _ _ _ _ (c .before .before .before .loop-test .taken) (c .before .before .series-gone .ensures) (c .enum-told .given .1),
+      l .loop .inv .0 ∙ newest-further _ _ _ _ _ _ _ (c .before .before .before .loop-test .taken)
+          (c .before .before .series-gone .ensures) (c .enum-told .given .1),
       omega (arith, l .loop .inv .1, c .before .before .before .loop-test .taken),
     ))
     (λ c κs. search needs)

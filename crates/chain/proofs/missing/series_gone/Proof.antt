@@ -31,10 +31,16 @@ series-gone-spec =
     (λ c κs. search needs)
     (λ c. search needs)
     (λ c. search needs)
-    (λ c. series-price _ _ _ _ _ (c .before .before .before .before .if1 .left) (below (c .before .before .before .row-count .ensures) (c .before .before .if2 .left)) _ (c .enum-told .given .1))
     (λ c.
-    series-slot _ _ _ _ _ (c .before .before .before .before .before .before .before .before .if1 .left) (below (c .before .before .before .before .before .before .before .row-count .ensures) (c .before .before .before .before .before .before .if2 .left)) _ (c .before .before .before .before .over .given .1) _ _
+    let r = c .before .before .before in
+    series-price _ _ _ _ _ (r .before .if1 .left) (below (r .row-count .ensures) (c .before .before .if2 .left)) _ (c .enum-told .given .1))
+    (λ c.
+    let o = c .before .before .before .before in
+    let f = o .before .before in
+    series-slot _ _ _ _ _ (f .before .before .if1 .left) (below (f .before .row-count .ensures) (f .if2 .left)) _ (o .over .given .1) _ _
     (c .before .before .slot-at .ensures) (c .enum-told2 .given .1))
     (λ c.
-    series-slot _ _ _ _ _ (c .before .before .before .before .before .before .before .before .if1 .left) (below (c .before .before .before .before .before .before .before .row-count .ensures) (c .before .before .before .before .before .before .if2 .left)) _ (c .before .before .before .before .over .given .1) _ _
+    let o = c .before .before .before .before in
+    let f = o .before .before in
+    series-slot _ _ _ _ _ (f .before .before .if1 .left) (below (f .before .row-count .ensures) (f .if2 .left)) _ (o .over .given .1) _ _
     (c .before .before .slot-at .ensures) (c .enum-told3 .given .1)))
