@@ -1,6 +1,7 @@
 // The lines of a chain, in words.
 use crate::names;
 use libc::STDOUT_FILENO;
+ghost use Prim.Native.Nat.{_≤_};
 
 // A refusal's number stands in the upper half of an answer, its place in the lower.
 const HALF: u64 = 4_294_967_296;
@@ -28,15 +29,12 @@ pub(crate) fn say_refused(answer: u64) {
 fn say_millionths(n: u64) {
     say_number(n / 1_000_000);
     say(b".");
-    let mut place: u64 = 100_000;
-    let mut turns = 6;
-    while 0 < turns {
-        if 0 < place {
-            say_number(n / place % 10);
-        }
-        place = place / 10;
-        turns -= 1;
-    }
+    say_number(n / 100_000 % 10);
+    say_number(n / 10_000 % 10);
+    say_number(n / 1_000 % 10);
+    say_number(n / 100 % 10);
+    say_number(n / 10 % 10);
+    say_number(n % 10);
 }
 
 // A value by its word: decimal where it is not too large for that, else its bits.
@@ -58,15 +56,19 @@ fn say_value(word: u64) {
     io::print_hex(STDOUT_FILENO, word, 16);
 }
 
-fn say_values(list: &[u64], at: usize, used: u64) {
-    let mut i: u64 = 0;
-    while i < used && i < 4 {
-        if 0 < i {
-            say(b", ");
-        }
-        say_value(words::word_from(list, at, 4 + i as usize));
-        i += 1;
+// A value after the first, where it is used.
+fn say_next(list: &[u64], at: usize, k: usize, used: bool) {
+    if used {
+        say(b", ");
+        say_value(words::word_from(list, at, k));
     }
+}
+
+fn say_values(list: &[u64], at: usize, used: u64) {
+    say_value(words::word_from(list, at, 4));
+    say_next(list, at, 5, 1 < used);
+    say_next(list, at, 6, 2 < used);
+    say_next(list, at, 7, 3 < used);
 }
 
 // How far back: this bar, or so many bars.
@@ -138,6 +140,16 @@ fn say_line(t: &[u8], list: &[u64], at: usize, last: bool) {
     say(b"\n");
 }
 
+fn say_lines(t: &[u8], list: &[u64], count: usize)
+    requires { ⌜ count ≤ 32 ⌝ }
+{
+    let mut i: usize = 0;
+    while i < count {
+        say_line(t, list, 8 * i, i + 1 == count);
+        i += 1;
+    }
+}
+
 // The tree, what it said, and its lines.
 pub(crate) fn say_chain(t: &[u8], tree: u64, list: &[u64], count: usize) {
     names::say_tree(tree);
@@ -150,9 +162,9 @@ pub(crate) fn say_chain(t: &[u8], tree: u64, list: &[u64], count: usize) {
     } else {
         say(b" said no\n");
     }
-    let mut i: usize = 0;
-    while i < count && i < 32 {
-        say_line(t, list, 8 * i, i + 1 == count);
-        i += 1;
+    if 32 < count {
+        say_lines(t, list, 32);
+    } else {
+        say_lines(t, list, count);
     }
 }

@@ -4,8 +4,6 @@
 mod lines;
 mod names;
 
-use lines::say;
-
 // The words of the longest line, the bytes of the largest table and a bit more, and the words of the rows.
 const LINE: usize = 8192;
 
@@ -13,63 +11,68 @@ const TABLE: usize = 8192;
 
 const LINES: usize = 256;
 
-// A line of the input by its first word.
-const ROWS: u64 = 0;
+// Where the sizes of what was lent stand: the table's bytes, the rows' words.
+const TABLE_SIZE: usize = 0;
 
-const GIVEN_TABLE: u64 = 0x1f;
-
-// What was lent: how many bytes the table has, and how many words the rows.
-struct Lent {
-    table: usize,
-    rows: usize,
-}
+const ROWS_SIZE: usize = 1;
 
 // Byte i of the bytes that a line's words hold from its third on, eight each, the first in the highest place.
 fn byte_of(line: &[u64], i: usize) -> u8 {
     let word = words::word_from(line, 2, i / 8);
-    let mut place = 7 - i % 8;
-    let mut moved = word;
-    while 0 < place {
-        moved = moved / 256;
-        place -= 1;
-    }
+    let moved = match i % 8 {
+        0 => word / 0x100_0000_0000_0000,
+        1 => word / 0x1_0000_0000_0000,
+        2 => word / 0x100_0000_0000,
+        3 => word / 0x1_0000_0000,
+        4 => word / 0x100_0000,
+        5 => word / 0x1_0000,
+        6 => word / 0x100,
+        _ => word,
+    };
     (moved % 256) as u8
 }
 
-// The bytes of a line into the room, and how many.
-fn take_bytes(room: &mut [u8], line: &[u64]) -> usize {
+// The bytes of a line into the table's room.
+fn lend_table(room: &mut [u8], line: &[u64]) {
     let n = words::word(line, 1) as usize;
     let mut i = 0;
     while i < room.len() && i < n {
         room[i] = byte_of(line, i);
         i += 1;
     }
-    i
 }
 
-// The words of a line into the room, and how many.
-fn take_words(room: &mut [u64], line: &[u64]) -> usize {
+// The words of a line into the rows' room.
+fn lend_rows(room: &mut [u64], line: &[u64]) {
     let n = words::word(line, 1) as usize;
     let mut i = 0;
     while i < room.len() && i < n {
         room[i] = words::word_from(line, 2, i);
         i += 1;
     }
-    i
 }
 
+// The first n bytes, and the first n words; none where there are fewer.
 fn first_bytes(room: &[u8], n: usize) -> &[u8] {
+    let from: usize = 0;
     if room.len() < n {
-        return room;
+        return &room[from..from];
     }
-    &room[..n]
+    &room[from..n]
 }
 
 fn first_words(room: &[u64], n: usize) -> &[u64] {
+    let from: usize = 0;
     if room.len() < n {
-        return room;
+        return &room[from..from];
     }
-    &room[..n]
+    &room[from..n]
+}
+
+fn set_size(sizes: &mut [u64], at: usize, line: &[u64]) {
+    if at < sizes.len() {
+        sizes[at] = words::word(line, 1);
+    }
 }
 
 // Asks why, and says the answer.
@@ -88,55 +91,48 @@ fn ask(table: &[u8], rows: &[u64], line: &[u64]) {
         &mut list,
         &mut count,
     );
-    if answer != 0 {
+    if answer == 0 {
+        lines::say_chain(table, tree, &list, count as usize);
+    } else {
         lines::say_refused(answer);
-        return;
     }
-    lines::say_chain(table, tree, &list, count as usize);
 }
 
 // Takes a line: lends, or asks.
-fn take(line: &[u64], lent: Lent, table: &mut [u8], rows: &mut [u64]) -> Lent {
+fn take(line: &[u64], sizes: &mut [u64], table: &mut [u8], rows: &mut [u64]) {
     match words::word(line, 0) {
-        ROWS => {
-            let n = take_words(rows, line);
-            Lent {
-                table: lent.table,
-                rows: n,
-            }
+        0 => {
+            set_size(sizes, ROWS_SIZE, line);
+            lend_rows(rows, line);
         }
-        GIVEN_TABLE => {
-            let n = take_bytes(table, line);
-            Lent {
-                table: n,
-                rows: lent.rows,
-            }
+        0x1f => {
+            set_size(sizes, TABLE_SIZE, line);
+            lend_table(table, line);
         }
-        _ => {
-            ask(
-                first_bytes(table, lent.table),
-                first_words(rows, lent.rows),
-                line,
-            );
-            lent
-        }
+        _ => ask(
+            first_bytes(table, words::word(sizes, TABLE_SIZE) as usize),
+            first_words(rows, words::word(sizes, ROWS_SIZE) as usize),
+            line,
+        ),
     }
+}
+
+// Takes the next line, and says whether there was one: at the end of the input there is no word, and rows of none are lent.
+fn take_next(room: &mut [u64], sizes: &mut [u64], table: &mut [u8], rows: &mut [u64]) -> bool {
+    let n = text::read_line(room);
+    let line = first_words(room, n);
+    take(line, sizes, table, rows);
+    n > 0
 }
 
 // A proved loop has to end, and nothing says that the input does, so the loop counts its turns down from a number that no run uses up.
 fn main() {
     let mut line = [0u64; LINE];
+    let mut sizes = [0u64; 2];
     let mut table = [0u8; TABLE];
     let mut rows = [0u64; LINE];
-    let mut lent = Lent { table: 0, rows: 0 };
     let mut turns = u64::MAX;
-    while 0 < turns {
-        let n = text::read_line(&mut line);
-        if n == 0 {
-            return;
-        }
-        lent = take(first_words(&line, n), lent, &mut table, &mut rows);
+    while turns > 0 && take_next(&mut line, &mut sizes, &mut table, &mut rows) {
         turns -= 1;
     }
-    say(b"");
 }

@@ -56,7 +56,8 @@ fn say_price(selector: u8) {
 // A leaf: a constant, a slot or a price.
 pub(crate) fn say_leaf(t: &[u8], node: u64) {
     let n = node_at(t, node as usize % 256);
-    match n.kind {
+    let kind = n.kind;
+    match kind {
         kinds::CONST => say(b"a constant"),
         kinds::REF => {
             say(b"slot ");
