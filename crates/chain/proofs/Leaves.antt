@@ -5,13 +5,15 @@ use mathlib.Core.Bool.{Bool, true, false}
 use mathlib.Core.List.{List}
 use native.Mathlib.Omega.{arith}
 use Rattle.rows.specs.History.{History}
+use Rattle.table.specs.declared.series.Series.{Series}
+use Rattle.table.specs.Series.{asOperand, seriesIn}
 use Rattle.rules.specs.declared.shapes.OperandShape.{OperandShape}
-use Rattle.rules.specs.declared.shapes.OperandShape.the-variants.{Const, Ref, Price, Prev, Arith, NoOperand}
+use Rattle.rules.specs.declared.shapes.OperandShape.the-variants.{Const, Ref, Price, Prev, Arith, Extreme, NoOperand}
 use Rattle.rules.specs.Shapes.{endIn, operandShape}
 use Rattle.rules.specs.Flat.{growOperand, operandAt}
 use Rattle.rules.proofs.Grown.{no-operand, grown-operand}
 use Rattle.chain.specs.declared.Found.{Found}
-use Rattle.chain.specs.Missing.{orElse, leafGone, missingIn}
+use Rattle.chain.specs.Missing.{orElse, leafGone, newestGone, missingIn}
 use Rattle.chain.specs.Flat.{byEnds}
 use Rattle.chain.specs.Laws.Shapes.{OperandPlaced, operand-placed}
 
@@ -22,6 +24,7 @@ isLeaf (Ref slot) = true
 isLeaf (Price selector) = true
 isLeaf (Prev a n) = false
 isLeaf (Arith kind a b) = false
+isLeaf (Extreme kind a n) = false
 isLeaf NoOperand = true
 
 module _ (t ends : List ℕ) (h : History) (i bar back left : ℕ) (r : Found) where
@@ -32,13 +35,15 @@ module _ (t ends : List ℕ) (h : History) (i bar back left : ℕ) (r : Found) w
 
   module _ (some : left ≡ 0 → ⊥) (s : OperandShape) (e : s ≡ operandShape t ends i) where
     leaf-same : (u : OperandShape) → isLeaf u ≡ true
-        → missingIn (byEnds ends) h (growOperand (operandAt (left - 1) t ends) u) i bar back ≡ leafGone h (growOperand (operandAt (left - 1) t ends) u) i bar back
+        → missingIn (byEnds ends) h (growOperand (seriesIn t) (operandAt (left - 1) t ends) u) i bar back
+        ≡ leafGone h (growOperand (seriesIn t) (operandAt (left - 1) t ends) u) i bar back
     unfolding isLeaf missingIn growOperand
     leaf-same (Const bits) l = refl
     leaf-same (Ref slot) l = refl
     leaf-same (Price selector) l = refl
     leaf-same (Prev a n) l = absurd (let z : _≡_ {A = ℕ} 0 1 = cc in omega arith)
     leaf-same (Arith kind a b) l = absurd (let z : _≡_ {A = ℕ} 0 1 = cc in omega arith)
+    leaf-same (Extreme kind a n) l = absurd (let z : _≡_ {A = ℕ} 0 1 = cc in omega arith)
     leaf-same NoOperand l = refl
 
     pub gone-leaf : (u : OperandShape) → s ≡ u → isLeaf u ≡ true → r ≡ leafGone h (operandAt left t ends i) i bar back
@@ -63,3 +68,11 @@ module _ (t ends : List ℕ) (h : History) (i bar back left : ℕ) (r : Found) w
         let first = p ∙ ap (λ (j : ℕ). missingIn (byEnds ends) h (operandAt (left - 1) t ends a) j bar back) (at .0) in
         let second = q ∙ ap (λ (j : ℕ). missingIn (byEnds ends) h (operandAt (left - 1) t ends b) j bar back) (at .1) in
         rw (grown-operand t ends i left some s (Arith kind a b) e f) (rw (first, second) at o)
+
+    pub gone-extreme : (kind a n m : ℕ) (over : Series) → s ≡ Extreme kind a n → over ≡ seriesIn t a → m ≡ n - 1
+        → r ≡ newestGone h (asOperand over) a bar back m → r ≡ missingIn (byEnds ends) h (operandAt left t ends i) i bar back
+    unfolding missingIn growOperand OperandPlaced
+    gone-extreme kind a n m over f o k p =
+        let at = rw (sym e ∙ f) at (operand-placed t ends i) in
+        rw (grown-operand t ends i left some s (Extreme kind a n) e f)
+        (rw (o, k) at p ∙ ap (λ (j : ℕ). newestGone h (asOperand (seriesIn t a)) j bar back (n - 1)) (at .0))

@@ -1,4 +1,5 @@
 pub mod Leaves
+pub mod Newest
 pub mod Showing
 pub mod Going
 pub mod Walking

@@ -60,7 +60,8 @@ module _ (h : History) (s : PositionState) (bar : ℕ) where
   first-is {answer} (this c cs j e) = rw (e, beq-same answer)
   first-is {answer} (later c cs j d k e f) = rw (e, beq-other answer) (first-is f)
 
-  goes-is : {c : Condition} {i : ℕ} {d : Condition} {k : ℕ} → GoesTo c i d k → chain inTable h s c i bar ≡ lineOf inTable h s c i bar ∷ chain inTable h s d k bar
+  goes-is : {c : Condition} {i : ℕ} {d : Condition} {k : ℕ} → GoesTo c i d k
+      → chain inTable h s c i bar ≡ lineOf inTable h s c i bar ∷ chain inTable h s d k bar
   unfolding chain
   goes-is (of-all cs i d k f) = rw (first-is f)
   goes-is (of-any cs i d k f) = rw (first-is f)

@@ -1,5 +1,5 @@
 -- The leaves that a test looks at, in the request's order, and what is said of them. Definitions only.
-use Prim.Native.Nat.{ℕ, _+_, _-_, _<_}
+use Prim.Native.Nat.{ℕ, zero, suc, _+_, _-_, _<_}
 use mathlib.Core.Path.{_≡_}
 use mathlib.Core.Bool.{Bool, true, false, not, cond}
 use mathlib.Core.Logic.{_⊎_}
@@ -7,7 +7,9 @@ use mathlib.Core.List.{List, [], _∷_, _++_}
 use lib.Dec.{ltb}
 use lib.Ieee.{Float}
 use Rattle.rows.specs.History.{History}
-use Rattle.table.specs.Trees.{Operand, const, ref, price, prev, arith, Condition, compare, cross, between, trend, every, any, negated, inPosition, barsSince}
+use Rattle.table.specs.Trees.{Operand, const, ref, price, prev, arith, extreme, Condition, compare, cross, between, trend, every, any, negated}
+use Rattle.table.specs.Trees.{inPosition, barsSince}
+use Rattle.table.specs.Series.{asOperand}
 use Rattle.table.specs.Writing.{nodesIn}
 use Rattle.rules.specs.declared.Value.{Value}
 use Rattle.rules.specs.declared.Value.the-variants.{Missing, Number}
@@ -25,6 +27,11 @@ pub record Look : Type 0 where
 abbrev pub look : Operand → ℕ → ℕ → Look
 look leaf node back = record { leaf = leaf; node = node; back = back }
 
+-- "names its child at the newest missing bar" (request 8): a leaf so many bars back, then the m bars before that
+unfoldable pub looksBack : Operand → ℕ → ℕ → ℕ → List Look
+looksBack a i back zero = look a i back ∷ []
+looksBack a i back (suc m) = look a i back ∷ looksBack a i (back + 1) m
+
 -- "in table order": those of an operand whose node is number i, looked at so many bars back
 unfoldable pub looksIn : Operand → ℕ → ℕ → List Look
 looksIn (const bits) i back = look (const bits) i back ∷ []
@@ -32,6 +39,7 @@ looksIn (ref slot) i back = look (ref slot) i back ∷ []
 looksIn (price selector) i back = look (price selector) i back ∷ []
 looksIn (prev a n) i back = looksIn a (i + 1) (back + n)
 looksIn (arith kind a b) i back = looksIn a (i + 1) back ++ looksIn b (i + 1 + nodesIn a) back
+looksIn (extreme kind s n) i back = looksBack (asOperand s) (i + 1) back (n - 1)
 
 -- "(this bar's before an earlier bar's)": those of a test whose node is number i
 unfoldable pub looksOf : Condition → ℕ → List Look

@@ -1,9 +1,10 @@
 -- "the first missing leaf in table order .. and how many bars back it looked". Definitions only.
-use Prim.Native.Nat.{ℕ, _+_, _-_, _*_, _≤_}
+use Prim.Native.Nat.{ℕ, zero, suc, _+_, _-_, _*_, _≤_}
 use mathlib.Core.Bool.{cond}
 use lib.Dec.{ltb}
 use Rattle.rows.specs.History.{History}
-use Rattle.table.specs.Trees.{Operand, const, ref, price, prev, arith}
+use Rattle.table.specs.Series.{asOperand}
+use Rattle.table.specs.Trees.{Operand, const, ref, price, prev, arith, extreme}
 use Rattle.table.specs.Writing.{nodesIn}
 use Rattle.rules.specs.declared.Value.{Value}
 use Rattle.rules.specs.declared.Value.the-variants.{Missing, Number}
@@ -32,6 +33,11 @@ goneIf i back (Number x) = Nowhere
 unfoldable pub leafGone : History → Operand → ℕ → ℕ → ℕ → Found
 leafGone h a i bar back = cond (ltb bar back) (Leaf i back) (goneIf i back (value h a (bar - back)))
 
+-- "Request 4 names its child at the newest missing bar" (request 8): node i, a leaf, so many bars back and the m before that.
+unfoldable pub newestGone : History → Operand → ℕ → ℕ → ℕ → ℕ → Found
+newestGone h a i bar back zero = leafGone h a i bar back
+newestGone h a i bar back (suc m) = orElse (leafGone h a i bar back) (newestGone h a i bar (back + 1) m)
+
 -- The first missing leaf of an operand whose node is number i. "how many bars back it looked": the Prevs above the leaf add up.
 -- A Const is a leaf, missing where its row is.
 unfoldable pub missingIn : Numbering → History → Operand → ℕ → ℕ → ℕ → Found
@@ -41,6 +47,7 @@ missingIn after h (price selector) i bar back = leafGone h (price selector) i ba
 missingIn after h (prev a n) i bar back = missingIn after h a (i + 1) bar (back + n)
 missingIn after h (arith kind a b) i bar back =
     orElse (missingIn after h a (i + 1) bar back) (missingIn after h b (after (i + 1) (nodesIn a)) bar back)
+missingIn after h (extreme kind s n) i bar back = newestGone h (asOperand s) (i + 1) bar back (n - 1)
 
 -- of two operands in table order, the first at node i
 unfoldable pub missingInTwo : Numbering → History → Operand → Operand → ℕ → ℕ → ℕ → Found

@@ -1,6 +1,6 @@
 -- Each line is true of the rule's meaning. That its answer is what the condition at its node says is how a line is made (lineOf); here:
 -- its values are what the test compares and none of its leaves is missing, its missing leaf is the first that is. Assumes nothing.
-use Prim.Native.Nat.{ℕ, _+_, _-_}
+use Prim.Native.Nat.{ℕ, zero, suc, _+_, _-_}
 use mathlib.Core.Path.{_≡_, refl, sym}
 use mathlib.Core.Bool.{Bool, true, false, cond}
 use mathlib.Core.List.{List, [], _∷_, _++_}
@@ -9,8 +9,9 @@ use native.Mathlib.Omega.{arith}
 use lib.Dec.{ltb, eqb}
 use borrow.Author.Tests.{eqb-true, ltb-true}
 use Rattle.rows.specs.History.{History}
-use Rattle.table.specs.Trees.{Operand, const, ref, price, prev, arith as sums, Condition, compare, cross, between, trend, every, any, negated}
+use Rattle.table.specs.Trees.{Operand, const, ref, price, prev, arith as sums, extreme, Condition, compare, cross, between, trend, every, any, negated}
 use Rattle.table.specs.Trees.{inPosition, barsSince}
+use Rattle.table.specs.Series.{asOperand}
 use Rattle.table.specs.Writing.{nodesIn}
 use Rattle.rules.specs.declared.Value.{Value}
 use Rattle.rules.specs.declared.Value.the-variants.{Missing, Number}
@@ -21,9 +22,10 @@ use Rattle.rules.specs.Values.{held, countedSince}
 use Rattle.rules.specs.Meaning.{value, holds}
 use Rattle.chain.specs.declared.Found.{Found}
 use Rattle.chain.specs.declared.Found.the-variants.{Nowhere, Leaf}
-use Rattle.chain.specs.Missing.{inTable, orElse, goneIf, leafGone, missingIn, missingInTwo, missingInThree}
+use Rattle.chain.specs.Missing.{inTable, orElse, goneIf, leafGone, newestGone, missingIn, missingInTwo, missingInThree}
 use Rattle.chain.specs.Chain.{atFirstBar, tooFewBars, position, noEntry, shownBy, shownFrom, shownSince, shown}
-use Rattle.chain.specs.Looks.{Look, look, looksIn, looksOf, valuesOf, seen, IsThere, number, FirstMissing, this, later, NoneMissing, none-left, and-none}
+use Rattle.chain.specs.Looks.{Look, look, looksBack, looksIn, looksOf, valuesOf, seen, IsThere, number}
+use Rattle.chain.specs.Looks.{FirstMissing, this, later, NoneMissing, none-left, and-none}
 use Rattle.chain.specs.Looks.{joins, TooEarly, True}
 
 module _ (h : History) (bar : ℕ) where
@@ -57,6 +59,12 @@ module _ (h : History) (bar : ℕ) where
       go true = sym (or-nowhere (Leaf i back))
       go false = sym (or-nowhere (goneIf i back (value h a (bar - back))))
 
+  back-in-order : (a : Operand) (i back m : ℕ) → newestGone h a i bar back m ≡ firstOf (looksBack a i back m)
+  unfolding newestGone looksBack
+  back-in-order a i back zero = leaf-first a i back
+  back-in-order a i back (suc m) =
+      rw (leaf-first a i back, back-in-order a i (back + 1) m) (sym (first-two (look a i back ∷ []) (looksBack a i (back + 1) m)))
+
   in-order : (a : Operand) (i back : ℕ) → missingIn inTable h a i bar back ≡ firstOf (looksIn a i back)
   unfolding missingIn looksIn
   in-order (const bits) i back = leaf-first (const bits) i back
@@ -65,6 +73,7 @@ module _ (h : History) (bar : ℕ) where
   in-order (prev a n) i back = in-order a (i + 1) (back + n)
   in-order (sums kind a b) i back =
       rw (in-order a (i + 1) back, in-order b (i + 1 + nodesIn a) back) (sym (first-two (looksIn a (i + 1) back) (looksIn b (i + 1 + nodesIn a) back)))
+  in-order (extreme kind s n) i back = back-in-order (asOperand s) (i + 1) back (n - 1)
 
   two-in-order : (a b : Operand) (i back : ℕ) → missingInTwo inTable h a b i bar back ≡ firstOf (looksIn a i back ++ looksIn b (i + nodesIn a) back)
   unfolding missingInTwo
@@ -103,7 +112,8 @@ module _ (h : History) (bar : ℕ) where
     by-true c i Nowhere vs e v = (v, none-true (looksOf c i) (sym e))
 
     cross-true : (kind : ℕ) (a b : Operand) (i : ℕ) (first : Bool) → eqb bar 0 ≡ first
-        → True h s (cross kind a b) i bar (cond first atFirstBar (shownBy (orElse (missingInTwo inTable h a b (i + 1) bar 0) (missingInTwo inTable h a b (i + 1) bar 1))
+        → True h s (cross kind a b) i bar (cond first atFirstBar
+        (shownBy (orElse (missingInTwo inTable h a b (i + 1) bar 0) (missingInTwo inTable h a b (i + 1) bar 1))
         (value h a bar ∷ value h b bar ∷ value h a (bar - 1) ∷ value h b (bar - 1) ∷ [])))
     cross-true kind a b i true e = unfold True holds in (eqb-true bar 0 e, rw e)
     cross-true kind a b i false e = unfold looksOf valuesOf in

@@ -15,15 +15,17 @@ use Rattle.table.specs.declared.answer.Answer.the-variants.{Accepted}
 use Rattle.table.specs.Header.{slots, count, root}
 use Rattle.table.specs.Checked.{checked}
 use Rattle.table.specs.Reading.{treeOf}
-use Rattle.table.specs.Trees.{Operand, const, ref, price, prev, arith as sums, Condition, Conditions, compare, cross, between, trend, every, any, negated}
-use Rattle.table.specs.Trees.{inPosition, barsSince, none, more, reach, reachOf, reachOfAll}
+use Rattle.table.specs.Trees.{Operand, const, ref, price, prev, arith as sums, extreme, Condition, Conditions, compare, cross, between, trend, every, any}
+use Rattle.table.specs.Trees.{negated, inPosition, barsSince, none, more, reach, reachOf, reachOfAll}
 use Rattle.table.specs.Writing.{nodesIn, nodesOf}
 use Rattle.table.specs.Laws.Reach.{rows-are}
+use Rattle.table.specs.Series.{asOperand}
+use Rattle.table.specs.Laws.Series.{leaf-reach}
 use Rattle.rules.specs.declared.PositionState.{PositionState}
 use Rattle.rules.specs.Meaning.{newest}
 use Rattle.rules.specs.Window.{Without, operand-same, condition-same, without-first}
 use Rattle.rules.specs.WindowAnswers.{window-whole}
-use Rattle.chain.specs.Missing.{inTable, leafGone, missingIn, missingInTwo, missingInThree}
+use Rattle.chain.specs.Missing.{inTable, leafGone, newestGone, missingIn, missingInTwo, missingInThree}
 use Rattle.chain.specs.Chain.{shown, lineOf, chain, firstWith}
 use Rattle.chain.specs.Explained.{explanation, explainedBy, explained}
 
@@ -37,6 +39,11 @@ module _ (h w : History) (s : ℕ) (part : Without h w s) where
       let at : s + bar - back ≡ s + (bar - back) = omega arith in
       rw (far, near, at, operand-same h w s part a (bar - back) (omega arith))
 
+  newest-same : (a : Operand) (i bar back m : ℕ) → back + m + reach a ≤ bar → newestGone h a i (s + bar) back m ≡ newestGone w a i bar back m
+  unfolding newestGone
+  newest-same a i bar back zero r = leaf-same a i bar back (omega arith)
+  newest-same a i bar back (suc m) r = rw (leaf-same a i bar back (omega arith), newest-same a i bar (back + 1) m (omega arith))
+
   missing-same : (a : Operand) (i bar back : ℕ) → back + reach a ≤ bar → missingIn inTable h a i (s + bar) back ≡ missingIn inTable w a i bar back
   unfolding missingIn reach
   missing-same (const bits) i bar back r = leaf-same (const bits) i bar back r
@@ -45,6 +52,7 @@ module _ (h w : History) (s : ℕ) (part : Without h w s) where
   missing-same (prev a n) i bar back r = missing-same a (i + 1) bar (back + n) (omega arith)
   missing-same (sums kind a b) i bar back r =
       rw (missing-same a (i + 1) bar back (omega arith), missing-same b (i + 1 + nodesIn a) bar back (omega arith))
+  missing-same (extreme kind x n) i bar back r = newest-same (asOperand x) (i + 1) bar back (n - 1) (omega (arith, leaf-reach x))
 
   two-same : (a b : Operand) (i bar back : ℕ) → back + reach a ≤ bar → back + reach b ≤ bar
       → missingInTwo inTable h a b i (s + bar) back ≡ missingInTwo inTable w a b i bar back
@@ -174,7 +182,9 @@ pub explanation-window : (t : List ℕ) (n r : ℕ) → checked t ≡ Accepted n
 unfolding explanation
 explanation-window t n r ok D enough x rows s = high (leb trees x) refl
   where
-    same : x < 4 → chain inTable (historyOf (slots t) (lastRows (slots t) D rows)) s (treeOf t x) (root t x) (newest (historyOf (slots t) (lastRows (slots t) D rows)))
+    same : x < 4
+        → chain inTable (historyOf (slots t) (lastRows (slots t) D rows)) s (treeOf t x) (root t x)
+        (newest (historyOf (slots t) (lastRows (slots t) D rows)))
         ≡ chain inTable (historyOf (slots t) rows) s (treeOf t x) (root t x) (newest (historyOf (slots t) rows))
     same l = chain-window (slots t) D rows s (treeOf t x) (root t x) (omega (arith, tree-near t n r ok x l))
 

@@ -5,10 +5,15 @@ use rules::Value;
 use rules::operands::eval_operand;
 use rules::shapes;
 use rules::shapes::OperandShape;
+use rules::values;
+use table::series::Series;
+use table::series::series_in;
 ghost use mathlib.Core.Path.{_≡_};
+ghost use Prim.Native.Nat.{_+_, _-_, _≤_};
 ghost use Rattle.rows.specs.History.{historyOf};
+ghost use Rattle.table.specs.Series.{asOperand};
 ghost use Rattle.rules.specs.Flat.{operandAt};
-ghost use Rattle.chain.specs.Missing.{Near, leafGone, missingIn};
+ghost use Rattle.chain.specs.Missing.{Near, leafGone, newestGone, missingIn};
 ghost use Rattle.chain.specs.Missing as Missing;
 ghost use Rattle.chain.specs.Flat.{byEnds};
 
@@ -44,6 +49,65 @@ fn leaf_gone(
     }
 }
 
+// One less, 0 for 0.
+fn one_less(n: u64) -> usize
+    ensures { λ r. ⌜ r ≡ n - 1 ⌝ }
+{
+    if n == 0 {
+        return 0;
+    }
+    (n - 1) as usize
+}
+
+// Node i, a price or a slot, where it is missing `back` bars before `bar`.
+fn series_gone(rows: &[u64], slots: usize, over: Series, i: usize, bar: usize, back: usize) -> Found
+    ensures { λ r. ⌜ r ≡ leafGone (historyOf slots (now (rows .entry))) (asOperand over) i bar back ⌝ }
+{
+    if bar < back {
+        return Found::Leaf(i, back);
+    }
+    let at = bar - back;
+    if rows::row_count(rows, slots) <= at {
+        return Found::Leaf(i, back);
+    }
+    match over {
+        Series::Price(_) => Found::Nowhere,
+        Series::Slot(slot) => {
+            match values::slot_at(rows, at * (words::limits::ROW_FIXED + slots), slot) {
+                Value::Missing => Found::Leaf(i, back),
+                Value::Number(_) => Found::Nowhere,
+            }
+        }
+    }
+}
+
+// Node i at the newest bar where it is missing, of the one `back` bars before `bar` and the `more` before that.
+fn newest_gone(
+    rows: &[u64],
+    slots: usize,
+    over: Series,
+    i: usize,
+    bar: usize,
+    back: usize,
+    more: usize,
+) -> Found
+    requires { ⌜ back + more ≤ 1099511627776 ⌝ }
+    ensures { λ r. ⌜ r ≡ newestGone (historyOf slots (now (rows .entry))) (asOperand over) i bar back more ⌝ }
+{
+    let mut at = back;
+    let mut m = more;
+    while 0 < m {
+        match series_gone(rows, slots, over, i, bar, at) {
+            Found::Leaf(node, far) => return Found::Leaf(node, far),
+            Found::Nowhere => {
+                at += 1;
+                m -= 1;
+            }
+        }
+    }
+    series_gone(rows, slots, over, i, bar, at)
+}
+
 // The first missing leaf of the operand at node i, looked at `back` bars before `bar`.
 pub(crate) fn first_missing(
     t: &[u8],
@@ -74,6 +138,10 @@ pub(crate) fn first_missing(
             let x = first_missing(t, ends, rows, slots, a, bar, back, left - 1);
             let y = first_missing(t, ends, rows, slots, b, bar, back, left - 1);
             or_else(x, y)
+        }
+        OperandShape::Extreme(_, a, n) => {
+            let over = series_in(t, a);
+            newest_gone(rows, slots, over, a, bar, back, one_less(n))
         }
         OperandShape::NoOperand => leaf_gone(t, ends, rows, slots, i, bar, back, left),
     }

@@ -30,7 +30,8 @@ one-put list w at m rest eight fits =
     let next : 8 * at + length w ≡ 8 * (at + 1) = omega arith in
     let wrote : overwrite list (8 * at) w ≡ before ++ w ++ drop (8 * (at + 1)) list =
     overwrite-fits list (8 * at) w (omega arith) ∙ ap (λ (k : ℕ). before ++ w ++ drop k list) next in
-    let first : take (8 * (at + 1)) (before ++ w ++ drop (8 * (at + 1)) list) ≡ before ++ w = take-at (before ++ w) (drop (8 * (at + 1)) list) (8 * (at + 1)) own in
+    let first : take (8 * (at + 1)) (before ++ w ++ drop (8 * (at + 1)) list) ≡ before ++ w =
+    take-at (before ++ w) (drop (8 * (at + 1)) list) (8 * (at + 1)) own in
     let past : 8 * (at + 1 + m) ≡ 8 * (at + 1) + 8 * m = omega arith in
     let last : drop (8 * (at + 1 + m)) (before ++ w ++ drop (8 * (at + 1)) list) ≡ drop (8 * (at + 1 + m)) list =
     ap (λ (k : ℕ). drop k (before ++ w ++ drop (8 * (at + 1)) list)) past

@@ -13,8 +13,8 @@ use Rattle.table.specs.Header.{slots, count, root}
 use Rattle.table.specs.Checked.{checked}
 use Rattle.table.specs.Ends.{endsBeside}
 use Rattle.table.specs.Reading.{treeOf}
-use Rattle.table.specs.Trees.{Operand, const, ref, price, prev, arith as sums, Condition, Conditions, compare, cross, between, trend, every, any, negated}
-use Rattle.table.specs.Trees.{inPosition, barsSince, none, more}
+use Rattle.table.specs.Trees.{Operand, const, ref, price, prev, arith as sums, extreme, Condition, Conditions, compare, cross, between, trend, every, any}
+use Rattle.table.specs.Trees.{negated, inPosition, barsSince, none, more}
 use Rattle.table.specs.Writing.{nodesIn, nodesOf}
 use Rattle.rules.specs.declared.PositionState.{PositionState}
 use Rattle.rules.specs.Meaning.{newest, holds}
@@ -35,6 +35,7 @@ module _ (ends : List ℕ) (h : History) where
   missing-same (prev a n) i bar back p = missing-same a (i + 1) bar (back + n) (p .1)
   missing-same (sums kind a b) i bar back p =
       rw (operand-end ends a (i + 1) (p .1), missing-same a (i + 1) bar back (p .1), missing-same b _ bar back (p .2))
+  missing-same (extreme kind s n) i bar back p = refl
 
   two-same : (a b : Operand) (i bar back : ℕ) → SpacedIn ends a i → SpacedIn ends b (inTable i (nodesIn a))
       → missingInTwo (byEnds ends) h a b i bar back ≡ missingInTwo inTable h a b i bar back

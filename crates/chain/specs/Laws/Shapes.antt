@@ -15,7 +15,7 @@ use Rattle.table.specs.Kinds.{kindOf}
 use Rattle.table.specs.Nodes.{nodeAt}
 use Rattle.table.specs.Laws.AcceptedWritten.{u32-small}
 use Rattle.rules.specs.declared.shapes.OperandShape.{OperandShape}
-use Rattle.rules.specs.declared.shapes.OperandShape.the-variants.{Const, Ref, Price, Prev, Arith, NoOperand}
+use Rattle.rules.specs.declared.shapes.OperandShape.the-variants.{Const, Ref, Price, Prev, Arith, Extreme, NoOperand}
 use Rattle.rules.specs.declared.shapes.ConditionShape.{ConditionShape}
 use Rattle.rules.specs.declared.shapes.ConditionShape.the-variants.{Compare, Cross, Between, Trend, Group, Not, InPosition, BarsSince, NoCondition}
 use Rattle.rules.specs.Shapes.{endIn, operandOf, conditionOf, operandShape, conditionShape}
@@ -27,6 +27,7 @@ OperandPlaced t ends i (Ref slot) = Unit
 OperandPlaced t ends i (Price selector) = Unit
 OperandPlaced t ends i (Prev a n) = (a ≡ i + 1) × (n ≡ nodeAt t i .n)
 OperandPlaced t ends i (Arith kind a b) = (a ≡ i + 1) × (b ≡ endIn ends (i + 1))
+OperandPlaced t ends i (Extreme kind a n) = (a ≡ i + 1) × (n ≡ nodeAt t i .n)
 OperandPlaced t ends i NoOperand = Unit
 
 pub operand-placed : (t ends : List ℕ) (i : ℕ) → OperandPlaced t ends i (operandShape t ends i)
@@ -39,6 +40,7 @@ operand-placed t ends i = test (leb 256 i)
     go AsOperand.Price = tt
     go AsOperand.Prev = (refl, refl)
     go AsOperand.Arith = (refl, refl)
+    go AsOperand.Extreme = (refl, refl)
     go AsOperand.NoOperand = tt
 
     test : (far : Bool)
@@ -88,6 +90,12 @@ number-small t small i = u32-small t small _
 pub prev-small : (t ends : List ℕ) (i : ℕ) (s : OperandShape) → s ≡ operandShape t ends i → Bytes t → (a n : ℕ) → s ≡ Prev a n → n < 4294967296
 unfolding OperandPlaced
 prev-small t ends i s e small a n f =
+    let at = rw (sym e ∙ f) at (operand-placed t ends i) in omega (arith, at .1, number-small t small i)
+
+pub extreme-small : (t ends : List ℕ) (i : ℕ) (s : OperandShape) → s ≡ operandShape t ends i → Bytes t → (kind a n : ℕ) → s ≡ Extreme kind a n
+    → n < 4294967296
+unfolding OperandPlaced
+extreme-small t ends i s e small kind a n f =
     let at = rw (sym e ∙ f) at (operand-placed t ends i) in omega (arith, at .1, number-small t small i)
 
 pub trend-small : (t ends : List ℕ) (i : ℕ) (s : ConditionShape) → s ≡ conditionShape t ends i → Bytes t → (kind a n : ℕ) → s ≡ Trend kind a n

@@ -47,8 +47,8 @@ module _ (after : Numbering) (h : History) (s : PositionState) (bar : ℕ) where
     first-short : (answer : Bool) (cs : Conditions) (j : ℕ) → length (firstWith after h s answer cs j bar) ≤ levelsOfAll cs
     first-short answer none j = omega arith
     first-short answer (more c cs) j =
-        picked (Bool·beq (holds h s c bar) answer) (chain after h s c j bar) (firstWith after h s answer cs (after j (nodesOf c)) bar) (levelsOf c) (levelsOfAll cs)
-        (chain-short c j) (first-short answer cs (after j (nodesOf c)))
+        picked (Bool·beq (holds h s c bar) answer) (chain after h s c j bar) (firstWith after h s answer cs (after j (nodesOf c)) bar)
+        (levelsOf c) (levelsOfAll cs) (chain-short c j) (first-short answer cs (after j (nodesOf c)))
 
 -- AT MOST 32 LINES: "10 if the lent list holds fewer than 32 lines" asks for enough.
 pub few-lines : (t : List ℕ) → Bytes t → (n r : ℕ) → checked t ≡ Accepted n r → (x : ℕ) (rows : List ℕ) (s : PositionState)

@@ -1,25 +1,28 @@
 -- The array of subtree ends numbers an accepted table's nodes as the table does: past a subtree come as many numbers as it has
 -- nodes. Assumes nothing.
 use Prim.Native.Nat.{ℕ, zero, suc, _+_, _-_, _≤_, _<_}
-use mathlib.Core.Path.{_≡_, ap, subst, _∙_}
+use mathlib.Core.Path.{_≡_, refl, sym, ap, subst, _∙_}
+use mathlib.Core.Bool.{true, true≢false}
 use mathlib.Core.List.{List}
 use native.Mathlib.Omega.{arith}
 use lib.ListN.{getD}
+use lib.Dec.{eqb}
 use borrow.Author.Tests.{lt-ltb, lt-leb}
 use Rattle.table.specs.declared.kinds.Kind.{Kind}
 use Rattle.table.specs.declared.answer.Answer.the-variants.{Accepted}
-use Rattle.table.specs.Kinds.{kindOf}
-use Rattle.table.specs.Laws.Kinds.{OperandKind, a-const, a-ref, a-price, a-prev, an-arith, operand-kind}
+use Rattle.table.specs.Kinds.{kindOf, aSeries, extremum}
+use Rattle.table.specs.Laws.Kinds.{OperandKind, a-const, a-ref, a-price, a-prev, an-arith, an-extreme, operand-kind}
 use Rattle.table.specs.Laws.Kinds.{ConditionKind, a-compare, a-cross, a-between, a-trend, an-all, an-any, a-not, a-position, a-count, condition-kind}
 use Rattle.table.specs.Header.{count, root}
-use Rattle.table.specs.Nodes.{nodeAt, sortAt, childCount, childCountAt, childSortAt}
-use Rattle.table.specs.Forest.{Forest, firstTrees, otherTrees, nodeOver, trees, size}
+use Rattle.table.specs.Nodes.{nodeAt, sortAt, childCount, childCountAt, childSortAt, childFits}
+use Rattle.table.specs.Forest.{Forest, firstTrees, otherTrees, nodeOver, trees, size, Fitting, Sorted}
 use Rattle.table.specs.Forest as Forest
 use Rattle.table.specs.Checked.{checked}
 use Rattle.table.specs.Ends.{endsAll, endsBeside, Link, Linked}
+use Rattle.table.specs.Series.{seriesIn}
 use Rattle.table.specs.Reading.{treeOf}
-use Rattle.table.specs.Trees.{Operand, const, ref, price, prev, arith as sums, Condition, Conditions, compare, cross, between, trend, every, any, negated}
-use Rattle.table.specs.Trees.{inPosition, barsSince, none, more}
+use Rattle.table.specs.Trees.{Operand, const, ref, price, prev, arith as sums, extreme, Condition, Conditions, compare, cross, between, trend, every, any}
+use Rattle.table.specs.Trees.{negated, inPosition, barsSince, none, more}
 use Rattle.table.specs.Writing.{nodesIn, nodesOf, nodesOfAll}
 use Rattle.table.specs.Laws.Forest.{left-suc, first-none}
 use Rattle.table.specs.Laws.Accepted.{Whole, tree-whole, ends-of}
@@ -36,6 +39,7 @@ SpacedIn ends (price selector) i = endIn ends i ≡ i + 1
 SpacedIn ends (prev a n) i = (endIn ends i ≡ i + (1 + nodesIn a)) × SpacedIn ends a (i + 1)
 SpacedIn ends (sums kind a b) i =
     (endIn ends i ≡ i + (1 + nodesIn a + nodesIn b)) × SpacedIn ends a (i + 1) × SpacedIn ends b (i + 1 + nodesIn a)
+SpacedIn ends (extreme kind s n) i = endIn ends i ≡ i + 2
 
 unfoldable mutual
   pub Spaced : List ℕ → Condition → ℕ → Type 0
@@ -65,6 +69,7 @@ module _ (ends : List ℕ) where
   operand-end (price selector) i p = p
   operand-end (prev a n) i p = p .0
   operand-end (sums kind a b) i p = p .0
+  operand-end (extreme kind s n) i p = p
 
   pub condition-end : (c : Condition) (i : ℕ) → Spaced ends c i → endIn ends i ≡ i + nodesOf c
   unfolding Spaced nodesOf
@@ -133,15 +138,32 @@ module _ (t ends : List ℕ) (b e : ℕ) (whole : Whole t ends b e) where
   moved : (a : Operand) (v j : ℕ) → v ≡ j → SpacedIn ends a v → SpacedIn ends a j
   moved a v j e p = rw e at p
 
+  -- "one child that must be a Price or a Ref" (request 8): so it has no child of its own
+  series-below : (i : ℕ) → b ≤ i → i < e → i + 1 < e → kindOf (nodeAt t i .kind) ≡ extremum → eqb (kindOf (nodeAt t (i + 1) .kind) .series) aSeries ≡ true
+  unfolding Sorted Fitting trees nodeOver firstTrees childFits childCountAt childCount
+  series-below i lo there near row =
+      let own = rw (left-suc e i there, left-suc e (i + 1) near, row) at (whole .sorted i lo there) in
+      rw row at (own .3)
+
+  no-child : (k : ℕ) → OperandKind (nodeAt t k .kind) → eqb (kindOf (nodeAt t k .kind) .series) aSeries ≡ true → childCountAt t k ≡ 0
+  unfolding childCountAt childCount
+  no-child k (a-const e r) is = absurd (true≢false (sym (rw r at is)))
+  no-child k (a-ref e r) is = rw r
+  no-child k (a-price e r) is = rw r
+  no-child k (a-prev e r) is = absurd (true≢false (sym (rw r at is)))
+  no-child k (an-arith r) is = absurd (true≢false (sym (rw r at is)))
+  no-child k (an-extreme r) is = absurd (true≢false (sym (rw r at is)))
+
   -- one level of an operand, where the level below is spaced
   operand-level : (left : ℕ) → ((i : ℕ) → Stands t e i 1 1 left → b ≤ i → SpacedIn ends (operandAt left t ends i) i)
       → (i : ℕ) → Stands t e i 1 1 (suc left) → b ≤ i → OperandKind (nodeAt t i .kind)
-      → SpacedIn ends (growOperand (operandAt left t ends) (operandShape t ends i)) i
+      → SpacedIn ends (growOperand (seriesIn t) (operandAt left t ends) (operandShape t ends i)) i
   unfolding growOperand operandShape operandOf childCount past SpacedIn
   operand-level left below i here lo kind = rw (lt-leb 256 i (omega (arith, whole .small, node-there t e i 0 1 (suc left) here))) (go kind)
     where
       go : OperandKind (nodeAt t i .kind)
-          → SpacedIn ends (growOperand (operandAt left t ends) (operandOf (kindOf (nodeAt t i .kind) .operand) (nodeAt t i) (i + 1) (endIn ends (i + 1)))) i
+          → SpacedIn ends (growOperand (seriesIn t) (operandAt left t ends)
+          (operandOf (kindOf (nodeAt t i .kind) .operand) (nodeAt t i) (i + 1) (endIn ends (i + 1)))) i
       go (a-const k row) = rw row (below-by i 1 left _ here lo row .1)
       go (a-ref k row) = rw row (below-by i 1 left _ here lo row .1)
       go (a-price k row) = rw row (below-by i 1 left _ here lo row .1)
@@ -155,7 +177,14 @@ module _ (t ends : List ℕ) (b e : ℕ) (whole : Whole t ends b e) where
           let a = below (i + 1) (stands-one t e (i + 1) 1 1 left (two .0)) (omega arith) in
           let c = below (endIn ends (i + 1)) (stands-next t e (i + 1) 1 1 left (two .0) (endIn ends (i + 1)) link) (omega (arith, link .beyond)) in
           let first = operand-end ends (operandAt left t ends (i + 1)) (i + 1) a in
-          rw row (omega (arith, two .1, first, operand-end ends (operandAt left t ends (endIn ends (i + 1))) (endIn ends (i + 1)) c), a, moved (operandAt left t ends (endIn ends (i + 1))) (endIn ends (i + 1)) _ first c)
+          let second = operand-end ends (operandAt left t ends (endIn ends (i + 1))) (endIn ends (i + 1)) c in
+          rw row (omega (arith, two .1, first, second), a, moved (operandAt left t ends (endIn ends (i + 1))) (endIn ends (i + 1)) _ first c)
+      go (an-extreme row) =
+          let one = below-by i 1 left _ here lo row in
+          let near = node-there t e (i + 1) 0 1 left (one .0) in
+          let is = series-below i lo (node-there t e i 0 1 (suc left) here) near row in
+          let leaf = no-child (i + 1) (operand-kind (nodeAt t (i + 1) .kind) (unfold sortAt in sort-there t e (i + 1) 0 1 left (one .0))) is in
+          rw row (omega (arith, one .1, rw leaf at (over-children (i + 1) 1 left (one .0) (omega arith))))
 
   operand-spaced : (left i : ℕ) → Stands t e i 1 1 left → b ≤ i → SpacedIn ends (operandAt left t ends i) i
   unfolding operandAt sortAt
@@ -195,7 +224,9 @@ module _ (t ends : List ℕ) (b e : ℕ) (whole : Whole t ends b e) where
       rest k some = stands-next t e (i + 1) k 1 left some (endIn ends (i + 1)) (link-first k some)
 
       second : (k : ℕ) → Stands t e (i + 1) (suc (suc k)) 1 left → SpacedIn ends (operandAt left t ends (endIn ends (i + 1))) (endIn ends (i + 1))
-      second k some = operand-spaced left (endIn ends (i + 1)) (stands-one t e (endIn ends (i + 1)) k 1 left (rest (suc k) some)) (omega (arith, link-first (suc k) some .beyond))
+      second k some =
+          operand-spaced left (endIn ends (i + 1)) (stands-one t e (endIn ends (i + 1)) k 1 left (rest (suc k) some))
+          (omega (arith, link-first (suc k) some .beyond))
 
       -- two operands below the node
       pair : Stands t e (i + 1) 2 1 left → endIn ends i ≡ endIn ends (endIn ends (i + 1))
@@ -206,7 +237,8 @@ module _ (t ends : List ℕ) (b e : ℕ) (whole : Whole t ends b e) where
           let a = first 1 two in
           let c = second 0 two in
           let at = operand-end ends (operandAt left t ends (i + 1)) (i + 1) a in
-          (omega (arith, over, at, operand-end ends (operandAt left t ends (endIn ends (i + 1))) (endIn ends (i + 1)) c), a, moved (operandAt left t ends (endIn ends (i + 1))) (endIn ends (i + 1)) _ at c)
+          let then = operand-end ends (operandAt left t ends (endIn ends (i + 1))) (endIn ends (i + 1)) c in
+          (omega (arith, over, at, then), a, moved (operandAt left t ends (endIn ends (i + 1))) (endIn ends (i + 1)) _ at c)
 
       go : ConditionKind (nodeAt t i .kind)
           → Spaced ends (growCondition (operandAt left t ends) (conditionAt left t ends) ends

@@ -23,11 +23,13 @@ explain-spec =
     (λ c κs. search needs)
     (λ c. search needs)
     (λ c.
-    let k = c .before .before .before .before .before .before .before .before .before .before in
+    let f = c .before .before .before .before .before .before in
+    let k = f .before .before .before .before in
     let told = k .before .before in
     let check = told .before .before in
     explains _ _ _ _ _ _ _ _ (check .check .ensures .0) (told .enum-told .given .1) (k .before .if1 .left) _
-    (rw (← k .slots .ensures) (c .before .before .before .before .before .before .before .before .before .are-whole .ensures)) (c .before .before .before .before .before .before .before .before .if2 .taken) _ (c .before .before .before .before .before .before .before .state-right .ensures) (c .before .before .before .before .before .before .if3 .taken)
+    (rw (← k .slots .ensures) (f .before .before .before .are-whole .ensures)) (f .before .before .if2 .taken) _ (f .before .state-right .ensures)
+    (f .if3 .taken)
     (λ j. omega (arith, check .before .before .before .shared-slice-known .given j)) _ (check .check .ensures .1) _ _
     (c .before .before .explain-tree .ensures .0) (c .before .before .explain-tree .ensures .1))
     (λ c. refused _ _ _ _ _ _ _ (c .before .before .before .check .ensures .0) (c .before .answer .given .1))
@@ -36,7 +38,8 @@ explain-spec =
     let told = k .before .before in
     let check = told .before .before in
     unright _ _ _ _ _ _ _ _ (check .check .ensures .0) (told .enum-told .given .1) (k .before .if1 .left) _
-    (rw (← k .slots .ensures) (c .before .before .before .are-whole .ensures)) (c .before .before .if2 .taken) _ (c .before .state-right .ensures) (c .if3 .left))
+    (rw (← k .slots .ensures) (c .before .before .before .are-whole .ensures)) (c .before .before .if2 .taken) _ (c .before .state-right .ensures)
+    (c .if3 .left))
     (λ c.
     let k = c .before .before in
     let told = k .before .before in

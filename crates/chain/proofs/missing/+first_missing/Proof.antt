@@ -3,16 +3,19 @@ use mathlib.Core.Path.{refl}
 use native.Mathlib.Omega.{arith}
 use borrow.Author.Needs.{needs}
 use Rattle.table.specs.Bytes.{Bytes}
-use Rattle.chain.specs.Laws.Shapes.{prev-small}
-use Rattle.chain.proofs.Leaves.{isLeaf, gone-deep, gone-leaf, gone-prev, gone-arith}
+use Rattle.chain.specs.Laws.Shapes.{prev-small, extreme-small}
+use Rattle.chain.proofs.Leaves.{isLeaf, gone-deep, gone-leaf, gone-prev, gone-arith, gone-extreme}
 use borrow.Fn.Kinds.{In}
 use borrow.Fn.PlainCycle.{Measures, is, falls, and}
 use Rattle.chain.proofs.missing.first_missing.Reads as first-missing
 use Rattle.chain.proofs.missing.first_missing.Kinds as first-missing-kinds
 use Rattle.chain.proofs.missing.+first_missing.Lts-first_missing as first-missing-lts
 use Rattle.chain.proofs.missing.leaf_gone.Reads as leaf-gone-reads
+use Rattle.chain.proofs.missing.newest_gone.Reads as newest-gone-reads
+use Rattle.chain.proofs.missing.one_less.Reads as one-less-reads
 use Rattle.chain.proofs.missing.or_else.Reads as or-else-reads
 use Rattle.rules.proofs.shapes.operand_shape.Reads as operand-shape-reads
+use Rattle.table.proofs.series.series_in.Reads as series-in-reads
 use Rattle.chain.proofs.missing.+first_missing.{statement}
 use Rattle.chain.proofs.missing.+first_missing.Tie.{close}
 
@@ -42,6 +45,12 @@ unfolding isLeaf Bytes
   first-missing.Post,
   or-else-reads.Asked,
   or-else-reads.Learnt,
+  series-in-reads.Asked,
+  series-in-reads.Learnt,
+  one-less-reads.Asked,
+  one-less-reads.Learnt,
+  newest-gone-reads.Asked,
+  newest-gone-reads.Learnt,
 )
     (first-missing-at t)
     first-missing.Post
@@ -74,6 +83,14 @@ unfolding isLeaf Bytes
     (λ c κs. search needs)
     (λ c. search needs)
     (λ c κs. search needs)
+    (λ c κs. search needs)
+    (λ c κs.
+    let k = c .before .before .before .before .before in
+    let small = extreme-small _ _ _ _ (k .operand-shape .ensures) (λ j. omega (arith, k .before .before .before .shared-slice-known .given j)) _ _ _
+    (c .before .before .before .a3 .given .1) in
+    omega (arith, small, c .one-less .ensures))
+    (λ c. search needs)
+    (λ c κs. search needs)
     (λ c.
     let k = c .before .before .before in
     gone-leaf _ _ _ _ _ _ _ _ (k .before .if1 .left) _ (k .operand-shape .ensures) _ (c .before .enum-told .given .1) refl (c .leaf-gone2 .ensures))
@@ -88,8 +105,12 @@ unfolding isLeaf Bytes
     gone-prev _ _ _ _ _ _ _ _ (k .before .if1 .left) _ (k .operand-shape .ensures) _ _ (c .before .before .a .given .1) (c .first-missing .ensures))
     (λ c.
     let k = c .before .before .before .before .before .before in
-    gone-arith _ _ _ _ _ _ _ _ (k .before .if1 .left) _ (k .operand-shape .ensures) _ _ _ _ _ (c .before .before .before .before .a2 .given .1) (c .before .before .first-missing2 .ensures)
-    (c .before .first-missing3 .ensures) (c .or-else .ensures))
+    gone-arith _ _ _ _ _ _ _ _ (k .before .if1 .left) _ (k .operand-shape .ensures) _ _ _ _ _ (c .before .before .before .before .a2 .given .1)
+    (c .before .before .first-missing2 .ensures) (c .before .first-missing3 .ensures) (c .or-else .ensures))
+    (λ c.
+    let k = c .before .before .before .before .before .before in
+    gone-extreme _ _ _ _ _ _ _ _ (k .before .if1 .left) _ (k .operand-shape .ensures) _ _ _ _ _ (c .before .before .before .before .a3 .given .1)
+    (c .before .before .series-in .ensures) (c .before .one-less .ensures) (c .newest-gone .ensures))
     (λ c.
     let k = c .before .before .before in
     gone-leaf _ _ _ _ _ _ _ _ (k .before .if1 .left) _ (k .operand-shape .ensures) _ (c .before .enum-told4 .given .1) refl (c .leaf-gone5 .ensures))

@@ -29,7 +29,7 @@ show-spec =
     (λ c. search needs)
     (λ c κs.
     let k = c .before .before .before in
-    let small = trend-small _ _ _ _ (k .condition-shape .ensures) (λ j. omega (arith, c .before .before .before .before .before .before .shared-slice-known .given j))
+    let small = trend-small _ _ _ _ (k .condition-shape .ensures) (λ j. omega (arith, k .before .before .before .shared-slice-known .given j))
     _ _ _ (c .before .a3 .given .1) in
     omega (arith, small))
     (λ c. search needs)

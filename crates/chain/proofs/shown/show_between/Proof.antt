@@ -33,4 +33,5 @@ show-between-spec =
       ← z .eval-operand3 .ensures,
       ← o .or-else .ensures,
     )
-    (three-shown _ _ _ _ _ _ _ _ (c .before .before .before .value-word .ensures) (c .before .before .value-word2 .ensures) (c .before .value-word3 .ensures) (c .leaf-or .ensures))))
+    (three-shown _ _ _ _ _ _ _ _ (c .before .before .before .value-word .ensures) (c .before .before .value-word2 .ensures)
+    (c .before .value-word3 .ensures) (c .leaf-or .ensures))))

@@ -17,5 +17,6 @@ show-compare-spec =
     (λ c κs. search needs)
     (λ c.
     let w = c .before .before in
-    rw (← c .before .before .before .before .before .two-missing .ensures, ← c .before .before .before .before .eval-operand .ensures, ← c .before .before .before .eval-operand2 .ensures)
+    let y = w .before in
+    rw (← y .before .before .two-missing .ensures, ← y .before .eval-operand .ensures, ← y .eval-operand2 .ensures)
     (two-shown _ _ _ _ _ _ (w .value-word .ensures) (c .before .value-word2 .ensures) (c .leaf-or .ensures))))

@@ -46,5 +46,6 @@ show-cross-spec =
       ← y′ .eval-operand4 .ensures,
       ← o .or-else .ensures,
     )
-    (four-shown _ _ _ _ _ _ _ _ _ _ (c .before .before .before .before .value-word .ensures) (c .before .before .before .value-word2 .ensures) (c .before .before .value-word3 .ensures) (c .before .value-word4 .ensures)
+    (four-shown _ _ _ _ _ _ _ _ _ _ (c .before .before .before .before .value-word .ensures) (c .before .before .before .value-word2 .ensures)
+    (c .before .before .value-word3 .ensures) (c .before .value-word4 .ensures)
     (c .leaf-or .ensures))))

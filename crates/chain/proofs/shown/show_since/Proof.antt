@@ -17,7 +17,9 @@ show-since-spec =
     (λ c. search needs)
     (λ c κs. search needs)
     (λ c κs. search needs)
-    (λ c. rw (← c .before .before .before .before .in-position .ensures, c .before .before .before .if1 .taken, c .before .enum-told .given .1) (c .bare .ensures))
+    (λ c.
+    let t = c .before .before .before in
+    rw (← t .before .in-position .ensures, t .if1 .taken, c .before .enum-told .given .1) (c .bare .ensures))
     (λ c.
     let b = c .before .before in
     let t = b .before .before in

@@ -46,9 +46,11 @@ pub +walk-spec : {M : Type 1} → statement M
     let down = goes-down _ _ _ _ _ _ _ _ (sym (c .before .before .before .before .next-node .ensures) ∙ c .before .before .j .given .1) in
     (omega (arith, down), omega (arith, down)))
     (λ c. search needs)
-    (λ c. walked-one _ _ _ _ _ _ _ _ _ _ _ (c .before .before .before .before .before .put-line .ensures) (c .before .before .next-node .ensures) (c .enum-told .given .1))
+    (λ c. walked-one _ _ _ _ _ _ _ _ _ _ _ (c .before .before .before .before .before .put-line .ensures)
+    (c .before .before .next-node .ensures) (c .enum-told .given .1))
     (λ c. search needs)
     (λ c.
     let next = c .before .before .before .before .before .before .before in
-    walked-on _ _ _ _ _ _ _ _ _ _ _ (next .before .before .before .put-line .ensures) (next .next-node .ensures) _ _ _ (c .before .before .before .before .before .j .given .1)
+    walked-on _ _ _ _ _ _ _ _ _ _ _ (next .before .before .before .put-line .ensures) (next .next-node .ensures) _ _ _
+    (c .before .before .before .before .before .j .given .1)
     (c .before .before .walk .ensures .0) (c .before .before .walk .ensures .1))

@@ -26,7 +26,9 @@ first-with-spec =
     μ-loop
     (λ c. refl)
     (λ c κs. search needs)
-    (λ c. let l = c .before .before .before in sym (l .loop .inv ∙ first-is _ _ _ _ _ _ (c .before .before .loop-test .taken) (c .before .eval-condition .ensures) (c .if1 .taken)))
+    (λ c.
+    let l = c .before .before .before in
+    sym (l .loop .inv ∙ first-is _ _ _ _ _ _ (c .before .before .loop-test .taken) (c .before .eval-condition .ensures) (c .if1 .taken)))
     (λ c κs. search needs)
     (λ c. omega arith)
     (λ c. omega arith)
