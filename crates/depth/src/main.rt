@@ -63,7 +63,11 @@ fn tell(what: &[u8], n: u64) {
 
 // The bytes of a dump (request 11): a header, and then the window.
 fn dump_bytes(window: u64) -> u64 {
-    if window < LARGEST_WINDOW { HEADER + window } else { HEADER + LARGEST_WINDOW }
+    if window < LARGEST_WINDOW {
+        HEADER + window
+    } else {
+        HEADER + LARGEST_WINDOW
+    }
 }
 
 fn tell_depth(table: &[u8], lookback: u64) {
