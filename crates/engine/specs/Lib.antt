@@ -17,6 +17,7 @@ pub mod AsMeant
 pub mod SameRun
 pub mod WholeRun
 pub mod OtherBooks
+pub mod Restart
 pub mod LastFee
 pub mod AtOpen
 pub mod Before

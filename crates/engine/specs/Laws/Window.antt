@@ -30,6 +30,11 @@ module _ (K D : ℕ) where
       sym (add-mul j (rest / (width K) - D) (width K)) ∙ ap (λ (n : ℕ). n * (width K)) (omega arith) in
       rw (length-drop, drop-drop, gone)
 
+  -- the last D of the last D are these
+  pub last-of-last : (ws : List ℕ) → lastRows K D (lastRows K D ws) ≡ lastRows K D ws
+  unfolding lastRows
+  last-of-last ws = last-drop (length ws / (width K) - D) ws (omega arith) (omega arith)
+
   module _ (ws row : List ℕ) (long : length row ≡ width K) where
     -- with a row, they are one more
     one-more : length (ws ++ row) / (width K) ≡ 1 + length ws / (width K)
