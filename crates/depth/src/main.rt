@@ -1,5 +1,5 @@
 // Reads a rule table from standard input and writes how much row room its rules need: the rows, the bytes of a row, and the bytes of
-// the window. The argument is the lookback of a volatility target, which needs one row more than it says where that is more; with
+// the window and of a dump. The argument is the lookback of a volatility target, which needs one row more than it says where that is more; with
 // none it is 0. The stored input is the worked example of document 01, with a lookback of 10.
 ghost use Prim.Native.Nat.{_<_};
 use table::depth::DepthAnswer;
@@ -11,6 +11,11 @@ const MOST: usize = 4113;
 const ARGUMENT: usize = 64;
 
 const LARGE: u64 = 1_000_000;
+
+// The bytes of a dump before its window, and of the largest window: 4,096 rows of 64 slots.
+const HEADER: u64 = 256;
+
+const LARGEST_WINDOW: u64 = 4096 * 8 * 71;
 
 // The lookback that an argument names.
 enum Lookback {
@@ -56,6 +61,15 @@ fn tell(what: &[u8], n: u64) {
     io::print_decimal(1, n);
 }
 
+// The bytes of a dump (request 11): a header, and then the window.
+fn dump_bytes(window: u64) -> u64 {
+    if window < LARGEST_WINDOW {
+        HEADER + window
+    } else {
+        HEADER + LARGEST_WINDOW
+    }
+}
+
 fn tell_depth(table: &[u8], lookback: u64) {
     let answer = table::depth::depth(table, lookback);
     match answer {
@@ -63,6 +77,7 @@ fn tell_depth(table: &[u8], lookback: u64) {
             tell(b"rows ", rows);
             tell(b"\nbytes a row ", row);
             tell(b"\nbytes of the window ", window);
+            tell(b"\nbytes of a dump ", dump_bytes(window));
         }
         DepthAnswer::Refuses(refusal) => {
             tell(b"refused ", refusal.number);

@@ -8,3 +8,4 @@ pub mod Laws
 pub mod Cut
 pub mod Pages
 pub mod RoundTrip
+pub mod Window

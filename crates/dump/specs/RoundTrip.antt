@@ -28,23 +28,23 @@ use Rattle.dump.specs.Reading.{wordsIn, stateIn}
 -- ---- numbers
 
 -- what four and eight bytes of a number say
-abbrev b4 : ℕ → ℕ
+abbrev pub b4 : ℕ → ℕ
 b4 n = n % 256 + 256 * (n / 256 % 256) + 65536 * (n / 65536 % 256 + 256 * (n / 16777216 % 256))
 
-abbrev b8 : ℕ → ℕ
+abbrev pub b8 : ℕ → ℕ
 b8 n = b4 (n % 4294967296) + 4294967296 * b4 (n / 4294967296)
 
 joined : (n a b c r₀ r₁ r₂ r₃ : ℕ) → r₀ + 256 * a ≡ n → r₁ + 256 * b ≡ a → r₂ + 256 * c ≡ b → r₃ ≡ c
     → r₀ + 256 * r₁ + 65536 * (r₂ + 256 * r₃) ≡ n
 joined n a b c r₀ r₁ r₂ r₃ e₀ e₁ e₂ e₃ = omega arith
 
-four-back : (n : ℕ) → n < 4294967296 → b4 n ≡ n
+pub four-back : (n : ℕ) → n < 4294967296 → b4 n ≡ n
 four-back n l =
     let e₁ : n / 256 % 256 + 256 * (n / 65536) ≡ n / 256 = rw (← (div-div-eq-div-mul n 256 256)) (mod-add-div (n / 256) 256) in
     let e₂ : n / 65536 % 256 + 256 * (n / 16777216) ≡ n / 65536 = rw (← (div-div-eq-div-mul n 65536 256)) (mod-add-div (n / 65536) 256) in
     joined n (n / 256) (n / 65536) (n / 16777216) _ _ _ _ (mod-add-div n 256) e₁ e₂ (mod-eq-of-lt (omega arith))
 
-eight-back : (n : ℕ) → n < 18446744073709551616 → b8 n ≡ n
+pub eight-back : (n : ℕ) → n < 18446744073709551616 → b8 n ≡ n
 eight-back n l =
     let low : b4 (n % 4294967296) ≡ n % 4294967296 = four-back (n % 4294967296) (omega arith) in
     let high : b4 (n / 4294967296) ≡ n / 4294967296 = four-back (n / 4294967296) (omega arith) in
