@@ -1,11 +1,13 @@
 // Bars in one call: one, or many. Both go one way, so that what a bar does is compiled once, and into it.
 ghost use mathlib.Core.Path.{_≡_};
 ghost use Rattle.records.specs.Lent.{rooms, lists};
+ghost use Rattle.records.specs.Settings.{settingsOf};
 ghost use Rattle.refusals.specs.Lines.{judged};
 ghost use Rattle.capi.specs.Day.{dayLentLines, stateAfter, dayCall, stepsCall};
 ghost use Rattle.capi.specs.WordRun.{answerOf};
 use crate::calls::answer_word;
 use crate::calls::judge_words;
+use records::settings::Settings;
 use records::settings::settings_of;
 use records::state::State;
 use records::state_words::put_state;
@@ -13,13 +15,21 @@ use records::state_words::state_of;
 use refusals::verdict::Verdict;
 
 // 10: the room of rows, where there is a bar; then settings and state.
-fn judge_lent(one: bool, settings: &[u64], state: &[u64], bars: &[u64], rows: &[u64]) -> Verdict
+fn judge_lent(
+    one: bool,
+    s: Settings,
+    settings: &[u64],
+    state: &[u64],
+    bars: &[u64],
+    rows: &[u64],
+) -> Verdict
+    requires { ⌜ s ≡ settingsOf (now settings) ⌝ }
     ensures { λ r. ⌜ r ≡ judged (dayLentLines one (now (settings .entry)) (now (state .entry)) (now (bars .entry)) (now (rows .entry))) ⌝ }
 {
     if engine::day::no_bars(one, bars) {
         return judge_words(settings, state);
     }
-    if let Verdict::Bad(refusal) = refusals::rooms::judge_room(settings_of(settings), rows) {
+    if let Verdict::Bad(refusal) = refusals::rooms::judge_room(s, rows) {
         return Verdict::Bad(refusal);
     }
     judge_words(settings, state)
@@ -72,13 +82,14 @@ pub(crate) fn call_bars<'a>(
           };
         } ⌝ }
 {
-    if let Verdict::Bad(refusal) = judge_lent(one, settings, state, bars, rows) {
+    let chosen = settings_of(settings);
+    if let Verdict::Bad(refusal) = judge_lent(one, chosen, settings, state, bars, rows) {
         *done = 0;
         return answer_word(refusal);
     }
     let day = engine::day::run_bars(
         one,
-        settings_of(settings),
+        chosen,
         state_of(state),
         bars,
         rows,

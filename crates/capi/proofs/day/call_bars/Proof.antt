@@ -4,6 +4,9 @@ use Rattle.capi.proofs.Days.{day-short, day-ran}
 use Rattle.capi.proofs.day.call_bars.Statement.{statement}
 use Rattle.capi.proofs.day.call_bars.Tie as tie
 
+judge-lent-requires : tie.Need-judge-lent-requires
+judge-lent-requires c κs = c .before .before .settings-of .ensures
+
 returns : tie.Need-returns
 returns c = day-short _ _ _ _ _ _ (c .before .before .before .before .judge-lent .ensures) (c .before .before .refusal .given .1) (c .answer-word .ensures)
 
@@ -12,8 +15,9 @@ returns-2 c =
     let put = c .before .before .before in
     let ran = c .before .before .before .before .before .before .before .before .before .before .before .before in
     let given = ran .before .before .before .before in
-    let read = given .before .before in
-    day-ran _ _ _ _ _ _ (read .before .before .before .judge-lent .ensures) (read .before .enum-told .given .1) (read .settings-of .ensures)
+    let told = given .before .before in
+    let judged = told .before .before in
+    day-ran _ _ _ _ _ _ (judged .judge-lent .ensures) (told .enum-told .given .1) (judged .before .before .before .settings-of .ensures)
     (given .state-of .ensures) (ran .run-bars .ensures) (put .put-after .ensures) (c .answer-of .ensures)
 
 pub call-bars-spec : {M : Type 1} → statement M
@@ -21,13 +25,13 @@ call-bars-spec =
     tie.close
     (tie.spec
     (λ c κs. search needs)
+    judge-lent-requires
     (λ c. search needs)
     (λ c κs. search needs)
     (λ c. search needs)
     (λ c. search needs)
     returns
     (λ c. search needs)
-    (λ c κs. search needs)
     (λ c κs. search needs)
     (λ c κs. search needs)
     (λ c κs. search needs)

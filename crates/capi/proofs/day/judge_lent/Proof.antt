@@ -14,17 +14,19 @@ returns-2 : tie.Need-returns-2
 unfolding dayLentLines
 returns-2 c =
     let room = c .before .before .before in
-    let read = room .before in
-    rw (sym (read .before .before .no-bars .ensures) ∙ read .before .if1 .left)
-    (sym (lent-room _ _ _ (read .settings-of .ensures) (room .judge-room .ensures) (c .before .refusal .given .1)))
+    let test = room .before in
+    let start = test .before .before .before .before .before .before in
+    rw (sym (test .before .no-bars .ensures) ∙ test .if1 .left)
+    (sym (lent-room _ _ _ (start .pre) (room .judge-room .ensures) (c .before .refusal .given .1)))
 
 returns-3 : tie.Need-returns-3
 unfolding dayLentLines
 returns-3 c =
     let room = c .before .before .before in
-    let read = room .before in
-    rw (sym (read .before .before .no-bars .ensures) ∙ read .before .if1 .left)
-    (sym (lent-words _ _ _ (read .settings-of .ensures) (room .judge-room .ensures) (c .before .enum-told .given .1) (c .judge-words2 .ensures)))
+    let test = room .before in
+    let start = test .before .before .before .before .before .before in
+    rw (sym (test .before .no-bars .ensures) ∙ test .if1 .left)
+    (sym (lent-words _ _ _ (start .pre) (room .judge-room .ensures) (c .before .enum-told .given .1) (c .judge-words2 .ensures)))
 
 pub judge-lent-spec : {M : Type 1} → statement M
 judge-lent-spec =
@@ -33,7 +35,6 @@ judge-lent-spec =
     (λ c κs. search needs)
     (λ c κs. search needs)
     returns
-    (λ c κs. search needs)
     (λ c κs. search needs)
     (λ c. search needs)
     returns-2
