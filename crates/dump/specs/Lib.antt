@@ -9,3 +9,4 @@ pub mod Cut
 pub mod Pages
 pub mod RoundTrip
 pub mod Window
+pub mod Restart

@@ -104,5 +104,6 @@ module _ (s : Settings) (t : State) (room : List ℕ) (held : t .counts .«rows_
       rw (K, rows-said (s .slots) (s .depth) (wordsOf t) W few) (sym (whole .words)) in
       ext-getD 0 (listed _ (λ j. u64 (imageOf s t room) (headBytes + 8 * j))) W (listed-long _ _ ∙ n)
       (λ i l.
-      listed-at (rowsIn (imageOf s t room) * rowWords (slotsIn (imageOf s t room))) (λ j. u64 (imageOf s t room) (headBytes + 8 * j)) i (rw (listed-long _ _) at l)
+      listed-at (rowsIn (imageOf s t room) * rowWords (slotsIn (imageOf s t room))) (λ j. u64 (imageOf s t room) (headBytes + 8 * j)) i
+      (rw (listed-long _ _) at l)
       ∙ word-at (s .slots) (s .depth) (wordsOf t) W i (words i))
