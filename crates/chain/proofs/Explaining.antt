@@ -5,7 +5,7 @@ use mathlib.Core.Bool.{Bool, true, false}
 use mathlib.Core.List.{List, [], _++_}
 use native.Mathlib.Omega.{arith}
 use native.Mathlib.Nat.{zero-add}
-use lib.ListN.{length, take, drop}
+use lib.ListN.{length, drop}
 use borrow.Author.Tests.{lt-ltb, le-ltb, le-leb, lt-leb, eq-eqb, ne-eqb}
 use Rattle.words.specs.declared.refusal.Refusal.{Refusal}
 use Rattle.words.specs.Outcome.{refusal}
@@ -21,7 +21,7 @@ use Rattle.rules.specs.Meaning.{newest}
 use Rattle.rules.specs.Flat.{conditionAt}
 use Rattle.rules.specs.Answers.{stateRight}
 use Rattle.chain.specs.declared.Explained.the-variants.{Lines, Refuses}
-use Rattle.chain.specs.Chain.{Line, chain}
+use Rattle.chain.specs.Chain.{chain}
 use Rattle.chain.specs.Lines.{wordsOf, putLines}
 use Rattle.chain.specs.Explained.{explanation, explainedBy, explained, linesAfter}
 use Rattle.chain.specs.Flat.{byEnds, flatExplanation}

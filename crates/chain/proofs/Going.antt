@@ -1,7 +1,7 @@
 -- Where the chain goes from a node. Assumes nothing.
 use Prim.Native.Nat.{ℕ, zero, suc, _-_, _<_, _≤_}
 use mathlib.Core.Path.{_≡_, refl}
-use mathlib.Core.Bool.{Bool, true, false, cond, Bool·beq}
+use mathlib.Core.Bool.{Bool, true, false, Bool·beq}
 use mathlib.Core.List.{List}
 use native.Mathlib.Omega.{arith}
 use native.Mathlib.Numerals.{sub-one}
@@ -11,7 +11,6 @@ use Rattle.rules.specs.declared.shapes.ConditionShape.{ConditionShape}
 use Rattle.rules.specs.Meaning.{holds}
 use Rattle.rules.specs.Shapes.{endIn, conditionShape}
 use Rattle.rules.specs.Flat.{conditionAt}
-use Rattle.chain.specs.declared.Next.{Next}
 use Rattle.chain.specs.declared.Next.the-variants.{Stop, Node}
 use Rattle.chain.specs.Flat.{firstAt, nextBy, nextAt}
 

@@ -9,7 +9,7 @@ use Rattle.table.specs.declared.series.Series.{Series}
 use Rattle.table.specs.Series.{asOperand, seriesIn}
 use Rattle.rules.specs.declared.shapes.OperandShape.{OperandShape}
 use Rattle.rules.specs.declared.shapes.OperandShape.the-variants.{Const, Ref, Price, Prev, Arith, Extreme, NoOperand}
-use Rattle.rules.specs.Shapes.{endIn, operandShape}
+use Rattle.rules.specs.Shapes.{operandShape}
 use Rattle.rules.specs.Flat.{growOperand, operandAt}
 use Rattle.rules.proofs.Grown.{no-operand, grown-operand}
 use Rattle.chain.specs.declared.Found.{Found}

@@ -24,7 +24,7 @@ use Rattle.chain.specs.declared.Found.{Found}
 use Rattle.chain.specs.declared.Found.the-variants.{Nowhere, Leaf}
 use Rattle.chain.specs.Missing.{inTable, orElse, goneIf, leafGone, newestGone, missingIn, missingInTwo, missingInThree}
 use Rattle.chain.specs.Chain.{atFirstBar, tooFewBars, position, noEntry, shownBy, shownFrom, shownSince, shown}
-use Rattle.chain.specs.Looks.{Look, look, looksBack, looksIn, looksOf, valuesOf, seen, IsThere, number}
+use Rattle.chain.specs.Looks.{Look, look, looksBack, looksIn, looksOf, valuesOf, seen, number}
 use Rattle.chain.specs.Looks.{FirstMissing, this, later, NoneMissing, none-left, and-none}
 use Rattle.chain.specs.Looks.{joins, TooEarly, True}
 

@@ -12,7 +12,7 @@ use rules::shapes::ConditionShape;
 use rules::values::in_position;
 ghost use mathlib.Core.Path.{_≡_};
 ghost use mathlib.Core.Bool.{cond};
-ghost use mathlib.Core.List.{List, [], _∷_};
+ghost use mathlib.Core.List.{[], _∷_};
 ghost use Prim.Native.Nat.{ℕ, _-_, _≤_};
 ghost use lib.Dec.{eqb, ltb};
 ghost use Rattle.rows.specs.History.{historyOf};
@@ -22,7 +22,7 @@ ghost use Rattle.rules.specs.Flat.{operandAt, conditionAt};
 ghost use Rattle.chain.specs.declared.Found.{Found};
 ghost use Rattle.chain.specs.Missing.{Near, missingIn, orElse};
 ghost use Rattle.chain.specs.Chain as Chain;
-ghost use Rattle.chain.specs.Chain.{Shown, shownBy, shownSince, shown};
+ghost use Rattle.chain.specs.Chain.{shownBy, shownSince, shown};
 ghost use Rattle.chain.specs.Lines.{valueWord, detail, leafOr, detailOf};
 ghost use Rattle.chain.specs.Flat.{byEnds};
 

@@ -14,11 +14,6 @@ line-long : (l : Line) → length (lineWords l) ≡ 8
 unfolding lineWords lineFrom
 line-long l = refl
 
-pub words-long : (ls : List Line) → length (wordsOf ls) ≡ 8 * length ls
-unfolding wordsOf
-words-long [] = refl
-words-long (l ∷ ls) = length-append (lineWords l) (wordsOf ls) ∙ omega (arith, line-long l, words-long ls)
-
 -- one line, and then those after it
 one-put : (list w : List ℕ) (at m : ℕ) (rest : List ℕ) → length w ≡ 8 → 8 * at + 8 ≤ length list
     → take (8 * (at + 1)) (overwrite list (8 * at) w) ++ rest ++ drop (8 * (at + 1 + m)) (overwrite list (8 * at) w)

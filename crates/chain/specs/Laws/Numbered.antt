@@ -1,8 +1,8 @@
 -- The chain with nodes numbered by the array of ends is the chain with the table's own numbers. Assumes nothing.
 use Prim.Native.Nat.{ℕ, _+_, _<_}
-use mathlib.Core.Path.{_≡_, refl, ap, _∙_}
+use mathlib.Core.Path.{_≡_, refl}
 use mathlib.Core.Bool.{Bool, true, false, cond}
-use mathlib.Core.List.{List, [], _∷_}
+use mathlib.Core.List.{List, []}
 use native.Mathlib.Omega.{arith}
 use lib.Dec.{leb, eqb}
 use borrow.Author.Tests.{leb-false, eqb-false}
@@ -17,11 +17,11 @@ use Rattle.table.specs.Trees.{Operand, const, ref, price, prev, arith as sums, 
 use Rattle.table.specs.Trees.{negated, inPosition, barsSince, none, more}
 use Rattle.table.specs.Writing.{nodesIn, nodesOf}
 use Rattle.rules.specs.declared.PositionState.{PositionState}
-use Rattle.rules.specs.Meaning.{newest, holds}
+use Rattle.rules.specs.Meaning.{newest}
 use Rattle.rules.specs.Flat.{conditionAt}
 use Rattle.rules.specs.Laws.FlatReading.{tree-joined}
 use Rattle.chain.specs.Missing.{inTable, missingIn, missingInTwo, missingInThree}
-use Rattle.chain.specs.Chain.{Line, shown, lineOf, chain, firstWith}
+use Rattle.chain.specs.Chain.{shown, lineOf, chain, firstWith}
 use Rattle.chain.specs.Explained.{explanation}
 use Rattle.chain.specs.Flat.{byEnds, flatExplanation}
 use Rattle.chain.specs.Laws.Spaced.{SpacedIn, Spaced, SpacedAll, operand-end, condition-end, tree-spaced}

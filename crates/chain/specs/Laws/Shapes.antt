@@ -5,7 +5,6 @@ use mathlib.Core.Bool.{Bool, true, false, cond}
 use mathlib.Core.List.{List}
 use native.Mathlib.Omega.{arith}
 use lib.Dec.{leb}
-use Rattle.table.specs.declared.nodes.Node.{Node}
 use Rattle.table.specs.declared.kinds.OperandClass.{OperandClass}
 use Rattle.table.specs.declared.kinds.OperandClass.the-variants as AsOperand
 use Rattle.table.specs.declared.kinds.ConditionClass.{ConditionClass}

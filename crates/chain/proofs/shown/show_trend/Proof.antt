@@ -1,6 +1,5 @@
 -- Too few bars, or the missing leaf now and then, or the two values. Assumes nothing.
 use borrow.Author.Needs.{needs}
-use native.Mathlib.Omega.{arith}
 use borrow.Author.Tests.{lt-ltb, le-ltb}
 use Rattle.chain.specs.Lines.{detailOf}
 use Rattle.chain.proofs.Showing.{two-shown}
