@@ -43,9 +43,10 @@ mod raw {
             area: *mut u8, area_len: usize, from: u64, upto: u64,
         ) -> u64;
         pub fn ysh_restore(
-            settings: *const u64, settings_len: usize, image: *const u8, image_len: usize,
-            state: *mut u64, state_len: usize, rows: *mut u64, rows_len: usize,
+            settings: *const u64, settings_len: usize, state: *mut u64, state_len: usize,
+            image: *const u8, image_len: usize, rows: *mut u64, rows_len: usize,
         ) -> u64;
+        pub fn ysh_dump_bytes(slots: u64, depth: u64) -> u64;
     }
 }
 
@@ -243,17 +244,21 @@ pub fn dump(settings: &[u64], state: &[u64], rows: &[u64], area: &mut [u8], from
     })
 }
 
-pub fn restore(settings: &[u64], image: &[u8], state: &mut [u64], rows: &mut [u64]) -> Answer<()> {
+pub fn restore(settings: &[u64], state: &mut [u64], image: &[u8], rows: &mut [u64]) -> Answer<()> {
     Refusal::of(unsafe {
         raw::ysh_restore(
             settings.as_ptr(),
             settings.len(),
-            image.as_ptr(),
-            image.len(),
             state.as_mut_ptr(),
             state.len(),
+            image.as_ptr(),
+            image.len(),
             rows.as_mut_ptr(),
             rows.len(),
         )
     })
+}
+
+pub fn dump_bytes(slots: u64, depth: u64) -> u64 {
+    unsafe { raw::ysh_dump_bytes(slots, depth) }
 }

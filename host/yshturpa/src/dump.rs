@@ -20,7 +20,7 @@ impl Image {
         let (slots, depth) = (byte(3).min(MOST_SLOTS), (byte(6) + 256 * byte(7)).clamp(1, MOST_DEPTH));
         let settings = Settings::new(slots, depth, 0.0, crate::Sizing::FixedQty(0.0)).words();
         let (mut state, mut rows) = ([0; STATE_WORDS], vec![0; (ROW_FIXED + slots) * depth]);
-        calls::restore(&settings, image, &mut state, &mut rows)?;
+        calls::restore(&settings, &mut state, image, &mut rows)?;
         rows.truncate(state[state::ROWS_HELD] as usize * (ROW_FIXED + slots));
         let rows = Rows::of_words(slots, rows).expect("whole rows are held");
         Ok(Image { settings, depth, state: State { words: state }, rows })
@@ -28,8 +28,11 @@ impl Image {
 
     /// An area of zero bytes after so many bytes of this image were written to it, in the order of writing.
     pub fn cut(&self, bytes: u64) -> Result<Vec<u8>, Refusal> {
-        let mut area = vec![0; dump_bytes(self.depth as u64, self.rows.slots() as u64) as usize];
-        calls::dump(&self.settings, &self.state.words, self.rows.words(), &mut area, 0, bytes)?;
+        let slots = self.rows.slots();
+        let mut area = vec![0; dump_bytes(self.depth as u64, slots as u64) as usize];
+        let mut room = self.rows.words().to_vec();
+        room.resize((ROW_FIXED + slots) * self.depth, 0);
+        calls::dump(&self.settings, &self.state.words, &room, &mut area, 0, bytes)?;
         Ok(area)
     }
 }
@@ -58,7 +61,7 @@ impl Engine {
     /// A run that goes on from an image, with no equity and no trades yet.
     pub fn restored(table: &[u8], settings: &Settings, image: &[u8]) -> Result<Engine, Error> {
         let mut engine = Engine::new(table, settings, 0, 1)?;
-        calls::restore(&engine.settings, image, &mut engine.state, &mut engine.rows)?;
+        calls::restore(&engine.settings, &mut engine.state, image, &mut engine.rows)?;
         Ok(engine)
     }
 }
