@@ -318,6 +318,23 @@ uint64_t ysh_finish(const uint64_t *settings, size_t settings_len, uint64_t *sta
                     const uint64_t *rows, size_t rows_len, uint64_t *equity, size_t equity_len,
                     uint64_t *trades, size_t trades_len, uint64_t *metrics, size_t metrics_len);
 
+/* ---- power loss and restart (docs/INTERFACE.md, "Power loss and restart") ---- */
+
+/* The bytes of a dump for a K and a D: 256 + D * 8 * (7 + K). 0 for a K above 64 or a D outside 1 to 4,096. */
+uint64_t ysh_dump_bytes(uint64_t slots, uint64_t depth);
+
+/* Writes bytes `from` to `upto` of a dump's order of writing into the area, which was cleared to zero bytes: 0 and the size for all of
+ * it, or one stretch after another. The order is that of the bytes that this call stores: rows first, then the header, and the mark's last byte
+ * last of all. What keeps it on the way to flash is the driver's part: program one stretch, wait until it stands there, ask for the next,
+ * and let the last stretch begin no earlier than the size less 3. No other call may be running. Refusals 10 (room 0, 7, 8 or 14), 12, 13. */
+uint64_t ysh_dump(const uint64_t *settings, size_t settings_len, const uint64_t *state, size_t state_len,
+                  const uint64_t *rows, size_t rows_len, uint8_t *area, size_t area_len, uint64_t from, uint64_t upto);
+
+/* Reads an image of exactly the size back: the state, with equity points and trades counted from 0, and its rows over the first words of
+ * the row room. Refusals 10 (room 0, 7 or 8), 12, 19 for what is no whole image, 20 for one of another D or K. */
+uint64_t ysh_restore(const uint64_t *settings, size_t settings_len, uint64_t *state, size_t state_len,
+                     const uint8_t *image, size_t image_len, uint64_t *rows, size_t rows_len);
+
 /* Answers one tree of a table (0 to 3) over rows and a position, at the newest row: 1 yes, 0 no; no where the tree is
  * absent or the number is another. `entered` is 0 where there is no entry bar. Refusals 1 to 9, then 13. */
 uint64_t ysh_rule(const uint8_t *table, size_t table_len, uint64_t tree, const uint64_t *rows, size_t rows_len,

@@ -5,6 +5,7 @@ pub mod Why
 pub mod Fresh
 pub mod Bars
 pub mod Finish
+pub mod Power
 pub mod Figures
 pub mod WordRun
 pub mod Laws

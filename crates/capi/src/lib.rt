@@ -2,6 +2,7 @@
 pub mod bars;
 mod calls;
 pub mod figures;
+pub mod power;
 pub mod run;
 pub mod state;
 pub mod tables;

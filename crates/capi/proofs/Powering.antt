@@ -1,0 +1,82 @@
+-- A C call for a loss of power is the dump, or the restore, of what its words mean.
+use Prim.Native.Nat.{ℕ}
+use mathlib.Core.Path.{_≡_, refl, sym, _∙_}
+use mathlib.Core.List.{List}
+use native.Mathlib.Omega.{arith}
+use Rattle.words.specs.declared.refusal.Refusal.{Refusal}
+use Rattle.words.specs.Words.{overwrite}
+use Rattle.records.specs.declared.settings.Settings.{Settings}
+use Rattle.records.specs.declared.state.State.{State}
+use Rattle.records.specs.Settings.{settingsOf}
+use Rattle.records.specs.StateWords.{stateOf, wordsOf}
+use Rattle.refusals.specs.declared.verdict.Verdict.{Verdict}
+use Rattle.refusals.specs.declared.verdict.Verdict.the-variants.{Fine, Bad}
+use Rattle.refusals.specs.Lines.{judged}
+use Rattle.dump.specs.declared.reader.Restored.{Restored}
+use Rattle.dump.specs.declared.reader.Restored.the-variants.{Refused, Done}
+use Rattle.dump.specs.Layout.{imageOf}
+use Rattle.dump.specs.Order.{written}
+use Rattle.dump.specs.Reading.{windowIn}
+use Rattle.dump.specs.Refused.{dumpJudged, restoreJudged}
+use Rattle.dump.specs.Dumping.{leftBy, Dumped}
+use Rattle.dump.specs.Restoring.{restoredBy, Restores}
+use Rattle.capi.specs.Call.{answerWord}
+use Rattle.capi.specs.Bars.{lentLines}
+use Rattle.capi.specs.Power.{dumpGives, dumpCall, restoreGives, restoreCall}
+use Rattle.capi.proofs.Calling.{call-bad, call-refused, call-gives}
+
+module _ (settings state rows area : List ℕ) (from upto : ℕ) where
+  pub dump-short : {r : Refusal} {a : ℕ} → judged (lentLines settings state rows) ≡ Bad r → a ≡ answerWord r
+      → dumpCall settings state rows area from upto ≡ record { answer = a; lent = area }
+  unfolding dumpCall
+  dump-short bad word = call-bad _ _ _ bad word
+
+  module _
+      {s : Settings} {t : State} {v : Verdict} {after : List ℕ} (fine : judged (lentLines settings state rows) ≡ Fine)
+      (read : s ≡ settingsOf settings) (given : t ≡ stateOf state) (ran : Dumped s t rows area from upto v after) where
+    pub dump-refused : {r : Refusal} {a : ℕ} → v ≡ Bad r → a ≡ answerWord r → dumpCall settings state rows area from upto ≡ record { answer = a; lent = after }
+    unfolding dumpCall dumpGives leftBy
+    dump-refused bad word =
+        let d = rw (read, given) at ran in
+        let e : dumpJudged (settingsOf settings) (stateOf state) rows area ≡ Bad _ = sym (d .verdict) ∙ bad in
+        call-refused _ _ _ fine (rw e) word ∙ rw (d .leaves, e)
+
+    pub dump-done : v ≡ Fine → dumpCall settings state rows area from upto ≡ record { answer = 0; lent = after }
+    unfolding dumpCall dumpGives leftBy
+    dump-done done =
+        let d = rw (read, given) at ran in
+        let e : dumpJudged (settingsOf settings) (stateOf state) rows area ≡ Fine = sym (d .verdict) ∙ done in
+        call-gives _ _ _ {after = written (imageOf (settingsOf settings) (stateOf state) rows) area from upto} fine (rw e) ∙ rw (d .leaves, e)
+
+module _ (settings state image rows : List ℕ) where
+  pub restore-short : {r : Refusal} {a : ℕ} → judged (lentLines settings state rows) ≡ Bad r → a ≡ answerWord r
+      → restoreCall settings state image rows ≡ record { answer = a; lent = record { state = state; rows = rows } }
+  unfolding restoreCall
+  restore-short bad word = call-bad _ _ _ bad word
+
+  module _
+      {s : Settings} {restored : Restored} {after : List ℕ} (fine : judged (lentLines settings state rows) ≡ Fine)
+      (read : s ≡ settingsOf settings) (ran : Restores s image rows restored after) where
+    -- what the call comes to, in the restore's own words
+    restore-ran : let v = restoreJudged (settingsOf settings) image rows in
+        restoreGives (restoredBy v image) state (leftBy v (overwrite rows 0 (windowIn image)) rows) ≡ restoreGives restored state after
+    restore-ran = let d = rw read at ran in rw (d .answer, d .leaves)
+
+    pub restore-done : {next : State} {words : List ℕ} → restored ≡ Done next → words ≡ overwrite state 0 (wordsOf next)
+        → restoreCall settings state image rows ≡ record { answer = 0; lent = record { state = words; rows = after } }
+    unfolding restoreCall restoreGives
+    restore-done done put = call-gives _ _ _ fine (restore-ran ∙ simp (done, put))
+
+    -- a refusal leaves the rows
+    left : (v : Verdict) {r : Refusal} (x y : List ℕ) → restoredBy v image ≡ Refused r → leftBy v x y ≡ y
+    unfolding restoredBy leftBy
+    left Fine x y e = absurd (let z : _≡_ {A = ℕ} 0 1 = cc in omega arith)
+    left (Bad why) x y e = refl
+
+    pub restore-refused : {r : Refusal} {a : ℕ} → restored ≡ Refused r → a ≡ answerWord r
+        → restoreCall settings state image rows ≡ record { answer = a; lent = record { state = state; rows = after } }
+    unfolding restoreCall restoreGives
+    restore-refused refused word =
+        let d = rw read at ran in
+        let kept : after ≡ rows = d .leaves ∙ left (restoreJudged (settingsOf settings) image rows) _ rows (sym (d .answer) ∙ refused) in
+        call-refused _ _ _ fine (restore-ran ∙ simp refused) word ∙ rw kept

@@ -1,0 +1,81 @@
+// A loss of power: the size of a dump, the dump and the restore.
+ghost use mathlib.Core.Path.{_≡_};
+ghost use Rattle.dump.specs.Layout.{sizeFor};
+ghost use Rattle.capi.specs.Power.{dumpCall, restoreCall};
+use crate::calls::answer_word;
+use crate::calls::judge_words;
+use dump::reader::Restored;
+use records::settings::settings_of;
+use records::state_words::put_state;
+use records::state_words::state_of;
+use refusals::verdict::Verdict;
+
+// The bytes of a dump, for a K and a D; 0 where no settings have them.
+#[no_mangle]
+pub extern "C" fn ysh_dump_bytes(slots: u64, depth: u64) -> u64
+    ensures { λ r. ⌜ r ≡ sizeFor slots depth ⌝ }
+{
+    dump::writer::dump_bytes(slots as usize, depth as usize) as u64
+}
+
+// Bytes `from` to `upto` of a dump's order of writing, into the area.
+#[no_mangle]
+pub extern "C" fn ysh_dump(
+    settings: &[u64],
+    state: &[u64],
+    rows: &[u64],
+    area: &mut [u8],
+    from: u64,
+    upto: u64,
+) -> u64
+    ensures { λ r. ⌜ dumpCall (now (settings .entry)) (now (state .entry)) (now (rows .entry)) (now (area .entry)) from upto
+        ≡ record { answer = r; lent = now (area .exit) } ⌝ }
+{
+    let chosen = settings_of(settings);
+    if let Verdict::Bad(refusal) = refusals::rooms::judge_room(chosen, rows) {
+        return answer_word(refusal);
+    }
+    if let Verdict::Bad(refusal) = judge_words(settings, state) {
+        return answer_word(refusal);
+    }
+    let given = state_of(state);
+    if let Verdict::Bad(refusal) = dump::dump(
+        chosen,
+        given,
+        rows,
+        area,
+        from as usize,
+        upto as usize,
+    ) {
+        return answer_word(refusal);
+    }
+    0
+}
+
+// The state and the rows that an image holds.
+#[no_mangle]
+pub extern "C" fn ysh_restore(
+    settings: &[u64],
+    state: &mut [u64],
+    image: &[u8],
+    rows: &mut [u64],
+) -> u64
+    ensures { λ r. ⌜ restoreCall (now (settings .entry)) (now (state .entry)) (now (image .entry)) (now (rows .entry))
+        ≡ record { answer = r; lent = record { state = now (state .exit); rows = now (rows .exit) } } ⌝ }
+{
+    let chosen = settings_of(settings);
+    if let Verdict::Bad(refusal) = refusals::rooms::judge_room(chosen, rows) {
+        return answer_word(refusal);
+    }
+    if let Verdict::Bad(refusal) = judge_words(settings, state) {
+        return answer_word(refusal);
+    }
+    let restored = dump::restore(chosen, image, rows);
+    match restored {
+        Restored::Refused(refusal) => answer_word(refusal),
+        Restored::Done(next) => {
+            put_state(state, next);
+            0
+        }
+    }
+}

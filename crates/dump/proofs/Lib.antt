@@ -1,0 +1,6 @@
+pub mod Storing
+pub mod Places
+pub mod Whole
+pub mod Reading
+pub mod Testing
+pub mod Answers

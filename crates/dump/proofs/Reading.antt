@@ -1,0 +1,59 @@
+-- Words read one after another over the first of a room.
+use Prim.Native.Nat.{ℕ, zero, suc, _+_, _*_, _≤_, _<_}
+use mathlib.Core.Path.{_≡_, refl, sym, ap, _∙_}
+use mathlib.Core.List.{List, [], _∷_, _++_}
+use native.Mathlib.Nat.{zero-add}
+use native.Mathlib.Numerals.{add-one}
+use native.Mathlib.Omega.{arith}
+use lib.ListN.{length, drop, take, set, getD, length-append}
+use lib.Seq.{drop-cons, set-at, append-snoc, take-at}
+use Rattle.words.specs.Limits.{rowWords}
+use Rattle.words.specs.Words.{overwrite}
+use Rattle.words.specs.Laws.Overwrite.{overwrite-fits}
+use Rattle.table.specs.Bytes.{u64}
+use Rattle.engine.specs.Record.{listed}
+use Rattle.dump.specs.Layout.{headBytes}
+use Rattle.dump.specs.Reading.{slotsIn, rowsIn, wordsAt, windowIn}
+
+pub listed-long : (n : ℕ) (f : ℕ → ℕ) → length (listed n f) ≡ n
+unfolding listed
+listed-long zero f = refl
+listed-long (suc n) f = omega (arith, length-append (listed n f) (f n ∷ []), listed-long n f)
+
+-- none yet
+pub words-none : (x : List ℕ) (at : ℕ) (room : List ℕ) → room ≡ wordsAt x at 0 ++ drop 0 room
+unfolding wordsAt listed
+words-none x at room = refl
+
+-- one more
+pub words-more : (x : List ℕ) (at : ℕ) (room : List ℕ) (i v : ℕ) {now : List ℕ} → i < length room → now ≡ wordsAt x at i ++ drop i room
+    → v ≡ u64 x (at + 8 * i) → set now i v ≡ wordsAt x at (i + 1) ++ drop (i + 1) room
+unfolding wordsAt listed
+words-more x at room i v h n e =
+    let f : ℕ → ℕ = λ j. u64 x (at + 8 * j) in
+    rw (n, drop-cons room i 0 h, set-at (listed i f) (getD room i 0) (drop (suc i) room) v i (listed-long i f), e, add-one i)
+    (sym (append-snoc (listed i f) (f i) (drop (suc i) room)))
+
+-- over the first words of a room that has as many
+pub words-over : (x : List ℕ) (at n : ℕ) (room : List ℕ) → n ≤ length room → wordsAt x at n ++ drop n room ≡ overwrite room 0 (wordsAt x at n)
+words-over x at n room h =
+    let long : length (wordsAt x at n) ≡ n = unfold wordsAt in listed-long n _ in
+    sym (overwrite-fits room 0 (wordsAt x at n) (rw (long, zero-add n) h) ∙ rw (long, zero-add n))
+
+-- the window of an image
+pub window-over : (x room : List ℕ) (r b : ℕ) {out : List ℕ} → r ≡ rowsIn x → b ≡ slotsIn x → rowsIn x * rowWords (slotsIn x) ≤ length room
+    → out ≡ wordsAt x headBytes (r * (7 + b)) ++ drop (r * (7 + b)) room → out ≡ overwrite room 0 (windowIn x)
+unfolding windowIn
+window-over x room r b e f h o = rw (o, e, f) (words-over x headBytes (rowsIn x * rowWords (slotsIn x)) room h)
+
+-- the words that were read stand first
+module _ (x : List ℕ) (at n : ℕ) (rest : List ℕ) {room : List ℕ} (e : room ≡ wordsAt x at n ++ rest) where
+  words-long : length (wordsAt x at n) ≡ n
+  unfolding wordsAt
+  words-long = listed-long n _
+
+  pub words-within : n ≤ length room
+  words-within = rw (e, length-append (wordsAt x at n) rest) (omega (arith, words-long))
+
+  pub words-first : take n room ≡ wordsAt x at n
+  words-first = rw e (take-at (wordsAt x at n) rest n words-long)

@@ -1,0 +1,72 @@
+-- Stores, one after another, as bytes laid.
+use Prim.Native.Nat.{ℕ, _+_, _-_, _*_, _≤_, _<_}
+use mathlib.Core.Path.{_≡_, refl, sym, ap, _∙_}
+use mathlib.Core.List.{List, [], _∷_}
+use native.Mathlib.Nat.{sub-self, zero-add}
+use native.Mathlib.Omega.{arith}
+use lib.ListN.{length, getD, set}
+use Rattle.steps.specs.Bytes.{eight}
+use Rattle.dump.specs.Layout.{wordsBytes}
+use Rattle.dump.specs.Laws.Laid.{laid, laid-none, laid-more, laid-on, laid-as}
+use Rattle.dump.specs.Laws.InOrder.{clip, partLaid}
+use Rattle.dump.specs.Laws.WordBytes.{word-byte}
+
+-- eight of them
+pub eight-sets : (area : List ℕ) (p : ℕ) (b : List ℕ)
+    → set (set (set (set (set (set (set (set area p (getD b 0 0)) (p + 1) (getD b 1 0)) (p + 2) (getD b 2 0)) (p + 3) (getD b 3 0))
+    (p + 4) (getD b 4 0)) (p + 5) (getD b 5 0)) (p + 6) (getD b 6 0)) (p + 7) (getD b 7 0)
+    ≡ laid area p b 0 8
+unfolding laid
+eight-sets area p b =
+    ap (λ (q : ℕ). set (set (set (set (set (set (set (set area q (getD b 0 0)) (p + 1) (getD b 1 0)) (p + 2) (getD b 2 0)) (p + 3) (getD b 3 0))
+    (p + 4) (getD b 4 0)) (p + 5) (getD b 5 0)) (p + 6) (getD b 6 0)) (p + 7) (getD b 7 0))
+    (omega arith)
+
+-- no byte yet
+pub laid-nothing : (area : List ℕ) (base : ℕ) (xs : List ℕ) (p : ℕ) → area ≡ laid area base xs p (p - p)
+laid-nothing area base xs p = rw (sub-self p) (laid-none area base xs p)
+
+-- all bytes up to q
+pub laid-all : (area : List ℕ) (base : ℕ) (xs : List ℕ) (p q k : ℕ) {now : List ℕ} → q ≤ k → k - q ≤ p - q → p ≤ k → now ≡ laid area base xs p (k - p)
+    → now ≡ laid area base xs p (q - p)
+laid-all area base xs p q k h g l e = let n : k - p ≡ q - p = omega arith in rw n at e
+
+-- the byte at k is the next
+pub laid-next : (area : List ℕ) (base : ℕ) (xs : List ℕ) (p k b : ℕ) {now : List ℕ} → p ≤ k → now ≡ laid area base xs p (k - p) → b ≡ getD xs k 0
+    → set now (base + k) b ≡ laid area base xs p (k + 1 - p)
+laid-next area base xs p k b h e f =
+    let n : k + 1 - p ≡ k - p + 1 = omega arith in
+    rw (e, n) (laid-more area base xs p (k - p) k b (omega arith) f)
+
+-- the word at k is the next
+pub word-next : (area : List ℕ) (base : ℕ) (ws : List ℕ) (i k w : ℕ) {now : List ℕ} → i ≤ k → now ≡ laid area base (wordsBytes ws) (8 * i) (8 * (k - i))
+    → w ≡ getD ws k 0 → laid now (base + 8 * k) (eight w) 0 8 ≡ laid area base (wordsBytes ws) (8 * i) (8 * (k + 1 - i))
+word-next area base ws i k w {now} h e f =
+    let n : 8 * (k + 1 - i) ≡ 8 * (k - i) + 8 = omega arith in
+    let q : 8 * i + 8 * (k - i) ≡ 8 * k = omega arith in
+    rw n
+    (laid-as now (base + 8 * k) (eight w) 0 base (wordsBytes ws) (8 * k) 8 (omega arith)
+    (λ j l. ap (λ (m : ℕ). getD (eight w) m 0) (zero-add j) ∙ ap (λ (v : ℕ). getD (eight v) j 0) f ∙ sym (word-byte ws k j l))
+    ∙ ap (λ (x : List ℕ). laid x base (wordsBytes ws) (8 * k) 8) e
+    ∙ ap (λ (m : ℕ). laid (laid area base (wordsBytes ws) (8 * i) (8 * (k - i))) base (wordsBytes ws) m 8) (sym q)
+    ∙ laid-on area base (wordsBytes ws) (8 * i) (8 * (k - i)) 8)
+
+pub words-nothing : (area : List ℕ) (base : ℕ) (ws : List ℕ) (i : ℕ) → area ≡ laid area base (wordsBytes ws) (8 * i) (8 * (i - i))
+words-nothing area base ws i = rw (sub-self i) (laid-none area base (wordsBytes ws) (8 * i))
+
+pub words-all : (area : List ℕ) (base : ℕ) (ws : List ℕ) (i j k : ℕ) {now : List ℕ} → j ≤ k → k - j ≤ i - j → i ≤ k
+    → now ≡ laid area base (wordsBytes ws) (8 * i) (8 * (k - i)) → now ≡ laid area base (wordsBytes ws) (8 * i) (8 * (j - i))
+words-all area base ws i j k h g l e = let n : 8 * (k - i) ≡ 8 * (j - i) = omega arith in rw n at e
+
+-- some bytes, and then those that follow
+pub laid-two : (area : List ℕ) (base : ℕ) (xs : List ℕ) (p n q m k : ℕ) {mid out : List ℕ} → mid ≡ laid area base xs p n → out ≡ laid mid base xs q m
+    → q ≡ p + n → k ≡ n + m → out ≡ laid area base xs p k
+laid-two area base xs p n q m k e f g h = rw (f, e, g, h) (laid-on area base xs p n m)
+
+-- what of a part lies between
+pub part-laid : (area : List ℕ) (base : ℕ) (ws : List ℕ) (skip start most from upto a b : ℕ) {out : List ℕ}
+    → a ≡ clip from start most → b ≡ clip upto start most
+    → out ≡ laid area base (wordsBytes ws) (skip + a) (skip + b - (skip + a)) → out ≡ partLaid area base ws skip start most from upto
+part-laid area base ws skip start most from upto a b e f g =
+    let n : skip + b - (skip + a) ≡ b - a = omega arith in
+    rw (← e, ← f, ← n) g

@@ -1,0 +1,69 @@
+-- The loop's invariant: the rows passed are fine.
+use Prim.Native.Nat.{ℕ, _-_, _≤_}
+use mathlib.Core.Path.{_≡_, sym, ap, _∙_}
+use mathlib.Core.Bool.{Bool, true}
+use mathlib.Core.List.{List}
+use native.Mathlib.Omega.{arith}
+use Rattle.words.specs.Limits.{rowWords}
+use Rattle.refusals.specs.Bar.{every}
+use Rattle.refusals.specs.Laws.Descent.{so, not-so}
+use Rattle.dump.specs.Reading.{wordsAt, rowIn}
+use Rattle.dump.specs.Refused.{rowFine, eachFine}
+use Rattle.dump.proofs.Testing.{every-none, every-more, every-no}
+use borrow.Author.Needs.{needs}
+use Rattle.dump.proofs.image.each_fine.Statement.{statement}
+use Rattle.dump.proofs.image.each_fine.Tie as tie
+
+abbrev isFine : List ℕ → ℕ → ℕ → Bool
+isFine x K i = rowFine K (rowIn x K i)
+
+abbrev Inv-loop : tie.InvT-loop
+Inv-loop image slots n i₀ i = (i ≤ n) × (every i (isFine image slots) ≡ true)
+
+abbrev μ-loop : tie.MeasureT-loop
+μ-loop image slots n i₀ i = n - i
+
+loop-holds : tie.Need-loop-holds Inv-loop μ-loop
+loop-holds c = let a = c .before .args in (omega arith, every-none (isFine (a .image .now) (a .slots)))
+
+loop-again : tie.Need-loop-again Inv-loop μ-loop
+loop-again c =
+    let judge = c .before in
+    let place = judge .before in
+    let l = place .before .before in
+    let a = l .before .before .args in
+    let told = judge .row-fine .ensures ∙ ap (λ (p : ℕ). rowFine (a .slots) (wordsAt (a .image .now) p (rowWords (a .slots)))) (place .row-place .ensures .0) in
+    (omega arith, every-more (isFine (a .image .now) (a .slots)) (l .loop .i) (l .loop .inv .1) (so told (c .if1 .left)))
+
+returns : tie.Need-returns Inv-loop μ-loop
+unfolding eachFine
+returns c =
+    let judge = c .before in
+    let place = judge .before in
+    let t = place .before in
+    let l = t .before in
+    let a = l .before .before .args in
+    let told = judge .row-fine .ensures ∙ ap (λ (p : ℕ). rowFine (a .slots) (wordsAt (a .image .now) p (rowWords (a .slots)))) (place .row-place .ensures .0) in
+    sym (every-no (isFine (a .image .now) (a .slots)) (l .loop .i) (not-so told (c .if1 .taken)) (a .n) (t .loop-test .taken))
+
+returns-2 : tie.Need-returns-2 Inv-loop μ-loop
+unfolding eachFine
+returns-2 c =
+    let l = c .before in
+    let e : l .before .before .args .n ≡ l .loop .i = omega (arith, c .loop-test .left) in
+    rw e (sym (l .loop .inv .1))
+
+pub each-fine-spec : {M : Type 1} → statement M
+each-fine-spec =
+    tie.close
+    (tie.spec
+    Inv-loop
+    μ-loop
+    loop-holds
+    (λ c κs. search needs)
+    (λ c κs. search needs)
+    returns
+    (λ c. search needs)
+    (λ c. search needs)
+    loop-again
+    returns-2)

@@ -1,0 +1,68 @@
+-- The rows, and what is behind them.
+use Prim.Native.Nat.{ℕ}
+use mathlib.Core.Path.{ap, _∙_}
+use borrow.Author.Tests.{not-true, not-false}
+use native.Mathlib.Omega.{arith}
+use Rattle.dump.specs.Reading.{slotsIn, rowPlace}
+use Rattle.dump.proofs.Testing.{each-as, rows-end, rows-rest, rows-bad}
+use borrow.Author.Needs.{needs}
+use Rattle.dump.proofs.image.rows_fine.Statement.{statement}
+use Rattle.dump.proofs.image.rows_fine.Tie as tie
+
+each-fine-requires : tie.Need-each-fine-requires
+each-fine-requires c κs =
+    let s = c .before .before .before in
+    (omega (arith, c .before .byte .ensures, s .pre .0), omega (arith, c .read32 .ensures .0, s .pre .1))
+
+row-place-requires : tie.Need-row-place-requires
+row-place-requires c κs =
+    let rows = c .before .before in
+    let s = rows .before .before .before in
+    (omega (arith, rows .before .byte .ensures, s .pre .0), omega (arith, rows .read32 .ensures .0, s .pre .1))
+
+returns : tie.Need-returns
+returns c =
+    let each = c .before in
+    let rows = each .before in
+    let slots = rows .before in
+    let x = slots .before .before .args .image .now in
+    rows-bad x (each-as x (each .each-fine .ensures) (slots .byte .ensures) (rows .read32 .ensures .0)) (not-true _ (c .if1 .taken))
+
+returns-2 : tie.Need-returns-2
+returns-2 c =
+    let place = c .before in
+    let each = place .before .before in
+    let rows = each .before in
+    let slots = rows .before in
+    let x = slots .before .before .args .image .now in
+    let at = place .row-place .ensures .0 ∙ ap (λ (k : ℕ). rowPlace k (rows .read32 .result)) (slots .byte .ensures)
+    ∙ ap (rowPlace (slotsIn x)) (rows .read32 .ensures .0) in
+    rows-end x (each-as x (each .each-fine .ensures) (slots .byte .ensures) (rows .read32 .ensures .0)) at (not-false _ (place .before .if1 .left))
+    (c .if2 .taken)
+
+returns-3 : tie.Need-returns-3
+returns-3 c =
+    let place = c .before .before in
+    let each = place .before .before in
+    let rows = each .before in
+    let slots = rows .before in
+    let x = slots .before .before .args .image .now in
+    let at = place .row-place .ensures .0 ∙ ap (λ (k : ℕ). rowPlace k (rows .read32 .result)) (slots .byte .ensures)
+    ∙ ap (rowPlace (slotsIn x)) (rows .read32 .ensures .0) in
+    rows-rest x (each-as x (each .each-fine .ensures) (slots .byte .ensures) (rows .read32 .ensures .0)) at (not-false _ (place .before .if1 .left))
+    (c .zero-at .ensures)
+
+pub rows-fine-spec : {M : Type 1} → statement M
+rows-fine-spec =
+    tie.close
+    (tie.spec
+    (λ c κs. search needs)
+    (λ c. search needs)
+    (λ c κs. search needs)
+    each-fine-requires
+    returns
+    row-place-requires
+    returns-2
+    (λ c. search needs)
+    (λ c κs. search needs)
+    returns-3)

@@ -1,0 +1,15 @@
+-- Field by field.
+use mathlib.Core.Path.{refl}
+use Rattle.engine.specs.Books.{emptied}
+use Rattle.dump.proofs.judge.emptied.Statement.{statement}
+use Rattle.dump.proofs.judge.emptied.Tie as tie
+
+returns : tie.Need-returns
+unfolding emptied
+returns c = refl
+
+pub emptied-spec : {M : Type 1} → statement M
+emptied-spec =
+    tie.close
+    (tie.spec
+    returns)

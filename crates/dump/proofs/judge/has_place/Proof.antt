@@ -1,0 +1,31 @@
+-- Tests on the bytes that are left for rows.
+use mathlib.Core.Path.{sym}
+use Rattle.dump.proofs.Places.{too-short, no-rows, too-wide, rows-place}
+use borrow.Author.Needs.{needs}
+use Rattle.dump.proofs.judge.has_place.Statement.{statement}
+use Rattle.dump.proofs.judge.has_place.Tie as tie
+
+returns : tie.Need-returns
+returns c = let a = c .before .args in sym (too-short (a .slots) (a .depth) (a .bytes) (c .if1 .taken))
+
+returns-2 : tie.Need-returns-2
+returns-2 c = let a = c .before .before .args in sym (no-rows (a .slots) (a .depth) (a .bytes) (c .before .if1 .left) (c .if2 .taken))
+
+returns-3 : tie.Need-returns-3
+returns-3 c =
+    let a = c .before .before .before .args in
+    sym (too-wide (a .slots) (a .depth) (a .bytes) (c .before .before .if1 .left) (c .before .if2 .left) (c .if3 .taken))
+
+returns-4 : tie.Need-returns-4
+returns-4 c = let a = c .before .before .before .args in rows-place (a .slots) (a .depth) (a .bytes) (c .before .before .if1 .left)
+
+pub has-place-spec : {M : Type 1} → statement M
+has-place-spec =
+    tie.close
+    (tie.spec
+    returns
+    returns-2
+    returns-3
+    (λ c. search needs)
+    (λ c. search needs)
+    returns-4)

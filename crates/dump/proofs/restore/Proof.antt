@@ -1,0 +1,38 @@
+-- Refused, or read.
+use mathlib.Core.Path.{sym, _∙_}
+use Rattle.dump.specs.Laws.Fine.{restore-fine}
+use Rattle.dump.proofs.Answers.{window-fits, restore-refused, restore-done}
+use borrow.Author.Needs.{needs}
+use Rattle.dump.proofs.restore.Statement.{statement}
+use Rattle.dump.proofs.restore.Tie as tie
+
+read-window-requires : tie.Need-read-window-requires
+read-window-requires c κs =
+    let judge = c .before .before .before in
+    let fine = restore-fine _ _ _ (sym (judge .judge-restore .ensures) ∙ c .before .enum-told .given .1) in
+    (fine .shape .slots, window-fits _ _ _ fine)
+
+returns : tie.Need-returns
+returns c =
+    let judge = c .before .before .before in
+    restore-refused _ _ _ (judge .judge-restore .ensures) (c .before .refusal .given .1)
+
+returns-2 : tie.Need-returns-2
+returns-2 c =
+    let read = c .before .before .before in
+    let judge = read .before .before .before .before in
+    restore-done _ _ _ (judge .judge-restore .ensures) (read .before .before .enum-told .given .1) (c .state-in .ensures) (read .read-window .ensures)
+
+pub restore-spec : {M : Type 1} → statement M
+restore-spec =
+    tie.close
+    (tie.spec
+    (λ c κs. search needs)
+    (λ c. search needs)
+    (λ c. search needs)
+    returns
+    (λ c. search needs)
+    read-window-requires
+    (λ c κs. search needs)
+    (λ c. search needs)
+    returns-2)

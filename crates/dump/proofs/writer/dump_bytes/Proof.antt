@@ -1,0 +1,49 @@
+-- Three tests, and the sum.
+use Prim.Native.Nat.{_+_, _*_}
+use native.Mathlib.Nat.{mul-le-mul-left, mul-le-mul-right}
+use native.Mathlib.Omega.{arith}
+use borrow.Author.Tests.{le-leb, lt-leb}
+use Rattle.dump.specs.Layout.{dumpBytes, sizeFor}
+use borrow.Author.Needs.{needs}
+use Rattle.dump.proofs.writer.dump_bytes.Statement.{statement}
+use Rattle.dump.proofs.writer.dump_bytes.Tie as tie
+
+returns : tie.Need-returns
+unfolding sizeFor
+returns c = simp (lt-leb _ _ (c .if1 .taken))
+
+returns-2 : tie.Need-returns-2
+unfolding sizeFor
+returns-2 c = simp (le-leb _ _ (c .before .if1 .left), lt-leb _ _ (c .if2 .taken))
+
+returns-3 : tie.Need-returns-3
+unfolding sizeFor
+returns-3 c = simp (le-leb _ _ (c .before .before .if1 .left), le-leb _ _ (c .before .if2 .left), lt-leb _ _ (c .if3 .taken))
+
+add-result : tie.Need-add-result
+add-result c =
+    let a = c .before .before .before .before .args in
+    let few = mul-le-mul-right 568 (c .before .if3 .left) in
+    let narrow = mul-le-mul-left {m = 8 * (7 + a .slots)} {n = 568} (a .depth) (omega (arith, c .before .before .before .if1 .left)) in
+    omega (arith, c .body-bytes .ensures, narrow, few)
+
+returns-4 : tie.Need-returns-4
+unfolding sizeFor dumpBytes
+returns-4 c =
+    simp (
+      le-leb _ _ (c .before .before .before .if1 .left),
+      le-leb _ _ (c .before .before .if2 .left),
+      le-leb _ _ (c .before .if3 .left),
+      c .body-bytes .ensures,
+    )
+
+pub dump-bytes-spec : {M : Type 1} → statement M
+dump-bytes-spec =
+    tie.close
+    (tie.spec
+    returns
+    returns-2
+    returns-3
+    (λ c κs. search needs)
+    add-result
+    returns-4)

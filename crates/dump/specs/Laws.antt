@@ -1,0 +1,6 @@
+pub mod Laid
+pub mod WordBytes
+pub mod Packed
+pub mod InOrder
+pub mod Image
+pub mod Fine

@@ -1,0 +1,10 @@
+pub mod Layout
+pub mod Order
+pub mod Reading
+pub mod Refused
+pub mod Dumping
+pub mod Restoring
+pub mod Laws
+pub mod Cut
+pub mod Pages
+pub mod RoundTrip

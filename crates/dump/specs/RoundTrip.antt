@@ -1,0 +1,172 @@
+-- A whole image read back holds what was written: the state, with its books emptied and the rows of its window counted, and the window.
+use Prim.Native.Nat.{ℕ, zero, suc, _+_, _*_, _/_, _%_, _≤_, _<_}
+use mathlib.Core.Path.{_≡_, refl, sym, ap, _∙_}
+use mathlib.Core.List.{List, [], _∷_, _++_}
+use native.Mathlib.Nat.{mod-eq-of-lt, mod-add-div, div-div-eq-div-mul}
+use native.Mathlib.Omega.{arith}
+use lib.Ieee.{Float, binary64, fits}
+use lib.Ieee.Bits.{toBits-lt}
+use lib.Dec.{T}
+use lib.ListN.{length, getD}
+use Rattle.words.specs.Limits.{rowWords, mostSlots, mostRows}
+use Rattle.words.specs.Words.{word}
+use Rattle.floats.specs.Floats.{wordOf}
+use Rattle.table.specs.Bytes.{u16, u32, u64}
+use Rattle.rules.specs.declared.Entered.{Entered}
+use Rattle.rules.specs.declared.Entered.the-variants.{Never, Bar}
+use Rattle.execution.specs.declared.level.OrderKind.{OrderKind}
+use Rattle.execution.specs.declared.level.OrderKind.the-variants.{Market, Limit, Stop, StopLimit}
+use Rattle.records.specs.declared.state.Order.{Order}
+use Rattle.records.specs.declared.state.Order.the-variants.{Idle, EnterLong, EnterShort, Exit}
+use Rattle.records.specs.declared.settings.Settings.{Settings}
+use Rattle.records.specs.declared.state.State.{State}
+use Rattle.records.specs.StateWords.{orderKind, orderDelay, waitsFor, kindWord, levelWord, limitWord, enteredKind, entryBar, wordsOf, stateOf}
+use Rattle.records.specs.Laws.RoundTrip.{KindFits, Floats64, state-back}
+use Rattle.dump.specs.Layout.{wordsBytes, numbers, amounts, head, body, image, windowOf, imageOf}
+use Rattle.dump.specs.Reading.{wordsIn, stateIn}
+
+-- ---- numbers
+
+-- what four and eight bytes of a number say
+abbrev b4 : ℕ → ℕ
+b4 n = n % 256 + 256 * (n / 256 % 256) + 65536 * (n / 65536 % 256 + 256 * (n / 16777216 % 256))
+
+abbrev b8 : ℕ → ℕ
+b8 n = b4 (n % 4294967296) + 4294967296 * b4 (n / 4294967296)
+
+joined : (n a b c r₀ r₁ r₂ r₃ : ℕ) → r₀ + 256 * a ≡ n → r₁ + 256 * b ≡ a → r₂ + 256 * c ≡ b → r₃ ≡ c
+    → r₀ + 256 * r₁ + 65536 * (r₂ + 256 * r₃) ≡ n
+joined n a b c r₀ r₁ r₂ r₃ e₀ e₁ e₂ e₃ = omega arith
+
+four-back : (n : ℕ) → n < 4294967296 → b4 n ≡ n
+four-back n l =
+    let e₁ : n / 256 % 256 + 256 * (n / 65536) ≡ n / 256 = rw (← (div-div-eq-div-mul n 256 256)) (mod-add-div (n / 256) 256) in
+    let e₂ : n / 65536 % 256 + 256 * (n / 16777216) ≡ n / 65536 = rw (← (div-div-eq-div-mul n 65536 256)) (mod-add-div (n / 65536) 256) in
+    joined n (n / 256) (n / 65536) (n / 16777216) _ _ _ _ (mod-add-div n 256) e₁ e₂ (mod-eq-of-lt (omega arith))
+
+eight-back : (n : ℕ) → n < 18446744073709551616 → b8 n ≡ n
+eight-back n l =
+    let low : b4 (n % 4294967296) ≡ n % 4294967296 = four-back (n % 4294967296) (omega arith) in
+    let high : b4 (n / 4294967296) ≡ n / 4294967296 = four-back (n / 4294967296) (omega arith) in
+    ap (λ (m : ℕ). m + 4294967296 * b4 (n / 4294967296)) low ∙ ap (λ (m : ℕ). n % 4294967296 + 4294967296 * m) high ∙ mod-add-div n 4294967296
+
+-- ---- a state whose numbers have a place in an image: those of every state that the code holds, once 13 has let it pass
+
+pub record Small (t : State) : Type 0 where
+  pub seen : t .counts .«bars_seen» < 4294967296
+  pub entry : entryBar (t .position .entered) < 4294967296
+  pub delay : orderDelay (t .order) < 18446744073709551616
+  pub entryTime : t .position .portfolio .«entry_time» < 18446744073709551616
+  pub lastTime : t .last .time < 18446744073709551616
+  pub floats : Floats64 t
+
+float-small : (v : Float) → T (fits binary64 v) → wordOf v < 18446744073709551616
+float-small v h = toBits-lt binary64 v h
+
+order-small : (o : Order) → orderKind o < 256
+unfolding orderKind
+order-small Idle = omega arith
+order-small (EnterLong d k) = omega arith
+order-small (EnterShort d k) = omega arith
+order-small (Exit d) = omega arith
+
+kind-small : (k : OrderKind) → kindWord k < 256
+unfolding kindWord
+kind-small Market = omega arith
+kind-small (Limit x) = omega arith
+kind-small (Stop x) = omega arith
+kind-small (StopLimit x y) = omega arith
+
+level-small : (k : OrderKind) → KindFits k → levelWord k < 18446744073709551616
+unfolding levelWord KindFits
+level-small Market h = omega arith
+level-small (Limit x) h = float-small x h
+level-small (Stop x) h = float-small x h
+level-small (StopLimit x y) h = float-small x (h .0)
+
+limit-small : (k : OrderKind) → KindFits k → limitWord k < 18446744073709551616
+unfolding limitWord KindFits
+limit-small Market h = omega arith
+limit-small (Limit x) h = omega arith
+limit-small (Stop x) h = omega arith
+limit-small (StopLimit x y) h = float-small y (h .1)
+
+entered-small : (e : Entered) → enteredKind e < 256
+unfolding enteredKind
+entered-small Never = omega arith
+entered-small (Bar b) = omega arith
+
+-- ---- the words
+
+-- what an image says, byte by byte
+words-said : (K D : ℕ) (ws rows : List ℕ)
+    → wordsIn (image K D ws rows)
+    ≡ b4 (word ws 0) ∷ b4 (length rows / rowWords K) ∷ 0 ∷ 0 ∷ word ws 4 % 256 ∷ b8 (word ws 5) ∷ word ws 6 % 256 ∷ b4 (word ws 7)
+    ∷ b8 (word ws 8) ∷ b8 (word ws 9) ∷ b8 (word ws 10) ∷ b8 (word ws 11) ∷ b8 (word ws 12) ∷ b8 (word ws 13) ∷ b8 (word ws 14)
+    ∷ b8 (word ws 15) ∷ b8 (word ws 16) ∷ word ws 17 % 256 ∷ b8 (word ws 18) ∷ b8 (word ws 19) ∷ b8 (word ws 20) ∷ b8 (word ws 21) ∷ []
+unfolding wordsIn image head numbers amounts wordsBytes u16 u32 u64
+words-said K D ws rows = refl
+
+-- the state with its books emptied and the rows of its window counted
+unfoldable pub restoredOf : Settings → State → List ℕ → State
+restoredOf s t room = record {
+  counts = record {
+    «bars_seen» = t .counts .«bars_seen»;
+    «rows_held» = length (windowOf s t room) / rowWords (s .slots);
+    «equity_points» = 0;
+    trades = 0;
+  };
+  order = t .order;
+  position = t .position;
+  last = t .last;
+}
+
+module _ (s : Settings) (t : State) (room : List ℕ) (small : Small t) (few : length (windowOf s t room) / rowWords (s .slots) < 4294967296) where
+  words-back : wordsIn (imageOf s t room) ≡ wordsOf (restoredOf s t room)
+  unfolding imageOf wordsOf restoredOf
+  words-back =
+      words-said (s .slots) (s .depth) (wordsOf t) (windowOf s t room)
+      ∙ rw (
+        four-back _ (small .seen),
+        four-back _ few,
+        mod-eq-of-lt (order-small (t .order)),
+        eight-back _ (small .delay),
+        mod-eq-of-lt (entered-small (t .position .entered)),
+        four-back _ (small .entry),
+        eight-back _ (float-small _ (small .floats .cash)),
+        eight-back _ (float-small _ (small .floats .qty)),
+        eight-back _ (float-small _ (small .floats .«entry_price»)),
+        eight-back _ (small .entryTime),
+        eight-back _ (float-small _ (small .floats .«entry_fee»)),
+        eight-back _ (float-small _ (small .floats .«fees_paid»)),
+        eight-back _ (float-small _ (small .floats .extreme)),
+        eight-back _ (small .lastTime),
+        eight-back _ (float-small _ (small .floats .close)),
+        mod-eq-of-lt (kind-small (waitsFor (t .order))),
+        eight-back _ (level-small (waitsFor (t .order)) (small .floats .order)),
+        eight-back _ (limit-small (waitsFor (t .order)) (small .floats .order)),
+        eight-back _ (float-small _ (small .floats .funding)),
+        eight-back _ (float-small _ (small .floats .worst)),
+      )
+
+  floats-back : Floats64 (restoredOf s t room)
+  unfolding restoredOf
+  floats-back =
+      let f = small .floats in
+      record {
+        cash = f .cash;
+        qty = f .qty;
+        «entry_price» = f .«entry_price»;
+        «entry_fee» = f .«entry_fee»;
+        «fees_paid» = f .«fees_paid»;
+        funding = f .funding;
+        worst = f .worst;
+        extreme = f .extreme;
+        close = f .close;
+        order = f .order;
+      }
+
+  -- THE STATE COMES BACK from a whole image: all of it but the books, and as many rows as its window has.
+  pub state-comes-back : stateIn (imageOf s t room) ≡ restoredOf s t room
+  unfolding stateIn
+  state-comes-back = ap stateOf words-back ∙ (unfold wordsOf in state-back (restoredOf s t room) floats-back [])

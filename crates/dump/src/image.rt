@@ -1,0 +1,284 @@
+// Whether an image can be restored: 10, 12, 19, 20.
+use crate::reader::read_words;
+use crate::writer::HEAD_BYTES;
+use records::settings::Settings;
+use refusals::bar::judge_bar;
+use refusals::rooms::judge_room;
+use refusals::setting::judge_settings;
+use refusals::verdict::Verdict;
+use table::bytes::byte;
+use table::bytes::read16;
+use table::bytes::read32;
+use table::bytes::read64;
+use words::limits::MOST_ROWS;
+use words::limits::MOST_SLOTS;
+use words::limits::ROW_FIXED;
+use words::refusal::Refusal;
+ghost use mathlib.Core.Path.{_≡_};
+ghost use Prim.Native.Nat.{_+_, _<_, _≤_};
+ghost use Rattle.words.specs.Limits.{rowWords, mostSlots, mostRows};
+ghost use Rattle.refusals.specs.Lines.{judged};
+ghost use Rattle.dump.specs.Reading.{slotsIn, rowsIn, wordsAt, rowPlace};
+ghost use Rattle.dump.specs.Refused.{usedOrZero, isEntry, zeroAt, absentZero, rowFine, eachFine, rowsFine};
+ghost use Rattle.dump.specs.Refused.{shapeFine, numbersFine, unusedZero, imageLines, sameLines, restoreJudged};
+
+// The words of the widest row.
+const MOST_WORDS: usize = ROW_FIXED + MOST_SLOTS;
+
+// Mark, version, D, K and the size.
+fn shape_fine(image: &[u8]) -> bool
+    ensures { λ r. ⌜ r ≡ shapeFine (now (image .entry)) ⌝ }
+{
+    if image.len() < HEAD_BYTES {
+        return false;
+    }
+    if byte(image, 0) != 87 {
+        return false;
+    }
+    if byte(image, 1) != 68 {
+        return false;
+    }
+    if byte(image, 2) != 80 {
+        return false;
+    }
+    if read16(image, 4) != 1 {
+        return false;
+    }
+    let depth = read16(image, 6);
+    if depth < 1 {
+        return false;
+    }
+    if MOST_ROWS < depth {
+        return false;
+    }
+    let slots = byte(image, 3) as usize;
+    if MOST_SLOTS < slots {
+        return false;
+    }
+    image.len() == HEAD_BYTES + depth * (8 * (ROW_FIXED + slots))
+}
+
+// Rows, kinds and the entry bar.
+fn numbers_fine(image: &[u8]) -> bool
+    ensures { λ r. ⌜ r ≡ numbersFine (now (image .entry)) ⌝ }
+{
+    let rows = read32(image, 12);
+    let seen = read32(image, 8);
+    let depth = read16(image, 6) as u64;
+    if depth < rows {
+        return false;
+    }
+    if seen < rows {
+        return false;
+    }
+    if 3 < byte(image, 16) {
+        return false;
+    }
+    if 3 < byte(image, 17) {
+        return false;
+    }
+    let entered = byte(image, 18);
+    if 1 < entered {
+        return false;
+    }
+    if entered == 0 {
+        return true;
+    }
+    read32(image, 20) < seen
+}
+
+// A field that is not used is zero.
+fn used_or_zero(used: bool, word: u64) -> bool
+    ensures { λ r. ⌜ r ≡ usedOrZero used word ⌝ }
+{
+    if used {
+        return true;
+    }
+    word == 0
+}
+
+// Whether an order is an entry.
+fn is_entry(order: u8) -> bool
+    ensures { λ r. ⌜ r ≡ isEntry order ⌝ }
+{
+    if order == 1 {
+        return true;
+    }
+    order == 2
+}
+
+// The fields that their kind does not use.
+fn unused_zero(image: &[u8]) -> bool
+    ensures { λ r. ⌜ r ≡ unusedZero (now (image .entry)) ⌝ }
+{
+    let order = byte(image, 16);
+    let kind = byte(image, 17);
+    if !used_or_zero(0 < order, read64(image, 24)) {
+        return false;
+    }
+    if !used_or_zero(is_entry(order), kind as u64) {
+        return false;
+    }
+    if !used_or_zero(0 < kind, read64(image, 104)) {
+        return false;
+    }
+    if !used_or_zero(kind == 3, read64(image, 112)) {
+        return false;
+    }
+    used_or_zero(0 < byte(image, 18), read32(image, 20))
+}
+
+// Whether the n bytes from `at` on are zero.
+fn zero_at(image: &[u8], at: usize, n: usize) -> bool
+    requires { ⌜ at + n < 18446744073709551616 ⌝ }
+    ensures { λ r. ⌜ r ≡ zeroAt (now (image .entry)) at n ⌝ }
+{
+    let mut i: usize = 0;
+    while i < n {
+        if byte(image, at + i) != 0 {
+            return false;
+        }
+        i += 1;
+    }
+    true
+}
+
+// Whether the words of absent slots are zero.
+fn absent_zero(row: &[u64], slots: usize) -> bool
+    requires { ⌜ slots ≤ mostSlots ⌝ }
+    ensures { λ r. ⌜ r ≡ absentZero slots (now (row .entry)) ⌝ }
+{
+    let mask = words::word(row, rows::MASK);
+    let mut k: usize = 0;
+    while k < slots {
+        if !used_or_zero((mask >> k) % 2 == 1, words::word(row, ROW_FIXED + k)) {
+            return false;
+        }
+        k += 1;
+    }
+    true
+}
+
+// Whether a row is one that a bar that 11 lets pass would have left.
+fn words_fine(row: &[u64], slots: usize) -> bool
+    requires { ⌜ slots ≤ mostSlots ⌝ }
+    ensures { λ r. ⌜ r ≡ rowFine slots (now (row .entry)) ⌝ }
+{
+    if let Verdict::Bad(_) = judge_bar(slots, row, 0) {
+        return false;
+    }
+    absent_zero(row, slots)
+}
+
+// The row at a place.
+fn row_fine(image: &[u8], slots: usize, at: usize) -> bool
+    requires { ⌜ (slots ≤ mostSlots) × (at < 4294967296) ⌝ }
+    ensures { λ r. ⌜ r ≡ rowFine slots (wordsAt (now (image .entry)) at (rowWords slots)) ⌝ }
+{
+    let mut room = [0u64; MOST_WORDS];
+    let width = ROW_FIXED + slots;
+    read_words(image, at, &mut room, width);
+    words_fine(&room[..width], slots)
+}
+
+// Where a row begins.
+fn row_place(slots: usize, i: usize) -> usize
+    requires { ⌜ (slots ≤ mostSlots) × (i ≤ mostRows) ⌝ }
+    ensures { λ r. ⌜ (r ≡ rowPlace slots i) × (r < 4294967296) ⌝ }
+{
+    HEAD_BYTES + 8 * (i * (ROW_FIXED + slots))
+}
+
+// The first n rows.
+fn each_fine(image: &[u8], slots: usize, n: usize) -> bool
+    requires { ⌜ (slots ≤ mostSlots) × (n ≤ mostRows) ⌝ }
+    ensures { λ r. ⌜ r ≡ eachFine (now (image .entry)) slots n ⌝ }
+{
+    let mut i: usize = 0;
+    while i < n {
+        if !row_fine(image, slots, row_place(slots, i)) {
+            return false;
+        }
+        i += 1;
+    }
+    true
+}
+
+// All rows, the zero rows too.
+fn rows_fine(image: &[u8]) -> bool
+    requires { ⌜ (slotsIn (now image) ≤ mostSlots) × (rowsIn (now image) ≤ mostRows) ⌝ }
+    ensures { λ r. ⌜ r ≡ rowsFine (now (image .entry)) ⌝ }
+{
+    let slots = byte(image, 3) as usize;
+    let held = read32(image, 12) as usize;
+    if !each_fine(image, slots, held) {
+        return false;
+    }
+    let end = row_place(slots, held);
+    if image.len() < end {
+        return true;
+    }
+    zero_at(image, end, image.len() - end)
+}
+
+// 19.
+fn judge_image(image: &[u8]) -> Verdict
+    ensures { λ r. ⌜ r ≡ judged (imageLines (now (image .entry))) ⌝ }
+{
+    let torn = Refusal {
+        number: 19,
+        place: 0,
+    };
+    if !shape_fine(image) {
+        return Verdict::Bad(torn);
+    }
+    if !numbers_fine(image) {
+        return Verdict::Bad(torn);
+    }
+    if !unused_zero(image) {
+        return Verdict::Bad(torn);
+    }
+    if byte(image, 19) != 0 {
+        return Verdict::Bad(torn);
+    }
+    if !zero_at(image, 136, 120) {
+        return Verdict::Bad(torn);
+    }
+    if !rows_fine(image) {
+        return Verdict::Bad(torn);
+    }
+    Verdict::Fine
+}
+
+// 20.
+fn judge_same(s: Settings, image: &[u8]) -> Verdict
+    ensures { λ r. ⌜ r ≡ judged (sameLines s (now (image .entry))) ⌝ }
+{
+    let other = Refusal {
+        number: 20,
+        place: 0,
+    };
+    if read16(image, 6) != s.depth {
+        return Verdict::Bad(other);
+    }
+    if byte(image, 3) as usize != s.slots {
+        return Verdict::Bad(other);
+    }
+    Verdict::Fine
+}
+
+// All of it.
+pub(crate) fn judge_restore(s: Settings, image: &[u8], rows: &[u64]) -> Verdict
+    ensures { λ r. ⌜ r ≡ restoreJudged s (now (image .entry)) (now (rows .entry)) ⌝ }
+{
+    if let Verdict::Bad(refusal) = judge_room(s, rows) {
+        return Verdict::Bad(refusal);
+    }
+    if let Verdict::Bad(refusal) = judge_settings(s) {
+        return Verdict::Bad(refusal);
+    }
+    if let Verdict::Bad(refusal) = judge_image(image) {
+        return Verdict::Bad(refusal);
+    }
+    judge_same(s, image)
+}

@@ -1,0 +1,110 @@
+// Whether a dump can be made: 10, 12, 13.
+use crate::writer::HEAD_BYTES;
+use records::settings::Settings;
+use records::state::Counts;
+use records::state::State;
+use refusals::rooms::judge_room;
+use refusals::rooms::judge_state;
+use refusals::setting::judge_settings;
+use refusals::verdict::Verdict;
+use words::limits::MOST_COUNT;
+use words::limits::ROW_FIXED;
+use words::refusal::Refusal;
+ghost use mathlib.Core.Path.{_≡_};
+ghost use lib.Dec.{leb};
+ghost use Rattle.refusals.specs.Lines.{judged};
+ghost use Rattle.engine.specs.Books.{emptied};
+ghost use Rattle.dump.specs.Layout.{dumpBytes};
+ghost use Rattle.dump.specs.Refused.{areaLines, dumpStateLines, dumpJudged};
+
+// The number of the area among the rooms.
+const AREA: u64 = 14;
+
+// Whether so many bytes have a place for an image. No product is made that might wrap.
+fn has_place(bytes: usize, slots: usize, depth: usize) -> bool
+    ensures { λ r. ⌜ r ≡ leb (dumpBytes slots depth) bytes ⌝ }
+{
+    if bytes < HEAD_BYTES {
+        return false;
+    }
+    let left = (bytes - HEAD_BYTES) / 8;
+    if depth == 0 {
+        return true;
+    }
+    if left < slots {
+        return false;
+    }
+    depth <= left / (ROW_FIXED + slots)
+}
+
+// 10: the area.
+fn judge_area(s: Settings, area: &[u8]) -> Verdict
+    ensures { λ r. ⌜ r ≡ judged (areaLines s (now (area .entry))) ⌝ }
+{
+    if !has_place(area.len(), s.slots, s.depth) {
+        return Verdict::Bad(Refusal {
+            number: 10,
+            place: AREA,
+        });
+    }
+    Verdict::Fine
+}
+
+// The state with nothing in its books.
+fn emptied(t: State) -> State
+    ensures { λ r. ⌜ r ≡ emptied t ⌝ }
+{
+    let n = t.counts;
+    let order = t.order;
+    let position = t.position;
+    let last = t.last;
+    State {
+        counts: Counts {
+            bars_seen: n.bars_seen,
+            rows_held: n.rows_held,
+            equity_points: 0,
+            trades: 0,
+        },
+        order,
+        position,
+        last,
+    }
+}
+
+// 13: the state. Books are not lent, so of them only the counts are judged.
+fn judge_counts(s: Settings, t: State, rows: &[u64]) -> Verdict
+    ensures { λ r. ⌜ r ≡ judged (dumpStateLines s t (now (rows .entry))) ⌝ }
+{
+    let n = t.counts;
+    if MOST_COUNT < n.equity_points as u64 {
+        return Verdict::Bad(Refusal {
+            number: 13,
+            place: 0,
+        });
+    }
+    if MOST_COUNT < n.trades as u64 {
+        return Verdict::Bad(Refusal {
+            number: 13,
+            place: 0,
+        });
+    }
+    let none: usize = 0;
+    let nothing = &rows[none..none];
+    judge_state(s, emptied(t), rows, nothing, nothing)
+}
+
+// All of it.
+pub(crate) fn judge_dump(s: Settings, t: State, rows: &[u64], area: &[u8]) -> Verdict
+    ensures { λ r. ⌜ r ≡ dumpJudged s t (now (rows .entry)) (now (area .entry)) ⌝ }
+{
+    if let Verdict::Bad(refusal) = judge_room(s, rows) {
+        return Verdict::Bad(refusal);
+    }
+    if let Verdict::Bad(refusal) = judge_area(s, area) {
+        return Verdict::Bad(refusal);
+    }
+    if let Verdict::Bad(refusal) = judge_settings(s) {
+        return Verdict::Bad(refusal);
+    }
+    judge_counts(s, t, rows)
+}

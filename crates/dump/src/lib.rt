@@ -1,0 +1,45 @@
+// The dump: a state and its window as bytes for an area that keeps them without power, and back. The mark's last byte is written last, so
+// that an area that was not written to the end is no image.
+mod bytes;
+mod image;
+mod judge;
+pub mod reader;
+pub mod writer;
+
+ghost use mathlib.Core.Path.{_≡_};
+ghost use Rattle.dump.specs.Dumping.{Dumped};
+ghost use Rattle.dump.specs.Restoring.{Restores};
+use reader::Restored;
+use records::settings::Settings;
+use records::state::State;
+use refusals::verdict::Verdict;
+
+// Writes bytes `from` to `upto` of the order of writing into the area: 0 to the image's size is all of it, and a driver that programs page
+// after page asks for one stretch after another.
+pub fn dump(
+    s: Settings,
+    t: State,
+    rows: &[u64],
+    area: &mut [u8],
+    from: usize,
+    upto: usize,
+) -> Verdict
+    ensures { λ r. ⌜ Dumped s t (now (rows .entry)) (now (area .entry)) from upto r (now (area .exit)) ⌝ }
+{
+    if let Verdict::Bad(refusal) = judge::judge_dump(s, t, rows, area) {
+        return Verdict::Bad(refusal);
+    }
+    writer::write_dump(s, t, rows, area, from, upto);
+    Verdict::Fine
+}
+
+// The state that an image holds, and its window over the first words of the row room.
+pub fn restore(s: Settings, image: &[u8], rows: &mut [u64]) -> Restored
+    ensures { λ r. ⌜ Restores s (now (image .entry)) (now (rows .entry)) r (now (rows .exit)) ⌝ }
+{
+    if let Verdict::Bad(refusal) = image::judge_restore(s, image, rows) {
+        return Restored::Refused(refusal);
+    }
+    reader::read_window(image, rows);
+    Restored::Done(reader::state_in(image))
+}

@@ -1,0 +1,74 @@
+// An image read back.
+use crate::writer::HEAD_BYTES;
+use records::state::State;
+use table::bytes::byte;
+use table::bytes::read32;
+use table::bytes::read64;
+use words::limits::ROW_FIXED;
+use words::refusal::Refusal;
+ghost use mathlib.Core.Path.{_≡_};
+ghost use mathlib.Core.List.{_++_};
+ghost use Prim.Native.Nat.{_+_, _*_, _<_, _≤_};
+ghost use lib.ListN.{length, drop};
+ghost use Rattle.words.specs.Limits.{rowWords, mostSlots};
+ghost use Rattle.words.specs.Words.{overwrite};
+ghost use Rattle.dump.specs.Reading.{slotsIn, rowsIn, wordsAt, stateIn, windowIn};
+
+// What a restore comes to.
+pub enum Restored {
+    Refused(Refusal),
+    Done(State),
+}
+
+// Reads n words, the first at byte `at`, over the first words of a room.
+pub(crate) fn read_words(image: &[u8], at: usize, room: &mut [u64], n: usize)
+    requires { ⌜ (n ≤ length (now room)) × (at + 8 * n < 18446744073709551616) ⌝ }
+    ensures { λ _. ⌜ now (room .exit) ≡ wordsAt (now (image .entry)) at n ++ drop n (now (room .entry)) ⌝ }
+{
+    let mut i: usize = 0;
+    while i < n {
+        room[i] = read64(image, at + 8 * i);
+        i += 1;
+    }
+}
+
+// The window's rows, over the first words of the row room.
+pub(crate) fn read_window(image: &[u8], rows: &mut [u64])
+    requires { ⌜ (slotsIn (now image) ≤ mostSlots) × (rowsIn (now image) * rowWords (slotsIn (now image)) ≤ length (now rows)) ⌝ }
+    ensures { λ _. ⌜ now (rows .exit) ≡ overwrite (now (rows .entry)) 0 (windowIn (now (image .entry))) ⌝ }
+{
+    let width = ROW_FIXED + byte(image, 3) as usize;
+    let n = read32(image, 12) as usize * width;
+    read_words(image, HEAD_BYTES, rows, n);
+}
+
+// The state.
+pub(crate) fn state_in(image: &[u8]) -> State
+    ensures { λ r. ⌜ r ≡ stateIn (now (image .entry)) ⌝ }
+{
+    let words = [
+        read32(image, 8),
+        read32(image, 12),
+        0,
+        0,
+        byte(image, 16) as u64,
+        read64(image, 24),
+        byte(image, 18) as u64,
+        read32(image, 20),
+        read64(image, 32),
+        read64(image, 40),
+        read64(image, 48),
+        read64(image, 56),
+        read64(image, 64),
+        read64(image, 72),
+        read64(image, 80),
+        read64(image, 88),
+        read64(image, 96),
+        byte(image, 17) as u64,
+        read64(image, 104),
+        read64(image, 112),
+        read64(image, 120),
+        read64(image, 128),
+    ];
+    records::state_words::state_of(&words)
+}

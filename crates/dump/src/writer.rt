@@ -1,0 +1,163 @@
+// An image written into an area, in the one order of writing.
+use crate::bytes::lay;
+use records::settings::Settings;
+use records::state::State;
+use words::limits::MOST_ROWS;
+use words::limits::MOST_SLOTS;
+use words::limits::ROW_FIXED;
+use words::limits::STATE_WORDS;
+ghost use mathlib.Core.Path.{_≡_};
+ghost use Prim.Native.Nat.{_+_, _-_, _≤_};
+ghost use lib.ListN.{length};
+ghost use Rattle.records.specs.StateWords.{wordsOf};
+ghost use Rattle.words.specs.Limits.{mostSlots, mostRows, stateWords};
+ghost use Rattle.rows.specs.History.{lastRows};
+ghost use Rattle.records.specs.Lent.{rowPlaces};
+ghost use Rattle.engine.specs.Record.{heldRows};
+ghost use Rattle.dump.specs.Layout.{bodyBytes, sizeFor, imageOf};
+ghost use Rattle.dump.specs.Order.{written};
+ghost use Rattle.dump.specs.Laws.Packed.{headWords};
+ghost use Rattle.dump.specs.Laws.InOrder.{clip, partLaid, inOrder};
+ghost use Rattle.dump.specs.Laws.Fine.{DumpFine};
+
+// The bytes before the rows; of these the mark's, and the rest.
+pub const HEAD_BYTES: usize = 256;
+
+pub const MARK_BYTES: usize = 3;
+
+const REST_BYTES: usize = HEAD_BYTES - MARK_BYTES;
+
+// `WDP` and version 1, where they stand in the first word.
+const MARK: u64 = 87 + 256 * 68 + 65536 * 80 + 4294967296;
+
+// How much of a part that begins at `start` lies before x, at most all of it.
+fn clip(x: usize, start: usize, most: usize) -> usize
+    ensures { λ r. ⌜ r ≡ clip x start most ⌝ }
+{
+    if x <= start {
+        return 0;
+    }
+    if most <= x - start {
+        return most;
+    }
+    x - start
+}
+
+// The header's words, of a state's: of a number its lowest bytes, as many as it has in the image.
+fn pack(w: &[u64], slots: u64, depth: u64, held: u64) -> [u64; 17]
+    requires { ⌜ stateWords ≤ length (now w) ⌝ }
+    ensures { λ r. ⌜ r ≡ headWords slots depth held (now (w .entry)) ⌝ }
+{
+    [
+        MARK + 16777216 * (slots % 256) + 281474976710656 * (depth % 65536),
+        w[0] % 4294967296 + 4294967296 * (held % 4294967296),
+        w[4] % 256 + 256 * (w[17] % 256) + 65536 * (w[6] % 256) + 4294967296 * (w[7] % 4294967296),
+        w[5],
+        w[8],
+        w[9],
+        w[10],
+        w[11],
+        w[12],
+        w[13],
+        w[14],
+        w[15],
+        w[16],
+        w[18],
+        w[19],
+        w[20],
+        w[21],
+    ]
+}
+
+// The header's words, of a state.
+fn head_words(s: Settings, t: State, held: usize) -> [u64; 17]
+    ensures { λ r. ⌜ r ≡ headWords (s .slots) (s .depth) held (wordsOf t) ⌝ }
+{
+    let mut words = [0u64; STATE_WORDS];
+    records::state_words::put_state(&mut words, t);
+    pack(&words, s.slots as u64, s.depth as u64, held as u64)
+}
+
+// What lies between `from` and `upto` of a part of the order: `most` bytes that begin at `start`, and are those of the words from `skip` on.
+fn lay_part(
+    area: &mut [u8],
+    base: usize,
+    list: &[u64],
+    skip: usize,
+    start: usize,
+    most: usize,
+    from: usize,
+    upto: usize,
+)
+    requires { ⌜ base + (skip + most) ≤ length (now area) ⌝ }
+    ensures { λ _. ⌜ now (area .exit) ≡ partLaid (now (area .entry)) base (now (list .entry)) skip start most from upto ⌝ }
+{
+    lay(
+        area,
+        base,
+        list,
+        skip + clip(from, start, most),
+        skip + clip(upto, start, most),
+    );
+}
+
+// Bytes `from` to `upto` of the order of writing: the rows, the header behind the mark, the mark.
+fn write_order(area: &mut [u8], head: &[u64], rows: &[u64], body: usize, from: usize, upto: usize)
+    requires { ⌜ 256 + body ≤ length (now area) ⌝ }
+    ensures { λ _. ⌜ now (area .exit) ≡ inOrder (now (area .entry)) (now (head .entry)) (now (rows .entry)) body from upto ⌝ }
+{
+    lay_part(area, HEAD_BYTES, rows, 0, 0, body, from, upto);
+    lay_part(area, 0, head, MARK_BYTES, body, REST_BYTES, from, upto);
+    lay_part(area, 0, head, 0, body + REST_BYTES, MARK_BYTES, from, upto);
+}
+
+// The bytes of D rows.
+fn body_bytes(slots: usize, depth: usize) -> usize
+    requires { ⌜ (slots ≤ mostSlots) × (depth ≤ mostRows) ⌝ }
+    ensures { λ r. ⌜ r ≡ bodyBytes slots depth ⌝ }
+{
+    depth * (8 * (ROW_FIXED + slots))
+}
+
+// The size of an image, for a D and a K; 0 where no settings have them.
+pub fn dump_bytes(slots: usize, depth: usize) -> usize
+    ensures { λ r. ⌜ r ≡ sizeFor slots depth ⌝ }
+{
+    if MOST_SLOTS < slots {
+        return 0;
+    }
+    if depth < 1 {
+        return 0;
+    }
+    if MOST_ROWS < depth {
+        return 0;
+    }
+    HEAD_BYTES + body_bytes(slots, depth)
+}
+
+// Of the rows that a room holds the last D, or all where there are fewer.
+fn held_window(rows: &[u64], slots: usize, depth: usize, held: usize) -> &[u64]
+    requires { ⌜ (slots ≤ mostSlots) × (held ≤ rowPlaces slots (now rows)) ⌝ }
+    ensures { λ r. ⌜ now r ≡ lastRows slots depth (heldRows slots held (now (rows .entry))) ⌝ }
+{
+    let end = held * (ROW_FIXED + slots);
+    rows::window(&rows[..end], slots, depth)
+}
+
+// The image of a state and its window, of a dump that was judged.
+pub(crate) fn write_dump(
+    s: Settings,
+    t: State,
+    rows: &[u64],
+    area: &mut [u8],
+    from: usize,
+    upto: usize,
+)
+    requires { ⌜ DumpFine s t (now rows) (now area) ⌝ }
+    ensures { λ _. ⌜ now (area .exit) ≡ written (imageOf s t (now (rows .entry))) (now (area .entry)) from upto ⌝ }
+{
+    let counts = t.counts;
+    let kept = held_window(rows, s.slots, s.depth, counts.rows_held);
+    let head = head_words(s, t, rows::row_count(kept, s.slots));
+    write_order(area, &head, kept, body_bytes(s.slots, s.depth), from, upto);
+}
