@@ -4,6 +4,7 @@ use std::path::PathBuf;
 
 use clap::{Args, Parser, Subcommand};
 
+use crate::dump::asked::Dump;
 use crate::holdup::asked::Holdup;
 use crate::run::asked::Run;
 use crate::why::asked::Why;
@@ -36,6 +37,8 @@ pub enum Command {
     Run(Run),
     /// Why a rule said yes or no at a bar: the chain from its root to what decided, in words
     Why(Why),
+    /// A box's dump: what an image holds, one made from a run, a run that goes on from one, one that is cut short
+    Dump(Dump),
     /// The manual page of all commands; `ysh manual > ysh.1`, then `man -l ysh.1`
     Manual,
 }

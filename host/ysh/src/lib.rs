@@ -9,6 +9,7 @@ mod columns;
 mod commands;
 pub mod compile;
 pub mod decompile;
+mod dump;
 mod files;
 mod holdup;
 mod problem;
@@ -46,6 +47,7 @@ pub fn run(arguments: impl IntoIterator<Item = OsString>, out: &mut dyn Write, e
         Command::Holdup(asked) => commands::holdup::answer(&asked),
         Command::Run(asked) => commands::run::answer(&asked),
         Command::Why(asked) => commands::why::answer(&asked),
+        Command::Dump(asked) => commands::dump::answer(&asked),
         Command::Manual => commands::manual::answer(),
     }
     .into_parts();

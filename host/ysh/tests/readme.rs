@@ -43,14 +43,14 @@ fn the_examples_run_as_they_stand() {
     std::env::set_current_dir(&root).unwrap();
     let (holdup, bars) =
         (examples(&readme, "How deep, how long, how large"), examples(&readme, "A strategy over bars"));
-    assert_eq!((holdup.len(), bars.len()), (2, 3));
+    assert_eq!((holdup.len(), bars.len()), (2, 6));
     for (command, shown) in holdup.into_iter().chain(bars) {
         let arguments: Vec<&str> = command.split_whitespace().skip(1).collect();
         let (status, out, err) = ysh(&arguments);
         assert_eq!((status, err.as_str()), (0, ""), "{command}");
         let shown: Vec<&str> = shown.iter().map(String::as_str).skip_while(|line| line.is_empty()).collect();
         let written: Vec<&str> = out.lines().take(shown.len()).collect();
-        assert!(shown.len() > 5);
+        assert!(!shown.is_empty());
         assert_eq!(written, shown, "{command}");
     }
 }

@@ -95,6 +95,24 @@ impl Rows {
         Rows { slots: self.slots, words: self.words[from..].to_vec() }
     }
 
+    /// One row, by its place, as the bar that it was; funding is not kept.
+    pub fn bar(&self, place: usize) -> Bar {
+        let width = ROW_FIXED + self.slots;
+        let words = &self.words[place * width..(place + 1) * width];
+        let x = |word: usize| f64::from_bits(words[word]);
+        let slot = |k: usize| (words[6] >> k & 1 == 1).then(|| x(ROW_FIXED + k));
+        Bar {
+            time: words[0] as i64,
+            open: x(1),
+            high: x(2),
+            low: x(3),
+            close: x(4),
+            volume: x(5),
+            slots: (0..self.slots).map(slot).collect(),
+            funding: None,
+        }
+    }
+
     pub fn words(&self) -> &[u64] {
         &self.words
     }
@@ -121,7 +139,7 @@ mod tests {
             rows.push(&Bar { time, slots: vec![Some(1.0), Some(9.0)], ..Bar::default() });
         }
         assert_eq!((rows.len(), rows.last(2).len(), rows.last(9).len()), (5, 2, 5));
-        assert_eq!(rows.last(2).words()[0], 3);
+        assert_eq!((rows.last(2).words()[0], rows.bar(4).time, &rows.bar(4).slots[..]), (3, 4, &[Some(1.0)][..]));
         assert!(Rows::of_words(1, vec![0; 9]).is_none());
     }
 }

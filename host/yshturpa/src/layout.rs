@@ -14,6 +14,9 @@ pub const METRIC_WORDS: usize = 9;
 pub const WHY_WORDS: usize = 8;
 pub const WHY_LINES: usize = 32;
 
+/// Bytes of a dump's header.
+pub const DUMP_HEADER: usize = 256;
+
 /// Words of a kept row, and of a bar as it is handed over, besides their slots.
 pub const ROW_FIXED: usize = 7;
 pub const BAR_FIXED: usize = 10;
@@ -128,7 +131,7 @@ pub mod room {
     pub const SILENT: u32 = 18;
 
     /// What each is called, those that are kept for later left out.
-    pub const NAMES: [(u32, &str); 12] = [
+    pub const NAMES: [(u32, &str); 13] = [
         (ROWS, "rows"),
         (1, "equity"),
         (2, "trades"),
@@ -140,6 +143,7 @@ pub mod room {
         (8, "state"),
         (9, "metrics"),
         (10, "lines that say why"),
+        (14, "the dump"),
         (SILENT, "silent tests"),
     ];
 }

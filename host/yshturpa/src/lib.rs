@@ -8,6 +8,7 @@
 mod bar;
 mod bars;
 mod calls;
+mod dump;
 mod engine;
 mod error;
 pub mod layout;
@@ -22,6 +23,7 @@ mod why;
 
 pub use bar::{Bar, Funding, Rows};
 pub use bars::{Bars, Done};
+pub use dump::{parts_written, Image};
 pub use engine::Engine;
 pub use error::Error;
 pub use refusal::Refusal;

@@ -81,7 +81,7 @@ impl fmt::Display for Refusal {
 impl std::error::Error for Refusal {}
 
 /// Number, what it says, and what commonly causes it, as the header has them.
-const WORDS: [(u32, &str, &str); 16] = [
+const WORDS: [(u32, &str, &str); 18] = [
     (1, "the table is under 16 bytes", "an empty file, or a length that is not the table's"),
     (2, "the first three bytes are not RTB", "it is no rule table"),
     (3, "the table's version is none that is read", "a later format, or written with the high byte first"),
@@ -137,6 +137,12 @@ const WORDS: [(u32, &str, &str); 16] = [
         "a lot in other units than the quantity, or far too small a one; the same order is due again at the next step, and \
          another lot, sizing or cap, or another price, lets the run go on",
     ),
+    (
+        19,
+        "the image is no whole dump",
+        "the supply was lost before its last byte was written; a file of another length; an image of another version",
+    ),
+    (20, "the image has another D or K than table and settings", "an image of another strategy, or of other settings"),
 ];
 
 fn setting_causes(place: u32) -> &'static str {
@@ -181,7 +187,7 @@ mod tests {
 
     #[test]
     fn every_number_has_words() {
-        for number in 1..=16 {
+        for number in (1..=16).chain(19..=20) {
             let refusal = Refusal { number, place: 0 };
             assert!(refusal.entry().is_some() && !refusal.causes().is_empty());
         }

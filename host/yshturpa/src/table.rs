@@ -1,6 +1,6 @@
 //! What can be asked of a rule table: whether it is accepted, how deep it looks, what falls silent, its steps.
 
-use crate::layout::{HEADER_BYTES, MOST_NODES, ROW_FIXED, STEP_ROOM};
+use crate::layout::{HEADER_BYTES, MOST_NODES, STEP_ROOM};
 use crate::{calls, Refusal};
 
 /// The four trees of a rule table.
@@ -51,12 +51,9 @@ pub fn depth(table: &[u8], lookback: u64) -> Result<Depth, Refusal> {
     Ok(Depth { rows, bytes })
 }
 
-/// The bytes of the dump that is written when the supply drops.
-///
-/// The library has no call for it yet; request 11: "The size is 256 + D·8·(7 + K) bytes, always, with zero rows while fewer than
-/// D exist; for D = 14 and K = 2 that is 1,264."
+/// The bytes of the dump that is written when the supply drops; 0 for a D or a K that no settings have.
 pub fn dump_bytes(depth: u64, slots: u64) -> u64 {
-    256 + depth * 8 * (ROW_FIXED as u64 + slots)
+    calls::dump_bytes(slots, depth)
 }
 
 /// The tests that answer no over a window of so many rows, whatever the rows hold, by the numbers of their nodes in table order. A

@@ -7,7 +7,7 @@ mod lines;
 mod over;
 
 pub use file::BarsFile;
-pub use over::{over, At, OnRefusal, Refusals};
+pub use over::{over, At, OnRefusal, Refusals, Seen, Way};
 
 /// What is wrong in a line, and in which column, counted from 0.
 #[derive(Clone, Debug, PartialEq, Eq)]

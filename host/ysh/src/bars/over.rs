@@ -3,7 +3,7 @@
 use std::ops::Range;
 
 use clap::ValueEnum;
-use yshturpa::{Bar, Bars, Engine, Refusal};
+use yshturpa::{Bar, Bars, Engine, Refusal, State};
 
 use super::file::{BarsFile, Part};
 use super::lines::Lines;
@@ -26,6 +26,28 @@ pub enum At {
     Time(i64),
 }
 
+/// The last bar that a run has seen: how many it had seen with it, and what it was.
+#[derive(Clone, Copy, Debug)]
+pub struct Seen {
+    bars: u64,
+    time: i64,
+    close: f64,
+}
+
+impl Seen {
+    pub fn of(state: &State) -> Seen {
+        Seen { bars: state.bars_seen(), time: state.last_time(), close: state.last_close() }
+    }
+}
+
+/// Which bars of a file a run takes: those after one that it has seen, up to one that is asked for.
+#[derive(Clone, Copy, Debug)]
+pub struct Way {
+    pub on_refusal: OnRefusal,
+    pub after: Option<Seen>,
+    pub until: Option<At>,
+}
+
 /// The bars that were left out: how many, and what is told of the first of them.
 #[derive(Clone, Debug, Default)]
 pub struct Refusals {
@@ -42,15 +64,14 @@ pub struct Walked {
     pub before: Option<Bar>,
 }
 
-/// Steps over a file's bars, up to the one that is asked for; each bar that was done is shown, in the list that it stands in.
+/// Steps over a file's bars; each bar that was done is shown, in the list that it stands in.
 pub fn over(
     file: &BarsFile,
     engine: &mut Engine,
-    on_refusal: OnRefusal,
-    until: Option<At>,
+    way: Way,
     mut done: impl FnMut(&Bars, Range<usize>),
 ) -> Result<Walked, Problem> {
-    let mut walk = Walk { file, lines: file.lines(), on_refusal, until, refusals: Refusals::default() };
+    let mut walk = Walk { file, lines: file.lines(), way, passed: 0, refusals: Refusals::default() };
     let mut before = None;
     let bar = Late::bytes(file.bytes() as u64);
     let result = file.each(|part| {
@@ -60,14 +81,24 @@ pub fn over(
         Ok(before.is_none())
     });
     bar.ended();
-    result.map(|()| Walked { refusals: walk.refusals, before })
+    result?;
+    if let Some(seen) = walk.way.after {
+        let text = format!(
+            "none of its bars is the one that was seen last, with the time {} and the close {}; where it has only the bars that come \
+             after, --rest was expected",
+            seen.time, seen.close
+        );
+        return Err(Problem::input(&file.name, "", text));
+    }
+    Ok(Walked { refusals: walk.refusals, before })
 }
 
 struct Walk<'a> {
     file: &'a BarsFile,
     lines: Lines<'a>,
-    on_refusal: OnRefusal,
-    until: Option<At>,
+    way: Way,
+    /// Bars that were passed over while the one that was seen last is looked for.
+    passed: u64,
     refusals: Refusals,
 }
 
@@ -79,7 +110,7 @@ impl Walk<'_> {
         part: &Part,
         done: &mut impl FnMut(&Bars, Range<usize>),
     ) -> Result<Option<Bar>, Problem> {
-        let mut at = 0;
+        let Some(mut at) = self.first(&part.bars) else { return Ok(None) };
         loop {
             let end = self.asked_for(&part.bars, at, engine.state().bars_seen()).unwrap_or(part.bars.len());
             let stepped = engine.step_over(&part.bars, at..end);
@@ -99,9 +130,24 @@ impl Walk<'_> {
         }
     }
 
+    /// The first place whose bar was not seen yet; none where all of them were. A bar that was left out is in no count, so the one that was
+    /// seen last may stand later in the file than its number says, and never before.
+    fn first(&mut self, bars: &Bars) -> Option<usize> {
+        let Some(seen) = self.way.after else { return Some(0) };
+        let from = usize::try_from((seen.bars - 1).saturating_sub(self.passed)).unwrap_or(usize::MAX);
+        let last =
+            |place: &usize| bars.time(*place) == seen.time && bars.close(*place).to_bits() == seen.close.to_bits();
+        let found = (from.min(bars.len())..bars.len()).find(last);
+        match found {
+            Some(_) => self.way.after = None,
+            None => self.passed += bars.len() as u64,
+        }
+        found.map(|place| place + 1)
+    }
+
     /// The place of the bar that is asked for, from a place on whose bar has this number.
     fn asked_for(&self, bars: &Bars, from: usize, number: u64) -> Option<usize> {
-        match self.until? {
+        match self.way.until? {
             At::Bar(wanted) => {
                 let place = from + usize::try_from(wanted.checked_sub(number)?).ok()?;
                 (place < bars.len()).then_some(place)
@@ -125,7 +171,7 @@ impl Walk<'_> {
             }
         };
         let problem = Problem { refusal: Some(refusal), ..problem };
-        if self.on_refusal == OnRefusal::Stop {
+        if self.way.on_refusal == OnRefusal::Stop {
             return Err(problem);
         }
         self.refusals.count += 1;

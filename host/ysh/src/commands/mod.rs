@@ -2,6 +2,7 @@
 
 pub mod compile;
 pub mod depth;
+pub mod dump;
 pub mod holdup;
 pub mod manual;
 pub mod run;

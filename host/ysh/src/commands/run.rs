@@ -1,10 +1,11 @@
 //! `ysh run`: rules over bars from a file.
 
 use super::Answer;
+use crate::bars::Way;
 use crate::columns::counted;
 use crate::files::put;
 use crate::problem::Problem;
-use crate::run::asked::Run;
+use crate::run::asked::{Run, Wanted};
 use crate::run::outcome::Outcome;
 use crate::run::{csv, json, page, text, Ready};
 
@@ -16,8 +17,12 @@ pub fn answer(asked: &Run) -> Answer {
 }
 
 fn answered(asked: &Run) -> Result<Answer, Problem> {
-    let outcome = Outcome::of(Ready::of(&asked.over)?, asked.over.on_refusal)?;
-    let wanted = &asked.wanted;
+    let way = Way { on_refusal: asked.over.on_refusal, after: None, until: None };
+    written(Outcome::of(Ready::of(&asked.over)?, way)?, &asked.wanted)
+}
+
+/// The files that are wanted of a run, and the answer.
+pub fn written(outcome: Outcome, wanted: &Wanted) -> Result<Answer, Problem> {
     if let Some(path) = &wanted.trades {
         put(path, csv::trades(&outcome.trades))?;
     }

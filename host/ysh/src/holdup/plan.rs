@@ -55,9 +55,9 @@ impl Plan {
         let share = Time(have.less(self.call).less(self.before).0 / u128::from(self.dumps));
         let most = yshturpa::layout::MOST_DEPTH as u64;
         let bytes = self.flash.most(share);
-        let (none, row) =
-            (yshturpa::dump_bytes(0, slots), yshturpa::dump_bytes(1, slots) - yshturpa::dump_bytes(0, slots));
-        (bytes.saturating_sub(none) / row).min(most)
+        let one = yshturpa::dump_bytes(1, slots);
+        let row = yshturpa::dump_bytes(2, slots) - one;
+        (bytes.saturating_sub(one - row) / row).min(most)
     }
 }
 

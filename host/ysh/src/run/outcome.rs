@@ -3,7 +3,7 @@
 use yshturpa::{Metrics, Point, Reason, Trade};
 
 use super::Ready;
-use crate::bars::{over, OnRefusal, Refusals};
+use crate::bars::{over, Refusals, Way};
 use crate::problem::Problem;
 
 /// A run over every bar of a file, finished.
@@ -46,11 +46,11 @@ pub fn reason_words(reason: Reason) -> String {
 }
 
 impl Outcome {
-    pub fn of(ready: Ready, on_refusal: OnRefusal) -> Result<Outcome, Problem> {
+    pub fn of(ready: Ready, way: Way) -> Result<Outcome, Problem> {
         let notes = ready.notes();
         let Ready { source, settings, bars, mut engine } = ready;
         let mut closes = Vec::new();
-        let walked = over(&bars, &mut engine, on_refusal, None, |list, places| {
+        let walked = over(&bars, &mut engine, way, |list, places| {
             closes.extend(places.map(|place| list.close(place)));
         })?;
         let metrics = engine.finish().map_err(|refusal| source.refused(refusal))?;

@@ -1,9 +1,9 @@
 //! A run at one of its bars: what the rules see there, and which of them the engine asked.
 
-use yshturpa::{rule, Bar, Engine, Order, OrderLevel, Position, Rows, Tree};
+use yshturpa::{rule, Bar, Engine, Order, OrderLevel, Position, Rows, State, Tree};
 
 use super::asked::Place;
-use crate::bars::{over, At, BarsFile, OnRefusal};
+use crate::bars::{over, At, BarsFile, OnRefusal, Way};
 use crate::problem::Problem;
 use crate::run::Ready;
 use crate::show::rounded;
@@ -34,7 +34,8 @@ impl Moment {
     pub fn of(ready: Ready, on_refusal: OnRefusal, place: Place) -> Result<Moment, Problem> {
         let Ready { source, settings, bars, mut engine } = ready;
         let at = at(place, &bars);
-        let walked = over(&bars, &mut engine, on_refusal, Some(at), |_, _| ())?;
+        let way = Way { on_refusal, after: None, until: Some(at) };
+        let walked = over(&bars, &mut engine, way, |_, _| ())?;
         let Some(bar) = walked.before else {
             return Err(not_there(&bars, at, engine.state().bars_seen()));
         };
@@ -78,24 +79,27 @@ pub fn not_there(bars: &BarsFile, at: At, seen: u64) -> Problem {
 fn working(engine: Engine, bar: &Bar) -> Result<Option<String>, yshturpa::Refusal> {
     let mut engine = engine.without_rules();
     engine.step(bar)?;
-    let state = engine.state();
-    Ok(state.order().map(|(order, delay)| {
-        let what = match order {
-            Order::Long => "an entry long",
-            Order::Short => "an entry short",
-            Order::Exit => "an exit",
-        };
-        let level = match state.order_level() {
-            OrderLevel::Market => String::new(),
-            OrderLevel::Limit { level } => format!(" at a limit of {}", rounded(level)),
-            OrderLevel::Stop { level } => format!(" at a stop of {}", rounded(level)),
-            OrderLevel::StopLimit { stop, limit } => {
-                format!(" at a stop of {} with a limit of {}", rounded(stop), rounded(limit))
-            }
-        };
-        let waits = if delay > 0 { format!(", which waits {delay} bars more") } else { String::new() };
-        format!("{what}{level}{waits}")
-    }))
+    Ok(order_words(&engine.state()))
+}
+
+/// The working order in words, where there is one.
+pub fn order_words(state: &State) -> Option<String> {
+    let (order, delay) = state.order()?;
+    let what = match order {
+        Order::Long => "an entry long",
+        Order::Short => "an entry short",
+        Order::Exit => "an exit",
+    };
+    let level = match state.order_level() {
+        OrderLevel::Market => String::new(),
+        OrderLevel::Limit { level } => format!(" at a limit of {}", rounded(level)),
+        OrderLevel::Stop { level } => format!(" at a stop of {}", rounded(level)),
+        OrderLevel::StopLimit { stop, limit } => {
+            format!(" at a stop of {} with a limit of {}", rounded(stop), rounded(limit))
+        }
+    };
+    let waits = if delay > 0 { format!(", which waits {delay} bars more") } else { String::new() };
+    Some(format!("{what}{level}{waits}"))
 }
 
 /// "Flat: entry, else short entry. Long: exit. Short: short exit."
