@@ -166,6 +166,33 @@ fn saved_words_that_are_no_state_are_refused() {
     assert!(matches!(Engine::resumed(&table(), &settings(3), 1, 1, &nine), Err(Error::Saved { .. })));
 }
 
+/// A list of bars, a part at a time, is the same run as a call for each bar; a refused bar stops it and has changed nothing.
+#[test]
+fn many_bars_at_once() {
+    let (table, settings) = (table(), settings(3));
+    let mut one = Engine::new(&table, &settings, BARS, BARS).unwrap();
+    let mut many = Engine::new(&table, &settings, 0, 1).unwrap();
+    let mut bars = Bars::new(2);
+    for i in 0..BARS {
+        one.step(&bar(i)).unwrap();
+        bars.push(&bar(i));
+    }
+    for part in [0..7, 7..8, 8..40, 40..BARS] {
+        many.make_room(part.len());
+        assert_eq!(many.step_over(&bars, part.clone()), Done { bars: part.len(), refused: None });
+    }
+    let mut broken = Bars::new(2);
+    broken.push(&Bar { close: f64::NAN, ..bar(0) });
+    many.make_room(1);
+    let before = many.state();
+    let refused = many.step_over(&broken, 0..1);
+    assert_eq!(refused, Done { bars: 0, refused: Some(Refusal { number: 11, place: BARS as u32 }) });
+    assert_eq!(many.state(), before);
+    assert_eq!(many.save(), one.save());
+    assert_eq!(many.finish(), one.finish());
+    assert!(many.trades().count() > 1 && many.trades().eq(one.trades()) && many.equity().eq(one.equity()));
+}
+
 #[test]
 fn a_rule_is_asked_by_its_tree_and_by_its_steps() {
     let table = table();
@@ -287,31 +314,4 @@ fn a_day_in_one_call_is_a_call_for_each_bar() {
     assert_eq!(whole.steps(&bars[21..]), (BARS - 20, Ok(())));
     assert_eq!(whole.save(), single.save());
     assert!(whole.trades().eq(single.trades()) && whole.equity().eq(single.equity()));
-}
-
-/// A list of bars, a part at a time, is the same run as a call for each bar; a refused bar stops it and has changed nothing.
-#[test]
-fn many_bars_at_once() {
-    let (table, settings) = (table(), settings(3));
-    let mut one = Engine::new(&table, &settings, BARS, BARS).unwrap();
-    let mut many = Engine::new(&table, &settings, 0, 1).unwrap();
-    let mut bars = Bars::new(2);
-    for i in 0..BARS {
-        one.step(&bar(i)).unwrap();
-        bars.push(&bar(i));
-    }
-    for part in [0..7, 7..8, 8..40, 40..BARS] {
-        many.make_room(part.len());
-        assert_eq!(many.step_over(&bars, part.clone()), Done { bars: part.len(), refused: None });
-    }
-    let mut broken = Bars::new(2);
-    broken.push(&Bar { close: f64::NAN, ..bar(0) });
-    many.make_room(1);
-    let before = many.state();
-    let refused = many.step_over(&broken, 0..1);
-    assert_eq!(refused, Done { bars: 0, refused: Some(Refusal { number: 11, place: BARS as u32 }) });
-    assert_eq!(many.state(), before);
-    assert_eq!(many.save(), one.save());
-    assert_eq!(many.finish(), one.finish());
-    assert!(many.trades().count() > 1 && many.trades().eq(one.trades()) && many.equity().eq(one.equity()));
 }
