@@ -47,7 +47,7 @@ enum {
     YSH_REFUSED_NESTING = 8,    /* deeper than 32 levels, the root being 1, operands counted too. Place: the lowest such node */
     YSH_REFUSED_REACH = 9,      /* a tree that looks back more than 4,095 bars, its Prevs added up. Place: the first such tree's root */
 
-    /* 10 to 16: the other things handed over. */
+    /* 10 to 16: the other things handed over. (17 and 18 are not given yet.) */
     YSH_REFUSED_ROOM = 10,      /* a room is too small. Place: its number (YSH_ROOM_ROWS ..). Commonly: the rows were laid out for another
                                  * D or K than settings 0 and 1 say; the room for steps was sized by steps and not by nodes; the
                                  * settings or the state are those of an older header, with fewer words */
@@ -79,11 +79,16 @@ enum {
                                  * - it was translated from a table with more slots than setting 0 says, or that looks further back
                                  *   than D, setting 1, allows (a look-back has to be below D);
                                  * - a kind that does not exist, an unused field that is not 0, a jump past the end of the list */
-    YSH_REFUSED_QUANTITY = 16   /* an entry is due, the bar reaches its level where it has one, and its quantity, or with slippage by volume the
+    YSH_REFUSED_QUANTITY = 16,  /* an entry is due, the bar reaches its level where it has one, and its quantity, or with slippage by volume the
                                  * one that is probed for it, is 2^53 lots or more. Commonly: a lot in other units than the quantity, or far
                                  * too small a one. Nothing has changed, and the same order is due again at the next step: another lot,
                                  * sizing or cap in its settings, or another price, lets the run go on. Place: the bars seen, which is this
                                  * bar's number */
+
+    /* 19 and 20: an image of a dump. */
+    YSH_REFUSED_IMAGE = 19,     /* no whole image: the write was cut off, the length is not that of its D and K (hand over the image alone, not
+                                 * the whole area), a spare byte is not 0, or a field is out of its range. Place 0 */
+    YSH_REFUSED_OTHER = 20      /* a whole image, of another D or K than settings 1 and 0 say: another table's. Place 0 */
 };
 
 /* ---- sizes, in words unless said */
@@ -114,7 +119,9 @@ enum {
     YSH_ROOM_ROWS, YSH_ROOM_EQUITY, YSH_ROOM_TRADES,
     YSH_ROOM_ENTRY, YSH_ROOM_EXIT, YSH_ROOM_SHORT_ENTRY, YSH_ROOM_SHORT_EXIT,
     YSH_ROOM_SETTINGS, YSH_ROOM_STATE, YSH_ROOM_METRICS,
-    /* 10 to 17 are kept for later requests */
+    YSH_ROOM_LINES = 10,
+    /* 11 to 13 and 15 to 17 are kept for later requests */
+    YSH_ROOM_DUMP = 14,
     YSH_ROOM_SILENT = 18
 };
 
