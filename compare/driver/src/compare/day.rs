@@ -12,7 +12,7 @@ const CLOSE: usize = 4;
 
 const NOT_A_NUMBER: u64 = 0x7ff8_0000_0000_0000;
 
-/// The bars of a case, with one that is refused with 11 put in behind every so many-th, at the start and at the end.
+/// The bars of a case, with one that is refused with 11 put in before the first and before every so many-th.
 fn with_bad_bars(case: &Case, every: usize) -> Vec<Vec<u64>> {
     let mut bars = Vec::new();
     let bad = |bar: &[u64]| {
@@ -24,9 +24,6 @@ fn with_bad_bars(case: &Case, every: usize) -> Vec<Vec<u64>> {
         if i.is_multiple_of(every) {
             bars.push(bad(&bar));
         }
-        bars.push(bar);
-    }
-    if let Some(bar) = bars.last().map(|bar| bad(bar)) {
         bars.push(bar);
     }
     bars
@@ -50,10 +47,10 @@ pub fn same_in_days(case: &Case, plan: Plan, single: &Ours) -> Result<(), Mismat
         next += done;
         match answer {
             Ok(()) if next == bars.len() => {}
-            Ok(()) => return Err(Mismatch::one(Some(next), DAYS, "bars done", next as u64, bars.len() as u64)),
+            Ok(()) => return Err(Mismatch::one(None, DAYS, "bars done", next as u64, bars.len() as u64)),
             Err(Refusal { number: 11, place }) if bars[next][CLOSE] == NOT_A_NUMBER && place == run.state[state::BARS_SEEN] => next += 1,
             Err(Refusal { number: 16, place }) if place == run.state[state::BARS_SEEN] => next += 1,
-            Err(refusal) => return Err(Mismatch::refused(Some(next), DAYS, refusal)),
+            Err(refusal) => return Err(Mismatch::refused(None, DAYS, refusal)),
         }
     }
     let same = [
