@@ -20,8 +20,8 @@ use Rattle.table.specs.declared.silent.SilentAnswer.the-variants.{Lists, Refuse
 use Rattle.table.specs.declared.depth.DepthAnswer.the-variants.{Needs, Refuses as DepthRefuses}
 use Rattle.table.specs.declared.trees.Tree.{Tree}
 use Rattle.table.specs.declared.trees.Tree.the-variants.{Entry, Exit, ShortEntry, ShortExit}
-use Rattle.table.specs.Header.{markRight, version, countsRight, total, headerRefusal, slots, treeNumber}
-use Rattle.table.specs.Checked.{orRefused, orHeader, from7, from8, from9, checked}
+use Rattle.table.specs.Header.{newestVersion, markRight, versionRight, countsRight, total, headerRefusal, slots, treeNumber}
+use Rattle.table.specs.Checked.{orRefused, orHeader, from7, from8, from9, checkedUpTo, checked}
 use Rattle.table.specs.Depth.{depthAnswer}
 use Rattle.table.specs.Laws.Header.{header-right}
 use Rattle.table.specs.Silent.{silentTests, silentAnswer, listAfter}
@@ -52,10 +52,10 @@ five false false false true e = omega arith
 five false false false false true = omega arith
 five false false false false false = omega arith
 
-header-number : (t : List ℕ) → headerRefusal t ≤ 9
+header-number : (t : List ℕ) → headerRefusal newestVersion t ≤ 9
 unfolding headerRefusal
 header-number t =
-    five (ltb (length t) 16) (not (markRight t)) (not (eqb (version t) 1)) (not (countsRight t)) (not (eqb (length t) (16 + 16 * total t)))
+    five (ltb (length t) 16) (not (markRight t)) (not (versionRight newestVersion t)) (not (countsRight t)) (not (eqb (length t) (16 + 16 * total t)))
 
 -- a refusal with a small number and place
 small : (n p : ℕ) → 0 < n → n ≤ 15 → p ≤ 1024 → Small (refusal n p)
@@ -83,10 +83,10 @@ accepted-not n r why e = absurd (let z : _≡_ {A = ℕ} 0 1 = cc in omega arith
 
 -- "1 to 9 come first"
 pub table-number : (t : List ℕ) (why : Refusal) → checked t ≡ Refused why → Small why
-unfolding checked from7 from8 from9
+unfolding checked checkedUpTo from7 from8 from9
 table-number t why =
-    header-or (headerRefusal t) _ why (header-number t)
-    (λ h. let r = header-right t h in
+    header-or (headerRefusal newestVersion t) _ why (header-number t)
+    (λ h. let r = header-right newestVersion t h in
     rule-number 6 _ _ why (omega arith) (omega arith) (wrong-within t r)
     (rule-number 7 _ _ why (omega arith) (omega arith) (misfits-within t r)
     (rule-number 8 _ _ why (omega arith) (omega arith) (deep-within t r)

@@ -7,8 +7,8 @@ use lib.Dec.{ltb, eqb}
 use Rattle.words.specs.Limits.{mostReach, mostNesting, mostNodes}
 use Rattle.table.specs.declared.places.Place.{Place}
 use Rattle.table.specs.declared.places.Place.the-variants.{At, Nowhere}
-use Rattle.table.specs.Header.{total, count, root}
-use Rattle.table.specs.Nodes.{nodeAt, nodeRight, wrongNode, sortAt, childCountAt}
+use Rattle.table.specs.Header.{newestVersion, total, count, root}
+use Rattle.table.specs.Nodes.{nodeAt, nodeRight, wrongNode, sortAt, childCountAt, childFitsAt}
 use Rattle.table.specs.Order.{fits, misfit, orElse, ofFour, misfits}
 use Rattle.table.specs.Forest.{Forest, none, tree, firstTrees, otherTrees, nodeOver, trees, forestOf}
 use Rattle.table.specs.Nesting.{deeper, tooDeep}
@@ -39,7 +39,9 @@ unfolding fits UpTo
 no-fit t n zero i [] h = tt
 no-fit t n zero i (w ∷ ws) h = omega arith
 no-fit t n (suc m) i [] h = omega arith
-no-fit t n (suc m) i (w ∷ ws) h = either n (eqb (sortAt t i) w) _ (At i) (no-fit t n m (i + 1) _ (omega arith)) (omega arith)
+no-fit t n (suc m) i (w ∷ ws) h =
+    either n (eqb (sortAt t i) w) _ (At i)
+    (either n (childFitsAt t i) _ (At (i + 1)) (no-fit t n m (i + 1) _ (omega arith)) (omega arith)) (omega arith)
 
 misfit-place : (t : List ℕ) (n m b : ℕ) → b + m ≤ n → UpTo n (misfit t m b)
 unfolding misfit UpTo
@@ -95,7 +97,7 @@ of-four : (n : ℕ) (f : ℕ → Place) → UpTo n (f 0) → UpTo n (f 1) → Up
 unfolding ofFour
 of-four n f a b c d = first-of n (f 0) _ a (first-of n (f 1) _ b (first-of n (f 2) _ c d))
 
-module _ (t : List ℕ) (h : HeaderRight t) where
+module _ (t : List ℕ) (h : HeaderRight newestVersion t) where
   -- each tree's nodes are among the table's
   ends : (root t 0 + count t 0 ≤ mostNodes) × (root t 1 + count t 1 ≤ mostNodes) × (root t 2 + count t 2 ≤ mostNodes) × (root t 3 + count t 3 ≤ mostNodes)
   unfolding root
