@@ -13,7 +13,6 @@ use Rattle.records.specs.declared.settings.Settings.{Settings}
 use Rattle.records.specs.declared.state.State.{State}
 use Rattle.refusals.specs.declared.verdict.Verdict.{Verdict}
 use Rattle.refusals.specs.declared.verdict.Verdict.the-variants.{Fine, Bad}
-use Rattle.dump.specs.declared.reader.Restored.{Restored}
 use Rattle.dump.specs.declared.reader.Restored.the-variants.{Refused, Done}
 use Rattle.dump.specs.Layout.{imageOf}
 use Rattle.dump.specs.Order.{written}

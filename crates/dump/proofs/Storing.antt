@@ -1,10 +1,10 @@
 -- Stores, one after another, as bytes laid.
-use Prim.Native.Nat.{ℕ, _+_, _-_, _*_, _≤_, _<_}
-use mathlib.Core.Path.{_≡_, refl, sym, ap, _∙_}
-use mathlib.Core.List.{List, [], _∷_}
+use Prim.Native.Nat.{ℕ, _+_, _-_, _*_, _≤_}
+use mathlib.Core.Path.{_≡_, sym, ap, _∙_}
+use mathlib.Core.List.{List}
 use native.Mathlib.Nat.{sub-self, zero-add}
 use native.Mathlib.Omega.{arith}
-use lib.ListN.{length, getD, set}
+use lib.ListN.{getD, set}
 use Rattle.steps.specs.Bytes.{eight}
 use Rattle.dump.specs.Layout.{wordsBytes}
 use Rattle.dump.specs.Laws.Laid.{laid, laid-none, laid-more, laid-on, laid-as}

@@ -1,10 +1,10 @@
 -- What is refused: of a dump 10, 12, 13, of a restore 10, 12, 19, 20.
-use Prim.Native.Nat.{ℕ, _+_, _-_, _*_, _/_, _%_, _^_}
+use Prim.Native.Nat.{ℕ, _+_, _-_, _/_, _%_, _^_}
 use mathlib.Core.Bool.{Bool, true, false, cond, _&&_, _||_}
 use mathlib.Core.List.{List, [], _∷_, _++_}
 use lib.ListN.{length, getD}
 use lib.Dec.{leb, ltb, eqb}
-use Rattle.words.specs.Limits.{rowWords, mostCount, mostSlots, mostRows}
+use Rattle.words.specs.Limits.{mostCount, mostSlots, mostRows}
 use Rattle.records.specs.declared.settings.Settings.{Settings}
 use Rattle.records.specs.declared.state.State.{State}
 use Rattle.records.specs.Lent.{rooms}

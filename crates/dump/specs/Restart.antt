@@ -1,7 +1,7 @@
 -- THE RESTART, over the bytes of an image. "From a whole image of a state reached from a fresh one, with the same table and settings and empty trade
 -- and equity rooms counted from 0, further bars give the trades, equity points and decisions that the unbroken run gives for them, until
 -- either refuses." What engine/specs/Restart says of a box that was started again holds of the box that a restore leaves.
-use Prim.Native.Nat.{ℕ, _+_, _*_, _/_, _≤_, _<_}
+use Prim.Native.Nat.{ℕ, _+_, _/_, _≤_, _<_}
 use mathlib.Core.Path.{_≡_, refl}
 use mathlib.Core.List.{List}
 use native.Mathlib.Nat.{zero-add}

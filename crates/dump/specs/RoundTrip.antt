@@ -1,14 +1,14 @@
 -- A whole image read back holds what was written: the state, with its books emptied and the rows of its window counted, and the window.
-use Prim.Native.Nat.{ℕ, zero, suc, _+_, _*_, _/_, _%_, _≤_, _<_}
-use mathlib.Core.Path.{_≡_, refl, sym, ap, _∙_}
-use mathlib.Core.List.{List, [], _∷_, _++_}
+use Prim.Native.Nat.{ℕ, _+_, _*_, _/_, _%_, _<_}
+use mathlib.Core.Path.{_≡_, refl, ap, _∙_}
+use mathlib.Core.List.{List, [], _∷_}
 use native.Mathlib.Nat.{mod-eq-of-lt, mod-add-div, div-div-eq-div-mul}
 use native.Mathlib.Omega.{arith}
 use lib.Ieee.{Float, binary64, fits}
 use lib.Ieee.Bits.{toBits-lt}
 use lib.Dec.{T}
-use lib.ListN.{length, getD}
-use Rattle.words.specs.Limits.{rowWords, mostSlots, mostRows}
+use lib.ListN.{length}
+use Rattle.words.specs.Limits.{rowWords}
 use Rattle.words.specs.Words.{word}
 use Rattle.floats.specs.Floats.{wordOf}
 use Rattle.table.specs.Bytes.{u16, u32, u64}
@@ -22,7 +22,7 @@ use Rattle.records.specs.declared.settings.Settings.{Settings}
 use Rattle.records.specs.declared.state.State.{State}
 use Rattle.records.specs.StateWords.{orderKind, orderDelay, waitsFor, kindWord, levelWord, limitWord, enteredKind, entryBar, wordsOf, stateOf}
 use Rattle.records.specs.Laws.RoundTrip.{KindFits, Floats64, state-back}
-use Rattle.dump.specs.Layout.{wordsBytes, numbers, amounts, head, body, image, windowOf, imageOf}
+use Rattle.dump.specs.Layout.{wordsBytes, numbers, amounts, head, image, windowOf, imageOf}
 use Rattle.dump.specs.Reading.{wordsIn, stateIn}
 
 -- ---- numbers

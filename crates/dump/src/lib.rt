@@ -6,7 +6,6 @@ mod judge;
 pub mod reader;
 pub mod writer;
 
-ghost use mathlib.Core.Path.{_≡_};
 ghost use Rattle.dump.specs.Dumping.{Dumped};
 ghost use Rattle.dump.specs.Restoring.{Restores};
 use reader::Restored;

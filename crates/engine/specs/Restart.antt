@@ -1,8 +1,8 @@
 -- Request 11. "From a whole image of a state reached from a fresh one, with the same table and settings and empty trade and equity rooms
 -- counted from 0, further bars give the trades, equity points and decisions that the unbroken run gives for them, until either refuses."
 -- What an image holds of a box is said here without its bytes: the account, and the last D rows.
-use Prim.Native.Nat.{ℕ, _+_, _≤_}
-use mathlib.Core.Path.{_≡_, refl, sym, ap, _∙_}
+use Prim.Native.Nat.{ℕ, _≤_}
+use mathlib.Core.Path.{_≡_, sym, ap, _∙_}
 use mathlib.Core.List.{List, []}
 use native.Mathlib.Omega.{arith}
 use Rattle.records.specs.declared.settings.Settings.{Settings}

@@ -179,7 +179,8 @@ module _ (h : History) (s : PositionState) (bs : List ℕ) (n most : ℕ) (ns : 
       )
 
   module _ (e : Effect) (is : done ≡ e) (ns' : List Float) (ts' : List Bool) (top' : ℕ) (room : Room most ns' ts') (tall : top' ≤ most)
-      (pushed : top' ≤ min n (p + 1 + e .skip)) (few : e .visits ≤ 65536) (leaves : shown ns' ts' top' ≡ given (e .gives) (e .value) (shown ns ts (top - e .take))) where
+      (pushed : top' ≤ min n (p + 1 + e .skip)) (few : e .visits ≤ 65536)
+      (leaves : shown ns' ts' top' ≡ given (e .gives) (e .value) (shown ns ts (top - e .take))) where
     left : Values
     left = holding (e .answer) (shown ns' ts' top')
 

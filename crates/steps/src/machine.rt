@@ -159,7 +159,8 @@ fn position(wanted: bool, qty: f64) -> bool
 
 // What the answer is after a step that neither takes nor gives a value, nor jumps. One of no known kind leaves it as it was.
 fn said(x: Step, s: PositionState, answer: bool) -> bool
-    requires { ⌜ (1 ≤ x .kind → 4 ≤ x .kind) × (5 ≤ x .kind → 9 ≤ x .kind) × (9 ≤ x .kind → 13 ≤ x .kind) × (16 ≤ x .kind → 25 ≤ x .kind) × (32 ≤ x .kind → 34 ≤ x .kind) ⌝ }
+    requires { ⌜ (1 ≤ x .kind → 4 ≤ x .kind) × (5 ≤ x .kind → 9 ≤ x .kind) × (9 ≤ x .kind → 13 ≤ x .kind)
+        × (16 ≤ x .kind → 25 ≤ x .kind) × (32 ≤ x .kind → 34 ≤ x .kind) ⌝ }
     ensures { λ r. ⌜ ((h : History) (a b c d : Value) → effect h s (opOf x) a b c d answer ≡ saying 0 r) ⌝ }
 {
     if x.kind < 27 {

@@ -63,7 +63,8 @@ unfolding endsFor
 keep-accepted a ends n r ha = rw ha (refl, refl)
 
 -- A header that breaks no rule gives the four trees' places.
-pub head-roots : (newest : ℕ) (t : List ℕ) (a b c e : ℕ) → headerRefusal newest t ≡ 0 → a ≡ root t 1 → b ≡ root t 2 → c ≡ root t 3 → e ≡ total t → Roots t a b c e
+pub head-roots : (newest : ℕ) (t : List ℕ) (a b c e : ℕ) → headerRefusal newest t ≡ 0 → a ≡ root t 1 → b ≡ root t 2
+    → c ≡ root t 3 → e ≡ total t → Roots t a b c e
 unfolding root
 head-roots newest t a b c e h ha hb hc he =
     let k = header-right newest t h in

@@ -17,7 +17,7 @@ use Rattle.records.specs.declared.state.State.{State}
 use Rattle.records.specs.Lent.{rowPlaces}
 use Rattle.records.specs.StateWords.{wordsOf}
 use Rattle.engine.specs.Record.{heldRows}
-use Rattle.dump.specs.Layout.{bodyBytes, dumpBytes, wordsBytes, numbers, amounts, head, body, image, windowOf, imageOf}
+use Rattle.dump.specs.Layout.{bodyBytes, wordsBytes, numbers, amounts, head, body, image, windowOf, imageOf}
 use Rattle.dump.specs.Order.{written}
 use Rattle.dump.specs.Laws.InOrder.{inOrder, in-order}
 use Rattle.dump.specs.Laws.Packed.{headWords, head-packed}

@@ -18,7 +18,8 @@ use Rattle.steps.specs.declared.Step.{Step}
 use Rattle.steps.specs.declared.Op.{Op}
 use Rattle.steps.specs.declared.Op.the-variants.{Const, Ref, Price, Arith, Compare, Cross, Between, Answer, Turn, InPosition, BarsSinceEntry, JumpIf}
 use Rattle.steps.specs.declared.Op.the-variants.{Extreme, Unknown}
-use Rattle.steps.specs.Bytes.{readStep, stepAt, stepsRun, slotKind, extremeOp, operandOp, testOp, answerOp, opOf, opsFrom, opsOf, extremeStep, stepOf, stepBytes, bytesOf}
+use Rattle.steps.specs.Bytes.{readStep, stepAt, stepsRun, slotKind, extremeOp, operandOp, testOp}
+use Rattle.steps.specs.Bytes.{answerOp, opOf, opsFrom, opsOf, extremeStep, stepOf, stepBytes, bytesOf}
 
 -- ---- the fields that a step has room for
 

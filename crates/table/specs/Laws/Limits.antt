@@ -111,7 +111,8 @@ both-levels l n below rest h = or-none (deeper l below) (deeper (suc l) rest) h
 no-sort : (n : ℕ) (ns : List ℕ) → n ∷ ns ≡ [] → ⊥
 no-sort n ns h = let z : _≡_ {A = ℕ} 0 1 = cc in omega arith
 
-row-fine : (f : Forest) (form : Form) (l m : ℕ) → Right form f → SmallAll f → Sorted f → sorts f ≡ replicate m 1 → deeper l f ≡ Nowhere → Row form l (operands f)
+row-fine : (f : Forest) (form : Form) (l m : ℕ) → Right form f → SmallAll f → Sorted f → sorts f ≡ replicate m 1
+    → deeper l f ≡ Nowhere → Row form l (operands f)
 unfolding Right SmallAll Sorted sorts operands Row
 row-fine Forest.none form l m r sm so s d = tt
 row-fine (Forest.tree n below rest) form l zero r sm so s d = absurd (no-sort _ _ s)

@@ -128,7 +128,8 @@ module _ (form : Form) where
   two-below : (i j : ℕ) (a b : Operand) → Within form a → Within form b → sorts (plant i a (plant j b Forest.none)) ≡ replicate 2 1
   two-below i j a b wa wb = plant-sorts i a _ form wa ∙ ap (λ (l : List ℕ). 1 ∷ l) (one-below j b wb)
 
-  three-below : (h i j : ℕ) (x a b : Operand) → Within form x → Within form a → Within form b → sorts (plant h x (plant i a (plant j b Forest.none))) ≡ replicate 3 1
+  three-below : (h i j : ℕ) (x a b : Operand) → Within form x → Within form a → Within form b
+      → sorts (plant h x (plant i a (plant j b Forest.none))) ≡ replicate 3 1
   three-below h i j x a b wx wa wb = plant-sorts h x _ form wx ∙ ap (λ (l : List ℕ). 1 ∷ l) (two-below i j a b wa wb)
 
   pub sorted : (a : Operand) (i : ℕ) (rest : Forest) → Within form a → Sorted rest → Sorted (plant i a rest)

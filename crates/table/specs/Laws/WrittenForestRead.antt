@@ -113,7 +113,8 @@ module _ (form : Form) where
   unfolding operands
   reads-two i j a b wa wb = reads a i _ wa ∙ ap (λ (l : List Operand). a ∷ l) (reads b j Forest.none wb)
 
-  reads-three : (h i j : ℕ) (x a b : Operand) → Within form x → Within form a → Within form b → operands (plant h x (plant i a (plant j b Forest.none))) ≡ x ∷ a ∷ b ∷ []
+  reads-three : (h i j : ℕ) (x a b : Operand) → Within form x → Within form a → Within form b
+      → operands (plant h x (plant i a (plant j b Forest.none))) ≡ x ∷ a ∷ b ∷ []
   reads-three h i j x a b wx wa wb = reads x h _ wx ∙ ap (λ (l : List Operand). x ∷ l) (reads-two i j a b wa wb)
 
   want-back : (want : Bool) → eqb (cond want 1 0) 1 ≡ want

@@ -168,7 +168,8 @@ unfolding ShortWithin plantShort reachOfShort forestReach weigh
 short-reach form absent i w = (refl, omega arith)
 short-reach form (given c) i w = (given-reach form c i (w .fields), w .reaches)
 
-short-fits : (t : List ℕ) (form : Form) (s : Short) (i : ℕ) → ShortWithin form s → trees t (nodesOfShort s) i ≡ plantShort i s → misfit t (nodesOfShort s) i ≡ Nowhere
+short-fits : (t : List ℕ) (form : Form) (s : Short) (i : ℕ) → ShortWithin form s
+    → trees t (nodesOfShort s) i ≡ plantShort i s → misfit t (nodesOfShort s) i ≡ Nowhere
 unfolding ShortWithin nodesOfShort plantShort misfit
 short-fits t form absent i w h = refl
 short-fits t form (given c) i w h =
@@ -176,7 +177,8 @@ short-fits t form (given c) i w h =
     let row : sorts (trees t (nodesOf c) i) ≡ 2 ∷ [] = ap sorts h ∙ one-sort form c i (w .fields) in
     rw some (ap (fits t (nodesOf c) i) (sym row) ∙ in-order t (nodesOf c) i (subst Sorted (sym h) (sortedOf form c i Forest.none (w .fields) nothing)))
 
-short-reads : (form : Form) (s : Short) (i : ℕ) → ShortWithin form s → cond (not (eqb (nodesOfShort s) 0)) (given (firstOf (conditions (plantShort i s)))) absent ≡ s
+short-reads : (form : Form) (s : Short) (i : ℕ) → ShortWithin form s
+    → cond (not (eqb (nodesOfShort s) 0)) (given (firstOf (conditions (plantShort i s)))) absent ≡ s
 unfolding ShortWithin nodesOfShort plantShort firstOf
 short-reads form absent i w = refl
 short-reads form (given c) i w =

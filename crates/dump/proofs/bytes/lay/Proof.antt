@@ -1,6 +1,5 @@
 -- Bytes up to a whole word, whole words, and the bytes that are over.
-use Prim.Native.Nat.{ℕ, _+_, _-_, _*_, _/_, _%_, _<_, _≤_}
-use mathlib.Core.Path.{_≡_}
+use Prim.Native.Nat.{_+_, _-_, _*_, _/_, _%_, _<_, _≤_}
 use native.Mathlib.Omega.{arith}
 use Rattle.dump.specs.Layout.{wordsBytes}
 use Rattle.dump.proofs.Storing.{laid-two}

@@ -3,7 +3,6 @@ use Prim.Native.Nat.{_+_, _*_}
 use native.Mathlib.Nat.{mul-le-mul-left, mul-le-mul-right}
 use native.Mathlib.Omega.{arith}
 use borrow.Author.Tests.{le-leb, lt-leb}
-use lib.ListN.{length}
 use Rattle.dump.proofs.Testing.{equal, other, at-most, above, at-least, below}
 use Rattle.dump.specs.Layout.{dumpBytes}
 use Rattle.dump.specs.Refused.{shapeFine}

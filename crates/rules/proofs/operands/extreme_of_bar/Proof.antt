@@ -1,7 +1,7 @@
 -- Too few bars before it, or all of them. Assumes nothing.
 use borrow.Author.Needs.{needs}
 use Prim.Native.Nat.{_-_, _≤_, _<_}
-use mathlib.Core.Path.{_≡_, sym, ap, _∙_}
+use mathlib.Core.Path.{_≡_, sym, ap}
 use native.Mathlib.Omega.{arith}
 use Rattle.rows.specs.History.{historyOf}
 use Rattle.rules.specs.Meaning.{extremeOver}

@@ -12,7 +12,8 @@ use Rattle.steps.proofs.looking.field_of.Tie as tie
 ends : (c : tie.After-place) → let a = c .before .before .args in c .place .result * (7 + a .slots) + (7 + a .slots) ≤ length (a .rows .now)
 ends c =
     let s = c .before .before in
-    rw (c .place .ensures) (place-ends (s .args .slots) (s .args .first) (s .args .rows .now) (s .args .held) 0 (s .pre .0) (s .pre .1) (s .args .i) (s .pre .2))
+    rw (c .place .ensures) (place-ends (s .args .slots) (s .args .first) (s .args .rows .now) (s .args .held) 0
+    (s .pre .0) (s .pre .1) (s .args .i) (s .pre .2))
 
 returns : tie.Need-returns
 unfolding priceOf
@@ -20,7 +21,8 @@ returns c =
     let p = c .before in
     let s = p .before .before in
     rw (
-      row-there (s .args .slots) (s .args .first) (s .args .rows .now) (s .args .held) 0 (s .pre .0) (s .pre .1) (s .args .i) (s .pre .2),
+      row-there (s .args .slots) (s .args .first) (s .args .rows .now) (s .args .held) 0
+          (s .pre .0) (s .pre .1) (s .args .i) (s .pre .2),
       lt-ltb _ _ (s .pre .3),
       ← p .place .ensures,
     ) (c .field-at .ensures)

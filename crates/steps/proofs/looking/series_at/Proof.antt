@@ -11,7 +11,8 @@ use Rattle.steps.proofs.looking.series_at.Tie as tie
 ends : (c : tie.After-place) → let a = c .before .before .args in c .place .result * (7 + a .slots) + (7 + a .slots) ≤ length (a .rows .now)
 ends c =
     let s = c .before .before in
-    rw (c .place .ensures) (place-ends (s .args .slots) (s .args .first) (s .args .rows .now) (s .args .held) 0 (s .pre .0) (s .pre .1) (s .args .i) (s .pre .2))
+    rw (c .place .ensures) (place-ends (s .args .slots) (s .args .first) (s .args .rows .now) (s .args .held) 0
+    (s .pre .0) (s .pre .1) (s .args .i) (s .pre .2))
 
 pub series-at-spec : {M : Type 1} → statement M
 series-at-spec =
@@ -28,9 +29,11 @@ series-at-spec =
     let o = c .before .before in
     let s = o .before .before .before .before in
     rw (o .over .given .1, c .price-at .ensures, o .before .before .place .ensures)
-    (sym (price-in (s .args .slots) (s .args .first) (s .args .rows .now) (s .args .held) 0 (s .pre .0) (s .pre .1) _ (s .args .i) (s .pre .2))))
+    (sym (price-in (s .args .slots) (s .args .first) (s .args .rows .now) (s .args .held) 0
+    (s .pre .0) (s .pre .1) _ (s .args .i) (s .pre .2))))
     (λ c.
     let o = c .before .before in
     let s = o .before .before .before .before in
     rw (o .over2 .given .1, c .slot-at .ensures, o .before .before .place .ensures)
-    (sym (slot-in (s .args .slots) (s .args .first) (s .args .rows .now) (s .args .held) 0 (s .pre .0) (s .pre .1) _ (s .args .i) (s .pre .2)))))
+    (sym (slot-in (s .args .slots) (s .args .first) (s .args .rows .now) (s .args .held) 0
+    (s .pre .0) (s .pre .1) _ (s .args .i) (s .pre .2)))))

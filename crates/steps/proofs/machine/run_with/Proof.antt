@@ -7,7 +7,8 @@ use Prim.Native.Nat.{_-_}
 use Rattle.rows.specs.Ring.{ringOf}
 use Rattle.steps.specs.Places.{Tries}
 use Rattle.steps.proofs.Said.{range-in, range-out, does-compare, does-test, does-jump, does-arith}
-use Rattle.steps.proofs.Going.{Going, fresh-long, going-start, going-leaf, going-give, going-look, going-say, going-set, going-pass, going-stay, going-end}
+use Rattle.steps.proofs.Going.{Going, fresh-long, going-start, going-leaf, going-give}
+use Rattle.steps.proofs.Going.{going-look, going-say, going-set, going-pass, going-stay, going-end}
 use Rattle.steps.proofs.machine.run_with.Statement.{statement}
 use Rattle.steps.proofs.machine.run_with.Tie as tie
 
@@ -149,7 +150,14 @@ look-counts : tie.Need-add-visits-2 Inv-loop μ-loop
 look-counts c =
     let x = c .before .before .before .before .before .before .before .before .before .before .before .before in
     let loop = x .before .before in
-    omega (arith, c .before2 .ensures, x .step-at .ensures .1, x .before .loop-test .taken, loop .loop .inv .seen, loop .before .before .before .before .before .before .pre .1 .0 .3)
+    omega (
+      arith,
+      c .before2 .ensures,
+      x .step-at .ensures .1,
+      x .before .loop-test .taken,
+      loop .loop .inv .seen,
+      loop .before .before .before .before .before .before .pre .1 .0 .3,
+    )
 
 -- its kind is one of the four
 look-requires : tie.Need-look-requires Inv-loop μ-loop
@@ -174,16 +182,20 @@ look-fits c =
 
 look-tall : tie.Need-add-top-3 Inv-loop μ-loop
 look-tall c =
-    let loop = c .before .before .before .before .before .before .before .before .before .before .before .before .before .before .before .before .before .before .before .before .before .before in
+    let late = c .before .before .before .before .before .before .before .before .before .before .before in
+    let loop = late .before .before .before .before .before .before .before .before .before .before .before in
     omega (arith, loop .loop .inv .tall, loop .before .before .before .before .before .before .pre .1 .0 .1)
 
 look-on : tie.Need-add-p-6 Inv-loop μ-loop
 look-on c =
-    let test = c .before .before .before .before .before .before .before .before .before .before .before .before .before .before .before .before .before .before .before .before .before in
+    let early = c .before .before .before .before .before .before .before .before .before .before .before in
+    let test = early .before .before .before .before .before .before .before .before .before .before in
     omega (arith, test .loop-test .taken, test .before .before .before .before .before .before .before .pre .1 .0 .3)
 
 look-less : tie.Need-loop-less-7 Inv-loop μ-loop
-look-less c = omega (arith, c .before .before .before .before .before .before .before .before .before .before .before .before .before .before .before .before .before .before .before .before .before .loop-test .taken)
+look-less c =
+    let k = c .before .before .before .before .before .before .before .before .before .before .before in
+    omega (arith, k .before .before .before .before .before .before .before .before .before .before .loop-test .taken)
 
 -- it finds none
 look-stops : tie.Need-returns-2 Inv-loop μ-loop
@@ -191,7 +203,12 @@ unfolding Tries
 look-stops c =
     let i = c .before .before .before in
     let loop = i .before .before .before .before .before .before .before .before .before .before .before in
-    rw (c .stopped .ensures) (omega (arith, loop .loop .inv .pushed, i .before .before .before .before .before .before .before .before .before .before .loop-test .taken, c .before .if9 .taken))
+    rw (c .stopped .ensures) (omega (
+      arith,
+      loop .loop .inv .pushed,
+      i .before .before .before .before .before .before .before .before .before .before .loop-test .taken,
+      c .before .if9 .taken,
+    ))
 
 -- what is left
 set-again : tie.Need-loop-again-8 Inv-loop μ-loop
@@ -235,7 +252,12 @@ run-with-spec =
     (λ c κs. search needs)
     (λ c. going-start _ _ _ _ _ _ _ (c .before .before .before .before .before .pre .1 .1))
     (λ c κs. search needs)
-    (λ c. omega (arith, c .before .loop-test .taken, c .before .before .loop .inv .seen, c .before .before .before .before .before .before .before .before .pre .1 .0 .3))
+    (λ c. omega (
+      arith,
+      c .before .loop-test .taken,
+      c .before .before .loop .inv .seen,
+      c .before .before .before .before .before .before .before .before .pre .1 .0 .3,
+    ))
     (λ c κs. search needs)
     (λ c.
     let loop = c .before .before .before .before .before in

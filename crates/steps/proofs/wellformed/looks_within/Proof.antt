@@ -26,7 +26,10 @@ looks-within-spec =
     (λ c.
     let t = c .before .before in
     let a = t .before .before .args in
-    rw (sym (t .before .series-within .ensures) ∙ t .if1 .taken, le-ltb (a .back + (a .n - 1)) (a .depth) (omega (arith, c .before .before2 .ensures, c .if2 .taken))))
+    rw (
+      sym (t .before .series-within .ensures) ∙ t .if1 .taken,
+      le-ltb (a .back + (a .n - 1)) (a .depth) (omega (arith, c .before .before2 .ensures, c .if2 .taken)),
+    ))
     (λ c. search needs)
     (λ c.
     let t = c .before .before in

@@ -23,7 +23,8 @@ rule3 : (newest : ℕ) (t : List ℕ) → 16 ≤ length t → not (markRight t) 
 unfolding headerRefusal
 rule3 newest t h h2 h3 = simp (le-ltb _ _ h, h2, h3)
 
-rule4 : (newest : ℕ) (t : List ℕ) → 16 ≤ length t → not (markRight t) ≡ false → not (versionRight newest t) ≡ false → not (countsRight t) ≡ true → 4 ≡ headerRefusal newest t
+rule4 : (newest : ℕ) (t : List ℕ) → 16 ≤ length t → not (markRight t) ≡ false → not (versionRight newest t) ≡ false
+    → not (countsRight t) ≡ true → 4 ≡ headerRefusal newest t
 unfolding headerRefusal
 rule4 newest t h h2 h3 h4 = simp (le-ltb _ _ h, h2, h3, h4)
 
