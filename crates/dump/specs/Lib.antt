@@ -10,3 +10,4 @@ pub mod Pages
 pub mod RoundTrip
 pub mod Window
 pub mod Restart
+pub mod Accepted
