@@ -7,3 +7,5 @@ pub mod Fine
 pub mod RowsPass
 pub mod EntryBelow
 pub mod Says
+pub mod Again
+pub mod ReadBytes

@@ -11,3 +11,4 @@ pub mod RoundTrip
 pub mod Window
 pub mod Restart
 pub mod Accepted
+pub mod Back

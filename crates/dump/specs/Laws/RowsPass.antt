@@ -30,7 +30,7 @@ unfolding every
 every-of zero f h = refl
 every-of (suc n) f h = rw (every-of n f (λ i l. h i (omega arith)), h n (omega arith))
 
-one-of : (n : ℕ) (f : ℕ → Bool) → every n f ≡ true → (i : ℕ) → i < n → f i ≡ true
+pub one-of : (n : ℕ) (f : ℕ → Bool) → every n f ≡ true → (i : ℕ) → i < n → f i ≡ true
 unfolding every
 one-of zero f h i l = absurd (omega arith)
 one-of (suc n) f h i l =
