@@ -4,3 +4,8 @@ pub mod Packed
 pub mod InOrder
 pub mod Image
 pub mod Fine
+pub mod RowsPass
+pub mod EntryBelow
+pub mod Says
+pub mod Again
+pub mod ReadBytes

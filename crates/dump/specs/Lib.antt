@@ -10,3 +10,5 @@ pub mod Pages
 pub mod RoundTrip
 pub mod Window
 pub mod Restart
+pub mod Accepted
+pub mod Back

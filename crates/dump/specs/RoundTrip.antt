@@ -122,7 +122,7 @@ restoredOf s t room = record {
 }
 
 module _ (s : Settings) (t : State) (room : List ℕ) (small : Small t) (few : length (windowOf s t room) / rowWords (s .slots) < 4294967296) where
-  words-back : wordsIn (imageOf s t room) ≡ wordsOf (restoredOf s t room)
+  pub words-back : wordsIn (imageOf s t room) ≡ wordsOf (restoredOf s t room)
   unfolding imageOf wordsOf restoredOf
   words-back =
       words-said (s .slots) (s .depth) (wordsOf t) (windowOf s t room)

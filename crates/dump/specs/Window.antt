@@ -29,7 +29,7 @@ module _ (K D : ℕ) (ws rows : List ℕ) where
   byte-at : (i k p : ℕ) → k < 8 → p ≡ 256 + (8 * i + k) → getD (image K D ws rows) p 0 ≡ getD (eight (getD rows i 0)) k 0
   byte-at i k p l e = ap (λ (q : ℕ). getD (image K D ws rows) q 0) e ∙ image-body K D ws rows (8 * i + k) ∙ word-byte rows i k l
 
-  word-at : (i : ℕ) → getD rows i 0 < 18446744073709551616 → u64 (image K D ws rows) (256 + 8 * i) ≡ getD rows i 0
+  pub word-at : (i : ℕ) → getD rows i 0 < 18446744073709551616 → u64 (image K D ws rows) (256 + 8 * i) ≡ getD rows i 0
   unfolding u16 u32 u64
   word-at i small =
       let x = image K D ws rows in
@@ -54,12 +54,12 @@ module _ (K D : ℕ) (ws rows : List ℕ) where
 
 -- ---- words one after another
 
-listed-long : (n : ℕ) (f : ℕ → ℕ) → length (listed n f) ≡ n
+pub listed-long : (n : ℕ) (f : ℕ → ℕ) → length (listed n f) ≡ n
 unfolding listed
 listed-long zero f = refl
 listed-long (suc n) f = omega (arith, length-append (listed n f) (f n ∷ []), listed-long n f)
 
-listed-at : (n : ℕ) (f : ℕ → ℕ) (i : ℕ) → i < n → getD (listed n f) i 0 ≡ f i
+pub listed-at : (n : ℕ) (f : ℕ → ℕ) (i : ℕ) → i < n → getD (listed n f) i 0 ≡ f i
 unfolding listed
 listed-at zero f i l = absurd (omega arith)
 listed-at (suc n) f i l = ⊎-elim

@@ -45,7 +45,7 @@ four-low n =
     rw (a, b, c, d)
 
 -- two halves
-halves : (lo hi n : ℕ) → lo < 4294967296 → n ≡ lo + 4294967296 * hi → eight n ≡ four lo ++ four hi
+pub halves : (lo hi n : ℕ) → lo < 4294967296 → n ≡ lo + 4294967296 * hi → eight n ≡ four lo ++ four hi
 halves lo hi n l e =
     let a : n % 4294967296 ≡ lo = ap (λ (m : ℕ). m % 4294967296) e ∙ add-mul-mod-self-left lo 4294967296 hi ∙ mod-eq-of-lt l in
     let b : n / 4294967296 ≡ hi =
@@ -53,7 +53,7 @@ halves lo hi n l e =
     rw (a, b)
 
 -- four bytes side by side
-joined : (n a b c d : ℕ) → a < 256 → b < 256 → c < 256 → d < 256 → n ≡ a + 256 * b + 65536 * c + 16777216 * d → four n ≡ a ∷ b ∷ c ∷ d ∷ []
+pub joined : (n a b c d : ℕ) → a < 256 → b < 256 → c < 256 → d < 256 → n ≡ a + 256 * b + 65536 * c + 16777216 * d → four n ≡ a ∷ b ∷ c ∷ d ∷ []
 joined n a b c d la lb lc ld e =
     let p0 : n % 256 ≡ a = omega arith in
     let p1 : n / 256 ≡ b + 256 * c + 65536 * d = omega arith in
