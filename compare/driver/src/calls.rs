@@ -200,6 +200,29 @@ mod c {
             metrics_len: usize,
         ) -> u64;
         pub fn ysh_root(word: u64) -> u64;
+        pub fn ysh_dump_bytes(slots: u64, depth: u64) -> u64;
+        pub fn ysh_dump(
+            settings: *const u64,
+            settings_len: usize,
+            state: *const u64,
+            state_len: usize,
+            rows: *const u64,
+            rows_len: usize,
+            area: *mut u8,
+            area_len: usize,
+            from: u64,
+            upto: u64,
+        ) -> u64;
+        pub fn ysh_restore(
+            settings: *const u64,
+            settings_len: usize,
+            state: *mut u64,
+            state_len: usize,
+            image: *const u8,
+            image_len: usize,
+            rows: *mut u64,
+            rows_len: usize,
+        ) -> u64;
     }
 }
 
@@ -362,4 +385,41 @@ pub fn metrics(initial: u64, equity: &[u64], trades: &[u64], metrics: &mut [u64]
 
 pub fn root(word: u64) -> u64 {
     unsafe { c::ysh_root(word) }
+}
+
+pub fn dump_bytes(slots: u64, depth: u64) -> u64 {
+    unsafe { c::ysh_dump_bytes(slots, depth) }
+}
+
+/// Writes bytes `from` to `upto` of the order of writing into the area.
+pub fn dump(settings: &[u64], state: &[u64], rows: &[u64], area: &mut [u8], (from, upto): (u64, u64)) -> u64 {
+    unsafe {
+        c::ysh_dump(
+            settings.as_ptr(),
+            settings.len(),
+            state.as_ptr(),
+            state.len(),
+            rows.as_ptr(),
+            rows.len(),
+            area.as_mut_ptr(),
+            area.len(),
+            from,
+            upto,
+        )
+    }
+}
+
+pub fn restore(settings: &[u64], state: &mut [u64], image: &[u8], rows: &mut [u64]) -> u64 {
+    unsafe {
+        c::ysh_restore(
+            settings.as_ptr(),
+            settings.len(),
+            state.as_mut_ptr(),
+            state.len(),
+            image.as_ptr(),
+            image.len(),
+            rows.as_mut_ptr(),
+            rows.len(),
+        )
+    }
 }

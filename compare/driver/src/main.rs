@@ -8,6 +8,7 @@ mod compare;
 mod extremes;
 mod figures;
 mod guard;
+mod images;
 mod model;
 mod ours;
 mod progress;
@@ -17,7 +18,7 @@ mod view;
 use std::process::ExitCode;
 
 const USAGE: &str = "usage: driver compare SEED RUNS | guard SEED CALLS | root SEED COUNT | metrics SEED COUNT
-       driver extremes SEED COUNT | replay < runs | bench";
+       driver extremes SEED COUNT | images SEED COUNT | replay < runs | bench";
 
 fn usage() -> ! {
     eprintln!("{USAGE}");
@@ -35,6 +36,7 @@ fn main() -> ExitCode {
         ["compare", seed, runs] => compare::compare(number(seed), number(runs)),
         ["guard", seed, count] => guard::guard(number(seed), number(count)),
         ["extremes", seed, count] => extremes::extremes(number(seed), number(count)),
+        ["images", seed, count] => images::images(number(seed), number(count)),
         ["bench"] => bench::bench(),
         ["replay"] => compare::replay().expect("standard input can be read"),
         ["root", seed, count] => figures::roots(number(seed), number(count)),

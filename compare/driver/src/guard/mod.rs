@@ -6,10 +6,10 @@
 
 mod answers;
 mod base;
-mod damage;
+pub mod damage;
 mod day;
 mod lent;
-mod room;
+pub mod room;
 mod runs;
 mod tables;
 

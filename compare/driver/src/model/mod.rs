@@ -1,6 +1,7 @@
 //! What document 01 says and the original has no rule for, written once more in Rust: which calls are refused, and with what
 //! number and place; what a list of steps does. It follows the paper and docs/INTERFACE.md, not the proved code.
 
+pub mod image;
 pub mod machine;
 pub mod refusals;
 pub mod silent;

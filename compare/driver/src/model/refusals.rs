@@ -18,10 +18,10 @@ const LOOKBACK: u64 = 7;
 /// The room of the silent tests.
 const SILENT_ROOM: u64 = 18;
 
-type Checked = Result<(), u64>;
+pub type Checked = Result<(), u64>;
 
 /// Nothing where `right`, else the refusal.
-fn need(right: bool, number: u64, place: u64) -> Checked {
+pub fn need(right: bool, number: u64, place: u64) -> Checked {
     if right {
         Ok(())
     } else {
@@ -29,12 +29,12 @@ fn need(right: bool, number: u64, place: u64) -> Checked {
     }
 }
 
-fn word(words: &[u64], i: usize) -> u64 {
+pub fn word(words: &[u64], i: usize) -> u64 {
     words.get(i).copied().unwrap_or(0)
 }
 
 /// 10 of the rooms that every call with a state has; a setting past the end is 0.
-fn rooms(settings: &[u64], state: &[u64], rows: &[u64]) -> Checked {
+pub fn rooms(settings: &[u64], state: &[u64], rows: &[u64]) -> Checked {
     let width = 7 + u128::from(word(settings, 0));
     let needed = u128::from(word(settings, 1)).saturating_mul(width);
     need(needed <= rows.len() as u128, 10, 0)?;
@@ -47,7 +47,7 @@ fn words(settings: &[u64], state: &[u64]) -> Checked {
 }
 
 /// 12, setting by setting.
-fn settings(s: &[u64]) -> Checked {
+pub fn settings(s: &[u64]) -> Checked {
     let lookback = if s[5] == 3 { s[7] } else { 0 };
     let given = |i: usize| s[GIVEN] >> i & 1 == 1;
     need(s[0] <= MOST_SLOTS, 12, 0)?;
@@ -88,12 +88,20 @@ fn counts(s: &[u64], slots: u64, rows: &[u64], equity: &[u64], trades: &[u64]) -
     entry_bar(s[state::ENTERED], s[state::ENTRY_BAR], s[state::BARS_SEEN])
 }
 
+/// The same where of the rooms only that of the rows is lent.
+pub fn counts_held(s: &[u64], slots: u64, rows: &[u64]) -> Checked {
+    need(s[state::EQUITY_POINTS] <= MOST && s[state::TRADES] <= MOST, 13, 0)?;
+    let mut s = s.to_vec();
+    (s[state::EQUITY_POINTS], s[state::TRADES]) = (0, 0);
+    counts(&s, slots, rows, &[], &[])
+}
+
 fn entry_bar(entered: u64, bar: u64, bars_seen: u64) -> Checked {
     need(entered == 0 || bar < bars_seen, 13, 0)
 }
 
 /// 11 of a bar.
-fn bar(bar: &[u64], slots: usize, bars_seen: u64) -> Checked {
+pub fn bar(bar: &[u64], slots: usize, bars_seen: u64) -> Checked {
     let present = |k: usize| bar[6] >> k & 1 == 1;
     let prices = bar[1..6].iter().all(|&price| finite(price));
     let no_more = (slots..64).all(|k| !present(k));
