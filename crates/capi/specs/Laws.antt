@@ -4,3 +4,4 @@ pub mod TablePlaces
 pub mod TableCalls
 pub mod RunCalls
 pub mod WhyCalls
+pub mod DumpCalls

@@ -11,6 +11,7 @@ use lib.Dec.{eqb}
 use lib.ListN.{length, getD, List·getD-eq-default}
 use Rattle.words.specs.Limits.{rowWords}
 use Rattle.words.specs.Words.{word}
+use Rattle.rows.specs.History.{lastRows}
 use Rattle.table.specs.Bytes.{u16, u64}
 use Rattle.records.specs.declared.settings.Settings.{Settings}
 use Rattle.records.specs.declared.state.State.{State}
@@ -49,7 +50,7 @@ use Rattle.dump.specs.Laws.Says.{Says, unused-fine, numbers-fine, shape-
 use Rattle.dump.specs.Laws.WordBytes.{words-long}
 
 -- A box whose image is accepted: numbers and words such as the code's types hold, what 13 asks of rows and of the entry bar, no more rows than bars
--- seen, and rows that 11 would let pass. A box that was reached from a fresh state has all of it but the first: `reached-dumpable`.
+-- seen, and rows that 11 would let pass. A box that was reached from a fresh state has the first by `reached-kept`, and the rest by `reached-dumpable`.
 pub record Dumpable (s : Settings) (t : State) (m : Rooms) : Type 0 where
   pub kept : Kept s t m
   pub held : t .counts .«rows_held» ≤ rowPlaces (s .slots) (m .rows)
@@ -189,12 +190,12 @@ module _ (s : Settings) (t : State) (m : Rooms) (fit : Dumpable s t m) where
 -- ---- a box that was reached
 
 -- what every bar keeps: counts within their rooms, an entry bar below the bars seen, and rows that 11 would let pass
-record Passed (s : Settings) (t : State) (m : Rooms) : Type 0 where
-  sound : Sound s t m
-  entry : entryBelow (t .position .entered) (t .counts .«bars_seen») ≡ true
-  rows : RowsPass (s .slots) (windowOf s t (m .rows))
+pub record Passed (s : Settings) (t : State) (m : Rooms) : Type 0 where
+  pub sound : Sound s t m
+  pub entry : entryBelow (t .position .entered) (t .counts .«bars_seen») ≡ true
+  pub rows : RowsPass (s .slots) (windowOf s t (m .rows))
 
-fresh-passed : (s : Settings) (m : Rooms) → s .depth ≤ rowPlaces (s .slots) (m .rows) → Passed s (freshState s) m
+pub fresh-passed : (s : Settings) (m : Rooms) → s .depth ≤ rowPlaces (s .slots) (m .rows) → Passed s (freshState s) m
 unfolding freshState RowsPass
 fresh-passed s m deep =
     let sound = fresh-sound s m deep in
@@ -202,7 +203,7 @@ fresh-passed s m deep =
     record { sound = sound; entry = fresh-below s; rows = λ i l. absurd (omega (arith, none)) }
 
 module _ (s : Settings) (ls : Lists) (t : State) (m : Rooms) (bar : List ℕ) (fine : stepVerdict s t bar m ls ≡ Fine) where
-  step-judged : stepJudged s t bar m ls ≡ Fine
+  pub step-judged : stepJudged s t bar m ls ≡ Fine
   unfolding stepVerdict stepJudged
   step-judged = both-fine (stepLines s t bar m ls) _ fine .0
 
@@ -213,24 +214,29 @@ module _ (s : Settings) (ls : Lists) (t : State) (m : Rooms) (bar : List ℕ) (f
       let below = both-fine (placeLines (t .counts) (m .equity) (m .trades)) _ (first-holds _ _ rest .1) .1 in
       both-fine (barLines (s .slots) bar (t .counts .«bars_seen»)) _ below .0
 
-  step-passed : Passed s t m → Passed s (stepped s t bar m ls .result) (stepped s t bar m ls .rooms)
+  -- the window after it: the last D of the window before, and its row
+  pub window-moved : Sound s t m
+      → windowOf s (stepped s t bar m ls .result) (stepped s t bar m ls .rooms .rows)
+      ≡ lastRows (s .slots) (s .depth) (windowOf s t (m .rows) ++ rowOf (s .slots) bar)
   unfolding stepped windowOf
-  step-passed p =
+  window-moved sound =
       let K = s .slots in
       let row = rowOf K bar in
-      let room = m .rows in
       let held = t .counts .«rows_held» in
-      let known = step-fine s t bar m ls step-judged in
-      let within = p .sound .within .rows in
-      let moved = window-added K room held row (row-long K bar) (s .depth) (known .settings .depth) (p .sound .depth) within
-      ∙ last-added K (s .depth) (heldRows K held room) row (row-long K bar) in
-      let whole = window-whole s t room within in
+      let some = step-fine s t bar m ls step-judged .settings .depth in
+      window-added K (m .rows) held row (row-long K bar) (s .depth) some (sound .depth) (sound .within .rows)
+      ∙ last-added K (s .depth) (heldRows K held (m .rows)) row (row-long K bar)
+
+  pub step-passed : Passed s t m → Passed s (stepped s t bar m ls .result) (stepped s t bar m ls .rooms)
+  step-passed p =
+      let K = s .slots in
+      let W = windowOf s t (m .rows) in
+      let whole = window-whole s t (m .rows) (p .sound .within .rows) in
+      let added = added-pass K W (p .rows) (length W / rowWords K) bar (whole .words) (row-passes K bar (t .counts .«bars_seen») bar-passed) in
       record {
         sound = step-sound s t bar m ls (p .sound);
         entry = step-below s t bar m ls (p .entry);
-        rows = rw moved (last-pass K (windowOf s t room ++ row)
-            (added-pass K (windowOf s t room) (p .rows) (length (windowOf s t room) / rowWords K) bar (whole .words)
-            (row-passes K bar (t .counts .«bars_seen») bar-passed)) (s .depth));
+        rows = rw (window-moved (p .sound)) (last-pass K (W ++ rowOf K bar) added (s .depth));
       }
 
 module _ (s : Settings) (ls : Lists) (m : Rooms) (bars : List (List ℕ)) (deep : s .depth ≤ rowPlaces (s .slots) (m .rows)) where

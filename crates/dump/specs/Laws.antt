@@ -9,3 +9,5 @@ pub mod EntryBelow
 pub mod Says
 pub mod Again
 pub mod ReadBytes
+pub mod Times
+pub mod Reached64

@@ -1,0 +1,178 @@
+-- After any bars from a fresh state, the numbers of a state and the words of its window are such as the code's types hold, where those of the settings
+-- and of the bars are.
+use Prim.Native.Nat.{ℕ, zero, suc, _-_, _*_, _/_, _%_, _^_, _≤_, _<_}
+use mathlib.Core.Path.{_≡_, refl, ap, _∙_}
+use mathlib.Core.Bool.{Bool, true, false, cond}
+use mathlib.Core.List.{List, [], _∷_, _++_}
+use native.Mathlib.Nat.{zero-mul}
+use native.Mathlib.Omega.{arith}
+use borrow.Author.Tests.{leb-true, ltb-true}
+use lib.Dec.{leb, ltb, eqb}
+use lib.ListN.{length, getD, List·getD-eq-default}
+use lib.Seq.{getD-drop}
+use Rattle.words.specs.Limits.{rowWords, mostRows}
+use Rattle.rows.specs.History.{lastRows}
+use Rattle.rules.specs.declared.Entered.{Entered}
+use Rattle.rules.specs.declared.Entered.the-variants.{Never, Bar}
+use Rattle.portfolio.specs.Portfolio.{fresh}
+use Rattle.records.specs.declared.settings.Settings.{Settings}
+use Rattle.records.specs.declared.state.State.{State}
+use Rattle.records.specs.Bar.{candleOf}
+use Rattle.records.specs.Lent.{Lists, Rooms, rowPlaces}
+use Rattle.records.specs.State.{freshState}
+use Rattle.records.specs.StateWords.{orderDelay, entryBar}
+use Rattle.records.specs.Laws.RoundTrip.{Floats64}
+use Rattle.refusals.specs.declared.verdict.Verdict.{Verdict}
+use Rattle.refusals.specs.declared.verdict.Verdict.the-variants.{Fine, Bad}
+use Rattle.refusals.specs.Lines.{judged}
+use Rattle.refusals.specs.Rooms.{entryBelow}
+use Rattle.refusals.specs.Settings.{settingLines}
+use Rattle.refusals.specs.Laws.Fine.{settings-fine, step-fine}
+use Rattle.refusals.specs.Laws.Lines.{and-true, first-holds}
+use Rattle.engine.specs.Laws.Floats.{step-floats}
+use Rattle.engine.specs.Laws.Runs.{run-none, run-stops, run-takes}
+use Rattle.engine.specs.Record.{rowWord, listed, rowOf}
+use Rattle.engine.specs.Run.{Run, runOver}
+use Rattle.engine.specs.Step.{stepped, stepVerdict}
+use Rattle.dump.specs.Accepted.{Passed, fresh-passed, step-passed, window-moved, step-judged}
+use Rattle.dump.specs.Layout.{windowOf}
+use Rattle.dump.specs.Restart.{Kept}
+use Rattle.dump.specs.Window.{window-whole}
+use Rattle.dump.specs.Laws.Times.{Word64, step-timed, step-delayed}
+
+-- ---- words
+
+abbrev pub Words64 : List ℕ → Type 0
+Words64 ws = (i : ℕ) → Word64 (getD ws i 0)
+
+-- of each bar
+unfoldable pub Bars64 : List (List ℕ) → Type 0
+Bars64 [] = Unit {0}
+Bars64 (bar ∷ bars) = Words64 bar × Bars64 bars
+
+append-words : (a b : List ℕ) → Words64 a → Words64 b → Words64 (a ++ b)
+append-words [] b h k i = k i
+append-words (x ∷ a) b h k zero = h 0
+append-words (x ∷ a) b h k (suc i) = append-words a b (λ j. h (suc j)) k i
+
+last-words : (K D : ℕ) (ws : List ℕ) → Words64 ws → Words64 (lastRows K D ws)
+unfolding lastRows
+last-words K D ws h i = rw (getD-drop _ ws i 0) (h _)
+
+one-word : (w : ℕ) → Word64 w → Words64 (w ∷ [])
+one-word w h zero = h
+one-word w h (suc i) = omega arith
+
+listed-words : (n : ℕ) (f : ℕ → ℕ) → ((j : ℕ) → Word64 (f j)) → Words64 (listed n f)
+unfolding listed
+listed-words zero f h i = omega arith
+listed-words (suc n) f h i = append-words (listed n f) (f n ∷ []) (listed-words n f h) (one-word (f n) (h n)) i
+
+word-either : (b : Bool) (x y : ℕ) → Word64 x → Word64 y → Word64 (cond b x y)
+word-either true x y h k = h
+word-either false x y h k = k
+
+row-words : (K : ℕ) (bar : List ℕ) → Words64 bar → Words64 (rowOf K bar)
+unfolding rowOf rowWord
+row-words K bar h =
+    listed-words (rowWords K) (rowWord bar)
+    (λ j. word-either (ltb j 7) (getD bar j 0) _ (h j) (word-either (eqb (getD bar 6 0 / 2 ^ (j - 7) % 2) 1) (getD bar j 0) 0 (h j) (omega arith)))
+
+-- ---- a box
+
+record Held64 (s : Settings) (t : State) (m : Rooms) : Type 0 where
+  passed : Passed s t m
+  seen : t .counts .«bars_seen» < 4294967296
+  delay : Word64 (orderDelay (t .order))
+  entryTime : Word64 (t .position .portfolio .«entry_time»)
+  lastTime : Word64 (t .last .time)
+  floats : Floats64 t
+  words : Words64 (windowOf s t (m .rows))
+
+module _ (s : Settings) (ls : Lists) (delay : Word64 (s .delay)) where
+  step-held : (t : State) (m : Rooms) (bar : List ℕ) → stepVerdict s t bar m ls ≡ Fine → Words64 bar → Held64 s t m
+      → Held64 s (stepped s t bar m ls .result) (stepped s t bar m ls .rooms)
+  unfolding stepped candleOf
+  step-held t m bar fine w h =
+      let known = step-fine s t bar m ls (step-judged s ls t m bar fine) in
+      let W = windowOf s t (m .rows) in
+      record {
+        passed = step-passed s ls t m bar fine (h .passed);
+        seen = omega (arith, known .bars);
+        delay = step-delayed s t bar m ls delay (h .delay);
+        entryTime = step-timed s t bar m ls (w 0) (h .entryTime);
+        lastTime = w 0;
+        floats = step-floats s t bar m ls (h .floats);
+        words = rw (window-moved s ls t m bar fine (h .passed .sound))
+            (last-words (s .slots) (s .depth) (W ++ rowOf (s .slots) bar) (append-words W (rowOf (s .slots) bar) (h .words) (row-words (s .slots) bar w)));
+      }
+
+  run-held : (bars : List (List ℕ)) (t : State) (m : Rooms) → Bars64 bars → Held64 s t m
+      → Held64 s (runOver s ls t m bars .state) (runOver s ls t m bars .rooms)
+  unfolding Bars64
+  run-held [] t m f h = rw run-none h
+  run-held (bar ∷ bars) t m f h =
+      go (stepVerdict s t bar m ls) refl
+      (λ e. run-held bars (stepped s t bar m ls .result) (stepped s t bar m ls .rooms) (f .1) (step-held t m bar e (f .0) h))
+    where
+      later : Run
+      later = runOver s ls (stepped s t bar m ls .result) (stepped s t bar m ls .rooms) bars
+
+      go : (v : Verdict) → stepVerdict s t bar m ls ≡ v → (stepVerdict s t bar m ls ≡ Fine → Held64 s (later .state) (later .rooms))
+          → Held64 s (runOver s ls t m (bar ∷ bars) .state) (runOver s ls t m (bar ∷ bars) .rooms)
+      go (Bad why) e goes = rw (run-stops s ls t m bar bars why e) h
+      go Fine e goes = rw (run-takes s ls t m bar bars e) (goes e)
+
+fresh-held : (s : Settings) (m : Rooms) → s .depth ≤ rowPlaces (s .slots) (m .rows) → Floats64 (freshState s) → Held64 s (freshState s) m
+unfolding freshState fresh orderDelay
+fresh-held s m deep floats =
+    let passed = fresh-passed s m deep in
+    let whole = window-whole s (freshState s) (m .rows) (passed .sound .within .rows) in
+    let W = windowOf s (freshState s) (m .rows) in
+    let none : length W / rowWords (s .slots) ≡ 0 = omega (arith, whole .held) in
+    let empty : length W ≡ 0 = whole .words ∙ ap (λ (n : ℕ). n * rowWords (s .slots)) none ∙ zero-mul (rowWords (s .slots)) in
+    record {
+      passed = passed;
+      seen = omega arith;
+      delay = omega arith;
+      entryTime = omega arith;
+      lastTime = omega arith;
+      floats = floats;
+      words = λ i. omega (arith, List·getD-eq-default W 0 {n = i} (omega (arith, empty)));
+    }
+
+-- ---- what its image needs
+
+entry-small : (e : Entered) (n : ℕ) → entryBelow e n ≡ true → n < 4294967296 → entryBar e < 4294967296
+unfolding entryBar
+entry-small Never n h l = omega arith
+entry-small (Bar b) n h l = omega (arith, ltb-true b n h)
+
+depth-fine : (s : Settings) → judged (settingLines s) ≡ Fine → s .depth ≤ mostRows
+unfolding settingLines
+depth-fine s h =
+    let depth = first-holds _ _ (first-holds _ _ h .1) .0 in
+    leb-true _ _ (and-true (leb 1 (s .depth)) (leb (s .depth) mostRows) (and-true _ _ depth .0) .1)
+
+-- ANY BARS FROM A FRESH STATE leave a box that has all that its image needs (`Kept`): settings that 12 lets pass, whose capital is an f64 and whose delay a
+-- 64-bit word, and bars of 64-bit words are all that is asked.
+pub reached-kept : (s : Settings) (ls : Lists) (m : Rooms) (bars : List (List ℕ)) → s .depth ≤ rowPlaces (s .slots) (m .rows)
+    → judged (settingLines s) ≡ Fine → Floats64 (freshState s) → Word64 (s .delay) → Bars64 bars
+    → let b = runOver s ls (freshState s) m bars in
+    Kept s (b .state) (b .rooms)
+reached-kept s ls m bars deep twelve floats delay words =
+    let b : Run = runOver s ls (freshState s) m bars in
+    let h : Held64 s (b .state) (b .rooms) = run-held s ls delay bars (freshState s) m words (fresh-held s m deep floats) in
+    record {
+      slots = settings-fine s twelve .slots;
+      depth = depth-fine s twelve;
+      small = record {
+        seen = h .seen;
+        entry = entry-small (b .state .position .entered) (b .state .counts .«bars_seen») (h .passed .entry) (h .seen);
+        delay = h .delay;
+        entryTime = h .entryTime;
+        lastTime = h .lastTime;
+        floats = h .floats;
+      };
+      words = h .words;
+    }

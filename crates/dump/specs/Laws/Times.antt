@@ -1,0 +1,222 @@
+-- The time of the last entry and the delay of an order stay below 2^64, where the bar's time and the delay setting are.
+use Prim.Native.Nat.{ℕ, _-_, _<_}
+use mathlib.Core.Bool.{Bool, true, false, cond}
+use mathlib.Core.List.{List}
+use native.Mathlib.Omega.{arith}
+use lib.Dec.{ltb}
+use lib.Ieee.{Float}
+use Rattle.floats.specs.Floats.{_⊗_, _≺_, eps}
+use Rattle.rows.specs.History.{History}
+use Rattle.portfolio.specs.declared.Candle.{Candle}
+use Rattle.portfolio.specs.declared.Closed.{Closed}
+use Rattle.portfolio.specs.declared.Portfolio.{Portfolio}
+use Rattle.portfolio.specs.Portfolio.{inPosition, isLong, funded, worsened, entered, exited}
+use Rattle.execution.specs.declared.Entry.{Entry}
+use Rattle.execution.specs.declared.Entry.the-variants.{NoEntry, TooLarge, Entered}
+use Rattle.execution.specs.declared.Exit.{Exit}
+use Rattle.execution.specs.declared.Exit.the-variants.{NoExit, Exited}
+use Rattle.execution.specs.declared.Funding.{Funding}
+use Rattle.execution.specs.declared.Funding.the-variants.{NotSupplied, Supplied}
+use Rattle.execution.specs.declared.Optional.{Optional}
+use Rattle.execution.specs.declared.Optional.the-variants.{Absent}
+use Rattle.execution.specs.declared.Optional.the-variants as Optional
+use Rattle.execution.specs.declared.Quantity.{Quantity}
+use Rattle.execution.specs.declared.Quantity.the-variants.{Nothing, Of}
+use Rattle.execution.specs.declared.Quantity.the-variants as Quantity
+use Rattle.execution.specs.declared.level.OrderKind.{OrderKind}
+use Rattle.execution.specs.declared.Side.{Side}
+use Rattle.execution.specs.declared.Side.the-variants.{Long, Short}
+use Rattle.execution.specs.declared.Terms.{Terms}
+use Rattle.execution.specs.declared.Trigger.{Trigger}
+use Rattle.execution.specs.declared.Trigger.the-variants.{Untouched, At}
+use Rattle.execution.specs.Costs.{slippageRate, fillPrice, closed, withFunding, chargeFunding}
+use Rattle.execution.specs.Fills.{direction, volatilityFor, quantity, probeQty, withinVolume, booked, executeEntry, executeExit}
+use Rattle.execution.specs.Lots.{isTooLarge, orZero}
+use Rattle.execution.specs.Level.{levelFill}
+use Rattle.execution.specs.Intrabar.{closedBy, applyIntrabarExits}
+use Rattle.records.specs.declared.settings.Settings.{Settings}
+use Rattle.records.specs.declared.state.Order.{Order}
+use Rattle.records.specs.declared.state.Order.the-variants.{Idle, EnterLong, EnterShort, Exit as ExitOrder}
+use Rattle.records.specs.declared.state.Position.{Position}
+use Rattle.records.specs.declared.state.State.{State}
+use Rattle.records.specs.Bar.{candleOf}
+use Rattle.records.specs.Lent.{Lists, Rooms}
+use Rattle.records.specs.StateWords.{orderDelay}
+use Rattle.engine.specs.declared.account.Due.{Due}
+use Rattle.engine.specs.declared.account.Due.the-variants.{Waits, Enters, Leaves}
+use Rattle.engine.specs.Account as Account
+use Rattle.engine.specs.Account.{leaving, facing, entering, reached, dueOf, doneOf, filled, intrabar, charged}
+use Rattle.engine.specs.Decide.{Answers, ordered, openingOrder, closingOrder, orderAfter, decided}
+use Rattle.engine.specs.Step.{stepped}
+
+-- what a 64-bit word holds
+abbrev pub Word64 : ℕ → Type 0
+Word64 w = w < 18446744073709551616
+
+-- ---- the time of the last entry
+
+abbrev Timed : Portfolio → Type 0
+Timed p = Word64 (p .«entry_time»)
+
+timed-either : (b : Bool) (p q : Portfolio) → Timed p → Timed q → Timed (cond b p q)
+timed-either true p q h i = h
+timed-either false p q h i = i
+
+facing-timed : (p : Position) (k : Candle) → Timed (p .portfolio) → Timed (facing p k .portfolio)
+unfolding facing worsened
+facing-timed p k h = timed-either (inPosition (p .portfolio)) _ (p .portfolio) h h
+
+data TimedExit : Exit → Type 0 where
+  stayed : TimedExit NoExit
+  left : (c : Closed) → Timed (c .portfolio) → TimedExit (Exited c)
+
+exit-if : (b : Bool) (x : Exit) → TimedExit x → TimedExit (cond b x NoExit)
+exit-if true x h = h
+exit-if false x h = stayed
+
+closed-timed : (p : Portfolio) (price : Float) (time : ℕ) (bps : Float) (reason : ℕ) → Timed p → TimedExit (Exited (closed p price time bps reason))
+unfolding closed exited
+closed-timed p price time bps reason h = left (closed p price time bps reason) h
+
+leaving-timed : (p : Position) (x : Exit) → Timed (p .portfolio) → TimedExit x → Timed (leaving p x .portfolio)
+unfolding leaving
+leaving-timed p NoExit h e = h
+leaving-timed p (Exited c) h (left _ i) = i
+
+executed-timed : (reason : ℕ) (raw : Float) (terms : Terms) (k : Candle) (p : Portfolio) → Timed p → TimedExit (executeExit reason raw terms k p)
+unfolding executeExit
+executed-timed reason raw terms k p h = exit-if (inPosition p) _ (closed-timed p _ (k .time) (terms .«taker_bps») reason h)
+
+data TimedEntry : Entry → Type 0 where
+  none : TimedEntry NoEntry
+  large : TimedEntry TooLarge
+  one : (p : Portfolio) (fill : Float) → Timed p → TimedEntry (Entered p fill)
+
+booked-timed : (b : Bool) (p : Portfolio) (qty fill : Float) (time : ℕ) (fee : Float) → Word64 time
+    → TimedEntry (cond b (Entered (entered p qty fill time fee) fill) NoEntry)
+unfolding entered
+booked-timed true p qty fill time fee h = one (entered p qty fill time fee) fill h
+booked-timed false p qty fill time fee h = none
+
+ordered-timed : (q : Quantity) (dir fill bps : Float) (k : Candle) (p : Portfolio) → Word64 (k .time) → TimedEntry (booked dir q fill bps k p)
+unfolding booked
+ordered-timed Nothing dir fill bps k p h = none
+ordered-timed Quantity.TooLarge dir fill bps k p h = large
+ordered-timed (Of base) dir fill bps k p h = booked-timed (eps ≺ base) p (dir ⊗ base) fill (k .time) _ h
+
+entry-either : (b : Bool) (x : Entry) → TimedEntry x → TimedEntry (cond b TooLarge x)
+entry-either true x h = large
+entry-either false x h = h
+
+entry-timed : (side : Side) (raw bps : Float) (terms : Terms) (k : Candle) (p : Portfolio) (h : History) → Word64 (k .time)
+    → TimedEntry (executeEntry side raw bps terms k p h)
+unfolding executeEntry
+entry-timed side raw bps terms k p h t =
+    let rv : Optional = volatilityFor (terms .sizing) h in
+    let probe : Quantity = probeQty (terms .slippage) terms (p .cash) raw rv in
+    let fill : Float = fillPrice raw (direction side) (slippageRate (terms .slippage) (orZero probe) (k .volume)) in
+    let q : Quantity = withinVolume terms (quantity terms (p .cash) fill rv) (k .volume) in
+    entry-either (isTooLarge probe) (booked (direction side) q fill bps k p) (ordered-timed q (direction side) fill bps k p t)
+
+entering-timed : (p : Position) (x : Entry) (number : ℕ) → Timed (p .portfolio) → TimedEntry x → Timed (entering p x number .portfolio)
+unfolding entering
+entering-timed p NoEntry number h e = h
+entering-timed p TooLarge number h e = h
+entering-timed p (Entered account fill) number h (one _ _ a) = a
+
+filled-timed : (due : Due) (s : Settings) (p : Position) (k : Candle) (before : History) (n : ℕ) → Word64 (k .time) → Timed (p .portfolio)
+    → Timed (doneOf due s p k before n .position .portfolio)
+unfolding doneOf Account.entered Account.exited
+filled-timed (Waits order) s p k before n t h = h
+filled-timed (Enters side kind price) s p k before n t h = entering-timed p _ n h (entry-timed side price _ (s .terms) k (p .portfolio) before t)
+filled-timed Leaves s p k before n t h =
+    leaving-timed (facing p k) _ (facing-timed p k h) (executed-timed _ (k .«open») (s .terms) k (facing p k .portfolio) (facing-timed p k h))
+
+touched-timed : (x : Trigger) (k : Candle) (terms : Terms) (p : Portfolio) → Timed p → TimedExit (closedBy x k terms p)
+unfolding closedBy
+touched-timed Untouched k terms p h = stayed
+touched-timed (At price reason) k terms p h = closed-timed p price (k .time) (terms .«taker_bps») reason h
+
+intrabar-timed : (s : Settings) (p : Position) (k : Candle) → Timed (p .portfolio) → Timed (intrabar s p k .position .portfolio)
+unfolding intrabar applyIntrabarExits
+intrabar-timed s p k h =
+    let q : Portfolio = facing p k .portfolio in
+    let held : Timed q = facing-timed p k h in
+    leaving-timed (record { portfolio = q; entered = _; extreme = _ }) _ held (exit-if (inPosition q) _ (touched-timed _ k (s .terms) q held))
+
+funding-timed : (f : Funding) (p : Portfolio) → Timed p → Timed (withFunding f p)
+unfolding withFunding funded
+funding-timed NotSupplied p h = h
+funding-timed (Supplied mark rate) p h = h
+
+charged-timed : (s : Settings) (p : Position) (bar : List ℕ) → Timed (p .portfolio) → Timed (charged s p bar .portfolio)
+unfolding charged chargeFunding
+charged-timed s p bar h =
+    let a : Portfolio = p .portfolio in
+    timed-either (s .funding) (cond (inPosition a) (withFunding _ a) a) a (timed-either (inPosition a) (withFunding _ a) a (funding-timed _ a h) h) h
+
+-- ---- the delay of an order
+
+abbrev Delayed : Order → Type 0
+Delayed o = Word64 (orderDelay o)
+
+module _ (s : Settings) (p : Position) (k : Candle) (before : History) (number : ℕ) where
+  abbrev DueDelayed : Due → Type 0
+  DueDelayed due = Delayed (doneOf due s p k before number .order)
+
+  due-either : (b : Bool) (x y : Due) → DueDelayed x → DueDelayed y → DueDelayed (cond b x y)
+  due-either true x y h i = h
+  due-either false x y h i = i
+
+  reached-delayed : (side : Side) (kind : OrderKind) (o : Order) (x : Optional) → Delayed o → DueDelayed (reached side kind o x)
+  unfolding reached doneOf Account.entered orderDelay
+  reached-delayed side kind o Absent h = h
+  reached-delayed side kind o (Optional.Of price) h = omega arith
+
+  waits-delayed : (o : Order) → Delayed o → Delayed (filled s o p k before number .order)
+  unfolding filled dueOf doneOf Account.exited orderDelay
+  waits-delayed Idle h = omega arith
+  waits-delayed (EnterLong n kind) h =
+      due-either (ltb 0 n) (Waits (EnterLong (n - 1) kind)) _ (omega arith) (reached-delayed Long kind (EnterLong n kind) (levelFill Long kind k) h)
+  waits-delayed (EnterShort n kind) h =
+      due-either (ltb 0 n) (Waits (EnterShort (n - 1) kind)) _ (omega arith) (reached-delayed Short kind (EnterShort n kind) (levelFill Short kind k) h)
+  waits-delayed (ExitOrder n) h = due-either (ltb 0 n) (Waits (ExitOrder (n - 1))) Leaves (omega arith) (omega arith)
+
+ordered-delayed : (delay : ℕ) (kind : OrderKind) (p : Portfolio) (a : Answers) → Word64 delay → Delayed (ordered delay kind p a)
+unfolding ordered openingOrder closingOrder orderDelay
+ordered-delayed delay kind p a h = go (inPosition p) (isLong p) (a .«exit») (a .«short_exit») (a .entry) (a .«short_entry»)
+  where
+    go : (b c d e f g : Bool) → Delayed (cond b (cond c (closingOrder delay d) (closingOrder delay e)) (openingOrder delay kind f g))
+    go true true true e f g = h
+    go true true false e f g = omega arith
+    go true false d true f g = h
+    go true false d false f g = omega arith
+    go false c d e true g = h
+    go false c d e false true = h
+    go false c d e false false = omega arith
+
+order-either : (b : Bool) (x y : Order) → Delayed x → Delayed y → Delayed (cond b x y)
+order-either true x y h i = h
+order-either false x y h i = i
+
+decided-delayed : (s : Settings) (o : Order) (p : Position) (number : ℕ) (close : Float) (a : Answers) → Word64 (s .delay) → Delayed o
+    → Delayed (orderAfter s o p number close a)
+unfolding orderAfter
+decided-delayed s (EnterLong n kind) p number close a d h = h
+decided-delayed s (EnterShort n kind) p number close a d h = h
+decided-delayed s (ExitOrder n) p number close a d h = h
+decided-delayed s Idle p number close a d h =
+    order-either (ltb number (s .warmup)) Idle _ h (ordered-delayed (s .delay) _ (p .portfolio) a d)
+
+-- ---- a bar
+
+module _ (s : Settings) (t : State) (bar : List ℕ) (m : Rooms) (ls : Lists) where
+  pub step-timed : Word64 (candleOf bar .time) → Timed (t .position .portfolio) → Timed (stepped s t bar m ls .result .position .portfolio)
+  unfolding stepped filled
+  step-timed b h =
+      charged-timed s _ bar (intrabar-timed s _ _ (filled-timed (dueOf (t .order) _) s (t .position) (candleOf bar) _ (t .counts .«bars_seen») b h))
+
+  pub step-delayed : Word64 (s .delay) → Delayed (t .order) → Delayed (stepped s t bar m ls .result .order)
+  unfolding stepped decided
+  step-delayed d h =
+      decided-delayed s _ _ (t .counts .«bars_seen») _ _ d (waits-delayed s (t .position) (candleOf bar) _ (t .counts .«bars_seen») (t .order) h)
