@@ -1,6 +1,8 @@
 // A built-in example, from a rule table to its trades: the table is checked, the depth of its window is worked out, its
-// rules become steps, a day of minute bars goes through the engine, and the run is finished.
+// rules become steps, a day of minute bars goes through the engine, and the run is finished. Then the same day on a box that loses its
+// supply in the middle of it.
 mod bars;
+mod loss;
 mod report;
 
 use bars::Market;
@@ -158,10 +160,10 @@ const SLOTS: usize = 2;
 const DEPTH: usize = 3;
 
 // A day of minutes.
-const MINUTES: u64 = 1440;
+pub(crate) const MINUTES: u64 = 1440;
 
 // 10,000 to begin with, nine tenths of it a trade, a taker fee of 0.2 basis points, a stop loss of 1 percent.
-fn settings() -> Settings {
+pub(crate) fn settings() -> Settings {
     Settings {
         slots: SLOTS,
         depth: DEPTH,
@@ -211,9 +213,9 @@ fn bytes_written(answer: Translated) -> usize {
 }
 
 // The engine's state and the market between two minutes.
-struct Day {
-    state: State,
-    market: Market,
+pub(crate) struct Day {
+    pub state: State,
+    pub market: Market,
 }
 
 // One minute: its bar goes through the engine. There are no short rules, so their list, `none`, is empty.
@@ -250,25 +252,33 @@ fn one_minute<'a>(
     }
 }
 
-// The day, minute by minute.
-fn run_day<'a>(
+// Before the first minute.
+pub(crate) fn morning() -> Day {
+    Day {
+        state: records::state::fresh(settings()),
+        market: bars::opening(),
+    }
+}
+
+// The day from one minute to another.
+pub(crate) fn run_minutes<'a>(
+    start: Day,
+    from: u64,
+    upto: u64,
     entry: &[u8],
     exit: &'a [u8],
     none: &'a [u8],
     rows: &mut [u64],
     equity: &mut [u64],
     trades: &mut [u64],
-) -> State {
-    let mut day = Day {
-        state: records::state::fresh(settings()),
-        market: bars::opening(),
-    };
-    let mut minute: u64 = 0;
-    while minute < MINUTES {
+) -> Day {
+    let mut day = start;
+    let mut minute: u64 = from;
+    while minute < upto {
         day = one_minute(day, minute, entry, exit, none, rows, equity, trades);
         minute += 1;
     }
-    day.state
+    day
 }
 
 // What the depth of the table's window is, and what it costs.
@@ -290,7 +300,7 @@ fn say_depth() {
     }
 }
 
-fn say_refusal(number: u64, place: u64) {
+pub(crate) fn say_refusal(number: u64, place: u64) {
     report::say_count(b"refused         ", number, b" at ");
     report::say_count(b"", place, b"\n");
 }
@@ -346,16 +356,20 @@ fn say_metrics(m: Metrics) {
     report::say_float(b"profit factor   ", m.profit_factor, b"\n");
 }
 
-// The end of the run.
-fn say_end(state: State, rows: &[u64], equity: &mut [u64], trades: &mut [u64]) {
+// The end of the run; how many trades it made.
+fn say_end(state: State, rows: &[u64], equity: &mut [u64], trades: &mut [u64]) -> usize {
     let seen = state.counts;
     report::say_count(b"bars            ", seen.bars_seen, b" minutes\n");
     match engine::finish(settings(), state, rows, equity, trades) {
-        Finished::Refused(refusal, _) => say_refusal(refusal.number, refusal.place),
+        Finished::Refused(refusal, _) => {
+            say_refusal(refusal.number, refusal.place);
+            0
+        }
         Finished::Done(last, figures) => {
             let counts = last.counts;
             say_trades(trades, counts.trades);
             say_metrics(figures);
+            counts.trades
         }
     }
 }
@@ -398,8 +412,20 @@ fn run_and_say<'a>(
     equity: &mut [u64],
     trades: &mut [u64],
 ) {
-    let state = run_day(entry, exit, none, rows, equity, trades);
-    say_end(state, rows, equity, trades);
+    let day = run_minutes(
+        morning(),
+        0,
+        MINUTES,
+        entry,
+        exit,
+        none,
+        rows,
+        equity,
+        trades,
+    );
+    let state = day.state;
+    let count = say_end(state, rows, equity, trades);
+    loss::broken_day(entry, exit, none, trades, count);
 }
 
 fn main() {
