@@ -5,6 +5,7 @@ mod bars;
 mod loss;
 mod report;
 
+ghost use Prim.Native.Nat.{_≤_};
 use bars::Market;
 use engine::Answer;
 use engine::Finished;
@@ -271,7 +272,9 @@ pub(crate) fn run_minutes<'a>(
     rows: &mut [u64],
     equity: &mut [u64],
     trades: &mut [u64],
-) -> Day {
+) -> Day
+    requires { ⌜ upto ≤ 1440 ⌝ }
+{
     let mut day = start;
     let mut minute: u64 = from;
     while minute < upto {

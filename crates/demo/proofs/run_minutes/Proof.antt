@@ -7,11 +7,11 @@ use Rattle.demo.proofs.run_minutes.Statement.{statement}
 use Rattle.demo.proofs.run_minutes.Tie as tie
 
 abbrev Inv-loop : tie.InvT-loop
-Inv-loop start from upto entry exit none rows₀ equity₀ trades₀ day₀ minute₀ rows equity trades day minute =
+Inv-loop from upto entry exit none rows₀ equity₀ trades₀ day₀ minute₀ rows equity trades day minute =
     (length rows ≡ length rows₀) × (length equity ≡ length equity₀) × (length trades ≡ length trades₀)
 
 abbrev μ-loop : tie.MeasureT-loop
-μ-loop start from upto entry exit none rows₀ equity₀ trades₀ day₀ minute₀ rows equity trades day minute = upto - minute
+μ-loop from upto entry exit none rows₀ equity₀ trades₀ day₀ minute₀ rows equity trades day minute = upto - minute
 
 pub run-minutes-spec : {M : Type 1} → statement M
 run-minutes-spec =
@@ -19,7 +19,6 @@ run-minutes-spec =
     (tie.spec
     Inv-loop
     μ-loop
-    (λ c κs. search needs)
     (λ c. search needs)
     (λ c κs. search needs)
     (λ c. search needs)
