@@ -3,13 +3,14 @@
  * Words in, words out. All words are 64 bits: a float's word is its IEEE 754 binary64 bit pattern, a time's its two's
  * complement. A float that a call works out and that is a NaN is written as 0x7ff8000000000000. Link libcapi.a.
  *
- * Every call but ysh_root answers one word: 0 where it did its work, else a refusal: the refusal's number times 2^32 plus
- * its place (YSH_NUMBER, YSH_PLACE; what each number means stands below). A refused call changes nothing that was lent to it.
+ * Every call but ysh_root and ysh_dump_bytes answers one word: 0 where it did its work, else a refusal: the refusal's number times
+ * 2^32 plus its place (YSH_NUMBER, YSH_PLACE; what each number means stands below). A refused call changes nothing that was lent to it;
+ * ysh_steps alone, which takes many bars, leaves those done that came before the refused one.
  *
  * What a caller has to see to is what the types say and no more: each pointer points at as many elements as the length
  * behind it says, words lie on 8-byte boundaries, and what is lent for writing overlaps nothing else. A list or room of length 0 is
  * empty and its pointer is not looked at: it may be null. A pointer with no length behind it (nodes, rows, bytes, count,
- * used, answer, visits) points at one word and is never null. Any content of any room gets an answer.
+ * used, answer, visits, done) points at one word and is never null. Any content of any room gets an answer.
  *
  * docs/INTERFACE.md has the records, rooms and calls in full, docs/RULES.md what a rule, a fill and each figure mean.
  */
