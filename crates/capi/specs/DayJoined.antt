@@ -22,7 +22,7 @@ use Rattle.refusals.specs.Lines.{judged}
 use Rattle.refusals.specs.Rooms.{roomLines}
 use Rattle.engine.specs.Day.{cut, barsIn, barsFor, noBars, dayOf}
 use Rattle.engine.specs.Laws.Days.{cut-next, bars-none, whole-one, some-bars}
-use Rattle.engine.specs.Laws.Floats.{step-floats}
+use Rattle.runs.specs.Laws.Floats.{step-floats}
 use Rattle.engine.specs.Laws.Runs.{run-none, run-stops, run-takes}
 use Rattle.engine.specs.Run.{Run, runOver}
 use Rattle.engine.specs.Step.{answered, stepped, stepVerdict, stepAnswer}

@@ -27,11 +27,11 @@ use Rattle.refusals.specs.Settings.{settingLines}
 use Rattle.refusals.specs.Laws.Fine.{settings-fine, step-fine}
 use Rattle.refusals.specs.Laws.Lines.{first-holds, below-fine, both-fine}
 use Rattle.engine.specs.Boxes.{Sound}
-use Rattle.engine.specs.Laws.Alike.{step-sound}
+use Rattle.runs.specs.Laws.Alike.{step-sound}
 use Rattle.engine.specs.Laws.Lengths.{row-long}
 use Rattle.engine.specs.Laws.Runs.{run-keeps}
-use Rattle.engine.specs.Laws.TwoRuns.{fresh-sound}
-use Rattle.engine.specs.Laws.Window.{last-added, window-added}
+use Rattle.runs.specs.Laws.TwoRuns.{fresh-sound}
+use Rattle.runs.specs.Laws.Window.{last-added, window-added}
 use Rattle.engine.specs.Record.{rowOf, heldRows}
 use Rattle.engine.specs.Run.{Run, runOver}
 use Rattle.engine.specs.Step.{stepped, stepVerdict}

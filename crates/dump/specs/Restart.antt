@@ -1,6 +1,6 @@
 -- THE RESTART, over the bytes of an image. "From a whole image of a state reached from a fresh one, with the same table and settings and empty trade
 -- and equity rooms counted from 0, further bars give the trades, equity points and decisions that the unbroken run gives for them, until
--- either refuses." What engine/specs/Restart says of a box that was started again holds of the box that a restore leaves.
+-- either refuses." What runs/specs/Restart says of a box that was started again holds of the box that a restore leaves.
 use Prim.Native.Nat.{ℕ, _+_, _/_, _≤_, _<_}
 use mathlib.Core.Path.{_≡_, refl}
 use mathlib.Core.List.{List}
@@ -17,12 +17,12 @@ use Rattle.records.specs.declared.state.State.{State}
 use Rattle.records.specs.Lent.{Lists, Rooms, rooms, rowPlaces}
 use Rattle.records.specs.State.{freshState}
 use Rattle.engine.specs.Boxes.{NotFull}
-use Rattle.engine.specs.OtherBooks.{Emptied}
+use Rattle.runs.specs.OtherBooks.{Emptied}
 use Rattle.engine.specs.Record.{heldRows}
-use Rattle.engine.specs.Restart.{Restarted, restart}
+use Rattle.runs.specs.Restart.{Restarted, restart}
 use Rattle.engine.specs.Run.{Run, runOver}
 use Rattle.engine.specs.Laws.Lengths.{overwrite-length}
-use Rattle.engine.specs.Laws.TwoRuns.{fresh-sound, run-sound}
+use Rattle.runs.specs.Laws.TwoRuns.{fresh-sound, run-sound}
 use Rattle.dump.specs.Layout.{windowOf, imageOf}
 use Rattle.dump.specs.Reading.{stateIn, windowIn}
 use Rattle.dump.specs.RoundTrip.{Small, restoredOf, state-comes-back}

@@ -29,7 +29,7 @@ use Rattle.refusals.specs.Rooms.{entryBelow}
 use Rattle.refusals.specs.Settings.{settingLines}
 use Rattle.refusals.specs.Laws.Fine.{settings-fine, step-fine}
 use Rattle.refusals.specs.Laws.Lines.{and-true, first-holds}
-use Rattle.engine.specs.Laws.Floats.{step-floats}
+use Rattle.runs.specs.Laws.Floats.{step-floats}
 use Rattle.engine.specs.Laws.Runs.{run-none, run-stops, run-takes}
 use Rattle.engine.specs.Record.{rowWord, listed, rowOf}
 use Rattle.engine.specs.Run.{Run, runOver}

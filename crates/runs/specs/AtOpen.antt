@@ -1,0 +1,132 @@
+-- MARKET ORDERS BEHAVE AS BEFORE: a run whose order kind is market is the run of the engine that knew no other orders.
+use Prim.Native.Nat.{ℕ, _-_}
+use mathlib.Core.Path.{_≡_, refl}
+use mathlib.Core.Bool.{Bool, true, false, cond}
+use mathlib.Core.List.{List, [], _∷_, _++_}
+use lib.Dec.{ltb}
+use lib.Ieee.{Float}
+use Rattle.rows.specs.History.{History, historyOf}
+use Rattle.portfolio.specs.declared.Candle.{Candle}
+use Rattle.portfolio.specs.declared.Portfolio.{Portfolio}
+use Rattle.portfolio.specs.Portfolio.{inPosition, isLong}
+use Rattle.execution.specs.declared.Exit.the-variants.{NoExit}
+use Rattle.execution.specs.declared.Side.{Side}
+use Rattle.execution.specs.declared.Side.the-variants.{Long, Short}
+use Rattle.execution.specs.declared.level.OrderKind.the-variants.{Market}
+use Rattle.execution.specs.declared.level.OrderType.the-variants.{Market as MarketType}
+use Rattle.execution.specs.Fills.{executeEntry, isTurnedAway}
+use Rattle.execution.specs.Level.{entryTrigger, feeBps, longFill, shortFill, levelFill}
+use Rattle.records.specs.declared.state.Order.{Order}
+use Rattle.records.specs.declared.state.Order.the-variants.{Idle, EnterLong, EnterShort, Exit as ExitOrder}
+use Rattle.records.specs.declared.state.Position.{Position}
+use Rattle.records.specs.declared.settings.Settings.{Settings}
+use Rattle.records.specs.Bar.{candleOf}
+use Rattle.records.specs.State.{freshState}
+use Rattle.records.specs.StateWords.{waitsFor}
+use Rattle.engine.specs.declared.account.Due.{Due}
+use Rattle.engine.specs.declared.account.Filled.{Filled}
+use Rattle.engine.specs.Account.{entering, waiting, entered, exited, reached, dueOf, doneOf, filled}
+use Rattle.engine.specs.Decide.{Answers, openingOrder, closingOrder, ordered, orderAfter}
+use Rattle.engine.specs.Record.{rowOf}
+use Rattle.engine.specs.Whole.{Account, Asked, accountOf, takenBy, taken, wholeRunBy, wholeRun}
+
+-- ---- document 01's fill
+
+-- "at the open, with the rate of `slippage_rate`", and the taker fee
+unfoldable pub enteredAtOpen : Side → Settings → Position → Candle → History → ℕ → Filled
+enteredAtOpen side s p k before number =
+    let e = executeEntry side (k .«open») (s .terms .«taker_bps») (s .terms) k (p .portfolio) before in
+    record { order = Idle; position = entering p e number; «exit» = NoExit; «turned_away» = isTurnedAway e }
+
+-- "Fill: a delay above 0 counts down by 1; otherwise at the open"
+unfoldable pub filledAtOpen : Settings → Order → Position → Candle → History → ℕ → Filled
+filledAtOpen s Idle p k before number = waiting Idle p
+filledAtOpen s (EnterLong n kind) p k before number = cond (ltb 0 n) (waiting (EnterLong (n - 1) kind) p) (enteredAtOpen Long s p k before number)
+filledAtOpen s (EnterShort n kind) p k before number = cond (ltb 0 n) (waiting (EnterShort (n - 1) kind) p) (enteredAtOpen Short s p k before number)
+filledAtOpen s (ExitOrder n) p k before number = cond (ltb 0 n) (waiting (ExitOrder (n - 1)) p) (exited s p k)
+
+-- ---- a market order's fill is that one
+
+module _ (s : Settings) (p : Position) (k : Candle) (before : History) (number : ℕ) where
+  done-either : (b : Bool) (x y : Due) → doneOf (cond b x y) s p k before number ≡ cond b (doneOf x s p k before number) (doneOf y s p k before number)
+  done-either true x y = refl
+  done-either false x y = refl
+
+  pub market-fills : (o : Order) → waitsFor o ≡ Market → filled s o p k before number ≡ filledAtOpen s o p k before number
+  unfolding waitsFor filled filledAtOpen enteredAtOpen entered dueOf doneOf reached levelFill longFill shortFill feeBps
+  market-fills Idle h = refl
+  market-fills (EnterLong n kind) h = rw h (done-either (ltb 0 n) _ _)
+  market-fills (EnterShort n kind) h = rw h (done-either (ltb 0 n) _ _)
+  market-fills (ExitOrder n) h = done-either (ltb 0 n) _ _
+
+-- ---- and it stays a market order
+
+either : (b : Bool) (x y : Order) → waitsFor x ≡ Market → waitsFor y ≡ Market → waitsFor (cond b x y) ≡ Market
+either true x y h k = h
+either false x y h k = k
+
+either-filled : (b : Bool) (x y : Filled) → waitsFor (x .order) ≡ Market → waitsFor (y .order) ≡ Market → waitsFor (cond b x y .order) ≡ Market
+either-filled true x y h k = h
+either-filled false x y h k = k
+
+fill-stays : (s : Settings) (o : Order) (p : Position) (k : Candle) (before : History) (number : ℕ) → waitsFor o ≡ Market
+    → waitsFor (filledAtOpen s o p k before number .order) ≡ Market
+unfolding waitsFor filledAtOpen enteredAtOpen exited
+fill-stays s Idle p k before number h = refl
+fill-stays s (EnterLong n kind) p k before number h = either-filled (ltb 0 n) _ _ h refl
+fill-stays s (EnterShort n kind) p k before number h = either-filled (ltb 0 n) _ _ h refl
+fill-stays s (ExitOrder n) p k before number h = either-filled (ltb 0 n) _ _ refl refl
+
+ordered-market : (delay : ℕ) (p : Portfolio) (a : Answers) → waitsFor (ordered delay Market p a) ≡ Market
+unfolding ordered openingOrder closingOrder waitsFor
+ordered-market delay p a = go (inPosition p) (isLong p) (a .«exit») (a .«short_exit») (a .entry) (a .«short_entry»)
+  where
+    go : (b c d e f g : Bool) → waitsFor (cond b (cond c (closingOrder delay d) (closingOrder delay e)) (openingOrder delay Market f g)) ≡ Market
+    go true true true e f g = refl
+    go true true false e f g = refl
+    go true false d true f g = refl
+    go true false d false f g = refl
+    go false c d e true g = refl
+    go false c d e false true = refl
+    go false c d e false false = refl
+
+module _ (s : Settings) (market : s .entries .«order_type» ≡ MarketType) where
+  trigger-market : (close : Float) → entryTrigger (s .entries) close ≡ Market
+  unfolding entryTrigger
+  trigger-market close = rw market
+
+  decides-market : (o : Order) (p : Position) (number : ℕ) (close : Float) (a : Answers) → waitsFor o ≡ Market
+      → waitsFor (orderAfter s o p number close a) ≡ Market
+  unfolding waitsFor orderAfter
+  decides-market (EnterLong n kind) p number close a h = h
+  decides-market (EnterShort n kind) p number close a h = h
+  decides-market (ExitOrder n) p number close a h = refl
+  decides-market Idle p number close a h =
+      rw (trigger-market close)
+      (either (ltb number (s .warmup)) Idle (ordered (s .delay) Market (p .portfolio) a) refl (ordered-market (s .delay) (p .portfolio) a))
+
+  module _ (asked : Asked) (a : Account) (h : waitsFor (a .order) ≡ Market) (rows bar : List ℕ) where
+    bar-at-open : taken s asked a rows bar ≡ takenBy filledAtOpen s asked a rows bar
+    unfolding takenBy
+    bar-at-open = rw (market-fills s (a .position) (candleOf bar) (historyOf (s .slots) rows) (a .seen) (a .order) h)
+
+    bar-stays : waitsFor (takenBy filledAtOpen s asked a rows bar .account .order) ≡ Market
+    unfolding takenBy
+    bar-stays = decides-market _ _ _ _ _ (fill-stays s (a .order) (a .position) (candleOf bar) (historyOf (s .slots) rows) (a .seen) h)
+
+  -- THE RUN AS BEFORE: over any bars, however its rules are asked, from an account whose order is a market order
+  pub market-run : (asked : Asked) (a : Account) (rows : List ℕ) (bars : List (List ℕ)) → waitsFor (a .order) ≡ Market
+      → wholeRun s asked a rows bars ≡ wholeRunBy filledAtOpen s asked a rows bars
+  unfolding wholeRunBy
+  market-run asked a rows [] h = refl
+  market-run asked a rows (bar ∷ bars) h =
+      rw (
+        bar-at-open asked a h rows bar,
+        market-run asked (takenBy filledAtOpen s asked a rows bar .account) (rows ++ rowOf (s .slots) bar) bars (bar-stays asked a h rows bar),
+      )
+
+  -- as every run does that starts from a fresh state
+  pub market-from-fresh : (asked : Asked) (bars : List (List ℕ))
+      → wholeRun s asked (accountOf (freshState s)) [] bars ≡ wholeRunBy filledAtOpen s asked (accountOf (freshState s)) [] bars
+  unfolding freshState waitsFor
+  market-from-fresh asked bars = market-run asked (accountOf (freshState s)) [] bars refl

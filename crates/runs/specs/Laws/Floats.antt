@@ -1,0 +1,414 @@
+-- Every float of a state is an f64: it was one in the state before, it is a word of the bar, or an operation of IEEE 754 gave it. So what the
+-- round trip of a state's words asks (records, Laws/RoundTrip) holds after every bar and after a finish.
+use Prim.Native.Nat.{ℕ, _-_}
+use mathlib.Core.Path.{_≡_, refl}
+use mathlib.Core.Bool.{Bool, true, false, cond}
+use mathlib.Core.List.{List}
+use lib.Dec.{T, ltb}
+use lib.Ieee as Ieee
+use lib.Ieee.{Float, binary64, fits}
+use lib.Ieee.Bits.{ofBits-fits}
+use lib.Ieee.Fits.{cond-fits, add-fits, sub-fits, mul-fits}
+use Rattle.floats.specs.Floats.{_⊗_, _≺_, min, max, eps}
+use Rattle.rows.specs.History.{History, historyOf}
+use Rattle.portfolio.specs.declared.Candle.{Candle}
+use Rattle.portfolio.specs.declared.Closed.{Closed}
+use Rattle.portfolio.specs.declared.Portfolio.{Portfolio}
+use Rattle.portfolio.specs.Portfolio.{inPosition, isLong, funded, worse, worsened, entered, exited}
+use Rattle.portfolio.specs.Trade.{signal, end}
+use Rattle.execution.specs.declared.Entry.{Entry}
+use Rattle.execution.specs.declared.Entry.the-variants.{NoEntry, TooLarge, Entered}
+use Rattle.execution.specs.declared.Exit.{Exit}
+use Rattle.execution.specs.declared.Exit.the-variants.{NoExit, Exited}
+use Rattle.execution.specs.declared.Funding.{Funding}
+use Rattle.execution.specs.declared.Funding.the-variants.{NotSupplied, Supplied}
+use Rattle.execution.specs.declared.Optional.{Optional}
+use Rattle.execution.specs.declared.Optional.the-variants.{Absent}
+use Rattle.execution.specs.declared.Optional.the-variants as Optional
+use Rattle.execution.specs.declared.Quantity.{Quantity}
+use Rattle.execution.specs.declared.Quantity.the-variants.{Nothing, Of}
+use Rattle.execution.specs.declared.Quantity.the-variants as Quantity
+use Rattle.execution.specs.declared.level.Entries.{Entries}
+use Rattle.execution.specs.declared.level.OrderKind.{OrderKind}
+use Rattle.execution.specs.declared.level.OrderType.{OrderType}
+use Rattle.execution.specs.declared.level.OrderType.the-variants.{Market as MarketType, Limit as LimitType, Stop as StopType}
+use Rattle.execution.specs.declared.level.OrderType.the-variants.{StopLimit as StopLimitType, Unknown as UnknownType}
+use Rattle.execution.specs.declared.Side.{Side}
+use Rattle.execution.specs.declared.Side.the-variants.{Long, Short}
+use Rattle.execution.specs.declared.Terms.{Terms}
+use Rattle.execution.specs.declared.Trigger.{Trigger}
+use Rattle.execution.specs.declared.Trigger.the-variants.{Untouched, At}
+use Rattle.execution.specs.Costs.{slippageRate, fillPrice, takerRate, closed, withFunding, chargeFunding}
+use Rattle.execution.specs.Fills.{direction, volatilityFor, quantity, probeQty, withinVolume, booked, executeEntry, exitDirection, executeExit}
+use Rattle.execution.specs.Level.{levelFrom, entryTrigger, feeBps, levelFill}
+use Rattle.execution.specs.Lots.{isTooLarge, orZero}
+use Rattle.execution.specs.Intrabar.{favourable, extremeWith, touched, closedBy, applyIntrabarExits}
+use Rattle.records.specs.declared.settings.Settings.{Settings}
+use Rattle.records.specs.declared.state.Order.{Order}
+use Rattle.records.specs.declared.state.Order.the-variants.{Idle, EnterLong, EnterShort, Exit as ExitOrder}
+use Rattle.records.specs.declared.state.Position.{Position}
+use Rattle.records.specs.declared.state.State.{State}
+use Rattle.records.specs.Bar.{candleOf, fundingOf}
+use Rattle.records.specs.Lent.{Lists, Rooms}
+use Rattle.records.specs.StateWords.{waitsFor}
+use Rattle.records.specs.Laws.RoundTrip.{KindFits, Floats64}
+use Rattle.refusals.specs.Rooms.{toClose}
+use Rattle.engine.specs.declared.account.Due.{Due}
+use Rattle.engine.specs.declared.account.Due.the-variants.{Waits, Enters, Leaves}
+use Rattle.engine.specs.declared.account.Filled.{Filled}
+use Rattle.engine.specs.Account as Account
+use Rattle.engine.specs.Account.{leaving, facing, entering, reached, dueOf, doneOf, filled, intrabar, charged}
+use Rattle.engine.specs.Decide.{Answers, ordered, openingOrder, closingOrder, orderAfter, decided}
+use Rattle.engine.specs.Finish.{lastExit, endState}
+use Rattle.engine.specs.Laws.Runs.{run-keeps}
+use Rattle.engine.specs.Record.{heldRows}
+use Rattle.engine.specs.Run.{runOver}
+use Rattle.engine.specs.Step.{stepped}
+
+abbrev Is64 : Float → Type 0
+Is64 x = T (fits binary64 x)
+
+-- the floats of a portfolio
+pub record Account64 (p : Portfolio) : Type 0 where
+  pub cash : Is64 (p .cash)
+  pub qty : Is64 (p .qty)
+  pub «entry_price» : Is64 (p .«entry_price»)
+  pub «entry_fee» : Is64 (p .«entry_fee»)
+  pub «fees_paid» : Is64 (p .«fees_paid»)
+  pub funding : Is64 (p .funding)
+  pub worst : Is64 (p .worst)
+
+-- and of a position
+pub record Position64 (p : Position) : Type 0 where
+  pub account : Account64 (p .portfolio)
+  pub extreme : Is64 (p .extreme)
+
+-- ---- a position that takes a bar
+
+max-64 : (x y : Float) → Is64 x → Is64 y → Is64 (max x y)
+unfolding max
+max-64 x y h i = cond-fits binary64 (Ieee.isNan x) y (cond (x ≺ y) y x) i (cond-fits binary64 (x ≺ y) y x i h)
+
+min-64 : (x y : Float) → Is64 x → Is64 y → Is64 (min x y)
+unfolding min
+min-64 x y h i = cond-fits binary64 (Ieee.isNan x) y (cond (y ≺ x) y x) i (cond-fits binary64 (y ≺ x) y x i h)
+
+account-either : (b : Bool) (p q : Portfolio) → Account64 p → Account64 q → Account64 (cond b p q)
+account-either true p q h i = h
+account-either false p q h i = i
+
+worsened-64 : (p : Portfolio) (k : Candle) → Is64 (k .high) → Is64 (k .low) → Account64 p → Account64 (worsened p k)
+unfolding worsened worse
+worsened-64 p k high low a = account-either (inPosition p) _ p (record {
+  cash = a .cash;
+  qty = a .qty;
+  «entry_price» = a .«entry_price»;
+  «entry_fee» = a .«entry_fee»;
+  «fees_paid» = a .«fees_paid»;
+  funding = a .funding;
+  worst =
+      cond-fits binary64 (isLong p) (min (p .worst) (k .low)) (max (p .worst) (k .high))
+      (min-64 (p .worst) (k .low) (a .worst) low) (max-64 (p .worst) (k .high) (a .worst) high);
+}) a
+
+facing-64 : (p : Position) (k : Candle) → Is64 (k .high) → Is64 (k .low) → Position64 p → Position64 (facing p k)
+unfolding facing
+facing-64 p k high low h = record { account = worsened-64 (p .portfolio) k high low (h .account); extreme = h .extreme }
+
+-- ---- a position that is left
+
+-- the portfolio after an exit, where there is one
+data Exit64 : Exit → Type 0 where
+  stayed : Exit64 NoExit
+  left : (c : Closed) → Account64 (c .portfolio) → Exit64 (Exited c)
+
+exit-if : (b : Bool) (x : Exit) → Exit64 x → Exit64 (cond b x NoExit)
+exit-if true x h = h
+exit-if false x h = stayed
+
+closed-64 : (p : Portfolio) (price : Float) (time : ℕ) (bps : Float) (reason : ℕ) → Account64 p → Exit64 (Exited (closed p price time bps reason))
+unfolding closed exited
+closed-64 p price time bps reason a = left (closed p price time bps reason) (record {
+  cash = add-fits binary64 _ _;
+  qty = ofBits-fits binary64 0;
+  «entry_price» = a .«entry_price»;
+  «entry_fee» = ofBits-fits binary64 0;
+  «fees_paid» = add-fits binary64 _ _;
+  funding = a .funding;
+  worst = a .worst;
+})
+
+leaving-64 : (p : Position) (x : Exit) → Position64 p → Exit64 x → Position64 (leaving p x)
+unfolding leaving
+leaving-64 p NoExit h e = h
+leaving-64 p (Exited c) h (left _ a) = record { account = a; extreme = h .extreme }
+
+executed-64 : (reason : ℕ) (raw : Float) (terms : Terms) (k : Candle) (p : Portfolio) → Account64 p → Exit64 (executeExit reason raw terms k p)
+unfolding executeExit
+executed-64 reason raw terms k p a =
+    let price : Float = fillPrice raw (exitDirection p) (slippageRate (terms .slippage) (p .qty) (k .volume)) in
+    exit-if (inPosition p) (Exited (closed p price (k .time) (terms .«taker_bps») reason)) (closed-64 p price (k .time) (terms .«taker_bps») reason a)
+
+-- ---- the fill
+
+data Entry64 : Entry → Type 0 where
+  none : Entry64 NoEntry
+  large : Entry64 TooLarge
+  one : (p : Portfolio) (fill : Float) → Account64 p → Is64 fill → Entry64 (Entered p fill)
+
+booked-64 : (b : Bool) (p : Portfolio) (qty fill : Float) (time : ℕ) (fee : Float) → Is64 qty → Is64 fill → Is64 fee
+    → Entry64 (cond b (Entered (entered p qty fill time fee) fill) NoEntry)
+unfolding entered
+booked-64 true p qty fill time fee q f e = one (entered p qty fill time fee) fill (record {
+  cash = sub-fits binary64 _ _;
+  qty = q;
+  «entry_price» = f;
+  «entry_fee» = e;
+  «fees_paid» = add-fits binary64 _ _;
+  funding = ofBits-fits binary64 0;
+  worst = f;
+}) f
+booked-64 false p qty fill time fee q f e = none
+
+ordered-64 : (q : Quantity) (dir fill bps : Float) (k : Candle) (p : Portfolio) → Is64 fill → Entry64 (booked dir q fill bps k p)
+unfolding booked
+ordered-64 Nothing dir fill bps k p f = none
+ordered-64 Quantity.TooLarge dir fill bps k p f = large
+ordered-64 (Of base) dir fill bps k p f =
+    booked-64 (eps ≺ base) p (dir ⊗ base) fill (k .time) (base ⊗ fill ⊗ takerRate bps) (mul-fits binary64 _ _) f (mul-fits binary64 _ _)
+
+entry-either : (b : Bool) (x : Entry) → Entry64 x → Entry64 (cond b TooLarge x)
+entry-either true x h = large
+entry-either false x h = h
+
+entry-64 : (side : Side) (raw bps : Float) (terms : Terms) (k : Candle) (p : Portfolio) (h : History) → Entry64 (executeEntry side raw bps terms k p h)
+unfolding executeEntry
+entry-64 side raw bps terms k p h =
+    let rv : Optional = volatilityFor (terms .sizing) h in
+    let probe : Quantity = probeQty (terms .slippage) terms (p .cash) raw rv in
+    let fill : Float = fillPrice raw (direction side) (slippageRate (terms .slippage) (orZero probe) (k .volume)) in
+    entry-either (isTooLarge probe) (booked (direction side) (withinVolume terms (quantity terms (p .cash) fill rv) (k .volume)) fill bps k p)
+    (ordered-64 (withinVolume terms (quantity terms (p .cash) fill rv) (k .volume)) (direction side) fill bps k p (mul-fits binary64 _ _))
+
+entering-64 : (p : Position) (x : Entry) (number : ℕ) → Position64 p → Entry64 x → Position64 (entering p x number)
+unfolding entering
+entering-64 p NoEntry number h e = h
+entering-64 p TooLarge number h e = h
+entering-64 p (Entered account fill) number h (one _ _ a f) = record { account = a; extreme = f }
+
+module _ (s : Settings) (p : Position) (k : Candle) (before : History) (number : ℕ) (high : Is64 (k .high)) (low : Is64 (k .low)) (h : Position64 p) where
+  entered-64 : (side : Side) (kind : OrderKind) (price : Float) → Position64 (Account.entered side kind price s p k before number .position)
+  unfolding Account.entered
+  entered-64 side kind price =
+      let bps : Float = feeBps kind (s .entries .«maker_bps») (s .terms .«taker_bps») in
+      entering-64 p (executeEntry side price bps (s .terms) k (p .portfolio) before) number h (entry-64 side price bps (s .terms) k (p .portfolio) before)
+
+  left-64 : Position64 (Account.exited s p k .position)
+  unfolding Account.exited
+  left-64 =
+      let q : Position = facing p k in
+      let held : Position64 q = facing-64 p k high low h in
+      leaving-64 q (executeExit signal (k .«open») (s .terms) k (q .portfolio)) held
+      (executed-64 signal (k .«open») (s .terms) k (q .portfolio) (held .account))
+
+  done-64 : (due : Due) → Position64 (doneOf due s p k before number .position)
+  unfolding doneOf
+  done-64 (Waits order) = h
+  done-64 (Enters side kind price) = entered-64 side kind price
+  done-64 Leaves = left-64
+
+  filled-64 : (o : Order) → Position64 (filled s o p k before number .position)
+  unfolding filled
+  filled-64 o = done-64 (dueOf o k)
+
+-- ---- the levels of an order
+
+abbrev Order64 : Order → Type 0
+Order64 o = KindFits (waitsFor o)
+
+module _ (s : Settings) (p : Position) (k : Candle) (before : History) (number : ℕ) where
+  abbrev Due64 : Due → Type 0
+  Due64 due = Order64 (doneOf due s p k before number .order)
+
+  due-either : (b : Bool) (x y : Due) → Due64 x → Due64 y → Due64 (cond b x y)
+  due-either true x y h i = h
+  due-either false x y h i = i
+
+  reached-64 : (side : Side) (kind : OrderKind) (o : Order) (x : Optional) → Order64 o → Due64 (reached side kind o x)
+  unfolding reached doneOf Account.entered waitsFor KindFits
+  reached-64 side kind o Absent h = h
+  reached-64 side kind o (Optional.Of price) h = tt
+
+  waits-64 : (o : Order) → Order64 o → Order64 (filled s o p k before number .order)
+  unfolding filled dueOf doneOf Account.exited waitsFor KindFits
+  waits-64 Idle h = tt
+  waits-64 (EnterLong n kind) h =
+      due-either (ltb 0 n) (Waits (EnterLong (n - 1) kind)) _ h (reached-64 Long kind (EnterLong n kind) (levelFill Long kind k) h)
+  waits-64 (EnterShort n kind) h =
+      due-either (ltb 0 n) (Waits (EnterShort (n - 1) kind)) _ h (reached-64 Short kind (EnterShort n kind) (levelFill Short kind k) h)
+  waits-64 (ExitOrder n) h = due-either (ltb 0 n) (Waits (ExitOrder (n - 1))) Leaves tt tt
+
+trigger-64 : (e : Entries) (close : Float) → KindFits (entryTrigger e close)
+unfolding entryTrigger levelFrom KindFits
+trigger-64 e close = go (e .«order_type») refl
+  where
+    go : (t : OrderType) → e .«order_type» ≡ t → KindFits (entryTrigger e close)
+    go MarketType h = rw h tt
+    go LimitType h = rw h (mul-fits binary64 _ _)
+    go StopType h = rw h (mul-fits binary64 _ _)
+    go StopLimitType h = rw h (mul-fits binary64 _ _, mul-fits binary64 _ _)
+    go UnknownType h = rw h tt
+
+ordered-kind : (delay : ℕ) (kind : OrderKind) (p : Portfolio) (a : Answers) → KindFits kind → Order64 (ordered delay kind p a)
+unfolding ordered openingOrder closingOrder waitsFor KindFits
+ordered-kind delay kind p a h = go (inPosition p) (isLong p) (a .«exit») (a .«short_exit») (a .entry) (a .«short_entry»)
+  where
+    go : (b c d e f g : Bool) → Order64 (cond b (cond c (closingOrder delay d) (closingOrder delay e)) (openingOrder delay kind f g))
+    go true true true e f g = tt
+    go true true false e f g = tt
+    go true false d true f g = tt
+    go true false d false f g = tt
+    go false c d e true g = h
+    go false c d e false true = h
+    go false c d e false false = tt
+
+order-either : (b : Bool) (x y : Order) → Order64 x → Order64 y → Order64 (cond b x y)
+order-either true x y h i = h
+order-either false x y h i = i
+
+decided-64 : (s : Settings) (o : Order) (p : Position) (number : ℕ) (close : Float) (a : Answers) → Order64 o → Order64 (orderAfter s o p number close a)
+unfolding orderAfter
+decided-64 s (EnterLong n kind) p number close a h = h
+decided-64 s (EnterShort n kind) p number close a h = h
+decided-64 s (ExitOrder n) p number close a h = h
+decided-64 s Idle p number close a h =
+    order-either (ltb number (s .warmup)) Idle (ordered (s .delay) (entryTrigger (s .entries) close) (p .portfolio) a) h
+    (ordered-kind (s .delay) _ (p .portfolio) a (trigger-64 (s .entries) close))
+
+-- ---- exits inside the bar
+
+extreme-64 : (k : Candle) (p : Portfolio) (x : Float) → Is64 (k .high) → Is64 (k .low) → Is64 x → Is64 (extremeWith k p x)
+unfolding extremeWith favourable
+extreme-64 k p x high low e =
+    cond-fits binary64 (inPosition p) (cond (isLong p) (max x (k .high)) (min x (k .low))) x
+    (cond-fits binary64 (isLong p) (max x (k .high)) (min x (k .low)) (max-64 x (k .high) e high) (min-64 x (k .low) e low)) e
+
+touched-64 : (x : Trigger) (k : Candle) (terms : Terms) (p : Portfolio) → Account64 p → Exit64 (closedBy x k terms p)
+unfolding closedBy
+touched-64 Untouched k terms p a = stayed
+touched-64 (At price reason) k terms p a = closed-64 p price (k .time) (terms .«taker_bps») reason a
+
+stopped-64 : (k : Candle) (terms : Terms) (p : Portfolio) (extreme : Float) → Account64 p → Exit64 (applyIntrabarExits k terms p extreme)
+unfolding applyIntrabarExits
+stopped-64 k terms p extreme a =
+    exit-if (inPosition p) (closedBy (touched k (terms .risk) p extreme) k terms p) (touched-64 (touched k (terms .risk) p extreme) k terms p a)
+
+intrabar-64 : (s : Settings) (p : Position) (k : Candle) → Is64 (k .high) → Is64 (k .low) → Position64 p → Position64 (intrabar s p k .position)
+unfolding intrabar
+intrabar-64 s p k high low h =
+    let q : Position = facing p k in
+    let held : Position64 q = facing-64 p k high low h in
+    let extreme : Float = extremeWith k (q .portfolio) (q .extreme) in
+    leaving-64 (record { portfolio = q .portfolio; entered = q .entered; extreme = extreme }) (applyIntrabarExits k (s .terms) (q .portfolio) extreme)
+    (record { account = held .account; extreme = extreme-64 k (q .portfolio) (q .extreme) high low (held .extreme) })
+    (stopped-64 k (s .terms) (q .portfolio) extreme (held .account))
+
+-- ---- funding
+
+funding-64 : (f : Funding) (p : Portfolio) → Account64 p → Account64 (withFunding f p)
+unfolding withFunding funded
+funding-64 NotSupplied p a = a
+funding-64 (Supplied mark rate) p a = record {
+  cash = sub-fits binary64 _ _;
+  qty = a .qty;
+  «entry_price» = a .«entry_price»;
+  «entry_fee» = a .«entry_fee»;
+  «fees_paid» = add-fits binary64 _ _;
+  funding = add-fits binary64 _ _;
+  worst = a .worst;
+}
+
+charged-64 : (s : Settings) (p : Position) (bar : List ℕ) → Position64 p → Position64 (charged s p bar)
+unfolding charged chargeFunding
+charged-64 s p bar h =
+    let a : Portfolio = p .portfolio in
+    let f : Funding = fundingOf (s .slots) bar in
+    record {
+      account =
+          account-either (s .funding) (cond (inPosition a) (withFunding f a) a) a
+          (account-either (inPosition a) (withFunding f a) a (funding-64 f a (h .account)) (h .account)) (h .account);
+      extreme = h .extreme;
+    }
+
+-- ---- a state
+
+position-of : {t : State} → Floats64 t → Position64 (t .position)
+position-of h = record {
+  account = record {
+    cash = h .cash;
+    qty = h .qty;
+    «entry_price» = h .«entry_price»;
+    «entry_fee» = h .«entry_fee»;
+    «fees_paid» = h .«fees_paid»;
+    funding = h .funding;
+    worst = h .worst;
+  };
+  extreme = h .extreme;
+}
+
+with-last : (t : State) → Position64 (t .position) → Order64 (t .order) → Is64 (t .last .close) → Floats64 t
+with-last t h order close = record {
+  cash = h .account .cash;
+  qty = h .account .qty;
+  «entry_price» = h .account .«entry_price»;
+  «entry_fee» = h .account .«entry_fee»;
+  «fees_paid» = h .account .«fees_paid»;
+  funding = h .account .funding;
+  worst = h .account .worst;
+  extreme = h .extreme;
+  close = close;
+  order = order;
+}
+
+-- a bar's prices are words
+high-64 : (bar : List ℕ) → Is64 (candleOf bar .high)
+unfolding candleOf
+high-64 bar = ofBits-fits binary64 _
+
+low-64 : (bar : List ℕ) → Is64 (candleOf bar .low)
+unfolding candleOf
+low-64 bar = ofBits-fits binary64 _
+
+close-64 : (bar : List ℕ) → Is64 (candleOf bar .close)
+unfolding candleOf
+close-64 bar = ofBits-fits binary64 _
+
+last-64 : (s : Settings) (t : State) → Account64 (t .position .portfolio) → Exit64 (lastExit s t)
+unfolding lastExit
+last-64 s t a =
+    let x : Closed = closed (t .position .portfolio) (t .last .close) (t .last .time) (s .terms .«taker_bps») end in
+    exit-if (toClose t) (Exited x) (closed-64 (t .position .portfolio) (t .last .close) (t .last .time) (s .terms .«taker_bps») end a)
+
+-- AFTER A BAR
+pub step-floats : (s : Settings) (t : State) (bar : List ℕ) (m : Rooms) (ls : Lists) → Floats64 t → Floats64 (stepped s t bar m ls .result)
+unfolding stepped
+step-floats s t bar m ls h =
+    let k : Candle = candleOf bar in
+    let before : History = historyOf (s .slots) (heldRows (s .slots) (t .counts .«rows_held») (m .rows)) in
+    let f : Filled = filled s (t .order) (t .position) k before (t .counts .«bars_seen») in
+    let filled-fits : Position64 (f .position) =
+    filled-64 s (t .position) k before (t .counts .«bars_seen») (high-64 bar) (low-64 bar) (position-of h) (t .order) in
+    let left-fits : Position64 (intrabar s (f .position) k .position) = intrabar-64 s (f .position) k (high-64 bar) (low-64 bar) filled-fits in
+    with-last (stepped s t bar m ls .result) (charged-64 s (intrabar s (f .position) k .position) bar left-fits)
+    (unfold decided in decided-64 s (f .order) _ _ _ _ (waits-64 s (t .position) k before (t .counts .«bars_seen») (t .order) (h .order))) (close-64 bar)
+
+-- AFTER A FINISH, however many trades are counted then
+pub end-floats : (s : Settings) (t : State) (trades : ℕ) → Floats64 t → Floats64 (endState t (lastExit s t) trades)
+unfolding endState
+end-floats s t trades h =
+    with-last (endState t (lastExit s t) trades)
+    (leaving-64 (t .position) (lastExit s t) (position-of h) (last-64 s t (position-of h .account))) (h .order) (h .close)
+
+-- AFTER ANY BARS
+pub run-floats : (s : Settings) (ls : Lists) (bars : List (List ℕ)) (t : State) (m : Rooms) → Floats64 t → Floats64 (runOver s ls t m bars .state)
+run-floats s ls = run-keeps s ls (λ t m. Floats64 t) (λ t m bar fine h. step-floats s t bar m ls h)

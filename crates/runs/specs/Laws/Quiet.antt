@@ -1,0 +1,45 @@
+-- A flat account with no order: a bar adds a row, an equity point and its counts, and nothing else unless a rule says yes.
+use Prim.Native.Nat.{ℕ}
+use mathlib.Core.Path.{_≡_, refl}
+use mathlib.Core.Bool.{Bool, true, false, cond}
+use mathlib.Core.List.{List}
+use lib.Ieee.{Float}
+use Rattle.rows.specs.History.{historyOf, lastRows}
+use Rattle.portfolio.specs.Portfolio.{inPosition}
+use Rattle.execution.specs.Costs.{chargeFunding}
+use Rattle.execution.specs.Intrabar.{extremeWith, applyIntrabarExits}
+use Rattle.records.specs.declared.state.Order.the-variants.{Idle}
+use Rattle.records.specs.declared.state.Position.{Position}
+use Rattle.records.specs.declared.settings.Settings.{Settings}
+use Rattle.records.specs.declared.state.State.{State}
+use Rattle.records.specs.Bar.{candleOf}
+use Rattle.records.specs.Lent.{Lists, Rooms}
+use Rattle.engine.specs.Account.{leaving, dueOf, doneOf, filled, intrabar, charged}
+use Rattle.engine.specs.Books.{booked}
+use Rattle.engine.specs.Decide.{listSays, stateAt, answersOf, ordered, openingOrder, orderAfter, decided}
+use Rattle.runs.specs.Laws.OneTrade.{flat-faces}
+use Rattle.engine.specs.Step.{stepped}
+
+same : {A : Type 0} (b : Bool) (x : A) → cond b x x ≡ x
+same true x = refl
+same false x = refl
+
+pub record Quiet (s : Settings) (t : State) (bar : List ℕ) (m : Rooms) (ls : Lists) : Type 0 where
+  pub position : stepped s t bar m ls .result .position ≡ t .position
+  pub count : stepped s t bar m ls .result .counts .trades ≡ t .counts .trades
+  pub trades : stepped s t bar m ls .rooms .trades ≡ m .trades
+
+pub quiet : (s : Settings) (t : State) (bar : List ℕ) (m : Rooms) (ls : Lists)
+    → t .order ≡ Idle → inPosition (t .position .portfolio) ≡ false → Quiet s t bar m ls
+unfolding stepped filled dueOf doneOf intrabar charged booked leaving extremeWith applyIntrabarExits chargeFunding
+quiet s t bar m ls o f =
+    let met = flat-faces (t .position) (candleOf bar) f in
+    record { position = simp (o, met, f, same); count = simp (o, met, f); trades = simp (o, met, f) }
+
+-- no rule says yes: no order
+pub no-rule-no-order : (s : Settings) (p : Position) (number : ℕ) (close : Float) (rows : List ℕ) (ls : Lists) → inPosition (p .portfolio) ≡ false
+    → listSays (historyOf (s .slots) (lastRows (s .slots) (s .depth) rows)) (stateAt p number) (ls .entry) ≡ false
+    → listSays (historyOf (s .slots) (lastRows (s .slots) (s .depth) rows)) (stateAt p number) (ls .«short_entry») ≡ false
+    → decided s Idle p number close rows ls ≡ Idle
+unfolding decided orderAfter answersOf ordered openingOrder
+no-rule-no-order s p number close rows ls f a b = simp (f, a, b, same)

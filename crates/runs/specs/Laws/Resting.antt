@@ -1,0 +1,41 @@
+-- An entry that the bar does not reach works on unchanged, and nothing is decided while an order works.
+use Prim.Native.Nat.{ℕ}
+use mathlib.Core.Path.{_≡_}
+use mathlib.Core.List.{List}
+use Rattle.rows.specs.History.{History}
+use Rattle.portfolio.specs.declared.Candle.{Candle}
+use Rattle.execution.specs.declared.Optional.the-variants.{Absent}
+use Rattle.execution.specs.declared.Side.the-variants.{Long, Short}
+use Rattle.execution.specs.declared.level.OrderKind.{OrderKind}
+use Rattle.execution.specs.Level.{levelFill}
+use Rattle.records.specs.declared.state.Order.the-variants.{EnterLong, EnterShort}
+use Rattle.records.specs.declared.state.Position.{Position}
+use Rattle.records.specs.declared.settings.Settings.{Settings}
+use Rattle.records.specs.declared.state.State.{State}
+use Rattle.records.specs.Bar.{candleOf}
+use Rattle.records.specs.Lent.{Lists, Rooms}
+use Rattle.engine.specs.Account.{waiting, reached, dueOf, doneOf, filled}
+use Rattle.engine.specs.Decide.{orderAfter, decided}
+use Rattle.engine.specs.Step.{stepped}
+
+module _ (s : Settings) (p : Position) (k : Candle) (before : History) (number : ℕ) (kind : OrderKind) where
+  -- not reached: the fill leaves the order and the position as they were, and closes no trade
+  pub long-not-reached : levelFill Long kind k ≡ Absent → filled s (EnterLong 0 kind) p k before number ≡ waiting (EnterLong 0 kind) p
+  unfolding filled dueOf doneOf reached
+  long-not-reached h = simp (h)
+
+  pub short-not-reached : levelFill Short kind k ≡ Absent → filled s (EnterShort 0 kind) p k before number ≡ waiting (EnterShort 0 kind) p
+  unfolding filled dueOf doneOf reached
+  short-not-reached h = simp (h)
+
+module _ (s : Settings) (t : State) (bar : List ℕ) (m : Rooms) (ls : Lists) (kind : OrderKind) where
+  -- and after the bar the same order works: with its kind, level and limit, whatever the settings are by then
+  pub long-works-on : t .order ≡ EnterLong 0 kind → levelFill Long kind (candleOf bar) ≡ Absent
+      → stepped s t bar m ls .result .order ≡ EnterLong 0 kind
+  unfolding stepped decided orderAfter
+  long-works-on o h = rw (o, long-not-reached s (t .position) (candleOf bar) _ (t .counts .«bars_seen») kind h)
+
+  pub short-works-on : t .order ≡ EnterShort 0 kind → levelFill Short kind (candleOf bar) ≡ Absent
+      → stepped s t bar m ls .result .order ≡ EnterShort 0 kind
+  unfolding stepped decided orderAfter
+  short-works-on o h = rw (o, short-not-reached s (t .position) (candleOf bar) _ (t .counts .«bars_seen») kind h)

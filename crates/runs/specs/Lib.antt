@@ -1,0 +1,16 @@
+pub mod Forgotten
+pub mod During
+pub mod Laws
+pub mod Lots
+pub mod WholeHistory
+pub mod AsMeant
+pub mod SameRun
+pub mod WholeRun
+pub mod OtherBooks
+pub mod Restart
+pub mod LastFee
+pub mod AtOpen
+pub mod Before
+pub mod Worst
+pub mod Recorded
+pub mod Edges

@@ -1,0 +1,124 @@
+-- Whole lots: with a lot of 0 no bar is refused with 16 and every run is what it was, and with any other what is entered is k·lot.
+use Prim.Native.Nat.{ℕ}
+use mathlib.Core.Path.{_≡_, refl, sym, _∙_}
+use mathlib.Core.Bool.{true, false}
+use mathlib.Core.List.{List, [], _∷_, _++_}
+use mathlib.Core.Logic.{_⊎_, inl, inr}
+use lib.Ieee as Ieee
+use lib.Ieee.{Float}
+use Rattle.floats.specs.Floats.{zero}
+use Rattle.rows.specs.History.{History, historyOf}
+use Rattle.portfolio.specs.declared.Candle.{Candle}
+use Rattle.execution.specs.declared.Entry.{Entry}
+use Rattle.execution.specs.declared.Entry.the-variants.{NoEntry, TooLarge, Entered}
+use Rattle.execution.specs.declared.Side.{Side}
+use Rattle.execution.specs.declared.level.OrderKind.{OrderKind}
+use Rattle.execution.specs.Fills.{direction, executeEntry}
+use Rattle.execution.specs.Level.{feeBps}
+use Rattle.execution.specs.RustEntry.{rustEntry}
+use Rattle.execution.specs.WholeLots.{EntersLots, no-lots, none-turned-away, entered-in-lots}
+use Rattle.records.specs.declared.settings.Settings.{Settings}
+use Rattle.records.specs.declared.state.Order.{Order}
+use Rattle.records.specs.declared.state.Order.the-variants.{Idle}
+use Rattle.records.specs.declared.state.Position.{Position}
+use Rattle.records.specs.declared.state.State.{State}
+use Rattle.records.specs.Bar.{candleOf}
+use Rattle.records.specs.Lent.{Lists, Rooms}
+use Rattle.refusals.specs.declared.verdict.Verdict.{Verdict}
+use Rattle.refusals.specs.declared.verdict.Verdict.the-variants.{Fine, Bad}
+use Rattle.refusals.specs.Judgement.{stepJudged}
+use Rattle.refusals.specs.Lines.{judged}
+use Rattle.engine.specs.declared.account.Due.{Due}
+use Rattle.engine.specs.declared.account.Due.the-variants.{Waits, Enters, Leaves}
+use Rattle.engine.specs.declared.account.Filled.{Filled}
+use Rattle.engine.specs.Account.{waiting, entering, entered, exited, dueOf, doneOf, filled}
+use Rattle.engine.specs.Laws.Verdict.{handed-bad, handed-fine}
+use Rattle.engine.specs.Record.{rowOf}
+use Rattle.engine.specs.Step.{sizeLines, stepVerdict}
+use Rattle.engine.specs.Whole.{Account, Asked, takenBy, taken, wholeRunBy, wholeRun}
+
+-- ---- the engine before: entries as the Rust has them, with no lots
+
+unfoldable pub doneWithoutLots : Due → Settings → Position → Candle → History → ℕ → Filled
+doneWithoutLots (Waits order) s p k before number = waiting order p
+doneWithoutLots (Enters side kind price) s p k before number =
+    let bps = feeBps kind (s .entries .«maker_bps») (s .terms .«taker_bps») in
+    waiting Idle (entering p (rustEntry side price bps (s .terms) k (p .portfolio) before) number)
+doneWithoutLots Leaves s p k before number = exited s p k
+
+unfoldable pub filledWithoutLots : Settings → Order → Position → Candle → History → ℕ → Filled
+filledWithoutLots s order p k before number = doneWithoutLots (dueOf order k) s p k before number
+
+-- ---- a lot of 0
+
+module _ (s : Settings) (none : Ieee.eq (s .terms .lot) zero ≡ true) where
+  done-taken : (due : Due) (p : Position) (k : Candle) (h : History) (number : ℕ) → doneOf due s p k h number .«turned_away» ≡ false
+  unfolding doneOf entered exited
+  done-taken (Waits o) p k h number = refl
+  done-taken (Enters side kind price) p k h number = none-turned-away (s .terms) none side price _ k (p .portfolio) h
+  done-taken Leaves p k h number = refl
+
+  fill-taken : (o : Order) (p : Position) (k : Candle) (h : History) (number : ℕ) → filled s o p k h number .«turned_away» ≡ false
+  unfolding filled
+  fill-taken o p k h number = done-taken (dueOf o k) p k h number
+
+  sizes-fine : (t : State) (bar : List ℕ) (m : Rooms) → judged (sizeLines s t bar m) ≡ Fine
+  unfolding sizeLines judged
+  sizes-fine t bar m = rw (fill-taken (t .order) (t .position) _ _ (t .counts .«bars_seen»))
+
+  -- WITH A LOT OF 0 a step is judged by what it is handed alone.
+  pub no-lot-no-sixteen : (t : State) (bar : List ℕ) (m : Rooms) (ls : Lists) → stepVerdict s t bar m ls ≡ stepJudged s t bar m ls
+  no-lot-no-sixteen t bar m ls = go (stepJudged s t bar m ls) refl
+    where
+      go : (v : Verdict) → stepJudged s t bar m ls ≡ v → stepVerdict s t bar m ls ≡ stepJudged s t bar m ls
+      go Fine e = handed-fine s t bar m ls e ∙ sizes-fine t bar m ∙ sym e
+      go (Bad why) e = handed-bad s t bar m ls why e ∙ sym e
+
+  -- WITH A LOT OF 0 what an entry that is due comes to is what it was: the Rust's entry, and nothing is turned away.
+  pub entered-as-before : (side : Side) (kind : OrderKind) (price : Float) (p : Position) (k : Candle) (h : History) (number : ℕ)
+      → let bps = feeBps kind (s .entries .«maker_bps») (s .terms .«taker_bps») in
+      entered side kind price s p k h number ≡ waiting Idle (entering p (rustEntry side price bps (s .terms) k (p .portfolio) h) number)
+  unfolding entered
+  entered-as-before side kind price p k h number =
+      rw (none-turned-away (s .terms) none side price _ k (p .portfolio) h, no-lots (s .terms) none side price _ k (p .portfolio) h)
+
+  done-as-before : (due : Due) (p : Position) (k : Candle) (h : History) (number : ℕ) → doneOf due s p k h number ≡ doneWithoutLots due s p k h number
+  unfolding doneOf doneWithoutLots
+  done-as-before (Waits o) p k h number = refl
+  done-as-before (Enters side kind price) p k h number = entered-as-before side kind price p k h number
+  done-as-before Leaves p k h number = refl
+
+  bar-as-before : (asked : Asked) (a : Account) (rows bar : List ℕ) → taken s asked a rows bar ≡ takenBy filledWithoutLots s asked a rows bar
+  unfolding takenBy filled filledWithoutLots
+  bar-as-before asked a rows bar =
+      rw (done-as-before (dueOf (a .order) (candleOf bar)) (a .position) (candleOf bar) (historyOf (s .slots) rows) (a .seen))
+
+  -- WITH A LOT OF 0 EVERY RUN IS WHAT IT WAS, however its rules are asked, from any account and over any bars.
+  pub run-without-lots : (asked : Asked) (a : Account) (rows : List ℕ) (bars : List (List ℕ))
+      → wholeRun s asked a rows bars ≡ wholeRunBy filledWithoutLots s asked a rows bars
+  unfolding wholeRunBy
+  run-without-lots asked a rows [] = refl
+  run-without-lots asked a rows (bar ∷ bars) =
+      rw (
+        bar-as-before asked a rows bar,
+        run-without-lots asked (takenBy filledWithoutLots s asked a rows bar .account) (rows ++ rowOf (s .slots) bar) bars,
+      )
+
+-- ---- any other lot
+
+-- WITH ANY OTHER LOT an entry that is due leaves the position as it was, or one of k·lot for a whole k from 1 to below 2^53.
+pub fills-in-lots : (side : Side) (kind : OrderKind) (price : Float) (s : Settings) (p : Position) (k : Candle) (h : History) (number : ℕ)
+    → Ieee.eq (s .terms .lot) zero ≡ false
+    → let f = entered side kind price s p k h number in
+    (f .position ≡ p) ⊎ EntersLots (s .terms .lot) (direction side) (f .position .portfolio .qty)
+unfolding entered entering
+fills-in-lots side kind price s p k h number some = go (executeEntry side price bps (s .terms) k (p .portfolio) h) refl
+  where
+    bps : Float
+    bps = feeBps kind (s .entries .«maker_bps») (s .terms .«taker_bps»)
+
+    go : (e : Entry) → executeEntry side price bps (s .terms) k (p .portfolio) h ≡ e
+        → (entering p e number ≡ p) ⊎ EntersLots (s .terms .lot) (direction side) (entering p e number .portfolio .qty)
+    go NoEntry e = inl refl
+    go TooLarge e = inl refl
+    go (Entered q fill) e = inr (entered-in-lots side price bps (s .terms) k (p .portfolio) q h fill some e)

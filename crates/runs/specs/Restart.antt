@@ -1,0 +1,82 @@
+-- Request 11. "From a whole image of a state reached from a fresh one, with the same table and settings and empty trade and equity rooms
+-- counted from 0, further bars give the trades, equity points and decisions that the unbroken run gives for them, until either refuses."
+-- What an image holds of a box is said here without its bytes: the account, and the last D rows.
+use Prim.Native.Nat.{ℕ, _≤_}
+use mathlib.Core.Path.{_≡_, sym, ap, _∙_}
+use mathlib.Core.List.{List, []}
+use native.Mathlib.Omega.{arith}
+use Rattle.records.specs.declared.settings.Settings.{Settings}
+use Rattle.records.specs.declared.state.State.{State}
+use Rattle.records.specs.Lent.{Lists, Rooms, rowPlaces}
+use Rattle.records.specs.State.{freshState}
+use Rattle.engine.specs.Books.{heldPoints, heldTrades}
+use Rattle.engine.specs.Boxes.{Alike, NotFull, Sound}
+use Rattle.runs.specs.Laws.TwoRuns.{fresh-sound, run-sound}
+use Rattle.runs.specs.Laws.Window.{last-of-last}
+use Rattle.runs.specs.OtherBooks.{Emptied, books-do-not-matter}
+use Rattle.engine.specs.Run.{Run, runOver}
+use Rattle.engine.specs.Whole.{Account, accountOf, rowsHeld, lastOf}
+
+-- The box (t′, m′) was started again from (t, m): it has its account and the last D of its rows, in a room with places for D, and its books
+-- count from 0, whatever equity and trade rooms it is lent.
+pub record Restarted (s : Settings) (t : State) (m : Rooms) (t′ : State) (m′ : Rooms) : Type 0 where
+  pub account : accountOf t ≡ accountOf t′
+  pub rows : rowsHeld s t′ m′ ≡ lastOf s (rowsHeld s t m)
+  pub held : t′ .counts .«rows_held» ≤ t .counts .«rows_held»
+  pub places : t′ .counts .«rows_held» ≤ rowPlaces (s .slots) (m′ .rows)
+  pub depth : s .depth ≤ rowPlaces (s .slots) (m′ .rows)
+  pub points : t′ .counts .«equity_points» ≡ 0
+  pub trades : t′ .counts .trades ≡ 0
+
+module _ (s : Settings) (t : State) (m : Rooms) (t′ : State) (m′ : Rooms) (again : Restarted s t m t′ m′) where
+  restarted-alike : Alike s t m t′ m′
+  restarted-alike = record {
+    account = again .account;
+    window = sym (last-of-last (s .slots) (s .depth) (rowsHeld s t m)) ∙ ap (lastOf s) (sym (again .rows));
+  }
+
+  restarted-sound : Sound s t m → Sound s t′ m′
+  restarted-sound r = record {
+    depth = again .depth;
+    within = record {
+      rows = again .places;
+      points = omega (arith, again .points);
+      trades = omega (arith, again .trades);
+      rowsSeen = omega (arith, again .held, r .within .rowsSeen, ap (λ (a : Account). a .seen) (again .account));
+      pointsSeen = omega (arith, again .points);
+      tradesSeen = omega (arith, again .trades);
+    };
+  }
+
+  -- nothing is held before the first bar
+  no-points : heldPoints t′ m′ ≡ []
+  unfolding heldPoints
+  no-points = rw (again .points)
+
+  no-trades : heldTrades t′ m′ ≡ []
+  unfolding heldTrades
+  no-trades = rw (again .trades)
+
+-- THE RESTART: after any bars `before` from a fresh state, over any `bars` from then on, as long as neither run is refused with 14. What the
+-- unbroken run holds is what was held at the dump, and then what the run that was started again holds.
+pub restart : (s : Settings) (ls : Lists) (m : Rooms) (before bars : List (List ℕ)) (t′ : State) (m′ : Rooms)
+    → s .depth ≤ rowPlaces (s .slots) (m .rows)
+    → let b = runOver s ls (freshState s) m before in
+    Restarted s (b .state) (b .rooms) t′ m′
+    → let u = runOver s ls (b .state) (b .rooms) bars in
+    let e = runOver s ls t′ m′ bars in
+    NotFull (u .verdict) → NotFull (e .verdict) → Emptied s (b .state) (b .rooms) u e
+restart s ls m before bars t′ m′ deep again free free′ =
+    let b : Run = runOver s ls (freshState s) m before in
+    let sound = run-sound s ls before (freshState s) m (fresh-sound s m deep) in
+    let x = books-do-not-matter s ls bars (b .state) (b .rooms) t′ m′ (restarted-alike s (b .state) (b .rooms) t′ m′ again)
+    sound (restarted-sound s (b .state) (b .rooms) t′ m′ again sound) free free′ in
+    record {
+      done = x .done;
+      verdict = x .verdict;
+      account = x .alike .account;
+      points = omega (arith, x .grown .points, x .grown′ .points, again .points);
+      trades = omega (arith, x .grown .trades, x .grown′ .trades, again .trades);
+      equity = x .grown .equity ∙ rw (x .grown′ .equity, no-points s (b .state) (b .rooms) t′ m′ again);
+      closed = x .grown .closed ∙ rw (x .grown′ .closed, no-trades s (b .state) (b .rooms) t′ m′ again);
+    }
