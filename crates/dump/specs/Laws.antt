@@ -4,10 +4,3 @@ pub mod Packed
 pub mod InOrder
 pub mod Image
 pub mod Fine
-pub mod RowsPass
-pub mod EntryBelow
-pub mod Says
-pub mod Again
-pub mod ReadBytes
-pub mod Times
-pub mod Reached64

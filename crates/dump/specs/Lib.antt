@@ -5,10 +5,3 @@ pub mod Refused
 pub mod Dumping
 pub mod Restoring
 pub mod Laws
-pub mod Cut
-pub mod Pages
-pub mod RoundTrip
-pub mod Window
-pub mod Restart
-pub mod Accepted
-pub mod Back

@@ -23,10 +23,10 @@ use Rattle.runs.specs.Restart.{Restarted, restart}
 use Rattle.engine.specs.Run.{Run, runOver}
 use Rattle.engine.specs.Laws.Lengths.{overwrite-length}
 use Rattle.runs.specs.Laws.TwoRuns.{fresh-sound, run-sound}
 use Rattle.dump.specs.Layout.{windowOf, imageOf}
 use Rattle.dump.specs.Reading.{stateIn, windowIn}
-use Rattle.dump.specs.RoundTrip.{Small, restoredOf, state-comes-back}
-use Rattle.dump.specs.Window.{Whole, window-whole, window-comes-back}
+use Rattle.restart.specs.RoundTrip.{Small, restoredOf, state-comes-back}
+use Rattle.restart.specs.Window.{Whole, window-whole, window-comes-back}
 
 -- What the image of a box needs: D and K as 12 lets them be, and numbers of its state and words of its rows such as the code's types hold.
 pub record Kept (s : Settings) (t : State) (m : Rooms) : Type 0 where

@@ -24,19 +24,19 @@ use Rattle.refusals.specs.Rooms.{roomLines, entryBelow}
 use Rattle.refusals.specs.Settings.{settingLines}
 use Rattle.refusals.specs.Laws.Lines.{and-true, first-holds, both-fine}
 use Rattle.engine.specs.Record.{listed, heldRows}
 use Rattle.dump.specs.Layout.{headBytes, dumpBytes, wordsBytes, amounts, image, windowOf, imageOf}
 use Rattle.dump.specs.Reading.{slotsIn, versionIn, depthIn, seenIn, rowsIn, orderIn, kindIn, enteredIn, entryIn, delayIn, levelIn, limitIn}
 use Rattle.dump.specs.Reading.{wordsIn, stateIn, wordsAt, rowPlace, windowIn}
 use Rattle.dump.specs.Refused.{shapeFine, numbersFine, usedOrZero, isEntry, unusedZero, zeroAt, eachFine, rowsFine}
 use Rattle.dump.specs.Refused.{imageLines, restoreLines, restoreJudged}
-use Rattle.dump.specs.Window.{listed-long, listed-at}
-use Rattle.dump.specs.Laws.Again.{Own, kind-again, order-again, entered-again}
+use Rattle.restart.specs.Window.{listed-long, listed-at}
+use Rattle.restart.specs.Laws.Again.{Own, kind-again, order-again, entered-again}
 use Rattle.dump.specs.Laws.Fine.{shape-fine, rows-few, restore-fine}
 use Rattle.dump.specs.Laws.Image.{image-long, image-head, image-body}
 use Rattle.dump.specs.Laws.Packed.{firstWord, secondWord, thirdWord, headWords}
-use Rattle.dump.specs.Laws.ReadBytes.{four-small, two-small, byte-read}
-use Rattle.dump.specs.Laws.RowsPass.{one-of}
+use Rattle.restart.specs.Laws.ReadBytes.{four-small, two-small, byte-read}
+use Rattle.restart.specs.Laws.RowsPass.{one-of}
 use Rattle.dump.specs.Laws.WordBytes.{words-long, byte-of}
 
 -- "patterns of NaN apart": each float of the header has the word that its float is written as, as every word but a NaN's is (`number-own`)
 pub record Plain (x : List ℕ) : Type 0 where

@@ -34,11 +34,11 @@ use Rattle.engine.specs.Laws.Runs.{run-none, run-stops, run-takes}
 use Rattle.engine.specs.Record.{rowWord, listed, rowOf}
 use Rattle.engine.specs.Run.{Run, runOver}
 use Rattle.engine.specs.Step.{stepped, stepVerdict}
-use Rattle.dump.specs.Accepted.{Passed, fresh-passed, step-passed, window-moved, step-judged}
+use Rattle.restart.specs.Accepted.{Passed, fresh-passed, step-passed, window-moved, step-judged}
 use Rattle.dump.specs.Layout.{windowOf}
-use Rattle.dump.specs.Restart.{Kept}
-use Rattle.dump.specs.Window.{window-whole}
-use Rattle.dump.specs.Laws.Times.{Word64, step-timed, step-delayed}
+use Rattle.restart.specs.Restart.{Kept}
+use Rattle.restart.specs.Window.{window-whole}
+use Rattle.restart.specs.Laws.Times.{Word64, step-timed, step-delayed}
 
 -- ---- words
 

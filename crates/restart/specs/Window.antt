@@ -17,11 +17,11 @@ use Rattle.records.specs.declared.state.State.{State}
 use Rattle.records.specs.Lent.{rowPlaces}
 use Rattle.records.specs.StateWords.{wordsOf}
 use Rattle.engine.specs.Record.{listed, heldRows}
 use Rattle.dump.specs.Layout.{headBytes, wordsBytes, numbers, amounts, head, body, image, windowOf, imageOf}
 use Rattle.dump.specs.Reading.{slotsIn, rowsIn, wordsAt, windowIn}
 use Rattle.dump.specs.Laws.WordBytes.{word-byte}
 use Rattle.dump.specs.Laws.Image.{image-body}
-use Rattle.dump.specs.RoundTrip.{four-back, eight-back}
+use Rattle.restart.specs.RoundTrip.{four-back, eight-back}
 
 -- ---- a word of a row
 

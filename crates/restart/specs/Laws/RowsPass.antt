@@ -20,8 +20,8 @@ use Rattle.refusals.specs.Lines.{judged}
 use Rattle.refusals.specs.Laws.Lines.{and-true, first-holds}
 use Rattle.engine.specs.Record.{rowWord, listed, rowOf}
 use Rattle.engine.specs.Laws.Lengths.{row-long}
 use Rattle.dump.specs.Refused.{usedOrZero, absentZero, rowFine}
-use Rattle.dump.specs.Window.{listed-at}
+use Rattle.restart.specs.Window.{listed-at}
 
 -- ---- each number below n
 

@@ -35,19 +35,19 @@ use Rattle.runs.specs.Laws.Window.{last-added, window-added}
 use Rattle.engine.specs.Record.{rowOf, heldRows}
 use Rattle.engine.specs.Run.{Run, runOver}
 use Rattle.engine.specs.Step.{stepped, stepVerdict}
 use Rattle.dump.specs.Layout.{wordsBytes, numbers, amounts, head, image, windowOf, imageOf}
 use Rattle.dump.specs.Reading.{slotsIn, versionIn, depthIn, wordsIn, wordsAt, rowPlace, rowIn}
 use Rattle.dump.specs.Refused.{zeroAt, eachFine, rowsFine, imageLines, sameLines, restoreLines, restoreJudged}
-use Rattle.dump.specs.RoundTrip.{restoredOf, words-back}
-use Rattle.dump.specs.Cut.{size-of-image}
-use Rattle.dump.specs.Window.{Whole, window-whole, word-at}
-use Rattle.dump.specs.Restart.{Kept}
-use Rattle.dump.specs.Laws.EntryBelow.{step-below, fresh-below}
+use Rattle.restart.specs.RoundTrip.{restoredOf, words-back}
+use Rattle.restart.specs.Cut.{size-of-image}
+use Rattle.restart.specs.Window.{Whole, window-whole, word-at}
+use Rattle.restart.specs.Restart.{Kept}
+use Rattle.restart.specs.Laws.EntryBelow.{step-below, fresh-below}
 use Rattle.dump.specs.Laws.Image.{image-head, image-body}
 use Rattle.dump.specs.Laws.Packed.{headWords}
-use Rattle.dump.specs.Laws.RowsPass.{every-of, row-passes, rowAt, RowsPass, listed-same, last-pass, added-pass}
-use Rattle.dump.specs.Laws.Says.{Says, unused-fine, numbers-fine, shape-holds}
+use Rattle.restart.specs.Laws.RowsPass.{every-of, row-passes, rowAt, RowsPass, listed-same, last-pass, added-pass}
+use Rattle.restart.specs.Laws.Says.{Says, unused-fine, numbers-fine, shape-holds}
 use Rattle.dump.specs.Laws.WordBytes.{words-long}
 
 -- A box whose image is accepted: numbers and words such as the code's types hold, what 13 asks of rows and of the entry bar, no more rows than bars
 -- seen, and rows that 11 would let pass. A box that was reached from a fresh state has the first by `reached-kept`, and the rest by `reached-dumpable`.

@@ -1,0 +1,7 @@
+pub mod RowsPass
+pub mod EntryBelow
+pub mod Says
+pub mod Again
+pub mod ReadBytes
+pub mod Times
+pub mod Reached64
