@@ -99,7 +99,7 @@ pub extern "C" fn ysh_translate(table: &[u8], tree: u64, room: &mut [u8], used: 
             }
         }
     }
-    let translated = steps::translation::translate(table, numbered_tree(tree), room);
+    let translated = translation::translate(table, numbered_tree(tree), room);
     match translated {
         Translated::Refuses(refusal) => answer_word(refusal),
         Translated::Writes(count) => {

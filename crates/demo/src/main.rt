@@ -384,8 +384,8 @@ struct Sizes {
 }
 
 fn translated(entry: &mut [u8], exit: &mut [u8]) -> Sizes {
-    let n = bytes_written(steps::translation::translate(&TABLE, Tree::Entry, entry));
-    let m = bytes_written(steps::translation::translate(&TABLE, Tree::Exit, exit));
+    let n = bytes_written(translation::translate(&TABLE, Tree::Entry, entry));
+    let m = bytes_written(translation::translate(&TABLE, Tree::Exit, exit));
     Sizes { entry: n, exit: m }
 }
 

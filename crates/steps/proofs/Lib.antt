@@ -2,8 +2,3 @@ pub mod Heads
 pub mod Rows
 pub mod Said
 pub mod Going
-pub mod Writes
-pub mod Operands
-pub mod Conditions
-pub mod Falls
-pub mod Fitting

@@ -71,7 +71,7 @@ pub(crate) fn step_at(list: &[u8], p: usize) -> Step
 }
 
 // One less than n; 0 where n is 0.
-pub(crate) fn before(n: u64) -> u64
+pub fn before(n: u64) -> u64
     ensures { λ r. ⌜ r ≡ n - 1 ⌝ }
 {
     if n == 0 {

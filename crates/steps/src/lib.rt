@@ -1,12 +1,10 @@
 // The list of steps: a rule's tree as a flat list of 16-byte steps, how such a list is run over rows, and which lists are well formed.
 pub mod choice;
 pub mod decode;
-mod emit;
 mod looking;
 pub mod machine;
 pub mod running;
 mod stack;
-pub mod translation;
 pub mod wellformed;
 
 use table::series::Series;

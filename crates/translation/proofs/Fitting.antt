@@ -1,0 +1,109 @@
+-- A tree of an accepted table has room for its steps, and its look-backs are small.
+use Prim.Native.Nat.{ℕ, suc, _+_, _*_, _≤_, _<_}
+use mathlib.Core.Path.{_≡_, refl, sym, _∙_}
+use mathlib.Core.List.{List, [], _∷_, _++_, append-assoc}
+use native.Mathlib.Omega.{arith}
+use mathlib.Core.Bool.{true, false}
+use lib.ListN.{length, set, drop, length-append}
+use lib.Seq.{set-append-seam}
+use lib.Dec.{ltb}
+use borrow.Author.Tests.{eq-eqb, ne-eqb, lt-ltb, le-ltb}
+use Rattle.words.specs.declared.refusal.Refusal.{Refusal}
+use Rattle.words.specs.Outcome.{refusal}
+use Rattle.table.specs.declared.answer.Answer.the-variants.{Accepted, Refused}
+use Rattle.table.specs.Trees.{reachOf}
+use Rattle.table.specs.Header.{count, root}
+use Rattle.table.specs.Checked.{checked}
+use Rattle.table.specs.Ends.{endsBeside}
+use Rattle.table.specs.Reading.{treeOf, present}
+use Rattle.table.specs.Laws.Accepted.{tree-reach}
+use Rattle.table.specs.Laws.Reach.{tree-reach-is}
+use Rattle.table.specs.Laws.AcceptedWritten.{tree-nodes}
+use Rattle.rules.specs.Flat.{conditionAt}
+use Rattle.rules.specs.Laws.FlatReading.{tree-joined}
+use Rattle.table.specs.declared.trees.Tree.{Tree}
+use Rattle.table.specs.Header.{treeNumber}
+use Rattle.rules.specs.Laws.Answers.{tree-of-four}
+use Rattle.steps.specs.declared.Translated.the-variants.{Writes, Refuses}
+use Rattle.steps.specs.declared.Op.{Op}
+use Rattle.steps.specs.Bytes.{writeFrom, write, written, bytesOf, Fits, Wrote}
+use Rattle.steps.specs.Translation.{codeOf}
+use Rattle.steps.specs.Translating.{stepsOf, roomFor, writesOr, afterTable, translates, roomAfter, roomLeft}
+use Rattle.steps.specs.Room.{two-a-node}
+use Rattle.translation.proofs.Writes.{length-bytes}
+
+-- ---- what is written at the front of a room
+
+from-front : (pre l vs : List ℕ) (j : ℕ) → j ≡ length pre → length vs ≤ length l → writeFrom (pre ++ l) 0 j vs ≡ pre ++ (vs ++ drop (length vs) l)
+from-front pre l [] j e fit = refl
+from-front pre [] (v ∷ vs) j e fit = absurd (omega arith)
+from-front pre (y ∷ ys) (v ∷ vs) j e fit =
+    let at : 0 + j ≡ length pre = omega arith in
+    let put : set (pre ++ y ∷ ys) (0 + j) v ≡ (pre ++ v ∷ []) ++ ys = rw at (set-append-seam pre y ys v ∙ sym (append-assoc pre (v ∷ []) ys)) in
+    let on : suc j ≡ length (pre ++ v ∷ []) = omega (arith, length-append pre (v ∷ [])) in
+    rw put (from-front (pre ++ v ∷ []) ys vs (suc j) on (omega arith) ∙ append-assoc pre (v ∷ []) (vs ++ drop (length vs) ys))
+
+front : (l : List ℕ) (xs : List Op) → Fits l 0 xs → written l 0 xs ≡ bytesOf xs ++ drop (length (bytesOf xs)) l
+unfolding write
+front l xs f = from-front [] l (bytesOf xs) 0 refl (omega (arith, length-bytes xs, f .bytes))
+
+-- ---- an accepted table
+
+no-steps : (t : List ℕ) (x : ℕ) → count t x ≡ 0 → stepsOf t x ≡ []
+unfolding stepsOf present
+no-steps t x e = rw (eq-eqb (count t x) 0 e)
+
+module _ (t : List ℕ) (n r x : ℕ) (ok : checked t ≡ Accepted n r) (l : x < 4) (some : count t x ≡ 0 → ⊥) where
+  its-steps : stepsOf t x ≡ codeOf (conditionAt 32 t (endsBeside t) (root t x))
+  unfolding stepsOf present
+  its-steps = rw (ne-eqb (count t x) 0 some, tree-joined t n r ok x l (omega arith))
+
+  near : reachOf (conditionAt 32 t (endsBeside t) (root t x)) ≤ 4096
+  near = rw (tree-joined t n r ok x l (omega arith)) (omega (arith, tree-reach-is t n r x ok l, tree-reach t n r ok x l))
+
+  roomy : (room : List ℕ) → roomFor t x ≤ length room → Fits room 0 (codeOf (conditionAt 32 t (endsBeside t) (root t x)))
+  roomy room enough =
+      rw (tree-joined t n r ok x l (omega arith))
+      record { bytes = omega (arith, two-a-node (treeOf t x), tree-nodes t n r ok x l (omega arith)) }
+
+-- ---- the translation's answers, and the room that each leaves
+
+module _ (t room : List ℕ) (tree : Tree) where
+  pub refuses-table : (why : Refusal) → checked t ≡ Refused why → (Refuses why ≡ translates t tree room) × (room ≡ roomLeft t tree room)
+  unfolding translates afterTable roomLeft roomAfter
+  refuses-table why bad = (rw bad, rw bad)
+
+  module _ (n r x k : ℕ) (ok : checked t ≡ Accepted n r) (of : x ≡ treeNumber tree) (is : k ≡ count t x) where
+    pub refuses-room : length room < 64 * k → (Refuses (refusal 10 (3 + x)) ≡ translates t tree room) × (room ≡ roomLeft t tree room)
+    unfolding translates afterTable writesOr roomLeft roomAfter
+    refuses-room small =
+        let short : ltb (length room) (64 * count t (treeNumber tree)) ≡ true = rw (← of, ← is) (lt-ltb (length room) (64 * k) small) in
+        (rw (ok, short, of), rw (ok, short))
+
+    module _ (enough : 64 * k ≤ length room) where
+      fits-all : ltb (length room) (64 * count t (treeNumber tree)) ≡ false
+      fits-all = rw (← of, ← is) (le-ltb (length room) (64 * k) enough)
+
+      pub writes-none : k ≡ 0 → (Writes 0 ≡ translates t tree room) × (room ≡ roomLeft t tree room)
+      unfolding translates afterTable writesOr roomLeft roomAfter bytesOf
+      writes-none e =
+          let none : stepsOf t (treeNumber tree) ≡ [] = rw (← of) (no-steps t x (sym is ∙ e)) in
+          (rw (ok, fits-all, none), rw (ok, fits-all, none))
+
+      module _ (some : k ≡ 0 → ⊥) (ends : List ℕ) (i : ℕ) (beside : ends ≡ endsBeside t) (at : i ≡ root t x) where
+        below : x < 4
+        below = rw of (tree-of-four tree)
+
+        there : count t x ≡ 0 → ⊥
+        there e = some (is ∙ e)
+
+        pub can-write : (reachOf (conditionAt 32 t ends i) ≤ 4096) × Fits room 0 (codeOf (conditionAt 32 t ends i))
+        can-write = rw (beside, at) (near t n r x ok below there, roomy t n r x ok below there room (rw is at enough))
+
+        pub writes-all : (after : List ℕ) (m : ℕ) → Wrote room 0 (codeOf (conditionAt 32 t ends i)) after m
+            → (Writes m ≡ translates t tree room) × (after ≡ roomLeft t tree room)
+        unfolding translates afterTable writesOr roomLeft roomAfter
+        writes-all after m w =
+            let all : stepsOf t (treeNumber tree) ≡ codeOf (conditionAt 32 t ends i) = rw (← of, beside, at) (its-steps t n r x ok below there) in
+            let count : m ≡ length (codeOf (conditionAt 32 t ends i)) = omega (arith, w .place) in
+            (rw (ok, fits-all, all, count), w .bytes ∙ rw (ok, fits-all, all) (front room (codeOf (conditionAt 32 t ends i)) (can-write .1)))

@@ -1,0 +1,152 @@
+-- Laws of writing bytes into a room. Assumes nothing.
+use Prim.Native.Nat.{ℕ, suc, _+_, _-_, _*_, _/_, _%_, _<_, _≤_}
+use mathlib.Core.Path.{_≡_, refl, sym, ap, _∙_}
+use mathlib.Core.List.{List, [], _∷_, _++_, append-assoc}
+use native.Mathlib.Omega.{arith}
+use lib.ListN.{length, set, length-set, length-append}
+use lib.Seq.{set-comm}
+use Rattle.steps.specs.declared.Op.{Op}
+use Rattle.steps.specs.Bytes.{write, writeFrom, bytesOf, stepBytes, stepOf, fields, four, eight, written, Fits, Wrote}
+
+length-from : (l : List ℕ) (i j : ℕ) (vs : List ℕ) → length (writeFrom l i j vs) ≡ length l
+length-from l i j [] = refl
+length-from l i j (v ∷ vs) = length-from (set l (i + j) v) i (suc j) vs ∙ length-set l (i + j) v
+
+pub length-write : (l : List ℕ) (i : ℕ) (vs : List ℕ) → length (write l i vs) ≡ length l
+unfolding write
+length-write l i vs = length-from l i 0 vs
+
+-- what is written j places on is written from i + j
+shift : (l : List ℕ) (i j k : ℕ) (vs : List ℕ) → writeFrom l i (j + k) vs ≡ writeFrom l (i + j) k vs
+shift l i j k [] = refl
+shift l i j k (v ∷ vs) =
+    let at : i + (j + k) ≡ i + j + k = omega arith in
+    let on : suc (j + k) ≡ j + suc k = omega arith in
+    rw (at, on) (shift (set l (i + j + k) v) i j (suc k) vs)
+
+append-from : (l : List ℕ) (i j : ℕ) (xs ys : List ℕ) → writeFrom l i j (xs ++ ys) ≡ writeFrom (writeFrom l i j xs) i (j + length xs) ys
+append-from l i j [] ys = ap (λ (n : ℕ). writeFrom l i n ys) (omega arith)
+append-from l i j (x ∷ xs) ys =
+    append-from (set l (i + j) x) i (suc j) xs ys ∙ ap (λ (n : ℕ). writeFrom (writeFrom (set l (i + j) x) i (suc j) xs) i n ys) (omega arith)
+
+pub write-append : (l : List ℕ) (i : ℕ) (xs ys : List ℕ) → write l i (xs ++ ys) ≡ write (write l i xs) (i + length xs) ys
+unfolding write
+write-append l i xs ys =
+    append-from l i 0 xs ys ∙ ap (λ (n : ℕ). writeFrom (writeFrom l i 0 xs) i n ys) (omega arith) ∙ shift (writeFrom l i 0 xs) i (length xs) 0 ys
+
+pub bytes-append : (xs ys : List Op) → bytesOf (xs ++ ys) ≡ bytesOf xs ++ bytesOf ys
+unfolding bytesOf
+bytes-append [] ys = refl
+bytes-append (x ∷ xs) ys = rw (bytes-append xs ys) (sym (append-assoc (stepBytes (stepOf x)) (bytesOf xs) (bytesOf ys)))
+
+pub length-bytes : (xs : List Op) → length (bytesOf xs) ≡ 16 * length xs
+unfolding bytesOf stepBytes
+length-bytes [] = refl
+length-bytes (x ∷ xs) = omega (arith, length-bytes xs)
+
+-- steps written from place `at` on, and then more
+pub then : (l : List ℕ) (at : ℕ) (xs ys : List Op) → written (written l at xs) (at + length xs) ys ≡ written l at (xs ++ ys)
+then l at xs ys =
+    let on : 16 * (at + length xs) ≡ 16 * at + length (bytesOf xs) = omega (arith, length-bytes xs) in
+    rw (bytes-append xs ys, on) (sym (write-append l (16 * at) (bytesOf xs) (bytesOf ys)))
+
+pub length-written : (l : List ℕ) (at : ℕ) (xs : List Op) → length (written l at xs) ≡ length l
+length-written l at xs = length-write l (16 * at) (bytesOf xs)
+
+-- one step
+pub one : (l : List ℕ) (i : ℕ) (x : Op) → write l i (stepBytes (stepOf x)) ≡ write l i (bytesOf (x ∷ []))
+unfolding bytesOf stepBytes
+one l i x = refl
+
+pub four-sets : (l : List ℕ) (p a b c d : ℕ) → set (set (set (set l p a) (p + 1) b) (p + 2) c) (p + 3) d ≡ write l p (a ∷ b ∷ c ∷ d ∷ [])
+unfolding write
+four-sets l p a b c d = ap (λ (q : ℕ). set (set (set (set l q a) (p + 1) b) (p + 2) c) (p + 3) d) (omega arith)
+
+-- a step's bytes, four at a time
+pub step-written : (l : List ℕ) (p k s skip n b : ℕ)
+    → write (write (write (write l p (k ∷ s % 256 ∷ skip % 256 ∷ skip / 256 % 256 ∷ [])) (p + 4) (four n)) (p + 8) (four (b % 4294967296))) (p + 12)
+    (four (b / 4294967296))
+    ≡ write l p (stepBytes (fields k s skip n b))
+unfolding stepBytes
+step-written l p k s skip n b =
+    let e8 : p + 8 ≡ p + 4 + 4 = omega arith in
+    let e12 : p + 12 ≡ p + 4 + 4 + 4 = omega arith in
+    let first : List ℕ = k ∷ s % 256 ∷ skip % 256 ∷ skip / 256 % 256 ∷ [] in
+    rw (e12, e8) (sym (
+    write-append l p first (four n ++ eight b)
+    ∙ write-append (write l p first) (p + 4) (four n) (eight b)
+    ∙ write-append (write (write l p first) (p + 4) (four n)) (p + 4 + 4) (four (b % 4294967296)) (four (b / 4294967296))))
+
+-- a byte set before what is written
+set-before : (l : List ℕ) (p v i j : ℕ) (ys : List ℕ) → p < i + j → set (writeFrom l i j ys) p v ≡ writeFrom (set l p v) i j ys
+set-before l p v i j [] lt = refl
+set-before l p v i j (y ∷ ys) lt =
+    set-before (set l (i + j) y) p v i (suc j) ys (omega arith)
+    ∙ ap (λ (m : List ℕ). writeFrom m i (suc j) ys) (set-comm l (i + j) p y v (λ e. absurd (omega arith)))
+
+-- bytes written before what is written
+from-before : (l : List ℕ) (a b i j : ℕ) (xs ys : List ℕ) → a + b + length xs ≤ i + j
+    → writeFrom (writeFrom l i j ys) a b xs ≡ writeFrom (writeFrom l a b xs) i j ys
+from-before l a b i j [] ys le = refl
+from-before l a b i j (x ∷ xs) ys le =
+    rw (set-before l (a + b) x i j ys (omega arith)) (from-before (set l (a + b) x) a (suc b) i j xs ys (omega arith))
+
+-- what stands first may be written last: a jump's step, once what it passes over is written
+pub write-before : (l : List ℕ) (i : ℕ) (xs ys : List ℕ) → write (write l (i + length xs) ys) i xs ≡ write l i (xs ++ ys)
+unfolding write
+write-before l i xs ys = from-before l i 0 (i + length xs) 0 xs ys (omega arith) ∙ sym (unfold write in write-append l i xs ys)
+
+-- ---- calls that write steps, one after the other
+
+module _ {l : List ℕ} {at : ℕ} (xs ys : List Op) where
+  pub fits-first : Fits l at (xs ++ ys) → Fits l at xs
+  fits-first f = record { bytes = omega (arith, length-append xs ys, f .bytes) }
+
+  module _ {l′ : List ℕ} {p : ℕ} (w : Wrote l at xs l′ p) where
+    pub fits-rest : Fits l at (xs ++ ys) → Fits l′ p ys
+    fits-rest f =
+        let same : length l′ ≡ length l = ap length (w .bytes) ∙ length-written l at xs in
+        record { bytes = omega (arith, length-append xs ys, f .bytes, w .place) }
+
+    pub wrote-then : {l″ : List ℕ} {q : ℕ} → Wrote l′ p ys l″ q → Wrote l at (xs ++ ys) l″ q
+    wrote-then v =
+        record {
+          place = omega (arith, length-append xs ys, w .place, v .place);
+          bytes = v .bytes ∙ rw (w .bytes, w .place) (then l at xs ys);
+        }
+
+pub fits-one : {l : List ℕ} {at : ℕ} (x : Op) → Fits l at (x ∷ []) → 16 * (at + 1) ≤ length l
+fits-one x f = f .bytes
+
+pub wrote-one : (l : List ℕ) (at : ℕ) (x : Op) (l′ : List ℕ) (p : ℕ) → p ≡ at + 1 → l′ ≡ write l (16 * at) (stepBytes (stepOf x)) → Wrote l at (x ∷ []) l′ p
+wrote-one l at x l′ p e f = record { place = e; bytes = f ∙ one l (16 * at) x }
+
+-- a jump's step is written last, once what it passes over stands after it
+module _ {l : List ℕ} {at : ℕ} (xs ys : List Op) (x : Op) {l′ : List ℕ} {p : ℕ} (w : Wrote l at xs l′ p) where
+  pub fits-after : Fits l at (xs ++ x ∷ ys) → Fits l′ (p + 1) ys
+  fits-after f = let g : Fits l′ p (x ∷ ys) = fits-rest xs (x ∷ ys) w f in record { bytes = omega (arith, g .bytes) }
+
+  module _ {l″ : List ℕ} {q : ℕ} (v : Wrote l′ (p + 1) ys l″ q) where
+    pub fits-between : Fits l at (xs ++ x ∷ ys) → 16 * (p + 1) ≤ length l″
+    fits-between f =
+        let g : Fits l′ p (x ∷ ys) = fits-rest xs (x ∷ ys) w f in
+        let same : length l″ ≡ length l′ = ap length (v .bytes) ∙ length-written l′ (p + 1) ys in
+        omega (arith, g .bytes)
+
+    pub wrote-between : (l‴ : List ℕ) → l‴ ≡ write l″ (16 * p) (stepBytes (stepOf x)) → Wrote l at (xs ++ x ∷ ys) l‴ q
+    unfolding bytesOf
+    wrote-between l‴ e =
+        let long : 16 * (p + 1) ≡ 16 * p + length (stepBytes (stepOf x)) = unfold stepBytes in omega arith in
+        wrote-then xs (x ∷ ys) w
+        record {
+          place = omega (arith, v .place);
+          bytes = e ∙ rw (v .bytes, long) (write-before l′ (16 * p) (stepBytes (stepOf x)) (bytesOf ys));
+        }
+
+-- which tells how many steps it passes over
+pub skip-is : {l l′ : List ℕ} {q : ℕ} (p : ℕ) (ys : List Op) → Wrote l (p + 1) ys l′ q → q - p - 1 ≡ length ys
+skip-is p ys v = omega (arith, v .place)
+
+pub wrote-none : (l : List ℕ) (at : ℕ) → Wrote l at [] l at
+unfolding write bytesOf
+wrote-none l at = record { place = omega arith; bytes = refl }

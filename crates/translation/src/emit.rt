@@ -1,0 +1,234 @@
+// Steps written into a lent room: a step's bytes, the steps of an operand, and those of the tests on operands.
+use rules::shapes;
+use rules::shapes::OperandShape;
+use steps::decode;
+use table::kinds;
+use table::series::Series;
+use table::series::series_in;
+ghost use mathlib.Core.Path.{_≡_};
+ghost use mathlib.Core.List.{[], _∷_};
+ghost use Prim.Native.Nat.{ℕ, _+_, _-_, _*_, _%_, _≤_};
+ghost use lib.ListN.{length};
+ghost use Rattle.table.specs.Trees.{Operand, reach, reachOf, compare, cross, between, trend};
+ghost use Rattle.rules.specs.Flat.{operandAt};
+ghost use Rattle.steps.specs.Bytes.{four, fields, slotKind, stepBytes, write, Fits, Wrote};
+ghost use Rattle.steps.specs.declared.Op.the-variants as Op;
+ghost use Rattle.steps.specs.Translation.{code, trendTest, codeOf};
+
+// Four bytes, the first at p.
+fn put_four(room: &mut [u8], p: usize, a: u8, b: u8, c: u8, d: u8)
+    requires { ⌜ p + 4 ≤ length (now room) ⌝ }
+    ensures { λ _. ⌜ now (room .exit) ≡ write (now (room .entry)) p (a ∷ b ∷ c ∷ d ∷ []) ⌝ }
+{
+    room[p] = a;
+    room[p + 1] = b;
+    room[p + 2] = c;
+    room[p + 3] = d;
+}
+
+// The lowest byte of a number.
+fn low(n: u64) -> u8
+    ensures { λ r. ⌜ r ≡ n % 256 ⌝ }
+{
+    (n % 256) as u8
+}
+
+// A number of 32 bits, the first byte at p.
+fn put_number(room: &mut [u8], p: usize, n: u64)
+    requires { ⌜ p + 4 ≤ length (now room) ⌝ }
+    ensures { λ _. ⌜ now (room .exit) ≡ write (now (room .entry)) p (four n) ⌝ }
+{
+    put_four(
+        room,
+        p,
+        low(n),
+        low(n / 256),
+        low(n / 65536),
+        low(n / 16777216),
+    );
+}
+
+// The step at place `at`, by its fields. The next place is returned.
+pub(crate) fn put_step(
+    room: &mut [u8],
+    at: usize,
+    kind: u8,
+    selector: u64,
+    skip: u64,
+    n: u64,
+    bits: u64,
+) -> usize
+    requires { ⌜ 16 * (at + 1) ≤ length (now room) ⌝ }
+    ensures { λ r. ⌜ r ≡ at + 1 ⌝ }
+    ensures { λ _. ⌜ now (room .exit) ≡ write (now (room .entry)) (16 * at) (stepBytes (fields kind selector skip n bits)) ⌝ }
+{
+    let p = 16 * at;
+    put_four(room, p, kind, low(selector), low(skip), low(skip / 256));
+    put_number(room, p + 4, n);
+    put_number(room, p + 8, bits % 4294967296);
+    put_number(room, p + 12, bits / 4294967296);
+    at + 1
+}
+
+// The kind of a step of Highest or Lowest over a slot.
+fn slot_kind(kind: u8) -> u8
+    ensures { λ r. ⌜ r ≡ slotKind kind ⌝ }
+{
+    if kind == kinds::HIGHEST {
+        return decode::HIGHEST_SLOT;
+    }
+    decode::LOWEST_SLOT
+}
+
+// The step of Highest or Lowest over n rows, the newest of them `back` rows back.
+fn put_extreme(room: &mut [u8], at: usize, kind: u8, over: Series, n: u64, back: u64) -> usize
+    requires { ⌜ (back + (n - 1) ≤ 8192) × Fits (now room) at (Op.Extreme kind over n back ∷ []) ⌝ }
+    ensures { λ r. ⌜ Wrote (now (room .entry)) at (Op.Extreme kind over n back ∷ []) (now (room .exit)) r ⌝ }
+{
+    let oldest = back + decode::before(n);
+    match over {
+        Series::Price(selector) => put_step(room, at, kind, selector as u64, n, oldest, 0),
+        Series::Slot(slot) => put_step(room, at, slot_kind(kind), slot, n, oldest, 0),
+    }
+}
+
+// The steps of the operand at node i, `back` rows back, from place `at` on. The next free place is returned. `left` levels of nesting
+// are left, the node's own counted.
+pub(crate) fn emit_operand(
+    t: &[u8],
+    ends: &[usize; 256],
+    i: usize,
+    back: u64,
+    left: usize,
+    room: &mut [u8],
+    at: usize,
+) -> usize
+    requires { ⌜ back + reach (operandAt left (now t) (now ends) i) ≤ 8192 ⌝ }
+    requires { ⌜ Fits (now room) at (code (operandAt left (now t) (now ends) i) back) ⌝ }
+    ensures { λ r. ⌜ Wrote (now (room .entry)) at (code (operandAt left (now (t .entry)) (now (ends .entry)) i) back) (now (room .exit)) r ⌝ }
+{
+    if left == 0 {
+        return put_step(room, at, kinds::CONST, 0, 0, back, 0);
+    }
+    match shapes::operand_shape(t, ends, i) {
+        OperandShape::Const(bits) => put_step(room, at, kinds::CONST, 0, 0, back, bits),
+        OperandShape::Ref(slot) => put_step(room, at, kinds::REF, slot, 0, back, 0),
+        OperandShape::Price(selector) => put_step(
+            room,
+            at,
+            kinds::PRICE,
+            selector as u64,
+            0,
+            back,
+            0,
+        ),
+        OperandShape::Prev(a, n) => emit_operand(t, ends, a, back + n, left - 1, room, at),
+        OperandShape::Arith(kind, a, b) => {
+            let p = emit_operand(t, ends, a, back, left - 1, room, at);
+            let q = emit_operand(t, ends, b, back, left - 1, room, p);
+            put_step(room, q, kind, 0, 0, 0, 0)
+        }
+        OperandShape::Extreme(kind, a, n) => {
+            let over = series_in(t, a);
+            put_extreme(room, at, kind, over, n, back)
+        }
+        OperandShape::NoOperand => put_step(room, at, kinds::CONST, 0, 0, back, 0),
+    }
+}
+
+// The steps of a comparison of the operands at nodes a and b.
+pub(crate) fn emit_compare(
+    t: &[u8],
+    ends: &[usize; 256],
+    kind: u8,
+    a: usize,
+    b: usize,
+    left: usize,
+    room: &mut [u8],
+    at: usize,
+) -> usize
+    requires { ⌜ reachOf (compare kind (operandAt left (now t) (now ends) a) (operandAt left (now t) (now ends) b)) ≤ 4096 ⌝ }
+    requires { ⌜ Fits (now room) at (codeOf (compare kind (operandAt left (now t) (now ends) a) (operandAt left (now t) (now ends) b))) ⌝ }
+    ensures { λ r. ⌜ (let o : ℕ → Operand = operandAt left (now (t .entry)) (now (ends .entry)) in
+        Wrote (now (room .entry)) at (codeOf (compare kind (o a) (o b))) (now (room .exit)) r) ⌝ }
+{
+    let p = emit_operand(t, ends, a, 0, left, room, at);
+    let q = emit_operand(t, ends, b, 0, left, room, p);
+    put_step(room, q, kind, 0, 0, 0, 0)
+}
+
+// Those of a cross: both operands now, both one row back.
+pub(crate) fn emit_cross(
+    t: &[u8],
+    ends: &[usize; 256],
+    kind: u8,
+    a: usize,
+    b: usize,
+    left: usize,
+    room: &mut [u8],
+    at: usize,
+) -> usize
+    requires { ⌜ reachOf (cross kind (operandAt left (now t) (now ends) a) (operandAt left (now t) (now ends) b)) ≤ 4096 ⌝ }
+    requires { ⌜ Fits (now room) at (codeOf (cross kind (operandAt left (now t) (now ends) a) (operandAt left (now t) (now ends) b))) ⌝ }
+    ensures { λ r. ⌜ (let o : ℕ → Operand = operandAt left (now (t .entry)) (now (ends .entry)) in
+        Wrote (now (room .entry)) at (codeOf (cross kind (o a) (o b))) (now (room .exit)) r) ⌝ }
+{
+    let p = emit_operand(t, ends, a, 0, left, room, at);
+    let q = emit_operand(t, ends, b, 0, left, room, p);
+    let p1 = emit_operand(t, ends, a, 1, left, room, q);
+    let q1 = emit_operand(t, ends, b, 1, left, room, p1);
+    put_step(room, q1, kind, 0, 0, 0, 0)
+}
+
+// Those of Between: the value, the low end, the high end.
+pub(crate) fn emit_between(
+    t: &[u8],
+    ends: &[usize; 256],
+    x: usize,
+    low: usize,
+    high: usize,
+    left: usize,
+    room: &mut [u8],
+    at: usize,
+) -> usize
+    requires { ⌜ (let o : ℕ → Operand = operandAt left (now t) (now ends) in reachOf (between (o x) (o low) (o high)) ≤ 4096) ⌝ }
+    requires { ⌜ (let o : ℕ → Operand = operandAt left (now t) (now ends) in Fits (now room) at (codeOf (between (o x) (o low) (o high)))) ⌝ }
+    ensures { λ r. ⌜ (let o : ℕ → Operand = operandAt left (now (t .entry)) (now (ends .entry)) in
+        Wrote (now (room .entry)) at (codeOf (between (o x) (o low) (o high))) (now (room .exit)) r) ⌝ }
+{
+    let p = emit_operand(t, ends, x, 0, left, room, at);
+    let q = emit_operand(t, ends, low, 0, left, room, p);
+    let r = emit_operand(t, ends, high, 0, left, room, q);
+    put_step(room, r, kinds::BETWEEN, 0, 0, 0, 0)
+}
+
+// The kind that Rising or Falling compares by.
+fn trend_test(kind: u8) -> u8
+    ensures { λ r. ⌜ r ≡ trendTest kind ⌝ }
+{
+    if kind == kinds::RISING {
+        kinds::GT
+    } else {
+        kinds::LT
+    }
+}
+
+// Those of Rising and Falling: the operand now and n rows back.
+pub(crate) fn emit_trend(
+    t: &[u8],
+    ends: &[usize; 256],
+    kind: u8,
+    a: usize,
+    n: u64,
+    left: usize,
+    room: &mut [u8],
+    at: usize,
+) -> usize
+    requires { ⌜ reachOf (trend kind (operandAt left (now t) (now ends) a) n) ≤ 4096 ⌝ }
+    requires { ⌜ Fits (now room) at (codeOf (trend kind (operandAt left (now t) (now ends) a) n)) ⌝ }
+    ensures { λ r. ⌜ Wrote (now (room .entry)) at (codeOf (trend kind (operandAt left (now (t .entry)) (now (ends .entry)) a) n)) (now (room .exit)) r ⌝ }
+{
+    let p = emit_operand(t, ends, a, 0, left, room, at);
+    let q = emit_operand(t, ends, a, n, left, room, p);
+    put_step(room, q, trend_test(kind), 0, 0, 0, 0)
+}
