@@ -18,9 +18,9 @@ use Rattle.table.specs.Reading.{treeOf}
 use Rattle.table.specs.Trees.{Operand, const, ref, price, prev, arith as sums, extreme, Condition, Conditions, compare, cross, between, trend, every, any}
 use Rattle.table.specs.Trees.{negated, inPosition, barsSince, none, more, reach, reachOf, reachOfAll}
 use Rattle.table.specs.Writing.{nodesIn, nodesOf}
-use Rattle.table.specs.Laws.Reach.{rows-are}
+use Rattle.roundtrip.specs.Laws.Reach.{rows-are}
 use Rattle.table.specs.Series.{asOperand}
-use Rattle.table.specs.Laws.Series.{leaf-reach}
+use Rattle.roundtrip.specs.Laws.Series.{leaf-reach}
 use Rattle.rules.specs.declared.PositionState.{PositionState}
 use Rattle.rules.specs.Meaning.{newest}
 use Rattle.rules.specs.Window.{Without, operand-same, condition-same, without-first}

@@ -1,7 +1,6 @@
 // The rule table: its bytes, its nodes, the table of kinds, and the checker with its refusals 1 to 9.
 pub mod answer;
 pub mod bytes;
-pub mod depth;
 pub mod header;
 pub mod kinds;
 mod nesting;

@@ -17,7 +17,7 @@ use Rattle.table.specs.Reading.{treeOf}
 use Rattle.table.specs.Trees.{Condition, Conditions, compare, cross, between, trend, every, any, negated, inPosition, barsSince, none, more}
 use Rattle.table.specs.Writing.{nodesOf}
 use Rattle.table.specs.Limits.{levelsOf, levelsOfAll}
-use Rattle.table.specs.Laws.AcceptedWithin.{tree-within}
+use Rattle.roundtrip.specs.Laws.AcceptedWithin.{tree-within}
 use Rattle.rules.specs.declared.PositionState.{PositionState}
 use Rattle.rules.specs.Meaning.{newest, holds}
 use Rattle.chain.specs.Missing.{Numbering, inTable}

@@ -14,13 +14,13 @@ use Rattle.table.specs.Header.{count, root}
 use Rattle.table.specs.Nodes.{nodeAt, sortAt, childCount, childCountAt, childSortAt}
 use Rattle.table.specs.Checked.{checked}
 use Rattle.table.specs.Series.{asSeries, seriesIn}
-use Rattle.table.specs.Laws.Series.{series-read}
+use Rattle.roundtrip.specs.Laws.Series.{series-read}
 use Rattle.table.specs.Ends.{endsAll, endsBeside, Link, Linked}
 use Rattle.table.specs.Reading as Reading
 use Rattle.table.specs.Reading.{child, operandBy, operandFrom, conditionBy, conditionFrom, treeOf}
 use Rattle.table.specs.Laws.Accepted.{Whole, tree-whole, ends-of}
-use Rattle.table.specs.Laws.Walking.{Stands, node-there, sort-there, level-left, stands-one, stands-next, stands-below, child-first, child-next}
-use Rattle.table.specs.Laws.Walking.{condition-first, conditions-none, conditions-more, operand-is, condition-is, tree-reads, tree-stands}
+use Rattle.roundtrip.specs.Laws.Walking.{Stands, node-there, sort-there, level-left, stands-one, stands-next, stands-below, child-first, child-next}
+use Rattle.roundtrip.specs.Laws.Walking.{condition-first, conditions-none, conditions-more, operand-is, condition-is, tree-reads, tree-stands}
 use Rattle.rules.specs.Shapes.{endIn, operandOf, conditionOf, operandShape, conditionShape}
 use Rattle.rules.specs.Flat.{growOperand, operandAt, growConditions, group as groupOf, growCondition, conditionAt}
 
