@@ -3,8 +3,8 @@ use mathlib.Core.Path.{_≡_}
 use Prim.Native.Nat.{_≤_, _-_}
 use lib.ListN.{length}
 use borrow.Author.Needs.{needs}
-use Rattle.calls.proofs.rooms.fill.Statement.{statement}
-use Rattle.calls.proofs.rooms.fill.Tie as tie
+use Rattle.text.proofs.rooms.fill.Statement.{statement}
+use Rattle.text.proofs.rooms.fill.Tie as tie
 
 abbrev Inv-loop : tie.InvT-loop
 Inv-loop room₀ line n i₀ room i = (i ≤ length room₀) × (length room ≡ length room₀)
