@@ -4,6 +4,7 @@ use mathlib.Core.Path.{_≡_}
 use mathlib.Core.List.{List}
 use native.Mathlib.Omega.{arith}
 use native.Mathlib.Nat.{mul-le-mul-right}
+use Rattle.words.specs.Limits.{mostRows}
 use Rattle.table.specs.declared.answer.Answer.the-variants.{Accepted}
 use Rattle.table.specs.Checked.{checked}
 use Rattle.table.specs.Reach.{rowsNeeded}
@@ -15,7 +16,7 @@ pub needed : (t : List ℕ) (n r lookback : ℕ) → checked t ≡ Accepted n r 
 unfolding depthOf greatestReach
 needed t n r lookback ok = omega (arith, rows-are t n r ok)
 
-pub few : (t : List ℕ) (n r : ℕ) → checked t ≡ Accepted n r → r ≤ 4096
+pub few : (t : List ℕ) (n r : ℕ) → checked t ≡ Accepted n r → r ≤ mostRows
 unfolding rowsNeeded
 few t n r ok =
     omega (

@@ -8,6 +8,7 @@ use native.Mathlib.Numerals.{add-one}
 use lib.Dec.{ltb, leb}
 use borrow.Author.Tests.{lt-ltb, le-ltb}
 use lib.ListN.{length, set, drop, length-set, length-append}
+use Rattle.words.specs.Limits.{mostRows}
 use Rattle.words.specs.declared.refusal.Refusal.{Refusal}
 use Rattle.words.specs.Outcome.{refusal}
 use Rattle.table.specs.declared.answer.Answer.the-variants.{Accepted, Refused}
@@ -64,7 +65,7 @@ pub listing-start : (t : List ℕ) (d b e at : ℕ) (given : List ℕ) → b ≤
 listing-start t d b e at given le few = record { low = omega arith; high = le; few = few; long = refl; many = refl; puts = refl }
 
 module _ (t : List ℕ) (d b e at : ℕ) (given list : List ℕ) (next i : ℕ) (l : Listing t d b e at given list next i) (more : i < e) (far : ℕ)
-    (weighs : far ≡ min (weigh ownBack (firstTrees 1 (trees t (e - i) i))) 4096) where
+    (weighs : far ≡ min (weigh ownBack (firstTrees 1 (trees t (e - i) i))) mostRows) where
   after : List ℕ
   after = silentNodes d (trees t (e - (i + 1)) (i + 1))
 

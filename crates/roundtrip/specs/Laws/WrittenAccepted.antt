@@ -33,7 +33,8 @@ use Rattle.roundtrip.specs.Laws.WrittenNodes.{pair, From, past}
 use Rattle.roundtrip.specs.Laws.WrittenGrows.{regroup-two}
 use Rattle.roundtrip.specs.Laws.AcceptedWritten.{short-long}
 use Rattle.roundtrip.specs.Laws.WrittenForestRead.{readsOf}
-use Rattle.roundtrip.specs.Laws.WrittenTrees.{wrong-two, some-nodes, reachOfShort, plantShort, short-grows, Held, planted, held-deep, held-reach, held-near}
+use Rattle.roundtrip.specs.Laws.WrittenTrees.{wrong-two, some-nodes, reachOfShort, plantShort, short-grows}
+use Rattle.roundtrip.specs.Laws.WrittenTrees.{Held, planted, held-deep, held-reach, held-near}
 use Rattle.roundtrip.specs.Laws.WrittenTrees.{held-fits, held-right, held-reads}
 
 module _ (form : Form) (r : Rule) where

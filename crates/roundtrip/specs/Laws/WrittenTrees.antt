@@ -9,7 +9,7 @@ use native.Mathlib.Nat.{add-zero, suc-add}
 use lib.ListN.{replicate}
 use lib.Dec.{eqb}
 use borrow.Author.Tests.{le-ltb, eq-eqb, ne-eqb}
-use Rattle.words.specs.Limits.{mostNesting}
+use Rattle.words.specs.Limits.{mostNesting, mostReach}
 use Rattle.table.specs.declared.places.Place.the-variants.{Nowhere}
 use Rattle.table.specs.declared.header.Form.{Form}
 use Rattle.table.specs.Kinds.{kindOf, overASeries}
@@ -163,7 +163,7 @@ given-reach form c i w =
     ∙ ap reachOfAll (readsOf form c i Forest.none w)
     ∙ omega arith
 
-short-reach : (form : Form) (s : Short) (i : ℕ) → ShortWithin form s → (forestReach (plantShort i s) ≡ reachOfShort s) × (reachOfShort s ≤ 4095)
+short-reach : (form : Form) (s : Short) (i : ℕ) → ShortWithin form s → (forestReach (plantShort i s) ≡ reachOfShort s) × (reachOfShort s ≤ mostReach)
 unfolding ShortWithin plantShort reachOfShort forestReach weigh
 short-reach form absent i w = (refl, omega arith)
 short-reach form (given c) i w = (given-reach form c i (w .fields), w .reaches)
@@ -205,7 +205,7 @@ module _ (t : List ℕ) (form : Form) (x : ℕ) (s : Short) (h : Held t form x s
 
   pub held-near : farAt (treeReach t x) (root t x) ≡ Nowhere
   unfolding farAt
-  held-near = rw held-reach (rw (le-ltb 4095 (reachOfShort s) (short-reach form s (root t x) (h .within) .1)))
+  held-near = rw held-reach (rw (le-ltb mostReach (reachOfShort s) (short-reach form s (root t x) (h .within) .1)))
 
   pub held-fits : misfit t (count t x) (root t x) ≡ Nowhere
   held-fits = ap (λ (m : ℕ). misfit t m (root t x)) (h .many) ∙ short-fits t form s (root t x) (h .within) (h .forest)

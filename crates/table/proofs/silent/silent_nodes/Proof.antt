@@ -31,9 +31,10 @@ silent-nodes-spec =
     (a .is, a .leaves))
     (λ c. search needs)
     (λ c.
-    let told = c .before .before .before .before .before .before .before .before .before .before in
-    let check = told .before .before .before in
     let again = c .before .before in
-    let a = answers-lists _ _ _ _ _ (sym (check .check .ensures .0) ∙ told .enum-told .given .1) _ (c .before .before .before .before .before .before .before .list-all .ensures .0)
-    _ _ (c .before .before .before .before .before .if1 .left) (again .list-all2 .ensures .0) (again .list-all2 .ensures .1) in
+    let enough = again .before .before .before in
+    let told = enough .before .before .before .before .before in
+    let check = told .before .before .before in
+    let a = answers-lists _ _ _ _ _ (sym (check .check .ensures .0) ∙ told .enum-told .given .1) _ (enough .before .before .list-all .ensures .0)
+    _ _ (enough .if1 .left) (again .list-all2 .ensures .0) (again .list-all2 .ensures .1) in
     (a .is, a .leaves)))
