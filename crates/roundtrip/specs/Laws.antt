@@ -13,10 +13,10 @@ pub mod AcceptedWritten
 pub mod AcceptedWithin
 -- ---- from a rule to its table: its forest, which keeps the rules of a table; the table is accepted, and is a byte string
 pub mod WrittenForest
-pub mod WrittenNodes
-pub mod WrittenGrows
 pub mod WrittenForestKept
 pub mod WrittenForestRead
+pub mod WrittenNodes
+pub mod WrittenGrows
 pub mod WrittenTrees
 pub mod WrittenAccepted
 pub mod WrittenBytes

@@ -1,7 +1,7 @@
 -- The tests that the code finds silent are those of the trees; and a table has none over as many rows as it needs. Assumes nothing.
 use Prim.Native.Nat.{ℕ, suc, _+_, _-_, _*_, _≤_, _<_, min}
 use mathlib.Core.Path.{_≡_, refl, sym, ap, _∙_}
-use mathlib.Core.Bool.{Bool, true, false, cond, _&&_}
+use mathlib.Core.Bool.{Bool, true, false, cond}
 use mathlib.Core.List.{List, [], _∷_, _++_, append-assoc, append-nil}
 use mathlib.Core.Logic.{⊎-elim}
 use native.Mathlib.Omega.{arith}
@@ -160,9 +160,8 @@ module _ (t : List ℕ) (small : Bytes t) (n r : ℕ) (ok : checked t ≡ Accept
   a-tree d x l some =
       let c = treeOf t x in
       let w = tree-within t small n r ok x l some in
-      let many : count t x ≡ nodesOf c + 0 = omega (arith, tree-nodes t n r ok x l some) in
-      ap (λ (m : ℕ). silentNodes d (trees t m (root t x))) many
-      ∙ ap (silentNodes d) (growsOf t (Header.formOf t) c (root t x) 0 _ (w .fields) (tree-bytes x l some))
+      ap (λ (m : ℕ). silentNodes d (trees t m (root t x))) (sym (tree-nodes t n r ok x l some))
+      ∙ ap (silentNodes d) (growsOf t (Header.formOf t) c (root t x) _ (w .fields) (tree-bytes x l some))
       ∙ planted d (Header.formOf t) c (root t x) Forest.none (w .fields) (w .reaches)
       ∙ append-nil (silentIn d c (root t x))
 
@@ -186,73 +185,53 @@ both-none : (xs ys : List ℕ) → xs ++ ys ≡ [] → (xs ≡ []) × (ys ≡ []
 both-none [] ys e = (refl, e)
 both-none (x ∷ xs) ys e = absurd (let z : _≡_ {A = ℕ} 0 1 = cc in omega arith)
 
-module _ (d : ℕ) where
-  -- over more rows than it reaches back no test is silent
-  not-listed : (c : Condition) (i : ℕ) → reachOf c < d → listed d c i ≡ []
+module _ (d : ℕ) (some : 0 < d) where
+  -- A test is not listed where it reaches back fewer bars than there are rows, and only there;
+  not-listed : (c : Condition) (i : ℕ) → isTest c ≡ true → (reachOf c < d → listed d c i ≡ []) × (listed d c i ≡ [] → reachOf c < d)
   unfolding listed silent
-  not-listed c i l = rw (lt-leb d (reachOf c) l) (go (isTest c))
-    where
-      go : (b : Bool) → cond (b && false) (i ∷ []) [] ≡ []
-      go true = refl
-      go false = refl
-
-  mutual
-    unfolding silentIn reachOf
-
-    none-silent : (c : Condition) (i : ℕ) → reachOf c < d → silentIn d c i ≡ []
-    none-silent (compare kind a b) i l = not-listed (compare kind a b) i l
-    none-silent (cross kind a b) i l = not-listed (cross kind a b) i l
-    none-silent (between x low high) i l = not-listed (between x low high) i l
-    none-silent (trend kind a n) i l = not-listed (trend kind a n) i l
-    none-silent (every cs) i l = none-silent-all cs (i + 1) l
-    none-silent (any cs) i l = none-silent-all cs (i + 1) l
-    none-silent (negated c) i l = none-silent c (i + 1) l
-    none-silent (inPosition wanted) i l = refl
-    none-silent (barsSince selector k) i l = refl
-
-    none-silent-all : (cs : Conditions) (i : ℕ) → reachOfAll cs < d → silentInAll d cs i ≡ []
-    none-silent-all none i l = refl
-    none-silent-all (more c cs) i l = rw (none-silent c i (omega arith), none-silent-all cs (i + nodesOf c) (omega arith))
-
-  -- and a test that is not listed reaches back less
-  near-test : (c : Condition) (i : ℕ) → isTest c ≡ true → listed d c i ≡ [] → reachOf c < d
-  unfolding listed silent
-  near-test c i is e = go (leb d (reachOf c)) refl (rw is at e)
+  not-listed c i is = (λ l. rw (is, lt-leb d (reachOf c) l), λ e. go (leb d (reachOf c)) refl (rw is at e))
     where
       go : (b : Bool) → leb d (reachOf c) ≡ b → cond b (i ∷ []) [] ≡ [] → reachOf c < d
       go true f e = absurd (let z : _≡_ {A = ℕ} 0 1 = cc in omega arith)
       go false f e = leb-false d (reachOf c) f
 
+  -- so a tree has no silent test where it reaches back fewer, and only there.
   mutual
     unfolding silentIn reachOf isTest
 
-    near : 0 < d → (c : Condition) (i : ℕ) → silentIn d c i ≡ [] → reachOf c < d
-    near some (compare kind a b) i e = near-test (compare kind a b) i refl e
-    near some (cross kind a b) i e = near-test (cross kind a b) i refl e
-    near some (between x low high) i e = near-test (between x low high) i refl e
-    near some (trend kind a n) i e = near-test (trend kind a n) i refl e
-    near some (every cs) i e = near-all some cs (i + 1) e
-    near some (any cs) i e = near-all some cs (i + 1) e
-    near some (negated c) i e = near some c (i + 1) e
-    near some (inPosition wanted) i e = some
-    near some (barsSince selector k) i e = some
+    none-silent : (c : Condition) (i : ℕ) → (reachOf c < d → silentIn d c i ≡ []) × (silentIn d c i ≡ [] → reachOf c < d)
+    none-silent (compare kind a b) i = not-listed (compare kind a b) i refl
+    none-silent (cross kind a b) i = not-listed (cross kind a b) i refl
+    none-silent (between x low high) i = not-listed (between x low high) i refl
+    none-silent (trend kind a n) i = not-listed (trend kind a n) i refl
+    none-silent (every cs) i = none-silent-all cs (i + 1)
+    none-silent (any cs) i = none-silent-all cs (i + 1)
+    none-silent (negated c) i = none-silent c (i + 1)
+    none-silent (inPosition wanted) i = (λ l. refl, λ e. some)
+    none-silent (barsSince selector k) i = (λ l. refl, λ e. some)
 
-    near-all : 0 < d → (cs : Conditions) (i : ℕ) → silentInAll d cs i ≡ [] → reachOfAll cs < d
-    near-all some none i e = some
-    near-all some (more c cs) i e =
-        let two = both-none (silentIn d c i) (silentInAll d cs (i + nodesOf c)) e in
-        omega (arith, near some c i (two .0), near-all some cs (i + nodesOf c) (two .1))
+    none-silent-all : (cs : Conditions) (i : ℕ) → (reachOfAll cs < d → silentInAll d cs i ≡ []) × (silentInAll d cs i ≡ [] → reachOfAll cs < d)
+    none-silent-all none i = (λ l. refl, λ e. some)
+    none-silent-all (more c cs) i =
+        let one = none-silent c i in
+        let others = none-silent-all cs (i + nodesOf c) in (
+          λ l. rw (one .0 (omega arith), others .0 (omega arith)),
+          λ e.
+              let two = both-none (silentIn d c i) (silentInAll d cs (i + nodesOf c)) e in
+              omega (arith, one .1 (two .0), others .1 (two .1)),
+        )
 
 module _ (t : List ℕ) (n r : ℕ) (ok : checked t ≡ Accepted n r) (d : ℕ) where
   -- NONE OVER ENOUGH ROWS: over as many rows as the check says the table needs, or more, no test falls silent;
   pub enough-rows : r ≤ d → silentTests t d ≡ []
   unfolding silentTests silentOf
   enough-rows enough =
+      let some : 0 < d = omega (arith, rows-are t n r ok) in
       rw (
-        none-silent d (treeOf t 0) (root t 0) (omega (arith, rows-are t n r ok)),
-        none-silent d (treeOf t 1) (root t 1) (omega (arith, rows-are t n r ok)),
-        none-silent d (treeOf t 2) (root t 2) (omega (arith, rows-are t n r ok)),
-        none-silent d (treeOf t 3) (root t 3) (omega (arith, rows-are t n r ok)),
+        none-silent d some (treeOf t 0) (root t 0) .0 (omega (arith, rows-are t n r ok)),
+        none-silent d some (treeOf t 1) (root t 1) .0 (omega (arith, rows-are t n r ok)),
+        none-silent d some (treeOf t 2) (root t 2) .0 (omega (arith, rows-are t n r ok)),
+        none-silent d some (treeOf t 3) (root t 3) .0 (omega (arith, rows-are t n r ok)),
       )
 
   -- AND ONLY THEN: a row or more over which no test falls silent are as many as the table needs.
@@ -265,8 +244,8 @@ module _ (t : List ℕ) (n r : ℕ) (ok : checked t ≡ Accepted n r) (d : ℕ) 
       omega (
         arith,
         rows-are t n r ok,
-        near d some (treeOf t 0) (root t 0) (p .0),
-        near d some (treeOf t 1) (root t 1) (q .0),
-        near d some (treeOf t 2) (root t 2) (s .0),
-        near d some (treeOf t 3) (root t 3) (s .1),
+        none-silent d some (treeOf t 0) (root t 0) .1 (p .0),
+        none-silent d some (treeOf t 1) (root t 1) .1 (q .0),
+        none-silent d some (treeOf t 2) (root t 2) .1 (s .0),
+        none-silent d some (treeOf t 3) (root t 3) .1 (s .1),
       )

@@ -169,7 +169,7 @@ unfolding nodesBytes
 bytes-two [] b = refl
 bytes-two (n ∷ a) b = rw (bytes-two a b) (sym (append-assoc (nodeBytes n) (nodesBytes a) (nodesBytes b)))
 
-tree-bytes : (n : Node) (below rest : Forest)
+pub tree-bytes : (n : Node) (below rest : Forest)
     → nodesBytes (flat (Forest.tree n below rest)) ≡ (nodeBytes n ++ nodesBytes (flat below)) ++ nodesBytes (flat rest)
 unfolding flat nodesBytes
 tree-bytes n below rest = rw (bytes-two (flat below) (flat rest)) (sym (append-assoc (nodeBytes n) (nodesBytes (flat below)) (nodesBytes (flat rest))))

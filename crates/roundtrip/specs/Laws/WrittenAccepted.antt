@@ -2,7 +2,7 @@
 -- Assumes nothing.
 use mathlib.Core.Path.{_≡_, refl, sym, _∙_, ap, subst}
 use mathlib.Core.Bool.{true, false}
-use mathlib.Core.List.{List, [], _++_, append-nil}
+use mathlib.Core.List.{List, [], _++_, append-nil, append-assoc}
 use Prim.Native.Nat.{ℕ, zero, suc, _+_, _*_, _≤_, max}
 use native.Mathlib.Omega.{arith}
 use lib.ListN.{length, length-append}
@@ -30,12 +30,12 @@ use Rattle.table.specs.Limits.{ShortWithin, RuleWithin}
 use Rattle.roundtrip.specs.Laws.NodeBytes.{condition-long}
 use Rattle.table.specs.Laws.Accepted.{all-kept}
 use Rattle.roundtrip.specs.Laws.WrittenNodes.{pair, From, past}
-use Rattle.roundtrip.specs.Laws.WrittenGrows.{regroup-two}
 use Rattle.roundtrip.specs.Laws.AcceptedWritten.{short-long}
 use Rattle.roundtrip.specs.Laws.WrittenForestRead.{readsOf}
-use Rattle.roundtrip.specs.Laws.WrittenTrees.{wrong-two, some-nodes, reachOfShort, plantShort, short-grows}
+use Rattle.roundtrip.specs.Laws.WrittenTrees.{wrong-two, reachOfShort, plantShort, short-grows}
 use Rattle.roundtrip.specs.Laws.WrittenTrees.{Held, planted, held-deep, held-reach, held-near}
 use Rattle.roundtrip.specs.Laws.WrittenTrees.{held-fits, held-right, held-reads}
+use Rattle.roundtrip.specs.Laws.WrittenForest.{some-nodes}
 
 module _ (form : Form) (r : Rule) where
   abbrev t : List ℕ
@@ -136,7 +136,7 @@ module _ (form : Form) (r : Rule) where
     -- where each tree's bytes begin
     from-0 : From t 0 (writeOf (r .entry) ++ (writeOf (r .exit) ++ (writeShort (r .shortEntry) ++ writeShort (r .shortExit))))
     unfolding tableOf headerOf le16
-    from-0 = regroup-two (writeOf (r .entry)) (writeOf (r .exit)) (writeShort (r .shortEntry)) (writeShort (r .shortExit))
+    from-0 = simp append-assoc
 
     from-1 : From t (0 + nodesOf (r .entry)) (writeOf (r .exit) ++ (writeShort (r .shortEntry) ++ writeShort (r .shortExit)))
     from-1 = past t 0 (nodesOf (r .entry)) (writeOf (r .entry)) _ (condition-long (r .entry)) from-0

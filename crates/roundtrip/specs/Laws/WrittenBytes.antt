@@ -1,25 +1,23 @@
 -- The table of a rule within the limits is a byte string: each of its numbers is below 256.
 -- Assumes nothing.
-use mathlib.Core.Path.{_≡_}
-use mathlib.Core.Bool.{true, false}
 use mathlib.Core.List.{List, [], _∷_, _++_}
 use Prim.Native.Nat.{ℕ, zero, suc, _/_, _%_, _≤_, _<_}
 use native.Mathlib.Omega.{arith}
 use lib.ListN.{getD}
 use Rattle.words.specs.Limits.{mostSlots, mostNodes}
-use Rattle.table.specs.declared.kinds.Kind.{Kind}
 use Rattle.table.specs.declared.header.Form.{Form}
-use Rattle.table.specs.declared.series.Series.{Series}
-use Rattle.table.specs.declared.series.Series.the-variants.{Price, Slot}
-use Rattle.table.specs.Kinds.{kindOf}
-use Rattle.table.specs.Laws.Kinds.{known}
-use Rattle.table.specs.Trees.{Operand, const, ref, price, prev, arith as sums, extreme, Condition, Conditions, compare, cross, between, trend, every}
-use Rattle.table.specs.Trees.{any, negated, inPosition, barsSince, none, more}
-use Rattle.table.specs.Writing.{le16, le32, le64, node, writeSeries, write, writeOf, writeAll, manyOf, nodesOf, nodesOfAll, Short, absent, given, Rule}
+use Rattle.table.specs.declared.nodes.Node.{Node}
+use Rattle.table.specs.Forest.{Forest, flat}
+use Rattle.table.specs.Forest as Forest
+use Rattle.table.specs.Trees.{Condition}
+use Rattle.table.specs.Writing.{le16, le32, le64, node, nodeBytes, nodesBytes, writeOf, nodesOf, Short, absent, given, Rule}
 use Rattle.table.specs.Writing.{nodesOfShort, writeShort, nodesOfRule, headerOf, tableOf}
-use Rattle.table.specs.Limits.{WithinSeries, Within, WithinOf, WithinAll, ShortWithin, RuleWithin}
+use Rattle.table.specs.Limits.{WithinOf, ShortWithin, RuleWithin}
 use Rattle.table.specs.Bytes.{Bytes}
-use Rattle.roundtrip.specs.Laws.WrittenTrees.{some-nodes}
+use Rattle.roundtrip.specs.Laws.WrittenForestKept.{Fits, FieldsFit, fieldsOf}
+use Rattle.roundtrip.specs.Laws.WrittenForest.{plantOf}
+use Rattle.roundtrip.specs.Laws.WrittenGrows.{planted-bytes}
+use Rattle.roundtrip.specs.Laws.Writing.{tree-bytes}
 
 unfoldable Small : List ℕ → Type 0
 Small [] = Unit
@@ -53,69 +51,25 @@ unfolding node Small
 small-node k s c n x hk hs hc hn hx =
     (hk, (hs, small-two (le16 c ++ le32 n) (le64 x) (small-two (le16 c) (le32 n) (small16 c hc) (small32 n hn)) (small64 x hx)))
 
--- a node with no number but its kind and its n
-small-plain : (k n : ℕ) → k < 256 → n < 4294967296 → Small (node k 0 0 n 0)
-small-plain k n hk hn = small-node k 0 0 n 0 hk (omega arith) (omega arith) hn (omega arith)
-
-small-over : (k n : ℕ) (a : List ℕ) → k < 256 → n < 4294967296 → Small a → Small (node k 0 0 n 0 ++ a)
-small-over k n a hk hn sa = small-two (node k 0 0 n 0) a (small-plain k n hk hn) sa
+small-bytes : (n : Node) → Fits n → Small (nodeBytes n)
+unfolding nodeBytes
+small-bytes n f = small-node (n .kind) (n .selector) (n .children) (n .n) (n .constant) (f .kind) (f .selector) (f .children) (f .n) (f .constant)
 
 small-none : Small []
 unfolding Small
 small-none = tt
 
--- the kinds of the table are bytes
-row-byte : (kind : ℕ) (row : Kind) → kindOf kind ≡ row → 0 < row .sort → kind < 256
-row-byte kind row h some = omega (arith, known kind row h some)
+-- nodes whose fields fit, and so a tree within the limits
+small-forest : (f : Forest) → FieldsFit f → Small (nodesBytes (flat f))
+unfolding FieldsFit nodesBytes flat
+small-forest Forest.none fit = small-none
+small-forest (Forest.tree n below rest) fit =
+    rw tree-bytes (small-two _ _ (small-two _ _ (small-bytes n (fit .0)) (small-forest below (fit .1))) (small-forest rest (fit .2)))
 
 module _ (form : Form) (few : form .slots ≤ mostSlots) where
-  small-series : (s : Series) → WithinSeries form s → Small (writeSeries s)
-  unfolding WithinSeries writeSeries
-  small-series (Price s) w = small-node 3 s 0 0 0 (omega arith) (omega arith) (omega arith) (omega arith) (omega arith)
-  small-series (Slot s) w = small-plain 2 s (omega arith) (omega arith)
-
-  small-operand : (a : Operand) → Within form a → Small (write a)
-  unfolding Within write
-  small-operand (const x) w = small-node 1 0 0 0 x (omega arith) (omega arith) (omega arith) (omega arith) (w .0)
-  small-operand (ref s) w = small-plain 2 s (omega arith) (omega arith)
-  small-operand (price s) w = small-node 3 s 0 0 0 (omega arith) (omega arith) (omega arith) (omega arith) (omega arith)
-  small-operand (prev a n) w = small-over 4 n (write a) (omega arith) (w .0) (small-operand a (w .1))
-  small-operand (sums kind a b) w =
-      small-two (node kind 0 0 0 0 ++ write a) (write b)
-      (small-over kind 0 (write a) (row-byte kind _ (w .0) (omega arith)) (omega arith) (small-operand a (w .1))) (small-operand b (w .2))
-  small-operand (extreme kind s n) w =
-      small-over kind n (writeSeries s) (row-byte kind _ (w .0) (omega arith)) (omega (arith, w .3)) (small-series s (w .4))
-
-  two-operands : (kind : ℕ) (a b : Operand) → kind < 256 → Within form a → Within form b → Small (node kind 0 0 0 0 ++ write a ++ write b)
-  two-operands kind a b h wa wb =
-      small-two (node kind 0 0 0 0 ++ write a) (write b) (small-over kind 0 (write a) h (omega arith) (small-operand a wa)) (small-operand b wb)
-
-  as-many : (cs : Conditions) → manyOf cs ≤ nodesOfAll cs
-  unfolding manyOf nodesOfAll
-  as-many none = omega arith
-  as-many (more c cs) = omega (arith, as-many cs, some-nodes c)
-
-  small-group : (kind m : ℕ) (l : List ℕ) → kind < 256 → m < 65536 → Small l → Small (node kind 0 m 0 0 ++ l)
-  small-group kind m l hk hm s = small-two (node kind 0 m 0 0) l (small-node kind 0 m 0 0 hk (omega arith) hm (omega arith) (omega arith)) s
-
-  mutual
-    unfolding WithinOf writeOf nodesOf
-
-    small-condition : (c : Condition) → WithinOf form c → nodesOf c ≤ mostNodes → Small (writeOf c)
-    small-condition (compare kind a b) w h = two-operands kind a b (row-byte kind _ (w .0) (omega arith)) (w .1) (w .2)
-    small-condition (cross kind a b) w h = two-operands kind a b (row-byte kind _ (w .0) (omega arith)) (w .1) (w .2)
-    small-condition (between x a b) w h = small-two _ (write b) (two-operands 24 x a (omega arith) (w .0) (w .1)) (small-operand b (w .2))
-    small-condition (trend kind a n) w h = small-over kind n (write a) (row-byte kind _ (w .0) (omega arith)) (w .1) (small-operand a (w .2))
-    small-condition (every cs) w h = small-group 27 (manyOf cs) (writeAll cs) (omega arith) (omega (arith, as-many cs)) (small-all cs w (omega arith))
-    small-condition (any cs) w h = small-group 28 (manyOf cs) (writeAll cs) (omega arith) (omega (arith, as-many cs)) (small-all cs w (omega arith))
-    small-condition (negated c) w h = small-over 29 0 (writeOf c) (omega arith) (omega arith) (small-condition c w (omega arith))
-    small-condition (inPosition true) w h = small-node 30 1 0 0 0 (omega arith) (omega arith) (omega arith) (omega arith) (omega arith)
-    small-condition (inPosition false) w h = small-plain 30 0 (omega arith) (omega arith)
-    small-condition (barsSince s n) w h = small-node 31 s 0 n 0 (omega arith) (omega (arith, w .0)) (omega arith) (w .1) (omega arith)
-
-    small-all : (cs : Conditions) → WithinAll form cs → nodesOfAll cs ≤ mostNodes → Small (writeAll cs)
-    small-all none w h = small-none
-    small-all (more c cs) w h = small-two (writeOf c) (writeAll cs) (small-condition c (w .0) (omega arith)) (small-all cs (w .1) (omega arith))
+  small-condition : (c : Condition) → WithinOf form c → nodesOf c ≤ mostNodes → Small (writeOf c)
+  unfolding FieldsFit
+  small-condition c w h = rw (← planted-bytes form c 0 w) (small-forest (plantOf 0 c Forest.none) (fieldsOf form few c 0 Forest.none w h tt))
 
   small-short : (s : Short) → ShortWithin form s → nodesOfShort s ≤ mostNodes → Small (writeShort s)
   unfolding ShortWithin writeShort nodesOfShort

@@ -3,11 +3,11 @@
 use mathlib.Core.Path.{_≡_, refl, _∙_, ap}
 use mathlib.Core.Bool.{true, false}
 use mathlib.Core.List.{List, [], _∷_}
-use Prim.Native.Nat.{ℕ, _+_, _-_}
+use Prim.Native.Nat.{ℕ, _+_, _-_, _≤_, _<_}
 use lib.ListN.{replicate}
 use lib.Dec.{eqb}
 use borrow.Author.Tests.{lt-ltb, le-leb}
-use Rattle.words.specs.Limits.{mostReach}
+use Rattle.words.specs.Limits.{mostReach, mostSlots, mostNodes}
 use Rattle.table.specs.declared.nodes.Node.{Node}
 use Rattle.table.specs.declared.kinds.Kind.{Kind}
 use Rattle.table.specs.declared.header.Form.{Form}
@@ -20,10 +20,12 @@ use Rattle.table.specs.Forest.{Forest, sorts, Fitting, Sorted}
 use Rattle.table.specs.Forest as Forest
 use Rattle.table.specs.Trees.{Operand, const, ref, price, prev, arith as sums, extreme, Condition, Conditions, compare, cross, between, trend, every}
 use Rattle.table.specs.Trees.{any, negated, inPosition, barsSince, none, more}
-use Rattle.table.specs.Writing.{manyOf, nodesIn, nodesOf}
+use Rattle.table.specs.Writing.{manyOf, nodesIn, nodesOf, nodesOfAll}
 use Rattle.table.specs.Limits.{WithinSeries, Within, WithinOf, WithinAll}
 use Rattle.roundtrip.specs.Laws.Writing.{Right}
-use Rattle.roundtrip.specs.Laws.WrittenForest.{plantSeries, plant, plantOf, plantAll}
+use Rattle.roundtrip.specs.Laws.WrittenForest.{plantSeries, plant, plantOf, plantAll, nd, some-nodes}
+use native.Mathlib.Omega.{arith}
+use Rattle.table.specs.Laws.Kinds.{known}
 
 -- ---- own bytes
 
@@ -179,3 +181,77 @@ module _ (form : Form) where
     pub sortedAll : (cs : Conditions) (i : ℕ) (rest : Forest) → WithinAll form cs → Sorted rest → Sorted (plantAll i cs rest)
     sortedAll none i rest w r = r
     sortedAll (more c cs) i rest w r = sortedOf c i _ (w .0) (sortedAll cs (i + nodesOf c) rest (w .1) r)
+
+-- ---- fields that fit their bytes
+
+-- "Node: kind (1), selector (1), children (2), n (4), constant bits (8)."
+pub record Fits (node : Node) : Type 0 where
+  pub kind : node .kind < 256
+  pub selector : node .selector < 256
+  pub children : node .children < 65536
+  pub n : node .n < 4294967296
+  pub constant : node .constant < 18446744073709551616
+
+unfoldable pub FieldsFit : Forest → Type 0
+FieldsFit Forest.none = Unit
+FieldsFit (Forest.tree n below rest) = Fits n × FieldsFit below × FieldsFit rest
+
+node-fits : (i k s c n x : ℕ) → k < 256 → s < 256 → c < 65536 → n < 4294967296 → x < 18446744073709551616 → Fits (nd i k s c n x)
+node-fits i k s c n x hk hs hc hn hx = record { kind = hk; selector = hs; children = hc; n = hn; constant = hx }
+
+-- a node of no number but its kind and its n
+plain-fits : (i k n : ℕ) → k < 256 → n < 4294967296 → Fits (nd i k 0 0 n 0)
+plain-fits i k n hk hn = node-fits i k 0 0 n 0 hk (omega arith) (omega arith) hn (omega arith)
+
+-- and one of a row of the table of kinds
+row-fits : (i k n : ℕ) (row : Kind) → kindOf k ≡ row → 0 < row .sort → n < 4294967296 → Fits (nd i k 0 0 n 0)
+row-fits i k n row h some hn = plain-fits i k n (omega (arith, known k row h some)) hn
+
+as-many : (cs : Conditions) → manyOf cs ≤ nodesOfAll cs
+unfolding manyOf nodesOfAll
+as-many none = omega arith
+as-many (more c cs) = omega (arith, as-many cs, some-nodes c)
+
+group-fits : (i k : ℕ) (cs : Conditions) → k < 256 → nodesOfAll cs ≤ mostNodes → Fits (nd i k 0 (manyOf cs) 0 0)
+group-fits i k cs hk h = node-fits i k 0 (manyOf cs) 0 0 hk (omega arith) (omega (arith, as-many cs)) (omega arith) (omega arith)
+
+module _ (form : Form) (few : form .slots ≤ mostSlots) where
+  series-field : (s : Series) (i : ℕ) → WithinSeries form s → FieldsFit (plantSeries i s)
+  unfolding WithinSeries plantSeries FieldsFit
+  series-field (Price s) i w = (node-fits i 3 s 0 0 0 (omega arith) (omega arith) (omega arith) (omega arith) (omega arith), tt, tt)
+  series-field (Slot s) i w = (plain-fits i 2 s (omega arith) (omega arith), tt, tt)
+
+  fields : (a : Operand) (i : ℕ) (rest : Forest) → Within form a → FieldsFit rest → FieldsFit (plant i a rest)
+  unfolding Within plant FieldsFit
+  fields (const x) i rest w r = (node-fits i 1 0 0 0 x (omega arith) (omega arith) (omega arith) (omega arith) (w .0), tt, r)
+  fields (ref s) i rest w r = (plain-fits i 2 s (omega arith) (omega arith), tt, r)
+  fields (price s) i rest w r = (node-fits i 3 s 0 0 0 (omega arith) (omega arith) (omega arith) (omega arith) (omega arith), tt, r)
+  fields (prev a n) i rest w r = (plain-fits i 4 n (omega arith) (w .0), fields a (i + 1) Forest.none (w .1) tt, r)
+  fields (sums kind a b) i rest w r =
+      (row-fits i kind 0 _ (w .0) (omega arith) (omega arith), fields a (i + 1) _ (w .1) (fields b (i + 1 + nodesIn a) Forest.none (w .2) tt), r)
+  fields (extreme kind s n) i rest w r = (row-fits i kind n _ (w .0) (omega arith) (omega (arith, w .3)), series-field s (i + 1) (w .4), r)
+
+  mutual
+    unfolding WithinOf plantOf FieldsFit nodesOf
+
+    pub fieldsOf : (c : Condition) (i : ℕ) (rest : Forest) → WithinOf form c → nodesOf c ≤ mostNodes → FieldsFit rest → FieldsFit (plantOf i c rest)
+    fieldsOf (compare kind a b) i rest w h r =
+        (row-fits i kind 0 _ (w .0) (omega arith) (omega arith), fields a (i + 1) _ (w .1) (fields b (i + 1 + nodesIn a) Forest.none (w .2) tt), r)
+    fieldsOf (cross kind a b) i rest w h r =
+        (row-fits i kind 0 _ (w .0) (omega arith) (omega arith), fields a (i + 1) _ (w .1) (fields b (i + 1 + nodesIn a) Forest.none (w .2) tt), r)
+    fieldsOf (between x a b) i rest w h r = (
+      plain-fits i 24 0 (omega arith) (omega arith),
+      fields x (i + 1) _ (w .0) (fields a (i + 1 + nodesIn x) _ (w .1) (fields b (i + 1 + nodesIn x + nodesIn a) Forest.none (w .2) tt)),
+      r,
+    )
+    fieldsOf (trend kind a n) i rest w h r = (row-fits i kind n _ (w .0) (omega arith) (w .1), fields a (i + 1) Forest.none (w .2) tt, r)
+    fieldsOf (every cs) i rest w h r = (group-fits i 27 cs (omega arith) (omega arith), fieldsAll cs (i + 1) Forest.none w (omega arith) tt, r)
+    fieldsOf (any cs) i rest w h r = (group-fits i 28 cs (omega arith) (omega arith), fieldsAll cs (i + 1) Forest.none w (omega arith) tt, r)
+    fieldsOf (negated c) i rest w h r = (plain-fits i 29 0 (omega arith) (omega arith), fieldsOf c (i + 1) Forest.none w (omega arith) tt, r)
+    fieldsOf (inPosition true) i rest w h r = (node-fits i 30 1 0 0 0 (omega arith) (omega arith) (omega arith) (omega arith) (omega arith), tt, r)
+    fieldsOf (inPosition false) i rest w h r = (plain-fits i 30 0 (omega arith) (omega arith), tt, r)
+    fieldsOf (barsSince s n) i rest w h r = (node-fits i 31 s 0 n 0 (omega arith) (omega (arith, w .0)) (omega arith) (w .1) (omega arith), tt, r)
+
+    fieldsAll : (cs : Conditions) (i : ℕ) (rest : Forest) → WithinAll form cs → nodesOfAll cs ≤ mostNodes → FieldsFit rest → FieldsFit (plantAll i cs rest)
+    fieldsAll none i rest w h r = r
+    fieldsAll (more c cs) i rest w h r = fieldsOf c i _ (w .0) (omega arith) (fieldsAll cs (i + nodesOf c) rest (w .1) (omega arith) r)

@@ -1,212 +1,129 @@
 -- The nodes of a tree that is written in a table grow the tree's forest.
 -- Assumes nothing.
-use mathlib.Core.Path.{_≡_, refl, _∙_, ap}
-use mathlib.Core.List.{List, _++_, append-assoc}
-use Prim.Native.Nat.{ℕ, suc, _+_}
+use mathlib.Core.Path.{_≡_, refl, sym, _∙_, ap}
+use mathlib.Core.List.{List, _++_, append-assoc, append-nil}
+use Prim.Native.Nat.{ℕ, suc, _+_, _*_}
 use native.Mathlib.Omega.{arith}
+use lib.ListN.{length, replicate, length-append, length-replicate}
 use Rattle.table.specs.declared.nodes.Node.{Node}
 use Rattle.table.specs.declared.header.Form.{Form}
-use Rattle.table.specs.declared.series.Series.{Series}
-use Rattle.table.specs.declared.series.Series.the-variants.{Price, Slot}
-use Rattle.table.specs.Named as Named
-use Rattle.table.specs.Kinds.{kinds, kindOf, asWritten}
+use Rattle.table.specs.Kinds.{kindOf}
 use Rattle.table.specs.Nodes.{nodeAt, childCount, childCountAt}
-use Rattle.table.specs.Forest.{Forest, firstTrees, otherTrees, nodeOver, trees}
+use Rattle.table.specs.Forest.{Forest, firstTrees, otherTrees, nodeOver, trees, size, flat, sorts, Sorted}
 use Rattle.table.specs.Forest as Forest
-use Rattle.table.specs.Trees.{Operand, const, ref, price, prev, arith as sums, extreme, Condition, Conditions, compare, cross, between, trend, every}
-use Rattle.table.specs.Trees.{any, negated, inPosition, barsSince, none, more}
-use Rattle.table.specs.Limits.{Within, WithinOf, WithinAll}
-use Rattle.roundtrip.specs.Laws.NodeBytes.{operand-long, condition-long}
-use Rattle.table.specs.Writing.{node, writeSeries, write, nodesIn, manyOf, writeOf, writeAll, nodesOf, nodesOfAll}
-use Rattle.roundtrip.specs.Laws.WrittenForest.{nd, plantSeries, plant, plantOf, plantAll, plant-first, plant-other, plantOf-first, plantOf-other}
+use Rattle.table.specs.Trees.{Condition}
+use Rattle.table.specs.Reading.{conditions}
+use Rattle.table.specs.Limits.{WithinOf}
+use Rattle.table.specs.Writing.{nodeBytes, nodesBytes, writeOf, writeAll, nodesOf}
+use Rattle.roundtrip.specs.Laws.NodeBytes.{node-long}
+use Rattle.roundtrip.specs.Laws.Writing.{Right, tree-bytes, written-all}
+use Rattle.roundtrip.specs.Laws.WrittenForest.{nd, plantOf, Numbered, condition-nodes}
+use Rattle.roundtrip.specs.Laws.WrittenForestKept.{rightOf, plantOf-sorts, sortedOf}
+use Rattle.roundtrip.specs.Laws.WrittenForestRead.{readsOf}
 use Rattle.roundtrip.specs.Laws.WrittenNodes.{From, node-there, nodes-after, past}
 
-grown : (t : List ℕ) (i all m k : ℕ) (n : Node) → nodeAt t i ≡ n → childCount n (kindOf (n .kind)) ≡ k → all ≡ suc m
-    → trees t all i ≡ nodeOver n k (trees t m (i + 1))
-unfolding trees childCountAt
-grown t i all m k n there count long = rw (long, there, count)
+-- ---- trees in a row, and others after them
 
-regroup : (p a l : List ℕ) → p ++ a ++ l ≡ p ++ (a ++ l)
-regroup p a l = simp append-assoc
+unfoldable andThen : Forest → Forest → Forest
+andThen Forest.none g = g
+andThen (Forest.tree n below rest) g = Forest.tree n below (andThen rest g)
 
-pub regroup-two : (p a b l : List ℕ) → p ++ a ++ b ++ l ≡ p ++ (a ++ (b ++ l))
-regroup-two p a b l = simp append-assoc
+then-first : (f g : Forest) → firstTrees (length (sorts f)) (andThen f g) ≡ f
+unfolding sorts firstTrees andThen
+then-first Forest.none g = refl
+then-first (Forest.tree n below rest) g = ap (Forest.tree n below) (then-first rest g)
 
-regroup-three : (p a b c l : List ℕ) → p ++ a ++ b ++ c ++ l ≡ p ++ (a ++ (b ++ (c ++ l)))
-regroup-three p a b c l = simp append-assoc
+then-other : (f g : Forest) → otherTrees (length (sorts f)) (andThen f g) ≡ g
+unfolding sorts otherTrees andThen
+then-other Forest.none g = refl
+then-other (Forest.tree n below rest) g = then-other rest g
 
--- a node over one operand, over two and over three
-over-one : (n : Node) (j : ℕ) (a : Operand) (rest : Forest) → nodeOver n 1 (plant j a rest) ≡ Forest.tree n (plant j a Forest.none) rest
-unfolding nodeOver firstTrees otherTrees
-over-one n j a rest = rw (plant-first 0 j a rest, plant-other 0 j a rest)
+then-none : (f : Forest) → andThen f Forest.none ≡ f
+unfolding andThen
+then-none Forest.none = refl
+then-none (Forest.tree n below rest) = ap (Forest.tree n below) (then-none rest)
 
--- a series, and the trees after it
-unfoldable seriesThen : ℕ → Series → Forest → Forest
-seriesThen i (Price s) rest = Forest.tree (nd i Named.price s 0 0 0) Forest.none rest
-seriesThen i (Slot s) rest = Forest.tree (nd i Named.ref 0 0 s 0) Forest.none rest
+-- a node over as many as it takes
+over-below : (n : Node) (k s : ℕ) (below rest : Forest) → sorts below ≡ replicate k s → nodeOver n k (andThen below rest) ≡ Forest.tree n below rest
+unfolding nodeOver
+over-below n k s below rest row =
+    let many : k ≡ length (sorts below) = sym (ap length row ∙ length-replicate k s) in
+    rw (many, then-first below rest, then-other below rest)
 
-over-series : (n : Node) (j : ℕ) (s : Series) (rest : Forest) → nodeOver n 1 (seriesThen j s rest) ≡ Forest.tree n (plantSeries j s) rest
-unfolding nodeOver firstTrees otherTrees seriesThen plantSeries
-over-series n j (Price s) rest = refl
-over-series n j (Slot s) rest = refl
+-- ---- bytes
 
-over-two : (n : Node) (j p : ℕ) (a b : Operand) (rest : Forest)
-    → nodeOver n 2 (plant j a (plant p b rest)) ≡ Forest.tree n (plant j a (plant p b Forest.none)) rest
-unfolding nodeOver firstTrees otherTrees
-over-two n j p a b rest = rw (plant-first 1 j a (plant p b rest), plant-other 1 j a (plant p b rest), plant-first 0 p b rest, plant-other 0 p b rest)
-
-over-three : (n : Node) (j p q : ℕ) (a b c : Operand) (rest : Forest)
-    → nodeOver n 3 (plant j a (plant p b (plant q c rest))) ≡ Forest.tree n (plant j a (plant p b (plant q c Forest.none))) rest
-unfolding nodeOver firstTrees otherTrees
-over-three n j p q a b c rest =
-    rw (
-      plant-first 2 j a (plant p b (plant q c rest)),
-      plant-other 2 j a (plant p b (plant q c rest)),
-      plant-first 1 p b (plant q c rest),
-      plant-other 1 p b (plant q c rest),
-      plant-first 0 q c rest,
-      plant-other 0 q c rest,
+forest-long : (f : Forest) → length (nodesBytes (flat f)) ≡ 16 * size f
+unfolding nodesBytes flat size nodeBytes
+forest-long Forest.none = refl
+forest-long (Forest.tree n below rest) =
+    omega (
+      arith,
+      ap length (tree-bytes n below rest),
+      length-append (nodeBytes n ++ nodesBytes (flat below)) (nodesBytes (flat rest)),
+      length-append (nodeBytes n) (nodesBytes (flat below)),
+      node-long (n .kind) (n .selector) (n .children) (n .n) (n .constant),
+      forest-long below,
+      forest-long rest,
     )
 
-module _ (t : List ℕ) (form : Form) where
-  -- what Highest and Lowest look over
-  series-grows : (s : Series) (i m : ℕ) (l : List ℕ) → From t i (writeSeries s ++ l) → trees t (1 + m) i ≡ seriesThen i s (trees t m (i + 1))
-  unfolding writeSeries seriesThen nodeOver firstTrees otherTrees kindOf kinds childCount
-  series-grows (Price x) i m l h = grown t i _ m 0 _ (node-there t i _ _ _ _ _ l h) refl (omega arith)
-  series-grows (Slot x) i m l h = grown t i _ m 0 _ (node-there t i _ _ _ _ _ l h) refl (omega arith)
+regroup : (a b c l : List ℕ) → a ++ b ++ c ++ l ≡ a ++ (b ++ (c ++ l))
+regroup a b c l = simp append-assoc
 
-  pub grows : (a : Operand) (i m : ℕ) (l : List ℕ) → Within form a → From t i (write a ++ l) → trees t (nodesIn a + m) i ≡ plant i a (trees t m (i + nodesIn a))
-  unfolding Within write nodesIn plant nodeOver firstTrees otherTrees kindOf kinds childCount
-  grows (const x) i m l w h = grown t i _ m 0 _ (node-there t i _ _ _ _ _ l h) refl (omega arith)
-  grows (ref s) i m l w h = grown t i _ m 0 _ (node-there t i _ _ _ _ _ l h) refl (omega arith)
-  grows (price s) i m l w h = grown t i _ m 0 _ (node-there t i _ _ _ _ _ l h) refl (omega arith)
-  grows (prev a n) i m l w h =
-      let g = h ∙ regroup (node 4 0 0 n 0) (write a) l in
-      let place : i + 1 + nodesIn a ≡ i + (1 + nodesIn a) = omega arith in
-      grown t i _ (nodesIn a + m) 1 _ (node-there t i _ _ _ _ _ _ g) refl (omega arith)
-      ∙ ap (nodeOver _ 1) (grows a (i + 1) m l (w .1) (nodes-after t i _ _ _ _ _ _ g))
-      ∙ over-one _ (i + 1) a _
-      ∙ ap (λ (j : ℕ). Forest.tree (nd i 4 0 0 n 0) (plant (i + 1) a Forest.none) (trees t m j)) place
-  grows (sums kind a b) i m l w h =
-      let g = h ∙ regroup-two (node kind 0 0 0 0) (write a) (write b) l in
-      let g1 = nodes-after t i _ _ _ _ _ _ g in
-      let place : i + 1 + nodesIn a + nodesIn b ≡ i + (1 + nodesIn a + nodesIn b) = omega arith in
-      grown t i _ (nodesIn a + (nodesIn b + m)) 2 _ (node-there t i _ _ _ _ _ _ g) (rw (w .0)) (omega arith)
-      ∙ ap (nodeOver _ 2) (grows a (i + 1) (nodesIn b + m) (write b ++ l) (w .1) g1 ∙ ap (plant (i + 1) a)
-      (grows b (i + 1 + nodesIn a) m l (w .2) (past t (i + 1) (nodesIn a) (write a) (write b ++ l) (operand-long a) g1)))
-      ∙ over-two _ (i + 1) (i + 1 + nodesIn a) a b _
-      ∙ ap (λ (j : ℕ). Forest.tree (nd i kind 0 0 0 0) (plant (i + 1) a (plant (i + 1 + nodesIn a) b Forest.none)) (trees t m j)) place
-  grows (extreme kind s n) i m l w h =
-      let g = h ∙ regroup (node kind 0 0 n 0) (writeSeries s) l in
-      let place : i + 1 + 1 ≡ i + 2 = omega arith in
-      grown t i _ (1 + m) 1 _ (node-there t i _ _ _ _ _ _ g) (rw (w .0)) (omega arith)
-      ∙ ap (nodeOver _ 1) (series-grows s (i + 1) m l (nodes-after t i _ _ _ _ _ _ g))
-      ∙ over-series _ (i + 1) s _
-      ∙ ap (λ (j : ℕ). Forest.tree (nd i kind 0 0 n 0) (plantSeries (i + 1) s) (trees t m j)) place
+grown : (t : List ℕ) (i all m : ℕ) (n : Node) → nodeAt t i ≡ n → all ≡ suc m
+    → trees t all i ≡ nodeOver n (childCount n (kindOf (n .kind))) (trees t m (i + 1))
+unfolding trees childCountAt
+grown t i all m n there long = rw (long, there)
 
--- conditions in a row: all of them, and what follows
-plantAll-first : (cs : Conditions) (j : ℕ) (rest : Forest) → firstTrees (manyOf cs) (plantAll j cs rest) ≡ plantAll j cs Forest.none
-unfolding manyOf plantAll firstTrees
-plantAll-first none j rest = refl
-plantAll-first (more c cs) j rest = plantOf-first (manyOf cs) j c (plantAll (j + nodesOf c) cs rest) ∙ ap (plantOf j c) (plantAll-first cs (j + nodesOf c) rest)
+module _ (t : List ℕ) where
+  node-at : (n : Node) (i : ℕ) (l : List ℕ) → n .number ≡ i → From t i (nodeBytes n ++ l) → nodeAt t i ≡ n
+  unfolding nodeBytes
+  node-at n i l number h =
+      node-there t i (n .kind) (n .selector) (n .children) (n .n) (n .constant) l h
+      ∙ ap (λ (j : ℕ). nd j (n .kind) (n .selector) (n .children) (n .n) (n .constant)) (sym number)
 
-plantAll-other : (cs : Conditions) (j : ℕ) (rest : Forest) → otherTrees (manyOf cs) (plantAll j cs rest) ≡ rest
-unfolding manyOf plantAll otherTrees
-plantAll-other none j rest = refl
-plantAll-other (more c cs) j rest = plantOf-other (manyOf cs) j c (plantAll (j + nodesOf c) cs rest) ∙ plantAll-other cs (j + nodesOf c) rest
+  after-node : (n : Node) (i : ℕ) (l : List ℕ) → From t i (nodeBytes n ++ l) → From t (i + 1) l
+  unfolding nodeBytes
+  after-node n i l h = nodes-after t i (n .kind) (n .selector) (n .children) (n .n) (n .constant) l h
 
-over-all : (n : Node) (j : ℕ) (cs : Conditions) (rest : Forest) → nodeOver n (manyOf cs) (plantAll j cs rest) ≡ Forest.tree n (plantAll j cs Forest.none) rest
-unfolding nodeOver
-over-all n j cs rest = rw (plantAll-first cs j rest, plantAll-other cs j rest)
+  -- Nodes that are numbered from i on and have the children that their kinds take: where their bytes stand, they grow.
+  grows : (f : Forest) (i m : ℕ) (l : List ℕ) → Numbered i f → Sorted f → From t i (nodesBytes (flat f) ++ l)
+      → trees t (size f + m) i ≡ andThen f (trees t m (i + size f))
+  unfolding Numbered Sorted size andThen
+  grows Forest.none i m l numbers kept h =
+      let none-more : 0 + m ≡ m = omega arith in
+      let place : i ≡ i + 0 = omega arith in
+      ap (λ (x : ℕ). trees t x i) none-more ∙ ap (trees t m) place
+  grows (Forest.tree n below rest) i m l numbers kept h =
+      let k = childCount n (kindOf (n .kind)) in
+      let g : From t i (nodeBytes n ++ (nodesBytes (flat below) ++ (nodesBytes (flat rest) ++ l))) =
+      h ∙ ap (λ (bs : List ℕ). bs ++ l) (tree-bytes n below rest) ∙ regroup (nodeBytes n) (nodesBytes (flat below)) (nodesBytes (flat rest)) l in
+      let g1 = after-node n i _ g in
+      let g2 = past t (i + 1) (size below) (nodesBytes (flat below)) (nodesBytes (flat rest) ++ l) (forest-long below) g1 in
+      let at-rest : i + 1 + size below ≡ i + (1 + size below) = omega arith in
+      let place : i + (1 + size below) + size rest ≡ i + (1 + size below + size rest) = omega arith in
+      grown t i _ (size below + (size rest + m)) n (node-at n i _ (numbers .0) g) (omega arith)
+      ∙ ap (nodeOver n k)
+      (grows below (i + 1) (size rest + m) (nodesBytes (flat rest) ++ l) (numbers .1) (kept .1) g1
+      ∙ ap (andThen below)
+      (ap (trees t (size rest + m)) at-rest ∙ grows rest (i + (1 + size below)) m l (numbers .2) (kept .2) (rw at-rest at g2)))
+      ∙ over-below n k _ below _ (kept .0)
+      ∙ ap (λ (j : ℕ). Forest.tree n below (andThen rest (trees t m j))) place
 
-over-condition : (n : Node) (j : ℕ) (c : Condition) (rest : Forest) → nodeOver n 1 (plantOf j c rest) ≡ Forest.tree n (plantOf j c Forest.none) rest
-unfolding nodeOver firstTrees otherTrees
-over-condition n j c rest = rw (plantOf-first 0 j c rest, plantOf-other 0 j c rest)
+-- the bytes of a tree's forest are the tree's
+pub planted-bytes : (form : Form) (c : Condition) (i : ℕ) → WithinOf form c → nodesBytes (flat (plantOf i c Forest.none)) ≡ writeOf c
+unfolding Right Sorted sorts writeAll conditions
+planted-bytes form c i w =
+    written-all form (plantOf i c Forest.none) 1 (rightOf form c i Forest.none w tt) (sortedOf form c i Forest.none w tt) (plantOf-sorts i c Forest.none form w)
+    ∙ ap writeAll (readsOf form c i Forest.none w)
+    ∙ append-nil (writeOf c)
 
-module _ (t : List ℕ) (form : Form) where
-  -- two operands under a node of a known row
-  pair-grows : (n : Node) (i m : ℕ) (a b : Operand) (l : List ℕ) → nodeAt t i ≡ n → childCount n (kindOf (n .kind)) ≡ 2 → Within form a → Within form b
-      → From t (i + 1) (write a ++ (write b ++ l))
-      → trees t (1 + nodesIn a + nodesIn b + m) i ≡ Forest.tree n (plant (i + 1) a (plant (i + 1 + nodesIn a) b Forest.none))
-      (trees t m (i + (1 + nodesIn a + nodesIn b)))
-  pair-grows n i m a b l there count wa wb g =
-      let place : i + 1 + nodesIn a + nodesIn b ≡ i + (1 + nodesIn a + nodesIn b) = omega arith in
-      grown t i _ (nodesIn a + (nodesIn b + m)) 2 n there count (omega arith)
-      ∙ ap (nodeOver n 2) (grows t form a (i + 1) (nodesIn b + m) (write b ++ l) wa g ∙ ap (plant (i + 1) a)
-      (grows t form b (i + 1 + nodesIn a) m l wb (past t (i + 1) (nodesIn a) (write a) (write b ++ l) (operand-long a) g)))
-      ∙ over-two n (i + 1) (i + 1 + nodesIn a) a b _
-      ∙ ap (λ (j : ℕ). Forest.tree n (plant (i + 1) a (plant (i + 1 + nodesIn a) b Forest.none)) (trees t m j)) place
-
-  -- All and Any, once what is below them has grown
-  group-grows : (kind : ℕ) (cs : Conditions) (i m : ℕ) (l : List ℕ) → kindOf kind .children ≡ asWritten
-      → From t i (node kind 0 (manyOf cs) 0 0 ++ writeAll cs ++ l)
-      → (From t (i + 1) (writeAll cs ++ l) → trees t (nodesOfAll cs + m) (i + 1) ≡ plantAll (i + 1) cs (trees t m (i + 1 + nodesOfAll cs)))
-      → trees t (1 + nodesOfAll cs + m) i ≡ Forest.tree (nd i kind 0 (manyOf cs) 0 0) (plantAll (i + 1) cs Forest.none) (trees t m (i + (1 + nodesOfAll cs)))
-  unfolding childCount
-  group-grows kind cs i m l row h below =
-      let g = h ∙ regroup (node kind 0 (manyOf cs) 0 0) (writeAll cs) l in
-      let place : i + 1 + nodesOfAll cs ≡ i + (1 + nodesOfAll cs) = omega arith in
-      grown t i _ (nodesOfAll cs + m) (manyOf cs) _ (node-there t i _ _ _ _ _ _ g) (rw row) (omega arith)
-      ∙ ap (nodeOver _ (manyOf cs)) (below (nodes-after t i _ _ _ _ _ _ g))
-      ∙ over-all _ (i + 1) cs _
-      ∙ ap (λ (j : ℕ). Forest.tree (nd i kind 0 (manyOf cs) 0 0) (plantAll (i + 1) cs Forest.none) (trees t m j)) place
-
-  mutual
-    unfolding WithinOf writeOf nodesOf plantOf nodeOver firstTrees otherTrees kindOf kinds childCount
-
-    pub growsOf : (c : Condition) (i m : ℕ) (l : List ℕ) → WithinOf form c → From t i (writeOf c ++ l)
-        → trees t (nodesOf c + m) i ≡ plantOf i c (trees t m (i + nodesOf c))
-    growsOf (compare kind a b) i m l w h =
-        let g = h ∙ regroup-two (node kind 0 0 0 0) (write a) (write b) l in
-        pair-grows _ i m a b l (node-there t i _ _ _ _ _ _ g) (rw (w .0)) (w .1) (w .2) (nodes-after t i _ _ _ _ _ _ g)
-    growsOf (cross kind a b) i m l w h =
-        let g = h ∙ regroup-two (node kind 0 0 0 0) (write a) (write b) l in
-        pair-grows _ i m a b l (node-there t i _ _ _ _ _ _ g) (rw (w .0)) (w .1) (w .2) (nodes-after t i _ _ _ _ _ _ g)
-    growsOf (between x a b) i m l w h =
-        let g = h ∙ regroup-three (node 24 0 0 0 0) (write x) (write a) (write b) l in
-        let g1 = nodes-after t i _ _ _ _ _ _ g in
-        let g2 = past t (i + 1) (nodesIn x) (write x) (write a ++ (write b ++ l)) (operand-long x) g1 in
-        let g3 = past t (i + 1 + nodesIn x) (nodesIn a) (write a) (write b ++ l) (operand-long a) g2 in
-        let place : i + 1 + nodesIn x + nodesIn a + nodesIn b ≡ i + (1 + nodesIn x + nodesIn a + nodesIn b) = omega arith in
-        grown t i _ (nodesIn x + (nodesIn a + (nodesIn b + m))) 3 _ (node-there t i _ _ _ _ _ _ g) refl (omega arith)
-        ∙ ap (nodeOver _ 3)
-        (grows t form x (i + 1) (nodesIn a + (nodesIn b + m)) (write a ++ (write b ++ l)) (w .0) g1
-        ∙ ap (plant (i + 1) x)
-        (grows t form a (i + 1 + nodesIn x) (nodesIn b + m) (write b ++ l) (w .1) g2
-        ∙ ap (plant (i + 1 + nodesIn x) a) (grows t form b (i + 1 + nodesIn x + nodesIn a) m l (w .2) g3)))
-        ∙ over-three _ (i + 1) (i + 1 + nodesIn x) (i + 1 + nodesIn x + nodesIn a) x a b _
-        ∙ ap (λ (j : ℕ). Forest.tree (nd i 24 0 0 0 0) (plant (i + 1) x (plant (i + 1 + nodesIn x) a (plant (i + 1 + nodesIn x + nodesIn a) b Forest.none)))
-        (trees t m j)) place
-    growsOf (trend kind a n) i m l w h =
-        let g = h ∙ regroup (node kind 0 0 n 0) (write a) l in
-        let place : i + 1 + nodesIn a ≡ i + (1 + nodesIn a) = omega arith in
-        grown t i _ (nodesIn a + m) 1 _ (node-there t i _ _ _ _ _ _ g) (rw (w .0)) (omega arith)
-        ∙ ap (nodeOver _ 1) (grows t form a (i + 1) m l (w .2) (nodes-after t i _ _ _ _ _ _ g))
-        ∙ over-one _ (i + 1) a _
-        ∙ ap (λ (j : ℕ). Forest.tree (nd i kind 0 0 n 0) (plant (i + 1) a Forest.none) (trees t m j)) place
-    growsOf (every cs) i m l w h = group-grows 27 cs i m l refl h (λ g. growsAll cs (i + 1) m l w g)
-    growsOf (any cs) i m l w h = group-grows 28 cs i m l refl h (λ g. growsAll cs (i + 1) m l w g)
-    growsOf (negated c) i m l w h =
-        let g = h ∙ regroup (node 29 0 0 0 0) (writeOf c) l in
-        let place : i + 1 + nodesOf c ≡ i + (1 + nodesOf c) = omega arith in
-        grown t i _ (nodesOf c + m) 1 _ (node-there t i _ _ _ _ _ _ g) refl (omega arith)
-        ∙ ap (nodeOver _ 1) (growsOf c (i + 1) m l w (nodes-after t i _ _ _ _ _ _ g))
-        ∙ over-condition _ (i + 1) c _
-        ∙ ap (λ (j : ℕ). Forest.tree (nd i 29 0 0 0 0) (plantOf (i + 1) c Forest.none) (trees t m j)) place
-    growsOf (inPosition want) i m l w h = grown t i _ m 0 _ (node-there t i _ _ _ _ _ l h) refl (omega arith)
-    growsOf (barsSince s n) i m l w h = grown t i _ m 0 _ (node-there t i _ _ _ _ _ l h) refl (omega arith)
-
-    pub growsAll : (cs : Conditions) (i m : ℕ) (l : List ℕ) → WithinAll form cs → From t i (writeAll cs ++ l)
-        → trees t (nodesOfAll cs + m) i ≡ plantAll i cs (trees t m (i + nodesOfAll cs))
-    growsAll none i m l w h =
-        let zero-m : 0 + m ≡ m = omega arith in
-        let place : i ≡ i + 0 = omega arith in
-        ap (λ (x : ℕ). trees t x i) zero-m ∙ ap (trees t m) place
-    growsAll (more c cs) i m l w h =
-        let g = h ∙ append-assoc (writeOf c) (writeAll cs) l in
-        let many : nodesOf c + nodesOfAll cs + m ≡ nodesOf c + (nodesOfAll cs + m) = omega arith in
-        let place : i + nodesOf c + nodesOfAll cs ≡ i + (nodesOf c + nodesOfAll cs) = omega arith in
-        ap (λ (x : ℕ). trees t x i) many
-        ∙ growsOf c i (nodesOfAll cs + m) (writeAll cs ++ l) (w .0) g
-        ∙ ap (plantOf i c) (growsAll cs (i + nodesOf c) m l (w .1) (past t i (nodesOf c) (writeOf c) (writeAll cs ++ l) (condition-long c) g) ∙ ap
-        (λ (j : ℕ). plantAll (i + nodesOf c) cs (trees t m j)) place)
+pub growsOf : (t : List ℕ) (form : Form) (c : Condition) (i : ℕ) (l : List ℕ) → WithinOf form c → From t i (writeOf c ++ l)
+    → trees t (nodesOf c) i ≡ plantOf i c Forest.none
+unfolding Numbered Sorted size trees
+growsOf t form c i l w h =
+    let f = plantOf i c Forest.none in
+    let p = condition-nodes c i Forest.none in
+    let many : nodesOf c ≡ size f + 0 = omega (arith, p .many) in
+    ap (λ (m : ℕ). trees t m i) many
+    ∙ grows t f i 0 l (p .numbers tt) (sortedOf form c i Forest.none w tt) (h ∙ ap (λ (bs : List ℕ). bs ++ l) (sym (planted-bytes form c i w)))
+    ∙ then-none f

@@ -20,7 +20,7 @@ use Rattle.table.specs.Forest.{Forest, firstTrees, otherTrees, nodeOver, trees,
 use Rattle.table.specs.Forest as Forest
 use Rattle.table.specs.Nesting.{deeper}
 use Rattle.table.specs.Reach.{weigh, ownBack, forestReach, treeReach, farAt}
-use Rattle.table.specs.Trees.{Condition, compare, cross, between, trend, every, any, negated, inPosition, barsSince, reachOf, reachOfAll}
+use Rattle.table.specs.Trees.{Condition, reachOf, reachOfAll}
 use Rattle.table.specs.Reading.{conditions, firstOf, present, treeOf}
 use Rattle.table.specs.Writing.{nodesOf, Short, absent, given, nodesOfShort, writeShort, shortOf}
 use Rattle.table.specs.Limits.{WithinOf, ShortWithin}
@@ -28,7 +28,7 @@ use Rattle.table.specs.Laws.Kinds.{over-series-one}
 use Rattle.roundtrip.specs.Laws.Reach.{all-reach}
 use Rattle.roundtrip.specs.Laws.Writing.{Right}
 use Rattle.table.specs.Laws.Accepted.{right-node}
-use Rattle.roundtrip.specs.Laws.WrittenForest.{plantOf}
+use Rattle.roundtrip.specs.Laws.WrittenForest.{plantOf, some-nodes}
 use Rattle.roundtrip.specs.Laws.WrittenNodes.{From}
 use Rattle.roundtrip.specs.Laws.WrittenGrows.{growsOf}
 use Rattle.roundtrip.specs.Laws.WrittenForestKept.{rightOf, sortedOf, plantOf-sorts}
@@ -110,18 +110,6 @@ wrong-two t (suc a) b i h g =
 
 -- ---- one tree, or none
 
-pub some-nodes : (c : Condition) → nodesOf c ≡ 0 → ⊥
-unfolding nodesOf
-some-nodes (compare k a b) h = omega arith
-some-nodes (cross k a b) h = omega arith
-some-nodes (between x a b) h = omega arith
-some-nodes (trend k a n) h = omega arith
-some-nodes (every cs) h = omega arith
-some-nodes (any cs) h = omega arith
-some-nodes (negated c) h = omega arith
-some-nodes (inPosition w) h = omega arith
-some-nodes (barsSince s n) h = omega arith
-
 one-sort : (form : Form) (c : Condition) (i : ℕ) → WithinOf form c → sorts (plantOf i c Forest.none) ≡ 2 ∷ []
 unfolding sorts
 one-sort form c i w = plantOf-sorts i c Forest.none form w
@@ -142,9 +130,7 @@ module _ (t : List ℕ) (form : Form) where
   pub short-grows : (s : Short) (i : ℕ) (l : List ℕ) → ShortWithin form s → From t i (writeShort s ++ l) → trees t (nodesOfShort s) i ≡ plantShort i s
   unfolding ShortWithin writeShort nodesOfShort plantShort trees
   short-grows absent i l w h = refl
-  short-grows (given c) i l w h =
-      let many : nodesOf c ≡ nodesOf c + 0 = omega arith in
-      ap (λ (m : ℕ). trees t m i) many ∙ growsOf t form c i 0 l (w .fields) h
+  short-grows (given c) i l w h = growsOf t form c i l (w .fields) h
 
 short-right : (form : Form) (s : Short) (i : ℕ) → ShortWithin form s → Right form (plantShort i s)
 unfolding ShortWithin plantShort Right
