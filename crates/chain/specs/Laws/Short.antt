@@ -21,10 +21,10 @@ use Rattle.roundtrip.specs.Laws.AcceptedWithin.{tree-within}
 use Rattle.rules.specs.declared.PositionState.{PositionState}
 use Rattle.rules.specs.Meaning.{newest, holds}
 use Rattle.chain.specs.Missing.{Numbering, inTable}
-use Rattle.chain.specs.Chain.{Line, chain, firstWith}
+use Rattle.chain.specs.Chain.{ChainLine, chain, firstWith}
 use Rattle.chain.specs.Explained.{explanation}
 
-picked : (b : Bool) (xs ys : List Line) (m n : ℕ) → length xs ≤ m → length ys ≤ n → length (cond b xs ys) ≤ max m n
+picked : (b : Bool) (xs ys : List ChainLine) (m n : ℕ) → length xs ≤ m → length ys ≤ n → length (cond b xs ys) ≤ max m n
 picked true xs ys m n p q = omega arith
 picked false xs ys m n p q = omega arith
 
