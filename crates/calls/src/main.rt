@@ -38,13 +38,13 @@ fn lend(
 ) {
     rooms::set_size(sizes, word(line, 0), word(line, 1));
     match word(line, 0) {
-        0 => rooms::fill(rows, line),
-        1 => rooms::fill(equity, line),
-        2 => rooms::fill(trades, line),
-        7 => rooms::fill(settings, line),
-        8 => rooms::fill(state, line),
-        9 => rooms::fill(metrics, line),
-        0x1f => rooms::fill_bytes(table, line),
+        0 => text::rooms::fill(rows, line),
+        1 => text::rooms::fill(equity, line),
+        2 => text::rooms::fill(trades, line),
+        7 => text::rooms::fill(settings, line),
+        8 => text::rooms::fill(state, line),
+        9 => text::rooms::fill(metrics, line),
+        0x1f => text::rooms::fill_bytes(table, line),
         _ => rooms::fill_list(lists, line),
     }
 }
@@ -147,7 +147,7 @@ fn take_next(
     metrics: &mut [u64],
 ) -> bool {
     let n = text::read_line(room);
-    let line = rooms::part(room, 0, n);
+    let line = text::rooms::part(room, 0, n);
     take(
         line,
         sizes,

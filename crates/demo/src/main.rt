@@ -17,10 +17,10 @@ use execution::Terms;
 use execution::level::Entries;
 use execution::level::OrderType;
 use metrics::Metrics;
+use needed::depth::DepthAnswer;
 use records::settings::Settings;
 use records::state::State;
 use steps::Translated;
-use table::depth::DepthAnswer;
 use table::trees::Tree;
 
 // The paper's worked example: entry CrossAbove(slot 0, slot 1); exit Lt(close, Prev(close, 2)). K is 2.
@@ -289,7 +289,7 @@ fn say_depth() {
     report::say(
         b"rule table      entry CrossAbove(slot 0, slot 1), exit Lt(close, Prev(close, 2))\n",
     );
-    match table::depth::depth(&TABLE, 0) {
+    match needed::depth::depth(&TABLE, 0) {
         DepthAnswer::Refuses(refusal) => say_refusal(refusal.number, refusal.place),
         DepthAnswer::Needs { rows, row, window } => {
             report::say_count(b"accepted        its window is ", rows, b" rows deep\n");

@@ -12,7 +12,7 @@ use words::refusal::Refusal;
 ghost use mathlib.Core.Path.{_≡_};
 ghost use Rattle.metrics.specs.Records.{equityOf, pnlsOf};
 ghost use Rattle.metrics.specs.declared.Answer.the-variants.{Refused};
-ghost use Rattle.metrics.specs.Figures.{finalEquity, metricsOf, notWhole, outcome, computed, wordsOf};
+ghost use Rattle.metrics.specs.Figures.{finalEquity, metricsOf, notWhole, outcome, computed, figureWords};
 
 // Summary performance metrics.
 pub struct Metrics {
@@ -99,7 +99,7 @@ pub fn compute(initial: f64, equity: &[u64], trades: &[u64]) -> Answer
 
 // The figures as words, in the Rust record's order.
 pub fn words_of(m: Metrics) -> [u64; METRIC_WORDS]
-    ensures { λ r. ⌜ r ≡ wordsOf m ⌝ }
+    ensures { λ r. ⌜ r ≡ figureWords m ⌝ }
 {
     [
         floats::word_of(m.pnl),
