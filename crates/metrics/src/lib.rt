@@ -1,7 +1,7 @@
 // The figures of a run: metrics.rs over lent words, for any number of equity points and trades.
+pub mod columns;
 pub mod drawdown;
 pub mod quotient;
-pub mod records;
 pub mod returns;
 pub mod trades;
 
@@ -56,11 +56,11 @@ fn not_whole() -> Answer
 fn final_equity(initial: f64, equity: &[u64]) -> f64
     ensures { λ r. ⌜ r ≡ finalEquity initial (equityOf (now (equity .entry))) ⌝ }
 {
-    let n = records::point_count(equity);
+    let n = columns::point_count(equity);
     if n == 0 {
         return initial;
     }
-    records::equity_at(equity, n - 1)
+    columns::equity_at(equity, n - 1)
 }
 
 // The figures of the whole records of two lists; what is left over at the end of a list is not read.
@@ -80,7 +80,7 @@ pub fn metrics_of(initial: f64, equity: &[u64], trades: &[u64]) -> Metrics
         max_drawdown: max_drawdown,
         win_rate: trades::win_rate(trades),
         profit_factor: trades::profit_factor(trades),
-        num_trades: records::trade_count(trades) as u64,
+        num_trades: columns::trade_count(trades) as u64,
     }
 }
 

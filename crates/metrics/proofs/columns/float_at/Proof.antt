@@ -5,8 +5,8 @@ use native.Mathlib.Omega.{arith}
 use lib.ListN.{length}
 use Rattle.metrics.specs.Laws.Columns.{in-record, column-at, column-past}
 use borrow.Author.Needs.{needs}
-use Rattle.metrics.proofs.records.float_at.Statement.{statement}
-use Rattle.metrics.proofs.records.float_at.Tie as tie
+use Rattle.metrics.proofs.columns.float_at.Statement.{statement}
+use Rattle.metrics.proofs.columns.float_at.Tie as tie
 
 there : (c : tie.Then1) → let a = c .before .before .args in a .width * a .i + a .at < length (a .words .now)
 there c =
