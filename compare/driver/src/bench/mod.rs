@@ -1,6 +1,7 @@
 //! `driver bench`: the C interface against the Rust original, on the same bars in one run, as tables in markdown.
 
 mod day;
+mod dump;
 mod engine;
 mod figures;
 mod moving;
@@ -15,6 +16,7 @@ pub fn bench() -> bool {
     engine::by_slots();
     day::bench();
     moving::bench();
+    dump::bench();
     parts::bench();
     rules::bench();
     figures::bench();
