@@ -17,6 +17,8 @@ pub(crate) const STATE: usize = 8;
 
 pub(crate) const METRICS: usize = 9;
 
+pub(crate) const AREA: usize = 14;
+
 pub(crate) const TABLE: usize = 31;
 
 // The bytes of the largest list of steps. The four lists stand one after another.

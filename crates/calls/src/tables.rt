@@ -71,7 +71,7 @@ fn wide(byte: u8) -> u64 {
 }
 
 // Writes the bytes, a space before each eight of them, and a newline.
-fn write_bytes(bytes: &[u8]) {
+pub(crate) fn write_bytes(bytes: &[u8]) {
     let mut i = 0;
     while i < bytes.len() {
         if i % 8 == 0 {

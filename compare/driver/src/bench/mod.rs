@@ -1,6 +1,7 @@
 //! `driver bench`: the C interface against the Rust original, on the same bars in one run, as tables in markdown.
 
 mod day;
+mod dump;
 mod engine;
 mod figures;
 mod looks;
@@ -13,11 +14,12 @@ mod timing;
 /// A table, under the name that picks it.
 type Part = (&'static str, fn());
 
-const PARTS: [Part; 8] = [
+const PARTS: [Part; 9] = [
     ("bar", engine::bench),
     ("slots", engine::by_slots),
     ("day", day::bench),
     ("moving", moving::bench),
+    ("dump", dump::bench),
     ("parts", parts::bench),
     ("rules", rules::bench),
     ("looks", looks::bench),
