@@ -10,7 +10,9 @@
  * What a caller has to see to is what the types say and no more: each pointer points at as many elements as the length
  * behind it says, words lie on 8-byte boundaries, and what is lent for writing overlaps nothing else. A list or room of length 0 is
  * empty and its pointer is not looked at: it may be null. A pointer with no length behind it (nodes, rows, bytes, count,
- * used, answer, visits, done) points at one word and is never null. Any content of any room gets an answer.
+ * used, answer, visits, done) points at one word and is never null. Any content of any room gets an answer. Beside that: the stack
+ * that a call takes (docs/PERFORMANCE.md, "Footprint"), and floats as a C program begins with them: rounded to nearest, the numbers below
+ * the normal ones kept and not flushed to zero. No call keeps memory of its own: calls over different rooms may run at the same time.
  *
  * docs/INTERFACE.md has the records, rooms and calls in full, docs/RULES.md what a rule, a fill and each figure mean.
  */
@@ -103,6 +105,8 @@ enum {
 #define YSH_TRADE_WORDS 10
 #define YSH_METRIC_WORDS 9
 #define YSH_STEP_BYTES(nodes) (64 * (nodes))      /* room for the steps of a tree of so many nodes, in bytes */
+#define YSH_DUMP_BYTES(slots, depth) (256 + (depth) * 8 * (7 + (slots)))   /* of a dump, in bytes: what ysh_dump_bytes answers for a K
+                                                   * and a D in range, for an area that is laid out by the compiler */
 
 /* ---- limits */
 
@@ -140,6 +144,7 @@ enum {
     YSH_PREV = 4,               /* its operand, n bars back */
     YSH_ADD = 5, YSH_SUB = 6, YSH_MUL = 7,
     YSH_DIV = 8,                /* a NaN where the divisor is nearer to 0 than 2^-52 */
+    YSH_HIGHEST = 9, YSH_LOWEST = 10,   /* of the last n bars, over one YSH_PRICE or YSH_REF; in a table of version 2 */
     /* conditions */
     YSH_GT = 16, YSH_LT = 17, YSH_GE = 18, YSH_LE = 19,
     YSH_EQ = 20, YSH_NE = 21,   /* nearer than 2^-52, or not */
@@ -165,6 +170,7 @@ enum { YSH_SINCE_GT, YSH_SINCE_LT, YSH_SINCE_GE, YSH_SINCE_LE, YSH_SINCE_EQ };
 /* ---- the kinds of a step that are no node's, or mean another thing there */
 
 enum {
+    YSH_STEP_HIGHEST_SLOT = 11, YSH_STEP_LOWEST_SLOT = 12, /* as YSH_HIGHEST and YSH_LOWEST, which are over a price in a step */
     YSH_STEP_YES = 27, YSH_STEP_NO = 28,                  /* sets the answer */
     YSH_STEP_JUMP_AT_NO = 32, YSH_STEP_JUMP_AT_YES = 33   /* passes over as many steps as bytes 2 and 3 say */
 };
@@ -371,7 +377,7 @@ uint64_t ysh_rule(const uint8_t *table, size_t table_len, uint64_t tree, const u
 enum {
     YSH_LINE_WORDS = 8,
     YSH_MOST_LINES = 32,
-    YSH_LINES_ROOM = 10,        /* the lines' number, as a room that 10 names */
+    YSH_LINES_ROOM = YSH_ROOM_LINES,
     YSH_WHY_LINK = 0,           /* All, Any or Not: the next line is the child that decided; where there is none, no child decided alone */
     YSH_WHY_VALUES = 1,         /* the values compared: two; a cross's now, then before; Rising and Falling now, then; value, low, high */
     YSH_WHY_MISSING = 2,        /* the first missing leaf: its node, and how many bars back it was looked at */

@@ -7,6 +7,7 @@
 """
 import os
 
+import dumps
 import extremes
 import refusals
 import roots
@@ -32,7 +33,8 @@ def store_lines(program, given, told):
 
 def calls():
     parts = (tables.calls(), extremes.calls(), rust.rules(), rust.runs("runs"), rust.runs("orders"), rust.kept_orders(),
-             rust.runs("run_long"), rust.days("runs"), rust.days("orders"), refusals.calls(rust.figures_of), rust.figures(), roots.calls(), rust.roots())
+             rust.runs("run_long"), rust.days("runs"), rust.days("orders"), refusals.calls(rust.figures_of), dumps.calls(),
+             rust.figures(), roots.calls(), rust.roots())
     listed = [pair for part in parts for pair in part]
     given = "".join(line + "\n" for line, _ in listed)
     told = "".join(answer + "\n" for _, answer in listed if answer is not None)

@@ -15,6 +15,11 @@ pub const STATE_WORDS: usize = 22;
 pub const POINT_WORDS: usize = 2;
 pub const TRADE_WORDS: usize = 10;
 pub const METRIC_WORDS: usize = 9;
+/// The most nodes of a table.
+pub const MOST_NODES: usize = 256;
+/// The most lines of an explanation, and the words of one.
+pub const MOST_LINES: usize = 32;
+pub const LINE_WORDS: usize = 8;
 pub const STEP_BYTES: usize = 16;
 /// Bytes of step room that a node takes.
 pub const NODE_STEP_BYTES: usize = 64;
@@ -84,174 +89,209 @@ pub struct Finish<'a> {
     pub metrics: &'a mut [u64],
 }
 
-mod c {
-    extern "C" {
-        pub fn ysh_check(table: *const u8, table_len: usize, nodes: *mut u64, rows: *mut u64) -> u64;
-        pub fn ysh_depth(table: *const u8, table_len: usize, lookback: u64, rows: *mut u64, bytes: *mut u64) -> u64;
-        pub fn ysh_silent(
-            table: *const u8,
-            table_len: usize,
-            rows: u64,
-            list: *mut u64,
-            list_len: usize,
-            count: *mut u64,
-        ) -> u64;
-        pub fn ysh_translate(
-            table: *const u8,
-            table_len: usize,
-            tree: u64,
-            room: *mut u8,
-            room_len: usize,
-            used: *mut u64,
-        ) -> u64;
-        pub fn ysh_fresh(settings: *const u64, settings_len: usize, state: *mut u64, state_len: usize) -> u64;
-        pub fn ysh_step(
-            settings: *const u64,
-            settings_len: usize,
-            state: *mut u64,
-            state_len: usize,
-            bar: *const u64,
-            bar_len: usize,
-            rows: *mut u64,
-            rows_len: usize,
-            equity: *mut u64,
-            equity_len: usize,
-            trades: *mut u64,
-            trades_len: usize,
-            entry: *const u8,
-            entry_len: usize,
-            exit: *const u8,
-            exit_len: usize,
-            short_entry: *const u8,
-            short_entry_len: usize,
-            short_exit: *const u8,
-            short_exit_len: usize,
-        ) -> u64;
-        pub fn ysh_steps(
-            settings: *const u64,
-            settings_len: usize,
-            state: *mut u64,
-            state_len: usize,
-            bars: *const u64,
-            bars_len: usize,
-            rows: *mut u64,
-            rows_len: usize,
-            equity: *mut u64,
-            equity_len: usize,
-            trades: *mut u64,
-            trades_len: usize,
-            entry: *const u8,
-            entry_len: usize,
-            exit: *const u8,
-            exit_len: usize,
-            short_entry: *const u8,
-            short_entry_len: usize,
-            short_exit: *const u8,
-            short_exit_len: usize,
-            done: *mut u64,
-        ) -> u64;
-        pub fn ysh_finish(
-            settings: *const u64,
-            settings_len: usize,
-            state: *mut u64,
-            state_len: usize,
-            rows: *const u64,
-            rows_len: usize,
-            equity: *mut u64,
-            equity_len: usize,
-            trades: *mut u64,
-            trades_len: usize,
-            metrics: *mut u64,
-            metrics_len: usize,
-        ) -> u64;
-        pub fn ysh_rule(
-            table: *const u8,
-            table_len: usize,
-            tree: u64,
-            rows: *const u64,
-            rows_len: usize,
-            qty: u64,
-            entered: u64,
-            entry_bar: u64,
-            bars_seen: u64,
-            answer: *mut u64,
-        ) -> u64;
-        pub fn ysh_run(
-            steps: *const u8,
-            steps_len: usize,
-            rows: *const u64,
-            rows_len: usize,
-            slots: u64,
-            depth: u64,
-            qty: u64,
-            entered: u64,
-            entry_bar: u64,
-            bars_seen: u64,
-            answer: *mut u64,
-            visits: *mut u64,
-        ) -> u64;
-        pub fn ysh_metrics(
-            initial: u64,
-            equity: *const u64,
-            equity_len: usize,
-            trades: *const u64,
-            trades_len: usize,
-            metrics: *mut u64,
-            metrics_len: usize,
-        ) -> u64;
-        pub fn ysh_root(word: u64) -> u64;
-        pub fn ysh_dump_bytes(slots: u64, depth: u64) -> u64;
-        pub fn ysh_dump(
-            settings: *const u64,
-            settings_len: usize,
-            state: *const u64,
-            state_len: usize,
-            rows: *const u64,
-            rows_len: usize,
-            area: *mut u8,
-            area_len: usize,
-            from: u64,
-            upto: u64,
-        ) -> u64;
-        pub fn ysh_restore(
-            settings: *const u64,
-            settings_len: usize,
-            state: *mut u64,
-            state_len: usize,
-            image: *const u8,
-            image_len: usize,
-            rows: *mut u64,
-            rows_len: usize,
-        ) -> u64;
-    }
+/// The calls as C has them: every parameter is a word. With the feature `stack` each runs on a stack of its own, which is measured.
+macro_rules! c_calls {
+    ($(fn $name:ident($($word:ident: $type:ty),* $(,)?) -> u64;)*) => {
+        mod c {
+            extern "C" {
+                $(pub fn $name($($word: $type),*) -> u64;)*
+            }
+        }
+
+        #[cfg(feature = "stack")]
+        mod painted {
+            $(pub unsafe fn $name($($word: $type),*) -> u64 {
+                crate::painted::call(stringify!($name), super::c::$name as *const (), &[$($word as u64),*])
+            })*
+        }
+    };
 }
+
+c_calls! {
+    fn ysh_check(table: *const u8, table_len: usize, nodes: *mut u64, rows: *mut u64) -> u64;
+    fn ysh_depth(table: *const u8, table_len: usize, lookback: u64, rows: *mut u64, bytes: *mut u64) -> u64;
+    fn ysh_silent(
+        table: *const u8,
+        table_len: usize,
+        rows: u64,
+        list: *mut u64,
+        list_len: usize,
+        count: *mut u64,
+    ) -> u64;
+    fn ysh_translate(
+        table: *const u8,
+        table_len: usize,
+        tree: u64,
+        room: *mut u8,
+        room_len: usize,
+        used: *mut u64,
+    ) -> u64;
+    fn ysh_fresh(settings: *const u64, settings_len: usize, state: *mut u64, state_len: usize) -> u64;
+    fn ysh_step(
+        settings: *const u64,
+        settings_len: usize,
+        state: *mut u64,
+        state_len: usize,
+        bar: *const u64,
+        bar_len: usize,
+        rows: *mut u64,
+        rows_len: usize,
+        equity: *mut u64,
+        equity_len: usize,
+        trades: *mut u64,
+        trades_len: usize,
+        entry: *const u8,
+        entry_len: usize,
+        exit: *const u8,
+        exit_len: usize,
+        short_entry: *const u8,
+        short_entry_len: usize,
+        short_exit: *const u8,
+        short_exit_len: usize,
+    ) -> u64;
+    fn ysh_steps(
+        settings: *const u64,
+        settings_len: usize,
+        state: *mut u64,
+        state_len: usize,
+        bars: *const u64,
+        bars_len: usize,
+        rows: *mut u64,
+        rows_len: usize,
+        equity: *mut u64,
+        equity_len: usize,
+        trades: *mut u64,
+        trades_len: usize,
+        entry: *const u8,
+        entry_len: usize,
+        exit: *const u8,
+        exit_len: usize,
+        short_entry: *const u8,
+        short_entry_len: usize,
+        short_exit: *const u8,
+        short_exit_len: usize,
+        done: *mut u64,
+    ) -> u64;
+    fn ysh_finish(
+        settings: *const u64,
+        settings_len: usize,
+        state: *mut u64,
+        state_len: usize,
+        rows: *const u64,
+        rows_len: usize,
+        equity: *mut u64,
+        equity_len: usize,
+        trades: *mut u64,
+        trades_len: usize,
+        metrics: *mut u64,
+        metrics_len: usize,
+    ) -> u64;
+    fn ysh_rule(
+        table: *const u8,
+        table_len: usize,
+        tree: u64,
+        rows: *const u64,
+        rows_len: usize,
+        qty: u64,
+        entered: u64,
+        entry_bar: u64,
+        bars_seen: u64,
+        answer: *mut u64,
+    ) -> u64;
+    fn ysh_run(
+        steps: *const u8,
+        steps_len: usize,
+        rows: *const u64,
+        rows_len: usize,
+        slots: u64,
+        depth: u64,
+        qty: u64,
+        entered: u64,
+        entry_bar: u64,
+        bars_seen: u64,
+        answer: *mut u64,
+        visits: *mut u64,
+    ) -> u64;
+    fn ysh_why(
+        table: *const u8,
+        table_len: usize,
+        tree: u64,
+        rows: *const u64,
+        rows_len: usize,
+        qty: u64,
+        entered: u64,
+        entry_bar: u64,
+        bars_seen: u64,
+        lines: *mut u64,
+        lines_len: usize,
+        count: *mut u64,
+    ) -> u64;
+    fn ysh_metrics(
+        initial: u64,
+        equity: *const u64,
+        equity_len: usize,
+        trades: *const u64,
+        trades_len: usize,
+        metrics: *mut u64,
+        metrics_len: usize,
+    ) -> u64;
+    fn ysh_root(word: u64) -> u64;
+    fn ysh_dump_bytes(slots: u64, depth: u64) -> u64;
+    fn ysh_dump(
+        settings: *const u64,
+        settings_len: usize,
+        state: *const u64,
+        state_len: usize,
+        rows: *const u64,
+        rows_len: usize,
+        area: *mut u8,
+        area_len: usize,
+        from: u64,
+        upto: u64,
+    ) -> u64;
+    fn ysh_restore(
+        settings: *const u64,
+        settings_len: usize,
+        state: *mut u64,
+        state_len: usize,
+        image: *const u8,
+        image_len: usize,
+        rows: *mut u64,
+        rows_len: usize,
+    ) -> u64;
+}
+
+#[cfg(not(feature = "stack"))]
+use c as with;
+#[cfg(feature = "stack")]
+use painted as with;
 
 // Each pointer below is a slice's, with its length beside it; slices lent for writing overlap nothing, as Rust has it.
 
 pub fn check(table: &[u8], nodes: &mut u64, rows: &mut u64) -> u64 {
-    unsafe { c::ysh_check(table.as_ptr(), table.len(), nodes, rows) }
+    unsafe { with::ysh_check(table.as_ptr(), table.len(), nodes, rows) }
 }
 
 pub fn depth(table: &[u8], lookback: u64, rows: &mut u64, bytes: &mut u64) -> u64 {
-    unsafe { c::ysh_depth(table.as_ptr(), table.len(), lookback, rows, bytes) }
+    unsafe { with::ysh_depth(table.as_ptr(), table.len(), lookback, rows, bytes) }
 }
 
 pub fn silent(table: &[u8], rows: u64, list: &mut [u64], count: &mut u64) -> u64 {
-    unsafe { c::ysh_silent(table.as_ptr(), table.len(), rows, list.as_mut_ptr(), list.len(), count) }
+    unsafe { with::ysh_silent(table.as_ptr(), table.len(), rows, list.as_mut_ptr(), list.len(), count) }
 }
 
 pub fn translate(table: &[u8], tree: u64, room: &mut [u8], used: &mut u64) -> u64 {
-    unsafe { c::ysh_translate(table.as_ptr(), table.len(), tree, room.as_mut_ptr(), room.len(), used) }
+    unsafe { with::ysh_translate(table.as_ptr(), table.len(), tree, room.as_mut_ptr(), room.len(), used) }
 }
 
 pub fn fresh(settings: &[u64], state: &mut [u64]) -> u64 {
-    unsafe { c::ysh_fresh(settings.as_ptr(), settings.len(), state.as_mut_ptr(), state.len()) }
+    unsafe { with::ysh_fresh(settings.as_ptr(), settings.len(), state.as_mut_ptr(), state.len()) }
 }
 
 pub fn step(with: Step) -> u64 {
     let [entry, exit, short_entry, short_exit] = with.lists;
     unsafe {
-        c::ysh_step(
+        with::ysh_step(
             with.settings.as_ptr(),
             with.settings.len(),
             with.state.as_mut_ptr(),
@@ -280,7 +320,7 @@ pub fn step(with: Step) -> u64 {
 pub fn steps(with: Step, done: &mut u64) -> u64 {
     let [entry, exit, short_entry, short_exit] = with.lists;
     unsafe {
-        c::ysh_steps(
+        with::ysh_steps(
             with.settings.as_ptr(),
             with.settings.len(),
             with.state.as_mut_ptr(),
@@ -308,7 +348,7 @@ pub fn steps(with: Step, done: &mut u64) -> u64 {
 
 pub fn finish(with: Finish) -> u64 {
     unsafe {
-        c::ysh_finish(
+        with::ysh_finish(
             with.settings.as_ptr(),
             with.settings.len(),
             with.state.as_mut_ptr(),
@@ -327,7 +367,7 @@ pub fn finish(with: Finish) -> u64 {
 
 pub fn rule(table: &[u8], tree: u64, rows: &[u64], at: Position, answer: &mut u64) -> u64 {
     unsafe {
-        c::ysh_rule(
+        with::ysh_rule(
             table.as_ptr(),
             table.len(),
             tree,
@@ -352,7 +392,7 @@ pub fn run(
     visits: &mut u64,
 ) -> u64 {
     unsafe {
-        c::ysh_run(
+        with::ysh_run(
             steps.as_ptr(),
             steps.len(),
             rows.as_ptr(),
@@ -369,9 +409,29 @@ pub fn run(
     }
 }
 
+/// The chain of a rule's answer as lines, and how many there are.
+pub fn why(table: &[u8], tree: u64, rows: &[u64], at: Position, lines: &mut [u64], count: &mut u64) -> u64 {
+    unsafe {
+        with::ysh_why(
+            table.as_ptr(),
+            table.len(),
+            tree,
+            rows.as_ptr(),
+            rows.len(),
+            at.qty,
+            at.entered,
+            at.entry_bar,
+            at.bars_seen,
+            lines.as_mut_ptr(),
+            lines.len(),
+            count,
+        )
+    }
+}
+
 pub fn metrics(initial: u64, equity: &[u64], trades: &[u64], metrics: &mut [u64]) -> u64 {
     unsafe {
-        c::ysh_metrics(
+        with::ysh_metrics(
             initial,
             equity.as_ptr(),
             equity.len(),
@@ -384,17 +444,17 @@ pub fn metrics(initial: u64, equity: &[u64], trades: &[u64], metrics: &mut [u64]
 }
 
 pub fn root(word: u64) -> u64 {
-    unsafe { c::ysh_root(word) }
+    unsafe { with::ysh_root(word) }
 }
 
 pub fn dump_bytes(slots: u64, depth: u64) -> u64 {
-    unsafe { c::ysh_dump_bytes(slots, depth) }
+    unsafe { with::ysh_dump_bytes(slots, depth) }
 }
 
 /// Writes bytes `from` to `upto` of the order of writing into the area.
 pub fn dump(settings: &[u64], state: &[u64], rows: &[u64], area: &mut [u8], (from, upto): (u64, u64)) -> u64 {
     unsafe {
-        c::ysh_dump(
+        with::ysh_dump(
             settings.as_ptr(),
             settings.len(),
             state.as_ptr(),
@@ -411,7 +471,7 @@ pub fn dump(settings: &[u64], state: &[u64], rows: &[u64], area: &mut [u8], (fro
 
 pub fn restore(settings: &[u64], state: &mut [u64], image: &[u8], rows: &mut [u64]) -> u64 {
     unsafe {
-        c::ysh_restore(
+        with::ysh_restore(
             settings.as_ptr(),
             settings.len(),
             state.as_mut_ptr(),

@@ -11,14 +11,19 @@ mod guard;
 mod images;
 mod model;
 mod ours;
+#[cfg(feature = "stack")]
+mod painted;
 mod progress;
+#[cfg(feature = "stack")]
+mod stack;
 mod theirs;
 mod view;
 
 use std::process::ExitCode;
 
 const USAGE: &str = "usage: driver compare SEED RUNS | guard SEED CALLS | root SEED COUNT | metrics SEED COUNT
-       driver extremes SEED COUNT | images SEED COUNT | replay < runs | bench";
+       driver extremes SEED COUNT | images SEED COUNT | replay < runs | bench [PART]
+       driver stack SEED RUNS (with the feature `stack`: compare/stack)";
 
 fn usage() -> ! {
     eprintln!("{USAGE}");
@@ -37,7 +42,10 @@ fn main() -> ExitCode {
         ["guard", seed, count] => guard::guard(number(seed), number(count)),
         ["extremes", seed, count] => extremes::extremes(number(seed), number(count)),
         ["images", seed, count] => images::images(number(seed), number(count)),
-        ["bench"] => bench::bench(),
+        #[cfg(feature = "stack")]
+        ["stack", seed, runs] => stack::stack(number(seed), number(runs)),
+        ["bench"] => bench::bench(None),
+        ["bench", part] => bench::bench(Some(part)),
         ["replay"] => compare::replay().expect("standard input can be read"),
         ["root", seed, count] => figures::roots(number(seed), number(count)),
         ["metrics", seed, count] => figures::metrics(number(seed), number(count)),

@@ -2,6 +2,7 @@
 // digits. Where the first is below 20 (hex) it is the number of a room, 1f that of the table, and the line says how many words or bytes
 // of the room are lent and what stands there; bytes are eight to a word. Else it is a call over the rooms as they are, and it is
 // answered with a line. compare/README.md has the list of calls; compare/vectors/make makes the stored lines.
+mod power;
 mod rooms;
 mod rules;
 mod runs;
@@ -12,10 +13,12 @@ use rooms::word;
 // The words of the longest line.
 const LINE: usize = 8192;
 
-// The table and the four lists in bytes; the other rooms in words.
+// The table, the four lists and the dump's area in bytes; the other rooms in words.
 const TABLE: usize = 8192;
 
 const LISTS: usize = 4 * rooms::LIST;
+
+const AREA: usize = 8192;
 
 const ROWS: usize = 32768;
 
@@ -29,6 +32,7 @@ fn lend(
     sizes: &mut [u64],
     table: &mut [u8],
     lists: &mut [u8],
+    area: &mut [u8],
     settings: &mut [u64],
     state: &mut [u64],
     rows: &mut [u64],
@@ -38,13 +42,14 @@ fn lend(
 ) {
     rooms::set_size(sizes, word(line, 0), word(line, 1));
     match word(line, 0) {
-        0 => rooms::fill(rows, line),
-        1 => rooms::fill(equity, line),
-        2 => rooms::fill(trades, line),
-        7 => rooms::fill(settings, line),
-        8 => rooms::fill(state, line),
-        9 => rooms::fill(metrics, line),
-        0x1f => rooms::fill_bytes(table, line),
+        0 => text::rooms::fill(rows, line),
+        1 => text::rooms::fill(equity, line),
+        2 => text::rooms::fill(trades, line),
+        7 => text::rooms::fill(settings, line),
+        8 => text::rooms::fill(state, line),
+        9 => text::rooms::fill(metrics, line),
+        0xe => text::rooms::fill_bytes(area, line),
+        0x1f => text::rooms::fill_bytes(table, line),
         _ => rooms::fill_list(lists, line),
     }
 }
@@ -92,12 +97,29 @@ fn call_run(
     }
 }
 
+// Makes a call for a loss of power.
+fn call_power(
+    line: &[u64],
+    sizes: &[u64],
+    settings: &[u64],
+    state: &mut [u64],
+    rows: &mut [u64],
+    area: &mut [u8],
+) {
+    match word(line, 0) {
+        0x2c => power::dump_bytes(line),
+        0x2d => power::dump(line, sizes, settings, state, rows, area),
+        _ => power::restore(sizes, settings, state, rows, area),
+    }
+}
+
 // Takes a line: a room is lent, or a call made.
 fn take(
     line: &[u64],
     sizes: &mut [u64],
     table: &mut [u8],
     lists: &mut [u8],
+    area: &mut [u8],
     settings: &mut [u64],
     state: &mut [u64],
     rows: &mut [u64],
@@ -111,6 +133,7 @@ fn take(
             sizes,
             table,
             lists,
+            area,
             settings,
             state,
             rows,
@@ -119,6 +142,7 @@ fn take(
             metrics,
         ),
         0x20..=0x24 | 0x2a => call_rules(line, sizes, table, lists, rows),
+        0x2c..=0x2e => call_power(line, sizes, settings, state, rows, area),
         _ => call_run(
             line,
             sizes,
@@ -139,6 +163,7 @@ fn take_next(
     sizes: &mut [u64],
     table: &mut [u8],
     lists: &mut [u8],
+    area: &mut [u8],
     settings: &mut [u64],
     state: &mut [u64],
     rows: &mut [u64],
@@ -147,12 +172,13 @@ fn take_next(
     metrics: &mut [u64],
 ) -> bool {
     let n = text::read_line(room);
-    let line = rooms::part(room, 0, n);
+    let line = text::rooms::part(room, 0, n);
     take(
         line,
         sizes,
         table,
         lists,
+        area,
         settings,
         state,
         rows,
@@ -170,6 +196,7 @@ fn main() {
     let mut sizes = [0u64; FEW];
     let mut table = [0u8; TABLE];
     let mut lists = [0u8; LISTS];
+    let mut area = [0u8; AREA];
     let mut settings = [0u64; FEW];
     let mut state = [0u64; FEW];
     let mut rows = [0u64; ROWS];
@@ -183,6 +210,7 @@ fn main() {
             &mut sizes,
             &mut table,
             &mut lists,
+            &mut area,
             &mut settings,
             &mut state,
             &mut rows,

@@ -15,13 +15,13 @@ const MOST: u64 = 4_294_967_296;
 // Point n of a list.
 fn point(equity: &[u64], n: u64) -> &[u64] {
     let from = (n % MOST) as usize * POINT_WORDS;
-    rooms::part(equity, from, from + POINT_WORDS)
+    text::rooms::part(equity, from, from + POINT_WORDS)
 }
 
 // Trade n of a list.
 fn trade(trades: &[u64], n: u64) -> &[u64] {
     let from = (n % MOST) as usize * TRADE_WORDS;
-    rooms::part(trades, from, from + TRADE_WORDS)
+    text::rooms::part(trades, from, from + TRADE_WORDS)
 }
 
 // Writes an answer, and what follows it where the call did its work.
@@ -102,7 +102,7 @@ pub(crate) fn step(
 ) {
     let points = word(state, POINTS);
     let closed = word(state, CLOSED);
-    let bar = rooms::part(line, 1, line.len());
+    let bar = text::rooms::part(line, 1, line.len());
     let answer = step_call(bar, sizes, settings, state, rows, equity, trades, lists);
     write_closed(
         answer,
@@ -156,7 +156,7 @@ pub(crate) fn steps(
     lists: &[u8],
 ) {
     let mut done: u64 = 0;
-    let bars = rooms::part(line, 1, line.len());
+    let bars = text::rooms::part(line, 1, line.len());
     let answer = steps_call(
         bars,
         sizes,

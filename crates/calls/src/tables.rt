@@ -7,7 +7,7 @@ const NO_ROOM: u64 = u64::MAX;
 
 // The table that is lent.
 pub(crate) fn table<'a>(sizes: &[u64], room: &'a [u8]) -> &'a [u8] {
-    rooms::bytes(room, 0, rooms::size(sizes, rooms::TABLE))
+    text::rooms::bytes(room, 0, rooms::size(sizes, rooms::TABLE))
 }
 
 // The answer, the nodes and the rows.
@@ -71,7 +71,7 @@ fn wide(byte: u8) -> u64 {
 }
 
 // Writes the bytes, a space before each eight of them, and a newline.
-fn write_bytes(bytes: &[u8]) {
+pub(crate) fn write_bytes(bytes: &[u8]) {
     let mut i = 0;
     while i < bytes.len() {
         if i % 8 == 0 {

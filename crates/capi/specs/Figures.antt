@@ -5,14 +5,14 @@ use Rattle.words.specs.Words.{overwrite}
 use Rattle.words.specs.Outcome.{Outcome, gives, refuses}
 use Rattle.floats.specs.Floats.{floatOf}
 use Rattle.metrics.specs.declared.Metrics.{Metrics}
-use Rattle.metrics.specs.Figures.{computed, wordsOf}
+use Rattle.metrics.specs.Figures.{computed, figureWords}
 use Rattle.refusals.specs.Lines.{judged}
 use Rattle.capi.specs.Call.{Call, callOf, unlessBad, metricLines}
 
 -- lent: the room of the metrics
 unfoldable pub metricsGives : Outcome Metrics → List ℕ → Outcome (List ℕ)
 metricsGives (refuses why) room = refuses why
-metricsGives (gives m) room = gives (overwrite room 0 (wordsOf m))
+metricsGives (gives m) room = gives (overwrite room 0 (figureWords m))
 
 unfoldable pub metricsCall : ℕ → List ℕ → List ℕ → List ℕ → Call (List ℕ)
 metricsCall initial equity trades room =

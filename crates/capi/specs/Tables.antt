@@ -8,14 +8,14 @@ use Rattle.words.specs.Limits.{trees}
 use Rattle.words.specs.Outcome.{Outcome, gives, refuses}
 use Rattle.table.specs.declared.answer.Answer.{Answer}
 use Rattle.table.specs.declared.answer.Answer.the-variants.{Accepted, Refused}
-use Rattle.table.specs.declared.depth.DepthAnswer.{DepthAnswer}
-use Rattle.table.specs.declared.depth.DepthAnswer.the-variants.{Needs, Refuses as DepthRefuses}
+use Rattle.needed.specs.declared.depth.DepthAnswer.{DepthAnswer}
+use Rattle.needed.specs.declared.depth.DepthAnswer.the-variants.{Needs, Refuses as DepthRefuses}
 use Rattle.table.specs.declared.silent.SilentAnswer.{SilentAnswer}
 use Rattle.table.specs.declared.silent.SilentAnswer.the-variants.{Lists, Refuses as SilentRefuses}
 use Rattle.table.specs.declared.trees.Tree.{Tree}
 use Rattle.table.specs.declared.trees.Tree.the-variants.{Entry, Exit, ShortEntry, ShortExit}
 use Rattle.table.specs.Checked.{checked}
-use Rattle.table.specs.Depth.{depthAnswer}
+use Rattle.needed.specs.Depth.{depthAnswer}
 use Rattle.table.specs.Silent.{silentTests, silentAnswer, listAfter}
 use Rattle.steps.specs.declared.Translated.{Translated}
 use Rattle.steps.specs.declared.Translated.the-variants.{Writes, Refuses}

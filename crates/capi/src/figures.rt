@@ -1,7 +1,7 @@
 // The nine metrics of lists of words, and the square root of a word.
 ghost use mathlib.Core.Path.{_≡_};
 ghost use Rattle.words.specs.Words.{overwrite};
-ghost use Rattle.metrics.specs.Figures.{wordsOf};
+ghost use Rattle.metrics.specs.Figures.{figureWords};
 ghost use Rattle.floats.specs.Floats.{wordOf, floatOf};
 ghost use Rattle.floats.specs.Sqrt.{sqrt};
 ghost use Rattle.capi.specs.Figures.{metricsCall};
@@ -13,7 +13,7 @@ use refusals::verdict::Verdict;
 
 // Writes the nine metrics over the first words of a room; nothing where it is shorter.
 pub(crate) fn put_metrics(room: &mut [u64], m: Metrics)
-    ensures { λ _. ⌜ now (room .exit) ≡ overwrite (now (room .entry)) 0 (wordsOf m) ⌝ }
+    ensures { λ _. ⌜ now (room .exit) ≡ overwrite (now (room .entry)) 0 (figureWords m) ⌝ }
 {
     let words = metrics::words_of(m);
     words::put(room, 0, &words);

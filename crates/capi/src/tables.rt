@@ -2,9 +2,9 @@
 ghost use mathlib.Core.Path.{_≡_};
 ghost use Rattle.capi.specs.Tables.{numberedTree, checkCall, depthCall, silentCall, translateCall};
 use crate::calls::answer_word;
+use needed::depth::DepthAnswer;
 use steps::Translated;
 use table::answer::Answer;
-use table::depth::DepthAnswer;
 use table::silent::SilentAnswer;
 use table::trees::Tree;
 use words::limits::TREES;
@@ -51,7 +51,7 @@ pub extern "C" fn ysh_depth(table: &[u8], lookback: u64, rows: &mut u64, bytes: 
     ensures { λ r. ⌜ depthCall (now (table .entry)) lookback (record { rows = now (rows .entry); bytes = now (bytes .entry) })
         ≡ record { answer = r; lent = record { rows = now (rows .exit); bytes = now (bytes .exit) } } ⌝ }
 {
-    let depth = table::depth::depth(table, lookback);
+    let depth = needed::depth::depth(table, lookback);
     match depth {
         DepthAnswer::Refuses(refusal) => answer_word(refusal),
         DepthAnswer::Needs {
@@ -72,7 +72,7 @@ pub extern "C" fn ysh_silent(table: &[u8], rows: u64, list: &mut [u64], count: &
     ensures { λ r. ⌜ silentCall (now (table .entry)) rows (record { count = now (count .entry); list = now (list .entry) })
         ≡ record { answer = r; lent = record { count = now (count .exit); list = now (list .exit) } } ⌝ }
 {
-    let silent = table::silent::silent_tests(table, rows, list);
+    let silent = needed::silent::silent_tests(table, rows, list);
     match silent {
         SilentAnswer::Refuses(refusal) => answer_word(refusal),
         SilentAnswer::Lists(many) => {

@@ -22,7 +22,7 @@ use Rattle.rules.specs.Flat.{conditionAt}
 use Rattle.rules.specs.Answers.{stateRight}
 use Rattle.chain.specs.declared.Explained.the-variants.{Lines, Refuses}
 use Rattle.chain.specs.Chain.{chain}
-use Rattle.chain.specs.Lines.{wordsOf, putLines}
+use Rattle.chain.specs.Lines.{chainWords, putLines}
 use Rattle.chain.specs.Explained.{explanation, explainedBy, explained, linesAfter}
 use Rattle.chain.specs.Flat.{byEnds, flatExplanation}
 use Rattle.chain.specs.Laws.Numbered.{explanation-found}
@@ -83,6 +83,6 @@ module _ (t : List ℕ) (x : ℕ) (rows : List ℕ) (s : PositionState) (list : 
             let ls = explanation t x rows s in
             let same : flatExplanation t ends x rows s ≡ ls = rw g (explanation-found t n r ok x rows s) in
             let short : length ls ≤ 32 = few-lines t small n r ok x rows s in
-            let written : after ≡ wordsOf ls ++ drop (8 * length ls) list =
-            rw same at put ∙ lines-put ls list 0 (omega arith) ∙ ap (λ (k : ℕ). wordsOf ls ++ drop (8 * k) list) (zero-add (length ls)) in
+            let written : after ≡ chainWords ls ++ drop (8 * length ls) list =
+            rw same at put ∙ lines-put ls list 0 (omega arith) ∙ ap (λ (k : ℕ). chainWords ls ++ drop (8 * k) list) (zero-add (length ls)) in
             (rw (ok, le-ltb (length list) 256 fits, ← w, ← p, e, f) (ap Lines (many ∙ ap length same)), written)

@@ -13,7 +13,7 @@ use Rattle.rules.specs.Shapes.{operandShape}
 use Rattle.rules.specs.Flat.{growOperand, operandAt}
 use Rattle.rules.proofs.Grown.{no-operand, grown-operand}
 use Rattle.chain.specs.declared.Found.{Found}
-use Rattle.chain.specs.Missing.{orElse, leafGone, newestGone, missingIn}
+use Rattle.chain.specs.Missing.{firstFound, leafGone, newestGone, missingIn}
 use Rattle.chain.specs.Flat.{byEnds}
 use Rattle.chain.specs.Laws.Shapes.{OperandPlaced, operand-placed}
 
@@ -60,7 +60,7 @@ module _ (t ends : List ℕ) (h : History) (i bar back left : ℕ) (r : Found) w
         (p ∙ ap (λ (j : ℕ). missingIn (byEnds ends) h (operandAt (left - 1) t ends a) j bar (back + n)) (at .0))
 
     pub gone-arith : (kind a b : ℕ) (x y : Found) → s ≡ Arith kind a b → x ≡ missingIn (byEnds ends) h (operandAt (left - 1) t ends a) a bar back
-        → y ≡ missingIn (byEnds ends) h (operandAt (left - 1) t ends b) b bar back → r ≡ orElse x y
+        → y ≡ missingIn (byEnds ends) h (operandAt (left - 1) t ends b) b bar back → r ≡ firstFound x y
         → r ≡ missingIn (byEnds ends) h (operandAt left t ends i) i bar back
     unfolding missingIn growOperand OperandPlaced byEnds
     gone-arith kind a b x y f p q o =

@@ -14,7 +14,7 @@ use Rattle.rules.specs.Values.{slotOf}
 use Rattle.rules.specs.Laws.Meaning.{past, price-value, ref-value}
 use Rattle.chain.specs.declared.Found.{Found}
 use Rattle.chain.specs.declared.Found.the-variants.{Nowhere, Leaf}
-use Rattle.chain.specs.Missing.{orElse, goneIf, leafGone, newestGone}
+use Rattle.chain.specs.Missing.{firstFound, goneIf, leafGone, newestGone}
 
 module _ (h : History) (over : Series) (i bar back : ℕ) where
   pub series-early : bar < back → Leaf i back ≡ leafGone h (asOperand over) i bar back
@@ -37,19 +37,19 @@ module _ (h : History) (over : Series) (i bar back : ℕ) where
       series-slot slot e v u f g = rw (e, le-ltb bar back late, ref-value h (bar - back) there slot, ← f, g)
 
 module _ (h : History) (a : Operand) (i bar : ℕ) where
-  pub newest-front : (at m : ℕ) → 0 < m → newestGone h a i bar at m ≡ orElse (leafGone h a i bar at) (newestGone h a i bar (at + 1) (m - 1))
+  pub newest-front : (at m : ℕ) → 0 < m → newestGone h a i bar at m ≡ firstFound (leafGone h a i bar at) (newestGone h a i bar (at + 1) (m - 1))
   unfolding newestGone
   newest-front at zero l = absurd (omega arith)
   newest-front at (suc m) l = rw (sub-one (suc m))
 
   pub newest-here : (at m : ℕ) (f : Found) (node back : ℕ) → 0 < m → f ≡ leafGone h a i bar at → f ≡ Leaf node back
       → newestGone h a i bar at m ≡ Leaf node back
-  unfolding orElse
+  unfolding firstFound
   newest-here at m f node back l e g = newest-front at m l ∙ rw (← e, g)
 
   pub newest-further : (at m : ℕ) (f : Found) → 0 < m → f ≡ leafGone h a i bar at → f ≡ Nowhere
       → newestGone h a i bar at m ≡ newestGone h a i bar (at + 1) (m - 1)
-  unfolding orElse
+  unfolding firstFound
   newest-further at m f l e g = newest-front at m l ∙ rw (← e, g)
 
   pub newest-last : (at m : ℕ) → m ≤ 0 → newestGone h a i bar at m ≡ leafGone h a i bar at

@@ -16,7 +16,7 @@ use Rattle.rules.proofs.Grown.{no-condition, grown-condition}
 use Rattle.chain.specs.declared.Found.{Found}
 use Rattle.chain.specs.declared.Found.the-variants.{Nowhere, Leaf}
 use Rattle.chain.specs.declared.Detail.{Detail}
-use Rattle.chain.specs.Missing.{orElse, missingIn, missingInTwo, missingInThree}
+use Rattle.chain.specs.Missing.{firstFound, missingIn, missingInTwo, missingInThree}
 use Rattle.chain.specs.Chain.{shownBy, shownSince, shown, atFirstBar, tooFewBars}
 use Rattle.chain.specs.Lines.{valueWord, valueWords, detail, detailOf, leafOr}
 use Rattle.chain.specs.Flat.{byEnds}
@@ -58,7 +58,7 @@ module _ (t ends : List ℕ) (h : History) (s : PositionState) (i bar left : ℕ
     placed : (u : ConditionShape) → sh ≡ u → ConditionPlaced t ends i u
     placed u f = rw (sym e ∙ f) at (condition-placed t ends i)
 
-    pub shown-compare : (kind a b : ℕ) → sh ≡ Compare kind a b → r ≡ detailOf (shownBy (orElse (gone a 0) (gone b 0)) (worth a bar ∷ worth b bar ∷ []))
+    pub shown-compare : (kind a b : ℕ) → sh ≡ Compare kind a b → r ≡ detailOf (shownBy (firstFound (gone a 0) (gone b 0)) (worth a bar ∷ worth b bar ∷ []))
         → r ≡ detailOf (shown (byEnds ends) h s (conditionAt left t ends i) i bar)
     unfolding shown growCondition missingInTwo byEnds ConditionPlaced gone worth
     shown-compare kind a b f p =
@@ -66,7 +66,7 @@ module _ (t ends : List ℕ) (h : History) (s : PositionState) (i bar left : ℕ
         rw (grown-condition t ends i left some sh (Compare kind a b) e f, at .0, at .1) (rw (at .0, at .1) at p)
 
     pub shown-cross : (kind a b : ℕ) → sh ≡ Cross kind a b
-        → r ≡ detailOf (cond (eqb bar 0) atFirstBar (shownBy (orElse (orElse (gone a 0) (gone b 0)) (orElse (gone a 1) (gone b 1)))
+        → r ≡ detailOf (cond (eqb bar 0) atFirstBar (shownBy (firstFound (firstFound (gone a 0) (gone b 0)) (firstFound (gone a 1) (gone b 1)))
         (worth a bar ∷ worth b bar ∷ worth a (bar - 1) ∷ worth b (bar - 1) ∷ [])))
         → r ≡ detailOf (shown (byEnds ends) h s (conditionAt left t ends i) i bar)
     unfolding shown growCondition missingInTwo byEnds ConditionPlaced gone worth
@@ -75,7 +75,7 @@ module _ (t ends : List ℕ) (h : History) (s : PositionState) (i bar left : ℕ
         rw (grown-condition t ends i left some sh (Cross kind a b) e f, at .0, at .1) (rw (at .0, at .1) at p)
 
     pub shown-between : (x low high : ℕ) → sh ≡ Between x low high
-        → r ≡ detailOf (shownBy (orElse (orElse (gone x 0) (gone low 0)) (gone high 0)) (worth x bar ∷ worth low bar ∷ worth high bar ∷ []))
+        → r ≡ detailOf (shownBy (firstFound (firstFound (gone x 0) (gone low 0)) (gone high 0)) (worth x bar ∷ worth low bar ∷ worth high bar ∷ []))
         → r ≡ detailOf (shown (byEnds ends) h s (conditionAt left t ends i) i bar)
     unfolding shown growCondition missingInTwo missingInThree byEnds ConditionPlaced gone worth
     shown-between x low high f p =
@@ -83,7 +83,7 @@ module _ (t ends : List ℕ) (h : History) (s : PositionState) (i bar left : ℕ
         rw (grown-condition t ends i left some sh (Between x low high) e f, at .0, at .1, at .2) (rw (at .0, at .1, at .2) at p)
 
     pub shown-trend : (kind a n : ℕ) → sh ≡ Trend kind a n
-        → r ≡ detailOf (cond (ltb bar n) tooFewBars (shownBy (orElse (gone a 0) (gone a n)) (worth a bar ∷ worth a (bar - n) ∷ [])))
+        → r ≡ detailOf (cond (ltb bar n) tooFewBars (shownBy (firstFound (gone a 0) (gone a n)) (worth a bar ∷ worth a (bar - n) ∷ [])))
         → r ≡ detailOf (shown (byEnds ends) h s (conditionAt left t ends i) i bar)
     unfolding shown growCondition ConditionPlaced gone worth
     shown-trend kind a n f p =

@@ -10,13 +10,13 @@ use Rattle.rules.specs.declared.PositionState.{PositionState}
 use Rattle.rules.specs.Flat.{conditionAt}
 use Rattle.chain.specs.declared.Next.{Next}
 use Rattle.chain.specs.declared.Next.the-variants.{Stop, Node}
-use Rattle.chain.specs.Chain.{lineOf, chain}
+use Rattle.chain.specs.Chain.{lineAt, chain}
 use Rattle.chain.specs.Lines.{lineWords, putLines}
 use Rattle.chain.specs.Flat.{byEnds, nextAt}
 use Rattle.chain.specs.Laws.Steps.{chain-stops, chain-goes}
 
 module _ (t ends : List ℕ) (h : History) (s : PositionState) (bar left i at : ℕ) (before after : List ℕ) (next : Next)
-    (wrote : after ≡ overwrite before (8 * at) (lineWords (lineOf (byEnds ends) h s (conditionAt left t ends i) i bar)))
+    (wrote : after ≡ overwrite before (8 * at) (lineWords (lineAt (byEnds ends) h s (conditionAt left t ends i) i bar)))
     (found : next ≡ nextAt left t ends h s i bar) where
   -- the node's line is the last
   pub walked-one : next ≡ Stop

@@ -14,7 +14,7 @@ use Rattle.rules.specs.Values.{held}
 use Rattle.rules.specs.Meaning.{value, holds}
 use Rattle.chain.specs.declared.Found.{Found}
 use Rattle.chain.specs.declared.Found.the-variants.{Nowhere, Leaf}
-use Rattle.chain.specs.Missing.{Numbering, orElse, missingIn, missingInTwo, missingInThree}
+use Rattle.chain.specs.Missing.{Numbering, firstFound, missingIn, missingInTwo, missingInThree}
 
 -- What a line shows.
 pub data Shown : Type 0 where
@@ -54,13 +54,13 @@ unfoldable pub shown : Numbering → History → PositionState → Condition →
 shown after h s (compare kind a b) i bar = shownBy (missingInTwo after h a b (i + 1) bar 0) (value h a bar ∷ value h b bar ∷ [])
 shown after h s (cross kind a b) i bar =
     cond (eqb bar 0) atFirstBar
-    (shownBy (orElse (missingInTwo after h a b (i + 1) bar 0) (missingInTwo after h a b (i + 1) bar 1))
+    (shownBy (firstFound (missingInTwo after h a b (i + 1) bar 0) (missingInTwo after h a b (i + 1) bar 1))
     (value h a bar ∷ value h b bar ∷ value h a (bar - 1) ∷ value h b (bar - 1) ∷ []))
 shown after h s (between x low high) i bar =
     shownBy (missingInThree after h x low high (i + 1) bar 0) (value h x bar ∷ value h low bar ∷ value h high bar ∷ [])
 shown after h s (trend kind a n) i bar =
     cond (ltb bar n) tooFewBars
-    (shownBy (orElse (missingIn after h a (i + 1) bar 0) (missingIn after h a (i + 1) bar n)) (value h a bar ∷ value h a (bar - n) ∷ []))
+    (shownBy (firstFound (missingIn after h a (i + 1) bar 0) (missingIn after h a (i + 1) bar n)) (value h a bar ∷ value h a (bar - n) ∷ []))
 shown after h s (every cs) i bar = link
 shown after h s (any cs) i bar = link
 shown after h s (negated c) i bar = link
@@ -68,30 +68,30 @@ shown after h s (inPosition wanted) i bar = position
 shown after h s (barsSince selector k) i bar = shownSince s
 
 -- A line: a node, what its condition says, and what decided or how it goes on.
-pub record Line : Type 0 where
+pub record ChainLine : Type 0 where
   pub node : ℕ
   pub answer : Bool
   pub shows : Shown
 
-unfoldable pub lineOf : Numbering → History → PositionState → Condition → ℕ → ℕ → Line
-lineOf after h s c i bar = record { node = i; answer = holds h s c bar; shows = shown after h s c i bar }
+unfoldable pub lineAt : Numbering → History → PositionState → Condition → ℕ → ℕ → ChainLine
+lineAt after h s c i bar = record { node = i; answer = holds h s c bar; shows = shown after h s c i bar }
 
 -- "For an All that is no, or an Any that is yes, go to the first child with that answer. For an All that is yes or an Any that is
 -- no, stop there. Not goes to its child."
 unfoldable mutual
-  pub chain : Numbering → History → PositionState → Condition → ℕ → ℕ → List Line
-  chain after h s (compare kind a b) i bar = lineOf after h s (compare kind a b) i bar ∷ []
-  chain after h s (cross kind a b) i bar = lineOf after h s (cross kind a b) i bar ∷ []
-  chain after h s (between x low high) i bar = lineOf after h s (between x low high) i bar ∷ []
-  chain after h s (trend kind a n) i bar = lineOf after h s (trend kind a n) i bar ∷ []
-  chain after h s (every cs) i bar = lineOf after h s (every cs) i bar ∷ firstWith after h s false cs (i + 1) bar
-  chain after h s (any cs) i bar = lineOf after h s (any cs) i bar ∷ firstWith after h s true cs (i + 1) bar
-  chain after h s (negated c) i bar = lineOf after h s (negated c) i bar ∷ chain after h s c (i + 1) bar
-  chain after h s (inPosition wanted) i bar = lineOf after h s (inPosition wanted) i bar ∷ []
-  chain after h s (barsSince selector k) i bar = lineOf after h s (barsSince selector k) i bar ∷ []
+  pub chain : Numbering → History → PositionState → Condition → ℕ → ℕ → List ChainLine
+  chain after h s (compare kind a b) i bar = lineAt after h s (compare kind a b) i bar ∷ []
+  chain after h s (cross kind a b) i bar = lineAt after h s (cross kind a b) i bar ∷ []
+  chain after h s (between x low high) i bar = lineAt after h s (between x low high) i bar ∷ []
+  chain after h s (trend kind a n) i bar = lineAt after h s (trend kind a n) i bar ∷ []
+  chain after h s (every cs) i bar = lineAt after h s (every cs) i bar ∷ firstWith after h s false cs (i + 1) bar
+  chain after h s (any cs) i bar = lineAt after h s (any cs) i bar ∷ firstWith after h s true cs (i + 1) bar
+  chain after h s (negated c) i bar = lineAt after h s (negated c) i bar ∷ chain after h s c (i + 1) bar
+  chain after h s (inPosition wanted) i bar = lineAt after h s (inPosition wanted) i bar ∷ []
+  chain after h s (barsSince selector k) i bar = lineAt after h s (barsSince selector k) i bar ∷ []
 
   -- the chain of the first of these conditions, the first at node j, that gives the answer; none where none gives it
-  pub firstWith : Numbering → History → PositionState → Bool → Conditions → ℕ → ℕ → List Line
+  pub firstWith : Numbering → History → PositionState → Bool → Conditions → ℕ → ℕ → List ChainLine
   firstWith after h s answer none j bar = []
   firstWith after h s answer (more c cs) j bar =
       cond (Bool·beq (holds h s c bar) answer) (chain after h s c j bar) (firstWith after h s answer cs (after j (nodesOf c)) bar)

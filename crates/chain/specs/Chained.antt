@@ -11,7 +11,7 @@ use Rattle.table.specs.Writing.{nodesOf}
 use Rattle.rules.specs.declared.PositionState.{PositionState}
 use Rattle.rules.specs.Meaning.{holds, allHold, anyHolds}
 use Rattle.chain.specs.Missing.{inTable}
-use Rattle.chain.specs.Chain.{Line, lineOf, chain, firstWith}
+use Rattle.chain.specs.Chain.{ChainLine, lineAt, chain, firstWith}
 
 module _ (h : History) (s : PositionState) (bar : ℕ) where
   -- "the first child with that answer": of the conditions in a row, the first at node j, condition d at node k gives it, and none before
@@ -39,10 +39,10 @@ module _ (h : History) (s : PositionState) (bar : ℕ) where
   StopsAt (barsSince selector k) = Unit
 
   -- Lines that explain the condition at node i: its own line, and where it goes to a child, lines that explain the child.
-  pub data Explains : Condition → ℕ → List Line → Type 0 where
-    last : (c : Condition) (i : ℕ) → StopsAt c → Explains c i (lineOf inTable h s c i bar ∷ [])
-    next : (c : Condition) (i : ℕ) (d : Condition) (k : ℕ) (ls : List Line) → GoesTo c i d k → Explains d k ls
-        → Explains c i (lineOf inTable h s c i bar ∷ ls)
+  pub data Explains : Condition → ℕ → List ChainLine → Type 0 where
+    last : (c : Condition) (i : ℕ) → StopsAt c → Explains c i (lineAt inTable h s c i bar ∷ [])
+    next : (c : Condition) (i : ℕ) (d : Condition) (k : ℕ) (ls : List ChainLine) → GoesTo c i d k → Explains d k ls
+        → Explains c i (lineAt inTable h s c i bar ∷ ls)
 
   -- ---- there is one list of lines that explains, and it is the chain
 
@@ -61,7 +61,7 @@ module _ (h : History) (s : PositionState) (bar : ℕ) where
   first-is {answer} (later c cs j d k e f) = rw (e, beq-other answer) (first-is f)
 
   goes-is : {c : Condition} {i : ℕ} {d : Condition} {k : ℕ} → GoesTo c i d k
-      → chain inTable h s c i bar ≡ lineOf inTable h s c i bar ∷ chain inTable h s d k bar
+      → chain inTable h s c i bar ≡ lineAt inTable h s c i bar ∷ chain inTable h s d k bar
   unfolding chain
   goes-is (of-all cs i d k f) = rw (first-is f)
   goes-is (of-any cs i d k f) = rw (first-is f)
@@ -88,7 +88,7 @@ module _ (h : History) (s : PositionState) (bar : ℕ) where
       go rest true f = absurd (let z : _≡_ {A = ℕ} 0 1 = cc in omega arith)
       go rest false f = rest f
 
-  stops-is : (c : Condition) (i : ℕ) → StopsAt c → chain inTable h s c i bar ≡ lineOf inTable h s c i bar ∷ []
+  stops-is : (c : Condition) (i : ℕ) → StopsAt c → chain inTable h s c i bar ≡ lineAt inTable h s c i bar ∷ []
   unfolding chain StopsAt
   stops-is (every cs) i e = rw (none-no cs (i + 1) e)
   stops-is (any cs) i e = rw (none-yes cs (i + 1) e)
@@ -101,9 +101,9 @@ module _ (h : History) (s : PositionState) (bar : ℕ) where
   stops-is (barsSince selector k) i e = refl
 
   -- NO OTHER CHAIN: lines that explain a condition are its chain.
-  pub only-chain : {c : Condition} {i : ℕ} {ls : List Line} → Explains c i ls → ls ≡ chain inTable h s c i bar
+  pub only-chain : {c : Condition} {i : ℕ} {ls : List ChainLine} → Explains c i ls → ls ≡ chain inTable h s c i bar
   only-chain (last c i e) = sym (stops-is c i e)
-  only-chain (next c i d k ls g e) = ap (λ (xs : List Line). lineOf inTable h s c i bar ∷ xs) (only-chain e) ∙ sym (goes-is g)
+  only-chain (next c i d k ls g e) = ap (λ (xs : List ChainLine). lineAt inTable h s c i bar ∷ xs) (only-chain e) ∙ sym (goes-is g)
 
   -- ---- and the chain does explain
 
@@ -112,18 +112,18 @@ module _ (h : History) (s : PositionState) (bar : ℕ) where
   AllSay b (more c cs) = (holds h s c bar ≡ b) × AllSay b cs
 
   -- the lines of the first child with an answer, or none where every child gives the other
-  data Search (answer : Bool) : Conditions → ℕ → List Line → Type 0 where
+  data Search (answer : Bool) : Conditions → ℕ → List ChainLine → Type 0 where
     nowhere : (cs : Conditions) (j : ℕ) → AllSay (not answer) cs → Search answer cs j []
-    found : (cs : Conditions) (j : ℕ) (d : Condition) (k : ℕ) (ls : List Line) → FirstChild answer cs j d k → Explains d k ls → Search answer cs j ls
+    found : (cs : Conditions) (j : ℕ) (d : Condition) (k : ℕ) (ls : List ChainLine) → FirstChild answer cs j d k → Explains d k ls → Search answer cs j ls
 
   -- one child more in front
-  passed : (answer : Bool) (c : Condition) (j : ℕ) {cs : Conditions} {ls : List Line} → holds h s c bar ≡ not answer → Search answer cs (j + nodesOf c) ls
+  passed : (answer : Bool) (c : Condition) (j : ℕ) {cs : Conditions} {ls : List ChainLine} → holds h s c bar ≡ not answer → Search answer cs (j + nodesOf c) ls
       → Search answer (more c cs) j ls
   unfolding AllSay
   passed answer c j e (nowhere cs k a) = nowhere (more c cs) j (e, a)
   passed answer c j e (found cs k d m ls f x) = found (more c cs) j d m ls (later c cs j d m e f) x
 
-  in-front : (answer b : Bool) (c : Condition) (cs : Conditions) (j : ℕ) (own rest : List Line) → holds h s c bar ≡ b → Explains c j own
+  in-front : (answer b : Bool) (c : Condition) (cs : Conditions) (j : ℕ) (own rest : List ChainLine) → holds h s c bar ≡ b → Explains c j own
       → Search answer cs (j + nodesOf c) rest → Search answer (more c cs) j (cond (Bool·beq b answer) own rest)
   in-front true true c cs j own rest e x q = found (more c cs) j c j own (this c cs j e) x
   in-front true false c cs j own rest e x q = passed true c j e q
@@ -140,12 +140,13 @@ module _ (h : History) (s : PositionState) (bar : ℕ) where
   any-no none a = refl
   any-no (more c cs) a = rw (a .0, any-no cs (a .1))
 
-  all-explained : (i : ℕ) {cs : Conditions} {ls : List Line} → Search false cs (i + 1) ls → Explains (every cs) i (lineOf inTable h s (every cs) i bar ∷ ls)
+  all-explained : (i : ℕ) {cs : Conditions} {ls : List ChainLine} → Search false cs (i + 1) ls
+      → Explains (every cs) i (lineAt inTable h s (every cs) i bar ∷ ls)
   unfolding StopsAt
   all-explained i (nowhere cs j a) = last (every cs) i (all-yes cs a)
   all-explained i (found cs j d k ls f x) = next (every cs) i d k ls (of-all cs i d k f) x
 
-  any-explained : (i : ℕ) {cs : Conditions} {ls : List Line} → Search true cs (i + 1) ls → Explains (any cs) i (lineOf inTable h s (any cs) i bar ∷ ls)
+  any-explained : (i : ℕ) {cs : Conditions} {ls : List ChainLine} → Search true cs (i + 1) ls → Explains (any cs) i (lineAt inTable h s (any cs) i bar ∷ ls)
   unfolding StopsAt
   any-explained i (nowhere cs j a) = last (any cs) i (any-no cs a)
   any-explained i (found cs j d k ls f x) = next (any cs) i d k ls (of-any cs i d k f) x

@@ -18,12 +18,12 @@ use Rattle.rules.specs.Answers.{stateRight}
 use Rattle.chain.specs.declared.Explained.{Explained}
 use Rattle.chain.specs.declared.Explained.the-variants.{Lines, Refuses}
 use Rattle.chain.specs.Missing.{inTable}
-use Rattle.chain.specs.Chain.{Line, chain}
-use Rattle.chain.specs.Lines.{lineLength, wordsOf}
+use Rattle.chain.specs.Chain.{ChainLine, chain}
+use Rattle.chain.specs.Lines.{lineLength, chainWords}
 
 -- "Given a table, rows and position state, list the chain of nodes from the root to what decided": at the newest bar, and with the
 -- table's own node numbers. "an absent tree has no lines"; a number above 3 names no tree.
-unfoldable pub explanation : List ℕ → ℕ → List ℕ → PositionState → List Line
+unfoldable pub explanation : List ℕ → ℕ → List ℕ → PositionState → List ChainLine
 explanation t x rows s =
     let h = historyOf (slots t) rows in
     cond (leb trees x) [] (cond (eqb (count t x) 0) [] (chain inTable h s (treeOf t x) (root t x) (newest h)))
@@ -43,6 +43,6 @@ unfoldable pub explained : List ℕ → ℕ → List ℕ → PositionState → L
 explained t x rows s list = explainedBy (checked t) t x rows s list
 
 -- The list afterwards: the lines, and what stood past them. "A refusal .. changes nothing lent."
-unfoldable pub linesAfter : Explained → List Line → List ℕ → List ℕ
+unfoldable pub linesAfter : Explained → List ChainLine → List ℕ → List ℕ
 linesAfter (Refuses why) ls list = list
-linesAfter (Lines n) ls list = wordsOf ls ++ drop (lineLength * length ls) list
+linesAfter (Lines n) ls list = chainWords ls ++ drop (lineLength * length ls) list

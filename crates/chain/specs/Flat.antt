@@ -15,7 +15,7 @@ use Rattle.rules.specs.Flat.{conditionAt}
 use Rattle.chain.specs.declared.Next.{Next}
 use Rattle.chain.specs.declared.Next.the-variants.{Stop, Node}
 use Rattle.chain.specs.Missing.{Numbering}
-use Rattle.chain.specs.Chain.{Line, chain}
+use Rattle.chain.specs.Chain.{ChainLine, chain}
 
 -- nodes numbered by the checker's array of subtree ends
 unfoldable pub byEnds : List ℕ → Numbering
@@ -44,12 +44,12 @@ nextAt zero t ends h s i bar = Stop
 nextAt (suc left) t ends h s i bar = nextBy ends (λ j. holds h s (conditionAt left t ends j) bar) (conditionShape t ends i)
 
 -- the lines from there on
-unfoldable pub followed : Next → (ℕ → List Line) → List Line
+unfoldable pub followed : Next → (ℕ → List ChainLine) → List ChainLine
 followed Stop from = []
 followed (Node j) from = from j
 
 -- the lines of tree x
-unfoldable pub flatExplanation : List ℕ → List ℕ → ℕ → List ℕ → PositionState → List Line
+unfoldable pub flatExplanation : List ℕ → List ℕ → ℕ → List ℕ → PositionState → List ChainLine
 flatExplanation t ends x rows s =
     let h = historyOf (slots t) rows in
     cond (leb trees x) []

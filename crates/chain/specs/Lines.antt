@@ -10,7 +10,7 @@ use Rattle.rules.specs.declared.Value.the-variants.{Missing, Number}
 use Rattle.chain.specs.declared.Detail.{Detail}
 use Rattle.chain.specs.declared.Found.{Found}
 use Rattle.chain.specs.declared.Found.the-variants.{Nowhere, Leaf}
-use Rattle.chain.specs.Chain.{Shown, link, values, missing, atFirstBar, tooFewBars, position, sinceEntry, noEntry, Line}
+use Rattle.chain.specs.Chain.{Shown, link, values, missing, atFirstBar, tooFewBars, position, sinceEntry, noEntry, ChainLine}
 
 -- a value's word; one that is missing, which a line of values never has, would be 0
 unfoldable pub valueWord : Value → ℕ
@@ -49,14 +49,14 @@ lineLength = 8
 unfoldable pub lineFrom : ℕ → Bool → Detail → List ℕ
 lineFrom node answer d = node ∷ cond answer 1 0 ∷ d .sort ∷ d .used ∷ d .first ∷ d .second ∷ d .third ∷ d .fourth ∷ []
 
-unfoldable pub lineWords : Line → List ℕ
+unfoldable pub lineWords : ChainLine → List ℕ
 lineWords l = lineFrom (l .node) (l .answer) (detailOf (l .shows))
 
-unfoldable pub wordsOf : List Line → List ℕ
-wordsOf [] = []
-wordsOf (l ∷ ls) = lineWords l ++ wordsOf ls
+unfoldable pub chainWords : List ChainLine → List ℕ
+chainWords [] = []
+chainWords (l ∷ ls) = lineWords l ++ chainWords ls
 
 -- ---- as the code writes them: one line after the other, from line `at` of the list on
-unfoldable pub putLines : List ℕ → ℕ → List Line → List ℕ
+unfoldable pub putLines : List ℕ → ℕ → List ChainLine → List ℕ
 putLines list at [] = list
 putLines list at (l ∷ ls) = putLines (overwrite list (lineLength * at) (lineWords l)) (at + 1) ls

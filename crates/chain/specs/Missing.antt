@@ -21,9 +21,9 @@ abbrev pub inTable : Numbering
 inTable j n = j + n
 
 -- one of two, the first where it is there
-unfoldable pub orElse : Found → Found → Found
-orElse (Leaf node back) g = Leaf node back
-orElse Nowhere g = g
+unfoldable pub firstFound : Found → Found → Found
+firstFound (Leaf node back) g = Leaf node back
+firstFound Nowhere g = g
 
 unfoldable pub goneIf : ℕ → ℕ → Value → Found
 goneIf i back Missing = Leaf i back
@@ -36,7 +36,7 @@ leafGone h a i bar back = cond (ltb bar back) (Leaf i back) (goneIf i back (valu
 -- "Request 4 names its child at the newest missing bar" (request 8): node i, a leaf, so many bars back and the m before that.
 unfoldable pub newestGone : History → Operand → ℕ → ℕ → ℕ → ℕ → Found
 newestGone h a i bar back zero = leafGone h a i bar back
-newestGone h a i bar back (suc m) = orElse (leafGone h a i bar back) (newestGone h a i bar (back + 1) m)
+newestGone h a i bar back (suc m) = firstFound (leafGone h a i bar back) (newestGone h a i bar (back + 1) m)
 
 -- The first missing leaf of an operand whose node is number i. "how many bars back it looked": the Prevs above the leaf add up.
 -- A Const is a leaf, missing where its row is.
@@ -46,17 +46,17 @@ missingIn after h (ref slot) i bar back = leafGone h (ref slot) i bar back
 missingIn after h (price selector) i bar back = leafGone h (price selector) i bar back
 missingIn after h (prev a n) i bar back = missingIn after h a (i + 1) bar (back + n)
 missingIn after h (arith kind a b) i bar back =
-    orElse (missingIn after h a (i + 1) bar back) (missingIn after h b (after (i + 1) (nodesIn a)) bar back)
+    firstFound (missingIn after h a (i + 1) bar back) (missingIn after h b (after (i + 1) (nodesIn a)) bar back)
 missingIn after h (extreme kind s n) i bar back = newestGone h (asOperand s) (i + 1) bar back (n - 1)
 
 -- of two operands in table order, the first at node i
 unfoldable pub missingInTwo : Numbering → History → Operand → Operand → ℕ → ℕ → ℕ → Found
-missingInTwo after h a b i bar back = orElse (missingIn after h a i bar back) (missingIn after h b (after i (nodesIn a)) bar back)
+missingInTwo after h a b i bar back = firstFound (missingIn after h a i bar back) (missingIn after h b (after i (nodesIn a)) bar back)
 
 -- of three
 unfoldable pub missingInThree : Numbering → History → Operand → Operand → Operand → ℕ → ℕ → ℕ → Found
 missingInThree after h a b c i bar back =
-    orElse (missingInTwo after h a b i bar back) (missingIn after h c (after (after i (nodesIn a)) (nodesIn b)) bar back)
+    firstFound (missingInTwo after h a b i bar back) (missingIn after h c (after (after i (nodesIn a)) (nodesIn b)) bar back)
 
 -- A look-back that no sum wraps, with so many levels of nesting left: each Prev adds less than 2^32.
 abbrev pub Near : ℕ → ℕ → Type 0

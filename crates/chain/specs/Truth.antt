@@ -1,4 +1,4 @@
--- Each line is true of the rule's meaning. That its answer is what the condition at its node says is how a line is made (lineOf); here:
+-- Each line is true of the rule's meaning. That its answer is what the condition at its node says is how a line is made (lineAt); here:
 -- its values are what the test compares and none of its leaves is missing, its missing leaf is the first that is. Assumes nothing.
 use Prim.Native.Nat.{ℕ, zero, suc, _+_, _-_}
 use mathlib.Core.Path.{_≡_, refl, sym}
@@ -22,7 +22,7 @@ use Rattle.rules.specs.Values.{held, countedSince}
 use Rattle.rules.specs.Meaning.{value, holds}
 use Rattle.chain.specs.declared.Found.{Found}
 use Rattle.chain.specs.declared.Found.the-variants.{Nowhere, Leaf}
-use Rattle.chain.specs.Missing.{inTable, orElse, goneIf, leafGone, newestGone, missingIn, missingInTwo, missingInThree}
+use Rattle.chain.specs.Missing.{inTable, firstFound, goneIf, leafGone, newestGone, missingIn, missingInTwo, missingInThree}
 use Rattle.chain.specs.Chain.{atFirstBar, tooFewBars, position, noEntry, shownBy, shownFrom, shownSince, shown}
 use Rattle.chain.specs.Looks.{Look, look, looksBack, looksIn, looksOf, valuesOf, seen, number}
 use Rattle.chain.specs.Looks.{FirstMissing, this, later, NoneMissing, none-left, and-none}
@@ -30,42 +30,42 @@ use Rattle.chain.specs.Looks.{joins, TooEarly, True}
 
 module _ (h : History) (bar : ℕ) where
   -- the first missing of a list of leaves
-  unfoldable firstOf : List Look → Found
-  firstOf [] = Nowhere
-  firstOf (l ∷ ls) = orElse (goneIf (l .node) (l .back) (seen h bar l)) (firstOf ls)
+  unfoldable firstGone : List Look → Found
+  firstGone [] = Nowhere
+  firstGone (l ∷ ls) = firstFound (goneIf (l .node) (l .back) (seen h bar l)) (firstGone ls)
 
-  or-else-assoc : (f g k : Found) → orElse (orElse f g) k ≡ orElse f (orElse g k)
-  unfolding orElse
-  or-else-assoc (Leaf node back) g k = refl
-  or-else-assoc Nowhere g k = refl
+  first-found-assoc : (f g k : Found) → firstFound (firstFound f g) k ≡ firstFound f (firstFound g k)
+  unfolding firstFound
+  first-found-assoc (Leaf node back) g k = refl
+  first-found-assoc Nowhere g k = refl
 
-  or-nowhere : (f : Found) → orElse f Nowhere ≡ f
-  unfolding orElse
+  or-nowhere : (f : Found) → firstFound f Nowhere ≡ f
+  unfolding firstFound
   or-nowhere (Leaf node back) = refl
   or-nowhere Nowhere = refl
 
-  first-two : (xs ys : List Look) → firstOf (xs ++ ys) ≡ orElse (firstOf xs) (firstOf ys)
-  unfolding firstOf orElse
+  first-two : (xs ys : List Look) → firstGone (xs ++ ys) ≡ firstFound (firstGone xs) (firstGone ys)
+  unfolding firstGone firstFound
   first-two [] ys = refl
   first-two (l ∷ xs) ys =
-      rw (first-two xs ys) (sym (or-else-assoc (goneIf (l .node) (l .back) (seen h bar l)) (firstOf xs) (firstOf ys)))
+      rw (first-two xs ys) (sym (first-found-assoc (goneIf (l .node) (l .back) (seen h bar l)) (firstGone xs) (firstGone ys)))
 
-  leaf-first : (a : Operand) (i back : ℕ) → leafGone h a i bar back ≡ firstOf (look a i back ∷ [])
-  unfolding leafGone firstOf seen goneIf
+  leaf-first : (a : Operand) (i back : ℕ) → leafGone h a i bar back ≡ firstGone (look a i back ∷ [])
+  unfolding leafGone firstGone seen goneIf
   leaf-first a i back = go (ltb bar back)
     where
       go : (b : Bool) → cond b (Leaf i back) (goneIf i back (value h a (bar - back)))
-          ≡ orElse (goneIf i back (cond b Missing (value h a (bar - back)))) Nowhere
+          ≡ firstFound (goneIf i back (cond b Missing (value h a (bar - back)))) Nowhere
       go true = sym (or-nowhere (Leaf i back))
       go false = sym (or-nowhere (goneIf i back (value h a (bar - back))))
 
-  back-in-order : (a : Operand) (i back m : ℕ) → newestGone h a i bar back m ≡ firstOf (looksBack a i back m)
+  back-in-order : (a : Operand) (i back m : ℕ) → newestGone h a i bar back m ≡ firstGone (looksBack a i back m)
   unfolding newestGone looksBack
   back-in-order a i back zero = leaf-first a i back
   back-in-order a i back (suc m) =
       rw (leaf-first a i back, back-in-order a i (back + 1) m) (sym (first-two (look a i back ∷ []) (looksBack a i (back + 1) m)))
 
-  in-order : (a : Operand) (i back : ℕ) → missingIn inTable h a i bar back ≡ firstOf (looksIn a i back)
+  in-order : (a : Operand) (i back : ℕ) → missingIn inTable h a i bar back ≡ firstGone (looksIn a i back)
   unfolding missingIn looksIn
   in-order (const bits) i back = leaf-first (const bits) i back
   in-order (ref slot) i back = leaf-first (ref slot) i back
@@ -75,45 +75,45 @@ module _ (h : History) (bar : ℕ) where
       rw (in-order a (i + 1) back, in-order b (i + 1 + nodesIn a) back) (sym (first-two (looksIn a (i + 1) back) (looksIn b (i + 1 + nodesIn a) back)))
   in-order (extreme kind s n) i back = back-in-order (asOperand s) (i + 1) back (n - 1)
 
-  two-in-order : (a b : Operand) (i back : ℕ) → missingInTwo inTable h a b i bar back ≡ firstOf (looksIn a i back ++ looksIn b (i + nodesIn a) back)
+  two-in-order : (a b : Operand) (i back : ℕ) → missingInTwo inTable h a b i bar back ≡ firstGone (looksIn a i back ++ looksIn b (i + nodesIn a) back)
   unfolding missingInTwo
   two-in-order a b i back =
       rw (in-order a i back, in-order b (i + nodesIn a) back) (sym (first-two (looksIn a i back) (looksIn b (i + nodesIn a) back)))
 
   -- what is found is the first missing, and where nothing is found none is missing
-  first-true : (ls : List Look) (node back : ℕ) → firstOf ls ≡ Leaf node back → FirstMissing h bar ls node back
-  unfolding firstOf
+  first-true : (ls : List Look) (node back : ℕ) → firstGone ls ≡ Leaf node back → FirstMissing h bar ls node back
+  unfolding firstGone
   first-true [] node back e = absurd (let z : _≡_ {A = ℕ} 0 1 = cc in omega arith)
   first-true (l ∷ ls) node back e = go (λ f. first-true ls node back f) (seen h bar l) refl e
     where
-      go : (firstOf ls ≡ Leaf node back → FirstMissing h bar ls node back) → (v : Value) → seen h bar l ≡ v
-          → orElse (goneIf (l .node) (l .back) v) (firstOf ls) ≡ Leaf node back → FirstMissing h bar (l ∷ ls) node back
-      go rest Missing s f = unfold orElse goneIf in
+      go : (firstGone ls ≡ Leaf node back → FirstMissing h bar ls node back) → (v : Value) → seen h bar l ≡ v
+          → firstFound (goneIf (l .node) (l .back) v) (firstGone ls) ≡ Leaf node back → FirstMissing h bar (l ∷ ls) node back
+      go rest Missing s f = unfold firstFound goneIf in
           let same-node : l .node ≡ node = cc in
           let same-back : l .back ≡ back = cc in
           rw (← same-node, ← same-back) (this l ls s)
-      go rest (Number x) s f = later l ls node back (rw s (number x)) (rest (unfold orElse goneIf in f))
+      go rest (Number x) s f = later l ls node back (rw s (number x)) (rest (unfold firstFound goneIf in f))
 
-  none-true : (ls : List Look) → firstOf ls ≡ Nowhere → NoneMissing h bar ls
-  unfolding firstOf
+  none-true : (ls : List Look) → firstGone ls ≡ Nowhere → NoneMissing h bar ls
+  unfolding firstGone
   none-true [] e = none-left
   none-true (l ∷ ls) e = go (none-true ls) (seen h bar l) refl e
     where
-      go : (firstOf ls ≡ Nowhere → NoneMissing h bar ls) → (v : Value) → seen h bar l ≡ v
-          → orElse (goneIf (l .node) (l .back) v) (firstOf ls) ≡ Nowhere → NoneMissing h bar (l ∷ ls)
-      go rest Missing s f = absurd (unfold orElse goneIf in let z : _≡_ {A = ℕ} 0 1 = cc in omega arith)
-      go rest (Number x) s f = and-none l ls (rw s (number x)) (rest (unfold orElse goneIf in f))
+      go : (firstGone ls ≡ Nowhere → NoneMissing h bar ls) → (v : Value) → seen h bar l ≡ v
+          → firstFound (goneIf (l .node) (l .back) v) (firstGone ls) ≡ Nowhere → NoneMissing h bar (l ∷ ls)
+      go rest Missing s f = absurd (unfold firstFound goneIf in let z : _≡_ {A = ℕ} 0 1 = cc in omega arith)
+      go rest (Number x) s f = and-none l ls (rw s (number x)) (rest (unfold firstFound goneIf in f))
 
   module _ (s : PositionState) where
     -- the values, or the missing leaf
-    by-true : (c : Condition) (i : ℕ) (f : Found) (vs : List Value) → f ≡ firstOf (looksOf c i) → vs ≡ valuesOf h c bar → True h s c i bar (shownBy f vs)
+    by-true : (c : Condition) (i : ℕ) (f : Found) (vs : List Value) → f ≡ firstGone (looksOf c i) → vs ≡ valuesOf h c bar → True h s c i bar (shownBy f vs)
     unfolding shownBy True
     by-true c i (Leaf node back) vs e v = first-true (looksOf c i) node back (sym e)
     by-true c i Nowhere vs e v = (v, none-true (looksOf c i) (sym e))
 
     cross-true : (kind : ℕ) (a b : Operand) (i : ℕ) (first : Bool) → eqb bar 0 ≡ first
         → True h s (cross kind a b) i bar (cond first atFirstBar
-        (shownBy (orElse (missingInTwo inTable h a b (i + 1) bar 0) (missingInTwo inTable h a b (i + 1) bar 1))
+        (shownBy (firstFound (missingInTwo inTable h a b (i + 1) bar 0) (missingInTwo inTable h a b (i + 1) bar 1))
         (value h a bar ∷ value h b bar ∷ value h a (bar - 1) ∷ value h b (bar - 1) ∷ [])))
     cross-true kind a b i true e = unfold True holds in (eqb-true bar 0 e, rw e)
     cross-true kind a b i false e = unfold looksOf valuesOf in
@@ -122,7 +122,8 @@ module _ (h : History) (bar : ℕ) where
         (sym (first-two (looksIn a (i + 1) 0 ++ looksIn b (i + 1 + nodesIn a) 0) (looksIn a (i + 1) 1 ++ looksIn b (i + 1 + nodesIn a) 1)))) refl
 
     trend-true : (kind : ℕ) (a : Operand) (n i : ℕ) (early : Bool) → ltb bar n ≡ early
-        → True h s (trend kind a n) i bar (cond early tooFewBars (shownBy (orElse (missingIn inTable h a (i + 1) bar 0) (missingIn inTable h a (i + 1) bar n))
+        → True h s (trend kind a n) i bar
+        (cond early tooFewBars (shownBy (firstFound (missingIn inTable h a (i + 1) bar 0) (missingIn inTable h a (i + 1) bar n))
         (value h a bar ∷ value h a (bar - n) ∷ [])))
     trend-true kind a n i true e = unfold True TooEarly holds in (ltb-true bar n e, rw e)
     trend-true kind a n i false e = unfold looksOf valuesOf in

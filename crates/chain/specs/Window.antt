@@ -18,15 +18,15 @@ use Rattle.table.specs.Reading.{treeOf}
 use Rattle.table.specs.Trees.{Operand, const, ref, price, prev, arith as sums, extreme, Condition, Conditions, compare, cross, between, trend, every, any}
 use Rattle.table.specs.Trees.{negated, inPosition, barsSince, none, more, reach, reachOf, reachOfAll}
 use Rattle.table.specs.Writing.{nodesIn, nodesOf}
-use Rattle.table.specs.Laws.Reach.{rows-are}
+use Rattle.roundtrip.specs.Laws.Reach.{rows-are}
 use Rattle.table.specs.Series.{asOperand}
-use Rattle.table.specs.Laws.Series.{leaf-reach}
+use Rattle.roundtrip.specs.Laws.Series.{leaf-reach}
 use Rattle.rules.specs.declared.PositionState.{PositionState}
 use Rattle.rules.specs.Meaning.{newest}
 use Rattle.rules.specs.Window.{Without, operand-same, condition-same, without-first}
 use Rattle.rules.specs.WindowAnswers.{window-whole}
 use Rattle.chain.specs.Missing.{inTable, leafGone, newestGone, missingIn, missingInTwo, missingInThree}
-use Rattle.chain.specs.Chain.{shown, lineOf, chain, firstWith}
+use Rattle.chain.specs.Chain.{shown, lineAt, chain, firstWith}
 use Rattle.chain.specs.Explained.{explanation, explainedBy, explained}
 
 module _ (h w : History) (s : ℕ) (part : Without h w s) where
@@ -110,8 +110,8 @@ module _ (h w : History) (s : ℕ) (part : Without h w s) where
   shown-same p (inPosition wanted) i bar r = refl
   shown-same p (barsSince selector k) i bar r = refl
 
-  line-same : (p : PositionState) (c : Condition) (i bar : ℕ) → reachOf c ≤ bar → lineOf inTable h p c i (s + bar) ≡ lineOf inTable w p c i bar
-  unfolding lineOf
+  line-same : (p : PositionState) (c : Condition) (i bar : ℕ) → reachOf c ≤ bar → lineAt inTable h p c i (s + bar) ≡ lineAt inTable w p c i bar
+  unfolding lineAt
   line-same p c i bar r = rw (condition-same h w s part p c bar r, shown-same p c i bar r)
 
   mutual

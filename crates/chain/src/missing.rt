@@ -18,8 +18,8 @@ ghost use Rattle.chain.specs.Missing as Missing;
 ghost use Rattle.chain.specs.Flat.{byEnds};
 
 // The one of the two that comes first.
-pub(crate) fn or_else(first: Found, second: Found) -> Found
-    ensures { λ r. ⌜ r ≡ Missing.orElse first second ⌝ }
+pub(crate) fn first_found(first: Found, second: Found) -> Found
+    ensures { λ r. ⌜ r ≡ Missing.firstFound first second ⌝ }
 {
     match first {
         Found::Leaf(node, back) => Found::Leaf(node, back),
@@ -137,7 +137,7 @@ pub(crate) fn first_missing(
         OperandShape::Arith(_, a, b) => {
             let x = first_missing(t, ends, rows, slots, a, bar, back, left - 1);
             let y = first_missing(t, ends, rows, slots, b, bar, back, left - 1);
-            or_else(x, y)
+            first_found(x, y)
         }
         OperandShape::Extreme(_, a, n) => {
             let over = series_in(t, a);

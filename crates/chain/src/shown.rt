@@ -1,8 +1,8 @@
 // What a line shows, by the shape of its node. `left` is how many levels of nesting are left for the operands.
 use super::Detail;
 use super::Found;
+use super::missing::first_found;
 use super::missing::first_missing;
-use super::missing::or_else;
 use rules::Entered;
 use rules::PositionState;
 use rules::Value;
@@ -20,7 +20,7 @@ ghost use Rattle.rules.specs.declared.Value.{Value};
 ghost use Rattle.rules.specs.Meaning.{value};
 ghost use Rattle.rules.specs.Flat.{operandAt, conditionAt};
 ghost use Rattle.chain.specs.declared.Found.{Found};
-ghost use Rattle.chain.specs.Missing.{Near, missingIn, orElse};
+ghost use Rattle.chain.specs.Missing.{Near, missingIn, firstFound};
 ghost use Rattle.chain.specs.Chain as Chain;
 ghost use Rattle.chain.specs.Chain.{shownBy, shownSince, shown};
 ghost use Rattle.chain.specs.Lines.{valueWord, detail, leafOr, detailOf};
@@ -106,11 +106,11 @@ fn two_missing(
     requires { ⌜ Near back left ⌝ }
     ensures { λ r. ⌜ (let m : ℕ → Found = λ i. missingIn (byEnds (now (ends .entry))) (historyOf slots (now (rows .entry)))
         (operandAt left (now (t .entry)) (now (ends .entry)) i) i bar back in
-        r ≡ orElse (m a) (m b)) ⌝ }
+        r ≡ firstFound (m a) (m b)) ⌝ }
 {
     let x = first_missing(t, ends, rows, slots, a, bar, back, left);
     let y = first_missing(t, ends, rows, slots, b, bar, back, left);
-    or_else(x, y)
+    first_found(x, y)
 }
 
 // A comparison of the operands at nodes a and b.
@@ -128,7 +128,7 @@ fn show_compare(
     ensures { λ r. ⌜ (let m : ℕ → ℕ → Found = λ i back. missingIn (byEnds (now (ends .entry))) (historyOf slots (now (rows .entry)))
         (operandAt left (now (t .entry)) (now (ends .entry)) i) i bar back in
         let v : ℕ → ℕ → Value = λ i at. value (historyOf slots (now (rows .entry))) (operandAt left (now (t .entry)) (now (ends .entry)) i) at in
-        r ≡ detailOf (shownBy (orElse (m a 0) (m b 0)) (v a bar ∷ v b bar ∷ []))) ⌝ }
+        r ≡ detailOf (shownBy (firstFound (m a 0) (m b 0)) (v a bar ∷ v b bar ∷ []))) ⌝ }
 {
     let gone = two_missing(t, ends, rows, slots, a, b, bar, 0, left);
     let x = eval_operand(t, ends, rows, slots, a, bar, left);
@@ -151,7 +151,7 @@ fn show_cross(
     ensures { λ r. ⌜ (let m : ℕ → ℕ → Found = λ i back. missingIn (byEnds (now (ends .entry))) (historyOf slots (now (rows .entry)))
         (operandAt left (now (t .entry)) (now (ends .entry)) i) i bar back in
         let v : ℕ → ℕ → Value = λ i at. value (historyOf slots (now (rows .entry))) (operandAt left (now (t .entry)) (now (ends .entry)) i) at in
-        r ≡ detailOf (cond (eqb bar 0) Chain.atFirstBar (shownBy (orElse (orElse (m a 0) (m b 0)) (orElse (m a 1) (m b 1)))
+        r ≡ detailOf (cond (eqb bar 0) Chain.atFirstBar (shownBy (firstFound (firstFound (m a 0) (m b 0)) (firstFound (m a 1) (m b 1)))
         (v a bar ∷ v b bar ∷ v a (bar - 1) ∷ v b (bar - 1) ∷ [])))) ⌝ }
 {
     if bar == 0 {
@@ -164,7 +164,7 @@ fn show_cross(
     let x_before = eval_operand(t, ends, rows, slots, a, bar - 1, left);
     let y_before = eval_operand(t, ends, rows, slots, b, bar - 1, left);
     leaf_or(
-        or_else(now, before),
+        first_found(now, before),
         4,
         value_word(x),
         value_word(y),
@@ -189,7 +189,7 @@ fn show_between(
     ensures { λ r. ⌜ (let m : ℕ → ℕ → Found = λ i back. missingIn (byEnds (now (ends .entry))) (historyOf slots (now (rows .entry)))
         (operandAt left (now (t .entry)) (now (ends .entry)) i) i bar back in
         let v : ℕ → ℕ → Value = λ i at. value (historyOf slots (now (rows .entry))) (operandAt left (now (t .entry)) (now (ends .entry)) i) at in
-        r ≡ detailOf (shownBy (orElse (orElse (m x 0) (m low 0)) (m high 0)) (v x bar ∷ v low bar ∷ v high bar ∷ []))) ⌝ }
+        r ≡ detailOf (shownBy (firstFound (firstFound (m x 0) (m low 0)) (m high 0)) (v x bar ∷ v low bar ∷ v high bar ∷ []))) ⌝ }
 {
     let two = two_missing(t, ends, rows, slots, x, low, bar, 0, left);
     let third = first_missing(t, ends, rows, slots, high, bar, 0, left);
@@ -197,7 +197,7 @@ fn show_between(
     let l = eval_operand(t, ends, rows, slots, low, bar, left);
     let h = eval_operand(t, ends, rows, slots, high, bar, left);
     leaf_or(
-        or_else(two, third),
+        first_found(two, third),
         3,
         value_word(v),
         value_word(l),
@@ -221,7 +221,7 @@ fn show_trend(
     ensures { λ r. ⌜ (let m : ℕ → ℕ → Found = λ i back. missingIn (byEnds (now (ends .entry))) (historyOf slots (now (rows .entry)))
         (operandAt left (now (t .entry)) (now (ends .entry)) i) i bar back in
         let v : ℕ → ℕ → Value = λ i at. value (historyOf slots (now (rows .entry))) (operandAt left (now (t .entry)) (now (ends .entry)) i) at in
-        r ≡ detailOf (cond (ltb bar n) Chain.tooFewBars (shownBy (orElse (m a 0) (m a n)) (v a bar ∷ v a (bar - n) ∷ [])))) ⌝ }
+        r ≡ detailOf (cond (ltb bar n) Chain.tooFewBars (shownBy (firstFound (m a 0) (m a n)) (v a bar ∷ v a (bar - n) ∷ [])))) ⌝ }
 {
     let back = n as usize;
     if bar < back {
@@ -231,7 +231,14 @@ fn show_trend(
     let then = first_missing(t, ends, rows, slots, a, bar, back, left);
     let x = eval_operand(t, ends, rows, slots, a, bar, left);
     let y = eval_operand(t, ends, rows, slots, a, bar - back, left);
-    leaf_or(or_else(now, then), 2, value_word(x), value_word(y), 0, 0)
+    leaf_or(
+        first_found(now, then),
+        2,
+        value_word(x),
+        value_word(y),
+        0,
+        0,
+    )
 }
 
 // The bars since the entry, where there is one.

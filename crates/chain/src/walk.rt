@@ -14,7 +14,7 @@ ghost use Rattle.rows.specs.History.{historyOf};
 ghost use Rattle.words.specs.Words.{overwrite};
 ghost use Rattle.rules.specs.Meaning.{holds};
 ghost use Rattle.rules.specs.Flat.{conditionAt};
-ghost use Rattle.chain.specs.Chain.{lineOf, chain};
+ghost use Rattle.chain.specs.Chain.{lineAt, chain};
 ghost use Rattle.chain.specs.Lines.{lineFrom, lineWords, putLines};
 ghost use Rattle.chain.specs.Flat.{byEnds, firstAt, nextAt};
 
@@ -129,7 +129,7 @@ fn put_line(
 )
     requires { ⌜ left + at ≤ 32 ⌝ }
     ensures { λ _. ⌜ now (lines .exit) ≡ overwrite (now (lines .entry)) (8 * at)
-        (lineWords (lineOf (byEnds (now (ends .entry))) (historyOf slots (now (rows .entry))) s
+        (lineWords (lineAt (byEnds (now (ends .entry))) (historyOf slots (now (rows .entry))) s
         (conditionAt left (now (t .entry)) (now (ends .entry)) i) i bar)) ⌝ }
 {
     let yes = eval_condition(t, ends, rows, slots, s, i, bar, left);

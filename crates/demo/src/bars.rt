@@ -3,8 +3,14 @@
 ghost use mathlib.Core.Path.{_≡_};
 ghost use Prim.Native.Nat.{max, min, _≤_};
 
+// A day of minutes.
+const MINUTES: usize = 1440;
+
+// The words of a bar with two slots.
+pub(crate) const BAR_WORDS: usize = words::limits::BAR_FIXED + 2;
+
 // A price between two bars, in cents, and what is carried along.
-pub(crate) struct Market {
+struct Market {
     pub cents: u64,
     pub dice: u64,
     pub quick: f64,
@@ -12,13 +18,13 @@ pub(crate) struct Market {
 }
 
 // One bar's words, and the market after it.
-pub(crate) struct Minute {
+struct Minute {
     pub bar: [u64; 12],
     pub after: Market,
 }
 
 // The first bar's open.
-pub(crate) fn opening() -> Market {
+fn opening() -> Market {
     Market {
         cents: 10_000,
         dice: 20_261_115,
@@ -68,7 +74,7 @@ fn smaller(a: u64, b: u64) -> u64
 }
 
 // The bar of a minute: it opens where the one before it closed.
-pub(crate) fn minute_bar(m: Market, minute: u64) -> Minute {
+fn minute_bar(m: Market, minute: u64) -> Minute {
     let dice = thrown(m.dice);
     let wide = thrown(dice);
     let open = m.cents % 1_000_000 + 100;
@@ -99,5 +105,19 @@ pub(crate) fn minute_bar(m: Market, minute: u64) -> Minute {
             quick,
             slow,
         },
+    }
+}
+
+// The day's bars, one behind the other.
+pub(crate) fn write_day(room: &mut [u64]) {
+    let mut market = opening();
+    let mut minute: usize = 0;
+    while minute < MINUTES {
+        let next = minute_bar(market, minute as u64);
+        let bar = next.bar;
+        words::put(room, minute * BAR_WORDS, &bar);
+        let after = next.after;
+        market = after;
+        minute += 1;
     }
 }

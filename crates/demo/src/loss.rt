@@ -1,14 +1,13 @@
 // The same day on a box that loses its supply: its state and window are dumped, the box is started again, restores them into cleared rooms
 // and goes on with empty books. Its trades are those of the unbroken day.
-use crate::Day;
-use crate::bars::Market;
+use crate::bars::BAR_WORDS;
 use crate::report;
 use dump::reader::Restored;
 use engine::Finished;
 use records::state::State;
 
 // How many minutes are seen when the supply is lost: a position is held, and the order to leave it works.
-const LOST: u64 = 719;
+const LOST: usize = 719;
 
 // The order of writing: 216 bytes of rows, the header behind the mark, the 3 bytes of the mark.
 const ROWS_END: usize = 216;
@@ -103,10 +102,28 @@ fn finished(state: State, rows: &[u64], equity: &mut [u64], trades: &mut [u64]) 
     }
 }
 
+// The bars before the loss.
+fn bars_before(bars: &[u64]) -> &[u64] {
+    let end = LOST * BAR_WORDS;
+    if end <= bars.len() {
+        return &bars[..end];
+    }
+    bars
+}
+
+// The bars from the loss on.
+fn bars_after(bars: &[u64]) -> &[u64] {
+    let end = LOST * BAR_WORDS;
+    if end <= bars.len() {
+        return &bars[end..];
+    }
+    bars
+}
+
 // The rest of the day on a box that knows nothing but the image; how many trades it made.
 fn rest_of_day<'a>(
     area: &[u8],
-    market: Market,
+    bars: &[u64],
     entry: &[u8],
     exit: &'a [u8],
     none: &'a [u8],
@@ -117,10 +134,9 @@ fn rest_of_day<'a>(
     match dump::restore(crate::settings(), area, &mut rows) {
         Restored::Refused(_) => 0,
         Restored::Done(state) => {
-            let day = crate::run_minutes(
-                Day { state, market },
-                LOST,
-                crate::MINUTES,
+            let evening = crate::run_bars(
+                state,
+                bars,
                 entry,
                 exit,
                 none,
@@ -128,41 +144,33 @@ fn rest_of_day<'a>(
                 equity,
                 trades,
             );
-            finished(day.state, &rows, equity, trades)
+            finished(evening, &rows, equity, trades)
         }
     }
 }
 
-// The minutes up to the loss, and the dump; the market goes on.
+// The bars up to the loss, and the dump; how many trades were made.
 fn until_loss<'a>(
     area: &mut [u8],
+    bars: &[u64],
     entry: &[u8],
     exit: &'a [u8],
     none: &'a [u8],
     equity: &mut [u64],
     trades: &mut [u64],
-) -> Day {
+) -> usize {
     let mut rows = [0u64; 27];
-    let day = crate::run_minutes(
-        crate::morning(),
-        0,
-        LOST,
-        entry,
-        exit,
-        none,
-        &mut rows,
-        equity,
-        trades,
-    );
-    report::say_count(b"supply lost     after ", LOST, b" minutes\n");
-    let state = day.state;
-    let market = day.market;
+    let morning = records::state::fresh(crate::settings());
+    let state = crate::run_bars(morning, bars, entry, exit, none, &mut rows, equity, trades);
+    report::say_count(b"supply lost     after ", LOST as u64, b" minutes\n");
     write_image(state, &rows, area);
-    Day { state, market }
+    let counts = state.counts;
+    counts.trades
 }
 
 // The day in two, held against the unbroken one and its trades.
 pub(crate) fn broken_day<'a>(
+    bars: &[u64],
     entry: &[u8],
     exit: &'a [u8],
     none: &'a [u8],
@@ -173,17 +181,23 @@ pub(crate) fn broken_day<'a>(
     let mut equity = [0u64; 2880];
     let mut before = [0u64; 10000];
     let mut after = [0u64; 10000];
-    let day = until_loss(&mut area, entry, exit, none, &mut equity, &mut before);
-    let state = day.state;
-    let counts = state.counts;
+    let m = until_loss(
+        &mut area,
+        bars_before(bars),
+        entry,
+        exit,
+        none,
+        &mut equity,
+        &mut before,
+    );
     let n = rest_of_day(
         &area,
-        day.market,
+        bars_after(bars),
         entry,
         exit,
         none,
         &mut equity,
         &mut after,
     );
-    say_trades(whole, count, &before, counts.trades, &after, n);
+    say_trades(whole, count, &before, m, &after, n);
 }

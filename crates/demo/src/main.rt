@@ -1,13 +1,10 @@
 // A built-in example, from a rule table to its trades: the table is checked, the depth of its window is worked out, its
-// rules become steps, a day of minute bars goes through the engine, and the run is finished. Then the same day on a box that loses its
-// supply in the middle of it.
+// rules become steps, a day of minute bars goes through the engine in one call, and the run is finished. Then the same day on a box that
+// loses its supply in the middle of it: a call before the loss, and one after it.
 mod bars;
 mod loss;
 mod report;
 
-ghost use Prim.Native.Nat.{_≤_};
-use bars::Market;
-use engine::Answer;
 use engine::Finished;
 use execution::Optional;
 use execution::Risk;
@@ -17,10 +14,11 @@ use execution::Terms;
 use execution::level::Entries;
 use execution::level::OrderType;
 use metrics::Metrics;
+use needed::depth::DepthAnswer;
 use records::settings::Settings;
 use records::state::State;
+use refusals::verdict::Verdict;
 use steps::Translated;
-use table::depth::DepthAnswer;
 use table::trees::Tree;
 
 // The paper's worked example: entry CrossAbove(slot 0, slot 1); exit Lt(close, Prev(close, 2)). K is 2.
@@ -160,9 +158,6 @@ const SLOTS: usize = 2;
 
 const DEPTH: usize = 3;
 
-// A day of minutes.
-pub(crate) const MINUTES: u64 = 1440;
-
 // 10,000 to begin with, nine tenths of it a trade, a taker fee of 0.2 basis points, a stop loss of 1 percent.
 pub(crate) fn settings() -> Settings {
     Settings {
@@ -197,14 +192,6 @@ pub(crate) fn settings() -> Settings {
     }
 }
 
-// The state after a step, done or refused.
-fn state_after(answer: Answer) -> State {
-    match answer {
-        Answer::Done(state) => state,
-        Answer::Refused(_, state) => state,
-    }
-}
-
 // How many bytes of its room a list of steps takes.
 fn bytes_written(answer: Translated) -> usize {
     match answer {
@@ -213,32 +200,22 @@ fn bytes_written(answer: Translated) -> usize {
     }
 }
 
-// The engine's state and the market between two minutes.
-pub(crate) struct Day {
-    pub state: State,
-    pub market: Market,
-}
-
-// One minute: its bar goes through the engine. There are no short rules, so their list, `none`, is empty.
-fn one_minute<'a>(
-    day: Day,
-    minute: u64,
+// All the bars handed over, in one call; the state after them. There are no short rules, so their list, `none`, is empty.
+pub(crate) fn run_bars<'a>(
+    state: State,
+    bars: &[u64],
     entry: &[u8],
     exit: &'a [u8],
     none: &'a [u8],
     rows: &mut [u64],
     equity: &mut [u64],
     trades: &mut [u64],
-) -> Day {
-    let state = day.state;
-    let market = day.market;
-    let next = bars::minute_bar(market, minute);
-    let bar = next.bar;
-    let after = next.after;
-    let answer = engine::step(
+) -> State {
+    let day = engine::day::run_bars(
+        false,
         settings(),
         state,
-        &bar,
+        bars,
         rows,
         equity,
         trades,
@@ -247,41 +224,16 @@ fn one_minute<'a>(
         none,
         none,
     );
-    Day {
-        state: state_after(answer),
-        market: after,
+    let verdict = day.verdict;
+    match verdict {
+        Verdict::Fine => report::say_count(
+            b"bars            ",
+            day.done as u64,
+            b" minutes in one call\n",
+        ),
+        Verdict::Bad(refusal) => say_refusal(refusal.number, refusal.place),
     }
-}
-
-// Before the first minute.
-pub(crate) fn morning() -> Day {
-    Day {
-        state: records::state::fresh(settings()),
-        market: bars::opening(),
-    }
-}
-
-// The day from one minute to another.
-pub(crate) fn run_minutes<'a>(
-    start: Day,
-    from: u64,
-    upto: u64,
-    entry: &[u8],
-    exit: &'a [u8],
-    none: &'a [u8],
-    rows: &mut [u64],
-    equity: &mut [u64],
-    trades: &mut [u64],
-) -> Day
-    requires { ⌜ upto ≤ 1440 ⌝ }
-{
-    let mut day = start;
-    let mut minute: u64 = from;
-    while minute < upto {
-        day = one_minute(day, minute, entry, exit, none, rows, equity, trades);
-        minute += 1;
-    }
-    day
+    day.state
 }
 
 // What the depth of the table's window is, and what it costs.
@@ -289,7 +241,7 @@ fn say_depth() {
     report::say(
         b"rule table      entry CrossAbove(slot 0, slot 1), exit Lt(close, Prev(close, 2))\n",
     );
-    match table::depth::depth(&TABLE, 0) {
+    match needed::depth::depth(&TABLE, 0) {
         DepthAnswer::Refuses(refusal) => say_refusal(refusal.number, refusal.place),
         DepthAnswer::Needs { rows, row, window } => {
             report::say_count(b"accepted        its window is ", rows, b" rows deep\n");
@@ -361,8 +313,6 @@ fn say_metrics(m: Metrics) {
 
 // The end of the run; how many trades it made.
 fn say_end(state: State, rows: &[u64], equity: &mut [u64], trades: &mut [u64]) -> usize {
-    let seen = state.counts;
-    report::say_count(b"bars            ", seen.bars_seen, b" minutes\n");
     match engine::finish(settings(), state, rows, equity, trades) {
         Finished::Refused(refusal, _) => {
             say_refusal(refusal.number, refusal.place);
@@ -408,6 +358,7 @@ fn first_part(room: &[u8], n: usize) -> &[u8] {
 
 // The day and its end.
 fn run_and_say<'a>(
+    bars: &[u64],
     entry: &[u8],
     exit: &'a [u8],
     none: &'a [u8],
@@ -415,32 +366,25 @@ fn run_and_say<'a>(
     equity: &mut [u64],
     trades: &mut [u64],
 ) {
-    let day = run_minutes(
-        morning(),
-        0,
-        MINUTES,
-        entry,
-        exit,
-        none,
-        rows,
-        equity,
-        trades,
-    );
-    let state = day.state;
+    let morning = records::state::fresh(settings());
+    let state = run_bars(morning, bars, entry, exit, none, rows, equity, trades);
     let count = say_end(state, rows, equity, trades);
-    loss::broken_day(entry, exit, none, trades, count);
+    loss::broken_day(bars, entry, exit, none, trades, count);
 }
 
 fn main() {
     say_depth();
     let mut entry = [0u8; 192];
     let mut exit = [0u8; 256];
+    let mut bars = [0u64; 17280];
     let mut rows = [0u64; 27];
     let mut equity = [0u64; 2880];
     let mut trades = [0u64; 10000];
     let sizes = translated(&mut entry, &mut exit);
     say_steps(sizes);
+    bars::write_day(&mut bars);
     run_and_say(
+        &bars,
         first_part(&entry, sizes.entry),
         first_part(&exit, sizes.exit),
         first_part(&entry, 0),

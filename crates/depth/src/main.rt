@@ -2,7 +2,7 @@
 // the window and of a dump. The argument is the lookback of a volatility target, which needs one row more than it says where that is more; with
 // none it is 0. The stored input is the worked example of document 01, with a lookback of 10.
 ghost use Prim.Native.Nat.{_<_};
-use table::depth::DepthAnswer;
+use needed::depth::DepthAnswer;
 
 // "the first 4,113 bytes": one more than the longest table has, so that a longer input is refused.
 const MOST: usize = 4113;
@@ -71,7 +71,7 @@ fn dump_bytes(window: u64) -> u64 {
 }
 
 fn tell_depth(table: &[u8], lookback: u64) {
-    let answer = table::depth::depth(table, lookback);
+    let answer = needed::depth::depth(table, lookback);
     match answer {
         DepthAnswer::Needs { rows, row, window } => {
             tell(b"rows ", rows);

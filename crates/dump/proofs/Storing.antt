@@ -1,6 +1,6 @@
 -- Stores, one after another, as bytes laid.
 use Prim.Native.Nat.{ℕ, _+_, _-_, _*_, _≤_}
-use mathlib.Core.Path.{_≡_, sym, ap, _∙_}
+use mathlib.Core.Path.{_≡_, refl, sym, ap, _∙_}
 use mathlib.Core.List.{List}
 use native.Mathlib.Nat.{sub-self, zero-add}
 use native.Mathlib.Omega.{arith}
@@ -8,7 +8,7 @@ use lib.ListN.{getD, set}
 use Rattle.steps.specs.Bytes.{eight}
 use Rattle.dump.specs.Layout.{wordsBytes}
 use Rattle.dump.specs.Laws.Laid.{laid, laid-none, laid-more, laid-on, laid-as}
-use Rattle.dump.specs.Laws.InOrder.{clip, partLaid}
+use Rattle.dump.specs.Laws.InOrder.{clip, partLaid, wholeLaid}
 use Rattle.dump.specs.Laws.WordBytes.{word-byte}
 
 -- eight of them
@@ -38,6 +38,13 @@ laid-next area base xs p k b h e f =
     let n : k + 1 - p ≡ k - p + 1 = omega arith in
     rw (e, n) (laid-more area base xs p (k - p) k b (omega arith) f)
 
+-- the bytes of word k
+word-at : (now : List ℕ) (base : ℕ) (ws : List ℕ) (k p w : ℕ) → p ≡ base + 8 * k → w ≡ getD ws k 0
+    → laid now p (eight w) 0 8 ≡ laid now base (wordsBytes ws) (8 * k) 8
+word-at now base ws k p w e f =
+    laid-as now p (eight w) 0 base (wordsBytes ws) (8 * k) 8 (omega arith)
+    (λ j l. ap (λ (m : ℕ). getD (eight w) m 0) (zero-add j) ∙ ap (λ (v : ℕ). getD (eight v) j 0) f ∙ sym (word-byte ws k j l))
+
 -- the word at k is the next
 pub word-next : (area : List ℕ) (base : ℕ) (ws : List ℕ) (i k w : ℕ) {now : List ℕ} → i ≤ k → now ≡ laid area base (wordsBytes ws) (8 * i) (8 * (k - i))
     → w ≡ getD ws k 0 → laid now (base + 8 * k) (eight w) 0 8 ≡ laid area base (wordsBytes ws) (8 * i) (8 * (k + 1 - i))
@@ -45,8 +52,7 @@ word-next area base ws i k w {now} h e f =
     let n : 8 * (k + 1 - i) ≡ 8 * (k - i) + 8 = omega arith in
     let q : 8 * i + 8 * (k - i) ≡ 8 * k = omega arith in
     rw n
-    (laid-as now (base + 8 * k) (eight w) 0 base (wordsBytes ws) (8 * k) 8 (omega arith)
-    (λ j l. ap (λ (m : ℕ). getD (eight w) m 0) (zero-add j) ∙ ap (λ (v : ℕ). getD (eight v) j 0) f ∙ sym (word-byte ws k j l))
+    (word-at now base ws k (base + 8 * k) w refl f
     ∙ ap (λ (x : List ℕ). laid x base (wordsBytes ws) (8 * k) 8) e
     ∙ ap (λ (m : ℕ). laid (laid area base (wordsBytes ws) (8 * i) (8 * (k - i))) base (wordsBytes ws) m 8) (sym q)
     ∙ laid-on area base (wordsBytes ws) (8 * i) (8 * (k - i)) 8)
@@ -62,6 +68,33 @@ words-all area base ws i j k h g l e = let n : 8 * (k - i) ≡ 8 * (j - i) = ome
 pub laid-two : (area : List ℕ) (base : ℕ) (xs : List ℕ) (p n q m k : ℕ) {mid out : List ℕ} → mid ≡ laid area base xs p n → out ≡ laid mid base xs q m
     → q ≡ p + n → k ≡ n + m → out ≡ laid area base xs p k
 laid-two area base xs p n q m k e f g h = rw (f, e, g, h) (laid-on area base xs p n m)
+
+-- four words
+pub four-words : (area : List ℕ) (base : ℕ) (ws : List ℕ) (k : ℕ) {one two three out : List ℕ}
+    → one ≡ laid area (base + 8 * k) (eight (getD ws k 0)) 0 8 → two ≡ laid one (base + 8 * k + 8) (eight (getD ws (k + 1) 0)) 0 8
+    → three ≡ laid two (base + 8 * k + 16) (eight (getD ws (k + 2) 0)) 0 8 → out ≡ laid three (base + 8 * k + 24) (eight (getD ws (k + 3) 0)) 0 8
+    → out ≡ laid area base (wordsBytes ws) (8 * k) 32
+four-words area base ws k {one} {two} {three} e f g h =
+    laid-two area base (wordsBytes ws) (8 * k) 24 (8 * (k + 3)) 8 32
+    (laid-two area base (wordsBytes ws) (8 * k) 16 (8 * (k + 2)) 8 24
+    (laid-two area base (wordsBytes ws) (8 * k) 8 (8 * (k + 1)) 8 16
+    (e ∙ word-at area base ws k _ _ refl refl) (f ∙ word-at one base ws (k + 1) _ _ (omega arith) refl) (omega arith) refl)
+    (g ∙ word-at two base ws (k + 2) _ _ (omega arith) refl) (omega arith) refl)
+    (h ∙ word-at three base ws (k + 3) _ _ (omega arith) refl) (omega arith) refl
+
+-- eight more, four by four
+pub eight-next : (area : List ℕ) (base : ℕ) (ws : List ℕ) (i k : ℕ) {now mid out : List ℕ} → i ≤ k
+    → now ≡ laid area base (wordsBytes ws) (8 * i) (8 * (k - i)) → mid ≡ laid now base (wordsBytes ws) (8 * k) 32
+    → out ≡ laid mid base (wordsBytes ws) (8 * (k + 4)) 32 → out ≡ laid area base (wordsBytes ws) (8 * i) (8 * (k + 8 - i))
+eight-next area base ws i k h e f g =
+    laid-two area base (wordsBytes ws) (8 * i) (8 * (k + 4 - i)) (8 * (k + 4)) 32 (8 * (k + 8 - i))
+    (laid-two area base (wordsBytes ws) (8 * i) (8 * (k - i)) (8 * k) 32 (8 * (k + 4 - i)) e f (omega arith) (omega arith))
+    g (omega arith) (omega arith)
+
+-- rows and header, each whole
+pub whole-laid : (area head rows : List ℕ) (words : ℕ) {mid out : List ℕ} → mid ≡ laid area 256 (wordsBytes rows) (8 * 0) (8 * words - 8 * 0)
+    → out ≡ laid mid 0 (wordsBytes head) (8 * 0) (8 * 32 - 8 * 0) → out ≡ wholeLaid area head rows (8 * words)
+whole-laid area head rows words e f = let n : 8 * words - 8 * 0 ≡ 8 * words = omega arith in rw (f, e, n)
 
 -- what of a part lies between
 pub part-laid : (area : List ℕ) (base : ℕ) (ws : List ℕ) (skip start most from upto a b : ℕ) {out : List ℕ}

@@ -61,7 +61,7 @@ numbersFine x =
 
 -- a field that is not used is zero
 abbrev pub usedOrZero : Bool → ℕ → Bool
-usedOrZero used w = cond used true (eqb w 0)
+usedOrZero used w = used || eqb w 0
 
 -- an order 1 or 2 is an entry
 abbrev pub isEntry : ℕ → Bool

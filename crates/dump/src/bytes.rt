@@ -67,12 +67,42 @@ fn lay_bytes(area: &mut [u8], base: usize, list: &[u64], p: usize, q: usize)
     }
 }
 
-// The bytes of words i to j, a word at a time.
-fn lay_known(area: &mut [u8], base: usize, list: &[u64], i: usize, j: usize)
-    requires { ⌜ (j ≤ length (now list)) × (base + 8 * j ≤ length (now area)) ⌝ }
-    ensures { λ _. ⌜ now (area .exit) ≡ laid (now (area .entry)) base (wordsBytes (now (list .entry))) (8 * i) (8 * (j - i)) ⌝ }
+// The bytes of four words, of which k is the first. All are read before one is written, so that they are copied at once.
+fn lay_four(area: &mut [u8], base: usize, list: &[u64], k: usize)
+    requires { ⌜ (k + 4 ≤ length (now list)) × (base + 8 * (k + 4) ≤ length (now area)) ⌝ }
+    ensures { λ _. ⌜ now (area .exit) ≡ laid (now (area .entry)) base (wordsBytes (now (list .entry))) (8 * k) 32 ⌝ }
+{
+    let a = list[k];
+    let b = list[k + 1];
+    let c = list[k + 2];
+    let d = list[k + 3];
+    let at = base + 8 * k;
+    put_word(area, at, a);
+    put_word(area, at + 8, b);
+    put_word(area, at + 16, c);
+    put_word(area, at + 24, d);
+}
+
+// The bytes of words i on, eight words at a time, while there are so many before j; and how far that goes.
+fn lay_eights(area: &mut [u8], base: usize, list: &[u64], i: usize, j: usize) -> usize
+    requires { ⌜ (i ≤ j) × (j ≤ length (now list)) × (base + 8 * j ≤ length (now area)) ⌝ }
+    ensures { λ r. ⌜ (i ≤ r) × (r ≤ j) × (now (area .exit) ≡ laid (now (area .entry)) base (wordsBytes (now (list .entry))) (8 * i) (8 * (r - i))) ⌝ }
 {
     let mut k = i;
+    while 8 <= j - k {
+        lay_four(area, base, list, k);
+        lay_four(area, base, list, k + 4);
+        k += 8;
+    }
+    k
+}
+
+// The bytes of words i to j: what eights leave over, a word at a time.
+fn lay_known(area: &mut [u8], base: usize, list: &[u64], i: usize, j: usize)
+    requires { ⌜ (i ≤ j) × (j ≤ length (now list)) × (base + 8 * j ≤ length (now area)) ⌝ }
+    ensures { λ _. ⌜ now (area .exit) ≡ laid (now (area .entry)) base (wordsBytes (now (list .entry))) (8 * i) (8 * (j - i)) ⌝ }
+{
+    let mut k = lay_eights(area, base, list, i, j);
     while k < j {
         put_word(area, base + 8 * k, list[k]);
         k += 1;
@@ -92,7 +122,7 @@ fn lay_zeros(area: &mut [u8], base: usize, list: &[u64], p: usize, q: usize)
 }
 
 // The bytes of words i to j, those past the end zero.
-fn lay_words(area: &mut [u8], base: usize, list: &[u64], i: usize, j: usize)
+pub(crate) fn lay_words(area: &mut [u8], base: usize, list: &[u64], i: usize, j: usize)
     requires { ⌜ (i ≤ j) × (base + 8 * j ≤ length (now area)) ⌝ }
     ensures { λ _. ⌜ now (area .exit) ≡ laid (now (area .entry)) base (wordsBytes (now (list .entry))) (8 * i) (8 * j - 8 * i) ⌝ }
 {

@@ -17,45 +17,42 @@ use words::refusal::Refusal;
 ghost use mathlib.Core.Path.{_≡_};
 ghost use Prim.Native.Nat.{_+_, _<_, _≤_};
 ghost use Rattle.words.specs.Limits.{rowWords, mostSlots, mostRows};
+ghost use Rattle.records.specs.StateWords.{enteredOf};
 ghost use Rattle.refusals.specs.Lines.{judged};
+ghost use Rattle.refusals.specs.Rooms.{entryBelow};
 ghost use Rattle.dump.specs.Reading.{slotsIn, rowsIn, wordsAt, rowPlace};
-ghost use Rattle.dump.specs.Refused.{usedOrZero, isEntry, zeroAt, absentZero, rowFine, eachFine, rowsFine};
+ghost use Rattle.dump.specs.Refused.{usedOrZero, zeroAt, absentZero, rowFine, eachFine, rowsFine};
 ghost use Rattle.dump.specs.Refused.{shapeFine, numbersFine, unusedZero, imageLines, sameLines, restoreJudged};
 
 // The words of the widest row.
 const MOST_WORDS: usize = ROW_FIXED + MOST_SLOTS;
 
-// Mark, version, D, K and the size.
+// Mark, version, D, K and the size. Every test is made, with no branch between them: a read past the end gives 0.
 fn shape_fine(image: &[u8]) -> bool
     ensures { λ r. ⌜ r ≡ shapeFine (now (image .entry)) ⌝ }
 {
-    if image.len() < HEAD_BYTES {
-        return false;
-    }
-    if byte(image, 0) != 87 {
-        return false;
-    }
-    if byte(image, 1) != 68 {
-        return false;
-    }
-    if byte(image, 2) != 80 {
-        return false;
-    }
-    if read16(image, 4) != 1 {
-        return false;
-    }
+    let size = image.len();
     let depth = read16(image, 6);
-    if depth < 1 {
-        return false;
-    }
-    if MOST_ROWS < depth {
-        return false;
-    }
     let slots = byte(image, 3) as usize;
-    if MOST_SLOTS < slots {
-        return false;
+    (HEAD_BYTES <= size)
+        & (byte(image, 0) == 87)
+        & (byte(image, 1) == 68)
+        & (byte(image, 2) == 80)
+        & (read16(image, 4) == 1)
+        & (1 <= depth)
+        & (depth <= MOST_ROWS)
+        & (slots <= MOST_SLOTS)
+        & (size == HEAD_BYTES + depth * (8 * (ROW_FIXED + slots)))
+}
+
+// Whether an entry bar, where there is one, is below the bars seen.
+fn entry_below(entered: u8, entry: u64, seen: u64) -> bool
+    ensures { λ r. ⌜ r ≡ entryBelow (enteredOf entered entry) seen ⌝ }
+{
+    if entered == 0 {
+        return true;
     }
-    image.len() == HEAD_BYTES + depth * (8 * (ROW_FIXED + slots))
+    entry < seen
 }
 
 // Rows, kinds and the entry bar.
@@ -64,47 +61,20 @@ fn numbers_fine(image: &[u8]) -> bool
 {
     let rows = read32(image, 12);
     let seen = read32(image, 8);
-    let depth = read16(image, 6) as u64;
-    if depth < rows {
-        return false;
-    }
-    if seen < rows {
-        return false;
-    }
-    if 3 < byte(image, 16) {
-        return false;
-    }
-    if 3 < byte(image, 17) {
-        return false;
-    }
     let entered = byte(image, 18);
-    if 1 < entered {
-        return false;
-    }
-    if entered == 0 {
-        return true;
-    }
-    read32(image, 20) < seen
+    (rows <= read16(image, 6) as u64)
+        & (rows <= seen)
+        & (byte(image, 16) <= 3)
+        & (byte(image, 17) <= 3)
+        & (entered <= 1)
+        & entry_below(entered, read32(image, 20), seen)
 }
 
 // A field that is not used is zero.
 fn used_or_zero(used: bool, word: u64) -> bool
     ensures { λ r. ⌜ r ≡ usedOrZero used word ⌝ }
 {
-    if used {
-        return true;
-    }
-    word == 0
-}
-
-// Whether an order is an entry.
-fn is_entry(order: u8) -> bool
-    ensures { λ r. ⌜ r ≡ isEntry order ⌝ }
-{
-    if order == 1 {
-        return true;
-    }
-    order == 2
+    used | (word == 0)
 }
 
 // The fields that their kind does not use.
@@ -113,19 +83,12 @@ fn unused_zero(image: &[u8]) -> bool
 {
     let order = byte(image, 16);
     let kind = byte(image, 17);
-    if !used_or_zero(0 < order, read64(image, 24)) {
-        return false;
-    }
-    if !used_or_zero(is_entry(order), kind as u64) {
-        return false;
-    }
-    if !used_or_zero(0 < kind, read64(image, 104)) {
-        return false;
-    }
-    if !used_or_zero(kind == 3, read64(image, 112)) {
-        return false;
-    }
-    used_or_zero(0 < byte(image, 18), read32(image, 20))
+    let entry = (order == 1) | (order == 2);
+    used_or_zero(0 < order, read64(image, 24))
+        & used_or_zero(entry, kind as u64)
+        & used_or_zero(0 < kind, read64(image, 104))
+        & used_or_zero(kind == 3, read64(image, 112))
+        & used_or_zero(0 < byte(image, 18), read32(image, 20))
 }
 
 // Whether the n bytes from `at` on are zero.

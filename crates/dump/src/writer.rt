@@ -1,5 +1,6 @@
 // An image written into an area, in the one order of writing.
 use crate::bytes::lay;
+use crate::bytes::lay_words;
 use records::settings::Settings;
 use records::state::State;
 use words::limits::MOST_ROWS;
@@ -7,7 +8,7 @@ use words::limits::MOST_SLOTS;
 use words::limits::ROW_FIXED;
 use words::limits::STATE_WORDS;
 ghost use mathlib.Core.Path.{_≡_};
-ghost use Prim.Native.Nat.{_+_, _-_, _≤_};
+ghost use Prim.Native.Nat.{_+_, _-_, _*_, _≤_};
 ghost use lib.ListN.{length};
 ghost use Rattle.records.specs.StateWords.{wordsOf};
 ghost use Rattle.words.specs.Limits.{mostSlots, mostRows, stateWords};
@@ -17,11 +18,13 @@ ghost use Rattle.engine.specs.Record.{heldRows};
 ghost use Rattle.dump.specs.Layout.{bodyBytes, sizeFor, imageOf};
 ghost use Rattle.dump.specs.Order.{written};
 ghost use Rattle.dump.specs.Laws.Packed.{headWords};
-ghost use Rattle.dump.specs.Laws.InOrder.{clip, partLaid, inOrder};
+ghost use Rattle.dump.specs.Laws.InOrder.{clip, partLaid, inOrder, wholeLaid};
 ghost use Rattle.dump.specs.Laws.Fine.{DumpFine};
 
 // The bytes before the rows; of these the mark's, and the rest.
 pub const HEAD_BYTES: usize = 256;
+
+const HEAD_WORDS: usize = HEAD_BYTES / 8;
 
 pub const MARK_BYTES: usize = 3;
 
@@ -101,8 +104,17 @@ fn lay_part(
     );
 }
 
+// All of it: the rows, then the header, its mark with it.
+fn write_whole(area: &mut [u8], head: &[u64], rows: &[u64], words: usize)
+    requires { ⌜ 256 + 8 * words ≤ length (now area) ⌝ }
+    ensures { λ _. ⌜ now (area .exit) ≡ wholeLaid (now (area .entry)) (now (head .entry)) (now (rows .entry)) (8 * words) ⌝ }
+{
+    lay_words(area, HEAD_BYTES, rows, 0, words);
+    lay_words(area, 0, head, 0, HEAD_WORDS);
+}
+
 // Bytes `from` to `upto` of the order of writing: the rows, the header behind the mark, the mark.
-fn write_order(area: &mut [u8], head: &[u64], rows: &[u64], body: usize, from: usize, upto: usize)
+fn write_parts(area: &mut [u8], head: &[u64], rows: &[u64], body: usize, from: usize, upto: usize)
     requires { ⌜ 256 + body ≤ length (now area) ⌝ }
     ensures { λ _. ⌜ now (area .exit) ≡ inOrder (now (area .entry)) (now (head .entry)) (now (rows .entry)) body from upto ⌝ }
 {
@@ -111,12 +123,26 @@ fn write_order(area: &mut [u8], head: &[u64], rows: &[u64], body: usize, from: u
     lay_part(area, 0, head, 0, body + REST_BYTES, MARK_BYTES, from, upto);
 }
 
-// The bytes of D rows.
-fn body_bytes(slots: usize, depth: usize) -> usize
-    requires { ⌜ (slots ≤ mostSlots) × (depth ≤ mostRows) ⌝ }
-    ensures { λ r. ⌜ r ≡ bodyBytes slots depth ⌝ }
+// The same of rows that are so many words, zero rows included; a whole image word by word.
+fn write_order(area: &mut [u8], head: &[u64], rows: &[u64], words: usize, from: usize, upto: usize)
+    requires { ⌜ 256 + 8 * words ≤ length (now area) ⌝ }
+    ensures { λ _. ⌜ now (area .exit) ≡ inOrder (now (area .entry)) (now (head .entry)) (now (rows .entry)) (8 * words) from upto ⌝ }
 {
-    depth * (8 * (ROW_FIXED + slots))
+    if from == 0 {
+        if HEAD_BYTES + 8 * words <= upto {
+            write_whole(area, head, rows, words);
+            return;
+        }
+    }
+    write_parts(area, head, rows, 8 * words, from, upto);
+}
+
+// The words of D rows.
+fn body_words(slots: usize, depth: usize) -> usize
+    requires { ⌜ (slots ≤ mostSlots) × (depth ≤ mostRows) ⌝ }
+    ensures { λ r. ⌜ 8 * r ≡ bodyBytes slots depth ⌝ }
+{
+    depth * (ROW_FIXED + slots)
 }
 
 // The size of an image, for a D and a K; 0 where no settings have them.
@@ -132,7 +158,7 @@ pub fn dump_bytes(slots: usize, depth: usize) -> usize
     if MOST_ROWS < depth {
         return 0;
     }
-    HEAD_BYTES + body_bytes(slots, depth)
+    HEAD_BYTES + 8 * body_words(slots, depth)
 }
 
 // Of the rows that a room holds the last D, or all where there are fewer.
@@ -159,5 +185,5 @@ pub(crate) fn write_dump(
     let counts = t.counts;
     let kept = held_window(rows, s.slots, s.depth, counts.rows_held);
     let head = head_words(s, t, rows::row_count(kept, s.slots));
-    write_order(area, &head, kept, body_bytes(s.slots, s.depth), from, upto);
+    write_order(area, &head, kept, body_words(s.slots, s.depth), from, upto);
 }

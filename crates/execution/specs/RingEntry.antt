@@ -10,7 +10,7 @@ use Rattle.words.specs.Laws.Numbers.{less-or-not}
 use Rattle.floats.specs.Floats.{floatOf}
 use Rattle.rows.specs.History.{History, historyOf, field, width}
 use Rattle.rows.specs.Ring.{ringOf, turned}
-use Rattle.rows.specs.Laws.Ring.{Alike, ring-turned}
+use Rattle.rows.specs.Laws.Ring.{SameRows, ring-turned}
 use Rattle.portfolio.specs.declared.Candle.{Candle}
 use Rattle.portfolio.specs.declared.Portfolio.{Portfolio}
 use Rattle.execution.specs.declared.Side.{Side}
@@ -22,7 +22,7 @@ use Rattle.execution.specs.VolatilityWindow.{closes-alike}
 use Rattle.execution.specs.Fills.{volatilityFor, executeEntry}
 
 -- histories whose rows are alike
-module _ (K : ℕ) (g h : History) (alike : Alike K g h) where
+module _ (K : ℕ) (g h : History) (alike : SameRows K g h) where
   close-alike : (lookback : ℕ) → lookback ≤ g .rows → (j : ℕ) → j < lookback → closeAt g (g .rows - lookback + j) ≡ closeAt h (h .rows - lookback + j)
   unfolding field
   close-alike lookback fits j l =

@@ -54,7 +54,7 @@ computed initial equity trades =
     cond (whole equity trades) (gives (metricsOf initial (equityOf equity) (pnlsOf trades))) (refuses notWhole)
 
 -- The nine figures as words, in the Rust record's order.
-unfoldable pub wordsOf : Metrics → List ℕ
-wordsOf m =
+unfoldable pub figureWords : Metrics → List ℕ
+figureWords m =
     wordOf (m .pnl) ∷ wordOf (m .«return_pct») ∷ wordOf (m .sharpe) ∷ wordOf (m .sortino) ∷ wordOf (m .calmar)
     ∷ wordOf (m .«max_drawdown») ∷ wordOf (m .«win_rate») ∷ wordOf (m .«profit_factor») ∷ m .«num_trades» ∷ []

@@ -1,5 +1,5 @@
 // The deepest fall of the equity from a peak before it.
-use super::records;
+use super::columns;
 ghost use mathlib.Core.Path.{_≡_};
 ghost use Rattle.floats.specs.Floats.{zero};
 ghost use Rattle.metrics.specs.Records.{equityOf};
@@ -36,12 +36,12 @@ pub fn max_drawdown_pct(equity: &[u64]) -> f64
 pub(crate) fn drawdown_from(start: f64, equity: &[u64]) -> f64
     ensures { λ r. ⌜ r ≡ drawdownFrom start zero (equityOf (now (equity .entry))) ⌝ }
 {
-    let n = records::point_count(equity);
+    let n = columns::point_count(equity);
     let mut peak = start;
     let mut deepest = 0.0;
     let mut i = 0;
     while i < n {
-        let e = records::equity_at(equity, i);
+        let e = columns::equity_at(equity, i);
         peak = peak_at(peak, e);
         deepest = deepest_at(peak, deepest, e);
         i = i + 1;

@@ -1,7 +1,7 @@
 // The figures of a run: metrics.rs over lent words, for any number of equity points and trades.
+pub mod columns;
 pub mod drawdown;
 pub mod quotient;
-pub mod records;
 pub mod returns;
 pub mod trades;
 
@@ -12,7 +12,7 @@ use words::refusal::Refusal;
 ghost use mathlib.Core.Path.{_≡_};
 ghost use Rattle.metrics.specs.Records.{equityOf, pnlsOf};
 ghost use Rattle.metrics.specs.declared.Answer.the-variants.{Refused};
-ghost use Rattle.metrics.specs.Figures.{finalEquity, metricsOf, notWhole, outcome, computed, wordsOf};
+ghost use Rattle.metrics.specs.Figures.{finalEquity, metricsOf, notWhole, outcome, computed, figureWords};
 
 // Summary performance metrics.
 pub struct Metrics {
@@ -56,11 +56,11 @@ fn not_whole() -> Answer
 fn final_equity(initial: f64, equity: &[u64]) -> f64
     ensures { λ r. ⌜ r ≡ finalEquity initial (equityOf (now (equity .entry))) ⌝ }
 {
-    let n = records::point_count(equity);
+    let n = columns::point_count(equity);
     if n == 0 {
         return initial;
     }
-    records::equity_at(equity, n - 1)
+    columns::equity_at(equity, n - 1)
 }
 
 // The figures of the whole records of two lists; what is left over at the end of a list is not read.
@@ -80,7 +80,7 @@ pub fn metrics_of(initial: f64, equity: &[u64], trades: &[u64]) -> Metrics
         max_drawdown: max_drawdown,
         win_rate: trades::win_rate(trades),
         profit_factor: trades::profit_factor(trades),
-        num_trades: records::trade_count(trades) as u64,
+        num_trades: columns::trade_count(trades) as u64,
     }
 }
 
@@ -99,7 +99,7 @@ pub fn compute(initial: f64, equity: &[u64], trades: &[u64]) -> Answer
 
 // The figures as words, in the Rust record's order.
 pub fn words_of(m: Metrics) -> [u64; METRIC_WORDS]
-    ensures { λ r. ⌜ r ≡ wordsOf m ⌝ }
+    ensures { λ r. ⌜ r ≡ figureWords m ⌝ }
 {
     [
         floats::word_of(m.pnl),

@@ -1,6 +1,6 @@
 // Returns from bar to bar, and what the Sharpe and the Sortino ratio make of them.
+use super::columns;
 use super::quotient;
-use super::records;
 ghost use mathlib.Core.Path.{_≡_};
 ghost use lib.ListN.{length};
 ghost use Rattle.metrics.specs.Records.{equityOf};
@@ -21,7 +21,7 @@ pub fn bar_return(before: f64, now: f64) -> f64
 pub fn return_count(equity: &[u64]) -> usize
     ensures { λ r. ⌜ r ≡ length (barReturns (equityOf (now (equity .entry)))) ⌝ }
 {
-    let points = records::point_count(equity);
+    let points = columns::point_count(equity);
     if points == 0 {
         return 0;
     }
@@ -60,13 +60,13 @@ fn means_of(equity: &[u64]) -> Means
     ensures itself { λ r. ⌜ r .itself ≡ meanOf Itself (barReturns (equityOf (now (equity .entry)))) ⌝ }
     ensures below { λ r. ⌜ r .below ≡ meanOf Below (barReturns (equityOf (now (equity .entry)))) ⌝ }
 {
-    let points = records::point_count(equity);
-    let mut before = records::equity_at(equity, 0);
+    let points = columns::point_count(equity);
+    let mut before = columns::equity_at(equity, 0);
     let mut itself = 0.0;
     let mut below = 0.0;
     let mut i = 1;
     while i < points {
-        let now = records::equity_at(equity, i);
+        let now = columns::equity_at(equity, i);
         let r = bar_return(before, now);
         itself = itself + part_of(Part::Itself, r);
         below = below + part_of(Part::Below, r);
@@ -84,12 +84,12 @@ fn means_of(equity: &[u64]) -> Means
 fn var_of(equity: &[u64], mean: f64) -> f64
     ensures { λ r. ⌜ r ≡ meanOf (Away mean) (barReturns (equityOf (now (equity .entry)))) ⌝ }
 {
-    let points = records::point_count(equity);
-    let mut before = records::equity_at(equity, 0);
+    let points = columns::point_count(equity);
+    let mut before = columns::equity_at(equity, 0);
     let mut total = 0.0;
     let mut i = 1;
     while i < points {
-        let now = records::equity_at(equity, i);
+        let now = columns::equity_at(equity, i);
         total = total + part_of(Part::Away(mean), bar_return(before, now));
         before = now;
         i = i + 1;
@@ -110,7 +110,7 @@ pub fn ratios_of(equity: &[u64]) -> Ratios
     ensures sharpe { λ r. ⌜ r .sharpe ≡ sharpeRatio (equityOf (now (equity .entry))) ⌝ }
     ensures sortino { λ r. ⌜ r .sortino ≡ sortinoRatio (equityOf (now (equity .entry))) ⌝ }
 {
-    if records::point_count(equity) < 2 {
+    if columns::point_count(equity) < 2 {
         return Ratios {
             sharpe: 0.0,
             sortino: 0.0,

@@ -1,6 +1,6 @@
 // Win rate and profit factor, over the trades' pnl.
+use super::columns;
 use super::quotient;
-use super::records;
 ghost use mathlib.Core.Path.{_≡_};
 ghost use lib.ListN.{length};
 ghost use Rattle.metrics.specs.Records.{pnlsOf};
@@ -37,11 +37,11 @@ pub fn size_of(side: Side, pnl: f64) -> f64
 pub fn count_on(trades: &[u64], side: Side) -> usize
     ensures { λ r. ⌜ r ≡ length (sizesOn side (pnlsOf (now (trades .entry)))) ⌝ }
 {
-    let n = records::trade_count(trades);
+    let n = columns::trade_count(trades);
     let mut count = 0;
     let mut i = 0;
     while i < n {
-        if is_on(side, records::pnl_at(trades, i)) {
+        if is_on(side, columns::pnl_at(trades, i)) {
             count = count + 1;
         }
         i = i + 1;
@@ -53,7 +53,7 @@ pub fn count_on(trades: &[u64], side: Side) -> usize
 pub fn win_rate(trades: &[u64]) -> f64
     ensures { λ r. ⌜ r ≡ winRate (pnlsOf (now (trades .entry))) ⌝ }
 {
-    let n = records::trade_count(trades);
+    let n = columns::trade_count(trades);
     if n == 0 {
         return 0.0;
     }
@@ -65,11 +65,11 @@ pub fn win_rate(trades: &[u64]) -> f64
 pub fn gross(trades: &[u64], side: Side) -> f64
     ensures { λ r. ⌜ r ≡ Trades.gross side (pnlsOf (now (trades .entry))) ⌝ }
 {
-    let n = records::trade_count(trades);
+    let n = columns::trade_count(trades);
     let mut total = 0.0;
     let mut i = 0;
     while i < n {
-        let pnl = records::pnl_at(trades, i);
+        let pnl = columns::pnl_at(trades, i);
         if is_on(side, pnl) {
             total = total + size_of(side, pnl);
         }

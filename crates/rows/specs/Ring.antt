@@ -12,8 +12,8 @@ use Rattle.rows.specs.Room.{placesFor}
 -- ---- rows that begin at a row of the list, go on to its end, and then from its front
 
 -- The row that they begin at: the first where the list has no such row.
-unfoldable pub firstOf : ℕ → ℕ → ℕ
-firstOf places start = cond (ltb start places) start 0
+unfoldable pub startWithin : ℕ → ℕ → ℕ
+startWithin places start = cond (ltb start places) start 0
 
 -- Where row i of them stands; one past the last stands where it would in any list.
 unfoldable pub ringPlace : ℕ → ℕ → ℕ → ℕ
@@ -23,7 +23,7 @@ ringPlace places first i = cond (ltb i places) (cond (ltb (first + i) places) (f
 unfoldable pub ringOf : ℕ → ℕ → List ℕ → History
 ringOf K start ws =
     let h = historyOf K ws in
-    record { rows = h .rows; word = λ i. h .word (ringPlace (h .rows) (firstOf (h .rows) start) i) }
+    record { rows = h .rows; word = λ i. h .word (ringPlace (h .rows) (startWithin (h .rows) start) i) }
 
 -- The words turned so that row `start` stands first, each row w words wide. What is no whole row at the end stays as it was.
 unfoldable pub turned : ℕ → ℕ → List ℕ → List ℕ

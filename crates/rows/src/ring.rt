@@ -3,7 +3,7 @@ ghost use mathlib.Core.Path.{_≡_};
 ghost use mathlib.Core.List.{_++_};
 ghost use Prim.Native.Nat.{_≤_};
 ghost use lib.ListN.{length, take, drop};
-ghost use Rattle.rows.specs.Ring.{firstOf, ringPlace, nextStart, ringWith, ringAfter, turned};
+ghost use Rattle.rows.specs.Ring.{startWithin, ringPlace, nextStart, ringWith, ringAfter, turned};
 
 // How many rows a room holds, and which of them is the oldest. While there is a place left that is row 0.
 pub struct Ring {
@@ -13,7 +13,7 @@ pub struct Ring {
 
 // The row that rows of so many places begin at: the first where there is no such row.
 pub fn first_of(places: usize, start: usize) -> usize
-    ensures { λ r. ⌜ r ≡ firstOf places start ⌝ }
+    ensures { λ r. ⌜ r ≡ startWithin places start ⌝ }
 {
     if start < places { start } else { 0 }
 }

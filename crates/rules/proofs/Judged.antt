@@ -4,6 +4,7 @@ use mathlib.Core.Path.{_≡_, sym, ap, _∙_}
 use mathlib.Core.Bool.{Bool, true, false, cond}
 use mathlib.Core.List.{List}
 use lib.Dec.{eqb}
+use Rattle.words.specs.Limits.{mostNesting}
 use Rattle.words.specs.declared.refusal.Refusal.{Refusal}
 use Rattle.words.specs.Outcome.{refusal}
 use Rattle.rows.specs.History.{historyOf, wholeRows}
@@ -40,7 +41,7 @@ module _ (t : List ℕ) (tree : Tree) (rows : List ℕ) (s : PositionState) wher
       unright f = rw (ok, ← w, ← p, e, f)
 
       pub answers : right ≡ true → (ends : List ℕ) → ends ≡ endsBeside t → (x : ℕ) → x ≡ treeNumber tree → (b : Bool)
-          → b ≡ cond (eqb (count t x) 0) false (says (historyOf (slots t) rows) s (conditionAt 32 t ends (root t x))) → Says b ≡ answered t tree rows s
+          → b ≡ cond (eqb (count t x) 0) false (says (historyOf (slots t) rows) s (conditionAt mostNesting t ends (root t x))) → Says b ≡ answered t tree rows s
       unfolding answered afterCheck judged
       answers f ends g x h b i =
           rw (ok, ← w, ← p, e, f) (ap Says (i ∙ rw (g, h) (flat-says t n r ok (treeNumber tree) (tree-of-four tree) (historyOf (slots t) rows) s)))

@@ -4,6 +4,7 @@ use mathlib.Core.Bool.{true, false, cond}
 use mathlib.Core.List.{List}
 use lib.ListN.{getD}
 use lib.Dec.{ltb, leb, eqb}
+use Rattle.words.specs.Limits.{mostNodes}
 use Rattle.table.specs.declared.nodes.Node.{Node}
 use Rattle.table.specs.declared.kinds.OperandClass.{OperandClass}
 use Rattle.table.specs.declared.kinds.OperandClass.the-variants as AsOperand
@@ -19,7 +20,7 @@ use Rattle.rules.specs.declared.shapes.ConditionShape.the-variants.{InPo
 
 -- the end of the subtree at node i, one of 256
 unfoldable pub endIn : List ℕ → ℕ → ℕ
-endIn ends i = cond (ltb i 256) (getD ends i 0) 0
+endIn ends i = cond (ltb i mostNodes) (getD ends i 0) 0
 
 -- The shape of an operand's node, by the class of its kind: `first` and `second` are the nodes where the children begin.
 unfoldable pub operandOf : OperandClass → Node → ℕ → ℕ → OperandShape
@@ -47,9 +48,9 @@ conditionOf AsCondition.NoCondition node first second third = NoCondition
 -- "each tree in prefix order": a first child comes right after its node, each further one at the end of the one before.
 unfoldable pub operandShape : List ℕ → List ℕ → ℕ → OperandShape
 operandShape t ends i =
-    cond (leb 256 i) NoOperand (operandOf (kindOf (nodeAt t i .kind) .operand) (nodeAt t i) (i + 1) (endIn ends (i + 1)))
+    cond (leb mostNodes i) NoOperand (operandOf (kindOf (nodeAt t i .kind) .operand) (nodeAt t i) (i + 1) (endIn ends (i + 1)))
 
 unfoldable pub conditionShape : List ℕ → List ℕ → ℕ → ConditionShape
 conditionShape t ends i =
-    cond (leb 256 i) NoCondition
+    cond (leb mostNodes i) NoCondition
     (conditionOf (kindOf (nodeAt t i .kind) .condition) (nodeAt t i) (i + 1) (endIn ends (i + 1)) (endIn ends (endIn ends (i + 1))))

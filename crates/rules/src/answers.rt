@@ -12,6 +12,7 @@ use words::refusal::Refusal;
 ghost use mathlib.Core.Path.{_≡_};
 ghost use mathlib.Core.Bool.{cond, false};
 ghost use lib.Dec.{eqb};
+ghost use Rattle.words.specs.Limits.{mostNesting};
 ghost use Rattle.rows.specs.History.{historyOf};
 ghost use Rattle.table.specs.Header.{slots, count, root};
 ghost use Rattle.rules.specs.Meaning as Meaning;
@@ -48,7 +49,7 @@ pub fn newest(rows: &[u64], slots: usize) -> usize
 fn eval_tree(t: &[u8], ends: &[usize; 256], tree: u8, rows: &[u64], s: PositionState) -> bool
     ensures { λ r. ⌜ r ≡ cond (eqb (count (now (t .entry)) tree) 0) false
         (says (historyOf (slots (now (t .entry))) (now (rows .entry))) s
-        (conditionAt 32 (now (t .entry)) (now (ends .entry)) (root (now (t .entry)) tree))) ⌝ }
+        (conditionAt mostNesting (now (t .entry)) (now (ends .entry)) (root (now (t .entry)) tree))) ⌝ }
 {
     if table::header::count(t, tree) == 0 {
         return false;

@@ -13,7 +13,7 @@ use Rattle.words.specs.Limits.{mostSteps}
 use Rattle.words.specs.Laws.Numbers.{less-or-not}
 use Rattle.rows.specs.History.{History, historyOf, width, lastRows}
 use Rattle.rows.specs.Ring.{ringOf, turned}
-use Rattle.rows.specs.Laws.Ring.{Alike, ring-turned}
+use Rattle.rows.specs.Laws.Ring.{SameRows, ring-turned}
 use Rattle.table.specs.declared.series.Series.{Series}
 use Rattle.table.specs.declared.series.Series.the-variants as Over
 use Rattle.table.specs.Trees.{Operand, const, ref, price, extreme, reach}
@@ -197,7 +197,7 @@ slot-alike : (K k : ℕ) (f g : ℕ → ℕ) → ((j : ℕ) → j < width K → 
 unfolding slotOf
 slot-alike K k f g same below = rw (same 6 (omega arith), same (7 + k) (omega arith))
 
-module _ (K D : ℕ) (w h : History) (alike : Alike K w h) where
+module _ (K D : ℕ) (w h : History) (alike : SameRows K w h) where
   series-alike : (over : Series) (i : ℕ) → seriesWithin K over ≡ true → i < w .rows → seriesAt w over i ≡ seriesAt h over i
   unfolding seriesAt there seriesWithin
   series-alike (Over.Price p) i e l =

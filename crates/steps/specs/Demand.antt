@@ -18,7 +18,7 @@ use Rattle.table.specs.Header.{slots}
 use Rattle.table.specs.Checked.{checked}
 use Rattle.table.specs.Reading.{treeOf}
 use Rattle.table.specs.Laws.Accepted.{tree-reach}
-use Rattle.table.specs.Laws.Reach.{rows-are, tree-reach-is}
+use Rattle.roundtrip.specs.Laws.Reach.{rows-are, tree-reach-is}
 use Rattle.rules.specs.declared.PositionState.{PositionState}
 use Rattle.table.specs.declared.trees.Tree.{Tree}
 use Rattle.rules.specs.Meaning.{says}
@@ -26,13 +26,14 @@ use Rattle.table.specs.Header.{treeNumber}
 use Rattle.rules.specs.Answers.{stateRight}
 use Rattle.rules.specs.Laws.Answers.{tree-of-four}
 use Rattle.rules.specs.WindowAnswers.{tree-near, window-whole}
-use Rattle.table.specs.declared.depth.DepthAnswer.the-variants.{Needs}
+use Rattle.needed.specs.declared.depth.DepthAnswer.the-variants.{Needs}
 use Rattle.steps.specs.declared.Ran.{Ran}
 use Rattle.steps.specs.declared.RunAnswer.the-variants.{Runs}
 use Rattle.steps.specs.declared.Translated.the-variants.{Writes, Refuses}
 use Rattle.steps.specs.Bytes.{bytesOf, opsOf}
 use Rattle.steps.specs.Machine.{visitsOf}
-use Rattle.table.specs.Depth.{greatestReach, depthOf, rowBytes, depthAnswer}
+use Rattle.table.specs.Depth.{greatestReach, depthOf, rowBytes}
+use Rattle.needed.specs.Depth.{depthAnswer}
 use Rattle.steps.specs.Laws.Encoding.{steps-long}
 use Rattle.steps.specs.Translating.{stepsOf, roomFor, writesOr, afterTable, translates, roomAfter, roomLeft}
 use Rattle.steps.specs.Running.{runs}

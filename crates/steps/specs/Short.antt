@@ -23,12 +23,12 @@ use Rattle.rules.specs.Laws.Answers.{tree-of-four}
 use Rattle.rules.specs.WindowAnswers.{window-whole}
 use Rattle.rules.specs.Shortage.{struckOut}
 use Rattle.rules.specs.AnyWindow.{any-window}
-use Rattle.table.specs.declared.depth.DepthAnswer.the-variants.{Needs}
+use Rattle.needed.specs.declared.depth.DepthAnswer.the-variants.{Needs}
 use Rattle.steps.specs.declared.RunAnswer.the-variants.{Runs}
 use Rattle.steps.specs.declared.Translated.the-variants.{Writes}
 use Rattle.steps.specs.Bytes.{bytesOf, opsOf}
 use Rattle.steps.specs.Machine.{visitsOf}
-use Rattle.table.specs.Depth.{depthAnswer}
+use Rattle.needed.specs.Depth.{depthAnswer}
 use Rattle.steps.specs.Translating.{stepsOf, translates, roomLeft}
 use Rattle.steps.specs.Running.{ranIf, runs}
 use Rattle.table.specs.Bytes.{Bytes}

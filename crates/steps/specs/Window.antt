@@ -17,8 +17,8 @@ use Rattle.table.specs.Checked.{checked}
 use Rattle.table.specs.Reading.{treeOf, present}
 use Rattle.table.specs.Laws.Accepted.{header-of, tree-ends}
 use Rattle.table.specs.Limits.{TreeWithin}
-use Rattle.table.specs.Laws.AcceptedWithin.{tree-within}
-use Rattle.table.specs.Laws.AcceptedWritten.{tree-nodes}
+use Rattle.roundtrip.specs.Laws.AcceptedWithin.{tree-within}
+use Rattle.roundtrip.specs.Laws.AcceptedWritten.{tree-nodes}
 use Rattle.rules.specs.declared.PositionState.{PositionState}
 use Rattle.rules.specs.Meaning.{says}
 use Rattle.rules.specs.Answers.{stateRight}

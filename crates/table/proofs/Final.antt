@@ -11,6 +11,7 @@ use lib.ListN.{getD, replicate}
 use lib.Seq.{ext-getD}
 use lib.Dec.{ltb}
 use borrow.Author.Tests.{lt-ltb, le-ltb, eq-eqb, ne-eqb}
+use Rattle.words.specs.Limits.{mostNodes}
 use Rattle.words.specs.declared.refusal.Refusal.{Refusal}
 use Rattle.words.specs.Outcome.{refusal}
 use Rattle.table.specs.declared.places.Place.{Place}
@@ -29,7 +30,7 @@ use Rattle.table.proofs.Linked.{end-word}
 
 -- One rule: it is broken, or what is left decides.
 module _ (nr : ℕ) (q : Place) (x rest : Answer) (es ends : List ℕ) where
-  pub stage-at : (p : ℕ) → q ≡ At p → x ≡ Refused (refusal nr p) → es ≡ replicate 256 0
+  pub stage-at : (p : ℕ) → q ≡ At p → x ≡ Refused (refusal nr p) → es ≡ replicate mostNodes 0
       → (x ≡ orRefused nr q rest) × (es ≡ endsFor (orRefused nr q rest) ends)
   unfolding orRefused endsFor
   stage-at p h hx he = rw h (hx, he)
@@ -39,7 +40,7 @@ module _ (nr : ℕ) (q : Place) (x rest : Answer) (es ends : List ℕ) where
   stage-none h hx he = rw h (hx, he)
 
 module _ (nr : ℕ) (x rest : Answer) (es ends : List ℕ) where
-  pub head-at : (nr ≡ 0 → ⊥) → x ≡ Refused (refusal nr 0) → es ≡ replicate 256 0 → (x ≡ orHeader nr rest) × (es ≡ endsFor (orHeader nr rest) ends)
+  pub head-at : (nr ≡ 0 → ⊥) → x ≡ Refused (refusal nr 0) → es ≡ replicate mostNodes 0 → (x ≡ orHeader nr rest) × (es ≡ endsFor (orHeader nr rest) ends)
   unfolding orHeader endsFor
   head-at h hx he = simp (ne-eqb _ _ h) (hx, he)
 
@@ -53,7 +54,7 @@ unfolding checkedUpTo from7 from8 from9
 checked-is newest t = refl
 
 -- An answer that is handed on, with the array beside it.
-pub keep-refused : (a x : Answer) (es ends : List ℕ) (why : Refusal) → a ≡ Refused why → x ≡ Refused why → es ≡ replicate 256 0
+pub keep-refused : (a x : Answer) (es ends : List ℕ) (why : Refusal) → a ≡ Refused why → x ≡ Refused why → es ≡ replicate mostNodes 0
     → (x ≡ a) × (es ≡ endsFor a ends)
 unfolding endsFor
 keep-refused a x es ends why ha hx he = rw ha (hx, he)
@@ -81,13 +82,13 @@ head-roots newest t a b c e h ha hb hc he =
     }
 
 -- The array is the definition's.
-low-word : (t ends : List ℕ) (b e j : ℕ) → e ≤ 256 → Linked t ends b e → EndedFrom t ends b e → b ≤ j → j < e → getD ends j 0 ≡ endAt t (e - j) j
+low-word : (t ends : List ℕ) (b e j : ℕ) → e ≤ mostNodes → Linked t ends b e → EndedFrom t ends b e → b ≤ j → j < e → getD ends j 0 ≡ endAt t (e - j) j
 unfolding Linked EndedFrom
 low-word t ends b e j small l k lo hi =
     let g = l j lo hi in
     end-word t e j (getD ends j 0) hi (omega (arith, g .within)) (k j lo hi)
 
-part : (t ends : List ℕ) (b e j x w : ℕ) → e ≡ x → e ≤ 256 → Linked t ends b e → EndedFrom t ends b e → b ≤ j → (e ≤ j → getD ends j 0 ≡ w)
+part : (t ends : List ℕ) (b e j x w : ℕ) → e ≡ x → e ≤ mostNodes → Linked t ends b e → EndedFrom t ends b e → b ≤ j → (e ≤ j → getD ends j 0 ≡ w)
     → getD ends j 0 ≡ cond (ltb j x) (endAt t (x - j) j) w
 part t ends b e j x w same small l k lo other = ⊎-elim
     (λ z. simp (le-ltb j x (omega arith)) (other (omega arith)))
@@ -106,8 +107,8 @@ end-at t ends a b c e k all l j =
 pub ends-are : (t ends : List ℕ) (a b c e : ℕ) → Roots t a b c e → EndedAll t ends a b c e → LinkedAll t ends a b c e → ends ≡ endsAll t
 unfolding endsAll
 ends-are t ends a b c e k all l =
-    ext-getD 0 ends (from (endOf t) 256 0) (all .long ∙ sym (from-long (endOf t) 256 0))
-    (λ j h. end-at t ends a b c e k all l j ∙ ap (endOf t) (sym (zero-add j)) ∙ sym (from-at (endOf t) 256 0 j (omega (arith, all .long))))
+    ext-getD 0 ends (from (endOf t) mostNodes 0) (all .long ∙ sym (from-long (endOf t) mostNodes 0))
+    (λ j h. end-at t ends a b c e k all l j ∙ ap (endOf t) (sym (zero-add j)) ∙ sym (from-at (endOf t) mostNodes 0 j (omega (arith, all .long))))
 
 module _ (newest : ℕ) (t : List ℕ) (x : Answer) (es ends : List ℕ) where
   right : (x ≡ orHeader (headerRefusal newest t) (orRefused 6 (wrongNode t (u16 t 6) 0) (from7 t)))
@@ -115,7 +116,7 @@ module _ (newest : ℕ) (t : List ℕ) (x : Answer) (es ends : List ℕ) where
       → (x ≡ checkedUpTo newest t) × (es ≡ endsFor (checkedUpTo newest t) ends)
   right h = rw (checked-is newest t) h
 
-  pub one-at : (nr : ℕ) → nr ≡ headerRefusal newest t → (nr ≡ 0 → ⊥) → x ≡ Refused (refusal nr 0) → es ≡ replicate 256 0
+  pub one-at : (nr : ℕ) → nr ≡ headerRefusal newest t → (nr ≡ 0 → ⊥) → x ≡ Refused (refusal nr 0) → es ≡ replicate mostNodes 0
       → (x ≡ checkedUpTo newest t) × (es ≡ endsFor (checkedUpTo newest t) ends)
   one-at nr h some hx he =
       right (head-at (headerRefusal newest t) x _ es ends (λ z. some (h ∙ z)) (hx ∙ ap (λ (n : ℕ). Refused (refusal n 0)) h) he)
@@ -124,7 +125,7 @@ module _ (newest : ℕ) (t : List ℕ) (x : Answer) (es ends : List ℕ) where
     place : q ≡ wrongNode t (u16 t 6) 0
     place = found ∙ ap (λ (m : ℕ). wrongNode t m 0) all
 
-    pub six-at : (p : ℕ) → q ≡ At p → x ≡ Refused (refusal 6 p) → es ≡ replicate 256 0
+    pub six-at : (p : ℕ) → q ≡ At p → x ≡ Refused (refusal 6 p) → es ≡ replicate mostNodes 0
         → (x ≡ checkedUpTo newest t) × (es ≡ endsFor (checkedUpTo newest t) ends)
     six-at p hp hx he =
         let g = stage-at 6 (wrongNode t (u16 t 6) 0) x (from7 t) es ends p (sym place ∙ hp) hx he in

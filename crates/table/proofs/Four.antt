@@ -8,6 +8,7 @@ use native.Mathlib.Omega.{arith}
 use native.Mathlib.Nat.{eq-zero-or-pos}
 use lib.ListN.{length, getD, replicate}
 use borrow.Author.Tests.{lt-ltb, le-ltb}
+use Rattle.words.specs.Limits.{mostNodes, mostReach, mostRows}
 use Rattle.words.specs.Outcome.{refusal}
 use Rattle.table.specs.declared.places.Place.{Place}
 use Rattle.table.specs.declared.places.Place.the-variants.{Nowhere, At}
@@ -20,7 +21,7 @@ use Rattle.table.specs.Forest.{trees, forestOf}
 use Rattle.table.specs.Nesting.{deeper, tooDeep}
 use Rattle.table.specs.Reach.{forestReach, treeReach, tooFar, rowsNeeded, farAt}
 use Rattle.table.specs.Checked.{orRefused, from9}
-use Rattle.table.specs.Passes.{Ended, EndedFrom, Ordered, Roots, EndedAll, WholeTree, LinkedAll}
+use Rattle.table.specs.Passes.{Ended, EndedFrom, Ordered, Roots, EndedAll, WholeTree, LinkedAll, misfitFrom}
 use Rattle.table.proofs.Prefix.{fits-two, fits-soon, pass}
 use Rattle.table.specs.Laws.Accepted.{or-none}
 use Rattle.table.specs.Laws.Order.{first-sort, never-at}
@@ -74,7 +75,7 @@ module _ (t : List ℕ) (a b c e : ℕ) (k : Roots t a b c e) where
   unfolding tooFar forestOf treeReach farAt
   four-far p q r s hp hq hr hs = four (λ m i. farAt (forestReach (trees t m i)) i) p q r s hp hq hr hs
 
-pub order-four : (t : List ℕ) (a b c e : ℕ) (z w x y r : List ℕ) → Roots t a b c e → ((j : ℕ) → getD z j 0 ≡ 0) → length r ≡ 256
+pub order-four : (t : List ℕ) (a b c e : ℕ) (z w x y r : List ℕ) → Roots t a b c e → ((j : ℕ) → getD z j 0 ≡ 0) → length r ≡ mostNodes
     → Ordered t 0 a z w → Ordered t a b w x → Ordered t b c x y → Ordered t c e y r → EndedAll t r a b c e
 unfolding EndedFrom
 order-four t a b c e z w x y r k zero′ long o0 o1 o2 o3 =
@@ -103,7 +104,7 @@ root-end t ends b e h k l =
     known : Ended t e b (getD ends b 0)
     known = k b (omega arith) l
 
-    low : getD ends b 0 < 512
+    low : getD ends b 0 < misfitFrom
     low = word-end t e b (getD ends b 0) [] (subst (λ (w : ℕ). fits t (e - b) b (w ∷ []) ≡ Nowhere) (sym sort) whole) known
 
     after : fits t (e - getD ends b 0) (getD ends b 0) [] ≡ Nowhere
@@ -128,16 +129,16 @@ linked-all t ends a b c e k all h =
     }
 
 -- A reach cut at 4,096 tells as much.
-far-none : (r b : ℕ) → farAt r b ≡ Nowhere → r ≤ 4095
+far-none : (r b : ℕ) → farAt r b ≡ Nowhere → r ≤ mostReach
 unfolding farAt
-far-none r b h = ⊎-elim (λ z. omega arith) (λ z. absurd (never-at b (sym (rw (lt-ltb 4095 r (omega arith))) ∙ h))) (eq-zero-or-pos (r - 4095))
+far-none r b h = ⊎-elim (λ z. omega arith) (λ z. absurd (never-at b (sym (rw (lt-ltb mostReach r (omega arith))) ∙ h))) (eq-zero-or-pos (r - mostReach))
 
-pub far-cut : (r b x : ℕ) → x ≡ min r 4096 → farAt x b ≡ farAt r b
+pub far-cut : (r b x : ℕ) → x ≡ min r mostRows → farAt x b ≡ farAt r b
 unfolding farAt
 far-cut r b x h = ⊎-elim
-    (λ z. simp (le-ltb 4095 r (omega arith), le-ltb 4095 x (omega arith)))
-    (λ z. simp (lt-ltb 4095 r (omega arith), lt-ltb 4095 x (omega arith)))
-    (eq-zero-or-pos (r - 4095))
+    (λ z. simp (le-ltb mostReach r (omega arith), le-ltb mostReach x (omega arith)))
+    (λ z. simp (lt-ltb mostReach r (omega arith), lt-ltb mostReach x (omega arith)))
+    (eq-zero-or-pos (r - mostReach))
 
 pub nine-refused : (t : List ℕ) (p : ℕ) → tooFar t ≡ At p → Refused (refusal 9 p) ≡ from9 t
 unfolding from9 orRefused
@@ -147,43 +148,43 @@ pub nine-accepted : (t : List ℕ) (n r : ℕ) → tooFar t ≡ Nowhere → n �
 unfolding from9 orRefused
 nine-accepted t n r h hn hr = rw h (cc)
 
-pub cut-small : (x y : ℕ) → x ≡ min y 4096 → x ≤ 4096
+pub cut-small : (x y : ℕ) → x ≡ min y mostRows → x ≤ mostRows
 cut-small x y h = omega arith
 
 most-four : (w x y z w′ x′ y′ z′ : ℕ) → w ≡ w′ → x ≡ x′ → y ≡ y′ → z ≡ z′ → max (max w x) (max y z) ≡ max (max w′ x′) (max y′ z′)
 most-four w x y z w′ x′ y′ z′ a b c d = cc
 
-kept : (r b x : ℕ) → x ≡ min r 4096 → farAt r b ≡ Nowhere → x ≡ r
+kept : (r b x : ℕ) → x ≡ min r mostRows → farAt r b ≡ Nowhere → x ≡ r
 kept r b x h f = omega (arith, far-none r b f)
 
-most-low : (w x y z : ℕ) → w ≤ 4096 → x ≤ 4096 → y ≤ 4096 → z ≤ 4096 → min (max (max w x) (max y z)) 4096 ≡ max (max w x) (max y z)
+most-low : (w x y z : ℕ) → w ≤ mostRows → x ≤ mostRows → y ≤ mostRows → z ≤ mostRows → min (max (max w x) (max y z)) mostRows ≡ max (max w x) (max y z)
 most-low w x y z a b c d = below (omega arith) (omega arith)
   where
     m : ℕ
     m = max (max w x) (max y z)
 
-    below : max w x ≤ 4096 → max y z ≤ 4096 → min (max (max w x) (max y z)) 4096 ≡ max (max w x) (max y z)
+    below : max w x ≤ mostRows → max y z ≤ mostRows → min (max (max w x) (max y z)) mostRows ≡ max (max w x) (max y z)
     below p q = omega arith
 
 module _ (t : List ℕ) (a b c e : ℕ) (k : Roots t a b c e) where
-  pub fars-are : (w x y z : ℕ) (f : Place) → w ≡ min (forestReach (trees t (a - 0) 0)) 4096 → x ≡ min (forestReach (trees t (b - a) a)) 4096
-      → y ≡ min (forestReach (trees t (c - b) b)) 4096 → z ≡ min (forestReach (trees t (e - c) c)) 4096
+  pub fars-are : (w x y z : ℕ) (f : Place) → w ≡ min (forestReach (trees t (a - 0) 0)) mostRows → x ≡ min (forestReach (trees t (b - a) a)) mostRows
+      → y ≡ min (forestReach (trees t (c - b) b)) mostRows → z ≡ min (forestReach (trees t (e - c) c)) mostRows
       → f ≡ orElse (farAt w 0) (orElse (farAt x a) (orElse (farAt y b) (farAt z c))) → f ≡ tooFar t
   fars-are w x y z f hw hx hy hz hf = hf ∙ four-far t a b c e k _ _ _ _ (far-cut _ 0 w hw) (far-cut _ a x hx) (far-cut _ b y hy) (far-cut _ c z hz)
 
-  pub rows-are : (w x y z r : ℕ) → w ≡ min (forestReach (trees t (a - 0) 0)) 4096 → x ≡ min (forestReach (trees t (b - a) a)) 4096
-      → y ≡ min (forestReach (trees t (c - b) b)) 4096 → z ≡ min (forestReach (trees t (e - c) c)) 4096 → tooFar t ≡ Nowhere
-      → r ≡ min (max (max w x) (max y z)) 4096 + 1 → r ≡ rowsNeeded t
+  pub rows-are : (w x y z r : ℕ) → w ≡ min (forestReach (trees t (a - 0) 0)) mostRows → x ≡ min (forestReach (trees t (b - a) a)) mostRows
+      → y ≡ min (forestReach (trees t (c - b) b)) mostRows → z ≡ min (forestReach (trees t (e - c) c)) mostRows → tooFar t ≡ Nowhere
+      → r ≡ min (max (max w x) (max y z)) mostRows + 1 → r ≡ rowsNeeded t
   unfolding tooFar ofFour rowsNeeded treeReach forestOf farAt
   rows-are w x y z r hw hx hy hz none hr =
       let f : ℕ → Place = λ i. farAt (treeReach t i) (root t i) in
       let h0 = or-none (f 0) (orElse (f 1) (orElse (f 2) (f 3))) none in
       let h1 = or-none (f 1) (orElse (f 2) (f 3)) (h0 .1) in
       let h2 = or-none (f 2) (f 3) (h1 .1) in
-      let w0 : w ≡ min (treeReach t 0) 4096 = cc (n0 t a b c e k, root-zero t) in
-      let x0 : x ≡ min (treeReach t 1) 4096 = cc (n1 t a b c e k, k .one) in
-      let y0 : y ≡ min (treeReach t 2) 4096 = cc (n2 t a b c e k, k .two) in
-      let z0 : z ≡ min (treeReach t 3) 4096 = cc (n3 t a b c e k, k .three) in
+      let w0 : w ≡ min (treeReach t 0) mostRows = cc (n0 t a b c e k, root-zero t) in
+      let x0 : x ≡ min (treeReach t 1) mostRows = cc (n1 t a b c e k, k .one) in
+      let y0 : y ≡ min (treeReach t 2) mostRows = cc (n2 t a b c e k, k .two) in
+      let z0 : z ≡ min (treeReach t 3) mostRows = cc (n3 t a b c e k, k .three) in
       hr ∙ ap (λ (n : ℕ). n + 1)
       (most-low w x y z (cut-small w _ w0) (cut-small x _ x0) (cut-small y _ y0) (cut-small z _ z0) ∙
       most-four w x y z _ _ _ _ (kept _ _ w w0 (h0 .0)) (kept _ _ x x0 (h1 .0)) (kept _ _ y y0 (h2 .0)) (kept _ _ z z0 (h2 .1)))

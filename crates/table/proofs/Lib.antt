@@ -5,5 +5,4 @@ pub mod Linked
 pub mod Weigh
 pub mod Four
 pub mod Final
-pub mod Needed
 pub mod Listing

@@ -11,16 +11,17 @@ use Rattle.table.specs.declared.places.Place.the-variants.{Nowhere}
 use Rattle.table.specs.Nodes.{sortAt}
 use Rattle.table.specs.Order.{fits, misfit}
 use Rattle.table.specs.Ends.{placeOr, endAt, Link, Linked}
-use Rattle.table.specs.Passes.{Ended, EndedFrom}
+use Rattle.table.specs.Passes.{Ended, EndedFrom, misfitFrom}
 use Rattle.table.specs.Laws.Order.{never-at, each, link-end}
 use Rattle.table.proofs.Prefix.{after-at, after-end, fits-two, fits-soon, fits-done}
 
-pub word-end : (t : List ℕ) (e j v : ℕ) (us : List ℕ) → fits t (e - j) j (sortAt t j ∷ us) ≡ Nowhere → Ended t e j v → v < 512
+pub word-end : (t : List ℕ) (e j v : ℕ) (us : List ℕ) → fits t (e - j) j (sortAt t j ∷ us) ≡ Nowhere → Ended t e j v → v < misfitFrom
 word-end t e j v us g k =
-    ⊎-elim (λ z. omega arith) (λ l. absurd (never-at (v - 512) (sym (after-at t e v us (omega arith)) ∙ sym (k .skips us) ∙ g))) (eq-zero-or-pos (v - 511))
+    ⊎-elim (λ z. omega arith) (λ l. absurd (never-at (v - misfitFrom) (sym (after-at t e v us (omega arith)) ∙ sym (k .skips us) ∙ g)))
+    (eq-zero-or-pos (v - 511))
 
 -- a word that is an end is the definition's
-pub end-word : (t : List ℕ) (e j v : ℕ) → j < e → v < 512 → Ended t e j v → v ≡ endAt t (e - j) j
+pub end-word : (t : List ℕ) (e j v : ℕ) → j < e → v < misfitFrom → Ended t e j v → v ≡ endAt t (e - j) j
 unfolding endAt placeOr
 end-word t e j v hi low k = ⊎-elim
     (λ z. rw (word ∙ fits-done t e v (omega arith)) (omega (arith, k .within low)))

@@ -8,6 +8,7 @@ use native.Mathlib.Numerals.{add-one}
 use lib.Dec.{ltb, leb}
 use borrow.Author.Tests.{lt-ltb, le-ltb}
 use lib.ListN.{length, set, drop, length-set, length-append}
+use Rattle.words.specs.Limits.{mostRows}
 use Rattle.words.specs.declared.refusal.Refusal.{Refusal}
 use Rattle.words.specs.Outcome.{refusal}
 use Rattle.table.specs.declared.answer.Answer.the-variants.{Accepted, Refused}
@@ -18,11 +19,10 @@ use Rattle.table.specs.Nodes.{nodeAt}
 use Rattle.table.specs.Forest.{trees, firstTrees, forestOf}
 use Rattle.table.specs.Reach.{ownBack, weigh}
 use Rattle.table.specs.Checked.{checked}
-use Rattle.table.specs.Bytes.{Bytes}
 use Rattle.table.specs.Ends.{endsBeside}
 use Rattle.table.specs.Laws.Accepted.{ends-of, tree-whole}
-use Rattle.table.specs.Silent.{WholeAll, silentTests, silentAnswer, listAfter, silentNode, silentNodes, fourSilent, putAll}
-use Rattle.table.specs.Laws.Silent.{next-node, no-node, silent-found}
+use Rattle.table.specs.Silent.{WholeAll, silentAnswer, listAfter, silentNode, silentNodes, fourSilent, putAll}
+use Rattle.table.specs.Laws.Silent.{next-node, no-node}
 
 -- ---- numbers put one after the other
 
@@ -65,7 +65,7 @@ pub listing-start : (t : List ℕ) (d b e at : ℕ) (given : List ℕ) → b ≤
 listing-start t d b e at given le few = record { low = omega arith; high = le; few = few; long = refl; many = refl; puts = refl }
 
 module _ (t : List ℕ) (d b e at : ℕ) (given list : List ℕ) (next i : ℕ) (l : Listing t d b e at given list next i) (more : i < e) (far : ℕ)
-    (weighs : far ≡ min (weigh ownBack (firstTrees 1 (trees t (e - i) i))) 4096) where
+    (weighs : far ≡ min (weigh ownBack (firstTrees 1 (trees t (e - i) i))) mostRows) where
   after : List ℕ
   after = silentNodes d (trees t (e - (i + 1)) (i + 1))
 
@@ -146,8 +146,8 @@ put-four l m n o p A B C D a b c d ea em eb en ec eo ed ep = (
 
 -- what is answered, and the list beside it
 pub record Answers (t : List ℕ) (d : ℕ) (given : List ℕ) (answer : SilentAnswer) (list : List ℕ) : Type 0 where
-  pub is : answer ≡ silentAnswer (checked t) (silentTests t d) (length given)
-  pub leaves : list ≡ listAfter answer (silentTests t d) given
+  pub is : answer ≡ silentAnswer (checked t) (fourSilent t d) (length given)
+  pub leaves : list ≡ listAfter answer (fourSilent t d) given
 
 module _ (t : List ℕ) (d : ℕ) (given : List ℕ) where
   -- a table that is refused
@@ -155,23 +155,18 @@ module _ (t : List ℕ) (d : ℕ) (given : List ℕ) where
   unfolding silentAnswer listAfter
   answers-refused why bad = record { is = rw bad; leaves = refl }
 
-  module _ (n r : ℕ) (ok : checked t ≡ Accepted n r) (small : Bytes t) (many : ℕ) (found : many ≡ length (fourSilent t d)) where
-    so-many : many ≡ length (silentTests t d)
-    so-many = found ∙ ap length (silent-found t small n r ok d)
-
+  module _ (n r : ℕ) (ok : checked t ≡ Accepted n r) (many : ℕ) (found : many ≡ length (fourSilent t d)) where
     -- a list that is too small
     pub answers-small : length given < many → Answers t d given (Refuses (refusal 10 18)) given
     unfolding silentAnswer listAfter
-    answers-small less = record { is = rw (ok, lt-ltb (length given) (length (silentTests t d)) (omega (arith, less, so-many))); leaves = refl }
+    answers-small less = record { is = rw (ok, lt-ltb (length given) (length (fourSilent t d)) (omega arith)); leaves = refl }
 
     -- the numbers, and what stood past them
     pub answers-lists : (again : ℕ) (list : List ℕ) → many ≤ length given → again ≡ length (fourSilent t d) → list ≡ putAll given 0 (fourSilent t d)
         → Answers t d given (Lists again) list
     unfolding silentAnswer listAfter
     answers-lists again list enough same puts =
-        let all : again ≡ length (silentTests t d) = same ∙ ap length (silent-found t small n r ok d) in
         record {
-          is = rw (ok, all, le-ltb (length given) (length (silentTests t d)) (omega (arith, enough, so-many)));
-          leaves =
-              puts ∙ ap (putAll given 0) (silent-found t small n r ok d) ∙ put-whole given (silentTests t d) (omega (arith, enough, so-many));
+          is = rw (ok, same, le-ltb (length given) (length (fourSilent t d)) (omega arith));
+          leaves = puts ∙ put-whole given (fourSilent t d) (omega arith);
         }

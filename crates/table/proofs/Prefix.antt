@@ -10,10 +10,11 @@ use mathlib.Core.Logic.{⊎-elim, _≢_}
 use lib.ListN.{length, getD, set, replicate}
 use lib.Seq.{getD-set-same, getD-set-other}
 use borrow.Author.Tests.{eq-eqb, ne-eqb, lt-ltb, le-ltb}
+use Rattle.words.specs.Limits.{mostNodes}
 use Rattle.table.specs.declared.places.Place.the-variants.{Nowhere, At}
 use Rattle.table.specs.Nodes.{sortAt, childCountAt, childSortAt, childFitsAt}
 use Rattle.table.specs.Order.{fits, misfit}
-use Rattle.table.specs.Passes.{after, Ended, EndedFrom, Ordered}
+use Rattle.table.specs.Passes.{after, Ended, EndedFrom, Ordered, misfitFrom}
 use Rattle.table.specs.Laws.Forest.{left-suc, left-zero}
 
 module _ (t : List ℕ) (e i : ℕ) where
@@ -48,20 +49,20 @@ more k x ws h = ap (λ (n : ℕ). replicate n x ++ ws) k-suc
     k-suc : k ≡ suc (k - 1)
     k-suc = omega arith
 
-pub after-end : (t : List ℕ) (e v : ℕ) (ws : List ℕ) → v < 512 → after t e v ws ≡ fits t (e - v) v ws
+pub after-end : (t : List ℕ) (e v : ℕ) (ws : List ℕ) → v < misfitFrom → after t e v ws ≡ fits t (e - v) v ws
 unfolding after
 after-end t e v ws h = rw (lt-ltb _ _ h)
 
-pub after-at : (t : List ℕ) (e v : ℕ) (ws : List ℕ) → 512 ≤ v → after t e v ws ≡ At (v - 512)
+pub after-at : (t : List ℕ) (e v : ℕ) (ws : List ℕ) → misfitFrom ≤ v → after t e v ws ≡ At (v - misfitFrom)
 unfolding after
 after-at t e v ws h = rw (le-ltb _ _ h)
 
 -- A node whose word is known is passed in one step.
 module _ (t : List ℕ) (e j v : ℕ) (k : Ended t e j v) where
-  pub pass : (w : ℕ) (ws : List ℕ) → sortAt t j ≡ w → v < 512 → fits t (e - j) j (w ∷ ws) ≡ fits t (e - v) v ws
+  pub pass : (w : ℕ) (ws : List ℕ) → sortAt t j ≡ w → v < misfitFrom → fits t (e - j) j (w ∷ ws) ≡ fits t (e - v) v ws
   pass w ws s h = ap (λ (x : ℕ). fits t (e - j) j (x ∷ ws)) (sym s) ∙ k .skips ws ∙ after-end t e v ws h
 
-  pub stop : (w : ℕ) (ws : List ℕ) → sortAt t j ≡ w → 512 ≤ v → fits t (e - j) j (w ∷ ws) ≡ At (v - 512)
+  pub stop : (w : ℕ) (ws : List ℕ) → sortAt t j ≡ w → misfitFrom ≤ v → fits t (e - j) j (w ∷ ws) ≡ At (v - misfitFrom)
   stop w ws s h = ap (λ (x : ℕ). fits t (e - j) j (x ∷ ws)) (sym s) ∙ k .skips ws ∙ after-at t e v ws h
 
 -- What is wanted of node i's children, of which `left` of the sort `of` are still to come at node j.
@@ -75,39 +76,39 @@ module _ (t : List ℕ) (e i : ℕ) where
       ap (λ (k : ℕ). fits t (e - (i + 1)) (i + 1) (replicate k (childSortAt t i) ++ ws)) (sym m) ∙
       ap (λ (s : ℕ). fits t (e - (i + 1)) (i + 1) (replicate many s ++ ws)) (sym o)
 
-  stopped : (p : ℕ) → p < 512 → ((ws : List ℕ) → fits t (e - i) i (sortAt t i ∷ ws) ≡ At p) → Ended t e i (512 + p)
+  stopped : (p : ℕ) → p < misfitFrom → ((ws : List ℕ) → fits t (e - i) i (sortAt t i ∷ ws) ≡ At p) → Ended t e i (misfitFrom + p)
   stopped p small all =
       record {
-        skips = λ ws. all ws ∙ ap At less ∙ sym (after-at t e (512 + p) ws (omega arith));
+        skips = λ ws. all ws ∙ ap At less ∙ sym (after-at t e (misfitFrom + p) ws (omega arith));
         beyond = λ l. absurd (never l);
         within = λ l. absurd (never l);
         small = omega arith;
       }
     where
-      less : p ≡ 512 + p - 512
+      less : p ≡ misfitFrom + p - misfitFrom
       less = omega arith
 
-      never : 512 + p < 512 → ⊥
+      never : misfitFrom + p < misfitFrom → ⊥
       never l = omega arith
 
   -- the first child is none that the node takes
-  pub wrong-child : i < e → i + 1 < 512 → childFitsAt t i ≡ false → Ended t e i (512 + (i + 1))
+  pub wrong-child : i < e → i + 1 < misfitFrom → childFitsAt t i ≡ false → Ended t e i (misfitFrom + (i + 1))
   wrong-child h small c = stopped (i + 1) small (λ ws. fits-child t e i h (sortAt t i) ws refl c)
 
   module _ (of left j : ℕ) (here : Here t e i of left j) (some : 0 < left) where
     at-once : (ws : List ℕ) → fits t (e - i) i (sortAt t i ∷ ws) ≡ fits t (e - j) j (of ∷ (replicate (left - 1) of ++ ws))
     at-once ws = here ws ∙ ap (λ (l : List ℕ). fits t (e - j) j l) (more left of ws some)
 
-    pub turn : (v : ℕ) → sortAt t j ≡ of → v < 512 → Ended t e j v → Here t e i of (left - 1) v
+    pub turn : (v : ℕ) → sortAt t j ≡ of → v < misfitFrom → Ended t e j v → Here t e i of (left - 1) v
     turn v s h k ws = at-once ws ∙ pass t e j v k of _ s h
 
-    pub cut : e ≤ j → j < 512 → Ended t e i (512 + j)
+    pub cut : e ≤ j → j < misfitFrom → Ended t e i (misfitFrom + j)
     cut h small = stopped j small (λ ws. at-once ws ∙ fits-short t e j h of _)
 
-    pub wrong : j < e → j < 512 → (sortAt t j ≡ of → ⊥) → Ended t e i (512 + j)
+    pub wrong : j < e → j < misfitFrom → (sortAt t j ≡ of → ⊥) → Ended t e i (misfitFrom + j)
     wrong h small s = stopped j small (λ ws. at-once ws ∙ fits-other t e j h of _ s)
 
-    pub inside : (v : ℕ) → sortAt t j ≡ of → 512 ≤ v → Ended t e j v → Ended t e i v
+    pub inside : (v : ℕ) → sortAt t j ≡ of → misfitFrom ≤ v → Ended t e j v → Ended t e i v
     inside v s h k =
         record {
           skips = λ ws. at-once ws ∙ stop t e j v k of _ s h ∙ sym (after-at t e v ws h);
@@ -116,10 +117,10 @@ module _ (t : List ℕ) (e i : ℕ) where
           small = k .small;
         }
       where
-        never : v < 512 → ⊥
+        never : v < misfitFrom → ⊥
         never l = omega arith
 
-  pub closed : (of left j : ℕ) → Here t e i of left j → left ≡ 0 → i < j → j ≤ e → e ≤ 256 → Ended t e i j
+  pub closed : (of left j : ℕ) → Here t e i of left j → left ≡ 0 → i < j → j ≤ e → e ≤ mostNodes → Ended t e i j
   closed of left j here none lo hi small =
       record {
         skips = λ ws. here ws ∙ ap (λ (k : ℕ). fits t (e - j) j (replicate k of ++ ws)) none ∙ sym (after-end t e j ws (omega arith));
@@ -179,13 +180,13 @@ module _ (t : List ℕ) (b e : ℕ) where
   misfit-sort h s = sym (fits-other t e b h 2 [] s) ∙ fits-two h
 
   module _ (v : ℕ) (h : b < e) (s : sortAt t b ≡ 2) (k : Ended t e b v) where
-    pub misfit-inside : 512 ≤ v → At (v - 512) ≡ misfit t (e - b) b
+    pub misfit-inside : misfitFrom ≤ v → At (v - misfitFrom) ≡ misfit t (e - b) b
     misfit-inside g = sym (stop t e b v k 2 [] s g) ∙ fits-two h
 
-    pub misfit-soon : v < 512 → v < e → At v ≡ misfit t (e - b) b
+    pub misfit-soon : v < misfitFrom → v < e → At v ≡ misfit t (e - b) b
     misfit-soon g l = sym (pass t e b v k 2 [] s g ∙ fits-soon t e v l) ∙ fits-two h
 
-    pub misfit-fits : v < 512 → e ≤ v → Nowhere ≡ misfit t (e - b) b
+    pub misfit-fits : v < misfitFrom → e ≤ v → Nowhere ≡ misfit t (e - b) b
     misfit-fits g l = sym (pass t e b v k 2 [] s g ∙ fits-done t e v l) ∙ fits-two h
 
 pub order-at : (t : List ℕ) (i b e : ℕ) (given ends : List ℕ) → i ≡ b → Ordered t i e given ends → Ordered t b e given ends

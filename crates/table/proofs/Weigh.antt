@@ -8,6 +8,7 @@ use native.Mathlib.Omega.{arith}
 use native.Mathlib.Nat.{le-trans, eq-or-lt-of-le, eq-zero-or-pos}
 use lib.ListN.{length, getD, set}
 use lib.Seq.{getD-set-same, getD-set-other}
+use Rattle.words.specs.Limits.{mostRows}
 use Rattle.table.specs.declared.nodes.Node.{Node}
 use Rattle.table.specs.declared.places.Place.{Place}
 use Rattle.table.specs.declared.places.Place.the-variants.{Nowhere, At}
@@ -35,7 +36,8 @@ max-min a b c = omega arith
 abbrev pub Rest : List ℕ → List ℕ → ℕ → ℕ → ℕ → ℕ → ℕ → Type 0
 Rest t words i e left most j =
     (w : Node → ℕ) → WordsFrom t words w (i + 1) e
-    → max most (min (weigh w (firstTrees left (trees t (e - j) j))) 4096) ≡ min (weigh w (firstTrees (childCountAt t i) (trees t (e - (i + 1)) (i + 1)))) 4096
+    → max most (min (weigh w (firstTrees left (trees t (e - j) j))) mostRows)
+    ≡ min (weigh w (firstTrees (childCountAt t i) (trees t (e - (i + 1)) (i + 1)))) mostRows
 
 module _ (t words : List ℕ) (i e : ℕ) where
   pub rest-all : (left : ℕ) → left ≡ childCountAt t i → Rest t words i e left 0 (i + 1)
@@ -46,9 +48,9 @@ module _ (t words : List ℕ) (i e : ℕ) where
         → Rest t words i e (left - 1) most′ v
     unfolding WordsFrom
     rest-turn v most′ more some lo hi k w ws =
-        ap (λ (x : ℕ). max x (min (weigh w (firstTrees (left - 1) (trees t (e - v) v))) 4096)) more ∙
-        ap (λ (x : ℕ). max (max most x) (min (weigh w (firstTrees (left - 1) (trees t (e - v) v))) 4096)) (ws j (omega arith) hi) ∙
-        max-max most _ _ ∙ ap (λ (x : ℕ). max most x) (max-min _ _ 4096) ∙ ap (λ (x : ℕ). max most (min x 4096)) (sym split) ∙ r w ws
+        ap (λ (x : ℕ). max x (min (weigh w (firstTrees (left - 1) (trees t (e - v) v))) mostRows)) more ∙
+        ap (λ (x : ℕ). max (max most x) (min (weigh w (firstTrees (left - 1) (trees t (e - v) v))) mostRows)) (ws j (omega arith) hi) ∙
+        max-max most _ _ ∙ ap (λ (x : ℕ). max most x) (max-min _ _ mostRows) ∙ ap (λ (x : ℕ). max most (min x mostRows)) (sym split) ∙ r w ws
       where
         pred : left ≡ suc (left - 1)
         pred = omega arith
@@ -83,21 +85,21 @@ words-none t words w e j lo hi = absurd (never lo hi)
     never lo hi = omega arith
 
 pub words-more : (t : List ℕ) (w : Node → ℕ) (e i i′ o m x : ℕ) (words : List ℕ) → i ≡ i′ + 1 → i ≤ e → i′ < length words
-    → WordsFrom t words w i e → o ≡ min (w (nodeAt t i′)) 4096 → Most t words i′ e m → x ≡ min (o + m) 4096 → WordsFrom t (set words i′ x) w i′ e
+    → WordsFrom t words w i e → o ≡ min (w (nodeAt t i′)) mostRows → Most t words i′ e m → x ≡ min (o + m) mostRows → WordsFrom t (set words i′ x) w i′ e
 unfolding WordsFrom Most
 words-more t w e i i′ o m x words step hi room k own most sum j lo h = ⊎-elim here there (eq-or-lt-of-le lo)
   where
-    new : x ≡ min (weigh w (firstTrees 1 (trees t (e - i′) i′))) 4096
+    new : x ≡ min (weigh w (firstTrees 1 (trees t (e - i′) i′))) mostRows
     new = omega (arith, own, most w (λ j′ lo′ hi′. k j′ (omega arith) hi′), sum, first-weight w t i′ e (omega arith))
 
-    here : i′ ≡ j → getD (set words i′ x) j 0 ≡ min (weigh w (firstTrees 1 (trees t (e - j) j))) 4096
+    here : i′ ≡ j → getD (set words i′ x) j 0 ≡ min (weigh w (firstTrees 1 (trees t (e - j) j))) mostRows
     here same =
-        subst (λ (y : ℕ). getD (set words i′ x) y 0 ≡ min (weigh w (firstTrees 1 (trees t (e - y) y))) 4096) same (getD-set-same words i′ x 0 room ∙ new)
+        subst (λ (y : ℕ). getD (set words i′ x) y 0 ≡ min (weigh w (firstTrees 1 (trees t (e - y) y))) mostRows) same (getD-set-same words i′ x 0 room ∙ new)
 
     other : i′ < j → j ≢ i′
     other l = omega arith
 
-    there : i′ < j → getD (set words i′ x) j 0 ≡ min (weigh w (firstTrees 1 (trees t (e - j) j))) 4096
+    there : i′ < j → getD (set words i′ x) j 0 ≡ min (weigh w (firstTrees 1 (trees t (e - j) j))) mostRows
     there l = getD-set-other words i′ j x 0 (other l) ∙ k j (omega arith) h
 
 pub links-next : (t ends : List ℕ) (b b′ e : ℕ) → b ≤ b′ → Linked t ends b e → Linked t ends b′ e
@@ -111,7 +113,7 @@ pub words-next : (t words : List ℕ) (w : Node → ℕ) (b b′ e : ℕ) → b 
 unfolding WordsFrom
 words-next t words w b b′ e h k j lo hi = k j (le-trans h lo) hi
 
-pub most-small : (t words : List ℕ) (w : Node → ℕ) (i e m : ℕ) → Most t words i e m → WordsFrom t words w (i + 1) e → m ≤ 4096
+pub most-small : (t words : List ℕ) (w : Node → ℕ) (i e m : ℕ) → Most t words i e m → WordsFrom t words w (i + 1) e → m ≤ mostRows
 unfolding Most
 most-small t words w i e m k ws = omega (arith, k w ws)
 
@@ -165,7 +167,7 @@ module _ (t : List ℕ) (e j left : ℕ) where
   unfolding deeper trees
   deep-end h = rw (left-zero e j h)
 
-  module _ (x : ℕ) (h : j < e) (word : x ≡ min (weigh (weight 0) (firstTrees 1 (trees t (e - j) j))) 4096) (some : left ≡ 0 → ⊥) where
+  module _ (x : ℕ) (h : j < e) (word : x ≡ min (weigh (weight 0) (firstTrees 1 (trees t (e - j) j))) mostRows) (some : left ≡ 0 → ⊥) where
     pred : left ≡ suc (left - 1)
     pred = omega arith
 
@@ -203,7 +205,7 @@ module _ (t : List ℕ) (e j left : ℕ) where
         ap (λ (f : Forest). deeper left f) (sym skipped ∙ k .next)
 
 -- Rule 9.
-pub reach-none : (t : List ℕ) (b e : ℕ) → e ≤ b → 0 ≡ min (forestReach (trees t (e - b) b)) 4096
+pub reach-none : (t : List ℕ) (b e : ℕ) → e ≤ b → 0 ≡ min (forestReach (trees t (e - b) b)) mostRows
 unfolding forestReach weigh trees
 reach-none t b e h = rw (left-zero e b h)
 
@@ -212,8 +214,8 @@ unfolding weigh firstTrees otherTrees
 weigh-two w none = refl
 weigh-two w (tree n below rest) = omega arith
 
-pub reach-one : (t : List ℕ) (b e x v : ℕ) → x ≡ min (weigh (weight 1) (firstTrees 1 (trees t (e - b) b))) 4096
-    → Link t e b v → v ≡ e → x ≡ min (forestReach (trees t (e - b) b)) 4096
+pub reach-one : (t : List ℕ) (b e x v : ℕ) → x ≡ min (weigh (weight 1) (firstTrees 1 (trees t (e - b) b))) mostRows
+    → Link t e b v → v ≡ e → x ≡ min (forestReach (trees t (e - b) b)) mostRows
 unfolding forestReach weigh weight trees
 reach-one t b e x v word k all = omega (arith, word, weigh-two ownBack (trees t (e - b) b), none-after)
   where

@@ -1,17 +1,10 @@
 -- How many rows a rule needs. Definitions only.
 use Prim.Native.Nat.{ℕ, _+_, _*_, max}
-use mathlib.Core.Bool.{cond}
 use mathlib.Core.List.{List}
-use lib.Dec.{ltb}
-use Rattle.words.specs.Limits.{rowWords, mostReach}
-use Rattle.words.specs.Outcome.{refusal}
-use Rattle.table.specs.declared.answer.Answer.{Answer}
-use Rattle.table.specs.declared.answer.Answer.the-variants.{Accepted, Refused}
+use Rattle.words.specs.Limits.{rowWords}
 use Rattle.table.specs.Trees.{reachOf}
 use Rattle.table.specs.Reading.{treeOf}
 use Rattle.table.specs.Header.{slots}
-use Rattle.table.specs.declared.depth.DepthAnswer.{DepthAnswer}
-use Rattle.table.specs.declared.depth.DepthAnswer.the-variants.{Needs, Refuses}
 
 -- "the greatest of the four reaches"
 unfoldable pub greatestReach : List ℕ → ℕ
@@ -24,9 +17,3 @@ depthOf t lookback = 1 + max (greatestReach t) lookback
 -- "A row is the bar's six words, the presence mask and K slots", each word of 8 bytes
 unfoldable pub rowBytes : List ℕ → ℕ
 rowBytes t = 8 * rowWords (slots t)
-
--- "12: .. lookback above 4,095": the lookback is setting 7.
-unfoldable pub depthAnswer : Answer → List ℕ → ℕ → DepthAnswer
-depthAnswer (Refused why) t lookback = Refuses why
-depthAnswer (Accepted nodes rows) t lookback =
-    cond (ltb mostReach lookback) (Refuses (refusal 12 7)) (Needs (depthOf t lookback) (rowBytes t) (depthOf t lookback * rowBytes t))

@@ -21,7 +21,3 @@ pub mod Silent
 pub mod Passes
 -- ---- laws of the definitions
 pub mod Laws
--- ---- THE THEOREMS: tables and rules are the same thing; the worked example
-pub mod RoundTrip
-pub mod Versions
-pub mod Example

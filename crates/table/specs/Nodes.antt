@@ -12,7 +12,7 @@ use Rattle.table.specs.declared.header.Form.{Form}
 use Rattle.table.specs.declared.places.Place.{Place}
 use Rattle.table.specs.declared.places.Place.the-variants.{Nowhere, At}
 use Rattle.table.specs.Bytes.{u16, u32, u64}
-use Rattle.table.specs.Kinds.{kindOf, aSeries, overASeries, secondVersion}
+use Rattle.table.specs.Kinds.{kindOf, asWritten, aSeries, overASeries, secondVersion}
 use Rattle.table.specs.Header.{formOf}
 
 -- "Then 16 bytes a node." "Node: kind (1), selector (1), children (2), n (4), constant bits (8)." The number of the node is
@@ -30,7 +30,7 @@ nodeAt t i =
 
 -- "Unused fields are zero; only All and Any use children." A field's own row of the kinds says what it is used for.
 unfoldable pub childrenRight : ℕ → ℕ → Bool
-childrenRight children takes = cond (eqb takes 255) true (eqb children 0)
+childrenRight children takes = cond (eqb takes asWritten) true (eqb children 0)
 
 -- n: unused, so zero; a "slot, below K"; "n from 1 to 4,095"; or any number
 unfoldable pub nRight : ℕ → ℕ → ℕ → Bool
@@ -69,7 +69,7 @@ unfoldable pub sortAt : List ℕ → ℕ → ℕ
 sortAt t i = kindOf (nodeAt t i .kind) .sort
 
 unfoldable pub childCount : Node → Kind → ℕ
-childCount n w = cond (eqb (w .children) 255) (n .children) (w .children)
+childCount n w = cond (eqb (w .children) asWritten) (n .children) (w .children)
 
 unfoldable pub childCountAt : List ℕ → ℕ → ℕ
 childCountAt t i = childCount (nodeAt t i) (kindOf (nodeAt t i .kind))

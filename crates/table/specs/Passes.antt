@@ -3,7 +3,7 @@
 use mathlib.Core.Path.{_≡_}
 use mathlib.Core.Bool.{cond}
 use mathlib.Core.List.{List, _∷_}
-use Prim.Native.Nat.{ℕ, _+_, _-_, _≤_, _<_, min}
+use Prim.Native.Nat.{ℕ, _+_, _-_, _*_, _≤_, _<_, min}
 use lib.ListN.{length, getD}
 use lib.Dec.{ltb, eqb}
 use Rattle.words.specs.Limits.{mostRows, mostNodes}
@@ -17,16 +17,20 @@ use Rattle.table.specs.Forest.{firstTrees, trees}
 use Rattle.table.specs.Reach.{weigh, ownBack}
 use Rattle.table.specs.Ends.{Linked}
 
--- Rule 7. Node i's word v, of a tree's nodes below e, is the end of the subtree that begins at node i, or 512 more than the
+-- From here on a word is no end, but a place and as much more.
+abbrev pub misfitFrom : ℕ
+misfitFrom = 512
+
+-- Rule 7. Node i's word v, of a tree's nodes below e, is the end of the subtree that begins at node i, or `misfitFrom` more than the
 -- place where that subtree stops fitting. `skips` says so in the terms of rule 7, whatever is wanted next.
 unfoldable pub after : List ℕ → ℕ → ℕ → List ℕ → Place
-after t e v ws = cond (ltb v 512) (fits t (e - v) v ws) (At (v - 512))
+after t e v ws = cond (ltb v misfitFrom) (fits t (e - v) v ws) (At (v - misfitFrom))
 
 pub record Ended (t : List ℕ) (e i v : ℕ) : Type 0 where
   pub skips : (ws : List ℕ) → fits t (e - i) i (sortAt t i ∷ ws) ≡ after t e v ws
-  pub beyond : v < 512 → i < v
-  pub within : v < 512 → v ≤ e
-  pub small : v < 1024
+  pub beyond : v < misfitFrom → i < v
+  pub within : v < misfitFrom → v ≤ e
+  pub small : v < 2 * misfitFrom
 
 -- the array `ends` has the words of the nodes from b up to e
 unfoldable pub EndedFrom : List ℕ → List ℕ → ℕ → ℕ → Type 0

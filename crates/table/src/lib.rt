@@ -1,7 +1,6 @@
 // The rule table: its bytes, its nodes, the table of kinds, and the checker with its refusals 1 to 9.
 pub mod answer;
 pub mod bytes;
-pub mod depth;
 pub mod header;
 pub mod kinds;
 mod nesting;
@@ -25,13 +24,14 @@ use reach::far_or_accepted;
 use words::refusal::Refusal;
 ghost use mathlib.Core.Path.{_≡_};
 ghost use lib.ListN.{replicate};
+ghost use Rattle.words.specs.Limits.{mostNodes};
 ghost use Rattle.table.specs.Header.{headerRefusal};
 ghost use Rattle.table.specs.Checked.{checked, checkedUpTo, from7, from8, from9};
 ghost use Rattle.table.specs.Ends.{endsAll, endsFor, endsBeside};
 ghost use Rattle.table.specs.Passes.{Roots, LinkedAll};
 
 fn refused(refusal: Refusal) -> Checked
-    ensures { λ r. ⌜ (r .answer ≡ Answer.Refused refusal) × (r .ends ≡ replicate 256 0) ⌝ }
+    ensures { λ r. ⌜ (r .answer ≡ Answer.Refused refusal) × (r .ends ≡ replicate mostNodes 0) ⌝ }
 {
     Checked {
         answer: Answer::Refused(refusal),

@@ -6,6 +6,7 @@ use crate::weighing::weigh_tree;
 use words::limits::MOST_NESTING;
 ghost use mathlib.Core.Path.{_≡_};
 ghost use Prim.Native.Nat.{_-_, _≤_};
+ghost use Rattle.words.specs.Limits.{mostNesting, mostNodes};
 ghost use Rattle.table.specs.Forest.{trees};
 ghost use Rattle.table.specs.Nesting.{deeper, tooDeep};
 ghost use Rattle.table.specs.Ends.{Linked};
@@ -13,9 +14,9 @@ ghost use Rattle.table.specs.Passes.{Roots, LinkedAll};
 
 // The first node of one tree below more than 32 levels: down where a subtree is too tall, past it where it is not.
 fn deep_of(t: &[u8], ends: &[usize; 256], b: usize, e: usize) -> Place
-    requires { ⌜ (b ≤ e) × (e ≤ 256) ⌝ }
+    requires { ⌜ (b ≤ e) × (e ≤ mostNodes) ⌝ }
     requires { ⌜ Linked (now t) (now ends) b e ⌝ }
-    ensures { λ r. ⌜ r ≡ deeper 32 (trees (now (t .entry)) (e - b) b) ⌝ }
+    ensures { λ r. ⌜ r ≡ deeper mostNesting (trees (now (t .entry)) (e - b) b) ⌝ }
 {
     let tall = weigh_tree(t, ends, LEVELS, b, e);
     let mut left: u64 = MOST_NESTING as u64;

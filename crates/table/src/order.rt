@@ -10,14 +10,18 @@ use crate::places::or_else;
 ghost use mathlib.Core.Path.{_≡_};
 ghost use Prim.Native.Nat.{_+_, _-_, _≤_, _<_};
 ghost use mathlib.Core.Bool.{true};
+ghost use Rattle.words.specs.Limits.{mostNodes};
 ghost use Rattle.table.specs.Nodes.{childCountAt, childSortAt, childFitsAt};
 ghost use Rattle.table.specs.Order.{misfit, misfits};
 ghost use Rattle.table.specs.Passes.{Ended, EndedFrom, Ordered, Roots, EndedAll};
 
-// The end of the subtree that begins at node i, whose first child is one that it takes, or 512 more than the place where it stops
+// From here on a word is no end, but the place where a subtree stops fitting and as much more.
+const MISFIT_FROM: usize = 512;
+
+// The end of the subtree that begins at node i, whose first child is one that it takes, or MISFIT_FROM more than the place where it stops
 // fitting: past its `many` children of the sort `below`.
 fn end_below(t: &[u8], ends: &[usize; 256], i: usize, e: usize, below: u8, many: usize) -> usize
-    requires { ⌜ (i < e) × (e ≤ 256) ⌝ }
+    requires { ⌜ (i < e) × (e ≤ mostNodes) ⌝ }
     requires { ⌜ EndedFrom (now t) (now ends) (i + 1) e ⌝ }
     requires { ⌜ (childFitsAt (now t) i ≡ true) × (many ≡ childCountAt (now t) i) × (below ≡ childSortAt (now t) i) ⌝ }
     ensures { λ r. ⌜ Ended (now (t .entry)) e i r ⌝ }
@@ -26,13 +30,13 @@ fn end_below(t: &[u8], ends: &[usize; 256], i: usize, e: usize, below: u8, many:
     let mut j = i + 1;
     while 0 < left {
         if e <= j {
-            return 512 + j;
+            return MISFIT_FROM + j;
         }
         if sort_at(t, j) != below {
-            return 512 + j;
+            return MISFIT_FROM + j;
         }
         let v = ends[j];
-        if 512 <= v {
+        if MISFIT_FROM <= v {
             return v;
         }
         j = v;
@@ -41,9 +45,9 @@ fn end_below(t: &[u8], ends: &[usize; 256], i: usize, e: usize, below: u8, many:
     j
 }
 
-// The end of the subtree that begins at node i, or 512 more than the place where it stops fitting.
+// The end of the subtree that begins at node i, or MISFIT_FROM more than the place where it stops fitting.
 fn end_of(t: &[u8], ends: &[usize; 256], i: usize, e: usize) -> usize
-    requires { ⌜ (i < e) × (e ≤ 256) ⌝ }
+    requires { ⌜ (i < e) × (e ≤ mostNodes) ⌝ }
     requires { ⌜ EndedFrom (now t) (now ends) (i + 1) e ⌝ }
     ensures { λ r. ⌜ Ended (now (t .entry)) e i r ⌝ }
 {
@@ -52,13 +56,13 @@ fn end_of(t: &[u8], ends: &[usize; 256], i: usize, e: usize) -> usize
     if child_fits(t, row, i + 1) {
         end_below(t, ends, i, e, row.below, child_count(node, row))
     } else {
-        512 + (i + 1)
+        MISFIT_FROM + (i + 1)
     }
 }
 
 // The ends of one tree, of the nodes from b up to e.
 fn order_tree(t: &[u8], given: [usize; 256], b: usize, e: usize) -> [usize; 256]
-    requires { ⌜ (b ≤ e) × (e ≤ 256) ⌝ }
+    requires { ⌜ (b ≤ e) × (e ≤ mostNodes) ⌝ }
     ensures { λ r. ⌜ Ordered (now (t .entry)) b e given r ⌝ }
 {
     let mut ends = given;
@@ -72,7 +76,7 @@ fn order_tree(t: &[u8], given: [usize; 256], b: usize, e: usize) -> [usize; 256]
 }
 
 fn misfit_of(t: &[u8], ends: &[usize; 256], b: usize, e: usize) -> Place
-    requires { ⌜ (b ≤ e) × (e ≤ 256) ⌝ }
+    requires { ⌜ (b ≤ e) × (e ≤ mostNodes) ⌝ }
     requires { ⌜ EndedFrom (now t) (now ends) b e ⌝ }
     ensures { λ r. ⌜ r ≡ misfit (now (t .entry)) (e - b) b ⌝ }
 {
@@ -83,8 +87,8 @@ fn misfit_of(t: &[u8], ends: &[usize; 256], b: usize, e: usize) -> Place
         return Place::At(b);
     }
     let v = ends[b];
-    if 512 <= v {
-        return Place::At(v - 512);
+    if MISFIT_FROM <= v {
+        return Place::At(v - MISFIT_FROM);
     }
     if v < e {
         return Place::At(v);

@@ -11,6 +11,7 @@ use words::refusal::Refusal;
 ghost use mathlib.Core.Path.{_≡_};
 ghost use Prim.Native.Nat.{_+_, _-_, _≤_, _<_, min, max};
 ghost use lib.ListN.{getD};
+ghost use Rattle.words.specs.Limits.{mostNodes, mostRows};
 ghost use Rattle.table.specs.Order.{orElse};
 ghost use Rattle.table.specs.Forest.{trees};
 ghost use Rattle.table.specs.Reach.{forestReach, farAt};
@@ -20,10 +21,10 @@ ghost use Rattle.table.specs.Passes.{Roots, LinkedAll};
 
 // How far back one tree reads, cut at 4,096.
 fn reach_of(t: &[u8], ends: &[usize; 256], b: usize, e: usize) -> u64
-    requires { ⌜ (b ≤ e) × (e ≤ 256) ⌝ }
+    requires { ⌜ (b ≤ e) × (e ≤ mostNodes) ⌝ }
     requires { ⌜ Linked (now t) (now ends) b e ⌝ }
     requires { ⌜ (b < e → getD (now ends) b 0 ≡ e) ⌝ }
-    ensures { λ r. ⌜ r ≡ min (forestReach (trees (now (t .entry)) (e - b) b)) 4096 ⌝ }
+    ensures { λ r. ⌜ r ≡ min (forestReach (trees (now (t .entry)) (e - b) b)) mostRows ⌝ }
 {
     if e <= b {
         return 0;
@@ -53,7 +54,7 @@ fn too_far(w: u64, x: u64, y: u64, z: u64, a: usize, b: usize, c: usize) -> Plac
 }
 
 fn rows_needed(w: u64, x: u64, y: u64, z: u64) -> u64
-    ensures { λ r. ⌜ r ≡ min (max (max w x) (max y z)) 4096 + 1 ⌝ }
+    ensures { λ r. ⌜ r ≡ min (max (max w x) (max y z)) mostRows + 1 ⌝ }
 {
     let p = greater(w, x);
     let q = greater(y, z);

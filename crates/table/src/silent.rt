@@ -1,4 +1,5 @@
 // Which tests of a table fall silent over so few rows: a test that reaches back as many bars as there are rows, or more, answers no.
+// Here they are nodes; that those are the tests of the table's trees is `silent_tests` of `needed`.
 use crate::answer::Answer;
 use crate::check;
 use crate::header;
@@ -16,7 +17,7 @@ ghost use Rattle.table.specs.Checked.{checked};
 ghost use Rattle.table.specs.Header.{root};
 ghost use Rattle.table.specs.Forest.{forestOf};
 ghost use Rattle.table.specs.Laws.Accepted.{Whole};
-ghost use Rattle.table.specs.Silent.{WholeAll, silentTests, silentAnswer, listAfter, silentNodes, fourSilent, putAll};
+ghost use Rattle.table.specs.Silent.{WholeAll, silentAnswer, listAfter, silentNodes, fourSilent, putAll};
 
 // The answer: how many tests were listed, or the refusal.
 pub enum SilentAnswer {
@@ -88,9 +89,9 @@ fn list_all(t: &[u8], ends: &[usize; 256], d: u64, list: &mut [u64]) -> usize
 }
 
 // The node numbers of the tests that fall silent over `d` rows, in table order, into the list, which may be longer.
-pub fn silent_tests(t: &[u8], d: u64, list: &mut [u64]) -> SilentAnswer
-    ensures { λ r. ⌜ r ≡ silentAnswer (checked (now (t .entry))) (silentTests (now (t .entry)) d) (length (now (list .entry))) ⌝ }
-    ensures { λ r. ⌜ now (list .exit) ≡ listAfter r (silentTests (now (t .entry)) d) (now (list .entry)) ⌝ }
+pub fn silent_nodes(t: &[u8], d: u64, list: &mut [u64]) -> SilentAnswer
+    ensures { λ r. ⌜ r ≡ silentAnswer (checked (now (t .entry))) (fourSilent (now (t .entry)) d) (length (now (list .entry))) ⌝ }
+    ensures { λ r. ⌜ now (list .exit) ≡ listAfter r (fourSilent (now (t .entry)) d) (now (list .entry)) ⌝ }
 {
     let checked = check(t);
     let answer = checked.answer;

@@ -11,6 +11,7 @@ use crate::nodes::node_at;
 use words::limits::MOST_ROWS;
 ghost use mathlib.Core.Path.{_≡_};
 ghost use Prim.Native.Nat.{_+_, _-_, _≤_, _<_, min, max};
+ghost use Rattle.words.specs.Limits.{mostNodes, mostRows};
 ghost use Rattle.table.specs.Nodes.{nodeAt};
 ghost use Rattle.table.specs.Reach.{back};
 ghost use Rattle.table.specs.Ends.{Linked};
@@ -27,7 +28,7 @@ pub fn greater(a: u64, b: u64) -> u64
 }
 
 pub fn cut(a: u64) -> u64
-    ensures { λ r. ⌜ r ≡ min a 4096 ⌝ }
+    ensures { λ r. ⌜ r ≡ min a mostRows ⌝ }
 {
     let most = MOST_ROWS as u64;
     if a < most { a } else { most }
@@ -56,7 +57,7 @@ pub fn back_of(n: Node, w: Kind) -> u64
 }
 
 fn weight_at(t: &[u8], what: u8, i: usize) -> u64
-    ensures { λ r. ⌜ r ≡ min (weight what (nodeAt (now (t .entry)) i)) 4096 ⌝ }
+    ensures { λ r. ⌜ r ≡ min (weight what (nodeAt (now (t .entry)) i)) mostRows ⌝ }
 {
     if what == LEVELS {
         return 1;
@@ -68,7 +69,7 @@ fn weight_at(t: &[u8], what: u8, i: usize) -> u64
 
 // The greatest word of node i's children.
 fn most_below(t: &[u8], ends: &[usize; 256], words: &[u64; 256], i: usize, e: usize) -> u64
-    requires { ⌜ (i < e) × (e ≤ 256) ⌝ }
+    requires { ⌜ (i < e) × (e ≤ mostNodes) ⌝ }
     requires { ⌜ Linked (now t) (now ends) (i + 1) e ⌝ }
     ensures { λ r. ⌜ Most (now (t .entry)) (now (words .entry)) i e r ⌝ }
 {
@@ -87,7 +88,7 @@ fn most_below(t: &[u8], ends: &[usize; 256], words: &[u64; 256], i: usize, e: us
 }
 
 pub(crate) fn weigh_tree(t: &[u8], ends: &[usize; 256], what: u8, b: usize, e: usize) -> [u64; 256]
-    requires { ⌜ (b ≤ e) × (e ≤ 256) ⌝ }
+    requires { ⌜ (b ≤ e) × (e ≤ mostNodes) ⌝ }
     requires { ⌜ Linked (now t) (now ends) b e ⌝ }
     ensures { λ r. ⌜ WordsFrom (now (t .entry)) r (weight what) b e ⌝ }
 {

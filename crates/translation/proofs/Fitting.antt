@@ -17,8 +17,8 @@ use Rattle.table.specs.Checked.{checked}
 use Rattle.table.specs.Ends.{endsBeside}
 use Rattle.table.specs.Reading.{treeOf, present}
 use Rattle.table.specs.Laws.Accepted.{tree-reach}
-use Rattle.table.specs.Laws.Reach.{tree-reach-is}
-use Rattle.table.specs.Laws.AcceptedWritten.{tree-nodes}
+use Rattle.roundtrip.specs.Laws.Reach.{tree-reach-is}
+use Rattle.roundtrip.specs.Laws.AcceptedWritten.{tree-nodes}
 use Rattle.rules.specs.Flat.{conditionAt}
 use Rattle.rules.specs.Laws.FlatReading.{tree-joined}
 use Rattle.table.specs.declared.trees.Tree.{Tree}

@@ -16,59 +16,6 @@ const TABLE_SIZE: usize = 0;
 
 const ROWS_SIZE: usize = 1;
 
-// Byte i of the bytes that a line's words hold from its third on, eight each, the first in the highest place.
-fn byte_of(line: &[u64], i: usize) -> u8 {
-    let word = words::word_from(line, 2, i / 8);
-    let moved = match i % 8 {
-        0 => word / 0x100_0000_0000_0000,
-        1 => word / 0x1_0000_0000_0000,
-        2 => word / 0x100_0000_0000,
-        3 => word / 0x1_0000_0000,
-        4 => word / 0x100_0000,
-        5 => word / 0x1_0000,
-        6 => word / 0x100,
-        _ => word,
-    };
-    (moved % 256) as u8
-}
-
-// The bytes of a line into the table's room.
-fn lend_table(room: &mut [u8], line: &[u64]) {
-    let n = words::word(line, 1) as usize;
-    let mut i = 0;
-    while i < room.len() && i < n {
-        room[i] = byte_of(line, i);
-        i += 1;
-    }
-}
-
-// The words of a line into the rows' room.
-fn lend_rows(room: &mut [u64], line: &[u64]) {
-    let n = words::word(line, 1) as usize;
-    let mut i = 0;
-    while i < room.len() && i < n {
-        room[i] = words::word_from(line, 2, i);
-        i += 1;
-    }
-}
-
-// The first n bytes, and the first n words; none where there are fewer.
-fn first_bytes(room: &[u8], n: usize) -> &[u8] {
-    let from: usize = 0;
-    if room.len() < n {
-        return &room[from..from];
-    }
-    &room[from..n]
-}
-
-fn first_words(room: &[u64], n: usize) -> &[u64] {
-    let from: usize = 0;
-    if room.len() < n {
-        return &room[from..from];
-    }
-    &room[from..n]
-}
-
 fn set_size(sizes: &mut [u64], at: usize, line: &[u64]) {
     if at < sizes.len() {
         sizes[at] = words::word(line, 1);
@@ -103,15 +50,15 @@ fn take(line: &[u64], sizes: &mut [u64], table: &mut [u8], rows: &mut [u64]) {
     match words::word(line, 0) {
         0 => {
             set_size(sizes, ROWS_SIZE, line);
-            lend_rows(rows, line);
+            text::rooms::fill(rows, line);
         }
         0x1f => {
             set_size(sizes, TABLE_SIZE, line);
-            lend_table(table, line);
+            text::rooms::fill_bytes(table, line);
         }
         _ => ask(
-            first_bytes(table, words::word(sizes, TABLE_SIZE) as usize),
-            first_words(rows, words::word(sizes, ROWS_SIZE) as usize),
+            text::rooms::bytes(table, 0, words::word(sizes, TABLE_SIZE) as usize),
+            text::rooms::part(rows, 0, words::word(sizes, ROWS_SIZE) as usize),
             line,
         ),
     }
@@ -120,7 +67,7 @@ fn take(line: &[u64], sizes: &mut [u64], table: &mut [u8], rows: &mut [u64]) {
 // Takes the next line, and says whether there was one: at the end of the input there is no word, and rows of none are lent.
 fn take_next(room: &mut [u64], sizes: &mut [u64], table: &mut [u8], rows: &mut [u64]) -> bool {
     let n = text::read_line(room);
-    let line = first_words(room, n);
+    let line = text::rooms::part(room, 0, n);
     take(line, sizes, table, rows);
     n > 0
 }

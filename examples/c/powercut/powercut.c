@@ -8,7 +8,7 @@
 
 #include "yshturpa.h"
 
-enum { SLOTS = 0, DEPTH = 3, BARS = 60, CUT = 30, PAGE = 128, MOST = 256 + DEPTH * 8 * 7, TREES = 4, NODES = 8, ROOM = YSH_STEP_BYTES(NODES) };
+enum { SLOTS = 0, DEPTH = 3, BARS = 60, CUT = 30, PAGE = 128, MOST = YSH_DUMP_BYTES(SLOTS, DEPTH), TREES = 4, NODES = 8, ROOM = YSH_STEP_BYTES(NODES) };
 
 static uint64_t word_of(double x)
 {

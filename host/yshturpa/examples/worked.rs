@@ -62,9 +62,10 @@ fn main() -> Result<(), Error> {
     settings.slippage = Slippage::FixedBps(2.0);
     settings.stop_loss_pct = Some(10.0);
     let mut engine = Engine::new(&table, &settings, BARS, 32)?;
-    for i in 0..BARS {
-        engine.step(&bar(i))?;
-    }
+    let day: Vec<Bar> = (0..BARS).map(bar).collect();
+    let (done, answer) = engine.steps(&day);
+    answer?;
+    println!("the day: {done} bars in one call");
     let metrics = engine.finish()?;
     for (i, trade) in engine.trades().enumerate() {
         println!("trade {i}: {trade:?}");

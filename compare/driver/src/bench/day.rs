@@ -15,7 +15,13 @@ const CALLS: usize = 20;
 
 /// Nanoseconds a bar.
 fn in_days(case: &Case, depth: usize) -> f64 {
-    let bars: Vec<u64> = case.bars.iter().cycle().take(DAY.max(depth)).flat_map(bar_words).collect();
+    let bars: Vec<u64> = case
+        .bars
+        .iter()
+        .cycle()
+        .take(DAY.max(depth))
+        .flat_map(bar_words)
+        .collect();
     let words = bars.len() / DAY.max(depth);
     let mut run = Ours::with_room(case, depth, depth + CALLS * DAY).expect("an accepted case");
     let mut step = |count: usize| {
@@ -29,8 +35,8 @@ fn in_days(case: &Case, depth: usize) -> f64 {
 pub fn bench() {
     println!("## A day in one call\n");
     println!("Nanoseconds a bar: one call of 1,440 bars, one call a bar, the Rust; a full room of D rows, after many bars.\n");
-    println!("| table | D | K | in one call | one call a bar | Rust | in one call / Rust | in one call / one call a bar |");
-    println!("|---|---|---|---|---|---|---|---|");
+    println!("| table | D | K | in one call | one call a bar | Rust | in one call / Rust | one call a bar / Rust | in one call / one call a bar |");
+    println!("|---|---|---|---|---|---|---|---|---|");
     for (large, depth, slots) in [
         (false, 14, 2),
         (false, 14, 64),
@@ -42,14 +48,19 @@ pub fn bench() {
     ] {
         let size = Size { large, depth, slots };
         let (case, marks) = (size.case(), marks(depth));
-        let (day, single, rust) = (in_days(&case, depth), ours(&case, &marks, depth).1, theirs(&case, &marks).1);
+        let (day, single, rust) = (
+            in_days(&case, depth),
+            ours(&case, &marks, depth).1,
+            theirs(&case, &marks).1,
+        );
         println!(
-            "| {} | {depth} | {slots} | {} | {} | {} | {} | {:.3} |",
+            "| {} | {depth} | {slots} | {} | {} | {} | {} | {} | {:.3} |",
             size.name(),
             nanoseconds(day),
             nanoseconds(single),
             nanoseconds(rust),
             ratio(day, rust),
+            ratio(single, rust),
             day / single,
         );
     }

@@ -1,22 +1,35 @@
 //! `driver bench`: the C interface against the Rust original, on the same bars in one run, as tables in markdown.
 
 mod day;
+mod dump;
 mod engine;
 mod figures;
+mod looks;
 mod moving;
 mod parts;
 mod rules;
 mod setup;
 mod timing;
 
-/// Measures everything; always agrees.
-pub fn bench() -> bool {
-    engine::bench();
-    engine::by_slots();
-    day::bench();
-    moving::bench();
-    parts::bench();
-    rules::bench();
-    figures::bench();
-    true
+/// A table, under the name that picks it.
+type Part = (&'static str, fn());
+
+const PARTS: [Part; 9] = [
+    ("bar", engine::bench),
+    ("slots", engine::by_slots),
+    ("day", day::bench),
+    ("moving", moving::bench),
+    ("dump", dump::bench),
+    ("parts", parts::bench),
+    ("rules", rules::bench),
+    ("looks", looks::bench),
+    ("figures", figures::bench),
+];
+
+/// Measures everything, or the part of that name; whether there is one.
+pub fn bench(name: Option<&str>) -> bool {
+    let picked = |part: &&Part| name.is_none_or(|name| name == part.0);
+    let parts: Vec<&Part> = PARTS.iter().filter(picked).collect();
+    parts.iter().for_each(|part| part.1());
+    !parts.is_empty()
 }

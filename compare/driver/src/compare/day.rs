@@ -42,13 +42,23 @@ pub fn same_in_days(case: &Case, plan: Plan, single: &Ours) -> Result<(), Mismat
         let seen = run.state[state::BARS_SEEN];
         let (done, answer) = run.steps(&list[next * words..]);
         if run.state[state::BARS_SEEN] != seen + done as u64 {
-            return Err(Mismatch::one(None, DAYS, "bars done", done as u64, run.state[state::BARS_SEEN] - seen));
+            return Err(Mismatch::one(
+                None,
+                DAYS,
+                "bars done",
+                done as u64,
+                run.state[state::BARS_SEEN] - seen,
+            ));
         }
         next += done;
         match answer {
             Ok(()) if next == bars.len() => {}
             Ok(()) => return Err(Mismatch::one(None, DAYS, "bars done", next as u64, bars.len() as u64)),
-            Err(Refusal { number: 11, place }) if bars[next][CLOSE] == NOT_A_NUMBER && place == run.state[state::BARS_SEEN] => next += 1,
+            Err(Refusal { number: 11, place })
+                if bars[next][CLOSE] == NOT_A_NUMBER && place == run.state[state::BARS_SEEN] =>
+            {
+                next += 1
+            }
             Err(Refusal { number: 16, place }) if place == run.state[state::BARS_SEEN] => next += 1,
             Err(refusal) => return Err(Mismatch::refused(None, DAYS, refusal)),
         }

@@ -4,7 +4,7 @@ use oracle::spec::Sizing;
 
 use super::explain::{self, Entry};
 use super::{Mismatch, Tally, RUST};
-use crate::calls::{self, TRADE_WORDS};
+use crate::calls::{self, MOST_NODES, TRADE_WORDS};
 use crate::case::Case;
 use crate::ours::done;
 use crate::theirs::{self, Ending};
@@ -12,10 +12,10 @@ use crate::view::{unlike, METRICS, NAMES};
 
 const DEPTH: &str = "the depth of the window";
 
-/// The depth that the call gives is the original's, and the bytes are those of so many rows.
+/// The depth that the call gives is the original's, the bytes are those of so many rows, and no test of the rules falls silent in them.
 pub fn depth_agrees(case: &Case) -> Result<(), Mismatch> {
     let table = case.table.bytes();
-    let (mut nodes, mut rows, mut deep, mut bytes) = (0, 0, 0, 0);
+    let (mut nodes, mut rows, mut deep, mut bytes, mut silent) = (0, 0, 0, 0, u64::MAX);
     let refused = |refusal| Mismatch::refused(None, DEPTH, refusal);
     done(calls::check(&table, &mut nodes, &mut rows)).map_err(refused)?;
     let lookback = match case.settings.sizing {
@@ -23,16 +23,18 @@ pub fn depth_agrees(case: &Case) -> Result<(), Mismatch> {
         _ => 0,
     };
     done(calls::depth(&table, lookback, &mut deep, &mut bytes)).map_err(refused)?;
+    done(calls::silent(&table, rows, &mut [0; MOST_NODES], &mut silent)).map_err(refused)?;
     let theirs = theirs::depth(case) as u64;
     let width = calls::row_words(case.table.slots) as u64;
     let parted = unlike(
-        &["nodes", "rows of the rules", "rows", "bytes"],
-        &[nodes, rows, deep, bytes],
+        &["nodes", "rows of the rules", "rows", "bytes", "silent tests"],
+        &[nodes, rows, deep, bytes, silent],
         &[
             (table.len() / 16 - 1) as u64,
             case.table.depth() as u64,
             theirs,
             theirs * width * 8,
+            0,
         ],
     );
     match parted.is_empty() {

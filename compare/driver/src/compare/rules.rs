@@ -6,9 +6,9 @@ use oracle::registry::slot_name;
 use oracle::rules::{eval_condition, BarRow, RuleState};
 
 use super::{Mismatch, Tally};
-use crate::calls::{self, Position, STEP_BYTES};
+use crate::calls::{self, Position, LINE_WORDS, MOST_LINES, STEP_BYTES};
 use crate::case::{row_words, Case};
-use crate::ours::{done, Ours};
+use crate::ours::{done, Ours, Refusal};
 
 const RULE: &str = "eval_condition over the whole history";
 
@@ -77,6 +77,21 @@ impl<'a> Rules<'a> {
         }
     }
 
+    /// The answer in the first line of the chain over all rows; none where there is no line, as of an absent tree.
+    fn why(&self, tree: usize, at: Position) -> Result<Option<u64>, Refusal> {
+        let mut lines = [u64::MAX; MOST_LINES * LINE_WORDS];
+        let mut count = u64::MAX;
+        done(calls::why(
+            &self.table,
+            tree as u64,
+            &self.words,
+            at,
+            &mut lines,
+            &mut count,
+        ))?;
+        Ok((count > 0).then_some(lines[1]))
+    }
+
     fn ask_tree(&self, i: usize, tree: usize, at: Position, run: &Ours, tally: &mut Tally) -> Result<(), Mismatch> {
         let newest = self.history.len() - 1;
         let holds = |c| eval_condition(c, &self.history, newest, rule_state(at));
@@ -89,6 +104,10 @@ impl<'a> Rules<'a> {
         done(calls::rule(&self.table, tree as u64, &self.words, at, &mut answer)).map_err(refused)?;
         if answer != theirs {
             return Err(wrong("rule over all rows", answer));
+        }
+        let said = self.why(tree, at).map_err(refused)?;
+        if said != self.case.table.trees[tree].as_ref().map(|_| theirs) {
+            return Err(wrong("the first line of why", said.unwrap_or(u64::MAX)));
         }
         let run_over = |rows: &[u64]| {
             let (mut answer, mut visits) = (u64::MAX, u64::MAX);

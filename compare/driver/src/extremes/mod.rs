@@ -5,7 +5,7 @@
 //! of version 1, and asked of the text itself.
 
 mod meaning;
-mod trees;
+pub mod trees;
 
 use oracle::lists::dice::Dice;
 use oracle::lists::runs::Bar;

@@ -62,8 +62,14 @@ impl Guard {
                 "steps: as one by one: state {state}, rows {rows}, equity {equity}, trades {trades}, count {done}"
             ));
         }
-        let untouched = [&self.lent.metrics, &self.lent.tests].iter().all(|room| room.is_unchanged());
-        if !(self.lent.guards_hold() && self.lent.data_unchanged() && untouched && self.lent.out.is_unchanged_outside(0, 1)) {
+        let untouched = [&self.lent.metrics, &self.lent.tests]
+            .iter()
+            .all(|room| room.is_unchanged());
+        if !(self.lent.guards_hold()
+            && self.lent.data_unchanged()
+            && untouched
+            && self.lent.out.is_unchanged_outside(0, 1))
+        {
             return Err("steps: a guard, or what was only handed over, was touched".into());
         }
         self.answers[(single.answer >> 32) as usize] += 1;

@@ -17,12 +17,12 @@ use Rattle.table.specs.declared.answer.Answer.the-variants.{Accepted, Refused}
 use Rattle.table.specs.declared.places.Place.{Place}
 use Rattle.table.specs.declared.places.Place.the-variants.{At, Nowhere}
 use Rattle.table.specs.declared.silent.SilentAnswer.the-variants.{Lists, Refuses as SilentRefuses}
-use Rattle.table.specs.declared.depth.DepthAnswer.the-variants.{Needs, Refuses as DepthRefuses}
+use Rattle.needed.specs.declared.depth.DepthAnswer.the-variants.{Needs, Refuses as DepthRefuses}
 use Rattle.table.specs.declared.trees.Tree.{Tree}
 use Rattle.table.specs.declared.trees.Tree.the-variants.{Entry, Exit, ShortEntry, ShortExit}
 use Rattle.table.specs.Header.{newestVersion, markRight, versionRight, countsRight, total, headerRefusal, slots, treeNumber}
 use Rattle.table.specs.Checked.{orRefused, orHeader, from7, from8, from9, checkedUpTo, checked}
-use Rattle.table.specs.Depth.{depthAnswer}
+use Rattle.needed.specs.Depth.{depthAnswer}
 use Rattle.table.specs.Laws.Header.{header-right}
 use Rattle.table.specs.Silent.{silentTests, silentAnswer, listAfter}
 use Rattle.rules.specs.declared.PositionState.{PositionState}

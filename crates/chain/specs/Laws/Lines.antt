@@ -7,10 +7,10 @@ use lib.ListN.{length, take, drop, length-append, length-take, length-drop, take
 use lib.Seq.{take-at, drop-at, drop-drop}
 use Rattle.words.specs.Words.{overwrite}
 use Rattle.words.specs.Laws.Overwrite.{overwrite-fits}
-use Rattle.chain.specs.Chain.{Line}
-use Rattle.chain.specs.Lines.{lineFrom, lineWords, wordsOf, putLines}
+use Rattle.chain.specs.Chain.{ChainLine}
+use Rattle.chain.specs.Lines.{lineFrom, lineWords, chainWords, putLines}
 
-line-long : (l : Line) → length (lineWords l) ≡ 8
+line-long : (l : ChainLine) → length (lineWords l) ≡ 8
 unfolding lineWords lineFrom
 line-long l = refl
 
@@ -42,9 +42,9 @@ overwritten-long list w at eight fits =
     ap length wrote ∙ simp (length-append, length-take, length-drop) (omega arith)
 
 -- LINES PUT one after the other, from line `at` on, where the list has that many.
-pub lines-put : (ls : List Line) (list : List ℕ) (at : ℕ) → 8 * (at + length ls) ≤ length list
-    → putLines list at ls ≡ take (8 * at) list ++ wordsOf ls ++ drop (8 * (at + length ls)) list
-unfolding putLines wordsOf
+pub lines-put : (ls : List ChainLine) (list : List ℕ) (at : ℕ) → 8 * (at + length ls) ≤ length list
+    → putLines list at ls ≡ take (8 * at) list ++ chainWords ls ++ drop (8 * (at + length ls)) list
+unfolding putLines chainWords
 lines-put [] list at fits =
     let same : at + 0 ≡ at = omega arith in
     rw (same, append-nil (take (8 * at) list)) (sym (take-append-drop (8 * at) list))
@@ -52,5 +52,5 @@ lines-put (l ∷ ls) list at fits =
     let w = lineWords l in
     let places : at + 1 + length ls ≡ at + suc (length ls) = omega arith in
     lines-put ls (overwrite list (8 * at) w) (at + 1) (omega (arith, overwritten-long list w at (line-long l) (omega arith)))
-    ∙ one-put list w at (length ls) (wordsOf ls) (line-long l) (omega arith)
-    ∙ ap (λ (k : ℕ). take (8 * at) list ++ (w ++ wordsOf ls) ++ drop (8 * k) list) places
+    ∙ one-put list w at (length ls) (chainWords ls) (line-long l) (omega arith)
+    ∙ ap (λ (k : ℕ). take (8 * at) list ++ (w ++ chainWords ls) ++ drop (8 * k) list) places

@@ -21,7 +21,7 @@ use Rattle.rules.specs.Meaning.{newest}
 use Rattle.rules.specs.Flat.{conditionAt}
 use Rattle.rules.specs.Laws.FlatReading.{tree-joined}
 use Rattle.chain.specs.Missing.{inTable, missingIn, missingInTwo, missingInThree}
-use Rattle.chain.specs.Chain.{shown, lineOf, chain, firstWith}
+use Rattle.chain.specs.Chain.{shown, lineAt, chain, firstWith}
 use Rattle.chain.specs.Explained.{explanation}
 use Rattle.chain.specs.Flat.{byEnds, flatExplanation}
 use Rattle.chain.specs.Laws.Spaced.{SpacedIn, Spaced, SpacedAll, operand-end, condition-end, tree-spaced}
@@ -62,8 +62,8 @@ module _ (ends : List ℕ) (h : History) where
     shown-same (inPosition wanted) i bar p = refl
     shown-same (barsSince selector k) i bar p = refl
 
-    line-same : (c : Condition) (i bar : ℕ) → Spaced ends c i → lineOf (byEnds ends) h s c i bar ≡ lineOf inTable h s c i bar
-    unfolding lineOf
+    line-same : (c : Condition) (i bar : ℕ) → Spaced ends c i → lineAt (byEnds ends) h s c i bar ≡ lineAt inTable h s c i bar
+    unfolding lineAt
     line-same c i bar p = rw (shown-same c i bar p)
 
     mutual

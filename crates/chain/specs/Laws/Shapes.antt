@@ -12,7 +12,7 @@ use Rattle.table.specs.declared.kinds.ConditionClass.the-variants as AsConditio
 use Rattle.table.specs.Bytes.{Bytes}
 use Rattle.table.specs.Kinds.{kindOf}
 use Rattle.table.specs.Nodes.{nodeAt}
-use Rattle.table.specs.Laws.AcceptedWritten.{u32-small}
+use Rattle.roundtrip.specs.Laws.AcceptedWritten.{u32-small}
 use Rattle.rules.specs.declared.shapes.OperandShape.{OperandShape}
 use Rattle.rules.specs.declared.shapes.OperandShape.the-variants.{Const, Ref, Price, Prev, Arith, Extreme, NoOperand}
 use Rattle.rules.specs.declared.shapes.ConditionShape.{ConditionShape}

@@ -17,14 +17,14 @@ use Rattle.table.specs.Reading.{treeOf}
 use Rattle.table.specs.Trees.{Condition, Conditions, compare, cross, between, trend, every, any, negated, inPosition, barsSince, none, more}
 use Rattle.table.specs.Writing.{nodesOf}
 use Rattle.table.specs.Limits.{levelsOf, levelsOfAll}
-use Rattle.table.specs.Laws.AcceptedWithin.{tree-within}
+use Rattle.roundtrip.specs.Laws.AcceptedWithin.{tree-within}
 use Rattle.rules.specs.declared.PositionState.{PositionState}
 use Rattle.rules.specs.Meaning.{newest, holds}
 use Rattle.chain.specs.Missing.{Numbering, inTable}
-use Rattle.chain.specs.Chain.{Line, chain, firstWith}
+use Rattle.chain.specs.Chain.{ChainLine, chain, firstWith}
 use Rattle.chain.specs.Explained.{explanation}
 
-picked : (b : Bool) (xs ys : List Line) (m n : ℕ) → length xs ≤ m → length ys ≤ n → length (cond b xs ys) ≤ max m n
+picked : (b : Bool) (xs ys : List ChainLine) (m n : ℕ) → length xs ≤ m → length ys ≤ n → length (cond b xs ys) ≤ max m n
 picked true xs ys m n p q = omega arith
 picked false xs ys m n p q = omega arith
 

@@ -26,7 +26,7 @@ use Rattle.table.specs.Trees.{negated, inPosition, barsSince, none, more}
 use Rattle.table.specs.Writing.{nodesIn, nodesOf, nodesOfAll}
 use Rattle.table.specs.Laws.Forest.{left-suc, first-none}
 use Rattle.table.specs.Laws.Accepted.{Whole, tree-whole, ends-of}
-use Rattle.table.specs.Laws.Walking.{Stands, node-there, sort-there, level-left, stands-one, stands-next, stands-below, tree-stands}
+use Rattle.roundtrip.specs.Laws.Walking.{Stands, node-there, sort-there, level-left, stands-one, stands-next, stands-below, tree-stands}
 use Rattle.rules.specs.Shapes.{endIn, operandOf, conditionOf, operandShape, conditionShape}
 use Rattle.rules.specs.Flat.{growOperand, operandAt, growConditions, group, growCondition, conditionAt}
 use Rattle.rules.specs.Laws.FlatReading.{tree-joined}

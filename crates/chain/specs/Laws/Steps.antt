@@ -15,13 +15,13 @@ use Rattle.rules.specs.Shapes.{endIn, conditionShape}
 use Rattle.rules.specs.Flat.{operandAt, growConditions, group, growCondition, conditionAt}
 use Rattle.chain.specs.declared.Next.{Next}
 use Rattle.chain.specs.declared.Next.the-variants.{Stop, Node}
-use Rattle.chain.specs.Chain.{Line, lineOf, chain, firstWith}
+use Rattle.chain.specs.Chain.{ChainLine, lineAt, chain, firstWith}
 use Rattle.chain.specs.Flat.{byEnds, firstAt, nextBy, nextAt, followed}
 use Rattle.chain.specs.Laws.Shapes.{ConditionPlaced, condition-placed}
 
 module _ (ends : List ℕ) (h : History) (s : PositionState) (bar : ℕ) (below : ℕ → Condition) where
   -- the lines from node j on
-  abbrev from : ℕ → List Line
+  abbrev from : ℕ → List ChainLine
   from j = chain (byEnds ends) h s (below j) j bar
 
   abbrev says : ℕ → Bool
@@ -43,18 +43,18 @@ module _ (ends : List ℕ) (h : History) (s : PositionState) (bar : ℕ) (below 
   -- a node of a shape, and where the chain goes from there
   by-shape : (t : List ℕ) (operand : ℕ → Operand) (i : ℕ) (u : ConditionShape) → ConditionPlaced t ends i u
       → chain (byEnds ends) h s (growCondition operand below ends u) i bar
-      ≡ lineOf (byEnds ends) h s (growCondition operand below ends u) i bar ∷ followed (nextBy ends says u) from
+      ≡ lineAt (byEnds ends) h s (growCondition operand below ends u) i bar ∷ followed (nextBy ends says u) from
   unfolding chain growCondition group nextBy followed ConditionPlaced
   by-shape t operand i (Compare kind a b) p = refl
   by-shape t operand i (Cross kind a b) p = refl
   by-shape t operand i (Between x low high) p = refl
   by-shape t operand i (Trend kind a n) p = refl
   by-shape t operand i (Group true n j) p =
-      rw (← p) (ap (λ (ls : List Line). lineOf (byEnds ends) h s (every (growConditions below ends n j)) i bar ∷ ls) (first-followed false n j))
+      rw (← p) (ap (λ (ls : List ChainLine). lineAt (byEnds ends) h s (every (growConditions below ends n j)) i bar ∷ ls) (first-followed false n j))
   by-shape t operand i (Group false n j) p =
-      rw (← p) (ap (λ (ls : List Line). lineOf (byEnds ends) h s (any (growConditions below ends n j)) i bar ∷ ls) (first-followed true n j))
+      rw (← p) (ap (λ (ls : List ChainLine). lineAt (byEnds ends) h s (any (growConditions below ends n j)) i bar ∷ ls) (first-followed true n j))
   by-shape t operand i (Not a) p =
-      ap (λ (j : ℕ). lineOf (byEnds ends) h s (negated (below a)) i bar ∷ chain (byEnds ends) h s (below a) j bar) (sym p)
+      ap (λ (j : ℕ). lineAt (byEnds ends) h s (negated (below a)) i bar ∷ chain (byEnds ends) h s (below a) j bar) (sym p)
   by-shape t operand i (InPosition wanted) p = refl
   by-shape t operand i (BarsSince selector k) p = refl
   by-shape t operand i NoCondition p = refl
@@ -62,7 +62,7 @@ module _ (ends : List ℕ) (h : History) (s : PositionState) (bar : ℕ) (below 
 -- ONE NODE: its line, and the lines from the node on that the chain goes to, with a level of nesting less.
 pub chain-step : (t ends : List ℕ) (h : History) (s : PositionState) (bar left i : ℕ)
     → chain (byEnds ends) h s (conditionAt left t ends i) i bar
-    ≡ lineOf (byEnds ends) h s (conditionAt left t ends i) i bar
+    ≡ lineAt (byEnds ends) h s (conditionAt left t ends i) i bar
     ∷ followed (nextAt left t ends h s i bar) (λ j. chain (byEnds ends) h s (conditionAt (left - 1) t ends j) j bar)
 unfolding conditionAt nextAt chain followed
 chain-step t ends h s bar zero i = refl
@@ -72,13 +72,13 @@ chain-step t ends h s bar (suc left) i =
 module _ (t ends : List ℕ) (h : History) (s : PositionState) (bar left i : ℕ) where
   -- the chain stops at the node, or goes on from node j
   pub chain-stops : nextAt left t ends h s i bar ≡ Stop
-      → chain (byEnds ends) h s (conditionAt left t ends i) i bar ≡ lineOf (byEnds ends) h s (conditionAt left t ends i) i bar ∷ []
+      → chain (byEnds ends) h s (conditionAt left t ends i) i bar ≡ lineAt (byEnds ends) h s (conditionAt left t ends i) i bar ∷ []
   unfolding followed
   chain-stops e = rw e at (chain-step t ends h s bar left i)
 
   pub chain-goes : (j : ℕ) → nextAt left t ends h s i bar ≡ Node j
       → chain (byEnds ends) h s (conditionAt left t ends i) i bar
-      ≡ lineOf (byEnds ends) h s (conditionAt left t ends i) i bar ∷ chain (byEnds ends) h s (conditionAt (left - 1) t ends j) j bar
+      ≡ lineAt (byEnds ends) h s (conditionAt left t ends i) i bar ∷ chain (byEnds ends) h s (conditionAt (left - 1) t ends j) j bar
   unfolding followed
   chain-goes j e = rw e at (chain-step t ends h s bar left i)
 

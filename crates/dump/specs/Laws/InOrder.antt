@@ -10,7 +10,7 @@ use lib.Dec.{leb}
 use lib.ListN.{length, getD}
 use Rattle.dump.specs.Layout.{wordsBytes}
 use Rattle.dump.specs.Order.{placeOf, stretch, written}
-use Rattle.dump.specs.Laws.Laid.{laid, stretch-laid, stretch-on}
+use Rattle.dump.specs.Laws.Laid.{laid, laid-on, laid-swap, stretch-laid, stretch-on}
 
 -- how much of a part that begins at `start` lies before x, at most all of it
 abbrev pub clip : ℕ → ℕ → ℕ → ℕ
@@ -31,6 +31,10 @@ inOrder area head rows body from upto =
     let b = partLaid a 0 head 3 body 253 from upto in
     partLaid b 0 head 0 (body + 253) 3 from upto
 
+-- all of it: the rows, then the header with its mark
+abbrev pub wholeLaid : List ℕ → List ℕ → List ℕ → ℕ → List ℕ
+wholeLaid area head rows body = laid (laid area 256 (wordsBytes rows) 0 body) 0 (wordsBytes head) 0 256
+
 -- ---- numbers
 
 clip-grows : (x y s m : ℕ) → x ≤ y → min m (x - s) ≤ min m (y - s)
@@ -47,6 +51,22 @@ in-order-none area head rows body from upto h =
     let y : between from upto body 253 ≡ 0 = none _ _ (clip-grows upto from body 253 h) in
     let z : between from upto (body + 253) 3 ≡ 0 = none _ _ (clip-grows upto from (body + 253) 3 h) in
     rw (x, y, z)
+
+-- all of a part lies between
+whole-part : (upto start most : ℕ) → start + most ≤ upto → (clip 0 start most ≡ 0) × (between 0 upto start most ≡ most)
+whole-part upto start most h = (omega arith, omega arith)
+
+-- all of it is to be written: the header's mark may be written with it
+pub in-order-whole : (area head rows : List ℕ) (body from upto : ℕ) → from ≡ 0 → 256 + body ≤ upto
+    → wholeLaid area head rows body ≡ inOrder area head rows body from upto
+unfolding inOrder
+in-order-whole area head rows body from upto start h =
+    let x = whole-part upto 0 body (omega arith) in
+    let y = whole-part upto body 253 (omega arith) in
+    let z = whole-part upto (body + 253) 3 (omega arith) in
+    let a = laid area 256 (wordsBytes rows) 0 body in
+    rw (start, x .1, x .0, y .1, y .0, z .1, z .0)
+    (sym (laid-on a 0 (wordsBytes head) 0 3 253) ∙ sym (laid-swap a 0 (wordsBytes head) 0 3 3 253 (omega arith)))
 
 -- a byte of a part that lies between: the part is not over where the stretch begins, nor where this byte stands
 inside : (f u m j : ℕ) → j < min m u - min m f → (min m f ≡ f) × (f + j < m) × (f + j < u)

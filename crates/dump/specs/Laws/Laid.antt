@@ -1,7 +1,7 @@
 -- Bytes laid one after another into an area: parts of a stretch, and stretches of the order of writing.
-use Prim.Native.Nat.{ℕ, zero, suc, _+_, _<_}
-use mathlib.Core.Path.{_≡_, refl}
-use mathlib.Core.List.{List}
+use Prim.Native.Nat.{ℕ, zero, suc, _+_, _≤_, _<_}
+use mathlib.Core.Path.{_≡_, refl, sym, ap}
+use mathlib.Core.List.{List, [], _∷_}
 use native.Mathlib.Nat.{add-zero, add-suc}
 use native.Mathlib.Numerals.{add-one}
 use native.Mathlib.Omega.{arith}
@@ -46,6 +46,28 @@ laid-as area base xs p base′ xs′ p′ zero e h = refl
 laid-as area base xs p base′ xs′ p′ (suc n) e h =
     let place : base + (p + n) ≡ base′ + (p′ + n) = omega arith in
     rw (laid-as area base xs p base′ xs′ p′ n e (λ j l. h j (omega arith)), h n (omega arith), place)
+
+-- a store before a later place, and one at it
+set-past : (xs : List ℕ) (i j a b : ℕ) → i < j → set (set xs i a) j b ≡ set (set xs j b) i a
+set-past [] i j a b l = refl
+set-past (x ∷ xs) zero (suc j) a b l = refl
+set-past (x ∷ xs) (suc i) (suc j) a b l = ap (λ (ys : List ℕ). x ∷ ys) (set-past xs i j a b (omega arith))
+
+-- a store before them
+laid-past : (area : List ℕ) (base : ℕ) (xs : List ℕ) (p n k b : ℕ) → k < base + p → laid (set area k b) base xs p n ≡ set (laid area base xs p n) k b
+unfolding laid
+laid-past area base xs p zero k b l = refl
+laid-past area base xs p (suc n) k b l =
+    rw (laid-past area base xs p n k b l) (set-past (laid area base xs p n) k (base + (p + n)) b (getD xs (p + n) 0) (omega arith))
+
+-- the later bytes first
+pub laid-swap : (area : List ℕ) (base : ℕ) (xs : List ℕ) (p m q n : ℕ) → p + m ≤ q
+    → laid (laid area base xs q n) base xs p m ≡ laid (laid area base xs p m) base xs q n
+unfolding laid
+laid-swap area base xs p zero q n h = refl
+laid-swap area base xs p (suc m) q n h =
+    rw (laid-swap area base xs p m q n (omega arith))
+    (sym (laid-past (laid area base xs p m) base xs q n (base + (p + m)) (getD xs (p + m) 0) (omega arith)))
 
 -- a stretch of the order whose places follow one another
 pub stretch-laid : (image area : List ℕ) (from base : ℕ) (xs : List ℕ) (p n : ℕ)

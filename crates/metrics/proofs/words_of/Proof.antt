@@ -1,11 +1,11 @@
 -- Word for word.
-use Rattle.metrics.specs.Figures.{wordsOf}
+use Rattle.metrics.specs.Figures.{figureWords}
 use borrow.Author.Needs.{needs}
 use Rattle.metrics.proofs.words_of.Statement.{statement}
 use Rattle.metrics.proofs.words_of.Tie as tie
 
 pub words-of-spec : {M : Type 1} → statement M
-unfolding wordsOf
+unfolding figureWords
 words-of-spec =
     tie.close
     (tie.spec

@@ -18,14 +18,14 @@ use Rattle.words.specs.Laws.Overwrite.{overwrite-fits, overwrite-length}
 use Rattle.rows.specs.declared.ring.Ring.{Ring}
 use Rattle.rows.specs.History.{History, historyOf, width}
 use Rattle.rows.specs.Room.{placesFor, withRow, heldWith}
-use Rattle.rows.specs.Ring.{firstOf, ringPlace, ringOf, turned, ringWith, nextStart, ringAfter}
+use Rattle.rows.specs.Ring.{startWithin, ringPlace, ringOf, turned, ringWith, nextStart, ringAfter}
 use Rattle.rows.specs.Laws.Turned.{turned-length, turned-past, turned-word, turned-none, turned-parts, turned-whole}
 
 -- ---- reading
 
 -- a row number that is none of the rows' counts as 0, and that is one
-first-once : (places start : ℕ) → firstOf places (firstOf places start) ≡ firstOf places start
-unfolding firstOf
+first-once : (places start : ℕ) → startWithin places (startWithin places start) ≡ startWithin places start
+unfolding startWithin
 first-once places start =
     ⊎-elim (λ there. rw (lt-ltb start places there, lt-ltb start places there))
     (λ past. rw (le-ltb start places past) (zero (ltb 0 places))) (less-or-not start places)
@@ -35,8 +35,8 @@ first-once places start =
     zero false = refl
 
 -- the row that rows begin at is one of them, or there is none
-pub first-fits : (places start : ℕ) → firstOf places start ≤ places
-unfolding firstOf
+pub first-fits : (places start : ℕ) → startWithin places start ≤ places
+unfolding startWithin
 first-fits places start =
     ⊎-elim (λ there. rw (lt-ltb start places there) (omega arith)) (λ past. rw (le-ltb start places past) (omega arith)) (less-or-not start places)
 
@@ -55,8 +55,8 @@ all-round places i h =
     rw (lt-ltb i places h, le-ltb (places + i) places (omega arith), back)
 
 -- from row 0 on, the rows stand where they do
-stay : (places i : ℕ) → ringPlace places (firstOf places 0) i ≡ i
-unfolding ringPlace firstOf
+stay : (places i : ℕ) → ringPlace places (startWithin places 0) i ≡ i
+unfolding ringPlace startWithin
 stay places i = go (ltb 0 places) (ltb i places) refl
   where
     go : (a b : Bool) → ltb i places ≡ b → cond b (cond (ltb (cond a 0 0 + i) places) (cond a 0 0 + i) (cond a 0 0 + i - places)) i ≡ i
@@ -72,7 +72,7 @@ ring-none K ws =
     (fun-ext (λ i. ap (historyOf K ws .word) (stay (historyOf K ws .rows) i)))
 
 -- a start that was set right already is the same start
-pub ring-first : (K start : ℕ) (ws : List ℕ) → ringOf K (firstOf (historyOf K ws .rows) start) ws ≡ ringOf K start ws
+pub ring-first : (K start : ℕ) (ws : List ℕ) → ringOf K (startWithin (historyOf K ws .rows) start) ws ≡ ringOf K start ws
 unfolding ringOf
 ring-first K start ws =
     ap (λ (n : ℕ). record { rows = historyOf K ws .rows; word = λ i. historyOf K ws .word (ringPlace (historyOf K ws .rows) n i) })
@@ -85,21 +85,21 @@ unfolding ringOf
 ring-row K first ws i f h =
     let p = historyOf K ws .rows in
     ap (historyOf K ws .word)
-    (⊎-elim (λ (there : first < p). let is : firstOf p first ≡ first = unfold firstOf in rw (lt-ltb first p there) in rw is)
+    (⊎-elim (λ (there : first < p). let is : startWithin p first ≡ first = unfold startWithin in rw (lt-ltb first p there) in rw is)
     (λ (past : p ≤ first).
     let last : first ≡ p = omega arith in
-    let none : firstOf p p ≡ firstOf p 0 = unfold firstOf in rw (le-ltb p p (omega arith), lt-ltb 0 p (omega arith)) in
+    let none : startWithin p p ≡ startWithin p 0 = unfold startWithin in rw (le-ltb p p (omega arith), lt-ltb 0 p (omega arith)) in
     rw (last, none, stay p i, all-round p i h))
     (less-or-not first p))
 
 -- two histories of as many rows, whose rows have the same words up to the width
-pub record Alike (K : ℕ) (g h : History) : Type 0 where
+pub record SameRows (K : ℕ) (g h : History) : Type 0 where
   pub count : g .rows ≡ h .rows
   pub words : (i j : ℕ) → i < g .rows → j < width K → g .word i j ≡ h .word i j
 
 -- what is read from a row on is what the turned list holds
-pub ring-turned : (K start : ℕ) (ws : List ℕ) → Alike K (ringOf K start ws) (historyOf K (turned (width K) start ws))
-unfolding ringOf historyOf firstOf
+pub ring-turned : (K start : ℕ) (ws : List ℕ) → SameRows K (ringOf K start ws) (historyOf K (turned (width K) start ws))
+unfolding ringOf historyOf startWithin
 ring-turned K start ws =
     let w = width K in
     let p = length ws / w in
@@ -172,7 +172,7 @@ over-oldest room row s held some there full =
     (rw (n-T, front-T, end-T, shed) (turns ∙ simp append-assoc))
 
 -- What a row more does to a ring: turned, the room is what it was, turned, with that row added; and a ring it stays.
-pub record Adds (room : List ℕ) (ring : Ring) (row : List ℕ) : Type 0 where
+pub record RowAdded (room : List ℕ) (ring : Ring) (row : List ℕ) : Type 0 where
   pub turns : turned (length row) (ringAfter room ring row .start) (ringWith room ring row) ≡ withRow (turned (length row) (ring .start) room) (ring .held) row
   pub holds : ringAfter room ring row .held ≡ heldWith (turned (length row) (ring .start) room) (ring .held) row
   pub fine : RingFine (placesFor (ringWith room ring row) row) (ringAfter room ring row)
@@ -198,7 +198,7 @@ held-full room held row full = rw (le-ltb held (placesFor room row) full)
 
 module _ (room : List ℕ) (ring : Ring) (row : List ℕ) (some : 0 < length row) (ok : RingFine (placesFor room row) ring) where
   -- there is a place left: the room was not turned, nor is it
-  adds-at-end : ring .held < placesFor room row → Adds room ring row
+  adds-at-end : ring .held < placesFor room row → RowAdded room ring row
   adds-at-end free =
       let w = length row in
       let zero : ring .start ≡ 0 = ok .begins free in
@@ -217,7 +217,7 @@ module _ (room : List ℕ) (ring : Ring) (row : List ℕ) (some : 0 < length row
       }
 
   -- the room is full: the row goes over the oldest
-  adds-over : placesFor room row ≤ ring .held → Adds room ring row
+  adds-over : placesFor room row ≤ ring .held → RowAdded room ring row
   adds-over full =
       let w = length row in
       let p = placesFor room row in
@@ -239,7 +239,7 @@ module _ (room : List ℕ) (ring : Ring) (row : List ℕ) (some : 0 < length row
       }
 
   -- JOINED: rows written over the oldest, and the room turned once, are rows added one after another.
-  pub ring-adds : Adds room ring row
+  pub ring-adds : RowAdded room ring row
   ring-adds = ⊎-elim adds-at-end adds-over (less-or-not (ring .held) (placesFor room row))
 
 -- the rows that a ring holds, turned, are those that the turned room holds

@@ -6,6 +6,7 @@ use mathlib.Core.List.{List}
 use native.Mathlib.Omega.{arith}
 use lib.Dec.{eqb}
 use borrow.Author.Tests.{eqb-true, eqb-false}
+use Rattle.words.specs.Limits.{mostNesting}
 use Rattle.rows.specs.History.{History}
 use Rattle.table.specs.declared.answer.Answer.the-variants.{Accepted}
 use Rattle.table.specs.Header.{count, root}
@@ -34,9 +35,9 @@ absent-says t x none h s = rw none
 
 -- The flat reading of a tree of an accepted table says what the tree says.
 pub flat-says : (t : List ℕ) (n r : ℕ) → checked t ≡ Accepted n r → (x : ℕ) → x < 4 → (h : History) (s : PositionState)
-    → cond (eqb (count t x) 0) false (says h s (conditionAt 32 t (endsBeside t) (root t x))) ≡ says h s (treeOf t x)
+    → cond (eqb (count t x) 0) false (says h s (conditionAt mostNesting t (endsBeside t) (root t x))) ≡ says h s (treeOf t x)
 flat-says t n r ok x l h s = go (eqb (count t x) 0) refl
   where
-    go : (b : Bool) → eqb (count t x) 0 ≡ b → cond b false (says h s (conditionAt 32 t (endsBeside t) (root t x))) ≡ says h s (treeOf t x)
+    go : (b : Bool) → eqb (count t x) 0 ≡ b → cond b false (says h s (conditionAt mostNesting t (endsBeside t) (root t x))) ≡ says h s (treeOf t x)
     go true e = rw (absent-says t x (eqb-true (count t x) 0 e) h s)
     go false e = ap (says h s) (tree-joined t n r ok x l (omega (arith, eqb-false (count t x) 0 e)))

@@ -5,6 +5,7 @@ use mathlib.Core.List.{List}
 use native.Mathlib.Omega.{arith}
 use lib.ListN.{getD}
 use borrow.Author.Tests.{lt-ltb, lt-leb}
+use Rattle.words.specs.Limits.{mostNesting, mostNodes}
 use Rattle.table.specs.declared.kinds.Kind.{Kind}
 use Rattle.table.specs.declared.answer.Answer.the-variants.{Accepted}
 use Rattle.table.specs.Kinds.{kindOf}
@@ -14,27 +15,27 @@ use Rattle.table.specs.Header.{count, root}
 use Rattle.table.specs.Nodes.{nodeAt, sortAt, childCount, childCountAt, childSortAt}
 use Rattle.table.specs.Checked.{checked}
 use Rattle.table.specs.Series.{asSeries, seriesIn}
-use Rattle.table.specs.Laws.Series.{series-read}
+use Rattle.roundtrip.specs.Laws.Series.{series-read}
 use Rattle.table.specs.Ends.{endsAll, endsBeside, Link, Linked}
 use Rattle.table.specs.Reading as Reading
 use Rattle.table.specs.Reading.{child, operandBy, operandFrom, conditionBy, conditionFrom, treeOf}
 use Rattle.table.specs.Laws.Accepted.{Whole, tree-whole, ends-of}
-use Rattle.table.specs.Laws.Walking.{Stands, node-there, sort-there, level-left, stands-one, stands-next, stands-below, child-first, child-next}
-use Rattle.table.specs.Laws.Walking.{condition-first, conditions-none, conditions-more, operand-is, condition-is, tree-reads, tree-stands}
+use Rattle.roundtrip.specs.Laws.Walking.{Stands, node-there, sort-there, level-left, stands-one, stands-next, stands-below, child-first, child-next}
+use Rattle.roundtrip.specs.Laws.Walking.{condition-first, conditions-none, conditions-more, operand-is, condition-is, tree-reads, tree-stands}
 use Rattle.rules.specs.Shapes.{endIn, operandOf, conditionOf, operandShape, conditionShape}
 use Rattle.rules.specs.Flat.{growOperand, operandAt, growConditions, group as groupOf, growCondition, conditionAt}
 
 -- the shape of a node that is there
-operand-node : (t ends : List ℕ) (i : ℕ) → i < 256
+operand-node : (t ends : List ℕ) (i : ℕ) → i < mostNodes
     → operandShape t ends i ≡ operandOf (kindOf (nodeAt t i .kind) .operand) (nodeAt t i) (i + 1) (endIn ends (i + 1))
 unfolding operandShape
-operand-node t ends i low = rw (lt-leb 256 i low)
+operand-node t ends i low = rw (lt-leb mostNodes i low)
 
-condition-node : (t ends : List ℕ) (i : ℕ) → i < 256
+condition-node : (t ends : List ℕ) (i : ℕ) → i < mostNodes
     → conditionShape t ends i
     ≡ conditionOf (kindOf (nodeAt t i .kind) .condition) (nodeAt t i) (i + 1) (endIn ends (i + 1)) (endIn ends (endIn ends (i + 1)))
 unfolding conditionShape
-condition-node t ends i low = rw (lt-leb 256 i low)
+condition-node t ends i low = rw (lt-leb mostNodes i low)
 
 -- the series at a node, and what the operand there is as a series
 series-there : (t : List ℕ) (e j : ℕ) → j < e → asSeries (Reading.operandAt t e j) ≡ seriesIn t j
@@ -45,7 +46,7 @@ module _ (t ends : List ℕ) (b e : ℕ) (whole : Whole t ends b e) where
   -- the word of a node of the tree, and where it leads
   end-is : (j : ℕ) → j < e → endIn ends j ≡ getD ends j 0
   unfolding endIn
-  end-is j l = rw (lt-ltb j 256 (omega (arith, whole .small)))
+  end-is j l = rw (lt-ltb j mostNodes (omega (arith, whole .small)))
 
   link-at : (j : ℕ) → b ≤ j → j < e → Link t e j (getD ends j 0)
   unfolding Linked
@@ -74,7 +75,7 @@ module _ (t ends : List ℕ) (b e : ℕ) (whole : Whole t ends b e) where
       there : i < e
       there = node-there t e i 0 1 (suc left) here
 
-      low : i < 256
+      low : i < mostNodes
       low = omega (arith, whole .small, there)
 
       go : OperandKind (nodeAt t i .kind)
@@ -130,7 +131,7 @@ module _ (t ends : List ℕ) (b e : ℕ) (whole : Whole t ends b e) where
       there : i < e
       there = node-there t e i 0 2 (suc left) here
 
-      low : i < 256
+      low : i < mostNodes
       low = omega (arith, whole .small, there)
 
       -- where the first child ends
@@ -211,8 +212,8 @@ module _ (t ends : List ℕ) (b e : ℕ) (whole : Whole t ends b e) where
 
 -- THE JOIN: tree x of an accepted table, read at its root with 32 levels of nesting and the array beside the answer.
 pub tree-joined : (t : List ℕ) (n r : ℕ) → checked t ≡ Accepted n r → (x : ℕ) → x < 4 → 0 < count t x
-    → conditionAt 32 t (endsBeside t) (root t x) ≡ treeOf t x
+    → conditionAt mostNesting t (endsBeside t) (root t x) ≡ treeOf t x
 tree-joined t n r ok x l some =
     rw (ends-of t n r ok)
-    (condition-joined t (endsAll t) (root t x) (root t (suc x)) (tree-whole t n r ok x l) 32 (root t x) (tree-stands t x n r ok l some) (omega arith)
+    (condition-joined t (endsAll t) (root t x) (root t (suc x)) (tree-whole t n r ok x l) mostNesting (root t x) (tree-stands t x n r ok l some) (omega arith)
     ∙ sym (tree-reads t x))

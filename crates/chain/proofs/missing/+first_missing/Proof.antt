@@ -13,7 +13,7 @@ use Rattle.chain.proofs.missing.+first_missing.Lts-first_missing as fir
 use Rattle.chain.proofs.missing.leaf_gone.Reads as leaf-gone-reads
 use Rattle.chain.proofs.missing.newest_gone.Reads as newest-gone-reads
 use Rattle.chain.proofs.missing.one_less.Reads as one-less-reads
-use Rattle.chain.proofs.missing.or_else.Reads as or-else-reads
+use Rattle.chain.proofs.missing.first_found.Reads as first-found-reads
 use Rattle.rules.proofs.shapes.operand_shape.Reads as operand-shape-reads
 use Rattle.table.proofs.series.series_in.Reads as series-in-reads
 use Rattle.chain.proofs.missing.+first_missing.{statement}
@@ -43,8 +43,8 @@ unfolding isLeaf Bytes
   operand-shape-reads.Learnt,
   first-missing-below t,
   first-missing.Post,
-  or-else-reads.Asked,
-  or-else-reads.Learnt,
+  first-found-reads.Asked,
+  first-found-reads.Learnt,
   series-in-reads.Asked,
   series-in-reads.Learnt,
   one-less-reads.Asked,
@@ -106,7 +106,7 @@ unfolding isLeaf Bytes
     (λ c.
     let k = c .before .before .before .before .before .before in
     gone-arith _ _ _ _ _ _ _ _ (k .before .if1 .left) _ (k .operand-shape .ensures) _ _ _ _ _ (c .before .before .before .before .a2 .given .1)
-    (c .before .before .first-missing2 .ensures) (c .before .first-missing3 .ensures) (c .or-else .ensures))
+    (c .before .before .first-missing2 .ensures) (c .before .first-missing3 .ensures) (c .first-found .ensures))
     (λ c.
     let k = c .before .before .before .before .before .before in
     gone-extreme _ _ _ _ _ _ _ _ (k .before .if1 .left) _ (k .operand-shape .ensures) _ _ _ _ _ (c .before .before .before .before .a3 .given .1)

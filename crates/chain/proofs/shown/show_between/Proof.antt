@@ -31,7 +31,7 @@ show-between-spec =
       ← x .eval-operand .ensures,
       ← y .eval-operand2 .ensures,
       ← z .eval-operand3 .ensures,
-      ← o .or-else .ensures,
+      ← o .first-found .ensures,
     )
     (three-shown _ _ _ _ _ _ _ _ (c .before .before .before .value-word .ensures) (c .before .before .value-word2 .ensures)
     (c .before .value-word3 .ensures) (c .leaf-or .ensures))))

@@ -44,7 +44,7 @@ show-cross-spec =
       ← y .eval-operand2 .ensures,
       ← x′ .eval-operand3 .ensures,
       ← y′ .eval-operand4 .ensures,
-      ← o .or-else .ensures,
+      ← o .first-found .ensures,
     )
     (four-shown _ _ _ _ _ _ _ _ _ _ (c .before .before .before .before .value-word .ensures) (c .before .before .before .value-word2 .ensures)
     (c .before .before .value-word3 .ensures) (c .before .value-word4 .ensures)

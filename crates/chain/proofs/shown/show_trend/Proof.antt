@@ -33,6 +33,6 @@ show-trend-spec =
       ← m .first-missing2 .ensures,
       ← x .eval-operand .ensures,
       ← y .eval-operand2 .ensures,
-      ← o .or-else .ensures,
+      ← o .first-found .ensures,
     )
     (two-shown _ _ _ _ _ _ (c .before .before .value-word .ensures) (c .before .value-word2 .ensures) (c .leaf-or .ensures))))

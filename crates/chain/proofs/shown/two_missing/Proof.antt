@@ -10,4 +10,4 @@ two-missing-spec =
     (λ c κs. search needs)
     (λ c κs. search needs)
     (λ c κs. search needs)
-    (λ c. rw (← c .before .before .first-missing .ensures, ← c .before .first-missing2 .ensures) (c .or-else .ensures)))
+    (λ c. rw (← c .before .before .first-missing .ensures, ← c .before .first-missing2 .ensures) (c .first-found .ensures)))

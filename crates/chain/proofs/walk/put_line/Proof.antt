@@ -1,13 +1,13 @@
 -- The eight words of the line are written at its place. Assumes nothing.
 use borrow.Author.Needs.{needs}
 use native.Mathlib.Omega.{arith}
-use Rattle.chain.specs.Chain.{lineOf}
+use Rattle.chain.specs.Chain.{lineAt}
 use Rattle.chain.specs.Lines.{lineWords}
 use Rattle.chain.proofs.walk.put_line.Statement.{statement}
 use Rattle.chain.proofs.walk.put_line.Tie as tie
 
 pub put-line-spec : {M : Type 1} → statement M
-unfolding lineOf lineWords
+unfolding lineAt lineWords
 put-line-spec =
     tie.close
     (tie.spec

@@ -20,12 +20,20 @@ returns-3 : tie.Need-returns-3
 unfolding sizeFor
 returns-3 c = simp (le-leb _ _ (c .before .before .if1 .left), le-leb _ _ (c .before .if2 .left), lt-leb _ _ (c .if3 .taken))
 
+-- D rows of the widest are few bytes
+mul-result : tie.Need-mul-result
+mul-result c =
+    let a = c .before .before .before .before .args in
+    let few = mul-le-mul-right 568 (c .before .if3 .left) in
+    let narrow = mul-le-mul-left {m = 8 * (7 + a .slots)} {n = 568} (a .depth) (omega (arith, c .before .before .before .if1 .left)) in
+    omega (arith, c .body-words .ensures, narrow, few)
+
 add-result : tie.Need-add-result
 add-result c =
     let a = c .before .before .before .before .args in
     let few = mul-le-mul-right 568 (c .before .if3 .left) in
     let narrow = mul-le-mul-left {m = 8 * (7 + a .slots)} {n = 568} (a .depth) (omega (arith, c .before .before .before .if1 .left)) in
-    omega (arith, c .body-bytes .ensures, narrow, few)
+    omega (arith, c .body-words .ensures, narrow, few)
 
 returns-4 : tie.Need-returns-4
 unfolding sizeFor dumpBytes
@@ -34,7 +42,7 @@ returns-4 c =
       le-leb _ _ (c .before .before .before .if1 .left),
       le-leb _ _ (c .before .before .if2 .left),
       le-leb _ _ (c .before .if3 .left),
-      c .body-bytes .ensures,
+      c .body-words .ensures,
     )
 
 pub dump-bytes-spec : {M : Type 1} → statement M
@@ -45,5 +53,6 @@ dump-bytes-spec =
     returns-2
     returns-3
     (λ c κs. search needs)
+    mul-result
     add-result
     returns-4)

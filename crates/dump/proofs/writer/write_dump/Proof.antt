@@ -10,7 +10,7 @@ write-order-requires : tie.Need-write-order-requires
 unfolding dumpBytes
 write-order-requires c κs =
     let s = c .before .before .before .before .before .before .before .before .before in
-    omega (arith, c .body-bytes .ensures, s .pre .place)
+    omega (arith, c .body-words .ensures, s .pre .place)
 
 returns : tie.Need-returns
 unfolding windowOf
@@ -23,7 +23,7 @@ returns c =
     let s = kept .before .before .before .before in
     let a = s .args in
     dumped (a .s) (a .t) (a .rows .now) (a .area .now) (a .from) (a .upto) _ _ (s .pre .held) (kept .held-window .ensures) (count .row-count .ensures)
-    (head .head-words .ensures) (body .body-bytes .ensures) (order .write-order .ensures)
+    (head .head-words .ensures) (body .body-words .ensures) (order .write-order .ensures)
 
 pub write-dump-spec : {M : Type 1} → statement M
 write-dump-spec =

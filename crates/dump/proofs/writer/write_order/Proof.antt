@@ -1,24 +1,32 @@
--- Part after part.
-use Rattle.dump.specs.Laws.InOrder.{inOrder}
+-- All of it, or in parts.
+use Prim.Native.Nat.{_*_}
+use mathlib.Core.Path.{_∙_}
+use Rattle.dump.specs.Laws.InOrder.{in-order-whole}
 use borrow.Author.Needs.{needs}
 use Rattle.dump.proofs.writer.write_order.Statement.{statement}
 use Rattle.dump.proofs.writer.write_order.Tie as tie
 
 returns : tie.Need-returns
-unfolding inOrder
 returns c =
-    let mark = c .before .before in
-    let rest = mark .before .before .before .before in
-    let rows = rest .before .before .before .before in
-    rw (mark .lay-part3 .ensures, rest .lay-part2 .ensures, rows .lay-part .ensures)
+    let whole = c .before .before in
+    let tests = whole .before .before in
+    let a = tests .before .before .before .before .before .args in
+    whole .write-whole .ensures
+    ∙ in-order-whole (a .area .now) (a .head .now) (a .rows .now) (8 * a .words) (a .from) (a .upto) (tests .before .if1 .taken) (tests .if2 .taken)
+
+returns-2 : tie.Need-returns-2
+returns-2 c = c .before .before .write-parts .ensures
 
 pub write-order-spec : {M : Type 1} → statement M
 write-order-spec =
     tie.close
     (tie.spec
-    (λ c κs. search needs)
-    (λ c κs. search needs)
+    (λ c. search needs)
     (λ c. search needs)
     (λ c κs. search needs)
     (λ c. search needs)
-    returns)
+    returns
+    (λ c. search needs)
+    (λ c κs. search needs)
+    (λ c. search needs)
+    returns-2)

@@ -2,13 +2,14 @@
 -- Assumes nothing.
 use Rattle.table.proofs.Four.{order-four, zeros-at}
 use borrow.Author.Needs.{needs}
+use Rattle.words.specs.Limits.{mostNodes}
 use Rattle.table.proofs.order.order_all.Statement.{statement}
 use Rattle.table.proofs.order.order_all.Tie as tie
 
 returns : tie.Need-returns
 returns c =
     order-four _ _ _ _ _ _ _ _ _ _
-    (c .before .before .before .before .before .pre) (zeros-at 256) (search needs)
+    (c .before .before .before .before .before .pre) (zeros-at mostNodes) (search needs)
     (c .before .before .before .order-tree .ensures)
     (c .before .before .order-tree2 .ensures) (c .before .order-tree3 .ensures) (c .order-tree4 .ensures)
 

@@ -6,13 +6,14 @@ use borrow.Author.Needs.{needs}
 use mathlib.Core.Path.{_≡_}
 use Prim.Native.Nat.{_-_, _≤_}
 use lib.ListN.{length}
+use Rattle.words.specs.Limits.{mostNodes}
 use Rattle.table.specs.Passes.{Ordered}
 use Rattle.table.proofs.Prefix.{order-none, from-next, order-more, order-at}
 use Rattle.table.proofs.order.order_tree.Statement.{statement}
 use Rattle.table.proofs.order.order_tree.Tie as tie
 
 abbrev Inv-loop : tie.InvT-loop
-Inv-loop t b e ends₀ i₀ ends i = (b ≤ i) × (i ≤ e) × (length ends ≡ 256) × Ordered t i e ends₀ ends
+Inv-loop t b e ends₀ i₀ ends i = (b ≤ i) × (i ≤ e) × (length ends ≡ mostNodes) × Ordered t i e ends₀ ends
 
 abbrev μ-loop : tie.MeasureT-loop
 μ-loop t b e ends₀ i₀ ends i = i - b

@@ -8,11 +8,12 @@ use lib.ListN.{length, length-set}
 use Rattle.table.specs.Passes.{WordsFrom, weight}
 use Rattle.table.proofs.Weigh.{words-none, words-more, words-at, links-next}
 use borrow.Author.Needs.{needs}
+use Rattle.words.specs.Limits.{mostNodes}
 use Rattle.table.proofs.weighing.weigh_tree.Statement.{statement}
 use Rattle.table.proofs.weighing.weigh_tree.Tie as tie
 
 abbrev Inv-loop : tie.InvT-loop
-Inv-loop t ends what b e words₀ i₀ words i = (b ≤ i) × (i ≤ e) × (length words ≡ 256) × WordsFrom t words (weight what) i e
+Inv-loop t ends what b e words₀ i₀ words i = (b ≤ i) × (i ≤ e) × (length words ≡ mostNodes) × WordsFrom t words (weight what) i e
 
 abbrev μ-loop : tie.MeasureT-loop
 μ-loop t ends what b e words₀ i₀ words i = i - b

@@ -6,6 +6,7 @@ use borrow.Author.Tests.{eq-eqb, ne-eqb}
 use Rattle.table.specs.Reach.{ownBack}
 use Rattle.table.specs.Passes.{weight}
 use borrow.Author.Needs.{needs}
+use Rattle.words.specs.Limits.{mostRows}
 use Rattle.table.proofs.weighing.weight_at.Statement.{statement}
 use Rattle.table.proofs.weighing.weight_at.Tie as tie
 
@@ -15,7 +16,7 @@ returns c = simp (eq-eqb _ _ (c .if1 .taken))
 
 returns-2 : tie.Need-returns-2
 unfolding weight ownBack
-returns-2 c = simp (ne-eqb _ _ (c .before .before .before .before .if1 .left)) (c .cut .ensures ∙ ap (λ (x : ℕ). min x 4096) (cc))
+returns-2 c = simp (ne-eqb _ _ (c .before .before .before .before .if1 .left)) (c .cut .ensures ∙ ap (λ (x : ℕ). min x mostRows) (cc))
 
 pub weight-at-spec : {M : Type 1} → statement M
 weight-at-spec =

@@ -1,0 +1,130 @@
+//! `driver stack SEED RUNS`, in a build with the feature `stack`: the most stack that each call takes over the driver's own cases, and over
+//! tables and lists that are made to take much.
+
+use oracle::lists::trees::{always, close, compare as test, negated, number, prev};
+use oracle::spec::Condition;
+use oracle::table::Table;
+
+use crate::calls::{self, Position, LINE_WORDS, MOST_LINES, MOST_NODES, STEP_BYTES};
+use crate::case::bar_words;
+use crate::cases;
+use crate::compare::compare;
+use crate::extremes::extremes;
+use crate::figures::{metrics, roots};
+use crate::guard::guard;
+use crate::images::images;
+use crate::ours::{translated, Ours};
+use crate::painted::uses;
+
+/// Steps of the longest list that there is.
+const MOST_STEPS: usize = 1_024;
+
+/// Levels of a tree, operands counted too.
+const MOST_NESTING: usize = 32;
+
+/// The kind of a constant's step.
+const CONSTANT: u8 = 1;
+
+/// The longest list, which no table gives: each of its steps leaves a value, and none takes one.
+fn longest_list() -> Vec<u8> {
+    let mut step = [0; STEP_BYTES];
+    step[0] = CONSTANT;
+    step.repeat(MOST_STEPS)
+}
+
+/// A run, a step and a call over many bars with four of them.
+fn longest_lists(seed: u64) {
+    let case = (0..)
+        .map(|number| cases::some_case(seed, number).0)
+        .find(|case| case.bars.len() > 40);
+    let case = case.expect("a case with bars");
+    let mut run = Ours::new(&case, case.settings.depth).expect("an accepted case");
+    run.lists = [(); 4].map(|()| longest_list());
+    let bars: Vec<u64> = case.bars.iter().flat_map(bar_words).collect();
+    let width = calls::bar_words(case.table.slots);
+    let (single, many) = bars.split_at(20 * width);
+    single
+        .chunks(width)
+        .for_each(|bar| run.step(bar).expect("a bar in the domain"));
+    let (_, answer) = run.steps(many);
+    answer.expect("bars in the domain");
+    let (mut said, mut visits) = (0, 0);
+    let window = (run.settings[0], run.settings[1]);
+    calls::run(
+        &run.lists[0],
+        run.rows_held(),
+        window,
+        run.position(),
+        &mut said,
+        &mut visits,
+    );
+    assert_eq!(visits, MOST_STEPS as u64, "every step is visited");
+}
+
+/// All of `before` conditions that are nothing but yes, and one more.
+fn behind(before: usize, last: Condition) -> Condition {
+    Condition::All((0..before).map(|_| always()).chain([last]).collect())
+}
+
+/// Entries that nest as deep as they may, or are as wide as they may be, or both at once.
+fn greatest_trees() -> Vec<Condition> {
+    let bottom = || test(17, close(), number(0.0));
+    let down = || test(17, prev(close(), 1), number(0.0));
+    let levels = MOST_NESTING - 2;
+    // an exit takes one node, and the bottom three
+    let leaves = MOST_NODES - 1 - 3;
+    let staircase = |each: usize, first: usize| {
+        let stairs = (1..levels).fold(bottom(), |inner, _| behind(each, inner));
+        behind(first, stairs)
+    };
+    let each = (leaves - levels) / levels;
+    vec![
+        behind(leaves - 1, bottom()),
+        (0..levels).fold(bottom(), |inner, _| negated(inner)),
+        (1..levels).fold(down(), |inner, _| negated(inner)),
+        staircase(each, leaves - levels - each * (levels - 1)),
+    ]
+}
+
+/// Every call over a table, with such an entry.
+fn greatest_tables() {
+    let at = Position {
+        qty: 0,
+        entered: 0,
+        entry_bar: 0,
+        bars_seen: 2,
+    };
+    let rows = [0; 14];
+    for entry in greatest_trees() {
+        let table = Table {
+            slots: 0,
+            trees: [Some(entry), Some(always()), None, None],
+        };
+        let table = table.bytes();
+        let (mut a, mut b) = (0, 0);
+        assert_eq!(calls::check(&table, &mut a, &mut b), 0, "an accepted table");
+        calls::depth(&table, 0, &mut a, &mut b);
+        calls::silent(&table, 1, &mut [0; MOST_NODES], &mut a);
+        calls::rule(&table, 0, &rows, at, &mut a);
+        calls::why(&table, 0, &rows, at, &mut [0; MOST_LINES * LINE_WORDS], &mut a);
+        let list = translated(&table, 0).expect("an accepted table");
+        calls::run(&list, &rows, (0, 2), at, &mut a, &mut b);
+    }
+}
+
+/// Runs what the other commands compare on a painted stack, and writes how much of it each call took; whether all agree.
+pub fn stack(seed: u64, runs: u64) -> bool {
+    longest_lists(seed);
+    greatest_tables();
+    let agree = compare(seed, runs)
+        && images(seed, runs)
+        && extremes(seed, 20 * runs)
+        && guard(seed, 200 * runs)
+        && metrics(seed, runs)
+        && roots(seed, 100 * runs);
+    println!("\n| call | calls | bytes of stack at most |\n|---|---|---|");
+    for (name, used) in uses() {
+        println!("| `{name}` | {} | {} |", used.calls, used.bytes);
+    }
+    agree
+}

@@ -1,0 +1,2 @@
+-- What the proof of `depth` uses.
+pub mod Needed

@@ -1,0 +1,2 @@
+-- ---- the tests that fall silent
+pub mod Silent

@@ -1,0 +1,251 @@
+-- The tests that the code finds silent are those of the trees; and a table has none over as many rows as it needs. Assumes nothing.
+use Prim.Native.Nat.{ℕ, suc, _+_, _-_, _*_, _≤_, _<_, min}
+use mathlib.Core.Path.{_≡_, refl, sym, ap, _∙_}
+use mathlib.Core.Bool.{Bool, true, false, cond}
+use mathlib.Core.List.{List, [], _∷_, _++_, append-assoc, append-nil}
+use mathlib.Core.Logic.{⊎-elim}
+use native.Mathlib.Omega.{arith}
+use native.Mathlib.Nat.{eq-zero-or-pos}
+use lib.Dec.{leb}
+use lib.ListN.{length, getD, drop}
+use lib.Seq.{drop-at}
+use borrow.Author.Tests.{lt-ltb, le-leb, lt-leb, leb-false}
+use Rattle.words.specs.Limits.{mostRows, mostReach}
+use Rattle.table.specs.declared.nodes.Node.{Node}
+use Rattle.table.specs.declared.header.Form.{Form}
+use Rattle.table.specs.declared.series.Series.{Series}
+use Rattle.table.specs.declared.series.Series.the-variants.{Price, Slot}
+use Rattle.table.specs.declared.answer.Answer.the-variants.{Accepted}
+use Rattle.table.specs.Header.{count, root}
+use Rattle.table.specs.Header as Header
+use Rattle.table.specs.Forest.{Forest, trees, forestOf}
+use Rattle.table.specs.Forest as Forest
+use Rattle.table.specs.Reach.{ownBack, weigh}
+use Rattle.table.specs.Checked.{checked}
+use Rattle.table.specs.Ends.{from}
+use Rattle.table.specs.Trees.{Operand, const, ref, price, prev, arith as sums, extreme, reachOf, reachOfAll}
+use Rattle.table.specs.Trees.{Condition, Conditions, compare, cross, between, trend, every, any, negated, inPosition, barsSince, none, more}
+use Rattle.table.specs.Reading.{firstOf, conditions, treeOf}
+use Rattle.table.specs.Writing.{writeOf, nodesIn, nodesOf}
+use Rattle.table.specs.Limits.{Within, WithinOf, WithinAll}
+use Rattle.table.specs.Laws.Ends.{from-long, from-two, from-all}
+use Rattle.roundtrip.specs.Laws.Reach.{rows-are}
+use Rattle.table.specs.Laws.Accepted.{header-of, tree-ends}
+use Rattle.table.specs.Bytes.{Bytes}
+use Rattle.roundtrip.specs.Laws.AcceptedWritten.{byte, nodes-back, tree-written, tree-nodes}
+use Rattle.table.specs.Laws.Kinds.{arith-numbers, extreme-numbers, compare-numbers, cross-numbers, trend-numbers}
+use Rattle.roundtrip.specs.Laws.WrittenForest.{plantSeries, plant, plantOf, plantAll}
+use Rattle.roundtrip.specs.Laws.WrittenNodes.{From}
+use Rattle.roundtrip.specs.Laws.WrittenGrows.{growsOf}
+use Rattle.roundtrip.specs.Laws.WrittenTrees.{given-reach}
+use Rattle.roundtrip.specs.Laws.AcceptedWithin.{tree-within}
+use Rattle.table.specs.Silent.{isTest, silent, listed, silentIn, silentInAll, silentOf, silentTests, silentNode, silentNodes, fourSilent}
+
+-- ---- the forest of a tree
+
+module _ (d : ℕ) (form : Form) where
+  -- there is no test among operands
+  series-none : (s : Series) (i : ℕ) → silentNodes d (plantSeries i s) ≡ []
+  unfolding plantSeries silentNodes silentNode
+  series-none (Price x) i = refl
+  series-none (Slot x) i = refl
+
+  operands-none : (a : Operand) (i : ℕ) (rest : Forest) → Within form a → silentNodes d (plant i a rest) ≡ silentNodes d rest
+  unfolding plant silentNodes silentNode Within
+  operands-none (const x) i rest w = refl
+  operands-none (ref s) i rest w = refl
+  operands-none (price s) i rest w = refl
+  operands-none (prev a n) i rest w = rw (operands-none a (i + 1) Forest.none (w .1))
+  operands-none (sums kind a b) i rest w =
+      rw (
+        lt-leb 16 kind (omega (arith, arith-numbers kind (w .0) .1)),
+        operands-none a (i + 1) (plant (i + 1 + nodesIn a) b Forest.none) (w .1),
+        operands-none b (i + 1 + nodesIn a) Forest.none (w .2),
+      )
+  operands-none (extreme kind s n) i rest w = rw (lt-leb 16 kind (omega (arith, extreme-numbers kind (w .0) .1)), series-none s (i + 1))
+
+  -- a test is found where it is silent
+  test-found : (c : Condition) (n : Node) (back : ℕ) → isTest c ≡ true → 16 ≤ n .kind → n .kind < 27 → back ≡ reachOf c → reachOf c ≤ mostReach
+      → silentNode d n back ≡ listed d c (n .number)
+  unfolding silentNode listed silent
+  test-found c n back is lo hi same near =
+      let uncut : min (reachOf c) mostRows ≡ reachOf c = omega (arith, near) in
+      rw (le-leb 16 (n .kind) lo, lt-ltb (n .kind) 27 hi, same, uncut, is)
+
+  -- a node of a test, over operands
+  test-tree : (c : Condition) (n : Node) (below rest : Forest) → isTest c ≡ true → 16 ≤ n .kind → n .kind < 27
+      → weigh ownBack (Forest.tree n below Forest.none) ≡ reachOf c → reachOf c ≤ mostReach → silentNodes d below ≡ []
+      → silentNodes d (Forest.tree n below rest) ≡ listed d c (n .number) ++ silentNodes d rest
+  unfolding silentNodes weigh
+  test-tree c n below rest is lo hi heavy near empty =
+      rw (test-found c n (ownBack n + weigh ownBack below) is lo hi (omega (arith, heavy)) near, empty)
+
+  two-none : (a b : Operand) (i : ℕ) → Within form a → Within form b → silentNodes d (plant (i + 1) a (plant (i + 1 + nodesIn a) b Forest.none)) ≡ []
+  unfolding silentNodes
+  two-none a b i wa wb =
+      operands-none a (i + 1) (plant (i + 1 + nodesIn a) b Forest.none) wa ∙ operands-none b (i + 1 + nodesIn a) Forest.none wb
+
+  mutual
+    unfolding plantOf silentNodes silentNode silentIn isTest reachOf WithinOf
+
+    -- a tree's nodes, and what follows them
+    planted : (c : Condition) (i : ℕ) (rest : Forest) → WithinOf form c → reachOf c ≤ mostReach
+        → silentNodes d (plantOf i c rest) ≡ silentIn d c i ++ silentNodes d rest
+    planted (compare kind a b) i rest w near =
+        let n = compare-numbers kind (w .0) in
+        test-tree (compare kind a b) _ _ rest refl (n .0) (omega (arith, n .1)) (given-reach form (compare kind a b) i w) near (two-none a b i (w .1) (w .2))
+    planted (cross kind a b) i rest w near =
+        let n = cross-numbers kind (w .0) in
+        test-tree (cross kind a b) _ _ rest refl (omega (arith, n .0)) (omega (arith, n .1)) (given-reach form (cross kind a b) i w) near
+        (two-none a b i (w .1) (w .2))
+    planted (between x a b) i rest w near =
+        test-tree (between x a b) _ _ rest refl (omega arith) (omega arith) (given-reach form (between x a b) i w) near
+        (operands-none x (i + 1) (plant (i + 1 + nodesIn x) a (plant (i + 1 + nodesIn x + nodesIn a) b Forest.none)) (w .0)
+        ∙ operands-none a (i + 1 + nodesIn x) (plant (i + 1 + nodesIn x + nodesIn a) b Forest.none) (w .1)
+        ∙ operands-none b (i + 1 + nodesIn x + nodesIn a) Forest.none (w .2))
+    planted (trend kind a n) i rest w near =
+        let m = trend-numbers kind (w .0) in
+        test-tree (trend kind a n) _ _ rest refl (omega (arith, m .0)) (omega (arith, m .1)) (given-reach form (trend kind a n) i w) near
+        (operands-none a (i + 1) Forest.none (w .2))
+    planted (every cs) i rest w near = rw (planted-all cs (i + 1) Forest.none w near, append-nil (silentInAll d cs (i + 1)))
+    planted (any cs) i rest w near = rw (planted-all cs (i + 1) Forest.none w near, append-nil (silentInAll d cs (i + 1)))
+    planted (negated c) i rest w near = rw (planted c (i + 1) Forest.none w near, append-nil (silentIn d c (i + 1)))
+    planted (inPosition wanted) i rest w near = refl
+    planted (barsSince selector n) i rest w near = refl
+
+    planted-all : (cs : Conditions) (i : ℕ) (rest : Forest) → WithinAll form cs → reachOfAll cs ≤ mostReach
+        → silentNodes d (plantAll i cs rest) ≡ silentInAll d cs i ++ silentNodes d rest
+    planted-all none i rest w near = refl
+    planted-all (more c cs) i rest w near =
+        planted c i (plantAll (i + nodesOf c) cs rest) (w .0) (omega arith)
+        ∙ rw (planted-all cs (i + nodesOf c) rest (w .1) (omega arith))
+        (sym (append-assoc (silentIn d c i) (silentInAll d cs (i + nodesOf c)) (silentNodes d rest)))
+
+-- ---- the trees of an accepted table
+
+module _ (t : List ℕ) (small : Bytes t) (n r : ℕ) (ok : checked t ≡ Accepted n r) where
+  -- bytes from a place on, as numbers one after the other
+  bytes-from : (at : ℕ) → at ≤ length t → drop at t ≡ from (λ i. getD t i 0) (length t - at) at
+  bytes-from at le =
+      let f : ℕ → ℕ = λ i. getD t i 0 in
+      let whole : at + (length t - at) ≡ length t = omega arith in
+      let parts : t ≡ from f at 0 ++ from f (length t - at) at =
+      sym (from-all t) ∙ ap (λ (m : ℕ). from f m 0) (sym whole) ∙ from-two f at (length t - at) 0
+      ∙ ap (λ (j : ℕ). from f at 0 ++ from f (length t - at) j) (omega arith) in
+      ap (drop at) parts ∙ drop-at (from f at 0) (from f (length t - at) at) at (from-long f at 0)
+
+  -- the bytes from a tree's root on begin with those of the tree
+  tree-bytes : (x : ℕ) → x < 4 → 0 < count t x → From t (root t x) (writeOf (treeOf t x) ++ drop (16 + 16 * root t (suc x)) t)
+  unfolding root byte
+  tree-bytes x l some =
+      let f : ℕ → ℕ = λ i. getD t i 0 in
+      let m = count t x in
+      let i = root t x in
+      let fits : root t (suc x) ≤ Header.total t = tree-ends t n r ok x l in
+      let long : length t ≡ 16 + 16 * Header.total t = header-of t n r ok .long in
+      let rest : length t - (16 + 16 * i) ≡ 16 * m + (length t - (16 + 16 * (i + m))) = omega arith in
+      let on : 16 + 16 * i + 16 * m ≡ 16 + 16 * (i + m) = omega arith in
+      let own : writeOf (treeOf t x) ≡ from f (16 * m) (16 + 16 * i) = tree-written t n r ok x l some ∙ nodes-back t small m i in
+      bytes-from (16 + 16 * i) (omega arith)
+      ∙ ap (λ (j : ℕ). from f j (16 + 16 * i)) rest
+      ∙ from-two f (16 * m) (length t - (16 + 16 * (i + m))) (16 + 16 * i)
+      ∙ rw (on, own, bytes-from (16 + 16 * (i + m)) (omega arith))
+
+  no-tree : (d x : ℕ) → count t x ≡ 0 → silentNodes d (forestOf t x) ≡ silentOf t d x
+  unfolding forestOf trees silentNodes silentOf treeOf conditions firstOf silentIn
+  no-tree d x z = rw z
+
+  a-tree : (d x : ℕ) → x < 4 → 0 < count t x → silentNodes d (forestOf t x) ≡ silentOf t d x
+  unfolding forestOf trees silentNodes silentOf
+  a-tree d x l some =
+      let c = treeOf t x in
+      let w = tree-within t small n r ok x l some in
+      ap (λ (m : ℕ). silentNodes d (trees t m (root t x))) (sym (tree-nodes t n r ok x l some))
+      ∙ ap (silentNodes d) (growsOf t (Header.formOf t) c (root t x) _ (w .fields) (tree-bytes x l some))
+      ∙ planted d (Header.formOf t) c (root t x) Forest.none (w .fields) (w .reaches)
+      ∙ append-nil (silentIn d c (root t x))
+
+  silent-tree : (d x : ℕ) → x < 4 → silentNodes d (forestOf t x) ≡ silentOf t d x
+  silent-tree d x l = ⊎-elim (no-tree d x) (a-tree d x l) (eq-zero-or-pos (count t x))
+
+  -- THE NODES that the code finds are the silent tests of the four trees, in table order.
+  pub silent-found : (d : ℕ) → fourSilent t d ≡ silentTests t d
+  unfolding fourSilent silentTests
+  silent-found d =
+      rw (
+        silent-tree d 0 (omega arith),
+        silent-tree d 1 (omega arith),
+        silent-tree d 2 (omega arith),
+        silent-tree d 3 (omega arith),
+      )
+
+-- ---- none
+
+both-none : (xs ys : List ℕ) → xs ++ ys ≡ [] → (xs ≡ []) × (ys ≡ [])
+both-none [] ys e = (refl, e)
+both-none (x ∷ xs) ys e = absurd (let z : _≡_ {A = ℕ} 0 1 = cc in omega arith)
+
+module _ (d : ℕ) (some : 0 < d) where
+  -- A test is not listed where it reaches back fewer bars than there are rows, and only there;
+  not-listed : (c : Condition) (i : ℕ) → isTest c ≡ true → (reachOf c < d → listed d c i ≡ []) × (listed d c i ≡ [] → reachOf c < d)
+  unfolding listed silent
+  not-listed c i is = (λ l. rw (is, lt-leb d (reachOf c) l), λ e. go (leb d (reachOf c)) refl (rw is at e))
+    where
+      go : (b : Bool) → leb d (reachOf c) ≡ b → cond b (i ∷ []) [] ≡ [] → reachOf c < d
+      go true f e = absurd (let z : _≡_ {A = ℕ} 0 1 = cc in omega arith)
+      go false f e = leb-false d (reachOf c) f
+
+  -- so a tree has no silent test where it reaches back fewer, and only there.
+  mutual
+    unfolding silentIn reachOf isTest
+
+    none-silent : (c : Condition) (i : ℕ) → (reachOf c < d → silentIn d c i ≡ []) × (silentIn d c i ≡ [] → reachOf c < d)
+    none-silent (compare kind a b) i = not-listed (compare kind a b) i refl
+    none-silent (cross kind a b) i = not-listed (cross kind a b) i refl
+    none-silent (between x low high) i = not-listed (between x low high) i refl
+    none-silent (trend kind a n) i = not-listed (trend kind a n) i refl
+    none-silent (every cs) i = none-silent-all cs (i + 1)
+    none-silent (any cs) i = none-silent-all cs (i + 1)
+    none-silent (negated c) i = none-silent c (i + 1)
+    none-silent (inPosition wanted) i = (λ l. refl, λ e. some)
+    none-silent (barsSince selector k) i = (λ l. refl, λ e. some)
+
+    none-silent-all : (cs : Conditions) (i : ℕ) → (reachOfAll cs < d → silentInAll d cs i ≡ []) × (silentInAll d cs i ≡ [] → reachOfAll cs < d)
+    none-silent-all none i = (λ l. refl, λ e. some)
+    none-silent-all (more c cs) i =
+        let one = none-silent c i in
+        let others = none-silent-all cs (i + nodesOf c) in (
+          λ l. rw (one .0 (omega arith), others .0 (omega arith)),
+          λ e.
+              let two = both-none (silentIn d c i) (silentInAll d cs (i + nodesOf c)) e in
+              omega (arith, one .1 (two .0), others .1 (two .1)),
+        )
+
+module _ (t : List ℕ) (n r : ℕ) (ok : checked t ≡ Accepted n r) (d : ℕ) where
+  -- NONE OVER ENOUGH ROWS: over as many rows as the check says the table needs, or more, no test falls silent;
+  pub enough-rows : r ≤ d → silentTests t d ≡ []
+  unfolding silentTests silentOf
+  enough-rows enough =
+      let some : 0 < d = omega (arith, rows-are t n r ok) in
+      rw (
+        none-silent d some (treeOf t 0) (root t 0) .0 (omega (arith, rows-are t n r ok)),
+        none-silent d some (treeOf t 1) (root t 1) .0 (omega (arith, rows-are t n r ok)),
+        none-silent d some (treeOf t 2) (root t 2) .0 (omega (arith, rows-are t n r ok)),
+        none-silent d some (treeOf t 3) (root t 3) .0 (omega (arith, rows-are t n r ok)),
+      )
+
+  -- AND ONLY THEN: a row or more over which no test falls silent are as many as the table needs.
+  pub only-enough : 0 < d → silentTests t d ≡ [] → r ≤ d
+  unfolding silentTests silentOf
+  only-enough some e =
+      let p = both-none (silentOf t d 0) (silentOf t d 1 ++ (silentOf t d 2 ++ silentOf t d 3)) e in
+      let q = both-none (silentOf t d 1) (silentOf t d 2 ++ silentOf t d 3) (p .1) in
+      let s = both-none (silentOf t d 2) (silentOf t d 3) (q .1) in
+      omega (
+        arith,
+        rows-are t n r ok,
+        none-silent d some (treeOf t 0) (root t 0) .1 (p .0),
+        none-silent d some (treeOf t 1) (root t 1) .1 (q .0),
+        none-silent d some (treeOf t 2) (root t 2) .1 (s .0),
+        none-silent d some (treeOf t 3) (root t 3) .1 (s .1),
+      )

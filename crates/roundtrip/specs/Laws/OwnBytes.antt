@@ -1,0 +1,89 @@
+-- What writes a row of a known length, and a node whose own bytes are right.
+-- Assumes nothing.
+use mathlib.Core.Path.{_≡_, refl, sym}
+use mathlib.Core.Bool.{true, not}
+use mathlib.Core.List.{List, [], _∷_, _++_, append-assoc, append-nil}
+use Prim.Native.Nat.{ℕ, suc, _+_, _<_}
+use native.Mathlib.Omega.{arith}
+use lib.ListN.{length}
+use lib.Dec.{ltb, eqb}
+use borrow.Author.Tests.{ltb-true, eqb-true}
+use Rattle.table.specs.declared.nodes.Node.{Node}
+use Rattle.table.specs.declared.kinds.Kind.{Kind}
+use Rattle.table.specs.declared.header.Form.{Form}
+use Rattle.table.specs.Kinds.{constant}
+use Rattle.table.specs.Nodes.{childrenRight, nRight, constantRight, kindRight, fieldsRight, ownRight}
+use Rattle.table.specs.Trees.{Operand, Conditions, none}
+use Rattle.table.specs.Trees.{more}
+use Rattle.table.specs.Reading.{child, firstOf}
+use Rattle.table.specs.Writing.{node, nodeBytes, write, writeRow, manyOf, writeOf, writeAll}
+use Rattle.table.specs.Laws.Header.{both}
+
+-- ---- rows of a known length
+
+zero-suc : (n : ℕ) → 0 ≡ suc n → ⊥
+zero-suc n h = omega arith
+
+pub write-none : (os : List Operand) → length os ≡ 0 → writeRow os ≡ []
+unfolding writeRow
+write-none [] h = refl
+write-none (a ∷ os) h = absurd (zero-suc (length os) (sym h))
+
+pub write-one : (os : List Operand) → length os ≡ 1 → writeRow os ≡ write (child os 0)
+unfolding writeRow
+write-one [] h = absurd (zero-suc 0 h)
+write-one (a ∷ os) h = rw (write-none os (omega arith)) (append-nil (write a))
+
+pub write-two : (os : List Operand) → length os ≡ 2 → writeRow os ≡ write (child os 0) ++ write (child os 1)
+unfolding writeRow
+write-two [] h = absurd (zero-suc 1 h)
+write-two (a ∷ os) h = rw (write-one os (omega arith))
+
+pub write-three : (os : List Operand) → length os ≡ 3 → writeRow os ≡ write (child os 0) ++ write (child os 1) ++ write (child os 2)
+unfolding writeRow
+write-three [] h = absurd (zero-suc 2 h)
+write-three (a ∷ os) h = rw (write-two os (omega arith)) (sym (append-assoc (write a) _ _))
+
+all-none : (cs : Conditions) → manyOf cs ≡ 0 → writeAll cs ≡ []
+unfolding manyOf writeAll
+all-none none h = refl
+all-none (more c cs) h = absurd (zero-suc (manyOf cs) (sym h))
+
+pub all-one : (cs : Conditions) → manyOf cs ≡ 1 → writeAll cs ≡ writeOf (firstOf cs)
+unfolding manyOf writeAll firstOf
+all-one none h = absurd (zero-suc 0 h)
+all-one (more c cs) h = rw (all-none cs (omega arith)) (append-nil (writeOf c))
+
+-- ---- a node's own bytes
+
+pub record Own (form : Form) (n : Node) (row : Kind) : Type 0 where
+  pub version : kindRight (form .version) (row .since) ≡ true
+  pub selector : n .selector < row .selectors
+  pub children : childrenRight (n .children) (row .children) ≡ true
+  pub number : nRight (form .slots) (n .n) (row .n) ≡ true
+  pub constant : constantRight (n .constant) (row .constant) ≡ true
+
+pub own-fields : (form : Form) (n : Node) (row : Kind) → ownRight form n row ≡ true → Own form n row
+unfolding ownRight fieldsRight
+own-fields form n row h =
+    let h0 = both _ (fieldsRight (form .slots) n row) h in
+    let k0 = both (not (eqb (row .sort) 0)) (kindRight (form .version) (row .since)) (h0 .0) in
+    let h4 = both _ (constantRight (n .constant) (row .constant)) (h0 .1) in
+    let h3 = both _ (nRight (form .slots) (n .n) (row .n)) (h4 .0) in
+    let h2 = both (ltb (n .selector) (row .selectors)) (childrenRight (n .children) (row .children)) (h3 .0) in
+    record { version = k0 .1; selector = ltb-true _ _ (h2 .0); children = h2 .1; number = h3 .1; constant = h4 .1 }
+
+pub fields : (n : Node) (kind selector children number constant : ℕ) → n .kind ≡ kind → n .selector ≡ selector → n .children ≡ children → n .n ≡ number
+    → n .constant ≡ constant
+    → nodeBytes n ≡ node kind selector children number constant
+unfolding nodeBytes
+fields n kind selector children number constant a b c d e = cc
+
+-- a node that uses its n beside its kind, and one that uses its kind alone
+pub number-node : (n : Node) (kind : ℕ) → n .kind ≡ kind → n .selector < 1 → eqb (n .children) 0 ≡ true → eqb (n .constant) 0 ≡ true
+    → nodeBytes n ≡ node kind 0 0 (n .n) 0
+number-node n kind k s c x = fields n kind 0 0 (n .n) 0 k (omega arith) (eqb-true _ _ c) refl (eqb-true _ _ x)
+
+pub plain-node : (n : Node) (kind : ℕ) → n .kind ≡ kind → n .selector < 1 → eqb (n .children) 0 ≡ true → eqb (n .n) 0 ≡ true
+    → eqb (n .constant) 0 ≡ true → nodeBytes n ≡ node kind 0 0 0 0
+plain-node n kind k s c m x = fields n kind 0 0 0 0 k (omega arith) (eqb-true _ _ c) (eqb-true _ _ m) (eqb-true _ _ x)

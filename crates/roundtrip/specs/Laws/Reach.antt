@@ -1,0 +1,204 @@
+-- The reach of the typed trees is the reach that the checker weighs, and the rows needed are one more than the greatest.
+-- Assumes nothing.
+use mathlib.Core.Path.{_≡_, refl, sym, _∙_, ap}
+use mathlib.Core.Logic.{⊎-elim}
+use mathlib.Core.List.{List, [], _∷_}
+use Prim.Native.Nat.{ℕ, zero, suc, _+_, _<_, max}
+use native.Mathlib.Omega.{arith}
+use native.Mathlib.Nat.{eq-zero-or-pos}
+use lib.ListN.{length, replicate, length-replicate}
+use Rattle.table.specs.declared.nodes.Node.{Node}
+use Rattle.table.specs.declared.kinds.Kind.{Kind}
+use Rattle.table.specs.declared.answer.Answer.the-variants.{Accepted}
+use Rattle.table.specs.Kinds.{kindOf, extremum}
+use Rattle.table.specs.Header.{count}
+use Rattle.table.specs.Nodes.{childCount}
+use Rattle.table.specs.Forest.{Forest, trees, forestOf, sorts, Sorted}
+use Rattle.table.specs.Forest as Forest
+use Rattle.table.specs.Reach.{back, ownBack, weigh, forestReach, treeReach, rowsNeeded}
+use Rattle.table.specs.Checked.{checked}
+use Rattle.table.specs.Trees.{Operand, Conditions, none, more, reach, reachOf, reachOfAll}
+use Rattle.table.specs.Reading.{child, operandBy, operandFrom, operands, firstOf, conditionBy, conditionFrom, conditions, treeOf}
+use Rattle.table.specs.Series.{asSeries}
+use Rattle.table.specs.Writing.{manyOf}
+use Rattle.roundtrip.specs.Laws.Series.{IsSeries, series-child, leaf-reach}
+use Rattle.roundtrip.specs.Laws.Reading.{as-many, many-conditions, below-operand}
+use Rattle.table.specs.Laws.Kinds.{OperandKind, a-const, a-ref, a-price, a-prev, an-arith, an-extreme, operand-kind}
+use Rattle.table.specs.Laws.Kinds.{ConditionKind, a-compare, a-cross, a-between, a-trend, an-all, an-any, a-not, a-position, a-count, condition-kind}
+use Rattle.table.specs.Laws.Accepted.{accepted, tree-sorts}
+
+-- the greatest reach of operands in a row
+unfoldable pub reachOfRow : List Operand → ℕ
+reachOfRow [] = 0
+reachOfRow (a ∷ os) = max (reach a) (reachOfRow os)
+
+-- ---- rows of a known length
+
+zero-suc : (n : ℕ) → 0 ≡ suc n → ⊥
+zero-suc n h = omega arith
+
+row-none : (os : List Operand) → length os ≡ 0 → reachOfRow os ≡ 0
+unfolding reachOfRow
+row-none [] h = refl
+row-none (a ∷ os) h = absurd (zero-suc (length os) (sym h))
+
+row-one : (os : List Operand) → length os ≡ 1 → reachOfRow os ≡ reach (child os 0)
+unfolding reachOfRow
+row-one [] h = absurd (zero-suc 0 h)
+row-one (a ∷ os) h = omega (arith, row-none os (omega arith))
+
+row-two : (os : List Operand) → length os ≡ 2 → reachOfRow os ≡ max (reach (child os 0)) (reach (child os 1))
+unfolding reachOfRow
+row-two [] h = absurd (zero-suc 1 h)
+row-two (a ∷ os) h = rw (row-one os (omega arith))
+
+row-three : (os : List Operand) → length os ≡ 3
+    → reachOfRow os ≡ max (reach (child os 0)) (max (reach (child os 1)) (reach (child os 2)))
+unfolding reachOfRow
+row-three [] h = absurd (zero-suc 2 h)
+row-three (a ∷ os) h = rw (row-two os (omega arith))
+
+conditions-none : (cs : Conditions) → manyOf cs ≡ 0 → reachOfAll cs ≡ 0
+unfolding manyOf reachOfAll
+conditions-none none h = refl
+conditions-none (more c cs) h = absurd (zero-suc (manyOf cs) (sym h))
+
+conditions-one : (cs : Conditions) → manyOf cs ≡ 1 → reachOfAll cs ≡ reachOf (firstOf cs)
+unfolding manyOf reachOfAll firstOf
+conditions-one none h = absurd (zero-suc 0 h)
+conditions-one (more c cs) h = omega (arith, conditions-none cs (omega arith))
+
+-- ---- a node over what is below it
+
+back-by : (n : Node) (row : Kind) → kindOf (n .kind) ≡ row → ownBack n ≡ back n row
+unfolding ownBack
+back-by n row h = rw h
+
+-- what an operand's node adds, over the operands below it
+module _ (n : Node) (os : List Operand) (many : length os ≡ childCount n (kindOf (n .kind)))
+    (series : kindOf (n .kind) ≡ extremum → IsSeries (child os 0)) where
+  count-by : (row : Kind) → kindOf (n .kind) ≡ row → length os ≡ childCount n row
+  count-by row h = many ∙ ap (childCount n) h
+
+  adds-operand : OperandKind (n .kind) → ownBack n + reachOfRow os ≡ reach (operandFrom n os)
+  unfolding back childCount operandFrom operandBy reach
+  adds-operand (a-const k row) = simp (row, back-by n _ row, row-none os (count-by _ row))
+  adds-operand (a-ref k row) = simp (row, back-by n _ row, row-none os (count-by _ row))
+  adds-operand (a-price k row) = simp (row, back-by n _ row, row-none os (count-by _ row))
+  adds-operand (a-prev k row) = simp (row, back-by n _ row, row-one os (count-by _ row))
+  adds-operand (an-arith row) = simp (row, back-by n _ row, row-two os (count-by _ row)) (omega arith)
+  adds-operand (an-extreme row) =
+      let none : reach (child os 0) ≡ 0 = ap reach (series row) ∙ leaf-reach (asSeries (child os 0)) in
+      simp (row, back-by n _ row, row-one os (count-by _ row), none) (omega arith)
+
+-- operands in a row reach as far as the forest weighs
+row-reach : (f : Forest) (k : ℕ) → Sorted f → sorts f ≡ replicate k 1 → weigh ownBack f ≡ reachOfRow (operands f)
+unfolding weigh operands reachOfRow sorts Sorted
+row-reach Forest.none k h s = refl
+row-reach (Forest.tree n below rest) zero h s = absurd never
+  where
+    never : ⊥
+    never = let z : _≡_ {A = ℕ} 0 1 = cc in omega arith
+row-reach (Forest.tree n below rest) (suc k) h s =
+    let sort : kindOf (n .kind) .sort ≡ 1 = cc in
+    let others : sorts rest ≡ replicate k 1 = cc in
+    let kind = operand-kind (n .kind) sort in
+    let under : sorts below ≡ replicate (childCount n (kindOf (n .kind))) 1 = h .0 ∙ below-operand n kind in
+    let many : length (operands below) ≡ childCount n (kindOf (n .kind)) = as-many below ∙ ap length under ∙ length-replicate _ _ in
+    let a : weigh ownBack below ≡ reachOfRow (operands below) = row-reach below (childCount n (kindOf (n .kind))) (h .1) under in
+    let b : weigh ownBack rest ≡ reachOfRow (operands rest) = row-reach rest k (h .2) others in
+    let c : ownBack n + reachOfRow (operands below) ≡ reach (operandFrom n (operands below)) =
+    adds-operand n (operands below) many (series-child n below (h .0) (h .3)) kind in
+    rw (a, b, c)
+
+-- what a condition's node adds, over what is below it
+module _ (n : Node) (below : Forest) (w : ℕ)
+    (under : sorts below ≡ replicate (childCount n (kindOf (n .kind))) (kindOf (n .kind) .below))
+    (of-operands : (k : ℕ) → sorts below ≡ replicate k 1 → w ≡ reachOfRow (operands below))
+    (of-conditions : (k : ℕ) → sorts below ≡ replicate k 2 → w ≡ reachOfAll (conditions below)) where
+  under-by : (row : Kind) → kindOf (n .kind) ≡ row → sorts below ≡ replicate (childCount n row) (row .below)
+  under-by row h = under ∙ ap (λ (r : Kind). replicate (childCount n r) (r .below)) h
+
+  -- k operands below
+  some-operands : (k : ℕ) → sorts below ≡ replicate k 1 → length (operands below) ≡ k
+  some-operands k h = as-many below ∙ ap length h ∙ length-replicate k 1
+
+  some-conditions : (k : ℕ) → sorts below ≡ replicate k 2 → manyOf (conditions below) ≡ k
+  some-conditions k h = many-conditions below ∙ ap length h ∙ length-replicate k 2
+
+  -- what the k operands below weigh
+  row-below : (k : ℕ) (row : Kind) → kindOf (n .kind) ≡ row → replicate (childCount n row) (row .below) ≡ replicate k 1
+      → (w ≡ reachOfRow (operands below)) × (length (operands below) ≡ k)
+  row-below k row h same =
+      let here : sorts below ≡ replicate k 1 = under-by row h ∙ same in
+      (of-operands k here, some-operands k here)
+
+  adds-condition : ConditionKind (n .kind) → ownBack n + w ≡ reachOf (conditionFrom n (operands below) (conditions below))
+  unfolding back childCount conditionFrom conditionBy reachOf
+  adds-condition (a-compare row) =
+      let b = row-below 2 _ row refl in
+      simp (row, back-by n _ row, b .0, row-two (operands below) (b .1)) (omega arith)
+  adds-condition (a-cross row) =
+      let b = row-below 2 _ row refl in
+      simp (row, back-by n _ row, b .0, row-two (operands below) (b .1))
+  adds-condition (a-between k row) =
+      let b = row-below 3 _ row refl in
+      simp (row, back-by n _ row, b .0, row-three (operands below) (b .1)) (omega arith)
+  adds-condition (a-trend row) =
+      let b = row-below 1 _ row refl in
+      simp (row, back-by n _ row, b .0, row-one (operands below) (b .1))
+  adds-condition (an-all k row) = simp (row, back-by n _ row, of-conditions (n .children) (under-by _ row)) (omega arith)
+  adds-condition (an-any k row) = simp (row, back-by n _ row, of-conditions (n .children) (under-by _ row)) (omega arith)
+  adds-condition (a-not k row) =
+      let one : sorts below ≡ replicate 1 2 = under-by _ row in
+      simp (row, back-by n _ row, of-conditions 1 one, conditions-one (conditions below) (some-conditions 1 one)) (omega arith)
+  adds-condition (a-position k row) =
+      let b = row-below 0 _ row refl in
+      simp (row, back-by n _ row, b .0, row-none (operands below) (b .1))
+  adds-condition (a-count k row) =
+      let b = row-below 0 _ row refl in
+      simp (row, back-by n _ row, b .0, row-none (operands below) (b .1))
+
+-- conditions in a row reach as far as the forest weighs
+pub all-reach : (f : Forest) (k : ℕ) → Sorted f → sorts f ≡ replicate k 2 → weigh ownBack f ≡ reachOfAll (conditions f)
+unfolding weigh conditions reachOfAll sorts Sorted
+all-reach Forest.none k h s = refl
+all-reach (Forest.tree n below rest) zero h s = absurd never
+  where
+    never : ⊥
+    never = let z : _≡_ {A = ℕ} 0 1 = cc in omega arith
+all-reach (Forest.tree n below rest) (suc k) h s =
+    let sort : kindOf (n .kind) .sort ≡ 2 = cc in
+    let others : sorts rest ≡ replicate k 2 = cc in
+    let b : weigh ownBack rest ≡ reachOfAll (conditions rest) = all-reach rest k (h .2) others in
+    let c : ownBack n + weigh ownBack below ≡ reachOf (conditionFrom n (operands below) (conditions below)) =
+    adds-condition n below (weigh ownBack below) (h .0) (λ m g. row-reach below m (h .1) g) (λ m g. all-reach below m (h .1) g)
+    (condition-kind (n .kind) sort) in
+    rw (c, b)
+
+-- The reach of a tree of an accepted table, as a tree and as the checker weighs it; an absent tree's is 0 both ways.
+absent-reach : (t : List ℕ) (x : ℕ) → count t x ≡ 0 → treeReach t x ≡ reachOf (treeOf t x)
+unfolding treeReach forestReach treeOf forestOf trees weigh conditions firstOf reachOf
+absent-reach t x h = rw h
+
+there-reach : (t : List ℕ) (n r x : ℕ) → checked t ≡ Accepted n r → x < 4 → 0 < count t x → treeReach t x ≡ reachOf (treeOf t x)
+unfolding treeReach forestReach treeOf
+there-reach t n r x ok l some =
+    let g = tree-sorts t n r ok x l some in
+    all-reach (forestOf t x) 1 (g .1) (g .0) ∙ conditions-one (conditions (forestOf t x)) (many-conditions (forestOf t x) ∙ ap length (g .0))
+
+pub tree-reach-is : (t : List ℕ) (n r x : ℕ) → checked t ≡ Accepted n r → x < 4 → treeReach t x ≡ reachOf (treeOf t x)
+tree-reach-is t n r x ok l = ⊎-elim (absent-reach t x) (there-reach t n r x ok l) (eq-zero-or-pos (count t x))
+
+-- "rows = greatest reach + 1", in the trees' terms
+pub rows-are : (t : List ℕ) (n r : ℕ) → checked t ≡ Accepted n r
+    → r ≡ max (max (reachOf (treeOf t 0)) (reachOf (treeOf t 1))) (max (reachOf (treeOf t 2)) (reachOf (treeOf t 3))) + 1
+unfolding rowsNeeded
+rows-are t n r ok =
+    accepted t n r ok .rows ∙
+    rw (
+      tree-reach-is t n r 0 ok (omega arith),
+      tree-reach-is t n r 1 ok (omega arith),
+      tree-reach-is t n r 2 ok (omega arith),
+      tree-reach-is t n r 3 ok (omega arith),
+    )

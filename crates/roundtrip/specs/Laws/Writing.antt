@@ -1,0 +1,213 @@
+-- Where each node's own bytes are right and each has the children that its kind takes, writing what the forest reads as gives
+-- the forest's own nodes back, in prefix order.
+-- Assumes nothing.
+use mathlib.Core.Path.{_≡_, refl, sym, _∙_, ap}
+use mathlib.Core.Bool.{true, cond}
+use mathlib.Core.List.{List, [], _∷_, _++_, append-assoc, append-nil}
+use Prim.Native.Nat.{ℕ, zero, suc, _+_, _<_}
+use native.Mathlib.Omega.{arith}
+use lib.ListN.{length, replicate, length-replicate}
+use lib.Dec.{eqb}
+use borrow.Author.Tests.{eqb-true}
+use Rattle.table.specs.declared.nodes.Node.{Node}
+use Rattle.table.specs.declared.kinds.Kind.{Kind}
+use Rattle.table.specs.declared.header.Form.{Form}
+use Rattle.table.specs.Kinds.{kindOf, constant, reference, price, previous, arithmetic, extremum}
+use Rattle.table.specs.Kinds.{comparison, crossing, between, trend, allOf, anyOf, negation, position, barsSince}
+use Rattle.table.specs.Nodes.{childCount, childrenRight, nRight, constantRight, ownRight}
+use Rattle.table.specs.Forest.{Forest, sorts, Sorted, flat}
+use Rattle.table.specs.Forest as Forest
+use Rattle.table.specs.Trees.{Operand, none}
+use Rattle.table.specs.Reading.{child, operandBy, operandFrom, operands, conditionBy, conditionFrom, conditions}
+use Rattle.table.specs.Writing.{node, nodeBytes, nodesBytes, writeSeries, write, writeRow, manyOf, writeOf, writeAll}
+use Rattle.table.specs.Series.{asSeries}
+use Rattle.table.specs.Laws.Kinds.{OperandKind, a-const, a-ref, a-price, a-prev, an-arith, an-extreme, operand-kind}
+use Rattle.roundtrip.specs.Laws.Series.{IsSeries, series-child, leaf-written}
+use Rattle.table.specs.Laws.Kinds.{ConditionKind, a-compare, a-cross, a-between, a-trend, an-all, an-any, a-not, a-position, a-count, condition-kind}
+use Rattle.roundtrip.specs.Laws.Reading.{as-many, many-conditions, below-operand}
+use Rattle.roundtrip.specs.Laws.OwnBytes.{write-none, write-one, write-two, write-three, all-one, Own, own-fields, fields, number-node, plain-node}
+
+-- ---- an operand's node, over the operands below it
+
+module _ (form : Form) (n : Node) (os : List Operand) (right : ownRight form n (kindOf (n .kind)) ≡ true)
+    (many : length os ≡ childCount n (kindOf (n .kind))) (series : kindOf (n .kind) ≡ extremum → IsSeries (child os 0)) where
+  count-by : (row : Kind) → kindOf (n .kind) ≡ row → length os ≡ childCount n row
+  count-by row h = many ∙ ap (childCount n) h
+
+  own-by : (row : Kind) → kindOf (n .kind) ≡ row → Own form n row
+  own-by row h = own-fields form n row (sym (ap (ownRight form n) h) ∙ right)
+
+  writes-operand : OperandKind (n .kind) → nodeBytes n ++ writeRow os ≡ write (operandFrom n os)
+  unfolding childCount childrenRight nRight constantRight operandFrom operandBy write
+  writes-operand (a-const e row) =
+      let o = own-by constant row in
+      let b : nodeBytes n ≡ node 1 0 0 0 (n .constant) =
+      fields n 1 0 0 0 (n .constant) e (omega (arith, o .selector)) (eqb-true _ _ (o .children)) (eqb-true _ _ (o .number)) refl in
+      simp (row, b, write-none os (count-by _ row)) (append-nil _)
+  writes-operand (a-ref e row) =
+      let o = own-by reference row in
+      let b = number-node n 2 e (o .selector) (o .children) (o .constant) in
+      simp (row, b, write-none os (count-by _ row)) (append-nil _)
+  writes-operand (a-price e row) =
+      let o = own-by price row in
+      let b : nodeBytes n ≡ node 3 (n .selector) 0 0 0 =
+      fields n 3 (n .selector) 0 0 0 e refl (eqb-true _ _ (o .children)) (eqb-true _ _ (o .number)) (eqb-true _ _ (o .constant)) in
+      simp (row, b, write-none os (count-by _ row)) (append-nil _)
+  writes-operand (a-prev e row) =
+      let o = own-by previous row in
+      let b = number-node n 4 e (o .selector) (o .children) (o .constant) in
+      simp (row, b, write-one os (count-by _ row))
+  writes-operand (an-arith row) =
+      let o = own-by arithmetic row in
+      let b = plain-node n (n .kind) refl (o .selector) (o .children) (o .number) (o .constant) in
+      simp (row, b, write-two os (count-by _ row), append-assoc)
+  writes-operand (an-extreme row) =
+      let o = own-by extremum row in
+      let b = number-node n (n .kind) refl (o .selector) (o .children) (o .constant) in
+      let leaf : write (child os 0) ≡ writeSeries (asSeries (child os 0)) = ap write (series row) ∙ leaf-written (asSeries (child os 0)) in
+      simp (row, b, write-one os (count-by _ row), leaf)
+
+-- ---- a condition's node, over what is below it
+
+zero-or-one : (x : ℕ) → x < 2 → cond (eqb x 1) 1 0 ≡ x
+zero-or-one zero h = refl
+zero-or-one (suc zero) h = refl
+zero-or-one (suc (suc x)) h = absurd (never h)
+  where
+    never : suc (suc x) < 2 → ⊥
+    never h′ = omega arith
+
+module _ (form : Form) (n : Node) (below : Forest) (bytes : List ℕ) (right : ownRight form n (kindOf (n .kind)) ≡ true)
+    (under : sorts below ≡ replicate (childCount n (kindOf (n .kind))) (kindOf (n .kind) .below))
+    (of-operands : (m : ℕ) → sorts below ≡ replicate m 1 → bytes ≡ writeRow (operands below))
+    (of-conditions : (m : ℕ) → sorts below ≡ replicate m 2 → bytes ≡ writeAll (conditions below)) where
+  under-by : (row : Kind) → kindOf (n .kind) ≡ row → sorts below ≡ replicate (childCount n row) (row .below)
+  under-by row h = under ∙ ap (λ (r : Kind). replicate (childCount n r) (r .below)) h
+
+  own-by′ : (row : Kind) → kindOf (n .kind) ≡ row → Own form n row
+  own-by′ row h = own-fields form n row (sym (ap (ownRight form n) h) ∙ right)
+
+  some-operands : (m : ℕ) → sorts below ≡ replicate m 1 → length (operands below) ≡ m
+  some-operands m h = as-many below ∙ ap length h ∙ length-replicate m 1
+
+  some-conditions : (m : ℕ) → sorts below ≡ replicate m 2 → manyOf (conditions below) ≡ m
+  some-conditions m h = many-conditions below ∙ ap length h ∙ length-replicate m 2
+
+  -- the k operands below, in bytes
+  row-below : (m : ℕ) (row : Kind) → kindOf (n .kind) ≡ row → replicate (childCount n row) (row .below) ≡ replicate m 1
+      → (bytes ≡ writeRow (operands below)) × (length (operands below) ≡ m)
+  row-below m row h same =
+      let here : sorts below ≡ replicate m 1 = under-by row h ∙ same in
+      (of-operands m here, some-operands m here)
+
+  -- All and Any: the children are as many as the node says
+  group-bytes : (kind : ℕ) → n .kind ≡ kind → n .selector < 1 → eqb (n .n) 0 ≡ true → eqb (n .constant) 0 ≡ true → sorts below ≡ replicate (n .children) 2
+      → (nodeBytes n ≡ node kind 0 (manyOf (conditions below)) 0 0) × (bytes ≡ writeAll (conditions below))
+  group-bytes kind e s m x all = (
+    fields n kind 0 (manyOf (conditions below)) 0 0 e (omega arith) (sym (some-conditions (n .children) all)) (eqb-true _ _ m) (eqb-true _ _ x),
+    of-conditions (n .children) all,
+  )
+
+  writes-condition : ConditionKind (n .kind) → nodeBytes n ++ bytes ≡ writeOf (conditionFrom n (operands below) (conditions below))
+  unfolding childCount childrenRight nRight constantRight conditionFrom conditionBy writeOf
+  writes-condition (a-compare row) =
+      let o = own-by′ comparison row in
+      let b = plain-node n (n .kind) refl (o .selector) (o .children) (o .number) (o .constant) in
+      let r = row-below 2 _ row refl in
+      simp (row, b, r .0, write-two (operands below) (r .1), append-assoc)
+  writes-condition (a-cross row) =
+      let o = own-by′ crossing row in
+      let b = plain-node n (n .kind) refl (o .selector) (o .children) (o .number) (o .constant) in
+      let r = row-below 2 _ row refl in
+      simp (row, b, r .0, write-two (operands below) (r .1), append-assoc)
+  writes-condition (a-between e row) =
+      let o = own-by′ between row in
+      let b = plain-node n 24 e (o .selector) (o .children) (o .number) (o .constant) in
+      let r = row-below 3 _ row refl in
+      simp (row, b, r .0, write-three (operands below) (r .1), append-assoc)
+  writes-condition (a-trend row) =
+      let o = own-by′ trend row in
+      let b = number-node n (n .kind) refl (o .selector) (o .children) (o .constant) in
+      let r = row-below 1 _ row refl in
+      simp (row, b, r .0, write-one (operands below) (r .1))
+  writes-condition (an-all e row) =
+      let o = own-by′ allOf row in
+      let g = group-bytes 27 e (o .selector) (o .number) (o .constant) (under-by _ row) in
+      simp (row, g .0, g .1)
+  writes-condition (an-any e row) =
+      let o = own-by′ anyOf row in
+      let g = group-bytes 28 e (o .selector) (o .number) (o .constant) (under-by _ row) in
+      simp (row, g .0, g .1)
+  writes-condition (a-not e row) =
+      let o = own-by′ negation row in
+      let b = plain-node n 29 e (o .selector) (o .children) (o .number) (o .constant) in
+      let one : sorts below ≡ replicate 1 2 = under-by _ row in
+      simp (row, b, of-conditions 1 one, all-one (conditions below) (some-conditions 1 one))
+  writes-condition (a-position e row) =
+      let o = own-by′ position row in
+      let b : nodeBytes n ≡ node 30 (cond (eqb (n .selector) 1) 1 0) 0 0 0 =
+      fields n 30 (cond (eqb (n .selector) 1) 1 0) 0 0 0 e (sym (zero-or-one (n .selector) (o .selector)))
+      (eqb-true _ _ (o .children)) (eqb-true _ _ (o .number)) (eqb-true _ _ (o .constant)) in
+      let r = row-below 0 _ row refl in
+      simp (row, b, r .0, write-none (operands below) (r .1)) (append-nil _)
+  writes-condition (a-count e row) =
+      let o = own-by′ barsSince row in
+      let b : nodeBytes n ≡ node 31 (n .selector) 0 (n .n) 0 =
+      fields n 31 (n .selector) 0 (n .n) 0 e refl (eqb-true _ _ (o .children)) refl (eqb-true _ _ (o .constant)) in
+      let r = row-below 0 _ row refl in
+      simp (row, b, r .0, write-none (operands below) (r .1)) (append-nil _)
+
+-- ---- forests
+
+-- each node's own bytes are right
+unfoldable pub Right : Form → Forest → Type 0
+Right form Forest.none = Unit
+Right form (Forest.tree n below rest) = (ownRight form n (kindOf (n .kind)) ≡ true) × Right form below × Right form rest
+
+bytes-two : (a b : List Node) → nodesBytes (a ++ b) ≡ nodesBytes a ++ nodesBytes b
+unfolding nodesBytes
+bytes-two [] b = refl
+bytes-two (n ∷ a) b = rw (bytes-two a b) (sym (append-assoc (nodeBytes n) (nodesBytes a) (nodesBytes b)))
+
+pub tree-bytes : (n : Node) (below rest : Forest)
+    → nodesBytes (flat (Forest.tree n below rest)) ≡ (nodeBytes n ++ nodesBytes (flat below)) ++ nodesBytes (flat rest)
+unfolding flat nodesBytes
+tree-bytes n below rest = rw (bytes-two (flat below) (flat rest)) (sym (append-assoc (nodeBytes n) (nodesBytes (flat below)) (nodesBytes (flat rest))))
+
+no-bytes : nodesBytes (flat Forest.none) ≡ []
+unfolding flat nodesBytes
+no-bytes = refl
+
+pub written-row : (form : Form) (f : Forest) (m : ℕ) → Right form f → Sorted f → sorts f ≡ replicate m 1 → nodesBytes (flat f) ≡ writeRow (operands f)
+unfolding Right Sorted sorts operands writeRow
+written-row form Forest.none m r h s = no-bytes
+written-row form (Forest.tree n below rest) zero r h s = absurd never
+  where
+    never : ⊥
+    never = let z : _≡_ {A = ℕ} 0 1 = cc in omega arith
+written-row form (Forest.tree n below rest) (suc m) r h s =
+    let sort : kindOf (n .kind) .sort ≡ 1 = cc in
+    let others : sorts rest ≡ replicate m 1 = cc in
+    let kind = operand-kind (n .kind) sort in
+    let under : sorts below ≡ replicate (childCount n (kindOf (n .kind))) 1 = h .0 ∙ below-operand n kind in
+    let many : length (operands below) ≡ childCount n (kindOf (n .kind)) = as-many below ∙ ap length under ∙ length-replicate _ _ in
+    let a : nodesBytes (flat below) ≡ writeRow (operands below) = written-row form below (childCount n (kindOf (n .kind))) (r .1) (h .1) under in
+    let b : nodesBytes (flat rest) ≡ writeRow (operands rest) = written-row form rest m (r .2) (h .2) others in
+    let here = writes-operand form n (operands below) (r .0) many (series-child n below (h .0) (h .3)) kind in
+    tree-bytes n below rest ∙ rw (a, b) (ap (λ (l : List ℕ). l ++ writeRow (operands rest)) here)
+
+pub written-all : (form : Form) (f : Forest) (m : ℕ) → Right form f → Sorted f → sorts f ≡ replicate m 2 → nodesBytes (flat f) ≡ writeAll (conditions f)
+unfolding Right Sorted sorts conditions writeAll
+written-all form Forest.none m r h s = no-bytes
+written-all form (Forest.tree n below rest) zero r h s = absurd never
+  where
+    never : ⊥
+    never = let z : _≡_ {A = ℕ} 0 1 = cc in omega arith
+written-all form (Forest.tree n below rest) (suc m) r h s =
+    let sort : kindOf (n .kind) .sort ≡ 2 = cc in
+    let others : sorts rest ≡ replicate m 2 = cc in
+    let b : nodesBytes (flat rest) ≡ writeAll (conditions rest) = written-all form rest m (r .2) (h .2) others in
+    let a : nodeBytes n ++ nodesBytes (flat below) ≡ writeOf (conditionFrom n (operands below) (conditions below)) =
+    writes-condition form n below (nodesBytes (flat below)) (r .0) (h .0) (λ j g. written-row form below j (r .1) (h .1) g)
+    (λ j g. written-all form below j (r .1) (h .1) g) (condition-kind (n .kind) sort) in
+    tree-bytes n below rest ∙ rw (a, b)

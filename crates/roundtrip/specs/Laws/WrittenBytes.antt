@@ -1,0 +1,122 @@
+-- The table of a rule within the limits is a byte string: each of its numbers is below 256.
+-- Assumes nothing.
+use mathlib.Core.List.{List, [], _∷_, _++_}
+use Prim.Native.Nat.{ℕ, zero, suc, _/_, _%_, _≤_, _<_}
+use native.Mathlib.Omega.{arith}
+use lib.ListN.{getD}
+use Rattle.words.specs.Limits.{mostSlots, mostNodes}
+use Rattle.table.specs.declared.header.Form.{Form}
+use Rattle.table.specs.declared.nodes.Node.{Node}
+use Rattle.table.specs.Forest.{Forest, flat}
+use Rattle.table.specs.Forest as Forest
+use Rattle.table.specs.Trees.{Condition}
+use Rattle.table.specs.Writing.{le16, le32, le64, node, nodeBytes, nodesBytes, writeOf, nodesOf, Short, absent, given, Rule}
+use Rattle.table.specs.Writing.{nodesOfShort, writeShort, nodesOfRule, headerOf, tableOf}
+use Rattle.table.specs.Limits.{WithinOf, ShortWithin, RuleWithin}
+use Rattle.table.specs.Bytes.{Bytes}
+use Rattle.roundtrip.specs.Laws.WrittenForestKept.{Fits, FieldsFit, fieldsOf}
+use Rattle.roundtrip.specs.Laws.WrittenForest.{plantOf}
+use Rattle.roundtrip.specs.Laws.WrittenGrows.{planted-bytes}
+use Rattle.roundtrip.specs.Laws.Writing.{tree-bytes}
+
+unfoldable Small : List ℕ → Type 0
+Small [] = Unit
+Small (b ∷ bs) = (b < 256) × Small bs
+
+bytes-of : (l : List ℕ) (i : ℕ) → Small l → getD l i 0 < 256
+unfolding Small
+bytes-of [] i s = omega arith
+bytes-of (b ∷ bs) zero s = s .0
+bytes-of (b ∷ bs) (suc i) s = bytes-of bs i (s .1)
+
+small-two : (a b : List ℕ) → Small a → Small b → Small (a ++ b)
+unfolding Small
+small-two [] b sa sb = sb
+small-two (x ∷ a) b sa sb = (sa .0, small-two a b (sa .1) sb)
+
+small16 : (x : ℕ) → x < 65536 → Small (le16 x)
+unfolding Small le16
+small16 x h = (omega arith, (omega arith, tt))
+
+small32 : (x : ℕ) → x < 4294967296 → Small (le32 x)
+unfolding le32
+small32 x h = small-two (le16 (x % 65536)) (le16 (x / 65536)) (small16 (x % 65536) (omega arith)) (small16 (x / 65536) (omega arith))
+
+small64 : (x : ℕ) → x < 18446744073709551616 → Small (le64 x)
+unfolding le64
+small64 x h = small-two (le32 (x % 4294967296)) (le32 (x / 4294967296)) (small32 (x % 4294967296) (omega arith)) (small32 (x / 4294967296) (omega arith))
+
+small-node : (k s c n x : ℕ) → k < 256 → s < 256 → c < 65536 → n < 4294967296 → x < 18446744073709551616 → Small (node k s c n x)
+unfolding node Small
+small-node k s c n x hk hs hc hn hx =
+    (hk, (hs, small-two (le16 c ++ le32 n) (le64 x) (small-two (le16 c) (le32 n) (small16 c hc) (small32 n hn)) (small64 x hx)))
+
+small-bytes : (n : Node) → Fits n → Small (nodeBytes n)
+unfolding nodeBytes
+small-bytes n f = small-node (n .kind) (n .selector) (n .children) (n .n) (n .constant) (f .kind) (f .selector) (f .children) (f .n) (f .constant)
+
+small-none : Small []
+unfolding Small
+small-none = tt
+
+-- nodes whose fields fit, and so a tree within the limits
+small-forest : (f : Forest) → FieldsFit f → Small (nodesBytes (flat f))
+unfolding FieldsFit nodesBytes flat
+small-forest Forest.none fit = small-none
+small-forest (Forest.tree n below rest) fit =
+    rw tree-bytes (small-two _ _ (small-two _ _ (small-bytes n (fit .0)) (small-forest below (fit .1))) (small-forest rest (fit .2)))
+
+module _ (form : Form) (few : form .slots ≤ mostSlots) where
+  small-condition : (c : Condition) → WithinOf form c → nodesOf c ≤ mostNodes → Small (writeOf c)
+  unfolding FieldsFit
+  small-condition c w h = rw (← planted-bytes form c 0 w) (small-forest (plantOf 0 c Forest.none) (fieldsOf form few c 0 Forest.none w h tt))
+
+  small-short : (s : Short) → ShortWithin form s → nodesOfShort s ≤ mostNodes → Small (writeShort s)
+  unfolding ShortWithin writeShort nodesOfShort
+  small-short absent w h = small-none
+  small-short (given c) w h = small-condition c (w .fields) h
+
+small-six : (a b c d e f : List ℕ) → Small a → Small b → Small c → Small d → Small e → Small f → Small (a ++ b ++ c ++ d ++ e ++ f)
+small-six a b c d e f sa sb sc sd se sf =
+    small-two (a ++ b ++ c ++ d ++ e) f (small-two (a ++ b ++ c ++ d) e (small-two (a ++ b ++ c) d (small-two (a ++ b) c (small-two a b sa sb) sc) sd) se) sf
+
+small-header : (form : Form) (r : Rule) → RuleWithin form r → Small (headerOf form r)
+unfolding headerOf nodesOfRule Small
+small-header form r w =
+    let few = w .few-slots in
+    let version = w .known-version in
+    let total = w .few-nodes in (
+      omega arith,
+      (
+        omega arith,
+        (
+          omega arith,
+          (
+            omega arith,
+            small-six
+                (le16 (form .version)) (le16 (nodesOfRule r)) (le16 (nodesOf (r .entry))) (le16 (nodesOf (r .exit))) (le16 (nodesOfShort (r .shortEntry)))
+                (le16 (nodesOfShort (r .shortExit)))
+                (small16 (form .version) (omega arith))
+                (small16 (nodesOfRule r) (omega arith))
+                (small16 (nodesOf (r .entry)) (omega arith))
+                (small16 (nodesOf (r .exit)) (omega arith))
+                (small16 (nodesOfShort (r .shortEntry)) (omega arith))
+                (small16 (nodesOfShort (r .shortExit)) (omega arith)),
+          ),
+        ),
+      ),
+    )
+
+pub written-bytes : (form : Form) (r : Rule) → RuleWithin form r → Bytes (tableOf form r)
+unfolding Bytes tableOf nodesOfRule
+written-bytes form r w i =
+    let few = w .few-slots in
+    let total = w .few-nodes in
+    bytes-of _ i
+    (small-two _ (writeShort (r .shortExit))
+    (small-two _ (writeShort (r .shortEntry))
+    (small-two _ (writeOf (r .exit))
+    (small-two (headerOf form r) (writeOf (r .entry)) (small-header form r w) (small-condition form few (r .entry) (w .entry .fields) (omega arith)))
+    (small-condition form few (r .exit) (w .exit .fields) (omega arith)))
+    (small-short form few (r .shortEntry) (w .shortEntry) (omega arith)))
+    (small-short form few (r .shortExit) (w .shortExit) (omega arith)))
