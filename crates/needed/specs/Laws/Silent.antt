@@ -62,7 +62,11 @@ module _ (d : ℕ) (form : Form) where
       let sort : kindOf (n .kind) .sort ≡ 1 = cc in
       let others : sorts rest ≡ replicate m 1 = cc in
       let under = kept .0 ∙ below-operand n (operand-kind (n .kind) sort) in
-      rw (lt-leb 16 (n .kind) (operand-low (n .kind) sort), operands-none below (childCount n (kindOf (n .kind))) (kept .1) under, operands-none rest m (kept .2) others)
+      rw (
+        lt-leb 16 (n .kind) (operand-low (n .kind) sort),
+        operands-none below (childCount n (kindOf (n .kind))) (kept .1) under,
+        operands-none rest m (kept .2) others,
+      )
 
   -- a test is found where it is silent
   test-found : (c : Condition) (n : Node) (back : ℕ) → isTest c ≡ true → 16 ≤ n .kind → n .kind < 27 → back ≡ reachOf c → reachOf c ≤ mostReach
