@@ -1,68 +1,72 @@
 -- The tests that the code finds silent are those of the trees; and a table has none over as many rows as it needs. Assumes nothing.
-use Prim.Native.Nat.{ℕ, suc, _+_, _-_, _*_, _≤_, _<_, min}
+use Prim.Native.Nat.{ℕ, suc, _+_, _-_, _*_, _≤_, _<_, min, zero}
 use mathlib.Core.Path.{_≡_, refl, sym, ap, _∙_}
 use mathlib.Core.Bool.{Bool, true, false, cond}
 use mathlib.Core.List.{List, [], _∷_, _++_, append-assoc, append-nil}
 use mathlib.Core.Logic.{⊎-elim}
 use native.Mathlib.Omega.{arith}
 use native.Mathlib.Nat.{eq-zero-or-pos}
-use lib.Dec.{leb}
-use lib.ListN.{length, getD, drop}
+use lib.Dec.{leb, ltb, eqb}
+use lib.ListN.{length, getD, drop, replicate}
 use lib.Seq.{drop-at}
-use borrow.Author.Tests.{lt-ltb, le-leb, lt-leb, leb-false}
+use borrow.Author.Tests.{lt-ltb, le-leb, lt-leb, leb-false, ltb-true}
 use Rattle.words.specs.Limits.{mostRows, mostReach}
 use Rattle.table.specs.declared.nodes.Node.{Node}
 use Rattle.table.specs.declared.header.Form.{Form}
-use Rattle.table.specs.declared.series.Series.{Series}
-use Rattle.table.specs.declared.series.Series.the-variants.{Price, Slot}
 use Rattle.table.specs.declared.answer.Answer.the-variants.{Accepted}
 use Rattle.table.specs.Header.{count, root}
 use Rattle.table.specs.Header as Header
-use Rattle.table.specs.Forest.{Forest, trees, forestOf}
+use Rattle.table.specs.Forest.{Forest, trees, forestOf, sorts, Sorted}
 use Rattle.table.specs.Forest as Forest
 use Rattle.table.specs.Reach.{ownBack, weigh}
 use Rattle.table.specs.Checked.{checked}
 use Rattle.table.specs.Ends.{from}
-use Rattle.table.specs.Trees.{Operand, const, ref, price, prev, arith as sums, extreme, reachOf, reachOfAll}
+use Rattle.table.specs.Trees.{reachOf, reachOfAll}
 use Rattle.table.specs.Trees.{Condition, Conditions, compare, cross, between, trend, every, any, negated, inPosition, barsSince, none, more}
 use Rattle.table.specs.Reading.{firstOf, conditions, treeOf}
-use Rattle.table.specs.Writing.{writeOf, nodesIn, nodesOf}
-use Rattle.table.specs.Limits.{Within, WithinOf, WithinAll}
+use Rattle.table.specs.Writing.{writeOf, nodesOf}
+use Rattle.table.specs.Limits.{WithinOf, WithinAll}
 use Rattle.table.specs.Laws.Ends.{from-long, from-two, from-all}
 use Rattle.roundtrip.specs.Laws.Reach.{rows-are}
 use Rattle.table.specs.Laws.Accepted.{header-of, tree-ends}
 use Rattle.table.specs.Bytes.{Bytes}
 use Rattle.roundtrip.specs.Laws.AcceptedWritten.{byte, nodes-back, tree-written, tree-nodes}
-use Rattle.table.specs.Laws.Kinds.{arith-numbers, extreme-numbers, compare-numbers, cross-numbers, trend-numbers}
-use Rattle.roundtrip.specs.Laws.WrittenForest.{plantSeries, plant, plantOf, plantAll}
+use Rattle.table.specs.Laws.Kinds.{compare-numbers, cross-numbers, trend-numbers, listed as rowByRow, of-rows, known, operand-kind}
+use Rattle.roundtrip.specs.Laws.WrittenForest.{plantOf, plantAll}
 use Rattle.roundtrip.specs.Laws.WrittenNodes.{From}
 use Rattle.roundtrip.specs.Laws.WrittenGrows.{growsOf}
 use Rattle.roundtrip.specs.Laws.WrittenTrees.{given-reach}
 use Rattle.roundtrip.specs.Laws.AcceptedWithin.{tree-within}
 use Rattle.table.specs.Silent.{isTest, silent, listed, silentIn, silentInAll, silentOf, silentTests, silentNode, silentNodes, fourSilent}
+use Rattle.table.specs.Kinds.{kinds, kindOf}
+use Rattle.table.specs.Nodes.{childCount}
+use Rattle.roundtrip.specs.Laws.Reading.{below-operand}
+use Rattle.roundtrip.specs.Laws.WrittenForestKept.{sortedOf}
 
 -- ---- the forest of a tree
 
+-- "16..21 Gt .. Ne": the kinds of operands are below those of conditions
+operand-low : (k : ℕ) → kindOf k .sort ≡ 1 → k < 16
+operand-low k sort =
+    let low : k < 32 = known k (kindOf k) refl (omega arith) in
+    let told = of-rows (λ i. cond (eqb (kindOf i .sort) 1) (ltb i 16) true) (λ i. true) (unfold rowByRow kindOf kinds in refl) k low in
+    ltb-true k 16 (rw sort at told)
+
 module _ (d : ℕ) (form : Form) where
   -- there is no test among operands
-  series-none : (s : Series) (i : ℕ) → silentNodes d (plantSeries i s) ≡ []
-  unfolding plantSeries silentNodes silentNode
-  series-none (Price x) i = refl
-  series-none (Slot x) i = refl
-
-  operands-none : (a : Operand) (i : ℕ) (rest : Forest) → Within form a → silentNodes d (plant i a rest) ≡ silentNodes d rest
-  unfolding plant silentNodes silentNode Within
-  operands-none (const x) i rest w = refl
-  operands-none (ref s) i rest w = refl
-  operands-none (price s) i rest w = refl
-  operands-none (prev a n) i rest w = rw (operands-none a (i + 1) Forest.none (w .1))
-  operands-none (sums kind a b) i rest w =
+  operands-none : (f : Forest) (m : ℕ) → Sorted f → sorts f ≡ replicate m 1 → silentNodes d f ≡ []
+  unfolding Sorted sorts silentNodes silentNode
+  operands-none Forest.none m kept row = refl
+  operands-none (Forest.tree n below rest) zero kept row = absurd (let z : _≡_ {A = ℕ} 0 1 = cc in omega arith)
+  operands-none (Forest.tree n below rest) (suc m) kept row =
+      let sort : kindOf (n .kind) .sort ≡ 1 = cc in
+      let others : sorts rest ≡ replicate m 1 = cc in
+      let under = kept .0 ∙ below-operand n (operand-kind (n .kind) sort) in
       rw (
-        lt-leb 16 kind (omega (arith, arith-numbers kind (w .0) .1)),
-        operands-none a (i + 1) (plant (i + 1 + nodesIn a) b Forest.none) (w .1),
-        operands-none b (i + 1 + nodesIn a) Forest.none (w .2),
+        lt-leb 16 (n .kind) (operand-low (n .kind) sort),
+        operands-none below (childCount n (kindOf (n .kind))) (kept .1) under,
+        operands-none rest m (kept .2) others,
       )
-  operands-none (extreme kind s n) i rest w = rw (lt-leb 16 kind (omega (arith, extreme-numbers kind (w .0) .1)), series-none s (i + 1))
 
   -- a test is found where it is silent
   test-found : (c : Condition) (n : Node) (back : ℕ) → isTest c ≡ true → 16 ≤ n .kind → n .kind < 27 → back ≡ reachOf c → reachOf c ≤ mostReach
@@ -72,41 +76,36 @@ module _ (d : ℕ) (form : Form) where
       let uncut : min (reachOf c) mostRows ≡ reachOf c = omega (arith, near) in
       rw (le-leb 16 (n .kind) lo, lt-ltb (n .kind) 27 hi, same, uncut, is)
 
-  -- a node of a test, over operands
-  test-tree : (c : Condition) (n : Node) (below rest : Forest) → isTest c ≡ true → 16 ≤ n .kind → n .kind < 27
-      → weigh ownBack (Forest.tree n below Forest.none) ≡ reachOf c → reachOf c ≤ mostReach → silentNodes d below ≡ []
+  -- a node of a test, over m operands
+  test-tree : (c : Condition) (n : Node) (below rest : Forest) (m : ℕ) → isTest c ≡ true → 16 ≤ n .kind → n .kind < 27
+      → weigh ownBack (Forest.tree n below Forest.none) ≡ reachOf c → reachOf c ≤ mostReach → Sorted (Forest.tree n below Forest.none)
+      → replicate (childCount n (kindOf (n .kind))) (kindOf (n .kind) .below) ≡ replicate m 1
       → silentNodes d (Forest.tree n below rest) ≡ listed d c (n .number) ++ silentNodes d rest
-  unfolding silentNodes weigh
-  test-tree c n below rest is lo hi heavy near empty =
-      rw (test-found c n (ownBack n + weigh ownBack below) is lo hi (omega (arith, heavy)) near, empty)
-
-  two-none : (a b : Operand) (i : ℕ) → Within form a → Within form b → silentNodes d (plant (i + 1) a (plant (i + 1 + nodesIn a) b Forest.none)) ≡ []
-  unfolding silentNodes
-  two-none a b i wa wb =
-      operands-none a (i + 1) (plant (i + 1 + nodesIn a) b Forest.none) wa ∙ operands-none b (i + 1 + nodesIn a) Forest.none wb
+  unfolding silentNodes weigh Sorted
+  test-tree c n below rest m is lo hi heavy near kept row =
+      rw (test-found c n (ownBack n + weigh ownBack below) is lo hi (omega (arith, heavy)) near, operands-none below m (kept .1) (kept .0 ∙ row))
 
   mutual
-    unfolding plantOf silentNodes silentNode silentIn isTest reachOf WithinOf
+    unfolding plantOf silentNodes silentNode silentIn isTest reachOf WithinOf Sorted childCount kindOf kinds
 
     -- a tree's nodes, and what follows them
     planted : (c : Condition) (i : ℕ) (rest : Forest) → WithinOf form c → reachOf c ≤ mostReach
         → silentNodes d (plantOf i c rest) ≡ silentIn d c i ++ silentNodes d rest
     planted (compare kind a b) i rest w near =
+        let c = compare kind a b in
         let n = compare-numbers kind (w .0) in
-        test-tree (compare kind a b) _ _ rest refl (n .0) (omega (arith, n .1)) (given-reach form (compare kind a b) i w) near (two-none a b i (w .1) (w .2))
+        test-tree c _ _ rest 2 refl (n .0) (omega (arith, n .1)) (given-reach form c i w) near (sortedOf form c i Forest.none w tt) (rw (w .0))
     planted (cross kind a b) i rest w near =
+        let c = cross kind a b in
         let n = cross-numbers kind (w .0) in
-        test-tree (cross kind a b) _ _ rest refl (omega (arith, n .0)) (omega (arith, n .1)) (given-reach form (cross kind a b) i w) near
-        (two-none a b i (w .1) (w .2))
+        test-tree c _ _ rest 2 refl (omega (arith, n .0)) (omega (arith, n .1)) (given-reach form c i w) near (sortedOf form c i Forest.none w tt) (rw (w .0))
     planted (between x a b) i rest w near =
-        test-tree (between x a b) _ _ rest refl (omega arith) (omega arith) (given-reach form (between x a b) i w) near
-        (operands-none x (i + 1) (plant (i + 1 + nodesIn x) a (plant (i + 1 + nodesIn x + nodesIn a) b Forest.none)) (w .0)
-        ∙ operands-none a (i + 1 + nodesIn x) (plant (i + 1 + nodesIn x + nodesIn a) b Forest.none) (w .1)
-        ∙ operands-none b (i + 1 + nodesIn x + nodesIn a) Forest.none (w .2))
-    planted (trend kind a n) i rest w near =
-        let m = trend-numbers kind (w .0) in
-        test-tree (trend kind a n) _ _ rest refl (omega (arith, m .0)) (omega (arith, m .1)) (given-reach form (trend kind a n) i w) near
-        (operands-none a (i + 1) Forest.none (w .2))
+        let c = between x a b in
+        test-tree c _ _ rest 3 refl (omega arith) (omega arith) (given-reach form c i w) near (sortedOf form c i Forest.none w tt) refl
+    planted (trend kind a k) i rest w near =
+        let c = trend kind a k in
+        let n = trend-numbers kind (w .0) in
+        test-tree c _ _ rest 1 refl (omega (arith, n .0)) (omega (arith, n .1)) (given-reach form c i w) near (sortedOf form c i Forest.none w tt) (rw (w .0))
     planted (every cs) i rest w near = rw (planted-all cs (i + 1) Forest.none w near, append-nil (silentInAll d cs (i + 1)))
     planted (any cs) i rest w near = rw (planted-all cs (i + 1) Forest.none w near, append-nil (silentInAll d cs (i + 1)))
     planted (negated c) i rest w near = rw (planted c (i + 1) Forest.none w near, append-nil (silentIn d c (i + 1)))

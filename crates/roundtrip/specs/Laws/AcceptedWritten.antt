@@ -30,7 +30,8 @@ use Rattle.table.specs.Laws.Forest.{flat-trees}
 use Rattle.roundtrip.specs.Laws.Reading.{many-conditions}
 use Rattle.roundtrip.specs.Laws.Writing.{Right, written-all}
 use Rattle.roundtrip.specs.Laws.OwnBytes.{all-one}
-use Rattle.roundtrip.specs.Laws.NodeBytes.{node-long, condition-long}
+use Rattle.roundtrip.specs.Laws.NodeBytes.{node-long}
+use Rattle.roundtrip.specs.Laws.WrittenForest.{condition-long}
 use Rattle.table.specs.Laws.Accepted.{header-of, node-of, tree-ends, tree-sorts}
 
 -- ---- each tree

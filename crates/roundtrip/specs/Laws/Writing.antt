@@ -3,7 +3,7 @@
 -- Assumes nothing.
 use mathlib.Core.Path.{_≡_, refl, sym, _∙_, ap}
 use mathlib.Core.Bool.{true, cond}
-use mathlib.Core.List.{List, [], _∷_, _++_, append-assoc, append-nil}
+use mathlib.Core.List.{List, _++_, append-assoc, append-nil}
 use Prim.Native.Nat.{ℕ, zero, suc, _+_, _<_}
 use native.Mathlib.Omega.{arith}
 use lib.ListN.{length, replicate, length-replicate}
@@ -25,6 +25,7 @@ use Rattle.table.specs.Laws.Kinds.{OperandKind, a-const, a-ref, a-price, a-prev
 use Rattle.roundtrip.specs.Laws.Series.{IsSeries, series-child, leaf-written}
 use Rattle.table.specs.Laws.Kinds.{ConditionKind, a-compare, a-cross, a-between, a-trend, an-all, an-any, a-not, a-position, a-count, condition-kind}
 use Rattle.roundtrip.specs.Laws.Reading.{as-many, many-conditions, below-operand}
+use Rattle.roundtrip.specs.Laws.NodeBytes.{tree-bytes, no-bytes}
 use Rattle.roundtrip.specs.Laws.OwnBytes.{write-none, write-one, write-two, write-three, all-one, Own, own-fields, fields, number-node, plain-node}
 
 -- ---- an operand's node, over the operands below it
@@ -163,20 +164,6 @@ module _ (form : Form) (n : Node) (below : Forest) (bytes : List ℕ) (right : o
 unfoldable pub Right : Form → Forest → Type 0
 Right form Forest.none = Unit
 Right form (Forest.tree n below rest) = (ownRight form n (kindOf (n .kind)) ≡ true) × Right form below × Right form rest
-
-bytes-two : (a b : List Node) → nodesBytes (a ++ b) ≡ nodesBytes a ++ nodesBytes b
-unfolding nodesBytes
-bytes-two [] b = refl
-bytes-two (n ∷ a) b = rw (bytes-two a b) (sym (append-assoc (nodeBytes n) (nodesBytes a) (nodesBytes b)))
-
-pub tree-bytes : (n : Node) (below rest : Forest)
-    → nodesBytes (flat (Forest.tree n below rest)) ≡ (nodeBytes n ++ nodesBytes (flat below)) ++ nodesBytes (flat rest)
-unfolding flat nodesBytes
-tree-bytes n below rest = rw (bytes-two (flat below) (flat rest)) (sym (append-assoc (nodeBytes n) (nodesBytes (flat below)) (nodesBytes (flat rest))))
-
-no-bytes : nodesBytes (flat Forest.none) ≡ []
-unfolding flat nodesBytes
-no-bytes = refl
 
 pub written-row : (form : Form) (f : Forest) (m : ℕ) → Right form f → Sorted f → sorts f ≡ replicate m 1 → nodesBytes (flat f) ≡ writeRow (operands f)
 unfolding Right Sorted sorts operands writeRow

@@ -27,7 +27,6 @@ use Rattle.table.specs.Reading.{conditions, firstOf, treeOf}
 use Rattle.table.specs.Writing.{le16, writeOf, nodesOf, Short, given, Rule, nodesOfShort, writeShort, nodesOfRule, headerOf, tableOf}
 use Rattle.table.specs.Writing.{ruleOf}
 use Rattle.table.specs.Limits.{ShortWithin, RuleWithin}
-use Rattle.roundtrip.specs.Laws.NodeBytes.{condition-long}
 use Rattle.table.specs.Laws.Accepted.{all-kept}
 use Rattle.roundtrip.specs.Laws.WrittenNodes.{pair, From, past}
 use Rattle.roundtrip.specs.Laws.AcceptedWritten.{short-long}
@@ -35,7 +34,7 @@ use Rattle.roundtrip.specs.Laws.WrittenForestRead.{readsOf}
 use Rattle.roundtrip.specs.Laws.WrittenTrees.{wrong-two, reachOfShort, plantShort, short-grows}
 use Rattle.roundtrip.specs.Laws.WrittenTrees.{Held, planted, held-deep, held-reach, held-near}
 use Rattle.roundtrip.specs.Laws.WrittenTrees.{held-fits, held-right, held-reads}
-use Rattle.roundtrip.specs.Laws.WrittenForest.{some-nodes}
+use Rattle.roundtrip.specs.Laws.WrittenForest.{some-nodes, condition-long}
 
 module _ (form : Form) (r : Rule) where
   abbrev t : List ℕ

@@ -15,9 +15,8 @@ use Rattle.table.specs.Writing.{nodesOfShort, writeShort, nodesOfRule, headerOf
 use Rattle.table.specs.Limits.{WithinOf, ShortWithin, RuleWithin}
 use Rattle.table.specs.Bytes.{Bytes}
 use Rattle.roundtrip.specs.Laws.WrittenForestKept.{Fits, FieldsFit, fieldsOf}
-use Rattle.roundtrip.specs.Laws.WrittenForest.{plantOf}
-use Rattle.roundtrip.specs.Laws.WrittenGrows.{planted-bytes}
-use Rattle.roundtrip.specs.Laws.Writing.{tree-bytes}
+use Rattle.roundtrip.specs.Laws.NodeBytes.{tree-bytes}
+use Rattle.roundtrip.specs.Laws.WrittenForest.{plantOf, condition-bytes}
 
 unfoldable Small : List ℕ → Type 0
 Small [] = Unit
@@ -69,7 +68,7 @@ small-forest (Forest.tree n below rest) fit =
 module _ (form : Form) (few : form .slots ≤ mostSlots) where
   small-condition : (c : Condition) → WithinOf form c → nodesOf c ≤ mostNodes → Small (writeOf c)
   unfolding FieldsFit
-  small-condition c w h = rw (← planted-bytes form c 0 w) (small-forest (plantOf 0 c Forest.none) (fieldsOf form few c 0 Forest.none w h tt))
+  small-condition c w h = rw (← condition-bytes c 0) (small-forest (plantOf 0 c Forest.none) (fieldsOf form few c 0 Forest.none w h tt))
 
   small-short : (s : Short) → ShortWithin form s → nodesOfShort s ≤ mostNodes → Small (writeShort s)
   unfolding ShortWithin writeShort nodesOfShort

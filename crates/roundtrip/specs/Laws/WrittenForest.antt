@@ -1,18 +1,21 @@
 -- The forest of a tree that is written in a table: its nodes with their numbers, over their children.
 -- Assumes nothing.
-use mathlib.Core.Path.{_≡_, refl}
+use mathlib.Core.Path.{_≡_, refl, sym, ap, _∙_}
 use mathlib.Core.Bool.{cond}
-use Prim.Native.Nat.{ℕ, _+_}
+use mathlib.Core.List.{List, _++_, append-assoc, append-nil}
+use Prim.Native.Nat.{ℕ, _+_, _*_}
 use native.Mathlib.Omega.{arith}
+use lib.ListN.{length}
 use Rattle.table.specs.declared.nodes.Node.{Node}
 use Rattle.table.specs.declared.series.Series.{Series}
 use Rattle.table.specs.declared.series.Series.the-variants.{Price, Slot}
 use Rattle.table.specs.Named as Named
-use Rattle.table.specs.Forest.{Forest, size}
+use Rattle.table.specs.Forest.{Forest, size, flat}
 use Rattle.table.specs.Forest as Forest
 use Rattle.table.specs.Trees.{Operand, const, ref, price, prev, arith as sums, extreme, Condition, Conditions, compare, cross, between, trend, every}
 use Rattle.table.specs.Trees.{any, negated, inPosition, barsSince, none, more}
-use Rattle.table.specs.Writing.{nodesIn, manyOf, nodesOf, nodesOfAll}
+use Rattle.table.specs.Writing.{nodeBytes, nodesBytes, writeSeries, write, nodesIn, manyOf, writeOf, writeAll, nodesOf, nodesOfAll}
+use Rattle.roundtrip.specs.Laws.NodeBytes.{tree-bytes, no-bytes, forest-long}
 
 abbrev pub nd : ℕ → ℕ → ℕ → ℕ → ℕ → ℕ → Node
 nd i kind selector children n constant = record { number = i; kind = kind; selector = selector; children = children; n = n; constant = constant }
@@ -47,80 +50,89 @@ unfoldable mutual
   plantAll i none rest = rest
   plantAll i (more c cs) rest = plantOf i c (plantAll (i + nodesOf c) cs rest)
 
--- ---- its nodes: how many they are, and that they are numbered one after the other
+-- ---- its nodes: how many they are, what bytes they have, and that they are numbered one after the other
 
 unfoldable pub Numbered : ℕ → Forest → Type 0
 Numbered i Forest.none = Unit
 Numbered i (Forest.tree n below rest) = (n .number ≡ i) × Numbered (i + 1) below × Numbered (i + (1 + size below)) rest
 
--- m nodes, the first of them number i, and then the others
-pub record Planted (i m : ℕ) (f rest : Forest) : Type 0 where
+-- m nodes, the first of them number i, whose bytes are l, and then the others
+pub record Planted (i m : ℕ) (l : List ℕ) (f rest : Forest) : Type 0 where
   pub many : size f ≡ m + size rest
+  pub bytes : nodesBytes (flat f) ≡ l ++ nodesBytes (flat rest)
   pub numbers : Numbered (i + m) rest → Numbered i f
 
 -- a node over none, over others, and nodes before others
-alone : (n : Node) (rest : Forest) → Planted (n .number) 1 (Forest.tree n Forest.none rest) rest
-unfolding size Numbered
-alone n rest = record { many = refl; numbers = λ r. (refl, tt, r) }
+alone : (n : Node) (rest : Forest) → Planted (n .number) 1 (nodeBytes n) (Forest.tree n Forest.none rest) rest
+unfolding size flat nodesBytes Numbered
+alone n rest = record { many = refl; bytes = refl; numbers = λ r. (refl, tt, r) }
 
-over : (n : Node) (m : ℕ) (below rest : Forest) → Planted (n .number + 1) m below Forest.none → Planted (n .number) (1 + m) (Forest.tree n below rest) rest
+over : (n : Node) (m : ℕ) (l : List ℕ) (below rest : Forest) → Planted (n .number + 1) m l below Forest.none
+    → Planted (n .number) (1 + m) (nodeBytes n ++ l) (Forest.tree n below rest) rest
 unfolding size Numbered
-over n m below rest p =
+over n m l below rest p =
     let many : size below ≡ m = omega (arith, p .many) in
-    record { many = omega arith; numbers = λ r. (refl, p .numbers tt, rw many r) }
+    let own : nodesBytes (flat below) ≡ l = p .bytes ∙ rw no-bytes (append-nil l) in
+    record { many = omega arith; bytes = tree-bytes n below rest ∙ rw own; numbers = λ r. (refl, p .numbers tt, rw many r) }
 
-next : {i m m′ : ℕ} {f g rest : Forest} → Planted i m f g → Planted (i + m) m′ g rest → Planted i (m + m′) f rest
-next {i} {m} {m′} p q =
+next : {i m m′ : ℕ} {l l′ : List ℕ} {f g rest : Forest} → Planted i m l f g → Planted (i + m) m′ l′ g rest → Planted i (m + m′) (l ++ l′) f rest
+next {i} {m} {m′} {l} {l′} {f} {g} {rest} p q =
     let place : i + (m + m′) ≡ i + m + m′ = omega arith in
-    record { many = omega (arith, p .many, q .many); numbers = λ r. p .numbers (q .numbers (rw place at r)) }
+    record {
+      many = omega (arith, p .many, q .many);
+      bytes = p .bytes ∙ rw (q .bytes) (sym (append-assoc l l′ (nodesBytes (flat rest))));
+      numbers = λ r. p .numbers (q .numbers (rw place at r));
+    }
 
-over-two : (n : Node) (m m′ : ℕ) (below rest : Forest) → Planted (n .number + 1) (m + m′) below Forest.none
-    → Planted (n .number) (1 + m + m′) (Forest.tree n below rest) rest
-over-two n m m′ below rest p =
+over-two : (n : Node) (m m′ : ℕ) (l l′ : List ℕ) (below rest : Forest) → Planted (n .number + 1) (m + m′) (l ++ l′) below Forest.none
+    → Planted (n .number) (1 + m + m′) (nodeBytes n ++ l ++ l′) (Forest.tree n below rest) rest
+over-two n m m′ l l′ below rest p =
     let all : 1 + (m + m′) ≡ 1 + m + m′ = omega arith in
-    rw all at (over n (m + m′) below rest p)
+    let own : nodeBytes n ++ (l ++ l′) ≡ nodeBytes n ++ l ++ l′ = simp append-assoc in
+    rw (all, own) at (over n (m + m′) (l ++ l′) below rest p)
 
-over-three : (n : Node) (m m′ m″ : ℕ) (below rest : Forest) → Planted (n .number + 1) (m + (m′ + m″)) below Forest.none
-    → Planted (n .number) (1 + m + m′ + m″) (Forest.tree n below rest) rest
-over-three n m m′ m″ below rest p =
+over-three : (n : Node) (m m′ m″ : ℕ) (l l′ l″ : List ℕ) (below rest : Forest) → Planted (n .number + 1) (m + (m′ + m″)) (l ++ (l′ ++ l″)) below Forest.none
+    → Planted (n .number) (1 + m + m′ + m″) (nodeBytes n ++ l ++ l′ ++ l″) (Forest.tree n below rest) rest
+over-three n m m′ m″ l l′ l″ below rest p =
     let all : 1 + (m + (m′ + m″)) ≡ 1 + m + m′ + m″ = omega arith in
-    rw all at (over n (m + (m′ + m″)) below rest p)
+    let own : nodeBytes n ++ (l ++ (l′ ++ l″)) ≡ nodeBytes n ++ l ++ l′ ++ l″ = simp append-assoc in
+    rw (all, own) at (over n (m + (m′ + m″)) (l ++ (l′ ++ l″)) below rest p)
 
-series-nodes : (s : Series) (i : ℕ) → Planted i 1 (plantSeries i s) Forest.none
-unfolding plantSeries
+series-nodes : (s : Series) (i : ℕ) → Planted i 1 (writeSeries s) (plantSeries i s) Forest.none
+unfolding plantSeries writeSeries nodeBytes
 series-nodes (Price s) i = alone _ Forest.none
 series-nodes (Slot s) i = alone _ Forest.none
 
-operand-nodes : (a : Operand) (i : ℕ) (rest : Forest) → Planted i (nodesIn a) (plant i a rest) rest
-unfolding plant nodesIn
+operand-nodes : (a : Operand) (i : ℕ) (rest : Forest) → Planted i (nodesIn a) (write a) (plant i a rest) rest
+unfolding plant nodesIn write nodeBytes
 operand-nodes (const x) i rest = alone _ rest
 operand-nodes (ref s) i rest = alone _ rest
 operand-nodes (price s) i rest = alone _ rest
-operand-nodes (prev a n) i rest = over _ _ _ rest (operand-nodes a (i + 1) Forest.none)
-operand-nodes (sums k a b) i rest = over-two _ _ _ _ rest (next (operand-nodes a (i + 1) _) (operand-nodes b (i + 1 + nodesIn a) Forest.none))
-operand-nodes (extreme k s n) i rest = over _ _ _ rest (series-nodes s (i + 1))
+operand-nodes (prev a n) i rest = over _ _ _ _ rest (operand-nodes a (i + 1) Forest.none)
+operand-nodes (sums k a b) i rest = over-two _ _ _ _ _ _ rest (next (operand-nodes a (i + 1) _) (operand-nodes b (i + 1 + nodesIn a) Forest.none))
+operand-nodes (extreme k s n) i rest = over _ _ _ _ rest (series-nodes s (i + 1))
 
-two-nodes : (a b : Operand) (i : ℕ) → Planted i (nodesIn a + nodesIn b) (plant i a (plant (i + nodesIn a) b Forest.none)) Forest.none
+two-nodes : (a b : Operand) (i : ℕ) → Planted i (nodesIn a + nodesIn b) (write a ++ write b) (plant i a (plant (i + nodesIn a) b Forest.none)) Forest.none
 two-nodes a b i = next (operand-nodes a i _) (operand-nodes b (i + nodesIn a) Forest.none)
 
 mutual
-  unfolding plantOf nodesOf
+  unfolding plantOf nodesOf writeOf nodeBytes
 
-  pub condition-nodes : (c : Condition) (i : ℕ) (rest : Forest) → Planted i (nodesOf c) (plantOf i c rest) rest
-  condition-nodes (compare k a b) i rest = over-two _ _ _ _ rest (two-nodes a b (i + 1))
-  condition-nodes (cross k a b) i rest = over-two _ _ _ _ rest (two-nodes a b (i + 1))
-  condition-nodes (between x a b) i rest = over-three _ _ _ _ _ rest (next (operand-nodes x (i + 1) _) (two-nodes a b (i + 1 + nodesIn x)))
-  condition-nodes (trend k a n) i rest = over _ _ _ rest (operand-nodes a (i + 1) Forest.none)
-  condition-nodes (every cs) i rest = over _ _ _ rest (conditions-nodes cs (i + 1) Forest.none)
-  condition-nodes (any cs) i rest = over _ _ _ rest (conditions-nodes cs (i + 1) Forest.none)
-  condition-nodes (negated c) i rest = over _ _ _ rest (condition-nodes c (i + 1) Forest.none)
+  pub condition-nodes : (c : Condition) (i : ℕ) (rest : Forest) → Planted i (nodesOf c) (writeOf c) (plantOf i c rest) rest
+  condition-nodes (compare k a b) i rest = over-two _ _ _ _ _ _ rest (two-nodes a b (i + 1))
+  condition-nodes (cross k a b) i rest = over-two _ _ _ _ _ _ rest (two-nodes a b (i + 1))
+  condition-nodes (between x a b) i rest = over-three _ _ _ _ _ _ _ _ rest (next (operand-nodes x (i + 1) _) (two-nodes a b (i + 1 + nodesIn x)))
+  condition-nodes (trend k a n) i rest = over _ _ _ _ rest (operand-nodes a (i + 1) Forest.none)
+  condition-nodes (every cs) i rest = over _ _ _ _ rest (conditions-nodes cs (i + 1) Forest.none)
+  condition-nodes (any cs) i rest = over _ _ _ _ rest (conditions-nodes cs (i + 1) Forest.none)
+  condition-nodes (negated c) i rest = over _ _ _ _ rest (condition-nodes c (i + 1) Forest.none)
   condition-nodes (inPosition w) i rest = alone _ rest
   condition-nodes (barsSince s k) i rest = alone _ rest
 
-  conditions-nodes : (cs : Conditions) (i : ℕ) (rest : Forest) → Planted i (nodesOfAll cs) (plantAll i cs rest) rest
+  conditions-nodes : (cs : Conditions) (i : ℕ) (rest : Forest) → Planted i (nodesOfAll cs) (writeAll cs) (plantAll i cs rest) rest
   conditions-nodes none i rest =
       let same : i + 0 ≡ i = omega arith in
-      record { many = omega arith; numbers = λ r. rw same at r }
+      record { many = omega arith; bytes = refl; numbers = λ r. rw same at r }
   conditions-nodes (more c cs) i rest = next (condition-nodes c i _) (conditions-nodes cs (i + nodesOf c) rest)
 
 -- a condition has a node of its own
@@ -135,3 +147,18 @@ some-nodes (any cs) h = omega arith
 some-nodes (negated c) h = omega arith
 some-nodes (inPosition w) h = omega arith
 some-nodes (barsSince s n) h = omega arith
+
+-- ---- so the bytes of a tree's forest are the tree's, sixteen a node
+
+pub condition-bytes : (c : Condition) (i : ℕ) → nodesBytes (flat (plantOf i c Forest.none)) ≡ writeOf c
+condition-bytes c i = condition-nodes c i Forest.none .bytes ∙ rw no-bytes (append-nil (writeOf c))
+
+pub condition-long : (c : Condition) → length (writeOf c) ≡ 16 * nodesOf c
+unfolding size
+condition-long c =
+    omega (
+      arith,
+      ap length (condition-bytes c 0),
+      forest-long (plantOf 0 c Forest.none),
+      condition-nodes c 0 Forest.none .many,
+    )

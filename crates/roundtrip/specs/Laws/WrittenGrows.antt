@@ -1,10 +1,10 @@
 -- The nodes of a tree that is written in a table grow the tree's forest.
 -- Assumes nothing.
 use mathlib.Core.Path.{_≡_, refl, sym, _∙_, ap}
-use mathlib.Core.List.{List, _++_, append-assoc, append-nil}
-use Prim.Native.Nat.{ℕ, suc, _+_, _*_}
+use mathlib.Core.List.{List, _++_, append-assoc}
+use Prim.Native.Nat.{ℕ, suc, _+_}
 use native.Mathlib.Omega.{arith}
-use lib.ListN.{length, replicate, length-append, length-replicate}
+use lib.ListN.{length, replicate, length-replicate}
 use Rattle.table.specs.declared.nodes.Node.{Node}
 use Rattle.table.specs.declared.header.Form.{Form}
 use Rattle.table.specs.Kinds.{kindOf}
@@ -12,14 +12,11 @@ use Rattle.table.specs.Nodes.{nodeAt, childCount, childCountAt}
 use Rattle.table.specs.Forest.{Forest, firstTrees, otherTrees, nodeOver, trees, size, flat, sorts, Sorted}
 use Rattle.table.specs.Forest as Forest
 use Rattle.table.specs.Trees.{Condition}
-use Rattle.table.specs.Reading.{conditions}
 use Rattle.table.specs.Limits.{WithinOf}
-use Rattle.table.specs.Writing.{nodeBytes, nodesBytes, writeOf, writeAll, nodesOf}
-use Rattle.roundtrip.specs.Laws.NodeBytes.{node-long}
-use Rattle.roundtrip.specs.Laws.Writing.{Right, tree-bytes, written-all}
-use Rattle.roundtrip.specs.Laws.WrittenForest.{nd, plantOf, Numbered, condition-nodes}
-use Rattle.roundtrip.specs.Laws.WrittenForestKept.{rightOf, plantOf-sorts, sortedOf}
-use Rattle.roundtrip.specs.Laws.WrittenForestRead.{readsOf}
+use Rattle.table.specs.Writing.{nodeBytes, nodesBytes, writeOf, nodesOf}
+use Rattle.roundtrip.specs.Laws.NodeBytes.{tree-bytes, forest-long}
+use Rattle.roundtrip.specs.Laws.WrittenForest.{nd, plantOf, Numbered, condition-nodes, condition-bytes}
+use Rattle.roundtrip.specs.Laws.WrittenForestKept.{sortedOf}
 use Rattle.roundtrip.specs.Laws.WrittenNodes.{From, node-there, nodes-after, past}
 
 -- ---- trees in a row, and others after them
@@ -50,21 +47,7 @@ over-below n k s below rest row =
     let many : k ≡ length (sorts below) = sym (ap length row ∙ length-replicate k s) in
     rw (many, then-first below rest, then-other below rest)
 
--- ---- bytes
-
-forest-long : (f : Forest) → length (nodesBytes (flat f)) ≡ 16 * size f
-unfolding nodesBytes flat size nodeBytes
-forest-long Forest.none = refl
-forest-long (Forest.tree n below rest) =
-    omega (
-      arith,
-      ap length (tree-bytes n below rest),
-      length-append (nodeBytes n ++ nodesBytes (flat below)) (nodesBytes (flat rest)),
-      length-append (nodeBytes n) (nodesBytes (flat below)),
-      node-long (n .kind) (n .selector) (n .children) (n .n) (n .constant),
-      forest-long below,
-      forest-long rest,
-    )
+-- ---- where their bytes stand
 
 regroup : (a b c l : List ℕ) → a ++ b ++ c ++ l ≡ a ++ (b ++ (c ++ l))
 regroup a b c l = simp append-assoc
@@ -109,14 +92,6 @@ module _ (t : List ℕ) where
       ∙ over-below n k _ below _ (kept .0)
       ∙ ap (λ (j : ℕ). Forest.tree n below (andThen rest (trees t m j))) place
 
--- the bytes of a tree's forest are the tree's
-pub planted-bytes : (form : Form) (c : Condition) (i : ℕ) → WithinOf form c → nodesBytes (flat (plantOf i c Forest.none)) ≡ writeOf c
-unfolding Right Sorted sorts writeAll conditions
-planted-bytes form c i w =
-    written-all form (plantOf i c Forest.none) 1 (rightOf form c i Forest.none w tt) (sortedOf form c i Forest.none w tt) (plantOf-sorts i c Forest.none form w)
-    ∙ ap writeAll (readsOf form c i Forest.none w)
-    ∙ append-nil (writeOf c)
-
 pub growsOf : (t : List ℕ) (form : Form) (c : Condition) (i : ℕ) (l : List ℕ) → WithinOf form c → From t i (writeOf c ++ l)
     → trees t (nodesOf c) i ≡ plantOf i c Forest.none
 unfolding Numbered Sorted size trees
@@ -125,5 +100,5 @@ growsOf t form c i l w h =
     let p = condition-nodes c i Forest.none in
     let many : nodesOf c ≡ size f + 0 = omega (arith, p .many) in
     ap (λ (m : ℕ). trees t m i) many
-    ∙ grows t f i 0 l (p .numbers tt) (sortedOf form c i Forest.none w tt) (h ∙ ap (λ (bs : List ℕ). bs ++ l) (sym (planted-bytes form c i w)))
+    ∙ grows t f i 0 l (p .numbers tt) (sortedOf form c i Forest.none w tt) (h ∙ ap (λ (bs : List ℕ). bs ++ l) (sym (condition-bytes c i)))
     ∙ then-none f
