@@ -66,23 +66,23 @@ fn behind(before: usize, last: Condition) -> Condition {
     Condition::All((0..before).map(|_| always()).chain([last]).collect())
 }
 
-/// Entries that nest as deep as they may, or are as wide as they may be, or both at once.
+/// All in All, so many levels of them over the bottom, with `leaves` conditions that are nothing but yes before the next ones.
+fn staircase(levels: usize, leaves: usize, bottom: Condition) -> Condition {
+    let each = leaves / levels;
+    let stairs = (1..levels).fold(bottom, |inner, _| behind(each, inner));
+    behind(leaves - each * (levels - 1), stairs)
+}
+
+/// Entries that nest as deep as they may, or are as wide as they may be, or both at once; a node is left for an exit.
 fn greatest_trees() -> Vec<Condition> {
     let bottom = || test(17, close(), number(0.0));
-    let down = || test(17, prev(close(), 1), number(0.0));
-    let levels = MOST_NESTING - 2;
-    // an exit takes one node, and the bottom three
-    let leaves = MOST_NODES - 1 - 3;
-    let staircase = |each: usize, first: usize| {
-        let stairs = (1..levels).fold(bottom(), |inner, _| behind(each, inner));
-        behind(first, stairs)
-    };
-    let each = (leaves - levels) / levels;
+    let turned = |levels: usize, inner: Condition| (0..levels).fold(inner, |inner, _| negated(inner));
     vec![
-        behind(leaves - 1, bottom()),
-        (0..levels).fold(bottom(), |inner, _| negated(inner)),
-        (1..levels).fold(down(), |inner, _| negated(inner)),
-        staircase(each, leaves - levels - each * (levels - 1)),
+        staircase(1, MOST_NODES - 5, bottom()),
+        staircase(MOST_NESTING - 2, MOST_NODES - 4 - (MOST_NESTING - 2), bottom()),
+        staircase(MOST_NESTING - 1, MOST_NODES - 2 - (MOST_NESTING - 1), always()),
+        turned(MOST_NESTING - 2, bottom()),
+        turned(MOST_NESTING - 3, test(17, prev(close(), 2), number(0.0))),
     ]
 }
 

@@ -38,8 +38,8 @@ impl Step {
         }
     }
 
-    /// Known kinds: 1 to 3 values, 5 to 8 arithmetic, 9 to 12 Highest and Lowest over a price and over a slot, 16 to 24 tests, 27 to 29 the answer set to yes, to no, turned, 30 and 31 the
-    /// position, 32 and 33 jumps at a no and at a yes. `after` steps stand after this one.
+    /// Known kinds: 1 to 3 values, 5 to 8 arithmetic, 9 to 12 Highest and Lowest over a price and over a slot, 16 to 24 tests, 27 to 29 the
+    /// answer set to yes, to no, turned, 30 and 31 the position, 32 and 33 jumps at a no and at a yes. `after` steps stand after this one.
     fn is_right(&self, after: usize, slots: u64, depth: u64) -> bool {
         let extreme = self.is_extreme();
         let looks_back = extreme || matches!(self.kind, 1..=3);
