@@ -4,6 +4,8 @@ pub mod Packed
 pub mod InOrder
 pub mod Image
 pub mod Fine
+pub mod Passing
+pub mod Plain
 pub mod RowsPass
 pub mod EntryBelow
 pub mod Says
