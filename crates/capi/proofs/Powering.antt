@@ -1,8 +1,10 @@
 -- A C call for a loss of power is the dump, or the restore, of what its words mean.
 use Prim.Native.Nat.{ℕ}
 use mathlib.Core.Path.{_≡_, refl, sym, _∙_}
+use mathlib.Core.Bool.{Bool, true, false}
 use mathlib.Core.List.{List}
 use native.Mathlib.Omega.{arith}
+use borrow.Author.Tests.{le-leb}
 use Rattle.words.specs.declared.refusal.Refusal.{Refusal}
 use Rattle.words.specs.Words.{overwrite}
 use Rattle.records.specs.declared.settings.Settings.{Settings}
@@ -12,20 +14,44 @@ use Rattle.records.specs.StateWords.{stateOf, wordsOf}
 use Rattle.refusals.specs.declared.verdict.Verdict.{Verdict}
 use Rattle.refusals.specs.declared.verdict.Verdict.the-variants.{Fine, Bad}
 use Rattle.refusals.specs.Lines.{judged}
+use Rattle.refusals.specs.Rooms.{roomLines}
+use Rattle.refusals.specs.Laws.Lines.{below-fine, both-fine}
+use Rattle.refusals.specs.Laws.Descent.{no-line, fine-line}
 use Rattle.dump.specs.declared.reader.Restored.{Restored}
 use Rattle.dump.specs.declared.reader.Restored.the-variants.{Refused, Done}
 use Rattle.dump.specs.Layout.{imageOf}
 use Rattle.dump.specs.Order.{written}
 use Rattle.dump.specs.Reading.{windowIn}
-use Rattle.dump.specs.Refused.{dumpJudged, restoreJudged}
+use Rattle.dump.specs.Refused.{dumpLines, dumpJudged, restoreJudged}
 use Rattle.dump.specs.Dumping.{leftBy, Dumped}
 use Rattle.dump.specs.Restoring.{restoredBy, Restores}
-use Rattle.capi.specs.Call.{answerWord}
+use Rattle.dump.specs.Laws.Passing.{WordsDumped, WordsFine, words-fine}
+use Rattle.capi.specs.Call.{Call, answerWord, wordLines}
 use Rattle.capi.specs.Bars.{lentLines}
 use Rattle.capi.specs.Power.{dumpGives, dumpCall, restoreGives, restoreCall}
 use Rattle.capi.proofs.Calling.{call-bad, call-refused, call-gives}
 
 module _ (settings state rows area : List ℕ) (from upto : ℕ) where
+  -- words that pass have all their rooms
+  lent-passed : WordsFine settings state rows area → judged (lentLines settings state rows) ≡ Fine
+  unfolding lentLines wordLines dumpJudged dumpLines
+  lent-passed w =
+      below-fine (roomLines (settingsOf settings) rows) (wordLines settings state) (both-fine (roomLines (settingsOf settings) rows) _ (w .fine) .0)
+      ∙ sym (fine-line _ _ (le-leb _ _ (w .long)) (fine-line _ _ (le-leb _ _ (w .full)) no-line))
+
+  module _ {r : Bool} {after : List ℕ} (ran : WordsDumped settings state rows area from upto r after) where
+    -- and are dumped
+    pub dump-passed : r ≡ true → dumpCall settings state rows area from upto ≡ record { answer = 0; lent = after }
+    unfolding dumpCall dumpGives
+    dump-passed yes-all =
+        let d = rw yes-all at ran in
+        let w = words-fine settings state rows area (sym (d .passes)) in
+        call-gives _ _ _ {after = written (imageOf (settingsOf settings) (stateOf state) rows) area from upto} (lent-passed w) (rw (w .fine)) ∙ rw (d .leaves)
+
+    -- words that do not leave the area as it was
+    pub dump-kept : {out : Call (List ℕ)} → r ≡ false → dumpCall settings state rows after from upto ≡ out → dumpCall settings state rows area from upto ≡ out
+    dump-kept not-all e = let d = rw not-all at ran in rw (d .leaves) at e
+
   pub dump-short : {r : Refusal} {a : ℕ} → judged (lentLines settings state rows) ≡ Bad r → a ≡ answerWord r
       → dumpCall settings state rows area from upto ≡ record { answer = a; lent = area }
   unfolding dumpCall

@@ -18,9 +18,8 @@ pub extern "C" fn ysh_dump_bytes(slots: u64, depth: u64) -> u64
     dump::writer::dump_bytes(slots as usize, depth as usize) as u64
 }
 
-// Bytes `from` to `upto` of a dump's order of writing, into the area.
-#[no_mangle]
-pub extern "C" fn ysh_dump(
+// A dump by the lines of the refusals, the first of which is answered that does not hold.
+fn dump_judged(
     settings: &[u64],
     state: &[u64],
     rows: &[u64],
@@ -50,6 +49,25 @@ pub extern "C" fn ysh_dump(
         return answer_word(refusal);
     }
     0
+}
+
+// Bytes `from` to `upto` of a dump's order of writing, into the area: at once where the words pass, as nearly always.
+#[no_mangle]
+pub extern "C" fn ysh_dump(
+    settings: &[u64],
+    state: &[u64],
+    rows: &[u64],
+    area: &mut [u8],
+    from: u64,
+    upto: u64,
+) -> u64
+    ensures { λ r. ⌜ dumpCall (now (settings .entry)) (now (state .entry)) (now (rows .entry)) (now (area .entry)) from upto
+        ≡ record { answer = r; lent = now (area .exit) } ⌝ }
+{
+    if dump::direct::dump_words(settings, state, rows, area, from as usize, upto as usize) {
+        return 0;
+    }
+    dump_judged(settings, state, rows, area, from, upto)
 }
 
 // The state and the rows that an image holds.

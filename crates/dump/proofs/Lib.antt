@@ -4,3 +4,4 @@ pub mod Whole
 pub mod Reading
 pub mod Testing
 pub mod Answers
+pub mod Plain

@@ -4,3 +4,5 @@ pub mod Packed
 pub mod InOrder
 pub mod Image
 pub mod Fine
+pub mod Passing
+pub mod Plain

@@ -31,7 +31,7 @@ pub const MARK_BYTES: usize = 3;
 const REST_BYTES: usize = HEAD_BYTES - MARK_BYTES;
 
 // `WDP` and version 1, where they stand in the first word.
-const MARK: u64 = 87 + 256 * 68 + 65536 * 80 + 4294967296;
+pub(crate) const HEAD_MARK: u64 = 87 + 256 * 68 + 65536 * 80 + 4294967296;
 
 // How much of a part that begins at `start` lies before x, at most all of it.
 fn clip(x: usize, start: usize, most: usize) -> usize
@@ -52,7 +52,7 @@ fn pack(w: &[u64], slots: u64, depth: u64, held: u64) -> [u64; 17]
     ensures { λ r. ⌜ r ≡ headWords slots depth held (now (w .entry)) ⌝ }
 {
     [
-        MARK + 16777216 * (slots % 256) + 281474976710656 * (depth % 65536),
+        HEAD_MARK + 16777216 * (slots % 256) + 281474976710656 * (depth % 65536),
         w[0] % 4294967296 + 4294967296 * (held % 4294967296),
         w[4] % 256 + 256 * (w[17] % 256) + 65536 * (w[6] % 256) + 4294967296 * (w[7] % 4294967296),
         w[5],
@@ -124,7 +124,14 @@ fn write_parts(area: &mut [u8], head: &[u64], rows: &[u64], body: usize, from: u
 }
 
 // The same of rows that are so many words, zero rows included; a whole image word by word.
-fn write_order(area: &mut [u8], head: &[u64], rows: &[u64], words: usize, from: usize, upto: usize)
+pub(crate) fn write_order(
+    area: &mut [u8],
+    head: &[u64],
+    rows: &[u64],
+    words: usize,
+    from: usize,
+    upto: usize,
+)
     requires { ⌜ 256 + 8 * words ≤ length (now area) ⌝ }
     ensures { λ _. ⌜ now (area .exit) ≡ inOrder (now (area .entry)) (now (head .entry)) (now (rows .entry)) (8 * words) from upto ⌝ }
 {
@@ -138,7 +145,7 @@ fn write_order(area: &mut [u8], head: &[u64], rows: &[u64], words: usize, from: 
 }
 
 // The words of D rows.
-fn body_words(slots: usize, depth: usize) -> usize
+pub(crate) fn body_words(slots: usize, depth: usize) -> usize
     requires { ⌜ (slots ≤ mostSlots) × (depth ≤ mostRows) ⌝ }
     ensures { λ r. ⌜ 8 * r ≡ bodyBytes slots depth ⌝ }
 {
@@ -162,7 +169,7 @@ pub fn dump_bytes(slots: usize, depth: usize) -> usize
 }
 
 // Of the rows that a room holds the last D, or all where there are fewer.
-fn held_window(rows: &[u64], slots: usize, depth: usize, held: usize) -> &[u64]
+pub(crate) fn held_window(rows: &[u64], slots: usize, depth: usize, held: usize) -> &[u64]
     requires { ⌜ (slots ≤ mostSlots) × (held ≤ rowPlaces slots (now rows)) ⌝ }
     ensures { λ r. ⌜ now r ≡ lastRows slots depth (heldRows slots held (now (rows .entry))) ⌝ }
 {

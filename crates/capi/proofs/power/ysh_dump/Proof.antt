@@ -1,68 +1,25 @@
--- The rooms are judged, then the dump of what the words mean is made: one law for each way out.
-use mathlib.Core.Path.{_∙_}
-use Rattle.capi.proofs.Calling.{lent-room, lent-words}
-use Rattle.capi.proofs.Powering.{dump-short, dump-refused, dump-done}
+-- Words that pass are dumped at once; else the area is as it was, and the lines decide.
+use Rattle.capi.proofs.Powering.{dump-passed, dump-kept}
 use borrow.Author.Needs.{needs}
 use Rattle.capi.proofs.power.ysh_dump.Statement.{statement}
 use Rattle.capi.proofs.power.ysh_dump.Tie as tie
 
 returns : tie.Need-returns
-returns c =
-    let room = c .before .before .before .before in
-    dump-short _ _ _ _ _ _ (lent-room _ _ _ (room .before .settings-of .ensures) (room .judge-room .ensures) (c .before .before .refusal .given .1))
-    (c .answer-word .ensures)
+returns c = dump-passed _ _ _ _ _ _ (c .before .before .before .dump-words .ensures) (c .if1 .taken)
 
 returns-2 : tie.Need-returns-2
 returns-2 c =
-    let words = c .before .before .before .before in
-    let room = words .before .before .before in
-    let lent = lent-words _ _ _ (room .before .settings-of .ensures) (room .judge-room .ensures) (words .before .enum-told .given .1)
-    (words .judge-words .ensures) in
-    dump-short _ _ _ _ _ _ (lent ∙ c .before .before .refusal2 .given .1) (c .answer-word2 .ensures)
-
-returns-3 : tie.Need-returns-3
-returns-3 c =
-    let ran = c .before .before .before .before .before .before in
-    let given = ran .before .before in
-    let words = given .before .before .before in
-    let room = words .before .before .before in
-    let lent = lent-words _ _ _ (room .before .settings-of .ensures) (room .judge-room .ensures) (words .before .enum-told .given .1)
-    (words .judge-words .ensures) in
-    dump-refused _ _ _ _ _ _ (lent ∙ given .before .enum-told2 .given .1) (room .before .settings-of .ensures) (given .state-of .ensures)
-    (ran .dump .ensures) (c .before .before .refusal3 .given .1) (c .answer-word3 .ensures)
-
-returns-4 : tie.Need-returns-4
-returns-4 c =
-    let ran = c .before .before .before .before in
-    let given = ran .before .before in
-    let words = given .before .before .before in
-    let room = words .before .before .before in
-    let lent = lent-words _ _ _ (room .before .settings-of .ensures) (room .judge-room .ensures) (words .before .enum-told .given .1)
-    (words .judge-words .ensures) in
-    dump-done _ _ _ _ _ _ (lent ∙ given .before .enum-told2 .given .1) (room .before .settings-of .ensures) (given .state-of .ensures)
-    (ran .dump .ensures) (c .enum-told3 .given .1)
+    let judged = c .before .before in
+    let test = judged .before .before in
+    dump-kept _ _ _ _ _ _ (test .before .before .before .dump-words .ensures) (test .if1 .left) (judged .dump-judged .ensures)
 
 pub ysh-dump-spec : {M : Type 1} → statement M
 ysh-dump-spec =
     tie.close
     (tie.spec
     (λ c κs. search needs)
-    (λ c κs. search needs)
     (λ c. search needs)
-    (λ c κs. search needs)
     returns
-    (λ c. search needs)
     (λ c κs. search needs)
     (λ c. search needs)
-    (λ c κs. search needs)
-    returns-2
-    (λ c. search needs)
-    (λ c κs. search needs)
-    (λ c κs. search needs)
-    (λ c. search needs)
-    (λ c κs. search needs)
-    (λ c. search needs)
-    returns-3
-    (λ c. search needs)
-    (λ c. search needs)
-    returns-4)
+    returns-2)

@@ -1,0 +1,77 @@
+-- The window, its header, and both in the order of writing.
+use mathlib.Core.Path.{sym, ap, _∙_}
+use native.Mathlib.Omega.{arith}
+use Rattle.records.specs.Settings.{settingsOf}
+use Rattle.records.specs.StateWords.{countsOf, stateOf}
+use Rattle.dump.specs.Layout.{dumpBytes, windowOf}
+use Rattle.dump.specs.Laws.Packed.{headWords}
+use Rattle.dump.specs.Laws.Fine.{dump-fine}
+use Rattle.dump.specs.Laws.Plain.{plain-words}
+use Rattle.dump.proofs.Whole.{dumped}
+use borrow.Author.Needs.{needs}
+use Rattle.dump.proofs.direct.write_words.Statement.{statement}
+use Rattle.dump.proofs.direct.write_words.Tie as tie
+
+shared-slice-read-slots : tie.Need-shared-slice-read-slots
+shared-slice-read-slots c = omega (arith, c .before .before .before .before .before .pre .long)
+
+shared-slice-read-depth : tie.Need-shared-slice-read-depth
+shared-slice-read-depth c = omega (arith, c .before .before .before .before .before .before .pre .long)
+
+shared-slice-read-held : tie.Need-shared-slice-read-held
+shared-slice-read-held c = omega (arith, c .before .before .before .before .before .before .before .pre .full)
+
+held-window-requires : tie.Need-held-window-requires
+unfolding settingsOf stateOf countsOf
+held-window-requires c κs =
+    let s = c .before .before .before .before .before .before .before in
+    let fine = dump-fine _ _ _ _ (s .pre .fine) in
+    (fine .slots, fine .held)
+
+direct-head-requires : tie.Need-direct-head-requires
+direct-head-requires c κs = c .before .before .before .before .before .before .before .before .before .pre .full
+
+body-words-requires : tie.Need-body-words-requires
+unfolding settingsOf
+body-words-requires c κs =
+    let s = c .before .before .before .before .before .before .before .before .before .before .before .before in
+    let fine = dump-fine _ _ _ _ (s .pre .fine) in
+    (fine .slots, fine .depth)
+
+write-order-requires : tie.Need-write-order-requires
+unfolding settingsOf dumpBytes
+write-order-requires c κs =
+    let s = c .before .before .before .before .before .before .before .before .before .before .before .before .before in
+    let fine = dump-fine _ _ _ _ (s .pre .fine) in
+    omega (arith, c .body-words .ensures, fine .place)
+
+returns : tie.Need-returns
+unfolding windowOf settingsOf stateOf countsOf
+returns c =
+    let order = c .before .before in
+    let body = order .before in
+    let head = body .before .before .before in
+    let count = head .before in
+    let kept = count .before in
+    let s = kept .before .before .before .before .before .before .before .before in
+    let a = s .args in
+    let fine = dump-fine _ _ _ _ (s .pre .fine) in
+    dumped (settingsOf (a .settings .now)) (stateOf (a .state .now)) (a .rows .now) (a .area .now) (a .from) (a .upto) _ _ (fine .held)
+    (kept .held-window .ensures) (count .row-count .ensures) (head .direct-head .ensures ∙ ap (headWords _ _ _) (sym (plain-words (a .state .now))))
+    (body .body-words .ensures) (order .write-order .ensures)
+
+pub write-words-spec : {M : Type 1} → statement M
+write-words-spec =
+    tie.close
+    (tie.spec
+    shared-slice-read-slots
+    shared-slice-read-depth
+    shared-slice-read-held
+    held-window-requires
+    (λ c κs. search needs)
+    direct-head-requires
+    (λ c. search needs)
+    body-words-requires
+    write-order-requires
+    (λ c. search needs)
+    returns)
