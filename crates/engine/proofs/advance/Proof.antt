@@ -17,7 +17,8 @@ fill-working-order-requires c κs = c .before .before .before .before .before .b
 record-bar-requires : tie.Need-record-bar-requires
 record-bar-requires c κs =
     let candle = c .before .before .before .before .before .before .before .before .before in
-    candle .before .before .before .before .before .before .before .before .before .before .before .pre .ready .slots
+    let start = candle .before .before .before .before .before .before .before .before .before .before .before in
+    (start .pre .ready .slots, start .pre .long, start .pre .at .ring, start .pre .at .first)
 
 decide-next-action-requires : tie.Need-decide-next-action-requires
 decide-next-action-requires c κs =
