@@ -32,7 +32,9 @@ decide-next-action-requires c κs =
     let n = a .t .counts in
     let kept = placed (a .one) (a .s .slots) (a .rows .now) (n .«rows_held») (a .start) (a .bar .now) (start .pre .at .ring) (start .pre .at .first)
     (row .record-bar .ensures .0) (row .record-bar .ensures .1) in
-    (start .pre .ready .slots, start .pre .ready .bars, held-ends (row .record-bar .last .1 .0) (row .record-bar .result .held) (row .record-bar .result .start) (width (a .s .slots)) (omega arith) (kept .ring))
+    let ring = row .record-bar .result in
+    let ends = held-ends (row .record-bar .last .1 .0) (ring .held) (ring .start) (width (a .s .slots)) (omega arith) (kept .ring) in
+    (start .pre .ready .slots, start .pre .ready .bars, ends)
 
 add-seen : tie.Need-add-seen
 add-seen c =
