@@ -21,7 +21,7 @@ use Rattle.engine.specs.OtherBooks.{Emptied}
 use Rattle.engine.specs.Record.{heldRows}
 use Rattle.engine.specs.Restart.{Restarted, restart}
 use Rattle.engine.specs.Run.{Run, runOver}
-use Rattle.engine.specs.Laws.Lengths.{overwrite-length}
+use Rattle.words.specs.Laws.Overwrite.{overwrite-length}
 use Rattle.engine.specs.Laws.TwoRuns.{fresh-sound, run-sound}
 use Rattle.dump.specs.Layout.{windowOf, imageOf}
 use Rattle.dump.specs.Reading.{stateIn, windowIn}

@@ -10,7 +10,7 @@ use borrow.Author.Tests.{lt-ltb, le-ltb}
 use lib.ListN.{length, take, drop}
 use lib.Seq.{drop-drop}
 use Rattle.words.specs.Words.{overwrite, shifted}
-use Rattle.words.specs.Laws.Overwrite.{overwrite-fits, overwrite-length}
+use Rattle.words.specs.Laws.Overwrite.{overwrite-fits}
 use Rattle.words.specs.Laws.Records.{records-fit, record-ends}
 use Rattle.rows.specs.declared.ring.Ring.{Ring}
 use Rattle.rows.specs.Laws.Ring.{RingFine}

@@ -41,7 +41,8 @@ use Rattle.engine.specs.Books.{wordsOfPoint, booked, marked, heldPoints,
 use Rattle.engine.specs.Finish.{lastExit, remarked, endState, measured, ended, concluded, finishOf}
 use Rattle.engine.specs.Laws.Finishes.{close-place}
 use Rattle.engine.specs.Laws.LastPoint.{remarked-length}
-use Rattle.engine.specs.Laws.Lengths.{overwrite-length, booked-fits}
+use Rattle.words.specs.Laws.Overwrite.{overwrite-length}
+use Rattle.engine.specs.Laws.Lengths.{booked-fits}
 use Rattle.engine.specs.Laws.OneTrade.{closed-is-flat, books}
 use Rattle.engine.specs.Laws.Runs.{run-keeps}
 use Rattle.engine.specs.Laws.Verdict.{verdict-fine}
