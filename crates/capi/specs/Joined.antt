@@ -25,7 +25,7 @@ use Rattle.refusals.specs.Laws.Lines.{below-bad, fine-adds-nothing, both-fine}
 use Rattle.engine.specs.declared.ending.Ended.{Ended}
 use Rattle.engine.specs.Finish.{ended, concluded, finishOf}
 use Rattle.runs.specs.Laws.Floats.{step-floats, run-floats, end-floats}
-use Rattle.engine.specs.Laws.Lengths.{overwrite-length}
+use Rattle.words.specs.Laws.Overwrite.{overwrite-length}
 use Rattle.engine.specs.Laws.Runs.{run-none, run-stops, run-takes}
 use Rattle.engine.specs.Run.{runOver}
 use Rattle.engine.specs.Laws.Verdict.{handed-bad}

@@ -1,4 +1,5 @@
 pub mod Rows
+pub mod Placing
 pub mod Dues
 pub mod Phases
 pub mod Days

@@ -1,12 +1,14 @@
 -- The first records of a list, and the words of a row.
-use Prim.Native.Nat.{ℕ, _+_, _*_, _/_, _<_}
-use mathlib.Core.Path.{_≡_, sym, _∙_}
+use Prim.Native.Nat.{ℕ, _+_, _-_, _*_, _/_, _<_, _≤_}
+use mathlib.Core.Path.{_≡_, sym, ap, _∙_}
 use mathlib.Core.List.{List}
-use native.Mathlib.Nat.{div-lt-iff-lt-mul, le-of-lt}
+use native.Mathlib.Nat.{div-lt-iff-lt-mul, le-of-lt, mul-div-cancel, zero-mul}
+use native.Mathlib.Omega.{arith}
 use native.Mathlib.Numerals.{add-one}
-use lib.ListN.{length, take, set}
-use lib.Seq.{take-all, take-suc-set}
-use Rattle.engine.specs.Record.{listed}
+use lib.ListN.{length, take, drop, set}
+use lib.Seq.{take-all, take-suc-set, length-take-le}
+use Rattle.rows.specs.History.{width, lastRows}
+use Rattle.engine.specs.Record.{listed, heldRows}
 
 -- where more are asked for than there are places, the first of them are all
 pub all-of-them : (w n : ℕ) (l : List ℕ) → 0 < w → length l / w < n → l ≡ take (n * w) l
@@ -17,3 +19,20 @@ pub word-more : (f : ℕ → ℕ) (row : List ℕ) (j v : ℕ) → j < length ro
     → take (j + 1) (set row j v) ≡ listed (j + 1) f
 unfolding listed
 word-more f row j v h e w = rw add-one (take-suc-set row j v h ∙ rw (e, w))
+
+-- ---- the rows that a room holds
+
+module _ (K D held : ℕ) (rows : List ℕ) (fits : held * width K ≤ length rows) where
+  -- they are that many
+  counted : length (heldRows K held rows) / width K ≡ held
+  unfolding heldRows
+  counted = ap (λ (n : ℕ). n / width K) (length-take-le (held * width K) rows fits) ∙ mul-div-cancel held {n = width K} (omega arith)
+
+  -- the last D of them, where there are more
+  pub last-held : drop ((held - D) * width K) (heldRows K held rows) ≡ lastRows K D (heldRows K held rows)
+  unfolding lastRows
+  last-held = rw counted
+
+  -- and all, where there are not
+  pub all-held : held ≤ D → heldRows K held rows ≡ lastRows K D (heldRows K held rows)
+  all-held h = let none : held - D ≡ 0 = omega arith in rw (none, zero-mul (width K)) at last-held

@@ -1,11 +1,13 @@
 -- Rows that do not move. Within a call of many bars a full room is a ring: a row goes over the oldest, and the rows that are held begin at row `start`
 -- of the room. What the room would be had the rows moved is the room turned so that row `start` stands first. Definitions only.
-use Prim.Native.Nat.{ℕ}
+use Prim.Native.Nat.{ℕ, _+_, _≤_}
 use mathlib.Core.Path.{_≡_}
 use mathlib.Core.Bool.{Bool, true, false, cond}
-use mathlib.Core.List.{List}
+use mathlib.Core.List.{List, _++_}
+use lib.ListN.{length, take, drop}
 use lib.Dec.{eqb}
 use lib.Ieee.{Float}
+use Rattle.words.specs.Limits.{rowWords}
 use Rattle.rows.specs.declared.ring.Ring.{Ring}
 use Rattle.rows.specs.History.{width, lastRows}
 use Rattle.rows.specs.Laws.Ring.{RingFine}
@@ -21,6 +23,7 @@ use Rattle.refusals.specs.Lines.{judged}
 use Rattle.refusals.specs.Lists.{listLines}
 use Rattle.engine.specs.declared.Advanced.{Advanced}
 use Rattle.engine.specs.declared.Answer.{Answer}
+use Rattle.engine.specs.declared.record.Place.{Place}
 use Rattle.engine.specs.declared.Answer.the-variants.{Refused, Done}
 use Rattle.engine.specs.Decide.{answersOf, stateAt, orderAfter}
 use Rattle.engine.specs.Step.{With, Is, Ready}
@@ -33,6 +36,12 @@ keptRing false room held start row = ringAfter room (record { held = held; start
 unfoldable pub keptRoom : Bool → List ℕ → ℕ → ℕ → List ℕ → List ℕ
 keptRoom true room held start row = withRow room held row
 keptRoom false room held start row = ringWith room (record { held = held; start = start }) row
+
+-- where a row of w words goes: the room stands as it will with the row, but for the words from `at` on
+pub record MakesPlace (one : Bool) (w : ℕ) (room : List ℕ) (held start : ℕ) (p : Place) (after : List ℕ) : Type 0 where
+  pub fits : p .at + w ≤ length after
+  pub ring : (row : List ℕ) → length row ≡ w → p .ring ≡ keptRing one room held start row
+  pub filled : (row : List ℕ) → length row ≡ w → take (p .at) after ++ row ++ drop (p .at + w) after ≡ keptRoom one room held start row
 
 -- what the rules read of rows that begin at row `start`
 unfoldable pub readFrom : ℕ → ℕ → ℕ → List ℕ → List ℕ
@@ -47,9 +56,10 @@ pub record RingAt (one : Bool) (s : Settings) (t : State) (rows : List ℕ) (sta
   pub ring : RingFine (rowPlaces (s .slots) rows) (record { held = t .counts .«rows_held»; start = start })
   pub first : one ≡ true → start ≡ 0
 
--- what the phases ask of a bar
-pub record ReadyAt (one : Bool) (s : Settings) (t : State) (rows : List ℕ) (start : ℕ) (ls : Lists) : Type 0 where
+-- what the phases ask of a bar: that it has the words of a row, too
+pub record ReadyAt (one : Bool) (s : Settings) (t : State) (bar rows : List ℕ) (start : ℕ) (ls : Lists) : Type 0 where
   pub ready : Ready s t
+  pub long : rowWords (s .slots) ≤ length bar
   pub at : RingAt one s t rows start
   pub lists : judged (listLines (s .slots) (s .depth) ls) ≡ Fine
 

@@ -1,13 +1,13 @@
 // What is decided at a bar's close.
 ghost use mathlib.Core.Path.{_≡_};
-ghost use Prim.Native.Nat.{_<_, _≤_};
-ghost use Rattle.words.specs.Limits.{mostSlots, mostCount};
+ghost use Prim.Native.Nat.{_*_, _<_, _≤_};
+ghost use lib.ListN.{length};
+ghost use Rattle.words.specs.Limits.{mostSlots, mostCount, rowWords};
 ghost use Rattle.rows.specs.Ring.{ringOf};
 ghost use Rattle.records.specs.Lent.{lists};
 ghost use Rattle.engine.specs.Decide.{listSays, answersOf, ordered};
 ghost use Rattle.engine.specs.InPlace.{readFrom, decidedFrom};
 ghost use Rattle.engine.specs.Record.{heldRows};
-use crate::record;
 use execution::level;
 use execution::level::OrderKind;
 use portfolio::Portfolio;
@@ -28,13 +28,20 @@ fn list_says(window: &[u64], slots: usize, start: usize, state: PositionState, l
 
 // The rows that the rules read: the last D of those held, where these begin at their first; else all of them, of which no rule reads more
 // than the last D.
-fn read_from(held: &[u64], slots: usize, depth: usize, start: usize) -> &[u64]
-    ensures { λ r. ⌜ now r ≡ readFrom slots depth start (now (held .entry)) ⌝ }
+fn read_from(rows: &[u64], slots: usize, depth: usize, held: usize, start: usize) -> &[u64]
+    requires { ⌜ (slots ≤ mostSlots) × (held * rowWords slots ≤ length (now rows)) ⌝ }
+    ensures { λ r. ⌜ now r ≡ readFrom slots depth start (heldRows slots held (now (rows .entry))) ⌝ }
 {
+    let width = words::limits::ROW_FIXED + slots;
+    let end = held * width;
+    let all = &rows[..end];
     if start == 0 {
-        return rows::window(held, slots, depth);
+        if depth < held {
+            let first = (held - depth) * width;
+            return &all[first..];
+        }
     }
-    held
+    all
 }
 
 // The order of a bar on which none works.
@@ -85,7 +92,7 @@ pub(crate) fn decide_next_action<'a>(
     short_entry: &[u8],
     short_exit: &'a [u8],
 ) -> Order
-    requires { ⌜ (s .slots ≤ mostSlots) × (number < mostCount) ⌝ }
+    requires { ⌜ (s .slots ≤ mostSlots) × (number < mostCount) × (held * rowWords (s .slots) ≤ length (now rows)) ⌝ }
     ensures { λ r. ⌜ r ≡ decidedFrom s order p number close start (heldRows (s .slots) held (now (rows .entry)))
         (lists (now (entry .entry)) (now («exit» .entry)) (now («short_entry» .entry)) (now («short_exit» .entry))) ⌝ }
 {
@@ -107,7 +114,7 @@ pub(crate) fn decide_next_action<'a>(
                 entered,
                 bars_seen: number + 1,
             };
-            let window = read_from(record::held_rows(rows, slots, held), slots, s.depth, start);
+            let window = read_from(rows, slots, s.depth, held, start);
             order_of(
                 s.delay,
                 kind,

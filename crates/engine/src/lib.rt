@@ -54,7 +54,7 @@ pub(crate) fn advance<'a>(
     short_entry: &[u8],
     short_exit: &'a [u8],
 ) -> Advanced
-    requires { ⌜ ReadyAt one s t (now rows) start (lists (now entry) (now «exit») (now «short_entry») (now «short_exit»)) ⌝ }
+    requires { ⌜ ReadyAt one s t (now bar) (now rows) start (lists (now entry) (now «exit») (now «short_entry») (now «short_exit»)) ⌝ }
     ensures { λ r. ⌜ Turns one s (advanced s t (now (bar .entry))
         (rooms (turned (width (s .slots)) start (now (rows .entry))) (now (equity .entry)) (now (trades .entry)))
         (lists (now (entry .entry)) (now («exit» .entry)) (now («short_entry» .entry)) (now («short_exit» .entry))))

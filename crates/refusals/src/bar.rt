@@ -1,11 +1,12 @@
 // Refusal 11: the new bar. Reads past its end give 0, so that a bar of any length is judged.
 ghost use mathlib.Core.Path.{_≡_};
+ghost use Rattle.floats.specs.Floats.{finite};
+ghost use Rattle.records.specs.Bar.{candleOf};
+ghost use Rattle.records.specs.Fields.{floatAt};
 ghost use Rattle.refusals.specs.Lines.{judged};
 ghost use Rattle.refusals.specs.Bar.{fundingFine, bitFine, slotsFine, candleFine, barLines};
 use crate::verdict::Verdict;
 use execution::Funding;
-use portfolio::Candle;
-use records::bar::candle_of;
 use records::bar::funding_of;
 use words::refusal::Refusal;
 
@@ -57,30 +58,37 @@ fn funding_fine(funding: Funding) -> bool
     }
 }
 
-// Whether prices and volume are finite.
-fn candle_fine(k: Candle) -> bool
-    ensures { λ r. ⌜ r ≡ candleFine k ⌝ }
+// Whether word i of the bar is that of a finite float.
+fn number_fine(bar: &[u64], i: usize) -> bool
+    ensures { λ r. ⌜ r ≡ finite (floatAt (now (bar .entry)) i) ⌝ }
 {
-    if !floats::is_finite(k.open) {
+    floats::word_is_finite(words::word(bar, i))
+}
+
+// Whether prices and volume are finite. The last is looked at first: a bar that has it has the others, and its length is asked once.
+fn candle_fine(bar: &[u64]) -> bool
+    ensures { λ r. ⌜ r ≡ candleFine (candleOf (now (bar .entry))) ⌝ }
+{
+    if !number_fine(bar, rows::VOLUME) {
         return false;
     }
-    if !floats::is_finite(k.high) {
+    if !number_fine(bar, rows::CLOSE) {
         return false;
     }
-    if !floats::is_finite(k.low) {
+    if !number_fine(bar, rows::LOW) {
         return false;
     }
-    if !floats::is_finite(k.close) {
+    if !number_fine(bar, rows::HIGH) {
         return false;
     }
-    floats::is_finite(k.volume)
+    number_fine(bar, rows::OPEN)
 }
 
 // 11, all of the bar.
 pub fn judge_bar(slots: usize, bar: &[u64], seen: u64) -> Verdict
     ensures { λ r. ⌜ r ≡ judged (barLines slots (now (bar .entry)) seen) ⌝ }
 {
-    if !candle_fine(candle_of(bar)) {
+    if !candle_fine(bar) {
         return Verdict::Bad(Refusal {
             number: 11,
             place: seen,

@@ -26,7 +26,7 @@ metricWords = 9
 abbrev pub settingWords : ℕ
 settingWords = 32
 
--- Decided: 17 to 19 are not looked at yet, 20 and 21 are of the open trade.
+-- Decided: 0 to 16 are the base's, 17 to 19 the working order's (request 1), 20 and 21 the open trade's (request 6).
 abbrev pub stateWords : ℕ
 stateWords = 22
 

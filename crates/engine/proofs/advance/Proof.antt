@@ -8,6 +8,7 @@ use Rattle.records.specs.Lent.{Rooms, Lists, rooms, lists}
 use Rattle.engine.specs.Laws.InPlace.{fill-in-place, decide-in-place, placed}
 use borrow.Author.Needs.{needs}
 use Rattle.engine.proofs.Phases.{phases, away, goes}
+use Rattle.engine.proofs.Placing.{held-ends}
 use Rattle.engine.proofs.advance.Statement.{statement}
 use Rattle.engine.proofs.advance.Tie as tie
 
@@ -17,7 +18,8 @@ fill-working-order-requires c κs = c .before .before .before .before .before .b
 record-bar-requires : tie.Need-record-bar-requires
 record-bar-requires c κs =
     let candle = c .before .before .before .before .before .before .before .before .before in
-    candle .before .before .before .before .before .before .before .before .before .before .before .pre .ready .slots
+    let start = candle .before .before .before .before .before .before .before .before .before .before .before in
+    (start .pre .ready .slots, start .pre .long, start .pre .at .ring, start .pre .at .first)
 
 decide-next-action-requires : tie.Need-decide-next-action-requires
 decide-next-action-requires c κs =
@@ -25,7 +27,14 @@ decide-next-action-requires c κs =
     let sell = stop .before .before .before .before .before .before .before .before .before .before in
     let candle = sell .before .before .before .before .before .before in
     let start = candle .before .before .before .before .before .before .before .before .before .before .before in
-    (start .pre .ready .slots, start .pre .ready .bars)
+    let row = stop .before .before .before .before .before .before in
+    let a = start .args in
+    let n = a .t .counts in
+    let kept = placed (a .one) (a .s .slots) (a .rows .now) (n .«rows_held») (a .start) (a .bar .now) (start .pre .at .ring) (start .pre .at .first)
+    (row .record-bar .ensures .0) (row .record-bar .ensures .1) in
+    let ring = row .record-bar .result in
+    let ends = held-ends (row .record-bar .last .1 .0) (ring .held) (ring .start) (width (a .s .slots)) (omega arith) (kept .ring) in
+    (start .pre .ready .slots, start .pre .ready .bars, ends)
 
 add-seen : tie.Need-add-seen
 add-seen c =

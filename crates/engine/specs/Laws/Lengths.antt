@@ -5,12 +5,13 @@ use mathlib.Core.Bool.{Bool, true, false, cond}
 use mathlib.Core.List.{List, [], _∷_, _++_}
 use native.Mathlib.Nat.{le-div-iff-mul-le, suc-mul, le-refl, mul-le-mul-right}
 use native.Mathlib.Omega.{arith}
-use borrow.Author.Tests.{ltb-true, leb-true, eqb-false}
+use borrow.Author.Tests.{ltb-true, eqb-false}
 use lib.ListN.{length, take, drop, length-append, length-drop}
 use lib.Seq.{length-take-le}
-use lib.Dec.{ltb, leb, eqb}
+use lib.Dec.{ltb, eqb}
 use Rattle.words.specs.Limits as Limits
 use Rattle.words.specs.Words.{overwrite}
+use Rattle.words.specs.Laws.Overwrite.{overwrite-length}
 use Rattle.rows.specs.History.{width}
 use Rattle.rows.specs.Room.{placesFor, withRow, heldWith}
 use Rattle.execution.specs.declared.Exit.{Exit}
@@ -28,15 +29,6 @@ pasted-length : (l w : List ℕ) (at : ℕ) → at + length w ≤ length l → l
 pasted-length l w at h =
     let a : length (take at l) ≡ at = length-take-le at l (omega arith) in
     omega (arith, a, length-append (take at l ++ w) (drop (at + length w) l), length-append (take at l) w, length-drop (at + length w) l)
-
-pub overwrite-length : (room : List ℕ) (at : ℕ) (words : List ℕ) → length (overwrite room at words) ≡ length room
-unfolding overwrite
-overwrite-length room at words = go (leb (at + length words) (length room)) refl
-  where
-    go : (b : Bool) → leb (at + length words) (length room) ≡ b
-        → length (cond b (take at room ++ words ++ drop (at + length words) room) room) ≡ length room
-    go true e = pasted-length room words at (leb-true _ _ e)
-    go false e = refl
 
 -- the oldest w words go, and the rest move up
 shifted-length : (l row : List ℕ) (end : ℕ) → length row ≤ end → end ≤ length l

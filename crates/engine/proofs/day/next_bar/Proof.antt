@@ -1,4 +1,5 @@
 -- What can change is judged: refused, or the phases, whose fill may be turned away. Assumes nothing.
+use native.Mathlib.Omega.{arith}
 use borrow.Author.Needs.{needs}
 use Rattle.rows.specs.History.{width}
 use Rattle.rows.specs.Ring.{turned}
@@ -15,7 +16,7 @@ advance-requires c κs =
     let ready = next-ready (a .s) (a .t) (a .bar .now) (rooms (turned (width (a .s .slots)) (a .start) (a .rows .now)) (a .equity .now) (a .trades .now))
     (lists (a .entry .now) (a .exit .now) (a .«short-entry» .now) (a .«short-exit» .now)) (start .pre .0) (start .pre .2)
     (judged .judge-next .ensures) (c .before .before .before .enum-told .given .1) in
-    record { ready = ready; at = start .pre .1; lists = start .pre .2 .lists }
+    record { ready = ready; long = omega (arith, start .pre .0); at = start .pre .1; lists = start .pre .2 .lists }
 
 returns : tie.Need-returns
 returns c =

@@ -10,13 +10,11 @@ returns-5 : tie.Need-returns-5
 unfolding decidedFrom orderAfter stateAt
 returns-5 c =
     let window = c .before in
-    let held = window .before in
-    let kind = held .before in
+    let kind = window .before in
     let test = kind .before .before .before in
     simp (
       c .order-of .ensures,
       window .read-from .ensures,
-      held .held-rows .ensures,
       kind .entry-trigger .ensures,
       le-ltb _ _ (test .if1 .left),
       test .before .before .enum-told .given .1,
@@ -34,7 +32,6 @@ decide-next-action-spec =
     (λ c. simp (lt-ltb _ _ (c .if1 .taken), c .before .before .enum-told .given .1))
     (λ c κs. search needs)
     (λ c. search needs)
-    (λ c κs. search needs)
     (λ c κs. search needs)
     (λ c κs. search needs)
     (λ c. simp (c .before .order .given .1))

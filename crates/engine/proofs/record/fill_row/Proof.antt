@@ -1,17 +1,18 @@
--- The words written so far are the row's first j.
+-- The words written so far are the row's first j; all of them are the row. Assumes nothing.
 use Prim.Native.Nat.{ℕ, _+_, _-_, _<_, _≤_}
-use mathlib.Core.Path.{_≡_, refl, subst}
+use mathlib.Core.Path.{_≡_, refl, sym, subst, _∙_}
 use native.Mathlib.Omega.{arith}
 use borrow.Author.Needs.{needs}
 use lib.ListN.{length, take, length-set}
-use Rattle.words.specs.Limits.{rowWords, mostSlots}
+use lib.Seq.{take-all}
+use Rattle.words.specs.Limits.{rowWords}
 use Rattle.engine.specs.Record.{rowWord, listed, rowOf}
 use Rattle.engine.proofs.Rows.{word-more}
 use Rattle.engine.proofs.record.fill_row.Statement.{statement}
 use Rattle.engine.proofs.record.fill_row.Tie as tie
 
 abbrev Inv-loop : tie.InvT-loop
-Inv-loop row₀ bar slots width j₀ row j = (j ≤ 7 + slots) × (length row ≡ rowWords mostSlots) × (take j row ≡ listed j (rowWord bar))
+Inv-loop row₀ bar slots width j₀ row j = (j ≤ 7 + slots) × (length row ≡ rowWords slots) × (take j row ≡ listed j (rowWord bar))
 
 abbrev μ-loop : tie.MeasureT-loop
 μ-loop row₀ bar slots width j₀ row j = 7 + slots - j
@@ -36,7 +37,8 @@ returns c =
     let l = c .before in
     let a = l .before .before .before .args in
     let e : l .loop .j ≡ 7 + a .slots = omega (arith, c .loop-test .left) in
-    (l .loop .inv .1, subst (λ (n : ℕ). take n (l .loop .row) ≡ listed n (rowWord (a .bar .now))) e (l .loop .inv .2))
+    let all : take (7 + a .slots) (l .loop .row) ≡ l .loop .row = take-all (7 + a .slots) (l .loop .row) (omega (arith, l .loop .inv .1)) in
+    sym all ∙ subst (λ (n : ℕ). take n (l .loop .row) ≡ listed n (rowWord (a .bar .now))) e (l .loop .inv .2)
 
 pub fill-row-spec : {M : Type 1} → statement M
 fill-row-spec =
@@ -46,7 +48,7 @@ fill-row-spec =
     μ-loop
     (λ c. search needs)
     loop-holds
-    (λ c κs. search needs)
+    (λ c κs. let l = c .before in let a = l .before .before .before in (omega (arith, a .pre .0), omega (arith, a .pre .2), omega (arith, a .pre .2)))
     (λ c. search needs)
     (λ c. search needs)
     (λ c. search needs)

@@ -1,6 +1,5 @@
 -- The candle is one test, the slots and the funding two more.
 use mathlib.Core.Path.{ap, _∙_}
-use borrow.Author.Tests.{not-true, not-false}
 use Rattle.refusals.specs.Bar.{fundingFine, barLines}
 use Rattle.refusals.specs.Laws.Descent.{so, not-so, no-line, fine-line, bad-line}
 use borrow.Author.Needs.{needs}
@@ -9,19 +8,14 @@ use Rattle.refusals.proofs.bar.judge_bar.Tie as tie
 
 returns : tie.Need-returns
 unfolding barLines
-returns c =
-    let c1 = c .before .before in
-    rw (← c1 .candle-of .ensures, ← c .before .candle-fine .ensures)
-    (bad-line _ _ (not-true _ (c .if1 .taken)))
+returns c = bad-line _ _ (not-so (c .before .candle-fine .ensures) (c .if1 .taken))
 
 returns-2 : tie.Need-returns-2
 unfolding barLines
 returns-2 c =
     let c1 = c .before .before in
-    let c2 = c1 .before .before in
-    rw (← c2 .candle-of .ensures, ← c1 .before .candle-fine .ensures)
-    (fine-line _ _ (not-false _ (c1 .if1 .left))
-    (bad-line _ _ (not-so (c .before .slots-fine .ensures) (c .if2 .taken))))
+    fine-line _ _ (so (c1 .before .candle-fine .ensures) (c1 .if1 .left))
+    (bad-line _ _ (not-so (c .before .slots-fine .ensures) (c .if2 .taken)))
 
 returns-3 : tie.Need-returns-3
 unfolding barLines
@@ -29,10 +23,9 @@ returns-3 c =
     let c1 = c .before .before in
     let c2 = c1 .before .before in
     let c3 = c2 .before .before in
-    rw (← c3 .before .candle-of .ensures, ← c3 .candle-fine .ensures)
-    (fine-line _ _ (not-false _ (c2 .before .if1 .left))
+    fine-line _ _ (so (c3 .candle-fine .ensures) (c2 .before .if1 .left))
     (fine-line _ _ (so (c2 .slots-fine .ensures) (c1 .before .if2 .left))
-    (bad-line _ _ (not-so (c .before .funding-fine .ensures ∙ ap fundingFine (c1 .funding-of .ensures)) (c .if3 .taken)))))
+    (bad-line _ _ (not-so (c .before .funding-fine .ensures ∙ ap fundingFine (c1 .funding-of .ensures)) (c .if3 .taken))))
 
 returns-4 : tie.Need-returns-4
 unfolding barLines
@@ -40,16 +33,14 @@ returns-4 c =
     let c1 = c .before .before in
     let c2 = c1 .before .before in
     let c3 = c2 .before .before in
-    rw (← c3 .before .candle-of .ensures, ← c3 .candle-fine .ensures)
-    (fine-line _ _ (not-false _ (c2 .before .if1 .left))
+    fine-line _ _ (so (c3 .candle-fine .ensures) (c2 .before .if1 .left))
     (fine-line _ _ (so (c2 .slots-fine .ensures) (c1 .before .if2 .left))
-    (fine-line _ _ (so (c .before .funding-fine .ensures ∙ ap fundingFine (c1 .funding-of .ensures)) (c .if3 .left)) no-line)))
+    (fine-line _ _ (so (c .before .funding-fine .ensures ∙ ap fundingFine (c1 .funding-of .ensures)) (c .if3 .left)) no-line))
 
 pub judge-bar-spec : {M : Type 1} → statement M
 judge-bar-spec =
     tie.close
     (tie.spec
-    (λ c κs. search needs)
     (λ c κs. search needs)
     returns
     (λ c κs. search needs)
