@@ -1,6 +1,7 @@
 pub mod Heads
 pub mod Rows
 pub mod Said
+pub mod Coming
 pub mod Going
 pub mod Writes
 pub mod Operands
