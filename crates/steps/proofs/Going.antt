@@ -1,25 +1,23 @@
 -- A run taken one step further, with the values in two lists: the four places below them are always missing.
-use Prim.Native.Nat.{ℕ, zero, suc, _+_, _-_, _*_, _≤_, _<_, min}
+use Prim.Native.Nat.{ℕ, zero, suc, _+_, _-_, _≤_, _<_, min}
 use mathlib.Core.Path.{_≡_, refl, sym, ap, _∙_}
 use mathlib.Core.Bool.{Bool, true, false, true≢false}
 use mathlib.Core.List.{List, [], _∷_}
 use native.Mathlib.Omega.{arith}
 use native.Mathlib.Nat.{ne-of-lt, sub-zero}
-use native.Mathlib.Numerals.{add-one, sub-one}
-use lib.Dec.{ltb}
+use native.Mathlib.Numerals.{add-one}
 use lib.Ieee.{Float, nan}
 use lib.ListN.{length, drop, set, length-set, length-replicate, getD-replicate}
 use lib.Seq.{getD-set-same, getD-set-other}
-use borrow.Author.Tests.{ltb-true, ltb-false}
 use Rattle.rows.specs.History.{History}
 use Rattle.rules.specs.declared.PositionState.{PositionState}
 use Rattle.rules.specs.declared.Value.{Value}
 use Rattle.rules.specs.declared.Value.the-variants.{Missing, Number}
-use Rattle.steps.specs.declared.Op.{Op}
 use Rattle.steps.specs.declared.Ran.{Ran}
-use Rattle.steps.specs.Bytes.{opOf, stepAt, opsFrom}
-use Rattle.steps.specs.Machine.{Values, Effect, nth, given, giving, viewing, saying, passing, effect, does, after, run, visitCount, start, ranOver}
-use Rattle.steps.specs.Places.{numbersWith, isThere, valueAt, Fresh, Tries}
+use Rattle.steps.specs.Bytes.{opOf, stepAt}
+use Rattle.steps.specs.Machine.{Effect, nth, given, giving, viewing, saying, passing, effect}
+use Rattle.steps.specs.Places.{numbersWith, isThere, valueAt, Fresh, Came, Tries}
+use Rattle.steps.proofs.Coming.{came-on}
 
 -- ---- the values
 
@@ -72,68 +70,7 @@ put-shown : (ns : List Float) (ts : List Bool) (v : Value) (under : ℕ) → und
 unfolding shown
 put-shown ns ts v under l m = rw (add-one under, put-same ns ts (under + 4) v l m, set-shown ns ts (under + 4) v under (omega arith))
 
--- ---- jumps
-
-module _ (h : History) (s : PositionState) (bs : List ℕ) where
-  run-on : (m p k : ℕ) (v : Values) → run h s (opsFrom bs p m) k v ≡ run h s (opsFrom bs (p + k) (m - k)) 0 v
-  unfolding run opsFrom
-  run-on m p zero v = let a : p + 0 ≡ p = omega arith in let b : m - 0 ≡ m = omega arith in rw (a, b)
-  run-on zero p (suc k) v = let b : 0 - suc k ≡ 0 = omega arith in rw b
-  run-on (suc m) p (suc k) v =
-      let a : p + suc k ≡ p + 1 + k = omega arith in
-      let b : suc m - suc k ≡ m - k = omega arith in
-      rw (a, b) (run-on m (p + 1) k v)
-
-  count-on : (m p k : ℕ) (v : Values) → visitCount h s (opsFrom bs p m) k v ≡ visitCount h s (opsFrom bs (p + k) (m - k)) 0 v
-  unfolding visitCount opsFrom
-  count-on m p zero v = let a : p + 0 ≡ p = omega arith in let b : m - 0 ≡ m = omega arith in rw (a, b)
-  count-on zero p (suc k) v = let b : 0 - suc k ≡ 0 = omega arith in rw b
-  count-on (suc m) p (suc k) v =
-      let a : p + suc k ≡ p + 1 + k = omega arith in
-      let b : suc m - suc k ≡ m - k = omega arith in
-      rw (a, b) (count-on m (p + 1) k v)
-
-  none-left : (p m : ℕ) → m ≡ 0 → opsFrom bs p m ≡ []
-  unfolding opsFrom
-  none-left p m e = rw e
-
-  one-more : (p m : ℕ) → 0 < m → opsFrom bs p m ≡ opOf (stepAt bs p) ∷ opsFrom bs (p + 1) (m - 1)
-  unfolding opsFrom
-  one-more p zero l = absurd (omega arith)
-  one-more p (suc m) l = rw (sub-one (suc m))
-
-  -- a jump past the end lands at the end
-  run-landed : (n q : ℕ) (v : Values) → run h s (opsFrom bs q (n - q)) 0 v ≡ run h s (opsFrom bs (min n q) (n - min n q)) 0 v
-  run-landed n q v = go (ltb n q) refl
-    where
-      go : (t : Bool) → ltb n q ≡ t → run h s (opsFrom bs q (n - q)) 0 v ≡ run h s (opsFrom bs (min n q) (n - min n q)) 0 v
-      go true e =
-          let past : n < q = ltb-true n q e in
-          rw (none-left q (n - q) (omega arith), none-left (min n q) (n - min n q) (omega arith))
-      go false e = let at : min n q ≡ q = omega (arith, ltb-false n q e) in rw at
-
-  count-landed : (n q : ℕ) (v : Values) → visitCount h s (opsFrom bs q (n - q)) 0 v ≡ visitCount h s (opsFrom bs (min n q) (n - min n q)) 0 v
-  count-landed n q v = go (ltb n q) refl
-    where
-      go : (t : Bool) → ltb n q ≡ t → visitCount h s (opsFrom bs q (n - q)) 0 v ≡ visitCount h s (opsFrom bs (min n q) (n - min n q)) 0 v
-      go true e =
-          let past : n < q = ltb-true n q e in
-          rw (none-left q (n - q) (omega arith), none-left (min n q) (n - min n q) (omega arith))
-      go false e = let at : min n q ≡ q = omega (arith, ltb-false n q e) in rw at
-
-  run-cons : (xs : List Op) (x : Op) (v : Values) → run h s (x ∷ xs) 0 v ≡ run h s xs (does h s x v .skip) (after (does h s x v) v)
-  unfolding run
-  run-cons xs x v = refl
-
-  count-cons : (xs : List Op) (x : Op) (v : Values)
-      → visitCount h s (x ∷ xs) 0 v ≡ does h s x v .visits + visitCount h s xs (does h s x v .skip) (after (does h s x v) v)
-  unfolding visitCount
-  count-cons xs x v = refl
-
 -- ---- the loop
-
-abbrev pub holding : Bool → List Value → Values
-holding b vs = record { stack = vs; answer = b }
 
 -- two lists with so many places above the four
 pub record Room (most : ℕ) (ns : List Float) (ts : List Bool) : Type 0 where
@@ -147,10 +84,7 @@ pub record Going (h : History) (s : PositionState) (bs : List ℕ) (n most : ℕ
   pub room : Room most ns ts
   pub tall : top ≤ most
   pub pushed : top ≤ p
-  pub seen : visits ≤ 65536 * p
-  pub on : p ≤ n
-  pub same : run h s (opsFrom bs 0 n) 0 start ≡ run h s (opsFrom bs p (n - p)) 0 (holding y (shown ns ts top))
-  pub count : visitCount h s (opsFrom bs 0 n) 0 start ≡ visits + visitCount h s (opsFrom bs p (n - p)) 0 (holding y (shown ns ts top))
+  pub came : Came h s bs n (shown ns ts top) y visits p
 
 -- ---- a step further
 
@@ -160,9 +94,8 @@ module _ (h : History) (s : PositionState) (bs : List ℕ) (n most : ℕ) (ns : 
   abbrev pub done : Effect
   done = effect h s (opOf (stepAt bs p)) (valueAt ns ts (top + 3)) (valueAt ns ts (top + 2)) (valueAt ns ts (top + 1)) (valueAt ns ts top) y
 
-  did : does h s (opOf (stepAt bs p)) (holding y (shown ns ts top)) ≡ done
-  unfolding does
-  did =
+  read : effect h s (opOf (stepAt bs p)) (nth (shown ns ts top) 0) (nth (shown ns ts top) 1) (nth (shown ns ts top) 2) (nth (shown ns ts top) 3) y ≡ done
+  read =
       let at0 : top + 3 - 0 ≡ top + 3 = omega arith in
       let at1 : top + 3 - 1 ≡ top + 2 = omega arith in
       let at2 : top + 3 - 2 ≡ top + 1 = omega arith in
@@ -178,60 +111,16 @@ module _ (h : History) (s : PositionState) (bs : List ℕ) (n most : ℕ) (ns : 
         at3,
       )
 
-  module _ (e : Effect) (is : done ≡ e) (ns' : List Float) (ts' : List Bool) (top' : ℕ) (room : Room most ns' ts') (tall : top' ≤ most)
-      (pushed : top' ≤ min n (p + 1 + e .skip)) (few : e .visits ≤ 65536)
-      (leaves : shown ns' ts' top' ≡ given (e .gives) (e .value) (shown ns ts (top - e .take))) where
-    left : Values
-    left = holding (e .answer) (shown ns' ts' top')
-
-    after-it : after e (holding y (shown ns ts top)) ≡ left
-    unfolding after left
-    after-it = rw (drop-shown ns ts top (e .take), leaves)
-
-    q : ℕ
-    q = p + 1 + e .skip
-
-    run-next : run h s (opsFrom bs p (n - p)) 0 (holding y (shown ns ts top)) ≡ run h s (opsFrom bs (min n q) (n - min n q)) 0 left
-    unfolding q
-    run-next =
-        let rest : n - p - 1 - e .skip ≡ n - (p + 1 + e .skip) = omega arith in
-        rw (
-          one-more h s bs p (n - p) (omega arith),
-          run-cons h s bs (opsFrom bs (p + 1) (n - p - 1)) (opOf (stepAt bs p)) (holding y (shown ns ts top)),
-          did,
-          is,
-          after-it,
-          run-on h s bs (n - p - 1) (p + 1) (e .skip) left,
-          rest,
-        ) (run-landed h s bs n (p + 1 + e .skip) left)
-
-    count-next : visitCount h s (opsFrom bs p (n - p)) 0 (holding y (shown ns ts top))
-        ≡ e .visits + visitCount h s (opsFrom bs (min n q) (n - min n q)) 0 left
-    unfolding q
-    count-next =
-        let rest : n - p - 1 - e .skip ≡ n - (p + 1 + e .skip) = omega arith in
-        rw (
-          one-more h s bs p (n - p) (omega arith),
-          count-cons h s bs (opsFrom bs (p + 1) (n - p - 1)) (opOf (stepAt bs p)) (holding y (shown ns ts top)),
-          did,
-          is,
-          after-it,
-          count-on h s bs (n - p - 1) (p + 1) (e .skip) left,
-          rest,
-        ) (ap (λ (m : ℕ). e .visits + m) (count-landed h s bs n (p + 1 + e .skip) left))
-
-    going-on : Going h s bs n most ns' ts' top' (e .answer) (visits + e .visits) (min n (p + 1 + e .skip))
-    unfolding left q
-    going-on =
-        record {
-          room = room;
-          tall = tall;
-          pushed = pushed;
-          seen = omega (arith, g .seen, few, more);
-          on = omega arith;
-          same = g .same ∙ run-next;
-          count = g .count ∙ rw count-next (omega arith);
-        }
+  going-on : (e : Effect) → done ≡ e → (ns' : List Float) (ts' : List Bool) (top' : ℕ) → Room most ns' ts' → top' ≤ most → top' ≤ min n (p + 1 + e .skip)
+      → e .visits ≤ 65536 → shown ns' ts' top' ≡ given (e .gives) (e .value) (shown ns ts (top - e .take))
+      → Going h s bs n most ns' ts' top' (e .answer) (visits + e .visits) (min n (p + 1 + e .skip))
+  going-on e is ns' ts' top' room tall pushed few leaves =
+      record {
+        room = room;
+        tall = tall;
+        pushed = pushed;
+        came = rw (leaves, ← drop-shown ns ts top (e .take)) (came-on h s bs n (shown ns ts top) y visits p (g .came) more e (read ∙ is) few);
+      }
 
   next : min n (p + 1 + 0) ≡ p + 1
   next = omega (arith, more)
@@ -293,11 +182,10 @@ module _ (h : History) (s : PositionState) (bs : List ℕ) (n most : ℕ) (ns : 
 pub fresh-long : (most : ℕ) (ns : List Float) (ts : List Bool) → Fresh most ns ts → length ts ≡ most + 4
 fresh-long most ns ts f = rw (f .none) (length-replicate (most + 4) false)
 
-pub going-start : (h : History) (s : PositionState) (bs : List ℕ) (n most : ℕ) (ns : List Float) (ts : List Bool) → Fresh most ns ts
-    → Going h s bs n most ns ts 0 false 0 0
+pub going-start : (h : History) (s : PositionState) (bs : List ℕ) (n most : ℕ) (ns : List Float) (ts : List Bool) (y : Bool) (visits p : ℕ) → Fresh most ns ts
+    → Came h s bs n [] y visits p → Going h s bs n most ns ts 0 y visits p
 unfolding shown valueAt
-going-start h s bs n most ns ts f =
-    let z : n - 0 ≡ n = omega arith in
+going-start h s bs n most ns ts y visits p f came =
     record {
       room = record {
         numbers = f .long;
@@ -306,20 +194,8 @@ going-start h s bs n most ns ts f =
       };
       tall = omega arith;
       pushed = omega arith;
-      seen = omega arith;
-      on = omega arith;
-      same = rw z;
-      count = rw z (omega arith);
+      came = came;
     }
-
-pub going-end : (h : History) (s : PositionState) (bs : List ℕ) (n most : ℕ) (ns : List Float) (ts : List Bool) (top : ℕ) (y : Bool) (visits p : ℕ)
-    → Going h s bs n most ns ts top y visits p → n ≤ p → record { answer = y; visits = visits } ≡ ranOver h s (opsFrom bs 0 n)
-unfolding run visitCount
-going-end h s bs n most ns ts top y visits p g le =
-    let none : opsFrom bs p (n - p) ≡ [] = none-left h s bs p (n - p) (omega arith) in
-    let said : y ≡ ranOver h s (opsFrom bs 0 n) .answer = rw (g .same, none) in
-    let seen : visits ≡ ranOver h s (opsFrom bs 0 n) .visits = rw (g .count, none) (omega arith) in
-    rw (said, seen)
 
 -- ---- a run with so many places for values
 

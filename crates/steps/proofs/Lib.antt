@@ -1,4 +1,5 @@
 pub mod Heads
 pub mod Rows
 pub mod Said
+pub mod Coming
 pub mod Going

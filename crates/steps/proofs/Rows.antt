@@ -88,3 +88,10 @@ place-ago held first n f l =
     let at : first + (held - 1 - n) ≡ held - 1 - (n - first) = omega arith in
     rw (within, lt-ltb (first + (held - 1 - n)) held (omega arith), le-ltb n first far, at))
     (less-or-not n first)
+
+-- where the newest would stand, if there is none
+pub place-none : (held first w : ℕ) → held ≡ 0 → ringPlace held first (held - 1) * w ≡ 0
+unfolding ringPlace
+place-none held first w none =
+    let at : held - 1 ≡ 0 = omega arith in
+    rw (le-ltb (held - 1) held (omega (arith, none)), at) (omega arith)

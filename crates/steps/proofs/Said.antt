@@ -208,6 +208,10 @@ module _ (x : Step) where
     unfolding effect
     does-compare le l = rw (says-compare le l)
 
+    pub does-cross : 22 ≤ x .kind → x .kind < 24 → effect h s (opOf x) a b c d y ≡ saying 4 (crossed (x .kind) d c b a)
+    unfolding effect
+    does-cross le l = rw (says-cross le l)
+
     -- a crossing or Between
     pub does-test : 22 ≤ x .kind → x .kind < 25 → effect h s (opOf x) a b c d y
         ≡ saying (cond (ltb (x .kind) 24) 4 3) (cond (ltb (x .kind) 24) (crossed (x .kind) d c b a) (within c b a))

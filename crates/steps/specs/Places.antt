@@ -1,15 +1,19 @@
 -- A run with so many places for values, for the code alone: the machine of Machine.antt has no end of them. Definitions only.
-use Prim.Native.Nat.{ℕ, _+_, _<_}
+use Prim.Native.Nat.{ℕ, _+_, _-_, _*_, _<_, _≤_}
 use mathlib.Core.Path.{_≡_}
 use mathlib.Core.Bool.{Bool, true, false, cond}
-use mathlib.Core.List.{List}
+use mathlib.Core.List.{List, []}
 use lib.Ieee.{Float, nan}
 use lib.Dec.{ltb}
 use lib.ListN.{length, getD, replicate, set}
+use Rattle.rows.specs.History.{History}
+use Rattle.rules.specs.declared.PositionState.{PositionState}
 use Rattle.rules.specs.declared.Value.{Value}
 use Rattle.rules.specs.declared.Value.the-variants.{Missing, Number}
 use Rattle.rules.specs.Values.{crossed, within}
 use Rattle.steps.specs.declared.Ran.{Ran}
+use Rattle.steps.specs.Bytes.{opOf, stepAt, opsFrom}
+use Rattle.steps.specs.Machine.{Values, giving, effect, run, visitCount, start}
 
 -- A value as two: its number, which is written where there is one, and whether it is there.
 unfoldable pub numbersWith : List Float → ℕ → Value → List Float
@@ -40,3 +44,24 @@ pub record Fresh (places : ℕ) (numbers : List Float) (there : List Bool) : Typ
 unfoldable pub Tries : Ran → ℕ → ℕ → Bool → Ran → Type 0
 Tries ran steps places true r = places < steps
 Tries ran steps places false r = r ≡ ran
+
+-- ---- a run that is on its way
+
+abbrev pub holding : Bool → List Value → Values
+holding b vs = record { stack = vs; answer = b }
+
+-- The run of the first n steps of a list has come to place p, with these values, this answer and so many visits.
+pub record Came (h : History) (s : PositionState) (bs : List ℕ) (n : ℕ) (vs : List Value) (y : Bool) (visits p : ℕ) : Type 0 where
+  pub seen : visits ≤ 65536 * p
+  pub on : p ≤ n
+  pub same : run h s (opsFrom bs 0 n) 0 start ≡ run h s (opsFrom bs p (n - p)) 0 (holding y vs)
+  pub count : visitCount h s (opsFrom bs 0 n) 0 start ≡ visits + visitCount h s (opsFrom bs p (n - p)) 0 (holding y vs)
+
+-- The step at place p gives this value, whatever came before it: it is a leaf.
+abbrev pub Gives : History → List ℕ → ℕ → Value → Type 0
+Gives h bs p v = (s : PositionState) (a b c d : Value) (y : Bool) → effect h s (opOf (stepAt bs p)) a b c d y ≡ giving 0 v y
+
+-- The steps from place p on, so many of them, are a test with its leaves, and this is its answer; where they are none, nothing is said.
+abbrev pub Tests : History → List ℕ → ℕ → ℕ → ℕ → Bool → Type 0
+Tests h bs n p steps w =
+    0 < steps → (s : PositionState) (y : Bool) (visits : ℕ) → Came h s bs n [] y visits p → Came h s bs n [] w (visits + steps) (p + steps)

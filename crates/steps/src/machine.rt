@@ -1,9 +1,12 @@
 // The step machine: what one step does, and the run of a whole list. "a value not there counts as missing", and every value is kept:
-// a list is run with a few places for values, and the rare list that needs more is run again with a place for each of its steps.
+// a list is run with a few places for values, and the rare list that needs more is run again with more, at last one for each of its steps.
 use crate::Ran;
 use crate::Step;
 use crate::decode;
+use crate::doing;
+use crate::leaves;
 use crate::looking;
+use crate::phrases;
 use crate::stack;
 use rows::ring;
 use rules::PositionState;
@@ -12,100 +15,26 @@ use rules::values;
 use table::series::Series;
 use words::limits::MOST_STEPS;
 ghost use mathlib.Core.Path.{_≡_};
-ghost use mathlib.Core.Bool.{Bool, true, cond, not, _&&_};
-ghost use Prim.Native.Nat.{_+_, _-_, _*_, _<_, _≤_, min};
-ghost use lib.Dec.{ltb, leb};
+ghost use mathlib.Core.Bool.{Bool, true, cond};
+ghost use mathlib.Core.List.{[]};
+ghost use Prim.Native.Nat.{_+_, _-_, _<_, _≤_};
+ghost use lib.Dec.{ltb};
 ghost use lib.ListN.{length};
-ghost use Rattle.rows.specs.History.{History, historyOf};
-ghost use Rattle.rows.specs.Ring.{ringPlace, ringOf};
-ghost use Rattle.rules.specs.Values as Values;
-ghost use Rattle.table.specs.Trees.{const, ref, price};
+ghost use Rattle.rows.specs.History.{historyOf};
+ghost use Rattle.rows.specs.Ring.{ringOf};
 ghost use Rattle.steps.specs.Bytes.{opOf, opsFrom, opsOf, stepsIn, stepsRun};
-ghost use Rattle.steps.specs.Machine.{ago, giving, viewing, saying, effect, ranOver};
-ghost use Rattle.steps.specs.Places.{testedAt, Tries, Fresh};
+ghost use Rattle.steps.specs.Machine.{viewing, effect, ranOver};
+ghost use Rattle.steps.specs.Places.{testedAt, Tries, Fresh, Came};
 
-// The places for values that a run has at first. No translated list needs more.
-const FEW_PLACES: usize = 64;
+// The places for values that a run has at first, and those that it is given where they do not suffice. No translated list needs more.
+const FEW_PLACES: usize = 16;
+
+const SOME_PLACES: usize = 64;
 
 // How far a run with so many places for values came, and whether it stopped because a value found no place.
 struct Tried {
     full: bool,
     ran: Ran,
-}
-
-// A constant, `n` rows before the newest of `held` rows: missing where there are not more than n.
-fn const_ago(held: usize, bits: u64, n: u64) -> Value
-    ensures { λ r. ⌜ ((h : History) → held ≡ h .rows → r ≡ ago h (const bits) n) ⌝ }
-{
-    if n < held as u64 {
-        return Value::Number(floats::float_of(bits));
-    }
-    Value::Missing
-}
-
-// The word where the row begins that stands `n` rows before the newest of `held` rows. They begin at row `first`, so the newest is
-// the one before it.
-fn row_ago(rows: &[u64], slots: usize, held: usize, first: usize, n: u64) -> usize
-    requires { ⌜ (held ≡ historyOf slots (now rows) .rows) × (first ≤ held) × (n < held) ⌝ }
-    ensures { λ r. ⌜ r ≡ ringPlace held first (held - 1 - n) * (7 + slots) ⌝ }
-{
-    let back = n as usize;
-    if back < first {
-        return (first - 1 - back) * (words::limits::ROW_FIXED + slots);
-    }
-    (held - 1 - (back - first)) * (words::limits::ROW_FIXED + slots)
-}
-
-// A slot, n rows back.
-fn ref_ago(rows: &[u64], slots: usize, held: usize, first: usize, slot: u8, n: u64) -> Value
-    requires { ⌜ (held ≡ historyOf slots (now rows) .rows) × (first ≤ held) ⌝ }
-    ensures { λ r. ⌜ r ≡ ago (ringOf slots first (now (rows .entry))) (ref slot) n ⌝ }
-{
-    if n < held as u64 {
-        return values::slot_at(rows, row_ago(rows, slots, held, first, n), slot as u64);
-    }
-    Value::Missing
-}
-
-// A price, n rows back.
-fn price_ago(rows: &[u64], slots: usize, held: usize, first: usize, selector: u8, n: u64) -> Value
-    requires { ⌜ (held ≡ historyOf slots (now rows) .rows) × (first ≤ held) ⌝ }
-    ensures { λ r. ⌜ r ≡ ago (ringOf slots first (now (rows .entry))) (price selector) n ⌝ }
-{
-    if n < held as u64 {
-        return Value::Number(values::price_at(
-            rows,
-            row_ago(rows, slots, held, first, n),
-            selector,
-        ));
-    }
-    Value::Missing
-}
-
-// Whether a kind is one from `low` on and below `high`.
-fn is_among(kind: u8, low: u8, high: u8) -> bool
-    ensures { λ r. ⌜ r ≡ (leb low kind && ltb kind high) ⌝ }
-{
-    if kind < low {
-        return false;
-    }
-    kind < high
-}
-
-// The value that a leaf gives.
-fn leaf(x: Step, rows: &[u64], slots: usize, held: usize, first: usize) -> Value
-    requires { ⌜ (held ≡ historyOf slots (now rows) .rows) × (first ≤ held) ⌝ }
-    requires { ⌜ (1 ≤ x .kind) × (x .kind < 4) ⌝ }
-    ensures { λ r. ⌜ ((s : PositionState) (a b c d : Value) (y : Bool)
-        → effect (ringOf slots first (now (rows .entry))) s (opOf x) a b c d y ≡ giving 0 r y) ⌝ }
-{
-    if x.kind == 1 {
-        return const_ago(held, x.bits, x.n);
-    }
-    if x.kind == 2 {
-        return ref_ago(rows, slots, held, first, x.selector, x.n);
-    }
-    price_ago(rows, slots, held, first, x.selector, x.n)
 }
 
 // The value that a step of Highest or Lowest gives.
@@ -147,57 +76,11 @@ fn tested(kind: u8, numbers: &[f64], there: &[bool], top: usize) -> bool
     values::within(c, b, a)
 }
 
-// Whether there is a position, or none, as wanted.
-fn position(wanted: bool, qty: f64) -> bool
-    ensures { λ r. ⌜ r ≡ cond wanted (Values.held qty) (not (Values.held qty)) ⌝ }
-{
-    if wanted {
-        return values::in_position(qty);
-    }
-    !values::in_position(qty)
-}
-
-// What the answer is after a step that neither takes nor gives a value, nor jumps. One of no known kind leaves it as it was.
-fn said(x: Step, s: PositionState, answer: bool) -> bool
-    requires { ⌜ (1 ≤ x .kind → 4 ≤ x .kind) × (5 ≤ x .kind → 9 ≤ x .kind) × (9 ≤ x .kind → 13 ≤ x .kind)
-        × (16 ≤ x .kind → 25 ≤ x .kind) × (32 ≤ x .kind → 34 ≤ x .kind) ⌝ }
-    ensures { λ r. ⌜ ((h : History) (a b c d : Value) → effect h s (opOf x) a b c d answer ≡ saying 0 r) ⌝ }
-{
-    if x.kind < 27 {
-        return answer;
-    }
-    if x.kind < 29 {
-        return x.kind == 27;
-    }
-    if x.kind == 29 {
-        return !answer;
-    }
-    if x.kind == 30 {
-        return position(x.selector == 1, s.qty);
-    }
-    if x.kind == 31 {
-        return values::since_entry(x.selector, x.n, s);
-    }
-    answer
-}
-
 // How many values are left where `take` of them go.
 fn left(top: usize, take: usize) -> usize
     ensures { λ r. ⌜ r ≡ top - take ⌝ }
 {
     if top < take { 0 } else { top - take }
-}
-
-// The next place after p, of n places, where so many are passed over.
-fn landing(p: usize, skip: u64, n: usize) -> usize
-    requires { ⌜ p < n ⌝ }
-    ensures { λ r. ⌜ r ≡ min n (p + 1 + skip) ⌝ }
-{
-    let after = n - p - 1;
-    if skip < after as u64 {
-        return p + 1 + skip as usize;
-    }
-    n
 }
 
 // How many steps of a list are run: whole ones, and no more than 1,024.
@@ -235,32 +118,42 @@ fn run_with(
     places: usize,
     numbers: &mut [f64],
     there: &mut [bool],
+    from: usize,
+    told: bool,
+    seen: usize,
 ) -> Tried
     requires { ⌜ n ≤ stepsIn (now list) ⌝ }
-    requires { ⌜ (1 ≤ places) × (places ≤ 1024) × (first ≤ historyOf slots (now rows) .rows) × (n ≤ 1024) ⌝ }
+    requires { ⌜ (1 ≤ places) × (places ≤ 1024) × (first ≤ historyOf slots (now rows) .rows) × (n ≤ 1024)
+        × Came (ringOf slots first (now rows)) s (now list) n [] told seen from ⌝ }
     requires { ⌜ Fresh places (now numbers) (now there) ⌝ }
     ensures { λ r. ⌜ Tries (ranOver (ringOf slots first (now (rows .entry))) s (opsFrom (now (list .entry)) 0 n)) n places (r .full) (r .ran) ⌝ }
 {
     let held = rows::row_count(rows, slots);
+    let newest = leaves::newest_row(rows, slots, held, first);
     let mut top: usize = 0;
-    let mut answer = false;
-    let mut visits: usize = 0;
-    let mut p: usize = 0;
+    let mut answer = told;
+    let mut visits: usize = seen;
+    let mut p: usize = from;
     while p < n {
         let x = decode::step_at(list, p);
         let kind = x.kind;
         visits += 1;
-        if is_among(kind, 1, 4) {
+        if doing::is_among(kind, 1, 4) {
             if top == places {
                 return Tried {
                     full: true,
                     ran: Ran { answer, visits },
                 };
             }
-            stack::put(numbers, there, top + 4, leaf(x, rows, slots, held, first));
+            stack::put(
+                numbers,
+                there,
+                top + 4,
+                leaves::leaf(x, rows, slots, held, first, newest),
+            );
             top += 1;
             p += 1;
-        } else if is_among(kind, 16, 25) {
+        } else if doing::is_among(kind, 16, 25) {
             if kind < 22 {
                 let a = stack::at(numbers, there, top + 3);
                 let b = stack::at(numbers, there, top + 2);
@@ -272,20 +165,20 @@ fn run_with(
                 top = left(top, taken(kind));
                 p += 1;
             }
-        } else if is_among(kind, 32, 34) {
+        } else if doing::is_among(kind, 32, 34) {
             if answer == (kind == 33) {
-                p = landing(p, x.skip, n);
+                p = doing::landing(p, x.skip, n);
             } else {
                 p += 1;
             }
-        } else if is_among(kind, 5, 9) {
+        } else if doing::is_among(kind, 5, 9) {
             let a = stack::at(numbers, there, top + 3);
             let b = stack::at(numbers, there, top + 2);
             let under = left(top, 2);
             stack::put(numbers, there, under + 4, values::both(kind, b, a));
             top = under + 1;
             p += 1;
-        } else if is_among(kind, 9, 13) {
+        } else if doing::is_among(kind, 9, 13) {
             if top == places {
                 return stopped(answer, visits);
             }
@@ -295,7 +188,7 @@ fn run_with(
             top += 1;
             p += 1;
         } else {
-            answer = said(x, s, answer);
+            answer = doing::said(x, s, answer);
             p += 1;
         }
     }
@@ -305,7 +198,7 @@ fn run_with(
     }
 }
 
-// The run of a list of n steps, at most 1,024, with a place for each: none can be short of one.
+// The run from a place on of n steps, at most 1,024, with a place for each: none can be short of one.
 fn run_whole(
     list: &[u8],
     n: usize,
@@ -313,9 +206,13 @@ fn run_whole(
     slots: usize,
     first: usize,
     s: PositionState,
+    from: usize,
+    told: bool,
+    seen: usize,
 ) -> Ran
     requires { ⌜ n ≤ stepsIn (now list) ⌝ }
-    requires { ⌜ (n ≤ 1024) × (first ≤ historyOf slots (now rows) .rows) ⌝ }
+    requires { ⌜ (n ≤ 1024) × (first ≤ historyOf slots (now rows) .rows)
+        × Came (ringOf slots first (now rows)) s (now list) n [] told seen from ⌝ }
     ensures { λ r. ⌜ r ≡ ranOver (ringOf slots first (now (rows .entry))) s (opsFrom (now (list .entry)) 0 n) ⌝ }
 {
     let mut numbers = [0.0; 1028];
@@ -330,25 +227,71 @@ fn run_whole(
         MOST_STEPS,
         &mut numbers,
         &mut there,
+        from,
+        told,
+        seen,
     );
     tried.ran
 }
 
-// Runs a list over rows of so many slots each, the oldest of them row `first`. Bytes at the end that are no whole step are not
-// looked at, nor steps past the 1,024th.
-fn run_from(list: &[u8], rows: &[u64], slots: usize, first: usize, s: PositionState) -> Ran
-    requires { ⌜ first ≤ historyOf slots (now rows) .rows ⌝ }
-    ensures { λ r. ⌜ r ≡ ranOver (ringOf slots first (now (rows .entry))) s (opsOf (now (list .entry))) ⌝ }
+// The same with places that suffice for every translated list.
+fn run_some(
+    list: &[u8],
+    n: usize,
+    rows: &[u64],
+    slots: usize,
+    first: usize,
+    s: PositionState,
+    from: usize,
+    told: bool,
+    seen: usize,
+) -> Ran
+    requires { ⌜ n ≤ stepsIn (now list) ⌝ }
+    requires { ⌜ (n ≤ 1024) × (first ≤ historyOf slots (now rows) .rows)
+        × Came (ringOf slots first (now rows)) s (now list) n [] told seen from ⌝ }
+    ensures { λ r. ⌜ r ≡ ranOver (ringOf slots first (now (rows .entry))) s (opsFrom (now (list .entry)) 0 n) ⌝ }
 {
-    let n = steps_run(list);
-    if n == 0 {
-        return Ran {
-            answer: false,
-            visits: 0,
-        };
-    }
     let mut numbers = [0.0; 68];
     let mut there = [false; 68];
+    let tried = run_with(
+        list,
+        n,
+        rows,
+        slots,
+        first,
+        s,
+        SOME_PLACES,
+        &mut numbers,
+        &mut there,
+        from,
+        told,
+        seen,
+    );
+    if tried.full {
+        return run_whole(list, n, rows, slots, first, s, from, told, seen);
+    }
+    tried.ran
+}
+
+// The same with few places first: the fewer there are, the less has to be cleared.
+fn run_few(
+    list: &[u8],
+    n: usize,
+    rows: &[u64],
+    slots: usize,
+    first: usize,
+    s: PositionState,
+    from: usize,
+    told: bool,
+    seen: usize,
+) -> Ran
+    requires { ⌜ n ≤ stepsIn (now list) ⌝ }
+    requires { ⌜ (n ≤ 1024) × (first ≤ historyOf slots (now rows) .rows)
+        × Came (ringOf slots first (now rows)) s (now list) n [] told seen from ⌝ }
+    ensures { λ r. ⌜ r ≡ ranOver (ringOf slots first (now (rows .entry))) s (opsFrom (now (list .entry)) 0 n) ⌝ }
+{
+    let mut numbers = [0.0; 20];
+    let mut there = [false; 20];
     let tried = run_with(
         list,
         n,
@@ -359,11 +302,31 @@ fn run_from(list: &[u8], rows: &[u64], slots: usize, first: usize, s: PositionSt
         FEW_PLACES,
         &mut numbers,
         &mut there,
+        from,
+        told,
+        seen,
     );
     if tried.full {
-        return run_whole(list, n, rows, slots, first, s);
+        return run_some(list, n, rows, slots, first, s, from, told, seen);
     }
     tried.ran
+}
+
+// Runs a list over rows of so many slots each, the oldest of them row `first`. Bytes at the end that are no whole step are not
+// looked at, nor steps past the 1,024th. What needs no place for a value is run first.
+fn run_from(list: &[u8], rows: &[u64], slots: usize, first: usize, s: PositionState) -> Ran
+    requires { ⌜ first ≤ historyOf slots (now rows) .rows ⌝ }
+    ensures { λ r. ⌜ r ≡ ranOver (ringOf slots first (now (rows .entry))) s (opsOf (now (list .entry))) ⌝ }
+{
+    let n = steps_run(list);
+    let reached = phrases::run_tests(list, n, rows, slots, first, s);
+    let answer = reached.answer;
+    let visits = reached.visits;
+    let p = reached.p;
+    if p == n {
+        return Ran { answer, visits };
+    }
+    run_few(list, n, rows, slots, first, s, p, answer, visits)
 }
 
 // Runs a list over rows of so many slots each.

@@ -1,14 +1,11 @@
--- The run with few places is the run, or else it is run again with a place for each step.
+-- What is left where the tests end is run with places for values.
 use borrow.Author.Needs.{needs}
 use Prim.Native.Nat.{ℕ, _≤_}
 use mathlib.Core.List.{List}
-use mathlib.Core.Path.{_≡_, refl, sym, _∙_}
+use mathlib.Core.Path.{_≡_}
 use native.Mathlib.Omega.{arith}
-use lib.ListN.{length-replicate}
-use Rattle.floats.specs.Floats.{zero}
-use Rattle.steps.specs.Bytes.{opsOf, opsFrom, stepsIn, stepsRun}
-use Rattle.steps.specs.Machine.{run, visitCount}
-use Rattle.steps.proofs.Going.{tried-through}
+use Rattle.steps.specs.Bytes.{opsOf, stepsIn, stepsRun}
+use Rattle.steps.proofs.Coming.{came-end}
 use Rattle.steps.proofs.machine.run_from.Statement.{statement}
 use Rattle.steps.proofs.machine.run_from.Tie as tie
 
@@ -18,19 +15,16 @@ unfolding stepsRun
 few-run bs n e = (omega arith, omega arith)
 
 pub run-from-spec : {M : Type 1} → statement M
-unfolding opsOf opsFrom run visitCount
+unfolding opsOf
 run-from-spec =
     tie.close
     (tie.spec
     (λ c κs. search needs)
-    (λ c. rw (sym (c .before .steps-run .ensures) ∙ c .if1 .taken))
-    (λ c. search needs)
-    (λ c. search needs)
-    (λ c κs.
-    let few = few-run _ _ (c .before .before .before .steps-run .ensures) in
-    (few .0, ((omega arith, omega arith, search needs, few .1), record { long = length-replicate 68 zero; none = refl })))
-    (λ c κs. let few = few-run _ _ (c .before .before .before .before .before .before .before .steps-run .ensures) in (few .0, (few .1, search needs)))
-    (λ c. rw (← c .before .before .before .before .before .before .before .before .steps-run .ensures) (c .run-whole .ensures))
+    (λ c κs. let few = few-run _ _ (c .steps-run .ensures) in (few .0, few .1, c .before .before .before .pre))
     (λ c.
-    rw (← c .before .before .before .before .before .before .before .before .steps-run .ensures)
-    (tried-through _ _ 64 _ _ (c .before .if2 .left) (c .before .before .before .before .run-with .ensures))))
+    rw (← c .before .before .steps-run .ensures)
+    (came-end _ _ _ _ _ _ _ _ (c .before .run-tests .ensures) (omega (arith, c .if1 .taken))))
+    (λ c κs.
+    let few = few-run _ _ (c .before .before .steps-run .ensures) in
+    (few .0, (few .1, c .before .before .before .before .before .pre, c .before .run-tests .ensures)))
+    (λ c. rw (← c .before .before .before .steps-run .ensures) (c .run-few .ensures)))

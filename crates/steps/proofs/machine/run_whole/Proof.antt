@@ -16,7 +16,7 @@ run-whole-spec =
     (λ c. search needs)
     (λ c κs.
     let p = c .before .before .before .before .pre in
-    (p .0, ((omega arith, omega arith, p .1 .1, p .1 .0), record { long = length-replicate 1028 zero; none = refl })))
+    (p .0, ((omega arith, omega arith, p .1 .1, p .1 .0, p .1 .2), record { long = length-replicate 1028 zero; none = refl })))
     (λ c.
     let r = c .before .before .before in
     tried-whole _ _ 1024 _ _ (r .before .before .before .before .before .pre .1 .0) (r .run-with .ensures)))

@@ -7,17 +7,18 @@ use Prim.Native.Nat.{_-_}
 use Rattle.rows.specs.Ring.{ringOf}
 use Rattle.steps.specs.Places.{Tries}
 use Rattle.steps.proofs.Said.{range-in, range-out, does-compare, does-test, does-jump, does-arith}
+use Rattle.steps.proofs.Coming.{came-end}
 use Rattle.steps.proofs.Going.{Going, fresh-long, going-start, going-leaf, going-give}
-use Rattle.steps.proofs.Going.{going-look, going-say, going-set, going-pass, going-stay, going-end}
+use Rattle.steps.proofs.Going.{going-look, going-say, going-set, going-pass, going-stay}
 use Rattle.steps.proofs.machine.run_with.Statement.{statement}
 use Rattle.steps.proofs.machine.run_with.Tie as tie
 
 abbrev Inv-loop : tie.InvT-loop
-Inv-loop list n rows slots first s places numbers₀ there₀ held top₀ answer₀ visits₀ p₀ numbers there top answer visits p =
+Inv-loop list n rows slots first s places numbers₀ there₀ from told seen held newest top₀ answer₀ visits₀ p₀ numbers there top answer visits p =
     Going (ringOf slots first rows) s list n places numbers there top answer visits p
 
 abbrev μ-loop : tie.MeasureT-loop
-μ-loop list n rows slots first s places numbers₀ there₀ held top₀ answer₀ visits₀ p₀ numbers there top answer visits p = n - p
+μ-loop list n rows slots first s places numbers₀ there₀ from told seen held newest top₀ answer₀ visits₀ p₀ numbers there top answer visits p = n - p
 
 -- a leaf
 leaf-again : tie.Need-loop-again Inv-loop μ-loop
@@ -43,6 +44,12 @@ compare-again c =
     rw (c .left .ensures, c .before .compared .ensures, second .at2 .ensures, first .at .ensures)
     (going-say _ _ _ _ _ _ _ _ _ _ _ (x .before .before .loop .inv) (x .before .loop-test .taken) 2 _
     (rw (← x .step-at .ensures .0) (does-compare _ _ _ _ _ _ _ _ (kind .0) (small .if4 .taken))))
+
+compare-on : tie.Need-add-p-2 Inv-loop μ-loop
+compare-on c =
+    let small = c .before .before .before .before .before .before .before .before in
+    let test = small .before .before .before .before .before .before in
+    omega (arith, test .loop-test .taken, test .before .before .before .before .before .before .before .before .pre .1 .0 .3)
 
 -- a cross or Between
 test-again : tie.Need-loop-again-3 Inv-loop μ-loop
@@ -92,8 +99,14 @@ arith-again c =
       left .before .before .before .before .at3 .ensures,
     )
     (going-give _ _ _ _ _ _ _ _ _ _ _ (x .before .before .loop .inv) (x .before .loop-test .taken) 2 _
-    (omega (arith, x .before .before .loop .inv .tall, x .before .before .before .before .before .before .before .before .pre .1 .0 .0))
+    (omega (arith, x .before .before .loop .inv .tall, x .before .before .before .before .before .before .before .before .before .pre .1 .0 .0))
     (rw (← x .step-at .ensures .0) (does-arith _ _ _ _ _ _ _ _ (kind .0) (kind .1))))
+
+arith-reads : tie.Need-add-at-4 Inv-loop μ-loop
+arith-reads c =
+    let i = c .before .before .before .before .before .before .before in
+    let loop = i .before .before .before .before .before .before .before .before in
+    omega (arith, loop .loop .inv .tall, loop .before .before .before .before .before .before .before .pre .1 .0 .1)
 
 -- its result has a place: two are taken first, and there is at least one
 arith-fits : tie.Need-add-put-2 Inv-loop μ-loop
@@ -101,7 +114,7 @@ arith-fits c =
     let left = c .before .before in
     let i = left .before .before .before .before .before .before .before .before in
     let loop = i .before .before .before .before .before .before .before .before .before in
-    omega (arith, left .left3 .ensures, loop .loop .inv .tall, loop .before .before .before .before .before .before .pre .1 .0)
+    omega (arith, left .left3 .ensures, loop .loop .inv .tall, loop .before .before .before .before .before .before .before .pre .1 .0)
 
 arith-room : tie.Need-put-requires-2 Inv-loop μ-loop
 arith-room c κs =
@@ -109,8 +122,8 @@ arith-room c κs =
     let i = left .before .before .before .before .before .before .before .before in
     let loop = i .before .before .before .before .before .before .before .before .before in
     let inv = loop .loop .inv in (
-      omega (arith, left .left3 .ensures, inv .tall, inv .room .numbers, loop .before .before .before .before .before .before .pre .1 .0),
-      omega (arith, left .left3 .ensures, inv .tall, inv .room .theres, loop .before .before .before .before .before .before .pre .1 .0),
+      omega (arith, left .left3 .ensures, inv .tall, inv .room .numbers, loop .before .before .before .before .before .before .before .pre .1 .0),
+      omega (arith, left .left3 .ensures, inv .tall, inv .room .theres, loop .before .before .before .before .before .before .before .pre .1 .0),
     )
 
 arith-tall : tie.Need-add-top-2 Inv-loop μ-loop
@@ -118,14 +131,14 @@ arith-tall c =
     let left = c .before .before .before .before .before .before .before .before in
     let i = left .before .before .before .before .before .before .before .before in
     let loop = i .before .before .before .before .before .before .before .before .before in
-    omega (arith, left .left3 .ensures, loop .loop .inv .tall, loop .before .before .before .before .before .before .pre .1 .0)
+    omega (arith, left .left3 .ensures, loop .loop .inv .tall, loop .before .before .before .before .before .before .before .pre .1 .0)
 
 -- a step further is within the list
 arith-on : tie.Need-add-p-5 Inv-loop μ-loop
 arith-on c =
     let i = c .before .before .before .before .before .before .before .before .before .before .before .before .before .before .before .before in
     let test = i .before .before .before .before .before .before .before .before in
-    omega (arith, test .loop-test .taken, test .before .before .before .before .before .before .before .good)
+    omega (arith, test .loop-test .taken, test .before .before .before .before .before .before .before .before .good)
 
 arith-less : tie.Need-loop-less-6 Inv-loop μ-loop
 arith-less c =
@@ -155,15 +168,15 @@ look-counts c =
       c .before2 .ensures,
       x .step-at .ensures .1,
       x .before .loop-test .taken,
-      loop .loop .inv .seen,
-      loop .before .before .before .before .before .before .pre .1 .0 .3,
+      loop .loop .inv .came .seen,
+      loop .before .before .before .before .before .before .before .pre .1 .0 .3,
     )
 
 -- its kind is one of the four
 look-requires : tie.Need-look-requires Inv-loop μ-loop
 look-requires c κs =
     let i = c .before .before .before in
-    let rows = i .before .before .before .before .before .before .before .before .before .before .before .before in
+    let rows = i .before .before .before .before .before .before .before .before .before .before .before .before .before in
     let held = rows .row-count .ensures in
     ((held, rw held (rows .before .before .before .before .before .pre .1 .0 .2)), range-in _ _ _ (sym (i .is-among5 .ensures) ∙ c .before .before .if8 .taken))
 
@@ -178,19 +191,19 @@ look-room c κs =
 look-fits : tie.Need-add-put-3 Inv-loop μ-loop
 look-fits c =
     let loop = c .before .before .before .before .before .before .before .before .before .before .before .before .before .before .before .before .before in
-    omega (arith, loop .loop .inv .tall, loop .before .before .before .before .before .before .pre .1 .0 .1)
+    omega (arith, loop .loop .inv .tall, loop .before .before .before .before .before .before .before .pre .1 .0 .1)
 
 look-tall : tie.Need-add-top-3 Inv-loop μ-loop
 look-tall c =
     let late = c .before .before .before .before .before .before .before .before .before .before .before in
     let loop = late .before .before .before .before .before .before .before .before .before .before .before in
-    omega (arith, loop .loop .inv .tall, loop .before .before .before .before .before .before .pre .1 .0 .1)
+    omega (arith, loop .loop .inv .tall, loop .before .before .before .before .before .before .before .pre .1 .0 .1)
 
 look-on : tie.Need-add-p-6 Inv-loop μ-loop
 look-on c =
     let early = c .before .before .before .before .before .before .before .before .before .before .before in
     let test = early .before .before .before .before .before .before .before .before .before .before in
-    omega (arith, test .loop-test .taken, test .before .before .before .before .before .before .before .pre .1 .0 .3)
+    omega (arith, test .loop-test .taken, test .before .before .before .before .before .before .before .before .pre .1 .0 .3)
 
 look-less : tie.Need-loop-less-7 Inv-loop μ-loop
 look-less c =
@@ -218,6 +231,11 @@ set-again c =
     going-set _ _ _ _ _ _ _ _ _ _ _ (x .before .before .loop .inv) (x .before .loop-test .taken) _
     (rw (← x .step-at .ensures .0) (c .said .ensures _ _ _ _ _))
 
+set-on : tie.Need-add-p-7 Inv-loop μ-loop
+set-on c =
+    let test = c .before .before .before .before .before .before .before .before .before .before .before .before in
+    omega (arith, test .loop-test .taken, test .before .before .before .before .before .before .before .before .pre .1 .0 .3)
+
 -- its kind is none of the others'
 said-requires : tie.Need-said-requires Inv-loop μ-loop
 said-requires c κs =
@@ -237,10 +255,11 @@ said-requires c κs =
 leaf-requires : tie.Need-leaf-requires Inv-loop μ-loop
 leaf-requires c κs =
     let i = c .before .before .before .before in
-    let rows = i .before .before .before .before in
+    let newest = i .before .before .before .before in
+    let rows = newest .before in
     let held = rows .row-count .ensures in
     let kind = range-in _ _ _ (sym (i .is-among .ensures) ∙ c .before .before .before .if1 .taken) in
-    ((held, rw held (rows .before .before .before .before .before .pre .1 .0 .2)), kind)
+    ((held, rw held (rows .before .before .before .before .before .pre .1 .0 .2)), (newest .newest-row .ensures, kind))
 
 pub run-with-spec : {M : Type 1} → statement M
 unfolding Tries
@@ -250,21 +269,22 @@ run-with-spec =
     Inv-loop
     μ-loop
     (λ c κs. search needs)
-    (λ c. going-start _ _ _ _ _ _ _ (c .before .before .before .before .before .pre .1 .1))
+    (λ c κs. let held = c .row-count .ensures in (held, rw held (c .before .before .before .before .before .pre .1 .0 .2)))
+    (λ c. let p = c .before .before .before .before .before .before .pre .1 in going-start _ _ _ _ _ _ _ _ _ _ (p .1) (p .0 .4))
     (λ c κs. search needs)
     (λ c. omega (
       arith,
       c .before .loop-test .taken,
-      c .before .before .loop .inv .seen,
-      c .before .before .before .before .before .before .before .before .pre .1 .0 .3,
+      c .before .before .loop .inv .came .seen,
+      c .before .before .before .before .before .before .before .before .before .pre .1 .0 .3,
     ))
     (λ c κs. search needs)
     (λ c.
     let loop = c .before .before .before .before .before in
-    omega (arith, loop .loop .inv .room .numbers, loop .before .before .before .before .before .before .pre .1 .1 .long))
+    omega (arith, loop .loop .inv .room .numbers, loop .before .before .before .before .before .before .before .pre .1 .1 .long))
     (λ c.
     let loop = c .before .before .before .before .before in
-    omega (arith, loop .loop .inv .room .theres, fresh-long _ _ _ (loop .before .before .before .before .before .before .pre .1 .1)))
+    omega (arith, loop .loop .inv .room .theres, fresh-long _ _ _ (loop .before .before .before .before .before .before .before .pre .1 .1)))
     (λ c. let test = c .before .before .before .before in omega (arith, test .before .loop .inv .pushed, test .loop-test .taken, c .if2 .taken))
     (λ c. omega arith)
     leaf-requires
@@ -280,7 +300,7 @@ run-with-spec =
     (λ c κs. search needs)
     (λ c κs. search needs)
     (λ c κs. search needs)
-    (λ c. omega arith)
+    compare-on
     (λ c. omega arith)
     compare-again
     (λ c κs. search needs)
@@ -299,7 +319,7 @@ run-with-spec =
     (λ c κs. search needs)
     (λ c. omega arith)
     (λ c κs. search needs)
-    (λ c. omega arith)
+    arith-reads
     (λ c κs. search needs)
     (λ c κs. search needs)
     arith-fits
@@ -314,11 +334,11 @@ run-with-spec =
     (λ c.
     let i = c .before .before .before in
     let loop = i .before .before .before .before .before .before .before .before .before .before .before in
-    omega (arith, loop .loop .inv .room .numbers, loop .before .before .before .before .before .before .pre .1 .1 .long))
+    omega (arith, loop .loop .inv .room .numbers, loop .before .before .before .before .before .before .before .pre .1 .1 .long))
     (λ c.
     let i = c .before .before .before in
     let loop = i .before .before .before .before .before .before .before .before .before .before .before in
-    omega (arith, loop .loop .inv .room .theres, fresh-long _ _ _ (loop .before .before .before .before .before .before .pre .1 .1)))
+    omega (arith, loop .loop .inv .room .theres, fresh-long _ _ _ (loop .before .before .before .before .before .before .before .pre .1 .1)))
     look-stops
     (λ c κs. search needs)
     look-counts
@@ -330,9 +350,9 @@ run-with-spec =
     look-less
     look-again
     said-requires
-    (λ c. omega arith)
+    set-on
     (λ c. omega arith)
     set-again
-    (λ c. omega (arith, c .before .loop .inv .room .numbers, c .before .before .before .before .before .before .before .pre .1 .1 .long))
-    (λ c. omega (arith, c .before .loop .inv .room .theres, fresh-long _ _ _ (c .before .before .before .before .before .before .before .pre .1 .1)))
-    (λ c. going-end _ _ _ _ _ _ _ _ _ _ _ (c .before .loop .inv) (c .loop-test .left)))
+    (λ c. omega (arith, c .before .loop .inv .room .numbers, c .before .before .before .before .before .before .before .before .pre .1 .1 .long))
+    (λ c. omega (arith, c .before .loop .inv .room .theres, fresh-long _ _ _ (c .before .before .before .before .before .before .before .before .pre .1 .1)))
+    (λ c. came-end _ _ _ _ _ _ _ _ (c .before .loop .inv .came) (c .loop-test .left)))

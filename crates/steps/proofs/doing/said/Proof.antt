@@ -5,8 +5,8 @@ use native.Mathlib.Omega.{arith}
 use Rattle.steps.specs.Machine.{effect}
 use Rattle.rules.specs.Meaning.{holds}
 use Rattle.steps.proofs.Said.{says-answer, says-turn, says-in-position, says-bars, says-nothing-early, says-nothing-late}
-use Rattle.steps.proofs.machine.said.Statement.{statement}
-use Rattle.steps.proofs.machine.said.Tie as tie
+use Rattle.steps.proofs.doing.said.Statement.{statement}
+use Rattle.steps.proofs.doing.said.Tie as tie
 
 pub said-spec : {M : Type 1} → statement M
 unfolding effect holds

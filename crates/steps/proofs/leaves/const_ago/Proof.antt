@@ -2,8 +2,8 @@
 use borrow.Author.Needs.{needs}
 use mathlib.Core.Path.{sym}
 use Rattle.steps.proofs.Rows.{ago-const, ago-late}
-use Rattle.steps.proofs.machine.const_ago.Statement.{statement}
-use Rattle.steps.proofs.machine.const_ago.Tie as tie
+use Rattle.steps.proofs.leaves.const_ago.Statement.{statement}
+use Rattle.steps.proofs.leaves.const_ago.Tie as tie
 
 pub const-ago-spec : {M : Type 1} → statement M
 const-ago-spec =

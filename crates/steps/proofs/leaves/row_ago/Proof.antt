@@ -6,8 +6,8 @@ use Prim.Native.Nat.{ℕ, _+_, _-_, _*_, _<_, _≤_}
 use lib.ListN.{length}
 use Rattle.rows.specs.Laws.RowEnds.{row-ends}
 use Rattle.steps.proofs.Rows.{place-ago}
-use Rattle.steps.proofs.machine.row_ago.Statement.{statement}
-use Rattle.steps.proofs.machine.row_ago.Tie as tie
+use Rattle.steps.proofs.leaves.row_ago.Statement.{statement}
+use Rattle.steps.proofs.leaves.row_ago.Tie as tie
 
 -- row i ends by the words' end
 ends : (s : tie.Start) (i : ℕ) → i < s .args .held → i * (7 + s .args .slots) + (7 + s .args .slots) ≤ length (s .args .rows .now)

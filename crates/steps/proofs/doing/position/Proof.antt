@@ -1,7 +1,7 @@
 -- The test is that of the definition.
 use borrow.Author.Needs.{needs}
-use Rattle.steps.proofs.machine.position.Statement.{statement}
-use Rattle.steps.proofs.machine.position.Tie as tie
+use Rattle.steps.proofs.doing.position.Statement.{statement}
+use Rattle.steps.proofs.doing.position.Tie as tie
 
 pub position-spec : {M : Type 1} → statement M
 position-spec =

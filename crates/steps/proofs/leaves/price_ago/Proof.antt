@@ -2,8 +2,8 @@
 use borrow.Author.Needs.{needs}
 use mathlib.Core.Path.{sym}
 use Rattle.steps.proofs.Rows.{ring-held, ago-price, ago-late}
-use Rattle.steps.proofs.machine.price_ago.Statement.{statement}
-use Rattle.steps.proofs.machine.price_ago.Tie as tie
+use Rattle.steps.proofs.leaves.price_ago.Statement.{statement}
+use Rattle.steps.proofs.leaves.price_ago.Tie as tie
 
 pub price-ago-spec : {M : Type 1} → statement M
 price-ago-spec =

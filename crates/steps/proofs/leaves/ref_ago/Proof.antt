@@ -2,8 +2,8 @@
 use borrow.Author.Needs.{needs}
 use mathlib.Core.Path.{sym}
 use Rattle.steps.proofs.Rows.{ring-held, ago-ref, ago-late}
-use Rattle.steps.proofs.machine.ref_ago.Statement.{statement}
-use Rattle.steps.proofs.machine.ref_ago.Tie as tie
+use Rattle.steps.proofs.leaves.ref_ago.Statement.{statement}
+use Rattle.steps.proofs.leaves.ref_ago.Tie as tie
 
 pub ref-ago-spec : {M : Type 1} → statement M
 ref-ago-spec =

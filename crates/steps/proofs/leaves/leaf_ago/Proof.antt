@@ -6,12 +6,12 @@ use Rattle.rows.specs.Ring.{ringOf}
 use Rattle.steps.specs.Machine.{effect}
 use Rattle.steps.proofs.Rows.{ring-held}
 use Rattle.steps.proofs.Said.{says-const, says-ref, says-price}
-use Rattle.steps.proofs.machine.leaf.Statement.{statement}
-use Rattle.steps.proofs.machine.leaf.Tie as tie
+use Rattle.steps.proofs.leaves.leaf_ago.Statement.{statement}
+use Rattle.steps.proofs.leaves.leaf_ago.Tie as tie
 
-pub leaf-spec : {M : Type 1} → statement M
+pub leaf-ago-spec : {M : Type 1} → statement M
 unfolding effect
-leaf-spec =
+leaf-ago-spec =
     tie.close
     (tie.spec
     (λ c κs. search needs)

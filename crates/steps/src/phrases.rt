@@ -1,0 +1,179 @@
+// Tests of leaves: a comparison or a cross with its leaves right before it needs no place for a value, and most tests are such. A run goes
+// over these, and over the jumps and answers between them, as far as they reach.
+use crate::decode;
+use crate::doing;
+use crate::leaves;
+use crate::leaves::AtOnce;
+use rules::PositionState;
+use rules::Value;
+use rules::values;
+ghost use mathlib.Core.Path.{_≡_};
+ghost use mathlib.Core.Bool.{true};
+ghost use mathlib.Core.List.{[]};
+ghost use Prim.Native.Nat.{_+_, _-_, _*_, _<_, _≤_};
+ghost use Rattle.rows.specs.History.{historyOf};
+ghost use Rattle.rows.specs.Ring.{ringPlace, ringOf};
+ghost use Rattle.steps.specs.Bytes.{stepsIn};
+ghost use Rattle.steps.specs.Places.{Gives, Tests, Came};
+
+// A test with its leaves: how many steps they are, and what it answers. 0 where there is none.
+struct Test {
+    steps: usize,
+    answer: bool,
+}
+
+// How far a run came: to which place, with which answer, and after how many visits.
+pub(crate) struct Reached {
+    pub p: usize,
+    pub answer: bool,
+    pub visits: usize,
+}
+
+// The leaf at place p.
+fn leaf_at(
+    list: &[u8],
+    p: usize,
+    rows: &[u64],
+    slots: usize,
+    held: usize,
+    first: usize,
+    newest: usize,
+) -> AtOnce
+    requires { ⌜ p < stepsIn (now list) ⌝ }
+    requires { ⌜ (held ≡ historyOf slots (now rows) .rows) × (first ≤ held) ⌝ }
+    requires { ⌜ newest ≡ ringPlace held first (held - 1) * (7 + slots) ⌝ }
+    ensures { λ r. ⌜ (r .told ≡ true → Gives (ringOf slots first (now (rows .entry))) (now (list .entry)) p (r .value)) ⌝ }
+{
+    leaves::leaf_at_once(decode::step_at(list, p), rows, slots, held, first, newest)
+}
+
+// A cross whose first two leaves stand at p and give a and b.
+fn cross_at(
+    list: &[u8],
+    n: usize,
+    p: usize,
+    a: Value,
+    b: Value,
+    rows: &[u64],
+    slots: usize,
+    held: usize,
+    first: usize,
+    newest: usize,
+) -> Test
+    requires { ⌜ (n ≤ stepsIn (now list)) × (p < n) ⌝ }
+    requires { ⌜ (held ≡ historyOf slots (now rows) .rows) × (first ≤ held) ⌝ }
+    requires { ⌜ newest ≡ ringPlace held first (held - 1) * (7 + slots) ⌝ }
+    requires { ⌜ Gives (ringOf slots first (now rows)) (now list) p a × Gives (ringOf slots first (now rows)) (now list) (p + 1) b ⌝ }
+    ensures { λ r. ⌜ Tests (ringOf slots first (now (rows .entry))) (now (list .entry)) n p (r .steps) (r .answer) ⌝ }
+{
+    if n - p < 5 {
+        return Test {
+            steps: 0,
+            answer: false,
+        };
+    }
+    let x = decode::step_at(list, p + 4);
+    let kind = x.kind;
+    if doing::is_among(kind, 22, 24) {
+        let c = leaf_at(list, p + 2, rows, slots, held, first, newest);
+        let d = leaf_at(list, p + 3, rows, slots, held, first, newest);
+        if c.told {
+            if d.told {
+                let third = c.value;
+                let fourth = d.value;
+                let answer = values::crossed(kind, a, b, third, fourth);
+                return Test { steps: 5, answer };
+            }
+        }
+    }
+    Test {
+        steps: 0,
+        answer: false,
+    }
+}
+
+// A comparison or a cross whose leaves begin at p.
+fn test_at(
+    list: &[u8],
+    n: usize,
+    p: usize,
+    rows: &[u64],
+    slots: usize,
+    held: usize,
+    first: usize,
+    newest: usize,
+) -> Test
+    requires { ⌜ (n ≤ stepsIn (now list)) × (p < n) ⌝ }
+    requires { ⌜ (held ≡ historyOf slots (now rows) .rows) × (first ≤ held) ⌝ }
+    requires { ⌜ newest ≡ ringPlace held first (held - 1) * (7 + slots) ⌝ }
+    ensures { λ r. ⌜ Tests (ringOf slots first (now (rows .entry))) (now (list .entry)) n p (r .steps) (r .answer) ⌝ }
+{
+    if n - p < 3 {
+        return Test {
+            steps: 0,
+            answer: false,
+        };
+    }
+    let a = leaf_at(list, p, rows, slots, held, first, newest);
+    let b = leaf_at(list, p + 1, rows, slots, held, first, newest);
+    if a.told {
+        if b.told {
+            let one = a.value;
+            let other = b.value;
+            let x = decode::step_at(list, p + 2);
+            if doing::is_among(x.kind, 16, 22) {
+                let answer = values::compared(x.kind, one, other);
+                return Test { steps: 3, answer };
+            }
+            return cross_at(list, n, p, one, other, rows, slots, held, first, newest);
+        }
+    }
+    Test {
+        steps: 0,
+        answer: false,
+    }
+}
+
+// The run of the first n steps, as far as they are such tests, jumps and answers.
+pub(crate) fn run_tests(
+    list: &[u8],
+    n: usize,
+    rows: &[u64],
+    slots: usize,
+    first: usize,
+    s: PositionState,
+) -> Reached
+    requires { ⌜ (n ≤ stepsIn (now list)) × (n ≤ 1024) × (first ≤ historyOf slots (now rows) .rows) ⌝ }
+    ensures { λ r. ⌜ Came (ringOf slots first (now (rows .entry))) s (now (list .entry)) n [] (r .answer) (r .visits) (r .p) ⌝ }
+{
+    let held = rows::row_count(rows, slots);
+    let newest = leaves::newest_row(rows, slots, held, first);
+    let mut answer = false;
+    let mut visits: usize = 0;
+    let mut p: usize = 0;
+    while p < n {
+        let x = decode::step_at(list, p);
+        let kind = x.kind;
+        if doing::is_among(kind, 32, 34) {
+            visits += 1;
+            if answer == (kind == 33) {
+                p = doing::landing(p, x.skip, n);
+            } else {
+                p += 1;
+            }
+        } else if doing::is_among(kind, 27, 32) {
+            visits += 1;
+            answer = doing::said(x, s, answer);
+            p += 1;
+        } else {
+            let t = test_at(list, n, p, rows, slots, held, first, newest);
+            if t.steps == 0 {
+                return Reached { p, answer, visits };
+            }
+            visits += t.steps;
+            answer = t.answer;
+            p += t.steps;
+        }
+    }
+    Reached { p, answer, visits }
+}
