@@ -377,7 +377,7 @@ uint64_t ysh_rule(const uint8_t *table, size_t table_len, uint64_t tree, const u
 enum {
     YSH_LINE_WORDS = 8,
     YSH_MOST_LINES = 32,
-    YSH_LINES_ROOM = YSH_ROOM_LINES,
+    YSH_LINES_ROOM = 10,        /* YSH_ROOM_LINES, by the name that it had first */
     YSH_WHY_LINK = 0,           /* All, Any or Not: the next line is the child that decided; where there is none, no child decided alone */
     YSH_WHY_VALUES = 1,         /* the values compared: two; a cross's now, then before; Rising and Falling now, then; value, low, high */
     YSH_WHY_MISSING = 2,        /* the first missing leaf: its node, and how many bars back it was looked at */

@@ -102,6 +102,8 @@ fn every_number_is_the_headers() {
         ("PRICE", kind::PRICE),
         ("PREV", kind::PREV),
         ("DIV", kind::DIV),
+        ("HIGHEST", kind::HIGHEST),
+        ("LOWEST", kind::LOWEST),
         ("GT", kind::GT),
         ("NE", kind::NE),
         ("CROSS_ABOVE", kind::CROSS_ABOVE),
