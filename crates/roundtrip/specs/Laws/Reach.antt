@@ -22,7 +22,7 @@ use Rattle.table.specs.Reading.{child, operandBy, operandFrom, operands, firstO
 use Rattle.table.specs.Series.{asSeries}
 use Rattle.table.specs.Writing.{manyOf}
 use Rattle.roundtrip.specs.Laws.Series.{IsSeries, series-child, leaf-reach}
-use Rattle.roundtrip.specs.Laws.Reading.{as-many, many-conditions, below-operand}
+use Rattle.roundtrip.specs.Laws.Reading.{as-many, many-conditions, operands-below}
 use Rattle.table.specs.Laws.Kinds.{OperandKind, a-const, a-ref, a-price, a-prev, an-arith, an-extreme, operand-kind}
 use Rattle.table.specs.Laws.Kinds.{ConditionKind, a-compare, a-cross, a-between, a-trend, an-all, an-any, a-not, a-position, a-count, condition-kind}
 use Rattle.table.specs.Laws.Accepted.{accepted, tree-sorts}
@@ -103,12 +103,11 @@ row-reach (Forest.tree n below rest) (suc k) h s =
     let sort : kindOf (n .kind) .sort ≡ 1 = cc in
     let others : sorts rest ≡ replicate k 1 = cc in
     let kind = operand-kind (n .kind) sort in
-    let under : sorts below ≡ replicate (childCount n (kindOf (n .kind))) 1 = h .0 ∙ below-operand n kind in
-    let many : length (operands below) ≡ childCount n (kindOf (n .kind)) = as-many below ∙ ap length under ∙ length-replicate _ _ in
-    let a : weigh ownBack below ≡ reachOfRow (operands below) = row-reach below (childCount n (kindOf (n .kind))) (h .1) under in
+    let under = operands-below n below sort (h .0) in
+    let a : weigh ownBack below ≡ reachOfRow (operands below) = row-reach below (childCount n (kindOf (n .kind))) (h .1) (under .0) in
     let b : weigh ownBack rest ≡ reachOfRow (operands rest) = row-reach rest k (h .2) others in
     let c : ownBack n + reachOfRow (operands below) ≡ reach (operandFrom n (operands below)) =
-    adds-operand n (operands below) many (series-child n below (h .0) (h .3)) kind in
+    adds-operand n (operands below) (under .1) (series-child n below (h .0) (h .3)) kind in
     rw (a, b, c)
 
 -- what a condition's node adds, over what is below it

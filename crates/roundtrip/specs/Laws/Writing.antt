@@ -24,7 +24,7 @@ use Rattle.table.specs.Series.{asSeries}
 use Rattle.table.specs.Laws.Kinds.{OperandKind, a-const, a-ref, a-price, a-prev, an-arith, an-extreme, operand-kind}
 use Rattle.roundtrip.specs.Laws.Series.{IsSeries, series-child, leaf-written}
 use Rattle.table.specs.Laws.Kinds.{ConditionKind, a-compare, a-cross, a-between, a-trend, an-all, an-any, a-not, a-position, a-count, condition-kind}
-use Rattle.roundtrip.specs.Laws.Reading.{as-many, many-conditions, below-operand}
+use Rattle.roundtrip.specs.Laws.Reading.{as-many, many-conditions, operands-below}
 use Rattle.roundtrip.specs.Laws.NodeBytes.{tree-bytes, no-bytes}
 use Rattle.roundtrip.specs.Laws.OwnBytes.{write-none, write-one, write-two, write-three, all-one, Own, own-fields, fields, number-node, plain-node}
 
@@ -176,11 +176,10 @@ written-row form (Forest.tree n below rest) (suc m) r h s =
     let sort : kindOf (n .kind) .sort ≡ 1 = cc in
     let others : sorts rest ≡ replicate m 1 = cc in
     let kind = operand-kind (n .kind) sort in
-    let under : sorts below ≡ replicate (childCount n (kindOf (n .kind))) 1 = h .0 ∙ below-operand n kind in
-    let many : length (operands below) ≡ childCount n (kindOf (n .kind)) = as-many below ∙ ap length under ∙ length-replicate _ _ in
-    let a : nodesBytes (flat below) ≡ writeRow (operands below) = written-row form below (childCount n (kindOf (n .kind))) (r .1) (h .1) under in
+    let under = operands-below n below sort (h .0) in
+    let a : nodesBytes (flat below) ≡ writeRow (operands below) = written-row form below (childCount n (kindOf (n .kind))) (r .1) (h .1) (under .0) in
     let b : nodesBytes (flat rest) ≡ writeRow (operands rest) = written-row form rest m (r .2) (h .2) others in
-    let here = writes-operand form n (operands below) (r .0) many (series-child n below (h .0) (h .3)) kind in
+    let here = writes-operand form n (operands below) (r .0) (under .1) (series-child n below (h .0) (h .3)) kind in
     tree-bytes n below rest ∙ rw (a, b) (ap (λ (l : List ℕ). l ++ writeRow (operands rest)) here)
 
 pub written-all : (form : Form) (f : Forest) (m : ℕ) → Right form f → Sorted f → sorts f ≡ replicate m 2 → nodesBytes (flat f) ≡ writeAll (conditions f)
