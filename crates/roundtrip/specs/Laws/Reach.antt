@@ -22,7 +22,7 @@ use Rattle.table.specs.Reading.{child, operandBy, operandFrom, operands, firstO
 use Rattle.table.specs.Series.{asSeries}
 use Rattle.table.specs.Writing.{manyOf}
 use Rattle.roundtrip.specs.Laws.Series.{IsSeries, series-child, leaf-reach}
-use Rattle.roundtrip.specs.Laws.Reading.{as-many, many-conditions, operands-below}
+use Rattle.roundtrip.specs.Laws.Reading.{as-many, many-conditions, row-none, row-one, row-two, row-three, operands-below}
 use Rattle.table.specs.Laws.Kinds.{OperandKind, a-const, a-ref, a-price, a-prev, an-arith, an-extreme, operand-kind}
 use Rattle.table.specs.Laws.Kinds.{ConditionKind, a-compare, a-cross, a-between, a-trend, an-all, an-any, a-not, a-position, a-count, condition-kind}
 use Rattle.table.specs.Laws.Accepted.{accepted, tree-sorts}
@@ -32,31 +32,10 @@ unfoldable pub reachOfRow : List Operand → ℕ
 reachOfRow [] = 0
 reachOfRow (a ∷ os) = max (reach a) (reachOfRow os)
 
--- ---- rows of a known length
+-- ---- conditions in a row of a known length
 
 zero-suc : (n : ℕ) → 0 ≡ suc n → ⊥
 zero-suc n h = omega arith
-
-row-none : (os : List Operand) → length os ≡ 0 → reachOfRow os ≡ 0
-unfolding reachOfRow
-row-none [] h = refl
-row-none (a ∷ os) h = absurd (zero-suc (length os) (sym h))
-
-row-one : (os : List Operand) → length os ≡ 1 → reachOfRow os ≡ reach (child os 0)
-unfolding reachOfRow
-row-one [] h = absurd (zero-suc 0 h)
-row-one (a ∷ os) h = omega (arith, row-none os (omega arith))
-
-row-two : (os : List Operand) → length os ≡ 2 → reachOfRow os ≡ max (reach (child os 0)) (reach (child os 1))
-unfolding reachOfRow
-row-two [] h = absurd (zero-suc 1 h)
-row-two (a ∷ os) h = rw (row-one os (omega arith))
-
-row-three : (os : List Operand) → length os ≡ 3
-    → reachOfRow os ≡ max (reach (child os 0)) (max (reach (child os 1)) (reach (child os 2)))
-unfolding reachOfRow
-row-three [] h = absurd (zero-suc 2 h)
-row-three (a ∷ os) h = rw (row-two os (omega arith))
 
 conditions-none : (cs : Conditions) → manyOf cs ≡ 0 → reachOfAll cs ≡ 0
 unfolding manyOf reachOfAll
@@ -81,15 +60,15 @@ module _ (n : Node) (os : List Operand) (many : length os ≡ childCount n (kind
   count-by row h = many ∙ ap (childCount n) h
 
   adds-operand : OperandKind (n .kind) → ownBack n + reachOfRow os ≡ reach (operandFrom n os)
-  unfolding back childCount operandFrom operandBy reach
+  unfolding back childCount operandFrom operandBy reach reachOfRow
   adds-operand (a-const k row) = simp (row, back-by n _ row, row-none os (count-by _ row))
   adds-operand (a-ref k row) = simp (row, back-by n _ row, row-none os (count-by _ row))
   adds-operand (a-price k row) = simp (row, back-by n _ row, row-none os (count-by _ row))
-  adds-operand (a-prev k row) = simp (row, back-by n _ row, row-one os (count-by _ row))
-  adds-operand (an-arith row) = simp (row, back-by n _ row, row-two os (count-by _ row)) (omega arith)
+  adds-operand (a-prev k row) = rw (row-one os (count-by _ row)) (simp (row, back-by n _ row) (omega arith))
+  adds-operand (an-arith row) = rw (row-two os (count-by _ row)) (simp (row, back-by n _ row) (omega arith))
   adds-operand (an-extreme row) =
       let none : reach (child os 0) ≡ 0 = ap reach (series row) ∙ leaf-reach (asSeries (child os 0)) in
-      simp (row, back-by n _ row, row-one os (count-by _ row), none) (omega arith)
+      rw (row-one os (count-by _ row)) (simp (row, back-by n _ row, none) (omega arith))
 
 -- operands in a row reach as far as the forest weighs
 row-reach : (f : Forest) (k : ℕ) → Sorted f → sorts f ≡ replicate k 1 → weigh ownBack f ≡ reachOfRow (operands f)
@@ -133,19 +112,19 @@ module _ (n : Node) (below : Forest) (w : ℕ)
       (of-operands k here, some-operands k here)
 
   adds-condition : ConditionKind (n .kind) → ownBack n + w ≡ reachOf (conditionFrom n (operands below) (conditions below))
-  unfolding back childCount conditionFrom conditionBy reachOf
+  unfolding back childCount conditionFrom conditionBy reachOf reachOfRow
   adds-condition (a-compare row) =
       let b = row-below 2 _ row refl in
-      simp (row, back-by n _ row, b .0, row-two (operands below) (b .1)) (omega arith)
+      rw (b .0, row-two (operands below) (b .1)) (simp (row, back-by n _ row) (omega arith))
   adds-condition (a-cross row) =
       let b = row-below 2 _ row refl in
-      simp (row, back-by n _ row, b .0, row-two (operands below) (b .1))
+      rw (b .0, row-two (operands below) (b .1)) (simp (row, back-by n _ row) (omega arith))
   adds-condition (a-between k row) =
       let b = row-below 3 _ row refl in
-      simp (row, back-by n _ row, b .0, row-three (operands below) (b .1)) (omega arith)
+      rw (b .0, row-three (operands below) (b .1)) (simp (row, back-by n _ row) (omega arith))
   adds-condition (a-trend row) =
       let b = row-below 1 _ row refl in
-      simp (row, back-by n _ row, b .0, row-one (operands below) (b .1))
+      rw (b .0, row-one (operands below) (b .1)) (simp (row, back-by n _ row) (omega arith))
   adds-condition (an-all k row) = simp (row, back-by n _ row, of-conditions (n .children) (under-by _ row)) (omega arith)
   adds-condition (an-any k row) = simp (row, back-by n _ row, of-conditions (n .children) (under-by _ row)) (omega arith)
   adds-condition (a-not k row) =

@@ -2,6 +2,7 @@
 -- Assumes nothing.
 use mathlib.Core.Path.{_≡_, refl, _∙_, ap}
 use mathlib.Core.Bool.{Bool, true, false, cond}
+use mathlib.Core.List.{List, [], _∷_}
 use Prim.Native.Nat.{ℕ, suc}
 use native.Mathlib.Omega.{arith}
 use lib.ListN.{length, replicate, length-replicate}
@@ -12,7 +13,8 @@ use Rattle.table.specs.Kinds.{kinds, kindOf}
 use Rattle.table.specs.Nodes.{childCount}
 use Rattle.table.specs.Forest.{Forest, sorts}
 use Rattle.table.specs.Forest as Forest
-use Rattle.table.specs.Reading.{operands, conditions}
+use Rattle.table.specs.Trees.{Operand}
+use Rattle.table.specs.Reading.{child, operands, conditions}
 use Rattle.table.specs.Writing.{manyOf}
 use Rattle.table.specs.Laws.Kinds.{listed, of-rows, known}
 
@@ -25,6 +27,23 @@ pub many-conditions : (f : Forest) → manyOf (conditions f) ≡ length (sorts f
 unfolding conditions manyOf sorts
 many-conditions Forest.none = refl
 many-conditions (Forest.tree n below rest) = ap suc (many-conditions rest)
+
+-- operands in a row of a known length
+pub row-none : (os : List Operand) → length os ≡ 0 → os ≡ []
+row-none [] h = refl
+row-none (a ∷ os) h = absurd (omega arith)
+
+pub row-one : (os : List Operand) → length os ≡ 1 → os ≡ child os 0 ∷ []
+row-one [] h = absurd (omega arith)
+row-one (a ∷ os) h = ap (λ (l : List Operand). a ∷ l) (row-none os (omega arith))
+
+pub row-two : (os : List Operand) → length os ≡ 2 → os ≡ child os 0 ∷ child os 1 ∷ []
+row-two [] h = absurd (omega arith)
+row-two (a ∷ os) h = ap (λ (l : List Operand). a ∷ l) (row-one os (omega arith))
+
+pub row-three : (os : List Operand) → length os ≡ 3 → os ≡ child os 0 ∷ child os 1 ∷ child os 2 ∷ []
+row-three [] h = absurd (omega arith)
+row-three (a ∷ os) h = ap (λ (l : List Operand). a ∷ l) (row-two os (omega arith))
 
 -- An operand takes operands, or nothing: so say all rows of the table of kinds.
 takesOperands : ℕ → Bool
