@@ -135,12 +135,9 @@ FineOf form l c = WithinOf form c × (levelsOf c ≤ l)
 abbrev FineAll : Form → ℕ → Conditions → Type 0
 FineAll form l cs = WithinAll form cs × (levelsOfAll cs ≤ l)
 
-zero-suc : (n : ℕ) → 0 ≡ suc n → ⊥
-zero-suc n h = omega arith
-
 pub first-in : (form : Form) (l : ℕ) (cs : Conditions) → manyOf cs ≡ 1 → FineAll form l cs → FineOf form l (firstOf cs)
 unfolding manyOf WithinAll levelsOfAll firstOf
-first-in form l none h f = absurd (zero-suc 0 h)
+first-in form l none h f = absurd (omega arith)
 first-in form l (more c cs) h f = (f .0 .0, omega (arith, f .1))
 
 module _ (form : Form) (l : ℕ) (n : Node) (below : Forest) (right : ownRight form n (kindOf (n .kind)) ≡ true) (small : Small n)

@@ -1,36 +1,31 @@
 -- A row of one condition, and a node whose own bytes are right.
 -- Assumes nothing.
-use mathlib.Core.Path.{_≡_, refl, sym}
+use mathlib.Core.Path.{_≡_, refl}
 use mathlib.Core.Bool.{true, not}
 use mathlib.Core.List.{[], append-nil}
-use Prim.Native.Nat.{ℕ, suc, _<_}
+use Prim.Native.Nat.{ℕ, _<_}
 use native.Mathlib.Omega.{arith}
 use lib.Dec.{ltb, eqb}
 use borrow.Author.Tests.{ltb-true, eqb-true}
 use Rattle.table.specs.declared.nodes.Node.{Node}
 use Rattle.table.specs.declared.kinds.Kind.{Kind}
 use Rattle.table.specs.declared.header.Form.{Form}
-use Rattle.table.specs.Kinds.{constant}
 use Rattle.table.specs.Nodes.{childrenRight, nRight, constantRight, kindRight, fieldsRight, ownRight}
-use Rattle.table.specs.Trees.{Conditions, none}
-use Rattle.table.specs.Trees.{more}
+use Rattle.table.specs.Trees.{Conditions, none, more}
 use Rattle.table.specs.Reading.{firstOf}
 use Rattle.table.specs.Writing.{node, nodeBytes, manyOf, writeOf, writeAll}
 use Rattle.table.specs.Laws.Header.{both}
 
 -- ---- a row of one condition
 
-zero-suc : (n : ℕ) → 0 ≡ suc n → ⊥
-zero-suc n h = omega arith
-
 all-none : (cs : Conditions) → manyOf cs ≡ 0 → writeAll cs ≡ []
 unfolding manyOf writeAll
 all-none none h = refl
-all-none (more c cs) h = absurd (zero-suc (manyOf cs) (sym h))
+all-none (more c cs) h = absurd (omega arith)
 
 pub all-one : (cs : Conditions) → manyOf cs ≡ 1 → writeAll cs ≡ writeOf (firstOf cs)
 unfolding manyOf writeAll firstOf
-all-one none h = absurd (zero-suc 0 h)
+all-one none h = absurd (omega arith)
 all-one (more c cs) h = rw (all-none cs (omega arith)) (append-nil (writeOf c))
 
 -- ---- a node's own bytes

@@ -1,6 +1,6 @@
 -- The reach of the typed trees is the reach that the checker weighs, and the rows needed are one more than the greatest.
 -- Assumes nothing.
-use mathlib.Core.Path.{_≡_, refl, sym, _∙_, ap}
+use mathlib.Core.Path.{_≡_, refl, _∙_, ap}
 use mathlib.Core.Logic.{⊎-elim}
 use mathlib.Core.List.{List, [], _∷_}
 use Prim.Native.Nat.{ℕ, zero, suc, _+_, _<_, max}
@@ -34,17 +34,14 @@ reachOfRow (a ∷ os) = max (reach a) (reachOfRow os)
 
 -- ---- conditions in a row of a known length
 
-zero-suc : (n : ℕ) → 0 ≡ suc n → ⊥
-zero-suc n h = omega arith
-
 conditions-none : (cs : Conditions) → manyOf cs ≡ 0 → reachOfAll cs ≡ 0
 unfolding manyOf reachOfAll
 conditions-none none h = refl
-conditions-none (more c cs) h = absurd (zero-suc (manyOf cs) (sym h))
+conditions-none (more c cs) h = absurd (omega arith)
 
 conditions-one : (cs : Conditions) → manyOf cs ≡ 1 → reachOfAll cs ≡ reachOf (firstOf cs)
 unfolding manyOf reachOfAll firstOf
-conditions-one none h = absurd (zero-suc 0 h)
+conditions-one none h = absurd (omega arith)
 conditions-one (more c cs) h = omega (arith, conditions-none cs (omega arith))
 
 -- ---- a node over what is below it
