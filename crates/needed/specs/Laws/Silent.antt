@@ -31,7 +31,7 @@ use Rattle.roundtrip.specs.Laws.Reach.{rows-are}
 use Rattle.table.specs.Laws.Accepted.{header-of, tree-ends}
 use Rattle.table.specs.Bytes.{Bytes}
 use Rattle.roundtrip.specs.Laws.AcceptedWritten.{byte, nodes-back, tree-written, tree-nodes}
-use Rattle.table.specs.Laws.Kinds.{compare-numbers, cross-numbers, trend-numbers, listed as rowByRow, of-rows, known, operand-kind}
+use Rattle.table.specs.Laws.Kinds.{compare-numbers, cross-numbers, trend-numbers, listed as rowByRow, of-rows, known}
 use Rattle.roundtrip.specs.Laws.WrittenForest.{plantOf, plantAll}
 use Rattle.roundtrip.specs.Laws.WrittenNodes.{From}
 use Rattle.roundtrip.specs.Laws.WrittenGrows.{growsOf}
@@ -40,7 +40,7 @@ use Rattle.roundtrip.specs.Laws.AcceptedWithin.{tree-within}
 use Rattle.table.specs.Silent.{isTest, silent, listed, silentIn, silentInAll, silentOf, silentTests, silentNode, silentNodes, fourSilent}
 use Rattle.table.specs.Kinds.{kinds, kindOf}
 use Rattle.table.specs.Nodes.{childCount}
-use Rattle.roundtrip.specs.Laws.Reading.{below-operand}
+use Rattle.roundtrip.specs.Laws.Reading.{operands-below}
 use Rattle.roundtrip.specs.Laws.WrittenForestKept.{sortedOf}
 
 -- ---- the forest of a tree
@@ -61,10 +61,10 @@ module _ (d : ℕ) (form : Form) where
   operands-none (Forest.tree n below rest) (suc m) kept row =
       let sort : kindOf (n .kind) .sort ≡ 1 = cc in
       let others : sorts rest ≡ replicate m 1 = cc in
-      let under = kept .0 ∙ below-operand n (operand-kind (n .kind) sort) in
+      let under = operands-below n below sort (kept .0) in
       rw (
         lt-leb 16 (n .kind) (operand-low (n .kind) sort),
-        operands-none below (childCount n (kindOf (n .kind))) (kept .1) under,
+        operands-none below (childCount n (kindOf (n .kind))) (kept .1) (under .0),
         operands-none rest m (kept .2) others,
       )
 

@@ -30,7 +30,7 @@ use Rattle.table.specs.Laws.Kinds.{OperandKind, a-const, a-ref, a-price, a-prev
 use Rattle.table.specs.Laws.Header.{both}
 use Rattle.roundtrip.specs.Laws.Series.{IsSeries, series-child, leaf-within}
 use Rattle.table.specs.Laws.Kinds.{ConditionKind, a-compare, a-cross, a-between, a-trend, an-all, an-any, a-not, a-position, a-count, condition-kind}
-use Rattle.roundtrip.specs.Laws.Reading.{as-many, many-conditions, below-operand}
+use Rattle.roundtrip.specs.Laws.Reading.{as-many, many-conditions, operands-below}
 use Rattle.roundtrip.specs.Laws.Writing.{Right}
 use Rattle.roundtrip.specs.Laws.OwnBytes.{Own, own-fields}
 
@@ -121,11 +121,10 @@ row-fine (Forest.tree n below rest) form (suc l) (suc m) r sm so s d =
     let sort : kindOf (n .kind) .sort ≡ 1 = cc in
     let others : sorts rest ≡ replicate m 1 = cc in
     let kind = operand-kind (n .kind) sort in
-    let under : sorts below ≡ replicate (childCount n (kindOf (n .kind))) 1 = so .0 ∙ below-operand n kind in
-    let many : length (operands below) ≡ childCount n (kindOf (n .kind)) = as-many below ∙ ap length under ∙ length-replicate _ _ in
+    let under = operands-below n below sort (so .0) in
     let deep = both-levels l n below rest d in
-    let row = row-fine below form l (childCount n (kindOf (n .kind))) (r .1) (sm .1) (so .1) under (deep .0) in
-    let here = fine-operand form l n (operands below) (r .0) (sm .0) many row (series-child n below (so .0) (so .3)) kind in
+    let row = row-fine below form l (childCount n (kindOf (n .kind))) (r .1) (sm .1) (so .1) (under .0) (deep .0) in
+    let here = fine-operand form l n (operands below) (r .0) (sm .0) (under .1) row (series-child n below (so .0) (so .3)) kind in
     (here .0, here .1, row-fine rest form (suc l) m (r .2) (sm .2) (so .2) others (deep .1))
 
 -- ---- conditions in a row
@@ -136,12 +135,9 @@ FineOf form l c = WithinOf form c × (levelsOf c ≤ l)
 abbrev FineAll : Form → ℕ → Conditions → Type 0
 FineAll form l cs = WithinAll form cs × (levelsOfAll cs ≤ l)
 
-zero-suc : (n : ℕ) → 0 ≡ suc n → ⊥
-zero-suc n h = omega arith
-
 pub first-in : (form : Form) (l : ℕ) (cs : Conditions) → manyOf cs ≡ 1 → FineAll form l cs → FineOf form l (firstOf cs)
 unfolding manyOf WithinAll levelsOfAll firstOf
-first-in form l none h f = absurd (zero-suc 0 h)
+first-in form l none h f = absurd (omega arith)
 first-in form l (more c cs) h f = (f .0 .0, omega (arith, f .1))
 
 module _ (form : Form) (l : ℕ) (n : Node) (below : Forest) (right : ownRight form n (kindOf (n .kind)) ≡ true) (small : Small n)

@@ -1,57 +1,31 @@
--- What writes a row of a known length, and a node whose own bytes are right.
+-- A row of one condition, and a node whose own bytes are right.
 -- Assumes nothing.
-use mathlib.Core.Path.{_≡_, refl, sym}
+use mathlib.Core.Path.{_≡_, refl}
 use mathlib.Core.Bool.{true, not}
-use mathlib.Core.List.{List, [], _∷_, _++_, append-assoc, append-nil}
-use Prim.Native.Nat.{ℕ, suc, _+_, _<_}
+use mathlib.Core.List.{[], append-nil}
+use Prim.Native.Nat.{ℕ, _<_}
 use native.Mathlib.Omega.{arith}
-use lib.ListN.{length}
 use lib.Dec.{ltb, eqb}
 use borrow.Author.Tests.{ltb-true, eqb-true}
 use Rattle.table.specs.declared.nodes.Node.{Node}
 use Rattle.table.specs.declared.kinds.Kind.{Kind}
 use Rattle.table.specs.declared.header.Form.{Form}
-use Rattle.table.specs.Kinds.{constant}
 use Rattle.table.specs.Nodes.{childrenRight, nRight, constantRight, kindRight, fieldsRight, ownRight}
-use Rattle.table.specs.Trees.{Operand, Conditions, none}
-use Rattle.table.specs.Trees.{more}
-use Rattle.table.specs.Reading.{child, firstOf}
-use Rattle.table.specs.Writing.{node, nodeBytes, write, writeRow, manyOf, writeOf, writeAll}
+use Rattle.table.specs.Trees.{Conditions, none, more}
+use Rattle.table.specs.Reading.{firstOf}
+use Rattle.table.specs.Writing.{node, nodeBytes, manyOf, writeOf, writeAll}
 use Rattle.table.specs.Laws.Header.{both}
 
--- ---- rows of a known length
-
-zero-suc : (n : ℕ) → 0 ≡ suc n → ⊥
-zero-suc n h = omega arith
-
-pub write-none : (os : List Operand) → length os ≡ 0 → writeRow os ≡ []
-unfolding writeRow
-write-none [] h = refl
-write-none (a ∷ os) h = absurd (zero-suc (length os) (sym h))
-
-pub write-one : (os : List Operand) → length os ≡ 1 → writeRow os ≡ write (child os 0)
-unfolding writeRow
-write-one [] h = absurd (zero-suc 0 h)
-write-one (a ∷ os) h = rw (write-none os (omega arith)) (append-nil (write a))
-
-pub write-two : (os : List Operand) → length os ≡ 2 → writeRow os ≡ write (child os 0) ++ write (child os 1)
-unfolding writeRow
-write-two [] h = absurd (zero-suc 1 h)
-write-two (a ∷ os) h = rw (write-one os (omega arith))
-
-pub write-three : (os : List Operand) → length os ≡ 3 → writeRow os ≡ write (child os 0) ++ write (child os 1) ++ write (child os 2)
-unfolding writeRow
-write-three [] h = absurd (zero-suc 2 h)
-write-three (a ∷ os) h = rw (write-two os (omega arith)) (sym (append-assoc (write a) _ _))
+-- ---- a row of one condition
 
 all-none : (cs : Conditions) → manyOf cs ≡ 0 → writeAll cs ≡ []
 unfolding manyOf writeAll
 all-none none h = refl
-all-none (more c cs) h = absurd (zero-suc (manyOf cs) (sym h))
+all-none (more c cs) h = absurd (omega arith)
 
 pub all-one : (cs : Conditions) → manyOf cs ≡ 1 → writeAll cs ≡ writeOf (firstOf cs)
 unfolding manyOf writeAll firstOf
-all-one none h = absurd (zero-suc 0 h)
+all-one none h = absurd (omega arith)
 all-one (more c cs) h = rw (all-none cs (omega arith)) (append-nil (writeOf c))
 
 -- ---- a node's own bytes

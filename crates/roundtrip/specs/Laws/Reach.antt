@@ -1,6 +1,6 @@
 -- The reach of the typed trees is the reach that the checker weighs, and the rows needed are one more than the greatest.
 -- Assumes nothing.
-use mathlib.Core.Path.{_≡_, refl, sym, _∙_, ap}
+use mathlib.Core.Path.{_≡_, refl, _∙_, ap}
 use mathlib.Core.Logic.{⊎-elim}
 use mathlib.Core.List.{List, [], _∷_}
 use Prim.Native.Nat.{ℕ, zero, suc, _+_, _<_, max}
@@ -22,7 +22,7 @@ use Rattle.table.specs.Reading.{child, operandBy, operandFrom, operands, firstO
 use Rattle.table.specs.Series.{asSeries}
 use Rattle.table.specs.Writing.{manyOf}
 use Rattle.roundtrip.specs.Laws.Series.{IsSeries, series-child, leaf-reach}
-use Rattle.roundtrip.specs.Laws.Reading.{as-many, many-conditions, below-operand}
+use Rattle.roundtrip.specs.Laws.Reading.{as-many, many-conditions, row-none, row-one, row-two, row-three, operands-below}
 use Rattle.table.specs.Laws.Kinds.{OperandKind, a-const, a-ref, a-price, a-prev, an-arith, an-extreme, operand-kind}
 use Rattle.table.specs.Laws.Kinds.{ConditionKind, a-compare, a-cross, a-between, a-trend, an-all, an-any, a-not, a-position, a-count, condition-kind}
 use Rattle.table.specs.Laws.Accepted.{accepted, tree-sorts}
@@ -32,40 +32,16 @@ unfoldable pub reachOfRow : List Operand → ℕ
 reachOfRow [] = 0
 reachOfRow (a ∷ os) = max (reach a) (reachOfRow os)
 
--- ---- rows of a known length
-
-zero-suc : (n : ℕ) → 0 ≡ suc n → ⊥
-zero-suc n h = omega arith
-
-row-none : (os : List Operand) → length os ≡ 0 → reachOfRow os ≡ 0
-unfolding reachOfRow
-row-none [] h = refl
-row-none (a ∷ os) h = absurd (zero-suc (length os) (sym h))
-
-row-one : (os : List Operand) → length os ≡ 1 → reachOfRow os ≡ reach (child os 0)
-unfolding reachOfRow
-row-one [] h = absurd (zero-suc 0 h)
-row-one (a ∷ os) h = omega (arith, row-none os (omega arith))
-
-row-two : (os : List Operand) → length os ≡ 2 → reachOfRow os ≡ max (reach (child os 0)) (reach (child os 1))
-unfolding reachOfRow
-row-two [] h = absurd (zero-suc 1 h)
-row-two (a ∷ os) h = rw (row-one os (omega arith))
-
-row-three : (os : List Operand) → length os ≡ 3
-    → reachOfRow os ≡ max (reach (child os 0)) (max (reach (child os 1)) (reach (child os 2)))
-unfolding reachOfRow
-row-three [] h = absurd (zero-suc 2 h)
-row-three (a ∷ os) h = rw (row-two os (omega arith))
+-- ---- conditions in a row of a known length
 
 conditions-none : (cs : Conditions) → manyOf cs ≡ 0 → reachOfAll cs ≡ 0
 unfolding manyOf reachOfAll
 conditions-none none h = refl
-conditions-none (more c cs) h = absurd (zero-suc (manyOf cs) (sym h))
+conditions-none (more c cs) h = absurd (omega arith)
 
 conditions-one : (cs : Conditions) → manyOf cs ≡ 1 → reachOfAll cs ≡ reachOf (firstOf cs)
 unfolding manyOf reachOfAll firstOf
-conditions-one none h = absurd (zero-suc 0 h)
+conditions-one none h = absurd (omega arith)
 conditions-one (more c cs) h = omega (arith, conditions-none cs (omega arith))
 
 -- ---- a node over what is below it
@@ -81,15 +57,15 @@ module _ (n : Node) (os : List Operand) (many : length os ≡ childCount n (kind
   count-by row h = many ∙ ap (childCount n) h
 
   adds-operand : OperandKind (n .kind) → ownBack n + reachOfRow os ≡ reach (operandFrom n os)
-  unfolding back childCount operandFrom operandBy reach
+  unfolding back childCount operandFrom operandBy reach reachOfRow
   adds-operand (a-const k row) = simp (row, back-by n _ row, row-none os (count-by _ row))
   adds-operand (a-ref k row) = simp (row, back-by n _ row, row-none os (count-by _ row))
   adds-operand (a-price k row) = simp (row, back-by n _ row, row-none os (count-by _ row))
-  adds-operand (a-prev k row) = simp (row, back-by n _ row, row-one os (count-by _ row))
-  adds-operand (an-arith row) = simp (row, back-by n _ row, row-two os (count-by _ row)) (omega arith)
+  adds-operand (a-prev k row) = rw (row-one os (count-by _ row)) (simp (row, back-by n _ row) (omega arith))
+  adds-operand (an-arith row) = rw (row-two os (count-by _ row)) (simp (row, back-by n _ row) (omega arith))
   adds-operand (an-extreme row) =
       let none : reach (child os 0) ≡ 0 = ap reach (series row) ∙ leaf-reach (asSeries (child os 0)) in
-      simp (row, back-by n _ row, row-one os (count-by _ row), none) (omega arith)
+      rw (row-one os (count-by _ row)) (simp (row, back-by n _ row, none) (omega arith))
 
 -- operands in a row reach as far as the forest weighs
 row-reach : (f : Forest) (k : ℕ) → Sorted f → sorts f ≡ replicate k 1 → weigh ownBack f ≡ reachOfRow (operands f)
@@ -103,12 +79,11 @@ row-reach (Forest.tree n below rest) (suc k) h s =
     let sort : kindOf (n .kind) .sort ≡ 1 = cc in
     let others : sorts rest ≡ replicate k 1 = cc in
     let kind = operand-kind (n .kind) sort in
-    let under : sorts below ≡ replicate (childCount n (kindOf (n .kind))) 1 = h .0 ∙ below-operand n kind in
-    let many : length (operands below) ≡ childCount n (kindOf (n .kind)) = as-many below ∙ ap length under ∙ length-replicate _ _ in
-    let a : weigh ownBack below ≡ reachOfRow (operands below) = row-reach below (childCount n (kindOf (n .kind))) (h .1) under in
+    let under = operands-below n below sort (h .0) in
+    let a : weigh ownBack below ≡ reachOfRow (operands below) = row-reach below (childCount n (kindOf (n .kind))) (h .1) (under .0) in
     let b : weigh ownBack rest ≡ reachOfRow (operands rest) = row-reach rest k (h .2) others in
     let c : ownBack n + reachOfRow (operands below) ≡ reach (operandFrom n (operands below)) =
-    adds-operand n (operands below) many (series-child n below (h .0) (h .3)) kind in
+    adds-operand n (operands below) (under .1) (series-child n below (h .0) (h .3)) kind in
     rw (a, b, c)
 
 -- what a condition's node adds, over what is below it
@@ -134,19 +109,19 @@ module _ (n : Node) (below : Forest) (w : ℕ)
       (of-operands k here, some-operands k here)
 
   adds-condition : ConditionKind (n .kind) → ownBack n + w ≡ reachOf (conditionFrom n (operands below) (conditions below))
-  unfolding back childCount conditionFrom conditionBy reachOf
+  unfolding back childCount conditionFrom conditionBy reachOf reachOfRow
   adds-condition (a-compare row) =
       let b = row-below 2 _ row refl in
-      simp (row, back-by n _ row, b .0, row-two (operands below) (b .1)) (omega arith)
+      rw (b .0, row-two (operands below) (b .1)) (simp (row, back-by n _ row) (omega arith))
   adds-condition (a-cross row) =
       let b = row-below 2 _ row refl in
-      simp (row, back-by n _ row, b .0, row-two (operands below) (b .1))
+      rw (b .0, row-two (operands below) (b .1)) (simp (row, back-by n _ row) (omega arith))
   adds-condition (a-between k row) =
       let b = row-below 3 _ row refl in
-      simp (row, back-by n _ row, b .0, row-three (operands below) (b .1)) (omega arith)
+      rw (b .0, row-three (operands below) (b .1)) (simp (row, back-by n _ row) (omega arith))
   adds-condition (a-trend row) =
       let b = row-below 1 _ row refl in
-      simp (row, back-by n _ row, b .0, row-one (operands below) (b .1))
+      rw (b .0, row-one (operands below) (b .1)) (simp (row, back-by n _ row) (omega arith))
   adds-condition (an-all k row) = simp (row, back-by n _ row, of-conditions (n .children) (under-by _ row)) (omega arith)
   adds-condition (an-any k row) = simp (row, back-by n _ row, of-conditions (n .children) (under-by _ row)) (omega arith)
   adds-condition (a-not k row) =

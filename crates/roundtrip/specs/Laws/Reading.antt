@@ -1,16 +1,22 @@
 -- Laws of reading: a row of trees reads as many operands or conditions as it has trees, and operands stand on operands.
 -- Assumes nothing.
-use mathlib.Core.Path.{_≡_, refl, ap}
-use Prim.Native.Nat.{suc}
-use lib.ListN.{length, replicate}
+use mathlib.Core.Path.{_≡_, refl, _∙_, ap}
+use mathlib.Core.Bool.{Bool, true, false, cond}
+use mathlib.Core.List.{List, [], _∷_}
+use Prim.Native.Nat.{ℕ, suc}
+use native.Mathlib.Omega.{arith}
+use lib.ListN.{length, replicate, length-replicate}
+use lib.Dec.{eqb}
+use borrow.Author.Tests.{eqb-true}
 use Rattle.table.specs.declared.nodes.Node.{Node}
-use Rattle.table.specs.Kinds.{kindOf}
+use Rattle.table.specs.Kinds.{kinds, kindOf}
 use Rattle.table.specs.Nodes.{childCount}
 use Rattle.table.specs.Forest.{Forest, sorts}
 use Rattle.table.specs.Forest as Forest
-use Rattle.table.specs.Reading.{operands, conditions}
+use Rattle.table.specs.Trees.{Operand}
+use Rattle.table.specs.Reading.{child, operands, conditions}
 use Rattle.table.specs.Writing.{manyOf}
-use Rattle.table.specs.Laws.Kinds.{OperandKind, a-const, a-ref, a-price, a-prev, an-arith, an-extreme}
+use Rattle.table.specs.Laws.Kinds.{listed, of-rows, known}
 
 pub as-many : (f : Forest) → length (operands f) ≡ length (sorts f)
 unfolding operands sorts
@@ -22,13 +28,43 @@ unfolding conditions manyOf sorts
 many-conditions Forest.none = refl
 many-conditions (Forest.tree n below rest) = ap suc (many-conditions rest)
 
--- the trees below an operand are operands
-pub below-operand : (n : Node) → OperandKind (n .kind)
+-- operands in a row of a known length
+pub row-none : (os : List Operand) → length os ≡ 0 → os ≡ []
+row-none [] h = refl
+row-none (a ∷ os) h = absurd (omega arith)
+
+pub row-one : (os : List Operand) → length os ≡ 1 → os ≡ child os 0 ∷ []
+row-one [] h = absurd (omega arith)
+row-one (a ∷ os) h = ap (λ (l : List Operand). a ∷ l) (row-none os (omega arith))
+
+pub row-two : (os : List Operand) → length os ≡ 2 → os ≡ child os 0 ∷ child os 1 ∷ []
+row-two [] h = absurd (omega arith)
+row-two (a ∷ os) h = ap (λ (l : List Operand). a ∷ l) (row-one os (omega arith))
+
+pub row-three : (os : List Operand) → length os ≡ 3 → os ≡ child os 0 ∷ child os 1 ∷ child os 2 ∷ []
+row-three [] h = absurd (omega arith)
+row-three (a ∷ os) h = ap (λ (l : List Operand). a ∷ l) (row-two os (omega arith))
+
+-- An operand takes operands, or nothing: so say all rows of the table of kinds.
+takesOperands : ℕ → Bool
+takesOperands k = cond (eqb (kindOf k .sort) 1) (cond (eqb (kindOf k .below) 1) true (eqb (kindOf k .children) 0)) true
+
+below-operand : (n : Node) → kindOf (n .kind) .sort ≡ 1
     → replicate (childCount n (kindOf (n .kind))) (kindOf (n .kind) .below) ≡ replicate (childCount n (kindOf (n .kind))) 1
-unfolding childCount
-below-operand n (a-const k row) = rw row
-below-operand n (a-ref k row) = rw row
-below-operand n (a-price k row) = rw row
-below-operand n (a-prev k row) = rw row
-below-operand n (an-arith row) = rw row
-below-operand n (an-extreme row) = rw row
+unfolding takesOperands
+below-operand n sort =
+    let low = known (n .kind) (kindOf (n .kind)) refl (omega arith) in
+    go (eqb (kindOf (n .kind) .below) 1) refl (rw sort at (of-rows takesOperands (λ i. true) (unfold listed kindOf kinds in refl) (n .kind) low))
+  where
+    go : (b : Bool) → eqb (kindOf (n .kind) .below) 1 ≡ b → cond b true (eqb (kindOf (n .kind) .children) 0) ≡ true
+        → replicate (childCount n (kindOf (n .kind))) (kindOf (n .kind) .below) ≡ replicate (childCount n (kindOf (n .kind))) 1
+    go true is t = rw (eqb-true (kindOf (n .kind) .below) 1 is)
+    go false not-so t = unfold childCount in rw (eqb-true (kindOf (n .kind) .children) 0 t)
+
+-- so the trees below an operand are operands, as many as it takes
+pub operands-below : (n : Node) (below : Forest) → kindOf (n .kind) .sort ≡ 1
+    → sorts below ≡ replicate (childCount n (kindOf (n .kind))) (kindOf (n .kind) .below)
+    → (sorts below ≡ replicate (childCount n (kindOf (n .kind))) 1) × (length (operands below) ≡ childCount n (kindOf (n .kind)))
+operands-below n below sort row =
+    let under = row ∙ below-operand n sort in
+    (under, as-many below ∙ ap length under ∙ length-replicate _ _)

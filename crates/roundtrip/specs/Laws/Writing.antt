@@ -24,9 +24,9 @@ use Rattle.table.specs.Series.{asSeries}
 use Rattle.table.specs.Laws.Kinds.{OperandKind, a-const, a-ref, a-price, a-prev, an-arith, an-extreme, operand-kind}
 use Rattle.roundtrip.specs.Laws.Series.{IsSeries, series-child, leaf-written}
 use Rattle.table.specs.Laws.Kinds.{ConditionKind, a-compare, a-cross, a-between, a-trend, an-all, an-any, a-not, a-position, a-count, condition-kind}
-use Rattle.roundtrip.specs.Laws.Reading.{as-many, many-conditions, below-operand}
+use Rattle.roundtrip.specs.Laws.Reading.{as-many, many-conditions, row-none, row-one, row-two, row-three, operands-below}
 use Rattle.roundtrip.specs.Laws.NodeBytes.{tree-bytes, no-bytes}
-use Rattle.roundtrip.specs.Laws.OwnBytes.{write-none, write-one, write-two, write-three, all-one, Own, own-fields, fields, number-node, plain-node}
+use Rattle.roundtrip.specs.Laws.OwnBytes.{all-one, Own, own-fields, fields, number-node, plain-node}
 
 -- ---- an operand's node, over the operands below it
 
@@ -39,34 +39,34 @@ module _ (form : Form) (n : Node) (os : List Operand) (right : ownRight form n (
   own-by row h = own-fields form n row (sym (ap (ownRight form n) h) ∙ right)
 
   writes-operand : OperandKind (n .kind) → nodeBytes n ++ writeRow os ≡ write (operandFrom n os)
-  unfolding childCount childrenRight nRight constantRight operandFrom operandBy write
+  unfolding childCount childrenRight nRight constantRight operandFrom operandBy write writeRow
   writes-operand (a-const e row) =
       let o = own-by constant row in
       let b : nodeBytes n ≡ node 1 0 0 0 (n .constant) =
       fields n 1 0 0 0 (n .constant) e (omega (arith, o .selector)) (eqb-true _ _ (o .children)) (eqb-true _ _ (o .number)) refl in
-      simp (row, b, write-none os (count-by _ row)) (append-nil _)
+      simp (row, b, row-none os (count-by _ row), append-nil)
   writes-operand (a-ref e row) =
       let o = own-by reference row in
       let b = number-node n 2 e (o .selector) (o .children) (o .constant) in
-      simp (row, b, write-none os (count-by _ row)) (append-nil _)
+      simp (row, b, row-none os (count-by _ row), append-nil)
   writes-operand (a-price e row) =
       let o = own-by price row in
       let b : nodeBytes n ≡ node 3 (n .selector) 0 0 0 =
       fields n 3 (n .selector) 0 0 0 e refl (eqb-true _ _ (o .children)) (eqb-true _ _ (o .number)) (eqb-true _ _ (o .constant)) in
-      simp (row, b, write-none os (count-by _ row)) (append-nil _)
+      simp (row, b, row-none os (count-by _ row), append-nil)
   writes-operand (a-prev e row) =
       let o = own-by previous row in
       let b = number-node n 4 e (o .selector) (o .children) (o .constant) in
-      simp (row, b, write-one os (count-by _ row))
+      rw (row-one os (count-by _ row)) (simp (row, b, append-nil))
   writes-operand (an-arith row) =
       let o = own-by arithmetic row in
       let b = plain-node n (n .kind) refl (o .selector) (o .children) (o .number) (o .constant) in
-      simp (row, b, write-two os (count-by _ row), append-assoc)
+      rw (row-two os (count-by _ row)) (simp (row, b, append-nil, append-assoc))
   writes-operand (an-extreme row) =
       let o = own-by extremum row in
       let b = number-node n (n .kind) refl (o .selector) (o .children) (o .constant) in
       let leaf : write (child os 0) ≡ writeSeries (asSeries (child os 0)) = ap write (series row) ∙ leaf-written (asSeries (child os 0)) in
-      simp (row, b, write-one os (count-by _ row), leaf)
+      rw (row-one os (count-by _ row)) (simp (row, b, leaf, append-nil))
 
 -- ---- a condition's node, over what is below it
 
@@ -110,27 +110,27 @@ module _ (form : Form) (n : Node) (below : Forest) (bytes : List ℕ) (right : o
   )
 
   writes-condition : ConditionKind (n .kind) → nodeBytes n ++ bytes ≡ writeOf (conditionFrom n (operands below) (conditions below))
-  unfolding childCount childrenRight nRight constantRight conditionFrom conditionBy writeOf
+  unfolding childCount childrenRight nRight constantRight conditionFrom conditionBy writeOf writeRow
   writes-condition (a-compare row) =
       let o = own-by′ comparison row in
       let b = plain-node n (n .kind) refl (o .selector) (o .children) (o .number) (o .constant) in
       let r = row-below 2 _ row refl in
-      simp (row, b, r .0, write-two (operands below) (r .1), append-assoc)
+      rw (r .0, row-two (operands below) (r .1)) (simp (row, b, append-nil, append-assoc))
   writes-condition (a-cross row) =
       let o = own-by′ crossing row in
       let b = plain-node n (n .kind) refl (o .selector) (o .children) (o .number) (o .constant) in
       let r = row-below 2 _ row refl in
-      simp (row, b, r .0, write-two (operands below) (r .1), append-assoc)
+      rw (r .0, row-two (operands below) (r .1)) (simp (row, b, append-nil, append-assoc))
   writes-condition (a-between e row) =
       let o = own-by′ between row in
       let b = plain-node n 24 e (o .selector) (o .children) (o .number) (o .constant) in
       let r = row-below 3 _ row refl in
-      simp (row, b, r .0, write-three (operands below) (r .1), append-assoc)
+      rw (r .0, row-three (operands below) (r .1)) (simp (row, b, append-nil, append-assoc))
   writes-condition (a-trend row) =
       let o = own-by′ trend row in
       let b = number-node n (n .kind) refl (o .selector) (o .children) (o .constant) in
       let r = row-below 1 _ row refl in
-      simp (row, b, r .0, write-one (operands below) (r .1))
+      rw (r .0, row-one (operands below) (r .1)) (simp (row, b, append-nil))
   writes-condition (an-all e row) =
       let o = own-by′ allOf row in
       let g = group-bytes 27 e (o .selector) (o .number) (o .constant) (under-by _ row) in
@@ -150,13 +150,13 @@ module _ (form : Form) (n : Node) (below : Forest) (bytes : List ℕ) (right : o
       fields n 30 (cond (eqb (n .selector) 1) 1 0) 0 0 0 e (sym (zero-or-one (n .selector) (o .selector)))
       (eqb-true _ _ (o .children)) (eqb-true _ _ (o .number)) (eqb-true _ _ (o .constant)) in
       let r = row-below 0 _ row refl in
-      simp (row, b, r .0, write-none (operands below) (r .1)) (append-nil _)
+      simp (row, b, r .0, row-none (operands below) (r .1), append-nil)
   writes-condition (a-count e row) =
       let o = own-by′ barsSince row in
       let b : nodeBytes n ≡ node 31 (n .selector) 0 (n .n) 0 =
       fields n 31 (n .selector) 0 (n .n) 0 e refl (eqb-true _ _ (o .children)) refl (eqb-true _ _ (o .constant)) in
       let r = row-below 0 _ row refl in
-      simp (row, b, r .0, write-none (operands below) (r .1)) (append-nil _)
+      simp (row, b, r .0, row-none (operands below) (r .1), append-nil)
 
 -- ---- forests
 
@@ -176,11 +176,10 @@ written-row form (Forest.tree n below rest) (suc m) r h s =
     let sort : kindOf (n .kind) .sort ≡ 1 = cc in
     let others : sorts rest ≡ replicate m 1 = cc in
     let kind = operand-kind (n .kind) sort in
-    let under : sorts below ≡ replicate (childCount n (kindOf (n .kind))) 1 = h .0 ∙ below-operand n kind in
-    let many : length (operands below) ≡ childCount n (kindOf (n .kind)) = as-many below ∙ ap length under ∙ length-replicate _ _ in
-    let a : nodesBytes (flat below) ≡ writeRow (operands below) = written-row form below (childCount n (kindOf (n .kind))) (r .1) (h .1) under in
+    let under = operands-below n below sort (h .0) in
+    let a : nodesBytes (flat below) ≡ writeRow (operands below) = written-row form below (childCount n (kindOf (n .kind))) (r .1) (h .1) (under .0) in
     let b : nodesBytes (flat rest) ≡ writeRow (operands rest) = written-row form rest m (r .2) (h .2) others in
-    let here = writes-operand form n (operands below) (r .0) many (series-child n below (h .0) (h .3)) kind in
+    let here = writes-operand form n (operands below) (r .0) (under .1) (series-child n below (h .0) (h .3)) kind in
     tree-bytes n below rest ∙ rw (a, b) (ap (λ (l : List ℕ). l ++ writeRow (operands rest)) here)
 
 pub written-all : (form : Form) (f : Forest) (m : ℕ) → Right form f → Sorted f → sorts f ≡ replicate m 2 → nodesBytes (flat f) ≡ writeAll (conditions f)
