@@ -51,7 +51,7 @@ returns c =
     let a = s .args in
     let all : List ℕ = take (a .held * (7 + a .slots)) (a .rows .now) in
     let first : ℕ = (a .held - a .depth) * (7 + a .slots) in
-    let rest : take (length all - first) (drop first all) ≡ drop first all = take-all _ (drop first all) (omega (arith, length-drop first all)) in
+    let rest = take-all (length all - first) (drop first all) (omega (arith, length-drop first all)) in
     rw (eq-eqb _ 0 (more .before .if1 .taken)) (rest ∙ last-held (a .slots) (a .depth) (a .held) (a .rows .now) (s .pre .1))
 
 returns-2 : tie.Need-returns-2
