@@ -2,6 +2,7 @@
 pub mod Bytes
 pub mod Machine
 pub mod Places
+pub mod Looks
 pub mod WellFormed
 pub mod Running
 -- ---- the translation

@@ -133,8 +133,26 @@ fn field_at_once(rows: &[u64], base: usize, selector: u8) -> AtOnce
     AtOnce { told: false, value }
 }
 
+// A price of that row, which is there.
+pub(crate) fn price_in(rows: &[u64], base: usize, selector: u8) -> f64
+    requires { ⌜ base + 7 ≤ length (now rows) ⌝ }
+    ensures { λ r. ⌜ r ≡ priceOf (wordsFrom (now (rows .entry)) base) selector ⌝ }
+{
+    if selector < 5 {
+        return field_in(rows, base, selector as usize + 1);
+    }
+    let high = field_in(rows, base, rows::HIGH);
+    let low = field_in(rows, base, rows::LOW);
+    let close = field_in(rows, base, rows::CLOSE);
+    if selector == 5 {
+        return (high + low + close) / 3.0;
+    }
+    let open = field_in(rows, base, rows::OPEN);
+    (open + high + low + close) / 4.0
+}
+
 // A slot of that row, which has it.
-fn slot_in(rows: &[u64], base: usize, slot: u64) -> Value
+pub(crate) fn slot_in(rows: &[u64], base: usize, slot: u64) -> Value
     requires { ⌜ (base + 7 + slot < length (now rows)) × (slot < 64) ⌝ }
     ensures { λ r. ⌜ r ≡ slotOf (wordsFrom (now (rows .entry)) base) slot ⌝ }
 {

@@ -1,112 +1,234 @@
-// Highest and Lowest: a look over rows one after the other, the oldest first.
+// Highest and Lowest: a look over rows one after the other, the oldest first. Most rows are no better than the best before them: these
+// are passed over from word to word, as far as the rows lie one after the other.
 use crate::decode;
+use crate::leaves;
 use rows::ring;
 use rules::Value;
 use rules::values;
-use table::series::Series;
+use table::kinds;
 ghost use mathlib.Core.Path.{_≡_};
-ghost use Prim.Native.Nat.{_-_, _<_, _≤_};
+ghost use mathlib.Core.Bool.{true};
+ghost use Prim.Native.Nat.{ℕ, _+_, _-_, _*_, _<_, _≤_, min};
+ghost use lib.ListN.{length};
 ghost use Rattle.rows.specs.History.{historyOf};
 ghost use Rattle.rows.specs.Ring.{ringOf};
 ghost use Rattle.table.specs.Trees.{extreme};
 ghost use Rattle.rules.specs.declared.Value.the-variants.{Number};
-ghost use Rattle.rules.specs.Values.{priceOf};
+ghost use Rattle.rules.specs.Values.{wordsFrom};
 ghost use Rattle.rules.specs.Meaning.{seriesAt, extremeOver};
 ghost use Rattle.steps.specs.Machine.{ago};
+ghost use Rattle.steps.specs.Looks.{overOf, ofRow, Passed};
 
-// A price or a slot, in row i of the `held` rows that begin at row `first`.
-fn series_at(rows: &[u64], slots: usize, held: usize, first: usize, over: Series, i: usize) -> Value
-    requires { ⌜ (held ≡ historyOf slots (now rows) .rows) × (first ≤ held) × (i < held) ⌝ }
-    ensures { λ r. ⌜ r ≡ seriesAt (ringOf slots first (now (rows .entry))) over i ⌝ }
+// A price or a slot of the row that begins at word `base`, which has it.
+fn series_in(rows: &[u64], slots: usize, base: usize, slot: bool, which: u8) -> Value
+    requires { ⌜ base + (7 + slots) ≤ length (now rows) ⌝ }
+    requires { ⌜ (slot ≡ true → (which < slots) × (which < 64)) ⌝ }
+    ensures { λ r. ⌜ r ≡ ofRow (overOf slot which) (wordsFrom (now (rows .entry)) base) ⌝ }
 {
-    let base = ring::place(held, first, i) * (words::limits::ROW_FIXED + slots);
-    match over {
-        Series::Price(selector) => Value::Number(values::price_at(rows, base, selector)),
-        Series::Slot(slot) => values::slot_at(rows, base, slot),
+    if slot {
+        return leaves::slot_in(rows, base, which as u64);
     }
+    Value::Number(leaves::price_in(rows, base, which))
 }
 
-// The best of the rows from `oldest` to `newest`: it starts at the oldest.
-fn series_over(
+// How many of `count` rows, one after the other, come before one that is better than `best` or that does not have it. The row before
+// them begins at `base`. What does not change from row to row is asked for once by the compiler, so this is a loop for each case.
+fn pass_rows(
+    kind: u8,
+    rows: &[u64],
+    slots: usize,
+    base: usize,
+    count: usize,
+    slot: bool,
+    which: u8,
+    best: f64,
+) -> usize
+    requires { ⌜ base + (count + 1) * (7 + slots) ≤ length (now rows) ⌝ }
+    requires { ⌜ (slot ≡ true → (which < slots) × (which < 64)) ⌝ }
+    ensures { λ r. ⌜ (r ≤ count) × Passed kind (overOf slot which) (now (rows .entry)) slots base best r ⌝ }
+{
+    let mut at = base;
+    let mut k: usize = 0;
+    while k < count {
+        at += words::limits::ROW_FIXED + slots;
+        let later = series_in(rows, slots, at, slot, which);
+        match later {
+            Value::Missing => {
+                return k;
+            }
+            Value::Number(x) => {
+                if kind == kinds::HIGHEST {
+                    if best < x {
+                        return k;
+                    }
+                } else if x < best {
+                    return k;
+                }
+                k += 1;
+            }
+        }
+    }
+    k
+}
+
+// The same for any number of a slot: none is passed over where the rows do not have it.
+fn pass(
+    kind: u8,
+    rows: &[u64],
+    slots: usize,
+    base: usize,
+    count: usize,
+    slot: bool,
+    which: u8,
+    best: f64,
+) -> usize
+    requires { ⌜ base + (count + 1) * (7 + slots) ≤ length (now rows) ⌝ }
+    ensures { λ r. ⌜ (r ≤ count) × Passed kind (overOf slot which) (now (rows .entry)) slots base best r ⌝ }
+{
+    if slot {
+        if 64 <= which {
+            return 0;
+        }
+        if slots <= which as usize {
+            return 0;
+        }
+        return pass_rows(kind, rows, slots, base, count, slot, which, best);
+    }
+    pass_rows(kind, rows, slots, base, count, slot, which, best)
+}
+
+// A price or a slot, in row i of the `held` rows that begin at row `first`.
+fn series_at(
+    rows: &[u64],
+    slots: usize,
+    held: usize,
+    first: usize,
+    slot: bool,
+    which: u8,
+    i: usize,
+) -> Value
+    requires { ⌜ (held ≡ historyOf slots (now rows) .rows) × (first ≤ held) × (i < held) ⌝ }
+    ensures { λ r. ⌜ r ≡ seriesAt (ringOf slots first (now (rows .entry))) (overOf slot which) i ⌝ }
+{
+    let base = ring::place(held, first, i) * (words::limits::ROW_FIXED + slots);
+    if slot {
+        return values::slot_at(rows, base, which as u64);
+    }
+    Value::Number(values::price_at(rows, base, which))
+}
+
+// How many rows follow one of `held` before the words' end, `count` at most.
+fn following(held: usize, row: usize, count: usize) -> usize
+    requires { ⌜ row < held ⌝ }
+    ensures { λ r. ⌜ r ≡ min (held - 1 - row) count ⌝ }
+{
+    let last = held - 1 - row;
+    if last < count { last } else { count }
+}
+
+// The rows after row `at` that are passed over, up to `newest` or the words' end.
+fn passed_from(
     kind: u8,
     rows: &[u64],
     slots: usize,
     held: usize,
     first: usize,
-    over: Series,
+    slot: bool,
+    which: u8,
+    best: f64,
+    at: usize,
+    newest: usize,
+) -> usize
+    requires { ⌜ (held ≡ historyOf slots (now rows) .rows) × (first ≤ held) × (at ≤ newest) × (newest < held) ⌝ }
+    ensures { λ r. ⌜ (at + r ≤ newest) × ((oldest : ℕ) → oldest ≤ at
+        → Number best ≡ extremeOver (ringOf slots first (now (rows .entry))) kind (overOf slot which) oldest (at - oldest)
+        → Number best ≡ extremeOver (ringOf slots first (now (rows .entry))) kind (overOf slot which) oldest (at + r - oldest)) ⌝ }
+{
+    let row = ring::place(held, first, at);
+    let base = row * (words::limits::ROW_FIXED + slots);
+    let count = following(held, row, newest - at);
+    pass(kind, rows, slots, base, count, slot, which, best)
+}
+
+// The best of the rows from `oldest` to `newest`, where that of the oldest is `start`.
+fn best_over(
+    kind: u8,
+    rows: &[u64],
+    slots: usize,
+    held: usize,
+    first: usize,
+    slot: bool,
+    which: u8,
+    start: f64,
     oldest: usize,
     newest: usize,
 ) -> Value
     requires { ⌜ (held ≡ historyOf slots (now rows) .rows) × (first ≤ held) × (oldest ≤ newest) × (newest < held) ⌝ }
-    ensures { λ r. ⌜ r ≡ extremeOver (ringOf slots first (now (rows .entry))) kind over oldest (newest - oldest) ⌝ }
+    requires { ⌜ Number start ≡ seriesAt (ringOf slots first (now rows)) (overOf slot which) oldest ⌝ }
+    ensures { λ r. ⌜ r ≡ extremeOver (ringOf slots first (now (rows .entry))) kind (overOf slot which) oldest (newest - oldest) ⌝ }
 {
-    let mut best = series_at(rows, slots, held, first, over, oldest);
+    let mut best = start;
     let mut at = oldest;
     while at < newest {
-        at += 1;
-        best = values::pick(kind, best, series_at(rows, slots, held, first, over, at));
+        at += passed_from(
+            kind,
+            rows,
+            slots,
+            held,
+            first,
+            slot,
+            which,
+            best,
+            at,
+            newest,
+        );
+        if at < newest {
+            at += 1;
+            let later = series_at(rows, slots, held, first, slot, which, at);
+            match later {
+                Value::Missing => {
+                    return Value::Missing;
+                }
+                Value::Number(x) => {
+                    best = values::took(kind, best, x);
+                }
+            }
+        }
     }
-    best
+    Value::Number(best)
 }
 
-// One of the five numbers that a row itself holds.
-fn field_of(rows: &[u64], slots: usize, held: usize, first: usize, selector: u8, i: usize) -> f64
-    requires { ⌜ (held ≡ historyOf slots (now rows) .rows) × (first ≤ held) × (i < held) × (selector < 5) ⌝ }
-    ensures { λ r. ⌜ r ≡ priceOf (ringOf slots first (now (rows .entry)) .word i) selector ⌝ }
-{
-    let base = ring::place(held, first, i) * (words::limits::ROW_FIXED + slots);
-    values::field_at(rows, base, selector as usize + 1)
-}
-
-// The best of such a number over the same rows: a loop over words.
-fn field_over(
-    kind: u8,
-    rows: &[u64],
-    slots: usize,
-    held: usize,
-    first: usize,
-    selector: u8,
-    oldest: usize,
-    newest: usize,
-) -> f64
-    requires { ⌜ (held ≡ historyOf slots (now rows) .rows) × (first ≤ held) × (oldest ≤ newest) × (newest < held) × (selector < 5) ⌝ }
-    ensures { λ r. ⌜ Number r ≡ extremeOver (ringOf slots first (now (rows .entry))) kind (Series.Price selector) oldest (newest - oldest) ⌝ }
-{
-    let mut best = field_of(rows, slots, held, first, selector, oldest);
-    let mut at = oldest;
-    while at < newest {
-        at += 1;
-        best = values::took(kind, best, field_of(rows, slots, held, first, selector, at));
-    }
-    best
-}
-
-// The best of a price or a slot over the same rows.
+// The same, whatever the oldest row has.
 fn extreme_over(
     kind: u8,
     rows: &[u64],
     slots: usize,
     held: usize,
     first: usize,
-    over: Series,
+    slot: bool,
+    which: u8,
     oldest: usize,
     newest: usize,
 ) -> Value
     requires { ⌜ (held ≡ historyOf slots (now rows) .rows) × (first ≤ held) × (oldest ≤ newest) × (newest < held) ⌝ }
-    ensures { λ r. ⌜ r ≡ extremeOver (ringOf slots first (now (rows .entry))) kind over oldest (newest - oldest) ⌝ }
+    ensures { λ r. ⌜ r ≡ extremeOver (ringOf slots first (now (rows .entry))) kind (overOf slot which) oldest (newest - oldest) ⌝ }
 {
-    match over {
-        Series::Price(selector) => {
-            if selector < 5 {
-                let best = field_over(kind, rows, slots, held, first, selector, oldest, newest);
-                return Value::Number(best);
-            }
-            let price = Series::Price(selector);
-            series_over(kind, rows, slots, held, first, price, oldest, newest)
-        }
-        Series::Slot(k) => {
-            let slot = Series::Slot(k);
-            series_over(kind, rows, slots, held, first, slot, oldest, newest)
+    let start = series_at(rows, slots, held, first, slot, which, oldest);
+    match start {
+        Value::Missing => Value::Missing,
+        Value::Number(x) => {
+            best_over(
+                kind,
+                rows,
+                slots,
+                held,
+                first,
+                slot,
+                which,
+                x,
+                oldest,
+                newest,
+            )
         }
     }
 }
@@ -118,12 +240,13 @@ pub(crate) fn extreme_ago(
     slots: usize,
     held: usize,
     first: usize,
-    over: Series,
+    slot: bool,
+    which: u8,
     n: u64,
     back: u64,
 ) -> Value
     requires { ⌜ (held ≡ historyOf slots (now rows) .rows) × (first ≤ held) ⌝ }
-    ensures { λ r. ⌜ r ≡ ago (ringOf slots first (now (rows .entry))) (extreme kind over n) back ⌝ }
+    ensures { λ r. ⌜ r ≡ ago (ringOf slots first (now (rows .entry))) (extreme kind (overOf slot which) n) back ⌝ }
 {
     if held as u64 <= back {
         return Value::Missing;
@@ -134,5 +257,5 @@ pub(crate) fn extreme_ago(
         return Value::Missing;
     }
     let oldest = newest - rest as usize;
-    extreme_over(kind, rows, slots, held, first, over, oldest, newest)
+    extreme_over(kind, rows, slots, held, first, slot, which, oldest, newest)
 }

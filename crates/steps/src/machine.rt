@@ -12,7 +12,6 @@ use rows::ring;
 use rules::PositionState;
 use rules::Value;
 use rules::values;
-use table::series::Series;
 use words::limits::MOST_STEPS;
 ghost use mathlib.Core.Path.{_≡_};
 ghost use mathlib.Core.Bool.{Bool, true, cond};
@@ -46,11 +45,29 @@ fn look(x: Step, rows: &[u64], slots: usize, held: usize, first: usize) -> Value
 {
     let back = decode::newest_back(x.n, x.skip);
     if x.kind < decode::HIGHEST_SLOT {
-        let over = Series::Price(x.selector);
-        return looking::extreme_ago(x.kind, rows, slots, held, first, over, x.skip, back);
+        return looking::extreme_ago(
+            x.kind,
+            rows,
+            slots,
+            held,
+            first,
+            false,
+            x.selector,
+            x.skip,
+            back,
+        );
     }
-    let over = Series::Slot(x.selector as u64);
-    looking::extreme_ago(x.kind - 2, rows, slots, held, first, over, x.skip, back)
+    looking::extreme_ago(
+        x.kind - 2,
+        rows,
+        slots,
+        held,
+        first,
+        true,
+        x.selector,
+        x.skip,
+        back,
+    )
 }
 
 // How many values a cross or Between takes.

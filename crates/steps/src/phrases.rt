@@ -76,8 +76,8 @@ fn cross_at(
     let kind = x.kind;
     if doing::is_among(kind, 22, 24) {
         let c = leaf_at(list, p + 2, rows, slots, held, first, newest);
-        let d = leaf_at(list, p + 3, rows, slots, held, first, newest);
         if c.told {
+            let d = leaf_at(list, p + 3, rows, slots, held, first, newest);
             if d.told {
                 let third = c.value;
                 let fourth = d.value;
@@ -115,8 +115,8 @@ fn test_at(
         };
     }
     let a = leaf_at(list, p, rows, slots, held, first, newest);
-    let b = leaf_at(list, p + 1, rows, slots, held, first, newest);
     if a.told {
+        let b = leaf_at(list, p + 1, rows, slots, held, first, newest);
         if b.told {
             let one = a.value;
             let other = b.value;
@@ -161,18 +161,19 @@ pub(crate) fn run_tests(
             } else {
                 p += 1;
             }
-        } else if doing::is_among(kind, 27, 32) {
-            visits += 1;
-            answer = doing::said(x, s, answer);
-            p += 1;
         } else {
             let t = test_at(list, n, p, rows, slots, held, first, newest);
-            if t.steps == 0 {
+            if 0 < t.steps {
+                visits += t.steps;
+                answer = t.answer;
+                p += t.steps;
+            } else if doing::is_among(kind, 27, 32) {
+                visits += 1;
+                answer = doing::said(x, s, answer);
+                p += 1;
+            } else {
                 return Reached { p, answer, visits };
             }
-            visits += t.steps;
-            answer = t.answer;
-            p += t.steps;
         }
     }
     Reached { p, answer, visits }

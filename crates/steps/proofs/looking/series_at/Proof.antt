@@ -1,10 +1,13 @@
--- The row lies within the words, so nothing wraps; then the leaf.
+-- The row lies within the words, so nothing wraps; then a slot or a price.
 use borrow.Author.Needs.{needs}
 use native.Mathlib.Omega.{arith}
 use mathlib.Core.Path.{sym}
+use mathlib.Core.Bool.{true, false}
 use Prim.Native.Nat.{_+_, _*_, _≤_}
 use lib.ListN.{length}
-use Rattle.steps.proofs.Rows.{place-ends, price-in, slot-in}
+use Rattle.steps.specs.Looks.{overOf}
+use Rattle.steps.proofs.Rows.{place-ends}
+use Rattle.steps.proofs.Looks.{series-there}
 use Rattle.steps.proofs.looking.series_at.Statement.{statement}
 use Rattle.steps.proofs.looking.series_at.Tie as tie
 
@@ -21,19 +24,17 @@ series-at-spec =
     (λ c κs. search needs)
     (λ c. omega (arith, ends c))
     (λ c. omega (arith, ends c))
-    (λ c. search needs)
-    (λ c κs. search needs)
-    (λ c. search needs)
     (λ c κs. search needs)
     (λ c.
-    let o = c .before .before in
-    let s = o .before .before .before .before in
-    rw (o .over .given .1, c .price-at .ensures, o .before .before .place .ensures)
-    (sym (price-in (s .args .slots) (s .args .first) (s .args .rows .now) (s .args .held) 0
-    (s .pre .0) (s .pre .1) _ (s .args .i) (s .pre .2))))
+    let place = c .before .before in
+    let s = place .before .before in
+    let a = s .args in
+    rw (c .before .if1 .taken, c .slot-at .ensures, place .place .ensures)
+    (sym (series-there (a .slots) (a .first) (a .rows .now) (a .held) (s .pre .0) (s .pre .1) (overOf true (a .which)) (a .i) (s .pre .2))))
+    (λ c κs. search needs)
     (λ c.
-    let o = c .before .before in
-    let s = o .before .before .before .before in
-    rw (o .over2 .given .1, c .slot-at .ensures, o .before .before .place .ensures)
-    (sym (slot-in (s .args .slots) (s .args .first) (s .args .rows .now) (s .args .held) 0
-    (s .pre .0) (s .pre .1) _ (s .args .i) (s .pre .2)))))
+    let place = c .before .before in
+    let s = place .before .before in
+    let a = s .args in
+    rw (c .before .if1 .left, c .price-at .ensures, place .place .ensures)
+    (sym (series-there (a .slots) (a .first) (a .rows .now) (a .held) (s .pre .0) (s .pre .1) (overOf false (a .which)) (a .i) (s .pre .2)))))

@@ -17,10 +17,9 @@ look-spec =
     let n = c .before .before .before in
     let first = n .before .before in
     rw (says-over-price (first .args .x) (first .pre .1 .0) (c .before .if1 .taken), c .extreme-ago .ensures, n .newest-back .ensures))
-    (λ c. search needs)
-    (λ c. omega (arith, c .before .before .if1 .left))
+    (λ c. omega (arith, c .before .if1 .left))
     (λ c κs. search needs)
     (λ c s a b c2 d y.
-    let n = c .before .before .before .before .before in
+    let n = c .before .before .before .before in
     let first = n .before .before in
-    rw (says-over-slot (first .args .x) (c .before .before .before .if1 .left) (first .pre .1 .1), c .extreme-ago2 .ensures, n .newest-back .ensures)))
+    rw (says-over-slot (first .args .x) (c .before .before .if1 .left) (first .pre .1 .1), c .extreme-ago2 .ensures, n .newest-back .ensures)))

@@ -36,58 +36,58 @@ stay-again c =
     came-stay _ _ _ _ _ _ _ _ (x .before .before .loop .inv) (x .before .loop-test .taken)
     (rw (← x .step-at .ensures .0) (does-jump _ _ _ _ _ _ _ _ (kind .0) (kind .1) ∙ rw (c .if2 .left)))
 
--- an answer
-said-again : tie.Need-loop-again-3 Inv-loop μ-loop
-said-again c =
-    let x = c .before .before .before .before .before in
-    came-say _ _ _ _ _ _ _ _ (x .before .before .loop .inv) (x .before .loop-test .taken) 0 _
-    (rw (← x .step-at .ensures .0) (c .said .ensures _ _ _ _ _))
-
-said-requires : tie.Need-said-requires Inv-loop μ-loop
-said-requires c κs =
-    let x = c .before .before .before .before .step-at .result in
-    let kind = range-in 27 (x .kind) 32 (sym (c .before .is-among2 .ensures) ∙ c .if3 .taken) in (
-      λ l. omega (arith, kind .0),
-      λ l. omega (arith, kind .0),
-      λ l. omega (arith, kind .0),
-      λ l. omega (arith, kind .0),
-      λ l. omega (arith, l, kind .1),
-    )
-
 test-requires : tie.Need-test-at-requires Inv-loop μ-loop
 test-requires c κs =
-    let test = c .before .before .before .before .before in
+    let test = c .before .before .before in
     let newest = test .before .before in
     let held = newest .before .row-count .ensures in
     let pre = newest .before .before .before .before .pre in
     ((pre .0, test .loop-test .taken), ((held, rw held (pre .2)), newest .newest-row .ensures))
 
 -- a test with its leaves
-test-again : tie.Need-loop-again-4 Inv-loop μ-loop
+test-again : tie.Need-loop-again-3 Inv-loop μ-loop
 test-again c =
     let t = c .before .before .before .before in
-    t .test-at .ensures (omega (arith, c .before .before .if4 .left)) _ _ _ (t .before .before .before .before .before .before .before .loop .inv)
+    t .test-at .ensures (c .before .before .if3 .taken) _ _ _ (t .before .before .before .before .before .loop .inv)
 
-test-counts : tie.Need-add-visits-3 Inv-loop μ-loop
+test-counts : tie.Need-add-visits-2 Inv-loop μ-loop
 test-counts c =
     let t = c .before .before .before in
-    let loop = t .before .before .before .before .before .before .before in
-    let came = t .test-at .ensures (omega (arith, c .before .if4 .left)) _ _ _ (loop .loop .inv) in
+    let loop = t .before .before .before .before .before in
+    let came = t .test-at .ensures (c .before .if3 .taken) _ _ _ (loop .loop .inv) in
     omega (arith, came .seen, came .on, loop .before .before .before .before .before .pre .1)
 
-test-on : tie.Need-add-p-3 Inv-loop μ-loop
+test-on : tie.Need-add-p-2 Inv-loop μ-loop
 test-on c =
     let t = c .before .before .before .before in
-    let loop = t .before .before .before .before .before .before .before in
-    let came = t .test-at .ensures (omega (arith, c .before .before .if4 .left)) _ _ _ (loop .loop .inv) in
+    let loop = t .before .before .before .before .before in
+    let came = t .test-at .ensures (c .before .before .if3 .taken) _ _ _ (loop .loop .inv) in
     omega (arith, came .on, loop .before .before .before .before .before .pre .1)
 
-test-less : tie.Need-loop-less-4 Inv-loop μ-loop
+test-less : tie.Need-loop-less-3 Inv-loop μ-loop
 test-less c =
     let t = c .before .before .before .before in
-    let loop = t .before .before .before .before .before .before .before in
-    let came = t .test-at .ensures (omega (arith, c .before .before .if4 .left)) _ _ _ (loop .loop .inv) in
-    omega (arith, came .on, c .before .before .if4 .left)
+    let loop = t .before .before .before .before .before in
+    let came = t .test-at .ensures (c .before .before .if3 .taken) _ _ _ (loop .loop .inv) in
+    omega (arith, came .on, c .before .before .if3 .taken)
+
+-- an answer
+said-again : tie.Need-loop-again-4 Inv-loop μ-loop
+said-again c =
+    let x = c .before .before .before .before .before .before .before .before in
+    came-say _ _ _ _ _ _ _ _ (x .before .before .loop .inv) (x .before .loop-test .taken) 0 _
+    (rw (← x .step-at .ensures .0) (c .said .ensures _ _ _ _ _))
+
+said-requires : tie.Need-said-requires Inv-loop μ-loop
+said-requires c κs =
+    let x = c .before .before .before .before .before .before .before .step-at .result in
+    let kind = range-in 27 (x .kind) 32 (sym (c .before .is-among2 .ensures) ∙ c .if4 .taken) in (
+      λ l. omega (arith, kind .0),
+      λ l. omega (arith, kind .0),
+      λ l. omega (arith, kind .0),
+      λ l. omega (arith, kind .0),
+      λ l. omega (arith, l, kind .1),
+    )
 
 pub run-tests-spec : {M : Type 1} → statement M
 run-tests-spec =
@@ -109,18 +109,18 @@ run-tests-spec =
     (λ c. omega arith)
     (λ c. omega arith)
     stay-again
-    (λ c κs. search needs)
-    (λ c.
-    let loop = c .before .before .before .before .before .before in
-    omega (arith, c .before .before .before .before .before .loop-test .taken, loop .loop .inv .seen, loop .before .before .before .before .before .pre .1))
-    said-requires
-    (λ c. omega arith)
-    (λ c. omega arith)
-    said-again
     test-requires
-    (λ c. c .before .before .before .before .before .before .before .before .before .loop .inv)
     test-counts
     test-on
     test-less
     test-again
+    (λ c κs. search needs)
+    (λ c.
+    let test = c .before .before .before .before .before .before .before .before in
+    omega (arith, test .loop-test .taken, test .before .loop .inv .seen, test .before .before .before .before .before .before .pre .1))
+    said-requires
+    (λ c. omega arith)
+    (λ c. omega arith)
+    said-again
+    (λ c. c .before .before .before .before .before .before .before .before .before .loop .inv)
     (λ c. c .before .loop .inv))

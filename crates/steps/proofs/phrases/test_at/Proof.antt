@@ -11,22 +11,20 @@ compares : tie.Need-returns-2
 compares c =
     let among = c .before .before in
     let x = among .before in
-    let told = x .before .before in
-    let second = told .before in
-    let first = second .before in
+    let second = x .before .before in
+    let first = second .before .before in
     let kind = range-in _ _ _ (sym (among .is-among .ensures) ∙ c .before .if4 .taken) in
     rw (c .compared .ensures)
-    (compare-tests _ _ _ _ _ _ (first .leaf-at .ensures (told .if2 .taken)) (second .leaf-at2 .ensures (x .before .if3 .taken))
+    (compare-tests _ _ _ _ _ _ (first .leaf-at .ensures (second .before .if2 .taken)) (second .leaf-at2 .ensures (x .before .if3 .taken))
     (omega (arith, first .before .if1 .left)) _ (x .step-at .ensures .0) (kind .0) (kind .1))
 
 cross-requires : tie.Need-cross-at-requires
 cross-requires c κs =
     let x = c .before .before in
-    let told = x .before .before in
-    let second = told .before in
-    let first = second .before in
+    let second = x .before .before in
+    let first = second .before .before in
     let pre = first .before .before .before .before .pre in
-    (pre .0, (pre .1 .0, (pre .1 .1, (first .leaf-at .ensures (told .if2 .taken), second .leaf-at2 .ensures (x .before .if3 .taken)))))
+    (pre .0, (pre .1 .0, (pre .1 .1, (first .leaf-at .ensures (second .before .if2 .taken), second .leaf-at2 .ensures (x .before .if3 .taken)))))
 
 pub test-at-spec : {M : Type 1} → statement M
 test-at-spec =

@@ -1,0 +1,93 @@
+-- The loop's invariant: the best so far is that of the rows up to the one reached.
+use borrow.Author.Needs.{needs}
+use Prim.Native.Nat.{ℕ, _+_, _-_, _≤_}
+use mathlib.Core.Path.{_≡_, sym, ap, _∙_}
+use native.Mathlib.Omega.{arith}
+use native.Mathlib.Nat.{le-refl}
+use Rattle.rows.specs.Ring.{ringOf}
+use Rattle.rules.specs.declared.Value.the-variants.{Number}
+use Rattle.rules.specs.Values.{pick}
+use Rattle.rules.specs.Meaning.{extremeOver}
+use Rattle.rules.specs.Laws.Meaning.{extreme-one, extreme-more, any-missing}
+use Rattle.steps.specs.Looks.{overOf}
+use Rattle.steps.proofs.looking.best_over.Statement.{statement}
+use Rattle.steps.proofs.looking.best_over.Tie as tie
+
+abbrev Inv-loop : tie.InvT-loop
+Inv-loop kind rows slots held first slot which start oldest newest best₀ at₀ best at =
+    (oldest ≤ at) × (at ≤ newest) × (Number best ≡ extremeOver (ringOf slots first rows) kind (overOf slot which) oldest (at - oldest))
+
+abbrev μ-loop : tie.MeasureT-loop
+μ-loop kind rows slots held first slot which start oldest newest best₀ at₀ best at = newest - at
+
+-- a row in which it is missing
+missing : tie.Need-returns Inv-loop μ-loop
+missing c =
+    let row = c .before .before in
+    let l = row .before .before .before .before .loop in
+    let a = row .before .before .before .before .before .before .args in
+    let i = l .at + row .before .before .passed-from .result + 1 in
+    let here : a .oldest + (i - a .oldest) ≡ i = omega (arith, l .inv .0) in
+    sym (any-missing (ringOf (a .slots) (a .first) (a .rows .now)) (a .kind) (overOf (a .slot) (a .which)) (a .oldest) (a .newest - a .oldest) (i - a .oldest)
+    (omega (arith, row .before .if1 .taken)) (rw here (sym (row .series-at .ensures) ∙ c .enum-told .given .1)))
+
+-- a row that has it
+taken : tie.Need-loop-again Inv-loop μ-loop
+unfolding pick
+taken c =
+    let row = c .before .before .before .before in
+    let passed = row .before .before in
+    let l = passed .before .before .loop in
+    let a = passed .before .before .before .before .args in
+    let i = l .at + passed .passed-from .result in
+    let le : a .oldest ≤ i = omega (arith, l .inv .0) in (
+      omega (arith, le),
+      omega (arith, row .before .if1 .taken),
+      rw (
+        extreme-more (ringOf (a .slots) (a .first) (a .rows .now)) (a .kind) (overOf (a .slot) (a .which)) (a .oldest) i le,
+        ← passed .passed-from .ensures .1 (a .oldest) (l .inv .0) (l .inv .2),
+        ← row .series-at .ensures,
+        c .before .before .later .given .1,
+        c .took .ensures,
+      ),
+    )
+
+-- none was better
+none-left : tie.Need-loop-again-2 Inv-loop μ-loop
+none-left c =
+    let passed = c .before in
+    let l = passed .before .before .loop in
+    let a = passed .before .before .before .before .args in
+    (omega (arith, l .inv .0), passed .passed-from .ensures .0, passed .passed-from .ensures .1 (a .oldest) (l .inv .0) (l .inv .2))
+
+pub best-over-spec : {M : Type 1} → statement M
+best-over-spec =
+    tie.close
+    (tie.spec
+    Inv-loop
+    μ-loop
+    (λ c.
+    let s = c .before in
+    let a = s .args in (
+      le-refl (a .oldest),
+      s .pre .0 .2,
+      s .pre .1 ∙ sym (extreme-one (ringOf (a .slots) (a .first) (a .rows .now)) (a .kind) (overOf (a .slot) (a .which)) (a .oldest)),
+    ))
+    (λ c κs. let p = c .before .before .before .pre .0 in (p .0, p .1, c .before .loop .inv .1, p .3))
+    (λ c. omega (arith, c .passed-from .ensures .0))
+    (λ c. omega (arith, c .if1 .taken))
+    (λ c κs. let p = c .before .before .before .before .before .pre .0 in (p .0, p .1, omega (arith, c .if1 .taken, p .3)))
+    (λ c. search needs)
+    missing
+    (λ c. search needs)
+    (λ c κs. search needs)
+    (λ c. omega (arith, c .before .before .before .before .before .if1 .taken))
+    taken
+    (λ c. omega (arith, c .if1 .left, c .before .before .loop-test .taken))
+    none-left
+    (λ c.
+    let l = c .before .loop in
+    let a = c .before .before .before .args in
+    let last : l .at ≡ a .newest = omega (arith, c .loop-test .left, l .inv .1) in
+    l .inv .2
+    ∙ ap (λ (m : ℕ). extremeOver (ringOf (a .slots) (a .first) (a .rows .now)) (a .kind) (overOf (a .slot) (a .which)) (a .oldest) (m - a .oldest)) last))

@@ -1,0 +1,26 @@
+-- A look over rows that lie one after the other in the words, for the code alone: a look has no end of them. Definitions only.
+use Prim.Native.Nat.{ℕ, _+_, _*_, _<_}
+use mathlib.Core.Path.{_≡_}
+use mathlib.Core.Bool.{Bool, true, false}
+use mathlib.Core.List.{List}
+use lib.Ieee.{Float}
+use Rattle.table.specs.declared.series.Series.{Series}
+use Rattle.table.specs.declared.series.Series.the-variants.{Price, Slot}
+use Rattle.rules.specs.declared.Value.{Value}
+use Rattle.rules.specs.declared.Value.the-variants.{Number}
+use Rattle.rules.specs.Values.{wordsFrom, priceOf, slotOf, pick}
+
+-- A slot or a price, by its number.
+abbrev pub overOf : Bool → ℕ → Series
+overOf true k = Slot k
+overOf false p = Price p
+
+-- What a row has of it.
+abbrev pub ofRow : Series → (ℕ → ℕ) → Value
+ofRow (Price p) row = Number (priceOf row p)
+ofRow (Slot k) row = slotOf row k
+
+-- Of the rows after the one that begins at word `base`, so many leave this number the best.
+abbrev pub Passed : ℕ → Series → List ℕ → ℕ → ℕ → Float → ℕ → Type 0
+Passed kind over ws slots base best m =
+    (k : ℕ) → k < m → pick kind (Number best) (ofRow over (wordsFrom ws (base + (k + 1) * (7 + slots)))) ≡ Number best
