@@ -20,3 +20,8 @@ line ok number place = record { ok = ok; number = number; place = place }
 unfoldable pub judged : List Line → Verdict
 judged [] = Fine
 judged (l ∷ ls) = cond (l .ok) (judged ls) (Bad (refusal (l .number) (l .place)))
+
+-- Of two lists, one below the other: the verdict on the first where it is not fine, else that on the second.
+abbrev pub firstBad : Verdict → Verdict → Verdict
+firstBad Fine v = v
+firstBad (Bad r) v = Bad r

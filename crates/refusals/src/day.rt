@@ -7,6 +7,7 @@ use crate::bar;
 use crate::rooms;
 use crate::setting;
 use crate::verdict::Verdict;
+use crate::verdict::first_bad;
 use records::settings::Settings;
 use records::state::Counts;
 use records::state::State;
@@ -74,8 +75,7 @@ pub fn judge_next(slots: usize, n: Counts, bar: &[u64], equity: &[u64], trades: 
             place: 0,
         });
     }
-    if let Verdict::Bad(refusal) = rooms::judge_place(n, equity, trades) {
-        return Verdict::Bad(refusal);
-    }
-    bar::judge_bar(slots, bar, n.bars_seen)
+    let fourteen = rooms::judge_place(n, equity, trades);
+    let eleven = bar::judge_bar(slots, bar, n.bars_seen);
+    first_bad(fourteen, eleven)
 }
