@@ -9,6 +9,7 @@ ghost use Rattle.engine.specs.Account as Account;
 ghost use Rattle.engine.specs.Account.{leaving, facing, entering, reached, dueOf, charged};
 ghost use Rattle.engine.specs.Books.{booked, marked};
 use crate::record;
+use crate::terms;
 use execution::Entry;
 use execution::Exit;
 use execution::Optional;
@@ -108,9 +109,10 @@ fn enter(
     requires { ⌜ s .slots ≤ mostSlots ⌝ }
     ensures { λ r. ⌜ r ≡ Account.entered side kind price s p candle (ringOf (s .slots) start (heldRows (s .slots) held (now (rows .entry)))) number ⌝ }
 {
-    let terms = s.terms;
     let account = p.portfolio;
     let slots = s.slots;
+    let given = s.terms;
+    let terms = terms::anew(given);
     let before = record::held_rows(rows, slots, held);
     let entries = s.entries;
     let fee_bps = level::fee_bps(kind, entries.maker_bps, terms.taker_bps);

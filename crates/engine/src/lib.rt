@@ -5,6 +5,7 @@ pub mod day;
 mod decide;
 mod ending;
 mod record;
+mod terms;
 
 ghost use Rattle.records.specs.Lent.{rooms, lists};
 ghost use Rattle.engine.specs.Finish.{finishOf};

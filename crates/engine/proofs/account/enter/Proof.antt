@@ -1,4 +1,4 @@
--- The entry over the rows held, then the position with it.
+-- The entry over the rows held, by the terms as they are, then the position with it.
 use Rattle.engine.specs.Account.{entered}
 use borrow.Author.Needs.{needs}
 use Rattle.engine.proofs.account.enter.Statement.{statement}
@@ -14,6 +14,7 @@ enter-spec =
     (λ c κs. search needs)
     (λ c κs. search needs)
     (λ c κs. search needs)
+    (λ c κs. search needs)
     (λ c.
     let entry = c .before in
     simp (
@@ -22,4 +23,5 @@ enter-spec =
       entry .before .execute-entry-ring .ensures,
       entry .before .before .fee-bps .ensures,
       entry .before .before .before .before .held-rows .ensures,
+      entry .before .before .before .before .before .anew .ensures,
     )))
