@@ -16,7 +16,7 @@ use Rattle.rows.specs.declared.ring.Ring.{Ring}
 use Rattle.rows.specs.Laws.Ring.{RingFine}
 use Rattle.rows.specs.Ring.{ringWith, ringAfter, nextStart}
 use Rattle.rows.specs.Room.{placesFor, withRow, heldWith}
-use Rattle.rows.proofs.Added.{moved-up}
+use Rattle.rows.specs.Laws.Added.{moved-up}
 use Rattle.engine.specs.declared.record.Place.{Place}
 use Rattle.engine.specs.InPlace.{keptRing, keptRoom, MakesPlace}
 

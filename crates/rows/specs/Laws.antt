@@ -1,3 +1,4 @@
 pub mod RowEnds
 pub mod Turned
 pub mod Ring
+pub mod Added

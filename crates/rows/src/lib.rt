@@ -1,7 +1,6 @@
 // Rows: what is kept of each bar, in words that the caller lends. A row is 7 + K words: time, open, high, low, close,
-// volume, the presence mask, K slots. A room that rows are added to is in room.rt.
+// volume, the presence mask, K slots.
 pub mod ring;
-pub mod room;
 
 ghost use mathlib.Core.Path.{_≡_};
 ghost use Rattle.rows.specs.History.{historyOf, wholeRows, lastRows};

@@ -3,7 +3,7 @@ ghost use mathlib.Core.Path.{_≡_};
 ghost use mathlib.Core.List.{_++_};
 ghost use Prim.Native.Nat.{_≤_};
 ghost use lib.ListN.{length, take, drop};
-ghost use Rattle.rows.specs.Ring.{startWithin, ringPlace, nextStart, ringWith, ringAfter, turned};
+ghost use Rattle.rows.specs.Ring.{startWithin, ringPlace, turned};
 
 // How many rows a room holds, and which of them is the oldest. While there is a place left that is row 0.
 pub struct Ring {
@@ -29,50 +29,6 @@ pub fn place(places: usize, first: usize, i: usize) -> usize
         return first + i;
     }
     first - (places - i)
-}
-
-// The row after `start`, and after the last the first.
-fn next_start(places: usize, start: usize) -> usize
-    ensures { λ r. ⌜ r ≡ nextStart places start ⌝ }
-{
-    if places == 0 {
-        return 0;
-    }
-    if start < places - 1 {
-        return start + 1;
-    }
-    0
-}
-
-// Adds a row to a room: at the end while there is a place, then over the oldest.
-pub fn push(room: &mut [u64], ring: Ring, row: &[u64]) -> Ring
-    ensures { λ r. ⌜ (r ≡ ringAfter (now (room .entry)) ring (now (row .entry))) × (now (room .exit) ≡ ringWith (now (room .entry)) ring (now (row .entry))) ⌝ }
-{
-    let held = ring.held;
-    let start = ring.start;
-    let width = row.len();
-    if width == 0 {
-        return Ring { held: 0, start: 0 };
-    }
-    let places = room.len() / width;
-    if held < places {
-        words::put(room, held * width, row);
-        return Ring {
-            held: held + 1,
-            start,
-        };
-    }
-    if start < places {
-        words::put(room, start * width, row);
-        return Ring {
-            held: places,
-            start: next_start(places, start),
-        };
-    }
-    Ring {
-        held: places,
-        start: 0,
-    }
 }
 
 // The words before `at` and those from there up to `end` change places: each of the two is turned round, and then both as one.

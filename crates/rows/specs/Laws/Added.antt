@@ -1,16 +1,16 @@
--- A row more in a room, case by case. Assumes nothing.
+-- A row more in a full room: the rows move up by one, and it goes over the last place.
 use Prim.Native.Nat.{ℕ, _+_, _-_, _*_, _<_, _≤_}
 use mathlib.Core.Path.{_≡_, refl, sym, ap, _∙_}
 use mathlib.Core.List.{List, _++_}
 use native.Mathlib.Omega.{arith}
-use native.Mathlib.Nat.{div-zero, mul-le-mul-right}
+use native.Mathlib.Nat.{mul-le-mul-right}
 use lib.ListN.{length, take, drop, length-drop}
 use lib.Seq.{drop-append-add, drop-drop, length-take-le, take-at}
-use borrow.Author.Tests.{lt-ltb, le-ltb, ne-eqb}
+use borrow.Author.Tests.{le-ltb, ne-eqb}
 use Rattle.words.specs.Words.{overwrite, shifted}
 use Rattle.words.specs.Laws.Overwrite.{overwrite-fits, shifted-fits}
 use Rattle.rows.specs.Room.{placesFor, withRow, heldWith}
-use Rattle.words.specs.Laws.Records.{records-fit, record-ends}
+use Rattle.words.specs.Laws.Records.{records-fit}
 
 -- how many words stand from w up to n
 rest-length : (d : List ℕ) (w n : ℕ) → n ≤ length d → length (drop w (take n d)) ≡ n - w
@@ -36,28 +36,11 @@ moved-and-put d m p r n h k e f =
     f ∙ ap (λ (l : List ℕ). take (n - length r) l ++ r ++ drop (n - length r + length r) l) e ∙ last d r n h k
 
 module _ (room : List ℕ) (held : ℕ) (row : List ℕ) where
-  -- there is a place, and the row ends by the room's end
-  pub place-fits : 0 < length row → held < placesFor room row → held * length row + length row ≤ length room
-  place-fits s h = record-ends (length room) (length row) s held h
-
-  pub added : 0 < length row → held < placesFor room row → (p : List ℕ) → p ≡ overwrite room (held * length row) row
-      → (held + 1 ≡ heldWith room held row) × (p ≡ withRow room held row)
-  unfolding withRow heldWith
-  added s h p e = simp (lt-ltb _ _ h) (refl, e ∙ overwrite-fits room (held * length row) row (place-fits s h))
-
-  -- no place at all
-  pub roomless : placesFor room row ≡ 0 → (0 ≡ heldWith room held row) × (room ≡ withRow room held row)
-  unfolding withRow heldWith
-  roomless h = simp (h, le-ltb held 0 (omega arith)) (refl, refl)
-
-  pub widthless : length row ≡ 0 → (0 ≡ heldWith room held row) × (room ≡ withRow room held row)
-  widthless h = roomless (rw (h, div-zero))
-
   -- the places end by the room's end, and are at least one row
-  pub places-fit : 0 < length row → placesFor room row * length row ≤ length room
+  places-fit : 0 < length row → placesFor room row * length row ≤ length room
   places-fit s = records-fit (length room) (length row) s (placesFor room row) (omega arith)
 
-  pub places-hold : (placesFor room row ≡ 0 → ⊥) → length row ≤ placesFor room row * length row
+  places-hold : (placesFor room row ≡ 0 → ⊥) → length row ≤ placesFor room row * length row
   places-hold h = let l : 1 * length row ≤ placesFor room row * length row = mul-le-mul-right (length row) (omega arith) in omega arith
 
   pub moved-up : 0 < length row → placesFor room row ≤ held → (placesFor room row ≡ 0 → ⊥) → (m p : List ℕ)
