@@ -91,10 +91,11 @@ eight-next area base ws i k h e f g =
     (laid-two area base (wordsBytes ws) (8 * i) (8 * (k - i)) (8 * k) 32 (8 * (k + 4 - i)) e f (omega arith) (omega arith))
     g (omega arith) (omega arith)
 
--- rows and header, each whole
-pub whole-laid : (area head rows : List ℕ) (words : ℕ) {mid out : List ℕ} → mid ≡ laid area 256 (wordsBytes rows) (8 * 0) (8 * words - 8 * 0)
-    → out ≡ laid mid 0 (wordsBytes head) (8 * 0) (8 * 32 - 8 * 0) → out ≡ wholeLaid area head rows (8 * words)
-whole-laid area head rows words e f = let n : 8 * words - 8 * 0 ≡ 8 * words = omega arith in rw (f, e, n)
+-- the rows, the header's other words, the word with the mark
+pub whole-laid : (area head rows : List ℕ) (words : ℕ) {mid rest out : List ℕ} → mid ≡ laid area 256 (wordsBytes rows) (8 * 0) (8 * words - 8 * 0)
+    → rest ≡ laid mid 0 (wordsBytes head) (8 * 1) (8 * 32 - 8 * 1) → out ≡ laid rest 0 (wordsBytes head) (8 * 0) (8 * 1 - 8 * 0)
+    → out ≡ wholeLaid area head rows (8 * words)
+whole-laid area head rows words e f g = let n : 8 * words - 8 * 0 ≡ 8 * words = omega arith in rw (g, f, e, n)
 
 -- what of a part lies between
 pub part-laid : (area : List ℕ) (base : ℕ) (ws : List ℕ) (skip start most from upto a b : ℕ) {out : List ℕ}

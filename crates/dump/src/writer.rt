@@ -104,13 +104,14 @@ fn lay_part(
     );
 }
 
-// All of it: the rows, then the header, its mark with it.
+// All of it, the word with the mark last.
 fn write_whole(area: &mut [u8], head: &[u64], rows: &[u64], words: usize)
     requires { ⌜ 256 + 8 * words ≤ length (now area) ⌝ }
     ensures { λ _. ⌜ now (area .exit) ≡ wholeLaid (now (area .entry)) (now (head .entry)) (now (rows .entry)) (8 * words) ⌝ }
 {
     lay_words(area, HEAD_BYTES, rows, 0, words);
-    lay_words(area, 0, head, 0, HEAD_WORDS);
+    lay_words(area, 0, head, 1, HEAD_WORDS);
+    lay_words(area, 0, head, 0, 1);
 }
 
 // Bytes `from` to `upto` of the order of writing: the rows, the header behind the mark, the mark.

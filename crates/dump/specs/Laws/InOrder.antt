@@ -31,9 +31,9 @@ inOrder area head rows body from upto =
     let b = partLaid a 0 head 3 body 253 from upto in
     partLaid b 0 head 0 (body + 253) 3 from upto
 
--- all of it: the rows, then the header with its mark
+-- all of it: the rows, the header's other words, and the word with the mark
 abbrev pub wholeLaid : List ℕ → List ℕ → List ℕ → ℕ → List ℕ
-wholeLaid area head rows body = laid (laid area 256 (wordsBytes rows) 0 body) 0 (wordsBytes head) 0 256
+wholeLaid area head rows body = laid (laid (laid area 256 (wordsBytes rows) 0 body) 0 (wordsBytes head) 8 248) 0 (wordsBytes head) 0 8
 
 -- ---- numbers
 
@@ -56,7 +56,7 @@ in-order-none area head rows body from upto h =
 whole-part : (upto start most : ℕ) → start + most ≤ upto → (clip 0 start most ≡ 0) × (between 0 upto start most ≡ most)
 whole-part upto start most h = (omega arith, omega arith)
 
--- all of it is to be written: the header's mark may be written with it
+-- all of it is to be written: the rest of the mark's word may be written with the mark
 pub in-order-whole : (area head rows : List ℕ) (body from upto : ℕ) → from ≡ 0 → 256 + body ≤ upto
     → wholeLaid area head rows body ≡ inOrder area head rows body from upto
 unfolding inOrder
@@ -66,7 +66,8 @@ in-order-whole area head rows body from upto start h =
     let z = whole-part upto (body + 253) 3 (omega arith) in
     let a = laid area 256 (wordsBytes rows) 0 body in
     rw (start, x .1, x .0, y .1, y .0, z .1, z .0)
-    (sym (laid-on a 0 (wordsBytes head) 0 3 253) ∙ sym (laid-swap a 0 (wordsBytes head) 0 3 3 253 (omega arith)))
+    (laid-swap a 0 (wordsBytes head) 0 8 8 248 (omega arith) ∙ laid-on a 0 (wordsBytes head) 0 8 248
+    ∙ sym (laid-on a 0 (wordsBytes head) 0 3 253) ∙ sym (laid-swap a 0 (wordsBytes head) 0 3 3 253 (omega arith)))
 
 -- a byte of a part that lies between: the part is not over where the stretch begins, nor where this byte stands
 inside : (f u m j : ℕ) → j < min m u - min m f → (min m f ≡ f) × (f + j < m) × (f + j < u)
