@@ -72,7 +72,7 @@ module _ (settings state : List ℕ) (m : Rooms) (metrics : List ℕ) where
           call-refused _ _ _ (all-lent ∙ all) (finish-ran ∙ simp refused) word ∙ simp (d .equity, d .trades, unchanged)
 
       pub finish-done : {next : State} {figures : Metrics} {words nine : List ℕ} → finished ≡ Done next figures
-          → words ≡ overwrite state 0 (wordsOf next) → nine ≡ overwrite metrics 0 (Figures.wordsOf figures)
+          → words ≡ overwrite state 0 (wordsOf next) → nine ≡ overwrite metrics 0 (Figures.figureWords figures)
           → finishCall settings state m metrics ≡ record { answer = 0; lent = record { state = words; equity = es; trades = ts; metrics = nine } }
       unfolding finishCall finishGives
       finish-done done put nine = call-gives _ _ _ (all-lent ∙ all) (finish-ran ∙ simp (done, put, nine))

@@ -28,7 +28,7 @@ finishGives (Done next figures) state rooms metrics = gives (record {
   state = overwrite state 0 (wordsOf next);
   equity = rooms .equity;
   trades = rooms .trades;
-  metrics = overwrite metrics 0 (Figures.wordsOf figures);
+  metrics = overwrite metrics 0 (Figures.figureWords figures);
 })
 
 unfoldable pub finishCall : List ℕ → List ℕ → Rooms → List ℕ → Call FinishLent

@@ -149,7 +149,7 @@ pub record IsEnd (call : Call FinishLent) (v : Verdict) (d : With Ended) (room m
   pub state : v ≡ Fine → call .lent .state ≡ overwrite room 0 (wordsOf (d .result .state))
   pub equity : v ≡ Fine → call .lent .equity ≡ d .rooms .equity
   pub trades : v ≡ Fine → call .lent .trades ≡ d .rooms .trades
-  pub figures : v ≡ Fine → call .lent .metrics ≡ overwrite metrics 0 (Figures.wordsOf (d .result .metrics))
+  pub figures : v ≡ Fine → call .lent .metrics ≡ overwrite metrics 0 (Figures.figureWords (d .result .metrics))
   -- a state that words can hold, so that calls may go on with it
   pub floats : Floats64 (d .result .state)
 
@@ -182,7 +182,7 @@ module _ (settings room : List ℕ) (set : settingWords ≤ length settings) (lo
 
   end-fine : finishJudged (settingsOf settings) t m ≡ Fine
       → (call .answer ≡ 0) × (call .lent .state ≡ overwrite room 0 (wordsOf (end .result .state))) × (call .lent .equity ≡ end .rooms .equity)
-      × (call .lent .trades ≡ end .rooms .trades) × (call .lent .metrics ≡ overwrite metrics 0 (Figures.wordsOf (end .result .metrics)))
+      × (call .lent .trades ≡ end .rooms .trades) × (call .lent .metrics ≡ overwrite metrics 0 (Figures.figureWords (end .result .metrics)))
   unfolding finishCall finishOf concluded finishGives callOf unlessBad
   end-fine e =
       rw (
