@@ -17,7 +17,7 @@ use Rattle.records.specs.declared.state.State.{State}
 use Rattle.records.specs.Lent.{rowPlaces}
 use Rattle.records.specs.StateWords.{wordsOf}
 use Rattle.engine.specs.Record.{listed, heldRows}
-use Rattle.dump.specs.Layout.{headBytes, wordsBytes, numbers, amounts, head, body, image, windowOf, imageOf}
+use Rattle.dump.specs.Layout.{headBytes, wordsBytes, numbers, amounts, head, image, windowOf, imageOf}
 use Rattle.dump.specs.Reading.{slotsIn, rowsIn, wordsAt, windowIn}
 use Rattle.dump.specs.Laws.WordBytes.{word-byte}
 use Rattle.dump.specs.Laws.Image.{image-body}

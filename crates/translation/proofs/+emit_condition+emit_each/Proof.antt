@@ -8,7 +8,8 @@ use borrow.Author.Needs.{needs}
 use Rattle.rules.specs.Flat.{growCondition, conditionAt}
 use Rattle.steps.specs.declared.Op.the-variants.{Answer, Turn, InPosition, BarsSinceEntry, JumpIf}
 use Rattle.steps.specs.Bytes.{stepOf}
-use Rattle.translation.proofs.Writes.{fits-first, fits-rest, fits-one, fits-after, fits-between, wrote-none, wrote-one, wrote-then, wrote-between, skip-is}
+use Rattle.translation.proofs.Writes.{fits-first, fits-rest, fits-one, fits-after, fits-between}
+use Rattle.translation.proofs.Writes.{wrote-none, wrote-one, wrote-then, wrote-between, skip-is}
 use Rattle.translation.proofs.Falls.{group-falls, below-falls, child-falls, rest-falls}
 use Rattle.translation.proofs.Conditions.{ground, grown, no-more, one-more, code-none, code-group, code-no-more, code-more, code-not, code-position}
 use Rattle.translation.proofs.Conditions.{code-since, reach-group, reach-not, more-reach}

@@ -6,7 +6,8 @@ use borrow.Author.Needs.{needs}
 use Rattle.steps.specs.declared.Op.the-variants as Op
 use Rattle.steps.specs.Bytes.{stepOf}
 use Rattle.translation.proofs.Writes.{fits-first, fits-rest, fits-one, wrote-then, wrote-one}
-use Rattle.translation.proofs.Operands.{ground, a-const, a-ref, a-price, a-prev, a-sum, no-operand, code-const, code-ref, code-price, code-prev, code-sum}
+use Rattle.translation.proofs.Operands.{ground, a-const, a-ref, a-price, a-prev, a-sum, no-operand}
+use Rattle.translation.proofs.Operands.{code-const, code-ref, code-price, code-prev, code-sum}
 use Rattle.translation.proofs.Operands.{an-extreme, code-extreme, extreme-reach, prev-reach, first-reach, second-reach}
 use borrow.Fn.Kinds.{In}
 use borrow.Fn.PlainCycle.{Measures, is, falls, and}
