@@ -5,7 +5,7 @@ use std::hint::black_box;
 use super::setup::Size;
 use super::timing::{each, nanoseconds, ratio};
 use crate::calls;
-use crate::case::bar_words;
+use crate::case::{bar_words, JUNK};
 use crate::ours::Ours;
 
 /// Bytes that are written in one measurement, about.
@@ -39,14 +39,16 @@ fn row(depth: usize, slots: usize) {
     let size = calls::dump_bytes(slots as u64, depth as u64);
     let calls = (WRITTEN / size as usize).max(20);
     let mut area = vec![0; size as usize];
+    // As a caller has them: 0 where nothing is given.
+    let settings = run.settings.map(|word| if word == JUNK { 0 } else { word });
     let dump = measure(&mut area, calls, |area| {
-        let answer = calls::dump(&run.settings, &run.state, &run.rows, area, (0, size));
+        let answer = calls::dump(&settings, &run.state, &run.rows, area, (0, size));
         assert_eq!(answer, 0, "a state that can be dumped");
     });
     let image = area.clone();
     let memcpy = measure(&mut area, calls, |area| area.copy_from_slice(black_box(&image)));
     let restore = measure(&mut area, calls, |_| {
-        let answer = calls::restore(&run.settings, &mut run.state, &image, &mut run.rows);
+        let answer = calls::restore(&settings, &mut run.state, &image, &mut run.rows);
         assert_eq!(answer, 0, "a whole image");
     });
     println!(
