@@ -1,7 +1,7 @@
 -- Words read one after another over the first of a room.
-use Prim.Native.Nat.{ℕ, zero, suc, _+_, _*_, _≤_, _<_}
+use Prim.Native.Nat.{ℕ, suc, _+_, _*_, _≤_, _<_}
 use mathlib.Core.Path.{_≡_, refl, sym, _∙_}
-use mathlib.Core.List.{List, [], _∷_, _++_}
+use mathlib.Core.List.{List, _++_}
 use native.Mathlib.Nat.{zero-add}
 use native.Mathlib.Numerals.{add-one}
 use native.Mathlib.Omega.{arith}
@@ -12,13 +12,9 @@ use Rattle.words.specs.Words.{overwrite}
 use Rattle.words.specs.Laws.Overwrite.{overwrite-fits}
 use Rattle.table.specs.Bytes.{u64}
 use Rattle.engine.specs.Record.{listed}
+use Rattle.engine.specs.Laws.Lengths.{listed-long}
 use Rattle.dump.specs.Layout.{headBytes}
 use Rattle.dump.specs.Reading.{slotsIn, rowsIn, wordsAt, windowIn}
-
-pub listed-long : (n : ℕ) (f : ℕ → ℕ) → length (listed n f) ≡ n
-unfolding listed
-listed-long zero f = refl
-listed-long (suc n) f = omega (arith, length-append (listed n f) (f n ∷ []), listed-long n f)
 
 -- none yet
 pub words-none : (x : List ℕ) (at : ℕ) (room : List ℕ) → room ≡ wordsAt x at 0 ++ drop 0 room

@@ -30,6 +30,7 @@ use Rattle.engine.specs.Boxes.{Sound}
 use Rattle.runs.specs.Laws.Alike.{step-sound}
 use Rattle.engine.specs.Laws.Lengths.{row-long}
 use Rattle.engine.specs.Laws.Runs.{run-keeps}
+use Rattle.engine.specs.Laws.Underway.{entry-stays}
 use Rattle.runs.specs.Laws.TwoRuns.{fresh-sound}
 use Rattle.runs.specs.Laws.Window.{last-added, window-added}
 use Rattle.engine.specs.Record.{rowOf, heldRows}
@@ -42,7 +43,6 @@ use Rattle.restart.specs.RoundTrip.{restoredOf, words-back}
 use Rattle.restart.specs.Cut.{size-of-image}
 use Rattle.restart.specs.Window.{Whole, window-whole, word-at}
 use Rattle.restart.specs.Restart.{Kept}
-use Rattle.restart.specs.Laws.EntryBelow.{step-below, fresh-below}
 use Rattle.dump.specs.Laws.Image.{image-head, image-body}
 use Rattle.dump.specs.Laws.Packed.{headWords}
 use Rattle.restart.specs.Laws.RowsPass.{every-of, row-passes, rowAt, RowsPass, listed-same, last-pass, added-pass}
@@ -200,7 +200,7 @@ unfolding freshState RowsPass
 fresh-passed s m deep =
     let sound = fresh-sound s m deep in
     let none = window-whole s (freshState s) (m .rows) (sound .within .rows) .held in
-    record { sound = sound; entry = fresh-below s; rows = λ i l. absurd (omega (arith, none)) }
+    record { sound = sound; entry = refl; rows = λ i l. absurd (omega (arith, none)) }
 
 module _ (s : Settings) (ls : Lists) (t : State) (m : Rooms) (bar : List ℕ) (fine : stepVerdict s t bar m ls ≡ Fine) where
   pub step-judged : stepJudged s t bar m ls ≡ Fine
@@ -235,7 +235,7 @@ module _ (s : Settings) (ls : Lists) (t : State) (m : Rooms) (bar : List ℕ) (f
       let added = added-pass K W (p .rows) (length W / rowWords K) bar (whole .words) (row-passes K bar (t .counts .«bars_seen») bar-passed) in
       record {
         sound = step-sound s t bar m ls (p .sound);
-        entry = step-below s t bar m ls (p .entry);
+        entry = entry-stays s t bar m ls (p .entry);
         rows = rw (window-moved (p .sound)) (last-pass K (W ++ rowOf K bar) added (s .depth));
       }
 

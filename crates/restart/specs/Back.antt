@@ -29,7 +29,8 @@ use Rattle.dump.specs.Reading.{slotsIn, versionIn, depthIn, seenIn, rowsIn, ord
 use Rattle.dump.specs.Reading.{wordsIn, stateIn, wordsAt, rowPlace, windowIn}
 use Rattle.dump.specs.Refused.{shapeFine, numbersFine, usedOrZero, isEntry, unusedZero, zeroAt, eachFine, rowsFine}
 use Rattle.dump.specs.Refused.{imageLines, restoreLines, restoreJudged}
-use Rattle.restart.specs.Window.{listed-long, listed-at}
+use Rattle.engine.specs.Laws.Lengths.{listed-long}
+use Rattle.restart.specs.Window.{listed-at}
 use Rattle.restart.specs.Laws.Again.{Own, kind-again, order-again, entered-again}
 use Rattle.dump.specs.Laws.Fine.{shape-fine, rows-few, restore-fine}
 use Rattle.dump.specs.Laws.Image.{image-long, image-head, image-body}

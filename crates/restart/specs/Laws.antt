@@ -1,5 +1,4 @@
 pub mod RowsPass
-pub mod EntryBelow
 pub mod Says
 pub mod Again
 pub mod ReadBytes

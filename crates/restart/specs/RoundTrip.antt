@@ -2,7 +2,7 @@
 use Prim.Native.Nat.{ℕ, _+_, _*_, _/_, _%_, _<_}
 use mathlib.Core.Path.{_≡_, refl, ap, _∙_}
 use mathlib.Core.List.{List, [], _∷_}
-use native.Mathlib.Nat.{mod-eq-of-lt, mod-add-div, div-div-eq-div-mul}
+use native.Mathlib.Nat.{mod-eq-of-lt, mod-add-div}
 use native.Mathlib.Omega.{arith}
 use lib.Ieee.{Float, binary64, fits}
 use lib.Ieee.Bits.{toBits-lt}
@@ -22,6 +22,7 @@ use Rattle.records.specs.declared.settings.Settings.{Settings}
 use Rattle.records.specs.declared.state.State.{State}
 use Rattle.records.specs.StateWords.{orderKind, orderDelay, waitsFor, kindWord, levelWord, limitWord, enteredKind, entryBar, wordsOf, stateOf}
 use Rattle.records.specs.Laws.RoundTrip.{KindFits, Floats64, state-back}
+use Rattle.steps.specs.Laws.Encoding.{four-back}
 use Rattle.dump.specs.Layout.{wordsBytes, numbers, amounts, head, image, windowOf, imageOf}
 use Rattle.dump.specs.Reading.{wordsIn, stateIn}
 
@@ -33,16 +34,6 @@ b4 n = n % 256 + 256 * (n / 256 % 256) + 65536 * (n / 65536 % 256 + 256 * (n / 1
 
 abbrev pub b8 : ℕ → ℕ
 b8 n = b4 (n % 4294967296) + 4294967296 * b4 (n / 4294967296)
-
-joined : (n a b c r₀ r₁ r₂ r₃ : ℕ) → r₀ + 256 * a ≡ n → r₁ + 256 * b ≡ a → r₂ + 256 * c ≡ b → r₃ ≡ c
-    → r₀ + 256 * r₁ + 65536 * (r₂ + 256 * r₃) ≡ n
-joined n a b c r₀ r₁ r₂ r₃ e₀ e₁ e₂ e₃ = omega arith
-
-pub four-back : (n : ℕ) → n < 4294967296 → b4 n ≡ n
-four-back n l =
-    let e₁ : n / 256 % 256 + 256 * (n / 65536) ≡ n / 256 = rw (← (div-div-eq-div-mul n 256 256)) (mod-add-div (n / 256) 256) in
-    let e₂ : n / 65536 % 256 + 256 * (n / 16777216) ≡ n / 65536 = rw (← (div-div-eq-div-mul n 65536 256)) (mod-add-div (n / 65536) 256) in
-    joined n (n / 256) (n / 65536) (n / 16777216) _ _ _ _ (mod-add-div n 256) e₁ e₂ (mod-eq-of-lt (omega arith))
 
 pub eight-back : (n : ℕ) → n < 18446744073709551616 → b8 n ≡ n
 eight-back n l =

@@ -5,7 +5,7 @@ use mathlib.Core.Logic.{⊎-elim}
 use mathlib.Core.List.{List, [], _∷_}
 use native.Mathlib.Nat.{mod-eq-of-lt, eq-or-lt-of-le, mul-div-cancel, mul-sub, mul-comm}
 use native.Mathlib.Omega.{arith}
-use lib.ListN.{length, getD, take, length-append, length-drop, List·getD-append}
+use lib.ListN.{length, getD, take, length-drop, List·getD-append}
 use lib.Seq.{ext-getD, getD-at, length-take-le}
 use Rattle.words.specs.Limits.{rowWords, mostSlots, mostRows}
 use Rattle.words.specs.Laws.Records.{records-fit}
@@ -17,11 +17,13 @@ use Rattle.records.specs.declared.state.State.{State}
 use Rattle.records.specs.Lent.{rowPlaces}
 use Rattle.records.specs.StateWords.{wordsOf}
 use Rattle.engine.specs.Record.{listed, heldRows}
+use Rattle.engine.specs.Laws.Lengths.{listed-long}
 use Rattle.dump.specs.Layout.{headBytes, wordsBytes, numbers, amounts, head, image, windowOf, imageOf}
 use Rattle.dump.specs.Reading.{slotsIn, rowsIn, wordsAt, windowIn}
 use Rattle.dump.specs.Laws.WordBytes.{word-byte}
 use Rattle.dump.specs.Laws.Image.{image-body}
-use Rattle.restart.specs.RoundTrip.{four-back, eight-back}
+use Rattle.steps.specs.Laws.Encoding.{four-back}
+use Rattle.restart.specs.RoundTrip.{eight-back}
 
 -- ---- a word of a row
 
@@ -53,11 +55,6 @@ module _ (K D : ℕ) (ws rows : List ℕ) where
   rows-said few = four-back (length rows / rowWords K) few
 
 -- ---- words one after another
-
-pub listed-long : (n : ℕ) (f : ℕ → ℕ) → length (listed n f) ≡ n
-unfolding listed
-listed-long zero f = refl
-listed-long (suc n) f = omega (arith, length-append (listed n f) (f n ∷ []), listed-long n f)
 
 pub listed-at : (n : ℕ) (f : ℕ → ℕ) (i : ℕ) → i < n → getD (listed n f) i 0 ≡ f i
 unfolding listed

@@ -69,12 +69,13 @@ module _ (room : List ℕ) (held : ℕ) (row : List ℕ) (wide : 0 < length row)
       go true e = omega (arith, ltb-true held (placesFor room row) e)
       go false e = le-refl _
 
--- a row is 7 + K words
-listed-long : (n : ℕ) (f : ℕ → ℕ) → length (listed n f) ≡ n
+-- n words listed are n
+pub listed-long : (n : ℕ) (f : ℕ → ℕ) → length (listed n f) ≡ n
 unfolding listed
 listed-long zero f = refl
 listed-long (suc n) f = length-append (listed n f) (f n ∷ []) ∙ omega (arith, listed-long n f)
 
+-- a row is 7 + K words
 pub row-long : (K : ℕ) (bar : List ℕ) → length (rowOf K bar) ≡ width K
 unfolding rowOf
 row-long K bar = listed-long (width K) (rowWord bar)

@@ -59,7 +59,8 @@ all-hold : {a b c : Bool} → a ≡ true → b ≡ true → c ≡ true → (a &&
 all-hold p q r = rw (p, q, r)
 
 module _ (s : Settings) (t : State) (bar : List ℕ) (m : Rooms) (ls : Lists) where
-  entry-stays : entryBelow (t .position .entered) (t .counts .«bars_seen») ≡ true
+  -- an entry bar stays below the bars seen
+  pub entry-stays : entryBelow (t .position .entered) (t .counts .«bars_seen») ≡ true
       → entryBelow (stepped s t bar m ls .result .position .entered) (stepped s t bar m ls .result .counts .«bars_seen») ≡ true
   unfolding stepped charged intrabar facing filled
   entry-stays h = leaving-below _ _ _ (done-below _ s (t .position) _ _ (t .counts .«bars_seen») h)

@@ -61,7 +61,7 @@ order-back (EnterLong delay kind) = refl
 order-back (EnterShort delay kind) = refl
 order-back (Exit delay) = refl
 
-entered-back : (e : Entered) → enteredOf (enteredKind e) (entryBar e) ≡ e
+pub entered-back : (e : Entered) → enteredOf (enteredKind e) (entryBar e) ≡ e
 unfolding enteredOf enteredKind entryBar
 entered-back Never = refl
 entered-back (Bar bar) = refl

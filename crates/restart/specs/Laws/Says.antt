@@ -14,7 +14,8 @@ use Rattle.execution.specs.declared.level.OrderKind.{OrderKind}
 use Rattle.execution.specs.declared.level.OrderKind.the-variants.{Market, Limit, Stop, StopLimit}
 use Rattle.records.specs.declared.state.Order.{Order}
 use Rattle.records.specs.declared.state.Order.the-variants.{Idle, EnterLong, EnterShort, Exit}
-use Rattle.records.specs.StateWords.{orderKind, orderDelay, waitsFor, kindWord, levelWord, limitWord, enteredKind, entryBar, enteredOf}
+use Rattle.records.specs.StateWords.{orderKind, orderDelay, waitsFor, kindWord, levelWord, limitWord, enteredKind, entryBar}
+use Rattle.records.specs.Laws.RoundTrip.{entered-back}
 use Rattle.refusals.specs.Rooms.{entryBelow}
 use Rattle.dump.specs.Layout.{headBytes, dumpBytes}
 use Rattle.dump.specs.Reading.{slotsIn, versionIn, depthIn, seenIn, rowsIn, orderIn, kindIn, enteredIn, entryIn, delayIn, levelIn, limitIn}
@@ -54,11 +55,6 @@ entered-known : (e : Entered) → leb (enteredKind e) 1 ≡ true
 unfolding enteredKind
 entered-known Never = refl
 entered-known (Bar b) = refl
-
-entered-back : (e : Entered) → enteredOf (enteredKind e) (entryBar e) ≡ e
-unfolding enteredOf enteredKind entryBar
-entered-back Never = refl
-entered-back (Bar b) = refl
 
 -- ---- fields that their kind does not use
 
