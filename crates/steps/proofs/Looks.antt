@@ -1,24 +1,27 @@
 -- Rows that are passed over: they leave the best as it was.
 use Prim.Native.Nat.{ℕ, zero, suc, _+_, _-_, _*_, _<_, _≤_}
 use mathlib.Core.Path.{_≡_, sym, _∙_}
-use mathlib.Core.Bool.{false}
+use mathlib.Core.Bool.{Bool, true, false, true≢false}
 use mathlib.Core.Logic.{⊎-elim}
 use mathlib.Core.List.{List}
 use native.Mathlib.Omega.{arith}
 use native.Mathlib.Nat.{add-mul}
 use lib.Ieee.{Float}
+use lib.ListN.{length}
 use borrow.Author.Tests.{eq-eqb, ne-eqb, lt-ltb, le-ltb}
 use Rattle.words.specs.Laws.Numbers.{less-or-not}
 use Rattle.floats.specs.Floats.{_≺_}
 use Rattle.rows.specs.History.{historyOf}
 use Rattle.rows.specs.Ring.{ringPlace, ringOf}
+use Rattle.rows.specs.Laws.RowEnds.{row-ends}
 use Rattle.table.specs.declared.series.Series.{Series}
 use Rattle.table.specs.declared.series.Series.the-variants.{Price, Slot}
+use Rattle.rules.specs.declared.Value.{Value}
 use Rattle.rules.specs.declared.Value.the-variants.{Number}
 use Rattle.rules.specs.Values.{wordsFrom, better, took, pick}
 use Rattle.rules.specs.Meaning.{seriesAt, extremeOver}
 use Rattle.rules.specs.Laws.Meaning.{extreme-more}
-use Rattle.steps.specs.Looks.{ofRow, Passed}
+use Rattle.steps.specs.Looks.{ofRow, Passed, Stopped}
 use Rattle.steps.proofs.Rows.{price-in, slot-in}
 
 -- ---- a row that is no better
@@ -34,9 +37,24 @@ module _ (kind : ℕ) (best x : Float) where
 
 -- one row more
 pub passed-more : (kind : ℕ) (over : Series) (ws : List ℕ) (slots base : ℕ) (best : Float) (k : ℕ) → Passed kind over ws slots base best k
-    → pick kind (Number best) (ofRow over (wordsFrom ws (base + (k + 1) * (7 + slots)))) ≡ Number best → Passed kind over ws slots base best (k + 1)
+    → pick kind (Number best) (ofRow over (wordsFrom ws (base + k * (7 + slots)))) ≡ Number best → Passed kind over ws slots base best (k + 1)
 passed-more kind over ws slots base best k before this i l =
     ⊎-elim (λ (near : i < k). before i near) (λ (far : k ≤ i). let here : i ≡ k = omega arith in rw here this) (less-or-not i k)
+
+-- where it stopped
+module _ (over : Series) (ws : List ℕ) (slots base count m : ℕ) (later : Value) where
+  pub no-more : (row : Bool) → Stopped over ws slots base count m row later → m ≤ count
+  no-more true s = omega (arith, s .0)
+  no-more false s = omega (arith, s)
+
+  pub at-row : (row : Bool) → row ≡ true → Stopped over ws slots base count m row later
+      → (m < count) × (later ≡ ofRow over (wordsFrom ws (base + m * (7 + slots))))
+  at-row true e s = s
+  at-row false e s = absurd (true≢false (sym e))
+
+  pub at-end : (row : Bool) → row ≡ false → Stopped over ws slots base count m row later → m ≡ count
+  at-end true e s = absurd (true≢false e)
+  at-end false e s = s
 
 -- ---- where they stand
 
@@ -67,23 +85,34 @@ module _ (K first : ℕ) (ws : List ℕ) (held : ℕ) (is : held ≡ historyOf K
   series-there (Price p) i l = price-in K first ws held 0 is fits p i l
   series-there (Slot k) i l = slot-in K first ws held 0 is fits k i l
 
+  -- rows one after the other end by the words' end
+  pub rows-end : (row count m : ℕ) → count ≡ m + 1 → row + m < held → row * (7 + K) + count * (7 + K) ≤ length ws
+  rows-end row count m e l = rw e (omega (arith, row-ends K ws (row + m) (rw is at l)))
+
+  -- what the m-th row behind row i + 1 has, where the words do not end between them
+  pub series-after : (over : Series) (i m : ℕ) → i + m + 1 < held → ringPlace held first (i + 1) + m < held
+      → seriesAt (ringOf K first ws) over (i + m + 1) ≡ ofRow over (wordsFrom ws (ringPlace held first (i + 1) * (7 + K) + m * (7 + K)))
+  series-after over i m l ends =
+      let here : i + m + 1 ≡ i + 1 + m = omega arith in
+      rw (
+        series-there over (i + m + 1) l,
+        here,
+        place-after held first (i + 1) m (omega arith) ends,
+        add-mul (ringPlace held first (i + 1)) m (7 + K),
+      )
+
   -- the best stays the best over the rows that are passed
-  pub passed-on : (kind : ℕ) (over : Series) (best : Float) (oldest i m : ℕ) → oldest ≤ i → i + m < held → ringPlace held first i + m < held
-      → Passed kind over ws K (ringPlace held first i * (7 + K)) best m
+  pub passed-on : (kind : ℕ) (over : Series) (best : Float) (oldest i m : ℕ) → oldest ≤ i → i + m < held → ringPlace held first (i + 1) + m ≤ held
+      → Passed kind over ws K (ringPlace held first (i + 1) * (7 + K)) best m
       → Number best ≡ extremeOver (ringOf K first ws) kind over oldest (i - oldest)
       → Number best ≡ extremeOver (ringOf K first ws) kind over oldest (i + m - oldest)
   passed-on kind over best oldest i zero le l ends passed so-far = let none : i + 0 ≡ i = omega arith in rw none so-far
   passed-on kind over best oldest i (suc m) le l ends passed so-far =
       let before = passed-on kind over best oldest i m le (omega arith) (omega arith) (λ k near. passed k (omega arith)) so-far in
       let next : i + suc m ≡ i + m + 1 = omega arith in
-      let after : i + m + 1 ≡ i + (m + 1) = omega arith in
-      let place : ringPlace held first (i + m + 1) ≡ ringPlace held first i + (m + 1) =
-      rw after (place-after held first i (m + 1) (omega arith) (omega arith)) in
       rw (
         next,
         extreme-more (ringOf K first ws) kind over oldest (i + m) (omega arith),
         ← before,
-        series-there over (i + m + 1) (omega arith),
-        place,
-        add-mul (ringPlace held first i) (m + 1) (7 + K),
+        series-after over i m (omega arith) (omega arith),
       ) (sym (passed m (omega arith)))

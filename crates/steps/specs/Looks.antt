@@ -20,7 +20,12 @@ abbrev pub ofRow : Series → (ℕ → ℕ) → Value
 ofRow (Price p) row = Number (priceOf row p)
 ofRow (Slot k) row = slotOf row k
 
--- Of the rows after the one that begins at word `base`, so many leave this number the best.
+-- Of the rows from word `base` on, so many leave this number the best.
 abbrev pub Passed : ℕ → Series → List ℕ → ℕ → ℕ → Float → ℕ → Type 0
 Passed kind over ws slots base best m =
-    (k : ℕ) → k < m → pick kind (Number best) (ofRow over (wordsFrom ws (base + (k + 1) * (7 + slots)))) ≡ Number best
+    (k : ℕ) → k < m → pick kind (Number best) (ofRow over (wordsFrom ws (base + k * (7 + slots)))) ≡ Number best
+
+-- All of `count` rows are passed over, or the row after those that are has this.
+abbrev pub Stopped : Series → List ℕ → ℕ → ℕ → ℕ → ℕ → Bool → Value → Type 0
+Stopped over ws slots base count m true later = (m < count) × (later ≡ ofRow over (wordsFrom ws (base + m * (7 + slots))))
+Stopped over ws slots base count m false later = m ≡ count

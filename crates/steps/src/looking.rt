@@ -1,5 +1,5 @@
 // Highest and Lowest: a look over rows one after the other, the oldest first. Most rows are no better than the best before them: these
-// are passed over from word to word, as far as the rows lie one after the other.
+// are passed over from word to word, as far as the rows lie one after the other. The row that ends this is not read again.
 use crate::decode;
 use crate::leaves;
 use rows::ring;
@@ -7,7 +7,7 @@ use rules::Value;
 use rules::values;
 use table::kinds;
 ghost use mathlib.Core.Path.{_≡_};
-ghost use mathlib.Core.Bool.{true};
+ghost use mathlib.Core.Bool.{true, false};
 ghost use Prim.Native.Nat.{ℕ, _+_, _-_, _*_, _<_, _≤_, min};
 ghost use lib.ListN.{length};
 ghost use Rattle.rows.specs.History.{historyOf};
@@ -17,7 +17,7 @@ ghost use Rattle.rules.specs.declared.Value.the-variants.{Number};
 ghost use Rattle.rules.specs.Values.{wordsFrom};
 ghost use Rattle.rules.specs.Meaning.{seriesAt, extremeOver};
 ghost use Rattle.steps.specs.Machine.{ago};
-ghost use Rattle.steps.specs.Looks.{overOf, ofRow, Passed};
+ghost use Rattle.steps.specs.Looks.{overOf, ofRow, Passed, Stopped};
 
 // A price or a slot of the row that begins at word `base`, which has it.
 fn series_in(rows: &[u64], slots: usize, base: usize, slot: bool, which: u8) -> Value
@@ -31,8 +31,15 @@ fn series_in(rows: &[u64], slots: usize, base: usize, slot: bool, which: u8) -> 
     Value::Number(leaves::price_in(rows, base, which))
 }
 
-// How many of `count` rows, one after the other, come before one that is better than `best` or that does not have it. The row before
-// them begins at `base`. What does not change from row to row is asked for once by the compiler, so this is a loop for each case.
+// How many rows were passed over, and what the row after them has, if it is what stopped it.
+struct Stop {
+    passed: usize,
+    stopped: bool,
+    later: Value,
+}
+
+// How many of `count` rows, one after the other from word `base`, come before one that is better than `best` or that does not have it.
+// What does not change from row to row is asked for once by the compiler, so this is a loop for each case.
 fn pass_rows(
     kind: u8,
     rows: &[u64],
@@ -42,33 +49,54 @@ fn pass_rows(
     slot: bool,
     which: u8,
     best: f64,
-) -> usize
-    requires { ⌜ base + (count + 1) * (7 + slots) ≤ length (now rows) ⌝ }
+) -> Stop
+    requires { ⌜ base + count * (7 + slots) ≤ length (now rows) ⌝ }
     requires { ⌜ (slot ≡ true → (which < slots) × (which < 64)) ⌝ }
-    ensures { λ r. ⌜ (r ≤ count) × Passed kind (overOf slot which) (now (rows .entry)) slots base best r ⌝ }
+    ensures { λ r. ⌜ Passed kind (overOf slot which) (now (rows .entry)) slots base best (r .passed)
+        × Stopped (overOf slot which) (now (rows .entry)) slots base count (r .passed) (r .stopped) (r .later) ⌝ }
 {
     let mut at = base;
     let mut k: usize = 0;
     while k < count {
-        at += words::limits::ROW_FIXED + slots;
-        let later = series_in(rows, slots, at, slot, which);
-        match later {
+        let found = series_in(rows, slots, at, slot, which);
+        match found {
             Value::Missing => {
-                return k;
+                let later = Value::Missing;
+                return Stop {
+                    passed: k,
+                    stopped: true,
+                    later,
+                };
             }
             Value::Number(x) => {
                 if kind == kinds::HIGHEST {
                     if best < x {
-                        return k;
+                        let later = Value::Number(x);
+                        return Stop {
+                            passed: k,
+                            stopped: true,
+                            later,
+                        };
                     }
                 } else if x < best {
-                    return k;
+                    let later = Value::Number(x);
+                    return Stop {
+                        passed: k,
+                        stopped: true,
+                        later,
+                    };
                 }
+                at += words::limits::ROW_FIXED + slots;
                 k += 1;
             }
         }
     }
-    k
+    let later = Value::Missing;
+    Stop {
+        passed: count,
+        stopped: false,
+        later,
+    }
 }
 
 // The same for any number of a slot: none is passed over where the rows do not have it.
@@ -81,18 +109,23 @@ fn pass(
     slot: bool,
     which: u8,
     best: f64,
-) -> usize
-    requires { ⌜ base + (count + 1) * (7 + slots) ≤ length (now rows) ⌝ }
-    ensures { λ r. ⌜ (r ≤ count) × Passed kind (overOf slot which) (now (rows .entry)) slots base best r ⌝ }
+) -> Stop
+    requires { ⌜ (1 ≤ count) × (base + count * (7 + slots) ≤ length (now rows)) ⌝ }
+    ensures { λ r. ⌜ Passed kind (overOf slot which) (now (rows .entry)) slots base best (r .passed)
+        × Stopped (overOf slot which) (now (rows .entry)) slots base count (r .passed) (r .stopped) (r .later) ⌝ }
 {
     if slot {
-        if 64 <= which {
-            return 0;
+        if (which as usize) < slots {
+            if which < 64 {
+                return pass_rows(kind, rows, slots, base, count, slot, which, best);
+            }
         }
-        if slots <= which as usize {
-            return 0;
-        }
-        return pass_rows(kind, rows, slots, base, count, slot, which, best);
+        let later = values::slot_at(rows, base, which as u64);
+        return Stop {
+            passed: 0,
+            stopped: true,
+            later,
+        };
     }
     pass_rows(kind, rows, slots, base, count, slot, which, best)
 }
@@ -117,12 +150,12 @@ fn series_at(
     Value::Number(values::price_at(rows, base, which))
 }
 
-// How many rows follow one of `held` before the words' end, `count` at most.
-fn following(held: usize, row: usize, count: usize) -> usize
+// How many rows there are from one of `held` to the words' end, `count` at most.
+fn from_there(held: usize, row: usize, count: usize) -> usize
     requires { ⌜ row < held ⌝ }
-    ensures { λ r. ⌜ r ≡ min (held - 1 - row) count ⌝ }
+    ensures { λ r. ⌜ r ≡ min (held - row) count ⌝ }
 {
-    let last = held - 1 - row;
+    let last = held - row;
     if last < count { last } else { count }
 }
 
@@ -138,15 +171,18 @@ fn passed_from(
     best: f64,
     at: usize,
     newest: usize,
-) -> usize
-    requires { ⌜ (held ≡ historyOf slots (now rows) .rows) × (first ≤ held) × (at ≤ newest) × (newest < held) ⌝ }
-    ensures { λ r. ⌜ (at + r ≤ newest) × ((oldest : ℕ) → oldest ≤ at
+) -> Stop
+    requires { ⌜ (held ≡ historyOf slots (now rows) .rows) × (first ≤ held) × (at < newest) × (newest < held) ⌝ }
+    ensures { λ r. ⌜ (at + r .passed ≤ newest) × ((oldest : ℕ) → oldest ≤ at
         → Number best ≡ extremeOver (ringOf slots first (now (rows .entry))) kind (overOf slot which) oldest (at - oldest)
-        → Number best ≡ extremeOver (ringOf slots first (now (rows .entry))) kind (overOf slot which) oldest (at + r - oldest)) ⌝ }
+        → Number best ≡ extremeOver (ringOf slots first (now (rows .entry))) kind (overOf slot which) oldest (at + r .passed - oldest))
+        × (r .stopped ≡ true → (at + r .passed < newest)
+        × (r .later ≡ seriesAt (ringOf slots first (now (rows .entry))) (overOf slot which) (at + r .passed + 1)))
+        × (r .stopped ≡ false → 1 ≤ r .passed) ⌝ }
 {
-    let row = ring::place(held, first, at);
+    let row = ring::place(held, first, at + 1);
     let base = row * (words::limits::ROW_FIXED + slots);
-    let count = following(held, row, newest - at);
+    let count = from_there(held, row, newest - at);
     pass(kind, rows, slots, base, count, slot, which, best)
 }
 
@@ -170,7 +206,7 @@ fn best_over(
     let mut best = start;
     let mut at = oldest;
     while at < newest {
-        at += passed_from(
+        let stop = passed_from(
             kind,
             rows,
             slots,
@@ -182,9 +218,10 @@ fn best_over(
             at,
             newest,
         );
-        if at < newest {
+        at += stop.passed;
+        if stop.stopped {
             at += 1;
-            let later = series_at(rows, slots, held, first, slot, which, at);
+            let later = stop.later;
             match later {
                 Value::Missing => {
                     return Value::Missing;

@@ -24,12 +24,14 @@ abbrev μ-loop : tie.MeasureT-loop
 missing : tie.Need-returns Inv-loop μ-loop
 missing c =
     let row = c .before .before in
-    let l = row .before .before .before .before .loop in
-    let a = row .before .before .before .before .before .before .args in
-    let i = l .at + row .before .before .passed-from .result + 1 in
+    let passed = row .before .before in
+    let l = passed .before .before .loop in
+    let a = passed .before .before .before .before .args in
+    let stop = passed .passed-from .ensures .2 (row .if1 .taken) in
+    let i = l .at + passed .passed-from .result .passed + 1 in
     let here : a .oldest + (i - a .oldest) ≡ i = omega (arith, l .inv .0) in
     sym (any-missing (ringOf (a .slots) (a .first) (a .rows .now)) (a .kind) (overOf (a .slot) (a .which)) (a .oldest) (a .newest - a .oldest) (i - a .oldest)
-    (omega (arith, row .before .if1 .taken)) (rw here (sym (row .series-at .ensures) ∙ c .enum-told .given .1)))
+    (omega (arith, stop .0)) (rw here (sym (stop .1) ∙ c .enum-told .given .1)))
 
 -- a row that has it
 taken : tie.Need-loop-again Inv-loop μ-loop
@@ -39,14 +41,15 @@ taken c =
     let passed = row .before .before in
     let l = passed .before .before .loop in
     let a = passed .before .before .before .before .args in
-    let i = l .at + passed .passed-from .result in
+    let stop = passed .passed-from .ensures .2 (row .if1 .taken) in
+    let i = l .at + passed .passed-from .result .passed in
     let le : a .oldest ≤ i = omega (arith, l .inv .0) in (
       omega (arith, le),
-      omega (arith, row .before .if1 .taken),
+      omega (arith, stop .0),
       rw (
         extreme-more (ringOf (a .slots) (a .first) (a .rows .now)) (a .kind) (overOf (a .slot) (a .which)) (a .oldest) i le,
         ← passed .passed-from .ensures .1 (a .oldest) (l .inv .0) (l .inv .2),
-        ← row .series-at .ensures,
+        ← stop .1,
         c .before .before .later .given .1,
         c .took .ensures,
       ),
@@ -55,7 +58,7 @@ taken c =
 -- none was better
 none-left : tie.Need-loop-again-2 Inv-loop μ-loop
 none-left c =
-    let passed = c .before in
+    let passed = c .before .before in
     let l = passed .before .before .loop in
     let a = passed .before .before .before .before .args in
     (omega (arith, l .inv .0), passed .passed-from .ensures .0, passed .passed-from .ensures .1 (a .oldest) (l .inv .0) (l .inv .2))
@@ -73,17 +76,19 @@ best-over-spec =
       s .pre .0 .2,
       s .pre .1 ∙ sym (extreme-one (ringOf (a .slots) (a .first) (a .rows .now)) (a .kind) (overOf (a .slot) (a .which)) (a .oldest)),
     ))
-    (λ c κs. let p = c .before .before .before .pre .0 in (p .0, p .1, c .before .loop .inv .1, p .3))
-    (λ c. omega (arith, c .passed-from .ensures .0))
-    (λ c. omega (arith, c .if1 .taken))
-    (λ c κs. let p = c .before .before .before .before .before .pre .0 in (p .0, p .1, omega (arith, c .if1 .taken, p .3)))
+    (λ c κs. let p = c .before .before .before .pre .0 in (p .0, p .1, c .loop-test .taken, p .3))
+    (λ c. omega (arith, c .before .passed-from .ensures .0))
+    (λ c. let stop = c .before .before .passed-from .ensures .2 (c .if1 .taken) in omega (arith, stop .0))
     (λ c. search needs)
     missing
     (λ c. search needs)
     (λ c κs. search needs)
-    (λ c. omega (arith, c .before .before .before .before .before .if1 .taken))
+    (λ c.
+    let row = c .before .before .before .before in
+    let stop = row .before .before .passed-from .ensures .2 (row .if1 .taken) in
+    omega (arith, stop .0))
     taken
-    (λ c. omega (arith, c .if1 .left, c .before .before .loop-test .taken))
+    (λ c. omega (arith, c .before .before .passed-from .ensures .3 (c .if1 .left), c .before .before .before .loop-test .taken))
     none-left
     (λ c.
     let l = c .before .loop in

@@ -1,18 +1,32 @@
--- Rows that do not have the slot: none is passed over.
+-- Rows that do not have the slot: the first of them stops it.
 use borrow.Author.Needs.{needs}
-use mathlib.Core.Path.{sym, _∙_}
+use Prim.Native.Nat.{ℕ, _+_, _*_}
+use mathlib.Core.Path.{_≡_, sym, ap, _∙_}
 use mathlib.Core.Bool.{true≢false}
 use native.Mathlib.Omega.{arith}
+use Rattle.rules.specs.Values.{wordsFrom, slotOf}
 use Rattle.steps.proofs.looking.pass.Statement.{statement}
 use Rattle.steps.proofs.looking.pass.Tie as tie
+
+first-row : tie.Need-returns-2
+first-row c =
+    let s = c .before .before .before .before in
+    let a = s .args in
+    let here : a .base ≡ a .base + 0 * (7 + a .slots) = omega arith in (
+      λ k l. absurd (omega (arith, l)),
+      (
+        omega (arith, s .pre .0),
+        rw (c .before .before .if1 .taken) (c .slot-at .ensures ∙ ap (λ (at : ℕ). slotOf (wordsFrom (a .rows .now) at) (a .which)) here),
+      ),
+    )
 
 pub pass-spec : {M : Type 1} → statement M
 pass-spec =
     tie.close
     (tie.spec
-    (λ c. (omega arith, λ k l. absurd (omega (arith, l))))
-    (λ c. (omega arith, λ k l. absurd (omega (arith, l))))
-    (λ c κs. (c .before .before .before .before .pre, λ e. (omega (arith, c .if3 .left), omega (arith, c .before .if2 .left))))
-    (λ c. search needs)
-    (λ c κs. (c .before .before .pre, λ e. absurd (true≢false (sym e ∙ c .if1 .left))))
-    (λ c. search needs))
+    (λ c κs. (c .before .before .before .before .pre .1, λ e. (omega (arith, c .before .if2 .taken), omega (arith, c .if3 .taken))))
+    (λ c. c .pass-rows .ensures)
+    (λ c κs. search needs)
+    first-row
+    (λ c κs. (c .before .before .pre .1, λ e. absurd (true≢false (sym e ∙ c .if1 .left))))
+    (λ c. c .pass-rows2 .ensures))

@@ -1,12 +1,15 @@
--- The loop's invariant: so many rows are passed over, and the last of them begins at `at`.
+-- The loop's invariant: so many rows are passed over, and the one after them begins at `at`.
 use borrow.Author.Needs.{needs}
 use Prim.Native.Nat.{ℕ, _+_, _-_, _*_, _<_, _≤_}
-use mathlib.Core.Path.{_≡_}
+use mathlib.Core.Path.{_≡_, refl, sym, ap, _∙_}
+use mathlib.Core.Bool.{true}
 use mathlib.Core.Logic.{⊎-elim}
 use native.Mathlib.Omega.{arith}
 use native.Mathlib.Nat.{mul-le-mul-right}
 use lib.ListN.{length}
-use Rattle.steps.specs.Looks.{overOf, Passed}
+use Rattle.rules.specs.declared.Value.{Value}
+use Rattle.rules.specs.Values.{wordsFrom}
+use Rattle.steps.specs.Looks.{overOf, ofRow, Passed, Stopped}
 use Rattle.steps.proofs.Looks.{not-higher, not-lower, passed-more}
 use Rattle.steps.proofs.looking.pass_rows.Statement.{statement}
 use Rattle.steps.proofs.looking.pass_rows.Tie as tie
@@ -20,11 +23,46 @@ abbrev μ-loop : tie.MeasureT-loop
 
 -- the next row ends by the words' end
 room : (s : tie.Start Inv-loop μ-loop) (k i : ℕ) → let a = s .args in k < a .count → i ≡ a .base + k * (7 + a .slots)
-    → i + (7 + a .slots) + (7 + a .slots) ≤ length (a .rows .now)
+    → i + (7 + a .slots) ≤ length (a .rows .now)
 room s k i l is =
     let a = s .args in
     let more : (k + 1) * (7 + a .slots) ≤ a .count * (7 + a .slots) = mul-le-mul-right (7 + a .slots) (omega arith) in
     omega (arith, more, is, s .pre .0)
+
+-- the row at which it stops
+stops : (s : tie.Start Inv-loop μ-loop) (k i : ℕ) (found later : Value) → let a = s .args in k < a .count → i ≡ a .base + k * (7 + a .slots)
+    → found ≡ ofRow (overOf (a .slot) (a .which)) (wordsFrom (a .rows .now) i) → found ≡ later
+    → Stopped (overOf (a .slot) (a .which)) (a .rows .now) (a .slots) (a .base) (a .count) k true later
+stops s k i found later l is has told =
+    let a = s .args in
+    (l, sym told ∙ has ∙ ap (λ (at : ℕ). ofRow (overOf (a .slot) (a .which)) (wordsFrom (a .rows .now) at)) is)
+
+missing : tie.Need-returns Inv-loop μ-loop
+missing c =
+    let row = c .before .before in
+    let l = row .before .before .loop in (
+      l .inv .2,
+      stops (row .before .before .before .before) (l .k) (l .at) _ _ (row .before .loop-test .taken) (l .inv .1) (row .series-in .ensures)
+          (c .enum-told .given .1),
+    )
+
+higher : tie.Need-returns-2 Inv-loop μ-loop
+higher c =
+    let row = c .before .before .before .before .before in
+    let l = row .before .before .loop in (
+      l .inv .2,
+      stops (row .before .before .before .before) (l .k) (l .at) _ _ (row .before .loop-test .taken) (l .inv .1) (row .series-in .ensures)
+          (c .before .before .before .found .given .1),
+    )
+
+lower : tie.Need-returns-3 Inv-loop μ-loop
+lower c =
+    let row = c .before .before .before .before .before in
+    let l = row .before .before .loop in (
+      l .inv .2,
+      stops (row .before .before .before .before) (l .k) (l .at) _ _ (row .before .loop-test .taken) (l .inv .1) (row .series-in .ensures)
+          (c .before .before .before .found .given .1),
+    )
 
 -- one row more
 again : tie.Need-loop-again Inv-loop μ-loop
@@ -32,12 +70,11 @@ again c =
     let row = c .before .before .before .before in
     let test = row .before in
     let l = test .before .loop in
-    let a = test .before .before .before .args in
-    let here : l .at + (7 + a .slots) ≡ a .base + (l .k + 1) * (7 + a .slots) = omega (arith, l .inv .1) in (
+    let a = test .before .before .before .args in (
       omega (arith, test .loop-test .taken),
-      here,
+      omega (arith, l .inv .1),
       passed-more (a .kind) (overOf (a .slot) (a .which)) (a .rows .now) (a .slots) (a .base) (a .best) (l .k) (l .inv .2)
-          (rw (← here, ← row .series-in .ensures, c .before .before .later .given .1)
+          (rw (← l .inv .1, ← row .series-in .ensures, c .before .before .found .given .1)
           (⊎-elim
           (λ z. not-higher _ _ _ (z .0 .taken) (z .1 .left))
           (λ z. not-lower _ _ _ (z .0 .left) (z .1 .left))
@@ -51,18 +88,24 @@ pass-rows-spec =
     Inv-loop
     μ-loop
     (λ c. (omega arith, omega arith, λ i l. absurd (omega (arith, l))))
-    (λ c. let l = c .before .loop in omega (arith, room (c .before .before .before) (l .k) (l .at) (c .loop-test .taken) (l .inv .1)))
-    (λ c. let l = c .before .loop in omega (arith, room (c .before .before .before) (l .k) (l .at) (c .loop-test .taken) (l .inv .1)))
     (λ c κs.
     let l = c .before .loop in
     let s = c .before .before .before in
     (room s (l .k) (l .at) (c .loop-test .taken) (l .inv .1), s .pre .1))
     (λ c. search needs)
-    (λ c. let l = c .before .before .before .before .loop in (l .inv .0, l .inv .2))
+    missing
     (λ c. search needs)
-    (λ c. let l = c .before .before .before .before .before .before .before .loop in (l .inv .0, l .inv .2))
-    (λ c. let l = c .before .before .before .before .before .before .before .loop in (l .inv .0, l .inv .2))
+    higher
+    lower
+    (λ c.
+    let test = c .before .before .before .before .before in
+    let l = test .before .loop in
+    omega (arith, room (test .before .before .before) (l .k) (l .at) (test .loop-test .taken) (l .inv .1)))
+    (λ c.
+    let test = c .before .before .before .before .before in
+    let l = test .before .loop in
+    omega (arith, room (test .before .before .before) (l .k) (l .at) (test .loop-test .taken) (l .inv .1)))
     (λ c. omega (arith, c .before .before .before .before .before .loop-test .taken))
     (λ c. omega (arith, c .before .before .before .before .before .loop-test .taken))
     again
-    (λ c. let l = c .before .loop in (l .inv .0, l .inv .2)))
+    (λ c. (λ i l. c .before .loop .inv .2 i (omega (arith, l, c .loop-test .left)), refl)))

@@ -1,13 +1,13 @@
 -- As many rows as follow before the words' end are passed over at most, so they stand one after the other.
 use borrow.Author.Needs.{needs}
-use Prim.Native.Nat.{_+_, _*_, _<_, _≤_}
+use Prim.Native.Nat.{_+_, _-_, _*_, _<_, _≤_}
+use mathlib.Core.Path.{sym, _∙_}
 use native.Mathlib.Omega.{arith}
 use lib.ListN.{length}
-use Rattle.rows.specs.Laws.RowEnds.{row-ends}
 use Rattle.rows.specs.Laws.Ring.{place-within}
 use Rattle.steps.specs.Looks.{overOf}
 use Rattle.steps.proofs.Rows.{place-ends}
-use Rattle.steps.proofs.Looks.{passed-on}
+use Rattle.steps.proofs.Looks.{no-more, at-row, at-end, rows-end, series-after, passed-on}
 use Rattle.steps.proofs.looking.passed_from.Statement.{statement}
 use Rattle.steps.proofs.looking.passed_from.Tie as tie
 
@@ -15,13 +15,13 @@ use Rattle.steps.proofs.looking.passed_from.Tie as tie
 row-within : (c : tie.After-place) → c .place .result < c .before .before .args .held
 row-within c =
     let s = c .before .before in
-    rw (c .place .ensures) (place-within (s .args .held) (s .args .first) (s .args .at) (s .pre .1) (omega (arith, s .pre .2, s .pre .3)))
+    rw (c .place .ensures) (place-within (s .args .held) (s .args .first) (s .args .at + 1) (s .pre .1) (omega (arith, s .pre .2, s .pre .3)))
 
 ends : (c : tie.After-place) → let a = c .before .before .args in c .place .result * (7 + a .slots) + (7 + a .slots) ≤ length (a .rows .now)
 ends c =
     let s = c .before .before in
     rw (c .place .ensures) (place-ends (s .args .slots) (s .args .first) (s .args .rows .now) (s .args .held) 0
-    (s .pre .0) (s .pre .1) (s .args .at) (omega (arith, s .pre .2, s .pre .3)))
+    (s .pre .0) (s .pre .1) (s .args .at + 1) (omega (arith, s .pre .2, s .pre .3)))
 
 pass-requires : tie.Need-pass-requires
 pass-requires c κs =
@@ -29,29 +29,49 @@ pass-requires c κs =
     let s = place .before .before in
     let a = s .args in
     let row = place .place .result in
-    let last : row + c .following .result < a .held = omega (arith, row-within place, c .following .ensures) in
-    omega (arith, row-ends (a .slots) (a .rows .now) (row + c .following .result) (rw (s .pre .0) at last))
+    let count = c .from-there .result in
+    let some : 1 ≤ count = omega (arith, row-within place, c .from-there .ensures, s .pre .2) in (
+      some,
+      rows-end (a .slots) (a .first) (a .rows .now) (a .held) (s .pre .0) (s .pre .1) row count (count - 1) (omega (arith, some))
+          (omega (arith, some, row-within place, c .from-there .ensures)),
+    )
 
 returns : tie.Need-returns
 returns c =
-    let count = c .before in
-    let place = count .before in
+    let counted = c .before in
+    let place = counted .before in
     let s = place .before .before in
     let a = s .args in
-    let few = c .pass .ensures .0 in
-    let most = count .following .ensures in (
+    let stop = c .pass .result in
+    let over = overOf (a .slot) (a .which) in
+    let base = place .place .result * (7 + a .slots) in
+    let count = counted .from-there .result in
+    let most = counted .from-there .ensures in
+    let few = no-more over (a .rows .now) (a .slots) base count (stop .passed) (stop .later) (stop .stopped) (c .pass .ensures .1) in (
       omega (arith, few, most, s .pre .2),
       λ oldest le so-far.
-          passed-on (a .slots) (a .first) (a .rows .now) (a .held) (s .pre .0) (s .pre .1) (a .kind) (overOf (a .slot) (a .which)) (a .best) oldest (a .at)
-          (c .pass .result) le (omega (arith, few, most, s .pre .2, s .pre .3))
+          passed-on (a .slots) (a .first) (a .rows .now) (a .held) (s .pre .0) (s .pre .1) (a .kind) over (a .best) oldest (a .at)
+          (stop .passed) le (omega (arith, few, most, s .pre .2, s .pre .3))
           (rw (← place .place .ensures) (omega (arith, few, most, row-within place)))
-          (rw (place .place .ensures) at (c .pass .ensures .1)) so-far,
+          (rw (place .place .ensures) at (c .pass .ensures .0)) so-far,
+      λ e.
+          let here = at-row over (a .rows .now) (a .slots) base count (stop .passed) (stop .later) (stop .stopped) e (c .pass .ensures .1) in (
+            omega (arith, here .0, most),
+            (rw (place .place .ensures) at (here .1))
+                ∙ sym (series-after (a .slots) (a .first) (a .rows .now) (a .held) (s .pre .0) (s .pre .1) over (a .at) (stop .passed)
+                (omega (arith, here .0, most, s .pre .3))
+                (rw (← place .place .ensures) (omega (arith, here .0, most, row-within place)))),
+          ),
+      λ e.
+          let all = at-end over (a .rows .now) (a .slots) base count (stop .passed) (stop .later) (stop .stopped) e (c .pass .ensures .1) in
+          omega (arith, all, most, row-within place, s .pre .2),
     )
 
 pub passed-from-spec : {M : Type 1} → statement M
 passed-from-spec =
     tie.close
     (tie.spec
+    (λ c. omega (arith, c .before .pre .2))
     (λ c κs. search needs)
     (λ c. omega (arith, ends c))
     (λ c. omega (arith, ends c))
