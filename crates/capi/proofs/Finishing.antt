@@ -17,8 +17,8 @@ use Rattle.refusals.specs.declared.verdict.Verdict.the-variants.{Fine, Bad}
 use Rattle.refusals.specs.Lines.{judged}
 use Rattle.refusals.specs.Judgement.{finishJudged}
 use Rattle.refusals.specs.Laws.Lines.{below-fine, below-bad}
-use Rattle.engine.specs.declared.Finished.{Finished}
-use Rattle.engine.specs.declared.Finished.the-variants.{Refused, Done}
+use Rattle.engine.specs.declared.answer.Finished.{Finished}
+use Rattle.engine.specs.declared.answer.Finished.the-variants.{Refused, Done}
 use Rattle.engine.specs.declared.ending.Ended.{Ended}
 use Rattle.engine.specs.Step.{With, Is}
 use Rattle.engine.specs.Finish.{ended, concluded, finishOf}

@@ -11,8 +11,8 @@ use Rattle.records.specs.StateWords.{stateOf}
 use Rattle.refusals.specs.declared.verdict.Verdict.{Verdict}
 use Rattle.refusals.specs.declared.verdict.Verdict.the-variants.{Fine, Bad}
 use Rattle.refusals.specs.Lines.{judged}
-use Rattle.engine.specs.declared.Answer.{Answer}
-use Rattle.engine.specs.declared.Answer.the-variants.{Refused, Done}
+use Rattle.engine.specs.declared.answer.Answer.{Answer}
+use Rattle.engine.specs.declared.answer.Answer.the-variants.{Refused, Done}
 use Rattle.engine.specs.Day.{barsFor, noBars, dayOf}
 use Rattle.engine.specs.Run.{goesOn, runOver}
 use Rattle.engine.specs.Step.{With, stepAnswer}

@@ -8,7 +8,7 @@ use lib.ListN.{length, drop, length-append}
 use Rattle.table.specs.declared.trees.Tree.{Tree}
 use Rattle.table.specs.Checked.{checked}
 use Rattle.table.specs.Header.{treeNumber}
-use Rattle.steps.specs.declared.Translated.the-variants.{Writes}
+use Rattle.steps.specs.declared.translated.Translated.the-variants.{Writes}
 use Rattle.steps.specs.Bytes.{bytesOf}
 use Rattle.steps.specs.Laws.Encoding.{steps-long}
 use Rattle.steps.specs.Demand.{counted}

@@ -8,8 +8,8 @@ use Rattle.records.specs.Settings.{settingsOf}
 use Rattle.records.specs.StateWords.{stateOf, wordsOf}
 use Rattle.refusals.specs.Lines.{Line, judged}
 use Rattle.refusals.specs.Rooms.{roomLines}
-use Rattle.engine.specs.declared.Answer.{Answer}
-use Rattle.engine.specs.declared.Answer.the-variants.{Refused, Done}
+use Rattle.engine.specs.declared.answer.Answer.{Answer}
+use Rattle.engine.specs.declared.answer.Answer.the-variants.{Refused, Done}
 use Rattle.engine.specs.Step.{stepAnswer}
 use Rattle.capi.specs.Call.{Call, callOf, unlessBad, wordLines}
 

@@ -8,8 +8,8 @@ use Rattle.records.specs.Lent.{Rooms}
 use Rattle.records.specs.Settings.{settingsOf}
 use Rattle.records.specs.StateWords.{stateOf, wordsOf}
 use Rattle.refusals.specs.Lines.{judged}
-use Rattle.engine.specs.declared.Finished.{Finished}
-use Rattle.engine.specs.declared.Finished.the-variants.{Refused, Done}
+use Rattle.engine.specs.declared.answer.Finished.{Finished}
+use Rattle.engine.specs.declared.answer.Finished.the-variants.{Refused, Done}
 use Rattle.engine.specs.Finish.{finishOf}
 use Rattle.capi.specs.Call.{Call, callOf, unlessBad, metricLines}
 use Rattle.capi.specs.Bars.{lentLines}

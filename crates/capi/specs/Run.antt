@@ -6,12 +6,12 @@ use lib.Dec.{ltb}
 use Rattle.words.specs.Limits.{trees}
 use Rattle.words.specs.Outcome.{Outcome, gives, refuses}
 use Rattle.floats.specs.Floats.{floatOf}
-use Rattle.rules.specs.declared.PositionState.{PositionState}
-use Rattle.rules.specs.declared.RuleAnswer.{RuleAnswer}
-use Rattle.rules.specs.declared.RuleAnswer.the-variants.{Says, Refuses}
+use Rattle.rules.specs.declared.position.PositionState.{PositionState}
+use Rattle.rules.specs.declared.answers.RuleAnswer.{RuleAnswer}
+use Rattle.rules.specs.declared.answers.RuleAnswer.the-variants.{Says, Refuses}
 use Rattle.rules.specs.Answers.{answered}
-use Rattle.steps.specs.declared.RunAnswer.{RunAnswer}
-use Rattle.steps.specs.declared.RunAnswer.the-variants.{Runs, Refuses as RunRefuses}
+use Rattle.steps.specs.declared.running.RunAnswer.{RunAnswer}
+use Rattle.steps.specs.declared.running.RunAnswer.the-variants.{Runs, Refuses as RunRefuses}
 use Rattle.steps.specs.Running.{runs}
 use Rattle.records.specs.StateWords.{enteredOf}
 use Rattle.capi.specs.Call.{Call, callOf, bitOf}

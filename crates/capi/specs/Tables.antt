@@ -17,8 +17,8 @@ use Rattle.table.specs.declared.trees.Tree.the-variants.{Entry, Exit, ShortEntr
 use Rattle.table.specs.Checked.{checked}
 use Rattle.needed.specs.Depth.{depthAnswer}
 use Rattle.table.specs.Silent.{silentTests, silentAnswer, listAfter}
-use Rattle.steps.specs.declared.Translated.{Translated}
-use Rattle.steps.specs.declared.Translated.the-variants.{Writes, Refuses}
+use Rattle.steps.specs.declared.translated.Translated.{Translated}
+use Rattle.steps.specs.declared.translated.Translated.the-variants.{Writes, Refuses}
 use Rattle.steps.specs.Translating.{afterTable, translates, roomLeft}
 use Rattle.capi.specs.Call.{Call, callOf}
 

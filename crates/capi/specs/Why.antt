@@ -2,9 +2,9 @@
 use Prim.Native.Nat.{ℕ}
 use mathlib.Core.List.{List}
 use Rattle.words.specs.Outcome.{Outcome, gives, refuses}
-use Rattle.rules.specs.declared.PositionState.{PositionState}
-use Rattle.chain.specs.declared.Explained.{Explained}
-use Rattle.chain.specs.declared.Explained.the-variants.{Lines, Refuses}
+use Rattle.rules.specs.declared.position.PositionState.{PositionState}
+use Rattle.chain.specs.declared.explain.Explained.{Explained}
+use Rattle.chain.specs.declared.explain.Explained.the-variants.{Lines, Refuses}
 use Rattle.chain.specs.Explained.{explanation, explained, linesAfter}
 use Rattle.capi.specs.Call.{Call, callOf}
 

@@ -8,7 +8,7 @@ use crate::calls::judge_metrics;
 use crate::calls::judge_words;
 use crate::day::call_bars;
 use crate::figures::put_metrics;
-use engine::Finished;
+use engine::answer::Finished;
 use records::settings::settings_of;
 use records::state_words::put_state;
 use records::state_words::state_of;

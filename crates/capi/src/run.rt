@@ -5,9 +5,9 @@ use crate::calls::answer_word;
 use crate::calls::bit_of;
 use crate::tables::numbered_tree;
 use records::state_words::entered_of;
-use rules::PositionState;
-use rules::RuleAnswer;
-use steps::RunAnswer;
+use rules::answers::RuleAnswer;
+use rules::position::PositionState;
+use steps::running::RunAnswer;
 use words::limits::TREES;
 
 pub(crate) fn position_state(

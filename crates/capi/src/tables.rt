@@ -3,7 +3,7 @@ ghost use mathlib.Core.Path.{_≡_};
 ghost use Rattle.capi.specs.Tables.{numberedTree, checkCall, depthCall, silentCall, translateCall};
 use crate::calls::answer_word;
 use needed::depth::DepthAnswer;
-use steps::Translated;
+use steps::translated::Translated;
 use table::answer::Answer;
 use table::silent::SilentAnswer;
 use table::trees::Tree;

@@ -4,7 +4,7 @@ ghost use Rattle.capi.specs.Run.{positionState};
 ghost use Rattle.capi.specs.Why.{whyCall};
 use crate::calls::answer_word;
 use crate::run::position_state;
-use chain::Explained;
+use chain::explain::Explained;
 
 // The chain of nodes from a tree's root to what decided at the newest row, a line of eight words for each, and how many lines.
 #[no_mangle]

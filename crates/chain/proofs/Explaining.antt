@@ -16,11 +16,11 @@ use Rattle.table.specs.Bytes.{Bytes}
 use Rattle.table.specs.Header.{slots, count, root}
 use Rattle.table.specs.Checked.{checked}
 use Rattle.table.specs.Ends.{endsBeside}
-use Rattle.rules.specs.declared.PositionState.{PositionState}
+use Rattle.rules.specs.declared.position.PositionState.{PositionState}
 use Rattle.rules.specs.Meaning.{newest}
 use Rattle.rules.specs.Flat.{conditionAt}
 use Rattle.rules.specs.Answers.{stateRight}
-use Rattle.chain.specs.declared.Explained.the-variants.{Lines, Refuses}
+use Rattle.chain.specs.declared.explain.Explained.the-variants.{Lines, Refuses}
 use Rattle.chain.specs.Chain.{chain}
 use Rattle.chain.specs.Lines.{chainWords, putLines}
 use Rattle.chain.specs.Explained.{explanation, explainedBy, explained, linesAfter}

@@ -6,12 +6,12 @@ use mathlib.Core.List.{List}
 use native.Mathlib.Omega.{arith}
 use native.Mathlib.Numerals.{sub-one}
 use Rattle.rows.specs.History.{History}
-use Rattle.rules.specs.declared.PositionState.{PositionState}
+use Rattle.rules.specs.declared.position.PositionState.{PositionState}
 use Rattle.rules.specs.declared.shapes.ConditionShape.{ConditionShape}
 use Rattle.rules.specs.Meaning.{holds}
 use Rattle.rules.specs.Shapes.{endIn, conditionShape}
 use Rattle.rules.specs.Flat.{conditionAt}
-use Rattle.chain.specs.declared.Next.the-variants.{Stop, Node}
+use Rattle.chain.specs.declared.walk.Next.the-variants.{Stop, Node}
 use Rattle.chain.specs.Flat.{firstAt, nextBy, nextAt}
 
 -- the first of a row of conditions gives the answer, does not, or is not there

@@ -12,7 +12,7 @@ use Rattle.rules.specs.declared.shapes.OperandShape.the-variants.{Const, Ref, P
 use Rattle.rules.specs.Shapes.{operandShape}
 use Rattle.rules.specs.Flat.{growOperand, operandAt}
 use Rattle.rules.proofs.Grown.{no-operand, grown-operand}
-use Rattle.chain.specs.declared.Found.{Found}
+use Rattle.chain.specs.declared.missing.Found.{Found}
 use Rattle.chain.specs.Missing.{firstFound, leafGone, newestGone, missingIn}
 use Rattle.chain.specs.Flat.{byEnds}
 use Rattle.chain.specs.Laws.Shapes.{OperandPlaced, operand-placed}

@@ -9,11 +9,11 @@ use Rattle.table.specs.declared.series.Series.{Series}
 use Rattle.table.specs.declared.series.Series.the-variants.{Price, Slot}
 use Rattle.table.specs.Series.{asOperand}
 use Rattle.table.specs.Trees.{Operand}
-use Rattle.rules.specs.declared.Value.{Value}
+use Rattle.rules.specs.declared.values.Value.{Value}
 use Rattle.rules.specs.Values.{slotOf}
 use Rattle.rules.specs.Laws.Meaning.{past, price-value, ref-value}
-use Rattle.chain.specs.declared.Found.{Found}
-use Rattle.chain.specs.declared.Found.the-variants.{Nowhere, Leaf}
+use Rattle.chain.specs.declared.missing.Found.{Found}
+use Rattle.chain.specs.declared.missing.Found.the-variants.{Nowhere, Leaf}
 use Rattle.chain.specs.Missing.{firstFound, goneIf, leafGone, newestGone}
 
 module _ (h : History) (over : Series) (i bar back : ℕ) where

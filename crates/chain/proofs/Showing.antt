@@ -5,17 +5,17 @@ use mathlib.Core.Bool.{Bool, true, false, cond}
 use mathlib.Core.List.{List, [], _∷_}
 use lib.Dec.{eqb, ltb}
 use Rattle.rows.specs.History.{History}
-use Rattle.rules.specs.declared.Value.{Value}
-use Rattle.rules.specs.declared.PositionState.{PositionState}
+use Rattle.rules.specs.declared.values.Value.{Value}
+use Rattle.rules.specs.declared.position.PositionState.{PositionState}
 use Rattle.rules.specs.declared.shapes.ConditionShape.{ConditionShape}
 use Rattle.rules.specs.declared.shapes.ConditionShape.the-variants.{Compare, Cross, Between, Trend, Group, Not, InPosition, BarsSince, NoCondition}
 use Rattle.rules.specs.Meaning.{value}
 use Rattle.rules.specs.Shapes.{conditionShape}
 use Rattle.rules.specs.Flat.{operandAt, group, growCondition, conditionAt}
 use Rattle.rules.proofs.Grown.{no-condition, grown-condition}
-use Rattle.chain.specs.declared.Found.{Found}
-use Rattle.chain.specs.declared.Found.the-variants.{Nowhere, Leaf}
-use Rattle.chain.specs.declared.Detail.{Detail}
+use Rattle.chain.specs.declared.missing.Found.{Found}
+use Rattle.chain.specs.declared.missing.Found.the-variants.{Nowhere, Leaf}
+use Rattle.chain.specs.declared.shown.Detail.{Detail}
 use Rattle.chain.specs.Missing.{firstFound, missingIn, missingInTwo, missingInThree}
 use Rattle.chain.specs.Chain.{shownBy, shownSince, shown, atFirstBar, tooFewBars}
 use Rattle.chain.specs.Lines.{valueWord, valueWords, detail, detailOf, leafOr}

@@ -6,10 +6,10 @@ use native.Mathlib.Omega.{arith}
 use lib.ListN.{length}
 use Rattle.words.specs.Words.{overwrite}
 use Rattle.rows.specs.History.{History}
-use Rattle.rules.specs.declared.PositionState.{PositionState}
+use Rattle.rules.specs.declared.position.PositionState.{PositionState}
 use Rattle.rules.specs.Flat.{conditionAt}
-use Rattle.chain.specs.declared.Next.{Next}
-use Rattle.chain.specs.declared.Next.the-variants.{Stop, Node}
+use Rattle.chain.specs.declared.walk.Next.{Next}
+use Rattle.chain.specs.declared.walk.Next.the-variants.{Stop, Node}
 use Rattle.chain.specs.Chain.{lineAt, chain}
 use Rattle.chain.specs.Lines.{lineWords, putLines}
 use Rattle.chain.specs.Flat.{byEnds, nextAt}

@@ -6,14 +6,14 @@ use lib.Dec.{ltb, eqb}
 use Rattle.rows.specs.History.{History}
 use Rattle.table.specs.Trees.{Condition, Conditions, compare, cross, between, trend, every, any, negated, inPosition, barsSince, none, more}
 use Rattle.table.specs.Writing.{nodesOf}
-use Rattle.rules.specs.declared.Value.{Value}
-use Rattle.rules.specs.declared.Entered.{Entered}
-use Rattle.rules.specs.declared.Entered.the-variants.{Never, Bar}
-use Rattle.rules.specs.declared.PositionState.{PositionState}
+use Rattle.rules.specs.declared.values.Value.{Value}
+use Rattle.rules.specs.declared.position.Entered.{Entered}
+use Rattle.rules.specs.declared.position.Entered.the-variants.{Never, Bar}
+use Rattle.rules.specs.declared.position.PositionState.{PositionState}
 use Rattle.rules.specs.Values.{held}
 use Rattle.rules.specs.Meaning.{value, holds}
-use Rattle.chain.specs.declared.Found.{Found}
-use Rattle.chain.specs.declared.Found.the-variants.{Nowhere, Leaf}
+use Rattle.chain.specs.declared.missing.Found.{Found}
+use Rattle.chain.specs.declared.missing.Found.the-variants.{Nowhere, Leaf}
 use Rattle.chain.specs.Missing.{Numbering, firstFound, missingIn, missingInTwo, missingInThree}
 
 -- What a line shows.

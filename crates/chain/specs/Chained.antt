@@ -8,7 +8,7 @@ use native.Mathlib.Omega.{arith}
 use Rattle.rows.specs.History.{History}
 use Rattle.table.specs.Trees.{Condition, Conditions, compare, cross, between, trend, every, any, negated, inPosition, barsSince, none, more}
 use Rattle.table.specs.Writing.{nodesOf}
-use Rattle.rules.specs.declared.PositionState.{PositionState}
+use Rattle.rules.specs.declared.position.PositionState.{PositionState}
 use Rattle.rules.specs.Meaning.{holds, allHold, anyHolds}
 use Rattle.chain.specs.Missing.{inTable}
 use Rattle.chain.specs.Chain.{ChainLine, lineAt, chain, firstWith}

@@ -12,11 +12,11 @@ use Rattle.table.specs.declared.answer.Answer.the-variants.{Accepted, Refused}
 use Rattle.table.specs.Header.{slots, count, root}
 use Rattle.table.specs.Checked.{checked}
 use Rattle.table.specs.Reading.{treeOf}
-use Rattle.rules.specs.declared.PositionState.{PositionState}
+use Rattle.rules.specs.declared.position.PositionState.{PositionState}
 use Rattle.rules.specs.Meaning.{newest}
 use Rattle.rules.specs.Answers.{stateRight}
-use Rattle.chain.specs.declared.Explained.{Explained}
-use Rattle.chain.specs.declared.Explained.the-variants.{Lines, Refuses}
+use Rattle.chain.specs.declared.explain.Explained.{Explained}
+use Rattle.chain.specs.declared.explain.Explained.the-variants.{Lines, Refuses}
 use Rattle.chain.specs.Missing.{inTable}
 use Rattle.chain.specs.Chain.{ChainLine, chain}
 use Rattle.chain.specs.Lines.{lineLength, chainWords}

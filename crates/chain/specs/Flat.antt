@@ -6,14 +6,14 @@ use mathlib.Core.List.{List, []}
 use Rattle.words.specs.Limits.{trees, mostNesting}
 use Rattle.rows.specs.History.{History, historyOf}
 use Rattle.table.specs.Header.{slots, count, root}
-use Rattle.rules.specs.declared.PositionState.{PositionState}
+use Rattle.rules.specs.declared.position.PositionState.{PositionState}
 use Rattle.rules.specs.declared.shapes.ConditionShape.{ConditionShape}
 use Rattle.rules.specs.declared.shapes.ConditionShape.the-variants.{Compare, Cross, Between, Trend, Group, Not, InPosition, BarsSince, NoCondition}
 use Rattle.rules.specs.Meaning.{newest, holds}
 use Rattle.rules.specs.Shapes.{endIn, conditionShape}
 use Rattle.rules.specs.Flat.{conditionAt}
-use Rattle.chain.specs.declared.Next.{Next}
-use Rattle.chain.specs.declared.Next.the-variants.{Stop, Node}
+use Rattle.chain.specs.declared.walk.Next.{Next}
+use Rattle.chain.specs.declared.walk.Next.the-variants.{Stop, Node}
 use Rattle.chain.specs.Missing.{Numbering}
 use Rattle.chain.specs.Chain.{ChainLine, chain}
 

@@ -5,11 +5,11 @@ use mathlib.Core.List.{List, [], _∷_, _++_}
 use lib.ListN.{length, getD}
 use Rattle.words.specs.Words.{overwrite}
 use Rattle.floats.specs.Floats.{wordOf}
-use Rattle.rules.specs.declared.Value.{Value}
-use Rattle.rules.specs.declared.Value.the-variants.{Missing, Number}
-use Rattle.chain.specs.declared.Detail.{Detail}
-use Rattle.chain.specs.declared.Found.{Found}
-use Rattle.chain.specs.declared.Found.the-variants.{Nowhere, Leaf}
+use Rattle.rules.specs.declared.values.Value.{Value}
+use Rattle.rules.specs.declared.values.Value.the-variants.{Missing, Number}
+use Rattle.chain.specs.declared.shown.Detail.{Detail}
+use Rattle.chain.specs.declared.missing.Found.{Found}
+use Rattle.chain.specs.declared.missing.Found.the-variants.{Nowhere, Leaf}
 use Rattle.chain.specs.Chain.{Shown, link, values, missing, atFirstBar, tooFewBars, position, sinceEntry, noEntry, ChainLine}
 
 -- a value's word; one that is missing, which a line of values never has, would be 0

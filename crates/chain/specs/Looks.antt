@@ -11,9 +11,9 @@ use Rattle.table.specs.Trees.{Operand, const, ref, price, prev, arith, extreme,
 use Rattle.table.specs.Trees.{inPosition, barsSince}
 use Rattle.table.specs.Series.{asOperand}
 use Rattle.table.specs.Writing.{nodesIn}
-use Rattle.rules.specs.declared.Value.{Value}
-use Rattle.rules.specs.declared.Value.the-variants.{Missing, Number}
-use Rattle.rules.specs.declared.PositionState.{PositionState}
+use Rattle.rules.specs.declared.values.Value.{Value}
+use Rattle.rules.specs.declared.values.Value.the-variants.{Missing, Number}
+use Rattle.rules.specs.declared.position.PositionState.{PositionState}
 use Rattle.rules.specs.Values.{held}
 use Rattle.rules.specs.Meaning.{value, holds}
 use Rattle.chain.specs.Chain.{Shown, link, values, missing, atFirstBar, tooFewBars, position, sinceEntry, noEntry, shownFrom}

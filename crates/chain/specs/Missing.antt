@@ -6,11 +6,11 @@ use Rattle.rows.specs.History.{History}
 use Rattle.table.specs.Series.{asOperand}
 use Rattle.table.specs.Trees.{Operand, const, ref, price, prev, arith, extreme}
 use Rattle.table.specs.Writing.{nodesIn}
-use Rattle.rules.specs.declared.Value.{Value}
-use Rattle.rules.specs.declared.Value.the-variants.{Missing, Number}
+use Rattle.rules.specs.declared.values.Value.{Value}
+use Rattle.rules.specs.declared.values.Value.the-variants.{Missing, Number}
 use Rattle.rules.specs.Meaning.{value}
-use Rattle.chain.specs.declared.Found.{Found}
-use Rattle.chain.specs.declared.Found.the-variants.{Nowhere, Leaf}
+use Rattle.chain.specs.declared.missing.Found.{Found}
+use Rattle.chain.specs.declared.missing.Found.the-variants.{Nowhere, Leaf}
 
 -- How nodes are numbered: the number just past a subtree of so many nodes that begins at node j.
 abbrev pub Numbering : Type 0

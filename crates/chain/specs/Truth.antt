@@ -13,15 +13,15 @@ use Rattle.table.specs.Trees.{Operand, const, ref, price, prev, arith as sums, 
 use Rattle.table.specs.Trees.{inPosition, barsSince}
 use Rattle.table.specs.Series.{asOperand}
 use Rattle.table.specs.Writing.{nodesIn}
-use Rattle.rules.specs.declared.Value.{Value}
-use Rattle.rules.specs.declared.Value.the-variants.{Missing, Number}
-use Rattle.rules.specs.declared.PositionState.{PositionState}
-use Rattle.rules.specs.declared.Entered.{Entered}
-use Rattle.rules.specs.declared.Entered.the-variants.{Never, Bar}
+use Rattle.rules.specs.declared.values.Value.{Value}
+use Rattle.rules.specs.declared.values.Value.the-variants.{Missing, Number}
+use Rattle.rules.specs.declared.position.PositionState.{PositionState}
+use Rattle.rules.specs.declared.position.Entered.{Entered}
+use Rattle.rules.specs.declared.position.Entered.the-variants.{Never, Bar}
 use Rattle.rules.specs.Values.{held, countedSince}
 use Rattle.rules.specs.Meaning.{value, holds}
-use Rattle.chain.specs.declared.Found.{Found}
-use Rattle.chain.specs.declared.Found.the-variants.{Nowhere, Leaf}
+use Rattle.chain.specs.declared.missing.Found.{Found}
+use Rattle.chain.specs.declared.missing.Found.the-variants.{Nowhere, Leaf}
 use Rattle.chain.specs.Missing.{inTable, firstFound, goneIf, leafGone, newestGone, missingIn, missingInTwo, missingInThree}
 use Rattle.chain.specs.Chain.{atFirstBar, tooFewBars, position, noEntry, shownBy, shownFrom, shownSince, shown}
 use Rattle.chain.specs.Looks.{Look, look, looksBack, looksIn, looksOf, valuesOf, seen, number}

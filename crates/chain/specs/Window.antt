@@ -21,7 +21,7 @@ use Rattle.table.specs.Writing.{nodesIn, nodesOf}
 use Rattle.roundtrip.specs.Laws.Reach.{rows-are}
 use Rattle.table.specs.Series.{asOperand}
 use Rattle.roundtrip.specs.Laws.Series.{leaf-reach}
-use Rattle.rules.specs.declared.PositionState.{PositionState}
+use Rattle.rules.specs.declared.position.PositionState.{PositionState}
 use Rattle.rules.specs.Meaning.{newest}
 use Rattle.rules.specs.Window.{Without, operand-same, condition-same, without-first}
 use Rattle.rules.specs.WindowAnswers.{window-whole}

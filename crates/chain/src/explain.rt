@@ -1,12 +1,11 @@
 // The chain of one tree of a table over rows, refusals and all.
-use super::Explained;
-use super::LINE_WORDS;
-use super::LINES_ROOM;
-use super::MOST_LINES;
-use super::walk::walk;
-use rules::PositionState;
+use crate::lines::LINE_WORDS;
+use crate::lines::LINES_ROOM;
+use crate::lines::MOST_LINES;
+use crate::walk::walk;
 use rules::answers::newest;
 use rules::answers::state_right;
+use rules::position::PositionState;
 use table::answer::Answer;
 use words::limits::MOST_NESTING;
 use words::limits::TREES;
@@ -16,6 +15,12 @@ ghost use lib.ListN.{length};
 ghost use Rattle.chain.specs.Lines.{putLines};
 ghost use Rattle.chain.specs.Explained.{explanation, explained, linesAfter};
 ghost use Rattle.chain.specs.Flat.{flatExplanation};
+
+// How many lines were written, or the refusal.
+pub enum Explained {
+    Lines(usize),
+    Refuses(Refusal),
+}
 
 // The lines of a tree into the list, and how many they are: none where the tree is absent.
 fn explain_tree(

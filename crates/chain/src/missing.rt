@@ -1,11 +1,10 @@
 // The first missing leaf of an operand, over the flat table. `left` is how many levels of nesting are left, the operand's own
 // counted.
-use super::Found;
-use rules::Value;
 use rules::operands::eval_operand;
 use rules::shapes;
 use rules::shapes::OperandShape;
 use rules::values;
+use rules::values::Value;
 use table::series::Series;
 use table::series::series_in;
 ghost use mathlib.Core.Path.{_≡_};
@@ -16,6 +15,12 @@ ghost use Rattle.rules.specs.Flat.{operandAt};
 ghost use Rattle.chain.specs.Missing.{Near, leafGone, newestGone, missingIn};
 ghost use Rattle.chain.specs.Missing as Missing;
 ghost use Rattle.chain.specs.Flat.{byEnds};
+
+// The first missing leaf: its node, and how many bars back it was looked at.
+pub enum Found {
+    Nowhere,
+    Leaf(usize, usize),
+}
 
 // The one of the two that comes first.
 pub(crate) fn first_found(first: Found, second: Found) -> Found

@@ -1,14 +1,13 @@
 // What a line shows, by the shape of its node. `left` is how many levels of nesting are left for the operands.
-use super::Detail;
-use super::Found;
-use super::missing::first_found;
-use super::missing::first_missing;
-use rules::Entered;
-use rules::PositionState;
-use rules::Value;
+use crate::missing::Found;
+use crate::missing::first_found;
+use crate::missing::first_missing;
 use rules::operands::eval_operand;
+use rules::position::Entered;
+use rules::position::PositionState;
 use rules::shapes;
 use rules::shapes::ConditionShape;
+use rules::values::Value;
 use rules::values::in_position;
 ghost use mathlib.Core.Path.{_≡_};
 ghost use mathlib.Core.Bool.{cond};
@@ -16,15 +15,25 @@ ghost use mathlib.Core.List.{[], _∷_};
 ghost use Prim.Native.Nat.{ℕ, _-_, _≤_};
 ghost use lib.Dec.{eqb, ltb};
 ghost use Rattle.rows.specs.History.{historyOf};
-ghost use Rattle.rules.specs.declared.Value.{Value};
+ghost use Rattle.rules.specs.declared.values.Value.{Value};
 ghost use Rattle.rules.specs.Meaning.{value};
 ghost use Rattle.rules.specs.Flat.{operandAt, conditionAt};
-ghost use Rattle.chain.specs.declared.Found.{Found};
+ghost use Rattle.chain.specs.declared.missing.Found.{Found};
 ghost use Rattle.chain.specs.Missing.{Near, missingIn, firstFound};
 ghost use Rattle.chain.specs.Chain as Chain;
 ghost use Rattle.chain.specs.Chain.{shownBy, shownSince, shown};
 ghost use Rattle.chain.specs.Lines.{valueWord, detail, leafOr, detailOf};
 ghost use Rattle.chain.specs.Flat.{byEnds};
+
+// What a line shows: its sort, and how many of the four words are used.
+pub struct Detail {
+    pub sort: u64,
+    pub used: u64,
+    pub first: u64,
+    pub second: u64,
+    pub third: u64,
+    pub fourth: u64,
+}
 
 // The sorts of a line.
 const LINK: u64 = 0;

@@ -1,10 +1,9 @@
 // The chain, node by node, into the lent list.
-use super::Detail;
-use super::LINE_WORDS;
-use super::Next;
-use super::shown::show;
-use rules::PositionState;
+use crate::lines::LINE_WORDS;
+use crate::shown::Detail;
+use crate::shown::show;
 use rules::conditions::eval_condition;
+use rules::position::PositionState;
 use rules::shapes;
 use rules::shapes::ConditionShape;
 ghost use mathlib.Core.Path.{_≡_};
@@ -17,6 +16,12 @@ ghost use Rattle.rules.specs.Flat.{conditionAt};
 ghost use Rattle.chain.specs.Chain.{lineAt, chain};
 ghost use Rattle.chain.specs.Lines.{lineFrom, lineWords, putLines};
 ghost use Rattle.chain.specs.Flat.{byEnds, firstAt, nextAt};
+
+// Where the chain goes from a node: nowhere, or on to one of its children.
+pub enum Next {
+    Stop,
+    Node(usize),
+}
 
 // The first of n conditions, the first at node `first`, that gives the answer.
 fn first_with(

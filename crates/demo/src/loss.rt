@@ -3,7 +3,7 @@
 use crate::bars::BAR_WORDS;
 use crate::report;
 use dump::reader::Restored;
-use engine::Finished;
+use engine::answer::Finished;
 use records::state::State;
 
 // How many minutes are seen when the supply is lost: a position is held, and the order to leave it works.

@@ -5,20 +5,20 @@ mod bars;
 mod loss;
 mod report;
 
-use engine::Finished;
-use execution::Optional;
-use execution::Risk;
-use execution::Sizing;
-use execution::Slippage;
-use execution::Terms;
+use engine::answer::Finished;
 use execution::level::Entries;
 use execution::level::OrderType;
+use execution::optional::Optional;
+use execution::terms::Risk;
+use execution::terms::Sizing;
+use execution::terms::Slippage;
+use execution::terms::Terms;
 use metrics::Metrics;
 use needed::depth::DepthAnswer;
 use records::settings::Settings;
 use records::state::State;
 use refusals::verdict::Verdict;
-use steps::Translated;
+use steps::translated::Translated;
 use table::trees::Tree;
 
 // The paper's worked example: entry CrossAbove(slot 0, slot 1); exit Lt(close, Prev(close, 2)). K is 2.

@@ -27,9 +27,9 @@ use Rattle.refusals.specs.Laws.Steady.{next-judged}
 use Rattle.refusals.specs.Lines.{line, judged}
 use Rattle.refusals.specs.Lists.{listLines}
 use Rattle.refusals.specs.Rooms.{roomLines}
-use Rattle.engine.specs.declared.Advanced.{Advanced}
-use Rattle.engine.specs.declared.Answer.{Answer}
-use Rattle.engine.specs.declared.Answer.the-variants.{Refused, Done}
+use Rattle.engine.specs.declared.answer.Advanced.{Advanced}
+use Rattle.engine.specs.declared.answer.Answer.{Answer}
+use Rattle.engine.specs.declared.answer.Answer.the-variants.{Refused, Done}
 use Rattle.engine.specs.Boxes.{SameLengths}
 use Rattle.engine.specs.Day.{Underway, cut, dayOf}
 use Rattle.engine.specs.InPlace.{RingAt, Turns}

@@ -11,8 +11,8 @@ use Rattle.words.specs.Limits as Limits
 use Rattle.floats.specs.Floats.{wordOf}
 use Rattle.portfolio.specs.declared.Closed.{Closed}
 use Rattle.portfolio.specs.Portfolio.{equity}
-use Rattle.execution.specs.declared.Exit.{Exit}
-use Rattle.execution.specs.declared.Exit.the-variants.{NoExit, Exited}
+use Rattle.execution.specs.declared.fills.Exit.{Exit}
+use Rattle.execution.specs.declared.fills.Exit.the-variants.{NoExit, Exited}
 use Rattle.metrics.specs.declared.Metrics.{Metrics}
 use Rattle.words.specs.declared.refusal.Refusal.{Refusal}
 use Rattle.records.specs.declared.settings.Settings.{Settings}
@@ -21,8 +21,8 @@ use Rattle.refusals.specs.declared.verdict.Verdict.the-variants.{Fine, Bad}
 use Rattle.refusals.specs.Judgement.{finishJudged}
 use Rattle.records.specs.Lent.{Rooms}
 use Rattle.engine.specs.declared.ending.Ended.{Ended}
-use Rattle.engine.specs.declared.Finished.{Finished}
-use Rattle.engine.specs.declared.Finished.the-variants.{Refused, Done}
+use Rattle.engine.specs.declared.answer.Finished.{Finished}
+use Rattle.engine.specs.declared.answer.Finished.the-variants.{Refused, Done}
 use Rattle.engine.specs.Books.{booked}
 use Rattle.engine.specs.Finish.{lastExit, remarked, endState, measured, ended, concluded, finishOf}
 use Rattle.engine.specs.Step.{Is}

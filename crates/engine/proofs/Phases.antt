@@ -20,8 +20,8 @@ use Rattle.refusals.specs.Judgement.{stepJudged}
 use Rattle.records.specs.Lent.{Lists, Rooms}
 use Rattle.engine.specs.declared.account.Filled.{Filled}
 use Rattle.engine.specs.declared.account.Left.{Left}
-use Rattle.engine.specs.declared.Answer.{Answer}
-use Rattle.engine.specs.declared.Answer.the-variants.{Refused, Done}
+use Rattle.engine.specs.declared.answer.Answer.{Answer}
+use Rattle.engine.specs.declared.answer.Answer.the-variants.{Refused, Done}
 use Rattle.engine.specs.Account.{filled, intrabar, charged}
 use Rattle.engine.specs.Books.{booked, marked}
 use Rattle.engine.specs.Decide.{decided}

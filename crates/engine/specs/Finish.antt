@@ -9,8 +9,8 @@ use Rattle.words.specs.Limits as Limits
 use Rattle.floats.specs.Floats.{wordOf}
 use Rattle.portfolio.specs.Portfolio.{equity}
 use Rattle.portfolio.specs.Trade.{end}
-use Rattle.execution.specs.declared.Exit.{Exit}
-use Rattle.execution.specs.declared.Exit.the-variants.{NoExit, Exited}
+use Rattle.execution.specs.declared.fills.Exit.{Exit}
+use Rattle.execution.specs.declared.fills.Exit.the-variants.{NoExit, Exited}
 use Rattle.execution.specs.Costs.{closed}
 use Rattle.metrics.specs.declared.Metrics.{Metrics}
 use Rattle.metrics.specs.Figures.{metricsOf}
@@ -23,8 +23,8 @@ use Rattle.refusals.specs.Judgement.{finishJudged}
 use Rattle.records.specs.Lent.{Rooms}
 use Rattle.refusals.specs.Rooms.{toClose}
 use Rattle.engine.specs.declared.ending.Ended.{Ended}
-use Rattle.engine.specs.declared.Finished.{Finished}
-use Rattle.engine.specs.declared.Finished.the-variants.{Refused, Done}
+use Rattle.engine.specs.declared.answer.Finished.{Finished}
+use Rattle.engine.specs.declared.answer.Finished.the-variants.{Refused, Done}
 use Rattle.engine.specs.Account.{leaving}
 use Rattle.engine.specs.Books.{booked}
 use Rattle.engine.specs.Step.{With}

@@ -21,10 +21,10 @@ use Rattle.records.specs.Lent.{Lists, rowPlaces}
 use Rattle.refusals.specs.declared.verdict.Verdict.the-variants.{Fine}
 use Rattle.refusals.specs.Lines.{judged}
 use Rattle.refusals.specs.Lists.{listLines}
-use Rattle.engine.specs.declared.Advanced.{Advanced}
-use Rattle.engine.specs.declared.Answer.{Answer}
+use Rattle.engine.specs.declared.answer.Advanced.{Advanced}
+use Rattle.engine.specs.declared.answer.Answer.{Answer}
 use Rattle.engine.specs.declared.record.Place.{Place}
-use Rattle.engine.specs.declared.Answer.the-variants.{Refused, Done}
+use Rattle.engine.specs.declared.answer.Answer.the-variants.{Refused, Done}
 use Rattle.engine.specs.Decide.{answersOf, stateAt, orderAfter}
 use Rattle.engine.specs.Step.{With, Is, Ready}
 

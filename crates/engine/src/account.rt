@@ -10,22 +10,22 @@ ghost use Rattle.engine.specs.Account.{leaving, facing, entering, reache
 ghost use Rattle.engine.specs.Books.{booked, marked};
 use crate::record;
 use crate::terms;
-use execution::Entry;
-use execution::Exit;
-use execution::Optional;
-use execution::Side;
 use execution::costs;
 use execution::fills;
+use execution::fills::Entry;
+use execution::fills::Exit;
 use execution::intrabar;
 use execution::level;
 use execution::level::OrderKind;
+use execution::level::Side;
+use execution::optional::Optional;
 use portfolio::Candle;
 use portfolio::SIGNAL;
 use records::settings::Settings;
 use records::state::Counts;
 use records::state::Order;
 use records::state::Position;
-use rules::Entered;
+use rules::position::Entered;
 
 // The fill's order and position, the trade where it closed one, and whether its quantity is too large: the step is then refused.
 pub struct Filled {

@@ -1,4 +1,5 @@
 // A whole day in one call: bar after bar, until one is refused. What does not change from bar to bar is looked at once.
+use crate::phases;
 ghost use mathlib.Core.Path.{_≡_};
 ghost use Prim.Native.Nat.{_/_, _≤_};
 ghost use lib.ListN.{length, take};
@@ -12,8 +13,8 @@ ghost use Rattle.engine.specs.Day.{Underway, cut, noBars, dayOf, runWith
 ghost use Rattle.engine.specs.InPlace.{RingAt, Turns};
 ghost use Rattle.engine.specs.Run.{runOver};
 ghost use Rattle.engine.specs.Step.{stepAnswer};
-use crate::Advanced;
-use crate::Answer;
+use crate::answer::Advanced;
+use crate::answer::Answer;
 use records::settings::Settings;
 use records::state::State;
 use refusals::verdict::Verdict;
@@ -66,7 +67,7 @@ fn next_bar<'a>(
             answer: Answer::Refused(refusal, t),
             start,
         },
-        Verdict::Fine => crate::advance(
+        Verdict::Fine => phases::advance(
             one,
             s,
             t,

@@ -14,7 +14,7 @@ use portfolio::Portfolio;
 use records::settings::Settings;
 use records::state::Order;
 use records::state::Position;
-use rules::PositionState;
+use rules::position::PositionState;
 use steps::choice;
 use steps::machine;
 

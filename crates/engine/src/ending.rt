@@ -5,8 +5,8 @@ ghost use Rattle.engine.specs.Finish.{lastExit, remarked, endState, meas
 ghost use Rattle.engine.specs.Step.{Is};
 use crate::account;
 use crate::record;
-use execution::Exit;
 use execution::costs;
+use execution::fills::Exit;
 use metrics::Metrics;
 use portfolio::END;
 use records::settings::Settings;

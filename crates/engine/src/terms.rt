@@ -1,11 +1,11 @@
 // The terms of an entry, made anew part by part. A value that is handed on whole is copied whole, the unused bytes of its enums with it, and on every
 // bar; what is made where an entry is due is copied there alone.
 ghost use mathlib.Core.Path.{_≡_};
-use execution::Optional;
-use execution::Risk;
-use execution::Sizing;
-use execution::Slippage;
-use execution::Terms;
+use execution::optional::Optional;
+use execution::terms::Risk;
+use execution::terms::Sizing;
+use execution::terms::Slippage;
+use execution::terms::Terms;
 
 fn level_anew(level: Optional) -> Optional
     ensures { λ r. ⌜ r ≡ level ⌝ }

@@ -12,8 +12,8 @@ use Rattle.floats.specs.Sums.{sumFrom}
 use Rattle.rows.specs.History.{History}
 use Rattle.execution.specs.Volatility.{closeAt, closes, simpleReturn, kept, returns}
 use Rattle.execution.specs.Tally.{termOf, tallyFrom}
-use Rattle.execution.specs.declared.Optional.{Optional}
-use Rattle.execution.specs.declared.Optional.the-variants.{Absent, Of}
+use Rattle.execution.specs.declared.optional.Optional.{Optional}
+use Rattle.execution.specs.declared.optional.Optional.the-variants.{Absent, Of}
 use Rattle.execution.specs.declared.volatility.Tally.{Tally}
 use Rattle.execution.specs.declared.volatility.Term.{Term}
 

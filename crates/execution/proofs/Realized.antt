@@ -14,8 +14,8 @@ use Rattle.floats.specs.Sqrt.{sqrt}
 use Rattle.rows.specs.History.{History}
 use Rattle.execution.specs.Volatility.{closes, returns, meanOf, squareFrom, deviation, ifPositive, spread, realizedVol}
 use Rattle.execution.specs.Tally.{termOf, tallyFrom}
-use Rattle.execution.specs.declared.Optional.{Optional}
-use Rattle.execution.specs.declared.Optional.the-variants.{Absent}
+use Rattle.execution.specs.declared.optional.Optional.{Optional}
+use Rattle.execution.specs.declared.optional.Optional.the-variants.{Absent}
 use Rattle.execution.specs.declared.volatility.Tally.{Tally}
 use Rattle.execution.specs.declared.volatility.Term.{Term}
 use Rattle.execution.specs.declared.volatility.Term.the-variants.{Itself, Squared}

@@ -6,10 +6,10 @@ use Rattle.floats.specs.Floats.{_⊕_, _⊗_, _⊘_, _≺_, abs, zero, one, ten
 use Rattle.portfolio.specs.declared.Portfolio.{Portfolio}
 use Rattle.portfolio.specs.declared.Closed.{Closed}
 use Rattle.portfolio.specs.Portfolio.{inPosition, funded, exited}
-use Rattle.execution.specs.declared.Slippage.{Slippage}
-use Rattle.execution.specs.declared.Slippage.the-variants.{FixedBps, VolumeImpact, Unknown}
-use Rattle.execution.specs.declared.Funding.{Funding}
-use Rattle.execution.specs.declared.Funding.the-variants.{NotSupplied, Supplied}
+use Rattle.execution.specs.declared.terms.Slippage.{Slippage}
+use Rattle.execution.specs.declared.terms.Slippage.the-variants.{FixedBps, VolumeImpact, Unknown}
+use Rattle.execution.specs.declared.costs.Funding.{Funding}
+use Rattle.execution.specs.declared.costs.Funding.the-variants.{NotSupplied, Supplied}
 
 -- `slippage_rate`: a fraction of the price. A kind that the papers do not name slips nothing (added).
 unfoldable pub slippageRate : Slippage → Float → Float → Float

@@ -14,10 +14,10 @@ use Rattle.portfolio.specs.Trade.{stopLoss}
 use Rattle.execution.specs.Size.{capped}
 use Rattle.execution.specs.Lots.{wholeLots, inLots}
 use Rattle.execution.specs.Intrabar.{fallTo, fillUnder, fillOver, fired, orElse, firstOf, longExit, intrabarExit}
-use Rattle.execution.specs.declared.Optional.the-variants.{Absent, Of}
-use Rattle.execution.specs.declared.Quantity.the-variants as Quantity
-use Rattle.execution.specs.declared.Risk.{Risk}
-use Rattle.execution.specs.declared.Trigger.the-variants.{Untouched, At}
+use Rattle.execution.specs.declared.optional.Optional.the-variants.{Absent, Of}
+use Rattle.execution.specs.declared.lots.Quantity.the-variants as Quantity
+use Rattle.execution.specs.declared.terms.Risk.{Risk}
+use Rattle.execution.specs.declared.intrabar.Trigger.the-variants.{Untouched, At}
 
 abbrev num : ℕ → Float
 num n = Ieee.ofInt binary64 (pos n)

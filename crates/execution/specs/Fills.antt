@@ -12,24 +12,24 @@ use Rattle.execution.specs.Size.{size}
 use Rattle.execution.specs.Lots.{inLots, sizeInLots, isTooLarge, orZero}
 use Rattle.execution.specs.Volatility.{realizedVol}
 use Rattle.execution.specs.Costs.{slippageRate, fillPrice, takerRate, closed}
-use Rattle.execution.specs.declared.Entry.{Entry}
-use Rattle.execution.specs.declared.Entry.the-variants.{NoEntry, TooLarge, Entered}
-use Rattle.execution.specs.declared.Exit.{Exit}
-use Rattle.execution.specs.declared.Exit.the-variants.{NoExit, Exited}
-use Rattle.execution.specs.declared.Optional.{Optional}
-use Rattle.execution.specs.declared.Optional.the-variants.{Absent}
-use Rattle.execution.specs.declared.Quantity.{Quantity}
-use Rattle.execution.specs.declared.Quantity.the-variants.{Nothing, Of}
-use Rattle.execution.specs.declared.Quantity.the-variants as Quantity
-use Rattle.execution.specs.declared.Side.{Side}
-use Rattle.execution.specs.declared.Side.the-variants.{Long, Short}
-use Rattle.execution.specs.declared.Sizing.{Sizing}
-use Rattle.execution.specs.declared.Sizing.the-variants.{FixedFraction, FixedQty, FixedCash, VolTarget, RiskPerTrade}
-use Rattle.execution.specs.declared.Sizing.the-variants as Sizing
-use Rattle.execution.specs.declared.Slippage.{Slippage}
-use Rattle.execution.specs.declared.Slippage.the-variants.{FixedBps, VolumeImpact}
-use Rattle.execution.specs.declared.Slippage.the-variants as Slippage
-use Rattle.execution.specs.declared.Terms.{Terms}
+use Rattle.execution.specs.declared.fills.Entry.{Entry}
+use Rattle.execution.specs.declared.fills.Entry.the-variants.{NoEntry, TooLarge, Entered}
+use Rattle.execution.specs.declared.fills.Exit.{Exit}
+use Rattle.execution.specs.declared.fills.Exit.the-variants.{NoExit, Exited}
+use Rattle.execution.specs.declared.optional.Optional.{Optional}
+use Rattle.execution.specs.declared.optional.Optional.the-variants.{Absent}
+use Rattle.execution.specs.declared.lots.Quantity.{Quantity}
+use Rattle.execution.specs.declared.lots.Quantity.the-variants.{Nothing, Of}
+use Rattle.execution.specs.declared.lots.Quantity.the-variants as Quantity
+use Rattle.execution.specs.declared.level.Side.{Side}
+use Rattle.execution.specs.declared.level.Side.the-variants.{Long, Short}
+use Rattle.execution.specs.declared.terms.Sizing.{Sizing}
+use Rattle.execution.specs.declared.terms.Sizing.the-variants.{FixedFraction, FixedQty, FixedCash, VolTarget, RiskPerTrade}
+use Rattle.execution.specs.declared.terms.Sizing.the-variants as Sizing
+use Rattle.execution.specs.declared.terms.Slippage.{Slippage}
+use Rattle.execution.specs.declared.terms.Slippage.the-variants.{FixedBps, VolumeImpact}
+use Rattle.execution.specs.declared.terms.Slippage.the-variants as Slippage
+use Rattle.execution.specs.declared.terms.Terms.{Terms}
 
 -- `let dir = match side { Side::Long => 1.0, Side::Short => -1.0 };`
 unfoldable pub direction : Side → Float

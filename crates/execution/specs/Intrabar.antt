@@ -9,14 +9,14 @@ use Rattle.portfolio.specs.declared.Portfolio.{Portfolio}
 use Rattle.portfolio.specs.Portfolio.{inPosition, isLong}
 use Rattle.portfolio.specs.Trade.{stopLoss, trailingStop, takeProfit, liquidation}
 use Rattle.execution.specs.Costs.{closed}
-use Rattle.execution.specs.declared.Exit.{Exit}
-use Rattle.execution.specs.declared.Exit.the-variants.{NoExit, Exited}
-use Rattle.execution.specs.declared.Optional.{Optional}
-use Rattle.execution.specs.declared.Optional.the-variants.{Absent, Of}
-use Rattle.execution.specs.declared.Risk.{Risk}
-use Rattle.execution.specs.declared.Terms.{Terms}
-use Rattle.execution.specs.declared.Trigger.{Trigger}
-use Rattle.execution.specs.declared.Trigger.the-variants.{Untouched, At}
+use Rattle.execution.specs.declared.fills.Exit.{Exit}
+use Rattle.execution.specs.declared.fills.Exit.the-variants.{NoExit, Exited}
+use Rattle.execution.specs.declared.optional.Optional.{Optional}
+use Rattle.execution.specs.declared.optional.Optional.the-variants.{Absent, Of}
+use Rattle.execution.specs.declared.terms.Risk.{Risk}
+use Rattle.execution.specs.declared.terms.Terms.{Terms}
+use Rattle.execution.specs.declared.intrabar.Trigger.{Trigger}
+use Rattle.execution.specs.declared.intrabar.Trigger.the-variants.{Untouched, At}
 
 -- "The favourable extreme takes this bar first": `if is_long { extreme.max(high) } else { extreme.min(low) }`
 unfoldable pub favourable : Candle → Float → Bool → Float

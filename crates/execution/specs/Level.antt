@@ -3,10 +3,10 @@ use mathlib.Core.Bool.{cond}
 use lib.Ieee.{Float}
 use Rattle.floats.specs.Floats.{_⊕_, _⊗_, _⊘_, _≼_, min, max, one, hundred}
 use Rattle.portfolio.specs.declared.Candle.{Candle}
-use Rattle.execution.specs.declared.Optional.{Optional}
-use Rattle.execution.specs.declared.Optional.the-variants.{Absent, Of}
-use Rattle.execution.specs.declared.Side.{Side}
-use Rattle.execution.specs.declared.Side.the-variants.{Long, Short}
+use Rattle.execution.specs.declared.optional.Optional.{Optional}
+use Rattle.execution.specs.declared.optional.Optional.the-variants.{Absent, Of}
+use Rattle.execution.specs.declared.level.Side.{Side}
+use Rattle.execution.specs.declared.level.Side.the-variants.{Long, Short}
 use Rattle.execution.specs.declared.level.Entries.{Entries}
 use Rattle.execution.specs.declared.level.OrderType.{OrderType}
 use Rattle.execution.specs.declared.level.OrderType.the-variants.{Market as MarketType, Limit as LimitType, Stop as StopType}

@@ -5,10 +5,10 @@ use lib.Ieee.{Float}
 use Rattle.floats.specs.Floats.{_⊗_, _⊘_, _≼_, zero, one}
 use Rattle.floats.specs.Floor.{floor, twoTo53}
 use Rattle.floats.specs.Sums.{counted}
-use Rattle.execution.specs.declared.Optional.{Optional}
-use Rattle.execution.specs.declared.Optional.the-variants as Optional
-use Rattle.execution.specs.declared.Quantity.{Quantity}
-use Rattle.execution.specs.declared.Quantity.the-variants.{Nothing, TooLarge, Of}
+use Rattle.execution.specs.declared.optional.Optional.{Optional}
+use Rattle.execution.specs.declared.optional.Optional.the-variants as Optional
+use Rattle.execution.specs.declared.lots.Quantity.{Quantity}
+use Rattle.execution.specs.declared.lots.Quantity.the-variants.{Nothing, TooLarge, Of}
 
 -- "k the largest whole number at most qty/lot as floats compute it; a quotient of 2^53 or more is turned away. A k of 0 or less, or a
 -- quotient that is NaN, means no order."

@@ -1,7 +1,7 @@
 -- A number that may not be there.
 use lib.Ieee.{Float}
-use Rattle.execution.specs.declared.Optional.{Optional}
-use Rattle.execution.specs.declared.Optional.the-variants.{Absent, Of}
+use Rattle.execution.specs.declared.optional.Optional.{Optional}
+use Rattle.execution.specs.declared.optional.Optional.the-variants.{Absent, Of}
 
 -- `unwrap_or`
 unfoldable pub unwrapOr : Optional → Float → Float

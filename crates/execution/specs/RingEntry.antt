@@ -13,10 +13,10 @@ use Rattle.rows.specs.Ring.{ringOf, turned}
 use Rattle.rows.specs.Laws.Ring.{SameRows, ring-turned}
 use Rattle.portfolio.specs.declared.Candle.{Candle}
 use Rattle.portfolio.specs.declared.Portfolio.{Portfolio}
-use Rattle.execution.specs.declared.Side.{Side}
-use Rattle.execution.specs.declared.Sizing.{Sizing}
-use Rattle.execution.specs.declared.Sizing.the-variants.{FixedFraction, FixedQty, FixedCash, VolTarget, RiskPerTrade, Unknown}
-use Rattle.execution.specs.declared.Terms.{Terms}
+use Rattle.execution.specs.declared.level.Side.{Side}
+use Rattle.execution.specs.declared.terms.Sizing.{Sizing}
+use Rattle.execution.specs.declared.terms.Sizing.the-variants.{FixedFraction, FixedQty, FixedCash, VolTarget, RiskPerTrade, Unknown}
+use Rattle.execution.specs.declared.terms.Terms.{Terms}
 use Rattle.execution.specs.Volatility.{closeAt, realizedVol}
 use Rattle.execution.specs.VolatilityWindow.{closes-alike}
 use Rattle.execution.specs.Fills.{volatilityFor, executeEntry}

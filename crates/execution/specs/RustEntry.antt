@@ -10,15 +10,15 @@ use Rattle.execution.specs.Optional.{unwrapOr}
 use Rattle.execution.specs.Size.{size}
 use Rattle.execution.specs.Costs.{slippageRate, fillPrice}
 use Rattle.execution.specs.Fills.{direction, volatilityFor, booked}
-use Rattle.execution.specs.declared.Entry.{Entry}
-use Rattle.execution.specs.declared.Entry.the-variants.{NoEntry}
-use Rattle.execution.specs.declared.Optional.{Optional}
-use Rattle.execution.specs.declared.Optional.the-variants.{Absent, Of}
-use Rattle.execution.specs.declared.Quantity.the-variants as Quantity
-use Rattle.execution.specs.declared.Side.{Side}
-use Rattle.execution.specs.declared.Slippage.{Slippage}
-use Rattle.execution.specs.declared.Slippage.the-variants.{FixedBps, VolumeImpact, Unknown}
-use Rattle.execution.specs.declared.Terms.{Terms}
+use Rattle.execution.specs.declared.fills.Entry.{Entry}
+use Rattle.execution.specs.declared.fills.Entry.the-variants.{NoEntry}
+use Rattle.execution.specs.declared.optional.Optional.{Optional}
+use Rattle.execution.specs.declared.optional.Optional.the-variants.{Absent, Of}
+use Rattle.execution.specs.declared.lots.Quantity.the-variants as Quantity
+use Rattle.execution.specs.declared.level.Side.{Side}
+use Rattle.execution.specs.declared.terms.Slippage.{Slippage}
+use Rattle.execution.specs.declared.terms.Slippage.the-variants.{FixedBps, VolumeImpact, Unknown}
+use Rattle.execution.specs.declared.terms.Terms.{Terms}
 
 -- `let probe_qty = match slippage { Slippage::VolumeImpact { .. } => size(..)?.unwrap_or(0.0), _ => 0.0 };`
 unfoldable pub rustProbe : Slippage → Terms → Float → Float → Optional → Float

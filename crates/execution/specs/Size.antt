@@ -2,12 +2,12 @@
 use mathlib.Core.Bool.{cond}
 use lib.Ieee.{Float}
 use Rattle.floats.specs.Floats.{_⊗_, _⊘_, _≼_, min, zero, one, hundred}
-use Rattle.execution.specs.declared.Optional.{Optional}
-use Rattle.execution.specs.declared.Optional.the-variants.{Absent, Of}
+use Rattle.execution.specs.declared.optional.Optional.{Optional}
+use Rattle.execution.specs.declared.optional.Optional.the-variants.{Absent, Of}
 use Rattle.execution.specs.Optional.{unwrapOr}
-use Rattle.execution.specs.declared.Risk.{Risk}
-use Rattle.execution.specs.declared.Sizing.{Sizing}
-use Rattle.execution.specs.declared.Sizing.the-variants.{FixedFraction, FixedQty, FixedCash, VolTarget, RiskPerTrade, Unknown}
+use Rattle.execution.specs.declared.terms.Risk.{Risk}
+use Rattle.execution.specs.declared.terms.Sizing.{Sizing}
+use Rattle.execution.specs.declared.terms.Sizing.the-variants.{FixedFraction, FixedQty, FixedCash, VolTarget, RiskPerTrade, Unknown}
 
 -- `let stop = risk.stop_loss_pct.ok_or_else(..)?`: the Rust's error, which refusal 12 keeps out, is no order here (added).
 -- `if stop <= 0.0 { return Ok(None); }  (equity * risk_pct / 100.0) / (price * stop / 100.0)`

@@ -11,8 +11,8 @@ use Rattle.floats.specs.Floats.{_⊖_, _⊘_, _≺_, abs, eps}
 use Rattle.floats.specs.Sums.{sum, counted, square}
 use Rattle.floats.specs.Sqrt.{sqrt}
 use Rattle.rows.specs.History.{History, field}
-use Rattle.execution.specs.declared.Optional.{Optional}
-use Rattle.execution.specs.declared.Optional.the-variants.{Absent, Of}
+use Rattle.execution.specs.declared.optional.Optional.{Optional}
+use Rattle.execution.specs.declared.optional.Optional.the-variants.{Absent, Of}
 
 -- `row.candle.close`
 abbrev pub closeAt : History → ℕ → Float

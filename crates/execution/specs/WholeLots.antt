@@ -19,17 +19,17 @@ use Rattle.execution.specs.Size.{size}
 use Rattle.execution.specs.Lots.{wholeLots, inLots, sizeInLots, isTooLarge, orZero}
 use Rattle.execution.specs.Fills.{direction, volatilityFor, quantity, probeQty, withinVolume, booked, executeEntry, isTurnedAway}
 use Rattle.execution.specs.RustEntry.{rustProbe, rustFill, rustEntry}
-use Rattle.execution.specs.declared.Entry.{Entry}
-use Rattle.execution.specs.declared.Entry.the-variants.{NoEntry, Entered}
-use Rattle.execution.specs.declared.Entry.the-variants as Entry
-use Rattle.execution.specs.declared.Optional.{Optional}
-use Rattle.execution.specs.declared.Optional.the-variants as Optional
-use Rattle.execution.specs.declared.Quantity.{Quantity}
-use Rattle.execution.specs.declared.Quantity.the-variants.{Nothing, TooLarge, Of}
-use Rattle.execution.specs.declared.Side.{Side}
-use Rattle.execution.specs.declared.Slippage.{Slippage}
-use Rattle.execution.specs.declared.Slippage.the-variants.{FixedBps, VolumeImpact, Unknown}
-use Rattle.execution.specs.declared.Terms.{Terms}
+use Rattle.execution.specs.declared.fills.Entry.{Entry}
+use Rattle.execution.specs.declared.fills.Entry.the-variants.{NoEntry, Entered}
+use Rattle.execution.specs.declared.fills.Entry.the-variants as Entry
+use Rattle.execution.specs.declared.optional.Optional.{Optional}
+use Rattle.execution.specs.declared.optional.Optional.the-variants as Optional
+use Rattle.execution.specs.declared.lots.Quantity.{Quantity}
+use Rattle.execution.specs.declared.lots.Quantity.the-variants.{Nothing, TooLarge, Of}
+use Rattle.execution.specs.declared.level.Side.{Side}
+use Rattle.execution.specs.declared.terms.Slippage.{Slippage}
+use Rattle.execution.specs.declared.terms.Slippage.the-variants.{FixedBps, VolumeImpact, Unknown}
+use Rattle.execution.specs.declared.terms.Terms.{Terms}
 
 -- ---- a lot of 0
 

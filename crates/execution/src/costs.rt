@@ -1,10 +1,15 @@
 // What a fill costs: slippage and the taker fee. And funding, which a position pays while it is open.
-use crate::Funding;
-use crate::Slippage;
+use crate::terms::Slippage;
 use portfolio::Closed;
 use portfolio::Portfolio;
 ghost use mathlib.Core.Path.{_≡_};
 ghost use Rattle.execution.specs.Costs.{slippageRate, closed, withFunding, chargeFunding};
+
+// The bar's funding: mark and rate, where supplied.
+pub enum Funding {
+    NotSupplied,
+    Supplied(f64, f64),
+}
 
 // The slippage of an order of `qty` as a fraction of the price.
 pub fn slippage_rate(slippage: Slippage, qty: f64, volume: f64) -> f64

@@ -1,22 +1,48 @@
 // A working order that fills: an entry with its size, slippage and fee, or an exit.
-use crate::Entry;
-use crate::Exit;
-use crate::Optional;
-use crate::Quantity;
-use crate::Side;
-use crate::Sizing;
-use crate::Slippage;
-use crate::Terms;
 use crate::costs;
+use crate::level::Side;
 use crate::lots;
+use crate::lots::Quantity;
+use crate::optional::Optional;
 use crate::size;
+use crate::terms::Sizing;
+use crate::terms::Slippage;
+use crate::terms::Terms;
 use crate::volatility;
 use portfolio::Candle;
+use portfolio::Closed;
 use portfolio::Portfolio;
 ghost use mathlib.Core.Path.{_≡_};
 ghost use Rattle.rows.specs.History.{historyOf};
 ghost use Rattle.rows.specs.Ring.{ringOf};
-ghost use Rattle.execution.specs.Fills.{direction, volatilityFor, quantity, probeQty, withinVolume, booked, executeEntry, exitDirection, executeExit};
+ghost use Rattle.execution.specs.Fills.{isTurnedAway, direction, volatilityFor, quantity, probeQty, withinVolume};
+ghost use Rattle.execution.specs.Fills.{booked, executeEntry, exitDirection, executeExit};
+
+// An entry order's answer: the portfolio with the position, and the fill price. A quantity that is too large enters nothing, and the
+// step that meets one is refused.
+pub enum Entry {
+    NoEntry,
+    TooLarge,
+    Entered(Portfolio, f64),
+}
+
+impl Entry {
+    pub fn is_turned_away(self) -> bool
+        ensures { λ r. ⌜ r ≡ isTurnedAway self ⌝ }
+    {
+        match self {
+            Entry::NoEntry => false,
+            Entry::TooLarge => true,
+            Entry::Entered(_, _) => false,
+        }
+    }
+}
+
+// An exit's answer: the portfolio without the position, and the trade.
+pub enum Exit {
+    NoExit,
+    Exited(Closed),
+}
 
 fn direction(side: Side) -> f64
     ensures { λ r. ⌜ r ≡ direction side ⌝ }

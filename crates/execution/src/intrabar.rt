@@ -1,11 +1,10 @@
 // Exits inside a bar: the levels of a stop loss, a trailing stop and a take profit, then liquidation. Fills are aware of
 // gaps: a bar that opens beyond a level fills at the open.
-use crate::Exit;
-use crate::Optional;
-use crate::Risk;
-use crate::Terms;
-use crate::Trigger;
 use crate::costs;
+use crate::fills::Exit;
+use crate::optional::Optional;
+use crate::terms::Risk;
+use crate::terms::Terms;
 use portfolio::Candle;
 use portfolio::LIQUIDATION;
 use portfolio::Portfolio;
@@ -16,6 +15,12 @@ ghost use mathlib.Core.Path.{_≡_};
 ghost use Rattle.execution.specs.Intrabar.{favourable, extremeWith, fallTo, riseTo, fillUnder, fillOver};
 ghost use Rattle.execution.specs.Intrabar.{fired, orElse, firstOf, longExit, shortExit, intrabarExit};
 ghost use Rattle.execution.specs.Intrabar.{breached, liquidated, orLiquidated, closedBy, applyIntrabarExits};
+
+// What a bar's range touched: the fill price and the reason.
+pub enum Trigger {
+    Untouched,
+    At(f64, u64),
+}
 
 // The most favourable price since the entry, this bar counted.
 pub fn favourable(candle: Candle, extreme: f64, is_long: bool) -> f64

@@ -1,10 +1,14 @@
 // Entries away from the market: the levels of a limit, a stop and a stop-limit, and where a bar fills them.
-use crate::Optional;
-use crate::Side;
+use crate::optional::Optional;
 use portfolio::Candle;
 ghost use mathlib.Core.Path.{_≡_};
 ghost use Rattle.execution.specs.Level.{levelFrom, entryTrigger, feeBps, reachedBelow, reachedAbove, noDearerThan, noCheaperThan};
 ghost use Rattle.execution.specs.Level.{longFill, shortFill, levelFill};
+
+pub enum Side {
+    Long,
+    Short,
+}
 
 // The order kind that a setting names. Unknown stands for one that the papers do not name: it counts as market.
 pub enum OrderType {

@@ -1,8 +1,37 @@
 // Whole lots: brokers reject 3.7 contracts.
-use crate::Optional;
-use crate::Quantity;
+use crate::optional::Optional;
 ghost use mathlib.Core.Path.{_≡_};
-ghost use Rattle.execution.specs.Lots.{inLots, sizeInLots};
+ghost use Rattle.execution.specs.Lots.{inLots, sizeInLots, isTooLarge, orZero};
+
+// How much to order: nothing, more lots than can be counted, or so much.
+pub enum Quantity {
+    Nothing,
+    TooLarge,
+    Of(f64),
+}
+
+impl Quantity {
+    pub fn is_too_large(self) -> bool
+        ensures { λ r. ⌜ r ≡ isTooLarge self ⌝ }
+    {
+        match self {
+            Quantity::Nothing => false,
+            Quantity::TooLarge => true,
+            Quantity::Of(_) => false,
+        }
+    }
+
+    // The quantity, or 0 where there is none.
+    pub fn or_zero(self) -> f64
+        ensures { λ r. ⌜ r ≡ orZero self ⌝ }
+    {
+        match self {
+            Quantity::Nothing => 0.0,
+            Quantity::TooLarge => 0.0,
+            Quantity::Of(qty) => qty,
+        }
+    }
+}
 
 // The quantity as a whole number of lots, the largest that `qty` holds. A lot of 0 leaves it as it is.
 pub fn in_lots(lot: f64, qty: f64) -> Quantity

@@ -1,7 +1,7 @@
 // `size`: the quantity of an entry, without its sign.
-use crate::Optional;
-use crate::Risk;
-use crate::Sizing;
+use crate::optional::Optional;
+use crate::terms::Risk;
+use crate::terms::Sizing;
 ghost use mathlib.Core.Path.{_≡_};
 ghost use Rattle.execution.specs.Size.{size, wanted, byRisk, byVolatility, capped, maxNotional, atMost};
 

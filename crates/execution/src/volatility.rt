@@ -1,6 +1,6 @@
 // `realized_vol`: the standard deviation of the close-to-close returns of the last rows. The returns are formed anew in
 // each of the two passes, so that no room is needed for them.
-use crate::Optional;
+use crate::optional::Optional;
 use rows::ring;
 ghost use mathlib.Core.Path.{_≡_};
 ghost use Prim.Native.Nat.{suc, _-_, _<_, _≤_};

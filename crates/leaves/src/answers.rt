@@ -1,14 +1,14 @@
 // What each case comes to.
 use crate::cases;
-use execution::Entry;
-use execution::Exit;
-use execution::Optional;
-use execution::Slippage;
-use execution::Trigger;
 use execution::costs;
 use execution::fills;
+use execution::fills::Entry;
+use execution::fills::Exit;
 use execution::intrabar;
+use execution::intrabar::Trigger;
+use execution::optional::Optional;
 use execution::size;
+use execution::terms::Slippage;
 use portfolio::Closed;
 use portfolio::Portfolio;
 use portfolio::SIGNAL;

@@ -1,11 +1,11 @@
 // The parts of a case, each read from its place among the case's words, which are 0 past the end.
-use execution::Funding;
-use execution::Optional;
-use execution::Risk;
-use execution::Side;
-use execution::Sizing;
-use execution::Slippage;
-use execution::Terms;
+use execution::costs::Funding;
+use execution::level::Side;
+use execution::optional::Optional;
+use execution::terms::Risk;
+use execution::terms::Sizing;
+use execution::terms::Slippage;
+use execution::terms::Terms;
 use portfolio::Candle;
 use portfolio::Portfolio;
 

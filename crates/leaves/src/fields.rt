@@ -1,9 +1,9 @@
 // The words of the answers.
 use crate::cases;
-use execution::Entry;
-use execution::Exit;
-use execution::Optional;
-use execution::Trigger;
+use execution::fills::Entry;
+use execution::fills::Exit;
+use execution::intrabar::Trigger;
+use execution::optional::Optional;
 use portfolio::Portfolio;
 use portfolio::Trade;
 

@@ -5,8 +5,8 @@ mod cases;
 mod fields;
 
 ghost use Prim.Native.Nat.{_≤_};
-use execution::Exit;
-use execution::Optional;
+use execution::fills::Exit;
+use execution::optional::Optional;
 use execution::volatility;
 use portfolio::Closed;
 use portfolio::Portfolio;

@@ -6,8 +6,8 @@ use lib.ListN.{getD}
 use lib.Dec.{eqb}
 use Rattle.floats.specs.Floats.{floatOf}
 use Rattle.portfolio.specs.declared.Candle.{Candle}
-use Rattle.execution.specs.declared.Funding.{Funding}
-use Rattle.execution.specs.declared.Funding.the-variants.{NotSupplied, Supplied}
+use Rattle.execution.specs.declared.costs.Funding.{Funding}
+use Rattle.execution.specs.declared.costs.Funding.the-variants.{NotSupplied, Supplied}
 use Rattle.records.specs.Fields.{floatAt}
 
 -- its first six words

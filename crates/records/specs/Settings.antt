@@ -4,14 +4,14 @@ use mathlib.Core.Bool.{Bool, not, cond}
 use mathlib.Core.List.{List}
 use lib.Dec.{eqb}
 use Rattle.floats.specs.Floats.{floatOf}
-use Rattle.execution.specs.declared.Optional.{Optional}
-use Rattle.execution.specs.declared.Optional.the-variants.{Absent, Of}
-use Rattle.execution.specs.declared.Risk.{Risk}
-use Rattle.execution.specs.declared.Sizing.{Sizing}
-use Rattle.execution.specs.declared.Sizing.the-variants.{FixedFraction, FixedQty, FixedCash, VolTarget, RiskPerTrade, Unknown}
-use Rattle.execution.specs.declared.Slippage.{Slippage}
-use Rattle.execution.specs.declared.Slippage.the-variants.{FixedBps, VolumeImpact, Unknown as UnknownSlippage}
-use Rattle.execution.specs.declared.Terms.{Terms}
+use Rattle.execution.specs.declared.optional.Optional.{Optional}
+use Rattle.execution.specs.declared.optional.Optional.the-variants.{Absent, Of}
+use Rattle.execution.specs.declared.terms.Risk.{Risk}
+use Rattle.execution.specs.declared.terms.Sizing.{Sizing}
+use Rattle.execution.specs.declared.terms.Sizing.the-variants.{FixedFraction, FixedQty, FixedCash, VolTarget, RiskPerTrade, Unknown}
+use Rattle.execution.specs.declared.terms.Slippage.{Slippage}
+use Rattle.execution.specs.declared.terms.Slippage.the-variants.{FixedBps, VolumeImpact, Unknown as UnknownSlippage}
+use Rattle.execution.specs.declared.terms.Terms.{Terms}
 use Rattle.execution.specs.declared.level.Entries.{Entries}
 use Rattle.execution.specs.declared.level.OrderType.{OrderType}
 use Rattle.execution.specs.declared.level.OrderType.the-variants.{Market, Limit, Stop, StopLimit, Unknown as UnknownType}

@@ -1,6 +1,6 @@
 -- The state before the first bar.
 use Rattle.floats.specs.Floats.{zero}
-use Rattle.rules.specs.declared.Entered.the-variants.{Never}
+use Rattle.rules.specs.declared.position.Entered.the-variants.{Never}
 use Rattle.portfolio.specs.Portfolio.{fresh}
 use Rattle.records.specs.declared.state.Order.the-variants.{Idle}
 use Rattle.records.specs.declared.settings.Settings.{Settings}

@@ -5,8 +5,8 @@ use mathlib.Core.List.{List, [], _∷_}
 use lib.Dec.{eqb}
 use lib.Ieee.{Float}
 use Rattle.floats.specs.Floats.{wordOf}
-use Rattle.rules.specs.declared.Entered.{Entered}
-use Rattle.rules.specs.declared.Entered.the-variants.{Never, Bar}
+use Rattle.rules.specs.declared.position.Entered.{Entered}
+use Rattle.rules.specs.declared.position.Entered.the-variants.{Never, Bar}
 use Rattle.portfolio.specs.declared.Portfolio.{Portfolio}
 use Rattle.execution.specs.declared.level.OrderKind.{OrderKind}
 use Rattle.execution.specs.declared.level.OrderKind.the-variants.{Market, Limit, Stop, StopLimit}

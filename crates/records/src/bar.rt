@@ -5,7 +5,7 @@ ghost use lib.Dec.{eqb};
 ghost use Rattle.words.specs.Limits.{barWords};
 ghost use Rattle.records.specs.Bar.{candleOf, fundingOf};
 use crate::fields::float_at;
-use execution::Funding;
+use execution::costs::Funding;
 use portfolio::Candle;
 use words::limits::BAR_FIXED;
 

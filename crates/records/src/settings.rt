@@ -6,13 +6,13 @@ ghost use Rattle.words.specs.Limits.{settingWords};
 ghost use Rattle.records.specs.Settings.{flagOf, levelOf, sizingOf, slippageOf, riskOf, termsOf, orderTypeOf, entriesOf, settingsOf};
 use crate::fields::float_in;
 use crate::fields::word_in;
-use execution::Optional;
-use execution::Risk;
-use execution::Sizing;
-use execution::Slippage;
-use execution::Terms;
 use execution::level::Entries;
 use execution::level::OrderType;
+use execution::optional::Optional;
+use execution::terms::Risk;
+use execution::terms::Sizing;
+use execution::terms::Slippage;
+use execution::terms::Terms;
 use words::limits::SETTING_WORDS;
 
 // The settings, with their numbers.

@@ -4,7 +4,7 @@ ghost use Rattle.records.specs.State.{freshState};
 use crate::settings::Settings;
 use execution::level::OrderKind;
 use portfolio::Portfolio;
-use rules::Entered;
+use rules::position::Entered;
 
 // How many of each thing there are.
 pub struct Counts {

@@ -16,7 +16,7 @@ use crate::state::Position;
 use crate::state::State;
 use execution::level::OrderKind;
 use portfolio::Portfolio;
-use rules::Entered;
+use rules::position::Entered;
 use words::limits::STATE_WORDS;
 
 fn order_of(order: u64, delay: u64, kind: OrderKind) -> Order

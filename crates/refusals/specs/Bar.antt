@@ -7,8 +7,8 @@ use lib.Dec.{ltb, eqb}
 use Rattle.words.specs.Limits.{mostSlots}
 use Rattle.floats.specs.Floats.{finite, floatOf}
 use Rattle.portfolio.specs.declared.Candle.{Candle}
-use Rattle.execution.specs.declared.Funding.{Funding}
-use Rattle.execution.specs.declared.Funding.the-variants.{NotSupplied, Supplied}
+use Rattle.execution.specs.declared.costs.Funding.{Funding}
+use Rattle.execution.specs.declared.costs.Funding.the-variants.{NotSupplied, Supplied}
 use Rattle.records.specs.Bar.{candleOf, fundingOf}
 use Rattle.refusals.specs.Lines.{Line, line}
 

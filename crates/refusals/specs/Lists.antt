@@ -2,8 +2,8 @@
 use Prim.Native.Nat.{ℕ, _+_, _*_}
 use mathlib.Core.Bool.{Bool, true, false}
 use mathlib.Core.List.{List, [], _∷_}
-use Rattle.steps.specs.declared.Formed.{Formed}
-use Rattle.steps.specs.declared.Formed.the-variants.{Well, Bad}
+use Rattle.steps.specs.declared.wellformed.Formed.{Formed}
+use Rattle.steps.specs.declared.wellformed.Formed.the-variants.{Well, Bad}
 use Rattle.steps.specs.WellFormed.{formed}
 use Rattle.words.specs.Limits.{mostSteps}
 use Rattle.records.specs.Lent.{Lists}

@@ -4,8 +4,8 @@ use mathlib.Core.Bool.{Bool, true, not, _&&_, _||_}
 use mathlib.Core.List.{List, [], _∷_}
 use lib.Dec.{ltb, leb}
 use Rattle.words.specs.Limits.{mostCount}
-use Rattle.rules.specs.declared.Entered.{Entered}
-use Rattle.rules.specs.declared.Entered.the-variants.{Never, Bar}
+use Rattle.rules.specs.declared.position.Entered.{Entered}
+use Rattle.rules.specs.declared.position.Entered.the-variants.{Never, Bar}
 use Rattle.portfolio.specs.Portfolio.{inPosition}
 use Rattle.records.specs.declared.state.Counts.{Counts}
 use Rattle.records.specs.declared.settings.Settings.{Settings}

@@ -6,7 +6,7 @@ ghost use Rattle.records.specs.Fields.{floatAt};
 ghost use Rattle.refusals.specs.Lines.{judged};
 ghost use Rattle.refusals.specs.Bar.{fundingFine, bitFine, slotsFine, candleFine, barLines};
 use crate::verdict::Verdict;
-use execution::Funding;
+use execution::costs::Funding;
 use records::bar::funding_of;
 use words::refusal::Refusal;
 

@@ -7,7 +7,7 @@ ghost use Rattle.refusals.specs.Lines.{judged};
 ghost use Rattle.records.specs.Lent.{lists};
 ghost use Rattle.refusals.specs.Lists.{listLine, listLines};
 use crate::verdict::Verdict;
-use steps::Formed;
+use steps::wellformed::Formed;
 use words::limits::MOST_STEPS;
 use words::refusal::Refusal;
 

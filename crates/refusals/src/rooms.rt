@@ -7,7 +7,7 @@ use crate::verdict::Verdict;
 use records::settings::Settings;
 use records::state::Counts;
 use records::state::State;
-use rules::Entered;
+use rules::position::Entered;
 use words::limits::MOST_COUNT;
 use words::limits::POINT_WORDS;
 use words::limits::TRADE_WORDS;

@@ -5,11 +5,11 @@ ghost use Rattle.refusals.specs.Settings.{lookback, sizingKnown, sizingV
 ghost use Rattle.refusals.specs.Settings.{depthFine, sizingLines, slippageLines, riskLines, termLines, settingLines};
 use crate::entries;
 use crate::verdict::Verdict;
-use execution::Optional;
-use execution::Risk;
-use execution::Sizing;
-use execution::Slippage;
-use execution::Terms;
+use execution::optional::Optional;
+use execution::terms::Risk;
+use execution::terms::Sizing;
+use execution::terms::Slippage;
+use execution::terms::Terms;
 use records::settings::Settings;
 use words::limits::MOST_REACH;
 use words::limits::MOST_ROWS;

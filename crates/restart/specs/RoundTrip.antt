@@ -12,8 +12,8 @@ use Rattle.words.specs.Limits.{rowWords}
 use Rattle.words.specs.Words.{word}
 use Rattle.floats.specs.Floats.{wordOf}
 use Rattle.table.specs.Bytes.{u16, u32, u64}
-use Rattle.rules.specs.declared.Entered.{Entered}
-use Rattle.rules.specs.declared.Entered.the-variants.{Never, Bar}
+use Rattle.rules.specs.declared.position.Entered.{Entered}
+use Rattle.rules.specs.declared.position.Entered.the-variants.{Never, Bar}
 use Rattle.execution.specs.declared.level.OrderKind.{OrderKind}
 use Rattle.execution.specs.declared.level.OrderKind.the-variants.{Market, Limit, Stop, StopLimit}
 use Rattle.records.specs.declared.state.Order.{Order}

@@ -7,7 +7,7 @@ use native.Mathlib.Omega.{arith}
 use native.Mathlib.Numerals.{sub-one}
 use Rattle.rows.specs.History.{History}
 use Rattle.table.specs.Trees.{Condition, Conditions, none, more}
-use Rattle.rules.specs.declared.PositionState.{PositionState}
+use Rattle.rules.specs.declared.position.PositionState.{PositionState}
 use Rattle.rules.specs.Meaning.{holds}
 use Rattle.rules.specs.Shapes.{endIn}
 use Rattle.rules.specs.Flat.{growConditions, group}

@@ -13,9 +13,9 @@ use Rattle.table.specs.declared.answer.Answer.the-variants.{Accepted, Refused}
 use Rattle.table.specs.Header.{slots, count, root}
 use Rattle.table.specs.Checked.{checked}
 use Rattle.table.specs.Ends.{endsBeside}
-use Rattle.rules.specs.declared.PositionState.{PositionState}
+use Rattle.rules.specs.declared.position.PositionState.{PositionState}
 use Rattle.table.specs.declared.trees.Tree.{Tree}
-use Rattle.rules.specs.declared.RuleAnswer.the-variants.{Says, Refuses}
+use Rattle.rules.specs.declared.answers.RuleAnswer.the-variants.{Says, Refuses}
 use Rattle.rules.specs.Meaning.{says}
 use Rattle.rules.specs.Flat.{conditionAt}
 use Rattle.table.specs.Header.{treeNumber}

@@ -11,12 +11,12 @@ use Rattle.table.specs.declared.answer.Answer.the-variants.{Accepted, Refused}
 use Rattle.table.specs.Header.{treeNumber, slots}
 use Rattle.table.specs.Checked.{checked}
 use Rattle.table.specs.Reading.{treeOf}
-use Rattle.rules.specs.declared.Entered.{Entered}
-use Rattle.rules.specs.declared.Entered.the-variants.{Never, Bar}
-use Rattle.rules.specs.declared.PositionState.{PositionState}
+use Rattle.rules.specs.declared.position.Entered.{Entered}
+use Rattle.rules.specs.declared.position.Entered.the-variants.{Never, Bar}
+use Rattle.rules.specs.declared.position.PositionState.{PositionState}
 use Rattle.table.specs.declared.trees.Tree.{Tree}
-use Rattle.rules.specs.declared.RuleAnswer.{RuleAnswer}
-use Rattle.rules.specs.declared.RuleAnswer.the-variants.{Says, Refuses}
+use Rattle.rules.specs.declared.answers.RuleAnswer.{RuleAnswer}
+use Rattle.rules.specs.declared.answers.RuleAnswer.the-variants.{Says, Refuses}
 use Rattle.rules.specs.Meaning.{says}
 
 -- "13: counts in the state exceed .. 4,294,967,295 .. or an entry bar is not below the bars seen": this is where neither.

@@ -10,7 +10,7 @@ use Rattle.rows.specs.History.{History, historyOf, lastRows}
 use Rattle.table.specs.Trees.{Condition, Conditions, compare, cross, between, trend, every, any, negated, inPosition, barsSince, none, more}
 use Rattle.table.specs.Trees.{reachOf, reachOfAll}
 use Rattle.table.specs.Silent.{isTest, silent}
-use Rattle.rules.specs.declared.PositionState.{PositionState}
+use Rattle.rules.specs.declared.position.PositionState.{PositionState}
 use Rattle.rules.specs.Meaning.{newest, holds, allHold, anyHolds, says}
 use Rattle.rules.specs.Window.{Without, without-first, window}
 use Rattle.rules.specs.Shortage.{unlessSilent, struckOut, struckOutAll}

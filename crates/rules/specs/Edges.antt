@@ -8,8 +8,8 @@ use Rattle.floats.specs.Floats.{zero, abs}
 use Rattle.rows.specs.History.{historyOf}
 use Rattle.table.specs.Named as Named
 use Rattle.table.specs.Trees.{Operand, const, price, ref, prev, arith, Condition, compare, cross, every, any, negated, none, reach, reachOf}
-use Rattle.rules.specs.declared.PositionState.{PositionState}
-use Rattle.rules.specs.declared.Entered.the-variants.{Never}
+use Rattle.rules.specs.declared.position.PositionState.{PositionState}
+use Rattle.rules.specs.declared.position.Entered.the-variants.{Never}
 use Rattle.rules.specs.Values.{priceOf, slotOf, divide, combine, both, tested, compared, crossed}
 use Rattle.rules.specs.Meaning.{newest, there, value, holds, says}
 

@@ -9,9 +9,9 @@ use Rattle.rows.specs.History.{History}
 use Rattle.table.specs.Trees.{Operand, const, ref, price, prev, arith as sums, extreme, reach}
 use Rattle.table.specs.Trees.{Condition, compare, cross, between, trend, every, any, negated, inPosition, barsSince, reachOf}
 use Rattle.table.specs.Silent.{isTest}
-use Rattle.rules.specs.declared.PositionState.{PositionState}
-use Rattle.rules.specs.declared.Value.{Value}
-use Rattle.rules.specs.declared.Value.the-variants.{Missing, Number}
+use Rattle.rules.specs.declared.position.PositionState.{PositionState}
+use Rattle.rules.specs.declared.values.Value.{Value}
+use Rattle.rules.specs.declared.values.Value.the-variants.{Missing, Number}
 use Rattle.rules.specs.Values.{both, compared, crossed, within, trended}
 use Rattle.rules.specs.Meaning.{newest, there, value, holds, says}
 use Rattle.rules.specs.Laws.Meaning.{extreme-early, past}

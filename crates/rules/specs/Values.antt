@@ -7,11 +7,11 @@ use lib.Dec.{ltb, leb, eqb}
 use lib.Ieee.{Float, nan}
 use Rattle.floats.specs.Floats.{_⊕_, _⊖_, _⊗_, _⊘_, _≺_, _≼_, floatOf, abs, eps, three, four}
 use Rattle.table.specs.Named as Named
-use Rattle.rules.specs.declared.Value.{Value}
-use Rattle.rules.specs.declared.Value.the-variants.{Missing, Number}
-use Rattle.rules.specs.declared.Entered.{Entered}
-use Rattle.rules.specs.declared.Entered.the-variants.{Never, Bar}
-use Rattle.rules.specs.declared.PositionState.{PositionState}
+use Rattle.rules.specs.declared.values.Value.{Value}
+use Rattle.rules.specs.declared.values.Value.the-variants.{Missing, Number}
+use Rattle.rules.specs.declared.position.Entered.{Entered}
+use Rattle.rules.specs.declared.position.Entered.the-variants.{Never, Bar}
+use Rattle.rules.specs.declared.position.PositionState.{PositionState}
 
 -- A row is the function from a place to the word there. This is the one that begins at word `base` of a list.
 abbrev pub wordsFrom : List ℕ → ℕ → ℕ → ℕ

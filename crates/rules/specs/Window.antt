@@ -14,7 +14,7 @@ use Rattle.table.specs.declared.series.Series.{Series}
 use Rattle.table.specs.declared.series.Series.the-variants.{Price, Slot}
 use Rattle.table.specs.Trees.{Operand, const, ref, price, prev, arith as sums, extreme, Condition, Conditions, compare, cross, between, trend, every, any}
 use Rattle.table.specs.Trees.{negated, inPosition, barsSince, none, more, reach, reachOf, reachOfAll}
-use Rattle.rules.specs.declared.PositionState.{PositionState}
+use Rattle.rules.specs.declared.position.PositionState.{PositionState}
 use Rattle.rules.specs.Meaning.{newest, there, seriesAt, extremeOver, extremeAt, value, holds, allHold, anyHolds, says}
 
 -- w is what is left of h without its first s rows

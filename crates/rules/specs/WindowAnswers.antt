@@ -12,7 +12,7 @@ use Rattle.table.specs.Header.{slots}
 use Rattle.table.specs.Checked.{checked}
 use Rattle.table.specs.Reading.{treeOf}
 use Rattle.roundtrip.specs.Laws.Reach.{rows-are}
-use Rattle.rules.specs.declared.PositionState.{PositionState}
+use Rattle.rules.specs.declared.position.PositionState.{PositionState}
 use Rattle.table.specs.declared.trees.Tree.{Tree}
 use Rattle.table.specs.declared.trees.Tree.the-variants.{Entry, Exit, ShortEntry, ShortExit}
 use Rattle.table.specs.Header.{treeNumber}

@@ -1,8 +1,7 @@
 // A rule's answer over a table, rows and a position state, refusals and all.
-use super::Entered;
-use super::PositionState;
-use super::RuleAnswer;
-use super::conditions::eval_condition;
+use crate::conditions::eval_condition;
+use crate::position::Entered;
+use crate::position::PositionState;
 use table::answer::Answer;
 use table::trees::Tree;
 use table::trees::tree_number;
@@ -19,6 +18,12 @@ ghost use Rattle.rules.specs.Meaning as Meaning;
 ghost use Rattle.rules.specs.Meaning.{says};
 ghost use Rattle.rules.specs.Flat.{conditionAt};
 ghost use Rattle.rules.specs.Answers.{stateRight, answered};
+
+// What a rule over rows comes to: yes or no, or a refusal's number and place.
+pub enum RuleAnswer {
+    Says(bool),
+    Refuses(Refusal),
+}
 
 // Whether the counts of a position state are in order.
 pub fn state_right(s: PositionState) -> bool

@@ -1,16 +1,16 @@
 // A condition at a bar, over the flat table: `eval_condition` of the Rust and what it calls. `left` is how many levels of
 // nesting are left, the condition's own counted; it falls with each level.
-use super::PositionState;
-use super::operands::eval_operand;
-use super::shapes;
-use super::shapes::ConditionShape;
-use super::values;
+use crate::operands::eval_operand;
+use crate::position::PositionState;
+use crate::shapes;
+use crate::shapes::ConditionShape;
+use crate::values;
 ghost use mathlib.Core.Path.{_≡_};
 ghost use mathlib.Core.Bool.{cond, not, _&&_};
 ghost use Prim.Native.Nat.{ℕ, _-_};
 ghost use lib.Dec.{eqb, ltb};
 ghost use Rattle.rows.specs.History.{historyOf};
-ghost use Rattle.rules.specs.declared.Value.{Value};
+ghost use Rattle.rules.specs.declared.values.Value.{Value};
 ghost use Rattle.rules.specs.Values.{compared, crossed, within, trended, held};
 ghost use Rattle.rules.specs.Meaning.{value, holds};
 ghost use Rattle.rules.specs.Flat.{operandAt, growConditions, group, conditionAt};

@@ -1,9 +1,9 @@
 // An operand at a bar, over the flat table: `eval_operand` and `binary` of the Rust, which call each other. `left` is how
 // many levels of nesting are left, the operand's own counted; it falls with each level, so the two end on any bytes.
-use super::Value;
-use super::shapes;
-use super::shapes::OperandShape;
-use super::values;
+use crate::shapes;
+use crate::shapes::OperandShape;
+use crate::values;
+use crate::values::Value;
 use table::series::Series;
 use table::series::series_in;
 ghost use mathlib.Core.Path.{_≡_};
@@ -11,7 +11,7 @@ ghost use Prim.Native.Nat.{ℕ, _-_, _≤_, _<_};
 ghost use Rattle.rows.specs.History.{historyOf};
 ghost use Rattle.rules.specs.Values.{priceOf, slotOf, both};
 ghost use Rattle.rules.specs.Meaning.{extremeOver, extremeAt, value};
-ghost use Rattle.rules.specs.declared.Value.the-variants.{Number};
+ghost use Rattle.rules.specs.declared.values.Value.the-variants.{Number};
 ghost use Rattle.rules.specs.Flat.{operandAt};
 
 // A price of the row of a bar that is there.

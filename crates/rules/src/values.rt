@@ -1,14 +1,19 @@
 // The leaves of a rule, one function for each: what a price, a slot, an operation and a comparison is. The evaluator
 // and the steps call these, so each is decided once. All are total.
-use super::Entered;
-use super::PositionState;
-use super::Value;
+use crate::position::Entered;
+use crate::position::PositionState;
 use table::kinds;
 ghost use mathlib.Core.Path.{_≡_};
 ghost use Prim.Native.Nat.{_-_};
 ghost use Rattle.floats.specs.Floats.{floatOf};
 ghost use Rattle.rules.specs.Values.{wordsFrom, priceOf, slotOf, divide, tested, held, countedSince};
 ghost use Rattle.rules.specs.Values as Values;
+
+// What an operand is at a bar: a number, or missing.
+pub enum Value {
+    Missing,
+    Number(f64),
+}
 
 // `price` of the row that begins at word `base`, by its selector.
 pub fn price_at(rows: &[u64], base: usize, selector: u8) -> f64

@@ -9,9 +9,9 @@ use Rattle.rows.specs.History.{History, historyOf}
 use Rattle.portfolio.specs.declared.Candle.{Candle}
 use Rattle.portfolio.specs.declared.Portfolio.{Portfolio}
 use Rattle.portfolio.specs.Portfolio.{inPosition, isLong}
-use Rattle.execution.specs.declared.Exit.the-variants.{NoExit}
-use Rattle.execution.specs.declared.Side.{Side}
-use Rattle.execution.specs.declared.Side.the-variants.{Long, Short}
+use Rattle.execution.specs.declared.fills.Exit.the-variants.{NoExit}
+use Rattle.execution.specs.declared.level.Side.{Side}
+use Rattle.execution.specs.declared.level.Side.the-variants.{Long, Short}
 use Rattle.execution.specs.declared.level.OrderKind.the-variants.{Market}
 use Rattle.execution.specs.declared.level.OrderType.the-variants.{Market as MarketType}
 use Rattle.execution.specs.Fills.{executeEntry, isTurnedAway}

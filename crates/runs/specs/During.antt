@@ -7,8 +7,8 @@ use mathlib.Core.List.{List, [], _∷_}
 use lib.Ieee.{Float}
 use Rattle.floats.specs.Floats.{_⊕_, _⊗_, _≼_, finite}
 use Rattle.portfolio.specs.Portfolio.{worse}
-use Rattle.execution.specs.declared.Funding.{Funding}
-use Rattle.execution.specs.declared.Funding.the-variants.{NotSupplied, Supplied}
+use Rattle.execution.specs.declared.costs.Funding.{Funding}
+use Rattle.execution.specs.declared.costs.Funding.the-variants.{NotSupplied, Supplied}
 use Rattle.records.specs.declared.settings.Settings.{Settings}
 use Rattle.records.specs.Bar.{candleOf, fundingOf}
 

@@ -10,10 +10,10 @@ use Rattle.portfolio.specs.Trade.{stopLoss}
 use Rattle.rules.specs.Edges.{Said, answer, reaches, starred, edges}
 use Rattle.execution.specs.Edges.{stop-edges}
 use Rattle.execution.specs.Intrabar.{intrabarExit}
-use Rattle.execution.specs.declared.Optional.the-variants.{Absent, Of}
-use Rattle.execution.specs.declared.Risk.{Risk}
-use Rattle.execution.specs.declared.Trigger.{Trigger}
-use Rattle.execution.specs.declared.Trigger.the-variants.{Untouched, At}
+use Rattle.execution.specs.declared.optional.Optional.the-variants.{Absent, Of}
+use Rattle.execution.specs.declared.terms.Risk.{Risk}
+use Rattle.execution.specs.declared.intrabar.Trigger.{Trigger}
+use Rattle.execution.specs.declared.intrabar.Trigger.the-variants.{Untouched, At}
 
 abbrev num : ℕ → Float
 num n = Ieee.ofInt binary64 (pos n)

@@ -4,8 +4,8 @@ use mathlib.Core.List.{List, [], _∷_, _++_}
 use Rattle.floats.specs.Floats.{zero}
 use Rattle.portfolio.specs.declared.Portfolio.{Portfolio}
 use Rattle.portfolio.specs.declared.Trade.{Trade}
-use Rattle.execution.specs.declared.Exit.{Exit}
-use Rattle.execution.specs.declared.Exit.the-variants.{NoExit, Exited}
+use Rattle.execution.specs.declared.fills.Exit.{Exit}
+use Rattle.execution.specs.declared.fills.Exit.the-variants.{NoExit, Exited}
 use Rattle.records.specs.declared.settings.Settings.{Settings}
 use Rattle.records.specs.declared.state.Position.{Position}
 use Rattle.engine.specs.Record.{rowOf}

@@ -14,11 +14,11 @@ use lib.Seq.{length-take-le, getD-append-add, getD-set-same}
 use Rattle.words.specs.Limits as Limits
 use Rattle.words.specs.Words.{overwrite}
 use Rattle.words.specs.Laws.Overwrite.{overwrite-fits}
-use Rattle.rules.specs.declared.Entered.the-variants.{Never}
+use Rattle.rules.specs.declared.position.Entered.the-variants.{Never}
 use Rattle.floats.specs.Floats as Floats
 use Rattle.floats.specs.Floats.{wordOf}
 use Rattle.portfolio.specs.Portfolio.{fresh, inPosition, equity}
-use Rattle.execution.specs.declared.Exit.the-variants.{NoExit}
+use Rattle.execution.specs.declared.fills.Exit.the-variants.{NoExit}
 use Rattle.metrics.specs.declared.Metrics.{Metrics}
 use Rattle.metrics.specs.Figures.{metricsOf}
 use Rattle.metrics.specs.Records.{equityOf, pnlsOf}
@@ -34,7 +34,7 @@ use Rattle.refusals.specs.Laws.Lines.{and-true, first-holds, below-fine, both-f
 use Rattle.refusals.specs.Rooms.{roomLines, stateLines, toClose, closeLines}
 use Rattle.refusals.specs.Settings.{settingLines}
 use Rattle.engine.specs.declared.ending.Ended.{Ended}
-use Rattle.engine.specs.declared.Finished.the-variants.{Done}
+use Rattle.engine.specs.declared.answer.Finished.the-variants.{Done}
 use Rattle.engine.specs.Account.{leaving}
 use Rattle.runs.specs.AsMeant.{figures}
 use Rattle.engine.specs.Books.{wordsOfPoint, booked, marked, heldPoints, heldTrades}

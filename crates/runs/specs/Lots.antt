@@ -9,9 +9,9 @@ use lib.Ieee.{Float}
 use Rattle.floats.specs.Floats.{zero}
 use Rattle.rows.specs.History.{History, historyOf}
 use Rattle.portfolio.specs.declared.Candle.{Candle}
-use Rattle.execution.specs.declared.Entry.{Entry}
-use Rattle.execution.specs.declared.Entry.the-variants.{NoEntry, TooLarge, Entered}
-use Rattle.execution.specs.declared.Side.{Side}
+use Rattle.execution.specs.declared.fills.Entry.{Entry}
+use Rattle.execution.specs.declared.fills.Entry.the-variants.{NoEntry, TooLarge, Entered}
+use Rattle.execution.specs.declared.level.Side.{Side}
 use Rattle.execution.specs.declared.level.OrderKind.{OrderKind}
 use Rattle.execution.specs.Fills.{direction, executeEntry}
 use Rattle.execution.specs.Level.{feeBps}

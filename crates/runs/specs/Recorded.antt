@@ -10,29 +10,29 @@ use lib.ListN.{length, take, length-append}
 use Rattle.floats.specs.Floats as Floats
 use Rattle.floats.specs.Floats.{_⊗_, _≺_, eps, zero}
 use Rattle.rows.specs.History.{History, historyOf}
-use Rattle.rules.specs.declared.Entered.{Entered as EntryBar}
-use Rattle.rules.specs.declared.Entered.the-variants.{Bar}
+use Rattle.rules.specs.declared.position.Entered.{Entered as EntryBar}
+use Rattle.rules.specs.declared.position.Entered.the-variants.{Bar}
 use Rattle.portfolio.specs.declared.Candle.{Candle}
 use Rattle.portfolio.specs.declared.Closed.{Closed}
 use Rattle.portfolio.specs.declared.Portfolio.{Portfolio}
 use Rattle.portfolio.specs.declared.Trade.{Trade}
 use Rattle.portfolio.specs.Portfolio.{fresh, inPosition, isLong, funded, worse, worsened, entered, tradeOf, exited}
 use Rattle.portfolio.specs.Trade.{signal, end}
-use Rattle.execution.specs.declared.Entry.{Entry}
-use Rattle.execution.specs.declared.Entry.the-variants.{NoEntry, Entered}
-use Rattle.execution.specs.declared.Entry.the-variants as Entry
-use Rattle.execution.specs.declared.Exit.{Exit}
-use Rattle.execution.specs.declared.Exit.the-variants.{NoExit, Exited}
-use Rattle.execution.specs.declared.Funding.{Funding}
-use Rattle.execution.specs.declared.Funding.the-variants.{NotSupplied, Supplied}
-use Rattle.execution.specs.declared.Optional.{Optional}
-use Rattle.execution.specs.declared.Quantity.{Quantity}
-use Rattle.execution.specs.declared.Quantity.the-variants.{Nothing, TooLarge, Of}
-use Rattle.execution.specs.declared.Side.{Side}
+use Rattle.execution.specs.declared.fills.Entry.{Entry}
+use Rattle.execution.specs.declared.fills.Entry.the-variants.{NoEntry, Entered}
+use Rattle.execution.specs.declared.fills.Entry.the-variants as Entry
+use Rattle.execution.specs.declared.fills.Exit.{Exit}
+use Rattle.execution.specs.declared.fills.Exit.the-variants.{NoExit, Exited}
+use Rattle.execution.specs.declared.costs.Funding.{Funding}
+use Rattle.execution.specs.declared.costs.Funding.the-variants.{NotSupplied, Supplied}
+use Rattle.execution.specs.declared.optional.Optional.{Optional}
+use Rattle.execution.specs.declared.lots.Quantity.{Quantity}
+use Rattle.execution.specs.declared.lots.Quantity.the-variants.{Nothing, TooLarge, Of}
+use Rattle.execution.specs.declared.level.Side.{Side}
 use Rattle.execution.specs.declared.level.OrderKind.{OrderKind}
-use Rattle.execution.specs.declared.Terms.{Terms}
-use Rattle.execution.specs.declared.Trigger.{Trigger}
-use Rattle.execution.specs.declared.Trigger.the-variants.{Untouched, At}
+use Rattle.execution.specs.declared.terms.Terms.{Terms}
+use Rattle.execution.specs.declared.intrabar.Trigger.{Trigger}
+use Rattle.execution.specs.declared.intrabar.Trigger.the-variants.{Untouched, At}
 use Rattle.execution.specs.Costs.{slippageRate, fillPrice, takerRate, closed, withFunding, chargeFunding}
 use Rattle.execution.specs.Fills.{direction, volatilityFor, quantity, probeQty, withinVolume, booked, executeEntry, exitDirection, executeExit}
 use Rattle.execution.specs.Lots.{isTooLarge, orZero}

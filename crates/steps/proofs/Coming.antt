@@ -9,12 +9,12 @@ use lib.Dec.{ltb}
 use lib.ListN.{drop}
 use borrow.Author.Tests.{ltb-true, ltb-false}
 use Rattle.rows.specs.History.{History}
-use Rattle.rules.specs.declared.PositionState.{PositionState}
-use Rattle.rules.specs.declared.Value.{Value}
-use Rattle.rules.specs.declared.Value.the-variants.{Missing}
+use Rattle.rules.specs.declared.position.PositionState.{PositionState}
+use Rattle.rules.specs.declared.values.Value.{Value}
+use Rattle.rules.specs.declared.values.Value.the-variants.{Missing}
 use Rattle.rules.specs.Values.{compared, crossed}
-use Rattle.steps.specs.declared.Op.{Op}
-use Rattle.steps.specs.declared.Step.{Step}
+use Rattle.steps.specs.declared.step.Op.{Op}
+use Rattle.steps.specs.declared.step.Step.{Step}
 use Rattle.steps.specs.Bytes.{opOf, stepAt, opsFrom}
 use Rattle.steps.specs.Machine.{Values, Effect, nth, given, giving, saying, passing, effect, does, after, run, visitCount, ranOver}
 use Rattle.steps.specs.Places.{holding, Came, Gives, Tests}

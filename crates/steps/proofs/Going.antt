@@ -10,10 +10,10 @@ use lib.Ieee.{Float, nan}
 use lib.ListN.{length, drop, set, length-set, length-replicate, getD-replicate}
 use lib.Seq.{getD-set-same, getD-set-other}
 use Rattle.rows.specs.History.{History}
-use Rattle.rules.specs.declared.PositionState.{PositionState}
-use Rattle.rules.specs.declared.Value.{Value}
-use Rattle.rules.specs.declared.Value.the-variants.{Missing, Number}
-use Rattle.steps.specs.declared.Ran.{Ran}
+use Rattle.rules.specs.declared.position.PositionState.{PositionState}
+use Rattle.rules.specs.declared.values.Value.{Value}
+use Rattle.rules.specs.declared.values.Value.the-variants.{Missing, Number}
+use Rattle.steps.specs.declared.machine.Ran.{Ran}
 use Rattle.steps.specs.Bytes.{opOf, stepAt}
 use Rattle.steps.specs.Machine.{Effect, nth, given, giving, viewing, saying, passing, effect}
 use Rattle.steps.specs.Places.{numbersWith, isThere, valueAt, Fresh, Came, Tries}

@@ -8,7 +8,7 @@ use lib.ListN.{getD}
 use lib.Dec.{ltb}
 use borrow.Author.Tests.{lt-ltb, le-leb, ltb-true, ltb-false}
 use Rattle.table.specs.Bytes.{u16, u32, u64}
-use Rattle.steps.specs.declared.Step.{Step}
+use Rattle.steps.specs.declared.step.Step.{Step}
 use Rattle.steps.specs.Bytes.{fields, readStep}
 use Rattle.steps.specs.WellFormed.{zeros, plain, bounded, goodStep}
 use Rattle.steps.proofs.Said.{says-const, says-price, says-compare, says-cross, says-between, says-jump}

@@ -16,8 +16,8 @@ use Rattle.rows.specs.Ring.{ringPlace, ringOf}
 use Rattle.rows.specs.Laws.RowEnds.{row-ends}
 use Rattle.table.specs.declared.series.Series.{Series}
 use Rattle.table.specs.declared.series.Series.the-variants.{Price, Slot}
-use Rattle.rules.specs.declared.Value.{Value}
-use Rattle.rules.specs.declared.Value.the-variants.{Number}
+use Rattle.rules.specs.declared.values.Value.{Value}
+use Rattle.rules.specs.declared.values.Value.the-variants.{Number}
 use Rattle.rules.specs.Values.{wordsFrom, better, took, pick}
 use Rattle.rules.specs.Meaning.{seriesAt, extremeOver}
 use Rattle.rules.specs.Laws.Meaning.{extreme-more}

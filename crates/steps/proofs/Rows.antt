@@ -16,7 +16,7 @@ use Rattle.rows.specs.Laws.RowEnds.{row-ends}
 use Rattle.rows.specs.Laws.Ring.{place-within, ring-row}
 use Rattle.table.specs.declared.series.Series.the-variants as Over
 use Rattle.table.specs.Trees.{Operand, const, ref, price}
-use Rattle.rules.specs.declared.Value.the-variants.{Missing, Number}
+use Rattle.rules.specs.declared.values.Value.the-variants.{Missing, Number}
 use Rattle.rules.specs.Values.{wordsFrom, priceOf, slotOf}
 use Rattle.rules.specs.Meaning.{seriesAt, value, newest}
 use Rattle.rules.specs.Laws.Meaning.{const-value, ref-value, price-value, price-series, slot-series}

@@ -5,13 +5,13 @@ use mathlib.Core.Bool.{Bool, true, false, cond, true≢false, _&&_, Bool·beq as
 use native.Mathlib.Omega.{arith}
 use lib.Dec.{ltb, leb, eqb}
 use borrow.Author.Tests.{leb-true, ltb-true, ltb-false, eq-eqb, ne-eqb, le-leb, lt-leb, lt-ltb, le-ltb}
-use Rattle.steps.specs.declared.Step.{Step}
-use Rattle.steps.specs.declared.Op.the-variants.{Const, Ref, Price, Arith, Compare, Cross, Between, Answer, Turn, InPosition, BarsSinceEntry, JumpIf}
-use Rattle.steps.specs.declared.Op.the-variants.{Extreme, Unknown}
+use Rattle.steps.specs.declared.step.Step.{Step}
+use Rattle.steps.specs.declared.step.Op.the-variants.{Const, Ref, Price, Arith, Compare, Cross, Between, Answer, Turn, InPosition, BarsSinceEntry, JumpIf}
+use Rattle.steps.specs.declared.step.Op.the-variants.{Extreme, Unknown}
 use Rattle.table.specs.declared.series.Series.the-variants as Over
 use Rattle.rows.specs.History.{History}
-use Rattle.rules.specs.declared.PositionState.{PositionState}
-use Rattle.rules.specs.declared.Value.{Value}
+use Rattle.rules.specs.declared.position.PositionState.{PositionState}
+use Rattle.rules.specs.declared.values.Value.{Value}
 use Rattle.rules.specs.Values.{both, compared, crossed, within}
 use Rattle.steps.specs.Bytes.{opOf, extremeOp, operandOp, testOp, answerOp}
 use Rattle.steps.specs.Machine.{giving, saying, passing, effect}

@@ -17,16 +17,16 @@ use Rattle.rows.specs.Laws.Ring.{SameRows, ring-turned}
 use Rattle.table.specs.declared.series.Series.{Series}
 use Rattle.table.specs.declared.series.Series.the-variants as Over
 use Rattle.table.specs.Trees.{Operand, const, ref, price, extreme, reach}
-use Rattle.rules.specs.declared.PositionState.{PositionState}
-use Rattle.rules.specs.declared.Value.{Value}
+use Rattle.rules.specs.declared.position.PositionState.{PositionState}
+use Rattle.rules.specs.declared.values.Value.{Value}
 use Rattle.rules.specs.Values.{priceOf, slotOf}
 use Rattle.rules.specs.Meaning.{there, seriesAt, extremeOver, extremeAt, value, newest, holds}
 use Rattle.rules.specs.Window.{Without, operand-same, without-first}
-use Rattle.steps.specs.declared.Formed.{Formed}
-use Rattle.steps.specs.declared.Formed.the-variants.{Well, Bad}
-use Rattle.steps.specs.declared.Op.{Op}
-use Rattle.steps.specs.declared.Op.the-variants.{Const, Ref, Price, Arith, Compare, Cross, Between, Answer, Turn, InPosition, BarsSinceEntry, JumpIf}
-use Rattle.steps.specs.declared.Op.the-variants.{Extreme, Unknown}
+use Rattle.steps.specs.declared.wellformed.Formed.{Formed}
+use Rattle.steps.specs.declared.wellformed.Formed.the-variants.{Well, Bad}
+use Rattle.steps.specs.declared.step.Op.{Op}
+use Rattle.steps.specs.declared.step.Op.the-variants.{Const, Ref, Price, Arith, Compare, Cross, Between, Answer, Turn, InPosition, BarsSinceEntry, JumpIf}
+use Rattle.steps.specs.declared.step.Op.the-variants.{Extreme, Unknown}
 use Rattle.steps.specs.Bytes.{opOf, stepAt, opsFrom, opsOf, stepsIn, stepsRun}
 use Rattle.steps.specs.Machine.{Values, ago, effect, does, after, run, visitCount, start, ranOver}
 use Rattle.steps.specs.WellFormed.{plain, seriesWithin, looksWithin, bounded, goodStep, formedFrom, formed}

@@ -6,8 +6,8 @@ use mathlib.Core.List.{List}
 use lib.Ieee.{Float}
 use Rattle.table.specs.declared.series.Series.{Series}
 use Rattle.table.specs.declared.series.Series.the-variants.{Price, Slot}
-use Rattle.rules.specs.declared.Value.{Value}
-use Rattle.rules.specs.declared.Value.the-variants.{Number}
+use Rattle.rules.specs.declared.values.Value.{Value}
+use Rattle.rules.specs.declared.values.Value.the-variants.{Number}
 use Rattle.rules.specs.Values.{wordsFrom, priceOf, slotOf, pick}
 
 -- A slot or a price, by its number.

@@ -6,15 +6,15 @@ use lib.ListN.{getD, drop}
 use lib.Dec.{ltb}
 use Rattle.rows.specs.History.{History}
 use Rattle.table.specs.Trees.{Operand, const, ref, price, extreme, inPosition, barsSince}
-use Rattle.rules.specs.declared.PositionState.{PositionState}
-use Rattle.rules.specs.declared.Value.{Value}
-use Rattle.rules.specs.declared.Value.the-variants.{Missing}
+use Rattle.rules.specs.declared.position.PositionState.{PositionState}
+use Rattle.rules.specs.declared.values.Value.{Value}
+use Rattle.rules.specs.declared.values.Value.the-variants.{Missing}
 use Rattle.rules.specs.Values.{both, compared, crossed, within}
 use Rattle.rules.specs.Meaning.{value, holds, newest}
-use Rattle.steps.specs.declared.Ran.{Ran}
-use Rattle.steps.specs.declared.Op.{Op}
-use Rattle.steps.specs.declared.Op.the-variants.{Const, Ref, Price, Arith, Compare, Cross, Between, Answer, Turn, InPosition, BarsSinceEntry}
-use Rattle.steps.specs.declared.Op.the-variants.{Extreme, JumpIf, Unknown}
+use Rattle.steps.specs.declared.machine.Ran.{Ran}
+use Rattle.steps.specs.declared.step.Op.{Op}
+use Rattle.steps.specs.declared.step.Op.the-variants.{Const, Ref, Price, Arith, Compare, Cross, Between, Answer, Turn, InPosition, BarsSinceEntry}
+use Rattle.steps.specs.declared.step.Op.the-variants.{Extreme, JumpIf, Unknown}
 
 -- ---- the values so far
 

@@ -11,14 +11,14 @@ use Rattle.words.specs.Limits.{mostSlots, mostRows}
 use Rattle.floats.specs.Floats.{floatOf}
 use Rattle.rows.specs.History.{History, historyOf, wholeRows}
 use Rattle.table.specs.Trees.{const}
-use Rattle.rules.specs.declared.PositionState.{PositionState}
-use Rattle.rules.specs.declared.Value.the-variants.{Missing, Number}
+use Rattle.rules.specs.declared.position.PositionState.{PositionState}
+use Rattle.rules.specs.declared.values.Value.the-variants.{Missing, Number}
 use Rattle.rules.specs.Values.{tested, compared}
 use Rattle.rules.specs.Meaning.{newest, there, value}
 use Rattle.rules.specs.Answers.{stateRight}
-use Rattle.steps.specs.declared.Op.{Op}
-use Rattle.steps.specs.declared.Op.the-variants.{Const, Compare}
-use Rattle.steps.specs.declared.RunAnswer.the-variants.{Runs}
+use Rattle.steps.specs.declared.step.Op.{Op}
+use Rattle.steps.specs.declared.step.Op.the-variants.{Const, Compare}
+use Rattle.steps.specs.declared.running.RunAnswer.the-variants.{Runs}
 use Rattle.steps.specs.Bytes.{bytesOf}
 use Rattle.steps.specs.Machine.{Values, ago, effect, does, after, run, visitCount, start}
 use Rattle.steps.specs.Running.{ranIf, runs}

@@ -7,11 +7,11 @@ use lib.Ieee.{Float, nan}
 use lib.Dec.{ltb}
 use lib.ListN.{length, getD, replicate, set}
 use Rattle.rows.specs.History.{History}
-use Rattle.rules.specs.declared.PositionState.{PositionState}
-use Rattle.rules.specs.declared.Value.{Value}
-use Rattle.rules.specs.declared.Value.the-variants.{Missing, Number}
+use Rattle.rules.specs.declared.position.PositionState.{PositionState}
+use Rattle.rules.specs.declared.values.Value.{Value}
+use Rattle.rules.specs.declared.values.Value.the-variants.{Missing, Number}
 use Rattle.rules.specs.Values.{crossed, within}
-use Rattle.steps.specs.declared.Ran.{Ran}
+use Rattle.steps.specs.declared.machine.Ran.{Ran}
 use Rattle.steps.specs.Bytes.{opOf, stepAt, opsFrom}
 use Rattle.steps.specs.Machine.{Values, giving, effect, run, visitCount, start}
 

@@ -6,13 +6,13 @@ use lib.Dec.{ltb}
 use Rattle.words.specs.Limits.{mostSlots, mostRows}
 use Rattle.words.specs.Outcome.{refusal}
 use Rattle.rows.specs.History.{historyOf, wholeRows}
-use Rattle.rules.specs.declared.PositionState.{PositionState}
+use Rattle.rules.specs.declared.position.PositionState.{PositionState}
 use Rattle.rules.specs.Answers.{stateRight}
-use Rattle.steps.specs.declared.Formed.{Formed}
-use Rattle.steps.specs.declared.Formed.the-variants.{Well, Bad}
-use Rattle.steps.specs.declared.Ran.{Ran}
-use Rattle.steps.specs.declared.RunAnswer.{RunAnswer}
-use Rattle.steps.specs.declared.RunAnswer.the-variants.{Runs, Refuses}
+use Rattle.steps.specs.declared.wellformed.Formed.{Formed}
+use Rattle.steps.specs.declared.wellformed.Formed.the-variants.{Well, Bad}
+use Rattle.steps.specs.declared.machine.Ran.{Ran}
+use Rattle.steps.specs.declared.running.RunAnswer.{RunAnswer}
+use Rattle.steps.specs.declared.running.RunAnswer.the-variants.{Runs, Refuses}
 use Rattle.steps.specs.Bytes.{opsOf}
 use Rattle.steps.specs.Machine.{ranOver}
 use Rattle.steps.specs.WellFormed.{formed}

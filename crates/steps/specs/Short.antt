@@ -14,7 +14,7 @@ use Rattle.table.specs.Header.{slots}
 use Rattle.table.specs.Checked.{checked}
 use Rattle.table.specs.Reading.{treeOf}
 use Rattle.table.specs.Laws.Accepted.{header-of}
-use Rattle.rules.specs.declared.PositionState.{PositionState}
+use Rattle.rules.specs.declared.position.PositionState.{PositionState}
 use Rattle.table.specs.declared.trees.Tree.{Tree}
 use Rattle.rules.specs.Meaning.{says}
 use Rattle.table.specs.Header.{treeNumber}
@@ -24,8 +24,8 @@ use Rattle.rules.specs.WindowAnswers.{window-whole}
 use Rattle.rules.specs.Shortage.{struckOut}
 use Rattle.rules.specs.AnyWindow.{any-window}
 use Rattle.needed.specs.declared.depth.DepthAnswer.the-variants.{Needs}
-use Rattle.steps.specs.declared.RunAnswer.the-variants.{Runs}
-use Rattle.steps.specs.declared.Translated.the-variants.{Writes}
+use Rattle.steps.specs.declared.running.RunAnswer.the-variants.{Runs}
+use Rattle.steps.specs.declared.translated.Translated.the-variants.{Writes}
 use Rattle.steps.specs.Bytes.{bytesOf, opsOf}
 use Rattle.steps.specs.Machine.{visitsOf}
 use Rattle.needed.specs.Depth.{depthAnswer}

@@ -8,8 +8,8 @@ use Rattle.floats.specs.Floats.{zero, abs}
 use Rattle.rows.specs.History.{historyOf, lastRows}
 use Rattle.table.specs.Named as Named
 use Rattle.table.specs.Trees.{Operand, const, ref, price, prev, Condition, compare, cross, trend, reach, reachOf}
-use Rattle.rules.specs.declared.PositionState.{PositionState}
-use Rattle.rules.specs.declared.Entered.the-variants.{Never}
+use Rattle.rules.specs.declared.position.PositionState.{PositionState}
+use Rattle.rules.specs.declared.position.Entered.the-variants.{Never}
 use Rattle.rules.specs.Values.{priceOf, slotOf, both, tested, compared, crossed}
 use Rattle.rules.specs.Meaning.{newest, there, value}
 use Rattle.steps.specs.Machine.{ago, effect, does, after, run, answers}

@@ -12,9 +12,9 @@ use Rattle.table.specs.Checked.{checked}
 use Rattle.table.specs.Reading.{treeOf, present}
 use Rattle.table.specs.declared.trees.Tree.{Tree}
 use Rattle.table.specs.Header.{treeNumber}
-use Rattle.steps.specs.declared.Op.{Op}
-use Rattle.steps.specs.declared.Translated.{Translated}
-use Rattle.steps.specs.declared.Translated.the-variants.{Writes, Refuses}
+use Rattle.steps.specs.declared.step.Op.{Op}
+use Rattle.steps.specs.declared.translated.Translated.{Translated}
+use Rattle.steps.specs.declared.translated.Translated.the-variants.{Writes, Refuses}
 use Rattle.steps.specs.Bytes.{bytesOf}
 use Rattle.steps.specs.Translation.{codeOf}
 

@@ -7,9 +7,9 @@ use lib.Dec.{eqb}
 use Rattle.table.specs.Named as Named
 use Rattle.table.specs.Trees.{Operand, const, ref, price, prev, arith, extreme, Condition, Conditions, compare, cross, between, trend, every, any, negated}
 use Rattle.table.specs.Trees.{inPosition, barsSince, none, more}
-use Rattle.steps.specs.declared.Op.{Op}
-use Rattle.steps.specs.declared.Op.the-variants.{Const, Ref, Price, Extreme, Arith, Compare}
-use Rattle.steps.specs.declared.Op.the-variants.{Cross, Between, Answer, Turn, InPosition, BarsSinceEntry, JumpIf}
+use Rattle.steps.specs.declared.step.Op.{Op}
+use Rattle.steps.specs.declared.step.Op.the-variants.{Const, Ref, Price, Extreme, Arith, Compare}
+use Rattle.steps.specs.declared.step.Op.the-variants.{Cross, Between, Answer, Turn, InPosition, BarsSinceEntry, JumpIf}
 
 -- The steps of an operand, n rows back. Prev makes no step of its own: it adds its n to the look-back of the leaves below it, so
 -- nothing is folded and "missing" is kept.

@@ -7,11 +7,11 @@ use mathlib.Core.Path.{_≡_, refl}
 use native.Mathlib.Omega.{arith}
 use lib.ListN.{length}
 use Rattle.rows.specs.History.{History}
-use Rattle.rules.specs.declared.PositionState.{PositionState}
-use Rattle.rules.specs.declared.Value.{Value}
-use Rattle.steps.specs.declared.Op.{Op}
-use Rattle.steps.specs.declared.Op.the-variants.{Const, Ref, Price, Extreme, Arith, Compare, Cross, Between, Answer, Turn, InPosition, BarsSinceEntry}
-use Rattle.steps.specs.declared.Op.the-variants.{JumpIf, Unknown}
+use Rattle.rules.specs.declared.position.PositionState.{PositionState}
+use Rattle.rules.specs.declared.values.Value.{Value}
+use Rattle.steps.specs.declared.step.Op.{Op}
+use Rattle.steps.specs.declared.step.Op.the-variants.{Const, Ref, Price, Extreme, Arith, Compare, Cross, Between, Answer, Turn, InPosition}
+use Rattle.steps.specs.declared.step.Op.the-variants.{BarsSinceEntry, JumpIf, Unknown}
 use Rattle.steps.specs.Machine.{Values, effect, does, after, places, visited, visitCount, visitsOf}
 
 -- each place lies at or after p, and before the next: so none stands there twice

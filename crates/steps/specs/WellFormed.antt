@@ -7,12 +7,12 @@ use lib.Dec.{ltb, leb, eqb}
 use Rattle.words.specs.Limits.{mostSteps}
 use Rattle.table.specs.declared.series.Series.{Series}
 use Rattle.table.specs.declared.series.Series.the-variants as Over
-use Rattle.steps.specs.declared.Step.{Step}
-use Rattle.steps.specs.declared.Formed.{Formed}
-use Rattle.steps.specs.declared.Formed.the-variants.{Well, Bad}
-use Rattle.steps.specs.declared.Op.{Op}
-use Rattle.steps.specs.declared.Op.the-variants.{Const, Ref, Price, Arith, Compare, Cross, Between, Answer, Turn, InPosition, BarsSinceEntry, JumpIf}
-use Rattle.steps.specs.declared.Op.the-variants.{Extreme, Unknown}
+use Rattle.steps.specs.declared.step.Step.{Step}
+use Rattle.steps.specs.declared.wellformed.Formed.{Formed}
+use Rattle.steps.specs.declared.wellformed.Formed.the-variants.{Well, Bad}
+use Rattle.steps.specs.declared.step.Op.{Op}
+use Rattle.steps.specs.declared.step.Op.the-variants.{Const, Ref, Price, Arith, Compare, Cross, Between, Answer, Turn, InPosition, BarsSinceEntry, JumpIf}
+use Rattle.steps.specs.declared.step.Op.the-variants.{Extreme, Unknown}
 use Rattle.steps.specs.Bytes.{stepAt, opOf, stepsIn}
 
 unfoldable pub zeros : ℕ → ℕ → ℕ → ℕ → Bool

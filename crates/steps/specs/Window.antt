@@ -19,13 +19,13 @@ use Rattle.table.specs.Laws.Accepted.{header-of, tree-ends}
 use Rattle.table.specs.Limits.{TreeWithin}
 use Rattle.roundtrip.specs.Laws.AcceptedWithin.{tree-within}
 use Rattle.roundtrip.specs.Laws.AcceptedWritten.{tree-nodes}
-use Rattle.rules.specs.declared.PositionState.{PositionState}
+use Rattle.rules.specs.declared.position.PositionState.{PositionState}
 use Rattle.rules.specs.Meaning.{says}
 use Rattle.rules.specs.Answers.{stateRight}
 use Rattle.rules.specs.Laws.Answers.{absent-says}
 use Rattle.rules.specs.Window.{window}
-use Rattle.steps.specs.declared.Formed.the-variants.{Well}
-use Rattle.steps.specs.declared.RunAnswer.the-variants.{Runs}
+use Rattle.steps.specs.declared.wellformed.Formed.the-variants.{Well}
+use Rattle.steps.specs.declared.running.RunAnswer.the-variants.{Runs}
 use Rattle.steps.specs.Machine.{run, answers, visitsOf}
 use Rattle.steps.specs.Bytes.{bytesOf, opsFrom, opsOf, stepsRun}
 use Rattle.steps.specs.Translation.{codeOf}

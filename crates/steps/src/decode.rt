@@ -1,6 +1,6 @@
 // A step's 16 bytes, read and taken for what they say.
-use crate::Op;
-use crate::Step;
+use crate::step::Op;
+use crate::step::Step;
 use table::kinds;
 use table::series::Series;
 ghost use mathlib.Core.Path.{_≡_};

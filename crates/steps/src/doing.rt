@@ -1,8 +1,8 @@
 // What a step does that neither takes nor gives a value: it sets, turns or reads the answer, or jumps.
-use crate::Step;
-use rules::PositionState;
-use rules::Value;
+use crate::step::Step;
+use rules::position::PositionState;
 use rules::values;
+use rules::values::Value;
 ghost use mathlib.Core.Path.{_≡_};
 ghost use mathlib.Core.Bool.{cond, not, _&&_};
 ghost use Prim.Native.Nat.{_+_, _<_, _≤_, min};

@@ -1,9 +1,9 @@
 // Leaves: what a step gives that takes no value. Most are read from a row that is there and that has what they name: these are told at
 // once, with no test of where a word lies, and the newest row's place is told beforehand.
-use crate::Step;
-use rules::PositionState;
-use rules::Value;
+use crate::step::Step;
+use rules::position::PositionState;
 use rules::values;
+use rules::values::Value;
 use table::kinds;
 ghost use mathlib.Core.Path.{_≡_};
 ghost use mathlib.Core.Bool.{Bool, true};
@@ -12,7 +12,7 @@ ghost use lib.ListN.{length};
 ghost use Rattle.floats.specs.Floats.{floatOf};
 ghost use Rattle.rows.specs.History.{History, historyOf};
 ghost use Rattle.rows.specs.Ring.{ringPlace, ringOf};
-ghost use Rattle.rules.specs.declared.Value.the-variants.{Number};
+ghost use Rattle.rules.specs.declared.values.Value.the-variants.{Number};
 ghost use Rattle.rules.specs.Values.{wordsFrom, priceOf, slotOf};
 ghost use Rattle.table.specs.Trees.{const, ref, price};
 ghost use Rattle.steps.specs.Bytes.{opOf};

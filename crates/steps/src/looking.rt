@@ -3,8 +3,8 @@
 use crate::decode;
 use crate::leaves;
 use rows::ring;
-use rules::Value;
 use rules::values;
+use rules::values::Value;
 use table::kinds;
 ghost use mathlib.Core.Path.{_≡_};
 ghost use mathlib.Core.Bool.{true, false};
@@ -13,7 +13,7 @@ ghost use lib.ListN.{length};
 ghost use Rattle.rows.specs.History.{historyOf};
 ghost use Rattle.rows.specs.Ring.{ringOf};
 ghost use Rattle.table.specs.Trees.{extreme};
-ghost use Rattle.rules.specs.declared.Value.the-variants.{Number};
+ghost use Rattle.rules.specs.declared.values.Value.the-variants.{Number};
 ghost use Rattle.rules.specs.Values.{wordsFrom};
 ghost use Rattle.rules.specs.Meaning.{seriesAt, extremeOver};
 ghost use Rattle.steps.specs.Machine.{ago};

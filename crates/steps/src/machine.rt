@@ -1,17 +1,16 @@
 // The step machine: what one step does, and the run of a whole list. "a value not there counts as missing", and every value is kept:
 // a list is run with a few places for values, and the rare list that needs more is run again with more, at last one for each of its steps.
-use crate::Ran;
-use crate::Step;
 use crate::decode;
 use crate::doing;
 use crate::leaves;
 use crate::looking;
 use crate::phrases;
 use crate::stack;
+use crate::step::Step;
 use rows::ring;
-use rules::PositionState;
-use rules::Value;
+use rules::position::PositionState;
 use rules::values;
+use rules::values::Value;
 use words::limits::MOST_STEPS;
 ghost use mathlib.Core.Path.{_≡_};
 ghost use mathlib.Core.Bool.{Bool, true, cond};
@@ -24,6 +23,12 @@ ghost use Rattle.rows.specs.Ring.{ringOf};
 ghost use Rattle.steps.specs.Bytes.{opOf, opsFrom, opsOf, stepsIn, stepsRun};
 ghost use Rattle.steps.specs.Machine.{viewing, effect, ranOver};
 ghost use Rattle.steps.specs.Places.{testedAt, Tries, Fresh, Came};
+
+// What a run came to: its answer, and how many steps it visited.
+pub struct Ran {
+    pub answer: bool,
+    pub visits: usize,
+}
 
 // The places for values that a run has at first, and those that it is given where they do not suffice. No translated list needs more.
 const FEW_PLACES: usize = 16;

@@ -1,15 +1,21 @@
 // A list of steps from anywhere, run over rows: refused where it, the rows or the position state are not as the papers say.
-use crate::Formed;
-use crate::RunAnswer;
 use crate::machine;
+use crate::machine::Ran;
 use crate::wellformed;
-use rules::PositionState;
+use crate::wellformed::Formed;
 use rules::answers;
+use rules::position::PositionState;
 use words::limits::MOST_ROWS;
 use words::limits::MOST_SLOTS;
 use words::refusal::Refusal;
 ghost use mathlib.Core.Path.{_≡_};
 ghost use Rattle.steps.specs.Running.{runs};
+
+// The answer to a run: what it came to, or the refusal's number and place.
+pub enum RunAnswer {
+    Runs(Ran),
+    Refuses(Refusal),
+}
 
 // The numbers of these two settings.
 pub const SETTING_SLOTS: u64 = 0;

@@ -1,5 +1,5 @@
 // The values of a run in two lent lists, side by side: the number, and whether there is one. So one run serves any number of places.
-use rules::Value;
+use rules::values::Value;
 ghost use mathlib.Core.Path.{_≡_};
 ghost use Prim.Native.Nat.{_<_};
 ghost use lib.ListN.{length, set};

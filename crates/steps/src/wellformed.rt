@@ -1,8 +1,7 @@
 // Which lists of steps are well formed, for rows of so many slots and a window of so many rows.
-use crate::Formed;
-use crate::Op;
-use crate::Step;
 use crate::decode;
+use crate::step::Op;
+use crate::step::Step;
 use table::series::Series;
 use words::limits::MOST_STEPS;
 ghost use mathlib.Core.Path.{_≡_};
@@ -11,6 +10,12 @@ ghost use Prim.Native.Nat.{ℕ, _+_, _/_, _%_, _<_, _≤_};
 ghost use lib.ListN.{length};
 ghost use Rattle.steps.specs.Bytes.{fields, readStep};
 ghost use Rattle.steps.specs.WellFormed.{zeros, rowsFit, plain, seriesWithin, looksWithin, bounded, goodStep, formed};
+
+// Whether a list of steps is well formed, and if not, its lowest bad step (0 for a bad length).
+pub enum Formed {
+    Well,
+    Bad(usize),
+}
 
 fn zeros(selector: u8, skip: u64, n: u64, bits: u64) -> bool
     ensures { λ r. ⌜ r ≡ zeros selector skip n bits ⌝ }

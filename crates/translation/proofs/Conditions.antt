@@ -11,7 +11,7 @@ use Rattle.table.specs.Trees.{reachOfAll}
 use Rattle.rules.specs.declared.shapes.ConditionShape.{ConditionShape}
 use Rattle.rules.specs.Shapes.{endIn, conditionShape}
 use Rattle.rules.specs.Flat.{operandAt, growConditions, group, growCondition, conditionAt}
-use Rattle.steps.specs.declared.Op.the-variants.{Compare, Cross, Between, Answer, Turn, InPosition, BarsSinceEntry, JumpIf}
+use Rattle.steps.specs.declared.step.Op.the-variants.{Compare, Cross, Between, Answer, Turn, InPosition, BarsSinceEntry, JumpIf}
 use Rattle.steps.specs.Translation.{code, codeOf, codeEach, trendTest}
 
 -- ---- the condition at a node

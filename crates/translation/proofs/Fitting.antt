@@ -24,8 +24,8 @@ use Rattle.rules.specs.Laws.FlatReading.{tree-joined}
 use Rattle.table.specs.declared.trees.Tree.{Tree}
 use Rattle.table.specs.Header.{treeNumber}
 use Rattle.rules.specs.Laws.Answers.{tree-of-four}
-use Rattle.steps.specs.declared.Translated.the-variants.{Writes, Refuses}
-use Rattle.steps.specs.declared.Op.{Op}
+use Rattle.steps.specs.declared.translated.Translated.the-variants.{Writes, Refuses}
+use Rattle.steps.specs.declared.step.Op.{Op}
 use Rattle.steps.specs.Bytes.{writeFrom, write, written, bytesOf, Fits, Wrote}
 use Rattle.steps.specs.Translation.{codeOf}
 use Rattle.steps.specs.Translating.{stepsOf, roomFor, writesOr, afterTable, translates, roomAfter, roomLeft}

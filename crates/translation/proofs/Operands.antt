@@ -11,7 +11,7 @@ use Rattle.rules.specs.declared.shapes.OperandShape.{OperandShape}
 use Rattle.rules.specs.declared.shapes.OperandShape.the-variants.{Const, Ref, Price, Prev, Arith, Extreme, NoOperand}
 use Rattle.rules.specs.Shapes.{operandShape}
 use Rattle.rules.specs.Flat.{growOperand, operandAt}
-use Rattle.steps.specs.declared.Op.the-variants as Op
+use Rattle.steps.specs.declared.step.Op.the-variants as Op
 use Rattle.steps.specs.Translation.{code}
 
 module _ (t ends : List ℕ) (i : ℕ) where

@@ -5,7 +5,7 @@ use mathlib.Core.List.{List, [], _∷_, _++_, append-assoc}
 use native.Mathlib.Omega.{arith}
 use lib.ListN.{length, set, length-set, length-append}
 use lib.Seq.{set-comm}
-use Rattle.steps.specs.declared.Op.{Op}
+use Rattle.steps.specs.declared.step.Op.{Op}
 use Rattle.steps.specs.Bytes.{write, writeFrom, bytesOf, stepBytes, stepOf, fields, four, eight, written, Fits, Wrote}
 
 length-from : (l : List ℕ) (i j : ℕ) (vs : List ℕ) → length (writeFrom l i j vs) ≡ length l

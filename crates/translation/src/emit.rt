@@ -12,7 +12,7 @@ ghost use lib.ListN.{length};
 ghost use Rattle.table.specs.Trees.{Operand, reach, reachOf, compare, cross, between, trend};
 ghost use Rattle.rules.specs.Flat.{operandAt};
 ghost use Rattle.steps.specs.Bytes.{four, fields, slotKind, stepBytes, write, Fits, Wrote};
-ghost use Rattle.steps.specs.declared.Op.the-variants as Op;
+ghost use Rattle.steps.specs.declared.step.Op.the-variants as Op;
 ghost use Rattle.steps.specs.Translation.{code, trendTest, codeOf};
 
 // Four bytes, the first at p.

@@ -3,8 +3,8 @@ mod emit;
 
 use rules::shapes;
 use rules::shapes::ConditionShape;
-use steps::Translated;
 use steps::decode;
+use steps::translated::Translated;
 use table::answer::Answer;
 use table::header;
 use table::kinds;

@@ -23,11 +23,11 @@ use Rattle.refusals.specs.Rooms.{roomLines}
 use Rattle.refusals.specs.Judgement.{stepLines, finishLines, finishJudged}
 use Rattle.refusals.specs.Laws.Numbers.{numbered, number-within, both-numbered, step-numbered, finish-numbered}
 use Rattle.refusals.specs.Laws.Places.{named, named-placed, place-below, finish-place}
-use Rattle.engine.specs.declared.Answer.{Answer}
-use Rattle.engine.specs.declared.Answer.the-variants.{Refused, Done}
+use Rattle.engine.specs.declared.answer.Answer.{Answer}
+use Rattle.engine.specs.declared.answer.Answer.the-variants.{Refused, Done}
 use Rattle.engine.specs.declared.ending.Ended.{Ended}
-use Rattle.engine.specs.declared.Finished.{Finished}
-use Rattle.engine.specs.declared.Finished.the-variants.{Refused as NotEnded, Done as AtEnd}
+use Rattle.engine.specs.declared.answer.Finished.{Finished}
+use Rattle.engine.specs.declared.answer.Finished.the-variants.{Refused as NotEnded, Done as AtEnd}
 use Rattle.engine.specs.Step.{With, sizeLines, stepVerdict, stepAnswer}
 use Rattle.engine.specs.Finish.{ended, concluded, finishOf}
 use Rattle.engine.specs.Laws.Refusal.{refusal-changes-nothing}

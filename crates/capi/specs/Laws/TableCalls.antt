@@ -25,14 +25,14 @@ use Rattle.table.specs.Checked.{orRefused, orHeader, from7, from8, from9, check
 use Rattle.needed.specs.Depth.{depthAnswer}
 use Rattle.table.specs.Laws.Header.{header-right}
 use Rattle.table.specs.Silent.{silentTests, silentAnswer, listAfter}
-use Rattle.rules.specs.declared.PositionState.{PositionState}
-use Rattle.rules.specs.declared.RuleAnswer.the-variants.{Says, Refuses as RuleRefuses}
+use Rattle.rules.specs.declared.position.PositionState.{PositionState}
+use Rattle.rules.specs.declared.answers.RuleAnswer.the-variants.{Says, Refuses as RuleRefuses}
 use Rattle.rules.specs.Answers.{stateRight, afterCheck, judged, answered}
-use Rattle.steps.specs.declared.Formed.{Formed}
-use Rattle.steps.specs.declared.Formed.the-variants.{Well, Bad}
-use Rattle.steps.specs.declared.Ran.{Ran}
-use Rattle.steps.specs.declared.RunAnswer.the-variants.{Refuses as RunRefuses}
-use Rattle.steps.specs.declared.Translated.the-variants.{Writes, Refuses}
+use Rattle.steps.specs.declared.wellformed.Formed.{Formed}
+use Rattle.steps.specs.declared.wellformed.Formed.the-variants.{Well, Bad}
+use Rattle.steps.specs.declared.machine.Ran.{Ran}
+use Rattle.steps.specs.declared.running.RunAnswer.the-variants.{Refuses as RunRefuses}
+use Rattle.steps.specs.declared.translated.Translated.the-variants.{Writes, Refuses}
 use Rattle.steps.specs.Running.{ranIf, runs}
 use Rattle.steps.specs.Translating.{roomFor, writesOr, afterTable, translates}
 use Rattle.refusals.specs.Laws.BadStep.{bad-below}

@@ -13,9 +13,9 @@ use Rattle.table.specs.declared.answer.Answer.{Answer}
 use Rattle.table.specs.declared.answer.Answer.the-variants.{Accepted, Refused}
 use Rattle.table.specs.Header.{slots}
 use Rattle.table.specs.Checked.{checked}
-use Rattle.rules.specs.declared.PositionState.{PositionState}
+use Rattle.rules.specs.declared.position.PositionState.{PositionState}
 use Rattle.rules.specs.Answers.{stateRight}
-use Rattle.chain.specs.declared.Explained.the-variants.{Lines, Refuses}
+use Rattle.chain.specs.declared.explain.Explained.the-variants.{Lines, Refuses}
 use Rattle.chain.specs.Explained.{explanation, explainedBy, explained, linesAfter}
 use Rattle.capi.specs.Why.{WhyLent, whyGives}
 use Rattle.capi.specs.Laws.Calls.{Small, Numbered, Honest, honest, one-refusal, never-refuses}

@@ -16,7 +16,7 @@ use Rattle.table.specs.Reading.{treeOf}
 use Rattle.table.specs.Trees.{Operand, const, ref, price, prev, arith as sums, extreme, Condition, Conditions, compare, cross, between, trend, every, any}
 use Rattle.table.specs.Trees.{negated, inPosition, barsSince, none, more}
 use Rattle.table.specs.Writing.{nodesIn, nodesOf}
-use Rattle.rules.specs.declared.PositionState.{PositionState}
+use Rattle.rules.specs.declared.position.PositionState.{PositionState}
 use Rattle.rules.specs.Meaning.{newest}
 use Rattle.rules.specs.Flat.{conditionAt}
 use Rattle.rules.specs.Laws.FlatReading.{tree-joined}

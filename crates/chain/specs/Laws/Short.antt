@@ -18,7 +18,7 @@ use Rattle.table.specs.Trees.{Condition, Conditions, compare, cross, between, t
 use Rattle.table.specs.Writing.{nodesOf}
 use Rattle.table.specs.Limits.{levelsOf, levelsOfAll}
 use Rattle.roundtrip.specs.Laws.AcceptedWithin.{tree-within}
-use Rattle.rules.specs.declared.PositionState.{PositionState}
+use Rattle.rules.specs.declared.position.PositionState.{PositionState}
 use Rattle.rules.specs.Meaning.{newest, holds}
 use Rattle.chain.specs.Missing.{Numbering, inTable}
 use Rattle.chain.specs.Chain.{ChainLine, chain, firstWith}

@@ -7,14 +7,14 @@ use native.Mathlib.Omega.{arith}
 use native.Mathlib.Numerals.{sub-one}
 use Rattle.rows.specs.History.{History}
 use Rattle.table.specs.Trees.{Operand, Condition, every, any, negated}
-use Rattle.rules.specs.declared.PositionState.{PositionState}
+use Rattle.rules.specs.declared.position.PositionState.{PositionState}
 use Rattle.rules.specs.declared.shapes.ConditionShape.{ConditionShape}
 use Rattle.rules.specs.declared.shapes.ConditionShape.the-variants.{Compare, Cross, Between, Trend, Group, Not, InPosition, BarsSince, NoCondition}
 use Rattle.rules.specs.Meaning.{holds}
 use Rattle.rules.specs.Shapes.{endIn, conditionShape}
 use Rattle.rules.specs.Flat.{operandAt, growConditions, group, growCondition, conditionAt}
-use Rattle.chain.specs.declared.Next.{Next}
-use Rattle.chain.specs.declared.Next.the-variants.{Stop, Node}
+use Rattle.chain.specs.declared.walk.Next.{Next}
+use Rattle.chain.specs.declared.walk.Next.the-variants.{Stop, Node}
 use Rattle.chain.specs.Chain.{ChainLine, lineAt, chain, firstWith}
 use Rattle.chain.specs.Flat.{byEnds, firstAt, nextBy, nextAt, followed}
 use Rattle.chain.specs.Laws.Shapes.{ConditionPlaced, condition-placed}

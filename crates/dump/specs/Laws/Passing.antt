@@ -12,7 +12,7 @@ use lib.ListN.{length}
 use Rattle.words.specs.Limits.{settingWords, stateWords, rowWords, mostSlots, mostRows, mostReach, mostCount}
 use Rattle.words.specs.Words.{word}
 use Rattle.floats.specs.Floats.{finite, floatOf}
-use Rattle.execution.specs.declared.Optional.the-variants.{Absent, Of}
+use Rattle.execution.specs.declared.optional.Optional.the-variants.{Absent, Of}
 use Rattle.records.specs.Lent.{rowPlaces, pointPlaces, tradePlaces}
 use Rattle.records.specs.Settings.{levelOf, sizingOf, slippageOf, orderTypeOf, riskOf, termsOf, entriesOf, settingsOf}
 use Rattle.records.specs.StateWords.{enteredOf, countsOf, positionOf, stateOf}

@@ -22,8 +22,8 @@ use Rattle.refusals.specs.Laws.Lines.{below-fine, below-bad}
 use Rattle.refusals.specs.Laws.Steady.{Steady, day-bad, day-ragged, next-judged}
 use Rattle.refusals.specs.Lines.{Line, judged}
 use Rattle.refusals.specs.Lists.{listLines}
-use Rattle.engine.specs.declared.Answer.{Answer}
-use Rattle.engine.specs.declared.Answer.the-variants.{Refused, Done}
+use Rattle.engine.specs.declared.answer.Answer.{Answer}
+use Rattle.engine.specs.declared.answer.Answer.the-variants.{Refused, Done}
 use Rattle.engine.specs.Day.{Underway, cut, barsIn, barsFor, noBars, dayOf, stopped, runWith, unlistedBy}
 use Rattle.engine.specs.Run.{Run, oneMore, goesOn, runOver}
 use Rattle.engine.specs.Step.{With, Is, answered, stepped, stepVerdict, stepAnswer}

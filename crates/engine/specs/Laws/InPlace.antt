@@ -14,12 +14,12 @@ use Rattle.rows.specs.Laws.Ring.{RingFine, ring-adds, ring-none, held-turned}
 use Rattle.rows.specs.Laws.Turned.{turned-none}
 use Rattle.rows.specs.Ring.{ringOf, turned}
 use Rattle.rows.specs.Room.{withRow, heldWith}
-use Rattle.rules.specs.declared.PositionState.{PositionState}
+use Rattle.rules.specs.declared.position.PositionState.{PositionState}
 use Rattle.portfolio.specs.declared.Candle.{Candle}
 use Rattle.execution.specs.RingEntry.{entry-turned}
-use Rattle.steps.specs.declared.Formed.{Formed}
-use Rattle.steps.specs.declared.Formed.the-variants.{Well, Bad}
-use Rattle.steps.specs.declared.Ran.{Ran}
+use Rattle.steps.specs.declared.wellformed.Formed.{Formed}
+use Rattle.steps.specs.declared.wellformed.Formed.the-variants.{Well, Bad}
+use Rattle.steps.specs.declared.machine.Ran.{Ran}
 use Rattle.steps.specs.AnyList.{ring-any}
 use Rattle.steps.specs.WellFormed.{formed}
 use Rattle.records.specs.declared.settings.Settings.{Settings}

@@ -14,8 +14,8 @@ use Rattle.words.specs.Words.{overwrite}
 use Rattle.words.specs.Laws.Overwrite.{overwrite-length}
 use Rattle.rows.specs.History.{width}
 use Rattle.rows.specs.Room.{placesFor, withRow, heldWith}
-use Rattle.execution.specs.declared.Exit.{Exit}
-use Rattle.execution.specs.declared.Exit.the-variants.{NoExit, Exited}
+use Rattle.execution.specs.declared.fills.Exit.{Exit}
+use Rattle.execution.specs.declared.fills.Exit.the-variants.{NoExit, Exited}
 use Rattle.portfolio.specs.declared.Candle.{Candle}
 use Rattle.portfolio.specs.Trade.{wordsOfTrade}
 use Rattle.records.specs.declared.state.Position.{Position}

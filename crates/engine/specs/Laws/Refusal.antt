@@ -9,7 +9,7 @@ use Rattle.records.specs.declared.state.State.{State}
 use Rattle.refusals.specs.declared.verdict.Verdict.{Verdict}
 use Rattle.refusals.specs.declared.verdict.Verdict.the-variants.{Fine, Bad}
 use Rattle.records.specs.Lent.{Lists, Rooms}
-use Rattle.engine.specs.declared.Answer.the-variants.{Refused}
+use Rattle.engine.specs.declared.answer.Answer.the-variants.{Refused}
 use Rattle.engine.specs.Step.{With, stepped, answered, stepVerdict, stepAnswer}
 
 by-verdict : (v : Verdict) (t : State) (m : Rooms) (done : With State) (why : Refusal) (u : State)

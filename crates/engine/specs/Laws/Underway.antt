@@ -7,13 +7,13 @@ use native.Mathlib.Omega.{arith}
 use borrow.Author.Tests.{leb-true, le-leb, ltb-true, lt-ltb}
 use lib.Dec.{leb}
 use Rattle.rows.specs.History.{History}
-use Rattle.rules.specs.declared.Entered.{Entered as EntryBar}
-use Rattle.rules.specs.declared.Entered.the-variants.{Never, Bar}
+use Rattle.rules.specs.declared.position.Entered.{Entered as EntryBar}
+use Rattle.rules.specs.declared.position.Entered.the-variants.{Never, Bar}
 use Rattle.portfolio.specs.declared.Candle.{Candle}
-use Rattle.execution.specs.declared.Entry.{Entry}
-use Rattle.execution.specs.declared.Entry.the-variants.{NoEntry, TooLarge, Entered}
-use Rattle.execution.specs.declared.Exit.{Exit}
-use Rattle.execution.specs.declared.Exit.the-variants.{NoExit, Exited}
+use Rattle.execution.specs.declared.fills.Entry.{Entry}
+use Rattle.execution.specs.declared.fills.Entry.the-variants.{NoEntry, TooLarge, Entered}
+use Rattle.execution.specs.declared.fills.Exit.{Exit}
+use Rattle.execution.specs.declared.fills.Exit.the-variants.{NoExit, Exited}
 use Rattle.records.specs.declared.settings.Settings.{Settings}
 use Rattle.records.specs.declared.state.Position.{Position}
 use Rattle.records.specs.declared.state.State.{State}

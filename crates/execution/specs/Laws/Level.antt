@@ -6,9 +6,9 @@ use lib.Ieee.{Float}
 use Rattle.floats.specs.Floats.{_≼_, min, max}
 use Rattle.floats.specs.Laws.Order.{numbers, itself, min-second, max-second}
 use Rattle.portfolio.specs.declared.Candle.{Candle}
-use Rattle.execution.specs.declared.Optional.{Optional}
-use Rattle.execution.specs.declared.Optional.the-variants.{Absent, Of}
-use Rattle.execution.specs.declared.Side.the-variants.{Long, Short}
+use Rattle.execution.specs.declared.optional.Optional.{Optional}
+use Rattle.execution.specs.declared.optional.Optional.the-variants.{Absent, Of}
+use Rattle.execution.specs.declared.level.Side.the-variants.{Long, Short}
 use Rattle.execution.specs.declared.level.OrderKind.the-variants.{Limit, Stop, StopLimit}
 use Rattle.execution.specs.Level.{reachedBelow, reachedAbove, noDearerThan, noCheaperThan, longFill, shortFill, levelFill}
 

@@ -8,7 +8,7 @@ use borrow.Author.Tests.{ltb-false}
 use lib.ListN.{length}
 use lib.Dec.{eqb, ltb}
 use Rattle.words.specs.Limits.{mostSteps}
-use Rattle.steps.specs.declared.Formed.the-variants.{Bad}
+use Rattle.steps.specs.declared.wellformed.Formed.the-variants.{Bad}
 use Rattle.steps.specs.Bytes.{stepAt, stepsIn}
 use Rattle.steps.specs.WellFormed.{goodStep, formedFrom, formed}
 

@@ -10,8 +10,8 @@ use borrow.Author.Tests.{leb-true, ltb-true}
 use Rattle.words.specs.Limits.{mostCount, mostSteps}
 use Rattle.words.specs.Outcome.{refusal}
 use Rattle.words.specs.declared.refusal.Refusal.{Refusal}
-use Rattle.steps.specs.declared.Formed.{Formed}
-use Rattle.steps.specs.declared.Formed.the-variants.{Well, Bad as BadStep}
+use Rattle.steps.specs.declared.wellformed.Formed.{Formed}
+use Rattle.steps.specs.declared.wellformed.Formed.the-variants.{Well, Bad as BadStep}
 use Rattle.steps.specs.WellFormed.{formed}
 use Rattle.records.specs.declared.settings.Settings.{Settings}
 use Rattle.records.specs.declared.state.State.{State}

@@ -9,7 +9,7 @@ use lib.Dec.{T, eqb, ltb}
 use lib.Ieee.{binary64, isNan}
 use lib.Ieee.Bits.{toBits-ofBits}
 use Rattle.floats.specs.Floats.{floatOf, wordOf}
-use Rattle.rules.specs.declared.Entered.the-variants.{Never, Bar}
+use Rattle.rules.specs.declared.position.Entered.the-variants.{Never, Bar}
 use Rattle.execution.specs.declared.level.OrderKind.{OrderKind}
 use Rattle.execution.specs.declared.level.OrderKind.the-variants.{Market, Limit, Stop, StopLimit}
 use Rattle.records.specs.declared.state.Order.{Order}

@@ -12,8 +12,8 @@ use lib.ListN.{length, getD, List·getD-eq-default}
 use lib.Seq.{getD-drop}
 use Rattle.words.specs.Limits.{rowWords, mostRows}
 use Rattle.rows.specs.History.{lastRows}
-use Rattle.rules.specs.declared.Entered.{Entered}
-use Rattle.rules.specs.declared.Entered.the-variants.{Never, Bar}
+use Rattle.rules.specs.declared.position.Entered.{Entered}
+use Rattle.rules.specs.declared.position.Entered.the-variants.{Never, Bar}
 use Rattle.portfolio.specs.Portfolio.{fresh}
 use Rattle.records.specs.declared.settings.Settings.{Settings}
 use Rattle.records.specs.declared.state.State.{State}

@@ -12,7 +12,7 @@ use lib.ListN.{length, getD, drop, length-append, length-drop, List·getD-append
 use lib.Seq.{getD-append-add, getD-drop}
 use Rattle.words.specs.Limits.{rowWords, mostSlots}
 use Rattle.rows.specs.History.{lastRows}
-use Rattle.execution.specs.declared.Funding.the-variants.{NotSupplied}
+use Rattle.execution.specs.declared.costs.Funding.the-variants.{NotSupplied}
 use Rattle.records.specs.Bar.{candleOf, fundingOf}
 use Rattle.refusals.specs.declared.verdict.Verdict.the-variants.{Fine}
 use Rattle.refusals.specs.Bar.{bitFine, slotFine, every, slotsFine, candleFine, barLines}

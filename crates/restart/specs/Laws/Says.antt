@@ -8,8 +8,8 @@ use borrow.Author.Tests.{le-leb, eq-eqb}
 use lib.Dec.{leb, ltb, eqb}
 use lib.ListN.{length, getD}
 use Rattle.words.specs.Limits.{rowWords, mostSlots, mostRows}
-use Rattle.rules.specs.declared.Entered.{Entered}
-use Rattle.rules.specs.declared.Entered.the-variants.{Never, Bar}
+use Rattle.rules.specs.declared.position.Entered.{Entered}
+use Rattle.rules.specs.declared.position.Entered.the-variants.{Never, Bar}
 use Rattle.execution.specs.declared.level.OrderKind.{OrderKind}
 use Rattle.execution.specs.declared.level.OrderKind.the-variants.{Market, Limit, Stop, StopLimit}
 use Rattle.records.specs.declared.state.Order.{Order}

@@ -14,7 +14,7 @@ use Rattle.table.specs.Forest.{trees, forestOf}
 use Rattle.table.specs.Checked.{checked}
 use Rattle.table.specs.Ends.{endsBeside}
 use Rattle.table.specs.Reading.{firstOf, conditions, treeOf}
-use Rattle.rules.specs.declared.PositionState.{PositionState}
+use Rattle.rules.specs.declared.position.PositionState.{PositionState}
 use Rattle.table.specs.declared.trees.Tree.{Tree}
 use Rattle.table.specs.declared.trees.Tree.the-variants.{Entry, Exit, ShortEntry, ShortExit}
 use Rattle.rules.specs.Meaning.{holds, says}

@@ -13,9 +13,9 @@ use Rattle.rows.specs.History.{History}
 use Rattle.table.specs.declared.series.Series.{Series}
 use Rattle.table.specs.declared.series.Series.the-variants.{Price, Slot}
 use Rattle.table.specs.Trees.{Operand, const, ref, price, prev, arith as sums, extreme, trend}
-use Rattle.rules.specs.declared.Value.{Value}
-use Rattle.rules.specs.declared.Value.the-variants.{Missing, Number}
-use Rattle.rules.specs.declared.PositionState.{PositionState}
+use Rattle.rules.specs.declared.values.Value.{Value}
+use Rattle.rules.specs.declared.values.Value.the-variants.{Missing, Number}
+use Rattle.rules.specs.declared.position.PositionState.{PositionState}
 use Rattle.rules.specs.Values.{priceOf, slotOf, both, took, pick, tested, compared, trended}
 use Rattle.rules.specs.Meaning.{there, seriesAt, extremeOver, extremeAt, value, holds}
 

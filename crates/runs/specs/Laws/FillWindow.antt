@@ -9,10 +9,10 @@ use Rattle.rows.specs.History.{historyOf, lastRows}
 use Rattle.rules.specs.Window.{Without, without-first}
 use Rattle.portfolio.specs.declared.Candle.{Candle}
 use Rattle.portfolio.specs.declared.Portfolio.{Portfolio}
-use Rattle.execution.specs.declared.Side.{Side}
-use Rattle.execution.specs.declared.Sizing.{Sizing}
-use Rattle.execution.specs.declared.Sizing.the-variants.{FixedFraction, FixedQty, FixedCash, VolTarget, RiskPerTrade, Unknown}
-use Rattle.execution.specs.declared.Terms.{Terms}
+use Rattle.execution.specs.declared.level.Side.{Side}
+use Rattle.execution.specs.declared.terms.Sizing.{Sizing}
+use Rattle.execution.specs.declared.terms.Sizing.the-variants.{FixedFraction, FixedQty, FixedCash, VolTarget, RiskPerTrade, Unknown}
+use Rattle.execution.specs.declared.terms.Terms.{Terms}
 use Rattle.execution.specs.Fills.{volatilityFor, executeEntry}
 use Rattle.execution.specs.Volatility.{realizedVol}
 use Rattle.execution.specs.VolatilityWindow.{same-volatility}

@@ -9,22 +9,22 @@ use Rattle.portfolio.specs.declared.Candle.{Candle}
 use Rattle.portfolio.specs.declared.Portfolio.{Portfolio}
 use Rattle.portfolio.specs.declared.Trade.{Trade}
 use Rattle.portfolio.specs.Portfolio.{inPosition, isLong, equity, funded, worsened, entered, notional, pnl, tradeOf, exited}
-use Rattle.execution.specs.declared.Entry.{Entry}
-use Rattle.execution.specs.declared.Entry.the-variants.{NoEntry, Entered}
-use Rattle.execution.specs.declared.Entry.the-variants as Entry
-use Rattle.execution.specs.declared.Exit.{Exit}
-use Rattle.execution.specs.declared.Exit.the-variants.{NoExit, Exited}
+use Rattle.execution.specs.declared.fills.Entry.{Entry}
+use Rattle.execution.specs.declared.fills.Entry.the-variants.{NoEntry, Entered}
+use Rattle.execution.specs.declared.fills.Entry.the-variants as Entry
+use Rattle.execution.specs.declared.fills.Exit.{Exit}
+use Rattle.execution.specs.declared.fills.Exit.the-variants.{NoExit, Exited}
 use Rattle.portfolio.specs.Trade.{signal}
-use Rattle.execution.specs.declared.Funding.{Funding}
-use Rattle.execution.specs.declared.Funding.the-variants.{NotSupplied, Supplied}
-use Rattle.execution.specs.declared.Quantity.{Quantity}
-use Rattle.execution.specs.declared.Quantity.the-variants.{Nothing, TooLarge, Of}
-use Rattle.execution.specs.declared.Side.{Side}
+use Rattle.execution.specs.declared.costs.Funding.{Funding}
+use Rattle.execution.specs.declared.costs.Funding.the-variants.{NotSupplied, Supplied}
+use Rattle.execution.specs.declared.lots.Quantity.{Quantity}
+use Rattle.execution.specs.declared.lots.Quantity.the-variants.{Nothing, TooLarge, Of}
+use Rattle.execution.specs.declared.level.Side.{Side}
 use Rattle.execution.specs.declared.level.OrderKind.{OrderKind}
-use Rattle.execution.specs.declared.Terms.{Terms}
-use Rattle.execution.specs.declared.Risk.{Risk}
-use Rattle.execution.specs.declared.Trigger.{Trigger}
-use Rattle.execution.specs.declared.Trigger.the-variants.{Untouched, At}
+use Rattle.execution.specs.declared.terms.Terms.{Terms}
+use Rattle.execution.specs.declared.terms.Risk.{Risk}
+use Rattle.execution.specs.declared.intrabar.Trigger.{Trigger}
+use Rattle.execution.specs.declared.intrabar.Trigger.the-variants.{Untouched, At}
 use Rattle.execution.specs.Costs.{closed, withFunding, chargeFunding}
 use Rattle.execution.specs.Fills.{booked, executeEntry, exitDirection, executeExit}
 use Rattle.execution.specs.Intrabar.{favourable, extremeWith, bankruptcyPrice, liquidated, orLiquidated, touched, closedBy, applyIntrabarExits}

@@ -11,8 +11,8 @@ use lib.ListN.{length, take, drop, set, length-set}
 use lib.Seq.{take-set-lt, drop-set-lt}
 use Rattle.words.specs.Limits as Limits
 use Rattle.floats.specs.Floats.{wordOf}
-use Rattle.execution.specs.declared.Exit.{Exit}
-use Rattle.execution.specs.declared.Exit.the-variants.{NoExit, Exited}
+use Rattle.execution.specs.declared.fills.Exit.{Exit}
+use Rattle.execution.specs.declared.fills.Exit.the-variants.{NoExit, Exited}
 use Rattle.engine.specs.Books.{Point, wordsOfPoint, lastBecomes}
 use Rattle.engine.specs.Finish.{remarked}
 use Rattle.engine.specs.Whole.{endPoints}

@@ -10,7 +10,7 @@ use Rattle.table.specs.Checked.{checked}
 use Rattle.table.specs.Header.{slots}
 use Rattle.table.specs.Reading.{treeOf}
 use Rattle.table.specs.Trees.{reachOf}
-use Rattle.rules.specs.declared.PositionState.{PositionState}
+use Rattle.rules.specs.declared.position.PositionState.{PositionState}
 use Rattle.rules.specs.Meaning as Meaning
 use Rattle.steps.specs.Bytes.{bytesOf}
 use Rattle.table.specs.Depth.{greatestReach, depthOf}

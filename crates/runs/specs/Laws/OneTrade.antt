@@ -13,8 +13,8 @@ use Rattle.portfolio.specs.declared.Candle.{Candle}
 use Rattle.portfolio.specs.declared.Closed.{Closed}
 use Rattle.portfolio.specs.declared.Portfolio.{Portfolio}
 use Rattle.portfolio.specs.Portfolio.{inPosition, worsened, exited}
-use Rattle.execution.specs.declared.Exit.{Exit}
-use Rattle.execution.specs.declared.Exit.the-variants.{NoExit, Exited}
+use Rattle.execution.specs.declared.fills.Exit.{Exit}
+use Rattle.execution.specs.declared.fills.Exit.the-variants.{NoExit, Exited}
 use Rattle.execution.specs.Costs.{closed}
 use Rattle.execution.specs.Fills.{executeExit}
 use Rattle.execution.specs.Intrabar.{applyIntrabarExits}

@@ -4,8 +4,8 @@ use mathlib.Core.Path.{_≡_}
 use mathlib.Core.List.{List}
 use Rattle.rows.specs.History.{History}
 use Rattle.portfolio.specs.declared.Candle.{Candle}
-use Rattle.execution.specs.declared.Optional.the-variants.{Absent}
-use Rattle.execution.specs.declared.Side.the-variants.{Long, Short}
+use Rattle.execution.specs.declared.optional.Optional.the-variants.{Absent}
+use Rattle.execution.specs.declared.level.Side.the-variants.{Long, Short}
 use Rattle.execution.specs.declared.level.OrderKind.{OrderKind}
 use Rattle.execution.specs.Level.{levelFill}
 use Rattle.records.specs.declared.state.Order.the-variants.{EnterLong, EnterShort}

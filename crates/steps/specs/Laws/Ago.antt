@@ -8,8 +8,8 @@ use lib.Dec.{ltb, eqb}
 use borrow.Author.Tests.{lt-ltb, le-ltb, ltb-true, ltb-false, eqb-true, eqb-false}
 use Rattle.rows.specs.History.{History}
 use Rattle.table.specs.Trees.{Operand, prev, arith as sums}
-use Rattle.rules.specs.declared.Value.{Value}
-use Rattle.rules.specs.declared.Value.the-variants.{Missing, Number}
+use Rattle.rules.specs.declared.values.Value.{Value}
+use Rattle.rules.specs.declared.values.Value.the-variants.{Missing, Number}
 use Rattle.rules.specs.Values.{both, compared, crossed, trended}
 use Rattle.rules.specs.Meaning.{there, value, newest}
 use Rattle.rules.specs.Laws.Meaning.{past}

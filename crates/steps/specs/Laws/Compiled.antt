@@ -7,11 +7,11 @@ use lib.ListN.{length}
 use Rattle.rows.specs.History.{History}
 use Rattle.table.specs.Trees.{Operand, const, ref, price, prev, arith as sums, extreme, Condition, Conditions, compare, cross, between, trend, every, any}
 use Rattle.table.specs.Trees.{negated, inPosition, barsSince, none, more}
-use Rattle.rules.specs.declared.PositionState.{PositionState}
-use Rattle.rules.specs.declared.Value.{Value}
+use Rattle.rules.specs.declared.position.PositionState.{PositionState}
+use Rattle.rules.specs.declared.values.Value.{Value}
 use Rattle.rules.specs.Meaning.{holds, allHold, anyHolds, newest, says}
-use Rattle.steps.specs.declared.Op.{Op}
-use Rattle.steps.specs.declared.Op.the-variants.{Arith, Compare, Cross, Between, Turn, JumpIf}
+use Rattle.steps.specs.declared.step.Op.{Op}
+use Rattle.steps.specs.declared.step.Op.the-variants.{Arith, Compare, Cross, Between, Turn, JumpIf}
 use Rattle.steps.specs.Machine.{Values, ago, does, effect, after, run, start, answers}
 use Rattle.steps.specs.Translation.{code, codeOf, codeEach, trendTest}
 use Rattle.steps.specs.Laws.Ago.{arith-ago, prev-ago, now-ago, cross-ago, trend-ago}

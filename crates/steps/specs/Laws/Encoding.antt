@@ -14,10 +14,10 @@ use Rattle.words.specs.Laws.Numbers.{less-or-not}
 use Rattle.table.specs.declared.series.Series.{Series}
 use Rattle.table.specs.declared.series.Series.the-variants as Over
 use Rattle.table.specs.Bytes.{u16, u32, u64}
-use Rattle.steps.specs.declared.Step.{Step}
-use Rattle.steps.specs.declared.Op.{Op}
-use Rattle.steps.specs.declared.Op.the-variants.{Const, Ref, Price, Arith, Compare, Cross, Between, Answer, Turn, InPosition, BarsSinceEntry, JumpIf}
-use Rattle.steps.specs.declared.Op.the-variants.{Extreme, Unknown}
+use Rattle.steps.specs.declared.step.Step.{Step}
+use Rattle.steps.specs.declared.step.Op.{Op}
+use Rattle.steps.specs.declared.step.Op.the-variants.{Const, Ref, Price, Arith, Compare, Cross, Between, Answer, Turn, InPosition, BarsSinceEntry, JumpIf}
+use Rattle.steps.specs.declared.step.Op.the-variants.{Extreme, Unknown}
 use Rattle.steps.specs.Bytes.{readStep, stepAt, stepsRun, slotKind, extremeOp, operandOp, testOp}
 use Rattle.steps.specs.Bytes.{answerOp, opOf, opsFrom, opsOf, extremeStep, stepOf, stepBytes, bytesOf}
 

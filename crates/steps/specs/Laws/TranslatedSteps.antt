@@ -13,9 +13,9 @@ use Rattle.table.specs.declared.series.Series.{Series}
 use Rattle.table.specs.declared.series.Series.the-variants as Over
 use Rattle.table.specs.Laws.Kinds.{arith-numbers, extreme-numbers, compare-numbers, cross-numbers}
 use Rattle.table.specs.Limits.{WithinSeries, Within, WithinOf, WithinAll}
-use Rattle.steps.specs.declared.Op.{Op}
-use Rattle.steps.specs.declared.Op.the-variants.{Const, Ref, Price, Arith, Compare, Cross, Between, Answer, Turn, InPosition, BarsSinceEntry, JumpIf}
-use Rattle.steps.specs.declared.Op.the-variants.{Extreme, Unknown}
+use Rattle.steps.specs.declared.step.Op.{Op}
+use Rattle.steps.specs.declared.step.Op.the-variants.{Const, Ref, Price, Arith, Compare, Cross, Between, Answer, Turn, InPosition, BarsSinceEntry, JumpIf}
+use Rattle.steps.specs.declared.step.Op.the-variants.{Extreme, Unknown}
 use Rattle.steps.specs.Translation.{code, codeOf, codeEach, trendTest}
 
 -- ---- steps that are well formed where `after` steps follow

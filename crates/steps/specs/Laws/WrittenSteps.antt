@@ -9,10 +9,10 @@ use borrow.Author.Tests.{lt-ltb, le-ltb, le-leb, eq-eqb}
 use Rattle.words.specs.Limits.{mostSlots, mostRows, mostSteps}
 use Rattle.table.specs.declared.series.Series.{Series}
 use Rattle.table.specs.declared.series.Series.the-variants as Over
-use Rattle.steps.specs.declared.Op.{Op}
-use Rattle.steps.specs.declared.Op.the-variants.{Extreme}
-use Rattle.steps.specs.declared.Op.the-variants.{Const, Ref, Price, Arith, Compare, Cross, Between, Answer, Turn, InPosition, BarsSinceEntry, JumpIf}
-use Rattle.steps.specs.declared.Formed.the-variants.{Well}
+use Rattle.steps.specs.declared.step.Op.{Op}
+use Rattle.steps.specs.declared.step.Op.the-variants.{Extreme}
+use Rattle.steps.specs.declared.step.Op.the-variants.{Const, Ref, Price, Arith, Compare, Cross, Between, Answer, Turn, InPosition, BarsSinceEntry, JumpIf}
+use Rattle.steps.specs.declared.wellformed.Formed.the-variants.{Well}
 use Rattle.steps.specs.Bytes.{extremeStep, stepOf, stepBytes, bytesOf, stepsIn, opsOf}
 use Rattle.steps.specs.WellFormed.{zeros, rowsFit, plain, seriesWithin, looksWithin, bounded, goodStep, formedFrom, formed}
 use Rattle.steps.specs.Laws.Encoding.{SayableSeries, Sayable, AllSayable, says-back, step-there, steps-long, ops-of-bytes}

@@ -6,7 +6,7 @@ use mathlib.Core.Bool.{false}
 use native.Mathlib.Omega.{arith}
 use borrow.Author.Needs.{needs}
 use Rattle.rules.specs.Flat.{growCondition, conditionAt}
-use Rattle.steps.specs.declared.Op.the-variants.{Answer, Turn, InPosition, BarsSinceEntry, JumpIf}
+use Rattle.steps.specs.declared.step.Op.the-variants.{Answer, Turn, InPosition, BarsSinceEntry, JumpIf}
 use Rattle.steps.specs.Bytes.{stepOf}
 use Rattle.translation.proofs.Writes.{fits-first, fits-rest, fits-one, fits-after, fits-between}
 use Rattle.translation.proofs.Writes.{wrote-none, wrote-one, wrote-then, wrote-between, skip-is}

@@ -5,7 +5,7 @@ use mathlib.Core.Bool.{Bool, true, false, cond}
 use mathlib.Core.List.{List}
 use Rattle.floats.specs.Floats.{_≺_, zero}
 use Rattle.rows.specs.History.{History}
-use Rattle.rules.specs.declared.PositionState.{PositionState}
+use Rattle.rules.specs.declared.position.PositionState.{PositionState}
 use Rattle.rules.specs.Values.{held}
 use Rattle.portfolio.specs.declared.Portfolio.{Portfolio}
 use Rattle.execution.specs.declared.level.OrderKind.{OrderKind}

@@ -7,7 +7,7 @@ use native.Mathlib.Nat.{le-refl}
 use lib.Ieee.{Float}
 use Rattle.rows.specs.History.{historyOf}
 use Rattle.table.specs.declared.series.Series.the-variants.{Price}
-use Rattle.rules.specs.declared.Value.the-variants.{Number}
+use Rattle.rules.specs.declared.values.Value.the-variants.{Number}
 use Rattle.rules.specs.Values.{took}
 use Rattle.rules.specs.Meaning.{extremeOver}
 use Rattle.rules.specs.Laws.Meaning.{price-one, price-more}

@@ -5,7 +5,7 @@ use mathlib.Core.Path.{_≡_, sym, ap, _∙_}
 use native.Mathlib.Omega.{arith}
 use native.Mathlib.Nat.{le-refl}
 use Rattle.rows.specs.Ring.{ringOf}
-use Rattle.rules.specs.declared.Value.the-variants.{Number}
+use Rattle.rules.specs.declared.values.Value.the-variants.{Number}
 use Rattle.rules.specs.Values.{pick}
 use Rattle.rules.specs.Meaning.{extremeOver}
 use Rattle.rules.specs.Laws.Meaning.{extreme-one, extreme-more, any-missing}

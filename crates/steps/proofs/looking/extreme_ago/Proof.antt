@@ -6,7 +6,7 @@ use Prim.Native.Nat.{ℕ, _-_, _<_, _≤_}
 use Rattle.rows.specs.History.{History}
 use Rattle.table.specs.declared.series.Series.{Series}
 use Rattle.table.specs.Trees.{extreme}
-use Rattle.rules.specs.declared.Value.the-variants.{Missing}
+use Rattle.rules.specs.declared.values.Value.the-variants.{Missing}
 use Rattle.rules.specs.Meaning.{extremeOver}
 use Rattle.rules.specs.Laws.Meaning.{extreme-value, extreme-early, extreme-late}
 use Rattle.steps.specs.Machine.{ago}

@@ -7,7 +7,7 @@ use mathlib.Core.Logic.{⊎-elim}
 use native.Mathlib.Omega.{arith}
 use native.Mathlib.Nat.{mul-le-mul-right}
 use lib.ListN.{length}
-use Rattle.rules.specs.declared.Value.{Value}
+use Rattle.rules.specs.declared.values.Value.{Value}
 use Rattle.rules.specs.Values.{wordsFrom}
 use Rattle.steps.specs.Looks.{overOf, ofRow, Passed, Stopped}
 use Rattle.steps.proofs.Looks.{not-higher, not-lower, passed-more}

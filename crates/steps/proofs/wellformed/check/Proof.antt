@@ -8,7 +8,7 @@ use Prim.Native.Nat.{ℕ, suc, _+_, _*_, _-_, _<_, _≤_}
 use mathlib.Core.Path.{_≡_, refl, sym, _∙_}
 use mathlib.Core.Bool.{cond}
 use mathlib.Core.List.{List}
-use Rattle.steps.specs.declared.Formed.the-variants.{Well, Bad}
+use Rattle.steps.specs.declared.wellformed.Formed.the-variants.{Well, Bad}
 use Rattle.steps.specs.Bytes.{readStep, stepAt, stepsIn}
 use Rattle.steps.specs.WellFormed.{goodStep, formedFrom, formed}
 use Rattle.steps.proofs.wellformed.check.Statement.{statement}

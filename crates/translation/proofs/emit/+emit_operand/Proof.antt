@@ -3,7 +3,7 @@ use Prim.Native.Nat.{ℕ, _<_}
 use mathlib.Core.Path.{_∙_}
 use native.Mathlib.Omega.{arith}
 use borrow.Author.Needs.{needs}
-use Rattle.steps.specs.declared.Op.the-variants as Op
+use Rattle.steps.specs.declared.step.Op.the-variants as Op
 use Rattle.steps.specs.Bytes.{stepOf}
 use Rattle.translation.proofs.Writes.{fits-first, fits-rest, fits-one, wrote-then, wrote-one}
 use Rattle.translation.proofs.Operands.{ground, a-const, a-ref, a-price, a-prev, a-sum, no-operand}

@@ -1,6 +1,6 @@
 -- The three operands, one after the other, and a step.
 use mathlib.Core.Path.{_∙_}
-use Rattle.steps.specs.declared.Op.the-variants.{Between}
+use Rattle.steps.specs.declared.step.Op.the-variants.{Between}
 use Rattle.steps.specs.Bytes.{stepOf}
 use Rattle.translation.proofs.Writes.{fits-first, fits-rest, fits-one, wrote-then, wrote-one}
 use Rattle.translation.proofs.Conditions.{code-between, between-reach}

@@ -1,6 +1,6 @@
 -- Both operands, one after the other, and a step.
 use mathlib.Core.Path.{_∙_}
-use Rattle.steps.specs.declared.Op.the-variants.{Compare}
+use Rattle.steps.specs.declared.step.Op.the-variants.{Compare}
 use Rattle.steps.specs.Bytes.{stepOf}
 use Rattle.translation.proofs.Writes.{fits-first, fits-rest, fits-one, wrote-then, wrote-one}
 use Rattle.translation.proofs.Conditions.{code-compare, compare-reach}

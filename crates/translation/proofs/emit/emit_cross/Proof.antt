@@ -1,7 +1,7 @@
 -- Both operands now, both one row back, and a step.
 use mathlib.Core.Path.{_∙_}
 use native.Mathlib.Omega.{arith}
-use Rattle.steps.specs.declared.Op.the-variants.{Cross}
+use Rattle.steps.specs.declared.step.Op.the-variants.{Cross}
 use Rattle.steps.specs.Bytes.{stepOf}
 use Rattle.translation.proofs.Writes.{fits-first, fits-rest, fits-one, wrote-then, wrote-one}
 use Rattle.translation.proofs.Conditions.{code-cross, cross-reach}

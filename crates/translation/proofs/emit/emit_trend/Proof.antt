@@ -1,7 +1,7 @@
 -- The operand now and n rows back, and a step.
 use mathlib.Core.Path.{_∙_}
 use borrow.Author.Needs.{needs}
-use Rattle.steps.specs.declared.Op.the-variants.{Compare}
+use Rattle.steps.specs.declared.step.Op.the-variants.{Compare}
 use Rattle.steps.specs.Bytes.{stepOf}
 use Rattle.translation.proofs.Writes.{fits-first, fits-rest, fits-one, wrote-then, wrote-one}
 use Rattle.translation.proofs.Conditions.{code-trend, trend-reach}

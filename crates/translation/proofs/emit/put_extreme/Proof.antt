@@ -2,7 +2,7 @@
 use borrow.Author.Needs.{needs}
 use native.Mathlib.Omega.{arith}
 use Rattle.table.specs.declared.series.Series.the-variants as Over
-use Rattle.steps.specs.declared.Op.the-variants as Op
+use Rattle.steps.specs.declared.step.Op.the-variants as Op
 use Rattle.steps.specs.Bytes.{extremeStep, stepOf}
 use Rattle.translation.proofs.Writes.{fits-one, wrote-one}
 use Rattle.translation.proofs.emit.put_extreme.Statement.{statement}

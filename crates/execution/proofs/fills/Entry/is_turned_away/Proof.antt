@@ -1,7 +1,7 @@
 -- `is_turned_away`: a case each.
 use borrow.Author.Needs.{needs}
-use Rattle.execution.proofs.Entry.is_turned_away.Statement.{statement}
-use Rattle.execution.proofs.Entry.is_turned_away.Tie as tie
+use Rattle.execution.proofs.fills.Entry.is_turned_away.Statement.{statement}
+use Rattle.execution.proofs.fills.Entry.is_turned_away.Tie as tie
 
 pub is-turned-away-spec : {M : Type 1} → statement M
 is-turned-away-spec =

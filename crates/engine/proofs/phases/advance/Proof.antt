@@ -9,8 +9,8 @@ use Rattle.engine.specs.Laws.InPlace.{fill-in-place, decide-in-place, pl
 use borrow.Author.Needs.{needs}
 use Rattle.engine.proofs.Phases.{phases, away, goes}
 use Rattle.engine.proofs.Placing.{held-ends}
-use Rattle.engine.proofs.advance.Statement.{statement}
-use Rattle.engine.proofs.advance.Tie as tie
+use Rattle.engine.proofs.phases.advance.Statement.{statement}
+use Rattle.engine.proofs.phases.advance.Tie as tie
 
 fill-working-order-requires : tie.Need-fill-working-order-requires
 fill-working-order-requires c κs = c .before .before .before .before .before .before .before .before .before .before .before .before .pre .ready .slots

@@ -1,7 +1,7 @@
 -- `is_too_large`: a case each.
 use borrow.Author.Needs.{needs}
-use Rattle.execution.proofs.Quantity.is_too_large.Statement.{statement}
-use Rattle.execution.proofs.Quantity.is_too_large.Tie as tie
+use Rattle.execution.proofs.lots.Quantity.is_too_large.Statement.{statement}
+use Rattle.execution.proofs.lots.Quantity.is_too_large.Tie as tie
 
 pub is-too-large-spec : {M : Type 1} → statement M
 is-too-large-spec =
