@@ -36,7 +36,7 @@ use Rattle.engine.specs.InPlace.{RingAt, Turns}
 use Rattle.engine.specs.Laws.Days.{answerIn, day-one, stays-underway, After, after-none, nextBar, after-all, after-more, after-refused}
 use Rattle.engine.specs.Run.{runOver}
 use Rattle.engine.specs.Step.{Is, Ready, advanced, stepAnswer}
-use Rattle.engine.proofs.Phases.{ready, refused, went}
+use Rattle.engine.proofs.OneBar.{ready, refused, went}
 
 -- ---- a bar
 

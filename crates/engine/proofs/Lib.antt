@@ -1,6 +1,6 @@
 pub mod Rows
 pub mod Placing
 pub mod Dues
-pub mod Phases
+pub mod OneBar
 pub mod Days
 pub mod Endings

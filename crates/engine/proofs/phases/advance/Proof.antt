@@ -7,7 +7,7 @@ use Rattle.rows.specs.Ring.{turned}
 use Rattle.records.specs.Lent.{Rooms, Lists, rooms, lists}
 use Rattle.engine.specs.Laws.InPlace.{fill-in-place, decide-in-place, placed}
 use borrow.Author.Needs.{needs}
-use Rattle.engine.proofs.Phases.{phases, away, goes}
+use Rattle.engine.proofs.OneBar.{phases, away, goes}
 use Rattle.engine.proofs.Placing.{held-ends}
 use Rattle.engine.proofs.phases.advance.Statement.{statement}
 use Rattle.engine.proofs.phases.advance.Tie as tie
