@@ -6,11 +6,11 @@ use mathlib.Core.Bool.{Bool, true, false}
 use mathlib.Core.List.{List, _++_, append-assoc}
 use native.Mathlib.Nat.{div-lt-iff-lt-mul, le-div-iff-mul-le, mul-le-mul-right}
 use native.Mathlib.Omega.{arith}
-use borrow.Author.Tests.{lt-ltb, le-ltb}
-use lib.ListN.{length, take, drop}
+use borrow.Author.Tests.{lt-ltb, le-ltb, lt-leb}
+use lib.ListN.{length, take, drop, length-append, length-take, length-drop}
 use lib.Seq.{drop-drop}
 use Rattle.words.specs.Words.{overwrite, shifted}
-use Rattle.words.specs.Laws.Overwrite.{overwrite-fits}
+use Rattle.words.specs.Laws.Overwrite.{overwrite-fits, shifted-fits}
 use Rattle.words.specs.Laws.Records.{records-fit, record-ends}
 use Rattle.rows.specs.declared.ring.Ring.{Ring}
 use Rattle.rows.specs.Laws.Ring.{RingFine}
@@ -18,113 +18,127 @@ use Rattle.rows.specs.Ring.{ringWith, ringAfter, nextStart}
 use Rattle.rows.specs.Room.{placesFor, withRow, heldWith}
 use Rattle.rows.specs.Laws.Added.{moved-up}
 use Rattle.engine.specs.declared.record.Place.{Place}
-use Rattle.engine.specs.InPlace.{keptRing, keptRoom, MakesPlace}
+use Rattle.engine.specs.InPlace.{keptRing, keptRoom, rowPlaced, PlaceFor}
 
-module _ (room : List ℕ) (held start w : ℕ) (some : 0 < w) (ok : RingFine (length room / w) (record { held = held; start = start })) where
+module _ (room : List ℕ) (before : Ring) (w : ℕ) (some : 0 < w) (ok : RingFine (length room / w) before) where
   -- the rows held end by the room's end
-  pub held-ends : held * w ≤ length room
-  held-ends = records-fit (length room) w some held (ok .few)
+  pub held-ends : before .held * w ≤ length room
+  held-ends = records-fit (length room) w some (before .held) (ok .few)
 
   -- and so does the oldest of them
-  pub oldest-ends : start * w + w ≤ length room
-  oldest-ends = record-ends (length room) w some start (ok .within)
+  pub oldest-ends : before .start * w + w ≤ length room
+  oldest-ends = record-ends (length room) w some (before .start) (ok .within)
 
   -- one more fits: there is a place
-  pub free : w ≤ length room - held * w → held < length room / w
+  free : w ≤ length room - before .held * w → before .held < length room / w
   free h =
-      let more : (held + 1) * w ≤ length room = omega (arith, held-ends) in
-      let l : held + 1 ≤ length room / w = le-div-iff-mul-le {k = w} some .1 more in
+      let more : (before .held + 1) * w ≤ length room = omega (arith, held-ends) in
+      let l : before .held + 1 ≤ length room / w = le-div-iff-mul-le {k = w} some .1 more in
       omega arith
 
   -- none more fits: all are taken
-  pub full : length room - held * w < w → length room / w ≡ held
+  pub full : length room - before .held * w < w → length room / w ≡ before .held
   full h =
-      let less : length room < (held + 1) * w = omega (arith, held-ends) in
-      let l : length room / w < held + 1 = div-lt-iff-lt-mul {k = w} some .1 less in
+      let less : length room < (before .held + 1) * w = omega (arith, held-ends) in
+      let l : length room / w < before .held + 1 = div-lt-iff-lt-mul {k = w} some .1 less in
       omega (arith, ok .few)
 
   -- a full room has a row
-  pub some-held : length room - held * w < w → w ≤ held * w
-  some-held h = let l : 1 * w ≤ held * w = mul-le-mul-right w (omega (arith, full h, ok .within)) in omega arith
+  pub some-held : length room - before .held * w < w → w ≤ before .held * w
+  some-held h = let l : 1 * w ≤ before .held * w = mul-le-mul-right w (omega (arith, full h, ok .within)) in omega arith
 
-module _ (room : List ℕ) (held start w : ℕ) (some : 0 < w) (ok : RingFine (length room / w) (record { held = held; start = start })) where
+-- where none move up the room stands
+unmoved : (room : List ℕ) (w : ℕ) → 0 < w → shifted room w 0 ≡ room
+unfolding shifted
+unmoved room w some = simp (lt-leb w 0 some)
+
+-- a room whose rows move up is as long as it was
+moved-length : (room : List ℕ) (w end : ℕ) → w ≤ end → end ≤ length room → length (shifted room w end) ≡ length room
+moved-length room w end h k = rw (shifted-fits room w end h k) (simp (length-append, length-drop, length-take) (omega arith))
+
+module _ (room : List ℕ) (before : Ring) (w : ℕ) (some : 0 < w) (ok : RingFine (length room / w) before) where
   -- A PLACE IS LEFT
-  pub behind : (one : Bool) → (one ≡ true → start ≡ 0) → w ≤ length room - held * w
-      → MakesPlace one w room held start (record { at = held * w; ring = record { held = held + 1; start = start } }) room
-  behind one first h = record { fits = ends; ring = λ row e. ringed one first row e; filled = λ row e. written one row e }
+  pub behind : (one : Bool) → (one ≡ true → before .start ≡ 0) → w ≤ length room - before .held * w
+      → PlaceFor one w room before (record { at = before .held * w; moved = 0; ring = record { held = before .held + 1; start = before .start } })
+  unfolding rowPlaced
+  behind one first h = record { fits = ends; ring = λ row e. ringed one first row e; added = λ row e. written one row e }
     where
-      place : held < length room / w
-      place = free room held start w some ok h
+      place : before .held < length room / w
+      place = free room before w some ok h
 
-      ends : held * w + w ≤ length room
-      ends = record-ends (length room) w some held place
+      ends : before .held * w + w ≤ length room
+      ends = record-ends (length room) w some (before .held) place
 
-      ringed : (one : Bool) → (one ≡ true → start ≡ 0) → (row : List ℕ) → length row ≡ w
-          → _≡_ {A = Ring} (record { held = held + 1; start = start }) (keptRing one room held start row)
-      ringed true first row e = unfold keptRing heldWith in rw (e, lt-ltb held (length room / w) place, first refl)
-      ringed false first row e = unfold keptRing ringAfter in rw (e, lt-ltb held (length room / w) place)
+      ringed : (one : Bool) → (one ≡ true → before .start ≡ 0) → (row : List ℕ) → length row ≡ w
+          → _≡_ {A = Ring} (record { held = before .held + 1; start = before .start }) (keptRing one room before row)
+      ringed true first row e = unfold keptRing heldWith in rw (e, lt-ltb (before .held) (length room / w) place, first refl)
+      ringed false first row e = unfold keptRing ringAfter in rw (e, lt-ltb (before .held) (length room / w) place)
 
-      written : (one : Bool) (row : List ℕ) → length row ≡ w → take (held * w) room ++ row ++ drop (held * w + w) room ≡ keptRoom one room held start row
-      written true row e = unfold keptRoom withRow in rw (e, lt-ltb held (length room / w) place)
-      written false row e =
-          unfold keptRoom ringWith in rw (e, lt-ltb held (length room / w) place) (rw e at (sym (overwrite-fits room (held * w) row (rw e ends))))
+      written : (one : Bool) (row : List ℕ) → length row ≡ w → overwrite (shifted room (length row) 0) (before .held * w) row ≡ keptRoom one room before row
+      written true row e =
+          unfold keptRoom withRow in
+          rw (e, unmoved room w some, lt-ltb (before .held) (length room / w) place) (rw e at (overwrite-fits room (before .held * w) row (rw e ends)))
+      written false row e = unfold keptRoom ringWith in rw (e, unmoved room w some, lt-ltb (before .held) (length room / w) place)
 
   -- THE ROWS MOVE UP
-  pub behind-moved : length room - held * w < w → {after : List ℕ} → length after ≡ length room → after ≡ shifted room w (held * w)
-      → MakesPlace true w room held start (record { at = held * w - w; ring = record { held = held; start = 0 } }) after
-  behind-moved h {after} long moved = record { fits = ends; ring = λ row e. ringed row e; filled = λ row e. written row e }
+  pub behind-moved : length room - before .held * w < w
+      → PlaceFor true w room before (record { at = before .held * w - w; moved = before .held * w; ring = record { held = before .held; start = 0 } })
+  unfolding rowPlaced keptRoom
+  behind-moved h = record { fits = omega (arith, ends, hold); ring = λ row e. ringed row e; added = λ row e. written row e }
     where
-      all : length room / w ≡ held
-      all = full room held start w some ok h
+      all : length room / w ≡ before .held
+      all = full room before w some ok h
 
-      ends : held * w - w + w ≤ length after
-      ends = omega (arith, held-ends room held start w some ok, some-held room held start w some ok h, long)
+      ends : before .held * w ≤ length room
+      ends = held-ends room before w some ok
 
-      ringed : (row : List ℕ) → length row ≡ w → _≡_ {A = Ring} (record { held = held; start = 0 }) (keptRing true room held start row)
-      ringed row e = unfold keptRing heldWith in rw (e, all, le-ltb held held (omega arith))
+      hold : w ≤ before .held * w
+      hold = some-held room before w some ok h
 
-      written : (row : List ℕ) → length row ≡ w → take (held * w - w) after ++ row ++ drop (held * w - w + w) after ≡ keptRoom true room held start row
+      ringed : (row : List ℕ) → length row ≡ w → _≡_ {A = Ring} (record { held = before .held; start = 0 }) (keptRing true room before row)
+      ringed row e = unfold keptRing heldWith in rw (e, all, le-ltb (before .held) (before .held) (omega arith))
+
+      written : (row : List ℕ) → length row ≡ w
+          → overwrite (shifted room (length row) (before .held * w)) (before .held * w - w) row ≡ keptRoom true room before row
       written row e =
-          let places : placesFor room row ≡ held = rw (e, all) in
-          let put : overwrite after (held * w - w) row ≡ take (held * w - w) after ++ row ++ drop (held * w - w + w) after =
-          rw e at (overwrite-fits after (held * w - w) row (rw e ends)) in
-          let is = moved-up room held row (omega (arith, e)) (omega (arith, places)) (λ z. omega (arith, ok .within, all, places)) after
-          (overwrite after (held * w - w) row) long (rw (places, e) moved) (rw (places, e)) in
-          sym put ∙ (unfold keptRoom in is .1)
+          let places : placesFor room row ≡ before .held = rw (e, all) in
+          let moved : List ℕ = shifted room (length row) (before .held * w) in
+          let is = moved-up room (before .held) row (omega (arith, e)) (omega (arith, places)) (λ z. omega (arith, ok .within, all, places))
+          moved (overwrite moved (before .held * w - w) row) (rw e (moved-length room w (before .held * w) hold ends)) (rw (places, e)) (rw (places, e)) in
+          is .1
 
   -- IT GOES OVER THE OLDEST
-  pub over-oldest : length room - held * w < w → (next : ℕ) → next ≡ nextStart held start
-      → MakesPlace false w room held start (record { at = start * w; ring = record { held = held; start = next } }) room
-  over-oldest h next n = record { fits = oldest-ends room held start w some ok; ring = λ row e. ringed row e; filled = λ row e. written row e }
+  pub over-oldest : length room - before .held * w < w → (next : ℕ) → next ≡ nextStart (before .held) (before .start)
+      → PlaceFor false w room before (record { at = before .start * w; moved = 0; ring = record { held = before .held; start = next } })
+  unfolding rowPlaced
+  over-oldest h next n = record { fits = oldest-ends room before w some ok; ring = λ row e. ringed row e; added = λ row e. written row e }
     where
-      all : length room / w ≡ held
-      all = full room held start w some ok h
+      all : length room / w ≡ before .held
+      all = full room before w some ok h
 
-      within : start < held
-      within = omega (arith, ok .within, all)
+      ringed : (row : List ℕ) → length row ≡ w → _≡_ {A = Ring} (record { held = before .held; start = next }) (keptRing false room before row)
+      ringed row e = unfold keptRing ringAfter in rw (e, all, le-ltb (before .held) (before .held) (omega arith), n)
 
-      ringed : (row : List ℕ) → length row ≡ w → _≡_ {A = Ring} (record { held = held; start = next }) (keptRing false room held start row)
-      ringed row e = unfold keptRing ringAfter in rw (e, all, le-ltb held held (omega arith), n)
-
-      written : (row : List ℕ) → length row ≡ w → take (start * w) room ++ row ++ drop (start * w + w) room ≡ keptRoom false room held start row
+      written : (row : List ℕ) → length row ≡ w → overwrite (shifted room (length row) 0) (before .start * w) row ≡ keptRoom false room before row
       written row e =
           unfold keptRoom ringWith in
-          rw (e, all, le-ltb held held (omega arith), lt-ltb start held within)
-          (rw e at (sym (overwrite-fits room (start * w) row (rw e (oldest-ends room held start w some ok)))))
+          rw (e, unmoved room w some, all, le-ltb (before .held) (before .held) (omega arith), lt-ltb (before .start) (before .held) (rw all at (ok .within)))
 
-  -- the row after it
-  pub next-row : start < held - 1 → start + 1 ≡ nextStart held start
-  unfolding nextStart
-  next-row h = rw (lt-ltb (start + 1) held (omega arith))
+-- the row after the oldest
+pub next-row : (held start : ℕ) → start < held - 1 → start + 1 ≡ nextStart held start
+unfolding nextStart
+next-row held start h = rw (lt-ltb (start + 1) held (omega arith))
 
-  pub next-first : held - 1 ≤ start → 0 ≡ nextStart held start
-  unfolding nextStart
-  next-first h = rw (le-ltb (start + 1) held (omega arith))
+-- and after the last the first
+pub next-first : (held start : ℕ) → held - 1 ≤ start → 0 ≡ nextStart held start
+unfolding nextStart
+next-first held start h = rw (le-ltb (start + 1) held (omega arith))
 
 -- THE ROW WRITTEN THERE, all else standing
-pub written : {one : Bool} {w : ℕ} {room : List ℕ} {held start : ℕ} {p : Place} {after : List ℕ} → MakesPlace one w room held start p after
-    → (row : List ℕ) → length row ≡ w → {new : List ℕ} → new ≡ row
-    → take (p .at) after ++ (new ++ drop (p .at + w - p .at) (drop (p .at) after)) ≡ keptRoom one room held start row
-written {w = w} {p = p} {after = after} m row e is =
+pub written : (room : List ℕ) (w : ℕ) (p : Place) (row : List ℕ) → length row ≡ w → {moved new : List ℕ} → moved ≡ shifted room w (p .moved)
+    → p .at + w ≤ length moved → new ≡ row → take (p .at) moved ++ (new ++ drop (p .at + w - p .at) (drop (p .at) moved)) ≡ rowPlaced room p row
+unfolding rowPlaced
+written room w p row e {moved} up fits is =
     let wide : p .at + w - p .at ≡ w = omega arith in
-    rw (is, wide, drop-drop w (p .at) after) (sym (append-assoc (take (p .at) after) row (drop (p .at + w) after)) ∙ m .filled row e)
+    let put : overwrite moved (p .at) row ≡ (take (p .at) moved ++ row) ++ drop (p .at + w) moved = rw e at (overwrite-fits moved (p .at) row (rw e fits)) in
+    rw (is, wide, drop-drop w (p .at) moved, e, ← up) (sym (append-assoc (take (p .at) moved) row (drop (p .at + w) moved)) ∙ sym put)

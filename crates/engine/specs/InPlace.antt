@@ -3,11 +3,12 @@
 use Prim.Native.Nat.{ℕ, _+_, _≤_}
 use mathlib.Core.Path.{_≡_}
 use mathlib.Core.Bool.{Bool, true, false, cond}
-use mathlib.Core.List.{List, _++_}
-use lib.ListN.{length, take, drop}
+use mathlib.Core.List.{List}
+use lib.ListN.{length}
 use lib.Dec.{eqb}
 use lib.Ieee.{Float}
 use Rattle.words.specs.Limits.{rowWords}
+use Rattle.words.specs.Words.{overwrite, shifted}
 use Rattle.rows.specs.declared.ring.Ring.{Ring}
 use Rattle.rows.specs.History.{width, lastRows}
 use Rattle.rows.specs.Laws.Ring.{RingFine}
@@ -28,20 +29,24 @@ use Rattle.engine.specs.declared.answer.Answer.the-variants.{Refused, Do
 use Rattle.engine.specs.Decide.{answersOf, stateAt, orderAfter}
 use Rattle.engine.specs.Step.{With, Is, Ready}
 
--- a row added: where the call has one bar the rows move up, else it goes over the oldest
-unfoldable pub keptRing : Bool → List ℕ → ℕ → ℕ → List ℕ → Ring
-keptRing true room held start row = record { held = heldWith room held row; start = 0 }
-keptRing false room held start row = ringAfter room (record { held = held; start = start }) row
+-- a row added to the rows `before`: where the call has one bar they move up, else it goes over the oldest
+unfoldable pub keptRing : Bool → List ℕ → Ring → List ℕ → Ring
+keptRing true room before row = record { held = heldWith room (before .held) row; start = 0 }
+keptRing false room before row = ringAfter room before row
 
-unfoldable pub keptRoom : Bool → List ℕ → ℕ → ℕ → List ℕ → List ℕ
-keptRoom true room held start row = withRow room held row
-keptRoom false room held start row = ringWith room (record { held = held; start = start }) row
+unfoldable pub keptRoom : Bool → List ℕ → Ring → List ℕ → List ℕ
+keptRoom true room before row = withRow room (before .held) row
+keptRoom false room before row = ringWith room before row
 
--- where a row of w words goes: the room stands as it will with the row, but for the words from `at` on
-pub record MakesPlace (one : Bool) (w : ℕ) (room : List ℕ) (held start : ℕ) (p : Place) (after : List ℕ) : Type 0 where
-  pub fits : p .at + w ≤ length after
-  pub ring : (row : List ℕ) → length row ≡ w → p .ring ≡ keptRing one room held start row
-  pub filled : (row : List ℕ) → length row ≡ w → take (p .at) after ++ row ++ drop (p .at + w) after ≡ keptRoom one room held start row
+-- a row written at a place, once the rows that move up for it have moved
+unfoldable pub rowPlaced : List ℕ → Place → List ℕ → List ℕ
+rowPlaced room p row = overwrite (shifted room (length row) (p .moved)) (p .at) row
+
+-- the place for a row of w words: it is in the room, and the row that is written there is added
+pub record PlaceFor (one : Bool) (w : ℕ) (room : List ℕ) (before : Ring) (p : Place) : Type 0 where
+  pub fits : p .at + w ≤ length room
+  pub ring : (row : List ℕ) → length row ≡ w → p .ring ≡ keptRing one room before row
+  pub added : (row : List ℕ) → length row ≡ w → rowPlaced room p row ≡ keptRoom one room before row
 
 -- what the rules read of rows that begin at row `start`
 unfoldable pub readFrom : ℕ → ℕ → ℕ → List ℕ → List ℕ

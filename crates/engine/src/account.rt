@@ -25,6 +25,7 @@ use records::settings::Settings;
 use records::state::Counts;
 use records::state::Order;
 use records::state::Position;
+use rows::ring::Ring;
 use rules::position::Entered;
 
 // The fill's order and position, the trade where it closed one, and whether its quantity is too large: the step is then refused.
@@ -93,7 +94,7 @@ fn entering(p: Position, entry: Entry, number: u64) -> Position
     }
 }
 
-// An entry at the raw price that its kind gives. The rows before this bar begin at row `start` of those held.
+// An entry at the raw price that its kind gives. The room holds the rows `before` this bar.
 fn enter(
     side: Side,
     kind: OrderKind,
@@ -102,18 +103,18 @@ fn enter(
     p: Position,
     candle: Candle,
     rows: &[u64],
-    held: usize,
-    start: usize,
+    before: Ring,
     number: u64,
 ) -> Filled
     requires { ⌜ s .slots ≤ mostSlots ⌝ }
-    ensures { λ r. ⌜ r ≡ Account.entered side kind price s p candle (ringOf (s .slots) start (heldRows (s .slots) held (now (rows .entry)))) number ⌝ }
+    ensures { λ r. ⌜ r ≡ Account.entered side kind price s p candle
+        (ringOf (s .slots) (before .start) (heldRows (s .slots) (before .held) (now (rows .entry)))) number ⌝ }
 {
     let account = p.portfolio;
     let slots = s.slots;
     let given = s.terms;
     let terms = terms::anew(given);
-    let before = record::held_rows(rows, slots, held);
+    let held = record::held_rows(rows, slots, before.held);
     let entries = s.entries;
     let fee_bps = level::fee_bps(kind, entries.maker_bps, terms.taker_bps);
     let entry = fills::execute_entry_ring(
@@ -123,9 +124,9 @@ fn enter(
         terms,
         candle,
         account,
-        before,
+        held,
         slots,
-        start,
+        before.start,
     );
     let position = entering(p, entry, number);
     Filled {
@@ -212,20 +213,20 @@ fn due_of(order: Order, candle: Candle) -> Due
     }
 }
 
-// The working order against the new bar, before its row is recorded: `rows` are those before this bar, from row `start` on. `enter` has this one
-// caller for both sides, so that it is compiled into a step and a bar with nothing due copies nothing.
+// The working order against the new bar, before its row is recorded: the room holds the rows `before` this bar. `enter` has this one caller for
+// both sides, so that it is compiled into a step and a bar with nothing due copies nothing.
 pub(crate) fn fill_working_order(
     s: Settings,
     order: Order,
     p: Position,
     candle: Candle,
     rows: &[u64],
-    held: usize,
-    start: usize,
+    before: Ring,
     number: u64,
 ) -> Filled
     requires { ⌜ s .slots ≤ mostSlots ⌝ }
-    ensures { λ r. ⌜ r ≡ Account.filled s order p candle (ringOf (s .slots) start (heldRows (s .slots) held (now (rows .entry)))) number ⌝ }
+    ensures { λ r. ⌜ r ≡ Account.filled s order p candle
+        (ringOf (s .slots) (before .start) (heldRows (s .slots) (before .held) (now (rows .entry)))) number ⌝ }
 {
     let due = due_of(order, candle);
     match due {
@@ -238,8 +239,7 @@ pub(crate) fn fill_working_order(
             p,
             candle,
             rows,
-            held,
-            start,
+            before,
             number,
         ),
         Due::Leaves => leave(s, p, candle),

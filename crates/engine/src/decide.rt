@@ -14,6 +14,7 @@ use portfolio::Portfolio;
 use records::settings::Settings;
 use records::state::Order;
 use records::state::Position;
+use rows::ring::Ring;
 use rules::position::PositionState;
 use steps::choice;
 use steps::machine;
@@ -77,7 +78,7 @@ fn order_of<'a>(
     Order::Idle
 }
 
-// The order after this bar, whose rows begin at row `start` of those held: nothing is decided below warmup, nor while an order works.
+// The order after this bar, whose row is the last of those held `after` it: nothing is decided below warmup, nor while an order works.
 pub(crate) fn decide_next_action<'a>(
     s: Settings,
     order: Order,
@@ -85,15 +86,14 @@ pub(crate) fn decide_next_action<'a>(
     number: u64,
     close: f64,
     rows: &[u64],
-    held: usize,
-    start: usize,
+    after: Ring,
     entry: &[u8],
     exit: &'a [u8],
     short_entry: &[u8],
     short_exit: &'a [u8],
 ) -> Order
-    requires { ⌜ (s .slots ≤ mostSlots) × (number < mostCount) × (held * rowWords (s .slots) ≤ length (now rows)) ⌝ }
-    ensures { λ r. ⌜ r ≡ decidedFrom s order p number close start (heldRows (s .slots) held (now (rows .entry)))
+    requires { ⌜ (s .slots ≤ mostSlots) × (number < mostCount) × (after .held * rowWords (s .slots) ≤ length (now rows)) ⌝ }
+    ensures { λ r. ⌜ r ≡ decidedFrom s order p number close (after .start) (heldRows (s .slots) (after .held) (now (rows .entry)))
         (lists (now (entry .entry)) (now («exit» .entry)) (now («short_entry» .entry)) (now («short_exit» .entry))) ⌝ }
 {
     match order {
@@ -114,14 +114,14 @@ pub(crate) fn decide_next_action<'a>(
                 entered,
                 bars_seen: number + 1,
             };
-            let window = read_from(rows, slots, s.depth, held, start);
+            let window = read_from(rows, slots, s.depth, after.held, after.start);
             order_of(
                 s.delay,
                 kind,
                 account,
                 window,
                 slots,
-                start,
+                after.start,
                 state,
                 entry,
                 exit,

@@ -13,10 +13,11 @@ use records::settings::Settings;
 use records::state::Counts;
 use records::state::Last;
 use records::state::State;
+use rows::ring::Ring;
 use words::refusal::Refusal;
 
-// The phases in order, for a bar of a call that was handed what it can use. The rows held begin at row `start` of their room. The fill is
-// known before anything is written: one that is turned away is refused with 16.
+// The phases in order, for a bar of a call that was handed what it can use. The rows held begin at row `start` of their room. The place of the
+// bar's row and the fill, over the rows before it, are known before anything is written: a fill that is turned away is refused with 16.
 pub(crate) fn advance<'a>(
     one: bool,
     s: Settings,
@@ -42,16 +43,13 @@ pub(crate) fn advance<'a>(
     let position = t.position;
     let number = n.bars_seen;
     let candle = records::bar::candle_of(bar);
-    let filled = account::fill_working_order(
-        s,
-        order,
-        position,
-        candle,
-        rows,
-        n.rows_held,
+    let before = Ring {
+        held: n.rows_held,
         start,
-        number,
-    );
+    };
+    let place = record::place_for(one, rows, before, s.slots);
+    let after = place.ring;
+    let filled = account::fill_working_order(s, order, position, candle, rows, before, number);
     if filled.turned_away {
         return Advanced {
             answer: Answer::Refused(
@@ -67,12 +65,12 @@ pub(crate) fn advance<'a>(
     let working = filled.order;
     let opened = filled.position;
     let sold = filled.exit;
-    let before = account::book(trades, n.trades, sold);
-    let kept = record::record_bar(one, rows, n.rows_held, start, bar, s.slots);
+    let booked = account::book(trades, n.trades, sold);
+    record::record_bar(rows, place, bar, s.slots);
     let left = account::apply_intrabar_exits(s, opened, candle);
     let open = left.position;
     let stopped = left.exit;
-    let closed = account::book(trades, before, stopped);
+    let closed = account::book(trades, booked, stopped);
     let charged = account::charge_funding(s, open, bar);
     let points = account::mark_equity(equity, n, candle, charged);
     let next = decide::decide_next_action(
@@ -82,8 +80,7 @@ pub(crate) fn advance<'a>(
         number,
         candle.close,
         rows,
-        kept.held,
-        kept.start,
+        after,
         entry,
         exit,
         short_entry,
@@ -94,7 +91,7 @@ pub(crate) fn advance<'a>(
         answer: Answer::Done(State {
             counts: Counts {
                 bars_seen: seen,
-                rows_held: kept.held,
+                rows_held: after.held,
                 equity_points: points,
                 trades: closed,
             },
@@ -105,6 +102,6 @@ pub(crate) fn advance<'a>(
                 close: candle.close,
             },
         }),
-        start: kept.start,
+        start: after.start,
     }
 }

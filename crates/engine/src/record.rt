@@ -1,18 +1,19 @@
 // The row of a bar, and the rows that a room holds.
 ghost use mathlib.Core.Path.{_≡_};
-ghost use Prim.Native.Nat.{_*_, _/_, _<_, _≤_};
+ghost use Prim.Native.Nat.{_+_, _*_, _/_, _<_, _≤_};
 ghost use mathlib.Core.Bool.{true};
 ghost use lib.ListN.{length, take};
 ghost use Rattle.words.specs.Limits.{rowWords, mostSlots};
 ghost use Rattle.engine.specs.Record.{rowWord, rowOf, heldRows};
 ghost use Rattle.rows.specs.Laws.Ring.{RingFine};
-ghost use Rattle.engine.specs.InPlace.{keptRing, keptRoom, MakesPlace};
+ghost use Rattle.engine.specs.InPlace.{PlaceFor, rowPlaced};
 use rows::ring::Ring;
 
-// The word of a room at which a row goes, and the rows that the room holds with it.
-struct Place {
-    at: usize,
-    ring: Ring,
+// Where a row goes: the word of its room, the words of rows that move up for it first (0 where none do), and the rows that the room holds with it.
+pub struct Place {
+    pub at: usize,
+    pub moved: usize,
+    pub ring: Ring,
 }
 
 // The first n records of a list, each of so many words; all where there are fewer.
@@ -65,16 +66,20 @@ fn fill_row(row: &mut [u64], bar: &[u64], slots: usize)
     }
 }
 
-// Where the next row goes in a room that holds `held` rows from row `start` on: behind them while there is a place. Then, in a call of one
-// bar, the rows move up for it; in a call of many it goes over the oldest.
-fn make_place(one: bool, rows: &mut [u64], held: usize, start: usize, width: usize) -> Place
-    requires { ⌜ (0 < width) × RingFine (length (now rows) / width) (record { held = held; start = start }) × (one ≡ true → start ≡ 0) ⌝ }
-    ensures { λ r. ⌜ MakesPlace one width (now (rows .entry)) held start r (now (rows .exit)) ⌝ }
+// Where the next row goes in a room that holds the rows `before`: behind them while there is a place. Then, in a call of one bar, the rows move up
+// for it; in a call of many it goes over the oldest. Nothing is written yet: the bar may still be turned away.
+pub(crate) fn place_for(one: bool, rows: &[u64], before: Ring, slots: usize) -> Place
+    requires { ⌜ (slots ≤ mostSlots) × RingFine (length (now rows) / rowWords slots) before × (one ≡ true → before .start ≡ 0) ⌝ }
+    ensures { λ r. ⌜ PlaceFor one (rowWords slots) (now (rows .entry)) before r ⌝ }
 {
+    let width = words::limits::ROW_FIXED + slots;
+    let held = before.held;
+    let start = before.start;
     let end = held * width;
     if width <= rows.len() - end {
         return Place {
             at: end,
+            moved: 0,
             ring: Ring {
                 held: held + 1,
                 start,
@@ -82,9 +87,9 @@ fn make_place(one: bool, rows: &mut [u64], held: usize, start: usize, width: usi
         };
     }
     if one {
-        words::moving::shift(rows, width, end);
         return Place {
             at: end - width,
+            moved: end,
             ring: Ring { held, start: 0 },
         };
     }
@@ -92,6 +97,7 @@ fn make_place(one: bool, rows: &mut [u64], held: usize, start: usize, width: usi
     if start < held - 1 {
         return Place {
             at,
+            moved: 0,
             ring: Ring {
                 held,
                 start: start + 1,
@@ -100,28 +106,19 @@ fn make_place(one: bool, rows: &mut [u64], held: usize, start: usize, width: usi
     }
     Place {
         at,
+        moved: 0,
         ring: Ring { held, start: 0 },
     }
 }
 
-// Adds the bar's row to a room that holds `held` rows from row `start` on. It is written where it stays.
-pub(crate) fn record_bar(
-    one: bool,
-    rows: &mut [u64],
-    held: usize,
-    start: usize,
-    bar: &[u64],
-    slots: usize,
-) -> Ring
-    requires { ⌜ (slots ≤ mostSlots) × (rowWords slots ≤ length (now bar))
-        × RingFine (length (now rows) / rowWords slots) (record { held = held; start = start }) × (one ≡ true → start ≡ 0) ⌝ }
-    ensures { λ r. ⌜ (r ≡ keptRing one (now (rows .entry)) held start (rowOf slots (now (bar .entry))))
-        × (now (rows .exit) ≡ keptRoom one (now (rows .entry)) held start (rowOf slots (now (bar .entry)))) ⌝ }
+// Writes the bar's row at its place, where it stays.
+pub(crate) fn record_bar(rows: &mut [u64], place: Place, bar: &[u64], slots: usize)
+    requires { ⌜ (slots ≤ mostSlots) × (rowWords slots ≤ length (now bar)) × (place .at + rowWords slots ≤ length (now rows)) ⌝ }
+    ensures { λ _. ⌜ now (rows .exit) ≡ rowPlaced (now (rows .entry)) place (rowOf slots (now (bar .entry))) ⌝ }
 {
     let width = words::limits::ROW_FIXED + slots;
-    let place = make_place(one, rows, held, start, width);
+    words::moving::shift(rows, width, place.moved);
     let at = place.at;
     let to = at + width;
     fill_row(&mut rows[at..to], bar, slots);
-    place.ring
 }

@@ -1,6 +1,6 @@
 -- Rows that do not move are read, and added to, as if they did.
 use Prim.Native.Nat.{ℕ, _/_}
-use mathlib.Core.Path.{_≡_, refl, ap}
+use mathlib.Core.Path.{_≡_, refl, ap, _∙_}
 use mathlib.Core.Bool.{Bool, true, false, cond}
 use mathlib.Core.List.{List}
 use native.Mathlib.Omega.{arith}
@@ -32,9 +32,10 @@ use Rattle.refusals.specs.Lines.{judged}
 use Rattle.refusals.specs.Lists.{isWell, listLines}
 use Rattle.engine.specs.declared.account.Due.{Due}
 use Rattle.engine.specs.declared.account.Due.the-variants.{Waits, Enters, Leaves}
+use Rattle.engine.specs.declared.record.Place.{Place}
 use Rattle.engine.specs.Account.{entered, dueOf, doneOf, filled}
 use Rattle.engine.specs.Decide.{listSays, answersOf, stateAt, decided}
-use Rattle.engine.specs.InPlace.{keptRing, keptRoom, readFrom, decidedFrom}
+use Rattle.engine.specs.InPlace.{keptRing, keptRoom, rowPlaced, PlaceFor, readFrom, decidedFrom}
 use Rattle.engine.specs.Laws.Lengths.{row-long, row-fits}
 use Rattle.engine.specs.Record.{rowOf, heldRows}
 
@@ -100,69 +101,61 @@ module _ (s : Settings) (ls : Lists) (fine : judged (listLines (s .slots) (s .de
             says-turned K D start ws (ls .«short_exit») st (w .«short_exit»),
           )
 
-module _ (s : Settings) (rows : List ℕ) (held start : ℕ) (ok : RingFine (length rows / width (s .slots)) (record { held = held; start = start })) where
+module _ (s : Settings) (rows : List ℕ) (ring : Ring) (ok : RingFine (length rows / width (s .slots)) ring) where
   -- the rows held, as they would stand
-  held-in-place : heldRows (s .slots) held (turned (width (s .slots)) start rows) ≡ turned (width (s .slots)) start (heldRows (s .slots) held rows)
+  held-in-place : heldRows (s .slots) (ring .held) (turned (width (s .slots)) (ring .start) rows)
+      ≡ turned (width (s .slots)) (ring .start) (heldRows (s .slots) (ring .held) rows)
   unfolding heldRows
-  held-in-place = held-turned (width (s .slots)) (record { held = held; start = start }) rows (omega arith) ok
+  held-in-place = held-turned (width (s .slots)) ring rows (omega arith) ok
 
   -- THE FILL over rows that did not move
   pub fill-in-place : (o : Order) (p : Position) (k : Candle) (n : ℕ)
-      → filled s o p k (ringOf (s .slots) start (heldRows (s .slots) held rows)) n
-      ≡ filled s o p k (historyOf (s .slots) (heldRows (s .slots) held (turned (width (s .slots)) start rows))) n
+      → filled s o p k (ringOf (s .slots) (ring .start) (heldRows (s .slots) (ring .held) rows)) n
+      ≡ filled s o p k (historyOf (s .slots) (heldRows (s .slots) (ring .held) (turned (width (s .slots)) (ring .start) rows))) n
   unfolding filled
-  fill-in-place o p k n = rw held-in-place (filled-turned (s .slots) start (heldRows (s .slots) held rows) (dueOf o k) s p k n)
+  fill-in-place o p k n = rw held-in-place (filled-turned (s .slots) (ring .start) (heldRows (s .slots) (ring .held) rows) (dueOf o k) s p k n)
 
   -- WHAT IS DECIDED over them
   pub decide-in-place : (ls : Lists) → judged (listLines (s .slots) (s .depth) ls) ≡ Fine → (o : Order) (p : Position) (n : ℕ) (close : Float)
-      → decidedFrom s o p n close start (heldRows (s .slots) held rows) ls
-      ≡ decided s o p n close (heldRows (s .slots) held (turned (width (s .slots)) start rows)) ls
+      → decidedFrom s o p n close (ring .start) (heldRows (s .slots) (ring .held) rows) ls
+      ≡ decided s o p n close (heldRows (s .slots) (ring .held) (turned (width (s .slots)) (ring .start) rows)) ls
   unfolding decidedFrom decided
-  decide-in-place ls fine o p n close = rw (held-in-place, answers-turned s ls fine start (heldRows (s .slots) held rows) (stateAt p n))
+  decide-in-place ls fine o p n close = rw (held-in-place, answers-turned s ls fine (ring .start) (heldRows (s .slots) (ring .held) rows) (stateAt p n))
 
 -- ---- writing
 
 -- A row more, kept in place: turned, the room is what it was, turned, with that row added.
-pub record Keeps (one : Bool) (K : ℕ) (room : List ℕ) (held start : ℕ) (bar : List ℕ) : Type 0 where
-  pub turns : turned (width K) (keptRing one room held start (rowOf K bar) .start) (keptRoom one room held start (rowOf K bar))
-      ≡ withRow (turned (width K) start room) held (rowOf K bar)
-  pub holds : keptRing one room held start (rowOf K bar) .held ≡ heldWith (turned (width K) start room) held (rowOf K bar)
-  pub fine : RingFine (length (keptRoom one room held start (rowOf K bar)) / width K) (keptRing one room held start (rowOf K bar))
-  pub first : one ≡ true → keptRing one room held start (rowOf K bar) .start ≡ 0
+pub record Keeps (one : Bool) (K : ℕ) (room : List ℕ) (before : Ring) (bar : List ℕ) (after : Ring) (rows : List ℕ) : Type 0 where
+  pub holds : after .held ≡ heldWith (turned (width K) (before .start) room) (before .held) (rowOf K bar)
+  pub turns : turned (width K) (after .start) rows ≡ withRow (turned (width K) (before .start) room) (before .held) (rowOf K bar)
+  pub ring : RingFine (length rows / width K) after
+  pub first : one ≡ true → after .start ≡ 0
 
-pub keeps : (one : Bool) (K : ℕ) (room : List ℕ) (held start : ℕ) (bar : List ℕ) → RingFine (length room / width K) (record { held = held; start = start })
-    → (one ≡ true → start ≡ 0) → Keeps one K room held start bar
+keeps : (one : Bool) (K : ℕ) (room : List ℕ) (before : Ring) (bar : List ℕ) → RingFine (length room / width K) before → (one ≡ true → before .start ≡ 0)
+    → Keeps one K room before bar (keptRing one room before (rowOf K bar)) (keptRoom one room before (rowOf K bar))
 unfolding keptRing keptRoom
-keeps true K room held start bar ok first =
-    let fits = row-fits K room held bar in
-    let zero : start ≡ 0 = first refl in
+keeps true K room before bar ok first =
+    let fits = row-fits K room (before .held) bar in
+    let zero : before .start ≡ 0 = first refl in
     record {
-      turns = rw (zero, turned-none, turned-none);
       holds = rw (zero, turned-none);
-      fine = rw (fits .1) (record { few = fits .0; begins = λ h. refl; within = omega (arith, ok .within) });
+      turns = rw (zero, turned-none, turned-none);
+      ring = rw (fits .1) (record { few = fits .0; begins = λ h. refl; within = omega (arith, ok .within) });
       first = λ h. refl;
     }
-keeps false K room held start bar ok first =
+keeps false K room before bar ok first =
     let w : length (rowOf K bar) ≡ width K = row-long K bar in
-    let a = ring-adds room (record { held = held; start = start }) (rowOf K bar) (omega (arith, w)) (rw w ok) in
+    let a = ring-adds room before (rowOf K bar) (omega (arith, w)) (rw w ok) in
     record {
-      turns = rw w at (a .turns);
       holds = rw w at (a .holds);
-      fine = rw w at (a .fine);
+      turns = rw w at (a .turns);
+      ring = rw w at (a .fine);
       first = λ h. absurd (let z : _≡_ {A = ℕ} 0 1 = cc in omega arith);
     }
 
--- as the code leaves the ring and the room
-pub record Placed (one : Bool) (K : ℕ) (room : List ℕ) (held start : ℕ) (bar : List ℕ) (kept : Ring) (rows : List ℕ) : Type 0 where
-  pub holds : kept .held ≡ heldWith (turned (width K) start room) held (rowOf K bar)
-  pub turns : turned (width K) (kept .start) rows ≡ withRow (turned (width K) start room) held (rowOf K bar)
-  pub ring : RingFine (length rows / width K) (record { held = kept .held; start = kept .start })
-  pub first : one ≡ true → kept .start ≡ 0
-
-pub placed : (one : Bool) (K : ℕ) (room : List ℕ) (held start : ℕ) (bar : List ℕ) → RingFine (length room / width K) (record { held = held; start = start })
-    → (one ≡ true → start ≡ 0) → {kept : Ring} {rows : List ℕ} → kept ≡ keptRing one room held start (rowOf K bar)
-    → rows ≡ keptRoom one room held start (rowOf K bar)
-    → Placed one K room held start bar kept rows
-placed one K room held start bar ok first is was =
-    let k = keeps one K room held start bar ok first in
-    rw (is, was) (record { holds = k .holds; turns = k .turns; ring = k .fine; first = k .first })
+-- THE ROW WRITTEN AT ITS PLACE is added to the rows as they would stand
+pub placed : (one : Bool) (K : ℕ) (room : List ℕ) (before : Ring) (bar : List ℕ) → RingFine (length room / width K) before → (one ≡ true → before .start ≡ 0)
+    → {p : Place} → PlaceFor one (width K) room before p → {rows : List ℕ} → rows ≡ rowPlaced room p (rowOf K bar) → Keeps one K room before bar (p .ring) rows
+placed one K room before bar ok first place was =
+    let long = row-long K bar in
+    rw (place .ring (rowOf K bar) long, was ∙ place .added (rowOf K bar) long) (keeps one K room before bar ok first)

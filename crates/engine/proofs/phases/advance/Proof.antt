@@ -12,36 +12,29 @@ use Rattle.engine.proofs.Placing.{held-ends}
 use Rattle.engine.proofs.phases.advance.Statement.{statement}
 use Rattle.engine.proofs.phases.advance.Tie as tie
 
-fill-working-order-requires : tie.Need-fill-working-order-requires
-fill-working-order-requires c κs = c .before .before .before .before .before .before .before .before .before .before .before .before .pre .ready .slots
-
 record-bar-requires : tie.Need-record-bar-requires
 record-bar-requires c κs =
-    let candle = c .before .before .before .before .before .before .before .before .before in
-    let start = candle .before .before .before .before .before .before .before .before .before .before .before in
-    (start .pre .ready .slots, start .pre .long, start .pre .at .ring, start .pre .at .first)
+    let place = c .before .before .before .before .before .before .before .before .before .before in
+    let start = place .before .before .before .before .before .before .before .before .before .before .before .before .before in
+    (start .pre .ready .slots, start .pre .long, place .place-for .ensures .fits)
 
 decide-next-action-requires : tie.Need-decide-next-action-requires
 decide-next-action-requires c κs =
-    let stop = c .before .before .before .before .before .before .before .before in
-    let sell = stop .before .before .before .before .before .before .before .before .before .before in
-    let candle = sell .before .before .before .before .before .before in
-    let start = candle .before .before .before .before .before .before .before .before .before .before .before in
-    let row = stop .before .before .before .before .before .before in
+    let row = c .before .before .before .before .before .before .before .before .before .before .before .before .before .before in
+    let place = row .before .before .before .before .before .before .before .before .before .before .before in
+    let start = place .before .before .before .before .before .before .before .before .before .before .before .before .before in
     let a = start .args in
-    let n = a .t .counts in
-    let kept = placed (a .one) (a .s .slots) (a .rows .now) (n .«rows_held») (a .start) (a .bar .now) (start .pre .at .ring) (start .pre .at .first)
-    (row .record-bar .ensures .0) (row .record-bar .ensures .1) in
-    let ring = row .record-bar .result in
-    let ends = held-ends (row .record-bar .last .1 .0) (ring .held) (ring .start) (width (a .s .slots)) (omega arith) (kept .ring) in
+    let kept = placed (a .one) (a .s .slots) (a .rows .now) _ (a .bar .now) (start .pre .at .ring) (start .pre .at .first)
+    (place .place-for .ensures) (row .record-bar .ensures) in
+    let ends = held-ends (row .record-bar .last .0) (place .place-for .result .ring) (width (a .s .slots)) (omega arith) (kept .ring) in
     (start .pre .ready .slots, start .pre .ready .bars, ends)
 
 add-seen : tie.Need-add-seen
 add-seen c =
     let stop = c .before .before .before .before .before .before .before .before .before in
     let sell = stop .before .before .before .before .before .before .before .before .before .before in
-    let candle = sell .before .before .before .before .before .before in
-    let start = candle .before .before .before .before .before .before .before .before .before .before .before in
+    let place = sell .before .before .before .before .before .before .before in
+    let start = place .before .before .before .before .before .before .before .before .before .before .before .before .before in
     omega (arith, start .pre .ready .bars)
 
 same-length-4 : tie.Need-same-length-4
@@ -54,11 +47,10 @@ same-length-4 c =
 returns : tie.Need-returns
 returns c =
     let fill = c .before in
-    let candle = fill .before .before in
+    let candle = fill .before .before .before .before .before in
     let start = candle .before .before .before .before .before .before .before .before .before .before .before in
     let a = start .args in
-    let n = a .t .counts in
-    let same = fill-in-place (a .s) (a .rows .now) (n .«rows_held») (a .start) (start .pre .at .ring) (a .t .order) (a .t .position) _ (n .«bars_seen») in
+    let same = fill-in-place (a .s) (a .rows .now) _ (start .pre .at .ring) (a .t .order) (a .t .position) _ (a .t .counts .«bars_seen») in
     record {
       answer = away (a .s) (a .t) (a .bar .now) (rooms (turned (width (a .s .slots)) (a .start) (a .rows .now)) (a .equity .now) (a .trades .now))
           (lists (a .entry .now) (a .exit .now) (a .«short-entry» .now) (a .«short-exit» .now))
@@ -75,16 +67,16 @@ returns-2 c =
     let row = left .before .before .before in
     let sell = left .before .before .before .before .before .before .before in
     let fill = sell .before .before .before .before in
-    let candle = fill .before .before in
+    let place = fill .before .before .before in
+    let candle = place .before .before in
     let start = candle .before .before .before .before .before .before .before .before .before .before .before in
     let a = start .args in
-    let n = a .t .counts in
     let m : Rooms = rooms (turned (width (a .s .slots)) (a .start) (a .rows .now)) (a .equity .now) (a .trades .now) in
     let ls : Lists = lists (a .entry .now) (a .exit .now) (a .«short-entry» .now) (a .«short-exit» .now) in
-    let same = fill-in-place (a .s) (a .rows .now) (n .«rows_held») (a .start) (start .pre .at .ring) (a .t .order) (a .t .position) _ (n .«bars_seen») in
-    let kept = placed (a .one) (a .s .slots) (a .rows .now) (n .«rows_held») (a .start) (a .bar .now) (start .pre .at .ring) (start .pre .at .first)
-    (row .record-bar .ensures .0) (row .record-bar .ensures .1) in
-    let decides = decide-in-place (a .s) _ _ _ (kept .ring) ls (start .pre .lists) _ _ _ _ in
+    let same = fill-in-place (a .s) (a .rows .now) _ (start .pre .at .ring) (a .t .order) (a .t .position) _ (a .t .counts .«bars_seen») in
+    let kept = placed (a .one) (a .s .slots) (a .rows .now) _ (a .bar .now) (start .pre .at .ring) (start .pre .at .first)
+    (place .place-for .ensures) (row .record-bar .ensures) in
+    let decides = decide-in-place (a .s) _ _ (kept .ring) ls (start .pre .lists) _ _ _ _ in
     record {
       answer = goes (a .s) (a .t) (a .bar .now) m ls (candle .candle-of .ensures) (fill .fill-working-order .ensures ∙ same)
           (sell .before .before .before .if1 .left) _ _ _ _
@@ -107,7 +99,8 @@ advance-spec =
     tie.close
     (tie.spec
     (λ c κs. search needs)
-    fill-working-order-requires
+    (λ c κs. search needs)
+    (λ c κs. search needs)
     (λ c. search needs)
     returns
     (λ c κs. search needs)

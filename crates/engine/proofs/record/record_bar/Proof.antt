@@ -1,17 +1,20 @@
--- The row is written where there is place for it: all else of the room stands. Assumes nothing.
+-- The rows move up where they must, and the row is written at its place: all else of the room stands. Assumes nothing.
+use native.Mathlib.Omega.{arith}
 use borrow.Author.Needs.{needs}
 use Rattle.engine.specs.Laws.Lengths.{row-long}
+use Rattle.engine.specs.Record.{rowOf}
 use Rattle.engine.proofs.Placing.{written}
 use Rattle.engine.proofs.record.record_bar.Statement.{statement}
 use Rattle.engine.proofs.record.record_bar.Tie as tie
 
 returns : tie.Need-returns
 returns c =
-    let filled = c .before .before .before in
-    let placed = filled .before .before .before .before in
-    let a = placed .before .before .before .before .args in
-    let long = row-long (a .slots) (a .bar .now) in
-    (placed .make-place .ensures .ring _ long, written (placed .make-place .ensures) _ long (filled .fill-row .ensures))
+    let row = c .before .before in
+    let up = row .before .before .before .before in
+    let start = up .before .before .before .before in
+    let a = start .args in
+    written (a .rows .now) _ (a .place) (rowOf (a .slots) (a .bar .now)) (row-long (a .slots) (a .bar .now)) (up .shift .ensures)
+    (omega (arith, start .pre .2, up .shift .kept .0)) (row .fill-row .ensures)
 
 pub record-bar-spec : {M : Type 1} → statement M
 record-bar-spec =
