@@ -19,7 +19,7 @@ use Rattle.refusals.specs.Judgement.{finishJudged}
 use Rattle.refusals.specs.Laws.Lines.{below-fine, below-bad}
 use Rattle.engine.specs.declared.answer.Finished.{Finished}
 use Rattle.engine.specs.declared.answer.Finished.the-variants.{Refused, Done}
-use Rattle.engine.specs.declared.ending.Ended.{Ended}
+use Rattle.engine.specs.declared.answer.Ended.{Ended}
 use Rattle.engine.specs.Step.{With, Is}
 use Rattle.engine.specs.Finish.{ended, concluded, finishOf}
 use Rattle.capi.specs.Call.{Call, answerWord, metricLines}

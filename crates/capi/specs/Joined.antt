@@ -22,7 +22,7 @@ use Rattle.refusals.specs.Lines.{judged}
 use Rattle.refusals.specs.Rooms.{roomLines}
 use Rattle.refusals.specs.Judgement.{runLines, stepLines, stepJudged, finishLines, finishJudged}
 use Rattle.refusals.specs.Laws.Lines.{below-bad, fine-adds-nothing, both-fine}
-use Rattle.engine.specs.declared.ending.Ended.{Ended}
+use Rattle.engine.specs.declared.answer.Ended.{Ended}
 use Rattle.engine.specs.Finish.{ended, concluded, finishOf}
 use Rattle.runs.specs.Laws.Floats.{step-floats, run-floats, end-floats}
 use Rattle.words.specs.Laws.Overwrite.{overwrite-length}

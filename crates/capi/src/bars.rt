@@ -85,7 +85,7 @@ pub extern "C" fn ysh_finish(
     if let Verdict::Bad(refusal) = judge_metrics(metrics) {
         return answer_word(refusal);
     }
-    let finished = engine::finish(chosen, state_of(state), rows, equity, trades);
+    let finished = ending::finish(chosen, state_of(state), rows, equity, trades);
     match finished {
         Finished::Refused(refusal, _) => answer_word(refusal),
         Finished::Done(next, figures) => {

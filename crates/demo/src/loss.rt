@@ -93,7 +93,7 @@ fn say_trades(whole: &[u64], count: usize, before: &[u64], m: usize, after: &[u6
 
 // The end of the run: its trades.
 fn finished(state: State, rows: &[u64], equity: &mut [u64], trades: &mut [u64]) -> usize {
-    match engine::finish(crate::settings(), state, rows, equity, trades) {
+    match ending::finish(crate::settings(), state, rows, equity, trades) {
         Finished::Refused(_, _) => 0,
         Finished::Done(last, _) => {
             let counts = last.counts;

@@ -313,7 +313,7 @@ fn say_metrics(m: Metrics) {
 
 // The end of the run; how many trades it made.
 fn say_end(state: State, rows: &[u64], equity: &mut [u64], trades: &mut [u64]) -> usize {
-    match engine::finish(settings(), state, rows, equity, trades) {
+    match ending::finish(settings(), state, rows, equity, trades) {
         Finished::Refused(refusal, _) => {
             say_refusal(refusal.number, refusal.place);
             0

@@ -3,4 +3,3 @@ pub mod Placing
 pub mod Dues
 pub mod OneBar
 pub mod Days
-pub mod Endings

@@ -22,7 +22,7 @@ use Rattle.refusals.specs.declared.verdict.Verdict.the-variants.{Fine, Bad}
 use Rattle.refusals.specs.Judgement.{finishJudged}
 use Rattle.records.specs.Lent.{Rooms}
 use Rattle.refusals.specs.Rooms.{toClose}
-use Rattle.engine.specs.declared.ending.Ended.{Ended}
+use Rattle.engine.specs.declared.answer.Ended.{Ended}
 use Rattle.engine.specs.declared.answer.Finished.{Finished}
 use Rattle.engine.specs.declared.answer.Finished.the-variants.{Refused, Done}
 use Rattle.engine.specs.Account.{leaving}

@@ -50,7 +50,7 @@ pub struct Left {
 }
 
 // A position that was left has no entry bar.
-pub(crate) fn leaving(p: Position, exit: Exit) -> Position
+pub fn leaving(p: Position, exit: Exit) -> Position
     ensures { λ r. ⌜ r ≡ leaving p «exit» ⌝ }
 {
     match exit {
@@ -280,7 +280,7 @@ pub(crate) fn charge_funding(s: Settings, p: Position, bar: &[u64]) -> Position
 }
 
 // Adds the trade, where there is one, to a room that holds n; the result is how many it holds then.
-pub(crate) fn book(trades: &mut [u64], n: usize, exit: Exit) -> usize
+pub fn book(trades: &mut [u64], n: usize, exit: Exit) -> usize
     ensures { λ r. ⌜ (r ≡ booked (now (trades .entry)) n «exit» .count) × (now (trades .exit) ≡ booked (now (trades .entry)) n «exit» .room) ⌝ }
 {
     match exit {

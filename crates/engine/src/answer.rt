@@ -9,6 +9,12 @@ pub enum Answer {
     Done(State),
 }
 
+// The state and the figures of a run that has ended.
+pub struct Ended {
+    pub state: State,
+    pub metrics: Metrics,
+}
+
 // What finish gives: the last state and the figures, or a refusal with the state that was given.
 pub enum Finished {
     Refused(Refusal, State),

@@ -1,19 +1,16 @@
-// One bar, and the end of a run: the Rust's engine.rs. A step fills the working order, records the row, looks for exits
+// One bar: the Rust's engine.rs. A step fills the working order, records the row, looks for exits
 // inside the bar, charges funding, marks the equity and decides, in that order.
-mod account;
+pub mod account;
 pub mod answer;
 pub mod day;
 mod decide;
-mod ending;
 mod phases;
-mod record;
+pub mod record;
 mod terms;
 
 ghost use Rattle.records.specs.Lent.{rooms, lists};
-ghost use Rattle.engine.specs.Finish.{finishOf};
 ghost use Rattle.engine.specs.Step.{Is, stepAnswer};
 use answer::Answer;
-use answer::Finished;
 use records::settings::Settings;
 use records::state::State;
 use refusals::verdict::Verdict;
@@ -54,29 +51,5 @@ pub fn step<'a>(
     match verdict {
         Verdict::Bad(refusal) => Answer::Refused(refusal, state),
         Verdict::Fine => Answer::Done(state),
-    }
-}
-
-// The end of a run: an open position is closed at the last close, the last equity point counts its fee, and the figures are made. Of
-// the rows nothing is read: they are handed over so that the state is judged by all the rooms that it counts.
-pub fn finish(
-    s: Settings,
-    t: State,
-    rows: &[u64],
-    equity: &mut [u64],
-    trades: &mut [u64],
-) -> Finished
-    ensures { λ r. ⌜ Is Finished (finishOf s t (rooms (now (rows .entry)) (now (equity .entry)) (now (trades .entry))))
-        r (now (rows .entry)) (now (equity .exit)) (now (trades .exit)) ⌝ }
-{
-    let verdict = refusals::judge_finish(s, t, rows, equity, trades);
-    match verdict {
-        Verdict::Bad(refusal) => Finished::Refused(refusal, t),
-        Verdict::Fine => {
-            let ended = ending::conclude(s, t, rows, equity, trades);
-            let state = ended.state;
-            let metrics = ended.metrics;
-            Finished::Done(state, metrics)
-        }
     }
 }

@@ -17,10 +17,13 @@ pub struct Place {
 }
 
 // The first n records of a list, each of so many words; all where there are fewer.
-pub(crate) fn first_records(list: &[u64], n: usize, words: usize) -> &[u64]
-    requires { ⌜ 0 < words ⌝ }
+pub fn first_records(list: &[u64], n: usize, words: usize) -> &[u64]
     ensures { λ r. ⌜ now r ≡ take (n * words) (now (list .entry)) ⌝ }
 {
+    let none: usize = 0;
+    if words == 0 {
+        return &list[..none];
+    }
     if list.len() / words < n {
         return list;
     }

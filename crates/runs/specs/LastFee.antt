@@ -33,7 +33,7 @@ use Rattle.refusals.specs.Lines.{judged}
 use Rattle.refusals.specs.Laws.Lines.{and-true, first-holds, below-fine, both-fine}
 use Rattle.refusals.specs.Rooms.{roomLines, stateLines, toClose, closeLines}
 use Rattle.refusals.specs.Settings.{settingLines}
-use Rattle.engine.specs.declared.ending.Ended.{Ended}
+use Rattle.engine.specs.declared.answer.Ended.{Ended}
 use Rattle.engine.specs.declared.answer.Finished.the-variants.{Done}
 use Rattle.engine.specs.Account.{leaving}
 use Rattle.runs.specs.AsMeant.{figures}

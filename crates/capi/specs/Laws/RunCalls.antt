@@ -25,7 +25,7 @@ use Rattle.refusals.specs.Laws.Numbers.{numbered, number-within, both-numbered,
 use Rattle.refusals.specs.Laws.Places.{named, named-placed, place-below, finish-place}
 use Rattle.engine.specs.declared.answer.Answer.{Answer}
 use Rattle.engine.specs.declared.answer.Answer.the-variants.{Refused, Done}
-use Rattle.engine.specs.declared.ending.Ended.{Ended}
+use Rattle.engine.specs.declared.answer.Ended.{Ended}
 use Rattle.engine.specs.declared.answer.Finished.{Finished}
 use Rattle.engine.specs.declared.answer.Finished.the-variants.{Refused as NotEnded, Done as AtEnd}
 use Rattle.engine.specs.Step.{With, sizeLines, stepVerdict, stepAnswer}

@@ -1,8 +1,8 @@
 -- Field by field. Assumes nothing.
 use borrow.Author.Needs.{needs}
 use Rattle.engine.specs.Finish.{endState}
-use Rattle.engine.proofs.ending.end_state.Statement.{statement}
-use Rattle.engine.proofs.ending.end_state.Tie as tie
+use Rattle.ending.proofs.closing.end_state.Statement.{statement}
+use Rattle.ending.proofs.closing.end_state.Tie as tie
 
 pub end-state-spec : {M : Type 1} → statement M
 unfolding endState

@@ -1,10 +1,11 @@
 // The end of a run: the last trade and the figures.
 ghost use mathlib.Core.Path.{_≡_};
 ghost use Rattle.records.specs.Lent.{rooms};
 ghost use Rattle.engine.specs.Finish.{lastExit, remarked, endState, measured, ended};
 ghost use Rattle.engine.specs.Step.{Is};
-use crate::account;
-use crate::record;
+use engine::account;
+use engine::answer::Ended;
+use engine::record;
 use execution::costs;
 use execution::fills::Exit;
 use metrics::Metrics;
@@ -12,12 +13,6 @@ use portfolio::END;
 use records::settings::Settings;
 use records::state::Counts;
 use records::state::State;
-
-// The state and the figures of a run that has ended.
-pub struct Ended {
-    pub state: State,
-    pub metrics: Metrics,
-}
 
 // The exit at the last close, where a position is open and a bar was seen.
 fn last_exit(s: Settings, t: State) -> Exit

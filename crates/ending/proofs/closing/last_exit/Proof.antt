@@ -1,9 +1,9 @@
 -- The test decides the case. Assumes nothing.
 use mathlib.Core.Path.{sym, _∙_}
 use borrow.Author.Needs.{needs}
 use Rattle.engine.specs.Finish.{lastExit}
-use Rattle.engine.proofs.ending.last_exit.Statement.{statement}
-use Rattle.engine.proofs.ending.last_exit.Tie as tie
+use Rattle.ending.proofs.closing.last_exit.Statement.{statement}
+use Rattle.ending.proofs.closing.last_exit.Tie as tie
 
 returns : tie.Need-returns
 unfolding lastExit

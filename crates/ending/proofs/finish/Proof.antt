@@ -1,9 +1,9 @@
 -- The judgement decides: refused, or the end of the run. Assumes nothing.
 use mathlib.Core.Path.{sym, _∙_}
 use borrow.Author.Needs.{needs}
-use Rattle.engine.proofs.Endings.{refused, went}
-use Rattle.engine.proofs.finish.Statement.{statement}
-use Rattle.engine.proofs.finish.Tie as tie
+use Rattle.ending.proofs.Endings.{refused, went}
+use Rattle.ending.proofs.finish.Statement.{statement}
+use Rattle.ending.proofs.finish.Tie as tie
 
 returns : tie.Need-returns
 returns c =

@@ -1,10 +1,10 @@
 -- By the cases of the exit; where there is no point, or none in the room, nothing is done.
 use mathlib.Core.Path.{_∙_}
 use borrow.Author.Needs.{needs}
 use Rattle.engine.specs.Finish.{remarked}
-use Rattle.engine.proofs.Endings.{no-point, late-point, last-point}
-use Rattle.engine.proofs.ending.remark.Statement.{statement}
-use Rattle.engine.proofs.ending.remark.Tie as tie
+use Rattle.ending.proofs.Endings.{no-point, late-point, last-point}
+use Rattle.ending.proofs.closing.remark.Statement.{statement}
+use Rattle.ending.proofs.closing.remark.Tie as tie
 
 returns : tie.Need-returns
 returns c = no-point _ _ _ _ (c .if1 .taken)

@@ -20,12 +20,12 @@ use Rattle.records.specs.declared.state.State.{State}
 use Rattle.refusals.specs.declared.verdict.Verdict.the-variants.{Fine, Bad}
 use Rattle.refusals.specs.Judgement.{finishJudged}
 use Rattle.records.specs.Lent.{Rooms}
-use Rattle.engine.specs.declared.ending.Ended.{Ended}
+use Rattle.engine.specs.declared.answer.Ended.{Ended}
 use Rattle.engine.specs.declared.answer.Finished.{Finished}
 use Rattle.engine.specs.declared.answer.Finished.the-variants.{Refused, Done}
 use Rattle.engine.specs.Books.{booked}
 use Rattle.engine.specs.Finish.{lastExit, remarked, endState, measured, ended, concluded, finishOf}
 use Rattle.engine.specs.Step.{Is}
 
 -- the last point: there is none, it lies past the room, or it is written
 pub no-point : (room : List ℕ) (n : ℕ) (x : Exit) (close : Float) → n ≡ 0 → room ≡ remarked room n x close

@@ -1,8 +1,8 @@
 -- The exit, the trade, the last point, the state and the figures, each by its own definition. Assumes nothing.
 use borrow.Author.Needs.{needs}
-use Rattle.engine.proofs.Endings.{endings}
-use Rattle.engine.proofs.ending.conclude.Statement.{statement}
-use Rattle.engine.proofs.ending.conclude.Tie as tie
+use Rattle.ending.proofs.Endings.{endings}
+use Rattle.ending.proofs.closing.conclude.Statement.{statement}
+use Rattle.ending.proofs.closing.conclude.Tie as tie
 
 returns : tie.Need-returns
 returns c =
