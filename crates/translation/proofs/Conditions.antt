@@ -2,7 +2,7 @@
 use Prim.Native.Nat.{ℕ, zero, suc, _+_, _-_, _≤_}
 use mathlib.Core.Path.{_≡_, refl}
 use mathlib.Core.Bool.{Bool, true, false, not}
-use mathlib.Core.List.{List, [], _∷_, _++_}
+use mathlib.Core.List.{List, [], _∷_, _++_, append-assoc}
 use native.Mathlib.Omega.{arith}
 use native.Mathlib.Numerals.{sub-one}
 use lib.ListN.{length}
@@ -84,21 +84,21 @@ module _ (c : Condition) (cs : Conditions) where
 
 -- ---- the steps of the tests on operands
 
-pub code-compare : (k : ℕ) (a b : Operand) → codeOf (compare k a b) ≡ code a 0 ++ (code b 0 ++ Compare k ∷ [])
+pub code-compare : (k : ℕ) (a b : Operand) → codeOf (compare k a b) ≡ (code a 0 ++ code b 0) ++ Compare k ∷ []
 unfolding codeOf
-code-compare k a b = refl
+code-compare k a b = simp append-assoc
 
-pub code-cross : (k : ℕ) (a b : Operand) → codeOf (cross k a b) ≡ code a 0 ++ (code b 0 ++ (code a 1 ++ (code b 1 ++ Cross k ∷ [])))
+pub code-cross : (k : ℕ) (a b : Operand) → codeOf (cross k a b) ≡ (code a 0 ++ code b 0) ++ ((code a 1 ++ code b 1) ++ Cross k ∷ [])
 unfolding codeOf
-code-cross k a b = refl
+code-cross k a b = simp append-assoc
 
-pub code-between : (x l u : Operand) → codeOf (between x l u) ≡ code x 0 ++ (code l 0 ++ (code u 0 ++ Between ∷ []))
+pub code-between : (x l u : Operand) → codeOf (between x l u) ≡ code x 0 ++ ((code l 0 ++ code u 0) ++ Between ∷ [])
 unfolding codeOf
-code-between x l u = refl
+code-between x l u = simp append-assoc
 
-pub code-trend : (k : ℕ) (a : Operand) (n : ℕ) → codeOf (trend k a n) ≡ code a 0 ++ (code a n ++ Compare (trendTest k) ∷ [])
+pub code-trend : (k : ℕ) (a : Operand) (n : ℕ) → codeOf (trend k a n) ≡ (code a 0 ++ code a n) ++ Compare (trendTest k) ∷ []
 unfolding codeOf
-code-trend k a n = refl
+code-trend k a n = simp append-assoc
 
 -- ---- their operands' reach
 
@@ -107,11 +107,11 @@ module _ (k : ℕ) (a b : Operand) where
   unfolding reachOf
   compare-reach h = omega arith
 
-  pub cross-reach : reachOf (cross k a b) ≤ 4096 → (1 + reach a ≤ 8192) × (1 + reach b ≤ 8192)
+  pub cross-reach : reachOf (cross k a b) ≤ 4096 → (back : ℕ) → back ≤ 1 → (back + reach a ≤ 8192) × (back + reach b ≤ 8192)
   unfolding reachOf
-  cross-reach h = omega arith
+  cross-reach h back near = omega arith
 
-pub between-reach : (x l u : Operand) → reachOf (between x l u) ≤ 4096 → (0 + reach x ≤ 8192) × (0 + reach l ≤ 8192) × (0 + reach u ≤ 8192)
+pub between-reach : (x l u : Operand) → reachOf (between x l u) ≤ 4096 → (0 + reach x ≤ 8192) × ((0 + reach l ≤ 8192) × (0 + reach u ≤ 8192))
 unfolding reachOf
 between-reach x l u h = omega arith
 

@@ -1,11 +1,10 @@
 -- A tree of an accepted table has room for its steps, and its look-backs are small.
-use Prim.Native.Nat.{ℕ, suc, _+_, _*_, _≤_, _<_}
-use mathlib.Core.Path.{_≡_, refl, sym, _∙_}
-use mathlib.Core.List.{List, [], _∷_, _++_, append-assoc}
+use Prim.Native.Nat.{ℕ, _+_, _*_, _≤_, _<_}
+use mathlib.Core.Path.{_≡_, sym, _∙_}
+use mathlib.Core.List.{List, [], _++_}
 use native.Mathlib.Omega.{arith}
 use mathlib.Core.Bool.{true, false}
-use lib.ListN.{length, set, drop, length-append}
-use lib.Seq.{set-append-seam}
+use lib.ListN.{length, drop}
 use lib.Dec.{ltb}
 use borrow.Author.Tests.{eq-eqb, ne-eqb, lt-ltb, le-ltb}
 use Rattle.words.specs.declared.refusal.Refusal.{Refusal}
@@ -26,26 +25,19 @@ use Rattle.table.specs.Header.{treeNumber}
 use Rattle.rules.specs.Laws.Answers.{tree-of-four}
 use Rattle.steps.specs.declared.translated.Translated.the-variants.{Writes, Refuses}
 use Rattle.steps.specs.declared.step.Op.{Op}
-use Rattle.steps.specs.Bytes.{writeFrom, write, written, bytesOf, Fits, Wrote}
+use Rattle.steps.specs.Bytes.{written, bytesOf, Fits, Wrote}
 use Rattle.steps.specs.Translation.{codeOf}
 use Rattle.steps.specs.Translating.{stepsOf, roomFor, writesOr, afterTable, translates, roomAfter, roomLeft}
 use Rattle.steps.specs.Room.{two-a-node}
-use Rattle.translation.proofs.Writes.{length-bytes}
+use Rattle.steps.specs.Laws.Encoding.{steps-long}
+use Rattle.translation.proofs.Writes.{bytes-there}
 
 -- ---- what is written at the front of a room
 
-from-front : (pre l vs : List ℕ) (j : ℕ) → j ≡ length pre → length vs ≤ length l → writeFrom (pre ++ l) 0 j vs ≡ pre ++ (vs ++ drop (length vs) l)
-from-front pre l [] j e fit = refl
-from-front pre [] (v ∷ vs) j e fit = absurd (omega arith)
-from-front pre (y ∷ ys) (v ∷ vs) j e fit =
-    let at : 0 + j ≡ length pre = omega arith in
-    let put : set (pre ++ y ∷ ys) (0 + j) v ≡ (pre ++ v ∷ []) ++ ys = rw at (set-append-seam pre y ys v ∙ sym (append-assoc pre (v ∷ []) ys)) in
-    let on : suc j ≡ length (pre ++ v ∷ []) = omega (arith, length-append pre (v ∷ [])) in
-    rw put (from-front (pre ++ v ∷ []) ys vs (suc j) on (omega arith) ∙ append-assoc pre (v ∷ []) (vs ++ drop (length vs) ys))
-
 front : (l : List ℕ) (xs : List Op) → Fits l 0 xs → written l 0 xs ≡ bytesOf xs ++ drop (length (bytesOf xs)) l
-unfolding write
-front l xs f = from-front [] l (bytesOf xs) 0 refl (omega (arith, length-bytes xs, f .bytes))
+front l xs f =
+    let on : 0 + length (bytesOf xs) ≡ length (bytesOf xs) = omega arith in
+    rw on at (bytes-there l 0 (bytesOf xs) (omega (arith, steps-long xs, f .bytes)))
 
 -- ---- an accepted table
 

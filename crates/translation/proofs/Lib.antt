@@ -1,5 +1,5 @@
 pub mod Writes
 pub mod Operands
 pub mod Conditions
-pub mod Falls
+pub mod Links
 pub mod Fitting

@@ -1,12 +1,13 @@
 -- Laws of writing bytes into a room. Assumes nothing.
-use Prim.Native.Nat.{ℕ, suc, _+_, _-_, _*_, _/_, _%_, _<_, _≤_}
+use Prim.Native.Nat.{ℕ, suc, _+_, _*_, _/_, _%_, _<_, _≤_}
 use mathlib.Core.Path.{_≡_, refl, sym, ap, _∙_}
 use mathlib.Core.List.{List, [], _∷_, _++_, append-assoc}
 use native.Mathlib.Omega.{arith}
-use lib.ListN.{length, set, length-set, length-append}
-use lib.Seq.{set-comm}
+use lib.ListN.{length, set, take, drop, length-set, length-append}
+use lib.Seq.{set-comm, set-set, sets, sets-eq}
 use Rattle.steps.specs.declared.step.Op.{Op}
 use Rattle.steps.specs.Bytes.{write, writeFrom, bytesOf, stepBytes, stepOf, fields, four, eight, written, Fits, Wrote}
+use Rattle.steps.specs.Laws.Encoding.{steps-long}
 
 length-from : (l : List ℕ) (i j : ℕ) (vs : List ℕ) → length (writeFrom l i j vs) ≡ length l
 length-from l i j [] = refl
@@ -39,19 +40,11 @@ unfolding bytesOf
 bytes-append [] ys = refl
 bytes-append (x ∷ xs) ys = rw (bytes-append xs ys) (sym (append-assoc (stepBytes (stepOf x)) (bytesOf xs) (bytesOf ys)))
 
-pub length-bytes : (xs : List Op) → length (bytesOf xs) ≡ 16 * length xs
-unfolding bytesOf stepBytes
-length-bytes [] = refl
-length-bytes (x ∷ xs) = omega (arith, length-bytes xs)
-
 -- steps written from place `at` on, and then more
 pub then : (l : List ℕ) (at : ℕ) (xs ys : List Op) → written (written l at xs) (at + length xs) ys ≡ written l at (xs ++ ys)
 then l at xs ys =
-    let on : 16 * (at + length xs) ≡ 16 * at + length (bytesOf xs) = omega (arith, length-bytes xs) in
+    let on : 16 * (at + length xs) ≡ 16 * at + length (bytesOf xs) = omega (arith, steps-long xs) in
     rw (bytes-append xs ys, on) (sym (write-append l (16 * at) (bytesOf xs) (bytesOf ys)))
-
-pub length-written : (l : List ℕ) (at : ℕ) (xs : List Op) → length (written l at xs) ≡ length l
-length-written l at xs = length-write l (16 * at) (bytesOf xs)
 
 -- one step
 pub one : (l : List ℕ) (i : ℕ) (x : Op) → write l i (stepBytes (stepOf x)) ≡ write l i (bytesOf (x ∷ []))
@@ -91,12 +84,43 @@ from-before l a b i j [] ys le = refl
 from-before l a b i j (x ∷ xs) ys le =
     rw (set-before l (a + b) x i j ys (omega arith)) (from-before (set l (a + b) x) a (suc b) i j xs ys (omega arith))
 
--- what stands first may be written last: a jump's step, once what it passes over is written
-pub write-before : (l : List ℕ) (i : ℕ) (xs ys : List ℕ) → write (write l (i + length xs) ys) i xs ≡ write l i (xs ++ ys)
+-- what stands first may be written last
+write-before : (l : List ℕ) (i : ℕ) (xs ys : List ℕ) → write (write l (i + length xs) ys) i xs ≡ write l i (xs ++ ys)
 unfolding write
 write-before l i xs ys = from-before l i 0 (i + length xs) 0 xs ys (omega arith) ∙ sym (unfold write in write-append l i xs ys)
 
+-- bytes over as many bytes
+over-from : (l : List ℕ) (i j : ℕ) (xs ys : List ℕ) → length xs ≡ length ys → writeFrom (writeFrom l i j xs) i j ys ≡ writeFrom l i j ys
+over-from l i j [] [] e = refl
+over-from l i j [] (y ∷ ys) e = absurd (omega arith)
+over-from l i j (x ∷ xs) [] e = absurd (omega arith)
+over-from l i j (x ∷ xs) (y ∷ ys) e =
+    rw (set-before (set l (i + j) x) (i + j) y i (suc j) xs (omega arith), set-set) (over-from (set l (i + j) y) i (suc j) xs ys (omega arith))
+
+-- and more behind them
+write-over : (l : List ℕ) (i : ℕ) (xs ys zs : List ℕ) → length xs ≡ length ys → write (write l i (xs ++ zs)) i ys ≡ write l i (ys ++ zs)
+write-over l i xs ys zs e =
+    rw (← write-before l i xs zs, e) (unfold write in over-from (write l (i + length ys) zs) i 0 xs ys e ∙ write-before l i ys zs)
+
+-- ---- where the bytes stand
+
+-- the same as the library's run of stores
+from-sets : (l : List ℕ) (i j : ℕ) (vs : List ℕ) → writeFrom l i j vs ≡ sets l (i + j) vs
+from-sets l i j [] = refl
+from-sets l i j (v ∷ vs) = from-sets (set l (i + j) v) i (suc j) vs ∙ ap (λ (k : ℕ). sets (set l (i + j) v) k vs) (omega arith)
+
+-- between the bytes before them and those behind
+pub bytes-there : (l : List ℕ) (i : ℕ) (vs : List ℕ) → i + length vs ≤ length l → write l i vs ≡ take i l ++ (vs ++ drop (i + length vs) l)
+unfolding write
+bytes-there l i vs fit =
+    from-sets l i 0 vs ∙ ap (λ (k : ℕ). sets l k vs) (omega arith) ∙ sets-eq vs l i fit
+    ∙ append-assoc (take i l) vs (drop (i + length vs) l)
+
 -- ---- calls that write steps, one after the other
+
+-- the room stays as long as it was
+pub length-wrote : {l l′ : List ℕ} {at p : ℕ} {xs : List Op} → Wrote l at xs l′ p → length l′ ≡ length l
+length-wrote {l} {at = at} {xs = xs} w = ap length (w .bytes) ∙ length-write l (16 * at) (bytesOf xs)
 
 module _ {l : List ℕ} {at : ℕ} (xs ys : List Op) where
   pub fits-first : Fits l at (xs ++ ys) → Fits l at xs
@@ -104,9 +128,7 @@ module _ {l : List ℕ} {at : ℕ} (xs ys : List Op) where
 
   module _ {l′ : List ℕ} {p : ℕ} (w : Wrote l at xs l′ p) where
     pub fits-rest : Fits l at (xs ++ ys) → Fits l′ p ys
-    fits-rest f =
-        let same : length l′ ≡ length l = ap length (w .bytes) ∙ length-written l at xs in
-        record { bytes = omega (arith, length-append xs ys, f .bytes, w .place) }
+    fits-rest f = record { bytes = omega (arith, length-append xs ys, length-wrote w, f .bytes, w .place) }
 
     pub wrote-then : {l″ : List ℕ} {q : ℕ} → Wrote l′ p ys l″ q → Wrote l at (xs ++ ys) l″ q
     wrote-then v =
@@ -121,31 +143,13 @@ fits-one x f = f .bytes
 pub wrote-one : (l : List ℕ) (at : ℕ) (x : Op) (l′ : List ℕ) (p : ℕ) → p ≡ at + 1 → l′ ≡ write l (16 * at) (stepBytes (stepOf x)) → Wrote l at (x ∷ []) l′ p
 wrote-one l at x l′ p e f = record { place = e; bytes = f ∙ one l (16 * at) x }
 
--- a jump's step is written last, once what it passes over stands after it
-module _ {l : List ℕ} {at : ℕ} (xs ys : List Op) (x : Op) {l′ : List ℕ} {p : ℕ} (w : Wrote l at xs l′ p) where
-  pub fits-after : Fits l at (xs ++ x ∷ ys) → Fits l′ (p + 1) ys
-  fits-after f = let g : Fits l′ p (x ∷ ys) = fits-rest xs (x ∷ ys) w f in record { bytes = omega (arith, g .bytes) }
-
-  module _ {l″ : List ℕ} {q : ℕ} (v : Wrote l′ (p + 1) ys l″ q) where
-    pub fits-between : Fits l at (xs ++ x ∷ ys) → 16 * (p + 1) ≤ length l″
-    fits-between f =
-        let g : Fits l′ p (x ∷ ys) = fits-rest xs (x ∷ ys) w f in
-        let same : length l″ ≡ length l′ = ap length (v .bytes) ∙ length-written l′ (p + 1) ys in
-        omega (arith, g .bytes)
-
-    pub wrote-between : (l‴ : List ℕ) → l‴ ≡ write l″ (16 * p) (stepBytes (stepOf x)) → Wrote l at (xs ++ x ∷ ys) l‴ q
-    unfolding bytesOf
-    wrote-between l‴ e =
-        let long : 16 * (p + 1) ≡ 16 * p + length (stepBytes (stepOf x)) = unfold stepBytes in omega arith in
-        wrote-then xs (x ∷ ys) w
-        record {
-          place = omega (arith, v .place);
-          bytes = e ∙ rw (v .bytes, long) (write-before l′ (16 * p) (stepBytes (stepOf x)) (bytesOf ys));
-        }
-
--- which tells how many steps it passes over
-pub skip-is : {l l′ : List ℕ} {q : ℕ} (p : ℕ) (ys : List Op) → Wrote l (p + 1) ys l′ q → q - p - 1 ≡ length ys
-skip-is p ys v = omega (arith, v .place)
+-- a step over a step that stands first
+pub wrote-over : {l l′ l″ : List ℕ} {at p : ℕ} (x y : Op) (ys : List Op) → Wrote l at (x ∷ ys) l′ p → l″ ≡ write l′ (16 * at) (stepBytes (stepOf y))
+    → Wrote l at (y ∷ ys) l″ p
+unfolding bytesOf
+wrote-over {l} {at = at} x y ys w e =
+    let same : length (stepBytes (stepOf x)) ≡ length (stepBytes (stepOf y)) = unfold stepBytes in refl in
+    record { place = w .place; bytes = e ∙ rw (w .bytes) (write-over l (16 * at) (stepBytes (stepOf x)) (stepBytes (stepOf y)) (bytesOf ys) same) }
 
 pub wrote-none : (l : List ℕ) (at : ℕ) → Wrote l at [] l at
 unfolding write bytesOf

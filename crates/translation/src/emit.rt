@@ -6,10 +6,10 @@ use table::kinds;
 use table::series::Series;
 use table::series::series_in;
 ghost use mathlib.Core.Path.{_≡_};
-ghost use mathlib.Core.List.{[], _∷_};
+ghost use mathlib.Core.List.{[], _∷_, _++_};
 ghost use Prim.Native.Nat.{ℕ, _+_, _-_, _*_, _%_, _≤_};
 ghost use lib.ListN.{length};
-ghost use Rattle.table.specs.Trees.{Operand, reach, reachOf, compare, cross, between, trend};
+ghost use Rattle.table.specs.Trees.{Operand, reach, reachOf, cross, between};
 ghost use Rattle.rules.specs.Flat.{operandAt};
 ghost use Rattle.steps.specs.Bytes.{four, fields, slotKind, stepBytes, write, Fits, Wrote};
 ghost use Rattle.steps.specs.declared.step.Op.the-variants as Op;
@@ -136,25 +136,58 @@ pub(crate) fn emit_operand(
     }
 }
 
-// The steps of a comparison of the operands at nodes a and b.
+// The steps of the operands at nodes a and b, the first m rows back and the second n.
+fn emit_two(
+    t: &[u8],
+    ends: &[usize; 256],
+    a: usize,
+    m: u64,
+    b: usize,
+    n: u64,
+    left: usize,
+    room: &mut [u8],
+    at: usize,
+) -> usize
+    requires { ⌜ (let o : ℕ → Operand = operandAt left (now t) (now ends) in (m + reach (o a) ≤ 8192) × (n + reach (o b) ≤ 8192)) ⌝ }
+    requires { ⌜ (let o : ℕ → Operand = operandAt left (now t) (now ends) in Fits (now room) at (code (o a) m ++ code (o b) n)) ⌝ }
+    ensures { λ r. ⌜ (let o : ℕ → Operand = operandAt left (now (t .entry)) (now (ends .entry)) in
+        Wrote (now (room .entry)) at (code (o a) m ++ code (o b) n) (now (room .exit)) r) ⌝ }
+{
+    let p = emit_operand(t, ends, a, m, left, room, at);
+    emit_operand(t, ends, b, n, left, room, p)
+}
+
+// Those of a comparison: the operand at node a now, the one at node b n rows back.
 pub(crate) fn emit_compare(
     t: &[u8],
     ends: &[usize; 256],
     kind: u8,
     a: usize,
     b: usize,
+    n: u64,
     left: usize,
     room: &mut [u8],
     at: usize,
 ) -> usize
-    requires { ⌜ reachOf (compare kind (operandAt left (now t) (now ends) a) (operandAt left (now t) (now ends) b)) ≤ 4096 ⌝ }
-    requires { ⌜ Fits (now room) at (codeOf (compare kind (operandAt left (now t) (now ends) a) (operandAt left (now t) (now ends) b))) ⌝ }
+    requires { ⌜ (let o : ℕ → Operand = operandAt left (now t) (now ends) in (0 + reach (o a) ≤ 8192) × (n + reach (o b) ≤ 8192)) ⌝ }
+    requires { ⌜ (let o : ℕ → Operand = operandAt left (now t) (now ends) in
+        Fits (now room) at ((code (o a) 0 ++ code (o b) n) ++ Op.Compare kind ∷ [])) ⌝ }
     ensures { λ r. ⌜ (let o : ℕ → Operand = operandAt left (now (t .entry)) (now (ends .entry)) in
-        Wrote (now (room .entry)) at (codeOf (compare kind (o a) (o b))) (now (room .exit)) r) ⌝ }
+        Wrote (now (room .entry)) at ((code (o a) 0 ++ code (o b) n) ++ Op.Compare kind ∷ []) (now (room .exit)) r) ⌝ }
 {
-    let p = emit_operand(t, ends, a, 0, left, room, at);
-    let q = emit_operand(t, ends, b, 0, left, room, p);
-    put_step(room, q, kind, 0, 0, 0, 0)
+    let p = emit_two(t, ends, a, 0, b, n, left, room, at);
+    put_step(room, p, kind, 0, 0, 0, 0)
+}
+
+// The kind that Rising or Falling compares by.
+pub(crate) fn trend_test(kind: u8) -> u8
+    ensures { λ r. ⌜ r ≡ trendTest kind ⌝ }
+{
+    if kind == kinds::RISING {
+        kinds::GT
+    } else {
+        kinds::LT
+    }
 }
 
 // Those of a cross: both operands now, both one row back.
@@ -173,11 +206,9 @@ pub(crate) fn emit_cross(
     ensures { λ r. ⌜ (let o : ℕ → Operand = operandAt left (now (t .entry)) (now (ends .entry)) in
         Wrote (now (room .entry)) at (codeOf (cross kind (o a) (o b))) (now (room .exit)) r) ⌝ }
 {
-    let p = emit_operand(t, ends, a, 0, left, room, at);
-    let q = emit_operand(t, ends, b, 0, left, room, p);
-    let p1 = emit_operand(t, ends, a, 1, left, room, q);
-    let q1 = emit_operand(t, ends, b, 1, left, room, p1);
-    put_step(room, q1, kind, 0, 0, 0, 0)
+    let p = emit_two(t, ends, a, 0, b, 0, left, room, at);
+    let q = emit_two(t, ends, a, 1, b, 1, left, room, p);
+    put_step(room, q, kind, 0, 0, 0, 0)
 }
 
 // Those of Between: the value, the low end, the high end.
@@ -197,38 +228,6 @@ pub(crate) fn emit_between(
         Wrote (now (room .entry)) at (codeOf (between (o x) (o low) (o high))) (now (room .exit)) r) ⌝ }
 {
     let p = emit_operand(t, ends, x, 0, left, room, at);
-    let q = emit_operand(t, ends, low, 0, left, room, p);
-    let r = emit_operand(t, ends, high, 0, left, room, q);
-    put_step(room, r, kinds::BETWEEN, 0, 0, 0, 0)
-}
-
-// The kind that Rising or Falling compares by.
-fn trend_test(kind: u8) -> u8
-    ensures { λ r. ⌜ r ≡ trendTest kind ⌝ }
-{
-    if kind == kinds::RISING {
-        kinds::GT
-    } else {
-        kinds::LT
-    }
-}
-
-// Those of Rising and Falling: the operand now and n rows back.
-pub(crate) fn emit_trend(
-    t: &[u8],
-    ends: &[usize; 256],
-    kind: u8,
-    a: usize,
-    n: u64,
-    left: usize,
-    room: &mut [u8],
-    at: usize,
-) -> usize
-    requires { ⌜ reachOf (trend kind (operandAt left (now t) (now ends) a) n) ≤ 4096 ⌝ }
-    requires { ⌜ Fits (now room) at (codeOf (trend kind (operandAt left (now t) (now ends) a) n)) ⌝ }
-    ensures { λ r. ⌜ Wrote (now (room .entry)) at (codeOf (trend kind (operandAt left (now (t .entry)) (now (ends .entry)) a) n)) (now (room .exit)) r ⌝ }
-{
-    let p = emit_operand(t, ends, a, 0, left, room, at);
-    let q = emit_operand(t, ends, a, n, left, room, p);
-    put_step(room, q, trend_test(kind), 0, 0, 0, 0)
+    let q = emit_two(t, ends, low, 0, high, 0, left, room, p);
+    put_step(room, q, kinds::BETWEEN, 0, 0, 0, 0)
 }

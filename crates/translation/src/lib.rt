@@ -6,6 +6,7 @@ use rules::shapes::ConditionShape;
 use steps::decode;
 use steps::translated::Translated;
 use table::answer::Answer;
+use table::bytes::read64;
 use table::header;
 use table::kinds;
 use table::trees::Tree;
@@ -74,6 +75,7 @@ fn emit_condition(
             kind,
             a,
             b,
+            0,
             left - 1,
             room,
             at,
@@ -98,10 +100,11 @@ fn emit_condition(
             room,
             at,
         ),
-        ConditionShape::Trend(kind, a, n) => emit::emit_trend(
+        ConditionShape::Trend(kind, a, n) => emit::emit_compare(
             t,
             ends,
-            kind,
+            emit::trend_test(kind),
+            a,
             a,
             n,
             left - 1,
@@ -138,8 +141,9 @@ fn emit_condition(
     }
 }
 
-// The steps of n conditions of All or Any, the first at node j: after each a jump over the rest, which is written last, when the
-// length of the rest is known.
+// The steps of n conditions of All or Any, the first at node j: after each a jump over the rest. How long the rest is shows at the
+// end: so where a jump goes, a step first holds the place of the one before it, and then the jumps are written from the last to the
+// first. A call for each condition would take more stack than a small controller has.
 fn emit_each(
     all: bool,
     n: usize,
@@ -156,22 +160,25 @@ fn emit_each(
         (codeEach (not all) (growConditions (conditionAt left (now (t .entry)) (now (ends .entry))) (now (ends .entry)) n j))
         (now (room .exit)) r ⌝ }
 {
-    if n == 0 {
-        return at;
+    let jump = jump_kind(all);
+    let mut m = n;
+    let mut i = j;
+    let mut end = at;
+    let mut last = at;
+    while 0 < m {
+        let p = emit_condition(t, ends, i, left, room, end);
+        end = emit::put_step(room, p, kinds::CONST, 0, 0, 0, last as u64);
+        last = p;
+        i = shapes::end_in(ends, i);
+        m -= 1;
     }
-    let p = emit_condition(t, ends, j, left, room, at);
-    let q = emit_each(
-        all,
-        n - 1,
-        shapes::end_in(ends, j),
-        t,
-        ends,
-        left,
-        room,
-        p + 1,
-    );
-    emit::put_step(room, p, jump_kind(all), 0, (q - p - 1) as u64, 0, 0);
-    q
+    while m < n {
+        let before = read64(room, 16 * last + 8) as usize;
+        emit::put_step(room, last, jump, 0, (end - last - 1) as u64, 0, 0);
+        last = before;
+        m += 1;
+    }
+    end
 }
 
 // Translates a tree of a table into its room. An absent tree needs no room and writes nothing.

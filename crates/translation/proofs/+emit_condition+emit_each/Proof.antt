@@ -1,18 +1,18 @@
--- By the node's shape. A child of All or Any goes on with the same nesting and one child less, so the measure counts the nesting in
--- steps of 2^65, above any number of children.
-use Prim.Native.Nat.{ℕ, _<_, _+_, _*_}
+-- By the node's shape; what is left of the nesting falls, and the conditions of All or Any come just above each of them. Their loops write
+-- links in place of the jumps, and then the jumps (Links.antt).
+use Prim.Native.Nat.{ℕ, _<_, _+_, _-_, _*_}
 use mathlib.Core.Path.{_∙_}
-use mathlib.Core.Bool.{false}
+use mathlib.Core.Bool.{false, not}
+use mathlib.Core.List.{List}
 use native.Mathlib.Omega.{arith}
 use borrow.Author.Needs.{needs}
 use Rattle.rules.specs.Flat.{growCondition, conditionAt}
-use Rattle.steps.specs.declared.step.Op.the-variants.{Answer, Turn, InPosition, BarsSinceEntry, JumpIf}
+use Rattle.steps.specs.declared.step.Op.the-variants.{Answer, Turn, InPosition, BarsSinceEntry}
 use Rattle.steps.specs.Bytes.{stepOf}
-use Rattle.translation.proofs.Writes.{fits-first, fits-rest, fits-one, fits-after, fits-between}
-use Rattle.translation.proofs.Writes.{wrote-none, wrote-one, wrote-then, wrote-between, skip-is}
-use Rattle.translation.proofs.Falls.{group-falls, below-falls, child-falls, rest-falls}
-use Rattle.translation.proofs.Conditions.{ground, grown, no-more, one-more, code-none, code-group, code-no-more, code-more, code-not, code-position}
-use Rattle.translation.proofs.Conditions.{code-since, reach-group, reach-not, more-reach}
+use Rattle.translation.proofs.Writes.{fits-first, fits-rest, fits-one, wrote-one, wrote-then, length-wrote}
+use Rattle.translation.proofs.Links.{Writing, Closing, begin, next, link-fits, push, turn, pop, finish}
+use Rattle.translation.proofs.Conditions.{ground, grown, code-none, code-group, code-not, code-position}
+use Rattle.translation.proofs.Conditions.{code-since, code-compare, code-trend, reach-group, reach-not, compare-reach, trend-reach}
 use borrow.Fn.Kinds.{In}
 use borrow.Fn.PlainCycle.{Measures, is, falls, and}
 use Rattle.translation.proofs.emit_condition.Reads as emit-condition
@@ -23,10 +23,11 @@ use Rattle.translation.proofs.emit_each.Kinds as emit-each-kinds
 use Rattle.translation.proofs.+emit_condition+emit_each.Lts-emit_each as emit-each-lts
 use Rattle.rules.proofs.shapes.condition_shape.Reads as condition-shape-reads
 use Rattle.rules.proofs.shapes.end_in.Reads as end-in-reads
+use Rattle.table.proofs.bytes.read64.Reads as read64-reads
 use Rattle.translation.proofs.emit.emit_between.Reads as emit-between-reads
 use Rattle.translation.proofs.emit.emit_compare.Reads as emit-compare-reads
 use Rattle.translation.proofs.emit.emit_cross.Reads as emit-cross-reads
-use Rattle.translation.proofs.emit.emit_trend.Reads as emit-trend-reads
+use Rattle.translation.proofs.emit.trend_test.Reads as trend-test-reads
 use Rattle.translation.proofs.emit.put_step.Reads as put-step-reads
 use Rattle.translation.proofs.flag.Reads as flag-reads
 use Rattle.translation.proofs.group_kind.Reads as group-kind-reads
@@ -35,10 +36,10 @@ use Rattle.translation.proofs.+emit_condition+emit_each.{statement}
 use Rattle.translation.proofs.+emit_condition+emit_each.Tie.{close}
 
 abbrev μ-emit-condition : Measures 3 emit-condition-kinds.ps ℕ
-μ-emit-condition κs a = a .1 .1 .1 .0 * 36893488147419103232
+μ-emit-condition κs a = 2 * a .1 .1 .1 .0
 
 abbrev μ-emit-each : Measures 3 emit-each-kinds.ps ℕ
-μ-emit-each κs a = a .1 .1 .1 .1 .1 .0 * 36893488147419103232 + a .1 .0 + 1
+μ-emit-each κs a = 2 * a .1 .1 .1 .1 .1 .0 + 1
 
 abbrev emit-condition-at : ℕ → In 3 emit-condition-kinds.ps
 emit-condition-at t =
@@ -63,6 +64,22 @@ abbrev emit-each-below : ℕ → In 3 emit-each-kinds.ps
 emit-each-below t =
     and 3 emit-each-kinds.ps (falls 3 emit-each-kinds.ps _<_ μ-emit-each t) emit-each.Pre
 
+abbrev emit-each-Inv-loop : emit-each-lts.InvT-loop
+emit-each-Inv-loop all n j t ends left room₀ at jump m₀ i₀ end₀ last₀ room m i end last =
+    Writing (not all) (conditionAt left t ends) ends n j room₀ at m last i end room
+
+abbrev emit-each-μ-loop : emit-each-lts.MeasureT-loop
+emit-each-μ-loop all n j t ends left room₀ at jump m₀ i₀ end₀ last₀ room m i end last = m
+
+-- from the room before the first loop, which is not named here
+abbrev emit-each-Inv-loop2 : emit-each-lts.InvT-loop2
+emit-each-Inv-loop2 all n j t ends left room₀ at jump m₀ i end last₀ room m last =
+    (l : List ℕ) → Closing (not all) (conditionAt left t ends) ends n j l at m₀ last₀ end room₀
+    → Closing (not all) (conditionAt left t ends) ends n j l at m last end room
+
+abbrev emit-each-μ-loop2 : emit-each-lts.MeasureT-loop2
+emit-each-μ-loop2 all n j t ends left room₀ at jump m₀ i end last₀ room m last = n - m
+
 pub +emit-condition+emit-each-spec : {M : Type 1} → statement M
 unfolding growCondition stepOf
 +emit-condition+emit-each-spec = close μ-emit-condition μ-emit-each (λ t. emit-condition-lts.spec (
@@ -76,8 +93,8 @@ unfolding growCondition stepOf
   emit-cross-reads.Learnt,
   emit-between-reads.Asked,
   emit-between-reads.Learnt,
-  emit-trend-reads.Asked,
-  emit-trend-reads.Learnt,
+  trend-test-reads.Asked,
+  trend-test-reads.Learnt,
   group-kind-reads.Asked,
   group-kind-reads.Learnt,
   emit-each-below t,
@@ -89,207 +106,162 @@ unfolding growCondition stepOf
 )
     (emit-condition-at t)
     emit-condition.Post
-    (λ c κs. let p = c .before .before .before .before in let q = p .args in
-    fits-one _ (rw (ground (q .t .now) (q .ends .now) (q .i) (q .left) (c .before .if1 .taken), code-none) at (p .pre .1 .1)))
+    (λ c κs. fits-one _ (rw (ground _ _ _ _ (c .before .if1 .taken), code-none) at (c .before .before .before .before .pre .1 .1)))
     (λ c. search needs)
-    (λ c. let p = c .before .before in let q = p .before .before in let r = q .before .before .before in let s = r .args in
-    rw (ground (s .t .now) (s .ends .now) (s .i) (s .left) (q .if1 .taken), code-none)
-    (wrote-one _ _ (Answer false) _ _ (p .put-step .ensures .0) (p .put-step .ensures .1)))
+    (λ c. let put = c .before .before in
+    rw (ground _ _ _ _ (put .before .before .if1 .taken), code-none) (wrote-one _ _ (Answer false) _ _ (put .put-step .ensures .0) (put .put-step .ensures .1)))
     (λ c κs. search needs)
     (λ c. search needs)
     (λ c. omega (arith, c .before .before .before .before .if1 .left))
-    (λ c κs. let p = c .before .before in let q = p .before .before in let r = q .before in let s = r .before .before .before in let u = s .args in (
-      rw (grown (u .t .now) (u .ends .now) (u .i) (u .left) (r .if1 .left) _ _ (q .condition-shape .ensures) (p .kind .given .1)) at (s .pre .1 .0),
-      rw
-          (grown (u .t .now) (u .ends .now) (u .i) (u .left) (r .if1 .left) _ _ (q .condition-shape .ensures) (p .kind .given .1)) at (s .pre .1 .1),
-    ))
+    (λ c κs. let q = c .before .before .before .before in
+    let is = grown _ _ _ _ (q .before .if1 .left) _ _ (q .condition-shape .ensures) (c .before .before .kind .given .1) in
+    let pre = rw is at (q .before .before .before .before .pre .1) in (compare-reach _ _ _ (pre .0), rw code-compare at (pre .1)))
     (λ c. search needs)
     (λ c. omega (arith, c .before .before .before .before .if1 .left))
-    (λ c κs. let p = c .before .before in let q = p .before .before in let r = q .before in let s = r .before .before .before in let u = s .args in (
-      rw (grown (u .t .now) (u .ends .now) (u .i) (u .left) (r .if1 .left) _ _ (q .condition-shape .ensures) (p .kind2 .given .1)) at (s .pre .1 .0),
-      rw
-          (grown (u .t .now) (u .ends .now) (u .i) (u .left) (r .if1 .left) _ _ (q .condition-shape .ensures) (p .kind2 .given .1)) at (s .pre .1 .1),
-    ))
+    (λ c κs. let q = c .before .before .before .before in
+    let is = grown _ _ _ _ (q .before .if1 .left) _ _ (q .condition-shape .ensures) (c .before .before .kind2 .given .1) in
+    rw is at (q .before .before .before .before .pre .1))
     (λ c. search needs)
     (λ c. omega (arith, c .before .before .before .before .if1 .left))
-    (λ c κs. let p = c .before .before in let q = p .before .before in let r = q .before in let s = r .before .before .before in let u = s .args in (
-      rw (grown (u .t .now) (u .ends .now) (u .i) (u .left) (r .if1 .left) _ _ (q .condition-shape .ensures) (p .x .given .1)) at (s .pre .1 .0),
-      rw
-          (grown (u .t .now) (u .ends .now) (u .i) (u .left) (r .if1 .left) _ _ (q .condition-shape .ensures) (p .x .given .1)) at (s .pre .1 .1),
-    ))
-    (λ c. search needs)
-    (λ c. omega (arith, c .before .before .before .before .if1 .left))
-    (λ c κs. let p = c .before .before in let q = p .before .before in let r = q .before in let s = r .before .before .before in let u = s .args in (
-      rw (grown (u .t .now) (u .ends .now) (u .i) (u .left) (r .if1 .left) _ _ (q .condition-shape .ensures) (p .kind3 .given .1)) at (s .pre .1 .0),
-      rw
-          (grown (u .t .now) (u .ends .now) (u .i) (u .left) (r .if1 .left) _ _ (q .condition-shape .ensures) (p .kind3 .given .1)) at (s .pre .1 .1),
-    ))
+    (λ c κs. let q = c .before .before .before .before in
+    let is = grown _ _ _ _ (q .before .if1 .left) _ _ (q .condition-shape .ensures) (c .before .before .x .given .1) in
+    rw is at (q .before .before .before .before .pre .1))
     (λ c. search needs)
     (λ c κs. search needs)
-    (λ c κs. let p = c .before .before .before .before .before in let q = p .before in let r = q .before .before .before in let s = r .args in
-    fits-one _ (fits-first _ _ (rw (
-      grown (s .t .now) (s .ends .now) (s .i) (s .left) (q .if1 .left) _ _ (p .condition-shape .ensures) (c .before .before .before .all .given .1),
-      code-group,
-    ) at (r .pre .1 .1))))
+    (λ c. omega (arith, c .before .before .before .before .before .if1 .left))
+    (λ c κs. let q = c .before .before .before .before .before in
+    let is = grown _ _ _ _ (q .before .if1 .left) _ _ (q .condition-shape .ensures) (c .before .before .before .kind3 .given .1) in
+    let pre = rw is at (q .before .before .before .before .pre .1) in
+    rw (c .before .trend-test .ensures) (trend-reach _ _ _ (pre .0), rw code-trend at (pre .1)))
+    (λ c. search needs)
+    (λ c κs. search needs)
+    (λ c κs. let q = c .before .before .before .before .before in
+    let is = grown _ _ _ _ (q .before .if1 .left) _ _ (q .condition-shape .ensures) (c .before .before .before .all .given .1) in
+    fits-one _ (fits-first _ _ (rw (is, code-group) at (q .before .before .before .before .pre .1 .1))))
     (λ c. omega (arith, c .before .before .before .before .before .before .before .before .before .if1 .left))
-    (λ c κs. let p = c .before .before .before in let q = p .before in let r = q .before .before in let s = r .before in let u = s .before .before in
-    let v = u .before in let w = v .before .before .before in let x = w .args in (
-      group-falls 36893488147419103232 _ _ _ (w .pre .0) (v .if1 .left) (omega (arith, r .known-told5 .given)),
-      (
-        rw (
-          grown (x .t .now) (x .ends .now) (x .i) (x .left) (v .if1 .left) _ _ (u .condition-shape .ensures) (s .all .given .1),
-          reach-group,
-        ) at (w .pre .1 .0),
-        fits-rest _ _ (wrote-one _ _ (Answer _) _ _ (p .put-step2 .ensures .0) (rw (q .group-kind .ensures) at (p .put-step2 .ensures .1)))
-            (rw (
-              grown (x .t .now) (x .ends .now) (x .i) (x .left) (v .if1 .left) _ _ (u .condition-shape .ensures) (s .all .given .1),
-              code-group,
-            ) at (w .pre .1 .1)),
-      ),
+    (λ c κs. let put = c .before .before .before in let q = put .before .before .before .before .before .before in
+    let is = grown _ _ _ _ (q .before .if1 .left) _ _ (q .condition-shape .ensures) (put .before .before .before .before .all .given .1) in
+    let pre = rw is at (q .before .before .before .before .pre .1) in
+    let begins = wrote-one _ _ (Answer _) _ _ (put .put-step2 .ensures .0) (rw (put .before .group-kind .ensures) at (put .put-step2 .ensures .1)) in (
+      omega (arith, q .before .if1 .left, q .before .before .before .before .pre .0),
+      (rw reach-group at (pre .0), fits-rest _ _ begins (rw code-group at (pre .1))),
     ))
     (λ c. search needs)
     (λ c. omega (arith, c .before .before .before .before .if1 .left))
-    (λ c κs. let p = c .before .before in let q = p .before .before in let r = q .before in let s = r .before .before .before in let u = s .args in (
-      below-falls 36893488147419103232 _ _ (s .pre .0) (r .if1 .left) (omega arith),
-      (
-        rw (grown (u .t .now) (u .ends .now) (u .i) (u .left) (r .if1 .left) _ _ (q .condition-shape .ensures) (p .a .given .1), reach-not) at (s .pre .1 .0),
-        fits-first _ _ (rw (
-          grown (u .t .now) (u .ends .now) (u .i) (u .left) (r .if1 .left) _ _ (q .condition-shape .ensures) (p .a .given .1),
-          code-not,
-        ) at (s .pre .1 .1)),
-      ),
-    ))
-    (λ c κs. let p = c .before .before .before .before .before .before in let q = p .before .before in let r = q .before in let s = r .before .before .before in
-    let u = s .args in
-    fits-one _ (fits-rest _ _ (c .before .before .before .emit-condition .ensures)
-    (rw (grown (u .t .now) (u .ends .now) (u .i) (u .left) (r .if1 .left) _ _ (q .condition-shape .ensures) (p .a .given .1), code-not) at (s .pre .1 .1))))
+    (λ c κs. let q = c .before .before .before .before in
+    let is = grown _ _ _ _ (q .before .if1 .left) _ _ (q .condition-shape .ensures) (c .before .before .a .given .1) in
+    let pre = rw is at (q .before .before .before .before .pre .1) in
+    (omega (arith, q .before .if1 .left, q .before .before .before .before .pre .0), (rw reach-not at (pre .0), fits-first _ _ (rw code-not at (pre .1)))))
+    (λ c κs. let e = c .before .before .before in let q = e .before .before .before .before .before in
+    let is = grown _ _ _ _ (q .before .if1 .left) _ _ (q .condition-shape .ensures) (e .before .before .before .a .given .1) in
+    fits-one _ (fits-rest _ _ (e .emit-condition .ensures) (rw (is, code-not) at (q .before .before .before .before .pre .1 .1))))
     (λ c. search needs)
     (λ c κs. search needs)
-    (λ c κs. let p = c .before .before .before .before .before in let q = p .before in let r = q .before .before .before in let s = r .args in
-    fits-one _ (rw (
-      grown (s .t .now) (s .ends .now) (s .i) (s .left) (q .if1 .left) _ _ (p .condition-shape .ensures)
-          (c .before .before .before .wanted .given .1),
-      code-position,
-    ) at (r .pre .1 .1)))
+    (λ c κs. let q = c .before .before .before .before .before in
+    let is = grown _ _ _ _ (q .before .if1 .left) _ _ (q .condition-shape .ensures) (c .before .before .before .wanted .given .1) in
+    fits-one _ (rw (is, code-position) at (q .before .before .before .before .pre .1 .1)))
     (λ c. search needs)
     (λ c. search needs)
-    (λ c κs. let p = c .before .before .before .before in let q = p .before in let r = q .before .before .before in let s = r .args in
-    fits-one _ (rw (
-      grown (s .t .now) (s .ends .now) (s .i) (s .left) (q .if1 .left) _ _ (p .condition-shape .ensures) (c .before .before .selector .given .1),
-      code-since,
-    ) at (r .pre .1 .1)))
+    (λ c κs. let q = c .before .before .before .before in
+    let is = grown _ _ _ _ (q .before .if1 .left) _ _ (q .condition-shape .ensures) (c .before .before .selector .given .1) in
+    fits-one _ (rw (is, code-since) at (q .before .before .before .before .pre .1 .1)))
     (λ c. search needs)
-    (λ c κs. let p = c .before .before .before .before in let q = p .before .before .before in let r = q .args in
-    fits-one _ (rw (
-      grown (r .t .now) (r .ends .now) (r .i) (r .left) (p .if1 .left) _ _ (c .before .before .before .condition-shape .ensures)
-          (c .before .enum-told .given .1),
-      code-none,
-    ) at (q .pre .1 .1)))
+    (λ c κs. let q = c .before .before .before in
+    let is = grown _ _ _ _ (q .before .if1 .left) _ _ (q .condition-shape .ensures) (c .before .enum-told .given .1) in
+    fits-one _ (rw (is, code-none) at (q .before .before .before .before .pre .1 .1)))
     (λ c. search needs)
-    (λ c. let p = c .before .before .before .before .before in let q = p .before .before in let r = q .before in let s = r .before .before .before in
-    let u = s .args in
-    rw (grown (u .t .now) (u .ends .now) (u .i) (u .left) (r .if1 .left) _ _ (q .condition-shape .ensures) (p .kind .given .1))
-    (c .before .before .emit-compare .ensures))
+    (λ c. let q = c .before .before .before .before .before .before .before in
+    let is = grown _ _ _ _ (q .before .if1 .left) _ _ (q .condition-shape .ensures) (c .before .before .before .before .before .kind .given .1) in
+    rw (is, code-compare) (c .before .before .emit-compare .ensures))
     (λ c. search needs)
-    (λ c. let p = c .before .before .before .before .before in let q = p .before .before in let r = q .before in let s = r .before .before .before in
-    let u = s .args in
-    rw (grown (u .t .now) (u .ends .now) (u .i) (u .left) (r .if1 .left) _ _ (q .condition-shape .ensures) (p .kind2 .given .1))
-    (c .before .before .emit-cross .ensures))
+    (λ c. let q = c .before .before .before .before .before .before .before in
+    let is = grown _ _ _ _ (q .before .if1 .left) _ _ (q .condition-shape .ensures) (c .before .before .before .before .before .kind2 .given .1) in
+    rw is (c .before .before .emit-cross .ensures))
     (λ c. search needs)
-    (λ c. let p = c .before .before .before .before .before in let q = p .before .before in let r = q .before in let s = r .before .before .before in
-    let u = s .args in
-    rw (grown (u .t .now) (u .ends .now) (u .i) (u .left) (r .if1 .left) _ _ (q .condition-shape .ensures) (p .x .given .1))
-    (c .before .before .emit-between .ensures))
+    (λ c. let q = c .before .before .before .before .before .before .before in
+    let is = grown _ _ _ _ (q .before .if1 .left) _ _ (q .condition-shape .ensures) (c .before .before .before .before .before .x .given .1) in
+    rw is (c .before .before .emit-between .ensures))
     (λ c. search needs)
-    (λ c. let p = c .before .before .before .before .before in let q = p .before .before in let r = q .before in let s = r .before .before .before in
-    let u = s .args in
-    rw (grown (u .t .now) (u .ends .now) (u .i) (u .left) (r .if1 .left) _ _ (q .condition-shape .ensures) (p .kind3 .given .1))
-    (c .before .before .emit-trend .ensures))
+    (λ c. let q = c .before .before .before .before .before .before .before .before in
+    let is = grown _ _ _ _ (q .before .if1 .left) _ _ (q .condition-shape .ensures) (c .before .before .before .before .before .before .kind3 .given .1) in
+    rw (is, code-trend) (rw (c .before .before .before .before .trend-test .ensures) at (c .before .before .emit-compare2 .ensures)))
     (λ c. c .before .before .emit-each .kept .1 .1 .1 .1 .1 .1 .0 ∙ c .before .before .before .before .before .before .put-step2 .kept .0)
-    (λ c. let p = c .before .before .before .before .before .before in let q = p .before in let r = q .before .before .before in let s = r .before .before in
-    let u = s .before in let v = u .before .before .before in let w = v .args in
-    rw (grown (w .t .now) (w .ends .now) (w .i) (w .left) (u .if1 .left) _ _ (s .condition-shape .ensures) (r .all .given .1), code-group)
-    (wrote-then _ _ (wrote-one _ _ (Answer _) _ _ (p .put-step2 .ensures .0) (rw (q .group-kind .ensures) at (p .put-step2 .ensures .1)))
-    (c .before .before .emit-each .ensures)))
+    (λ c. let put = c .before .before .before .before .before .before in let q = put .before .before .before .before .before .before in
+    let is = grown _ _ _ _ (q .before .if1 .left) _ _ (q .condition-shape .ensures) (put .before .before .before .before .all .given .1) in
+    let begins = wrote-one _ _ (Answer _) _ _ (put .put-step2 .ensures .0) (rw (put .before .group-kind .ensures) at (put .put-step2 .ensures .1)) in
+    rw (is, code-group) (wrote-then _ _ begins (c .before .before .emit-each .ensures)))
     (λ c. c .before .before .put-step3 .kept .0 ∙ c .before .before .before .before .before .before .emit-condition .kept .1 .1 .1 .1 .0)
-    (λ c. let p = c .before .before in let q = p .before .before .before .before in let r = q .before .before .before in let s = r .before .before in
-    let u = s .before in let v = u .before .before .before in let w = v .args in
-    rw (grown (w .t .now) (w .ends .now) (w .i) (w .left) (u .if1 .left) _ _ (s .condition-shape .ensures) (r .a .given .1), code-not)
-    (wrote-then _ _ (q .emit-condition .ensures) (wrote-one _ _ Turn _ _ (p .put-step3 .ensures .0) (p .put-step3 .ensures .1))))
+    (λ c. let put = c .before .before .put-step3 .ensures in let e = c .before .before .before .before .before .before in
+    let q = e .before .before .before .before .before in
+    let is = grown _ _ _ _ (q .before .if1 .left) _ _ (q .condition-shape .ensures) (e .before .before .before .a .given .1) in
+    rw (is, code-not) (wrote-then _ _ (e .emit-condition .ensures) (wrote-one _ _ Turn _ _ (put .0) (put .1))))
     (λ c. search needs)
-    (λ c. let p = c .before .before in let q = p .before .before .before .before in let r = q .before .before in let s = r .before in
-    let u = s .before .before .before in let v = u .args in
-    rw (grown (v .t .now) (v .ends .now) (v .i) (v .left) (s .if1 .left) _ _ (r .condition-shape .ensures) (q .wanted .given .1), code-position)
-    (wrote-one _ _ (InPosition _) _ _ (p .put-step4 .ensures .0) (rw (p .before .flag .ensures) at (p .put-step4 .ensures .1))))
+    (λ c. let put = c .before .before .put-step4 .ensures in let q = c .before .before .before .before .before .before .before .before in
+    let is = grown _ _ _ _ (q .before .if1 .left) _ _ (q .condition-shape .ensures) (c .before .before .before .before .before .before .wanted .given .1) in
+    rw (is, code-position) (wrote-one _ _ (InPosition _) _ _ (put .0) (rw (c .before .before .before .flag .ensures) at (put .1))))
     (λ c. search needs)
-    (λ c. let p = c .before .before in let q = p .before .before .before in let r = q .before .before in let s = r .before in
-    let u = s .before .before .before in let v = u .args in
-    rw (grown (v .t .now) (v .ends .now) (v .i) (v .left) (s .if1 .left) _ _ (r .condition-shape .ensures) (q .selector .given .1), code-since)
-    (wrote-one _ _ (BarsSinceEntry _ _) _ _ (p .put-step5 .ensures .0) (p .put-step5 .ensures .1)))
+    (λ c. let put = c .before .before .put-step5 .ensures in let q = c .before .before .before .before .before .before .before in
+    let is = grown _ _ _ _ (q .before .if1 .left) _ _ (q .condition-shape .ensures) (c .before .before .before .before .before .selector .given .1) in
+    rw (is, code-since) (wrote-one _ _ (BarsSinceEntry _ _) _ _ (put .0) (put .1)))
     (λ c. search needs)
-    (λ c. let p = c .before .before in let q = p .before .before in let r = q .before .before in let s = r .before in let u = s .before .before .before in
-    let v = u .args in
-    rw (grown (v .t .now) (v .ends .now) (v .i) (v .left) (s .if1 .left) _ _ (r .condition-shape .ensures) (q .enum-told .given .1), code-none)
-    (wrote-one _ _ (Answer false) _ _ (p .put-step6 .ensures .0) (p .put-step6 .ensures .1))))
+    (λ c. let put = c .before .before .put-step6 .ensures in let q = c .before .before .before .before .before .before in
+    let is = grown _ _ _ _ (q .before .if1 .left) _ _ (q .condition-shape .ensures) (c .before .before .before .before .enum-told .given .1) in
+    rw (is, code-none) (wrote-one _ _ (Answer false) _ _ (put .0) (put .1))))
     λ t. emit-each-lts.spec (
-      emit-condition-below t,
-      emit-condition.Post,
-      end-in-reads.Asked,
-      end-in-reads.Learnt,
-      emit-each-below t,
-      emit-each.Post,
       jump-kind-reads.Asked,
       jump-kind-reads.Learnt,
+      emit-condition-below t,
+      emit-condition.Post,
       put-step-reads.Asked,
       put-step-reads.Learnt,
+      end-in-reads.Asked,
+      end-in-reads.Learnt,
+      read64-reads.Asked,
+      read64-reads.Learnt,
     )
     (emit-each-at t)
     emit-each.Post
-    (λ c. let p = c .before .before .before in let q = p .args in
-    rw (no-more (conditionAt (q .left) (q .t .now) (q .ends .now)) (q .ends .now) (q .n) (q .j) (c .if1 .taken), code-no-more) (wrote-none _ _))
-    (λ c κs. let p = c .before .before .before .before in let q = p .args in (
-      child-falls 36893488147419103232 _ _ _ (p .pre .0),
-      (
-        more-reach _ _ (rw (one-more (conditionAt (q .left) (q .t .now) (q .ends .now)) (q .ends .now) (q .n) (q .j)
-            (c .before .if1 .left)) at (p .pre .1 .0)) .0,
-        fits-first _ _ (rw (
-          one-more (conditionAt (q .left) (q .t .now) (q .ends .now)) (q .ends .now) (q .n) (q .j) (c .before .if1 .left),
-          code-more,
-        ) at (p .pre .1 .1)),
-      ),
-    ))
-    (λ c. omega (arith, c .before .before .before .before .if1 .left))
+    emit-each-Inv-loop
+    emit-each-μ-loop
+    emit-each-Inv-loop2
+    emit-each-μ-loop2
     (λ c κs. search needs)
-    (λ c. omega (
-      arith,
-      let p = c .before .before .before .before in let q = p .before .before in let r = q .before .before .before in let s = r .args in
-          fits-after _ _ _ (p .emit-condition .ensures)
-          (rw (one-more (conditionAt (s .left) (s .t .now) (s .ends .now)) (s .ends .now) (s .n) (s .j) (q .if1 .left), code-more) at (r .pre .1 .1)) .bytes,
-    ))
-    (λ c κs. let p = c .before .before .before .before in let q = p .before .before in let r = q .before .before .before in let s = r .args in
-    rw (c .before .end-in .ensures) (
-      rest-falls 36893488147419103232 _ _ _ (r .pre .0) (q .if1 .left),
-      (
-        more-reach _ _ (rw (one-more (conditionAt (s .left) (s .t .now) (s .ends .now)) (s .ends .now) (s .n) (s .j) (q .if1 .left)) at (r .pre .1 .0)) .1,
-        fits-after _ _ _ (p .emit-condition .ensures)
-            (rw (one-more (conditionAt (s .left) (s .t .now) (s .ends .now)) (s .ends .now) (s .n) (s .j) (q .if1 .left), code-more) at (r .pre .1 .1)),
-      ),
-    ))
+    (λ c. let s = c .before .before .before in begin _ _ _ _ _ _ _ (s .pre .1 .1) (s .pre .1 .0) (s .good .1 .1 .1 .1 .1 .1 .0 .0))
+    (λ c κs. let l = c .before .before in
+    (omega (arith, l .before .before .before .before .pre .0), next _ _ _ _ _ _ _ (c .before .loop-test .taken) (l .loop .inv)))
+    (λ c κs. let e = c .before .before .before in let d = e .before .before in
+    link-fits _ _ _ _ _ _ _ (d .loop-test .taken) (d .before .loop .inv) (e .emit-condition .ensures))
     (λ c κs. search needs)
-    (λ c. omega (arith, c .before .before .before .before .emit-each .ensures .place))
-    (λ c. omega (arith, c .before .before .before .before .emit-each .ensures .place))
-    (λ c κs. let p = c .before .before .before .before in let q = p .before .before in let r = q .before .before .before in let s = r .before .before in
-    let u = s .before .before .before in let v = u .args in
-    fits-between _ _ _ (r .emit-condition .ensures) (rw (q .end-in .ensures) at (p .emit-each .ensures))
-    (rw (one-more (conditionAt (v .left) (v .t .now) (v .ends .now)) (v .ends .now) (v .n) (v .j) (s .if1 .left), code-more) at (u .pre .1 .1)))
-    (λ c. let p = c .before .before .before .before .before .before .before in let q = p .before .before .before .before .before in
-    c .before .before .put-step .kept .0 ∙ p .emit-each .kept .1 .1 .1 .1 .1 .1 .0 ∙ q .emit-condition .kept .1 .1 .1 .1 .0)
-    (λ c. let p = c .before .before .before .before .before .before .before in let q = p .before .before in let r = q .before .before .before in
-    let s = r .before .before in let u = s .before .before .before in let v = u .args in
-    rw (one-more (conditionAt (v .left) (v .t .now) (v .ends .now)) (v .ends .now) (v .n) (v .j) (s .if1 .left), code-more)
-    (wrote-between _ _ (JumpIf _ _) (r .emit-condition .ensures) (rw (q .end-in .ensures) at (p .emit-each .ensures)) _
-    (rw (
-      c .before .before .before .jump-kind .ensures,
-      skip-is _ _
-          (rw (q .end-in .ensures) at (p .emit-each .ensures)),
-    ) at (c .before .before .put-step .ensures .1))))
+    (λ c. omega (arith, c .before .before .before .before .before .before .before .before .before .loop-test .taken))
+    (λ c. omega (arith, c .before .before .before .before .before .before .before .before .before .loop-test .taken))
+    (λ c. let put = c .before .before .before .put-step .ensures in let e = c .before .before .before .before .before .before .before in
+    let d = e .before .before in
+    rw (c .end-in .ensures, put .0) (push _ _ _ _ _ _ _ (d .loop-test .taken) (d .before .loop .inv) (e .emit-condition .ensures) (put .1)))
+    (λ c l h. h)
+    (λ c. let d = c .before in let l = d .before in
+    let now = l .loop2 .inv _ (turn _ _ _ _ _ _ _ (l .before .loop-test .left) (l .before .before .loop .inv)) in
+    omega (arith, pop _ _ _ _ _ _ _ (d .loop2-test .taken) now .fits, now .long))
+    (λ c. let d = c .before in let l = d .before in
+    let now = l .loop2 .inv _ (turn _ _ _ _ _ _ _ (l .before .loop-test .left) (l .before .before .loop .inv)) in
+    omega (arith, pop _ _ _ _ _ _ _ (d .loop2-test .taken) now .fits, now .long))
+    (λ c κs. search needs)
+    (λ c. let d = c .before .before .before in let l = d .before in
+    let now = l .loop2 .inv _ (turn _ _ _ _ _ _ _ (l .before .loop-test .left) (l .before .before .loop .inv)) in
+    omega (arith, pop _ _ _ _ _ _ _ (d .loop2-test .taken) now .above))
+    (λ c. let d = c .before .before .before in let l = d .before in
+    let now = l .loop2 .inv _ (turn _ _ _ _ _ _ _ (l .before .loop-test .left) (l .before .before .loop .inv)) in
+    omega (arith, pop _ _ _ _ _ _ _ (d .loop2-test .taken) now .above))
+    (λ c κs. let d = c .before .before .before in let l = d .before in
+    let now = l .loop2 .inv _ (turn _ _ _ _ _ _ _ (l .before .loop-test .left) (l .before .before .loop .inv)) in
+    pop _ _ _ _ _ _ _ (d .loop2-test .taken) now .fits)
+    (λ c. omega (arith, c .before .before .before .before .before .before .loop2-test .taken))
+    (λ c. omega (arith, c .before .before .before .before .before .before .loop2-test .taken))
+    (λ c l₀ h. let d = c .before .before .before .before .before .before in let l = d .before in let now = l .loop2 .inv l₀ h in
+    let put = rw (l .before .before .before .jump-kind .ensures) at (c .before .before .put-step2 .ensures .1) in
+    rw (c .before .before .before .before .read64 .ensures) (pop _ _ _ _ _ _ _ (d .loop2-test .taken) now .closes _ put))
+    (λ c. let l = c .before in
+    let now = l .loop2 .inv _ (turn _ _ _ _ _ _ _ (l .before .loop-test .left) (l .before .before .loop .inv)) in
+    length-wrote (finish _ _ _ _ _ _ _ (c .loop2-test .left) now))
+    (λ c. let l = c .before in
+    let now = l .loop2 .inv _ (turn _ _ _ _ _ _ _ (l .before .loop-test .left) (l .before .before .loop .inv)) in
+    finish _ _ _ _ _ _ _ (c .loop2-test .left) now)
