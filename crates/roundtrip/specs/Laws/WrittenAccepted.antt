@@ -16,7 +16,7 @@ use Rattle.table.specs.declared.header.Form.{Form}
 use Rattle.table.specs.Bytes.{u16}
 use Rattle.table.specs.Header.{newestVersion, slots, version, formOf, total, count, root, markRight, versionRight, countsRight, headerRefusal}
 use Rattle.table.specs.Nodes.{wrongNode}
-use Rattle.table.specs.Order.{misfit, misfits, orElse, ofFour}
+use Rattle.table.specs.Order.{misfit, misfits, orPlace, ofFour}
 use Rattle.table.specs.Forest.{Forest, trees, forestOf}
 use Rattle.table.specs.Forest as Forest
 use Rattle.table.specs.Nesting.{deeper, tooDeep}
@@ -182,7 +182,7 @@ module _ (form : Form) (r : Rule) where
     held-3 = held 3 _ (r .shortExit) [] root-3 (w .shortExit) count-3 from-3
 
     none-of-four : (f : ℕ → Place) → f 0 ≡ Nowhere → f 1 ≡ Nowhere → f 2 ≡ Nowhere → f 3 ≡ Nowhere → ofFour f ≡ Nowhere
-    unfolding ofFour orElse
+    unfolding ofFour orPlace
     none-of-four f a b c d = rw (a, b, c, d)
 
     two-at : (a b j : ℕ) → a ≡ j → wrongNode t a 0 ≡ Nowhere → wrongNode t b j ≡ Nowhere → wrongNode t (a + b) 0 ≡ Nowhere
