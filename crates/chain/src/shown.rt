@@ -303,17 +303,9 @@ pub(crate) fn show(
     match shapes::condition_shape(t, ends, i) {
         ConditionShape::Compare(_, a, b) => show_compare(t, ends, rows, slots, a, b, bar, left - 1),
         ConditionShape::Cross(_, a, b) => show_cross(t, ends, rows, slots, a, b, bar, left - 1),
-        ConditionShape::Between(x, low, high) => show_between(
-            t,
-            ends,
-            rows,
-            slots,
-            x,
-            low,
-            high,
-            bar,
-            left - 1,
-        ),
+        ConditionShape::Between(x, low, high) => {
+            show_between(t, ends, rows, slots, x, low, high, bar, left - 1)
+        }
         ConditionShape::Trend(_, a, n) => show_trend(t, ends, rows, slots, a, n, bar, left - 1),
         ConditionShape::Group(_, _, _) => bare(LINK),
         ConditionShape::Not(_) => bare(LINK),
