@@ -172,12 +172,12 @@ short-reads form (given c) i w =
     rw (some, readsOf form c i Forest.none (w .fields))
 
 -- tree x of a table holds a tree within the limits, or none
-pub record Held (t : List ℕ) (form : Form) (x : ℕ) (s : Short) : Type 0 where
+pub record TreeHolds (t : List ℕ) (form : Form) (x : ℕ) (s : Short) : Type 0 where
   pub within : ShortWithin form s
   pub many : count t x ≡ nodesOfShort s
   pub forest : trees t (nodesOfShort s) (root t x) ≡ plantShort (root t x) s
 
-module _ (t : List ℕ) (form : Form) (x : ℕ) (s : Short) (h : Held t form x s) where
+module _ (t : List ℕ) (form : Form) (x : ℕ) (s : Short) (h : TreeHolds t form x s) where
   pub planted : forestOf t x ≡ plantShort (root t x) s
   unfolding forestOf
   planted = ap (λ (m : ℕ). trees t m (root t x)) (h .many) ∙ h .forest
