@@ -17,7 +17,7 @@ ghost use Rattle.rules.specs.declared.values.Value.the-variants.{Number};
 ghost use Rattle.rules.specs.Values.{wordsFrom};
 ghost use Rattle.rules.specs.Meaning.{seriesAt, extremeOver};
 ghost use Rattle.steps.specs.Machine.{ago};
-ghost use Rattle.steps.specs.Looks.{overOf, ofRow, Passed, Stopped};
+ghost use Rattle.steps.specs.Looks.{overOf, ofRow, PassedOver, Stopped};
 
 // A price or a slot of the row that begins at word `base`, which has it.
 fn series_in(rows: &[u64], slots: usize, base: usize, slot: bool, which: u8) -> Value
@@ -63,7 +63,7 @@ fn pass_rows(
 ) -> Stop
     requires { ⌜ base + count * (7 + slots) ≤ length (now rows) ⌝ }
     requires { ⌜ (slot ≡ true → (which < slots) × (which < 64)) ⌝ }
-    ensures { λ r. ⌜ Passed kind (overOf slot which) (now (rows .entry)) slots base best (r .passed)
+    ensures { λ r. ⌜ PassedOver kind (overOf slot which) (now (rows .entry)) slots base best (r .passed)
         × Stopped (overOf slot which) (now (rows .entry)) slots base count (r .passed) (r .stopped) (r .later) ⌝ }
 {
     let mut at = base;
@@ -107,7 +107,7 @@ fn pass(
     best: f64,
 ) -> Stop
     requires { ⌜ (1 ≤ count) × (base + count * (7 + slots) ≤ length (now rows)) ⌝ }
-    ensures { λ r. ⌜ Passed kind (overOf slot which) (now (rows .entry)) slots base best (r .passed)
+    ensures { λ r. ⌜ PassedOver kind (overOf slot which) (now (rows .entry)) slots base best (r .passed)
         × Stopped (overOf slot which) (now (rows .entry)) slots base count (r .passed) (r .stopped) (r .later) ⌝ }
 {
     if slot {

@@ -23,7 +23,7 @@ use Rattle.steps.specs.Bytes.{answerOp, opOf, opsFrom, opsOf, extremeSte
 
 -- ---- the fields that a step has room for
 
-pub record Sized (x : Step) : Type 0 where
+pub record StepFits (x : Step) : Type 0 where
   pub selector : x .selector < 256
   pub skip : x .skip < 65536
   pub n : x .n < 4294967296
@@ -76,7 +76,7 @@ four-back n l =
 -- ---- a step
 
 -- a step's bytes read back as its fields
-step-back : (x : Step) (rest : List ℕ) → Sized x → readStep (stepBytes x ++ rest) 0 ≡ x
+step-back : (x : Step) (rest : List ℕ) → StepFits x → readStep (stepBytes x ++ rest) 0 ≡ x
 unfolding readStep stepBytes u16 u32 u64
 step-back x rest z =
     let low : x .bits % 4294967296 < 4294967296 = omega arith in
@@ -137,7 +137,7 @@ says-back (BarsSinceEntry p k) s = refl
 says-back (JumpIf true skip) s = refl
 says-back (JumpIf false skip) s = refl
 
-sized : (x : Op) → Sayable x → Sized (stepOf x)
+sized : (x : Op) → Sayable x → StepFits (stepOf x)
 unfolding Sayable SayableSeries stepOf extremeStep
 sized (Const bits n) s = record { selector = omega arith; skip = omega arith; n = omega arith; bits = omega arith }
 sized (Ref k n) s = record { selector = omega arith; skip = omega arith; n = omega arith; bits = omega arith }

@@ -9,14 +9,14 @@ use native.Mathlib.Nat.{mul-le-mul-right}
 use lib.ListN.{length}
 use Rattle.rules.specs.declared.values.Value.{Value}
 use Rattle.rules.specs.Values.{wordsFrom}
-use Rattle.steps.specs.Looks.{overOf, ofRow, Passed, Stopped}
+use Rattle.steps.specs.Looks.{overOf, ofRow, PassedOver, Stopped}
 use Rattle.steps.proofs.Looks.{not-higher, not-lower, passed-more}
 use Rattle.steps.proofs.looking.pass_rows.Statement.{statement}
 use Rattle.steps.proofs.looking.pass_rows.Tie as tie
 
 abbrev Inv-loop : tie.InvT-loop
 Inv-loop kind rows slots base count slot which best at₀ k₀ at k =
-    (k ≤ count) × (at ≡ base + k * (7 + slots)) × Passed kind (overOf slot which) rows slots base best k
+    (k ≤ count) × (at ≡ base + k * (7 + slots)) × PassedOver kind (overOf slot which) rows slots base best k
 
 abbrev μ-loop : tie.MeasureT-loop
 μ-loop kind rows slots base count slot which best at₀ k₀ at k = count - k
