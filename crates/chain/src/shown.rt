@@ -52,11 +52,19 @@ const SINCE_ENTRY: u64 = 6;
 
 const NO_ENTRY: u64 = 7;
 
-// A value's word, 0 where it is missing.
-fn value_word(v: Value) -> u64
-    ensures { λ r. ⌜ r ≡ valueWord v ⌝ }
+// The word of the operand at node i at a bar, 0 where it is missing.
+fn operand_word(
+    t: &[u8],
+    ends: &[usize; 256],
+    rows: &[u64],
+    slots: usize,
+    i: usize,
+    bar: usize,
+    left: usize,
+) -> u64
+    ensures { λ r. ⌜ r ≡ valueWord (value (historyOf slots (now (rows .entry))) (operandAt left (now (t .entry)) (now (ends .entry)) i) bar) ⌝ }
 {
-    match v {
+    match eval_operand(t, ends, rows, slots, i, bar, left) {
         Value::Missing => 0,
         Value::Number(x) => floats::word_of(x),
     }
@@ -140,9 +148,9 @@ fn show_compare(
         r ≡ detailOf (shownBy (firstFound (m a 0) (m b 0)) (v a bar ∷ v b bar ∷ []))) ⌝ }
 {
     let gone = two_missing(t, ends, rows, slots, a, b, bar, 0, left);
-    let x = eval_operand(t, ends, rows, slots, a, bar, left);
-    let y = eval_operand(t, ends, rows, slots, b, bar, left);
-    leaf_or(gone, 2, value_word(x), value_word(y), 0, 0)
+    let x = operand_word(t, ends, rows, slots, a, bar, left);
+    let y = operand_word(t, ends, rows, slots, b, bar, left);
+    leaf_or(gone, 2, x, y, 0, 0)
 }
 
 // A cross of the operands at nodes a and b.
@@ -168,18 +176,12 @@ fn show_cross(
     }
     let now = two_missing(t, ends, rows, slots, a, b, bar, 0, left);
     let before = two_missing(t, ends, rows, slots, a, b, bar, 1, left);
-    let x = eval_operand(t, ends, rows, slots, a, bar, left);
-    let y = eval_operand(t, ends, rows, slots, b, bar, left);
-    let x_before = eval_operand(t, ends, rows, slots, a, bar - 1, left);
-    let y_before = eval_operand(t, ends, rows, slots, b, bar - 1, left);
-    leaf_or(
-        first_found(now, before),
-        4,
-        value_word(x),
-        value_word(y),
-        value_word(x_before),
-        value_word(y_before),
-    )
+    let gone = first_found(now, before);
+    let x = operand_word(t, ends, rows, slots, a, bar, left);
+    let y = operand_word(t, ends, rows, slots, b, bar, left);
+    let x_before = operand_word(t, ends, rows, slots, a, bar - 1, left);
+    let y_before = operand_word(t, ends, rows, slots, b, bar - 1, left);
+    leaf_or(gone, 4, x, y, x_before, y_before)
 }
 
 // Between, of the operands at nodes x, low and high.
@@ -202,17 +204,11 @@ fn show_between(
 {
     let two = two_missing(t, ends, rows, slots, x, low, bar, 0, left);
     let third = first_missing(t, ends, rows, slots, high, bar, 0, left);
-    let v = eval_operand(t, ends, rows, slots, x, bar, left);
-    let l = eval_operand(t, ends, rows, slots, low, bar, left);
-    let h = eval_operand(t, ends, rows, slots, high, bar, left);
-    leaf_or(
-        first_found(two, third),
-        3,
-        value_word(v),
-        value_word(l),
-        value_word(h),
-        0,
-    )
+    let gone = first_found(two, third);
+    let v = operand_word(t, ends, rows, slots, x, bar, left);
+    let l = operand_word(t, ends, rows, slots, low, bar, left);
+    let h = operand_word(t, ends, rows, slots, high, bar, left);
+    leaf_or(gone, 3, v, l, h, 0)
 }
 
 // Rising or Falling, of the operand at node a now and n bars back.
@@ -238,16 +234,10 @@ fn show_trend(
     }
     let now = first_missing(t, ends, rows, slots, a, bar, 0, left);
     let then = first_missing(t, ends, rows, slots, a, bar, back, left);
-    let x = eval_operand(t, ends, rows, slots, a, bar, left);
-    let y = eval_operand(t, ends, rows, slots, a, bar - back, left);
-    leaf_or(
-        first_found(now, then),
-        2,
-        value_word(x),
-        value_word(y),
-        0,
-        0,
-    )
+    let gone = first_found(now, then);
+    let x = operand_word(t, ends, rows, slots, a, bar, left);
+    let y = operand_word(t, ends, rows, slots, a, bar - back, left);
+    leaf_or(gone, 2, x, y, 0, 0)
 }
 
 // The bars since the entry, where there is one.
@@ -303,17 +293,9 @@ pub(crate) fn show(
     match shapes::condition_shape(t, ends, i) {
         ConditionShape::Compare(_, a, b) => show_compare(t, ends, rows, slots, a, b, bar, left - 1),
         ConditionShape::Cross(_, a, b) => show_cross(t, ends, rows, slots, a, b, bar, left - 1),
-        ConditionShape::Between(x, low, high) => show_between(
-            t,
-            ends,
-            rows,
-            slots,
-            x,
-            low,
-            high,
-            bar,
-            left - 1,
-        ),
+        ConditionShape::Between(x, low, high) => {
+            show_between(t, ends, rows, slots, x, low, high, bar, left - 1)
+        }
         ConditionShape::Trend(_, a, n) => show_trend(t, ends, rows, slots, a, n, bar, left - 1),
         ConditionShape::Group(_, _, _) => bare(LINK),
         ConditionShape::Not(_) => bare(LINK),

@@ -68,18 +68,9 @@ fn next_node(
         return Next::Stop;
     }
     match shapes::condition_shape(t, ends, i) {
-        ConditionShape::Group(all, n, first) => first_with(
-            !all,
-            n,
-            t,
-            ends,
-            rows,
-            slots,
-            s,
-            first,
-            bar,
-            left - 1,
-        ),
+        ConditionShape::Group(all, n, first) => {
+            first_with(!all, n, t, ends, rows, slots, s, first, bar, left - 1)
+        }
         ConditionShape::Not(a) => Next::Node(a),
         ConditionShape::Compare(_, _, _) => Next::Stop,
         ConditionShape::Cross(_, _, _) => Next::Stop,

@@ -93,7 +93,7 @@ module _ (terms : Terms) (none : Ieee.eq (terms .lot) zero ≡ true) where
 -- ---- any other lot
 
 -- q is k·lot, where k is the largest whole number at most some quantity's quotient by the lot, from 1 to below 2^53 and exact as a float.
-pub record Whole (lot q : Float) : Type 0 where
+pub record InWholeLots (lot q : Float) : Type 0 where
   pub qty : Float
   pub k : ℕ
   pub counts : Counts (qty ⊘ lot) k
@@ -102,35 +102,35 @@ pub record Whole (lot q : Float) : Type 0 where
 -- a quantity that is entered: such a q with the side's sign
 pub record EntersLots (lot dir qty : Float) : Type 0 where
   pub q : Float
-  pub whole : Whole lot q
+  pub whole : InWholeLots lot q
   pub made : qty ≡ dir ⊗ q
 
 module _ (lot : Float) (some : Ieee.eq lot zero ≡ false) where
-  in-lots : (qty q : Float) → inLots lot qty ≡ Of q → Whole lot q
+  in-lots : (qty q : Float) → inLots lot qty ≡ Of q → InWholeLots lot q
   unfolding inLots wholeLots
   in-lots qty q e = go (twoTo53 ≼ (qty ⊘ lot)) (one ≼ (qty ⊘ lot)) refl refl (rw some at e)
     where
       go : (large counted-at : Bool) → twoTo53 ≼ (qty ⊘ lot) ≡ large → one ≼ (qty ⊘ lot) ≡ counted-at
-          → cond large TooLarge (cond counted-at (Of (counted (floor (qty ⊘ lot)) ⊗ lot)) Nothing) ≡ Of q → Whole lot q
+          → cond large TooLarge (cond counted-at (Of (counted (floor (qty ⊘ lot)) ⊗ lot)) Nothing) ≡ Of q → InWholeLots lot q
       go true b l h e = absurd (let z : _≡_ {A = ℕ} 0 1 = cc in omega arith)
       go false false l h e = absurd (let z : _≡_ {A = ℕ} 0 1 = cc in omega arith)
       go false true l h e = record { qty = qty; k = floor (qty ⊘ lot); counts = counts (qty ⊘ lot) h l; made = cc }
 
   -- a size in lots
-  sized-in-lots : (o : Optional) (q : Float) → sizeInLots lot o ≡ Of q → Whole lot q
+  sized-in-lots : (o : Optional) (q : Float) → sizeInLots lot o ≡ Of q → InWholeLots lot q
   unfolding sizeInLots
   sized-in-lots Optional.Absent q e = absurd (let z : _≡_ {A = ℕ} 0 1 = cc in omega arith)
   sized-in-lots (Optional.Of qty) q e = in-lots qty q e
 
 -- what the partial-fill cap leaves is in lots where the size is
 within-in-lots : (terms : Terms) (volume : Float) → Ieee.eq (terms .lot) zero ≡ false → (w : Quantity) (q : Float)
-    → ((b : Float) → w ≡ Of b → Whole (terms .lot) b) → withinVolume terms w volume ≡ Of q → Whole (terms .lot) q
+    → ((b : Float) → w ≡ Of b → InWholeLots (terms .lot) b) → withinVolume terms w volume ≡ Of q → InWholeLots (terms .lot) q
 unfolding withinVolume
 within-in-lots terms volume some Nothing q sized e = absurd (let z : _≡_ {A = ℕ} 0 1 = cc in omega arith)
 within-in-lots terms volume some TooLarge q sized e = absurd (let z : _≡_ {A = ℕ} 0 1 = cc in omega arith)
 within-in-lots terms volume some (Of b) q sized e = by-switch (terms .«partial_fills») e
   where
-    by-switch : (on : Bool) → cond on (inLots (terms .lot) (min b (terms .«max_participation» ⊗ volume))) (Of b) ≡ Of q → Whole (terms .lot) q
+    by-switch : (on : Bool) → cond on (inLots (terms .lot) (min b (terms .«max_participation» ⊗ volume))) (Of b) ≡ Of q → InWholeLots (terms .lot) q
     by-switch true e = in-lots (terms .lot) some _ q e
     by-switch false e = sized q e
 

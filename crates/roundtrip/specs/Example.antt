@@ -9,7 +9,7 @@ use Rattle.table.specs.Kinds.{kinds, kindOf}
 use Rattle.table.specs.Header.{markRight, versionRight, countsRight, headerRefusal, root}
 use Rattle.table.specs.Nodes.{nodeAt, childrenRight, nRight, constantRight, kindRight, fieldsRight, ownRight, nodeRight, wrongNode, sortAt, childCount}
 use Rattle.table.specs.Nodes.{childCountAt, childSortAt, childFits, childFitsAt}
-use Rattle.table.specs.Order.{fits, misfit, orElse, ofFour, misfits}
+use Rattle.table.specs.Order.{fits, misfit, orPlace, ofFour, misfits}
 use Rattle.table.specs.Forest.{firstTrees, otherTrees, nodeOver, trees, forestOf}
 use Rattle.table.specs.Nesting.{deeper, tooDeep}
 use Rattle.table.specs.Reach.{back, ownBack, weigh, forestReach, treeReach, farAt, tooFar, rowsNeeded}
@@ -31,7 +31,7 @@ example =
 
 pub example-accepted : checked example ≡ Accepted 7 3
 unfolding example checked checkedUpTo orHeader orRefused from7 from8 from9 tooFar rowsNeeded farAt tooDeep misfits ofFour treeReach forestOf root forestReach
-    weigh ownBack back deeper orElse trees nodeOver otherTrees firstTrees u16 u32 u64 kindOf kinds nodeAt headerRefusal markRight versionRight countsRight
+    weigh ownBack back deeper orPlace trees nodeOver otherTrees firstTrees u16 u32 u64 kindOf kinds nodeAt headerRefusal markRight versionRight countsRight
     wrongNode nodeRight ownRight kindRight fieldsRight nRight constantRight childrenRight sortAt childCountAt childCount childSortAt childFitsAt childFits
     fits misfit
 example-accepted = refl

@@ -1,3 +1,4 @@
+pub mod Missing
 pub mod Meaning
 pub mod FlatReading
 pub mod Answers

@@ -10,26 +10,14 @@ use Rattle.table.specs.Trees.{Operand, const, ref, price, prev, arith as sums, 
 use Rattle.table.specs.Trees.{Condition, compare, cross, between, trend, every, any, negated, inPosition, barsSince, reachOf}
 use Rattle.table.specs.Silent.{isTest}
 use Rattle.rules.specs.declared.position.PositionState.{PositionState}
-use Rattle.rules.specs.declared.values.Value.{Value}
-use Rattle.rules.specs.declared.values.Value.the-variants.{Missing, Number}
+use Rattle.rules.specs.declared.values.Value.the-variants.{Missing}
 use Rattle.rules.specs.Values.{both, compared, crossed, within, trended}
 use Rattle.rules.specs.Meaning.{newest, there, value, holds, says}
 use Rattle.rules.specs.Laws.Meaning.{extreme-early, past}
+use Rattle.rules.specs.Laws.Missing.{missing-there, both-late, compared-late, trended-late}
+use Rattle.rules.specs.Laws.Missing.{within-low, within-high, within-value, crossed-first, crossed-second}
 
 -- ---- an operand that reaches back beyond bar 0 is missing
-
-missing-there : (h : History) (i : ℕ) → there h i Missing ≡ Missing
-unfolding there
-missing-there h i = go (ltb i (h .rows))
-  where
-    go : (b : Bool) → cond b Missing Missing ≡ Missing
-    go true = refl
-    go false = refl
-
-both-late : (k : ℕ) (x : Value) → both k x Missing ≡ Missing
-unfolding both
-both-late k Missing = refl
-both-late k (Number x) = refl
 
 far : (h : History) (a : Operand) (i : ℕ) → i < reach a → value h a i ≡ Missing
 unfolding value reach
@@ -57,51 +45,6 @@ gone h a l = go (ltb 0 (h .rows)) refl
     go : (b : Bool) → ltb 0 (h .rows) ≡ b → value h a (h .rows - 1) ≡ Missing
     go true e = far h a (h .rows - 1) (omega (arith, ltb-true 0 (h .rows) e))
     go false e = past h a (h .rows - 1) (omega (arith, ltb-false 0 (h .rows) e))
-
-compared-late : (k : ℕ) (x : Value) → compared k x Missing ≡ false
-unfolding compared
-compared-late k Missing = refl
-compared-late k (Number x) = refl
-
-and-no : (a : Bool) → (a && false) ≡ false
-and-no true = refl
-and-no false = refl
-
-within-low : (x u : Value) → within x Missing u ≡ false
-unfolding within compared
-within-low x u = refl
-
-within-high : (x l : Value) → within x l Missing ≡ false
-unfolding within
-within-high x l = rw (compared-late 19 x) (and-no (compared 19 l x))
-
-within-value : (l u : Value) → within Missing l u ≡ false
-unfolding within
-within-value l u = rw (compared-late 19 l)
-
-crossed-first : (k : ℕ) (a b y : Value) → crossed k a b Missing y ≡ false
-unfolding crossed compared
-crossed-first k a b y = go (eqb k 22)
-  where
-    go : (t : Bool) → cond t (false && compared 16 a b) (false && compared 17 a b) ≡ false
-    go true = refl
-    go false = refl
-
-crossed-second : (k : ℕ) (a b x : Value) → crossed k a b x Missing ≡ false
-unfolding crossed
-crossed-second k a b x = rw (compared-late 19 x, compared-late 18 x) (go (eqb k 22))
-  where
-    go : (t : Bool) → cond t (false && compared 16 a b) (false && compared 17 a b) ≡ false
-    go true = refl
-    go false = refl
-
-trended-late : (k : ℕ) (x : Value) → trended k x Missing ≡ false
-unfolding trended
-trended-late k x = rw (compared-late 16 x, compared-late 17 x) (go (eqb k 25))
-  where
-    go : (t : Bool) → cond t false false ≡ false
-    go true = refl
-    go false = refl
 
 -- ---- a test over no more rows than it reaches back
 

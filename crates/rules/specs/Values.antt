@@ -86,8 +86,8 @@ unfoldable pub trended : ℕ → Value → Value → Bool
 trended kind now then = cond (eqb kind Named.rising) (compared Named.gt now then) (compared Named.lt now then)
 
 -- "BarsSinceEntry (selector 0..4: Gt, Lt, Ge, Le, Eq; n = k)": n bars since the entry.
-unfoldable pub counted : ℕ → ℕ → ℕ → Bool
-counted selector k n =
+unfoldable pub barsTested : ℕ → ℕ → ℕ → Bool
+barsTested selector k n =
     cond (eqb selector 0) (ltb k n)
     (cond (eqb selector 1) (ltb n k)
     (cond (eqb selector 2) (leb k n)
@@ -101,7 +101,7 @@ held qty = eps ≺ abs qty
 -- (bars seen, this one counted, less 1)." An entry bar not below the bars seen (13) leaves 0.
 abbrev pub countedFrom : ℕ → ℕ → ℕ → Entered → Bool
 countedFrom selector k seen Never = false
-countedFrom selector k seen (Bar bar) = counted selector k (seen - 1 - bar)
+countedFrom selector k seen (Bar bar) = barsTested selector k (seen - 1 - bar)
 
 -- "BarsSinceEntry is no when flat or where the state holds no entry bar."
 unfoldable pub countedSince : ℕ → ℕ → PositionState → Bool

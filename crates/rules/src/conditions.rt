@@ -130,52 +130,19 @@ pub fn eval_condition(
         return false;
     }
     match shapes::condition_shape(t, ends, i) {
-        ConditionShape::Compare(kind, a, b) => compare(
-            kind,
-            t,
-            ends,
-            rows,
-            slots,
-            a,
-            b,
-            bar,
-            left - 1,
-        ),
+        ConditionShape::Compare(kind, a, b) => {
+            compare(kind, t, ends, rows, slots, a, b, bar, left - 1)
+        }
         ConditionShape::Cross(kind, a, b) => cross(kind, t, ends, rows, slots, a, b, bar, left - 1),
-        ConditionShape::Between(x, low, high) => between(
-            t,
-            ends,
-            rows,
-            slots,
-            x,
-            low,
-            high,
-            bar,
-            left - 1,
-        ),
-        ConditionShape::Trend(kind, a, n) => compare_prev(
-            kind,
-            t,
-            ends,
-            rows,
-            slots,
-            a,
-            n,
-            bar,
-            left - 1,
-        ),
-        ConditionShape::Group(all, n, first) => eval_group(
-            all,
-            n,
-            t,
-            ends,
-            rows,
-            slots,
-            s,
-            first,
-            bar,
-            left - 1,
-        ),
+        ConditionShape::Between(x, low, high) => {
+            between(t, ends, rows, slots, x, low, high, bar, left - 1)
+        }
+        ConditionShape::Trend(kind, a, n) => {
+            compare_prev(kind, t, ends, rows, slots, a, n, bar, left - 1)
+        }
+        ConditionShape::Group(all, n, first) => {
+            eval_group(all, n, t, ends, rows, slots, s, first, bar, left - 1)
+        }
         ConditionShape::Not(a) => !eval_condition(t, ends, rows, slots, s, a, bar, left - 1),
         ConditionShape::InPosition(wanted) => in_position(wanted, s),
         ConditionShape::BarsSince(selector, k) => values::since_entry(selector, k, s),

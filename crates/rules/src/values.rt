@@ -198,8 +198,8 @@ pub fn trended(kind: u8, now: Value, then: Value) -> bool
 }
 
 // A number of bars against k, by the selector: the Rust's `int_pred`.
-pub fn counted(selector: u8, k: u64, n: u64) -> bool
-    ensures { λ r. ⌜ r ≡ Values.counted selector k n ⌝ }
+pub fn bars_tested(selector: u8, k: u64, n: u64) -> bool
+    ensures { λ r. ⌜ r ≡ Values.barsTested selector k n ⌝ }
 {
     if selector == 0 {
         return n > k;
@@ -231,7 +231,7 @@ pub fn since_entry(selector: u8, k: u64, s: PositionState) -> bool
         let entered = s.entered;
         match entered {
             Entered::Never => false,
-            Entered::Bar(bar) => counted(selector, k, bars_since(s.bars_seen, bar)),
+            Entered::Bar(bar) => bars_tested(selector, k, bars_since(s.bars_seen, bar)),
         }
     } else {
         false

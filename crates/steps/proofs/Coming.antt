@@ -1,6 +1,6 @@
 -- A run taken one step further, whatever keeps its values.
 use Prim.Native.Nat.{ℕ, zero, suc, _+_, _-_, _≤_, _<_, min}
-use mathlib.Core.Path.{_≡_, refl, ap, _∙_}
+use mathlib.Core.Path.{_≡_, refl, _∙_}
 use mathlib.Core.Bool.{Bool, true, false}
 use mathlib.Core.List.{List, [], _∷_}
 use native.Mathlib.Omega.{arith}
@@ -23,23 +23,27 @@ use Rattle.steps.proofs.Said.{does-compare, does-cross}
 -- ---- jumps
 
 module _ (h : History) (s : PositionState) (bs : List ℕ) where
-  run-on : (m p k : ℕ) (v : Values) → run h s (opsFrom bs p m) k v ≡ run h s (opsFrom bs (p + k) (m - k)) 0 v
-  unfolding run opsFrom
-  run-on m p zero v = let a : p + 0 ≡ p = omega arith in let b : m - 0 ≡ m = omega arith in rw (a, b)
-  run-on zero p (suc k) v = let b : 0 - suc k ≡ 0 = omega arith in rw b
-  run-on (suc m) p (suc k) v =
-      let a : p + suc k ≡ p + 1 + k = omega arith in
-      let b : suc m - suc k ≡ m - k = omega arith in
-      rw (a, b) (run-on m (p + 1) k v)
+  -- what is passed over is dropped from the list
+  run-drop : (xs : List Op) (k : ℕ) (v : Values) → run h s xs k v ≡ run h s (drop k xs) 0 v
+  unfolding run
+  run-drop xs zero v = refl
+  run-drop [] (suc k) v = refl
+  run-drop (x ∷ xs) (suc k) v = run-drop xs k v
 
-  count-on : (m p k : ℕ) (v : Values) → visitCount h s (opsFrom bs p m) k v ≡ visitCount h s (opsFrom bs (p + k) (m - k)) 0 v
-  unfolding visitCount opsFrom
-  count-on m p zero v = let a : p + 0 ≡ p = omega arith in let b : m - 0 ≡ m = omega arith in rw (a, b)
-  count-on zero p (suc k) v = let b : 0 - suc k ≡ 0 = omega arith in rw b
-  count-on (suc m) p (suc k) v =
+  count-drop : (xs : List Op) (k : ℕ) (v : Values) → visitCount h s xs k v ≡ visitCount h s (drop k xs) 0 v
+  unfolding visitCount
+  count-drop xs zero v = refl
+  count-drop [] (suc k) v = refl
+  count-drop (x ∷ xs) (suc k) v = count-drop xs k v
+
+  ops-drop : (m p k : ℕ) → drop k (opsFrom bs p m) ≡ opsFrom bs (p + k) (m - k)
+  unfolding opsFrom
+  ops-drop m p zero = let a : p + 0 ≡ p = omega arith in let b : m - 0 ≡ m = omega arith in rw (a, b)
+  ops-drop zero p (suc k) = let b : 0 - suc k ≡ 0 = omega arith in rw b
+  ops-drop (suc m) p (suc k) =
       let a : p + suc k ≡ p + 1 + k = omega arith in
       let b : suc m - suc k ≡ m - k = omega arith in
-      rw (a, b) (count-on m (p + 1) k v)
+      rw (a, b) (ops-drop m (p + 1) k)
 
   none-left : (p m : ℕ) → m ≡ 0 → opsFrom bs p m ≡ []
   unfolding opsFrom
@@ -51,19 +55,10 @@ module _ (h : History) (s : PositionState) (bs : List ℕ) where
   one-more p (suc m) l = rw (sub-one (suc m))
 
   -- a jump past the end lands at the end
-  run-landed : (n q : ℕ) (v : Values) → run h s (opsFrom bs q (n - q)) 0 v ≡ run h s (opsFrom bs (min n q) (n - min n q)) 0 v
-  run-landed n q v = go (ltb n q) refl
+  landed : (n q : ℕ) → opsFrom bs q (n - q) ≡ opsFrom bs (min n q) (n - min n q)
+  landed n q = go (ltb n q) refl
     where
-      go : (t : Bool) → ltb n q ≡ t → run h s (opsFrom bs q (n - q)) 0 v ≡ run h s (opsFrom bs (min n q) (n - min n q)) 0 v
-      go true e =
-          let past : n < q = ltb-true n q e in
-          rw (none-left q (n - q) (omega arith), none-left (min n q) (n - min n q) (omega arith))
-      go false e = let at : min n q ≡ q = omega (arith, ltb-false n q e) in rw at
-
-  count-landed : (n q : ℕ) (v : Values) → visitCount h s (opsFrom bs q (n - q)) 0 v ≡ visitCount h s (opsFrom bs (min n q) (n - min n q)) 0 v
-  count-landed n q v = go (ltb n q) refl
-    where
-      go : (t : Bool) → ltb n q ≡ t → visitCount h s (opsFrom bs q (n - q)) 0 v ≡ visitCount h s (opsFrom bs (min n q) (n - min n q)) 0 v
+      go : (t : Bool) → ltb n q ≡ t → opsFrom bs q (n - q) ≡ opsFrom bs (min n q) (n - min n q)
       go true e =
           let past : n < q = ltb-true n q e in
           rw (none-left q (n - q) (omega arith), none-left (min n q) (n - min n q) (omega arith))
@@ -115,32 +110,26 @@ module _ (h : History) (s : PositionState) (bs : List ℕ) (n : ℕ) where
         q : ℕ
         q = p + 1 + e .skip
 
-        run-next : run h s (opsFrom bs p (n - p)) 0 (holding y vs) ≡ run h s (opsFrom bs (min n q) (n - min n q)) 0 left
+        -- the steps behind it, and those behind its jump
+        these : opsFrom bs p (n - p) ≡ opOf (stepAt bs p) ∷ opsFrom bs (p + 1) (n - p - 1)
+        these = one-more h s bs p (n - p) (omega arith)
+
+        those : drop (e .skip) (opsFrom bs (p + 1) (n - p - 1)) ≡ opsFrom bs (min n q) (n - min n q)
         unfolding q
-        run-next =
+        those =
             let rest : n - p - 1 - e .skip ≡ n - (p + 1 + e .skip) = omega arith in
-            rw (
-              one-more h s bs p (n - p) (omega arith),
-              run-cons h s bs (opsFrom bs (p + 1) (n - p - 1)) (opOf (stepAt bs p)) (holding y vs),
-              did,
-              after-it,
-              run-on h s bs (n - p - 1) (p + 1) (e .skip) left,
-              rest,
-            ) (run-landed h s bs n (p + 1 + e .skip) left)
+            rw (ops-drop h s bs (n - p - 1) (p + 1) (e .skip), rest) (landed h s bs n (p + 1 + e .skip))
+
+        run-next : run h s (opsFrom bs p (n - p)) 0 (holding y vs) ≡ run h s (opsFrom bs (min n q) (n - min n q)) 0 left
+        run-next =
+            let behind : List Op = opsFrom bs (p + 1) (n - p - 1) in
+            rw (these, run-cons h s bs behind (opOf (stepAt bs p)) (holding y vs), did, after-it, run-drop h s bs behind (e .skip) left, those)
 
         count-next : visitCount h s (opsFrom bs p (n - p)) 0 (holding y vs)
             ≡ e .visits + visitCount h s (opsFrom bs (min n q) (n - min n q)) 0 left
-        unfolding q
         count-next =
-            let rest : n - p - 1 - e .skip ≡ n - (p + 1 + e .skip) = omega arith in
-            rw (
-              one-more h s bs p (n - p) (omega arith),
-              count-cons h s bs (opsFrom bs (p + 1) (n - p - 1)) (opOf (stepAt bs p)) (holding y vs),
-              did,
-              after-it,
-              count-on h s bs (n - p - 1) (p + 1) (e .skip) left,
-              rest,
-            ) (ap (λ (m : ℕ). e .visits + m) (count-landed h s bs n (p + 1 + e .skip) left))
+            let behind : List Op = opsFrom bs (p + 1) (n - p - 1) in
+            rw (these, count-cons h s bs behind (opOf (stepAt bs p)) (holding y vs), did, after-it, count-drop h s bs behind (e .skip) left, those)
 
         pub came-on : Came h s bs n (given (e .gives) (e .value) (drop (e .take) vs)) (e .answer) (visits + e .visits) (min n (p + 1 + e .skip))
         unfolding left q

@@ -21,7 +21,7 @@ use Rattle.rules.specs.declared.values.Value.the-variants.{Number}
 use Rattle.rules.specs.Values.{wordsFrom, better, took, pick}
 use Rattle.rules.specs.Meaning.{seriesAt, extremeOver}
 use Rattle.rules.specs.Laws.Meaning.{extreme-more}
-use Rattle.steps.specs.Looks.{ofRow, Passed, Stopped}
+use Rattle.steps.specs.Looks.{ofRow, PassedOver, Stopped}
 use Rattle.steps.proofs.Rows.{price-in, slot-in}
 
 -- ---- a row that is no better
@@ -36,8 +36,8 @@ module _ (kind : ℕ) (best x : Float) where
   not-lower is worse = rw (ne-eqb kind 9 is, worse)
 
 -- one row more
-pub passed-more : (kind : ℕ) (over : Series) (ws : List ℕ) (slots base : ℕ) (best : Float) (k : ℕ) → Passed kind over ws slots base best k
-    → pick kind (Number best) (ofRow over (wordsFrom ws (base + k * (7 + slots)))) ≡ Number best → Passed kind over ws slots base best (k + 1)
+pub passed-more : (kind : ℕ) (over : Series) (ws : List ℕ) (slots base : ℕ) (best : Float) (k : ℕ) → PassedOver kind over ws slots base best k
+    → pick kind (Number best) (ofRow over (wordsFrom ws (base + k * (7 + slots)))) ≡ Number best → PassedOver kind over ws slots base best (k + 1)
 passed-more kind over ws slots base best k before this i l =
     ⊎-elim (λ (near : i < k). before i near) (λ (far : k ≤ i). let here : i ≡ k = omega arith in rw here this) (less-or-not i k)
 
@@ -103,7 +103,7 @@ module _ (K first : ℕ) (ws : List ℕ) (held : ℕ) (is : held ≡ historyOf K
 
   -- the best stays the best over the rows that are passed
   pub passed-on : (kind : ℕ) (over : Series) (best : Float) (oldest i m : ℕ) → oldest ≤ i → i + m < held → ringPlace held first (i + 1) + m ≤ held
-      → Passed kind over ws K (ringPlace held first (i + 1) * (7 + K)) best m
+      → PassedOver kind over ws K (ringPlace held first (i + 1) * (7 + K)) best m
       → Number best ≡ extremeOver (ringOf K first ws) kind over oldest (i - oldest)
       → Number best ≡ extremeOver (ringOf K first ws) kind over oldest (i + m - oldest)
   passed-on kind over best oldest i zero le l ends passed so-far = let none : i + 0 ≡ i = omega arith in rw none so-far

@@ -21,8 +21,8 @@ ofRow (Price p) row = Number (priceOf row p)
 ofRow (Slot k) row = slotOf row k
 
 -- Of the rows from word `base` on, so many leave this number the best.
-abbrev pub Passed : ℕ → Series → List ℕ → ℕ → ℕ → Float → ℕ → Type 0
-Passed kind over ws slots base best m =
+abbrev pub PassedOver : ℕ → Series → List ℕ → ℕ → ℕ → Float → ℕ → Type 0
+PassedOver kind over ws slots base best m =
     (k : ℕ) → k < m → pick kind (Number best) (ofRow over (wordsFrom ws (base + k * (7 + slots)))) ≡ Number best
 
 -- All of `count` rows are passed over, or the row after those that are has this.

@@ -22,7 +22,7 @@ use Rattle.steps.specs.declared.running.RunAnswer.the-variants.{Runs}
 use Rattle.steps.specs.Bytes.{bytesOf}
 use Rattle.steps.specs.Machine.{Values, ago, effect, does, after, run, visitCount, start}
 use Rattle.steps.specs.Running.{ranIf, runs}
-use Rattle.steps.specs.Laws.TranslatedSteps.{Good, AllGood}
+use Rattle.steps.specs.Laws.TranslatedSteps.{FieldsRight, AllFieldsRight}
 use Rattle.steps.specs.Laws.WrittenSteps.{well-formed, reads-back}
 
 five : ℕ
@@ -67,10 +67,10 @@ module _ (h : History) (s : PositionState) where
   sees-all (suc n) v = omega (arith, sees-all n (after (does h s (Const 0 0) v) v))
 
 module _ (K D : ℕ) (deep : 1 ≤ D) where
-  all-good : (n : ℕ) → AllGood K D (after-zeros n)
-  unfolding AllGood Good after-zeros last five three
-  all-good zero = ((omega arith, omega arith), ((omega arith, omega arith), ((omega arith, omega arith), tt)))
-  all-good (suc n) = ((omega arith, omega arith), all-good n)
+  all-right : (n : ℕ) → AllFieldsRight K D (after-zeros n)
+  unfolding AllFieldsRight FieldsRight after-zeros last five three
+  all-right zero = ((omega arith, omega arith), ((omega arith, omega arith), ((omega arith, omega arith), tt)))
+  all-right (suc n) = ((omega arith, omega arith), all-right n)
 
   -- Run over any rows it answers no, since 5 < 3 is no. (A machine of 64 places would lose the 3, and find 0 < 5.)
   pub many-values : K ≤ mostSlots → D ≤ mostRows → (ws : List ℕ) (s : PositionState) → wholeRows K ws ≡ true → stateRight s ≡ true
@@ -83,8 +83,8 @@ module _ (K D : ℕ) (deep : 1 ≤ D) where
         le-ltb mostRows D most,
         whole,
         fine,
-        well-formed K D few most five-below-three (unfold after-zeros last in omega arith) (all-good 63),
-        reads-back K D few most five-below-three (unfold after-zeros last in omega arith) (all-good 63),
+        well-formed K D few most five-below-three (unfold after-zeros last in omega arith) (all-right 63),
+        reads-back K D few most five-below-three (unfold after-zeros last in omega arith) (all-right 63),
         says-no (historyOf K ws) s 63 start,
         sees-all (historyOf K ws) s 63 start,
       )

@@ -15,11 +15,11 @@ use Rattle.steps.specs.declared.step.Op.the-variants.{BarsSinceEntry, Ju
 use Rattle.steps.specs.Machine.{Values, effect, does, after, places, visited, visitCount, visitsOf}
 
 -- each place lies at or after p, and before the next: so none stands there twice
-pub data Rising : ℕ → List ℕ → Type 0 where
-  end : {p : ℕ} → Rising p []
-  next : {p q : ℕ} {qs : List ℕ} → p ≤ q → Rising (q + 1) qs → Rising p (q ∷ qs)
+pub data StrictlyRising : ℕ → List ℕ → Type 0 where
+  end : {p : ℕ} → StrictlyRising p []
+  next : {p q : ℕ} {qs : List ℕ} → p ≤ q → StrictlyRising (q + 1) qs → StrictlyRising p (q ∷ qs)
 
-later : {p q : ℕ} {qs : List ℕ} → p ≤ q → Rising q qs → Rising p qs
+later : {p q : ℕ} {qs : List ℕ} → p ≤ q → StrictlyRising q qs → StrictlyRising p qs
 later le end = end
 later {p} le (next {q = x} l r) = next {p = p} {q = x} (omega arith) r
 
@@ -67,7 +67,7 @@ module _ (h : History) (s : PositionState) where
   unfolding does
   visit-counts x v = counts x _ _ _ _ (v .answer)
 
-  rise : (p : ℕ) (xs : List Op) (k : ℕ) (v : Values) → Rising p (places h s p xs k v)
+  rise : (p : ℕ) (xs : List Op) (k : ℕ) (v : Values) → StrictlyRising p (places h s p xs k v)
   unfolding places
   rise p [] k v = end
   rise p (x ∷ xs) (suc k) v = later {q = p + 1} (omega arith) (rise (p + 1) xs k v)
@@ -91,7 +91,7 @@ module _ (h : History) (s : PositionState) where
       (omega (arith, r .0, c), omega (arith, r .1, c))
 
   -- the places visited rise strictly
-  pub visits-rise : (xs : List Op) → Rising 0 (visited h s xs)
+  pub visits-rise : (xs : List Op) → StrictlyRising 0 (visited h s xs)
   visits-rise xs = rise 0 xs 0 _
 
   -- and are at most as many as there are steps

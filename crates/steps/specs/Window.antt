@@ -33,7 +33,7 @@ use Rattle.steps.specs.Laws.Compiled.{compiled}
 use Rattle.steps.specs.Room.{two-a-node}
 use Rattle.steps.specs.WellFormed.{formedFrom, formed}
 use Rattle.table.specs.Bytes.{Bytes}
-use Rattle.steps.specs.Laws.TranslatedSteps.{AllGood, translated-good}
+use Rattle.steps.specs.Laws.TranslatedSteps.{AllFieldsRight, translated-right}
 use Rattle.steps.specs.Laws.WrittenSteps.{well-formed, reads-back}
 use Rattle.steps.specs.Translating.{stepsOf}
 use Rattle.steps.specs.Running.{ranIf, runs}
@@ -53,8 +53,8 @@ module _ (t : List ℕ) (n r : ℕ) (ok : checked t ≡ Accepted n r) (bytes : B
     unfolding root
     short = omega (arith, two-a-node (treeOf t x), tree-nodes t n r ok x l some, tree-ends t n r ok x l, header-of t n r ok .most)
 
-    good : (D : ℕ) → reachOf (treeOf t x) < D → AllGood (slots t) D (codeOf (treeOf t x))
-    good D near = translated-good (formOf t) D (treeOf t x) (within .fields) near (omega (arith, short))
+    good : (D : ℕ) → reachOf (treeOf t x) < D → AllFieldsRight (slots t) D (codeOf (treeOf t x))
+    good D near = translated-right (formOf t) D (treeOf t x) (within .fields) near (omega (arith, short))
 
     well-there : (D : ℕ) → reachOf (treeOf t x) < D → D ≤ mostRows → formed (slots t) D (bytesOf (stepsOf t x)) ≡ Well
     well-there D near most = rw there (well-formed (slots t) D (header-of t n r ok .few-slots) most (codeOf (treeOf t x)) short (good D near))

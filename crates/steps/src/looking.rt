@@ -17,7 +17,7 @@ ghost use Rattle.rules.specs.declared.values.Value.the-variants.{Number};
 ghost use Rattle.rules.specs.Values.{wordsFrom};
 ghost use Rattle.rules.specs.Meaning.{seriesAt, extremeOver};
 ghost use Rattle.steps.specs.Machine.{ago};
-ghost use Rattle.steps.specs.Looks.{overOf, ofRow, Passed, Stopped};
+ghost use Rattle.steps.specs.Looks.{overOf, ofRow, PassedOver, Stopped};
 
 // A price or a slot of the row that begins at word `base`, which has it.
 fn series_in(rows: &[u64], slots: usize, base: usize, slot: bool, which: u8) -> Value
@@ -38,6 +38,17 @@ struct Stop {
     later: Value,
 }
 
+// Row k stops it, with what it has.
+fn stopped_at(k: usize, later: Value) -> Stop
+    ensures { λ r. ⌜ (r .passed ≡ k) × (r .stopped ≡ true) × (r .later ≡ later) ⌝ }
+{
+    Stop {
+        passed: k,
+        stopped: true,
+        later,
+    }
+}
+
 // How many of `count` rows, one after the other from word `base`, come before one that is better than `best` or that does not have it.
 // What does not change from row to row is asked for once by the compiler, so this is a loop for each case.
 fn pass_rows(
@@ -52,7 +63,7 @@ fn pass_rows(
 ) -> Stop
     requires { ⌜ base + count * (7 + slots) ≤ length (now rows) ⌝ }
     requires { ⌜ (slot ≡ true → (which < slots) × (which < 64)) ⌝ }
-    ensures { λ r. ⌜ Passed kind (overOf slot which) (now (rows .entry)) slots base best (r .passed)
+    ensures { λ r. ⌜ PassedOver kind (overOf slot which) (now (rows .entry)) slots base best (r .passed)
         × Stopped (overOf slot which) (now (rows .entry)) slots base count (r .passed) (r .stopped) (r .later) ⌝ }
 {
     let mut at = base;
@@ -61,30 +72,15 @@ fn pass_rows(
         let found = series_in(rows, slots, at, slot, which);
         match found {
             Value::Missing => {
-                let later = Value::Missing;
-                return Stop {
-                    passed: k,
-                    stopped: true,
-                    later,
-                };
+                return stopped_at(k, found);
             }
             Value::Number(x) => {
                 if kind == kinds::HIGHEST {
                     if best < x {
-                        let later = Value::Number(x);
-                        return Stop {
-                            passed: k,
-                            stopped: true,
-                            later,
-                        };
+                        return stopped_at(k, found);
                     }
                 } else if x < best {
-                    let later = Value::Number(x);
-                    return Stop {
-                        passed: k,
-                        stopped: true,
-                        later,
-                    };
+                    return stopped_at(k, found);
                 }
                 at += words::limits::ROW_FIXED + slots;
                 k += 1;
@@ -111,7 +107,7 @@ fn pass(
     best: f64,
 ) -> Stop
     requires { ⌜ (1 ≤ count) × (base + count * (7 + slots) ≤ length (now rows)) ⌝ }
-    ensures { λ r. ⌜ Passed kind (overOf slot which) (now (rows .entry)) slots base best (r .passed)
+    ensures { λ r. ⌜ PassedOver kind (overOf slot which) (now (rows .entry)) slots base best (r .passed)
         × Stopped (overOf slot which) (now (rows .entry)) slots base count (r .passed) (r .stopped) (r .later) ⌝ }
 {
     if slot {
@@ -120,12 +116,7 @@ fn pass(
                 return pass_rows(kind, rows, slots, base, count, slot, which, best);
             }
         }
-        let later = values::slot_at(rows, base, which as u64);
-        return Stop {
-            passed: 0,
-            stopped: true,
-            later,
-        };
+        return stopped_at(0, values::slot_at(rows, base, which as u64));
     }
     pass_rows(kind, rows, slots, base, count, slot, which, best)
 }
@@ -186,7 +177,7 @@ fn passed_from(
     pass(kind, rows, slots, base, count, slot, which, best)
 }
 
-// The best of the rows from `oldest` to `newest`, where that of the oldest is `start`.
+// The best of the rows from `oldest` to `last`, where that of the oldest is `start`.
 fn best_over(
     kind: u8,
     rows: &[u64],
@@ -197,27 +188,16 @@ fn best_over(
     which: u8,
     start: f64,
     oldest: usize,
-    newest: usize,
+    last: usize,
 ) -> Value
-    requires { ⌜ (held ≡ historyOf slots (now rows) .rows) × (first ≤ held) × (oldest ≤ newest) × (newest < held) ⌝ }
+    requires { ⌜ (held ≡ historyOf slots (now rows) .rows) × (first ≤ held) × (oldest ≤ last) × (last < held) ⌝ }
     requires { ⌜ Number start ≡ seriesAt (ringOf slots first (now rows)) (overOf slot which) oldest ⌝ }
-    ensures { λ r. ⌜ r ≡ extremeOver (ringOf slots first (now (rows .entry))) kind (overOf slot which) oldest (newest - oldest) ⌝ }
+    ensures { λ r. ⌜ r ≡ extremeOver (ringOf slots first (now (rows .entry))) kind (overOf slot which) oldest (last - oldest) ⌝ }
 {
     let mut best = start;
     let mut at = oldest;
-    while at < newest {
-        let stop = passed_from(
-            kind,
-            rows,
-            slots,
-            held,
-            first,
-            slot,
-            which,
-            best,
-            at,
-            newest,
-        );
+    while at < last {
+        let stop = passed_from(kind, rows, slots, held, first, slot, which, best, at, last);
         at += stop.passed;
         if stop.stopped {
             at += 1;

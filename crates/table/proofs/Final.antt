@@ -22,7 +22,7 @@ use Rattle.table.specs.Bytes.{u16}
 use Rattle.table.specs.Header.{total, headerRefusal, root}
 use Rattle.table.specs.Nodes.{wrongNode}
 use Rattle.table.specs.Checked.{orRefused, orHeader, from9, from8, from7, checkedUpTo}
-use Rattle.table.specs.Ends.{endsFor, endAt, from, endOf, endsAll, Linked}
+use Rattle.table.specs.Ends.{endsFor, endAt, from, endOfNode, endsAll, Linked}
 use Rattle.table.specs.Passes.{EndedFrom, Roots, EndedAll, LinkedAll}
 use Rattle.table.specs.Laws.Ends.{from-long, from-at}
 use Rattle.table.specs.Laws.Header.{header-right}
@@ -95,8 +95,8 @@ part t ends b e j x w same small l k lo other = ⊎-elim
     (λ z. simp (lt-ltb j x (omega arith)) (low-word t ends b e j small l k lo (omega arith) ∙ ap (λ (y : ℕ). endAt t (y - j) j) same))
     (eq-zero-or-pos (e - j))
 
-end-at : (t ends : List ℕ) (a b c e : ℕ) → Roots t a b c e → EndedAll t ends a b c e → LinkedAll t ends a b c e → (j : ℕ) → getD ends j 0 ≡ endOf t j
-unfolding endOf
+end-at : (t ends : List ℕ) (a b c e : ℕ) → Roots t a b c e → EndedAll t ends a b c e → LinkedAll t ends a b c e → (j : ℕ) → getD ends j 0 ≡ endOfNode t j
+unfolding endOfNode
 end-at t ends a b c e k all l j =
     part t ends 0 a j (root t 1) _ (k .one) (omega arith) (l .entry .links) (all .entry) (omega arith)
     (λ h1. part t ends a b j (root t 2) _ (k .two) (omega arith) (l .exit .links) (all .exit) h1
@@ -107,8 +107,8 @@ end-at t ends a b c e k all l j =
 pub ends-are : (t ends : List ℕ) (a b c e : ℕ) → Roots t a b c e → EndedAll t ends a b c e → LinkedAll t ends a b c e → ends ≡ endsAll t
 unfolding endsAll
 ends-are t ends a b c e k all l =
-    ext-getD 0 ends (from (endOf t) mostNodes 0) (all .long ∙ sym (from-long (endOf t) mostNodes 0))
-    (λ j h. end-at t ends a b c e k all l j ∙ ap (endOf t) (sym (zero-add j)) ∙ sym (from-at (endOf t) mostNodes 0 j (omega (arith, all .long))))
+    ext-getD 0 ends (from (endOfNode t) mostNodes 0) (all .long ∙ sym (from-long (endOfNode t) mostNodes 0))
+    (λ j h. end-at t ends a b c e k all l j ∙ ap (endOfNode t) (sym (zero-add j)) ∙ sym (from-at (endOfNode t) 0 mostNodes 0 j (omega (arith, all .long))))
 
 module _ (newest : ℕ) (t : List ℕ) (x : Answer) (es ends : List ℕ) where
   right : (x ≡ orHeader (headerRefusal newest t) (orRefused 6 (wrongNode t (u16 t 6) 0) (from7 t)))

@@ -16,14 +16,14 @@ use Rattle.table.specs.declared.answer.Answer.the-variants.{Accepted, Re
 use Rattle.table.specs.Bytes.{u16}
 use Rattle.table.specs.Header.{count, root}
 use Rattle.table.specs.Nodes.{sortAt}
-use Rattle.table.specs.Order.{fits, misfit, orElse, ofFour, misfits}
+use Rattle.table.specs.Order.{fits, misfit, firstPlace, ofFour, misfits}
 use Rattle.table.specs.Forest.{trees, forestOf}
 use Rattle.table.specs.Nesting.{deeper, tooDeep}
 use Rattle.table.specs.Reach.{forestReach, treeReach, tooFar, rowsNeeded, farAt}
 use Rattle.table.specs.Checked.{orRefused, from9}
-use Rattle.table.specs.Passes.{Ended, EndedFrom, Ordered, Roots, EndedAll, WholeTree, LinkedAll, misfitFrom}
+use Rattle.table.specs.Passes.{Ended, EndedFrom, Ordered, Roots, EndedAll, LinkedTree, LinkedAll, misfitFrom}
 use Rattle.table.proofs.Prefix.{fits-two, fits-soon, pass}
-use Rattle.table.specs.Laws.Accepted.{or-none}
+use Rattle.table.specs.Laws.Accepted.{of-four}
 use Rattle.table.specs.Laws.Order.{first-sort, never-at}
 use Rattle.table.proofs.Linked.{linked, word-end}
 
@@ -49,7 +49,7 @@ module _ (t : List ℕ) (a b c e : ℕ) (k : Roots t a b c e) where
   n3 = omega (arith, k .three, k .four)
 
   pub four : (f : ℕ → ℕ → Place) (p q r s : Place) → p ≡ f (a - 0) 0 → q ≡ f (b - a) a → r ≡ f (c - b) b → s ≡ f (e - c) c
-      → orElse p (orElse q (orElse r s)) ≡ ofFour (λ x. f (count t x) (root t x))
+      → firstPlace p q r s ≡ ofFour (λ x. f (count t x) (root t x))
   unfolding ofFour
   four f p q r s hp hq hr hs =
       let o0 : p ≡ f (count t 0) (root t 0) = cc (n0, root-zero t) in
@@ -59,19 +59,19 @@ module _ (t : List ℕ) (a b c e : ℕ) (k : Roots t a b c e) where
       cc
 
   pub four-misfits : (p q r s : Place) → p ≡ misfit t (a - 0) 0 → q ≡ misfit t (b - a) a → r ≡ misfit t (c - b) b → s ≡ misfit t (e - c) c
-      → orElse p (orElse q (orElse r s)) ≡ misfits t
+      → firstPlace p q r s ≡ misfits t
   unfolding misfits
   four-misfits p q r s hp hq hr hs = four (misfit t) p q r s hp hq hr hs
 
   pub four-deep : (p q r s : Place) → p ≡ deeper 32 (trees t (a - 0) 0) → q ≡ deeper 32 (trees t (b - a) a)
       → r ≡ deeper 32 (trees t (c - b) b) → s ≡ deeper 32 (trees t (e - c) c)
-      → orElse p (orElse q (orElse r s)) ≡ tooDeep t
+      → firstPlace p q r s ≡ tooDeep t
   unfolding tooDeep forestOf
   four-deep p q r s hp hq hr hs = four (λ m i. deeper 32 (trees t m i)) p q r s hp hq hr hs
 
   pub four-far : (p q r s : Place) → p ≡ farAt (forestReach (trees t (a - 0) 0)) 0 → q ≡ farAt (forestReach (trees t (b - a) a)) a
       → r ≡ farAt (forestReach (trees t (c - b) b)) b → s ≡ farAt (forestReach (trees t (e - c) c)) c
-      → orElse p (orElse q (orElse r s)) ≡ tooFar t
+      → firstPlace p q r s ≡ tooFar t
   unfolding tooFar forestOf treeReach farAt
   four-far p q r s hp hq hr hs = four (λ m i. farAt (forestReach (trees t m i)) i) p q r s hp hq hr hs
 
@@ -110,32 +110,29 @@ root-end t ends b e h k l =
     after : fits t (e - getD ends b 0) (getD ends b 0) [] ≡ Nowhere
     after = sym (pass t e b (getD ends b 0) known 2 [] sort low) ∙ whole
 
-pub whole-tree : (t ends : List ℕ) (b e : ℕ) → misfit t (e - b) b ≡ Nowhere → EndedFrom t ends b e → WholeTree t ends b e
+pub whole-tree : (t ends : List ℕ) (b e : ℕ) → misfit t (e - b) b ≡ Nowhere → EndedFrom t ends b e → LinkedTree t ends b e
 whole-tree t ends b e h k = record { links = linked t ends b e h k; ends-at = root-end t ends b e h k }
 
 -- The four trees keep rule 7 together just where each does.
 pub linked-all : (t ends : List ℕ) (a b c e : ℕ) → Roots t a b c e → EndedAll t ends a b c e → misfits t ≡ Nowhere → LinkedAll t ends a b c e
-unfolding misfits ofFour
+unfolding misfits
 linked-all t ends a b c e k all h =
-    let f : ℕ → Place = λ x. misfit t (count t x) (root t x) in
-    let h0 = or-none (f 0) (orElse (f 1) (orElse (f 2) (f 3))) h in
-    let h1 = or-none (f 1) (orElse (f 2) (f 3)) (h0 .1) in
-    let h2 = or-none (f 2) (f 3) (h1 .1) in
+    let fine = of-four (λ x. misfit t (count t x) (root t x)) h in
     record {
-      entry = whole-tree t ends 0 a (cc (n0 t a b c e k, root-zero t, h0 .0)) (all .entry);
-      exit = whole-tree t ends a b (cc (n1 t a b c e k, k .one, h1 .0)) (all .exit);
-      shortEntry = whole-tree t ends b c (cc (n2 t a b c e k, k .two, h2 .0)) (all .shortEntry);
-      shortExit = whole-tree t ends c e (cc (n3 t a b c e k, k .three, h2 .1)) (all .shortExit);
+      entry = whole-tree t ends 0 a (cc (n0 t a b c e k, root-zero t, fine 0 (omega arith))) (all .entry);
+      exit = whole-tree t ends a b (cc (n1 t a b c e k, k .one, fine 1 (omega arith))) (all .exit);
+      shortEntry = whole-tree t ends b c (cc (n2 t a b c e k, k .two, fine 2 (omega arith))) (all .shortEntry);
+      shortExit = whole-tree t ends c e (cc (n3 t a b c e k, k .three, fine 3 (omega arith))) (all .shortExit);
     }
 
--- A reach cut at 4,096 tells as much.
+-- A reach capped at 4,096 tells as much.
 far-none : (r b : ℕ) → farAt r b ≡ Nowhere → r ≤ mostReach
 unfolding farAt
 far-none r b h = ⊎-elim (λ z. omega arith) (λ z. absurd (never-at b (sym (rw (lt-ltb mostReach r (omega arith))) ∙ h))) (eq-zero-or-pos (r - mostReach))
 
-pub far-cut : (r b x : ℕ) → x ≡ min r mostRows → farAt x b ≡ farAt r b
+pub far-capped : (r b x : ℕ) → x ≡ min r mostRows → farAt x b ≡ farAt r b
 unfolding farAt
-far-cut r b x h = ⊎-elim
+far-capped r b x h = ⊎-elim
     (λ z. simp (le-ltb mostReach r (omega arith), le-ltb mostReach x (omega arith)))
     (λ z. simp (lt-ltb mostReach r (omega arith), lt-ltb mostReach x (omega arith)))
     (eq-zero-or-pos (r - mostReach))
@@ -148,8 +145,8 @@ pub nine-accepted : (t : List ℕ) (n r : ℕ) → tooFar t ≡ Nowhere → n �
 unfolding from9 orRefused
 nine-accepted t n r h hn hr = rw h (cc)
 
-pub cut-small : (x y : ℕ) → x ≡ min y mostRows → x ≤ mostRows
-cut-small x y h = omega arith
+pub capped-small : (x y : ℕ) → x ≡ min y mostRows → x ≤ mostRows
+capped-small x y h = omega arith
 
 most-four : (w x y z w′ x′ y′ z′ : ℕ) → w ≡ w′ → x ≡ x′ → y ≡ y′ → z ≡ z′ → max (max w x) (max y z) ≡ max (max w′ x′) (max y′ z′)
 most-four w x y z w′ x′ y′ z′ a b c d = cc
@@ -169,30 +166,25 @@ most-low w x y z a b c d = below (omega arith) (omega arith)
 module _ (t : List ℕ) (a b c e : ℕ) (k : Roots t a b c e) where
   pub fars-are : (w x y z : ℕ) (f : Place) → w ≡ min (forestReach (trees t (a - 0) 0)) mostRows → x ≡ min (forestReach (trees t (b - a) a)) mostRows
       → y ≡ min (forestReach (trees t (c - b) b)) mostRows → z ≡ min (forestReach (trees t (e - c) c)) mostRows
-      → f ≡ orElse (farAt w 0) (orElse (farAt x a) (orElse (farAt y b) (farAt z c))) → f ≡ tooFar t
-  fars-are w x y z f hw hx hy hz hf = hf ∙ four-far t a b c e k _ _ _ _ (far-cut _ 0 w hw) (far-cut _ a x hx) (far-cut _ b y hy) (far-cut _ c z hz)
+      → f ≡ firstPlace (farAt w 0) (farAt x a) (farAt y b) (farAt z c) → f ≡ tooFar t
+  fars-are w x y z f hw hx hy hz hf = hf ∙ four-far t a b c e k _ _ _ _ (far-capped _ 0 w hw) (far-capped _ a x hx) (far-capped _ b y hy) (far-capped _ c z hz)
 
   pub rows-are : (w x y z r : ℕ) → w ≡ min (forestReach (trees t (a - 0) 0)) mostRows → x ≡ min (forestReach (trees t (b - a) a)) mostRows
       → y ≡ min (forestReach (trees t (c - b) b)) mostRows → z ≡ min (forestReach (trees t (e - c) c)) mostRows → tooFar t ≡ Nowhere
       → r ≡ min (max (max w x) (max y z)) mostRows + 1 → r ≡ rowsNeeded t
-  unfolding tooFar ofFour rowsNeeded treeReach forestOf farAt
+  unfolding tooFar rowsNeeded treeReach forestOf farAt
   rows-are w x y z r hw hx hy hz none hr =
-      let f : ℕ → Place = λ i. farAt (treeReach t i) (root t i) in
-      let h0 = or-none (f 0) (orElse (f 1) (orElse (f 2) (f 3))) none in
-      let h1 = or-none (f 1) (orElse (f 2) (f 3)) (h0 .1) in
-      let h2 = or-none (f 2) (f 3) (h1 .1) in
+      let near = of-four (λ i. farAt (treeReach t i) (root t i)) none in
       let w0 : w ≡ min (treeReach t 0) mostRows = cc (n0 t a b c e k, root-zero t) in
       let x0 : x ≡ min (treeReach t 1) mostRows = cc (n1 t a b c e k, k .one) in
       let y0 : y ≡ min (treeReach t 2) mostRows = cc (n2 t a b c e k, k .two) in
       let z0 : z ≡ min (treeReach t 3) mostRows = cc (n3 t a b c e k, k .three) in
       hr ∙ ap (λ (n : ℕ). n + 1)
-      (most-low w x y z (cut-small w _ w0) (cut-small x _ x0) (cut-small y _ y0) (cut-small z _ z0) ∙
-      most-four w x y z _ _ _ _ (kept _ _ w w0 (h0 .0)) (kept _ _ x x0 (h1 .0)) (kept _ _ y y0 (h2 .0)) (kept _ _ z z0 (h2 .1)))
+      (most-low w x y z (capped-small w _ w0) (capped-small x _ x0) (capped-small y _ y0) (capped-small z _ z0) ∙
+      most-four w x y z _ _ _ _ (kept _ _ w w0 (near 0 (omega arith))) (kept _ _ x x0 (near 1 (omega arith)))
+      (kept _ _ y y0 (near 2 (omega arith))) (kept _ _ z z0 (near 3 (omega arith))))
 
 pub zeros-at : (n j : ℕ) → getD {A = ℕ} (replicate n 0) j 0 ≡ 0
 zeros-at zero j = refl
 zeros-at (suc n) zero = refl
 zeros-at (suc n) (suc j) = zeros-at n j
-
-pub chain : (f g h p q r s : Place) → f ≡ orElse p g → g ≡ orElse q h → h ≡ orElse r s → f ≡ orElse p (orElse q (orElse r s))
-chain f g h p q r s hf hg hh = hf ∙ ap (λ (x : Place). orElse p x) (hg ∙ ap (λ (x : Place). orElse q x) hh)

@@ -21,15 +21,10 @@ use Rattle.table.specs.Reach.{ownBack, weigh}
 use Rattle.table.specs.Checked.{checked}
 use Rattle.table.specs.Ends.{endsBeside}
 use Rattle.table.specs.Laws.Accepted.{ends-of, tree-whole}
-use Rattle.table.specs.Silent.{WholeAll, silentAnswer, listAfter, silentNode, silentNodes, fourSilent, putAll}
+use Rattle.table.specs.Silent.{WholeTrees, silentAnswer, listAfter, silentNode, silentNodes, fourSilent, putAll}
 use Rattle.table.specs.Laws.Silent.{next-node, no-node}
 
 -- ---- numbers put one after the other
-
-pub length-put : (l : List ℕ) (at : ℕ) (xs : List ℕ) → length (putAll l at xs) ≡ length l
-unfolding putAll
-length-put l at [] = refl
-length-put l at (x ∷ xs) = length-put (set l at x) (at + 1) xs ∙ length-set l at x
 
 pub put-append : (l : List ℕ) (at : ℕ) (xs ys : List ℕ) → putAll l at (xs ++ ys) ≡ putAll (putAll l at xs) (at + length xs) ys
 unfolding putAll
@@ -129,8 +124,8 @@ module _ (t : List ℕ) (d x at : ℕ) (given list : List ℕ) (next i : ℕ)
 -- ---- the four trees
 
 -- the ends beside an accepted table are right for each of its trees
-pub whole-all : (t ends : List ℕ) (n r : ℕ) → checked t ≡ Accepted n r → ends ≡ endsBeside t → WholeAll t ends
-unfolding WholeAll
+pub whole-all : (t ends : List ℕ) (n r : ℕ) → checked t ≡ Accepted n r → ends ≡ endsBeside t → WholeTrees t ends
+unfolding WholeTrees
 whole-all t ends n r ok e x l = rw (e, ends-of t n r ok, add-one x) (tree-whole t n r ok x l)
 
 -- four rows of numbers, each put where the one before it ended

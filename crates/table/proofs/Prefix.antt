@@ -102,8 +102,8 @@ module _ (t : List ℕ) (e i : ℕ) where
     pub turn : (v : ℕ) → sortAt t j ≡ of → v < misfitFrom → Ended t e j v → Here t e i of (left - 1) v
     turn v s h k ws = at-once ws ∙ pass t e j v k of _ s h
 
-    pub cut : e ≤ j → j < misfitFrom → Ended t e i (misfitFrom + j)
-    cut h small = stopped j small (λ ws. at-once ws ∙ fits-short t e j h of _)
+    pub cut-short : e ≤ j → j < misfitFrom → Ended t e i (misfitFrom + j)
+    cut-short h small = stopped j small (λ ws. at-once ws ∙ fits-short t e j h of _)
 
     pub wrong : j < e → j < misfitFrom → (sortAt t j ≡ of → ⊥) → Ended t e i (misfitFrom + j)
     wrong h small s = stopped j small (λ ws. at-once ws ∙ fits-other t e j h of _ s)

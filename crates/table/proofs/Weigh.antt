@@ -13,7 +13,7 @@ use Rattle.table.specs.declared.nodes.Node.{Node}
 use Rattle.table.specs.declared.places.Place.{Place}
 use Rattle.table.specs.declared.places.Place.the-variants.{Nowhere, At}
 use Rattle.table.specs.Nodes.{nodeAt, childCountAt}
-use Rattle.table.specs.Order.{orElse}
+use Rattle.table.specs.Order.{orPlace}
 use Rattle.table.specs.Forest.{Forest, none, tree, firstTrees, otherTrees, nodeOver, trees}
 use Rattle.table.specs.Nesting.{deeper}
 use Rattle.table.specs.Reach.{weigh, ownBack, forestReach}
@@ -118,21 +118,21 @@ unfolding Most
 most-small t words w i e m k ws = omega (arith, k w ws)
 
 -- Rule 8.
-or-or : (p q r : Place) → orElse p (orElse q r) ≡ orElse (orElse p q) r
-unfolding orElse
+or-or : (p q r : Place) → orPlace p (orPlace q r) ≡ orPlace (orPlace p q) r
+unfolding orPlace
 or-or Nowhere q r = refl
 or-or (At x) q r = refl
 
-pub deeper-split : (l k : ℕ) (f : Forest) → deeper l f ≡ orElse (deeper l (firstTrees k f)) (deeper l (otherTrees k f))
-unfolding deeper orElse firstTrees otherTrees
+pub deeper-split : (l k : ℕ) (f : Forest) → deeper l f ≡ orPlace (deeper l (firstTrees k f)) (deeper l (otherTrees k f))
+unfolding deeper orPlace firstTrees otherTrees
 deeper-split l zero f = refl
 deeper-split l (suc k) none = refl
 deeper-split zero (suc k) (tree n below rest) = refl
 deeper-split (suc l) (suc k) (tree n below rest) =
-    ap (λ (p : Place). orElse (deeper l below) p) (deeper-split (suc l) k rest) ∙ or-or (deeper l below) _ _
+    ap (λ (p : Place). orPlace (deeper l below) p) (deeper-split (suc l) k rest) ∙ or-or (deeper l below) _ _
 
 shallow : (l : ℕ) (f : Forest) → weigh (weight 0) f ≤ l → deeper l f ≡ Nowhere
-unfolding deeper orElse weigh weight
+unfolding deeper orPlace weigh weight
 shallow l none h = refl
 shallow zero (tree n below rest) h = absurd (never h)
   where
@@ -140,13 +140,13 @@ shallow zero (tree n below rest) h = absurd (never h)
     never h′ = omega arith
 shallow (suc l) (tree n below rest) h = rw (shallow l below (omega arith), shallow (suc l) rest (omega arith))
 
-or-found : (q : Place) (p : ℕ) → (r : ℕ) × (orElse q (At p) ≡ At r)
-unfolding orElse
+or-found : (q : Place) (p : ℕ) → (r : ℕ) × (orPlace q (At p) ≡ At r)
+unfolding orPlace
 or-found Nowhere p = (p, refl)
 or-found (At x) p = (x, refl)
 
 found : (l : ℕ) (f : Forest) → l < weigh (weight 0) f → (p : ℕ) × (deeper l f ≡ At p)
-unfolding deeper orElse weigh weight
+unfolding deeper orPlace weigh weight
 found l none h = absurd (never h)
   where
     never : l < 0 → ⊥
@@ -181,15 +181,15 @@ module _ (t : List ℕ) (e j left : ℕ) where
     unfolding weight below
     own = first-weight (weight 0) t j e h
 
-    two : deeper left (trees t (e - j) j) ≡ orElse (deeper (left - 1) below) (deeper left above)
+    two : deeper left (trees t (e - j) j) ≡ orPlace (deeper (left - 1) below) (deeper left above)
     unfolding deeper trees nodeOver below above
     two = ap (λ (m : ℕ). deeper left (trees t m j)) (left-suc e j h) ∙
         ap (λ (l : ℕ). deeper l (trees t (suc (e - (j + 1))) j)) pred ∙
-        ap (λ (l : ℕ). orElse (deeper (left - 1) (firstTrees (childCountAt t j) (trees t (e - (j + 1)) (j + 1))))
+        ap (λ (l : ℕ). orPlace (deeper (left - 1) (firstTrees (childCountAt t j) (trees t (e - (j + 1)) (j + 1))))
         (deeper l (otherTrees (childCountAt t j) (trees t (e - (j + 1)) (j + 1))))) (sym pred)
 
     pub deep-down : left < x → deeper left (trees t (e - j) j) ≡ deeper (left - 1) (trees t (e - (j + 1)) (j + 1))
-    unfolding orElse below
+    unfolding orPlace below
     deep-down g =
         let p = found (left - 1) below (omega (arith, own)) in
         two ∙ rw (p .1) (sym (deeper-split (left - 1) (childCountAt t j) (trees t (e - (j + 1)) (j + 1)) ∙ rw (p .1)))
@@ -199,9 +199,9 @@ module _ (t : List ℕ) (e j left : ℕ) where
     skipped = rw (left-suc e j h)
 
     pub deep-over : (v : ℕ) → x ≤ left → left ≤ 32 → Link t e j v → deeper left (trees t (e - j) j) ≡ deeper left (trees t (e - v) v)
-    unfolding orElse
+    unfolding orPlace
     deep-over v g small k =
-        two ∙ ap (λ (p : Place). orElse p (deeper left above)) (shallow (left - 1) below (omega (arith, own))) ∙
+        two ∙ ap (λ (p : Place). orPlace p (deeper left above)) (shallow (left - 1) below (omega (arith, own))) ∙
         ap (λ (f : Forest). deeper left f) (sym skipped ∙ k .next)
 
 -- Rule 9.

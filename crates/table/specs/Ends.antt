@@ -27,20 +27,20 @@ unfoldable pub endAt : List ℕ → ℕ → ℕ → ℕ
 endAt t m i = placeOr (i + m) (fits t m i (sortAt t i ∷ []))
 
 -- node j's end, in the tree that it stands in; 0 past the last tree
-unfoldable pub endOf : List ℕ → ℕ → ℕ
-endOf t j =
+unfoldable pub endOfNode : List ℕ → ℕ → ℕ
+endOfNode t j =
     cond (ltb j (root t 1)) (endAt t (root t 1 - j) j)
     (cond (ltb j (root t 2)) (endAt t (root t 2 - j) j)
     (cond (ltb j (root t 3)) (endAt t (root t 3 - j) j)
     (cond (ltb j (root t 4)) (endAt t (root t 4 - j) j) 0)))
 
 -- f at i, i + 1, .. : m of them
-unfoldable pub from : (ℕ → ℕ) → ℕ → ℕ → List ℕ
+unfoldable pub from : {A : Type 0} → (ℕ → A) → ℕ → ℕ → List A
 from f zero i = []
 from f (suc m) i = f i ∷ from f m (i + 1)
 
 unfoldable pub endsAll : List ℕ → List ℕ
-endsAll t = from (endOf t) mostNodes 0
+endsAll t = from (endOfNode t) mostNodes 0
 
 -- the array beside an answer: zeros beside a refusal (decided)
 unfoldable pub endsFor : Answer → List ℕ → List ℕ

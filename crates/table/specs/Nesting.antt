@@ -4,14 +4,14 @@ use Prim.Native.Nat.{ℕ, zero, suc}
 use Rattle.words.specs.Limits.{mostNesting}
 use Rattle.table.specs.declared.places.Place.{Place}
 use Rattle.table.specs.declared.places.Place.the-variants.{Nowhere, At}
-use Rattle.table.specs.Order.{orElse, ofFour}
+use Rattle.table.specs.Order.{orPlace, ofFour}
 use Rattle.table.specs.Forest.{Forest, none, tree, forestOf}
 
 -- the first node, and so the lowest, with more than l levels down to it, itself counted
 unfoldable pub deeper : ℕ → Forest → Place
 deeper l none = Nowhere
 deeper zero (tree n below rest) = At (n .number)
-deeper (suc l) (tree n below rest) = orElse (deeper l below) (deeper (suc l) rest)
+deeper (suc l) (tree n below rest) = orPlace (deeper l below) (deeper (suc l) rest)
 
 -- "8 nesting above 32 (root is 1): lowest such node". Operands count too.
 unfoldable pub tooDeep : List ℕ → Place

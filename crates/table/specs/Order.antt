@@ -26,13 +26,16 @@ fits t (suc m) i (w ∷ ws) =
 unfoldable pub misfit : List ℕ → ℕ → ℕ → Place
 misfit t m b = cond (eqb m 0) Nowhere (fits t m b (2 ∷ []))
 
-unfoldable pub orElse : Place → Place → Place
-orElse Nowhere q = q
-orElse (At p) q = At p
+unfoldable pub orPlace : Place → Place → Place
+orPlace Nowhere q = q
+orPlace (At p) q = At p
+
+abbrev pub firstPlace : Place → Place → Place → Place → Place
+firstPlace p q r s = orPlace p (orPlace q (orPlace r s))
 
 -- the first place that one of the four trees gives; their nodes rise with the trees, so it is the lowest
 unfoldable pub ofFour : (ℕ → Place) → Place
-ofFour f = orElse (f 0) (orElse (f 1) (orElse (f 2) (f 3)))
+ofFour f = firstPlace (f 0) (f 1) (f 2) (f 3)
 
 -- "7 a tree's sorts or extent wrong"
 unfoldable pub misfits : List ℕ → Place

@@ -42,7 +42,7 @@ pub record Ordered (t : List ℕ) (b e : ℕ) (given ends : List ℕ) : Type 0 w
   pub below : (j : ℕ) → j < b → getD ends j 0 ≡ getD given j 0
   pub above : (j : ℕ) → e ≤ j → getD ends j 0 ≡ getD given j 0
 
--- Rules 8 and 9. The array of words: node j's is what its subtree weighs, cut at 4,096. Weight 0 is levels, weight 1 is
+-- Rules 8 and 9. The array of words: node j's is what its subtree weighs, capped at 4,096. Weight 0 is levels, weight 1 is
 -- bars back.
 unfoldable pub weight : ℕ → Node → ℕ
 weight what n = cond (eqb what 0) 1 (ownBack n)
@@ -75,12 +75,12 @@ pub record EndedAll (t ends : List ℕ) (a b c e : ℕ) : Type 0 where
   pub past : (j : ℕ) → e ≤ j → getD ends j 0 ≡ 0
   pub long : length ends ≡ mostNodes
 
-pub record WholeTree (t ends : List ℕ) (b e : ℕ) : Type 0 where
+pub record LinkedTree (t ends : List ℕ) (b e : ℕ) : Type 0 where
   pub links : Linked t ends b e
   pub ends-at : b < e → getD ends b 0 ≡ e
 
 pub record LinkedAll (t ends : List ℕ) (a b c e : ℕ) : Type 0 where
-  pub entry : WholeTree t ends 0 a
-  pub exit : WholeTree t ends a b
-  pub shortEntry : WholeTree t ends b c
-  pub shortExit : WholeTree t ends c e
+  pub entry : LinkedTree t ends 0 a
+  pub exit : LinkedTree t ends a b
+  pub shortEntry : LinkedTree t ends b c
+  pub shortExit : LinkedTree t ends c e

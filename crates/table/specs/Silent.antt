@@ -18,7 +18,7 @@ use Rattle.table.specs.Reach.{ownBack, weigh}
 use Rattle.table.specs.Trees.{Condition, Conditions, compare, cross, between, trend, every, any, negated, inPosition, barsSince, none, more, reachOf}
 use Rattle.table.specs.Reading.{treeOf}
 use Rattle.table.specs.Writing.{nodesOf}
-use Rattle.table.specs.Laws.Accepted.{Whole}
+use Rattle.table.specs.Laws.Accepted.{WholeTree}
 
 -- The tests: a comparison, a cross, Between, Rising and Falling. All else only joins their answers, or reads the position.
 unfoldable pub isTest : Condition → Bool
@@ -39,16 +39,16 @@ silent d c = isTest c && leb d (reachOf c)
 -- ---- by their node numbers, in table order
 
 -- a test with node number i, where it falls silent
-unfoldable pub listed : ℕ → Condition → ℕ → List ℕ
-listed d c i = cond (silent d c) (i ∷ []) []
+unfoldable pub ifSilent : ℕ → Condition → ℕ → List ℕ
+ifSilent d c i = cond (silent d c) (i ∷ []) []
 
 -- Those of a condition whose own node is number i: its children follow it, "each tree in prefix order".
 unfoldable mutual
   pub silentIn : ℕ → Condition → ℕ → List ℕ
-  silentIn d (compare kind a b) i = listed d (compare kind a b) i
-  silentIn d (cross kind a b) i = listed d (cross kind a b) i
-  silentIn d (between x low high) i = listed d (between x low high) i
-  silentIn d (trend kind a n) i = listed d (trend kind a n) i
+  silentIn d (compare kind a b) i = ifSilent d (compare kind a b) i
+  silentIn d (cross kind a b) i = ifSilent d (cross kind a b) i
+  silentIn d (between x low high) i = ifSilent d (between x low high) i
+  silentIn d (trend kind a n) i = ifSilent d (trend kind a n) i
   silentIn d (every cs) i = silentInAll d cs (i + 1)
   silentIn d (any cs) i = silentInAll d cs (i + 1)
   silentIn d (negated c) i = silentIn d c (i + 1)
@@ -79,10 +79,10 @@ listAfter (Refuses why) numbers list = list
 listAfter (Lists n) numbers list = numbers ++ drop (length numbers) list
 
 -- each tree has right bytes and right ends
-unfoldable pub WholeAll : List ℕ → List ℕ → Type 0
-WholeAll t ends = (x : ℕ) → x < 4 → Whole t ends (root t x) (root t (x + 1))
+unfoldable pub WholeTrees : List ℕ → List ℕ → Type 0
+WholeTrees t ends = (x : ℕ) → x < 4 → WholeTree t ends (root t x) (root t (x + 1))
 
--- ---- as the code finds them: a node of kind 16 to 26 whose subtree weighs d bars or more, weights being cut at 4,096
+-- ---- as the code finds them: a node of kind 16 to 26 whose subtree weighs d bars or more, weights being capped at 4,096
 
 unfoldable pub silentNode : ℕ → Node → ℕ → List ℕ
 silentNode d n back = cond (leb 16 (n .kind) && ltb (n .kind) 27 && leb d (min back mostRows)) (n .number ∷ []) []

@@ -1,6 +1,6 @@
 // Rule 8: nesting above 32.
 use crate::places::Place;
-use crate::places::or_else;
+use crate::places::first_place;
 use crate::weighing::LEVELS;
 use crate::weighing::weigh_tree;
 use words::limits::MOST_NESTING;
@@ -51,5 +51,5 @@ pub(crate) fn too_deep(
     let q = deep_of(t, ends, a, b);
     let r = deep_of(t, ends, b, c);
     let s = deep_of(t, ends, c, e);
-    or_else(p, or_else(q, or_else(r, s)))
+    first_place(p, q, r, s)
 }

@@ -6,7 +6,7 @@ use crate::nodes::child_fits;
 use crate::nodes::node_at;
 use crate::nodes::sort_at;
 use crate::places::Place;
-use crate::places::or_else;
+use crate::places::first_place;
 ghost use mathlib.Core.Path.{_≡_};
 ghost use Prim.Native.Nat.{_+_, _-_, _≤_, _<_};
 ghost use mathlib.Core.Bool.{true};
@@ -124,5 +124,5 @@ pub(crate) fn misfits_of(
     let q = misfit_of(t, ends, a, b);
     let r = misfit_of(t, ends, b, c);
     let s = misfit_of(t, ends, c, e);
-    or_else(p, or_else(q, or_else(r, s)))
+    first_place(p, q, r, s)
 }

@@ -1,9 +1,9 @@
 // Rule 9: a reach above 4,095; and the rows that the table needs.
 use crate::answer::Answer;
 use crate::places::Place;
-use crate::places::or_else;
+use crate::places::first_place;
 use crate::weighing::BARS;
-use crate::weighing::cut;
+use crate::weighing::capped;
 use crate::weighing::greater;
 use crate::weighing::weigh_tree;
 use words::limits::MOST_REACH;
@@ -12,14 +12,14 @@ ghost use mathlib.Core.Path.{_≡_};
 ghost use Prim.Native.Nat.{_+_, _-_, _≤_, _<_, min, max};
 ghost use lib.ListN.{getD};
 ghost use Rattle.words.specs.Limits.{mostNodes, mostRows};
-ghost use Rattle.table.specs.Order.{orElse};
+ghost use Rattle.table.specs.Order.{firstPlace};
 ghost use Rattle.table.specs.Forest.{trees};
 ghost use Rattle.table.specs.Reach.{forestReach, farAt};
 ghost use Rattle.table.specs.Ends.{Linked};
 ghost use Rattle.table.specs.Checked.{from9};
 ghost use Rattle.table.specs.Passes.{Roots, LinkedAll};
 
-// How far back one tree reads, cut at 4,096.
+// How far back one tree reads, capped at 4,096.
 fn reach_of(t: &[u8], ends: &[usize; 256], b: usize, e: usize) -> u64
     requires { ⌜ (b ≤ e) × (e ≤ mostNodes) ⌝ }
     requires { ⌜ Linked (now t) (now ends) b e ⌝ }
@@ -44,13 +44,13 @@ fn far_at(reach: u64, b: usize) -> Place
 }
 
 fn too_far(w: u64, x: u64, y: u64, z: u64, a: usize, b: usize, c: usize) -> Place
-    ensures { λ r. ⌜ r ≡ orElse (farAt w 0) (orElse (farAt x a) (orElse (farAt y b) (farAt z c))) ⌝ }
+    ensures { λ r. ⌜ r ≡ firstPlace (farAt w 0) (farAt x a) (farAt y b) (farAt z c) ⌝ }
 {
     let p = far_at(w, 0);
     let q = far_at(x, a);
     let r = far_at(y, b);
     let s = far_at(z, c);
-    or_else(p, or_else(q, or_else(r, s)))
+    first_place(p, q, r, s)
 }
 
 fn rows_needed(w: u64, x: u64, y: u64, z: u64) -> u64
@@ -59,7 +59,7 @@ fn rows_needed(w: u64, x: u64, y: u64, z: u64) -> u64
     let p = greater(w, x);
     let q = greater(y, z);
     let most = greater(p, q);
-    let m = cut(most);
+    let m = capped(most);
     m + 1
 }
 

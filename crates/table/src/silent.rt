@@ -16,8 +16,8 @@ ghost use Rattle.table.specs.Nodes.{nodeAt};
 ghost use Rattle.table.specs.Checked.{checked};
 ghost use Rattle.table.specs.Header.{root};
 ghost use Rattle.table.specs.Forest.{forestOf};
-ghost use Rattle.table.specs.Laws.Accepted.{Whole};
-ghost use Rattle.table.specs.Silent.{WholeAll, silentAnswer, listAfter, silentNodes, fourSilent, putAll};
+ghost use Rattle.table.specs.Laws.Accepted.{WholeTree};
+ghost use Rattle.table.specs.Silent.{WholeTrees, silentAnswer, listAfter, silentNodes, fourSilent, putAll};
 
 // The answer: how many tests were listed, or the refusal.
 pub enum SilentAnswer {
@@ -54,7 +54,7 @@ fn put(list: &mut [u64], at: usize, x: u64)
 // The silent tests of tree x, from place `at` of the list on, where there is a place. The next place is returned.
 fn list_tree(t: &[u8], ends: &[usize; 256], d: u64, x: u8, list: &mut [u64], at: usize) -> usize
     requires { ⌜ x < 4 ⌝ }
-    requires { ⌜ Whole (now t) (now ends) (root (now t) x) (root (now t) (x + 1)) ⌝ }
+    requires { ⌜ WholeTree (now t) (now ends) (root (now t) x) (root (now t) (x + 1)) ⌝ }
     requires { ⌜ at ≤ root (now t) x ⌝ }
     ensures { λ r. ⌜ (r ≡ at + length (silentNodes d (forestOf (now (t .entry)) x))) × (r ≤ root (now (t .entry)) (x + 1)) ⌝ }
     ensures { λ _. ⌜ now (list .exit) ≡ putAll (now (list .entry)) at (silentNodes d (forestOf (now (t .entry)) x)) ⌝ }
@@ -78,7 +78,7 @@ fn list_tree(t: &[u8], ends: &[usize; 256], d: u64, x: u8, list: &mut [u64], at:
 
 // Those of the four trees. How many there are is returned, whatever the list's length.
 fn list_all(t: &[u8], ends: &[usize; 256], d: u64, list: &mut [u64]) -> usize
-    requires { ⌜ WholeAll (now t) (now ends) ⌝ }
+    requires { ⌜ WholeTrees (now t) (now ends) ⌝ }
     ensures { λ r. ⌜ r ≡ length (fourSilent (now (t .entry)) d) ⌝ }
     ensures { λ _. ⌜ now (list .exit) ≡ putAll (now (list .entry)) 0 (fourSilent (now (t .entry)) d) ⌝ }
 {

@@ -1,5 +1,5 @@
 // What rules 8 and 9 share: what each subtree weighs, from a tree's last node to its first. A node's weight is 1 where levels
-// are counted, and what it adds to the reach where bars are. Weights are cut at 4,096, so no sum wraps.
+// are counted, and what it adds to the reach where bars are. Weights are capped at 4,096, so no sum wraps.
 use crate::kinds::BARS_BEFORE;
 use crate::kinds::ITS_N;
 use crate::kinds::Kind;
@@ -27,7 +27,7 @@ pub fn greater(a: u64, b: u64) -> u64
     if a < b { b } else { a }
 }
 
-pub fn cut(a: u64) -> u64
+pub fn capped(a: u64) -> u64
     ensures { λ r. ⌜ r ≡ min a mostRows ⌝ }
 {
     let most = MOST_ROWS as u64;
@@ -64,7 +64,7 @@ fn weight_at(t: &[u8], what: u8, i: usize) -> u64
     }
     let n = node_at(t, i);
     let w = kind_of(n.kind);
-    cut(back_of(n, w))
+    capped(back_of(n, w))
 }
 
 // The greatest word of node i's children.
@@ -98,7 +98,7 @@ pub(crate) fn weigh_tree(t: &[u8], ends: &[usize; 256], what: u8, b: usize, e: u
         i -= 1;
         let own = weight_at(t, what, i);
         let most = most_below(t, ends, &words, i, e);
-        let x = cut(own + most);
+        let x = capped(own + most);
         words[i] = x;
     }
     words

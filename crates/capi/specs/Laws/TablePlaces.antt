@@ -9,7 +9,7 @@ use Rattle.table.specs.declared.places.Place.{Place}
 use Rattle.table.specs.declared.places.Place.the-variants.{At, Nowhere}
 use Rattle.table.specs.Header.{newestVersion, total, count, root}
 use Rattle.table.specs.Nodes.{nodeAt, nodeRight, wrongNode, sortAt, childCountAt, childFitsAt}
-use Rattle.table.specs.Order.{fits, misfit, orElse, ofFour, misfits}
+use Rattle.table.specs.Order.{fits, misfit, orPlace, ofFour, misfits}
 use Rattle.table.specs.Forest.{Forest, none, tree, firstTrees, otherTrees, nodeOver, trees, forestOf}
 use Rattle.table.specs.Nesting.{deeper, tooDeep}
 use Rattle.table.specs.Reach.{treeReach, farAt, tooFar}
@@ -73,8 +73,8 @@ tree-numbers t n (suc m) i h =
     let after = tree-numbers t n m (i + 1) (omega arith) in
     (omega arith, first-numbers n (childCountAt t i) _ after, other-numbers n (childCountAt t i) _ after)
 
-first-of : (n : ℕ) (q r : Place) → UpTo n q → UpTo n r → UpTo n (orElse q r)
-unfolding orElse
+first-of : (n : ℕ) (q r : Place) → UpTo n q → UpTo n r → UpTo n (orPlace q r)
+unfolding orPlace
 first-of n Nowhere r u v = v
 first-of n (At p) r u v = u
 

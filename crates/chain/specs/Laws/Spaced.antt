@@ -5,9 +5,8 @@ use mathlib.Core.Path.{_≡_, sym, ap, subst, _∙_}
 use mathlib.Core.Bool.{true, true≢false}
 use mathlib.Core.List.{List}
 use native.Mathlib.Omega.{arith}
-use lib.ListN.{getD}
 use lib.Dec.{eqb}
-use borrow.Author.Tests.{lt-ltb, lt-leb}
+use borrow.Author.Tests.{lt-leb}
 use Rattle.table.specs.declared.kinds.Kind.{Kind}
 use Rattle.table.specs.declared.answer.Answer.the-variants.{Accepted}
 use Rattle.table.specs.Kinds.{kindOf, aSeries, extremum}
@@ -25,11 +24,11 @@ use Rattle.table.specs.Trees.{Operand, const, ref, price, prev, arith as sums, 
 use Rattle.table.specs.Trees.{negated, inPosition, barsSince, none, more}
 use Rattle.table.specs.Writing.{nodesIn, nodesOf, nodesOfAll}
 use Rattle.table.specs.Laws.Forest.{left-suc, first-none}
-use Rattle.table.specs.Laws.Accepted.{Whole, tree-whole, ends-of}
+use Rattle.table.specs.Laws.Accepted.{WholeTree, tree-whole, ends-of}
 use Rattle.roundtrip.specs.Laws.Walking.{Stands, node-there, sort-there, level-left, stands-one, stands-next, stands-below, tree-stands}
 use Rattle.rules.specs.Shapes.{endIn, operandOf, conditionOf, operandShape, conditionShape}
 use Rattle.rules.specs.Flat.{growOperand, operandAt, growConditions, group, growCondition, conditionAt}
-use Rattle.rules.specs.Laws.FlatReading.{tree-joined}
+use Rattle.rules.specs.Laws.FlatReading.{end-is, tree-joined}
 
 -- The array leads from each node of a tree, the first one number i, over as many numbers as stand below it.
 unfoldable pub SpacedIn : List ℕ → Operand → ℕ → Type 0
@@ -95,17 +94,13 @@ unfolding size firstTrees otherTrees
 size-two k Forest.none = rw (first-none k)
 size-two k (Forest.tree n below rest) = omega arith
 
-module _ (t ends : List ℕ) (b e : ℕ) (whole : Whole t ends b e) where
+module _ (t ends : List ℕ) (b e : ℕ) (whole : WholeTree t ends b e) where
   many : ℕ → ℕ → ℕ
   many j k = size (firstTrees k (trees t (e - j) j))
 
-  end-is : (j : ℕ) → j < e → endIn ends j ≡ getD ends j 0
-  unfolding endIn
-  end-is j l = rw (lt-ltb j 256 (omega (arith, whole .small)))
-
   link-at : (j : ℕ) → b ≤ j → j < e → Link t e j (endIn ends j)
   unfolding Linked
-  link-at j lo hi = rw (end-is j hi) (whole .links j lo hi)
+  link-at j lo hi = rw (end-is t ends b e whole j hi) (whole .links j lo hi)
 
   -- past the trees of a row come as many numbers as the row has nodes
   row-end : (k s left j : ℕ) → Stands t e j k s left → b ≤ j → past ends k j ≡ j + many j k

@@ -18,24 +18,24 @@ WhereFilled P Absent = Unit {0}
 WhereFilled P (Of price) = P price
 
 -- a price that is given on a test alone
-tested : (P : Float → Type 0) (b : Bool) (price : Float) → (b ≡ true → P price) → WhereFilled P (cond b (Of price) Absent)
+on-test : (P : Float → Type 0) (b : Bool) (price : Float) → (b ≡ true → P price) → WhereFilled P (cond b (Of price) Absent)
 unfolding WhereFilled
-tested P true price h = h refl
-tested P false price h = tt
+on-test P true price h = h refl
+on-test P false price h = tt
 
 module _ (k : Candle) (level : Float) where
   -- filled from above: the bar came down to the level, and the price is at most it
   from-above : WhereFilled (λ price. (k .low ≼ level ≡ true) × (price ≼ level ≡ true)) (reachedBelow level k)
   unfolding reachedBelow
   from-above =
-      tested (λ price. (k .low ≼ level ≡ true) × (price ≼ level ≡ true)) (k .low ≼ level) (min (k .«open») level)
+      on-test (λ price. (k .low ≼ level ≡ true) × (price ≼ level ≡ true)) (k .low ≼ level) (min (k .«open») level)
       (λ e. (e, min-second (k .«open») level (numbers (k .low) level e .1)))
 
   -- filled from below: the bar came up to the level, and the price is at least it
   from-below : WhereFilled (λ price. (level ≼ k .high ≡ true) × (level ≼ price ≡ true)) (reachedAbove level k)
   unfolding reachedAbove
   from-below =
-      tested (λ price. (level ≼ k .high ≡ true) × (level ≼ price ≡ true)) (level ≼ k .high) (max (k .«open») level)
+      on-test (λ price. (level ≼ k .high ≡ true) × (level ≼ price ≡ true)) (level ≼ k .high) (max (k .«open») level)
       (λ e. (e, max-second (k .«open») level (numbers level (k .high) e .0)))
 
   -- A long limit fills only on a bar whose low is at most its level, and at a raw price of at most its level.
@@ -60,29 +60,27 @@ module _ (k : Candle) (level : Float) where
 
 -- ---- a stop-limit
 
--- held to a limit, from what is so of the stop's price
+-- held to a limit: what is so of the stop's price is so of the fill, and the fill is no worse than the limit
+held-to : (S : Type 0) (fine : Float → Bool) (price limit : Float) (reached : Bool) → S → (reached ≡ true → fine limit ≡ true)
+    → WhereFilled (λ x. S × (fine x ≡ true)) (cond (fine price) (Of price) (cond reached (Of limit) Absent))
+unfolding WhereFilled
+held-to S fine price limit reached h ok = go (fine price) reached refl refl
+  where
+    go : (a b : Bool) → fine price ≡ a → reached ≡ b → WhereFilled (λ x. S × (fine x ≡ true)) (cond a (Of price) (cond b (Of limit) Absent))
+    go true b e f = (h, e)
+    go false true e f = (h, ok f)
+    go false false e f = tt
+
 module _ (k : Candle) (limit : Float) (S : Type 0) where
   within : (o : Optional) → WhereFilled (λ price. S) o → WhereFilled (λ price. S × (price ≼ limit ≡ true)) (noDearerThan limit o k)
   unfolding WhereFilled noDearerThan
   within Absent h = tt
-  within (Of price) h = go (price ≼ limit) (k .low ≼ limit) refl refl
-    where
-      go : (a b : Bool) → price ≼ limit ≡ a → k .low ≼ limit ≡ b
-          → WhereFilled (λ x. S × (x ≼ limit ≡ true)) (cond a (Of price) (cond b (Of limit) Absent))
-      go true b e f = (h, e)
-      go false true e f = (h, itself limit (numbers (k .low) limit f .1))
-      go false false e f = tt
+  within (Of price) h = held-to S (λ x. x ≼ limit) price limit (k .low ≼ limit) h (λ f. itself limit (numbers (k .low) limit f .1))
 
   above : (o : Optional) → WhereFilled (λ price. S) o → WhereFilled (λ price. S × (limit ≼ price ≡ true)) (noCheaperThan limit o k)
   unfolding WhereFilled noCheaperThan
   above Absent h = tt
-  above (Of price) h = go (limit ≼ price) (limit ≼ k .high) refl refl
-    where
-      go : (a b : Bool) → limit ≼ price ≡ a → limit ≼ k .high ≡ b
-          → WhereFilled (λ x. S × (limit ≼ x ≡ true)) (cond a (Of price) (cond b (Of limit) Absent))
-      go true b e f = (h, e)
-      go false true e f = (h, itself limit (numbers limit (k .high) f .0))
-      go false false e f = tt
+  above (Of price) h = held-to S (λ x. limit ≼ x) price limit (limit ≼ k .high) h (λ f. itself limit (numbers limit (k .high) f .0))
 
 -- what is so of a price with more is so with less
 first-of : (S : Type 0) (P : Float → Type 0) (o : Optional) → WhereFilled (λ price. S × P price) o → WhereFilled (λ price. S) o

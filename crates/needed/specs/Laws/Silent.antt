@@ -31,13 +31,13 @@ use Rattle.roundtrip.specs.Laws.Reach.{rows-are}
 use Rattle.table.specs.Laws.Accepted.{header-of, tree-ends}
 use Rattle.table.specs.Bytes.{Bytes}
 use Rattle.roundtrip.specs.Laws.AcceptedWritten.{byte, nodes-back, tree-written, tree-nodes}
-use Rattle.table.specs.Laws.Kinds.{compare-numbers, cross-numbers, trend-numbers, listed as rowByRow, of-rows, known}
+use Rattle.table.specs.Laws.Kinds.{compare-numbers, cross-numbers, trend-numbers, of-rows, known}
 use Rattle.roundtrip.specs.Laws.WrittenForest.{plantOf, plantAll}
 use Rattle.roundtrip.specs.Laws.WrittenNodes.{From}
 use Rattle.roundtrip.specs.Laws.WrittenGrows.{growsOf}
 use Rattle.roundtrip.specs.Laws.WrittenTrees.{given-reach}
 use Rattle.roundtrip.specs.Laws.AcceptedWithin.{tree-within}
-use Rattle.table.specs.Silent.{isTest, silent, listed, silentIn, silentInAll, silentOf, silentTests, silentNode, silentNodes, fourSilent}
+use Rattle.table.specs.Silent.{isTest, silent, ifSilent, silentIn, silentInAll, silentOf, silentTests, silentNode, silentNodes, fourSilent}
 use Rattle.table.specs.Kinds.{kinds, kindOf}
 use Rattle.table.specs.Nodes.{childCount}
 use Rattle.roundtrip.specs.Laws.Reading.{operands-below}
@@ -49,7 +49,7 @@ use Rattle.roundtrip.specs.Laws.WrittenForestKept.{sortedOf}
 operand-low : (k : ℕ) → kindOf k .sort ≡ 1 → k < 16
 operand-low k sort =
     let low : k < 32 = known k (kindOf k) refl (omega arith) in
-    let told = of-rows (λ i. cond (eqb (kindOf i .sort) 1) (ltb i 16) true) (λ i. true) (unfold rowByRow kindOf kinds in refl) k low in
+    let told = of-rows (λ i. cond (eqb (kindOf i .sort) 1) (ltb i 16) true) (λ i. true) (unfold from kindOf kinds in refl) k low in
     ltb-true k 16 (rw sort at told)
 
 module _ (d : ℕ) (form : Form) where
@@ -70,8 +70,8 @@ module _ (d : ℕ) (form : Form) where
 
   -- a test is found where it is silent
   test-found : (c : Condition) (n : Node) (back : ℕ) → isTest c ≡ true → 16 ≤ n .kind → n .kind < 27 → back ≡ reachOf c → reachOf c ≤ mostReach
-      → silentNode d n back ≡ listed d c (n .number)
-  unfolding silentNode listed silent
+      → silentNode d n back ≡ ifSilent d c (n .number)
+  unfolding silentNode ifSilent silent
   test-found c n back is lo hi same near =
       let uncut : min (reachOf c) mostRows ≡ reachOf c = omega (arith, near) in
       rw (le-leb 16 (n .kind) lo, lt-ltb (n .kind) 27 hi, same, uncut, is)
@@ -80,7 +80,7 @@ module _ (d : ℕ) (form : Form) where
   test-tree : (c : Condition) (n : Node) (below rest : Forest) (m : ℕ) → isTest c ≡ true → 16 ≤ n .kind → n .kind < 27
       → weigh ownBack (Forest.tree n below Forest.none) ≡ reachOf c → reachOf c ≤ mostReach → Sorted (Forest.tree n below Forest.none)
       → replicate (childCount n (kindOf (n .kind))) (kindOf (n .kind) .below) ≡ replicate m 1
-      → silentNodes d (Forest.tree n below rest) ≡ listed d c (n .number) ++ silentNodes d rest
+      → silentNodes d (Forest.tree n below rest) ≡ ifSilent d c (n .number) ++ silentNodes d rest
   unfolding silentNodes weigh Sorted
   test-tree c n below rest m is lo hi heavy near kept row =
       rw (test-found c n (ownBack n + weigh ownBack below) is lo hi (omega (arith, heavy)) near, operands-none below m (kept .1) (kept .0 ∙ row))
@@ -186,8 +186,8 @@ both-none (x ∷ xs) ys e = absurd (let z : _≡_ {A = ℕ} 0 1 = cc in omega ar
 
 module _ (d : ℕ) (some : 0 < d) where
   -- A test is not listed where it reaches back fewer bars than there are rows, and only there;
-  not-listed : (c : Condition) (i : ℕ) → isTest c ≡ true → (reachOf c < d → listed d c i ≡ []) × (listed d c i ≡ [] → reachOf c < d)
-  unfolding listed silent
+  not-listed : (c : Condition) (i : ℕ) → isTest c ≡ true → (reachOf c < d → ifSilent d c i ≡ []) × (ifSilent d c i ≡ [] → reachOf c < d)
+  unfolding ifSilent silent
   not-listed c i is = (λ l. rw (is, lt-leb d (reachOf c) l), λ e. go (leb d (reachOf c)) refl (rw is at e))
     where
       go : (b : Bool) → leb d (reachOf c) ≡ b → cond b (i ∷ []) [] ≡ [] → reachOf c < d

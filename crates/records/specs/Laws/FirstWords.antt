@@ -1,5 +1,5 @@
 -- Settings and states are made of their first words alone: lists that agree in these have the same.
-use Prim.Native.Nat.{ℕ, zero, suc, _<_, _≤_}
+use Prim.Native.Nat.{ℕ, zero, suc, _+_, _<_, _≤_}
 use mathlib.Core.Path.{_≡_, refl, ap, _∙_}
 use mathlib.Core.Bool.{Bool, cond}
 use mathlib.Core.List.{List, [], _∷_, _++_, append-nil}
@@ -32,64 +32,23 @@ padded-agree n ws short i h =
     rw (zero-add (length ws), length-replicate {A = ℕ} n 0)
     (ap (λ (b : Bool). word (cond b (ws ++ drop (length ws) (replicate n 0)) (replicate n 0)) i) (le-leb _ _ short) ∙ zeros-behind n ws i)
 
+-- the n words from word i on
+unfoldable nextWords : ℕ → ℕ → List ℕ → List ℕ
+nextWords zero i ws = []
+nextWords (suc n) i ws = word ws i ∷ nextWords n (i + 1) ws
+
+same-words : (n i : ℕ) (a b : List ℕ) → ((j : ℕ) → i ≤ j → j < i + n → word a j ≡ word b j) → nextWords n i a ≡ nextWords n i b
+unfolding nextWords
+same-words zero i a b same = refl
+same-words (suc n) i a b same =
+    rw (same i (omega arith) (omega arith), same-words n (i + 1) a b (λ j low high. same j (omega arith) (omega arith)))
+
 -- settings are made of 32 words
 pub settings-agree : (a b : List ℕ) → Agree settingWords a b → settingsOf a ≡ settingsOf b
-unfolding settingsOf termsOf riskOf entriesOf
-settings-agree a b same =
-    rw (
-      same 0 (omega arith),
-      same 1 (omega arith),
-      same 2 (omega arith),
-      same 3 (omega arith),
-      same 4 (omega arith),
-      same 5 (omega arith),
-      same 6 (omega arith),
-      same 7 (omega arith),
-      same 8 (omega arith),
-      same 9 (omega arith),
-      same 10 (omega arith),
-      same 11 (omega arith),
-      same 12 (omega arith),
-      same 13 (omega arith),
-      same 14 (omega arith),
-      same 15 (omega arith),
-      same 16 (omega arith),
-      same 17 (omega arith),
-      same 18 (omega arith),
-      same 19 (omega arith),
-      same 20 (omega arith),
-      same 21 (omega arith),
-      same 22 (omega arith),
-      same 23 (omega arith),
-      same 24 (omega arith),
-      same 31 (omega arith),
-    )
+unfolding settingsOf termsOf riskOf entriesOf nextWords
+settings-agree a b same = ap settingsOf (same-words settingWords 0 a b (λ j low high. same j (omega arith)))
 
 -- a state is made of 22 words
 pub state-agree : (a b : List ℕ) → Agree stateWords a b → stateOf a ≡ stateOf b
-unfolding stateOf countsOf positionOf portfolioOf
-state-agree a b same =
-    rw (
-      same 0 (omega arith),
-      same 1 (omega arith),
-      same 2 (omega arith),
-      same 3 (omega arith),
-      same 4 (omega arith),
-      same 5 (omega arith),
-      same 6 (omega arith),
-      same 7 (omega arith),
-      same 8 (omega arith),
-      same 9 (omega arith),
-      same 10 (omega arith),
-      same 11 (omega arith),
-      same 12 (omega arith),
-      same 13 (omega arith),
-      same 14 (omega arith),
-      same 15 (omega arith),
-      same 16 (omega arith),
-      same 17 (omega arith),
-      same 18 (omega arith),
-      same 19 (omega arith),
-      same 20 (omega arith),
-      same 21 (omega arith),
-    )
+unfolding stateOf countsOf positionOf portfolioOf nextWords
+state-agree a b same = ap stateOf (same-words stateWords 0 a b (λ j low high. same j (omega arith)))

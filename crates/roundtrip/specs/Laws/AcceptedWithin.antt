@@ -23,28 +23,35 @@ use Rattle.roundtrip.specs.Laws.Reading.{many-conditions}
 use Rattle.roundtrip.specs.Laws.Reach.{tree-reach-is}
 use Rattle.table.specs.Laws.Accepted.{header-of, node-of, tree-ends, tree-sorts, tree-nesting, tree-reach}
 use Rattle.table.specs.Bytes.{Bytes}
-use Rattle.roundtrip.specs.Laws.AcceptedWritten.{right-trees, u32-small, rule-nodes}
-use Rattle.roundtrip.specs.Laws.Limits.{Small, SmallAll, first-in, all-fine}
+use Rattle.roundtrip.specs.Laws.AcceptedWritten.{right-trees, u16-small, u32-small, rule-nodes}
+use Rattle.roundtrip.specs.Laws.Limits.{first-in, all-fine}
+use Rattle.roundtrip.specs.Laws.OwnBytes.{NodeFits, FieldsFit}
 
 -- the fields of a node read from bytes fit
-small-node : (t : List ℕ) → Bytes t → (i : ℕ) → Small (nodeAt t i)
-unfolding nodeAt u64
+small-node : (t : List ℕ) → Bytes t → (i : ℕ) → NodeFits (nodeAt t i)
+unfolding nodeAt u64 Bytes
 small-node t small i =
-    record { number = u32-small t small (20 + 16 * i); constant = both (u32-small t small (24 + 16 * i)) (u32-small t small (24 + 16 * i + 4)) }
+    record {
+      kind = small (16 + 16 * i);
+      selector = small (17 + 16 * i);
+      children = u16-small t small (18 + 16 * i);
+      n = u32-small t small (20 + 16 * i);
+      constant = both (u32-small t small (24 + 16 * i)) (u32-small t small (24 + 16 * i + 4));
+    }
   where
     both : {a b : ℕ} → a < 4294967296 → b < 4294967296 → a + 4294967296 * b < 18446744073709551616
     both p q = omega arith
 
-small-first : (l : ℕ) (f : Forest) → SmallAll f → SmallAll (firstTrees l f) × SmallAll (otherTrees l f)
-unfolding SmallAll firstTrees otherTrees
+small-first : (l : ℕ) (f : Forest) → FieldsFit f → FieldsFit (firstTrees l f) × FieldsFit (otherTrees l f)
+unfolding FieldsFit firstTrees otherTrees
 small-first zero f s = (tt, s)
 small-first (suc l) Forest.none s = (tt, tt)
 small-first (suc l) (Forest.tree n below rest) s =
     let g = small-first l rest (s .2) in
     ((s .0, s .1, g .0), g .1)
 
-small-trees : (t : List ℕ) → Bytes t → (m i : ℕ) → SmallAll (trees t m i)
-unfolding SmallAll trees nodeOver
+small-trees : (t : List ℕ) → Bytes t → (m i : ℕ) → FieldsFit (trees t m i)
+unfolding FieldsFit trees nodeOver
 small-trees t small zero i = tt
 small-trees t small (suc m) i =
     let g = small-first (childCountAt t i) (trees t m (i + 1)) (small-trees t small m (i + 1)) in

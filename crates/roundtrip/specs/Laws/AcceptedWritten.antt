@@ -120,7 +120,7 @@ module _ (t : List ℕ) (small : Bytes t) where
   unfolding u16 from byte Bytes
   back16 at = pair-back (getD t at 0) (getD t (at + 1) 0) (small at)
 
-  u16-small : (at : ℕ) → u16 t at < 65536
+  pub u16-small : (at : ℕ) → u16 t at < 65536
   unfolding u16 Bytes
   u16-small at = omega (arith, small at, small (at + 1))
 

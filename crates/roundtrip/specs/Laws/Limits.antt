@@ -32,7 +32,7 @@ use Rattle.roundtrip.specs.Laws.Series.{IsSeries, series-child, leaf-wit
 use Rattle.table.specs.Laws.Kinds.{ConditionKind, a-compare, a-cross, a-between, a-trend, an-all, an-any, a-not, a-position, a-count, condition-kind}
 use Rattle.roundtrip.specs.Laws.Reading.{as-many, many-conditions, operands-below}
 use Rattle.roundtrip.specs.Laws.Writing.{Right}
-use Rattle.roundtrip.specs.Laws.OwnBytes.{Own, own-fields}
+use Rattle.roundtrip.specs.Laws.OwnBytes.{OwnFields, own-fields, NodeFits, FieldsFit}
 
 -- ---- operands in a row
 
@@ -63,21 +63,12 @@ some-level (prev a n) = omega arith
 some-level (sums kind a b) = omega arith
 some-level (extreme kind s n) = omega arith
 
--- the numbers of a node fit their fields
-pub record Small (n : Node) : Type 0 where
-  pub number : n .n < 4294967296
-  pub constant : n .constant < 18446744073709551616
-
-unfoldable pub SmallAll : Forest → Type 0
-SmallAll Forest.none = Unit
-SmallAll (Forest.tree n below rest) = Small n × SmallAll below × SmallAll rest
-
-module _ (form : Form) (l : ℕ) (n : Node) (os : List Operand) (right : ownRight form n (kindOf (n .kind)) ≡ true) (small : Small n)
+module _ (form : Form) (l : ℕ) (n : Node) (os : List Operand) (right : ownRight form n (kindOf (n .kind)) ≡ true) (small : NodeFits n)
     (many : length os ≡ childCount n (kindOf (n .kind))) (row : Row form l os) (series : kindOf (n .kind) ≡ extremum → IsSeries (child os 0)) where
   count-by : (r : Kind) → kindOf (n .kind) ≡ r → length os ≡ childCount n r
   count-by r h = many ∙ ap (childCount n) h
 
-  own-by : (r : Kind) → kindOf (n .kind) ≡ r → Own form n r
+  own-by : (r : Kind) → kindOf (n .kind) ≡ r → OwnFields form n r
   own-by r h = own-fields form n r (sym (ap (ownRight form n) h) ∙ right)
 
   fine-operand : OperandKind (n .kind) → Fine form (suc l) (operandFrom n os)
@@ -87,7 +78,7 @@ module _ (form : Form) (l : ℕ) (n : Node) (os : List Operand) (right : ownRigh
   fine-operand (a-price e r) = rw r (own-by Kinds.price r .selector, omega arith)
   fine-operand (a-prev e r) =
       let a = child-in form l os 0 row (omega (arith, count-by _ r)) in
-      rw r ((small .number, a .0), omega (arith, a .1))
+      rw r ((small .n, a .0), omega (arith, a .1))
   fine-operand (an-arith r) =
       let a = child-in form l os 0 row (omega (arith, count-by _ r)) in
       let b = child-in form l os 1 row (omega (arith, count-by _ r)) in
@@ -111,9 +102,9 @@ both-levels l n below rest h = or-none (deeper l below) (deeper (suc l) rest) h
 no-sort : (n : ℕ) (ns : List ℕ) → n ∷ ns ≡ [] → ⊥
 no-sort n ns h = let z : _≡_ {A = ℕ} 0 1 = cc in omega arith
 
-row-fine : (f : Forest) (form : Form) (l m : ℕ) → Right form f → SmallAll f → Sorted f → sorts f ≡ replicate m 1
+row-fine : (f : Forest) (form : Form) (l m : ℕ) → Right form f → FieldsFit f → Sorted f → sorts f ≡ replicate m 1
     → deeper l f ≡ Nowhere → Row form l (operands f)
-unfolding Right SmallAll Sorted sorts operands Row
+unfolding Right FieldsFit Sorted sorts operands Row
 row-fine Forest.none form l m r sm so s d = tt
 row-fine (Forest.tree n below rest) form l zero r sm so s d = absurd (no-sort _ _ s)
 row-fine (Forest.tree n below rest) form zero (suc m) r sm so s d = absurd (no-level n below rest d)
@@ -140,14 +131,14 @@ unfolding manyOf WithinAll levelsOfAll firstOf
 first-in form l none h f = absurd (omega arith)
 first-in form l (more c cs) h f = (f .0 .0, omega (arith, f .1))
 
-module _ (form : Form) (l : ℕ) (n : Node) (below : Forest) (right : ownRight form n (kindOf (n .kind)) ≡ true) (small : Small n)
+module _ (form : Form) (l : ℕ) (n : Node) (below : Forest) (right : ownRight form n (kindOf (n .kind)) ≡ true) (small : NodeFits n)
     (under : sorts below ≡ replicate (childCount n (kindOf (n .kind))) (kindOf (n .kind) .below))
     (of-operands : (m : ℕ) → sorts below ≡ replicate m 1 → Row form l (operands below))
     (of-conditions : (m : ℕ) → sorts below ≡ replicate m 2 → FineAll form l (conditions below)) where
   under-by : (r : Kind) → kindOf (n .kind) ≡ r → sorts below ≡ replicate (childCount n r) (r .below)
   under-by r h = under ∙ ap (λ (q : Kind). replicate (childCount n q) (q .below)) h
 
-  own-of : (r : Kind) → kindOf (n .kind) ≡ r → Own form n r
+  own-of : (r : Kind) → kindOf (n .kind) ≡ r → OwnFields form n r
   own-of r h = own-fields form n r (sym (ap (ownRight form n) h) ∙ right)
 
   -- operand j of the m that stand below
@@ -171,7 +162,7 @@ module _ (form : Form) (l : ℕ) (n : Node) (below : Forest) (right : ownRight f
       rw r ((x .0, a .0, b .0), omega (arith, x .1, a .1, b .1))
   fine-condition (a-trend r) =
       let a = operand-in 1 0 (under-by _ r) (omega arith) in
-      rw r ((r, small .number, a .0), omega (arith, a .1))
+      rw r ((r, small .n, a .0), omega (arith, a .1))
   fine-condition (an-all e r) =
       let f = of-conditions (n .children) (under-by _ r) in
       rw r (f .0, omega (arith, f .1))
@@ -183,11 +174,11 @@ module _ (form : Form) (l : ℕ) (n : Node) (below : Forest) (right : ownRight f
       let f = first-in form l (conditions below) (many-conditions below ∙ ap length one) (of-conditions 1 one) in
       rw r (f .0, omega (arith, f .1))
   fine-condition (a-position e r) = rw r (tt, omega arith)
-  fine-condition (a-count e r) = rw r ((own-of barsSince r .selector, small .number), omega arith)
+  fine-condition (a-count e r) = rw r ((own-of barsSince r .selector, small .n), omega arith)
 
-pub all-fine : (f : Forest) (form : Form) (l m : ℕ) → Right form f → SmallAll f → Sorted f → sorts f ≡ replicate m 2 → deeper l f ≡ Nowhere
+pub all-fine : (f : Forest) (form : Form) (l m : ℕ) → Right form f → FieldsFit f → Sorted f → sorts f ≡ replicate m 2 → deeper l f ≡ Nowhere
     → WithinAll form (conditions f) × (levelsOfAll (conditions f) ≤ l)
-unfolding Right SmallAll Sorted sorts conditions WithinAll levelsOfAll
+unfolding Right FieldsFit Sorted sorts conditions WithinAll levelsOfAll
 all-fine Forest.none form l m r sm so s d = (tt, omega arith)
 all-fine (Forest.tree n below rest) form l zero r sm so s d = absurd (no-sort _ _ s)
 all-fine (Forest.tree n below rest) form zero (suc m) r sm so s d = absurd (no-level n below rest d)

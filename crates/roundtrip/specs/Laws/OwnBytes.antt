@@ -11,6 +11,8 @@ use Rattle.table.specs.declared.nodes.Node.{Node}
 use Rattle.table.specs.declared.kinds.Kind.{Kind}
 use Rattle.table.specs.declared.header.Form.{Form}
 use Rattle.table.specs.Nodes.{childrenRight, nRight, constantRight, kindRight, fieldsRight, ownRight}
+use Rattle.table.specs.Forest.{Forest}
+use Rattle.table.specs.Forest as Forest
 use Rattle.table.specs.Trees.{Conditions, none, more}
 use Rattle.table.specs.Reading.{firstOf}
 use Rattle.table.specs.Writing.{node, nodeBytes, manyOf, writeOf, writeAll}
@@ -30,14 +32,14 @@ all-one (more c cs) h = rw (all-none cs (omega arith)) (append-nil (writeOf c))
 
 -- ---- a node's own bytes
 
-pub record Own (form : Form) (n : Node) (row : Kind) : Type 0 where
+pub record OwnFields (form : Form) (n : Node) (row : Kind) : Type 0 where
   pub version : kindRight (form .version) (row .since) ≡ true
   pub selector : n .selector < row .selectors
   pub children : childrenRight (n .children) (row .children) ≡ true
   pub number : nRight (form .slots) (n .n) (row .n) ≡ true
   pub constant : constantRight (n .constant) (row .constant) ≡ true
 
-pub own-fields : (form : Form) (n : Node) (row : Kind) → ownRight form n row ≡ true → Own form n row
+pub own-fields : (form : Form) (n : Node) (row : Kind) → ownRight form n row ≡ true → OwnFields form n row
 unfolding ownRight fieldsRight
 own-fields form n row h =
     let h0 = both _ (fieldsRight (form .slots) n row) h in
@@ -47,17 +49,31 @@ own-fields form n row h =
     let h2 = both (ltb (n .selector) (row .selectors)) (childrenRight (n .children) (row .children)) (h3 .0) in
     record { version = k0 .1; selector = ltb-true _ _ (h2 .0); children = h2 .1; number = h3 .1; constant = h4 .1 }
 
-pub fields : (n : Node) (kind selector children number constant : ℕ) → n .kind ≡ kind → n .selector ≡ selector → n .children ≡ children → n .n ≡ number
+pub bytes-by-fields : (n : Node) (kind selector children number constant : ℕ) → n .kind ≡ kind → n .selector ≡ selector → n .children ≡ children → n .n ≡ number
     → n .constant ≡ constant
     → nodeBytes n ≡ node kind selector children number constant
 unfolding nodeBytes
-fields n kind selector children number constant a b c d e = cc
+bytes-by-fields n kind selector children number constant a b c d e = cc
 
 -- a node that uses its n beside its kind, and one that uses its kind alone
 pub number-node : (n : Node) (kind : ℕ) → n .kind ≡ kind → n .selector < 1 → eqb (n .children) 0 ≡ true → eqb (n .constant) 0 ≡ true
     → nodeBytes n ≡ node kind 0 0 (n .n) 0
-number-node n kind k s c x = fields n kind 0 0 (n .n) 0 k (omega arith) (eqb-true _ _ c) refl (eqb-true _ _ x)
+number-node n kind k s c x = bytes-by-fields n kind 0 0 (n .n) 0 k (omega arith) (eqb-true _ _ c) refl (eqb-true _ _ x)
 
 pub plain-node : (n : Node) (kind : ℕ) → n .kind ≡ kind → n .selector < 1 → eqb (n .children) 0 ≡ true → eqb (n .n) 0 ≡ true
     → eqb (n .constant) 0 ≡ true → nodeBytes n ≡ node kind 0 0 0 0
-plain-node n kind k s c m x = fields n kind 0 0 0 0 k (omega arith) (eqb-true _ _ c) (eqb-true _ _ m) (eqb-true _ _ x)
+plain-node n kind k s c m x = bytes-by-fields n kind 0 0 0 0 k (omega arith) (eqb-true _ _ c) (eqb-true _ _ m) (eqb-true _ _ x)
+
+-- ---- fields that fit their bytes
+
+-- "Node: kind (1), selector (1), children (2), n (4), constant bits (8)."
+pub record NodeFits (node : Node) : Type 0 where
+  pub kind : node .kind < 256
+  pub selector : node .selector < 256
+  pub children : node .children < 65536
+  pub n : node .n < 4294967296
+  pub constant : node .constant < 18446744073709551616
+
+unfoldable pub FieldsFit : Forest → Type 0
+FieldsFit Forest.none = Unit
+FieldsFit (Forest.tree n below rest) = NodeFits n × FieldsFit below × FieldsFit rest

@@ -16,7 +16,8 @@ use Rattle.table.specs.Forest as Forest
 use Rattle.table.specs.Trees.{Operand}
 use Rattle.table.specs.Reading.{child, operands, conditions}
 use Rattle.table.specs.Writing.{manyOf}
-use Rattle.table.specs.Laws.Kinds.{listed, of-rows, known}
+use Rattle.table.specs.Ends.{from}
+use Rattle.table.specs.Laws.Kinds.{of-rows, known}
 
 pub as-many : (f : Forest) → length (operands f) ≡ length (sorts f)
 unfolding operands sorts
@@ -54,7 +55,7 @@ below-operand : (n : Node) → kindOf (n .kind) .sort ≡ 1
 unfolding takesOperands
 below-operand n sort =
     let low = known (n .kind) (kindOf (n .kind)) refl (omega arith) in
-    go (eqb (kindOf (n .kind) .below) 1) refl (rw sort at (of-rows takesOperands (λ i. true) (unfold listed kindOf kinds in refl) (n .kind) low))
+    go (eqb (kindOf (n .kind) .below) 1) refl (rw sort at (of-rows takesOperands (λ i. true) (unfold from kindOf kinds in refl) (n .kind) low))
   where
     go : (b : Bool) → eqb (kindOf (n .kind) .below) 1 ≡ b → cond b true (eqb (kindOf (n .kind) .children) 0) ≡ true
         → replicate (childCount n (kindOf (n .kind))) (kindOf (n .kind) .below) ≡ replicate (childCount n (kindOf (n .kind))) 1

@@ -1,5 +1,5 @@
 -- Laws for whoever walks an accepted table's trees with its array of ends: what stands below a node and after it, and what it
--- reads as. `Whole` is of Accepted, `tree-whole` gives it for each tree of an accepted table.
+-- reads as. `WholeTree` is of Accepted, `tree-whole` gives it for each tree of an accepted table.
 -- Assumes nothing.
 use mathlib.Core.Path.{_≡_, refl, sym, _∙_, ap}
 use mathlib.Core.List.{List, [], _∷_}
@@ -14,7 +14,7 @@ use Rattle.table.specs.declared.answer.Answer.the-variants.{Accepted}
 use Rattle.table.specs.declared.places.Place.the-variants.{Nowhere}
 use Rattle.table.specs.Header.{count, root}
 use Rattle.table.specs.Nodes.{nodeAt, sortAt, childCountAt, childSortAt}
-use Rattle.table.specs.Order.{orElse}
+use Rattle.table.specs.Order.{orPlace}
 use Rattle.table.specs.Forest.{Forest, forestOf, firstTrees, otherTrees, nodeOver, trees, sorts, Sorted}
 use Rattle.table.specs.Forest as Forest
 use Rattle.table.specs.Nesting.{deeper}
@@ -25,7 +25,7 @@ use Rattle.table.specs.Reading.{treeOf, child, operandFrom, operands, firstOf, 
 use Rattle.table.specs.Reading.{conditionAt}
 use Rattle.table.specs.Laws.Forest.{left-suc, left-zero, first-none}
 use Rattle.table.specs.Laws.Order.{never-at}
-use Rattle.table.specs.Laws.Accepted.{or-none, Whole, tree-sorts, tree-nesting}
+use Rattle.table.specs.Laws.Accepted.{or-none, WholeTree, tree-sorts, tree-nesting}
 
 -- ---- what stands where
 
@@ -50,7 +50,7 @@ no-sort k s h = let z : _≡_ {A = ℕ} 0 1 = cc in omega arith
 
 deep-two : (l k : ℕ) (f : Forest) → deeper l (firstTrees (suc k) f) ≡ Nowhere
     → (deeper l (firstTrees 1 f) ≡ Nowhere) × (deeper l (firstTrees k (otherTrees 1 f)) ≡ Nowhere)
-unfolding deeper firstTrees otherTrees orElse
+unfolding deeper firstTrees otherTrees orPlace
 deep-two l k Forest.none h = (refl, ap (deeper l) (first-none k))
 deep-two zero k (Forest.tree n below rest) h = absurd (never-at (n .number) h)
 deep-two (suc l) k (Forest.tree n below rest) h =
@@ -105,7 +105,7 @@ module _ (t : List ℕ) (e j k s l : ℕ) (here : Stands t e j (suc k) s l) wher
   level-left = below-two .0
 
   -- the children of the first one
-  pub stands-below : (ends : List ℕ) (b : ℕ) → Whole t ends b e → b ≤ j → Stands t e (j + 1) (childCountAt t j) (childSortAt t j) (l - 1)
+  pub stands-below : (ends : List ℕ) (b : ℕ) → WholeTree t ends b e → b ≤ j → Stands t e (j + 1) (childCountAt t j) (childSortAt t j) (l - 1)
   unfolding Sorted nodeOver childCountAt childSortAt
   stands-below ends b w lo = record {
     sorted = (rw split at (w .sorted j lo node-there)) .0;

@@ -26,7 +26,7 @@ use Rattle.roundtrip.specs.Laws.Series.{IsSeries, series-child, leaf-wri
 use Rattle.table.specs.Laws.Kinds.{ConditionKind, a-compare, a-cross, a-between, a-trend, an-all, an-any, a-not, a-position, a-count, condition-kind}
 use Rattle.roundtrip.specs.Laws.Reading.{as-many, many-conditions, row-none, row-one, row-two, row-three, operands-below}
 use Rattle.roundtrip.specs.Laws.NodeBytes.{tree-bytes, no-bytes}
-use Rattle.roundtrip.specs.Laws.OwnBytes.{all-one, Own, own-fields, fields, number-node, plain-node}
+use Rattle.roundtrip.specs.Laws.OwnBytes.{all-one, OwnFields, own-fields, bytes-by-fields, number-node, plain-node}
 
 -- ---- an operand's node, over the operands below it
 
@@ -35,7 +35,7 @@ module _ (form : Form) (n : Node) (os : List Operand) (right : ownRight form n (
   count-by : (row : Kind) → kindOf (n .kind) ≡ row → length os ≡ childCount n row
   count-by row h = many ∙ ap (childCount n) h
 
-  own-by : (row : Kind) → kindOf (n .kind) ≡ row → Own form n row
+  own-by : (row : Kind) → kindOf (n .kind) ≡ row → OwnFields form n row
   own-by row h = own-fields form n row (sym (ap (ownRight form n) h) ∙ right)
 
   writes-operand : OperandKind (n .kind) → nodeBytes n ++ writeRow os ≡ write (operandFrom n os)
@@ -43,7 +43,7 @@ module _ (form : Form) (n : Node) (os : List Operand) (right : ownRight form n (
   writes-operand (a-const e row) =
       let o = own-by constant row in
       let b : nodeBytes n ≡ node 1 0 0 0 (n .constant) =
-      fields n 1 0 0 0 (n .constant) e (omega (arith, o .selector)) (eqb-true _ _ (o .children)) (eqb-true _ _ (o .number)) refl in
+      bytes-by-fields n 1 0 0 0 (n .constant) e (omega (arith, o .selector)) (eqb-true _ _ (o .children)) (eqb-true _ _ (o .number)) refl in
       simp (row, b, row-none os (count-by _ row), append-nil)
   writes-operand (a-ref e row) =
       let o = own-by reference row in
@@ -52,7 +52,7 @@ module _ (form : Form) (n : Node) (os : List Operand) (right : ownRight form n (
   writes-operand (a-price e row) =
       let o = own-by price row in
       let b : nodeBytes n ≡ node 3 (n .selector) 0 0 0 =
-      fields n 3 (n .selector) 0 0 0 e refl (eqb-true _ _ (o .children)) (eqb-true _ _ (o .number)) (eqb-true _ _ (o .constant)) in
+      bytes-by-fields n 3 (n .selector) 0 0 0 e refl (eqb-true _ _ (o .children)) (eqb-true _ _ (o .number)) (eqb-true _ _ (o .constant)) in
       simp (row, b, row-none os (count-by _ row), append-nil)
   writes-operand (a-prev e row) =
       let o = own-by previous row in
@@ -85,7 +85,7 @@ module _ (form : Form) (n : Node) (below : Forest) (bytes : List ℕ) (right : o
   under-by : (row : Kind) → kindOf (n .kind) ≡ row → sorts below ≡ replicate (childCount n row) (row .below)
   under-by row h = under ∙ ap (λ (r : Kind). replicate (childCount n r) (r .below)) h
 
-  own-by′ : (row : Kind) → kindOf (n .kind) ≡ row → Own form n row
+  own-by′ : (row : Kind) → kindOf (n .kind) ≡ row → OwnFields form n row
   own-by′ row h = own-fields form n row (sym (ap (ownRight form n) h) ∙ right)
 
   some-operands : (m : ℕ) → sorts below ≡ replicate m 1 → length (operands below) ≡ m
@@ -105,7 +105,7 @@ module _ (form : Form) (n : Node) (below : Forest) (bytes : List ℕ) (right : o
   group-bytes : (kind : ℕ) → n .kind ≡ kind → n .selector < 1 → eqb (n .n) 0 ≡ true → eqb (n .constant) 0 ≡ true → sorts below ≡ replicate (n .children) 2
       → (nodeBytes n ≡ node kind 0 (manyOf (conditions below)) 0 0) × (bytes ≡ writeAll (conditions below))
   group-bytes kind e s m x all = (
-    fields n kind 0 (manyOf (conditions below)) 0 0 e (omega arith) (sym (some-conditions (n .children) all)) (eqb-true _ _ m) (eqb-true _ _ x),
+    bytes-by-fields n kind 0 (manyOf (conditions below)) 0 0 e (omega arith) (sym (some-conditions (n .children) all)) (eqb-true _ _ m) (eqb-true _ _ x),
     of-conditions (n .children) all,
   )
 
@@ -147,14 +147,14 @@ module _ (form : Form) (n : Node) (below : Forest) (bytes : List ℕ) (right : o
   writes-condition (a-position e row) =
       let o = own-by′ position row in
       let b : nodeBytes n ≡ node 30 (cond (eqb (n .selector) 1) 1 0) 0 0 0 =
-      fields n 30 (cond (eqb (n .selector) 1) 1 0) 0 0 0 e (sym (zero-or-one (n .selector) (o .selector)))
+      bytes-by-fields n 30 (cond (eqb (n .selector) 1) 1 0) 0 0 0 e (sym (zero-or-one (n .selector) (o .selector)))
       (eqb-true _ _ (o .children)) (eqb-true _ _ (o .number)) (eqb-true _ _ (o .constant)) in
       let r = row-below 0 _ row refl in
       simp (row, b, r .0, row-none (operands below) (r .1), append-nil)
   writes-condition (a-count e row) =
       let o = own-by′ barsSince row in
       let b : nodeBytes n ≡ node 31 (n .selector) 0 (n .n) 0 =
-      fields n 31 (n .selector) 0 (n .n) 0 e refl (eqb-true _ _ (o .children)) refl (eqb-true _ _ (o .constant)) in
+      bytes-by-fields n 31 (n .selector) 0 (n .n) 0 e refl (eqb-true _ _ (o .children)) refl (eqb-true _ _ (o .constant)) in
       let r = row-below 0 _ row refl in
       simp (row, b, r .0, row-none (operands below) (r .1), append-nil)
 

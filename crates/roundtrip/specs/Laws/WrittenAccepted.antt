@@ -16,7 +16,7 @@ use Rattle.table.specs.declared.header.Form.{Form}
 use Rattle.table.specs.Bytes.{u16}
 use Rattle.table.specs.Header.{newestVersion, slots, version, formOf, total, count, root, markRight, versionRight, countsRight, headerRefusal}
 use Rattle.table.specs.Nodes.{wrongNode}
-use Rattle.table.specs.Order.{misfit, misfits, orElse, ofFour}
+use Rattle.table.specs.Order.{misfit, misfits, orPlace, ofFour}
 use Rattle.table.specs.Forest.{Forest, trees, forestOf}
 use Rattle.table.specs.Forest as Forest
 use Rattle.table.specs.Nesting.{deeper, tooDeep}
@@ -28,11 +28,11 @@ use Rattle.table.specs.Writing.{le16, writeOf, nodesOf, Short, given, Rule, nod
 use Rattle.table.specs.Writing.{ruleOf}
 use Rattle.table.specs.Limits.{ShortWithin, RuleWithin}
 use Rattle.table.specs.Laws.Accepted.{all-kept}
-use Rattle.roundtrip.specs.Laws.WrittenNodes.{pair, From, past}
+use Rattle.roundtrip.specs.Laws.WrittenNodes.{pair, From, from-past}
 use Rattle.roundtrip.specs.Laws.AcceptedWritten.{short-long}
 use Rattle.roundtrip.specs.Laws.WrittenForestRead.{readsOf}
 use Rattle.roundtrip.specs.Laws.WrittenTrees.{wrong-two, reachOfShort, plantShort, short-grows}
-use Rattle.roundtrip.specs.Laws.WrittenTrees.{Held, planted, held-deep, held-reach, held-near}
+use Rattle.roundtrip.specs.Laws.WrittenTrees.{TreeHolds, planted, held-deep, held-reach, held-near}
 use Rattle.roundtrip.specs.Laws.WrittenTrees.{held-fits, held-right, held-reads}
 use Rattle.roundtrip.specs.Laws.WrittenForest.{some-nodes, condition-long}
 
@@ -138,14 +138,14 @@ module _ (form : Form) (r : Rule) where
     from-0 = simp append-assoc
 
     from-1 : From t (0 + nodesOf (r .entry)) (writeOf (r .exit) ++ (writeShort (r .shortEntry) ++ writeShort (r .shortExit)))
-    from-1 = past t 0 (nodesOf (r .entry)) (writeOf (r .entry)) _ (condition-long (r .entry)) from-0
+    from-1 = from-past t 0 (nodesOf (r .entry)) (writeOf (r .entry)) _ (condition-long (r .entry)) from-0
 
     from-2 : From t (0 + nodesOf (r .entry) + nodesOf (r .exit)) (writeShort (r .shortEntry) ++ writeShort (r .shortExit))
-    from-2 = past t _ (nodesOf (r .exit)) (writeOf (r .exit)) _ (condition-long (r .exit)) from-1
+    from-2 = from-past t _ (nodesOf (r .exit)) (writeOf (r .exit)) _ (condition-long (r .exit)) from-1
 
     from-3 : From t (0 + nodesOf (r .entry) + nodesOf (r .exit) + nodesOfShort (r .shortEntry)) (writeShort (r .shortExit) ++ [])
     from-3 =
-        past t _ (nodesOfShort (r .shortEntry)) (writeShort (r .shortEntry)) _ (short-long (r .shortEntry)) from-2 ∙ sym
+        from-past t _ (nodesOfShort (r .shortEntry)) (writeShort (r .shortEntry)) _ (short-long (r .shortEntry)) from-2 ∙ sym
         (append-nil (writeShort (r .shortExit)))
 
     root-1 : 0 + nodesOf (r .entry) ≡ root t 1
@@ -160,29 +160,30 @@ module _ (form : Form) (r : Rule) where
     unfolding root
     root-3 = rw (count-0, count-1, count-2)
 
-    held : (x i : ℕ) (s : Short) (l : List ℕ) → i ≡ root t x → ShortWithin form s → count t x ≡ nodesOfShort s → From t i (writeShort s ++ l) → Held t form x s
+    held : (x i : ℕ) (s : Short) (l : List ℕ) → i ≡ root t x → ShortWithin form s → count t x ≡ nodesOfShort s → From t i (writeShort s ++ l)
+        → TreeHolds t form x s
     held x i s l at in-limits many h = record {
       within = in-limits;
       many = many;
       forest = subst (λ (j : ℕ). trees t (nodesOfShort s) j ≡ plantShort j s) at (short-grows t form s i l in-limits h);
     }
 
-    held-0 : Held t form 0 (given (r .entry))
+    held-0 : TreeHolds t form 0 (given (r .entry))
     unfolding root ShortWithin nodesOfShort writeShort
     held-0 = held 0 0 (given (r .entry)) _ refl (w .entry) count-0 from-0
 
-    held-1 : Held t form 1 (given (r .exit))
+    held-1 : TreeHolds t form 1 (given (r .exit))
     unfolding ShortWithin nodesOfShort writeShort
     held-1 = held 1 _ (given (r .exit)) _ root-1 (w .exit) count-1 from-1
 
-    held-2 : Held t form 2 (r .shortEntry)
+    held-2 : TreeHolds t form 2 (r .shortEntry)
     held-2 = held 2 _ (r .shortEntry) _ root-2 (w .shortEntry) count-2 from-2
 
-    held-3 : Held t form 3 (r .shortExit)
+    held-3 : TreeHolds t form 3 (r .shortExit)
     held-3 = held 3 _ (r .shortExit) [] root-3 (w .shortExit) count-3 from-3
 
     none-of-four : (f : ℕ → Place) → f 0 ≡ Nowhere → f 1 ≡ Nowhere → f 2 ≡ Nowhere → f 3 ≡ Nowhere → ofFour f ≡ Nowhere
-    unfolding ofFour orElse
+    unfolding ofFour orPlace
     none-of-four f a b c d = rw (a, b, c, d)
 
     two-at : (a b j : ℕ) → a ≡ j → wrongNode t a 0 ≡ Nowhere → wrongNode t b j ≡ Nowhere → wrongNode t (a + b) 0 ≡ Nowhere
@@ -227,7 +228,7 @@ module _ (form : Form) (r : Rule) where
       rows = sym rows-of;
     })
 
-    given-tree : (x : ℕ) (c : Condition) → Held t form x (given c) → treeOf t x ≡ c
+    given-tree : (x : ℕ) (c : Condition) → TreeHolds t form x (given c) → treeOf t x ≡ c
     unfolding treeOf plantShort firstOf ShortWithin
     given-tree x c h =
         ap (λ (f : Forest). firstOf (conditions f)) (planted t form x (given c) h) ∙ ap firstOf (readsOf form c (root t x) Forest.none (h .within .fields))

@@ -14,73 +14,74 @@ use Rattle.table.specs.Writing.{le16, le32, le64, node, nodeBytes, nodesBytes, 
 use Rattle.table.specs.Writing.{nodesOfShort, writeShort, nodesOfRule, headerOf, tableOf}
 use Rattle.table.specs.Limits.{WithinOf, ShortWithin, RuleWithin}
 use Rattle.table.specs.Bytes.{Bytes}
-use Rattle.roundtrip.specs.Laws.WrittenForestKept.{Fits, FieldsFit, fieldsOf}
+use Rattle.roundtrip.specs.Laws.OwnBytes.{NodeFits, FieldsFit}
+use Rattle.roundtrip.specs.Laws.WrittenForestKept.{fieldsOf}
 use Rattle.roundtrip.specs.Laws.NodeBytes.{tree-bytes}
 use Rattle.roundtrip.specs.Laws.WrittenForest.{plantOf, condition-bytes}
 
-unfoldable Small : List ℕ → Type 0
-Small [] = Unit
-Small (b ∷ bs) = (b < 256) × Small bs
+unfoldable AllBytes : List ℕ → Type 0
+AllBytes [] = Unit
+AllBytes (b ∷ bs) = (b < 256) × AllBytes bs
 
-bytes-of : (l : List ℕ) (i : ℕ) → Small l → getD l i 0 < 256
-unfolding Small
+bytes-of : (l : List ℕ) (i : ℕ) → AllBytes l → getD l i 0 < 256
+unfolding AllBytes
 bytes-of [] i s = omega arith
 bytes-of (b ∷ bs) zero s = s .0
 bytes-of (b ∷ bs) (suc i) s = bytes-of bs i (s .1)
 
-small-two : (a b : List ℕ) → Small a → Small b → Small (a ++ b)
-unfolding Small
+small-two : (a b : List ℕ) → AllBytes a → AllBytes b → AllBytes (a ++ b)
+unfolding AllBytes
 small-two [] b sa sb = sb
 small-two (x ∷ a) b sa sb = (sa .0, small-two a b (sa .1) sb)
 
-small16 : (x : ℕ) → x < 65536 → Small (le16 x)
-unfolding Small le16
+small16 : (x : ℕ) → x < 65536 → AllBytes (le16 x)
+unfolding AllBytes le16
 small16 x h = (omega arith, (omega arith, tt))
 
-small32 : (x : ℕ) → x < 4294967296 → Small (le32 x)
+small32 : (x : ℕ) → x < 4294967296 → AllBytes (le32 x)
 unfolding le32
 small32 x h = small-two (le16 (x % 65536)) (le16 (x / 65536)) (small16 (x % 65536) (omega arith)) (small16 (x / 65536) (omega arith))
 
-small64 : (x : ℕ) → x < 18446744073709551616 → Small (le64 x)
+small64 : (x : ℕ) → x < 18446744073709551616 → AllBytes (le64 x)
 unfolding le64
 small64 x h = small-two (le32 (x % 4294967296)) (le32 (x / 4294967296)) (small32 (x % 4294967296) (omega arith)) (small32 (x / 4294967296) (omega arith))
 
-small-node : (k s c n x : ℕ) → k < 256 → s < 256 → c < 65536 → n < 4294967296 → x < 18446744073709551616 → Small (node k s c n x)
-unfolding node Small
+small-node : (k s c n x : ℕ) → k < 256 → s < 256 → c < 65536 → n < 4294967296 → x < 18446744073709551616 → AllBytes (node k s c n x)
+unfolding node AllBytes
 small-node k s c n x hk hs hc hn hx =
     (hk, (hs, small-two (le16 c ++ le32 n) (le64 x) (small-two (le16 c) (le32 n) (small16 c hc) (small32 n hn)) (small64 x hx)))
 
-small-bytes : (n : Node) → Fits n → Small (nodeBytes n)
+small-bytes : (n : Node) → NodeFits n → AllBytes (nodeBytes n)
 unfolding nodeBytes
 small-bytes n f = small-node (n .kind) (n .selector) (n .children) (n .n) (n .constant) (f .kind) (f .selector) (f .children) (f .n) (f .constant)
 
-small-none : Small []
-unfolding Small
+small-none : AllBytes []
+unfolding AllBytes
 small-none = tt
 
 -- nodes whose fields fit, and so a tree within the limits
-small-forest : (f : Forest) → FieldsFit f → Small (nodesBytes (flat f))
+small-forest : (f : Forest) → FieldsFit f → AllBytes (nodesBytes (flat f))
 unfolding FieldsFit nodesBytes flat
 small-forest Forest.none fit = small-none
 small-forest (Forest.tree n below rest) fit =
     rw tree-bytes (small-two _ _ (small-two _ _ (small-bytes n (fit .0)) (small-forest below (fit .1))) (small-forest rest (fit .2)))
 
 module _ (form : Form) (few : form .slots ≤ mostSlots) where
-  small-condition : (c : Condition) → WithinOf form c → nodesOf c ≤ mostNodes → Small (writeOf c)
+  small-condition : (c : Condition) → WithinOf form c → nodesOf c ≤ mostNodes → AllBytes (writeOf c)
   unfolding FieldsFit
   small-condition c w h = rw (← condition-bytes c 0) (small-forest (plantOf 0 c Forest.none) (fieldsOf form few c 0 Forest.none w h tt))
 
-  small-short : (s : Short) → ShortWithin form s → nodesOfShort s ≤ mostNodes → Small (writeShort s)
+  small-short : (s : Short) → ShortWithin form s → nodesOfShort s ≤ mostNodes → AllBytes (writeShort s)
   unfolding ShortWithin writeShort nodesOfShort
   small-short absent w h = small-none
   small-short (given c) w h = small-condition c (w .fields) h
 
-small-six : (a b c d e f : List ℕ) → Small a → Small b → Small c → Small d → Small e → Small f → Small (a ++ b ++ c ++ d ++ e ++ f)
+small-six : (a b c d e f : List ℕ) → AllBytes a → AllBytes b → AllBytes c → AllBytes d → AllBytes e → AllBytes f → AllBytes (a ++ b ++ c ++ d ++ e ++ f)
 small-six a b c d e f sa sb sc sd se sf =
     small-two (a ++ b ++ c ++ d ++ e) f (small-two (a ++ b ++ c ++ d) e (small-two (a ++ b ++ c) d (small-two (a ++ b) c (small-two a b sa sb) sc) sd) se) sf
 
-small-header : (form : Form) (r : Rule) → RuleWithin form r → Small (headerOf form r)
-unfolding headerOf nodesOfRule Small
+small-header : (form : Form) (r : Rule) → RuleWithin form r → AllBytes (headerOf form r)
+unfolding headerOf nodesOfRule AllBytes
 small-header form r w =
     let few = w .few-slots in
     let version = w .known-version in

@@ -52,24 +52,24 @@ unfoldable mutual
 
 -- ---- its nodes: how many they are, what bytes they have, and that they are numbered one after the other
 
-unfoldable pub Numbered : ℕ → Forest → Type 0
-Numbered i Forest.none = Unit
-Numbered i (Forest.tree n below rest) = (n .number ≡ i) × Numbered (i + 1) below × Numbered (i + (1 + size below)) rest
+unfoldable pub NumberedFrom : ℕ → Forest → Type 0
+NumberedFrom i Forest.none = Unit
+NumberedFrom i (Forest.tree n below rest) = (n .number ≡ i) × NumberedFrom (i + 1) below × NumberedFrom (i + (1 + size below)) rest
 
 -- m nodes, the first of them number i, whose bytes are l, and then the others
 pub record Planted (i m : ℕ) (l : List ℕ) (f rest : Forest) : Type 0 where
   pub many : size f ≡ m + size rest
   pub bytes : nodesBytes (flat f) ≡ l ++ nodesBytes (flat rest)
-  pub numbers : Numbered (i + m) rest → Numbered i f
+  pub numbers : NumberedFrom (i + m) rest → NumberedFrom i f
 
 -- a node over none, over others, and nodes before others
 alone : (n : Node) (rest : Forest) → Planted (n .number) 1 (nodeBytes n) (Forest.tree n Forest.none rest) rest
-unfolding size flat nodesBytes Numbered
+unfolding size flat nodesBytes NumberedFrom
 alone n rest = record { many = refl; bytes = refl; numbers = λ r. (refl, tt, r) }
 
 over : (n : Node) (m : ℕ) (l : List ℕ) (below rest : Forest) → Planted (n .number + 1) m l below Forest.none
     → Planted (n .number) (1 + m) (nodeBytes n ++ l) (Forest.tree n below rest) rest
-unfolding size Numbered
+unfolding size NumberedFrom
 over n m l below rest p =
     let many : size below ≡ m = omega (arith, p .many) in
     let own : nodesBytes (flat below) ≡ l = p .bytes ∙ rw no-bytes (append-nil l) in

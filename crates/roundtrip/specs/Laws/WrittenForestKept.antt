@@ -22,6 +22,7 @@ use Rattle.table.specs.Trees.{Operand, const, ref, price, prev, arith as sums, 
 use Rattle.table.specs.Trees.{any, negated, inPosition, barsSince, none, more}
 use Rattle.table.specs.Writing.{manyOf, nodesIn, nodesOf, nodesOfAll}
 use Rattle.table.specs.Limits.{WithinSeries, Within, WithinOf, WithinAll}
+use Rattle.roundtrip.specs.Laws.OwnBytes.{NodeFits, FieldsFit}
 use Rattle.roundtrip.specs.Laws.Writing.{Right}
 use Rattle.roundtrip.specs.Laws.WrittenForest.{plantSeries, plant, plantOf, plantAll, nd, some-nodes}
 use native.Mathlib.Omega.{arith}
@@ -184,27 +185,15 @@ module _ (form : Form) where
 
 -- ---- fields that fit their bytes
 
--- "Node: kind (1), selector (1), children (2), n (4), constant bits (8)."
-pub record Fits (node : Node) : Type 0 where
-  pub kind : node .kind < 256
-  pub selector : node .selector < 256
-  pub children : node .children < 65536
-  pub n : node .n < 4294967296
-  pub constant : node .constant < 18446744073709551616
-
-unfoldable pub FieldsFit : Forest → Type 0
-FieldsFit Forest.none = Unit
-FieldsFit (Forest.tree n below rest) = Fits n × FieldsFit below × FieldsFit rest
-
-node-fits : (i k s c n x : ℕ) → k < 256 → s < 256 → c < 65536 → n < 4294967296 → x < 18446744073709551616 → Fits (nd i k s c n x)
+node-fits : (i k s c n x : ℕ) → k < 256 → s < 256 → c < 65536 → n < 4294967296 → x < 18446744073709551616 → NodeFits (nd i k s c n x)
 node-fits i k s c n x hk hs hc hn hx = record { kind = hk; selector = hs; children = hc; n = hn; constant = hx }
 
 -- a node of no number but its kind and its n
-plain-fits : (i k n : ℕ) → k < 256 → n < 4294967296 → Fits (nd i k 0 0 n 0)
+plain-fits : (i k n : ℕ) → k < 256 → n < 4294967296 → NodeFits (nd i k 0 0 n 0)
 plain-fits i k n hk hn = node-fits i k 0 0 n 0 hk (omega arith) (omega arith) hn (omega arith)
 
 -- and one of a row of the table of kinds
-row-fits : (i k n : ℕ) (row : Kind) → kindOf k ≡ row → 0 < row .sort → n < 4294967296 → Fits (nd i k 0 0 n 0)
+row-fits : (i k n : ℕ) (row : Kind) → kindOf k ≡ row → 0 < row .sort → n < 4294967296 → NodeFits (nd i k 0 0 n 0)
 row-fits i k n row h some hn = plain-fits i k n (omega (arith, known k row h some)) hn
 
 as-many : (cs : Conditions) → manyOf cs ≤ nodesOfAll cs
@@ -212,7 +201,7 @@ unfolding manyOf nodesOfAll
 as-many none = omega arith
 as-many (more c cs) = omega (arith, as-many cs, some-nodes c)
 
-group-fits : (i k : ℕ) (cs : Conditions) → k < 256 → nodesOfAll cs ≤ mostNodes → Fits (nd i k 0 (manyOf cs) 0 0)
+group-fits : (i k : ℕ) (cs : Conditions) → k < 256 → nodesOfAll cs ≤ mostNodes → NodeFits (nd i k 0 (manyOf cs) 0 0)
 group-fits i k cs hk h = node-fits i k 0 (manyOf cs) 0 0 hk (omega arith) (omega (arith, as-many cs)) (omega arith) (omega arith)
 
 module _ (form : Form) (few : form .slots ≤ mostSlots) where

@@ -12,7 +12,7 @@ use Rattle.table.specs.declared.series.Series.{Series}
 use Rattle.table.specs.declared.series.Series.the-variants.{Price, Slot}
 use Rattle.table.specs.declared.places.Place.the-variants.{Nowhere}
 use Rattle.table.specs.Kinds.{kinds, kindOf}
-use Rattle.table.specs.Order.{orElse}
+use Rattle.table.specs.Order.{orPlace}
 use Rattle.table.specs.Forest.{Forest}
 use Rattle.table.specs.Forest as Forest
 use Rattle.table.specs.Nesting.{deeper}
@@ -27,7 +27,7 @@ use Rattle.roundtrip.specs.Laws.WrittenForest.{plantSeries, plant, plant
 -- ---- depth
 
 one-level : (n : Node) (l : ℕ) (below rest : Forest) → 0 < l → deeper (l - 1) below ≡ Nowhere → deeper l (Forest.tree n below rest) ≡ deeper l rest
-unfolding deeper orElse
+unfolding deeper orPlace
 one-level n zero below rest h b = absurd (never h)
   where
     never : 0 < 0 → ⊥

@@ -15,9 +15,9 @@ use Rattle.table.specs.Trees.{Condition}
 use Rattle.table.specs.Limits.{WithinOf}
 use Rattle.table.specs.Writing.{nodeBytes, nodesBytes, writeOf, nodesOf}
 use Rattle.roundtrip.specs.Laws.NodeBytes.{tree-bytes, forest-long}
-use Rattle.roundtrip.specs.Laws.WrittenForest.{nd, plantOf, Numbered, condition-nodes, condition-bytes}
+use Rattle.roundtrip.specs.Laws.WrittenForest.{nd, plantOf, NumberedFrom, condition-nodes, condition-bytes}
 use Rattle.roundtrip.specs.Laws.WrittenForestKept.{sortedOf}
-use Rattle.roundtrip.specs.Laws.WrittenNodes.{From, node-there, nodes-after, past}
+use Rattle.roundtrip.specs.Laws.WrittenNodes.{From, node-there, nodes-after, from-past}
 
 -- ---- trees in a row, and others after them
 
@@ -69,9 +69,9 @@ module _ (t : List ℕ) where
   after-node n i l h = nodes-after t i (n .kind) (n .selector) (n .children) (n .n) (n .constant) l h
 
   -- Nodes that are numbered from i on and have the children that their kinds take: where their bytes stand, they grow.
-  grows : (f : Forest) (i m : ℕ) (l : List ℕ) → Numbered i f → Sorted f → From t i (nodesBytes (flat f) ++ l)
+  grows : (f : Forest) (i m : ℕ) (l : List ℕ) → NumberedFrom i f → Sorted f → From t i (nodesBytes (flat f) ++ l)
       → trees t (size f + m) i ≡ andThen f (trees t m (i + size f))
-  unfolding Numbered Sorted size andThen
+  unfolding NumberedFrom Sorted size andThen
   grows Forest.none i m l numbers kept h =
       let none-more : 0 + m ≡ m = omega arith in
       let place : i ≡ i + 0 = omega arith in
@@ -81,7 +81,7 @@ module _ (t : List ℕ) where
       let g : From t i (nodeBytes n ++ (nodesBytes (flat below) ++ (nodesBytes (flat rest) ++ l))) =
       h ∙ ap (λ (bs : List ℕ). bs ++ l) (tree-bytes n below rest) ∙ regroup (nodeBytes n) (nodesBytes (flat below)) (nodesBytes (flat rest)) l in
       let g1 = after-node n i _ g in
-      let g2 = past t (i + 1) (size below) (nodesBytes (flat below)) (nodesBytes (flat rest) ++ l) (forest-long below) g1 in
+      let g2 = from-past t (i + 1) (size below) (nodesBytes (flat below)) (nodesBytes (flat rest) ++ l) (forest-long below) g1 in
       let at-rest : i + 1 + size below ≡ i + (1 + size below) = omega arith in
       let place : i + (1 + size below) + size rest ≡ i + (1 + size below + size rest) = omega arith in
       grown t i _ (size below + (size rest + m)) n (node-at n i _ (numbers .0) g) (omega arith)
@@ -94,7 +94,7 @@ module _ (t : List ℕ) where
 
 pub growsOf : (t : List ℕ) (form : Form) (c : Condition) (i : ℕ) (l : List ℕ) → WithinOf form c → From t i (writeOf c ++ l)
     → trees t (nodesOf c) i ≡ plantOf i c Forest.none
-unfolding Numbered Sorted size trees
+unfolding NumberedFrom Sorted size trees
 growsOf t form c i l w h =
     let f = plantOf i c Forest.none in
     let p = condition-nodes c i Forest.none in

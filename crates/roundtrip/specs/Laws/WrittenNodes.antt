@@ -76,7 +76,7 @@ module _ (t : List ℕ) (i kind selector children n constant : ℕ) (l : List �
       ap (λ (j : ℕ). drop j t) place ∙ sym (drop-drop 16 (16 + 16 * i) t) ∙ ap (drop 16) h
 
 -- past bytes of m nodes
-pub past : (t : List ℕ) (i m : ℕ) (p l : List ℕ) → length p ≡ 16 * m → From t i (p ++ l) → From t (i + m) l
-past t i m p l long h =
+pub from-past : (t : List ℕ) (i m : ℕ) (p l : List ℕ) → length p ≡ 16 * m → From t i (p ++ l) → From t (i + m) l
+from-past t i m p l long h =
     let place : 16 + 16 * (i + m) ≡ 16 + 16 * i + 16 * m = omega arith in
     ap (λ (j : ℕ). drop j t) place ∙ sym (drop-drop (16 * m) (16 + 16 * i) t) ∙ ap (drop (16 * m)) h ∙ drop-at p l (16 * m) long

@@ -27,7 +27,7 @@ use Rattle.table.specs.Limits.{WithinOf, ShortWithin}
 use Rattle.table.specs.Laws.Kinds.{over-series-one}
 use Rattle.roundtrip.specs.Laws.Reach.{all-reach}
 use Rattle.roundtrip.specs.Laws.Writing.{Right}
-use Rattle.table.specs.Laws.Accepted.{right-node}
+use Rattle.table.specs.Laws.Order.{test-held}
 use Rattle.roundtrip.specs.Laws.WrittenForest.{plantOf, some-nodes}
 use Rattle.roundtrip.specs.Laws.WrittenNodes.{From}
 use Rattle.roundtrip.specs.Laws.WrittenGrows.{growsOf}
@@ -104,7 +104,7 @@ wrong-two t zero b i h g =
     let zero-b : 0 + b ≡ b = omega arith in
     rw zero-b (rw (add-zero i) at g)
 wrong-two t (suc a) b i h g =
-    let first = right-node (nodeRight t i) (wrongNode t a (i + 1)) i h in
+    let first = test-held (nodeRight t i) (wrongNode t a (i + 1)) i h in
     let place : i + suc a ≡ i + 1 + a = omega arith in
     rw (suc-add a b, first .0) (wrong-two t a b (i + 1) (first .1) (rw place at g))
 
@@ -172,12 +172,12 @@ short-reads form (given c) i w =
     rw (some, readsOf form c i Forest.none (w .fields))
 
 -- tree x of a table holds a tree within the limits, or none
-pub record Held (t : List ℕ) (form : Form) (x : ℕ) (s : Short) : Type 0 where
+pub record TreeHolds (t : List ℕ) (form : Form) (x : ℕ) (s : Short) : Type 0 where
   pub within : ShortWithin form s
   pub many : count t x ≡ nodesOfShort s
   pub forest : trees t (nodesOfShort s) (root t x) ≡ plantShort (root t x) s
 
-module _ (t : List ℕ) (form : Form) (x : ℕ) (s : Short) (h : Held t form x s) where
+module _ (t : List ℕ) (form : Form) (x : ℕ) (s : Short) (h : TreeHolds t form x s) where
   pub planted : forestOf t x ≡ plantShort (root t x) s
   unfolding forestOf
   planted = ap (λ (m : ℕ). trees t m (root t x)) (h .many) ∙ h .forest

@@ -19,7 +19,7 @@ use Rattle.roundtrip.specs.Laws.Series.{series-read}
 use Rattle.table.specs.Ends.{endsAll, endsBeside, Link, Linked}
 use Rattle.table.specs.Reading as Reading
 use Rattle.table.specs.Reading.{child, operandBy, operandFrom, conditionBy, conditionFrom, treeOf}
-use Rattle.table.specs.Laws.Accepted.{Whole, tree-whole, ends-of}
+use Rattle.table.specs.Laws.Accepted.{WholeTree, tree-whole, ends-of}
 use Rattle.roundtrip.specs.Laws.Walking.{Stands, node-there, sort-there, level-left, stands-one, stands-next, stands-below, child-first, child-next}
 use Rattle.roundtrip.specs.Laws.Walking.{condition-first, conditions-none, conditions-more, operand-is, condition-is, tree-reads, tree-stands}
 use Rattle.rules.specs.Shapes.{endIn, operandOf, conditionOf, operandShape, conditionShape}
@@ -42,9 +42,9 @@ series-there : (t : List ℕ) (e j : ℕ) → j < e → asSeries (Reading.operan
 unfolding seriesIn
 series-there t e j near = ap asSeries (operand-is t e j near) ∙ series-read (nodeAt t j) _
 
-module _ (t ends : List ℕ) (b e : ℕ) (whole : Whole t ends b e) where
+module _ (t ends : List ℕ) (b e : ℕ) (whole : WholeTree t ends b e) where
   -- the word of a node of the tree, and where it leads
-  end-is : (j : ℕ) → j < e → endIn ends j ≡ getD ends j 0
+  pub end-is : (j : ℕ) → j < e → endIn ends j ≡ getD ends j 0
   unfolding endIn
   end-is j l = rw (lt-ltb j mostNodes (omega (arith, whole .small)))
 

@@ -17,6 +17,7 @@ use Rattle.rules.specs.declared.values.Value.{Value}
 use Rattle.rules.specs.declared.values.Value.the-variants.{Missing, Number}
 use Rattle.rules.specs.declared.position.PositionState.{PositionState}
 use Rattle.rules.specs.Values.{priceOf, slotOf, both, took, pick, tested, compared, trended}
+use Rattle.rules.specs.Laws.Missing.{either-way}
 use Rattle.rules.specs.Meaning.{there, seriesAt, extremeOver, extremeAt, value, holds}
 
 -- What is asked of a row that is there, and of one that is not.
@@ -163,16 +164,8 @@ below-itself (fin false m e) = not-below (m * Ieee.up e * Ieee.down e)
 
 itself : (kind : ℕ) (v : Value) → trended kind v v ≡ false
 unfolding trended compared tested
-itself kind Missing = go (eqb kind 25)
-  where
-    go : (b : Bool) → cond b false false ≡ false
-    go true = refl
-    go false = refl
-itself kind (Number x) = go (eqb kind 25)
-  where
-    go : (b : Bool) → cond b (x ≺ x) (x ≺ x) ≡ false
-    go true = below-itself x
-    go false = below-itself x
+itself kind Missing = either-way (eqb kind 25) false
+itself kind (Number x) = either-way (eqb kind 25) (x ≺ x) ∙ below-itself x
 
 pub trend-now : (h : History) (s : PositionState) (kind : ℕ) (a : Operand) (i : ℕ) → holds h s (trend kind a 0) i ≡ false
 unfolding holds

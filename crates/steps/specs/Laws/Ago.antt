@@ -9,9 +9,10 @@ use borrow.Author.Tests.{lt-ltb, le-ltb, ltb-true, ltb-false, eqb-true, eqb-fals
 use Rattle.rows.specs.History.{History}
 use Rattle.table.specs.Trees.{Operand, prev, arith as sums}
 use Rattle.rules.specs.declared.values.Value.{Value}
-use Rattle.rules.specs.declared.values.Value.the-variants.{Missing, Number}
+use Rattle.rules.specs.declared.values.Value.the-variants.{Missing}
 use Rattle.rules.specs.Values.{both, compared, crossed, trended}
 use Rattle.rules.specs.Meaning.{there, value, newest}
+use Rattle.rules.specs.Laws.Missing.{compared-late, crossed-first}
 use Rattle.rules.specs.Laws.Meaning.{past}
 use Rattle.steps.specs.Machine.{ago}
 use Rattle.steps.specs.Translation.{trendTest}
@@ -67,19 +68,6 @@ module _ (h : History) where
   unfolding ago newest
   late-ago a n l = rw (le-ltb n (h .rows) (omega arith))
 
-compared-late : (k : ℕ) (x : Value) → compared k x Missing ≡ false
-unfolding compared
-compared-late k Missing = refl
-compared-late k (Number x) = refl
-
-crossed-late : (k : ℕ) (a b y : Value) → crossed k a b Missing y ≡ false
-unfolding crossed compared
-crossed-late k a b y = go (eqb k 22)
-  where
-    go : (t : Bool) → cond t (false && compared 16 a b) (false && compared 17 a b) ≡ false
-    go true = refl
-    go false = refl
-
 -- Rising and Falling are comparisons of their own
 trend-test : (k : ℕ) (x y : Value) → compared (trendTest k) x y ≡ trended k x y
 unfolding trended
@@ -97,7 +85,7 @@ module _ (h : History) where
     where
       go : (t : Bool) → eqb (newest h) 0 ≡ t → crossed k (ago h a 0) (ago h b 0) (ago h a 1) (ago h b 1)
           ≡ not t && crossed k (value h a (newest h)) (value h b (newest h)) (value h a (newest h - 1)) (value h b (newest h - 1))
-      go true e = rw (late-ago h a 1 (omega (arith, eqb-true (newest h) 0 e))) (crossed-late k (ago h a 0) (ago h b 0) (ago h b 1))
+      go true e = rw (late-ago h a 1 (omega (arith, eqb-true (newest h) 0 e))) (crossed-first k (ago h a 0) (ago h b 0) (ago h b 1))
       go false e =
           let one : 1 ≤ newest h = omega (arith, eqb-false (newest h) 0 e) in
           rw (now-ago h a, now-ago h b, at-ago h a 1 one, at-ago h b 1 one)

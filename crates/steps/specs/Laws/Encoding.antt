@@ -23,7 +23,7 @@ use Rattle.steps.specs.Bytes.{answerOp, opOf, opsFrom, opsOf, extremeSte
 
 -- ---- the fields that a step has room for
 
-pub record Sized (x : Step) : Type 0 where
+pub record StepFits (x : Step) : Type 0 where
   pub selector : x .selector < 256
   pub skip : x .skip < 65536
   pub n : x .n < 4294967296
@@ -62,21 +62,21 @@ two-back n l =
     let high : n / 256 % 256 ≡ n / 256 = mod-eq-of-lt (omega arith) in
     omega (arith, high, mod-add-div n 256)
 
-joined : (n a b c r₀ r₁ r₂ r₃ : ℕ) → r₀ + 256 * a ≡ n → r₁ + 256 * b ≡ a → r₂ + 256 * c ≡ b → r₃ ≡ c
+from-four : (n a b c r₀ r₁ r₂ r₃ : ℕ) → r₀ + 256 * a ≡ n → r₁ + 256 * b ≡ a → r₂ + 256 * c ≡ b → r₃ ≡ c
     → r₀ + 256 * r₁ + 65536 * (r₂ + 256 * r₃) ≡ n
-joined n a b c r₀ r₁ r₂ r₃ e₀ e₁ e₂ e₃ = omega arith
+from-four n a b c r₀ r₁ r₂ r₃ e₀ e₁ e₂ e₃ = omega arith
 
 -- four bytes of a number below 2^32 are the number
 pub four-back : (n : ℕ) → n < 4294967296 → n % 256 + 256 * (n / 256 % 256) + 65536 * (n / 65536 % 256 + 256 * (n / 16777216 % 256)) ≡ n
 four-back n l =
     let e₁ : n / 256 % 256 + 256 * (n / 65536) ≡ n / 256 = rw (← (div-div-eq-div-mul n 256 256)) (mod-add-div (n / 256) 256) in
     let e₂ : n / 65536 % 256 + 256 * (n / 16777216) ≡ n / 65536 = rw (← (div-div-eq-div-mul n 65536 256)) (mod-add-div (n / 65536) 256) in
-    joined n (n / 256) (n / 65536) (n / 16777216) _ _ _ _ (mod-add-div n 256) e₁ e₂ (mod-eq-of-lt (omega arith))
+    from-four n (n / 256) (n / 65536) (n / 16777216) _ _ _ _ (mod-add-div n 256) e₁ e₂ (mod-eq-of-lt (omega arith))
 
 -- ---- a step
 
 -- a step's bytes read back as its fields
-step-back : (x : Step) (rest : List ℕ) → Sized x → readStep (stepBytes x ++ rest) 0 ≡ x
+step-back : (x : Step) (rest : List ℕ) → StepFits x → readStep (stepBytes x ++ rest) 0 ≡ x
 unfolding readStep stepBytes u16 u32 u64
 step-back x rest z =
     let low : x .bits % 4294967296 < 4294967296 = omega arith in
@@ -137,7 +137,7 @@ says-back (BarsSinceEntry p k) s = refl
 says-back (JumpIf true skip) s = refl
 says-back (JumpIf false skip) s = refl
 
-sized : (x : Op) → Sayable x → Sized (stepOf x)
+sized : (x : Op) → Sayable x → StepFits (stepOf x)
 unfolding Sayable SayableSeries stepOf extremeStep
 sized (Const bits n) s = record { selector = omega arith; skip = omega arith; n = omega arith; bits = omega arith }
 sized (Ref k n) s = record { selector = omega arith; skip = omega arith; n = omega arith; bits = omega arith }

@@ -20,120 +20,121 @@ use Rattle.steps.specs.Translation.{code, codeOf, codeEach, trendTest}
 
 -- ---- steps that are well formed where `after` steps follow
 
-unfoldable pub GoodSeries : ℕ → Series → Type 0
-GoodSeries K (Over.Price p) = p < 256
-GoodSeries K (Over.Slot k) = k < K
+unfoldable pub SeriesRight : ℕ → Series → Type 0
+SeriesRight K (Over.Price p) = p < 256
+SeriesRight K (Over.Slot k) = k < K
 
-unfoldable pub Good : ℕ → ℕ → ℕ → Op → Type 0
-Good K D after (Const bits n) = (n < D) × (bits < 18446744073709551616)
-Good K D after (Ref k n) = (k < K) × (n < D)
-Good K D after (Price p n) = (p < 256) × (n < D)
-Good K D after (Extreme kind over n back) = (9 ≤ kind) × (kind ≤ 10) × (1 ≤ n) × (n ≤ 4095) × GoodSeries K over × (back + (n - 1) < D)
-Good K D after (Arith k) = (5 ≤ k) × (k < 9)
-Good K D after (Compare k) = (16 ≤ k) × (k < 22)
-Good K D after (Cross k) = (22 ≤ k) × (k < 24)
-Good K D after Between = Unit
-Good K D after (Answer w) = Unit
-Good K D after Turn = Unit
-Good K D after (InPosition w) = Unit
-Good K D after (BarsSinceEntry p k) = (p < 256) × (k < 4294967296)
-Good K D after (JumpIf w skip) = (skip ≤ after) × (skip < 65536)
-Good K D after Unknown = ⊥
+unfoldable pub FieldsRight : ℕ → ℕ → ℕ → Op → Type 0
+FieldsRight K D after (Const bits n) = (n < D) × (bits < 18446744073709551616)
+FieldsRight K D after (Ref k n) = (k < K) × (n < D)
+FieldsRight K D after (Price p n) = (p < 256) × (n < D)
+FieldsRight K D after (Extreme kind over n back) = (9 ≤ kind) × (kind ≤ 10) × (1 ≤ n) × (n ≤ 4095) × SeriesRight K over × (back + (n - 1) < D)
+FieldsRight K D after (Arith k) = (5 ≤ k) × (k < 9)
+FieldsRight K D after (Compare k) = (16 ≤ k) × (k < 22)
+FieldsRight K D after (Cross k) = (22 ≤ k) × (k < 24)
+FieldsRight K D after Between = Unit
+FieldsRight K D after (Answer w) = Unit
+FieldsRight K D after Turn = Unit
+FieldsRight K D after (InPosition w) = Unit
+FieldsRight K D after (BarsSinceEntry p k) = (p < 256) × (k < 4294967296)
+FieldsRight K D after (JumpIf w skip) = (skip ≤ after) × (skip < 65536)
+FieldsRight K D after Unknown = ⊥
 
-unfoldable pub AllGood : ℕ → ℕ → List Op → Type 0
-AllGood K D [] = Unit
-AllGood K D (x ∷ xs) = Good K D (length xs) x × AllGood K D xs
+unfoldable pub AllFieldsRight : ℕ → ℕ → List Op → Type 0
+AllFieldsRight K D [] = Unit
+AllFieldsRight K D (x ∷ xs) = FieldsRight K D (length xs) x × AllFieldsRight K D xs
 
 module _ (form : Form) (D : ℕ) where
-  good-more : (x : Op) {m n : ℕ} → m ≤ n → Good (form .slots) D m x → Good (form .slots) D n x
-  unfolding Good
-  good-more (Const bits n) le g = g
-  good-more (Ref k n) le g = g
-  good-more (Price p n) le g = g
-  good-more (Extreme kind over n back) le g = g
-  good-more (Arith k) le g = g
-  good-more (Compare k) le g = g
-  good-more (Cross k) le g = g
-  good-more Between le g = g
-  good-more (Answer w) le g = g
-  good-more Turn le g = g
-  good-more (InPosition w) le g = g
-  good-more (BarsSinceEntry p k) le g = g
-  good-more (JumpIf w skip) le g = (omega (arith, g .0), g .1)
-  good-more Unknown le g = g
+  right-more : (x : Op) {m n : ℕ} → m ≤ n → FieldsRight (form .slots) D m x → FieldsRight (form .slots) D n x
+  unfolding FieldsRight
+  right-more (Const bits n) le g = g
+  right-more (Ref k n) le g = g
+  right-more (Price p n) le g = g
+  right-more (Extreme kind over n back) le g = g
+  right-more (Arith k) le g = g
+  right-more (Compare k) le g = g
+  right-more (Cross k) le g = g
+  right-more Between le g = g
+  right-more (Answer w) le g = g
+  right-more Turn le g = g
+  right-more (InPosition w) le g = g
+  right-more (BarsSinceEntry p k) le g = g
+  right-more (JumpIf w skip) le g = (omega (arith, g .0), g .1)
+  right-more Unknown le g = g
 
-  good-append : (xs ys : List Op) → AllGood (form .slots) D xs → AllGood (form .slots) D ys → AllGood (form .slots) D (xs ++ ys)
-  unfolding AllGood
-  good-append [] ys g h = h
-  good-append (x ∷ xs) ys g h = (good-more x (omega (arith, length-append xs ys)) (g .0), good-append xs ys (g .1) h)
+  right-append : (xs ys : List Op) → AllFieldsRight (form .slots) D xs → AllFieldsRight (form .slots) D ys → AllFieldsRight (form .slots) D (xs ++ ys)
+  unfolding AllFieldsRight
+  right-append [] ys g h = h
+  right-append (x ∷ xs) ys g h = (right-more x (omega (arith, length-append xs ys)) (g .0), right-append xs ys (g .1) h)
 
-  one-good : (x : Op) → Good (form .slots) D 0 x → AllGood (form .slots) D (x ∷ [])
-  unfolding AllGood
-  one-good x g = (g, tt)
+  one-right : (x : Op) → FieldsRight (form .slots) D 0 x → AllFieldsRight (form .slots) D (x ∷ [])
+  unfolding AllFieldsRight
+  one-right x g = (g, tt)
 
-  then-good : (xs : List Op) (x : Op) → AllGood (form .slots) D xs → Good (form .slots) D 0 x → AllGood (form .slots) D (xs ++ x ∷ [])
-  then-good xs x g h = good-append xs (x ∷ []) g (one-good x h)
+  then-right : (xs : List Op) (x : Op) → AllFieldsRight (form .slots) D xs → FieldsRight (form .slots) D 0 x → AllFieldsRight (form .slots) D (xs ++ x ∷ [])
+  then-right xs x g h = right-append xs (x ∷ []) g (one-right x h)
 
-  series-good : (over : Series) → WithinSeries form over → GoodSeries (form .slots) over
-  unfolding WithinSeries GoodSeries
-  series-good (Over.Price p) r = omega arith
-  series-good (Over.Slot k) r = r
+  series-right : (over : Series) → WithinSeries form over → SeriesRight (form .slots) over
+  unfolding WithinSeries SeriesRight
+  series-right (Over.Price p) r = omega arith
+  series-right (Over.Slot k) r = r
 
-  operand-good : (a : Operand) (n : ℕ) → Within form a → n + reach a < D → AllGood (form .slots) D (code a n)
-  unfolding code Within reach Good
-  operand-good (const bits) n r l = one-good (Const bits n) (omega arith)
-  operand-good (ref slot) n r l = one-good (Ref slot n) (omega arith)
-  operand-good (price selector) n r l = one-good (Price selector n) (omega arith)
-  operand-good (extreme kind over m) n r l =
-      one-good (Extreme kind over m n)
-      (extreme-numbers kind (r .0) .0, extreme-numbers kind (r .0) .1, r .2, r .3, series-good over (r .4), omega arith)
-  operand-good (prev a m) n r l = operand-good a (n + m) (r .1) (omega arith)
-  operand-good (sums kind a b) n r l =
-      good-append (code a n) (code b n ++ Arith kind ∷ []) (operand-good a n (r .1) (omega arith))
-      (then-good (code b n) (Arith kind) (operand-good b n (r .2) (omega arith)) (omega (arith, arith-numbers kind (r .0))))
+  operand-right : (a : Operand) (n : ℕ) → Within form a → n + reach a < D → AllFieldsRight (form .slots) D (code a n)
+  unfolding code Within reach FieldsRight
+  operand-right (const bits) n r l = one-right (Const bits n) (omega arith)
+  operand-right (ref slot) n r l = one-right (Ref slot n) (omega arith)
+  operand-right (price selector) n r l = one-right (Price selector n) (omega arith)
+  operand-right (extreme kind over m) n r l =
+      one-right (Extreme kind over m n)
+      (extreme-numbers kind (r .0) .0, extreme-numbers kind (r .0) .1, r .2, r .3, series-right over (r .4), omega arith)
+  operand-right (prev a m) n r l = operand-right a (n + m) (r .1) (omega arith)
+  operand-right (sums kind a b) n r l =
+      right-append (code a n) (code b n ++ Arith kind ∷ []) (operand-right a n (r .1) (omega arith))
+      (then-right (code b n) (Arith kind) (operand-right b n (r .2) (omega arith)) (omega (arith, arith-numbers kind (r .0))))
 
-  trend-good : (kind : ℕ) → Good (form .slots) D 0 (Compare (trendTest kind))
-  unfolding Good
-  trend-good kind = go (eqb kind 25)
+  trend-right : (kind : ℕ) → FieldsRight (form .slots) D 0 (Compare (trendTest kind))
+  unfolding FieldsRight
+  trend-right kind = go (eqb kind 25)
     where
       go : (t : Bool) → (16 ≤ cond t 16 17) × (cond t 16 17 < 22)
       go true = omega arith
       go false = omega arith
 
   mutual
-    unfolding codeOf WithinOf reachOf Good AllGood
+    unfolding codeOf WithinOf reachOf FieldsRight AllFieldsRight
 
-    condition-good : (c : Condition) → WithinOf form c → reachOf c < D → length (codeOf c) < 65536 → AllGood (form .slots) D (codeOf c)
-    condition-good (compare kind a b) r l f =
-        good-append (code a 0) (code b 0 ++ Compare kind ∷ []) (operand-good a 0 (r .1) (omega arith))
-        (then-good (code b 0) (Compare kind) (operand-good b 0 (r .2) (omega arith)) (omega (arith, compare-numbers kind (r .0))))
-    condition-good (cross kind a b) r l f =
-        good-append (code a 0) (code b 0 ++ (code a 1 ++ (code b 1 ++ Cross kind ∷ []))) (operand-good a 0 (r .1) (omega arith))
-        (good-append (code b 0) (code a 1 ++ (code b 1 ++ Cross kind ∷ [])) (operand-good b 0 (r .2) (omega arith))
-        (good-append (code a 1) (code b 1 ++ Cross kind ∷ []) (operand-good a 1 (r .1) (omega arith))
-        (then-good (code b 1) (Cross kind) (operand-good b 1 (r .2) (omega arith)) (omega (arith, cross-numbers kind (r .0))))))
-    condition-good (between x lo hi) r l f =
-        good-append (code x 0) (code lo 0 ++ (code hi 0 ++ Between ∷ [])) (operand-good x 0 (r .0) (omega arith))
-        (good-append (code lo 0) (code hi 0 ++ Between ∷ []) (operand-good lo 0 (r .1) (omega arith))
-        (then-good (code hi 0) Between (operand-good hi 0 (r .2) (omega arith)) tt))
-    condition-good (trend kind a n) r l f =
-        good-append (code a 0) (code a n ++ Compare (trendTest kind) ∷ []) (operand-good a 0 (r .2) (omega arith))
-        (then-good (code a n) (Compare (trendTest kind)) (operand-good a n (r .2) (omega arith)) (trend-good kind))
-    condition-good (every cs) r l f = (tt, each-good false cs r l (omega arith))
-    condition-good (any cs) r l f = (tt, each-good true cs r l (omega arith))
-    condition-good (negated c) r l f = then-good (codeOf c) Turn (condition-good c r l (omega (arith, length-append (codeOf c) (Turn ∷ [])))) tt
-    condition-good (inPosition w) r l f = (tt, tt)
-    condition-good (barsSince selector k) r l f = ((omega (arith, r .0), r .1), tt)
+    condition-right : (c : Condition) → WithinOf form c → reachOf c < D → length (codeOf c) < 65536 → AllFieldsRight (form .slots) D (codeOf c)
+    condition-right (compare kind a b) r l f =
+        right-append (code a 0) (code b 0 ++ Compare kind ∷ []) (operand-right a 0 (r .1) (omega arith))
+        (then-right (code b 0) (Compare kind) (operand-right b 0 (r .2) (omega arith)) (omega (arith, compare-numbers kind (r .0))))
+    condition-right (cross kind a b) r l f =
+        right-append (code a 0) (code b 0 ++ (code a 1 ++ (code b 1 ++ Cross kind ∷ []))) (operand-right a 0 (r .1) (omega arith))
+        (right-append (code b 0) (code a 1 ++ (code b 1 ++ Cross kind ∷ [])) (operand-right b 0 (r .2) (omega arith))
+        (right-append (code a 1) (code b 1 ++ Cross kind ∷ []) (operand-right a 1 (r .1) (omega arith))
+        (then-right (code b 1) (Cross kind) (operand-right b 1 (r .2) (omega arith)) (omega (arith, cross-numbers kind (r .0))))))
+    condition-right (between x lo hi) r l f =
+        right-append (code x 0) (code lo 0 ++ (code hi 0 ++ Between ∷ [])) (operand-right x 0 (r .0) (omega arith))
+        (right-append (code lo 0) (code hi 0 ++ Between ∷ []) (operand-right lo 0 (r .1) (omega arith))
+        (then-right (code hi 0) Between (operand-right hi 0 (r .2) (omega arith)) tt))
+    condition-right (trend kind a n) r l f =
+        right-append (code a 0) (code a n ++ Compare (trendTest kind) ∷ []) (operand-right a 0 (r .2) (omega arith))
+        (then-right (code a n) (Compare (trendTest kind)) (operand-right a n (r .2) (omega arith)) (trend-right kind))
+    condition-right (every cs) r l f = (tt, each-right false cs r l (omega arith))
+    condition-right (any cs) r l f = (tt, each-right true cs r l (omega arith))
+    condition-right (negated c) r l f = then-right (codeOf c) Turn (condition-right c r l (omega (arith, length-append (codeOf c) (Turn ∷ [])))) tt
+    condition-right (inPosition w) r l f = (tt, tt)
+    condition-right (barsSince selector k) r l f = ((omega (arith, r .0), r .1), tt)
 
-    each-good : (w : Bool) (cs : Conditions) → WithinAll form cs → reachOfAll cs < D → length (codeEach w cs) < 65536 → AllGood (form .slots) D (codeEach w cs)
-    each-good w none r l f = tt
-    each-good w (more c cs) r l f =
+    each-right : (w : Bool) (cs : Conditions) → WithinAll form cs → reachOfAll cs < D → length (codeEach w cs) < 65536
+        → AllFieldsRight (form .slots) D (codeEach w cs)
+    each-right w none r l f = tt
+    each-right w (more c cs) r l f =
         let long : length (codeOf c ++ JumpIf w (length (codeEach w cs)) ∷ codeEach w cs) ≡ length (codeOf c) + (length (codeEach w cs) + 1) =
         length-append (codeOf c) (JumpIf w (length (codeEach w cs)) ∷ codeEach w cs) ∙ omega arith in
-        good-append (codeOf c) (JumpIf w (length (codeEach w cs)) ∷ codeEach w cs) (condition-good c (r .0) (omega arith) (omega arith))
-        ((omega arith, omega arith), each-good w cs (r .1) (omega arith) (omega arith))
+        right-append (codeOf c) (JumpIf w (length (codeEach w cs)) ∷ codeEach w cs) (condition-right c (r .0) (omega arith) (omega arith))
+        ((omega arith, omega arith), each-right w cs (r .1) (omega arith) (omega arith))
 
--- every step of a translated list is good, where the tree's fields are in their ranges and D lies above its reach
-pub translated-good : (form : Form) (D : ℕ) (c : Condition) → WithinOf form c → reachOf c < D → length (codeOf c) < 65536
-    → AllGood (form .slots) D (codeOf c)
-translated-good form D c r l f = condition-good form D c r l f
+-- every step of a translated list has right fields, where the tree's fields are in their ranges and D lies above its reach
+pub translated-right : (form : Form) (D : ℕ) (c : Condition) → WithinOf form c → reachOf c < D → length (codeOf c) < 65536
+    → AllFieldsRight (form .slots) D (codeOf c)
+translated-right form D c r l f = condition-right form D c r l f

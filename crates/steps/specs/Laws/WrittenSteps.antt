@@ -1,4 +1,4 @@
--- A list that is written from good steps is well formed, and reads back as those steps.
+-- A list that is written from steps with right fields is well formed, and reads back as those steps.
 use Prim.Native.Nat.{ℕ, _+_, _-_, _*_, _%_, _<_, _≤_}
 use mathlib.Core.Path.{_≡_, refl}
 use mathlib.Core.Bool.{true, _&&_}
@@ -16,16 +16,16 @@ use Rattle.steps.specs.declared.wellformed.Formed.the-variants.{Well}
 use Rattle.steps.specs.Bytes.{extremeStep, stepOf, stepBytes, bytesOf, stepsIn, opsOf}
 use Rattle.steps.specs.WellFormed.{zeros, rowsFit, plain, seriesWithin, looksWithin, bounded, goodStep, formedFrom, formed}
 use Rattle.steps.specs.Laws.Encoding.{SayableSeries, Sayable, AllSayable, says-back, step-there, steps-long, ops-of-bytes}
-use Rattle.steps.specs.Laws.TranslatedSteps.{GoodSeries, Good, AllGood}
+use Rattle.steps.specs.Laws.TranslatedSteps.{SeriesRight, FieldsRight, AllFieldsRight}
 
 module _ (K D : ℕ) (few : K ≤ mostSlots) (near : D ≤ mostRows) where
-  series-sayable : (over : Series) → GoodSeries K over → SayableSeries over
-  unfolding GoodSeries SayableSeries
+  series-sayable : (over : Series) → SeriesRight K over → SayableSeries over
+  unfolding SeriesRight SayableSeries
   series-sayable (Over.Price p) g = g
   series-sayable (Over.Slot k) g = omega arith
 
-  sayable : (after : ℕ) (x : Op) → Good K D after x → Sayable x
-  unfolding Good Sayable
+  sayable : (after : ℕ) (x : Op) → FieldsRight K D after x → Sayable x
+  unfolding FieldsRight Sayable
   sayable after (Const bits n) g = (omega (arith, g .0), g .1)
   sayable after (Ref k n) g = (omega (arith, g .0), omega (arith, g .1))
   sayable after (Price p n) g = (g .0, omega (arith, g .1))
@@ -40,42 +40,42 @@ module _ (K D : ℕ) (few : K ≤ mostSlots) (near : D ≤ mostRows) where
   sayable after (BarsSinceEntry p k) g = g
   sayable after (JumpIf w skip) g = g .1
 
-  all-sayable : (xs : List Op) → AllGood K D xs → AllSayable xs
-  unfolding AllGood AllSayable
+  all-sayable : (xs : List Op) → AllFieldsRight K D xs → AllSayable xs
+  unfolding AllFieldsRight AllSayable
   all-sayable [] g = tt
   all-sayable (x ∷ xs) g = (sayable (length xs) x (g .0), all-sayable xs (g .1))
 
   -- a look over rows, by what it looks over
-  look-is : (kind : ℕ) (over : Series) (n back : ℕ) → 1 ≤ n → GoodSeries K over → back + (n - 1) < D
+  look-is : (kind : ℕ) (over : Series) (n back : ℕ) → 1 ≤ n → SeriesRight K over → back + (n - 1) < D
       → (plain (extremeStep kind over n (back + (n - 1))) (Extreme kind over n back) && looksWithin K D over n back) ≡ true
-  unfolding GoodSeries plain rowsFit extremeStep looksWithin seriesWithin
+  unfolding SeriesRight plain rowsFit extremeStep looksWithin seriesWithin
   look-is kind (Over.Price p) n back some g near =
       rw (le-leb 1 n some, le-leb (n - 1) (back + (n - 1)) (omega arith), lt-ltb (back + (n - 1)) D near)
   look-is kind (Over.Slot k) n back some g near =
       rw (le-leb 1 n some, le-leb (n - 1) (back + (n - 1)) (omega arith), lt-ltb k K g, lt-ltb (back + (n - 1)) D near)
 
-  good-is : (after : ℕ) (x : Op) → Good K D after x → (plain (stepOf x) x && bounded K D after x) ≡ true
-  unfolding Good plain zeros bounded stepOf
-  good-is after (Const bits n) g = rw (lt-ltb n D (g .0))
-  good-is after (Ref k n) g = rw (lt-ltb k K (g .0), lt-ltb n D (g .1))
-  good-is after (Price p n) g = rw (lt-ltb n D (g .1))
-  good-is after (Extreme kind over n back) g = look-is kind over n back (g .2) (g .4) (g .5)
-  good-is after (Arith k) g = refl
-  good-is after (Compare k) g = refl
-  good-is after (Cross k) g = refl
-  good-is after Between g = refl
-  good-is after (Answer w) g = refl
-  good-is after Turn g = refl
-  good-is after (InPosition w) g = refl
-  good-is after (BarsSinceEntry p k) g = refl
-  good-is after (JumpIf w skip) g = rw (le-leb skip after (g .0))
+  right-is : (after : ℕ) (x : Op) → FieldsRight K D after x → (plain (stepOf x) x && bounded K D after x) ≡ true
+  unfolding FieldsRight plain zeros bounded stepOf
+  right-is after (Const bits n) g = rw (lt-ltb n D (g .0))
+  right-is after (Ref k n) g = rw (lt-ltb k K (g .0), lt-ltb n D (g .1))
+  right-is after (Price p n) g = rw (lt-ltb n D (g .1))
+  right-is after (Extreme kind over n back) g = look-is kind over n back (g .2) (g .4) (g .5)
+  right-is after (Arith k) g = refl
+  right-is after (Compare k) g = refl
+  right-is after (Cross k) g = refl
+  right-is after Between g = refl
+  right-is after (Answer w) g = refl
+  right-is after Turn g = refl
+  right-is after (InPosition w) g = refl
+  right-is after (BarsSinceEntry p k) g = refl
+  right-is after (JumpIf w skip) g = rw (le-leb skip after (g .0))
 
-  good-step : (after : ℕ) (x : Op) → Good K D after x → goodStep K D after (stepOf x) ≡ true
+  good-step : (after : ℕ) (x : Op) → FieldsRight K D after x → goodStep K D after (stepOf x) ≡ true
   unfolding goodStep
-  good-step after x g = rw (says-back x (sayable after x g)) (good-is after x g)
+  good-step after x g = rw (says-back x (sayable after x g)) (right-is after x g)
 
-  well-from : (pre : List ℕ) (p : ℕ) → length pre ≡ 16 * p → (xs : List Op) → AllGood K D xs → formedFrom K D (pre ++ bytesOf xs) p (length xs) ≡ Well
-  unfolding formedFrom AllGood bytesOf
+  well-from : (pre : List ℕ) (p : ℕ) → length pre ≡ 16 * p → (xs : List Op) → AllFieldsRight K D xs → formedFrom K D (pre ++ bytesOf xs) p (length xs) ≡ Well
+  unfolding formedFrom AllFieldsRight bytesOf
   well-from pre p e [] g = refl
   well-from pre p e (x ∷ xs) g =
       let sb : List ℕ = stepBytes (stepOf x) in
@@ -84,8 +84,8 @@ module _ (K D : ℕ) (few : K ≤ mostSlots) (near : D ≤ mostRows) where
       well-from (pre ++ sb) (p + 1) (omega (arith, length-append pre sb)) xs (g .1) in
       rw (step-there pre p e x (bytesOf xs) (sayable (length xs) x (g .0)), good-step (length xs) x (g .0), ← append-assoc pre sb (bytesOf xs), rest)
 
-  -- the bytes of good steps are a well-formed list
-  pub well-formed : (xs : List Op) → length xs ≤ mostSteps → AllGood K D xs → formed K D (bytesOf xs) ≡ Well
+  -- the bytes of steps with right fields are a well-formed list
+  pub well-formed : (xs : List Op) → length xs ≤ mostSteps → AllFieldsRight K D xs → formed K D (bytesOf xs) ≡ Well
   unfolding formed
   well-formed xs short g =
       let long : length (bytesOf xs) ≡ 16 * length xs = steps-long xs in
@@ -94,5 +94,5 @@ module _ (K D : ℕ) (few : K ≤ mostSlots) (near : D ≤ mostRows) where
       rw (eq-eqb (length (bytesOf xs) % 16) 0 whole, count, le-ltb mostSteps (length xs) short) (well-from [] 0 refl xs g)
 
   -- and say those steps
-  pub reads-back : (xs : List Op) → length xs ≤ mostSteps → AllGood K D xs → opsOf (bytesOf xs) ≡ xs
+  pub reads-back : (xs : List Op) → length xs ≤ mostSteps → AllFieldsRight K D xs → opsOf (bytesOf xs) ≡ xs
   reads-back xs short g = ops-of-bytes xs short (all-sayable xs g)

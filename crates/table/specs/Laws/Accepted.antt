@@ -19,15 +19,15 @@ use Rattle.table.specs.declared.answer.Answer.{Answer}
 use Rattle.table.specs.declared.answer.Answer.the-variants.{Accepted, Refused}
 use Rattle.table.specs.Header.{newestVersion, total, count, root, headerRefusal}
 use Rattle.table.specs.Nodes.{nodeRight, wrongNode}
-use Rattle.table.specs.Order.{fits, misfit, misfits, orElse, ofFour}
+use Rattle.table.specs.Order.{fits, misfit, misfits, orPlace, ofFour}
 use Rattle.table.specs.Forest.{trees, sorts, Sorted, forestOf}
 use Rattle.table.specs.Nesting.{deeper, tooDeep}
 use Rattle.table.specs.Reach.{treeReach, farAt, tooFar, rowsNeeded}
 use Rattle.table.specs.Checked.{orRefused, orHeader, from9, from8, from7, checkedUpTo, checked}
-use Rattle.table.specs.Ends.{endAt, endOf, endsAll, endsFor, endsBeside, Link, Linked}
+use Rattle.table.specs.Ends.{endAt, endOfNode, endsAll, endsFor, endsBeside, Link, Linked}
 use Rattle.table.specs.Laws.Ends.{from-at}
 use Rattle.table.specs.Laws.Header.{HeaderRight, header-right}
-use Rattle.table.specs.Laws.Order.{never-at, sorts-trees, each, link-end}
+use Rattle.table.specs.Laws.Order.{never-at, test-held, sorts-trees, each, link-end}
 
 -- ---- from the answer to the rules
 
@@ -44,7 +44,7 @@ header-kept true nr n r a h = (refl, h)
 header-kept false nr n r a h = absurd (refused-not _ n r h)
 
 -- Every rule is kept, and the answer's two numbers are those of the paper.
-pub record Kept (t : List ℕ) (n r : ℕ) : Type 0 where
+pub record RulesKept (t : List ℕ) (n r : ℕ) : Type 0 where
   pub header : headerRefusal newestVersion t ≡ 0
   pub own : wrongNode t (total t) 0 ≡ Nowhere
   pub order : misfits t ≡ Nowhere
@@ -53,7 +53,7 @@ pub record Kept (t : List ℕ) (n r : ℕ) : Type 0 where
   pub nodes : n ≡ total t
   pub rows : r ≡ rowsNeeded t
 
-pub accepted : (t : List ℕ) (n r : ℕ) → checked t ≡ Accepted n r → Kept t n r
+pub accepted : (t : List ℕ) (n r : ℕ) → checked t ≡ Accepted n r → RulesKept t n r
 unfolding checked checkedUpTo orHeader from7 from8 from9
 accepted t n r h =
     let h0 = header-kept (eqb (headerRefusal newestVersion t) 0) (headerRefusal newestVersion t) n r _ h in
@@ -72,15 +72,11 @@ accepted t n r h =
     }
 
 -- and the other way round
-pub all-kept : (t : List ℕ) (n r : ℕ) → Kept t n r → checked t ≡ Accepted n r
+pub all-kept : (t : List ℕ) (n r : ℕ) → RulesKept t n r → checked t ≡ Accepted n r
 unfolding checked checkedUpTo orHeader orRefused from7 from8 from9
 all-kept t n r k = rw (k .header, k .own, k .order, k .nesting, k .reaches) (cc (k .nodes, k .rows))
 
 -- ---- from the rules to each node and each tree
-
-pub right-node : (b : Bool) (p : Place) (i : ℕ) → cond b p (At i) ≡ Nowhere → (b ≡ true) × (p ≡ Nowhere)
-right-node true p i h = (refl, h)
-right-node false p i h = absurd (never-at i h)
 
 right-from : (t : List ℕ) (m i j : ℕ) → wrongNode t m i ≡ Nowhere → j < m → nodeRight t (i + j) ≡ true
 unfolding wrongNode
@@ -88,21 +84,21 @@ right-from t zero i j h l = absurd (none-below l)
   where
     none-below : j < 0 → ⊥
     none-below l′ = omega arith
-right-from t (suc m) i zero h l = ap (nodeRight t) (add-zero i) ∙ right-node (nodeRight t i) _ i h .0
+right-from t (suc m) i zero h l = ap (nodeRight t) (add-zero i) ∙ test-held (nodeRight t i) _ i h .0
 right-from t (suc m) i (suc j) h l =
     let place : i + suc j ≡ i + 1 + j = omega arith in
-    rw place (right-from t m (i + 1) j (right-node (nodeRight t i) _ i h .1) (omega arith))
+    rw place (right-from t m (i + 1) j (test-held (nodeRight t i) _ i h .1) (omega arith))
 
-pub or-none : (p q : Place) → orElse p q ≡ Nowhere → (p ≡ Nowhere) × (q ≡ Nowhere)
-unfolding orElse
+pub or-none : (p q : Place) → orPlace p q ≡ Nowhere → (p ≡ Nowhere) × (q ≡ Nowhere)
+unfolding orPlace
 or-none Nowhere q h = (refl, h)
 or-none (At x) q h = absurd (never-at x h)
 
 pub of-four : (f : ℕ → Place) → ofFour f ≡ Nowhere → (x : ℕ) → x < 4 → f x ≡ Nowhere
 unfolding ofFour
 of-four f h x l =
-    let h0 = or-none (f 0) (orElse (f 1) (orElse (f 2) (f 3))) h in
-    let h1 = or-none (f 1) (orElse (f 2) (f 3)) (h0 .1) in
+    let h0 = or-none (f 0) (orPlace (f 1) (orPlace (f 2) (f 3))) h in
+    let h1 = or-none (f 1) (orPlace (f 2) (f 3)) (h0 .1) in
     let h2 = or-none (f 2) (f 3) (h1 .1) in
     pick (h0 .0) (h1 .0) (h2 .0) (h2 .1) x l
   where
@@ -129,12 +125,12 @@ root-up t (suc (suc (suc (suc x)))) l = absurd (none-left l)
     none-left l′ = omega arith
 
 -- Node j's word in the array is its end in the tree that it stands in.
-pub ends-at : (t : List ℕ) (j : ℕ) → j < mostNodes → getD (endsAll t) j 0 ≡ endOf t j
+pub ends-at : (t : List ℕ) (j : ℕ) → j < mostNodes → getD (endsAll t) j 0 ≡ endOfNode t j
 unfolding endsAll
-ends-at t j h = from-at (endOf t) mostNodes 0 j h ∙ ap (endOf t) (zero-add j)
+ends-at t j h = from-at (endOfNode t) 0 mostNodes 0 j h ∙ ap (endOfNode t) (zero-add j)
 
-end-in : (t : List ℕ) (x j : ℕ) → x < 4 → root t x ≤ j → j < root t (suc x) → endOf t j ≡ endAt t (root t (suc x) - j) j
-unfolding endOf root
+end-in : (t : List ℕ) (x j : ℕ) → x < 4 → root t x ≤ j → j < root t (suc x) → endOfNode t j ≡ endAt t (root t (suc x) - j) j
+unfolding endOfNode root
 end-in t zero j l lo hi = simp (lt-ltb j (root t 1) hi)
 end-in t (suc zero) j l lo hi = simp (le-ltb j (root t 1) lo, lt-ltb j (root t 2) hi)
 end-in t (suc (suc zero)) j l lo hi =
@@ -153,14 +149,14 @@ end-in t (suc (suc (suc (suc x)))) j l lo hi = absurd (none-left l)
 
 -- The nodes from b up to e, with the array of ends: each has right bytes and the children that its kind takes, and its word
 -- leads past its subtree.
-pub record Whole (t ends : List ℕ) (b e : ℕ) : Type 0 where
+pub record WholeTree (t ends : List ℕ) (b e : ℕ) : Type 0 where
   pub small : e ≤ mostNodes
   pub links : Linked t ends b e
   pub sorted : (i : ℕ) → b ≤ i → i < e → Sorted (trees t (e - i) i)
   pub own : (i : ℕ) → b ≤ i → i < e → nodeRight t i ≡ true
 
 module _ (t : List ℕ) (n r : ℕ) (ok : checked t ≡ Accepted n r) where
-  kept : Kept t n r
+  kept : RulesKept t n r
   kept = accepted t n r ok
 
   pub header-of : HeaderRight newestVersion t
@@ -211,7 +207,7 @@ module _ (t : List ℕ) (n r : ℕ) (ok : checked t ≡ Accepted n r) where
     unfolding root
     some-nodes i lo hi = omega arith
 
-    pub tree-whole : Whole t (endsAll t) (root t x) (root t (suc x))
+    pub tree-whole : WholeTree t (endsAll t) (root t x) (root t (suc x))
     unfolding Linked
     tree-whole = record {
       small = omega (arith, tree-ends, header-of .most);

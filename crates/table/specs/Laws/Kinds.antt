@@ -4,13 +4,13 @@
 use mathlib.Core.Path.{_≡_, refl, sym, _∙_, ap}
 use mathlib.Core.Bool.{Bool, true, cond, true≢false, _&&_}
 use mathlib.Core.Logic.{⊎-elim}
-use mathlib.Core.List.{List, [], _∷_}
-use Prim.Native.Nat.{ℕ, zero, suc, _+_, _-_, _≤_, _<_}
+use mathlib.Core.List.{List}
+use Prim.Native.Nat.{ℕ, _+_, _-_, _≤_, _<_}
 use native.Mathlib.Omega.{arith}
 use native.Mathlib.Nat.{eq-zero-or-pos}
-use lib.ListN.{List·getD-eq-default}
+use lib.ListN.{getD, List·getD-eq-default}
 use lib.Dec.{leb, eqb}
-use borrow.Author.Tests.{leb-true, eqb-true}
+use borrow.Author.Tests.{leb-true, eqb-true, eq-eqb}
 use Rattle.table.specs.declared.kinds.Kind.{Kind}
 use Rattle.table.specs.declared.kinds.OperandClass.{OperandClass}
 use Rattle.table.specs.declared.kinds.OperandClass.the-variants.{NoOperand, Const, Ref, Price, Prev, Arith, Extreme}
@@ -20,32 +20,17 @@ use Rattle.table.specs.declared.kinds.ConditionClass.the-variants.{InPos
 use Rattle.table.specs.Named as Named
 use Rattle.table.specs.Kinds.{kinds, kindOf, noKind, constant, reference, price, previous, arithmetic, extremum}
 use Rattle.table.specs.Kinds.{overASeries, comparison, crossing, between, trend, allOf, anyOf, negation, position, barsSince}
+use Rattle.table.specs.Ends.{from}
 use Rattle.table.specs.Laws.Header.{both}
+use Rattle.table.specs.Laws.Ends.{from-at}
 
 -- ---- what holds of the 32 rows, and of no row past them
 
--- the values of f at m numbers from i on
-unfoldable pub listed : {A : Type 0} → (ℕ → A) → ℕ → ℕ → List A
-listed f zero i = []
-listed f (suc m) i = f i ∷ listed f m (suc i)
-
--- two functions with the same list agree there
-same-at : {A : Type 0} (f g : ℕ → A) (m i j : ℕ) → listed f m i ≡ listed g m i → j < m → f (i + j) ≡ g (i + j)
-unfolding listed
-same-at f g zero i j h l = absurd (omega arith)
-same-at {A} f g (suc m) i zero h l =
-    let place : i + 0 ≡ i = omega arith in
-    let first : f i ≡ g i = cc in
-    rw place first
-same-at f g (suc m) i (suc j) h l =
-    let place : i + suc j ≡ suc i + j = omega arith in
-    let rest : listed f m (suc i) ≡ listed g m (suc i) = cc in
-    rw place (same-at f g m (suc i) j rest (omega arith))
-
-pub of-rows : {A : Type 0} (f g : ℕ → A) → listed f 32 0 ≡ listed g 32 0 → (k : ℕ) → k < 32 → f k ≡ g k
-of-rows f g h k l =
+-- two functions with the same list of values agree there
+pub of-rows : {A : Type 0} (f g : ℕ → A) → from f 32 0 ≡ from g 32 0 → (k : ℕ) → k < 32 → f k ≡ g k
+of-rows {A} f g h k l =
     let place : 0 + k ≡ k = omega arith in
-    rw place at (same-at f g 32 0 k h l)
+    rw place at (sym (from-at f (f 0) 32 0 k l) ∙ ap (λ (xs : List A). getD xs k (f 0)) h ∙ from-at g (f 0) 32 0 k l)
 
 past-rows : (k : ℕ) → 32 ≤ k → kindOf k ≡ noKind
 unfolding kindOf kinds
@@ -60,6 +45,21 @@ known k row h some = ⊎-elim
   where
     none : row ≡ noKind → ⊥
     none e = let z : row .sort ≡ 0 = ap (λ (r : Kind). r .sort) e in omega arith
+
+-- where the rows of a sort are as one of their columns tells them, so is a kind's row
+asTold : ℕ → (Kind → Kind) → ℕ → Kind
+asTold sort row k = cond (eqb (kindOf k .sort) sort) (row (kindOf k)) (kindOf k)
+
+as-told : (sort : ℕ) (row : Kind → Kind) → from kindOf 32 0 ≡ from (asTold sort row) 32 0
+    → (k : ℕ) → k < 32 → kindOf k .sort ≡ sort → kindOf k ≡ row (kindOf k)
+unfolding asTold
+as-told sort row all k l s = of-rows kindOf (asTold sort row) all k l ∙ rw (eq-eqb (kindOf k .sort) sort s)
+
+-- a number tested from both sides
+in-range : (low high k : ℕ) → (leb low k && leb k high) ≡ true → (low ≤ k) × (k ≤ high)
+in-range low high k h =
+    let sides = both (leb low k) (leb k high) h in
+    (leb-true low k (sides .0), leb-true k high (sides .1))
 
 -- ---- operands
 
@@ -90,16 +90,12 @@ operandNumber Prev k = eqb k Named.prev
 operandNumber Arith k = leb Named.add k && leb k Named.div
 operandNumber Extreme k = leb Named.highest k && leb k Named.lowest
 
-operandAsTold : ℕ → Kind
-operandAsTold k = cond (eqb (kindOf k .sort) 1) (operandRow (kindOf k .operand)) (kindOf k)
-
 operand-row : (k : ℕ) → k < 32 → kindOf k .sort ≡ 1 → kindOf k ≡ operandRow (kindOf k .operand)
-unfolding operandAsTold
-operand-row k l s = of-rows kindOf operandAsTold (unfold listed kindOf kinds operandRow in refl) k l ∙ rw s
+operand-row = as-told 1 (λ row. operandRow (row .operand)) (unfold from asTold kindOf kinds operandRow in refl)
 
 operand-number : (k : ℕ) → k < 32 → operandNumber (kindOf k .operand) k ≡ true
 operand-number k l =
-    of-rows (λ i. operandNumber (kindOf i .operand) i) (λ i. true) (unfold listed kindOf kinds operandNumber in refl) k l
+    of-rows (λ i. operandNumber (kindOf i .operand) i) (λ i. true) (unfold from kindOf kinds operandNumber in refl) k l
 
 pub operand-kind : (k : ℕ) → kindOf k .sort ≡ 1 → OperandKind k
 unfolding operandRow operandNumber
@@ -121,22 +117,20 @@ operand-kind k s = go (kindOf k .operand) (operand-row k low s) (operand-number 
 pub arith-numbers : (k : ℕ) → kindOf k ≡ arithmetic → (Named.add ≤ k) × (k ≤ Named.div)
 unfolding operandNumber
 arith-numbers k r =
-    let in-range = both (leb Named.add k) (leb k Named.div) (rw r at (operand-number k (known k arithmetic r (omega arith)))) in
-    (leb-true Named.add k (in-range .0), leb-true k Named.div (in-range .1))
+    in-range Named.add Named.div k (rw r at (operand-number k (known k arithmetic r (omega arith))))
 
 -- "Kinds 9 and 10, Highest and Lowest"
 pub extreme-numbers : (k : ℕ) → kindOf k ≡ extremum → (Named.highest ≤ k) × (k ≤ Named.lowest)
 unfolding operandNumber
 extreme-numbers k r =
-    let in-range = both (leb Named.highest k) (leb k Named.lowest) (rw r at (operand-number k (known k extremum r (omega arith)))) in
-    (leb-true Named.highest k (in-range .0), leb-true k Named.lowest (in-range .1))
+    in-range Named.highest Named.lowest k (rw r at (operand-number k (known k extremum r (omega arith))))
 
 -- what takes a series takes one child
 childrenOverSeries : ℕ → ℕ
 childrenOverSeries k = cond (eqb (kindOf k .series) overASeries) (kindOf k .children) 1
 
 children-over-series : (k : ℕ) → k < 32 → childrenOverSeries k ≡ 1
-children-over-series = of-rows childrenOverSeries (λ i. 1) (unfold listed kindOf kinds childrenOverSeries in refl)
+children-over-series = of-rows childrenOverSeries (λ i. 1) (unfold from kindOf kinds childrenOverSeries in refl)
 
 pub over-series-one : (k : ℕ) → eqb (kindOf k .series) overASeries ≡ true → kindOf k .children ≡ 1
 unfolding childrenOverSeries
@@ -182,16 +176,12 @@ conditionNumber Not k = eqb k Named.not
 conditionNumber InPosition k = eqb k Named.inPosition
 conditionNumber BarsSince k = eqb k Named.barsSinceEntry
 
-conditionAsTold : ℕ → Kind
-conditionAsTold k = cond (eqb (kindOf k .sort) 2) (conditionRow (kindOf k .condition)) (kindOf k)
-
 condition-row : (k : ℕ) → k < 32 → kindOf k .sort ≡ 2 → kindOf k ≡ conditionRow (kindOf k .condition)
-unfolding conditionAsTold
-condition-row k l s = of-rows kindOf conditionAsTold (unfold listed kindOf kinds conditionRow in refl) k l ∙ rw s
+condition-row = as-told 2 (λ row. conditionRow (row .condition)) (unfold from asTold kindOf kinds conditionRow in refl)
 
 condition-number : (k : ℕ) → k < 32 → conditionNumber (kindOf k .condition) k ≡ true
 condition-number k l =
-    of-rows (λ i. conditionNumber (kindOf i .condition) i) (λ i. true) (unfold listed kindOf kinds conditionNumber in refl) k l
+    of-rows (λ i. conditionNumber (kindOf i .condition) i) (λ i. true) (unfold from kindOf kinds conditionNumber in refl) k l
 
 pub condition-kind : (k : ℕ) → kindOf k .sort ≡ 2 → ConditionKind k
 unfolding conditionRow conditionNumber
@@ -216,18 +206,15 @@ condition-kind k s = go (kindOf k .condition) (condition-row k low s) (condition
 pub compare-numbers : (k : ℕ) → kindOf k ≡ comparison → (Named.gt ≤ k) × (k ≤ Named.ne)
 unfolding conditionNumber
 compare-numbers k r =
-    let in-range = both (leb Named.gt k) (leb k Named.ne) (rw r at (condition-number k (known k comparison r (omega arith)))) in
-    (leb-true Named.gt k (in-range .0), leb-true k Named.ne (in-range .1))
+    in-range Named.gt Named.ne k (rw r at (condition-number k (known k comparison r (omega arith))))
 
 pub cross-numbers : (k : ℕ) → kindOf k ≡ crossing → (Named.crossAbove ≤ k) × (k ≤ Named.crossBelow)
 unfolding conditionNumber
 cross-numbers k r =
-    let in-range = both (leb Named.crossAbove k) (leb k Named.crossBelow) (rw r at (condition-number k (known k crossing r (omega arith)))) in
-    (leb-true Named.crossAbove k (in-range .0), leb-true k Named.crossBelow (in-range .1))
+    in-range Named.crossAbove Named.crossBelow k (rw r at (condition-number k (known k crossing r (omega arith))))
 
 -- "25, 26 Rising, Falling"
 pub trend-numbers : (k : ℕ) → kindOf k ≡ trend → (Named.rising ≤ k) × (k ≤ Named.falling)
 unfolding conditionNumber
 trend-numbers k r =
-    let in-range = both (leb Named.rising k) (leb k Named.falling) (rw r at (condition-number k (known k trend r (omega arith)))) in
-    (leb-true Named.rising k (in-range .0), leb-true k Named.falling (in-range .1))
+    in-range Named.rising Named.falling k (rw r at (condition-number k (known k trend r (omega arith))))

@@ -20,17 +20,18 @@ use Rattle.table.specs.Laws.Forest.{left-suc, other-other, size-split, s
 pub never-at : (i : ℕ) → At i ≡ Nowhere → ⊥
 never-at i e = let z : _≡_ {A = ℕ} 0 1 = cc in omega arith
 
-tested : (b : Bool) (p : Place) (i : ℕ) → cond b p (At i) ≡ Nowhere → (b ≡ true) × (p ≡ Nowhere)
-tested true p i h = (refl, h)
-tested false p i h = absurd (never-at i h)
+-- a test that gives a place where it fails has held where there is none
+pub test-held : (b : Bool) (p : Place) (i : ℕ) → cond b p (At i) ≡ Nowhere → (b ≡ true) × (p ≡ Nowhere)
+test-held true p i h = (refl, h)
+test-held false p i h = absurd (never-at i h)
 
 -- A node is of the sort that is wanted, the rest fits, and its first child is one that it takes.
 pub wanted-first : (t : List ℕ) (m i w : ℕ) (ws : List ℕ) → fits t (suc m) i (w ∷ ws) ≡ Nowhere
     → (sortAt t i ≡ w) × (fits t m (i + 1) (replicate (childCountAt t i) (childSortAt t i) ++ ws) ≡ Nowhere) × (childFitsAt t i ≡ true)
 unfolding fits
 wanted-first t m i w ws h =
-    let sort = tested (eqb (sortAt t i) w) _ i h in
-    let child = tested (childFitsAt t i) _ (i + 1) (sort .1) in
+    let sort = test-held (eqb (sortAt t i) w) _ i h in
+    let child = test-held (childFitsAt t i) _ (i + 1) (sort .1) in
     (eqb-true _ _ (sort .0), child .1, child .0)
 
 pub first-sort : (t : List ℕ) (e i w : ℕ) (ws : List ℕ) → i < e → fits t (e - i) i (w ∷ ws) ≡ Nowhere → sortAt t i ≡ w
@@ -135,8 +136,8 @@ skip t zero j [] ws h = skip-none t zero j
 skip t zero j (v ∷ vs) ws h = absurd (never-at j h)
 skip t (suc m) j [] ws h = skip-none t (suc m) j
 skip t (suc m) j (v ∷ vs) ws h =
-    let sort = tested (eqb (sortAt t j) v) _ j h in
-    let child = tested (childFitsAt t j) _ (j + 1) (sort .1) in
+    let sort = test-held (eqb (sortAt t j) v) _ j h in
+    let child = test-held (childFitsAt t j) _ (j + 1) (sort .1) in
     skip-node t m j v vs (sort .0) (child .0)
     (skip t m (j + 1) (replicate (childCountAt t j) (childSortAt t j) ++ vs) ws
     (ap (λ (l : List ℕ). fits t m (j + 1) l) (append-assoc (replicate (childCountAt t j) (childSortAt t j)) vs ws) ∙ child .1))

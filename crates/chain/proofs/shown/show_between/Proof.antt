@@ -16,22 +16,9 @@ show-between-spec =
     (λ c κs. search needs)
     (λ c κs. search needs)
     (λ c κs. search needs)
-    (λ c κs. search needs)
-    (λ c κs. search needs)
-    (λ c κs. search needs)
     (λ c.
     let o = c .before .before .before .before in
-    let z = o .before in
-    let y = z .before in
-    let x = y .before in
-    let m = x .before in
-    rw (
-      ← m .before .two-missing .ensures,
-      ← m .first-missing .ensures,
-      ← x .eval-operand .ensures,
-      ← y .eval-operand2 .ensures,
-      ← z .eval-operand3 .ensures,
-      ← o .first-found .ensures,
-    )
-    (three-shown _ _ _ _ _ _ _ _ (c .before .before .before .value-word .ensures) (c .before .before .value-word2 .ensures)
-    (c .before .value-word3 .ensures) (c .leaf-or .ensures))))
+    let m = o .before in
+    rw (← m .before .two-missing .ensures, ← m .first-missing .ensures, ← o .first-found .ensures)
+    (three-shown _ _ _ _ _ _ _ _ (c .before .before .before .operand-word .ensures) (c .before .before .operand-word2 .ensures)
+    (c .before .operand-word3 .ensures) (c .leaf-or .ensures))))

@@ -13,10 +13,6 @@ show-compare-spec =
     (λ c κs. search needs)
     (λ c κs. search needs)
     (λ c κs. search needs)
-    (λ c κs. search needs)
-    (λ c κs. search needs)
     (λ c.
-    let w = c .before .before in
-    let y = w .before in
-    rw (← y .before .before .two-missing .ensures, ← y .before .eval-operand .ensures, ← y .eval-operand2 .ensures)
-    (two-shown _ _ _ _ _ _ (w .value-word .ensures) (c .before .value-word2 .ensures) (c .leaf-or .ensures))))
+    rw (← c .before .before .before .two-missing .ensures)
+    (two-shown _ _ _ _ _ _ (c .before .before .operand-word .ensures) (c .before .operand-word2 .ensures) (c .leaf-or .ensures))))

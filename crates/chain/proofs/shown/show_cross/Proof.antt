@@ -18,34 +18,17 @@ show-cross-spec =
     (λ c κs. omega arith)
     (λ c κs. search needs)
     (λ c κs. search needs)
-    (λ c. search needs)
     (λ c κs. search needs)
     (λ c. search needs)
     (λ c κs. search needs)
-    (λ c κs. search needs)
-    (λ c κs. search needs)
-    (λ c κs. search needs)
-    (λ c κs. search needs)
+    (λ c. search needs)
     (λ c κs. search needs)
     (λ c κs. search needs)
     (λ c.
     let o = c .before .before .before .before .before in
-    let y′ = o .before in
-    let x′ = y′ .before in
-    let y = x′ .before in
-    let x = y .before in
-    let m = x .before in
+    let m = o .before in
     let n = m .before in
-    rw (
-      ne-eqb _ _ (n .before .if1 .left),
-      ← n .two-missing .ensures,
-      ← m .two-missing2 .ensures,
-      ← x .eval-operand .ensures,
-      ← y .eval-operand2 .ensures,
-      ← x′ .eval-operand3 .ensures,
-      ← y′ .eval-operand4 .ensures,
-      ← o .first-found .ensures,
-    )
-    (four-shown _ _ _ _ _ _ _ _ _ _ (c .before .before .before .before .value-word .ensures) (c .before .before .before .value-word2 .ensures)
-    (c .before .before .value-word3 .ensures) (c .before .value-word4 .ensures)
+    rw (ne-eqb _ _ (n .before .if1 .left), ← n .two-missing .ensures, ← m .two-missing2 .ensures, ← o .first-found .ensures)
+    (four-shown _ _ _ _ _ _ _ _ _ _ (c .before .before .before .before .operand-word .ensures) (c .before .before .before .operand-word2 .ensures)
+    (c .before .before .operand-word3 .ensures) (c .before .operand-word4 .ensures)
     (c .leaf-or .ensures))))

@@ -19,20 +19,9 @@ show-trend-spec =
     (λ c κs. search needs)
     (λ c κs. search needs)
     (λ c κs. search needs)
-    (λ c κs. search needs)
-    (λ c κs. search needs)
     (λ c.
     let o = c .before .before .before in
-    let y = o .before in
-    let x = y .before in
-    let m = x .before in
+    let m = o .before in
     let n = m .before in
-    rw (
-      le-ltb _ _ (n .before .if1 .left),
-      ← n .first-missing .ensures,
-      ← m .first-missing2 .ensures,
-      ← x .eval-operand .ensures,
-      ← y .eval-operand2 .ensures,
-      ← o .first-found .ensures,
-    )
-    (two-shown _ _ _ _ _ _ (c .before .before .value-word .ensures) (c .before .value-word2 .ensures) (c .leaf-or .ensures))))
+    rw (le-ltb _ _ (n .before .if1 .left), ← n .first-missing .ensures, ← m .first-missing2 .ensures, ← o .first-found .ensures)
+    (two-shown _ _ _ _ _ _ (c .before .before .operand-word .ensures) (c .before .operand-word2 .ensures) (c .leaf-or .ensures))))

@@ -12,7 +12,7 @@ returns-2 : tie.Need-returns-2
 unfolding countedSince
 returns-2 c =
     let b = c .before .before .before in let t = b .before .before in rw
-    (← t .before .in-position .ensures, t .if1 .taken, b .entered .given .1, ← c .before .bars-since .ensures) (c .counted .ensures)
+    (← t .before .in-position .ensures, t .if1 .taken, b .entered .given .1, ← c .before .bars-since .ensures) (c .bars-tested .ensures)
 
 returns-3 : tie.Need-returns-3
 unfolding countedSince

@@ -14,11 +14,11 @@ use Rattle.steps.proofs.looking.best_over.Statement.{statement}
 use Rattle.steps.proofs.looking.best_over.Tie as tie
 
 abbrev Inv-loop : tie.InvT-loop
-Inv-loop kind rows slots held first slot which start oldest newest best₀ at₀ best at =
-    (oldest ≤ at) × (at ≤ newest) × (Number best ≡ extremeOver (ringOf slots first rows) kind (overOf slot which) oldest (at - oldest))
+Inv-loop kind rows slots held first slot which start oldest last best₀ at₀ best at =
+    (oldest ≤ at) × (at ≤ last) × (Number best ≡ extremeOver (ringOf slots first rows) kind (overOf slot which) oldest (at - oldest))
 
 abbrev μ-loop : tie.MeasureT-loop
-μ-loop kind rows slots held first slot which start oldest newest best₀ at₀ best at = newest - at
+μ-loop kind rows slots held first slot which start oldest last best₀ at₀ best at = last - at
 
 -- a row in which it is missing
 missing : tie.Need-returns Inv-loop μ-loop
@@ -30,7 +30,7 @@ missing c =
     let stop = passed .passed-from .ensures .2 (row .if1 .taken) in
     let i = l .at + passed .passed-from .result .passed + 1 in
     let here : a .oldest + (i - a .oldest) ≡ i = omega (arith, l .inv .0) in
-    sym (any-missing (ringOf (a .slots) (a .first) (a .rows .now)) (a .kind) (overOf (a .slot) (a .which)) (a .oldest) (a .newest - a .oldest) (i - a .oldest)
+    sym (any-missing (ringOf (a .slots) (a .first) (a .rows .now)) (a .kind) (overOf (a .slot) (a .which)) (a .oldest) (a .last - a .oldest) (i - a .oldest)
     (omega (arith, stop .0)) (rw here (sym (stop .1) ∙ c .enum-told .given .1)))
 
 -- a row that has it
@@ -93,6 +93,6 @@ best-over-spec =
     (λ c.
     let l = c .before .loop in
     let a = c .before .before .before .args in
-    let last : l .at ≡ a .newest = omega (arith, c .loop-test .left, l .inv .1) in
+    let end : l .at ≡ a .last = omega (arith, c .loop-test .left, l .inv .1) in
     l .inv .2
-    ∙ ap (λ (m : ℕ). extremeOver (ringOf (a .slots) (a .first) (a .rows .now)) (a .kind) (overOf (a .slot) (a .which)) (a .oldest) (m - a .oldest)) last))
+    ∙ ap (λ (m : ℕ). extremeOver (ringOf (a .slots) (a .first) (a .rows .now)) (a .kind) (overOf (a .slot) (a .which)) (a .oldest) (m - a .oldest)) end))

@@ -9,14 +9,14 @@ use native.Mathlib.Nat.{mul-le-mul-right}
 use lib.ListN.{length}
 use Rattle.rules.specs.declared.values.Value.{Value}
 use Rattle.rules.specs.Values.{wordsFrom}
-use Rattle.steps.specs.Looks.{overOf, ofRow, Passed, Stopped}
+use Rattle.steps.specs.Looks.{overOf, ofRow, PassedOver, Stopped}
 use Rattle.steps.proofs.Looks.{not-higher, not-lower, passed-more}
 use Rattle.steps.proofs.looking.pass_rows.Statement.{statement}
 use Rattle.steps.proofs.looking.pass_rows.Tie as tie
 
 abbrev Inv-loop : tie.InvT-loop
 Inv-loop kind rows slots base count slot which best at₀ k₀ at k =
-    (k ≤ count) × (at ≡ base + k * (7 + slots)) × Passed kind (overOf slot which) rows slots base best k
+    (k ≤ count) × (at ≡ base + k * (7 + slots)) × PassedOver kind (overOf slot which) rows slots base best k
 
 abbrev μ-loop : tie.MeasureT-loop
 μ-loop kind rows slots base count slot which best at₀ k₀ at k = count - k
@@ -30,38 +30,43 @@ room s k i l is =
     omega (arith, more, is, s .pre .0)
 
 -- the row at which it stops
-stops : (s : tie.Start Inv-loop μ-loop) (k i : ℕ) (found later : Value) → let a = s .args in k < a .count → i ≡ a .base + k * (7 + a .slots)
-    → found ≡ ofRow (overOf (a .slot) (a .which)) (wordsFrom (a .rows .now) i) → found ≡ later
-    → Stopped (overOf (a .slot) (a .which)) (a .rows .now) (a .slots) (a .base) (a .count) k true later
-stops s k i found later l is has told =
+stops : (s : tie.Start Inv-loop μ-loop) (k i : ℕ) (found : Value) → let a = s .args in k < a .count → i ≡ a .base + k * (7 + a .slots)
+    → found ≡ ofRow (overOf (a .slot) (a .which)) (wordsFrom (a .rows .now) i)
+    → Stopped (overOf (a .slot) (a .which)) (a .rows .now) (a .slots) (a .base) (a .count) k true found
+stops s k i found l is has =
     let a = s .args in
-    (l, sym told ∙ has ∙ ap (λ (at : ℕ). ofRow (overOf (a .slot) (a .which)) (wordsFrom (a .rows .now) at)) is)
+    (l, has ∙ ap (λ (at : ℕ). ofRow (overOf (a .slot) (a .which)) (wordsFrom (a .rows .now) at)) is)
 
 missing : tie.Need-returns Inv-loop μ-loop
 missing c =
-    let row = c .before .before in
-    let l = row .before .before .loop in (
+    let row = c .before .before .before in
+    let l = row .before .before .loop in
+    let stop = c .stopped-at .ensures in
+    rw (stop .0, stop .1, stop .2) (
       l .inv .2,
-      stops (row .before .before .before .before) (l .k) (l .at) _ _ (row .before .loop-test .taken) (l .inv .1) (row .series-in .ensures)
-          (c .enum-told .given .1),
+      stops (row .before .before .before .before) (l .k) (l .at) _ (row .before .loop-test .taken) (l .inv .1) (row .series-in .ensures),
     )
 
 higher : tie.Need-returns-2 Inv-loop μ-loop
 higher c =
-    let row = c .before .before .before .before .before in
-    let l = row .before .before .loop in (
+    let row = c .before .before .before .before .before .before in
+    let l = row .before .before .loop in
+    let stop = c .stopped-at2 .ensures in
+    rw (stop .0, stop .1, stop .2) (
       l .inv .2,
-      stops (row .before .before .before .before) (l .k) (l .at) _ _ (row .before .loop-test .taken) (l .inv .1) (row .series-in .ensures)
-          (c .before .before .before .found .given .1),
+      stops (row .before .before .before .before) (l .k) (l .at) _ (row .before .loop-test .taken) (l .inv .1)
+          (sym (c .before .before .before .before .found .given .1) ∙ row .series-in .ensures),
     )
 
 lower : tie.Need-returns-3 Inv-loop μ-loop
 lower c =
-    let row = c .before .before .before .before .before in
-    let l = row .before .before .loop in (
+    let row = c .before .before .before .before .before .before in
+    let l = row .before .before .loop in
+    let stop = c .stopped-at3 .ensures in
+    rw (stop .0, stop .1, stop .2) (
       l .inv .2,
-      stops (row .before .before .before .before) (l .k) (l .at) _ _ (row .before .loop-test .taken) (l .inv .1) (row .series-in .ensures)
-          (c .before .before .before .found .given .1),
+      stops (row .before .before .before .before) (l .k) (l .at) _ (row .before .loop-test .taken) (l .inv .1)
+          (sym (c .before .before .before .before .found .given .1) ∙ row .series-in .ensures),
     )
 
 -- one row more
@@ -93,9 +98,12 @@ pass-rows-spec =
     let s = c .before .before .before in
     (room s (l .k) (l .at) (c .loop-test .taken) (l .inv .1), s .pre .1))
     (λ c. search needs)
+    (λ c κs. search needs)
     missing
     (λ c. search needs)
+    (λ c κs. search needs)
     higher
+    (λ c κs. search needs)
     lower
     (λ c.
     let test = c .before .before .before .before .before in

@@ -8,7 +8,8 @@ use Rattle.table.specs.declared.kinds.Row.{Row}
 use Rattle.table.specs.declared.kinds.Row.the-variants.{Unknown, Const, Ref, Price, Prev, Arith, Extreme, Compare, Cross, Between, Trend}
 use Rattle.table.specs.declared.kinds.Row.the-variants.{All, Any, Not, InPosition, BarsSince}
 use Rattle.table.specs.Kinds.{kindOf, kinds, noKind, rowNamed}
-use Rattle.table.specs.Laws.Kinds.{listed, of-rows}
+use Rattle.table.specs.Ends.{from}
+use Rattle.table.specs.Laws.Kinds.{of-rows}
 use Rattle.table.proofs.kinds.kind_of.Statement.{statement}
 use Rattle.table.proofs.kinds.kind_of.Tie as tie
 
@@ -21,7 +22,7 @@ names =
     Cross ∷ Cross ∷ Between ∷ Trend ∷ Trend ∷ All ∷ Any ∷ Not ∷ InPosition ∷ BarsSince ∷ []
 
 named : (k : ℕ) → k < 32 → rowNamed (getD names k Unknown) ≡ kindOf k
-named = of-rows (λ k. rowNamed (getD names k Unknown)) kindOf (unfold listed kindOf kinds rowNamed names in refl)
+named = of-rows (λ k. rowNamed (getD names k Unknown)) kindOf (unfold from kindOf kinds rowNamed names in refl)
 
 returns : tie.Need-returns
 unfolding names

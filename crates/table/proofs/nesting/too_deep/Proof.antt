@@ -1,7 +1,6 @@
 -- `too_deep` meets its contract: the first place that one of the four trees gives.
 -- Assumes nothing.
 use mathlib.Core.Path.{_∙_}
-use Rattle.table.proofs.Four.{chain}
 use Rattle.table.proofs.Four.{four-deep}
 use borrow.Author.Needs.{needs}
 use Rattle.table.proofs.nesting.too_deep.Statement.{statement}
@@ -9,20 +8,18 @@ use Rattle.table.proofs.nesting.too_deep.Tie as tie
 
 returns : tie.Need-returns
 returns c =
-    chain _ _ _ _ _ _ _ (c .or-else3 .ensures) (c .before .or-else2 .ensures) (c .before .before .or-else .ensures)
+    c .first-place .ensures
     ∙ four-deep _ _ _ _ _
-    (c .before .before .before .before .before .before .before .before .pre .0) _ _ _ _
-    (c .before .before .before .before .before .before .deep-of .ensures)
-    (c .before .before .before .before .before .deep-of2 .ensures)
-    (c .before .before .before .before .deep-of3 .ensures)
-    (c .before .before .before .deep-of4 .ensures)
+    (c .before .before .before .before .before .before .pre .0) _ _ _ _
+    (c .before .before .before .before .deep-of .ensures)
+    (c .before .before .before .deep-of2 .ensures)
+    (c .before .before .deep-of3 .ensures)
+    (c .before .deep-of4 .ensures)
 
 pub too-deep-spec : {M : Type 1} → statement M
 too-deep-spec =
     tie.close
     (tie.spec
-    (λ c κs. search needs)
-    (λ c κs. search needs)
     (λ c κs. search needs)
     (λ c κs. search needs)
     (λ c κs. search needs)

@@ -4,7 +4,7 @@
 use native.Mathlib.Omega.{arith}
 use Prim.Native.Nat.{_≤_, _<_}
 use Rattle.table.specs.Passes.{EndedFrom}
-use Rattle.table.proofs.Prefix.{Here, begin, turn, cut, wrong, inside, closed}
+use Rattle.table.proofs.Prefix.{Here, begin, turn, cut-short, wrong, inside, closed}
 use borrow.Author.Needs.{needs}
 use Rattle.table.proofs.order.end_below.Statement.{statement}
 use Rattle.table.proofs.order.end_below.Tie as tie
@@ -22,7 +22,7 @@ returns : tie.Need-returns Inv-loop μ-loop
 returns c =
     let l = c .before .before .loop in
     let of = c .before .before .before .before .args .below in
-    cut _ _ _ of (l .left) (l .j) (l .inv .2) (search needs) (search needs) (search needs)
+    cut-short _ _ _ of (l .left) (l .j) (l .inv .2) (search needs) (search needs) (search needs)
 
 returns-2 : tie.Need-returns-2 Inv-loop μ-loop
 returns-2 c =

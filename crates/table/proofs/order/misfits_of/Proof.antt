@@ -1,7 +1,6 @@
 -- `misfits_of` meets its contract: the first place that one of the four trees gives.
 -- Assumes nothing.
 use mathlib.Core.Path.{_∙_}
-use Rattle.table.proofs.Four.{chain}
 use Rattle.table.proofs.Four.{four-misfits}
 use borrow.Author.Needs.{needs}
 use Rattle.table.proofs.order.misfits_of.Statement.{statement}
@@ -9,20 +8,18 @@ use Rattle.table.proofs.order.misfits_of.Tie as tie
 
 returns : tie.Need-returns
 returns c =
-    chain _ _ _ _ _ _ _ (c .or-else3 .ensures) (c .before .or-else2 .ensures) (c .before .before .or-else .ensures)
+    c .first-place .ensures
     ∙ four-misfits _ _ _ _ _
-    (c .before .before .before .before .before .before .before .before .pre .0) _ _ _ _
-    (c .before .before .before .before .before .before .misfit-of .ensures)
-    (c .before .before .before .before .before .misfit-of2 .ensures)
-    (c .before .before .before .before .misfit-of3 .ensures)
-    (c .before .before .before .misfit-of4 .ensures)
+    (c .before .before .before .before .before .before .pre .0) _ _ _ _
+    (c .before .before .before .before .misfit-of .ensures)
+    (c .before .before .before .misfit-of2 .ensures)
+    (c .before .before .misfit-of3 .ensures)
+    (c .before .misfit-of4 .ensures)
 
 pub misfits-of-spec : {M : Type 1} → statement M
 misfits-of-spec =
     tie.close
     (tie.spec
-    (λ c κs. search needs)
-    (λ c κs. search needs)
     (λ c κs. search needs)
     (λ c κs. search needs)
     (λ c κs. search needs)

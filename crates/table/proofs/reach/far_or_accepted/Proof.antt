@@ -1,4 +1,4 @@
--- `far_or_accepted` meets its contract: a reach cut at 4,096 tells as much as the reach.
+-- `far_or_accepted` meets its contract: a reach capped at 4,096 tells as much as the reach.
 -- Assumes nothing.
 use mathlib.Core.Path.{sym, _∙_}
 use Rattle.table.proofs.Four.{fars-are, rows-are, nine-refused, nine-accepted}

@@ -1,4 +1,4 @@
--- `weigh_tree` meets its contract. The loop's invariant: the array has what each subtree from node i on weighs, cut at 4,096.
+-- `weigh_tree` meets its contract. The loop's invariant: the array has what each subtree from node i on weighs, capped at 4,096.
 -- Assumes nothing.
 use Rattle.table.proofs.Weigh.{words-next, most-small}
 use mathlib.Core.Path.{_≡_}
@@ -26,8 +26,8 @@ most-below-requires c κs =
     let l = c .before .before .before .loop in
     (search needs, links-next _ _ (c .before .before .before .before .before .args .b) _ _ (omega arith) (c .before .before .before .before .before .pre .1))
 
-add-cut : tie.Need-add-cut Inv-loop μ-loop
-add-cut c =
+add-capped : tie.Need-add-capped Inv-loop μ-loop
+add-capped c =
     let l = c .before .before .before .before .loop in
     omega (arith, most-small _ _ _ _ _ _ (c .most-below .ensures) (words-next _ _ _ (l .i) _ _ (omega arith) (l .inv .3)))
 
@@ -38,7 +38,7 @@ loop-again c =
       search needs,
       simp length-set (l .inv .2),
       words-more _ _ _ (l .i) _ _ _ _ _ (omega arith) (search needs) (omega arith) (l .inv .3)
-          (c .before .before .before .weight-at .ensures) (c .before .most-below .ensures) (c .cut .ensures),
+          (c .before .before .before .weight-at .ensures) (c .before .most-below .ensures) (c .capped .ensures),
     )
 
 returns : tie.Need-returns Inv-loop μ-loop
@@ -54,7 +54,7 @@ weigh-tree-spec =
     (λ c. search needs)
     (λ c κs. search needs)
     most-below-requires
-    add-cut
+    add-capped
     (λ c κs. search needs)
     (λ c. search needs)
     (λ c. search needs)

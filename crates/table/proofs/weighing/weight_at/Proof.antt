@@ -16,7 +16,7 @@ returns c = simp (eq-eqb _ _ (c .if1 .taken))
 
 returns-2 : tie.Need-returns-2
 unfolding weight ownBack
-returns-2 c = simp (ne-eqb _ _ (c .before .before .before .before .if1 .left)) (c .cut .ensures ∙ ap (λ (x : ℕ). min x mostRows) (cc))
+returns-2 c = simp (ne-eqb _ _ (c .before .before .before .before .if1 .left)) (c .capped .ensures ∙ ap (λ (x : ℕ). min x mostRows) (cc))
 
 pub weight-at-spec : {M : Type 1} → statement M
 weight-at-spec =

@@ -1,12 +1,12 @@
--- Each return is what `counted` says where the tests that led there hold. Assumes nothing.
+-- Each return is what `barsTested` says where the tests that led there hold. Assumes nothing.
 use borrow.Author.Tests.{eq-eqb, ne-eqb}
-use Rattle.rules.specs.Values.{counted}
-use Rattle.rules.proofs.values.counted.Statement.{statement}
-use Rattle.rules.proofs.values.counted.Tie as tie
+use Rattle.rules.specs.Values.{barsTested}
+use Rattle.rules.proofs.values.bars_tested.Statement.{statement}
+use Rattle.rules.proofs.values.bars_tested.Tie as tie
 
-pub counted-spec : {M : Type 1} → statement M
-unfolding counted
-counted-spec =
+pub bars-tested-spec : {M : Type 1} → statement M
+unfolding barsTested
+bars-tested-spec =
     tie.close
     (tie.spec
     (λ c. simp (eq-eqb _ _ (c .if1 .taken)))

@@ -1,0 +1,9 @@
+-- `first_place` meets its contract: what the three calls say, put together.
+-- Assumes nothing.
+use borrow.Author.Needs.{needs}
+use Rattle.table.proofs.places.first_place.Statement.{statement}
+use Rattle.table.proofs.places.first_place.Tie as tie
+
+pub first-place-spec : {M : Type 1} → statement M
+first-place-spec =
+    tie.close (tie.spec (λ c κs. search needs) (λ c κs. search needs) (λ c κs. search needs) (λ c. cc))
