@@ -19,15 +19,8 @@ add-first c =
 
 pub window-spec : {M : Type 1} → statement M
 window-spec =
-    tie.close
-    (tie.spec
-    (λ c κs. search needs)
+    tie.close (tie.spec (λ c κs. search needs)
     (λ c. let n = c .before in let a = n .before .before .args in window-all (a .slots) (a .depth) _ (a .rows .now) (n .row-count .ensures) (c .if1 .taken))
-    (λ c. search needs)
-    add-first
-    (λ c. omega (arith, fits c))
-    (λ c. omega (arith, fits c))
-    fits
-    (λ c. let h = fits c in search needs)
-    (λ c. search needs)
+    (λ c. search needs) add-first (λ c. omega (arith, fits c)) (λ c. omega (arith, fits c)) fits
+    (λ c. let h = fits c in search needs) (λ c. search needs)
     (λ c. let n = c .before .before in let a = n .before .before .args in window-part (a .slots) (a .depth) _ (a .rows .now) (n .row-count .ensures)))

@@ -39,13 +39,5 @@ returns-2 c =
 
 pub check-order-spec : {M : Type 1} → statement M
 check-order-spec =
-    tie.close
-    (tie.spec
-    (λ c κs. search needs)
-    (λ c κs. search needs)
-    (λ c. search needs)
-    (λ c κs. search needs)
-    (λ c. search needs)
-    check-nesting-requires
-    returns
-    returns-2)
+    tie.close (tie.spec (λ c κs. search needs) (λ c κs. search needs) (λ c. search needs) (λ c κs. search needs)
+    (λ c. search needs) check-nesting-requires returns returns-2)

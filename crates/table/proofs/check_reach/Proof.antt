@@ -17,11 +17,5 @@ returns-2 c = keep-accepted _ _ _ _ (sym (c .before .before .before .far-or-acce
 
 pub check-reach-spec : {M : Type 1} → statement M
 check-reach-spec =
-    tie.close
-    (tie.spec
-    (λ c κs. search needs)
-    (λ c. search needs)
-    (λ c κs. search needs)
-    (λ c. search needs)
-    returns
+    tie.close (tie.spec (λ c κs. search needs) (λ c. search needs) (λ c κs. search needs) (λ c. search needs) returns
     returns-2)

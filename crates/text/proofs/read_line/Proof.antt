@@ -21,20 +21,7 @@ counted n room h = (h, sym (length-take-le n room h))
 
 pub read-line-spec : {M : Type 1} → statement M
 read-line-spec =
-    tie.close
-    (tie.spec
-    Inv-loop
-    μ-loop
-    (λ c. search needs)
-    (λ c κs. search needs)
-    (λ c. search needs)
-    (λ c. counted _ _ (search needs))
-    (λ c. search needs)
-    (λ c. search needs)
-    (λ c. search needs)
-    (λ c. search needs)
-    (λ c. counted _ _ (simp length-set (search needs)))
-    (λ c. search needs)
-    (λ c. search needs)
-    (λ c. search needs)
+    tie.close (tie.spec Inv-loop μ-loop (λ c. search needs) (λ c κs. search needs) (λ c. search needs)
+    (λ c. counted _ _ (search needs)) (λ c. search needs) (λ c. search needs) (λ c. search needs) (λ c. search needs)
+    (λ c. counted _ _ (simp length-set (search needs))) (λ c. search needs) (λ c. search needs) (λ c. search needs)
     (λ c. counted _ _ (search needs)))

@@ -8,16 +8,8 @@ use Rattle.translation.proofs.translate.Tie as tie
 
 pub translate-spec : {M : Type 1} → statement M
 translate-spec =
-    tie.close
-    (tie.spec
-    (λ c κs. search needs)
-    (λ c. search needs)
-    (λ c. search needs)
-    (λ c κs. search needs)
-    (λ c κs. search needs)
-    (λ c. omega (arith, c .count .ensures .1))
-    (λ c. search needs)
-    (λ c. search needs)
+    tie.close (tie.spec (λ c κs. search needs) (λ c. search needs) (λ c. search needs) (λ c κs. search needs)
+    (λ c κs. search needs) (λ c. omega (arith, c .count .ensures .1)) (λ c. search needs) (λ c. search needs)
     (λ c. let p = c .before .before .before .before .before in
     refuses-room _ _ _ _ _ _ _ (sym (p .check .ensures .0) ∙ c .before .before .before .enum-told .given .1) (c .before .before .tree-number .ensures)
     (c .before .count .ensures .0) (c .if1 .taken))

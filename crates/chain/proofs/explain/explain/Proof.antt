@@ -9,18 +9,9 @@ use Rattle.chain.proofs.explain.explain.Tie as tie
 pub explain-spec : {M : Type 1} → statement M
 unfolding Bytes
 explain-spec =
-    tie.close
-    (tie.spec
-    (λ c κs. search needs)
-    (λ c. search needs)
-    (λ c. search needs)
-    (λ c. search needs)
+    tie.close (tie.spec (λ c κs. search needs) (λ c. search needs) (λ c. search needs) (λ c. search needs)
     (λ c. too-small _ _ _ _ _ _ _ _ (c .before .before .before .check .ensures .0) (c .before .enum-told .given .1) (c .if1 .taken))
-    (λ c κs. search needs)
-    (λ c. search needs)
-    (λ c κs. search needs)
-    (λ c κs. search needs)
-    (λ c κs. search needs)
+    (λ c κs. search needs) (λ c. search needs) (λ c κs. search needs) (λ c κs. search needs) (λ c κs. search needs)
     (λ c. search needs)
     (λ c.
     let f = c .before .before .before .before .before .before in

@@ -7,17 +7,9 @@ use Rattle.chain.proofs.explain.explain_tree.Tie as tie
 
 pub explain-tree-spec : {M : Type 1} → statement M
 explain-tree-spec =
-    tie.close
-    (tie.spec
-    (λ c. no-tree _ _ _ _ _ _ (c .if1 .taken))
-    (λ c. search needs)
-    (λ c κs. search needs)
+    tie.close (tie.spec (λ c. no-tree _ _ _ _ _ _ (c .if1 .taken)) (λ c. search needs) (λ c κs. search needs)
     (λ c. absent-tree _ _ _ _ _ _ (c .before .before .if1 .left) _ (c .before .count .ensures .0) (c .if2 .taken))
-    (λ c κs. search needs)
-    (λ c. search needs)
-    (λ c κs. search needs)
-    (λ c κs. search needs)
-    (λ c κs. omega arith)
+    (λ c κs. search needs) (λ c. search needs) (λ c κs. search needs) (λ c κs. search needs) (λ c κs. omega arith)
     (λ c. search needs)
     (λ c.
     let n = c .before .before .before .before in

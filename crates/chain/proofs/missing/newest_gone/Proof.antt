@@ -20,20 +20,12 @@ abbrev μ-loop : tie.MeasureT-loop
 
 pub newest-gone-spec : {M : Type 1} → statement M
 newest-gone-spec =
-    tie.close
-    (tie.spec
-    Inv-loop
-    μ-loop
-    (λ c. (refl, omega arith))
-    (λ c κs. search needs)
-    (λ c. search needs)
+    tie.close (tie.spec Inv-loop μ-loop (λ c. (refl, omega arith)) (λ c κs. search needs) (λ c. search needs)
     (λ c.
     let l = c .before .before .before .before .before in
     sym (l .loop .inv .0 ∙ newest-here _ _ _ _ _ _ _ _ _ (c .before .before .before .before .loop-test .taken)
     (c .before .before .before .series-gone .ensures) (c .before .node .given .1)))
-    (λ c. search needs)
-    (λ c. omega (arith, c .before .before .before .before .loop .inv .1))
-    (λ c. omega arith)
+    (λ c. search needs) (λ c. omega (arith, c .before .before .before .before .loop .inv .1)) (λ c. omega arith)
     (λ c. omega arith)
     (λ c.
     let l = c .before .before .before .before in (

@@ -13,13 +13,9 @@ use Rattle.chain.proofs.missing.series_gone.Tie as tie
 pub series-gone-spec : {M : Type 1} → statement M
 unfolding historyOf goneIf
 series-gone-spec =
-    tie.close
-    (tie.spec
-    (λ c. series-early _ _ _ _ _ (c .if1 .taken))
-    (λ c κs. search needs)
+    tie.close (tie.spec (λ c. series-early _ _ _ _ _ (c .if1 .taken)) (λ c κs. search needs)
     (λ c. series-past _ _ _ _ _ (c .before .before .if1 .left) _ (c .before .row-count .ensures) (c .if2 .taken))
-    (λ c. search needs)
-    (λ c. search needs)
+    (λ c. search needs) (λ c. search needs)
     (λ c.
     let r = c .before .before .before .before in
     let a = r .before .before .before .args in
@@ -28,9 +24,7 @@ series-gone-spec =
     let r = c .before .before .before .before in
     let a = r .before .before .before .args in
     omega (arith, row-ends (a .slots) (a .rows .now) (a .bar - a .back) (below (r .row-count .ensures) (c .before .before .before .if2 .left))))
-    (λ c κs. search needs)
-    (λ c. search needs)
-    (λ c. search needs)
+    (λ c κs. search needs) (λ c. search needs) (λ c. search needs)
     (λ c.
     let r = c .before .before .before in
     series-price _ _ _ _ _ (r .before .if1 .left) (below (r .row-count .ensures) (c .before .before .if2 .left)) _ (c .enum-told .given .1))

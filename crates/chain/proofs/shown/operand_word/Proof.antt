@@ -7,11 +7,6 @@ use Rattle.chain.proofs.shown.operand_word.Tie as tie
 pub operand-word-spec : {M : Type 1} → statement M
 unfolding valueWord
 operand-word-spec =
-    tie.close
-    (tie.spec
-    (λ c κs. search needs)
-    (λ c. search needs)
-    (λ c. search needs)
-    (λ c κs. search needs)
+    tie.close (tie.spec (λ c κs. search needs) (λ c. search needs) (λ c. search needs) (λ c κs. search needs)
     (λ c. rw (← c .before .before .eval-operand .ensures, c .enum-told .given .1))
     (λ c. rw (← c .before .before .before .before .eval-operand .ensures, c .before .before .x .given .1) (c .word-of .ensures)))

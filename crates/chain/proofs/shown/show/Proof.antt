@@ -11,37 +11,18 @@ use Rattle.chain.proofs.shown.show.Tie as tie
 pub show-spec : {M : Type 1} → statement M
 unfolding gone worth Bytes
 show-spec =
-    tie.close
-    (tie.spec
-    (λ c κs. search needs)
-    (λ c. shown-deep _ _ _ _ _ _ _ _ (c .before .if1 .taken) (c .bare .ensures))
-    (λ c κs. search needs)
-    (λ c. search needs)
-    (λ c. search needs)
-    (λ c κs. omega arith)
-    (λ c. search needs)
-    (λ c. search needs)
-    (λ c κs. omega arith)
-    (λ c. search needs)
-    (λ c. search needs)
-    (λ c κs. omega arith)
-    (λ c. search needs)
+    tie.close (tie.spec (λ c κs. search needs)
+    (λ c. shown-deep _ _ _ _ _ _ _ _ (c .before .if1 .taken) (c .bare .ensures)) (λ c κs. search needs)
+    (λ c. search needs) (λ c. search needs) (λ c κs. omega arith) (λ c. search needs) (λ c. search needs)
+    (λ c κs. omega arith) (λ c. search needs) (λ c. search needs) (λ c κs. omega arith) (λ c. search needs)
     (λ c. search needs)
     (λ c κs.
     let k = c .before .before .before in
     let small = trend-small _ _ _ _ (k .condition-shape .ensures) (λ j. omega (arith, k .before .before .before .shared-slice-known .given j))
     _ _ _ (c .before .a3 .given .1) in
     omega (arith, small))
-    (λ c. search needs)
-    (λ c κs. search needs)
-    (λ c. search needs)
-    (λ c κs. search needs)
-    (λ c. search needs)
-    (λ c κs. search needs)
-    (λ c. search needs)
-    (λ c κs. search needs)
-    (λ c. search needs)
-    (λ c κs. search needs)
+    (λ c. search needs) (λ c κs. search needs) (λ c. search needs) (λ c κs. search needs) (λ c. search needs)
+    (λ c κs. search needs) (λ c. search needs) (λ c κs. search needs) (λ c. search needs) (λ c κs. search needs)
     (λ c.
     let k = c .before .before .before .before in
     shown-compare _ _ _ _ _ _ _ _ (k .before .if1 .left) _ (k .condition-shape .ensures) _ _ _ (c .before .before .a .given .1) (c .show-compare .ensures))

@@ -7,15 +7,8 @@ use Rattle.chain.proofs.shown.show_between.Tie as tie
 
 pub show-between-spec : {M : Type 1} → statement M
 show-between-spec =
-    tie.close
-    (tie.spec
-    (λ c κs. omega arith)
-    (λ c κs. omega arith)
-    (λ c κs. search needs)
-    (λ c κs. search needs)
-    (λ c κs. search needs)
-    (λ c κs. search needs)
-    (λ c κs. search needs)
+    tie.close (tie.spec (λ c κs. omega arith) (λ c κs. omega arith) (λ c κs. search needs) (λ c κs. search needs)
+    (λ c κs. search needs) (λ c κs. search needs) (λ c κs. search needs)
     (λ c.
     let o = c .before .before .before .before in
     let m = o .before in

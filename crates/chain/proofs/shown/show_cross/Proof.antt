@@ -10,20 +10,9 @@ use Rattle.chain.proofs.shown.show_cross.Tie as tie
 pub show-cross-spec : {M : Type 1} → statement M
 unfolding detailOf
 show-cross-spec =
-    tie.close
-    (tie.spec
-    (λ c κs. search needs)
-    (λ c. rw (eq-eqb _ _ (c .before .if1 .taken)) (c .bare .ensures))
-    (λ c κs. omega arith)
-    (λ c κs. omega arith)
-    (λ c κs. search needs)
-    (λ c κs. search needs)
-    (λ c κs. search needs)
-    (λ c. search needs)
-    (λ c κs. search needs)
-    (λ c. search needs)
-    (λ c κs. search needs)
-    (λ c κs. search needs)
+    tie.close (tie.spec (λ c κs. search needs) (λ c. rw (eq-eqb _ _ (c .before .if1 .taken)) (c .bare .ensures))
+    (λ c κs. omega arith) (λ c κs. omega arith) (λ c κs. search needs) (λ c κs. search needs) (λ c κs. search needs)
+    (λ c. search needs) (λ c κs. search needs) (λ c. search needs) (λ c κs. search needs) (λ c κs. search needs)
     (λ c.
     let o = c .before .before .before .before .before in
     let m = o .before in

@@ -9,14 +9,8 @@ use Rattle.chain.proofs.shown.show_since.Tie as tie
 pub show-since-spec : {M : Type 1} → statement M
 unfolding shownSince detailOf
 show-since-spec =
-    tie.close
-    (tie.spec
-    (λ c κs. search needs)
-    (λ c. search needs)
-    (λ c κs. search needs)
-    (λ c. search needs)
-    (λ c κs. search needs)
-    (λ c κs. search needs)
+    tie.close (tie.spec (λ c κs. search needs) (λ c. search needs) (λ c κs. search needs) (λ c. search needs)
+    (λ c κs. search needs) (λ c κs. search needs)
     (λ c.
     let t = c .before .before .before in
     rw (← t .before .in-position .ensures, t .if1 .taken, c .before .enum-told .given .1) (c .bare .ensures))

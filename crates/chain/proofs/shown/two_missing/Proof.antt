@@ -5,9 +5,5 @@ use Rattle.chain.proofs.shown.two_missing.Tie as tie
 
 pub two-missing-spec : {M : Type 1} → statement M
 two-missing-spec =
-    tie.close
-    (tie.spec
-    (λ c κs. search needs)
-    (λ c κs. search needs)
-    (λ c κs. search needs)
+    tie.close (tie.spec (λ c κs. search needs) (λ c κs. search needs) (λ c κs. search needs)
     (λ c. rw (← c .before .before .first-missing .ensures, ← c .before .first-missing2 .ensures) (c .first-found .ensures)))

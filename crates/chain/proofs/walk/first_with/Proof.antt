@@ -20,18 +20,11 @@ abbrev μ-loop : tie.MeasureT-loop
 
 pub first-with-spec : {M : Type 1} → statement M
 first-with-spec =
-    tie.close
-    (tie.spec
-    Inv-loop
-    μ-loop
-    (λ c. refl)
-    (λ c κs. search needs)
+    tie.close (tie.spec Inv-loop μ-loop (λ c. refl) (λ c κs. search needs)
     (λ c.
     let l = c .before .before .before in
     sym (l .loop .inv ∙ first-is _ _ _ _ _ _ (c .before .before .loop-test .taken) (c .before .eval-condition .ensures) (c .if1 .taken)))
-    (λ c κs. search needs)
-    (λ c. omega arith)
-    (λ c. omega arith)
+    (λ c κs. search needs) (λ c. omega arith) (λ c. omega arith)
     (λ c.
     let d = c .before in
     let l = d .before .before .before in

@@ -8,21 +8,9 @@ use Rattle.chain.proofs.walk.next_node.Tie as tie
 pub next-node-spec : {M : Type 1} → statement M
 unfolding nextBy
 next-node-spec =
-    tie.close
-    (tie.spec
-    (λ c. rw (next-deep _ _ _ _ _ _ _ (c .if1 .taken)))
-    (λ c κs. search needs)
-    (λ c. search needs)
-    (λ c. search needs)
-    (λ c κs. search needs)
-    (λ c. search needs)
-    (λ c. search needs)
-    (λ c. search needs)
-    (λ c. search needs)
-    (λ c. search needs)
-    (λ c. search needs)
-    (λ c. search needs)
-    (λ c. search needs)
+    tie.close (tie.spec (λ c. rw (next-deep _ _ _ _ _ _ _ (c .if1 .taken))) (λ c κs. search needs) (λ c. search needs)
+    (λ c. search needs) (λ c κs. search needs) (λ c. search needs) (λ c. search needs) (λ c. search needs)
+    (λ c. search needs) (λ c. search needs) (λ c. search needs) (λ c. search needs) (λ c. search needs)
     (λ c.
     let k = c .before .before .before .before in
     rw (next-by _ _ _ _ _ _ _ (k .before .if1 .left) _ _ (k .condition-shape .ensures) (c .before .before .all .given .1)) (c .first-with .ensures))

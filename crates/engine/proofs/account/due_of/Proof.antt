@@ -8,23 +8,12 @@ use Rattle.engine.proofs.account.due_of.Tie as tie
 pub due-of-spec : {M : Type 1} → statement M
 unfolding dueOf
 due-of-spec =
-    tie.close
-    (tie.spec
-    (λ c. search needs)
-    (λ c. search needs)
-    (λ c. search needs)
-    (λ c. simp (lt-ltb _ _ (c .if1 .taken), c .before .before .order .given .1))
-    (λ c κs. search needs)
-    (λ c κs. search needs)
-    (λ c. search needs)
-    (λ c. search needs)
-    (λ c. simp (lt-ltb _ _ (c .if2 .taken), c .before .before .order2 .given .1))
-    (λ c κs. search needs)
-    (λ c κs. search needs)
-    (λ c. search needs)
-    (λ c. search needs)
-    (λ c. simp (lt-ltb _ _ (c .if3 .taken), c .before .before .order3 .given .1))
-    (λ c. simp (c .enum-told .given .1))
+    tie.close (tie.spec (λ c. search needs) (λ c. search needs) (λ c. search needs)
+    (λ c. simp (lt-ltb _ _ (c .if1 .taken), c .before .before .order .given .1)) (λ c κs. search needs)
+    (λ c κs. search needs) (λ c. search needs) (λ c. search needs)
+    (λ c. simp (lt-ltb _ _ (c .if2 .taken), c .before .before .order2 .given .1)) (λ c κs. search needs)
+    (λ c κs. search needs) (λ c. search needs) (λ c. search needs)
+    (λ c. simp (lt-ltb _ _ (c .if3 .taken), c .before .before .order3 .given .1)) (λ c. simp (c .enum-told .given .1))
     (λ c. simp (
       c .reached .ensures,
       c .before .level-fill .ensures,

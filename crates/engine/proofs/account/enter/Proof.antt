@@ -7,14 +7,8 @@ use Rattle.engine.proofs.account.enter.Tie as tie
 pub enter-spec : {M : Type 1} → statement M
 unfolding entered
 enter-spec =
-    tie.close
-    (tie.spec
-    (λ c κs. search needs)
-    (λ c κs. search needs)
-    (λ c κs. search needs)
-    (λ c κs. search needs)
-    (λ c κs. search needs)
-    (λ c κs. search needs)
+    tie.close (tie.spec (λ c κs. search needs) (λ c κs. search needs) (λ c κs. search needs) (λ c κs. search needs)
+    (λ c κs. search needs) (λ c κs. search needs)
     (λ c.
     let entry = c .before in
     simp (

@@ -87,29 +87,8 @@ returns-4 c =
 
 pub run-bars-spec : {M : Type 1} → statement M
 run-bars-spec =
-    tie.close
-    (tie.spec
-    (λ c κs. search needs)
-    returns
-    (λ c κs. search needs)
-    (λ c. search needs)
-    (λ c. search needs)
-    (λ c. search needs)
-    (λ c. search needs)
-    returns-2
-    (λ c. search needs)
-    (λ c κs. search needs)
-    (λ c. search needs)
-    unlisted-requires
-    (λ c. search needs)
-    (λ c. search needs)
-    (λ c. search needs)
-    returns-3
-    (λ c. search needs)
-    add-width
-    take-bars-requires
-    (λ c κs. search needs)
-    (λ c. search needs)
-    (λ c. search needs)
-    (λ c. search needs)
+    tie.close (tie.spec (λ c κs. search needs) returns (λ c κs. search needs) (λ c. search needs) (λ c. search needs)
+    (λ c. search needs) (λ c. search needs) returns-2 (λ c. search needs) (λ c κs. search needs) (λ c. search needs)
+    unlisted-requires (λ c. search needs) (λ c. search needs) (λ c. search needs) returns-3 (λ c. search needs)
+    add-width take-bars-requires (λ c κs. search needs) (λ c. search needs) (λ c. search needs) (λ c. search needs)
     returns-4)

@@ -100,30 +100,8 @@ returns-2 c = all-done _ _ _ _ _ _ _ _ _ _ _ _ (c .before .loop .inv) (c .loop-t
 
 pub take-bars-spec : {M : Type 1} → statement M
 take-bars-spec =
-    tie.close
-    (tie.spec
-    Inv-loop
-    μ-loop
-    add-width
-    (λ c. search needs)
-    loop-holds
-    mul-from
-    add-to
-    mul-next-bar
-    (λ c. search needs)
-    (λ c. search needs)
-    part-next-bar-end
-    next-bar-requires
-    (λ c. search needs)
-    same-length
-    same-length-2
-    same-length-3
-    returns
-    (λ c. search needs)
-    add-done
-    loop-less
-    loop-again
-    (λ c. c .before .loop .inv .lengths .rows)
-    (λ c. c .before .loop .inv .lengths .equity)
-    (λ c. c .before .loop .inv .lengths .trades)
-    returns-2)
+    tie.close (tie.spec Inv-loop μ-loop add-width (λ c. search needs) loop-holds mul-from add-to mul-next-bar
+    (λ c. search needs) (λ c. search needs) part-next-bar-end next-bar-requires (λ c. search needs) same-length
+    same-length-2 same-length-3 returns (λ c. search needs) add-done loop-less loop-again
+    (λ c. c .before .loop .inv .lengths .rows) (λ c. c .before .loop .inv .lengths .equity)
+    (λ c. c .before .loop .inv .lengths .trades) returns-2)

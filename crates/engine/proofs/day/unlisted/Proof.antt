@@ -26,12 +26,5 @@ returns-2 c = let judged = c .before .before in rw (← judged .judge-next .ensu
 
 pub unlisted-spec : {M : Type 1} → statement M
 unlisted-spec =
-    tie.close
-    (tie.spec
-    add-width
-    slice-aggregate-judge-next
-    (λ c κs. search needs)
-    (λ c. search needs)
-    (λ c. search needs)
-    returns
-    returns-2)
+    tie.close (tie.spec add-width slice-aggregate-judge-next (λ c κs. search needs) (λ c. search needs)
+    (λ c. search needs) returns returns-2)

@@ -23,18 +23,7 @@ returns-5 c =
 pub decide-next-action-spec : {M : Type 1} → statement M
 unfolding decidedFrom orderAfter
 decide-next-action-spec =
-    tie.close
-    (tie.spec
-    (λ c. search needs)
-    (λ c. search needs)
-    (λ c. search needs)
-    (λ c. search needs)
-    (λ c. simp (lt-ltb _ _ (c .if1 .taken), c .before .before .enum-told .given .1))
-    (λ c κs. search needs)
-    (λ c. search needs)
-    (λ c κs. search needs)
-    (λ c κs. search needs)
-    (λ c. simp (c .before .order .given .1))
-    (λ c. simp (c .before .order2 .given .1))
-    (λ c. simp (c .before .order3 .given .1))
-    returns-5)
+    tie.close (tie.spec (λ c. search needs) (λ c. search needs) (λ c. search needs) (λ c. search needs)
+    (λ c. simp (lt-ltb _ _ (c .if1 .taken), c .before .before .enum-told .given .1)) (λ c κs. search needs)
+    (λ c. search needs) (λ c κs. search needs) (λ c κs. search needs) (λ c. simp (c .before .order .given .1))
+    (λ c. simp (c .before .order2 .given .1)) (λ c. simp (c .before .order3 .given .1)) returns-5)

@@ -67,17 +67,5 @@ returns-3 c = rw (ne-eqb _ 0 (c .if1 .left))
 
 pub read-from-spec : {M : Type 1} → statement M
 read-from-spec =
-    tie.close
-    (tie.spec
-    (λ c. search needs)
-    (λ c. search needs)
-    slice-aggregate-all
-    (λ c. search needs)
-    mul-first
-    mul-result
-    fits
-    (λ c. let h = fits c in search needs)
-    (λ c. search needs)
-    returns
-    returns-2
-    returns-3)
+    tie.close (tie.spec (λ c. search needs) (λ c. search needs) slice-aggregate-all (λ c. search needs) mul-first
+    mul-result fits (λ c. let h = fits c in search needs) (λ c. search needs) returns returns-2 returns-3)

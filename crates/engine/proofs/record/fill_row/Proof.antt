@@ -42,17 +42,7 @@ returns c =
 
 pub fill-row-spec : {M : Type 1} → statement M
 fill-row-spec =
-    tie.close
-    (tie.spec
-    Inv-loop
-    μ-loop
-    (λ c. search needs)
-    loop-holds
+    tie.close (tie.spec Inv-loop μ-loop (λ c. search needs) loop-holds
     (λ c κs. let l = c .before in let a = l .before .before .before in (omega (arith, a .pre .0), omega (arith, a .pre .2), omega (arith, a .pre .2)))
-    (λ c. search needs)
-    (λ c. search needs)
-    (λ c. search needs)
-    (λ c. search needs)
-    loop-again
-    (λ c. search needs)
+    (λ c. search needs) (λ c. search needs) (λ c. search needs) (λ c. search needs) loop-again (λ c. search needs)
     returns)

@@ -63,17 +63,5 @@ returns-4 c =
 
 pub place-for-spec : {M : Type 1} → statement M
 place-for-spec =
-    tie.close
-    (tie.spec
-    (λ c. search needs)
-    mul-end
-    sub-if1
-    (λ c. search needs)
-    returns
-    sub-t15
-    returns-2
-    mul-at
-    sub-if3
-    (λ c. search needs)
-    returns-3
-    returns-4)
+    tie.close (tie.spec (λ c. search needs) mul-end sub-if1 (λ c. search needs) returns sub-t15 returns-2 mul-at sub-if3
+    (λ c. search needs) returns-3 returns-4)

@@ -7,15 +7,9 @@ use Rattle.execution.proofs.fills.booked.Tie as tie
 pub booked-spec : {M : Type 1} → statement M
 unfolding booked
 booked-spec =
-    tie.close
-    (tie.spec
-    (λ c. search needs)
-    (λ c. search needs)
-    (λ c. search needs)
-    (λ c κs. search needs)
+    tie.close (tie.spec (λ c. search needs) (λ c. search needs) (λ c. search needs) (λ c κs. search needs)
     (λ c.
     let test = c .before in
     simp (c .enter .ensures, test .if1 .taken, test .before .before .ordered .given .1))
-    (λ c. simp (c .enum-told .given .1))
-    (λ c. simp (c .enum-told2 .given .1))
+    (λ c. simp (c .enum-told .given .1)) (λ c. simp (c .enum-told2 .given .1))
     (λ c. simp (c .if1 .left, c .before .before .ordered .given .1)))

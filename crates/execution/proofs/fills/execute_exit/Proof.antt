@@ -19,11 +19,5 @@ returns c =
 pub execute-exit-spec : {M : Type 1} → statement M
 unfolding executeExit
 execute-exit-spec =
-    tie.close
-    (tie.spec
-    (λ c κs. search needs)
-    (λ c κs. search needs)
-    (λ c κs. search needs)
-    (λ c κs. search needs)
-    returns
-    (λ c. simp (sym (c .before .in-position .ensures) ∙ c .if1 .left)))
+    tie.close (tie.spec (λ c κs. search needs) (λ c κs. search needs) (λ c κs. search needs) (λ c κs. search needs)
+    returns (λ c. simp (sym (c .before .in-position .ensures) ∙ c .if1 .left)))

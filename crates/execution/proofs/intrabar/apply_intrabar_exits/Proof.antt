@@ -21,12 +21,5 @@ returns c =
 pub apply-intrabar-exits-spec : {M : Type 1} → statement M
 unfolding touched applyIntrabarExits
 apply-intrabar-exits-spec =
-    tie.close
-    (tie.spec
-    (λ c κs. search needs)
-    (λ c κs. search needs)
-    (λ c κs. search needs)
-    (λ c κs. search needs)
-    (λ c κs. search needs)
-    returns
-    (λ c. simp (sym (c .before .in-position .ensures) ∙ c .if1 .left)))
+    tie.close (tie.spec (λ c κs. search needs) (λ c κs. search needs) (λ c κs. search needs) (λ c κs. search needs)
+    (λ c κs. search needs) returns (λ c. simp (sym (c .before .in-position .ensures) ∙ c .if1 .left)))

@@ -8,10 +8,6 @@ use Rattle.execution.proofs.intrabar.extreme_with.Tie as tie
 pub extreme-with-spec : {M : Type 1} → statement M
 unfolding extremeWith
 extreme-with-spec =
-    tie.close
-    (tie.spec
-    (λ c κs. search needs)
-    (λ c κs. search needs)
-    (λ c κs. search needs)
+    tie.close (tie.spec (λ c κs. search needs) (λ c κs. search needs) (λ c κs. search needs)
     (λ c. let i = c .before .before in simp (sym (i .before .in-position .ensures) ∙ i .if1 .taken, c .favourable .ensures, c .before .is-long .ensures))
     (λ c. simp (sym (c .before .in-position .ensures) ∙ c .if1 .left)))

@@ -7,9 +7,5 @@ use Rattle.execution.proofs.intrabar.or_else.Tie as tie
 pub or-else-spec : {M : Type 1} → statement M
 unfolding orElse
 or-else-spec =
-    tie.close
-    (tie.spec
-    (λ c. search needs)
-    (λ c. search needs)
-    (λ c. simp (c .before .first .given .1))
+    tie.close (tie.spec (λ c. search needs) (λ c. search needs) (λ c. simp (c .before .first .given .1))
     (λ c. simp (c .enum-told .given .1)))

@@ -7,11 +7,6 @@ use Rattle.execution.proofs.intrabar.or_liquidated.Tie as tie
 pub or-liquidated-spec : {M : Type 1} → statement M
 unfolding orLiquidated
 or-liquidated-spec =
-    tie.close
-    (tie.spec
-    (λ c. search needs)
-    (λ c. search needs)
-    (λ c κs. search needs)
+    tie.close (tie.spec (λ c. search needs) (λ c. search needs) (λ c κs. search needs)
     (λ c. simp (c .liquidation .ensures, c .before .if1 .taken, c .before .before .enum-told .given .1))
-    (λ c. simp (c .before .fired .given .1))
-    (λ c. simp (c .if1 .left, c .before .enum-told .given .1)))
+    (λ c. simp (c .before .fired .given .1)) (λ c. simp (c .if1 .left, c .before .enum-told .given .1)))

@@ -5,7 +5,4 @@ use Rattle.execution.proofs.level.level_from.Tie as tie
 
 pub level-from-spec : {M : Type 1} → statement M
 unfolding levelFrom
-level-from-spec =
-    tie.close
-    (tie.spec
-    (λ c. cc))
+level-from-spec = tie.close (tie.spec (λ c. cc))

@@ -7,8 +7,5 @@ use Rattle.execution.proofs.level.reached_below.Tie as tie
 pub reached-below-spec : {M : Type 1} → statement M
 unfolding reachedBelow
 reached-below-spec =
-    tie.close
-    (tie.spec
-    (λ c κs. search needs)
-    (λ c. simp (c .min .ensures, c .before .if1 .taken))
+    tie.close (tie.spec (λ c κs. search needs) (λ c. simp (c .min .ensures, c .before .if1 .taken))
     (λ c. simp (c .if1 .left)))

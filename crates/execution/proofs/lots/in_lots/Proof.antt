@@ -7,12 +7,8 @@ use Rattle.execution.proofs.lots.in_lots.Tie as tie
 pub in-lots-spec : {M : Type 1} → statement M
 unfolding inLots wholeLots
 in-lots-spec =
-    tie.close
-    (tie.spec
-    (λ c. simp (c .if1 .taken))
-    (λ c. simp (c .if2 .taken, c .before .if1 .left))
-    (λ c κs. search needs)
-    (λ c κs. search needs)
+    tie.close (tie.spec (λ c. simp (c .if1 .taken)) (λ c. simp (c .if2 .taken, c .before .if1 .left))
+    (λ c κs. search needs) (λ c κs. search needs)
     (λ c.
     let whole = c .before in
     let test = whole .before in

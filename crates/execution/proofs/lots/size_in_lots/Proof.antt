@@ -7,10 +7,5 @@ use Rattle.execution.proofs.lots.size_in_lots.Tie as tie
 pub size-in-lots-spec : {M : Type 1} → statement M
 unfolding sizeInLots
 size-in-lots-spec =
-    tie.close
-    (tie.spec
-    (λ c. search needs)
-    (λ c. search needs)
-    (λ c κs. search needs)
-    (λ c. simp (c .enum-told .given .1))
-    (λ c. simp (c .in-lots .ensures, c .before .before .sized .given .1)))
+    tie.close (tie.spec (λ c. search needs) (λ c. search needs) (λ c κs. search needs)
+    (λ c. simp (c .enum-told .given .1)) (λ c. simp (c .in-lots .ensures, c .before .before .sized .given .1)))

@@ -7,10 +7,6 @@ use Rattle.execution.proofs.size.by_risk.Tie as tie
 pub by-risk-spec : {M : Type 1} → statement M
 unfolding byRisk
 by-risk-spec =
-    tie.close
-    (tie.spec
-    (λ c. search needs)
-    (λ c. search needs)
-    (λ c. simp (c .if1 .taken, c .before .before .stop .given .1))
-    (λ c. simp (c .enum-told .given .1))
+    tie.close (tie.spec (λ c. search needs) (λ c. search needs)
+    (λ c. simp (c .if1 .taken, c .before .before .stop .given .1)) (λ c. simp (c .enum-told .given .1))
     (λ c. simp (c .if1 .left, c .before .before .stop .given .1)))

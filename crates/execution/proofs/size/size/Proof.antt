@@ -28,15 +28,8 @@ returns-5 c =
 pub size-spec : {M : Type 1} → statement M
 unfolding size ordered
 size-spec =
-    tie.close
-    (tie.spec
-    (λ c. simp (c .if1 .taken))
-    (λ c. simp (c .if2 .taken, c .before .if1 .left))
-    (λ c κs. search needs)
-    (λ c. search needs)
-    (λ c. search needs)
-    returns-3
-    (λ c κs. search needs)
+    tie.close (tie.spec (λ c. simp (c .if1 .taken)) (λ c. simp (c .if2 .taken, c .before .if1 .left))
+    (λ c κs. search needs) (λ c. search needs) (λ c. search needs) returns-3 (λ c κs. search needs)
     (λ c κs. search needs)
     (λ c. let w = c .before .before in simp (sym (w .wanted .ensures) ∙ c .enum-told .given .1, w .before .if2 .left, w .before .before .if1 .left))
     returns-5)

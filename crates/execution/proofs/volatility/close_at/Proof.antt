@@ -26,11 +26,5 @@ returns c =
 
 pub close-at-spec : {M : Type 1} → statement M
 close-at-spec =
-    tie.close
-    (tie.spec
-    (λ c κs. search needs)
-    (λ c. omega (arith, ends c))
-    (λ c. omega (arith, ends c))
-    (λ c κs. search needs)
-    (λ c κs. search needs)
-    returns)
+    tie.close (tie.spec (λ c κs. search needs) (λ c. omega (arith, ends c)) (λ c. omega (arith, ends c))
+    (λ c κs. search needs) (λ c κs. search needs) returns)

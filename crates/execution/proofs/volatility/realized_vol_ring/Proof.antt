@@ -49,17 +49,9 @@ returns-4 c =
 pub realized-vol-ring-spec : {M : Type 1} → statement M
 unfolding realizedVol ringOf
 realized-vol-ring-spec =
-    tie.close
-    (tie.spec
-    (λ c. simp (lt-ltb _ _ (c .if1 .taken)))
-    (λ c κs. search needs)
+    tie.close (tie.spec (λ c. simp (lt-ltb _ _ (c .if1 .taken))) (λ c κs. search needs)
     (λ c. simp (le-ltb _ _ (c .before .before .if1 .left), ← c .before .row-count .ensures, lt-ltb _ _ (c .if2 .taken)))
-    (λ c κs. search needs)
-    (λ c. search needs)
-    (λ c κs. let b = begun c in (b .0, b .1, omega arith, omega arith))
-    returns-3
-    (λ c κs. search needs)
+    (λ c κs. search needs) (λ c. search needs) (λ c κs. let b = begun c in (b .0, b .1, omega arith, omega arith))
+    returns-3 (λ c κs. search needs)
     (λ c κs. let b = begun (c .before .before .before .before .before) in (b .0, b .1, omega arith, omega arith))
-    (λ c κs. search needs)
-    (λ c κs. search needs)
-    returns-4)
+    (λ c κs. search needs) (λ c κs. search needs) returns-4)

@@ -44,21 +44,7 @@ loop-again-2 c =
 
 pub tally-of-spec : {M : Type 1} → statement M
 tally-of-spec =
-    tie.close
-    (tie.spec
-    Inv-loop
-    μ-loop
-    (λ c κs. search needs)
-    (λ c. search needs)
-    (λ c. omega arith)
-    (λ c κs. search needs)
-    (λ c κs. search needs)
-    (λ c. search needs)
-    (λ c. omega arith)
-    (λ c κs. search needs)
-    (λ c. search needs)
-    (λ c. omega arith)
-    loop-again
-    (λ c. omega arith)
-    loop-again-2
+    tie.close (tie.spec Inv-loop μ-loop (λ c κs. search needs) (λ c. search needs) (λ c. omega arith)
+    (λ c κs. search needs) (λ c κs. search needs) (λ c. search needs) (λ c. omega arith) (λ c κs. search needs)
+    (λ c. search needs) (λ c. omega arith) loop-again (λ c. omega arith) loop-again-2
     (λ c. ended _ _ _ _ _ _ (c .loop-test .left) (c .before .loop .inv .1)))

@@ -23,13 +23,5 @@ returns-2 c = let args = c .before .before .args in sym (column-past _ (args .wi
 
 pub float-at-spec : {M : Type 1} → statement M
 float-at-spec =
-    tie.close
-    (tie.spec
-    (λ c. search needs)
-    (λ c. omega (arith, there c))
-    (λ c. omega (arith, there c))
-    (λ c. omega (arith, there c))
-    (λ c. there (c .before))
-    (λ c κs. search needs)
-    returns
-    returns-2)
+    tie.close (tie.spec (λ c. search needs) (λ c. omega (arith, there c)) (λ c. omega (arith, there c))
+    (λ c. omega (arith, there c)) (λ c. there (c .before)) (λ c κs. search needs) returns returns-2)

@@ -6,8 +6,5 @@ use Rattle.metrics.proofs.drawdown.deepest_at.Tie as tie
 pub deepest-at-spec : {M : Type 1} → statement M
 unfolding fallPct deepestAt
 deepest-at-spec =
-    tie.close
-    (tie.spec
-    (λ c. simp (c .before .if1 .taken, c .if2 .taken))
-    (λ c. simp (c .before .if1 .taken, c .if2 .left))
-    (λ c. simp (c .if1 .left)))
+    tie.close (tie.spec (λ c. simp (c .before .if1 .taken, c .if2 .taken))
+    (λ c. simp (c .before .if1 .taken, c .if2 .left)) (λ c. simp (c .if1 .left)))

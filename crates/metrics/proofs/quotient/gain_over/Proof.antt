@@ -12,10 +12,6 @@ returns c = c .float-of .ensures ∙ simp (← c .before .before .before .abs .e
 pub gain-over-spec : {M : Type 1} → statement M
 unfolding gainOver
 gain-over-spec =
-    tie.close
-    (tie.spec
-    (λ c κs. search needs)
-    (λ c κs. search needs)
-    returns
+    tie.close (tie.spec (λ c κs. search needs) (λ c κs. search needs) returns
     (λ c. simp (← c .before .before .abs .ensures, c .before .if1 .taken, c .if2 .left))
     (λ c. simp (← c .before .abs .ensures, c .if1 .left)))

@@ -11,15 +11,9 @@ use Rattle.needed.proofs.depth.depth.Tie as tie
 pub depth-spec : {M : Type 1} → statement M
 unfolding depthAnswer
 depth-spec =
-    tie.close
-    (tie.spec
-    (λ c κs. search needs)
-    (λ c. search needs)
-    (λ c. search needs)
+    tie.close (tie.spec (λ c κs. search needs) (λ c. search needs) (λ c. search needs)
     (λ c. rw (← c .before .before .before .before .check .ensures .0, c .before .before .answer2 .given .1, lt-ltb _ _ (c .if1 .taken)))
-    (λ c. omega (arith, c .if1 .left))
-    (λ c κs. search needs)
-    (λ c κs. search needs)
+    (λ c. omega (arith, c .if1 .left)) (λ c κs. search needs) (λ c κs. search needs)
     (λ c. let p = c .before .before .before .before in let q = p .before .before in
     omega (
       arith,

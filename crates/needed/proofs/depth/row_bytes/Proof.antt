@@ -8,10 +8,5 @@ use Rattle.needed.proofs.depth.row_bytes.Tie as tie
 pub row-bytes-spec : {M : Type 1} → statement M
 unfolding rowBytes
 row-bytes-spec =
-    tie.close
-    (tie.spec
-    (λ c κs. search needs)
-    (λ c. search needs)
-    (λ c. search needs)
-    (λ c. search needs)
+    tie.close (tie.spec (λ c κs. search needs) (λ c. search needs) (λ c. search needs) (λ c. search needs)
     (λ c. (rw (c .slots .ensures), omega arith)))

@@ -29,10 +29,7 @@ module _ (t : List ℕ) (small : Bytes t) (d : ℕ) (given : List ℕ) (answer :
 pub silent-tests-spec : {M : Type 1} → statement M
 unfolding Bytes
 silent-tests-spec =
-    tie.close
-    (tie.spec
-    (λ c κs. search needs)
-    (λ c. search needs)
+    tie.close (tie.spec (λ c κs. search needs) (λ c. search needs)
     (λ c.
     let call = c .before .before in
     as-tests _ (λ i. omega (arith, call .before .before .before .shared-slice-known .given i)) _ _ _ _

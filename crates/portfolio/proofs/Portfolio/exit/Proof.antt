@@ -7,8 +7,5 @@ use Rattle.portfolio.proofs.Portfolio.exit.Tie as tie
 pub exit-spec : {M : Type 1} → statement M
 unfolding notional pnl tradeOf exited
 exit-spec =
-    tie.close
-    (tie.spec
-    (λ c κs. search needs)
-    (λ c κs. search needs)
+    tie.close (tie.spec (λ c κs. search needs) (λ c κs. search needs)
     (λ c. let r = c .before .before .before in simp (r .return-pct .ensures, r .before .before .before .before .before .abs .ensures)))

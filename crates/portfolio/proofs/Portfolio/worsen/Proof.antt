@@ -8,11 +8,7 @@ use Rattle.portfolio.proofs.Portfolio.worsen.Tie as tie
 pub worsen-spec : {M : Type 1} → statement M
 unfolding worsened
 worsen-spec =
-    tie.close
-    (tie.spec
-    (λ c κs. search needs)
-    (λ c κs. search needs)
-    (λ c κs. search needs)
+    tie.close (tie.spec (λ c κs. search needs) (λ c κs. search needs) (λ c κs. search needs)
     (λ c.
     let test = c .before .before in
     simp (sym (test .before .in-position .ensures) ∙ test .if1 .taken, c .worse .ensures, c .before .is-long .ensures))

@@ -7,11 +7,5 @@ use Rattle.records.proofs.settings.entries_of.Tie as tie
 pub entries-of-spec : {M : Type 1} → statement M
 unfolding entriesOf
 entries-of-spec =
-    tie.close
-    (tie.spec
-    (λ c κs. search needs)
-    (λ c κs. search needs)
-    (λ c κs. search needs)
-    (λ c κs. search needs)
-    (λ c κs. search needs)
-    (λ c. cc))
+    tie.close (tie.spec (λ c κs. search needs) (λ c κs. search needs) (λ c κs. search needs) (λ c κs. search needs)
+    (λ c κs. search needs) (λ c. cc))

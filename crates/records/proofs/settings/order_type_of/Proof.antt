@@ -7,11 +7,7 @@ use Rattle.records.proofs.settings.order_type_of.Tie as tie
 pub order-type-of-spec : {M : Type 1} → statement M
 unfolding orderTypeOf
 order-type-of-spec =
-    tie.close
-    (tie.spec
-    (λ c. simp (c .match .keys1))
-    (λ c. simp (c .match .keys2))
-    (λ c. simp (c .match .keys3))
+    tie.close (tie.spec (λ c. simp (c .match .keys1)) (λ c. simp (c .match .keys2)) (λ c. simp (c .match .keys3))
     (λ c. simp (c .match .keys4))
     (λ c. simp (
       ne-eqb _ _ (c .match .rest .1),

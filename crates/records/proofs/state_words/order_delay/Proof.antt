@@ -22,13 +22,5 @@ returns-4 c = simp (c .before .order3 .given .1)
 
 pub order-delay-spec : {M : Type 1} → statement M
 order-delay-spec =
-    tie.close
-    (tie.spec
-    (λ c. search needs)
-    (λ c. search needs)
-    (λ c. search needs)
-    (λ c. search needs)
-    returns
-    returns-2
-    returns-3
-    returns-4)
+    tie.close (tie.spec (λ c. search needs) (λ c. search needs) (λ c. search needs) (λ c. search needs) returns
+    returns-2 returns-3 returns-4)

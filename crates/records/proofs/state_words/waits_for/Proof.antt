@@ -7,13 +7,6 @@ use Rattle.records.proofs.state_words.waits_for.Tie as tie
 pub waits-for-spec : {M : Type 1} → statement M
 unfolding waitsFor
 waits-for-spec =
-    tie.close
-    (tie.spec
-    (λ c. search needs)
-    (λ c. search needs)
-    (λ c. search needs)
-    (λ c. search needs)
-    (λ c. simp (c .enum-told .given .1))
-    (λ c. simp (c .before .order .given .1))
-    (λ c. simp (c .before .order2 .given .1))
-    (λ c. simp (c .enum-told2 .given .1)))
+    tie.close (tie.spec (λ c. search needs) (λ c. search needs) (λ c. search needs) (λ c. search needs)
+    (λ c. simp (c .enum-told .given .1)) (λ c. simp (c .before .order .given .1))
+    (λ c. simp (c .before .order2 .given .1)) (λ c. simp (c .enum-told2 .given .1)))

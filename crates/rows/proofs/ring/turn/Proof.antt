@@ -35,14 +35,5 @@ returns-4 c = c .before .before .change-places .ensures
 
 pub turn-spec : {M : Type 1} → statement M
 turn-spec =
-    tie.close
-    (tie.spec
-    returns
-    returns-2
-    (λ c. search needs)
-    returns-3
-    (λ c. omega (arith, fits (c .before)))
-    (λ c. omega (arith, fits (c .before)))
-    (λ c κs. fits (c .before))
-    (λ c. search needs)
-    returns-4)
+    tie.close (tie.spec returns returns-2 (λ c. search needs) returns-3 (λ c. omega (arith, fits (c .before)))
+    (λ c. omega (arith, fits (c .before))) (λ c κs. fits (c .before)) (λ c. search needs) returns-4)

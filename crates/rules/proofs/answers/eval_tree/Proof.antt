@@ -8,15 +8,8 @@ use Rattle.rules.proofs.answers.eval_tree.Tie as tie
 pub eval-tree-spec : {M : Type 1} → statement M
 unfolding says
 eval-tree-spec =
-    tie.close
-    (tie.spec
-    (λ c κs. search needs)
-    (λ c. rw (← c .before .count .ensures .0, eq-eqb _ _ (c .if1 .taken)))
-    (λ c κs. search needs)
-    (λ c. search needs)
-    (λ c κs. search needs)
-    (λ c κs. search needs)
-    (λ c κs. search needs)
+    tie.close (tie.spec (λ c κs. search needs) (λ c. rw (← c .before .count .ensures .0, eq-eqb _ _ (c .if1 .taken)))
+    (λ c κs. search needs) (λ c. search needs) (λ c κs. search needs) (λ c κs. search needs) (λ c κs. search needs)
     (λ c.
     let n = c .before in
     let r = n .before in

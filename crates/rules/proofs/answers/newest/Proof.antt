@@ -8,9 +8,5 @@ use Rattle.rules.proofs.answers.newest.Tie as tie
 pub newest-spec : {M : Type 1} → statement M
 unfolding newest
 newest-spec =
-    tie.close
-    (tie.spec
-    (λ c κs. search needs)
-    (λ c. omega (arith, c .before .row-count .ensures))
-    (λ c. search needs)
+    tie.close (tie.spec (λ c κs. search needs) (λ c. omega (arith, c .before .row-count .ensures)) (λ c. search needs)
     (λ c. omega (arith, c .before .row-count .ensures)))

@@ -5,12 +5,7 @@ use Rattle.rules.proofs.conditions.between.Tie as tie
 
 pub between-spec : {M : Type 1} → statement M
 between-spec =
-    tie.close
-    (tie.spec
-    (λ c κs. search needs)
-    (λ c κs. search needs)
-    (λ c κs. search needs)
-    (λ c κs. search needs)
+    tie.close (tie.spec (λ c κs. search needs) (λ c κs. search needs) (λ c κs. search needs) (λ c κs. search needs)
     (λ c.
     rw (← c .before .before .before .eval-operand .ensures, ← c .before .before .eval-operand2 .ensures, ← c .before .eval-operand3 .ensures)
     (c .within .ensures)))

@@ -6,11 +6,7 @@ use Rattle.rules.proofs.conditions.compare_prev.Tie as tie
 
 pub compare-prev-spec : {M : Type 1} → statement M
 compare-prev-spec =
-    tie.close
-    (tie.spec
-    (λ c. rw (lt-ltb _ _ (c .if1 .taken)))
-    (λ c κs. search needs)
-    (λ c κs. search needs)
+    tie.close (tie.spec (λ c. rw (lt-ltb _ _ (c .if1 .taken))) (λ c κs. search needs) (λ c κs. search needs)
     (λ c κs. search needs)
     (λ c.
     let d = c .before in

@@ -11,9 +11,7 @@ use Rattle.rules.proofs.operands.extreme_of_bar.Tie as tie
 
 pub extreme-of-bar-spec : {M : Type 1} → statement M
 extreme-of-bar-spec =
-    tie.close
-    (tie.spec
-    (λ c κs. search needs)
+    tie.close (tie.spec (λ c κs. search needs)
     (λ c.
     let a = c .before .before .before .args in
     let early : a .bar < a .n - 1 = omega (arith, c .before .bars-before .ensures, c .if1 .taken) in

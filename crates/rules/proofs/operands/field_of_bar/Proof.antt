@@ -11,10 +11,8 @@ use Rattle.rules.proofs.operands.field_of_bar.Tie as tie
 pub field-of-bar-spec : {M : Type 1} → statement M
 unfolding historyOf priceOf
 field-of-bar-spec =
-    tie.close
-    (tie.spec
+    tie.close (tie.spec
     (λ c. omega (arith, let a = c .before .args in row-ends (a .slots) (a .rows .now) (a .bar) (c .before .pre .0)))
     (λ c. omega (arith, let a = c .before .args in row-ends (a .slots) (a .rows .now) (a .bar) (c .before .pre .0)))
-    (λ c. search needs)
-    (λ c κs. search needs)
+    (λ c. search needs) (λ c κs. search needs)
     (λ c. rw (lt-ltb _ _ (c .before .before .pre .1)) (c .field-at .ensures)))

@@ -23,10 +23,7 @@ abbrev μ-loop : tie.MeasureT-loop
 
 pub field-over-spec : {M : Type 1} → statement M
 field-over-spec =
-    tie.close
-    (tie.spec
-    Inv-loop
-    μ-loop
+    tie.close (tie.spec Inv-loop μ-loop
     (λ c κs. (omega (arith, c .before .pre .0, c .before .pre .1), c .before .pre .2))
     (λ c.
     let start = c .before .before in
@@ -38,8 +35,7 @@ field-over-spec =
     ))
     (λ c. search needs)
     (λ c κs. (omega (arith, c .before .before .before .before .pre .1, c .loop-test .taken), c .before .before .before .before .pre .2))
-    (λ c κs. search needs)
-    (λ c. search needs)
+    (λ c κs. search needs) (λ c. search needs)
     (λ c.
     let l = c .before .before .before .loop in
     let start = c .before .before .before .before .before .before in

@@ -23,13 +23,8 @@ abbrev μ-loop : tie.MeasureT-loop
 
 pub price-over-spec : {M : Type 1} → statement M
 price-over-spec =
-    tie.close
-    (tie.spec
-    Inv-loop
-    μ-loop
-    (λ c κs. (c .before .before .pre .0, c .before .before .pre .1, c .if1 .taken))
-    (λ c. c .field-over .ensures)
-    (λ c κs. omega (arith, c .before .before .pre .0, c .before .before .pre .1))
+    tie.close (tie.spec Inv-loop μ-loop (λ c κs. (c .before .before .pre .0, c .before .before .pre .1, c .if1 .taken))
+    (λ c. c .field-over .ensures) (λ c κs. omega (arith, c .before .before .pre .0, c .before .before .pre .1))
     (λ c.
     let start = c .before .before .before in
     let a = start .args in
@@ -38,10 +33,8 @@ price-over-spec =
       start .pre .0,
       ap (λ (x : Float). Number x) (c .price-of-bar .ensures) ∙ price-one (historyOf (a .slots) (a .rows .now)) (a .kind) (a .selector) (a .oldest) there,
     ))
-    (λ c. search needs)
-    (λ c κs. omega (arith, c .before .before .before .before .before .pre .1, c .loop-test .taken))
-    (λ c κs. search needs)
-    (λ c. search needs)
+    (λ c. search needs) (λ c κs. omega (arith, c .before .before .before .before .before .pre .1, c .loop-test .taken))
+    (λ c κs. search needs) (λ c. search needs)
     (λ c.
     let l = c .before .before .before .loop in
     let start = c .before .before .before .before .before .before .before in

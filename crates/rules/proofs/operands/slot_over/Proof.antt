@@ -20,11 +20,7 @@ abbrev μ-loop : tie.MeasureT-loop
 
 pub slot-over-spec : {M : Type 1} → statement M
 slot-over-spec =
-    tie.close
-    (tie.spec
-    Inv-loop
-    μ-loop
-    (λ c κs. omega (arith, c .before .pre .0, c .before .pre .1))
+    tie.close (tie.spec Inv-loop μ-loop (λ c κs. omega (arith, c .before .pre .0, c .before .pre .1))
     (λ c.
     let a = c .before .before .args in
     let h = historyOf (a .slots) (a .rows .now) in
@@ -33,10 +29,8 @@ slot-over-spec =
       c .before .before .pre .0,
       c .slot-of-bar .ensures ∙ sym (slot-series h (a .oldest) there (a .slot)) ∙ sym (extreme-one h (a .kind) (Slot (a .slot)) (a .oldest)),
     ))
-    (λ c. search needs)
-    (λ c κs. omega (arith, c .before .before .before .before .pre .1, c .loop-test .taken))
-    (λ c κs. search needs)
-    (λ c. search needs)
+    (λ c. search needs) (λ c κs. omega (arith, c .before .before .before .before .pre .1, c .loop-test .taken))
+    (λ c κs. search needs) (λ c. search needs)
     (λ c.
     let l = c .before .before .before .loop in
     let start = c .before .before .before .before .before .before in

@@ -8,16 +8,8 @@ use Rattle.rules.proofs.shapes.condition_shape.Tie as tie
 pub condition-shape-spec : {M : Type 1} → statement M
 unfolding conditionShape
 condition-shape-spec =
-    tie.close
-    (tie.spec
-    (λ c. simp (le-leb _ _ (c .if1 .taken)))
-    (λ c. search needs)
-    (λ c κs. search needs)
-    (λ c κs. search needs)
-    (λ c κs. search needs)
-    (λ c κs. search needs)
-    (λ c. search needs)
-    (λ c κs. search needs)
+    tie.close (tie.spec (λ c. simp (le-leb _ _ (c .if1 .taken))) (λ c. search needs) (λ c κs. search needs)
+    (λ c κs. search needs) (λ c κs. search needs) (λ c κs. search needs) (λ c. search needs) (λ c κs. search needs)
     (λ c.
     let n = c .before .before in
     let e = n .before in

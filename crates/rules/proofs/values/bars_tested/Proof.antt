@@ -7,9 +7,7 @@ use Rattle.rules.proofs.values.bars_tested.Tie as tie
 pub bars-tested-spec : {M : Type 1} → statement M
 unfolding barsTested
 bars-tested-spec =
-    tie.close
-    (tie.spec
-    (λ c. simp (eq-eqb _ _ (c .if1 .taken)))
+    tie.close (tie.spec (λ c. simp (eq-eqb _ _ (c .if1 .taken)))
     (λ c. simp (ne-eqb _ _ (c .before .if1 .left), eq-eqb _ _ (c .if2 .taken)))
     (λ c. simp (ne-eqb _ _ (c .before .before .if1 .left), ne-eqb _ _ (c .before .if2 .left), eq-eqb _ _ (c .if3 .taken)))
     (λ c.

@@ -8,8 +8,5 @@ use Rattle.rules.proofs.values.divided.Tie as tie
 pub divided-spec : {M : Type 1} → statement M
 unfolding divide
 divided-spec =
-    tie.close
-    (tie.spec
-    (λ c κs. search needs)
-    (λ c. rw (← c .before .abs .ensures, c .if1 .taken) nan-is)
+    tie.close (tie.spec (λ c κs. search needs) (λ c. rw (← c .before .abs .ensures, c .if1 .taken) nan-is)
     (λ c. rw (← c .before .abs .ensures, c .if1 .left)))

@@ -7,13 +7,7 @@ use Rattle.rules.proofs.values.pick.Tie as tie
 pub pick-spec : {M : Type 1} → statement M
 unfolding pick
 pick-spec =
-    tie.close
-    (tie.spec
-    (λ c. search needs)
-    (λ c. search needs)
-    (λ c. search needs)
-    (λ c. search needs)
-    (λ c κs. search needs)
-    (λ c. rw (c .enum-told .given .1))
+    tie.close (tie.spec (λ c. search needs) (λ c. search needs) (λ c. search needs) (λ c. search needs)
+    (λ c κs. search needs) (λ c. rw (c .enum-told .given .1))
     (λ c. rw (c .before .before .before .best .given .1, c .enum-told2 .given .1))
     (λ c. rw (c .before .before .before .before .before .best .given .1, c .before .before .later .given .1, c .took .ensures)))

@@ -8,14 +8,9 @@ use Rattle.rules.proofs.values.price_at.Tie as tie
 pub price-at-spec : {M : Type 1} → statement M
 unfolding priceOf
 price-at-spec =
-    tie.close
-    (tie.spec
-    (λ c. search needs)
-    (λ c κs. search needs)
-    (λ c. simp (lt-ltb _ _ (c .before .if1 .taken)) (c .field-at .ensures))
-    (λ c κs. search needs)
-    (λ c κs. search needs)
-    (λ c κs. search needs)
+    tie.close (tie.spec (λ c. search needs) (λ c κs. search needs)
+    (λ c. simp (lt-ltb _ _ (c .before .if1 .taken)) (c .field-at .ensures)) (λ c κs. search needs)
+    (λ c κs. search needs) (λ c κs. search needs)
     (λ c. let p = c .before .before .before .before in
     simp (
       le-ltb _ _ (p .if1 .left),

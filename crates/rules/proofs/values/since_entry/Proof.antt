@@ -20,13 +20,5 @@ returns-3 c = rw (← c .before .in-position .ensures, c .if1 .left)
 
 pub since-entry-spec : {M : Type 1} → statement M
 since-entry-spec =
-    tie.close
-    (tie.spec
-    (λ c κs. search needs)
-    (λ c. search needs)
-    (λ c. search needs)
-    (λ c κs. search needs)
-    (λ c κs. search needs)
-    returns
-    returns-2
-    returns-3)
+    tie.close (tie.spec (λ c κs. search needs) (λ c. search needs) (λ c. search needs) (λ c κs. search needs)
+    (λ c κs. search needs) returns returns-2 returns-3)

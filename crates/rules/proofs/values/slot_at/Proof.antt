@@ -24,12 +24,5 @@ returns-3 c = rw (← c .before .before .word-from .ensures, ne-eqb _ _ (c .if2 
 
 pub slot-at-spec : {M : Type 1} → statement M
 slot-at-spec =
-    tie.close
-    (tie.spec
-    (λ c κs. search needs)
-    returns
-    (λ c. search needs)
-    (λ c. search needs)
-    (λ c κs. search needs)
-    returns-2
-    returns-3)
+    tie.close (tie.spec (λ c κs. search needs) returns (λ c. search needs) (λ c. search needs) (λ c κs. search needs)
+    returns-2 returns-3)

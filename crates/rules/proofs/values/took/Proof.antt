@@ -7,8 +7,5 @@ use Rattle.rules.proofs.values.took.Tie as tie
 pub took-spec : {M : Type 1} → statement M
 unfolding took
 took-spec =
-    tie.close
-    (tie.spec
-    (λ c κs. search needs)
-    (λ c. rw (← c .before .better .ensures, c .if1 .taken))
+    tie.close (tie.spec (λ c κs. search needs) (λ c. rw (← c .before .better .ensures, c .if1 .taken))
     (λ c. rw (← c .before .better .ensures, c .if1 .left)))

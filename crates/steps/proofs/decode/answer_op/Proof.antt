@@ -7,9 +7,7 @@ use Rattle.steps.proofs.decode.answer_op.Tie as tie
 pub answer-op-spec : {M : Type 1} → statement M
 unfolding answerOp
 answer-op-spec =
-    tie.close
-    (tie.spec
-    (λ c. rw (lt-ltb _ _ (c .before .if1 .taken)))
+    tie.close (tie.spec (λ c. rw (lt-ltb _ _ (c .before .if1 .taken)))
     (λ c. simp (eq-eqb _ _ (c .if2 .taken), le-ltb _ _ (c .before .before .if1 .left)))
     (λ c. let p = c .before .before .before .before .before in
     rw (le-ltb _ _ (p .if1 .left), ne-eqb _ _ (c .before .before .before .if2 .left), eq-eqb _ _ (c .before .if3 .taken)))

@@ -8,11 +8,6 @@ use Rattle.steps.proofs.decode.four_at.Tie as tie
 pub four-at-spec : {M : Type 1} → statement M
 unfolding u32
 four-at-spec =
-    tie.close
-    (tie.spec
-    (λ c κs. search needs)
-    (λ c. search needs)
-    (λ c κs. search needs)
-    (λ c. search needs)
+    tie.close (tie.spec (λ c κs. search needs) (λ c. search needs) (λ c κs. search needs) (λ c. search needs)
     (λ c. search needs)
     (λ c. (simp (c .two-at2 .ensures .0, c .before .two-at .ensures .0), omega (arith, c .two-at2 .ensures .1, c .before .two-at .ensures .1))))

@@ -8,9 +8,7 @@ use Rattle.steps.proofs.decode.operand_op.Tie as tie
 pub operand-op-spec : {M : Type 1} → statement M
 unfolding operandOp
 operand-op-spec =
-    tie.close
-    (tie.spec
-    (λ c. simp (eq-eqb _ _ (c .if1 .taken)))
+    tie.close (tie.spec (λ c. simp (eq-eqb _ _ (c .if1 .taken)))
     (λ c. simp (eq-eqb _ _ (c .if2 .taken), ne-eqb _ _ (c .before .before .if1 .left)))
     (λ c. simp (eq-eqb _ _ (c .if3 .taken), ne-eqb _ _ (c .before .before .if2 .left), ne-eqb _ _ (c .before .before .before .before .if1 .left)))
     (λ c. let p = c .before .before .before .before in let q = p .before .before in

@@ -11,8 +11,7 @@ use Rattle.steps.proofs.doing.said.Tie as tie
 pub said-spec : {M : Type 1} → statement M
 unfolding effect holds
 said-spec =
-    tie.close
-    (tie.spec
+    tie.close (tie.spec
     (λ c h a b c2 d.
     let first = c .before .before in
     rw (says-nothing-early (first .args .x) (first .pre .0) (first .pre .1) (first .pre .2) (first .pre .3) (c .if1 .taken)))

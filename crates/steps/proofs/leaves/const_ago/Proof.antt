@@ -7,8 +7,6 @@ use Rattle.steps.proofs.leaves.const_ago.Tie as tie
 
 pub const-ago-spec : {M : Type 1} → statement M
 const-ago-spec =
-    tie.close
-    (tie.spec
-    (λ c κs. search needs)
+    tie.close (tie.spec (λ c κs. search needs)
     (λ c h is. rw (c .float-of .ensures) (sym (ago-const h _ _ _ is (c .before .if1 .taken))))
     (λ c h is. sym (ago-late h _ _ _ is (c .if1 .left))))

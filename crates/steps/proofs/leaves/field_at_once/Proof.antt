@@ -10,9 +10,5 @@ use Rattle.steps.proofs.leaves.field_at_once.Tie as tie
 pub field-at-once-spec : {M : Type 1} → statement M
 unfolding priceOf
 field-at-once-spec =
-    tie.close
-    (tie.spec
-    (λ c. search needs)
-    (λ c κs. search needs)
-    (λ c e. rw (lt-ltb _ _ (c .before .if1 .taken), c .field-in .ensures))
-    (λ c e. absurd (true≢false (sym e))))
+    tie.close (tie.spec (λ c. search needs) (λ c κs. search needs)
+    (λ c e. rw (lt-ltb _ _ (c .before .if1 .taken), c .field-in .ensures)) (λ c e. absurd (true≢false (sym e))))

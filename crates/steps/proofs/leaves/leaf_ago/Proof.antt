@@ -12,9 +12,7 @@ use Rattle.steps.proofs.leaves.leaf_ago.Tie as tie
 pub leaf-ago-spec : {M : Type 1} → statement M
 unfolding effect
 leaf-ago-spec =
-    tie.close
-    (tie.spec
-    (λ c κs. search needs)
+    tie.close (tie.spec (λ c κs. search needs)
     (λ c s a b c2 d y.
     let first = c .before .before .before .before in
     let g = first .args in

@@ -59,11 +59,7 @@ a-slot c e s a b c2 d y =
 
 pub leaf-at-once-spec : {M : Type 1} → statement M
 leaf-at-once-spec =
-    tie.close
-    (tie.spec
-    (λ c κs. search needs)
-    constant
-    (λ c κs. search needs)
+    tie.close (tie.spec (λ c κs. search needs) constant (λ c κs. search needs)
     (λ c κs.
     let base = c .before .before in
     let there = base .before .before .before in
@@ -73,6 +69,4 @@ leaf-at-once-spec =
     let base = c .before .before .before .before in
     let there = base .before .before .before in
     ends (there .before .before .before) _ (there .if1 .taken) (base .row-back .ensures))
-    a-slot
-    (λ c e. absurd (true≢false (sym e)))
-    (λ c e. absurd (true≢false (sym e))))
+    a-slot (λ c e. absurd (true≢false (sym e))) (λ c e. absurd (true≢false (sym e))))

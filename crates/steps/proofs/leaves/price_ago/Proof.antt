@@ -7,10 +7,7 @@ use Rattle.steps.proofs.leaves.price_ago.Tie as tie
 
 pub price-ago-spec : {M : Type 1} → statement M
 price-ago-spec =
-    tie.close
-    (tie.spec
-    (λ c κs. search needs)
-    (λ c κs. search needs)
+    tie.close (tie.spec (λ c κs. search needs) (λ c κs. search needs)
     (λ c.
     let t = c .before .before in
     let p = t .before .before .pre in

@@ -8,14 +8,9 @@ use Rattle.steps.proofs.leaves.price_in.Tie as tie
 pub price-in-spec : {M : Type 1} → statement M
 unfolding priceOf
 price-in-spec =
-    tie.close
-    (tie.spec
-    (λ c. search needs)
-    (λ c κs. search needs)
-    (λ c. simp (lt-ltb _ _ (c .before .if1 .taken)) (c .field-in .ensures))
-    (λ c κs. search needs)
-    (λ c κs. search needs)
-    (λ c κs. search needs)
+    tie.close (tie.spec (λ c. search needs) (λ c κs. search needs)
+    (λ c. simp (lt-ltb _ _ (c .before .if1 .taken)) (c .field-in .ensures)) (λ c κs. search needs)
+    (λ c κs. search needs) (λ c κs. search needs)
     (λ c.
     let p = c .before .before .before .before in
     simp (

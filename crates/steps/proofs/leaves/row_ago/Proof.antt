@@ -21,15 +21,9 @@ far c = let s = c .before in ends s (s .args .held - 1 - (s .args .n - s .args .
 
 pub row-ago-spec : {M : Type 1} → statement M
 row-ago-spec =
-    tie.close
-    (tie.spec
-    (λ c. search needs)
-    (λ c. search needs)
-    (λ c. omega (arith, near c))
+    tie.close (tie.spec (λ c. search needs) (λ c. search needs) (λ c. omega (arith, near c))
     (λ c. omega (arith, near c))
     (λ c. let p = c .before .pre in rw (place-ago _ _ _ (p .1) (p .2), lt-ltb _ _ (c .if1 .taken)))
-    (λ c. omega (arith, c .before .pre .2))
-    (λ c. omega (arith, c .before .pre .2))
-    (λ c. omega (arith, far c))
+    (λ c. omega (arith, c .before .pre .2)) (λ c. omega (arith, c .before .pre .2)) (λ c. omega (arith, far c))
     (λ c. omega (arith, far c))
     (λ c. let p = c .before .pre in rw (place-ago _ _ _ (p .1) (p .2), le-ltb _ _ (c .if1 .left))))

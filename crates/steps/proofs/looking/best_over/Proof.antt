@@ -65,10 +65,7 @@ none-left c =
 
 pub best-over-spec : {M : Type 1} → statement M
 best-over-spec =
-    tie.close
-    (tie.spec
-    Inv-loop
-    μ-loop
+    tie.close (tie.spec Inv-loop μ-loop
     (λ c.
     let s = c .before in
     let a = s .args in (
@@ -79,10 +76,7 @@ best-over-spec =
     (λ c κs. let p = c .before .before .before .pre .0 in (p .0, p .1, c .loop-test .taken, p .3))
     (λ c. omega (arith, c .before .passed-from .ensures .0))
     (λ c. let stop = c .before .before .passed-from .ensures .2 (c .if1 .taken) in omega (arith, stop .0))
-    (λ c. search needs)
-    missing
-    (λ c. search needs)
-    (λ c κs. search needs)
+    (λ c. search needs) missing (λ c. search needs) (λ c κs. search needs)
     (λ c.
     let row = c .before .before .before .before in
     let stop = row .before .before .passed-from .ensures .2 (row .if1 .taken) in

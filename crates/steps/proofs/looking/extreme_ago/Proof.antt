@@ -32,12 +32,8 @@ module _ (h : History) (kind : ℕ) (over : Series) (n back held : ℕ) (is : he
 
 pub extreme-ago-spec : {M : Type 1} → statement M
 extreme-ago-spec =
-    tie.close
-    (tie.spec
-    (λ c. sym (ago-late _ _ _ _ (ring-held _ _ _ _ (c .before .before .pre .0)) (c .if1 .taken)))
-    (λ c. search needs)
-    (λ c. search needs)
-    (λ c κs. search needs)
+    tie.close (tie.spec (λ c. sym (ago-late _ _ _ _ (ring-held _ _ _ _ (c .before .before .pre .0)) (c .if1 .taken)))
+    (λ c. search needs) (λ c. search needs) (λ c κs. search needs)
     (λ c.
     let t = c .before .before in
     sym (too-few _ _ _ _ _ _ (ring-held _ _ _ _ (t .before .before .pre .0)) (t .if1 .left) (rw (c .before .before2 .ensures) at (c .if2 .taken))))

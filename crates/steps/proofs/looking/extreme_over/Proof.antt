@@ -11,10 +11,7 @@ use Rattle.steps.proofs.looking.extreme_over.Tie as tie
 
 pub extreme-over-spec : {M : Type 1} → statement M
 extreme-over-spec =
-    tie.close
-    (tie.spec
-    (λ c κs. let p = c .before .pre in (p .0, p .1, omega (arith, p .2, p .3)))
-    (λ c. search needs)
+    tie.close (tie.spec (λ c κs. let p = c .before .pre in (p .0, p .1, omega (arith, p .2, p .3))) (λ c. search needs)
     (λ c. search needs)
     (λ c κs. let row = c .before .before .before in (row .before .before .pre, sym (c .before .start .given .1) ∙ row .series-at .ensures))
     (λ c.

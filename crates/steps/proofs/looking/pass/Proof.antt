@@ -21,12 +21,8 @@ first-row c =
 
 pub pass-spec : {M : Type 1} → statement M
 pass-spec =
-    tie.close
-    (tie.spec
+    tie.close (tie.spec
     (λ c κs. (c .before .before .before .before .pre .1, λ e. (omega (arith, c .before .if2 .taken), omega (arith, c .if3 .taken))))
-    (λ c. c .pass-rows .ensures)
-    (λ c κs. search needs)
-    (λ c κs. search needs)
-    first-row
+    (λ c. c .pass-rows .ensures) (λ c κs. search needs) (λ c κs. search needs) first-row
     (λ c κs. (c .before .before .pre .1, λ e. absurd (true≢false (sym e ∙ c .if1 .left))))
     (λ c. c .pass-rows2 .ensures))

@@ -88,23 +88,13 @@ again c =
 
 pub pass-rows-spec : {M : Type 1} → statement M
 pass-rows-spec =
-    tie.close
-    (tie.spec
-    Inv-loop
-    μ-loop
-    (λ c. (omega arith, omega arith, λ i l. absurd (omega (arith, l))))
+    tie.close (tie.spec Inv-loop μ-loop (λ c. (omega arith, omega arith, λ i l. absurd (omega (arith, l))))
     (λ c κs.
     let l = c .before .loop in
     let s = c .before .before .before in
     (room s (l .k) (l .at) (c .loop-test .taken) (l .inv .1), s .pre .1))
-    (λ c. search needs)
-    (λ c κs. search needs)
-    missing
-    (λ c. search needs)
-    (λ c κs. search needs)
-    higher
-    (λ c κs. search needs)
-    lower
+    (λ c. search needs) (λ c κs. search needs) missing (λ c. search needs) (λ c κs. search needs) higher
+    (λ c κs. search needs) lower
     (λ c.
     let test = c .before .before .before .before .before in
     let l = test .before .loop in
@@ -114,6 +104,5 @@ pass-rows-spec =
     let l = test .before .loop in
     omega (arith, room (test .before .before .before) (l .k) (l .at) (test .loop-test .taken) (l .inv .1)))
     (λ c. omega (arith, c .before .before .before .before .before .loop-test .taken))
-    (λ c. omega (arith, c .before .before .before .before .before .loop-test .taken))
-    again
+    (λ c. omega (arith, c .before .before .before .before .before .loop-test .taken)) again
     (λ c. (λ i l. c .before .loop .inv .2 i (omega (arith, l, c .loop-test .left)), refl)))

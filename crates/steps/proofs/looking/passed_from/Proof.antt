@@ -69,13 +69,6 @@ returns c =
 
 pub passed-from-spec : {M : Type 1} → statement M
 passed-from-spec =
-    tie.close
-    (tie.spec
-    (λ c. omega (arith, c .before .pre .2))
-    (λ c κs. search needs)
-    (λ c. omega (arith, ends c))
-    (λ c. omega (arith, ends c))
-    (λ c. omega (arith, c .before .before .pre .2))
-    (λ c κs. row-within c)
-    pass-requires
+    tie.close (tie.spec (λ c. omega (arith, c .before .pre .2)) (λ c κs. search needs) (λ c. omega (arith, ends c))
+    (λ c. omega (arith, ends c)) (λ c. omega (arith, c .before .before .pre .2)) (λ c κs. row-within c) pass-requires
     returns)

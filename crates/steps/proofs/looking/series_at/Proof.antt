@@ -19,11 +19,7 @@ ends c =
 
 pub series-at-spec : {M : Type 1} → statement M
 series-at-spec =
-    tie.close
-    (tie.spec
-    (λ c κs. search needs)
-    (λ c. omega (arith, ends c))
-    (λ c. omega (arith, ends c))
+    tie.close (tie.spec (λ c κs. search needs) (λ c. omega (arith, ends c)) (λ c. omega (arith, ends c))
     (λ c κs. search needs)
     (λ c.
     let place = c .before .before in

@@ -17,9 +17,7 @@ few-run bs n e = (omega arith, omega arith)
 pub run-from-spec : {M : Type 1} → statement M
 unfolding opsOf
 run-from-spec =
-    tie.close
-    (tie.spec
-    (λ c κs. search needs)
+    tie.close (tie.spec (λ c κs. search needs)
     (λ c κs. let few = few-run _ _ (c .steps-run .ensures) in (few .0, few .1, c .before .before .before .pre))
     (λ c.
     rw (← c .before .before .steps-run .ensures)

@@ -10,10 +10,7 @@ use Rattle.steps.proofs.machine.run_whole.Tie as tie
 
 pub run-whole-spec : {M : Type 1} → statement M
 run-whole-spec =
-    tie.close
-    (tie.spec
-    (λ c. search needs)
-    (λ c. search needs)
+    tie.close (tie.spec (λ c. search needs) (λ c. search needs)
     (λ c κs.
     let p = c .before .before .before .before .pre in
     (p .0, ((omega arith, omega arith, p .1 .1, p .1 .0, p .1 .2), record { long = length-replicate 1028 zero; none = refl })))

@@ -264,11 +264,7 @@ leaf-requires c κs =
 pub run-with-spec : {M : Type 1} → statement M
 unfolding Tries
 run-with-spec =
-    tie.close
-    (tie.spec
-    Inv-loop
-    μ-loop
-    (λ c κs. search needs)
+    tie.close (tie.spec Inv-loop μ-loop (λ c κs. search needs)
     (λ c κs. let held = c .row-count .ensures in (held, rw held (c .before .before .before .before .before .pre .1 .0 .2)))
     (λ c. let p = c .before .before .before .before .before .before .pre .1 in going-start _ _ _ _ _ _ _ _ _ _ (p .1) (p .0 .4))
     (λ c κs. search needs)
@@ -286,51 +282,14 @@ run-with-spec =
     let loop = c .before .before .before .before .before in
     omega (arith, loop .loop .inv .room .theres, fresh-long _ _ _ (loop .before .before .before .before .before .before .before .pre .1 .1)))
     (λ c. let test = c .before .before .before .before in omega (arith, test .before .loop .inv .pushed, test .loop-test .taken, c .if2 .taken))
-    (λ c. omega arith)
-    leaf-requires
-    (λ c κs. search needs)
-    (λ c. omega arith)
-    (λ c. omega arith)
-    (λ c. omega arith)
-    leaf-again
-    (λ c κs. search needs)
-    (λ c. omega arith)
-    (λ c κs. search needs)
-    (λ c. omega arith)
-    (λ c κs. search needs)
-    (λ c κs. search needs)
-    (λ c κs. search needs)
-    compare-on
-    (λ c. omega arith)
-    compare-again
-    (λ c κs. search needs)
-    (λ c κs. search needs)
-    (λ c κs. search needs)
-    (λ c. omega arith)
-    (λ c. omega arith)
-    test-again
-    (λ c κs. search needs)
-    (λ c κs. search needs)
-    (λ c. omega arith)
-    jump-again
-    (λ c. omega arith)
-    (λ c. omega arith)
-    stay-again
-    (λ c κs. search needs)
-    (λ c. omega arith)
-    (λ c κs. search needs)
-    arith-reads
-    (λ c κs. search needs)
-    (λ c κs. search needs)
-    arith-fits
-    (λ c κs. search needs)
-    arith-room
-    arith-tall
-    arith-on
-    arith-less
-    arith-again
-    (λ c κs. search needs)
-    (λ c κs. search needs)
+    (λ c. omega arith) leaf-requires (λ c κs. search needs) (λ c. omega arith) (λ c. omega arith) (λ c. omega arith)
+    leaf-again (λ c κs. search needs) (λ c. omega arith) (λ c κs. search needs) (λ c. omega arith)
+    (λ c κs. search needs) (λ c κs. search needs) (λ c κs. search needs) compare-on (λ c. omega arith) compare-again
+    (λ c κs. search needs) (λ c κs. search needs) (λ c κs. search needs) (λ c. omega arith) (λ c. omega arith)
+    test-again (λ c κs. search needs) (λ c κs. search needs) (λ c. omega arith) jump-again (λ c. omega arith)
+    (λ c. omega arith) stay-again (λ c κs. search needs) (λ c. omega arith) (λ c κs. search needs) arith-reads
+    (λ c κs. search needs) (λ c κs. search needs) arith-fits (λ c κs. search needs) arith-room arith-tall arith-on
+    arith-less arith-again (λ c κs. search needs) (λ c κs. search needs)
     (λ c.
     let i = c .before .before .before in
     let loop = i .before .before .before .before .before .before .before .before .before .before .before in
@@ -339,20 +298,8 @@ run-with-spec =
     let i = c .before .before .before in
     let loop = i .before .before .before .before .before .before .before .before .before .before .before in
     omega (arith, loop .loop .inv .room .theres, fresh-long _ _ _ (loop .before .before .before .before .before .before .before .pre .1 .1)))
-    look-stops
-    (λ c κs. search needs)
-    look-counts
-    look-requires
-    look-fits
-    look-room
-    look-tall
-    look-on
-    look-less
-    look-again
-    said-requires
-    set-on
-    (λ c. omega arith)
-    set-again
+    look-stops (λ c κs. search needs) look-counts look-requires look-fits look-room look-tall look-on look-less
+    look-again said-requires set-on (λ c. omega arith) set-again
     (λ c. omega (arith, c .before .loop .inv .room .numbers, c .before .before .before .before .before .before .before .before .pre .1 .1 .long))
     (λ c. omega (arith, c .before .loop .inv .room .theres, fresh-long _ _ _ (c .before .before .before .before .before .before .before .before .pre .1 .1)))
     (λ c. came-end _ _ _ _ _ _ _ _ (c .before .loop .inv .came) (c .loop-test .left)))

@@ -22,19 +22,7 @@ crosses c =
 
 pub cross-at-spec : {M : Type 1} → statement M
 cross-at-spec =
-    tie.close
-    (tie.spec
-    (λ c. search needs)
-    (λ c some. absurd (omega (arith, some)))
-    (λ c. search needs)
-    (λ c κs. search needs)
-    (λ c κs. search needs)
-    (λ c. search needs)
-    (λ c κs. search needs)
-    (λ c. search needs)
-    (λ c κs. search needs)
-    (λ c κs. search needs)
-    crosses
-    (λ c some. absurd (omega (arith, some)))
-    (λ c some. absurd (omega (arith, some)))
-    (λ c some. absurd (omega (arith, some))))
+    tie.close (tie.spec (λ c. search needs) (λ c some. absurd (omega (arith, some))) (λ c. search needs)
+    (λ c κs. search needs) (λ c κs. search needs) (λ c. search needs) (λ c κs. search needs) (λ c. search needs)
+    (λ c κs. search needs) (λ c κs. search needs) crosses (λ c some. absurd (omega (arith, some)))
+    (λ c some. absurd (omega (arith, some))) (λ c some. absurd (omega (arith, some))))

@@ -91,36 +91,17 @@ said-requires c κs =
 
 pub run-tests-spec : {M : Type 1} → statement M
 run-tests-spec =
-    tie.close
-    (tie.spec
-    Inv-loop
-    μ-loop
-    (λ c κs. search needs)
+    tie.close (tie.spec Inv-loop μ-loop (λ c κs. search needs)
     (λ c κs. let held = c .row-count .ensures in (held, rw held (c .before .before .before .pre .2)))
-    (λ c. came-start _ _ _ _)
-    (λ c κs. search needs)
-    (λ c κs. search needs)
+    (λ c. came-start _ _ _ _) (λ c κs. search needs) (λ c κs. search needs)
     (λ c.
     let loop = c .before .before .before .before in
     omega (arith, c .before .before .before .loop-test .taken, loop .loop .inv .seen, loop .before .before .before .before .before .pre .1))
-    (λ c κs. search needs)
-    (λ c. omega arith)
-    jump-again
-    (λ c. omega arith)
-    (λ c. omega arith)
-    stay-again
-    test-requires
-    test-counts
-    test-on
-    test-less
-    test-again
-    (λ c κs. search needs)
+    (λ c κs. search needs) (λ c. omega arith) jump-again (λ c. omega arith) (λ c. omega arith) stay-again test-requires
+    test-counts test-on test-less test-again (λ c κs. search needs)
     (λ c.
     let test = c .before .before .before .before .before .before .before .before in
     omega (arith, test .loop-test .taken, test .before .loop .inv .seen, test .before .before .before .before .before .before .pre .1))
-    said-requires
-    (λ c. omega arith)
-    (λ c. omega arith)
-    said-again
+    said-requires (λ c. omega arith) (λ c. omega arith) said-again
     (λ c. c .before .before .before .before .before .before .before .before .before .loop .inv)
     (λ c. c .before .loop .inv))

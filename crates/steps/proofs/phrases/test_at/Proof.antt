@@ -28,19 +28,7 @@ cross-requires c κs =
 
 pub test-at-spec : {M : Type 1} → statement M
 test-at-spec =
-    tie.close
-    (tie.spec
-    (λ c. search needs)
-    (λ c some. absurd (omega (arith, some)))
-    (λ c κs. search needs)
-    (λ c. search needs)
-    (λ c κs. search needs)
-    (λ c. search needs)
-    (λ c κs. search needs)
-    (λ c κs. search needs)
-    (λ c κs. search needs)
-    compares
-    cross-requires
-    (λ c. search needs)
-    (λ c some. absurd (omega (arith, some)))
+    tie.close (tie.spec (λ c. search needs) (λ c some. absurd (omega (arith, some))) (λ c κs. search needs)
+    (λ c. search needs) (λ c κs. search needs) (λ c. search needs) (λ c κs. search needs) (λ c κs. search needs)
+    (λ c κs. search needs) compares cross-requires (λ c. search needs) (λ c some. absurd (omega (arith, some)))
     (λ c some. absurd (omega (arith, some))))

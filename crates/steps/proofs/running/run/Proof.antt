@@ -8,16 +8,10 @@ use Rattle.steps.proofs.running.run.Tie as tie
 pub run-spec : {M : Type 1} → statement M
 unfolding ranIf runs
 run-spec =
-    tie.close
-    (tie.spec
-    (λ c. rw (lt-ltb _ _ (c .if1 .taken)))
+    tie.close (tie.spec (λ c. rw (lt-ltb _ _ (c .if1 .taken)))
     (λ c. rw (le-ltb _ _ (c .before .if1 .left), lt-ltb _ _ (c .if2 .taken)))
     (λ c. rw (le-ltb _ _ (c .before .before .if1 .left), le-ltb _ _ (c .before .if2 .left), lt-ltb _ _ (c .if3 .taken)))
-    (λ c κs. search needs)
-    (λ c κs. search needs)
-    (λ c κs. search needs)
-    (λ c. search needs)
-    (λ c κs. search needs)
+    (λ c κs. search needs) (λ c κs. search needs) (λ c κs. search needs) (λ c. search needs) (λ c κs. search needs)
     (λ c. let p = c .before .before .before .before in let q = p .before in let r = q .before in let s = r .before in let u = s .before in let v = u .before in
     let w = v .before in
     rw (

@@ -37,18 +37,9 @@ abbrev μ-loop : tie.MeasureT-loop
 pub check-spec : {M : Type 1} → statement M
 unfolding formed
 check-spec =
-    tie.close
-    (tie.spec
-    Inv-loop
-    μ-loop
-    (λ c. rw (ne-eqb _ _ (c .if1 .taken)))
-    (λ c. rw (eq-eqb _ _ (c .before .if1 .left), lt-ltb _ _ (c .if2 .taken)))
-    (λ c. (omega arith, simp sub-zero))
-    (λ c. search needs)
-    (λ c. search needs)
-    (λ c. search needs)
-    (λ c κs. search needs)
-    (λ c. search needs)
+    tie.close (tie.spec Inv-loop μ-loop (λ c. rw (ne-eqb _ _ (c .if1 .taken)))
+    (λ c. rw (eq-eqb _ _ (c .before .if1 .left), lt-ltb _ _ (c .if2 .taken))) (λ c. (omega arith, simp sub-zero))
+    (λ c. search needs) (λ c. search needs) (λ c. search needs) (λ c κs. search needs) (λ c. search needs)
     (λ c. omega arith)
     (λ c. (
       omega arith,

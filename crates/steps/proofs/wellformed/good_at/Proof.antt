@@ -7,12 +7,7 @@ use Rattle.steps.proofs.wellformed.good_at.Tie as tie
 
 pub good-at-spec : {M : Type 1} → statement M
 good-at-spec =
-    tie.close
-    (tie.spec
-    (λ c κs. search needs)
-    (λ c. search needs)
-    (λ c κs. search needs)
-    (λ c κs. search needs)
+    tie.close (tie.spec (λ c κs. search needs) (λ c. search needs) (λ c κs. search needs) (λ c κs. search needs)
     (λ c.
     rw (
       of-words (c .before .before .before .before .before .args .list .now) _
@@ -21,6 +16,5 @@ good-at-spec =
       ← c .before .before .eight-at2 .ensures,
       c .before .quick-yes .ensures (c .if1 .taken),
     ))
-    (λ c κs. search needs)
-    (λ c κs. search needs)
+    (λ c κs. search needs) (λ c κs. search needs)
     (λ c. rw (← c .before .read-step .ensures .0) (c .good-step .ensures)))

@@ -7,10 +7,6 @@ use Rattle.steps.proofs.wellformed.good_step.Tie as tie
 pub good-step-spec : {M : Type 1} → statement M
 unfolding goodStep
 good-step-spec =
-    tie.close
-    (tie.spec
-    (λ c κs. search needs)
-    (λ c κs. search needs)
-    (λ c κs. search needs)
+    tie.close (tie.spec (λ c κs. search needs) (λ c κs. search needs) (λ c κs. search needs)
     (λ c. rw (← c .before .before .before .op-of .ensures, ← c .before .before .plain .ensures, c .before .if1 .taken) (c .bounded .ensures))
     (λ c. rw (← c .before .before .op-of .ensures, ← c .before .plain .ensures, c .if1 .left)))

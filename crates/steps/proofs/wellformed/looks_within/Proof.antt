@@ -19,10 +19,7 @@ shifted back rest depth h =
 pub looks-within-spec : {M : Type 1} → statement M
 unfolding looksWithin
 looks-within-spec =
-    tie.close
-    (tie.spec
-    (λ c κs. search needs)
-    (λ c κs. search needs)
+    tie.close (tie.spec (λ c κs. search needs) (λ c κs. search needs)
     (λ c.
     let t = c .before .before in
     let a = t .before .before .args in

@@ -6,14 +6,10 @@ use Rattle.steps.proofs.wellformed.quick_yes.Tie as tie
 
 pub quick-yes-spec : {M : Type 1} → statement M
 quick-yes-spec =
-    tie.close
-    (tie.spec
-    (λ c e slots. constant-told slots _ _ _ _ (c .if2 .taken) (ltb-true _ _ e))
-    (λ c e slots. cc)
+    tie.close (tie.spec (λ c e slots. constant-told slots _ _ _ _ (c .if2 .taken) (ltb-true _ _ e)) (λ c e slots. cc)
     (λ c e slots. rw (c .before .before .if1 .left) (test-told slots _ _ _ (c .before .if3 .taken) (c .if4 .taken)))
     (λ c e slots. rw (c .before .before .before .if1 .left) (price-told slots _ _ _ (c .before .if5 .taken) (c .if6 .taken) (ltb-true _ _ e)))
     (λ c e slots.
     rw (c .before .before .before .before .if1 .left)
     (jump-told slots _ _ _ (c .before .before .before .before .before .pre) (c .before .if7 .taken) (c .if8 .taken) (leb-true _ _ e)))
-    (λ c e slots. cc)
-    (λ c e slots. cc))
+    (λ c e slots. cc) (λ c e slots. cc))

@@ -58,17 +58,5 @@ returns-6 c = kept _ _ (search needs) (cc) (cc) (cc) (search needs)
 
 pub header-refusal-spec : {M : Type 1} → statement M
 header-refusal-spec =
-    tie.close
-    (tie.spec
-    returns
-    (λ c κs. search needs)
-    returns-2
-    (λ c κs. search needs)
-    returns-3
-    (λ c κs. search needs)
-    returns-4
-    (λ c κs. search needs)
-    (λ c. search needs)
-    (λ c. search needs)
-    returns-5
-    returns-6)
+    tie.close (tie.spec returns (λ c κs. search needs) returns-2 (λ c κs. search needs) returns-3 (λ c κs. search needs)
+    returns-4 (λ c κs. search needs) (λ c. search needs) (λ c. search needs) returns-5 returns-6)

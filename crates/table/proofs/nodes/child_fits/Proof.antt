@@ -9,9 +9,6 @@ use Rattle.table.proofs.nodes.child_fits.Tie as tie
 pub child-fits-spec : {M : Type 1} → statement M
 unfolding childFits
 child-fits-spec =
-    tie.close
-    (tie.spec
-    (λ c κs. search needs)
-    (λ c κs. search needs)
+    tie.close (tie.spec (λ c κs. search needs) (λ c κs. search needs)
     (λ c. rw (eq-eqb _ _ (c .before .before .before .if1 .taken), ← c .before .before .node-at .ensures, ← c .before .kind-of .ensures))
     (λ c. simp (ne-eqb _ _ (c .if1 .left))))

@@ -9,8 +9,5 @@ use Rattle.table.proofs.nodes.kind_right.Tie as tie
 pub kind-right-spec : {M : Type 1} → statement M
 unfolding kindRight
 kind-right-spec =
-    tie.close
-    (tie.spec
-    (λ c. search needs)
-    (λ c. simp (eq-eqb _ _ (c .if1 .taken)))
+    tie.close (tie.spec (λ c. search needs) (λ c. simp (eq-eqb _ _ (c .if1 .taken)))
     (λ c. simp (ne-eqb _ _ (c .if1 .left))))

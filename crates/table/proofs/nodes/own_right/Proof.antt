@@ -26,10 +26,5 @@ module _ (form : Form) (n : Node) (w : Kind) where
 
 pub own-right-spec : {M : Type 1} → statement M
 own-right-spec =
-    tie.close
-    (tie.spec
-    (λ c. unknown _ _ _ (search needs))
-    (λ c κs. search needs)
-    (λ c κs. search needs)
-    (λ c. c .fields-right .ensures ∙ rest _ _ _ (search needs) (cc))
-    (λ c. newer _ _ _ (search needs) (cc)))
+    tie.close (tie.spec (λ c. unknown _ _ _ (search needs)) (λ c κs. search needs) (λ c κs. search needs)
+    (λ c. c .fields-right .ensures ∙ rest _ _ _ (search needs) (cc)) (λ c. newer _ _ _ (search needs) (cc)))

@@ -47,15 +47,5 @@ returns-2 c = sym (c .before .loop .inv .1 ∙ wrong-none _ _ _ (search needs))
 
 pub wrong-node-spec : {M : Type 1} → statement M
 wrong-node-spec =
-    tie.close
-    (tie.spec
-    Inv-loop
-    μ-loop
-    (λ c κs. search needs)
-    loop-holds
-    (λ c κs. search needs)
-    (λ c. search needs)
-    (λ c. search needs)
-    loop-again
-    returns
-    returns-2)
+    tie.close (tie.spec Inv-loop μ-loop (λ c κs. search needs) loop-holds (λ c κs. search needs) (λ c. search needs)
+    (λ c. search needs) loop-again returns returns-2)

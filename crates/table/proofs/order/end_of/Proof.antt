@@ -46,15 +46,5 @@ returns-2 c =
 
 pub end-of-spec : {M : Type 1} → statement M
 end-of-spec =
-    tie.close
-    (tie.spec
-    (λ c κs. search needs)
-    (λ c κs. search needs)
-    (λ c. search needs)
-    (λ c κs. search needs)
-    (λ c κs. search needs)
-    end-below-requires
-    (λ c. search needs)
-    (λ c. search needs)
-    (λ c. search needs)
-    returns-2)
+    tie.close (tie.spec (λ c κs. search needs) (λ c κs. search needs) (λ c. search needs) (λ c κs. search needs)
+    (λ c κs. search needs) end-below-requires (λ c. search needs) (λ c. search needs) (λ c. search needs) returns-2)

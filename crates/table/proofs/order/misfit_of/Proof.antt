@@ -32,13 +32,5 @@ returns-5 c =
 
 pub misfit-of-spec : {M : Type 1} → statement M
 misfit-of-spec =
-    tie.close
-    (tie.spec
-    returns
-    (λ c κs. search needs)
-    returns-2
-    (λ c. search needs)
-    (λ c. search needs)
-    returns-3
-    returns-4
-    returns-5)
+    tie.close (tie.spec returns (λ c κs. search needs) returns-2 (λ c. search needs) (λ c. search needs) returns-3
+    returns-4 returns-5)

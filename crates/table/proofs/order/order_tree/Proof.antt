@@ -39,15 +39,5 @@ returns c = order-at _ _ _ _ _ _ (omega arith) (c .before .loop .inv .3)
 
 pub order-tree-spec : {M : Type 1} → statement M
 order-tree-spec =
-    tie.close
-    (tie.spec
-    Inv-loop
-    μ-loop
-    loop-holds
-    (λ c. search needs)
-    end-of-requires
-    (λ c. search needs)
-    (λ c. search needs)
-    (λ c. search needs)
-    loop-again
-    returns)
+    tie.close (tie.spec Inv-loop μ-loop loop-holds (λ c. search needs) end-of-requires (λ c. search needs)
+    (λ c. search needs) (λ c. search needs) loop-again returns)

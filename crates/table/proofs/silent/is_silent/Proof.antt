@@ -7,9 +7,7 @@ use Rattle.table.proofs.silent.is_silent.Tie as tie
 
 pub is-silent-spec : {M : Type 1} → statement M
 is-silent-spec =
-    tie.close
-    (tie.spec
-    (λ c κs. search needs)
+    tie.close (tie.spec (λ c κs. search needs)
     (λ c. rw (← c .before .before .node-at .ensures, lt-leb 16 (c .before .before .node-at .result .kind) (c .if1 .taken)))
     (λ c.
     let n = c .before .before .before .before in

@@ -9,9 +9,7 @@ use Rattle.table.proofs.silent.list_all.Tie as tie
 pub list-all-spec : {M : Type 1} → statement M
 unfolding WholeTrees fourSilent
 list-all-spec =
-    tie.close
-    (tie.spec
-    (λ c κs. (omega arith, (c .before .before .before .pre 0 (omega arith), omega arith)))
+    tie.close (tie.spec (λ c κs. (omega arith, (c .before .before .before .pre 0 (omega arith), omega arith)))
     (λ c κs.
     let first = c .before .before .before in
     let start = first .before .before .before .before in

@@ -52,29 +52,13 @@ no-again c =
 
 pub list-tree-spec : {M : Type 1} → statement M
 list-tree-spec =
-    tie.close
-    (tie.spec
-    Inv-loop
-    μ-loop
-    (λ c κs. search needs)
-    (λ c. search needs)
-    (λ c κs. search needs)
-    weigh-requires
+    tie.close (tie.spec Inv-loop μ-loop (λ c κs. search needs) (λ c. search needs) (λ c κs. search needs) weigh-requires
     (λ c.
     let start = c .before .before .before .before .before in
     rw (c .before .before .root .ensures .0)
     (listing-start _ _ _ _ _ _ (omega (arith, spans (start .args .t .now) (start .args .x))) (start .pre .1 .1)))
-    (λ c. search needs)
-    (λ c. search needs)
-    (λ c κs. search needs)
-    (λ c κs. search needs)
-    (λ c. search needs)
-    (λ c. search needs)
-    (λ c. search needs)
-    yes-again
-    (λ c. search needs)
-    (λ c. search needs)
-    no-again
+    (λ c. search needs) (λ c. search needs) (λ c κs. search needs) (λ c κs. search needs) (λ c. search needs)
+    (λ c. search needs) (λ c. search needs) yes-again (λ c. search needs) (λ c. search needs) no-again
     (λ c. omega (arith, c .before .loop .inv .long))
     (λ c.
     let e = c .before .before .before .root2 .ensures .0 in (

@@ -7,12 +7,7 @@ use Rattle.table.proofs.silent.silent_nodes.Tie as tie
 
 pub silent-nodes-spec : {M : Type 1} → statement M
 silent-nodes-spec =
-    tie.close
-    (tie.spec
-    (λ c κs. search needs)
-    (λ c. search needs)
-    (λ c. search needs)
-    (λ c. search needs)
+    tie.close (tie.spec (λ c κs. search needs) (λ c. search needs) (λ c. search needs) (λ c. search needs)
     (λ c κs.
     let told = c .before .before in
     let check = told .before .before .before in

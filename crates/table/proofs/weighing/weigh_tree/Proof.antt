@@ -46,18 +46,5 @@ returns c = words-at _ _ _ _ _ _ (omega arith) (c .before .loop .inv .3)
 
 pub weigh-tree-spec : {M : Type 1} → statement M
 weigh-tree-spec =
-    tie.close
-    (tie.spec
-    Inv-loop
-    μ-loop
-    loop-holds
-    (λ c. search needs)
-    (λ c κs. search needs)
-    most-below-requires
-    add-capped
-    (λ c κs. search needs)
-    (λ c. search needs)
-    (λ c. search needs)
-    (λ c. search needs)
-    loop-again
-    returns)
+    tie.close (tie.spec Inv-loop μ-loop loop-holds (λ c. search needs) (λ c κs. search needs) most-below-requires
+    add-capped (λ c κs. search needs) (λ c. search needs) (λ c. search needs) (λ c. search needs) loop-again returns)

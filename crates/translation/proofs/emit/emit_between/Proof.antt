@@ -10,8 +10,7 @@ use Rattle.translation.proofs.emit.emit_between.Tie as tie
 pub emit-between-spec : {M : Type 1} → statement M
 unfolding stepOf
 emit-between-spec =
-    tie.close
-    (tie.spec
+    tie.close (tie.spec
     (λ c κs. let s = c .before .before .before in (between-reach _ _ _ (s .pre .0) .0, fits-first _ _ (rw code-between at (s .pre .1))))
     (λ c κs. let p = c .before .before .before in let s = p .before .before .before .before in
     (between-reach _ _ _ (s .pre .0) .1, fits-first _ _ (fits-rest _ _ (p .emit-operand .ensures) (rw code-between at (s .pre .1)))))

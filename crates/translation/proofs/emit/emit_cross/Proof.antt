@@ -11,8 +11,7 @@ use Rattle.translation.proofs.emit.emit_cross.Tie as tie
 pub emit-cross-spec : {M : Type 1} → statement M
 unfolding stepOf
 emit-cross-spec =
-    tie.close
-    (tie.spec
+    tie.close (tie.spec
     (λ c κs. let s = c .before .before .before in (cross-reach _ _ _ (s .pre .0) 0 (omega arith), fits-first _ _ (rw code-cross at (s .pre .1))))
     (λ c κs. let p = c .before .before .before in let s = p .before .before .before .before in
     (cross-reach _ _ _ (s .pre .0) 1 (omega arith), fits-first _ _ (fits-rest _ _ (p .emit-two .ensures) (rw code-cross at (s .pre .1)))))

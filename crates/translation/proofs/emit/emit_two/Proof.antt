@@ -6,9 +6,7 @@ use Rattle.translation.proofs.emit.emit_two.Tie as tie
 
 pub emit-two-spec : {M : Type 1} → statement M
 emit-two-spec =
-    tie.close
-    (tie.spec
-    (λ c κs. let s = c .before .before .before in (s .pre .0 .0, fits-first _ _ (s .pre .1)))
+    tie.close (tie.spec (λ c κs. let s = c .before .before .before in (s .pre .0 .0, fits-first _ _ (s .pre .1)))
     (λ c κs. let s = c .before .before .before .before .before .before .before in
     (s .pre .0 .1, fits-rest _ _ (c .before .before .before .emit-operand .ensures) (s .pre .1)))
     (λ c. search needs)

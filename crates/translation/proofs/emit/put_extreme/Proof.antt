@@ -29,17 +29,8 @@ returns-2 c =
 
 pub put-extreme-spec : {M : Type 1} → statement M
 put-extreme-spec =
-    tie.close
-    (tie.spec
-    (λ c κs. search needs)
-    (λ c. omega (arith, c .before2 .ensures, c .before .before .pre .0))
-    (λ c. search needs)
-    (λ c. search needs)
-    (λ c κs. fits-one _ (c .before .before .before .before .before .before .pre .1))
-    (λ c. search needs)
-    (λ c κs. search needs)
-    (λ c κs. fits-one _ (c .before .before .before .before .before .before .before .pre .1))
-    (λ c. search needs)
-    returns
-    (λ c. search needs)
-    returns-2)
+    tie.close (tie.spec (λ c κs. search needs) (λ c. omega (arith, c .before2 .ensures, c .before .before .pre .0))
+    (λ c. search needs) (λ c. search needs)
+    (λ c κs. fits-one _ (c .before .before .before .before .before .before .pre .1)) (λ c. search needs)
+    (λ c κs. search needs) (λ c κs. fits-one _ (c .before .before .before .before .before .before .before .pre .1))
+    (λ c. search needs) returns (λ c. search needs) returns-2)
