@@ -16,15 +16,14 @@ use Rattle.refusals.specs.declared.verdict.Verdict.{Verdict}
 use Rattle.refusals.specs.declared.verdict.Verdict.the-variants.{Fine, Bad}
 use Rattle.refusals.specs.Lines.{judged}
 use Rattle.refusals.specs.Judgement.{finishJudged}
-use Rattle.refusals.specs.Laws.Lines.{below-fine, below-bad}
 use Rattle.engine.specs.declared.answer.Finished.{Finished}
 use Rattle.engine.specs.declared.answer.Finished.the-variants.{Refused, Done}
 use Rattle.engine.specs.declared.answer.Ended.{Ended}
 use Rattle.engine.specs.Step.{With, Is}
 use Rattle.engine.specs.Finish.{ended, concluded, finishOf}
-use Rattle.capi.specs.Call.{Call, answerWord, metricLines}
+use Rattle.capi.specs.Call.{answerWord, metricLines}
 use Rattle.capi.specs.Bars.{lentLines}
-use Rattle.capi.specs.Finish.{FinishLent, finishGives, finishCall}
+use Rattle.capi.specs.Finish.{finishGives, finishCall}
 use Rattle.capi.proofs.Calling.{call-bad, call-refused, call-gives}
 
 -- a refused end changes no room
@@ -38,41 +37,30 @@ finish-keeps : (s : Settings) (t : State) (m : Rooms) (r : Refusal) (u : State) 
 unfolding finishOf
 finish-keeps s t m r u e = by-verdict (finishJudged s t m) t m (ended s t m) r u e
 
-module _ (settings state : List ℕ) (m : Rooms) (metrics : List ℕ) where
-  -- what a call that changes nothing answers
-  abbrev kept : ℕ → Call FinishLent
-  kept a = record { answer = a; lent = record { state = state; equity = m .equity; trades = m .trades; metrics = metrics } }
-
-  pub finish-short : {r : Refusal} {a : ℕ} → judged (lentLines settings state (m .rows)) ≡ Bad r → a ≡ answerWord r
-      → finishCall settings state m metrics ≡ kept a
+module _ (settings state : List ℕ) (m : Rooms) (metrics : List ℕ) {v : Verdict}
+    (lent : v ≡ judged (lentLines settings state (m .rows) ++ metricLines metrics)) where
+  pub finish-short : {r : Refusal} {a : ℕ} → v ≡ Bad r → a ≡ answerWord r → finishCall settings state m metrics
+      ≡ record { answer = a; lent = record { state = state; equity = m .equity; trades = m .trades; metrics = metrics } }
   unfolding finishCall
-  finish-short {r} bad word = call-bad _ _ _ (below-bad (lentLines settings state (m .rows)) (metricLines metrics) r bad) word
+  finish-short bad word = call-bad _ _ _ (sym lent ∙ bad) word
 
-  module _ {v : Verdict} (fine : judged (lentLines settings state (m .rows)) ≡ Fine) (room : v ≡ judged (metricLines metrics)) where
-    all-lent : judged (lentLines settings state (m .rows) ++ metricLines metrics) ≡ v
-    all-lent = below-fine (lentLines settings state (m .rows)) (metricLines metrics) fine ∙ sym room
+  module _
+      {s : Settings} {t : State} {finished : Finished} {es ts : List ℕ} (all : v ≡ Fine) (read : s ≡ settingsOf settings) (given : t ≡ stateOf state)
+      (ran : Is Finished (finishOf s t m) finished (m .rows) es ts) where
+    finish-ran : let d = finishOf (settingsOf settings) (stateOf state) m in
+        finishGives (d .result) state (d .rooms) metrics ≡ finishGives finished state (rooms (m .rows) es ts) metrics
+    finish-ran = let d = rw (read, given) at ran in simp (d .result, d .rows, d .equity, d .trades)
 
-    pub finish-roomless : {r : Refusal} {a : ℕ} → v ≡ Bad r → a ≡ answerWord r → finishCall settings state m metrics ≡ kept a
-    unfolding finishCall
-    finish-roomless bad word = call-bad _ _ _ (all-lent ∙ bad) word
+    pub finish-refused : {r : Refusal} {a : ℕ} {u : State} → finished ≡ Refused r u → a ≡ answerWord r
+        → finishCall settings state m metrics ≡ record { answer = a; lent = record { state = state; equity = es; trades = ts; metrics = metrics } }
+    unfolding finishCall finishGives
+    finish-refused {r = r} {u = u} refused word =
+        let d = rw (read, given) at ran in
+        let unchanged = finish-keeps (settingsOf settings) (stateOf state) m r u (sym (d .result) ∙ refused) in
+        call-refused _ _ _ (sym lent ∙ all) (finish-ran ∙ simp refused) word ∙ simp (d .equity, d .trades, unchanged)
 
-    module _
-        {s : Settings} {t : State} {finished : Finished} {es ts : List ℕ} (all : v ≡ Fine) (read : s ≡ settingsOf settings) (given : t ≡ stateOf state)
-        (ran : Is Finished (finishOf s t m) finished (m .rows) es ts) where
-      finish-ran : let d = finishOf (settingsOf settings) (stateOf state) m in
-          finishGives (d .result) state (d .rooms) metrics ≡ finishGives finished state (rooms (m .rows) es ts) metrics
-      finish-ran = let d = rw (read, given) at ran in simp (d .result, d .rows, d .equity, d .trades)
-
-      pub finish-refused : {r : Refusal} {a : ℕ} {u : State} → finished ≡ Refused r u → a ≡ answerWord r
-          → finishCall settings state m metrics ≡ record { answer = a; lent = record { state = state; equity = es; trades = ts; metrics = metrics } }
-      unfolding finishCall finishGives
-      finish-refused {r = r} {u = u} refused word =
-          let d = rw (read, given) at ran in
-          let unchanged = finish-keeps (settingsOf settings) (stateOf state) m r u (sym (d .result) ∙ refused) in
-          call-refused _ _ _ (all-lent ∙ all) (finish-ran ∙ simp refused) word ∙ simp (d .equity, d .trades, unchanged)
-
-      pub finish-done : {next : State} {figures : Metrics} {words nine : List ℕ} → finished ≡ Done next figures
-          → words ≡ overwrite state 0 (wordsOf next) → nine ≡ overwrite metrics 0 (Figures.figureWords figures)
-          → finishCall settings state m metrics ≡ record { answer = 0; lent = record { state = words; equity = es; trades = ts; metrics = nine } }
-      unfolding finishCall finishGives
-      finish-done done put nine = call-gives _ _ _ (all-lent ∙ all) (finish-ran ∙ simp (done, put, nine))
+    pub finish-done : {next : State} {figures : Metrics} {words nine : List ℕ} → finished ≡ Done next figures
+        → words ≡ overwrite state 0 (wordsOf next) → nine ≡ overwrite metrics 0 (Figures.figureWords figures)
+        → finishCall settings state m metrics ≡ record { answer = 0; lent = record { state = words; equity = es; trades = ts; metrics = nine } }
+    unfolding finishCall finishGives
+    finish-done done put nine = call-gives _ _ _ (sym lent ∙ all) (finish-ran ∙ simp (done, put, nine))

@@ -5,7 +5,7 @@ ghost use Rattle.capi.specs.Bars.{stepCall};
 ghost use Rattle.capi.specs.Finish.{finishCall};
 use crate::calls::answer_word;
 use crate::calls::judge_metrics;
-use crate::calls::judge_words;
+use crate::calls::judge_rooms;
 use crate::day::call_bars;
 use crate::figures::put_metrics;
 use engine::answer::Finished;
@@ -13,6 +13,7 @@ use records::settings::settings_of;
 use records::state_words::put_state;
 use records::state_words::state_of;
 use refusals::verdict::Verdict;
+use refusals::verdict::first_bad;
 
 // One bar.
 #[no_mangle]
@@ -76,13 +77,9 @@ pub extern "C" fn ysh_finish(
         } ⌝ }
 {
     let chosen = settings_of(settings);
-    if let Verdict::Bad(refusal) = refusals::rooms::judge_room(chosen, rows) {
-        return answer_word(refusal);
-    }
-    if let Verdict::Bad(refusal) = judge_words(settings, state) {
-        return answer_word(refusal);
-    }
-    if let Verdict::Bad(refusal) = judge_metrics(metrics) {
+    let below = judge_metrics(metrics);
+    let lent = first_bad(judge_rooms(chosen, settings, state, rows), below);
+    if let Verdict::Bad(refusal) = lent {
         return answer_word(refusal);
     }
     let finished = ending::finish(chosen, state_of(state), rows, equity, trades);

@@ -1,8 +1,14 @@
 // What every call shares: the word that it answers, and refusal 10 for the rooms that only the C calls have.
 ghost use mathlib.Core.Path.{_≡_};
+ghost use Rattle.records.specs.Settings.{settingsOf};
 ghost use Rattle.refusals.specs.Lines.{judged};
 ghost use Rattle.capi.specs.Call.{answerWord, bitOf, wordLines, metricLines};
+ghost use Rattle.capi.specs.Bars.{lentLines};
+use records::settings::Settings;
+use refusals::rooms::judge_room;
 use refusals::verdict::Verdict;
+use refusals::verdict::first_bad;
+use refusals::verdict::line;
 use words::limits::METRIC_WORDS;
 use words::limits::SETTING_WORDS;
 use words::limits::STATE_WORDS;
@@ -36,30 +42,24 @@ pub(crate) fn bit_of(b: bool) -> u64
 pub(crate) fn judge_words(settings: &[u64], state: &[u64]) -> Verdict
     ensures { λ r. ⌜ r ≡ judged (wordLines (now (settings .entry)) (now (state .entry))) ⌝ }
 {
-    if settings.len() < SETTING_WORDS {
-        return Verdict::Bad(Refusal {
-            number: 10,
-            place: SETTINGS_ROOM,
-        });
-    }
-    if state.len() < STATE_WORDS {
-        return Verdict::Bad(Refusal {
-            number: 10,
-            place: STATE_ROOM,
-        });
-    }
-    Verdict::Fine
+    let below = Verdict::Fine;
+    let below = line(STATE_WORDS <= state.len(), 10, STATE_ROOM, below);
+    line(SETTING_WORDS <= settings.len(), 10, SETTINGS_ROOM, below)
+}
+
+// 10: the room of rows, by K and D as they were given; then settings and state.
+pub(crate) fn judge_rooms(s: Settings, settings: &[u64], state: &[u64], rows: &[u64]) -> Verdict
+    requires { ⌜ s ≡ settingsOf (now settings) ⌝ }
+    ensures { λ r. ⌜ r ≡ judged (lentLines (now (settings .entry)) (now (state .entry)) (now (rows .entry))) ⌝ }
+{
+    let below = judge_words(settings, state);
+    first_bad(judge_room(s, rows), below)
 }
 
 // 10: the metrics have their words.
 pub(crate) fn judge_metrics(metrics: &[u64]) -> Verdict
     ensures { λ r. ⌜ r ≡ judged (metricLines (now (metrics .entry))) ⌝ }
 {
-    if metrics.len() < METRIC_WORDS {
-        return Verdict::Bad(Refusal {
-            number: 10,
-            place: METRICS_ROOM,
-        });
-    }
-    Verdict::Fine
+    let enough = METRIC_WORDS <= metrics.len();
+    line(enough, 10, METRICS_ROOM, Verdict::Fine)
 }

@@ -3,7 +3,7 @@ ghost use mathlib.Core.Path.{_≡_};
 ghost use Rattle.dump.specs.Layout.{sizeFor};
 ghost use Rattle.capi.specs.Power.{dumpCall, restoreCall};
 use crate::calls::answer_word;
-use crate::calls::judge_words;
+use crate::calls::judge_rooms;
 use dump::reader::Restored;
 use records::settings::settings_of;
 use records::state_words::put_state;
@@ -31,10 +31,7 @@ fn dump_judged(
         ≡ record { answer = r; lent = now (area .exit) } ⌝ }
 {
     let chosen = settings_of(settings);
-    if let Verdict::Bad(refusal) = refusals::rooms::judge_room(chosen, rows) {
-        return answer_word(refusal);
-    }
-    if let Verdict::Bad(refusal) = judge_words(settings, state) {
+    if let Verdict::Bad(refusal) = judge_rooms(chosen, settings, state, rows) {
         return answer_word(refusal);
     }
     let given = state_of(state);
@@ -82,10 +79,7 @@ pub extern "C" fn ysh_restore(
         ≡ record { answer = r; lent = record { state = now (state .exit); rows = now (rows .exit) } } ⌝ }
 {
     let chosen = settings_of(settings);
-    if let Verdict::Bad(refusal) = refusals::rooms::judge_room(chosen, rows) {
-        return answer_word(refusal);
-    }
-    if let Verdict::Bad(refusal) = judge_words(settings, state) {
+    if let Verdict::Bad(refusal) = judge_rooms(chosen, settings, state, rows) {
         return answer_word(refusal);
     }
     let restored = dump::restore(chosen, image, rows);

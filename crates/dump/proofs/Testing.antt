@@ -1,14 +1,11 @@
--- Tests on what a call gave, said of what it means; and a test of each number below n.
-use Prim.Native.Nat.{ℕ, zero, suc, _+_, _-_, _≤_, _<_}
-use mathlib.Core.Path.{_≡_, refl, sym, ap, _∙_}
-use mathlib.Core.Bool.{Bool, true, false, _&&_}
+-- Tests on what a call gave, said of what it means.
+use Prim.Native.Nat.{ℕ, _-_, _<_}
+use mathlib.Core.Path.{_≡_, sym, _∙_}
+use mathlib.Core.Bool.{Bool, true, false}
 use mathlib.Core.List.{List}
-use mathlib.Core.Logic.{⊎-elim}
-use native.Mathlib.Nat.{eq-or-lt-of-le}
-use native.Mathlib.Numerals.{add-one}
 use native.Mathlib.Omega.{arith}
-use borrow.Author.Tests.{le-leb, lt-leb, eq-eqb, ne-eqb}
-use lib.Dec.{leb, eqb}
+use borrow.Author.Tests.{eq-eqb, ne-eqb}
+use lib.Dec.{eqb}
 use lib.ListN.{length}
 use Rattle.words.specs.declared.refusal.Refusal.{Refusal}
 use Rattle.refusals.specs.declared.verdict.Verdict.{Verdict}
@@ -25,49 +22,8 @@ module _ {r v n : ℕ} (e : r ≡ v) where
   pub other : (r ≡ n → ⊥) → eqb v n ≡ false
   other h = ne-eqb v n (λ f. h (e ∙ f))
 
-  pub at-most : r ≤ n → leb v n ≡ true
-  at-most h = rw (← e) (le-leb r n h)
-
-  pub above : n < r → leb v n ≡ false
-  above h = rw (← e) (lt-leb r n h)
-
-  pub at-least : n ≤ r → leb n v ≡ true
-  at-least h = rw (← e) (le-leb n r h)
-
-  pub below : r < n → leb n v ≡ false
-  below h = rw (← e) (lt-leb n r h)
-
-module _ {r v q w : ℕ} (e : r ≡ v) (f : q ≡ w) where
-  pub no-more : r ≤ q → leb v w ≡ true
-  no-more h = rw (← e, ← f) (le-leb r q h)
-
-  pub more : q < r → leb v w ≡ false
-  more h = rw (← e, ← f) (lt-leb r q h)
-
 pub used-as : {r a b : Bool} {v w : ℕ} → r ≡ usedOrZero a v → a ≡ b → v ≡ w → r ≡ usedOrZero b w
 used-as e f g = rw (← f, ← g) e
-
--- ---- each number below n
-
-pub every-none : (f : ℕ → Bool) → every 0 f ≡ true
-unfolding every
-every-none f = refl
-
-pub every-more : (f : ℕ → Bool) (n : ℕ) → every n f ≡ true → f n ≡ true → every (n + 1) f ≡ true
-unfolding every
-every-more f n a b = rw add-one (simp (a, b))
-
-no-and : (b : Bool) → (b && false) ≡ false
-no-and true = refl
-no-and false = refl
-
-pub every-no : (f : ℕ → Bool) (k : ℕ) → f k ≡ false → (n : ℕ) → k < n → every n f ≡ false
-unfolding every
-every-no f k e zero l = absurd (omega arith)
-every-no f k e (suc n) l = ⊎-elim
-    (λ (h : k ≡ n). ap (λ (b : Bool). every n f && b) (ap f (sym h) ∙ e) ∙ no-and (every n f))
-    (λ (h : k < n). ap (λ (b : Bool). b && f n) (every-no f k e n h))
-    (eq-or-lt-of-le {n = k} {m = n} (omega arith))
 
 -- ---- rows
 

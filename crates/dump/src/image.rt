@@ -2,10 +2,14 @@
 use crate::reader::read_words;
 use crate::writer::HEAD_BYTES;
 use records::settings::Settings;
+use records::state_words::entered_of;
 use refusals::bar::judge_bar;
+use refusals::rooms::entry_below;
 use refusals::rooms::judge_room;
 use refusals::setting::judge_settings;
 use refusals::verdict::Verdict;
+use refusals::verdict::first_bad;
+use refusals::verdict::line;
 use table::bytes::byte;
 use table::bytes::read16;
 use table::bytes::read32;
@@ -17,9 +21,7 @@ use words::refusal::Refusal;
 ghost use mathlib.Core.Path.{_≡_};
 ghost use Prim.Native.Nat.{_+_, _<_, _≤_};
 ghost use Rattle.words.specs.Limits.{rowWords, mostSlots, mostRows};
-ghost use Rattle.records.specs.StateWords.{enteredOf};
 ghost use Rattle.refusals.specs.Lines.{judged};
-ghost use Rattle.refusals.specs.Rooms.{entryBelow};
 ghost use Rattle.dump.specs.Reading.{slotsIn, rowsIn, wordsAt, rowPlace};
 ghost use Rattle.dump.specs.Refused.{usedOrZero, zeroAt, absentZero, rowFine, eachFine, rowsFine};
 ghost use Rattle.dump.specs.Refused.{shapeFine, numbersFine, unusedZero, imageLines, sameLines, restoreJudged};
@@ -45,16 +47,6 @@ fn shape_fine(image: &[u8]) -> bool
         & (size == HEAD_BYTES + depth * (8 * (ROW_FIXED + slots)))
 }
 
-// Whether an entry bar, where there is one, is below the bars seen.
-fn entry_below(entered: u8, entry: u64, seen: u64) -> bool
-    ensures { λ r. ⌜ r ≡ entryBelow (enteredOf entered entry) seen ⌝ }
-{
-    if entered == 0 {
-        return true;
-    }
-    entry < seen
-}
-
 // Rows, kinds and the entry bar.
 fn numbers_fine(image: &[u8]) -> bool
     ensures { λ r. ⌜ r ≡ numbersFine (now (image .entry)) ⌝ }
@@ -67,7 +59,7 @@ fn numbers_fine(image: &[u8]) -> bool
         & (byte(image, 16) <= 3)
         & (byte(image, 17) <= 3)
         & (entered <= 1)
-        & entry_below(entered, read32(image, 20), seen)
+        & entry_below(entered_of(entered as u64, read32(image, 20)), seen)
 }
 
 // A field that is not used is zero.
@@ -184,64 +176,38 @@ fn rows_fine(image: &[u8]) -> bool
     zero_at(image, end, image.len() - end)
 }
 
-// 19.
+// 19. The lines below the first two are made where these hold: the rows are read by K and the rows held.
 fn judge_image(image: &[u8]) -> Verdict
     ensures { λ r. ⌜ r ≡ judged (imageLines (now (image .entry))) ⌝ }
 {
-    let torn = Refusal {
+    if shape_fine(image) & numbers_fine(image) {
+        let below = Verdict::Fine;
+        let below = line(rows_fine(image), 19, 0, below);
+        let below = line(zero_at(image, 136, 120), 19, 0, below);
+        let below = line(byte(image, 19) == 0, 19, 0, below);
+        return line(unused_zero(image), 19, 0, below);
+    }
+    Verdict::Bad(Refusal {
         number: 19,
         place: 0,
-    };
-    if !shape_fine(image) {
-        return Verdict::Bad(torn);
-    }
-    if !numbers_fine(image) {
-        return Verdict::Bad(torn);
-    }
-    if !unused_zero(image) {
-        return Verdict::Bad(torn);
-    }
-    if byte(image, 19) != 0 {
-        return Verdict::Bad(torn);
-    }
-    if !zero_at(image, 136, 120) {
-        return Verdict::Bad(torn);
-    }
-    if !rows_fine(image) {
-        return Verdict::Bad(torn);
-    }
-    Verdict::Fine
+    })
 }
 
 // 20.
 fn judge_same(s: Settings, image: &[u8]) -> Verdict
     ensures { λ r. ⌜ r ≡ judged (sameLines s (now (image .entry))) ⌝ }
 {
-    let other = Refusal {
-        number: 20,
-        place: 0,
-    };
-    if read16(image, 6) != s.depth {
-        return Verdict::Bad(other);
-    }
-    if byte(image, 3) as usize != s.slots {
-        return Verdict::Bad(other);
-    }
-    Verdict::Fine
+    let below = Verdict::Fine;
+    let below = line(byte(image, 3) as usize == s.slots, 20, 0, below);
+    line(read16(image, 6) == s.depth, 20, 0, below)
 }
 
 // All of it.
 pub(crate) fn judge_restore(s: Settings, image: &[u8], rows: &[u64]) -> Verdict
     ensures { λ r. ⌜ r ≡ restoreJudged s (now (image .entry)) (now (rows .entry)) ⌝ }
 {
-    if let Verdict::Bad(refusal) = judge_room(s, rows) {
-        return Verdict::Bad(refusal);
-    }
-    if let Verdict::Bad(refusal) = judge_settings(s) {
-        return Verdict::Bad(refusal);
-    }
-    if let Verdict::Bad(refusal) = judge_image(image) {
-        return Verdict::Bad(refusal);
-    }
-    judge_same(s, image)
+    let below = judge_same(s, image);
+    let below = first_bad(judge_image(image), below);
+    let below = first_bad(judge_settings(s), below);
+    first_bad(judge_room(s, rows), below)
 }

@@ -7,9 +7,10 @@ use refusals::rooms::judge_room;
 use refusals::rooms::judge_state;
 use refusals::setting::judge_settings;
 use refusals::verdict::Verdict;
+use refusals::verdict::first_bad;
+use refusals::verdict::line;
 use words::limits::MOST_COUNT;
 use words::limits::ROW_FIXED;
-use words::refusal::Refusal;
 ghost use mathlib.Core.Path.{_≡_};
 ghost use lib.Dec.{leb};
 ghost use Rattle.refusals.specs.Lines.{judged};
@@ -41,13 +42,8 @@ fn has_place(bytes: usize, slots: usize, depth: usize) -> bool
 fn judge_area(s: Settings, area: &[u8]) -> Verdict
     ensures { λ r. ⌜ r ≡ judged (areaLines s (now (area .entry))) ⌝ }
 {
-    if !has_place(area.len(), s.slots, s.depth) {
-        return Verdict::Bad(Refusal {
-            number: 10,
-            place: AREA,
-        });
-    }
-    Verdict::Fine
+    let enough = has_place(area.len(), s.slots, s.depth);
+    line(enough, 10, AREA, Verdict::Fine)
 }
 
 // The state with nothing in its books.
@@ -76,35 +72,19 @@ fn judge_counts(s: Settings, t: State, rows: &[u64]) -> Verdict
     ensures { λ r. ⌜ r ≡ judged (dumpStateLines s t (now (rows .entry))) ⌝ }
 {
     let n = t.counts;
-    if MOST_COUNT < n.equity_points as u64 {
-        return Verdict::Bad(Refusal {
-            number: 13,
-            place: 0,
-        });
-    }
-    if MOST_COUNT < n.trades as u64 {
-        return Verdict::Bad(Refusal {
-            number: 13,
-            place: 0,
-        });
-    }
     let none: usize = 0;
     let nothing = &rows[none..none];
-    judge_state(s, emptied(t), rows, nothing, nothing)
+    let below = judge_state(s, emptied(t), rows, nothing, nothing);
+    let below = line(n.trades as u64 <= MOST_COUNT, 13, 0, below);
+    line(n.equity_points as u64 <= MOST_COUNT, 13, 0, below)
 }
 
 // All of it.
 pub(crate) fn judge_dump(s: Settings, t: State, rows: &[u64], area: &[u8]) -> Verdict
     ensures { λ r. ⌜ r ≡ dumpJudged s t (now (rows .entry)) (now (area .entry)) ⌝ }
 {
-    if let Verdict::Bad(refusal) = judge_room(s, rows) {
-        return Verdict::Bad(refusal);
-    }
-    if let Verdict::Bad(refusal) = judge_area(s, area) {
-        return Verdict::Bad(refusal);
-    }
-    if let Verdict::Bad(refusal) = judge_settings(s) {
-        return Verdict::Bad(refusal);
-    }
-    judge_counts(s, t, rows)
+    let below = judge_counts(s, t, rows);
+    let below = first_bad(judge_settings(s), below);
+    let below = first_bad(judge_area(s, area), below);
+    first_bad(judge_room(s, rows), below)
 }

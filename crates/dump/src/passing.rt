@@ -1,6 +1,8 @@
 // Whether a dump refuses nothing of the words that it is handed, seen in the words as they are: no record is made of them. It is enough, and
 // seldom more than is needed; where it does not hold, the lines of the refusals say which one it is, if any.
 use crate::writer::HEAD_BYTES;
+use records::state_words::entered_of;
+use refusals::rooms::entry_below;
 use words::limits::MOST_COUNT;
 use words::limits::MOST_ROWS;
 use words::limits::MOST_SLOTS;
@@ -8,23 +10,12 @@ use words::limits::ROW_FIXED;
 use words::limits::SETTING_WORDS;
 use words::limits::STATE_WORDS;
 ghost use mathlib.Core.Path.{_≡_};
-ghost use mathlib.Core.Bool.{_&&_};
 ghost use Prim.Native.Nat.{_≤_, _<_};
 ghost use lib.ListN.{length};
 ghost use Rattle.words.specs.Limits.{settingWords, stateWords, mostSlots, mostRows, mostCount};
 ghost use Rattle.floats.specs.Floats.{floatOf};
 ghost use Rattle.refusals.specs.Settings.{lotFine};
 ghost use Rattle.dump.specs.Laws.Passing.{finiteAt, sizingPasses, kindsPass, costsPass, levelsPass, entriesPass, countsPass, roomsPass, wordsPass};
-
-// Whether two tests hold, both made: no branch for each.
-fn both(a: bool, b: bool) -> bool
-    ensures { λ r. ⌜ r ≡ (a && b) ⌝ }
-{
-    if a {
-        return b;
-    }
-    false
-}
 
 // Whether the float of word i is finite.
 fn finite_at(w: &[u64], i: usize) -> bool
@@ -55,22 +46,12 @@ fn kinds_pass(w: &[u64]) -> bool
     requires { ⌜ settingWords ≤ length (now w) ⌝ }
     ensures { λ r. ⌜ r ≡ kindsPass (now (w .entry)) ⌝ }
 {
-    if MOST_SLOTS < w[0] as usize {
-        return false;
-    }
-    if w[1] < 1 {
-        return false;
-    }
-    if MOST_ROWS < w[1] as usize {
-        return false;
-    }
-    if 1 < w[9] {
-        return false;
-    }
-    if 3 < w[20] {
-        return false;
-    }
-    sizing_passes(w[5], w[7], w[1], w[31])
+    (w[0] as usize <= MOST_SLOTS)
+        & (1 <= w[1])
+        & (w[1] as usize <= MOST_ROWS)
+        & (w[9] <= 1)
+        & (w[20] <= 3)
+        & sizing_passes(w[5], w[7], w[1], w[31])
 }
 
 // Capital, sizing, taker fee, slippage, participation.
@@ -78,11 +59,7 @@ fn costs_pass(w: &[u64]) -> bool
     requires { ⌜ settingWords ≤ length (now w) ⌝ }
     ensures { λ r. ⌜ r ≡ costsPass (now (w .entry)) ⌝ }
 {
-    let last = both(finite_at(w, 10), finite_at(w, 19));
-    both(
-        finite_at(w, 2),
-        both(finite_at(w, 6), both(finite_at(w, 8), last)),
-    )
+    finite_at(w, 2) & finite_at(w, 6) & finite_at(w, 8) & finite_at(w, 10) & finite_at(w, 19)
 }
 
 // The levels, given or not.
@@ -90,21 +67,14 @@ fn levels_pass(w: &[u64]) -> bool
     requires { ⌜ settingWords ≤ length (now w) ⌝ }
     ensures { λ r. ⌜ r ≡ levelsPass (now (w .entry)) ⌝ }
 {
-    let last = both(finite_at(w, 15), finite_at(w, 16));
-    both(
-        finite_at(w, 12),
-        both(finite_at(w, 13), both(finite_at(w, 14), last)),
-    )
+    finite_at(w, 12) & finite_at(w, 13) & finite_at(w, 14) & finite_at(w, 15) & finite_at(w, 16)
 }
 
 // A lot is finite and not negative.
 fn lot_passes(w: u64) -> bool
     ensures { λ r. ⌜ r ≡ lotFine (floatOf w) ⌝ }
 {
-    if floats::word_is_finite(w) {
-        return 0.0 <= floats::float_of(w);
-    }
-    false
+    floats::word_is_finite(w) & (0.0 <= floats::float_of(w))
 }
 
 // The entries' percentages, maker fee and lot.
@@ -112,8 +82,7 @@ fn entries_pass(w: &[u64]) -> bool
     requires { ⌜ settingWords ≤ length (now w) ⌝ }
     ensures { λ r. ⌜ r ≡ entriesPass (now (w .entry)) ⌝ }
 {
-    let last = both(finite_at(w, 23), lot_passes(w[24]));
-    both(finite_at(w, 21), both(finite_at(w, 22), last))
+    finite_at(w, 21) & finite_at(w, 22) & finite_at(w, 23) & lot_passes(w[24])
 }
 
 // Counts and the entry bar.
@@ -121,22 +90,11 @@ fn counts_pass(w: &[u64]) -> bool
     requires { ⌜ stateWords ≤ length (now w) ⌝ }
     ensures { λ r. ⌜ r ≡ countsPass (now (w .entry)) ⌝ }
 {
-    if MOST_COUNT < w[0] {
-        return false;
-    }
-    if MOST_COUNT < w[1] {
-        return false;
-    }
-    if MOST_COUNT < w[2] {
-        return false;
-    }
-    if MOST_COUNT < w[3] {
-        return false;
-    }
-    if w[6] == 0 {
-        return true;
-    }
-    w[7] < w[0]
+    (w[0] <= MOST_COUNT)
+        & (w[1] <= MOST_COUNT)
+        & (w[2] <= MOST_COUNT)
+        & (w[3] <= MOST_COUNT)
+        & entry_below(entered_of(w[6], w[7]), w[0])
 }
 
 // Row room and area: products of small numbers, and no division.
@@ -146,13 +104,7 @@ fn rooms_pass(slots: usize, depth: usize, held: usize, rows: usize, area: usize)
 {
     let width = ROW_FIXED + slots;
     let deep = depth * width;
-    if rows < deep {
-        return false;
-    }
-    if rows < held * width {
-        return false;
-    }
-    HEAD_BYTES + 8 * deep <= area
+    (deep <= rows) & (held * width <= rows) & (HEAD_BYTES + 8 * deep <= area)
 }
 
 // Settings and state that have all their words.
@@ -160,28 +112,21 @@ fn whole_pass(settings: &[u64], state: &[u64], rows: usize, area: usize) -> bool
     requires { ⌜ (settingWords ≤ length (now settings)) × (stateWords ≤ length (now state)) ⌝ }
     ensures { λ r. ⌜ r ≡ wordsPass (now (settings .entry)) (now (state .entry)) rows area ⌝ }
 {
-    if !kinds_pass(settings) {
-        return false;
+    let fine = kinds_pass(settings)
+        & costs_pass(settings)
+        & levels_pass(settings)
+        & entries_pass(settings)
+        & counts_pass(state);
+    if fine {
+        return rooms_pass(
+            settings[0] as usize,
+            settings[1] as usize,
+            state[1] as usize,
+            rows,
+            area,
+        );
     }
-    if !costs_pass(settings) {
-        return false;
-    }
-    if !levels_pass(settings) {
-        return false;
-    }
-    if !entries_pass(settings) {
-        return false;
-    }
-    if !counts_pass(state) {
-        return false;
-    }
-    rooms_pass(
-        settings[0] as usize,
-        settings[1] as usize,
-        state[1] as usize,
-        rows,
-        area,
-    )
+    false
 }
 
 // All of it.

@@ -1,29 +1,15 @@
 -- Laws of a walk over the bits of a mask.
 use Prim.Native.Nat.{ℕ, zero, suc, _+_, _-_, _/_, _^_, _≤_, _<_}
 use mathlib.Core.Path.{_≡_, refl, sym, ap, _∙_}
-use mathlib.Core.Bool.{Bool, true, false, _&&_}
+use mathlib.Core.Bool.{Bool, true, false}
 use mathlib.Core.List.{List}
 use native.Mathlib.Nat.{add-suc, add-zero, pow-suc, div-div-eq-div-mul, zero-div}
 use lib.ListN.{getD}
 use lib.Pow.{pow-add}
-use native.Mathlib.Numerals.{add-one, unary-clauses}
+use native.Mathlib.Numerals.{add-one}
 use native.Mathlib.Omega.{arith}
+use Rattle.refusals.specs.Laws.Every.{every-no}
 use Rattle.refusals.specs.Bar.{every, bitFine, slotFine, slotsFine}
-
--- one number more
-pub every-more : (f : ℕ → Bool) (n : ℕ) → every n f ≡ true → f n ≡ true → every (n + 1) f ≡ true
-unfolding every
-every-more f n a b = rw add-one (simp (a, b))
-
-and-no : (b : Bool) → (b && false) ≡ false
-and-no true = refl
-and-no false = refl
-
--- where it is not so of k, it is not so of each number below one above k
-every-not : (f : ℕ → Bool) (k : ℕ) → f k ≡ false → (n : ℕ) → every (k + suc n) f ≡ false
-unfolding every
-every-not f k e zero = simp (unary-clauses, e) (and-no (every k f))
-every-not f k e (suc n) = rw (add-suc k (suc n)) (simp (every-not f k e n))
 
 -- where it is so of each number below k and of each from k on, it is so of each below n
 every-rest : (f : ℕ → Bool) (k : ℕ) → ((j : ℕ) → k ≤ j → f j ≡ true) → every k f ≡ true → (n : ℕ) → every (k + n) f ≡ true
@@ -55,6 +41,4 @@ all-fine K bar k h e z =
 -- bit k is not fine
 pub one-bad : (K : ℕ) (bar : List ℕ) (k : ℕ) → k < 64 → slotFine K bar k ≡ false → slotsFine K bar ≡ false
 unfolding slotsFine
-one-bad K bar k h e =
-    let n : 64 ≡ k + suc (63 - k) = omega arith in
-    ap (λ (m : ℕ). every m (slotFine K bar)) n ∙ every-not (slotFine K bar) k e (63 - k)
+one-bad K bar k h e = every-no (slotFine K bar) k e 64 h

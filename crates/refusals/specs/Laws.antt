@@ -1,5 +1,6 @@
 pub mod Lines
 pub mod Descent
+pub mod Every
 pub mod Numbers
 pub mod BadStep
 pub mod Places

@@ -4,6 +4,7 @@ ghost use Rattle.records.specs.Lent.{rooms};
 ghost use Rattle.refusals.specs.Lines.{judged};
 ghost use Rattle.refusals.specs.Rooms.{roomLines, countsFine, heldFine, entryBelow, stateLines, placeLines, toClose, closeLines};
 use crate::verdict::Verdict;
+use crate::verdict::line;
 use records::settings::Settings;
 use records::state::Counts;
 use records::state::State;
@@ -17,13 +18,8 @@ use words::refusal::Refusal;
 pub fn judge_room(s: Settings, rows: &[u64]) -> Verdict
     ensures { λ r. ⌜ r ≡ judged (roomLines s (now (rows .entry))) ⌝ }
 {
-    if rows::row_count(rows, s.slots) < s.depth {
-        return Verdict::Bad(Refusal {
-            number: 10,
-            place: 0,
-        });
-    }
-    Verdict::Fine
+    let enough = s.depth <= rows::row_count(rows, s.slots);
+    line(enough, 10, 0, Verdict::Fine)
 }
 
 // Whether no count is above what a count may be.
@@ -46,17 +42,13 @@ pub(crate) fn counts_fine(n: Counts) -> bool
 fn held_fine(slots: usize, n: Counts, rows: &[u64], equity: &[u64], trades: &[u64]) -> bool
     ensures { λ r. ⌜ r ≡ heldFine slots n (rooms (now (rows .entry)) (now (equity .entry)) (now (trades .entry))) ⌝ }
 {
-    if rows::row_count(rows, slots) < n.rows_held {
-        return false;
-    }
-    if equity.len() / POINT_WORDS < n.equity_points {
-        return false;
-    }
-    n.trades <= trades.len() / TRADE_WORDS
+    (n.rows_held <= rows::row_count(rows, slots))
+        & (n.equity_points <= equity.len() / POINT_WORDS)
+        & (n.trades <= trades.len() / TRADE_WORDS)
 }
 
 // Whether the entry bar, if there is one, is below the bars seen.
-fn entry_below(entered: Entered, seen: u64) -> bool
+pub fn entry_below(entered: Entered, seen: u64) -> bool
     ensures { λ r. ⌜ r ≡ entryBelow entered seen ⌝ }
 {
     match entered {
@@ -70,27 +62,12 @@ pub fn judge_state(s: Settings, t: State, rows: &[u64], equity: &[u64], trades: 
     ensures { λ r. ⌜ r ≡ judged (stateLines s t (rooms (now (rows .entry)) (now (equity .entry)) (now (trades .entry)))) ⌝ }
 {
     let n = t.counts;
-    if !counts_fine(n) {
-        return Verdict::Bad(Refusal {
-            number: 13,
-            place: 0,
-        });
-    }
-    if !held_fine(s.slots, n, rows, equity, trades) {
-        return Verdict::Bad(Refusal {
-            number: 13,
-            place: 0,
-        });
-    }
     let position = t.position;
     let entered = position.entered;
-    if !entry_below(entered, n.bars_seen) {
-        return Verdict::Bad(Refusal {
-            number: 13,
-            place: 0,
-        });
-    }
-    Verdict::Fine
+    let below = Verdict::Fine;
+    let below = line(entry_below(entered, n.bars_seen), 13, 0, below);
+    let below = line(held_fine(s.slots, n, rows, equity, trades), 13, 0, below);
+    line(counts_fine(n), 13, 0, below)
 }
 
 // 14 as a step begins.
@@ -125,10 +102,7 @@ pub fn to_close(t: State) -> bool
     let n = t.counts;
     let position = t.position;
     let account = position.portfolio;
-    if account.in_position() {
-        return 0 < n.bars_seen;
-    }
-    false
+    account.in_position() & (0 < n.bars_seen)
 }
 
 // 14 at finish.
@@ -136,13 +110,6 @@ pub fn judge_close(t: State, trades: &[u64]) -> Verdict
     ensures { λ r. ⌜ r ≡ judged (closeLines t (now (trades .entry))) ⌝ }
 {
     let n = t.counts;
-    if to_close(t) {
-        if trades.len() / TRADE_WORDS <= n.trades {
-            return Verdict::Bad(Refusal {
-                number: 14,
-                place: 0,
-            });
-        }
-    }
-    Verdict::Fine
+    let free = n.trades < trades.len() / TRADE_WORDS;
+    line(!to_close(t) | free, 14, 0, Verdict::Fine)
 }

@@ -1,6 +1,7 @@
-// What a judgement says.
+// What a judgement says, and what it is made of: the lines of the table of refusals, from the last up, each over what stands below it.
+// The settings and the next bar, which every call looks at, go down their lines instead: a branch for each costs less there.
 ghost use mathlib.Core.Path.{_≡_};
-ghost use Rattle.refusals.specs.Lines.{firstBad};
+ghost use Rattle.refusals.specs.Lines.{line, over, firstBad};
 use words::refusal::Refusal;
 
 // Whether a call can be used: if not, the refusal.
@@ -9,7 +10,17 @@ pub enum Verdict {
     Bad(Refusal),
 }
 
-// The first of two that is not fine.
+// A line of the table: what has to hold, and the refusal where it does not; where it does, what stands below it decides.
+pub fn line(ok: bool, number: u64, place: u64, below: Verdict) -> Verdict
+    ensures { λ r. ⌜ r ≡ over (line ok number place) below ⌝ }
+{
+    if ok {
+        return below;
+    }
+    Verdict::Bad(Refusal { number, place })
+}
+
+// Lines that are judged by themselves, over others: the first of the two that is not fine.
 pub fn first_bad(a: Verdict, b: Verdict) -> Verdict
     ensures { λ r. ⌜ r ≡ firstBad a b ⌝ }
 {

@@ -21,8 +21,8 @@ use Rattle.refusals.specs.Lines.{judged}
 use Rattle.refusals.specs.Rooms.{roomLines, entryBelow, stateLines}
 use Rattle.refusals.specs.Settings.{lookback, sizingKnown, sizingValue, slippageKnown, slippageValue, levelFine, stopThere, orderTypeKnown, lotFine}
 use Rattle.refusals.specs.Settings.{sizingLines, slippageLines, riskLines, termLines, entryLines, settingLines}
-use Rattle.refusals.specs.Laws.Lines.{and-true}
-use Rattle.refusals.specs.Laws.Descent.{no-line, fine-line, fine-block}
+use Rattle.refusals.specs.Laws.Lines.{and-true, below-fine}
+use Rattle.refusals.specs.Laws.Descent.{no-line, fine-line}
 use Rattle.engine.specs.Books.{emptied}
 use Rattle.dump.specs.Layout.{headBytes, dumpBytes, imageOf}
 use Rattle.dump.specs.Order.{written}
@@ -42,44 +42,39 @@ sizingPasses kind back D given =
 -- K, D and the kinds
 unfoldable pub kindsPass : List ℕ → Bool
 kindsPass ws =
-    leb (word ws 0) mostSlots
-    && (leb 1 (word ws 1)
-    && (leb (word ws 1) mostRows
-    && (leb (word ws 9) 1 && (leb (word ws 20) 3 && sizingPasses (word ws 5) (word ws 7) (word ws 1) (word ws 31)))))
+    leb (word ws 0) mostSlots && leb 1 (word ws 1) && leb (word ws 1) mostRows
+    && leb (word ws 9) 1 && leb (word ws 20) 3
+    && sizingPasses (word ws 5) (word ws 7) (word ws 1) (word ws 31)
 
 -- capital, sizing, taker fee, slippage, participation
 unfoldable pub costsPass : List ℕ → Bool
-costsPass ws = finiteAt ws 2 && (finiteAt ws 6 && (finiteAt ws 8 && (finiteAt ws 10 && finiteAt ws 19)))
+costsPass ws = finiteAt ws 2 && finiteAt ws 6 && finiteAt ws 8 && finiteAt ws 10 && finiteAt ws 19
 
 -- the levels
 unfoldable pub levelsPass : List ℕ → Bool
-levelsPass ws = finiteAt ws 12 && (finiteAt ws 13 && (finiteAt ws 14 && (finiteAt ws 15 && finiteAt ws 16)))
+levelsPass ws = finiteAt ws 12 && finiteAt ws 13 && finiteAt ws 14 && finiteAt ws 15 && finiteAt ws 16
 
 -- the entries' percentages, maker fee and lot
 unfoldable pub entriesPass : List ℕ → Bool
-entriesPass ws = finiteAt ws 21 && (finiteAt ws 22 && (finiteAt ws 23 && lotFine (floatOf (word ws 24))))
+entriesPass ws = finiteAt ws 21 && finiteAt ws 22 && finiteAt ws 23 && lotFine (floatOf (word ws 24))
 
 -- counts and the entry bar
 unfoldable pub countsPass : List ℕ → Bool
 countsPass ws =
-    leb (word ws 0) mostCount
-    && (leb (word ws 1) mostCount
-    && (leb (word ws 2) mostCount
-    && (leb (word ws 3) mostCount && entryBelow (enteredOf (word ws 6) (word ws 7)) (word ws 0))))
+    leb (word ws 0) mostCount && leb (word ws 1) mostCount && leb (word ws 2) mostCount && leb (word ws 3) mostCount
+    && entryBelow (enteredOf (word ws 6) (word ws 7)) (word ws 0)
 
 -- row room and area
 unfoldable pub roomsPass : ℕ → ℕ → ℕ → ℕ → ℕ → Bool
-roomsPass K D held rows area = leb (D * rowWords K) rows && (leb (held * rowWords K) rows && leb (headBytes + 8 * (D * rowWords K)) area)
+roomsPass K D held rows area = leb (D * rowWords K) rows && leb (held * rowWords K) rows && leb (headBytes + 8 * (D * rowWords K)) area
 
 -- all of it
 unfoldable pub wordsPass : List ℕ → List ℕ → ℕ → ℕ → Bool
 wordsPass settings state rows area =
-    leb settingWords (length settings)
-    && (leb stateWords (length state)
-    && (kindsPass settings
-    && (costsPass settings
-    && (levelsPass settings
-    && (entriesPass settings && (countsPass state && roomsPass (word settings 0) (word settings 1) (word state 1) rows area))))))
+    leb settingWords (length settings) && leb stateWords (length state)
+    && kindsPass settings && costsPass settings && levelsPass settings && entriesPass settings
+    && countsPass state
+    && roomsPass (word settings 0) (word settings 1) (word state 1) rows area
 
 -- What a dump of words does: all that was asked where they pass, and nothing where not.
 pub record WordsDumped (settings state rows area : List ℕ) (from upto : ℕ) (r : Bool) (after : List ℕ) : Type 0 where
@@ -99,24 +94,31 @@ pub record KindsPass (ws : List ℕ) : Type 0 where
 pub kinds-pass : (ws : List ℕ) → kindsPass ws ≡ true → KindsPass ws
 unfolding kindsPass
 kinds-pass ws h =
-    let a = and-true _ _ h in
-    let b = and-true _ _ (a .1) in
-    let c = and-true _ _ (b .1) in
-    let d = and-true _ _ (c .1) in
-    let e = and-true _ _ (d .1) in
+    let sizes = and-true _ _ h in
+    let orders = and-true _ _ (sizes .0) in
+    let slips = and-true _ _ (orders .0) in
+    let depth = and-true _ _ (slips .0) in
+    let some = and-true _ _ (depth .0) in
     record {
-      slots = leb-true _ _ (a .0);
-      some = leb-true _ _ (b .0);
-      depth = leb-true _ _ (c .0);
-      slips = d .0;
-      orders = e .0;
-      sizes = e .1;
+      slots = leb-true _ _ (some .0);
+      some = leb-true _ _ (some .1);
+      depth = leb-true _ _ (depth .1);
+      slips = slips .1;
+      orders = orders .1;
+      sizes = sizes .1;
     }
 
 -- no more rows are counted than can be
 pub counts-held : (ws : List ℕ) → countsPass ws ≡ true → word ws 1 ≤ mostCount
 unfolding countsPass
-counts-held ws h = leb-true _ _ (and-true _ _ (and-true (leb (word ws 0) mostCount) _ h .1) .0)
+counts-held ws h =
+    let seen = leb (word ws 0) mostCount in
+    let held = leb (word ws 1) mostCount in
+    let points = leb (word ws 2) mostCount in
+    let four = and-true (seen && held && points && leb (word ws 3) mostCount) _ h in
+    let three = and-true (seen && held && points) _ (four .0) in
+    let two = and-true (seen && held) points (three .0) in
+    leb-true _ _ (and-true seen held (two .0) .1)
 
 -- the sizing of a kind that passes
 record SizingFine (kind v back D given w : ℕ) : Type 0 where
@@ -173,42 +175,42 @@ settings-fine : (ws : List ℕ) → kindsPass ws ≡ true → costsPass ws ≡ t
 unfolding costsPass levelsPass entriesPass settingsOf termsOf riskOf entriesOf settingLines termLines sizingLines slippageLines riskLines entryLines
 settings-fine ws k c l e =
     let kinds = kinds-pass ws k in
-    let c2 = and-true _ _ c in
-    let c6 = and-true _ _ (c2 .1) in
-    let c8 = and-true _ _ (c6 .1) in
-    let c10 = and-true _ _ (c8 .1) in
-    let l12 = and-true _ _ l in
-    let l13 = and-true _ _ (l12 .1) in
-    let l14 = and-true _ _ (l13 .1) in
-    let l15 = and-true _ _ (l14 .1) in
-    let e21 = and-true _ _ e in
-    let e22 = and-true _ _ (e21 .1) in
-    let e23 = and-true _ _ (e22 .1) in
-    let sizing = sizing-fine (word ws 5) (word ws 6) (word ws 7) (word ws 1) (word ws 31) (word ws 12) (kinds .sizes) (kinds .some) (kinds .depth) (c6 .0) in
-    let slip = slippage-fine (word ws 9) (word ws 10) (kinds .slips) (c10 .0) in
+    let c19 = and-true _ _ c in
+    let c10 = and-true _ _ (c19 .0) in
+    let c8 = and-true _ _ (c10 .0) in
+    let c6 = and-true _ _ (c8 .0) in
+    let l16 = and-true _ _ l in
+    let l15 = and-true _ _ (l16 .0) in
+    let l14 = and-true _ _ (l15 .0) in
+    let l13 = and-true _ _ (l14 .0) in
+    let e24 = and-true _ _ e in
+    let e23 = and-true _ _ (e24 .0) in
+    let e22 = and-true _ _ (e23 .0) in
+    let sizing = sizing-fine (word ws 5) (word ws 6) (word ws 7) (word ws 1) (word ws 31) (word ws 12) (kinds .sizes) (kinds .some) (kinds .depth) (c6 .1) in
+    let slip = slippage-fine (word ws 9) (word ws 10) (kinds .slips) (c10 .1) in
     let depth : (leb 1 (word ws 1) && leb (word ws 1) mostRows && ltb (lookback (sizingOf (word ws 5) (word ws 6) (word ws 7))) (word ws 1)) ≡ true =
     rw (le-leb 1 (word ws 1) (kinds .some), le-leb (word ws 1) mostRows (kinds .depth)) (sizing .below) in
     sym (fine-line _ _ (le-leb _ _ (kinds .slots))
     (fine-line _ _ depth
-    (fine-line _ _ (c2 .0)
+    (fine-line _ _ (c6 .0)
     (fine-line _ _ (sizing .known)
     (fine-line _ _ (sizing .value)
     (fine-line _ _ (sizing .reach)
-    (fine-line _ _ (c8 .0)
+    (fine-line _ _ (c8 .1)
     (fine-line _ _ (slip .0)
     (fine-line _ _ (slip .1)
     (fine-line _ _ (sizing .stop)
-    (fine-line _ _ (level-fine _ _ (l12 .0))
     (fine-line _ _ (level-fine _ _ (l13 .0))
-    (fine-line _ _ (level-fine _ _ (l14 .0))
-    (fine-line _ _ (level-fine _ _ (l15 .0))
+    (fine-line _ _ (level-fine _ _ (l13 .1))
+    (fine-line _ _ (level-fine _ _ (l14 .1))
     (fine-line _ _ (level-fine _ _ (l15 .1))
-    (fine-line _ _ (c10 .1)
+    (fine-line _ _ (level-fine _ _ (l16 .1))
+    (fine-line _ _ (c19 .1)
     (fine-line _ _ (order-known (word ws 20) (kinds .orders))
-    (fine-line _ _ (e21 .0)
     (fine-line _ _ (e22 .0)
-    (fine-line _ _ (e23 .0)
+    (fine-line _ _ (e22 .1)
     (fine-line _ _ (e23 .1)
+    (fine-line _ _ (e24 .1)
     no-line)))))))))))))))))))))
 
 -- the state: the room has places for the rows held
@@ -216,20 +218,20 @@ state-fine : (settings state rows : List ℕ) → countsPass state ≡ true → 
     → judged (dumpStateLines (settingsOf settings) (stateOf state) rows) ≡ Fine
 unfolding countsPass dumpStateLines stateLines emptied settingsOf stateOf countsOf positionOf
 state-fine settings state rows h held =
-    let seen = and-true _ _ h in
-    let kept = and-true _ _ (seen .1) in
-    let points = and-true _ _ (kept .1) in
-    let trades = and-true _ _ (points .1) in
-    let few : leb (word state 0) mostCount ≡ true = seen .0 in
-    let rows-few : leb (word state 1) mostCount ≡ true = kept .0 in
+    let entry = and-true _ _ h in
+    let trades = and-true _ _ (entry .0) in
+    let points = and-true _ _ (trades .0) in
+    let kept = and-true _ _ (points .0) in
+    let few : leb (word state 0) mostCount ≡ true = kept .0 in
+    let rows-few : leb (word state 1) mostCount ≡ true = kept .1 in
     let counts : (leb (word state 0) mostCount && leb (word state 1) mostCount && leb 0 mostCount && leb 0 mostCount) ≡ true = rw (few, rows-few) in
     let places : (leb (word state 1) (rowPlaces (word settings 0) rows) && leb 0 (pointPlaces []) && leb 0 (tradePlaces [])) ≡ true =
     rw (le-leb (word state 1) (rowPlaces (word settings 0) rows) held) in
-    sym (fine-line _ _ (points .0)
-    (fine-line _ _ (trades .0)
+    sym (fine-line _ _ (points .1)
+    (fine-line _ _ (trades .1)
     (fine-line _ _ counts
     (fine-line _ _ places
-    (fine-line _ _ (trades .1)
+    (fine-line _ _ (entry .1)
     no-line)))))
 
 pub record WordsFine (settings state rows area : List ℕ) : Type 0 where
@@ -241,27 +243,27 @@ pub record WordsFine (settings state rows area : List ℕ) : Type 0 where
 pub words-fine : (settings state rows area : List ℕ) → wordsPass settings state (length rows) (length area) ≡ true → WordsFine settings state rows area
 unfolding wordsPass roomsPass roomLines areaLines dumpBytes dumpLines dumpJudged settingsOf
 words-fine settings state rows area h =
-    let long = and-true _ _ h in
-    let full = and-true _ _ (long .1) in
-    let kinds = and-true _ _ (full .1) in
-    let costs = and-true _ _ (kinds .1) in
-    let levels = and-true _ _ (costs .1) in
-    let entries = and-true _ _ (levels .1) in
-    let counts = and-true _ _ (entries .1) in
-    let room = and-true _ _ (counts .1) in
-    let place = and-true _ _ (room .1) in
+    let rooms = and-true _ _ h in
+    let counts = and-true _ _ (rooms .0) in
+    let entries = and-true _ _ (counts .0) in
+    let levels = and-true _ _ (entries .0) in
+    let costs = and-true _ _ (levels .0) in
+    let kinds = and-true _ _ (costs .0) in
+    let full = and-true _ _ (kinds .0) in
+    let place = and-true _ _ (rooms .1) in
+    let room = and-true _ _ (place .0) in
     let w = rowWords (word settings 0) in
     let D = word settings 1 in
     let bytes : D * (8 * w) ≡ 8 * (D * w) = sym (mul-assoc D 8 w) ∙ ap (λ (m : ℕ). m * w) (mul-comm D 8) ∙ mul-assoc 8 D w in
     let deep : D ≤ length rows / w = le-div-iff-mul-le {k = w} (omega arith) .1 (leb-true _ _ (room .0)) in
-    let held : word state 1 ≤ length rows / w = le-div-iff-mul-le {k = w} (omega arith) .1 (leb-true _ _ (place .0)) in
+    let held : word state 1 ≤ length rows / w = le-div-iff-mul-le {k = w} (omega arith) .1 (leb-true _ _ (room .1)) in
     let fits : leb (headBytes + D * (8 * w)) (length area) ≡ true = rw bytes (place .1) in
     record {
-      long = leb-true _ _ (long .0);
-      full = leb-true _ _ (full .0);
+      long = leb-true _ _ (full .0);
+      full = leb-true _ _ (full .1);
       fine =
           sym (fine-line _ _ (le-leb _ _ deep)
           (fine-line _ _ fits
-          (fine-block _ _ refl (settings-fine settings (kinds .0) (costs .0) (levels .0) (entries .0))
-          (sym (state-fine settings state rows (counts .0) held)))));
+          (sym (below-fine _ _ (settings-fine settings (kinds .1) (costs .1) (levels .1) (entries .1))
+          ∙ state-fine settings state rows (counts .1) held))));
     }

@@ -8,7 +8,7 @@ use Rattle.words.specs.declared.refusal.Refusal.{Refusal}
 use Rattle.words.specs.Outcome.{refusal}
 use Rattle.refusals.specs.declared.verdict.Verdict.{Verdict}
 use Rattle.refusals.specs.declared.verdict.Verdict.the-variants.{Fine, Bad}
-use Rattle.refusals.specs.Lines.{Line, judged, firstBad}
+use Rattle.refusals.specs.Lines.{Line, judged}
 use Rattle.refusals.specs.Laws.Lines.{below-fine, below-bad}
 
 -- a test that a function answers with yes
@@ -41,12 +41,3 @@ fine-block a b j h e = e ∙ sym (below-fine a b (sym j ∙ h))
 -- a list of lines that is not
 pub bad-block : (a b : List Line) {w : Verdict} {r : Refusal} → w ≡ judged a → w ≡ Bad r → Bad r ≡ judged (a ++ b)
 bad-block a b {r = r} j h = sym (below-bad a b r (sym j ∙ h))
-
--- both are judged by themselves
-under : (a b : List Line) (w : Verdict) → judged a ≡ w → judged (a ++ b) ≡ firstBad w (judged b)
-under a b Fine h = below-fine a b h
-under a b (Bad r) h = below-bad a b r h
-
--- two lists that are both judged, and the first that is not fine decides
-pub two-blocks : (a b : List Line) {w v : Verdict} → w ≡ judged a → v ≡ judged b → firstBad w v ≡ judged (a ++ b)
-two-blocks a b {w} h e = rw e (sym (under a b w (sym h)))

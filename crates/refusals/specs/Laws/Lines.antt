@@ -7,7 +7,7 @@ use native.Mathlib.Omega.{arith}
 use Rattle.words.specs.declared.refusal.Refusal.{Refusal}
 use Rattle.refusals.specs.declared.verdict.Verdict.{Verdict}
 use Rattle.refusals.specs.declared.verdict.Verdict.the-variants.{Fine, Bad}
-use Rattle.refusals.specs.Lines.{Line, judged}
+use Rattle.refusals.specs.Lines.{Line, line, over, judged, firstBad}
 
 -- no verdict is both
 pub never : {A : Type 0} {r : Refusal} → Bad r ≡ Fine → A
@@ -28,24 +28,32 @@ pub first-holds : (l : Line) (ls : List Line) → judged (l ∷ ls) ≡ Fine →
 unfolding judged
 first-holds l ls h = passed (l .ok) (judged ls) _ h
 
+-- a line that a test decides, over a list that is judged
+pub line-over : (l : Line) (ls : List Line) {ok : Bool} {v : Verdict} → ok ≡ l .ok → v ≡ judged ls → over (line ok (l .number) (l .place)) v ≡ judged (l ∷ ls)
+unfolding judged
+line-over l ls t e = rw (t, e)
+
+-- of two lists, each judged by itself, the first that is not fine decides
+pub blocks : (a b : List Line) → judged (a ++ b) ≡ firstBad (judged a) (judged b)
+unfolding judged
+blocks [] b = refl
+blocks (l ∷ a) b = go (l .ok) _ (blocks a b)
+  where
+    go : (ok : Bool) (r : Refusal) → judged (a ++ b) ≡ firstBad (judged a) (judged b)
+        → cond ok (judged (a ++ b)) (Bad r) ≡ firstBad (cond ok (judged a) (Bad r)) (judged b)
+    go true r e = e
+    go false r e = refl
+
+pub two-blocks : (a b : List Line) {w v : Verdict} → w ≡ judged a → v ≡ judged b → firstBad w v ≡ judged (a ++ b)
+two-blocks a b h e = rw (h, e) (sym (blocks a b))
+
 -- lines below others are asked where those above hold
 pub below-fine : (a b : List Line) → judged a ≡ Fine → judged (a ++ b) ≡ judged b
-unfolding judged
-below-fine [] b h = refl
-below-fine (l ∷ a) b h =
-    let p = passed (l .ok) (judged a) _ h in
-    simp (p .0) (below-fine a b (p .1))
-
--- a line says the same of two verdicts below it that say the same of r
-by-line : (ok : Bool) (v w : Verdict) (q r : Refusal) → (v ≡ Bad r → w ≡ Bad r) → cond ok v (Bad q) ≡ Bad r → cond ok w (Bad q) ≡ Bad r
-by-line true v w q r below e = below e
-by-line false v w q r below e = e
+below-fine a b h = rw (blocks, h)
 
 -- and not where one of them does not
 pub below-bad : (a b : List Line) (r : Refusal) → judged a ≡ Bad r → judged (a ++ b) ≡ Bad r
-unfolding judged
-below-bad [] b r h = never (sym h)
-below-bad (l ∷ a) b r h = by-line (l .ok) (judged a) (judged (a ++ b)) _ r (below-bad a b r) h
+below-bad a b r h = rw (blocks, h)
 
 -- lines below others that are fine add nothing
 pub fine-adds-nothing : (a b : List Line) → judged b ≡ Fine → judged (a ++ b) ≡ judged a

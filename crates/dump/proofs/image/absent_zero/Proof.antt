@@ -8,8 +8,9 @@ use lib.Dec.{eqb}
 use lib.ListN.{getD}
 use Rattle.refusals.specs.Bar.{every}
 use Rattle.refusals.specs.Laws.Descent.{so, not-so}
+use Rattle.refusals.specs.Laws.Every.{every-none, every-more, every-no}
 use Rattle.dump.specs.Refused.{usedOrZero, absentZero}
-use Rattle.dump.proofs.Testing.{used-as, every-none, every-more, every-no}
+use Rattle.dump.proofs.Testing.{used-as}
 use borrow.Author.Needs.{needs}
 use Rattle.dump.proofs.image.absent_zero.Statement.{statement}
 use Rattle.dump.proofs.image.absent_zero.Tie as tie

@@ -7,9 +7,9 @@ use native.Mathlib.Omega.{arith}
 use Rattle.words.specs.Limits.{rowWords}
 use Rattle.refusals.specs.Bar.{every}
 use Rattle.refusals.specs.Laws.Descent.{so, not-so}
+use Rattle.refusals.specs.Laws.Every.{every-none, every-more, every-no}
 use Rattle.dump.specs.Reading.{wordsAt, rowIn}
 use Rattle.dump.specs.Refused.{rowFine, eachFine}
-use Rattle.dump.proofs.Testing.{every-none, every-more, every-no}
 use borrow.Author.Needs.{needs}
 use Rattle.dump.proofs.image.each_fine.Statement.{statement}
 use Rattle.dump.proofs.image.each_fine.Tie as tie

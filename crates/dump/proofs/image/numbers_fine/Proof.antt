@@ -1,6 +1,6 @@
 -- Six tests in the order of the definition, none of them a branch.
-use borrow.Author.Needs.{needs}
 use Rattle.dump.specs.Refused.{numbersFine}
+use borrow.Author.Needs.{needs}
 use Rattle.dump.proofs.image.numbers_fine.Statement.{statement}
 use Rattle.dump.proofs.image.numbers_fine.Tie as tie
 
@@ -17,6 +17,8 @@ numbers-fine-spec =
     (λ c κs. search needs)
     (λ c κs. search needs)
     (λ c κs. search needs)
+    (λ c κs. search needs)
+    (λ c. search needs)
     (λ c κs. search needs)
     (λ c κs. search needs)
     (λ c κs. search needs)

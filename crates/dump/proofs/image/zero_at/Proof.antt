@@ -7,8 +7,9 @@ use native.Mathlib.Omega.{arith}
 use lib.Dec.{eqb}
 use lib.ListN.{getD}
 use Rattle.refusals.specs.Bar.{every}
+use Rattle.refusals.specs.Laws.Every.{every-none, every-more, every-no}
 use Rattle.dump.specs.Refused.{zeroAt}
-use Rattle.dump.proofs.Testing.{equal, other, every-none, every-more, every-no}
+use Rattle.dump.proofs.Testing.{equal, other}
 use borrow.Author.Needs.{needs}
 use Rattle.dump.proofs.image.zero_at.Statement.{statement}
 use Rattle.dump.proofs.image.zero_at.Tie as tie

@@ -1,134 +1,85 @@
--- Part by part: those passed hold, and the first that does not decides.
+-- The lengths are known; of the tests that are joined each holds where all do, and then the products are small.
+use Prim.Native.Nat.{ℕ, _≤_}
+use mathlib.Core.Path.{_≡_, sym, _∙_}
+use mathlib.Core.Bool.{Bool, true, false, _&&_}
+use mathlib.Core.List.{List}
 use borrow.Author.Tests.{le-leb}
-use Rattle.words.specs.Limits.{settingWords, stateWords}
 use lib.ListN.{length}
-use Rattle.refusals.specs.Laws.Descent.{so, not-so}
-use Rattle.dump.specs.Laws.Passing.{wordsPass, kinds-pass, counts-held}
+use Rattle.words.specs.Limits.{settingWords, stateWords}
+use Rattle.words.specs.Words.{word}
+use Rattle.refusals.specs.Laws.Lines.{and-true}
+use Rattle.dump.specs.Laws.Passing.{kindsPass, costsPass, levelsPass, entriesPass, countsPass, roomsPass, wordsPass, kinds-pass, counts-held}
 use borrow.Author.Needs.{needs}
 use Rattle.dump.proofs.passing.whole_pass.Statement.{statement}
 use Rattle.dump.proofs.passing.whole_pass.Tie as tie
 
-returns : tie.Need-returns
-unfolding wordsPass
-returns c =
-    let kinds = c .before in
-    let s = kinds .before .before .before in
-    simp (
-      le-leb settingWords (length (s .args .settings .now)) (s .pre .0),
-      le-leb stateWords (length (s .args .state .now)) (s .pre .1),
-      not-so (kinds .kinds-pass .ensures) (c .if1 .taken),
-    )
+module _ (settings state : List ℕ) (rows area : ℕ) {k c l e n : Bool} (long : settingWords ≤ length settings) (full : stateWords ≤ length state)
+    (kinds : k ≡ kindsPass settings) (costs : c ≡ costsPass settings) (levels : l ≡ levelsPass settings) (entries : e ≡ entriesPass settings)
+    (counts : n ≡ countsPass state) where
+  -- where the tests hold, the rooms decide
+  by-rooms : {r : Bool} → (k && c && l && e && n) ≡ true → r ≡ roomsPass (word settings 0) (word settings 1) (word state 1) rows area
+      → r ≡ wordsPass settings state rows area
+  unfolding wordsPass
+  by-rooms h g = rw (le-leb _ _ long, le-leb _ _ full, ← kinds, ← costs, ← levels, ← entries, ← counts, h) g
 
-returns-2 : tie.Need-returns-2
-unfolding wordsPass
-returns-2 c =
-    let costs = c .before in
-    let kinds = costs .before .before in
-    let s = kinds .before .before .before in
-    simp (
-      le-leb settingWords (length (s .args .settings .now)) (s .pre .0),
-      le-leb stateWords (length (s .args .state .now)) (s .pre .1),
-      so (kinds .kinds-pass .ensures) (costs .before .if1 .left),
-      not-so (costs .costs-pass .ensures) (c .if2 .taken),
-    )
-
-returns-3 : tie.Need-returns-3
-unfolding wordsPass
-returns-3 c =
-    let levels = c .before in
-    let costs = levels .before .before in
-    let kinds = costs .before .before in
-    let s = kinds .before .before .before in
-    simp (
-      le-leb settingWords (length (s .args .settings .now)) (s .pre .0),
-      le-leb stateWords (length (s .args .state .now)) (s .pre .1),
-      so (kinds .kinds-pass .ensures) (costs .before .if1 .left),
-      so (costs .costs-pass .ensures) (levels .before .if2 .left),
-      not-so (levels .levels-pass .ensures) (c .if3 .taken),
-    )
-
-returns-4 : tie.Need-returns-4
-unfolding wordsPass
-returns-4 c =
-    let entries = c .before in
-    let levels = entries .before .before in
-    let costs = levels .before .before in
-    let kinds = costs .before .before in
-    let s = kinds .before .before .before in
-    simp (
-      le-leb settingWords (length (s .args .settings .now)) (s .pre .0),
-      le-leb stateWords (length (s .args .state .now)) (s .pre .1),
-      so (kinds .kinds-pass .ensures) (costs .before .if1 .left),
-      so (costs .costs-pass .ensures) (levels .before .if2 .left),
-      so (levels .levels-pass .ensures) (entries .before .if3 .left),
-      not-so (entries .entries-pass .ensures) (c .if4 .taken),
-    )
-
-returns-5 : tie.Need-returns-5
-unfolding wordsPass
-returns-5 c =
-    let counts = c .before in
-    let entries = counts .before .before in
-    let levels = entries .before .before in
-    let costs = levels .before .before in
-    let kinds = costs .before .before in
-    let s = kinds .before .before .before in
-    simp (
-      le-leb settingWords (length (s .args .settings .now)) (s .pre .0),
-      le-leb stateWords (length (s .args .state .now)) (s .pre .1),
-      so (kinds .kinds-pass .ensures) (costs .before .if1 .left),
-      so (costs .costs-pass .ensures) (levels .before .if2 .left),
-      so (levels .levels-pass .ensures) (entries .before .if3 .left),
-      so (entries .entries-pass .ensures) (counts .before .if4 .left),
-      not-so (counts .counts-pass .ensures) (c .if5 .taken),
-    )
+  -- one of them does not
+  not-all : (k && c && l && e && n) ≡ false → false ≡ wordsPass settings state rows area
+  unfolding wordsPass
+  not-all h = rw (le-leb _ _ long, le-leb _ _ full, ← kinds, ← costs, ← levels, ← entries, ← counts, h)
 
 rooms-pass-requires : tie.Need-rooms-pass-requires
 rooms-pass-requires c κs =
-    let counts = c .before .before .before .before in
-    let entries = counts .before .before in
-    let levels = entries .before .before in
-    let costs = levels .before .before in
-    let kinds = costs .before .before in
-    let shape = kinds-pass _ (so (kinds .kinds-pass .ensures) (costs .before .if1 .left)) in
-    (shape .slots, shape .depth, counts-held _ (so (counts .counts-pass .ensures) (c .before .before .before .if5 .left)))
+    let tests = c .before .before .before in
+    let counts = tests .before in
+    let entries = counts .before in
+    let levels = entries .before in
+    let costs = levels .before in
+    let kinds = costs .before in
+    let k = kinds .kinds-pass .result in
+    let first = costs .costs-pass .result in
+    let second = levels .levels-pass .result in
+    let third = entries .entries-pass .result in
+    let all = and-true (k && first && second && third) (counts .counts-pass .result) (tests .if1 .taken) in
+    let three = and-true (k && first && second) third (all .0) in
+    let two = and-true (k && first) second (three .0) in
+    let shape = kinds-pass _ (sym (kinds .kinds-pass .ensures) ∙ and-true k first (two .0) .0) in
+    (shape .slots, shape .depth, counts-held _ (sym (counts .counts-pass .ensures) ∙ all .1))
 
-returns-6 : tie.Need-returns-6
-unfolding wordsPass
-returns-6 c =
-    let counts = c .before .before .before .before .before in
-    let entries = counts .before .before in
-    let levels = entries .before .before in
-    let costs = levels .before .before in
-    let kinds = costs .before .before in
+returns : tie.Need-returns
+returns c =
+    let tests = c .before .before .before .before in
+    let counts = tests .before in
+    let entries = counts .before in
+    let levels = entries .before in
+    let costs = levels .before in
+    let kinds = costs .before in
     let s = kinds .before .before .before in
-    simp (
-      le-leb settingWords (length (s .args .settings .now)) (s .pre .0),
-      le-leb stateWords (length (s .args .state .now)) (s .pre .1),
-      so (kinds .kinds-pass .ensures) (costs .before .if1 .left),
-      so (costs .costs-pass .ensures) (levels .before .if2 .left),
-      so (levels .levels-pass .ensures) (entries .before .if3 .left),
-      so (entries .entries-pass .ensures) (counts .before .if4 .left),
-      so (counts .counts-pass .ensures) (c .before .before .before .before .if5 .left),
-    )
-    (c .rooms-pass .ensures)
+    by-rooms _ _ _ _ (s .pre .0) (s .pre .1) (kinds .kinds-pass .ensures) (costs .costs-pass .ensures) (levels .levels-pass .ensures)
+    (entries .entries-pass .ensures) (counts .counts-pass .ensures) (tests .if1 .taken) (c .rooms-pass .ensures)
+
+returns-2 : tie.Need-returns-2
+returns-2 c =
+    let counts = c .before in
+    let entries = counts .before in
+    let levels = entries .before in
+    let costs = levels .before in
+    let kinds = costs .before in
+    let s = kinds .before .before .before in
+    not-all _ _ _ _ (s .pre .0) (s .pre .1) (kinds .kinds-pass .ensures) (costs .costs-pass .ensures) (levels .levels-pass .ensures)
+    (entries .entries-pass .ensures) (counts .counts-pass .ensures) (c .if1 .left)
 
 pub whole-pass-spec : {M : Type 1} → statement M
 whole-pass-spec =
     tie.close
     (tie.spec
     (λ c κs. search needs)
-    returns
     (λ c κs. search needs)
-    returns-2
     (λ c κs. search needs)
-    returns-3
     (λ c κs. search needs)
-    returns-4
     (λ c κs. search needs)
-    returns-5
     (λ c. search needs)
     (λ c. search needs)
     (λ c. search needs)
     rooms-pass-requires
-    returns-6)
+    returns
+    returns-2)

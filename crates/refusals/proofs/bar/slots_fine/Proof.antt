@@ -7,7 +7,8 @@ use native.Mathlib.Omega.{arith}
 use borrow.Author.Needs.{needs}
 use lib.ListN.{getD}
 use Rattle.refusals.specs.Bar.{every, slotFine, slotsFine}
-use Rattle.refusals.proofs.Bits.{every-more, halved, all-fine, one-bad}
+use Rattle.refusals.specs.Laws.Every.{every-more}
+use Rattle.refusals.proofs.Bits.{halved, all-fine, one-bad}
 use Rattle.refusals.proofs.bar.slots_fine.Statement.{statement}
 use Rattle.refusals.proofs.bar.slots_fine.Tie as tie
 

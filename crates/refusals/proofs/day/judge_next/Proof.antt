@@ -1,7 +1,8 @@
 -- The counts; then places and bar, each a block that is judged by itself.
 use mathlib.Core.Path.{_∙_}
 use Rattle.refusals.specs.Day.{nextLines}
-use Rattle.refusals.specs.Laws.Descent.{so, not-so, fine-line, bad-line, two-blocks}
+use Rattle.refusals.specs.Laws.Lines.{two-blocks}
+use Rattle.refusals.specs.Laws.Descent.{so, not-so, fine-line, bad-line}
 use borrow.Author.Needs.{needs}
 use Rattle.refusals.proofs.day.judge_next.Statement.{statement}
 use Rattle.refusals.proofs.day.judge_next.Tie as tie

@@ -1,0 +1,7 @@
+-- By the test.
+use borrow.Author.Needs.{needs}
+use Rattle.refusals.proofs.verdict.line.Statement.{statement}
+use Rattle.refusals.proofs.verdict.line.Tie as tie
+
+pub line-spec : {M : Type 1} → statement M
+line-spec = tie.close (tie.spec (λ c. simp (c .if1 .taken)) (λ c. simp (c .if1 .left)))
