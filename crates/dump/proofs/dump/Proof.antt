@@ -24,13 +24,5 @@ returns-2 c =
 
 pub dump-spec : {M : Type 1} → statement M
 dump-spec =
-    tie.close
-    (tie.spec
-    (λ c κs. search needs)
-    (λ c. search needs)
-    (λ c. search needs)
-    returns
-    (λ c. search needs)
-    write-dump-requires
-    (λ c. search needs)
-    returns-2)
+    tie.close (tie.spec (λ c κs. search needs) (λ c. search needs) (λ c. search needs) returns (λ c. search needs)
+    write-dump-requires (λ c. search needs) returns-2)

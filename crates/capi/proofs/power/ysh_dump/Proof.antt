@@ -15,11 +15,5 @@ returns-2 c =
 
 pub ysh-dump-spec : {M : Type 1} → statement M
 ysh-dump-spec =
-    tie.close
-    (tie.spec
-    (λ c κs. search needs)
-    (λ c. search needs)
-    returns
-    (λ c κs. search needs)
-    (λ c. search needs)
+    tie.close (tie.spec (λ c κs. search needs) (λ c. search needs) returns (λ c κs. search needs) (λ c. search needs)
     returns-2)

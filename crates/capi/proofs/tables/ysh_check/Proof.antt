@@ -17,11 +17,5 @@ returns-2 c = call-does _ _ (simp (sym (c .before .before .before .check .ensure
 
 pub ysh-check-spec : {M : Type 1} → statement M
 ysh-check-spec =
-    tie.close
-    (tie.spec
-    (λ c κs. search needs)
-    (λ c. search needs)
-    (λ c κs. search needs)
-    (λ c. search needs)
-    returns
+    tie.close (tie.spec (λ c κs. search needs) (λ c. search needs) (λ c κs. search needs) (λ c. search needs) returns
     returns-2)

@@ -17,11 +17,5 @@ returns-2 c = call-does _ _ (simp (sym (c .before .before .before .depth .ensure
 
 pub ysh-depth-spec : {M : Type 1} → statement M
 ysh-depth-spec =
-    tie.close
-    (tie.spec
-    (λ c κs. search needs)
-    (λ c. search needs)
-    (λ c κs. search needs)
-    (λ c. search needs)
-    returns
+    tie.close (tie.spec (λ c κs. search needs) (λ c. search needs) (λ c κs. search needs) (λ c. search needs) returns
     returns-2)

@@ -15,10 +15,4 @@ returns c =
     ap (λ (l : List ℕ). getD l (a .k % 8) 0) (c .bytes-of .ensures ∙ ap eight (c .before .word .ensures)) ∙ sym (byte-of (a .list .now) (a .k))
 
 pub byte-at-spec : {M : Type 1} → statement M
-byte-at-spec =
-    tie.close
-    (tie.spec
-    (λ c κs. search needs)
-    (λ c κs. search needs)
-    (λ c. search needs)
-    returns)
+byte-at-spec = tie.close (tie.spec (λ c κs. search needs) (λ c κs. search needs) (λ c. search needs) returns)

@@ -41,31 +41,9 @@ returns c =
 
 pub put-word-spec : {M : Type 1} → statement M
 put-word-spec =
-    tie.close
-    (tie.spec
-    (λ c κs. search needs)
-    (λ c. search needs)
-    (λ c. search needs)
-    (λ c. search needs)
-    (λ c. search needs)
-    slice-write-area-2
-    (λ c. search needs)
-    (λ c. search needs)
-    slice-write-area-3
-    (λ c. search needs)
-    (λ c. search needs)
-    slice-write-area-4
-    (λ c. search needs)
-    (λ c. search needs)
-    slice-write-area-5
-    (λ c. search needs)
-    (λ c. search needs)
-    slice-write-area-6
-    (λ c. search needs)
-    (λ c. search needs)
-    slice-write-area-7
-    (λ c. search needs)
-    (λ c. search needs)
-    slice-write-area-8
-    same-length
+    tie.close (tie.spec (λ c κs. search needs) (λ c. search needs) (λ c. search needs) (λ c. search needs)
+    (λ c. search needs) slice-write-area-2 (λ c. search needs) (λ c. search needs) slice-write-area-3
+    (λ c. search needs) (λ c. search needs) slice-write-area-4 (λ c. search needs) (λ c. search needs)
+    slice-write-area-5 (λ c. search needs) (λ c. search needs) slice-write-area-6 (λ c. search needs)
+    (λ c. search needs) slice-write-area-7 (λ c. search needs) (λ c. search needs) slice-write-area-8 same-length
     returns)

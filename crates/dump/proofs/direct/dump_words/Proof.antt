@@ -18,11 +18,4 @@ returns-2 : tie.Need-returns-2
 returns-2 c = record { passes = sym (c .if1 .left) ∙ c .before .words-pass .ensures; leaves = refl }
 
 pub dump-words-spec : {M : Type 1} → statement M
-dump-words-spec =
-    tie.close
-    (tie.spec
-    (λ c κs. search needs)
-    write-words-requires
-    (λ c. search needs)
-    returns
-    returns-2)
+dump-words-spec = tie.close (tie.spec (λ c κs. search needs) write-words-requires (λ c. search needs) returns returns-2)

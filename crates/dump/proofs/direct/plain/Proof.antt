@@ -15,8 +15,4 @@ returns-2 : tie.Need-returns-2
 returns-2 c = let s = c .before in let good = s .good in plain-own (s .args .w) (omega (arith, good)) (c .if1 .left)
 
 pub plain-spec : {M : Type 1} → statement M
-plain-spec =
-    tie.close
-    (tie.spec
-    returns
-    returns-2)
+plain-spec = tie.close (tie.spec returns returns-2)

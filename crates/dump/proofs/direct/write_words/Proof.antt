@@ -62,16 +62,6 @@ returns c =
 
 pub write-words-spec : {M : Type 1} → statement M
 write-words-spec =
-    tie.close
-    (tie.spec
-    shared-slice-read-slots
-    shared-slice-read-depth
-    shared-slice-read-held
-    held-window-requires
-    (λ c κs. search needs)
-    direct-head-requires
-    (λ c. search needs)
-    body-words-requires
-    write-order-requires
-    (λ c. search needs)
-    returns)
+    tie.close (tie.spec shared-slice-read-slots shared-slice-read-depth shared-slice-read-held held-window-requires
+    (λ c κs. search needs) direct-head-requires (λ c. search needs) body-words-requires write-order-requires
+    (λ c. search needs) returns)

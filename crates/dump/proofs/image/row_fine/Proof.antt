@@ -22,12 +22,5 @@ returns c =
 
 pub row-fine-spec : {M : Type 1} → statement M
 row-fine-spec =
-    tie.close
-    (tie.spec
-    (λ c. search needs)
-    (λ c. search needs)
-    (λ c κs. search needs)
-    (λ c. search needs)
-    slice-aggregate-words-fine
-    (λ c κs. search needs)
-    returns)
+    tie.close (tie.spec (λ c. search needs) (λ c. search needs) (λ c κs. search needs) (λ c. search needs)
+    slice-aggregate-words-fine (λ c κs. search needs) returns)

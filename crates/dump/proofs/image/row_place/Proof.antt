@@ -28,11 +28,4 @@ returns c =
     (refl, omega (arith, mul-le-mul-left {m = 7 + a .slots} {n = 71} (a .i) (omega (arith, c .pre .0)), mul-le-mul-right 71 (c .pre .1)))
 
 pub row-place-spec : {M : Type 1} → statement M
-row-place-spec =
-    tie.close
-    (tie.spec
-    (λ c. search needs)
-    mul-result
-    mul-result-2
-    add-result-2
-    returns)
+row-place-spec = tie.close (tie.spec (λ c. search needs) mul-result mul-result-2 add-result-2 returns)

@@ -54,15 +54,5 @@ returns-3 c =
 
 pub rows-fine-spec : {M : Type 1} → statement M
 rows-fine-spec =
-    tie.close
-    (tie.spec
-    (λ c κs. search needs)
-    (λ c. search needs)
-    (λ c κs. search needs)
-    each-fine-requires
-    returns
-    row-place-requires
-    returns-2
-    (λ c. search needs)
-    (λ c κs. search needs)
-    returns-3)
+    tie.close (tie.spec (λ c κs. search needs) (λ c. search needs) (λ c κs. search needs) each-fine-requires returns
+    row-place-requires returns-2 (λ c. search needs) (λ c κs. search needs) returns-3)

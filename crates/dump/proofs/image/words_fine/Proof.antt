@@ -18,11 +18,5 @@ returns-2 c =
 
 pub words-fine-spec : {M : Type 1} → statement M
 words-fine-spec =
-    tie.close
-    (tie.spec
-    (λ c κs. search needs)
-    (λ c. search needs)
-    returns
-    (λ c. search needs)
-    (λ c κs. search needs)
+    tie.close (tie.spec (λ c κs. search needs) (λ c. search needs) returns (λ c. search needs) (λ c κs. search needs)
     returns-2)

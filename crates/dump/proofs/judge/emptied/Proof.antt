@@ -9,7 +9,4 @@ unfolding emptied
 returns c = refl
 
 pub emptied-spec : {M : Type 1} → statement M
-emptied-spec =
-    tie.close
-    (tie.spec
-    returns)
+emptied-spec = tie.close (tie.spec returns)

@@ -20,12 +20,4 @@ returns-4 : tie.Need-returns-4
 returns-4 c = let a = c .before .before .before .args in rows-place (a .slots) (a .depth) (a .bytes) (c .before .before .if1 .left)
 
 pub has-place-spec : {M : Type 1} → statement M
-has-place-spec =
-    tie.close
-    (tie.spec
-    returns
-    returns-2
-    returns-3
-    (λ c. search needs)
-    (λ c. search needs)
-    returns-4)
+has-place-spec = tie.close (tie.spec returns returns-2 returns-3 (λ c. search needs) (λ c. search needs) returns-4)

@@ -10,9 +10,4 @@ unfolding judged areaLines
 returns c = cc
 
 pub judge-area-spec : {M : Type 1} → statement M
-judge-area-spec =
-    tie.close
-    (tie.spec
-    (λ c κs. search needs)
-    (λ c κs. search needs)
-    returns)
+judge-area-spec = tie.close (tie.spec (λ c κs. search needs) (λ c κs. search needs) returns)

@@ -7,9 +7,4 @@ returns : tie.Need-returns
 returns c = cc
 
 pub lot-passes-spec : {M : Type 1} → statement M
-lot-passes-spec =
-    tie.close
-    (tie.spec
-    (λ c κs. search needs)
-    (λ c κs. search needs)
-    returns)
+lot-passes-spec = tie.close (tie.spec (λ c κs. search needs) (λ c κs. search needs) returns)

@@ -21,10 +21,4 @@ unfolding sizingPasses
 returns-4 c = simp (le-ltb _ _ (c .before .before .if1 .left), ne-eqb _ _ (c .before .if2 .left), ne-eqb _ _ (c .if3 .left))
 
 pub sizing-passes-spec : {M : Type 1} → statement M
-sizing-passes-spec =
-    tie.close
-    (tie.spec
-    returns
-    returns-2
-    returns-3
-    returns-4)
+sizing-passes-spec = tie.close (tie.spec returns returns-2 returns-3 returns-4)

@@ -17,10 +17,4 @@ returns-3 : tie.Need-returns-3
 returns-3 c = c .whole-pass .ensures
 
 pub words-pass-spec : {M : Type 1} → statement M
-words-pass-spec =
-    tie.close
-    (tie.spec
-    returns
-    returns-2
-    (λ c κs. search needs)
-    returns-3)
+words-pass-spec = tie.close (tie.spec returns returns-2 (λ c κs. search needs) returns-3)

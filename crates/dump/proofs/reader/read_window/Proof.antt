@@ -37,13 +37,5 @@ returns c =
 
 pub read-window-spec : {M : Type 1} → statement M
 read-window-spec =
-    tie.close
-    (tie.spec
-    (λ c κs. search needs)
-    (λ c. search needs)
-    (λ c. search needs)
-    (λ c κs. search needs)
-    mul-n
-    read-words-requires
-    (λ c. search needs)
-    returns)
+    tie.close (tie.spec (λ c κs. search needs) (λ c. search needs) (λ c. search needs) (λ c κs. search needs) mul-n
+    read-words-requires (λ c. search needs) returns)

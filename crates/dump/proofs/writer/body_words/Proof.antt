@@ -19,9 +19,4 @@ returns c =
     sym (mul-assoc 8 (a .depth) w) ∙ ap (λ (m : ℕ). m * w) (mul-comm 8 (a .depth)) ∙ mul-assoc (a .depth) 8 w
 
 pub body-words-spec : {M : Type 1} → statement M
-body-words-spec =
-    tie.close
-    (tie.spec
-    (λ c. search needs)
-    mul-result
-    returns)
+body-words-spec = tie.close (tie.spec (λ c. search needs) mul-result returns)

@@ -47,12 +47,4 @@ returns-4 c =
 
 pub dump-bytes-spec : {M : Type 1} → statement M
 dump-bytes-spec =
-    tie.close
-    (tie.spec
-    returns
-    returns-2
-    returns-3
-    (λ c κs. search needs)
-    mul-result
-    add-result
-    returns-4)
+    tie.close (tie.spec returns returns-2 returns-3 (λ c κs. search needs) mul-result add-result returns-4)

@@ -26,10 +26,4 @@ returns c = c .window .ensures
 
 pub held-window-spec : {M : Type 1} → statement M
 held-window-spec =
-    tie.close
-    (tie.spec
-    (λ c. search needs)
-    mul-end
-    slice-aggregate-window
-    (λ c κs. search needs)
-    returns)
+    tie.close (tie.spec (λ c. search needs) mul-end slice-aggregate-window (λ c κs. search needs) returns)

@@ -59,16 +59,5 @@ returns-3 c =
 
 pub slots-fine-spec : {M : Type 1} → statement M
 slots-fine-spec =
-    tie.close
-    (tie.spec
-    Inv-loop
-    μ-loop
-    (λ c κs. search needs)
-    loop-holds
-    returns
-    (λ c κs. search needs)
-    (λ c. search needs)
-    (λ c. search needs)
-    loop-again
-    returns-2
-    returns-3)
+    tie.close (tie.spec Inv-loop μ-loop (λ c κs. search needs) loop-holds returns (λ c κs. search needs)
+    (λ c. search needs) (λ c. search needs) loop-again returns-2 returns-3)

@@ -9,8 +9,4 @@ unfolding historyOf
 returns c = cc
 
 pub held-fine-spec : {M : Type 1} → statement M
-held-fine-spec =
-    tie.close
-    (tie.spec
-    (λ c κs. search needs)
-    returns)
+held-fine-spec = tie.close (tie.spec (λ c κs. search needs) returns)

@@ -10,9 +10,4 @@ unfolding judged closeLines
 returns c = cc
 
 pub judge-close-spec : {M : Type 1} → statement M
-judge-close-spec =
-    tie.close
-    (tie.spec
-    (λ c κs. search needs)
-    (λ c κs. search needs)
-    returns)
+judge-close-spec = tie.close (tie.spec (λ c κs. search needs) (λ c κs. search needs) returns)

@@ -11,9 +11,4 @@ unfolding judged roomLines historyOf
 returns c = cc
 
 pub judge-room-spec : {M : Type 1} → statement M
-judge-room-spec =
-    tie.close
-    (tie.spec
-    (λ c κs. search needs)
-    (λ c κs. search needs)
-    returns)
+judge-room-spec = tie.close (tie.spec (λ c κs. search needs) (λ c κs. search needs) returns)

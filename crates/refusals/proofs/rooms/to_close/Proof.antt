@@ -9,8 +9,4 @@ unfolding toClose
 returns c = cc
 
 pub to-close-spec : {M : Type 1} → statement M
-to-close-spec =
-    tie.close
-    (tie.spec
-    (λ c κs. search needs)
-    returns)
+to-close-spec = tie.close (tie.spec (λ c κs. search needs) returns)

@@ -55,16 +55,5 @@ returns-5 c =
 
 pub judge-settings-spec : {M : Type 1} → statement M
 judge-settings-spec =
-    tie.close
-    (tie.spec
-    returns
-    (λ c κs. search needs)
-    returns-2
-    (λ c κs. search needs)
-    returns-3
-    (λ c κs. search needs)
-    (λ c. search needs)
-    returns-4
-    (λ c. search needs)
-    (λ c κs. search needs)
-    returns-5)
+    tie.close (tie.spec returns (λ c κs. search needs) returns-2 (λ c κs. search needs) returns-3 (λ c κs. search needs)
+    (λ c. search needs) returns-4 (λ c. search needs) (λ c κs. search needs) returns-5)

@@ -29,11 +29,5 @@ returns-3 c =
 
 pub judge-slippage-spec : {M : Type 1} → statement M
 judge-slippage-spec =
-    tie.close
-    (tie.spec
-    (λ c κs. search needs)
-    returns
-    (λ c κs. search needs)
-    (λ c κs. search needs)
-    returns-2
+    tie.close (tie.spec (λ c κs. search needs) returns (λ c κs. search needs) (λ c κs. search needs) returns-2
     returns-3)

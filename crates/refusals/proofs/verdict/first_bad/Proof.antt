@@ -7,10 +7,4 @@ returns-2 : tie.Need-returns-2
 returns-2 c = cc
 
 pub first-bad-spec : {M : Type 1} → statement M
-first-bad-spec =
-    tie.close
-    (tie.spec
-    (λ c. search needs)
-    (λ c. search needs)
-    (λ c. search needs)
-    returns-2)
+first-bad-spec = tie.close (tie.spec (λ c. search needs) (λ c. search needs) (λ c. search needs) returns-2)
