@@ -4,7 +4,7 @@ use crate::step::Step;
 use table::kinds;
 use table::series::Series;
 ghost use mathlib.Core.Path.{_≡_};
-ghost use Prim.Native.Nat.{_+_, _-_, _*_, _/_, _<_, _≤_};
+ghost use Prim.Native.Nat.{_+_, _-_, _*_, _<_, _≤_};
 ghost use lib.ListN.{length};
 ghost use Rattle.table.specs.Bytes.{u16, u32, u64};
 ghost use Rattle.steps.specs.Bytes.{readStep, stepAt, stepsIn, opOf, extremeOp, operandOp, testOp, answerOp};

@@ -1,5 +1,4 @@
 -- By the test.
-use borrow.Author.Needs.{needs}
 use Rattle.refusals.proofs.verdict.line.Statement.{statement}
 use Rattle.refusals.proofs.verdict.line.Tie as tie
 
