@@ -6,7 +6,6 @@ ghost use Rattle.refusals.specs.Lines.{judged};
 ghost use Rattle.capi.specs.Day.{dayLentLines, stateAfter, dayCall, stepsCall};
 ghost use Rattle.capi.specs.WordRun.{answerOf};
 use crate::calls::answer_word;
-use crate::calls::judge_rooms;
 use crate::calls::judge_words;
 use records::settings::Settings;
 use records::settings::settings_of;
@@ -30,7 +29,10 @@ fn judge_lent(
     if engine::day::no_bars(one, bars) {
         return judge_words(settings, state);
     }
-    judge_rooms(s, settings, state, rows)
+    if let Verdict::Bad(refusal) = refusals::rooms::judge_room(s, rows) {
+        return Verdict::Bad(refusal);
+    }
+    judge_words(settings, state)
 }
 
 // Writes the state where a bar was done.

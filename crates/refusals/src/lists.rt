@@ -7,7 +7,6 @@ ghost use Rattle.refusals.specs.Lines.{judged};
 ghost use Rattle.records.specs.Lent.{lists};
 ghost use Rattle.refusals.specs.Lists.{listLine, listLines};
 use crate::verdict::Verdict;
-use crate::verdict::first_bad;
 use steps::wellformed::Formed;
 use words::limits::MOST_STEPS;
 use words::refusal::Refusal;
@@ -42,8 +41,14 @@ pub fn judge_lists(
     ensures { λ r. ⌜ r ≡ judged (listLines slots depth
         (lists (now (entry .entry)) (now («exit» .entry)) (now («short_entry» .entry)) (now («short_exit» .entry)))) ⌝ }
 {
-    let below = judge_list(slots, depth, short_exit, 3);
-    let below = first_bad(judge_list(slots, depth, short_entry, 2), below);
-    let below = first_bad(judge_list(slots, depth, exit, 1), below);
-    first_bad(judge_list(slots, depth, entry, 0), below)
+    if let Verdict::Bad(refusal) = judge_list(slots, depth, entry, 0) {
+        return Verdict::Bad(refusal);
+    }
+    if let Verdict::Bad(refusal) = judge_list(slots, depth, exit, 1) {
+        return Verdict::Bad(refusal);
+    }
+    if let Verdict::Bad(refusal) = judge_list(slots, depth, short_entry, 2) {
+        return Verdict::Bad(refusal);
+    }
+    judge_list(slots, depth, short_exit, 3)
 }

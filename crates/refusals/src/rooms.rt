@@ -18,8 +18,13 @@ use words::refusal::Refusal;
 pub fn judge_room(s: Settings, rows: &[u64]) -> Verdict
     ensures { λ r. ⌜ r ≡ judged (roomLines s (now (rows .entry))) ⌝ }
 {
-    let enough = s.depth <= rows::row_count(rows, s.slots);
-    line(enough, 10, 0, Verdict::Fine)
+    if rows::row_count(rows, s.slots) < s.depth {
+        return Verdict::Bad(Refusal {
+            number: 10,
+            place: 0,
+        });
+    }
+    Verdict::Fine
 }
 
 // Whether no count is above what a count may be.
@@ -42,9 +47,13 @@ pub(crate) fn counts_fine(n: Counts) -> bool
 fn held_fine(slots: usize, n: Counts, rows: &[u64], equity: &[u64], trades: &[u64]) -> bool
     ensures { λ r. ⌜ r ≡ heldFine slots n (rooms (now (rows .entry)) (now (equity .entry)) (now (trades .entry))) ⌝ }
 {
-    (n.rows_held <= rows::row_count(rows, slots))
-        & (n.equity_points <= equity.len() / POINT_WORDS)
-        & (n.trades <= trades.len() / TRADE_WORDS)
+    if rows::row_count(rows, slots) < n.rows_held {
+        return false;
+    }
+    if equity.len() / POINT_WORDS < n.equity_points {
+        return false;
+    }
+    n.trades <= trades.len() / TRADE_WORDS
 }
 
 // Whether the entry bar, if there is one, is below the bars seen.
@@ -62,12 +71,27 @@ pub fn judge_state(s: Settings, t: State, rows: &[u64], equity: &[u64], trades: 
     ensures { λ r. ⌜ r ≡ judged (stateLines s t (rooms (now (rows .entry)) (now (equity .entry)) (now (trades .entry)))) ⌝ }
 {
     let n = t.counts;
+    if !counts_fine(n) {
+        return Verdict::Bad(Refusal {
+            number: 13,
+            place: 0,
+        });
+    }
+    if !held_fine(s.slots, n, rows, equity, trades) {
+        return Verdict::Bad(Refusal {
+            number: 13,
+            place: 0,
+        });
+    }
     let position = t.position;
     let entered = position.entered;
-    let below = Verdict::Fine;
-    let below = line(entry_below(entered, n.bars_seen), 13, 0, below);
-    let below = line(held_fine(s.slots, n, rows, equity, trades), 13, 0, below);
-    line(counts_fine(n), 13, 0, below)
+    if !entry_below(entered, n.bars_seen) {
+        return Verdict::Bad(Refusal {
+            number: 13,
+            place: 0,
+        });
+    }
+    Verdict::Fine
 }
 
 // 14 as a step begins.

@@ -1,5 +1,5 @@
 // What a judgement says, and what it is made of: the lines of the table of refusals, from the last up, each over what stands below it.
-// The settings and the next bar, which every call looks at, go down their lines instead: a branch for each costs less there.
+// What a call for bars looks at (room, settings, state, lists and the next bar) goes down its lines instead: a branch for each costs less there.
 ghost use mathlib.Core.Path.{_≡_};
 ghost use Rattle.refusals.specs.Lines.{line, over, firstBad};
 use words::refusal::Refusal;

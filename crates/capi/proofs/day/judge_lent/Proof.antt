@@ -2,6 +2,7 @@
 use mathlib.Core.Path.{sym, _∙_}
 use borrow.Author.Needs.{needs}
 use Rattle.capi.specs.Day.{dayLentLines}
+use Rattle.capi.proofs.Calling.{lent-room, lent-words}
 use Rattle.capi.proofs.day.judge_lent.Statement.{statement}
 use Rattle.capi.proofs.day.judge_lent.Tie as tie
 
@@ -9,12 +10,25 @@ returns : tie.Need-returns
 unfolding dayLentLines
 returns c = rw (sym (c .before .before .no-bars .ensures) ∙ c .before .if1 .taken) (c .judge-words .ensures)
 
-judge-rooms-requires : tie.Need-judge-rooms-requires
-judge-rooms-requires c κs = c .before .before .before .before .before .before .pre
-
 returns-2 : tie.Need-returns-2
 unfolding dayLentLines
-returns-2 c = rw (sym (c .before .before .no-bars .ensures) ∙ c .before .if1 .left) (c .judge-rooms .ensures)
+returns-2 c =
+    let room = c .before .before .before in
+    let test = room .before in
+    let start = test .before .before .before .before .before .before in
+    rw (sym (test .before .no-bars .ensures) ∙ test .if1 .left)
+    (sym (lent-room _ _ _ (start .pre) (room .judge-room .ensures) (c .before .refusal .given .1)))
+
+returns-3 : tie.Need-returns-3
+unfolding dayLentLines
+returns-3 c =
+    let room = c .before .before .before in
+    let test = room .before in
+    let start = test .before .before .before .before .before .before in
+    rw (sym (test .before .no-bars .ensures) ∙ test .if1 .left)
+    (sym (lent-words _ _ _ (start .pre) (room .judge-room .ensures) (c .before .enum-told .given .1) (c .judge-words2 .ensures)))
 
 pub judge-lent-spec : {M : Type 1} → statement M
-judge-lent-spec = tie.close (tie.spec (λ c κs. search needs) (λ c κs. search needs) returns judge-rooms-requires returns-2)
+judge-lent-spec =
+    tie.close (tie.spec (λ c κs. search needs) (λ c κs. search needs) returns (λ c κs. search needs) (λ c. search needs)
+    returns-2 (λ c. search needs) (λ c κs. search needs) returns-3)

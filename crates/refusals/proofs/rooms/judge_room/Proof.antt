@@ -1,14 +1,23 @@
 -- One line: places for D rows.
+use borrow.Author.Tests.{lt-leb, le-leb}
 use Rattle.rows.specs.History.{historyOf}
-use Rattle.refusals.specs.Lines.{judged}
 use Rattle.refusals.specs.Rooms.{roomLines}
+use Rattle.refusals.specs.Laws.Descent.{no-line, fine-line, bad-line}
 use borrow.Author.Needs.{needs}
 use Rattle.refusals.proofs.rooms.judge_room.Statement.{statement}
 use Rattle.refusals.proofs.rooms.judge_room.Tie as tie
 
 returns : tie.Need-returns
-unfolding judged roomLines historyOf
-returns c = cc
+unfolding roomLines historyOf
+returns c =
+    let c1 = c .before .before in
+    bad-line _ _ (rw (c1 .row-count .ensures) at (lt-leb _ _ (c .if1 .taken)))
+
+returns-2 : tie.Need-returns-2
+unfolding roomLines historyOf
+returns-2 c =
+    let c1 = c .before .before in
+    fine-line _ _ (rw (c1 .row-count .ensures) at (le-leb _ _ (c .if1 .left))) no-line
 
 pub judge-room-spec : {M : Type 1} → statement M
-judge-room-spec = tie.close (tie.spec (λ c κs. search needs) (λ c κs. search needs) returns)
+judge-room-spec = tie.close (tie.spec (λ c κs. search needs) returns returns-2)
