@@ -1,8 +1,9 @@
 -- No bars ask for the settings and the state alone; else the room of rows comes first. Assumes nothing.
 use mathlib.Core.Path.{sym, _∙_}
 use borrow.Author.Needs.{needs}
+use Rattle.refusals.specs.Laws.Descent.{fine-block, bad-block}
+use Rattle.capi.specs.Bars.{lentLines}
 use Rattle.capi.specs.Day.{dayLentLines}
-use Rattle.capi.proofs.Calling.{lent-room, lent-words}
 use Rattle.capi.proofs.day.judge_lent.Statement.{statement}
 use Rattle.capi.proofs.day.judge_lent.Tie as tie
 
@@ -11,22 +12,22 @@ unfolding dayLentLines
 returns c = rw (sym (c .before .before .no-bars .ensures) ∙ c .before .if1 .taken) (c .judge-words .ensures)
 
 returns-2 : tie.Need-returns-2
-unfolding dayLentLines
+unfolding dayLentLines lentLines
 returns-2 c =
     let room = c .before .before .before in
     let test = room .before in
     let start = test .before .before .before .before .before .before in
-    rw (sym (test .before .no-bars .ensures) ∙ test .if1 .left)
-    (sym (lent-room _ _ _ (start .pre) (room .judge-room .ensures) (c .before .refusal .given .1)))
+    rw (sym (test .before .no-bars .ensures) ∙ test .if1 .left, ← start .pre)
+    (bad-block _ _ (room .judge-room .ensures) (c .before .refusal .given .1))
 
 returns-3 : tie.Need-returns-3
-unfolding dayLentLines
+unfolding dayLentLines lentLines
 returns-3 c =
     let room = c .before .before .before in
     let test = room .before in
     let start = test .before .before .before .before .before .before in
-    rw (sym (test .before .no-bars .ensures) ∙ test .if1 .left)
-    (sym (lent-words _ _ _ (start .pre) (room .judge-room .ensures) (c .before .enum-told .given .1) (c .judge-words2 .ensures)))
+    rw (sym (test .before .no-bars .ensures) ∙ test .if1 .left, ← start .pre)
+    (fine-block _ _ (room .judge-room .ensures) (c .before .enum-told .given .1) (c .judge-words2 .ensures))
 
 pub judge-lent-spec : {M : Type 1} → statement M
 judge-lent-spec =
