@@ -8,7 +8,6 @@ use refusals::rooms::entry_below;
 use refusals::rooms::judge_room;
 use refusals::setting::judge_settings;
 use refusals::verdict::Verdict;
-use refusals::verdict::first_bad;
 use refusals::verdict::line;
 use table::bytes::byte;
 use table::bytes::read16;
@@ -176,21 +175,33 @@ fn rows_fine(image: &[u8]) -> bool
     zero_at(image, end, image.len() - end)
 }
 
-// 19. The lines below the first two are made where these hold: the rows are read by K and the rows held.
+// 19.
 fn judge_image(image: &[u8]) -> Verdict
     ensures { λ r. ⌜ r ≡ judged (imageLines (now (image .entry))) ⌝ }
 {
-    if shape_fine(image) & numbers_fine(image) {
-        let below = Verdict::Fine;
-        let below = line(rows_fine(image), 19, 0, below);
-        let below = line(zero_at(image, 136, 120), 19, 0, below);
-        let below = line(byte(image, 19) == 0, 19, 0, below);
-        return line(unused_zero(image), 19, 0, below);
-    }
-    Verdict::Bad(Refusal {
+    let torn = Refusal {
         number: 19,
         place: 0,
-    })
+    };
+    if !shape_fine(image) {
+        return Verdict::Bad(torn);
+    }
+    if !numbers_fine(image) {
+        return Verdict::Bad(torn);
+    }
+    if !unused_zero(image) {
+        return Verdict::Bad(torn);
+    }
+    if byte(image, 19) != 0 {
+        return Verdict::Bad(torn);
+    }
+    if !zero_at(image, 136, 120) {
+        return Verdict::Bad(torn);
+    }
+    if !rows_fine(image) {
+        return Verdict::Bad(torn);
+    }
+    Verdict::Fine
 }
 
 // 20.
@@ -206,8 +217,14 @@ fn judge_same(s: Settings, image: &[u8]) -> Verdict
 pub(crate) fn judge_restore(s: Settings, image: &[u8], rows: &[u64]) -> Verdict
     ensures { λ r. ⌜ r ≡ restoreJudged s (now (image .entry)) (now (rows .entry)) ⌝ }
 {
-    let below = judge_same(s, image);
-    let below = first_bad(judge_image(image), below);
-    let below = first_bad(judge_settings(s), below);
-    first_bad(judge_room(s, rows), below)
+    if let Verdict::Bad(refusal) = judge_room(s, rows) {
+        return Verdict::Bad(refusal);
+    }
+    if let Verdict::Bad(refusal) = judge_settings(s) {
+        return Verdict::Bad(refusal);
+    }
+    if let Verdict::Bad(refusal) = judge_image(image) {
+        return Verdict::Bad(refusal);
+    }
+    judge_same(s, image)
 }

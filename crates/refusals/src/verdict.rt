@@ -1,5 +1,6 @@
 // What a judgement says, and what it is made of: the lines of the table of refusals, from the last up, each over what stands below it.
-// What a call for bars looks at (room, settings, state, lists and the next bar) goes down its lines instead: a branch for each costs less there.
+// What a call for bars looks at (room, settings, state, lists, the next bar), and an image, goes down its lines instead: a branch for each costs less
+// there.
 ghost use mathlib.Core.Path.{_≡_};
 ghost use Rattle.refusals.specs.Lines.{line, over, firstBad};
 use words::refusal::Refusal;

@@ -1,67 +1,126 @@
--- The first two lines give one refusal, and are one test; those below are made where they hold, one over another.
-use Prim.Native.Nat.{ℕ}
-use mathlib.Core.Path.{_≡_, refl, sym, ap, _∙_}
-use mathlib.Core.Bool.{Bool, true, false, _&&_}
-use mathlib.Core.List.{List, _∷_}
+-- Six lines.
 use native.Mathlib.Omega.{arith}
-use lib.Dec.{eqb}
-use Rattle.words.specs.Outcome.{refusal}
-use Rattle.refusals.specs.declared.verdict.Verdict.{Verdict}
-use Rattle.refusals.specs.declared.verdict.Verdict.the-variants.{Bad}
-use Rattle.refusals.specs.Lines.{Line, line, judged}
-use Rattle.refusals.specs.Laws.Lines.{and-true, line-over}
-use Rattle.refusals.specs.Laws.Descent.{no-line}
+use Rattle.refusals.specs.Laws.Descent.{so, not-so, no-line, fine-line, bad-line}
 use Rattle.dump.specs.Refused.{imageLines}
 use Rattle.dump.specs.Laws.Fine.{shape-fine, rows-few}
+use Rattle.dump.proofs.Testing.{equal, other}
 use borrow.Author.Needs.{needs}
 use Rattle.dump.proofs.image.judge_image.Statement.{statement}
 use Rattle.dump.proofs.image.judge_image.Tie as tie
 
-module _ (a b : Bool) (ls : List Line) where
-  -- one of the two does not hold
-  one-bad : (a && b) ≡ false → Bad (refusal 19 0) ≡ judged (line a 19 0 ∷ line b 19 0 ∷ ls)
-  unfolding judged
-  one-bad h = go a h
-    where
-      go : (c : Bool) → (c && b) ≡ false → Bad (refusal 19 0) ≡ judged (line c 19 0 ∷ line b 19 0 ∷ ls)
-      go true e = simp e
-      go false e = refl
-
-  -- both hold
-  both-hold : {v : Verdict} → (a && b) ≡ true → v ≡ judged ls → v ≡ judged (line a 19 0 ∷ line b 19 0 ∷ ls)
-  unfolding judged
-  both-hold h e = let both = and-true a b h in simp (both .0, both .1) e
-
-rows-fine-requires : tie.Need-rows-fine-requires
-rows-fine-requires c κs =
-    let numbers = c .before in
-    let shape = numbers .before in
-    let x = shape .before .before .args .image .now in
-    let both = and-true (shape .shape-fine .result) (numbers .numbers-fine .result) (c .if1 .taken) in
-    let fine = shape-fine x (sym (shape .shape-fine .ensures) ∙ both .0) in
-    (fine .slots, omega (arith, rows-few x (sym (numbers .numbers-fine .ensures) ∙ both .1), fine .depth))
-
 returns : tie.Need-returns
 unfolding imageLines
 returns c =
-    let spare = c .before .before in
-    let zeros = spare .before .before in
-    let rows = zeros .before .before in
-    let tests = rows .before .before in
-    rw (← tests .before .before .shape-fine .ensures, ← tests .before .numbers-fine .ensures)
-    (both-hold _ _ _ (tests .if1 .taken)
-    (c .line4 .ensures ∙ line-over _ _ (c .before .unused-zero .ensures)
-    (spare .line3 .ensures ∙ line-over _ _ (ap (λ (b : ℕ). eqb b 0) (spare .before .byte .ensures))
-    (zeros .line2 .ensures ∙ line-over _ _ (zeros .before .zero-at .ensures)
-    (rows .line .ensures ∙ line-over _ _ (rows .before .rows-fine .ensures) no-line)))))
+    let c1 = c .before in
+    bad-line _ _ (not-so (c1 .shape-fine .ensures) (c .if1 .taken))
 
 returns-2 : tie.Need-returns-2
 unfolding imageLines
 returns-2 c =
-    rw (← c .before .before .shape-fine .ensures, ← c .before .numbers-fine .ensures) (one-bad _ _ _ (c .if1 .left))
+    let c1 = c .before in
+    let c2 = c1 .before in
+    let c3 = c2 .before in
+    fine-line _ _ (so (c3 .shape-fine .ensures) (c2 .if1 .left))
+    (bad-line _ _ (not-so (c1 .numbers-fine .ensures) (c .if2 .taken)))
+
+returns-3 : tie.Need-returns-3
+unfolding imageLines
+returns-3 c =
+    let c1 = c .before in
+    let c2 = c1 .before in
+    let c3 = c2 .before in
+    let c4 = c3 .before in
+    let c5 = c4 .before in
+    fine-line _ _ (so (c5 .shape-fine .ensures) (c4 .if1 .left))
+    (fine-line _ _ (so (c3 .numbers-fine .ensures) (c2 .if2 .left))
+    (bad-line _ _ (not-so (c1 .unused-zero .ensures) (c .if3 .taken))))
+
+returns-4 : tie.Need-returns-4
+unfolding imageLines
+returns-4 c =
+    let c1 = c .before in
+    let c2 = c1 .before in
+    let c3 = c2 .before in
+    let c4 = c3 .before in
+    let c5 = c4 .before in
+    let c6 = c5 .before in
+    let c7 = c6 .before in
+    fine-line _ _ (so (c7 .shape-fine .ensures) (c6 .if1 .left))
+    (fine-line _ _ (so (c5 .numbers-fine .ensures) (c4 .if2 .left))
+    (fine-line _ _ (so (c3 .unused-zero .ensures) (c2 .if3 .left))
+    (bad-line _ _ (other (c1 .byte .ensures) (c .if4 .taken)))))
+
+returns-5 : tie.Need-returns-5
+unfolding imageLines
+returns-5 c =
+    let c1 = c .before in
+    let c2 = c1 .before in
+    let c3 = c2 .before in
+    let c4 = c3 .before in
+    let c5 = c4 .before in
+    let c6 = c5 .before in
+    let c7 = c6 .before in
+    let c8 = c7 .before in
+    let c9 = c8 .before in
+    fine-line _ _ (so (c9 .shape-fine .ensures) (c8 .if1 .left))
+    (fine-line _ _ (so (c7 .numbers-fine .ensures) (c6 .if2 .left))
+    (fine-line _ _ (so (c5 .unused-zero .ensures) (c4 .if3 .left))
+    (fine-line _ _ (equal (c3 .byte .ensures) (c2 .if4 .left))
+    (bad-line _ _ (not-so (c1 .zero-at .ensures) (c .if5 .taken))))))
+
+returns-6 : tie.Need-returns-6
+unfolding imageLines
+returns-6 c =
+    let c1 = c .before in
+    let c2 = c1 .before in
+    let c3 = c2 .before in
+    let c4 = c3 .before in
+    let c5 = c4 .before in
+    let c6 = c5 .before in
+    let c7 = c6 .before in
+    let c8 = c7 .before in
+    let c9 = c8 .before in
+    let c10 = c9 .before in
+    let c11 = c10 .before in
+    fine-line _ _ (so (c11 .shape-fine .ensures) (c10 .if1 .left))
+    (fine-line _ _ (so (c9 .numbers-fine .ensures) (c8 .if2 .left))
+    (fine-line _ _ (so (c7 .unused-zero .ensures) (c6 .if3 .left))
+    (fine-line _ _ (equal (c5 .byte .ensures) (c4 .if4 .left))
+    (fine-line _ _ (so (c3 .zero-at .ensures) (c2 .if5 .left))
+    (bad-line _ _ (not-so (c1 .rows-fine .ensures) (c .if6 .taken)))))))
+
+returns-7 : tie.Need-returns-7
+unfolding imageLines
+returns-7 c =
+    let c1 = c .before in
+    let c2 = c1 .before in
+    let c3 = c2 .before in
+    let c4 = c3 .before in
+    let c5 = c4 .before in
+    let c6 = c5 .before in
+    let c7 = c6 .before in
+    let c8 = c7 .before in
+    let c9 = c8 .before in
+    let c10 = c9 .before in
+    let c11 = c10 .before in
+    fine-line _ _ (so (c11 .shape-fine .ensures) (c10 .if1 .left))
+    (fine-line _ _ (so (c9 .numbers-fine .ensures) (c8 .if2 .left))
+    (fine-line _ _ (so (c7 .unused-zero .ensures) (c6 .if3 .left))
+    (fine-line _ _ (equal (c5 .byte .ensures) (c4 .if4 .left))
+    (fine-line _ _ (so (c3 .zero-at .ensures) (c2 .if5 .left))
+    (fine-line _ _ (so (c1 .rows-fine .ensures) (c .if6 .left))
+    (no-line))))))
+
+rows-fine-requires : tie.Need-rows-fine-requires
+rows-fine-requires c κs =
+    let numbers = c .before .before .before .before .before .before .before in
+    let shape = numbers .before .before in
+    let x = shape .before .before .args .image .now in
+    let fine = shape-fine x (so (shape .shape-fine .ensures) (numbers .before .if1 .left)) in
+    let few = rows-few x (so (numbers .numbers-fine .ensures) (c .before .before .before .before .before .before .if2 .left)) in
+    (fine .slots, omega (arith, few, fine .depth))
 
 pub judge-image-spec : {M : Type 1} → statement M
 judge-image-spec =
-    tie.close (tie.spec (λ c κs. search needs) (λ c κs. search needs) rows-fine-requires (λ c κs. search needs)
-    (λ c κs. search needs) (λ c κs. search needs) (λ c κs. search needs) (λ c κs. search needs) (λ c κs. search needs)
-    (λ c κs. search needs) returns returns-2)
+    tie.close (tie.spec (λ c κs. search needs) returns (λ c κs. search needs) returns-2 (λ c κs. search needs) returns-3
+    (λ c κs. search needs) returns-4 (λ c κs. search needs) returns-5 rows-fine-requires returns-6 returns-7)
