@@ -1,6 +1,8 @@
 -- The table of kinds: what a node of each kind takes. `Named` has the kinds by name. Definitions only.
 use mathlib.Core.List.{List, [], _∷_}
 use Prim.Native.Nat.{ℕ}
+use mathlib.Core.Bool.{Bool, _&&_}
+use lib.Dec.{eqb}
 use lib.ListN.{getD}
 use Rattle.table.specs.declared.kinds.Kind.{Kind}
 use Rattle.table.specs.declared.kinds.OperandClass.{OperandClass}
@@ -208,3 +210,7 @@ kinds =
 
 unfoldable pub kindOf : ℕ → Kind
 kindOf k = getD kinds k noKind
+
+-- The tests: the conditions that stand over operands.
+unfoldable pub isTestKind : ℕ → Bool
+isTestKind k = eqb (kindOf k .sort) condition && eqb (kindOf k .below) operand

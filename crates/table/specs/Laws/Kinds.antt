@@ -212,9 +212,3 @@ pub cross-numbers : (k : ℕ) → kindOf k ≡ crossing → (Named.crossAbove �
 unfolding conditionNumber
 cross-numbers k r =
     in-range Named.crossAbove Named.crossBelow k (rw r at (condition-number k (known k crossing r (omega arith))))
-
--- "25, 26 Rising, Falling"
-pub trend-numbers : (k : ℕ) → kindOf k ≡ trend → (Named.rising ≤ k) × (k ≤ Named.falling)
-unfolding conditionNumber
-trend-numbers k r =
-    in-range Named.rising Named.falling k (rw r at (condition-number k (known k trend r (omega arith))))
