@@ -5,7 +5,7 @@ use mathlib.Core.List.{List, [], _∷_, _++_}
 use Prim.Native.Nat.{ℕ}
 use Rattle.table.specs.declared.answer.Answer.the-variants.{Accepted}
 use Rattle.table.specs.Bytes.{u16, u32, u64}
-use Rattle.table.specs.Kinds.{kinds, kindOf}
+use Rattle.table.specs.Kinds.{kinds, kindOf, versions, sinceOf}
 use Rattle.table.specs.Header.{markRight, versionRight, countsRight, headerRefusal, root}
 use Rattle.table.specs.Nodes.{nodeAt, childrenRight, nRight, constantRight, kindRight, fieldsRight, ownRight, nodeRight, wrongNode, sortAt, childCount}
 use Rattle.table.specs.Nodes.{childCountAt, childSortAt, childFits, childFitsAt}
@@ -32,8 +32,8 @@ example =
 pub example-accepted : checked example ≡ Accepted 7 3
 unfolding example checked checkedUpTo orHeader orRefused from7 from8 from9 tooFar rowsNeeded farAt tooDeep misfits ofFour treeReach forestOf root forestReach
     weigh ownBack back deeper orPlace trees nodeOver otherTrees firstTrees u16 u32 u64 kindOf kinds nodeAt headerRefusal markRight versionRight countsRight
-    wrongNode nodeRight ownRight kindRight fieldsRight nRight constantRight childrenRight sortAt childCountAt childCount childSortAt childFitsAt childFits
-    fits misfit
+    wrongNode nodeRight ownRight kindRight sinceOf versions fieldsRight nRight constantRight childrenRight sortAt childCountAt childCount childSortAt
+    childFitsAt childFits fits misfit
 example-accepted = refl
 
 -- and it holds those two trees

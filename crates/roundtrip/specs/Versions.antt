@@ -10,6 +10,7 @@ use Rattle.words.specs.Outcome.{refusal}
 use Rattle.table.specs.declared.answer.Answer.the-variants.{Refused}
 use Rattle.table.specs.Header.{version, markRight, versionRight, headerRefusal}
 use Rattle.table.specs.Kinds.{kindOf, extremum}
+use Rattle.table.specs.Laws.Kinds.{extreme-since}
 use Rattle.table.specs.Nodes.{nodeAt, kindRight, ownRight, nodeRight}
 use Rattle.table.specs.Checked.{orHeader, checkedUpTo, checked}
 
@@ -27,4 +28,4 @@ first-refuses-second t long mark two = simp (le-ltb (length t) 16 long, mark, tw
 -- **A table of version 1 has no Highest and no Lowest**: the own bytes of such a node are wrong there, as those of any unknown kind.
 pub first-has-none : (t : List ℕ) (i : ℕ) → version t ≡ 1 → kindOf (nodeAt t i .kind) ≡ extremum → nodeRight t i ≡ false
 unfolding nodeRight ownRight kindRight
-first-has-none t i one row = rw (row, one)
+first-has-none t i one row = rw (extreme-since (nodeAt t i .kind) row, row, one)

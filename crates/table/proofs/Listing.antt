@@ -5,7 +5,7 @@ use mathlib.Core.Bool.{Bool, true, false, cond, _&&_}
 use mathlib.Core.List.{List, [], _∷_, _++_}
 use native.Mathlib.Omega.{arith}
 use native.Mathlib.Numerals.{add-one}
-use lib.Dec.{ltb, leb}
+use lib.Dec.{leb}
 use borrow.Author.Tests.{lt-ltb, le-ltb}
 use lib.ListN.{length, set, drop, length-set, length-append}
 use Rattle.words.specs.Limits.{mostRows}
@@ -15,6 +15,7 @@ use Rattle.table.specs.declared.answer.Answer.the-variants.{Accepted, Re
 use Rattle.table.specs.declared.silent.SilentAnswer.{SilentAnswer}
 use Rattle.table.specs.declared.silent.SilentAnswer.the-variants.{Lists, Refuses}
 use Rattle.table.specs.Header.{count, root}
+use Rattle.table.specs.Kinds.{isTestKind}
 use Rattle.table.specs.Nodes.{nodeAt}
 use Rattle.table.specs.Forest.{trees, firstTrees, forestOf}
 use Rattle.table.specs.Reach.{ownBack, weigh}
@@ -65,7 +66,7 @@ module _ (t : List ℕ) (d b e at : ℕ) (given list : List ℕ) (next i : ℕ) 
   after = silentNodes d (trees t (e - (i + 1)) (i + 1))
 
   abbrev pub is : Bool
-  is = leb 16 (nodeAt t i .kind) && ltb (nodeAt t i .kind) 27 && leb d far
+  is = isTestKind (nodeAt t i .kind) && leb d far
 
   one : silentNodes d (trees t (e - i) i) ≡ cond is (i ∷ []) [] ++ after
   unfolding after silentNode nodeAt

@@ -1,6 +1,8 @@
 -- The table of kinds: what a node of each kind takes. `Named` has the kinds by name. Definitions only.
 use mathlib.Core.List.{List, [], _∷_}
 use Prim.Native.Nat.{ℕ}
+use mathlib.Core.Bool.{Bool, _&&_}
+use lib.Dec.{eqb}
 use lib.ListN.{getD}
 use Rattle.table.specs.declared.kinds.Kind.{Kind}
 use Rattle.table.specs.declared.kinds.OperandClass.{OperandClass}
@@ -88,17 +90,10 @@ aSeries = 1
 abbrev pub overASeries : ℕ
 overASeries = 2
 
--- The version that a kind came with.
-abbrev pub firstVersion : ℕ
-firstVersion = 1
-
-abbrev pub secondVersion : ℕ
-secondVersion = 2
-
 -- A row: the class of the node, what stands below it, which fields it uses, what it adds to the reach, whether it is a series or
--- takes one, the version it came with.
-abbrev pub row : OperandClass → ConditionClass → ℕ → Takes → Uses → ℕ → ℕ → ℕ → Kind
-row o c sort takes uses back series since =
+-- takes one.
+abbrev pub row : OperandClass → ConditionClass → ℕ → Takes → Uses → ℕ → ℕ → Kind
+row o c sort takes uses back series =
     record {
       operand = o;
       condition = c;
@@ -110,17 +105,16 @@ row o c sort takes uses back series since =
       constant = uses .constant;
       back = back;
       series = series;
-      since = since;
     }
 
 abbrev pub anOperand : OperandClass → Takes → Uses → ℕ → Kind
-anOperand class takes uses back = row class NoCondition operand takes uses back neither firstVersion
+anOperand class takes uses back = row class NoCondition operand takes uses back neither
 
 abbrev pub aLeafOfEachRow : OperandClass → Uses → Kind
-aLeafOfEachRow class uses = row class NoCondition operand leaf uses nothing aSeries firstVersion
+aLeafOfEachRow class uses = row class NoCondition operand leaf uses nothing aSeries
 
 abbrev pub aCondition : ConditionClass → Takes → Uses → ℕ → Kind
-aCondition class takes uses back = row NoOperand class condition takes uses back neither firstVersion
+aCondition class takes uses back = row NoOperand class condition takes uses back neither
 
 -- ---- the rows
 
@@ -130,7 +124,7 @@ aCondition class takes uses back = row NoOperand class condition takes uses back
 -- more conditions); 29 Not (one condition); 30 InPosition (selector 0 or 1); 31 BarsSinceEntry (selector 0..4: Gt, Lt, Ge,
 -- Le, Eq; n = k)."
 abbrev pub noKind : Kind
-noKind = row NoOperand NoCondition 0 leaf (selectorBelow 0) nothing neither firstVersion
+noKind = row NoOperand NoCondition 0 leaf (selectorBelow 0) nothing neither
 
 abbrev pub constant : Kind
 constant = anOperand Const leaf theConstant nothing
@@ -149,7 +143,7 @@ arithmetic = anOperand Arith (operands 2) kindAlone nothing
 
 -- "Kinds 9 and 10, Highest and Lowest, take n from 1 to 4,095 and one child that must be a Price or a Ref." (request 8)
 abbrev pub extremum : Kind
-extremum = row Extreme NoCondition operand (operands 1) howManyBars barsBefore overASeries secondVersion
+extremum = row Extreme NoCondition operand (operands 1) howManyBars barsBefore overASeries
 
 abbrev pub comparison : Kind
 comparison = aCondition Compare (operands 2) kindAlone nothing
@@ -208,3 +202,22 @@ kinds =
 
 unfoldable pub kindOf : ℕ → Kind
 kindOf k = getD kinds k noKind
+
+-- The tests: the conditions that stand over operands.
+unfoldable pub isTestKind : ℕ → Bool
+isTestKind k = eqb (kindOf k .sort) condition && eqb (kindOf k .below) operand
+
+-- ---- the version that a kind came with
+
+abbrev pub secondVersion : ℕ
+secondVersion = 2
+
+-- Of kinds 0 to 31, 0 where there is no such kind; "Kinds 9 and 10" came with version 2 (request 8). It is no part of a row, so that
+-- kinds of one row may come with different versions.
+unfoldable pub versions : List ℕ
+versions =
+    0 ∷ 1 ∷ 1 ∷ 1 ∷ 1 ∷ 1 ∷ 1 ∷ 1 ∷ 1 ∷ 2 ∷ 2 ∷ 0 ∷ 0 ∷ 0 ∷ 0 ∷ 0 ∷
+    1 ∷ 1 ∷ 1 ∷ 1 ∷ 1 ∷ 1 ∷ 1 ∷ 1 ∷ 1 ∷ 1 ∷ 1 ∷ 1 ∷ 1 ∷ 1 ∷ 1 ∷ 1 ∷ []
+
+unfoldable pub sinceOf : ℕ → ℕ
+sinceOf k = getD versions k 0

@@ -8,8 +8,9 @@ use Rattle.table.specs.declared.header.Form.{Form}
 use Rattle.table.specs.declared.series.Series.{Series}
 use Rattle.table.specs.declared.series.Series.the-variants.{Price, Slot}
 use Rattle.table.specs.Kinds as Kinds
-use Rattle.table.specs.Kinds.{kindOf, arithmetic, extremum, comparison, crossing, secondVersion}
+use Rattle.table.specs.Kinds.{kindOf, arithmetic, extremum, comparison, crossing}
 use Rattle.table.specs.Header.{newestVersion}
+use Rattle.table.specs.Nodes.{kindRight}
 use Rattle.table.specs.Trees.{Operand, const, ref, price, prev, arith, extreme, Condition, Conditions, compare, cross, between, trend, every, any}
 use Rattle.table.specs.Trees.{negated, inPosition, barsSince, none, more, reachOf}
 use Rattle.table.specs.Writing.{Short, absent, given, Rule, nodesOfRule}
@@ -19,6 +20,10 @@ unfoldable pub WithinSeries : Form → Series → Type 0
 WithinSeries form (Price selector) = selector < 7
 WithinSeries form (Slot slot) = slot < form .slots
 
+-- a kind of the version that the table has, or of an earlier one
+abbrev pub InVersion : Form → ℕ → Type 0
+InVersion form kind = kindRight (form .version) kind ≡ true
+
 -- "Const (constant, finite)", its bits a 64-bit word; "Ref (n = slot, below K)"; "Price (selector 0..6 ..)"; n 32 bits; "5..8 Add,
 -- Sub, Mul, Div". "Kinds 9 and 10, Highest and Lowest, take n from 1 to 4,095", in a table of version 2.
 unfoldable pub Within : Form → Operand → Type 0
@@ -26,16 +31,16 @@ Within form (const bits) = (bits < 18446744073709551616) × (finite (floatOf bit
 Within form (ref slot) = slot < form .slots
 Within form (price selector) = selector < 7
 Within form (prev a n) = (n < 4294967296) × Within form a
-Within form (arith kind a b) = (kindOf kind ≡ arithmetic) × Within form a × Within form b
-Within form (extreme kind s n) = (kindOf kind ≡ extremum) × (secondVersion ≤ form .version) × (1 ≤ n) × (n ≤ mostReach) × WithinSeries form s
+Within form (arith kind a b) = (kindOf kind ≡ arithmetic) × Within form a × Within form b × InVersion form kind
+Within form (extreme kind s n) = (kindOf kind ≡ extremum) × InVersion form kind × (1 ≤ n) × (n ≤ mostReach) × WithinSeries form s
 
 -- "16..21 Gt, Lt, Ge, Le, Eq, Ne and 22, 23 CrossAbove, CrossBelow"; "25, 26 Rising, Falling"; "31 BarsSinceEntry (selector 0..4 ..)"
 unfoldable mutual
   pub WithinOf : Form → Condition → Type 0
-  WithinOf form (compare kind a b) = (kindOf kind ≡ comparison) × Within form a × Within form b
-  WithinOf form (cross kind a b) = (kindOf kind ≡ crossing) × Within form a × Within form b
+  WithinOf form (compare kind a b) = (kindOf kind ≡ comparison) × Within form a × Within form b × InVersion form kind
+  WithinOf form (cross kind a b) = (kindOf kind ≡ crossing) × Within form a × Within form b × InVersion form kind
   WithinOf form (between x low high) = Within form x × Within form low × Within form high
-  WithinOf form (trend kind a n) = (kindOf kind ≡ Kinds.trend) × (n < 4294967296) × Within form a
+  WithinOf form (trend kind a n) = (kindOf kind ≡ Kinds.trend) × (n < 4294967296) × Within form a × InVersion form kind
   WithinOf form (every cs) = WithinAll form cs
   WithinOf form (any cs) = WithinAll form cs
   WithinOf form (negated c) = WithinOf form c

@@ -12,7 +12,7 @@ use Rattle.table.specs.declared.header.Form.{Form}
 use Rattle.table.specs.declared.places.Place.{Place}
 use Rattle.table.specs.declared.places.Place.the-variants.{Nowhere, At}
 use Rattle.table.specs.Bytes.{u16, u32, u64}
-use Rattle.table.specs.Kinds.{kindOf, asWritten, aSeries, overASeries, secondVersion}
+use Rattle.table.specs.Kinds.{kindOf, asWritten, aSeries, overASeries, secondVersion, sinceOf}
 use Rattle.table.specs.Header.{formOf}
 
 -- "Then 16 bytes a node." "Node: kind (1), selector (1), children (2), n (4), constant bits (8)." The number of the node is
@@ -50,11 +50,11 @@ fieldsRight k n w =
 
 -- "Version 1 tables mean what they meant": a kind that came with version 2 is none in a table of version 1.
 unfoldable pub kindRight : ℕ → ℕ → Bool
-kindRight version since = cond (eqb since secondVersion) (leb secondVersion version) true
+kindRight version kind = cond (eqb (sinceOf kind) secondVersion) (leb secondVersion version) true
 
 -- a node's own bytes: a known kind, and each field as the kind uses it
 unfoldable pub ownRight : Form → Node → Kind → Bool
-ownRight form n w = not (eqb (w .sort) 0) && kindRight (form .version) (w .since) && fieldsRight (form .slots) n w
+ownRight form n w = not (eqb (w .sort) 0) && kindRight (form .version) (n .kind) && fieldsRight (form .slots) n w
 
 unfoldable pub nodeRight : List ℕ → ℕ → Bool
 nodeRight t i = ownRight (formOf t) (nodeAt t i) (kindOf (nodeAt t i .kind))

@@ -11,6 +11,7 @@ use Rattle.table.specs.declared.answer.Answer.{Answer}
 use Rattle.table.specs.declared.answer.Answer.the-variants.{Accepted, Refused}
 use Rattle.table.specs.declared.silent.SilentAnswer.{SilentAnswer}
 use Rattle.table.specs.declared.silent.SilentAnswer.the-variants.{Lists, Refuses}
+use Rattle.table.specs.Kinds.{isTestKind}
 use Rattle.table.specs.Header.{root}
 use Rattle.table.specs.Forest.{Forest, forestOf}
 use Rattle.table.specs.Forest as Forest
@@ -82,10 +83,10 @@ listAfter (Lists n) numbers list = numbers ++ drop (length numbers) list
 unfoldable pub WholeTrees : List ℕ → List ℕ → Type 0
 WholeTrees t ends = (x : ℕ) → x < 4 → WholeTree t ends (root t x) (root t (x + 1))
 
--- ---- as the code finds them: a node of kind 16 to 26 whose subtree weighs d bars or more, weights being capped at 4,096
+-- ---- as the code finds them: a node of a test's kind whose subtree weighs d bars or more, weights being capped at 4,096
 
 unfoldable pub silentNode : ℕ → Node → ℕ → List ℕ
-silentNode d n back = cond (leb 16 (n .kind) && ltb (n .kind) 27 && leb d (min back mostRows)) (n .number ∷ []) []
+silentNode d n back = cond (isTestKind (n .kind) && leb d (min back mostRows)) (n .number ∷ []) []
 
 unfoldable pub silentNodes : ℕ → Forest → List ℕ
 silentNodes d Forest.none = []

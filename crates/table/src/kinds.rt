@@ -1,7 +1,7 @@
 // The kinds of nodes by name, and the constant table of kinds: what a node of each kind takes. Checker, reach, evaluator and
 // translator read it.
 ghost use mathlib.Core.Path.{_≡_};
-ghost use Rattle.table.specs.Kinds.{kindOf, rowNamed};
+ghost use Rattle.table.specs.Kinds.{kindOf, rowNamed, sinceOf};
 
 // The kinds, by number.
 pub const CONST: u8 = 1;
@@ -92,7 +92,6 @@ pub struct Kind {
     pub constant: u8,
     pub back: u8,
     pub series: u8,
-    pub since: u8,
 }
 
 // Sorts.
@@ -128,11 +127,6 @@ pub const A_SERIES: u8 = 1;
 
 pub const OVER_A_SERIES: u8 = 2;
 
-// The version of the table that the kind came with.
-const FIRST: u8 = 1;
-
-pub const SECOND: u8 = 2;
-
 const UNKNOWN_ROW: Kind = Kind {
     operand: OperandClass::NoOperand,
     condition: ConditionClass::NoCondition,
@@ -144,7 +138,6 @@ const UNKNOWN_ROW: Kind = Kind {
     constant: 0,
     back: NOTHING,
     series: NEITHER,
-    since: FIRST,
 };
 
 const CONST_ROW: Kind = Kind {
@@ -158,7 +151,6 @@ const CONST_ROW: Kind = Kind {
     constant: 1,
     back: NOTHING,
     series: NEITHER,
-    since: FIRST,
 };
 
 const REF_ROW: Kind = Kind {
@@ -172,7 +164,6 @@ const REF_ROW: Kind = Kind {
     constant: 0,
     back: NOTHING,
     series: A_SERIES,
-    since: FIRST,
 };
 
 const PRICE_ROW: Kind = Kind {
@@ -186,7 +177,6 @@ const PRICE_ROW: Kind = Kind {
     constant: 0,
     back: NOTHING,
     series: A_SERIES,
-    since: FIRST,
 };
 
 const PREV_ROW: Kind = Kind {
@@ -200,7 +190,6 @@ const PREV_ROW: Kind = Kind {
     constant: 0,
     back: ITS_N,
     series: NEITHER,
-    since: FIRST,
 };
 
 const ARITH_ROW: Kind = Kind {
@@ -214,7 +203,6 @@ const ARITH_ROW: Kind = Kind {
     constant: 0,
     back: NOTHING,
     series: NEITHER,
-    since: FIRST,
 };
 
 const EXTREME_ROW: Kind = Kind {
@@ -228,7 +216,6 @@ const EXTREME_ROW: Kind = Kind {
     constant: 0,
     back: BARS_BEFORE,
     series: OVER_A_SERIES,
-    since: SECOND,
 };
 
 const COMPARE_ROW: Kind = Kind {
@@ -242,7 +229,6 @@ const COMPARE_ROW: Kind = Kind {
     constant: 0,
     back: NOTHING,
     series: NEITHER,
-    since: FIRST,
 };
 
 const CROSS_ROW: Kind = Kind {
@@ -256,7 +242,6 @@ const CROSS_ROW: Kind = Kind {
     constant: 0,
     back: ONE_BAR,
     series: NEITHER,
-    since: FIRST,
 };
 
 const BETWEEN_ROW: Kind = Kind {
@@ -270,7 +255,6 @@ const BETWEEN_ROW: Kind = Kind {
     constant: 0,
     back: NOTHING,
     series: NEITHER,
-    since: FIRST,
 };
 
 const TREND_ROW: Kind = Kind {
@@ -284,7 +268,6 @@ const TREND_ROW: Kind = Kind {
     constant: 0,
     back: ITS_N,
     series: NEITHER,
-    since: FIRST,
 };
 
 const ALL_ROW: Kind = Kind {
@@ -298,7 +281,6 @@ const ALL_ROW: Kind = Kind {
     constant: 0,
     back: NOTHING,
     series: NEITHER,
-    since: FIRST,
 };
 
 const ANY_ROW: Kind = Kind {
@@ -312,7 +294,6 @@ const ANY_ROW: Kind = Kind {
     constant: 0,
     back: NOTHING,
     series: NEITHER,
-    since: FIRST,
 };
 
 const NOT_ROW: Kind = Kind {
@@ -326,7 +307,6 @@ const NOT_ROW: Kind = Kind {
     constant: 0,
     back: NOTHING,
     series: NEITHER,
-    since: FIRST,
 };
 
 const IN_POSITION_ROW: Kind = Kind {
@@ -340,7 +320,6 @@ const IN_POSITION_ROW: Kind = Kind {
     constant: 0,
     back: NOTHING,
     series: NEITHER,
-    since: FIRST,
 };
 
 const BARS_SINCE_ROW: Kind = Kind {
@@ -354,7 +333,6 @@ const BARS_SINCE_ROW: Kind = Kind {
     constant: 0,
     back: NOTHING,
     series: NEITHER,
-    since: FIRST,
 };
 
 // The rows by name, so that the table of kinds is one byte a kind: an array of rows would be copied whole at each look-up.
@@ -447,4 +425,56 @@ pub fn kind_of(k: u8) -> Kind
     } else {
         UNKNOWN_ROW
     }
+}
+
+// The version of the table that a kind came with, none for an unknown one. It is no part of a row, so that kinds of one row may
+// come with different versions.
+const NONE: u8 = 0;
+
+const FIRST: u8 = 1;
+
+pub const SECOND: u8 = 2;
+
+// The versions of kinds 0 to 31.
+const SINCE: [u8; 32] = [
+    NONE,
+    FIRST,
+    FIRST,
+    FIRST,
+    FIRST,
+    FIRST,
+    FIRST,
+    FIRST,
+    FIRST,
+    SECOND,
+    SECOND,
+    NONE,
+    NONE,
+    NONE,
+    NONE,
+    NONE,
+    FIRST,
+    FIRST,
+    FIRST,
+    FIRST,
+    FIRST,
+    FIRST,
+    FIRST,
+    FIRST,
+    FIRST,
+    FIRST,
+    FIRST,
+    FIRST,
+    FIRST,
+    FIRST,
+    FIRST,
+    FIRST,
+];
+
+// The version that a kind came with.
+pub fn since_of(k: u8) -> u8
+    ensures { λ r. ⌜ r ≡ sinceOf k ⌝ }
+{
+    let i = k as usize;
+    if i < 32 { SINCE[i] } else { NONE }
 }

@@ -13,6 +13,7 @@ use crate::kinds::OVER_A_SERIES;
 use crate::kinds::SECOND;
 use crate::kinds::SLOT;
 use crate::kinds::kind_of;
+use crate::kinds::since_of;
 use crate::places::Place;
 use words::limits::MOST_REACH;
 ghost use mathlib.Core.Path.{_≡_};
@@ -62,10 +63,10 @@ pub fn node_at(t: &[u8], i: usize) -> Node
     }
 }
 
-fn kind_right(version: usize, since: u8) -> bool
-    ensures { λ r. ⌜ r ≡ kindRight version since ⌝ }
+fn kind_right(version: usize, kind: u8) -> bool
+    ensures { λ r. ⌜ r ≡ kindRight version kind ⌝ }
 {
-    if since == SECOND {
+    if since_of(kind) == SECOND {
         SECOND as usize <= version
     } else {
         true
@@ -133,7 +134,7 @@ fn own_right(form: Form, n: Node, w: Kind) -> bool
     if w.sort == 0 {
         return false;
     }
-    if kind_right(form.version, w.since) {
+    if kind_right(form.version, n.kind) {
         fields_right(form.slots, n, w)
     } else {
         false

@@ -3,6 +3,9 @@
 use crate::answer::Answer;
 use crate::check;
 use crate::header;
+use crate::kinds::CONDITION;
+use crate::kinds::OPERAND;
+use crate::kinds::kind_of;
 use crate::nodes::node_at;
 use crate::weighing::BARS;
 use crate::weighing::weigh_tree;
@@ -10,8 +13,9 @@ use words::refusal::Refusal;
 ghost use mathlib.Core.Path.{_≡_};
 ghost use mathlib.Core.Bool.{_&&_};
 ghost use Prim.Native.Nat.{_+_, _≤_, _<_};
-ghost use lib.Dec.{ltb, leb};
+ghost use lib.Dec.{leb};
 ghost use lib.ListN.{length, set};
+ghost use Rattle.table.specs.Kinds.{isTestKind};
 ghost use Rattle.table.specs.Nodes.{nodeAt};
 ghost use Rattle.table.specs.Checked.{checked};
 ghost use Rattle.table.specs.Header.{root};
@@ -28,18 +32,18 @@ pub enum SilentAnswer {
 // The number of the list, as a room.
 pub const ROOM_SILENT: u64 = 18;
 
-// Whether the node is a test (kinds 16 to 26) and reaches back `d` bars or more, where its subtree weighs `far`.
+// Whether the node is a test and reaches back `d` bars or more, where its subtree weighs `far`.
 fn is_silent(t: &[u8], i: usize, far: u64, d: u64) -> bool
-    ensures { λ r. ⌜ r ≡ (leb 16 (nodeAt (now (t .entry)) i .kind) && ltb (nodeAt (now (t .entry)) i .kind) 27 && leb d far) ⌝ }
+    ensures { λ r. ⌜ r ≡ (isTestKind (nodeAt (now (t .entry)) i .kind) && leb d far) ⌝ }
 {
     let n = node_at(t, i);
-    if n.kind < 16 {
-        return false;
+    let row = kind_of(n.kind);
+    if row.sort == CONDITION {
+        if row.below == OPERAND {
+            return d <= far;
+        }
     }
-    if 26 < n.kind {
-        return false;
-    }
-    d <= far
+    false
 }
 
 // A number into a list, where the list has that place.

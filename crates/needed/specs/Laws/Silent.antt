@@ -6,10 +6,10 @@ use mathlib.Core.List.{List, [], _∷_, _++_, append-assoc, append-nil}
 use mathlib.Core.Logic.{⊎-elim}
 use native.Mathlib.Omega.{arith}
 use native.Mathlib.Nat.{eq-zero-or-pos}
-use lib.Dec.{leb, ltb, eqb}
+use lib.Dec.{leb}
 use lib.ListN.{length, getD, drop, replicate}
 use lib.Seq.{drop-at}
-use borrow.Author.Tests.{lt-ltb, le-leb, lt-leb, leb-false, ltb-true}
+use borrow.Author.Tests.{lt-leb, leb-false}
 use Rattle.words.specs.Limits.{mostRows, mostReach}
 use Rattle.table.specs.declared.nodes.Node.{Node}
 use Rattle.table.specs.declared.header.Form.{Form}
@@ -31,26 +31,29 @@ use Rattle.roundtrip.specs.Laws.Reach.{rows-are}
 use Rattle.table.specs.Laws.Accepted.{header-of, tree-ends}
 use Rattle.table.specs.Bytes.{Bytes}
 use Rattle.roundtrip.specs.Laws.AcceptedWritten.{byte, nodes-back, tree-written, tree-nodes}
-use Rattle.table.specs.Laws.Kinds.{compare-numbers, cross-numbers, trend-numbers, of-rows, known}
 use Rattle.roundtrip.specs.Laws.WrittenForest.{plantOf, plantAll}
 use Rattle.roundtrip.specs.Laws.WrittenNodes.{From}
 use Rattle.roundtrip.specs.Laws.WrittenGrows.{growsOf}
 use Rattle.roundtrip.specs.Laws.WrittenTrees.{given-reach}
 use Rattle.roundtrip.specs.Laws.AcceptedWithin.{tree-within}
 use Rattle.table.specs.Silent.{isTest, silent, ifSilent, silentIn, silentInAll, silentOf, silentTests, silentNode, silentNodes, fourSilent}
-use Rattle.table.specs.Kinds.{kinds, kindOf}
+use Rattle.table.specs.declared.kinds.Kind.{Kind}
+use Rattle.table.specs.Kinds.{kinds, kindOf, isTestKind}
 use Rattle.table.specs.Nodes.{childCount}
 use Rattle.roundtrip.specs.Laws.Reading.{operands-below}
 use Rattle.roundtrip.specs.Laws.WrittenForestKept.{sortedOf}
 
 -- ---- the forest of a tree
 
--- "16..21 Gt .. Ne": the kinds of operands are below those of conditions
-operand-low : (k : ℕ) → kindOf k .sort ≡ 1 → k < 16
-operand-low k sort =
-    let low : k < 32 = known k (kindOf k) refl (omega arith) in
-    let told = of-rows (λ i. cond (eqb (kindOf i .sort) 1) (ltb i 16) true) (λ i. true) (unfold from kindOf kinds in refl) k low in
-    ltb-true k 16 (rw sort at told)
+-- an operand is no test
+no-test : (k : ℕ) → kindOf k .sort ≡ 1 → isTestKind k ≡ false
+unfolding isTestKind
+no-test k sort = rw sort
+
+-- and a kind is one where its row says so
+row-test : (k : ℕ) (row : Kind) → kindOf k ≡ row → row .sort ≡ 2 → row .below ≡ 1 → isTestKind k ≡ true
+unfolding isTestKind
+row-test k row e sort below = rw (e, sort, below)
 
 module _ (d : ℕ) (form : Form) where
   -- there is no test among operands
@@ -63,49 +66,46 @@ module _ (d : ℕ) (form : Form) where
       let others : sorts rest ≡ replicate m 1 = cc in
       let under = operands-below n below sort (kept .0) in
       rw (
-        lt-leb 16 (n .kind) (operand-low (n .kind) sort),
+        no-test (n .kind) sort,
         operands-none below (childCount n (kindOf (n .kind))) (kept .1) (under .0),
         operands-none rest m (kept .2) others,
       )
 
   -- a test is found where it is silent
-  test-found : (c : Condition) (n : Node) (back : ℕ) → isTest c ≡ true → 16 ≤ n .kind → n .kind < 27 → back ≡ reachOf c → reachOf c ≤ mostReach
+  test-found : (c : Condition) (n : Node) (back : ℕ) → isTest c ≡ true → isTestKind (n .kind) ≡ true → back ≡ reachOf c → reachOf c ≤ mostReach
       → silentNode d n back ≡ ifSilent d c (n .number)
   unfolding silentNode ifSilent silent
-  test-found c n back is lo hi same near =
+  test-found c n back is kind same near =
       let uncut : min (reachOf c) mostRows ≡ reachOf c = omega (arith, near) in
-      rw (le-leb 16 (n .kind) lo, lt-ltb (n .kind) 27 hi, same, uncut, is)
+      rw (kind, same, uncut, is)
 
   -- a node of a test, over m operands
-  test-tree : (c : Condition) (n : Node) (below rest : Forest) (m : ℕ) → isTest c ≡ true → 16 ≤ n .kind → n .kind < 27
+  test-tree : (c : Condition) (n : Node) (below rest : Forest) (m : ℕ) → isTest c ≡ true → isTestKind (n .kind) ≡ true
       → weigh ownBack (Forest.tree n below Forest.none) ≡ reachOf c → reachOf c ≤ mostReach → Sorted (Forest.tree n below Forest.none)
       → replicate (childCount n (kindOf (n .kind))) (kindOf (n .kind) .below) ≡ replicate m 1
       → silentNodes d (Forest.tree n below rest) ≡ ifSilent d c (n .number) ++ silentNodes d rest
   unfolding silentNodes weigh Sorted
-  test-tree c n below rest m is lo hi heavy near kept row =
-      rw (test-found c n (ownBack n + weigh ownBack below) is lo hi (omega (arith, heavy)) near, operands-none below m (kept .1) (kept .0 ∙ row))
+  test-tree c n below rest m is kind heavy near kept row =
+      rw (test-found c n (ownBack n + weigh ownBack below) is kind (omega (arith, heavy)) near, operands-none below m (kept .1) (kept .0 ∙ row))
 
   mutual
-    unfolding plantOf silentNodes silentNode silentIn isTest reachOf WithinOf Sorted childCount kindOf kinds
+    unfolding plantOf silentNodes silentNode silentIn isTest isTestKind reachOf WithinOf Sorted childCount kindOf kinds
 
     -- a tree's nodes, and what follows them
     planted : (c : Condition) (i : ℕ) (rest : Forest) → WithinOf form c → reachOf c ≤ mostReach
         → silentNodes d (plantOf i c rest) ≡ silentIn d c i ++ silentNodes d rest
     planted (compare kind a b) i rest w near =
         let c = compare kind a b in
-        let n = compare-numbers kind (w .0) in
-        test-tree c _ _ rest 2 refl (n .0) (omega (arith, n .1)) (given-reach form c i w) near (sortedOf form c i Forest.none w tt) (rw (w .0))
+        test-tree c _ _ rest 2 refl (row-test kind _ (w .0) refl refl) (given-reach form c i w) near (sortedOf form c i Forest.none w tt) (rw (w .0))
     planted (cross kind a b) i rest w near =
         let c = cross kind a b in
-        let n = cross-numbers kind (w .0) in
-        test-tree c _ _ rest 2 refl (omega (arith, n .0)) (omega (arith, n .1)) (given-reach form c i w) near (sortedOf form c i Forest.none w tt) (rw (w .0))
+        test-tree c _ _ rest 2 refl (row-test kind _ (w .0) refl refl) (given-reach form c i w) near (sortedOf form c i Forest.none w tt) (rw (w .0))
     planted (between x a b) i rest w near =
         let c = between x a b in
-        test-tree c _ _ rest 3 refl (omega arith) (omega arith) (given-reach form c i w) near (sortedOf form c i Forest.none w tt) refl
+        test-tree c _ _ rest 3 refl (row-test 24 _ refl refl refl) (given-reach form c i w) near (sortedOf form c i Forest.none w tt) refl
     planted (trend kind a k) i rest w near =
         let c = trend kind a k in
-        let n = trend-numbers kind (w .0) in
-        test-tree c _ _ rest 1 refl (omega (arith, n .0)) (omega (arith, n .1)) (given-reach form c i w) near (sortedOf form c i Forest.none w tt) (rw (w .0))
+        test-tree c _ _ rest 1 refl (row-test kind _ (w .0) refl refl) (given-reach form c i w) near (sortedOf form c i Forest.none w tt) (rw (w .0))
     planted (every cs) i rest w near = rw (planted-all cs (i + 1) Forest.none w near, append-nil (silentInAll d cs (i + 1)))
     planted (any cs) i rest w near = rw (planted-all cs (i + 1) Forest.none w near, append-nil (silentInAll d cs (i + 1)))
     planted (negated c) i rest w near = rw (planted c (i + 1) Forest.none w near, append-nil (silentIn d c (i + 1)))

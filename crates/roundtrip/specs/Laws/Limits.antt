@@ -15,7 +15,7 @@ use Rattle.table.specs.declared.header.Form.{Form}
 use Rattle.table.specs.declared.places.Place.the-variants.{Nowhere}
 use Rattle.table.specs.Kinds as Kinds
 use Rattle.table.specs.Kinds.{kindOf, constant, reference, extremum, barsSince}
-use Rattle.table.specs.Nodes.{childCount, nRight, constantRight, kindRight, ownRight}
+use Rattle.table.specs.Nodes.{childCount, nRight, constantRight, ownRight}
 use Rattle.table.specs.Forest.{Forest, sorts, Sorted}
 use Rattle.table.specs.Forest as Forest
 use Rattle.table.specs.Nesting.{deeper}
@@ -72,7 +72,7 @@ module _ (form : Form) (l : ℕ) (n : Node) (os : List Operand) (right : ownRigh
   own-by r h = own-fields form n r (sym (ap (ownRight form n) h) ∙ right)
 
   fine-operand : OperandKind (n .kind) → Fine form (suc l) (operandFrom n os)
-  unfolding nRight constantRight kindRight childCount operandFrom operandBy Within levels
+  unfolding nRight constantRight childCount operandFrom operandBy Within levels
   fine-operand (a-const e r) = rw r ((small .constant, own-by constant r .constant), omega arith)
   fine-operand (a-ref e r) = rw r (ltb-true _ _ (own-by reference r .number), omega arith)
   fine-operand (a-price e r) = rw r (own-by Kinds.price r .selector, omega arith)
@@ -82,13 +82,13 @@ module _ (form : Form) (l : ℕ) (n : Node) (os : List Operand) (right : ownRigh
   fine-operand (an-arith r) =
       let a = child-in form l os 0 row (omega (arith, count-by _ r)) in
       let b = child-in form l os 1 row (omega (arith, count-by _ r)) in
-      rw r ((r, a .0, b .0), omega (arith, a .1, b .1))
+      rw r ((r, a .0, b .0, own-by _ r .version), omega (arith, a .1, b .1))
   fine-operand (an-extreme r) =
       let a = child-in form l os 0 row (omega (arith, count-by _ r)) in
       let o = own-by extremum r in
       let n-right = both (leb 1 (n .n)) (leb (n .n) mostReach) (o .number) in
       let leaf = leaf-within form (asSeries (child os 0)) (subst (Within form) (series r) (a .0)) in
-      rw r ((r, leb-true _ _ (o .version), leb-true _ _ (n-right .0), leb-true _ _ (n-right .1), leaf), omega (arith, some-level (child os 0), a .1))
+      rw r ((r, o .version, leb-true _ _ (n-right .0), leb-true _ _ (n-right .1), leaf), omega (arith, some-level (child os 0), a .1))
 
 no-level : (n : Node) (below rest : Forest) → deeper 0 (Forest.tree n below rest) ≡ Nowhere → ⊥
 unfolding deeper
@@ -150,11 +150,11 @@ module _ (form : Form) (l : ℕ) (n : Node) (below : Forest) (right : ownRight f
   fine-condition (a-compare r) =
       let a = operand-in 2 0 (under-by _ r) (omega arith) in
       let b = operand-in 2 1 (under-by _ r) (omega arith) in
-      rw r ((r, a .0, b .0), omega (arith, a .1, b .1))
+      rw r ((r, a .0, b .0, own-of _ r .version), omega (arith, a .1, b .1))
   fine-condition (a-cross r) =
       let a = operand-in 2 0 (under-by _ r) (omega arith) in
       let b = operand-in 2 1 (under-by _ r) (omega arith) in
-      rw r ((r, a .0, b .0), omega (arith, a .1, b .1))
+      rw r ((r, a .0, b .0, own-of _ r .version), omega (arith, a .1, b .1))
   fine-condition (a-between e r) =
       let x = operand-in 3 0 (under-by _ r) (omega arith) in
       let a = operand-in 3 1 (under-by _ r) (omega arith) in
@@ -162,7 +162,7 @@ module _ (form : Form) (l : ℕ) (n : Node) (below : Forest) (right : ownRight f
       rw r ((x .0, a .0, b .0), omega (arith, x .1, a .1, b .1))
   fine-condition (a-trend r) =
       let a = operand-in 1 0 (under-by _ r) (omega arith) in
-      rw r ((r, small .n, a .0), omega (arith, a .1))
+      rw r ((r, small .n, a .0, own-of _ r .version), omega (arith, a .1))
   fine-condition (an-all e r) =
       let f = of-conditions (n .children) (under-by _ r) in
       rw r (f .0, omega (arith, f .1))

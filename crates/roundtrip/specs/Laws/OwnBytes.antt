@@ -33,7 +33,7 @@ all-one (more c cs) h = rw (all-none cs (omega arith)) (append-nil (writeOf c))
 -- ---- a node's own bytes
 
 pub record OwnFields (form : Form) (n : Node) (row : Kind) : Type 0 where
-  pub version : kindRight (form .version) (row .since) ≡ true
+  pub version : kindRight (form .version) (n .kind) ≡ true
   pub selector : n .selector < row .selectors
   pub children : childrenRight (n .children) (row .children) ≡ true
   pub number : nRight (form .slots) (n .n) (row .n) ≡ true
@@ -43,7 +43,7 @@ pub own-fields : (form : Form) (n : Node) (row : Kind) → ownRight form n row �
 unfolding ownRight fieldsRight
 own-fields form n row h =
     let h0 = both _ (fieldsRight (form .slots) n row) h in
-    let k0 = both (not (eqb (row .sort) 0)) (kindRight (form .version) (row .since)) (h0 .0) in
+    let k0 = both (not (eqb (row .sort) 0)) (kindRight (form .version) (n .kind)) (h0 .0) in
     let h4 = both _ (constantRight (n .constant) (row .constant)) (h0 .1) in
     let h3 = both _ (nRight (form .slots) (n .n) (row .n)) (h4 .0) in
     let h2 = both (ltb (n .selector) (row .selectors)) (childrenRight (n .children) (row .children)) (h3 .0) in

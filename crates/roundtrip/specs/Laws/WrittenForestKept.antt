@@ -14,7 +14,7 @@ use Rattle.table.specs.declared.header.Form.{Form}
 use Rattle.table.specs.declared.series.Series.{Series}
 use Rattle.table.specs.declared.series.Series.the-variants.{Price, Slot}
 use Rattle.table.specs.Kinds as Kinds
-use Rattle.table.specs.Kinds.{kinds, kindOf, overASeries, previous, arithmetic, extremum, comparison, crossing, allOf, anyOf, negation}
+use Rattle.table.specs.Kinds.{kinds, kindOf, versions, sinceOf, overASeries, previous, arithmetic, extremum, comparison, crossing, allOf, anyOf, negation}
 use Rattle.table.specs.Nodes.{childCount, childFits, kindRight, fieldsRight, childrenRight, nRight, constantRight, ownRight}
 use Rattle.table.specs.Forest.{Forest, sorts, Fitting, Sorted}
 use Rattle.table.specs.Forest as Forest
@@ -32,32 +32,32 @@ use Rattle.table.specs.Laws.Kinds.{known}
 
 module _ (form : Form) where
   right-series : (s : Series) (i : ℕ) → WithinSeries form s → Right form (plantSeries i s)
-  unfolding WithinSeries plantSeries Right kindOf kinds ownRight kindRight fieldsRight childrenRight nRight constantRight
+  unfolding WithinSeries plantSeries Right kindOf kinds sinceOf versions ownRight kindRight fieldsRight childrenRight nRight constantRight
   right-series (Price s) i w = (rw (lt-ltb s 7 w), tt, tt)
   right-series (Slot s) i w = (rw (lt-ltb s (form .slots) w), tt, tt)
 
   pub right : (a : Operand) (i : ℕ) (rest : Forest) → Within form a → Right form rest → Right form (plant i a rest)
-  unfolding Within plant Right kindOf kinds ownRight kindRight fieldsRight childrenRight nRight constantRight
+  unfolding Within plant Right kindOf kinds sinceOf versions ownRight kindRight fieldsRight childrenRight nRight constantRight
   right (const x) i rest w r = (w .1, tt, r)
   right (ref s) i rest w r = (rw (lt-ltb s (form .slots) w), tt, r)
   right (price s) i rest w r = (rw (lt-ltb s 7 w), tt, r)
   right (prev a n) i rest w r = (refl, right a (i + 1) Forest.none (w .1) tt, r)
   right (sums kind a b) i rest w r =
-      (rw (w .0), right a (i + 1) _ (w .1) (right b (i + 1 + nodesIn a) Forest.none (w .2) tt), r)
+      (rw (w .0, w .3), right a (i + 1) _ (w .1) (right b (i + 1 + nodesIn a) Forest.none (w .2) tt), r)
   right (extreme kind s n) i rest w r =
-      (rw (w .0, le-leb 2 (form .version) (w .1), le-leb 1 n (w .2), le-leb n mostReach (w .3)), right-series s (i + 1) (w .4), r)
+      (rw (w .0, w .1, le-leb 1 n (w .2), le-leb n mostReach (w .3)), right-series s (i + 1) (w .4), r)
 
   mutual
-    unfolding WithinOf plantOf Right kindOf kinds ownRight kindRight fieldsRight childrenRight nRight constantRight
+    unfolding WithinOf plantOf Right kindOf kinds sinceOf versions ownRight kindRight fieldsRight childrenRight nRight constantRight
 
     pub rightOf : (c : Condition) (i : ℕ) (rest : Forest) → WithinOf form c → Right form rest → Right form (plantOf i c rest)
     rightOf (compare kind a b) i rest w r =
-        (rw (w .0), right a (i + 1) _ (w .1) (right b (i + 1 + nodesIn a) Forest.none (w .2) tt), r)
+        (rw (w .0, w .3), right a (i + 1) _ (w .1) (right b (i + 1 + nodesIn a) Forest.none (w .2) tt), r)
     rightOf (cross kind a b) i rest w r =
-        (rw (w .0), right a (i + 1) _ (w .1) (right b (i + 1 + nodesIn a) Forest.none (w .2) tt), r)
+        (rw (w .0, w .3), right a (i + 1) _ (w .1) (right b (i + 1 + nodesIn a) Forest.none (w .2) tt), r)
     rightOf (between x a b) i rest w r =
         (refl, right x (i + 1) _ (w .0) (right a (i + 1 + nodesIn x) _ (w .1) (right b (i + 1 + nodesIn x + nodesIn a) Forest.none (w .2) tt)), r)
-    rightOf (trend kind a n) i rest w r = (rw (w .0), right a (i + 1) Forest.none (w .2) tt, r)
+    rightOf (trend kind a n) i rest w r = (rw (w .0, w .3), right a (i + 1) Forest.none (w .2) tt, r)
     rightOf (every cs) i rest w r = (refl, rightAll cs (i + 1) Forest.none w tt, r)
     rightOf (any cs) i rest w r = (refl, rightAll cs (i + 1) Forest.none w tt, r)
     rightOf (negated c) i rest w r = (refl, rightOf c (i + 1) Forest.none w tt, r)

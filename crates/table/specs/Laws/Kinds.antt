@@ -20,6 +20,7 @@ use Rattle.table.specs.declared.kinds.ConditionClass.the-variants.{InPos
 use Rattle.table.specs.Named as Named
 use Rattle.table.specs.Kinds.{kinds, kindOf, noKind, constant, reference, price, previous, arithmetic, extremum}
 use Rattle.table.specs.Kinds.{overASeries, comparison, crossing, between, trend, allOf, anyOf, negation, position, barsSince}
+use Rattle.table.specs.Kinds.{secondVersion, versions, sinceOf}
 use Rattle.table.specs.Ends.{from}
 use Rattle.table.specs.Laws.Header.{both}
 use Rattle.table.specs.Laws.Ends.{from-at}
@@ -125,6 +126,16 @@ unfolding operandNumber
 extreme-numbers k r =
     in-range Named.highest Named.lowest k (rw r at (operand-number k (known k extremum r (omega arith))))
 
+-- and they came with version 2
+extremeSince : ℕ → ℕ
+extremeSince k = cond (eqb (kindOf k .series) overASeries) (sinceOf k) secondVersion
+
+pub extreme-since : (k : ℕ) → kindOf k ≡ extremum → sinceOf k ≡ secondVersion
+unfolding extremeSince
+extreme-since k r =
+    let low : k < 32 = known k extremum r (omega arith) in
+    rw r at (of-rows extremeSince (λ i. secondVersion) (unfold from kindOf kinds sinceOf versions extremeSince in refl) k low)
+
 -- what takes a series takes one child
 childrenOverSeries : ℕ → ℕ
 childrenOverSeries k = cond (eqb (kindOf k .series) overASeries) (kindOf k .children) 1
@@ -212,9 +223,3 @@ pub cross-numbers : (k : ℕ) → kindOf k ≡ crossing → (Named.crossAbove �
 unfolding conditionNumber
 cross-numbers k r =
     in-range Named.crossAbove Named.crossBelow k (rw r at (condition-number k (known k crossing r (omega arith))))
-
--- "25, 26 Rising, Falling"
-pub trend-numbers : (k : ℕ) → kindOf k ≡ trend → (Named.rising ≤ k) × (k ≤ Named.falling)
-unfolding conditionNumber
-trend-numbers k r =
-    in-range Named.rising Named.falling k (rw r at (condition-number k (known k trend r (omega arith))))

@@ -9,5 +9,6 @@ use Rattle.table.proofs.nodes.kind_right.Tie as tie
 pub kind-right-spec : {M : Type 1} → statement M
 unfolding kindRight
 kind-right-spec =
-    tie.close (tie.spec (λ c. search needs) (λ c. simp (eq-eqb _ _ (c .if1 .taken)))
-    (λ c. simp (ne-eqb _ _ (c .if1 .left))))
+    tie.close (tie.spec (λ c κs. search needs) (λ c. search needs)
+    (λ c. rw (← c .before .since-of .ensures, eq-eqb _ _ (c .if1 .taken)))
+    (λ c. rw (← c .before .since-of .ensures, ne-eqb _ _ (c .if1 .left))))

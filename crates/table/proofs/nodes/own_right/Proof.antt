@@ -16,11 +16,11 @@ module _ (form : Form) (n : Node) (w : Kind) where
   unfolding ownRight
   unknown h = simp (eq-eqb _ _ h)
 
-  newer : (w .sort ≡ 0 → ⊥) → kindRight (form .version) (w .since) ≡ false → false ≡ ownRight form n w
+  newer : (w .sort ≡ 0 → ⊥) → kindRight (form .version) (n .kind) ≡ false → false ≡ ownRight form n w
   unfolding ownRight
   newer h h2 = simp (ne-eqb _ _ h, h2)
 
-  rest : (w .sort ≡ 0 → ⊥) → kindRight (form .version) (w .since) ≡ true → fieldsRight (form .slots) n w ≡ ownRight form n w
+  rest : (w .sort ≡ 0 → ⊥) → kindRight (form .version) (n .kind) ≡ true → fieldsRight (form .slots) n w ≡ ownRight form n w
   unfolding ownRight
   rest h h2 = simp (ne-eqb _ _ h, h2)
 

@@ -1,19 +1,20 @@
--- The tests are those of the contract.
+-- The tests are those of the definition.
 use borrow.Author.Needs.{needs}
-use borrow.Author.Tests.{lt-ltb, le-ltb, le-leb, lt-leb}
-use native.Mathlib.Omega.{arith}
+use borrow.Author.Tests.{eq-eqb, ne-eqb}
+use Rattle.table.specs.Kinds.{isTestKind}
 use Rattle.table.proofs.silent.is_silent.Statement.{statement}
 use Rattle.table.proofs.silent.is_silent.Tie as tie
 
 pub is-silent-spec : {M : Type 1} → statement M
+unfolding isTestKind
 is-silent-spec =
-    tie.close (tie.spec (λ c κs. search needs)
-    (λ c. rw (← c .before .before .node-at .ensures, lt-leb 16 (c .before .before .node-at .result .kind) (c .if1 .taken)))
+    tie.close (tie.spec (λ c κs. search needs) (λ c κs. search needs)
     (λ c.
-    let n = c .before .before .before .before in
-    let kind = n .node-at .result .kind in
-    rw (← n .node-at .ensures, le-leb 16 kind (c .before .before .if1 .left), le-ltb kind 27 (omega (arith, c .if2 .taken))))
+    let row = c .before .before .before .before in
+    rw (← row .before .node-at .ensures, ← row .kind-of .ensures, eq-eqb _ _ (c .before .before .if1 .taken), eq-eqb _ _ (c .if2 .taken)))
     (λ c.
-    let n = c .before .before .before .before in
-    let kind = n .node-at .result .kind in
-    rw (← n .node-at .ensures, le-leb 16 kind (c .before .before .if1 .left), lt-ltb kind 27 (omega (arith, c .if2 .left)))))
+    let row = c .before .before .before .before in
+    rw (← row .before .node-at .ensures, ← row .kind-of .ensures, eq-eqb _ _ (c .before .before .if1 .taken), ne-eqb _ _ (c .if2 .left)))
+    (λ c.
+    let row = c .before .before in
+    rw (← row .before .node-at .ensures, ← row .kind-of .ensures, ne-eqb _ _ (c .if1 .left))))
