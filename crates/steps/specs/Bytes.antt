@@ -1,7 +1,7 @@
 -- A list of steps as bytes: read and written. Definitions only.
 use Prim.Native.Nat.{ℕ, zero, suc, _+_, _-_, _*_, _/_, _%_, _≤_, min}
 use mathlib.Core.Path.{_≡_}
-use mathlib.Core.Bool.{cond}
+use mathlib.Core.Bool.{Bool, cond, _&&_}
 use mathlib.Core.List.{List, [], _∷_, _++_}
 use lib.ListN.{length, getD, set}
 use lib.Dec.{ltb, leb, eqb}
@@ -46,6 +46,10 @@ highestSlot = 11
 abbrev pub lowestSlot : ℕ
 lowestSlot = 12
 
+-- Which steps are operations on two values.
+unfoldable pub isOperation : ℕ → Bool
+isOperation step = leb Named.add step && ltb step Named.highest
+
 unfoldable pub slotKind : ℕ → ℕ
 slotKind kind = cond (eqb kind Named.highest) highestSlot lowestSlot
 
@@ -62,7 +66,7 @@ operandOp x =
     (cond (eqb (x .kind) Named.ref) (Ref (x .selector) (x .n))
     (cond (eqb (x .kind) Named.price) (Price (x .selector) (x .n))
     (cond (ltb (x .kind) Named.add) Unknown
-    (cond (ltb (x .kind) Named.highest) (Arith (x .kind))
+    (cond (isOperation (x .kind)) (Arith (x .kind))
     (cond (leb (x .kind) lowestSlot) (extremeOp x) Unknown)))))
 
 -- those below All of tests on values,

@@ -7,7 +7,7 @@ ghost use mathlib.Core.Path.{_≡_};
 ghost use Prim.Native.Nat.{_+_, _-_, _*_, _<_, _≤_};
 ghost use lib.ListN.{length};
 ghost use Rattle.table.specs.Bytes.{u16, u32, u64};
-ghost use Rattle.steps.specs.Bytes.{readStep, stepAt, stepsIn, opOf, extremeOp, operandOp, testOp, answerOp};
+ghost use Rattle.steps.specs.Bytes.{readStep, stepAt, stepsIn, opOf, extremeOp, operandOp, testOp, answerOp, isOperation};
 
 // A step has the number of the kind that it stands for. Jumps stand for no kind and have numbers of their own.
 pub const JUMP_AT_NO: u8 = 32;
@@ -18,6 +18,16 @@ pub const JUMP_AT_YES: u8 = 33;
 pub const HIGHEST_SLOT: u8 = 11;
 
 pub const LOWEST_SLOT: u8 = 12;
+
+// Whether a step is an operation on two values.
+pub(crate) fn is_operation(step: u8) -> bool
+    ensures { λ r. ⌜ r ≡ isOperation step ⌝ }
+{
+    if step < kinds::ADD {
+        return false;
+    }
+    step < kinds::HIGHEST
+}
 
 // A byte as a number of 64 bits.
 fn wide(b: u8) -> u64
@@ -119,7 +129,7 @@ fn operand_op(x: Step) -> Op
     if x.kind < kinds::ADD {
         return Op::Unknown;
     }
-    if x.kind < kinds::HIGHEST {
+    if is_operation(x.kind) {
         return Op::Arith(x.kind);
     }
     if x.kind <= LOWEST_SLOT {

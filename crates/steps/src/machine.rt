@@ -193,7 +193,7 @@ fn run_with(
             } else {
                 p += 1;
             }
-        } else if doing::is_among(kind, 5, 9) {
+        } else if decode::is_operation(kind) {
             let a = stack::at(numbers, there, top + 3);
             let b = stack::at(numbers, there, top + 2);
             let under = left(top, 2);

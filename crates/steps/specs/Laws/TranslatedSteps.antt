@@ -16,6 +16,8 @@ use Rattle.table.specs.Limits.{WithinSeries, Within, WithinOf, WithinAll}
 use Rattle.steps.specs.declared.step.Op.{Op}
 use Rattle.steps.specs.declared.step.Op.the-variants.{Const, Ref, Price, Arith, Compare, Cross, Between, Answer, Turn, InPosition, BarsSinceEntry, JumpIf}
 use Rattle.steps.specs.declared.step.Op.the-variants.{Extreme, Unknown}
+use Rattle.steps.specs.Bytes.{isOperation}
+use Rattle.steps.specs.Laws.Classes.{operation-is}
 use Rattle.steps.specs.Translation.{code, codeOf, codeEach, trendTest}
 
 -- ---- steps that are well formed where `after` steps follow
@@ -29,7 +31,7 @@ FieldsRight K D after (Const bits n) = (n < D) × (bits < 18446744073709551616)
 FieldsRight K D after (Ref k n) = (k < K) × (n < D)
 FieldsRight K D after (Price p n) = (p < 256) × (n < D)
 FieldsRight K D after (Extreme kind over n back) = (9 ≤ kind) × (kind ≤ 10) × (1 ≤ n) × (n ≤ 4095) × SeriesRight K over × (back + (n - 1) < D)
-FieldsRight K D after (Arith k) = (5 ≤ k) × (k < 9)
+FieldsRight K D after (Arith k) = isOperation k ≡ true
 FieldsRight K D after (Compare k) = (16 ≤ k) × (k < 22)
 FieldsRight K D after (Cross k) = (22 ≤ k) × (k < 24)
 FieldsRight K D after Between = Unit
@@ -90,7 +92,7 @@ module _ (form : Form) (D : ℕ) where
   operand-right (prev a m) n r l = operand-right a (n + m) (r .1) (omega arith)
   operand-right (sums kind a b) n r l =
       right-append (code a n) (code b n ++ Arith kind ∷ []) (operand-right a n (r .1) (omega arith))
-      (then-right (code b n) (Arith kind) (operand-right b n (r .2) (omega arith)) (omega (arith, arith-numbers kind (r .0))))
+      (then-right (code b n) (Arith kind) (operand-right b n (r .2) (omega arith)) (operation-is kind (arith-numbers kind (r .0))))
 
   trend-right : (kind : ℕ) → FieldsRight (form .slots) D 0 (Compare (trendTest kind))
   unfolding FieldsRight

@@ -6,7 +6,8 @@ use native.Mathlib.Omega.{arith}
 use Prim.Native.Nat.{_-_}
 use Rattle.rows.specs.Ring.{ringOf}
 use Rattle.steps.specs.Places.{Tries}
-use Rattle.steps.proofs.Said.{range-in, range-out, does-compare, does-test, does-jump, does-arith}
+use Rattle.steps.specs.Laws.Classes.{range-in, range-out}
+use Rattle.steps.proofs.Said.{does-compare, does-test, does-jump, does-arith}
 use Rattle.steps.proofs.Coming.{came-end}
 use Rattle.steps.proofs.Going.{Going, fresh-long, going-start, going-leaf, going-give}
 use Rattle.steps.proofs.Going.{going-look, going-say, going-set, going-pass, going-stay}
@@ -89,7 +90,7 @@ arith-again c =
     let left = put .before .before .before .before in
     let i = left .before .before .before .before .before .before .before .before in
     let x = i .before .before .before .before .before .before .before in
-    let kind = range-in _ _ _ (sym (i .is-among4 .ensures) ∙ left .before .before .before .before .before .before .before .if7 .taken) in
+    let kind = sym (i .is-operation .ensures) ∙ left .before .before .before .before .before .before .before .if7 .taken in
     rw (
       put .put2 .ensures .0,
       put .put2 .ensures .1,
@@ -100,7 +101,7 @@ arith-again c =
     )
     (going-give _ _ _ _ _ _ _ _ _ _ _ (x .before .before .loop .inv) (x .before .loop-test .taken) 2 _
     (omega (arith, x .before .before .loop .inv .tall, x .before .before .before .before .before .before .before .before .before .pre .1 .0 .0))
-    (rw (← x .step-at .ensures .0) (does-arith _ _ _ _ _ _ _ _ (kind .0) (kind .1))))
+    (rw (← x .step-at .ensures .0) (does-arith _ _ _ _ _ _ _ _ kind)))
 
 arith-reads : tie.Need-add-at-4 Inv-loop μ-loop
 arith-reads c =
@@ -178,7 +179,7 @@ look-requires c κs =
     let i = c .before .before .before in
     let rows = i .before .before .before .before .before .before .before .before .before .before .before .before .before in
     let held = rows .row-count .ensures in
-    ((held, rw held (rows .before .before .before .before .before .pre .1 .0 .2)), range-in _ _ _ (sym (i .is-among5 .ensures) ∙ c .before .before .if8 .taken))
+    ((held, rw held (rows .before .before .before .before .before .pre .1 .0 .2)), range-in _ _ _ (sym (i .is-among4 .ensures) ∙ c .before .before .if8 .taken))
 
 -- its value has a place
 look-room : tie.Need-put-requires-3 Inv-loop μ-loop
@@ -245,8 +246,8 @@ said-requires c κs =
     let i2 = i3 .before .before in
     let i1 = i2 .before .before in (
       range-out _ _ _ (sym (i1 .is-among .ensures) ∙ i2 .before .if1 .left),
-      range-out _ _ _ (sym (i4 .is-among4 .ensures) ∙ i5 .before .if7 .left),
-      range-out _ _ _ (sym (i5 .is-among5 .ensures) ∙ c .if8 .left),
+      sym (i4 .is-operation .ensures) ∙ i5 .before .if7 .left,
+      range-out _ _ _ (sym (i5 .is-among4 .ensures) ∙ c .if8 .left),
       range-out _ _ _ (sym (i2 .is-among2 .ensures) ∙ i3 .before .if3 .left),
       range-out _ _ _ (sym (i3 .is-among3 .ensures) ∙ i4 .before .if5 .left),
     )
