@@ -6,29 +6,24 @@ use native.Mathlib.Omega.{arith}
 use lib.Dec.{ltb, leb, eqb}
 use borrow.Author.Tests.{ltb-true, ltb-false, eq-eqb, ne-eqb, le-leb, lt-leb, lt-ltb, le-ltb}
 use Rattle.steps.specs.declared.step.Step.{Step}
-use Rattle.steps.specs.declared.step.Op.the-variants.{Const, Ref, Price, Arith, Compare, Cross, Between, Answer, Turn, InPosition, BarsSinceEntry, JumpIf}
-use Rattle.steps.specs.declared.step.Op.the-variants.{Extreme, Unknown}
+use Rattle.steps.specs.declared.step.Op.the-variants.{Const, Ref, Price, Extreme, Arith, Answer, Turn, InPosition, BarsSinceEntry, JumpIf, Unknown}
 use Rattle.table.specs.declared.series.Series.the-variants as Over
 use Rattle.rows.specs.History.{History}
 use Rattle.rules.specs.declared.position.PositionState.{PositionState}
 use Rattle.rules.specs.declared.values.Value.{Value}
 use Rattle.rules.specs.Values.{both, compared, crossed, within}
-use Rattle.steps.specs.Bytes.{opOf, extremeOp, operandOp, testOp, answerOp, isOperation}
-use Rattle.steps.specs.Laws.Classes.{operation-out, look-no-operation, operand, says-arith}
+use Rattle.steps.specs.Bytes.{opOf, extremeOp, operandOp, answerOp, firstTest, isOperation, isComparison, isTest}
+use Rattle.steps.specs.Laws.Classes.{operation-out, look-no-operation, test-rest, operand}
+use Rattle.steps.specs.Laws.Classes.{says-arith, says-compare, says-cross, says-between, says-no-test}
 use Rattle.steps.specs.Machine.{giving, saying, passing, effect}
 
 -- ---- what is said
 
 module _ (x : Step) where
-  -- kinds from 16 to 26
-  test : 16 ≤ x .kind → x .kind < 27 → opOf x ≡ testOp x
-  unfolding opOf
-  test le l = rw (le-ltb (x .kind) 16 le, lt-ltb (x .kind) 27 l)
-
   -- kinds from 27 on
   other : 27 ≤ x .kind → opOf x ≡ answerOp x
   unfolding opOf
-  other le = rw (le-ltb (x .kind) 16 (omega arith), le-ltb (x .kind) 27 le)
+  other le = rw (le-ltb (x .kind) firstTest (omega arith), le-ltb (x .kind) 27 le)
 
   -- each kind or range of kinds by itself
   pub says-const : x .kind ≡ 1 → opOf x ≡ Const (x .bits) (x .n)
@@ -65,24 +60,6 @@ module _ (x : Step) where
   pub says-over-slot : 11 ≤ x .kind → x .kind < 13 → opOf x ≡ Extreme (x .kind - 2) (Over.Slot (x .selector)) (x .skip) (x .n - (x .skip - 1))
   unfolding extremeOp
   says-over-slot le l = rw (extreme-kind (omega arith) l, le-ltb (x .kind) 11 le)
-
-  pub says-compare : 16 ≤ x .kind → x .kind < 22 → opOf x ≡ Compare (x .kind)
-  unfolding testOp
-  says-compare le l = rw (test le (omega arith), lt-ltb (x .kind) 22 l)
-
-  pub says-cross : 22 ≤ x .kind → x .kind < 24 → opOf x ≡ Cross (x .kind)
-  unfolding testOp
-  says-cross le l = rw (test (omega arith) (omega arith), le-ltb (x .kind) 22 le, lt-ltb (x .kind) 24 l)
-
-  pub says-between : x .kind ≡ 24 → opOf x ≡ Between
-  unfolding testOp
-  says-between e =
-      rw (
-        test (omega arith) (omega arith),
-        le-ltb (x .kind) 22 (omega arith),
-        le-ltb (x .kind) 24 (omega arith),
-        eq-eqb (x .kind) 24 e,
-      )
 
   pub says-answer : 27 ≤ x .kind → x .kind < 29 → opOf x ≡ Answer (eqb (x .kind) 27)
   unfolding answerOp
@@ -132,40 +109,27 @@ module _ (x : Step) where
   says-nothing-late le = rw (late (omega arith), le-ltb (x .kind) 34 le)
 
   -- a kind below 27 that is neither a leaf, an operation, a look over rows nor a test
-  pub says-nothing-early : (1 ≤ x .kind → 4 ≤ x .kind) → isOperation (x .kind) ≡ false → (9 ≤ x .kind → 13 ≤ x .kind) → (16 ≤ x .kind → 25 ≤ x .kind)
+  pub says-nothing-early : (1 ≤ x .kind → 4 ≤ x .kind) → isOperation (x .kind) ≡ false → (9 ≤ x .kind → 13 ≤ x .kind) → isTest (x .kind) ≡ false
       → x .kind < 27 → opOf x ≡ Unknown
-  unfolding operandOp testOp
-  says-nothing-early leaf none look tests l = go (ltb (x .kind) 16) refl
+  unfolding operandOp
+  says-nothing-early leaf none look untested l = go (ltb (x .kind) firstTest) refl
     where
-      below : x .kind < 16 → opOf x ≡ Unknown
-      below small =
+      ends : (t : Bool) → ltb (x .kind) 5 ≡ t
+          → cond t Unknown (cond (isOperation (x .kind)) (Arith (x .kind)) (cond (leb (x .kind) 12) (extremeOp x) Unknown)) ≡ Unknown
+      ends true e = refl
+      ends false e =
+          let past = operation-out (x .kind) none (ltb-false (x .kind) 5 e) in
+          rw (none, lt-leb (x .kind) 12 (look past))
+
+      go : (t : Bool) → ltb (x .kind) firstTest ≡ t → opOf x ≡ Unknown
+      go true e =
           rw (
-            operand x small,
+            operand x (ltb-true (x .kind) firstTest e),
             ne-eqb (x .kind) 1 (λ f. omega (arith, leaf (omega arith))),
             ne-eqb (x .kind) 2 (λ f. omega (arith, leaf (omega arith))),
             ne-eqb (x .kind) 3 (λ f. omega (arith, leaf (omega arith))),
           ) (ends (ltb (x .kind) 5) refl)
-        where
-          ends : (t : Bool) → ltb (x .kind) 5 ≡ t
-              → cond t Unknown (cond (isOperation (x .kind)) (Arith (x .kind)) (cond (leb (x .kind) 12) (extremeOp x) Unknown)) ≡ Unknown
-          ends true e = refl
-          ends false e =
-              let past = operation-out (x .kind) none (ltb-false (x .kind) 5 e) in
-              rw (none, lt-leb (x .kind) 12 (look past))
-
-      above : 16 ≤ x .kind → opOf x ≡ Unknown
-      above le =
-          let past : 25 ≤ x .kind = tests le in
-          rw (
-            test le l,
-            le-ltb (x .kind) 22 (omega arith),
-            le-ltb (x .kind) 24 (omega arith),
-            ne-eqb (x .kind) 24 (λ f. omega arith),
-          )
-
-      go : (t : Bool) → ltb (x .kind) 16 ≡ t → opOf x ≡ Unknown
-      go true e = below (ltb-true (x .kind) 16 e)
-      go false e = above (ltb-false (x .kind) 16 e)
+      go false e = says-no-test x untested (ltb-false (x .kind) firstTest e) l
 
   -- ---- what is done
 
@@ -174,24 +138,24 @@ module _ (x : Step) where
     unfolding effect
     does-arith is = rw (says-arith x is)
 
-    pub does-compare : 16 ≤ x .kind → x .kind < 22 → effect h s (opOf x) a b c d y ≡ saying 2 (compared (x .kind) b a)
+    pub does-compare : isComparison (x .kind) ≡ true → effect h s (opOf x) a b c d y ≡ saying 2 (compared (x .kind) b a)
     unfolding effect
-    does-compare le l = rw (says-compare le l)
+    does-compare is = rw (says-compare x is)
 
     pub does-cross : 22 ≤ x .kind → x .kind < 24 → effect h s (opOf x) a b c d y ≡ saying 4 (crossed (x .kind) d c b a)
     unfolding effect
-    does-cross le l = rw (says-cross le l)
+    does-cross le l = rw (says-cross x le l)
 
     -- a crossing or Between
-    pub does-test : 22 ≤ x .kind → x .kind < 25 → effect h s (opOf x) a b c d y
+    pub does-test : isTest (x .kind) ≡ true → isComparison (x .kind) ≡ false → effect h s (opOf x) a b c d y
         ≡ saying (cond (ltb (x .kind) 24) 4 3) (cond (ltb (x .kind) 24) (crossed (x .kind) d c b a) (within c b a))
     unfolding effect
-    does-test le l = go (ltb (x .kind) 24) refl
+    does-test is none = go (ltb (x .kind) 24) refl
       where
         go : (t : Bool) → ltb (x .kind) 24 ≡ t → effect h s (opOf x) a b c d y
             ≡ saying (cond t 4 3) (cond t (crossed (x .kind) d c b a) (within c b a))
-        go true f = rw (says-cross le (ltb-true (x .kind) 24 f))
-        go false f = rw (says-between (omega (arith, ltb-false (x .kind) 24 f)))
+        go true f = rw (says-cross x (test-rest (x .kind) is none .0) (ltb-true (x .kind) 24 f))
+        go false f = rw (says-between x (omega (arith, test-rest (x .kind) is none .1, ltb-false (x .kind) 24 f)))
 
     pub does-jump : 32 ≤ x .kind → x .kind < 34 → effect h s (opOf x) a b c d y ≡ passing (cond (beq y (eqb (x .kind) 33)) (x .skip) 0) y
     unfolding effect

@@ -6,7 +6,7 @@ use native.Mathlib.Omega.{arith}
 use Prim.Native.Nat.{_-_}
 use Rattle.rows.specs.Ring.{ringOf}
 use Rattle.steps.specs.Places.{Came}
-use Rattle.steps.specs.Laws.Classes.{range-in, late-no-operation}
+use Rattle.steps.specs.Laws.Classes.{range-in, late-no-operation, no-test}
 use Rattle.steps.proofs.Said.{does-jump}
 use Rattle.steps.proofs.Coming.{came-start, came-say, came-pass, came-stay}
 use Rattle.steps.proofs.phrases.run_tests.Statement.{statement}
@@ -86,7 +86,7 @@ said-requires c κs =
       λ l. omega (arith, kind .0),
       late-no-operation (x .kind) (omega (arith, kind .0)),
       λ l. omega (arith, kind .0),
-      λ l. omega (arith, kind .0),
+      no-test (x .kind) (λ l. kind .0),
       λ l. omega (arith, l, kind .1),
     )
 
