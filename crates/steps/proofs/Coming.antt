@@ -15,7 +15,7 @@ use Rattle.rules.specs.declared.values.Value.the-variants.{Missing}
 use Rattle.rules.specs.Values.{compared, crossed}
 use Rattle.steps.specs.declared.step.Op.{Op}
 use Rattle.steps.specs.declared.step.Step.{Step}
-use Rattle.steps.specs.Bytes.{opOf, stepAt, opsFrom}
+use Rattle.steps.specs.Bytes.{opOf, stepAt, opsFrom, isComparison}
 use Rattle.steps.specs.Machine.{Values, Effect, nth, given, giving, saying, passing, effect, does, after, run, visitCount, ranOver}
 use Rattle.steps.specs.Places.{holding, Came, Gives, Tests}
 use Rattle.steps.proofs.Said.{does-compare, does-cross}
@@ -171,12 +171,12 @@ module _ (h : History) (bs : List ℕ) (n p : ℕ) (a b : Value) (first : Gives 
       let one = came-leaf h s bs n [] y visits p g (omega arith) a first in
       rw (place, seen) at (came-leaf h s bs n (a ∷ []) y (visits + 1) (p + 1) one (omega arith) b second)
 
-  pub compare-tests : p + 3 ≤ n → (x : Step) → x ≡ stepAt bs (p + 2) → 16 ≤ x .kind → x .kind < 22 → Tests h bs n p 3 (compared (x .kind) a b)
-  compare-tests more x is le l some s y visits g =
+  pub compare-tests : p + 3 ≤ n → (x : Step) → x ≡ stepAt bs (p + 2) → isComparison (x .kind) ≡ true → Tests h bs n p 3 (compared (x .kind) a b)
+  compare-tests more x is class some s y visits g =
       let place : p + 2 + 1 ≡ p + 3 = omega arith in
       let seen : visits + 2 + 1 ≡ visits + 3 = omega arith in
       rw (place, seen) at (came-say h s bs n (b ∷ a ∷ []) y (visits + 2) (p + 2) (two s y visits (omega arith) g) (omega arith) 2 (compared (x .kind) a b)
-      (rw (← is) (does-compare x h s b a Missing Missing y le l)))
+      (rw (← is) (does-compare x h s b a Missing Missing y class)))
 
   module _ (c d : Value) (third : Gives h bs (p + 2) c) (fourth : Gives h bs (p + 3) d) where
     -- four leaves further

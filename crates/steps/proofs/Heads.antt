@@ -9,9 +9,10 @@ use lib.Dec.{ltb}
 use borrow.Author.Tests.{lt-ltb, le-leb, ltb-true, ltb-false}
 use Rattle.table.specs.Bytes.{u16, u32, u64}
 use Rattle.steps.specs.declared.step.Step.{Step}
-use Rattle.steps.specs.Bytes.{fields, readStep}
+use Rattle.steps.specs.Bytes.{isComparison, isTest, fields, readStep}
+use Rattle.steps.specs.Laws.Classes.{test-in, test-rest, says-compare, says-cross, says-between}
 use Rattle.steps.specs.WellFormed.{zeros, plain, bounded, goodStep}
-use Rattle.steps.proofs.Said.{says-const, says-price, says-compare, says-cross, says-between, says-jump}
+use Rattle.steps.proofs.Said.{says-const, says-price, says-jump}
 
 -- ---- the words and the fields
 
@@ -47,12 +48,12 @@ module _ (K D after : ℕ) where
   constant n bits l = rw (says-const (fields 1 0 0 n bits) refl, lt-ltb n D l)
 
   -- a comparison, a cross or Between, by the two tests that tell which
-  test : (k : ℕ) → 16 ≤ k → k < 25 → (t u : Bool) → ltb k 22 ≡ t → ltb k 24 ≡ u → goodStep K D after (fields k 0 0 0 0) ≡ true
+  test : (k : ℕ) → isTest k ≡ true → (t u : Bool) → isComparison k ≡ t → ltb k 24 ≡ u → goodStep K D after (fields k 0 0 0 0) ≡ true
   unfolding goodStep plain bounded zeros
-  test k lo hi true u e f = rw (says-compare (fields k 0 0 0 0) lo (ltb-true k 22 e))
-  test k lo hi false true e f = rw (says-cross (fields k 0 0 0 0) (ltb-false k 22 e) (ltb-true k 24 f))
-  test k lo hi false false e f =
-      let between : k ≡ 24 = omega (arith, ltb-false k 24 f) in
+  test k is true u e f = rw (says-compare (fields k 0 0 0 0) e)
+  test k is false true e f = rw (says-cross (fields k 0 0 0 0) (test-rest k is e .0) (ltb-true k 24 f))
+  test k is false false e f =
+      let between : k ≡ 24 = omega (arith, test-rest k is e .1, ltb-false k 24 f) in
       rw (says-between (fields k 0 0 0 0) between)
 
   -- a price within the window
@@ -75,10 +76,10 @@ module _ (K D after head : ℕ) where
       rw (← digits 1 0 0 n bits (omega arith) (omega arith) (omega arith) head (omega arith)) (constant K D after n bits l)
 
   -- The whole head is a kind: the other fields are zero.
-  pub test-told : 16 ≤ head → head < 25 → goodStep K D after (split head 0) ≡ true
-  test-told lo hi =
-      rw (← digits head 0 0 0 0 (omega arith) (omega arith) (omega arith) head (omega arith))
-      (test K D after head lo hi (ltb head 22) (ltb head 24) refl refl)
+  pub test-told : isTest head ≡ true → goodStep K D after (split head 0) ≡ true
+  test-told is =
+      rw (← digits head 0 0 0 0 (omega (arith, test-in head is .1)) (omega arith) (omega arith) head (omega arith))
+      (test K D after head is (isComparison head) (ltb head 24) refl refl)
 
   -- A price's kind, and a skip of zero.
   pub price-told : head % 256 ≡ 3 → head / 65536 % 65536 ≡ 0 → head / 4294967296 < D → goodStep K D after (split head 0) ≡ true

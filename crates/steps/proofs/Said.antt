@@ -1,78 +1,55 @@
 -- What a step says, by the range in which its kind lies.
-use Prim.Native.Nat.{ℕ, _-_, _≤_, _<_}
-use mathlib.Core.Path.{_≡_, refl, sym}
-use mathlib.Core.Bool.{Bool, true, false, cond, true≢false, _&&_, Bool·beq as beq}
+use Prim.Native.Nat.{_-_, _≤_, _<_}
+use mathlib.Core.Path.{_≡_, refl}
+use mathlib.Core.Bool.{Bool, true, false, cond, Bool·beq as beq}
 use native.Mathlib.Omega.{arith}
 use lib.Dec.{ltb, leb, eqb}
-use borrow.Author.Tests.{leb-true, ltb-true, ltb-false, eq-eqb, ne-eqb, le-leb, lt-leb, lt-ltb, le-ltb}
+use borrow.Author.Tests.{ltb-true, ltb-false, eq-eqb, ne-eqb, le-leb, lt-leb, lt-ltb, le-ltb}
 use Rattle.steps.specs.declared.step.Step.{Step}
-use Rattle.steps.specs.declared.step.Op.the-variants.{Const, Ref, Price, Arith, Compare, Cross, Between, Answer, Turn, InPosition, BarsSinceEntry, JumpIf}
-use Rattle.steps.specs.declared.step.Op.the-variants.{Extreme, Unknown}
+use Rattle.steps.specs.declared.step.Op.the-variants.{Const, Ref, Price, Extreme, Arith, Answer, Turn, InPosition, BarsSinceEntry, JumpIf, Unknown}
 use Rattle.table.specs.declared.series.Series.the-variants as Over
 use Rattle.rows.specs.History.{History}
 use Rattle.rules.specs.declared.position.PositionState.{PositionState}
 use Rattle.rules.specs.declared.values.Value.{Value}
 use Rattle.rules.specs.Values.{both, compared, crossed, within}
-use Rattle.steps.specs.Bytes.{opOf, extremeOp, operandOp, testOp, answerOp}
+use Rattle.steps.specs.Bytes.{opOf, extremeOp, operandOp, answerOp, firstTest, isOperation, isComparison, isTest}
+use Rattle.steps.specs.Laws.Classes.{operation-out, look-no-operation, test-rest, operand}
+use Rattle.steps.specs.Laws.Classes.{says-arith, says-compare, says-cross, says-between, says-no-test}
 use Rattle.steps.specs.Machine.{giving, saying, passing, effect}
-
--- ---- a range, as it is asked for
-
--- a kind that is not among them, and not below them, is above them
-pub range-out : (lo k hi : ℕ) → (leb lo k && ltb k hi) ≡ false → lo ≤ k → hi ≤ k
-range-out lo k hi e le = ltb-false k hi (rw (le-leb lo k le) at e)
-
--- a kind that is among them
-pub range-in : (lo k hi : ℕ) → (leb lo k && ltb k hi) ≡ true → (lo ≤ k) × (k < hi)
-range-in lo k hi e = go (leb lo k) refl e
-  where
-    go : (t : Bool) → leb lo k ≡ t → (t && ltb k hi) ≡ true → (lo ≤ k) × (k < hi)
-    go true l e = (leb-true lo k l, ltb-true k hi e)
-    go false l e = absurd (true≢false (sym e))
 
 -- ---- what is said
 
 module _ (x : Step) where
-  -- kinds below 16
-  operand : x .kind < 16 → opOf x ≡ operandOp x
-  unfolding opOf
-  operand l = rw (lt-ltb (x .kind) 16 l)
-
-  -- kinds from 16 to 26
-  test : 16 ≤ x .kind → x .kind < 27 → opOf x ≡ testOp x
-  unfolding opOf
-  test le l = rw (le-ltb (x .kind) 16 le, lt-ltb (x .kind) 27 l)
-
   -- kinds from 27 on
   other : 27 ≤ x .kind → opOf x ≡ answerOp x
   unfolding opOf
-  other le = rw (le-ltb (x .kind) 16 (omega arith), le-ltb (x .kind) 27 le)
+  other le = rw (le-ltb (x .kind) firstTest (omega arith), le-ltb (x .kind) 27 le)
 
   -- each kind or range of kinds by itself
   pub says-const : x .kind ≡ 1 → opOf x ≡ Const (x .bits) (x .n)
   unfolding operandOp
-  says-const e = rw (operand (omega arith), eq-eqb (x .kind) 1 e)
+  says-const e = rw (operand x (omega arith), eq-eqb (x .kind) 1 e)
 
   pub says-ref : x .kind ≡ 2 → opOf x ≡ Ref (x .selector) (x .n)
   unfolding operandOp
-  says-ref e = rw (operand (omega arith), ne-eqb (x .kind) 1 (λ f. omega arith), eq-eqb (x .kind) 2 e)
+  says-ref e = rw (operand x (omega arith), ne-eqb (x .kind) 1 (λ f. omega arith), eq-eqb (x .kind) 2 e)
 
   pub says-price : x .kind ≡ 3 → opOf x ≡ Price (x .selector) (x .n)
   unfolding operandOp
   says-price e =
-      rw (operand (omega arith), ne-eqb (x .kind) 1 (λ f. omega arith), ne-eqb (x .kind) 2 (λ f. omega arith), eq-eqb (x .kind) 3 e)
+      rw (operand x (omega arith), ne-eqb (x .kind) 1 (λ f. omega arith), ne-eqb (x .kind) 2 (λ f. omega arith), eq-eqb (x .kind) 3 e)
 
   -- Highest and Lowest
   extreme-kind : 9 ≤ x .kind → x .kind < 13 → opOf x ≡ extremeOp x
   unfolding operandOp
   extreme-kind le l =
       rw (
-        operand (omega arith),
+        operand x (omega arith),
         ne-eqb (x .kind) 1 (λ f. omega arith),
         ne-eqb (x .kind) 2 (λ f. omega arith),
         ne-eqb (x .kind) 3 (λ f. omega arith),
         le-ltb (x .kind) 5 (omega arith),
-        le-ltb (x .kind) 9 le,
+        look-no-operation (x .kind) le (omega arith),
         le-leb (x .kind) 12 (omega arith),
       )
 
@@ -83,36 +60,6 @@ module _ (x : Step) where
   pub says-over-slot : 11 ≤ x .kind → x .kind < 13 → opOf x ≡ Extreme (x .kind - 2) (Over.Slot (x .selector)) (x .skip) (x .n - (x .skip - 1))
   unfolding extremeOp
   says-over-slot le l = rw (extreme-kind (omega arith) l, le-ltb (x .kind) 11 le)
-
-  says-arith : 5 ≤ x .kind → x .kind < 9 → opOf x ≡ Arith (x .kind)
-  unfolding operandOp
-  says-arith le l =
-      rw (
-        operand (omega arith),
-        ne-eqb (x .kind) 1 (λ f. omega arith),
-        ne-eqb (x .kind) 2 (λ f. omega arith),
-        ne-eqb (x .kind) 3 (λ f. omega arith),
-        le-ltb (x .kind) 5 le,
-        lt-ltb (x .kind) 9 l,
-      )
-
-  pub says-compare : 16 ≤ x .kind → x .kind < 22 → opOf x ≡ Compare (x .kind)
-  unfolding testOp
-  says-compare le l = rw (test le (omega arith), lt-ltb (x .kind) 22 l)
-
-  pub says-cross : 22 ≤ x .kind → x .kind < 24 → opOf x ≡ Cross (x .kind)
-  unfolding testOp
-  says-cross le l = rw (test (omega arith) (omega arith), le-ltb (x .kind) 22 le, lt-ltb (x .kind) 24 l)
-
-  pub says-between : x .kind ≡ 24 → opOf x ≡ Between
-  unfolding testOp
-  says-between e =
-      rw (
-        test (omega arith) (omega arith),
-        le-ltb (x .kind) 22 (omega arith),
-        le-ltb (x .kind) 24 (omega arith),
-        eq-eqb (x .kind) 24 e,
-      )
 
   pub says-answer : 27 ≤ x .kind → x .kind < 29 → opOf x ≡ Answer (eqb (x .kind) 27)
   unfolding answerOp
@@ -162,66 +109,53 @@ module _ (x : Step) where
   says-nothing-late le = rw (late (omega arith), le-ltb (x .kind) 34 le)
 
   -- a kind below 27 that is neither a leaf, an operation, a look over rows nor a test
-  pub says-nothing-early : (1 ≤ x .kind → 4 ≤ x .kind) → (5 ≤ x .kind → 9 ≤ x .kind) → (9 ≤ x .kind → 13 ≤ x .kind) → (16 ≤ x .kind → 25 ≤ x .kind)
+  pub says-nothing-early : (1 ≤ x .kind → 4 ≤ x .kind) → isOperation (x .kind) ≡ false → (9 ≤ x .kind → 13 ≤ x .kind) → isTest (x .kind) ≡ false
       → x .kind < 27 → opOf x ≡ Unknown
-  unfolding operandOp testOp
-  says-nothing-early leaf operation look tests l = go (ltb (x .kind) 16) refl
+  unfolding operandOp
+  says-nothing-early leaf none look untested l = go (ltb (x .kind) firstTest) refl
     where
-      below : x .kind < 16 → opOf x ≡ Unknown
-      below small =
+      ends : (t : Bool) → ltb (x .kind) 5 ≡ t
+          → cond t Unknown (cond (isOperation (x .kind)) (Arith (x .kind)) (cond (leb (x .kind) 12) (extremeOp x) Unknown)) ≡ Unknown
+      ends true e = refl
+      ends false e =
+          let past = operation-out (x .kind) none (ltb-false (x .kind) 5 e) in
+          rw (none, lt-leb (x .kind) 12 (look past))
+
+      go : (t : Bool) → ltb (x .kind) firstTest ≡ t → opOf x ≡ Unknown
+      go true e =
           rw (
-            operand small,
+            operand x (ltb-true (x .kind) firstTest e),
             ne-eqb (x .kind) 1 (λ f. omega (arith, leaf (omega arith))),
             ne-eqb (x .kind) 2 (λ f. omega (arith, leaf (omega arith))),
             ne-eqb (x .kind) 3 (λ f. omega (arith, leaf (omega arith))),
           ) (ends (ltb (x .kind) 5) refl)
-        where
-          ends : (t : Bool) → ltb (x .kind) 5 ≡ t
-              → cond t Unknown (cond (ltb (x .kind) 9) (Arith (x .kind)) (cond (leb (x .kind) 12) (extremeOp x) Unknown)) ≡ Unknown
-          ends true e = refl
-          ends false e =
-              let past = operation (ltb-false (x .kind) 5 e) in
-              rw (le-ltb (x .kind) 9 past, lt-leb (x .kind) 12 (look past))
-
-      above : 16 ≤ x .kind → opOf x ≡ Unknown
-      above le =
-          let past : 25 ≤ x .kind = tests le in
-          rw (
-            test le l,
-            le-ltb (x .kind) 22 (omega arith),
-            le-ltb (x .kind) 24 (omega arith),
-            ne-eqb (x .kind) 24 (λ f. omega arith),
-          )
-
-      go : (t : Bool) → ltb (x .kind) 16 ≡ t → opOf x ≡ Unknown
-      go true e = below (ltb-true (x .kind) 16 e)
-      go false e = above (ltb-false (x .kind) 16 e)
+      go false e = says-no-test x untested (ltb-false (x .kind) firstTest e) l
 
   -- ---- what is done
 
   module _ (h : History) (s : PositionState) (a b c d : Value) (y : Bool) where
-    pub does-arith : 5 ≤ x .kind → x .kind < 9 → effect h s (opOf x) a b c d y ≡ giving 2 (both (x .kind) b a) y
+    pub does-arith : isOperation (x .kind) ≡ true → effect h s (opOf x) a b c d y ≡ giving 2 (both (x .kind) b a) y
     unfolding effect
-    does-arith le l = rw (says-arith le l)
+    does-arith is = rw (says-arith x is)
 
-    pub does-compare : 16 ≤ x .kind → x .kind < 22 → effect h s (opOf x) a b c d y ≡ saying 2 (compared (x .kind) b a)
+    pub does-compare : isComparison (x .kind) ≡ true → effect h s (opOf x) a b c d y ≡ saying 2 (compared (x .kind) b a)
     unfolding effect
-    does-compare le l = rw (says-compare le l)
+    does-compare is = rw (says-compare x is)
 
     pub does-cross : 22 ≤ x .kind → x .kind < 24 → effect h s (opOf x) a b c d y ≡ saying 4 (crossed (x .kind) d c b a)
     unfolding effect
-    does-cross le l = rw (says-cross le l)
+    does-cross le l = rw (says-cross x le l)
 
     -- a crossing or Between
-    pub does-test : 22 ≤ x .kind → x .kind < 25 → effect h s (opOf x) a b c d y
+    pub does-test : isTest (x .kind) ≡ true → isComparison (x .kind) ≡ false → effect h s (opOf x) a b c d y
         ≡ saying (cond (ltb (x .kind) 24) 4 3) (cond (ltb (x .kind) 24) (crossed (x .kind) d c b a) (within c b a))
     unfolding effect
-    does-test le l = go (ltb (x .kind) 24) refl
+    does-test is none = go (ltb (x .kind) 24) refl
       where
         go : (t : Bool) → ltb (x .kind) 24 ≡ t → effect h s (opOf x) a b c d y
             ≡ saying (cond t 4 3) (cond t (crossed (x .kind) d c b a) (within c b a))
-        go true f = rw (says-cross le (ltb-true (x .kind) 24 f))
-        go false f = rw (says-between (omega (arith, ltb-false (x .kind) 24 f)))
+        go true f = rw (says-cross x (test-rest (x .kind) is none .0) (ltb-true (x .kind) 24 f))
+        go false f = rw (says-between x (omega (arith, test-rest (x .kind) is none .1, ltb-false (x .kind) 24 f)))
 
     pub does-jump : 32 ≤ x .kind → x .kind < 34 → effect h s (opOf x) a b c d y ≡ passing (cond (beq y (eqb (x .kind) 33)) (x .skip) 0) y
     unfolding effect

@@ -1,7 +1,7 @@
 -- A list of steps as bytes: read and written. Definitions only.
 use Prim.Native.Nat.{ℕ, zero, suc, _+_, _-_, _*_, _/_, _%_, _≤_, min}
 use mathlib.Core.Path.{_≡_}
-use mathlib.Core.Bool.{cond}
+use mathlib.Core.Bool.{Bool, cond, _&&_}
 use mathlib.Core.List.{List, [], _∷_, _++_}
 use lib.ListN.{length, getD, set}
 use lib.Dec.{ltb, leb, eqb}
@@ -46,6 +46,21 @@ highestSlot = 11
 abbrev pub lowestSlot : ℕ
 lowestSlot = 12
 
+-- Which steps are operations on two values.
+unfoldable pub isOperation : ℕ → Bool
+isOperation step = leb Named.add step && ltb step Named.highest
+
+-- The steps of operands come first, then those that test values: which of these compare two, and which are a test at all, a comparison, a
+-- cross or Between.
+abbrev pub firstTest : ℕ
+firstTest = Named.gt
+
+unfoldable pub isComparison : ℕ → Bool
+isComparison step = leb firstTest step && ltb step Named.crossAbove
+
+unfoldable pub isTest : ℕ → Bool
+isTest step = leb firstTest step && ltb step Named.rising
+
 unfoldable pub slotKind : ℕ → ℕ
 slotKind kind = cond (eqb kind Named.highest) highestSlot lowestSlot
 
@@ -55,20 +70,20 @@ extremeOp x =
     cond (ltb (x .kind) highestSlot) (Extreme (x .kind) (Over.Price (x .selector)) (x .skip) (x .n - (x .skip - 1)))
     (Extreme (x .kind - 2) (Over.Slot (x .selector)) (x .skip) (x .n - (x .skip - 1)))
 
--- What a step says, by its kind. Kinds below Gt are of operands,
+-- What a step says, by its kind. Kinds below those of tests are of operands,
 unfoldable pub operandOp : Step → Op
 operandOp x =
     cond (eqb (x .kind) Named.const) (Const (x .bits) (x .n))
     (cond (eqb (x .kind) Named.ref) (Ref (x .selector) (x .n))
     (cond (eqb (x .kind) Named.price) (Price (x .selector) (x .n))
     (cond (ltb (x .kind) Named.add) Unknown
-    (cond (ltb (x .kind) Named.highest) (Arith (x .kind))
+    (cond (isOperation (x .kind)) (Arith (x .kind))
     (cond (leb (x .kind) lowestSlot) (extremeOp x) Unknown)))))
 
 -- those below All of tests on values,
 unfoldable pub testOp : Step → Op
 testOp x =
-    cond (ltb (x .kind) Named.crossAbove) (Compare (x .kind))
+    cond (isComparison (x .kind)) (Compare (x .kind))
     (cond (ltb (x .kind) Named.between) (Cross (x .kind)) (cond (eqb (x .kind) Named.between) Between Unknown))
 
 -- and the rest set the answer (All and Any begin with a yes and a no), turn it, read the position, or jump.
@@ -81,7 +96,7 @@ answerOp x =
     (cond (ltb (x .kind) 34) (JumpIf (eqb (x .kind) jumpAtYes) (x .skip)) Unknown))))
 
 unfoldable pub opOf : Step → Op
-opOf x = cond (ltb (x .kind) Named.gt) (operandOp x) (cond (ltb (x .kind) Named.all) (testOp x) (answerOp x))
+opOf x = cond (ltb (x .kind) firstTest) (operandOp x) (cond (ltb (x .kind) Named.all) (testOp x) (answerOp x))
 
 -- m steps from place p on
 unfoldable pub opsFrom : List ℕ → ℕ → ℕ → List Op

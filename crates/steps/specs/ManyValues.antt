@@ -19,7 +19,7 @@ use Rattle.rules.specs.Answers.{stateRight}
 use Rattle.steps.specs.declared.step.Op.{Op}
 use Rattle.steps.specs.declared.step.Op.the-variants.{Const, Compare}
 use Rattle.steps.specs.declared.running.RunAnswer.the-variants.{Runs}
-use Rattle.steps.specs.Bytes.{bytesOf}
+use Rattle.steps.specs.Bytes.{isComparison, bytesOf}
 use Rattle.steps.specs.Machine.{Values, ago, effect, does, after, run, visitCount, start}
 use Rattle.steps.specs.Running.{ranIf, runs}
 use Rattle.steps.specs.Laws.TranslatedSteps.{FieldsRight, AllFieldsRight}
@@ -68,8 +68,8 @@ module _ (h : History) (s : PositionState) where
 
 module _ (K D : ℕ) (deep : 1 ≤ D) where
   all-right : (n : ℕ) → AllFieldsRight K D (after-zeros n)
-  unfolding AllFieldsRight FieldsRight after-zeros last five three
-  all-right zero = ((omega arith, omega arith), ((omega arith, omega arith), ((omega arith, omega arith), tt)))
+  unfolding AllFieldsRight FieldsRight isComparison after-zeros last five three
+  all-right zero = ((omega arith, omega arith), ((omega arith, omega arith), (refl, tt)))
   all-right (suc n) = ((omega arith, omega arith), all-right n)
 
   -- Run over any rows it answers no, since 5 < 3 is no. (A machine of 64 places would lose the 3, and find 0 < 5.)

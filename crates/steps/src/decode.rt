@@ -8,6 +8,7 @@ ghost use Prim.Native.Nat.{_+_, _-_, _*_, _<_, _≤_};
 ghost use lib.ListN.{length};
 ghost use Rattle.table.specs.Bytes.{u16, u32, u64};
 ghost use Rattle.steps.specs.Bytes.{readStep, stepAt, stepsIn, opOf, extremeOp, operandOp, testOp, answerOp};
+ghost use Rattle.steps.specs.Bytes.{isOperation, isComparison, isTest};
 
 // A step has the number of the kind that it stands for. Jumps stand for no kind and have numbers of their own.
 pub const JUMP_AT_NO: u8 = 32;
@@ -18,6 +19,40 @@ pub const JUMP_AT_YES: u8 = 33;
 pub const HIGHEST_SLOT: u8 = 11;
 
 pub const LOWEST_SLOT: u8 = 12;
+
+// The steps of operands come first, then those that test values.
+const FIRST_TEST: u8 = kinds::GT;
+
+// Whether a step is an operation on two values.
+pub(crate) fn is_operation(step: u8) -> bool
+    ensures { λ r. ⌜ r ≡ isOperation step ⌝ }
+{
+    if step < kinds::ADD {
+        return false;
+    }
+    step < kinds::HIGHEST
+}
+
+// Whether a step compares two values.
+pub(crate) fn is_comparison(step: u8) -> bool
+    ensures { λ r. ⌜ r ≡ isComparison step ⌝ }
+{
+    if step < FIRST_TEST {
+        return false;
+    }
+    step < kinds::CROSS_ABOVE
+}
+
+// Whether a step tests values: a comparison, a cross or Between. It takes 64 bits, since it is asked of a step's first eight bytes as one
+// number too, of which the kind is the lowest: a yes says that the others are zero.
+pub(crate) fn is_test(step: u64) -> bool
+    ensures { λ r. ⌜ r ≡ isTest step ⌝ }
+{
+    if step < FIRST_TEST as u64 {
+        return false;
+    }
+    step < kinds::RISING as u64
+}
 
 // A byte as a number of 64 bits.
 fn wide(b: u8) -> u64
@@ -103,7 +138,7 @@ fn extreme_op(x: Step) -> Op
     Op::Extreme(x.kind - 2, Series::Slot(x.selector as u64), x.skip, back)
 }
 
-// What a step of an operand says: kinds below 16.
+// What a step of an operand says.
 fn operand_op(x: Step) -> Op
     ensures { λ r. ⌜ r ≡ operandOp x ⌝ }
 {
@@ -119,7 +154,7 @@ fn operand_op(x: Step) -> Op
     if x.kind < kinds::ADD {
         return Op::Unknown;
     }
-    if x.kind < kinds::HIGHEST {
+    if is_operation(x.kind) {
         return Op::Arith(x.kind);
     }
     if x.kind <= LOWEST_SLOT {
@@ -128,11 +163,11 @@ fn operand_op(x: Step) -> Op
     Op::Unknown
 }
 
-// What a step that tests values says: kinds below 27.
+// What a step that tests values says.
 fn test_op(x: Step) -> Op
     ensures { λ r. ⌜ r ≡ testOp x ⌝ }
 {
-    if x.kind < kinds::CROSS_ABOVE {
+    if is_comparison(x.kind) {
         return Op::Compare(x.kind);
     }
     if x.kind < kinds::BETWEEN {
@@ -170,7 +205,7 @@ fn answer_op(x: Step) -> Op
 pub fn op_of(x: Step) -> Op
     ensures { λ r. ⌜ r ≡ opOf x ⌝ }
 {
-    if x.kind < kinds::GT {
+    if x.kind < FIRST_TEST {
         return operand_op(x);
     }
     if x.kind < kinds::ALL {

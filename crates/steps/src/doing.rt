@@ -4,12 +4,12 @@ use rules::position::PositionState;
 use rules::values;
 use rules::values::Value;
 ghost use mathlib.Core.Path.{_≡_};
-ghost use mathlib.Core.Bool.{cond, not, _&&_};
+ghost use mathlib.Core.Bool.{false, cond, not, _&&_};
 ghost use Prim.Native.Nat.{_+_, _<_, _≤_, min};
 ghost use lib.Dec.{ltb, leb};
 ghost use Rattle.rows.specs.History.{History};
 ghost use Rattle.rules.specs.Values as Values;
-ghost use Rattle.steps.specs.Bytes.{opOf};
+ghost use Rattle.steps.specs.Bytes.{opOf, isOperation, isTest};
 ghost use Rattle.steps.specs.Machine.{saying, effect};
 
 // Whether a kind is one from `low` on and below `high`.
@@ -34,8 +34,8 @@ fn position(wanted: bool, qty: f64) -> bool
 
 // What the answer is after a step that neither takes nor gives a value, nor jumps. One of no known kind leaves it as it was.
 pub(crate) fn said(x: Step, s: PositionState, answer: bool) -> bool
-    requires { ⌜ (1 ≤ x .kind → 4 ≤ x .kind) × (5 ≤ x .kind → 9 ≤ x .kind) × (9 ≤ x .kind → 13 ≤ x .kind)
-        × (16 ≤ x .kind → 25 ≤ x .kind) × (32 ≤ x .kind → 34 ≤ x .kind) ⌝ }
+    requires { ⌜ (1 ≤ x .kind → 4 ≤ x .kind) × (isOperation (x .kind) ≡ false) × (9 ≤ x .kind → 13 ≤ x .kind)
+        × (isTest (x .kind) ≡ false) × (32 ≤ x .kind → 34 ≤ x .kind) ⌝ }
     ensures { λ r. ⌜ ((h : History) (a b c d : Value) → effect h s (opOf x) a b c d answer ≡ saying 0 r) ⌝ }
 {
     if x.kind < 27 {

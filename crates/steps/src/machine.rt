@@ -175,8 +175,8 @@ fn run_with(
             );
             top += 1;
             p += 1;
-        } else if doing::is_among(kind, 16, 25) {
-            if kind < 22 {
+        } else if decode::is_test(kind as u64) {
+            if decode::is_comparison(kind) {
                 let a = stack::at(numbers, there, top + 3);
                 let b = stack::at(numbers, there, top + 2);
                 answer = values::compared(kind, b, a);
@@ -193,7 +193,7 @@ fn run_with(
             } else {
                 p += 1;
             }
-        } else if doing::is_among(kind, 5, 9) {
+        } else if decode::is_operation(kind) {
             let a = stack::at(numbers, there, top + 3);
             let b = stack::at(numbers, there, top + 2);
             let under = left(top, 2);

@@ -121,7 +121,7 @@ fn test_at(
             let one = a.value;
             let other = b.value;
             let x = decode::step_at(list, p + 2);
-            if doing::is_among(x.kind, 16, 22) {
+            if decode::is_comparison(x.kind) {
                 let answer = values::compared(x.kind, one, other);
                 return Test { steps: 3, answer };
             }

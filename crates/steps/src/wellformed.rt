@@ -137,10 +137,8 @@ fn quick_yes(head: u64, bits: u64, depth: u64, after: u64) -> bool
         return false;
     }
     // A comparison, a cross or Between: every other field is zero.
-    if 16 <= head {
-        if head < 25 {
-            return true;
-        }
+    if decode::is_test(head) {
+        return true;
     }
     // A price: kind 3, any selector, skip zero.
     if head % 256 == 3 {

@@ -8,7 +8,7 @@ use native.Mathlib.Omega.{arith}
 use native.Mathlib.Nat.{mod-eq-of-lt, mod-add-div, div-div-eq-div-mul}
 use lib.ListN.{length, getD, length-append}
 use lib.Seq.{getD-append-add}
-use borrow.Author.Tests.{lt-ltb, le-ltb, ne-eqb}
+use borrow.Author.Tests.{lt-ltb}
 use Rattle.words.specs.Limits.{mostSteps}
 use Rattle.words.specs.Laws.Numbers.{less-or-not}
 use Rattle.table.specs.declared.series.Series.{Series}
@@ -18,8 +18,9 @@ use Rattle.steps.specs.declared.step.Step.{Step}
 use Rattle.steps.specs.declared.step.Op.{Op}
 use Rattle.steps.specs.declared.step.Op.the-variants.{Const, Ref, Price, Arith, Compare, Cross, Between, Answer, Turn, InPosition, BarsSinceEntry, JumpIf}
 use Rattle.steps.specs.declared.step.Op.the-variants.{Extreme, Unknown}
-use Rattle.steps.specs.Bytes.{readStep, stepAt, stepsRun, slotKind, extremeOp, operandOp, testOp}
+use Rattle.steps.specs.Bytes.{readStep, stepAt, stepsRun, slotKind, isOperation, isComparison, isTest, extremeOp, operandOp, testOp, fields}
 use Rattle.steps.specs.Bytes.{answerOp, opOf, opsFrom, opsOf, extremeStep, stepOf, stepBytes, bytesOf}
+use Rattle.steps.specs.Laws.Classes.{says-arith, says-compare, says-cross}
 
 -- ---- the fields that a step has room for
 
@@ -39,8 +40,8 @@ Sayable (Const bits n) = (n < 4294967296) × (bits < 18446744073709551616)
 Sayable (Ref k n) = (k < 256) × (n < 4294967296)
 Sayable (Price p n) = (p < 256) × (n < 4294967296)
 Sayable (Extreme kind over n back) = (9 ≤ kind) × (kind ≤ 10) × (1 ≤ n) × (n < 65536) × SayableSeries over × (back + (n - 1) < 4294967296)
-Sayable (Arith k) = (5 ≤ k) × (k < 9)
-Sayable (Compare k) = (16 ≤ k) × (k < 22)
+Sayable (Arith k) = isOperation k ≡ true
+Sayable (Compare k) = isComparison k ≡ true
 Sayable (Cross k) = (22 ≤ k) × (k < 24)
 Sayable Between = Unit
 Sayable (Answer w) = Unit
@@ -93,7 +94,7 @@ step-back x rest z =
 
 -- Highest or Lowest, over a price or a slot
 extreme-back : (kind : ℕ) (over : Series) (n back : ℕ) → 9 ≤ kind → kind ≤ 10 → opOf (extremeStep kind over n (back + (n - 1))) ≡ Extreme kind over n back
-unfolding opOf operandOp extremeOp extremeStep slotKind
+unfolding opOf isTest operandOp isOperation extremeOp extremeStep slotKind
 extreme-back kind over n back low high =
     ⊎-elim (λ (less : kind < 10). let nine : kind ≡ 9 = omega arith in rw nine (highest over))
     (λ (more : 10 ≤ kind). let ten : kind ≡ 10 = omega arith in rw ten (lowest over)) (less-or-not kind 10)
@@ -111,22 +112,14 @@ extreme-back kind over n back low high =
 
 -- and say what was to be said
 pub says-back : (x : Op) → Sayable x → opOf (stepOf x) ≡ x
-unfolding Sayable stepOf opOf operandOp testOp answerOp
+unfolding Sayable stepOf opOf isTest isComparison operandOp testOp answerOp
 says-back (Const bits n) s = refl
 says-back (Ref k n) s = refl
 says-back (Price p n) s = refl
 says-back (Extreme kind over n back) s = extreme-back kind over n back (s .0) (s .1)
-says-back (Arith k) s =
-    simp (
-      lt-ltb k 16 (omega arith),
-      ne-eqb k 1 (λ e. omega arith),
-      ne-eqb k 2 (λ e. omega arith),
-      ne-eqb k 3 (λ e. omega arith),
-      le-ltb k 5 (omega arith),
-      lt-ltb k 9 (omega arith),
-    )
-says-back (Compare k) s = simp (le-ltb k 16 (omega arith), lt-ltb k 27 (omega arith), lt-ltb k 22 (omega arith))
-says-back (Cross k) s = simp (le-ltb k 16 (omega arith), lt-ltb k 27 (omega arith), le-ltb k 22 (omega arith), lt-ltb k 24 (omega arith))
+says-back (Arith k) s = says-arith (fields k 0 0 0 0) s
+says-back (Compare k) s = says-compare (fields k 0 0 0 0) s
+says-back (Cross k) s = says-cross (fields k 0 0 0 0) (s .0) (s .1)
 says-back Between s = refl
 says-back (Answer true) s = refl
 says-back (Answer false) s = refl

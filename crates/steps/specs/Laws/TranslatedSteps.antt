@@ -1,11 +1,12 @@
 -- Every translated list is well formed.
 use Prim.Native.Nat.{ℕ, _+_, _-_, _≤_, _<_}
-use mathlib.Core.Path.{_≡_, _∙_}
+use mathlib.Core.Path.{_≡_, refl, _∙_}
 use mathlib.Core.Bool.{Bool, true, false, cond}
 use mathlib.Core.List.{List, [], _∷_, _++_}
 use native.Mathlib.Omega.{arith}
 use lib.ListN.{length, length-append}
 use lib.Dec.{eqb}
+use Rattle.table.specs.Named as Named
 use Rattle.table.specs.Trees.{Operand, const, ref, price, prev, arith as sums, extreme, Condition, Conditions, compare, cross, between, trend, every, any}
 use Rattle.table.specs.Trees.{negated, inPosition, barsSince, none, more, reach, reachOf, reachOfAll}
 use Rattle.table.specs.declared.header.Form.{Form}
@@ -16,6 +17,8 @@ use Rattle.table.specs.Limits.{WithinSeries, Within, WithinOf, WithinAll}
 use Rattle.steps.specs.declared.step.Op.{Op}
 use Rattle.steps.specs.declared.step.Op.the-variants.{Const, Ref, Price, Arith, Compare, Cross, Between, Answer, Turn, InPosition, BarsSinceEntry, JumpIf}
 use Rattle.steps.specs.declared.step.Op.the-variants.{Extreme, Unknown}
+use Rattle.steps.specs.Bytes.{isOperation, isComparison}
+use Rattle.steps.specs.Laws.Classes.{operation-is, comparison-is}
 use Rattle.steps.specs.Translation.{code, codeOf, codeEach, trendTest}
 
 -- ---- steps that are well formed where `after` steps follow
@@ -29,8 +32,8 @@ FieldsRight K D after (Const bits n) = (n < D) × (bits < 18446744073709551616)
 FieldsRight K D after (Ref k n) = (k < K) × (n < D)
 FieldsRight K D after (Price p n) = (p < 256) × (n < D)
 FieldsRight K D after (Extreme kind over n back) = (9 ≤ kind) × (kind ≤ 10) × (1 ≤ n) × (n ≤ 4095) × SeriesRight K over × (back + (n - 1) < D)
-FieldsRight K D after (Arith k) = (5 ≤ k) × (k < 9)
-FieldsRight K D after (Compare k) = (16 ≤ k) × (k < 22)
+FieldsRight K D after (Arith k) = isOperation k ≡ true
+FieldsRight K D after (Compare k) = isComparison k ≡ true
 FieldsRight K D after (Cross k) = (22 ≤ k) × (k < 24)
 FieldsRight K D after Between = Unit
 FieldsRight K D after (Answer w) = Unit
@@ -90,15 +93,15 @@ module _ (form : Form) (D : ℕ) where
   operand-right (prev a m) n r l = operand-right a (n + m) (r .1) (omega arith)
   operand-right (sums kind a b) n r l =
       right-append (code a n) (code b n ++ Arith kind ∷ []) (operand-right a n (r .1) (omega arith))
-      (then-right (code b n) (Arith kind) (operand-right b n (r .2) (omega arith)) (omega (arith, arith-numbers kind (r .0))))
+      (then-right (code b n) (Arith kind) (operand-right b n (r .2) (omega arith)) (operation-is kind (omega (arith, arith-numbers kind (r .0)))))
 
   trend-right : (kind : ℕ) → FieldsRight (form .slots) D 0 (Compare (trendTest kind))
-  unfolding FieldsRight
+  unfolding FieldsRight isComparison
   trend-right kind = go (eqb kind 25)
     where
-      go : (t : Bool) → (16 ≤ cond t 16 17) × (cond t 16 17 < 22)
-      go true = omega arith
-      go false = omega arith
+      go : (t : Bool) → isComparison (cond t Named.gt Named.lt) ≡ true
+      go true = refl
+      go false = refl
 
   mutual
     unfolding codeOf WithinOf reachOf FieldsRight AllFieldsRight
@@ -106,7 +109,7 @@ module _ (form : Form) (D : ℕ) where
     condition-right : (c : Condition) → WithinOf form c → reachOf c < D → length (codeOf c) < 65536 → AllFieldsRight (form .slots) D (codeOf c)
     condition-right (compare kind a b) r l f =
         right-append (code a 0) (code b 0 ++ Compare kind ∷ []) (operand-right a 0 (r .1) (omega arith))
-        (then-right (code b 0) (Compare kind) (operand-right b 0 (r .2) (omega arith)) (omega (arith, compare-numbers kind (r .0))))
+        (then-right (code b 0) (Compare kind) (operand-right b 0 (r .2) (omega arith)) (comparison-is kind (omega (arith, compare-numbers kind (r .0)))))
     condition-right (cross kind a b) r l f =
         right-append (code a 0) (code b 0 ++ (code a 1 ++ (code b 1 ++ Cross kind ∷ []))) (operand-right a 0 (r .1) (omega arith))
         (right-append (code b 0) (code a 1 ++ (code b 1 ++ Cross kind ∷ [])) (operand-right b 0 (r .2) (omega arith))

@@ -1,7 +1,10 @@
 -- The tests are those of the definition, in its order.
+use borrow.Author.Needs.{needs}
+use mathlib.Core.Path.{sym, _∙_}
 use native.Mathlib.Omega.{arith}
 use borrow.Author.Tests.{eq-eqb, le-leb, lt-leb, le-ltb, lt-ltb, ne-eqb}
 use Rattle.steps.specs.Bytes.{operandOp}
+use Rattle.steps.specs.Laws.Classes.{operation-out}
 use Rattle.steps.proofs.decode.operand_op.Statement.{statement}
 use Rattle.steps.proofs.decode.operand_op.Tie as tie
 
@@ -13,16 +16,21 @@ operand-op-spec =
     (λ c. simp (eq-eqb _ _ (c .if3 .taken), ne-eqb _ _ (c .before .before .if2 .left), ne-eqb _ _ (c .before .before .before .before .if1 .left)))
     (λ c. let p = c .before .before .before .before in let q = p .before .before in
     simp (lt-ltb _ _ (c .if4 .taken), ne-eqb _ _ (c .before .before .if3 .left), ne-eqb _ _ (p .if2 .left), ne-eqb _ _ (q .if1 .left)))
-    (λ c. let p = c .before .before .before .before in let q = p .before .before in let r = q .before .before in
+    (λ c κs. search needs)
+    (λ c.
+    let i = c .before in
+    let p = i .before .before .before in
+    let q = p .before .before in
     simp (
-      lt-ltb _ _ (c .if5 .taken),
-      le-ltb _ _ (c .before .before .if4 .left),
+      sym (i .is-operation .ensures) ∙ c .if5 .taken,
+      le-ltb _ _ (i .before .if4 .left),
       ne-eqb _ _ (p .if3 .left),
       ne-eqb _ _ (q .if2 .left),
-      ne-eqb _ _
-          (r .if1 .left),
+      ne-eqb _ _ (q .before .before .if1 .left),
     ))
-    (λ c κs. omega arith)
+    (λ c κs.
+    let i = c .before .before .before in
+    (operation-out _ (sym (i .is-operation .ensures) ∙ c .before .before .if5 .left) (i .before .if4 .left), omega arith))
     (λ c.
     let b = c .before .before .before in
     let p = b .before .before .before .before in
@@ -30,7 +38,7 @@ operand-op-spec =
     simp (
       c .extreme-op .ensures,
       le-leb _ _ (c .before .if6 .taken),
-      le-ltb _ _ (b .if5 .left),
+      sym (b .before .is-operation .ensures) ∙ b .if5 .left,
       le-ltb _ _ (b .before .before .if4 .left),
       ne-eqb _ _ (p .if3 .left),
       ne-eqb _ _ (q .if2 .left),
@@ -42,7 +50,7 @@ operand-op-spec =
     let q = p .before .before in
     simp (
       lt-leb _ _ (c .if6 .left),
-      le-ltb _ _ (b .if5 .left),
+      sym (b .before .is-operation .ensures) ∙ b .if5 .left,
       le-ltb _ _ (b .before .before .if4 .left),
       ne-eqb _ _ (p .if3 .left),
       ne-eqb _ _ (q .if2 .left),

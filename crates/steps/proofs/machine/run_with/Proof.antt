@@ -6,7 +6,8 @@ use native.Mathlib.Omega.{arith}
 use Prim.Native.Nat.{_-_}
 use Rattle.rows.specs.Ring.{ringOf}
 use Rattle.steps.specs.Places.{Tries}
-use Rattle.steps.proofs.Said.{range-in, range-out, does-compare, does-test, does-jump, does-arith}
+use Rattle.steps.specs.Laws.Classes.{range-in, range-out}
+use Rattle.steps.proofs.Said.{does-compare, does-test, does-jump, does-arith}
 use Rattle.steps.proofs.Coming.{came-end}
 use Rattle.steps.proofs.Going.{Going, fresh-long, going-start, going-leaf, going-give}
 use Rattle.steps.proofs.Going.{going-look, going-say, going-set, going-pass, going-stay}
@@ -38,17 +39,16 @@ compare-again c =
     let second = c .before .before in
     let first = second .before .before .before in
     let small = first .before .before .before in
-    let i = small .before .before in
-    let x = i .before .before .before in
-    let kind = range-in _ _ _ (sym (i .is-among2 .ensures) ∙ small .before .if3 .taken) in
+    let class = small .before in
+    let x = class .before .before .before .before .before in
     rw (c .left .ensures, c .before .compared .ensures, second .at2 .ensures, first .at .ensures)
     (going-say _ _ _ _ _ _ _ _ _ _ _ (x .before .before .loop .inv) (x .before .loop-test .taken) 2 _
-    (rw (← x .step-at .ensures .0) (does-compare _ _ _ _ _ _ _ _ (kind .0) (small .if4 .taken))))
+    (rw (← x .step-at .ensures .0) (does-compare _ _ _ _ _ _ _ _ (sym (class .is-comparison .ensures) ∙ small .if4 .taken))))
 
 compare-on : tie.Need-add-p-2 Inv-loop μ-loop
 compare-on c =
     let small = c .before .before .before .before .before .before .before .before in
-    let test = small .before .before .before .before .before .before in
+    let test = small .before .before .before .before .before .before .before in
     omega (arith, test .loop-test .taken, test .before .before .before .before .before .before .before .before .pre .1 .0 .3)
 
 -- a cross or Between
@@ -56,19 +56,20 @@ test-again : tie.Need-loop-again-3 Inv-loop μ-loop
 test-again c =
     let tested = c .before .before in
     let large = tested .before .before .before in
-    let i = large .before .before in
+    let class = large .before in
+    let i = class .before .before in
     let x = i .before .before .before in
-    let kind = range-in _ _ _ (sym (i .is-among2 .ensures) ∙ large .before .if3 .taken) in
     rw (c .left2 .ensures, c .before .taken .ensures, tested .tested .ensures)
     (going-say _ _ _ _ _ _ _ _ _ _ _ (x .before .before .loop .inv) (x .before .loop-test .taken) _ _
-    (rw (← x .step-at .ensures .0) (does-test _ _ _ _ _ _ _ _ (large .if4 .left) (kind .1))))
+    (rw (← x .step-at .ensures .0) (does-test _ _ _ _ _ _ _ _ (sym (i .is-test .ensures) ∙ class .before .if3 .taken)
+    (sym (class .is-comparison .ensures) ∙ large .if4 .left))))
 
 -- a jump that is taken
 jump-again : tie.Need-loop-again-4 Inv-loop μ-loop
 jump-again c =
     let i = c .before .before .before in
     let x = i .before .before .before .before .before in
-    let kind = range-in _ _ _ (sym (i .is-among3 .ensures) ∙ c .before .before .if5 .taken) in
+    let kind = range-in _ _ _ (sym (i .is-among2 .ensures) ∙ c .before .before .if5 .taken) in
     rw (c .landing .ensures)
     (going-pass _ _ _ _ _ _ _ _ _ _ _ (x .before .before .loop .inv) (x .before .loop-test .taken) _
     (rw (← x .step-at .ensures .0) (does-jump _ _ _ _ _ _ _ _ (kind .0) (kind .1) ∙ rw (c .before .if6 .taken))))
@@ -78,7 +79,7 @@ stay-again : tie.Need-loop-again-5 Inv-loop μ-loop
 stay-again c =
     let i = c .before .before in
     let x = i .before .before .before .before .before in
-    let kind = range-in _ _ _ (sym (i .is-among3 .ensures) ∙ c .before .if5 .taken) in
+    let kind = range-in _ _ _ (sym (i .is-among2 .ensures) ∙ c .before .if5 .taken) in
     going-stay _ _ _ _ _ _ _ _ _ _ _ (x .before .before .loop .inv) (x .before .loop-test .taken)
     (rw (← x .step-at .ensures .0) (does-jump _ _ _ _ _ _ _ _ (kind .0) (kind .1) ∙ rw (c .if6 .left)))
 
@@ -89,7 +90,7 @@ arith-again c =
     let left = put .before .before .before .before in
     let i = left .before .before .before .before .before .before .before .before in
     let x = i .before .before .before .before .before .before .before in
-    let kind = range-in _ _ _ (sym (i .is-among4 .ensures) ∙ left .before .before .before .before .before .before .before .if7 .taken) in
+    let kind = sym (i .is-operation .ensures) ∙ left .before .before .before .before .before .before .before .if7 .taken in
     rw (
       put .put2 .ensures .0,
       put .put2 .ensures .1,
@@ -100,7 +101,7 @@ arith-again c =
     )
     (going-give _ _ _ _ _ _ _ _ _ _ _ (x .before .before .loop .inv) (x .before .loop-test .taken) 2 _
     (omega (arith, x .before .before .loop .inv .tall, x .before .before .before .before .before .before .before .before .before .pre .1 .0 .0))
-    (rw (← x .step-at .ensures .0) (does-arith _ _ _ _ _ _ _ _ (kind .0) (kind .1))))
+    (rw (← x .step-at .ensures .0) (does-arith _ _ _ _ _ _ _ _ kind)))
 
 arith-reads : tie.Need-add-at-4 Inv-loop μ-loop
 arith-reads c =
@@ -178,7 +179,7 @@ look-requires c κs =
     let i = c .before .before .before in
     let rows = i .before .before .before .before .before .before .before .before .before .before .before .before .before in
     let held = rows .row-count .ensures in
-    ((held, rw held (rows .before .before .before .before .before .pre .1 .0 .2)), range-in _ _ _ (sym (i .is-among5 .ensures) ∙ c .before .before .if8 .taken))
+    ((held, rw held (rows .before .before .before .before .before .pre .1 .0 .2)), range-in _ _ _ (sym (i .is-among3 .ensures) ∙ c .before .before .if8 .taken))
 
 -- its value has a place
 look-room : tie.Need-put-requires-3 Inv-loop μ-loop
@@ -245,10 +246,10 @@ said-requires c κs =
     let i2 = i3 .before .before in
     let i1 = i2 .before .before in (
       range-out _ _ _ (sym (i1 .is-among .ensures) ∙ i2 .before .if1 .left),
-      range-out _ _ _ (sym (i4 .is-among4 .ensures) ∙ i5 .before .if7 .left),
-      range-out _ _ _ (sym (i5 .is-among5 .ensures) ∙ c .if8 .left),
-      range-out _ _ _ (sym (i2 .is-among2 .ensures) ∙ i3 .before .if3 .left),
-      range-out _ _ _ (sym (i3 .is-among3 .ensures) ∙ i4 .before .if5 .left),
+      sym (i4 .is-operation .ensures) ∙ i5 .before .if7 .left,
+      range-out _ _ _ (sym (i5 .is-among3 .ensures) ∙ c .if8 .left),
+      sym (i2 .is-test .ensures) ∙ i3 .before .if3 .left,
+      range-out _ _ _ (sym (i3 .is-among2 .ensures) ∙ i4 .before .if5 .left),
     )
 
 -- a leaf's kind is one of the three
@@ -283,7 +284,7 @@ run-with-spec =
     omega (arith, loop .loop .inv .room .theres, fresh-long _ _ _ (loop .before .before .before .before .before .before .before .pre .1 .1)))
     (λ c. let test = c .before .before .before .before in omega (arith, test .before .loop .inv .pushed, test .loop-test .taken, c .if2 .taken))
     (λ c. omega arith) leaf-requires (λ c κs. search needs) (λ c. omega arith) (λ c. omega arith) (λ c. omega arith)
-    leaf-again (λ c κs. search needs) (λ c. omega arith) (λ c κs. search needs) (λ c. omega arith)
+    leaf-again (λ c. omega arith) (λ c κs. search needs) (λ c κs. search needs) (λ c. omega arith) (λ c κs. search needs) (λ c. omega arith)
     (λ c κs. search needs) (λ c κs. search needs) (λ c κs. search needs) compare-on (λ c. omega arith) compare-again
     (λ c κs. search needs) (λ c κs. search needs) (λ c κs. search needs) (λ c. omega arith) (λ c. omega arith)
     test-again (λ c κs. search needs) (λ c κs. search needs) (λ c. omega arith) jump-again (λ c. omega arith)

@@ -2,7 +2,7 @@
 use borrow.Author.Needs.{needs}
 use mathlib.Core.Path.{sym, _∙_}
 use native.Mathlib.Omega.{arith}
-use Rattle.steps.proofs.Said.{range-in}
+use Rattle.steps.specs.Laws.Classes.{range-in}
 use Rattle.steps.proofs.Coming.{cross-tests}
 use Rattle.steps.proofs.phrases.cross_at.Statement.{statement}
 use Rattle.steps.proofs.phrases.cross_at.Tie as tie

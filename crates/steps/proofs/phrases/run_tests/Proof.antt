@@ -6,7 +6,8 @@ use native.Mathlib.Omega.{arith}
 use Prim.Native.Nat.{_-_}
 use Rattle.rows.specs.Ring.{ringOf}
 use Rattle.steps.specs.Places.{Came}
-use Rattle.steps.proofs.Said.{range-in, does-jump}
+use Rattle.steps.specs.Laws.Classes.{range-in, late-no-operation, no-test}
+use Rattle.steps.proofs.Said.{does-jump}
 use Rattle.steps.proofs.Coming.{came-start, came-say, came-pass, came-stay}
 use Rattle.steps.proofs.phrases.run_tests.Statement.{statement}
 use Rattle.steps.proofs.phrases.run_tests.Tie as tie
@@ -83,9 +84,9 @@ said-requires c κs =
     let x = c .before .before .before .before .before .before .before .step-at .result in
     let kind = range-in 27 (x .kind) 32 (sym (c .before .is-among2 .ensures) ∙ c .if4 .taken) in (
       λ l. omega (arith, kind .0),
+      late-no-operation (x .kind) (omega (arith, kind .0)),
       λ l. omega (arith, kind .0),
-      λ l. omega (arith, kind .0),
-      λ l. omega (arith, kind .0),
+      no-test (x .kind) (λ l. kind .0),
       λ l. omega (arith, l, kind .1),
     )
 

@@ -2,7 +2,6 @@
 use borrow.Author.Needs.{needs}
 use mathlib.Core.Path.{sym, _∙_}
 use native.Mathlib.Omega.{arith}
-use Rattle.steps.proofs.Said.{range-in}
 use Rattle.steps.proofs.Coming.{compare-tests}
 use Rattle.steps.proofs.phrases.test_at.Statement.{statement}
 use Rattle.steps.proofs.phrases.test_at.Tie as tie
@@ -13,10 +12,10 @@ compares c =
     let x = among .before in
     let second = x .before .before in
     let first = second .before .before in
-    let kind = range-in _ _ _ (sym (among .is-among .ensures) ∙ c .before .if4 .taken) in
+    let class = sym (among .is-comparison .ensures) ∙ c .before .if4 .taken in
     rw (c .compared .ensures)
     (compare-tests _ _ _ _ _ _ (first .leaf-at .ensures (second .before .if2 .taken)) (second .leaf-at2 .ensures (x .before .if3 .taken))
-    (omega (arith, first .before .if1 .left)) _ (x .step-at .ensures .0) (kind .0) (kind .1))
+    (omega (arith, first .before .if1 .left)) _ (x .step-at .ensures .0) class)
 
 cross-requires : tie.Need-cross-at-requires
 cross-requires c κs =

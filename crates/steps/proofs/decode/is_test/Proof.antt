@@ -1,0 +1,12 @@
+-- The tests are those of the definition.
+use borrow.Author.Needs.{needs}
+use borrow.Author.Tests.{lt-leb, le-leb}
+use Rattle.steps.specs.Bytes.{isTest}
+use Rattle.steps.proofs.decode.is_test.Statement.{statement}
+use Rattle.steps.proofs.decode.is_test.Tie as tie
+
+pub is-test-spec : {M : Type 1} → statement M
+unfolding isTest
+is-test-spec =
+    tie.close (tie.spec (λ c. search needs) (λ c. rw (lt-leb _ _ (c .if1 .taken))) (λ c. search needs)
+    (λ c. rw (le-leb _ _ (c .if1 .left))))
