@@ -157,7 +157,7 @@ fn emit_two(
     emit_operand(t, ends, b, n, left, room, p)
 }
 
-// Those of a comparison: the operand at node a now, the one at node b n rows back.
+// The steps of a comparison: the operand at node a now, the one at node b n rows back.
 pub(crate) fn emit_compare(
     t: &[u8],
     ends: &[usize; 256],
@@ -190,7 +190,7 @@ pub(crate) fn trend_test(kind: u8) -> u8
     }
 }
 
-// Those of a cross: both operands now, both one row back.
+// The steps of a cross: both operands now, both one row back.
 pub(crate) fn emit_cross(
     t: &[u8],
     ends: &[usize; 256],
@@ -211,7 +211,7 @@ pub(crate) fn emit_cross(
     put_step(room, q, kind, 0, 0, 0, 0)
 }
 
-// Those of Between: the value, the low end, the high end.
+// The steps of Between: the value, the low end, the high end.
 pub(crate) fn emit_between(
     t: &[u8],
     ends: &[usize; 256],

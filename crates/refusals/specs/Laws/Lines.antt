@@ -7,7 +7,7 @@ use native.Mathlib.Omega.{arith}
 use Rattle.words.specs.declared.refusal.Refusal.{Refusal}
 use Rattle.refusals.specs.declared.verdict.Verdict.{Verdict}
 use Rattle.refusals.specs.declared.verdict.Verdict.the-variants.{Fine, Bad}
-use Rattle.refusals.specs.Lines.{Line, line, over, judged, firstBad}
+use Rattle.refusals.specs.Lines.{Line, judged, firstBad}
 
 -- no verdict is both
 pub never : {A : Type 0} {r : Refusal} → Bad r ≡ Fine → A
@@ -27,11 +27,6 @@ passed false v r h = never h
 pub first-holds : (l : Line) (ls : List Line) → judged (l ∷ ls) ≡ Fine → (l .ok ≡ true) × (judged ls ≡ Fine)
 unfolding judged
 first-holds l ls h = passed (l .ok) (judged ls) _ h
-
--- a line that a test decides, over a list that is judged
-pub line-over : (l : Line) (ls : List Line) {ok : Bool} {v : Verdict} → ok ≡ l .ok → v ≡ judged ls → over (line ok (l .number) (l .place)) v ≡ judged (l ∷ ls)
-unfolding judged
-line-over l ls t e = rw (t, e)
 
 -- of two lists, each judged by itself, the first that is not fine decides
 pub blocks : (a b : List Line) → judged (a ++ b) ≡ firstBad (judged a) (judged b)
