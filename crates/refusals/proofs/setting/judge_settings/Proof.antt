@@ -1,4 +1,4 @@
--- Line by line: those of setting 1 are one test, then two blocks, settings 5 to 19 and 20 to 24.
+-- Line by line: those of setting 1 are one test, then two blocks, those of terms and those of entries.
 use borrow.Author.Tests.{not-true, not-false, lt-leb, le-leb}
 use Rattle.refusals.specs.Settings.{settingLines}
 use Rattle.refusals.specs.Laws.Descent.{so, not-so, fine-line, bad-line, fine-block, bad-block}
