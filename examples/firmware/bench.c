@@ -277,8 +277,8 @@ void bench_operated(int how)
 
 /* ---- lives */
 
-/* How the next operation that is cut will be torn: hardly begun, somewhere, nearly done. Where one operation is aimed at, a clear (or the erase in its place) is
- * hardly begun and a last program is nearly done. */
+/* How the next operation that is cut will be torn: hardly begun, somewhere, nearly done. Where one operation is aimed at, a clear (or the erase in its
+ * place) is hardly begun and a last program is nearly done. */
 static void choose_tear(void)
 {
     uint64_t where = now.aim == ANYWHERE ? chance(3) : now.aim == AT_CLEAR ? 0 : 2, few = UINT64_C(1) << chance(12);
