@@ -16,6 +16,12 @@ enum { BITS, PREFIX, BYTES, TEARS };
 enum { CUT, WAITED, DAY_OVER, WRONG };
 enum { ANYWHERE, AT_CLEAR, AT_LAST };
 
+#ifdef SEALED
+enum { SEAL_ERASES = 1 };               /* before the first bar */
+#else
+enum { SEAL_ERASES = 0 };
+#endif
+
 extern uint8_t box_begin[], box_end[], box_stack[];
 
 static uint64_t bars[DAY][BAR];
@@ -290,7 +296,7 @@ static void choose_tear(void)
  * whole, so that there is something to restore; the erase, the clear and the last program are cut more often than a page is. */
 static void choose_operation(void)
 {
-    int64_t clear = now.whole != NEVER ? 1 : NEVER, last = PAGES + 1 + (now.whole != NEVER);
+    int64_t clear = now.whole != NEVER ? 1 : NEVER, last = PAGES + SEAL_ERASES + 1 + (now.whole != NEVER);
     uint64_t turn = chance(8);
     if (turn < 2)
         now.left = NEVER;
