@@ -2,7 +2,8 @@
  * memory, and its supply falls at some instruction (the timer's interrupt) and is gone in the middle of some program or erase, which stays torn. All that
  * the box says is held word for word against a box that was never broken. Arguments:
  *   cuts SEED COUNT AIM       until the supply was taken away in the middle of COUNT programs or erases: any (0), the clear alone (1), or the last (2)
- *   hold SEED COUNT PAGE HOLD COUNT losses; a program takes PAGE ns of virtual time, and the capacitors hold for HOLD ns
+ *   hold SEED COUNT PAGE HOLD WHEN    COUNT losses; a program takes PAGE ns of virtual time, the capacitors hold for HOLD ns, and the supply falls while bars
+ *                             are taken (0) or from the start on (1)
  *   live SEED GIVEN           lives on, and says what happens, until the emulator is ended; the box was given GIVEN bars before
  *   calls                     instructions of each call */
 #include "bench.h"
@@ -15,6 +16,8 @@ enum { DAY = DEPTH + 97, PAGES = (IMAGE + PAGE - 1) / PAGE, NEVER = -1, DENSITIE
 enum { BITS, PREFIX, BYTES, TEARS };
 enum { CUT, WAITED, DAY_OVER, WRONG };
 enum { ANYWHERE, AT_CLEAR, AT_LAST };
+
+#define LATER (UINT64_MAX / 2)
 
 #ifdef SEALED
 enum { SEAL_ERASES = 1 };               /* before the first bar */
@@ -239,13 +242,11 @@ int bench_operation(int operation, unsigned area, uint64_t at, uint64_t len)
     now.operation = operation;
     now.area = area;
     now.prefix = chance(len + 1);
-    if (operation == PROGRAM || operation == COMMIT) {
-        now.programs++;
-        while (now_ns() - begun < now.page_ns)
-            if (now_ns() - now.fell_ns > now.hold_ns)
-                return GONE;
-    }
-    if (operation == CLEAR && !now.live && chance(16) == 0)
+    now.programs += operation == PROGRAM || operation == COMMIT;
+    while (operation != ERASURE && now_ns() - begun < now.page_ns)
+        if (now_ns() > now.fell_ns + now.hold_ns)
+            return GONE;
+    if (operation == CLEAR && now.page_ns == 0 && !now.live && chance(16) == 0)
         return WEAK;
     if (now.left != 0) {
         now.left -= now.left != NEVER;
@@ -315,10 +316,11 @@ static int life(void)
     sum.lives++;
     now.programs = 0;
     now.armed = 0;
+    now.fell_ns = LATER;
     supply_timer_off();
     choose_tear();
-    if (now.early && chance(8) == 0)
-        fall(150000);
+    if (now.early && chance(now.page_ns ? 2 : 8) == 0)
+        fall(150000 + 2 * now.page_ns);
     return run_on(box_stack, box_start);
 }
 
@@ -492,7 +494,7 @@ int main(void)
     count = number();
     third = number();
     now.hold_ns = number();
-    now.early = now.hold_ns == 0;
+    now.early = now.hold_ns == 0 || number() != 0;
     run_unbroken();
     if (mode[0] == 'l')
         live(count);
