@@ -48,9 +48,10 @@ part-by (Bad why) after s = one-refusal why (s why refl)
 pub part-honest : (settings state rows : List ℕ) (at : ℕ) (before : PartLent) →
     (let s = settingsOf settings in
     let t = stateOf state in
-    Honest (unlessBad (judged (lentLines settings state rows))
-    (partGives (partJudged s t rows) (filledWith (before .part) (bytesFrom (imageOf s t rows) at (length (before .part)))))) before)
-unfolding partJudged
+    Honest (partCall settings state rows at before) before
+    (unlessBad (judged (lentLines settings state rows))
+    (partGives (partJudged s t rows) (filledWith (before .part) (bytesFrom (imageOf s t rows) at (length (before .part)))))))
+unfolding partCall partJudged
 part-honest settings state rows at before =
     let s = settingsOf settings in
     let t = stateOf state in
@@ -100,7 +101,6 @@ module _
   -- what the answer tells: rooms and words were let pass, and the image was written
   both : (judged (lentLines settings state rows) ≡ Fine) × (dumpJudged (settingsOf settings) (stateOf state) rows area ≡ Fine)
       × (written (imageOf (settingsOf settings) (stateOf state) rows) area 0 (length area) ≡ dumpCall settings state rows area 0 (length area) .lent)
-  unfolding dumpCall
   both = both-passed (judged (lentLines settings state rows)) (dumpJudged (settingsOf settings) (stateOf state) rows area) _ _
       (dump-honest settings state rows area 0 (length area) .does done)
 
