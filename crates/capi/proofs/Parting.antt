@@ -29,10 +29,10 @@ use Rattle.capi.specs.Part.{PartLent, partGives, filledWith, partCall}
 use Rattle.capi.proofs.Calling.{call-bad, call-refused, call-gives}
 
 -- what an answer tells of the verdict
-refused-by : (v : Verdict) {r : Refusal} {n : ℕ} → partedBy v n ≡ Refused r → v ≡ Bad r
+refused-by : (v : Verdict) (n : ℕ) {r : Refusal} → partedBy v n ≡ Refused r → v ≡ Bad r
 unfolding partedBy
-refused-by Fine e = absurd (let z : _≡_ {A = ℕ} 0 1 = cc in omega arith)
-refused-by (Bad why) e = cc
+refused-by Fine n e = absurd (let z : _≡_ {A = ℕ} 0 1 = cc in omega arith)
+refused-by (Bad why) n e = cc
 
 used-by : (v : Verdict) {n m : ℕ} → partedBy v n ≡ Used m → (v ≡ Fine) × (n ≡ m)
 unfolding partedBy
@@ -77,7 +77,7 @@ module _ (settings state rows : List ℕ) (at : ℕ) (part : List ℕ) (used : �
     part-refused refused word =
         let d = rw (read, given) at ran in
         let e : partJudged (settingsOf settings) (stateOf state) rows ≡ Bad _ =
-        refused-by (partJudged (settingsOf settings) (stateOf state) rows) (sym (d .answer) ∙ refused) in
+        refused-by (partJudged (settingsOf settings) (stateOf state) rows) _ (sym (d .answer) ∙ refused) in
         call-refused _ _ _ fine (rw e) word ∙ rw (d .leaves, e)
 
     pub part-done : {count : ℕ} → q ≡ Used count

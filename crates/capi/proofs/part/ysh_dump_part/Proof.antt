@@ -10,7 +10,7 @@ returns c = part-passed _ _ _ _ _ _ (c .before .before .before .part-words .ensu
 returns-2 : tie.Need-returns-2
 returns-2 c =
     let judged = c .before .before in
-    let test = judged .before .before in
+    let test = judged .before .before .before in
     part-kept _ _ _ _ _ _ (test .before .before .before .part-words .ensures) (test .if1 .left) (judged .part-judged .ensures)
 
 pub ysh-dump-part-spec : {M : Type 1} → statement M
