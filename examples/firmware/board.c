@@ -188,7 +188,12 @@ void *memcpy(void *restrict to, const void *restrict from, size_t len)
 
 void *memset(void *at, int byte, size_t len)
 {
-    for (unsigned char *t = at; len--;)
+    unsigned char *t = at;
+    for (; len > 0 && ((uint64_t)t & 7) != 0; len--)
+        *t++ = (unsigned char)byte;
+    for (; len >= 8; len -= 8, t += 8)
+        *(uint64_t *)t = (unsigned char)byte * UINT64_C(0x0101010101010101);
+    while (len--)
         *t++ = (unsigned char)byte;
     return at;
 }
