@@ -106,6 +106,14 @@ void say_number(uint64_t number)
     say(at);
 }
 
+void say_line(const char *what, uint64_t cost)
+{
+    say(what);
+    say(" ");
+    say_number(cost);
+    say("\n");
+}
+
 static uint64_t semihosting(uint64_t call, const void *with)
 {
     register uint64_t x0 __asm__("x0") = call;
