@@ -14,6 +14,9 @@
  * that a call takes (docs/PERFORMANCE.md, "Footprint"), and floats as a C program begins with them: rounded to nearest, the numbers below
  * the normal ones kept and not flushed to zero. No call keeps memory of its own: calls over different rooms may run at the same time.
  *
+ * On aarch64 the library reads 16 bytes at such 8-byte boundaries: a fault where the MMU is off or alignment is checked. Turn the MMU on, with
+ * the rooms in normal memory, or build the library with FLAGS=-mstrict-align (README.md, "Linking it").
+ *
  * docs/INTERFACE.md has the records, rooms and calls in full, docs/RULES.md what a rule, a fill and each figure mean.
  */
 #ifndef YSHTURPA_H
@@ -352,10 +355,11 @@ uint64_t ysh_finish(const uint64_t *settings, size_t settings_len, uint64_t *sta
 /* The bytes of a dump for a K and a D: 256 + D * 8 * (7 + K). 0 for a K above 64 or a D outside 1 to 4,096. */
 uint64_t ysh_dump_bytes(uint64_t slots, uint64_t depth);
 
-/* Writes bytes `from` to `upto` of a dump's order of writing into the area, which was cleared to zero bytes: 0 and the size for all of
- * it, or one stretch after another. The order is that of the bytes that this call stores: rows first, then the header, and the mark's last byte
- * last of all. What keeps it on the way to flash is the driver's part: program one stretch, wait until it stands there, ask for the next,
- * and let the last stretch begin no earlier than the size less 3. No other call may be running. Refusals 10 (room 0, 7, 8 or 14), 12, 13. */
+/* Writes bytes `from` to `upto` of a dump's order of writing into the area: 0 and the size for all of it, or one stretch after another. The order: rows
+ * first, then the header, and the mark's last byte last of all. It is promised between calls: what an area holds while a call runs is not. So a dump in
+ * one call is for memory that keeps its power until the call ends. For flash: dump into memory, program the image page by page without its first 8
+ * bytes, wait until all of it stands there, and then program those 8, alone. Byte 2 of the flash must not be the mark's before. No other call may be
+ * running. Refusals 10 (room 0, 7, 8 or 14), 12, 13. */
 uint64_t ysh_dump(const uint64_t *settings, size_t settings_len, const uint64_t *state, size_t state_len,
                   const uint64_t *rows, size_t rows_len, uint8_t *area, size_t area_len, uint64_t from, uint64_t upto);
 

@@ -1,8 +1,7 @@
 -- The leaves that a test looks at, in the request's order, and what is said of them. Definitions only.
-use Prim.Native.Nat.{ℕ, zero, suc, _+_, _-_, _<_}
+use Prim.Native.Nat.{ℕ, zero, suc, _+_, _-_}
 use mathlib.Core.Path.{_≡_}
-use mathlib.Core.Bool.{Bool, true, false, not, cond}
-use mathlib.Core.Logic.{_⊎_}
+use mathlib.Core.Bool.{cond}
 use mathlib.Core.List.{List, [], _∷_, _++_}
 use lib.Dec.{ltb}
 use lib.Ieee.{Float}
@@ -13,10 +12,7 @@ use Rattle.table.specs.Series.{asOperand}
 use Rattle.table.specs.Writing.{nodesIn}
 use Rattle.rules.specs.declared.values.Value.{Value}
 use Rattle.rules.specs.declared.values.Value.the-variants.{Missing, Number}
-use Rattle.rules.specs.declared.position.PositionState.{PositionState}
-use Rattle.rules.specs.Values.{held}
-use Rattle.rules.specs.Meaning.{value, holds}
-use Rattle.chain.specs.Chain.{Shown, link, values, missing, atFirstBar, tooFewBars, position, sinceEntry, noEntry, shownFrom}
+use Rattle.rules.specs.Meaning.{value}
 
 -- a leaf, its node, and how many bars back it is looked at
 pub record Look : Type 0 where
@@ -55,18 +51,6 @@ looksOf (negated c) i = []
 looksOf (inPosition wanted) i = []
 looksOf (barsSince selector k) i = []
 
--- The values that a test compares: now, and for a cross, Rising and Falling before.
-unfoldable pub valuesOf : History → Condition → ℕ → List Value
-valuesOf h (compare kind a b) bar = value h a bar ∷ value h b bar ∷ []
-valuesOf h (cross kind a b) bar = value h a bar ∷ value h b bar ∷ value h a (bar - 1) ∷ value h b (bar - 1) ∷ []
-valuesOf h (between x low high) bar = value h x bar ∷ value h low bar ∷ value h high bar ∷ []
-valuesOf h (trend kind a n) bar = value h a bar ∷ value h a (bar - n) ∷ []
-valuesOf h (every cs) bar = []
-valuesOf h (any cs) bar = []
-valuesOf h (negated c) bar = []
-valuesOf h (inPosition wanted) bar = []
-valuesOf h (barsSince selector k) bar = []
-
 -- what a leaf is so many bars before `bar`: missing where there is no such bar
 unfoldable pub seen : History → ℕ → Look → Value
 seen h bar l = cond (ltb bar (l .back)) Missing (value h (l .leaf) (bar - l .back))
@@ -80,43 +64,3 @@ module _ (h : History) (bar : ℕ) where
   pub data FirstMissing : List Look → ℕ → ℕ → Type 0 where
     this : (l : Look) (ls : List Look) → seen h bar l ≡ Missing → FirstMissing (l ∷ ls) (l .node) (l .back)
     later : (l : Look) (ls : List Look) (node back : ℕ) → IsThere (seen h bar l) → FirstMissing ls node back → FirstMissing (l ∷ ls) node back
-
-  -- none of these is missing
-  pub data NoneMissing : List Look → Type 0 where
-    none-left : NoneMissing []
-    and-none : (l : Look) (ls : List Look) → IsThere (seen h bar l) → NoneMissing ls → NoneMissing (l ∷ ls)
-
--- All, Any and Not only join the answers of others
-unfoldable pub joins : Condition → Bool
-joins (every cs) = true
-joins (any cs) = true
-joins (negated c) = true
-joins (compare kind a b) = false
-joins (cross kind a b) = false
-joins (between x low high) = false
-joins (trend kind a n) = false
-joins (inPosition wanted) = false
-joins (barsSince selector k) = false
-
--- "a Rising or Falling with too few bars"
-unfoldable pub TooEarly : Condition → ℕ → Type 0
-TooEarly (trend kind a n) bar = bar < n
-TooEarly (compare kind a b) bar = ⊥
-TooEarly (cross kind a b) bar = ⊥
-TooEarly (between x low high) bar = ⊥
-TooEarly (every cs) bar = ⊥
-TooEarly (any cs) bar = ⊥
-TooEarly (negated c) bar = ⊥
-TooEarly (inPosition wanted) bar = ⊥
-TooEarly (barsSince selector k) bar = ⊥
-
--- "Each line is true of the rule's meaning": what it shows of a condition whose node is number i, at a bar.
-unfoldable pub True : History → PositionState → Condition → ℕ → ℕ → Shown → Type 0
-True h s c i bar link = joins c ≡ true
-True h s c i bar (values vs) = (vs ≡ valuesOf h c bar) × NoneMissing h bar (looksOf c i)
-True h s c i bar (missing node back) = FirstMissing h bar (looksOf c i) node back
-True h s c i bar atFirstBar = (bar ≡ 0) × (holds h s c bar ≡ false)
-True h s c i bar tooFewBars = TooEarly c bar × (holds h s c bar ≡ false)
-True h s c i bar position = holds h s c bar ≡ held (s .qty) ⊎ holds h s c bar ≡ not (held (s .qty))
-True h s c i bar (sinceEntry bars) = (held (s .qty) ≡ true) × (shownFrom (s .«bars_seen») (s .entered) ≡ sinceEntry bars)
-True h s c i bar noEntry = holds h s c bar ≡ false
