@@ -16,7 +16,8 @@ use Rattle.totals.specs.declared.Answer.{Answer}
 use Rattle.totals.specs.declared.Answer.the-variants.{Done, Refused}
 use Rattle.totals.specs.Exact.{nearestTo, numberIn}
 use Rattle.totals.specs.Trades.{Trade, tradesFrom, tradesOf, goodStart, judgedCount, pnlSum}
-use Rattle.totals.specs.Totals.{totalWords, totalsRoom, countSize, AllAtMost, allSmall, countsOf, sumWords, recordOf, withCounts, bothCounts, sumWith, traded, countsFine, addAnswer, addLeaves, joinAnswer, joinLeaves}
+use Rattle.totals.specs.Totals.{totalWords, totalsRoom, countSize, AllAtMost, allSmall, countsOf, sumWords, recordOf}
+use Rattle.totals.specs.Totals.{withCounts, bothCounts, sumWith, traded, countsFine, addAnswer, addLeaves, joinAnswer, joinLeaves}
 use Rattle.totals.specs.Laws.Trades.{length-trades, all-good}
 use Rattle.totals.specs.Laws.Counts.{small-all}
 

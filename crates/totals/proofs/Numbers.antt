@@ -39,7 +39,8 @@ moves-on down ws i v c lo hi b x h = go down
   where
     next : (hi + c + 2 ^ 64 * 0) * (2 ^ 64 * place i) ≡ 2 ^ 64 * (hi * place i) + 2 ^ 64 * (c * place i)
     next =
-        let one : (hi + c + 2 ^ 64 * 0) * (2 ^ 64 * place i) ≡ 2 ^ 64 * ((hi + c + 2 ^ 64 * 0) * place i) = mul-left-comm (hi + c + 2 ^ 64 * 0) (2 ^ 64) (place i) in
+        let one : (hi + c + 2 ^ 64 * 0) * (2 ^ 64 * place i) ≡ 2 ^ 64 * ((hi + c + 2 ^ 64 * 0) * place i) = mul-left-comm (hi + c + 2 ^ 64 * 0) (2 ^ 64)
+        (place i) in
         let two : (hi + c + 2 ^ 64 * 0) * place i ≡ hi * place i + c * place i = ap (λ (z : ℕ). z * place i) (add-zero (hi + c)) ∙ add-mul hi c (place i) in
         omega arith
 
@@ -73,7 +74,8 @@ settled true m a k b x h e =
 pub past : (r n i : ℕ) → n ≤ i → r * place i ≡ r * place (i - n) * place n
 past r n i h =
     let parts : i ≡ n + (i - n) = omega arith in
-    ap (λ (z : ℕ). r * place z) parts ∙ ap (λ (z : ℕ). r * z) (place-add n (i - n) ∙ mul-comm (place n) (place (i - n))) ∙ sym (mul-assoc r (place (i - n)) (place n))
+    ap (λ (z : ℕ). r * place z) parts ∙ ap (λ (z : ℕ). r * z) (place-add n (i - n) ∙ mul-comm (place n) (place (i - n)))
+    ∙ sym (mul-assoc r (place (i - n)) (place n))
 
 -- so the words are those of the number that is wanted
 pub words-settled : (down : Bool) (ws ws₀ : List ℕ) (k x : ℕ) → AreWords ws → length ws ≡ length ws₀

@@ -4,8 +4,10 @@ use mathlib.Core.Bool.{Bool, true, false, not}
 use mathlib.Core.Logic.{_⊎_, inl, inr}
 use mathlib.Core.List.{List, [], _∷_}
 use Prim.Native.Nat.{ℕ, zero, suc, _+_, _-_, _*_, _/_, _%_, _^_, _≤_, _<_, min, compare, Ordering, Ordering·lt, Ordering·eq, Ordering·gt}
-use native.Mathlib.Nat.{mul-assoc, mul-comm, mul-left-comm, add-mul, mod-lt, mod-eq-of-lt, zero-mul, add-mul-div-right, div-div-eq-div-mul, lt-of-lt-of-le, le-of-eq, le-trans}
-use native.Mathlib.Nat.{mul-le-mul-right, le-of-lt, lt-irrefl, le-mul-of-pos-right, lt-of-le-of-lt, add-mul-mod-self-right, pow-succ', one-mul, mul-pos, div-add-mod', eq-zero-or-pos, zero-add, mul-div-cancel, mul-mod-left, le-div-iff-mul-le}
+use native.Mathlib.Nat.{mul-assoc, mul-comm, mul-left-comm, add-mul, mod-lt, mod-eq-of-lt}
+use native.Mathlib.Nat.{zero-mul, add-mul-div-right, div-div-eq-div-mul, lt-of-lt-of-le, le-of-eq, le-trans}
+use native.Mathlib.Nat.{mul-le-mul-right, le-of-lt, lt-irrefl, le-mul-of-pos-right, lt-of-le-of-lt, add-mul-mod-self-right, pow-succ'}
+use native.Mathlib.Nat.{one-mul, mul-pos, div-add-mod', eq-zero-or-pos, zero-add, mul-div-cancel, mul-mod-left, le-div-iff-mul-le}
 use native.Mathlib.Omega.{arith}
 use native.Mathlib.Numerals.{add-one, one-add}
 use lib.ListN.{length, getD, take, drop}
@@ -31,7 +33,8 @@ number-split ws zero = omega arith
 number-split [] (suc i) = omega (arith, zero-mul (2 ^ 64 * place i))
 number-split (w ∷ ws) (suc i) =
     let rest = number-split ws i in
-    let over : numberOf (drop i ws) * (2 ^ 64 * place i) ≡ 2 ^ 64 * (numberOf (drop i ws) * place i) = mul-left-comm (numberOf (drop i ws)) (2 ^ 64) (place i) in
+    let over : numberOf (drop i ws) * (2 ^ 64 * place i) ≡ 2 ^ 64 * (numberOf (drop i ws) * place i) = mul-left-comm (numberOf (drop i ws)) (2 ^ 64)
+    (place i) in
     omega arith
 
 pub take-below : (ws : List ℕ) (i : ℕ) → AreWords ws → numberOf (take i ws) < place i
@@ -138,7 +141,8 @@ module _ (ws : List ℕ) (words : AreWords ws) where
   pub few-whole : (k : ℕ) → numberOf ws / 2 ^ k < 2 ^ 53 → k % 64 ≡ 0 → getD ws (k / 64) 0 / 2 ^ (k % 64) ≡ numberOf ws / 2 ^ k
   few-whole k few none =
       let all = digits-from k in
-      alone _ _ (numberOf (drop (suc (k / 64)) ws)) few (all ∙ ap (λ (r : ℕ). getD ws (k / 64) 0 / 2 ^ (k % 64) + 2 ^ (64 - r) * numberOf (drop (suc (k / 64)) ws)) none)
+      alone _ _ (numberOf (drop (suc (k / 64)) ws)) few (all ∙ ap (λ (r : ℕ). getD ws (k / 64) 0 / 2 ^ (k % 64) + 2 ^ (64 - r) * numberOf (drop (suc
+      (k / 64)) ws)) none)
     where
       alone : (a b h : ℕ) → a < 2 ^ 53 → a ≡ b + 2 ^ 64 * h → b ≡ a
       alone a b h l e = omega arith

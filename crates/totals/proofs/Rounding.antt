@@ -4,8 +4,10 @@ use mathlib.Core.Bool.{Bool, true, false, not}
 use mathlib.Core.Logic.{_⊎_, inl, inr}
 use mathlib.Core.List.{List, [], _∷_}
 use Prim.Native.Nat.{ℕ, zero, suc, _+_, _-_, _*_, _/_, _%_, _^_, _≤_, _<_, min, compare, Ordering, Ordering·lt, Ordering·eq, Ordering·gt}
-use native.Mathlib.Nat.{mul-assoc, mul-comm, mul-left-comm, add-mul, mod-lt, mod-eq-of-lt, zero-mul, add-mul-div-right, div-div-eq-div-mul, lt-of-lt-of-le, le-of-eq, le-trans}
-use native.Mathlib.Nat.{mul-le-mul-right, le-of-lt, lt-irrefl, le-mul-of-pos-right, lt-of-le-of-lt, add-mul-mod-self-right, pow-succ', one-mul, mul-pos, div-add-mod', eq-zero-or-pos, zero-add, mul-div-cancel, mul-mod-left, le-div-iff-mul-le}
+use native.Mathlib.Nat.{mul-assoc, mul-comm, mul-left-comm, add-mul, mod-lt, mod-eq-of-lt}
+use native.Mathlib.Nat.{zero-mul, add-mul-div-right, div-div-eq-div-mul, lt-of-lt-of-le, le-of-eq, le-trans}
+use native.Mathlib.Nat.{mul-le-mul-right, le-of-lt, lt-irrefl, le-mul-of-pos-right, lt-of-le-of-lt, add-mul-mod-self-right, pow-succ'}
+use native.Mathlib.Nat.{one-mul, mul-pos, div-add-mod', eq-zero-or-pos, zero-add, mul-div-cancel, mul-mod-left, le-div-iff-mul-le}
 use native.Mathlib.Omega.{arith}
 use native.Mathlib.Numerals.{add-one, one-add}
 use lib.ListN.{length, getD, take, drop}
@@ -131,7 +133,8 @@ nearest-small ws few =
     closest-one n = closest-same n 1 (n * 2) 2 (omega arith) (omega arith) (omega arith) ∙ even n
       where
         even : (x : ℕ) → closest (x * 2) 2 ≡ x
-        even x = ap (λ (z : ℕ). nearest z (compare (x * 2 % 2 * 2) 2)) (mul-div-cancel x (omega arith)) ∙ ap (λ (z : ℕ). nearest x (compare (z * 2) 2)) (mul-mod-left x 2)
+        even x = ap (λ (z : ℕ). nearest z (compare (x * 2 % 2 * 2) 2)) (mul-div-cancel x (omega arith))
+            ∙ ap (λ (z : ℕ). nearest x (compare (z * 2) 2)) (mul-mod-left x 2)
 
     first : (w n h : ℕ) → n < 2 ^ 53 → n ≡ w + 2 ^ 64 * h → w ≡ n
     first w n h l e = omega arith
@@ -154,7 +157,8 @@ nearest-large n many =
     let k = size n - 53 in
     let least : 2 ^ (52 + k) ≤ n = size-reaches n (52 + k) (under (size n) many) in
     let some : 2 ^ 52 ≤ n / 2 ^ k = le-div-iff-mul-le (pow-pos k) .1 (le-trans (le-of-eq (sym (pow-add 2 52 k))) least) in
-    ap (toBits binary64) (round-units false n) ∙ pattern-units false _ k (kept-most n) (inl (le-trans some (nearest-ge (n / 2 ^ k) (compare (n % 2 ^ k * 2) (2 ^ k)))))
+    ap (toBits binary64) (round-units false n) ∙ pattern-units false _ k (kept-most n) (inl (le-trans some (nearest-ge (n / 2 ^ k) (compare (n % 2 ^ k * 2)
+    (2 ^ k)))))
     ∙ zero-add _
   where
     under : (x : ℕ) → 53 < x → 52 + (x - 53) < x
@@ -168,7 +172,8 @@ kept-fits n = go (eq-zero-or-pos (size n - 53))
     go (inl e) = inr e
     go (inr p) =
         let least : 2 ^ (52 + (size n - 53)) ≤ n = size-reaches n (52 + (size n - 53)) (under (size n) p) in
-        let some : 2 ^ 52 ≤ n / 2 ^ (size n - 53) = le-div-iff-mul-le (pow-pos (size n - 53)) .1 (le-trans (le-of-eq (sym (pow-add 2 52 (size n - 53)))) least) in
+        let some : 2 ^ 52 ≤ n / 2 ^ (size n - 53) = le-div-iff-mul-le (pow-pos (size n - 53)) .1 (le-trans (le-of-eq (sym (pow-add 2 52
+        (size n - 53)))) least) in
         inl (le-trans some (nearest-ge (n / 2 ^ (size n - 53)) (compare (n % 2 ^ (size n - 53) * 2) (2 ^ (size n - 53)))))
       where
         under : (x : ℕ) → 0 < x - 53 → 52 + (x - 53) < x

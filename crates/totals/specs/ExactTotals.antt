@@ -185,7 +185,8 @@ module _ {xs : List Trade} (list : List ℕ) (whole : length list % tradeWords �
   add-does =
       let long : totalWords ≤ length (totalsOf xs) = omega (arith, length-totals xs) in
       let fine : countsFine (countsOf (totalsOf xs)) ≡ true = ap countsFine (counts-held xs) ∙ counts-fine old few-old in
-      let good : judgedCount (length list / tradeWords) ≤ length (goodStart (tradesFrom (judgedCount (length list / tradeWords)) 0 list)) = omega (arith, all-good) in
+      let good : judgedCount (length list / tradeWords) ≤ length (goodStart (tradesFrom (judgedCount (length list / tradeWords)) 0 list)) = omega
+      (arith, all-good) in
       let held : traded (countsOf (totalsOf xs)) ≡ length xs = ap traded (counts-held xs) ∙ every-trade old in
       let fits : traded (countsOf (totalsOf xs)) + length list / tradeWords ≤ mostCount = omega (arith, held, room) in
       simp (le-leb _ _ long, eq-eqb _ _ whole, fine, le-leb _ _ good, le-leb _ _ fits)
@@ -278,7 +279,8 @@ unfolding totalsOf withCounts
 totals-rearranged {xs} {ys} r =
     ap (λ (z : ℤ). withCounts zeros xs ++ wordsFor z ++ (wordOf (nearestTo z) ∷ [])) (sum-rearranged r)
     ∙ ap (λ (c : List ℕ). c ++ wordsFor (pnlSum ys) ++ (wordOf (nearestTo (pnlSum ys)) ∷ []))
-    (eight-same (same 1) (same 2) (same 3) (same 4) (same 5) (same 6) (ap (λ (n : ℕ). 0 + n) (count-rearranged won r)) (ap (λ (n : ℕ). 0 + n) (count-rearranged lost r)))
+    (eight-same (same 1) (same 2) (same 3) (same 4) (same 5) (same 6) (ap (λ (n : ℕ). 0 + n) (count-rearranged won r)) (ap (λ (n : ℕ). 0 + n)
+    (count-rearranged lost r)))
   where
     same : (reason : ℕ) → 0 + countOf (endedBy reason) xs ≡ 0 + countOf (endedBy reason) ys
     same reason = ap (λ (n : ℕ). 0 + n) (count-rearranged (endedBy reason) r)

@@ -108,7 +108,8 @@ fn count(counts: &mut [u64], pnl: u64, reason: u64)
 
 // Counts the first n trades of a list up to the first that cannot be counted, and says how many that were.
 pub(crate) fn count_trades(counts: &mut [u64], trades: &[u64], n: usize) -> usize
-    requires { ⌜ (n * tradeWords ≤ length (now trades)) × (n ≤ mostCount) × (length (now counts) ≡ countSize) × AllAtMost mostCount (now counts) ⌝ }
+    requires { ⌜ (n * tradeWords ≤ length (now trades)) × (n ≤ mostCount)
+        × (length (now counts) ≡ countSize) × AllAtMost mostCount (now counts) ⌝ }
     ensures { λ r. ⌜ (r ≡ length (goodStart (tradesFrom n 0 (now (trades .entry)))))
         × (now (counts .exit) ≡ withCounts (now (counts .entry)) (goodStart (tradesFrom n 0 (now (trades .entry))))) ⌝ }
 {

@@ -17,6 +17,11 @@ struct Carried {
     carry: u64,
 }
 
+// What goes over into the next word where a sum passes a word's end, and where a difference does.
+const CARRY: u64 = 1;
+
+const BORROW: u64 = 1;
+
 // w + x
 fn more(w: u64, x: u64) -> Carried
     ensures { λ d. ⌜ (d .word + 2 ^ 64 * d .carry ≡ w + x) × (d .word < 2 ^ 64) × (d .carry ≤ 1) ⌝ }
@@ -24,7 +29,7 @@ fn more(w: u64, x: u64) -> Carried
     if 0xffff_ffff_ffff_ffff - x < w {
         Carried {
             word: w - (0xffff_ffff_ffff_ffff - x) - 1,
-            carry: 1,
+            carry: CARRY,
         }
     } else {
         Carried {
@@ -41,7 +46,7 @@ fn less(w: u64, x: u64) -> Carried
     if w < x {
         Carried {
             word: 0xffff_ffff_ffff_ffff - x + w + 1,
-            carry: 1,
+            carry: BORROW,
         }
     } else {
         Carried {

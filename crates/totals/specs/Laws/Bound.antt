@@ -37,7 +37,8 @@ ones s x t e = subst (λ (y : ℕ). finite (ofFields binary64 s y t) ≡ false) 
 -- so a finite one has another
 pub field-below : (w : ℕ) → finite (floatOf w) ≡ true → w % 2 ^ 63 / 2 ^ 52 < 2047
 unfolding ofBits
-field-below w h = most (w % 2 ^ 63 / 2 ^ 52) (width w) (λ (e : w % 2 ^ 63 / 2 ^ 52 ≡ 2047). true≢false (sym h ∙ ones (leb (2 ^ 63) w) (w % 2 ^ 63 / 2 ^ 52) (w % 2 ^ 52) e))
+field-below w h = most (w % 2 ^ 63 / 2 ^ 52) (width w) (λ (e : w % 2 ^ 63 / 2 ^ 52 ≡ 2047). true≢false (sym h
+    ∙ ones (leb (2 ^ 63) w) (w % 2 ^ 63 / 2 ^ 52) (w % 2 ^ 52) e))
   where
     width : (x : ℕ) → x % 2 ^ 63 / 2 ^ 52 < 2048
     width x = omega arith
@@ -60,7 +61,8 @@ fields s (suc x) t h =
 pub float-is-units : (w : ℕ) → finite (floatOf w) ≡ true → HasValue (floatOf w) (leb (2 ^ 63) w) (unitsOf (w % 2 ^ 63)) (2 ^ 1074)
 unfolding unitsOf ofBits
 float-is-units w h =
-    subst (λ (t : ℕ). HasValue (ofFields binary64 (leb (2 ^ 63) w) (w % 2 ^ 63 / 2 ^ 52) (w % 2 ^ 52)) (leb (2 ^ 63) w) (fieldUnits (w % 2 ^ 63 / 2 ^ 52) t) (2 ^ 1074))
+    subst (λ (t : ℕ). HasValue (ofFields binary64 (leb (2 ^ 63) w) (w % 2 ^ 63 / 2 ^ 52) (w % 2 ^ 52)) (leb (2 ^ 63) w) (fieldUnits (w % 2 ^ 63 / 2 ^ 52) t)
+    (2 ^ 1074))
     (low w) (fields (leb (2 ^ 63) w) (w % 2 ^ 63 / 2 ^ 52) (w % 2 ^ 52) (field-below w h))
   where
     low : (x : ℕ) → x % 2 ^ 52 ≡ x % 2 ^ 63 % 2 ^ 52
@@ -86,7 +88,8 @@ step-size true (suc x) = refl
 
 whole-below : (w : ℕ) → finite (floatOf w) ≡ true → natAbs (unitsIn w) ≤ 2 ^ 2098
 unfolding unitsIn unitsOf
-whole-below w h = le-trans (le-of-eq (step-size (leb (2 ^ 63) w) _)) (units-below (w % 2 ^ 63 / 2 ^ 52) (w % 2 ^ 63 % 2 ^ 52) (field-below w h) (mod-lt (w % 2 ^ 63) (pow-pos 52)))
+whole-below w h = le-trans (le-of-eq (step-size (leb (2 ^ 63) w) _)) (units-below (w % 2 ^ 63 / 2 ^ 52) (w % 2 ^ 63 % 2 ^ 52) (field-below w h) (mod-lt
+    (w % 2 ^ 63) (pow-pos 52)))
 
 difference : (a b : ℕ) → natAbs (subℕ a (suc b)) ≤ a + suc b
 difference a b = go (ltb a (suc b)) refl

@@ -114,7 +114,8 @@ unfolding allSmall
 small-all [] h i = omega arith
 small-all (x ∷ c) h i = go (leb x mostCount) refl h i (small-all c)
   where
-    go : (b : Bool) → leb x mostCount ≡ b → cond b (allSmall c) false ≡ true → (j : ℕ) → (allSmall c ≡ true → AllAtMost mostCount c) → getD (x ∷ c) j 0 ≤ mostCount
+    go : (b : Bool) → leb x mostCount ≡ b → cond b (allSmall c) false ≡ true → (j : ℕ) → (allSmall c ≡ true → AllAtMost mostCount c)
+        → getD (x ∷ c) j 0 ≤ mostCount
     go true e k zero rest = leb-true x mostCount e
     go true e k (suc j) rest = rest k j
     go false e k j rest = absurd (false≢true k)

@@ -147,7 +147,8 @@ module _ {m : ℕ} where
 
   stands-join : (n k : ℕ) (x y : ℤ) → 0 < m → Stands m n x → Stands m k y → Stands m (shifted false m n k) (x +ℤ y)
   stands-join n k (pos a) (pos b) p s t =
-      same-trans (shifted-up n k) (same-trans (same-add k s) (same-trans (same-as {u = a + k} {v = k + a} (omega arith)) (same-trans (same-add a t) (same-as (omega arith)))))
+      same-trans (shifted-up n k) (same-trans (same-add k s) (same-trans (same-as {u = a + k} {v = k + a} (omega arith)) (same-trans (same-add a t) (same-as
+      (omega arith)))))
   stands-join n k (pos a) (negsuc b) p s t =
       stands-less (shifted false m n k) b a
       (same-trans (same-add (suc b) (shifted-up n k)) (same-trans (same-as {u = n + k + suc b} {v = k + suc b + n} (omega arith))

@@ -25,10 +25,12 @@ add-t32 : tie.Need-add-t32
 add-t32 c = let p = c .before .before .before .before .before .before .before .before .before .before .before .before .pre in omega (arith, p .2 5, p .3 5)
 
 add-t37 : tie.Need-add-t37
-add-t37 c = let p = c .before .before .before .before .before .before .before .before .before .before .before .before .before .before .pre in omega (arith, p .2 6, p .3 6)
+add-t37 c = let p = c .before .before .before .before .before .before .before .before .before .before .before .before .before .before .pre in omega
+    (arith, p .2 6, p .3 6)
 
 add-t42 : tie.Need-add-t42
-add-t42 c = let p = c .before .before .before .before .before .before .before .before .before .before .before .before .before .before .before .before .pre in omega (arith, p .2 7, p .3 7)
+add-t42 c = let p = c .before .before .before .before .before .before .before .before .before .before .before .before .before .before .before .before .pre
+    in omega (arith, p .2 7, p .3 7)
 
 returns : tie.Need-returns
 unfolding bothCounts
@@ -36,6 +38,7 @@ returns c = refl
 
 pub both-spec : {M : Type 1} → statement M
 both-spec =
-    tie.close (tie.spec (λ c. search needs) (λ c. search needs) add-t7 (λ c. search needs) (λ c. search needs) add-t12 (λ c. search needs) (λ c. search needs) add-t17
+    tie.close (tie.spec (λ c. search needs) (λ c. search needs) add-t7 (λ c. search needs) (λ c. search needs) add-t12 (λ c. search needs)
+    (λ c. search needs) add-t17
     (λ c. search needs) (λ c. search needs) add-t22 (λ c. search needs) (λ c. search needs) add-t27 (λ c. search needs) (λ c. search needs) add-t32
     (λ c. search needs) (λ c. search needs) add-t37 (λ c. search needs) (λ c. search needs) add-t42 returns)

@@ -36,7 +36,9 @@ returns-2 c =
     let ws = c .before .before .before .before .args .words .now in
     let words : AreWords ws = λ i. omega (arith, c .before .before .before .shared-slice-known .given i) in
     let t = c .before .before .top .result in
-    ap (λ (w : ℕ). 64 * t - leadingZeros 64 w) (c .word .ensures) ∙ sym (size-of-top ws t words (c .before .before .top .ensures) (some t (c .before .if1 .left)))
+    ap (λ (w : ℕ). 64 * t - leadingZeros 64 w) (c .word .ensures) ∙ sym (size-of-top ws t words (c .before .before .top .ensures) (some t
+    (c .before .if1 .left)))
 
 pub digits-spec : {M : Type 1} → statement M
-digits-spec = tie.close (tie.spec (λ c κs. search needs) returns (λ c. search needs) (λ c. search needs) (λ c κs. search needs) cast-result sub-result returns-2)
+digits-spec = tie.close (tie.spec (λ c κs. search needs) returns (λ c. search needs) (λ c. search needs)
+    (λ c κs. search needs) cast-result sub-result returns-2)

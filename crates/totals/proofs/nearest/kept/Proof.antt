@@ -27,7 +27,8 @@ returns : tie.Need-returns
 returns c =
     let start = c .before .before .before .args in
     let words : AreWords (start .words .now) = λ i. omega (arith, c .before .before .shared-slice-known .given i) in
-    ap (λ (w : ℕ). w / 2 ^ (start .k % 64)) (c .before .word .ensures) ∙ few-whole (start .words .now) words (start .k) (c .before .before .before .pre) (c .if1 .taken)
+    ap (λ (w : ℕ). w / 2 ^ (start .k % 64)) (c .before .word .ensures) ∙ few-whole (start .words .now) words (start .k) (c .before .before .before .pre)
+    (c .if1 .taken)
 
 fine : (a b : ℕ) → a ≡ b → b < 2 ^ 53 → a < 2 ^ 64
 fine a b e h = omega arith

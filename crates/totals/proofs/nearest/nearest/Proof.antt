@@ -46,7 +46,8 @@ rounded-requires c κs =
     let n = numberOf (c .before .before .before .before .args .words .now) in (
       omega arith,
       c .kept .ensures,
-      subst (λ (x : ℕ). x < 2 ^ 53) (sym (c .kept .ensures)) (subst (λ (x : ℕ). n / 2 ^ (x - 53) < 2 ^ 53) (sym (c .before .before .digits .ensures)) (kept-lt 53 n)),
+      subst (λ (x : ℕ). x < 2 ^ 53) (sym (c .kept .ensures)) (subst (λ (x : ℕ). n / 2 ^ (x - 53) < 2 ^ 53) (sym (c .before .before .digits .ensures))
+          (kept-lt 53 n)),
     )
 
 add-b : tie.Need-add-b

@@ -40,7 +40,12 @@ returns-2 c =
     let begin = c .before .before .before .before .before .before .before .before in
     let ws = begin .args .sum .now in
     let words : AreWords ws = λ i. omega (arith, c .before .before .before .before .before .before .before .shared-slice-known .given i) in
-    let large : 2 ^ 63 ≤ getD ws 33 0 = omega (arith, c .before .before .before .before .before .before .word .ensures, c .before .before .before .before .before .if1 .left) in
+    let large : 2 ^ 63 ≤ getD ws 33 0 = omega (
+      arith,
+      c .before .before .before .before .before .before .word .ensures,
+      c .before .before .before .before
+          .before .if1 .left,
+    ) in
     let n = numberOf ws in
     let below : n < place 34 = subst (λ (k : ℕ). n < place k) (begin .pre) (number-below ws words) in
     let some : 0 < n = some-of-negative ws words 33 (begin .pre) large in
@@ -54,4 +59,5 @@ returns-2 c =
 pub nearest-to-spec : {M : Type 1} → statement M
 nearest-to-spec =
     tie.close
-    (tie.spec (λ c κs. search needs) (λ c κs. search needs) returns (λ c. search needs) (λ c κs. search needs) (λ c. search needs) (λ c κs. search needs) add-result returns-2)
+    (tie.spec (λ c κs. search needs) (λ c κs. search needs) returns (λ c. search needs) (λ c κs. search needs) (λ c. search needs)
+    (λ c κs. search needs) add-result returns-2)

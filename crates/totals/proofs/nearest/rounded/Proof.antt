@@ -56,10 +56,12 @@ returns-3 c =
     let begin = c .before .before .before .before .before in
     let n = numberOf (begin .args .words .now) in
     ap (λ (q : ℕ). q + 1) (begin .pre .1)
-    ∙ sym (above n (begin .args .k) (begin .pre .0) (first (c .before .before)) (positive _ (eqb-false _ _ (sym (c .before .clear-below .ensures) ∙ c .if2 .left))))
+    ∙ sym (above n (begin .args .k) (begin .pre .0) (first (c .before .before)) (positive _ (eqb-false _ _ (sym (c .before .clear-below .ensures)
+    ∙ c .if2 .left))))
   where
     positive : (x : ℕ) → (x ≡ 0 → ⊥) → 0 < x
     positive x h = omega arith
 
 pub rounded-spec : {M : Type 1} → statement M
-rounded-spec = tie.close (tie.spec (λ c. search needs) (λ c κs. search needs) (λ c. search needs) returns (λ c κs. search needs) (λ c. search needs) returns-2 (λ c. search needs) returns-3)
+rounded-spec = tie.close (tie.spec (λ c. search needs) (λ c κs. search needs) (λ c. search needs) returns (λ c κs. search needs)
+    (λ c. search needs) returns-2 (λ c. search needs) returns-3)

@@ -78,7 +78,8 @@ returns c =
     let start = c .before .before .before .before .args in
     let l = c .before .loop in
     let all : l .i ≡ length (start .words .now) = omega arith in
-    l .inv .1 ∙ ap (λ (xs : List ℕ). wordsOf (length (start .sum .now)) (shifted (start .down) (place (length (start .sum .now))) (numberOf (start .sum .now)) (numberOf xs)))
+    l .inv .1 ∙ ap (λ (xs : List ℕ). wordsOf (length (start .sum .now)) (shifted (start .down) (place (length (start .sum .now))) (numberOf
+    (start .sum .now)) (numberOf xs)))
     (ap (λ (n : ℕ). take n (start .words .now)) all ∙ take-length (start .words .now))
 
 pub shift-all-spec : {M : Type 1} → statement M
