@@ -76,19 +76,26 @@ module _ (s : Settings) (ls : Lists) (m : Rooms) (deep : s .depth ≤ rowPlaces 
   abbrev all : List (List ℕ)
   all = allBars lives ++ bars
 
+  abbrev e : Run
+  e = runOver s ls (lastState (freshState s) lives) (lastRooms m lives) bars
+
+  -- THE SAME AS UNBROKEN: a box that takes all bars with unbroken supply, over any rooms with places for D rows and for every bar in the books, takes as many
+  -- and ends with the same verdict and account.
+  pub same-as-unbroken : (n : Rooms) → s .depth ≤ rowPlaces (s .slots) (n .rows) → PlacesFor (length (allBars lives ++ bars)) (freshState s) n
+      → SinceLosses s (runOver s ls (freshState s) n (allBars lives ++ bars)) (runOver s ls (lastState (freshState s) lives) (lastRooms m lives) bars)
+      (length (allBars lives)) (allPoints s ls (freshState s) m lives) (allTrades s ls (freshState s) m lives)
+  same-as-unbroken n deep′ places =
+      losses-run s ls n deep′ twelve floats delay m deep lives (front-words (allBars lives) bars words) lived bars
+      (never-full s ls all (freshState s) n (fresh-sound s n deep′) places) free
+
   abbrev big : Rooms
   big = large m (length all)
 
   abbrev u : Run
   u = runOver s ls (freshState s) big all
 
-  abbrev e : Run
-  e = runOver s ls (lastState (freshState s) lives) (lastRooms m lives) bars
-
   since : SinceLosses s u e (length (allBars lives)) (allPoints s ls (freshState s) m lives) (allTrades s ls (freshState s) m lives)
-  since =
-      losses-run s ls big deep twelve floats delay m deep lives (front-words (allBars lives) bars words) lived bars
-      (never-full s ls all (freshState s) big (fresh-sound s big deep) (large-places s m (length all) few)) free
+  since = same-as-unbroken big deep (large-places s m (length all) few)
 
   -- READY AT ANY TIME: what the life under way has come to can be dumped, and its whole image is accepted.
   pub always-ready : Ready s (runOver s ls (lastState (freshState s) lives) (lastRooms m lives) bars)

@@ -1,6 +1,6 @@
 -- The order of writing is a plan: each byte a program of its own, the mark's last byte the last. So the bytes of a dump may be torn, and the area need
 -- not be cleared: it is enough that its byte 2 is not the mark's.
-use Prim.Native.Nat.{ℕ, zero, suc, _+_, _-_, _≤_, _<_, min}
+use Prim.Native.Nat.{ℕ, zero, suc, _-_, _≤_, _<_, min}
 use mathlib.Core.Path.{_≡_, refl, sym, ap, _∙_}
 use mathlib.Core.Bool.{Bool, true, false, _||_}
 use mathlib.Core.Logic.{⊎-elim}

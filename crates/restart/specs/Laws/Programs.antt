@@ -2,7 +2,7 @@
 use Prim.Native.Nat.{ℕ, _≤_, _<_}
 use mathlib.Core.Path.{_≡_, refl, sym, ap, _∙_}
 use mathlib.Core.Bool.{Bool, true, false, _||_}
-use mathlib.Core.List.{List, [], _∷_, _++_}
+use mathlib.Core.List.{List, [], _∷_}
 use mathlib.Core.Logic.{inl, inr}
 use native.Mathlib.Omega.{arith}
 use borrow.Author.Tests.{eqb-true, eqb-false}
@@ -10,7 +10,7 @@ use lib.Dec.{eqb}
 use lib.ListN.{length, getD, take, set, length-set}
 use lib.Seq.{getD-set-same, getD-set-other, ext-getD, length-take-le, getD-take}
 use Rattle.table.specs.Bytes.{Bytes}
-use Rattle.restart.specs.Plans.{touches, covers, programmed, allProgrammed, Torn, CutIn, inOrder, RestRight}
+use Rattle.restart.specs.Plans.{touches, covers, programmed, allProgrammed, CutIn, inOrder, RestRight}
 
 -- of two tests, neither holds
 pub neither : (a b : Bool) → (a || b) ≡ false → (a ≡ false) × (b ≡ false)
