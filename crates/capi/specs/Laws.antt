@@ -6,3 +6,4 @@ pub mod RunCalls
 pub mod WhyCalls
 pub mod DumpCalls
 pub mod PartCalls
+pub mod StretchCalls

@@ -8,8 +8,10 @@ pub mod Finish
 pub mod Power
 pub mod Part
 pub mod Figures
+pub mod Stretch
 pub mod WordRun
 pub mod Day
 pub mod Laws
+pub mod StretchIsReading
 pub mod Joined
 pub mod DayJoined
