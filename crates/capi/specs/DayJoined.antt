@@ -4,7 +4,7 @@ use mathlib.Core.Path.{_≡_, refl, sym, _∙_}
 use mathlib.Core.Bool.{Bool, true, false}
 use mathlib.Core.List.{List, [], _∷_}
 use native.Mathlib.Omega.{arith}
-use borrow.Author.Tests.{ne-eqb}
+use borrow.Author.Tests.{leb-true, ne-eqb}
 use lib.ListN.{length, take, drop}
 use Rattle.words.specs.Limits.{settingWords, stateWords, barWords}
 use Rattle.words.specs.declared.refusal.Refusal.{Refusal}
@@ -19,6 +19,7 @@ use Rattle.refusals.specs.declared.verdict.Verdict.{Verdict}
 use Rattle.refusals.specs.declared.verdict.Verdict.the-variants.{Fine, Bad}
 use Rattle.refusals.specs.Day.{wholeBars, wholeFor}
 use Rattle.refusals.specs.Lines.{judged}
+use Rattle.refusals.specs.Laws.Lines.{first-holds, both-fine}
 use Rattle.refusals.specs.Rooms.{roomLines}
 use Rattle.engine.specs.Day.{cut, barsIn, barsFor, noBars, dayOf}
 use Rattle.engine.specs.Laws.Days.{cut-next, bars-none, whole-one, some-bars}
@@ -26,11 +27,12 @@ use Rattle.runs.specs.Laws.Floats.{step-floats}
 use Rattle.engine.specs.Laws.Runs.{run-none, run-stops, run-takes}
 use Rattle.engine.specs.Run.{Run, runOver}
 use Rattle.engine.specs.Step.{answered, stepped, stepVerdict, stepAnswer}
-use Rattle.capi.specs.Bars.{StepLent, stepGives, stepCall}
-use Rattle.capi.specs.Call.{Call, answerWord, callOf, unlessBad}
+use Rattle.capi.specs.Bars.{StepLent, lentLines, stepGives, stepCall}
+use Rattle.capi.specs.Call.{Call, answerWord, callOf, unlessBad, wordLines}
 use Rattle.capi.specs.Day.{DayLent, dayLentLines, stateAfter, dayGives, dayCall, stepsCall}
 use Rattle.capi.specs.Joined.{first-agrees, words-fine, lent-fine, room-first, room-passed, calls-run}
 use Rattle.capi.specs.Laws.Calls.{refused-word}
+use Rattle.capi.specs.Laws.DumpCalls.{lent-small}
 use Rattle.capi.specs.Laws.RunCalls.{step-small}
 use Rattle.capi.specs.WordRun.{WordRun, callsOver, answerOf, lentWith}
 
@@ -115,16 +117,59 @@ module _ (settings state : List ℕ) (set : settingWords ≤ length settings) (l
       go (Bad r) f = unfold dayGives stateAfter answerOf in rw (run-stops s ls t m bar more r (room-first s t bar m ls r f))
       go Fine f = unfold dayGives in refl
 
-  -- ONE CALL IS A CALL FOR EACH BAR: the answer, how many did their work, the words of the state and of every room
-  pub steps-are-calls : (bars : List ℕ) → stepsCall settings state bars m ls ≡ inOne (callsOver settings ls given (barsIn (s .slots) bars))
-  steps-are-calls [] = no-bars [] refl
-  steps-are-calls (w ∷ ws) = go (wholeBars (s .slots) (w ∷ ws)) refl
-    where
-      K : ℕ
-      K = s .slots
+-- ---- rooms that have not their words
 
-      go : (b : Bool) → wholeBars K (w ∷ ws) ≡ b → stepsCall settings state (w ∷ ws) m ls ≡ inOne (callsOver settings ls given (barsIn K (w ∷ ws)))
-      go true h =
-          some-of (w ∷ ws) (take (barWords K) (w ∷ ws)) (cut (length (w ∷ ws) / barWords K - 1) (barWords K) (drop (barWords K) (w ∷ ws))) (omega arith)
-          (bars-first K w ws h)
-      go false h = some-of (w ∷ ws) (w ∷ ws) [] (omega arith) (unfold barsIn in rw h)
+-- what was lent had its words
+pub words-had : (settings state : List ℕ) → judged (wordLines settings state) ≡ Fine → (settingWords ≤ length settings) × (stateWords ≤ length state)
+unfolding wordLines
+words-had settings state fine =
+    let first = first-holds _ _ fine in
+    (leb-true _ _ (first .0), leb-true _ _ (first-holds _ _ (first .1) .0))
+
+pub lent-had : (settings state rows : List ℕ) → judged (lentLines settings state rows) ≡ Fine → (settingWords ≤ length settings) × (stateWords ≤ length state)
+unfolding lentLines
+lent-had settings state rows fine = words-had settings state (both-fine (roomLines (settingsOf settings) rows) (wordLines settings state) fine .1)
+
+-- a call of either kind is refused with the same, before it looks at a bar
+lent-bad : (settings state : List ℕ) (ls : Lists) (m : Rooms) (bars bar : List ℕ) (more : List (List ℕ)) → 0 < length bars
+    → barsIn (settingsOf settings .slots) bars ≡ bar ∷ more → (r : Refusal) → judged (lentLines settings state (m .rows)) ≡ Bad r
+    → stepsCall settings state bars m ls ≡ inOne (callsOver settings ls (record { state = state; rooms = m }) (barsIn (settingsOf settings .slots) bars))
+unfolding dayCall dayLentLines noBars dayGives callsOver stepCall callOf unlessBad
+lent-bad settings state ls m bars bar more some e r bad =
+    let many = ne-eqb (length bars) 0 (λ (z : length bars ≡ 0). omega arith) in
+    rw (e, many, bad, ne-eqb (answerWord r) 0 (refused-word r (lent-small settings state (m .rows) r bad)))
+
+-- ---- the law
+
+-- a list that is not empty has a first bar, whole or not
+record FirstBar (K : ℕ) (bars : List ℕ) : Type 0 where
+  bar : List ℕ
+  more : List (List ℕ)
+  is : barsIn K bars ≡ bar ∷ more
+
+first-of : (K w : ℕ) (ws : List ℕ) → FirstBar K (w ∷ ws)
+first-of K w ws = go (wholeBars K (w ∷ ws)) refl
+  where
+    go : (b : Bool) → wholeBars K (w ∷ ws) ≡ b → FirstBar K (w ∷ ws)
+    go true h = record { bar = _; more = _; is = bars-first K w ws h }
+    go false h = record { bar = w ∷ ws; more = []; is = unfold barsIn in rw h }
+
+-- ONE CALL IS A CALL FOR EACH BAR: the answer, how many did their work, the words of the state and of every room. For any words and rooms of any length,
+-- where the list has a word; one that has none makes no call of `ysh_step`, and asks for the rooms of settings and state alone.
+pub steps-are-calls : (settings state : List ℕ) (ls : Lists) (m : Rooms) (bars : List ℕ) → (length bars ≡ 0 → judged (wordLines settings state) ≡ Fine)
+    → stepsCall settings state bars m ls ≡ inOne (callsOver settings ls (record { state = state; rooms = m }) (barsIn (settingsOf settings .slots) bars))
+steps-are-calls settings state ls m [] words = let had = words-had settings state (words refl) in no-bars settings state (had .0) (had .1) ls m [] refl
+steps-are-calls settings state ls m (w ∷ ws) words = go (judged (lentLines settings state (m .rows))) refl
+  where
+    K : ℕ
+    K = settingsOf settings .slots
+
+    first : FirstBar K (w ∷ ws)
+    first = first-of K w ws
+
+    go : (v : Verdict) → judged (lentLines settings state (m .rows)) ≡ v
+        → stepsCall settings state (w ∷ ws) m ls ≡ inOne (callsOver settings ls (record { state = state; rooms = m }) (barsIn K (w ∷ ws)))
+    go (Bad r) bad = lent-bad settings state ls m (w ∷ ws) (first .bar) (first .more) (omega arith) (first .is) r bad
+    go Fine fine =
+        let had = lent-had settings state (m .rows) fine in
+        some-of settings state (had .0) (had .1) ls m (w ∷ ws) (first .bar) (first .more) (omega arith) (first .is)

@@ -2,12 +2,9 @@
 pub mod Missing
 pub mod Chain
 pub mod Lines
-pub mod Looks
 pub mod Explained
 pub mod Flat
 -- ---- laws of the definitions
 pub mod Laws
--- ---- THE THEOREMS: no other chain, the lines are true, the window
-pub mod Chained
+-- ---- THE THEOREM of the window; what the lines say, and that there are no others, is proved above, in `reasons`
 pub mod Window
-pub mod Truth

@@ -9,7 +9,7 @@ use borrow.Author.Tests.{leb-true, eqb-true, ltb-true, ltb-false}
 use lib.Dec.{leb, ltb, eqb}
 use lib.ListN.{length, getD, take, drop, List·getD-eq-default}
 use lib.Seq.{ext-getD, take-at}
-use Rattle.words.specs.Limits.{rowWords, mostSlots, mostRows}
+use Rattle.words.specs.Limits.{rowWords}
 use Rattle.words.specs.Words.{overwrite}
 use Rattle.words.specs.Laws.Overwrite.{overwrite-fits}
 use Rattle.words.specs.Laws.Records.{records-fit}
@@ -25,7 +25,7 @@ use Rattle.refusals.specs.Settings.{settingLines}
 use Rattle.refusals.specs.Laws.Lines.{and-true, first-holds, both-fine}
 use Rattle.engine.specs.Record.{listed, heldRows}
 use Rattle.dump.specs.Layout.{headBytes, dumpBytes, wordsBytes, amounts, image, windowOf, imageOf}
-use Rattle.dump.specs.Reading.{slotsIn, versionIn, depthIn, seenIn, rowsIn, orderIn, kindIn, enteredIn, entryIn, delayIn, levelIn, limitIn}
+use Rattle.dump.specs.Reading.{slotsIn, depthIn, seenIn, rowsIn, orderIn, kindIn, enteredIn, entryIn, delayIn, levelIn, limitIn}
 use Rattle.dump.specs.Reading.{wordsIn, stateIn, wordsAt, rowPlace, windowIn}
 use Rattle.dump.specs.Refused.{shapeFine, numbersFine, usedOrZero, isEntry, unusedZero, zeroAt, eachFine, rowsFine}
 use Rattle.dump.specs.Refused.{imageLines, restoreLines, restoreJudged}
@@ -35,6 +35,7 @@ use Rattle.restart.specs.Laws.Again.{Own, kind-again, order-again, enter
 use Rattle.dump.specs.Laws.Fine.{shape-fine, rows-few, restore-fine}
 use Rattle.dump.specs.Laws.Image.{image-long, image-head, image-body}
 use Rattle.dump.specs.Laws.Packed.{firstWord, secondWord, thirdWord, headWords}
+use Rattle.restart.specs.Laws.Marked.{marked}
 use Rattle.restart.specs.Laws.ReadBytes.{four-small, two-small, byte-read}
 use Rattle.restart.specs.Laws.RowsPass.{one-of}
 use Rattle.dump.specs.Laws.WordBytes.{words-long, byte-of}
@@ -73,25 +74,6 @@ seen-lines x h =
     let e = first-holds _ _ (d .1) in
     let f = first-holds _ _ (e .1) in
     record { shape = a .0; numbers = b .0; unused = c .0; spare = eqb-true _ _ (d .0); spares = e .0; rows = f .0 }
-
-record Marked (x : List ℕ) : Type 0 where
-  m₀ : getD x 0 0 ≡ 87
-  m₁ : getD x 1 0 ≡ 68
-  m₂ : getD x 2 0 ≡ 80
-  version : versionIn x ≡ 1
-
-marked : (x : List ℕ) → shapeFine x ≡ true → Marked x
-unfolding shapeFine
-marked x h =
-    let a = and-true _ (eqb (length x) (dumpBytes (slotsIn x) (depthIn x))) h .0 in
-    let b = and-true _ (leb (slotsIn x) mostSlots) a .0 in
-    let c = and-true _ (leb (depthIn x) mostRows) b .0 in
-    let d = and-true _ (leb 1 (depthIn x)) c .0 in
-    let v = and-true _ (eqb (versionIn x) 1) d in
-    let p₂ = and-true _ (eqb (getD x 2 0) 80) (v .0) in
-    let p₁ = and-true _ (eqb (getD x 1 0) 68) (p₂ .0) in
-    let p₀ = and-true (leb headBytes (length x)) (eqb (getD x 0 0) 87) (p₁ .0) in
-    record { m₀ = eqb-true _ _ (p₀ .1); m₁ = eqb-true _ _ (p₁ .1); m₂ = eqb-true _ _ (p₂ .1); version = eqb-true _ _ (v .1) }
 
 record Kinds (x : List ℕ) : Type 0 where
   order : orderIn x ≤ 3

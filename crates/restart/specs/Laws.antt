@@ -2,5 +2,10 @@ pub mod RowsPass
 pub mod Says
 pub mod Again
 pub mod ReadBytes
+pub mod Marked
+pub mod FirstBytes
+pub mod Ranks
+pub mod Programs
+pub mod SameFloats
 pub mod Times
 pub mod Reached64

@@ -48,7 +48,7 @@ two-pages image area a b c h k = go (leb b (length image)) refl
         let z : min c size - b ≡ 0 = omega arith in
         rw (n, z) (unfold stretch in refl)
 
-ends-later : (from : ℕ) (ps : List ℕ) → Rising from ps → from ≤ endOf from ps
+pub ends-later : (from : ℕ) (ps : List ℕ) → Rising from ps → from ≤ endOf from ps
 unfolding Rising endOf
 ends-later from [] r = omega arith
 ends-later from (p ∷ ps) r = let l : p ≤ endOf p ps = ends-later p ps (r .1) in omega (arith, r .0)

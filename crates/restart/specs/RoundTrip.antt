@@ -25,6 +25,7 @@ use Rattle.records.specs.Laws.RoundTrip.{KindFits, Floats64, state-back}
 use Rattle.steps.specs.Laws.Encoding.{four-back}
 use Rattle.dump.specs.Layout.{wordsBytes, numbers, amounts, head, image, windowOf, imageOf}
 use Rattle.dump.specs.Reading.{wordsIn, stateIn}
+use Rattle.restart.specs.Laws.SameFloats.{floats-alike}
 
 -- ---- numbers
 
@@ -142,20 +143,7 @@ module _ (s : Settings) (t : State) (room : List ℕ) (small : Small t) (few : l
 
   floats-back : Floats64 (restoredOf s t room)
   unfolding restoredOf
-  floats-back =
-      let f = small .floats in
-      record {
-        cash = f .cash;
-        qty = f .qty;
-        «entry_price» = f .«entry_price»;
-        «entry_fee» = f .«entry_fee»;
-        «fees_paid» = f .«fees_paid»;
-        funding = f .funding;
-        worst = f .worst;
-        extreme = f .extreme;
-        close = f .close;
-        order = f .order;
-      }
+  floats-back = floats-alike t (restoredOf s t room) refl refl refl (small .floats)
 
   -- THE STATE COMES BACK from a whole image: all of it but the books, and as many rows as its window has.
   pub state-comes-back : stateIn (imageOf s t room) ≡ restoredOf s t room

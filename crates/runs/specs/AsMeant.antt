@@ -46,7 +46,7 @@ by-lists s ls m bars =
 -- ---- the end
 
 -- the last exit is the account's
-exit-of-account : (s : Settings) (t : State) → lastExit s t ≡ lastExit s (stateOf (accountOf t))
+pub exit-of-account : (s : Settings) (t : State) → lastExit s t ≡ lastExit s (stateOf (accountOf t))
 unfolding lastExit toClose
 exit-of-account s t = refl
 

@@ -2,6 +2,8 @@ pub mod Forgotten
 pub mod During
 pub mod Laws
 pub mod Lots
+pub mod RunOn
+pub mod NeverFull
 pub mod WholeHistory
 pub mod AsMeant
 pub mod SameRun

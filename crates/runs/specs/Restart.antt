@@ -29,13 +29,13 @@ pub record Restarted (s : Settings) (t : State) (m : Rooms) (t′ : State) (m′
   pub trades : t′ .counts .trades ≡ 0
 
 module _ (s : Settings) (t : State) (m : Rooms) (t′ : State) (m′ : Rooms) (again : Restarted s t m t′ m′) where
-  restarted-alike : Alike s t m t′ m′
+  pub restarted-alike : Alike s t m t′ m′
   restarted-alike = record {
     account = again .account;
     window = sym (last-of-last (s .slots) (s .depth) (rowsHeld s t m)) ∙ ap (lastOf s) (sym (again .rows));
   }
 
-  restarted-sound : Sound s t m → Sound s t′ m′
+  pub restarted-sound : Sound s t m → Sound s t′ m′
   restarted-sound r = record {
     depth = again .depth;
     within = record {
@@ -48,14 +48,14 @@ module _ (s : Settings) (t : State) (m : Rooms) (t′ : State) (m′ : Rooms) (a
     };
   }
 
-  -- nothing is held before the first bar
-  no-points : heldPoints t′ m′ ≡ []
-  unfolding heldPoints
-  no-points = rw (again .points)
+-- books that count from 0 hold nothing
+pub no-points : (t : State) (m : Rooms) → t .counts .«equity_points» ≡ 0 → heldPoints t m ≡ []
+unfolding heldPoints
+no-points t m none = rw none
 
-  no-trades : heldTrades t′ m′ ≡ []
-  unfolding heldTrades
-  no-trades = rw (again .trades)
+pub no-trades : (t : State) (m : Rooms) → t .counts .trades ≡ 0 → heldTrades t m ≡ []
+unfolding heldTrades
+no-trades t m none = rw none
 
 -- THE RESTART: after any bars `before` from a fresh state, over any `bars` from then on, as long as neither run is refused with 14. What the
 -- unbroken run holds is what was held at the dump, and then what the run that was started again holds.
@@ -77,6 +77,6 @@ restart s ls m before bars t′ m′ deep again free free′ =
       account = x .alike .account;
       points = omega (arith, x .grown .points, x .grown′ .points, again .points);
       trades = omega (arith, x .grown .trades, x .grown′ .trades, again .trades);
-      equity = x .grown .equity ∙ rw (x .grown′ .equity, no-points s (b .state) (b .rooms) t′ m′ again);
-      closed = x .grown .closed ∙ rw (x .grown′ .closed, no-trades s (b .state) (b .rooms) t′ m′ again);
+      equity = x .grown .equity ∙ rw (x .grown′ .equity, no-points t′ m′ (again .points));
+      closed = x .grown .closed ∙ rw (x .grown′ .closed, no-trades t′ m′ (again .trades));
     }

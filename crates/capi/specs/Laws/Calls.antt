@@ -7,7 +7,7 @@ use Rattle.words.specs.declared.refusal.Refusal.{Refusal}
 use Rattle.words.specs.Outcome.{Outcome, gives, refuses}
 use Rattle.refusals.specs.declared.verdict.Verdict.{Verdict}
 use Rattle.refusals.specs.declared.verdict.Verdict.the-variants.{Fine, Bad}
-use Rattle.capi.specs.Call.{answerWord, callOf, unlessBad}
+use Rattle.capi.specs.Call.{Call, answerWord, callOf, unlessBad}
 use Rattle.capi.specs.Laws.Answers.{answer-number, answer-place}
 
 -- a number and a place that stand in the halves of an answer, and make it no 0
@@ -19,15 +19,15 @@ pub record Small (r : Refusal) : Type 0 where
 pub record Numbered {A : Type 0} (o : Outcome A) : Type 0 where
   pub small : (r : Refusal) → o ≡ refuses r → Small r
 
--- what is said of a call
-pub record Honest {A : Type 0} (o : Outcome A) (before : A) : Type 0 where
+-- what is said of a call: what it was lent before it, and the outcome that decides it
+pub record Honest {A : Type 0} (call : Call A) (before : A) (o : Outcome A) : Type 0 where
   -- "A refusal .. changes nothing lent."
-  pub keeps : (callOf o before .answer ≡ 0 → ⊥) → callOf o before .lent ≡ before
+  pub keeps : (call .answer ≡ 0 → ⊥) → call .lent ≡ before
   -- the number is the upper half of the answer, the place its lower half
-  pub number : (r : Refusal) → o ≡ refuses r → callOf o before .answer / 2 ^ 32 ≡ r .number
-  pub place : (r : Refusal) → o ≡ refuses r → callOf o before .answer % 2 ^ 32 ≡ r .place
+  pub number : (r : Refusal) → o ≡ refuses r → call .answer / 2 ^ 32 ≡ r .number
+  pub place : (r : Refusal) → o ≡ refuses r → call .answer % 2 ^ 32 ≡ r .place
   -- 0: nothing was refused, and what is lent is what was given
-  pub does : callOf o before .answer ≡ 0 → o ≡ gives (callOf o before .lent)
+  pub does : call .answer ≡ 0 → o ≡ gives (call .lent)
 
 pub refused-word : (r : Refusal) → Small r → answerWord r ≡ 0 → ⊥
 unfolding answerWord
@@ -37,7 +37,7 @@ gives-not : {A B : Type 0} {after : A} {r : Refusal} → gives after ≡ refuses
 gives-not e = absurd (let z : _≡_ {A = ℕ} 0 1 = cc in omega arith)
 
 -- THE LAW over calls
-pub honest : {A : Type 0} (o : Outcome A) (before : A) → Numbered o → Honest o before
+pub honest : {A : Type 0} (o : Outcome A) (before : A) → Numbered o → Honest (callOf o before) before o
 unfolding callOf
 honest (gives after) before n = record {
   keeps = λ z. absurd (z refl);

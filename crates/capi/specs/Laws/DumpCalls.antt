@@ -30,7 +30,7 @@ use Rattle.dump.specs.Dumping.{leftBy}
 use Rattle.dump.specs.Restoring.{restoredBy}
 use Rattle.capi.specs.Call.{unlessBad, wordLines}
 use Rattle.capi.specs.Bars.{lentLines}
-use Rattle.capi.specs.Power.{RestoreLent, dumpGives, restoreGives}
+use Rattle.capi.specs.Power.{dumpGives, dumpCall, restoreGives, restoreCall}
 use Rattle.capi.specs.Laws.Calls.{Small, Numbered, Honest, honest, never-refuses, one-refusal, after-verdict}
 
 -- ---- ysh_dump_bytes
@@ -84,7 +84,8 @@ paper-small (l ∷ ls) h r e =
     let own = and-true (leb 1 (l .number) && leb (l .number) 22 && leb (l .place) 31) (onPaper ls) h in
     line-small (l .ok) (judged ls) (l .number) (l .place) r (own .0) (paper-small ls (own .1) r) e
 
-lent-small : (settings state rows : List ℕ) (r : Refusal) → judged (lentLines settings state rows) ≡ Bad r → Small r
+-- the rooms of rows, settings and state, which most calls ask for first
+pub lent-small : (settings state rows : List ℕ) (r : Refusal) → judged (lentLines settings state rows) ≡ Bad r → Small r
 unfolding onPaper lentLines roomLines wordLines
 lent-small settings state rows = paper-small (lentLines settings state rows) refl
 
@@ -102,8 +103,9 @@ dump-by (Bad why) after s = one-refusal why (s why refl)
 pub dump-honest : (settings state rows area : List ℕ) (from upto : ℕ) →
     (let s = settingsOf settings in
     let t = stateOf state in
-    Honest (unlessBad (judged (lentLines settings state rows)) (dumpGives (dumpJudged s t rows area) (written (imageOf s t rows) area from upto))) area)
-unfolding dumpJudged
+    Honest (dumpCall settings state rows area from upto) area
+    (unlessBad (judged (lentLines settings state rows)) (dumpGives (dumpJudged s t rows area) (written (imageOf s t rows) area from upto))))
+unfolding dumpCall dumpJudged
 dump-honest settings state rows area from upto =
     let s = settingsOf settings in
     let t = stateOf state in
@@ -122,14 +124,14 @@ unfolding restoredBy restoreGives
 restore-by Fine image state rows s = never-refuses _
 restore-by (Bad why) image state rows s = one-refusal why (s why refl)
 
-pub restore-honest : (settings image : List ℕ) (before : RestoreLent) →
-    (let v = restoreJudged (settingsOf settings) image (before .rows) in
-    Honest (unlessBad (judged (lentLines settings (before .state) (before .rows)))
-    (restoreGives (restoredBy v image) (before .state) (leftBy v (overwrite (before .rows) 0 (windowIn image)) (before .rows)))) before)
-unfolding restoreJudged
-restore-honest settings image before =
+pub restore-honest : (settings state image rows : List ℕ) →
+    (let v = restoreJudged (settingsOf settings) image rows in
+    Honest (restoreCall settings state image rows) (record { state = state; rows = rows })
+    (unlessBad (judged (lentLines settings state rows))
+    (restoreGives (restoredBy v image) state (leftBy v (overwrite rows 0 (windowIn image)) rows))))
+unfolding restoreCall restoreJudged
+restore-honest settings state image rows =
     let s = settingsOf settings in
-    honest _ before
-    (after-verdict _ _ (lent-small settings (before .state) (before .rows))
-    (restore-by (restoreJudged s image (before .rows)) image (before .state) _
-    (paper-small (restoreLines s image (before .rows)) (restore-on-paper s image (before .rows)))))
+    honest _ _
+    (after-verdict _ _ (lent-small settings state rows)
+    (restore-by (restoreJudged s image rows) image state _ (paper-small (restoreLines s image rows) (restore-on-paper s image rows))))

@@ -5,9 +5,10 @@ use mathlib.Core.Path.{_≡_, refl}
 use mathlib.Core.Bool.{Bool, true, false, cond}
 use mathlib.Core.List.{List, _++_}
 use native.Mathlib.Omega.{arith}
-use lib.Ieee.{Float}
 use Rattle.words.specs.declared.refusal.Refusal.{Refusal}
 use Rattle.words.specs.Outcome.{Outcome, gives, refuses}
+use Rattle.words.specs.Words.{overwrite}
+use Rattle.floats.specs.Floats.{floatOf}
 use Rattle.metrics.specs.declared.Metrics.{Metrics}
 use Rattle.metrics.specs.Records.{whole}
 use Rattle.metrics.specs.Figures.{notWhole, computed}
@@ -15,7 +16,8 @@ use Rattle.records.specs.declared.settings.Settings.{Settings}
 use Rattle.records.specs.declared.state.State.{State}
 use Rattle.records.specs.Lent.{Rooms, Lists}
 use Rattle.records.specs.Settings.{settingsOf}
-use Rattle.records.specs.StateWords.{stateOf}
+use Rattle.records.specs.State.{freshState}
+use Rattle.records.specs.StateWords.{stateOf, wordsOf}
 use Rattle.refusals.specs.declared.verdict.Verdict.{Verdict}
 use Rattle.refusals.specs.declared.verdict.Verdict.the-variants.{Fine, Bad}
 use Rattle.refusals.specs.Lines.{Line, judged}
@@ -33,9 +35,10 @@ use Rattle.engine.specs.Finish.{ended, concluded, finishOf}
 use Rattle.engine.specs.Laws.Refusal.{refusal-changes-nothing}
 use Rattle.engine.specs.Laws.Verdict.{verdict-place}
 use Rattle.capi.specs.Call.{unlessBad, wordLines, metricLines}
-use Rattle.capi.specs.Bars.{lentLines, stepGives}
-use Rattle.capi.specs.Finish.{finishGives}
-use Rattle.capi.specs.Figures.{metricsGives}
+use Rattle.capi.specs.Fresh.{freshCall}
+use Rattle.capi.specs.Bars.{lentLines, stepGives, stepCall}
+use Rattle.capi.specs.Finish.{finishGives, finishCall}
+use Rattle.capi.specs.Figures.{metricsGives, metricsCall}
 use Rattle.capi.specs.Laws.Calls.{Small, Numbered, Honest, honest, never-refuses, one-refusal, after-verdict}
 
 -- lines that have the paper's numbers, and places below 2^32
@@ -58,10 +61,11 @@ lent-named settings state rows = refl
 
 -- ---- ysh_fresh
 
-pub fresh-honest : (settings state after : List ℕ) → Honest (unlessBad (judged (wordLines settings state)) (gives after)) state
-unfolding numbered named wordLines
-fresh-honest settings state after =
-    honest _ state (after-verdict _ _ (named-small (wordLines settings state) refl refl) (never-refuses after))
+pub fresh-honest : (settings state : List ℕ)
+    → Honest (freshCall settings state) state
+    (unlessBad (judged (wordLines settings state)) (gives (overwrite state 0 (wordsOf (freshState (settingsOf settings))))))
+unfolding freshCall numbered named wordLines
+fresh-honest settings state = honest _ state (after-verdict _ _ (named-small (wordLines settings state) refl refl) (never-refuses _))
 
 -- ---- ysh_step
 
@@ -80,7 +84,9 @@ step-small s t bar m ls r e =
 
 pub step-honest : (settings state bar : List ℕ) (m : Rooms) (ls : Lists) →
     (let d = stepAnswer (settingsOf settings) (stateOf state) bar m ls in
-    Honest (unlessBad (judged (lentLines settings state (m .rows))) (stepGives (d .result) state (d .rooms))) (record { state = state; rooms = m }))
+    Honest (stepCall settings state bar m ls) (record { state = state; rooms = m })
+    (unlessBad (judged (lentLines settings state (m .rows))) (stepGives (d .result) state (d .rooms))))
+unfolding stepCall
 step-honest settings state bar m ls =
     let s = settingsOf settings in
     let t = stateOf state in
@@ -115,9 +121,9 @@ finish-small s t m r e = lines-small (finishLines s t m) (finish-numbered s t m)
 
 pub finish-honest : (settings state : List ℕ) (m : Rooms) (metrics : List ℕ) →
     (let d = finishOf (settingsOf settings) (stateOf state) m in
-    Honest (unlessBad (judged (lentLines settings state (m .rows) ++ metricLines metrics)) (finishGives (d .result) state (d .rooms) metrics))
-    (record { state = state; equity = m .equity; trades = m .trades; metrics = metrics }))
-unfolding finishOf
+    Honest (finishCall settings state m metrics) (record { state = state; equity = m .equity; trades = m .trades; metrics = metrics })
+    (unlessBad (judged (lentLines settings state (m .rows) ++ metricLines metrics)) (finishGives (d .result) state (d .rooms) metrics)))
+unfolding finishCall finishOf
 finish-honest settings state m metrics =
     let s = settingsOf settings in
     let t = stateOf state in
@@ -140,9 +146,11 @@ computed-small false m r e =
     let small : Small notWhole = record { some = omega arith; number = omega arith; place = omega arith } in
     rw same at small
 
-pub metrics-honest : (initial : Float) (equity trades room : List ℕ)
-    → Honest (unlessBad (judged (metricLines room)) (metricsGives (computed initial equity trades) room)) room
-unfolding numbered named metricLines computed
+pub metrics-honest : (initial : ℕ) (equity trades room : List ℕ)
+    → Honest (metricsCall initial equity trades room) room
+    (unlessBad (judged (metricLines room)) (metricsGives (computed (floatOf initial) equity trades) room))
+unfolding metricsCall numbered named metricLines computed
 metrics-honest initial equity trades room =
     honest _ room
-    (after-verdict _ _ (named-small (metricLines room) refl refl) (metrics-by (computed initial equity trades) room (computed-small (whole equity trades) _)))
+    (after-verdict _ _ (named-small (metricLines room) refl refl)
+    (metrics-by (computed (floatOf initial) equity trades) room (computed-small (whole equity trades) _)))

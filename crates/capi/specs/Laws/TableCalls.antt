@@ -36,9 +36,9 @@ use Rattle.steps.specs.declared.translated.Translated.the-variants.{Writes, Ref
 use Rattle.steps.specs.Running.{ranIf, runs}
 use Rattle.steps.specs.Translating.{roomFor, writesOr, afterTable, translates}
 use Rattle.refusals.specs.Laws.BadStep.{bad-below}
-use Rattle.capi.specs.Tables.{numberedTree, CheckLent, checkGives, DepthLent, depthGives, SilentLent, silentGives}
-use Rattle.capi.specs.Tables.{TranslateLent, translateGives, translateOutcome}
-use Rattle.capi.specs.Run.{ruleGives, RunLent, runGives}
+use Rattle.capi.specs.Tables.{numberedTree, CheckLent, checkGives, checkCall, DepthLent, depthGives, depthCall, SilentLent, silentGives, silentCall}
+use Rattle.capi.specs.Tables.{TranslateLent, translateGives, translateOutcome, translateCall}
+use Rattle.capi.specs.Run.{ruleGives, ruleCall, RunLent, runGives, runCall}
 use Rattle.capi.specs.Laws.TablePlaces.{UpTo, wrong-within, misfits-within, deep-within, far-within}
 use Rattle.capi.specs.Laws.Calls.{Small, Numbered, Honest, honest, one-refusal, never-refuses}
 
@@ -103,7 +103,8 @@ unfolding checkGives
 check-numbered (Refused why) s = one-refusal why (s why refl)
 check-numbered (Accepted n r) s = never-refuses _
 
-pub check-honest : (t : List ℕ) (before : CheckLent) → Honest (checkGives (checked t)) before
+pub check-honest : (t : List ℕ) (before : CheckLent) → Honest (checkCall t before) before (checkGives (checked t))
+unfolding checkCall
 check-honest t before = honest _ before (check-numbered (checked t) (table-number t))
 
 -- ---- ysh_depth
@@ -118,7 +119,8 @@ unfolding depthGives depthAnswer
 depth-numbered (Refused why) t back s = one-refusal why (s why refl)
 depth-numbered (Accepted n r) t back s = depth-by (ltb mostReach back) _ _ _
 
-pub depth-honest : (t : List ℕ) (back : ℕ) (before : DepthLent) → Honest (depthGives (depthAnswer (checked t) t back)) before
+pub depth-honest : (t : List ℕ) (back : ℕ) (before : DepthLent) → Honest (depthCall t back before) before (depthGives (depthAnswer (checked t) t back))
+unfolding depthCall
 depth-honest t back before = honest _ before (depth-numbered (checked t) t back (table-number t))
 
 -- ---- ysh_silent
@@ -135,7 +137,8 @@ silent-numbered (Accepted n r) numbers places list s = silent-by (ltb places (le
 
 pub silent-honest : (t : List ℕ) (rows : ℕ) (before : SilentLent) →
     (let answer = silentAnswer (checked t) (silentTests t rows) (length (before .list)) in
-    Honest (silentGives answer (listAfter answer (silentTests t rows) (before .list))) before)
+    Honest (silentCall t rows before) before (silentGives answer (listAfter answer (silentTests t rows) (before .list))))
+unfolding silentCall
 silent-honest t rows before = honest _ before (silent-numbered (checked t) (silentTests t rows) (length (before .list)) _ (table-number t))
 
 -- ---- ysh_translate
@@ -167,8 +170,9 @@ either-numbered : {A : Type 0} (b : Bool) (x y : Outcome A) → Numbered x → N
 either-numbered true x y n m = n
 either-numbered false x y n m = m
 
-pub translate-honest : (t : List ℕ) (tree : ℕ) (before : TranslateLent) → Honest (translateOutcome t tree (before .room)) before
-unfolding translateOutcome translates
+pub translate-honest : (t : List ℕ) (tree : ℕ) (before : TranslateLent)
+    → Honest (translateCall t tree before) before (translateOutcome t tree (before .room))
+unfolding translateCall translateOutcome translates
 translate-honest t tree before =
     honest _ before
     (either-numbered (leb trees tree) _ _ (absent-numbered (checked t) (before .room) (table-number t))
@@ -188,8 +192,8 @@ rule-numbered (Refused why) t x rows s tree n = one-refusal why (n why refl)
 rule-numbered (Accepted n r) t x rows s tree m = rule-by (wholeRows (slots t) rows && stateRight s) _ tree
 
 pub rule-honest : (t : List ℕ) (tree : ℕ) (rows : List ℕ) (s : PositionState) (before : ℕ)
-    → Honest (ruleGives (answered t (numberedTree tree) rows s) tree) before
-unfolding answered
+    → Honest (ruleCall t tree rows s before) before (ruleGives (answered t (numberedTree tree) rows s) tree)
+unfolding ruleCall answered
 rule-honest t tree rows s before = honest _ before (rule-numbered (checked t) t _ rows s tree (table-number t))
 
 -- ---- ysh_run
@@ -213,7 +217,8 @@ run-by false false true e f r near = one-refusal _ (small _ _ (omega arith) (ome
 run-by false false false true f r near = run-formed f r near
 run-by false false false false f r near = one-refusal _ (small _ _ (omega arith) (omega arith) (omega arith))
 
-pub run-honest : (list rows : List ℕ) (K D : ℕ) (s : PositionState) (before : RunLent) → Honest (runGives (runs list rows K D s)) before
-unfolding runs
+pub run-honest : (list rows : List ℕ) (K D : ℕ) (s : PositionState) (before : RunLent)
+    → Honest (runCall list rows K D s before) before (runGives (runs list rows K D s))
+unfolding runCall runs
 run-honest list rows K D s before =
     honest _ before (run-by (ltb mostSlots K) (ltb D 1) (ltb mostRows D) (wholeRows K rows && stateRight s) _ _ (bad-below K D list))

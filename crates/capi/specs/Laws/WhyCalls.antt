@@ -17,7 +17,7 @@ use Rattle.rules.specs.declared.position.PositionState.{PositionState}
 use Rattle.rules.specs.Answers.{stateRight}
 use Rattle.chain.specs.declared.explain.Explained.the-variants.{Lines, Refuses}
 use Rattle.chain.specs.Explained.{explanation, explainedBy, explained, linesAfter}
-use Rattle.capi.specs.Why.{WhyLent, whyGives}
+use Rattle.capi.specs.Why.{WhyLent, whyGives, whyCall}
 use Rattle.capi.specs.Laws.Calls.{Small, Numbered, Honest, honest, one-refusal, never-refuses}
 use Rattle.capi.specs.Laws.TableCalls.{table-number}
 
@@ -36,6 +36,6 @@ why-numbered (Accepted n r) t x rows s list lines m = why-by (ltb (length list) 
 
 pub why-honest : (t : List ℕ) (tree : ℕ) (rows : List ℕ) (s : PositionState) (before : WhyLent) →
     (let answer = explained t tree rows s (before .lines) in
-    Honest (whyGives answer (linesAfter answer (explanation t tree rows s) (before .lines))) before)
-unfolding explained
+    Honest (whyCall t tree rows s before) before (whyGives answer (linesAfter answer (explanation t tree rows s) (before .lines))))
+unfolding whyCall explained
 why-honest t tree rows s before = honest _ before (why-numbered (checked t) t tree rows s (before .lines) _ (table-number t))

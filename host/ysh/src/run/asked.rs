@@ -6,6 +6,7 @@ use clap::Args;
 
 use crate::bars::OnRefusal;
 use crate::cli::{parse_count, parse_lot, parse_money};
+use crate::settings_file::SettingsFile;
 
 const EXAMPLES: &str = "Examples:
   ysh run examples/strategies/crossover.json examples/bars/day.csv
@@ -33,8 +34,18 @@ pub struct Over {
     /// What a bar that the engine refuses does to the run
     #[arg(long, value_name = "WHAT", value_enum, default_value = "stop")]
     pub on_refusal: OnRefusal,
+    /// A key of a strategy that nothing reads is an error
+    #[arg(long)]
+    pub strict: bool,
     #[command(flatten)]
     pub given: Given,
+}
+
+impl Over {
+    /// The files that are read.
+    pub fn read(&self) -> [PathBuf; 3] {
+        [self.file.clone(), SettingsFile::beside(&self.file), self.bars.clone()]
+    }
 }
 
 /// What a strategy leaves to whoever runs it.
@@ -44,7 +55,7 @@ pub struct Given {
     /// Bars on which nothing is decided, where the strategy leaves that to its indicators
     #[arg(long, value_name = "BARS", value_parser = parse_count, allow_hyphen_values = true)]
     pub warmup: Option<u64>,
-    /// The cash at the start; 10000 where left out
+    /// The cash at the start; 10,000 where left out
     #[arg(long, value_name = "MONEY", value_parser = parse_money, allow_hyphen_values = true)]
     pub capital: Option<f64>,
     /// A quantity is a whole number of lots of this size, rounded down; any quantity where left out

@@ -5,6 +5,7 @@ use yshturpa::{Metrics, Point, Reason, Trade};
 use super::Ready;
 use crate::bars::{over, Refusals, Way};
 use crate::problem::Problem;
+use crate::show::shown;
 
 /// A run over every bar of a file, finished.
 pub struct Outcome {
@@ -21,6 +22,8 @@ pub struct Outcome {
     pub fees: f64,
     pub refusals: Refusals,
     pub unread: Vec<String>,
+    /// What may make the answer another than was meant.
+    pub doubts: Vec<String>,
     pub notes: Vec<String>,
 }
 
@@ -56,9 +59,9 @@ impl Outcome {
         let metrics = engine.finish().map_err(|refusal| source.refused(refusal))?;
         let title = source.strategy.as_ref().map(|s| format!("{} {}", s.symbol, s.timeframe)).unwrap_or_default();
         Ok(Outcome {
-            file: source.file.clone(),
+            file: source.file,
             bars_file: bars.name.clone(),
-            title: title.trim().to_owned(),
+            title: shown(title.trim()),
             capital: settings.capital,
             metrics,
             trades: engine.trades().collect(),
@@ -66,7 +69,8 @@ impl Outcome {
             closes,
             fees: engine.state().fees_paid(),
             refusals: walked.refusals,
-            unread: bars.columns.unread().into_iter().map(str::to_owned).collect(),
+            unread: bars.columns.unread().into_iter().map(shown).collect(),
+            doubts: source.doubts,
             notes,
         })
     }

@@ -4,8 +4,10 @@ use yshturpa::{Engine, Settings};
 
 use super::asked::{Given, Over};
 use crate::bars::BarsFile;
+use crate::cli::Reading;
 use crate::compile::{self, Choices, Rules};
 use crate::decompile::slot_names;
+use crate::files::name_of;
 use crate::problem::Problem;
 use crate::settings_file::SettingsFile;
 use crate::source::Source;
@@ -42,13 +44,14 @@ impl Ready {
 /// What a FILE says, and the settings that a run of it has.
 pub fn source_and_settings(over: &Over) -> Result<(Source, Settings), Problem> {
     let choices = Choices { order: None, absent_short_exit: over.given.absent_short_exit };
-    let source = Source::read_with(&over.file, None, choices)?;
+    let reading = Reading { lookback: None, strict: over.strict };
+    let source = Source::read_with(&over.file, &reading, choices)?;
     let settings = match (&source.strategy, &source.settings) {
         (Some(strategy), _) => of_strategy(&source, strategy, &over.given)?,
         (None, Some(beside)) => of_table(&source, beside, over)?,
         (None, None) => {
             let beside = SettingsFile::beside(&over.file);
-            let text = format!("a table runs with its settings, and there is no {}", beside.display());
+            let text = format!("a table runs with its settings, and there is no {}", name_of(&beside));
             return Err(Problem::input(&source.file, "", text));
         }
     };
@@ -65,7 +68,7 @@ fn of_strategy(source: &Source, strategy: &Strategy, given: &Given) -> Result<Se
 }
 
 fn of_table(source: &Source, beside: &SettingsFile, over: &Over) -> Result<Settings, Problem> {
-    let file = SettingsFile::beside(&over.file).display().to_string();
+    let file = name_of(&SettingsFile::beside(&over.file));
     if let Some(name) = over.given.first() {
         let text = format!("a table has it in its settings, {file}; it was expected there");
         return Err(Problem::input(&source.file, name, text));

@@ -1,0 +1,42 @@
+-- After i turns: the best so far, and i bars more.
+use mathlib.Core.Path.{_≡_, refl, sym, ap, _∙_}
+use Prim.Native.Nat.{_-_, _≤_}
+use native.Mathlib.Omega.{arith}
+use native.Mathlib.Numerals.{add-one}
+use borrow.Author.Needs.{needs}
+use Rattle.blocks.specs.declared.best.Best.{Best}
+use Rattle.blocks.specs.Reading.{join}
+use Rattle.blocks.specs.Blocks.{withCloses}
+use Rattle.blocks.proofs.question.singles.Statement.{statement}
+use Rattle.blocks.proofs.question.singles.Tie as tie
+
+abbrev Inv-loop : tie.InvT-loop
+Inv-loop closes bar n best₀ i₀ best i = (i ≤ n) × (best ≡ withCloses closes best₀ bar i)
+
+abbrev μ-loop : tie.MeasureT-loop
+μ-loop closes bar n best₀ i₀ best i = n - i
+
+loop-holds : tie.Need-loop-holds Inv-loop μ-loop
+unfolding withCloses
+loop-holds c = (search needs, refl)
+
+loop-again : tie.Need-loop-again Inv-loop μ-loop
+unfolding withCloses
+loop-again c =
+    let l = c .before .before .before .before .loop in
+    let start = c .before .before .before .before .before .before .args in (
+      search needs,
+      c .join .ensures ∙ ap (λ (x : Best). join x (c .before .one .result)) (l .inv .1) ∙ ap (join _) (c .before .one .ensures)
+          ∙ sym (ap (withCloses (start .closes .now) (start .from) (start .bar)) (add-one (l .i))),
+    )
+
+returns : tie.Need-returns Inv-loop μ-loop
+returns c =
+    let start = c .before .before .before .args in
+    let all : c .before .loop .i ≡ start .n = omega arith in
+    c .before .loop .inv .1 ∙ ap (withCloses (start .closes .now) (start .from) (start .bar)) all
+
+pub singles-spec : {M : Type 1} → statement M
+singles-spec =
+    tie.close (tie.spec Inv-loop μ-loop loop-holds (λ c. search needs) (λ c. search needs) (λ c. search needs) (λ c. search needs)
+    (λ c κs. search needs) (λ c κs. search needs) (λ c. search needs) (λ c. search needs) loop-again returns)

@@ -1,0 +1,5 @@
+pub mod Answered
+pub mod FromCalls
+pub mod PowerCalls
+pub mod LivesInWords
+pub mod OneLoss

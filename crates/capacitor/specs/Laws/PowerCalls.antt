@@ -1,0 +1,144 @@
+-- `ysh_step`, `ysh_dump` and `ysh_restore` on the words of a state: what an answer of 0 tells of the engine, and what the engine's verdict makes the answer.
+use Prim.Native.Nat.{ℕ, _≤_, _/_, _^_}
+use mathlib.Core.Path.{_≡_, refl, sym, ap, _∙_}
+use mathlib.Core.List.{List}
+use native.Mathlib.Omega.{arith}
+use lib.ListN.{length, take}
+use Rattle.words.specs.Limits.{settingWords, stateWords}
+use Rattle.words.specs.declared.refusal.Refusal.{Refusal}
+use Rattle.words.specs.Outcome.{gives}
+use Rattle.words.specs.Words.{overwrite}
+use Rattle.words.specs.Laws.Overwrite.{overwrite-length}
+use Rattle.records.specs.declared.settings.Settings.{Settings}
+use Rattle.records.specs.declared.state.State.{State}
+use Rattle.records.specs.Lent.{Lists, Rooms}
+use Rattle.records.specs.Settings.{settingsOf}
+use Rattle.records.specs.StateWords.{stateOf, wordsOf}
+use Rattle.records.specs.Laws.RoundTrip.{Floats64, state-kept}
+use Rattle.refusals.specs.declared.verdict.Verdict.{Verdict}
+use Rattle.refusals.specs.declared.verdict.Verdict.the-variants.{Fine, Bad}
+use Rattle.refusals.specs.Lines.{judged}
+use Rattle.refusals.specs.Rooms.{roomLines}
+use Rattle.refusals.specs.Laws.Lines.{never, both-fine}
+use Rattle.engine.specs.Boxes.{NotFull}
+use Rattle.engine.specs.Laws.Runs.{run-ends}
+use Rattle.engine.specs.Run.{runOver}
+use Rattle.dump.specs.Layout.{dumpBytes, imageOf}
+use Rattle.dump.specs.Order.{written}
+use Rattle.dump.specs.Reading.{stateIn, windowIn}
+use Rattle.dump.specs.Refused.{dumpLines, dumpJudged, restoreJudged}
+use Rattle.dump.specs.Dumping.{leftBy}
+use Rattle.dump.specs.Restoring.{restoredBy}
+use Rattle.dump.specs.Laws.Fine.{dump-fine}
+use Rattle.restart.specs.Cut.{size-of-image}
+use Rattle.restart.specs.OrderPlan.{all-written}
+use Rattle.capi.specs.Call.{callOf, unlessBad}
+use Rattle.capi.specs.DayJoined.{lent-had}
+use Rattle.capi.specs.Joined.{lent-fine}
+use Rattle.capi.specs.Power.{RestoreLent, dumpGives, dumpCall, restoreGives, restoreCall}
+use Rattle.capi.specs.WordRun.{answerOf}
+use Rattle.capi.specs.Laws.Answers.{answer-number}
+use Rattle.capi.specs.Laws.Calls.{Small, refused-word}
+use Rattle.capi.specs.Laws.DumpCalls.{dump-honest, restore-honest}
+use Rattle.capi.specs.Laws.RunCalls.{step-small}
+use Rattle.capacitor.specs.Laws.Answered.{refuses-not, gives-same, unless-gives}
+
+-- ---- bars
+
+module _ (s : Settings) (ls : Lists) (bars : List (List ℕ)) (t : State) (m : Rooms) where
+  -- what ends a run can stand in an answer
+  run-small : (r : Refusal) → runOver s ls t m bars .verdict ≡ Bad r → Small r
+  run-small =
+      run-ends s ls (λ t m. Unit {0}) (λ t m bar fine u. tt) (λ v. (r : Refusal) → v ≡ Bad r → Small r) (λ r e. never (sym e))
+      (λ t m bar u r e. step-small s t bar m ls r e) bars t m tt
+
+  -- an answer of 0: all bars were taken
+  pub all-taken : answerOf (runOver s ls t m bars .verdict) ≡ 0 → runOver s ls t m bars .verdict ≡ Fine
+  all-taken zero = go (runOver s ls t m bars .verdict) refl zero
+    where
+      go : (v : Verdict) → runOver s ls t m bars .verdict ≡ v → answerOf v ≡ 0 → v ≡ Fine
+      go Fine e z = refl
+      go (Bad r) e z = absurd (refused-word r (run-small r e) (unfold answerOf in z))
+
+  -- an answer with another number than 14: no room was full
+  pub not-full : (answerOf (runOver s ls t m bars .verdict) / 2 ^ 32 ≡ 14 → ⊥) → NotFull (runOver s ls t m bars .verdict)
+  unfolding NotFull answerOf
+  not-full other r e fourteen =
+      let small = run-small r e in
+      other (ap (λ (v : Verdict). answerOf v / 2 ^ 32) e ∙ answer-number r (small .number) (small .place) ∙ fourteen)
+
+-- ---- the dump
+
+dump-given : (v : Verdict) (image after : List ℕ) → dumpGives v image ≡ gives after → (v ≡ Fine) × (image ≡ after)
+unfolding dumpGives
+dump-given Fine image after e = (refl, gives-same e)
+dump-given (Bad why) image after e = refuses-not e
+
+dump-room : (s : Settings) (t : State) (rows buffer : List ℕ) → dumpJudged s t rows buffer ≡ Fine → judged (roomLines s rows) ≡ Fine
+unfolding dumpJudged dumpLines
+dump-room s t rows buffer fine = both-fine (roomLines s rows) _ fine .0
+
+module _ (settings room : List ℕ) (set : settingWords ≤ length settings) (long : stateWords ≤ length room) (t : State) (h : Floats64 t)
+    (rows buffer : List ℕ) where
+  abbrev s : Settings
+  s = settingsOf settings
+
+  abbrev size : ℕ
+  size = dumpBytes (s .slots) (s .depth)
+
+  abbrev words : List ℕ
+  words = overwrite room 0 (wordsOf t)
+
+  -- an answer of 0: the dump was not refused, and the buffer begins with the image
+  pub dumped-image : dumpCall settings (overwrite room 0 (wordsOf t)) rows buffer 0 (dumpBytes (s .slots) (s .depth)) .answer ≡ 0
+      → (dumpJudged s t rows buffer ≡ Fine)
+      × (take (dumpBytes (s .slots) (s .depth)) (dumpCall settings (overwrite room 0 (wordsOf t)) rows buffer 0 (dumpBytes (s .slots) (s .depth)) .lent)
+      ≡ imageOf s t rows)
+  unfolding dumpBytes
+  dumped-image zero =
+      let same : stateOf words ≡ t = state-kept t h room long in
+      let given = unless-gives _ _ _ (dump-honest settings words rows buffer 0 size .does zero) in
+      let d = dump-given (dumpJudged s (stateOf words) rows buffer) (written (imageOf s (stateOf words) rows) buffer 0 size) _ (given .1) in
+      let fine : dumpJudged s t rows buffer ≡ Fine = rw (← same) (d .0) in
+      let known = dump-fine s t rows buffer fine in
+      let long = size-of-image s t rows (known .held) in
+      (fine, rw (← (d .1), same, ← long) (all-written (imageOf s t rows) buffer (omega (arith, long)) (omega (arith, long, known .place)) _ (omega (arith, long))))
+
+  -- a dump that the engine does not refuse answers 0
+  pub dump-answers : (from upto : ℕ) → dumpJudged s t rows buffer ≡ Fine → dumpCall settings (overwrite room 0 (wordsOf t)) rows buffer from upto .answer ≡ 0
+  unfolding dumpCall callOf unlessBad dumpGives
+  dump-answers from upto fine =
+      rw (state-kept t h room long, lent-fine settings words set (rw overwrite-length long) rows, dump-room s t rows buffer fine, fine)
+
+-- ---- the restore
+
+restore-given : (v : Verdict) (x state rows after-rows : List ℕ) (after : RestoreLent) → restoreGives (restoredBy v x) state (leftBy v after-rows rows) ≡ gives after
+    → (v ≡ Fine) × (record { state = overwrite state 0 (wordsOf (stateIn x)); rows = after-rows } ≡ after)
+unfolding restoredBy restoreGives leftBy
+restore-given Fine x state rows after-rows after e = (refl, gives-same e)
+restore-given (Bad why) x state rows after-rows after e = refuses-not e
+
+-- an answer of 0: the image was accepted, and what is lent holds its state and its rows
+pub record RestoreDone (settings state x rows : List ℕ) : Type 0 where
+  pub accepted : restoreJudged (settingsOf settings) x rows ≡ Fine
+  pub long : stateWords ≤ length state
+  pub leaves : restoreCall settings state x rows .lent
+      ≡ record { state = overwrite state 0 (wordsOf (stateIn x)); rows = overwrite rows 0 (windowIn x) }
+
+module _ (settings state x rows : List ℕ) where
+  pub restore-done : restoreCall settings state x rows .answer ≡ 0 → RestoreDone settings state x rows
+  restore-done zero =
+      let given = unless-gives _ _ _ (restore-honest settings state x rows .does zero) in
+      let r = restore-given (restoreJudged (settingsOf settings) x rows) x state rows (overwrite rows 0 (windowIn x)) _ (given .1) in
+      record { accepted = r .0; long = lent-had settings state rows (given .0) .1; leaves = sym (r .1) }
+
+  -- with rooms that have their words, the answer is the verdict's
+  pub restore-answers : settingWords ≤ length settings → stateWords ≤ length state → judged (roomLines (settingsOf settings) rows) ≡ Fine
+      → restoreCall settings state x rows .answer ≡ answerOf (restoreJudged (settingsOf settings) x rows)
+  unfolding restoreCall
+  restore-answers set long ten = rw (lent-fine settings state set long rows, ten) (by (restoreJudged (settingsOf settings) x rows) _)
+    where
+      by : (v : Verdict) (after : List ℕ) → callOf (unlessBad Fine (restoreGives (restoredBy v x) state after)) (record { state = state; rows = rows }) .answer
+          ≡ answerOf v
+      by Fine after = unfold callOf unlessBad restoreGives restoredBy answerOf in refl
+      by (Bad r) after = unfold callOf unlessBad restoreGives restoredBy answerOf in refl

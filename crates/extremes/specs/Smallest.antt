@@ -1,0 +1,58 @@
+-- D cannot be smaller for Highest and Lowest either: rows on which the steps answer yes over D = reach + 1 of them and no over one less, as
+-- steps/specs/Smallest.antt has them for the other kinds that look back.
+use Prim.Native.Nat.{ℕ, _+_}
+use mathlib.Core.Path.{_≡_, refl}
+use mathlib.Core.Bool.{Bool, true, false}
+use mathlib.Core.List.{List, [], _∷_, _++_}
+use lib.Ieee as Ieee
+use Rattle.floats.specs.Floats.{zero}
+use Rattle.rows.specs.History.{historyOf, lastRows}
+use Rattle.table.specs.declared.series.Series.the-variants.{Price, Slot}
+use Rattle.table.specs.Named as Named
+use Rattle.table.specs.Trees.{const, prev, extreme, Condition, compare, reach, reachOf}
+use Rattle.rules.specs.declared.position.PositionState.{PositionState}
+use Rattle.rules.specs.declared.position.Entered.the-variants.{Never}
+use Rattle.rules.specs.Values.{priceOf, slotOf, better, took, pick, tested, compared}
+use Rattle.rules.specs.Meaning.{newest, there, seriesAt, extremeOver, extremeAt, value}
+use Rattle.steps.specs.Machine.{ago, effect, does, after, run, answers}
+use Rattle.steps.specs.Smallest.{Pair}
+use Rattle.steps.specs.Translation.{code, codeOf}
+
+-- a row of one slot, present, with this close and this slot's word
+row : ℕ → ℕ → List ℕ
+row close slot = 0 ∷ 0 ∷ 0 ∷ 0 ∷ close ∷ 0 ∷ 1 ∷ slot ∷ []
+
+ten : ℕ
+ten = 0x4024_0000_0000_0000
+
+eleven : ℕ
+eleven = 0x4026_0000_0000_0000
+
+flat : PositionState
+flat = record { qty = zero; entered = Never; «bars_seen» = 1 }
+
+-- the steps of a condition over the last `rows` of the rows
+overLast : ℕ → List ℕ → Condition → Bool
+overLast rows ws c = answers (historyOf 1 (lastRows 1 rows ws)) flat (codeOf c)
+
+both-ways : List ℕ → Condition → Pair
+both-ways ws c = record { enough = overLast (reachOf c + 1) ws c; short = overLast (reachOf c) ws c }
+
+rows : List ℕ
+rows = row ten eleven ++ (row eleven ten ++ (row ten eleven ++ row ten eleven))
+
+-- Highest(close, 3) above 10; Lowest(slot 0, 3) below 11; and both under a Prev.
+pub cases : List Pair
+cases =
+    both-ways rows (compare Named.gt (extreme Named.highest (Price 3) 3) (const ten)) ∷
+    both-ways rows (compare Named.lt (extreme Named.lowest (Slot 0) 3) (const eleven)) ∷
+    both-ways rows (compare Named.gt (prev (extreme Named.highest (Price 3) 2) 2) (const ten)) ∷
+    both-ways rows (compare Named.lt (prev (extreme Named.lowest (Slot 0) 2) 2) (const eleven)) ∷ []
+
+abbrev split : Pair
+split = record { enough = true; short = false }
+
+pub one-row-less : cases ≡ (split ∷ split ∷ split ∷ split ∷ [])
+unfolding row ten eleven flat overLast both-ways rows cases historyOf lastRows newest there seriesAt extremeOver extremeAt value priceOf slotOf better took pick
+    tested compared reach reachOf ago effect does after run code codeOf Ieee.lt Ieee.le Ieee.ofBits
+one-row-less = refl

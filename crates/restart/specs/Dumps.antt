@@ -1,0 +1,83 @@
+-- A DUMP OF A BOX THAT WAS REACHED IS NOT REFUSED: no box that has taken bars, traded or waits for a fill, is refused its dump.
+use Prim.Native.Nat.{ℕ, _≤_}
+use mathlib.Core.Path.{_≡_, _∙_}
+use mathlib.Core.Bool.{true}
+use mathlib.Core.List.{List}
+use native.Mathlib.Omega.{arith}
+use borrow.Author.Tests.{le-leb}
+use lib.ListN.{length}
+use Rattle.words.specs.Limits.{mostCount}
+use Rattle.records.specs.declared.settings.Settings.{Settings}
+use Rattle.records.specs.declared.state.State.{State}
+use Rattle.records.specs.Lent.{Lists, Rooms, rowPlaces}
+use Rattle.records.specs.State.{freshState}
+use Rattle.refusals.specs.declared.verdict.Verdict.the-variants.{Fine}
+use Rattle.refusals.specs.Lines.{judged}
+use Rattle.refusals.specs.Rooms.{roomLines, entryBelow, stateLines}
+use Rattle.refusals.specs.Settings.{settingLines}
+use Rattle.refusals.specs.Laws.Fine.{step-fine}
+use Rattle.refusals.specs.Laws.Lines.{below-fine}
+use Rattle.engine.specs.Books.{emptied}
+use Rattle.engine.specs.Boxes.{Sound}
+use Rattle.engine.specs.Laws.Runs.{run-keeps}
+use Rattle.engine.specs.Run.{Run, runOver}
+use Rattle.engine.specs.Step.{stepped, stepVerdict}
+use Rattle.dump.specs.Layout.{dumpBytes}
+use Rattle.dump.specs.Refused.{areaLines, dumpStateLines, dumpLines, dumpJudged}
+use Rattle.restart.specs.Accepted.{Passed, fresh-passed, step-passed, step-judged}
+
+-- what every bar keeps, beside what an image needs: bars seen that are counted
+record Counted (s : Settings) (t : State) (m : Rooms) : Type 0 where
+  passed : Passed s t m
+  seen : t .counts .«bars_seen» ≤ mostCount
+
+fresh-counted : (s : Settings) (m : Rooms) → s .depth ≤ rowPlaces (s .slots) (m .rows) → Counted s (freshState s) m
+unfolding freshState
+fresh-counted s m deep = record { passed = fresh-passed s m deep; seen = omega arith }
+
+step-counted : (s : Settings) (ls : Lists) (t : State) (m : Rooms) (bar : List ℕ) → stepVerdict s t bar m ls ≡ Fine → Counted s t m
+    → Counted s (stepped s t bar m ls .result) (stepped s t bar m ls .rooms)
+unfolding stepped
+step-counted s ls t m bar fine c = record {
+  passed = step-passed s ls t m bar fine (c .passed);
+  seen = omega (arith, step-fine s t bar m ls (step-judged s ls t m bar fine) .bars);
+}
+
+-- A dump of a sound box, with an entry bar below the bars seen and these no more than 4,294,967,295, is not refused.
+pub dump-passes : (s : Settings) (t : State) (m : Rooms) (area : List ℕ) → Sound s t m → entryBelow (t .position .entered) (t .counts .«bars_seen») ≡ true
+    → t .counts .«bars_seen» ≤ mostCount → judged (settingLines s) ≡ Fine → dumpBytes (s .slots) (s .depth) ≤ length area
+    → dumpJudged s t (m .rows) area ≡ Fine
+unfolding dumpJudged dumpLines
+dump-passes s t m area sound entry seen twelve large =
+    let n = t .counts in
+    let w = sound .within in
+    let ten : judged (roomLines s (m .rows)) ≡ Fine = unfold roomLines judged in rw (le-leb (s .depth) (rowPlaces (s .slots) (m .rows)) (sound .depth)) in
+    let place : judged (areaLines s area) ≡ Fine = unfold areaLines judged in rw (le-leb (dumpBytes (s .slots) (s .depth)) (length area) large) in
+    let thirteen : judged (dumpStateLines s t (m .rows)) ≡ Fine =
+    unfold judged dumpStateLines stateLines emptied in
+    rw (
+      le-leb (n .«equity_points») mostCount (omega (arith, w .pointsSeen)),
+      le-leb (n .trades) mostCount (omega (arith, w .tradesSeen)),
+      le-leb (n .«bars_seen») mostCount seen,
+      le-leb (n .«rows_held») mostCount (omega (arith, w .rowsSeen)),
+      le-leb (n .«rows_held») (rowPlaces (s .slots) (m .rows)) (w .rows),
+      entry,
+    ) in
+    below-fine (roomLines s (m .rows)) _ ten ∙ below-fine (areaLines s area) _ place ∙ below-fine (settingLines s) _ twelve ∙ thirteen
+
+-- what it needs is had by every box that was reached
+module _ (s : Settings) (ls : Lists) (m : Rooms) (bars : List (List ℕ)) (deep : s .depth ≤ rowPlaces (s .slots) (m .rows)) where
+  reached-counted : Counted s (runOver s ls (freshState s) m bars .state) (runOver s ls (freshState s) m bars .rooms)
+  reached-counted = run-keeps s ls (Counted s) (step-counted s ls) bars (freshState s) m (fresh-counted s m deep)
+
+  pub reached-entry : let b = runOver s ls (freshState s) m bars in
+      (entryBelow (b .state .position .entered) (b .state .counts .«bars_seen») ≡ true) × (b .state .counts .«bars_seen» ≤ mostCount)
+  reached-entry = (reached-counted .passed .entry, reached-counted .seen)
+
+  -- A DUMP AFTER ANY BARS from a fresh state, into an area of the size or more, is not refused, where 12 lets the settings pass.
+  pub reached-dumped : (area : List ℕ) → judged (settingLines s) ≡ Fine → dumpBytes (s .slots) (s .depth) ≤ length area
+      → let b = runOver s ls (freshState s) m bars in
+      dumpJudged s (b .state) (b .rooms .rows) area ≡ Fine
+  reached-dumped area twelve large =
+      let b : Run = runOver s ls (freshState s) m bars in
+      dump-passes s (b .state) (b .rooms) area (reached-counted .passed .sound) (reached-entry .0) (reached-entry .1) twelve large
