@@ -53,7 +53,7 @@ enum {
     YSH_REFUSED_NESTING = 8,    /* deeper than 32 levels, the root being 1, operands counted too. Place: the lowest such node */
     YSH_REFUSED_REACH = 9,      /* a tree that looks back more than 4,095 bars, its Prevs added up. Place: the first such tree's root */
 
-    /* 10 to 16: the other things handed over. (17 and 18 are not given yet.) */
+    /* 10 to 16: the other things handed over. (18 is not given yet.) */
     YSH_REFUSED_ROOM = 10,      /* a room is too small. Place: its number (YSH_ROOM_ROWS ..). Commonly: the rows were laid out for another
                                  * D or K than settings 0 and 1 say; the room for steps was sized by steps and not by nodes; the
                                  * settings or the state are those of an older header, with fewer words */
@@ -70,7 +70,9 @@ enum {
                                  * - the bar is not exactly 10 + K words: two bars at once, the three words of funding left out, or
                                  *   another K than the settings';
                                  * - rows for ysh_rule or ysh_run that are not whole rows of 7 + K words;
-                                 * - equity points or trades for ysh_metrics that are not whole records;
+                                 * - equity points or trades for ysh_metrics, or trades for ysh_totals, that are not whole records;
+                                 * - totals with a count above 4,294,967,295, or with more wins and losses than trades: words that no call
+                                 *   wrote; other totals that are not exactly 43 words;
                                  * - the state counts more rows, equity points or trades than the room has places for: a smaller room
                                  *   than the call before had, or a state that ysh_fresh did not begin;
                                  * - a count of the state, or the bars seen of a position, is above 4,294,967,295;
@@ -91,10 +93,15 @@ enum {
                                  * sizing or cap in its settings, or another price, lets the run go on. Place: the bars seen, which is this
                                  * bar's number */
 
+    YSH_REFUSED_TRADE = 17,     /* a trade for ysh_totals whose pnl is not finite or whose reason is not 1 to 6. Commonly: a trade room was
+                                 * handed over with its free places, and not the trades of a run alone. Place: its number in the list, from 0 */
+
     /* 19 and 20: an image of a dump. */
     YSH_REFUSED_IMAGE = 19,     /* no whole image: the write was cut off, the length is not that of its D and K (hand over the image alone, not
                                  * the whole area), a spare byte is not 0, or a field is out of its range. Place 0 */
-    YSH_REFUSED_OTHER = 20      /* a whole image, of another D or K than settings 1 and 0 say: another table's. Place 0 */
+    YSH_REFUSED_OTHER = 20,     /* a whole image, of another D or K than settings 1 and 0 say: another table's. Place 0 */
+
+    YSH_REFUSED_TOTAL = 22      /* the totals, with what is to be added, would be of more than 4,294,967,295 trades. Place 0 */
 };
 
 /* ---- sizes, in words unless said */
@@ -107,6 +114,7 @@ enum {
 #define YSH_POINT_WORDS 2                         /* time, equity */
 #define YSH_TRADE_WORDS 10
 #define YSH_METRIC_WORDS 9
+#define YSH_TOTAL_WORDS 43                        /* of exact totals; 43 zeros are the totals of nothing */
 #define YSH_STEP_BYTES(nodes) (64 * (nodes))      /* room for the steps of a tree of so many nodes, in bytes */
 #define YSH_DUMP_BYTES(slots, depth) (256 + (depth) * 8 * (7 + (slots)))   /* of a dump, in bytes: what ysh_dump_bytes answers for a K
                                                    * and a D in range, for an area that is laid out by the compiler */
@@ -128,7 +136,8 @@ enum {
     YSH_ROOM_ENTRY, YSH_ROOM_EXIT, YSH_ROOM_SHORT_ENTRY, YSH_ROOM_SHORT_EXIT,
     YSH_ROOM_SETTINGS, YSH_ROOM_STATE, YSH_ROOM_METRICS,
     YSH_ROOM_LINES = 10,
-    /* 11 to 13 and 15 to 17 are kept for later requests */
+    YSH_ROOM_TOTALS = 11,
+    /* 12, 13 and 15 to 17 are kept for later requests */
     YSH_ROOM_DUMP = 14,
     YSH_ROOM_SILENT = 18
 };
@@ -405,6 +414,23 @@ uint64_t ysh_run(const uint8_t *steps, size_t steps_len, const uint64_t *rows, s
 /* The nine metrics of equity points and trades. Refusals 10 (room 9), then 13 for lists that are not whole records. */
 uint64_t ysh_metrics(uint64_t initial, const uint64_t *equity, size_t equity_len,
                      const uint64_t *trades, size_t trades_len, uint64_t *metrics, size_t metrics_len);
+
+/* ---- exact totals over the trades of many runs: the words of a record */
+
+enum {
+    YSH_TOTAL_BY_REASON = 0,    /* word 0 to 5: trades that ended by reason 1 to 6 */
+    YSH_TOTAL_WINS = 6,         /* trades with a pnl above 0; a pnl of 0 of either sign is neither a win nor a loss */
+    YSH_TOTAL_LOSSES = 7,       /* trades with a pnl below 0 */
+    YSH_TOTAL_SUM = 8,          /* word 8 to 41: the sum of all pnl in units of 2^-1074, exactly: two's complement, lowest word first */
+    YSH_TOTAL_FLOAT = 42        /* the word of the float nearest to that sum, ties to even; 0 is +0.0 */
+};
+
+/* Adds the trades of a list, whole records of YSH_TRADE_WORDS words, to totals, of which the first YSH_TOTAL_WORDS words are looked at.
+ * Begin with 43 zeros. Every order and every grouping of the same trades leaves the same words. 10, 13, 17, 22. */
+uint64_t ysh_totals(uint64_t *totals, size_t totals_len, const uint64_t *trades, size_t trades_len);
+
+/* Adds other totals, exactly YSH_TOTAL_WORDS words, to totals: those of another machine, say. 10, 13, 22. */
+uint64_t ysh_totals_join(uint64_t *totals, size_t totals_len, const uint64_t *other, size_t other_len);
 
 /* The square root of a float's word, correctly rounded. */
 uint64_t ysh_root(uint64_t word);

@@ -17,12 +17,13 @@ mod progress;
 #[cfg(feature = "stack")]
 mod stack;
 mod theirs;
+mod totals;
 mod view;
 
 use std::process::ExitCode;
 
 const USAGE: &str = "usage: driver compare SEED RUNS | guard SEED CALLS | root SEED COUNT | metrics SEED COUNT
-       driver extremes SEED COUNT | images SEED COUNT | replay < runs | bench [PART]
+       driver extremes SEED COUNT | images SEED COUNT | totals SEED COUNT | replay < runs | bench [PART]
        driver stack SEED RUNS (with the feature `stack`: compare/stack)";
 
 fn usage() -> ! {
@@ -49,6 +50,7 @@ fn main() -> ExitCode {
         ["replay"] => compare::replay().expect("standard input can be read"),
         ["root", seed, count] => figures::roots(number(seed), number(count)),
         ["metrics", seed, count] => figures::metrics(number(seed), number(count)),
+        ["totals", seed, count] => totals::totals(number(seed), number(count)),
         _ => usage(),
     };
     ExitCode::from(u8::from(!agree))

@@ -4,4 +4,5 @@ pub mod TablePlaces
 pub mod TableCalls
 pub mod RunCalls
 pub mod WhyCalls
+pub mod TotalsCalls
 pub mod DumpCalls

@@ -43,6 +43,8 @@ mod raw {
             initial: u64, equity: *const u64, equity_len: usize, trades: *const u64, trades_len: usize,
             metrics: *mut u64, metrics_len: usize,
         ) -> u64;
+        pub fn ysh_totals(totals: *mut u64, totals_len: usize, trades: *const u64, trades_len: usize) -> u64;
+        pub fn ysh_totals_join(totals: *mut u64, totals_len: usize, other: *const u64, other_len: usize) -> u64;
         pub fn ysh_root(word: u64) -> u64;
         pub fn ysh_dump(
             settings: *const u64, settings_len: usize, state: *const u64, state_len: usize, rows: *const u64, rows_len: usize,
@@ -259,6 +261,14 @@ pub fn metrics(initial: u64, equity: &[u64], trades: &[u64], metrics: &mut [u64]
             metrics.len(),
         )
     })
+}
+
+pub fn totals(totals: &mut [u64], trades: &[u64]) -> Answer<()> {
+    Refusal::of(unsafe { raw::ysh_totals(totals.as_mut_ptr(), totals.len(), trades.as_ptr(), trades.len()) })
+}
+
+pub fn totals_join(totals: &mut [u64], other: &[u64]) -> Answer<()> {
+    Refusal::of(unsafe { raw::ysh_totals_join(totals.as_mut_ptr(), totals.len(), other.as_ptr(), other.len()) })
 }
 
 pub fn root(word: u64) -> u64 {

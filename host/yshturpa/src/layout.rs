@@ -10,6 +10,9 @@ pub const POINT_WORDS: usize = 2;
 pub const TRADE_WORDS: usize = 10;
 pub const METRIC_WORDS: usize = 9;
 
+/// Words of exact totals.
+pub const TOTAL_WORDS: usize = 43;
+
 /// Words of a line that says why, and as many lines as there may be.
 pub const WHY_WORDS: usize = 8;
 pub const WHY_LINES: usize = 32;
@@ -131,7 +134,7 @@ pub mod room {
     pub const SILENT: u32 = 18;
 
     /// What each is called, those that are kept for later left out.
-    pub const NAMES: [(u32, &str); 13] = [
+    pub const NAMES: [(u32, &str); 14] = [
         (ROWS, "rows"),
         (1, "equity"),
         (2, "trades"),
@@ -143,6 +146,7 @@ pub mod room {
         (8, "state"),
         (9, "metrics"),
         (10, "lines that say why"),
+        (11, "totals"),
         (14, "the dump"),
         (SILENT, "silent tests"),
     ];
