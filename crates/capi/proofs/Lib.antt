@@ -5,3 +5,4 @@ pub mod Finishing
 pub mod Writing
 pub mod Powering
 pub mod Totalling
+pub mod Stretching

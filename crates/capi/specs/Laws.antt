@@ -6,3 +6,4 @@ pub mod RunCalls
 pub mod WhyCalls
 pub mod TotalsCalls
 pub mod DumpCalls
+pub mod StretchCalls

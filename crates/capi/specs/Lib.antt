@@ -8,9 +8,11 @@ pub mod Finish
 pub mod Power
 pub mod Figures
 pub mod Totals
+pub mod Stretch
 pub mod WordRun
 pub mod Day
 pub mod Laws
+pub mod StretchIsReading
 pub mod Joined
 pub mod DayJoined
 pub mod TotalsJoined

@@ -7,5 +7,6 @@ pub mod power;
 pub mod report;
 pub mod run;
 pub mod state;
+pub mod stretch;
 pub mod tables;
 pub mod why;

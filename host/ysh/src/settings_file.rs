@@ -6,6 +6,7 @@ use serde::{Deserialize, Serialize};
 use yshturpa::{EntryOrder, Settings};
 
 use crate::compile::{sizing_of, slippage_of};
+use crate::files::name_of;
 use crate::problem::Problem;
 use crate::strategy::spec::{Sizing, Slippage};
 use crate::strategy::{in_words, Fault};
@@ -119,7 +120,7 @@ impl SettingsFile {
     /// Reads the file beside a table, and its text; none where there is no such file.
     pub fn read(table: &Path) -> Result<Option<(SettingsFile, String)>, Problem> {
         let path = SettingsFile::beside(table);
-        let name = path.display().to_string();
+        let name = name_of(&path);
         let text = match std::fs::read_to_string(&path) {
             Ok(text) => text,
             Err(error) if error.kind() == std::io::ErrorKind::NotFound => return Ok(None),

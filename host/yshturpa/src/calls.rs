@@ -55,6 +55,13 @@ mod raw {
             image: *const u8, image_len: usize, rows: *mut u64, rows_len: usize,
         ) -> u64;
         pub fn ysh_dump_bytes(slots: u64, depth: u64) -> u64;
+        pub fn ysh_append(
+            held: *mut u64, close: u64, closes: *mut u64, closes_len: usize, blocks: *mut u64, blocks_len: usize,
+        ) -> u64;
+        pub fn ysh_stretch(
+            held: u64, first: u64, last: u64, closes: *const u64, closes_len: usize, blocks: *const u64, blocks_len: usize,
+            high: *mut u64, high_bar: *mut u64, low: *mut u64, low_bar: *mut u64,
+        ) -> u64;
     }
 }
 
@@ -309,4 +316,31 @@ pub fn restore(settings: &[u64], state: &mut [u64], image: &[u8], rows: &mut [u6
 
 pub fn dump_bytes(slots: u64, depth: u64) -> u64 {
     unsafe { raw::ysh_dump_bytes(slots, depth) }
+}
+
+pub fn append(held: &mut u64, close: u64, closes: &mut [u64], blocks: &mut [u64]) -> Answer<()> {
+    Refusal::of(unsafe {
+        raw::ysh_append(held, close, closes.as_mut_ptr(), closes.len(), blocks.as_mut_ptr(), blocks.len())
+    })
+}
+
+/// High, its bar, low, its bar.
+pub fn stretch(held: u64, first: u64, last: u64, closes: &[u64], blocks: &[u64]) -> Answer<[u64; 4]> {
+    let [mut high, mut high_bar, mut low, mut low_bar] = [0; 4];
+    Refusal::of(unsafe {
+        raw::ysh_stretch(
+            held,
+            first,
+            last,
+            closes.as_ptr(),
+            closes.len(),
+            blocks.as_ptr(),
+            blocks.len(),
+            &mut high,
+            &mut high_bar,
+            &mut low,
+            &mut low_bar,
+        )
+    })?;
+    Ok([high, high_bar, low, low_bar])
 }

@@ -82,7 +82,7 @@ impl fmt::Display for Refusal {
 impl std::error::Error for Refusal {}
 
 /// Number, what it says, and what commonly causes it, as the header has them.
-const WORDS: [(u32, &str, &str); 20] = [
+const WORDS: [(u32, &str, &str); 21] = [
     (1, "the table is under 16 bytes", "an empty file, or a length that is not the table's"),
     (2, "the first three bytes are not RTB", "it is no rule table"),
     (3, "the table's version is none that is read", "a later format, or written with the high byte first"),
@@ -144,6 +144,11 @@ const WORDS: [(u32, &str, &str); 20] = [
         "a trade room was handed over with its free places, and not the trades of a run alone",
     ),
     (
+        18,
+        "the stretch begins after it ends, or one of its bars is not held",
+        "the last bar was taken for one past the end; no bar was appended yet",
+    ),
+    (
         19,
         "the image is no whole dump",
         "the supply was lost before its last byte was written; a file of another length; an image of another version",
@@ -194,7 +199,7 @@ mod tests {
 
     #[test]
     fn every_number_has_words() {
-        for number in (1..=16).chain(19..=20) {
+        for number in (1..=16).chain(18..=20) {
             let refusal = Refusal { number, place: 0 };
             assert!(refusal.entry().is_some() && !refusal.causes().is_empty());
         }
