@@ -93,7 +93,6 @@ enum {
                                  * sizing or cap in its settings, or another price, lets the run go on. Place: the bars seen, which is this
                                  * bar's number */
 
-
     /* 17: the trades of totals (ysh_totals). */
     YSH_REFUSED_TRADE = 17,     /* a trade for ysh_totals whose pnl is not finite or whose reason is not 1 to 6. Commonly: a trade room was
                                  * handed over with its free places, and not the trades of a run alone. Place: its number in the list, from 0 */
@@ -440,6 +439,7 @@ uint64_t ysh_totals(uint64_t *totals, size_t totals_len, const uint64_t *trades,
 
 /* Adds other totals, exactly YSH_TOTAL_WORDS words, to totals: those of another machine, say. 10, 13, 22. */
 uint64_t ysh_totals_join(uint64_t *totals, size_t totals_len, const uint64_t *other, size_t other_len);
+
 /* ---- the high and the low of a stretch of closes (docs/INTERFACE.md, "High and low of a stretch") ---- */
 
 /* Appends a close to the `held` closes, and to the block of 64 that it falls into; `held` is one more then. Begin with `held` 0, whatever
