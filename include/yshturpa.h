@@ -14,6 +14,9 @@
  * that a call takes (docs/PERFORMANCE.md, "Footprint"), and floats as a C program begins with them: rounded to nearest, the numbers below
  * the normal ones kept and not flushed to zero. No call keeps memory of its own: calls over different rooms may run at the same time.
  *
+ * On aarch64 the library reads 16 bytes at such 8-byte boundaries: a fault where the MMU is off or alignment is checked. Turn the MMU on, with
+ * the rooms in normal memory, or build the library with FLAGS=-mstrict-align (README.md, "Linking it").
+ *
  * docs/INTERFACE.md has the records, rooms and calls in full, docs/RULES.md what a rule, a fill and each figure mean.
  */
 #ifndef YSHTURPA_H

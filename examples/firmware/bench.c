@@ -2,7 +2,8 @@
  * memory, and its supply falls at some instruction (the timer's interrupt) and is gone in the middle of some program or erase, which stays torn. All that
  * the box says is held word for word against a box that was never broken. Arguments:
  *   cuts SEED COUNT AIM       until the supply was taken away in the middle of COUNT programs or erases: any (0), the clear alone (1), or the last (2)
- *   hold SEED COUNT PAGE HOLD COUNT losses; a program takes PAGE ns of virtual time, and the capacitors hold for HOLD ns
+ *   hold SEED COUNT PAGE HOLD WHEN    COUNT losses; a program takes PAGE ns of virtual time, the capacitors hold for HOLD ns, and the supply falls while bars
+ *                             are taken (0) or from the start on (1)
  *   live SEED GIVEN           lives on, and says what happens, until the emulator is ended; the box was given GIVEN bars before
  *   calls                     instructions of each call */
 #include "bench.h"
@@ -10,54 +11,22 @@
 #include "board.h"
 #include "box.h"
 #include "flash.h"
+#include "unbroken.h"
 
-enum { DAY = DEPTH + 97, PAGES = (IMAGE + PAGE - 1) / PAGE, NEVER = -1, DENSITIES = 65536 };
+enum { PAGES = (IMAGE + PAGE - 1) / PAGE, NEVER = -1, DENSITIES = 65536 };
 enum { BITS, PREFIX, BYTES, TEARS };
 enum { CUT, WAITED, DAY_OVER, WRONG };
 enum { ANYWHERE, AT_CLEAR, AT_LAST };
 
+#define LATER (UINT64_MAX / 2)
+
+#ifdef SEALED
+enum { SEAL_ERASES = 1 };               /* before the first bar */
+#else
+enum { SEAL_ERASES = 0 };
+#endif
+
 extern uint8_t box_begin[], box_end[], box_stack[];
-
-static uint64_t bars[DAY][BAR];
-
-/* ---- the box that was never broken: what it held after each bar, in rooms for the whole day */
-
-static struct {
-    uint64_t settings[YSH_SETTING_WORDS], states[DAY + 1][YSH_STATE_WORDS], rows[DAY * ROW];
-    uint64_t points[DAY * YSH_POINT_WORDS], trades[(DAY + 1) * YSH_TRADE_WORDS];
-    uint8_t steps[TREES][STEP_ROOM];
-    uint64_t used[TREES];
-} unbroken;
-
-static void copy(uint64_t *to, const uint64_t *from, uint64_t words)
-{
-    while (words--)
-        *to++ = *from++;
-}
-
-static uint64_t step(uint64_t *state, const uint64_t *bar, uint64_t *rows, uint64_t rows_len)
-{
-    return ysh_step(unbroken.settings, YSH_SETTING_WORDS, state, YSH_STATE_WORDS, bar, BAR, rows, rows_len,
-                    unbroken.points, DAY * YSH_POINT_WORDS, unbroken.trades, (DAY + 1) * YSH_TRADE_WORDS, unbroken.steps[0], unbroken.used[0],
-                    unbroken.steps[1], unbroken.used[1], unbroken.steps[2], unbroken.used[2], unbroken.steps[3], unbroken.used[3]);
-}
-
-static void run_unbroken(void)
-{
-    uint64_t state[YSH_STATE_WORDS], refused = 0;
-    strategy_day(bars, DAY);
-    strategy_settings(unbroken.settings);
-    for (uint64_t tree = 0; tree < TREES; tree++)
-        refused |= ysh_translate(strategy_table, TABLE_BYTES, tree, unbroken.steps[tree], STEP_ROOM, &unbroken.used[tree]);
-    refused |= ysh_fresh(unbroken.settings, YSH_SETTING_WORDS, state, YSH_STATE_WORDS);
-    copy(unbroken.states[0], state, YSH_STATE_WORDS);
-    for (uint64_t i = 0; i < DAY; i++) {
-        refused |= step(state, bars[i], unbroken.rows, DAY * ROW);
-        copy(unbroken.states[i + 1], state, YSH_STATE_WORDS);
-    }
-    if (refused)
-        box_failed("the unbroken run", refused);
-}
 
 /* ---- chance, by the seed */
 
@@ -77,9 +46,11 @@ static struct {
     uint64_t given, market;             /* bars that the box was given since it began afresh; bars that the day has had */
     int live, whole;                    /* it says what happens; the area that a whole image stands in, or NEVER */
     int64_t left;                       /* operations until the supply is gone, or NEVER */
-    int aim, tear, last, operation;           /* how that one is torn; the operation that was cut last, or NEVER; the one under way */
-    unsigned area;
-    uint64_t density, prefix, programs;
+    int aim, tear;                      /* which operations are cut, and how that one is torn: */
+    uint64_t density, prefix;           /* of 65,536 bits so many are changed; so many bytes are */
+    int last, operation;                /* the operation that was cut last, or NEVER; the one under way, */
+    unsigned area;                      /* and its area */
+    uint64_t programs;                  /* of the dump, so far */
     int early, armed;                   /* the supply may fall before the first bar; it will fall in this life */
     /* in virtual time: what a program takes, how long the capacitors hold, when the supply fell, when the last call ended */
     uint64_t page_ns, hold_ns, fell_ns, told_ns;
@@ -102,24 +73,6 @@ static void wrong(const char *what, uint64_t number)
         say("\n");
     }
     leave(WRONG);
-}
-
-static int same(const uint64_t *a, const uint64_t *b, uint64_t words)
-{
-    while (words-- > 0)
-        if (*a++ != *b++)
-            return 0;
-    return 1;
-}
-
-/* The box's state and window after so many bars, word for word. How many rows, points and trades are in its rooms is the box's own. */
-static int as_unbroken(const uint64_t *state, const uint64_t *rows, uint64_t number)
-{
-    uint64_t held = number < DEPTH ? number : DEPTH;
-    for (int word = 0; word < YSH_STATE_WORDS; word++)
-        if (word != YSH_ROWS_HELD && word != YSH_EQUITY_POINTS && word != YSH_TRADES && state[word] != unbroken.states[number][word])
-            return 0;
-    return state[YSH_ROWS_HELD] == held && same(rows, unbroken.rows + (number - held) * ROW, held * ROW);
 }
 
 void told_restored(const uint64_t *state, const uint64_t *rows)
@@ -171,7 +124,7 @@ const uint64_t *market_bar(uint64_t number)
         say_number(now.given);
         say("\n");
     }
-    return bars[now.given++];
+    return unbroken.bars[now.given++];
 }
 
 /* What the bench did since then takes the box no time: a supply that fell meanwhile falls now, one that had fallen holds so much longer. */
@@ -189,9 +142,9 @@ void told_bar(const uint64_t *state, const uint64_t *rows, const uint64_t *point
 {
     uint64_t begun = now_ns();
     uint64_t number = now.given - 1, before = unbroken.states[number][YSH_TRADES], booked = unbroken.states[number + 1][YSH_TRADES] - before;
-    if (state[YSH_EQUITY_POINTS] != 1 || !same(point, unbroken.points + number * YSH_POINT_WORDS, YSH_POINT_WORDS))
+    if (state[YSH_EQUITY_POINTS] != 1 || !same_words(point, unbroken.points + number * YSH_POINT_WORDS, YSH_POINT_WORDS))
         wrong("another point", number);
-    if (state[YSH_TRADES] != booked || !same(trades, unbroken.trades + before * YSH_TRADE_WORDS, booked * YSH_TRADE_WORDS))
+    if (state[YSH_TRADES] != booked || !same_words(trades, unbroken.trades + before * YSH_TRADE_WORDS, booked * YSH_TRADE_WORDS))
         wrong("another trade", number);
     if (!as_unbroken(state, rows, number + 1))
         wrong("another state", number);
@@ -233,13 +186,11 @@ int bench_operation(int operation, unsigned area, uint64_t at, uint64_t len)
     now.operation = operation;
     now.area = area;
     now.prefix = chance(len + 1);
-    if (operation == PROGRAM || operation == COMMIT) {
-        now.programs++;
-        while (now_ns() - begun < now.page_ns)
-            if (now_ns() - now.fell_ns > now.hold_ns)
-                return GONE;
-    }
-    if (operation == CLEAR && !now.live && chance(16) == 0)
+    now.programs += operation == PROGRAM || operation == COMMIT;
+    while (operation != ERASURE && now_ns() - begun < now.page_ns)
+        if (now_ns() > now.fell_ns + now.hold_ns)
+            return GONE;
+    if (operation == CLEAR && now.page_ns == 0 && !now.live && chance(16) == 0)
         return WEAK;
     if (now.left != 0) {
         now.left -= now.left != NEVER;
@@ -290,7 +241,7 @@ static void choose_tear(void)
  * whole, so that there is something to restore; the erase, the clear and the last program are cut more often than a page is. */
 static void choose_operation(void)
 {
-    int64_t clear = now.whole != NEVER ? 1 : NEVER, last = PAGES + 1 + (now.whole != NEVER);
+    int64_t clear = now.whole != NEVER ? 1 : NEVER, last = PAGES + SEAL_ERASES + 1 + (now.whole != NEVER);
     uint64_t turn = chance(8);
     if (turn < 2)
         now.left = NEVER;
@@ -309,10 +260,11 @@ static int life(void)
     sum.lives++;
     now.programs = 0;
     now.armed = 0;
+    now.fell_ns = LATER;
     supply_timer_off();
     choose_tear();
-    if (now.early && chance(8) == 0)
-        fall(150000);
+    if (now.early && chance(now.page_ns ? 2 : 8) == 0)
+        fall(150000 + 2 * now.page_ns);
     return run_on(box_stack, box_start);
 }
 
@@ -361,65 +313,6 @@ static void live(uint64_t given)
     end(how != DAY_OVER);
 }
 
-/* ---- what the calls take */
-
-static struct { uint64_t most, all, count; } step_cost;
-
-static void say_cost(const char *what, uint64_t cost)
-{
-    say(what);
-    say(" ");
-    say_number(cost);
-    say("\n");
-}
-
-static uint64_t since(uint64_t begun)
-{
-    static uint64_t nothing;
-    if (nothing == 0) {
-        nothing = instructions();
-        nothing = instructions() - nothing;
-    }
-    return (uint32_t)(instructions() - begun) - nothing;
-}
-
-static void calls(void)
-{
-    static uint64_t state[YSH_STATE_WORDS], rows[DEPTH * ROW];
-    static uint8_t image[IMAGE];
-    uint64_t begun, cost, used, most = 0;
-    since(0);
-    copy(state, unbroken.states[0], YSH_STATE_WORDS);
-    for (uint64_t i = 0; i < DAY; i++) {
-        begun = instructions();
-        step(state, bars[i], rows, DEPTH * ROW);
-        cost = since(begun);
-        step_cost.most = cost > step_cost.most ? cost : step_cost.most;
-        if (i >= DEPTH) {
-            step_cost.all += cost;
-            step_cost.count++;
-        }
-    }
-    say_cost("longest step", step_cost.most);
-    say_cost("mean step, the window full", step_cost.all / step_cost.count);
-    begun = instructions();
-    ysh_dump(unbroken.settings, YSH_SETTING_WORDS, state, YSH_STATE_WORDS, rows, DEPTH * ROW, image, IMAGE, 0, IMAGE);
-    say_cost("whole dump", since(begun));
-    for (uint64_t at = 0; at < IMAGE; at += PAGE) {
-        static uint8_t page[PAGE];
-        begun = instructions();
-        ysh_dump_part(unbroken.settings, YSH_SETTING_WORDS, state, YSH_STATE_WORDS, rows, DEPTH * ROW, at, page, PAGE, &used);
-        cost = since(begun);
-        if (at == 0)
-            say_cost("first page of a dump", cost);
-        most = cost > most ? cost : most;
-    }
-    say_cost("longest page of a dump", most);
-    begun = instructions();
-    ysh_restore(unbroken.settings, YSH_SETTING_WORDS, state, YSH_STATE_WORDS, image, IMAGE, rows, DEPTH * ROW);
-    say_cost("restore", since(begun));
-}
-
 /* ---- the arguments, and what is said at the end */
 
 static void summary(void)
@@ -442,18 +335,18 @@ static void summary(void)
     }
     for (int i = 1; i < PAGES; i++)
         fewest = sum.pages[i] < fewest ? sum.pages[i] : fewest;
-    say_cost("each page at least", fewest);
-    say_cost("weak clears", sum.weak);
-    say_cost("days", sum.days);
-    say_cost("bars of a day", DAY);
-    say_cost("trades of a day", unbroken.states[DAY][YSH_TRADES]);
-    say_cost("lives", sum.lives);
-    say_cost("whole dumps", sum.whole);
-    say_cost("programs of a dump", sum.programs);
+    say_line("each page at least", fewest);
+    say_line("weak clears", sum.weak);
+    say_line("days", sum.days);
+    say_line("bars of a day", DAY);
+    say_line("trades of a day", unbroken.states[DAY][YSH_TRADES]);
+    say_line("lives", sum.lives);
+    say_line("whole dumps", sum.whole);
+    say_line("programs of a dump", sum.programs);
     if (now.hold_ns)
-        say_cost("ns beside its programs", sum.beside);
-    say_cost("cuts", sum.cuts);
-    say_cost("wrong", sum.wrong);
+        say_line("ns beside its programs", sum.beside);
+    say_line("cuts", sum.cuts);
+    say_line("wrong", sum.wrong);
 }
 
 static char words[256], *at = words;
@@ -479,15 +372,17 @@ static uint64_t number(void)
 int main(void)
 {
     const char *mode;
-    uint64_t count, third;
+    uint64_t count, third, refused;
     arguments(words, sizeof words);
     mode = word();
     chance_state = number() * UINT64_C(0x9e3779b97f4a7c15) + 1;
     count = number();
     third = number();
     now.hold_ns = number();
-    now.early = now.hold_ns == 0;
-    run_unbroken();
+    now.early = now.hold_ns == 0 || number() != 0;
+    refused = unbroken_run();
+    if (refused)
+        box_failed("the unbroken run", refused);
     if (mode[0] == 'l')
         live(count);
     else if (mode[0] == 'h')
@@ -495,7 +390,7 @@ int main(void)
     else if (mode[0] == 'c' && mode[1] == 'u')
         cuts(count, (int)third);
     else
-        calls();
+        bench_calls();
     if (mode[1] != 'a')
         summary();
     end(sum.wrong != 0);

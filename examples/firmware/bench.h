@@ -14,6 +14,9 @@ int bench_operation(int operation, unsigned area, uint64_t at, uint64_t len);
 uint8_t bench_torn(uint64_t at, uint8_t before, uint8_t after);
 void bench_operated(int how);
 
+/* What the calls take. */
+void bench_calls(void);
+
 void flash_new(void);           /* a flash from the factory: all ones */
 
 #endif

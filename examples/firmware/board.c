@@ -13,6 +13,16 @@ enum { SERIAL = 0x09000000, DISTRIBUTOR = 0x08000000, GATE = 0x08010000, TIMER_L
 /* ---- memory. Normal memory with the MMU on, so that 16 bytes may be read at any boundary. With ALIGNED the MMU stays off and every access that is not
  * aligned to its own size is a fault, as the processor does to all data then: the library for that is built with -mstrict-align. */
 
+#ifdef ALIGNED
+
+static void memory_kinds(void)
+{
+    WRITE("sctlr_el1", READ("sctlr_el1") | 2);
+    SYNC();
+}
+
+#else
+
 enum { DEVICE = 0, NORMAL = 1, UNCACHED = 2, BLOCK = 1, TABLE = 3, ACCESSED = 1 << 10, SHARED = 3 << 8 };
 
 static _Alignas(4096) uint64_t gigabytes[512], low[512];
@@ -22,12 +32,8 @@ static uint64_t entry(uint64_t address, uint64_t kind)
     return address | ACCESSED | SHARED | kind << 2 | BLOCK;
 }
 
-void memory_on(void)
+static void memory_kinds(void)
 {
-#ifdef ALIGNED
-    WRITE("sctlr_el1", READ("sctlr_el1") | 2);
-    SYNC();
-#else
     for (uint64_t i = 0; i < 512; i++) {        /* the flash is read as memory; what the devices see is in order */
         uint64_t address = i << 21;
         low[i] = entry(address, address >= FLASH_AT && address < 2 * FLASH_AT ? UNCACHED : DEVICE);
@@ -40,7 +46,13 @@ void memory_on(void)
     SYNC();
     WRITE("sctlr_el1", READ("sctlr_el1") | 1 | 1 << 2 | 1 << 12);
     SYNC();
+}
+
 #endif
+
+void machine_on(void)
+{
+    memory_kinds();
     AT(DISTRIBUTOR) = 1;
     AT(DISTRIBUTOR + 0x100) = 1 << TIMER_LINE;
     AT(GATE + 4) = 0xff;
@@ -106,6 +118,14 @@ void say_number(uint64_t number)
     say(at);
 }
 
+void say_line(const char *what, uint64_t cost)
+{
+    say(what);
+    say(" ");
+    say_number(cost);
+    say("\n");
+}
+
 static uint64_t semihosting(uint64_t call, const void *with)
 {
     register uint64_t x0 __asm__("x0") = call;
@@ -142,17 +162,24 @@ void faulted(uint64_t syndrome, uint64_t at, uint64_t address)
 
 /* ---- what the library and the compiler ask for */
 
-typedef struct { uint64_t words[8]; } Chunk;
-
 void *memcpy(void *restrict to, const void *restrict from, size_t len)
 {
     unsigned char *t = to;
     const unsigned char *f = from;
     if ((((uint64_t)t | (uint64_t)f) & 7) == 0) {
-        for (; len >= sizeof(Chunk); len -= sizeof(Chunk), t += sizeof(Chunk), f += sizeof(Chunk))
-            *(Chunk *)t = *(const Chunk *)f;
-        for (; len >= 8; len -= 8, t += 8, f += 8)
-            *(uint64_t *)t = *(const uint64_t *)f;
+        uint64_t *words = to;
+        const uint64_t *source = from;
+        for (; len >= 32; len -= 32, words += 4, source += 4) {
+            uint64_t a = source[0], b = source[1], c = source[2], d = source[3];
+            words[0] = a;
+            words[1] = b;
+            words[2] = c;
+            words[3] = d;
+        }
+        for (; len >= 8; len -= 8)
+            *words++ = *source++;
+        t = (unsigned char *)words;
+        f = (const unsigned char *)source;
     }
     while (len--)
         *t++ = *f++;
@@ -161,7 +188,12 @@ void *memcpy(void *restrict to, const void *restrict from, size_t len)
 
 void *memset(void *at, int byte, size_t len)
 {
-    for (unsigned char *t = at; len--;)
+    unsigned char *t = at;
+    for (; len > 0 && ((uint64_t)t & 7) != 0; len--)
+        *t++ = (unsigned char)byte;
+    for (; len >= 8; len -= 8, t += 8)
+        *(uint64_t *)t = (unsigned char)byte * UINT64_C(0x0101010101010101);
+    while (len--)
         *t++ = (unsigned char)byte;
     return at;
 }

@@ -15,6 +15,7 @@ void supply_timer_off(void);
 
 void say(const char *text);
 void say_number(uint64_t number);
+void say_line(const char *what, uint64_t number);
 void arguments(char *text, size_t len);
 _Noreturn void end(int status);
 

@@ -6,6 +6,7 @@
 #ifndef BREAKS
 #define BREAKS 0
 #endif
+enum { TRIES = 10 };
 enum { KEEPS_ALL, OLD_IMAGE_LEFT, HEADER_WITH_MARK, ERASED_WHILE_VALID, MARK_FIRST, BAR_BETWEEN_PAGES };
 
 /* All of the memory that the box has. What it holds at reset is chance. */
@@ -63,21 +64,70 @@ static uint64_t part(uint64_t at, uint64_t len)
     return used;
 }
 
-/* ---- the flash */
+/* ---- what makes an area's bytes an image: its first word, or, where a program unit is larger than that, a seal of the driver's own (-DSEALED) */
 
-static int marked(unsigned area)
+#ifndef SEALED
+
+enum { LEFT_ERASED = FIRST_WORD };
+
+static int committed(unsigned area)
 {
     return flash_area(area)[MARK_AT] == MARK;
 }
 
-/* Programs an area's first word away, and looks: with byte 2 not the mark's, the area is refused whatever else it holds. */
-static void unmark(unsigned area)
+static void commit(unsigned area)
+{
+    part(0, FIRST_WORD);
+    flash_program(area, 0, box.page, FIRST_WORD);
+}
+
+/* Flash that erases to ones always lets a word be programmed to zeros. */
+static void take_back(unsigned area)
 {
     static const uint8_t zeros[FIRST_WORD];
-    for (int tries = 0; marked(area); tries++) {
-        if (tries == 3)
-            box_failed("a first word stays", area);
-        flash_program(area, 0, zeros, FIRST_WORD);
+    flash_program(area, 0, zeros, FIRST_WORD);
+}
+
+#else
+
+enum { LEFT_ERASED = 0 };
+
+static const uint8_t seal[SEAL_BYTES] = "the image before this is whole.";
+
+static int committed(unsigned area)
+{
+    int same = 1;
+    for (int i = 0; i < SEAL_BYTES; i++)
+        same &= flash_seal(area)[i] == seal[i];
+    return same;
+}
+
+static void commit(unsigned area)
+{
+    flash_program_seal(area, seal);
+}
+
+/* A unit that can be programmed once is taken back by an erase of its own block, until that is blank: what a torn seal left goes too. */
+static void take_back(unsigned area)
+{
+    int blank = 0;
+    for (int tries = 0; !blank && tries < TRIES; tries++) {
+        flash_erase_seal(area);
+        blank = 1;
+        for (int i = 0; i < SEAL_BYTES; i++)
+            blank &= flash_seal(area)[i] == 0xff;
+    }
+}
+
+#endif
+
+/* Takes an area's commit back, and looks: from then on it is refused whatever else it holds. */
+static void unmark(unsigned area)
+{
+    for (int tries = 0; committed(area); tries++) {
+        if (tries == TRIES)
+            box_failed("a commit stays", area);
+        take_back(area);
     }
 }
 
@@ -91,10 +141,11 @@ static uint32_t bars_seen(unsigned area)
 /* Restores the newer whole image. Answers its area, or AREAS where none is whole. */
 static unsigned restore(void)
 {
-    unsigned newer = marked(1) && (!marked(0) || bars_seen(1) > bars_seen(0));
+    unsigned newer = committed(1) && (!committed(0) || bars_seen(1) > bars_seen(0));
     for (unsigned turn = 0; turn < AREAS; turn++) {
         unsigned area = turn == 0 ? newer : 1 - newer;
-        if (ysh_restore(box.settings, YSH_SETTING_WORDS, box.state, YSH_STATE_WORDS, flash_area(area), IMAGE, box.rows, DEPTH * ROW) == 0)
+        if (committed(area) &&
+            ysh_restore(box.settings, YSH_SETTING_WORDS, box.state, YSH_STATE_WORDS, flash_area(area), IMAGE, box.rows, DEPTH * ROW) == 0)
             return area;
     }
     return AREAS;
@@ -111,6 +162,9 @@ static void make_ready(unsigned from)
     if (box.supply_lost)
         box_waits(0);
     flash_erase(box.spare);
+#ifdef SEALED
+    take_back(box.spare);
+#endif
     if (box.supply_lost)
         box_waits(0);
     if (BREAKS == ERASED_WHILE_VALID && from < AREAS)
@@ -123,9 +177,9 @@ static void make_ready(unsigned from)
 static void dump(void)
 {
     if (BREAKS == MARK_FIRST)
-        flash_program(box.spare, 0, (part(0, FIRST_WORD), box.page), FIRST_WORD);
+        commit(box.spare);
     for (uint64_t at = 0; at < IMAGE; at += PAGE) {
-        uint64_t used = part(at, PAGE), skip = at == 0 ? FIRST_WORD : 0;
+        uint64_t used = part(at, PAGE), skip = at == 0 ? LEFT_ERASED : 0;
         if (BREAKS == HEADER_WITH_MARK && at == 0)
             continue;
         flash_program(box.spare, at + skip, box.page + skip, used - skip);
@@ -135,7 +189,7 @@ static void dump(void)
     if (BREAKS == HEADER_WITH_MARK)
         flash_program(box.spare, 0, box.page, part(0, PAGE));
     else if (BREAKS != MARK_FIRST)
-        flash_program(box.spare, 0, (part(0, FIRST_WORD), box.page), FIRST_WORD);
+        commit(box.spare);
 }
 
 _Noreturn void box_start(void)

@@ -6,11 +6,13 @@
 #include "strategy.h"
 
 enum { READ_ARRAY = 0xff, BUFFERED_PROGRAM = 0xe8, ERASE = 0x20, CONFIRM = 0xd0, READY = 0x80, BOTH = 0x10001, BUS = 4 };
-enum { BLOCKS = (IMAGE + FLASH_BLOCK - 1) / FLASH_BLOCK };
+
+/* An area's blocks, and the one behind them, which is the seal's. */
+#define SEAL_AT ((IMAGE + FLASH_BLOCK - 1) / FLASH_BLOCK * FLASH_BLOCK)
 
 static volatile uint32_t *word_at(unsigned area, uint64_t at)
 {
-    return (volatile uint32_t *)(FLASH_AT + area * BLOCKS * FLASH_BLOCK + at);
+    return (volatile uint32_t *)(FLASH_AT + area * (SEAL_AT + FLASH_BLOCK) + at);
 }
 
 static void put(volatile uint32_t *word, uint32_t value)
@@ -43,10 +45,10 @@ static void program(unsigned area, uint64_t at, const uint8_t *bytes, uint64_t l
     put(word, READ_ARRAY * BOTH);
 }
 
-static void erase(unsigned area)
+static void erase(unsigned area, uint64_t from, uint64_t upto)
 {
-    for (uint64_t block = 0; block < BLOCKS; block++) {
-        volatile uint32_t *word = word_at(area, block * FLASH_BLOCK);
+    for (; from < upto; from += FLASH_BLOCK) {
+        volatile uint32_t *word = word_at(area, from);
         put(word, ERASE * BOTH);
         put(word, CONFIRM * BOTH);
         wait_ready(word);
@@ -55,39 +57,63 @@ static void erase(unsigned area)
 }
 
 /* What the cells do, which the emulator's flash does not: a program clears bits and sets none, and where the supply goes in the middle of
- * a program or an erase, some of it is done (bench.c, `torn`). */
+ * a program or an erase, some of it is done (bench.c, `bench_torn`). */
 
-void flash_program(unsigned area, uint64_t at, const uint8_t *bytes, uint64_t len)
+static void operate_program(int operation, unsigned area, uint64_t at, const uint8_t *bytes, uint64_t len)
 {
     const uint8_t *before = flash_area(area) + at;
     uint8_t after[PAGE];
-    int how = bench_operation(len == FIRST_WORD && bytes[MARK_AT] == 0 ? CLEAR : len == FIRST_WORD ? COMMIT : PROGRAM, area, at, len);
+    int how = bench_operation(operation, area, at, len);
     for (uint64_t i = 0; i < len; i++)
         after[i] = how == DONE ? before[i] & bytes[i] : bench_torn(i, before[i], before[i] & bytes[i]);
     program(area, at, after, len);
     bench_operated(how);
 }
 
-void flash_erase(unsigned area)
+static void operate_erase(int operation, unsigned area, uint64_t at, uint64_t len)
 {
     static uint8_t before[IMAGE];
     uint8_t after[PAGE];
-    int how = bench_operation(ERASURE, area, 0, IMAGE);
-    if (how != DONE)
-        for (uint64_t i = 0; i < IMAGE; i++)
-            before[i] = flash_area(area)[i];
-    erase(area);
-    for (uint64_t at = 0; how != DONE && at < IMAGE; at += PAGE) {
-        uint64_t len = IMAGE - at < PAGE ? IMAGE - at : PAGE;
-        for (uint64_t i = 0; i < len; i++)
-            after[i] = bench_torn(at + i, before[at + i], 0xff);
-        program(area, at, after, len);
+    int how = bench_operation(operation, area, at, len);
+    for (uint64_t i = 0; how != DONE && i < len; i++)
+        before[i] = flash_area(area)[at + i];
+    erase(area, at, at + len);
+    for (uint64_t done = 0; how != DONE && done < len; done += PAGE) {
+        uint64_t count = len - done < PAGE ? len - done : PAGE;
+        for (uint64_t i = 0; i < count; i++)
+            after[i] = bench_torn(done + i, before[done + i], 0xff);
+        program(area, at + done, after, count);
     }
     bench_operated(how);
+}
+
+void flash_program(unsigned area, uint64_t at, const uint8_t *bytes, uint64_t len)
+{
+    operate_program(len != FIRST_WORD ? PROGRAM : bytes[MARK_AT] == 0 ? CLEAR : COMMIT, area, at, bytes, len);
+}
+
+void flash_erase(unsigned area)
+{
+    operate_erase(ERASURE, area, 0, IMAGE);
+}
+
+const uint8_t *flash_seal(unsigned area)
+{
+    return flash_area(area) + SEAL_AT;
+}
+
+void flash_program_seal(unsigned area, const uint8_t seal[SEAL_BYTES])
+{
+    operate_program(COMMIT, area, SEAL_AT, seal, SEAL_BYTES);
+}
+
+void flash_erase_seal(unsigned area)
+{
+    operate_erase(CLEAR, area, SEAL_AT, SEAL_BYTES);
 }
 
 void flash_new(void)
 {
     for (unsigned area = 0; area < AREAS; area++)
-        erase(area);
+        erase(area, 0, SEAL_AT + FLASH_BLOCK);
 }

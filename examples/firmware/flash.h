@@ -4,7 +4,7 @@
 
 #include <stdint.h>
 
-enum { AREAS = 2, PAGE = 256, FIRST_WORD = 8, MARK_AT = 2, MARK = 'P' };
+enum { AREAS = 2, PAGE = 256, FIRST_WORD = 8, MARK_AT = 2, MARK = 'P', SEAL_BYTES = 32 };
 
 /* Where an area is read: the flash is mapped, so an image is restored from where it stands. */
 const uint8_t *flash_area(unsigned area);
@@ -14,5 +14,10 @@ void flash_program(unsigned area, uint64_t at, const uint8_t *bytes, uint64_t le
 
 /* All bits of the area to one. */
 void flash_erase(unsigned area);
+
+/* Behind each area an erase block of its own, for a seal: where it is read, its program, its erase. */
+const uint8_t *flash_seal(unsigned area);
+void flash_program_seal(unsigned area, const uint8_t seal[SEAL_BYTES]);
+void flash_erase_seal(unsigned area);
 
 #endif

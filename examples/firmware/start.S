@@ -9,7 +9,7 @@ _start:
     ldr     x0, =bench_stack
     mov     sp, x0
     isb
-    bl      memory_on
+    bl      machine_on
     bl      main
 1:  b       1b
 

@@ -48,4 +48,6 @@ fn main() {
     }
     println!("cargo:rustc-link-search=native={}", folder.display());
     println!("cargo:rustc-link-lib=static=capi");
+    // For the build of a program over this crate: DEP_CAPI_ARCHIVE.
+    println!("cargo:archive={}", archive.display());
 }

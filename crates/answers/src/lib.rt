@@ -11,6 +11,10 @@ ghost use Rattle.io.specs.Counts.{Counts};
 ghost use Rattle.answers.specs.Text.{put, next};
 ghost use Rattle.answers.specs.Lines.{twoNumbers, lineOf};
 
+// "the first 4,113 bytes": as many bytes of an input as a program reads. One more than the longest table has, so that a longer input is
+// refused: the stored input of `toolong` is that long.
+pub const MOST_READ: usize = 4113;
+
 // Puts a line with two numbers in it at the start of the room and answers how many bytes it has; where it does not fit, 0.
 fn put_numbers(room: &mut [u8], what: &[u8], first: u64, then: &[u8], second: u64) -> usize
     requires { ⌜ (length (now what) ≤ 16) × (length (now then) ≤ 6) ⌝ }
@@ -49,4 +53,15 @@ pub fn put_answer(room: &mut [u8], answer: Answer) -> usize
             refusal.place,
         ),
     }
+}
+
+// Reads a table from standard input and writes the answer to it.
+pub fn answer_input() {
+    let mut input = [0u8; MOST_READ];
+    let n = io::read_full(0, &mut input);
+    let checked = table::check(&input[..n]);
+    let answer = checked.answer;
+    let mut line = [0u8; 64];
+    let m = put_answer(&mut line, answer);
+    io::write_all(1, &line[..m]);
 }

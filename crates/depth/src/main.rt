@@ -4,9 +4,6 @@
 ghost use Prim.Native.Nat.{_<_};
 use needed::depth::DepthAnswer;
 
-// "the first 4,113 bytes": one more than the longest table has, so that a longer input is refused.
-const MOST: usize = 4113;
-
 // As long an argument as is read, and the number from which on more digits change nothing: it is far above every lookback.
 const ARGUMENT: usize = 64;
 
@@ -90,7 +87,7 @@ fn tell_depth(table: &[u8], lookback: u64) {
 fn main() {
     let mut argument = [0u8; ARGUMENT];
     let k = os::arg(1, &mut argument);
-    let mut input = [0u8; MOST];
+    let mut input = [0u8; answers::MOST_READ];
     let n = io::read_full(0, &mut input);
     match lookback_of(&argument[..k]) {
         Lookback::Bars(lookback) => tell_depth(&input[..n], lookback),

@@ -19,7 +19,7 @@ pub struct Cli {
 }
 
 const STATUS: &str = "The exit status is 0; 1 where the library refused something, which is told with its number and place; 2 where input \
-    is bad, which is told in one line with its file and place.";
+    is bad, which is told in one line with its file and place; 3 where a box does not fit in the time that is there (ysh holdup).";
 
 #[derive(Debug, Subcommand)]
 pub enum Command {
@@ -68,6 +68,9 @@ pub struct Compile {
     /// A file for the settings as a box's 32 words, little-endian
     #[arg(long, value_name = "FILE")]
     pub words: Option<PathBuf>,
+    /// A key of the strategy that nothing reads is an error
+    #[arg(long)]
+    pub strict: bool,
 }
 
 #[derive(Debug, Args)]
@@ -78,7 +81,7 @@ pub struct Show {
     #[arg(long)]
     pub json: bool,
     #[command(flatten)]
-    pub lookback: Lookback,
+    pub reading: Reading,
 }
 
 #[derive(Debug, Args)]
@@ -86,8 +89,11 @@ pub struct Depth {
     /// Rule tables, strategies, or folders of them (files that end in .rtb or .json)
     #[arg(required = true)]
     pub files: Vec<PathBuf>,
+    /// Read the folders below a folder too
+    #[arg(long)]
+    pub recursive: bool,
     #[command(flatten)]
-    pub lookback: Lookback,
+    pub reading: Reading,
 }
 
 #[derive(Debug, Args)]
@@ -98,19 +104,29 @@ pub struct Short {
     /// The rows of the window
     #[arg(long, value_name = "N", value_parser = parse_count, allow_hyphen_values = true)]
     pub rows: u64,
+    /// Read the folders below a folder too
+    #[arg(long)]
+    pub recursive: bool,
     #[command(flatten)]
-    pub lookback: Lookback,
+    pub reading: Reading,
 }
 
-#[derive(Clone, Copy, Debug, Args)]
-pub struct Lookback {
+/// How files are read.
+#[derive(Clone, Copy, Debug, Default, Args)]
+pub struct Reading {
     /// The lookback of a volatility target, for a table that has no settings beside it
     #[arg(long, value_name = "BARS", value_parser = parse_count, allow_hyphen_values = true)]
     pub lookback: Option<u64>,
+    /// A key of a strategy that nothing reads is an error, and so is a table without settings
+    #[arg(long)]
+    pub strict: bool,
 }
 
 pub fn parse_count(text: &str) -> Result<u64, String> {
-    text.parse().map_err(|_| "a whole number from 0 up was expected".to_owned())
+    match text.parse() {
+        Ok(n @ 0..=0xffff_ffff) => Ok(n),
+        _ => Err("a whole number from 0 to 4,294,967,295 was expected".to_owned()),
+    }
 }
 
 pub fn parse_lot(text: &str) -> Result<f64, String> {

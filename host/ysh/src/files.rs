@@ -38,33 +38,81 @@ pub fn text_of(file: &str, bytes: Vec<u8>) -> Result<String, Problem> {
     })
 }
 
-/// The files that arguments name: a folder stands for the strategies and tables right in it, by name.
-pub fn files(arguments: &[PathBuf]) -> Result<Vec<PathBuf>, Problem> {
-    let mut files = Vec::new();
-    for path in arguments {
-        match path.is_dir() {
-            true => files.extend(files_in(path)?),
-            false => files.push(path.clone()),
-        }
-    }
-    Ok(files)
+/// The files that arguments name, and what folders among them left out, each with the reason.
+#[derive(Clone, Debug, Default)]
+pub struct Found {
+    pub files: Vec<PathBuf>,
+    pub left_out: Vec<String>,
 }
 
-fn files_in(folder: &Path) -> Result<Vec<PathBuf>, Problem> {
-    let name = folder.display().to_string();
-    let read = |error: &std::io::Error| Problem::io(&name, "read", error);
-    let mut found = Vec::new();
-    for entry in fs::read_dir(folder).map_err(|error| read(&error))? {
-        let path = entry.map_err(|error| read(&error))?.path();
-        let text = path.to_string_lossy();
-        if path.is_file() && (text.ends_with(".rtb") || text.ends_with(".json") && !text.ends_with(".settings.json")) {
-            found.push(path);
+/// The files that arguments name: a folder stands for the strategies and tables in it, by name, and for those of the folders below it
+/// where that is asked for.
+pub fn files(arguments: &[PathBuf], recursive: bool) -> Result<Found, Problem> {
+    let mut found = Found::default();
+    for path in arguments {
+        match path.is_dir() {
+            true => in_folder(path, recursive, &mut found)?,
+            false => found.files.push(path.clone()),
         }
     }
-    if found.is_empty() {
-        let text = "no file in it ends in .json or .rtb; strategies or tables were expected";
-        return Err(Problem::input(name, "", text));
-    }
-    found.sort();
     Ok(found)
+}
+
+fn in_folder(folder: &Path, recursive: bool, found: &mut Found) -> Result<(), Problem> {
+    let before = found.files.len();
+    walk(folder, recursive, found)?;
+    if found.files.len() == before {
+        let text = "no file in it ends in .json or .rtb; strategies or tables were expected";
+        return Err(Problem::input(folder.display().to_string(), "", text));
+    }
+    Ok(())
+}
+
+fn walk(folder: &Path, recursive: bool, found: &mut Found) -> Result<(), Problem> {
+    let read = |error: &std::io::Error| Problem::io(folder.display().to_string(), "read", error);
+    let mut paths = Vec::new();
+    for entry in fs::read_dir(folder).map_err(|error| read(&error))? {
+        paths.push(entry.map_err(|error| read(&error))?.path());
+    }
+    paths.sort();
+    for path in &paths {
+        match sort_of(path, &paths, recursive) {
+            Sort::File => found.files.push(path.clone()),
+            Sort::Below => walk(path, recursive, found)?,
+            Sort::Beside => {}
+            Sort::LeftOut(why) => found.left_out.push(format!("{}: left out: {why}", name_of(path))),
+        }
+    }
+    Ok(())
+}
+
+/// What of a folder is.
+enum Sort {
+    /// A strategy or a table.
+    File,
+    /// A folder that is looked into.
+    Below,
+    /// The settings of a table of the same folder.
+    Beside,
+    LeftOut(&'static str),
+}
+
+fn sort_of(path: &Path, all: &[PathBuf], recursive: bool) -> Sort {
+    let name = path.to_string_lossy();
+    if path.is_dir() {
+        return match (recursive, path.is_symlink()) {
+            (true, false) => Sort::Below,
+            (true, true) => Sort::LeftOut("a link to a folder"),
+            (false, _) => Sort::LeftOut("a folder (--recursive reads it too)"),
+        };
+    }
+    if !path.exists() {
+        return Sort::LeftOut("a link to nothing");
+    }
+    match name.strip_suffix(".settings.json") {
+        Some(table) if all.iter().any(|other| other.to_string_lossy() == table) => Sort::Beside,
+        Some(_) => Sort::LeftOut("the settings of a table that is not there"),
+        None if name.ends_with(".rtb") || name.ends_with(".json") => Sort::File,
+        None => Sort::LeftOut("its ending is neither .json nor .rtb"),
+    }
 }

@@ -27,24 +27,26 @@ use std::ffi::OsString;
 use std::io::Write;
 
 use clap::error::ErrorKind;
-use clap::Parser;
+use clap::{CommandFactory, Parser};
 
 use cli::{Cli, Command};
 pub use problem::Problem;
 pub use source::Source;
 
-/// What the program was asked, answered; its exit status: 0, 1 where the library refused something, 2 where input is bad.
+/// What the program was asked, answered; its exit status: 0, 1 where the library refused something, 2 where input is bad, 3 where something
+/// does not fit.
 pub fn run(arguments: impl IntoIterator<Item = OsString>, out: &mut dyn Write, err: &mut dyn Write) -> u8 {
-    let cli = match Cli::try_parse_from(arguments) {
+    let arguments: Vec<OsString> = arguments.into_iter().collect();
+    let cli = match Cli::try_parse_from(&arguments) {
         Ok(cli) => cli,
-        Err(error) => return not_understood(&error, out, err),
+        Err(error) => return not_understood(&error, &arguments, out, err),
     };
     let (text, problems) = match cli.command {
         Command::Compile(asked) => commands::compile::answer(&asked),
         Command::Show(asked) => commands::show::answer(&asked),
         Command::Depth(asked) => commands::depth::answer(&asked),
         Command::Short(asked) => commands::short::answer(&asked),
-        Command::Holdup(asked) => commands::holdup::answer(&asked),
+        Command::Holdup(asked) => commands::holdup::answer(&asked, &arguments),
         Command::Run(asked) => commands::run::answer(&asked),
         Command::Why(asked) => commands::why::answer(&asked),
         Command::Dump(asked) => commands::dump::answer(&asked),
@@ -58,8 +60,8 @@ pub fn run(arguments: impl IntoIterator<Item = OsString>, out: &mut dyn Write, e
     problems.status
 }
 
-/// Help as it is; of anything else the first paragraph, in a line.
-fn not_understood(error: &clap::Error, out: &mut dyn Write, err: &mut dyn Write) -> u8 {
+/// Help as it is; of anything else the first paragraph, in a line, and the help that has more.
+fn not_understood(error: &clap::Error, arguments: &[OsString], out: &mut dyn Write, err: &mut dyn Write) -> u8 {
     let text = error.to_string();
     if matches!(error.kind(), ErrorKind::DisplayHelp | ErrorKind::DisplayVersion) {
         let _ = out.write_all(text.as_bytes());
@@ -71,6 +73,23 @@ fn not_understood(error: &clap::Error, out: &mut dyn Write, err: &mut dyn Write)
     }
     let paragraph = text.lines().take_while(|line| !line.trim().is_empty()).map(str::trim);
     let line = paragraph.collect::<Vec<_>>().join(" ");
-    let _ = writeln!(err, "ysh: {} (`ysh --help` has what there is)", line.strip_prefix("error: ").unwrap_or(&line));
+    let line = line.strip_prefix("error: ").unwrap_or(&line);
+    let _ = writeln!(err, "ysh: {line} (`{} --help` has what there is)", asked_of(arguments));
     2
+}
+
+/// The program with the command, and the command below it, that arguments name.
+fn asked_of(arguments: &[OsString]) -> String {
+    let mut command = Cli::command();
+    let mut names = vec!["ysh".to_owned()];
+    for word in arguments.iter().skip(1).map(|word| word.to_string_lossy()) {
+        match command.find_subcommand(word.as_ref()).cloned() {
+            Some(below) => {
+                names.push(word.into_owned());
+                command = below;
+            }
+            None => break,
+        }
+    }
+    names.join(" ")
 }

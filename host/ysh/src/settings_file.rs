@@ -8,7 +8,7 @@ use yshturpa::{EntryOrder, Settings};
 use crate::compile::{sizing_of, slippage_of};
 use crate::problem::Problem;
 use crate::strategy::spec::{Sizing, Slippage};
-use crate::strategy::Fault;
+use crate::strategy::{in_words, Fault};
 
 #[derive(Clone, Debug, PartialEq, Serialize, Deserialize)]
 #[serde(deny_unknown_fields)]
@@ -116,8 +116,8 @@ impl SettingsFile {
         serde_json::to_string_pretty(self).expect("settings are JSON") + "\n"
     }
 
-    /// Reads the file beside a table; none where there is no such file.
-    pub fn read(table: &Path) -> Result<Option<SettingsFile>, Problem> {
+    /// Reads the file beside a table, and its text; none where there is no such file.
+    pub fn read(table: &Path) -> Result<Option<(SettingsFile, String)>, Problem> {
         let path = SettingsFile::beside(table);
         let name = path.display().to_string();
         let text = match std::fs::read_to_string(&path) {
@@ -125,10 +125,11 @@ impl SettingsFile {
             Err(error) if error.kind() == std::io::ErrorKind::NotFound => return Ok(None),
             Err(error) => return Err(Problem::io(name, "read", &error)),
         };
-        serde_json::from_str(&text).map(Some).map_err(|error| {
+        let read = serde_json::from_str(&text).map_err(|error| {
             let place = format!("line {} column {}", error.line(), error.column());
             let said = error.to_string();
-            Problem::input(&name, &place, said.strip_suffix(&format!(" at {place}")).unwrap_or(&said))
-        })
+            Problem::input(&name, &place, in_words(said.strip_suffix(&format!(" at {place}")).unwrap_or(&said)))
+        })?;
+        Ok(Some((read, text)))
     }
 }

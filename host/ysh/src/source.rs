@@ -5,8 +5,11 @@ use std::path::Path;
 use yshturpa::layout::{MARK, MOST_DEPTH};
 use yshturpa::{depth, dump_bytes, Depth, Refusal};
 
+use crate::cli::Reading;
+use crate::columns::grouped;
 use crate::compile::{rules, Choices, Rules};
 use crate::files::{bytes_of, name_of, text_of};
+use crate::holdup::sheet::digest;
 use crate::problem::Problem;
 use crate::settings_file::SettingsFile;
 use crate::strategy::{self, counterpart, Strategy};
@@ -29,7 +32,11 @@ pub struct Source {
     pub strategy: Option<Strategy>,
     /// What stands beside a table.
     pub settings: Option<SettingsFile>,
+    /// What may make the answer another than was meant; an error where reading is strict.
+    pub doubts: Vec<String>,
     pub notes: Vec<String>,
+    /// Each file that was read, and its SHA-256.
+    pub digests: Vec<(String, String)>,
 }
 
 /// The window and the dump of a table.
@@ -43,17 +50,28 @@ pub struct Size {
 
 impl Source {
     /// Reads a file. A lookback that is given is for a table without settings.
-    pub fn read(path: &Path, lookback: Option<u64>) -> Result<Source, Problem> {
-        Source::read_with(path, lookback, Choices::default())
+    pub fn read(path: &Path, reading: &Reading) -> Result<Source, Problem> {
+        Source::read_with(path, reading, Choices::default())
     }
 
     /// Reads a file; a strategy with what it leaves to choose.
-    pub fn read_with(path: &Path, lookback: Option<u64>, choices: Choices) -> Result<Source, Problem> {
+    pub fn read_with(path: &Path, reading: &Reading, choices: Choices) -> Result<Source, Problem> {
         let file = name_of(path);
         let bytes = bytes_of(path)?;
-        match bytes.starts_with(&MARK) || path.extension().is_some_and(|end| end == "rtb") {
-            true => Source::of_table(path, bytes, lookback),
+        let own = (file.clone(), digest(&bytes));
+        let mut source = match bytes.starts_with(&MARK) || path.extension().is_some_and(|end| end == "rtb") {
+            true => Source::of_table(path, bytes, reading.lookback),
             false => Source::of_strategy(&file, &text_of(&file, bytes)?, choices),
+        }?;
+        source.digests.insert(0, own);
+        source.held_to(reading.strict)
+    }
+
+    /// Where reading is strict, a doubt is an error.
+    pub fn held_to(self, strict: bool) -> Result<Source, Problem> {
+        match self.doubts.first() {
+            Some(doubt) if strict => Err(Problem::input(&self.file, "", format!("{doubt} (--strict)"))),
+            _ => Ok(self),
         }
     }
 
@@ -61,18 +79,21 @@ impl Source {
         let read = strategy::read(text).map_err(|fault| Problem::fault(file, fault))?;
         let Rules { table, names, paths } =
             rules(&read.strategy, choices).map_err(|stopped| Problem::of(file, stopped))?;
+        let doubts = read.ignored.iter().map(|path| format!("{path}: nothing reads this key, and it has no effect"));
         let mut notes = counterpart::differences(&read.strategy);
-        notes.extend(read.ignored.iter().map(|path| format!("{path}: nothing reads this key")));
         notes.extend(unread(&read.strategy, &names));
         let lookback = read.strategy.lookback();
         let source = Source::new(file, table, names, paths, lookback)?;
-        Ok(Source { strategy: Some(read.strategy), notes, ..source })
+        Ok(Source { strategy: Some(read.strategy), doubts: doubts.collect(), notes, ..source })
     }
 
     fn of_table(path: &Path, table: Vec<u8>, lookback: Option<u64>) -> Result<Source, Problem> {
         let file = name_of(path);
-        let beside = SettingsFile::read(path)?;
         let settings = name_of(&SettingsFile::beside(path));
+        let (beside, digests) = match SettingsFile::read(path)? {
+            Some((beside, text)) => (Some(beside), vec![(settings.clone(), digest(text.as_bytes()))]),
+            None => (None, Vec::new()),
+        };
         let (names, lookback, known) = match &beside {
             Some(file) => (file.slots.clone(), file.lookback(), true),
             None => (Vec::new(), lookback.unwrap_or(0), lookback.is_some()),
@@ -82,10 +103,17 @@ impl Source {
             fitting(&source, beside).map_err(|(place, text)| Problem::input(&settings, place, text))?;
         }
         if !known {
-            source.notes.push(format!("there is no {settings}: sizing is taken to be no volatility target"));
+            let text = "sizing is taken to be no volatility target, so D may be too small";
+            source.doubts.push(format!("there is no {settings}: {text}"));
         }
         source.settings = beside;
+        source.digests = digests;
         Ok(source)
+    }
+
+    /// A table whose sizing nobody told: its D may be too small.
+    pub fn unknown_sizing(&self) -> bool {
+        self.strategy.is_none() && self.settings.is_none() && !self.doubts.is_empty()
     }
 
     fn new(
@@ -110,7 +138,9 @@ impl Source {
             needed,
             strategy: None,
             settings: None,
+            doubts: Vec::new(),
             notes: Vec::new(),
+            digests: Vec::new(),
         })
     }
 
@@ -148,7 +178,12 @@ fn fitting(source: &Source, settings: &SettingsFile) -> Result<(), (&'static str
         true => Ok(()),
         false => Err((
             "depth",
-            format!("{rows}; the {needed} that table and sizing need, or more up to {most}, was expected"),
+            format!(
+                "{}; the {} that table and sizing need, or more up to {}, was expected",
+                grouped(rows),
+                grouped(needed),
+                grouped(most)
+            ),
         )),
     }
 }

@@ -85,10 +85,9 @@ fn a_table_is_told_by_the_settings_beside_it() {
     );
     fs::remove_file(&beside).unwrap();
     let (status, out, err) = ysh(&["depth", &table]);
-    assert!(
-        status == 0 && out.contains("15  2") && err.contains("sizing is taken to be no volatility target"),
-        "{out}{err}"
-    );
+    assert!(status == 0 && out.contains("15  2") && out.contains("(sizing not known)") && err.is_empty(), "{out}{err}");
+    assert!(out.starts_with("WARNING  ") && out.contains("sizing is taken to be no volatility target"), "{out}");
+    one_line(&["depth", &table, "--strict"], 2, &["there is no ", "so D may be too small (--strict)"]);
     assert!(ysh(&["depth", &table, "--lookback", "40"]).1.contains("41  2"));
 }
 
@@ -126,12 +125,17 @@ fn the_question_is_answered() {
     let supply =
         ["--power", "2.5W", "--drop-voltage", "12V", "--lowest-voltage", "6V", "--tolerance", "20%", "--age", "20%"];
     let (status, out, err) = ysh(&[&asked[..], &supply, &["--have", "11ms"]].concat());
-    assert_eq!((status, err.as_str()), (0, ""));
+    assert_eq!((status, err.as_str()), (3, ""));
+    assert!(
+        out.starts_with("the box does not fit: 5.950 ms short; 2 dumps one after another take 16.950 ms, and"),
+        "{out}"
+    );
     for part in [
-        "time        = longest call + before the first byte + dumps · writing = 0.05 + 0.1 + 1 · 13.3 = 13.450 ms",
-        "= 973.0 µF",
+        "time        = longest call + before the first byte + dumps · writing = 0.05 + 0.1 + 1 · 14 = 14.150 ms",
+        "programs    = pages + the header's first 8 bytes by themselves = 19 + 1 = 20 programs",
+        "= 1.024 mF",
         "1 of 2 files fit in 11 ms",
-        "it needs 61 rows, and 49 would fit; 1 test falls silent in that window",
+        "it needs 61 rows, and 46 would fit; 1 test falls silent in that window",
         "entry node 4: close > high 60 bars before needs 61 rows; it answers no",
         "dump        = 256 + D · 8 · (7 + K) = 256 + 61 · 8 · (7 + 2) = 4,648 bytes",
     ] {
@@ -139,15 +143,15 @@ fn the_question_is_answered() {
     }
     let (status, out, _) = ysh(&[&asked[..], &supply, &["--have", "14ms", "--json"]].concat());
     let json: serde_json::Value = serde_json::from_str(&out).unwrap();
-    assert_eq!((status, &json["worst"]["file"], &json["worst"]["total_ms"]), (0, &deep.into(), &13.45.into()));
+    assert_eq!((status, &json["worst"]["file"], &json["worst"]["total_ms"]), (3, &deep.into(), &14.15.into()));
     assert_eq!(
-        (&json["files"][0]["fits"], &json["files"][0]["pages"], &json["files"][0]["rows"]),
-        (&true.into(), &19.into(), &61.into())
+        (&json["files"][0]["fits"], &json["files"][0]["programs"], &json["files"][0]["rows"]),
+        (&false.into(), &20.into(), &61.into())
     );
     let (_, out, _) = ysh(&[&asked[..], &["--dumps", "3", "--have", "14ms"]].concat());
-    assert!(out.contains("0.05 + 0.1 + 3 · 13.3 = 40.050 ms") && out.contains("(14 − 0.05 − 0.1) / 3"), "{out}");
+    assert!(out.contains("0.05 + 0.1 + 3 · 14 = 42.150 ms") && out.contains("(14 − 0.05 − 0.1) / 3"), "{out}");
     let (_, out, _) = ysh(&["holdup", folder.to_str().unwrap(), "--rate", "1MB/s"]);
-    assert!(out.contains("writing = dump / bytes a second = 4648 / 1,000,000 = 4.648 ms"), "{out}");
+    assert!(out.contains("writing = dump / bytes a second + commit = 4,648 / 1,000,000 + 0 = 4.648 ms"), "{out}");
 }
 
 #[test]
@@ -290,7 +294,7 @@ fn bad_arguments_get_one_line() {
             "'-1ms' for '--page-time <TIME>': a time from 0 up with its unit",
         ),
         (holdup(&["--page", "256", "--page-time", "0ms"]), "a time above 0 was expected"),
-        (holdup(&["--page", "256"]), "--page-time <TIME>"),
+        (holdup(&["--page", "256"]), "the flash: --page with --page-time, or --rate, was expected"),
         (holdup(&[]), "the flash: --page with --page-time, or --rate, was expected"),
         (holdup(&["--rate", "many"]), "bytes a second from 1 up were expected"),
         (holdup(&["--rate", "1MB/s", "--page", "256"]), "'--rate <BYTES/S>' cannot be used with"),
@@ -306,11 +310,16 @@ fn bad_arguments_get_one_line() {
             holdup(&[&flash[..], &["--power", "2W", "--drop-voltage", "5V", "--lowest-voltage", "5V"]].concat()),
             "--lowest-voltage: 5 V: less than the 5 V of --drop-voltage was expected",
         ),
-        (vec!["short", &file, "--rows", "many"], "'many' for '--rows <N>': a whole number from 0 up was expected"),
+        (
+            vec!["short", &file, "--rows", "many"],
+            "'many' for '--rows <N>': a whole number from 0 to 4,294,967,295 was expected",
+        ),
         (vec!["short", &file], "--rows <N>"),
         (vec!["compile", &file, "-o", "t", "--capital", "NaN"], "a finite number was expected"),
         (vec!["compile", &file, "-o", "t", "--lot", "-1"], "'-1' for '--lot <SIZE>': a finite number from 0 up"),
-        (vec!["frobnicate"], "'frobnicate'"),
+        (vec!["frobnicate"], "(`ysh --help` has what there is)"),
+        (vec!["holdup", &file, "--frob"], "(`ysh holdup --help` has what there is)"),
+        (vec!["dump", "cut", "x", "--frob"], "(`ysh dump cut --help` has what there is)"),
     ] {
         one_line(&arguments, 2, &[part]);
     }
@@ -347,13 +356,15 @@ fn help_and_notes() {
         "\"warmup\": 26",
         "\"warmup\": 26, \"risk\": {\"stop_los_pct\": 3}, \"execution\": {\"latency_bars\": 2}, \"short_entry\": {\"any\": []}",
     );
-    let (status, _, err) = ysh(&["depth", &put(&folder, "s.json", odd)]);
+    let file = put(&folder, "s.json", odd);
+    let (status, out, err) = ysh(&["depth", &file]);
     assert_eq!(status, 0);
-    for part in [
-        "note: risk.stop_los_pct: nothing reads this key",
-        "note: execution.latency_bars",
-        "note: short_exit: the short exit",
-    ] {
+    let first = format!("WARNING  {file}: risk.stop_los_pct: nothing reads this key, and it has no effect\n");
+    assert!(out.starts_with(&first), "{out}");
+    for command in [&["depth", &file[..], "--strict"][..], &["compile", &file, "-o", "/nowhere/t", "--strict"]] {
+        one_line(command, 2, &["risk.stop_los_pct: nothing reads this key", "(--strict)"]);
+    }
+    for part in ["note: execution.latency_bars", "note: short_exit: the short exit"] {
         assert!(err.contains(part), "{part:?} is not in {err}");
     }
 }

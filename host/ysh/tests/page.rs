@@ -79,7 +79,7 @@ fn printed_it_holds_everything() {
     for n in 0..60 {
         assert!(text.contains(&format!("client-{n:02}.json")), "client {n}");
     }
-    for part in ["256+D·8·(7+K)", "pages·timeapage", "Checkedby", "Signature", "NO"] {
+    for part in ["256+D·8·(7+K)", "programs·timeapage", "Checkedby", "Signature", "NO"] {
         assert!(text.contains(part), "{part}");
     }
 }

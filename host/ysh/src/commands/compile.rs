@@ -27,7 +27,7 @@ fn compiled(asked: &Compile) -> Result<Answer, Problem> {
         return Err(Problem::input(&file, "--output", "another file than the strategy itself was expected"));
     }
     let choices = Choices { order: asked.slots.as_deref(), absent_short_exit: asked.absent_short_exit };
-    let source = Source::of_strategy(&file, &text, choices)?;
+    let source = Source::of_strategy(&file, &text, choices)?.held_to(asked.strict)?;
     let strategy = source.strategy.as_ref().expect("it was read from a strategy");
     let warmup = warmup(strategy, asked.warmup).map_err(|fault| Problem::fault(&file, fault))?;
     let rules = Rules { table: source.table.clone(), names: source.names.clone(), paths: source.paths.clone() };
@@ -36,6 +36,7 @@ fn compiled(asked: &Compile) -> Result<Answer, Problem> {
     write(asked, strategy, &rules, &settings)?;
     let mut answer = report(&source, &source.size()?, &asked.output);
     answer.notes(&file, &source.notes);
+    answer.doubts(&file, &source.doubts);
     Ok(answer)
 }
 

@@ -61,6 +61,7 @@ fn take(asked: &Take) -> Result<Answer, Problem> {
     let mut answer = Answer::default();
     let seen = counted(engine.state().bars_seen(), "bar", "bars");
     answer.line(format!("{}: {} bytes, after {seen}", asked.output.display(), grouped(image.len() as u64)));
+    answer.doubts(&source.file, &source.doubts);
     answer.notes(&source.file, &notes);
     Ok(answer)
 }

@@ -17,7 +17,7 @@ fn page(command: &Command) -> String {
     let version = command.get_version().unwrap_or_default();
     page.control("TH", ["YSH", "1", "", &format!("ysh {version}"), "Yshturpa"]);
     page.control("SH", ["NAME"]);
-    page.text([roman("ysh \\- a host tool over the proved engine Yshturpa")]);
+    page.text([roman("ysh - a host tool over the proved engine Yshturpa")]);
     page.control("SH", ["SYNOPSIS"]);
     page.text([bold("ysh"), roman(" "), italic("COMMAND"), roman(" [OPTIONS]")]);
     page.control("SH", ["DESCRIPTION"]);

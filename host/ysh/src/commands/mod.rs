@@ -16,9 +16,18 @@ use crate::problem::Problem;
 #[derive(Debug, Default)]
 pub struct Answer {
     pub text: String,
+    /// Whether the text is for programs, and no line may be put before it.
+    pub document: bool,
+    /// What may make the answer another than was meant: the first lines of it.
+    pub doubts: Vec<String>,
     pub notes: Vec<String>,
     pub problems: Vec<Problem>,
+    /// Whether something does not fit.
+    pub unfit: bool,
 }
+
+/// The status where something does not fit in the time that is there.
+const UNFIT: u8 = 3;
 
 /// Lines for standard error, and the exit status.
 pub struct Said {
@@ -37,10 +46,22 @@ impl Answer {
         self.notes.extend(notes.iter().map(|note| format!("{file}: note: {note}")));
     }
 
+    /// What is doubtful of a file, with its name.
+    pub fn doubts(&mut self, file: &str, doubts: &[String]) {
+        self.doubts.extend(doubts.iter().map(|doubt| format!("WARNING  {file}: {doubt}")));
+    }
+
     pub fn into_parts(self) -> (String, Said) {
-        let status = self.problems.iter().map(Problem::status).max().unwrap_or(0);
-        let lines = self.notes.into_iter().chain(self.problems.iter().map(Problem::to_string)).collect();
-        (self.text, Said { lines, status })
+        let unfit = self.unfit.then_some(UNFIT);
+        let status = self.problems.iter().map(Problem::status).chain(unfit).max().unwrap_or(0);
+        let lines = self.notes.into_iter().chain(self.problems.iter().map(Problem::to_string));
+        match self.document {
+            true => (self.text, Said { lines: self.doubts.into_iter().chain(lines).collect(), status }),
+            false => {
+                let first: String = self.doubts.iter().map(|doubt| format!("{doubt}\n")).collect();
+                (first + &self.text, Said { lines: lines.collect(), status })
+            }
+        }
     }
 }
 

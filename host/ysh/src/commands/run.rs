@@ -33,7 +33,8 @@ pub fn written(outcome: Outcome, wanted: &Wanted) -> Result<Answer, Problem> {
         put(path, page::page(&outcome))?;
     }
     let text = if wanted.json { json::json(&outcome) } else { text::text(&outcome) };
-    let mut answer = Answer { text, ..Answer::default() };
+    let mut answer = Answer { text, document: wanted.json, ..Answer::default() };
+    answer.doubts(&outcome.file, &outcome.doubts);
     answer.notes(&outcome.file, &outcome.notes);
     answer.problems = outcome.refusals.told.iter().take(TOLD).cloned().collect();
     if outcome.refusals.count > TOLD as u64 {

@@ -5,7 +5,7 @@ use yshturpa::silent;
 
 use super::Answer;
 use crate::cli::Short;
-use crate::columns::counted;
+use crate::columns::{counted, grouped};
 use crate::files::files;
 use crate::problem::Problem;
 use crate::progress;
@@ -13,15 +13,16 @@ use crate::source::Source;
 use crate::table::{reach_of, Words};
 
 pub fn answer(asked: &Short) -> Answer {
-    let files = match files(&asked.files) {
-        Ok(files) => files,
+    let found = match files(&asked.files, asked.recursive) {
+        Ok(found) => found,
         Err(problem) => return problem.into(),
     };
-    let mut answer = Answer::default();
-    for found in progress::each(&files, |path| part(&Source::read(path, asked.lookback.lookback)?, asked.rows)) {
+    let mut answer = Answer { notes: found.left_out, ..Answer::default() };
+    for found in progress::each(&found.files, |path| part(&Source::read(path, &asked.reading)?, asked.rows)) {
         match found {
             Ok(part) => {
                 answer.text.push_str(&part.text);
+                answer.doubts.extend(part.doubts);
                 answer.notes.extend(part.notes);
             }
             Err(problem) => answer.problems.push(problem),
@@ -33,6 +34,7 @@ pub fn answer(asked: &Short) -> Answer {
 fn part(source: &Source, rows: u64) -> Result<Answer, Problem> {
     let mut answer = Answer::default();
     answer.notes(&source.file, &source.notes);
+    answer.doubts(&source.file, &source.doubts);
     let needed = source.size()?.rows;
     let tests = source.forest.nodes.iter().filter(|node| node.is_test()).count() as u64;
     let silent = silent_tests(source, rows)?;
@@ -40,7 +42,8 @@ fn part(source: &Source, rows: u64) -> Result<Answer, Problem> {
         0 => "no test falls silent".to_owned(),
         n => format!("{n} of {} {} silent", counted(tests, "test", "tests"), if n == 1 { "falls" } else { "fall" }),
     };
-    answer.line(format!("{}: over {} {head} (it needs {needed})", source.file, counted(rows, "row", "rows")));
+    let (over, needed) = (counted(rows, "row", "rows"), grouped(needed));
+    answer.line(format!("{}: over {over} {head} (it needs {needed})", source.file));
     for test in &silent {
         answer.line(format!("  {test}"));
     }
@@ -69,7 +72,10 @@ impl std::fmt::Display for Silent {
         write!(
             f,
             "{} node {}: {} needs {} rows; it answers no{turned}",
-            self.tree, self.node, self.test, self.needs_rows
+            self.tree,
+            self.node,
+            self.test,
+            grouped(self.needs_rows)
         )
     }
 }
@@ -101,7 +107,9 @@ pub fn volatility(source: &Source, rows: u64) -> Option<String> {
     let needed = lookback + 1;
     (lookback > 0 && rows < needed).then(|| {
         format!(
-            "sizing: a volatility lookback of {lookback} needs {needed} rows; a box refuses such settings (12 at 1)"
+            "sizing: a volatility lookback of {} needs {} rows; a box refuses such settings (12 at 1)",
+            grouped(lookback),
+            grouped(needed)
         )
     })
 }

@@ -14,12 +14,13 @@ use crate::table::{deepest, reach_of, reads, Node, Words};
 
 pub fn answer(asked: &Show) -> Answer {
     let shown = |source: Source| if asked.json { document(&source) } else { rules(&source) };
-    Source::read(&asked.file, asked.lookback.lookback).and_then(shown).unwrap_or_else(Answer::from)
+    Source::read(&asked.file, &asked.reading).and_then(shown).unwrap_or_else(Answer::from)
 }
 
 fn rules(source: &Source) -> Result<Answer, Problem> {
     let mut answer = Answer::default();
     answer.notes(&source.file, &source.notes);
+    answer.doubts(&source.file, &source.doubts);
     let refused = |refusal| source.refused(refusal);
     head(source, &mut answer)?;
     let forest = &source.forest;
@@ -127,7 +128,8 @@ fn read_back(source: &Source, reaches: &[u64], answer: &mut Answer) {
 
 /// The rules as a strategy document. A strategy keeps all else that it says, and a table has it from the settings beside it.
 fn document(source: &Source) -> Result<Answer, Problem> {
-    let mut answer = Answer::default();
+    let mut answer = Answer { document: true, ..Answer::default() };
+    answer.doubts(&source.file, &source.doubts);
     if let Some(node) = source.forest.nodes.iter().position(Node::is_extreme) {
         let text = "highest and lowest have no form in a strategy; a table of version 1 was expected";
         return Err(Problem::input(&source.file, format!("node {node}"), text));

@@ -34,6 +34,7 @@ fn answered(asked: &Why) -> Result<Answer, Problem> {
     let mut answer = Answer::default();
     head.iter().for_each(|line| answer.line(line));
     chains.iter().for_each(|(tree, lines)| told(&mut answer, &moment, *tree, lines));
+    answer.doubts(&moment.source.file, &moment.source.doubts);
     answer.notes(&moment.source.file, &notes);
     Ok(answer)
 }

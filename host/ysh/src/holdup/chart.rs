@@ -1,7 +1,7 @@
 //! The chart of files against the limit: a bar a file with its name where there are few, the files in order of their times where there
 //! are many.
 
-use super::report::{Filed, Report};
+use super::report::{Client, Report};
 use super::units::Time;
 use crate::columns::counted;
 use crate::svg::{Anchor, Svg, LETTER};
@@ -15,18 +15,18 @@ const ROW: f64 = 24.0;
 const TOP: f64 = 34.0;
 
 pub fn chart(report: &Report) -> String {
-    let mut files: Vec<&Filed> = report.files.iter().collect();
-    files.sort_by_key(|filed| std::cmp::Reverse(filed.total));
+    let mut files: Vec<&Client> = report.clients.iter().collect();
+    files.sort_by_key(|client| std::cmp::Reverse(client.alone));
     match files.len() {
         0 => String::new(),
-        1..=NAMED => bars(&files, report.plan.have),
-        _ => profile(&files, report.plan.have),
+        1..=NAMED => bars(&files, report.given.have),
+        _ => profile(&files, report.given.have),
     }
 }
 
 /// The longest time that the chart has to show, with some room above it.
-fn most(files: &[&Filed], have: Option<Time>) -> f64 {
-    files[0].total.max(have.unwrap_or_default()).ms().max(1e-6) * 1.06
+fn most(files: &[&Client], have: Option<Time>) -> f64 {
+    files[0].alone.max(have.unwrap_or_default()).ms().max(1e-6) * 1.06
 }
 
 /// Round numbers from 0 up, about six of them.
@@ -41,8 +41,8 @@ fn tick_text(tick: f64) -> String {
     crate::table::number((tick * 1e6).round() / 1e6)
 }
 
-fn class(filed: &Filed) -> &'static str {
-    match &filed.fit {
+fn class(client: &Client) -> &'static str {
+    match &client.fit {
         None => "plain",
         Some(fit) if fit.fits => "fits",
         Some(_) => "over",
@@ -50,25 +50,25 @@ fn class(filed: &Filed) -> &'static str {
 }
 
 /// Names on the left, times on the right, between them a bar a file, and the limit as an upright line.
-fn bars(files: &[&Filed], have: Option<Time>) -> String {
-    let longest = files.iter().map(|filed| filed.file.chars().count()).max().unwrap_or(0);
+fn bars(files: &[&Client], have: Option<Time>) -> String {
+    let longest = files.iter().map(|client| client.file.chars().count()).max().unwrap_or(0);
     let left = 24.0 + LETTER * longest.clamp(8, MOST_LETTERS) as f64;
-    let right = WIDTH - 40.0 - LETTER * files[0].total.up().len() as f64;
+    let right = WIDTH - 40.0 - LETTER * files[0].alone.up().len() as f64;
     let most = most(files, have);
     let x = |ms: f64| left + (right - left) * ms / most;
     let bottom = TOP + ROW * files.len() as f64 + 2.0;
-    let mut svg = Svg::new(WIDTH, bottom + 28.0, "Time of each file against the limit");
+    let mut svg = Svg::new(WIDTH, bottom + 28.0, "Time of each file alone against the limit");
     for tick in ticks(most) {
         svg.line("grid", (x(tick), TOP), (x(tick), bottom));
         svg.text("axis", (x(tick), bottom + 17.0), Anchor::Middle, &tick_text(tick));
     }
     svg.text("axis", (WIDTH - 6.0, bottom + 17.0), Anchor::End, "ms");
-    for (place, filed) in files.iter().enumerate() {
+    for (place, client) in files.iter().enumerate() {
         let y = TOP + ROW * place as f64;
-        let wide = (x(filed.total.ms()) - left).max(1.0);
-        svg.text("name", (left - 8.0, y + 16.0), Anchor::End, &shortened(&filed.file, MOST_LETTERS));
-        svg.bar(class(filed), (left, y + 4.0), (wide, ROW - 8.0), &filed.file);
-        svg.text("value", (WIDTH - 6.0, y + 16.0), Anchor::End, &filed.total.up());
+        let wide = (x(client.alone.ms()) - left).max(1.0);
+        svg.text("name", (left - 8.0, y + 16.0), Anchor::End, &shortened(&client.file, MOST_LETTERS));
+        svg.bar(class(client), (left, y + 4.0), (wide, ROW - 8.0), &client.file);
+        svg.text("value", (WIDTH - 6.0, y + 16.0), Anchor::End, &client.alone.up());
     }
     if let Some(have) = have {
         let at = x(have.ms());
@@ -79,24 +79,25 @@ fn bars(files: &[&Filed], have: Option<Time>) -> String {
 }
 
 /// The files side by side, the longest first, and the limit as a level line.
-fn profile(files: &[&Filed], have: Option<Time>) -> String {
+fn profile(files: &[&Client], have: Option<Time>) -> String {
     let most = most(files, have);
     let ticks = ticks(most);
     let widest = ticks.iter().map(|tick| tick_text(*tick).len()).max().unwrap_or(0);
     let (left, right, bottom) = (36.0 + LETTER * widest as f64, WIDTH - 16.0, 330.0);
     let y = |ms: f64| bottom - (bottom - TOP) * ms / most;
     let step = (right - left) / files.len() as f64;
-    let mut svg = Svg::new(WIDTH, bottom + 40.0, "Times of all files, the longest first, against the limit");
+    let mut svg =
+        Svg::new(WIDTH, bottom + 40.0, "Times of all files, each alone, the longest first, against the limit");
     for tick in ticks {
         svg.line("grid", (left, y(tick)), (right, y(tick)));
         svg.text("axis", (left - 6.0, y(tick) + 4.0), Anchor::End, &format!("{} ms", tick_text(tick)));
     }
-    for (place, filed) in files.iter().enumerate() {
-        let top = y(filed.total.ms());
-        let title = format!("{} {} ms", filed.file, filed.total.up());
-        svg.bar(&format!("{} thin", class(filed)), (left + step * place as f64, top), (step, bottom - top), &title);
+    for (place, client) in files.iter().enumerate() {
+        let top = y(client.alone.ms());
+        let title = format!("{} {} ms", client.file, client.alone.up());
+        svg.bar(&format!("{} thin", class(client)), (left + step * place as f64, top), (step, bottom - top), &title);
     }
-    let over = files.iter().filter(|filed| class(filed) == "over").count();
+    let over = files.iter().filter(|client| class(client) == "over").count();
     let all = format!("{}, the longest first", counted(files.len() as u64, "file", "files"));
     let under = have.map_or(all.clone(), |_| format!("{all}; {over} over the limit"));
     svg.text("axis", ((left + right) / 2.0, bottom + 24.0), Anchor::Middle, &under);

@@ -1,12 +1,15 @@
 //! The answer as a page of its own, to be printed and signed.
 
+use super::against::{Against, Change};
 use super::chart::chart;
-use super::flash::Flash;
 use super::formulas::{self, Formula};
-use super::plan::Plan;
-use super::report::{Filed, Report};
-use super::supply::farads;
-use super::text::{asked, room};
+use super::given::Given;
+use super::limits::limits;
+use super::plan::Flash;
+use super::report::{Client, Report};
+use super::sheet::{LIBRARY, VERSION};
+use super::text::{change_said, limits_said, needs};
+use super::told::{asked, capacitance, room, verdict, ASSUMED};
 use super::units::Time;
 use crate::columns::{counted, grouped};
 use crate::svg::escape;
@@ -15,17 +18,22 @@ const STYLE: &str = include_str!("../page.css");
 
 pub fn page(report: &Report) -> String {
     let parts = [
-        "<h1>How long the dump takes after the supply drops</h1>".to_owned(),
-        told(&report.plan),
-        missing(report),
+        "<h1>How long a box needs power after the supply drops</h1>".to_owned(),
         figures(report),
-        section("Files against the limit", &chart(report)),
-        section("Each file", &table(report)),
-        against(report),
+        doubts(report),
+        missing(report),
+        told(&report.given),
+        section("Each box", &boxes(report)),
+        section("Each client, alone in its box, against the limit", &chart(report)),
+        section("Each client", &table(report)),
+        alone(report),
+        report.against.as_ref().map_or(String::new(), |against| changes(report, against)),
+        limited(report),
         reckoned(report),
         notes(report),
+        section("What this stands on", &list(ASSUMED.iter().map(|line| (*line).to_owned()))),
+        section("What was read", &identity(report)),
         SIGNATURE.to_owned(),
-        footer(),
     ];
     format!(
         "<!doctype html>\n<html lang=\"en\">\n<head>\n<meta charset=\"utf-8\">\n\
@@ -35,11 +43,6 @@ pub fn page(report: &Report) -> String {
     )
 }
 
-fn told(plan: &Plan) -> String {
-    let line = |(what, said): &(&str, String)| format!("<p><b>{what}</b> {}</p>\n", escape(said));
-    format!("<div class=\"asked\">{}</div>", asked(plan).iter().map(line).collect::<String>())
-}
-
 fn section(title: &str, body: &str) -> String {
     match body.is_empty() {
         true => String::new(),
@@ -47,129 +50,187 @@ fn section(title: &str, body: &str) -> String {
     }
 }
 
-fn missing(report: &Report) -> String {
-    if report.problems.is_empty() {
-        return String::new();
+fn list(lines: impl Iterator<Item = String>) -> String {
+    let items: String = lines.map(|line| format!("<li>{}</li>", escape(&line))).collect();
+    if items.is_empty() {
+        items
+    } else {
+        format!("<ul>{items}</ul>")
     }
-    let lines = report.problems.iter().map(|problem| format!("<li>{}</li>", escape(&problem.to_string())));
-    let count = counted(report.problems.len() as u64, "file was", "files were");
-    format!(
-        "<div class=\"bad\"><b>{count} not answered</b>, and in none of these figures:<ul>{}</ul></div>",
-        lines.collect::<String>()
-    )
 }
 
-/// The figures to be remembered: the worst, the sum, the capacitances, how many fit.
+fn told(given: &Given) -> String {
+    let line = |(what, said): &(&str, String)| format!("<p><b>{what}</b> {}</p>\n", escape(said));
+    format!("<div class=\"asked\">{}</div>", asked(given).iter().map(line).collect::<String>())
+}
+
+/// The figures to be remembered: the verdict first, then what the longest box and the worst client need.
 fn figures(report: &Report) -> String {
-    let Some(worst) = report.worst() else {
+    let (Some(worst), Some(longest)) = (report.worst(), report.worst_box()) else {
         return "<p><b>No file was answered.</b></p>".to_owned();
-    };
-    let class = |time: Time| match report.plan.have {
-        None => "",
-        Some(have) if time <= have => " good",
-        Some(_) => " over",
     };
     let figure = |class: &str, big: &str, small: &str| {
         format!("<div class=\"figure{class}\"><b>{}</b><span>{}</span></div>", escape(big), escape(small))
     };
-    let mut all =
-        vec![figure(class(worst.total), &format!("{} ms", worst.total.up()), &format!("the worst: {}", worst.file))];
-    if let Some(supply) = &report.plan.supply {
-        all.push(figure("", &farads(supply.capacitance(worst.total)), "capacitance for the worst"));
+    let said = verdict(report);
+    let (big, small) = said.split_once([';', ':']).unwrap_or((&said, ""));
+    let class = match (report.given.have, report.short_boxes().is_empty(), report.problems.is_empty()) {
+        (None, _, _) => "",
+        (Some(_), true, true) => " good",
+        (Some(_), _, _) => " over",
+    };
+    let mut all = vec![figure(&format!("{class} first"), big.trim(), small.trim())];
+    if let Some(said) = capacitance(&report.given, longest.total) {
+        let (big, small) = said.split_once(" (").unwrap_or((&said, ""));
+        let small = format!("capacitance for the longest box; {}", small.trim_end_matches(')'));
+        all.push(figure("", big, &small));
     }
-    if let Some(have) = report.plan.have {
-        let big = format!("{} of {}", report.fitting(), report.files.len());
-        let all_fit = report.fitting() == report.files.len();
-        all.push(figure(if all_fit { " good" } else { " over" }, &big, &format!("files fit in {have} ms")));
+    if report.clients.len() > 1 {
+        let alone = format!("the worst client, alone in its box: {}", worst.file);
+        all.push(figure("", &format!("{} ms", worst.alone.up()), &alone));
     }
-    if report.files.len() > 1 {
-        let small = format!("the sum: one box that writes all {}", counted(report.files.len() as u64, "file", "files"));
-        all.push(figure("", &format!("{} ms", report.sum().up()), &small));
-        if let Some(supply) = &report.plan.supply {
-            all.push(figure("", &farads(supply.capacitance(report.sum())), "capacitance for the sum"));
-        }
+    if let Some(typical) = longest.typical {
+        all.push(figure("", &format!("{} ms", typical.up()), "the longest box, typically; the longest times decide"));
     }
-    let why = format!("<p class=\"why\">What makes the worst so: {}.</p>", escape(&worst.why));
+    let why = format!("<p class=\"why\">What makes the worst client so: {}.</p>", escape(&worst.why));
     format!("<div class=\"figures\">{}</div>\n{why}", all.concat())
 }
 
-fn table(report: &Report) -> String {
-    if report.files.is_empty() {
-        return String::new();
+/// What may make the answer another than was meant.
+fn doubts(report: &Report) -> String {
+    let doubts = report.clients.iter().flat_map(|c| c.doubts.iter().map(move |doubt| format!("{}: {doubt}", c.file)));
+    let list = list(doubts);
+    match list.is_empty() {
+        true => list,
+        false => format!("<div class=\"bad\"><b>To be looked at before this is signed</b>{list}</div>"),
     }
-    let pages = matches!(report.plan.flash, Flash::Pages { .. });
-    let mut heads = vec!["file", "D", "K", "window, bytes", "dump, bytes"];
-    heads.extend(pages.then_some("pages"));
-    heads.extend(["writing, ms", "time, ms"]);
-    heads.extend(report.plan.have.map(|_| "fits"));
-    let head: String = heads.iter().map(|head| format!("<th>{head}</th>")).collect();
-    let rows: String = report.files.iter().map(row).collect();
-    format!("<table><thead><tr>{head}</tr></thead><tbody>{rows}</tbody></table>")
 }
 
-fn row(filed: &Filed) -> String {
-    let size = &filed.size;
-    let mut cells =
-        vec![format!("<td>{}<br><span class=\"why\">{}</span></td>", escape(&filed.file), escape(&filed.why))];
-    let plain = |text: String| format!("<td>{text}</td>");
-    cells.extend([size.rows, size.slots, size.window, size.dump].map(|n| plain(grouped(n))));
-    cells.extend(filed.written.pages.map(|n| plain(grouped(n))));
-    cells.extend([filed.written.time, filed.total].map(|time| plain(time.up())));
-    cells.extend(filed.fit.as_ref().map(|fit| match fit.fits {
-        true => plain("yes".to_owned()),
+fn missing(report: &Report) -> String {
+    if report.problems.is_empty() {
+        return String::new();
+    }
+    let lines = list(report.problems.iter().map(ToString::to_string));
+    let count = counted(report.problems.len() as u64, "file was", "files were");
+    format!("<div class=\"bad\"><b>{count} not answered</b>, and in none of these figures:{lines}</div>")
+}
+
+/// A table: heads, and rows of cells that are marked up already.
+fn table_of(heads: &[&str], rows: impl Iterator<Item = String>) -> String {
+    let head: String = heads.iter().map(|head| format!("<th>{head}</th>")).collect();
+    format!("<table><thead><tr>{head}</tr></thead><tbody>{}</tbody></table>", rows.collect::<String>())
+}
+
+fn plain(text: &str) -> String {
+    format!("<td>{}</td>", escape(text))
+}
+
+fn boxes(report: &Report) -> String {
+    if !report.named() {
+        return String::new();
+    }
+    let pages = matches!(report.given.plan.flash, Flash::Pages { .. });
+    let mut heads = vec!["box", "dumps"];
+    heads.extend(pages.then_some("programs"));
+    heads.extend(["time, ms", ""]);
+    let rows = report.boxes.iter().map(|one| {
+        let mut cells = vec![plain(&one.name), plain(&grouped(one.dumps()))];
+        cells.extend(one.programs.map(|n| plain(&grouped(n))));
+        cells.push(plain(&one.total.up()));
+        let said = report.given.have.map_or(String::new(), |have| one.verdict(have).to_string());
+        let class = if said.starts_with("fits") || said.is_empty() { "" } else { " class=\"no\"" };
+        cells.push(format!("<td{class}>{said}</td>"));
+        format!("<tr>{}</tr>\n", cells.concat())
+    });
+    table_of(&heads, rows)
+}
+
+fn table(report: &Report) -> String {
+    if report.clients.is_empty() {
+        return String::new();
+    }
+    let pages = matches!(report.given.plan.flash, Flash::Pages { .. });
+    let mut heads = vec!["file", "D", "K", "window, bytes", "dump, bytes"];
+    heads.extend(pages.then_some("programs"));
+    heads.extend(["writing, ms", "alone, ms"]);
+    heads.extend(report.given.have.map(|_| "alone"));
+    table_of(&heads, report.clients.iter().map(row))
+}
+
+fn row(client: &Client) -> String {
+    let size = &client.size;
+    let mark = match client.unknown_sizing {
+        true => "<br><span class=\"doubt\">its sizing is not known: D may be too small</span>",
+        false => "",
+    };
+    let why = escape(&client.why);
+    let mut cells = vec![format!("<td>{}<br><span class=\"why\">{why}</span>{mark}</td>", escape(&client.file))];
+    cells.extend([size.rows, size.slots, size.window, size.dump].map(|n| plain(&grouped(n))));
+    cells.extend(client.written.programs.map(|programs| plain(&grouped(programs.all()))));
+    cells.extend([client.written.time, client.alone].map(|time| plain(&time.up())));
+    cells.extend(client.fit.as_ref().map(|fit| match fit.fits {
+        true => plain("yes"),
         false => "<td class=\"no\">NO</td>".to_owned(),
     }));
     format!("<tr>{}</tr>\n", cells.concat())
 }
 
-/// What would fall silent where a file does not fit.
-fn against(report: &Report) -> String {
-    let Some(have) = report.plan.have else {
+/// What would fall silent where a client does not fit by itself.
+fn alone(report: &Report) -> String {
+    let Some(have) = report.given.have else {
         return String::new();
     };
     let mut body = String::new();
-    for (filed, fit) in report.lacking() {
-        body.push_str(&format!("<p><b>{}</b>: {}.</p>\n", escape(&filed.file), escape(&room(filed, fit))));
-        let tests = fit.silent.iter().map(|test| test.to_string()).chain(fit.volatility.clone());
-        let list: String = tests.map(|test| format!("<li>{}</li>", escape(&test))).collect();
-        if !list.is_empty() {
-            body.push_str(&format!("<ul>{list}</ul>\n"));
-        }
+    for (client, fit) in report.lacking() {
+        body.push_str(&format!("<p><b>{}</b>: {}.</p>\n", escape(&client.file), escape(&room(client, fit))));
+        body.push_str(&list(fit.silent.iter().map(ToString::to_string).chain(fit.volatility.clone())));
     }
-    match body.is_empty() {
-        true if report.files.is_empty() => body,
-        true => section(&format!("In {have} ms"), "<p>Every file fits. No test falls silent.</p>"),
-        false => section(&format!("What would fall silent in {have} ms"), &body),
-    }
+    section(&format!("What would fall silent in {have} ms, each client alone in its box"), &body)
+}
+
+fn changes(report: &Report, against: &Against) -> String {
+    let [more, new, gone] = against.counts();
+    let now = report.boxes.first().map_or(Time(0), |one| one.total);
+    let (before, now) = (against.before.up(), now.up());
+    let lead = format!(
+        "<p class=\"lead\">Before {before} ms, now {now} ms: {} more, {new} new, {gone} gone.</p>",
+        needs(more)
+    );
+    let row = |change: &Change| {
+        let rows = |brief: &Option<super::against::Brief>| brief.map_or("-".to_owned(), |brief| grouped(brief.rows));
+        let time = |brief: &Option<super::against::Brief>| brief.map_or("-".to_owned(), |brief| brief.writing.up());
+        let (before, now) = (&change.before, &change.now);
+        let cells = [rows(before), rows(now), time(before), time(now), change_said(change)].map(|text| plain(&text));
+        format!("<tr>{}{}</tr>\n", plain(&change.client), cells.concat())
+    };
+    let heads = ["client", "D before", "D now", "writing before, ms", "writing now, ms", ""];
+    section("Before and now", &(lead + &table_of(&heads, against.changes.iter().map(row))))
+}
+
+fn limited(report: &Report) -> String {
+    let Some((limits, have)) = limits(&report.given).zip(report.given.have) else {
+        return String::new();
+    };
+    let cell = |(slots, rows): &(u64, u64)| format!("<span><i>K {slots}</i> {}</span>", counted(*rows, "row", "rows"));
+    let cells: String = limits.iter().map(cell).collect();
+    let lead = format!("<p class=\"lead\">{}:</p>", escape(&limits_said(report, have)));
+    section("Limits for clients", &format!("{lead}<div class=\"limits\">{cells}</div>"))
 }
 
 fn reckoned(report: &Report) -> String {
     let Some(worst) = report.worst() else {
         return String::new();
     };
-    let plan = &report.plan;
-    let title = format!(
-        "<p class=\"lead\">For {}. Times are in milliseconds, and rounded up where they have more than three places.</p>",
-        escape(&worst.file)
-    );
-    let mut body = title + &formula_table(&formulas::of_file(plan, worst));
-    if let Some(have) = plan.have {
-        body.push_str(&format!(
-            "<p class=\"lead\">How deep a window of its {} fits in {have} ms:</p>",
-            counted(worst.size.slots, "slot", "slots")
-        ));
-        body.push_str(&formula_table(&formulas::of_fit(plan, have, worst)));
-    }
-    if report.files.len() > 1 {
-        body.push_str("<p class=\"lead\">One box that writes every file:</p>");
-        body.push_str(&formula_table(&formulas::of_sum(report)));
-    }
+    let part = |(title, formulas): &(String, Vec<Formula>)| {
+        format!("<p class=\"lead\">{}:</p>{}", escape(title), formula_table(formulas))
+    };
+    let body: String = formulas::sections(report, worst).iter().map(part).collect();
     section("How it is reckoned", &body)
 }
 
 fn formula_table(formulas: &[Formula]) -> String {
     let row = |f: &Formula| {
-        let cells = [f.name, &f.formula, &f.numbers, &f.result].map(|text| format!("<td>{}</td>", escape(text)));
+        let cells = [f.name, &f.formula, &f.numbers, &f.result].map(plain);
         format!("<tr>{}</tr>", cells.concat())
     };
     let rows: String = formulas.iter().map(row).collect();
@@ -177,18 +238,26 @@ fn formula_table(formulas: &[Formula]) -> String {
 }
 
 fn notes(report: &Report) -> String {
-    let notes = report.files.iter().flat_map(|filed| filed.notes.iter().map(move |note| (&filed.file, note)));
-    let list: String = notes.map(|(file, note)| format!("<li>{}: {}</li>", escape(file), escape(note))).collect();
-    section("Notes", &if list.is_empty() { list } else { format!("<ul>{list}</ul>") })
+    let notes = report.clients.iter().flat_map(|c| c.notes.iter().map(move |note| format!("{}: {note}", c.file)));
+    section("Notes", &list(report.left_out.iter().cloned().chain(notes)))
+}
+
+/// What the sheet is found again by.
+fn identity(report: &Report) -> String {
+    let sheet = &report.sheet;
+    let mut lines = vec![
+        ("command", sheet.command.clone()),
+        ("date", sheet.date.clone()),
+        ("program", format!("ysh {VERSION}")),
+        ("library", format!("libcapi.a, SHA-256 {LIBRARY}")),
+    ];
+    lines.retain(|(_, said)| !said.is_empty());
+    let line = |(what, said): &(&str, String)| format!("<p><b>{what}</b> <code>{}</code></p>\n", escape(said));
+    let told = format!("<div class=\"asked\">{}</div>", lines.iter().map(line).collect::<String>());
+    let rows = report.clients.iter().flat_map(|client| &client.digests);
+    let rows =
+        rows.map(|(file, hash)| format!("<tr>{}<td class=\"left\"><code>{hash}</code></td></tr>\n", plain(file)));
+    told + &table_of(&["file", "SHA-256"], rows).replace("<table>", "<table class=\"digests\">")
 }
 
 const SIGNATURE: &str = "<div class=\"sign\"><div>Checked by</div><div>Date</div><div>Signature</div></div>";
-
-fn footer() -> String {
-    format!(
-        "<footer><p>D is how many rows a box has to keep so that its rules answer as over all bars there ever were: proved, \
-         and answered by the library. K is the slots of a row. What power, flash and capacitor do is as it was told, and not proved. \
-         Written by ysh {}.</p></footer>",
-        env!("CARGO_PKG_VERSION")
-    )
-}

@@ -1,63 +1,117 @@
-//! What was asked: the flash, the times before it, the supply, and the time that is there.
+//! The plan of programs: how a dump goes into the flash, as docs/FLASH.md tells the driver to write it. Whatever is counted, timed or
+//! shown of programs is from here.
+//!
+//! Every page of the image is programmed once, and what makes it an image goes last ([`Commit`]). A dump begins on a page of its own.
 
-use super::asked::Holdup;
-use super::flash::Flash;
-use super::supply::Supply;
-use super::units::Time;
-use crate::problem::Problem;
+use clap::ValueEnum;
 
-#[derive(Clone, Copy, Debug, PartialEq)]
+use super::units::{Time, PICOS_A_SECOND};
+
+/// What is programmed last: until it stands in the flash, a restore refuses the image.
+#[derive(Clone, Copy, Debug, Default, PartialEq, Eq, ValueEnum)]
+pub enum Commit {
+    /// The header's first 8 bytes (mark, K, version, D), left erased until then, in a program of their own
+    #[default]
+    Mark,
+    /// The page that holds the mark, whole: for parts that detect or exclude a torn page
+    Page,
+    /// A unit of the driver's own behind the image: for program units above 8 bytes
+    Seal,
+}
+
+impl Commit {
+    /// Programs beside those of the image's pages.
+    fn programs(self) -> u64 {
+        match self {
+            Commit::Mark | Commit::Seal => 1,
+            Commit::Page => 0,
+        }
+    }
+}
+
+/// What a data sheet says of the part.
+#[derive(Clone, Copy, Debug, PartialEq, Eq)]
+pub enum Flash {
+    /// Bytes of a page, the time that a program of one takes, and how many programs of a dump may have to be repeated.
+    Pages { size: u64, time: Time, repeats: u64 },
+    /// Bytes a second.
+    Rate(u64),
+}
+
+/// How one dump is written.
+#[derive(Clone, Copy, Debug, PartialEq, Eq)]
 pub struct Plan {
     pub flash: Flash,
-    /// Before the first byte.
-    pub before: Time,
-    /// The longest call, which has to end first.
-    pub call: Time,
-    /// Dumps one after another.
-    pub dumps: u64,
-    pub supply: Option<Supply>,
-    pub have: Option<Time>,
+    pub commit: Commit,
+    /// The time of the commit's own program; left out, that of a page, and none where there are no pages.
+    pub commit_time: Option<Time>,
+    /// Erasing the area of a dump after the supply fell; none where it was erased ahead.
+    pub erase: Time,
+}
+
+/// The programs of one dump, those that are repeated not among them.
+#[derive(Clone, Copy, Debug, PartialEq, Eq)]
+pub struct Programs {
+    pub pages: u64,
+    pub commit: u64,
+}
+
+impl Programs {
+    pub fn all(self) -> u64 {
+        self.pages + self.commit
+    }
+}
+
+/// One dump, written: its programs, where there are pages, and how long it takes.
+#[derive(Clone, Copy, Debug, PartialEq, Eq)]
+pub struct Written {
+    pub programs: Option<Programs>,
+    pub time: Time,
 }
 
 impl Plan {
-    pub fn of(asked: &Holdup) -> Result<Plan, Problem> {
-        let flash = match (asked.flash.page, asked.flash.page_time, asked.flash.rate) {
-            (Some(size), Some(time), _) => Flash::Pages { size, time },
-            (_, _, Some(rate)) => Flash::Rate(rate),
-            _ => {
-                let text = "--page with --page-time, or --rate, was expected";
-                return Err(Problem::input("the flash", "", text));
+    pub fn write(&self, bytes: u64) -> Written {
+        let (programs, image) = match self.flash {
+            Flash::Pages { size, time, .. } => {
+                let programs = Programs { pages: bytes.div_ceil(size), commit: self.commit.programs() };
+                (Some(programs), time * programs.pages)
+            }
+            Flash::Rate(rate) => {
+                let (bytes, rate) = (u128::from(bytes), u128::from(rate));
+                (None, Time((bytes * PICOS_A_SECOND).div_ceil(rate)))
             }
         };
-        let supply = &asked.supply;
-        let supply = match (supply.power, supply.drop_voltage, supply.lowest_voltage) {
-            (Some(power), Some(drop), Some(lowest)) => {
-                Some(Supply { power, drop, lowest, tolerance: supply.tolerance, age: supply.age })
-            }
-            _ => None,
+        Written { programs, time: image + self.beside() }
+    }
+
+    /// The most bytes of an image that can be written in a time.
+    pub fn most(&self, time: Time) -> u64 {
+        let left = time.less(self.beside());
+        let bytes = match self.flash {
+            Flash::Pages { size, time: page, .. } => left.0 / page.0 * u128::from(size),
+            Flash::Rate(rate) => left.0 * u128::from(rate) / PICOS_A_SECOND,
         };
-        if let Some(Supply { drop, lowest, .. }) = supply.filter(|supply| supply.drop <= supply.lowest) {
-            let text = format!("{lowest} V: less than the {drop} V of --drop-voltage was expected");
-            return Err(Problem::input("--lowest-voltage", "", text));
+        u64::try_from(bytes).unwrap_or(u64::MAX)
+    }
+
+    /// What a dump takes beside the image's own pages or bytes: erasing, programs that are repeated, the commit.
+    pub fn beside(&self) -> Time {
+        self.erase + self.repeating() + self.committing()
+    }
+
+    pub fn committing(&self) -> Time {
+        match (self.commit, self.flash) {
+            (Commit::Page, _) => Time(0),
+            (_, Flash::Pages { time, .. }) => self.commit_time.unwrap_or(time),
+            (_, Flash::Rate(_)) => self.commit_time.unwrap_or_default(),
         }
-        let before = asked.flash.before;
-        let call = asked.flash.call;
-        Ok(Plan { flash, before, call, dumps: asked.flash.dumps, supply, have: asked.wanted.have })
     }
 
-    /// How long a box needs power that writes these dumps: the longest call, the time before the first byte, the writing.
-    pub fn total(&self, writing: Time) -> Time {
-        self.call + self.before + writing
-    }
-
-    /// The rows of the deepest window of so many slots whose dumps fit in a time.
-    pub fn rows_within(&self, have: Time, slots: u64) -> u64 {
-        let share = Time(have.less(self.call).less(self.before).0 / u128::from(self.dumps));
-        let most = yshturpa::layout::MOST_DEPTH as u64;
-        let bytes = self.flash.most(share);
-        let one = yshturpa::dump_bytes(1, slots);
-        let row = yshturpa::dump_bytes(2, slots) - one;
-        (bytes.saturating_sub(one - row) / row).min(most)
+    pub fn repeating(&self) -> Time {
+        match self.flash {
+            Flash::Pages { time, repeats, .. } => time * repeats,
+            Flash::Rate(_) => Time(0),
+        }
     }
 }
 
@@ -65,23 +119,53 @@ impl Plan {
 mod tests {
     use super::*;
 
-    /// A window fits just where it has no more rows than fit.
+    const MS: u128 = 1_000_000_000;
+
+    fn pages(size: u64, time: Time, commit: Commit) -> Plan {
+        Plan { flash: Flash::Pages { size, time, repeats: 0 }, commit, commit_time: None, erase: Time(0) }
+    }
+
+    /// README's client: 4,648 bytes in pages of 256.
     #[test]
-    fn what_fits_and_how_deep_agree() {
-        for flash in [
-            Flash::Pages { size: 256, time: Time(7) },
-            Flash::Pages { size: 4096, time: Time(90) },
-            Flash::Rate(1 << 40),
-        ] {
-            for (dumps, slots) in [(1, 0), (1, 64), (3, 2), (7, 5)] {
-                let plan = Plan { flash, before: Time(3), call: Time(5), dumps, supply: None, have: None };
-                for have in (0..4000).step_by(13).map(Time) {
-                    let most = plan.rows_within(have, slots);
-                    for rows in [1, 2, 3, 10, most.max(1), most + 1] {
-                        let writing = flash.write(yshturpa::dump_bytes(rows, slots)).time * dumps;
-                        assert_eq!(plan.total(writing) <= have, rows <= most, "{plan:?} {have:?} {rows}");
-                    }
-                }
+    fn the_commit_is_a_program_of_its_own() {
+        let counted = |commit| pages(256, Time(1), commit).write(4648).programs.unwrap().all();
+        assert_eq!([Commit::Mark, Commit::Page, Commit::Seal].map(counted), [20, 19, 20]);
+    }
+
+    #[test]
+    fn a_page_is_written_whole() {
+        let plan = pages(256, Time(2 * MS), Commit::Mark);
+        assert_eq!(plan.write(256).time, Time(4 * MS));
+        assert_eq!(plan.write(257).time, Time(6 * MS));
+        assert_eq!([1, 3, 4, 7].map(|ms| plan.most(Time(ms * MS))), [0, 0, 256, 512]);
+    }
+
+    /// 3 pages of 2 ms, one of them twice, a commit of 0.5 ms, 10 ms to erase.
+    #[test]
+    fn what_is_beside_the_pages() {
+        let flash = Flash::Pages { size: 256, time: Time(2 * MS), repeats: 1 };
+        let plan = Plan { flash, commit: Commit::Mark, commit_time: Some(Time(MS / 2)), erase: Time(10 * MS) };
+        assert_eq!(plan.write(600).time, Time(18 * MS + MS / 2));
+        assert_eq!((plan.most(Time(18 * MS)), plan.most(Time(18 * MS + MS / 2))), (512, 768));
+        let whole = Plan { commit: Commit::Page, ..plan };
+        assert_eq!(whole.write(600).time, Time(18 * MS));
+    }
+
+    #[test]
+    fn what_fits_is_the_most_that_fits() {
+        let rate =
+            |rate, commit_time| Plan { flash: Flash::Rate(rate), commit_time, ..pages(1, Time(1), Commit::Mark) };
+        let plans = [
+            pages(100, Time(7), Commit::Mark),
+            pages(100, Time(7), Commit::Page),
+            rate(3_000_000_000, None),
+            rate(7, Some(Time(5))),
+        ];
+        for plan in plans {
+            for time in [0, 1, 6, 7, 8, 700, 12_345].map(Time) {
+                let most = plan.most(time);
+                assert!(most == 0 || plan.write(most).time <= time);
+                assert!(plan.write(most + 1).time > time);
             }
         }
     }

@@ -1,9 +1,14 @@
-//! The answer: each file by itself, the worst, the sum, and what fits.
+//! The answer: each client by itself, the boxes that hold them, and what fits.
+
+use std::path::{Path, PathBuf};
 
 use yshturpa::Refusal;
 
-use super::flash::Written;
-use super::plan::Plan;
+use super::against::Against;
+use super::boxes::{Boxed, Verdict};
+use super::given::Given;
+use super::plan::Written;
+use super::sheet::Sheet;
 use super::units::Time;
 use crate::commands::depth::why;
 use crate::commands::short::{silent_tests, volatility, Silent};
@@ -12,17 +17,27 @@ use crate::source::{Size, Source};
 
 /// One file: what its dump is and takes, and what a time that is there makes of it.
 #[derive(Clone, Debug)]
-pub struct Filed {
+pub struct Client {
     pub file: String,
+    pub path: PathBuf,
+    pub doubts: Vec<String>,
     pub notes: Vec<String>,
+    /// The rules, and whether they came as a table.
+    pub table: Vec<u8>,
+    pub is_table: bool,
+    /// A table whose sizing nobody told: its D may be too small.
+    pub unknown_sizing: bool,
+    /// Each file that was read for it, and its SHA-256.
+    pub digests: Vec<(String, String)>,
     pub size: Size,
     /// How far back its rules reach, and the lookback of a volatility target, 0 where there is none.
     pub reach: u64,
     pub lookback: u64,
     pub why: String,
-    /// One dump, and the box's whole time with as many such dumps as it writes.
+    /// One dump; how long it takes typically, where the longest time decides; and the whole time of a box that has this client alone.
     pub written: Written,
-    pub total: Time,
+    pub typical: Option<Time>,
+    pub alone: Time,
     pub fit: Option<Fit>,
 }
 
@@ -38,36 +53,47 @@ pub struct Fit {
 
 /// The whole answer.
 pub struct Report {
-    pub plan: Plan,
-    pub files: Vec<Filed>,
+    pub given: Given,
+    pub clients: Vec<Client>,
+    pub boxes: Vec<Boxed>,
     pub problems: Vec<Problem>,
+    /// What folders left out, and what was counted once or twice.
+    pub left_out: Vec<String>,
+    pub against: Option<Against>,
+    pub sheet: Sheet,
 }
 
-impl Filed {
-    pub fn of(source: &Source, plan: &Plan) -> Result<Filed, Problem> {
+impl Client {
+    pub fn of(path: &Path, source: Source, given: &Given) -> Result<Client, Problem> {
         let refused = |refusal: Refusal| source.refused(refusal);
         let size = source.size()?;
-        let written = plan.flash.write(size.dump);
-        let total = plan.total(written.time * plan.dumps);
-        let fit = plan.have.map(|have| Fit::of(source, plan, have, total)).transpose()?;
-        Ok(Filed {
-            file: source.file.clone(),
-            notes: source.notes.clone(),
+        let written = given.plan.write(size.dump);
+        let alone = given.total(written.time * given.copies());
+        Ok(Client {
+            path: path.to_owned(),
+            is_table: source.strategy.is_none(),
+            unknown_sizing: source.unknown_sizing(),
             size,
             reach: yshturpa::check(&source.table).map_err(refused)?.rows - 1,
             lookback: source.lookback,
-            why: why(source).map_err(refused)?,
+            why: why(&source).map_err(refused)?,
             written,
-            total,
-            fit,
+            typical: given.typical_plan().map(|plan| plan.write(size.dump).time),
+            alone,
+            fit: given.have.map(|have| Fit::of(&source, given, have, alone)).transpose()?,
+            file: source.file,
+            doubts: source.doubts,
+            notes: source.notes,
+            table: source.table,
+            digests: source.digests,
         })
     }
 }
 
 impl Fit {
-    fn of(source: &Source, plan: &Plan, have: Time, total: Time) -> Result<Fit, Problem> {
-        let rows = plan.rows_within(have, source.forest.slots as u64);
-        let fits = total <= have;
+    fn of(source: &Source, given: &Given, have: Time, alone: Time) -> Result<Fit, Problem> {
+        let rows = given.rows_within(have, source.forest.slots as u64);
+        let fits = alone <= have;
         let silent = if fits || rows == 0 { Vec::new() } else { silent_tests(source, rows)? };
         let volatility = if fits || rows == 0 { None } else { volatility(source, rows) };
         Ok(Fit { fits, rows, silent, volatility })
@@ -75,22 +101,37 @@ impl Fit {
 }
 
 impl Report {
-    /// The file that takes longest; of several the first.
-    pub fn worst(&self) -> Option<&Filed> {
-        self.files.iter().rev().max_by_key(|filed| filed.total)
+    /// The client that takes longest by itself; of several the first.
+    pub fn worst(&self) -> Option<&Client> {
+        self.clients.iter().rev().max_by_key(|client| client.alone)
     }
 
-    /// One box that writes a dump of every file, one after another.
-    pub fn sum(&self) -> Time {
-        self.plan.total(self.files.iter().map(|filed| filed.written.time).sum())
+    /// The box that takes longest; of several the first.
+    pub fn worst_box(&self) -> Option<&Boxed> {
+        self.boxes.iter().rev().max_by_key(|one| one.total)
     }
 
-    /// Where a time is there: how many files fit in it.
+    pub fn clients_of(&self, one: &Boxed) -> &[Client] {
+        &self.clients[one.clients.clone()]
+    }
+
+    /// The boxes that do not fit in the time that is there.
+    pub fn short_boxes(&self) -> Vec<&Boxed> {
+        let short = |one: &&Boxed| self.given.have.is_some_and(|have| matches!(one.verdict(have), Verdict::Short(_)));
+        self.boxes.iter().filter(short).collect()
+    }
+
+    /// Where a time is there: how many clients fit in it, each by itself.
     pub fn fitting(&self) -> usize {
-        self.files.iter().filter(|filed| filed.fit.as_ref().map_or(true, |fit| fit.fits)).count()
+        self.clients.iter().filter(|client| client.fit.as_ref().map_or(true, |fit| fit.fits)).count()
     }
 
-    pub fn lacking(&self) -> impl Iterator<Item = (&Filed, &Fit)> {
-        self.files.iter().filter_map(|filed| Some((filed, filed.fit.as_ref().filter(|fit| !fit.fits)?)))
+    pub fn lacking(&self) -> impl Iterator<Item = (&Client, &Fit)> {
+        self.clients.iter().filter_map(|client| Some((client, client.fit.as_ref().filter(|fit| !fit.fits)?)))
+    }
+
+    /// Whether the boxes have names: they were told one by one.
+    pub fn named(&self) -> bool {
+        self.given.dumps.is_none() && self.boxes.iter().any(|one| !one.name.is_empty())
     }
 }

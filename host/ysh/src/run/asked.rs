@@ -33,6 +33,9 @@ pub struct Over {
     /// What a bar that the engine refuses does to the run
     #[arg(long, value_name = "WHAT", value_enum, default_value = "stop")]
     pub on_refusal: OnRefusal,
+    /// A key of a strategy that nothing reads is an error
+    #[arg(long)]
+    pub strict: bool,
     #[command(flatten)]
     pub given: Given,
 }
@@ -44,7 +47,7 @@ pub struct Given {
     /// Bars on which nothing is decided, where the strategy leaves that to its indicators
     #[arg(long, value_name = "BARS", value_parser = parse_count, allow_hyphen_values = true)]
     pub warmup: Option<u64>,
-    /// The cash at the start; 10000 where left out
+    /// The cash at the start; 10,000 where left out
     #[arg(long, value_name = "MONEY", value_parser = parse_money, allow_hyphen_values = true)]
     pub capital: Option<f64>,
     /// A quantity is a whole number of lots of this size, rounded down; any quantity where left out

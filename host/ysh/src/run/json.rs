@@ -36,6 +36,7 @@ struct Document<'a> {
     /// The first of them.
     refused: Vec<RefusedJson>,
     columns_not_read: &'a [String],
+    doubts: &'a [String],
     notes: &'a [String],
 }
 
@@ -85,6 +86,7 @@ pub fn json(outcome: &Outcome) -> String {
         refused_bars: outcome.refusals.count,
         refused: outcome.refusals.told.iter().map(refused).collect(),
         columns_not_read: &outcome.unread,
+        doubts: &outcome.doubts,
         notes: &outcome.notes,
     };
     serde_json::to_string(&document).expect("an answer is JSON") + "\n"

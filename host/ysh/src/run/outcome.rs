@@ -21,6 +21,8 @@ pub struct Outcome {
     pub fees: f64,
     pub refusals: Refusals,
     pub unread: Vec<String>,
+    /// What may make the answer another than was meant.
+    pub doubts: Vec<String>,
     pub notes: Vec<String>,
 }
 
@@ -56,7 +58,7 @@ impl Outcome {
         let metrics = engine.finish().map_err(|refusal| source.refused(refusal))?;
         let title = source.strategy.as_ref().map(|s| format!("{} {}", s.symbol, s.timeframe)).unwrap_or_default();
         Ok(Outcome {
-            file: source.file.clone(),
+            file: source.file,
             bars_file: bars.name.clone(),
             title: title.trim().to_owned(),
             capital: settings.capital,
@@ -67,6 +69,7 @@ impl Outcome {
             fees: engine.state().fees_paid(),
             refusals: walked.refusals,
             unread: bars.columns.unread().into_iter().map(str::to_owned).collect(),
+            doubts: source.doubts,
             notes,
         })
     }

@@ -4,6 +4,7 @@ use yshturpa::{Engine, Settings};
 
 use super::asked::{Given, Over};
 use crate::bars::BarsFile;
+use crate::cli::Reading;
 use crate::compile::{self, Choices, Rules};
 use crate::decompile::slot_names;
 use crate::problem::Problem;
@@ -42,7 +43,8 @@ impl Ready {
 /// What a FILE says, and the settings that a run of it has.
 pub fn source_and_settings(over: &Over) -> Result<(Source, Settings), Problem> {
     let choices = Choices { order: None, absent_short_exit: over.given.absent_short_exit };
-    let source = Source::read_with(&over.file, None, choices)?;
+    let reading = Reading { lookback: None, strict: over.strict };
+    let source = Source::read_with(&over.file, &reading, choices)?;
     let settings = match (&source.strategy, &source.settings) {
         (Some(strategy), _) => of_strategy(&source, strategy, &over.given)?,
         (None, Some(beside)) => of_table(&source, beside, over)?,

@@ -8,7 +8,7 @@ mod read;
 pub mod spec;
 mod validate;
 
-pub use read::{read, Read};
+pub use read::{in_words, read, Read};
 pub use spec::Strategy;
 pub use validate::validate;
 

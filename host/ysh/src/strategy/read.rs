@@ -41,11 +41,32 @@ fn fault(text: &str, error: &serde_json::Error) -> Fault {
         said => said,
     };
     if let Some(path) = tagged(text, said) {
-        return Fault::new(path, said);
+        return Fault::new(path, in_words(said));
     }
     let path = path_at(text, line, column);
     let place = format!("line {line} column {column}");
-    Fault::new(if path.is_empty() { place } else { format!("{place}, {path}") }, said)
+    Fault::new(if path.is_empty() { place } else { format!("{place}, {path}") }, in_words(said))
+}
+
+/// What is expected, in words and not as a type of the language.
+pub fn in_words(said: &str) -> String {
+    const TYPES: [(&str, &str); 5] = [
+        ("u32", "a whole number from 0 to 4,294,967,295"),
+        ("u64", "a whole number from 0 to 18,446,744,073,709,551,615"),
+        ("usize", "a whole number from 0 to 18,446,744,073,709,551,615"),
+        ("f64", "a number"),
+        ("a boolean", "true or false"),
+    ];
+    let Some((start, expected)) = said.rsplit_once("expected ") else {
+        return said.to_owned();
+    };
+    let words = TYPES.iter().find(|(name, _)| *name == expected).map(|(_, words)| (*words).to_owned());
+    let words = words.or_else(|| {
+        let size = expected.strip_prefix("a tuple of size ")?;
+        Some(format!("a list of {size}"))
+    });
+    let words = words.or_else(|| expected.starts_with("struct ").then(|| "an object".to_owned()));
+    format!("{start}expected {}", words.unwrap_or_else(|| expected.to_owned()))
 }
 
 /// The part of a document that is read as a whole by its `type`, and of which serde_json knows no line: the one that is refused
@@ -86,17 +107,19 @@ mod tests {
     #[test]
     fn what_is_wrong_is_said_with_its_place() {
         let said = refused("\"qty\": 1", "\"qty\": \"1\"");
-        assert_eq!(said, "sizing: invalid type: string \"1\", expected f64");
+        assert_eq!(said, "sizing: invalid type: string \"1\", expected a number");
         let said = refused("\"sizing\"", "\"costs\": {\"slippage\": {\"type\": \"fixed\"}}, \"sizing\"");
         assert!(said.starts_with("costs.slippage: unknown variant `fixed`, expected one of `fixed_bps`"), "{said}");
         let said = refused("\"type\": \"Ema\"", "\"type\": 5");
         assert!(said.contains("indicators.a.type: invalid type: integer `5`, expected a string"), "{said}");
         let said = refused("\"lt\": [\"a\", 5]", "\"lt\": [\"a\"]");
-        assert!(said.contains("exit.lt") && said.contains("expected a tuple of size 2"), "{said}");
+        assert!(said.contains("exit.lt") && said.contains("expected a list of 2"), "{said}");
         let said = refused("\"lt\"", "\"lower\"");
         assert!(said.contains("exit.lower: unknown variant `lower`, expected one of `gt`, `lt`"), "{said}");
         let said = refused("5]}", "5, 6]}");
         assert!(said.contains("exit.lt[2]: something follows where the list"), "{said}");
+        let said = refused("\"cross_above\"", "\"rising\": [\"a\", -1], \"cross_above\"");
+        assert!(said.contains("expected a whole number from 0 to 4,294,967,295"), "{said}");
         let said = refused("1}}", "1}");
         assert!(said.contains("the document ends inside an object"), "{said}");
     }

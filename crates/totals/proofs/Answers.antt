@@ -1,0 +1,162 @@
+-- What each line of the two orders of refusals needs to be the answer. Assumes nothing.
+use mathlib.Core.Path.{_≡_, refl, sym, ap, subst, _∙_}
+use mathlib.Core.Bool.{Bool, true, false, cond, false≢true}
+use mathlib.Core.List.{List, [], _∷_, _++_}
+use Prim.Native.Nat.{ℕ, _+_, _*_, _/_, _%_, _<_, _≤_}
+use native.Mathlib.Omega.{arith}
+use borrow.Author.Tests.{le-leb, lt-leb, eq-eqb, ne-eqb, leb-true, leb-false}
+use lib.Dec.{leb}
+use lib.ListN.{length}
+use Rattle.words.specs.Words.{word, overwrite}
+use Rattle.words.specs.Limits.{tradeWords, mostCount}
+use Rattle.words.specs.declared.refusal.Refusal.{Refusal}
+use Rattle.words.specs.Outcome.{refusal}
+use Rattle.floats.specs.Floats.{wordOf}
+use Rattle.totals.specs.declared.Answer.{Answer}
+use Rattle.totals.specs.declared.Answer.the-variants.{Done, Refused}
+use Rattle.totals.specs.Exact.{nearestTo, numberIn}
+use Rattle.totals.specs.Trades.{Trade, tradesFrom, tradesOf, goodStart, judgedCount, pnlSum}
+use Rattle.totals.specs.Totals.{totalWords, totalsRoom, countSize, AllAtMost, allSmall, countsOf, sumWords, recordOf}
+use Rattle.totals.specs.Totals.{withCounts, bothCounts, sumWith, traded, countsFine, addAnswer, addLeaves, joinAnswer, joinLeaves}
+use Rattle.totals.specs.Laws.Trades.{length-trades, all-good}
+use Rattle.totals.specs.Laws.Counts.{small-all}
+
+-- as many are judged as there are, where totals can hold them
+few : (n : ℕ) → n ≤ mostCount → judgedCount n ≡ n
+unfolding judgedCount
+few n h = simp (le-leb _ _ h)
+
+-- .. and never more than that, nor than totals can hold
+pub judged-most : (n : ℕ) → (judgedCount n ≤ n) × (judgedCount n ≤ mostCount)
+unfolding judgedCount
+judged-most n = go (leb n mostCount) refl
+  where
+    go : (b : Bool) → leb n mostCount ≡ b → (cond b n mostCount ≤ n) × (cond b n mostCount ≤ mostCount)
+    go true e = let h = leb-true n mostCount e in (omega arith, omega arith)
+    go false e = let h = leb-false n mostCount e in (omega arith, omega arith)
+
+-- counts that are fine are small
+pub fine-small : (c : List ℕ) → countsFine c ≡ true → AllAtMost mostCount c
+unfolding countsFine
+fine-small c h = go (allSmall c) refl h
+  where
+    go : (b : Bool) → allSmall c ≡ b → cond b (leb (word c 6 + word c 7) (traded c)) false ≡ true → AllAtMost mostCount c
+    go true e k = small-all c e
+    go false e k = absurd (false≢true k)
+
+pub traded-most : (c : List ℕ) → AllAtMost mostCount c → traded c ≤ 6 * mostCount
+unfolding traded
+traded-most c h = omega (arith, h 0, h 1, h 2, h 3, h 4, h 5)
+
+pub length-of : (totals : List ℕ) → length (countsOf totals) ≡ countSize
+unfolding countsOf
+length-of totals = refl
+
+-- counts, sum and the float of that sum are the record
+pub written : (totals counts sum : List ℕ) {counts′ sum′ : List ℕ} {float : ℕ} → counts′ ≡ counts → sum′ ≡ sum → float ≡ wordOf (nearestTo (numberIn sum′))
+    → overwrite totals 0 (counts′ ++ sum′ ++ (float ∷ [])) ≡ overwrite totals 0 (recordOf counts sum)
+unfolding recordOf
+written totals counts sum {counts′} {sum′} {float} c s f =
+    ap (λ (l : List ℕ). overwrite totals 0 (l ++ sum′ ++ (float ∷ []))) c
+    ∙ ap (λ (l : List ℕ). overwrite totals 0 (counts ++ l ++ (float ∷ []))) s
+    ∙ ap (λ (w : ℕ). overwrite totals 0 (counts ++ sum ++ (w ∷ []))) (f ∙ ap (λ (l : List ℕ). wordOf (nearestTo (numberIn l))) s)
+
+pub less-as : {a a′ b b′ : ℕ} → a ≡ a′ → b ≡ b′ → a < b → a′ < b′
+less-as e f h = omega arith
+
+pub at-most-as : {a a′ b b′ : ℕ} → a ≡ a′ → b ≡ b′ → a ≤ b → a′ ≤ b′
+at-most-as e f h = omega arith
+
+module _ (totals trades : List ℕ) where
+  -- the trades that are judged, up to the first that is not acceptable
+  abbrev pub good : List Trade
+  good = goodStart (tradesFrom (judgedCount (length trades / tradeWords)) 0 trades)
+
+  pub add-short : length totals < totalWords → addAnswer totals trades ≡ Refused (refusal 10 totalsRoom)
+  unfolding addAnswer
+  add-short h = simp (lt-leb _ _ h)
+
+  module _ (long : totalWords ≤ length totals) where
+    pub add-ragged : (length trades % tradeWords ≡ 0 → ⊥) → addAnswer totals trades ≡ Refused (refusal 13 0)
+    unfolding addAnswer
+    add-ragged h = simp (le-leb _ _ long, ne-eqb _ _ h)
+
+    module _ (whole : length trades % tradeWords ≡ 0) where
+      pub add-wrong : countsFine (countsOf totals) ≡ false → addAnswer totals trades ≡ Refused (refusal 13 0)
+      unfolding addAnswer
+      add-wrong h = simp (le-leb _ _ long, eq-eqb _ _ whole, h)
+
+      module _ (fine : countsFine (countsOf totals) ≡ true) where
+        pub add-bad : length good < judgedCount (length trades / tradeWords) → addAnswer totals trades ≡ Refused (refusal 17 (length good))
+        unfolding addAnswer
+        add-bad h = simp (le-leb _ _ long, eq-eqb _ _ whole, fine, lt-leb _ _ h)
+
+        module _ (all : judgedCount (length trades / tradeWords) ≤ length good) where
+          pub add-many : mostCount < traded (countsOf totals) + length trades / tradeWords → addAnswer totals trades ≡ Refused (refusal 22 0)
+          unfolding addAnswer
+          add-many h = simp (le-leb _ _ long, eq-eqb _ _ whole, fine, le-leb _ _ all, lt-leb _ _ h)
+
+          module _ (room : traded (countsOf totals) + length trades / tradeWords ≤ mostCount) where
+            pub add-done : addAnswer totals trades ≡ Done
+            unfolding addAnswer
+            add-done = simp (le-leb _ _ long, eq-eqb _ _ whole, fine, le-leb _ _ all, le-leb _ _ room)
+
+            -- then all trades of the list are good ones
+            pub all-of-them : good ≡ tradesOf trades
+            unfolding tradesOf
+            all-of-them =
+                let same : judgedCount (length trades / tradeWords) ≡ length trades / tradeWords = few (length trades / tradeWords) (omega arith) in
+                all-good (tradesFrom (judgedCount (length trades / tradeWords)) 0 trades)
+                (subst (λ (k : ℕ). k ≤ length good) (sym (length-trades (judgedCount (length trades / tradeWords)) 0 trades)) all)
+                ∙ ap (λ (k : ℕ). tradesFrom k 0 trades) same
+
+  -- beside a refusal nothing changes ..
+  pub add-keeps : (why : Refusal) → addAnswer totals trades ≡ Refused why → totals ≡ addLeaves totals trades
+  unfolding addLeaves
+  add-keeps why h = simp h
+
+  -- .. and else the record is written
+  pub add-writes : addAnswer totals trades ≡ Done
+      → addLeaves totals trades
+      ≡ overwrite totals 0 (recordOf (withCounts (countsOf totals) (tradesOf trades)) (sumWith (sumWords totals) (pnlSum (tradesOf trades))))
+  unfolding addLeaves
+  add-writes h = simp h
+
+module _ (totals other : List ℕ) where
+  pub join-short : length totals < totalWords → joinAnswer totals other ≡ Refused (refusal 10 totalsRoom)
+  unfolding joinAnswer
+  join-short h = simp (lt-leb _ _ h)
+
+  module _ (long : totalWords ≤ length totals) where
+    pub join-ragged : (length other ≡ totalWords → ⊥) → joinAnswer totals other ≡ Refused (refusal 13 0)
+    unfolding joinAnswer
+    join-ragged h = simp (le-leb _ _ long, ne-eqb _ _ h)
+
+    module _ (whole : length other ≡ totalWords) where
+      pub join-wrong : countsFine (countsOf totals) ≡ false → joinAnswer totals other ≡ Refused (refusal 13 0)
+      unfolding joinAnswer
+      join-wrong h = simp (le-leb _ _ long, eq-eqb _ _ whole, h)
+
+      module _ (fine : countsFine (countsOf totals) ≡ true) where
+        pub join-other : countsFine (countsOf other) ≡ false → joinAnswer totals other ≡ Refused (refusal 13 0)
+        unfolding joinAnswer
+        join-other h = simp (le-leb _ _ long, eq-eqb _ _ whole, fine, h)
+
+        module _ (fine-too : countsFine (countsOf other) ≡ true) where
+          pub join-many : mostCount < traded (countsOf totals) + traded (countsOf other) → joinAnswer totals other ≡ Refused (refusal 22 0)
+          unfolding joinAnswer
+          join-many h = simp (le-leb _ _ long, eq-eqb _ _ whole, fine, fine-too, lt-leb _ _ h)
+
+          pub join-done : traded (countsOf totals) + traded (countsOf other) ≤ mostCount → joinAnswer totals other ≡ Done
+          unfolding joinAnswer
+          join-done h = simp (le-leb _ _ long, eq-eqb _ _ whole, fine, fine-too, le-leb _ _ h)
+
+  pub join-keeps : (why : Refusal) → joinAnswer totals other ≡ Refused why → totals ≡ joinLeaves totals other
+  unfolding joinLeaves
+  join-keeps why h = simp h
+
+  pub join-writes : joinAnswer totals other ≡ Done
+      → joinLeaves totals other
+      ≡ overwrite totals 0 (recordOf (bothCounts (countsOf totals) (countsOf other)) (sumWith (sumWords totals) (numberIn (sumWords other))))
+  unfolding joinLeaves
+  join-writes h = simp h

@@ -1,0 +1,9 @@
+pub mod Numbers
+pub mod Digits
+pub mod Patterns
+pub mod Reading
+pub mod Rounding
+pub mod Sign
+pub mod Writing
+pub mod Testing
+pub mod Answers

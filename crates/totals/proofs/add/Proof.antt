@@ -1,0 +1,150 @@
+-- Each test is a line of the order; what is written is the record with the trades. Assumes nothing.
+use mathlib.Core.Path.{_≡_, refl, sym, ap, subst, _∙_}
+use mathlib.Core.Bool.{true, false}
+use mathlib.Core.List.{List}
+use Prim.Native.Nat.{ℕ, _+_, _*_, _/_, _%_, _<_, _≤_}
+use native.Mathlib.Omega.{arith}
+use borrow.Author.Needs.{needs}
+use lib.ListN.{length}
+use Rattle.words.specs.Limits.{tradeWords, mostCount}
+use Rattle.words.specs.Outcome.{refusal}
+use Rattle.totals.specs.declared.Answer.the-variants.{Refused}
+use Rattle.totals.specs.Exact.{numberIn}
+use Rattle.totals.specs.Trades.{Trade, tradesFrom, tradesOf, goodStart, judgedCount, pnlSum}
+use Rattle.totals.specs.Totals.{countSize, AllAtMost, totalWords, countsOf, sumWords, withCounts, sumWith, traded, countsFine}
+use Rattle.totals.proofs.Testing.{so, not-so}
+use Rattle.totals.proofs.Answers.{judged-most, fine-small, traded-most, length-of, written, less-as, at-most-as}
+use Rattle.totals.proofs.Answers.{good, add-short, add-ragged, add-wrong, add-bad, add-many, add-done, all-of-them, add-keeps, add-writes}
+use Rattle.totals.proofs.add.Statement.{statement}
+use Rattle.totals.proofs.add.Tie as tie
+
+returns : tie.Need-returns
+returns c =
+    let start = c .before .before .before .before .args in
+    let told = add-short (start .totals .now) (start .trades .now) (c .before .if1 .taken) in
+    (c .refused .ensures ∙ sym told, add-keeps _ _ _ told)
+
+returns-2 : tie.Need-returns-2
+returns-2 c =
+    let start = c .before .before .before .before .before .args in
+    let told = add-ragged (start .totals .now) (start .trades .now) (c .before .before .if1 .left) (c .before .if2 .taken) in
+    (c .refused2 .ensures ∙ sym told, add-keeps _ _ _ told)
+
+returns-3 : tie.Need-returns-3
+returns-3 c =
+    let start = c .before .before .before .before .before .before .before .before .before .before .args in
+    let wrong = ap countsFine (sym (c .before .before .before .before .counts-of .ensures)) ∙ sym (c .before .before .fine .ensures)
+    ∙ not-so _ (c .before .if3 .taken) in
+    let told = add-wrong (start .totals .now) (start .trades .now) (c .before .before .before .before .before .before .before .if1 .left)
+    (c .before .before .before .before .before .before .if2 .left) wrong in
+    (c .refused3 .ensures ∙ sym told, add-keeps _ _ _ told)
+
+-- ---- past the counts
+
+-- they are fine, as they were read ..
+fine-read : (e : tie.Else3) → countsFine (e .before .before .before .counts-of .result) ≡ true
+fine-read e = sym (e .before .fine .ensures) ∙ so _ (e .if3 .left)
+
+-- .. and as they stand in the totals
+fine-held : (e : tie.Else3) → countsFine (countsOf (e .before .before .before .before .before .before .before .before .before .args .totals .now)) ≡ true
+fine-held e = ap countsFine (sym (e .before .before .before .counts-of .ensures)) ∙ fine-read e
+
+small : (e : tie.Else3) → (length (e .before .before .before .counts-of .result) ≡ countSize)
+    × AllAtMost mostCount (e .before .before .before .counts-of .result)
+small e = (ap length (e .before .before .before .counts-of .ensures) ∙ length-of _, fine-small _ (fine-read e))
+
+traded-requires : tie.Need-traded-requires
+traded-requires c κs = small (c .before)
+
+judged-few : (k n len : ℕ) → k ≤ n → n ≡ len / tradeWords → k * tradeWords ≤ len
+judged-few k n len h e = omega arith
+
+count-trades-requires : tie.Need-count-trades-requires
+count-trades-requires c κs =
+    let judged = c .before .judged-count .ensures in
+    let most = judged-most (length (c .before .before .before .before .before .before .before .before .before .before .before .before .before .args .trades
+    .now) / tradeWords) in
+    let e = c .before .before .before .before in
+    (judged-few _ _ _ (at-most-as (sym judged) refl (most .0)) refl, at-most-as (sym judged) refl (most .1), small e .0, small e .1)
+
+returns-4 : tie.Need-returns-4
+returns-4 c =
+    let e = c .before .before .before .before .before .before .before .before in
+    let start = c .before .before .before .before .before .before .before .before .before .before .before .before .before .before .before .before .before
+    .args in
+    let trades = start .trades .now in
+    let judged = c .before .before .before .before .before .judged-count .ensures in
+    let many = c .before .before .before .count-trades .ensures .0 ∙ ap (λ (k : ℕ). length (goodStart (tradesFrom k 0 trades))) judged in
+    let told = add-bad (start .totals .now) trades (e .before .before .before .before .before .before .if1 .left)
+    (e .before .before .before .before .before .if2 .left) (fine-held e) (less-as many judged (c .before .if4 .taken)) in
+    (c .refused4 .ensures ∙ ap (λ (k : ℕ). Refused (refusal 17 k)) many ∙ sym told, add-keeps _ _ _ told)
+
+-- ---- past the trades
+
+-- all that are judged are good
+all-good : (d : tie.Else4) → let a = d .before .before .before .before .before .before .before .before .before .before .before .before .before .before
+    .before .before .args in judgedCount (length (a .trades .now) / tradeWords) ≤ length (good (a .totals .now) (a .trades .now))
+all-good d =
+    let trades = d .before .before .before .before .before .before .before .before .before .before .before .before .before .before .before .before .args
+    .trades .now in
+    let judged = d .before .before .before .before .judged-count .ensures in
+    let many = d .before .before .count-trades .ensures .0 ∙ ap (λ (k : ℕ). length (goodStart (tradesFrom k 0 trades))) judged in
+    at-most-as judged many (d .if4 .left)
+
+-- the trades that totals have
+traded-held : (d : tie.Else4) → d .before .before .before .before .before .traded .result
+    ≡ traded (countsOf (d .before .before .before .before .before .before .before .before .before .before .before .before .before .before .before .before
+    .args .totals .now))
+traded-held d = d .before .before .before .before .before .traded .ensures
+    ∙ ap traded (d .before .before .before .before .before .before .before .before .before .before .counts-of .ensures)
+
+add-if5 : tie.Need-add-if5
+add-if5 c =
+    let good = c .before .before .before .before .before .before .before .before .before .before .before .before .before .before .before .before .good in
+    let e = c .before .before .before .before .before .before .before in
+    omega (arith, c .before .before .before .before .before .traded .ensures, traded-most (e .before .before .before .counts-of .result) (small e .1))
+
+returns-5 : tie.Need-returns-5
+returns-5 c =
+    let d = c .before .before in
+    let e = d .before .before .before .before .before .before .before in
+    let start = d .before .before .before .before .before .before .before .before .before .before .before .before .before .before .before .before .args in
+    let told = add-many (start .totals .now) (start .trades .now) (e .before .before .before .before .before .before .if1 .left)
+    (e .before .before .before .before .before .if2 .left) (fine-held e) (all-good d)
+    (less-as refl (ap (λ (k : ℕ). k + length (start .trades .now) / tradeWords) (traded-held d)) (c .before .if5 .taken)) in
+    (c .refused5 .ensures ∙ sym told, add-keeps _ _ _ told)
+
+returns-6 : tie.Need-returns-6
+returns-6 c =
+    let f = c .before .before .before .before .before .before .before .before .before .before .before .before .before in
+    let d = f .before in
+    let e = d .before .before .before .before .before .before .before in
+    let start = d .before .before .before .before .before .before .before .before .before .before .before .before .before .before .before .before .args in
+    let totals = start .totals .now in
+    let trades = start .trades .now in
+    let long = e .before .before .before .before .before .before .if1 .left in
+    let whole = e .before .before .before .before .before .if2 .left in
+    let room = at-most-as (ap (λ (k : ℕ). k + length trades / tradeWords) (traded-held d)) refl (f .if5 .left) in
+    let done = add-done totals trades long whole (fine-held e) (all-good d) room in
+    let judged = d .before .before .before .before .judged-count .ensures in
+    let counts =
+    d .before .before .count-trades .ensures .1 ∙ ap (λ (l : List ℕ). withCounts l (goodStart (tradesFrom
+    (d .before .before .before .before .judged-count .result) 0 trades)))
+    (d .before .before .before .before .before .before .before .before .before .before .counts-of .ensures)
+    ∙ ap (λ (k : ℕ). withCounts (countsOf totals) (goodStart (tradesFrom k 0 trades))) judged
+    ∙ ap (withCounts (countsOf totals)) (all-of-them totals trades long whole (fine-held e) (all-good d) room) in
+    let sum = c .before .before .before .before .before .before .before .before .before .add-trades .ensures
+    ∙ ap (λ (l : List ℕ). sumWith l (pnlSum (tradesOf trades))) (c .before .before .before .before .before .before .before .before .before .before
+    .before .sum-of .ensures) in (
+      sym done,
+      c .before .before .put-totals .ensures ∙ written totals _ _ counts sum
+          (c .before .before .before .before .before .before .nearest-to .ensures) ∙ sym (add-writes totals trades done),
+    )
+
+pub add-spec : {M : Type 1} → statement M
+add-spec =
+    tie.close (tie.spec (λ c κs. search needs) returns (λ c κs. search needs) returns-2 (λ c κs. search needs) (λ c. search needs) (λ c κs. search needs)
+    (λ c κs. search needs) (λ c. search needs) returns-3 (λ c. search needs) traded-requires (λ c κs. search needs) (λ c. search needs)
+    count-trades-requires (λ c κs. search needs) (λ c. search needs) returns-4 add-if5 (λ c κs. search needs) (λ c. search needs) returns-5
+    (λ c κs. search needs) (λ c. search needs) (λ c κs. search needs) (λ c. search needs) (λ c κs. search needs) (λ c. search needs)
+    (λ c. search needs) (λ c κs. search needs) (λ c. search needs) returns-6)

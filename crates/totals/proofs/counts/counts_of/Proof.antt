@@ -1,0 +1,14 @@
+-- Each count is a word of its own. Assumes nothing.
+use borrow.Author.Needs.{needs}
+use Rattle.totals.specs.Totals.{countsOf}
+use Rattle.totals.proofs.counts.counts_of.Statement.{statement}
+use Rattle.totals.proofs.counts.counts_of.Tie as tie
+
+returns : tie.Need-returns
+unfolding countsOf
+returns c = cc
+
+pub counts-of-spec : {M : Type 1} → statement M
+counts-of-spec =
+    tie.close (tie.spec (λ c κs. search needs) (λ c κs. search needs) (λ c κs. search needs) (λ c κs. search needs)
+    (λ c κs. search needs) (λ c κs. search needs) (λ c κs. search needs) (λ c κs. search needs) returns)

@@ -1,0 +1,36 @@
+-- Small ones can be added up. Assumes nothing.
+use mathlib.Core.Path.{_≡_, refl, sym, ap, _∙_}
+use mathlib.Core.Bool.{true}
+use Prim.Native.Nat.{ℕ, _+_}
+use native.Mathlib.Omega.{arith}
+use borrow.Author.Needs.{needs}
+use lib.Dec.{leb}
+use lib.ListN.{getD}
+use Rattle.totals.specs.Totals.{countsFine}
+use Rattle.totals.specs.Laws.Counts.{small-all}
+use Rattle.totals.proofs.counts.fine.Statement.{statement}
+use Rattle.totals.proofs.counts.fine.Tie as tie
+
+add-result : tie.Need-add-result
+add-result c =
+    let p = small-all _ (sym (c .before .before .before .all-small .ensures) ∙ c .before .before .if1 .taken) in
+    omega (arith, p 6, p 7)
+
+traded-requires : tie.Need-traded-requires
+traded-requires c κs =
+    (c .before .before .before .before .before .pre, small-all _ (sym (c .before .before .before .all-small .ensures) ∙ c .before .before .if1 .taken))
+
+returns : tie.Need-returns
+unfolding countsFine
+returns c =
+    let counts = c .before .before .before .before .before .before .args .counts .now in
+    let small = sym (c .before .before .before .before .all-small .ensures) ∙ c .before .before .before .if1 .taken in
+    rw small (ap (leb (getD counts 6 0 + getD counts 7 0)) (c .traded .ensures))
+
+returns-2 : tie.Need-returns-2
+unfolding countsFine
+returns-2 c = rw (sym (c .before .all-small .ensures) ∙ c .if1 .left) refl
+
+pub fine-spec : {M : Type 1} → statement M
+fine-spec =
+    tie.close (tie.spec (λ c κs. search needs) (λ c. search needs) (λ c. search needs) add-result traded-requires returns returns-2)

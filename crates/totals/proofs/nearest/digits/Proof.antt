@@ -1,0 +1,44 @@
+-- `totals::nearest::digits`: the highest word that is not 0 has the first digit. Assumes nothing.
+use mathlib.Core.Path.{_≡_, refl, sym, ap, subst, _∙_}
+use Prim.Native.Nat.{ℕ, suc, _+_, _-_, _*_, _/_, _%_, _^_, _<_, _≤_, min}
+use native.Mathlib.Omega.{arith}
+use borrow.Author.Needs.{needs}
+use lib.ListN.{getD, length}
+use Rattle.totals.specs.Number.{numberOf, AreWords}
+use lib.Count.{leadingZeros, leading-le}
+use Rattle.totals.specs.Number.{Top}
+use Rattle.totals.proofs.Reading.{size-of-top, size-of-none}
+use Rattle.totals.proofs.nearest.digits.Statement.{statement}
+use Rattle.totals.proofs.nearest.digits.Tie as tie
+
+returns : tie.Need-returns
+returns c =
+    let ws = c .before .before .before .args .words .now in
+    sym (size-of-none ws (subst (λ (t : ℕ). Top ws (length ws) t) (c .if1 .taken) (c .before .top .ensures)))
+
+fine : (x : ℕ) → x ≤ 64 → x < 2 ^ 64
+fine x h = omega arith
+
+less : (x t : ℕ) → x ≤ 64 → (t ≡ 0 → ⊥) → x ≤ 64 * t
+less x t h n = omega arith
+
+some : (t : ℕ) → (t ≡ 0 → ⊥) → 0 < t
+some t n = omega arith
+
+cast-result : tie.Need-cast-result
+cast-result c = record { fits = fine _ (leading-le 64 (c .word .result)) }
+
+sub-result : tie.Need-sub-result
+sub-result c = less _ _ (leading-le 64 (c .word .result)) (c .before .if1 .left)
+
+returns-2 : tie.Need-returns-2
+returns-2 c =
+    let ws = c .before .before .before .before .args .words .now in
+    let words : AreWords ws = λ i. omega (arith, c .before .before .before .shared-slice-known .given i) in
+    let t = c .before .before .top .result in
+    ap (λ (w : ℕ). 64 * t - leadingZeros 64 w) (c .word .ensures) ∙ sym (size-of-top ws t words (c .before .before .top .ensures) (some t
+    (c .before .if1 .left)))
+
+pub digits-spec : {M : Type 1} → statement M
+digits-spec = tie.close (tie.spec (λ c κs. search needs) returns (λ c. search needs) (λ c. search needs)
+    (λ c κs. search needs) cast-result sub-result returns-2)

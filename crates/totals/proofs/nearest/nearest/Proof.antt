@@ -1,0 +1,90 @@
+-- `totals::nearest::nearest`: 53 digits, how many were dropped, and no more than an infinity. Assumes nothing.
+use mathlib.Core.Path.{_≡_, refl, sym, ap, subst, _∙_}
+use Prim.Native.Nat.{ℕ, suc, _+_, _-_, _*_, _/_, _%_, _^_, _<_, _≤_, min}
+use native.Mathlib.Omega.{arith}
+use borrow.Author.Needs.{needs}
+use lib.ListN.{getD, length}
+use Rattle.totals.specs.Number.{numberOf, AreWords}
+use lib.Ieee.{size}
+use lib.Ieee.Fits.{kept-lt}
+use lib.Ieee.Nearest.{closest}
+use Rattle.totals.proofs.Rounding.{size-most, nearest-small, nearest-large, kept-most}
+use Rattle.totals.proofs.nearest.nearest.Statement.{statement}
+use Rattle.totals.proofs.nearest.nearest.Tie as tie
+
+le-of : {x y : ℕ} → x ≡ y → x ≤ 53 → y ≤ 53
+le-of e h = omega arith
+
+fine : (x y : ℕ) → x ≡ y → y ≤ 2176 → (x - 53) * 2 ^ 52 < 2 ^ 64
+fine x y e h = omega arith
+
+fine-sum : (x y q r : ℕ) → x ≡ y → y ≤ 2176 → q ≡ r → r ≤ 2 ^ 53 → (x - 53) * 2 ^ 52 + q < 2 ^ 64
+fine-sum x y q r e h f g = omega arith
+
+-- the most digits that there are
+most : (c : tie.Else1) → size (numberOf (c .before .before .before .args .words .now)) ≤ 2176
+most c =
+    let ws = c .before .before .before .args .words .now in
+    let words : AreWords ws = λ i. omega (arith, c .before .before .shared-slice-known .given i) in
+    size-most ws words (c .before .before .before .pre)
+
+returns : tie.Need-returns
+returns c =
+    let ws = c .before .before .before .before .args .words .now in
+    c .word .ensures ∙ nearest-small ws (le-of (c .before .before .digits .ensures) (c .before .if1 .taken))
+
+mul-b : tie.Need-mul-b
+mul-b c = record { fits = fine _ _ (c .before .digits .ensures) (most c) }
+
+kept-requires : tie.Need-kept-requires
+kept-requires c κs =
+    let n = numberOf (c .before .before .before .args .words .now) in
+    subst (λ (x : ℕ). n / 2 ^ (x - 53) < 2 ^ 53) (sym (c .before .digits .ensures)) (kept-lt 53 n)
+
+rounded-requires : tie.Need-rounded-requires
+rounded-requires c κs =
+    let n = numberOf (c .before .before .before .before .args .words .now) in (
+      omega arith,
+      c .kept .ensures,
+      subst (λ (x : ℕ). x < 2 ^ 53) (sym (c .kept .ensures)) (subst (λ (x : ℕ). n / 2 ^ (x - 53) < 2 ^ 53) (sym (c .before .before .digits .ensures))
+          (kept-lt 53 n)),
+    )
+
+add-b : tie.Need-add-b
+add-b c =
+    let n = numberOf (c .before .before .before .before .before .args .words .now) in
+    record {
+      fits = fine-sum _ _ _ _ (c .before .before .before .digits .ensures) (most (c .before .before))
+          (c .rounded .ensures ∙ ap (λ (x : ℕ). closest n (2 ^ (x - 53))) (c .before .before .before .digits .ensures)) (kept-most n);
+    }
+
+many : (x y : ℕ) → x ≡ y → 53 < x → 53 < y
+many x y e h = omega arith
+
+sum : (x y q : ℕ) {r : ℕ} → x ≡ y → q ≡ r → (y - 53) * 2 ^ 52 + r ≡ (x - 53) * 2 ^ 52 + q
+sum x y q e f = omega arith
+
+pick-left : (a b : ℕ) → a ≡ b → b < 0x7ff0_0000_0000_0000 → min a 0x7ff0_0000_0000_0000 ≡ b
+pick-left a b e h = omega arith
+
+pick-right : (a b : ℕ) → a ≡ b → 0x7ff0_0000_0000_0000 ≤ b → min a 0x7ff0_0000_0000_0000 ≡ 0x7ff0_0000_0000_0000
+pick-right a b e h = omega arith
+
+returns-2 : tie.Need-returns-2
+returns-2 c =
+    let d = c .before .before .before .before .digits in
+    let n = numberOf (c .before .before .before .before .before .before .args .words .now) in
+    sym (nearest-large n (many _ _ (d .ensures) (c .before .before .before .if1 .left)) ∙ pick-left _ _ (sum _ _ _ (d .ensures)
+    (c .before .rounded .ensures ∙ ap (λ (x : ℕ). closest n (2 ^ (x - 53))) (d .ensures))) (c .if2 .taken))
+
+returns-3 : tie.Need-returns-3
+returns-3 c =
+    let d = c .before .before .before .before .digits in
+    let n = numberOf (c .before .before .before .before .before .before .args .words .now) in
+    sym (nearest-large n (many _ _ (d .ensures) (c .before .before .before .if1 .left)) ∙ pick-right _ _ (sum _ _ _ (d .ensures)
+    (c .before .rounded .ensures ∙ ap (λ (x : ℕ). closest n (2 ^ (x - 53))) (d .ensures))) (c .if2 .left))
+
+pub nearest-spec : {M : Type 1} → statement M
+nearest-spec =
+    tie.close
+    (tie.spec (λ c κs. search needs) (λ c κs. search needs) returns (λ c. search needs) mul-b kept-requires rounded-requires add-b returns-2 returns-3)

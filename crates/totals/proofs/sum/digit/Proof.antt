@@ -1,0 +1,13 @@
+-- `totals::sum::digit`: one of the two, by the sign. Assumes nothing.
+use borrow.Author.Needs.{needs}
+use Rattle.totals.proofs.sum.digit.Statement.{statement}
+use Rattle.totals.proofs.sum.digit.Tie as tie
+
+returns : tie.Need-returns
+returns c = rw (c .before .if1 .taken) (c .less .ensures)
+
+returns-2 : tie.Need-returns-2
+returns-2 c = rw (c .before .if1 .left) (c .more .ensures)
+
+pub digit-spec : {M : Type 1} → statement M
+digit-spec = tie.close (tie.spec (λ c κs. search needs) (λ c κs. search needs) returns returns-2)

@@ -1,0 +1,23 @@
+-- The 34 words from word 8 on. Assumes nothing.
+use mathlib.Core.Path.{_≡_, _∙_}
+use Prim.Native.Nat.{_-_}
+use native.Mathlib.Omega.{arith}
+use borrow.Author.Needs.{needs}
+use lib.ListN.{length, take, drop, length-drop}
+use lib.Seq.{length-take-le}
+use Rattle.totals.specs.Totals.{sumWords}
+use Rattle.totals.proofs.Writing.{copied}
+use Rattle.totals.proofs.sum.sum_of.Statement.{statement}
+use Rattle.totals.proofs.sum.sum_of.Tie as tie
+
+returns : tie.Need-returns
+unfolding sumWords
+returns c =
+    let start = c .before .before .before .before .before in
+    let totals = start .args .totals .now in
+    let rest : length (drop 8 totals) ≡ length totals - 8 = length-drop 8 totals in
+    c .before .put .ensures ∙ copied (take 34 (drop 8 totals)) (length-take-le 34 (drop 8 totals) (omega (arith, start .pre)))
+
+pub sum-of-spec : {M : Type 1} → statement M
+sum-of-spec =
+    tie.close (tie.spec (λ c. search needs) (λ c. search needs) (λ c. search needs) (λ c. search needs) (λ c κs. search needs) returns)

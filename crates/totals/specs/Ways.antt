@@ -1,0 +1,47 @@
+-- Every way to make totals: lists added one after another, totals joined. Definitions only.
+use mathlib.Core.Path.{_≡_}
+use mathlib.Core.List.{List, [], _∷_, _++_}
+use Prim.Native.Nat.{ℕ, _%_}
+use lib.ListN.{length, replicate}
+use Rattle.words.specs.Limits.{tradeWords}
+use Rattle.floats.specs.Floats.{wordOf}
+use Rattle.totals.specs.declared.Answer.the-variants.{Done}
+use Rattle.totals.specs.Exact.{wordsFor, nearestTo}
+use Rattle.totals.specs.Trades.{Trade, tradesOf, pnlSum}
+use Rattle.totals.specs.Totals.{totalWords, withCounts, addAnswer, addLeaves, joinAnswer, joinLeaves}
+
+pub data Way : Type 0 where
+  -- 43 zeros
+  begin : Way
+  -- a list of trades added to totals
+  add : Way → List ℕ → Way
+  -- totals added to totals
+  join : Way → Way → Way
+
+-- the words that it leaves
+unfoldable pub made : Way → List ℕ
+made begin = replicate totalWords 0
+made (add w list) = addLeaves (made w) list
+made (join v w) = joinLeaves (made v) (made w)
+
+-- every call of it does its work
+unfoldable pub AllDone : Way → Type 0
+AllDone begin = Unit {0}
+AllDone (add w list) = AllDone w × (addAnswer (made w) list ≡ Done)
+AllDone (join v w) = AllDone v × AllDone w × (joinAnswer (made v) (made w) ≡ Done)
+
+-- the trades that it is about
+unfoldable pub tradesIn : Way → List Trade
+tradesIn begin = []
+tradesIn (add w list) = tradesIn w ++ tradesOf list
+tradesIn (join v w) = tradesIn v ++ tradesIn w
+
+-- its lists are whole records
+unfoldable pub Whole : Way → Type 0
+Whole begin = Unit {0}
+Whole (add w list) = Whole w × (length list % tradeWords ≡ 0)
+Whole (join v w) = Whole v × Whole w
+
+-- THE TOTALS OF TRADES: how many ended by each reason, won, lost; the words of their exact sum; the float nearest to that sum
+unfoldable pub totalsOf : List Trade → List ℕ
+totalsOf ts = withCounts (replicate 8 0) ts ++ wordsFor (pnlSum ts) ++ (wordOf (nearestTo (pnlSum ts)) ∷ [])
