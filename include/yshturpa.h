@@ -69,7 +69,7 @@ enum {
     YSH_REFUSED_RECORDS = 13,   /* Place 0. Any of these:
                                  * - the bar is not exactly 10 + K words: two bars at once, the three words of funding left out, or
                                  *   another K than the settings';
-                                 * - rows for ysh_rule or ysh_run that are not whole rows of 7 + K words;
+                                 * - rows for ysh_rule, ysh_why or ysh_run that are not whole rows of 7 + K words;
                                  * - equity points or trades for ysh_metrics that are not whole records;
                                  * - the state counts more rows, equity points or trades than the room has places for: a smaller room
                                  *   than the call before had, or a state that ysh_fresh did not begin;
