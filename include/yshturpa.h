@@ -10,7 +10,7 @@
  * What a caller has to see to is what the types say and no more: each pointer points at as many elements as the length
  * behind it says, words lie on 8-byte boundaries, and what is lent for writing overlaps nothing else. A list or room of length 0 is
  * empty and its pointer is not looked at: it may be null. A pointer with no length behind it (nodes, rows, bytes, count,
- * used, answer, visits, done) points at one word and is never null. Any content of any room gets an answer. Beside that: the stack
+ * used, answer, visits, done, held, high, high_bar, low, low_bar) points at one word and is never null. Any content of any room gets an answer. Beside that: the stack
  * that a call takes (docs/PERFORMANCE.md, "Footprint"), and floats as a C program begins with them: rounded to nearest, the numbers below
  * the normal ones kept and not flushed to zero. No call keeps memory of its own: calls over different rooms may run at the same time.
  *
@@ -53,7 +53,7 @@ enum {
     YSH_REFUSED_NESTING = 8,    /* deeper than 32 levels, the root being 1, operands counted too. Place: the lowest such node */
     YSH_REFUSED_REACH = 9,      /* a tree that looks back more than 4,095 bars, its Prevs added up. Place: the first such tree's root */
 
-    /* 10 to 16: the other things handed over. (17 and 18 are not given yet.) */
+    /* 10 to 16: the other things handed over. (17 is not given yet.) */
     YSH_REFUSED_ROOM = 10,      /* a room is too small. Place: its number (YSH_ROOM_ROWS ..). Commonly: the rows were laid out for another
                                  * D or K than settings 0 and 1 say; the room for steps was sized by steps and not by nodes; the
                                  * settings or the state are those of an older header, with fewer words */
@@ -69,7 +69,7 @@ enum {
     YSH_REFUSED_RECORDS = 13,   /* Place 0. Any of these:
                                  * - the bar is not exactly 10 + K words: two bars at once, the three words of funding left out, or
                                  *   another K than the settings';
-                                 * - rows for ysh_rule or ysh_run that are not whole rows of 7 + K words;
+                                 * - rows for ysh_rule, ysh_why or ysh_run that are not whole rows of 7 + K words;
                                  * - equity points or trades for ysh_metrics that are not whole records;
                                  * - the state counts more rows, equity points or trades than the room has places for: a smaller room
                                  *   than the call before had, or a state that ysh_fresh did not begin;
@@ -91,6 +91,10 @@ enum {
                                  * sizing or cap in its settings, or another price, lets the run go on. Place: the bars seen, which is this
                                  * bar's number */
 
+    /* 18: a question over bars (ysh_stretch). */
+    YSH_REFUSED_STRETCH = 18,   /* the first bar is after the last, or one of them is not among the bars held: always where none is held.
+                                 * Commonly: the last bar was taken for one past the end. Place 0 */
+
     /* 19 and 20: an image of a dump. */
     YSH_REFUSED_IMAGE = 19,     /* no whole image: the write was cut off, the length is not that of its D and K (hand over the image alone, not
                                  * the whole area), a spare byte is not 0, or a field is out of its range. Place 0 */
@@ -107,6 +111,8 @@ enum {
 #define YSH_POINT_WORDS 2                         /* time, equity */
 #define YSH_TRADE_WORDS 10
 #define YSH_METRIC_WORDS 9
+#define YSH_BLOCK_WORDS 4                         /* of 64 closes: high, its first bar, low, its first bar */
+#define YSH_BLOCKS_WORDS(bars) (4 * (((bars) + 63) / 64))   /* the blocks of so many closes */
 #define YSH_STEP_BYTES(nodes) (64 * (nodes))      /* room for the steps of a tree of so many nodes, in bytes */
 #define YSH_DUMP_BYTES(slots, depth) (256 + (depth) * 8 * (7 + (slots)))   /* of a dump, in bytes: what ysh_dump_bytes answers for a K
                                                    * and a D in range, for an area that is laid out by the compiler */
@@ -128,7 +134,8 @@ enum {
     YSH_ROOM_ENTRY, YSH_ROOM_EXIT, YSH_ROOM_SHORT_ENTRY, YSH_ROOM_SHORT_EXIT,
     YSH_ROOM_SETTINGS, YSH_ROOM_STATE, YSH_ROOM_METRICS,
     YSH_ROOM_LINES = 10,
-    /* 11 to 13 and 15 to 17 are kept for later requests */
+    YSH_ROOM_CLOSES = 12, YSH_ROOM_BLOCKS = 13,
+    /* 11 and 15 to 17 are kept for later requests */
     YSH_ROOM_DUMP = 14,
     YSH_ROOM_SILENT = 18
 };
@@ -405,6 +412,17 @@ uint64_t ysh_run(const uint8_t *steps, size_t steps_len, const uint64_t *rows, s
 /* The nine metrics of equity points and trades. Refusals 10 (room 9), then 13 for lists that are not whole records. */
 uint64_t ysh_metrics(uint64_t initial, const uint64_t *equity, size_t equity_len,
                      const uint64_t *trades, size_t trades_len, uint64_t *metrics, size_t metrics_len);
+
+/* ---- the high and the low of a stretch of closes (docs/INTERFACE.md, "High and low of a stretch") ---- */
+
+/* Appends a close to the `held` closes, and to the block of 64 that it falls into; `held` is one more then. Begin with `held` 0, whatever
+ * the rooms hold. Refusals 10 (room 12 or 13: no place for it), then 11 at the bars held for a close that is not finite. */
+uint64_t ysh_append(uint64_t *held, uint64_t close, uint64_t *closes, size_t closes_len, uint64_t *blocks, size_t blocks_len);
+
+/* The highest and the lowest of the closes of bars `first` to `last`, both included, each with the earliest bar that has it. Refusals 13 for
+ * a `held` above what the rooms hold, then 18 for bars that are not held or not in order. */
+uint64_t ysh_stretch(uint64_t held, uint64_t first, uint64_t last, const uint64_t *closes, size_t closes_len,
+                     const uint64_t *blocks, size_t blocks_len, uint64_t *high, uint64_t *high_bar, uint64_t *low, uint64_t *low_bar);
 
 /* The square root of a float's word, correctly rounded. */
 uint64_t ysh_root(uint64_t word);

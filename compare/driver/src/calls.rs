@@ -236,6 +236,27 @@ c_calls! {
         metrics_len: usize,
     ) -> u64;
     fn ysh_root(word: u64) -> u64;
+    fn ysh_append(
+        held: *mut u64,
+        close: u64,
+        closes: *mut u64,
+        closes_len: usize,
+        blocks: *mut u64,
+        blocks_len: usize,
+    ) -> u64;
+    fn ysh_stretch(
+        held: u64,
+        first: u64,
+        last: u64,
+        closes: *const u64,
+        closes_len: usize,
+        blocks: *const u64,
+        blocks_len: usize,
+        high: *mut u64,
+        high_bar: *mut u64,
+        low: *mut u64,
+        low_bar: *mut u64,
+    ) -> u64;
     fn ysh_dump_bytes(slots: u64, depth: u64) -> u64;
     fn ysh_dump(
         settings: *const u64,
@@ -480,6 +501,42 @@ pub fn restore(settings: &[u64], state: &mut [u64], image: &[u8], rows: &mut [u6
             image.len(),
             rows.as_mut_ptr(),
             rows.len(),
+        )
+    }
+}
+
+/// One close more.
+pub fn append(held: &mut u64, close: u64, closes: &mut [u64], blocks: &mut [u64]) -> u64 {
+    unsafe {
+        with::ysh_append(
+            held,
+            close,
+            closes.as_mut_ptr(),
+            closes.len(),
+            blocks.as_mut_ptr(),
+            blocks.len(),
+        )
+    }
+}
+
+/// High, its bar, low and its bar into the four words of `best`.
+pub fn stretch(held: u64, first: u64, last: u64, closes: &[u64], blocks: &[u64], best: &mut [u64]) -> u64 {
+    let [high, high_bar, low, low_bar] = best else {
+        panic!("four words")
+    };
+    unsafe {
+        with::ysh_stretch(
+            held,
+            first,
+            last,
+            closes.as_ptr(),
+            closes.len(),
+            blocks.as_ptr(),
+            blocks.len(),
+            high,
+            high_bar,
+            low,
+            low_bar,
         )
     }
 }

@@ -16,13 +16,14 @@ mod painted;
 mod progress;
 #[cfg(feature = "stack")]
 mod stack;
+mod stretches;
 mod theirs;
 mod view;
 
 use std::process::ExitCode;
 
 const USAGE: &str = "usage: driver compare SEED RUNS | guard SEED CALLS | root SEED COUNT | metrics SEED COUNT
-       driver extremes SEED COUNT | images SEED COUNT | replay < runs | bench [PART]
+       driver extremes SEED COUNT | images SEED COUNT | stretches SEED COUNT | replay < runs | bench [PART]
        driver stack SEED RUNS (with the feature `stack`: compare/stack)";
 
 fn usage() -> ! {
@@ -42,6 +43,7 @@ fn main() -> ExitCode {
         ["guard", seed, count] => guard::guard(number(seed), number(count)),
         ["extremes", seed, count] => extremes::extremes(number(seed), number(count)),
         ["images", seed, count] => images::images(number(seed), number(count)),
+        ["stretches", seed, count] => stretches::stretches(number(seed), number(count)),
         #[cfg(feature = "stack")]
         ["stack", seed, runs] => stack::stack(number(seed), number(runs)),
         ["bench"] => bench::bench(None),

@@ -4,3 +4,4 @@ pub mod Days
 pub mod Finishing
 pub mod Writing
 pub mod Powering
+pub mod Stretching

@@ -5,3 +5,4 @@ pub mod TableCalls
 pub mod RunCalls
 pub mod WhyCalls
 pub mod DumpCalls
+pub mod StretchCalls

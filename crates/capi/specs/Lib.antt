@@ -7,8 +7,10 @@ pub mod Bars
 pub mod Finish
 pub mod Power
 pub mod Figures
+pub mod Stretch
 pub mod WordRun
 pub mod Day
 pub mod Laws
+pub mod StretchIsReading
 pub mod Joined
 pub mod DayJoined

@@ -6,5 +6,6 @@ pub mod figures;
 pub mod power;
 pub mod run;
 pub mod state;
+pub mod stretch;
 pub mod tables;
 pub mod why;

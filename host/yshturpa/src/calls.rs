@@ -53,11 +53,20 @@ mod raw {
             image: *const u8, image_len: usize, rows: *mut u64, rows_len: usize,
         ) -> u64;
         pub fn ysh_dump_bytes(slots: u64, depth: u64) -> u64;
+        pub fn ysh_append(
+            held: *mut u64, close: u64, closes: *mut u64, closes_len: usize, blocks: *mut u64, blocks_len: usize,
+        ) -> u64;
+        pub fn ysh_stretch(
+            held: u64, first: u64, last: u64, closes: *const u64, closes_len: usize, blocks: *const u64, blocks_len: usize,
+            high: *mut u64, high_bar: *mut u64, low: *mut u64, low_bar: *mut u64,
+        ) -> u64;
     }
 }
 
 // SAFETY, of every call below: each pointer and the length behind it are one slice's, what is lent for writing is a slice that is
-// ours alone, and a pointer with no length behind it is a local word's. The header asks for no more.
+// ours alone, and a pointer with no length behind it is a local word's. Of what else the header asks for: floats are rounded to nearest
+// and kept below the normal ones, as every Rust program begins with them and as nothing here changes; and the stack that a call takes
+// (docs/PERFORMANCE.md, "Footprint") is the caller's to have, as for any function: a thread of Rust has two megabytes, many times that.
 
 type Answer<T> = Result<T, Refusal>;
 
@@ -299,4 +308,31 @@ pub fn restore(settings: &[u64], state: &mut [u64], image: &[u8], rows: &mut [u6
 
 pub fn dump_bytes(slots: u64, depth: u64) -> u64 {
     unsafe { raw::ysh_dump_bytes(slots, depth) }
+}
+
+pub fn append(held: &mut u64, close: u64, closes: &mut [u64], blocks: &mut [u64]) -> Answer<()> {
+    Refusal::of(unsafe {
+        raw::ysh_append(held, close, closes.as_mut_ptr(), closes.len(), blocks.as_mut_ptr(), blocks.len())
+    })
+}
+
+/// High, its bar, low, its bar.
+pub fn stretch(held: u64, first: u64, last: u64, closes: &[u64], blocks: &[u64]) -> Answer<[u64; 4]> {
+    let [mut high, mut high_bar, mut low, mut low_bar] = [0; 4];
+    Refusal::of(unsafe {
+        raw::ysh_stretch(
+            held,
+            first,
+            last,
+            closes.as_ptr(),
+            closes.len(),
+            blocks.as_ptr(),
+            blocks.len(),
+            &mut high,
+            &mut high_bar,
+            &mut low,
+            &mut low_bar,
+        )
+    })?;
+    Ok([high, high_bar, low, low_bar])
 }

@@ -9,6 +9,9 @@ pub const STATE_WORDS: usize = 22;
 pub const POINT_WORDS: usize = 2;
 pub const TRADE_WORDS: usize = 10;
 pub const METRIC_WORDS: usize = 9;
+/// A block of closes: how many closes, and its words.
+pub const BLOCK_BARS: usize = 64;
+pub const BLOCK_WORDS: usize = 4;
 
 /// Words of a line that says why, and as many lines as there may be.
 pub const WHY_WORDS: usize = 8;
@@ -128,10 +131,12 @@ pub mod state {
 /// Rooms, by number: the place of refusal 10.
 pub mod room {
     pub const ROWS: u32 = 0;
+    pub const CLOSES: u32 = 12;
+    pub const BLOCKS: u32 = 13;
     pub const SILENT: u32 = 18;
 
     /// What each is called, those that are kept for later left out.
-    pub const NAMES: [(u32, &str); 13] = [
+    pub const NAMES: [(u32, &str); 15] = [
         (ROWS, "rows"),
         (1, "equity"),
         (2, "trades"),
@@ -143,6 +148,8 @@ pub mod room {
         (8, "state"),
         (9, "metrics"),
         (10, "lines that say why"),
+        (CLOSES, "closes"),
+        (BLOCKS, "blocks"),
         (14, "the dump"),
         (SILENT, "silent tests"),
     ];

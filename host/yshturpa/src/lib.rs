@@ -8,6 +8,7 @@
 mod bar;
 mod bars;
 mod calls;
+mod closes;
 mod dump;
 mod engine;
 mod error;
@@ -23,6 +24,7 @@ mod why;
 
 pub use bar::{Bar, Funding, Rows};
 pub use bars::{Bars, Done};
+pub use closes::{Closes, Stretch};
 pub use dump::{parts_written, Image};
 pub use engine::Engine;
 pub use error::Error;

@@ -81,7 +81,7 @@ impl fmt::Display for Refusal {
 impl std::error::Error for Refusal {}
 
 /// Number, what it says, and what commonly causes it, as the header has them.
-const WORDS: [(u32, &str, &str); 18] = [
+const WORDS: [(u32, &str, &str); 19] = [
     (1, "the table is under 16 bytes", "an empty file, or a length that is not the table's"),
     (2, "the first three bytes are not RTB", "it is no rule table"),
     (3, "the table's version is none that is read", "a later format, or written with the high byte first"),
@@ -138,6 +138,11 @@ const WORDS: [(u32, &str, &str); 18] = [
          another lot, sizing or cap, or another price, lets the run go on",
     ),
     (
+        18,
+        "the stretch begins after it ends, or one of its bars is not held",
+        "the last bar was taken for one past the end; no bar was appended yet",
+    ),
+    (
         19,
         "the image is no whole dump",
         "the supply was lost before its last byte was written; a file of another length; an image of another version",
@@ -187,7 +192,7 @@ mod tests {
 
     #[test]
     fn every_number_has_words() {
-        for number in (1..=16).chain(19..=20) {
+        for number in (1..=16).chain(18..=20) {
             let refusal = Refusal { number, place: 0 };
             assert!(refusal.entry().is_some() && !refusal.causes().is_empty());
         }

@@ -9,12 +9,13 @@ mod moving;
 mod parts;
 mod rules;
 mod setup;
+mod stretch;
 mod timing;
 
 /// A table, under the name that picks it.
 type Part = (&'static str, fn());
 
-const PARTS: [Part; 9] = [
+const PARTS: [Part; 10] = [
     ("bar", engine::bench),
     ("slots", engine::by_slots),
     ("day", day::bench),
@@ -24,6 +25,7 @@ const PARTS: [Part; 9] = [
     ("rules", rules::bench),
     ("looks", looks::bench),
     ("figures", figures::bench),
+    ("stretch", stretch::bench),
 ];
 
 /// Measures everything, or the part of that name; whether there is one.

@@ -1,6 +1,6 @@
 -- A close is taken exactly where both rooms have a place for it and it is finite. Assumes nothing.
 use Prim.Native.Nat.{ℕ, _+_, _*_, _/_, _<_, _≤_}
-use mathlib.Core.Path.{_≡_, refl}
+use mathlib.Core.Path.{_≡_, refl, sym, ap, _∙_}
 use mathlib.Core.Bool.{Bool, true, false, cond, _&&_, false≢true}
 use mathlib.Core.List.{List}
 use native.Mathlib.Omega.{arith}
@@ -65,3 +65,24 @@ finite-is (fin s m d) h = refl
 
 pub finite-number : (w : ℕ) → finite (floatOf w) ≡ true → Number w
 finite-number w e = finite-is (floatOf w) e
+
+-- what is refused keeps both rooms
+not-refused : {A : Type 0} {r : Refusal} {n : ℕ} → Held n ≡ Refused r → A
+not-refused e = absurd (let z : _≡_ {A = ℕ} 0 1 = cc in omega arith)
+
+keeps : (p q r s : Bool) (k : Append) (n : ℕ) → k .answer ≡ Held n → (a b c why : Refusal) (closes blocks : List ℕ) →
+    (let all = cond (p && q) (cond r (cond s k (unchanged (Refused a) closes blocks)) (unchanged (Refused b) closes blocks))
+    (unchanged (Refused c) closes blocks) in
+    all .answer ≡ Refused why → all ≡ unchanged (Refused why) closes blocks)
+keeps true true true true k n t a b c why closes blocks e = not-refused (sym t ∙ e)
+keeps true true true false k n t a b c why closes blocks e = ap (λ (x : Added). unchanged x closes blocks) e
+keeps true true false s k n t a b c why closes blocks e = ap (λ (x : Added). unchanged x closes blocks) e
+keeps true false r s k n t a b c why closes blocks e = ap (λ (x : Added). unchanged x closes blocks) e
+keeps false q r s k n t a b c why closes blocks e = ap (λ (x : Added). unchanged x closes blocks) e
+
+pub refusal-keeps : (held close : ℕ) (closes blocks : List ℕ) (why : Refusal) → appended held close closes blocks .answer ≡ Refused why
+    → appended held close closes blocks ≡ unchanged (Refused why) closes blocks
+unfolding appended
+refusal-keeps held close closes blocks why e =
+    keeps (ltb held (length closes)) (ltb held mostCount) (placeForBlock held blocks) (finite (floatOf close)) (kept held close closes blocks) (held + 1) refl
+    _ _ _ why closes blocks e
