@@ -69,7 +69,7 @@ enum {
     YSH_REFUSED_RECORDS = 13,   /* Place 0. Any of these:
                                  * - the bar is not exactly 10 + K words: two bars at once, the three words of funding left out, or
                                  *   another K than the settings';
-                                 * - rows for ysh_rule or ysh_run that are not whole rows of 7 + K words;
+                                 * - rows for ysh_rule, ysh_why or ysh_run that are not whole rows of 7 + K words;
                                  * - equity points or trades for ysh_metrics, or trades for ysh_totals, that are not whole records;
                                  * - totals with a count above 4,294,967,295, or with more wins and losses than trades: words that no call
                                  *   wrote; other totals that are not exactly 43 words;

@@ -66,7 +66,9 @@ mod raw {
 }
 
 // SAFETY, of every call below: each pointer and the length behind it are one slice's, what is lent for writing is a slice that is
-// ours alone, and a pointer with no length behind it is a local word's. The header asks for no more.
+// ours alone, and a pointer with no length behind it is a local word's. Of what else the header asks for: floats are rounded to nearest
+// and kept below the normal ones, as every Rust program begins with them and as nothing here changes; and the stack that a call takes
+// (docs/PERFORMANCE.md, "Footprint") is the caller's to have, as for any function: a thread of Rust has two megabytes, many times that.
 
 type Answer<T> = Result<T, Refusal>;
 

@@ -97,12 +97,15 @@ fn every_number_is_the_headers() {
         ("OPEN_FUNDING", state::OPEN_FUNDING),
         ("OPEN_WORST", state::OPEN_WORST),
     ]);
-    ours.extend([
+    ours.extend(
+        [
             ("ROOM_ROWS", room::ROWS),
             ("ROOM_CLOSES", room::CLOSES),
             ("ROOM_BLOCKS", room::BLOCKS),
             ("ROOM_SILENT", room::SILENT),
-        ].map(|(n, v)| (n, v.into())));
+        ]
+        .map(|(n, v)| (n, v.into())),
+    );
     let kinds = [
         ("CONST", kind::CONST),
         ("REF", kind::REF),
