@@ -257,6 +257,7 @@ static int life(void)
 {
     for (uint64_t *word = (uint64_t *)box_begin; word < (uint64_t *)box_end; word++)
         *word = chance_state * (uint64_t)word;
+    interrupts_off();
     sum.lives++;
     now.programs = 0;
     now.armed = 0;

@@ -60,7 +60,16 @@ void machine_on(void)
     WRITE("pmevtyper0_el0", INSTRUCTIONS_RETIRED);
     WRITE("pmcntenset_el0", 1);
     WRITE("pmcr_el0", READ("pmcr_el0") | 1);
+}
+
+void interrupts_on(void)
+{
     __asm__ volatile("msr daifclr, #2");
+}
+
+void interrupts_off(void)
+{
+    __asm__ volatile("msr daifset, #2");
 }
 
 /* ---- time */

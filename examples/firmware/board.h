@@ -12,6 +12,8 @@ uint64_t now_ns(void);                      /* virtual time; with the emulator's
 uint64_t instructions(void);                /* carried out so far; counts with -icount shift=0 alone */
 void supply_timer(uint64_t after_ns);       /* the interrupt that says that the supply fell */
 void supply_timer_off(void);
+void interrupts_on(void);                   /* off at reset */
+void interrupts_off(void);
 
 void say(const char *text);
 void say_number(uint64_t number);

@@ -1,5 +1,6 @@
 /* The box: restores the newer whole image, marks it consumed, takes bars, and dumps when its supply falls. This file and flash.c are what a driver
  * needs; docs/FLASH.md says why each line is where it is. BREAKS is 0 here; a build that sets it breaks one rule, and must go wrong. */
+#include "board.h"
 #include "box.h"
 #include "flash.h"
 
@@ -35,7 +36,6 @@ static void must(const char *call, uint64_t answer)
 static void begin(void)
 {
     uint64_t rows, bytes;
-    box.supply_lost = 0;
     strategy_settings(box.settings);
     must("ysh_depth", ysh_depth(strategy_table, TABLE_BYTES, LOOKBACK, &rows, &bytes));
     if (rows > DEPTH)
@@ -196,6 +196,8 @@ _Noreturn void box_start(void)
 {
     const uint64_t *bar;
     unsigned from;
+    box.supply_lost = 0;
+    interrupts_on();            /* a supply that fell before is told now */
     begin();
     from = restore();
     if (from < AREAS)

@@ -4,7 +4,11 @@
 
 #include <stdint.h>
 
-enum { AREAS = 2, PAGE = 256, FIRST_WORD = 8, MARK_AT = 2, MARK = 'P', SEAL_BYTES = 32 };
+#ifndef PAGE_BYTES
+#define PAGE_BYTES 256
+#endif
+
+enum { AREAS = 2, PAGE = PAGE_BYTES, FIRST_WORD = 8, MARK_AT = 2, MARK = 'P', SEAL_BYTES = 32 };
 
 /* Where an area is read: the flash is mapped, so an image is restored from where it stands. */
 const uint8_t *flash_area(unsigned area);

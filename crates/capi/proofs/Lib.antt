@@ -4,4 +4,5 @@ pub mod Days
 pub mod Finishing
 pub mod Writing
 pub mod Powering
+pub mod Totalling
 pub mod Stretching

@@ -4,5 +4,6 @@ pub mod TablePlaces
 pub mod TableCalls
 pub mod RunCalls
 pub mod WhyCalls
+pub mod TotalsCalls
 pub mod DumpCalls
 pub mod StretchCalls

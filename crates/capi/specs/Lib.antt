@@ -7,6 +7,7 @@ pub mod Bars
 pub mod Finish
 pub mod Power
 pub mod Figures
+pub mod Totals
 pub mod Stretch
 pub mod WordRun
 pub mod Day
@@ -14,3 +15,4 @@ pub mod Laws
 pub mod StretchIsReading
 pub mod Joined
 pub mod DayJoined
+pub mod TotalsJoined

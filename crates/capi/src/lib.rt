@@ -4,6 +4,7 @@ mod calls;
 pub mod day;
 pub mod figures;
 pub mod power;
+pub mod report;
 pub mod run;
 pub mod state;
 pub mod stretch;

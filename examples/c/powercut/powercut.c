@@ -1,5 +1,5 @@
-/* A box that loses its supply: powercut BYTES FILE. It steps over half of a day, clears the area, writes the dump page by page and is cut after BYTES bytes
- * of the order of writing; what the area then holds is left in FILE. Then it starts again: it reads FILE, restores what is there, or says that the
+/* A box that loses its supply: powercut BYTES FILE. It steps over half of a day, erases the area to ones, programs its image page by page and is cut after BYTES
+ * bytes were programmed; what the area then holds is left in FILE. Then it starts again: it reads FILE, restores what is there, or says that the
  * image is refused and begins afresh with all bars, and goes on. A box that was never cut runs beside it, and both print their trades. */
 #include <inttypes.h>
 #include <stdio.h>
@@ -8,7 +8,8 @@
 
 #include "yshturpa.h"
 
-enum { SLOTS = 0, DEPTH = 3, BARS = 60, CUT = 30, PAGE = 128, MOST = YSH_DUMP_BYTES(SLOTS, DEPTH), TREES = 4, NODES = 8, ROOM = YSH_STEP_BYTES(NODES) };
+enum { SLOTS = 0, DEPTH = 3, BARS = 60, CUT = 30, TREES = 4, NODES = 8, ROOM = YSH_STEP_BYTES(NODES) };
+enum { PAGE = 128, FIRST_WORD = 8, MOST = YSH_DUMP_BYTES(SLOTS, DEPTH) };
 
 static uint64_t word_of(double x)
 {
@@ -68,15 +69,23 @@ static void step(Box *box, int number)
                               box->used[1], box->steps[2], box->used[2], box->steps[3], box->used[3]));
 }
 
-/* The dump, page by page, until the supply is gone after `bytes` bytes. The mark has a page of its own. */
-static void dump(const Box *box, uint8_t *area, uint64_t size, uint64_t bytes)
+/* One program of a flash: it clears bits, and is cut where the supply is gone. */
+static void program(uint8_t *flash, const uint8_t *bytes, uint64_t len, uint64_t *supply)
 {
-    for (uint64_t from = 0; from < size && from < bytes;) {
-        uint64_t upto = from + PAGE < size - 3 ? from + PAGE : from < size - 3 ? size - 3 : size;
-        must("ysh_dump", ysh_dump(box->settings, YSH_SETTING_WORDS, box->state, YSH_STATE_WORDS, box->rows, sizeof box->rows / 8, area, size, from,
-                                  upto < bytes ? upto : bytes));
-        from = upto;
+    for (uint64_t i = 0; i < len && *supply > 0; i++, --*supply)
+        flash[i] &= bytes[i];
+}
+
+/* The plan of docs/FLASH.md: every page of the image with the first word left erased, then the first word alone. */
+static void dump(const Box *box, uint8_t *area, uint64_t size, uint64_t supply)
+{
+    uint8_t image[MOST];
+    must("ysh_dump", ysh_dump(box->settings, YSH_SETTING_WORDS, box->state, YSH_STATE_WORDS, box->rows, sizeof box->rows / 8, image, size, 0, size));
+    for (uint64_t at = 0; at < size; at += PAGE) {
+        uint64_t begin = at == 0 ? FIRST_WORD : at, end = at + PAGE < size ? at + PAGE : size;
+        program(area + begin, image + begin, end - begin, &supply);
     }
+    program(area, image, FIRST_WORD, &supply);
 }
 
 static void print_trades(const char *who, const Box *box, uint64_t after)
@@ -104,6 +113,7 @@ int main(int count, char **words)
     begin(&box);
     for (int i = 0; i < CUT; i++)
         step(&box, i);
+    memset(area, 0xff, size);
     dump(&box, area, size, strtoull(words[1], NULL, 10));
     flash = fopen(words[2], "wb");
     if (!flash || fwrite(area, 1, size, flash) != size || fclose(flash) != 0)

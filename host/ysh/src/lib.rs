@@ -12,6 +12,7 @@ pub mod decompile;
 mod dump;
 mod files;
 mod holdup;
+mod output;
 mod problem;
 mod progress;
 mod run;
@@ -31,6 +32,7 @@ use clap::{CommandFactory, Parser};
 
 use cli::{Cli, Command};
 pub use problem::Problem;
+use show::shown;
 pub use source::Source;
 
 /// What the program was asked, answered; its exit status: 0, 1 where the library refused something, 2 where input is bad, 3 where something
@@ -53,19 +55,35 @@ pub fn run(arguments: impl IntoIterator<Item = OsString>, out: &mut dyn Write, e
         Command::Manual => commands::manual::answer(),
     }
     .into_parts();
-    let _ = out.write_all(text.as_bytes());
-    for line in &problems.lines {
-        let _ = writeln!(err, "ysh: {line}");
+    let mut status = problems.status;
+    if let Err(error) = whole(out.write_all(text.as_bytes()).and_then(|()| out.flush())) {
+        status = status.max(2);
+        let _ = writeln!(err, "ysh: standard output: cannot be written: {error}");
     }
-    problems.status
+    for line in &problems.lines {
+        if whole(writeln!(err, "ysh: {line}")).is_err() {
+            status = status.max(2);
+        }
+    }
+    status
+}
+
+/// A reader that has gone (`ysh show .. | head`) is no failure; any other is.
+fn whole(written: std::io::Result<()>) -> std::io::Result<()> {
+    match written {
+        Err(error) if error.kind() == std::io::ErrorKind::BrokenPipe => Ok(()),
+        written => written,
+    }
 }
 
 /// Help as it is; of anything else the first paragraph, in a line, and the help that has more.
 fn not_understood(error: &clap::Error, arguments: &[OsString], out: &mut dyn Write, err: &mut dyn Write) -> u8 {
     let text = error.to_string();
     if matches!(error.kind(), ErrorKind::DisplayHelp | ErrorKind::DisplayVersion) {
-        let _ = out.write_all(text.as_bytes());
-        return 0;
+        return match whole(out.write_all(text.as_bytes()).and_then(|()| out.flush())) {
+            Ok(()) => 0,
+            Err(_) => 2,
+        };
     }
     if error.kind() == ErrorKind::DisplayHelpOnMissingArgumentOrSubcommand {
         let _ = err.write_all(text.as_bytes());
@@ -74,7 +92,7 @@ fn not_understood(error: &clap::Error, arguments: &[OsString], out: &mut dyn Wri
     let paragraph = text.lines().take_while(|line| !line.trim().is_empty()).map(str::trim);
     let line = paragraph.collect::<Vec<_>>().join(" ");
     let line = line.strip_prefix("error: ").unwrap_or(&line);
-    let _ = writeln!(err, "ysh: {line} (`{} --help` has what there is)", asked_of(arguments));
+    let _ = writeln!(err, "ysh: {} (`{} --help` has what there is)", shown(line), asked_of(arguments));
     2
 }
 

@@ -5,6 +5,7 @@ use std::fmt;
 use yshturpa::Refusal;
 
 use crate::compile::Stopped;
+use crate::show::shown;
 use crate::strategy::Fault;
 
 /// Bad input (status 2), or a refusal of the library (status 1).
@@ -58,7 +59,6 @@ impl fmt::Display for Problem {
             false => format!("refused {} at {}", refusal.number, refusal.place),
         }));
         parts.retain(|part| !part.is_empty());
-        let line = parts.join(": ").replace(['\n', '\r'], " ");
-        f.write_str(&line)
+        f.write_str(&shown(&parts.join(": ")))
     }
 }

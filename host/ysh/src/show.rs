@@ -28,6 +28,21 @@ pub fn rounded(x: f64) -> String {
     format!("{sign}{}{dot}{part}", whole.parse().map_or(whole.to_owned(), grouped))
 }
 
+/// A text from outside as people are shown it: on one line, and nothing in it steers a terminal or the order in which it is read.
+pub fn shown(text: &str) -> String {
+    match text.chars().any(steers) {
+        false => text.to_owned(),
+        true => text.chars().map(|c| if steers(c) { c.escape_unicode().to_string() } else { c.to_string() }).collect(),
+    }
+}
+
+/// Control characters, breaks of lines and paragraphs, marks of direction, and what takes no room.
+fn steers(c: char) -> bool {
+    let marks = ['\u{ad}', '\u{61c}', '\u{180e}', '\u{feff}'];
+    let ranges = ['\u{200b}'..='\u{200f}', '\u{2028}'..='\u{202e}', '\u{2060}'..='\u{206f}', '\u{fff9}'..='\u{fffb}'];
+    c.is_control() || marks.contains(&c) || ranges.iter().any(|range| range.contains(&c))
+}
+
 /// How times are told: as dates where they look like seconds or milliseconds since 1970, else as the numbers that they are.
 #[derive(Clone, Copy, Debug, PartialEq, Eq)]
 pub enum Clock {
@@ -96,6 +111,13 @@ mod tests {
         ] {
             assert_eq!(rounded(x), text);
         }
+    }
+
+    #[test]
+    fn what_steers_is_shown_by_its_number() {
+        assert_eq!(shown("X\nequity\u{1b}[2J"), "X\\u{a}equity\\u{1b}[2J");
+        assert_eq!(shown("a\u{202e}b\u{9b}c\u{7f}"), "a\\u{202e}b\\u{9b}c\\u{7f}");
+        assert_eq!(shown("EMA 12 ü 漢 ›"), "EMA 12 ü 漢 ›");
     }
 
     #[test]

@@ -268,7 +268,7 @@ fn bad_files_get_one_line() {
     );
     let good = put(&folder, "s.json", STRATEGY);
     one_line(&["compile", &good, "-o", &at("no/such/folder")], 2, &["cannot be written: No such file"]);
-    one_line(&["compile", &good, "-o", &good], 2, &["--output: another file than the strategy itself was expected"]);
+    one_line(&["compile", &good, "-o", &good], 2, &["it is read by this command; another file was expected"]);
     one_line(&["compile", &good, "-o", &at("t"), "--warmup", "3"], 2, &["warmup: the strategy says 26 and --warmup 3"]);
     one_line(&["compile", &good, "-o", &at("t"), "--slots", "fast"], 2, &["--slots: \"slow\" is read by a rule"]);
     one_line(

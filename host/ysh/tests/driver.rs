@@ -67,7 +67,8 @@ impl Case {
         let commit_time = (commit != "page" && dice.percent(40)).then(|| micros(1 + dice.below(900)));
         Case {
             slots: dice.below(65) as u64,
-            page: page_size(dice),
+            // A seal's unit of 16 bytes divides a page.
+            page: if commit == "seal" { page_size(dice) / 16 * 16 } else { page_size(dice) },
             page_time: micros(1 + dice.below(5000)),
             commit,
             commit_time,
@@ -79,8 +80,8 @@ impl Case {
         }
     }
 
-    /// The clock after a box has written one dump of so many rows, and how many programs that took.
-    fn written(&self, rows: u64) -> (u128, u64) {
+    /// The clock after a box has written one dump of so many rows, how many programs that took, and the pages that were programmed.
+    fn written(&self, rows: u64) -> (u128, u64, u64) {
         let size = 256 + rows as usize * 8 * (7 + self.slots as usize);
         let image: Vec<u8> = (0..size).map(|at| (at % 251) as u8).collect();
         let room = size + 2 * self.page.max(16);
@@ -109,11 +110,13 @@ impl Case {
             }
         }
         assert_eq!(part.bytes[..size], image);
+        let last = part.bytes.iter().rposition(|byte| *byte != ERASED).unwrap();
         // A program that has to be repeated takes its time again.
         for _ in 0..self.repeats {
             part.clock += part.page_time;
         }
-        ((part.clock * (100 + self.margin)).div_ceil(100), part.programs)
+        let pages = (last / page + 1) as u64;
+        ((part.clock * (100 + self.margin)).div_ceil(100), part.programs, pages)
     }
 
     /// What the tool says of a table with so many rows, where so long a time is there.
@@ -171,7 +174,7 @@ fn a_driver_takes_as_many_programs_and_as_long_as_was_said() {
     let mut fitting = 0;
     for _ in 0..1200 {
         let (case, rows) = (Case::of(&mut dice), rows(&mut dice));
-        let (clock, programs) = case.written(rows);
+        let (clock, programs, pages) = case.written(rows);
         // Whole nanoseconds about the time that it takes.
         let have = (clock * (50 + dice.below(100) as u128) / 100 / 1000 * 1000).max(1000);
         let have = if dice.percent(10) { clock.div_ceil(1000) * 1000 } else { have };
@@ -180,6 +183,7 @@ fn a_driver_takes_as_many_programs_and_as_long_as_was_said() {
         let context = format!("{case:?} {rows} rows, {have} ps: {told}");
         assert_eq!(told["rows"], rows, "{context}");
         assert_eq!(told["programs"], programs, "{context}");
+        assert_eq!(told["area_pages"], pages, "{context}");
         assert_eq!(told["total_ms"], clock as f64 / 1e9, "{context}");
         assert_eq!(told["fits"], clock <= have, "{context}");
         let most = told["rows_that_fit"].as_u64().unwrap();

@@ -8,9 +8,11 @@ use super::Answer;
 use crate::cli::Compile;
 use crate::columns::{counted, grouped};
 use crate::compile::{settings, warmup, Choices, Rules};
-use crate::files::{bytes_of, name_of, put, text_of};
+use crate::files::{bytes_of, name_of, text_of};
+use crate::output::Outputs;
 use crate::problem::Problem;
 use crate::settings_file::SettingsFile;
+use crate::show::shown;
 use crate::source::{Size, Source};
 use crate::strategy::Strategy;
 
@@ -21,11 +23,6 @@ pub fn answer(asked: &Compile) -> Answer {
 fn compiled(asked: &Compile) -> Result<Answer, Problem> {
     let file = name_of(&asked.strategy);
     let text = text_of(&file, bytes_of(&asked.strategy)?)?;
-    let same =
-        |path: &Path| path.canonicalize().is_ok_and(|path| asked.strategy.canonicalize().is_ok_and(|own| own == path));
-    if same(&asked.output) {
-        return Err(Problem::input(&file, "--output", "another file than the strategy itself was expected"));
-    }
     let choices = Choices { order: asked.slots.as_deref(), absent_short_exit: asked.absent_short_exit };
     let source = Source::of_strategy(&file, &text, choices)?.held_to(asked.strict)?;
     let strategy = source.strategy.as_ref().expect("it was read from a strategy");
@@ -41,19 +38,20 @@ fn compiled(asked: &Compile) -> Result<Answer, Problem> {
 }
 
 fn write(asked: &Compile, strategy: &Strategy, rules: &Rules, settings: &Settings) -> Result<(), Problem> {
-    let beside = SettingsFile::new(&rules.names, strategy.sizing, strategy.costs.slippage, settings);
-    put(&asked.output, &rules.table)?;
-    put(&SettingsFile::beside(&asked.output), beside.text().as_bytes())?;
+    let beside = SettingsFile::new(rules, strategy.sizing, strategy.costs.slippage, settings);
+    let mut outputs = Outputs::of([&asked.strategy]);
+    outputs.add(&asked.output, rules.table.clone());
+    outputs.add(&SettingsFile::beside(&asked.output), beside.text());
     if let Some(path) = &asked.words {
-        put(path, &settings.words().map(u64::to_le_bytes).concat())?;
+        outputs.add(path, settings.words().map(u64::to_le_bytes).concat());
     }
-    Ok(())
+    outputs.write()
 }
 
 fn report(source: &Source, size: &Size, output: &Path) -> Answer {
     let mut answer = Answer::default();
     let nodes = counted(source.forest.nodes.len() as u64, "node", "nodes");
-    answer.line(format!("{}: {nodes}, {}", output.display(), counted(size.slots, "slot", "slots")));
+    answer.line(format!("{}: {nodes}, {}", name_of(output), counted(size.slots, "slot", "slots")));
     answer.line(format!(
         "window {}, {} bytes; dump {} bytes",
         counted(size.rows, "row", "rows"),
@@ -61,7 +59,7 @@ fn report(source: &Source, size: &Size, output: &Path) -> Answer {
         grouped(size.dump)
     ));
     for (slot, name) in source.names.iter().enumerate() {
-        answer.line(format!("slot {slot:>2}  {name}"));
+        answer.line(format!("slot {slot:>2}  {}", shown(name)));
     }
     answer
 }

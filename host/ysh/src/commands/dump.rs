@@ -7,7 +7,8 @@ use crate::bars::{over, Seen, Way};
 use crate::columns::{counted, grouped};
 use crate::dump::asked::{Cut, Dump, Resume, Show, Take, Which};
 use crate::dump::words;
-use crate::files::{name_of, put};
+use crate::files::name_of;
+use crate::output::Outputs;
 use crate::problem::Problem;
 use crate::run::outcome::Outcome;
 use crate::run::Ready;
@@ -57,10 +58,12 @@ fn take(asked: &Take) -> Result<Answer, Problem> {
     engine.make_room(1);
     engine.step(&bar).map_err(|refusal| Problem::refused(&bars.name, refusal))?;
     let image = engine.dump().map_err(|refusal| source.refused(refusal))?;
-    put(&asked.output, &image)?;
+    let mut outputs = Outputs::of(asked.over.read());
+    outputs.add(&asked.output, image.clone());
+    outputs.write()?;
     let mut answer = Answer::default();
     let seen = counted(engine.state().bars_seen(), "bar", "bars");
-    answer.line(format!("{}: {} bytes, after {seen}", asked.output.display(), grouped(image.len() as u64)));
+    answer.line(format!("{}: {} bytes, after {seen}", name_of(&asked.output), grouped(image.len() as u64)));
     answer.doubts(&source.file, &source.doubts);
     answer.notes(&source.file, &notes);
     Ok(answer)
@@ -82,7 +85,8 @@ fn resume(asked: &Resume) -> Result<Answer, Problem> {
         counted(seen, "bar", "bars")
     );
     outcome.notes.push(said);
-    run::written(outcome, &asked.wanted)
+    let inputs = asked.over.read().into_iter().chain([asked.image.clone()]);
+    run::written(outcome, &asked.wanted, Outputs::of(inputs))
 }
 
 fn cut(asked: &Cut) -> Result<Answer, Problem> {
@@ -90,12 +94,14 @@ fn cut(asked: &Cut) -> Result<Answer, Problem> {
     let image = Image::of(&bytes).map_err(|refusal| refused(&file, &bytes, refusal))?;
     let left = image.cut(asked.bytes).map_err(|refusal| Problem::refused(&file, refusal))?;
     if let Some(path) = &asked.output {
-        put(path, &left)?;
+        let mut outputs = Outputs::of([&asked.image]);
+        outputs.add(path, left.clone());
+        outputs.write()?;
     }
     let mut answer = Answer::default();
     let of = grouped(left.len() as u64);
     answer.line(format!("{file} cut after {} of {of} bytes", grouped(asked.bytes.min(left.len() as u64))));
-    words::cut(left.len(), asked.bytes, 8 * (7 + image.rows.slots())).iter().for_each(|line| answer.line(line));
+    words::cut(left.len(), asked.bytes, 8 * (7 + image.rows().slots())).iter().for_each(|line| answer.line(line));
     answer.line(match Image::of(&left) {
         Ok(_) => "read     whole: a box goes on from it".to_owned(),
         Err(refusal) => format!("read     refused {} at {}: {}", refusal.number, refusal.place, words::fault(&left)),

@@ -3,12 +3,13 @@
 use std::ffi::OsString;
 
 use super::Answer;
-use crate::files::put;
 use crate::holdup::asked::Holdup;
 use crate::holdup::reading::report;
 use crate::holdup::sheet::Sheet;
 use crate::holdup::{json, page, text};
+use crate::output::Outputs;
 use crate::problem::Problem;
+use crate::settings_file::SettingsFile;
 
 pub fn answer(asked: &Holdup, arguments: &[OsString]) -> Answer {
     answered(asked, arguments).unwrap_or_else(Answer::from)
@@ -17,7 +18,10 @@ pub fn answer(asked: &Holdup, arguments: &[OsString]) -> Answer {
 fn answered(asked: &Holdup, arguments: &[OsString]) -> Result<Answer, Problem> {
     let report = report(asked, Sheet::of(arguments))?;
     if let Some(path) = &asked.wanted.html {
-        put(path, page::page(&report))?;
+        let clients = report.clients.iter().map(|client| client.path.clone());
+        let mut outputs = Outputs::of(clients.flat_map(|path| [SettingsFile::beside(&path), path]));
+        outputs.add(path, page::page(&report));
+        outputs.write()?;
     }
     let text = if asked.wanted.json { json::json(&report) } else { text::text(&report) };
     let unfit = !report.short_boxes().is_empty();

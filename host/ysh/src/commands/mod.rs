@@ -11,6 +11,7 @@ pub mod show;
 pub mod why;
 
 use crate::problem::Problem;
+use crate::show::shown;
 
 /// What a command writes, what it has to say beside, and what went wrong.
 #[derive(Debug, Default)]
@@ -43,12 +44,12 @@ impl Answer {
 
     /// What a file has to say, with its name.
     pub fn notes(&mut self, file: &str, notes: &[String]) {
-        self.notes.extend(notes.iter().map(|note| format!("{file}: note: {note}")));
+        self.notes.extend(notes.iter().map(|note| shown(&format!("{file}: note: {note}"))));
     }
 
     /// What is doubtful of a file, with its name.
     pub fn doubts(&mut self, file: &str, doubts: &[String]) {
-        self.doubts.extend(doubts.iter().map(|doubt| format!("WARNING  {file}: {doubt}")));
+        self.doubts.extend(doubts.iter().map(|doubt| shown(&format!("WARNING  {file}: {doubt}"))));
     }
 
     pub fn into_parts(self) -> (String, Said) {

@@ -3,7 +3,7 @@
 use super::Answer;
 use crate::bars::Way;
 use crate::columns::counted;
-use crate::files::put;
+use crate::output::Outputs;
 use crate::problem::Problem;
 use crate::run::asked::{Run, Wanted};
 use crate::run::outcome::Outcome;
@@ -18,20 +18,21 @@ pub fn answer(asked: &Run) -> Answer {
 
 fn answered(asked: &Run) -> Result<Answer, Problem> {
     let way = Way { on_refusal: asked.over.on_refusal, after: None, until: None };
-    written(Outcome::of(Ready::of(&asked.over)?, way)?, &asked.wanted)
+    written(Outcome::of(Ready::of(&asked.over)?, way)?, &asked.wanted, Outputs::of(asked.over.read()))
 }
 
 /// The files that are wanted of a run, and the answer.
-pub fn written(outcome: Outcome, wanted: &Wanted) -> Result<Answer, Problem> {
+pub fn written(outcome: Outcome, wanted: &Wanted, mut outputs: Outputs) -> Result<Answer, Problem> {
     if let Some(path) = &wanted.trades {
-        put(path, csv::trades(&outcome.trades))?;
+        outputs.add(path, csv::trades(&outcome.trades));
     }
     if let Some(path) = &wanted.equity {
-        put(path, csv::equity(&outcome.equity))?;
+        outputs.add(path, csv::equity(&outcome.equity));
     }
     if let Some(path) = &wanted.html {
-        put(path, page::page(&outcome))?;
+        outputs.add(path, page::page(&outcome));
     }
+    outputs.write()?;
     let text = if wanted.json { json::json(&outcome) } else { text::text(&outcome) };
     let mut answer = Answer { text, document: wanted.json, ..Answer::default() };
     answer.doubts(&outcome.file, &outcome.doubts);

@@ -4,7 +4,7 @@ use yshturpa::{why, Tree, WhyLine};
 
 use super::Answer;
 use crate::columns::counted;
-use crate::files::put;
+use crate::output::Outputs;
 use crate::problem::Problem;
 use crate::run::Ready;
 use crate::show::{rounded, Clock};
@@ -29,7 +29,9 @@ fn answered(asked: &Why) -> Result<Answer, Problem> {
     let chains = trees.into_iter().map(|tree| Ok((tree, chain(&moment, tree)?))).collect::<Result<Vec<_>, _>>()?;
     let head = head(&moment);
     if let Some(path) = &asked.html {
-        put(path, page::page(&moment, &head, &chains))?;
+        let mut outputs = Outputs::of(asked.over.read());
+        outputs.add(path, page::page(&moment, &head, &chains));
+        outputs.write()?;
     }
     let mut answer = Answer::default();
     head.iter().for_each(|line| answer.line(line));

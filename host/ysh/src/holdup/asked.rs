@@ -85,6 +85,9 @@ pub struct FlashAsked {
     /// Time of the commit's own program, where a short program takes less than a page; left out, that of a page, and 0 with --rate
     #[arg(long, value_name = "TIME", value_parser = parse_time, allow_hyphen_values = true)]
     pub commit_time: Option<Time>,
+    /// Bytes of a program unit, with --commit seal: what the seal takes behind the image; 16 where left out
+    #[arg(long, value_name = "BYTES", value_parser = parse_bytes, allow_hyphen_values = true, requires = "page")]
+    pub unit: Option<u64>,
     /// Programs of a dump that may have to be repeated
     #[arg(long, value_name = "N", value_parser = parse_retries, allow_hyphen_values = true, default_value = "0", requires = "page")]
     pub retries: u64,

@@ -71,10 +71,21 @@ fn programs(plan: &Plan, client: &Client) -> Vec<Formula> {
         Commit::Seal => ("pages + the seal", format!("{pages} + 1")),
         Commit::Page => ("pages, the one with the mark last", pages),
     };
-    vec![
+    let mut all = vec![
         formula("pages", "⌈dump / page⌉", dump, counted(programs.pages, "page", "pages")),
         formula("programs", words, numbers, counted(programs.all(), "program", "programs")),
-    ]
+    ];
+    if let (Commit::Seal, Some(area)) = (plan.commit, client.area) {
+        let (image, unit) = (grouped(client.size.dump.next_multiple_of(plan.unit)), grouped(plan.unit));
+        let numbers = format!("⌈({image} + {unit}) / {}⌉", grouped(size));
+        all.push(formula(
+            "area",
+            "⌈(whole units of the dump + the seal) / page⌉",
+            numbers,
+            counted(area, "page", "pages"),
+        ));
+    }
+    all
 }
 
 fn writing(plan: &Plan, client: &Client) -> Formula {

@@ -1,9 +1,10 @@
 //! What was asked: the plan of programs, the times around it, the supply, and the time that is there.
 
 use super::asked::{Holdup, SupplyAsked};
-use super::plan::{Commit, Flash, Plan};
+use super::plan::{Commit, Flash, Plan, SEAL};
 use super::supply::Supply;
 use super::units::{Share, Time};
+use crate::columns::grouped;
 use crate::problem::Problem;
 
 /// Where the time that is there is known from.
@@ -146,7 +147,14 @@ fn plan_of(asked: &Holdup) -> Result<(Plan, Option<Time>), Problem> {
         let text = "with --commit page the last program is a whole page, and none was expected";
         return Err(Problem::input("--commit-time", "", text));
     }
-    let plan = Plan { flash, commit: part.commit, commit_time: part.commit_time, erase: part.erase_time };
+    let unit = part.unit.unwrap_or(SEAL);
+    if let Flash::Pages { size, .. } = flash {
+        if part.commit == Commit::Seal && size % unit != 0 {
+            let text = format!("{} bytes: a page of {} is no whole number of them", grouped(unit), grouped(size));
+            return Err(Problem::input("--unit", "", text));
+        }
+    }
+    let plan = Plan { flash, commit: part.commit, commit_time: part.commit_time, unit, erase: part.erase_time };
     Ok((plan, typical))
 }
 
@@ -164,7 +172,7 @@ mod tests {
         ];
         let cases = [(1, 0, 0), (1, 64, 15), (3, 2, 0), (7, 5, 333)];
         for (flash, (dumps, slots, margin)) in flashes.into_iter().flat_map(|f| cases.map(|case| (f, case))) {
-            let plan = Plan { flash, commit: Commit::Mark, commit_time: None, erase: Time(2) };
+            let plan = Plan { flash, commit: Commit::Mark, commit_time: None, unit: SEAL, erase: Time(2) };
             let (before, call, margin) = (Time(3), Time(5), Share::of_thousands(margin));
             let (have_from, limits, call_from) = (HaveFrom::Told, false, None);
             let (typical, supply, have, dumps) = (None, None, None, Some(dumps));

@@ -86,6 +86,8 @@ struct FileJson<'a> {
     /// Those of the image, and all programs of one dump, the commit's too; none where there are no pages.
     pages: Option<u64>,
     programs: Option<u64>,
+    /// The pages to keep erased for it, the seal's too.
+    area_pages: Option<u64>,
     writing_ms: f64,
     total_ms: f64,
     deepest: &'a str,
@@ -237,6 +239,7 @@ fn file(client: &Client) -> FileJson<'_> {
         dump_bytes: client.size.dump,
         pages: client.written.programs.map(|programs| programs.pages),
         programs: client.written.programs.map(|programs| programs.all()),
+        area_pages: client.area,
         writing_ms: client.written.time.ms(),
         total_ms: client.alone.ms(),
         deepest: &client.why,

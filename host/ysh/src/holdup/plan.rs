@@ -19,6 +19,9 @@ pub enum Commit {
     Seal,
 }
 
+/// The bytes of a seal, where no program unit is told.
+pub const SEAL: u64 = 16;
+
 impl Commit {
     /// Programs beside those of the image's pages.
     fn programs(self) -> u64 {
@@ -45,6 +48,8 @@ pub struct Plan {
     pub commit: Commit,
     /// The time of the commit's own program; left out, that of a page, and none where there are no pages.
     pub commit_time: Option<Time>,
+    /// The bytes of a program unit, which a seal takes.
+    pub unit: u64,
     /// Erasing the area of a dump after the supply fell; none where it was erased ahead.
     pub erase: Time,
 }
@@ -94,6 +99,17 @@ impl Plan {
         u64::try_from(bytes).unwrap_or(u64::MAX)
     }
 
+    /// The pages that an area has to have, and that are erased ahead: the image's, and the seal's where it does not fit behind the image.
+    pub fn area(&self, bytes: u64) -> Option<u64> {
+        match (self.flash, self.commit) {
+            (Flash::Pages { size, .. }, Commit::Seal) => {
+                Some((bytes.next_multiple_of(self.unit) + self.unit).div_ceil(size))
+            }
+            (Flash::Pages { size, .. }, _) => Some(bytes.div_ceil(size)),
+            (Flash::Rate(_), _) => None,
+        }
+    }
+
     /// What a dump takes beside the image's own pages or bytes: erasing, programs that are repeated, the commit.
     pub fn beside(&self) -> Time {
         self.erase + self.repeating() + self.committing()
@@ -122,7 +138,7 @@ mod tests {
     const MS: u128 = 1_000_000_000;
 
     fn pages(size: u64, time: Time, commit: Commit) -> Plan {
-        Plan { flash: Flash::Pages { size, time, repeats: 0 }, commit, commit_time: None, erase: Time(0) }
+        Plan { flash: Flash::Pages { size, time, repeats: 0 }, commit, commit_time: None, unit: SEAL, erase: Time(0) }
     }
 
     /// README's client: 4,648 bytes in pages of 256.
@@ -130,6 +146,15 @@ mod tests {
     fn the_commit_is_a_program_of_its_own() {
         let counted = |commit| pages(256, Time(1), commit).write(4648).programs.unwrap().all();
         assert_eq!([Commit::Mark, Commit::Page, Commit::Seal].map(counted), [20, 19, 20]);
+    }
+
+    /// A seal of 16 bytes fits behind 4,648 bytes in 19 pages of 256; behind 4,864 it takes a page of its own.
+    #[test]
+    fn a_seal_takes_a_page_where_it_does_not_fit() {
+        let area = |commit, bytes| pages(256, Time(1), commit).area(bytes);
+        assert_eq!((area(Commit::Seal, 4648), area(Commit::Seal, 4864)), (Some(19), Some(20)));
+        assert_eq!((area(Commit::Seal, 4848), area(Commit::Seal, 4856)), (Some(19), Some(20)));
+        assert_eq!(area(Commit::Mark, 4864), Some(19));
     }
 
     #[test]
@@ -144,7 +169,8 @@ mod tests {
     #[test]
     fn what_is_beside_the_pages() {
         let flash = Flash::Pages { size: 256, time: Time(2 * MS), repeats: 1 };
-        let plan = Plan { flash, commit: Commit::Mark, commit_time: Some(Time(MS / 2)), erase: Time(10 * MS) };
+        let plan =
+            Plan { flash, commit_time: Some(Time(MS / 2)), erase: Time(10 * MS), ..pages(256, Time(1), Commit::Mark) };
         assert_eq!(plan.write(600).time, Time(18 * MS + MS / 2));
         assert_eq!((plan.most(Time(18 * MS)), plan.most(Time(18 * MS + MS / 2))), (512, 768));
         let whole = Plan { commit: Commit::Page, ..plan };

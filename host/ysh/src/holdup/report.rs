@@ -36,6 +36,8 @@ pub struct Client {
     pub why: String,
     /// One dump; how long it takes typically, where the longest time decides; and the whole time of a box that has this client alone.
     pub written: Written,
+    /// The pages of its area, where there are pages.
+    pub area: Option<u64>,
     pub typical: Option<Time>,
     pub alone: Time,
     pub fit: Option<Fit>,
@@ -78,6 +80,7 @@ impl Client {
             lookback: source.lookback,
             why: why(&source).map_err(refused)?,
             written,
+            area: given.plan.area(size.dump),
             typical: given.typical_plan().map(|plan| plan.write(size.dump).time),
             alone,
             fit: given.have.map(|have| Fit::of(&source, given, have, alone)).transpose()?,

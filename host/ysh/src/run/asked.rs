@@ -6,6 +6,7 @@ use clap::Args;
 
 use crate::bars::OnRefusal;
 use crate::cli::{parse_count, parse_lot, parse_money};
+use crate::settings_file::SettingsFile;
 
 const EXAMPLES: &str = "Examples:
   ysh run examples/strategies/crossover.json examples/bars/day.csv
@@ -38,6 +39,13 @@ pub struct Over {
     pub strict: bool,
     #[command(flatten)]
     pub given: Given,
+}
+
+impl Over {
+    /// The files that are read.
+    pub fn read(&self) -> [PathBuf; 3] {
+        [self.file.clone(), SettingsFile::beside(&self.file), self.bars.clone()]
+    }
 }
 
 /// What a strategy leaves to whoever runs it.

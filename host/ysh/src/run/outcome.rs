@@ -5,6 +5,7 @@ use yshturpa::{Metrics, Point, Reason, Trade};
 use super::Ready;
 use crate::bars::{over, Refusals, Way};
 use crate::problem::Problem;
+use crate::show::shown;
 
 /// A run over every bar of a file, finished.
 pub struct Outcome {
@@ -60,7 +61,7 @@ impl Outcome {
         Ok(Outcome {
             file: source.file,
             bars_file: bars.name.clone(),
-            title: title.trim().to_owned(),
+            title: shown(title.trim()),
             capital: settings.capital,
             metrics,
             trades: engine.trades().collect(),
@@ -68,7 +69,7 @@ impl Outcome {
             closes,
             fees: engine.state().fees_paid(),
             refusals: walked.refusals,
-            unread: bars.columns.unread().into_iter().map(str::to_owned).collect(),
+            unread: bars.columns.unread().into_iter().map(shown).collect(),
             doubts: source.doubts,
             notes,
         })

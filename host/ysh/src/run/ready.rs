@@ -7,6 +7,7 @@ use crate::bars::BarsFile;
 use crate::cli::Reading;
 use crate::compile::{self, Choices, Rules};
 use crate::decompile::slot_names;
+use crate::files::name_of;
 use crate::problem::Problem;
 use crate::settings_file::SettingsFile;
 use crate::source::Source;
@@ -50,7 +51,7 @@ pub fn source_and_settings(over: &Over) -> Result<(Source, Settings), Problem> {
         (None, Some(beside)) => of_table(&source, beside, over)?,
         (None, None) => {
             let beside = SettingsFile::beside(&over.file);
-            let text = format!("a table runs with its settings, and there is no {}", beside.display());
+            let text = format!("a table runs with its settings, and there is no {}", name_of(&beside));
             return Err(Problem::input(&source.file, "", text));
         }
     };
@@ -67,7 +68,7 @@ fn of_strategy(source: &Source, strategy: &Strategy, given: &Given) -> Result<Se
 }
 
 fn of_table(source: &Source, beside: &SettingsFile, over: &Over) -> Result<Settings, Problem> {
-    let file = SettingsFile::beside(&over.file).display().to_string();
+    let file = name_of(&SettingsFile::beside(&over.file));
     if let Some(name) = over.given.first() {
         let text = format!("a table has it in its settings, {file}; it was expected there");
         return Err(Problem::input(&source.file, name, text));

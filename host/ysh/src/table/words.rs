@@ -3,6 +3,7 @@
 use yshturpa::layout::kind;
 
 use super::Forest;
+use crate::show::shown;
 
 /// The prices, by selector.
 const PRICES: [&str; 7] = ["open", "high", "low", "close", "volume", "hlc3", "ohlc4"];
@@ -24,7 +25,7 @@ impl Words<'_> {
 
     /// A slot's name, or its number.
     pub fn slot(&self, n: u32) -> String {
-        self.names.get(n as usize).cloned().unwrap_or_else(|| format!("slot {n}"))
+        self.names.get(n as usize).map_or_else(|| format!("slot {n}"), |name| shown(name))
     }
 
     /// The node alone, without what is below it.
