@@ -235,6 +235,8 @@ c_calls! {
         metrics: *mut u64,
         metrics_len: usize,
     ) -> u64;
+    fn ysh_totals(totals: *mut u64, totals_len: usize, trades: *const u64, trades_len: usize) -> u64;
+    fn ysh_totals_join(totals: *mut u64, totals_len: usize, other: *const u64, other_len: usize) -> u64;
     fn ysh_root(word: u64) -> u64;
     fn ysh_append(
         held: *mut u64,
@@ -269,18 +271,6 @@ c_calls! {
         area_len: usize,
         from: u64,
         upto: u64,
-    ) -> u64;
-    fn ysh_dump_part(
-        settings: *const u64,
-        settings_len: usize,
-        state: *const u64,
-        state_len: usize,
-        rows: *const u64,
-        rows_len: usize,
-        at: u64,
-        part: *mut u8,
-        part_len: usize,
-        used: *mut u64,
     ) -> u64;
     fn ysh_restore(
         settings: *const u64,
@@ -476,6 +466,14 @@ pub fn metrics(initial: u64, equity: &[u64], trades: &[u64], metrics: &mut [u64]
     }
 }
 
+pub fn totals(totals: &mut [u64], trades: &[u64]) -> u64 {
+    unsafe { with::ysh_totals(totals.as_mut_ptr(), totals.len(), trades.as_ptr(), trades.len()) }
+}
+
+pub fn totals_join(totals: &mut [u64], other: &[u64]) -> u64 {
+    unsafe { with::ysh_totals_join(totals.as_mut_ptr(), totals.len(), other.as_ptr(), other.len()) }
+}
+
 pub fn root(word: u64) -> u64 {
     unsafe { with::ysh_root(word) }
 }
@@ -498,24 +496,6 @@ pub fn dump(settings: &[u64], state: &[u64], rows: &[u64], area: &mut [u8], (fro
             area.len(),
             from,
             upto,
-        )
-    }
-}
-
-/// Bytes `at` on of the image, into the part.
-pub fn dump_part(settings: &[u64], state: &[u64], rows: &[u64], at: u64, part: &mut [u8], used: &mut u64) -> u64 {
-    unsafe {
-        with::ysh_dump_part(
-            settings.as_ptr(),
-            settings.len(),
-            state.as_ptr(),
-            state.len(),
-            rows.as_ptr(),
-            rows.len(),
-            at,
-            part.as_mut_ptr(),
-            part.len(),
-            used,
         )
     }
 }

@@ -5,4 +5,5 @@ pub mod Finishing
 pub mod Writing
 pub mod Powering
 pub mod Parting
+pub mod Totalling
 pub mod Stretching

@@ -5,6 +5,7 @@ pub mod day;
 pub mod figures;
 pub mod part;
 pub mod power;
+pub mod report;
 pub mod run;
 pub mod state;
 pub mod stretch;

@@ -1,8 +1,10 @@
 //! Files and folders, and what is said of one that cannot be read.
 
 use std::fs;
+use std::io::{self, Read};
 use std::path::{Path, PathBuf};
 
+use crate::columns::grouped;
 use crate::problem::Problem;
 use crate::show::shown;
 
@@ -11,8 +13,22 @@ pub fn name_of(path: &Path) -> String {
     shown(&path.strip_prefix("./").unwrap_or(path).to_string_lossy())
 }
 
+/// The most bytes of a strategy, a table or settings: far above what any has that a table's 256 nodes can hold, and far below what
+/// would take the machine's memory once it is a tree.
+const MOST_BYTES: u64 = 1 << 20;
+
+/// The bytes of a file that is not too long.
+pub fn read_most(path: &Path) -> io::Result<Vec<u8>> {
+    let mut bytes = Vec::new();
+    fs::File::open(path)?.take(MOST_BYTES + 1).read_to_end(&mut bytes)?;
+    match bytes.len() as u64 > MOST_BYTES {
+        true => Err(io::Error::new(io::ErrorKind::Other, format!("it has more than {} bytes", grouped(MOST_BYTES)))),
+        false => Ok(bytes),
+    }
+}
+
 pub fn bytes_of(path: &Path) -> Result<Vec<u8>, Problem> {
-    fs::read(path).map_err(|error| {
+    read_most(path).map_err(|error| {
         let problem = Problem::io(name_of(path), "read", &error);
         Problem { text: format!("{}; a strategy (JSON) or a rule table was expected", problem.text), ..problem }
     })

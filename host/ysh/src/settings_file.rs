@@ -5,8 +5,9 @@ use std::path::{Path, PathBuf};
 use serde::{Deserialize, Serialize};
 use yshturpa::{EntryOrder, Settings};
 
-use crate::compile::{sizing_of, slippage_of};
-use crate::files::name_of;
+use crate::compile::{sizing_of, slippage_of, Rules};
+use crate::files::{name_of, read_most, text_of};
+use crate::holdup::sheet::digest;
 use crate::problem::Problem;
 use crate::strategy::spec::{Sizing, Slippage};
 use crate::strategy::{in_words, Fault};
@@ -37,6 +38,9 @@ pub struct SettingsFile {
     pub maker_bps: f64,
     /// 0: any quantity.
     pub lot: f64,
+    /// The SHA-256 of the table that they were made with; files of before have none.
+    #[serde(default, skip_serializing_if = "Option::is_none")]
+    pub table_sha256: Option<String>,
 }
 
 /// How an entry order is written.
@@ -57,9 +61,9 @@ impl SettingsFile {
         name.into()
     }
 
-    pub fn new(slots: &[String], sizing: Sizing, slippage: Slippage, settings: &Settings) -> SettingsFile {
+    pub fn new(rules: &Rules, sizing: Sizing, slippage: Slippage, settings: &Settings) -> SettingsFile {
         SettingsFile {
-            slots: slots.to_vec(),
+            slots: rules.names.clone(),
             depth: settings.depth,
             capital: settings.capital,
             warmup: settings.warmup,
@@ -79,6 +83,7 @@ impl SettingsFile {
             entry_order: settings.entry_order,
             maker_bps: settings.maker_bps,
             lot: settings.lot,
+            table_sha256: Some(digest(&rules.table)),
         }
     }
 
@@ -121,8 +126,8 @@ impl SettingsFile {
     pub fn read(table: &Path) -> Result<Option<(SettingsFile, String)>, Problem> {
         let path = SettingsFile::beside(table);
         let name = name_of(&path);
-        let text = match std::fs::read_to_string(&path) {
-            Ok(text) => text,
+        let text = match read_most(&path) {
+            Ok(bytes) => text_of(&name, bytes)?,
             Err(error) if error.kind() == std::io::ErrorKind::NotFound => return Ok(None),
             Err(error) => return Err(Problem::io(name, "read", &error)),
         };

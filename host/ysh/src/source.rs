@@ -101,6 +101,10 @@ impl Source {
         let mut source = Source::new(&file, table, names, Vec::new(), lookback)?;
         if let Some(beside) = &beside {
             fitting(&source, beside).map_err(|(place, text)| Problem::input(&settings, place, text))?;
+            if beside.table_sha256.is_none() {
+                let text = "it does not say which table it belongs to; ysh compile writes that now";
+                source.notes.push(format!("{settings}: {text}"));
+            }
         }
         if !known {
             let text = "sizing is taken to be no volatility target, so D may be too small";
@@ -168,6 +172,9 @@ impl Source {
 
 /// What of the settings does not go with their table: the place, and what was expected there.
 fn fitting(source: &Source, settings: &SettingsFile) -> Result<(), (&'static str, String)> {
+    if settings.table_sha256.as_ref().is_some_and(|hash| *hash != digest(&source.table)) {
+        return Err(("table_sha256", "it is that of another table; the settings of this one were expected".to_owned()));
+    }
     let (named, slots) = (settings.slots.len(), source.forest.slots);
     if named != slots {
         return Err(("slots", format!("{named} names; as many as the table has slots were expected, {slots}")));

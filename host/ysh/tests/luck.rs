@@ -108,6 +108,43 @@ fn a_table_and_its_settings_are_both_written_or_neither() {
     assert_eq!(files(&folder).len(), 4, "nothing is left beside them");
 }
 
+/// Settings that were made with another table are refused, and those of before, which do not say which, are told.
+#[test]
+fn a_table_has_its_own_settings() {
+    let folder = folder("luck-settings");
+    let (strategy, bars) = put(&folder);
+    let other = folder.join("o.json").to_str().unwrap().to_owned();
+    fs::write(&other, STRATEGY.replace("14]", "13]")).unwrap();
+    let (a, b) = (folder.join("a.rtb").to_str().unwrap().to_owned(), folder.join("b.rtb").to_str().unwrap().to_owned());
+    assert_eq!((ysh(&["compile", &strategy, "-o", &a]).0, ysh(&["compile", &other, "-o", &b]).0), (0, 0));
+    assert_eq!(ysh(&["run", &a, &bars]).0, 0);
+    let settings = format!("{b}.settings.json");
+    fs::copy(format!("{a}.settings.json"), &settings).unwrap();
+    for command in [vec!["run", &b, &bars], vec!["depth", &b], vec!["show", &b]] {
+        let (status, _, err) = ysh(&command);
+        assert!(status == 2 && err.contains("table_sha256: it is that of another table"), "{err}");
+    }
+    let text = fs::read_to_string(&settings).unwrap();
+    let hash = text.lines().find(|line| line.contains("table_sha256")).unwrap();
+    fs::write(&settings, text.replace(&format!(",\n{hash}"), "")).unwrap();
+    let (status, _, err) = ysh(&["depth", &b]);
+    assert!(status == 0 && err.contains("it does not say which table it belongs to"), "{err}");
+}
+
+/// A strategy that no table can hold is not read into a tree.
+#[test]
+fn a_file_that_is_far_too_long_is_not_read() {
+    let folder = folder("luck-long");
+    let many = vec!["{\"in_position\": true}"; 300_000].join(",");
+    let long = STRATEGY.replace("\"all\": [", &format!("\"all\": [{many},"));
+    let path = folder.join("s.json").to_str().unwrap().to_owned();
+    fs::write(&path, &long).unwrap();
+    for command in [vec!["depth", &path], vec!["show", &path], vec!["compile", &path, "-o", "/nowhere/t"]] {
+        let (status, out, err) = ysh(&command);
+        assert!(status == 2 && out.is_empty() && err.contains("it has more than 1,048,576 bytes"), "{err}");
+    }
+}
+
 /// On a file system that is full the older report stays, whole. Only where a small one may be mounted.
 #[test]
 fn a_full_disk_leaves_what_was_there() {

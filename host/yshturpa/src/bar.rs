@@ -55,13 +55,14 @@ pub struct Rows {
 }
 
 impl Rows {
+    /// No rows yet. A K above 64 is no table's, and is kept as 65.
     pub fn new(slots: usize) -> Rows {
-        Rows { slots, words: Vec::new() }
+        Rows { slots: slots.min(MOST_SLOTS + 1), words: Vec::new() }
     }
 
-    /// Rows from their words, where these are whole rows of so many slots.
+    /// Rows from their words, where these are whole rows of so many slots, 64 at most.
     pub fn of_words(slots: usize, words: Vec<u64>) -> Option<Rows> {
-        (words.len() % (ROW_FIXED + slots) == 0).then_some(Rows { slots, words })
+        (slots <= MOST_SLOTS && words.len() % (ROW_FIXED + slots) == 0).then_some(Rows { slots, words })
     }
 
     /// Adds a bar's row at the end. Slots beyond K are left out.
@@ -100,7 +101,7 @@ impl Rows {
         let width = ROW_FIXED + self.slots;
         let words = &self.words[place * width..(place + 1) * width];
         let x = |word: usize| f64::from_bits(words[word]);
-        let slot = |k: usize| (words[6] >> k & 1 == 1).then(|| x(ROW_FIXED + k));
+        let slot = |k: usize| (k < MOST_SLOTS && words[6] >> k & 1 == 1).then(|| x(ROW_FIXED + k));
         Bar {
             time: words[0] as i64,
             open: x(1),

@@ -14,13 +14,16 @@ pub struct Bars {
 }
 
 impl Bars {
+    /// No bars yet. A K above 64 is that of no engine: such bars are refused as any of the wrong length are (13), and are kept as bars of 65.
     pub fn new(slots: usize) -> Bars {
-        Bars { slots, words: Vec::new() }
+        Bars { slots: slots.min(MOST_SLOTS + 1), words: Vec::new() }
     }
 
-    /// No bars, with room for so many.
+    /// No bars, with room for so many, a million words at most being kept for them from the start.
     pub fn with_room(slots: usize, bars: usize) -> Bars {
-        Bars { slots, words: Vec::with_capacity((BAR_FIXED + slots) * bars) }
+        let mut list = Bars::new(slots);
+        list.words.reserve(list.width().saturating_mul(bars).min(1 << 20));
+        list
     }
 
     /// Adds a bar at the end. Slots that it lacks are absent, and slots beyond K are left out.
@@ -77,7 +80,7 @@ impl Bars {
             low: x(3),
             close: x(4),
             volume: x(5),
-            slots: (0..self.slots).map(|k| (mask >> k & 1 == 1).then(|| x(7 + k))).collect(),
+            slots: (0..self.slots).map(|k| (k < MOST_SLOTS && mask >> k & 1 == 1).then(|| x(7 + k))).collect(),
             funding: (words[end] != 0).then(|| Funding { mark: x(end + 1), rate: x(end + 2) }),
         }
     }
@@ -100,12 +103,13 @@ pub struct Done {
 
 impl Engine {
     /// The bars at some places of a list, up to the first that is refused, which has changed nothing. Bars of another K are refused as
-    /// any bar of the wrong length is (13).
+    /// any bar of the wrong length is (13). Places past the end have no bars: none are done for them.
     pub fn step_over(&mut self, bars: &Bars, places: Range<usize>) -> Done {
         let Engine { slots, settings, state, rows, equity, trades, steps, .. } = self;
         let [entry, exit, short_entry, short_exit] = steps;
         let lists = [&entry[..], exit, short_entry, short_exit];
-        let asked = &bars.words[places.start * bars.width()..places.end * bars.width()];
+        let end = places.end.min(bars.len());
+        let asked = &bars.words[places.start.min(end) * bars.width()..end * bars.width()];
         let rooms = Rooms { state, rows, equity, trades };
         if bars.slots != *slots && !asked.is_empty() {
             return Done { bars: 0, refused: calls::step(settings, rooms, &asked[..bars.width()], lists).err() };

@@ -43,6 +43,8 @@ mod raw {
             initial: u64, equity: *const u64, equity_len: usize, trades: *const u64, trades_len: usize,
             metrics: *mut u64, metrics_len: usize,
         ) -> u64;
+        pub fn ysh_totals(totals: *mut u64, totals_len: usize, trades: *const u64, trades_len: usize) -> u64;
+        pub fn ysh_totals_join(totals: *mut u64, totals_len: usize, other: *const u64, other_len: usize) -> u64;
         pub fn ysh_root(word: u64) -> u64;
         pub fn ysh_dump(
             settings: *const u64, settings_len: usize, state: *const u64, state_len: usize, rows: *const u64, rows_len: usize,
@@ -68,7 +70,9 @@ mod raw {
 }
 
 // SAFETY, of every call below: each pointer and the length behind it are one slice's, what is lent for writing is a slice that is
-// ours alone, and a pointer with no length behind it is a local word's. The header asks for no more.
+// ours alone, and a pointer with no length behind it is a local word's. Of what else the header asks for: floats are rounded to nearest
+// and kept below the normal ones, as every Rust program begins with them and as nothing here changes; and the stack that a call takes
+// (docs/PERFORMANCE.md, "Footprint") is the caller's to have, as for any function: a thread of Rust has two megabytes, many times that.
 
 type Answer<T> = Result<T, Refusal>;
 
@@ -270,6 +274,14 @@ pub fn metrics(initial: u64, equity: &[u64], trades: &[u64], metrics: &mut [u64]
             metrics.len(),
         )
     })
+}
+
+pub fn totals(totals: &mut [u64], trades: &[u64]) -> Answer<()> {
+    Refusal::of(unsafe { raw::ysh_totals(totals.as_mut_ptr(), totals.len(), trades.as_ptr(), trades.len()) })
+}
+
+pub fn totals_join(totals: &mut [u64], other: &[u64]) -> Answer<()> {
+    Refusal::of(unsafe { raw::ysh_totals_join(totals.as_mut_ptr(), totals.len(), other.as_ptr(), other.len()) })
 }
 
 pub fn root(word: u64) -> u64 {

@@ -8,12 +8,24 @@ use crate::{dump_bytes, Engine, Error, Refusal, Rows, Settings, State};
 #[derive(Clone, Debug, PartialEq)]
 pub struct Image {
     settings: [u64; SETTING_WORDS],
-    pub depth: usize,
-    pub state: State,
-    pub rows: Rows,
+    depth: usize,
+    state: State,
+    rows: Rows,
 }
 
 impl Image {
+    pub fn depth(&self) -> usize {
+        self.depth
+    }
+
+    pub fn state(&self) -> &State {
+        &self.state
+    }
+
+    pub fn rows(&self) -> &Rows {
+        &self.rows
+    }
+
     /// Reads an image by itself, for the D and the K that it says it has.
     pub fn of(image: &[u8]) -> Result<Image, Refusal> {
         let byte = |at: usize| usize::from(image.get(at).copied().unwrap_or(0));

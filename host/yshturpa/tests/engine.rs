@@ -332,3 +332,26 @@ fn a_day_in_one_call_is_a_call_for_each_bar() {
     assert_eq!(whole.save(), single.save());
     assert!(whole.trades().eq(single.trades()) && whole.equity().eq(single.equity()));
 }
+
+/// Sizes that nothing has get an answer, and no panic.
+#[test]
+fn silly_sizes() {
+    let mut engine = Engine::new(&table(), &settings(3), BARS, BARS).unwrap();
+    for slots in [65, 1000, usize::MAX - 9, usize::MAX] {
+        let mut bars = Bars::new(slots);
+        assert_eq!((bars.len(), Bars::with_room(slots, usize::MAX).len()), (0, 0));
+        bars.push(&bar(0));
+        assert_eq!((bars.len(), bars.bar(0).close), (1, bar(0).close));
+        assert_eq!(engine.step_over(&bars, 0..1).refused.map(|refusal| refusal.number), Some(13));
+        let mut rows = Rows::new(slots);
+        rows.push(&bar(0));
+        assert_eq!((rows.len(), rows.bar(0).close), (1, bar(0).close));
+        assert_eq!(Rows::of_words(slots, Vec::new()), None);
+    }
+    let mut bars = Bars::new(2);
+    (0..3).for_each(|i| bars.push(&bar(i)));
+    for (places, done) in [(0..5, 3), (3..9, 0), (7..usize::MAX, 0), (2..1, 0)] {
+        let mut engine = Engine::new(&table(), &settings(3), BARS, BARS).unwrap();
+        assert_eq!(engine.step_over(&bars, places), Done { bars: done, refused: None });
+    }
+}

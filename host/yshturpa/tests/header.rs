@@ -59,6 +59,7 @@ fn every_number_is_the_headers() {
         ("POINT_WORDS", layout::POINT_WORDS),
         ("TRADE_WORDS", layout::TRADE_WORDS),
         ("METRIC_WORDS", layout::METRIC_WORDS),
+        ("TOTAL_WORDS", layout::TOTAL_WORDS),
         ("BLOCK_WORDS", layout::BLOCK_WORDS),
         ("LINE_WORDS", layout::WHY_WORDS),
         ("MOST_LINES", layout::WHY_LINES),
@@ -96,12 +97,15 @@ fn every_number_is_the_headers() {
         ("OPEN_FUNDING", state::OPEN_FUNDING),
         ("OPEN_WORST", state::OPEN_WORST),
     ]);
-    ours.extend([
+    ours.extend(
+        [
             ("ROOM_ROWS", room::ROWS),
             ("ROOM_CLOSES", room::CLOSES),
             ("ROOM_BLOCKS", room::BLOCKS),
             ("ROOM_SILENT", room::SILENT),
-        ].map(|(n, v)| (n, v.into())));
+        ]
+        .map(|(n, v)| (n, v.into())),
+    );
     let kinds = [
         ("CONST", kind::CONST),
         ("REF", kind::REF),

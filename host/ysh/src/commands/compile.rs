@@ -38,7 +38,7 @@ fn compiled(asked: &Compile) -> Result<Answer, Problem> {
 }
 
 fn write(asked: &Compile, strategy: &Strategy, rules: &Rules, settings: &Settings) -> Result<(), Problem> {
-    let beside = SettingsFile::new(&rules.names, strategy.sizing, strategy.costs.slippage, settings);
+    let beside = SettingsFile::new(rules, strategy.sizing, strategy.costs.slippage, settings);
     let mut outputs = Outputs::of([&asked.strategy]);
     outputs.add(&asked.output, rules.table.clone());
     outputs.add(&SettingsFile::beside(&asked.output), beside.text());

@@ -101,7 +101,7 @@ fn cut(asked: &Cut) -> Result<Answer, Problem> {
     let mut answer = Answer::default();
     let of = grouped(left.len() as u64);
     answer.line(format!("{file} cut after {} of {of} bytes", grouped(asked.bytes.min(left.len() as u64))));
-    words::cut(left.len(), asked.bytes, 8 * (7 + image.rows.slots())).iter().for_each(|line| answer.line(line));
+    words::cut(left.len(), asked.bytes, 8 * (7 + image.rows().slots())).iter().for_each(|line| answer.line(line));
     answer.line(match Image::of(&left) {
         Ok(_) => "read     whole: a box goes on from it".to_owned(),
         Err(refusal) => format!("read     refused {} at {}: {}", refusal.number, refusal.place, words::fault(&left)),

@@ -11,14 +11,14 @@ use crate::why::moment::{is_flat, order_words};
 const ROWS: usize = 5;
 
 pub fn image(image: &Image, bytes: usize) -> Vec<String> {
-    let state = &image.state;
-    let slots = image.rows.slots();
+    let state = image.state();
+    let slots = image.rows().slots();
     let clock = Clock::of(state.last_time(), state.last_time());
     let mut lines = vec![
         format!(
             "image    {} bytes, whole: D {}, {}",
             grouped(bytes as u64),
-            image.depth,
+            image.depth(),
             counted(slots as u64, "slot", "slots")
         ),
         format!("bars     {} seen{}", grouped(state.bars_seen()), last(state, clock)),
@@ -27,9 +27,9 @@ pub fn image(image: &Image, bytes: usize) -> Vec<String> {
         format!("cash     {}; fees paid {}", rounded(state.cash()), rounded(state.fees_paid())),
         format!(
             "rows     {} of {}{}",
-            image.rows.len(),
-            image.depth,
-            if image.rows.len() > ROWS { ", the last of them" } else { "" }
+            image.rows().len(),
+            image.depth(),
+            if image.rows().len() > ROWS { ", the last of them" } else { "" }
         ),
     ];
     lines.extend(rows(image, clock));
@@ -64,17 +64,17 @@ fn position(state: &State, clock: Clock) -> String {
 
 /// The last rows, a slot that is absent as a dash.
 fn rows(image: &Image, clock: Clock) -> Vec<String> {
-    let count = image.rows.len();
+    let count = image.rows().len();
     if count == 0 {
         return Vec::new();
     }
-    let slots = image.rows.slots();
+    let slots = image.rows().slots();
     let names: Vec<String> = (0..slots).map(|k| format!("slot {k}")).collect();
     let heads = ["open", "high", "low", "close", "volume"].into_iter().chain(names.iter().map(String::as_str));
     let heads: Vec<(&str, Side)> =
         [("time", Side::Left)].into_iter().chain(heads.map(|name| (name, Side::Right))).collect();
     let row = |place: usize| {
-        let bar = image.rows.bar(place);
+        let bar = image.rows().bar(place);
         let mut cells = vec![clock.text(bar.time)];
         cells.extend([bar.open, bar.high, bar.low, bar.close, bar.volume].map(rounded));
         cells.extend(bar.slots.iter().map(|slot| slot.map_or("-".to_owned(), rounded)));

@@ -1,0 +1,4 @@
+pub mod Stream
+pub mod Profile
+pub mod Own
+pub mod Laws

@@ -1,0 +1,48 @@
+-- The stream of request 14: which of its bars are taken. Definitions only.
+use Prim.Native.Nat.{ℕ, _+_, _/_}
+use mathlib.Core.Bool.{cond}
+use mathlib.Core.List.{List, [], _∷_}
+use lib.Dec.{ltb, leb, eqb}
+use lib.ListN.{length}
+use Rattle.words.specs.Limits.{barWords, mostCount, mostSlots}
+use Rattle.refusals.specs.declared.verdict.Verdict.{Verdict}
+use Rattle.refusals.specs.declared.verdict.Verdict.the-variants.{Fine, Bad}
+use Rattle.refusals.specs.Bar.{barLines}
+use Rattle.refusals.specs.Day.{wholeBars}
+use Rattle.refusals.specs.Lines.{Line, line, judged}
+use Rattle.engine.specs.Day.{cut}
+use Rattle.accounts.specs.declared.stream.Taken.{Taken}
+
+-- Once for all bars. "more than 64 stream slots gives 12 at 0". 13 as in a step: a count above 4,294,967,295, a list that is not whole records.
+unfoldable pub streamLines : ℕ → ℕ → List ℕ → List Line
+streamLines S seen bars =
+    line (leb S mostSlots) 12 0
+    ∷ line (leb seen mostCount) 13 0
+    ∷ line (wholeBars S bars) 13 0
+    ∷ []
+
+-- Of each bar. "each bar is checked with 11 against that count", "11 is given at the stream's bars". 14 as in a step: 4,294,967,295 bars seen.
+unfoldable pub streamBarLines : ℕ → ℕ → List ℕ → List Line
+streamBarLines S seen bar = line (ltb seen mostCount) 14 0 ∷ barLines S bar seen
+
+abbrev pub noneTaken : Verdict → Taken
+noneTaken v = record { done = 0; verdict = v }
+
+abbrev pub oneMoreTaken : Taken → Taken
+oneMoreTaken t = record { done = t .done + 1; verdict = t .verdict }
+
+-- what a verdict ends, or another goes on with
+unfoldable pub takenUnless : Verdict → Taken → Taken
+takenUnless (Bad why) t = noneTaken (Bad why)
+takenUnless Fine t = t
+
+-- bar after bar, until one is refused
+unfoldable pub streamTakes : ℕ → ℕ → List (List ℕ) → Taken
+streamTakes S seen [] = noneTaken Fine
+streamTakes S seen (bar ∷ bars) = takenUnless (judged (streamBarLines S seen bar)) (oneMoreTaken (streamTakes S (seen + 1) bars))
+
+-- Of a list of bars. Decided: no bars ask nothing of the stream.
+unfoldable pub streamTaken : ℕ → ℕ → List ℕ → Taken
+streamTaken S seen bars =
+    cond (eqb (length bars) 0) (noneTaken Fine)
+    (takenUnless (judged (streamLines S seen bars)) (streamTakes S seen (cut (length bars / barWords S) (barWords S) bars)))
