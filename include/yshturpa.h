@@ -53,7 +53,7 @@ enum {
     YSH_REFUSED_NESTING = 8,    /* deeper than 32 levels, the root being 1, operands counted too. Place: the lowest such node */
     YSH_REFUSED_REACH = 9,      /* a tree that looks back more than 4,095 bars, its Prevs added up. Place: the first such tree's root */
 
-    /* 10 to 16: the other things handed over. (17 is not given yet.) */
+    /* 10 to 16: the other things handed over. */
     YSH_REFUSED_ROOM = 10,      /* a room is too small. Place: its number (YSH_ROOM_ROWS ..). Commonly: the rows were laid out for another
                                  * D or K than settings 0 and 1 say; the room for steps was sized by steps and not by nodes; the
                                  * settings or the state are those of an older header, with fewer words */
@@ -69,8 +69,10 @@ enum {
     YSH_REFUSED_RECORDS = 13,   /* Place 0. Any of these:
                                  * - the bar is not exactly 10 + K words: two bars at once, the three words of funding left out, or
                                  *   another K than the settings';
-                                 * - rows for ysh_rule or ysh_run that are not whole rows of 7 + K words;
-                                 * - equity points or trades for ysh_metrics that are not whole records;
+                                 * - rows for ysh_rule, ysh_why or ysh_run that are not whole rows of 7 + K words;
+                                 * - equity points or trades for ysh_metrics, or trades for ysh_totals, that are not whole records;
+                                 * - totals with a count above 4,294,967,295, or with more wins and losses than trades: words that no call
+                                 *   wrote; other totals that are not exactly 43 words;
                                  * - the state counts more rows, equity points or trades than the room has places for: a smaller room
                                  *   than the call before had, or a state that ysh_fresh did not begin;
                                  * - a count of the state, or the bars seen of a position, is above 4,294,967,295;
@@ -91,6 +93,10 @@ enum {
                                  * sizing or cap in its settings, or another price, lets the run go on. Place: the bars seen, which is this
                                  * bar's number */
 
+    /* 17: the trades of totals (ysh_totals). */
+    YSH_REFUSED_TRADE = 17,     /* a trade for ysh_totals whose pnl is not finite or whose reason is not 1 to 6. Commonly: a trade room was
+                                 * handed over with its free places, and not the trades of a run alone. Place: its number in the list, from 0 */
+
     /* 18: a question over bars (ysh_stretch). */
     YSH_REFUSED_STRETCH = 18,   /* the first bar is after the last, or one of them is not among the bars held: always where none is held.
                                  * Commonly: the last bar was taken for one past the end. Place 0 */
@@ -98,7 +104,9 @@ enum {
     /* 19 and 20: an image of a dump. */
     YSH_REFUSED_IMAGE = 19,     /* no whole image: the write was cut off, the length is not that of its D and K (hand over the image alone, not
                                  * the whole area), a spare byte is not 0, or a field is out of its range. Place 0 */
-    YSH_REFUSED_OTHER = 20      /* a whole image, of another D or K than settings 1 and 0 say: another table's. Place 0 */
+    YSH_REFUSED_OTHER = 20,     /* a whole image, of another D or K than settings 1 and 0 say: another table's. Place 0 */
+
+    YSH_REFUSED_TOTAL = 22      /* the totals, with what is to be added, would be of more than 4,294,967,295 trades. Place 0 */
 };
 
 /* ---- sizes, in words unless said */
@@ -111,6 +119,7 @@ enum {
 #define YSH_POINT_WORDS 2                         /* time, equity */
 #define YSH_TRADE_WORDS 10
 #define YSH_METRIC_WORDS 9
+#define YSH_TOTAL_WORDS 43                        /* of exact totals; 43 zeros are the totals of nothing */
 #define YSH_BLOCK_WORDS 4                         /* of 64 closes: high, its first bar, low, its first bar */
 #define YSH_BLOCKS_WORDS(bars) (4 * (((bars) + 63) / 64))   /* the blocks of so many closes */
 #define YSH_STEP_BYTES(nodes) (64 * (nodes))      /* room for the steps of a tree of so many nodes, in bytes */
@@ -134,8 +143,9 @@ enum {
     YSH_ROOM_ENTRY, YSH_ROOM_EXIT, YSH_ROOM_SHORT_ENTRY, YSH_ROOM_SHORT_EXIT,
     YSH_ROOM_SETTINGS, YSH_ROOM_STATE, YSH_ROOM_METRICS,
     YSH_ROOM_LINES = 10,
+    YSH_ROOM_TOTALS = 11,
     YSH_ROOM_CLOSES = 12, YSH_ROOM_BLOCKS = 13,
-    /* 11 and 15 to 17 are kept for later requests */
+    /* 15 to 17 are kept for later requests */
     YSH_ROOM_DUMP = 14,
     YSH_ROOM_SILENT = 18
 };
@@ -370,6 +380,12 @@ uint64_t ysh_dump_bytes(uint64_t slots, uint64_t depth);
 uint64_t ysh_dump(const uint64_t *settings, size_t settings_len, const uint64_t *state, size_t state_len,
                   const uint64_t *rows, size_t rows_len, uint8_t *area, size_t area_len, uint64_t from, uint64_t upto);
 
+/* Bytes `at` to `at + part_len` of the image, in the order of their places and not of writing, into the part, which may be of any length: a page
+ * is made in a page's memory. Past the image's end nothing is written; `used` says how many bytes were. State and rows must not change between the
+ * parts of one dump. Refusals 10 (room 0, 7 or 8), 12, 13. */
+uint64_t ysh_dump_part(const uint64_t *settings, size_t settings_len, const uint64_t *state, size_t state_len,
+                       const uint64_t *rows, size_t rows_len, uint64_t at, uint8_t *part, size_t part_len, uint64_t *used);
+
 /* Reads an image of exactly the size back: the state, with equity points and trades counted from 0, and its rows over the first words of
  * the row room. Refusals 10 (room 0, 7 or 8), 12, 19 for what is no whole image, 20 for one of another D or K. */
 uint64_t ysh_restore(const uint64_t *settings, size_t settings_len, uint64_t *state, size_t state_len,
@@ -412,6 +428,23 @@ uint64_t ysh_run(const uint8_t *steps, size_t steps_len, const uint64_t *rows, s
 /* The nine metrics of equity points and trades. Refusals 10 (room 9), then 13 for lists that are not whole records. */
 uint64_t ysh_metrics(uint64_t initial, const uint64_t *equity, size_t equity_len,
                      const uint64_t *trades, size_t trades_len, uint64_t *metrics, size_t metrics_len);
+
+/* ---- exact totals over the trades of many runs: the words of a record */
+
+enum {
+    YSH_TOTAL_BY_REASON = 0,    /* word 0 to 5: trades that ended by reason 1 to 6 */
+    YSH_TOTAL_WINS = 6,         /* trades with a pnl above 0; a pnl of 0 of either sign is neither a win nor a loss */
+    YSH_TOTAL_LOSSES = 7,       /* trades with a pnl below 0 */
+    YSH_TOTAL_SUM = 8,          /* word 8 to 41: the sum of all pnl in units of 2^-1074, exactly: two's complement, lowest word first */
+    YSH_TOTAL_FLOAT = 42        /* the word of the float nearest to that sum, ties to even; 0 is +0.0 */
+};
+
+/* Adds the trades of a list, whole records of YSH_TRADE_WORDS words, to totals, of which the first YSH_TOTAL_WORDS words are looked at.
+ * Begin with 43 zeros. Every order and every grouping of the same trades leaves the same words. 10, 13, 17, 22. */
+uint64_t ysh_totals(uint64_t *totals, size_t totals_len, const uint64_t *trades, size_t trades_len);
+
+/* Adds other totals, exactly YSH_TOTAL_WORDS words, to totals: those of another machine, say. 10, 13, 22. */
+uint64_t ysh_totals_join(uint64_t *totals, size_t totals_len, const uint64_t *other, size_t other_len);
 
 /* ---- the high and the low of a stretch of closes (docs/INTERFACE.md, "High and low of a stretch") ---- */
 

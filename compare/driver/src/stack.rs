@@ -112,7 +112,34 @@ fn greatest_tables() {
     }
 }
 
-/// Runs what the other commands compare on a painted stack, and writes how much of it each call took; whether all agree.
+/// The paper that says how much stack each call takes at most: a controller's memory is laid out by it.
+const PAPER: &str = include_str!("../../../docs/PERFORMANCE.md");
+
+/// The column of this machine's processor in the paper's table of stacks; none for one that it does not list.
+fn column() -> Option<usize> {
+    match std::env::consts::ARCH {
+        "aarch64" => Some(1),
+        "x86_64" => Some(2),
+        "riscv64" => Some(3),
+        _ => None,
+    }
+}
+
+/// The most bytes of stack that the paper gives a call, on this machine's processor.
+fn limit(call: &str) -> Option<u64> {
+    let column = column()?;
+    let named = format!("`{call}`");
+    PAPER
+        .lines()
+        .skip_while(|line| !line.starts_with("| call | aarch64 |"))
+        .take_while(|line| line.starts_with('|'))
+        .map(|line| line.trim_matches('|').split('|').map(str::trim).collect::<Vec<_>>())
+        .find(|cells| cells[0].split(", ").any(|name| name == named))
+        .and_then(|cells| cells.get(column)?.replace(',', "").parse().ok())
+}
+
+/// Runs what the other commands compare on a painted stack, and writes how much of it each call took; whether all agree, and no call takes more
+/// than docs/PERFORMANCE.md says.
 pub fn stack(seed: u64, runs: u64) -> bool {
     longest_lists(seed);
     greatest_tables();
@@ -122,9 +149,15 @@ pub fn stack(seed: u64, runs: u64) -> bool {
         && guard(seed, 200 * runs)
         && metrics(seed, runs)
         && roots(seed, 100 * runs);
-    println!("\n| call | calls | bytes of stack at most |\n|---|---|---|");
+    println!("\n| call | calls | bytes of stack at most | docs/PERFORMANCE.md |\n|---|---|---|---|");
+    let mut within = true;
     for (name, used) in uses() {
-        println!("| `{name}` | {} | {} |", used.calls, used.bytes);
+        let most = limit(name);
+        let said = most.map_or("not listed".to_string(), |most| most.to_string());
+        let above = column().is_some() && most.is_none_or(|most| most < used.bytes as u64);
+        let mark = if above { ": ABOVE" } else { "" };
+        println!("| `{name}` | {} | {} | {said}{mark} |", used.calls, used.bytes);
+        within &= !above;
     }
-    agree
+    agree && within
 }

@@ -6,7 +6,9 @@ pub mod Fresh
 pub mod Bars
 pub mod Finish
 pub mod Power
+pub mod Part
 pub mod Figures
+pub mod Totals
 pub mod Stretch
 pub mod WordRun
 pub mod Day
@@ -14,3 +16,4 @@ pub mod Laws
 pub mod StretchIsReading
 pub mod Joined
 pub mod DayJoined
+pub mod TotalsJoined

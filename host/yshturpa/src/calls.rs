@@ -43,10 +43,16 @@ mod raw {
             initial: u64, equity: *const u64, equity_len: usize, trades: *const u64, trades_len: usize,
             metrics: *mut u64, metrics_len: usize,
         ) -> u64;
+        pub fn ysh_totals(totals: *mut u64, totals_len: usize, trades: *const u64, trades_len: usize) -> u64;
+        pub fn ysh_totals_join(totals: *mut u64, totals_len: usize, other: *const u64, other_len: usize) -> u64;
         pub fn ysh_root(word: u64) -> u64;
         pub fn ysh_dump(
             settings: *const u64, settings_len: usize, state: *const u64, state_len: usize, rows: *const u64, rows_len: usize,
             area: *mut u8, area_len: usize, from: u64, upto: u64,
+        ) -> u64;
+        pub fn ysh_dump_part(
+            settings: *const u64, settings_len: usize, state: *const u64, state_len: usize, rows: *const u64, rows_len: usize,
+            at: u64, part: *mut u8, part_len: usize, used: *mut u64,
         ) -> u64;
         pub fn ysh_restore(
             settings: *const u64, settings_len: usize, state: *mut u64, state_len: usize,
@@ -270,6 +276,14 @@ pub fn metrics(initial: u64, equity: &[u64], trades: &[u64], metrics: &mut [u64]
     })
 }
 
+pub fn totals(totals: &mut [u64], trades: &[u64]) -> Answer<()> {
+    Refusal::of(unsafe { raw::ysh_totals(totals.as_mut_ptr(), totals.len(), trades.as_ptr(), trades.len()) })
+}
+
+pub fn totals_join(totals: &mut [u64], other: &[u64]) -> Answer<()> {
+    Refusal::of(unsafe { raw::ysh_totals_join(totals.as_mut_ptr(), totals.len(), other.as_ptr(), other.len()) })
+}
+
 pub fn root(word: u64) -> u64 {
     unsafe { raw::ysh_root(word) }
 }
@@ -289,6 +303,25 @@ pub fn dump(settings: &[u64], state: &[u64], rows: &[u64], area: &mut [u8], from
             upto,
         )
     })
+}
+
+pub fn dump_part(settings: &[u64], state: &[u64], rows: &[u64], at: u64, part: &mut [u8]) -> Answer<u64> {
+    let mut used = 0;
+    Refusal::of(unsafe {
+        raw::ysh_dump_part(
+            settings.as_ptr(),
+            settings.len(),
+            state.as_ptr(),
+            state.len(),
+            rows.as_ptr(),
+            rows.len(),
+            at,
+            part.as_mut_ptr(),
+            part.len(),
+            &mut used,
+        )
+    })?;
+    Ok(used)
 }
 
 pub fn restore(settings: &[u64], state: &mut [u64], image: &[u8], rows: &mut [u64]) -> Answer<()> {

@@ -13,6 +13,9 @@ pub const METRIC_WORDS: usize = 9;
 pub const BLOCK_BARS: usize = 64;
 pub const BLOCK_WORDS: usize = 4;
 
+/// Words of exact totals.
+pub const TOTAL_WORDS: usize = 43;
+
 /// Words of a line that says why, and as many lines as there may be.
 pub const WHY_WORDS: usize = 8;
 pub const WHY_LINES: usize = 32;
@@ -136,7 +139,7 @@ pub mod room {
     pub const SILENT: u32 = 18;
 
     /// What each is called, those that are kept for later left out.
-    pub const NAMES: [(u32, &str); 15] = [
+    pub const NAMES: [(u32, &str); 16] = [
         (ROWS, "rows"),
         (1, "equity"),
         (2, "trades"),
@@ -148,6 +151,7 @@ pub mod room {
         (8, "state"),
         (9, "metrics"),
         (10, "lines that say why"),
+        (11, "totals"),
         (CLOSES, "closes"),
         (BLOCKS, "blocks"),
         (14, "the dump"),

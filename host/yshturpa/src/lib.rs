@@ -20,6 +20,7 @@ mod saved;
 mod settings;
 mod state;
 mod table;
+mod totals;
 mod why;
 
 pub use bar::{Bar, Funding, Rows};
@@ -35,6 +36,7 @@ pub use saved::Saved;
 pub use settings::{EntryOrder, Settings, Sizing, Slippage};
 pub use state::{Order, OrderLevel, Position, State};
 pub use table::{check, depth, dump_bytes, silent, slots_of, translate, Accepted, Depth, Tree};
+pub use totals::Totals;
 pub use why::{why, By, WhyLine};
 
 /// The square root, correctly rounded, computed from the bits alone.

@@ -59,6 +59,7 @@ fn every_number_is_the_headers() {
         ("POINT_WORDS", layout::POINT_WORDS),
         ("TRADE_WORDS", layout::TRADE_WORDS),
         ("METRIC_WORDS", layout::METRIC_WORDS),
+        ("TOTAL_WORDS", layout::TOTAL_WORDS),
         ("BLOCK_WORDS", layout::BLOCK_WORDS),
         ("LINE_WORDS", layout::WHY_WORDS),
         ("MOST_LINES", layout::WHY_LINES),

@@ -8,25 +8,25 @@ returns : tie.Need-returns
 returns c = not-moved (c .before .args .word) (c .before .args .i) (omega arith)
 
 returns-2 : tie.Need-returns-2
-returns-2 c = moved-to (c .before .before .args .word) (c .before .before .args .i) 6 (omega arith)
+returns-2 c = let called = c .before .before .args in moved-to (called .word) (called .i) 6 (omega arith)
 
 returns-3 : tie.Need-returns-3
-returns-3 c = moved-to (c .before .before .before .args .word) (c .before .before .before .args .i) 5 (omega arith)
+returns-3 c = let called = c .before .before .before .args in moved-to (called .word) (called .i) 5 (omega arith)
 
 returns-4 : tie.Need-returns-4
-returns-4 c = moved-to (c .before .before .before .before .args .word) (c .before .before .before .before .args .i) 4 (omega arith)
+returns-4 c = let called = c .before .before .before .before .args in moved-to (called .word) (called .i) 4 (omega arith)
 
 returns-5 : tie.Need-returns-5
-returns-5 c = moved-to (c .before .before .before .before .before .args .word) (c .before .before .before .before .before .args .i) 3 (omega arith)
+returns-5 c = let called = c .before .before .before .before .before .args in moved-to (called .word) (called .i) 3 (omega arith)
 
 returns-6 : tie.Need-returns-6
-returns-6 c = moved-to (c .before .before .before .before .before .before .args .word) (c .before .before .before .before .before .before .args .i) 2 (omega arith)
+returns-6 c = let called = c .before .before .before .before .before .before .args in moved-to (called .word) (called .i) 2 (omega arith)
 
 returns-7 : tie.Need-returns-7
-returns-7 c = moved-to (c .before .before .before .before .before .before .before .args .word) (c .before .before .before .before .before .before .before .args .i) 1 (omega arith)
+returns-7 c = let called = c .before .before .before .before .before .before .before .args in moved-to (called .word) (called .i) 1 (omega arith)
 
 returns-8 : tie.Need-returns-8
-returns-8 c = moved-to (c .before .before .before .before .before .before .before .args .word) (c .before .before .before .before .before .before .before .args .i) 0 (omega arith)
+returns-8 c = let called = c .before .before .before .before .before .before .before .args in moved-to (called .word) (called .i) 0 (omega arith)
 
 pub moved-spec : {M : Type 1} → statement M
 moved-spec = tie.close (tie.spec returns returns-2 returns-3 returns-4 returns-5 returns-6 returns-7 returns-8)
