@@ -5,3 +5,5 @@ pub mod Finishing
 pub mod Writing
 pub mod Powering
 pub mod Stretching
+pub mod Riding
+pub mod Accounting

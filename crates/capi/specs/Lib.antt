@@ -10,7 +10,9 @@ pub mod Figures
 pub mod Stretch
 pub mod WordRun
 pub mod Day
+pub mod Accounts
 pub mod Laws
 pub mod StretchIsReading
 pub mod Joined
 pub mod DayJoined
+pub mod AsIfAlone
