@@ -6,3 +6,5 @@ pub mod Writing
 pub mod Powering
 pub mod Totalling
 pub mod Stretching
+pub mod Riding
+pub mod Accounting
