@@ -442,6 +442,12 @@ uint64_t ysh_dump_bytes(uint64_t slots, uint64_t depth);
 uint64_t ysh_dump(const uint64_t *settings, size_t settings_len, const uint64_t *state, size_t state_len,
                   const uint64_t *rows, size_t rows_len, uint8_t *area, size_t area_len, uint64_t from, uint64_t upto);
 
+/* Bytes `at` to `at + part_len` of the image, in the order of their places and not of writing, into the part, which may be of any length: a page
+ * is made in a page's memory. Past the image's end nothing is written; `used` says how many bytes were. State and rows must not change between the
+ * parts of one dump. Refusals 10 (room 0, 7 or 8), 12, 13. */
+uint64_t ysh_dump_part(const uint64_t *settings, size_t settings_len, const uint64_t *state, size_t state_len,
+                       const uint64_t *rows, size_t rows_len, uint64_t at, uint8_t *part, size_t part_len, uint64_t *used);
+
 /* Reads an image of exactly the size back: the state, with equity points and trades counted from 0, and its rows over the first words of
  * the row room. Refusals 10 (room 0, 7 or 8), 12, 19 for what is no whole image, 20 for one of another D or K. */
 uint64_t ysh_restore(const uint64_t *settings, size_t settings_len, uint64_t *state, size_t state_len,

@@ -282,7 +282,11 @@ fn damaged(dice: &mut Dice) -> Result<(), String> {
     let (answer, wanted) = if dice.below(2) == 0 {
         let mut list: Vec<u64> = Vec::new();
         for _ in 0..dice.below(6) {
-            let pnl = if dice.below(12) == 0 { dice.bits() | 0x7ff << 52 } else { some_pnl(dice, 1000, &[]) };
+            let pnl = if dice.below(12) == 0 {
+                dice.bits() | 0x7ff << 52
+            } else {
+                some_pnl(dice, 1000, &[])
+            };
             let reason = match dice.below(24) {
                 0 => 0,
                 1 => 7,
@@ -335,6 +339,8 @@ pub fn totals(seed: u64, count: u64) -> bool {
         }
         progress.at(trades, String::new);
     }
-    println!("totals: seed {seed}, {trades} trades in {lists} lists, each in two ways, and {calls} damaged calls, 0 differ");
+    println!(
+        "totals: seed {seed}, {trades} trades in {lists} lists, each in two ways, and {calls} damaged calls, 0 differ"
+    );
     true
 }

@@ -6,4 +6,5 @@ pub mod RunCalls
 pub mod WhyCalls
 pub mod TotalsCalls
 pub mod DumpCalls
+pub mod PartCalls
 pub mod StretchCalls

@@ -6,6 +6,7 @@ pub mod Fresh
 pub mod Bars
 pub mod Finish
 pub mod Power
+pub mod Part
 pub mod Figures
 pub mod Totals
 pub mod Stretch

@@ -4,6 +4,7 @@ mod calls;
 pub mod day;
 pub mod figures;
 pub mod four;
+pub mod part;
 pub mod power;
 pub mod report;
 pub mod run;

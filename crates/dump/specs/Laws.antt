@@ -6,3 +6,6 @@ pub mod Image
 pub mod Fine
 pub mod Passing
 pub mod Plain
+pub mod Placed
+pub mod PartFine
+pub mod Parts

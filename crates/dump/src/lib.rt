@@ -4,6 +4,7 @@ mod bytes;
 pub mod direct;
 mod image;
 mod judge;
+pub mod part;
 mod passing;
 pub mod reader;
 pub mod writer;

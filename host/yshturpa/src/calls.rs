@@ -65,6 +65,10 @@ mod raw {
             settings: *const u64, settings_len: usize, state: *const u64, state_len: usize, rows: *const u64, rows_len: usize,
             area: *mut u8, area_len: usize, from: u64, upto: u64,
         ) -> u64;
+        pub fn ysh_dump_part(
+            settings: *const u64, settings_len: usize, state: *const u64, state_len: usize, rows: *const u64, rows_len: usize,
+            at: u64, part: *mut u8, part_len: usize, used: *mut u64,
+        ) -> u64;
         pub fn ysh_restore(
             settings: *const u64, settings_len: usize, state: *mut u64, state_len: usize,
             image: *const u8, image_len: usize, rows: *mut u64, rows_len: usize,
@@ -412,6 +416,25 @@ pub fn dump(settings: &[u64], state: &[u64], rows: &[u64], area: &mut [u8], from
             upto,
         )
     })
+}
+
+pub fn dump_part(settings: &[u64], state: &[u64], rows: &[u64], at: u64, part: &mut [u8]) -> Answer<u64> {
+    let mut used = 0;
+    Refusal::of(unsafe {
+        raw::ysh_dump_part(
+            settings.as_ptr(),
+            settings.len(),
+            state.as_ptr(),
+            state.len(),
+            rows.as_ptr(),
+            rows.len(),
+            at,
+            part.as_mut_ptr(),
+            part.len(),
+            &mut used,
+        )
+    })?;
+    Ok(used)
 }
 
 pub fn restore(settings: &[u64], state: &mut [u64], image: &[u8], rows: &mut [u64]) -> Answer<()> {
