@@ -9,3 +9,4 @@ pub mod Plain
 pub mod Placed
 pub mod PartFine
 pub mod Parts
+pub mod RowWords
