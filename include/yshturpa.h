@@ -5,7 +5,7 @@
  *
  * Every call but ysh_root and ysh_dump_bytes answers one word: 0 where it did its work, else a refusal: the refusal's number times
  * 2^32 plus its place (YSH_NUMBER, YSH_PLACE; what each number means stands below). A refused call changes nothing that was lent to it;
- * ysh_steps alone, which takes many bars, leaves those done that came before the refused one.
+ * ysh_steps and ysh_accounts, which take many bars, leave those done that came before the refused one.
  *
  * What a caller has to see to is what the types say and no more: each pointer points at as many elements as the length
  * behind it says, words lie on 8-byte boundaries, and what is lent for writing overlaps nothing else. A list or room of length 0 is
@@ -53,7 +53,7 @@ enum {
     YSH_REFUSED_NESTING = 8,    /* deeper than 32 levels, the root being 1, operands counted too. Place: the lowest such node */
     YSH_REFUSED_REACH = 9,      /* a tree that looks back more than 4,095 bars, its Prevs added up. Place: the first such tree's root */
 
-    /* 10 to 16: the other things handed over. (17 is not given yet.) */
+    /* 10 to 16: the other things handed over. */
     YSH_REFUSED_ROOM = 10,      /* a room is too small. Place: its number (YSH_ROOM_ROWS ..). Commonly: the rows were laid out for another
                                  * D or K than settings 0 and 1 say; the room for steps was sized by steps and not by nodes; the
                                  * settings or the state are those of an older header, with fewer words */
@@ -70,7 +70,9 @@ enum {
                                  * - the bar is not exactly 10 + K words: two bars at once, the three words of funding left out, or
                                  *   another K than the settings';
                                  * - rows for ysh_rule, ysh_why or ysh_run that are not whole rows of 7 + K words;
-                                 * - equity points or trades for ysh_metrics that are not whole records;
+                                 * - equity points or trades for ysh_metrics, or trades for ysh_totals, that are not whole records;
+                                 * - totals with a count above 4,294,967,295, or with more wins and losses than trades: words that no call
+                                 *   wrote; other totals that are not exactly 43 words;
                                  * - the state counts more rows, equity points or trades than the room has places for: a smaller room
                                  *   than the call before had, or a state that ysh_fresh did not begin;
                                  * - a count of the state, or the bars seen of a position, is above 4,294,967,295;
@@ -91,6 +93,10 @@ enum {
                                  * sizing or cap in its settings, or another price, lets the run go on. Place: the bars seen, which is this
                                  * bar's number */
 
+    /* 17: the trades of totals (ysh_totals). */
+    YSH_REFUSED_TRADE = 17,     /* a trade for ysh_totals whose pnl is not finite or whose reason is not 1 to 6. Commonly: a trade room was
+                                 * handed over with its free places, and not the trades of a run alone. Place: its number in the list, from 0 */
+
     /* 18: a question over bars (ysh_stretch). */
     YSH_REFUSED_STRETCH = 18,   /* the first bar is after the last, or one of them is not among the bars held: always where none is held.
                                  * Commonly: the last bar was taken for one past the end. Place 0 */
@@ -98,7 +104,14 @@ enum {
     /* 19 and 20: an image of a dump. */
     YSH_REFUSED_IMAGE = 19,     /* no whole image: the write was cut off, the length is not that of its D and K (hand over the image alone, not
                                  * the whole area), a spare byte is not 0, or a field is out of its range. Place 0 */
-    YSH_REFUSED_OTHER = 20      /* a whole image, of another D or K than settings 1 and 0 say: another table's. Place 0 */
+    YSH_REFUSED_OTHER = 20,     /* a whole image, of another D or K than settings 1 and 0 say: another table's. Place 0 */
+
+    /* 21: an account of ysh_accounts. It stands in the account's status. */
+    YSH_REFUSED_PROFILE = 21,   /* outside the profile: the table has a short tree, setting 15 is given and not at most 1, or the table or setting 0 has
+                                 * more slots than the stream. Place 0 */
+
+    /* 22: the totals. */
+    YSH_REFUSED_TOTAL = 22      /* the totals, with what is to be added, would be of more than 4,294,967,295 trades. Place 0 */
 };
 
 /* ---- sizes, in words unless said */
@@ -111,8 +124,11 @@ enum {
 #define YSH_POINT_WORDS 2                         /* time, equity */
 #define YSH_TRADE_WORDS 10
 #define YSH_METRIC_WORDS 9
+#define YSH_TOTAL_WORDS 43                        /* of exact totals; 43 zeros are the totals of nothing */
 #define YSH_BLOCK_WORDS 4                         /* of 64 closes: high, its first bar, low, its first bar */
 #define YSH_BLOCKS_WORDS(bars) (4 * (((bars) + 63) / 64))   /* the blocks of so many closes */
+#define YSH_STREAM_WORDS 2                        /* slots, bars taken */
+#define YSH_STATUS_WORDS 3                        /* number, place, bar of the stream */
 #define YSH_STEP_BYTES(nodes) (64 * (nodes))      /* room for the steps of a tree of so many nodes, in bytes */
 #define YSH_DUMP_BYTES(slots, depth) (256 + (depth) * 8 * (7 + (slots)))   /* of a dump, in bytes: what ysh_dump_bytes answers for a K
                                                    * and a D in range, for an area that is laid out by the compiler */
@@ -134,9 +150,11 @@ enum {
     YSH_ROOM_ENTRY, YSH_ROOM_EXIT, YSH_ROOM_SHORT_ENTRY, YSH_ROOM_SHORT_EXIT,
     YSH_ROOM_SETTINGS, YSH_ROOM_STATE, YSH_ROOM_METRICS,
     YSH_ROOM_LINES = 10,
+    YSH_ROOM_TOTALS = 11,
     YSH_ROOM_CLOSES = 12, YSH_ROOM_BLOCKS = 13,
-    /* 11 and 15 to 17 are kept for later requests */
+    /* 15 is kept for a later request */
     YSH_ROOM_DUMP = 14,
+    YSH_ROOM_STREAM = 16, YSH_ROOM_STATUS = 17,
     YSH_ROOM_SILENT = 18
 };
 
@@ -357,6 +375,60 @@ uint64_t ysh_finish(const uint64_t *settings, size_t settings_len, uint64_t *sta
                     const uint64_t *rows, size_t rows_len, uint64_t *equity, size_t equity_len,
                     uint64_t *trades, size_t trades_len, uint64_t *metrics, size_t metrics_len);
 
+/* ---- four accounts on one stream (docs/INTERFACE.md, "Four accounts on one stream") ---- */
+
+/* The words of the stream (room 16), and of the status of an account (room 17). */
+enum { YSH_STREAM_SLOTS, YSH_STREAM_BARS };
+
+enum {
+    YSH_STATUS_NUMBER,          /* 0 while the account runs; the number that stopped it */
+    YSH_STATUS_PLACE,           /* the place that goes with the number */
+    YSH_STATUS_BAR              /* the bar of the stream at which it was stopped, numbered from 0 */
+};
+
+/* What one account is handed, and what it is lent for writing. */
+typedef struct {
+    const uint8_t *table; size_t table_len;
+    const uint64_t *settings; size_t settings_len;
+    const uint8_t *entry; size_t entry_len;           /* steps of trees 0 and 1, as ysh_translate wrote them */
+    const uint8_t *exit; size_t exit_len;
+    uint64_t *state; size_t state_len;
+    uint64_t *rows; size_t rows_len;
+    uint64_t *equity; size_t equity_len;
+    uint64_t *trades; size_t trades_len;
+    uint64_t *status; size_t status_len;
+} ysh_account;
+
+/* One account of ysh_accounts, as its parameters and as the fields of a ysh_account. */
+#define YSH_ACCOUNT_PARAMETERS(a) \
+    const uint8_t *a##_table, size_t a##_table_len, const uint64_t *a##_settings, size_t a##_settings_len, \
+    const uint8_t *a##_entry, size_t a##_entry_len, const uint8_t *a##_exit, size_t a##_exit_len, \
+    uint64_t *a##_state, size_t a##_state_len, uint64_t *a##_rows, size_t a##_rows_len, \
+    uint64_t *a##_equity, size_t a##_equity_len, uint64_t *a##_trades, size_t a##_trades_len, \
+    uint64_t *a##_status, size_t a##_status_len
+#define YSH_ACCOUNT_FIELDS(a) \
+    (a).table, (a).table_len, (a).settings, (a).settings_len, (a).entry, (a).entry_len, (a).exit, (a).exit_len, \
+    (a).state, (a).state_len, (a).rows, (a).rows_len, (a).equity, (a).equity_len, (a).trades, (a).trades_len, \
+    (a).status, (a).status_len
+
+/* Four accounts over bars of one stream: records of 10 + slots words, slots being the stream's. `done` is how many bars the stream took; it is
+ * written whatever the answer is. At the first bar that the stream refuses it stops: that bar changes no account and stops none. Each account is
+ * handed its own part of the bars taken (six words, its K lowest bits of the mask, slots 0 to K - 1, the three words of funding) and leaves state
+ * and rooms word for word as one ysh_step a bar would, with empty short lists. At the first bar that an account itself refuses it is stopped, with
+ * number, place and bar in its status, and the others go on; a stopped account is not touched until its number is set to 0 again. So are 1 to 9 of its
+ * table, and then 21 for one outside the profile, told at the first bar of a call. The answer is the stream's alone. Refusals 10 (room 16 or
+ * 17), 12 at 0, 13; then, of a bar, 14 and 11 at the stream's bars. No bars: done is 0, and nothing is refused but rooms 16 and 17. */
+uint64_t ysh_accounts(uint64_t *stream, size_t stream_len, const uint64_t *bars, size_t bars_len, uint64_t *done,
+                      YSH_ACCOUNT_PARAMETERS(a), YSH_ACCOUNT_PARAMETERS(b), YSH_ACCOUNT_PARAMETERS(c), YSH_ACCOUNT_PARAMETERS(d));
+
+/* The same, over an array of four. */
+static inline uint64_t ysh_four(uint64_t *stream, size_t stream_len, const uint64_t *bars, size_t bars_len, uint64_t *done,
+                                const ysh_account account[4])
+{
+    return ysh_accounts(stream, stream_len, bars, bars_len, done, YSH_ACCOUNT_FIELDS(account[0]), YSH_ACCOUNT_FIELDS(account[1]),
+                        YSH_ACCOUNT_FIELDS(account[2]), YSH_ACCOUNT_FIELDS(account[3]));
+}
+
 /* ---- power loss and restart (docs/INTERFACE.md, "Power loss and restart") ---- */
 
 /* The bytes of a dump for a K and a D: 256 + D * 8 * (7 + K). 0 for a K above 64 or a D outside 1 to 4,096. */
@@ -369,6 +441,12 @@ uint64_t ysh_dump_bytes(uint64_t slots, uint64_t depth);
  * running. Refusals 10 (room 0, 7, 8 or 14), 12, 13. */
 uint64_t ysh_dump(const uint64_t *settings, size_t settings_len, const uint64_t *state, size_t state_len,
                   const uint64_t *rows, size_t rows_len, uint8_t *area, size_t area_len, uint64_t from, uint64_t upto);
+
+/* Bytes `at` to `at + part_len` of the image, in the order of their places and not of writing, into the part, which may be of any length: a page
+ * is made in a page's memory. Past the image's end nothing is written; `used` says how many bytes were. State and rows must not change between the
+ * parts of one dump. Refusals 10 (room 0, 7 or 8), 12, 13. */
+uint64_t ysh_dump_part(const uint64_t *settings, size_t settings_len, const uint64_t *state, size_t state_len,
+                       const uint64_t *rows, size_t rows_len, uint64_t at, uint8_t *part, size_t part_len, uint64_t *used);
 
 /* Reads an image of exactly the size back: the state, with equity points and trades counted from 0, and its rows over the first words of
  * the row room. Refusals 10 (room 0, 7 or 8), 12, 19 for what is no whole image, 20 for one of another D or K. */
@@ -412,6 +490,23 @@ uint64_t ysh_run(const uint8_t *steps, size_t steps_len, const uint64_t *rows, s
 /* The nine metrics of equity points and trades. Refusals 10 (room 9), then 13 for lists that are not whole records. */
 uint64_t ysh_metrics(uint64_t initial, const uint64_t *equity, size_t equity_len,
                      const uint64_t *trades, size_t trades_len, uint64_t *metrics, size_t metrics_len);
+
+/* ---- exact totals over the trades of many runs: the words of a record */
+
+enum {
+    YSH_TOTAL_BY_REASON = 0,    /* word 0 to 5: trades that ended by reason 1 to 6 */
+    YSH_TOTAL_WINS = 6,         /* trades with a pnl above 0; a pnl of 0 of either sign is neither a win nor a loss */
+    YSH_TOTAL_LOSSES = 7,       /* trades with a pnl below 0 */
+    YSH_TOTAL_SUM = 8,          /* word 8 to 41: the sum of all pnl in units of 2^-1074, exactly: two's complement, lowest word first */
+    YSH_TOTAL_FLOAT = 42        /* the word of the float nearest to that sum, ties to even; 0 is +0.0 */
+};
+
+/* Adds the trades of a list, whole records of YSH_TRADE_WORDS words, to totals, of which the first YSH_TOTAL_WORDS words are looked at.
+ * Begin with 43 zeros. Every order and every grouping of the same trades leaves the same words. 10, 13, 17, 22. */
+uint64_t ysh_totals(uint64_t *totals, size_t totals_len, const uint64_t *trades, size_t trades_len);
+
+/* Adds other totals, exactly YSH_TOTAL_WORDS words, to totals: those of another machine, say. 10, 13, 22. */
+uint64_t ysh_totals_join(uint64_t *totals, size_t totals_len, const uint64_t *other, size_t other_len);
 
 /* ---- the high and the low of a stretch of closes (docs/INTERFACE.md, "High and low of a stretch") ---- */
 

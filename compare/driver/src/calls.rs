@@ -235,6 +235,8 @@ c_calls! {
         metrics: *mut u64,
         metrics_len: usize,
     ) -> u64;
+    fn ysh_totals(totals: *mut u64, totals_len: usize, trades: *const u64, trades_len: usize) -> u64;
+    fn ysh_totals_join(totals: *mut u64, totals_len: usize, other: *const u64, other_len: usize) -> u64;
     fn ysh_root(word: u64) -> u64;
     fn ysh_append(
         held: *mut u64,
@@ -462,6 +464,14 @@ pub fn metrics(initial: u64, equity: &[u64], trades: &[u64], metrics: &mut [u64]
             metrics.len(),
         )
     }
+}
+
+pub fn totals(totals: &mut [u64], trades: &[u64]) -> u64 {
+    unsafe { with::ysh_totals(totals.as_mut_ptr(), totals.len(), trades.as_ptr(), trades.len()) }
+}
+
+pub fn totals_join(totals: &mut [u64], other: &[u64]) -> u64 {
+    unsafe { with::ysh_totals_join(totals.as_mut_ptr(), totals.len(), other.as_ptr(), other.len()) }
 }
 
 pub fn root(word: u64) -> u64 {

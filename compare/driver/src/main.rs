@@ -18,12 +18,14 @@ mod progress;
 mod stack;
 mod stretches;
 mod theirs;
+mod totals;
 mod view;
 
 use std::process::ExitCode;
 
 const USAGE: &str = "usage: driver compare SEED RUNS | guard SEED CALLS | root SEED COUNT | metrics SEED COUNT
-       driver extremes SEED COUNT | images SEED COUNT | stretches SEED COUNT | replay < runs | bench [PART]
+       driver extremes SEED COUNT | images SEED COUNT | stretches SEED COUNT | totals SEED COUNT
+       driver replay < runs | bench [PART]
        driver stack SEED RUNS (with the feature `stack`: compare/stack)";
 
 fn usage() -> ! {
@@ -51,6 +53,7 @@ fn main() -> ExitCode {
         ["replay"] => compare::replay().expect("standard input can be read"),
         ["root", seed, count] => figures::roots(number(seed), number(count)),
         ["metrics", seed, count] => figures::metrics(number(seed), number(count)),
+        ["totals", seed, count] => totals::totals(number(seed), number(count)),
         _ => usage(),
     };
     ExitCode::from(u8::from(!agree))

@@ -3,3 +3,4 @@ pub mod FromCalls
 pub mod PowerCalls
 pub mod LivesInWords
 pub mod OneLoss
+pub mod EngineNow

@@ -2,4 +2,6 @@ pub mod Begun
 pub mod Loss
 pub mod Capacitor
 pub mod Proved
+pub mod Finish
+pub mod FinishProved
 pub mod Laws

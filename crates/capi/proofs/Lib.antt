@@ -4,4 +4,8 @@ pub mod Days
 pub mod Finishing
 pub mod Writing
 pub mod Powering
+pub mod Parting
+pub mod Totalling
 pub mod Stretching
+pub mod Riding
+pub mod Accounting

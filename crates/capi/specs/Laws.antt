@@ -4,5 +4,7 @@ pub mod TablePlaces
 pub mod TableCalls
 pub mod RunCalls
 pub mod WhyCalls
+pub mod TotalsCalls
 pub mod DumpCalls
+pub mod PartCalls
 pub mod StretchCalls

@@ -6,11 +6,16 @@ pub mod Fresh
 pub mod Bars
 pub mod Finish
 pub mod Power
+pub mod Part
 pub mod Figures
+pub mod Totals
 pub mod Stretch
 pub mod WordRun
 pub mod Day
+pub mod Accounts
 pub mod Laws
 pub mod StretchIsReading
 pub mod Joined
 pub mod DayJoined
+pub mod TotalsJoined
+pub mod AsIfAlone

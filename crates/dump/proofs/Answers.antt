@@ -1,4 +1,4 @@
--- What a dump and a restore answer and leave, refused or done.
+-- What a dump, a part and a restore answer and leave, refused or done.
 use Prim.Native.Nat.{ℕ, _*_, _≤_}
 use mathlib.Core.Path.{_≡_, sym, _∙_}
 use mathlib.Core.List.{List}
@@ -14,11 +14,13 @@ use Rattle.records.specs.declared.state.State.{State}
 use Rattle.refusals.specs.declared.verdict.Verdict.{Verdict}
 use Rattle.refusals.specs.declared.verdict.Verdict.the-variants.{Fine, Bad}
 use Rattle.dump.specs.declared.reader.Restored.the-variants.{Refused, Done}
+use Rattle.dump.specs.declared.part.Parted.the-variants as Parted
 use Rattle.dump.specs.Layout.{imageOf}
 use Rattle.dump.specs.Order.{written}
 use Rattle.dump.specs.Reading.{slotsIn, rowsIn, stateIn, windowIn}
 use Rattle.dump.specs.Refused.{dumpJudged, restoreJudged}
 use Rattle.dump.specs.Dumping.{leftBy, Dumped}
+use Rattle.dump.specs.Parts.{partJudged, PartLaid, partedBy, PartDumped}
 use Rattle.dump.specs.Restoring.{restoredBy, Restores}
 use Rattle.dump.specs.Laws.Fine.{RestoreFine}
 
@@ -30,6 +32,15 @@ module _ (s : Settings) (t : State) (rows area : List ℕ) (from upto : ℕ) {v 
   pub dump-done : {after : List ℕ} → v ≡ Fine → after ≡ written (imageOf s t rows) area from upto → Dumped s t rows area from upto Fine after
   unfolding leftBy
   dump-done fine e = record { verdict = sym fine ∙ judge; leaves = rw (← judge, fine) e }
+
+module _ (s : Settings) (t : State) (rows : List ℕ) (at : ℕ) (part : List ℕ) {v : Verdict} (judge : v ≡ partJudged s t rows) where
+  pub part-refused : {r : Refusal} → v ≡ Bad r → PartDumped s t rows at part (Parted.Refused r) part
+  unfolding leftBy partedBy
+  part-refused bad = record { answer = rw (← judge, bad); leaves = rw (← judge, bad) }
+
+  pub part-done : {used : ℕ} {after : List ℕ} → v ≡ Fine → PartLaid (imageOf s t rows) at part used after → PartDumped s t rows at part (Parted.Used used) after
+  unfolding leftBy partedBy
+  part-done fine e = record { answer = rw (← judge, fine, e .count); leaves = rw (← judge, fine) (e .leaves) }
 
 module _ (s : Settings) (image rows : List ℕ) {v : Verdict} (judge : v ≡ restoreJudged s image rows) where
   pub restore-refused : {r : Refusal} → v ≡ Bad r → Restores s image rows (Refused r) rows

@@ -4,9 +4,8 @@ use mathlib.Core.Path.{_≡_, refl, sym, _∙_}
 use mathlib.Core.List.{List, _++_}
 use native.Mathlib.Nat.{zero-add}
 use native.Mathlib.Numerals.{add-one}
-use native.Mathlib.Omega.{arith}
-use lib.ListN.{length, drop, take, set, getD, length-append}
-use lib.Seq.{drop-cons, set-at, append-snoc, take-at}
+use lib.ListN.{length, drop, set, getD}
+use lib.Seq.{drop-cons, set-at, append-snoc}
 use Rattle.words.specs.Limits.{rowWords}
 use Rattle.words.specs.Words.{overwrite}
 use Rattle.words.specs.Laws.Overwrite.{overwrite-fits}
@@ -41,15 +40,3 @@ pub window-over : (x room : List ℕ) (r b : ℕ) {out : List ℕ} → r ≡ row
     → out ≡ wordsAt x headBytes (r * (7 + b)) ++ drop (r * (7 + b)) room → out ≡ overwrite room 0 (windowIn x)
 unfolding windowIn
 window-over x room r b e f h o = rw (o, e, f) (words-over x headBytes (rowsIn x * rowWords (slotsIn x)) room h)
-
--- the words that were read stand first
-module _ (x : List ℕ) (at n : ℕ) (rest : List ℕ) {room : List ℕ} (e : room ≡ wordsAt x at n ++ rest) where
-  words-long : length (wordsAt x at n) ≡ n
-  unfolding wordsAt
-  words-long = listed-long n _
-
-  pub words-within : n ≤ length room
-  words-within = rw (e, length-append (wordsAt x at n) rest) (omega (arith, words-long))
-
-  pub words-first : take n room ≡ wordsAt x at n
-  words-first = rw e (take-at (wordsAt x at n) rest n words-long)

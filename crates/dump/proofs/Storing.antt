@@ -4,7 +4,8 @@ use mathlib.Core.Path.{_≡_, refl, sym, ap, _∙_}
 use mathlib.Core.List.{List}
 use native.Mathlib.Nat.{sub-self, zero-add}
 use native.Mathlib.Omega.{arith}
-use lib.ListN.{getD, set}
+use lib.ListN.{getD, set, drop}
+use lib.Seq.{getD-drop}
 use Rattle.steps.specs.Bytes.{eight}
 use Rattle.dump.specs.Layout.{wordsBytes}
 use Rattle.dump.specs.Laws.Laid.{laid, laid-none, laid-more, laid-on, laid-as}
@@ -104,3 +105,8 @@ pub part-laid : (area : List ℕ) (base : ℕ) (ws : List ℕ) (skip start most 
 part-laid area base ws skip start most from upto a b e f g =
     let n : skip + b - (skip + a) ≡ b - a = omega arith in
     rw (← e, ← f, ← n) g
+
+-- the byte at p + k is the next of those from p on
+pub copied-next : (part : List ℕ) (to : ℕ) (xs : List ℕ) (p k b : ℕ) {now : List ℕ} → now ≡ laid part to (drop p xs) 0 k → b ≡ getD xs (p + k) 0
+    → set now (to + k) b ≡ laid part to (drop p xs) 0 (k + 1)
+copied-next part to xs p k b e f = rw e (laid-more part to (drop p xs) 0 k k b (sym (zero-add k)) (f ∙ sym (getD-drop p xs k 0)))

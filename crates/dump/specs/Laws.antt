@@ -6,3 +6,7 @@ pub mod Image
 pub mod Fine
 pub mod Passing
 pub mod Plain
+pub mod Placed
+pub mod PartFine
+pub mod Parts
+pub mod RowWords

@@ -32,7 +32,7 @@ fn bytes_of(w: u64) -> [u8; 8]
 }
 
 // Byte k of the words; 0 past their end.
-fn byte_at(list: &[u64], k: usize) -> u8
+pub(crate) fn byte_at(list: &[u64], k: usize) -> u8
     ensures { λ r. ⌜ r ≡ getD (wordsBytes (now (list .entry))) k 0 ⌝ }
 {
     let bytes = bytes_of(words::word(list, k / 8));

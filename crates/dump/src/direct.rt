@@ -73,7 +73,7 @@ fn limit_in(kind: u64, w: u64) -> u64
 }
 
 // The header's words, of a state's words.
-fn direct_head(w: &[u64], slots: u64, depth: u64, held: u64) -> [u64; 17]
+pub(crate) fn direct_head(w: &[u64], slots: u64, depth: u64, held: u64) -> [u64; 17]
     requires { ⌜ stateWords ≤ length (now w) ⌝ }
     ensures { λ r. ⌜ r ≡ headWords slots depth held (plainWords (now (w .entry))) ⌝ }
 {

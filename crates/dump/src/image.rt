@@ -1,9 +1,8 @@
 // Whether an image can be restored: 10, 12, 19, 20.
-use crate::reader::read_words;
+use crate::body::row_fine;
 use crate::writer::HEAD_BYTES;
 use records::settings::Settings;
 use records::state_words::entered_of;
-use refusals::bar::judge_bar;
 use refusals::rooms::entry_below;
 use refusals::rooms::judge_room;
 use refusals::setting::judge_settings;
@@ -19,14 +18,12 @@ use words::limits::ROW_FIXED;
 use words::refusal::Refusal;
 ghost use mathlib.Core.Path.{_≡_};
 ghost use Prim.Native.Nat.{_+_, _<_, _≤_};
-ghost use Rattle.words.specs.Limits.{rowWords, mostSlots, mostRows};
+ghost use lib.ListN.{length};
+ghost use Rattle.words.specs.Limits.{mostSlots, mostRows};
 ghost use Rattle.refusals.specs.Lines.{judged};
-ghost use Rattle.dump.specs.Reading.{slotsIn, rowsIn, wordsAt, rowPlace};
-ghost use Rattle.dump.specs.Refused.{usedOrZero, zeroAt, absentZero, rowFine, eachFine, rowsFine};
+ghost use Rattle.dump.specs.Reading.{slotsIn, rowsIn, rowPlace};
+ghost use Rattle.dump.specs.Refused.{usedOrZero, zeroAt, eachFine, rowsFine};
 ghost use Rattle.dump.specs.Refused.{shapeFine, numbersFine, unusedZero, imageLines, sameLines, restoreJudged};
-
-// The words of the widest row.
-const MOST_WORDS: usize = ROW_FIXED + MOST_SLOTS;
 
 // Mark, version, D, K and the size. Every test is made, with no branch between them: a read past the end gives 0.
 fn shape_fine(image: &[u8]) -> bool
@@ -97,44 +94,6 @@ fn zero_at(image: &[u8], at: usize, n: usize) -> bool
     true
 }
 
-// Whether the words of absent slots are zero.
-fn absent_zero(row: &[u64], slots: usize) -> bool
-    requires { ⌜ slots ≤ mostSlots ⌝ }
-    ensures { λ r. ⌜ r ≡ absentZero slots (now (row .entry)) ⌝ }
-{
-    let mask = words::word(row, rows::MASK);
-    let mut k: usize = 0;
-    while k < slots {
-        if !used_or_zero((mask >> k) % 2 == 1, words::word(row, ROW_FIXED + k)) {
-            return false;
-        }
-        k += 1;
-    }
-    true
-}
-
-// Whether a row is one that a bar that 11 lets pass would have left.
-fn words_fine(row: &[u64], slots: usize) -> bool
-    requires { ⌜ slots ≤ mostSlots ⌝ }
-    ensures { λ r. ⌜ r ≡ rowFine slots (now (row .entry)) ⌝ }
-{
-    if let Verdict::Bad(_) = judge_bar(slots, row, 0) {
-        return false;
-    }
-    absent_zero(row, slots)
-}
-
-// The row at a place.
-fn row_fine(image: &[u8], slots: usize, at: usize) -> bool
-    requires { ⌜ (slots ≤ mostSlots) × (at < 4294967296) ⌝ }
-    ensures { λ r. ⌜ r ≡ rowFine slots (wordsAt (now (image .entry)) at (rowWords slots)) ⌝ }
-{
-    let mut room = [0u64; MOST_WORDS];
-    let width = ROW_FIXED + slots;
-    read_words(image, at, &mut room, width);
-    words_fine(&room[..width], slots)
-}
-
 // Where a row begins.
 fn row_place(slots: usize, i: usize) -> usize
     requires { ⌜ (slots ≤ mostSlots) × (i ≤ mostRows) ⌝ }
@@ -145,7 +104,7 @@ fn row_place(slots: usize, i: usize) -> usize
 
 // The first n rows.
 fn each_fine(image: &[u8], slots: usize, n: usize) -> bool
-    requires { ⌜ (slots ≤ mostSlots) × (n ≤ mostRows) ⌝ }
+    requires { ⌜ (slots ≤ mostSlots) × (n ≤ mostRows) × (rowPlace slots n ≤ length (now image)) ⌝ }
     ensures { λ r. ⌜ r ≡ eachFine (now (image .entry)) slots n ⌝ }
 {
     let mut i: usize = 0;
@@ -160,7 +119,8 @@ fn each_fine(image: &[u8], slots: usize, n: usize) -> bool
 
 // All rows, the zero rows too.
 fn rows_fine(image: &[u8]) -> bool
-    requires { ⌜ (slotsIn (now image) ≤ mostSlots) × (rowsIn (now image) ≤ mostRows) ⌝ }
+    requires { ⌜ (slotsIn (now image) ≤ mostSlots) × (rowsIn (now image) ≤ mostRows)
+        × (rowPlace (slotsIn (now image)) (rowsIn (now image)) ≤ length (now image)) ⌝ }
     ensures { λ r. ⌜ r ≡ rowsFine (now (image .entry)) ⌝ }
 {
     let slots = byte(image, 3) as usize;
@@ -169,9 +129,6 @@ fn rows_fine(image: &[u8]) -> bool
         return false;
     }
     let end = row_place(slots, held);
-    if image.len() < end {
-        return true;
-    }
     zero_at(image, end, image.len() - end)
 }
 

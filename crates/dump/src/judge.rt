@@ -17,6 +17,7 @@ ghost use Rattle.refusals.specs.Lines.{judged};
 ghost use Rattle.engine.specs.Books.{emptied};
 ghost use Rattle.dump.specs.Layout.{dumpBytes};
 ghost use Rattle.dump.specs.Refused.{areaLines, dumpStateLines, dumpJudged};
+ghost use Rattle.dump.specs.Parts.{partJudged};
 
 // The number of the area among the rooms.
 const AREA: u64 = 14;
@@ -86,5 +87,14 @@ pub(crate) fn judge_dump(s: Settings, t: State, rows: &[u64], area: &[u8]) -> Ve
     let below = judge_counts(s, t, rows);
     let below = first_bad(judge_settings(s), below);
     let below = first_bad(judge_area(s, area), below);
+    first_bad(judge_room(s, rows), below)
+}
+
+// All but the area.
+pub(crate) fn judge_held(s: Settings, t: State, rows: &[u64]) -> Verdict
+    ensures { λ r. ⌜ r ≡ partJudged s t (now (rows .entry)) ⌝ }
+{
+    let below = judge_counts(s, t, rows);
+    let below = first_bad(judge_settings(s), below);
     first_bad(judge_room(s, rows), below)
 }

@@ -1,9 +1,11 @@
 // The dump: a state and its window as bytes for an area that keeps them without power, and back. The mark's last byte is written last, so
 // that an area that was not written to the end is no image.
+mod body;
 mod bytes;
 pub mod direct;
 mod image;
 mod judge;
+pub mod part;
 mod passing;
 pub mod reader;
 pub mod writer;

@@ -34,7 +34,7 @@ const REST_BYTES: usize = HEAD_BYTES - MARK_BYTES;
 pub(crate) const HEAD_MARK: u64 = 87 + 256 * 68 + 65536 * 80 + 4294967296;
 
 // How much of a part that begins at `start` lies before x, at most all of it.
-fn clip(x: usize, start: usize, most: usize) -> usize
+pub(crate) fn clip(x: usize, start: usize, most: usize) -> usize
     ensures { λ r. ⌜ r ≡ clip x start most ⌝ }
 {
     if x <= start {
@@ -73,7 +73,7 @@ fn pack(w: &[u64], slots: u64, depth: u64, held: u64) -> [u64; 17]
 }
 
 // The header's words, of a state.
-fn head_words(s: Settings, t: State, held: usize) -> [u64; 17]
+pub(crate) fn head_words(s: Settings, t: State, held: usize) -> [u64; 17]
     ensures { λ r. ⌜ r ≡ headWords (s .slots) (s .depth) held (wordsOf t) ⌝ }
 {
     let mut words = [0u64; STATE_WORDS];

@@ -17,4 +17,5 @@ pub mod SameImage
 pub mod Lives
 pub mod Losses
 pub mod AsIfNever
+pub mod EndAfterLosses
 pub mod Laws

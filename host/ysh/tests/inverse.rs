@@ -90,10 +90,11 @@ fn node_of(label: &str, names: &[String]) -> Node {
     if let Some(selector) = (0..7).find(|&selector| Words::price(selector) == label) {
         return Node { selector, ..plain(kind::PRICE) };
     }
+    let bars = |n: &str| n.replace(',', "").parse().unwrap();
     match parts[..] {
-        [n, "bar" | "bars", "before"] => Node { n: n.parse().unwrap(), ..plain(kind::PREV) },
-        ["rising", "over", n, _] => Node { n: n.parse().unwrap(), ..plain(kind::RISING) },
-        ["falling", "over", n, _] => Node { n: n.parse().unwrap(), ..plain(kind::FALLING) },
+        [n, "bar" | "bars", "before"] => Node { n: bars(n), ..plain(kind::PREV) },
+        ["rising", "over", n, _] => Node { n: bars(n), ..plain(kind::RISING) },
+        ["falling", "over", n, _] => Node { n: bars(n), ..plain(kind::FALLING) },
         ["all", "of", n] => Node { children: n.parse().unwrap(), ..plain(kind::ALL) },
         ["any", "of", n] => Node { children: n.parse().unwrap(), ..plain(kind::ANY) },
         ["flat"] => plain(kind::IN_POSITION),

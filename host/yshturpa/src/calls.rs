@@ -23,6 +23,21 @@ mod raw {
             entry: *const u8, entry_len: usize, exit: *const u8, exit_len: usize,
             short_entry: *const u8, short_entry_len: usize, short_exit: *const u8, short_exit_len: usize, done: *mut u64,
         ) -> u64;
+        pub fn ysh_accounts(
+            stream: *mut u64, stream_len: usize, bars: *const u64, bars_len: usize, done: *mut u64,
+            a_table: *const u8, a_table_len: usize, a_settings: *const u64, a_settings_len: usize, a_entry: *const u8, a_entry_len: usize,
+            a_exit: *const u8, a_exit_len: usize, a_state: *mut u64, a_state_len: usize, a_rows: *mut u64, a_rows_len: usize, a_equity: *mut u64, a_equity_len: usize,
+            a_trades: *mut u64, a_trades_len: usize, a_status: *mut u64, a_status_len: usize,
+            b_table: *const u8, b_table_len: usize, b_settings: *const u64, b_settings_len: usize, b_entry: *const u8, b_entry_len: usize,
+            b_exit: *const u8, b_exit_len: usize, b_state: *mut u64, b_state_len: usize, b_rows: *mut u64, b_rows_len: usize, b_equity: *mut u64, b_equity_len: usize,
+            b_trades: *mut u64, b_trades_len: usize, b_status: *mut u64, b_status_len: usize,
+            c_table: *const u8, c_table_len: usize, c_settings: *const u64, c_settings_len: usize, c_entry: *const u8, c_entry_len: usize,
+            c_exit: *const u8, c_exit_len: usize, c_state: *mut u64, c_state_len: usize, c_rows: *mut u64, c_rows_len: usize, c_equity: *mut u64, c_equity_len: usize,
+            c_trades: *mut u64, c_trades_len: usize, c_status: *mut u64, c_status_len: usize,
+            d_table: *const u8, d_table_len: usize, d_settings: *const u64, d_settings_len: usize, d_entry: *const u8, d_entry_len: usize,
+            d_exit: *const u8, d_exit_len: usize, d_state: *mut u64, d_state_len: usize, d_rows: *mut u64, d_rows_len: usize, d_equity: *mut u64, d_equity_len: usize,
+            d_trades: *mut u64, d_trades_len: usize, d_status: *mut u64, d_status_len: usize,
+        ) -> u64;
         pub fn ysh_finish(
             settings: *const u64, settings_len: usize, state: *mut u64, state_len: usize, rows: *const u64, rows_len: usize,
             equity: *mut u64, equity_len: usize, trades: *mut u64, trades_len: usize, metrics: *mut u64, metrics_len: usize,
@@ -43,10 +58,16 @@ mod raw {
             initial: u64, equity: *const u64, equity_len: usize, trades: *const u64, trades_len: usize,
             metrics: *mut u64, metrics_len: usize,
         ) -> u64;
+        pub fn ysh_totals(totals: *mut u64, totals_len: usize, trades: *const u64, trades_len: usize) -> u64;
+        pub fn ysh_totals_join(totals: *mut u64, totals_len: usize, other: *const u64, other_len: usize) -> u64;
         pub fn ysh_root(word: u64) -> u64;
         pub fn ysh_dump(
             settings: *const u64, settings_len: usize, state: *const u64, state_len: usize, rows: *const u64, rows_len: usize,
             area: *mut u8, area_len: usize, from: u64, upto: u64,
+        ) -> u64;
+        pub fn ysh_dump_part(
+            settings: *const u64, settings_len: usize, state: *const u64, state_len: usize, rows: *const u64, rows_len: usize,
+            at: u64, part: *mut u8, part_len: usize, used: *mut u64,
         ) -> u64;
         pub fn ysh_restore(
             settings: *const u64, settings_len: usize, state: *mut u64, state_len: usize,
@@ -170,6 +191,104 @@ pub fn steps(settings: &[u64], rooms: Rooms, bars: &[u64], steps: [&[u8]; 4]) ->
     (done, answer)
 }
 
+/// What an account of four is handed, and what it writes to.
+pub struct Account<'a> {
+    pub table: &'a [u8],
+    pub settings: &'a [u64],
+    pub entry: &'a [u8],
+    pub exit: &'a [u8],
+    pub rooms: Rooms<'a>,
+    pub status: &'a mut [u64],
+}
+
+/// Four accounts over bars of one stream: how many bars it took, and what it refused.
+pub fn accounts(stream: &mut [u64], bars: &[u64], accounts: [Account; 4]) -> (u64, Answer<()>) {
+    let [a, b, c, d] = accounts;
+    let mut done = 0;
+    let answer = Refusal::of(unsafe {
+        raw::ysh_accounts(
+            stream.as_mut_ptr(),
+            stream.len(),
+            bars.as_ptr(),
+            bars.len(),
+            &mut done,
+            a.table.as_ptr(),
+            a.table.len(),
+            a.settings.as_ptr(),
+            a.settings.len(),
+            a.entry.as_ptr(),
+            a.entry.len(),
+            a.exit.as_ptr(),
+            a.exit.len(),
+            a.rooms.state.as_mut_ptr(),
+            a.rooms.state.len(),
+            a.rooms.rows.as_mut_ptr(),
+            a.rooms.rows.len(),
+            a.rooms.equity.as_mut_ptr(),
+            a.rooms.equity.len(),
+            a.rooms.trades.as_mut_ptr(),
+            a.rooms.trades.len(),
+            a.status.as_mut_ptr(),
+            a.status.len(),
+            b.table.as_ptr(),
+            b.table.len(),
+            b.settings.as_ptr(),
+            b.settings.len(),
+            b.entry.as_ptr(),
+            b.entry.len(),
+            b.exit.as_ptr(),
+            b.exit.len(),
+            b.rooms.state.as_mut_ptr(),
+            b.rooms.state.len(),
+            b.rooms.rows.as_mut_ptr(),
+            b.rooms.rows.len(),
+            b.rooms.equity.as_mut_ptr(),
+            b.rooms.equity.len(),
+            b.rooms.trades.as_mut_ptr(),
+            b.rooms.trades.len(),
+            b.status.as_mut_ptr(),
+            b.status.len(),
+            c.table.as_ptr(),
+            c.table.len(),
+            c.settings.as_ptr(),
+            c.settings.len(),
+            c.entry.as_ptr(),
+            c.entry.len(),
+            c.exit.as_ptr(),
+            c.exit.len(),
+            c.rooms.state.as_mut_ptr(),
+            c.rooms.state.len(),
+            c.rooms.rows.as_mut_ptr(),
+            c.rooms.rows.len(),
+            c.rooms.equity.as_mut_ptr(),
+            c.rooms.equity.len(),
+            c.rooms.trades.as_mut_ptr(),
+            c.rooms.trades.len(),
+            c.status.as_mut_ptr(),
+            c.status.len(),
+            d.table.as_ptr(),
+            d.table.len(),
+            d.settings.as_ptr(),
+            d.settings.len(),
+            d.entry.as_ptr(),
+            d.entry.len(),
+            d.exit.as_ptr(),
+            d.exit.len(),
+            d.rooms.state.as_mut_ptr(),
+            d.rooms.state.len(),
+            d.rooms.rows.as_mut_ptr(),
+            d.rooms.rows.len(),
+            d.rooms.equity.as_mut_ptr(),
+            d.rooms.equity.len(),
+            d.rooms.trades.as_mut_ptr(),
+            d.rooms.trades.len(),
+            d.status.as_mut_ptr(),
+            d.status.len(),
+        )
+    });
+    (done, answer)
+}
+
 pub fn finish(settings: &[u64], rooms: Rooms, metrics: &mut [u64]) -> Answer<()> {
     Refusal::of(unsafe {
         raw::ysh_finish(
@@ -270,6 +389,14 @@ pub fn metrics(initial: u64, equity: &[u64], trades: &[u64], metrics: &mut [u64]
     })
 }
 
+pub fn totals(totals: &mut [u64], trades: &[u64]) -> Answer<()> {
+    Refusal::of(unsafe { raw::ysh_totals(totals.as_mut_ptr(), totals.len(), trades.as_ptr(), trades.len()) })
+}
+
+pub fn totals_join(totals: &mut [u64], other: &[u64]) -> Answer<()> {
+    Refusal::of(unsafe { raw::ysh_totals_join(totals.as_mut_ptr(), totals.len(), other.as_ptr(), other.len()) })
+}
+
 pub fn root(word: u64) -> u64 {
     unsafe { raw::ysh_root(word) }
 }
@@ -289,6 +416,25 @@ pub fn dump(settings: &[u64], state: &[u64], rows: &[u64], area: &mut [u8], from
             upto,
         )
     })
+}
+
+pub fn dump_part(settings: &[u64], state: &[u64], rows: &[u64], at: u64, part: &mut [u8]) -> Answer<u64> {
+    let mut used = 0;
+    Refusal::of(unsafe {
+        raw::ysh_dump_part(
+            settings.as_ptr(),
+            settings.len(),
+            state.as_ptr(),
+            state.len(),
+            rows.as_ptr(),
+            rows.len(),
+            at,
+            part.as_mut_ptr(),
+            part.len(),
+            &mut used,
+        )
+    })?;
+    Ok(used)
 }
 
 pub fn restore(settings: &[u64], state: &mut [u64], image: &[u8], rows: &mut [u64]) -> Answer<()> {

@@ -70,6 +70,13 @@ impl Engine {
         Ok(area)
     }
 
+    /// The bytes of that image from `at` on, as many as there are and the part has place for; and how many they are. A driver that programs
+    /// page after page needs a page's memory and no more.
+    pub fn dump_part(&self, at: u64, part: &mut [u8]) -> Result<usize, Refusal> {
+        let used = calls::dump_part(&self.settings, &self.state, &self.rows, at, part)?;
+        Ok(used as usize)
+    }
+
     /// A run that goes on from an image, with no equity and no trades yet.
     pub fn restored(table: &[u8], settings: &Settings, image: &[u8]) -> Result<Engine, Error> {
         let mut engine = Engine::new(table, settings, 0, 1)?;

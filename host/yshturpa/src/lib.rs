@@ -12,6 +12,7 @@ mod closes;
 mod dump;
 mod engine;
 mod error;
+mod four;
 pub mod layout;
 mod refusal;
 mod results;
@@ -20,6 +21,7 @@ mod saved;
 mod settings;
 mod state;
 mod table;
+mod totals;
 mod why;
 
 pub use bar::{Bar, Funding, Rows};
@@ -28,6 +30,7 @@ pub use closes::{Closes, Stretch};
 pub use dump::{parts_written, Image};
 pub use engine::Engine;
 pub use error::Error;
+pub use four::{Account, Status, Stream};
 pub use refusal::Refusal;
 pub use results::{metrics, Metrics, Point, Reason, Trade};
 pub use rule::{rule, run, Ran};
@@ -35,6 +38,7 @@ pub use saved::Saved;
 pub use settings::{EntryOrder, Settings, Sizing, Slippage};
 pub use state::{Order, OrderLevel, Position, State};
 pub use table::{check, depth, dump_bytes, silent, slots_of, translate, Accepted, Depth, Tree};
+pub use totals::Totals;
 pub use why::{why, By, WhyLine};
 
 /// The square root, correctly rounded, computed from the bits alone.

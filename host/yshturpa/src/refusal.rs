@@ -47,6 +47,7 @@ impl Refusal {
                 None => format!("room {place}"),
             }),
             11 | 16 => Some(format!("bar {place}")),
+            17 => Some(format!("trade {place}")),
             12 => Some(match setting::NAMES.get(place as usize) {
                 Some(name) => format!("setting {place}, {name}"),
                 None => format!("setting {place}"),
@@ -81,7 +82,7 @@ impl fmt::Display for Refusal {
 impl std::error::Error for Refusal {}
 
 /// Number, what it says, and what commonly causes it, as the header has them.
-const WORDS: [(u32, &str, &str); 19] = [
+const WORDS: [(u32, &str, &str); 22] = [
     (1, "the table is under 16 bytes", "an empty file, or a length that is not the table's"),
     (2, "the first three bytes are not RTB", "it is no rule table"),
     (3, "the table's version is none that is read", "a later format, or written with the high byte first"),
@@ -138,6 +139,11 @@ const WORDS: [(u32, &str, &str); 19] = [
          another lot, sizing or cap, or another price, lets the run go on",
     ),
     (
+        17,
+        "a trade's pnl is not finite, or its reason is not 1 to 6",
+        "a trade room was handed over with its free places, and not the trades of a run alone",
+    ),
+    (
         18,
         "the stretch begins after it ends, or one of its bars is not held",
         "the last bar was taken for one past the end; no bar was appended yet",
@@ -148,6 +154,12 @@ const WORDS: [(u32, &str, &str); 19] = [
         "the supply was lost before its last byte was written; a file of another length; an image of another version",
     ),
     (20, "the image has another D or K than table and settings", "an image of another strategy, or of other settings"),
+    (
+        21,
+        "the account is outside the profile",
+        "a table with a short tree; a leverage above 1; more slots, in the table or in setting 0, than the stream has",
+    ),
+    (22, "the totals would be of more than 4,294,967,295 trades", "totals that are never begun anew"),
 ];
 
 fn setting_causes(place: u32) -> &'static str {
@@ -192,7 +204,7 @@ mod tests {
 
     #[test]
     fn every_number_has_words() {
-        for number in (1..=16).chain(18..=20) {
+        for number in (1..=16).chain(18..=21) {
             let refusal = Refusal { number, place: 0 };
             assert!(refusal.entry().is_some() && !refusal.causes().is_empty());
         }

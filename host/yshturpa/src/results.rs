@@ -78,7 +78,7 @@ impl Trade {
         }
     }
 
-    fn words(&self) -> [u64; TRADE_WORDS] {
+    pub(crate) fn words(&self) -> [u64; TRADE_WORDS] {
         let [a, b, c, d, e] =
             [self.entry_price, self.exit_price, self.qty, self.pnl, self.return_pct].map(f64::to_bits);
         let [funding, worst] = [self.funding, self.worst].map(f64::to_bits);

@@ -151,6 +151,23 @@ fn a_saved_run_goes_on_as_the_unbroken_one() {
 }
 
 #[test]
+fn parts_one_after_another_are_the_image() {
+    let mut engine = Engine::new(&table(), &settings(3), BARS, 32).unwrap();
+    (0..BARS / 2).for_each(|i| engine.step(&bar(i)).unwrap());
+    let image = engine.dump().unwrap();
+    for page in [1, 8, 100, 256, image.len(), image.len() + 9] {
+        let (mut joined, mut part) = (Vec::new(), vec![0xee; page]);
+        while let used @ 1.. = engine.dump_part(joined.len() as u64, &mut part).unwrap() {
+            joined.extend_from_slice(&part[..used]);
+        }
+        assert_eq!(joined, image);
+    }
+    let mut part = [0xee; 8];
+    assert_eq!(engine.dump_part(image.len() as u64 - 3, &mut part), Ok(3));
+    assert_eq!(part[3..], [0xee; 5]);
+}
+
+#[test]
 fn saved_words_that_are_no_state_are_refused() {
     let mut engine = Engine::new(&table(), &settings(3), BARS, 32).unwrap();
     (0..5).for_each(|i| engine.step(&bar(i)).unwrap());

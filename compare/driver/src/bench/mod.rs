@@ -11,11 +11,12 @@ mod rules;
 mod setup;
 mod stretch;
 mod timing;
+mod totals;
 
 /// A table, under the name that picks it.
 type Part = (&'static str, fn());
 
-const PARTS: [Part; 10] = [
+const PARTS: [Part; 11] = [
     ("bar", engine::bench),
     ("slots", engine::by_slots),
     ("day", day::bench),
@@ -26,6 +27,7 @@ const PARTS: [Part; 10] = [
     ("looks", looks::bench),
     ("figures", figures::bench),
     ("stretch", stretch::bench),
+    ("totals", totals::bench),
 ];
 
 /// Measures everything, or the part of that name; whether there is one.

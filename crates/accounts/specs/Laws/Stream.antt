@@ -18,7 +18,7 @@ use Rattle.refusals.specs.Lines.{judged}
 use Rattle.engine.specs.Day.{cut}
 use Rattle.engine.specs.Laws.Days.{cut-next}
 use Rattle.accounts.specs.declared.stream.Taken.{Taken}
-use Rattle.accounts.specs.Stream.{streamLines, streamBarLines, noneTaken, takenUnless, streamTakes, streamTaken}
+use Rattle.accounts.specs.Stream.{streamLines, streamBarLines, noneTaken, oneMoreTaken, takenUnless, streamTakes, streamTaken}
 
 -- the next record, and those after it
 pub next-record : (count w : ℕ) (ws : List ℕ) (done : ℕ) → done < count
@@ -99,7 +99,7 @@ takes-few S [] seen = omega arith
 takes-few S (bar ∷ bars) seen = go (judged (streamBarLines S seen bar)) (takes-few S bars (seen + 1))
   where
     go : (v : Verdict) → streamTakes S (seen + 1) bars .done ≤ length bars
-        → takenUnless v (record { done = streamTakes S (seen + 1) bars .done + 1; verdict = streamTakes S (seen + 1) bars .verdict }) .done ≤ length (bar ∷ bars)
+        → takenUnless v (oneMoreTaken (streamTakes S (seen + 1) bars)) .done ≤ length (bar ∷ bars)
     go (Bad why) h = omega arith
     go Fine h = omega arith
 
@@ -127,7 +127,8 @@ taken-within S seen bars = go (eqb (length bars) 0) (judged (streamLines S seen 
     goes : (v : Verdict) → judged (streamLines S seen bars) ≡ v → Within S seen bars (takenUnless v (streamTakes S seen some) .done)
     goes (Bad why) e = none-within S seen bars
     goes Fine e =
-        let few : streamTakes S seen some .done ≤ length bars / barWords S = rw (cut-length (length bars / barWords S) (barWords S) bars) at (takes-few S some seen) in
+        let few : streamTakes S seen some .done ≤ length bars / barWords S =
+        rw (cut-length (length bars / barWords S) (barWords S) bars) at (takes-few S some seen) in
         record {
           words = records-fit (length bars) (barWords S) (omega arith) _ few;
           slots = λ h. stream-fine S seen bars e .0;

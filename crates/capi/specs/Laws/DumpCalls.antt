@@ -59,7 +59,7 @@ no-dump-bytes s e h = omega (arith, dump-bytes s h .0)
 -- ---- the refusals of a list of lines
 
 -- numbers and places as the papers have them: 1 to 22, rooms and settings
-unfoldable onPaper : List Line → Bool
+unfoldable pub onPaper : List Line → Bool
 onPaper [] = true
 onPaper (l ∷ ls) = (leb 1 (l .number) && leb (l .number) 22 && leb (l .place) 31) && onPaper ls
 
@@ -77,7 +77,7 @@ line-small false v n p r h below e =
       place = omega (arith, leb-true p 31 (a .1));
     }
 
-paper-small : (ls : List Line) → onPaper ls ≡ true → (r : Refusal) → judged ls ≡ Bad r → Small r
+pub paper-small : (ls : List Line) → onPaper ls ≡ true → (r : Refusal) → judged ls ≡ Bad r → Small r
 unfolding judged onPaper
 paper-small [] h r e = never (sym e)
 paper-small (l ∷ ls) h r e =

@@ -1,6 +1,6 @@
 -- Refused, or read.
 use mathlib.Core.Path.{sym, _∙_}
-use Rattle.dump.specs.Laws.Fine.{restore-fine}
+use Rattle.dump.specs.Laws.Fine.{rows-within, restore-fine}
 use Rattle.dump.proofs.Answers.{window-fits, restore-refused, restore-done}
 use borrow.Author.Needs.{needs}
 use Rattle.dump.proofs.restore.Statement.{statement}
@@ -10,7 +10,7 @@ read-window-requires : tie.Need-read-window-requires
 read-window-requires c κs =
     let judge = c .before .before .before in
     let fine = restore-fine _ _ _ (sym (judge .judge-restore .ensures) ∙ c .before .enum-told .given .1) in
-    (fine .shape .slots, window-fits _ _ _ fine)
+    (fine .shape .slots, window-fits _ _ _ fine, rows-within _ (fine .shape) (fine .few))
 
 returns : tie.Need-returns
 returns c =

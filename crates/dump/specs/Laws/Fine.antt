@@ -1,12 +1,14 @@
 -- What a dump and an image that are judged fine have been seen to have.
-use Prim.Native.Nat.{ℕ, _≤_}
-use mathlib.Core.Path.{_≡_}
+use Prim.Native.Nat.{ℕ, _*_, _≤_}
+use mathlib.Core.Path.{_≡_, sym, ap, _∙_}
 use mathlib.Core.Bool.{true, _&&_}
 use mathlib.Core.List.{List}
+use native.Mathlib.Nat.{mul-assoc, mul-comm, mul-le-mul-right}
+use native.Mathlib.Omega.{arith}
 use borrow.Author.Tests.{leb-true, eqb-true}
 use lib.Dec.{leb, eqb}
 use lib.ListN.{length, getD}
-use Rattle.words.specs.Limits.{mostSlots, mostRows}
+use Rattle.words.specs.Limits.{rowWords, mostSlots, mostRows}
 use Rattle.records.specs.declared.settings.Settings.{Settings}
 use Rattle.records.specs.declared.state.State.{State}
 use Rattle.records.specs.Lent.{rowPlaces}
@@ -16,7 +18,7 @@ use Rattle.refusals.specs.Settings.{settingLines}
 use Rattle.refusals.specs.Laws.Lines.{and-true, first-holds, both-fine}
 use Rattle.engine.specs.Books.{emptied}
 use Rattle.dump.specs.Layout.{headBytes, dumpBytes}
-use Rattle.dump.specs.Reading.{slotsIn, versionIn, depthIn, seenIn, rowsIn}
+use Rattle.dump.specs.Reading.{slotsIn, versionIn, depthIn, seenIn, rowsIn, rowPlace}
 use Rattle.dump.specs.Refused.{areaLines, dumpStateLines, dumpLines, dumpJudged}
 use Rattle.dump.specs.Refused.{shapeFine, numbersFine, imageLines, sameLines, restoreLines, restoreJudged}
 
@@ -69,6 +71,15 @@ rows-few x h =
     let c = and-true _ _ b .0 in
     let d = and-true _ _ c .0 in
     leb-true _ _ (and-true (leb (rowsIn x) (depthIn x)) (leb (rowsIn x) (seenIn x)) d .0)
+
+-- and they lie within it
+pub rows-within : (x : List ℕ) → ShapeFine x → rowsIn x ≤ depthIn x → rowPlace (slotsIn x) (rowsIn x) ≤ length x
+unfolding dumpBytes
+rows-within x shape few =
+    let w = rowWords (slotsIn x) in
+    let bytes : depthIn x * (8 * w) ≡ 8 * (depthIn x * w) =
+    sym (mul-assoc (depthIn x) 8 w) ∙ ap (λ (m : ℕ). m * w) (mul-comm (depthIn x) 8) ∙ mul-assoc 8 (depthIn x) w in
+    omega (arith, shape .long, bytes, mul-le-mul-right w few)
 
 -- what a restore that is judged fine has been seen to have
 pub record RestoreFine (s : Settings) (x rows : List ℕ) : Type 0 where

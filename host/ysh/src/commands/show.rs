@@ -87,7 +87,7 @@ fn trees(source: &Source, reaches: &[u64], answer: &mut Answer) -> Result<(), Re
             let indent = "  ".repeat(forest.path(node).len() - 1);
             let said = if forest.nodes[node].is_test() { words.whole(node) } else { String::new() };
             let label = format!("{indent}{}", words.label(node));
-            lines.push(vec![star.to_owned(), node.to_string(), reach.to_string(), label, said]);
+            lines.push(vec![star.to_owned(), node.to_string(), grouped(*reach), label, said]);
         }
         let heads = [("", Side::Left), ("node", Side::Right), ("reach", Side::Right), ("rule", Side::Left)];
         columns(&[&heads[..], &[("in words", Side::Left)]].concat(), &lines).iter().for_each(|line| answer.line(line));
@@ -108,13 +108,13 @@ fn read_back(source: &Source, reaches: &[u64], answer: &mut Answer) {
         lines.push(vec![
             Words::price(selector).to_owned(),
             "price".to_owned(),
-            read.back.to_string(),
+            grouped(read.back),
             read.node.to_string(),
         ]);
     }
     for slot in 0..forest.slots as u32 {
         let (back, node) = match slots.get(&slot) {
-            Some(read) => (read.back.to_string(), read.node.to_string()),
+            Some(read) => (grouped(read.back), read.node.to_string()),
             None => ("never read".to_owned(), String::new()),
         };
         lines.push(vec![words.slot(slot), format!("slot {slot}"), back, node]);

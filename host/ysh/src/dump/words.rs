@@ -18,7 +18,7 @@ pub fn image(image: &Image, bytes: usize) -> Vec<String> {
         format!(
             "image    {} bytes, whole: D {}, {}",
             grouped(bytes as u64),
-            image.depth(),
+            grouped(image.depth() as u64),
             counted(slots as u64, "slot", "slots")
         ),
         format!("bars     {} seen{}", grouped(state.bars_seen()), last(state, clock)),
@@ -27,8 +27,8 @@ pub fn image(image: &Image, bytes: usize) -> Vec<String> {
         format!("cash     {}; fees paid {}", rounded(state.cash()), rounded(state.fees_paid())),
         format!(
             "rows     {} of {}{}",
-            image.rows().len(),
-            image.depth(),
+            grouped(image.rows().len() as u64),
+            grouped(image.depth() as u64),
             if image.rows().len() > ROWS { ", the last of them" } else { "" }
         ),
     ];

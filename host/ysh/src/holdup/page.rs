@@ -182,8 +182,9 @@ fn alone(report: &Report) -> String {
     };
     let mut body = String::new();
     for (client, fit) in report.lacking() {
-        body.push_str(&format!("<p><b>{}</b>: {}.</p>\n", escape(&client.file), escape(&room(client, fit))));
-        body.push_str(&list(fit.silent.iter().map(ToString::to_string).chain(fit.volatility.clone())));
+        let tests = list(fit.silent.iter().map(ToString::to_string).chain(fit.volatility.clone()));
+        let said = escape(&room(client, fit));
+        body.push_str(&format!("<div class=\"whole\"><p><b>{}</b>: {said}.</p>{tests}</div>\n", escape(&client.file)));
     }
     section(&format!("What would fall silent in {have} ms, each client alone in its box"), &body)
 }

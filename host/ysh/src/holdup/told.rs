@@ -63,7 +63,7 @@ fn several(report: &Report, have: Time) -> String {
     let all = all(&report.boxes);
     let rest = match unknown {
         0 => String::new(),
-        n => format!("; {} not answered", counted(n, "is", "are").replace("is is", "is")),
+        n => format!("; {} not answered", counted(n, "is", "are")),
     };
     match short.len() as u64 {
         0 if unknown == 0 => format!("all {all} fit in {have} ms"),

@@ -1,7 +1,7 @@
 //! A run as text: the summary and the nine metrics.
 
 use super::outcome::{reason_words, Outcome, REASONS};
-use crate::columns::{columns, counted, Side};
+use crate::columns::{columns, counted, grouped, Side};
 use crate::show::{rounded, Clock};
 
 pub fn text(outcome: &Outcome) -> String {
@@ -43,7 +43,9 @@ pub fn trades(outcome: &Outcome) -> String {
         return "none".to_owned();
     }
     let reasons = REASONS.into_iter().filter(|reason| outcome.left_for(*reason) > 0);
-    let left: Vec<String> = reasons.map(|r| format!("{} {}", reason_words(r), outcome.left_for(r))).collect();
+    let left: Vec<String> =
+        reasons.map(|r| format!("{} {}", reason_words(r), grouped(outcome.left_for(r) as u64))).collect();
     let (won, lost) = (outcome.won(), outcome.lost());
-    format!("{}: {won} won, {lost} lost; left by {}", outcome.trades.len(), left.join(", "))
+    let [all, won, lost] = [outcome.trades.len(), won, lost].map(|n| grouped(n as u64));
+    format!("{all}: {won} won, {lost} lost; left by {}", left.join(", "))
 }

@@ -3,6 +3,7 @@
 use yshturpa::layout::kind;
 
 use super::Forest;
+use crate::columns::grouped;
 use crate::show::shown;
 
 /// The prices, by selector.
@@ -95,7 +96,7 @@ impl Words<'_> {
 fn bars(n: u32) -> String {
     match n {
         1 => "1 bar".to_owned(),
-        n => format!("{n} bars"),
+        n => format!("{} bars", grouped(n.into())),
     }
 }
 

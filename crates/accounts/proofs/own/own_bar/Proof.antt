@@ -24,7 +24,11 @@ add-if3 : tie.Need-add-if3
 add-if3 c =
     let start = c .before .before .before .before .before in
     let good = start .good in
-    omega (arith, eqb-true (length (start .args .bar .now)) (10 + start .args .stream) (so (c .before .before .is-whole .ensures) (c .before .if1 .left)), c .if2 .left)
+    omega (
+      arith,
+      eqb-true (length (start .args .bar .now)) (10 + start .args .stream) (so (c .before .before .is-whole .ensures) (c .before .if1 .left)),
+      c .if2 .left,
+    )
 
 returns-3 : tie.Need-returns-3
 unfolding ownInto
@@ -37,11 +41,20 @@ returns-3 c =
     rw (whole, le-leb _ _ few, overwrite-late _ _ _ short)
 
 write-own-requires : tie.Need-write-own-requires
-write-own-requires c κs = (eqb-true _ _ (so (c .before .before .before .before .is-whole .ensures) (c .before .before .before .if1 .left)), c .before .before .if2 .left, c .before .if3 .left)
+write-own-requires c κs = (
+  eqb-true _ _ (so (c .before .before .before .before .is-whole .ensures) (c .before .before .before .if1 .left)),
+  c .before
+      .before .if2 .left,
+  c .before .if3 .left,
+)
 
 returns-4 : tie.Need-returns-4
 unfolding ownInto
-returns-4 c = rw (so (c .before .before .before .before .before .before .before .is-whole .ensures) (c .before .before .before .before .before .before .if1 .left), le-leb _ _ (c .before .before .before .before .before .if2 .left)) (c .before .before .write-own .ensures)
+returns-4 c = rw (
+  so (c .before .before .before .before .before .before .before .is-whole .ensures) (c .before .before .before .before .before .before .if1
+      .left),
+  le-leb _ _ (c .before .before .before .before .before .if2 .left),
+) (c .before .before .write-own .ensures)
 
 pub own-bar-spec : {M : Type 1} → statement M
 own-bar-spec = tie.close (tie.spec (λ c κs. search needs) returns returns-2 add-if3 returns-3 write-own-requires (λ c. search needs) returns-4)

@@ -12,14 +12,22 @@ returns c = rw (eq-eqb _ _ (c .if1 .taken))
 
 returns-2 : tie.Need-returns-2
 unfolding streamTaken takenUnless
-returns-2 c = rw (ne-eqb _ _ (c .before .before .before .before .if1 .left), sym (c .before .before .before .judge-stream .ensures) ∙ c .before .refusal .given .1)
+returns-2 c = rw (
+  ne-eqb _ _ (c .before .before .before .before .if1 .left),
+  sym (c .before .before .before .judge-stream .ensures) ∙ c .before .refusal
+      .given .1,
+)
 
 take-whole-requires : tie.Need-take-whole-requires
 take-whole-requires c κs = sym (c .before .before .judge-stream .ensures) ∙ c .enum-told .given .1
 
 returns-3 : tie.Need-returns-3
 unfolding streamTaken takenUnless
-returns-3 c = rw (ne-eqb _ _ (c .before .before .before .before .if1 .left), sym (c .before .before .before .judge-stream .ensures) ∙ c .before .enum-told .given .1) (c .take-whole .ensures)
+returns-3 c = rw (
+  ne-eqb _ _ (c .before .before .before .before .if1 .left),
+  sym (c .before .before .before .judge-stream .ensures) ∙ c .before .enum-told
+      .given .1,
+) (c .take-whole .ensures)
 
 pub take-bars-spec : {M : Type 1} → statement M
 take-bars-spec =

@@ -72,7 +72,8 @@ loop-less c = omega (arith, c .before .before .before .before .loop-test .taken)
 loop-again : tie.Need-loop-again Inv-loop μ-loop
 loop-again c =
     let test = c .before .before .before .before in
-    left-more _ _ _ _ _ (test .before .loop .done) (test .loop-test .taken) (test .before .loop .inv) (sym (c .before .before .judge-next .ensures) ∙ c .enum-told .given .1)
+    left-more _ _ _ _ _ (test .before .loop .done) (test .loop-test .taken) (test .before .loop .inv) (sym (c .before .before .judge-next .ensures) ∙ c
+    .enum-told .given .1)
 
 -- all are taken
 returns-2 : tie.Need-returns-2 Inv-loop μ-loop

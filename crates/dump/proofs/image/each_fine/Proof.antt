@@ -1,8 +1,9 @@
 -- The loop's invariant: the rows passed are fine.
-use Prim.Native.Nat.{ℕ, _-_, _≤_}
+use Prim.Native.Nat.{ℕ, _+_, _-_, _*_, _≤_, _<_}
 use mathlib.Core.Path.{_≡_, sym, ap, _∙_}
 use mathlib.Core.Bool.{Bool, true}
 use mathlib.Core.List.{List}
+use native.Mathlib.Nat.{mul-le-mul-right}
 use native.Mathlib.Omega.{arith}
 use Rattle.words.specs.Limits.{rowWords}
 use Rattle.refusals.specs.Bar.{every}
@@ -35,6 +36,18 @@ loop-again c =
     let told = judge .row-fine .ensures ∙ ap (λ (p : ℕ). rowFine (a .slots) (wordsAt (a .image .now) p (rowWords (a .slots)))) (place .row-place .ensures .0) in
     (omega arith, every-more (isFine (a .image .now) (a .slots)) (l .loop .i) (l .loop .inv .1) (so told (c .if1 .left)))
 
+-- a row ends by where the last of them does
+row-ends : (i n w place size : ℕ) → i < n → place ≡ 256 + 8 * (i * w) → 256 + 8 * (n * w) ≤ size → place + 8 * w ≤ size
+row-ends i n w place size l e h = let more : (i + 1) * w ≤ n * w = mul-le-mul-right w (omega arith) in omega arith
+
+row-fine-requires : tie.Need-row-fine-requires Inv-loop μ-loop
+row-fine-requires c κs =
+    let t = c .before in
+    let l = t .before in
+    let s = l .before .before in
+    let a = s .args in
+    (s .pre .0, row-ends (l .loop .i) (a .n) (7 + a .slots) _ _ (t .loop-test .taken) (c .row-place .ensures .0) (s .pre .2))
+
 returns : tie.Need-returns Inv-loop μ-loop
 unfolding eachFine
 returns c =
@@ -55,5 +68,5 @@ returns-2 c =
 
 pub each-fine-spec : {M : Type 1} → statement M
 each-fine-spec =
-    tie.close (tie.spec Inv-loop μ-loop loop-holds (λ c κs. search needs) (λ c κs. search needs) returns
+    tie.close (tie.spec Inv-loop μ-loop loop-holds (λ c κs. search needs) row-fine-requires returns
     (λ c. search needs) (λ c. search needs) loop-again returns-2)

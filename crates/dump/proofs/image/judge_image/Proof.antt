@@ -2,7 +2,7 @@
 use native.Mathlib.Omega.{arith}
 use Rattle.refusals.specs.Laws.Descent.{so, not-so, no-line, fine-line, bad-line}
 use Rattle.dump.specs.Refused.{imageLines}
-use Rattle.dump.specs.Laws.Fine.{shape-fine, rows-few}
+use Rattle.dump.specs.Laws.Fine.{shape-fine, rows-few, rows-within}
 use Rattle.dump.proofs.Testing.{equal, other}
 use borrow.Author.Needs.{needs}
 use Rattle.dump.proofs.image.judge_image.Statement.{statement}
@@ -118,7 +118,7 @@ rows-fine-requires c κs =
     let x = shape .before .before .args .image .now in
     let fine = shape-fine x (so (shape .shape-fine .ensures) (numbers .before .if1 .left)) in
     let few = rows-few x (so (numbers .numbers-fine .ensures) (c .before .before .before .before .before .before .if2 .left)) in
-    (fine .slots, omega (arith, few, fine .depth))
+    (fine .slots, omega (arith, few, fine .depth), rows-within x fine few)
 
 pub judge-image-spec : {M : Type 1} → statement M
 judge-image-spec =

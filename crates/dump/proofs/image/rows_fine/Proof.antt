@@ -1,24 +1,49 @@
 -- The rows, and what is behind them.
-use Prim.Native.Nat.{ℕ}
-use mathlib.Core.Path.{ap, _∙_}
+use Prim.Native.Nat.{ℕ, _≤_}
+use mathlib.Core.Path.{_≡_, ap, _∙_}
 use borrow.Author.Tests.{not-true, not-false}
 use native.Mathlib.Omega.{arith}
-use Rattle.dump.specs.Reading.{slotsIn, rowPlace}
-use Rattle.dump.proofs.Testing.{each-as, rows-end, rows-rest, rows-bad}
+use lib.ListN.{length}
+use Rattle.dump.specs.Reading.{slotsIn, rowsIn, rowPlace}
+use Rattle.dump.proofs.Testing.{each-as, rows-rest, rows-bad}
 use borrow.Author.Needs.{needs}
 use Rattle.dump.proofs.image.rows_fine.Statement.{statement}
 use Rattle.dump.proofs.image.rows_fine.Tie as tie
 
 each-fine-requires : tie.Need-each-fine-requires
 each-fine-requires c κs =
-    let s = c .before .before .before in
-    (omega (arith, c .before .byte .ensures, s .pre .0), omega (arith, c .read32 .ensures .0, s .pre .1))
+    let slots = c .before in
+    let s = slots .before .before in
+    let x = s .args .image .now in
+    let end : rowPlace (slots .byte .result) (c .read32 .result) ≡ rowPlace (slotsIn x) (rowsIn x) = rw (slots .byte .ensures, c .read32 .ensures .0) in
+    (omega (arith, slots .byte .ensures, s .pre .0), omega (arith, c .read32 .ensures .0, s .pre .1), omega (arith, end, s .pre .2))
 
 row-place-requires : tie.Need-row-place-requires
 row-place-requires c κs =
     let rows = c .before .before in
     let s = rows .before .before .before in
     (omega (arith, rows .before .byte .ensures, s .pre .0), omega (arith, rows .read32 .ensures .0, s .pre .1))
+
+sub-zero-at : tie.Need-sub-zero-at
+sub-zero-at c =
+    let rows = c .before .before .before in
+    let slots = rows .before in
+    let s = slots .before .before in
+    let x = s .args .image .now in
+    let end : rowPlace (slots .byte .result) (rows .read32 .result) ≡ rowPlace (slotsIn x) (rowsIn x) =
+    rw (slots .byte .ensures, rows .read32 .ensures .0) in
+    omega (arith, end, c .row-place .ensures .0, s .pre .2)
+
+zero-at-requires : tie.Need-zero-at-requires
+zero-at-requires c κs =
+    let rows = c .before .before .before in
+    let slots = rows .before in
+    let s = slots .before .before in
+    let x = s .args .image .now in
+    let end : rowPlace (slots .byte .result) (rows .read32 .result) ≡ rowPlace (slotsIn x) (rowsIn x) =
+    rw (slots .byte .ensures, rows .read32 .ensures .0) in
+    let within : c .row-place .result ≤ length x = omega (arith, end, c .row-place .ensures .0, s .pre .2) in
+    search needs
 
 returns : tie.Need-returns
 returns c =
@@ -37,22 +62,10 @@ returns-2 c =
     let x = slots .before .before .args .image .now in
     let at = place .row-place .ensures .0 ∙ ap (λ (k : ℕ). rowPlace k (rows .read32 .result)) (slots .byte .ensures)
     ∙ ap (rowPlace (slotsIn x)) (rows .read32 .ensures .0) in
-    rows-end x (each-as x (each .each-fine .ensures) (slots .byte .ensures) (rows .read32 .ensures .0)) at (not-false _ (place .before .if1 .left))
-    (c .if2 .taken)
-
-returns-3 : tie.Need-returns-3
-returns-3 c =
-    let place = c .before .before in
-    let each = place .before .before in
-    let rows = each .before in
-    let slots = rows .before in
-    let x = slots .before .before .args .image .now in
-    let at = place .row-place .ensures .0 ∙ ap (λ (k : ℕ). rowPlace k (rows .read32 .result)) (slots .byte .ensures)
-    ∙ ap (rowPlace (slotsIn x)) (rows .read32 .ensures .0) in
     rows-rest x (each-as x (each .each-fine .ensures) (slots .byte .ensures) (rows .read32 .ensures .0)) at (not-false _ (place .before .if1 .left))
     (c .zero-at .ensures)
 
 pub rows-fine-spec : {M : Type 1} → statement M
 rows-fine-spec =
     tie.close (tie.spec (λ c κs. search needs) (λ c. search needs) (λ c κs. search needs) each-fine-requires returns
-    row-place-requires returns-2 (λ c. search needs) (λ c κs. search needs) returns-3)
+    row-place-requires sub-zero-at zero-at-requires returns-2)

@@ -23,9 +23,8 @@ read-words-requires c κs =
     let slots = rows .before in
     let s = slots .before .before .before in
     let x = s .args .image .now in
-    let narrow = mul-le-mul-left {m = 7 + slots .byte .result} {n = 71} (rows .read32 .result) (omega (arith, slots .byte .ensures, s .pre .0)) in
     let n : rows .read32 .result * (7 + slots .byte .result) ≡ rowsIn x * rowWords (slotsIn x) = rw (rows .read32 .ensures .0, slots .byte .ensures) in
-    (omega (arith, n, s .pre .1), omega (arith, narrow, rows .read32 .ensures .1))
+    (omega (arith, n, s .pre .1), omega (arith, n, s .pre .2))
 
 returns : tie.Need-returns
 returns c =

@@ -27,8 +27,8 @@ loop-again c =
     let s = l .before .before .before in
     let a = s .args in (
       omega arith,
-      words-more (a .image .now) (a .at) (a .room .now) (l .loop .i) (c .read64 .result) (omega (arith, s .pre .0)) (l .loop .inv .1)
-          (c .read64 .ensures),
+      words-more (a .image .now) (a .at) (a .room .now) (l .loop .i) (c .word-at .result) (omega (arith, s .pre .0)) (l .loop .inv .1)
+          (c .word-at .ensures .0),
       simp length-set (l .loop .inv .2),
     )
 

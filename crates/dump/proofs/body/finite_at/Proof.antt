@@ -1,0 +1,13 @@
+-- The word, and whether its float is finite.
+use Prim.Native.Nat.{ℕ}
+use mathlib.Core.Path.{ap, _∙_}
+use Rattle.floats.specs.Floats.{finite, floatOf}
+use borrow.Author.Needs.{needs}
+use Rattle.dump.proofs.body.finite_at.Statement.{statement}
+use Rattle.dump.proofs.body.finite_at.Tie as tie
+
+returns : tie.Need-returns
+returns c = c .word-is-finite .ensures ∙ ap (λ (w : ℕ). finite (floatOf w)) (c .before .word-at .ensures .0)
+
+pub finite-at-spec : {M : Type 1} → statement M
+finite-at-spec = tie.close (tie.spec (λ c κs. search needs) (λ c κs. search needs) returns)

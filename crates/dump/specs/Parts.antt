@@ -1,0 +1,44 @@
+-- A part of an image: what it refuses, answers and leaves. Definitions only.
+use Prim.Native.Nat.{ℕ}
+use mathlib.Core.Path.{_≡_}
+use mathlib.Core.List.{List, _++_}
+use lib.ListN.{length, take, drop}
+use Rattle.words.specs.Words.{overwrite}
+use Rattle.records.specs.declared.settings.Settings.{Settings}
+use Rattle.records.specs.declared.state.State.{State}
+use Rattle.refusals.specs.declared.verdict.Verdict.{Verdict}
+use Rattle.refusals.specs.declared.verdict.Verdict.the-variants.{Fine, Bad}
+use Rattle.refusals.specs.Lines.{Line, judged}
+use Rattle.refusals.specs.Rooms.{roomLines}
+use Rattle.refusals.specs.Settings.{settingLines}
+use Rattle.dump.specs.declared.part.Parted.{Parted}
+use Rattle.dump.specs.declared.part.Parted.the-variants.{Refused, Used}
+use Rattle.dump.specs.Layout.{imageOf}
+use Rattle.dump.specs.Refused.{dumpStateLines}
+use Rattle.dump.specs.Dumping.{leftBy}
+
+-- bytes `at` to `at + n` of an image, in the order of their places; past its end there are none
+unfoldable pub bytesFrom : List ℕ → ℕ → ℕ → List ℕ
+bytesFrom image at n = take n (drop at image)
+
+-- Of a dump's refusals all but that of the area: a buffer of any length is none too short.
+unfoldable pub partLines : Settings → State → List ℕ → List Line
+partLines s t rows = roomLines s rows ++ (settingLines s ++ dumpStateLines s t rows)
+
+unfoldable pub partJudged : Settings → State → List ℕ → Verdict
+partJudged s t rows = judged (partLines s t rows)
+
+-- The part over a buffer's first bytes, and how many they are.
+pub record PartLaid (image : List ℕ) (at : ℕ) (part : List ℕ) (used : ℕ) (after : List ℕ) : Type 0 where
+  pub count : used ≡ length (bytesFrom image at (length part))
+  pub leaves : after ≡ overwrite part 0 (bytesFrom image at (length part))
+
+-- The paper's values for each case of the answer.
+unfoldable pub partedBy : Verdict → ℕ → Parted
+partedBy Fine used = Used used
+partedBy (Bad why) used = Refused why
+
+-- the answer, and the buffer that it leaves
+pub record PartDumped (s : Settings) (t : State) (rows : List ℕ) (at : ℕ) (part : List ℕ) (r : Parted) (after : List ℕ) : Type 0 where
+  pub answer : r ≡ partedBy (partJudged s t rows) (length (bytesFrom (imageOf s t rows) at (length part)))
+  pub leaves : after ≡ leftBy (partJudged s t rows) (overwrite part 0 (bytesFrom (imageOf s t rows) at (length part))) part
