@@ -5,7 +5,7 @@
  *
  * Every call but ysh_root and ysh_dump_bytes answers one word: 0 where it did its work, else a refusal: the refusal's number times
  * 2^32 plus its place (YSH_NUMBER, YSH_PLACE; what each number means stands below). A refused call changes nothing that was lent to it;
- * ysh_steps alone, which takes many bars, leaves those done that came before the refused one.
+ * ysh_steps and ysh_accounts, which take many bars, leave those done that came before the refused one.
  *
  * What a caller has to see to is what the types say and no more: each pointer points at as many elements as the length
  * behind it says, words lie on 8-byte boundaries, and what is lent for writing overlaps nothing else. A list or room of length 0 is
@@ -106,6 +106,11 @@ enum {
                                  * the whole area), a spare byte is not 0, or a field is out of its range. Place 0 */
     YSH_REFUSED_OTHER = 20,     /* a whole image, of another D or K than settings 1 and 0 say: another table's. Place 0 */
 
+    /* 21: an account of ysh_accounts. It stands in the account's status. */
+    YSH_REFUSED_PROFILE = 21,   /* outside the profile: the table has a short tree, setting 15 is given and not at most 1, or the table or setting 0 has
+                                 * more slots than the stream. Place 0 */
+
+    /* 22: the totals. */
     YSH_REFUSED_TOTAL = 22      /* the totals, with what is to be added, would be of more than 4,294,967,295 trades. Place 0 */
 };
 
@@ -122,6 +127,8 @@ enum {
 #define YSH_TOTAL_WORDS 43                        /* of exact totals; 43 zeros are the totals of nothing */
 #define YSH_BLOCK_WORDS 4                         /* of 64 closes: high, its first bar, low, its first bar */
 #define YSH_BLOCKS_WORDS(bars) (4 * (((bars) + 63) / 64))   /* the blocks of so many closes */
+#define YSH_STREAM_WORDS 2                        /* slots, bars taken */
+#define YSH_STATUS_WORDS 3                        /* number, place, bar of the stream */
 #define YSH_STEP_BYTES(nodes) (64 * (nodes))      /* room for the steps of a tree of so many nodes, in bytes */
 #define YSH_DUMP_BYTES(slots, depth) (256 + (depth) * 8 * (7 + (slots)))   /* of a dump, in bytes: what ysh_dump_bytes answers for a K
                                                    * and a D in range, for an area that is laid out by the compiler */
@@ -145,8 +152,9 @@ enum {
     YSH_ROOM_LINES = 10,
     YSH_ROOM_TOTALS = 11,
     YSH_ROOM_CLOSES = 12, YSH_ROOM_BLOCKS = 13,
-    /* 15 to 17 are kept for later requests */
+    /* 15 is kept for a later request */
     YSH_ROOM_DUMP = 14,
+    YSH_ROOM_STREAM = 16, YSH_ROOM_STATUS = 17,
     YSH_ROOM_SILENT = 18
 };
 
@@ -366,6 +374,60 @@ uint64_t ysh_steps(const uint64_t *settings, size_t settings_len, uint64_t *stat
 uint64_t ysh_finish(const uint64_t *settings, size_t settings_len, uint64_t *state, size_t state_len,
                     const uint64_t *rows, size_t rows_len, uint64_t *equity, size_t equity_len,
                     uint64_t *trades, size_t trades_len, uint64_t *metrics, size_t metrics_len);
+
+/* ---- four accounts on one stream (docs/INTERFACE.md, "Four accounts on one stream") ---- */
+
+/* The words of the stream (room 16), and of the status of an account (room 17). */
+enum { YSH_STREAM_SLOTS, YSH_STREAM_BARS };
+
+enum {
+    YSH_STATUS_NUMBER,          /* 0 while the account runs; the number that stopped it */
+    YSH_STATUS_PLACE,           /* the place that goes with the number */
+    YSH_STATUS_BAR              /* the bar of the stream at which it was stopped, numbered from 0 */
+};
+
+/* What one account is handed, and what it is lent for writing. */
+typedef struct {
+    const uint8_t *table; size_t table_len;
+    const uint64_t *settings; size_t settings_len;
+    const uint8_t *entry; size_t entry_len;           /* steps of trees 0 and 1, as ysh_translate wrote them */
+    const uint8_t *exit; size_t exit_len;
+    uint64_t *state; size_t state_len;
+    uint64_t *rows; size_t rows_len;
+    uint64_t *equity; size_t equity_len;
+    uint64_t *trades; size_t trades_len;
+    uint64_t *status; size_t status_len;
+} ysh_account;
+
+/* One account of ysh_accounts, as its parameters and as the fields of a ysh_account. */
+#define YSH_ACCOUNT_PARAMETERS(a) \
+    const uint8_t *a##_table, size_t a##_table_len, const uint64_t *a##_settings, size_t a##_settings_len, \
+    const uint8_t *a##_entry, size_t a##_entry_len, const uint8_t *a##_exit, size_t a##_exit_len, \
+    uint64_t *a##_state, size_t a##_state_len, uint64_t *a##_rows, size_t a##_rows_len, \
+    uint64_t *a##_equity, size_t a##_equity_len, uint64_t *a##_trades, size_t a##_trades_len, \
+    uint64_t *a##_status, size_t a##_status_len
+#define YSH_ACCOUNT_FIELDS(a) \
+    (a).table, (a).table_len, (a).settings, (a).settings_len, (a).entry, (a).entry_len, (a).exit, (a).exit_len, \
+    (a).state, (a).state_len, (a).rows, (a).rows_len, (a).equity, (a).equity_len, (a).trades, (a).trades_len, \
+    (a).status, (a).status_len
+
+/* Four accounts over bars of one stream: records of 10 + slots words, slots being the stream's. `done` is how many bars the stream took; it is
+ * written whatever the answer is. At the first bar that the stream refuses it stops: that bar changes no account and stops none. Each account is
+ * handed its own part of the bars taken (six words, its K lowest bits of the mask, slots 0 to K - 1, the three words of funding) and leaves state
+ * and rooms word for word as one ysh_step a bar would, with empty short lists. At the first bar that an account itself refuses it is stopped, with
+ * number, place and bar in its status, and the others go on; a stopped account is not touched until its number is set to 0 again. So are 1 to 9 of its
+ * table, and then 21 for one outside the profile, told at the first bar of a call. The answer is the stream's alone. Refusals 10 (room 16 or
+ * 17), 12 at 0, 13; then, of a bar, 14 and 11 at the stream's bars. No bars: done is 0, and nothing is refused but rooms 16 and 17. */
+uint64_t ysh_accounts(uint64_t *stream, size_t stream_len, const uint64_t *bars, size_t bars_len, uint64_t *done,
+                      YSH_ACCOUNT_PARAMETERS(a), YSH_ACCOUNT_PARAMETERS(b), YSH_ACCOUNT_PARAMETERS(c), YSH_ACCOUNT_PARAMETERS(d));
+
+/* The same, over an array of four. */
+static inline uint64_t ysh_four(uint64_t *stream, size_t stream_len, const uint64_t *bars, size_t bars_len, uint64_t *done,
+                                const ysh_account account[4])
+{
+    return ysh_accounts(stream, stream_len, bars, bars_len, done, YSH_ACCOUNT_FIELDS(account[0]), YSH_ACCOUNT_FIELDS(account[1]),
+                        YSH_ACCOUNT_FIELDS(account[2]), YSH_ACCOUNT_FIELDS(account[3]));
+}
 
 /* ---- power loss and restart (docs/INTERFACE.md, "Power loss and restart") ---- */
 

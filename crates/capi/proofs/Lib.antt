@@ -7,3 +7,5 @@ pub mod Powering
 pub mod Parting
 pub mod Totalling
 pub mod Stretching
+pub mod Riding
+pub mod Accounting

@@ -12,8 +12,10 @@ pub mod Totals
 pub mod Stretch
 pub mod WordRun
 pub mod Day
+pub mod Accounts
 pub mod Laws
 pub mod StretchIsReading
 pub mod Joined
 pub mod DayJoined
 pub mod TotalsJoined
+pub mod AsIfAlone

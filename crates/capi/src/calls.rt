@@ -22,7 +22,7 @@ const STATE_ROOM: u64 = 8;
 const METRICS_ROOM: u64 = 9;
 
 // A part of an answer: the refusal's number stands in the upper half of the word, its place in the lower.
-const HALF: u64 = 4_294_967_296;
+pub(crate) const HALF: u64 = 4_294_967_296;
 
 // A refusal as one word.
 pub(crate) fn answer_word(refusal: Refusal) -> u64

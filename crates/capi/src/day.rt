@@ -46,7 +46,7 @@ fn put_after(room: &mut [u64], done: usize, t: State)
 }
 
 // What a verdict answers.
-fn answer_of(verdict: Verdict) -> u64
+pub(crate) fn answer_of(verdict: Verdict) -> u64
     ensures { λ r. ⌜ r ≡ answerOf verdict ⌝ }
 {
     match verdict {

@@ -3,6 +3,7 @@ pub mod bars;
 mod calls;
 pub mod day;
 pub mod figures;
+pub mod four;
 pub mod part;
 pub mod power;
 pub mod report;

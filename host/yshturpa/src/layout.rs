@@ -16,6 +16,10 @@ pub const BLOCK_WORDS: usize = 4;
 /// Words of exact totals.
 pub const TOTAL_WORDS: usize = 43;
 
+/// Words of a stream, and of the status of an account on it.
+pub const STREAM_WORDS: usize = 2;
+pub const STATUS_WORDS: usize = 3;
+
 /// Words of a line that says why, and as many lines as there may be.
 pub const WHY_WORDS: usize = 8;
 pub const WHY_LINES: usize = 32;
@@ -136,10 +140,12 @@ pub mod room {
     pub const ROWS: u32 = 0;
     pub const CLOSES: u32 = 12;
     pub const BLOCKS: u32 = 13;
+    pub const STREAM: u32 = 16;
+    pub const STATUS: u32 = 17;
     pub const SILENT: u32 = 18;
 
     /// What each is called, those that are kept for later left out.
-    pub const NAMES: [(u32, &str); 16] = [
+    pub const NAMES: [(u32, &str); 18] = [
         (ROWS, "rows"),
         (1, "equity"),
         (2, "trades"),
@@ -155,8 +161,23 @@ pub mod room {
         (CLOSES, "closes"),
         (BLOCKS, "blocks"),
         (14, "the dump"),
+        (STREAM, "the stream"),
+        (STATUS, "the status of an account"),
         (SILENT, "silent tests"),
     ];
+}
+
+/// The words of a stream.
+pub mod stream {
+    pub const SLOTS: usize = 0;
+    pub const BARS: usize = 1;
+}
+
+/// The words of the status of an account.
+pub mod status {
+    pub const NUMBER: usize = 0;
+    pub const PLACE: usize = 1;
+    pub const BAR: usize = 2;
 }
 
 /// The kinds of a node.

@@ -82,7 +82,7 @@ impl fmt::Display for Refusal {
 impl std::error::Error for Refusal {}
 
 /// Number, what it says, and what commonly causes it, as the header has them.
-const WORDS: [(u32, &str, &str); 21] = [
+const WORDS: [(u32, &str, &str); 22] = [
     (1, "the table is under 16 bytes", "an empty file, or a length that is not the table's"),
     (2, "the first three bytes are not RTB", "it is no rule table"),
     (3, "the table's version is none that is read", "a later format, or written with the high byte first"),
@@ -154,6 +154,11 @@ const WORDS: [(u32, &str, &str); 21] = [
         "the supply was lost before its last byte was written; a file of another length; an image of another version",
     ),
     (20, "the image has another D or K than table and settings", "an image of another strategy, or of other settings"),
+    (
+        21,
+        "the account is outside the profile",
+        "a table with a short tree; a leverage above 1; more slots, in the table or in setting 0, than the stream has",
+    ),
     (22, "the totals would be of more than 4,294,967,295 trades", "totals that are never begun anew"),
 ];
 
@@ -199,7 +204,7 @@ mod tests {
 
     #[test]
     fn every_number_has_words() {
-        for number in (1..=16).chain(18..=20) {
+        for number in (1..=16).chain(18..=21) {
             let refusal = Refusal { number, place: 0 };
             assert!(refusal.entry().is_some() && !refusal.causes().is_empty());
         }

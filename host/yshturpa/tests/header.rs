@@ -2,7 +2,7 @@
 
 use std::collections::BTreeMap;
 
-use yshturpa::layout::{self, kind, room, setting, state};
+use yshturpa::layout::{self, kind, room, setting, state, status, stream};
 
 fn header() -> String {
     let text = std::fs::read_to_string(concat!(env!("CARGO_MANIFEST_DIR"), "/../../include/yshturpa.h")).unwrap();
@@ -61,6 +61,13 @@ fn every_number_is_the_headers() {
         ("METRIC_WORDS", layout::METRIC_WORDS),
         ("TOTAL_WORDS", layout::TOTAL_WORDS),
         ("BLOCK_WORDS", layout::BLOCK_WORDS),
+        ("STREAM_WORDS", layout::STREAM_WORDS),
+        ("STATUS_WORDS", layout::STATUS_WORDS),
+        ("STREAM_SLOTS", stream::SLOTS),
+        ("STREAM_BARS", stream::BARS),
+        ("STATUS_NUMBER", status::NUMBER),
+        ("STATUS_PLACE", status::PLACE),
+        ("STATUS_BAR", status::BAR),
         ("LINE_WORDS", layout::WHY_WORDS),
         ("MOST_LINES", layout::WHY_LINES),
         ("TABLE_BYTES", layout::TABLE_BYTES),
@@ -97,15 +104,15 @@ fn every_number_is_the_headers() {
         ("OPEN_FUNDING", state::OPEN_FUNDING),
         ("OPEN_WORST", state::OPEN_WORST),
     ]);
-    ours.extend(
-        [
-            ("ROOM_ROWS", room::ROWS),
-            ("ROOM_CLOSES", room::CLOSES),
-            ("ROOM_BLOCKS", room::BLOCKS),
-            ("ROOM_SILENT", room::SILENT),
-        ]
-        .map(|(n, v)| (n, v.into())),
-    );
+    let rooms = [
+        ("ROOM_ROWS", room::ROWS),
+        ("ROOM_CLOSES", room::CLOSES),
+        ("ROOM_BLOCKS", room::BLOCKS),
+        ("ROOM_STREAM", room::STREAM),
+        ("ROOM_STATUS", room::STATUS),
+        ("ROOM_SILENT", room::SILENT),
+    ];
+    ours.extend(rooms.map(|(n, v)| (n, v.into())));
     let kinds = [
         ("CONST", kind::CONST),
         ("REF", kind::REF),

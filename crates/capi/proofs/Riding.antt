@@ -1,0 +1,152 @@
+-- An account over the bars of a stream: calls of step, one after another, over its own part of each.
+use Prim.Native.Nat.{ℕ, zero, suc, _+_, _-_, _*_, _/_, _<_, _≤_}
+use mathlib.Core.Path.{_≡_, refl, sym, _∙_}
+use mathlib.Core.Bool.{Bool, true, false, cond, _&&_}
+use mathlib.Core.List.{List, [], _∷_, map}
+use native.Mathlib.Nat.{le-div-iff-mul-le}
+use native.Mathlib.Omega.{arith}
+use borrow.Author.Tests.{ne-eqb, leb-true}
+use lib.Dec.{leb, eqb}
+use lib.ListN.{length, take, drop, length-drop, length-map}
+use lib.Seq.{length-take-le}
+use Rattle.words.specs.Laws.Records.{record-ends}
+use Rattle.words.specs.Limits.{barWords}
+use Rattle.records.specs.declared.settings.Settings.{Settings}
+use Rattle.records.specs.Lent.{Rooms, Lists, rooms}
+use Rattle.refusals.specs.declared.verdict.Verdict.the-variants.{Fine}
+use Rattle.refusals.specs.Laws.Lines.{never, and-true, first-holds}
+use Rattle.table.specs.declared.answer.Answer.{Answer}
+use Rattle.table.specs.declared.answer.Answer.the-variants.{Accepted, Refused}
+use Rattle.table.specs.Checked.{checked}
+use Rattle.table.specs.Header.{slots}
+use Rattle.engine.specs.Day.{cut}
+use Rattle.accounts.specs.Laws.Own.{own-front}
+use Rattle.accounts.specs.Laws.Stream.{next-record, recordAt, same-record}
+use Rattle.accounts.specs.Own.{ownBar, ownInto}
+use Rattle.accounts.specs.Profile.{noShortTrees, leverageWithin, slotsWithin, withinProfile, afterTable, profileJudged}
+use Rattle.capi.specs.Bars.{StepLent, stepCall}
+use Rattle.capi.specs.Call.{Call}
+use Rattle.capi.specs.WordRun.{WordRun, callsOver}
+
+-- k calls more, before those of a run
+abbrev pub moreCalls : ℕ → WordRun → WordRun
+moreCalls k r = record { done = r .done + k; answer = r .answer; lent = r .lent }
+
+module _ (settings : List ℕ) (ls : Lists) (own : List ℕ → List ℕ) (bars : List ℕ) (count w : ℕ) (given : StepLent) where
+  abbrev all : WordRun
+  all = callsOver settings ls given (map own (cut count w bars))
+
+  -- the calls over all bars are those over the bars left, after those done
+  abbrev pub CallsAfter : ℕ → StepLent → Type 0
+  CallsAfter done lent = all ≡ moreCalls done (callsOver settings ls lent (map own (cut (count - done) w (drop (done * w) bars))))
+
+  pub calls-none : CallsAfter 0 given
+  calls-none =
+      let left : count - 0 ≡ count = omega arith in
+      let start : 0 * w ≡ 0 = omega arith in
+      let none : (n : ℕ) → n + 0 ≡ n = λ n. omega arith in
+      rw (left, start, none)
+
+  pub calls-all : (done : ℕ) {lent : StepLent} → count ≤ done → CallsAfter done lent → all ≡ record { done = done; answer = 0; lent = lent }
+  unfolding cut callsOver
+  calls-all done h after =
+      let none : count - done ≡ 0 = omega arith in
+      let zero-more : 0 + done ≡ done = omega arith in
+      after ∙ rw (none, zero-more)
+
+  module _ (done : ℕ) (more : done < count) (lent : StepLent) (after : CallsAfter done lent) {a : ℕ} {next : StepLent}
+      (stepped : stepCall settings (lent .state) (own (recordAt w bars done)) (lent .rooms) ls ≡ record { answer = a; lent = next }) where
+    pub calls-more : a ≡ 0 → CallsAfter (done + 1) next
+    unfolding callsOver
+    calls-more fine =
+        let one : (n : ℕ) → n + 1 + done ≡ n + (done + 1) = λ n. omega arith in
+        after ∙ rw (next-record count w bars done more, ← same-record w bars done, stepped, fine, one)
+
+    pub calls-stop : (a ≡ 0 → ⊥) → all ≡ record { done = done; answer = a; lent = next }
+    unfolding callsOver
+    calls-stop bad =
+        let zero-more : 0 + done ≡ done = omega arith in
+        after ∙ rw (next-record count w bars done more, ← same-record w bars done, stepped, ne-eqb a 0 bad, zero-more)
+
+-- ---- a turn of the loop over the bars
+
+-- the bars that were taken lie within their list
+pub bar-within : (n w done count : ℕ) → 0 < w → done < count → count * w ≤ n → done * w + w ≤ n
+bar-within n w done count some more fits =
+    let all : count ≤ n / w = le-div-iff-mul-le {k = w} some .1 fits in
+    record-ends n w some done (omega arith)
+
+pub record-long : (w : ℕ) (ws : List ℕ) (done : ℕ) → done * w + w ≤ length ws → length (recordAt w ws done) ≡ w
+record-long w ws done h = rw (same-record w ws done) (length-take-le w (drop (done * w) ws) (omega (arith, length-drop (done * w) ws)))
+
+-- what holds whenever the loop over the bars is at its test: so many are done, and the account goes on from here
+pub record Turn (settings : List ℕ) (ls : Lists) (own : List ℕ → List ℕ) (bars : List ℕ) (count w : ℕ) (given : StepLent) (room : List ℕ) (done : ℕ)
+    (lent : StepLent) : Type 0 where
+  pub after : CallsAfter settings ls own bars count w given done lent
+  pub state : length (lent .state) ≡ length (given .state)
+  pub rows : length (lent .rooms .rows) ≡ length (given .rooms .rows)
+  pub equity : length (lent .rooms .equity) ≡ length (given .rooms .equity)
+  pub trades : length (lent .rooms .trades) ≡ length (given .rooms .trades)
+  pub wide : length room ≡ 74
+
+abbrev pub stepLent : List ℕ → List ℕ → List ℕ → List ℕ → StepLent
+stepLent state rows equity trades = record { state = state; rooms = rooms rows equity trades }
+
+-- ---- an account's own part of a bar, as a step
+
+pub own-call : (S K : ℕ) (bar room : List ℕ) → length bar ≡ barWords S → K ≤ S → barWords K ≤ length room
+    → (after settings state : List ℕ) (m : Rooms) (ls : Lists) {c : Call StepLent} → after ≡ ownInto S K bar room
+    → stepCall settings state (take (barWords K) after) m ls ≡ c → stepCall settings state (ownBar S K bar) m ls ≡ c
+own-call S K bar room whole few fits after settings state m ls e called =
+    let same : take (barWords K) after ≡ ownBar S K bar = rw e (own-front S K bar whole few room fits) in
+    rw same at called
+
+-- ---- how many calls
+
+cut-length : (n w : ℕ) (ws : List ℕ) → length (cut n w ws) ≡ n
+unfolding cut
+cut-length zero w ws = refl
+cut-length (suc n) w ws = rw (cut-length n w (drop w ws))
+
+-- no more than there are bars
+calls-few : (settings : List ℕ) (ls : Lists) (bars : List (List ℕ)) (lent : StepLent) → callsOver settings ls lent bars .done ≤ length bars
+unfolding callsOver
+calls-few settings ls [] lent = omega arith
+calls-few settings ls (bar ∷ bars) lent =
+    go (eqb (stepCall settings (lent .state) bar (lent .rooms) ls .answer) 0) (calls-few settings ls bars (stepCall settings (lent .state) bar (lent
+    .rooms) ls .lent))
+  where
+    next : Call StepLent
+    next = stepCall settings (lent .state) bar (lent .rooms) ls
+
+    later : WordRun
+    later = callsOver settings ls (next .lent) bars
+
+    go : (b : Bool) → later .done ≤ length bars
+        → cond {A = WordRun} b (moreCalls 1 later) (record { done = 0; answer = next .answer; lent = next .lent }) .done ≤ length (bar ∷ bars)
+    go true h = omega arith
+    go false h = omega arith
+
+pub ride-within : (settings : List ℕ) (ls : Lists) (own : List ℕ → List ℕ) (bars : List ℕ) (count w : ℕ) (given : StepLent) {d a : ℕ} {l : StepLent}
+    → callsOver settings ls given (map own (cut count w bars)) ≡ record { done = d; answer = a; lent = l } → d ≤ count
+ride-within settings ls own bars count w given {d} {a} {l} e =
+    let few : callsOver settings ls given (map own (cut count w bars)) .done ≤ length (map own (cut count w bars)) = calls-few settings ls _ given in
+    let long : length (map own (cut count w bars)) ≡ count = length-map (cut count w bars) own ∙ cut-length count w bars in
+    let so : d ≤ length (map own (cut count w bars)) = rw e at few in
+    omega (arith, long, so)
+
+-- ---- an account that may ride has no more slots than the stream
+
+slots-few : (a b c d : Bool) → (a && (b && (c && d))) ≡ true → d ≡ true
+slots-few a b c d h = and-true c d (and-true b (c && d) (and-true a (b && (c && d)) h .1) .1) .1
+
+pub profile-slots : (table : List ℕ) (s : Settings) (S : ℕ) → profileJudged table s S ≡ Fine → s .slots ≤ S
+unfolding profileJudged afterTable withinProfile slotsWithin
+profile-slots table s S = go (checked table)
+  where
+    go : (a : Answer) → afterTable a (withinProfile table s S) ≡ Fine → s .slots ≤ S
+    go (Refused why) h = never h
+    go (Accepted nodes rows) h =
+        leb-true (s .slots) S
+        (slots-few (noShortTrees table) (leverageWithin (s .terms .risk .«max_leverage»)) (leb (slots table) S) (leb (s .slots) S)
+        (first-holds _ _ h .0))

@@ -1,0 +1,12 @@
+-- Three words.
+use borrow.Author.Needs.{needs}
+use Rattle.capi.specs.Accounts.{stoppedWith}
+use Rattle.capi.proofs.four.stop.Statement.{statement}
+use Rattle.capi.proofs.four.stop.Tie as tie
+
+returns : tie.Need-returns
+unfolding stoppedWith
+returns c = c .before .before .put .ensures
+
+pub stop-spec : {M : Type 1} → statement M
+stop-spec = tie.close (tie.spec (λ c. search needs) (λ c κs. search needs) (λ c. search needs) returns)
