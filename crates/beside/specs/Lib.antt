@@ -1,0 +1,4 @@
+pub mod OwnFine
+pub mod Taken
+pub mod Step
+pub mod NeverEleven

@@ -1,0 +1,170 @@
+-- Request 14: "a bar refused with 11 changes and stops none". A bar that 11 accepts for the stream's slots is one that 11 accepts for fewer: so 11 is
+-- never an account's.
+use Prim.Native.Nat.{ℕ, _+_, _*_, _/_, _^_, _≤_}
+use mathlib.Core.Path.{_≡_, refl, sym, ap, _∙_}
+use mathlib.Core.Bool.{Bool, true, false, cond, not, _&&_}
+use mathlib.Core.List.{List, [], _∷_}
+use native.Mathlib.Omega.{arith}
+use borrow.Author.Tests.{eqb-true, eqb-false, leb-true}
+use lib.Dec.{eqb, leb, ltb}
+use lib.ListN.{length}
+use Rattle.words.specs.declared.refusal.Refusal.{Refusal}
+use Rattle.words.specs.Limits.{barWords}
+use Rattle.words.specs.Outcome.{refusal}
+use Rattle.words.specs.Words.{word}
+use Rattle.table.specs.declared.answer.Answer.{Answer}
+use Rattle.table.specs.declared.answer.Answer.the-variants.{Accepted, Refused}
+use Rattle.table.specs.declared.places.Place.{Place}
+use Rattle.table.specs.declared.places.Place.the-variants.{At, Nowhere}
+use Rattle.table.specs.Checked.{orRefused, orHeader, from7, from8, from9, checkedUpTo, checked}
+use Rattle.table.specs.Header.{newestVersion, markRight, versionRight, countsRight, total, headerRefusal, slots as tableSlots}
+use Rattle.records.specs.declared.settings.Settings.{Settings}
+use Rattle.records.specs.Settings.{settingsOf}
+use Rattle.refusals.specs.declared.verdict.Verdict.{Verdict}
+use Rattle.refusals.specs.declared.verdict.Verdict.the-variants.{Fine, Bad}
+use Rattle.refusals.specs.Laws.Lines.{never, and-true, first-holds}
+use Rattle.refusals.specs.Lines.{line, judged}
+use Rattle.engine.specs.Day.{cut}
+use Rattle.accounts.specs.Laws.Own.{overwrite-start}
+use Rattle.accounts.specs.Profile.{noShortTrees, leverageWithin, slotsWithin, withinProfile, afterTable, profileJudged}
+use Rattle.capi.specs.Accounts.{AccountGiven, AccountLent, AccountsLent, Four, statusWords, alone, ownBars, ownLists, stoppedWith, accountsLines, noneDone}
+use Rattle.capi.specs.AsIfAlone.{Which, first, second, third, fourth, givenTo, lentTo, Rode, AsAlone, slots, seen, taken, call, roomsJudged, as-if-alone}
+use Rattle.capi.specs.Call.{Call}
+use Rattle.capi.specs.WordRun.{WordRun}
+use Rattle.beside.specs.Step.{calls-other}
+use Rattle.beside.specs.Taken.{AllFine, taken-fine}
+
+-- ---- an account's table and the profile
+
+five : (a b c d e : Bool) → cond a 1 (cond b 2 (cond c 3 (cond d 4 (cond e 5 0)))) ≤ 9
+five true b c d e = omega arith
+five false true c d e = omega arith
+five false false true d e = omega arith
+five false false false true e = omega arith
+five false false false false true = omega arith
+five false false false false false = omega arith
+
+header-nine : (t : List ℕ) → headerRefusal newestVersion t ≤ 9
+unfolding headerRefusal
+header-nine t =
+    five (ltb (length t) 16) (not (markRight t)) (not (versionRight newestVersion t)) (not (countsRight t)) (not (eqb (length t) (16 + 16 * total t)))
+
+-- a number up to 9, where there is one
+abbrev UpToNine : Answer → Type 0
+UpToNine a = (why : Refusal) → a ≡ Refused why → why .number ≤ 9
+
+rule-nine : (n : ℕ) (q : Place) (a : Answer) → n ≤ 9 → UpToNine a → UpToNine (orRefused n q a)
+unfolding orRefused
+rule-nine n Nowhere a small below = below
+rule-nine n (At p) a small below = λ why e. let same : n ≡ why .number = cc in omega (arith, same, small)
+
+header-or : (n : ℕ) (a : Answer) → n ≤ 9 → UpToNine a → UpToNine (orHeader n a)
+unfolding orHeader
+header-or n a small below = go (eqb n 0)
+  where
+    go : (b : Bool) → UpToNine (cond b a (Refused (refusal n 0)))
+    go true = below
+    go false = λ why e. let same : n ≡ why .number = cc in omega (arith, same, small)
+
+accepted-nine : (n r : ℕ) → UpToNine (Accepted n r)
+accepted-nine n r = λ why e. absurd (let z : _≡_ {A = ℕ} 0 1 = cc in omega arith)
+
+-- "1 to 9 come first"
+table-nine : (t : List ℕ) → UpToNine (checked t)
+unfolding checked checkedUpTo from7 from8 from9
+table-nine t =
+    header-or (headerRefusal newestVersion t) _ (header-nine t)
+    (rule-nine 6 _ _ (omega arith) (rule-nine 7 _ _ (omega arith) (rule-nine 8 _ _ (omega arith) (rule-nine 9 _ _ (omega arith) (accepted-nine _ _)))))
+
+outside-other : (within : Bool) (a : Answer) (why : Refusal) → UpToNine a → afterTable a within ≡ Bad why → why .number ≡ 11 → ⊥
+unfolding afterTable judged
+outside-other within (Refused q) why nine e eleven = let same : q .number ≡ why .number = cc in omega (arith, nine q refl, same, eleven)
+outside-other true (Accepted n r) why nine e eleven = never (sym e)
+outside-other false (Accepted n r) why nine e eleven = let same : 21 ≡ why .number = cc in omega (arith, same, eleven)
+
+-- an account within the profile has no more slots than the stream
+within-slots : (a : Answer) (table : List ℕ) (s : Settings) (S : ℕ) → afterTable a (withinProfile table s S) ≡ Fine → s .slots ≤ S
+unfolding afterTable withinProfile slotsWithin
+within-slots (Refused why) table s S e = never e
+within-slots (Accepted n r) table s S e =
+    let leverage : Bool = leverageWithin (s .terms .risk .«max_leverage») in
+    let all = and-true (noShortTrees table) (leverage && slotsWithin table s S) (first-holds (line (withinProfile table s S) 21 0) [] e .0) in
+    let most = and-true leverage (slotsWithin table s S) (all .1) in
+    leb-true (s .slots) S (and-true (leb (tableSlots table) S) (leb (s .slots) S) (most .1) .1)
+
+-- ---- its status
+
+stopped-number : (status : List ℕ) (number place bar : ℕ) → statusWords ≤ length status → word (stoppedWith status number place bar) 0 ≡ number
+unfolding stoppedWith
+stopped-number status number place bar h = rw (overwrite-start status (number ∷ place ∷ bar ∷ []) h)
+
+rode-other : (seen : ℕ) (a b : AccountLent) (r : WordRun) → Rode seen a b r → statusWords ≤ length (a .status) → word (a .status) 0 ≡ 0
+    → (r .answer / 2 ^ 32 ≡ 11 → ⊥) → word (b .status) 0 ≡ 11 → ⊥
+rode-other seen a b r rode room running other eleven = go (eqb (r .answer) 0) refl
+  where
+    number : {ws : List ℕ} → b .status ≡ ws → word (b .status) 0 ≡ word ws 0
+    number e = ap (λ (ws : List ℕ). word ws 0) e
+
+    go : (d : Bool) → eqb (r .answer) 0 ≡ d → ⊥
+    go true e = omega (arith, number (rode .runs (eqb-true _ _ e)), running, eleven)
+    go false e = other (sym (number (rode .stops (eqb-false _ _ e)) ∙ stopped-number _ _ _ _ room) ∙ eleven)
+
+-- of an account that runs: over bars that 11 accepts it is not stopped with 11
+account-other : (S seen : ℕ) (bars : List (List ℕ)) (g : AccountGiven) (a b : AccountLent) → AsAlone S seen bars g a b → AllFine S bars
+    → statusWords ≤ length (a .status) → word (a .status) 0 ≡ 0 → word (b .status) 0 ≡ 11 → ⊥
+unfolding profileJudged alone ownBars
+account-other S seen [] g a b is fine room running eleven =
+    let same : word (b .status) 0 ≡ word (a .status) 0 = ap (λ (x : AccountLent). word (x .status) 0) (is .none refl) in
+    omega (arith, same, running, eleven)
+account-other S seen (bar ∷ bars) g a b is fine room running eleven = go (profileJudged (g .table) (settingsOf (g .settings)) S) refl
+  where
+    some : bar ∷ bars ≡ [] → ⊥
+    some e = let z : _≡_ {A = ℕ} 0 1 = cc in omega arith
+
+    go : (v : Verdict) → profileJudged (g .table) (settingsOf (g .settings)) S ≡ v → ⊥
+    go (Bad why) e =
+        let told : word (b .status) 0 ≡ why .number =
+        ap (λ (x : AccountLent). word (x .status) 0) (is .refused some running why e)
+        ∙ stopped-number (a .status) (why .number) (why .place) seen room in
+        outside-other (withinProfile (g .table) (settingsOf (g .settings)) S) (checked (g .table)) why (table-nine (g .table)) e (sym told ∙ eleven)
+    go Fine e =
+        let few : settingsOf (g .settings) .slots ≤ S = within-slots (checked (g .table)) (g .table) (settingsOf (g .settings)) S e in
+        rode-other seen a b (alone S g a (bar ∷ bars)) (is .rides running e) room running
+        (calls-other S (g .settings) (ownLists g) few (bar ∷ bars) fine (record { state = a .state; rooms = a .rooms })) eleven
+
+-- ---- the call
+
+pub none-done : (which : Which) (l : AccountsLent) → lentTo which (noneDone l) ≡ lentTo which l
+unfolding lentTo
+none-done first l = refl
+none-done second l = refl
+none-done third l = refl
+none-done fourth l = refl
+
+-- where the rooms of the call are fine, each status has its three words
+statuses : (l : AccountsLent) (which : Which)
+    → judged (accountsLines (l .stream) (l .first .status) (l .second .status) (l .third .status) (l .fourth .status)) ≡ Fine
+    → statusWords ≤ length (lentTo which l .status)
+unfolding accountsLines lentTo
+statuses l first h = leb-true _ _ (first-holds _ _ (first-holds _ _ h .1) .0)
+statuses l second h = leb-true _ _ (first-holds _ _ (first-holds _ _ (first-holds _ _ h .1) .1) .0)
+statuses l third h = leb-true _ _ (first-holds _ _ (first-holds _ _ (first-holds _ _ (first-holds _ _ h .1) .1) .1) .0)
+statuses l fourth h = leb-true _ _ (first-holds _ _ (first-holds _ _ (first-holds _ _ (first-holds _ _ (first-holds _ _ h .1) .1) .1) .1) .0)
+
+-- NO ACCOUNT IS STOPPED WITH 11: whatever the stream, the bars and all words of the four accounts hold, one that runs is not at 11 after the call. (One
+-- that was stopped before is as it was: `as-if-alone`.)
+pub never-eleven : (bars : List ℕ) (g : Four) (l : AccountsLent) (which : Which) → word (lentTo which l .status) 0 ≡ 0
+    → word (lentTo which (call bars g l .lent) .status) 0 ≡ 11 → ⊥
+never-eleven bars g l which running eleven = go (roomsJudged bars g l) refl
+  where
+    go : (v : Verdict) → roomsJudged bars g l ≡ v → ⊥
+    go (Bad why) e =
+        let same : lentTo which (call bars g l .lent) ≡ lentTo which l =
+        ap (λ (c : Call AccountsLent). lentTo which (c .lent)) (as-if-alone bars g l .short why e) ∙ none-done which l in
+        let number : word (lentTo which (call bars g l .lent) .status) 0 ≡ word (lentTo which l .status) 0 =
+        ap (λ (x : AccountLent). word (x .status) 0) same in
+        omega (arith, number, running, eleven)
+    go Fine e =
+        account-other (slots bars g l) (seen bars g l) (cut (taken bars g l .done) (barWords (slots bars g l)) bars) (givenTo which g) (lentTo which l)
+        (lentTo which (call bars g l .lent))
+        (as-if-alone bars g l .account e which) (taken-fine (slots bars g l) (seen bars g l) bars) (statuses l which e) running eleven
