@@ -2,3 +2,4 @@ pub mod OwnFine
 pub mod Taken
 pub mod Step
 pub mod NeverEleven
+pub mod Alike
