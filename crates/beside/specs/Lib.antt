@@ -3,3 +3,4 @@ pub mod Taken
 pub mod Step
 pub mod NeverEleven
 pub mod Alike
+pub mod Honest

@@ -1,0 +1,143 @@
+-- Demand 1 of the call over four accounts: its answer is the number and the place of what is refused, 0 means that nothing was, and a call that takes no
+-- bar leaves all that was lent as it was.
+use Prim.Native.Nat.{ℕ, _+_, _/_, _%_, _^_, _<_}
+use mathlib.Core.Path.{_≡_, refl, sym, ap, _∙_}
+use mathlib.Core.Bool.{Bool, true, false, cond}
+use mathlib.Core.List.{List, [], _∷_}
+use native.Mathlib.Omega.{arith}
+use borrow.Author.Tests.{ltb-true}
+use lib.Dec.{eqb}
+use lib.ListN.{length}
+use Rattle.words.specs.declared.refusal.Refusal.{Refusal}
+use Rattle.words.specs.Limits.{barWords, mostCount}
+use Rattle.words.specs.Words.{word}
+use Rattle.refusals.specs.declared.verdict.Verdict.{Verdict}
+use Rattle.refusals.specs.declared.verdict.Verdict.the-variants.{Fine, Bad}
+use Rattle.refusals.specs.Bar.{barLines}
+use Rattle.refusals.specs.Laws.Lines.{never}
+use Rattle.refusals.specs.Laws.Numbers.{numbered, number-within}
+use Rattle.refusals.specs.Laws.Places.{Placed, place-below, named, named-placed}
+use Rattle.refusals.specs.Lines.{Line, judged, firstBad}
+use Rattle.engine.specs.Day.{cut}
+use Rattle.accounts.specs.declared.stream.Taken.{Taken}
+use Rattle.accounts.specs.Stream.{streamLines, streamBarLines, noneTaken, oneMoreTaken, takenUnless, streamTakes, streamTaken}
+use Rattle.capi.specs.Accounts.{AccountsLent, Four, accountAfter, accountsLines, noneDone, streamAfter, afterBars, accountsBy, accountsCall}
+use Rattle.capi.specs.AsIfAlone.{taken, call, roomsJudged}
+use Rattle.capi.specs.Call.{answerWord}
+use Rattle.capi.specs.Laws.Answers.{answer-number, answer-place}
+use Rattle.capi.specs.Laws.Calls.{Small, refused-word}
+use Rattle.capi.specs.WordRun.{answerOf}
+
+-- ---- the refusals are small
+
+lines-small : (ls : List Line) → numbered ls ≡ true → Placed ls → (r : Refusal) → judged ls ≡ Bad r → Small r
+lines-small ls n p r e =
+    let w = number-within ls r n e in
+    record { some = omega (arith, w .0); number = omega (arith, w .1); place = place-below ls r p e }
+
+-- room 16 is the stream's, room 17 a status
+rooms-small : (l : AccountsLent) (r : Refusal)
+    → judged (accountsLines (l .stream) (l .first .status) (l .second .status) (l .third .status) (l .fourth .status)) ≡ Bad r → Small r
+unfolding accountsLines numbered named
+rooms-small l = lines-small _ refl (named-placed _ refl)
+
+stream-small : (S seen : ℕ) (bars : List ℕ) (r : Refusal) → judged (streamLines S seen bars) ≡ Bad r → Small r
+unfolding streamLines numbered named
+stream-small S seen bars = lines-small _ refl (named-placed _ refl)
+
+-- 14 comes before 11: the stream's bars are a place
+bar-small : (S seen : ℕ) (bar : List ℕ) (r : Refusal) → judged (streamBarLines S seen bar) ≡ Bad r → Small r
+unfolding streamBarLines barLines numbered Placed
+bar-small S seen bar =
+    lines-small (streamBarLines S seen bar) refl (omega arith, λ early. places (ltb-true seen mostCount early))
+  where
+    places : seen < mostCount → Placed (barLines S bar seen)
+    places early = (omega arith, λ candle. (omega arith, λ slots. (omega arith, λ funding. tt)))
+
+-- what ends a stream
+abbrev SmallEnd : Taken → Type 0
+SmallEnd t = (r : Refusal) → t .verdict ≡ Bad r → Small r
+
+unless-small : (v : Verdict) (t : Taken) → ((r : Refusal) → v ≡ Bad r → Small r) → SmallEnd t → SmallEnd (takenUnless v t)
+unfolding takenUnless
+unless-small (Bad why) t own later = own
+unless-small Fine t own later = later
+
+takes-small : (S : ℕ) (bars : List (List ℕ)) (seen : ℕ) → SmallEnd (streamTakes S seen bars)
+unfolding streamTakes
+takes-small S [] seen = λ r e. never (sym e)
+takes-small S (bar ∷ bars) seen =
+    unless-small (judged (streamBarLines S seen bar)) (oneMoreTaken (streamTakes S (seen + 1) bars)) (bar-small S seen bar)
+    (takes-small S bars (seen + 1))
+
+taken-small : (S seen : ℕ) (bars : List ℕ) → SmallEnd (streamTaken S seen bars)
+unfolding streamTaken
+taken-small S seen bars = go (eqb (length bars) 0)
+  where
+    each : List (List ℕ)
+    each = cut (length bars / barWords S) (barWords S) bars
+
+    go : (b : Bool) → SmallEnd (cond b (noneTaken Fine) (takenUnless (judged (streamLines S seen bars)) (streamTakes S seen each)))
+    go true = λ r e. never (sym e)
+    go false = unless-small (judged (streamLines S seen bars)) (streamTakes S seen each) (stream-small S seen bars) (takes-small S each seen)
+
+-- ---- the call
+
+module _ (bars : List ℕ) (g : Four) (l : AccountsLent) where
+  -- what the call is judged by: its own rooms, then the stream and its bars
+  abbrev pub callJudged : Verdict
+  callJudged = firstBad (roomsJudged bars g l) (taken bars g l .verdict)
+
+  pub record AccountsHonest : Type 0 where
+    -- "A refusal .. changes nothing lent": where no bar was done, all is as it was. What bars before a refused one did stays done (`as-if-alone`).
+    pub keeps : call bars g l .lent .done ≡ 0 → call bars g l .lent ≡ noneDone l
+    -- the number is the upper half of the answer, the place its lower half
+    pub number : (r : Refusal) → callJudged ≡ Bad r → call bars g l .answer / 2 ^ 32 ≡ r .number
+    pub place : (r : Refusal) → callJudged ≡ Bad r → call bars g l .answer % 2 ^ 32 ≡ r .place
+    -- 0: nothing was refused
+    pub does : call bars g l .answer ≡ 0 → callJudged ≡ Fine
+
+-- over no bars
+none-left : (S seen : ℕ) (t : Taken) (bars : List ℕ) (g : Four) (l : AccountsLent) → t .done ≡ 0 → afterBars S seen t bars g l ≡ noneDone l
+unfolding afterBars streamAfter accountAfter cut
+none-left S seen t bars g l none = rw none
+
+keeps-by : (v : Verdict) (bars : List ℕ) (g : Four) (l : AccountsLent) → accountsBy v bars g l .lent .done ≡ 0 → accountsBy v bars g l .lent ≡ noneDone l
+unfolding accountsBy afterBars
+keeps-by (Bad why) bars g l none = refl
+keeps-by Fine bars g l none = none-left (word (l .stream) 0) (word (l .stream) 1) (taken bars g l) bars g l none
+
+-- the answer is what the verdict answers
+answer-by : (v : Verdict) (bars : List ℕ) (g : Four) (l : AccountsLent) → accountsBy v bars g l .answer ≡ answerOf (firstBad v (taken bars g l .verdict))
+unfolding accountsBy answerOf
+answer-by (Bad why) bars g l = refl
+answer-by Fine bars g l = refl
+
+first-small : (v w : Verdict) → ((r : Refusal) → v ≡ Bad r → Small r) → ((r : Refusal) → w ≡ Bad r → Small r) → (r : Refusal) → firstBad v w ≡ Bad r → Small r
+first-small (Bad why) w p q = p
+first-small Fine w p q = q
+
+answers-nothing : (v : Verdict) → ((r : Refusal) → v ≡ Bad r → Small r) → answerOf v ≡ 0 → v ≡ Fine
+unfolding answerOf
+answers-nothing Fine small e = refl
+answers-nothing (Bad why) small e = absurd (refused-word why (small why refl) e)
+
+answers-bad : (v : Verdict) (r : Refusal) → v ≡ Bad r → answerOf v ≡ answerWord r
+unfolding answerOf
+answers-bad v r e = rw e
+
+-- DEMAND 1 of `ysh_accounts`
+pub accounts-honest : (bars : List ℕ) (g : Four) (l : AccountsLent) → AccountsHonest bars g l
+unfolding accountsCall
+accounts-honest bars g l = record {
+  keeps = keeps-by (roomsJudged bars g l) bars g l;
+  number = λ r e. ap (λ (n : ℕ). n / 2 ^ 32) (answer r e) ∙ answer-number r (small r e .number) (small r e .place);
+  place = λ r e. ap (λ (n : ℕ). n % 2 ^ 32) (answer r e) ∙ answer-place r (small r e .number) (small r e .place);
+  does = λ e. answers-nothing (callJudged bars g l) small (sym (answer-by (roomsJudged bars g l) bars g l) ∙ e);
+}
+  where
+    small : (r : Refusal) → callJudged bars g l ≡ Bad r → Small r
+    small = first-small (roomsJudged bars g l) (taken bars g l .verdict) (rooms-small l) (taken-small (word (l .stream) 0) (word (l .stream) 1) bars)
+
+    answer : (r : Refusal) → callJudged bars g l ≡ Bad r → call bars g l .answer ≡ answerWord r
+    answer r e = answer-by (roomsJudged bars g l) bars g l ∙ answers-bad (callJudged bars g l) r e
