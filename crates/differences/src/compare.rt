@@ -12,7 +12,6 @@ ghost use mathlib.Core.Path.{_≡_};
 ghost use Prim.Native.Nat.{_+_, _*_, _≤_};
 ghost use mathlib.Core.Bool.{cond};
 ghost use lib.Dec.{leb, ltb};
-ghost use lib.ListN.{length};
 ghost use Rattle.differences.specs.Lines.{differences};
 ghost use Rattle.differences.specs.Laws.Counted.{fewLines};
 ghost use Rattle.differences.specs.Compared as Comparing;

@@ -2,7 +2,7 @@
 use Prim.Native.Nat.{ℕ, _+_, _*_, _/_, _%_, _<_, _≤_, min}
 use mathlib.Core.Path.{_≡_, refl, sym, ap, subst, _∙_}
 use mathlib.Core.Bool.{Bool, true, false, cond, _&&_, false≢true}
-use mathlib.Core.List.{List, [], _∷_, _++_, List·Memᴰ, List·Memᴰ·append-cases, Memᴰ·append-left, Memᴰ·append-right, Memᴰ·cast}
+use mathlib.Core.List.{List, _++_, List·Memᴰ, List·Memᴰ·append-cases, Memᴰ·append-left, Memᴰ·append-right, Memᴰ·cast}
 use mathlib.Core.Logic.{⊎-elim}
 use native.Mathlib.Omega.{arith}
 use borrow.Author.Tests.{eqb-true, leb-true}
@@ -32,19 +32,7 @@ use Rattle.differences.specs.Lines.{
 }
 use Rattle.differences.specs.Truth.{Says, equity, trade, more-trades, more-points, Once, AllAndOnly, Answered}
 use Rattle.differences.specs.Laws.First.{before-equal, first-differs, first-is}
-use Rattle.differences.specs.Laws.Told.{
-  once-both,
-  ofWord,
-  words-told,
-  tells-words,
-  words-once,
-  point-told,
-  tells-point,
-  point-once,
-  counts-told,
-  tells-counts,
-  counts-once,
-}
+use Rattle.differences.specs.Laws.Told.{once-both, words-told, tells-words, words-once, point-told, tells-point, point-once, counts-told, tells-counts, counts-once}
 
 -- ---- word k of a list of trades is word k % 10 of trade k / 10
 

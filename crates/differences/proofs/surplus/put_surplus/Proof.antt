@@ -1,12 +1,8 @@
 -- No line where the counts are equal, and else the one.
-use mathlib.Core.Path.{_≡_, sym, ap, _∙_}
-use mathlib.Core.List.{List, []}
-use Prim.Native.Nat.{ℕ, _+_, _*_, _≤_}
+use mathlib.Core.Path.{ap}
 use native.Mathlib.Omega.{arith}
 use borrow.Author.Needs.{needs}
 use lib.ListN.{length}
-use Rattle.words.specs.Words.{overwrite}
-use Rattle.differences.specs.Lines.{Line, wordsOf}
 use Rattle.differences.specs.Laws.Counted.{surplus-none, surplus-some}
 use Rattle.differences.specs.Laws.Written.{none-put, one-put}
 use Rattle.differences.proofs.surplus.put_surplus.Statement.{statement}

@@ -1,7 +1,7 @@
 -- After k turns: the lines of the first k words stand from line `from` on.
-use mathlib.Core.Path.{_≡_, refl, sym, ap, _∙_}
+use mathlib.Core.Path.{_≡_, sym, ap, _∙_}
 use mathlib.Core.List.{List}
-use Prim.Native.Nat.{ℕ, suc, _+_, _-_, _*_, _<_, _≤_}
+use Prim.Native.Nat.{ℕ, _+_, _-_, _*_, _≤_}
 use native.Mathlib.Nat.{add-zero}
 use native.Mathlib.Numerals.{add-one}
 use native.Mathlib.Omega.{arith}
@@ -9,7 +9,7 @@ use borrow.Author.Needs.{needs}
 use lib.ListN.{length}
 use Rattle.words.specs.Words.{overwrite}
 use Rattle.words.specs.Laws.Overwrite.{overwrite-length}
-use Rattle.differences.specs.Lines.{Line, wordLine, wordLines, wordsOf}
+use Rattle.differences.specs.Lines.{wordLine, wordLines, wordsOf}
 use Rattle.differences.specs.Laws.Counted.{lines-next, lines-rise}
 use Rattle.differences.specs.Laws.Written.{none-written, written-on}
 use Rattle.differences.proofs.words_apart.put_words.Statement.{statement}
