@@ -32,7 +32,8 @@ use Rattle.differences.specs.Lines.{
 }
 use Rattle.differences.specs.Truth.{Says, equity, trade, more-trades, more-points, Once, AllAndOnly, Answered}
 use Rattle.differences.specs.Laws.First.{before-equal, first-differs, first-is}
-use Rattle.differences.specs.Laws.Told.{once-both, words-told, tells-words, words-once, point-told, tells-point, point-once, counts-told, tells-counts, counts-once}
+use Rattle.differences.specs.Laws.Told.{once-both, words-told, tells-words, words-once, point-told, tells-point, point-once}
+use Rattle.differences.specs.Laws.Told.{counts-told, tells-counts, counts-once}
 
 -- ---- word k of a list of trades is word k % 10 of trade k / 10
 
