@@ -7,5 +7,6 @@ pub mod Powering
 pub mod Parting
 pub mod Totalling
 pub mod Stretching
+pub mod Comparing
 pub mod Riding
 pub mod Accounting

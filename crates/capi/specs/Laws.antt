@@ -8,3 +8,4 @@ pub mod TotalsCalls
 pub mod DumpCalls
 pub mod PartCalls
 pub mod StretchCalls
+pub mod CompareCalls

@@ -10,6 +10,7 @@ pub mod Part
 pub mod Figures
 pub mod Totals
 pub mod Stretch
+pub mod Compare
 pub mod WordRun
 pub mod Day
 pub mod Accounts

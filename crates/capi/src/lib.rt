@@ -1,6 +1,7 @@
 // The C interface: words in, words out. include/yshturpa.h declares its calls, docs/INTERFACE.md describes them.
 pub mod bars;
 mod calls;
+pub mod compare;
 pub mod day;
 pub mod figures;
 pub mod four;
