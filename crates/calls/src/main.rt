@@ -109,6 +109,7 @@ fn call_power(
     match word(line, 0) {
         0x2c => power::dump_bytes(line),
         0x2d => power::dump(line, sizes, settings, state, rows, area),
+        0x2f => power::part(line, sizes, settings, state, rows, area),
         _ => power::restore(sizes, settings, state, rows, area),
     }
 }
@@ -142,7 +143,7 @@ fn take(
             metrics,
         ),
         0x20..=0x24 | 0x2a => call_rules(line, sizes, table, lists, rows),
-        0x2c..=0x2e => call_power(line, sizes, settings, state, rows, area),
+        0x2c..=0x2f => call_power(line, sizes, settings, state, rows, area),
         _ => call_run(
             line,
             sizes,
