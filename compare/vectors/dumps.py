@@ -1,14 +1,15 @@
-"""A loss of power: the size of a dump, dumps and restores, as calls for the program `calls`.
+"""A loss of power: the size of a dump, dumps, parts of them and restores, as calls for the program `calls`.
 
 The image is request 11 written once more: FIELDS says which bytes hold which word of the state, `order` in which order bytes are written, and
-`broken` what 19 is given for. After its answer a dump tells the area, a restore the state and the rows: those it was lent where it is refused.
+`broken` what 19 is given for. After its answer a dump tells the area, a part the count and the area, a restore the state and the rows: those it
+was lent where it is refused.
 A case is the good call with something changed (GOOD, as in refusals.py); D is 3 and K 2 in it, so that an image has 472 bytes.
 """
 import math
 
 import refusals
 from refusals import INF, MOST, NAN, settings_broken, settings_of, state_broken, state_of
-from words import (AREA, DUMP, DUMP_BYTES, RESTORE, ROWS, SETTINGS, STATE, STATE_WORDS, UNTOUCHED, bits, lend, lend_bytes, line, number, refusal)
+from words import (AREA, DUMP, DUMP_BYTES, PART, RESTORE, ROWS, SETTINGS, STATE, STATE_WORDS, UNTOUCHED, bits, lend, lend_bytes, line, number, refusal)
 
 HEAD, MARK, VERSION = 256, b"WDP", 1
 # The first byte, how many, the word of the state. Equity points and trades are not in an image.
@@ -156,6 +157,17 @@ def dump_refusals(c):
     yield from common(c)
     if c["area"] < size(c["K"], c["D"]):
         yield 10, AREA
+    yield from held_refusals(c)
+
+
+def part_refusals(c):
+    """As of a dump, with no area that could be short."""
+    yield from common(c)
+    yield from held_refusals(c)
+
+
+def held_refusals(c):
+    """12 and 13, of settings and state."""
     yield from ((12, place) for place in sorted(settings_broken(c)))
     # No books are lent, so that of equity points and trades only the counts are looked at.
     if state_broken(c | {"points": 0, "trades": 0}) or max(c["points"], c["trades"]) > MOST:
@@ -191,6 +203,20 @@ def dumps(*changes):
         yield from lent(GOOD | change)
         call, area = dump(GOOD | change, area)
         yield call
+
+
+def part(c):
+    """A part from the place `from` on, over an area that holds something else."""
+    told = first(part_refusals(c))
+    area = bytearray([CLEARED] * c["area"])
+    yield from lent(c)
+    yield lend_bytes(AREA, bytes(area))
+    used = UNTOUCHED
+    if not told:
+        stretch = image_of(c)[c["from"]:c["from"] + c["area"]]
+        area[:len(stretch)], used = stretch, len(stretch)
+    eights = [area[i:i + 8].hex() for i in range(0, len(area), 8)]
+    yield line(PART, c["from"], UNTOUCHED), " ".join([line(told, used), *eights])
 
 
 def restore(c, image):
@@ -262,6 +288,38 @@ DUMPS = [
     ("entry bar 3 of 3", [{"entered": 3}]),
 ]
 
+PARTS = [
+    ("whole", {}),
+    ("a part longer than the image", {"area": 480}),
+    ("no place", {"area": 0}),
+    ("the mark", {"area": 3}),
+    ("a page of the header", {"area": 64, "from": 64}),
+    ("the last byte of the header and the first of the rows", {"area": 2, "from": 255}),
+    ("from within a word of the header to within one of a row", {"area": 100, "from": 201}),
+    ("a row", {"area": 72, "from": 256}),
+    ("from within a word of a row", {"area": 30, "from": 261}),
+    ("within one word", {"area": 3, "from": 266}),
+    ("the end", {"area": 64, "from": 440}),
+    ("the last byte", {"area": 8, "from": 471}),
+    ("at the end", {"area": 8, "from": 472}),
+    ("far past the end", {"area": 8, "from": 2**64 - 1}),
+    ("of five rows the last three", {"held": 5, "bars": 5, "rows_room": 45, "area": 216, "from": 256}),
+    ("a row and zero rows", {"held": 1, "area": 128, "from": 300}),
+    ("zero rows", {"held": 1, "area": 40, "from": 350}),
+    ("no rows, D 1, K 0", FLAT | {"K": 0, "D": 1, "held": 0, "bars": 0, "area": 312}),
+    ("an order works", WORKING | {"area": 256}),
+    ("unused words and NaNs", ODD | {"area": 256}),
+    # 10, 12, 13
+    ("room of rows one word short", {"rows_room": 26}),
+    ("settings one word short", {"cut": SETTINGS}),
+    ("state one word short", {"cut": STATE}),
+    ("capital no number", {"capital": NAN, "area": 8}),
+    ("a level infinite, and held too many", {"stop": INF, "held": 4, "area": 8}),
+    ("rows held 4 of 3", {"held": 4, "area": 8}),
+    ("equity points %d" % (MOST + 1), {"points": MOST + 1, "area": 8}),
+    ("entry bar 3 of 3, and past the end", {"entered": 3, "area": 8, "from": 472}),
+]
+
 CUTS = [0, 1, 216, 217, 469, 470, 471]
 
 # Bytes of an image that is no whole one any more, in the paper's order.
@@ -301,5 +359,7 @@ def calls():
         yield line(DUMP_BYTES, slots, depth), line(size(slots, depth) if good else 0)
     for _, changes in DUMPS:
         yield from dumps(*changes)
+    for _, change in PARTS:
+        yield from part(GOOD | change)
     for _, change, image in RESTORES:
         yield from restore(GOOD | change, image)

@@ -12,7 +12,9 @@ import extremes
 import refusals
 import roots
 import rust
+import stretches
 import tables
+import totals
 
 # The argument of `depth`.
 LOOKBACK = 10
@@ -34,7 +36,7 @@ def store_lines(program, given, told):
 def calls():
     parts = (tables.calls(), extremes.calls(), rust.rules(), rust.runs("runs"), rust.runs("orders"), rust.kept_orders(),
              rust.runs("run_long"), rust.days("runs"), rust.days("orders"), refusals.calls(rust.figures_of), dumps.calls(),
-             rust.figures(), roots.calls(), rust.roots())
+             totals.calls(), stretches.calls(), rust.figures(), roots.calls(), rust.roots())
     listed = [pair for part in parts for pair in part]
     given = "".join(line + "\n" for line, _ in listed)
     told = "".join(answer + "\n" for _, answer in listed if answer is not None)

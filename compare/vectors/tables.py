@@ -204,10 +204,10 @@ def silent_call(data, rows, size=None, short_by=0):
 
 
 def told_depth(data, lookback):
-    """What `depth` writes of an accepted table."""
+    """What `depth` writes of an accepted table; a dump has a header of 256 bytes."""
     slots, rows = window(data, lookback)
     row = 8 * (7 + slots)
-    return "rows %d\nbytes a row %d\nbytes of the window %d\n" % (rows, row, row * rows)
+    return "rows %d\nbytes a row %d\nbytes of the window %d\nbytes of a dump %d\n" % (rows, row, row * rows, 256 + row * rows)
 
 
 def translate_call(data, tree, short_by=0):

@@ -272,6 +272,18 @@ c_calls! {
         from: u64,
         upto: u64,
     ) -> u64;
+    fn ysh_dump_part(
+        settings: *const u64,
+        settings_len: usize,
+        state: *const u64,
+        state_len: usize,
+        rows: *const u64,
+        rows_len: usize,
+        at: u64,
+        part: *mut u8,
+        part_len: usize,
+        used: *mut u64,
+    ) -> u64;
     fn ysh_restore(
         settings: *const u64,
         settings_len: usize,
@@ -496,6 +508,24 @@ pub fn dump(settings: &[u64], state: &[u64], rows: &[u64], area: &mut [u8], (fro
             area.len(),
             from,
             upto,
+        )
+    }
+}
+
+/// Bytes `at` on of the image, into the part.
+pub fn dump_part(settings: &[u64], state: &[u64], rows: &[u64], at: u64, part: &mut [u8], used: &mut u64) -> u64 {
+    unsafe {
+        with::ysh_dump_part(
+            settings.as_ptr(),
+            settings.len(),
+            state.as_ptr(),
+            state.len(),
+            rows.as_ptr(),
+            rows.len(),
+            at,
+            part.as_mut_ptr(),
+            part.len(),
+            used,
         )
     }
 }

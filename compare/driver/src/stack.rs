@@ -15,6 +15,8 @@ use crate::guard::guard;
 use crate::images::images;
 use crate::ours::{translated, Ours};
 use crate::painted::uses;
+use crate::stretches::stretches;
+use crate::totals::totals;
 
 /// Steps of the longest list that there is.
 const MOST_STEPS: usize = 1_024;
@@ -148,7 +150,9 @@ pub fn stack(seed: u64, runs: u64) -> bool {
         && extremes(seed, 20 * runs)
         && guard(seed, 200 * runs)
         && metrics(seed, runs)
-        && roots(seed, 100 * runs);
+        && roots(seed, 100 * runs)
+        && totals(seed, 100 * runs)
+        && stretches(seed, runs);
     println!("\n| call | calls | bytes of stack at most | docs/PERFORMANCE.md |\n|---|---|---|---|");
     let mut within = true;
     for (name, used) in uses() {

@@ -3,9 +3,11 @@
 // of the room are lent and what stands there; bytes are eight to a word. Else it is a call over the rooms as they are, and it is
 // answered with a line. compare/README.md has the list of calls; compare/vectors/make makes the stored lines.
 mod power;
+mod report;
 mod rooms;
 mod rules;
 mod runs;
+mod stretch;
 mod tables;
 
 use rooms::word;
@@ -26,7 +28,7 @@ const RECORDS: usize = 8192;
 
 const FEW: usize = 64;
 
-// Fills the room that the line names.
+// Fills the room that the line names. Closes, blocks and totals stand in the rooms of equity points, trades and metrics: no call is lent both of a pair.
 fn lend(
     line: &[u64],
     sizes: &mut [u64],
@@ -47,7 +49,9 @@ fn lend(
         2 => text::rooms::fill(trades, line),
         7 => text::rooms::fill(settings, line),
         8 => text::rooms::fill(state, line),
-        9 => text::rooms::fill(metrics, line),
+        9 | 0xb => text::rooms::fill(metrics, line),
+        0xc => text::rooms::fill(equity, line),
+        0xd => text::rooms::fill(trades, line),
         0xe => text::rooms::fill_bytes(area, line),
         0x1f => text::rooms::fill_bytes(table, line),
         _ => rooms::fill_list(lists, line),
@@ -72,6 +76,22 @@ fn call_rules(line: &[u64], sizes: &mut [u64], table: &[u8], lists: &mut [u8], r
             rooms::words_of(sizes, rooms::ROWS, rows),
             lists,
         ),
+    }
+}
+
+// Makes a call of totals or over closes, which stand in the rooms that `lend` says.
+fn call_report(
+    line: &[u64],
+    sizes: &[u64],
+    equity: &mut [u64],
+    trades: &mut [u64],
+    metrics: &mut [u64],
+) {
+    match word(line, 0) {
+        0x30 => report::totals(sizes, metrics, trades),
+        0x31 => report::join(line, sizes, metrics),
+        0x32 => stretch::append(line, sizes, equity, trades),
+        _ => stretch::ask(line, sizes, equity, trades),
     }
 }
 
@@ -109,6 +129,7 @@ fn call_power(
     match word(line, 0) {
         0x2c => power::dump_bytes(line),
         0x2d => power::dump(line, sizes, settings, state, rows, area),
+        0x2f => power::part(line, sizes, settings, state, rows, area),
         _ => power::restore(sizes, settings, state, rows, area),
     }
 }
@@ -142,7 +163,8 @@ fn take(
             metrics,
         ),
         0x20..=0x24 | 0x2a => call_rules(line, sizes, table, lists, rows),
-        0x2c..=0x2e => call_power(line, sizes, settings, state, rows, area),
+        0x2c..=0x2f => call_power(line, sizes, settings, state, rows, area),
+        0x30..=0x33 => call_report(line, sizes, equity, trades, metrics),
         _ => call_run(
             line,
             sizes,

@@ -1,4 +1,4 @@
-// Calls for a loss of power: the size of a dump, the dump into the area, the restore from it.
+// Calls for a loss of power: the size of a dump, the dump into the area, a part of it over the area, the restore from it.
 use crate::rooms;
 use crate::rooms::word;
 use crate::tables::write_bytes;
@@ -42,6 +42,43 @@ pub(crate) fn dump(
 ) {
     let answer = dump_call(line, sizes, settings, state, rows, area);
     io::print_hex(1, answer, 16);
+    write_bytes(text::rooms::bytes(area, 0, rooms::lent(sizes, rooms::AREA, area.len())));
+}
+
+fn part_call(
+    line: &[u64],
+    sizes: &[u64],
+    settings: &[u64],
+    state: &[u64],
+    rows: &[u64],
+    area: &mut [u8],
+    used: &mut u64,
+) -> u64 {
+    let from: usize = 0;
+    let a = rooms::lent(sizes, rooms::AREA, area.len());
+    capi::part::ysh_dump_part(
+        rooms::words_of(sizes, rooms::SETTINGS, settings),
+        rooms::words_of(sizes, rooms::STATE, state),
+        rooms::words_of(sizes, rooms::ROWS, rows),
+        word(line, 1),
+        &mut area[from..a],
+        used,
+    )
+}
+
+// Word 1 is the place of the first byte, word 2 what the count holds before. The answer, the count and the area, which is the part.
+pub(crate) fn part(
+    line: &[u64],
+    sizes: &[u64],
+    settings: &[u64],
+    state: &[u64],
+    rows: &[u64],
+    area: &mut [u8],
+) {
+    let mut used = word(line, 2);
+    let answer = part_call(line, sizes, settings, state, rows, area, &mut used);
+    text::write_words(&[answer], b' ');
+    io::print_hex(1, used, 16);
     write_bytes(text::rooms::bytes(area, 0, rooms::lent(sizes, rooms::AREA, area.len())));
 }
 

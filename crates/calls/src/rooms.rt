@@ -17,6 +17,12 @@ pub(crate) const STATE: usize = 8;
 
 pub(crate) const METRICS: usize = 9;
 
+pub(crate) const TOTALS: usize = 11;
+
+pub(crate) const CLOSES: usize = 12;
+
+pub(crate) const BLOCKS: usize = 13;
+
 pub(crate) const AREA: usize = 14;
 
 pub(crate) const TABLE: usize = 31;

@@ -1,12 +1,14 @@
 //! `driver images SEED COUNT`: images of random states, at random bars of the driver's random runs.
 //!
 //! Each is dumped in random stretches and must be, byte for byte, what a model written from request 11 says; cut after a byte it must be
-//! refused; damaged it must be refused or read as the model says; and the run that goes on from it must go on as the unbroken one does.
+//! refused; damaged it must be refused or read as the model says; each part of it must be that stretch of it; and the run that goes on from it
+//! must go on as the unbroken one does.
 //! Every room that is lent stands between guards.
 
 mod cut;
 mod damaged;
 mod lent;
+mod parts;
 mod restart;
 
 use oracle::lists::dice::Dice;
@@ -31,6 +33,9 @@ pub struct Tally {
     orders: [u64; 4],
     partly: u64,
     stretches: u64,
+    /// Parts, and damaged ones by their answer's number.
+    parts: u64,
+    refused_parts: [u64; 21],
     /// Images cut after every byte, images cut after random ones, and cuts.
     small: u64,
     large: u64,
@@ -122,6 +127,7 @@ fn one(seed: u64, number: u64, tally: &mut Tally) -> Outcome {
     count(&run, tally);
     cut::cut(dice, &run, &image, tally)?;
     damaged::damaged(dice, &run, &image, tally)?;
+    parts::parts(dice, &run, &image, tally)?;
     restart::restart(dice, &case, at, &mut run, &image, tally)
 }
 
@@ -149,6 +155,11 @@ impl Tally {
         );
         println!("damaged restores by answer (0: done): {}", by_number(&self.restores));
         println!("damaged dumps by answer (0: done): {}", by_number(&self.dumps));
+        println!(
+            "parts {}, each that stretch of its image; damaged by answer (0: done): {}",
+            self.parts,
+            by_number(&self.refused_parts)
+        );
     }
 }
 
@@ -165,7 +176,7 @@ pub fn images(seed: u64, count: u64) -> bool {
         progress.at(number + 1, || format!("{} cuts", tally.cuts));
     }
     tally.print();
-    let calls = tally.restores.iter().chain(&tally.dumps).sum::<u64>();
+    let calls = tally.restores.iter().chain(&tally.dumps).chain(&tally.refused_parts).sum::<u64>();
     println!(
         "images: seed {seed}, {} images, {} cuts, {} restarts, {calls} damaged, 0 differ",
         tally.images, tally.cuts, tally.restarts

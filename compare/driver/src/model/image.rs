@@ -146,6 +146,13 @@ pub fn dump(with: &[u64], state: &[u64], held: &[u64], area: usize) -> Checked {
     counts_held(state, with[0], held)
 }
 
+/// A part: the same, and no area.
+pub fn part(with: &[u64], state: &[u64], held: &[u64]) -> Checked {
+    rooms(with, state, held)?;
+    settings(with)?;
+    counts_held(state, with[0], held)
+}
+
 /// A restore: 10, 12, then 19, then "20 if its D or K is not that of the table and settings".
 pub fn restore(with: &[u64], state: &[u64], image: &[u8], held: &[u64]) -> Checked {
     rooms(with, state, held)?;
