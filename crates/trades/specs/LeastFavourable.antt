@@ -10,6 +10,7 @@ use lib.Ieee.{Float, nan, inf, fin}
 use lib.ListN.{take}
 use Rattle.floats.specs.Floats.{_≺_, finite, zero}
 use Rattle.floats.specs.Laws.Order.{numbers, itself, in-turn, min-is, max-is, min-first, min-second, max-first, max-second}
+use Rattle.rules.specs.declared.position.Entered.{Entered as EntryBar}
 use Rattle.portfolio.specs.declared.Trade.{Trade}
 use Rattle.portfolio.specs.Portfolio.{worse}
 use Rattle.records.specs.declared.settings.Settings.{Settings}
@@ -20,7 +21,7 @@ use Rattle.refusals.specs.declared.verdict.Verdict.the-variants.{Fine}
 use Rattle.engine.specs.Books.{tradesOf}
 use Rattle.engine.specs.Finish.{lastExit}
 use Rattle.engine.specs.Run.{Run, runOver}
-use Rattle.engine.specs.Step.{stepVerdict}
+use Rattle.engine.specs.Step.{fillOf, stepVerdict}
 use Rattle.runs.specs.During.{against, worstOver, asBad, AsBadAsEach, OneOfThem, AllFinite}
 use Rattle.runs.specs.Recorded.{Recorded, RecordedAtEnd, Each, recorded, recorded-end}
 use Rattle.trades.specs.Finite.{AllFine, taken-fine, run-fine, fine-after, fine-both, fine-finite}
@@ -90,12 +91,12 @@ least-of long price (bar ∷ bars) g =
 -- ---- the trades of a run
 
 -- a trade as recorded, and its price the least favourable of its fill and of its bars
-pub record Least (s : Settings) (bars : List (List ℕ)) (bar : List ℕ) (t : Trade) : Type 0 where
-  pub recorded : Recorded s bars bar t
+pub record Least (s : Settings) (bars : List (List ℕ)) (bar : List ℕ) (e : EntryBar) (t : Trade) : Type 0 where
+  pub recorded : Recorded s bars bar e t
   pub least : LeastOf (zero ≺ t .qty) (t .«entry_price») (recorded .since ++ (bar ∷ [])) (t .worst)
 
-pub record LeastAtEnd (s : Settings) (bars : List (List ℕ)) (t : Trade) : Type 0 where
-  pub recorded : RecordedAtEnd s bars t
+pub record LeastAtEnd (s : Settings) (bars : List (List ℕ)) (e : EntryBar) (t : Trade) : Type 0 where
+  pub recorded : RecordedAtEnd s bars e t
   pub least : LeastOf (zero ≺ t .qty) (t .«entry_price») (recorded .since) (t .worst)
 
 each : (P Q : Trade → Type 0) → ((t : Trade) → P t → Q t) → (ts : List Trade) → Each P ts → Each Q ts
@@ -107,31 +108,43 @@ each P Q f (t ∷ ts) h = (f t (h .0), each P Q f ts (h .1))
 since-fine : (bars before since : List (List ℕ)) → AllFine bars → bars ≡ before ++ since → AllFine since
 since-fine bars before since h e = fine-after before since (rw e at h)
 
--- IN EVERY RUN from a fresh state, of each trade that a bar closes
+least-is : (s : Settings) (bars : List (List ℕ)) (bar : List ℕ) (e : EntryBar) (t : Trade) → AllFine bars → AllFine (bar ∷ []) → Recorded s bars bar e t
+    → Least s bars bar e t
+least-is s bars bar e t fine own x = record {
+  recorded = x;
+  least = rw (x .worst)
+      (least-of (zero ≺ t .qty) (t .«entry_price») (x .since ++ (bar ∷ []))
+      (fine-finite (zero ≺ t .qty) _ (fine-both (x .since) (bar ∷ []) (since-fine bars (x .before) (x .since) fine (x .split)) own)));
+}
+
+-- IN EVERY RUN from a fresh state, of each trade that a bar closes: left by order, or inside the bar
 pub least-recorded : (s : Settings) (ls : Lists) (m : Rooms) (bars : List (List ℕ)) (bar : List ℕ)
     → let r = runOver s ls (freshState s) m bars in
-    (fine : stepVerdict s (r .state) bar (r .rooms) ls ≡ Fine) → Each (Least s (take (r .done) bars) bar) (recorded s ls m bars bar fine .trades)
+    (fine : stepVerdict s (r .state) bar (r .rooms) ls ≡ Fine)
+    → let a = recorded s ls m bars bar fine in
+    Each (Least s (take (r .done) bars) bar (r .state .position .entered)) (a .sold)
+    × Each (Least s (take (r .done) bars) bar (fillOf s (r .state) bar (r .rooms) .position .entered)) (a .stopped)
 least-recorded s ls m bars bar fine =
     let r : Run = runOver s ls (freshState s) m bars in
     let done = take (r .done) bars in
+    let all : AllFine done = run-fine s ls bars (freshState s) m in
     let own : AllFine (bar ∷ []) = unfold AllFine in (taken-fine s (r .state) bar (r .rooms) ls fine, tt) in
     let a = recorded s ls m bars bar fine in
-    each (Recorded s done bar) (Least s done bar) (λ t x. record {
-      recorded = x;
-      least = rw (x .worst)
-          (least-of (zero ≺ t .qty) (t .«entry_price») (x .since ++ (bar ∷ []))
-          (fine-finite (zero ≺ t .qty) _
-          (fine-both (x .since) (bar ∷ []) (since-fine done (x .before) (x .since) (run-fine s ls bars (freshState s) m) (x .split)) own)));
-    }) (a .trades) (a .each)
+    let found : EntryBar = r .state .position .entered in
+    let left : EntryBar = fillOf s (r .state) bar (r .rooms) .position .entered in (
+      each (Recorded s done bar found) (Least s done bar found) (λ t x. least-is s done bar found t all own x) (a .sold) (a .each-sold),
+      each (Recorded s done bar left) (Least s done bar left) (λ t x. least-is s done bar left t all own x) (a .stopped) (a .each-stopped),
+    )
 
 -- and of the trade that finish closes
 pub least-recorded-end : (s : Settings) (ls : Lists) (m : Rooms) (bars : List (List ℕ))
     → let r = runOver s ls (freshState s) m bars in
-    Each (LeastAtEnd s (take (r .done) bars)) (tradesOf (lastExit s (r .state)))
+    Each (LeastAtEnd s (take (r .done) bars) (r .state .position .entered)) (tradesOf (lastExit s (r .state)))
 least-recorded-end s ls m bars =
     let r : Run = runOver s ls (freshState s) m bars in
     let done = take (r .done) bars in
-    each (RecordedAtEnd s done) (LeastAtEnd s done) (λ t x. record {
+    let e : EntryBar = r .state .position .entered in
+    each (RecordedAtEnd s done e) (LeastAtEnd s done e) (λ t x. record {
       recorded = x;
       least = rw (x .worst)
           (least-of (zero ≺ t .qty) (t .«entry_price») (x .since)
