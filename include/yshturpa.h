@@ -10,12 +10,12 @@
  * What a caller has to see to is what the types say and no more: each pointer points at as many elements as the length
  * behind it says, words lie on 8-byte boundaries, and what is lent for writing overlaps nothing else. A list or room of length 0 is
  * empty and its pointer is not looked at: it may be null. A pointer with no length behind it (nodes, rows, bytes, count,
- * used, answer, visits, done, held, high, high_bar, low, low_bar) points at one word and is never null. Any content of any room gets an answer. Beside that: the stack
- * that a call takes (docs/PERFORMANCE.md, "Footprint"), and floats as a C program begins with them: rounded to nearest, the numbers below
- * the normal ones kept and not flushed to zero. No call keeps memory of its own: calls over different rooms may run at the same time.
+ * used, answer, visits, done, held, high, high_bar, low, low_bar) points at one word and is never null. Any content of any room (buffer) gets an
+ * answer. Beside that: the stack that a call takes (docs/PERFORMANCE.md, "Footprint"), and the FPU in its default mode: round to nearest, subnormals on
+ * (no FTZ or DAZ). No call keeps memory of its own: calls over different rooms may run at the same time.
  *
  * On aarch64 the library reads 16 bytes at such 8-byte boundaries: a fault where the MMU is off or alignment is checked. Turn the MMU on, with
- * the rooms in normal memory, or build the library with FLAGS=-mstrict-align (README.md, "Linking it").
+ * the rooms in normal memory, or build the library with FLAGS=-mstrict-align (docs/BUILDING.md, "Other processors").
  *
  * docs/INTERFACE.md has the records, rooms and calls in full, docs/RULES.md what a rule, a fill and each figure mean.
  */

@@ -213,12 +213,14 @@ static uint64_t step(Box *box)
     return took;
 }
 
-static uint64_t first_page(Box *box, uint8_t *area, size_t size)
+static uint64_t first_page(Box *box)
 {
+    uint8_t page[PAGE];
+    uint64_t used;
     uint64_t began = now();
-    uint64_t answer = ysh_dump(box->settings, YSH_SETTING_WORDS, box->full, YSH_STATE_WORDS, box->kept, box->rows_len, area, size, 0, PAGE);
+    uint64_t answer = ysh_dump_part(box->settings, YSH_SETTING_WORDS, box->full, YSH_STATE_WORDS, box->kept, box->rows_len, 0, page, PAGE, &used);
     uint64_t took = now() - began;
-    must("ysh_dump", answer);
+    must("ysh_dump_part", answer);
     return took;
 }
 
@@ -263,10 +265,8 @@ static Spread measure_steps(Box *box, const char **what)
 static Spread measure_pages(Box *box)
 {
     static uint64_t times[TRIALS];
-    size_t size = ysh_dump_bytes(box->slots, box->depth);
-    uint8_t *area = room(size);
     for (int trial = 0; trial < TRIALS; trial++)
-        times[trial] = first_page(box, area, size);
+        times[trial] = first_page(box);
     return spread_of(times);
 }
 

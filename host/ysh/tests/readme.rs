@@ -1,5 +1,5 @@
-//! The examples of README, "How deep, how long, how large" and "A strategy over bars", as they stand: each command is run and must write
-//! what is shown below it.
+//! The examples of README ("Does my box fit?") and of docs/TOUR.md ("How deep, how long, how large", "A strategy over bars"), as they stand: each
+//! command is run and must write what is shown below it.
 
 mod common;
 
@@ -7,9 +7,9 @@ use std::path::Path;
 
 use common::ysh;
 
-/// The commands of a section of README, each with the lines shown below it.
-fn examples(readme: &str, title: &str) -> Vec<(String, Vec<String>)> {
-    let section = readme.split(&format!("## {title}\n")).nth(1).expect("the section is there");
+/// The commands of a section of a paper, each with the lines shown below it.
+fn examples(paper: &str, title: &str) -> Vec<(String, Vec<String>)> {
+    let section = paper.split(&format!("## {title}\n")).nth(1).expect("the section is there");
     let section = section.split("\n## ").next().unwrap();
     let mut blocks: Vec<Vec<String>> = vec![Vec::new()];
     for line in section.lines() {
@@ -39,12 +39,14 @@ fn examples(readme: &str, title: &str) -> Vec<(String, Vec<String>)> {
 #[test]
 fn the_examples_run_as_they_stand() {
     let root = Path::new(env!("CARGO_MANIFEST_DIR")).join("../..");
-    let readme = std::fs::read_to_string(root.join("README.md")).unwrap();
+    let read = |paper: &str| std::fs::read_to_string(root.join(paper)).unwrap();
+    let (readme, tour) = (read("README.md"), read("docs/TOUR.md"));
     std::env::set_current_dir(&root).unwrap();
-    let (holdup, bars) =
-        (examples(&readme, "How deep, how long, how large"), examples(&readme, "A strategy over bars"));
-    assert_eq!((holdup.len(), bars.len()), (2, 6));
-    for (command, shown) in holdup.into_iter().chain(bars) {
+    let box_fits = examples(&readme, "Does my box fit?");
+    let holdup = examples(&tour, "How deep, how long, how large");
+    let bars = examples(&tour, "A strategy over bars");
+    assert_eq!((box_fits.len(), holdup.len(), bars.len()), (1, 2, 6));
+    for (command, shown) in box_fits.into_iter().chain(holdup).chain(bars) {
         let arguments: Vec<&str> = command.split_whitespace().skip(1).collect();
         let (status, out, err) = ysh(&arguments);
         let fits = !shown.iter().any(|line| line.contains("does not fit"));

@@ -1,0 +1,73 @@
+-- What the comparison answers and leaves, from what was counted: one law for each way out.
+use Prim.Native.Nat.{ℕ, _+_, _*_, _≤_, min}
+use mathlib.Core.Path.{_≡_, refl, sym, ap, _∙_}
+use mathlib.Core.Bool.{true, false}
+use mathlib.Core.List.{List, [], _∷_}
+use native.Mathlib.Omega.{arith}
+use borrow.Author.Tests.{leb-true}
+use lib.Dec.{leb}
+use lib.ListN.{length}
+use Rattle.words.specs.Words.{overwrite}
+use Rattle.differences.specs.declared.compare.Compared.{Compared}
+use Rattle.differences.specs.declared.compare.Compared.the-variants.{Lines}
+use Rattle.differences.specs.Lines.{Line, points, firstPoint, wordLines, differencesFrom, differences, wordsOf}
+use Rattle.differences.specs.Compared.{Comparison, whole, refused, written, compared}
+use Rattle.differences.specs.Laws.Counted.{fewLines, all-lines}
+use Rattle.differences.specs.Laws.Written.{none-written}
+
+no-lines : (ls : List Line) → length ls ≡ 0 → ls ≡ []
+no-lines [] e = refl
+no-lines (l ∷ ls) e = absurd (omega arith)
+
+abbrev told : ℕ → List ℕ → Comparison
+told n room = record { answer = Lines n; room = room }
+
+module _ (e t e′ t′ room : List ℕ) (p n k few words : ℕ) (shared : p ≡ min (points e) (points e′)) (short : n ≡ min (length t) (length t′))
+    (first : k ≡ firstPoint e e′ 0 p) (other : few ≡ fewLines e t e′ t′ k p) (apart : words ≡ length (wordLines t t′ n)) where
+  same : differences e t e′ t′ ≡ differencesFrom e t e′ t′ k p n
+  unfolding differences
+  same = cc
+
+  many : length (differencesFrom e t e′ t′ k p n) ≡ few + words
+  many = all-lines e t e′ t′ k p n ∙ cc
+
+  count : length (differences e t e′ t′) ≡ few + words
+  count = ap length same ∙ many
+
+  pub refuses : leb (5 * (few + words)) (length room) ≡ false → (r : Compared) → r ≡ refused 10 15
+      → written (differences e t e′ t′) room ≡ record { answer = r; room = room }
+  unfolding written
+  refuses h r said = simp (count, h, said)
+
+  module _ (h : leb (5 * (few + words)) (length room) ≡ true) where
+    pub lines-fit : 5 * (few + words) ≤ length room
+    lines-fit = leb-true (5 * (few + words)) (length room) h
+
+    pub all-fit : 5 * length (differencesFrom e t e′ t′ k p n) ≤ length room
+    all-fit = omega (arith, many, lines-fit)
+
+    pub writes : (after : List ℕ) → after ≡ overwrite room 0 (wordsOf (differencesFrom e t e′ t′ k p n))
+        → written (differences e t e′ t′) room ≡ told (few + words) after
+    unfolding written
+    writes after w = simp (many, h, same, w)
+
+    pub nothing : few + words ≡ 0 → written (differences e t e′ t′) room ≡ told 0 room
+    nothing z =
+        let kept : room ≡ overwrite room 0 (wordsOf (differencesFrom e t e′ t′ k p n)) =
+        sym (ap (λ (ls : List Line). overwrite room 0 (wordsOf ls)) (no-lines _ (many ∙ z)) ∙ none-written room 0 (omega arith)) in
+        writes room kept ∙ ap (λ (m : ℕ). told m room) z
+
+-- ---- "13 here comes first"
+
+module _ (e t e′ t′ room : List ℕ) where
+  pub both-whole : whole e t ≡ true → whole e′ t′ ≡ true → compared e t e′ t′ room ≡ written (differences e t e′ t′) room
+  unfolding compared
+  both-whole f g = simp (f, g)
+
+  pub other-ragged : whole e t ≡ true → whole e′ t′ ≡ false → (r : Compared) → r ≡ refused 13 0 → compared e t e′ t′ room ≡ record { answer = r; room = room }
+  unfolding compared
+  other-ragged f g r said = simp (f, g, said)
+
+  pub ragged : whole e t ≡ false → (r : Compared) → r ≡ refused 13 0 → compared e t e′ t′ room ≡ record { answer = r; room = room }
+  unfolding compared
+  ragged f r said = simp (f, said)

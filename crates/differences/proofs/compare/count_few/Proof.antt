@@ -1,0 +1,23 @@
+-- One count after another.
+use mathlib.Core.Path.{_≡_, sym, _∙_}
+use Prim.Native.Nat.{ℕ, _+_}
+use native.Mathlib.Omega.{arith}
+use borrow.Author.Needs.{needs}
+use Rattle.differences.specs.Laws.Counted.{fewLines, equity-count, surplus-length}
+use Rattle.differences.proofs.compare.count_few.Statement.{statement}
+use Rattle.differences.proofs.compare.count_few.Tie as tie
+
+sum : (a b c x y z : ℕ) → a ≡ x → b ≡ y → c ≡ z → a + b + c ≡ x + y + z
+sum a b c x y z e f g = omega arith
+
+returns : tie.Need-returns
+unfolding fewLines
+returns c = (
+  sum _ _ _ _ _ _ (c .before .before .one-of .ensures .0 ∙ sym (equity-count _ _ _ _)) (c .before .apart .ensures .0 ∙ surplus-length 0 3 _ _)
+      (c .apart2 .ensures .0 ∙ surplus-length 0 4 _ _),
+  omega (arith, c .before .before .one-of .ensures .1, c .before .apart .ensures .1, c .apart2 .ensures .1),
+)
+
+pub count-few-spec : {M : Type 1} → statement M
+count-few-spec =
+    tie.close (tie.spec (λ c κs. search needs) (λ c κs. search needs) (λ c κs. search needs) (λ c. search needs) (λ c. search needs) returns)

@@ -1,0 +1,29 @@
+-- So many lines fit where their number is at most that of the room's lines.
+use mathlib.Core.Path.{_≡_, refl, sym}
+use mathlib.Core.Bool.{Bool, true, false}
+use Prim.Native.Nat.{ℕ, _+_, _-_, _*_, _/_, _<_, _≤_}
+use native.Mathlib.Omega.{arith}
+use borrow.Author.Needs.{needs}
+use borrow.Author.Tests.{lt-leb, le-leb, leb-true, leb-false}
+use lib.Dec.{leb}
+use Rattle.differences.proofs.compare.holds.Statement.{statement}
+use Rattle.differences.proofs.compare.holds.Tie as tie
+
+few-fit : (r f w : ℕ) → r / 5 < f → false ≡ leb (5 * (f + w)) r
+few-fit r f w h = sym (lt-leb (5 * (f + w)) r (omega arith))
+
+all-fit : (r f w : ℕ) → f ≤ r / 5 → leb w (r / 5 - f) ≡ leb (5 * (f + w)) r
+all-fit r f w h = go (leb w (r / 5 - f)) refl
+  where
+    go : (t : Bool) → leb w (r / 5 - f) ≡ t → t ≡ leb (5 * (f + w)) r
+    go true e = let l : w ≤ r / 5 - f = leb-true w (r / 5 - f) e in sym (le-leb (5 * (f + w)) r (omega arith))
+    go false e = let l : r / 5 - f < w = leb-false w (r / 5 - f) e in sym (lt-leb (5 * (f + w)) r (omega arith))
+
+returns : tie.Need-returns
+returns c = let start = c .before .args in few-fit (start .room) (start .few) (start .words) (c .if1 .taken)
+
+returns-2 : tie.Need-returns-2
+returns-2 c = let start = c .before .args in all-fit (start .room) (start .few) (start .words) (c .if1 .left)
+
+pub holds-spec : {M : Type 1} → statement M
+holds-spec = tie.close (tie.spec returns (λ c. search needs) returns-2)

@@ -1,0 +1,4 @@
+pub mod Lines
+pub mod Compared
+pub mod Truth
+pub mod Laws
