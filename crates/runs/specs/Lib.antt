@@ -13,6 +13,5 @@ pub mod Restart
 pub mod LastFee
 pub mod AtOpen
 pub mod Before
-pub mod Worst
 pub mod Recorded
 pub mod Edges

@@ -53,15 +53,17 @@ use Rattle.engine.specs.declared.account.Filled.{Filled}
 use Rattle.engine.specs.Account as Account
 use Rattle.engine.specs.Account.{leaving, facing, entering, dueOf, doneOf, filled, intrabar, charged}
 use Rattle.engine.specs.Books.{Point, tradesOf}
-use Rattle.engine.specs.Boxes.{Grown, Follows}
+use Rattle.engine.specs.Boxes.{Grown}
 use Rattle.engine.specs.Finish.{lastExit}
 use Rattle.runs.specs.During.{worstOver, paidWith, paidOver}
 use Rattle.runs.specs.Laws.OneTrade.{closed-is-flat}
-use Rattle.runs.specs.Laws.Follows.{run-follows, step-grows}
+use Rattle.runs.specs.Laws.BooksGrow.{books-grow}
+use Rattle.runs.specs.Laws.Follows.{run-follows}
+use Rattle.engine.specs.Laws.Verdict.{verdict-fine}
 use Rattle.engine.specs.Record.{rowOf}
 use Rattle.engine.specs.Run.{Run, runOver}
-use Rattle.engine.specs.Step.{stepped, stepVerdict}
-use Rattle.engine.specs.Whole.{Account, accountOf, Asked, byLists, takenBy, taken, wholeRunBy, wholeRun, rowsOf}
+use Rattle.engine.specs.Step.{fillOf, stepped, stepVerdict}
+use Rattle.engine.specs.Whole.{Account, accountOf, Asked, byLists, rowsHeld, takenBy, taken, wholeRunBy, wholeRun}
 use Rattle.runs.specs.WholeHistory.{fresh-follows}
 
 -- ---- what is said
@@ -71,11 +73,13 @@ abbrev pub firstTime : List (List ℕ) → ℕ
 firstTime [] = 0
 firstTime (bar ∷ bars) = candleOf bar .time
 
--- A trade that is closed on `bar`, after `bars`: `since` are its bars up to the one before this, the entry bar the first.
-pub record Recorded (s : Settings) (bars : List (List ℕ)) (bar : List ℕ) (t : Trade) : Type 0 where
+-- A trade that is closed on `bar`, after `bars`, of a position with the entry bar e: `since` are its bars up to the one before this, the entry bar the first.
+pub record Recorded (s : Settings) (bars : List (List ℕ)) (bar : List ℕ) (e : EntryBar) (t : Trade) : Type 0 where
   pub before : List (List ℕ)
   pub since : List (List ℕ)
   pub split : bars ≡ before ++ since
+  -- times may repeat, the numbers of bars do not
+  pub entry : e ≡ Bar (length before)
   pub time : t .«entry_time» ≡ firstTime (since ++ (bar ∷ []))
   -- up to and with the closing bar
   pub worst : t .worst ≡ worstOver (zero ≺ t .qty) (t .«entry_price») (since ++ (bar ∷ []))
@@ -166,11 +170,6 @@ stopped-each k terms q e P h =
     let t : Trigger = touched k (terms .risk) q e in
     exit-of (inPosition q) (closedBy t k terms q) P (trigger-of t k terms q P h)
 
-both-each : (P : Trade → Type 0) (xs ys : List Trade) → Each P xs → Each P ys → Each P (xs ++ ys)
-unfolding Each
-both-each P [] ys h k = k
-both-each P (x ∷ xs) ys h k = (h .0, both-each P xs ys (h .1) k)
-
 -- a flat position stays as it is
 flat-stays : (p : Portfolio) (k : Candle) → inPosition p ≡ false → worsened p k ≡ p
 unfolding worsened
@@ -246,28 +245,28 @@ module _ (s : Settings) (bars : List (List ℕ)) (bar : List ℕ) where
 
   -- a trade that is closed then
   closing : (e : EntryBar) (q : Portfolio) (price : Float) (time : ℕ) (bps : Float) (reason : ℕ) → Taking s bars bar e q
-      → Recorded s bars bar (closed q price time bps reason .trade)
+      → Recorded s bars bar e (closed q price time bps reason .trade)
   unfolding closed exited tradeOf
   closing e q price time bps reason m =
-      record { before = m .before; since = m .since; split = m .split; time = m .time; worst = m .worst; funding = m .funding }
+      record { before = m .before; since = m .since; split = m .split; entry = m .entry; time = m .time; worst = m .worst; funding = m .funding }
 
   -- a position that is met so, where it is open
   abbrev MetIfOpen : Position → Type 0
   MetIfOpen p = inPosition (p .portfolio) ≡ true → Met s bars bar (p .entered) (p .portfolio)
 
   module _ (p : Position) (met : MetIfOpen p) where
-    sold-open : inPosition (p .portfolio) ≡ true → Each (Recorded s bars bar) (tradesOf (Account.exited s p (candleOf bar) .«exit»))
+    sold-open : inPosition (p .portfolio) ≡ true → Each (Recorded s bars bar (p .entered)) (tradesOf (Account.exited s p (candleOf bar) .«exit»))
     unfolding Account.exited facing
     sold-open e =
         let q : Portfolio = worsened (p .portfolio) (candleOf bar) in
-        sold-each signal (candleOf bar .«open») (s .terms) (candleOf bar) q (Recorded s bars bar)
+        sold-each signal (candleOf bar .«open») (s .terms) (candleOf bar) q (Recorded s bars bar (p .entered))
         (λ price. closing (p .entered) q price (candleOf bar .time) (s .terms .«taker_bps») signal (taking (p .entered) (p .portfolio) e (met e)))
 
-    sold-none : inPosition (p .portfolio) ≡ false → Each (Recorded s bars bar) (tradesOf (Account.exited s p (candleOf bar) .«exit»))
+    sold-none : inPosition (p .portfolio) ≡ false → Each (Recorded s bars bar (p .entered)) (tradesOf (Account.exited s p (candleOf bar) .«exit»))
     unfolding Account.exited facing executeExit Each tradesOf
     sold-none e = rw (flat-stays (p .portfolio) (candleOf bar) e, e) tt
 
-    sold : Each (Recorded s bars bar) (tradesOf (Account.exited s p (candleOf bar) .«exit»))
+    sold : Each (Recorded s bars bar (p .entered)) (tradesOf (Account.exited s p (candleOf bar) .«exit»))
     sold = by-side (inPosition (p .portfolio)) sold-open sold-none
 
     -- and nothing is open then
@@ -281,7 +280,7 @@ module _ (s : Settings) (bars : List (List ℕ)) (bar : List ℕ) where
 
     -- what a fill leaves
     abbrev Filling : Filled → Type 0
-    Filling f = MetIfOpen (f .position) × Each (Recorded s bars bar) (tradesOf (f .«exit»))
+    Filling f = MetIfOpen (f .position) × Each (Recorded s bars bar (p .entered)) (tradesOf (f .«exit»))
 
     waits : (o : Order) → Filling (Account.waiting o p)
     unfolding Each tradesOf
@@ -324,18 +323,18 @@ module _ (s : Settings) (bars : List (List ℕ)) (bar : List ℕ) where
 
     -- ---- inside the bar
 
-    stopped-open : inPosition (p .portfolio) ≡ true → Each (Recorded s bars bar) (tradesOf (intrabar s p (candleOf bar) .«exit»))
+    stopped-open : inPosition (p .portfolio) ≡ true → Each (Recorded s bars bar (p .entered)) (tradesOf (intrabar s p (candleOf bar) .«exit»))
     unfolding intrabar facing
     stopped-open e =
         let q : Portfolio = worsened (p .portfolio) (candleOf bar) in
-        stopped-each (candleOf bar) (s .terms) q (extremeWith (candleOf bar) q (p .extreme)) (Recorded s bars bar)
+        stopped-each (candleOf bar) (s .terms) q (extremeWith (candleOf bar) q (p .extreme)) (Recorded s bars bar (p .entered))
         (λ price reason. closing (p .entered) q price (candleOf bar .time) (s .terms .«taker_bps») reason (taking (p .entered) (p .portfolio) e (met e)))
 
-    stopped-none : inPosition (p .portfolio) ≡ false → Each (Recorded s bars bar) (tradesOf (intrabar s p (candleOf bar) .«exit»))
+    stopped-none : inPosition (p .portfolio) ≡ false → Each (Recorded s bars bar (p .entered)) (tradesOf (intrabar s p (candleOf bar) .«exit»))
     unfolding intrabar facing applyIntrabarExits Each tradesOf
     stopped-none e = rw (flat-stays (p .portfolio) (candleOf bar) e, e) tt
 
-    stopped : Each (Recorded s bars bar) (tradesOf (intrabar s p (candleOf bar) .«exit»))
+    stopped : Each (Recorded s bars bar (p .entered)) (tradesOf (intrabar s p (candleOf bar) .«exit»))
     stopped = by-side (inPosition (p .portfolio)) stopped-open stopped-none
 
     -- a position that is left open inside the bar has taken it
@@ -432,10 +431,13 @@ abbrev Lives : Settings → List (List ℕ) → Account → Type 0
 Lives s bars a =
     (a .seen ≡ length bars) × (inPosition (a .position .portfolio) ≡ true → Open s bars (a .position .entered) (a .position .portfolio))
 
--- A BAR: it is so again, and each trade that the bar closes is recorded so
+-- A BAR: it is so again, and each trade that the bar closes is recorded so: one that the order leaves with the entry bar that the bar found, one that is left
+-- inside the bar with the one that the fill left
 bar-lives : (s : Settings) (asked : Asked) (bars : List (List ℕ)) (bar : List ℕ) (a : Account) (rows : List ℕ) → Lives s bars a
-    → let b = taken s asked a rows bar in
-    Lives s (bars ++ (bar ∷ [])) (b .account) × Each (Recorded s bars bar) (b .trades)
+    → let f = filled s (a .order) (a .position) (candleOf bar) (historyOf (s .slots) rows) (a .seen) in
+    Lives s (bars ++ (bar ∷ [])) (taken s asked a rows bar .account)
+    × Each (Recorded s bars bar (a .position .entered)) (tradesOf (f .«exit»))
+    × Each (Recorded s bars bar (f .position .entered)) (tradesOf (intrabar s (f .position) (candleOf bar) .«exit»))
 unfolding takenBy charged
 bar-lives s asked bars bar a rows l =
     let met : inPosition (a .position .portfolio) ≡ true → Met s bars bar (a .position .entered) (a .position .portfolio) =
@@ -449,7 +451,8 @@ bar-lives s asked bars bar a rows l =
             let «open» : inPosition (x .position .portfolio) ≡ true = sym (charge-keeps (s .funding) (fundingOf (s .slots) bar) (x .position .portfolio)) ∙ h in
             charging s bars bar (x .position .entered) (x .position .portfolio) «open» (still-open s bars bar (f .position) (fine .0) «open»),
       ),
-      both-each (Recorded s bars bar) (tradesOf (f .«exit»)) (tradesOf (x .«exit»)) (fine .1) (stopped s bars bar (f .position) (fine .0)),
+      fine .1,
+      stopped s bars bar (f .position) (fine .0),
     )
 
 fresh-lives : (s : Settings) → Lives s [] (accountOf (freshState s))
@@ -476,9 +479,14 @@ box-lives s ls m bars =
 -- what the next bar adds to the books of a box, each trade as recorded
 pub record Adds (s : Settings) (bars : List (List ℕ)) (bar : List ℕ) (t : State) (m : Rooms) (u : State) (n : Rooms) : Type 0 where
   pub points : List Point
-  pub trades : List Trade
-  pub grown : Grown t m u n points trades
-  pub each : Each (Recorded s bars bar) trades
+  -- left by order, at the open
+  pub sold : List Trade
+  -- left inside the bar
+  pub stopped : List Trade
+  pub grown : Grown t m u n points (sold ++ stopped)
+  -- with the entry bar of the box, and with the one that it has after the fill: the box's, or this bar where the fill is an entry
+  pub each-sold : Each (Recorded s bars bar (t .position .entered)) sold
+  pub each-stopped : Each (Recorded s bars bar (fillOf s t bar m .position .entered)) stopped
 
 -- IN EVERY RUN from a fresh state, each trade that a bar closes has the words of the bars from its entry bar to that bar.
 pub recorded : (s : Settings) (ls : Lists) (m : Rooms) (bars : List (List ℕ)) (bar : List ℕ)
@@ -486,36 +494,39 @@ pub recorded : (s : Settings) (ls : Lists) (m : Rooms) (bars : List (List ℕ)) 
     stepVerdict s (r .state) bar (r .rooms) ls ≡ Fine
     → let d = stepped s (r .state) bar (r .rooms) ls in
     Adds s (take (r .done) bars) bar (r .state) (r .rooms) (d .result) (d .rooms)
+unfolding takenBy
 recorded s ls m bars bar fine =
     let r : Run = runOver s ls (freshState s) m bars in
     let done = take (r .done) bars in
-    let whole = run-follows s ls bars (freshState s) m (accountOf (freshState s)) [] (fresh-follows s m) .follows in
-    let here : Follows s (r .state) (r .rooms) (accountOf (r .state)) (rowsOf s done) = record { account = refl; window = whole .window } in
-    let lives = box-lives s ls m bars in
-    let b = bar-lives s (byLists s ls) done bar (accountOf (r .state)) (rowsOf s done) lives in
+    let f : Filled = fillOf s (r .state) bar (r .rooms) in
+    let there = verdict-fine s (r .state) bar (r .rooms) ls fine in
+    let b = bar-lives s (byLists s ls) done bar (accountOf (r .state)) (rowsHeld s (r .state) (r .rooms)) (box-lives s ls m bars) in
     record {
       points = _;
-      trades = _;
-      grown = step-grows s ls (r .state) (r .rooms) bar fine _ _ here;
-      each = b .1;
+      sold = tradesOf (f .«exit»);
+      stopped = tradesOf (intrabar s (f .position) (candleOf bar) .«exit»);
+      grown = books-grow s (byLists s ls) (r .state) bar (r .rooms) ls (there .points) (there .trades);
+      each-sold = b .1;
+      each-stopped = b .2;
     }
 
 -- ---- the end
 
--- A trade that finish closes, after `bars`: finish adds no bar.
-pub record RecordedAtEnd (s : Settings) (bars : List (List ℕ)) (t : Trade) : Type 0 where
+-- A trade that finish closes, after `bars`, of a position with the entry bar e: finish adds no bar.
+pub record RecordedAtEnd (s : Settings) (bars : List (List ℕ)) (e : EntryBar) (t : Trade) : Type 0 where
   pub before : List (List ℕ)
   pub since : List (List ℕ)
   pub split : bars ≡ before ++ since
+  pub entry : e ≡ Bar (length before)
   pub time : t .«entry_time» ≡ firstTime since
   pub worst : t .worst ≡ worstOver (zero ≺ t .qty) (t .«entry_price») since
   pub funding : t .funding ≡ paidOver s (t .qty) zero since
 
 closing-end : (s : Settings) (bars : List (List ℕ)) (e : EntryBar) (p : Portfolio) (price : Float) (time : ℕ) (bps : Float) (reason : ℕ) → Open s bars e p
-    → RecordedAtEnd s bars (closed p price time bps reason .trade)
+    → RecordedAtEnd s bars e (closed p price time bps reason .trade)
 unfolding closed exited tradeOf
 closing-end s bars e p price time bps reason o =
-    record { before = o .before; since = o .first ∷ o .rest; split = o .split; time = o .time; worst = o .worst; funding = o .funding }
+    record { before = o .before; since = o .first ∷ o .rest; split = o .split; entry = o .entry; time = o .time; worst = o .worst; funding = o .funding }
 
 -- what is to be closed is open
 is-open : (t : State) → toClose t ≡ true → inPosition (t .position .portfolio) ≡ true
@@ -523,20 +534,20 @@ unfolding toClose
 is-open t e = and-true _ _ e .0
 
 module _ (s : Settings) (bars : List (List ℕ)) (t : State) (l : Lives s bars (accountOf t)) where
-  end-open : toClose t ≡ true → Each (RecordedAtEnd s bars) (tradesOf (lastExit s t))
+  end-open : toClose t ≡ true → Each (RecordedAtEnd s bars (t .position .entered)) (tradesOf (lastExit s t))
   unfolding lastExit
   end-open e =
       let c : Closed = closed (t .position .portfolio) (t .last .close) (t .last .time) (s .terms .«taker_bps») end in
-      rw e (one-each c (RecordedAtEnd s bars) (closing-end s bars (t .position .entered) (t .position .portfolio) _ _ _ _ (l .1 (is-open t e))))
+      rw e (one-each c (RecordedAtEnd s bars (t .position .entered)) (closing-end s bars (t .position .entered) (t .position .portfolio) _ _ _ _ (l .1 (is-open t e))))
 
-  end-none : toClose t ≡ false → Each (RecordedAtEnd s bars) (tradesOf (lastExit s t))
+  end-none : toClose t ≡ false → Each (RecordedAtEnd s bars (t .position .entered)) (tradesOf (lastExit s t))
   unfolding lastExit Each tradesOf
   end-none e = rw e tt
 
 -- AND SO HAS THE TRADE that finish closes (`end-closes` says that it is in the room).
 pub recorded-end : (s : Settings) (ls : Lists) (m : Rooms) (bars : List (List ℕ))
     → let r = runOver s ls (freshState s) m bars in
-    Each (RecordedAtEnd s (take (r .done) bars)) (tradesOf (lastExit s (r .state)))
+    Each (RecordedAtEnd s (take (r .done) bars) (r .state .position .entered)) (tradesOf (lastExit s (r .state)))
 recorded-end s ls m bars =
     let r : Run = runOver s ls (freshState s) m bars in
     let l = box-lives s ls m bars in

@@ -1,0 +1,84 @@
+-- Every bar that a run took has finite prices: 11 sees to it.
+use Prim.Native.Nat.{ℕ}
+use mathlib.Core.Path.{_≡_, refl}
+use mathlib.Core.Bool.{Bool, true, false, _&&_}
+use mathlib.Core.List.{List, [], _∷_, _++_}
+use native.Mathlib.Numerals.{add-one}
+use lib.ListN.{take}
+use Rattle.floats.specs.Floats.{finite}
+use Rattle.portfolio.specs.declared.Candle.{Candle}
+use Rattle.records.specs.declared.settings.Settings.{Settings}
+use Rattle.records.specs.declared.state.State.{State}
+use Rattle.records.specs.Bar.{candleOf}
+use Rattle.records.specs.Lent.{Lists, Rooms}
+use Rattle.refusals.specs.declared.verdict.Verdict.{Verdict}
+use Rattle.refusals.specs.declared.verdict.Verdict.the-variants.{Fine, Bad}
+use Rattle.refusals.specs.Bar.{candleFine, barLines}
+use Rattle.refusals.specs.Judgement.{runLines, stepLines}
+use Rattle.refusals.specs.Laws.Lines.{and-true, first-holds, both-fine}
+use Rattle.refusals.specs.Rooms.{placeLines}
+use Rattle.engine.specs.Laws.Runs.{run-none, run-stops, run-takes}
+use Rattle.engine.specs.Run.{Run, runOver}
+use Rattle.engine.specs.Step.{stepped, sizeLines, stepVerdict}
+use Rattle.runs.specs.During.{against, AllFinite}
+
+-- "a price, volume .. not finite" is said of none of these bars
+unfoldable pub AllFine : List (List ℕ) → Type 0
+AllFine [] = Unit {0}
+AllFine (bar ∷ bars) = (candleFine (candleOf bar) ≡ true) × AllFine bars
+
+-- a bar that is taken
+pub taken-fine : (s : Settings) (t : State) (bar : List ℕ) (m : Rooms) (ls : Lists) → stepVerdict s t bar m ls ≡ Fine → candleFine (candleOf bar) ≡ true
+unfolding stepVerdict stepLines barLines
+taken-fine s t bar m ls h =
+    let handed = both-fine (stepLines s t bar m ls) (sizeLines s t bar m) h .0 in
+    let whole = first-holds _ _ (both-fine (runLines s t m) _ handed .1) in
+    let places = both-fine (placeLines (t .counts) (m .equity) (m .trades)) _ (whole .1) in
+    first-holds _ _ (both-fine (barLines (s .slots) bar (t .counts .«bars_seen»)) _ (places .1) .0) .0
+
+-- EVERY BAR THAT A RUN TOOK, from any state and over any rooms
+pub run-fine : (s : Settings) (ls : Lists) (bars : List (List ℕ)) (t : State) (m : Rooms) → AllFine (take (runOver s ls t m bars .done) bars)
+unfolding AllFine
+run-fine s ls [] t m = rw (run-none s ls t m) tt
+run-fine s ls (bar ∷ bars) t m =
+    go (stepVerdict s t bar m ls) refl (run-fine s ls bars (stepped s t bar m ls .result) (stepped s t bar m ls .rooms))
+  where
+    later : Run
+    later = runOver s ls (stepped s t bar m ls .result) (stepped s t bar m ls .rooms) bars
+
+    go : (v : Verdict) → stepVerdict s t bar m ls ≡ v → AllFine (take (later .done) bars)
+        → AllFine (take (runOver s ls t m (bar ∷ bars) .done) (bar ∷ bars))
+    go (Bad why) e rest = rw (run-stops s ls t m bar bars why e) tt
+    go Fine e rest = rw (run-takes s ls t m bar bars e, add-one) (taken-fine s t bar m ls e, rest)
+
+-- ---- of some of them
+
+pub fine-after : (before since : List (List ℕ)) → AllFine (before ++ since) → AllFine since
+unfolding AllFine
+fine-after [] since h = h
+fine-after (b ∷ before) since h = fine-after before since (h .1)
+
+pub fine-both : (bars more : List (List ℕ)) → AllFine bars → AllFine more → AllFine (bars ++ more)
+unfolding AllFine
+fine-both [] more h k = k
+fine-both (b ∷ bars) more h k = (h .0, fine-both bars more (h .1) k)
+
+prices : («open» high low close volume : Bool) → («open» && high && low && close && volume) ≡ true → (high ≡ true) × (low ≡ true)
+prices «open» high low close volume h =
+    let four = and-true («open» && high && low && close) volume h .0 in
+    let three = and-true («open» && high && low) close four .0 in
+    let two = and-true («open» && high) low three in
+    (and-true «open» high (two .0) .1, two .1)
+
+-- the low and the high of such bars are finite
+pub fine-finite : (long : Bool) (bars : List (List ℕ)) → AllFine bars → AllFinite long bars
+unfolding AllFine AllFinite
+fine-finite long [] h = tt
+fine-finite long (bar ∷ bars) h =
+    let k : Candle = candleOf bar in
+    let both = prices (finite (k .«open»)) (finite (k .high)) (finite (k .low)) (finite (k .close)) (finite (k .volume)) (h .0) in
+    (side long (both .0) (both .1), fine-finite long bars (h .1))
+  where
+    side : (long : Bool) → finite (candleOf bar .high) ≡ true → finite (candleOf bar .low) ≡ true → finite (against long bar) ≡ true
+    side true high low = low
+    side false high low = high

@@ -1,0 +1,4 @@
+pub mod Times
+pub mod NoDust
+pub mod Finite
+pub mod LeastFavourable
