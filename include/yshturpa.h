@@ -70,7 +70,7 @@ enum {
                                  * - the bar is not exactly 10 + K words: two bars at once, the three words of funding left out, or
                                  *   another K than the settings';
                                  * - rows for ysh_rule, ysh_why or ysh_run that are not whole rows of 7 + K words;
-                                 * - equity points or trades for ysh_metrics, or trades for ysh_totals, that are not whole records;
+                                 * - equity points or trades for ysh_metrics or ysh_compare, or trades for ysh_totals, that are not whole records;
                                  * - totals with a count above 4,294,967,295, or with more wins and losses than trades: words that no call
                                  *   wrote; other totals that are not exactly 43 words;
                                  * - the state counts more rows, equity points or trades than the room has places for: a smaller room
@@ -127,6 +127,8 @@ enum {
 #define YSH_TOTAL_WORDS 43                        /* of exact totals; 43 zeros are the totals of nothing */
 #define YSH_BLOCK_WORDS 4                         /* of 64 closes: high, its first bar, low, its first bar */
 #define YSH_BLOCKS_WORDS(bars) (4 * (((bars) + 63) / 64))   /* the blocks of so many closes */
+#define YSH_DIFFERENCE_WORDS 5                    /* of a line that tells of a difference: sort, number, word, the first run's, the second's */
+#define YSH_DIFFERENCES_WORDS(trades) (5 * (10 * (trades) + 3))   /* always enough, for the trades of the shorter list */
 #define YSH_STREAM_WORDS 2                        /* slots, bars taken */
 #define YSH_STATUS_WORDS 3                        /* number, place, bar of the stream */
 #define YSH_STEP_BYTES(nodes) (64 * (nodes))      /* room for the steps of a tree of so many nodes, in bytes */
@@ -152,8 +154,8 @@ enum {
     YSH_ROOM_LINES = 10,
     YSH_ROOM_TOTALS = 11,
     YSH_ROOM_CLOSES = 12, YSH_ROOM_BLOCKS = 13,
-    /* 15 is kept for a later request */
     YSH_ROOM_DUMP = 14,
+    YSH_ROOM_DIFFERENCES = 15,
     YSH_ROOM_STREAM = 16, YSH_ROOM_STATUS = 17,
     YSH_ROOM_SILENT = 18
 };
@@ -507,6 +509,21 @@ uint64_t ysh_totals(uint64_t *totals, size_t totals_len, const uint64_t *trades,
 
 /* Adds other totals, exactly YSH_TOTAL_WORDS words, to totals: those of another machine, say. 10, 13, 22. */
 uint64_t ysh_totals_join(uint64_t *totals, size_t totals_len, const uint64_t *other, size_t other_len);
+
+/* ---- two runs compared (docs/INTERFACE.md, "Two runs compared"): the sorts of a line */
+
+enum {
+    YSH_DIFFERENCE_EQUITY = 1,  /* the first point that both have whose equity differs; its two words */
+    YSH_DIFFERENCE_TRADE = 2,   /* a word, 0 to 9, of a trade that both have; its two words */
+    YSH_DIFFERENCE_TRADES = 3,  /* from this trade on one list alone has trades; how many each has */
+    YSH_DIFFERENCE_POINTS = 4   /* from this point on one list alone has points; how many each has */
+};
+
+/* Writes what differs between two runs, a line of YSH_DIFFERENCE_WORDS words each, in the order of the sorts, and how many lines there are.
+ * Words are compared, not floats. Equal runs have no lines. Refusals 13, then 10 (room 15: it does not hold them all). */
+uint64_t ysh_compare(const uint64_t *equity, size_t equity_len, const uint64_t *trades, size_t trades_len,
+                     const uint64_t *other_equity, size_t other_equity_len, const uint64_t *other_trades, size_t other_trades_len,
+                     uint64_t *lines, size_t lines_len, uint64_t *count);
 
 /* ---- the high and the low of a stretch of closes (docs/INTERFACE.md, "High and low of a stretch") ---- */
 

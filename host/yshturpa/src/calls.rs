@@ -58,6 +58,19 @@ mod raw {
             initial: u64, equity: *const u64, equity_len: usize, trades: *const u64, trades_len: usize,
             metrics: *mut u64, metrics_len: usize,
         ) -> u64;
+        pub fn ysh_compare(
+            equity: *const u64,
+            equity_len: usize,
+            trades: *const u64,
+            trades_len: usize,
+            other_equity: *const u64,
+            other_equity_len: usize,
+            other_trades: *const u64,
+            other_trades_len: usize,
+            lines: *mut u64,
+            lines_len: usize,
+            count: *mut u64,
+        ) -> u64;
         pub fn ysh_totals(totals: *mut u64, totals_len: usize, trades: *const u64, trades_len: usize) -> u64;
         pub fn ysh_totals_join(totals: *mut u64, totals_len: usize, other: *const u64, other_len: usize) -> u64;
         pub fn ysh_root(word: u64) -> u64;
@@ -387,6 +400,27 @@ pub fn metrics(initial: u64, equity: &[u64], trades: &[u64], metrics: &mut [u64]
             metrics.len(),
         )
     })
+}
+
+/// The equity words and the trade words of each run, and room for the lines; how many lines there are.
+pub fn compare(first: (&[u64], &[u64]), second: (&[u64], &[u64]), lines: &mut [u64]) -> Answer<usize> {
+    let mut count = 0;
+    let answer = unsafe {
+        raw::ysh_compare(
+            first.0.as_ptr(),
+            first.0.len(),
+            first.1.as_ptr(),
+            first.1.len(),
+            second.0.as_ptr(),
+            second.0.len(),
+            second.1.as_ptr(),
+            second.1.len(),
+            lines.as_mut_ptr(),
+            lines.len(),
+            &mut count,
+        )
+    };
+    Refusal::of(answer).map(|()| count as usize)
 }
 
 pub fn totals(totals: &mut [u64], trades: &[u64]) -> Answer<()> {

@@ -16,6 +16,9 @@ pub const BLOCK_WORDS: usize = 4;
 /// Words of exact totals.
 pub const TOTAL_WORDS: usize = 43;
 
+/// Words of a line that tells of a difference between two runs.
+pub const DIFFERENCE_WORDS: usize = 5;
+
 /// Words of a stream, and of the status of an account on it.
 pub const STREAM_WORDS: usize = 2;
 pub const STATUS_WORDS: usize = 3;
@@ -140,12 +143,13 @@ pub mod room {
     pub const ROWS: u32 = 0;
     pub const CLOSES: u32 = 12;
     pub const BLOCKS: u32 = 13;
+    pub const DIFFERENCES: u32 = 15;
     pub const STREAM: u32 = 16;
     pub const STATUS: u32 = 17;
     pub const SILENT: u32 = 18;
 
-    /// What each is called, those that are kept for later left out.
-    pub const NAMES: [(u32, &str); 18] = [
+    /// What each is called.
+    pub const NAMES: [(u32, &str); 19] = [
         (ROWS, "rows"),
         (1, "equity"),
         (2, "trades"),
@@ -161,6 +165,7 @@ pub mod room {
         (CLOSES, "closes"),
         (BLOCKS, "blocks"),
         (14, "the dump"),
+        (DIFFERENCES, "lines of what differs"),
         (STREAM, "the stream"),
         (STATUS, "the status of an account"),
         (SILENT, "silent tests"),

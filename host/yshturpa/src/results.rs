@@ -15,7 +15,7 @@ impl Point {
         Point { time: words[0] as i64, equity: f64::from_bits(words[1]) }
     }
 
-    fn words(&self) -> [u64; POINT_WORDS] {
+    pub(crate) fn words(&self) -> [u64; POINT_WORDS] {
         [self.time as u64, self.equity.to_bits()]
     }
 }
