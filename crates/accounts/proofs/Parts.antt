@@ -1,14 +1,7 @@
 -- The parts of an account's own bar, written one behind another, are the bar.
-use Prim.Native.Nat.{ℕ, _+_, _≤_}
-use mathlib.Core.Path.{_≡_, _∙_}
-use mathlib.Core.List.{List, [], _∷_, _++_}
-use native.Mathlib.Omega.{arith}
-use lib.ListN.{length, take, drop, length-append, length-take, length-drop}
-use lib.Seq.{length-take-le}
-use Rattle.words.specs.Limits.{barWords, rowWords}
-use Rattle.words.specs.Words.{word, overwrite}
-use Rattle.accounts.specs.Laws.Own.{overwrite-on}
-use Rattle.accounts.specs.Own.{lowBits, ownBar}
+use Rattle.words.specs.Prelude.{ℕ, _+_, _≤_, _≡_, _∙_, List, [], _∷_, _++_, arith, length, take, drop, length-append, length-take, length-drop, length-take-le}
+use Rattle.words.specs.{Limits.barWords, Limits.rowWords, Words.word, Words.overwrite}
+use Rattle.accounts.specs.{Laws.Own.overwrite-on, Own.lowBits, Own.ownBar}
 
 module _ (S K : ℕ) (bar room : List ℕ) (whole : length bar ≡ barWords S) (few : K ≤ S) (fits : barWords K ≤ length room) where
   pub prices-long : length (take 6 bar) ≡ 6

@@ -1,11 +1,6 @@
 -- The bar that an account is handed: "the bar and the slots are shared", "an account with fewer slots is handed only its own". Definitions only.
-use Prim.Native.Nat.{ℕ, _%_, _^_}
-use mathlib.Core.Bool.{cond}
-use mathlib.Core.List.{List, [], _∷_, _++_}
-use lib.Dec.{ltb, leb, eqb}
-use lib.ListN.{length, take, drop}
-use Rattle.words.specs.Limits.{barWords, rowWords, mostSlots}
-use Rattle.words.specs.Words.{word, overwrite}
+use Rattle.words.specs.Prelude.{ℕ, _%_, _^_, cond, List, [], _∷_, _++_, ltb, leb, eqb, length, take, drop}
+use Rattle.words.specs.{Limits.barWords, Limits.rowWords, Limits.mostSlots, Words.word, Words.overwrite}
 
 -- the lowest K bits of a mask, which has 64
 unfoldable pub lowBits : ℕ → ℕ → ℕ

@@ -1,19 +1,11 @@
 -- The profile of request 14: "no short trees, leverage at most 1, and no more slots than the stream". Definitions only.
-use Prim.Native.Nat.{ℕ}
-use mathlib.Core.Bool.{Bool, true, _&&_}
-use mathlib.Core.List.{List, [], _∷_}
-use lib.Dec.{leb, eqb}
-use Rattle.floats.specs.Floats.{_≼_, one}
-use Rattle.execution.specs.declared.optional.Optional.{Optional}
-use Rattle.execution.specs.declared.optional.Optional.the-variants.{Absent, Of}
-use Rattle.records.specs.declared.settings.Settings.{Settings}
-use Rattle.refusals.specs.declared.verdict.Verdict.{Verdict}
-use Rattle.refusals.specs.declared.verdict.Verdict.the-variants.{Bad}
-use Rattle.refusals.specs.Lines.{line, judged}
-use Rattle.table.specs.declared.answer.Answer.{Answer}
-use Rattle.table.specs.declared.answer.Answer.the-variants.{Accepted, Refused}
-use Rattle.table.specs.Checked.{checked}
-use Rattle.table.specs.Header.{slots, count}
+use Rattle.words.specs.Prelude.{ℕ, Bool, true, _&&_, List, [], _∷_, leb, eqb}
+use Rattle.floats.specs.{Floats._≼_, Floats.one}
+use Rattle.execution.specs.{declared.optional.Optional.Optional, declared.optional.Optional.the-variants.Absent, declared.optional.Optional.the-variants.Of}
+use Rattle.records.specs.{declared.settings.Settings.Settings}
+use Rattle.refusals.specs.{declared.verdict.Verdict.Verdict, declared.verdict.Verdict.the-variants.Bad, Lines.line, Lines.judged}
+use Rattle.table.specs.{declared.answer.Answer.Answer, declared.answer.Answer.the-variants.Accepted, declared.answer.Answer.the-variants.Refused, Checked.checked}
+use Rattle.table.specs.{Header.slots, Header.count}
 
 -- "no short trees": the counts of trees 2 and 3; "0 means absent"
 unfoldable pub noShortTrees : List ℕ → Bool

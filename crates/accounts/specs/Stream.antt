@@ -1,17 +1,10 @@
 -- The stream of request 14: which of its bars are taken. Definitions only.
-use Prim.Native.Nat.{ℕ, _+_, _/_}
-use mathlib.Core.Bool.{cond}
-use mathlib.Core.List.{List, [], _∷_}
-use lib.Dec.{ltb, leb, eqb}
-use lib.ListN.{length}
-use Rattle.words.specs.Limits.{barWords, mostCount, mostSlots}
-use Rattle.refusals.specs.declared.verdict.Verdict.{Verdict}
-use Rattle.refusals.specs.declared.verdict.Verdict.the-variants.{Fine, Bad}
-use Rattle.refusals.specs.Bar.{barLines}
-use Rattle.refusals.specs.Day.{wholeBars}
-use Rattle.refusals.specs.Lines.{Line, line, judged}
-use Rattle.engine.specs.Day.{cut}
-use Rattle.accounts.specs.declared.stream.Taken.{Taken}
+use Rattle.words.specs.Prelude.{ℕ, _+_, _/_, cond, List, [], _∷_, ltb, leb, eqb, length}
+use Rattle.words.specs.{Limits.barWords, Limits.mostCount, Limits.mostSlots}
+use Rattle.refusals.specs.{declared.verdict.Verdict.Verdict, declared.verdict.Verdict.the-variants.Fine, declared.verdict.Verdict.the-variants.Bad, Bar.barLines}
+use Rattle.refusals.specs.{Day.wholeBars, Lines.Line, Lines.line, Lines.judged}
+use Rattle.engine.specs.{Day.cut}
+use Rattle.accounts.specs.{declared.stream.Taken.Taken}
 
 -- Once for all bars. "more than 64 stream slots gives 12 at 0". 13 as in a step: a count above 4,294,967,295, a list that is not whole records.
 unfoldable pub streamLines : ℕ → ℕ → List ℕ → List Line

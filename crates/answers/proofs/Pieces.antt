@@ -1,16 +1,9 @@
 -- Four pieces put one after another into a room of newlines, and the newline after them.
-use mathlib.Core.Path.{_≡_, refl, sym, _∙_, ap}
-use mathlib.Core.Bool.{Bool, true, false, cond}
-use mathlib.Core.List.{List, [], _∷_, _++_}
-use Prim.Native.Nat.{ℕ, zero, suc, _+_, _/_, _≤_, _<_}
-use native.Mathlib.Omega.{arith}
-use lib.ListN.{length, take, drop, replicate, length-append}
-use lib.Seq.{length-take-le}
-use lib.Dec.{ltb, leb}
-use borrow.Author.Tests.{leb-true}
-use Rattle.io.specs.Counts.{Counts}
-use Rattle.answers.specs.Text.{put, next, places, decimal}
-use Rattle.answers.specs.Laws.Pieces.{next-fits, put-fits, put-put, length-put, length-digits}
+use Rattle.words.specs.Prelude.{_≡_, refl, sym, _∙_, ap, Bool, true, false, cond, List, [], _∷_, _++_, ℕ, zero, suc, _+_, _/_, _≤_, _<_, arith, length, take, drop}
+use Rattle.words.specs.Prelude.{replicate, length-append, length-take-le, ltb, leb, leb-true}
+use Rattle.io.specs.{Counts.Counts}
+use Rattle.answers.specs.{Text.put, Text.next, Text.places, Text.decimal, Laws.Pieces.next-fits, Laws.Pieces.put-fits, Laws.Pieces.put-put}
+use Rattle.answers.specs.{Laws.Pieces.length-put, Laws.Pieces.length-digits}
 
 -- at most one digit more than asked for
 places-few : (k n : ℕ) → places k n ≤ k + 1

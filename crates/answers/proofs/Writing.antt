@@ -1,17 +1,10 @@
 -- A copy loop, and the decimal digits of a number.
-use mathlib.Core.Bool.{Bool, true, false, cond}
-use mathlib.Core.Path.{_≡_, refl, sym, ap, _∙_}
-use mathlib.Core.List.{List, _++_}
-use Prim.Native.Nat.{ℕ, zero, suc, _+_, _-_, _*_, _/_, _^_, _≤_, _<_}
-use native.Mathlib.Nat.{pow-suc, pow-le-pow-right, le-trans, div-lt-iff-lt-mul, le-div-iff-mul-le, suc-sub-suc, sub-zero}
-use native.Mathlib.Numerals.{add-one}
-use native.Mathlib.Omega.{arith}
-use lib.ListN.{length, take, drop, getD, set}
-use lib.Dec.{ltb}
-use borrow.Author.Tests.{ltb-true, ltb-false}
-use Rattle.io.specs.Digits.{digits, Fewest}
-use Rattle.answers.specs.Text.{places, decimal}
-use lib.Seq.{paste, paste-suc, take-length}
+use Rattle.words.specs.Prelude.{Bool, true, false, cond, _≡_, refl, sym, ap, _∙_, List, _++_, ℕ, zero, suc, _+_, _-_, _*_, _/_, _^_, _≤_, _<_, pow-suc, le-trans}
+use Rattle.words.specs.Prelude.{div-lt-iff-lt-mul, le-div-iff-mul-le, sub-zero, add-one, arith, length, take, drop, getD, set, ltb, ltb-true, ltb-false, paste}
+use Rattle.words.specs.Prelude.{paste-suc, take-length}
+use Rattle.io.specs.{Digits.digits, Digits.Fewest}
+use Rattle.answers.specs.{Text.places, Text.decimal}
+use native.Mathlib.Nat.{pow-le-pow-right, suc-sub-suc}
 
 -- a turn of a copy
 pub turn : (d : List ℕ) (at : ℕ) (s : List ℕ) (i : ℕ) → at + i < length d → i < length s → set (paste d at s i) (at + i) (getD s i 0) ≡ paste d at s (i + 1)

@@ -1,9 +1,7 @@
 -- The answer to a table as a line. Definitions only.
-use mathlib.Core.List.{List, [], _∷_, _++_}
-use Prim.Native.Nat.{ℕ}
-use Rattle.answers.specs.Text.{decimal}
-use Rattle.table.specs.declared.answer.Answer.{Answer}
-use Rattle.table.specs.declared.answer.Answer.the-variants.{Accepted, Refused}
+use Rattle.words.specs.Prelude.{List, [], _∷_, _++_, ℕ}
+use Rattle.answers.specs.{Text.decimal}
+use Rattle.table.specs.{declared.answer.Answer.Answer, declared.answer.Answer.the-variants.Accepted, declared.answer.Answer.the-variants.Refused}
 
 -- two words with a number after each, and a newline
 unfoldable pub twoNumbers : List ℕ → ℕ → List ℕ → ℕ → List ℕ

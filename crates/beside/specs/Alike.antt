@@ -1,20 +1,13 @@
 -- Request 14: "An account's results must be those it would have alone .. whatever the others' tables say." None sees another.
-use Prim.Native.Nat.{ℕ, _≤_}
-use mathlib.Core.Path.{_≡_, refl, sym, _∙_}
-use mathlib.Core.List.{List, [], _∷_}
-use borrow.Author.Tests.{le-leb}
-use lib.Dec.{leb}
-use lib.ListN.{length}
-use Rattle.words.specs.Limits.{barWords}
-use Rattle.words.specs.Words.{word}
-use Rattle.refusals.specs.declared.verdict.Verdict.{Verdict}
-use Rattle.refusals.specs.declared.verdict.Verdict.the-variants.{Fine, Bad}
-use Rattle.refusals.specs.Lines.{line, judged}
-use Rattle.engine.specs.Day.{cut}
-use Rattle.accounts.specs.Stream.{streamTaken}
-use Rattle.capi.specs.Accounts.{AccountGiven, AccountLent, AccountsLent, Four, streamWords, statusWords}
-use Rattle.capi.specs.Accounts.{accountAfter, accountsLines, afterBars, accountsBy, accountsCall}
-use Rattle.capi.specs.AsIfAlone.{Which, first, second, third, fourth, givenTo, lentTo, call}
+use Rattle.words.specs.Prelude.{ℕ, _≤_, _≡_, refl, sym, _∙_, List, [], _∷_, le-leb, leb, length}
+use Rattle.words.specs.{Limits.barWords, Words.word}
+use Rattle.refusals.specs.{declared.verdict.Verdict.Verdict, declared.verdict.Verdict.the-variants.Fine, declared.verdict.Verdict.the-variants.Bad, Lines.line}
+use Rattle.refusals.specs.{Lines.judged}
+use Rattle.engine.specs.{Day.cut}
+use Rattle.accounts.specs.{Stream.streamTaken}
+use Rattle.capi.specs.{Accounts.AccountGiven, Accounts.AccountLent, Accounts.AccountsLent, Accounts.Four, Accounts.streamWords, Accounts.statusWords}
+use Rattle.capi.specs.{Accounts.accountAfter, Accounts.accountsLines, Accounts.afterBars, Accounts.accountsBy, Accounts.accountsCall, AsIfAlone.Which}
+use Rattle.capi.specs.{AsIfAlone.first, AsIfAlone.second, AsIfAlone.third, AsIfAlone.fourth, AsIfAlone.givenTo, AsIfAlone.lentTo, AsIfAlone.call}
 
 -- each status has its three words: "10 at 17" is the call's own
 abbrev pub StatusesFit : AccountsLent → Type 0

@@ -1,32 +1,16 @@
 -- Demand 1 of the call over four accounts: its answer is the number and the place of what is refused, 0 means that nothing was, and a call that takes no
 -- bar leaves all that was lent as it was.
-use Prim.Native.Nat.{ℕ, _+_, _/_, _%_, _^_, _<_}
-use mathlib.Core.Path.{_≡_, refl, sym, ap, _∙_}
-use mathlib.Core.Bool.{Bool, true, false, cond}
-use mathlib.Core.List.{List, [], _∷_}
-use native.Mathlib.Omega.{arith}
-use borrow.Author.Tests.{ltb-true}
-use lib.Dec.{eqb}
-use lib.ListN.{length}
-use Rattle.words.specs.declared.refusal.Refusal.{Refusal}
-use Rattle.words.specs.Limits.{barWords, mostCount}
-use Rattle.words.specs.Words.{word}
-use Rattle.refusals.specs.declared.verdict.Verdict.{Verdict}
-use Rattle.refusals.specs.declared.verdict.Verdict.the-variants.{Fine, Bad}
-use Rattle.refusals.specs.Bar.{barLines}
-use Rattle.refusals.specs.Laws.Lines.{never}
-use Rattle.refusals.specs.Laws.Numbers.{numbered, number-within}
-use Rattle.refusals.specs.Laws.Places.{Placed, place-below, named, named-placed}
-use Rattle.refusals.specs.Lines.{Line, judged, firstBad}
-use Rattle.engine.specs.Day.{cut}
-use Rattle.accounts.specs.declared.stream.Taken.{Taken}
-use Rattle.accounts.specs.Stream.{streamLines, streamBarLines, noneTaken, oneMoreTaken, takenUnless, streamTakes, streamTaken}
-use Rattle.capi.specs.Accounts.{AccountsLent, Four, accountAfter, accountsLines, noneDone, streamAfter, afterBars, accountsBy, accountsCall}
-use Rattle.capi.specs.AsIfAlone.{taken, call, roomsJudged}
-use Rattle.capi.specs.Call.{answerWord}
-use Rattle.capi.specs.Laws.Answers.{answer-number, answer-place}
-use Rattle.capi.specs.Laws.Calls.{Small, refused-word}
-use Rattle.capi.specs.WordRun.{answerOf}
+use Rattle.words.specs.Prelude.{ℕ, _+_, _/_, _%_, _^_, _<_, _≡_, refl, sym, ap, _∙_, Bool, true, false, cond, List, [], _∷_, arith, ltb-true, eqb, length}
+use Rattle.words.specs.{declared.refusal.Refusal.Refusal, Limits.barWords, Limits.mostCount, Words.word}
+use Rattle.refusals.specs.{declared.verdict.Verdict.Verdict, declared.verdict.Verdict.the-variants.Fine, declared.verdict.Verdict.the-variants.Bad, Bar.barLines}
+use Rattle.refusals.specs.{Laws.Lines.never, Laws.Numbers.numbered, Laws.Numbers.number-within, Laws.Places.Placed, Laws.Places.place-below, Laws.Places.named}
+use Rattle.refusals.specs.{Laws.Places.named-placed, Lines.Line, Lines.judged, Lines.firstBad}
+use Rattle.engine.specs.{Day.cut}
+use Rattle.accounts.specs.{declared.stream.Taken.Taken, Stream.streamLines, Stream.streamBarLines, Stream.noneTaken, Stream.oneMoreTaken, Stream.takenUnless}
+use Rattle.accounts.specs.{Stream.streamTakes, Stream.streamTaken}
+use Rattle.capi.specs.{Accounts.AccountsLent, Accounts.Four, Accounts.accountAfter, Accounts.accountsLines, Accounts.noneDone, Accounts.streamAfter}
+use Rattle.capi.specs.{Accounts.afterBars, Accounts.accountsBy, Accounts.accountsCall, AsIfAlone.taken, AsIfAlone.call, AsIfAlone.roomsJudged, Call.answerWord}
+use Rattle.capi.specs.{Laws.Answers.answer-number, Laws.Answers.answer-place, Laws.Calls.Small, Laws.Calls.refused-word, WordRun.answerOf}
 
 -- ---- the refusals are small
 

@@ -1,38 +1,23 @@
 -- Request 14: "a bar refused with 11 changes and stops none". A bar that 11 accepts for the stream's slots is one that 11 accepts for fewer: so 11 is
 -- never an account's.
-use Prim.Native.Nat.{ℕ, _+_, _*_, _/_, _^_, _≤_}
-use mathlib.Core.Path.{_≡_, refl, sym, ap, _∙_}
-use mathlib.Core.Bool.{Bool, true, false, cond, not, _&&_}
-use mathlib.Core.List.{List, [], _∷_}
-use native.Mathlib.Omega.{arith}
-use borrow.Author.Tests.{eqb-true, eqb-false, leb-true}
-use lib.Dec.{eqb, leb, ltb}
-use lib.ListN.{length}
-use Rattle.words.specs.declared.refusal.Refusal.{Refusal}
-use Rattle.words.specs.Limits.{barWords}
-use Rattle.words.specs.Outcome.{refusal}
-use Rattle.words.specs.Words.{word}
-use Rattle.table.specs.declared.answer.Answer.{Answer}
-use Rattle.table.specs.declared.answer.Answer.the-variants.{Accepted, Refused}
-use Rattle.table.specs.declared.places.Place.{Place}
-use Rattle.table.specs.declared.places.Place.the-variants.{At, Nowhere}
-use Rattle.table.specs.Checked.{orRefused, orHeader, from7, from8, from9, checkedUpTo, checked}
-use Rattle.table.specs.Header.{newestVersion, markRight, versionRight, countsRight, total, headerRefusal, slots as tableSlots}
-use Rattle.records.specs.declared.settings.Settings.{Settings}
-use Rattle.records.specs.Settings.{settingsOf}
-use Rattle.refusals.specs.declared.verdict.Verdict.{Verdict}
-use Rattle.refusals.specs.declared.verdict.Verdict.the-variants.{Fine, Bad}
-use Rattle.refusals.specs.Laws.Lines.{never, and-true, first-holds}
-use Rattle.refusals.specs.Lines.{line, judged}
-use Rattle.engine.specs.Day.{cut}
-use Rattle.accounts.specs.Laws.Own.{overwrite-start}
-use Rattle.accounts.specs.Profile.{noShortTrees, leverageWithin, slotsWithin, withinProfile, afterTable, profileJudged}
-use Rattle.capi.specs.Accounts.{AccountGiven, AccountLent, AccountsLent, Four, statusWords, alone, ownBars, ownLists, stoppedWith, accountsLines, noneDone}
-use Rattle.capi.specs.AsIfAlone.{Which, first, second, third, fourth, givenTo, lentTo, Rode, AsAlone, slots, seen, taken, call, roomsJudged, as-if-alone}
-use Rattle.capi.specs.Call.{Call}
-use Rattle.capi.specs.WordRun.{WordRun}
-use Rattle.beside.specs.Step.{calls-other}
-use Rattle.beside.specs.Taken.{AllFine, taken-fine}
+use Rattle.words.specs.Prelude.{ℕ, _+_, _*_, _/_, _^_, _≤_, _≡_, refl, sym, ap, _∙_, Bool, true, false, cond, not, _&&_, List, [], _∷_, arith, eqb-true, eqb-false}
+use Rattle.words.specs.Prelude.{leb-true, eqb, leb, ltb, length}
+use Rattle.words.specs.{declared.refusal.Refusal.Refusal, Limits.barWords, Outcome.refusal, Words.word}
+use Rattle.table.specs.{declared.answer.Answer.Answer, declared.answer.Answer.the-variants.Accepted, declared.answer.Answer.the-variants.Refused}
+use Rattle.table.specs.{declared.places.Place.Place, declared.places.Place.the-variants.At, declared.places.Place.the-variants.Nowhere, Checked.orRefused}
+use Rattle.table.specs.{Checked.orHeader, Checked.from7, Checked.from8, Checked.from9, Checked.checkedUpTo, Checked.checked, Header.newestVersion, Header.markRight}
+use Rattle.table.specs.{Header.versionRight, Header.countsRight, Header.total, Header.headerRefusal, Header.slots as tableSlots}
+use Rattle.records.specs.{declared.settings.Settings.Settings, Settings.settingsOf}
+use Rattle.refusals.specs.{declared.verdict.Verdict.Verdict, declared.verdict.Verdict.the-variants.Fine, declared.verdict.Verdict.the-variants.Bad}
+use Rattle.refusals.specs.{Laws.Lines.never, Laws.Lines.and-true, Laws.Lines.first-holds, Lines.line, Lines.judged}
+use Rattle.engine.specs.{Day.cut}
+use Rattle.accounts.specs.{Laws.Own.overwrite-start, Profile.noShortTrees, Profile.leverageWithin, Profile.slotsWithin, Profile.withinProfile, Profile.afterTable}
+use Rattle.accounts.specs.{Profile.profileJudged}
+use Rattle.capi.specs.{Accounts.AccountGiven, Accounts.AccountLent, Accounts.AccountsLent, Accounts.Four, Accounts.statusWords, Accounts.alone, Accounts.ownBars}
+use Rattle.capi.specs.{Accounts.ownLists, Accounts.stoppedWith, Accounts.accountsLines, Accounts.noneDone, AsIfAlone.Which, AsIfAlone.first, AsIfAlone.second}
+use Rattle.capi.specs.{AsIfAlone.third, AsIfAlone.fourth, AsIfAlone.givenTo, AsIfAlone.lentTo, AsIfAlone.Rode, AsIfAlone.AsAlone, AsIfAlone.slots, AsIfAlone.seen}
+use Rattle.capi.specs.{AsIfAlone.taken, AsIfAlone.call, AsIfAlone.roomsJudged, AsIfAlone.as-if-alone, Call.Call, WordRun.WordRun}
+use Rattle.beside.specs.{Step.calls-other, Taken.AllFine, Taken.taken-fine}
 
 -- ---- an account's table and the profile
 

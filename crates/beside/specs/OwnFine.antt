@@ -1,25 +1,13 @@
 -- A bar that 11 accepts for the stream's slots is, cut to an account's, one that 11 accepts for fewer.
-use Prim.Native.Nat.{ℕ, zero, suc, _+_, _-_, _/_, _%_, _^_, _<_, _≤_}
-use mathlib.Core.Path.{_≡_, refl, sym, ap, _∙_}
-use mathlib.Core.Bool.{Bool, true, false, cond}
-use mathlib.Core.List.{List, [], _∷_, _++_}
-use mathlib.Core.Logic.{⊎-elim}
-use native.Mathlib.Nat.{div-eq-of-lt, mod-lt, lt-of-lt-of-le}
-use native.Mathlib.Omega.{arith}
-use borrow.Author.Tests.{lt-ltb}
-use lib.Dec.{ltb}
-use lib.ListN.{length, take, drop, length-append, length-drop, List·getD-append}
-use lib.Pow.{field, mod-mod-pow, pow-mono, pow-pos}
-use lib.Seq.{getD-take, getD-drop, getD-append-add, getD-append-seam, length-take-le}
-use Rattle.words.specs.Laws.Numbers.{less-or-not}
-use Rattle.words.specs.Limits.{barWords, mostSlots}
-use Rattle.words.specs.Words.{word}
-use Rattle.records.specs.Bar.{candleOf, fundingOf}
-use Rattle.refusals.specs.declared.verdict.Verdict.the-variants.{Fine}
-use Rattle.refusals.specs.Bar.{bitFine, slotFine, every, slotsFine, candleFine, fundingFine, barLines}
-use Rattle.refusals.specs.Laws.Lines.{and-true, first-holds}
-use Rattle.refusals.specs.Lines.{line, judged}
-use Rattle.accounts.specs.Own.{lowBits, ownBar}
+use Rattle.words.specs.Prelude.{ℕ, zero, suc, _+_, _-_, _/_, _%_, _^_, _<_, _≤_, _≡_, refl, sym, ap, _∙_, Bool, true, false, cond, List, [], _∷_, _++_, ⊎-elim}
+use Rattle.words.specs.Prelude.{div-eq-of-lt, mod-lt, lt-of-lt-of-le, arith, lt-ltb, ltb, length, take, drop, length-append, length-drop, List·getD-append}
+use Rattle.words.specs.Prelude.{pow-mono, pow-pos, getD-take, getD-drop, getD-append-add, getD-append-seam, length-take-le}
+use Rattle.words.specs.{Laws.Numbers.less-or-not, Limits.barWords, Limits.mostSlots, Words.word}
+use Rattle.records.specs.{Bar.candleOf, Bar.fundingOf}
+use Rattle.refusals.specs.{declared.verdict.Verdict.the-variants.Fine, Bar.bitFine, Bar.slotFine, Bar.every, Bar.slotsFine, Bar.candleFine, Bar.fundingFine}
+use Rattle.refusals.specs.{Bar.barLines, Laws.Lines.and-true, Laws.Lines.first-holds, Lines.line, Lines.judged}
+use Rattle.accounts.specs.{Own.lowBits, Own.ownBar}
+use lib.Pow.{field, mod-mod-pow}
 
 -- what is so of each number below n is so of k
 every-each : (f : ℕ → Bool) (n k : ℕ) → k < n → every n f ≡ true → f k ≡ true

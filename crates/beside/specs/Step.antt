@@ -1,41 +1,17 @@
 -- A step over a bar that 11 accepts is not refused with 11.
-use Prim.Native.Nat.{ℕ, _/_, _^_, _≤_}
-use mathlib.Core.Path.{_≡_, refl, sym, _∙_}
-use mathlib.Core.Bool.{Bool, true, false, cond, _&&_}
-use mathlib.Core.List.{List, [], _∷_, _++_, map}
-use native.Mathlib.Omega.{arith}
-use borrow.Author.Tests.{eq-eqb}
-use lib.Dec.{eqb}
-use lib.ListN.{length}
-use Rattle.words.specs.declared.refusal.Refusal.{Refusal}
-use Rattle.words.specs.Limits.{barWords}
-use Rattle.words.specs.Outcome.{Outcome, gives, refuses, refusal}
-use Rattle.records.specs.declared.settings.Settings.{Settings}
-use Rattle.records.specs.declared.state.State.{State}
-use Rattle.records.specs.Lent.{Rooms, Lists}
-use Rattle.records.specs.Settings.{settingsOf}
-use Rattle.records.specs.StateWords.{stateOf}
-use Rattle.refusals.specs.declared.verdict.Verdict.{Verdict}
-use Rattle.refusals.specs.declared.verdict.Verdict.the-variants.{Fine, Bad}
-use Rattle.refusals.specs.Bar.{barLines}
-use Rattle.refusals.specs.Judgement.{runLines, stepLines}
-use Rattle.refusals.specs.Laws.Lines.{never, and-true, first-holds}
-use Rattle.refusals.specs.Lines.{Line, line, judged}
-use Rattle.refusals.specs.Lists.{listLines}
-use Rattle.refusals.specs.Rooms.{roomLines, stateLines, placeLines}
-use Rattle.refusals.specs.Settings.{sizingLines, slippageLines, riskLines, termLines, entryLines, settingLines}
-use Rattle.engine.specs.declared.answer.Answer.{Answer}
-use Rattle.engine.specs.declared.answer.Answer.the-variants.{Refused, Done}
-use Rattle.engine.specs.Laws.Refusal.{refusal-changes-nothing}
-use Rattle.engine.specs.Step.{sizeLines, stepVerdict, stepAnswer}
-use Rattle.accounts.specs.Own.{ownBar}
-use Rattle.capi.specs.Bars.{StepLent, lentLines, stepGives, stepCall}
-use Rattle.capi.specs.Call.{callOf, unlessBad, wordLines}
-use Rattle.capi.specs.Laws.Calls.{Honest}
-use Rattle.capi.specs.Laws.RunCalls.{step-honest}
-use Rattle.capi.specs.WordRun.{WordRun, callMore, callsOver}
-use Rattle.beside.specs.OwnFine.{own-fine}
-use Rattle.beside.specs.Taken.{AllFine}
+use Rattle.words.specs.Prelude.{ℕ, _/_, _^_, _≤_, _≡_, refl, sym, _∙_, Bool, true, false, cond, _&&_, List, [], _∷_, _++_, map, arith, eq-eqb, eqb, length}
+use Rattle.words.specs.{declared.refusal.Refusal.Refusal, Limits.barWords, Outcome.Outcome, Outcome.gives, Outcome.refuses, Outcome.refusal}
+use Rattle.records.specs.{declared.settings.Settings.Settings, declared.state.State.State, Lent.Rooms, Lent.Lists, Settings.settingsOf, StateWords.stateOf}
+use Rattle.refusals.specs.{declared.verdict.Verdict.Verdict, declared.verdict.Verdict.the-variants.Fine, declared.verdict.Verdict.the-variants.Bad, Bar.barLines}
+use Rattle.refusals.specs.{Judgement.runLines, Judgement.stepLines, Laws.Lines.never, Laws.Lines.and-true, Laws.Lines.first-holds, Lines.Line, Lines.line}
+use Rattle.refusals.specs.{Lines.judged, Lists.listLines, Rooms.roomLines, Rooms.stateLines, Rooms.placeLines, Settings.sizingLines, Settings.slippageLines}
+use Rattle.refusals.specs.{Settings.riskLines, Settings.termLines, Settings.entryLines, Settings.settingLines}
+use Rattle.engine.specs.{declared.answer.Answer.Answer, declared.answer.Answer.the-variants.Refused, declared.answer.Answer.the-variants.Done}
+use Rattle.engine.specs.{Laws.Refusal.refusal-changes-nothing, Step.sizeLines, Step.stepVerdict, Step.stepAnswer}
+use Rattle.accounts.specs.{Own.ownBar}
+use Rattle.capi.specs.{Bars.StepLent, Bars.lentLines, Bars.stepGives, Bars.stepCall, Call.callOf, Call.unlessBad, Call.wordLines, Laws.Calls.Honest}
+use Rattle.capi.specs.{Laws.RunCalls.step-honest, WordRun.WordRun, WordRun.callMore, WordRun.callsOver}
+use Rattle.beside.specs.{OwnFine.own-fine, Taken.AllFine}
 
 -- each line of number 11 holds
 unfoldable elevenHolds : List Line → Bool

@@ -1,23 +1,13 @@
 -- The bars that a stream takes: each is whole, and 11 accepts it for the stream's slots.
-use Prim.Native.Nat.{ℕ, zero, suc, _+_, _-_, _*_, _/_, _≤_}
-use mathlib.Core.Path.{_≡_, refl, _∙_}
-use mathlib.Core.Bool.{Bool, true, false, cond}
-use mathlib.Core.List.{List, [], _∷_}
-use native.Mathlib.Omega.{arith}
-use lib.Dec.{eqb}
-use lib.ListN.{length, take, drop, length-drop}
-use lib.Seq.{length-take-le}
-use Rattle.words.specs.Laws.Records.{records-fit}
-use Rattle.words.specs.Limits.{barWords}
-use Rattle.refusals.specs.declared.verdict.Verdict.{Verdict}
-use Rattle.refusals.specs.declared.verdict.Verdict.the-variants.{Fine, Bad}
-use Rattle.refusals.specs.Bar.{barLines}
-use Rattle.refusals.specs.Laws.Lines.{first-holds}
-use Rattle.refusals.specs.Lines.{judged}
-use Rattle.engine.specs.Day.{cut}
-use Rattle.engine.specs.Laws.Days.{cut-next}
-use Rattle.accounts.specs.Stream.{streamLines, streamBarLines, noneTaken, oneMoreTaken, takenUnless, streamTakes, streamTaken}
-use Rattle.beside.specs.OwnFine.{fine-anywhere}
+use Rattle.words.specs.Prelude.{ℕ, zero, suc, _+_, _-_, _*_, _/_, _≤_, _≡_, refl, _∙_, Bool, true, false, cond, List, [], _∷_, arith, eqb, length, take, drop}
+use Rattle.words.specs.Prelude.{length-drop, length-take-le}
+use Rattle.words.specs.{Laws.Records.records-fit, Limits.barWords}
+use Rattle.refusals.specs.{declared.verdict.Verdict.Verdict, declared.verdict.Verdict.the-variants.Fine, declared.verdict.Verdict.the-variants.Bad, Bar.barLines}
+use Rattle.refusals.specs.{Laws.Lines.first-holds, Lines.judged}
+use Rattle.engine.specs.{Day.cut, Laws.Days.cut-next}
+use Rattle.accounts.specs.{Stream.streamLines, Stream.streamBarLines, Stream.noneTaken, Stream.oneMoreTaken, Stream.takenUnless, Stream.streamTakes}
+use Rattle.accounts.specs.{Stream.streamTaken}
+use Rattle.beside.specs.{OwnFine.fine-anywhere}
 
 -- each is a bar of S slots that 11 accepts, whatever the bars seen
 unfoldable pub AllFine : ℕ → List (List ℕ) → Type 0

@@ -1,15 +1,9 @@
 -- An append and its refusals. Definitions only.
-use Prim.Native.Nat.{ℕ, _+_, _*_, _/_}
-use mathlib.Core.Bool.{Bool, cond, _&&_}
-use mathlib.Core.List.{List}
-use lib.Dec.{ltb, leb}
-use lib.ListN.{length, set}
-use Rattle.words.specs.Limits.{mostCount}
-use Rattle.words.specs.Outcome.{refusal}
-use Rattle.floats.specs.Floats.{floatOf, finite}
-use Rattle.blocks.specs.declared.append.Added.{Added}
-use Rattle.blocks.specs.declared.append.Added.the-variants.{Held, Refused}
-use Rattle.blocks.specs.Blocks.{blockBars, blockWords, put, grown}
+use Rattle.words.specs.Prelude.{ℕ, _+_, _*_, _/_, Bool, cond, _&&_, List, ltb, leb, length, set}
+use Rattle.words.specs.{Limits.mostCount, Outcome.refusal}
+use Rattle.floats.specs.{Floats.floatOf, Floats.finite}
+use Rattle.blocks.specs.{declared.append.Added.Added, declared.append.Added.the-variants.Held, declared.append.Added.the-variants.Refused, Blocks.blockBars}
+use Rattle.blocks.specs.{Blocks.blockWords, Blocks.put, Blocks.grown}
 
 -- what an append answers, and both rooms as it leaves them
 pub record Append : Type 0 where

@@ -1,11 +1,6 @@
 -- Blocks: "the high and low of every 64 bars, with their first bars". Definitions only.
-use Prim.Native.Nat.{ℕ, zero, suc, _+_, _*_, _/_, _%_}
-use mathlib.Core.Bool.{cond}
-use mathlib.Core.List.{List}
-use lib.Dec.{eqb}
-use lib.ListN.{getD, set}
-use Rattle.blocks.specs.declared.best.Best.{Best}
-use Rattle.blocks.specs.Reading.{one, join}
+use Rattle.words.specs.Prelude.{ℕ, zero, suc, _+_, _*_, _/_, _%_, cond, List, eqb, getD, set}
+use Rattle.blocks.specs.{declared.best.Best.Best, Reading.one, Reading.join}
 
 -- block j is that of bars 64j to 64j + 63
 abbrev pub blockBars : ℕ

@@ -1,12 +1,7 @@
 -- "What reading every close gives": the high and the low of a stretch, "the numbers and the earliest bar of each". Definitions only.
-use Prim.Native.Nat.{ℕ, zero, suc, _+_, _<_, _≤_}
-use mathlib.Core.Path.{_≡_}
-use mathlib.Core.Bool.{Bool, true, false, cond}
-use mathlib.Core.List.{List}
-use lib.Ieee.{isNan}
-use lib.ListN.{getD}
-use Rattle.floats.specs.Floats.{_≺_, floatOf}
-use Rattle.blocks.specs.declared.best.Best.{Best}
+use Rattle.words.specs.Prelude.{ℕ, zero, suc, _+_, _<_, _≤_, _≡_, Bool, true, false, cond, List, isNan, getD}
+use Rattle.floats.specs.{Floats._≺_, Floats.floatOf}
+use Rattle.blocks.specs.{declared.best.Best.Best}
 
 -- a close, by its word, is above another, or below it
 abbrev pub above : ℕ → ℕ → Bool

@@ -1,13 +1,6 @@
 -- What a question reads, and what that tells. Definitions only.
-use Prim.Native.Nat.{ℕ, zero, suc, _+_, _-_, _*_, _/_, _%_, _≤_, min}
-use mathlib.Core.Path.{_≡_}
-use mathlib.Core.Bool.{Bool, _&&_}
-use mathlib.Core.List.{List, [], _∷_, _++_}
-use lib.Dec.{leb, eqb}
-use lib.ListN.{getD}
-use Rattle.blocks.specs.declared.best.Best.{Best}
-use Rattle.blocks.specs.Reading.{one, join}
-use Rattle.blocks.specs.Blocks.{blockBars, block}
+use Rattle.words.specs.Prelude.{ℕ, zero, suc, _+_, _-_, _*_, _/_, _%_, _≤_, min, _≡_, Bool, _&&_, List, [], _∷_, _++_, leb, eqb, getD}
+use Rattle.blocks.specs.{declared.best.Best.Best, Reading.one, Reading.join, Blocks.blockBars, Blocks.block}
 
 -- one close, by its bar, or one block, by its number
 pub data Read : Type 0 where

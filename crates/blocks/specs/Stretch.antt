@@ -1,15 +1,8 @@
 -- A question and its refusals. Definitions only.
-use Prim.Native.Nat.{ℕ, _+_, _-_, _*_, _/_}
-use mathlib.Core.Bool.{Bool, cond, _&&_}
-use mathlib.Core.List.{List}
-use lib.Dec.{ltb, leb}
-use lib.ListN.{length}
-use Rattle.words.specs.Limits.{mostCount}
-use Rattle.words.specs.Outcome.{refusal}
-use Rattle.blocks.specs.declared.stretch.Found.{Found}
-use Rattle.blocks.specs.declared.stretch.Found.the-variants.{Best, Refused}
-use Rattle.blocks.specs.Blocks.{blockBars, blockWords}
-use Rattle.blocks.specs.Reads.{reads, told}
+use Rattle.words.specs.Prelude.{ℕ, _+_, _-_, _*_, _/_, Bool, cond, _&&_, List, ltb, leb, length}
+use Rattle.words.specs.{Limits.mostCount, Outcome.refusal}
+use Rattle.blocks.specs.{declared.stretch.Found.Found, declared.stretch.Found.the-variants.Best, declared.stretch.Found.the-variants.Refused}
+use Rattle.blocks.specs.{Blocks.blockBars, Blocks.blockWords, Reads.reads, Reads.told}
 
 -- "13 | counts .. exceed the rooms or 4,294,967,295": each bar has its close, and its block
 abbrev pub holds : ℕ → List ℕ → List ℕ → Bool

@@ -1,26 +1,13 @@
 -- THE STATEMENT of request 10: "A question .. gives what reading every close gives: the numbers and the earliest bar of each. This holds for rooms
 -- filled from empty by appending alone, over any number of bars that fit." Assumes nothing.
-use Prim.Native.Nat.{ℕ, zero, suc, _+_, _-_, _*_, _/_, _<_, _≤_}
-use mathlib.Core.Path.{_≡_, refl, sym, ap, subst, _∙_}
-use mathlib.Core.List.{List, [], _∷_, _++_}
-use native.Mathlib.Decide.{ℕ-discrete}
-use native.Mathlib.Omega.{arith}
-use lib.Arith.{lt-of-le-ne}
-use lib.ListN.{getD, length, set, length-append, length-set, List·getD-append}
-use lib.Seq.{getD-set-same, getD-set-other, getD-append-seam}
-use Rattle.words.specs.Limits.{mostCount}
-use Rattle.blocks.specs.declared.append.Added.the-variants.{Held}
-use Rattle.blocks.specs.declared.stretch.Found.{Found}
+use Rattle.words.specs.Prelude.{ℕ, zero, suc, _+_, _-_, _*_, _/_, _<_, _≤_, _≡_, refl, sym, ap, subst, _∙_, List, [], _∷_, _++_, ℕ-discrete, arith, lt-of-le-ne}
+use Rattle.words.specs.Prelude.{getD, length, set, length-append, length-set, List·getD-append, getD-set-same, getD-set-other, getD-append-seam}
+use Rattle.words.specs.{Limits.mostCount}
+use Rattle.blocks.specs.{declared.append.Added.the-variants.Held, declared.stretch.Found.Found, declared.best.Best.Best, Reading.one, Reading.join}
+use Rattle.blocks.specs.{Reading.reading, Reading.HighAndLow, Reading.Number, Append.Append, Append.appended, Append.kept, Reads.reads, Reads.told}
+use Rattle.blocks.specs.{Stretch.stretched, Laws.Append.Taken, Laws.Append.taken-has, Laws.Append.is-taken, Laws.Append.finite-number, Laws.Stretch.answers}
+use Rattle.blocks.specs.{Laws.Earliest.reading-is, Laws.Kept.Kept, Laws.Kept.appended-kept, Laws.Kept.empty-kept, Laws.Kept.told-is}
 use Rattle.blocks.specs.declared.stretch.Found.the-variants as Found
-use Rattle.blocks.specs.declared.best.Best.{Best}
-use Rattle.blocks.specs.Reading.{one, join, reading, HighAndLow, Number}
-use Rattle.blocks.specs.Append.{Append, appended, kept}
-use Rattle.blocks.specs.Reads.{reads, told}
-use Rattle.blocks.specs.Stretch.{stretched}
-use Rattle.blocks.specs.Laws.Append.{Taken, taken-has, is-taken, finite-number}
-use Rattle.blocks.specs.Laws.Stretch.{answers}
-use Rattle.blocks.specs.Laws.Earliest.{reading-is}
-use Rattle.blocks.specs.Laws.Kept.{Kept, appended-kept, empty-kept, told-is}
 
 -- "rooms filled from empty by appending alone": the closes that were appended, in order, the bars held and both rooms. Empty is no bar held, whatever the
 -- rooms hold; a close more is an append that is not refused.

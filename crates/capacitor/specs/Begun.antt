@@ -1,19 +1,10 @@
 -- What a caller sees to before the first bar, in the words of the C calls. Definitions only.
-use Prim.Native.Nat.{ℕ, _≤_}
-use mathlib.Core.Path.{_≡_}
-use mathlib.Core.List.{List}
-use lib.ListN.{take}
-use Rattle.table.specs.Bytes.{Bytes}
-use Rattle.table.specs.Header.{slots}
-use Rattle.records.specs.Lent.{Lists, rowPlaces}
-use Rattle.records.specs.Settings.{settingsOf}
-use Rattle.refusals.specs.declared.verdict.Verdict.the-variants.{Fine}
-use Rattle.refusals.specs.Lines.{judged}
-use Rattle.refusals.specs.Settings.{settingLines}
-use Rattle.restart.specs.Laws.Reached64.{Words64}
-use Rattle.capi.specs.Tables.{DepthLent, depthCall, TranslateLent, translateCall}
-use Rattle.capi.specs.Fresh.{freshCall}
-use Rattle.capi.specs.Bars.{StepLent}
+use Rattle.words.specs.Prelude.{ℕ, _≤_, _≡_, List, take}
+use Rattle.table.specs.{Bytes.Bytes, Header.slots}
+use Rattle.records.specs.{Lent.Lists, Lent.rowPlaces, Settings.settingsOf}
+use Rattle.refusals.specs.{declared.verdict.Verdict.the-variants.Fine, Lines.judged, Settings.settingLines}
+use Rattle.restart.specs.{Laws.Reached64.Words64}
+use Rattle.capi.specs.{Tables.DepthLent, Tables.depthCall, Tables.TranslateLent, Tables.translateCall, Fresh.freshCall, Bars.StepLent}
 
 -- `ysh_translate` answered 0, and these are the bytes that it used of the buffer that it was lent.
 pub record Translation (table : List ℕ) (tree : ℕ) (steps : List ℕ) : Type 0 where

@@ -1,28 +1,15 @@
 -- THE CAPACITOR THEOREM. A box takes bars by `ysh_step`. When its supply fails it is dumped by `ysh_dump`, and a driver programs the image into flash; the
 -- supply may fail in any program, and leave any bytes there. When it is back, `ysh_restore` refuses, or it answers 0 and the box goes on. However often
 -- this happens: what the box held, and holds, is what the rules of its table mean over every bar that it ever took.
-use Prim.Native.Nat.{ℕ, _+_, _*_, _/_, _^_, _≤_}
-use mathlib.Core.Path.{_≡_}
-use mathlib.Core.List.{List, [], _∷_, _++_, flatMap}
-use lib.ListN.{length, take}
-use Rattle.words.specs.Limits.{stateWords, mostCount}
-use Rattle.portfolio.specs.Trade.{wordsOfTrade}
-use Rattle.records.specs.Lent.{Lists, Rooms, rowPlaces, pointPlaces, tradePlaces}
-use Rattle.records.specs.Settings.{settingsOf}
-use Rattle.records.specs.StateWords.{stateOf}
-use Rattle.engine.specs.Books.{wordsOfPoint}
-use Rattle.engine.specs.Whole.{accountOf, Whole, meantRun}
-use Rattle.restart.specs.FirstWord.{Unmarked}
-use Rattle.restart.specs.Laws.Reached64.{Bars64}
-use Rattle.restart.specs.PagePlan.{firstWord, wholePages}
-use Rattle.restart.specs.Plans.{allProgrammed, inOrder}
-use Rattle.capi.specs.Bars.{StepLent}
-use Rattle.capi.specs.Fresh.{freshCall}
-use Rattle.capi.specs.Power.{dumpCall}
-use Rattle.capi.specs.WordRun.{WordRun, callsOver}
-use Rattle.capacitor.specs.Begun.{Begun}
-use Rattle.capacitor.specs.Loss.{Loss, sizeOf, imageIn, restoreOf, Driven, Restored, lastBox}
-use Rattle.capacitor.specs.Loss.{barsBefore, pointsIn, tradesIn, pointsBefore, tradesBefore}
+use Rattle.words.specs.Prelude.{ℕ, _+_, _*_, _/_, _^_, _≤_, _≡_, List, [], _∷_, _++_, flatMap, length, take}
+use Rattle.words.specs.{Limits.stateWords, Limits.mostCount}
+use Rattle.portfolio.specs.{Trade.wordsOfTrade}
+use Rattle.records.specs.{Lent.Lists, Lent.Rooms, Lent.rowPlaces, Lent.pointPlaces, Lent.tradePlaces, Settings.settingsOf, StateWords.stateOf}
+use Rattle.engine.specs.{Books.wordsOfPoint, Whole.accountOf, Whole.Whole, Whole.meantRun}
+use Rattle.restart.specs.{FirstWord.Unmarked, Laws.Reached64.Bars64, PagePlan.firstWord, PagePlan.wholePages, Plans.allProgrammed, Plans.inOrder}
+use Rattle.capi.specs.{Bars.StepLent, Fresh.freshCall, Power.dumpCall, WordRun.WordRun, WordRun.callsOver}
+use Rattle.capacitor.specs.{Begun.Begun, Loss.Loss, Loss.sizeOf, Loss.imageIn, Loss.restoreOf, Loss.Driven, Loss.Restored, Loss.lastBox, Loss.barsBefore}
+use Rattle.capacitor.specs.{Loss.pointsIn, Loss.tradesIn, Loss.pointsBefore, Loss.tradesBefore}
 
 -- the calls of `ysh_step` for the bars since the last restore
 abbrev pub now : List ℕ → Lists → StepLent → List Loss → List (List ℕ) → WordRun

@@ -1,29 +1,16 @@
 -- FINISH AFTER LOSSES, in the words of the C calls. `ysh_finish` measures the points and trades of its own life. The figures of the whole run are what
 -- `ysh_metrics` gives over the points and trades of before, put in front of its own.
-use Prim.Native.Nat.{ℕ, _/_, _^_, _-_, _≤_}
-use mathlib.Core.Path.{_≡_}
-use mathlib.Core.Bool.{cond}
-use mathlib.Core.List.{List, [], _++_}
-use lib.Dec.{ltb}
-use lib.ListN.{length, set}
-use Rattle.words.specs.Limits.{metricWords, mostCount}
-use Rattle.words.specs.Words.{overwrite, word}
-use Rattle.floats.specs.Floats.{wordOf}
-use Rattle.portfolio.specs.Portfolio.{equity}
-use Rattle.metrics.specs.Figures.{figureWords}
-use Rattle.records.specs.declared.state.State.{State}
-use Rattle.records.specs.Lent.{Lists, rooms}
-use Rattle.records.specs.Settings.{settingsOf}
-use Rattle.records.specs.StateWords.{stateOf}
-use Rattle.engine.specs.Whole.{Whole, wholeEnd, wholeMetrics}
-use Rattle.restart.specs.Laws.Reached64.{Bars64}
-use Rattle.capi.specs.Bars.{StepLent}
-use Rattle.capi.specs.Call.{Call}
-use Rattle.capi.specs.Figures.{metricsCall}
-use Rattle.capi.specs.Finish.{FinishLent, finishCall}
-use Rattle.capacitor.specs.Begun.{Begun}
-use Rattle.capacitor.specs.Capacitor.{now, unbroken}
-use Rattle.capacitor.specs.Loss.{Loss, Restored, barsBefore, pointsIn, tradesIn, pointsBefore, tradesBefore}
+use Rattle.words.specs.Prelude.{ℕ, _/_, _^_, _-_, _≤_, _≡_, cond, List, [], _++_, ltb, length, set}
+use Rattle.words.specs.{Limits.metricWords, Limits.mostCount, Words.overwrite, Words.word}
+use Rattle.floats.specs.{Floats.wordOf}
+use Rattle.portfolio.specs.{Portfolio.equity}
+use Rattle.metrics.specs.{Figures.figureWords}
+use Rattle.records.specs.{declared.state.State.State, Lent.Lists, Lent.rooms, Settings.settingsOf, StateWords.stateOf}
+use Rattle.engine.specs.{Whole.Whole, Whole.wholeEnd, Whole.wholeMetrics}
+use Rattle.restart.specs.{Laws.Reached64.Bars64}
+use Rattle.capi.specs.{Bars.StepLent, Call.Call, Figures.metricsCall, Finish.FinishLent, Finish.finishCall}
+use Rattle.capacitor.specs.{Begun.Begun, Capacitor.now, Capacitor.unbroken, Loss.Loss, Loss.Restored, Loss.barsBefore, Loss.pointsIn, Loss.tradesIn}
+use Rattle.capacitor.specs.{Loss.pointsBefore, Loss.tradesBefore}
 
 -- `ysh_finish` of the box as it is now, and the box that it leaves
 abbrev pub finishNow : List ℕ → Lists → StepLent → List Loss → List (List ℕ) → List ℕ → Call FinishLent

@@ -1,56 +1,25 @@
 -- Finish after losses, proved: the words that `ysh_finish` leaves are those of the engine's end, of which restart says what its points and trades are.
-use Prim.Native.Nat.{ℕ, _+_, _-_, _*_, _/_, _%_, _≤_}
-use mathlib.Core.Path.{_≡_, refl, sym, ap, subst, _∙_}
-use mathlib.Core.Bool.{cond}
-use mathlib.Core.List.{List, [], _∷_, _++_, append-nil, flatMap}
-use native.Mathlib.Nat.{mul-div-cancel}
-use native.Mathlib.Omega.{arith}
-use borrow.Author.Tests.{eq-eqb, le-leb, lt-ltb}
-use lib.Dec.{ltb}
-use lib.Ieee.{Float}
-use lib.ListN.{length, set}
-use Rattle.words.specs.Limits.{metricWords, pointWords, tradeWords}
-use Rattle.words.specs.Outcome.{gives}
-use Rattle.words.specs.Words.{word}
-use Rattle.floats.specs.Floats.{wordOf, floatOf}
-use Rattle.portfolio.specs.Portfolio.{equity}
-use Rattle.portfolio.specs.Trade.{wordsOfTrade}
-use Rattle.execution.specs.declared.fills.Exit.{Exit}
-use Rattle.execution.specs.declared.fills.Exit.the-variants.{NoExit, Exited}
-use Rattle.metrics.specs.Figures.{metricsOf, computed}
-use Rattle.metrics.specs.Records.{equityOf, pnlsOf, whole}
-use Rattle.records.specs.declared.settings.Settings.{Settings}
-use Rattle.records.specs.declared.state.Position.{Position}
-use Rattle.records.specs.declared.state.State.{State}
-use Rattle.records.specs.Lent.{Lists, Rooms}
-use Rattle.records.specs.Settings.{settingsOf}
-use Rattle.records.specs.StateWords.{stateOf}
-use Rattle.records.specs.Laws.RoundTrip.{Floats64, state-kept}
-use Rattle.refusals.specs.declared.verdict.Verdict.{Verdict}
-use Rattle.refusals.specs.declared.verdict.Verdict.the-variants.{Fine, Bad}
-use Rattle.refusals.specs.Judgement.{finishJudged}
-use Rattle.refusals.specs.Lines.{judged}
-use Rattle.engine.specs.Account.{leaving}
-use Rattle.engine.specs.Books.{wordsOfPoint, tradesOf, heldPoints, heldTrades}
-use Rattle.engine.specs.Finish.{lastExit, remarked, endState, ended}
-use Rattle.engine.specs.Laws.Runs.{run-none}
-use Rattle.engine.specs.Run.{Run, runOver}
-use Rattle.engine.specs.Whole.{Whole, wholeEnd}
-use Rattle.runs.specs.Laws.Finishes.{end-closes}
-use Rattle.runs.specs.Laws.Floats.{run-floats}
-use Rattle.runs.specs.Restart.{no-points}
-use Rattle.restart.specs.EndAfterLosses.{lastRemarked, points-long, trades-long, EndsAsNever, ends-after-losses, figures-after-losses}
-use Rattle.capi.specs.Bars.{StepLent}
-use Rattle.capi.specs.Call.{callOf, unlessBad, metricLines}
-use Rattle.capi.specs.Figures.{metricsGives, metricsCall}
-use Rattle.capi.specs.Joined.{IsEnd, ends-in-words}
-use Rattle.capi.specs.WordRun.{WordRun, answerOf}
-use Rattle.capi.specs.Laws.Calls.{refused-word}
-use Rattle.capi.specs.Laws.RunCalls.{finish-small}
-use Rattle.capacitor.specs.Capacitor.{now, unbroken}
-use Rattle.capacitor.specs.Finish.{finishNow, boxFinished, lastKept, GivesWhole, FinishAfterLosses, FinishTheorem}
-use Rattle.capacitor.specs.Loss.{Loss, pointsIn, tradesIn, pointsBefore, tradesBefore}
-use Rattle.capacitor.specs.Laws.EngineNow.{EngineNow, engine-now}
+use Rattle.words.specs.Prelude.{ℕ, _+_, _-_, _*_, _/_, _%_, _≤_, _≡_, refl, sym, ap, subst, _∙_, cond, List, [], _∷_, _++_, append-nil, flatMap, mul-div-cancel}
+use Rattle.words.specs.Prelude.{arith, eq-eqb, le-leb, lt-ltb, ltb, Float, length, set}
+use Rattle.words.specs.{Limits.metricWords, Limits.pointWords, Limits.tradeWords, Outcome.gives, Words.word}
+use Rattle.floats.specs.{Floats.wordOf, Floats.floatOf}
+use Rattle.portfolio.specs.{Portfolio.equity, Trade.wordsOfTrade}
+use Rattle.execution.specs.{declared.fills.Exit.Exit, declared.fills.Exit.the-variants.NoExit, declared.fills.Exit.the-variants.Exited}
+use Rattle.metrics.specs.{Figures.metricsOf, Figures.computed, Records.equityOf, Records.pnlsOf, Records.whole}
+use Rattle.records.specs.{declared.settings.Settings.Settings, declared.state.Position.Position, declared.state.State.State, Lent.Lists, Lent.Rooms}
+use Rattle.records.specs.{Settings.settingsOf, StateWords.stateOf, Laws.RoundTrip.Floats64, Laws.RoundTrip.state-kept}
+use Rattle.refusals.specs.{declared.verdict.Verdict.Verdict, declared.verdict.Verdict.the-variants.Fine, declared.verdict.Verdict.the-variants.Bad}
+use Rattle.refusals.specs.{Judgement.finishJudged, Lines.judged}
+use Rattle.engine.specs.{Account.leaving, Books.wordsOfPoint, Books.tradesOf, Books.heldPoints, Books.heldTrades, Finish.lastExit, Finish.remarked, Finish.endState}
+use Rattle.engine.specs.{Finish.ended, Laws.Runs.run-none, Run.Run, Run.runOver, Whole.Whole, Whole.wholeEnd}
+use Rattle.runs.specs.{Laws.Finishes.end-closes, Laws.Floats.run-floats, Restart.no-points}
+use Rattle.restart.specs.{EndAfterLosses.lastRemarked, EndAfterLosses.points-long, EndAfterLosses.trades-long, EndAfterLosses.EndsAsNever}
+use Rattle.restart.specs.{EndAfterLosses.ends-after-losses, EndAfterLosses.figures-after-losses}
+use Rattle.capi.specs.{Bars.StepLent, Call.callOf, Call.unlessBad, Call.metricLines, Figures.metricsGives, Figures.metricsCall, Joined.IsEnd, Joined.ends-in-words}
+use Rattle.capi.specs.{WordRun.WordRun, WordRun.answerOf, Laws.Calls.refused-word, Laws.RunCalls.finish-small}
+use Rattle.capacitor.specs.{Capacitor.now, Capacitor.unbroken, Finish.finishNow, Finish.boxFinished, Finish.lastKept, Finish.GivesWhole}
+use Rattle.capacitor.specs.{Finish.FinishAfterLosses, Finish.FinishTheorem, Loss.Loss, Loss.pointsIn, Loss.tradesIn, Loss.pointsBefore, Loss.tradesBefore}
+use Rattle.capacitor.specs.{Laws.EngineNow.EngineNow, Laws.EngineNow.engine-now}
 
 -- ---- `ysh_metrics` over whole records
 

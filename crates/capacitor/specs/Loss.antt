@@ -1,19 +1,10 @@
 -- A LOSS OF THE SUPPLY, in the words of the C calls: the bars before it, the dump, the flash, and the restore. Definitions only.
-use Prim.Native.Nat.{ℕ, _≤_}
-use mathlib.Core.Path.{_≡_}
-use mathlib.Core.List.{List, [], _∷_, _++_}
-use lib.ListN.{length, take}
-use Rattle.records.specs.Lent.{Lists, rooms}
-use Rattle.records.specs.Settings.{settingsOf}
-use Rattle.records.specs.StateWords.{stateOf}
-use Rattle.engine.specs.Books.{heldPoints, heldTrades}
-use Rattle.dump.specs.Layout.{dumpBytes}
-use Rattle.restart.specs.FirstWord.{Unmarked}
-use Rattle.restart.specs.Plans.{CutIn, inOrder, Plan}
-use Rattle.capi.specs.Call.{Call}
-use Rattle.capi.specs.Bars.{StepLent}
-use Rattle.capi.specs.Power.{RestoreLent, dumpCall, restoreCall}
-use Rattle.capi.specs.WordRun.{callsOver}
+use Rattle.words.specs.Prelude.{ℕ, _≤_, _≡_, List, [], _∷_, _++_, length, take}
+use Rattle.records.specs.{Lent.Lists, Lent.rooms, Settings.settingsOf, StateWords.stateOf}
+use Rattle.engine.specs.{Books.heldPoints, Books.heldTrades}
+use Rattle.dump.specs.{Layout.dumpBytes}
+use Rattle.restart.specs.{FirstWord.Unmarked, Plans.CutIn, Plans.inOrder, Plans.Plan}
+use Rattle.capi.specs.{Call.Call, Bars.StepLent, Power.RestoreLent, Power.dumpCall, Power.restoreCall, WordRun.callsOver}
 
 pub record Loss : Type 0 where
   -- the bars since the box was begun, or restored last

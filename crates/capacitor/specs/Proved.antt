@@ -1,39 +1,20 @@
 -- THE CAPACITOR THEOREM, proved: the box after its losses is the engine's, of which restart says that it is as if its supply had never failed; and what a
 -- plan leaves, cut anywhere, is refused or is the whole image.
-use Prim.Native.Nat.{ℕ, _+_, _≤_}
-use mathlib.Core.Path.{_≡_, sym, ap, subst, _∙_}
-use mathlib.Core.List.{List, [], _∷_, _++_}
-use native.Mathlib.Omega.{arith}
-use lib.ListN.{length, take}
-use Rattle.words.specs.Limits.{stateWords, mostCount}
-use Rattle.records.specs.Lent.{Lists, Rooms, rowPlaces, pointPlaces, tradePlaces}
-use Rattle.records.specs.Settings.{settingsOf}
-use Rattle.records.specs.State.{freshState}
-use Rattle.records.specs.Laws.RoundTrip.{Floats64, state-kept, fresh-floats}
-use Rattle.refusals.specs.declared.verdict.Verdict.the-variants.{Fine}
-use Rattle.refusals.specs.Lines.{judged}
-use Rattle.refusals.specs.Settings.{settingLines}
-use Rattle.engine.specs.Run.{Run, runOver}
-use Rattle.runs.specs.NeverFull.{PlacesFor}
-use Rattle.runs.specs.Laws.Floats.{run-floats}
-use Rattle.dump.specs.Layout.{dumpBytes, imageOf}
-use Rattle.restart.specs.AsIfNever.{Ready}
-use Rattle.restart.specs.FirstWord.{Unmarked}
-use Rattle.restart.specs.Laws.Programs.{done-is-cut, plan-done}
-use Rattle.restart.specs.PagePlan.{firstWord, wholePages, whole-pages-plan}
-use Rattle.restart.specs.Plans.{inOrder, Plan}
-use Rattle.capi.specs.Bars.{StepLent}
-use Rattle.capi.specs.Fresh.{freshCall}
-use Rattle.capi.specs.Joined.{calls-run}
-use Rattle.capi.specs.Power.{dumpCall}
-use Rattle.capi.specs.WordRun.{WordRun, callsOver, answerOf}
-use Rattle.capacitor.specs.Capacitor.{now, pagesDone, Capacitor, CapacitorTheorem}
-use Rattle.capacitor.specs.Loss.{Loss, sizeOf, dumpOf, imageIn, Driven, Restored, lastBox, barsBefore}
-use Rattle.capacitor.specs.Laws.EngineNow.{EngineNow, engine-now}
-use Rattle.capacitor.specs.Laws.FromCalls.{fresh-lent}
-use Rattle.capacitor.specs.Laws.LivesInWords.{image-is}
-use Rattle.capacitor.specs.Laws.OneLoss.{restored-more, whole-answers, loss-answers}
-use Rattle.capacitor.specs.Laws.PowerCalls.{dump-answers}
+use Rattle.words.specs.Prelude.{ℕ, _+_, _≤_, _≡_, sym, ap, subst, _∙_, List, [], _∷_, _++_, arith, length, take}
+use Rattle.words.specs.{Limits.stateWords, Limits.mostCount}
+use Rattle.records.specs.{Lent.Lists, Lent.Rooms, Lent.rowPlaces, Lent.pointPlaces, Lent.tradePlaces, Settings.settingsOf, State.freshState}
+use Rattle.records.specs.{Laws.RoundTrip.Floats64, Laws.RoundTrip.state-kept, Laws.RoundTrip.fresh-floats}
+use Rattle.refusals.specs.{declared.verdict.Verdict.the-variants.Fine, Lines.judged, Settings.settingLines}
+use Rattle.engine.specs.{Run.Run, Run.runOver}
+use Rattle.runs.specs.{NeverFull.PlacesFor, Laws.Floats.run-floats}
+use Rattle.dump.specs.{Layout.dumpBytes, Layout.imageOf}
+use Rattle.restart.specs.{AsIfNever.Ready, FirstWord.Unmarked, Laws.Programs.done-is-cut, Laws.Programs.plan-done, PagePlan.firstWord, PagePlan.wholePages}
+use Rattle.restart.specs.{PagePlan.whole-pages-plan, Plans.inOrder, Plans.Plan}
+use Rattle.capi.specs.{Bars.StepLent, Fresh.freshCall, Joined.calls-run, Power.dumpCall, WordRun.WordRun, WordRun.callsOver, WordRun.answerOf}
+use Rattle.capacitor.specs.{Capacitor.now, Capacitor.pagesDone, Capacitor.Capacitor, Capacitor.CapacitorTheorem, Loss.Loss, Loss.sizeOf, Loss.dumpOf}
+use Rattle.capacitor.specs.{Loss.imageIn, Loss.Driven, Loss.Restored, Loss.lastBox, Loss.barsBefore, Laws.EngineNow.EngineNow, Laws.EngineNow.engine-now}
+use Rattle.capacitor.specs.{Laws.FromCalls.fresh-lent, Laws.LivesInWords.image-is, Laws.OneLoss.restored-more, Laws.OneLoss.whole-answers}
+use Rattle.capacitor.specs.{Laws.OneLoss.loss-answers, Laws.PowerCalls.dump-answers}
 
 header-long : (settings : List ℕ) → 8 ≤ sizeOf settings
 unfolding dumpBytes

@@ -1,29 +1,14 @@
 -- An account on the stream, by each way out of the code.
-use Prim.Native.Nat.{ℕ, zero, suc, _+_, _/_, _%_, _^_, _<_}
-use mathlib.Core.Path.{_≡_, refl, sym, _∙_}
-use mathlib.Core.Bool.{true, false}
-use mathlib.Core.List.{List, [], _∷_, map}
-use native.Mathlib.Omega.{arith}
-use borrow.Author.Tests.{eq-eqb, ne-eqb}
-use Rattle.words.specs.declared.refusal.Refusal.{Refusal}
-use Rattle.words.specs.Limits.{barWords}
-use Rattle.words.specs.Words.{word}
-use Rattle.records.specs.declared.settings.Settings.{Settings}
-use Rattle.records.specs.Settings.{settingsOf}
-use Rattle.refusals.specs.declared.verdict.Verdict.{Verdict}
-use Rattle.refusals.specs.declared.verdict.Verdict.the-variants.{Fine, Bad}
-use Rattle.refusals.specs.Lines.{judged}
-use Rattle.engine.specs.Day.{cut}
-use Rattle.accounts.specs.declared.stream.Taken.{Taken}
-use Rattle.accounts.specs.Laws.Stream.{Within, taken-within}
-use Rattle.accounts.specs.Own.{ownBar}
-use Rattle.accounts.specs.Profile.{profileJudged}
-use Rattle.accounts.specs.Stream.{streamTaken}
-use Rattle.capi.specs.Accounts.{AccountGiven, AccountLent, ownLists, ownBars, alone, isStopped, stoppedWith, statusAfter, ridesBy, accountAfter}
-use Rattle.capi.specs.Accounts.{AccountsLent, Four, accountsLines, noneDone, streamAfter, afterBars, accountsBy, accountsCall}
-use Rattle.capi.specs.Bars.{StepLent}
-use Rattle.capi.specs.WordRun.{callsOver, answerOf}
-use Rattle.capi.specs.Call.{answerWord}
+use Rattle.words.specs.Prelude.{ℕ, zero, suc, _+_, _/_, _%_, _^_, _<_, _≡_, refl, sym, _∙_, true, false, List, [], _∷_, map, arith, eq-eqb, ne-eqb}
+use Rattle.words.specs.{declared.refusal.Refusal.Refusal, Limits.barWords, Words.word}
+use Rattle.records.specs.{declared.settings.Settings.Settings, Settings.settingsOf}
+use Rattle.refusals.specs.{declared.verdict.Verdict.Verdict, declared.verdict.Verdict.the-variants.Fine, declared.verdict.Verdict.the-variants.Bad, Lines.judged}
+use Rattle.engine.specs.{Day.cut}
+use Rattle.accounts.specs.{declared.stream.Taken.Taken, Laws.Stream.Within, Laws.Stream.taken-within, Own.ownBar, Profile.profileJudged, Stream.streamTaken}
+use Rattle.capi.specs.{Accounts.AccountGiven, Accounts.AccountLent, Accounts.ownLists, Accounts.ownBars, Accounts.alone, Accounts.isStopped}
+use Rattle.capi.specs.{Accounts.stoppedWith, Accounts.statusAfter, Accounts.ridesBy, Accounts.accountAfter, Accounts.AccountsLent, Accounts.Four}
+use Rattle.capi.specs.{Accounts.accountsLines, Accounts.noneDone, Accounts.streamAfter, Accounts.afterBars, Accounts.accountsBy, Accounts.accountsCall}
+use Rattle.capi.specs.{Bars.StepLent, WordRun.callsOver, WordRun.answerOf, Call.answerWord}
 
 pub some-of : (n : ℕ) → (n ≡ 0 → ⊥) → 0 < n
 some-of zero h = absurd (h refl)

@@ -1,11 +1,8 @@
 -- What a call answers and leaves, by what was refused or given.
-use Prim.Native.Nat.{ℕ}
-use mathlib.Core.Path.{_≡_}
-use Rattle.words.specs.declared.refusal.Refusal.{Refusal}
-use Rattle.words.specs.Outcome.{Outcome, gives, refuses}
-use Rattle.refusals.specs.declared.verdict.Verdict.{Verdict}
-use Rattle.refusals.specs.declared.verdict.Verdict.the-variants.{Fine, Bad}
-use Rattle.capi.specs.Call.{answerWord, callOf, unlessBad}
+use Rattle.words.specs.Prelude.{ℕ, _≡_}
+use Rattle.words.specs.{declared.refusal.Refusal.Refusal, Outcome.Outcome, Outcome.gives, Outcome.refuses}
+use Rattle.refusals.specs.{declared.verdict.Verdict.Verdict, declared.verdict.Verdict.the-variants.Fine, declared.verdict.Verdict.the-variants.Bad}
+use Rattle.capi.specs.{Call.answerWord, Call.callOf, Call.unlessBad}
 
 module _ {A : Type 0} (o : Outcome A) (before : A) where
   -- a refusal

@@ -1,19 +1,9 @@
 -- What a comparison answers and leaves, by its answer: one law for each way out.
-use Prim.Native.Nat.{ℕ, _*_}
-use mathlib.Core.Path.{_≡_, refl, sym, ap, _∙_}
-use mathlib.Core.Bool.{Bool, true, false, cond, _&&_}
-use mathlib.Core.List.{List}
-use native.Mathlib.Omega.{arith}
-use lib.Dec.{leb}
-use lib.ListN.{length}
-use Rattle.words.specs.declared.refusal.Refusal.{Refusal}
-use Rattle.words.specs.Words.{overwrite}
-use Rattle.differences.specs.declared.compare.Compared.{Compared}
-use Rattle.differences.specs.declared.compare.Compared.the-variants.{Lines, Refused}
-use Rattle.differences.specs.Lines.{lineWords, differences, wordsOf}
-use Rattle.differences.specs.Compared.{Comparison, compared, written, whole}
-use Rattle.capi.specs.Call.{answerWord, callOf}
-use Rattle.capi.specs.Compare.{compareGives, compareCall}
+use Rattle.words.specs.Prelude.{ℕ, _*_, _≡_, refl, sym, ap, _∙_, Bool, true, false, cond, _&&_, List, arith, leb, length}
+use Rattle.words.specs.{declared.refusal.Refusal.Refusal, Words.overwrite}
+use Rattle.differences.specs.{declared.compare.Compared.Compared, declared.compare.Compared.the-variants.Lines, declared.compare.Compared.the-variants.Refused}
+use Rattle.differences.specs.{Lines.lineWords, Lines.differences, Lines.wordsOf, Compared.Comparison, Compared.compared, Compared.written, Compared.whole}
+use Rattle.capi.specs.{Call.answerWord, Call.callOf, Compare.compareGives, Compare.compareCall}
 
 no-lines : {A : Type 0} {r : Refusal} {n : ℕ} → Lines n ≡ Refused r → A
 no-lines e = absurd (let z : _≡_ {A = ℕ} 0 1 = cc in omega arith)

@@ -1,21 +1,11 @@
 -- A C call over many bars is the engine's on what its words mean.
-use Prim.Native.Nat.{ℕ}
-use mathlib.Core.Path.{_≡_}
-use mathlib.Core.Bool.{Bool}
-use mathlib.Core.List.{List}
-use Rattle.words.specs.declared.refusal.Refusal.{Refusal}
-use Rattle.records.specs.declared.settings.Settings.{Settings}
-use Rattle.records.specs.declared.state.State.{State}
-use Rattle.records.specs.Lent.{Rooms, Lists, rooms}
-use Rattle.records.specs.Settings.{settingsOf}
-use Rattle.records.specs.StateWords.{stateOf}
-use Rattle.refusals.specs.declared.verdict.Verdict.{Verdict}
-use Rattle.refusals.specs.declared.verdict.Verdict.the-variants.{Fine, Bad}
-use Rattle.refusals.specs.Lines.{judged}
-use Rattle.engine.specs.Day.{dayOf}
-use Rattle.capi.specs.Call.{answerWord}
-use Rattle.capi.specs.Day.{dayLentLines, stateAfter, dayGives, dayCall}
-use Rattle.capi.specs.WordRun.{answerOf}
+use Rattle.words.specs.Prelude.{ℕ, _≡_, Bool, List}
+use Rattle.words.specs.{declared.refusal.Refusal.Refusal}
+use Rattle.records.specs.{declared.settings.Settings.Settings, declared.state.State.State, Lent.Rooms, Lent.Lists, Lent.rooms, Settings.settingsOf}
+use Rattle.records.specs.{StateWords.stateOf}
+use Rattle.refusals.specs.{declared.verdict.Verdict.Verdict, declared.verdict.Verdict.the-variants.Fine, declared.verdict.Verdict.the-variants.Bad, Lines.judged}
+use Rattle.engine.specs.{Day.dayOf}
+use Rattle.capi.specs.{Call.answerWord, Day.dayLentLines, Day.stateAfter, Day.dayGives, Day.dayCall, WordRun.answerOf}
 
 module _ (one : Bool) (settings state bars : List ℕ) (m : Rooms) (ls : Lists) {v : Verdict}
     (lent : v ≡ judged (dayLentLines one settings state bars (m .rows))) where

@@ -1,30 +1,16 @@
 -- A C call that ends a run is the engine's end on what its words mean.
-use Prim.Native.Nat.{ℕ}
-use mathlib.Core.Path.{_≡_, refl, sym, _∙_}
-use mathlib.Core.List.{List, _++_}
-use native.Mathlib.Omega.{arith}
-use Rattle.words.specs.declared.refusal.Refusal.{Refusal}
-use Rattle.words.specs.Words.{overwrite}
-use Rattle.metrics.specs.declared.Metrics.{Metrics}
+use Rattle.words.specs.Prelude.{ℕ, _≡_, refl, sym, _∙_, List, _++_, arith}
+use Rattle.words.specs.{declared.refusal.Refusal.Refusal, Words.overwrite}
+use Rattle.metrics.specs.{declared.Metrics.Metrics}
+use Rattle.records.specs.{declared.settings.Settings.Settings, declared.state.State.State, Lent.Rooms, Lent.rooms, Settings.settingsOf, StateWords.stateOf}
+use Rattle.records.specs.{StateWords.wordsOf}
+use Rattle.refusals.specs.{declared.verdict.Verdict.Verdict, declared.verdict.Verdict.the-variants.Fine, declared.verdict.Verdict.the-variants.Bad, Lines.judged}
+use Rattle.refusals.specs.{Judgement.finishJudged}
+use Rattle.engine.specs.{declared.answer.Finished.Finished, declared.answer.Finished.the-variants.Refused, declared.answer.Finished.the-variants.Done}
+use Rattle.engine.specs.{declared.answer.Ended.Ended, Step.With, Step.Is, Finish.ended, Finish.concluded, Finish.finishOf}
+use Rattle.capi.specs.{Call.answerWord, Call.metricLines, Bars.lentLines, Finish.finishGives, Finish.finishCall}
+use Rattle.capi.proofs.{Calling.call-bad, Calling.call-refused, Calling.call-gives}
 use Rattle.metrics.specs.Figures as Figures
-use Rattle.records.specs.declared.settings.Settings.{Settings}
-use Rattle.records.specs.declared.state.State.{State}
-use Rattle.records.specs.Lent.{Rooms, rooms}
-use Rattle.records.specs.Settings.{settingsOf}
-use Rattle.records.specs.StateWords.{stateOf, wordsOf}
-use Rattle.refusals.specs.declared.verdict.Verdict.{Verdict}
-use Rattle.refusals.specs.declared.verdict.Verdict.the-variants.{Fine, Bad}
-use Rattle.refusals.specs.Lines.{judged}
-use Rattle.refusals.specs.Judgement.{finishJudged}
-use Rattle.engine.specs.declared.answer.Finished.{Finished}
-use Rattle.engine.specs.declared.answer.Finished.the-variants.{Refused, Done}
-use Rattle.engine.specs.declared.answer.Ended.{Ended}
-use Rattle.engine.specs.Step.{With, Is}
-use Rattle.engine.specs.Finish.{ended, concluded, finishOf}
-use Rattle.capi.specs.Call.{answerWord, metricLines}
-use Rattle.capi.specs.Bars.{lentLines}
-use Rattle.capi.specs.Finish.{finishGives, finishCall}
-use Rattle.capi.proofs.Calling.{call-bad, call-refused, call-gives}
 
 -- a refused end changes no room
 by-verdict : (v : Verdict) (t : State) (m : Rooms) (done : With Ended) (r : Refusal) (u : State)

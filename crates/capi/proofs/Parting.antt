@@ -1,32 +1,14 @@
 -- A C call for a part is the part of what its words mean.
-use Prim.Native.Nat.{ℕ}
-use mathlib.Core.Path.{_≡_, refl, sym, _∙_}
-use mathlib.Core.Bool.{Bool, true, false}
-use mathlib.Core.List.{List}
-use native.Mathlib.Omega.{arith}
-use borrow.Author.Tests.{le-leb}
-use lib.ListN.{length}
-use Rattle.words.specs.declared.refusal.Refusal.{Refusal}
-use Rattle.records.specs.declared.settings.Settings.{Settings}
-use Rattle.records.specs.declared.state.State.{State}
-use Rattle.records.specs.Settings.{settingsOf}
-use Rattle.records.specs.StateWords.{stateOf}
-use Rattle.refusals.specs.declared.verdict.Verdict.{Verdict}
-use Rattle.refusals.specs.declared.verdict.Verdict.the-variants.{Fine, Bad}
-use Rattle.refusals.specs.Lines.{judged}
-use Rattle.refusals.specs.Rooms.{roomLines}
-use Rattle.refusals.specs.Laws.Lines.{below-fine, both-fine}
-use Rattle.refusals.specs.Laws.Descent.{no-line, fine-line}
-use Rattle.dump.specs.declared.part.Parted.{Parted}
-use Rattle.dump.specs.declared.part.Parted.the-variants.{Refused, Used}
-use Rattle.dump.specs.Layout.{imageOf}
-use Rattle.dump.specs.Parts.{bytesFrom, partLines, partJudged, partedBy, PartDumped}
-use Rattle.dump.specs.Dumping.{leftBy}
-use Rattle.dump.specs.Laws.PartFine.{WordsFit, WordsParted, words-fit}
-use Rattle.capi.specs.Call.{Call, answerWord, wordLines}
-use Rattle.capi.specs.Bars.{lentLines}
-use Rattle.capi.specs.Part.{PartLent, partGives, filledWith, partCall}
-use Rattle.capi.proofs.Calling.{call-bad, call-refused, call-gives}
+use Rattle.words.specs.Prelude.{ℕ, _≡_, refl, sym, _∙_, Bool, true, false, List, arith, le-leb, length}
+use Rattle.words.specs.{declared.refusal.Refusal.Refusal}
+use Rattle.records.specs.{declared.settings.Settings.Settings, declared.state.State.State, Settings.settingsOf, StateWords.stateOf}
+use Rattle.refusals.specs.{declared.verdict.Verdict.Verdict, declared.verdict.Verdict.the-variants.Fine, declared.verdict.Verdict.the-variants.Bad, Lines.judged}
+use Rattle.refusals.specs.{Rooms.roomLines, Laws.Lines.below-fine, Laws.Lines.both-fine, Laws.Descent.no-line, Laws.Descent.fine-line}
+use Rattle.dump.specs.{declared.part.Parted.Parted, declared.part.Parted.the-variants.Refused, declared.part.Parted.the-variants.Used, Layout.imageOf}
+use Rattle.dump.specs.{Parts.bytesFrom, Parts.partLines, Parts.partJudged, Parts.partedBy, Parts.PartDumped, Dumping.leftBy, Laws.PartFine.WordsFit}
+use Rattle.dump.specs.{Laws.PartFine.WordsParted, Laws.PartFine.words-fit}
+use Rattle.capi.specs.{Call.Call, Call.answerWord, Call.wordLines, Bars.lentLines, Part.PartLent, Part.partGives, Part.filledWith, Part.partCall}
+use Rattle.capi.proofs.{Calling.call-bad, Calling.call-refused, Calling.call-gives}
 
 -- what an answer tells of the verdict
 refused-by : (v : Verdict) (n : ℕ) {r : Refusal} → partedBy v n ≡ Refused r → v ≡ Bad r

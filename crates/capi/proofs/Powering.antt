@@ -1,35 +1,14 @@
 -- A C call for a loss of power is the dump, or the restore, of what its words mean.
-use Prim.Native.Nat.{ℕ}
-use mathlib.Core.Path.{_≡_, refl, sym, _∙_}
-use mathlib.Core.Bool.{Bool, true, false}
-use mathlib.Core.List.{List}
-use native.Mathlib.Omega.{arith}
-use borrow.Author.Tests.{le-leb}
-use Rattle.words.specs.declared.refusal.Refusal.{Refusal}
-use Rattle.words.specs.Words.{overwrite}
-use Rattle.records.specs.declared.settings.Settings.{Settings}
-use Rattle.records.specs.declared.state.State.{State}
-use Rattle.records.specs.Settings.{settingsOf}
-use Rattle.records.specs.StateWords.{stateOf, wordsOf}
-use Rattle.refusals.specs.declared.verdict.Verdict.{Verdict}
-use Rattle.refusals.specs.declared.verdict.Verdict.the-variants.{Fine, Bad}
-use Rattle.refusals.specs.Lines.{judged}
-use Rattle.refusals.specs.Rooms.{roomLines}
-use Rattle.refusals.specs.Laws.Lines.{below-fine, both-fine}
-use Rattle.refusals.specs.Laws.Descent.{no-line, fine-line}
-use Rattle.dump.specs.declared.reader.Restored.{Restored}
-use Rattle.dump.specs.declared.reader.Restored.the-variants.{Refused, Done}
-use Rattle.dump.specs.Layout.{imageOf}
-use Rattle.dump.specs.Order.{written}
-use Rattle.dump.specs.Reading.{windowIn}
-use Rattle.dump.specs.Refused.{dumpLines, dumpJudged, restoreJudged}
-use Rattle.dump.specs.Dumping.{leftBy, Dumped}
-use Rattle.dump.specs.Restoring.{restoredBy, Restores}
-use Rattle.dump.specs.Laws.Passing.{WordsDumped, WordsFine, words-fine}
-use Rattle.capi.specs.Call.{Call, answerWord, wordLines}
-use Rattle.capi.specs.Bars.{lentLines}
-use Rattle.capi.specs.Power.{dumpGives, dumpCall, restoreGives, restoreCall}
-use Rattle.capi.proofs.Calling.{call-bad, call-refused, call-gives}
+use Rattle.words.specs.Prelude.{ℕ, _≡_, refl, sym, _∙_, Bool, true, false, List, arith, le-leb}
+use Rattle.words.specs.{declared.refusal.Refusal.Refusal, Words.overwrite}
+use Rattle.records.specs.{declared.settings.Settings.Settings, declared.state.State.State, Settings.settingsOf, StateWords.stateOf, StateWords.wordsOf}
+use Rattle.refusals.specs.{declared.verdict.Verdict.Verdict, declared.verdict.Verdict.the-variants.Fine, declared.verdict.Verdict.the-variants.Bad, Lines.judged}
+use Rattle.refusals.specs.{Rooms.roomLines, Laws.Lines.below-fine, Laws.Lines.both-fine, Laws.Descent.no-line, Laws.Descent.fine-line}
+use Rattle.dump.specs.{declared.reader.Restored.Restored, declared.reader.Restored.the-variants.Refused, declared.reader.Restored.the-variants.Done, Layout.imageOf}
+use Rattle.dump.specs.{Order.written, Reading.windowIn, Refused.dumpLines, Refused.dumpJudged, Refused.restoreJudged, Dumping.leftBy, Dumping.Dumped}
+use Rattle.dump.specs.{Restoring.restoredBy, Restoring.Restores, Laws.Passing.WordsDumped, Laws.Passing.WordsFine, Laws.Passing.words-fine}
+use Rattle.capi.specs.{Call.Call, Call.answerWord, Call.wordLines, Bars.lentLines, Power.dumpGives, Power.dumpCall, Power.restoreGives, Power.restoreCall}
+use Rattle.capi.proofs.{Calling.call-bad, Calling.call-refused, Calling.call-gives}
 
 module _ (settings state rows area : List ℕ) (from upto : ℕ) where
   -- words that pass have all their rooms

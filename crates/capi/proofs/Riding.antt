@@ -1,32 +1,16 @@
 -- An account over the bars of a stream: calls of step, one after another, over its own part of each.
-use Prim.Native.Nat.{ℕ, zero, suc, _+_, _-_, _*_, _/_, _<_, _≤_}
-use mathlib.Core.Path.{_≡_, refl, sym, _∙_}
-use mathlib.Core.Bool.{Bool, true, false, cond, _&&_}
-use mathlib.Core.List.{List, [], _∷_, map}
-use native.Mathlib.Nat.{le-div-iff-mul-le}
-use native.Mathlib.Omega.{arith}
-use borrow.Author.Tests.{ne-eqb, leb-true}
-use lib.Dec.{leb, eqb}
-use lib.ListN.{length, take, drop, length-drop, length-map}
-use lib.Seq.{length-take-le}
-use Rattle.words.specs.Laws.Records.{record-ends}
-use Rattle.words.specs.Limits.{barWords}
-use Rattle.records.specs.declared.settings.Settings.{Settings}
-use Rattle.records.specs.Lent.{Rooms, Lists, rooms}
-use Rattle.refusals.specs.declared.verdict.Verdict.the-variants.{Fine}
-use Rattle.refusals.specs.Laws.Lines.{never, and-true, first-holds}
-use Rattle.table.specs.declared.answer.Answer.{Answer}
-use Rattle.table.specs.declared.answer.Answer.the-variants.{Accepted, Refused}
-use Rattle.table.specs.Checked.{checked}
-use Rattle.table.specs.Header.{slots}
-use Rattle.engine.specs.Day.{cut}
-use Rattle.accounts.specs.Laws.Own.{own-front}
-use Rattle.accounts.specs.Laws.Stream.{next-record, recordAt, same-record}
-use Rattle.accounts.specs.Own.{ownBar, ownInto}
-use Rattle.accounts.specs.Profile.{noShortTrees, leverageWithin, slotsWithin, withinProfile, afterTable, profileJudged}
-use Rattle.capi.specs.Bars.{StepLent, stepCall}
-use Rattle.capi.specs.Call.{Call}
-use Rattle.capi.specs.WordRun.{WordRun, callsOver}
+use Rattle.words.specs.Prelude.{ℕ, zero, suc, _+_, _-_, _*_, _/_, _<_, _≤_, _≡_, refl, sym, _∙_, Bool, true, false, cond, _&&_, List, [], _∷_, map}
+use Rattle.words.specs.Prelude.{le-div-iff-mul-le, arith, ne-eqb, leb-true, leb, eqb, length, take, drop, length-drop, length-take-le}
+use Rattle.words.specs.{Laws.Records.record-ends, Limits.barWords}
+use Rattle.records.specs.{declared.settings.Settings.Settings, Lent.Rooms, Lent.Lists, Lent.rooms}
+use Rattle.refusals.specs.{declared.verdict.Verdict.the-variants.Fine, Laws.Lines.never, Laws.Lines.and-true, Laws.Lines.first-holds}
+use Rattle.table.specs.{declared.answer.Answer.Answer, declared.answer.Answer.the-variants.Accepted, declared.answer.Answer.the-variants.Refused, Checked.checked}
+use Rattle.table.specs.{Header.slots}
+use Rattle.engine.specs.{Day.cut}
+use Rattle.accounts.specs.{Laws.Own.own-front, Laws.Stream.next-record, Laws.Stream.recordAt, Laws.Stream.same-record, Own.ownBar, Own.ownInto}
+use Rattle.accounts.specs.{Profile.noShortTrees, Profile.leverageWithin, Profile.slotsWithin, Profile.withinProfile, Profile.afterTable, Profile.profileJudged}
+use Rattle.capi.specs.{Bars.StepLent, Bars.stepCall, Call.Call, WordRun.WordRun, WordRun.callsOver}
+use lib.ListN.{length-map}
 
 -- k calls more, before those of a run
 abbrev pub moreCalls : ℕ → WordRun → WordRun

@@ -1,26 +1,11 @@
 -- A C call over a bar is the call over bars that takes one.
-use Prim.Native.Nat.{ℕ}
-use mathlib.Core.Path.{_≡_, refl, _∙_}
-use mathlib.Core.Bool.{true}
-use mathlib.Core.List.{List}
-use Rattle.records.specs.declared.settings.Settings.{Settings}
-use Rattle.records.specs.declared.state.State.{State}
-use Rattle.records.specs.Lent.{Rooms, Lists}
-use Rattle.records.specs.Settings.{settingsOf}
-use Rattle.records.specs.StateWords.{stateOf}
-use Rattle.refusals.specs.declared.verdict.Verdict.{Verdict}
-use Rattle.refusals.specs.declared.verdict.Verdict.the-variants.{Fine, Bad}
-use Rattle.refusals.specs.Lines.{judged}
-use Rattle.engine.specs.declared.answer.Answer.{Answer}
-use Rattle.engine.specs.declared.answer.Answer.the-variants.{Refused, Done}
-use Rattle.engine.specs.Day.{barsFor, noBars, dayOf}
-use Rattle.engine.specs.Run.{goesOn, runOver}
-use Rattle.engine.specs.Step.{With, stepAnswer}
-use Rattle.engine.specs.Laws.Refusal.{refusal-changes-nothing}
-use Rattle.capi.specs.Call.{Call, callOf, unlessBad}
-use Rattle.capi.specs.Bars.{StepLent, lentLines, stepGives, stepCall}
-use Rattle.capi.specs.Day.{DayLent, dayLentLines, stateAfter, dayGives, dayCall}
-use Rattle.capi.specs.WordRun.{answerOf}
+use Rattle.words.specs.Prelude.{ℕ, _≡_, refl, _∙_, true, List}
+use Rattle.records.specs.{declared.settings.Settings.Settings, declared.state.State.State, Lent.Rooms, Lent.Lists, Settings.settingsOf, StateWords.stateOf}
+use Rattle.refusals.specs.{declared.verdict.Verdict.Verdict, declared.verdict.Verdict.the-variants.Fine, declared.verdict.Verdict.the-variants.Bad, Lines.judged}
+use Rattle.engine.specs.{declared.answer.Answer.Answer, declared.answer.Answer.the-variants.Refused, declared.answer.Answer.the-variants.Done, Day.barsFor}
+use Rattle.engine.specs.{Day.noBars, Day.dayOf, Run.goesOn, Run.runOver, Step.With, Step.stepAnswer, Laws.Refusal.refusal-changes-nothing}
+use Rattle.capi.specs.{Call.Call, Call.callOf, Call.unlessBad, Bars.StepLent, Bars.lentLines, Bars.stepGives, Bars.stepCall, Day.DayLent, Day.dayLentLines}
+use Rattle.capi.specs.{Day.stateAfter, Day.dayGives, Day.dayCall, WordRun.answerOf}
 
 -- without the count
 abbrev uncounted : Call DayLent → Call StepLent

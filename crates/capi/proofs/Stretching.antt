@@ -1,14 +1,9 @@
 -- What an append answers and leaves, by the answer of the room's own: one law for each way out.
-use Prim.Native.Nat.{ℕ}
-use mathlib.Core.Path.{_≡_, sym, ap, _∙_}
-use mathlib.Core.List.{List}
-use Rattle.words.specs.declared.refusal.Refusal.{Refusal}
-use Rattle.blocks.specs.declared.append.Added.{Added}
-use Rattle.blocks.specs.declared.append.Added.the-variants.{Held, Refused}
-use Rattle.blocks.specs.Append.{Append, appended}
-use Rattle.blocks.specs.Laws.Append.{refusal-keeps}
-use Rattle.capi.specs.Call.{answerWord, callOf}
-use Rattle.capi.specs.Stretch.{appendGives, appendCall}
+use Rattle.words.specs.Prelude.{ℕ, _≡_, sym, ap, _∙_, List}
+use Rattle.words.specs.{declared.refusal.Refusal.Refusal}
+use Rattle.blocks.specs.{declared.append.Added.Added, declared.append.Added.the-variants.Held, declared.append.Added.the-variants.Refused, Append.Append}
+use Rattle.blocks.specs.{Append.appended, Laws.Append.refusal-keeps}
+use Rattle.capi.specs.{Call.answerWord, Call.callOf, Stretch.appendGives, Stretch.appendCall}
 
 module _ (held close : ℕ) (closes blocks : List ℕ) (r : Added) (after behind : List ℕ)
     (did : appended held close closes blocks ≡ record { answer = r; closes = after; blocks = behind }) where

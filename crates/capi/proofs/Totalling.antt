@@ -1,13 +1,8 @@
 -- A call that keeps totals, by what the crate below answers and leaves. Assumes nothing.
-use Prim.Native.Nat.{ℕ}
-use mathlib.Core.Path.{_≡_, refl, sym, ap, _∙_}
-use mathlib.Core.List.{List}
-use Rattle.words.specs.declared.refusal.Refusal.{Refusal}
-use Rattle.totals.specs.declared.Answer.{Answer}
-use Rattle.totals.specs.declared.Answer.the-variants.{Done, Refused}
-use Rattle.totals.specs.Totals.{left}
-use Rattle.capi.specs.Call.{answerWord, callOf}
-use Rattle.capi.specs.Totals.{totalsGives}
+use Rattle.words.specs.Prelude.{ℕ, _≡_, refl, sym, ap, _∙_, List}
+use Rattle.words.specs.{declared.refusal.Refusal.Refusal}
+use Rattle.totals.specs.{declared.Answer.Answer, declared.Answer.the-variants.Done, declared.Answer.the-variants.Refused, Totals.left}
+use Rattle.capi.specs.{Call.answerWord, Call.callOf, Totals.totalsGives}
 
 module _ (answer : Answer) (before after exit : List ℕ) (same : exit ≡ left answer before after) where
   -- refused: what was lent is as it was

@@ -1,18 +1,8 @@
 -- The steps that a translation writes lie within its room.
-use Prim.Native.Nat.{ℕ, _+_, _*_, _≤_}
-use mathlib.Core.Path.{_≡_, ap, _∙_}
-use mathlib.Core.List.{List, _++_}
-use native.Mathlib.Omega.{arith}
-use lib.Dec.{ltb}
-use lib.ListN.{length, drop, length-append}
-use Rattle.table.specs.declared.trees.Tree.{Tree}
-use Rattle.table.specs.Checked.{checked}
-use Rattle.table.specs.Header.{treeNumber}
-use Rattle.steps.specs.declared.translated.Translated.the-variants.{Writes}
-use Rattle.steps.specs.Bytes.{bytesOf}
-use Rattle.steps.specs.Laws.Encoding.{steps-long}
-use Rattle.steps.specs.Demand.{counted}
-use Rattle.steps.specs.Translating.{stepsOf, roomFor, writesOr, translates, roomAfter, roomLeft}
+use Rattle.words.specs.Prelude.{ℕ, _+_, _*_, _≤_, _≡_, ap, _∙_, List, _++_, arith, ltb, length, drop, length-append}
+use Rattle.table.specs.{declared.trees.Tree.Tree, Checked.checked, Header.treeNumber}
+use Rattle.steps.specs.{declared.translated.Translated.the-variants.Writes, Bytes.bytesOf, Laws.Encoding.steps-long, Demand.counted, Translating.stepsOf}
+use Rattle.steps.specs.{Translating.roomFor, Translating.writesOr, Translating.translates, Translating.roomAfter, Translating.roomLeft}
 
 pub writes-within : (t : List ℕ) (tree : Tree) (room after : List ℕ) (n : ℕ) → translates t tree room ≡ Writes n → after ≡ roomLeft t tree room
     → 16 * n ≤ length after

@@ -1,24 +1,13 @@
 -- Four accounts on one stream (request 14), on words. "Each account has its table, settings, state and rooms; the bar and the slots are shared."
 -- Definitions only.
-use Prim.Native.Nat.{ℕ, _+_, _/_, _%_, _^_}
-use mathlib.Core.Bool.{Bool, not, cond}
-use mathlib.Core.List.{List, [], _∷_, map}
-use lib.Dec.{leb, eqb}
-use lib.ListN.{length}
-use Rattle.words.specs.Limits.{barWords}
-use Rattle.words.specs.Words.{word, overwrite}
-use Rattle.records.specs.Lent.{Rooms, Lists, rooms, lists}
-use Rattle.records.specs.Settings.{settingsOf}
-use Rattle.refusals.specs.declared.verdict.Verdict.{Verdict}
-use Rattle.refusals.specs.declared.verdict.Verdict.the-variants.{Fine, Bad}
-use Rattle.refusals.specs.Lines.{Line, line, judged}
-use Rattle.engine.specs.Day.{cut}
-use Rattle.accounts.specs.declared.stream.Taken.{Taken}
-use Rattle.accounts.specs.Own.{ownBar}
-use Rattle.accounts.specs.Profile.{profileJudged}
-use Rattle.accounts.specs.Stream.{streamTaken}
-use Rattle.capi.specs.Call.{Call, answerWord}
-use Rattle.capi.specs.WordRun.{WordRun, callsOver, answerOf}
+use Rattle.words.specs.Prelude.{ℕ, _+_, _/_, _%_, _^_, Bool, not, cond, List, [], _∷_, map, leb, eqb, length}
+use Rattle.words.specs.{Limits.barWords, Words.word, Words.overwrite}
+use Rattle.records.specs.{Lent.Rooms, Lent.Lists, Lent.rooms, Lent.lists, Settings.settingsOf}
+use Rattle.refusals.specs.{declared.verdict.Verdict.Verdict, declared.verdict.Verdict.the-variants.Fine, declared.verdict.Verdict.the-variants.Bad, Lines.Line}
+use Rattle.refusals.specs.{Lines.line, Lines.judged}
+use Rattle.engine.specs.{Day.cut}
+use Rattle.accounts.specs.{declared.stream.Taken.Taken, Own.ownBar, Profile.profileJudged, Stream.streamTaken}
+use Rattle.capi.specs.{Call.Call, Call.answerWord, WordRun.WordRun, WordRun.callsOver, WordRun.answerOf}
 
 -- what an account is handed to read
 pub record AccountGiven : Type 0 where

@@ -1,28 +1,16 @@
 -- Request 14: "An account's results must be those it would have alone on the accepted bars and its own slots, whatever the others' tables say. An account that
 -- refuses a bar is stopped at it, with number and place, while the others go on; a bar refused with 11 changes and stops none."
-use Prim.Native.Nat.{ℕ, _+_, _/_, _%_, _^_, _≤_}
-use mathlib.Core.Path.{_≡_, refl, sym, ap, _∙_}
-use mathlib.Core.Bool.{Bool, true, false, not, cond}
-use mathlib.Core.List.{List, [], _∷_}
-use native.Mathlib.Omega.{arith}
-use borrow.Author.Tests.{eq-eqb, ne-eqb}
-use lib.Dec.{eqb}
-use lib.ListN.{length}
-use Rattle.words.specs.declared.refusal.Refusal.{Refusal}
-use Rattle.words.specs.Limits.{barWords}
-use Rattle.words.specs.Words.{word}
-use Rattle.records.specs.Settings.{settingsOf}
-use Rattle.refusals.specs.declared.verdict.Verdict.{Verdict}
-use Rattle.refusals.specs.declared.verdict.Verdict.the-variants.{Fine, Bad}
-use Rattle.refusals.specs.Lines.{judged}
-use Rattle.engine.specs.Day.{cut}
-use Rattle.accounts.specs.declared.stream.Taken.{Taken}
-use Rattle.accounts.specs.Profile.{profileJudged}
-use Rattle.accounts.specs.Stream.{streamTaken}
-use Rattle.capi.specs.Accounts.{AccountGiven, AccountLent, AccountsLent, Four, alone, isStopped, stoppedWith, statusAfter, ridesBy, ownBars, accountAfter}
-use Rattle.capi.specs.Accounts.{accountsLines, noneDone, streamAfter, afterBars, accountsBy, accountsCall}
-use Rattle.capi.specs.Call.{Call, answerWord}
-use Rattle.capi.specs.WordRun.{WordRun, callsOver, answerOf}
+use Rattle.words.specs.Prelude.{ℕ, _+_, _/_, _%_, _^_, _≤_, _≡_, refl, sym, ap, _∙_, Bool, true, false, not, cond, List, [], _∷_, arith, eq-eqb, ne-eqb, eqb}
+use Rattle.words.specs.Prelude.{length}
+use Rattle.words.specs.{declared.refusal.Refusal.Refusal, Limits.barWords, Words.word}
+use Rattle.records.specs.{Settings.settingsOf}
+use Rattle.refusals.specs.{declared.verdict.Verdict.Verdict, declared.verdict.Verdict.the-variants.Fine, declared.verdict.Verdict.the-variants.Bad, Lines.judged}
+use Rattle.engine.specs.{Day.cut}
+use Rattle.accounts.specs.{declared.stream.Taken.Taken, Profile.profileJudged, Stream.streamTaken}
+use Rattle.capi.specs.{Accounts.AccountGiven, Accounts.AccountLent, Accounts.AccountsLent, Accounts.Four, Accounts.alone, Accounts.isStopped}
+use Rattle.capi.specs.{Accounts.stoppedWith, Accounts.statusAfter, Accounts.ridesBy, Accounts.ownBars, Accounts.accountAfter, Accounts.accountsLines}
+use Rattle.capi.specs.{Accounts.noneDone, Accounts.streamAfter, Accounts.afterBars, Accounts.accountsBy, Accounts.accountsCall, Call.Call, Call.answerWord}
+use Rattle.capi.specs.{WordRun.WordRun, WordRun.callsOver, WordRun.answerOf}
 
 -- ---- which of the four
 

@@ -1,17 +1,10 @@
 -- The call that steps over a bar. Definitions only.
-use Prim.Native.Nat.{ℕ}
-use mathlib.Core.List.{List, _++_}
-use Rattle.words.specs.Words.{overwrite}
-use Rattle.words.specs.Outcome.{Outcome, gives, refuses}
-use Rattle.records.specs.Lent.{Rooms, Lists}
-use Rattle.records.specs.Settings.{settingsOf}
-use Rattle.records.specs.StateWords.{stateOf, wordsOf}
-use Rattle.refusals.specs.Lines.{Line, judged}
-use Rattle.refusals.specs.Rooms.{roomLines}
-use Rattle.engine.specs.declared.answer.Answer.{Answer}
-use Rattle.engine.specs.declared.answer.Answer.the-variants.{Refused, Done}
-use Rattle.engine.specs.Step.{stepAnswer}
-use Rattle.capi.specs.Call.{Call, callOf, unlessBad, wordLines}
+use Rattle.words.specs.Prelude.{ℕ, List, _++_}
+use Rattle.words.specs.{Words.overwrite, Outcome.Outcome, Outcome.gives, Outcome.refuses}
+use Rattle.records.specs.{Lent.Rooms, Lent.Lists, Settings.settingsOf, StateWords.stateOf, StateWords.wordsOf}
+use Rattle.refusals.specs.{Lines.Line, Lines.judged, Rooms.roomLines}
+use Rattle.engine.specs.{declared.answer.Answer.Answer, declared.answer.Answer.the-variants.Refused, declared.answer.Answer.the-variants.Done, Step.stepAnswer}
+use Rattle.capi.specs.{Call.Call, Call.callOf, Call.unlessBad, Call.wordLines}
 
 -- "Under one number the lowest place is given": the room of rows is number 0, and so comes before those that only a C call has.
 -- A setting past the end of the words reads as 0.

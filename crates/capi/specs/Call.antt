@@ -1,15 +1,9 @@
 -- What a call of the C interface answers and leaves. Definitions only.
-use Prim.Native.Nat.{ℕ, _+_, _*_, _%_, _^_}
-use mathlib.Core.Bool.{Bool, true, false}
-use mathlib.Core.List.{List, [], _∷_}
-use lib.ListN.{length}
-use lib.Dec.{leb}
-use Rattle.words.specs.declared.refusal.Refusal.{Refusal}
-use Rattle.words.specs.Limits.{settingWords, stateWords, metricWords}
-use Rattle.words.specs.Outcome.{Outcome, gives, refuses}
-use Rattle.refusals.specs.declared.verdict.Verdict.{Verdict}
-use Rattle.refusals.specs.declared.verdict.Verdict.the-variants.{Fine, Bad}
-use Rattle.refusals.specs.Lines.{Line, line}
+use Rattle.words.specs.Prelude.{ℕ, _+_, _*_, _%_, _^_, Bool, true, false, List, [], _∷_, length, leb}
+use Rattle.words.specs.{declared.refusal.Refusal.Refusal, Limits.settingWords, Limits.stateWords, Limits.metricWords, Outcome.Outcome, Outcome.gives}
+use Rattle.words.specs.{Outcome.refuses}
+use Rattle.refusals.specs.{declared.verdict.Verdict.Verdict, declared.verdict.Verdict.the-variants.Fine, declared.verdict.Verdict.the-variants.Bad, Lines.Line}
+use Rattle.refusals.specs.{Lines.line}
 
 -- An answer in C: the refusal's number times 2^32 plus its place, each by its 32 lowest bits; 0 where the call did its work.
 unfoldable pub answerWord : Refusal → ℕ

@@ -1,11 +1,9 @@
 -- The call that compares two runs (request 12). Definitions only.
-use Prim.Native.Nat.{ℕ}
-use mathlib.Core.List.{List}
-use Rattle.words.specs.Outcome.{Outcome, gives, refuses}
-use Rattle.differences.specs.declared.compare.Compared.{Compared}
+use Rattle.words.specs.Prelude.{ℕ, List}
+use Rattle.words.specs.{Outcome.Outcome, Outcome.gives, Outcome.refuses}
+use Rattle.differences.specs.{declared.compare.Compared.Compared, Compared.compared}
+use Rattle.capi.specs.{Call.Call, Call.callOf}
 use Rattle.differences.specs.declared.compare.Compared.the-variants as Compared
-use Rattle.differences.specs.Compared.{compared}
-use Rattle.capi.specs.Call.{Call, callOf}
 
 -- lent: the buffer of the lines, and the word that says how many there are
 pub record LineRooms : Type 0 where

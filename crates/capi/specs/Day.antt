@@ -1,21 +1,11 @@
 -- The call that steps over many bars (request 3). Definitions only.
-use Prim.Native.Nat.{ℕ}
-use mathlib.Core.Bool.{Bool, false, cond}
-use mathlib.Core.List.{List}
-use lib.Dec.{eqb}
-use Rattle.words.specs.Words.{overwrite}
-use Rattle.records.specs.declared.state.State.{State}
-use Rattle.records.specs.Lent.{Rooms, Lists}
-use Rattle.records.specs.Settings.{settingsOf}
-use Rattle.records.specs.StateWords.{stateOf, wordsOf}
-use Rattle.refusals.specs.declared.verdict.Verdict.{Verdict}
-use Rattle.refusals.specs.declared.verdict.Verdict.the-variants.{Fine, Bad}
-use Rattle.refusals.specs.Lines.{Line, judged}
-use Rattle.engine.specs.Day.{noBars, dayOf}
-use Rattle.engine.specs.Run.{Run}
-use Rattle.capi.specs.Call.{Call, answerWord, wordLines}
-use Rattle.capi.specs.Bars.{lentLines}
-use Rattle.capi.specs.WordRun.{answerOf}
+use Rattle.words.specs.Prelude.{ℕ, Bool, false, cond, List, eqb}
+use Rattle.words.specs.{Words.overwrite}
+use Rattle.records.specs.{declared.state.State.State, Lent.Rooms, Lent.Lists, Settings.settingsOf, StateWords.stateOf, StateWords.wordsOf}
+use Rattle.refusals.specs.{declared.verdict.Verdict.Verdict, declared.verdict.Verdict.the-variants.Fine, declared.verdict.Verdict.the-variants.Bad, Lines.Line}
+use Rattle.refusals.specs.{Lines.judged}
+use Rattle.engine.specs.{Day.noBars, Day.dayOf, Run.Run}
+use Rattle.capi.specs.{Call.Call, Call.answerWord, Call.wordLines, Bars.lentLines, WordRun.answerOf}
 
 -- the state's words, the rooms, and the count of bars done
 pub record DayLent : Type 0 where

@@ -1,40 +1,18 @@
 -- ysh_steps is ysh_step, bar after bar: for any words of settings and state, any bars, rooms and lists.
-use Prim.Native.Nat.{ℕ, _+_, _-_, _/_, _<_, _≤_}
-use mathlib.Core.Path.{_≡_, refl, sym, _∙_}
-use mathlib.Core.Bool.{Bool, true, false}
-use mathlib.Core.List.{List, [], _∷_}
-use native.Mathlib.Omega.{arith}
-use borrow.Author.Tests.{leb-true, ne-eqb}
-use lib.ListN.{length, take, drop}
-use Rattle.words.specs.Limits.{settingWords, stateWords, barWords}
-use Rattle.words.specs.declared.refusal.Refusal.{Refusal}
-use Rattle.words.specs.Outcome.{Outcome, refuses}
-use Rattle.records.specs.declared.settings.Settings.{Settings}
-use Rattle.records.specs.declared.state.State.{State}
-use Rattle.records.specs.Lent.{Rooms, Lists}
-use Rattle.records.specs.Laws.RoundTrip.{words-floats}
-use Rattle.records.specs.Settings.{settingsOf}
-use Rattle.records.specs.StateWords.{stateOf}
-use Rattle.refusals.specs.declared.verdict.Verdict.{Verdict}
-use Rattle.refusals.specs.declared.verdict.Verdict.the-variants.{Fine, Bad}
-use Rattle.refusals.specs.Day.{wholeBars, wholeFor}
-use Rattle.refusals.specs.Lines.{judged}
-use Rattle.refusals.specs.Laws.Lines.{first-holds, both-fine}
-use Rattle.refusals.specs.Rooms.{roomLines}
-use Rattle.engine.specs.Day.{cut, barsIn, barsFor, noBars, dayOf}
-use Rattle.engine.specs.Laws.Days.{cut-next, bars-none, whole-one, some-bars}
-use Rattle.runs.specs.Laws.Floats.{step-floats}
-use Rattle.engine.specs.Laws.Runs.{run-none, run-stops, run-takes}
-use Rattle.engine.specs.Run.{Run, runOver}
-use Rattle.engine.specs.Step.{answered, stepped, stepVerdict, stepAnswer}
-use Rattle.capi.specs.Bars.{StepLent, lentLines, stepGives, stepCall}
-use Rattle.capi.specs.Call.{Call, answerWord, callOf, unlessBad, wordLines}
-use Rattle.capi.specs.Day.{DayLent, dayLentLines, stateAfter, dayGives, dayCall, stepsCall}
-use Rattle.capi.specs.Joined.{first-agrees, words-fine, lent-fine, room-first, room-passed, calls-run}
-use Rattle.capi.specs.Laws.Calls.{refused-word}
-use Rattle.capi.specs.Laws.DumpCalls.{lent-small}
-use Rattle.capi.specs.Laws.RunCalls.{step-small}
-use Rattle.capi.specs.WordRun.{WordRun, callsOver, answerOf, lentWith}
+use Rattle.words.specs.Prelude.{ℕ, _+_, _-_, _/_, _<_, _≤_, _≡_, refl, sym, _∙_, Bool, true, false, List, [], _∷_, arith, leb-true, ne-eqb, length, take, drop}
+use Rattle.words.specs.{Limits.settingWords, Limits.stateWords, Limits.barWords, declared.refusal.Refusal.Refusal, Outcome.Outcome, Outcome.refuses}
+use Rattle.records.specs.{declared.settings.Settings.Settings, declared.state.State.State, Lent.Rooms, Lent.Lists, Laws.RoundTrip.words-floats, Settings.settingsOf}
+use Rattle.records.specs.{StateWords.stateOf}
+use Rattle.refusals.specs.{declared.verdict.Verdict.Verdict, declared.verdict.Verdict.the-variants.Fine, declared.verdict.Verdict.the-variants.Bad, Day.wholeBars}
+use Rattle.refusals.specs.{Day.wholeFor, Lines.judged, Laws.Lines.first-holds, Laws.Lines.both-fine, Rooms.roomLines}
+use Rattle.engine.specs.{Day.cut, Day.barsIn, Day.barsFor, Day.noBars, Day.dayOf, Laws.Days.cut-next, Laws.Days.bars-none, Laws.Days.whole-one, Laws.Days.some-bars}
+use Rattle.engine.specs.{Laws.Runs.run-none, Laws.Runs.run-stops, Laws.Runs.run-takes, Run.Run, Run.runOver, Step.answered, Step.stepped, Step.stepVerdict}
+use Rattle.engine.specs.{Step.stepAnswer}
+use Rattle.runs.specs.{Laws.Floats.step-floats}
+use Rattle.capi.specs.{Bars.StepLent, Bars.lentLines, Bars.stepGives, Bars.stepCall, Call.Call, Call.answerWord, Call.callOf, Call.unlessBad, Call.wordLines}
+use Rattle.capi.specs.{Day.DayLent, Day.dayLentLines, Day.stateAfter, Day.dayGives, Day.dayCall, Day.stepsCall, Joined.first-agrees, Joined.words-fine}
+use Rattle.capi.specs.{Joined.lent-fine, Joined.room-first, Joined.room-passed, Joined.calls-run, Laws.Calls.refused-word, Laws.DumpCalls.lent-small}
+use Rattle.capi.specs.{Laws.RunCalls.step-small, WordRun.WordRun, WordRun.callsOver, WordRun.answerOf, WordRun.lentWith}
 
 -- a run in words, over a state's words as they were given
 abbrev pub fromWords : List ℕ → Run → WordRun

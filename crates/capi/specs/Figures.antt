@@ -1,13 +1,10 @@
 -- The call that gives the metrics. Definitions only.
-use Prim.Native.Nat.{ℕ}
-use mathlib.Core.List.{List}
-use Rattle.words.specs.Words.{overwrite}
-use Rattle.words.specs.Outcome.{Outcome, gives, refuses}
-use Rattle.floats.specs.Floats.{floatOf}
-use Rattle.metrics.specs.declared.Metrics.{Metrics}
-use Rattle.metrics.specs.Figures.{computed, figureWords}
-use Rattle.refusals.specs.Lines.{judged}
-use Rattle.capi.specs.Call.{Call, callOf, unlessBad, metricLines}
+use Rattle.words.specs.Prelude.{ℕ, List}
+use Rattle.words.specs.{Words.overwrite, Outcome.Outcome, Outcome.gives, Outcome.refuses}
+use Rattle.floats.specs.{Floats.floatOf}
+use Rattle.metrics.specs.{declared.Metrics.Metrics, Figures.computed, Figures.figureWords}
+use Rattle.refusals.specs.{Lines.judged}
+use Rattle.capi.specs.{Call.Call, Call.callOf, Call.unlessBad, Call.metricLines}
 
 -- lent: the room of the metrics
 unfoldable pub metricsGives : Outcome Metrics → List ℕ → Outcome (List ℕ)

@@ -1,18 +1,12 @@
 -- The call that ends a run. Definitions only.
-use Prim.Native.Nat.{ℕ}
-use mathlib.Core.List.{List, _++_}
-use Rattle.words.specs.Words.{overwrite}
-use Rattle.words.specs.Outcome.{Outcome, gives, refuses}
+use Rattle.words.specs.Prelude.{ℕ, List, _++_}
+use Rattle.words.specs.{Words.overwrite, Outcome.Outcome, Outcome.gives, Outcome.refuses}
+use Rattle.records.specs.{Lent.Rooms, Settings.settingsOf, StateWords.stateOf, StateWords.wordsOf}
+use Rattle.refusals.specs.{Lines.judged}
+use Rattle.engine.specs.{declared.answer.Finished.Finished, declared.answer.Finished.the-variants.Refused, declared.answer.Finished.the-variants.Done}
+use Rattle.engine.specs.{Finish.finishOf}
+use Rattle.capi.specs.{Call.Call, Call.callOf, Call.unlessBad, Call.metricLines, Bars.lentLines}
 use Rattle.metrics.specs.Figures as Figures
-use Rattle.records.specs.Lent.{Rooms}
-use Rattle.records.specs.Settings.{settingsOf}
-use Rattle.records.specs.StateWords.{stateOf, wordsOf}
-use Rattle.refusals.specs.Lines.{judged}
-use Rattle.engine.specs.declared.answer.Finished.{Finished}
-use Rattle.engine.specs.declared.answer.Finished.the-variants.{Refused, Done}
-use Rattle.engine.specs.Finish.{finishOf}
-use Rattle.capi.specs.Call.{Call, callOf, unlessBad, metricLines}
-use Rattle.capi.specs.Bars.{lentLines}
 
 -- the state's words, the rooms of equity points and of trades, and that of the metrics
 pub record FinishLent : Type 0 where

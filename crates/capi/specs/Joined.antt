@@ -1,42 +1,19 @@
 -- The C interface is the engine: fresh, a call of step for each bar, and finish, on words, are the engine's fresh state, its run and its end.
-use Prim.Native.Nat.{ℕ, _≤_}
-use mathlib.Core.Path.{_≡_, refl, sym, _∙_}
-use mathlib.Core.List.{List, [], _∷_, _++_}
-use borrow.Author.Tests.{le-leb, ne-eqb}
-use lib.ListN.{length}
-use Rattle.words.specs.Limits.{settingWords, stateWords, metricWords}
-use Rattle.words.specs.declared.refusal.Refusal.{Refusal}
-use Rattle.words.specs.Outcome.{Outcome, refuses}
-use Rattle.words.specs.Words.{overwrite}
+use Rattle.words.specs.Prelude.{ℕ, _≤_, _≡_, refl, sym, _∙_, List, [], _∷_, _++_, le-leb, ne-eqb, length}
+use Rattle.words.specs.{Limits.settingWords, Limits.stateWords, Limits.metricWords, declared.refusal.Refusal.Refusal, Outcome.Outcome, Outcome.refuses}
+use Rattle.words.specs.{Words.overwrite, Laws.Overwrite.overwrite-length}
+use Rattle.records.specs.{declared.settings.Settings.Settings, declared.state.State.State, Lent.Rooms, Lent.Lists, Settings.settingsOf, State.freshState}
+use Rattle.records.specs.{StateWords.wordsOf, Laws.RoundTrip.Floats64, Laws.RoundTrip.state-kept, Laws.RoundTrip.state-again, Laws.RoundTrip.fresh-floats}
+use Rattle.refusals.specs.{declared.verdict.Verdict.Verdict, declared.verdict.Verdict.the-variants.Fine, declared.verdict.Verdict.the-variants.Bad, Lines.judged}
+use Rattle.refusals.specs.{Rooms.roomLines, Judgement.runLines, Judgement.stepLines, Judgement.stepJudged, Judgement.finishLines, Judgement.finishJudged}
+use Rattle.refusals.specs.{Laws.Lines.below-bad, Laws.Lines.fine-adds-nothing, Laws.Lines.both-fine}
+use Rattle.engine.specs.{declared.answer.Ended.Ended, Finish.ended, Finish.concluded, Finish.finishOf, Laws.Runs.run-none, Laws.Runs.run-stops, Laws.Runs.run-takes}
+use Rattle.engine.specs.{Run.runOver, Laws.Verdict.handed-bad, Step.With, Step.stepped, Step.answered, Step.sizeLines, Step.stepVerdict, Step.stepAnswer}
+use Rattle.runs.specs.{Laws.Floats.step-floats, Laws.Floats.run-floats, Laws.Floats.end-floats}
+use Rattle.capi.specs.{Call.Call, Call.answerWord, Call.callOf, Call.unlessBad, Call.wordLines, Call.metricLines, Bars.StepLent, Bars.lentLines}
+use Rattle.capi.specs.{Bars.stepGives, Bars.stepCall, Finish.FinishLent, Finish.finishGives, Finish.finishCall, Fresh.freshCall, WordRun.callsOver}
+use Rattle.capi.specs.{WordRun.answerOf, WordRun.lentWith, WordRun.inWords, Laws.Calls.refused-word, Laws.RunCalls.step-small}
 use Rattle.metrics.specs.Figures as Figures
-use Rattle.records.specs.declared.settings.Settings.{Settings}
-use Rattle.records.specs.declared.state.State.{State}
-use Rattle.records.specs.Lent.{Rooms, Lists}
-use Rattle.records.specs.Settings.{settingsOf}
-use Rattle.records.specs.State.{freshState}
-use Rattle.records.specs.StateWords.{wordsOf}
-use Rattle.records.specs.Laws.RoundTrip.{Floats64, state-kept, state-again, fresh-floats}
-use Rattle.refusals.specs.declared.verdict.Verdict.{Verdict}
-use Rattle.refusals.specs.declared.verdict.Verdict.the-variants.{Fine, Bad}
-use Rattle.refusals.specs.Lines.{judged}
-use Rattle.refusals.specs.Rooms.{roomLines}
-use Rattle.refusals.specs.Judgement.{runLines, stepLines, stepJudged, finishLines, finishJudged}
-use Rattle.refusals.specs.Laws.Lines.{below-bad, fine-adds-nothing, both-fine}
-use Rattle.engine.specs.declared.answer.Ended.{Ended}
-use Rattle.engine.specs.Finish.{ended, concluded, finishOf}
-use Rattle.runs.specs.Laws.Floats.{step-floats, run-floats, end-floats}
-use Rattle.words.specs.Laws.Overwrite.{overwrite-length}
-use Rattle.engine.specs.Laws.Runs.{run-none, run-stops, run-takes}
-use Rattle.engine.specs.Run.{runOver}
-use Rattle.engine.specs.Laws.Verdict.{handed-bad}
-use Rattle.engine.specs.Step.{With, stepped, answered, sizeLines, stepVerdict, stepAnswer}
-use Rattle.capi.specs.Call.{Call, answerWord, callOf, unlessBad, wordLines, metricLines}
-use Rattle.capi.specs.Bars.{StepLent, lentLines, stepGives, stepCall}
-use Rattle.capi.specs.Finish.{FinishLent, finishGives, finishCall}
-use Rattle.capi.specs.Fresh.{freshCall}
-use Rattle.capi.specs.WordRun.{callsOver, answerOf, lentWith, inWords}
-use Rattle.capi.specs.Laws.Calls.{refused-word}
-use Rattle.capi.specs.Laws.RunCalls.{step-small}
 
 -- ---- rooms that have their words
 

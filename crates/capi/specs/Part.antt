@@ -1,18 +1,10 @@
 -- The call for a part of a dump. Definitions only.
-use Prim.Native.Nat.{ℕ}
-use mathlib.Core.List.{List}
-use lib.ListN.{length}
-use Rattle.words.specs.Words.{overwrite}
-use Rattle.words.specs.Outcome.{Outcome, gives, refuses}
-use Rattle.records.specs.Settings.{settingsOf}
-use Rattle.records.specs.StateWords.{stateOf}
-use Rattle.refusals.specs.declared.verdict.Verdict.{Verdict}
-use Rattle.refusals.specs.declared.verdict.Verdict.the-variants.{Fine, Bad}
-use Rattle.refusals.specs.Lines.{judged}
-use Rattle.dump.specs.Layout.{imageOf}
-use Rattle.dump.specs.Parts.{bytesFrom, partJudged}
-use Rattle.capi.specs.Call.{Call, callOf, unlessBad}
-use Rattle.capi.specs.Bars.{lentLines}
+use Rattle.words.specs.Prelude.{ℕ, List, length}
+use Rattle.words.specs.{Words.overwrite, Outcome.Outcome, Outcome.gives, Outcome.refuses}
+use Rattle.records.specs.{Settings.settingsOf, StateWords.stateOf}
+use Rattle.refusals.specs.{declared.verdict.Verdict.Verdict, declared.verdict.Verdict.the-variants.Fine, declared.verdict.Verdict.the-variants.Bad, Lines.judged}
+use Rattle.dump.specs.{Layout.imageOf, Parts.bytesFrom, Parts.partJudged}
+use Rattle.capi.specs.{Call.Call, Call.callOf, Call.unlessBad, Bars.lentLines}
 
 -- lent: the part, and how many of its bytes are the image's
 pub record PartLent : Type 0 where

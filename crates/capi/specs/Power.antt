@@ -1,23 +1,11 @@
 -- The calls for a loss of power: the dump and the restore (request 11). Definitions only.
-use Prim.Native.Nat.{ℕ}
-use mathlib.Core.List.{List}
-use Rattle.words.specs.Words.{overwrite}
-use Rattle.words.specs.Outcome.{Outcome, gives, refuses}
-use Rattle.records.specs.Settings.{settingsOf}
-use Rattle.records.specs.StateWords.{stateOf, wordsOf}
-use Rattle.refusals.specs.declared.verdict.Verdict.{Verdict}
-use Rattle.refusals.specs.declared.verdict.Verdict.the-variants.{Fine, Bad}
-use Rattle.refusals.specs.Lines.{judged}
-use Rattle.dump.specs.declared.reader.Restored.{Restored}
-use Rattle.dump.specs.declared.reader.Restored.the-variants.{Refused, Done}
-use Rattle.dump.specs.Layout.{imageOf}
-use Rattle.dump.specs.Order.{written}
-use Rattle.dump.specs.Reading.{windowIn}
-use Rattle.dump.specs.Refused.{dumpJudged, restoreJudged}
-use Rattle.dump.specs.Dumping.{leftBy}
-use Rattle.dump.specs.Restoring.{restoredBy}
-use Rattle.capi.specs.Call.{Call, callOf, unlessBad}
-use Rattle.capi.specs.Bars.{lentLines}
+use Rattle.words.specs.Prelude.{ℕ, List}
+use Rattle.words.specs.{Words.overwrite, Outcome.Outcome, Outcome.gives, Outcome.refuses}
+use Rattle.records.specs.{Settings.settingsOf, StateWords.stateOf, StateWords.wordsOf}
+use Rattle.refusals.specs.{declared.verdict.Verdict.Verdict, declared.verdict.Verdict.the-variants.Fine, declared.verdict.Verdict.the-variants.Bad, Lines.judged}
+use Rattle.dump.specs.{declared.reader.Restored.Restored, declared.reader.Restored.the-variants.Refused, declared.reader.Restored.the-variants.Done, Layout.imageOf}
+use Rattle.dump.specs.{Order.written, Reading.windowIn, Refused.dumpJudged, Refused.restoreJudged, Dumping.leftBy, Restoring.restoredBy}
+use Rattle.capi.specs.{Call.Call, Call.callOf, Call.unlessBad, Bars.lentLines}
 
 unfoldable pub dumpGives : Verdict → List ℕ → Outcome (List ℕ)
 dumpGives Fine after = gives after

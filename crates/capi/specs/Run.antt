@@ -1,21 +1,13 @@
 -- The calls that answer a rule. Definitions only.
-use Prim.Native.Nat.{ℕ}
-use mathlib.Core.Bool.{Bool, cond}
-use mathlib.Core.List.{List}
-use lib.Dec.{ltb}
-use Rattle.words.specs.Limits.{trees}
-use Rattle.words.specs.Outcome.{Outcome, gives, refuses}
-use Rattle.floats.specs.Floats.{floatOf}
-use Rattle.rules.specs.declared.position.PositionState.{PositionState}
-use Rattle.rules.specs.declared.answers.RuleAnswer.{RuleAnswer}
-use Rattle.rules.specs.declared.answers.RuleAnswer.the-variants.{Says, Refuses}
-use Rattle.rules.specs.Answers.{answered}
-use Rattle.steps.specs.declared.running.RunAnswer.{RunAnswer}
-use Rattle.steps.specs.declared.running.RunAnswer.the-variants.{Runs, Refuses as RunRefuses}
-use Rattle.steps.specs.Running.{runs}
-use Rattle.records.specs.StateWords.{enteredOf}
-use Rattle.capi.specs.Call.{Call, callOf, bitOf}
-use Rattle.capi.specs.Tables.{numberedTree}
+use Rattle.words.specs.Prelude.{ℕ, Bool, cond, List, ltb}
+use Rattle.words.specs.{Limits.trees, Outcome.Outcome, Outcome.gives, Outcome.refuses}
+use Rattle.floats.specs.{Floats.floatOf}
+use Rattle.rules.specs.{declared.position.PositionState.PositionState, declared.answers.RuleAnswer.RuleAnswer, declared.answers.RuleAnswer.the-variants.Says}
+use Rattle.rules.specs.{declared.answers.RuleAnswer.the-variants.Refuses, Answers.answered}
+use Rattle.steps.specs.{declared.running.RunAnswer.RunAnswer, declared.running.RunAnswer.the-variants.Runs}
+use Rattle.steps.specs.{declared.running.RunAnswer.the-variants.Refuses as RunRefuses, Running.runs}
+use Rattle.records.specs.{StateWords.enteredOf}
+use Rattle.capi.specs.{Call.Call, Call.callOf, Call.bitOf, Tables.numberedTree}
 
 -- a position state by its words
 unfoldable pub positionState : ℕ → ℕ → ℕ → ℕ → PositionState

@@ -1,15 +1,10 @@
 -- The calls for the high and the low of a stretch (request 10). Definitions only.
-use Prim.Native.Nat.{ℕ}
-use mathlib.Core.List.{List}
-use Rattle.words.specs.Outcome.{Outcome, gives, refuses}
-use Rattle.blocks.specs.declared.append.Added.{Added}
+use Rattle.words.specs.Prelude.{ℕ, List}
+use Rattle.words.specs.{Outcome.Outcome, Outcome.gives, Outcome.refuses}
+use Rattle.blocks.specs.{declared.append.Added.Added, declared.best.Best.Best, declared.stretch.Found.Found, Append.Append, Append.appended, Stretch.stretched}
+use Rattle.capi.specs.{Call.Call, Call.callOf}
 use Rattle.blocks.specs.declared.append.Added.the-variants as Added
-use Rattle.blocks.specs.declared.best.Best.{Best}
-use Rattle.blocks.specs.declared.stretch.Found.{Found}
 use Rattle.blocks.specs.declared.stretch.Found.the-variants as Found
-use Rattle.blocks.specs.Append.{Append, appended}
-use Rattle.blocks.specs.Stretch.{stretched}
-use Rattle.capi.specs.Call.{Call, callOf}
 
 -- ---- an append; lent: how many bars are held, their closes and their blocks
 

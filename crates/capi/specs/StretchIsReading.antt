@@ -1,22 +1,13 @@
 -- Request 10 in the words of the C calls: rooms filled from empty by ysh_append, each answered 0, and any ysh_stretch over bars that they hold.
-use Prim.Native.Nat.{ℕ, _+_, _-_, _<_, _≤_}
-use mathlib.Core.Path.{_≡_, refl, sym, ap, subst, _∙_}
-use mathlib.Core.List.{List, [], _∷_, _++_}
-use native.Mathlib.Omega.{arith}
-use Rattle.words.specs.Outcome.{gives}
-use Rattle.blocks.specs.declared.append.Added.{Added}
-use Rattle.blocks.specs.declared.append.Added.the-variants.{Held, Refused}
-use Rattle.blocks.specs.declared.best.Best.{Best}
-use Rattle.blocks.specs.declared.stretch.Found.{Found}
+use Rattle.words.specs.Prelude.{ℕ, _+_, _-_, _<_, _≤_, _≡_, refl, sym, ap, subst, _∙_, List, [], _∷_, _++_, arith}
+use Rattle.words.specs.{Outcome.gives}
+use Rattle.blocks.specs.{declared.append.Added.Added, declared.append.Added.the-variants.Held, declared.append.Added.the-variants.Refused, declared.best.Best.Best}
+use Rattle.blocks.specs.{declared.stretch.Found.Found, Append.Append, Append.appended, Reading.reading, Reading.HighAndLow, Stretch.stretched}
+use Rattle.blocks.specs.{Laws.Append.taken-has, Laws.Append.is-taken, StretchIsReading.Filled, StretchIsReading.empty, StretchIsReading.then}
+use Rattle.blocks.specs.{StretchIsReading.IsReading, StretchIsReading.stretch-is-reading}
+use Rattle.capi.specs.{Call.Call, Call.callOf, Stretch.BlockRooms, Stretch.appendGives, Stretch.appendCall, Stretch.stretchGives, Stretch.stretchCall}
+use Rattle.capi.specs.{Laws.StretchCalls.append-honest}
 use Rattle.blocks.specs.declared.stretch.Found.the-variants as Found
-use Rattle.blocks.specs.Append.{Append, appended}
-use Rattle.blocks.specs.Reading.{reading, HighAndLow}
-use Rattle.blocks.specs.Stretch.{stretched}
-use Rattle.blocks.specs.Laws.Append.{taken-has, is-taken}
-use Rattle.blocks.specs.StretchIsReading.{Filled, empty, then, IsReading, stretch-is-reading}
-use Rattle.capi.specs.Call.{Call, callOf}
-use Rattle.capi.specs.Stretch.{BlockRooms, appendGives, appendCall, stretchGives, stretchCall}
-use Rattle.capi.specs.Laws.StretchCalls.{append-honest}
 
 -- closes appended one after another, each call answered 0, to rooms with no bar held and any words
 pub data Appended : List ℕ → BlockRooms → Type 0 where

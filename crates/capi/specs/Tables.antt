@@ -1,26 +1,16 @@
 -- The calls over a rule table. Definitions only.
-use Prim.Native.Nat.{ℕ, _*_}
-use mathlib.Core.Bool.{cond}
-use mathlib.Core.List.{List}
-use lib.Dec.{leb, eqb}
-use lib.ListN.{length}
-use Rattle.words.specs.Limits.{trees}
-use Rattle.words.specs.Outcome.{Outcome, gives, refuses}
-use Rattle.table.specs.declared.answer.Answer.{Answer}
-use Rattle.table.specs.declared.answer.Answer.the-variants.{Accepted, Refused}
-use Rattle.needed.specs.declared.depth.DepthAnswer.{DepthAnswer}
-use Rattle.needed.specs.declared.depth.DepthAnswer.the-variants.{Needs, Refuses as DepthRefuses}
-use Rattle.table.specs.declared.silent.SilentAnswer.{SilentAnswer}
-use Rattle.table.specs.declared.silent.SilentAnswer.the-variants.{Lists, Refuses as SilentRefuses}
-use Rattle.table.specs.declared.trees.Tree.{Tree}
-use Rattle.table.specs.declared.trees.Tree.the-variants.{Entry, Exit, ShortEntry, ShortExit}
-use Rattle.table.specs.Checked.{checked}
-use Rattle.needed.specs.Depth.{depthAnswer}
-use Rattle.table.specs.Silent.{silentTests, silentAnswer, listAfter}
-use Rattle.steps.specs.declared.translated.Translated.{Translated}
-use Rattle.steps.specs.declared.translated.Translated.the-variants.{Writes, Refuses}
-use Rattle.steps.specs.Translating.{afterTable, translates, roomLeft}
-use Rattle.capi.specs.Call.{Call, callOf}
+use Rattle.words.specs.Prelude.{ℕ, _*_, cond, List, leb, eqb, length}
+use Rattle.words.specs.{Limits.trees, Outcome.Outcome, Outcome.gives, Outcome.refuses}
+use Rattle.table.specs.{declared.answer.Answer.Answer, declared.answer.Answer.the-variants.Accepted, declared.answer.Answer.the-variants.Refused}
+use Rattle.table.specs.{declared.silent.SilentAnswer.SilentAnswer, declared.silent.SilentAnswer.the-variants.Lists}
+use Rattle.table.specs.{declared.silent.SilentAnswer.the-variants.Refuses as SilentRefuses, declared.trees.Tree.Tree, declared.trees.Tree.the-variants.Entry}
+use Rattle.table.specs.{declared.trees.Tree.the-variants.Exit, declared.trees.Tree.the-variants.ShortEntry, declared.trees.Tree.the-variants.ShortExit}
+use Rattle.table.specs.{Checked.checked, Silent.silentTests, Silent.silentAnswer, Silent.listAfter}
+use Rattle.needed.specs.{declared.depth.DepthAnswer.DepthAnswer, declared.depth.DepthAnswer.the-variants.Needs}
+use Rattle.needed.specs.{declared.depth.DepthAnswer.the-variants.Refuses as DepthRefuses, Depth.depthAnswer}
+use Rattle.steps.specs.{declared.translated.Translated.Translated, declared.translated.Translated.the-variants.Writes}
+use Rattle.steps.specs.{declared.translated.Translated.the-variants.Refuses, Translating.afterTable, Translating.translates, Translating.roomLeft}
+use Rattle.capi.specs.{Call.Call, Call.callOf}
 
 -- a tree by its number; that of a higher number is absent, as each call says
 unfoldable pub numberedTree : ℕ → Tree

@@ -1,11 +1,9 @@
 -- The calls that keep exact totals. Definitions only.
-use Prim.Native.Nat.{ℕ}
-use mathlib.Core.List.{List}
-use Rattle.words.specs.Outcome.{Outcome, gives, refuses}
-use Rattle.totals.specs.declared.Answer.{Answer}
-use Rattle.totals.specs.declared.Answer.the-variants.{Done, Refused}
-use Rattle.totals.specs.Totals.{addAnswer, addLeaves, joinAnswer, joinLeaves}
-use Rattle.capi.specs.Call.{Call, callOf}
+use Rattle.words.specs.Prelude.{ℕ, List}
+use Rattle.words.specs.{Outcome.Outcome, Outcome.gives, Outcome.refuses}
+use Rattle.totals.specs.{declared.Answer.Answer, declared.Answer.the-variants.Done, declared.Answer.the-variants.Refused, Totals.addAnswer, Totals.addLeaves}
+use Rattle.totals.specs.{Totals.joinAnswer, Totals.joinLeaves}
+use Rattle.capi.specs.{Call.Call, Call.callOf}
 
 -- lent: the totals
 unfoldable pub totalsGives : Answer → List ℕ → Outcome (List ℕ)

@@ -1,17 +1,10 @@
 -- EXACT TOTALS IN C: every way to total the same trades by ysh_totals and ysh_totals_join answers 0 at every call and leaves the same 43 words.
-use Prim.Native.Nat.{ℕ, _≤_}
-use mathlib.Core.Path.{_≡_, refl, ap, _∙_}
-use mathlib.Core.List.{List}
-use lib.ListN.{length, replicate}
-use Rattle.words.specs.Limits.{mostCount}
-use Rattle.totals.specs.declared.Answer.{Answer}
-use Rattle.totals.specs.declared.Answer.the-variants.{Done, Refused}
-use Rattle.totals.specs.Totals.{totalWords, addAnswer, addLeaves, joinAnswer, joinLeaves}
-use Rattle.totals.specs.Ways.{Way, begin, add, join, made, AllDone, tradesIn, Whole, totalsOf}
-use Rattle.totals.specs.Laws.Trades.{Acceptable}
-use Rattle.totals.specs.ExactTotals.{exact-totals}
-use Rattle.capi.specs.Call.{Call, callOf}
-use Rattle.capi.specs.Totals.{totalsGives, totalsCall, joinCall}
+use Rattle.words.specs.Prelude.{ℕ, _≤_, _≡_, refl, ap, _∙_, List, length, replicate}
+use Rattle.words.specs.{Limits.mostCount}
+use Rattle.totals.specs.{declared.Answer.Answer, declared.Answer.the-variants.Done, declared.Answer.the-variants.Refused, Totals.totalWords, Totals.addAnswer}
+use Rattle.totals.specs.{Totals.addLeaves, Totals.joinAnswer, Totals.joinLeaves, Ways.Way, Ways.begin, Ways.add, Ways.join, Ways.made, Ways.AllDone, Ways.tradesIn}
+use Rattle.totals.specs.{Ways.Whole, Ways.totalsOf, Laws.Trades.Acceptable, ExactTotals.exact-totals}
+use Rattle.capi.specs.{Call.Call, Call.callOf, Totals.totalsGives, Totals.totalsCall, Totals.joinCall}
 
 -- the words that the calls of a way leave, begun with 43 zeros
 unfoldable pub calledBy : Way → List ℕ

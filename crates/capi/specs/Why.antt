@@ -1,12 +1,10 @@
 -- The call that says why a rule said yes or no. Definitions only.
-use Prim.Native.Nat.{ℕ}
-use mathlib.Core.List.{List}
-use Rattle.words.specs.Outcome.{Outcome, gives, refuses}
-use Rattle.rules.specs.declared.position.PositionState.{PositionState}
-use Rattle.chain.specs.declared.explain.Explained.{Explained}
-use Rattle.chain.specs.declared.explain.Explained.the-variants.{Lines, Refuses}
-use Rattle.chain.specs.Explained.{explanation, explained, linesAfter}
-use Rattle.capi.specs.Call.{Call, callOf}
+use Rattle.words.specs.Prelude.{ℕ, List}
+use Rattle.words.specs.{Outcome.Outcome, Outcome.gives, Outcome.refuses}
+use Rattle.rules.specs.{declared.position.PositionState.PositionState}
+use Rattle.chain.specs.{declared.explain.Explained.Explained, declared.explain.Explained.the-variants.Lines, declared.explain.Explained.the-variants.Refuses}
+use Rattle.chain.specs.{Explained.explanation, Explained.explained, Explained.linesAfter}
+use Rattle.capi.specs.{Call.Call, Call.callOf}
 
 -- ---- lent: how many lines there are, and the list of lines
 pub record WhyLent : Type 0 where

@@ -1,17 +1,10 @@
 -- A run through the C interface: a call of ysh_step for each bar, over the words that the one before left. Definitions only.
-use Prim.Native.Nat.{ℕ, _+_}
-use mathlib.Core.Bool.{cond}
-use mathlib.Core.List.{List, [], _∷_}
-use lib.Dec.{eqb}
-use Rattle.words.specs.Words.{overwrite}
-use Rattle.records.specs.declared.state.State.{State}
-use Rattle.records.specs.Lent.{Rooms, Lists}
-use Rattle.records.specs.StateWords.{wordsOf}
-use Rattle.refusals.specs.declared.verdict.Verdict.{Verdict}
-use Rattle.refusals.specs.declared.verdict.Verdict.the-variants.{Fine, Bad}
-use Rattle.engine.specs.Run.{Run}
-use Rattle.capi.specs.Bars.{StepLent, stepCall}
-use Rattle.capi.specs.Call.{answerWord}
+use Rattle.words.specs.Prelude.{ℕ, _+_, cond, List, [], _∷_, eqb}
+use Rattle.words.specs.{Words.overwrite}
+use Rattle.records.specs.{declared.state.State.State, Lent.Rooms, Lent.Lists, StateWords.wordsOf}
+use Rattle.refusals.specs.{declared.verdict.Verdict.Verdict, declared.verdict.Verdict.the-variants.Fine, declared.verdict.Verdict.the-variants.Bad}
+use Rattle.engine.specs.{Run.Run}
+use Rattle.capi.specs.{Bars.StepLent, Bars.stepCall, Call.answerWord}
 
 -- How many calls did their work, the answer of the one that ended the run (0 where all did), and what is left.
 pub record WordRun : Type 0 where

@@ -1,33 +1,14 @@
 -- The lines of a tree, and the answer of the call, case by case. Assumes nothing.
-use Prim.Native.Nat.{ℕ, _+_, _*_, _≤_, _<_}
-use mathlib.Core.Path.{_≡_, refl, sym, ap, _∙_}
-use mathlib.Core.Bool.{Bool, true, false}
-use mathlib.Core.List.{List, _++_}
-use native.Mathlib.Omega.{arith}
-use native.Mathlib.Nat.{zero-add}
-use lib.ListN.{length, drop}
-use borrow.Author.Tests.{lt-ltb, le-ltb, le-leb, lt-leb, eq-eqb, ne-eqb}
-use Rattle.words.specs.declared.refusal.Refusal.{Refusal}
-use Rattle.words.specs.Outcome.{refusal}
-use Rattle.rows.specs.History.{historyOf, wholeRows}
-use Rattle.table.specs.declared.answer.Answer.{Answer}
-use Rattle.table.specs.declared.answer.Answer.the-variants.{Accepted, Refused}
-use Rattle.table.specs.Bytes.{Bytes}
-use Rattle.table.specs.Header.{slots, count, root}
-use Rattle.table.specs.Checked.{checked}
-use Rattle.table.specs.Ends.{endsBeside}
-use Rattle.rules.specs.declared.position.PositionState.{PositionState}
-use Rattle.rules.specs.Meaning.{newest}
-use Rattle.rules.specs.Flat.{conditionAt}
-use Rattle.rules.specs.Answers.{stateRight}
-use Rattle.chain.specs.declared.explain.Explained.the-variants.{Lines, Refuses}
-use Rattle.chain.specs.Chain.{chain}
-use Rattle.chain.specs.Lines.{chainWords, putLines}
-use Rattle.chain.specs.Explained.{explanation, explainedBy, explained, linesAfter}
-use Rattle.chain.specs.Flat.{byEnds, flatExplanation}
-use Rattle.chain.specs.Laws.Numbered.{explanation-found}
-use Rattle.chain.specs.Laws.Lines.{lines-put}
-use Rattle.chain.specs.Laws.Short.{few-lines}
+use Rattle.words.specs.Prelude.{ℕ, _+_, _*_, _≤_, _<_, _≡_, refl, sym, ap, _∙_, Bool, true, false, List, _++_, arith, zero-add, length, drop, lt-ltb, le-ltb}
+use Rattle.words.specs.Prelude.{le-leb, lt-leb, eq-eqb, ne-eqb}
+use Rattle.words.specs.{declared.refusal.Refusal.Refusal, Outcome.refusal}
+use Rattle.rows.specs.{History.historyOf, History.wholeRows}
+use Rattle.table.specs.{declared.answer.Answer.Answer, declared.answer.Answer.the-variants.Accepted, declared.answer.Answer.the-variants.Refused, Bytes.Bytes}
+use Rattle.table.specs.{Header.slots, Header.count, Header.root, Checked.checked, Ends.endsBeside}
+use Rattle.rules.specs.{declared.position.PositionState.PositionState, Meaning.newest, Flat.conditionAt, Answers.stateRight}
+use Rattle.chain.specs.{declared.explain.Explained.the-variants.Lines, declared.explain.Explained.the-variants.Refuses, Chain.chain, Lines.chainWords}
+use Rattle.chain.specs.{Lines.putLines, Explained.explanation, Explained.explainedBy, Explained.explained, Explained.linesAfter, Flat.byEnds}
+use Rattle.chain.specs.{Flat.flatExplanation, Laws.Numbered.explanation-found, Laws.Lines.lines-put, Laws.Short.few-lines}
 
 module _ (t ends : List ℕ) (x : ℕ) (rows : List ℕ) (s : PositionState) (list : List ℕ) where
   -- no such tree

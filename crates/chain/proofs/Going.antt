@@ -1,18 +1,9 @@
 -- Where the chain goes from a node. Assumes nothing.
-use Prim.Native.Nat.{ℕ, zero, suc, _-_, _<_, _≤_}
-use mathlib.Core.Path.{_≡_, refl}
-use mathlib.Core.Bool.{Bool, true, false, Bool·beq}
-use mathlib.Core.List.{List}
-use native.Mathlib.Omega.{arith}
-use native.Mathlib.Numerals.{sub-one}
-use Rattle.rows.specs.History.{History}
-use Rattle.rules.specs.declared.position.PositionState.{PositionState}
-use Rattle.rules.specs.declared.shapes.ConditionShape.{ConditionShape}
-use Rattle.rules.specs.Meaning.{holds}
-use Rattle.rules.specs.Shapes.{endIn, conditionShape}
-use Rattle.rules.specs.Flat.{conditionAt}
-use Rattle.chain.specs.declared.walk.Next.the-variants.{Stop, Node}
-use Rattle.chain.specs.Flat.{firstAt, nextBy, nextAt}
+use Rattle.words.specs.Prelude.{ℕ, zero, suc, _-_, _<_, _≤_, _≡_, refl, Bool, true, false, Bool·beq, List, arith, sub-one}
+use Rattle.rows.specs.{History.History}
+use Rattle.rules.specs.{declared.position.PositionState.PositionState, declared.shapes.ConditionShape.ConditionShape, Meaning.holds, Shapes.endIn}
+use Rattle.rules.specs.{Shapes.conditionShape, Flat.conditionAt}
+use Rattle.chain.specs.{declared.walk.Next.the-variants.Stop, declared.walk.Next.the-variants.Node, Flat.firstAt, Flat.nextBy, Flat.nextAt}
 
 -- the first of a row of conditions gives the answer, does not, or is not there
 module _ (ends : List ℕ) (says : ℕ → Bool) (answer : Bool) (n j : ℕ) where

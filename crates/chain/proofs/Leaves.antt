@@ -1,21 +1,14 @@
 -- The first missing leaf at a node, by the node's shape. Assumes nothing.
-use Prim.Native.Nat.{ℕ, _+_, _-_}
-use mathlib.Core.Path.{_≡_, refl, sym, ap, _∙_}
-use mathlib.Core.Bool.{Bool, true, false}
-use mathlib.Core.List.{List}
-use native.Mathlib.Omega.{arith}
-use Rattle.rows.specs.History.{History}
-use Rattle.table.specs.declared.series.Series.{Series}
-use Rattle.table.specs.Series.{asOperand, seriesIn}
-use Rattle.rules.specs.declared.shapes.OperandShape.{OperandShape}
-use Rattle.rules.specs.declared.shapes.OperandShape.the-variants.{Const, Ref, Price, Prev, Arith, Extreme, NoOperand}
-use Rattle.rules.specs.Shapes.{operandShape}
-use Rattle.rules.specs.Flat.{growOperand, operandAt}
-use Rattle.rules.proofs.Grown.{no-operand, grown-operand}
-use Rattle.chain.specs.declared.missing.Found.{Found}
-use Rattle.chain.specs.Missing.{firstFound, leafGone, newestGone, missingIn}
-use Rattle.chain.specs.Flat.{byEnds}
-use Rattle.chain.specs.Laws.Shapes.{OperandPlaced, operand-placed}
+use Rattle.words.specs.Prelude.{ℕ, _+_, _-_, _≡_, refl, sym, ap, _∙_, Bool, true, false, List, arith}
+use Rattle.rows.specs.{History.History}
+use Rattle.table.specs.{declared.series.Series.Series, Series.asOperand, Series.seriesIn}
+use Rattle.rules.specs.{declared.shapes.OperandShape.OperandShape, declared.shapes.OperandShape.the-variants.Const, declared.shapes.OperandShape.the-variants.Ref}
+use Rattle.rules.specs.{declared.shapes.OperandShape.the-variants.Price, declared.shapes.OperandShape.the-variants.Prev}
+use Rattle.rules.specs.{declared.shapes.OperandShape.the-variants.Arith, declared.shapes.OperandShape.the-variants.Extreme}
+use Rattle.rules.specs.{declared.shapes.OperandShape.the-variants.NoOperand, Shapes.operandShape, Flat.growOperand, Flat.operandAt}
+use Rattle.rules.proofs.{Grown.no-operand, Grown.grown-operand}
+use Rattle.chain.specs.{declared.missing.Found.Found, Missing.firstFound, Missing.leafGone, Missing.newestGone, Missing.missingIn, Flat.byEnds}
+use Rattle.chain.specs.{Laws.Shapes.OperandPlaced, Laws.Shapes.operand-placed}
 
 -- the shapes that have nothing below them
 unfoldable pub isLeaf : OperandShape → Bool

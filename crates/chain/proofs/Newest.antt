@@ -1,20 +1,11 @@
 -- A price or a slot some bars back, and the newest bar at which it is missing. Assumes nothing.
-use Prim.Native.Nat.{ℕ, zero, suc, _+_, _-_, _<_, _≤_}
-use mathlib.Core.Path.{_≡_, refl, _∙_}
-use native.Mathlib.Omega.{arith}
-use native.Mathlib.Numerals.{sub-one}
-use borrow.Author.Tests.{lt-ltb, le-ltb}
-use Rattle.rows.specs.History.{History}
-use Rattle.table.specs.declared.series.Series.{Series}
-use Rattle.table.specs.declared.series.Series.the-variants.{Price, Slot}
-use Rattle.table.specs.Series.{asOperand}
-use Rattle.table.specs.Trees.{Operand}
-use Rattle.rules.specs.declared.values.Value.{Value}
-use Rattle.rules.specs.Values.{slotOf}
-use Rattle.rules.specs.Laws.Meaning.{past, price-value, ref-value}
-use Rattle.chain.specs.declared.missing.Found.{Found}
-use Rattle.chain.specs.declared.missing.Found.the-variants.{Nowhere, Leaf}
-use Rattle.chain.specs.Missing.{firstFound, goneIf, leafGone, newestGone}
+use Rattle.words.specs.Prelude.{ℕ, zero, suc, _+_, _-_, _<_, _≤_, _≡_, refl, _∙_, arith, sub-one, lt-ltb, le-ltb}
+use Rattle.rows.specs.{History.History}
+use Rattle.table.specs.{declared.series.Series.Series, declared.series.Series.the-variants.Price, declared.series.Series.the-variants.Slot, Series.asOperand}
+use Rattle.table.specs.{Trees.Operand}
+use Rattle.rules.specs.{declared.values.Value.Value, Values.slotOf, Laws.Meaning.past, Laws.Meaning.price-value, Laws.Meaning.ref-value}
+use Rattle.chain.specs.{declared.missing.Found.Found, declared.missing.Found.the-variants.Nowhere, declared.missing.Found.the-variants.Leaf}
+use Rattle.chain.specs.{Missing.firstFound, Missing.goneIf, Missing.leafGone, Missing.newestGone}
 
 module _ (h : History) (over : Series) (i bar back : ℕ) where
   pub series-early : bar < back → Leaf i back ≡ leafGone h (asOperand over) i bar back

@@ -1,26 +1,18 @@
 -- What the line of a node shows, by the node's shape. Assumes nothing.
-use Prim.Native.Nat.{ℕ, _-_}
-use mathlib.Core.Path.{_≡_, sym, _∙_}
-use mathlib.Core.Bool.{Bool, true, false, cond}
-use mathlib.Core.List.{List, [], _∷_}
-use lib.Dec.{eqb, ltb}
-use Rattle.rows.specs.History.{History}
-use Rattle.rules.specs.declared.values.Value.{Value}
-use Rattle.rules.specs.declared.position.PositionState.{PositionState}
-use Rattle.rules.specs.declared.shapes.ConditionShape.{ConditionShape}
-use Rattle.rules.specs.declared.shapes.ConditionShape.the-variants.{Compare, Cross, Between, Trend, Group, Not, InPosition, BarsSince, NoCondition}
-use Rattle.rules.specs.Meaning.{value}
-use Rattle.rules.specs.Shapes.{conditionShape}
-use Rattle.rules.specs.Flat.{operandAt, group, growCondition, conditionAt}
-use Rattle.rules.proofs.Grown.{no-condition, grown-condition}
-use Rattle.chain.specs.declared.missing.Found.{Found}
-use Rattle.chain.specs.declared.missing.Found.the-variants.{Nowhere, Leaf}
-use Rattle.chain.specs.declared.shown.Detail.{Detail}
-use Rattle.chain.specs.Missing.{firstFound, missingIn, missingInTwo, missingInThree}
-use Rattle.chain.specs.Chain.{shownBy, shownSince, shown, atFirstBar, tooFewBars}
-use Rattle.chain.specs.Lines.{valueWord, valueWords, detail, detailOf, leafOr}
-use Rattle.chain.specs.Flat.{byEnds}
-use Rattle.chain.specs.Laws.Shapes.{ConditionPlaced, condition-placed}
+use Rattle.words.specs.Prelude.{ℕ, _-_, _≡_, sym, _∙_, Bool, true, false, cond, List, [], _∷_, eqb, ltb}
+use Rattle.rows.specs.{History.History}
+use Rattle.rules.specs.{declared.values.Value.Value, declared.position.PositionState.PositionState, declared.shapes.ConditionShape.ConditionShape}
+use Rattle.rules.specs.{declared.shapes.ConditionShape.the-variants.Compare, declared.shapes.ConditionShape.the-variants.Cross}
+use Rattle.rules.specs.{declared.shapes.ConditionShape.the-variants.Between, declared.shapes.ConditionShape.the-variants.Trend}
+use Rattle.rules.specs.{declared.shapes.ConditionShape.the-variants.Group, declared.shapes.ConditionShape.the-variants.Not}
+use Rattle.rules.specs.{declared.shapes.ConditionShape.the-variants.InPosition, declared.shapes.ConditionShape.the-variants.BarsSince}
+use Rattle.rules.specs.{declared.shapes.ConditionShape.the-variants.NoCondition, Meaning.value, Shapes.conditionShape, Flat.operandAt, Flat.group}
+use Rattle.rules.specs.{Flat.growCondition, Flat.conditionAt}
+use Rattle.rules.proofs.{Grown.no-condition, Grown.grown-condition}
+use Rattle.chain.specs.{declared.missing.Found.Found, declared.missing.Found.the-variants.Nowhere, declared.missing.Found.the-variants.Leaf}
+use Rattle.chain.specs.{declared.shown.Detail.Detail, Missing.firstFound, Missing.missingIn, Missing.missingInTwo, Missing.missingInThree, Chain.shownBy}
+use Rattle.chain.specs.{Chain.shownSince, Chain.shown, Chain.atFirstBar, Chain.tooFewBars, Lines.valueWord, Lines.valueWords, Lines.detail, Lines.detailOf}
+use Rattle.chain.specs.{Lines.leafOr, Flat.byEnds, Laws.Shapes.ConditionPlaced, Laws.Shapes.condition-placed}
 
 -- the values, by their words, or the missing leaf
 pub two-shown : (g : Found) (x y : Value) (r : Detail) (p q : ℕ) → p ≡ valueWord x → q ≡ valueWord y

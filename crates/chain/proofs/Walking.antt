@@ -1,19 +1,10 @@
 -- The lines that a walk has written. Assumes nothing.
-use Prim.Native.Nat.{ℕ, _+_, _-_, _*_}
-use mathlib.Core.Path.{_≡_, sym, _∙_}
-use mathlib.Core.List.{List}
-use native.Mathlib.Omega.{arith}
-use lib.ListN.{length}
-use Rattle.words.specs.Words.{overwrite}
-use Rattle.rows.specs.History.{History}
-use Rattle.rules.specs.declared.position.PositionState.{PositionState}
-use Rattle.rules.specs.Flat.{conditionAt}
-use Rattle.chain.specs.declared.walk.Next.{Next}
-use Rattle.chain.specs.declared.walk.Next.the-variants.{Stop, Node}
-use Rattle.chain.specs.Chain.{lineAt, chain}
-use Rattle.chain.specs.Lines.{lineWords, putLines}
-use Rattle.chain.specs.Flat.{byEnds, nextAt}
-use Rattle.chain.specs.Laws.Steps.{chain-stops, chain-goes}
+use Rattle.words.specs.Prelude.{ℕ, _+_, _-_, _*_, _≡_, sym, _∙_, List, arith, length}
+use Rattle.words.specs.{Words.overwrite}
+use Rattle.rows.specs.{History.History}
+use Rattle.rules.specs.{declared.position.PositionState.PositionState, Flat.conditionAt}
+use Rattle.chain.specs.{declared.walk.Next.Next, declared.walk.Next.the-variants.Stop, declared.walk.Next.the-variants.Node, Chain.lineAt, Chain.chain}
+use Rattle.chain.specs.{Lines.lineWords, Lines.putLines, Flat.byEnds, Flat.nextAt, Laws.Steps.chain-stops, Laws.Steps.chain-goes}
 
 module _ (t ends : List ℕ) (h : History) (s : PositionState) (bar left i at : ℕ) (before after : List ℕ) (next : Next)
     (wrote : after ≡ overwrite before (8 * at) (lineWords (lineAt (byEnds ends) h s (conditionAt left t ends i) i bar)))

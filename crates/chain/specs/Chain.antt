@@ -1,20 +1,12 @@
 -- "the chain of nodes from the root to what decided". Definitions only.
-use Prim.Native.Nat.{ℕ, _+_, _-_}
-use mathlib.Core.Bool.{Bool, true, false, cond, Bool·beq}
-use mathlib.Core.List.{List, [], _∷_}
-use lib.Dec.{ltb, eqb}
-use Rattle.rows.specs.History.{History}
-use Rattle.table.specs.Trees.{Condition, Conditions, compare, cross, between, trend, every, any, negated, inPosition, barsSince, none, more}
-use Rattle.table.specs.Writing.{nodesOf}
-use Rattle.rules.specs.declared.values.Value.{Value}
-use Rattle.rules.specs.declared.position.Entered.{Entered}
-use Rattle.rules.specs.declared.position.Entered.the-variants.{Never, Bar}
-use Rattle.rules.specs.declared.position.PositionState.{PositionState}
-use Rattle.rules.specs.Values.{held}
-use Rattle.rules.specs.Meaning.{value, holds}
-use Rattle.chain.specs.declared.missing.Found.{Found}
-use Rattle.chain.specs.declared.missing.Found.the-variants.{Nowhere, Leaf}
-use Rattle.chain.specs.Missing.{Numbering, firstFound, missingIn, missingInTwo, missingInThree}
+use Rattle.words.specs.Prelude.{ℕ, _+_, _-_, Bool, true, false, cond, Bool·beq, List, [], _∷_, ltb, eqb}
+use Rattle.rows.specs.{History.History}
+use Rattle.table.specs.{Trees.Condition, Trees.Conditions, Trees.compare, Trees.cross, Trees.between, Trees.trend, Trees.every, Trees.any, Trees.negated}
+use Rattle.table.specs.{Trees.inPosition, Trees.barsSince, Trees.none, Trees.more, Writing.nodesOf}
+use Rattle.rules.specs.{declared.values.Value.Value, declared.position.Entered.Entered, declared.position.Entered.the-variants.Never}
+use Rattle.rules.specs.{declared.position.Entered.the-variants.Bar, declared.position.PositionState.PositionState, Values.held, Meaning.value, Meaning.holds}
+use Rattle.chain.specs.{declared.missing.Found.Found, declared.missing.Found.the-variants.Nowhere, declared.missing.Found.the-variants.Leaf}
+use Rattle.chain.specs.{Missing.Numbering, Missing.firstFound, Missing.missingIn, Missing.missingInTwo, Missing.missingInThree}
 
 -- What a line shows.
 pub data Shown : Type 0 where

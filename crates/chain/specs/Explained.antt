@@ -1,25 +1,12 @@
 -- The chain of a tree of a table over rows and a position state, refusals and all. Definitions only.
-use Prim.Native.Nat.{ℕ, _*_}
-use mathlib.Core.Bool.{cond, _&&_}
-use mathlib.Core.List.{List, [], _++_}
-use lib.Dec.{ltb, leb, eqb}
-use lib.ListN.{length, drop}
-use Rattle.words.specs.Limits.{trees}
-use Rattle.words.specs.Outcome.{refusal}
-use Rattle.rows.specs.History.{historyOf, wholeRows}
-use Rattle.table.specs.declared.answer.Answer.{Answer}
-use Rattle.table.specs.declared.answer.Answer.the-variants.{Accepted, Refused}
-use Rattle.table.specs.Header.{slots, count, root}
-use Rattle.table.specs.Checked.{checked}
-use Rattle.table.specs.Reading.{treeOf}
-use Rattle.rules.specs.declared.position.PositionState.{PositionState}
-use Rattle.rules.specs.Meaning.{newest}
-use Rattle.rules.specs.Answers.{stateRight}
-use Rattle.chain.specs.declared.explain.Explained.{Explained}
-use Rattle.chain.specs.declared.explain.Explained.the-variants.{Lines, Refuses}
-use Rattle.chain.specs.Missing.{inTable}
-use Rattle.chain.specs.Chain.{ChainLine, chain}
-use Rattle.chain.specs.Lines.{lineLength, chainWords}
+use Rattle.words.specs.Prelude.{ℕ, _*_, cond, _&&_, List, [], _++_, ltb, leb, eqb, length, drop}
+use Rattle.words.specs.{Limits.trees, Outcome.refusal}
+use Rattle.rows.specs.{History.historyOf, History.wholeRows}
+use Rattle.table.specs.{declared.answer.Answer.Answer, declared.answer.Answer.the-variants.Accepted, declared.answer.Answer.the-variants.Refused, Header.slots}
+use Rattle.table.specs.{Header.count, Header.root, Checked.checked, Reading.treeOf}
+use Rattle.rules.specs.{declared.position.PositionState.PositionState, Meaning.newest, Answers.stateRight}
+use Rattle.chain.specs.{declared.explain.Explained.Explained, declared.explain.Explained.the-variants.Lines, declared.explain.Explained.the-variants.Refuses}
+use Rattle.chain.specs.{Missing.inTable, Chain.ChainLine, Chain.chain, Lines.lineLength, Lines.chainWords}
 
 -- "Given a table, rows and position state, list the chain of nodes from the root to what decided": at the newest bar, and with the
 -- table's own node numbers. "an absent tree has no lines"; a number above 3 names no tree.

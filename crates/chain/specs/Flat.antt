@@ -1,21 +1,17 @@
 -- The chain as the code finds it on the flat table, whatever its bytes are. Definitions only.
-use Prim.Native.Nat.{ℕ, zero, suc}
-use lib.Dec.{leb, eqb}
-use mathlib.Core.Bool.{Bool, not, cond, Bool·beq}
-use mathlib.Core.List.{List, []}
-use Rattle.words.specs.Limits.{trees, mostNesting}
-use Rattle.rows.specs.History.{History, historyOf}
-use Rattle.table.specs.Header.{slots, count, root}
-use Rattle.rules.specs.declared.position.PositionState.{PositionState}
-use Rattle.rules.specs.declared.shapes.ConditionShape.{ConditionShape}
-use Rattle.rules.specs.declared.shapes.ConditionShape.the-variants.{Compare, Cross, Between, Trend, Group, Not, InPosition, BarsSince, NoCondition}
-use Rattle.rules.specs.Meaning.{newest, holds}
-use Rattle.rules.specs.Shapes.{endIn, conditionShape}
-use Rattle.rules.specs.Flat.{conditionAt}
-use Rattle.chain.specs.declared.walk.Next.{Next}
-use Rattle.chain.specs.declared.walk.Next.the-variants.{Stop, Node}
-use Rattle.chain.specs.Missing.{Numbering}
-use Rattle.chain.specs.Chain.{ChainLine, chain}
+use Rattle.words.specs.Prelude.{ℕ, zero, suc, leb, eqb, Bool, not, cond, Bool·beq, List, []}
+use Rattle.words.specs.{Limits.trees, Limits.mostNesting}
+use Rattle.rows.specs.{History.History, History.historyOf}
+use Rattle.table.specs.{Header.slots, Header.count, Header.root}
+use Rattle.rules.specs.{declared.position.PositionState.PositionState, declared.shapes.ConditionShape.ConditionShape}
+use Rattle.rules.specs.{declared.shapes.ConditionShape.the-variants.Compare, declared.shapes.ConditionShape.the-variants.Cross}
+use Rattle.rules.specs.{declared.shapes.ConditionShape.the-variants.Between, declared.shapes.ConditionShape.the-variants.Trend}
+use Rattle.rules.specs.{declared.shapes.ConditionShape.the-variants.Group, declared.shapes.ConditionShape.the-variants.Not}
+use Rattle.rules.specs.{declared.shapes.ConditionShape.the-variants.InPosition, declared.shapes.ConditionShape.the-variants.BarsSince}
+use Rattle.rules.specs.{declared.shapes.ConditionShape.the-variants.NoCondition, Meaning.newest, Meaning.holds, Shapes.endIn, Shapes.conditionShape}
+use Rattle.rules.specs.{Flat.conditionAt}
+use Rattle.chain.specs.{declared.walk.Next.Next, declared.walk.Next.the-variants.Stop, declared.walk.Next.the-variants.Node, Missing.Numbering}
+use Rattle.chain.specs.{Chain.ChainLine, Chain.chain}
 
 -- nodes numbered by the checker's array of subtree ends
 unfoldable pub byEnds : List ℕ → Numbering

@@ -1,16 +1,11 @@
 -- The words of a line, and of a list of lines. Definitions only.
-use Prim.Native.Nat.{ℕ, _+_, _*_}
-use mathlib.Core.Bool.{Bool, cond}
-use mathlib.Core.List.{List, [], _∷_, _++_}
-use lib.ListN.{length, getD}
-use Rattle.words.specs.Words.{overwrite}
-use Rattle.floats.specs.Floats.{wordOf}
-use Rattle.rules.specs.declared.values.Value.{Value}
-use Rattle.rules.specs.declared.values.Value.the-variants.{Missing, Number}
-use Rattle.chain.specs.declared.shown.Detail.{Detail}
-use Rattle.chain.specs.declared.missing.Found.{Found}
-use Rattle.chain.specs.declared.missing.Found.the-variants.{Nowhere, Leaf}
-use Rattle.chain.specs.Chain.{Shown, link, values, missing, atFirstBar, tooFewBars, position, sinceEntry, noEntry, ChainLine}
+use Rattle.words.specs.Prelude.{ℕ, _+_, _*_, Bool, cond, List, [], _∷_, _++_, length, getD}
+use Rattle.words.specs.{Words.overwrite}
+use Rattle.floats.specs.{Floats.wordOf}
+use Rattle.rules.specs.{declared.values.Value.Value, declared.values.Value.the-variants.Missing, declared.values.Value.the-variants.Number}
+use Rattle.chain.specs.{declared.shown.Detail.Detail, declared.missing.Found.Found, declared.missing.Found.the-variants.Nowhere}
+use Rattle.chain.specs.{declared.missing.Found.the-variants.Leaf, Chain.Shown, Chain.link, Chain.values, Chain.missing, Chain.atFirstBar, Chain.tooFewBars}
+use Rattle.chain.specs.{Chain.position, Chain.sinceEntry, Chain.noEntry, Chain.ChainLine}
 
 -- a value's word; one that is missing, which a line of values never has, would be 0
 unfoldable pub valueWord : Value → ℕ

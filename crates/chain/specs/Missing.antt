@@ -1,16 +1,9 @@
 -- "the first missing leaf in table order .. and how many bars back it looked". Definitions only.
-use Prim.Native.Nat.{ℕ, zero, suc, _+_, _-_, _*_, _≤_}
-use mathlib.Core.Bool.{cond}
-use lib.Dec.{ltb}
-use Rattle.rows.specs.History.{History}
-use Rattle.table.specs.Series.{asOperand}
-use Rattle.table.specs.Trees.{Operand, const, ref, price, prev, arith, extreme}
-use Rattle.table.specs.Writing.{nodesIn}
-use Rattle.rules.specs.declared.values.Value.{Value}
-use Rattle.rules.specs.declared.values.Value.the-variants.{Missing, Number}
-use Rattle.rules.specs.Meaning.{value}
-use Rattle.chain.specs.declared.missing.Found.{Found}
-use Rattle.chain.specs.declared.missing.Found.the-variants.{Nowhere, Leaf}
+use Rattle.words.specs.Prelude.{ℕ, zero, suc, _+_, _-_, _*_, _≤_, cond, ltb}
+use Rattle.rows.specs.{History.History}
+use Rattle.table.specs.{Series.asOperand, Trees.Operand, Trees.const, Trees.ref, Trees.price, Trees.prev, Trees.arith, Trees.extreme, Writing.nodesIn}
+use Rattle.rules.specs.{declared.values.Value.Value, declared.values.Value.the-variants.Missing, declared.values.Value.the-variants.Number, Meaning.value}
+use Rattle.chain.specs.{declared.missing.Found.Found, declared.missing.Found.the-variants.Nowhere, declared.missing.Found.the-variants.Leaf}
 
 -- How nodes are numbered: the number just past a subtree of so many nodes that begins at node j.
 abbrev pub Numbering : Type 0

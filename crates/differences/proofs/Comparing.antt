@@ -1,19 +1,9 @@
 -- What the comparison answers and leaves, from what was counted: one law for each way out.
-use Prim.Native.Nat.{ℕ, _+_, _*_, _≤_, min}
-use mathlib.Core.Path.{_≡_, refl, sym, ap, _∙_}
-use mathlib.Core.Bool.{true, false}
-use mathlib.Core.List.{List, [], _∷_}
-use native.Mathlib.Omega.{arith}
-use borrow.Author.Tests.{leb-true}
-use lib.Dec.{leb}
-use lib.ListN.{length}
-use Rattle.words.specs.Words.{overwrite}
-use Rattle.differences.specs.declared.compare.Compared.{Compared}
-use Rattle.differences.specs.declared.compare.Compared.the-variants.{Lines}
-use Rattle.differences.specs.Lines.{Line, points, firstPoint, wordLines, differencesFrom, differences, wordsOf}
-use Rattle.differences.specs.Compared.{Comparison, whole, refused, written, compared}
-use Rattle.differences.specs.Laws.Counted.{fewLines, all-lines}
-use Rattle.differences.specs.Laws.Written.{none-written}
+use Rattle.words.specs.Prelude.{ℕ, _+_, _*_, _≤_, min, _≡_, refl, sym, ap, _∙_, true, false, List, [], _∷_, arith, leb-true, leb, length}
+use Rattle.words.specs.{Words.overwrite}
+use Rattle.differences.specs.{declared.compare.Compared.Compared, declared.compare.Compared.the-variants.Lines, Lines.Line, Lines.points, Lines.firstPoint}
+use Rattle.differences.specs.{Lines.wordLines, Lines.differencesFrom, Lines.differences, Lines.wordsOf, Compared.Comparison, Compared.whole, Compared.refused}
+use Rattle.differences.specs.{Compared.written, Compared.compared, Laws.Counted.fewLines, Laws.Counted.all-lines, Laws.Written.none-written}
 
 no-lines : (ls : List Line) → length ls ≡ 0 → ls ≡ []
 no-lines [] e = refl

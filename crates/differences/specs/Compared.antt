@@ -1,15 +1,8 @@
 -- The comparison and its refusals. Definitions only.
-use Prim.Native.Nat.{ℕ, _*_, _%_}
-use mathlib.Core.Bool.{Bool, cond, _&&_}
-use mathlib.Core.List.{List}
-use lib.Dec.{eqb, leb}
-use lib.ListN.{length}
-use Rattle.words.specs.Limits.{pointWords, tradeWords}
-use Rattle.words.specs.Outcome.{refusal}
-use Rattle.words.specs.Words.{overwrite}
-use Rattle.differences.specs.declared.compare.Compared.{Compared}
-use Rattle.differences.specs.declared.compare.Compared.the-variants.{Lines, Refused}
-use Rattle.differences.specs.Lines.{Line, lineWords, differences, wordsOf}
+use Rattle.words.specs.Prelude.{ℕ, _*_, _%_, Bool, cond, _&&_, List, eqb, leb, length}
+use Rattle.words.specs.{Limits.pointWords, Limits.tradeWords, Outcome.refusal, Words.overwrite}
+use Rattle.differences.specs.{declared.compare.Compared.Compared, declared.compare.Compared.the-variants.Lines}
+use Rattle.differences.specs.{declared.compare.Compared.the-variants.Refused, Lines.Line, Lines.lineWords, Lines.differences, Lines.wordsOf}
 
 -- the answer, and the room of the lines as it is left
 pub record Comparison : Type 0 where

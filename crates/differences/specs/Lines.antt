@@ -1,10 +1,6 @@
 -- What differs between two runs, as lines. Definitions only.
-use Prim.Native.Nat.{ℕ, zero, suc, _+_, _*_, _/_, _%_, min}
-use mathlib.Core.Bool.{cond}
-use mathlib.Core.List.{List, [], _∷_, _++_}
-use lib.Dec.{eqb, ltb}
-use lib.ListN.{getD, length}
-use Rattle.words.specs.Limits.{pointWords, tradeWords}
+use Rattle.words.specs.Prelude.{ℕ, zero, suc, _+_, _*_, _/_, _%_, min, cond, List, [], _∷_, _++_, eqb, ltb, getD, length}
+use Rattle.words.specs.{Limits.pointWords, Limits.tradeWords}
 
 -- decided: a line is five words: its sort, a number, a word, the first run's and the second run's
 pub record Line : Type 0 where

@@ -1,11 +1,7 @@
 -- What may be said of two runs, and what a list of lines must be to say all of it and nothing else. Definitions only.
-use Prim.Native.Nat.{ℕ, _*_, _<_, _≤_, min}
-use mathlib.Core.Path.{_≡_}
-use mathlib.Core.List.{List, [], _∷_, List·Memᴰ}
-use lib.ListN.{length}
-use Rattle.words.specs.Limits.{tradeWords}
-use Rattle.words.specs.Words.{overwrite}
-use Rattle.differences.specs.Lines.{Line, line, points, trades, equityAt, tradeWord, lineWords, wordsOf}
+use Rattle.words.specs.Prelude.{ℕ, _*_, _<_, _≤_, min, _≡_, List, [], _∷_, List·Memᴰ, length}
+use Rattle.words.specs.{Limits.tradeWords, Words.overwrite}
+use Rattle.differences.specs.{Lines.Line, Lines.line, Lines.points, Lines.trades, Lines.equityAt, Lines.tradeWord, Lines.lineWords, Lines.wordsOf}
 
 -- the lines that are true of two runs
 pub data Says (e t e′ t′ : List ℕ) (l : Line) : Type 0 where

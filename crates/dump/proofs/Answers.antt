@@ -1,28 +1,13 @@
 -- What a dump, a part and a restore answer and leave, refused or done.
-use Prim.Native.Nat.{ℕ, _*_, _≤_}
-use mathlib.Core.Path.{_≡_, sym, _∙_}
-use mathlib.Core.List.{List}
-use native.Mathlib.Nat.{mul-le-mul-right, le-trans}
-use native.Mathlib.Omega.{arith}
-use lib.ListN.{length}
-use Rattle.words.specs.declared.refusal.Refusal.{Refusal}
-use Rattle.words.specs.Limits.{rowWords}
-use Rattle.words.specs.Words.{overwrite}
-use Rattle.words.specs.Laws.Records.{records-fit}
-use Rattle.records.specs.declared.settings.Settings.{Settings}
-use Rattle.records.specs.declared.state.State.{State}
-use Rattle.refusals.specs.declared.verdict.Verdict.{Verdict}
-use Rattle.refusals.specs.declared.verdict.Verdict.the-variants.{Fine, Bad}
-use Rattle.dump.specs.declared.reader.Restored.the-variants.{Refused, Done}
+use Rattle.words.specs.Prelude.{ℕ, _*_, _≤_, _≡_, sym, _∙_, List, mul-le-mul-right, le-trans, arith, length}
+use Rattle.words.specs.{declared.refusal.Refusal.Refusal, Limits.rowWords, Words.overwrite, Laws.Records.records-fit}
+use Rattle.records.specs.{declared.settings.Settings.Settings, declared.state.State.State}
+use Rattle.refusals.specs.{declared.verdict.Verdict.Verdict, declared.verdict.Verdict.the-variants.Fine, declared.verdict.Verdict.the-variants.Bad}
+use Rattle.dump.specs.{declared.reader.Restored.the-variants.Refused, declared.reader.Restored.the-variants.Done, Layout.imageOf, Order.written}
+use Rattle.dump.specs.{Reading.slotsIn, Reading.rowsIn, Reading.stateIn, Reading.windowIn, Refused.dumpJudged, Refused.restoreJudged, Dumping.leftBy}
+use Rattle.dump.specs.{Dumping.Dumped, Parts.partJudged, Parts.PartLaid, Parts.partedBy, Parts.PartDumped, Restoring.restoredBy, Restoring.Restores}
+use Rattle.dump.specs.{Laws.Fine.RestoreFine}
 use Rattle.dump.specs.declared.part.Parted.the-variants as Parted
-use Rattle.dump.specs.Layout.{imageOf}
-use Rattle.dump.specs.Order.{written}
-use Rattle.dump.specs.Reading.{slotsIn, rowsIn, stateIn, windowIn}
-use Rattle.dump.specs.Refused.{dumpJudged, restoreJudged}
-use Rattle.dump.specs.Dumping.{leftBy, Dumped}
-use Rattle.dump.specs.Parts.{partJudged, PartLaid, partedBy, PartDumped}
-use Rattle.dump.specs.Restoring.{restoredBy, Restores}
-use Rattle.dump.specs.Laws.Fine.{RestoreFine}
 
 module _ (s : Settings) (t : State) (rows area : List ℕ) (from upto : ℕ) {v : Verdict} (judge : v ≡ dumpJudged s t rows area) where
   pub dump-refused : {r : Refusal} → v ≡ Bad r → Dumped s t rows area from upto (Bad r) area

@@ -1,12 +1,7 @@
 -- Whether bytes have a place for an image, by division.
-use Prim.Native.Nat.{ℕ, _+_, _-_, _*_, _/_, _≤_, _<_}
-use mathlib.Core.Path.{_≡_, refl, sym, ap, _∙_}
-use mathlib.Core.Bool.{Bool, true, false}
-use native.Mathlib.Nat.{zero-mul, mul-comm, mul-assoc, mul-le-mul-right, lt-of-not-le, le-div-iff-mul-le}
-use native.Mathlib.Omega.{arith}
-use borrow.Author.Tests.{le-leb, lt-leb, leb-true, leb-false}
-use lib.Dec.{leb}
-use Rattle.dump.specs.Layout.{dumpBytes}
+use Rattle.words.specs.Prelude.{ℕ, _+_, _-_, _*_, _/_, _≤_, _<_, _≡_, refl, sym, ap, _∙_, Bool, true, false, zero-mul, mul-comm, mul-assoc, mul-le-mul-right}
+use Rattle.words.specs.Prelude.{lt-of-not-le, le-div-iff-mul-le, arith, le-leb, lt-leb, leb-true, leb-false, leb}
+use Rattle.dump.specs.{Layout.dumpBytes}
 
 module _ (K D bytes : ℕ) where
   pub too-short : bytes < 256 → leb (dumpBytes K D) bytes ≡ false

@@ -1,17 +1,10 @@
 -- The words of a header made from a state's words.
-use Prim.Native.Nat.{ℕ, _%_, _^_, _≤_, _<_}
-use mathlib.Core.Path.{_≡_, sym, subst}
-use mathlib.Core.Bool.{Bool, not, cond}
-use mathlib.Core.List.{[], _∷_, List}
-use lib.Dec.{T, eqb}
-use lib.Ieee.{binary64}
-use lib.Ieee.Bits.{nanBits-is, toBits-ofBits}
-use Rattle.words.specs.Words.{word}
-use Rattle.floats.specs.Floats.{wordOf, floatOf}
-use Rattle.floats.proofs.Words.{word-no-nan}
-use Rattle.dump.specs.Layout.{amounts}
-use Rattle.dump.specs.Laws.Packed.{firstWord, secondWord, thirdWord, headWords}
-use Rattle.dump.specs.Laws.Plain.{orderIn, kindIn, unlessZero, plainAt, plainWords}
+use Rattle.words.specs.Prelude.{ℕ, _%_, _^_, _≤_, _<_, _≡_, sym, subst, Bool, not, cond, [], _∷_, List, T, eqb, binary64, nanBits-is, toBits-ofBits}
+use Rattle.words.specs.{Words.word}
+use Rattle.floats.specs.{Floats.wordOf, Floats.floatOf}
+use Rattle.floats.proofs.{Words.word-no-nan}
+use Rattle.dump.specs.{Layout.amounts, Laws.Packed.firstWord, Laws.Packed.secondWord, Laws.Packed.thirdWord, Laws.Packed.headWords, Laws.Plain.orderIn}
+use Rattle.dump.specs.{Laws.Plain.kindIn, Laws.Plain.unlessZero, Laws.Plain.plainAt, Laws.Plain.plainWords}
 
 -- a pattern that is no NaN's is the word of its float
 pub plain-own : (w : ℕ) → w < 18446744073709551616 → w % 2 ^ 63 ≤ 0x7ff0_0000_0000_0000 → w ≡ wordOf (floatOf w)

@@ -1,19 +1,10 @@
 -- Words read one after another over the first of a room.
-use Prim.Native.Nat.{ℕ, suc, _+_, _*_, _≤_, _<_}
-use mathlib.Core.Path.{_≡_, refl, sym, _∙_}
-use mathlib.Core.List.{List, _++_}
-use native.Mathlib.Nat.{zero-add}
-use native.Mathlib.Numerals.{add-one}
-use lib.ListN.{length, drop, set, getD}
-use lib.Seq.{drop-cons, set-at, append-snoc}
-use Rattle.words.specs.Limits.{rowWords}
-use Rattle.words.specs.Words.{overwrite}
-use Rattle.words.specs.Laws.Overwrite.{overwrite-fits}
-use Rattle.table.specs.Bytes.{u64}
-use Rattle.engine.specs.Record.{listed}
-use Rattle.engine.specs.Laws.Lengths.{listed-long}
-use Rattle.dump.specs.Layout.{headBytes}
-use Rattle.dump.specs.Reading.{slotsIn, rowsIn, wordsAt, windowIn}
+use Rattle.words.specs.Prelude.{ℕ, suc, _+_, _*_, _≤_, _<_, _≡_, refl, sym, _∙_, List, _++_, zero-add, add-one, length, drop, set, getD, drop-cons, set-at}
+use Rattle.words.specs.Prelude.{append-snoc}
+use Rattle.words.specs.{Limits.rowWords, Words.overwrite, Laws.Overwrite.overwrite-fits}
+use Rattle.table.specs.{Bytes.u64}
+use Rattle.engine.specs.{Record.listed, Laws.Lengths.listed-long}
+use Rattle.dump.specs.{Layout.headBytes, Reading.slotsIn, Reading.rowsIn, Reading.wordsAt, Reading.windowIn}
 
 -- none yet
 pub words-none : (x : List ℕ) (at : ℕ) (room : List ℕ) → room ≡ wordsAt x at 0 ++ drop 0 room

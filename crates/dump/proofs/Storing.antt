@@ -1,16 +1,9 @@
 -- Stores, one after another, as bytes laid.
-use Prim.Native.Nat.{ℕ, _+_, _-_, _*_, _≤_}
-use mathlib.Core.Path.{_≡_, refl, sym, ap, _∙_}
-use mathlib.Core.List.{List}
-use native.Mathlib.Nat.{sub-self, zero-add}
-use native.Mathlib.Omega.{arith}
-use lib.ListN.{getD, set, drop}
-use lib.Seq.{getD-drop}
-use Rattle.steps.specs.Bytes.{eight}
-use Rattle.dump.specs.Layout.{wordsBytes}
-use Rattle.dump.specs.Laws.Laid.{laid, laid-none, laid-more, laid-on, laid-as}
-use Rattle.dump.specs.Laws.InOrder.{clip, partLaid, wholeLaid}
-use Rattle.dump.specs.Laws.WordBytes.{word-byte}
+use Rattle.words.specs.Prelude.{ℕ, _+_, _-_, _*_, _≤_, _≡_, refl, sym, ap, _∙_, List, zero-add, arith, getD, set, drop, getD-drop}
+use Rattle.steps.specs.{Bytes.eight}
+use Rattle.dump.specs.{Layout.wordsBytes, Laws.Laid.laid, Laws.Laid.laid-none, Laws.Laid.laid-more, Laws.Laid.laid-on, Laws.Laid.laid-as, Laws.InOrder.clip}
+use Rattle.dump.specs.{Laws.InOrder.partLaid, Laws.InOrder.wholeLaid, Laws.WordBytes.word-byte}
+use native.Mathlib.Nat.{sub-self}
 
 -- eight of them
 pub eight-sets : (area : List ℕ) (p : ℕ) (b : List ℕ)

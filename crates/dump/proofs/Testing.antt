@@ -1,13 +1,6 @@
 -- Tests on what a call gave, said of what it means.
-use Prim.Native.Nat.{ℕ, _-_}
-use mathlib.Core.Path.{_≡_, sym, _∙_}
-use mathlib.Core.Bool.{Bool, true, false}
-use mathlib.Core.List.{List}
-use borrow.Author.Tests.{eq-eqb, ne-eqb}
-use lib.Dec.{eqb}
-use lib.ListN.{length}
-use Rattle.dump.specs.Reading.{slotsIn, rowsIn, rowPlace}
-use Rattle.dump.specs.Refused.{zeroAt, eachFine, rowsFine}
+use Rattle.words.specs.Prelude.{ℕ, _-_, _≡_, sym, _∙_, Bool, true, false, List, eq-eqb, ne-eqb, eqb, length}
+use Rattle.dump.specs.{Reading.slotsIn, Reading.rowsIn, Reading.rowPlace, Refused.zeroAt, Refused.eachFine, Refused.rowsFine}
 
 module _ {r v n : ℕ} (e : r ≡ v) where
   pub equal : r ≡ n → eqb v n ≡ true

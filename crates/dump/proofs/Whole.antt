@@ -1,23 +1,11 @@
 -- What a dump or a part writes is the image's: its words, its rows and its size, put together.
-use Prim.Native.Nat.{ℕ, _-_, _/_, _≤_, min}
-use mathlib.Core.Path.{_≡_, sym, ap, _∙_}
-use mathlib.Core.List.{List}
-use lib.ListN.{length, drop}
-use Rattle.words.specs.Limits.{rowWords}
-use Rattle.rows.specs.History.{historyOf}
-use Rattle.records.specs.declared.settings.Settings.{Settings}
-use Rattle.records.specs.declared.state.State.{State}
-use Rattle.records.specs.Lent.{rowPlaces}
-use Rattle.records.specs.StateWords.{wordsOf}
-use Rattle.dump.specs.Layout.{bodyBytes, dumpBytes, windowOf, imageOf}
-use Rattle.dump.specs.Order.{written}
-use Rattle.dump.specs.Parts.{PartLaid}
-use Rattle.dump.specs.Laws.Laid.{laid-none}
-use Rattle.dump.specs.Laws.Packed.{headWords}
-use Rattle.dump.specs.Laws.InOrder.{inOrder}
-use Rattle.dump.specs.Laws.Image.{image-head, image-body, image-in-order}
-use Rattle.dump.specs.Laws.Placed.{headLaid, rowsLaid, placed, part-laid}
-use Rattle.dump.specs.Laws.Parts.{size-of}
+use Rattle.words.specs.Prelude.{ℕ, _-_, _/_, _≤_, min, _≡_, sym, ap, _∙_, List, length, drop}
+use Rattle.words.specs.{Limits.rowWords}
+use Rattle.rows.specs.{History.historyOf}
+use Rattle.records.specs.{declared.settings.Settings.Settings, declared.state.State.State, Lent.rowPlaces, StateWords.wordsOf}
+use Rattle.dump.specs.{Layout.bodyBytes, Layout.dumpBytes, Layout.windowOf, Layout.imageOf, Order.written, Parts.PartLaid, Laws.Laid.laid-none}
+use Rattle.dump.specs.{Laws.Packed.headWords, Laws.InOrder.inOrder, Laws.Image.image-head, Laws.Image.image-body, Laws.Image.image-in-order}
+use Rattle.dump.specs.{Laws.Placed.headLaid, Laws.Placed.rowsLaid, Laws.Placed.placed, Laws.Placed.part-laid, Laws.Parts.size-of}
 
 pub dumped : (s : Settings) (t : State) (room area : List ℕ) (from upto count body : ℕ) {out head kept : List ℕ}
     → t .counts .«rows_held» ≤ rowPlaces (s .slots) room → kept ≡ windowOf s t room → count ≡ historyOf (s .slots) kept .rows

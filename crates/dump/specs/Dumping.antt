@@ -1,14 +1,8 @@
 -- What a dump answers and leaves. Definitions only.
-use Prim.Native.Nat.{ℕ}
-use mathlib.Core.Path.{_≡_}
-use mathlib.Core.List.{List}
-use Rattle.records.specs.declared.settings.Settings.{Settings}
-use Rattle.records.specs.declared.state.State.{State}
-use Rattle.refusals.specs.declared.verdict.Verdict.{Verdict}
-use Rattle.refusals.specs.declared.verdict.Verdict.the-variants.{Fine, Bad}
-use Rattle.dump.specs.Layout.{imageOf}
-use Rattle.dump.specs.Order.{written}
-use Rattle.dump.specs.Refused.{dumpJudged}
+use Rattle.words.specs.Prelude.{ℕ, _≡_, List}
+use Rattle.records.specs.{declared.settings.Settings.Settings, declared.state.State.State}
+use Rattle.refusals.specs.{declared.verdict.Verdict.Verdict, declared.verdict.Verdict.the-variants.Fine, declared.verdict.Verdict.the-variants.Bad}
+use Rattle.dump.specs.{Layout.imageOf, Order.written, Refused.dumpJudged}
 
 -- "A refusal .. changes nothing lent."
 unfoldable pub leftBy : Verdict → List ℕ → List ℕ → List ℕ

@@ -1,17 +1,10 @@
 -- The image: the bytes that a state and its window are written as. Definitions only.
-use Prim.Native.Nat.{ℕ, _+_, _-_, _*_, _/_, _%_}
-use mathlib.Core.Bool.{cond, _&&_}
-use mathlib.Core.List.{List, [], _∷_, _++_}
-use lib.Dec.{leb}
-use lib.ListN.{length, replicate}
-use Rattle.words.specs.Limits.{rowWords, mostSlots, mostRows}
-use Rattle.words.specs.Words.{word}
-use Rattle.rows.specs.History.{lastRows}
-use Rattle.steps.specs.Bytes.{two, four, eight}
-use Rattle.records.specs.declared.settings.Settings.{Settings}
-use Rattle.records.specs.declared.state.State.{State}
-use Rattle.records.specs.StateWords.{wordsOf}
-use Rattle.engine.specs.Record.{heldRows}
+use Rattle.words.specs.Prelude.{ℕ, _+_, _-_, _*_, _/_, _%_, cond, _&&_, List, [], _∷_, _++_, leb, length, replicate}
+use Rattle.words.specs.{Limits.rowWords, Limits.mostSlots, Limits.mostRows, Words.word}
+use Rattle.rows.specs.{History.lastRows}
+use Rattle.steps.specs.{Bytes.two, Bytes.four, Bytes.eight}
+use Rattle.records.specs.{declared.settings.Settings.Settings, declared.state.State.State, StateWords.wordsOf}
+use Rattle.engine.specs.{Record.heldRows}
 
 -- the bytes before the rows
 abbrev pub headBytes : ℕ

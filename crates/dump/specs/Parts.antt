@@ -1,21 +1,11 @@
 -- A part of an image: what it refuses, answers and leaves. Definitions only.
-use Prim.Native.Nat.{ℕ}
-use mathlib.Core.Path.{_≡_}
-use mathlib.Core.List.{List, _++_}
-use lib.ListN.{length, take, drop}
-use Rattle.words.specs.Words.{overwrite}
-use Rattle.records.specs.declared.settings.Settings.{Settings}
-use Rattle.records.specs.declared.state.State.{State}
-use Rattle.refusals.specs.declared.verdict.Verdict.{Verdict}
-use Rattle.refusals.specs.declared.verdict.Verdict.the-variants.{Fine, Bad}
-use Rattle.refusals.specs.Lines.{Line, judged}
-use Rattle.refusals.specs.Rooms.{roomLines}
-use Rattle.refusals.specs.Settings.{settingLines}
-use Rattle.dump.specs.declared.part.Parted.{Parted}
-use Rattle.dump.specs.declared.part.Parted.the-variants.{Refused, Used}
-use Rattle.dump.specs.Layout.{imageOf}
-use Rattle.dump.specs.Refused.{dumpStateLines}
-use Rattle.dump.specs.Dumping.{leftBy}
+use Rattle.words.specs.Prelude.{ℕ, _≡_, List, _++_, length, take, drop}
+use Rattle.words.specs.{Words.overwrite}
+use Rattle.records.specs.{declared.settings.Settings.Settings, declared.state.State.State}
+use Rattle.refusals.specs.{declared.verdict.Verdict.Verdict, declared.verdict.Verdict.the-variants.Fine, declared.verdict.Verdict.the-variants.Bad, Lines.Line}
+use Rattle.refusals.specs.{Lines.judged, Rooms.roomLines, Settings.settingLines}
+use Rattle.dump.specs.{declared.part.Parted.Parted, declared.part.Parted.the-variants.Refused, declared.part.Parted.the-variants.Used, Layout.imageOf}
+use Rattle.dump.specs.{Refused.dumpStateLines, Dumping.leftBy}
 
 -- bytes `at` to `at + n` of an image, in the order of their places; past its end there are none
 unfoldable pub bytesFrom : List ℕ → ℕ → ℕ → List ℕ

@@ -1,13 +1,10 @@
 -- What an image says, whatever bytes it has: a byte past its end counts as 0. Definitions only.
-use Prim.Native.Nat.{ℕ, _+_, _*_}
-use mathlib.Core.List.{List, [], _∷_}
-use lib.ListN.{getD}
-use Rattle.words.specs.Limits.{rowWords}
-use Rattle.table.specs.Bytes.{u16, u32, u64}
-use Rattle.records.specs.declared.state.State.{State}
-use Rattle.records.specs.StateWords.{stateOf}
-use Rattle.engine.specs.Record.{listed}
-use Rattle.dump.specs.Layout.{headBytes}
+use Rattle.words.specs.Prelude.{ℕ, _+_, _*_, List, [], _∷_, getD}
+use Rattle.words.specs.{Limits.rowWords}
+use Rattle.table.specs.{Bytes.u16, Bytes.u32, Bytes.u64}
+use Rattle.records.specs.{declared.state.State.State, StateWords.stateOf}
+use Rattle.engine.specs.{Record.listed}
+use Rattle.dump.specs.{Layout.headBytes}
 
 -- 3 K; 4, 5 version; 6, 7 D
 abbrev pub slotsIn : List ℕ → ℕ

@@ -1,24 +1,13 @@
 -- What is refused: of a dump 10, 12, 13, of a restore 10, 12, 19, 20.
-use Prim.Native.Nat.{ℕ, _+_, _-_, _/_, _%_, _^_}
-use mathlib.Core.Bool.{Bool, true, false, _&&_, _||_}
-use mathlib.Core.List.{List, [], _∷_, _++_}
-use lib.ListN.{length, getD}
-use lib.Dec.{leb, ltb, eqb}
-use Rattle.words.specs.Limits.{mostCount, mostSlots, mostRows}
-use Rattle.records.specs.declared.settings.Settings.{Settings}
-use Rattle.records.specs.declared.state.State.{State}
-use Rattle.records.specs.Lent.{rooms}
-use Rattle.records.specs.StateWords.{enteredOf}
-use Rattle.refusals.specs.declared.verdict.Verdict.{Verdict}
-use Rattle.refusals.specs.declared.verdict.Verdict.the-variants.{Fine, Bad}
-use Rattle.refusals.specs.Bar.{every, barLines}
-use Rattle.refusals.specs.Lines.{Line, line, judged}
-use Rattle.refusals.specs.Rooms.{roomLines, entryBelow, stateLines}
-use Rattle.refusals.specs.Settings.{settingLines}
-use Rattle.engine.specs.Books.{emptied}
-use Rattle.dump.specs.Layout.{headBytes, dumpBytes}
-use Rattle.dump.specs.Reading.{slotsIn, versionIn, depthIn, seenIn, rowsIn, orderIn, kindIn, enteredIn, entryIn, delayIn, levelIn, limitIn}
-use Rattle.dump.specs.Reading.{rowPlace, rowIn}
+use Rattle.words.specs.Prelude.{ℕ, _+_, _-_, _/_, _%_, _^_, Bool, true, false, _&&_, _||_, List, [], _∷_, _++_, length, getD, leb, ltb, eqb}
+use Rattle.words.specs.{Limits.mostCount, Limits.mostSlots, Limits.mostRows}
+use Rattle.records.specs.{declared.settings.Settings.Settings, declared.state.State.State, Lent.rooms, StateWords.enteredOf}
+use Rattle.refusals.specs.{declared.verdict.Verdict.Verdict, declared.verdict.Verdict.the-variants.Fine, declared.verdict.Verdict.the-variants.Bad, Bar.every}
+use Rattle.refusals.specs.{Bar.barLines, Lines.Line, Lines.line, Lines.judged, Rooms.roomLines, Rooms.entryBelow, Rooms.stateLines, Settings.settingLines}
+use Rattle.engine.specs.{Books.emptied}
+use Rattle.dump.specs.{Layout.headBytes, Layout.dumpBytes, Reading.slotsIn, Reading.versionIn, Reading.depthIn, Reading.seenIn, Reading.rowsIn}
+use Rattle.dump.specs.{Reading.orderIn, Reading.kindIn, Reading.enteredIn, Reading.entryIn, Reading.delayIn, Reading.levelIn, Reading.limitIn}
+use Rattle.dump.specs.{Reading.rowPlace, Reading.rowIn}
 
 -- ---- a dump
 

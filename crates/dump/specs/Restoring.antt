@@ -1,16 +1,10 @@
 -- What a restore answers and leaves. Definitions only.
-use Prim.Native.Nat.{ℕ}
-use mathlib.Core.Path.{_≡_}
-use mathlib.Core.List.{List}
-use Rattle.words.specs.Words.{overwrite}
-use Rattle.records.specs.declared.settings.Settings.{Settings}
-use Rattle.refusals.specs.declared.verdict.Verdict.{Verdict}
-use Rattle.refusals.specs.declared.verdict.Verdict.the-variants.{Fine, Bad}
-use Rattle.dump.specs.declared.reader.Restored.{Restored}
-use Rattle.dump.specs.declared.reader.Restored.the-variants.{Refused, Done}
-use Rattle.dump.specs.Reading.{stateIn, windowIn}
-use Rattle.dump.specs.Refused.{restoreJudged}
-use Rattle.dump.specs.Dumping.{leftBy}
+use Rattle.words.specs.Prelude.{ℕ, _≡_, List}
+use Rattle.words.specs.{Words.overwrite}
+use Rattle.records.specs.{declared.settings.Settings.Settings}
+use Rattle.refusals.specs.{declared.verdict.Verdict.Verdict, declared.verdict.Verdict.the-variants.Fine, declared.verdict.Verdict.the-variants.Bad}
+use Rattle.dump.specs.{declared.reader.Restored.Restored, declared.reader.Restored.the-variants.Refused, declared.reader.Restored.the-variants.Done}
+use Rattle.dump.specs.{Reading.stateIn, Reading.windowIn, Refused.restoreJudged, Dumping.leftBy}
 
 -- The paper's values for each case of the answer.
 unfoldable pub restoredBy : Verdict → List ℕ → Restored

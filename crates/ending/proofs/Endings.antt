@@ -1,31 +1,16 @@
 -- The parts of a run's end, each by its own definition, make the whole.
-use Prim.Native.Nat.{ℕ, _+_, _-_, _*_, _/_, _<_}
-use mathlib.Core.Path.{_≡_, refl, sym, ap}
-use mathlib.Core.List.{List}
-use native.Mathlib.Omega.{arith}
-use borrow.Author.Tests.{lt-ltb, le-ltb}
-use lib.Ieee.{Float}
-use lib.ListN.{length, set}
-use lib.Seq.{set-out}
+use Rattle.words.specs.Prelude.{ℕ, _+_, _-_, _*_, _/_, _<_, _≡_, refl, sym, ap, List, arith, lt-ltb, le-ltb, Float, length, set, set-out}
+use Rattle.floats.specs.{Floats.wordOf}
+use Rattle.portfolio.specs.{declared.Closed.Closed, Portfolio.equity}
+use Rattle.execution.specs.{declared.fills.Exit.Exit, declared.fills.Exit.the-variants.NoExit, declared.fills.Exit.the-variants.Exited}
+use Rattle.metrics.specs.{declared.Metrics.Metrics}
+use Rattle.words.specs.{declared.refusal.Refusal.Refusal}
+use Rattle.records.specs.{declared.settings.Settings.Settings, declared.state.State.State, Lent.Rooms}
+use Rattle.refusals.specs.{declared.verdict.Verdict.the-variants.Fine, declared.verdict.Verdict.the-variants.Bad, Judgement.finishJudged}
+use Rattle.engine.specs.{declared.answer.Ended.Ended, declared.answer.Finished.Finished, declared.answer.Finished.the-variants.Refused}
+use Rattle.engine.specs.{declared.answer.Finished.the-variants.Done, Books.booked, Finish.lastExit, Finish.remarked, Finish.endState, Finish.measured, Finish.ended}
+use Rattle.engine.specs.{Finish.concluded, Finish.finishOf, Step.Is}
 use Rattle.words.specs.Limits as Limits
-use Rattle.floats.specs.Floats.{wordOf}
-use Rattle.portfolio.specs.declared.Closed.{Closed}
-use Rattle.portfolio.specs.Portfolio.{equity}
-use Rattle.execution.specs.declared.fills.Exit.{Exit}
-use Rattle.execution.specs.declared.fills.Exit.the-variants.{NoExit, Exited}
-use Rattle.metrics.specs.declared.Metrics.{Metrics}
-use Rattle.words.specs.declared.refusal.Refusal.{Refusal}
-use Rattle.records.specs.declared.settings.Settings.{Settings}
-use Rattle.records.specs.declared.state.State.{State}
-use Rattle.refusals.specs.declared.verdict.Verdict.the-variants.{Fine, Bad}
-use Rattle.refusals.specs.Judgement.{finishJudged}
-use Rattle.records.specs.Lent.{Rooms}
-use Rattle.engine.specs.declared.answer.Ended.{Ended}
-use Rattle.engine.specs.declared.answer.Finished.{Finished}
-use Rattle.engine.specs.declared.answer.Finished.the-variants.{Refused, Done}
-use Rattle.engine.specs.Books.{booked}
-use Rattle.engine.specs.Finish.{lastExit, remarked, endState, measured, ended, concluded, finishOf}
-use Rattle.engine.specs.Step.{Is}
 
 -- the last point: there is none, it lies past the room, or it is written
 pub no-point : (room : List ℕ) (n : ℕ) (x : Exit) (close : Float) → n ≡ 0 → room ≡ remarked room n x close

@@ -1,42 +1,18 @@
 -- A bar of a call over many bars is a step that is judged by less; and a turn of the loop over them.
-use Prim.Native.Nat.{ℕ, _+_, _-_, _*_, _/_, _<_, _≤_}
-use mathlib.Core.Path.{_≡_, refl, sym, _∙_}
-use mathlib.Core.Bool.{Bool, true, _&&_}
-use mathlib.Core.List.{List, [], _∷_}
-use native.Mathlib.Omega.{arith}
-use borrow.Author.Tests.{leb-true}
-use lib.Dec.{leb}
-use lib.ListN.{length, take, drop, length-drop}
-use lib.Seq.{length-take-le}
-use Rattle.words.specs.Laws.Records.{record-ends}
-use Rattle.rows.specs.History.{width}
-use Rattle.rows.specs.Laws.Turned.{turned-none}
-use Rattle.rows.specs.Ring.{turned}
-use Rattle.words.specs.Limits.{barWords}
-use Rattle.words.specs.declared.refusal.Refusal.{Refusal}
-use Rattle.records.specs.declared.settings.Settings.{Settings}
-use Rattle.records.specs.declared.state.State.{State}
-use Rattle.records.specs.Lent.{Lists, Rooms, rooms, rowPlaces, pointPlaces, tradePlaces}
-use Rattle.refusals.specs.declared.verdict.Verdict.{Verdict}
-use Rattle.refusals.specs.declared.verdict.Verdict.the-variants.{Fine, Bad}
-use Rattle.refusals.specs.Day.{nextLines}
-use Rattle.refusals.specs.Judgement.{stepJudged}
-use Rattle.refusals.specs.Laws.Fine.{settings-fine}
-use Rattle.refusals.specs.Laws.Lines.{and-true, first-holds, fine-adds-nothing}
-use Rattle.refusals.specs.Laws.Steady.{next-judged}
-use Rattle.refusals.specs.Lines.{line, judged}
-use Rattle.refusals.specs.Lists.{listLines}
-use Rattle.refusals.specs.Rooms.{roomLines}
-use Rattle.engine.specs.declared.answer.Advanced.{Advanced}
-use Rattle.engine.specs.declared.answer.Answer.{Answer}
-use Rattle.engine.specs.declared.answer.Answer.the-variants.{Refused, Done}
-use Rattle.engine.specs.Boxes.{SameLengths}
-use Rattle.engine.specs.Day.{Underway, cut, dayOf}
-use Rattle.engine.specs.InPlace.{RingAt, Turns}
-use Rattle.engine.specs.Laws.Days.{answerIn, day-one, stays-underway, After, after-none, nextBar, after-all, after-more, after-refused}
-use Rattle.engine.specs.Run.{runOver}
-use Rattle.engine.specs.Step.{Is, Ready, advanced, stepAnswer}
-use Rattle.engine.proofs.OneBar.{ready, refused, went}
+use Rattle.words.specs.Prelude.{ℕ, _+_, _-_, _*_, _/_, _<_, _≤_, _≡_, refl, sym, _∙_, Bool, true, _&&_, List, [], _∷_, arith, leb-true, leb, length, take, drop}
+use Rattle.words.specs.Prelude.{length-drop, length-take-le}
+use Rattle.words.specs.{Laws.Records.record-ends, Limits.barWords, declared.refusal.Refusal.Refusal}
+use Rattle.rows.specs.{History.width, Laws.Turned.turned-none, Ring.turned}
+use Rattle.records.specs.{declared.settings.Settings.Settings, declared.state.State.State, Lent.Lists, Lent.Rooms, Lent.rooms, Lent.rowPlaces, Lent.pointPlaces}
+use Rattle.records.specs.{Lent.tradePlaces}
+use Rattle.refusals.specs.{declared.verdict.Verdict.Verdict, declared.verdict.Verdict.the-variants.Fine, declared.verdict.Verdict.the-variants.Bad, Day.nextLines}
+use Rattle.refusals.specs.{Judgement.stepJudged, Laws.Fine.settings-fine, Laws.Lines.and-true, Laws.Lines.first-holds, Laws.Lines.fine-adds-nothing}
+use Rattle.refusals.specs.{Laws.Steady.next-judged, Lines.line, Lines.judged, Lists.listLines, Rooms.roomLines}
+use Rattle.engine.specs.{declared.answer.Advanced.Advanced, declared.answer.Answer.Answer, declared.answer.Answer.the-variants.Refused}
+use Rattle.engine.specs.{declared.answer.Answer.the-variants.Done, Boxes.SameLengths, Day.Underway, Day.cut, Day.dayOf, InPlace.RingAt, InPlace.Turns}
+use Rattle.engine.specs.{Laws.Days.answerIn, Laws.Days.day-one, Laws.Days.stays-underway, Laws.Days.After, Laws.Days.after-none, Laws.Days.nextBar}
+use Rattle.engine.specs.{Laws.Days.after-all, Laws.Days.after-more, Laws.Days.after-refused, Run.runOver, Step.Is, Step.Ready, Step.advanced, Step.stepAnswer}
+use Rattle.engine.proofs.{OneBar.ready, OneBar.refused, OneBar.went}
 
 -- ---- a bar
 

@@ -1,14 +1,9 @@
 -- The fill of an order is what is due for it, done.
-use Prim.Native.Nat.{ℕ}
-use mathlib.Core.Path.{_≡_, sym, ap, _∙_}
-use Rattle.rows.specs.History.{History}
-use Rattle.portfolio.specs.declared.Candle.{Candle}
-use Rattle.records.specs.declared.state.Order.{Order}
-use Rattle.records.specs.declared.state.Position.{Position}
-use Rattle.records.specs.declared.settings.Settings.{Settings}
-use Rattle.engine.specs.declared.account.Due.{Due}
-use Rattle.engine.specs.declared.account.Filled.{Filled}
-use Rattle.engine.specs.Account.{dueOf, doneOf, filled}
+use Rattle.words.specs.Prelude.{ℕ, _≡_, sym, ap, _∙_}
+use Rattle.rows.specs.{History.History}
+use Rattle.portfolio.specs.{declared.Candle.Candle}
+use Rattle.records.specs.{declared.state.Order.Order, declared.state.Position.Position, declared.settings.Settings.Settings}
+use Rattle.engine.specs.{declared.account.Due.Due, declared.account.Filled.Filled, Account.dueOf, Account.doneOf, Account.filled}
 
 -- where what is due is told and done, the order is filled
 pub so-filled : (s : Settings) (p : Position) (k : Candle) (before : History) (number : ℕ) (o : Order) {due told : Due} {r : Filled}

@@ -1,33 +1,17 @@
 -- The phases of a step, each by its own definition, make the whole.
-use Prim.Native.Nat.{ℕ, _+_}
-use mathlib.Core.Path.{_≡_, refl, ap}
-use mathlib.Core.Bool.{true, false}
-use mathlib.Core.List.{List}
-use Rattle.rows.specs.History.{historyOf}
-use Rattle.rows.specs.Room.{withRow, heldWith}
-use Rattle.portfolio.specs.declared.Candle.{Candle}
-use Rattle.words.specs.declared.refusal.Refusal.{Refusal}
-use Rattle.words.specs.Outcome.{refusal}
-use Rattle.records.specs.declared.state.Order.{Order}
-use Rattle.records.specs.declared.state.Position.{Position}
-use Rattle.records.specs.declared.settings.Settings.{Settings}
-use Rattle.records.specs.declared.state.State.{State}
-use Rattle.refusals.specs.declared.verdict.Verdict.the-variants.{Fine, Bad}
-use Rattle.records.specs.Bar.{candleOf}
-use Rattle.refusals.specs.Laws.Fine.{step-fine}
-use Rattle.refusals.specs.Lines.{judged}
-use Rattle.refusals.specs.Judgement.{stepJudged}
-use Rattle.records.specs.Lent.{Lists, Rooms}
-use Rattle.engine.specs.declared.account.Filled.{Filled}
-use Rattle.engine.specs.declared.account.Left.{Left}
-use Rattle.engine.specs.declared.answer.Answer.{Answer}
-use Rattle.engine.specs.declared.answer.Answer.the-variants.{Refused, Done}
-use Rattle.engine.specs.Account.{filled, intrabar, charged}
-use Rattle.engine.specs.Books.{booked, marked}
-use Rattle.engine.specs.Decide.{decided}
-use Rattle.engine.specs.Record.{rowOf, heldRows}
-use Rattle.engine.specs.Laws.Verdict.{handed-bad, handed-fine}
-use Rattle.engine.specs.Step.{Is, Ready, fillOf, stepped, answered, sizeLines, advanced, stepAnswer}
+use Rattle.words.specs.Prelude.{ℕ, _+_, _≡_, refl, ap, true, false, List}
+use Rattle.rows.specs.{History.historyOf, Room.withRow, Room.heldWith}
+use Rattle.portfolio.specs.{declared.Candle.Candle}
+use Rattle.words.specs.{declared.refusal.Refusal.Refusal, Outcome.refusal}
+use Rattle.records.specs.{declared.state.Order.Order, declared.state.Position.Position, declared.settings.Settings.Settings, declared.state.State.State}
+use Rattle.records.specs.{Bar.candleOf, Lent.Lists, Lent.Rooms}
+use Rattle.refusals.specs.{declared.verdict.Verdict.the-variants.Fine, declared.verdict.Verdict.the-variants.Bad, Laws.Fine.step-fine, Lines.judged}
+use Rattle.refusals.specs.{Judgement.stepJudged}
+use Rattle.engine.specs.{declared.account.Filled.Filled, declared.account.Left.Left, declared.answer.Answer.Answer}
+use Rattle.engine.specs.{declared.answer.Answer.the-variants.Refused, declared.answer.Answer.the-variants.Done, Account.filled, Account.intrabar}
+use Rattle.engine.specs.{Account.charged, Books.booked, Books.marked, Decide.decided, Record.rowOf, Record.heldRows, Laws.Verdict.handed-bad}
+use Rattle.engine.specs.{Laws.Verdict.handed-fine, Step.Is, Step.Ready, Step.fillOf, Step.stepped, Step.answered, Step.sizeLines, Step.advanced}
+use Rattle.engine.specs.{Step.stepAnswer}
 
 module _ (s : Settings) (t : State) (bar : List ℕ) (m : Rooms) (ls : Lists) where
   pub phases : (k : Candle) (f : Filled) (x : Left) (p : Position) (o : Order) (sold held stopped points : ℕ) (ts us ws es : List ℕ)

@@ -1,24 +1,13 @@
 -- Where a row goes in a room that holds some: a place is left, or the rows move up, or it goes over the oldest. No number is divided: the rows
 -- held are no more than there are places, so one more fits or all places are taken.
-use Prim.Native.Nat.{ℕ, _+_, _-_, _*_, _/_, _<_, _≤_}
-use mathlib.Core.Path.{_≡_, refl, sym, _∙_}
-use mathlib.Core.Bool.{Bool, true, false}
-use mathlib.Core.List.{List, _++_, append-assoc}
-use native.Mathlib.Nat.{div-lt-iff-lt-mul, le-div-iff-mul-le, mul-le-mul-right}
-use native.Mathlib.Omega.{arith}
-use borrow.Author.Tests.{lt-ltb, le-ltb, lt-leb}
-use lib.ListN.{length, take, drop, length-append, length-take, length-drop}
-use lib.Seq.{drop-drop}
-use Rattle.words.specs.Words.{overwrite, shifted}
-use Rattle.words.specs.Laws.Overwrite.{overwrite-fits, shifted-fits}
-use Rattle.words.specs.Laws.Records.{records-fit, record-ends}
-use Rattle.rows.specs.declared.ring.Ring.{Ring}
-use Rattle.rows.specs.Laws.Ring.{RingFine}
-use Rattle.rows.specs.Ring.{ringWith, ringAfter, nextStart}
-use Rattle.rows.specs.Room.{placesFor, withRow, heldWith}
-use Rattle.rows.specs.Laws.Added.{moved-up}
-use Rattle.engine.specs.declared.record.Place.{Place}
-use Rattle.engine.specs.InPlace.{keptRing, keptRoom, rowPlaced, PlaceFor}
+use Rattle.words.specs.Prelude.{ℕ, _+_, _-_, _*_, _/_, _<_, _≤_, _≡_, refl, sym, _∙_, Bool, true, false, List, _++_, append-assoc, div-lt-iff-lt-mul}
+use Rattle.words.specs.Prelude.{le-div-iff-mul-le, mul-le-mul-right, arith, lt-ltb, le-ltb, lt-leb, length, take, drop, length-append, length-take, length-drop}
+use Rattle.words.specs.Prelude.{drop-drop}
+use Rattle.words.specs.{Words.overwrite, Words.shifted, Laws.Overwrite.overwrite-fits, Laws.Overwrite.shifted-fits, Laws.Records.records-fit}
+use Rattle.words.specs.{Laws.Records.record-ends}
+use Rattle.rows.specs.{declared.ring.Ring.Ring, Laws.Ring.RingFine, Ring.ringWith, Ring.ringAfter, Ring.nextStart, Room.placesFor, Room.withRow, Room.heldWith}
+use Rattle.rows.specs.{Laws.Added.moved-up}
+use Rattle.engine.specs.{declared.record.Place.Place, InPlace.keptRing, InPlace.keptRoom, InPlace.rowPlaced, InPlace.PlaceFor}
 
 module _ (room : List ℕ) (before : Ring) (w : ℕ) (some : 0 < w) (ok : RingFine (length room / w) before) where
   -- the rows held end by the room's end

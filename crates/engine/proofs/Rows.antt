@@ -1,14 +1,9 @@
 -- The first records of a list, and the words of a row.
-use Prim.Native.Nat.{ℕ, _+_, _-_, _*_, _/_, _<_, _≤_}
-use mathlib.Core.Path.{_≡_, sym, ap, _∙_}
-use mathlib.Core.List.{List}
-use native.Mathlib.Nat.{div-lt-iff-lt-mul, le-of-lt, mul-div-cancel, zero-mul}
-use native.Mathlib.Omega.{arith}
-use native.Mathlib.Numerals.{add-one}
-use lib.ListN.{length, take, drop, set}
-use lib.Seq.{take-all, take-suc-set, length-take-le}
-use Rattle.rows.specs.History.{width, lastRows}
-use Rattle.engine.specs.Record.{listed, heldRows}
+use Rattle.words.specs.Prelude.{ℕ, _+_, _-_, _*_, _/_, _<_, _≤_, _≡_, sym, ap, _∙_, List, div-lt-iff-lt-mul, le-of-lt, mul-div-cancel, zero-mul, arith, add-one}
+use Rattle.words.specs.Prelude.{length, take, drop, set, take-all, length-take-le}
+use Rattle.rows.specs.{History.width, History.lastRows}
+use Rattle.engine.specs.{Record.listed, Record.heldRows}
+use lib.Seq.{take-suc-set}
 
 -- where more are asked for than there are places, the first of them are all
 pub all-of-them : (w n : ℕ) (l : List ℕ) → 0 < w → length l / w < n → l ≡ take (n * w) l

@@ -1,36 +1,19 @@
 -- "One bar", what it does to the account: the fill, the exits inside the bar, funding.
-use Prim.Native.Nat.{ℕ, _-_}
-use mathlib.Core.Bool.{false, cond}
-use mathlib.Core.List.{List}
-use lib.Dec.{ltb}
-use lib.Ieee.{Float}
-use Rattle.rows.specs.History.{History}
-use Rattle.rules.specs.declared.position.Entered.the-variants.{Never, Bar}
-use Rattle.portfolio.specs.declared.Candle.{Candle}
-use Rattle.portfolio.specs.Portfolio.{worsened}
-use Rattle.portfolio.specs.Trade.{signal}
-use Rattle.execution.specs.declared.fills.Entry.{Entry}
-use Rattle.execution.specs.declared.fills.Entry.the-variants.{NoEntry, TooLarge, Entered}
-use Rattle.execution.specs.declared.fills.Exit.{Exit}
-use Rattle.execution.specs.declared.fills.Exit.the-variants.{NoExit, Exited}
-use Rattle.execution.specs.declared.level.Side.{Side}
-use Rattle.execution.specs.declared.level.Side.the-variants.{Long, Short}
-use Rattle.execution.specs.declared.optional.Optional.{Optional}
-use Rattle.execution.specs.declared.optional.Optional.the-variants.{Absent, Of}
-use Rattle.execution.specs.declared.level.OrderKind.{OrderKind}
-use Rattle.execution.specs.Level.{levelFill, feeBps}
-use Rattle.execution.specs.Costs.{chargeFunding}
-use Rattle.execution.specs.Fills.{executeEntry, executeExit, isTurnedAway}
-use Rattle.execution.specs.Intrabar.{extremeWith, applyIntrabarExits}
-use Rattle.records.specs.declared.state.Order.{Order}
-use Rattle.records.specs.declared.state.Order.the-variants.{Idle, EnterLong, EnterShort, Exit as ExitOrder}
-use Rattle.records.specs.declared.state.Position.{Position}
-use Rattle.records.specs.declared.settings.Settings.{Settings}
-use Rattle.records.specs.Bar.{fundingOf}
-use Rattle.engine.specs.declared.account.Due.{Due}
-use Rattle.engine.specs.declared.account.Due.the-variants.{Waits, Enters, Leaves}
-use Rattle.engine.specs.declared.account.Filled.{Filled}
-use Rattle.engine.specs.declared.account.Left.{Left}
+use Rattle.words.specs.Prelude.{ℕ, _-_, false, cond, List, ltb, Float}
+use Rattle.rows.specs.{History.History}
+use Rattle.rules.specs.{declared.position.Entered.the-variants.Never, declared.position.Entered.the-variants.Bar}
+use Rattle.portfolio.specs.{declared.Candle.Candle, Portfolio.worsened, Trade.signal}
+use Rattle.execution.specs.{declared.fills.Entry.Entry, declared.fills.Entry.the-variants.NoEntry, declared.fills.Entry.the-variants.TooLarge}
+use Rattle.execution.specs.{declared.fills.Entry.the-variants.Entered, declared.fills.Exit.Exit, declared.fills.Exit.the-variants.NoExit}
+use Rattle.execution.specs.{declared.fills.Exit.the-variants.Exited, declared.level.Side.Side, declared.level.Side.the-variants.Long}
+use Rattle.execution.specs.{declared.level.Side.the-variants.Short, declared.optional.Optional.Optional, declared.optional.Optional.the-variants.Absent}
+use Rattle.execution.specs.{declared.optional.Optional.the-variants.Of, declared.level.OrderKind.OrderKind, Level.levelFill, Level.feeBps, Costs.chargeFunding}
+use Rattle.execution.specs.{Fills.executeEntry, Fills.executeExit, Fills.isTurnedAway, Intrabar.extremeWith, Intrabar.applyIntrabarExits}
+use Rattle.records.specs.{declared.state.Order.Order, declared.state.Order.the-variants.Idle, declared.state.Order.the-variants.EnterLong}
+use Rattle.records.specs.{declared.state.Order.the-variants.EnterShort, declared.state.Order.the-variants.Exit as ExitOrder, declared.state.Position.Position}
+use Rattle.records.specs.{declared.settings.Settings.Settings, Bar.fundingOf}
+use Rattle.engine.specs.{declared.account.Due.Due, declared.account.Due.the-variants.Waits, declared.account.Due.the-variants.Enters}
+use Rattle.engine.specs.{declared.account.Due.the-variants.Leaves, declared.account.Filled.Filled, declared.account.Left.Left}
 
 -- ---- a position that is left
 

@@ -1,22 +1,11 @@
 -- The books of a run: its equity points and its trades, and the rooms that hold them.
-use Prim.Native.Nat.{ℕ, _+_, _*_}
-use mathlib.Core.Bool.{cond}
-use mathlib.Core.List.{List, [], _∷_}
-use lib.Dec.{ltb}
-use lib.Ieee.{Float}
-use lib.ListN.{take}
+use Rattle.words.specs.Prelude.{ℕ, _+_, _*_, cond, List, [], _∷_, ltb, Float, take}
+use Rattle.floats.specs.{Floats.wordOf}
+use Rattle.words.specs.{Words.overwrite}
+use Rattle.portfolio.specs.{declared.Candle.Candle, declared.Trade.Trade, Portfolio.equity, Trade.wordsOfTrade}
+use Rattle.execution.specs.{declared.fills.Exit.Exit, declared.fills.Exit.the-variants.NoExit, declared.fills.Exit.the-variants.Exited}
+use Rattle.records.specs.{declared.state.Position.Position, declared.state.State.State, Lent.Rooms, Lent.pointPlaces, Lent.tradePlaces}
 use Rattle.words.specs.Limits as Limits
-use Rattle.floats.specs.Floats.{wordOf}
-use Rattle.words.specs.Words.{overwrite}
-use Rattle.portfolio.specs.declared.Candle.{Candle}
-use Rattle.portfolio.specs.declared.Trade.{Trade}
-use Rattle.portfolio.specs.Portfolio.{equity}
-use Rattle.portfolio.specs.Trade.{wordsOfTrade}
-use Rattle.execution.specs.declared.fills.Exit.{Exit}
-use Rattle.execution.specs.declared.fills.Exit.the-variants.{NoExit, Exited}
-use Rattle.records.specs.declared.state.Position.{Position}
-use Rattle.records.specs.declared.state.State.{State}
-use Rattle.records.specs.Lent.{Rooms, pointPlaces, tradePlaces}
 
 -- ---- points and trades
 

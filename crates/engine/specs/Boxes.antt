@@ -1,19 +1,12 @@
 -- What is said of a box, a state and its rooms, and of two of them. Definitions only.
-use Prim.Native.Nat.{ℕ, _+_, _*_, _≤_}
-use mathlib.Core.Path.{_≡_}
-use mathlib.Core.List.{List, _++_, flatMap}
-use lib.ListN.{length, drop}
+use Rattle.words.specs.Prelude.{ℕ, _+_, _*_, _≤_, _≡_, List, _++_, flatMap, length, drop}
+use Rattle.words.specs.{declared.refusal.Refusal.Refusal}
+use Rattle.portfolio.specs.{declared.Trade.Trade, Trade.wordsOfTrade}
+use Rattle.records.specs.{declared.settings.Settings.Settings, declared.state.State.State, Lent.Rooms, Lent.rowPlaces, Lent.pointPlaces, Lent.tradePlaces}
+use Rattle.refusals.specs.{declared.verdict.Verdict.Verdict, declared.verdict.Verdict.the-variants.Bad}
+use Rattle.engine.specs.{Books.Point, Books.wordsOfPoint, Books.heldPoints, Books.heldTrades, Whole.Account, Whole.accountOf, Whole.rowsHeld, Whole.lastOf}
+use Rattle.engine.specs.{Whole.Whole}
 use Rattle.words.specs.Limits as Limits
-use Rattle.words.specs.declared.refusal.Refusal.{Refusal}
-use Rattle.portfolio.specs.declared.Trade.{Trade}
-use Rattle.portfolio.specs.Trade.{wordsOfTrade}
-use Rattle.records.specs.declared.settings.Settings.{Settings}
-use Rattle.records.specs.declared.state.State.{State}
-use Rattle.records.specs.Lent.{Rooms, rowPlaces, pointPlaces, tradePlaces}
-use Rattle.refusals.specs.declared.verdict.Verdict.{Verdict}
-use Rattle.refusals.specs.declared.verdict.Verdict.the-variants.{Bad}
-use Rattle.engine.specs.Books.{Point, wordsOfPoint, heldPoints, heldTrades}
-use Rattle.engine.specs.Whole.{Account, accountOf, rowsHeld, lastOf, Whole}
 
 -- ---- a box and its rooms
 

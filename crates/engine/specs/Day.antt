@@ -1,25 +1,11 @@
 -- Request 3, a whole day in one call. "Take many bars at once. State, trades, equity and window afterwards equal calling once a bar. At the
 -- first bar that would be refused it stops: earlier bars stay done, and the answer gives the number, the place and how many were done."
-use Prim.Native.Nat.{ℕ, zero, suc, _/_}
-use mathlib.Core.Path.{_≡_}
-use mathlib.Core.Bool.{Bool, true, false, cond}
-use mathlib.Core.List.{List, [], _∷_}
-use lib.Dec.{eqb}
-use lib.ListN.{length, take, drop}
-use Rattle.words.specs.Limits.{barWords}
-use Rattle.records.specs.declared.settings.Settings.{Settings}
-use Rattle.records.specs.declared.state.State.{State}
-use Rattle.records.specs.Lent.{Lists, Rooms}
-use Rattle.refusals.specs.declared.verdict.Verdict.{Verdict}
-use Rattle.refusals.specs.declared.verdict.Verdict.the-variants.{Fine, Bad}
-use Rattle.refusals.specs.Day.{wholeBars}
-use Rattle.refusals.specs.Laws.Steady.{Steady}
-use Rattle.refusals.specs.Lines.{judged}
-use Rattle.refusals.specs.Lists.{listLines}
-use Rattle.words.specs.declared.refusal.Refusal.{Refusal}
-use Rattle.engine.specs.declared.day.Day.{Day}
-use Rattle.engine.specs.declared.day.Taken.{Taken}
-use Rattle.engine.specs.Run.{Run, runOver}
+use Rattle.words.specs.Prelude.{ℕ, zero, suc, _/_, _≡_, Bool, true, false, cond, List, [], _∷_, eqb, length, take, drop}
+use Rattle.words.specs.{Limits.barWords, declared.refusal.Refusal.Refusal}
+use Rattle.records.specs.{declared.settings.Settings.Settings, declared.state.State.State, Lent.Lists, Lent.Rooms}
+use Rattle.refusals.specs.{declared.verdict.Verdict.Verdict, declared.verdict.Verdict.the-variants.Fine, declared.verdict.Verdict.the-variants.Bad, Day.wholeBars}
+use Rattle.refusals.specs.{Laws.Steady.Steady, Lines.judged, Lists.listLines}
+use Rattle.engine.specs.{declared.day.Day.Day, declared.day.Taken.Taken, Run.Run, Run.runOver}
 
 -- the first n records of a list, each of w words
 unfoldable pub cut : ℕ → ℕ → List ℕ → List (List ℕ)

@@ -1,22 +1,13 @@
 -- "One bar": what is decided at the close.
-use Prim.Native.Nat.{ℕ, _+_}
-use mathlib.Core.Bool.{Bool, cond}
-use mathlib.Core.List.{List}
-use lib.Dec.{ltb}
-use lib.Ieee.{Float}
-use Rattle.rows.specs.History.{History, historyOf, lastRows}
-use Rattle.rules.specs.declared.position.PositionState.{PositionState}
-use Rattle.portfolio.specs.declared.Portfolio.{Portfolio}
-use Rattle.portfolio.specs.Portfolio.{inPosition, isLong}
-use Rattle.steps.specs.Bytes.{opsOf}
-use Rattle.steps.specs.Machine.{ranOver}
-use Rattle.execution.specs.declared.level.OrderKind.{OrderKind}
-use Rattle.execution.specs.Level.{entryTrigger}
-use Rattle.records.specs.declared.state.Order.{Order}
-use Rattle.records.specs.declared.state.Order.the-variants.{Idle, EnterLong, EnterShort, Exit}
-use Rattle.records.specs.declared.state.Position.{Position}
-use Rattle.records.specs.declared.settings.Settings.{Settings}
-use Rattle.records.specs.Lent.{Lists}
+use Rattle.words.specs.Prelude.{ℕ, _+_, Bool, cond, List, ltb, Float}
+use Rattle.rows.specs.{History.History, History.historyOf, History.lastRows}
+use Rattle.rules.specs.{declared.position.PositionState.PositionState}
+use Rattle.portfolio.specs.{declared.Portfolio.Portfolio, Portfolio.inPosition, Portfolio.isLong}
+use Rattle.steps.specs.{Bytes.opsOf, Machine.ranOver}
+use Rattle.execution.specs.{declared.level.OrderKind.OrderKind, Level.entryTrigger}
+use Rattle.records.specs.{declared.state.Order.Order, declared.state.Order.the-variants.Idle, declared.state.Order.the-variants.EnterLong}
+use Rattle.records.specs.{declared.state.Order.the-variants.EnterShort, declared.state.Order.the-variants.Exit, declared.state.Position.Position}
+use Rattle.records.specs.{declared.settings.Settings.Settings, Lent.Lists}
 
 -- what a rule's list of steps answers
 unfoldable pub listSays : History → PositionState → List ℕ → Bool

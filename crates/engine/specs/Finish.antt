@@ -1,33 +1,15 @@
 -- The end of a run.
-use Prim.Native.Nat.{ℕ, _+_, _-_, _*_}
-use mathlib.Core.Bool.{cond}
-use mathlib.Core.List.{List}
-use lib.Dec.{ltb}
-use lib.Ieee.{Float}
-use lib.ListN.{take, set}
+use Rattle.words.specs.Prelude.{ℕ, _+_, _-_, _*_, cond, List, ltb, Float, take, set}
+use Rattle.floats.specs.{Floats.wordOf}
+use Rattle.portfolio.specs.{Portfolio.equity, Trade.end}
+use Rattle.execution.specs.{declared.fills.Exit.Exit, declared.fills.Exit.the-variants.NoExit, declared.fills.Exit.the-variants.Exited, Costs.closed}
+use Rattle.metrics.specs.{declared.Metrics.Metrics, Figures.metricsOf, Records.equityOf, Records.pnlsOf}
+use Rattle.records.specs.{declared.settings.Settings.Settings, declared.state.State.State, Lent.Rooms}
+use Rattle.refusals.specs.{declared.verdict.Verdict.Verdict, declared.verdict.Verdict.the-variants.Fine, declared.verdict.Verdict.the-variants.Bad}
+use Rattle.refusals.specs.{Judgement.finishJudged, Rooms.toClose}
+use Rattle.engine.specs.{declared.answer.Ended.Ended, declared.answer.Finished.Finished, declared.answer.Finished.the-variants.Refused}
+use Rattle.engine.specs.{declared.answer.Finished.the-variants.Done, Account.leaving, Books.booked, Step.With}
 use Rattle.words.specs.Limits as Limits
-use Rattle.floats.specs.Floats.{wordOf}
-use Rattle.portfolio.specs.Portfolio.{equity}
-use Rattle.portfolio.specs.Trade.{end}
-use Rattle.execution.specs.declared.fills.Exit.{Exit}
-use Rattle.execution.specs.declared.fills.Exit.the-variants.{NoExit, Exited}
-use Rattle.execution.specs.Costs.{closed}
-use Rattle.metrics.specs.declared.Metrics.{Metrics}
-use Rattle.metrics.specs.Figures.{metricsOf}
-use Rattle.metrics.specs.Records.{equityOf, pnlsOf}
-use Rattle.records.specs.declared.settings.Settings.{Settings}
-use Rattle.records.specs.declared.state.State.{State}
-use Rattle.refusals.specs.declared.verdict.Verdict.{Verdict}
-use Rattle.refusals.specs.declared.verdict.Verdict.the-variants.{Fine, Bad}
-use Rattle.refusals.specs.Judgement.{finishJudged}
-use Rattle.records.specs.Lent.{Rooms}
-use Rattle.refusals.specs.Rooms.{toClose}
-use Rattle.engine.specs.declared.answer.Ended.{Ended}
-use Rattle.engine.specs.declared.answer.Finished.{Finished}
-use Rattle.engine.specs.declared.answer.Finished.the-variants.{Refused, Done}
-use Rattle.engine.specs.Account.{leaving}
-use Rattle.engine.specs.Books.{booked}
-use Rattle.engine.specs.Step.{With}
 
 -- "Finish closes an open position, if a bar was seen, at the last close with a taker fee, reason end."
 unfoldable pub lastExit : Settings → State → Exit

@@ -1,33 +1,15 @@
 -- Rows that do not move. Within a call of many bars a full room is a ring: a row goes over the oldest, and the rows that are held begin at row `start`
 -- of the room. What the room would be had the rows moved is the room turned so that row `start` stands first. Definitions only.
-use Prim.Native.Nat.{ℕ, _+_, _≤_}
-use mathlib.Core.Path.{_≡_}
-use mathlib.Core.Bool.{Bool, true, false, cond}
-use mathlib.Core.List.{List}
-use lib.ListN.{length}
-use lib.Dec.{eqb}
-use lib.Ieee.{Float}
-use Rattle.words.specs.Limits.{rowWords}
-use Rattle.words.specs.Words.{overwrite, shifted}
-use Rattle.rows.specs.declared.ring.Ring.{Ring}
-use Rattle.rows.specs.History.{width, lastRows}
-use Rattle.rows.specs.Laws.Ring.{RingFine}
-use Rattle.rows.specs.Ring.{ringOf, turned, ringWith, ringAfter}
-use Rattle.rows.specs.Room.{withRow, heldWith}
-use Rattle.records.specs.declared.settings.Settings.{Settings}
-use Rattle.records.specs.declared.state.Order.{Order}
-use Rattle.records.specs.declared.state.Position.{Position}
-use Rattle.records.specs.declared.state.State.{State}
-use Rattle.records.specs.Lent.{Lists, rowPlaces}
-use Rattle.refusals.specs.declared.verdict.Verdict.the-variants.{Fine}
-use Rattle.refusals.specs.Lines.{judged}
-use Rattle.refusals.specs.Lists.{listLines}
-use Rattle.engine.specs.declared.answer.Advanced.{Advanced}
-use Rattle.engine.specs.declared.answer.Answer.{Answer}
-use Rattle.engine.specs.declared.record.Place.{Place}
-use Rattle.engine.specs.declared.answer.Answer.the-variants.{Refused, Done}
-use Rattle.engine.specs.Decide.{answersOf, stateAt, orderAfter}
-use Rattle.engine.specs.Step.{With, Is, Ready}
+use Rattle.words.specs.Prelude.{ℕ, _+_, _≤_, _≡_, Bool, true, false, cond, List, length, eqb, Float}
+use Rattle.words.specs.{Limits.rowWords, Words.overwrite, Words.shifted}
+use Rattle.rows.specs.{declared.ring.Ring.Ring, History.width, History.lastRows, Laws.Ring.RingFine, Ring.ringOf, Ring.turned, Ring.ringWith, Ring.ringAfter}
+use Rattle.rows.specs.{Room.withRow, Room.heldWith}
+use Rattle.records.specs.{declared.settings.Settings.Settings, declared.state.Order.Order, declared.state.Position.Position, declared.state.State.State, Lent.Lists}
+use Rattle.records.specs.{Lent.rowPlaces}
+use Rattle.refusals.specs.{declared.verdict.Verdict.the-variants.Fine, Lines.judged, Lists.listLines}
+use Rattle.engine.specs.{declared.answer.Advanced.Advanced, declared.answer.Answer.Answer, declared.record.Place.Place}
+use Rattle.engine.specs.{declared.answer.Answer.the-variants.Refused, declared.answer.Answer.the-variants.Done, Decide.answersOf, Decide.stateAt}
+use Rattle.engine.specs.{Decide.orderAfter, Step.With, Step.Is, Step.Ready}
 
 -- a row added to the rows `before`: where the call has one bar they move up, else it goes over the oldest
 unfoldable pub keptRing : Bool → List ℕ → Ring → List ℕ → Ring

@@ -1,10 +1,6 @@
 -- "One bar": the row that is recorded, and the rows that a room holds.
-use Prim.Native.Nat.{ℕ, zero, suc, _-_, _*_, _/_, _%_, _^_}
-use mathlib.Core.Bool.{cond}
-use mathlib.Core.List.{List, [], _∷_, _++_}
-use lib.ListN.{getD, take}
-use lib.Dec.{ltb, eqb}
-use Rattle.rows.specs.History.{width}
+use Rattle.words.specs.Prelude.{ℕ, zero, suc, _-_, _*_, _/_, _%_, _^_, cond, List, [], _∷_, _++_, getD, take, ltb, eqb}
+use Rattle.rows.specs.{History.width}
 
 -- "A row is the bar's six words, the presence mask and K slots (an absent slot's word is 0)": word j of it, where slot k is
 -- word 7 + k and is absent where bit k of the mask is 0.

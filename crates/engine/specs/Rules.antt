@@ -1,21 +1,12 @@
 -- The rules of a table and what they mean, and the settings and lists that belong to a table.
-use Prim.Native.Nat.{ℕ, _<_}
-use mathlib.Core.Path.{_≡_}
-use mathlib.Core.List.{List}
-use Rattle.rows.specs.History.{History}
-use Rattle.table.specs.declared.answer.Answer.the-variants.{Accepted}
-use Rattle.table.specs.Checked.{checked}
-use Rattle.table.specs.Header.{slots}
-use Rattle.table.specs.Reading.{treeOf}
-use Rattle.table.specs.Trees.{Condition, reachOf}
-use Rattle.rules.specs.declared.position.PositionState.{PositionState}
+use Rattle.words.specs.Prelude.{ℕ, _<_, _≡_, List}
+use Rattle.rows.specs.{History.History}
+use Rattle.table.specs.{declared.answer.Answer.the-variants.Accepted, Checked.checked, Header.slots, Reading.treeOf, Trees.Condition, Trees.reachOf, Bytes.Bytes}
+use Rattle.rules.specs.{declared.position.PositionState.PositionState}
+use Rattle.steps.specs.{Bytes.bytesOf, Translating.stepsOf}
+use Rattle.records.specs.{declared.settings.Settings.Settings, Lent.Lists}
+use Rattle.engine.specs.{Decide.Answers}
 use Rattle.rules.specs.Meaning as Meaning
-use Rattle.steps.specs.Bytes.{bytesOf}
-use Rattle.table.specs.Bytes.{Bytes}
-use Rattle.steps.specs.Translating.{stepsOf}
-use Rattle.records.specs.declared.settings.Settings.{Settings}
-use Rattle.records.specs.Lent.{Lists}
-use Rattle.engine.specs.Decide.{Answers}
 
 -- the rules of a table, in tree order
 pub record Rules : Type 0 where

@@ -1,27 +1,14 @@
 -- One bar. "Order, as in `step_with_feeds`: fill the working order, record the row, intrabar exits, funding, equity at the
 -- close, decide."
-use Prim.Native.Nat.{ℕ, _+_, _≤_, _<_}
-use mathlib.Core.Path.{_≡_}
-use mathlib.Core.Bool.{not}
-use mathlib.Core.List.{List, [], _∷_, _++_}
-use Rattle.words.specs.Limits.{mostCount, mostSlots}
-use Rattle.rows.specs.History.{historyOf}
-use Rattle.rows.specs.Room.{withRow, heldWith}
-use Rattle.records.specs.declared.settings.Settings.{Settings}
-use Rattle.records.specs.declared.state.State.{State}
-use Rattle.refusals.specs.declared.verdict.Verdict.{Verdict}
-use Rattle.refusals.specs.declared.verdict.Verdict.the-variants.{Fine, Bad}
-use Rattle.records.specs.Bar.{candleOf}
-use Rattle.refusals.specs.Lines.{Line, line, judged}
-use Rattle.refusals.specs.Judgement.{stepLines}
-use Rattle.records.specs.Lent.{Lists, Rooms}
-use Rattle.engine.specs.declared.answer.Answer.{Answer}
-use Rattle.engine.specs.declared.answer.Answer.the-variants.{Refused, Done}
-use Rattle.engine.specs.declared.account.Filled.{Filled}
-use Rattle.engine.specs.Account.{filled, intrabar, charged}
-use Rattle.engine.specs.Books.{booked, marked}
-use Rattle.engine.specs.Decide.{decided}
-use Rattle.engine.specs.Record.{rowOf, heldRows}
+use Rattle.words.specs.Prelude.{ℕ, _+_, _≤_, _<_, _≡_, not, List, [], _∷_, _++_}
+use Rattle.words.specs.{Limits.mostCount, Limits.mostSlots}
+use Rattle.rows.specs.{History.historyOf, Room.withRow, Room.heldWith}
+use Rattle.records.specs.{declared.settings.Settings.Settings, declared.state.State.State, Bar.candleOf, Lent.Lists, Lent.Rooms}
+use Rattle.refusals.specs.{declared.verdict.Verdict.Verdict, declared.verdict.Verdict.the-variants.Fine, declared.verdict.Verdict.the-variants.Bad, Lines.Line}
+use Rattle.refusals.specs.{Lines.line, Lines.judged, Judgement.stepLines}
+use Rattle.engine.specs.{declared.answer.Answer.Answer, declared.answer.Answer.the-variants.Refused, declared.answer.Answer.the-variants.Done}
+use Rattle.engine.specs.{declared.account.Filled.Filled, Account.filled, Account.intrabar, Account.charged, Books.booked, Books.marked, Decide.decided}
+use Rattle.engine.specs.{Record.rowOf, Record.heldRows}
 
 -- a result with what is in the rooms then
 pub record With (A : Type 0) : Type 0 where

@@ -1,33 +1,15 @@
 -- A run that keeps every row: what a bar does to an account, over all rows before it, and what it adds to the books.
-use Prim.Native.Nat.{ℕ, _+_}
-use mathlib.Core.List.{List, [], _∷_, _++_, flatMap}
-use lib.Ieee.{Float}
-use Rattle.rows.specs.History.{History, historyOf, lastRows}
-use Rattle.rules.specs.declared.position.PositionState.{PositionState}
-use Rattle.portfolio.specs.declared.Candle.{Candle}
-use Rattle.portfolio.specs.declared.Trade.{Trade}
-use Rattle.portfolio.specs.Portfolio.{equity}
-use Rattle.portfolio.specs.Trade.{wordsOfTrade}
-use Rattle.execution.specs.declared.fills.Exit.{Exit}
-use Rattle.execution.specs.declared.fills.Exit.the-variants.{NoExit, Exited}
-use Rattle.metrics.specs.declared.Metrics.{Metrics}
-use Rattle.metrics.specs.Figures.{metricsOf}
-use Rattle.metrics.specs.Records.{equityOf, pnlsOf}
-use Rattle.records.specs.declared.settings.Settings.{Settings}
-use Rattle.records.specs.declared.state.Last.{Last}
-use Rattle.records.specs.declared.state.Order.{Order}
-use Rattle.records.specs.declared.state.Position.{Position}
-use Rattle.records.specs.declared.state.State.{State}
-use Rattle.records.specs.Bar.{candleOf}
-use Rattle.records.specs.Lent.{Lists, Rooms}
-use Rattle.records.specs.State.{freshState}
-use Rattle.engine.specs.declared.account.Filled.{Filled}
-use Rattle.engine.specs.Account.{leaving, filled, intrabar, charged}
-use Rattle.engine.specs.Books.{Point, pointOf, wordsOfPoint, lastBecomes, tradesOf}
-use Rattle.engine.specs.Decide.{Answers, answersOf, stateAt, orderAfter}
-use Rattle.engine.specs.Finish.{lastExit}
-use Rattle.engine.specs.Record.{rowOf, heldRows}
-use Rattle.engine.specs.Rules.{Rules, rulesOf, meanings}
+use Rattle.words.specs.Prelude.{ℕ, _+_, List, [], _∷_, _++_, flatMap, Float}
+use Rattle.rows.specs.{History.History, History.historyOf, History.lastRows}
+use Rattle.rules.specs.{declared.position.PositionState.PositionState}
+use Rattle.portfolio.specs.{declared.Candle.Candle, declared.Trade.Trade, Portfolio.equity, Trade.wordsOfTrade}
+use Rattle.execution.specs.{declared.fills.Exit.Exit, declared.fills.Exit.the-variants.NoExit, declared.fills.Exit.the-variants.Exited}
+use Rattle.metrics.specs.{declared.Metrics.Metrics, Figures.metricsOf, Records.equityOf, Records.pnlsOf}
+use Rattle.records.specs.{declared.settings.Settings.Settings, declared.state.Last.Last, declared.state.Order.Order, declared.state.Position.Position}
+use Rattle.records.specs.{declared.state.State.State, Bar.candleOf, Lent.Lists, Lent.Rooms, State.freshState}
+use Rattle.engine.specs.{declared.account.Filled.Filled, Account.leaving, Account.filled, Account.intrabar, Account.charged, Books.Point, Books.pointOf}
+use Rattle.engine.specs.{Books.wordsOfPoint, Books.lastBecomes, Books.tradesOf, Decide.Answers, Decide.answersOf, Decide.stateAt, Decide.orderAfter}
+use Rattle.engine.specs.{Finish.lastExit, Record.rowOf, Record.heldRows, Rules.Rules, Rules.rulesOf, Rules.meanings}
 
 -- ---- the account
 

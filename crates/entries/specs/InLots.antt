@@ -1,34 +1,21 @@
 -- Whole lots (request 5): with a lot that is not 0 what is entered is k·lot of the size that `size` gives at the fill, or of the lesser of that and the
 -- share of the volume; and which entries are turned away, exactly.
-use mathlib.Core.Path.{_≡_, refl, sym, ap, _∙_}
-use mathlib.Core.Bool.{Bool, true, false, cond, true≢false}
-use Prim.Native.Nat.{ℕ}
-use native.Mathlib.Omega.{arith}
+use Rattle.words.specs.Prelude.{_≡_, refl, sym, ap, _∙_, Bool, true, false, cond, true≢false, ℕ, arith, Float}
+use Rattle.floats.specs.{Floats._⊗_, Floats._⊘_, Floats._≺_, Floats._≼_, Floats.min, Floats.eps, Floats.zero, Floats.one, Floor.floor, Floor.twoTo53}
+use Rattle.floats.specs.{Laws.Floor.Counts, Laws.Floor.counts, Sums.counted}
+use Rattle.rows.specs.{History.History}
+use Rattle.portfolio.specs.{declared.Candle.Candle, declared.Portfolio.Portfolio}
+use Rattle.execution.specs.{Size.size, Lots.wholeLots, Lots.inLots, Lots.sizeInLots, Lots.isTooLarge, Lots.orZero, Fills.direction, Fills.volatilityFor}
+use Rattle.execution.specs.{Fills.quantity, Fills.probeQty, Fills.withinVolume, Fills.booked, Fills.executeEntry, Fills.isTurnedAway, WholeLots.none-turned-away}
+use Rattle.execution.specs.{declared.fills.Entry.Entry, declared.fills.Entry.the-variants.NoEntry, declared.fills.Entry.the-variants.Entered}
+use Rattle.execution.specs.{declared.optional.Optional.Optional, declared.lots.Quantity.Quantity, declared.lots.Quantity.the-variants.Nothing}
+use Rattle.execution.specs.{declared.lots.Quantity.the-variants.TooLarge, declared.lots.Quantity.the-variants.Of, declared.level.Side.Side}
+use Rattle.execution.specs.{declared.terms.Slippage.Slippage, declared.terms.Slippage.the-variants.FixedBps, declared.terms.Slippage.the-variants.VolumeImpact}
+use Rattle.execution.specs.{declared.terms.Slippage.the-variants.Unknown, declared.terms.Terms.Terms}
+use Rattle.entries.specs.{Ordered.fillOf, Ordered.orderedAt, Ordered.Entering, Ordered.entering}
 use lib.Ieee as Ieee
-use lib.Ieee.{Float}
-use Rattle.floats.specs.Floats.{_⊗_, _⊘_, _≺_, _≼_, min, eps, zero, one}
-use Rattle.floats.specs.Floor.{floor, twoTo53}
-use Rattle.floats.specs.Laws.Floor.{Counts, counts}
-use Rattle.floats.specs.Sums.{counted}
-use Rattle.rows.specs.History.{History}
-use Rattle.portfolio.specs.declared.Candle.{Candle}
-use Rattle.portfolio.specs.declared.Portfolio.{Portfolio}
-use Rattle.execution.specs.Size.{size}
-use Rattle.execution.specs.Lots.{wholeLots, inLots, sizeInLots, isTooLarge, orZero}
-use Rattle.execution.specs.Fills.{direction, volatilityFor, quantity, probeQty, withinVolume, booked, executeEntry, isTurnedAway}
-use Rattle.execution.specs.WholeLots.{none-turned-away}
-use Rattle.execution.specs.declared.fills.Entry.{Entry}
-use Rattle.execution.specs.declared.fills.Entry.the-variants.{NoEntry, Entered}
 use Rattle.execution.specs.declared.fills.Entry.the-variants as Entry
-use Rattle.execution.specs.declared.optional.Optional.{Optional}
 use Rattle.execution.specs.declared.optional.Optional.the-variants as Optional
-use Rattle.execution.specs.declared.lots.Quantity.{Quantity}
-use Rattle.execution.specs.declared.lots.Quantity.the-variants.{Nothing, TooLarge, Of}
-use Rattle.execution.specs.declared.level.Side.{Side}
-use Rattle.execution.specs.declared.terms.Slippage.{Slippage}
-use Rattle.execution.specs.declared.terms.Slippage.the-variants.{FixedBps, VolumeImpact, Unknown}
-use Rattle.execution.specs.declared.terms.Terms.{Terms}
-use Rattle.entries.specs.Ordered.{fillOf, orderedAt, Entering, entering}
 
 -- "The quantity becomes k·lot, k the largest whole number at most qty/lot as floats compute it": q is that of qty, k from 1 to below 2^53 and exact as a float.
 pub record LotsOf (lot qty q : Float) : Type 0 where

@@ -1,17 +1,14 @@
 -- An entry away from the market (request 1) fills exactly where the bar reaches it, and this is said of the raw price, before slippage. For any level and
 -- any bar, NaN and infinities too.
-use mathlib.Core.Path.{_≡_, refl}
-use mathlib.Core.Bool.{Bool, true, false, cond}
-use mathlib.Core.Logic.{_⊎_}
-use lib.Ieee.{Float, isNan}
-use Rattle.floats.specs.Floats.{_≼_, min, max}
-use Rattle.floats.specs.Laws.Order.{numbers, min-is, max-is, min-first, min-second, max-first, max-second}
-use Rattle.portfolio.specs.declared.Candle.{Candle}
-use Rattle.execution.specs.declared.optional.Optional.{Optional}
-use Rattle.execution.specs.declared.optional.Optional.the-variants.{Absent, Of}
-use Rattle.execution.specs.declared.level.Side.the-variants.{Long, Short}
-use Rattle.execution.specs.declared.level.OrderKind.the-variants.{Market, Limit, Stop, StopLimit}
-use Rattle.execution.specs.Level.{reachedBelow, reachedAbove, noDearerThan, noCheaperThan, longFill, shortFill, levelFill}
+use Rattle.words.specs.Prelude.{_≡_, refl, Bool, true, false, cond, _⊎_, Float, isNan}
+use Rattle.floats.specs.{Floats._≼_, Floats.min, Floats.max, Laws.Order.numbers, Laws.Order.min-is, Laws.Order.max-is, Laws.Order.min-first, Laws.Order.min-second}
+use Rattle.floats.specs.{Laws.Order.max-first, Laws.Order.max-second}
+use Rattle.portfolio.specs.{declared.Candle.Candle}
+use Rattle.execution.specs.{declared.optional.Optional.Optional, declared.optional.Optional.the-variants.Absent, declared.optional.Optional.the-variants.Of}
+use Rattle.execution.specs.{declared.level.Side.the-variants.Long, declared.level.Side.the-variants.Short, declared.level.OrderKind.the-variants.Market}
+use Rattle.execution.specs.{declared.level.OrderKind.the-variants.Limit, declared.level.OrderKind.the-variants.Stop}
+use Rattle.execution.specs.{declared.level.OrderKind.the-variants.StopLimit, Level.reachedBelow, Level.reachedAbove, Level.noDearerThan, Level.noCheaperThan}
+use Rattle.execution.specs.{Level.longFill, Level.shortFill, Level.levelFill}
 
 -- Filled, at a price of which this is so, where a test says yes; not filled where it says no.
 pub data FillsWhen (P : Float → Type 0) : Bool → Optional → Type 0 where

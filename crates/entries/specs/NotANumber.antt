@@ -1,20 +1,12 @@
 -- "Letting a NaN size through the cap as NaN (it becomes the cap)": of `size` itself. And where `size` gives a NaN all the same.
-use mathlib.Core.Path.{_≡_, refl}
-use mathlib.Core.Bool.{Bool, true, false, cond}
-use Prim.Native.Nat.{ℕ}
+use Rattle.words.specs.Prelude.{_≡_, refl, Bool, true, false, cond, ℕ, Float, nan}
+use Rattle.floats.specs.{Floats._⊘_, Floats._≼_, Floats.floatOf, Floats.zero, Floats.one}
+use Rattle.execution.specs.{declared.optional.Optional.Optional, declared.optional.Optional.the-variants.Absent, declared.optional.Optional.the-variants.Of}
+use Rattle.execution.specs.{declared.terms.Risk.Risk, declared.terms.Sizing.Sizing, declared.terms.Sizing.the-variants.FixedQty}
+use Rattle.execution.specs.{declared.terms.Slippage.the-variants.FixedBps, Costs.slippageRate, Costs.fillPrice, Optional.unwrapOr, Size.wanted, Size.atMost}
+use Rattle.execution.specs.{Size.maxNotional, Size.ordered, Size.size}
 use lib.Ieee as Ieee
-use lib.Ieee.{Float, nan}
 use Rattle.floats.specs.Floats as Floats
-use Rattle.floats.specs.Floats.{_⊘_, _≼_, floatOf, zero, one}
-use Rattle.execution.specs.declared.optional.Optional.{Optional}
-use Rattle.execution.specs.declared.optional.Optional.the-variants.{Absent, Of}
-use Rattle.execution.specs.declared.terms.Risk.{Risk}
-use Rattle.execution.specs.declared.terms.Sizing.{Sizing}
-use Rattle.execution.specs.declared.terms.Sizing.the-variants.{FixedQty}
-use Rattle.execution.specs.declared.terms.Slippage.the-variants.{FixedBps}
-use Rattle.execution.specs.Costs.{slippageRate, fillPrice}
-use Rattle.execution.specs.Optional.{unwrapOr}
-use Rattle.execution.specs.Size.{wanted, atMost, maxNotional, ordered, size}
 
 -- A SIZE THAT IS NOT A NUMBER BECOMES THE CAP: where the sizing asks for a NaN, at a price and with an equity above 0 (or a NaN), `size` gives the most that a
 -- position may be worth, over the price.

@@ -1,24 +1,14 @@
 -- What an entry comes to: the quantity that is entered is above EPS, and so never a NaN. For every lot, 0 included.
-use mathlib.Core.Path.{_≡_, refl, sym, _∙_}
-use mathlib.Core.Bool.{Bool, true, false, cond}
-use Prim.Native.Nat.{ℕ}
-use native.Mathlib.Omega.{arith}
-use lib.Ieee.{Float}
-use Rattle.floats.specs.Floats.{_⊗_, _≺_, eps}
-use Rattle.rows.specs.History.{History}
-use Rattle.portfolio.specs.declared.Candle.{Candle}
-use Rattle.portfolio.specs.declared.Portfolio.{Portfolio}
-use Rattle.portfolio.specs.Portfolio.{entered}
-use Rattle.execution.specs.Costs.{slippageRate, fillPrice, takerRate}
-use Rattle.execution.specs.Lots.{isTooLarge, orZero}
-use Rattle.execution.specs.Fills.{direction, volatilityFor, quantity, probeQty, withinVolume, booked, executeEntry}
-use Rattle.execution.specs.declared.fills.Entry.{Entry}
-use Rattle.execution.specs.declared.fills.Entry.the-variants.{NoEntry, Entered}
+use Rattle.words.specs.Prelude.{_≡_, refl, sym, _∙_, Bool, true, false, cond, ℕ, arith, Float}
+use Rattle.floats.specs.{Floats._⊗_, Floats._≺_, Floats.eps}
+use Rattle.rows.specs.{History.History}
+use Rattle.portfolio.specs.{declared.Candle.Candle, declared.Portfolio.Portfolio, Portfolio.entered}
+use Rattle.execution.specs.{Costs.slippageRate, Costs.fillPrice, Costs.takerRate, Lots.isTooLarge, Lots.orZero, Fills.direction, Fills.volatilityFor}
+use Rattle.execution.specs.{Fills.quantity, Fills.probeQty, Fills.withinVolume, Fills.booked, Fills.executeEntry, declared.fills.Entry.Entry}
+use Rattle.execution.specs.{declared.fills.Entry.the-variants.NoEntry, declared.fills.Entry.the-variants.Entered, declared.lots.Quantity.Quantity}
+use Rattle.execution.specs.{declared.lots.Quantity.the-variants.Nothing, declared.lots.Quantity.the-variants.TooLarge, declared.lots.Quantity.the-variants.Of}
+use Rattle.execution.specs.{declared.level.Side.Side, declared.terms.Terms.Terms}
 use Rattle.execution.specs.declared.fills.Entry.the-variants as Entry
-use Rattle.execution.specs.declared.lots.Quantity.{Quantity}
-use Rattle.execution.specs.declared.lots.Quantity.the-variants.{Nothing, TooLarge, Of}
-use Rattle.execution.specs.declared.level.Side.{Side}
-use Rattle.execution.specs.declared.terms.Terms.{Terms}
 
 -- The price of the fill: the raw price, with the slippage of the quantity that is probed.
 unfoldable pub fillOf : Side → Float → Terms → Candle → Portfolio → History → Float

@@ -1,27 +1,16 @@
 -- The Rust's own entry, which drops a quantity of 0 or less where ours drops one of at most EPS (request 7): with a lot of 0 the two are the same, but for
 -- such dust.
-use mathlib.Core.Path.{_≡_, refl, sym, ap, _∙_}
-use mathlib.Core.Logic.{_⊎_, inl, inr}
-use mathlib.Core.Bool.{Bool, true, false, cond, true≢false}
+use Rattle.words.specs.Prelude.{_≡_, refl, sym, ap, _∙_, _⊎_, inl, inr, Bool, true, false, cond, true≢false, Float, isNan}
+use Rattle.floats.specs.{Floats._⊗_, Floats._≺_, Floats._≼_, Floats.min, Floats.eps, Floats.zero, Laws.Order.not-below, Laws.Order.not-above, Laws.Order.numbers}
+use Rattle.floats.specs.{Laws.Order.in-turn}
+use Rattle.rows.specs.{History.History}
+use Rattle.portfolio.specs.{declared.Candle.Candle, declared.Portfolio.Portfolio, Portfolio.entered}
+use Rattle.execution.specs.{Costs.slippageRate, Costs.fillPrice, Costs.takerRate, Size.size, Fills.direction, Fills.volatilityFor, Fills.booked, Fills.executeEntry}
+use Rattle.execution.specs.{RustEntry.rustProbe, RustEntry.rustFill, RustEntry.rustEntry, WholeLots.no-lots, declared.fills.Entry.Entry}
+use Rattle.execution.specs.{declared.fills.Entry.the-variants.NoEntry, declared.fills.Entry.the-variants.Entered, declared.optional.Optional.Optional}
+use Rattle.execution.specs.{declared.optional.Optional.the-variants.Absent, declared.optional.Optional.the-variants.Of, declared.level.Side.Side}
+use Rattle.execution.specs.{declared.terms.Terms.Terms}
 use lib.Ieee as Ieee
-use lib.Ieee.{Float, isNan}
-use Rattle.floats.specs.Floats.{_⊗_, _≺_, _≼_, min, eps, zero}
-use Rattle.floats.specs.Laws.Order.{not-below, not-above, numbers, in-turn}
-use Rattle.rows.specs.History.{History}
-use Rattle.portfolio.specs.declared.Candle.{Candle}
-use Rattle.portfolio.specs.declared.Portfolio.{Portfolio}
-use Rattle.portfolio.specs.Portfolio.{entered}
-use Rattle.execution.specs.Costs.{slippageRate, fillPrice, takerRate}
-use Rattle.execution.specs.Size.{size}
-use Rattle.execution.specs.Fills.{direction, volatilityFor, booked, executeEntry}
-use Rattle.execution.specs.RustEntry.{rustProbe, rustFill, rustEntry}
-use Rattle.execution.specs.WholeLots.{no-lots}
-use Rattle.execution.specs.declared.fills.Entry.{Entry}
-use Rattle.execution.specs.declared.fills.Entry.the-variants.{NoEntry, Entered}
-use Rattle.execution.specs.declared.optional.Optional.{Optional}
-use Rattle.execution.specs.declared.optional.Optional.the-variants.{Absent, Of}
-use Rattle.execution.specs.declared.level.Side.{Side}
-use Rattle.execution.specs.declared.terms.Terms.{Terms}
 
 -- `let base = if partial_fills { base.min(max_participation * volume) } else { base };`
 unfoldable pub baseOf : Terms → Float → Float → Float

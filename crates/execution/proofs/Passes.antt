@@ -1,21 +1,10 @@
 -- A pass over the returns between two rows: what is left of it at a row. Assumes nothing.
-use mathlib.Core.Path.{_≡_, sym, _∙_}
-use mathlib.Core.List.{List}
-use Prim.Native.Nat.{ℕ, suc, _+_, _-_, _≤_, _<_}
-use native.Mathlib.Nat.{add-zero}
-use native.Mathlib.Numerals.{add-one}
-use native.Mathlib.Omega.{arith}
-use lib.ListN.{length}
-use lib.Ieee.{Float}
-use Rattle.floats.specs.Floats.{_⊕_}
-use Rattle.floats.specs.Sums.{sumFrom}
-use Rattle.rows.specs.History.{History}
-use Rattle.execution.specs.Volatility.{closeAt, closes, simpleReturn, kept, returns}
-use Rattle.execution.specs.Tally.{termOf, tallyFrom}
-use Rattle.execution.specs.declared.optional.Optional.{Optional}
-use Rattle.execution.specs.declared.optional.Optional.the-variants.{Absent, Of}
-use Rattle.execution.specs.declared.volatility.Tally.{Tally}
-use Rattle.execution.specs.declared.volatility.Term.{Term}
+use Rattle.words.specs.Prelude.{_≡_, sym, _∙_, List, ℕ, suc, _+_, _-_, _≤_, _<_, add-zero, add-one, arith, length, Float}
+use Rattle.floats.specs.{Floats._⊕_, Sums.sumFrom}
+use Rattle.rows.specs.{History.History}
+use Rattle.execution.specs.{Volatility.closeAt, Volatility.closes, Volatility.simpleReturn, Volatility.kept, Volatility.returns, Tally.termOf}
+use Rattle.execution.specs.{Tally.tallyFrom, declared.optional.Optional.Optional, declared.optional.Optional.the-variants.Absent}
+use Rattle.execution.specs.{declared.optional.Optional.the-variants.Of, declared.volatility.Tally.Tally, declared.volatility.Term.Term}
 
 -- the returns from row i on, up to row `last`
 abbrev pub rest : History → ℕ → ℕ → List Float

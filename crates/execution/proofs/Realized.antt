@@ -1,25 +1,14 @@
 -- The two passes of `realized_vol`, put together. Assumes nothing.
-use mathlib.Core.Path.{_≡_, sym, ap, _∙_}
-use mathlib.Core.List.{List, map, map-id}
-use Prim.Native.Nat.{ℕ, suc, _-_, _≤_}
-use native.Mathlib.Nat.{zero-add}
-use native.Mathlib.Omega.{arith}
-use borrow.Author.Tests.{le-ltb, eq-eqb, ne-eqb}
-use lib.ListN.{length}
-use lib.Ieee.{Float}
+use Rattle.words.specs.Prelude.{_≡_, sym, ap, _∙_, List, map, ℕ, suc, _-_, _≤_, zero-add, arith, le-ltb, eq-eqb, ne-eqb, length, Float}
+use Rattle.floats.specs.{Floats._⊘_, Sums.sumFrom, Sums.sum, Sums.counted, Sqrt.sqrt}
+use Rattle.rows.specs.{History.History}
+use Rattle.execution.specs.{Volatility.closes, Volatility.returns, Volatility.meanOf, Volatility.squareFrom, Volatility.deviation, Volatility.ifPositive}
+use Rattle.execution.specs.{Volatility.spread, Volatility.realizedVol, Tally.termOf, Tally.tallyFrom, declared.optional.Optional.Optional}
+use Rattle.execution.specs.{declared.optional.Optional.the-variants.Absent, declared.volatility.Tally.Tally, declared.volatility.Term.Term}
+use Rattle.execution.specs.{declared.volatility.Term.the-variants.Itself, declared.volatility.Term.the-variants.Squared}
+use Rattle.execution.proofs.{Passes.rest}
+use mathlib.Core.List.{map-id}
 use Rattle.floats.specs.Floats as Floats
-use Rattle.floats.specs.Floats.{_⊘_}
-use Rattle.floats.specs.Sums.{sumFrom, sum, counted}
-use Rattle.floats.specs.Sqrt.{sqrt}
-use Rattle.rows.specs.History.{History}
-use Rattle.execution.specs.Volatility.{closes, returns, meanOf, squareFrom, deviation, ifPositive, spread, realizedVol}
-use Rattle.execution.specs.Tally.{termOf, tallyFrom}
-use Rattle.execution.specs.declared.optional.Optional.{Optional}
-use Rattle.execution.specs.declared.optional.Optional.the-variants.{Absent}
-use Rattle.execution.specs.declared.volatility.Tally.{Tally}
-use Rattle.execution.specs.declared.volatility.Term.{Term}
-use Rattle.execution.specs.declared.volatility.Term.the-variants.{Itself, Squared}
-use Rattle.execution.proofs.Passes.{rest}
 
 module _ (h : History) (held back : ℕ) (are : held ≡ h .rows) (two : 2 ≤ back) (enough : back ≤ held) where
   rets : List Float

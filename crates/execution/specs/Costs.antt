@@ -1,15 +1,10 @@
 -- What a fill costs, and funding. Definitions only, each under what the Rust writes.
-use mathlib.Core.Bool.{Bool, cond}
-use Prim.Native.Nat.{ℕ}
-use lib.Ieee.{Float}
-use Rattle.floats.specs.Floats.{_⊕_, _⊗_, _⊘_, _≺_, abs, zero, one, tenThousand}
-use Rattle.portfolio.specs.declared.Portfolio.{Portfolio}
-use Rattle.portfolio.specs.declared.Closed.{Closed}
-use Rattle.portfolio.specs.Portfolio.{inPosition, funded, exited}
-use Rattle.execution.specs.declared.terms.Slippage.{Slippage}
-use Rattle.execution.specs.declared.terms.Slippage.the-variants.{FixedBps, VolumeImpact, Unknown}
-use Rattle.execution.specs.declared.costs.Funding.{Funding}
-use Rattle.execution.specs.declared.costs.Funding.the-variants.{NotSupplied, Supplied}
+use Rattle.words.specs.Prelude.{Bool, cond, ℕ, Float}
+use Rattle.floats.specs.{Floats._⊕_, Floats._⊗_, Floats._⊘_, Floats._≺_, Floats.abs, Floats.zero, Floats.one, Floats.tenThousand}
+use Rattle.portfolio.specs.{declared.Portfolio.Portfolio, declared.Closed.Closed, Portfolio.inPosition, Portfolio.funded, Portfolio.exited}
+use Rattle.execution.specs.{declared.terms.Slippage.Slippage, declared.terms.Slippage.the-variants.FixedBps}
+use Rattle.execution.specs.{declared.terms.Slippage.the-variants.VolumeImpact, declared.terms.Slippage.the-variants.Unknown, declared.costs.Funding.Funding}
+use Rattle.execution.specs.{declared.costs.Funding.the-variants.NotSupplied, declared.costs.Funding.the-variants.Supplied}
 
 -- `slippage_rate`: a fraction of the price. A kind that the papers do not name slips nothing (added).
 unfoldable pub slippageRate : Slippage → Float → Float → Float

@@ -1,23 +1,14 @@
 -- Both sides of the edges of this crate, proved of its definitions.
-use mathlib.Core.Path.{_≡_, refl}
-use mathlib.Core.Bool.{true, false}
-use Prim.Native.Nat.{ℕ}
-use lib.IntN.{pos, negsuc}
+use Rattle.words.specs.Prelude.{_≡_, refl, true, false, ℕ, pos, negsuc, Float, binary64, fin}
+use Rattle.floats.specs.{Floats._⊗_, Floats._⊘_, Floor.floor, Sums.counted}
+use Rattle.portfolio.specs.{declared.Candle.Candle, Trade.stopLoss}
+use Rattle.execution.specs.{Size.capped, Lots.wholeLots, Lots.inLots, Intrabar.fallTo, Intrabar.fillUnder, Intrabar.fillOver, Intrabar.fired, Intrabar.orElse}
+use Rattle.execution.specs.{Intrabar.firstOf, Intrabar.longExit, Intrabar.intrabarExit, declared.optional.Optional.the-variants.Absent}
+use Rattle.execution.specs.{declared.optional.Optional.the-variants.Of, declared.terms.Risk.Risk, declared.intrabar.Trigger.the-variants.Untouched}
+use Rattle.execution.specs.{declared.intrabar.Trigger.the-variants.At}
 use lib.Ieee as Ieee
-use lib.Ieee.{Float, binary64, fin}
 use Rattle.floats.specs.Floats as Floats
-use Rattle.floats.specs.Floats.{_⊗_, _⊘_}
-use Rattle.floats.specs.Floor.{floor}
-use Rattle.floats.specs.Sums.{counted}
-use Rattle.portfolio.specs.declared.Candle.{Candle}
-use Rattle.portfolio.specs.Trade.{stopLoss}
-use Rattle.execution.specs.Size.{capped}
-use Rattle.execution.specs.Lots.{wholeLots, inLots}
-use Rattle.execution.specs.Intrabar.{fallTo, fillUnder, fillOver, fired, orElse, firstOf, longExit, intrabarExit}
-use Rattle.execution.specs.declared.optional.Optional.the-variants.{Absent, Of}
 use Rattle.execution.specs.declared.lots.Quantity.the-variants as Quantity
-use Rattle.execution.specs.declared.terms.Risk.{Risk}
-use Rattle.execution.specs.declared.intrabar.Trigger.the-variants.{Untouched, At}
 
 abbrev num : ℕ → Float
 num n = Ieee.ofInt binary64 (pos n)

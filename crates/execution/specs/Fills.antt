@@ -1,35 +1,22 @@
 -- `execute_entry` and `execute_exit`. Definitions only, each under what the Rust writes.
-use mathlib.Core.Bool.{Bool, true, false, cond}
-use Prim.Native.Nat.{ℕ}
+use Rattle.words.specs.Prelude.{Bool, true, false, cond, ℕ, Float}
+use Rattle.floats.specs.{Floats._⊗_, Floats._≺_, Floats.min, Floats.eps, Floats.one}
+use Rattle.rows.specs.{History.History}
+use Rattle.portfolio.specs.{declared.Candle.Candle, declared.Portfolio.Portfolio, Portfolio.inPosition, Portfolio.isLong, Portfolio.entered}
+use Rattle.execution.specs.{Size.size, Lots.inLots, Lots.sizeInLots, Lots.isTooLarge, Lots.orZero, Volatility.realizedVol, Costs.slippageRate}
+use Rattle.execution.specs.{Costs.fillPrice, Costs.takerRate, Costs.closed, declared.fills.Entry.Entry, declared.fills.Entry.the-variants.NoEntry}
+use Rattle.execution.specs.{declared.fills.Entry.the-variants.TooLarge, declared.fills.Entry.the-variants.Entered, declared.fills.Exit.Exit}
+use Rattle.execution.specs.{declared.fills.Exit.the-variants.NoExit, declared.fills.Exit.the-variants.Exited, declared.optional.Optional.Optional}
+use Rattle.execution.specs.{declared.optional.Optional.the-variants.Absent, declared.lots.Quantity.Quantity, declared.lots.Quantity.the-variants.Nothing}
+use Rattle.execution.specs.{declared.lots.Quantity.the-variants.Of, declared.level.Side.Side, declared.level.Side.the-variants.Long}
+use Rattle.execution.specs.{declared.level.Side.the-variants.Short, declared.terms.Sizing.Sizing, declared.terms.Sizing.the-variants.FixedFraction}
+use Rattle.execution.specs.{declared.terms.Sizing.the-variants.FixedQty, declared.terms.Sizing.the-variants.FixedCash}
+use Rattle.execution.specs.{declared.terms.Sizing.the-variants.VolTarget, declared.terms.Sizing.the-variants.RiskPerTrade, declared.terms.Slippage.Slippage}
+use Rattle.execution.specs.{declared.terms.Slippage.the-variants.FixedBps, declared.terms.Slippage.the-variants.VolumeImpact, declared.terms.Terms.Terms}
 use lib.Ieee as Ieee
-use lib.Ieee.{Float}
-use Rattle.floats.specs.Floats.{_⊗_, _≺_, min, eps, one}
-use Rattle.rows.specs.History.{History}
-use Rattle.portfolio.specs.declared.Candle.{Candle}
-use Rattle.portfolio.specs.declared.Portfolio.{Portfolio}
-use Rattle.portfolio.specs.Portfolio.{inPosition, isLong, entered}
-use Rattle.execution.specs.Size.{size}
-use Rattle.execution.specs.Lots.{inLots, sizeInLots, isTooLarge, orZero}
-use Rattle.execution.specs.Volatility.{realizedVol}
-use Rattle.execution.specs.Costs.{slippageRate, fillPrice, takerRate, closed}
-use Rattle.execution.specs.declared.fills.Entry.{Entry}
-use Rattle.execution.specs.declared.fills.Entry.the-variants.{NoEntry, TooLarge, Entered}
-use Rattle.execution.specs.declared.fills.Exit.{Exit}
-use Rattle.execution.specs.declared.fills.Exit.the-variants.{NoExit, Exited}
-use Rattle.execution.specs.declared.optional.Optional.{Optional}
-use Rattle.execution.specs.declared.optional.Optional.the-variants.{Absent}
-use Rattle.execution.specs.declared.lots.Quantity.{Quantity}
-use Rattle.execution.specs.declared.lots.Quantity.the-variants.{Nothing, Of}
 use Rattle.execution.specs.declared.lots.Quantity.the-variants as Quantity
-use Rattle.execution.specs.declared.level.Side.{Side}
-use Rattle.execution.specs.declared.level.Side.the-variants.{Long, Short}
-use Rattle.execution.specs.declared.terms.Sizing.{Sizing}
-use Rattle.execution.specs.declared.terms.Sizing.the-variants.{FixedFraction, FixedQty, FixedCash, VolTarget, RiskPerTrade}
 use Rattle.execution.specs.declared.terms.Sizing.the-variants as Sizing
-use Rattle.execution.specs.declared.terms.Slippage.{Slippage}
-use Rattle.execution.specs.declared.terms.Slippage.the-variants.{FixedBps, VolumeImpact}
 use Rattle.execution.specs.declared.terms.Slippage.the-variants as Slippage
-use Rattle.execution.specs.declared.terms.Terms.{Terms}
 
 -- `let dir = match side { Side::Long => 1.0, Side::Short => -1.0 };`
 unfoldable pub direction : Side → Float

@@ -1,22 +1,13 @@
 -- Exits inside a bar: levels, then liquidation. Definitions only, each under what the Rust writes.
-use mathlib.Core.Bool.{Bool, cond}
-use Prim.Native.Nat.{ℕ}
+use Rattle.words.specs.Prelude.{Bool, cond, ℕ, Float}
+use Rattle.floats.specs.{Floats._⊕_, Floats._⊖_, Floats._⊗_, Floats._⊘_, Floats._≺_, Floats._≼_, Floats.min, Floats.max, Floats.zero, Floats.one, Floats.hundred}
+use Rattle.portfolio.specs.{declared.Candle.Candle, declared.Portfolio.Portfolio, Portfolio.inPosition, Portfolio.isLong, Trade.stopLoss, Trade.trailingStop}
+use Rattle.portfolio.specs.{Trade.takeProfit, Trade.liquidation}
+use Rattle.execution.specs.{Costs.closed, declared.fills.Exit.Exit, declared.fills.Exit.the-variants.NoExit, declared.fills.Exit.the-variants.Exited}
+use Rattle.execution.specs.{declared.optional.Optional.Optional, declared.optional.Optional.the-variants.Absent, declared.optional.Optional.the-variants.Of}
+use Rattle.execution.specs.{declared.terms.Risk.Risk, declared.terms.Terms.Terms, declared.intrabar.Trigger.Trigger}
+use Rattle.execution.specs.{declared.intrabar.Trigger.the-variants.Untouched, declared.intrabar.Trigger.the-variants.At}
 use lib.Ieee as Ieee
-use lib.Ieee.{Float}
-use Rattle.floats.specs.Floats.{_⊕_, _⊖_, _⊗_, _⊘_, _≺_, _≼_, min, max, zero, one, hundred}
-use Rattle.portfolio.specs.declared.Candle.{Candle}
-use Rattle.portfolio.specs.declared.Portfolio.{Portfolio}
-use Rattle.portfolio.specs.Portfolio.{inPosition, isLong}
-use Rattle.portfolio.specs.Trade.{stopLoss, trailingStop, takeProfit, liquidation}
-use Rattle.execution.specs.Costs.{closed}
-use Rattle.execution.specs.declared.fills.Exit.{Exit}
-use Rattle.execution.specs.declared.fills.Exit.the-variants.{NoExit, Exited}
-use Rattle.execution.specs.declared.optional.Optional.{Optional}
-use Rattle.execution.specs.declared.optional.Optional.the-variants.{Absent, Of}
-use Rattle.execution.specs.declared.terms.Risk.{Risk}
-use Rattle.execution.specs.declared.terms.Terms.{Terms}
-use Rattle.execution.specs.declared.intrabar.Trigger.{Trigger}
-use Rattle.execution.specs.declared.intrabar.Trigger.the-variants.{Untouched, At}
 
 -- "The favourable extreme takes this bar first": `if is_long { extreme.max(high) } else { extreme.min(low) }`
 unfoldable pub favourable : Candle → Float → Bool → Float

@@ -1,18 +1,14 @@
 -- Entries away from the market (request 1). Definitions only, under the request's sentences; beside them what the Rust's `level_fill` writes.
-use mathlib.Core.Bool.{cond}
-use lib.Ieee.{Float}
-use Rattle.floats.specs.Floats.{_⊕_, _⊗_, _⊘_, _≼_, min, max, one, hundred}
-use Rattle.portfolio.specs.declared.Candle.{Candle}
-use Rattle.execution.specs.declared.optional.Optional.{Optional}
-use Rattle.execution.specs.declared.optional.Optional.the-variants.{Absent, Of}
-use Rattle.execution.specs.declared.level.Side.{Side}
-use Rattle.execution.specs.declared.level.Side.the-variants.{Long, Short}
-use Rattle.execution.specs.declared.level.Entries.{Entries}
-use Rattle.execution.specs.declared.level.OrderType.{OrderType}
-use Rattle.execution.specs.declared.level.OrderType.the-variants.{Market as MarketType, Limit as LimitType, Stop as StopType}
-use Rattle.execution.specs.declared.level.OrderType.the-variants.{StopLimit as StopLimitType, Unknown}
-use Rattle.execution.specs.declared.level.OrderKind.{OrderKind}
-use Rattle.execution.specs.declared.level.OrderKind.the-variants.{Market, Limit, Stop, StopLimit}
+use Rattle.words.specs.Prelude.{cond, Float}
+use Rattle.floats.specs.{Floats._⊕_, Floats._⊗_, Floats._⊘_, Floats._≼_, Floats.min, Floats.max, Floats.one, Floats.hundred}
+use Rattle.portfolio.specs.{declared.Candle.Candle}
+use Rattle.execution.specs.{declared.optional.Optional.Optional, declared.optional.Optional.the-variants.Absent, declared.optional.Optional.the-variants.Of}
+use Rattle.execution.specs.{declared.level.Side.Side, declared.level.Side.the-variants.Long, declared.level.Side.the-variants.Short}
+use Rattle.execution.specs.{declared.level.Entries.Entries, declared.level.OrderType.OrderType, declared.level.OrderType.the-variants.Market as MarketType}
+use Rattle.execution.specs.{declared.level.OrderType.the-variants.Limit as LimitType, declared.level.OrderType.the-variants.Stop as StopType}
+use Rattle.execution.specs.{declared.level.OrderType.the-variants.StopLimit as StopLimitType, declared.level.OrderType.the-variants.Unknown}
+use Rattle.execution.specs.{declared.level.OrderKind.OrderKind, declared.level.OrderKind.the-variants.Market, declared.level.OrderKind.the-variants.Limit}
+use Rattle.execution.specs.{declared.level.OrderKind.the-variants.Stop, declared.level.OrderKind.the-variants.StopLimit}
 
 -- "the level is the deciding bar's close times (1 + pct/100)"
 unfoldable pub levelFrom : Float → Float → Float

@@ -1,14 +1,10 @@
 -- Whole lots: "Brokers reject 3.7 contracts. Sizing gains a lot." Definitions only.
-use mathlib.Core.Bool.{Bool, true, false, cond}
+use Rattle.words.specs.Prelude.{Bool, true, false, cond, Float}
+use Rattle.floats.specs.{Floats._⊗_, Floats._⊘_, Floats._≼_, Floats.zero, Floats.one, Floor.floor, Floor.twoTo53, Sums.counted}
+use Rattle.execution.specs.{declared.optional.Optional.Optional, declared.lots.Quantity.Quantity, declared.lots.Quantity.the-variants.Nothing}
+use Rattle.execution.specs.{declared.lots.Quantity.the-variants.TooLarge, declared.lots.Quantity.the-variants.Of}
 use lib.Ieee as Ieee
-use lib.Ieee.{Float}
-use Rattle.floats.specs.Floats.{_⊗_, _⊘_, _≼_, zero, one}
-use Rattle.floats.specs.Floor.{floor, twoTo53}
-use Rattle.floats.specs.Sums.{counted}
-use Rattle.execution.specs.declared.optional.Optional.{Optional}
 use Rattle.execution.specs.declared.optional.Optional.the-variants as Optional
-use Rattle.execution.specs.declared.lots.Quantity.{Quantity}
-use Rattle.execution.specs.declared.lots.Quantity.the-variants.{Nothing, TooLarge, Of}
 
 -- "k the largest whole number at most qty/lot as floats compute it; a quotient of 2^53 or more is turned away. A k of 0 or less, or a
 -- quotient that is NaN, means no order."

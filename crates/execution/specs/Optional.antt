@@ -1,7 +1,6 @@
 -- A number that may not be there.
-use lib.Ieee.{Float}
-use Rattle.execution.specs.declared.optional.Optional.{Optional}
-use Rattle.execution.specs.declared.optional.Optional.the-variants.{Absent, Of}
+use Rattle.words.specs.Prelude.{Float}
+use Rattle.execution.specs.{declared.optional.Optional.Optional, declared.optional.Optional.the-variants.Absent, declared.optional.Optional.the-variants.Of}
 
 -- `unwrap_or`
 unfoldable pub unwrapOr : Optional → Float → Float

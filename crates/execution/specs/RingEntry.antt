@@ -1,25 +1,14 @@
 -- Rows that are read from a row on give the volatility, and the entry, of the rows turned so that it stands first.
-use mathlib.Core.Path.{_≡_, refl, ap}
-use mathlib.Core.Logic.{⊎-elim}
-use mathlib.Core.List.{List}
-use Prim.Native.Nat.{ℕ, _+_, _-_, _≤_, _<_}
-use native.Mathlib.Omega.{arith}
-use lib.Ieee.{Float}
-use borrow.Author.Tests.{lt-ltb, le-ltb}
-use Rattle.words.specs.Laws.Numbers.{less-or-not}
-use Rattle.floats.specs.Floats.{floatOf}
-use Rattle.rows.specs.History.{History, historyOf, field, width}
-use Rattle.rows.specs.Ring.{ringOf, turned}
-use Rattle.rows.specs.Laws.Ring.{SameRows, ring-turned}
-use Rattle.portfolio.specs.declared.Candle.{Candle}
-use Rattle.portfolio.specs.declared.Portfolio.{Portfolio}
-use Rattle.execution.specs.declared.level.Side.{Side}
-use Rattle.execution.specs.declared.terms.Sizing.{Sizing}
-use Rattle.execution.specs.declared.terms.Sizing.the-variants.{FixedFraction, FixedQty, FixedCash, VolTarget, RiskPerTrade, Unknown}
-use Rattle.execution.specs.declared.terms.Terms.{Terms}
-use Rattle.execution.specs.Volatility.{closeAt, realizedVol}
-use Rattle.execution.specs.VolatilityWindow.{closes-alike}
-use Rattle.execution.specs.Fills.{volatilityFor, executeEntry}
+use Rattle.words.specs.Prelude.{_≡_, refl, ap, ⊎-elim, List, ℕ, _+_, _-_, _≤_, _<_, arith, Float, lt-ltb, le-ltb}
+use Rattle.words.specs.{Laws.Numbers.less-or-not}
+use Rattle.floats.specs.{Floats.floatOf}
+use Rattle.rows.specs.{History.History, History.historyOf, History.field, History.width, Ring.ringOf, Ring.turned, Laws.Ring.SameRows, Laws.Ring.ring-turned}
+use Rattle.portfolio.specs.{declared.Candle.Candle, declared.Portfolio.Portfolio}
+use Rattle.execution.specs.{declared.level.Side.Side, declared.terms.Sizing.Sizing, declared.terms.Sizing.the-variants.FixedFraction}
+use Rattle.execution.specs.{declared.terms.Sizing.the-variants.FixedQty, declared.terms.Sizing.the-variants.FixedCash}
+use Rattle.execution.specs.{declared.terms.Sizing.the-variants.VolTarget, declared.terms.Sizing.the-variants.RiskPerTrade}
+use Rattle.execution.specs.{declared.terms.Sizing.the-variants.Unknown, declared.terms.Terms.Terms, Volatility.closeAt, Volatility.realizedVol}
+use Rattle.execution.specs.{VolatilityWindow.closes-alike, Fills.volatilityFor, Fills.executeEntry}
 
 -- histories whose rows are alike
 module _ (K : ℕ) (g h : History) (alike : SameRows K g h) where

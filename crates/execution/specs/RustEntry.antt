@@ -1,24 +1,15 @@
 -- An entry as the Rust has it, with no lots: what `executeEntry` is with a lot of 0 (WholeLots, `no-lots`). Definitions only, each under what
 -- the Rust writes.
-use mathlib.Core.Bool.{cond}
-use lib.Ieee.{Float}
-use Rattle.floats.specs.Floats.{_⊗_, min, zero}
-use Rattle.rows.specs.History.{History}
-use Rattle.portfolio.specs.declared.Candle.{Candle}
-use Rattle.portfolio.specs.declared.Portfolio.{Portfolio}
-use Rattle.execution.specs.Optional.{unwrapOr}
-use Rattle.execution.specs.Size.{size}
-use Rattle.execution.specs.Costs.{slippageRate, fillPrice}
-use Rattle.execution.specs.Fills.{direction, volatilityFor, booked}
-use Rattle.execution.specs.declared.fills.Entry.{Entry}
-use Rattle.execution.specs.declared.fills.Entry.the-variants.{NoEntry}
-use Rattle.execution.specs.declared.optional.Optional.{Optional}
-use Rattle.execution.specs.declared.optional.Optional.the-variants.{Absent, Of}
+use Rattle.words.specs.Prelude.{cond, Float}
+use Rattle.floats.specs.{Floats._⊗_, Floats.min, Floats.zero}
+use Rattle.rows.specs.{History.History}
+use Rattle.portfolio.specs.{declared.Candle.Candle, declared.Portfolio.Portfolio}
+use Rattle.execution.specs.{Optional.unwrapOr, Size.size, Costs.slippageRate, Costs.fillPrice, Fills.direction, Fills.volatilityFor, Fills.booked}
+use Rattle.execution.specs.{declared.fills.Entry.Entry, declared.fills.Entry.the-variants.NoEntry, declared.optional.Optional.Optional}
+use Rattle.execution.specs.{declared.optional.Optional.the-variants.Absent, declared.optional.Optional.the-variants.Of, declared.level.Side.Side}
+use Rattle.execution.specs.{declared.terms.Slippage.Slippage, declared.terms.Slippage.the-variants.FixedBps}
+use Rattle.execution.specs.{declared.terms.Slippage.the-variants.VolumeImpact, declared.terms.Slippage.the-variants.Unknown, declared.terms.Terms.Terms}
 use Rattle.execution.specs.declared.lots.Quantity.the-variants as Quantity
-use Rattle.execution.specs.declared.level.Side.{Side}
-use Rattle.execution.specs.declared.terms.Slippage.{Slippage}
-use Rattle.execution.specs.declared.terms.Slippage.the-variants.{FixedBps, VolumeImpact, Unknown}
-use Rattle.execution.specs.declared.terms.Terms.{Terms}
 
 -- `let probe_qty = match slippage { Slippage::VolumeImpact { .. } => size(..)?.unwrap_or(0.0), _ => 0.0 };`
 unfoldable pub rustProbe : Slippage → Terms → Float → Float → Optional → Float

@@ -1,13 +1,11 @@
 -- `size`: the quantity of an entry, without its sign. Definitions only, each under what the Rust writes.
-use mathlib.Core.Bool.{cond}
-use lib.Ieee.{Float}
-use Rattle.floats.specs.Floats.{_⊗_, _⊘_, _≼_, min, zero, one, hundred}
-use Rattle.execution.specs.declared.optional.Optional.{Optional}
-use Rattle.execution.specs.declared.optional.Optional.the-variants.{Absent, Of}
-use Rattle.execution.specs.Optional.{unwrapOr}
-use Rattle.execution.specs.declared.terms.Risk.{Risk}
-use Rattle.execution.specs.declared.terms.Sizing.{Sizing}
-use Rattle.execution.specs.declared.terms.Sizing.the-variants.{FixedFraction, FixedQty, FixedCash, VolTarget, RiskPerTrade, Unknown}
+use Rattle.words.specs.Prelude.{cond, Float}
+use Rattle.floats.specs.{Floats._⊗_, Floats._⊘_, Floats._≼_, Floats.min, Floats.zero, Floats.one, Floats.hundred}
+use Rattle.execution.specs.{declared.optional.Optional.Optional, declared.optional.Optional.the-variants.Absent, declared.optional.Optional.the-variants.Of}
+use Rattle.execution.specs.{Optional.unwrapOr, declared.terms.Risk.Risk, declared.terms.Sizing.Sizing, declared.terms.Sizing.the-variants.FixedFraction}
+use Rattle.execution.specs.{declared.terms.Sizing.the-variants.FixedQty, declared.terms.Sizing.the-variants.FixedCash}
+use Rattle.execution.specs.{declared.terms.Sizing.the-variants.VolTarget, declared.terms.Sizing.the-variants.RiskPerTrade}
+use Rattle.execution.specs.{declared.terms.Sizing.the-variants.Unknown}
 
 -- `let stop = risk.stop_loss_pct.ok_or_else(..)?`: the Rust's error, which refusal 12 keeps out, is no order here (added).
 -- `if stop <= 0.0 { return Ok(None); }  (equity * risk_pct / 100.0) / (price * stop / 100.0)`

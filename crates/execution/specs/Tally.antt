@@ -1,13 +1,8 @@
 -- One pass over the returns, as `realized_vol` goes: how many there are, and a sum over them. Definitions only.
-use mathlib.Core.List.{List, map}
-use Prim.Native.Nat.{ℕ, _+_}
-use lib.ListN.{length}
-use lib.Ieee.{Float}
-use Rattle.floats.specs.Sums.{sumFrom}
-use Rattle.execution.specs.Volatility.{squareFrom}
-use Rattle.execution.specs.declared.volatility.Tally.{Tally}
-use Rattle.execution.specs.declared.volatility.Term.{Term}
-use Rattle.execution.specs.declared.volatility.Term.the-variants.{Itself, Squared}
+use Rattle.words.specs.Prelude.{List, map, ℕ, _+_, length, Float}
+use Rattle.floats.specs.{Sums.sumFrom}
+use Rattle.execution.specs.{Volatility.squareFrom, declared.volatility.Tally.Tally, declared.volatility.Term.Term}
+use Rattle.execution.specs.{declared.volatility.Term.the-variants.Itself, declared.volatility.Term.the-variants.Squared}
 
 -- what a pass adds of a return
 unfoldable pub termOf : Term → Float → Float

@@ -1,18 +1,10 @@
 -- `realized_vol`: the standard deviation of the close-to-close returns of the last rows. Definitions only, each under what
 -- the Rust writes.
-use mathlib.Core.Bool.{cond}
-use mathlib.Core.List.{List, [], _∷_, map}
-use Prim.Native.Nat.{ℕ, zero, suc, _-_}
-use lib.Dec.{ltb, eqb}
-use lib.ListN.{length}
-use lib.Ieee.{Float}
+use Rattle.words.specs.Prelude.{cond, List, [], _∷_, map, ℕ, zero, suc, _-_, ltb, eqb, length, Float}
+use Rattle.floats.specs.{Floats._⊖_, Floats._⊘_, Floats._≺_, Floats.abs, Floats.eps, Sums.sum, Sums.counted, Sums.square, Sqrt.sqrt}
+use Rattle.rows.specs.{History.History, History.field}
+use Rattle.execution.specs.{declared.optional.Optional.Optional, declared.optional.Optional.the-variants.Absent, declared.optional.Optional.the-variants.Of}
 use Rattle.floats.specs.Floats as Floats
-use Rattle.floats.specs.Floats.{_⊖_, _⊘_, _≺_, abs, eps}
-use Rattle.floats.specs.Sums.{sum, counted, square}
-use Rattle.floats.specs.Sqrt.{sqrt}
-use Rattle.rows.specs.History.{History, field}
-use Rattle.execution.specs.declared.optional.Optional.{Optional}
-use Rattle.execution.specs.declared.optional.Optional.the-variants.{Absent, Of}
 
 -- `row.candle.close`
 abbrev pub closeAt : History → ℕ → Float

@@ -1,13 +1,8 @@
 -- The window is long enough for `realized_vol`: kept rows that are the last ones of a run give the volatility of the run.
 -- Assumes nothing.
-use mathlib.Core.Path.{_≡_, refl}
-use Prim.Native.Nat.{ℕ, zero, suc, _+_, _-_, _≤_, _<_}
-use native.Mathlib.Nat.{add-zero, lt-of-not-le}
-use native.Mathlib.Decide.{decLe}
-use native.Mathlib.Omega.{arith}
-use borrow.Author.Tests.{lt-ltb, le-ltb}
-use Rattle.rows.specs.History.{History, field}
-use Rattle.execution.specs.Volatility.{closeAt, closes, realizedVol}
+use Rattle.words.specs.Prelude.{_≡_, refl, ℕ, zero, suc, _+_, _-_, _≤_, _<_, add-zero, lt-of-not-le, decLe, arith, lt-ltb, le-ltb}
+use Rattle.rows.specs.{History.History, History.field}
+use Rattle.execution.specs.{Volatility.closeAt, Volatility.closes, Volatility.realizedVol}
 
 -- rows that close alike, one for one
 pub closes-alike : (g h : History) (i k n : ℕ) → ((j : ℕ) → j < n → closeAt g (i + j) ≡ closeAt h (k + j)) → closes g i n ≡ closes h k n

@@ -1,35 +1,20 @@
 -- What whole lots come to: with a lot of 0 an entry is the Rust's, and with any other every quantity that is entered is k·lot.
-use mathlib.Core.Path.{_≡_, refl, ap, subst, _∙_}
-use mathlib.Core.Bool.{Bool, true, false, cond}
-use Prim.Native.Nat.{ℕ}
-use native.Mathlib.Omega.{arith}
+use Rattle.words.specs.Prelude.{_≡_, refl, ap, subst, _∙_, Bool, true, false, cond, ℕ, arith, Float}
+use Rattle.floats.specs.{Floats._⊗_, Floats._⊘_, Floats._≺_, Floats._≼_, Floats.min, Floats.eps, Floats.zero, Floats.one, Floor.floor, Floor.twoTo53}
+use Rattle.floats.specs.{Laws.Floor.Counts, Laws.Floor.counts, Sums.counted}
+use Rattle.rows.specs.{History.History}
+use Rattle.portfolio.specs.{declared.Candle.Candle, declared.Portfolio.Portfolio, Portfolio.entered}
+use Rattle.execution.specs.{Costs.slippageRate, Costs.fillPrice, Costs.takerRate, Optional.unwrapOr, Size.size, Lots.wholeLots, Lots.inLots, Lots.sizeInLots}
+use Rattle.execution.specs.{Lots.isTooLarge, Lots.orZero, Fills.direction, Fills.volatilityFor, Fills.quantity, Fills.probeQty, Fills.withinVolume}
+use Rattle.execution.specs.{Fills.booked, Fills.executeEntry, Fills.isTurnedAway, RustEntry.rustProbe, RustEntry.rustFill, RustEntry.rustEntry}
+use Rattle.execution.specs.{declared.fills.Entry.Entry, declared.fills.Entry.the-variants.NoEntry, declared.fills.Entry.the-variants.Entered}
+use Rattle.execution.specs.{declared.optional.Optional.Optional, declared.lots.Quantity.Quantity, declared.lots.Quantity.the-variants.Nothing}
+use Rattle.execution.specs.{declared.lots.Quantity.the-variants.TooLarge, declared.lots.Quantity.the-variants.Of, declared.level.Side.Side}
+use Rattle.execution.specs.{declared.terms.Slippage.Slippage, declared.terms.Slippage.the-variants.FixedBps}
+use Rattle.execution.specs.{declared.terms.Slippage.the-variants.VolumeImpact, declared.terms.Slippage.the-variants.Unknown, declared.terms.Terms.Terms}
 use lib.Ieee as Ieee
-use lib.Ieee.{Float}
-use Rattle.floats.specs.Floats.{_⊗_, _⊘_, _≺_, _≼_, min, eps, zero, one}
-use Rattle.floats.specs.Floor.{floor, twoTo53}
-use Rattle.floats.specs.Laws.Floor.{Counts, counts}
-use Rattle.floats.specs.Sums.{counted}
-use Rattle.rows.specs.History.{History}
-use Rattle.portfolio.specs.declared.Candle.{Candle}
-use Rattle.portfolio.specs.declared.Portfolio.{Portfolio}
-use Rattle.portfolio.specs.Portfolio.{entered}
-use Rattle.execution.specs.Costs.{slippageRate, fillPrice, takerRate}
-use Rattle.execution.specs.Optional.{unwrapOr}
-use Rattle.execution.specs.Size.{size}
-use Rattle.execution.specs.Lots.{wholeLots, inLots, sizeInLots, isTooLarge, orZero}
-use Rattle.execution.specs.Fills.{direction, volatilityFor, quantity, probeQty, withinVolume, booked, executeEntry, isTurnedAway}
-use Rattle.execution.specs.RustEntry.{rustProbe, rustFill, rustEntry}
-use Rattle.execution.specs.declared.fills.Entry.{Entry}
-use Rattle.execution.specs.declared.fills.Entry.the-variants.{NoEntry, Entered}
 use Rattle.execution.specs.declared.fills.Entry.the-variants as Entry
-use Rattle.execution.specs.declared.optional.Optional.{Optional}
 use Rattle.execution.specs.declared.optional.Optional.the-variants as Optional
-use Rattle.execution.specs.declared.lots.Quantity.{Quantity}
-use Rattle.execution.specs.declared.lots.Quantity.the-variants.{Nothing, TooLarge, Of}
-use Rattle.execution.specs.declared.level.Side.{Side}
-use Rattle.execution.specs.declared.terms.Slippage.{Slippage}
-use Rattle.execution.specs.declared.terms.Slippage.the-variants.{FixedBps, VolumeImpact, Unknown}
-use Rattle.execution.specs.declared.terms.Terms.{Terms}
 
 -- ---- a lot of 0
 

@@ -1,24 +1,14 @@
 -- What Highest and Lowest answer, said of the values that they look over and not of how these are gone through: the answer is one of them, none is
 -- better, and of equals the oldest is kept. Over numbers: infinite ones too, a NaN not.
-use Prim.Native.Nat.{ℕ, zero, suc, _+_, _-_, _≤_, _<_}
-use mathlib.Core.Path.{_≡_, refl, sym, ap, _∙_}
-use mathlib.Core.Bool.{Bool, true, false, cond, _||_, true≢false}
-use native.Mathlib.Omega.{arith}
-use lib.Dec.{leb}
+use Rattle.words.specs.Prelude.{ℕ, zero, suc, _+_, _-_, _≤_, _<_, _≡_, refl, sym, ap, _∙_, Bool, true, false, cond, _||_, true≢false, arith, leb, Float, isNan}
+use Rattle.words.specs.Prelude.{leb-true, leb-false}
+use Rattle.floats.specs.{Floats._≺_, Floats._≼_, Laws.Order.not-below, Laws.Order.not-above, Laws.Order.numbers, Laws.Order.itself, Laws.Order.in-turn}
+use Rattle.rows.specs.{History.History}
+use Rattle.table.specs.{declared.series.Series.Series, Trees.extreme}
+use Rattle.rules.specs.{declared.values.Value.Value, declared.values.Value.the-variants.Number, Values.better, Values.took, Values.pick, Meaning.seriesAt}
+use Rattle.rules.specs.{Meaning.extremeOver, Meaning.value, Laws.Meaning.extreme-late, Laws.Meaning.extreme-value}
 use lib.Ieee as Ieee
-use lib.Ieee.{Float, isNan}
-use borrow.Author.Tests.{leb-true, leb-false}
-use Rattle.floats.specs.Floats.{_≺_, _≼_}
-use Rattle.floats.specs.Laws.Order.{not-below, not-above, numbers, itself, in-turn}
-use Rattle.rows.specs.History.{History}
-use Rattle.table.specs.declared.series.Series.{Series}
 use Rattle.table.specs.Named as Named
-use Rattle.table.specs.Trees.{extreme}
-use Rattle.rules.specs.declared.values.Value.{Value}
-use Rattle.rules.specs.declared.values.Value.the-variants.{Number}
-use Rattle.rules.specs.Values.{better, took, pick}
-use Rattle.rules.specs.Meaning.{seriesAt, extremeOver, value}
-use Rattle.rules.specs.Laws.Meaning.{extreme-late, extreme-value}
 
 -- An order of floats: at most, and below.
 pub record Order : Type 0 where

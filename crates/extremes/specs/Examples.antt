@@ -1,18 +1,13 @@
 -- Highest and Lowest on rows that a reader can follow, each as one table under one statement. Assumes nothing.
-use Prim.Native.Nat.{ℕ}
-use mathlib.Core.Path.{_≡_, refl}
-use mathlib.Core.List.{List, [], _∷_, _++_}
+use Rattle.words.specs.Prelude.{ℕ, _≡_, refl, List, [], _∷_, _++_}
+use Rattle.floats.specs.{Floats.floatOf}
+use Rattle.rows.specs.{History.historyOf}
+use Rattle.table.specs.{declared.series.Series.Series, declared.series.Series.the-variants.Price, declared.series.Series.the-variants.Slot, Trees.extreme}
+use Rattle.rules.specs.{declared.values.Value.Value, declared.values.Value.the-variants.Missing, declared.values.Value.the-variants.Number, Values.priceOf}
+use Rattle.rules.specs.{Values.slotOf, Values.better, Values.took, Values.pick, Meaning.newest, Meaning.there, Meaning.seriesAt, Meaning.extremeOver}
+use Rattle.rules.specs.{Meaning.extremeAt, Meaning.value}
 use lib.Ieee as Ieee
-use Rattle.floats.specs.Floats.{floatOf}
-use Rattle.rows.specs.History.{historyOf}
-use Rattle.table.specs.declared.series.Series.{Series}
-use Rattle.table.specs.declared.series.Series.the-variants.{Price, Slot}
 use Rattle.table.specs.Named as Named
-use Rattle.table.specs.Trees.{extreme}
-use Rattle.rules.specs.declared.values.Value.{Value}
-use Rattle.rules.specs.declared.values.Value.the-variants.{Missing, Number}
-use Rattle.rules.specs.Values.{priceOf, slotOf, better, took, pick}
-use Rattle.rules.specs.Meaning.{newest, there, seriesAt, extremeOver, extremeAt, value}
 
 -- words of 10, 11, 12, and of a zero without and with a sign
 abbrev ten : ℕ

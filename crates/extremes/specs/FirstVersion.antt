@@ -1,25 +1,12 @@
 -- "Version 1 tables mean what they meant": in an accepted table of version 1 no tree holds a Highest or a Lowest. So the meaning of its rules, their
 -- reach and their steps are those of the kinds that version 1 has.
-use Prim.Native.Nat.{ℕ, _<_}
-use mathlib.Core.Path.{_≡_, refl, sym, ap, _∙_}
-use mathlib.Core.Bool.{Bool, true, false, true≢false}
-use mathlib.Core.List.{List}
-use mathlib.Core.Logic.{⊎-elim}
-use native.Mathlib.Nat.{eq-zero-or-pos}
-use Rattle.table.specs.declared.answer.Answer.the-variants.{Accepted}
-use Rattle.table.specs.declared.header.Form.{Form}
-use Rattle.table.specs.Bytes.{Bytes}
-use Rattle.table.specs.Header.{version, count, root, formOf}
-use Rattle.table.specs.Kinds.{kindOf, extremum}
-use Rattle.table.specs.Laws.Kinds.{extreme-since}
-use Rattle.table.specs.Nodes.{kindRight}
-use Rattle.table.specs.Checked.{checked}
-use Rattle.table.specs.Forest.{trees, forestOf}
-use Rattle.table.specs.Reading.{firstOf, conditions, treeOf}
-use Rattle.table.specs.Limits.{Within, WithinOf, WithinAll}
-use Rattle.table.specs.Trees.{Operand, const, ref, price, prev, arith, extreme, Condition, Conditions, compare, cross, between, trend, every, any}
-use Rattle.table.specs.Trees.{negated, inPosition, barsSince, none, more}
-use Rattle.roundtrip.specs.Laws.AcceptedWithin.{tree-within}
+use Rattle.words.specs.Prelude.{ℕ, _<_, _≡_, refl, sym, ap, _∙_, Bool, true, false, true≢false, List, ⊎-elim, eq-zero-or-pos}
+use Rattle.table.specs.{declared.answer.Answer.the-variants.Accepted, declared.header.Form.Form, Bytes.Bytes, Header.version, Header.count, Header.root}
+use Rattle.table.specs.{Header.formOf, Kinds.kindOf, Kinds.extremum, Laws.Kinds.extreme-since, Nodes.kindRight, Checked.checked, Forest.trees, Forest.forestOf}
+use Rattle.table.specs.{Reading.firstOf, Reading.conditions, Reading.treeOf, Limits.Within, Limits.WithinOf, Limits.WithinAll, Trees.Operand, Trees.const}
+use Rattle.table.specs.{Trees.ref, Trees.price, Trees.prev, Trees.arith, Trees.extreme, Trees.Condition, Trees.Conditions, Trees.compare, Trees.cross}
+use Rattle.table.specs.{Trees.between, Trees.trend, Trees.every, Trees.any, Trees.negated, Trees.inPosition, Trees.barsSince, Trees.none, Trees.more}
+use Rattle.roundtrip.specs.{Laws.AcceptedWithin.tree-within}
 
 -- a tree without Highest and Lowest
 unfoldable pub HasNone : Operand → Type 0

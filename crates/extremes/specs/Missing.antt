@@ -1,18 +1,10 @@
 -- "missing if any is missing", and only then. Assumes nothing.
-use Prim.Native.Nat.{ℕ, zero, suc, _+_, _-_, _≤_, _<_}
-use mathlib.Core.Path.{_≡_, refl, sym, ap, _∙_}
-use mathlib.Core.Bool.{Bool, true, false}
-use native.Mathlib.Omega.{arith}
-use lib.Dec.{ltb}
-use borrow.Author.Tests.{ltb-true, ltb-false}
-use Rattle.rows.specs.History.{History}
-use Rattle.table.specs.declared.series.Series.{Series}
-use Rattle.table.specs.Trees.{extreme}
-use Rattle.rules.specs.declared.values.Value.{Value}
-use Rattle.rules.specs.declared.values.Value.the-variants.{Missing, Number}
-use Rattle.rules.specs.Values.{pick}
-use Rattle.rules.specs.Meaning.{seriesAt, extremeOver, extremeAt, value}
-use Rattle.rules.specs.Laws.Meaning.{any-missing, extreme-early, extreme-late, extreme-value}
+use Rattle.words.specs.Prelude.{ℕ, zero, suc, _+_, _-_, _≤_, _<_, _≡_, refl, sym, ap, _∙_, Bool, true, false, arith, ltb, ltb-true, ltb-false}
+use Rattle.rows.specs.{History.History}
+use Rattle.table.specs.{declared.series.Series.Series, Trees.extreme}
+use Rattle.rules.specs.{declared.values.Value.Value, declared.values.Value.the-variants.Missing, declared.values.Value.the-variants.Number, Values.pick}
+use Rattle.rules.specs.{Meaning.seriesAt, Meaning.extremeOver, Meaning.extremeAt, Meaning.value, Laws.Meaning.any-missing, Laws.Meaning.extreme-early}
+use Rattle.rules.specs.{Laws.Meaning.extreme-late, Laws.Meaning.extreme-value}
 
 -- Of n bars up to bar i one is missing: there are not so many, or one of them, bar j from the oldest on, is.
 pub data SomeMissing (h : History) (s : Series) (n i : ℕ) : Type 0 where

@@ -1,22 +1,16 @@
 -- D cannot be smaller for Highest and Lowest either: rows on which the steps answer yes over D = reach + 1 of them and no over one less, as
 -- steps/specs/Smallest.antt has them for the other kinds that look back.
-use Prim.Native.Nat.{ℕ, _+_}
-use mathlib.Core.Path.{_≡_, refl}
-use mathlib.Core.Bool.{Bool, true, false}
-use mathlib.Core.List.{List, [], _∷_, _++_}
+use Rattle.words.specs.Prelude.{ℕ, _+_, _≡_, refl, Bool, true, false, List, [], _∷_, _++_}
+use Rattle.floats.specs.{Floats.zero}
+use Rattle.rows.specs.{History.historyOf, History.lastRows}
+use Rattle.table.specs.{declared.series.Series.the-variants.Price, declared.series.Series.the-variants.Slot, Trees.const, Trees.prev, Trees.extreme}
+use Rattle.table.specs.{Trees.Condition, Trees.compare, Trees.reach, Trees.reachOf}
+use Rattle.rules.specs.{declared.position.PositionState.PositionState, declared.position.Entered.the-variants.Never, Values.priceOf, Values.slotOf, Values.better}
+use Rattle.rules.specs.{Values.took, Values.pick, Values.tested, Values.compared, Meaning.newest, Meaning.there, Meaning.seriesAt, Meaning.extremeOver}
+use Rattle.rules.specs.{Meaning.extremeAt, Meaning.value}
+use Rattle.steps.specs.{Machine.ago, Machine.effect, Machine.does, Machine.after, Machine.run, Machine.answers, Smallest.Pair, Translation.code, Translation.codeOf}
 use lib.Ieee as Ieee
-use Rattle.floats.specs.Floats.{zero}
-use Rattle.rows.specs.History.{historyOf, lastRows}
-use Rattle.table.specs.declared.series.Series.the-variants.{Price, Slot}
 use Rattle.table.specs.Named as Named
-use Rattle.table.specs.Trees.{const, prev, extreme, Condition, compare, reach, reachOf}
-use Rattle.rules.specs.declared.position.PositionState.{PositionState}
-use Rattle.rules.specs.declared.position.Entered.the-variants.{Never}
-use Rattle.rules.specs.Values.{priceOf, slotOf, better, took, pick, tested, compared}
-use Rattle.rules.specs.Meaning.{newest, there, seriesAt, extremeOver, extremeAt, value}
-use Rattle.steps.specs.Machine.{ago, effect, does, after, run, answers}
-use Rattle.steps.specs.Smallest.{Pair}
-use Rattle.steps.specs.Translation.{code, codeOf}
 
 -- a row of one slot, present, with this close and this slot's word
 row : ℕ → ℕ → List ℕ

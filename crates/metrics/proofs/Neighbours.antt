@@ -1,12 +1,7 @@
 -- Returns: one less than points, from the first point on. Assumes nothing.
-use mathlib.Core.Path.{_≡_, refl, ap, _∙_}
-use mathlib.Core.List.{List, [], _∷_}
-use Prim.Native.Nat.{ℕ, suc, _-_}
-use native.Mathlib.Omega.{arith}
-use lib.ListN.{length, getD, drop}
-use lib.Ieee.{Float}
+use Rattle.words.specs.Prelude.{_≡_, refl, ap, _∙_, List, [], _∷_, ℕ, suc, _-_, arith, length, getD, drop, Float}
+use Rattle.metrics.specs.{Returns.returnsFrom, Returns.barReturns}
 use Rattle.floats.specs.Floats as Floats
-use Rattle.metrics.specs.Returns.{returnsFrom, barReturns}
 
 -- As many returns as points after the first.
 length-from : (e : Float) (es : List Float) → length (returnsFrom e es) ≡ length es

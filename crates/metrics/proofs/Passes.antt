@@ -1,16 +1,9 @@
 -- One pass over the points that sums a part of the returns, whichever part. Assumes nothing.
-use mathlib.Core.Path.{_≡_}
-use mathlib.Core.List.{List, map}
-use Prim.Native.Nat.{ℕ, _+_, _≤_, _<_}
-use lib.ListN.{length, getD, drop}
-use lib.Ieee.{Float}
+use Rattle.words.specs.Prelude.{_≡_, List, map, ℕ, _+_, _≤_, _<_, length, getD, drop, Float}
+use Rattle.floats.specs.{Floats._⊕_, Floats._⊘_, Sums.sumFrom, Sums.sum, Sums.counted}
+use Rattle.metrics.specs.{declared.returns.Part.Part, Returns.barReturn, Returns.returnsFrom, Returns.barReturns, Returns.partOf, Returns.meanOf}
+use Rattle.metrics.proofs.{Neighbours.returns-first, Walks.turn, Walks.done}
 use Rattle.floats.specs.Floats as Floats
-use Rattle.floats.specs.Floats.{_⊕_, _⊘_}
-use Rattle.metrics.specs.declared.returns.Part.{Part}
-use Rattle.floats.specs.Sums.{sumFrom, sum, counted}
-use Rattle.metrics.specs.Returns.{barReturn, returnsFrom, barReturns, partOf, meanOf}
-use Rattle.metrics.proofs.Neighbours.{returns-first}
-use Rattle.metrics.proofs.Walks.{turn, done}
 
 -- What is summed and what is to come from point i, with `before` the point before it, make the whole sum.
 pub record Summing (part : Part) (es : List Float) (before total : Float) (i : ℕ) : Type 0 where

@@ -1,15 +1,8 @@
 -- One turn of each loop over a list: what is to come from place i is the element there and what is to come after it. Assumes nothing.
-use mathlib.Core.Path.{_≡_, sym, ap, _∙_}
-use mathlib.Core.Bool.{true, false}
-use mathlib.Core.List.{List, [], _∷_}
-use Prim.Native.Nat.{ℕ, suc, _+_, _≤_, _<_}
-use native.Mathlib.Numerals.{add-one}
-use lib.ListN.{length, getD, drop, drop-of-length-le}
-use lib.Seq.{drop-cons}
-use lib.Ieee.{Float}
+use Rattle.words.specs.Prelude.{_≡_, sym, ap, _∙_, true, false, List, [], _∷_, ℕ, suc, _+_, _≤_, _<_, add-one, length, getD, drop, drop-of-length-le, drop-cons}
+use Rattle.words.specs.Prelude.{Float}
+use Rattle.metrics.specs.{declared.trades.Side.Side, Trades.isOn, Trades.sizeOf, Trades.sizesOn}
 use Rattle.floats.specs.Floats as Floats
-use Rattle.metrics.specs.declared.trades.Side.{Side}
-use Rattle.metrics.specs.Trades.{isOn, sizeOf, sizesOn}
 
 -- A loop that keeps f of what is to come: x stands at i.
 pub turn : {A : Type 0} (f : List Float → A) {w : A} (xs : List Float) (i : ℕ) {n : ℕ} {x : Float} → n ≡ length xs → i < n → x ≡ getD xs i Floats.zero

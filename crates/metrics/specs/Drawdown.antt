@@ -1,8 +1,6 @@
 -- `max_drawdown_pct` of metrics.rs. Definitions only.
-use mathlib.Core.List.{List, [], _∷_}
-use mathlib.Core.Bool.{cond}
-use lib.Ieee.{Float}
-use Rattle.floats.specs.Floats.{_⊖_, _⊗_, _⊘_, _≺_, floatOf, zero, hundred}
+use Rattle.words.specs.Prelude.{List, [], _∷_, cond, Float}
+use Rattle.floats.specs.{Floats._⊖_, Floats._⊗_, Floats._⊘_, Floats._≺_, Floats.floatOf, Floats.zero, Floats.hundred}
 
 -- `if e > peak { peak = e; }`
 unfoldable pub peakAt : Float → Float → Float

@@ -1,19 +1,12 @@
 -- Edges of the definitions, worked out.
-use mathlib.Core.Path.{_≡_, refl}
-use mathlib.Core.List.{[], _∷_}
-use Prim.Native.Nat.{ℕ}
-use lib.IntN.{ℤ, pos, negsuc}
+use Rattle.words.specs.Prelude.{_≡_, refl, [], _∷_, ℕ, ℤ, pos, negsuc, Float, binary64}
+use Rattle.words.specs.{Outcome.refuses}
+use Rattle.floats.specs.{Sums.sumFrom}
+use Rattle.metrics.specs.{Records.whole, Quotients.infinity, Quotients.gainOver, Returns.barReturn, Returns.returnsFrom, Returns.barReturns, Drawdown.peakAt}
+use Rattle.metrics.specs.{Drawdown.fallPct, Drawdown.deepestAt, Drawdown.drawdownFrom, Drawdown.maxDrawdownPct, Trades.sizesOn, Trades.winRate, Trades.gross}
+use Rattle.metrics.specs.{Trades.profitFactor, Figures.notWhole, Figures.computed}
 use lib.Ieee as Ieee
-use lib.Ieee.{Float, binary64}
-use Rattle.words.specs.Outcome.{refuses}
 use Rattle.floats.specs.Floats as Floats
-use Rattle.floats.specs.Sums.{sumFrom}
-use Rattle.metrics.specs.Records.{whole}
-use Rattle.metrics.specs.Quotients.{infinity, gainOver}
-use Rattle.metrics.specs.Returns.{barReturn, returnsFrom, barReturns}
-use Rattle.metrics.specs.Drawdown.{peakAt, fallPct, deepestAt, drawdownFrom, maxDrawdownPct}
-use Rattle.metrics.specs.Trades.{sizesOn, winRate, gross, profitFactor}
-use Rattle.metrics.specs.Figures.{notWhole, computed}
 
 abbrev num : ℤ → Float
 num n = Ieee.ofInt binary64 n

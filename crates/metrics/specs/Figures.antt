@@ -1,21 +1,10 @@
 -- `compute` of metrics.rs: the nine figures, and what a call answers. Definitions only.
-use mathlib.Core.List.{List, [], _∷_}
-use mathlib.Core.Bool.{cond}
-use Prim.Native.Nat.{ℕ}
-use lib.ListN.{length}
-use lib.Ieee.{Float}
-use Rattle.words.specs.declared.refusal.Refusal.{Refusal}
-use Rattle.words.specs.Outcome.{Outcome, gives, refuses}
-use Rattle.floats.specs.Floats.{_⊖_, wordOf}
-use Rattle.floats.specs.Sums.{returnPct}
-use Rattle.metrics.specs.declared.Metrics.{Metrics}
-use Rattle.metrics.specs.declared.Answer.{Answer}
-use Rattle.metrics.specs.declared.Answer.the-variants.{Done, Refused}
-use Rattle.metrics.specs.Records.{equityOf, pnlsOf, whole}
-use Rattle.metrics.specs.Quotients.{gainOver}
-use Rattle.metrics.specs.Returns.{sharpeRatio, sortinoRatio}
-use Rattle.metrics.specs.Drawdown.{maxDrawdownPct}
-use Rattle.metrics.specs.Trades.{winRate, profitFactor}
+use Rattle.words.specs.Prelude.{List, [], _∷_, cond, ℕ, length, Float}
+use Rattle.words.specs.{declared.refusal.Refusal.Refusal, Outcome.Outcome, Outcome.gives, Outcome.refuses}
+use Rattle.floats.specs.{Floats._⊖_, Floats.wordOf, Sums.returnPct}
+use Rattle.metrics.specs.{declared.Metrics.Metrics, declared.Answer.Answer, declared.Answer.the-variants.Done, declared.Answer.the-variants.Refused}
+use Rattle.metrics.specs.{Records.equityOf, Records.pnlsOf, Records.whole, Quotients.gainOver, Returns.sharpeRatio, Returns.sortinoRatio}
+use Rattle.metrics.specs.{Drawdown.maxDrawdownPct, Trades.winRate, Trades.profitFactor}
 
 -- `equity.last().copied().unwrap_or(initial)`
 unfoldable pub finalEquity : Float → List Float → Float

@@ -1,8 +1,6 @@
 -- What an answer says determines it: no second answer meets the promise of `compute`.
-use mathlib.Core.Path.{_≡_}
-use Rattle.metrics.specs.declared.Answer.{Answer}
-use Rattle.metrics.specs.declared.Answer.the-variants.{Done, Refused}
-use Rattle.metrics.specs.Figures.{outcome}
+use Rattle.words.specs.Prelude.{_≡_}
+use Rattle.metrics.specs.{declared.Answer.Answer, declared.Answer.the-variants.Done, declared.Answer.the-variants.Refused, Figures.outcome}
 
 pub outcome-only : (a b : Answer) → outcome a ≡ outcome b → a ≡ b
 unfolding outcome

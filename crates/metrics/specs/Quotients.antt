@@ -1,7 +1,6 @@
 -- Quotients as metrics.rs forms them. Definitions only.
-use mathlib.Core.Bool.{cond}
-use lib.Ieee.{Float}
-use Rattle.floats.specs.Floats.{_⊘_, _≺_, floatOf, abs, eps, zero}
+use Rattle.words.specs.Prelude.{cond, Float}
+use Rattle.floats.specs.{Floats._⊘_, Floats._≺_, Floats.floatOf, Floats.abs, Floats.eps, Floats.zero}
 
 -- `f64::INFINITY`
 abbrev pub infinity : Float

@@ -1,12 +1,7 @@
 -- Lists of records as they are lent, in 64-bit words, and the floats that the figures read of them. Definitions only.
-use mathlib.Core.List.{List, [], _∷_}
-use mathlib.Core.Bool.{Bool, _&&_}
-use Prim.Native.Nat.{ℕ, zero, suc, _/_, _%_}
-use lib.Dec.{eqb}
-use lib.ListN.{length, getD, drop}
-use lib.Ieee.{Float}
-use Rattle.words.specs.Limits.{pointWords, tradeWords}
-use Rattle.floats.specs.Floats.{floatOf}
+use Rattle.words.specs.Prelude.{List, [], _∷_, Bool, _&&_, ℕ, zero, suc, _/_, _%_, eqb, length, getD, drop, Float}
+use Rattle.words.specs.{Limits.pointWords, Limits.tradeWords}
+use Rattle.floats.specs.{Floats.floatOf}
 
 -- where a point has its equity: its words are time, equity
 abbrev pub equityWord : ℕ

@@ -1,15 +1,9 @@
 -- `bar_returns`, `sharpe_ratio` and `sortino_ratio` of metrics.rs. Definitions only.
-use mathlib.Core.List.{List, [], _∷_, map}
-use mathlib.Core.Bool.{cond}
-use lib.Dec.{ltb}
-use lib.ListN.{length}
-use lib.Ieee.{Float}
-use Rattle.floats.specs.Floats.{_⊖_, _⊘_, _≺_, abs, min, eps, zero, one}
-use Rattle.floats.specs.Sums.{sum, counted, square}
-use Rattle.floats.specs.Sqrt.{sqrt}
-use Rattle.metrics.specs.declared.returns.Part.{Part}
-use Rattle.metrics.specs.declared.returns.Part.the-variants.{Itself, Away, Below}
-use Rattle.metrics.specs.Quotients.{meanOver}
+use Rattle.words.specs.Prelude.{List, [], _∷_, map, cond, ltb, length, Float}
+use Rattle.floats.specs.{Floats._⊖_, Floats._⊘_, Floats._≺_, Floats.abs, Floats.min, Floats.eps, Floats.zero, Floats.one, Sums.sum, Sums.counted, Sums.square}
+use Rattle.floats.specs.{Sqrt.sqrt}
+use Rattle.metrics.specs.{declared.returns.Part.Part, declared.returns.Part.the-variants.Itself, declared.returns.Part.the-variants.Away}
+use Rattle.metrics.specs.{declared.returns.Part.the-variants.Below, Quotients.meanOver}
 
 -- `bar_returns`: of each two neighbours, 0 where the first is next to nothing
 unfoldable pub barReturn : Float → Float → Float

@@ -1,15 +1,8 @@
 -- Win rate and profit factor of metrics.rs, over the trades' pnl. Definitions only.
-use mathlib.Core.List.{List, [], _∷_}
-use mathlib.Core.Bool.{Bool, cond}
-use lib.Dec.{eqb}
-use lib.ListN.{length}
+use Rattle.words.specs.Prelude.{List, [], _∷_, Bool, cond, eqb, length, Float}
+use Rattle.floats.specs.{Floats._⊗_, Floats._⊘_, Floats._≺_, Floats.zero, Floats.hundred, Sums.sum, Sums.counted}
+use Rattle.metrics.specs.{declared.trades.Side.Side, declared.trades.Side.the-variants.Wins, declared.trades.Side.the-variants.Losses, Quotients.gainOver}
 use lib.Ieee as Ieee
-use lib.Ieee.{Float}
-use Rattle.floats.specs.Floats.{_⊗_, _⊘_, _≺_, zero, hundred}
-use Rattle.floats.specs.Sums.{sum, counted}
-use Rattle.metrics.specs.declared.trades.Side.{Side}
-use Rattle.metrics.specs.declared.trades.Side.the-variants.{Wins, Losses}
-use Rattle.metrics.specs.Quotients.{gainOver}
 
 -- `filter(|t| t.pnl > 0.0)`, and `filter(|t| t.pnl < 0.0)`
 abbrev pub isOn : Side → Float → Bool

@@ -1,16 +1,9 @@
 -- The rows that an accepted table needs, beside a lookback.
-use Prim.Native.Nat.{ℕ, _+_, _*_, _≤_, _<_, max}
-use mathlib.Core.Path.{_≡_}
-use mathlib.Core.List.{List}
-use native.Mathlib.Omega.{arith}
-use native.Mathlib.Nat.{mul-le-mul-right}
-use Rattle.words.specs.Limits.{mostRows}
-use Rattle.table.specs.declared.answer.Answer.the-variants.{Accepted}
-use Rattle.table.specs.Checked.{checked}
-use Rattle.table.specs.Reach.{rowsNeeded}
-use Rattle.table.specs.Laws.Accepted.{accepted, tree-reach}
-use Rattle.roundtrip.specs.Laws.Reach.{rows-are}
-use Rattle.table.specs.Depth.{greatestReach, depthOf}
+use Rattle.words.specs.Prelude.{ℕ, _+_, _*_, _≤_, _<_, max, _≡_, List, arith, mul-le-mul-right}
+use Rattle.words.specs.{Limits.mostRows}
+use Rattle.table.specs.{declared.answer.Answer.the-variants.Accepted, Checked.checked, Reach.rowsNeeded, Laws.Accepted.accepted, Laws.Accepted.tree-reach}
+use Rattle.table.specs.{Depth.greatestReach, Depth.depthOf}
+use Rattle.roundtrip.specs.{Laws.Reach.rows-are}
 
 pub needed : (t : List ℕ) (n r lookback : ℕ) → checked t ≡ Accepted n r → max r (lookback + 1) ≡ depthOf t lookback
 unfolding depthOf greatestReach

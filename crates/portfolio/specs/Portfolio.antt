@@ -1,13 +1,7 @@
 -- The one-position portfolio, each definition under the name of the Rust's function. Definitions only.
-use mathlib.Core.Bool.{Bool, cond}
-use Prim.Native.Nat.{ℕ}
-use lib.Ieee.{Float}
-use Rattle.floats.specs.Floats.{_⊕_, _⊖_, _⊗_, _≺_, abs, min, max, eps, zero}
-use Rattle.floats.specs.Sums.{returnPct}
-use Rattle.portfolio.specs.declared.Candle.{Candle}
-use Rattle.portfolio.specs.declared.Portfolio.{Portfolio}
-use Rattle.portfolio.specs.declared.Trade.{Trade}
-use Rattle.portfolio.specs.declared.Closed.{Closed}
+use Rattle.words.specs.Prelude.{Bool, cond, ℕ, Float}
+use Rattle.floats.specs.{Floats._⊕_, Floats._⊖_, Floats._⊗_, Floats._≺_, Floats.abs, Floats.min, Floats.max, Floats.eps, Floats.zero, Sums.returnPct}
+use Rattle.portfolio.specs.{declared.Candle.Candle, declared.Portfolio.Portfolio, declared.Trade.Trade, declared.Closed.Closed}
 
 -- `new`
 unfoldable pub fresh : Float → Portfolio

@@ -1,8 +1,7 @@
 -- A completed trade: why it ended, and its words. Definitions only.
-use mathlib.Core.List.{List, [], _∷_}
-use Prim.Native.Nat.{ℕ}
-use Rattle.floats.specs.Floats.{wordOf}
-use Rattle.portfolio.specs.declared.Trade.{Trade}
+use Rattle.words.specs.Prelude.{List, [], _∷_, ℕ}
+use Rattle.floats.specs.{Floats.wordOf}
+use Rattle.portfolio.specs.{declared.Trade.Trade}
 
 -- "Reasons: 1 signal, 2 stop_loss, 3 trailing_stop, 4 take_profit, 5 liquidation, 6 end."
 abbrev pub signal : ℕ

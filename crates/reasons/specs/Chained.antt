@@ -1,19 +1,12 @@
 -- "no other chain is given": the request's sentences as a relation between a condition and its lines, which the chain alone meets. A line is true of
 -- its condition (Telling): nothing here speaks of how lines are made. At any bar up to the newest.
-use Prim.Native.Nat.{ℕ, _+_, _≤_}
-use mathlib.Core.Path.{_≡_, refl, sym, ap, _∙_}
-use mathlib.Core.Bool.{Bool, true, false, not, cond, Bool·beq, _&&_, _||_}
-use mathlib.Core.List.{List, [], _∷_}
-use native.Mathlib.Omega.{arith}
-use Rattle.rows.specs.History.{History}
-use Rattle.table.specs.Trees.{Condition, Conditions, compare, cross, between, trend, every, any, negated, inPosition, barsSince, none, more}
-use Rattle.table.specs.Writing.{nodesOf}
-use Rattle.rules.specs.declared.position.PositionState.{PositionState}
-use Rattle.rules.specs.Meaning.{newest, holds, allHold, anyHolds}
-use Rattle.chain.specs.Missing.{inTable}
-use Rattle.chain.specs.Chain.{ChainLine, lineAt, chain, firstWith}
-use Rattle.reasons.specs.Telling.{LineOf}
-use Rattle.reasons.specs.Truth.{line-only, line-true}
+use Rattle.words.specs.Prelude.{ℕ, _+_, _≤_, _≡_, refl, sym, ap, _∙_, Bool, true, false, not, cond, Bool·beq, _&&_, _||_, List, [], _∷_, arith}
+use Rattle.rows.specs.{History.History}
+use Rattle.table.specs.{Trees.Condition, Trees.Conditions, Trees.compare, Trees.cross, Trees.between, Trees.trend, Trees.every, Trees.any, Trees.negated}
+use Rattle.table.specs.{Trees.inPosition, Trees.barsSince, Trees.none, Trees.more, Writing.nodesOf}
+use Rattle.rules.specs.{declared.position.PositionState.PositionState, Meaning.newest, Meaning.holds, Meaning.allHold, Meaning.anyHolds}
+use Rattle.chain.specs.{Missing.inTable, Chain.ChainLine, Chain.lineAt, Chain.chain, Chain.firstWith}
+use Rattle.reasons.specs.{Telling.LineOf, Truth.line-only, Truth.line-true}
 
 module _ (h : History) (s : PositionState) (bar : ℕ) where
   -- "the first child with that answer": of the conditions in a row, the first at node j, condition d at node k gives it, and none before

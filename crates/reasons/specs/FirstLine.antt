@@ -1,34 +1,17 @@
 -- "the first gives the rule's answer (an absent tree has no lines)": joined with what `answer_rule` promises. Assumes nothing.
-use Prim.Native.Nat.{ℕ, _*_, _<_}
-use mathlib.Core.Path.{_≡_, refl, sym, ap, _∙_}
-use mathlib.Core.Bool.{Bool, true, false, cond, _&&_}
-use mathlib.Core.List.{List, [], _∷_}
-use native.Mathlib.Omega.{arith}
-use lib.Dec.{ltb, leb, eqb}
-use lib.ListN.{length}
-use borrow.Author.Tests.{lt-leb, eqb-true, eqb-false}
-use Rattle.words.specs.Limits.{trees}
-use Rattle.words.specs.Outcome.{refusal}
-use Rattle.rows.specs.History.{History, historyOf, wholeRows}
-use Rattle.table.specs.declared.answer.Answer.{Answer}
-use Rattle.table.specs.declared.answer.Answer.the-variants.{Accepted, Refused}
-use Rattle.table.specs.declared.trees.Tree.{Tree}
-use Rattle.table.specs.Header.{slots, count, root, treeNumber}
-use Rattle.table.specs.Checked.{checked}
-use Rattle.table.specs.Reading.{treeOf}
-use Rattle.table.specs.Trees.{Condition, compare, cross, between, trend, every, any, negated, inPosition, barsSince}
-use Rattle.rules.specs.declared.position.PositionState.{PositionState}
-use Rattle.rules.specs.declared.answers.RuleAnswer.{RuleAnswer}
-use Rattle.rules.specs.declared.answers.RuleAnswer.the-variants.{Says}
-use Rattle.rules.specs.Meaning.{newest, holds, says}
-use Rattle.rules.specs.Answers.{stateRight, judged, afterCheck, answered}
-use Rattle.rules.specs.Laws.Answers.{tree-of-four, absent-says}
-use Rattle.chain.specs.declared.explain.Explained.{Explained}
-use Rattle.chain.specs.declared.explain.Explained.the-variants.{Lines, Refuses}
-use Rattle.chain.specs.Missing.{inTable}
-use Rattle.chain.specs.Chain.{ChainLine, lineAt, chain}
-use Rattle.chain.specs.Lines.{lineLength}
-use Rattle.chain.specs.Explained.{explanation, mostLines, explainedBy, explained}
+use Rattle.words.specs.Prelude.{ℕ, _*_, _<_, _≡_, refl, sym, ap, _∙_, Bool, true, false, cond, _&&_, List, [], _∷_, arith, ltb, leb, eqb, length, lt-leb, eqb-true}
+use Rattle.words.specs.Prelude.{eqb-false}
+use Rattle.words.specs.{Limits.trees, Outcome.refusal}
+use Rattle.rows.specs.{History.History, History.historyOf, History.wholeRows}
+use Rattle.table.specs.{declared.answer.Answer.Answer, declared.answer.Answer.the-variants.Accepted, declared.answer.Answer.the-variants.Refused}
+use Rattle.table.specs.{declared.trees.Tree.Tree, Header.slots, Header.count, Header.root, Header.treeNumber, Checked.checked, Reading.treeOf, Trees.Condition}
+use Rattle.table.specs.{Trees.compare, Trees.cross, Trees.between, Trees.trend, Trees.every, Trees.any, Trees.negated, Trees.inPosition, Trees.barsSince}
+use Rattle.rules.specs.{declared.position.PositionState.PositionState, declared.answers.RuleAnswer.RuleAnswer, declared.answers.RuleAnswer.the-variants.Says}
+use Rattle.rules.specs.{Meaning.newest, Meaning.holds, Meaning.says, Answers.stateRight, Answers.judged, Answers.afterCheck, Answers.answered}
+use Rattle.rules.specs.{Laws.Answers.tree-of-four, Laws.Answers.absent-says}
+use Rattle.chain.specs.{declared.explain.Explained.Explained, declared.explain.Explained.the-variants.Lines, declared.explain.Explained.the-variants.Refuses}
+use Rattle.chain.specs.{Missing.inTable, Chain.ChainLine, Chain.lineAt, Chain.chain, Lines.lineLength, Explained.explanation, Explained.mostLines}
+use Rattle.chain.specs.{Explained.explainedBy, Explained.explained}
 
 -- Lines of a tree of so many nodes whose rule answers so: none of an absent tree, which says no; else the first has the answer.
 pub data Leads (nodes : ℕ) (answer : RuleAnswer) : List ChainLine → Type 0 where

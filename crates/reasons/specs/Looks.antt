@@ -1,18 +1,9 @@
 -- The leaves that a test looks at, in the request's order, and what is said of them. Definitions only.
-use Prim.Native.Nat.{ℕ, zero, suc, _+_, _-_}
-use mathlib.Core.Path.{_≡_}
-use mathlib.Core.Bool.{cond}
-use mathlib.Core.List.{List, [], _∷_, _++_}
-use lib.Dec.{ltb}
-use lib.Ieee.{Float}
-use Rattle.rows.specs.History.{History}
-use Rattle.table.specs.Trees.{Operand, const, ref, price, prev, arith, extreme, Condition, compare, cross, between, trend, every, any, negated}
-use Rattle.table.specs.Trees.{inPosition, barsSince}
-use Rattle.table.specs.Series.{asOperand}
-use Rattle.table.specs.Writing.{nodesIn}
-use Rattle.rules.specs.declared.values.Value.{Value}
-use Rattle.rules.specs.declared.values.Value.the-variants.{Missing, Number}
-use Rattle.rules.specs.Meaning.{value}
+use Rattle.words.specs.Prelude.{ℕ, zero, suc, _+_, _-_, _≡_, cond, List, [], _∷_, _++_, ltb, Float}
+use Rattle.rows.specs.{History.History}
+use Rattle.table.specs.{Trees.Operand, Trees.const, Trees.ref, Trees.price, Trees.prev, Trees.arith, Trees.extreme, Trees.Condition, Trees.compare, Trees.cross}
+use Rattle.table.specs.{Trees.between, Trees.trend, Trees.every, Trees.any, Trees.negated, Trees.inPosition, Trees.barsSince, Series.asOperand, Writing.nodesIn}
+use Rattle.rules.specs.{declared.values.Value.Value, declared.values.Value.the-variants.Missing, declared.values.Value.the-variants.Number, Meaning.value}
 
 -- a leaf, its node, and how many bars back it is looked at
 pub record Look : Type 0 where

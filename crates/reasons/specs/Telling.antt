@@ -1,22 +1,15 @@
 -- What the line of a condition may show, by cases on the condition and from what the rule means: nothing here speaks of how lines are made.
 -- Definitions only.
-use Prim.Native.Nat.{ℕ, _+_, _-_, _≤_, _<_}
-use mathlib.Core.Path.{_≡_}
-use mathlib.Core.Bool.{Bool, true, false, not, cond, _&&_}
-use mathlib.Core.Logic.{_⊎_}
-use mathlib.Core.List.{[], _∷_}
-use lib.Dec.{eqb}
-use lib.Ieee.{Float}
-use Rattle.rows.specs.History.{History}
+use Rattle.words.specs.Prelude.{ℕ, _+_, _-_, _≤_, _<_, _≡_, Bool, true, false, not, cond, _&&_, _⊎_, [], _∷_, eqb, Float}
+use Rattle.rows.specs.{History.History}
+use Rattle.table.specs.{Trees.Operand, Trees.Condition, Trees.Conditions, Trees.compare, Trees.cross, Trees.between, Trees.trend, Trees.every, Trees.any}
+use Rattle.table.specs.{Trees.negated, Trees.inPosition, Trees.barsSince}
+use Rattle.rules.specs.{declared.values.Value.the-variants.Number, declared.position.PositionState.PositionState, declared.position.Entered.the-variants.Never}
+use Rattle.rules.specs.{declared.position.Entered.the-variants.Bar, Values.held, Values.tested, Values.barsTested, Meaning.value, Meaning.holds}
+use Rattle.chain.specs.{Chain.Shown, Chain.link, Chain.values, Chain.missing, Chain.atFirstBar, Chain.tooFewBars, Chain.position, Chain.sinceEntry, Chain.noEntry}
+use Rattle.chain.specs.{Chain.ChainLine}
+use Rattle.reasons.specs.{Looks.looksOf, Looks.FirstMissing}
 use Rattle.table.specs.Named as Named
-use Rattle.table.specs.Trees.{Operand, Condition, Conditions, compare, cross, between, trend, every, any, negated, inPosition, barsSince}
-use Rattle.rules.specs.declared.values.Value.the-variants.{Number}
-use Rattle.rules.specs.declared.position.PositionState.{PositionState}
-use Rattle.rules.specs.declared.position.Entered.the-variants.{Never, Bar}
-use Rattle.rules.specs.Values.{held, tested, barsTested}
-use Rattle.rules.specs.Meaning.{value, holds}
-use Rattle.chain.specs.Chain.{Shown, link, values, missing, atFirstBar, tooFewBars, position, sinceEntry, noEntry, ChainLine}
-use Rattle.reasons.specs.Looks.{looksOf, FirstMissing}
 
 -- "Bars since entry is this bar's number less the entry bar's", this bar's number being the bars seen less 1. An entry bar that is not below the
 -- bars seen, which 13 refuses, leaves 0.

@@ -1,37 +1,27 @@
 -- Each line is true of the rule's meaning, and shows all that is: what a line shows is true of its condition (Telling), and nothing else is. At any
 -- bar up to the newest.
-use Prim.Native.Nat.{ℕ, zero, suc, _+_, _-_, _≤_, _<_}
-use mathlib.Core.Path.{_≡_, refl, sym, ap, _∙_}
-use mathlib.Core.Bool.{Bool, true, false, not, cond, _&&_}
-use mathlib.Core.List.{List, [], _∷_, _++_}
-use mathlib.Core.Logic.{_⊎_, inl, inr}
-use native.Mathlib.Omega.{arith}
-use lib.Dec.{ltb, eqb}
-use lib.Ieee.{Float}
-use borrow.Author.Tests.{eqb-true, eqb-false, ne-eqb, ltb-true, ltb-false, lt-ltb, le-ltb}
-use Rattle.rows.specs.History.{History}
+use Rattle.words.specs.Prelude.{ℕ, zero, suc, _+_, _-_, _≤_, _<_, _≡_, refl, sym, ap, _∙_, Bool, true, false, not, cond, _&&_, List, [], _∷_, _++_, _⊎_, inl, inr}
+use Rattle.words.specs.Prelude.{arith, ltb, eqb, Float, eqb-true, eqb-false, ne-eqb, ltb-true, ltb-false, lt-ltb, le-ltb}
+use Rattle.rows.specs.{History.History}
+use Rattle.table.specs.{Trees.Operand, Trees.const, Trees.ref, Trees.price, Trees.prev, Trees.arith as sums, Trees.extreme, Trees.Condition, Trees.compare}
+use Rattle.table.specs.{Trees.cross, Trees.between, Trees.trend, Trees.every, Trees.any, Trees.negated, Trees.inPosition, Trees.barsSince, Series.asOperand}
+use Rattle.table.specs.{Writing.nodesIn}
+use Rattle.rules.specs.{declared.values.Value.Value, declared.values.Value.the-variants.Missing, declared.values.Value.the-variants.Number}
+use Rattle.rules.specs.{declared.position.PositionState.PositionState, declared.position.Entered.Entered, declared.position.Entered.the-variants.Never}
+use Rattle.rules.specs.{declared.position.Entered.the-variants.Bar, Values.held, Values.tested, Values.compared, Values.crossed, Values.within, Values.trended}
+use Rattle.rules.specs.{Values.barsTested, Values.countedSince, Meaning.newest, Meaning.value, Meaning.holds, Laws.Missing.either-way, Laws.Missing.compared-late}
+use Rattle.rules.specs.{Laws.Missing.trended-late, Laws.Missing.within-low, Laws.Missing.within-high, Laws.Missing.within-value, Laws.Missing.crossed-first}
+use Rattle.rules.specs.{Laws.Missing.crossed-second}
+use Rattle.chain.specs.{declared.missing.Found.Found, declared.missing.Found.the-variants.Nowhere, declared.missing.Found.the-variants.Leaf, Missing.inTable}
+use Rattle.chain.specs.{Missing.firstFound, Missing.goneIf, Missing.leafGone, Missing.newestGone, Missing.missingIn, Missing.missingInTwo, Missing.missingInThree}
+use Rattle.chain.specs.{Chain.Shown, Chain.values, Chain.missing, Chain.atFirstBar, Chain.tooFewBars, Chain.position, Chain.sinceEntry, Chain.noEntry}
+use Rattle.chain.specs.{Chain.shownBy, Chain.shownFrom, Chain.shownSince, Chain.shown, Chain.ChainLine, Chain.lineAt}
+use Rattle.reasons.specs.{Looks.Look, Looks.look, Looks.looksBack, Looks.looksIn, Looks.looksOf, Looks.seen, Looks.IsThere, Looks.number, Looks.FirstMissing}
+use Rattle.reasons.specs.{Looks.this, Looks.later, Telling.BarsSince, Telling.passed, Telling.not-below, Telling.LooksAt, Telling.True, Telling.compares}
+use Rattle.reasons.specs.{Telling.lies, Telling.crosses, Telling.moves, Telling.lacks, Telling.at-first, Telling.too-early, Telling.all-joins}
+use Rattle.reasons.specs.{Telling.any-joins, Telling.not-turns, Telling.in-position, Telling.out-of-it, Telling.since, Telling.no-entry, Telling.LineOf}
+use Rattle.reasons.specs.{Laws.Reads.Reads, Laws.Reads.gone, Laws.Reads.got, Laws.Reads.reads}
 use Rattle.table.specs.Named as Named
-use Rattle.table.specs.Trees.{Operand, const, ref, price, prev, arith as sums, extreme, Condition, compare, cross, between, trend, every, any, negated}
-use Rattle.table.specs.Trees.{inPosition, barsSince}
-use Rattle.table.specs.Series.{asOperand}
-use Rattle.table.specs.Writing.{nodesIn}
-use Rattle.rules.specs.declared.values.Value.{Value}
-use Rattle.rules.specs.declared.values.Value.the-variants.{Missing, Number}
-use Rattle.rules.specs.declared.position.PositionState.{PositionState}
-use Rattle.rules.specs.declared.position.Entered.{Entered}
-use Rattle.rules.specs.declared.position.Entered.the-variants.{Never, Bar}
-use Rattle.rules.specs.Values.{held, tested, compared, crossed, within, trended, barsTested, countedSince}
-use Rattle.rules.specs.Meaning.{newest, value, holds}
-use Rattle.rules.specs.Laws.Missing.{either-way, compared-late, trended-late, within-low, within-high, within-value, crossed-first, crossed-second}
-use Rattle.chain.specs.declared.missing.Found.{Found}
-use Rattle.chain.specs.declared.missing.Found.the-variants.{Nowhere, Leaf}
-use Rattle.chain.specs.Missing.{inTable, firstFound, goneIf, leafGone, newestGone, missingIn, missingInTwo, missingInThree}
-use Rattle.chain.specs.Chain.{Shown, values, missing, atFirstBar, tooFewBars, position, sinceEntry, noEntry, shownBy, shownFrom, shownSince, shown}
-use Rattle.chain.specs.Chain.{ChainLine, lineAt}
-use Rattle.reasons.specs.Looks.{Look, look, looksBack, looksIn, looksOf, seen, IsThere, number, FirstMissing, this, later}
-use Rattle.reasons.specs.Telling.{BarsSince, passed, not-below, LooksAt, True, compares, lies, crosses, moves, lacks, at-first, too-early}
-use Rattle.reasons.specs.Telling.{all-joins, any-joins, not-turns, in-position, out-of-it, since, no-entry, LineOf}
-use Rattle.reasons.specs.Laws.Reads.{Reads, gone, got, reads}
 
 -- lines of the same parts
 same-line : {m n : ℕ} {a b : Bool} {x y : Shown} → m ≡ n → a ≡ b → x ≡ y

@@ -1,14 +1,9 @@
 -- A bar as the caller hands it. Definitions only.
-use Prim.Native.Nat.{ℕ, _+_}
-use mathlib.Core.Bool.{cond}
-use mathlib.Core.List.{List}
-use lib.ListN.{getD}
-use lib.Dec.{eqb}
-use Rattle.floats.specs.Floats.{floatOf}
-use Rattle.portfolio.specs.declared.Candle.{Candle}
-use Rattle.execution.specs.declared.costs.Funding.{Funding}
-use Rattle.execution.specs.declared.costs.Funding.the-variants.{NotSupplied, Supplied}
-use Rattle.records.specs.Fields.{floatAt}
+use Rattle.words.specs.Prelude.{ℕ, _+_, cond, List, getD, eqb}
+use Rattle.floats.specs.{Floats.floatOf}
+use Rattle.portfolio.specs.{declared.Candle.Candle}
+use Rattle.execution.specs.{declared.costs.Funding.Funding, declared.costs.Funding.the-variants.NotSupplied, declared.costs.Funding.the-variants.Supplied}
+use Rattle.records.specs.{Fields.floatAt}
 
 -- its first six words
 unfoldable pub candleOf : List ℕ → Candle

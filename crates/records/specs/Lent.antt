@@ -1,8 +1,6 @@
 -- What a call is lent: rooms of records and lists of steps. Definitions only.
-use Prim.Native.Nat.{ℕ, _/_}
-use mathlib.Core.List.{List}
-use lib.ListN.{length}
-use Rattle.words.specs.Limits.{rowWords, pointWords, tradeWords}
+use Rattle.words.specs.Prelude.{ℕ, _/_, List, length}
+use Rattle.words.specs.{Limits.rowWords, Limits.pointWords, Limits.tradeWords}
 
 -- The rooms of a call that hold records, in the order of their numbers.
 pub record Rooms : Type 0 where

@@ -1,23 +1,17 @@
 -- The settings' words: word i is setting i, and word 31 says which optional ones are given. Definitions only.
-use Prim.Native.Nat.{ℕ, _/_, _%_, _^_}
-use mathlib.Core.Bool.{Bool, not, cond}
-use mathlib.Core.List.{List}
-use lib.Dec.{eqb}
-use Rattle.floats.specs.Floats.{floatOf}
-use Rattle.execution.specs.declared.optional.Optional.{Optional}
-use Rattle.execution.specs.declared.optional.Optional.the-variants.{Absent, Of}
-use Rattle.execution.specs.declared.terms.Risk.{Risk}
-use Rattle.execution.specs.declared.terms.Sizing.{Sizing}
-use Rattle.execution.specs.declared.terms.Sizing.the-variants.{FixedFraction, FixedQty, FixedCash, VolTarget, RiskPerTrade, Unknown}
-use Rattle.execution.specs.declared.terms.Slippage.{Slippage}
-use Rattle.execution.specs.declared.terms.Slippage.the-variants.{FixedBps, VolumeImpact, Unknown as UnknownSlippage}
-use Rattle.execution.specs.declared.terms.Terms.{Terms}
-use Rattle.execution.specs.declared.level.Entries.{Entries}
-use Rattle.execution.specs.declared.level.OrderType.{OrderType}
-use Rattle.execution.specs.declared.level.OrderType.the-variants.{Market, Limit, Stop, StopLimit, Unknown as UnknownType}
-use Rattle.words.specs.Words.{word}
-use Rattle.records.specs.declared.settings.Settings.{Settings}
-use Rattle.records.specs.Fields.{floatAt}
+use Rattle.words.specs.Prelude.{ℕ, _/_, _%_, _^_, Bool, not, cond, List, eqb}
+use Rattle.floats.specs.{Floats.floatOf}
+use Rattle.execution.specs.{declared.optional.Optional.Optional, declared.optional.Optional.the-variants.Absent, declared.optional.Optional.the-variants.Of}
+use Rattle.execution.specs.{declared.terms.Risk.Risk, declared.terms.Sizing.Sizing, declared.terms.Sizing.the-variants.FixedFraction}
+use Rattle.execution.specs.{declared.terms.Sizing.the-variants.FixedQty, declared.terms.Sizing.the-variants.FixedCash, declared.terms.Sizing.the-variants.VolTarget}
+use Rattle.execution.specs.{declared.terms.Sizing.the-variants.RiskPerTrade, declared.terms.Sizing.the-variants.Unknown, declared.terms.Slippage.Slippage}
+use Rattle.execution.specs.{declared.terms.Slippage.the-variants.FixedBps, declared.terms.Slippage.the-variants.VolumeImpact}
+use Rattle.execution.specs.{declared.terms.Slippage.the-variants.Unknown as UnknownSlippage, declared.terms.Terms.Terms, declared.level.Entries.Entries}
+use Rattle.execution.specs.{declared.level.OrderType.OrderType, declared.level.OrderType.the-variants.Market, declared.level.OrderType.the-variants.Limit}
+use Rattle.execution.specs.{declared.level.OrderType.the-variants.Stop, declared.level.OrderType.the-variants.StopLimit}
+use Rattle.execution.specs.{declared.level.OrderType.the-variants.Unknown as UnknownType}
+use Rattle.words.specs.{Words.word}
+use Rattle.records.specs.{declared.settings.Settings.Settings, Fields.floatAt}
 
 -- a flag: 0 off, any other word on
 unfoldable pub flagOf : ℕ → Bool

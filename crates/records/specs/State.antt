@@ -1,10 +1,8 @@
 -- The state before the first bar.
-use Rattle.floats.specs.Floats.{zero}
-use Rattle.rules.specs.declared.position.Entered.the-variants.{Never}
-use Rattle.portfolio.specs.Portfolio.{fresh}
-use Rattle.records.specs.declared.state.Order.the-variants.{Idle}
-use Rattle.records.specs.declared.settings.Settings.{Settings}
-use Rattle.records.specs.declared.state.State.{State}
+use Rattle.floats.specs.{Floats.zero}
+use Rattle.rules.specs.{declared.position.Entered.the-variants.Never}
+use Rattle.portfolio.specs.{Portfolio.fresh}
+use Rattle.records.specs.{declared.state.Order.the-variants.Idle, declared.settings.Settings.Settings, declared.state.State.State}
 
 -- The Rust's `from_spec`: the capital as cash, and nothing seen, held or ordered.
 unfoldable pub freshState : Settings → State

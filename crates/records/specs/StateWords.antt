@@ -1,22 +1,14 @@
 -- The state's words: what they mean, and those of a state. Definitions only.
-use Prim.Native.Nat.{ℕ}
-use mathlib.Core.Bool.{cond}
-use mathlib.Core.List.{List, [], _∷_}
-use lib.Dec.{eqb}
-use lib.Ieee.{Float}
-use Rattle.floats.specs.Floats.{wordOf}
-use Rattle.rules.specs.declared.position.Entered.{Entered}
-use Rattle.rules.specs.declared.position.Entered.the-variants.{Never, Bar}
-use Rattle.portfolio.specs.declared.Portfolio.{Portfolio}
-use Rattle.execution.specs.declared.level.OrderKind.{OrderKind}
-use Rattle.execution.specs.declared.level.OrderKind.the-variants.{Market, Limit, Stop, StopLimit}
-use Rattle.records.specs.declared.state.Counts.{Counts}
-use Rattle.records.specs.declared.state.Order.{Order}
-use Rattle.records.specs.declared.state.Order.the-variants.{Idle, EnterLong, EnterShort, Exit}
-use Rattle.records.specs.declared.state.Position.{Position}
-use Rattle.records.specs.declared.state.State.{State}
-use Rattle.words.specs.Words.{word}
-use Rattle.records.specs.Fields.{floatAt}
+use Rattle.words.specs.Prelude.{ℕ, cond, List, [], _∷_, eqb, Float}
+use Rattle.floats.specs.{Floats.wordOf}
+use Rattle.rules.specs.{declared.position.Entered.Entered, declared.position.Entered.the-variants.Never, declared.position.Entered.the-variants.Bar}
+use Rattle.portfolio.specs.{declared.Portfolio.Portfolio}
+use Rattle.execution.specs.{declared.level.OrderKind.OrderKind, declared.level.OrderKind.the-variants.Market, declared.level.OrderKind.the-variants.Limit}
+use Rattle.execution.specs.{declared.level.OrderKind.the-variants.Stop, declared.level.OrderKind.the-variants.StopLimit}
+use Rattle.records.specs.{declared.state.Counts.Counts, declared.state.Order.Order, declared.state.Order.the-variants.Idle}
+use Rattle.records.specs.{declared.state.Order.the-variants.EnterLong, declared.state.Order.the-variants.EnterShort, declared.state.Order.the-variants.Exit}
+use Rattle.records.specs.{declared.state.Position.Position, declared.state.State.State, Fields.floatAt}
+use Rattle.words.specs.{Words.word}
 
 -- 0 bars seen, 1 rows held, 2 equity points, 3 trades
 unfoldable pub countsOf : List ℕ → Counts

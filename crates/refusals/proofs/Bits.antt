@@ -1,15 +1,7 @@
 -- Laws of a walk over the bits of a mask.
-use Prim.Native.Nat.{ℕ, zero, suc, _+_, _-_, _/_, _^_, _≤_, _<_}
-use mathlib.Core.Path.{_≡_, refl, sym, ap, _∙_}
-use mathlib.Core.Bool.{Bool, true, false}
-use mathlib.Core.List.{List}
-use native.Mathlib.Nat.{add-suc, add-zero, pow-suc, div-div-eq-div-mul, zero-div}
-use lib.ListN.{getD}
-use lib.Pow.{pow-add}
-use native.Mathlib.Numerals.{add-one}
-use native.Mathlib.Omega.{arith}
-use Rattle.refusals.specs.Laws.Every.{every-no}
-use Rattle.refusals.specs.Bar.{every, bitFine, slotFine, slotsFine}
+use Rattle.words.specs.Prelude.{ℕ, zero, suc, _+_, _-_, _/_, _^_, _≤_, _<_, _≡_, refl, sym, ap, _∙_, Bool, true, false, List, add-suc, add-zero, pow-suc}
+use Rattle.words.specs.Prelude.{div-div-eq-div-mul, zero-div, getD, pow-add, add-one, arith}
+use Rattle.refusals.specs.{Laws.Every.every-no, Bar.every, Bar.bitFine, Bar.slotFine, Bar.slotsFine}
 
 -- where it is so of each number below k and of each from k on, it is so of each below n
 every-rest : (f : ℕ → Bool) (k : ℕ) → ((j : ℕ) → k ≤ j → f j ≡ true) → every k f ≡ true → (n : ℕ) → every (k + n) f ≡ true

@@ -1,16 +1,11 @@
 -- Refusal 11: the new bar.
-use Prim.Native.Nat.{ℕ, zero, suc, _+_, _/_, _%_, _^_}
-use mathlib.Core.Bool.{Bool, true, false, cond, _&&_}
-use mathlib.Core.List.{List, [], _∷_}
-use lib.ListN.{getD}
-use lib.Dec.{ltb, eqb}
-use Rattle.words.specs.Limits.{mostSlots}
-use Rattle.floats.specs.Floats.{finite, floatOf}
-use Rattle.portfolio.specs.declared.Candle.{Candle}
-use Rattle.execution.specs.declared.costs.Funding.{Funding}
-use Rattle.execution.specs.declared.costs.Funding.the-variants.{NotSupplied, Supplied}
-use Rattle.records.specs.Bar.{candleOf, fundingOf}
-use Rattle.refusals.specs.Lines.{Line, line}
+use Rattle.words.specs.Prelude.{ℕ, zero, suc, _+_, _/_, _%_, _^_, Bool, true, false, cond, _&&_, List, [], _∷_, getD, ltb, eqb}
+use Rattle.words.specs.{Limits.mostSlots}
+use Rattle.floats.specs.{Floats.finite, Floats.floatOf}
+use Rattle.portfolio.specs.{declared.Candle.Candle}
+use Rattle.execution.specs.{declared.costs.Funding.Funding, declared.costs.Funding.the-variants.NotSupplied, declared.costs.Funding.the-variants.Supplied}
+use Rattle.records.specs.{Bar.candleOf, Bar.fundingOf}
+use Rattle.refusals.specs.{Lines.Line, Lines.line}
 
 -- "present slot not finite, or a slot bit at or above K": of bit k, the lowest of m. The word of an absent slot is not
 -- looked at.

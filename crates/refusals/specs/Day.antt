@@ -1,18 +1,8 @@
 -- A whole day in one call (request 3): what is looked at once for all of its bars, and what is looked at for each.
-use Prim.Native.Nat.{ℕ, _%_}
-use mathlib.Core.Bool.{Bool, true, false}
-use mathlib.Core.List.{List, [], _∷_, _++_}
-use lib.ListN.{length}
-use lib.Dec.{eqb}
-use Rattle.words.specs.Limits.{barWords}
-use Rattle.records.specs.declared.settings.Settings.{Settings}
-use Rattle.records.specs.declared.state.Counts.{Counts}
-use Rattle.records.specs.declared.state.State.{State}
-use Rattle.records.specs.Lent.{Rooms}
-use Rattle.refusals.specs.Lines.{Line, line}
-use Rattle.refusals.specs.Bar.{barLines}
-use Rattle.refusals.specs.Rooms.{countsFine, roomLines, stateLines, placeLines}
-use Rattle.refusals.specs.Settings.{settingLines}
+use Rattle.words.specs.Prelude.{ℕ, _%_, Bool, true, false, List, [], _∷_, _++_, length, eqb}
+use Rattle.words.specs.{Limits.barWords}
+use Rattle.records.specs.{declared.settings.Settings.Settings, declared.state.Counts.Counts, declared.state.State.State, Lent.Rooms}
+use Rattle.refusals.specs.{Lines.Line, Lines.line, Bar.barLines, Rooms.countsFine, Rooms.roomLines, Rooms.stateLines, Rooms.placeLines, Settings.settingLines}
 
 -- "13: .. a .. bar .. list is not whole records": of 10 + K words each
 unfoldable pub wholeBars : ℕ → List ℕ → Bool

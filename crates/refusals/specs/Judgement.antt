@@ -1,18 +1,9 @@
 -- What a call is judged by: "then 10, 12, 13, 14, 11, 15. Under one number the lowest place is given."
-use Prim.Native.Nat.{ℕ}
-use mathlib.Core.List.{List, _∷_, _++_}
-use lib.ListN.{length}
-use lib.Dec.{eqb}
-use Rattle.words.specs.Limits.{barWords}
-use Rattle.records.specs.declared.settings.Settings.{Settings}
-use Rattle.records.specs.declared.state.State.{State}
-use Rattle.records.specs.Lent.{Rooms, Lists}
-use Rattle.refusals.specs.declared.verdict.Verdict.{Verdict}
-use Rattle.refusals.specs.Lines.{Line, line, judged}
-use Rattle.refusals.specs.Bar.{barLines}
-use Rattle.refusals.specs.Lists.{listLines}
-use Rattle.refusals.specs.Rooms.{roomLines, stateLines, placeLines, closeLines}
-use Rattle.refusals.specs.Settings.{settingLines}
+use Rattle.words.specs.Prelude.{ℕ, List, _∷_, _++_, length, eqb}
+use Rattle.words.specs.{Limits.barWords}
+use Rattle.records.specs.{declared.settings.Settings.Settings, declared.state.State.State, Lent.Rooms, Lent.Lists}
+use Rattle.refusals.specs.{declared.verdict.Verdict.Verdict, Lines.Line, Lines.line, Lines.judged, Bar.barLines, Lists.listLines, Rooms.roomLines}
+use Rattle.refusals.specs.{Rooms.stateLines, Rooms.placeLines, Rooms.closeLines, Settings.settingLines}
 
 -- 10, 12 and 13 of what a run goes on with
 unfoldable pub runLines : Settings → State → Rooms → List Line

@@ -1,10 +1,7 @@
 -- The table of refusals as a list of lines. Definitions only.
-use Prim.Native.Nat.{ℕ}
-use mathlib.Core.Bool.{Bool, cond}
-use mathlib.Core.List.{List, [], _∷_}
-use Rattle.words.specs.Outcome.{refusal}
-use Rattle.refusals.specs.declared.verdict.Verdict.{Verdict}
-use Rattle.refusals.specs.declared.verdict.Verdict.the-variants.{Fine, Bad}
+use Rattle.words.specs.Prelude.{ℕ, Bool, cond, List, [], _∷_}
+use Rattle.words.specs.{Outcome.refusal}
+use Rattle.refusals.specs.{declared.verdict.Verdict.Verdict, declared.verdict.Verdict.the-variants.Fine, declared.verdict.Verdict.the-variants.Bad}
 
 -- A line: what has to hold, and the number and place that are given where it does not.
 pub record Line : Type 0 where

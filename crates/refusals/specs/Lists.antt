@@ -1,13 +1,10 @@
 -- Refusal 15: the four lists of steps.
-use Prim.Native.Nat.{ℕ, _+_, _*_}
-use mathlib.Core.Bool.{Bool, true, false}
-use mathlib.Core.List.{List, [], _∷_}
-use Rattle.steps.specs.declared.wellformed.Formed.{Formed}
-use Rattle.steps.specs.declared.wellformed.Formed.the-variants.{Well, Bad}
-use Rattle.steps.specs.WellFormed.{formed}
-use Rattle.words.specs.Limits.{mostSteps}
-use Rattle.records.specs.Lent.{Lists}
-use Rattle.refusals.specs.Lines.{Line, line}
+use Rattle.words.specs.Prelude.{ℕ, _+_, _*_, Bool, true, false, List, [], _∷_}
+use Rattle.steps.specs.{declared.wellformed.Formed.Formed, declared.wellformed.Formed.the-variants.Well, declared.wellformed.Formed.the-variants.Bad}
+use Rattle.steps.specs.{WellFormed.formed}
+use Rattle.words.specs.{Limits.mostSteps}
+use Rattle.records.specs.{Lent.Lists}
+use Rattle.refusals.specs.{Lines.Line, Lines.line}
 
 abbrev pub isWell : Formed → Bool
 isWell Well = true

@@ -1,17 +1,11 @@
 -- Refusals 10, 13 and 14: the rooms and the counts of the state. Rooms are numbered as docs/ lists them; 0 is that of rows.
-use Prim.Native.Nat.{ℕ}
-use mathlib.Core.Bool.{Bool, true, not, _&&_, _||_}
-use mathlib.Core.List.{List, [], _∷_}
-use lib.Dec.{ltb, leb}
-use Rattle.words.specs.Limits.{mostCount}
-use Rattle.rules.specs.declared.position.Entered.{Entered}
-use Rattle.rules.specs.declared.position.Entered.the-variants.{Never, Bar}
-use Rattle.portfolio.specs.Portfolio.{inPosition}
-use Rattle.records.specs.declared.state.Counts.{Counts}
-use Rattle.records.specs.declared.settings.Settings.{Settings}
-use Rattle.records.specs.declared.state.State.{State}
-use Rattle.records.specs.Lent.{Rooms, rowPlaces, pointPlaces, tradePlaces}
-use Rattle.refusals.specs.Lines.{Line, line}
+use Rattle.words.specs.Prelude.{ℕ, Bool, true, not, _&&_, _||_, List, [], _∷_, ltb, leb}
+use Rattle.words.specs.{Limits.mostCount}
+use Rattle.rules.specs.{declared.position.Entered.Entered, declared.position.Entered.the-variants.Never, declared.position.Entered.the-variants.Bar}
+use Rattle.portfolio.specs.{Portfolio.inPosition}
+use Rattle.records.specs.{declared.state.Counts.Counts, declared.settings.Settings.Settings, declared.state.State.State, Lent.Rooms, Lent.rowPlaces}
+use Rattle.records.specs.{Lent.pointPlaces, Lent.tradePlaces}
+use Rattle.refusals.specs.{Lines.Line, Lines.line}
 
 -- "10: a lent room below the size these papers name": "The row room holds at least D rows", by D and K as they were given.
 unfoldable pub roomLines : Settings → List ℕ → List Line

@@ -1,24 +1,18 @@
 -- Refusal 12. Settings are numbered as docs/ lists them.
-use Prim.Native.Nat.{ℕ}
-use mathlib.Core.Bool.{Bool, true, false, _&&_}
-use mathlib.Core.List.{List, [], _∷_, _++_}
-use lib.Dec.{ltb, leb}
-use lib.Ieee.{Float}
-use Rattle.floats.specs.Floats.{_≼_, finite, zero}
-use Rattle.execution.specs.declared.optional.Optional.{Optional}
-use Rattle.execution.specs.declared.optional.Optional.the-variants.{Absent, Of}
-use Rattle.execution.specs.declared.terms.Risk.{Risk}
-use Rattle.execution.specs.declared.terms.Sizing.{Sizing}
-use Rattle.execution.specs.declared.terms.Sizing.the-variants.{FixedFraction, FixedQty, FixedCash, VolTarget, RiskPerTrade, Unknown}
-use Rattle.execution.specs.declared.terms.Slippage.{Slippage}
-use Rattle.execution.specs.declared.terms.Slippage.the-variants.{FixedBps, VolumeImpact, Unknown as UnknownSlippage}
-use Rattle.execution.specs.declared.terms.Terms.{Terms}
-use Rattle.execution.specs.declared.level.Entries.{Entries}
-use Rattle.execution.specs.declared.level.OrderType.{OrderType}
-use Rattle.execution.specs.declared.level.OrderType.the-variants.{Market, Limit, Stop, StopLimit, Unknown as UnknownType}
-use Rattle.records.specs.declared.settings.Settings.{Settings}
-use Rattle.words.specs.Limits.{mostSlots, mostRows, mostReach}
-use Rattle.refusals.specs.Lines.{Line, line}
+use Rattle.words.specs.Prelude.{ℕ, Bool, true, false, _&&_, List, [], _∷_, _++_, ltb, leb, Float}
+use Rattle.floats.specs.{Floats._≼_, Floats.finite, Floats.zero}
+use Rattle.execution.specs.{declared.optional.Optional.Optional, declared.optional.Optional.the-variants.Absent, declared.optional.Optional.the-variants.Of}
+use Rattle.execution.specs.{declared.terms.Risk.Risk, declared.terms.Sizing.Sizing, declared.terms.Sizing.the-variants.FixedFraction}
+use Rattle.execution.specs.{declared.terms.Sizing.the-variants.FixedQty, declared.terms.Sizing.the-variants.FixedCash, declared.terms.Sizing.the-variants.VolTarget}
+use Rattle.execution.specs.{declared.terms.Sizing.the-variants.RiskPerTrade, declared.terms.Sizing.the-variants.Unknown, declared.terms.Slippage.Slippage}
+use Rattle.execution.specs.{declared.terms.Slippage.the-variants.FixedBps, declared.terms.Slippage.the-variants.VolumeImpact}
+use Rattle.execution.specs.{declared.terms.Slippage.the-variants.Unknown as UnknownSlippage, declared.terms.Terms.Terms, declared.level.Entries.Entries}
+use Rattle.execution.specs.{declared.level.OrderType.OrderType, declared.level.OrderType.the-variants.Market, declared.level.OrderType.the-variants.Limit}
+use Rattle.execution.specs.{declared.level.OrderType.the-variants.Stop, declared.level.OrderType.the-variants.StopLimit}
+use Rattle.execution.specs.{declared.level.OrderType.the-variants.Unknown as UnknownType}
+use Rattle.records.specs.{declared.settings.Settings.Settings}
+use Rattle.words.specs.{Limits.mostSlots, Limits.mostRows, Limits.mostReach}
+use Rattle.refusals.specs.{Lines.Line, Lines.line}
 
 -- setting 7: only VolTarget has one
 abbrev pub lookback : Sizing → ℕ

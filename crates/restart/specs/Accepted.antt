@@ -1,53 +1,26 @@
 -- ACCEPTANCE: what a dump writes whole, a restore accepts. "A cut after any byte leaves an image that is refused, or the whole one": the whole one is
 -- not refused.
-use Prim.Native.Nat.{ℕ, _+_, _-_, _*_, _/_, _%_, _≤_}
-use mathlib.Core.Path.{_≡_, refl, ap, _∙_}
-use mathlib.Core.Bool.{true}
-use mathlib.Core.List.{List, _++_}
-use native.Mathlib.Nat.{mod-eq-of-lt}
-use native.Mathlib.Omega.{arith}
-use borrow.Author.Tests.{le-leb, eq-eqb}
-use lib.Dec.{eqb}
-use lib.ListN.{length, getD, List·getD-eq-default}
-use Rattle.words.specs.Limits.{rowWords}
-use Rattle.words.specs.Words.{word}
-use Rattle.rows.specs.History.{lastRows}
-use Rattle.table.specs.Bytes.{u16, u64}
-use Rattle.records.specs.declared.settings.Settings.{Settings}
-use Rattle.records.specs.declared.state.State.{State}
-use Rattle.records.specs.Lent.{Lists, Rooms, rowPlaces}
-use Rattle.records.specs.State.{freshState}
-use Rattle.records.specs.StateWords.{wordsOf}
-use Rattle.refusals.specs.declared.verdict.Verdict.the-variants.{Fine}
-use Rattle.refusals.specs.Bar.{barLines}
-use Rattle.refusals.specs.Judgement.{runLines, stepLines, stepJudged}
-use Rattle.refusals.specs.Lines.{judged}
-use Rattle.refusals.specs.Rooms.{roomLines, entryBelow, placeLines}
-use Rattle.refusals.specs.Settings.{settingLines}
-use Rattle.refusals.specs.Laws.Fine.{settings-fine, step-fine}
-use Rattle.refusals.specs.Laws.Lines.{first-holds, below-fine, both-fine}
-use Rattle.engine.specs.Boxes.{Sound}
-use Rattle.runs.specs.Laws.Alike.{step-sound}
-use Rattle.engine.specs.Laws.Lengths.{row-long}
-use Rattle.engine.specs.Laws.Runs.{run-keeps}
-use Rattle.engine.specs.Laws.Underway.{entry-stays}
-use Rattle.runs.specs.Laws.TwoRuns.{fresh-sound}
-use Rattle.runs.specs.Laws.Window.{last-added, window-added}
-use Rattle.engine.specs.Record.{rowOf, heldRows}
-use Rattle.engine.specs.Run.{Run, runOver}
-use Rattle.engine.specs.Step.{stepped, stepVerdict}
-use Rattle.dump.specs.Layout.{wordsBytes, numbers, amounts, head, image, windowOf, imageOf}
-use Rattle.dump.specs.Reading.{slotsIn, versionIn, depthIn, wordsIn, wordsAt, rowPlace, rowIn}
-use Rattle.dump.specs.Refused.{zeroAt, eachFine, rowsFine, imageLines, sameLines, restoreLines, restoreJudged}
-use Rattle.restart.specs.RoundTrip.{restoredOf, words-back}
-use Rattle.restart.specs.Cut.{size-of-image}
-use Rattle.restart.specs.Window.{Whole, window-whole, word-at}
-use Rattle.restart.specs.Restart.{Kept}
-use Rattle.dump.specs.Laws.Image.{image-head, image-body}
-use Rattle.dump.specs.Laws.Packed.{headWords}
-use Rattle.restart.specs.Laws.RowsPass.{every-of, row-passes, rowAt, RowsPass, listed-same, last-pass, added-pass}
-use Rattle.restart.specs.Laws.Says.{Says, unused-fine, numbers-fine, shape-holds}
-use Rattle.dump.specs.Laws.WordBytes.{words-long}
+use Rattle.words.specs.Prelude.{ℕ, _+_, _-_, _*_, _/_, _%_, _≤_, _≡_, refl, ap, _∙_, true, List, _++_, mod-eq-of-lt, arith, le-leb, eq-eqb, eqb, length, getD}
+use Rattle.words.specs.Prelude.{List·getD-eq-default}
+use Rattle.words.specs.{Limits.rowWords, Words.word}
+use Rattle.rows.specs.{History.lastRows}
+use Rattle.table.specs.{Bytes.u16, Bytes.u64}
+use Rattle.records.specs.{declared.settings.Settings.Settings, declared.state.State.State, Lent.Lists, Lent.Rooms, Lent.rowPlaces, State.freshState}
+use Rattle.records.specs.{StateWords.wordsOf}
+use Rattle.refusals.specs.{declared.verdict.Verdict.the-variants.Fine, Bar.barLines, Judgement.runLines, Judgement.stepLines, Judgement.stepJudged, Lines.judged}
+use Rattle.refusals.specs.{Rooms.roomLines, Rooms.entryBelow, Rooms.placeLines, Settings.settingLines, Laws.Fine.settings-fine, Laws.Fine.step-fine}
+use Rattle.refusals.specs.{Laws.Lines.first-holds, Laws.Lines.below-fine, Laws.Lines.both-fine}
+use Rattle.engine.specs.{Boxes.Sound, Laws.Lengths.row-long, Laws.Runs.run-keeps, Laws.Underway.entry-stays, Record.rowOf, Record.heldRows, Run.Run, Run.runOver}
+use Rattle.engine.specs.{Step.stepped, Step.stepVerdict}
+use Rattle.runs.specs.{Laws.Alike.step-sound, Laws.TwoRuns.fresh-sound, Laws.Window.last-added, Laws.Window.window-added}
+use Rattle.dump.specs.{Layout.wordsBytes, Layout.numbers, Layout.amounts, Layout.head, Layout.image, Layout.windowOf, Layout.imageOf, Reading.slotsIn}
+use Rattle.dump.specs.{Reading.versionIn, Reading.depthIn, Reading.wordsIn, Reading.wordsAt, Reading.rowPlace, Reading.rowIn, Refused.zeroAt, Refused.eachFine}
+use Rattle.dump.specs.{Refused.rowsFine, Refused.imageLines, Refused.sameLines, Refused.restoreLines, Refused.restoreJudged, Laws.Image.image-head}
+use Rattle.dump.specs.{Laws.Image.image-body, Laws.Packed.headWords, Laws.WordBytes.words-long}
+use Rattle.restart.specs.{RoundTrip.restoredOf, RoundTrip.words-back, Cut.size-of-image, Window.Whole, Window.window-whole, Window.word-at, Restart.Kept}
+use Rattle.restart.specs.{Laws.RowsPass.every-of, Laws.RowsPass.row-passes, Laws.RowsPass.rowAt, Laws.RowsPass.RowsPass, Laws.RowsPass.listed-same}
+use Rattle.restart.specs.{Laws.RowsPass.last-pass, Laws.RowsPass.added-pass, Laws.Says.Says, Laws.Says.unused-fine, Laws.Says.numbers-fine}
+use Rattle.restart.specs.{Laws.Says.shape-holds}
 
 -- A box whose image is accepted: numbers and words such as the code's types hold, what 13 asks of rows and of the entry bar, no more rows than bars
 -- seen, and rows that 11 would let pass. A box that was reached from a fresh state has the first by `reached-kept`, and the rest by `reached-dumpable`.

@@ -1,40 +1,20 @@
 -- AS IF THE SUPPLY HAD NEVER FAILED: what the lives of a box held, and what the life under way holds, is what the rules of the table mean over every bar
 -- that was ever taken. No unbroken box is spoken of.
-use Prim.Native.Nat.{ℕ, _*_, _/_, _≤_}
-use mathlib.Core.Path.{_≡_, sym, ap, subst, _∙_}
-use mathlib.Core.Bool.{true}
-use mathlib.Core.List.{List, _++_, flatMap}
-use native.Mathlib.Nat.{mul-div-cancel}
-use native.Mathlib.Omega.{arith}
-use lib.ListN.{length, take, replicate, length-replicate}
+use Rattle.words.specs.Prelude.{ℕ, _*_, _/_, _≤_, _≡_, sym, ap, subst, _∙_, true, List, _++_, flatMap, mul-div-cancel, arith, length, take, replicate}
+use Rattle.words.specs.Prelude.{length-replicate}
+use Rattle.words.specs.{Limits.mostCount, Limits.pointWords, Limits.tradeWords}
+use Rattle.portfolio.specs.{Trade.wordsOfTrade}
+use Rattle.records.specs.{declared.settings.Settings.Settings, Lent.Lists, Lent.Rooms, Lent.rooms, Lent.rowPlaces, Lent.pointPlaces, Lent.tradePlaces}
+use Rattle.records.specs.{State.freshState, Laws.RoundTrip.Floats64}
+use Rattle.refusals.specs.{declared.verdict.Verdict.the-variants.Fine, Lines.judged, Rooms.entryBelow, Settings.settingLines}
+use Rattle.engine.specs.{Books.wordsOfPoint, Books.heldPoints, Books.heldTrades, Boxes.NotFull, Boxes.Sound, Boxes.Holds, Rules.FromTable, Run.Run, Run.runOver}
+use Rattle.engine.specs.{Whole.Account, Whole.accountOf, Whole.Whole, Whole.meantRun}
+use Rattle.runs.specs.{AsMeant.as-meant, NeverFull.PlacesFor, NeverFull.never-full, Laws.TwoRuns.fresh-sound}
+use Rattle.dump.specs.{Layout.dumpBytes, Layout.imageOf, Refused.restoreJudged, Refused.dumpJudged}
+use Rattle.restart.specs.{Accepted.reached-accepted, Cut.size-of-image, Dumps.dump-passes, Dumps.reached-entry, Laws.Reached64.Bars64}
+use Rattle.restart.specs.{Laws.Reached64.reached-kept, Laws.Times.Word64, Lives.Life, Lives.lastState, Lives.lastRooms, Lives.allBars, Lives.allPoints}
+use Rattle.restart.specs.{Lives.allTrades, Lives.LivesOf, Lives.SinceLosses, Losses.front-words, Losses.losses-run}
 use lib.Seq.{take-append-add}
-use Rattle.words.specs.Limits.{mostCount, pointWords, tradeWords}
-use Rattle.portfolio.specs.Trade.{wordsOfTrade}
-use Rattle.records.specs.declared.settings.Settings.{Settings}
-use Rattle.records.specs.Lent.{Lists, Rooms, rooms, rowPlaces, pointPlaces, tradePlaces}
-use Rattle.records.specs.State.{freshState}
-use Rattle.records.specs.Laws.RoundTrip.{Floats64}
-use Rattle.refusals.specs.declared.verdict.Verdict.the-variants.{Fine}
-use Rattle.refusals.specs.Lines.{judged}
-use Rattle.refusals.specs.Rooms.{entryBelow}
-use Rattle.refusals.specs.Settings.{settingLines}
-use Rattle.engine.specs.Books.{wordsOfPoint, heldPoints, heldTrades}
-use Rattle.engine.specs.Boxes.{NotFull, Sound, Holds}
-use Rattle.engine.specs.Rules.{FromTable}
-use Rattle.engine.specs.Run.{Run, runOver}
-use Rattle.engine.specs.Whole.{Account, accountOf, Whole, meantRun}
-use Rattle.runs.specs.AsMeant.{as-meant}
-use Rattle.runs.specs.NeverFull.{PlacesFor, never-full}
-use Rattle.runs.specs.Laws.TwoRuns.{fresh-sound}
-use Rattle.dump.specs.Layout.{dumpBytes, imageOf}
-use Rattle.dump.specs.Refused.{restoreJudged, dumpJudged}
-use Rattle.restart.specs.Accepted.{reached-accepted}
-use Rattle.restart.specs.Cut.{size-of-image}
-use Rattle.restart.specs.Dumps.{dump-passes, reached-entry}
-use Rattle.restart.specs.Laws.Reached64.{Bars64, reached-kept}
-use Rattle.restart.specs.Laws.Times.{Word64}
-use Rattle.restart.specs.Lives.{Life, lastState, lastRooms, allBars, allPoints, allTrades, LivesOf, SinceLosses}
-use Rattle.restart.specs.Losses.{front-words, losses-run}
 
 -- ---- definitions
 

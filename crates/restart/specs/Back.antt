@@ -1,44 +1,25 @@
 -- THE WAY BACK: an image that a restore accepts, patterns of NaN apart, is the image of the state and the rows that it leaves.
-use Prim.Native.Nat.{ℕ, _+_, _-_, _*_, _/_, _%_, _≤_, _<_}
-use mathlib.Core.Path.{_≡_, refl, sym, ap, _∙_}
-use mathlib.Core.Bool.{Bool, true, false, _&&_}
-use mathlib.Core.List.{List}
-use native.Mathlib.Nat.{mod-eq-of-lt, mul-div-cancel, mul-assoc, mul-comm, mul-le-mul-right, zero-add, zero-mul}
-use native.Mathlib.Omega.{arith}
-use borrow.Author.Tests.{leb-true, eqb-true, ltb-true, ltb-false}
-use lib.Dec.{leb, ltb, eqb}
-use lib.ListN.{length, getD, take, drop, List·getD-eq-default}
-use lib.Seq.{ext-getD, take-at}
-use Rattle.words.specs.Limits.{rowWords}
-use Rattle.words.specs.Words.{overwrite}
-use Rattle.words.specs.Laws.Overwrite.{overwrite-fits}
-use Rattle.words.specs.Laws.Records.{records-fit}
-use Rattle.rows.specs.History.{lastRows}
-use Rattle.table.specs.Bytes.{u16, u32, u64, Bytes}
-use Rattle.steps.specs.Bytes.{eight}
-use Rattle.records.specs.declared.settings.Settings.{Settings}
-use Rattle.records.specs.StateWords.{countsOf, enteredOf, portfolioOf, positionOf, stateOf, wordsOf}
-use Rattle.refusals.specs.declared.verdict.Verdict.the-variants.{Fine}
-use Rattle.refusals.specs.Lines.{judged}
-use Rattle.refusals.specs.Rooms.{roomLines, entryBelow}
-use Rattle.refusals.specs.Settings.{settingLines}
-use Rattle.refusals.specs.Laws.Lines.{and-true, first-holds, both-fine}
-use Rattle.engine.specs.Record.{listed, heldRows}
-use Rattle.dump.specs.Layout.{headBytes, dumpBytes, wordsBytes, amounts, image, windowOf, imageOf}
-use Rattle.dump.specs.Reading.{slotsIn, depthIn, seenIn, rowsIn, orderIn, kindIn, enteredIn, entryIn, delayIn, levelIn, limitIn}
-use Rattle.dump.specs.Reading.{wordsIn, stateIn, wordsAt, rowPlace, windowIn}
-use Rattle.dump.specs.Refused.{shapeFine, numbersFine, usedOrZero, isEntry, unusedZero, zeroAt, eachFine, rowsFine}
-use Rattle.dump.specs.Refused.{imageLines, restoreLines, restoreJudged}
-use Rattle.engine.specs.Laws.Lengths.{listed-long}
-use Rattle.restart.specs.Window.{listed-at}
-use Rattle.restart.specs.Laws.Again.{Own, kind-again, order-again, entered-again}
-use Rattle.dump.specs.Laws.Fine.{shape-fine, rows-few, restore-fine}
-use Rattle.dump.specs.Laws.Image.{image-long, image-head, image-body}
-use Rattle.dump.specs.Laws.Packed.{firstWord, secondWord, thirdWord, headWords}
-use Rattle.restart.specs.Laws.Marked.{marked}
-use Rattle.restart.specs.Laws.ReadBytes.{four-small, two-small, byte-read}
-use Rattle.restart.specs.Laws.RowsPass.{one-of}
-use Rattle.dump.specs.Laws.WordBytes.{words-long, byte-of}
+use Rattle.words.specs.Prelude.{ℕ, _+_, _-_, _*_, _/_, _%_, _≤_, _<_, _≡_, refl, sym, ap, _∙_, Bool, true, false, _&&_, List, mod-eq-of-lt, mul-div-cancel}
+use Rattle.words.specs.Prelude.{mul-assoc, mul-comm, mul-le-mul-right, zero-add, zero-mul, arith, leb-true, eqb-true, ltb-true, ltb-false, leb, ltb, eqb, length}
+use Rattle.words.specs.Prelude.{getD, take, drop, List·getD-eq-default, ext-getD, take-at}
+use Rattle.words.specs.{Limits.rowWords, Words.overwrite, Laws.Overwrite.overwrite-fits, Laws.Records.records-fit}
+use Rattle.rows.specs.{History.lastRows}
+use Rattle.table.specs.{Bytes.u16, Bytes.u32, Bytes.u64, Bytes.Bytes}
+use Rattle.steps.specs.{Bytes.eight}
+use Rattle.records.specs.{declared.settings.Settings.Settings, StateWords.countsOf, StateWords.enteredOf, StateWords.portfolioOf, StateWords.positionOf}
+use Rattle.records.specs.{StateWords.stateOf, StateWords.wordsOf}
+use Rattle.refusals.specs.{declared.verdict.Verdict.the-variants.Fine, Lines.judged, Rooms.roomLines, Rooms.entryBelow, Settings.settingLines, Laws.Lines.and-true}
+use Rattle.refusals.specs.{Laws.Lines.first-holds, Laws.Lines.both-fine}
+use Rattle.engine.specs.{Record.listed, Record.heldRows, Laws.Lengths.listed-long}
+use Rattle.dump.specs.{Layout.headBytes, Layout.dumpBytes, Layout.wordsBytes, Layout.amounts, Layout.image, Layout.windowOf, Layout.imageOf, Reading.slotsIn}
+use Rattle.dump.specs.{Reading.depthIn, Reading.seenIn, Reading.rowsIn, Reading.orderIn, Reading.kindIn, Reading.enteredIn, Reading.entryIn, Reading.delayIn}
+use Rattle.dump.specs.{Reading.levelIn, Reading.limitIn, Reading.wordsIn, Reading.stateIn, Reading.wordsAt, Reading.rowPlace, Reading.windowIn, Refused.shapeFine}
+use Rattle.dump.specs.{Refused.numbersFine, Refused.usedOrZero, Refused.isEntry, Refused.unusedZero, Refused.zeroAt, Refused.eachFine, Refused.rowsFine}
+use Rattle.dump.specs.{Refused.imageLines, Refused.restoreLines, Refused.restoreJudged, Laws.Fine.shape-fine, Laws.Fine.rows-few, Laws.Fine.restore-fine}
+use Rattle.dump.specs.{Laws.Image.image-long, Laws.Image.image-head, Laws.Image.image-body, Laws.Packed.firstWord, Laws.Packed.secondWord, Laws.Packed.thirdWord}
+use Rattle.dump.specs.{Laws.Packed.headWords, Laws.WordBytes.words-long, Laws.WordBytes.byte-of}
+use Rattle.restart.specs.{Window.listed-at, Laws.Again.Own, Laws.Again.kind-again, Laws.Again.order-again, Laws.Again.entered-again, Laws.Marked.marked}
+use Rattle.restart.specs.{Laws.ReadBytes.four-small, Laws.ReadBytes.two-small, Laws.ReadBytes.byte-read, Laws.RowsPass.one-of}
 
 -- "patterns of NaN apart": each float of the header has the word that its float is written as, as every word but a NaN's is (`number-own`)
 pub record Plain (x : List ℕ) : Type 0 where

@@ -1,23 +1,10 @@
 -- THE FIRST WORD CLEARED, so that an old image is not taken for a new one: before the first bar after a restore, and before an erase.
-use Prim.Native.Nat.{ℕ, _≤_, _<_}
-use mathlib.Core.Path.{_≡_, _∙_}
-use mathlib.Core.Bool.{true}
-use mathlib.Core.List.{List, []}
-use native.Mathlib.Omega.{arith}
-use lib.ListN.{length, getD}
-use Rattle.records.specs.declared.settings.Settings.{Settings}
-use Rattle.records.specs.declared.state.State.{State}
-use Rattle.refusals.specs.declared.verdict.Verdict.the-variants.{Fine}
-use Rattle.refusals.specs.Lines.{judged}
-use Rattle.refusals.specs.Rooms.{roomLines}
-use Rattle.refusals.specs.Settings.{settingLines}
-use Rattle.dump.specs.Layout.{dumpBytes, imageOf}
-use Rattle.dump.specs.Refused.{restoreJudged}
-use Rattle.dump.specs.Laws.Fine.{restore-fine}
-use Rattle.restart.specs.FirstWord.{Unmarked, RefusedOr, first-word-decides}
-use Rattle.restart.specs.Laws.Programs.{programmed-long, programmed-is}
-use Rattle.restart.specs.PagePlan.{firstWord, word-else, word-at}
-use Rattle.restart.specs.Plans.{touches, programmed, Torn}
+use Rattle.words.specs.Prelude.{ℕ, _≤_, _<_, _≡_, _∙_, true, List, [], arith, length, getD}
+use Rattle.records.specs.{declared.settings.Settings.Settings, declared.state.State.State}
+use Rattle.refusals.specs.{declared.verdict.Verdict.the-variants.Fine, Lines.judged, Rooms.roomLines, Settings.settingLines}
+use Rattle.dump.specs.{Layout.dumpBytes, Layout.imageOf, Refused.restoreJudged, Laws.Fine.restore-fine}
+use Rattle.restart.specs.{FirstWord.Unmarked, FirstWord.RefusedOr, FirstWord.first-word-decides, Laws.Programs.programmed-long, Laws.Programs.programmed-is}
+use Rattle.restart.specs.{PagePlan.firstWord, PagePlan.word-else, PagePlan.word-at, Plans.touches, Plans.programmed, Plans.Torn}
 
 -- the first word programmed to zeros, which flash that erases to ones always allows
 abbrev pub cleared : List ℕ → List ℕ

@@ -1,28 +1,12 @@
 -- "A cut after any byte leaves an image that is refused, or the whole one."
-use Prim.Native.Nat.{ℕ, _≤_, _<_}
-use mathlib.Core.Path.{_≡_, sym, _∙_}
-use mathlib.Core.List.{List}
-use native.Mathlib.Omega.{arith}
-use lib.ListN.{length, take}
-use lib.Seq.{getD-take}
-use Rattle.words.specs.Outcome.{refusal}
-use Rattle.words.specs.Laws.Records.{records-fit}
-use Rattle.words.specs.Limits.{rowWords}
-use Rattle.records.specs.declared.settings.Settings.{Settings}
-use Rattle.records.specs.declared.state.State.{State}
-use Rattle.records.specs.Lent.{rowPlaces}
-use Rattle.records.specs.StateWords.{wordsOf}
-use Rattle.engine.specs.Record.{heldRows}
-use Rattle.refusals.specs.declared.verdict.Verdict.the-variants.{Fine, Bad}
-use Rattle.refusals.specs.Lines.{judged}
-use Rattle.refusals.specs.Rooms.{roomLines}
-use Rattle.refusals.specs.Settings.{settingLines}
-use Rattle.dump.specs.Layout.{dumpBytes, windowOf, imageOf}
-use Rattle.dump.specs.Order.{written}
-use Rattle.dump.specs.Refused.{restoreJudged}
-use Rattle.dump.specs.Laws.Image.{image-long, window-short}
-use Rattle.restart.specs.FirstWord.{Unmarked, unmarked-refused}
-use Rattle.restart.specs.OrderPlan.{all-written, mark-stays}
+use Rattle.words.specs.Prelude.{ℕ, _≤_, _<_, _≡_, sym, _∙_, List, arith, length, take, getD-take}
+use Rattle.words.specs.{Outcome.refusal, Laws.Records.records-fit, Limits.rowWords}
+use Rattle.records.specs.{declared.settings.Settings.Settings, declared.state.State.State, Lent.rowPlaces, StateWords.wordsOf}
+use Rattle.engine.specs.{Record.heldRows}
+use Rattle.refusals.specs.{declared.verdict.Verdict.the-variants.Fine, declared.verdict.Verdict.the-variants.Bad, Lines.judged, Rooms.roomLines}
+use Rattle.refusals.specs.{Settings.settingLines}
+use Rattle.dump.specs.{Layout.dumpBytes, Layout.windowOf, Layout.imageOf, Order.written, Refused.restoreJudged, Laws.Image.image-long, Laws.Image.window-short}
+use Rattle.restart.specs.{FirstWord.Unmarked, FirstWord.unmarked-refused, OrderPlan.all-written, OrderPlan.mark-stays}
 
 module _ (s : Settings) (t : State) (room : List ℕ) (held : t .counts .«rows_held» ≤ rowPlaces (s .slots) room) where
   pub size-of-image : length (imageOf s t room) ≡ dumpBytes (s .slots) (s .depth)

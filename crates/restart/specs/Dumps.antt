@@ -1,30 +1,12 @@
 -- A DUMP OF A BOX THAT WAS REACHED IS NOT REFUSED: no box that has taken bars, traded or waits for a fill, is refused its dump.
-use Prim.Native.Nat.{ℕ, _≤_}
-use mathlib.Core.Path.{_≡_, _∙_}
-use mathlib.Core.Bool.{true}
-use mathlib.Core.List.{List}
-use native.Mathlib.Omega.{arith}
-use borrow.Author.Tests.{le-leb}
-use lib.ListN.{length}
-use Rattle.words.specs.Limits.{mostCount}
-use Rattle.records.specs.declared.settings.Settings.{Settings}
-use Rattle.records.specs.declared.state.State.{State}
-use Rattle.records.specs.Lent.{Lists, Rooms, rowPlaces}
-use Rattle.records.specs.State.{freshState}
-use Rattle.refusals.specs.declared.verdict.Verdict.the-variants.{Fine}
-use Rattle.refusals.specs.Lines.{judged}
-use Rattle.refusals.specs.Rooms.{roomLines, entryBelow, stateLines}
-use Rattle.refusals.specs.Settings.{settingLines}
-use Rattle.refusals.specs.Laws.Fine.{step-fine}
-use Rattle.refusals.specs.Laws.Lines.{below-fine}
-use Rattle.engine.specs.Books.{emptied}
-use Rattle.engine.specs.Boxes.{Sound}
-use Rattle.engine.specs.Laws.Runs.{run-keeps}
-use Rattle.engine.specs.Run.{Run, runOver}
-use Rattle.engine.specs.Step.{stepped, stepVerdict}
-use Rattle.dump.specs.Layout.{dumpBytes}
-use Rattle.dump.specs.Refused.{areaLines, dumpStateLines, dumpLines, dumpJudged}
-use Rattle.restart.specs.Accepted.{Passed, fresh-passed, step-passed, step-judged}
+use Rattle.words.specs.Prelude.{ℕ, _≤_, _≡_, _∙_, true, List, arith, le-leb, length}
+use Rattle.words.specs.{Limits.mostCount}
+use Rattle.records.specs.{declared.settings.Settings.Settings, declared.state.State.State, Lent.Lists, Lent.Rooms, Lent.rowPlaces, State.freshState}
+use Rattle.refusals.specs.{declared.verdict.Verdict.the-variants.Fine, Lines.judged, Rooms.roomLines, Rooms.entryBelow, Rooms.stateLines, Settings.settingLines}
+use Rattle.refusals.specs.{Laws.Fine.step-fine, Laws.Lines.below-fine}
+use Rattle.engine.specs.{Books.emptied, Boxes.Sound, Laws.Runs.run-keeps, Run.Run, Run.runOver, Step.stepped, Step.stepVerdict}
+use Rattle.dump.specs.{Layout.dumpBytes, Refused.areaLines, Refused.dumpStateLines, Refused.dumpLines, Refused.dumpJudged}
+use Rattle.restart.specs.{Accepted.Passed, Accepted.fresh-passed, Accepted.step-passed, Accepted.step-judged}
 
 -- what every bar keeps, beside what an image needs: bars seen that are counted
 record Counted (s : Settings) (t : State) (m : Rooms) : Type 0 where

@@ -1,40 +1,19 @@
 -- FINISH AFTER LOSSES. A finish measures the points and trades of its own life. Those of the whole run are the figures over all lives' points and trades, one
 -- after another, with the last point of all as finish leaves it: it stands in this life's books where a bar was taken in it, and else in those kept from
 -- before.
-use Prim.Native.Nat.{ℕ, suc, _+_, _-_, _*_, _/_, _≤_}
-use mathlib.Core.Path.{_≡_, refl, sym, ap, _∙_}
-use mathlib.Core.List.{List, [], _∷_, _++_, append-assoc, append-nil, flatMap}
-use native.Mathlib.Nat.{zero-add, mul-div-cancel}
-use native.Mathlib.Omega.{arith}
-use borrow.Author.Tests.{lt-ltb}
-use lib.Ieee.{Float}
-use lib.ListN.{length, set, length-append}
-use lib.Seq.{length-take-le}
-use Rattle.words.specs.Limits.{pointWords, tradeWords}
-use Rattle.words.specs.Laws.Records.{records-fit}
-use Rattle.portfolio.specs.declared.Trade.{Trade}
-use Rattle.portfolio.specs.Trade.{wordsOfTrade}
-use Rattle.execution.specs.declared.fills.Exit.{Exit}
-use Rattle.execution.specs.declared.fills.Exit.the-variants.{NoExit, Exited}
-use Rattle.metrics.specs.declared.Metrics.{Metrics}
-use Rattle.metrics.specs.Figures.{metricsOf}
-use Rattle.metrics.specs.Records.{equityOf, pnlsOf}
-use Rattle.records.specs.declared.settings.Settings.{Settings}
-use Rattle.records.specs.declared.state.State.{State}
-use Rattle.records.specs.Lent.{Rooms}
-use Rattle.refusals.specs.declared.verdict.Verdict.the-variants.{Fine}
-use Rattle.refusals.specs.Judgement.{finishJudged}
-use Rattle.engine.specs.Books.{Point, wordsOfPoint, tradesOf, heldPoints, heldTrades}
-use Rattle.engine.specs.Boxes.{Sound}
-use Rattle.engine.specs.Finish.{lastExit, remarked, ended}
-use Rattle.engine.specs.Run.{Run}
-use Rattle.engine.specs.Whole.{Account, stateOf, Whole, wholeEnd, wholeMetrics}
-use Rattle.runs.specs.AsMeant.{exit-of-account}
-use Rattle.runs.specs.Laws.BooksGrow.{flat-append}
-use Rattle.runs.specs.Laws.Finishes.{Closes, end-closes}
-use Rattle.runs.specs.Laws.LastPoint.{remarked-points}
-use Rattle.runs.specs.Restart.{no-points}
-use Rattle.restart.specs.AsIfNever.{AsIfNever}
+use Rattle.words.specs.Prelude.{ℕ, suc, _+_, _-_, _*_, _/_, _≤_, _≡_, refl, sym, ap, _∙_, List, [], _∷_, _++_, append-assoc, append-nil, flatMap, zero-add}
+use Rattle.words.specs.Prelude.{mul-div-cancel, arith, lt-ltb, Float, length, set, length-append, length-take-le}
+use Rattle.words.specs.{Limits.pointWords, Limits.tradeWords, Laws.Records.records-fit}
+use Rattle.portfolio.specs.{declared.Trade.Trade, Trade.wordsOfTrade}
+use Rattle.execution.specs.{declared.fills.Exit.Exit, declared.fills.Exit.the-variants.NoExit, declared.fills.Exit.the-variants.Exited}
+use Rattle.metrics.specs.{declared.Metrics.Metrics, Figures.metricsOf, Records.equityOf, Records.pnlsOf}
+use Rattle.records.specs.{declared.settings.Settings.Settings, declared.state.State.State, Lent.Rooms}
+use Rattle.refusals.specs.{declared.verdict.Verdict.the-variants.Fine, Judgement.finishJudged}
+use Rattle.engine.specs.{Books.Point, Books.wordsOfPoint, Books.tradesOf, Books.heldPoints, Books.heldTrades, Boxes.Sound, Finish.lastExit, Finish.remarked}
+use Rattle.engine.specs.{Finish.ended, Run.Run, Whole.Account, Whole.stateOf, Whole.Whole, Whole.wholeEnd, Whole.wholeMetrics}
+use Rattle.runs.specs.{AsMeant.exit-of-account, Laws.BooksGrow.flat-append, Laws.Finishes.Closes, Laws.Finishes.end-closes, Laws.LastPoint.remarked-points}
+use Rattle.runs.specs.{Restart.no-points}
+use Rattle.restart.specs.{AsIfNever.AsIfNever}
 
 -- ---- definitions
 

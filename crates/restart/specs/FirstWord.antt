@@ -1,26 +1,14 @@
 -- THE FIRST WORD DECIDES. The first eight bytes of an image, its mark, K, version and D, are the commit: whatever stands in them, bytes that are an
 -- image's behind them are refused with 19 or 20, or they are the image.
-use Prim.Native.Nat.{ℕ, _≤_, _<_}
-use mathlib.Core.Path.{_≡_, refl, sym, _∙_}
-use mathlib.Core.Bool.{Bool, true, false, _&&_}
-use mathlib.Core.List.{List, [], _∷_, _++_}
-use borrow.Author.Tests.{ne-eqb}
-use lib.Dec.{eqb}
-use lib.ListN.{length, getD}
-use Rattle.words.specs.Outcome.{refusal}
-use Rattle.words.specs.declared.refusal.Refusal.{Refusal}
-use Rattle.table.specs.Bytes.{Bytes}
-use Rattle.records.specs.declared.settings.Settings.{Settings}
-use Rattle.records.specs.declared.state.State.{State}
-use Rattle.refusals.specs.declared.verdict.Verdict.{Verdict}
-use Rattle.refusals.specs.declared.verdict.Verdict.the-variants.{Fine, Bad}
-use Rattle.refusals.specs.Lines.{Line, line, judged}
-use Rattle.refusals.specs.Rooms.{roomLines}
-use Rattle.refusals.specs.Settings.{settingLines}
-use Rattle.refusals.specs.Laws.Lines.{never, both-fine, below-fine, below-bad}
-use Rattle.dump.specs.Layout.{imageOf}
-use Rattle.dump.specs.Refused.{shapeFine, imageLines, sameLines, restoreLines, restoreJudged}
-use Rattle.restart.specs.Laws.FirstBytes.{passed-whole}
+use Rattle.words.specs.Prelude.{ℕ, _≤_, _<_, _≡_, refl, sym, _∙_, Bool, true, false, _&&_, List, [], _∷_, _++_, ne-eqb, eqb, length, getD}
+use Rattle.words.specs.{Outcome.refusal, declared.refusal.Refusal.Refusal}
+use Rattle.table.specs.{Bytes.Bytes}
+use Rattle.records.specs.{declared.settings.Settings.Settings, declared.state.State.State}
+use Rattle.refusals.specs.{declared.verdict.Verdict.Verdict, declared.verdict.Verdict.the-variants.Fine, declared.verdict.Verdict.the-variants.Bad, Lines.Line}
+use Rattle.refusals.specs.{Lines.line, Lines.judged, Rooms.roomLines, Settings.settingLines, Laws.Lines.never, Laws.Lines.both-fine, Laws.Lines.below-fine}
+use Rattle.refusals.specs.{Laws.Lines.below-bad}
+use Rattle.dump.specs.{Layout.imageOf, Refused.shapeFine, Refused.imageLines, Refused.sameLines, Refused.restoreLines, Refused.restoreJudged}
+use Rattle.restart.specs.{Laws.FirstBytes.passed-whole}
 
 -- ---- definitions
 

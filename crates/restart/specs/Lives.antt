@@ -1,19 +1,11 @@
 -- THE LIVES OF A BOX. A box lives from one loss of its supply to the next: it takes bars, is dumped, and is restored over rooms that it is lent then.
 -- Definitions only.
-use Prim.Native.Nat.{ℕ, _+_, _≤_}
-use mathlib.Core.Path.{_≡_}
-use mathlib.Core.List.{List, [], _∷_, _++_}
-use Rattle.words.specs.Words.{overwrite}
-use Rattle.records.specs.declared.settings.Settings.{Settings}
-use Rattle.records.specs.declared.state.State.{State}
-use Rattle.records.specs.Lent.{Lists, Rooms, rooms, rowPlaces}
-use Rattle.refusals.specs.declared.verdict.Verdict.the-variants.{Fine}
-use Rattle.engine.specs.Books.{heldPoints, heldTrades}
-use Rattle.engine.specs.Boxes.{Alike, Sound}
-use Rattle.engine.specs.Run.{Run, runOver}
-use Rattle.engine.specs.Whole.{accountOf}
-use Rattle.dump.specs.Layout.{imageOf}
-use Rattle.dump.specs.Reading.{stateIn, windowIn}
+use Rattle.words.specs.Prelude.{ℕ, _+_, _≤_, _≡_, List, [], _∷_, _++_}
+use Rattle.words.specs.{Words.overwrite}
+use Rattle.records.specs.{declared.settings.Settings.Settings, declared.state.State.State, Lent.Lists, Lent.Rooms, Lent.rooms, Lent.rowPlaces}
+use Rattle.refusals.specs.{declared.verdict.Verdict.the-variants.Fine}
+use Rattle.engine.specs.{Books.heldPoints, Books.heldTrades, Boxes.Alike, Boxes.Sound, Run.Run, Run.runOver, Whole.accountOf}
+use Rattle.dump.specs.{Layout.imageOf, Reading.stateIn, Reading.windowIn}
 
 -- a life: its bars, the bytes that the restore after it is lent, and the rooms that the box is lent from then on
 pub record Life : Type 0 where

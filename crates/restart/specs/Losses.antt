@@ -1,35 +1,16 @@
 -- ANY NUMBER OF LOSSES: after any number of lives a box is alike to the one that was never without supply, and what its lives held, one after another, is
 -- what that box holds.
-use Prim.Native.Nat.{ℕ, _≤_}
-use mathlib.Core.Path.{_≡_, refl, sym, ap, subst, _∙_}
-use mathlib.Core.List.{List, [], _∷_, _++_, append-assoc, append-nil}
-use native.Mathlib.Omega.{arith}
-use lib.ListN.{length}
-use Rattle.records.specs.declared.settings.Settings.{Settings}
-use Rattle.records.specs.declared.state.State.{State}
-use Rattle.records.specs.Lent.{Lists, Rooms, rowPlaces}
-use Rattle.records.specs.State.{freshState}
-use Rattle.records.specs.Laws.RoundTrip.{Floats64}
-use Rattle.refusals.specs.declared.verdict.Verdict.{Verdict}
-use Rattle.refusals.specs.declared.verdict.Verdict.the-variants.{Fine}
-use Rattle.refusals.specs.Lines.{judged}
-use Rattle.refusals.specs.Settings.{settingLines}
-use Rattle.refusals.specs.Laws.Lines.{never}
-use Rattle.engine.specs.Books.{heldPoints, heldTrades}
-use Rattle.engine.specs.Boxes.{NotFull, Sound}
-use Rattle.engine.specs.Laws.Runs.{run-none, fine-took-all}
-use Rattle.engine.specs.Run.{Run, runOver}
-use Rattle.runs.specs.RunOn.{joinedRun, run-on, run-over}
-use Rattle.runs.specs.Laws.TwoRuns.{fresh-sound, run-sound}
-use Rattle.runs.specs.OtherBooks.{SameFromHere, books-do-not-matter}
-use Rattle.runs.specs.Restart.{Restarted, restarted-alike, restarted-sound, no-points, no-trades}
-use Rattle.runs.specs.WholeHistory.{fresh-follows}
-use Rattle.restart.specs.Laws.Reached64.{Bars64, reached-kept}
-use Rattle.restart.specs.Laws.Times.{Word64}
-use Rattle.restart.specs.Lives.{Life, restoredState, restoredRooms, lastState, lastRooms, allBars, allPoints, allTrades, LifeOf, LivesOf}
-use Rattle.restart.specs.Lives.{Survived, SinceLosses}
-use Rattle.restart.specs.Restart.{Kept, image-restarts}
-use Rattle.restart.specs.SameImage.{same-image, kept-alike}
+use Rattle.words.specs.Prelude.{ℕ, _≤_, _≡_, refl, sym, ap, subst, _∙_, List, [], _∷_, _++_, append-assoc, append-nil, arith, length}
+use Rattle.records.specs.{declared.settings.Settings.Settings, declared.state.State.State, Lent.Lists, Lent.Rooms, Lent.rowPlaces, State.freshState}
+use Rattle.records.specs.{Laws.RoundTrip.Floats64}
+use Rattle.refusals.specs.{declared.verdict.Verdict.Verdict, declared.verdict.Verdict.the-variants.Fine, Lines.judged, Settings.settingLines, Laws.Lines.never}
+use Rattle.engine.specs.{Books.heldPoints, Books.heldTrades, Boxes.NotFull, Boxes.Sound, Laws.Runs.run-none, Laws.Runs.fine-took-all, Run.Run, Run.runOver}
+use Rattle.runs.specs.{RunOn.joinedRun, RunOn.run-on, RunOn.run-over, Laws.TwoRuns.fresh-sound, Laws.TwoRuns.run-sound, OtherBooks.SameFromHere}
+use Rattle.runs.specs.{OtherBooks.books-do-not-matter, Restart.Restarted, Restart.restarted-alike, Restart.restarted-sound, Restart.no-points, Restart.no-trades}
+use Rattle.runs.specs.{WholeHistory.fresh-follows}
+use Rattle.restart.specs.{Laws.Reached64.Bars64, Laws.Reached64.reached-kept, Laws.Times.Word64, Lives.Life, Lives.restoredState, Lives.restoredRooms}
+use Rattle.restart.specs.{Lives.lastState, Lives.lastRooms, Lives.allBars, Lives.allPoints, Lives.allTrades, Lives.LifeOf, Lives.LivesOf, Lives.Survived}
+use Rattle.restart.specs.{Lives.SinceLosses, Restart.Kept, Restart.image-restarts, SameImage.same-image, SameImage.kept-alike}
 
 -- ---- lists of bars
 

@@ -1,19 +1,10 @@
 -- The order of writing is a plan: each byte a program of its own, the mark's last byte the last. So the bytes of a dump may be torn, and the area need
 -- not be cleared: it is enough that its byte 2 is not the mark's.
-use Prim.Native.Nat.{ℕ, zero, suc, _-_, _≤_, _<_, min}
-use mathlib.Core.Path.{_≡_, refl, sym, ap, _∙_}
-use mathlib.Core.Bool.{Bool, true, false, _||_}
-use mathlib.Core.Logic.{⊎-elim}
-use mathlib.Core.List.{List, [], _∷_, _++_}
-use native.Mathlib.Nat.{eq-or-lt-of-le, zero-add}
-use native.Mathlib.Omega.{arith}
-use borrow.Author.Tests.{eq-eqb, ne-eqb}
-use lib.Dec.{eqb}
-use lib.ListN.{length, getD, take}
-use Rattle.dump.specs.Order.{placeOf, stretch, written}
-use Rattle.restart.specs.Laws.Programs.{done-is-cut, cut-rest, plan-done}
-use Rattle.restart.specs.Laws.Ranks.{mark-last, mark-at, ranked}
-use Rattle.restart.specs.Plans.{touches, covers, programmed, allProgrammed, inOrder, Plan}
+use Rattle.words.specs.Prelude.{ℕ, zero, suc, _-_, _≤_, _<_, min, _≡_, refl, sym, ap, _∙_, Bool, true, false, _||_, ⊎-elim, List, [], _∷_, _++_, eq-or-lt-of-le}
+use Rattle.words.specs.Prelude.{zero-add, arith, eq-eqb, ne-eqb, eqb, length, getD, take}
+use Rattle.dump.specs.{Order.placeOf, Order.stretch, Order.written}
+use Rattle.restart.specs.{Laws.Programs.done-is-cut, Laws.Programs.cut-rest, Laws.Programs.plan-done, Laws.Ranks.mark-last, Laws.Ranks.mark-at}
+use Rattle.restart.specs.{Laws.Ranks.ranked, Plans.touches, Plans.covers, Plans.programmed, Plans.allProgrammed, Plans.inOrder, Plans.Plan}
 
 -- ---- definitions
 

@@ -1,15 +1,7 @@
 -- Pages and then the first word are a plan; so is the plan whose programs `ysh holdup` counts.
-use Prim.Native.Nat.{ℕ, zero, suc, _+_, _-_, _*_, _/_, _%_, _≤_, _<_, min}
-use mathlib.Core.Path.{_≡_, refl, ap, _∙_}
-use mathlib.Core.Bool.{Bool, true, false, _||_}
-use mathlib.Core.List.{List, [], _∷_}
-use native.Mathlib.Nat.{mod-add-div, mod-lt, mul-comm, zero-mul}
-use native.Mathlib.Omega.{arith}
-use borrow.Author.Tests.{ltb-true, ltb-false, eqb-false, ne-eqb}
-use lib.Dec.{ltb, eqb}
-use lib.ListN.{length, length-append}
-use Rattle.restart.specs.Pages.{Rising, endOf, ends-later}
-use Rattle.restart.specs.Plans.{touches, covers, inOrder, Plan}
+use Rattle.words.specs.Prelude.{ℕ, zero, suc, _+_, _-_, _*_, _/_, _%_, _≤_, _<_, min, _≡_, refl, ap, _∙_, Bool, true, false, _||_, List, [], _∷_, mod-add-div}
+use Rattle.words.specs.Prelude.{mod-lt, mul-comm, zero-mul, arith, ltb-true, ltb-false, eqb-false, ne-eqb, ltb, eqb, length, length-append}
+use Rattle.restart.specs.{Pages.Rising, Pages.endOf, Pages.ends-later, Plans.touches, Plans.covers, Plans.inOrder, Plans.Plan}
 
 -- ---- definitions
 

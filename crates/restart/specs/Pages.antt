@@ -1,14 +1,6 @@
 -- A driver that writes page after page asks for one stretch of the order of writing after another.
-use Prim.Native.Nat.{ℕ, _+_, _-_, _≤_, _<_, min}
-use mathlib.Core.Path.{_≡_, refl, ap, _∙_}
-use mathlib.Core.Bool.{Bool, true, false}
-use mathlib.Core.List.{List, [], _∷_}
-use native.Mathlib.Omega.{arith}
-use borrow.Author.Tests.{leb-true, leb-false}
-use lib.Dec.{leb}
-use lib.ListN.{length}
-use Rattle.dump.specs.Order.{stretch, written}
-use Rattle.dump.specs.Laws.Laid.{stretch-on}
+use Rattle.words.specs.Prelude.{ℕ, _+_, _-_, _≤_, _<_, min, _≡_, refl, ap, _∙_, Bool, true, false, List, [], _∷_, arith, leb-true, leb-false, leb, length}
+use Rattle.dump.specs.{Order.stretch, Order.written, Laws.Laid.stretch-on}
 
 -- the pages end at these bytes of the order, one after another
 unfoldable pub inPages : List ℕ → List ℕ → ℕ → List ℕ → List ℕ

@@ -1,27 +1,16 @@
 -- ANY PLAN, CUT ANYWHERE: over an unmarked area a plan whose last program keeps to the first word leaves an area that is refused, or the whole image.
 -- The area may be longer than the image: a restore is lent its first bytes, as many as the image has.
-use Prim.Native.Nat.{ℕ, _≤_, _<_}
-use mathlib.Core.Path.{_≡_, refl, sym, _∙_}
-use mathlib.Core.Bool.{Bool, true, false}
-use mathlib.Core.List.{List, [], _∷_}
-use native.Mathlib.Omega.{arith}
-use borrow.Author.Tests.{ltb-true, ltb-false}
-use lib.Dec.{ltb}
-use lib.ListN.{length, getD, take, List·getD-eq-default}
-use lib.Seq.{length-take-le, getD-take}
-use Rattle.table.specs.Bytes.{Bytes}
-use Rattle.records.specs.declared.settings.Settings.{Settings}
-use Rattle.records.specs.declared.state.State.{State}
-use Rattle.refusals.specs.declared.verdict.Verdict.the-variants.{Fine}
-use Rattle.refusals.specs.Lines.{judged}
-use Rattle.refusals.specs.Rooms.{roomLines}
-use Rattle.refusals.specs.Settings.{settingLines}
-use Rattle.dump.specs.Layout.{imageOf}
-use Rattle.dump.specs.Refused.{restoreJudged}
-use Rattle.restart.specs.FirstWord.{Unmarked, RefusedOr, nineteen, whole, unmarked-refused, first-word-decides, accepted-whole, above-fine}
-use Rattle.restart.specs.Laws.FirstBytes.{image-first}
-use Rattle.restart.specs.Laws.Programs.{Left, early, late, done, neither, starts-with, cut-long, cut-rest, cut-leaves}
-use Rattle.restart.specs.Plans.{touches, covers, CutIn, inOrder, Plan}
+use Rattle.words.specs.Prelude.{ℕ, _≤_, _<_, _≡_, refl, sym, _∙_, Bool, true, false, List, [], _∷_, arith, ltb-true, ltb-false, ltb, length, getD, take}
+use Rattle.words.specs.Prelude.{List·getD-eq-default, length-take-le, getD-take}
+use Rattle.table.specs.{Bytes.Bytes}
+use Rattle.records.specs.{declared.settings.Settings.Settings, declared.state.State.State}
+use Rattle.refusals.specs.{declared.verdict.Verdict.the-variants.Fine, Lines.judged, Rooms.roomLines, Settings.settingLines}
+use Rattle.dump.specs.{Layout.imageOf, Refused.restoreJudged}
+use Rattle.restart.specs.{FirstWord.Unmarked, FirstWord.RefusedOr, FirstWord.nineteen, FirstWord.whole, FirstWord.unmarked-refused}
+use Rattle.restart.specs.{FirstWord.first-word-decides, FirstWord.accepted-whole, FirstWord.above-fine, Laws.FirstBytes.image-first, Laws.Programs.Left}
+use Rattle.restart.specs.{Laws.Programs.early, Laws.Programs.late, Laws.Programs.done, Laws.Programs.neither, Laws.Programs.starts-with}
+use Rattle.restart.specs.{Laws.Programs.cut-long, Laws.Programs.cut-rest, Laws.Programs.cut-leaves, Plans.touches, Plans.covers, Plans.CutIn, Plans.inOrder}
+use Rattle.restart.specs.{Plans.Plan}
 
 -- ---- the first bytes of an area
 

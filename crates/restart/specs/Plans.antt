@@ -1,13 +1,7 @@
 -- A PLAN OF PROGRAMS. A driver writes an image into flash by programs, one after another; the supply may fail in any of them, and then the bytes at
 -- that program's places are any bytes at all. Definitions only.
-use Prim.Native.Nat.{ℕ, _≤_, _<_}
-use mathlib.Core.Path.{_≡_}
-use mathlib.Core.Bool.{Bool, false, _||_}
-use mathlib.Core.List.{List, [], _∷_, _++_}
-use mathlib.Core.Logic.{_⊎_}
-use lib.Dec.{eqb}
-use lib.ListN.{length, getD, set}
-use Rattle.table.specs.Bytes.{Bytes}
+use Rattle.words.specs.Prelude.{ℕ, _≤_, _<_, _≡_, Bool, false, _||_, List, [], _∷_, _++_, _⊎_, eqb, length, getD, set}
+use Rattle.table.specs.{Bytes.Bytes}
 
 -- a program is a list of places, in any order: does it touch this one?
 unfoldable pub touches : List ℕ → ℕ → Bool

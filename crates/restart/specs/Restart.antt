@@ -1,32 +1,14 @@
 -- THE RESTART, over the bytes of an image. "From a whole image of a state reached from a fresh one, with the same table and settings and empty trade
 -- and equity rooms counted from 0, further bars give the trades, equity points and decisions that the unbroken run gives for them, until
 -- either refuses." What runs/specs/Restart says of a box that was started again holds of the box that a restore leaves.
-use Prim.Native.Nat.{ℕ, _+_, _/_, _≤_, _<_}
-use mathlib.Core.Path.{_≡_, refl}
-use mathlib.Core.List.{List}
-use native.Mathlib.Nat.{zero-add}
-use native.Mathlib.Omega.{arith}
-use lib.ListN.{length, getD, drop}
-use lib.Seq.{take-at}
-use Rattle.words.specs.Limits.{rowWords, mostSlots, mostRows}
-use Rattle.words.specs.Words.{overwrite}
-use Rattle.words.specs.Laws.Overwrite.{overwrite-fits}
-use Rattle.words.specs.Laws.Records.{records-fit}
-use Rattle.records.specs.declared.settings.Settings.{Settings}
-use Rattle.records.specs.declared.state.State.{State}
-use Rattle.records.specs.Lent.{Lists, Rooms, rooms, rowPlaces}
-use Rattle.records.specs.State.{freshState}
-use Rattle.engine.specs.Boxes.{NotFull}
-use Rattle.runs.specs.OtherBooks.{Emptied}
-use Rattle.engine.specs.Record.{heldRows}
-use Rattle.runs.specs.Restart.{Restarted, restart}
-use Rattle.engine.specs.Run.{Run, runOver}
-use Rattle.words.specs.Laws.Overwrite.{overwrite-length}
-use Rattle.runs.specs.Laws.TwoRuns.{fresh-sound, run-sound}
-use Rattle.dump.specs.Layout.{windowOf, imageOf}
-use Rattle.dump.specs.Reading.{stateIn, windowIn}
-use Rattle.restart.specs.RoundTrip.{Small, restoredOf, state-comes-back}
-use Rattle.restart.specs.Window.{Whole, window-whole, window-comes-back}
+use Rattle.words.specs.Prelude.{ℕ, _+_, _/_, _≤_, _<_, _≡_, refl, List, zero-add, arith, length, getD, drop, take-at}
+use Rattle.words.specs.{Limits.rowWords, Limits.mostSlots, Limits.mostRows, Words.overwrite, Laws.Overwrite.overwrite-fits, Laws.Records.records-fit}
+use Rattle.words.specs.{Laws.Overwrite.overwrite-length}
+use Rattle.records.specs.{declared.settings.Settings.Settings, declared.state.State.State, Lent.Lists, Lent.Rooms, Lent.rooms, Lent.rowPlaces, State.freshState}
+use Rattle.engine.specs.{Boxes.NotFull, Record.heldRows, Run.Run, Run.runOver}
+use Rattle.runs.specs.{OtherBooks.Emptied, Restart.Restarted, Restart.restart, Laws.TwoRuns.fresh-sound, Laws.TwoRuns.run-sound}
+use Rattle.dump.specs.{Layout.windowOf, Layout.imageOf, Reading.stateIn, Reading.windowIn}
+use Rattle.restart.specs.{RoundTrip.Small, RoundTrip.restoredOf, RoundTrip.state-comes-back, Window.Whole, Window.window-whole, Window.window-comes-back}
 
 -- What the image of a box needs: D and K as 12 lets them be, and numbers of its state and words of its rows such as the code's types hold.
 pub record Kept (s : Settings) (t : State) (m : Rooms) : Type 0 where

@@ -1,31 +1,21 @@
 -- A whole image read back holds what was written: the state, with its books emptied and the rows of its window counted, and the window.
-use Prim.Native.Nat.{ℕ, _+_, _*_, _/_, _%_, _<_}
-use mathlib.Core.Path.{_≡_, refl, ap, _∙_}
-use mathlib.Core.List.{List, [], _∷_}
-use native.Mathlib.Nat.{mod-eq-of-lt, mod-add-div}
-use native.Mathlib.Omega.{arith}
-use lib.Ieee.{Float, binary64, fits}
-use lib.Ieee.Bits.{toBits-lt}
-use lib.Dec.{T}
-use lib.ListN.{length}
-use Rattle.words.specs.Limits.{rowWords}
-use Rattle.words.specs.Words.{word}
-use Rattle.floats.specs.Floats.{wordOf}
-use Rattle.table.specs.Bytes.{u16, u32, u64}
-use Rattle.rules.specs.declared.position.Entered.{Entered}
-use Rattle.rules.specs.declared.position.Entered.the-variants.{Never, Bar}
-use Rattle.execution.specs.declared.level.OrderKind.{OrderKind}
-use Rattle.execution.specs.declared.level.OrderKind.the-variants.{Market, Limit, Stop, StopLimit}
-use Rattle.records.specs.declared.state.Order.{Order}
-use Rattle.records.specs.declared.state.Order.the-variants.{Idle, EnterLong, EnterShort, Exit}
-use Rattle.records.specs.declared.settings.Settings.{Settings}
-use Rattle.records.specs.declared.state.State.{State}
-use Rattle.records.specs.StateWords.{orderKind, orderDelay, waitsFor, kindWord, levelWord, limitWord, enteredKind, entryBar, wordsOf, stateOf}
-use Rattle.records.specs.Laws.RoundTrip.{KindFits, Floats64, state-back}
-use Rattle.steps.specs.Laws.Encoding.{four-back}
-use Rattle.dump.specs.Layout.{wordsBytes, numbers, amounts, head, image, windowOf, imageOf}
-use Rattle.dump.specs.Reading.{wordsIn, stateIn}
-use Rattle.restart.specs.Laws.SameFloats.{floats-alike}
+use Rattle.words.specs.Prelude.{ℕ, _+_, _*_, _/_, _%_, _<_, _≡_, refl, ap, _∙_, List, [], _∷_, mod-eq-of-lt, mod-add-div, arith, Float, binary64, fits, toBits-lt}
+use Rattle.words.specs.Prelude.{T, length}
+use Rattle.words.specs.{Limits.rowWords, Words.word}
+use Rattle.floats.specs.{Floats.wordOf}
+use Rattle.table.specs.{Bytes.u16, Bytes.u32, Bytes.u64}
+use Rattle.rules.specs.{declared.position.Entered.Entered, declared.position.Entered.the-variants.Never, declared.position.Entered.the-variants.Bar}
+use Rattle.execution.specs.{declared.level.OrderKind.OrderKind, declared.level.OrderKind.the-variants.Market, declared.level.OrderKind.the-variants.Limit}
+use Rattle.execution.specs.{declared.level.OrderKind.the-variants.Stop, declared.level.OrderKind.the-variants.StopLimit}
+use Rattle.records.specs.{declared.state.Order.Order, declared.state.Order.the-variants.Idle, declared.state.Order.the-variants.EnterLong}
+use Rattle.records.specs.{declared.state.Order.the-variants.EnterShort, declared.state.Order.the-variants.Exit, declared.settings.Settings.Settings}
+use Rattle.records.specs.{declared.state.State.State, StateWords.orderKind, StateWords.orderDelay, StateWords.waitsFor, StateWords.kindWord, StateWords.levelWord}
+use Rattle.records.specs.{StateWords.limitWord, StateWords.enteredKind, StateWords.entryBar, StateWords.wordsOf, StateWords.stateOf, Laws.RoundTrip.KindFits}
+use Rattle.records.specs.{Laws.RoundTrip.Floats64, Laws.RoundTrip.state-back}
+use Rattle.steps.specs.{Laws.Encoding.four-back}
+use Rattle.dump.specs.{Layout.wordsBytes, Layout.numbers, Layout.amounts, Layout.head, Layout.image, Layout.windowOf, Layout.imageOf, Reading.wordsIn}
+use Rattle.dump.specs.{Reading.stateIn}
+use Rattle.restart.specs.{Laws.SameFloats.floats-alike}
 
 -- ---- numbers
 

@@ -1,18 +1,10 @@
 -- Boxes that are alike have the same image, and what an image needs goes over from one to the other.
-use Prim.Native.Nat.{ℕ}
-use mathlib.Core.Path.{_≡_, refl, sym, ap, _∙_}
-use mathlib.Core.List.{List}
-use Rattle.records.specs.declared.settings.Settings.{Settings}
-use Rattle.records.specs.declared.state.State.{State}
-use Rattle.records.specs.Lent.{Rooms}
-use Rattle.records.specs.StateWords.{wordsOf}
-use Rattle.engine.specs.Boxes.{Alike}
-use Rattle.engine.specs.Whole.{Account, accountOf, stateOf}
-use Rattle.runs.specs.Laws.AccountStep.{same-parts}
-use Rattle.dump.specs.Layout.{numbers, amounts, head, image, windowOf, imageOf}
-use Rattle.restart.specs.Laws.SameFloats.{floats-alike}
-use Rattle.restart.specs.RoundTrip.{Small}
-use Rattle.restart.specs.Restart.{Kept}
+use Rattle.words.specs.Prelude.{ℕ, _≡_, refl, sym, ap, _∙_, List}
+use Rattle.records.specs.{declared.settings.Settings.Settings, declared.state.State.State, Lent.Rooms, StateWords.wordsOf}
+use Rattle.engine.specs.{Boxes.Alike, Whole.Account, Whole.accountOf, Whole.stateOf}
+use Rattle.runs.specs.{Laws.AccountStep.same-parts}
+use Rattle.dump.specs.{Layout.numbers, Layout.amounts, Layout.head, Layout.image, Layout.windowOf, Layout.imageOf}
+use Rattle.restart.specs.{Laws.SameFloats.floats-alike, RoundTrip.Small, Restart.Kept}
 
 -- ---- the image
 

@@ -1,18 +1,11 @@
 -- A SEAL, for flash whose programs take more than 8 bytes at once: bytes of the driver's own in a unit behind the image, programmed last and looked at
 -- first. It commits in the first word's place: where the seal stands, what stands before it is the whole image. (What fills the image up to a unit's end
 -- counts as the image's here.)
-use Prim.Native.Nat.{ℕ, _+_, _≤_, _<_}
-use mathlib.Core.Path.{_≡_, refl, sym, _∙_}
-use mathlib.Core.Bool.{Bool, true, false}
-use mathlib.Core.List.{List, _++_}
-use native.Mathlib.Omega.{arith}
-use borrow.Author.Tests.{ltb-true, ltb-false}
-use lib.Dec.{ltb}
-use lib.ListN.{length, getD, take, length-append, List·getD-append}
-use Rattle.restart.specs.Laws.Programs.{Left, early, late, done, starts-with, cut-long, cut-leaves}
-use Rattle.restart.specs.PagePlan.{placesFrom, pagesTo, from-below, from-at, pages-at, pages-above}
-use Rattle.restart.specs.Pages.{Rising, endOf}
-use Rattle.restart.specs.Plans.{touches, covers, CutIn, inOrder, RestRight}
+use Rattle.words.specs.Prelude.{ℕ, _+_, _≤_, _<_, _≡_, refl, sym, _∙_, Bool, true, false, List, _++_, arith, ltb-true, ltb-false, ltb, length, getD, take}
+use Rattle.words.specs.Prelude.{length-append, List·getD-append}
+use Rattle.restart.specs.{Laws.Programs.Left, Laws.Programs.early, Laws.Programs.late, Laws.Programs.done, Laws.Programs.starts-with, Laws.Programs.cut-long}
+use Rattle.restart.specs.{Laws.Programs.cut-leaves, PagePlan.placesFrom, PagePlan.pagesTo, PagePlan.from-below, PagePlan.from-at, PagePlan.pages-at}
+use Rattle.restart.specs.{PagePlan.pages-above, Pages.Rising, Pages.endOf, Plans.touches, Plans.covers, Plans.CutIn, Plans.inOrder, Plans.RestRight}
 
 -- behind so many bytes of the area stands the seal
 abbrev pub Sealed : ℕ → List ℕ → List ℕ → Type 0

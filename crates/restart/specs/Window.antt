@@ -1,29 +1,16 @@
 -- The window comes back from a whole image: its rows, word by word.
-use Prim.Native.Nat.{ℕ, zero, suc, _+_, _-_, _*_, _/_, _%_, _≤_, _<_}
-use mathlib.Core.Path.{_≡_, refl, sym, ap, _∙_}
-use mathlib.Core.Logic.{⊎-elim}
-use mathlib.Core.List.{List, [], _∷_}
-use native.Mathlib.Nat.{mod-eq-of-lt, eq-or-lt-of-le, mul-div-cancel, mul-sub, mul-comm}
-use native.Mathlib.Omega.{arith}
-use lib.ListN.{length, getD, take, length-drop, List·getD-append}
-use lib.Seq.{ext-getD, getD-at, length-take-le}
-use Rattle.words.specs.Limits.{rowWords, mostSlots, mostRows}
-use Rattle.words.specs.Laws.Records.{records-fit}
-use Rattle.rows.specs.History.{lastRows}
-use Rattle.table.specs.Bytes.{u16, u32, u64}
-use Rattle.steps.specs.Bytes.{eight}
-use Rattle.records.specs.declared.settings.Settings.{Settings}
-use Rattle.records.specs.declared.state.State.{State}
-use Rattle.records.specs.Lent.{rowPlaces}
-use Rattle.records.specs.StateWords.{wordsOf}
-use Rattle.engine.specs.Record.{listed, heldRows}
-use Rattle.engine.specs.Laws.Lengths.{listed-long}
-use Rattle.dump.specs.Layout.{headBytes, wordsBytes, numbers, amounts, head, image, windowOf, imageOf}
-use Rattle.dump.specs.Reading.{slotsIn, rowsIn, wordsAt, windowIn}
-use Rattle.dump.specs.Laws.WordBytes.{word-byte}
-use Rattle.dump.specs.Laws.Image.{image-body}
-use Rattle.steps.specs.Laws.Encoding.{four-back}
-use Rattle.restart.specs.RoundTrip.{eight-back}
+use Rattle.words.specs.Prelude.{ℕ, zero, suc, _+_, _-_, _*_, _/_, _%_, _≤_, _<_, _≡_, refl, sym, ap, _∙_, ⊎-elim, List, [], _∷_, mod-eq-of-lt, eq-or-lt-of-le}
+use Rattle.words.specs.Prelude.{mul-div-cancel, mul-comm, arith, length, getD, take, length-drop, List·getD-append, ext-getD, getD-at, length-take-le}
+use Rattle.words.specs.{Limits.rowWords, Limits.mostSlots, Limits.mostRows, Laws.Records.records-fit}
+use Rattle.rows.specs.{History.lastRows}
+use Rattle.table.specs.{Bytes.u16, Bytes.u32, Bytes.u64}
+use Rattle.steps.specs.{Bytes.eight, Laws.Encoding.four-back}
+use Rattle.records.specs.{declared.settings.Settings.Settings, declared.state.State.State, Lent.rowPlaces, StateWords.wordsOf}
+use Rattle.engine.specs.{Record.listed, Record.heldRows, Laws.Lengths.listed-long}
+use Rattle.dump.specs.{Layout.headBytes, Layout.wordsBytes, Layout.numbers, Layout.amounts, Layout.head, Layout.image, Layout.windowOf, Layout.imageOf}
+use Rattle.dump.specs.{Reading.slotsIn, Reading.rowsIn, Reading.wordsAt, Reading.windowIn, Laws.WordBytes.word-byte, Laws.Image.image-body}
+use Rattle.restart.specs.{RoundTrip.eight-back}
+use native.Mathlib.Nat.{mul-sub}
 
 -- ---- a word of a row
 

@@ -1,23 +1,16 @@
 -- "Example, whole: entry CrossAbove(slot 0, slot 1); exit Lt(close, Prev(close, 2)). K is 2; seven nodes make 128 bytes. ..
 -- `accepted nodes 7 rows 3`."
-use mathlib.Core.Path.{_≡_, refl}
-use mathlib.Core.List.{List, [], _∷_, _++_}
-use Prim.Native.Nat.{ℕ}
-use Rattle.table.specs.declared.answer.Answer.the-variants.{Accepted}
-use Rattle.table.specs.Bytes.{u16, u32, u64}
-use Rattle.table.specs.Kinds.{kinds, kindOf, versions, sinceOf}
-use Rattle.table.specs.Header.{markRight, versionRight, countsRight, headerRefusal, root}
-use Rattle.table.specs.Nodes.{nodeAt, childrenRight, nRight, constantRight, kindRight, fieldsRight, ownRight, nodeRight, wrongNode, sortAt, childCount}
-use Rattle.table.specs.Nodes.{childCountAt, childSortAt, childFits, childFitsAt}
-use Rattle.table.specs.Order.{fits, misfit, orPlace, ofFour, misfits}
-use Rattle.table.specs.Forest.{firstTrees, otherTrees, nodeOver, trees, forestOf}
-use Rattle.table.specs.Nesting.{deeper, tooDeep}
-use Rattle.table.specs.Reach.{back, ownBack, weigh, forestReach, treeReach, farAt, tooFar, rowsNeeded}
+use Rattle.words.specs.Prelude.{_≡_, refl, List, [], _∷_, _++_, ℕ}
+use Rattle.table.specs.{declared.answer.Answer.the-variants.Accepted, Bytes.u16, Bytes.u32, Bytes.u64, Kinds.kinds, Kinds.kindOf, Kinds.versions, Kinds.sinceOf}
+use Rattle.table.specs.{Header.markRight, Header.versionRight, Header.countsRight, Header.headerRefusal, Header.root, Nodes.nodeAt, Nodes.childrenRight}
+use Rattle.table.specs.{Nodes.nRight, Nodes.constantRight, Nodes.kindRight, Nodes.fieldsRight, Nodes.ownRight, Nodes.nodeRight, Nodes.wrongNode, Nodes.sortAt}
+use Rattle.table.specs.{Nodes.childCount, Nodes.childCountAt, Nodes.childSortAt, Nodes.childFits, Nodes.childFitsAt, Order.fits, Order.misfit, Order.orPlace}
+use Rattle.table.specs.{Order.ofFour, Order.misfits, Forest.firstTrees, Forest.otherTrees, Forest.nodeOver, Forest.trees, Forest.forestOf, Nesting.deeper}
+use Rattle.table.specs.{Nesting.tooDeep, Reach.back, Reach.ownBack, Reach.weigh, Reach.forestReach, Reach.treeReach, Reach.farAt, Reach.tooFar, Reach.rowsNeeded}
+use Rattle.table.specs.{Trees.ref, Trees.price, Trees.prev, Trees.compare, Trees.cross, Reading.operandBy, Reading.operandFrom, Reading.operands, Reading.firstOf}
+use Rattle.table.specs.{Reading.conditionBy, Reading.conditionFrom, Reading.conditions, Reading.present, Reading.treeOf, Writing.absent, Writing.shortOf}
+use Rattle.table.specs.{Writing.ruleOf, Checked.orRefused, Checked.orHeader, Checked.from9, Checked.from8, Checked.from7, Checked.checkedUpTo, Checked.checked}
 use Rattle.table.specs.Named as Named
-use Rattle.table.specs.Trees.{ref, price, prev, compare, cross}
-use Rattle.table.specs.Reading.{operandBy, operandFrom, operands, firstOf, conditionBy, conditionFrom, conditions, present, treeOf}
-use Rattle.table.specs.Writing.{absent, shortOf, ruleOf}
-use Rattle.table.specs.Checked.{orRefused, orHeader, from9, from8, from7, checkedUpTo, checked}
 
 -- kind, selector and n of a node that has neither children of its own number nor a constant
 abbrev node : ℕ → ℕ → ℕ → List ℕ

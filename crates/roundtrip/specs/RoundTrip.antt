@@ -2,22 +2,11 @@
 -- within the paper's limits is accepted and holds that rule. So the checker accepts what the paper describes, reads it as what
 -- it is, and refuses no table of a rule within the limits. A form is a version, 1 or 2, and a number of slots: this holds of both versions.
 -- Assumes nothing.
-use mathlib.Core.Path.{_≡_}
-use mathlib.Core.List.{List}
-use Prim.Native.Nat.{ℕ, _+_, max}
-use Rattle.table.specs.declared.answer.Answer.the-variants.{Accepted}
-use Rattle.table.specs.declared.header.Form.{Form}
-use Rattle.table.specs.Header.{formOf}
-use Rattle.table.specs.Checked.{checked}
-use Rattle.table.specs.Trees.{reachOf}
-use Rattle.table.specs.Writing.{Rule, nodesOfRule, tableOf, ruleOf}
-use Rattle.table.specs.Limits.{RuleWithin}
-use Rattle.table.specs.Bytes.{Bytes}
-use Rattle.roundtrip.specs.Laws.AcceptedWritten.{round-trip}
-use Rattle.roundtrip.specs.Laws.AcceptedWithin.{rule-within}
-use Rattle.roundtrip.specs.Laws.WrittenBytes.{written-bytes}
-use Rattle.roundtrip.specs.Laws.WrittenTrees.{reachOfShort}
-use Rattle.roundtrip.specs.Laws.WrittenAccepted.{is-accepted, reads-back}
+use Rattle.words.specs.Prelude.{_≡_, List, ℕ, _+_, max}
+use Rattle.table.specs.{declared.answer.Answer.the-variants.Accepted, declared.header.Form.Form, Header.formOf, Checked.checked, Trees.reachOf, Writing.Rule}
+use Rattle.table.specs.{Writing.nodesOfRule, Writing.tableOf, Writing.ruleOf, Limits.RuleWithin, Bytes.Bytes}
+use Rattle.roundtrip.specs.{Laws.AcceptedWritten.round-trip, Laws.AcceptedWithin.rule-within, Laws.WrittenBytes.written-bytes, Laws.WrittenTrees.reachOfShort}
+use Rattle.roundtrip.specs.{Laws.WrittenAccepted.is-accepted, Laws.WrittenAccepted.reads-back}
 
 -- **An accepted table is the table of the rule that it holds**: its four trees, written in prefix order under the paper's
 -- header, are its own bytes. (`Bytes`: each is below 256, as in every `&[u8]`.)

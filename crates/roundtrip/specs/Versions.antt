@@ -1,18 +1,10 @@
 -- Two versions of a table. "Version 1 tables mean what they meant, and a version 1 reader still gives 3." (request 8)
 -- Assumes nothing.
-use mathlib.Core.Path.{_≡_}
-use mathlib.Core.Bool.{true, false}
-use mathlib.Core.List.{List}
-use Prim.Native.Nat.{ℕ, _≤_}
-use lib.ListN.{length}
-use borrow.Author.Tests.{le-ltb}
-use Rattle.words.specs.Outcome.{refusal}
-use Rattle.table.specs.declared.answer.Answer.the-variants.{Refused}
-use Rattle.table.specs.Header.{version, markRight, versionRight, headerRefusal}
-use Rattle.table.specs.Kinds.{kindOf, extremum}
-use Rattle.table.specs.Laws.Kinds.{extreme-since}
-use Rattle.table.specs.Nodes.{nodeAt, kindRight, ownRight, nodeRight}
-use Rattle.table.specs.Checked.{orHeader, checkedUpTo, checked}
+use Rattle.words.specs.Prelude.{_≡_, true, false, List, ℕ, _≤_, length, le-ltb}
+use Rattle.words.specs.{Outcome.refusal}
+use Rattle.table.specs.{declared.answer.Answer.the-variants.Refused, Header.version, Header.markRight, Header.versionRight, Header.headerRefusal, Kinds.kindOf}
+use Rattle.table.specs.{Kinds.extremum, Laws.Kinds.extreme-since, Nodes.nodeAt, Nodes.kindRight, Nodes.ownRight, Nodes.nodeRight, Checked.orHeader}
+use Rattle.table.specs.{Checked.checkedUpTo, Checked.checked}
 
 -- **Tables of version 1 are answered as before**: the reader of both versions gives them the version 1 reader's answer, whatever
 -- else they hold.

@@ -1,13 +1,7 @@
 -- Where rows of one width stand in a list of words. Assumes nothing.
-use Prim.Native.Nat.{ℕ, _+_, _-_, _*_, _/_, _<_, _≤_}
-use mathlib.Core.Path.{_≡_}
-use mathlib.Core.List.{List}
-use native.Mathlib.Omega.{arith}
-use lib.ListN.{length, take, drop, length-drop}
-use lib.Seq.{take-all}
-use native.Mathlib.Nat.{div-eq-of-lt, zero-mul, le-refl}
-use Rattle.words.specs.Laws.Records.{records-fit}
-use Rattle.rows.specs.History.{historyOf, width, lastRows}
+use Rattle.words.specs.Prelude.{ℕ, _+_, _-_, _*_, _/_, _<_, _≤_, _≡_, List, arith, length, take, drop, length-drop, take-all, div-eq-of-lt, zero-mul, le-refl}
+use Rattle.words.specs.{Laws.Records.records-fit}
+use Rattle.rows.specs.{History.historyOf, History.width, History.lastRows}
 
 -- a list shorter than a row holds none
 pub no-rows : (n w : ℕ) → n < w → 0 ≡ n / w

@@ -1,11 +1,7 @@
 -- Two parts of a list, each turned round, and then both as one. Assumes nothing.
-use Prim.Native.Nat.{ℕ, _+_, _-_, _≤_}
-use mathlib.Core.Path.{_≡_, sym, ap, _∙_}
-use mathlib.Core.List.{List, _++_, append-assoc, reverse, reverse-append, reverse-reverse}
-use native.Mathlib.Omega.{arith}
-use native.Mathlib.Nat.{sub-zero}
-use lib.ListN.{length, take, drop, length-append, length-drop, length-reverse, take-append-drop}
-use lib.Seq.{take-at, drop-at, drop-drop, length-take-le}
+use Rattle.words.specs.Prelude.{ℕ, _+_, _-_, _≤_, _≡_, sym, ap, _∙_, List, _++_, append-assoc, reverse, arith, sub-zero, length, take, drop, length-append}
+use Rattle.words.specs.Prelude.{length-drop, length-reverse, take-append-drop, take-at, drop-at, drop-drop, length-take-le}
+use mathlib.Core.List.{reverse-append, reverse-reverse}
 
 module _ (room : List ℕ) (at end : ℕ) (order : at ≤ end) (fits : end ≤ length room) where
   A : List ℕ

@@ -1,12 +1,7 @@
 -- The rows of a run, as a rule reads them. Definitions only.
-use Prim.Native.Nat.{ℕ, _+_, _-_, _*_, _/_, _%_}
-use mathlib.Core.Bool.{Bool}
-use mathlib.Core.List.{List}
-use lib.ListN.{length, getD, drop}
-use lib.Dec.{eqb}
-use lib.Ieee.{Float}
-use Rattle.words.specs.Limits.{rowWords}
-use Rattle.floats.specs.Floats.{floatOf}
+use Rattle.words.specs.Prelude.{ℕ, _+_, _-_, _*_, _/_, _%_, Bool, List, length, getD, drop, eqb, Float}
+use Rattle.words.specs.{Limits.rowWords}
+use Rattle.floats.specs.{Floats.floatOf}
 
 -- How many rows there are, and word j of row i. Row 0 is the oldest.
 pub record History : Type 0 where

@@ -1,13 +1,7 @@
 -- A full room used as a ring: a row goes over the oldest and nothing moves. Definitions only.
-use Prim.Native.Nat.{ℕ, _+_, _-_, _*_, _/_}
-use mathlib.Core.Bool.{cond}
-use mathlib.Core.List.{List, _++_}
-use lib.ListN.{length, take, drop}
-use lib.Dec.{ltb}
-use Rattle.words.specs.Words.{overwrite}
-use Rattle.rows.specs.declared.ring.Ring.{Ring}
-use Rattle.rows.specs.History.{History, historyOf}
-use Rattle.rows.specs.Room.{placesFor}
+use Rattle.words.specs.Prelude.{ℕ, _+_, _-_, _*_, _/_, cond, List, _++_, length, take, drop, ltb}
+use Rattle.words.specs.{Words.overwrite}
+use Rattle.rows.specs.{declared.ring.Ring.Ring, History.History, History.historyOf, Room.placesFor}
 
 -- ---- rows that begin at a row of the list, go on to its end, and then from its front
 

@@ -1,9 +1,5 @@
 -- A lent room of rows, each as many words wide as the row that is added. Definitions only.
-use Prim.Native.Nat.{ℕ, _+_, _*_, _/_}
-use mathlib.Core.Bool.{cond}
-use mathlib.Core.List.{List, _++_}
-use lib.ListN.{length, take, drop}
-use lib.Dec.{ltb, eqb}
+use Rattle.words.specs.Prelude.{ℕ, _+_, _*_, _/_, cond, List, _++_, length, take, drop, ltb, eqb}
 
 -- how many rows of `row`'s width the room has a place for
 abbrev pub placesFor : List ℕ → List ℕ → ℕ

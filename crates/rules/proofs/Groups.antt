@@ -1,16 +1,8 @@
 -- All and Any of a row of conditions, taken from the front. Assumes nothing.
-use Prim.Native.Nat.{ℕ, zero, suc, _-_, _<_, _≤_}
-use mathlib.Core.Path.{_≡_, refl}
-use mathlib.Core.Bool.{Bool, true, false, not, Bool·beq}
-use mathlib.Core.List.{List}
-use native.Mathlib.Omega.{arith}
-use native.Mathlib.Numerals.{sub-one}
-use Rattle.rows.specs.History.{History}
-use Rattle.table.specs.Trees.{Condition, Conditions, none, more}
-use Rattle.rules.specs.declared.position.PositionState.{PositionState}
-use Rattle.rules.specs.Meaning.{holds}
-use Rattle.rules.specs.Shapes.{endIn}
-use Rattle.rules.specs.Flat.{growConditions, group}
+use Rattle.words.specs.Prelude.{ℕ, zero, suc, _-_, _<_, _≤_, _≡_, refl, Bool, true, false, not, Bool·beq, List, arith, sub-one}
+use Rattle.rows.specs.{History.History}
+use Rattle.table.specs.{Trees.Condition, Trees.Conditions, Trees.none, Trees.more}
+use Rattle.rules.specs.{declared.position.PositionState.PositionState, Meaning.holds, Shapes.endIn, Flat.growConditions, Flat.group}
 
 module _ (h : History) (s : PositionState) (i : ℕ) where
   pub group-none : (all : Bool) → holds h s (group all none) i ≡ all

@@ -1,14 +1,8 @@
 -- The operand and the condition at a node, by the node's shape. Assumes nothing.
-use Prim.Native.Nat.{ℕ, zero, suc, _-_, _<_, _≤_}
-use mathlib.Core.Path.{_≡_, refl}
-use mathlib.Core.List.{List}
-use native.Mathlib.Numerals.{sub-one}
-use Rattle.table.specs.Series.{seriesIn}
-use Rattle.table.specs.Trees.{const, any, none}
-use Rattle.rules.specs.declared.shapes.OperandShape.{OperandShape}
-use Rattle.rules.specs.declared.shapes.ConditionShape.{ConditionShape}
-use Rattle.rules.specs.Shapes.{operandShape, conditionShape}
-use Rattle.rules.specs.Flat.{growOperand, operandAt, growCondition, conditionAt}
+use Rattle.words.specs.Prelude.{ℕ, zero, suc, _-_, _<_, _≤_, _≡_, refl, List, sub-one}
+use Rattle.table.specs.{Series.seriesIn, Trees.const, Trees.any, Trees.none}
+use Rattle.rules.specs.{declared.shapes.OperandShape.OperandShape, declared.shapes.ConditionShape.ConditionShape, Shapes.operandShape, Shapes.conditionShape}
+use Rattle.rules.specs.{Flat.growOperand, Flat.operandAt, Flat.growCondition, Flat.conditionAt}
 
 module _ (t ends : List ℕ) (i left : ℕ) where
   pub no-operand : left ≡ 0 → operandAt left t ends i ≡ const 0

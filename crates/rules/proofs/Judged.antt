@@ -1,26 +1,12 @@
 -- The answer of a rule, case by case. Assumes nothing.
-use Prim.Native.Nat.{ℕ}
-use mathlib.Core.Path.{_≡_, sym, ap, _∙_}
-use mathlib.Core.Bool.{Bool, true, false, cond}
-use mathlib.Core.List.{List}
-use lib.Dec.{eqb}
-use Rattle.words.specs.Limits.{mostNesting}
-use Rattle.words.specs.declared.refusal.Refusal.{Refusal}
-use Rattle.words.specs.Outcome.{refusal}
-use Rattle.rows.specs.History.{historyOf, wholeRows}
-use Rattle.table.specs.declared.answer.Answer.{Answer}
-use Rattle.table.specs.declared.answer.Answer.the-variants.{Accepted, Refused}
-use Rattle.table.specs.Header.{slots, count, root}
-use Rattle.table.specs.Checked.{checked}
-use Rattle.table.specs.Ends.{endsBeside}
-use Rattle.rules.specs.declared.position.PositionState.{PositionState}
-use Rattle.table.specs.declared.trees.Tree.{Tree}
-use Rattle.rules.specs.declared.answers.RuleAnswer.the-variants.{Says, Refuses}
-use Rattle.rules.specs.Meaning.{says}
-use Rattle.rules.specs.Flat.{conditionAt}
-use Rattle.table.specs.Header.{treeNumber}
-use Rattle.rules.specs.Answers.{stateRight, judged, afterCheck, answered}
-use Rattle.rules.specs.Laws.Answers.{tree-of-four, flat-says}
+use Rattle.words.specs.Prelude.{ℕ, _≡_, sym, ap, _∙_, Bool, true, false, cond, List, eqb}
+use Rattle.words.specs.{Limits.mostNesting, declared.refusal.Refusal.Refusal, Outcome.refusal}
+use Rattle.rows.specs.{History.historyOf, History.wholeRows}
+use Rattle.table.specs.{declared.answer.Answer.Answer, declared.answer.Answer.the-variants.Accepted, declared.answer.Answer.the-variants.Refused, Header.slots}
+use Rattle.table.specs.{Header.count, Header.root, Checked.checked, Ends.endsBeside, declared.trees.Tree.Tree, Header.treeNumber}
+use Rattle.rules.specs.{declared.position.PositionState.PositionState, declared.answers.RuleAnswer.the-variants.Says}
+use Rattle.rules.specs.{declared.answers.RuleAnswer.the-variants.Refuses, Meaning.says, Flat.conditionAt, Answers.stateRight, Answers.judged}
+use Rattle.rules.specs.{Answers.afterCheck, Answers.answered, Laws.Answers.tree-of-four, Laws.Answers.flat-says}
 
 module _ (t : List ℕ) (tree : Tree) (rows : List ℕ) (s : PositionState) where
   pub refused : (a : Answer) (why : Refusal) → a ≡ checked t → a ≡ Refused why → Refuses why ≡ answered t tree rows s

@@ -1,9 +1,5 @@
 -- Of floats and words, what the values need. Assumes nothing.
-use Prim.Native.Nat.{ℕ, _/_, _%_, _^_, _≤_, _<_}
-use mathlib.Core.Path.{_≡_, refl}
-use native.Mathlib.Nat.{div-eq-of-lt, lt-of-lt-of-le}
-use lib.Pow.{pow-mono}
-use lib.Ieee.{nan, div, ofBits, binary64}
+use Rattle.words.specs.Prelude.{ℕ, _/_, _%_, _^_, _≤_, _<_, _≡_, refl, div-eq-of-lt, lt-of-lt-of-le, pow-mono, nan, div, ofBits, binary64}
 
 pub nan-is : div binary64 (ofBits binary64 0) (ofBits binary64 0) ≡ nan
 unfolding div ofBits

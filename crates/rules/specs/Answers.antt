@@ -1,23 +1,12 @@
 -- What a rule of a table answers over rows and a position state, refusals and all. Definitions only.
-use Prim.Native.Nat.{ℕ}
-use mathlib.Core.Bool.{Bool, true, cond, _&&_}
-use mathlib.Core.List.{List}
-use lib.Dec.{ltb, leb}
-use Rattle.words.specs.Limits.{mostCount}
-use Rattle.words.specs.Outcome.{refusal}
-use Rattle.rows.specs.History.{historyOf, wholeRows}
-use Rattle.table.specs.declared.answer.Answer.{Answer}
-use Rattle.table.specs.declared.answer.Answer.the-variants.{Accepted, Refused}
-use Rattle.table.specs.Header.{treeNumber, slots}
-use Rattle.table.specs.Checked.{checked}
-use Rattle.table.specs.Reading.{treeOf}
-use Rattle.rules.specs.declared.position.Entered.{Entered}
-use Rattle.rules.specs.declared.position.Entered.the-variants.{Never, Bar}
-use Rattle.rules.specs.declared.position.PositionState.{PositionState}
-use Rattle.table.specs.declared.trees.Tree.{Tree}
-use Rattle.rules.specs.declared.answers.RuleAnswer.{RuleAnswer}
-use Rattle.rules.specs.declared.answers.RuleAnswer.the-variants.{Says, Refuses}
-use Rattle.rules.specs.Meaning.{says}
+use Rattle.words.specs.Prelude.{ℕ, Bool, true, cond, _&&_, List, ltb, leb}
+use Rattle.words.specs.{Limits.mostCount, Outcome.refusal}
+use Rattle.rows.specs.{History.historyOf, History.wholeRows}
+use Rattle.table.specs.{declared.answer.Answer.Answer, declared.answer.Answer.the-variants.Accepted, declared.answer.Answer.the-variants.Refused, Header.treeNumber}
+use Rattle.table.specs.{Header.slots, Checked.checked, Reading.treeOf, declared.trees.Tree.Tree}
+use Rattle.rules.specs.{declared.position.Entered.Entered, declared.position.Entered.the-variants.Never, declared.position.Entered.the-variants.Bar}
+use Rattle.rules.specs.{declared.position.PositionState.PositionState, declared.answers.RuleAnswer.RuleAnswer, declared.answers.RuleAnswer.the-variants.Says}
+use Rattle.rules.specs.{declared.answers.RuleAnswer.the-variants.Refuses, Meaning.says}
 
 -- "13: counts in the state exceed .. 4,294,967,295 .. or an entry bar is not below the bars seen": this is where neither.
 abbrev pub entryBelow : ℕ → Entered → Bool

@@ -1,20 +1,11 @@
 -- THE WINDOW, whatever its length. Assumes nothing.
-use Prim.Native.Nat.{ℕ, _-_, _≤_, _<_}
-use mathlib.Core.Path.{_≡_, refl, ap}
-use mathlib.Core.Bool.{Bool, true, false, not, cond}
-use mathlib.Core.List.{List}
-use native.Mathlib.Omega.{arith}
-use lib.Dec.{leb}
-use borrow.Author.Tests.{lt-leb, leb-true, leb-false}
-use Rattle.rows.specs.History.{History, historyOf, lastRows}
-use Rattle.table.specs.Trees.{Condition, Conditions, compare, cross, between, trend, every, any, negated, inPosition, barsSince, none, more}
-use Rattle.table.specs.Trees.{reachOf, reachOfAll}
-use Rattle.table.specs.Silent.{isTest, silent}
-use Rattle.rules.specs.declared.position.PositionState.{PositionState}
-use Rattle.rules.specs.Meaning.{newest, holds, allHold, anyHolds, says}
-use Rattle.rules.specs.Window.{Without, without-first, window}
-use Rattle.rules.specs.Shortage.{unlessSilent, struckOut, struckOutAll}
-use Rattle.rules.specs.Silence.{test-silent}
+use Rattle.words.specs.Prelude.{ℕ, _-_, _≤_, _<_, _≡_, refl, ap, Bool, true, false, not, cond, List, arith, leb, lt-leb, leb-true, leb-false}
+use Rattle.rows.specs.{History.History, History.historyOf, History.lastRows}
+use Rattle.table.specs.{Trees.Condition, Trees.Conditions, Trees.compare, Trees.cross, Trees.between, Trees.trend, Trees.every, Trees.any, Trees.negated}
+use Rattle.table.specs.{Trees.inPosition, Trees.barsSince, Trees.none, Trees.more, Trees.reachOf, Trees.reachOfAll, Silent.isTest, Silent.silent}
+use Rattle.rules.specs.{declared.position.PositionState.PositionState, Meaning.newest, Meaning.holds, Meaning.allHold, Meaning.anyHolds, Meaning.says}
+use Rattle.rules.specs.{Window.Without, Window.without-first, Window.window, Shortage.unlessSilent, Shortage.struckOut, Shortage.struckOutAll}
+use Rattle.rules.specs.{Silence.test-silent}
 
 module _ (K d : ℕ) (ws : List ℕ) (p : PositionState) where
   h : History

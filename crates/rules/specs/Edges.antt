@@ -1,17 +1,14 @@
 -- "Both sides of each edge": the starred cases 1 to 7, of the definitions themselves, as one table. Assumes nothing.
-use Prim.Native.Nat.{ℕ}
-use mathlib.Core.Path.{_≡_, refl}
-use mathlib.Core.Bool.{Bool, true, false}
-use mathlib.Core.List.{List, [], _∷_, _++_}
+use Rattle.words.specs.Prelude.{ℕ, _≡_, refl, Bool, true, false, List, [], _∷_, _++_}
+use Rattle.floats.specs.{Floats.zero, Floats.abs}
+use Rattle.rows.specs.{History.historyOf}
+use Rattle.table.specs.{Trees.Operand, Trees.const, Trees.price, Trees.ref, Trees.prev, Trees.arith, Trees.Condition, Trees.compare, Trees.cross, Trees.every}
+use Rattle.table.specs.{Trees.any, Trees.negated, Trees.none, Trees.reach, Trees.reachOf}
+use Rattle.rules.specs.{declared.position.PositionState.PositionState, declared.position.Entered.the-variants.Never, Values.priceOf, Values.slotOf}
+use Rattle.rules.specs.{Values.divide, Values.combine, Values.both, Values.tested, Values.compared, Values.crossed, Meaning.newest, Meaning.there}
+use Rattle.rules.specs.{Meaning.value, Meaning.holds, Meaning.says}
 use lib.Ieee as Ieee
-use Rattle.floats.specs.Floats.{zero, abs}
-use Rattle.rows.specs.History.{historyOf}
 use Rattle.table.specs.Named as Named
-use Rattle.table.specs.Trees.{Operand, const, price, ref, prev, arith, Condition, compare, cross, every, any, negated, none, reach, reachOf}
-use Rattle.rules.specs.declared.position.PositionState.{PositionState}
-use Rattle.rules.specs.declared.position.Entered.the-variants.{Never}
-use Rattle.rules.specs.Values.{priceOf, slotOf, divide, combine, both, tested, compared, crossed}
-use Rattle.rules.specs.Meaning.{newest, there, value, holds, says}
 
 -- the bits of the constants, and the kinds, that the cases name
 num0 : Operand

@@ -1,17 +1,19 @@
 -- The tree that stands at a node, read off the bytes and the array of subtree ends, whatever they are. On an accepted
 -- table it is the table's own tree. Definitions only.
-use Prim.Native.Nat.{ℕ, zero, suc}
-use mathlib.Core.Bool.{Bool, true, false}
-use mathlib.Core.List.{List}
-use Rattle.table.specs.declared.series.Series.{Series}
-use Rattle.table.specs.Series.{seriesIn}
-use Rattle.table.specs.Trees.{Operand, const, ref, price, prev, arith, extreme, Condition, Conditions, compare, cross, between, trend, every, any, negated}
-use Rattle.table.specs.Trees.{inPosition, barsSince, none, more}
-use Rattle.rules.specs.declared.shapes.OperandShape.{OperandShape}
-use Rattle.rules.specs.declared.shapes.OperandShape.the-variants.{Const, Ref, Price, Prev, Arith, Extreme, NoOperand}
-use Rattle.rules.specs.declared.shapes.ConditionShape.{ConditionShape}
-use Rattle.rules.specs.declared.shapes.ConditionShape.the-variants.{Compare, Cross, Between, Trend, Group, Not, InPosition, BarsSince, NoCondition}
-use Rattle.rules.specs.Shapes.{endIn, operandShape, conditionShape}
+use Rattle.words.specs.Prelude.{ℕ, zero, suc, Bool, true, false, List}
+use Rattle.table.specs.{declared.series.Series.Series, Series.seriesIn, Trees.Operand, Trees.const, Trees.ref, Trees.price, Trees.prev, Trees.arith, Trees.extreme}
+use Rattle.table.specs.{Trees.Condition, Trees.Conditions, Trees.compare, Trees.cross, Trees.between, Trees.trend, Trees.every, Trees.any, Trees.negated}
+use Rattle.table.specs.{Trees.inPosition, Trees.barsSince, Trees.none, Trees.more}
+use Rattle.rules.specs.{declared.shapes.OperandShape.OperandShape, declared.shapes.OperandShape.the-variants.Const}
+use Rattle.rules.specs.{declared.shapes.OperandShape.the-variants.Ref, declared.shapes.OperandShape.the-variants.Price}
+use Rattle.rules.specs.{declared.shapes.OperandShape.the-variants.Prev, declared.shapes.OperandShape.the-variants.Arith}
+use Rattle.rules.specs.{declared.shapes.OperandShape.the-variants.Extreme, declared.shapes.OperandShape.the-variants.NoOperand}
+use Rattle.rules.specs.{declared.shapes.ConditionShape.ConditionShape, declared.shapes.ConditionShape.the-variants.Compare}
+use Rattle.rules.specs.{declared.shapes.ConditionShape.the-variants.Cross, declared.shapes.ConditionShape.the-variants.Between}
+use Rattle.rules.specs.{declared.shapes.ConditionShape.the-variants.Trend, declared.shapes.ConditionShape.the-variants.Group}
+use Rattle.rules.specs.{declared.shapes.ConditionShape.the-variants.Not, declared.shapes.ConditionShape.the-variants.InPosition}
+use Rattle.rules.specs.{declared.shapes.ConditionShape.the-variants.BarsSince, declared.shapes.ConditionShape.the-variants.NoCondition, Shapes.endIn}
+use Rattle.rules.specs.{Shapes.operandShape, Shapes.conditionShape}
 
 -- the operand of a shape, where `below` has the operands at the nodes below and `over` the series; a node that is no operand is read as 0
 unfoldable pub growOperand : (ℕ → Series) → (ℕ → Operand) → OperandShape → Operand

@@ -1,17 +1,13 @@
 -- "What a rule means": operands and conditions at a bar of a history. Definitions only.
-use Prim.Native.Nat.{ℕ, zero, suc, _+_, _-_}
-use mathlib.Core.Bool.{Bool, true, false, not, cond, _&&_, _||_}
-use lib.Dec.{ltb, eqb}
-use Rattle.floats.specs.Floats.{floatOf}
-use Rattle.rows.specs.History.{History}
-use Rattle.table.specs.declared.series.Series.{Series}
-use Rattle.table.specs.declared.series.Series.the-variants.{Price, Slot}
-use Rattle.table.specs.Trees.{Operand, const, ref, price, prev, arith, extreme, Condition, Conditions, compare, cross, between, trend, every, any, negated}
-use Rattle.table.specs.Trees.{inPosition, barsSince, none, more}
-use Rattle.rules.specs.declared.values.Value.{Value}
-use Rattle.rules.specs.declared.values.Value.the-variants.{Missing, Number}
-use Rattle.rules.specs.declared.position.PositionState.{PositionState}
-use Rattle.rules.specs.Values.{priceOf, slotOf, both, pick, compared, crossed, within, trended, held, countedSince}
+use Rattle.words.specs.Prelude.{ℕ, zero, suc, _+_, _-_, Bool, true, false, not, cond, _&&_, _||_, ltb, eqb}
+use Rattle.floats.specs.{Floats.floatOf}
+use Rattle.rows.specs.{History.History}
+use Rattle.table.specs.{declared.series.Series.Series, declared.series.Series.the-variants.Price, declared.series.Series.the-variants.Slot, Trees.Operand}
+use Rattle.table.specs.{Trees.const, Trees.ref, Trees.price, Trees.prev, Trees.arith, Trees.extreme, Trees.Condition, Trees.Conditions, Trees.compare, Trees.cross}
+use Rattle.table.specs.{Trees.between, Trees.trend, Trees.every, Trees.any, Trees.negated, Trees.inPosition, Trees.barsSince, Trees.none, Trees.more}
+use Rattle.rules.specs.{declared.values.Value.Value, declared.values.Value.the-variants.Missing, declared.values.Value.the-variants.Number}
+use Rattle.rules.specs.{declared.position.PositionState.PositionState, Values.priceOf, Values.slotOf, Values.both, Values.pick, Values.compared}
+use Rattle.rules.specs.{Values.crossed, Values.within, Values.trended, Values.held, Values.countedSince}
 
 -- "The newest bar is the last row's; with no rows it is bar 0, whose row does not exist."
 unfoldable pub newest : History → ℕ

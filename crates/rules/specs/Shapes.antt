@@ -1,22 +1,19 @@
 -- How a node of the table is made up, read off its 16 bytes and the array of subtree ends. Definitions only.
-use Prim.Native.Nat.{ℕ, _+_}
-use mathlib.Core.Bool.{true, false, cond}
-use mathlib.Core.List.{List}
-use lib.ListN.{getD}
-use lib.Dec.{ltb, leb, eqb}
-use Rattle.words.specs.Limits.{mostNodes}
-use Rattle.table.specs.declared.nodes.Node.{Node}
-use Rattle.table.specs.declared.kinds.OperandClass.{OperandClass}
+use Rattle.words.specs.Prelude.{ℕ, _+_, true, false, cond, List, getD, ltb, leb, eqb}
+use Rattle.words.specs.{Limits.mostNodes}
+use Rattle.table.specs.{declared.nodes.Node.Node, declared.kinds.OperandClass.OperandClass, declared.kinds.ConditionClass.ConditionClass, Kinds.kindOf}
+use Rattle.table.specs.{Nodes.nodeAt}
+use Rattle.rules.specs.{declared.shapes.OperandShape.OperandShape, declared.shapes.OperandShape.the-variants.Const}
+use Rattle.rules.specs.{declared.shapes.OperandShape.the-variants.Ref, declared.shapes.OperandShape.the-variants.Price}
+use Rattle.rules.specs.{declared.shapes.OperandShape.the-variants.Prev, declared.shapes.OperandShape.the-variants.Arith}
+use Rattle.rules.specs.{declared.shapes.OperandShape.the-variants.Extreme, declared.shapes.OperandShape.the-variants.NoOperand}
+use Rattle.rules.specs.{declared.shapes.ConditionShape.ConditionShape, declared.shapes.ConditionShape.the-variants.Compare}
+use Rattle.rules.specs.{declared.shapes.ConditionShape.the-variants.Cross, declared.shapes.ConditionShape.the-variants.Between}
+use Rattle.rules.specs.{declared.shapes.ConditionShape.the-variants.Trend, declared.shapes.ConditionShape.the-variants.Group}
+use Rattle.rules.specs.{declared.shapes.ConditionShape.the-variants.Not, declared.shapes.ConditionShape.the-variants.InPosition}
+use Rattle.rules.specs.{declared.shapes.ConditionShape.the-variants.BarsSince, declared.shapes.ConditionShape.the-variants.NoCondition}
 use Rattle.table.specs.declared.kinds.OperandClass.the-variants as AsOperand
-use Rattle.table.specs.declared.kinds.ConditionClass.{ConditionClass}
 use Rattle.table.specs.declared.kinds.ConditionClass.the-variants as AsCondition
-use Rattle.table.specs.Kinds.{kindOf}
-use Rattle.table.specs.Nodes.{nodeAt}
-use Rattle.rules.specs.declared.shapes.OperandShape.{OperandShape}
-use Rattle.rules.specs.declared.shapes.OperandShape.the-variants.{Const, Ref, Price, Prev, Arith, Extreme, NoOperand}
-use Rattle.rules.specs.declared.shapes.ConditionShape.{ConditionShape}
-use Rattle.rules.specs.declared.shapes.ConditionShape.the-variants.{Compare, Cross, Between, Trend, Group, Not}
-use Rattle.rules.specs.declared.shapes.ConditionShape.the-variants.{InPosition, BarsSince, NoCondition}
 
 -- the end of the subtree at node i, one of 256
 unfoldable pub endIn : List ℕ → ℕ → ℕ

@@ -1,8 +1,7 @@
 -- What a window that is too short does to a rule: each test that reaches back beyond it is struck out. Definitions only.
-use Prim.Native.Nat.{ℕ}
-use mathlib.Core.Bool.{cond}
-use Rattle.table.specs.Trees.{Condition, Conditions, compare, cross, between, trend, every, any, negated, inPosition, barsSince, none, more}
-use Rattle.table.specs.Silent.{silent}
+use Rattle.words.specs.Prelude.{ℕ, cond}
+use Rattle.table.specs.{Trees.Condition, Trees.Conditions, Trees.compare, Trees.cross, Trees.between, Trees.trend, Trees.every, Trees.any, Trees.negated}
+use Rattle.table.specs.{Trees.inPosition, Trees.barsSince, Trees.none, Trees.more, Silent.silent}
 
 -- A test, or in its place Any of none, which is no, where it falls silent over d rows.
 unfoldable pub unlessSilent : ℕ → Condition → Condition

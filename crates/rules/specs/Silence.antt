@@ -1,21 +1,15 @@
 -- A test that reaches back as many bars as there are rows, or more, answers no. Assumes nothing.
-use Prim.Native.Nat.{ℕ, _-_, _≤_, _<_}
-use mathlib.Core.Path.{_≡_, refl, sym}
-use mathlib.Core.Bool.{Bool, true, false, not, cond, true≢false, _&&_}
-use native.Mathlib.Omega.{arith}
-use lib.Dec.{ltb, leb, eqb}
-use borrow.Author.Tests.{ltb-true, ltb-false, leb-true, leb-false, eqb-false}
-use Rattle.rows.specs.History.{History}
-use Rattle.table.specs.Trees.{Operand, const, ref, price, prev, arith as sums, extreme, reach}
-use Rattle.table.specs.Trees.{Condition, compare, cross, between, trend, every, any, negated, inPosition, barsSince, reachOf}
-use Rattle.table.specs.Silent.{isTest}
-use Rattle.rules.specs.declared.position.PositionState.{PositionState}
-use Rattle.rules.specs.declared.values.Value.the-variants.{Missing}
-use Rattle.rules.specs.Values.{both, compared, crossed, within, trended}
-use Rattle.rules.specs.Meaning.{newest, there, value, holds, says}
-use Rattle.rules.specs.Laws.Meaning.{extreme-early, past}
-use Rattle.rules.specs.Laws.Missing.{missing-there, both-late, compared-late, trended-late}
-use Rattle.rules.specs.Laws.Missing.{within-low, within-high, within-value, crossed-first, crossed-second}
+use Rattle.words.specs.Prelude.{ℕ, _-_, _≤_, _<_, _≡_, refl, sym, Bool, true, false, not, cond, true≢false, _&&_, arith, ltb, leb, eqb, ltb-true, ltb-false}
+use Rattle.words.specs.Prelude.{leb-true, leb-false, eqb-false}
+use Rattle.rows.specs.{History.History}
+use Rattle.table.specs.{Trees.Operand, Trees.const, Trees.ref, Trees.price, Trees.prev, Trees.arith as sums, Trees.extreme, Trees.reach, Trees.Condition}
+use Rattle.table.specs.{Trees.compare, Trees.cross, Trees.between, Trees.trend, Trees.every, Trees.any, Trees.negated, Trees.inPosition, Trees.barsSince}
+use Rattle.table.specs.{Trees.reachOf, Silent.isTest}
+use Rattle.rules.specs.{declared.position.PositionState.PositionState, declared.values.Value.the-variants.Missing, Values.both, Values.compared}
+use Rattle.rules.specs.{Values.crossed, Values.within, Values.trended, Meaning.newest, Meaning.there, Meaning.value, Meaning.holds, Meaning.says}
+use Rattle.rules.specs.{Laws.Meaning.extreme-early, Laws.Meaning.past, Laws.Missing.missing-there, Laws.Missing.both-late, Laws.Missing.compared-late}
+use Rattle.rules.specs.{Laws.Missing.trended-late, Laws.Missing.within-low, Laws.Missing.within-high, Laws.Missing.within-value, Laws.Missing.crossed-first}
+use Rattle.rules.specs.{Laws.Missing.crossed-second}
 
 -- ---- an operand that reaches back beyond bar 0 is missing
 

@@ -1,17 +1,10 @@
 -- "What a rule means", the leaves: what a row, an operation, a comparison and the position give. Definitions only.
-use Prim.Native.Nat.{ℕ, _+_, _-_, _/_, _%_, _^_}
-use mathlib.Core.Bool.{Bool, false, cond, _&&_}
-use mathlib.Core.List.{List}
-use lib.ListN.{getD}
-use lib.Dec.{ltb, leb, eqb}
-use lib.Ieee.{Float, nan}
-use Rattle.floats.specs.Floats.{_⊕_, _⊖_, _⊗_, _⊘_, _≺_, _≼_, floatOf, abs, eps, three, four}
+use Rattle.words.specs.Prelude.{ℕ, _+_, _-_, _/_, _%_, _^_, Bool, false, cond, _&&_, List, getD, ltb, leb, eqb, Float, nan}
+use Rattle.floats.specs.{Floats._⊕_, Floats._⊖_, Floats._⊗_, Floats._⊘_, Floats._≺_, Floats._≼_, Floats.floatOf, Floats.abs, Floats.eps, Floats.three, Floats.four}
+use Rattle.rules.specs.{declared.values.Value.Value, declared.values.Value.the-variants.Missing, declared.values.Value.the-variants.Number}
+use Rattle.rules.specs.{declared.position.Entered.Entered, declared.position.Entered.the-variants.Never, declared.position.Entered.the-variants.Bar}
+use Rattle.rules.specs.{declared.position.PositionState.PositionState}
 use Rattle.table.specs.Named as Named
-use Rattle.rules.specs.declared.values.Value.{Value}
-use Rattle.rules.specs.declared.values.Value.the-variants.{Missing, Number}
-use Rattle.rules.specs.declared.position.Entered.{Entered}
-use Rattle.rules.specs.declared.position.Entered.the-variants.{Never, Bar}
-use Rattle.rules.specs.declared.position.PositionState.{PositionState}
 
 -- A row is the function from a place to the word there. This is the one that begins at word `base` of a list.
 abbrev pub wordsFrom : List ℕ → ℕ → ℕ → ℕ

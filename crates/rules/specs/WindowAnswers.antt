@@ -1,23 +1,12 @@
 -- A rule answered over the window is the rule answered over all rows. Assumes nothing.
-use Prim.Native.Nat.{ℕ, _+_, _-_, _*_, _%_, _≤_, _<_}
-use mathlib.Core.Path.{_≡_, ap, _∙_}
-use mathlib.Core.List.{List}
-use native.Mathlib.Omega.{arith}
-use native.Mathlib.Nat.{le-div-iff-mul-le, mul-add-mod-self-right}
-use lib.ListN.{length, length-drop}
-use Rattle.rows.specs.History.{historyOf, wholeRows, lastRows}
-use Rattle.table.specs.declared.answer.Answer.the-variants.{Accepted}
-use Rattle.table.specs.Trees.{reachOf}
-use Rattle.table.specs.Header.{slots}
-use Rattle.table.specs.Checked.{checked}
-use Rattle.table.specs.Reading.{treeOf}
-use Rattle.roundtrip.specs.Laws.Reach.{rows-are}
-use Rattle.rules.specs.declared.position.PositionState.{PositionState}
-use Rattle.table.specs.declared.trees.Tree.{Tree}
-use Rattle.table.specs.declared.trees.Tree.the-variants.{Entry, Exit, ShortEntry, ShortExit}
-use Rattle.table.specs.Header.{treeNumber}
-use Rattle.rules.specs.Answers.{judged, afterCheck, answered}
-use Rattle.rules.specs.Window.{window}
+use Rattle.words.specs.Prelude.{ℕ, _+_, _-_, _*_, _%_, _≤_, _<_, _≡_, ap, _∙_, List, arith, le-div-iff-mul-le, length, length-drop}
+use Rattle.rows.specs.{History.historyOf, History.wholeRows, History.lastRows}
+use Rattle.table.specs.{declared.answer.Answer.the-variants.Accepted, Trees.reachOf, Header.slots, Checked.checked, Reading.treeOf, declared.trees.Tree.Tree}
+use Rattle.table.specs.{declared.trees.Tree.the-variants.Entry, declared.trees.Tree.the-variants.Exit, declared.trees.Tree.the-variants.ShortEntry}
+use Rattle.table.specs.{declared.trees.Tree.the-variants.ShortExit, Header.treeNumber}
+use Rattle.roundtrip.specs.{Laws.Reach.rows-are}
+use Rattle.rules.specs.{declared.position.PositionState.PositionState, Answers.judged, Answers.afterCheck, Answers.answered, Window.window}
+use native.Mathlib.Nat.{mul-add-mod-self-right}
 
 -- The last rows are whole where all are.
 pub window-whole : (K D : ℕ) (ws : List ℕ) → wholeRows K (lastRows K D ws) ≡ wholeRows K ws

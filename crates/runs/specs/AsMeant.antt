@@ -1,33 +1,15 @@
 -- A box that keeps D rows is a run that keeps everything, and whose rules are asked of what they mean.
-use Prim.Native.Nat.{ℕ}
-use mathlib.Core.Path.{_≡_, refl, sym, ap, _∙_}
-use mathlib.Core.List.{List, [], _∷_, _++_, flatMap}
-use native.Mathlib.Nat.{zero-add}
-use native.Mathlib.Omega.{arith}
-use lib.ListN.{take, length-append}
-use Rattle.portfolio.specs.Trade.{wordsOfTrade}
-use Rattle.metrics.specs.Figures.{metricsOf}
-use Rattle.metrics.specs.Records.{equityOf, pnlsOf}
-use Rattle.records.specs.declared.settings.Settings.{Settings}
-use Rattle.records.specs.declared.state.State.{State}
-use Rattle.records.specs.Lent.{Lists, Rooms}
-use Rattle.records.specs.State.{freshState}
-use Rattle.refusals.specs.declared.verdict.Verdict.the-variants.{Fine}
-use Rattle.refusals.specs.Judgement.{finishJudged}
-use Rattle.refusals.specs.Rooms.{toClose}
-use Rattle.engine.specs.Books.{wordsOfPoint, tradesOf, heldPoints, heldTrades}
-use Rattle.engine.specs.Boxes.{Grown, Holds}
-use Rattle.engine.specs.Finish.{lastExit, endState, measured, ended}
-use Rattle.runs.specs.Laws.AccountStep.{taken-as-meant}
-use Rattle.runs.specs.Laws.BooksGrow.{flat-append}
-use Rattle.runs.specs.Laws.Finishes.{Closes, end-closes}
-use Rattle.runs.specs.Laws.Follows.{run-follows}
-use Rattle.runs.specs.Laws.LastPoint.{remarked-points, end-count}
-use Rattle.engine.specs.Rules.{rulesOf, FromTable}
-use Rattle.engine.specs.Run.{Run, runOver}
-use Rattle.engine.specs.Whole.{Account, accountOf, stateOf, byLists, byMeaning, Whole, wholeRun, wholeRunBy, endPoints, wholeEnd, wholeMetrics}
-use Rattle.engine.specs.Whole.{meantRun}
-use Rattle.runs.specs.WholeHistory.{fresh-follows}
+use Rattle.words.specs.Prelude.{ℕ, _≡_, refl, sym, ap, _∙_, List, [], _∷_, _++_, flatMap, zero-add, arith, take, length-append}
+use Rattle.portfolio.specs.{Trade.wordsOfTrade}
+use Rattle.metrics.specs.{Figures.metricsOf, Records.equityOf, Records.pnlsOf}
+use Rattle.records.specs.{declared.settings.Settings.Settings, declared.state.State.State, Lent.Lists, Lent.Rooms, State.freshState}
+use Rattle.refusals.specs.{declared.verdict.Verdict.the-variants.Fine, Judgement.finishJudged, Rooms.toClose}
+use Rattle.engine.specs.{Books.wordsOfPoint, Books.tradesOf, Books.heldPoints, Books.heldTrades, Boxes.Grown, Boxes.Holds, Finish.lastExit, Finish.endState}
+use Rattle.engine.specs.{Finish.measured, Finish.ended, Rules.rulesOf, Rules.FromTable, Run.Run, Run.runOver, Whole.Account, Whole.accountOf, Whole.stateOf}
+use Rattle.engine.specs.{Whole.byLists, Whole.byMeaning, Whole.Whole, Whole.wholeRun, Whole.wholeRunBy, Whole.endPoints, Whole.wholeEnd, Whole.wholeMetrics}
+use Rattle.engine.specs.{Whole.meantRun}
+use Rattle.runs.specs.{Laws.AccountStep.taken-as-meant, Laws.BooksGrow.flat-append, Laws.Finishes.Closes, Laws.Finishes.end-closes, Laws.Follows.run-follows}
+use Rattle.runs.specs.{Laws.LastPoint.remarked-points, Laws.LastPoint.end-count, WholeHistory.fresh-follows}
 
 -- what grew from a fresh state's books is all that they hold
 from-fresh : (s : Settings) (m : Rooms) (u : State) (n : Rooms) (w : Whole) → accountOf u ≡ w .account

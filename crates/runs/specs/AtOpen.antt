@@ -1,34 +1,17 @@
 -- MARKET ORDERS BEHAVE AS BEFORE: a run whose order kind is market is the run of the engine that knew no other orders.
-use Prim.Native.Nat.{ℕ, _-_}
-use mathlib.Core.Path.{_≡_, refl}
-use mathlib.Core.Bool.{Bool, true, false, cond}
-use mathlib.Core.List.{List, [], _∷_, _++_}
-use lib.Dec.{ltb}
-use lib.Ieee.{Float}
-use Rattle.rows.specs.History.{History, historyOf}
-use Rattle.portfolio.specs.declared.Candle.{Candle}
-use Rattle.portfolio.specs.declared.Portfolio.{Portfolio}
-use Rattle.portfolio.specs.Portfolio.{inPosition, isLong}
-use Rattle.execution.specs.declared.fills.Exit.the-variants.{NoExit}
-use Rattle.execution.specs.declared.level.Side.{Side}
-use Rattle.execution.specs.declared.level.Side.the-variants.{Long, Short}
-use Rattle.execution.specs.declared.level.OrderKind.the-variants.{Market}
-use Rattle.execution.specs.declared.level.OrderType.the-variants.{Market as MarketType}
-use Rattle.execution.specs.Fills.{executeEntry, isTurnedAway}
-use Rattle.execution.specs.Level.{entryTrigger, feeBps, longFill, shortFill, levelFill}
-use Rattle.records.specs.declared.state.Order.{Order}
-use Rattle.records.specs.declared.state.Order.the-variants.{Idle, EnterLong, EnterShort, Exit as ExitOrder}
-use Rattle.records.specs.declared.state.Position.{Position}
-use Rattle.records.specs.declared.settings.Settings.{Settings}
-use Rattle.records.specs.Bar.{candleOf}
-use Rattle.records.specs.State.{freshState}
-use Rattle.records.specs.StateWords.{waitsFor}
-use Rattle.engine.specs.declared.account.Due.{Due}
-use Rattle.engine.specs.declared.account.Filled.{Filled}
-use Rattle.engine.specs.Account.{entering, waiting, entered, exited, reached, dueOf, doneOf, filled}
-use Rattle.engine.specs.Decide.{Answers, openingOrder, closingOrder, ordered, orderAfter}
-use Rattle.engine.specs.Record.{rowOf}
-use Rattle.engine.specs.Whole.{Account, Asked, accountOf, takenBy, taken, wholeRunBy, wholeRun}
+use Rattle.words.specs.Prelude.{ℕ, _-_, _≡_, refl, Bool, true, false, cond, List, [], _∷_, _++_, ltb, Float}
+use Rattle.rows.specs.{History.History, History.historyOf}
+use Rattle.portfolio.specs.{declared.Candle.Candle, declared.Portfolio.Portfolio, Portfolio.inPosition, Portfolio.isLong}
+use Rattle.execution.specs.{declared.fills.Exit.the-variants.NoExit, declared.level.Side.Side, declared.level.Side.the-variants.Long}
+use Rattle.execution.specs.{declared.level.Side.the-variants.Short, declared.level.OrderKind.the-variants.Market}
+use Rattle.execution.specs.{declared.level.OrderType.the-variants.Market as MarketType, Fills.executeEntry, Fills.isTurnedAway, Level.entryTrigger, Level.feeBps}
+use Rattle.execution.specs.{Level.longFill, Level.shortFill, Level.levelFill}
+use Rattle.records.specs.{declared.state.Order.Order, declared.state.Order.the-variants.Idle, declared.state.Order.the-variants.EnterLong}
+use Rattle.records.specs.{declared.state.Order.the-variants.EnterShort, declared.state.Order.the-variants.Exit as ExitOrder, declared.state.Position.Position}
+use Rattle.records.specs.{declared.settings.Settings.Settings, Bar.candleOf, State.freshState, StateWords.waitsFor}
+use Rattle.engine.specs.{declared.account.Due.Due, declared.account.Filled.Filled, Account.entering, Account.waiting, Account.entered, Account.exited}
+use Rattle.engine.specs.{Account.reached, Account.dueOf, Account.doneOf, Account.filled, Decide.Answers, Decide.openingOrder, Decide.closingOrder, Decide.ordered}
+use Rattle.engine.specs.{Decide.orderAfter, Record.rowOf, Whole.Account, Whole.Asked, Whole.accountOf, Whole.takenBy, Whole.taken, Whole.wholeRunBy, Whole.wholeRun}
 
 -- ---- document 01's fill
 

@@ -1,40 +1,23 @@
 -- Request 6: "The pnl keeps its meaning." The funding paid and the least favourable price decide nothing: every run has the account, the points, the
 -- first eight words of each trade and the figures of the engine before.
-use Prim.Native.Nat.{ℕ, suc, _/_}
-use mathlib.Core.Path.{_≡_, refl, sym, ap, _∙_}
-use mathlib.Core.List.{List, [], _∷_, _++_, flatMap}
-use native.Mathlib.Omega.{arith}
-use lib.Ieee.{Float}
-use lib.ListN.{length, take}
+use Rattle.words.specs.Prelude.{ℕ, suc, _/_, _≡_, refl, sym, ap, _∙_, List, [], _∷_, _++_, flatMap, arith, Float, length, take}
+use Rattle.floats.specs.{Floats.wordOf, Floats.floatOf}
+use Rattle.rows.specs.{History.historyOf}
+use Rattle.portfolio.specs.{declared.Trade.Trade, Portfolio.inPosition, Portfolio.equity, Trade.wordsOfTrade}
+use Rattle.execution.specs.{declared.fills.Exit.Exit, declared.fills.Exit.the-variants.NoExit, declared.fills.Exit.the-variants.Exited}
+use Rattle.metrics.specs.{Records.column, Records.pnlsOf}
+use Rattle.records.specs.{declared.settings.Settings.Settings, declared.state.Position.Position, Bar.candleOf, Lent.Lists, Lent.Rooms, State.freshState}
+use Rattle.refusals.specs.{declared.verdict.Verdict.the-variants.Fine, Judgement.finishJudged, Rooms.toClose}
+use Rattle.engine.specs.{Account.leaving, Account.filled, Account.intrabar, Account.charged, Books.Point, Books.wordsOfPoint, Books.tradesOf, Books.heldPoints}
+use Rattle.engine.specs.{Books.heldTrades, Decide.stateAt, Decide.orderAfter, Finish.lastExit, Finish.ended, Record.rowOf, Run.Run, Run.runOver, Whole.Account}
+use Rattle.engine.specs.{Whole.accountOf, Whole.stateOf, Whole.Asked, Whole.byLists, Whole.Taken, Whole.takenBy, Whole.taken, Whole.Whole, Whole.wholeRunBy}
+use Rattle.engine.specs.{Whole.wholeRun, Whole.endPoints, Whole.wholeEnd, Whole.wholeMetrics}
+use Rattle.runs.specs.{AsMeant.by-lists, AsMeant.ends-whole, Forgotten.forget, Forgotten.forgetTrade, Forgotten.forgetExit, Forgotten.forgetPosition}
+use Rattle.runs.specs.{Forgotten.forgetAccount, Forgotten.forgetTrades, Forgotten.takenBefore, Forgotten.runBefore, Forgotten.endBefore}
+use Rattle.runs.specs.{Laws.Forgets.fill-forgets, Laws.Forgets.inside-same, Laws.Forgets.charge-forgets, Laws.Forgets.point-forgets}
+use Rattle.runs.specs.{Laws.Forgets.asked-forgets, Laws.Forgets.order-forgets, Laws.Forgets.exit-test, Laws.Forgets.closed-forgets}
+use Rattle.runs.specs.{Laws.Forgets.leaving-forgets, Laws.Forgets.trades-append, Laws.Forgets.trade-forgets}
 use Rattle.words.specs.Limits as Limits
-use Rattle.floats.specs.Floats.{wordOf, floatOf}
-use Rattle.rows.specs.History.{historyOf}
-use Rattle.portfolio.specs.declared.Trade.{Trade}
-use Rattle.portfolio.specs.Portfolio.{inPosition, equity}
-use Rattle.portfolio.specs.Trade.{wordsOfTrade}
-use Rattle.execution.specs.declared.fills.Exit.{Exit}
-use Rattle.execution.specs.declared.fills.Exit.the-variants.{NoExit, Exited}
-use Rattle.metrics.specs.Records.{column, pnlsOf}
-use Rattle.records.specs.declared.settings.Settings.{Settings}
-use Rattle.records.specs.declared.state.Position.{Position}
-use Rattle.records.specs.Bar.{candleOf}
-use Rattle.records.specs.Lent.{Lists, Rooms}
-use Rattle.records.specs.State.{freshState}
-use Rattle.refusals.specs.declared.verdict.Verdict.the-variants.{Fine}
-use Rattle.refusals.specs.Judgement.{finishJudged}
-use Rattle.refusals.specs.Rooms.{toClose}
-use Rattle.engine.specs.Account.{leaving, filled, intrabar, charged}
-use Rattle.runs.specs.AsMeant.{by-lists, ends-whole}
-use Rattle.engine.specs.Books.{Point, wordsOfPoint, tradesOf, heldPoints, heldTrades}
-use Rattle.engine.specs.Decide.{stateAt, orderAfter}
-use Rattle.engine.specs.Finish.{lastExit, ended}
-use Rattle.runs.specs.Forgotten.{forget, forgetTrade, forgetExit, forgetPosition, forgetAccount, forgetTrades, takenBefore, runBefore, endBefore}
-use Rattle.runs.specs.Laws.Forgets.{fill-forgets, inside-same, charge-forgets, point-forgets, asked-forgets, order-forgets}
-use Rattle.runs.specs.Laws.Forgets.{exit-test, closed-forgets, leaving-forgets, trades-append, trade-forgets}
-use Rattle.engine.specs.Record.{rowOf}
-use Rattle.engine.specs.Run.{Run, runOver}
-use Rattle.engine.specs.Whole.{Account, accountOf, stateOf, Asked, byLists, Taken, takenBy, taken, Whole}
-use Rattle.engine.specs.Whole.{wholeRunBy, wholeRun, endPoints, wholeEnd, wholeMetrics}
 
 -- ---- a bar
 

@@ -1,16 +1,9 @@
 -- Request 6, for readers of a trade's last two words: what they come to over the bars from the entry bar on. Definitions only.
-use Prim.Native.Nat.{ℕ}
-use mathlib.Core.Path.{_≡_}
-use mathlib.Core.Logic.{_⊎_}
-use mathlib.Core.Bool.{Bool, true, cond}
-use mathlib.Core.List.{List, [], _∷_}
-use lib.Ieee.{Float}
-use Rattle.floats.specs.Floats.{_⊕_, _⊗_, _≼_, finite}
-use Rattle.portfolio.specs.Portfolio.{worse}
-use Rattle.execution.specs.declared.costs.Funding.{Funding}
-use Rattle.execution.specs.declared.costs.Funding.the-variants.{NotSupplied, Supplied}
-use Rattle.records.specs.declared.settings.Settings.{Settings}
-use Rattle.records.specs.Bar.{candleOf, fundingOf}
+use Rattle.words.specs.Prelude.{ℕ, _≡_, _⊎_, Bool, true, cond, List, [], _∷_, Float}
+use Rattle.floats.specs.{Floats._⊕_, Floats._⊗_, Floats._≼_, Floats.finite}
+use Rattle.portfolio.specs.{Portfolio.worse}
+use Rattle.execution.specs.{declared.costs.Funding.Funding, declared.costs.Funding.the-variants.NotSupplied, declared.costs.Funding.the-variants.Supplied}
+use Rattle.records.specs.{declared.settings.Settings.Settings, Bar.candleOf, Bar.fundingOf}
 
 -- ---- the least favourable price
 

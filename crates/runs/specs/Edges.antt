@@ -1,19 +1,11 @@
 -- "The starred eight are proved of the written rules, a single table under one statement."
-use Prim.Native.Nat.{ℕ}
-use mathlib.Core.Path.{_≡_, refl}
-use mathlib.Core.Bool.{true, false}
-use mathlib.Core.List.{List, [], _∷_}
-use lib.IntN.{pos, negsuc}
+use Rattle.words.specs.Prelude.{ℕ, _≡_, refl, true, false, List, [], _∷_, pos, negsuc, Float, binary64, fin}
+use Rattle.portfolio.specs.{Trade.stopLoss}
+use Rattle.rules.specs.{Edges.Said, Edges.answer, Edges.reaches, Edges.starred, Edges.edges}
+use Rattle.execution.specs.{Edges.stop-edges, Intrabar.intrabarExit, declared.optional.Optional.the-variants.Absent, declared.optional.Optional.the-variants.Of}
+use Rattle.execution.specs.{declared.terms.Risk.Risk, declared.intrabar.Trigger.Trigger, declared.intrabar.Trigger.the-variants.Untouched}
+use Rattle.execution.specs.{declared.intrabar.Trigger.the-variants.At}
 use lib.Ieee as Ieee
-use lib.Ieee.{Float, binary64, fin}
-use Rattle.portfolio.specs.Trade.{stopLoss}
-use Rattle.rules.specs.Edges.{Said, answer, reaches, starred, edges}
-use Rattle.execution.specs.Edges.{stop-edges}
-use Rattle.execution.specs.Intrabar.{intrabarExit}
-use Rattle.execution.specs.declared.optional.Optional.the-variants.{Absent, Of}
-use Rattle.execution.specs.declared.terms.Risk.{Risk}
-use Rattle.execution.specs.declared.intrabar.Trigger.{Trigger}
-use Rattle.execution.specs.declared.intrabar.Trigger.the-variants.{Untouched, At}
 
 abbrev num : ℕ → Float
 num n = Ieee.ofInt binary64 (pos n)

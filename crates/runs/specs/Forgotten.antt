@@ -1,15 +1,10 @@
 -- The engine before request 6: these same definitions with the two words of the open trade left out. Definitions only.
-use Prim.Native.Nat.{ℕ}
-use mathlib.Core.List.{List, [], _∷_, _++_}
-use Rattle.floats.specs.Floats.{zero}
-use Rattle.portfolio.specs.declared.Portfolio.{Portfolio}
-use Rattle.portfolio.specs.declared.Trade.{Trade}
-use Rattle.execution.specs.declared.fills.Exit.{Exit}
-use Rattle.execution.specs.declared.fills.Exit.the-variants.{NoExit, Exited}
-use Rattle.records.specs.declared.settings.Settings.{Settings}
-use Rattle.records.specs.declared.state.Position.{Position}
-use Rattle.engine.specs.Record.{rowOf}
-use Rattle.engine.specs.Whole.{Account, Asked, Taken, taken, Whole, wholeEnd}
+use Rattle.words.specs.Prelude.{ℕ, List, [], _∷_, _++_}
+use Rattle.floats.specs.{Floats.zero}
+use Rattle.portfolio.specs.{declared.Portfolio.Portfolio, declared.Trade.Trade}
+use Rattle.execution.specs.{declared.fills.Exit.Exit, declared.fills.Exit.the-variants.NoExit, declared.fills.Exit.the-variants.Exited}
+use Rattle.records.specs.{declared.settings.Settings.Settings, declared.state.Position.Position}
+use Rattle.engine.specs.{Record.rowOf, Whole.Account, Whole.Asked, Whole.Taken, Whole.taken, Whole.Whole, Whole.wholeEnd}
 
 -- ---- without the funding paid and the least favourable price
 

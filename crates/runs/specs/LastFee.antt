@@ -1,53 +1,26 @@
 -- Request 7. "the closing fee at finish reaches the trade but not the equity": after a finish nothing is missing any more, and a second
 -- finish changes nothing.
-use Prim.Native.Nat.{ℕ, _+_, _-_, _*_, _≤_, _<_}
-use mathlib.Core.Path.{_≡_, refl, _∙_}
-use mathlib.Core.Bool.{Bool, true, false, _&&_}
-use mathlib.Core.List.{List, [], _∷_, _++_, append-assoc}
-use native.Mathlib.Nat.{le-of-lt}
-use native.Mathlib.Omega.{arith}
-use borrow.Author.Tests.{ltb-false, lt-ltb, le-leb}
-use lib.Dec.{ltb, leb}
+use Rattle.words.specs.Prelude.{ℕ, _+_, _-_, _*_, _≤_, _<_, _≡_, refl, _∙_, Bool, true, false, _&&_, List, [], _∷_, _++_, append-assoc, le-of-lt, arith, ltb-false}
+use Rattle.words.specs.Prelude.{lt-ltb, le-leb, ltb, leb, length, take, drop, getD, length-take-le, getD-append-add, getD-set-same}
+use Rattle.words.specs.{Words.overwrite, Laws.Overwrite.overwrite-fits, Laws.Overwrite.overwrite-length}
+use Rattle.rules.specs.{declared.position.Entered.the-variants.Never}
+use Rattle.floats.specs.{Floats.wordOf}
+use Rattle.portfolio.specs.{Portfolio.fresh, Portfolio.inPosition, Portfolio.equity}
+use Rattle.execution.specs.{declared.fills.Exit.the-variants.NoExit}
+use Rattle.metrics.specs.{declared.Metrics.Metrics, Figures.metricsOf, Records.equityOf, Records.pnlsOf}
+use Rattle.records.specs.{declared.settings.Settings.Settings, declared.state.State.State, Lent.Lists, Lent.Rooms, Lent.rowPlaces, Lent.pointPlaces}
+use Rattle.records.specs.{Lent.tradePlaces, State.freshState}
+use Rattle.refusals.specs.{declared.verdict.Verdict.Verdict, declared.verdict.Verdict.the-variants.Fine, declared.verdict.Verdict.the-variants.Bad}
+use Rattle.refusals.specs.{Judgement.finishLines, Judgement.finishJudged, Lines.judged, Laws.Lines.and-true, Laws.Lines.first-holds, Laws.Lines.below-fine}
+use Rattle.refusals.specs.{Laws.Lines.both-fine, Rooms.roomLines, Rooms.stateLines, Rooms.toClose, Rooms.closeLines, Settings.settingLines}
+use Rattle.engine.specs.{declared.answer.Ended.Ended, declared.answer.Finished.the-variants.Done, Account.leaving, Books.wordsOfPoint, Books.booked, Books.marked}
+use Rattle.engine.specs.{Books.heldPoints, Books.heldTrades, Finish.lastExit, Finish.remarked, Finish.endState, Finish.measured, Finish.ended, Finish.concluded}
+use Rattle.engine.specs.{Finish.finishOf, Laws.Lengths.booked-fits, Laws.Runs.run-keeps, Laws.Verdict.verdict-fine, Run.Run, Run.runOver, Step.With, Step.stepped}
+use Rattle.engine.specs.{Step.stepVerdict}
+use Rattle.runs.specs.{AsMeant.figures, Laws.Finishes.close-place, Laws.LastPoint.remarked-length, Laws.OneTrade.closed-is-flat, Laws.OneTrade.books}
 use lib.Ieee as Ieee
-use lib.ListN.{length, take, drop, getD}
-use lib.Seq.{length-take-le, getD-append-add, getD-set-same}
 use Rattle.words.specs.Limits as Limits
-use Rattle.words.specs.Words.{overwrite}
-use Rattle.words.specs.Laws.Overwrite.{overwrite-fits}
-use Rattle.rules.specs.declared.position.Entered.the-variants.{Never}
 use Rattle.floats.specs.Floats as Floats
-use Rattle.floats.specs.Floats.{wordOf}
-use Rattle.portfolio.specs.Portfolio.{fresh, inPosition, equity}
-use Rattle.execution.specs.declared.fills.Exit.the-variants.{NoExit}
-use Rattle.metrics.specs.declared.Metrics.{Metrics}
-use Rattle.metrics.specs.Figures.{metricsOf}
-use Rattle.metrics.specs.Records.{equityOf, pnlsOf}
-use Rattle.records.specs.declared.settings.Settings.{Settings}
-use Rattle.records.specs.declared.state.State.{State}
-use Rattle.records.specs.Lent.{Lists, Rooms, rowPlaces, pointPlaces, tradePlaces}
-use Rattle.records.specs.State.{freshState}
-use Rattle.refusals.specs.declared.verdict.Verdict.{Verdict}
-use Rattle.refusals.specs.declared.verdict.Verdict.the-variants.{Fine, Bad}
-use Rattle.refusals.specs.Judgement.{finishLines, finishJudged}
-use Rattle.refusals.specs.Lines.{judged}
-use Rattle.refusals.specs.Laws.Lines.{and-true, first-holds, below-fine, both-fine}
-use Rattle.refusals.specs.Rooms.{roomLines, stateLines, toClose, closeLines}
-use Rattle.refusals.specs.Settings.{settingLines}
-use Rattle.engine.specs.declared.answer.Ended.{Ended}
-use Rattle.engine.specs.declared.answer.Finished.the-variants.{Done}
-use Rattle.engine.specs.Account.{leaving}
-use Rattle.runs.specs.AsMeant.{figures}
-use Rattle.engine.specs.Books.{wordsOfPoint, booked, marked, heldPoints, heldTrades}
-use Rattle.engine.specs.Finish.{lastExit, remarked, endState, measured, ended, concluded, finishOf}
-use Rattle.runs.specs.Laws.Finishes.{close-place}
-use Rattle.runs.specs.Laws.LastPoint.{remarked-length}
-use Rattle.words.specs.Laws.Overwrite.{overwrite-length}
-use Rattle.engine.specs.Laws.Lengths.{booked-fits}
-use Rattle.runs.specs.Laws.OneTrade.{closed-is-flat, books}
-use Rattle.engine.specs.Laws.Runs.{run-keeps}
-use Rattle.engine.specs.Laws.Verdict.{verdict-fine}
-use Rattle.engine.specs.Run.{Run, runOver}
-use Rattle.engine.specs.Step.{With, stepped, stepVerdict}
 
 -- what a finish that is not refused gives
 finish-gives : (v : Verdict) (t : State) (m : Rooms) (done : With Ended) (u : State) (f : Metrics) → concluded v t m done .result ≡ Done u f

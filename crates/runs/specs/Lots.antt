@@ -1,41 +1,21 @@
 -- Whole lots: with a lot of 0 no bar is refused with 16 and every run is what it was, and with any other what is entered is k·lot.
-use Prim.Native.Nat.{ℕ}
-use mathlib.Core.Path.{_≡_, refl, sym, _∙_}
-use mathlib.Core.Bool.{true, false}
-use mathlib.Core.List.{List, [], _∷_, _++_}
-use mathlib.Core.Logic.{_⊎_, inl, inr}
+use Rattle.words.specs.Prelude.{ℕ, _≡_, refl, sym, _∙_, true, false, List, [], _∷_, _++_, _⊎_, inl, inr, Float}
+use Rattle.floats.specs.{Floats.zero}
+use Rattle.rows.specs.{History.History, History.historyOf}
+use Rattle.portfolio.specs.{declared.Candle.Candle}
+use Rattle.execution.specs.{declared.fills.Entry.Entry, declared.fills.Entry.the-variants.NoEntry, declared.fills.Entry.the-variants.TooLarge}
+use Rattle.execution.specs.{declared.fills.Entry.the-variants.Entered, declared.level.Side.Side, declared.level.OrderKind.OrderKind, Fills.direction}
+use Rattle.execution.specs.{Fills.executeEntry, Level.feeBps, RustEntry.rustEntry, WholeLots.EntersLots, WholeLots.no-lots, WholeLots.none-turned-away}
+use Rattle.execution.specs.{WholeLots.entered-in-lots}
+use Rattle.records.specs.{declared.settings.Settings.Settings, declared.state.Order.Order, declared.state.Order.the-variants.Idle, declared.state.Position.Position}
+use Rattle.records.specs.{declared.state.State.State, Bar.candleOf, Lent.Lists, Lent.Rooms}
+use Rattle.refusals.specs.{declared.verdict.Verdict.Verdict, declared.verdict.Verdict.the-variants.Fine, declared.verdict.Verdict.the-variants.Bad}
+use Rattle.refusals.specs.{Judgement.stepJudged, Lines.judged}
+use Rattle.engine.specs.{declared.account.Due.Due, declared.account.Due.the-variants.Waits, declared.account.Due.the-variants.Enters}
+use Rattle.engine.specs.{declared.account.Due.the-variants.Leaves, declared.account.Filled.Filled, Account.waiting, Account.entering, Account.entered}
+use Rattle.engine.specs.{Account.exited, Account.dueOf, Account.doneOf, Account.filled, Laws.Verdict.handed-bad, Laws.Verdict.handed-fine, Record.rowOf}
+use Rattle.engine.specs.{Step.sizeLines, Step.stepVerdict, Whole.Account, Whole.Asked, Whole.takenBy, Whole.taken, Whole.wholeRunBy, Whole.wholeRun}
 use lib.Ieee as Ieee
-use lib.Ieee.{Float}
-use Rattle.floats.specs.Floats.{zero}
-use Rattle.rows.specs.History.{History, historyOf}
-use Rattle.portfolio.specs.declared.Candle.{Candle}
-use Rattle.execution.specs.declared.fills.Entry.{Entry}
-use Rattle.execution.specs.declared.fills.Entry.the-variants.{NoEntry, TooLarge, Entered}
-use Rattle.execution.specs.declared.level.Side.{Side}
-use Rattle.execution.specs.declared.level.OrderKind.{OrderKind}
-use Rattle.execution.specs.Fills.{direction, executeEntry}
-use Rattle.execution.specs.Level.{feeBps}
-use Rattle.execution.specs.RustEntry.{rustEntry}
-use Rattle.execution.specs.WholeLots.{EntersLots, no-lots, none-turned-away, entered-in-lots}
-use Rattle.records.specs.declared.settings.Settings.{Settings}
-use Rattle.records.specs.declared.state.Order.{Order}
-use Rattle.records.specs.declared.state.Order.the-variants.{Idle}
-use Rattle.records.specs.declared.state.Position.{Position}
-use Rattle.records.specs.declared.state.State.{State}
-use Rattle.records.specs.Bar.{candleOf}
-use Rattle.records.specs.Lent.{Lists, Rooms}
-use Rattle.refusals.specs.declared.verdict.Verdict.{Verdict}
-use Rattle.refusals.specs.declared.verdict.Verdict.the-variants.{Fine, Bad}
-use Rattle.refusals.specs.Judgement.{stepJudged}
-use Rattle.refusals.specs.Lines.{judged}
-use Rattle.engine.specs.declared.account.Due.{Due}
-use Rattle.engine.specs.declared.account.Due.the-variants.{Waits, Enters, Leaves}
-use Rattle.engine.specs.declared.account.Filled.{Filled}
-use Rattle.engine.specs.Account.{waiting, entering, entered, exited, dueOf, doneOf, filled}
-use Rattle.engine.specs.Laws.Verdict.{handed-bad, handed-fine}
-use Rattle.engine.specs.Record.{rowOf}
-use Rattle.engine.specs.Step.{sizeLines, stepVerdict}
-use Rattle.engine.specs.Whole.{Account, Asked, takenBy, taken, wholeRunBy, wholeRun}
 
 -- ---- the engine before: entries as the Rust has them, with no lots
 

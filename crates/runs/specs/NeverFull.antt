@@ -1,32 +1,15 @@
 -- Where the equity and trade rooms have a place for every bar, and the bars are no more than 4,294,967,295, no bar is refused with 14.
-use Prim.Native.Nat.{ℕ, _+_, _≤_, _<_}
-use mathlib.Core.Path.{_≡_, refl, sym, _∙_}
-use mathlib.Core.Bool.{Bool, true, false, cond, not, _&&_, _||_}
-use mathlib.Core.List.{List, [], _∷_, _++_}
-use native.Mathlib.Omega.{arith}
-use borrow.Author.Tests.{lt-ltb, eqb-false}
-use lib.Dec.{eqb}
-use lib.ListN.{length}
-use Rattle.words.specs.Limits.{mostCount}
-use Rattle.words.specs.Outcome.{refusal}
-use Rattle.records.specs.declared.settings.Settings.{Settings}
-use Rattle.records.specs.declared.state.State.{State}
-use Rattle.records.specs.Lent.{Lists, Rooms, pointPlaces, tradePlaces}
-use Rattle.refusals.specs.declared.verdict.Verdict.{Verdict}
-use Rattle.refusals.specs.declared.verdict.Verdict.the-variants.{Fine, Bad}
-use Rattle.refusals.specs.Bar.{barLines}
-use Rattle.refusals.specs.Judgement.{runLines, stepLines}
-use Rattle.refusals.specs.Laws.Lines.{never, and-true}
-use Rattle.refusals.specs.Lines.{Line, judged}
-use Rattle.refusals.specs.Lists.{listLines}
-use Rattle.refusals.specs.Rooms.{roomLines, stateLines, placeLines}
-use Rattle.refusals.specs.Settings.{sizingLines, slippageLines, riskLines, termLines, entryLines, settingLines}
-use Rattle.engine.specs.Boxes.{Sound, NotFull}
-use Rattle.engine.specs.Laws.Runs.{run-none, run-stops, run-takes}
-use Rattle.engine.specs.Run.{runOver}
-use Rattle.engine.specs.Step.{sizeLines, stepped, stepVerdict}
-use Rattle.runs.specs.Laws.Alike.{step-sound}
-use Rattle.runs.specs.Laws.Counts.{step-lengths}
+use Rattle.words.specs.Prelude.{ℕ, _+_, _≤_, _<_, _≡_, refl, sym, _∙_, Bool, true, false, cond, not, _&&_, _||_, List, [], _∷_, _++_, arith, lt-ltb, eqb-false, eqb}
+use Rattle.words.specs.Prelude.{length}
+use Rattle.words.specs.{Limits.mostCount, Outcome.refusal}
+use Rattle.records.specs.{declared.settings.Settings.Settings, declared.state.State.State, Lent.Lists, Lent.Rooms, Lent.pointPlaces, Lent.tradePlaces}
+use Rattle.refusals.specs.{declared.verdict.Verdict.Verdict, declared.verdict.Verdict.the-variants.Fine, declared.verdict.Verdict.the-variants.Bad, Bar.barLines}
+use Rattle.refusals.specs.{Judgement.runLines, Judgement.stepLines, Laws.Lines.never, Laws.Lines.and-true, Lines.Line, Lines.judged, Lists.listLines}
+use Rattle.refusals.specs.{Rooms.roomLines, Rooms.stateLines, Rooms.placeLines, Settings.sizingLines, Settings.slippageLines, Settings.riskLines}
+use Rattle.refusals.specs.{Settings.termLines, Settings.entryLines, Settings.settingLines}
+use Rattle.engine.specs.{Boxes.Sound, Boxes.NotFull, Laws.Runs.run-none, Laws.Runs.run-stops, Laws.Runs.run-takes, Run.runOver, Step.sizeLines, Step.stepped}
+use Rattle.engine.specs.{Step.stepVerdict}
+use Rattle.runs.specs.{Laws.Alike.step-sound, Laws.Counts.step-lengths}
 
 -- each line has another number than 14, or holds
 unfoldable noneFourteen : List Line → Bool

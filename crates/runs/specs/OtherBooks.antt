@@ -1,20 +1,11 @@
 -- Firmware with little memory: the caller may empty the equity and trade rooms between any two bars. Orders, position, later points and
 -- later trades are the same, as long as no room is full.
-use Prim.Native.Nat.{ℕ, _+_, _≤_}
-use mathlib.Core.Path.{_≡_, refl, sym, _∙_}
-use mathlib.Core.List.{List, _++_}
-use native.Mathlib.Omega.{arith}
-use Rattle.portfolio.specs.declared.Trade.{Trade}
-use Rattle.records.specs.declared.settings.Settings.{Settings}
-use Rattle.records.specs.declared.state.State.{State}
-use Rattle.records.specs.Lent.{Lists, Rooms, rooms, rowPlaces}
-use Rattle.records.specs.State.{freshState}
-use Rattle.engine.specs.Books.{Point, heldPoints, heldTrades, emptied}
-use Rattle.engine.specs.Boxes.{Grown, Sound, NotFull, Alike}
-use Rattle.runs.specs.Laws.Follows.{run-follows}
-use Rattle.runs.specs.Laws.TwoRuns.{fresh-sound, run-sound, other-books-run}
-use Rattle.engine.specs.Run.{Run, runOver}
-use Rattle.engine.specs.Whole.{accountOf, rowsHeld}
+use Rattle.words.specs.Prelude.{ℕ, _+_, _≤_, _≡_, refl, sym, _∙_, List, _++_, arith}
+use Rattle.portfolio.specs.{declared.Trade.Trade}
+use Rattle.records.specs.{declared.settings.Settings.Settings, declared.state.State.State, Lent.Lists, Lent.Rooms, Lent.rooms, Lent.rowPlaces, State.freshState}
+use Rattle.engine.specs.{Books.Point, Books.heldPoints, Books.heldTrades, Books.emptied, Boxes.Grown, Boxes.Sound, Boxes.NotFull, Boxes.Alike, Run.Run, Run.runOver}
+use Rattle.engine.specs.{Whole.accountOf, Whole.rowsHeld}
+use Rattle.runs.specs.{Laws.Follows.run-follows, Laws.TwoRuns.fresh-sound, Laws.TwoRuns.run-sound, Laws.TwoRuns.other-books-run}
 
 -- Runs r from (t, m) and r′ from (t′, m′) take as many bars and end with the same verdict, alike in account and last D rows, and have added
 -- the same to their books.

@@ -1,70 +1,36 @@
 -- Request 6: in every run, a trade's last two words are those of the bars from its entry bar on.
-use Prim.Native.Nat.{ℕ, _+_}
-use mathlib.Core.Path.{_≡_, refl, sym, ap, _∙_}
-use mathlib.Core.Bool.{Bool, true, false, cond}
-use mathlib.Core.List.{List, [], _∷_, _++_, append-nil, append-assoc}
-use native.Mathlib.Omega.{arith}
-use lib.Ieee.{Float}
+use Rattle.words.specs.Prelude.{ℕ, _+_, _≡_, refl, sym, ap, _∙_, Bool, true, false, cond, List, [], _∷_, _++_, append-nil, append-assoc, arith, Float, length, take}
+use Rattle.words.specs.Prelude.{length-append}
+use Rattle.floats.specs.{Floats._⊗_, Floats._≺_, Floats.eps, Floats.zero}
+use Rattle.rows.specs.{History.History, History.historyOf}
+use Rattle.rules.specs.{declared.position.Entered.Entered as EntryBar, declared.position.Entered.the-variants.Bar}
+use Rattle.portfolio.specs.{declared.Candle.Candle, declared.Closed.Closed, declared.Portfolio.Portfolio, declared.Trade.Trade, Portfolio.fresh}
+use Rattle.portfolio.specs.{Portfolio.inPosition, Portfolio.isLong, Portfolio.funded, Portfolio.worse, Portfolio.worsened, Portfolio.entered, Portfolio.tradeOf}
+use Rattle.portfolio.specs.{Portfolio.exited, Trade.signal, Trade.end}
+use Rattle.execution.specs.{declared.fills.Entry.Entry, declared.fills.Entry.the-variants.NoEntry, declared.fills.Entry.the-variants.Entered}
+use Rattle.execution.specs.{declared.fills.Exit.Exit, declared.fills.Exit.the-variants.NoExit, declared.fills.Exit.the-variants.Exited}
+use Rattle.execution.specs.{declared.costs.Funding.Funding, declared.costs.Funding.the-variants.NotSupplied, declared.costs.Funding.the-variants.Supplied}
+use Rattle.execution.specs.{declared.optional.Optional.Optional, declared.lots.Quantity.Quantity, declared.lots.Quantity.the-variants.Nothing}
+use Rattle.execution.specs.{declared.lots.Quantity.the-variants.TooLarge, declared.lots.Quantity.the-variants.Of, declared.level.Side.Side}
+use Rattle.execution.specs.{declared.level.OrderKind.OrderKind, declared.terms.Terms.Terms, declared.intrabar.Trigger.Trigger}
+use Rattle.execution.specs.{declared.intrabar.Trigger.the-variants.Untouched, declared.intrabar.Trigger.the-variants.At, Costs.slippageRate, Costs.fillPrice}
+use Rattle.execution.specs.{Costs.takerRate, Costs.closed, Costs.withFunding, Costs.chargeFunding, Fills.direction, Fills.volatilityFor, Fills.quantity}
+use Rattle.execution.specs.{Fills.probeQty, Fills.withinVolume, Fills.booked, Fills.executeEntry, Fills.exitDirection, Fills.executeExit, Lots.isTooLarge}
+use Rattle.execution.specs.{Lots.orZero, Intrabar.touched, Intrabar.closedBy, Intrabar.applyIntrabarExits, Intrabar.extremeWith}
+use Rattle.records.specs.{declared.settings.Settings.Settings, declared.state.Order.Order, declared.state.Position.Position, declared.state.State.State}
+use Rattle.records.specs.{Bar.candleOf, Bar.fundingOf, Lent.Lists, Lent.Rooms, State.freshState}
+use Rattle.refusals.specs.{declared.verdict.Verdict.the-variants.Fine, Laws.Lines.and-true, Rooms.toClose}
+use Rattle.engine.specs.{declared.account.Due.Due, declared.account.Due.the-variants.Waits, declared.account.Due.the-variants.Enters}
+use Rattle.engine.specs.{declared.account.Due.the-variants.Leaves, declared.account.Filled.Filled, Account.leaving, Account.facing, Account.entering, Account.dueOf}
+use Rattle.engine.specs.{Account.doneOf, Account.filled, Account.intrabar, Account.charged, Books.Point, Books.tradesOf, Boxes.Grown, Finish.lastExit}
+use Rattle.engine.specs.{Laws.Verdict.verdict-fine, Record.rowOf, Run.Run, Run.runOver, Step.fillOf, Step.stepped, Step.stepVerdict, Whole.Account, Whole.accountOf}
+use Rattle.engine.specs.{Whole.Asked, Whole.byLists, Whole.rowsHeld, Whole.takenBy, Whole.taken, Whole.wholeRunBy, Whole.wholeRun}
+use Rattle.runs.specs.{During.worstOver, During.paidWith, During.paidOver, Laws.OneTrade.closed-is-flat, Laws.BooksGrow.books-grow, Laws.Follows.run-follows}
+use Rattle.runs.specs.{WholeHistory.fresh-follows}
 use lib.Ieee as Ieee
-use lib.ListN.{length, take, length-append}
 use Rattle.floats.specs.Floats as Floats
-use Rattle.floats.specs.Floats.{_⊗_, _≺_, eps, zero}
-use Rattle.rows.specs.History.{History, historyOf}
-use Rattle.rules.specs.declared.position.Entered.{Entered as EntryBar}
-use Rattle.rules.specs.declared.position.Entered.the-variants.{Bar}
-use Rattle.portfolio.specs.declared.Candle.{Candle}
-use Rattle.portfolio.specs.declared.Closed.{Closed}
-use Rattle.portfolio.specs.declared.Portfolio.{Portfolio}
-use Rattle.portfolio.specs.declared.Trade.{Trade}
-use Rattle.portfolio.specs.Portfolio.{fresh, inPosition, isLong, funded, worse, worsened, entered, tradeOf, exited}
-use Rattle.portfolio.specs.Trade.{signal, end}
-use Rattle.execution.specs.declared.fills.Entry.{Entry}
-use Rattle.execution.specs.declared.fills.Entry.the-variants.{NoEntry, Entered}
 use Rattle.execution.specs.declared.fills.Entry.the-variants as Entry
-use Rattle.execution.specs.declared.fills.Exit.{Exit}
-use Rattle.execution.specs.declared.fills.Exit.the-variants.{NoExit, Exited}
-use Rattle.execution.specs.declared.costs.Funding.{Funding}
-use Rattle.execution.specs.declared.costs.Funding.the-variants.{NotSupplied, Supplied}
-use Rattle.execution.specs.declared.optional.Optional.{Optional}
-use Rattle.execution.specs.declared.lots.Quantity.{Quantity}
-use Rattle.execution.specs.declared.lots.Quantity.the-variants.{Nothing, TooLarge, Of}
-use Rattle.execution.specs.declared.level.Side.{Side}
-use Rattle.execution.specs.declared.level.OrderKind.{OrderKind}
-use Rattle.execution.specs.declared.terms.Terms.{Terms}
-use Rattle.execution.specs.declared.intrabar.Trigger.{Trigger}
-use Rattle.execution.specs.declared.intrabar.Trigger.the-variants.{Untouched, At}
-use Rattle.execution.specs.Costs.{slippageRate, fillPrice, takerRate, closed, withFunding, chargeFunding}
-use Rattle.execution.specs.Fills.{direction, volatilityFor, quantity, probeQty, withinVolume, booked, executeEntry, exitDirection, executeExit}
-use Rattle.execution.specs.Lots.{isTooLarge, orZero}
-use Rattle.execution.specs.Intrabar.{touched, closedBy, applyIntrabarExits, extremeWith}
-use Rattle.records.specs.declared.settings.Settings.{Settings}
-use Rattle.records.specs.declared.state.Order.{Order}
-use Rattle.records.specs.declared.state.Position.{Position}
-use Rattle.records.specs.declared.state.State.{State}
-use Rattle.records.specs.Bar.{candleOf, fundingOf}
-use Rattle.records.specs.Lent.{Lists, Rooms}
-use Rattle.records.specs.State.{freshState}
-use Rattle.refusals.specs.declared.verdict.Verdict.the-variants.{Fine}
-use Rattle.refusals.specs.Laws.Lines.{and-true}
-use Rattle.refusals.specs.Rooms.{toClose}
-use Rattle.engine.specs.declared.account.Due.{Due}
-use Rattle.engine.specs.declared.account.Due.the-variants.{Waits, Enters, Leaves}
-use Rattle.engine.specs.declared.account.Filled.{Filled}
 use Rattle.engine.specs.Account as Account
-use Rattle.engine.specs.Account.{leaving, facing, entering, dueOf, doneOf, filled, intrabar, charged}
-use Rattle.engine.specs.Books.{Point, tradesOf}
-use Rattle.engine.specs.Boxes.{Grown}
-use Rattle.engine.specs.Finish.{lastExit}
-use Rattle.runs.specs.During.{worstOver, paidWith, paidOver}
-use Rattle.runs.specs.Laws.OneTrade.{closed-is-flat}
-use Rattle.runs.specs.Laws.BooksGrow.{books-grow}
-use Rattle.runs.specs.Laws.Follows.{run-follows}
-use Rattle.engine.specs.Laws.Verdict.{verdict-fine}
-use Rattle.engine.specs.Record.{rowOf}
-use Rattle.engine.specs.Run.{Run, runOver}
-use Rattle.engine.specs.Step.{fillOf, stepped, stepVerdict}
-use Rattle.engine.specs.Whole.{Account, accountOf, Asked, byLists, rowsHeld, takenBy, taken, wholeRunBy, wholeRun}
-use Rattle.runs.specs.WholeHistory.{fresh-follows}
 
 -- ---- what is said
 

@@ -1,21 +1,11 @@
 -- Request 11. "From a whole image of a state reached from a fresh one, with the same table and settings and empty trade and equity rooms
 -- counted from 0, further bars give the trades, equity points and decisions that the unbroken run gives for them, until either refuses."
 -- What an image holds of a box is said here without its bytes: the account, and the last D rows.
-use Prim.Native.Nat.{ℕ, _≤_}
-use mathlib.Core.Path.{_≡_, sym, ap, _∙_}
-use mathlib.Core.List.{List, []}
-use native.Mathlib.Omega.{arith}
-use Rattle.records.specs.declared.settings.Settings.{Settings}
-use Rattle.records.specs.declared.state.State.{State}
-use Rattle.records.specs.Lent.{Lists, Rooms, rowPlaces}
-use Rattle.records.specs.State.{freshState}
-use Rattle.engine.specs.Books.{heldPoints, heldTrades}
-use Rattle.engine.specs.Boxes.{Alike, NotFull, Sound}
-use Rattle.runs.specs.Laws.TwoRuns.{fresh-sound, run-sound}
-use Rattle.runs.specs.Laws.Window.{last-of-last}
-use Rattle.runs.specs.OtherBooks.{Emptied, books-do-not-matter}
-use Rattle.engine.specs.Run.{Run, runOver}
-use Rattle.engine.specs.Whole.{Account, accountOf, rowsHeld, lastOf}
+use Rattle.words.specs.Prelude.{ℕ, _≤_, _≡_, sym, ap, _∙_, List, [], arith}
+use Rattle.records.specs.{declared.settings.Settings.Settings, declared.state.State.State, Lent.Lists, Lent.Rooms, Lent.rowPlaces, State.freshState}
+use Rattle.engine.specs.{Books.heldPoints, Books.heldTrades, Boxes.Alike, Boxes.NotFull, Boxes.Sound, Run.Run, Run.runOver, Whole.Account, Whole.accountOf}
+use Rattle.engine.specs.{Whole.rowsHeld, Whole.lastOf}
+use Rattle.runs.specs.{Laws.TwoRuns.fresh-sound, Laws.TwoRuns.run-sound, Laws.Window.last-of-last, OtherBooks.Emptied, OtherBooks.books-do-not-matter}
 
 -- The box (t′, m′) was started again from (t, m): it has its account and the last D of its rows, in a room with places for D, and its books
 -- count from 0, whatever equity and trade rooms it is lent.

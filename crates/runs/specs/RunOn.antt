@@ -1,19 +1,10 @@
 -- A run over some bars and then others is the run over the first and, where that took them all, the run over the others from what it left.
-use Prim.Native.Nat.{ℕ, _+_}
-use mathlib.Core.Path.{_≡_, refl, sym, ap, _∙_}
-use mathlib.Core.List.{List, [], _∷_, _++_}
-use native.Mathlib.Nat.{zero-add}
-use native.Mathlib.Omega.{arith}
-use Rattle.words.specs.declared.refusal.Refusal.{Refusal}
-use Rattle.records.specs.declared.settings.Settings.{Settings}
-use Rattle.records.specs.declared.state.State.{State}
-use Rattle.records.specs.Lent.{Lists, Rooms}
-use Rattle.refusals.specs.declared.verdict.Verdict.{Verdict}
-use Rattle.refusals.specs.declared.verdict.Verdict.the-variants.{Fine, Bad}
-use Rattle.refusals.specs.Laws.Lines.{never}
-use Rattle.engine.specs.Laws.Runs.{run-none, run-stops, run-takes}
-use Rattle.engine.specs.Run.{Run, oneMore, runOver}
-use Rattle.engine.specs.Step.{stepped, stepVerdict}
+use Rattle.words.specs.Prelude.{ℕ, _+_, _≡_, refl, sym, ap, _∙_, List, [], _∷_, _++_, zero-add, arith}
+use Rattle.words.specs.{declared.refusal.Refusal.Refusal}
+use Rattle.records.specs.{declared.settings.Settings.Settings, declared.state.State.State, Lent.Lists, Lent.Rooms}
+use Rattle.refusals.specs.{declared.verdict.Verdict.Verdict, declared.verdict.Verdict.the-variants.Fine, declared.verdict.Verdict.the-variants.Bad}
+use Rattle.refusals.specs.{Laws.Lines.never}
+use Rattle.engine.specs.{Laws.Runs.run-none, Laws.Runs.run-stops, Laws.Runs.run-takes, Run.Run, Run.oneMore, Run.runOver, Step.stepped, Step.stepVerdict}
 
 -- both in one: r begins where b ended
 abbrev pub joinedRun : Run → Run → Run

@@ -1,26 +1,14 @@
 -- Two boxes with room for D rows or more, and books of the same size, differ in their rows alone, bar after bar and at the end.
-use Prim.Native.Nat.{ℕ, _*_, _≤_}
-use mathlib.Core.Path.{_≡_, refl, sym, _∙_}
-use mathlib.Core.List.{List, []}
+use Rattle.words.specs.Prelude.{ℕ, _*_, _≤_, _≡_, refl, sym, _∙_, List, []}
+use Rattle.records.specs.{declared.settings.Settings.Settings, declared.state.State.State, Lent.Lists, Lent.Rooms, Lent.rowPlaces, Lent.pointPlaces}
+use Rattle.records.specs.{Lent.tradePlaces, State.freshState}
+use Rattle.refusals.specs.{Judgement.finishJudged}
+use Rattle.runs.specs.{AsMeant.by-lists, Laws.BooksGrow.same-room, Laws.Counts.counts-never-exceed, Laws.Finishes.same-end, Laws.Finishes.same-end-points}
+use Rattle.runs.specs.{Laws.Finishes.same-end-room, Laws.Follows.run-follows, Laws.TwoRuns.fresh-sound, Laws.TwoRuns.run-sound, Laws.TwoRuns.same-counts-run}
+use Rattle.runs.specs.{Laws.Verdicts.roomy, Laws.Verdicts.same-finish-verdict, WholeHistory.fresh-follows, WholeHistory.whole-history}
+use Rattle.engine.specs.{Books.heldPoints, Books.heldTrades, Boxes.SameCounts, Boxes.Alike, Boxes.SameButRows, Boxes.Holds, Finish.ended, Run.Run, Run.runOver}
+use Rattle.engine.specs.{Whole.accountOf, Whole.rowsHeld, Whole.Whole, Whole.lastOf}
 use Rattle.words.specs.Limits as Limits
-use Rattle.records.specs.declared.settings.Settings.{Settings}
-use Rattle.records.specs.declared.state.State.{State}
-use Rattle.records.specs.Lent.{Lists, Rooms, rowPlaces, pointPlaces, tradePlaces}
-use Rattle.records.specs.State.{freshState}
-use Rattle.refusals.specs.Judgement.{finishJudged}
-use Rattle.runs.specs.AsMeant.{by-lists}
-use Rattle.engine.specs.Books.{heldPoints, heldTrades}
-use Rattle.engine.specs.Boxes.{SameCounts, Alike, SameButRows, Holds}
-use Rattle.engine.specs.Finish.{ended}
-use Rattle.runs.specs.Laws.BooksGrow.{same-room}
-use Rattle.runs.specs.Laws.Counts.{counts-never-exceed}
-use Rattle.runs.specs.Laws.Finishes.{same-end, same-end-points, same-end-room}
-use Rattle.runs.specs.Laws.Follows.{run-follows}
-use Rattle.runs.specs.Laws.TwoRuns.{fresh-sound, run-sound, same-counts-run}
-use Rattle.runs.specs.Laws.Verdicts.{roomy, same-finish-verdict}
-use Rattle.engine.specs.Run.{Run, runOver}
-use Rattle.engine.specs.Whole.{accountOf, rowsHeld, Whole, lastOf}
-use Rattle.runs.specs.WholeHistory.{fresh-follows, whole-history}
 
 -- Two runs that differ in their rows alone, and finish alike.
 pub record SameRun (s : Settings) (r r′ : Run) : Type 0 where

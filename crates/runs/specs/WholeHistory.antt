@@ -1,30 +1,13 @@
 -- The engine over the whole history: a box that keeps the last D rows decides by the rows of all bars.
-use Prim.Native.Nat.{ℕ, _+_, _≤_}
-use mathlib.Core.Path.{_≡_, refl, sym, _∙_}
-use mathlib.Core.List.{List, [], _∷_, _++_, append-nil, append-assoc, flatMap}
-use native.Mathlib.Nat.{zero-mul}
-use native.Mathlib.Numerals.{add-one}
-use native.Mathlib.Omega.{arith}
-use borrow.Author.Tests.{lt-ltb}
-use lib.ListN.{length, take}
-use Rattle.rows.specs.Room.{heldWith}
-use Rattle.records.specs.declared.settings.Settings.{Settings}
-use Rattle.records.specs.declared.state.State.{State}
-use Rattle.records.specs.Lent.{Lists, Rooms, rowPlaces}
-use Rattle.records.specs.State.{freshState}
-use Rattle.refusals.specs.declared.verdict.Verdict.{Verdict}
-use Rattle.refusals.specs.declared.verdict.Verdict.the-variants.{Fine, Bad}
-use Rattle.engine.specs.Boxes.{Grown, Follows}
-use Rattle.runs.specs.Laws.AccountStep.{taken-as-meant}
-use Rattle.runs.specs.Laws.Follows.{step-follows, step-grows, run-follows}
-use Rattle.engine.specs.Laws.Lengths.{row-long, row-fits}
-use Rattle.engine.specs.Laws.Runs.{run-none, run-stops, run-takes}
-use Rattle.runs.specs.Laws.Window.{row-added}
-use Rattle.engine.specs.Record.{rowOf, heldRows}
-use Rattle.engine.specs.Rules.{rulesOf, FromTable}
-use Rattle.engine.specs.Run.{Run, runOver}
-use Rattle.engine.specs.Step.{With, stepped, stepVerdict}
-use Rattle.engine.specs.Whole.{accountOf, rowsHeld, byMeaning, taken, lastOf, rowsOf}
+use Rattle.words.specs.Prelude.{ℕ, _+_, _≤_, _≡_, refl, sym, _∙_, List, [], _∷_, _++_, append-nil, append-assoc, flatMap, zero-mul, add-one, arith, lt-ltb, length}
+use Rattle.words.specs.Prelude.{take}
+use Rattle.rows.specs.{Room.heldWith}
+use Rattle.records.specs.{declared.settings.Settings.Settings, declared.state.State.State, Lent.Lists, Lent.Rooms, Lent.rowPlaces, State.freshState}
+use Rattle.refusals.specs.{declared.verdict.Verdict.Verdict, declared.verdict.Verdict.the-variants.Fine, declared.verdict.Verdict.the-variants.Bad}
+use Rattle.engine.specs.{Boxes.Grown, Boxes.Follows, Laws.Lengths.row-long, Laws.Lengths.row-fits, Laws.Runs.run-none, Laws.Runs.run-stops, Laws.Runs.run-takes}
+use Rattle.engine.specs.{Record.rowOf, Record.heldRows, Rules.rulesOf, Rules.FromTable, Run.Run, Run.runOver, Step.With, Step.stepped, Step.stepVerdict}
+use Rattle.engine.specs.{Whole.accountOf, Whole.rowsHeld, Whole.byMeaning, Whole.taken, Whole.lastOf, Whole.rowsOf}
+use Rattle.runs.specs.{Laws.AccountStep.taken-as-meant, Laws.Follows.step-follows, Laws.Follows.step-grows, Laws.Follows.run-follows, Laws.Window.row-added}
 
 -- ---- a room with a place for every bar
 

@@ -2,22 +2,12 @@
 -- D rows and a run that keeps everything give equal trades, equity, state other than the rows and their count, and metrics, after every
 -- bar and for volatility sizing too, over any number of bars until the first refusal. A refusal of any kind but 10 falls at the same
 -- bar in both."
-use Prim.Native.Nat.{ℕ, _≤_}
-use mathlib.Core.Path.{_≡_}
-use mathlib.Core.List.{List}
-use lib.ListN.{length, take}
-use Rattle.words.specs.declared.refusal.Refusal.{Refusal}
-use Rattle.records.specs.declared.settings.Settings.{Settings}
-use Rattle.records.specs.Lent.{Lists, Rooms, rowPlaces, pointPlaces, tradePlaces}
-use Rattle.records.specs.State.{freshState}
-use Rattle.refusals.specs.declared.verdict.Verdict.the-variants.{Bad}
-use Rattle.runs.specs.AsMeant.{IsWhole, as-meant}
-use Rattle.runs.specs.Laws.NeverTen.{never-ten}
-use Rattle.engine.specs.Rules.{FromTable}
-use Rattle.engine.specs.Run.{Run, runOver}
-use Rattle.runs.specs.SameRun.{SameRun, same-run}
-use Rattle.engine.specs.Whole.{rowsHeld, rowsOf, meantRun}
-use Rattle.runs.specs.WholeHistory.{whole-history}
+use Rattle.words.specs.Prelude.{ℕ, _≤_, _≡_, List, length, take}
+use Rattle.words.specs.{declared.refusal.Refusal.Refusal}
+use Rattle.records.specs.{declared.settings.Settings.Settings, Lent.Lists, Lent.Rooms, Lent.rowPlaces, Lent.pointPlaces, Lent.tradePlaces, State.freshState}
+use Rattle.refusals.specs.{declared.verdict.Verdict.the-variants.Bad}
+use Rattle.runs.specs.{AsMeant.IsWhole, AsMeant.as-meant, Laws.NeverTen.never-ten, SameRun.SameRun, SameRun.same-run, WholeHistory.whole-history}
+use Rattle.engine.specs.{Rules.FromTable, Run.Run, Run.runOver, Whole.rowsHeld, Whole.rowsOf, Whole.meantRun}
 
 -- r and r′ are the runs over m and m′
 pub record WholeRun (s : Settings) (ls : Lists) (m′ : Rooms) (bars : List (List ℕ)) (r r′ : Run) : Type 0 where

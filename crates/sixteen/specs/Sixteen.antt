@@ -1,50 +1,27 @@
 -- 16 is given exactly when nothing before it is, an entry is due and the bar reaches it, the lot is not 0, and a quotient is 2^53 or more: the
 -- probe's, the size's or that of the share (entries/specs/InLots.antt).
-use Prim.Native.Nat.{ℕ, zero, suc, _<_, _-_}
-use mathlib.Core.Path.{_≡_, refl, sym, ap, _∙_}
-use mathlib.Core.Bool.{Bool, true, false, not, cond, _&&_, true≢false}
-use mathlib.Core.List.{List, [], _∷_}
-use native.Mathlib.Omega.{arith}
-use lib.Dec.{ltb}
+use Rattle.words.specs.Prelude.{ℕ, zero, suc, _<_, _-_, _≡_, refl, sym, ap, _∙_, Bool, true, false, not, cond, _&&_, true≢false, List, [], _∷_, arith, ltb, Float}
+use Rattle.words.specs.Prelude.{ltb-true, ltb-false, lt-ltb}
+use Rattle.words.specs.{declared.refusal.Refusal.Refusal, Outcome.refusal}
+use Rattle.rows.specs.{History.History, History.historyOf}
+use Rattle.portfolio.specs.{declared.Candle.Candle}
+use Rattle.execution.specs.{declared.optional.Optional.Optional, declared.optional.Optional.the-variants.Absent, declared.optional.Optional.the-variants.Of}
+use Rattle.execution.specs.{declared.level.Side.Side, declared.level.Side.the-variants.Long, declared.level.Side.the-variants.Short}
+use Rattle.execution.specs.{declared.level.OrderKind.OrderKind, Level.feeBps, Level.levelFill, Fills.executeEntry, Fills.isTurnedAway}
+use Rattle.records.specs.{declared.settings.Settings.Settings, declared.state.Order.Order, declared.state.Order.the-variants.Idle}
+use Rattle.records.specs.{declared.state.Order.the-variants.EnterLong, declared.state.Order.the-variants.EnterShort, declared.state.Order.the-variants.Exit}
+use Rattle.records.specs.{declared.state.Position.Position, declared.state.State.State, Bar.candleOf, Lent.Lists, Lent.Rooms}
+use Rattle.refusals.specs.{declared.verdict.Verdict.Verdict, declared.verdict.Verdict.the-variants.Fine, declared.verdict.Verdict.the-variants.Bad}
+use Rattle.refusals.specs.{Settings.sizingLines, Settings.slippageLines, Settings.riskLines, Settings.termLines, Settings.entryLines, Settings.settingLines}
+use Rattle.refusals.specs.{Rooms.roomLines, Rooms.stateLines, Rooms.placeLines, Bar.barLines, Lists.listLines, Judgement.stepLines, Judgement.stepJudged}
+use Rattle.refusals.specs.{Judgement.runLines, Lines.Line, Lines.judged, Laws.Lines.never, Laws.Lines.and-true}
+use Rattle.engine.specs.{declared.account.Due.Due, declared.account.Due.the-variants.Waits, declared.account.Due.the-variants.Enters}
+use Rattle.engine.specs.{declared.account.Due.the-variants.Leaves, Account.reached, Account.dueOf, Account.doneOf, Account.filled, Account.waiting, Account.entered}
+use Rattle.engine.specs.{Account.exited, Record.heldRows, Step.fillOf, Step.sizeLines, Step.stepVerdict, Laws.Verdict.handed-fine, Laws.Verdict.handed-bad}
+use Rattle.entries.specs.{InLots.TurnsAway, InLots.probedSize, InLots.sizeAt, InLots.turned-away-if, InLots.turned-away-only-if}
 use lib.Ieee as Ieee
-use lib.Ieee.{Float}
-use borrow.Author.Tests.{ltb-true, ltb-false, lt-ltb}
-use Rattle.words.specs.declared.refusal.Refusal.{Refusal}
-use Rattle.words.specs.Outcome.{refusal}
 use Rattle.floats.specs.Floats as Floats
-use Rattle.rows.specs.History.{History, historyOf}
-use Rattle.portfolio.specs.declared.Candle.{Candle}
-use Rattle.execution.specs.declared.optional.Optional.{Optional}
-use Rattle.execution.specs.declared.optional.Optional.the-variants.{Absent, Of}
-use Rattle.execution.specs.declared.level.Side.{Side}
-use Rattle.execution.specs.declared.level.Side.the-variants.{Long, Short}
-use Rattle.execution.specs.declared.level.OrderKind.{OrderKind}
-use Rattle.execution.specs.Level.{feeBps, levelFill}
-use Rattle.execution.specs.Fills.{executeEntry, isTurnedAway}
-use Rattle.records.specs.declared.settings.Settings.{Settings}
-use Rattle.records.specs.declared.state.Order.{Order}
-use Rattle.records.specs.declared.state.Order.the-variants.{Idle, EnterLong, EnterShort, Exit}
-use Rattle.records.specs.declared.state.Position.{Position}
-use Rattle.records.specs.declared.state.State.{State}
-use Rattle.records.specs.Bar.{candleOf}
-use Rattle.records.specs.Lent.{Lists, Rooms}
-use Rattle.refusals.specs.declared.verdict.Verdict.{Verdict}
-use Rattle.refusals.specs.declared.verdict.Verdict.the-variants.{Fine, Bad}
-use Rattle.refusals.specs.Settings.{sizingLines, slippageLines, riskLines, termLines, entryLines, settingLines}
-use Rattle.refusals.specs.Rooms.{roomLines, stateLines, placeLines}
-use Rattle.refusals.specs.Bar.{barLines}
-use Rattle.refusals.specs.Lists.{listLines}
-use Rattle.refusals.specs.Judgement.{stepLines, stepJudged, runLines}
-use Rattle.refusals.specs.Lines.{Line, judged}
-use Rattle.refusals.specs.Laws.Lines.{never, and-true}
-use Rattle.engine.specs.declared.account.Due.{Due}
-use Rattle.engine.specs.declared.account.Due.the-variants.{Waits, Enters, Leaves}
-use Rattle.engine.specs.Account.{reached, dueOf, doneOf, filled, waiting, entered, exited}
-use Rattle.engine.specs.Record.{heldRows}
-use Rattle.engine.specs.Step.{fillOf, sizeLines, stepVerdict}
-use Rattle.engine.specs.Laws.Verdict.{handed-fine, handed-bad}
 use Rattle.entries.specs.Ordered as Entry
-use Rattle.entries.specs.InLots.{TurnsAway, probedSize, sizeAt, turned-away-if, turned-away-only-if}
 
 -- An entry is due at a bar, and the bar reaches it: no delay is left, and this is the raw price at which the bar fills it.
 pub data DueAt (k : Candle) : Order → Side → OrderKind → Float → Type 0 where

@@ -1,24 +1,13 @@
 -- A run taken one step further, whatever keeps its values.
-use Prim.Native.Nat.{ℕ, zero, suc, _+_, _-_, _≤_, _<_, min}
-use mathlib.Core.Path.{_≡_, refl, _∙_}
-use mathlib.Core.Bool.{Bool, true, false}
-use mathlib.Core.List.{List, [], _∷_}
-use native.Mathlib.Omega.{arith}
-use native.Mathlib.Numerals.{sub-one}
-use lib.Dec.{ltb}
-use lib.ListN.{drop}
-use borrow.Author.Tests.{ltb-true, ltb-false}
-use Rattle.rows.specs.History.{History}
-use Rattle.rules.specs.declared.position.PositionState.{PositionState}
-use Rattle.rules.specs.declared.values.Value.{Value}
-use Rattle.rules.specs.declared.values.Value.the-variants.{Missing}
-use Rattle.rules.specs.Values.{compared, crossed}
-use Rattle.steps.specs.declared.step.Op.{Op}
-use Rattle.steps.specs.declared.step.Step.{Step}
-use Rattle.steps.specs.Bytes.{opOf, stepAt, opsFrom, isComparison}
-use Rattle.steps.specs.Machine.{Values, Effect, nth, given, giving, saying, passing, effect, does, after, run, visitCount, ranOver}
-use Rattle.steps.specs.Places.{holding, Came, Gives, Tests}
-use Rattle.steps.proofs.Said.{does-compare, does-cross}
+use Rattle.words.specs.Prelude.{ℕ, zero, suc, _+_, _-_, _≤_, _<_, min, _≡_, refl, _∙_, Bool, true, false, List, [], _∷_, arith, sub-one, ltb, drop, ltb-true}
+use Rattle.words.specs.Prelude.{ltb-false}
+use Rattle.rows.specs.{History.History}
+use Rattle.rules.specs.{declared.position.PositionState.PositionState, declared.values.Value.Value, declared.values.Value.the-variants.Missing, Values.compared}
+use Rattle.rules.specs.{Values.crossed}
+use Rattle.steps.specs.{declared.step.Op.Op, declared.step.Step.Step, Bytes.opOf, Bytes.stepAt, Bytes.opsFrom, Bytes.isComparison, Machine.Values}
+use Rattle.steps.specs.{Machine.Effect, Machine.nth, Machine.given, Machine.giving, Machine.saying, Machine.passing, Machine.effect, Machine.does}
+use Rattle.steps.specs.{Machine.after, Machine.run, Machine.visitCount, Machine.ranOver, Places.holding, Places.Came, Places.Gives, Places.Tests}
+use Rattle.steps.proofs.{Said.does-compare, Said.does-cross}
 
 -- ---- jumps
 

@@ -1,23 +1,15 @@
 -- A run taken one step further, with the values in two lists: the four places below them are always missing.
-use Prim.Native.Nat.{ℕ, zero, suc, _+_, _-_, _≤_, _<_, min}
-use mathlib.Core.Path.{_≡_, refl, sym, ap, _∙_}
-use mathlib.Core.Bool.{Bool, true, false, true≢false}
-use mathlib.Core.List.{List, [], _∷_}
-use native.Mathlib.Omega.{arith}
-use native.Mathlib.Nat.{ne-of-lt, sub-zero}
-use native.Mathlib.Numerals.{add-one}
-use lib.Ieee.{Float, nan}
-use lib.ListN.{length, drop, set, length-set, length-replicate, getD-replicate}
-use lib.Seq.{getD-set-same, getD-set-other}
-use Rattle.rows.specs.History.{History}
-use Rattle.rules.specs.declared.position.PositionState.{PositionState}
-use Rattle.rules.specs.declared.values.Value.{Value}
-use Rattle.rules.specs.declared.values.Value.the-variants.{Missing, Number}
-use Rattle.steps.specs.declared.machine.Ran.{Ran}
-use Rattle.steps.specs.Bytes.{opOf, stepAt}
-use Rattle.steps.specs.Machine.{Effect, nth, given, giving, viewing, saying, passing, effect}
-use Rattle.steps.specs.Places.{numbersWith, isThere, valueAt, Fresh, Came, Tries}
-use Rattle.steps.proofs.Coming.{came-on}
+use Rattle.words.specs.Prelude.{ℕ, zero, suc, _+_, _-_, _≤_, _<_, min, _≡_, refl, sym, ap, _∙_, Bool, true, false, true≢false, List, [], _∷_, arith, sub-zero}
+use Rattle.words.specs.Prelude.{add-one, Float, nan, length, drop, set, length-set, length-replicate, getD-set-same, getD-set-other}
+use Rattle.rows.specs.{History.History}
+use Rattle.rules.specs.{declared.position.PositionState.PositionState, declared.values.Value.Value, declared.values.Value.the-variants.Missing}
+use Rattle.rules.specs.{declared.values.Value.the-variants.Number}
+use Rattle.steps.specs.{declared.machine.Ran.Ran, Bytes.opOf, Bytes.stepAt, Machine.Effect, Machine.nth, Machine.given, Machine.giving, Machine.viewing}
+use Rattle.steps.specs.{Machine.saying, Machine.passing, Machine.effect, Places.numbersWith, Places.isThere, Places.valueAt, Places.Fresh, Places.Came}
+use Rattle.steps.specs.{Places.Tries}
+use Rattle.steps.proofs.{Coming.came-on}
+use native.Mathlib.Nat.{ne-of-lt}
+use lib.ListN.{getD-replicate}
 
 -- ---- the values
 

@@ -1,18 +1,10 @@
 -- A step as two words: its constant, and its head, one number whose digits are the other fields. Which heads tell that a step is good.
-use Prim.Native.Nat.{ℕ, _+_, _*_, _/_, _%_, _≤_, _<_}
-use mathlib.Core.Path.{_≡_, refl}
-use mathlib.Core.Bool.{Bool, true, false}
-use mathlib.Core.List.{List}
-use native.Mathlib.Omega.{arith}
-use lib.ListN.{getD}
-use lib.Dec.{ltb}
-use borrow.Author.Tests.{lt-ltb, le-leb, ltb-true, ltb-false}
-use Rattle.table.specs.Bytes.{u16, u32, u64}
-use Rattle.steps.specs.declared.step.Step.{Step}
-use Rattle.steps.specs.Bytes.{isComparison, isTest, fields, readStep}
-use Rattle.steps.specs.Laws.Classes.{test-in, test-rest, says-compare, says-cross, says-between}
-use Rattle.steps.specs.WellFormed.{zeros, plain, bounded, goodStep}
-use Rattle.steps.proofs.Said.{says-const, says-price, says-jump}
+use Rattle.words.specs.Prelude.{ℕ, _+_, _*_, _/_, _%_, _≤_, _<_, _≡_, refl, Bool, true, false, List, arith, getD, ltb, lt-ltb, le-leb, ltb-true, ltb-false}
+use Rattle.table.specs.{Bytes.u16, Bytes.u32, Bytes.u64}
+use Rattle.steps.specs.{declared.step.Step.Step, Bytes.isComparison, Bytes.isTest, Bytes.fields, Bytes.readStep, Laws.Classes.test-in, Laws.Classes.test-rest}
+use Rattle.steps.specs.{Laws.Classes.says-compare, Laws.Classes.says-cross, Laws.Classes.says-between, WellFormed.zeros, WellFormed.plain, WellFormed.bounded}
+use Rattle.steps.specs.{WellFormed.goodStep}
+use Rattle.steps.proofs.{Said.says-const, Said.says-price, Said.says-jump}
 
 -- ---- the words and the fields
 

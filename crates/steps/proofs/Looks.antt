@@ -1,28 +1,14 @@
 -- Rows that are passed over: they leave the best as it was.
-use Prim.Native.Nat.{ℕ, zero, suc, _+_, _-_, _*_, _<_, _≤_}
-use mathlib.Core.Path.{_≡_, sym, _∙_}
-use mathlib.Core.Bool.{Bool, true, false, true≢false}
-use mathlib.Core.Logic.{⊎-elim}
-use mathlib.Core.List.{List}
-use native.Mathlib.Omega.{arith}
-use native.Mathlib.Nat.{add-mul}
-use lib.Ieee.{Float}
-use lib.ListN.{length}
-use borrow.Author.Tests.{eq-eqb, ne-eqb, lt-ltb, le-ltb}
-use Rattle.words.specs.Laws.Numbers.{less-or-not}
-use Rattle.floats.specs.Floats.{_≺_}
-use Rattle.rows.specs.History.{historyOf}
-use Rattle.rows.specs.Ring.{ringPlace, ringOf}
-use Rattle.rows.specs.Laws.RowEnds.{row-ends}
-use Rattle.table.specs.declared.series.Series.{Series}
-use Rattle.table.specs.declared.series.Series.the-variants.{Price, Slot}
-use Rattle.rules.specs.declared.values.Value.{Value}
-use Rattle.rules.specs.declared.values.Value.the-variants.{Number}
-use Rattle.rules.specs.Values.{wordsFrom, better, took, pick}
-use Rattle.rules.specs.Meaning.{seriesAt, extremeOver}
-use Rattle.rules.specs.Laws.Meaning.{extreme-more}
-use Rattle.steps.specs.Looks.{ofRow, PassedOver, Stopped}
-use Rattle.steps.proofs.Rows.{price-in, slot-in}
+use Rattle.words.specs.Prelude.{ℕ, zero, suc, _+_, _-_, _*_, _<_, _≤_, _≡_, sym, _∙_, Bool, true, false, true≢false, ⊎-elim, List, arith, add-mul, Float, length}
+use Rattle.words.specs.Prelude.{eq-eqb, ne-eqb, lt-ltb, le-ltb}
+use Rattle.words.specs.{Laws.Numbers.less-or-not}
+use Rattle.floats.specs.{Floats._≺_}
+use Rattle.rows.specs.{History.historyOf, Ring.ringPlace, Ring.ringOf, Laws.RowEnds.row-ends}
+use Rattle.table.specs.{declared.series.Series.Series, declared.series.Series.the-variants.Price, declared.series.Series.the-variants.Slot}
+use Rattle.rules.specs.{declared.values.Value.Value, declared.values.Value.the-variants.Number, Values.wordsFrom, Values.better, Values.took, Values.pick}
+use Rattle.rules.specs.{Meaning.seriesAt, Meaning.extremeOver, Laws.Meaning.extreme-more}
+use Rattle.steps.specs.{Looks.ofRow, Looks.PassedOver, Looks.Stopped}
+use Rattle.steps.proofs.{Rows.price-in, Rows.slot-in}
 
 -- ---- a row that is no better
 

@@ -1,26 +1,14 @@
 -- A leaf n rows before the newest, in a list of words.
-use Prim.Native.Nat.{ℕ, _+_, _-_, _*_, _<_, _≤_}
-use mathlib.Core.Path.{_≡_, sym, ap, _∙_}
-use mathlib.Core.Bool.{cond}
-use mathlib.Core.Logic.{⊎-elim}
-use mathlib.Core.List.{List}
-use native.Mathlib.Omega.{arith}
-use borrow.Author.Tests.{lt-ltb, le-ltb}
-use lib.Dec.{ltb}
-use lib.ListN.{length}
-use Rattle.words.specs.Laws.Numbers.{less-or-not}
-use Rattle.floats.specs.Floats.{floatOf}
-use Rattle.rows.specs.History.{History, historyOf}
-use Rattle.rows.specs.Ring.{ringPlace, ringOf}
-use Rattle.rows.specs.Laws.RowEnds.{row-ends}
-use Rattle.rows.specs.Laws.Ring.{place-within, ring-row}
+use Rattle.words.specs.Prelude.{ℕ, _+_, _-_, _*_, _<_, _≤_, _≡_, sym, ap, _∙_, cond, ⊎-elim, List, arith, lt-ltb, le-ltb, ltb, length}
+use Rattle.words.specs.{Laws.Numbers.less-or-not}
+use Rattle.floats.specs.{Floats.floatOf}
+use Rattle.rows.specs.{History.History, History.historyOf, Ring.ringPlace, Ring.ringOf, Laws.RowEnds.row-ends, Laws.Ring.place-within, Laws.Ring.ring-row}
+use Rattle.table.specs.{Trees.Operand, Trees.const, Trees.ref, Trees.price}
+use Rattle.rules.specs.{declared.values.Value.the-variants.Missing, declared.values.Value.the-variants.Number, Values.wordsFrom, Values.priceOf, Values.slotOf}
+use Rattle.rules.specs.{Meaning.seriesAt, Meaning.value, Meaning.newest, Laws.Meaning.const-value, Laws.Meaning.ref-value, Laws.Meaning.price-value}
+use Rattle.rules.specs.{Laws.Meaning.price-series, Laws.Meaning.slot-series}
+use Rattle.steps.specs.{Machine.ago}
 use Rattle.table.specs.declared.series.Series.the-variants as Over
-use Rattle.table.specs.Trees.{Operand, const, ref, price}
-use Rattle.rules.specs.declared.values.Value.the-variants.{Missing, Number}
-use Rattle.rules.specs.Values.{wordsFrom, priceOf, slotOf}
-use Rattle.rules.specs.Meaning.{seriesAt, value, newest}
-use Rattle.rules.specs.Laws.Meaning.{const-value, ref-value, price-value, price-series, slot-series}
-use Rattle.steps.specs.Machine.{ago}
 
 pub there-ago : (h : History) (a : Operand) (n : ℕ) → n < h .rows → ago h a n ≡ value h a (h .rows - 1 - n)
 unfolding ago newest

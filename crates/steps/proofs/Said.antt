@@ -1,21 +1,18 @@
 -- What a step says, by the range in which its kind lies.
-use Prim.Native.Nat.{_-_, _≤_, _<_}
-use mathlib.Core.Path.{_≡_, refl}
-use mathlib.Core.Bool.{Bool, true, false, cond, Bool·beq as beq}
-use native.Mathlib.Omega.{arith}
-use lib.Dec.{ltb, leb, eqb}
-use borrow.Author.Tests.{ltb-true, ltb-false, eq-eqb, ne-eqb, le-leb, lt-leb, lt-ltb, le-ltb}
-use Rattle.steps.specs.declared.step.Step.{Step}
-use Rattle.steps.specs.declared.step.Op.the-variants.{Const, Ref, Price, Extreme, Arith, Answer, Turn, InPosition, BarsSinceEntry, JumpIf, Unknown}
+use Rattle.words.specs.Prelude.{_-_, _≤_, _<_, _≡_, refl, Bool, true, false, cond, arith, ltb, leb, eqb, ltb-true, ltb-false, eq-eqb, ne-eqb, le-leb, lt-leb}
+use Rattle.words.specs.Prelude.{lt-ltb, le-ltb}
+use Rattle.steps.specs.{declared.step.Step.Step, declared.step.Op.the-variants.Const, declared.step.Op.the-variants.Ref, declared.step.Op.the-variants.Price}
+use Rattle.steps.specs.{declared.step.Op.the-variants.Extreme, declared.step.Op.the-variants.Arith, declared.step.Op.the-variants.Answer}
+use Rattle.steps.specs.{declared.step.Op.the-variants.Turn, declared.step.Op.the-variants.InPosition, declared.step.Op.the-variants.BarsSinceEntry}
+use Rattle.steps.specs.{declared.step.Op.the-variants.JumpIf, declared.step.Op.the-variants.Unknown, Bytes.opOf, Bytes.extremeOp, Bytes.operandOp}
+use Rattle.steps.specs.{Bytes.answerOp, Bytes.firstTest, Bytes.isOperation, Bytes.isComparison, Bytes.isTest, Laws.Classes.operation-out}
+use Rattle.steps.specs.{Laws.Classes.look-no-operation, Laws.Classes.test-rest, Laws.Classes.operand, Laws.Classes.says-arith, Laws.Classes.says-compare}
+use Rattle.steps.specs.{Laws.Classes.says-cross, Laws.Classes.says-between, Laws.Classes.says-no-test, Machine.giving, Machine.saying, Machine.passing}
+use Rattle.steps.specs.{Machine.effect}
+use Rattle.rows.specs.{History.History}
+use Rattle.rules.specs.{declared.position.PositionState.PositionState, declared.values.Value.Value, Values.both, Values.compared, Values.crossed, Values.within}
+use mathlib.Core.Bool.{Bool·beq as beq}
 use Rattle.table.specs.declared.series.Series.the-variants as Over
-use Rattle.rows.specs.History.{History}
-use Rattle.rules.specs.declared.position.PositionState.{PositionState}
-use Rattle.rules.specs.declared.values.Value.{Value}
-use Rattle.rules.specs.Values.{both, compared, crossed, within}
-use Rattle.steps.specs.Bytes.{opOf, extremeOp, operandOp, answerOp, firstTest, isOperation, isComparison, isTest}
-use Rattle.steps.specs.Laws.Classes.{operation-out, look-no-operation, test-rest, operand}
-use Rattle.steps.specs.Laws.Classes.{says-arith, says-compare, says-cross, says-between, says-no-test}
-use Rattle.steps.specs.Machine.{giving, saying, passing, effect}
 
 -- ---- what is said
 

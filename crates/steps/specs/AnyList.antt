@@ -1,35 +1,22 @@
 -- A well-formed list, wherever it comes from, answers over the last D rows what it answers over all, and visits the same steps.
-use Prim.Native.Nat.{ℕ, zero, suc, _+_, _-_, _/_, _%_, _≤_, _<_, min}
-use mathlib.Core.Path.{_≡_, refl, sym, ap, _∙_}
-use mathlib.Core.Logic.{⊎-elim}
-use mathlib.Core.Bool.{Bool, true, false, cond, _&&_}
-use mathlib.Core.List.{List, [], _∷_}
-use native.Mathlib.Omega.{arith}
-use native.Mathlib.Nat.{zero-mul}
-use lib.Dec.{ltb, eqb}
-use lib.ListN.{length}
-use borrow.Author.Tests.{lt-ltb, le-ltb, ltb-true, ltb-false}
-use Rattle.words.specs.Limits.{mostSteps}
-use Rattle.words.specs.Laws.Numbers.{less-or-not}
-use Rattle.rows.specs.History.{History, historyOf, width, lastRows}
-use Rattle.rows.specs.Ring.{ringOf, turned}
-use Rattle.rows.specs.Laws.Ring.{SameRows, ring-turned}
-use Rattle.table.specs.declared.series.Series.{Series}
+use Rattle.words.specs.Prelude.{ℕ, zero, suc, _+_, _-_, _/_, _%_, _≤_, _<_, min, _≡_, refl, sym, ap, _∙_, ⊎-elim, Bool, true, false, cond, _&&_, List, [], _∷_}
+use Rattle.words.specs.Prelude.{arith, zero-mul, ltb, eqb, length, lt-ltb, le-ltb, ltb-true, ltb-false}
+use Rattle.words.specs.{Limits.mostSteps, Laws.Numbers.less-or-not}
+use Rattle.rows.specs.{History.History, History.historyOf, History.width, History.lastRows, Ring.ringOf, Ring.turned, Laws.Ring.SameRows, Laws.Ring.ring-turned}
+use Rattle.table.specs.{declared.series.Series.Series, Trees.Operand, Trees.const, Trees.ref, Trees.price, Trees.extreme, Trees.reach}
+use Rattle.rules.specs.{declared.position.PositionState.PositionState, declared.values.Value.Value, Values.priceOf, Values.slotOf, Meaning.there, Meaning.seriesAt}
+use Rattle.rules.specs.{Meaning.extremeOver, Meaning.extremeAt, Meaning.value, Meaning.newest, Meaning.holds, Window.Without, Window.operand-same}
+use Rattle.rules.specs.{Window.without-first}
+use Rattle.steps.specs.{declared.wellformed.Formed.Formed, declared.wellformed.Formed.the-variants.Well, declared.wellformed.Formed.the-variants.Bad}
+use Rattle.steps.specs.{declared.step.Op.Op, declared.step.Op.the-variants.Const, declared.step.Op.the-variants.Ref, declared.step.Op.the-variants.Price}
+use Rattle.steps.specs.{declared.step.Op.the-variants.Arith, declared.step.Op.the-variants.Compare, declared.step.Op.the-variants.Cross}
+use Rattle.steps.specs.{declared.step.Op.the-variants.Between, declared.step.Op.the-variants.Answer, declared.step.Op.the-variants.Turn}
+use Rattle.steps.specs.{declared.step.Op.the-variants.InPosition, declared.step.Op.the-variants.BarsSinceEntry, declared.step.Op.the-variants.JumpIf}
+use Rattle.steps.specs.{declared.step.Op.the-variants.Extreme, declared.step.Op.the-variants.Unknown, Bytes.opOf, Bytes.stepAt, Bytes.opsFrom, Bytes.opsOf}
+use Rattle.steps.specs.{Bytes.stepsIn, Bytes.stepsRun, Machine.Values, Machine.ago, Machine.effect, Machine.does, Machine.after, Machine.run}
+use Rattle.steps.specs.{Machine.visitCount, Machine.start, Machine.ranOver, WellFormed.plain, WellFormed.seriesWithin, WellFormed.looksWithin}
+use Rattle.steps.specs.{WellFormed.bounded, WellFormed.goodStep, WellFormed.formedFrom, WellFormed.formed}
 use Rattle.table.specs.declared.series.Series.the-variants as Over
-use Rattle.table.specs.Trees.{Operand, const, ref, price, extreme, reach}
-use Rattle.rules.specs.declared.position.PositionState.{PositionState}
-use Rattle.rules.specs.declared.values.Value.{Value}
-use Rattle.rules.specs.Values.{priceOf, slotOf}
-use Rattle.rules.specs.Meaning.{there, seriesAt, extremeOver, extremeAt, value, newest, holds}
-use Rattle.rules.specs.Window.{Without, operand-same, without-first}
-use Rattle.steps.specs.declared.wellformed.Formed.{Formed}
-use Rattle.steps.specs.declared.wellformed.Formed.the-variants.{Well, Bad}
-use Rattle.steps.specs.declared.step.Op.{Op}
-use Rattle.steps.specs.declared.step.Op.the-variants.{Const, Ref, Price, Arith, Compare, Cross, Between, Answer, Turn, InPosition, BarsSinceEntry, JumpIf}
-use Rattle.steps.specs.declared.step.Op.the-variants.{Extreme, Unknown}
-use Rattle.steps.specs.Bytes.{opOf, stepAt, opsFrom, opsOf, stepsIn, stepsRun}
-use Rattle.steps.specs.Machine.{Values, ago, effect, does, after, run, visitCount, start, ranOver}
-use Rattle.steps.specs.WellFormed.{plain, seriesWithin, looksWithin, bounded, goodStep, formedFrom, formed}
 
 -- ---- a well-formed list has its look-backs below D
 

@@ -1,19 +1,14 @@
 -- A list of steps as bytes: read and written. Definitions only.
-use Prim.Native.Nat.{ℕ, zero, suc, _+_, _-_, _*_, _/_, _%_, _≤_, min}
-use mathlib.Core.Path.{_≡_}
-use mathlib.Core.Bool.{Bool, cond, _&&_}
-use mathlib.Core.List.{List, [], _∷_, _++_}
-use lib.ListN.{length, getD, set}
-use lib.Dec.{ltb, leb, eqb}
-use Rattle.words.specs.Limits.{mostSteps}
+use Rattle.words.specs.Prelude.{ℕ, zero, suc, _+_, _-_, _*_, _/_, _%_, _≤_, min, _≡_, Bool, cond, _&&_, List, [], _∷_, _++_, length, getD, set, ltb, leb, eqb}
+use Rattle.words.specs.{Limits.mostSteps}
+use Rattle.table.specs.{declared.series.Series.Series, Bytes.u16, Bytes.u32, Bytes.u64}
+use Rattle.steps.specs.{declared.step.Step.Step, declared.step.Op.Op, declared.step.Op.the-variants.Const, declared.step.Op.the-variants.Ref}
+use Rattle.steps.specs.{declared.step.Op.the-variants.Price, declared.step.Op.the-variants.Arith, declared.step.Op.the-variants.Compare}
+use Rattle.steps.specs.{declared.step.Op.the-variants.Cross, declared.step.Op.the-variants.Between, declared.step.Op.the-variants.Answer}
+use Rattle.steps.specs.{declared.step.Op.the-variants.Turn, declared.step.Op.the-variants.InPosition, declared.step.Op.the-variants.BarsSinceEntry}
+use Rattle.steps.specs.{declared.step.Op.the-variants.JumpIf, declared.step.Op.the-variants.Extreme, declared.step.Op.the-variants.Unknown}
 use Rattle.table.specs.Named as Named
-use Rattle.table.specs.declared.series.Series.{Series}
 use Rattle.table.specs.declared.series.Series.the-variants as Over
-use Rattle.table.specs.Bytes.{u16, u32, u64}
-use Rattle.steps.specs.declared.step.Step.{Step}
-use Rattle.steps.specs.declared.step.Op.{Op}
-use Rattle.steps.specs.declared.step.Op.the-variants.{Const, Ref, Price, Arith, Compare, Cross, Between, Answer, Turn, InPosition, BarsSinceEntry, JumpIf}
-use Rattle.steps.specs.declared.step.Op.the-variants.{Extreme, Unknown}
 
 -- ---- reading
 

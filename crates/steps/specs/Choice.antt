@@ -1,10 +1,7 @@
 -- Which list is run to leave a position. Definitions only.
-use mathlib.Core.Bool.{cond}
-use mathlib.Core.List.{List, []}
-use Prim.Native.Nat.{ℕ}
-use lib.Ieee.{Float}
-use Rattle.floats.specs.Floats.{_≺_, zero}
-use Rattle.rules.specs.Values.{held}
+use Rattle.words.specs.Prelude.{cond, List, [], ℕ, Float}
+use Rattle.floats.specs.{Floats._≺_, Floats.zero}
+use Rattle.rules.specs.{Values.held}
 
 -- "With a long position the exit steps are handed back, with a short one the short exit steps, from the two lent lists; when flat,
 -- the empty start of the exit list."

@@ -1,45 +1,19 @@
 -- DEMAND 3 in one statement, from the bytes of a table to the answer of the public run.
-use Prim.Native.Nat.{ℕ, _+_, _*_, _≤_, _<_}
-use mathlib.Core.Path.{_≡_, refl, ap, _∙_}
-use mathlib.Core.Bool.{Bool, true, false, cond}
-use mathlib.Core.List.{List, _++_}
-use native.Mathlib.Omega.{arith}
-use lib.Dec.{ltb}
-use lib.ListN.{length, take, drop}
-use lib.Seq.{take-at}
-use borrow.Author.Tests.{le-ltb, ltb-false}
-use Rattle.words.specs.Limits.{mostRows, mostReach}
-use Rattle.words.specs.Outcome.{refusal}
-use Rattle.rows.specs.History.{historyOf, lastRows, wholeRows}
-use Rattle.table.specs.declared.answer.Answer.{Answer}
-use Rattle.table.specs.declared.answer.Answer.the-variants.{Accepted, Refused}
-use Rattle.table.specs.Trees.{reachOf}
-use Rattle.table.specs.Header.{slots}
-use Rattle.table.specs.Checked.{checked}
-use Rattle.table.specs.Reading.{treeOf}
-use Rattle.table.specs.Laws.Accepted.{tree-reach}
-use Rattle.roundtrip.specs.Laws.Reach.{rows-are, tree-reach-is}
-use Rattle.rules.specs.declared.position.PositionState.{PositionState}
-use Rattle.table.specs.declared.trees.Tree.{Tree}
-use Rattle.rules.specs.Meaning.{says}
-use Rattle.table.specs.Header.{treeNumber}
-use Rattle.rules.specs.Answers.{stateRight}
-use Rattle.rules.specs.Laws.Answers.{tree-of-four}
-use Rattle.rules.specs.WindowAnswers.{tree-near, window-whole}
-use Rattle.needed.specs.declared.depth.DepthAnswer.the-variants.{Needs}
-use Rattle.steps.specs.declared.machine.Ran.{Ran}
-use Rattle.steps.specs.declared.running.RunAnswer.the-variants.{Runs}
-use Rattle.steps.specs.declared.translated.Translated.the-variants.{Writes, Refuses}
-use Rattle.steps.specs.Bytes.{bytesOf, opsOf}
-use Rattle.steps.specs.Machine.{visitsOf}
-use Rattle.table.specs.Depth.{greatestReach, depthOf, rowBytes}
-use Rattle.needed.specs.Depth.{depthAnswer}
-use Rattle.steps.specs.Laws.Encoding.{steps-long}
-use Rattle.steps.specs.Translating.{stepsOf, roomFor, writesOr, afterTable, translates, roomAfter, roomLeft}
-use Rattle.steps.specs.Running.{runs}
-use Rattle.table.specs.Bytes.{Bytes}
-use Rattle.steps.specs.Window.{translated-well-formed, window-runs}
-use Rattle.steps.specs.AnyList.{window-any}
+use Rattle.words.specs.Prelude.{ℕ, _+_, _*_, _≤_, _<_, _≡_, refl, ap, _∙_, Bool, true, false, cond, List, _++_, arith, ltb, length, take, drop, take-at, le-ltb}
+use Rattle.words.specs.Prelude.{ltb-false}
+use Rattle.words.specs.{Limits.mostRows, Limits.mostReach, Outcome.refusal}
+use Rattle.rows.specs.{History.historyOf, History.lastRows, History.wholeRows}
+use Rattle.table.specs.{declared.answer.Answer.Answer, declared.answer.Answer.the-variants.Accepted, declared.answer.Answer.the-variants.Refused, Trees.reachOf}
+use Rattle.table.specs.{Header.slots, Checked.checked, Reading.treeOf, Laws.Accepted.tree-reach, declared.trees.Tree.Tree, Header.treeNumber, Depth.greatestReach}
+use Rattle.table.specs.{Depth.depthOf, Depth.rowBytes, Bytes.Bytes}
+use Rattle.roundtrip.specs.{Laws.Reach.rows-are, Laws.Reach.tree-reach-is}
+use Rattle.rules.specs.{declared.position.PositionState.PositionState, Meaning.says, Answers.stateRight, Laws.Answers.tree-of-four, WindowAnswers.tree-near}
+use Rattle.rules.specs.{WindowAnswers.window-whole}
+use Rattle.needed.specs.{declared.depth.DepthAnswer.the-variants.Needs, Depth.depthAnswer}
+use Rattle.steps.specs.{declared.machine.Ran.Ran, declared.running.RunAnswer.the-variants.Runs, declared.translated.Translated.the-variants.Writes}
+use Rattle.steps.specs.{declared.translated.Translated.the-variants.Refuses, Bytes.bytesOf, Bytes.opsOf, Machine.visitsOf, Laws.Encoding.steps-long}
+use Rattle.steps.specs.{Translating.stepsOf, Translating.roomFor, Translating.writesOr, Translating.afterTable, Translating.translates, Translating.roomAfter}
+use Rattle.steps.specs.{Translating.roomLeft, Running.runs, Window.translated-well-formed, Window.window-runs, AnyList.window-any}
 
 -- ---- the start of the room is what was written
 

@@ -1,12 +1,8 @@
 -- The worked example of document 01 as steps: entry CrossAbove(slot 0, slot 1), exit Lt(close, Prev(close, 2)).
-use mathlib.Core.Path.{_≡_, refl}
-use mathlib.Core.List.{List, _∷_, _++_}
-use Prim.Native.Nat.{ℕ}
-use lib.ListN.{replicate}
+use Rattle.words.specs.Prelude.{_≡_, refl, List, _∷_, _++_, ℕ, replicate}
+use Rattle.table.specs.{Trees.ref, Trees.price, Trees.prev, Trees.compare, Trees.cross}
+use Rattle.steps.specs.{Bytes.stepOf, Bytes.stepBytes, Bytes.bytesOf, Translation.code, Translation.codeOf}
 use Rattle.table.specs.Named as Named
-use Rattle.table.specs.Trees.{ref, price, prev, compare, cross}
-use Rattle.steps.specs.Bytes.{stepOf, stepBytes, bytesOf}
-use Rattle.steps.specs.Translation.{code, codeOf}
 
 -- a step of this kind, with this selector and n; its skip and its constant are zero
 step : ℕ → ℕ → ℕ → List ℕ

@@ -1,14 +1,7 @@
 -- A look over rows that lie one after the other in the words, for the code alone: a look has no end of them. Definitions only.
-use Prim.Native.Nat.{ℕ, _+_, _*_, _<_}
-use mathlib.Core.Path.{_≡_}
-use mathlib.Core.Bool.{Bool, true, false}
-use mathlib.Core.List.{List}
-use lib.Ieee.{Float}
-use Rattle.table.specs.declared.series.Series.{Series}
-use Rattle.table.specs.declared.series.Series.the-variants.{Price, Slot}
-use Rattle.rules.specs.declared.values.Value.{Value}
-use Rattle.rules.specs.declared.values.Value.the-variants.{Number}
-use Rattle.rules.specs.Values.{wordsFrom, priceOf, slotOf, pick}
+use Rattle.words.specs.Prelude.{ℕ, _+_, _*_, _<_, _≡_, Bool, true, false, List, Float}
+use Rattle.table.specs.{declared.series.Series.Series, declared.series.Series.the-variants.Price, declared.series.Series.the-variants.Slot}
+use Rattle.rules.specs.{declared.values.Value.Value, declared.values.Value.the-variants.Number, Values.wordsFrom, Values.priceOf, Values.slotOf, Values.pick}
 
 -- A slot or a price, by its number.
 abbrev pub overOf : Bool → ℕ → Series

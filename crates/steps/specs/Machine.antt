@@ -1,20 +1,15 @@
 -- The step machine: what a step does, what a run is and which places it visits. Definitions only.
-use Prim.Native.Nat.{ℕ, zero, suc, _+_, _-_}
-use mathlib.Core.Bool.{Bool, true, false, not, cond, Bool·beq as beq}
-use mathlib.Core.List.{List, [], _∷_}
-use lib.ListN.{getD, drop}
-use lib.Dec.{ltb}
-use Rattle.rows.specs.History.{History}
-use Rattle.table.specs.Trees.{Operand, const, ref, price, extreme, inPosition, barsSince}
-use Rattle.rules.specs.declared.position.PositionState.{PositionState}
-use Rattle.rules.specs.declared.values.Value.{Value}
-use Rattle.rules.specs.declared.values.Value.the-variants.{Missing}
-use Rattle.rules.specs.Values.{both, compared, crossed, within}
-use Rattle.rules.specs.Meaning.{value, holds, newest}
-use Rattle.steps.specs.declared.machine.Ran.{Ran}
-use Rattle.steps.specs.declared.step.Op.{Op}
-use Rattle.steps.specs.declared.step.Op.the-variants.{Const, Ref, Price, Arith, Compare, Cross, Between, Answer, Turn, InPosition, BarsSinceEntry}
-use Rattle.steps.specs.declared.step.Op.the-variants.{Extreme, JumpIf, Unknown}
+use Rattle.words.specs.Prelude.{ℕ, zero, suc, _+_, _-_, Bool, true, false, not, cond, List, [], _∷_, getD, drop, ltb}
+use Rattle.rows.specs.{History.History}
+use Rattle.table.specs.{Trees.Operand, Trees.const, Trees.ref, Trees.price, Trees.extreme, Trees.inPosition, Trees.barsSince}
+use Rattle.rules.specs.{declared.position.PositionState.PositionState, declared.values.Value.Value, declared.values.Value.the-variants.Missing, Values.both}
+use Rattle.rules.specs.{Values.compared, Values.crossed, Values.within, Meaning.value, Meaning.holds, Meaning.newest}
+use Rattle.steps.specs.{declared.machine.Ran.Ran, declared.step.Op.Op, declared.step.Op.the-variants.Const, declared.step.Op.the-variants.Ref}
+use Rattle.steps.specs.{declared.step.Op.the-variants.Price, declared.step.Op.the-variants.Arith, declared.step.Op.the-variants.Compare}
+use Rattle.steps.specs.{declared.step.Op.the-variants.Cross, declared.step.Op.the-variants.Between, declared.step.Op.the-variants.Answer}
+use Rattle.steps.specs.{declared.step.Op.the-variants.Turn, declared.step.Op.the-variants.InPosition, declared.step.Op.the-variants.BarsSinceEntry}
+use Rattle.steps.specs.{declared.step.Op.the-variants.Extreme, declared.step.Op.the-variants.JumpIf, declared.step.Op.the-variants.Unknown}
+use mathlib.Core.Bool.{Bool·beq as beq}
 
 -- ---- the values so far
 

@@ -1,29 +1,16 @@
 -- "a value not there counts as missing", and every value is kept: a well-formed list that holds 65 values at once, from elsewhere.
-use Prim.Native.Nat.{ℕ, zero, suc, _+_, _-_, _≤_}
-use mathlib.Core.Path.{_≡_, refl}
-use mathlib.Core.Bool.{Bool, true, false, cond}
-use mathlib.Core.List.{List, [], _∷_}
-use native.Mathlib.Omega.{arith}
-use lib.Dec.{ltb}
+use Rattle.words.specs.Prelude.{ℕ, zero, suc, _+_, _-_, _≤_, _≡_, refl, Bool, true, false, cond, List, [], _∷_, arith, ltb, le-ltb}
+use Rattle.words.specs.{Limits.mostSlots, Limits.mostRows}
+use Rattle.floats.specs.{Floats.floatOf}
+use Rattle.rows.specs.{History.History, History.historyOf, History.wholeRows}
+use Rattle.table.specs.{Trees.const}
+use Rattle.rules.specs.{declared.position.PositionState.PositionState, declared.values.Value.the-variants.Missing, declared.values.Value.the-variants.Number}
+use Rattle.rules.specs.{Values.tested, Values.compared, Meaning.newest, Meaning.there, Meaning.value, Answers.stateRight}
+use Rattle.steps.specs.{declared.step.Op.Op, declared.step.Op.the-variants.Const, declared.step.Op.the-variants.Compare}
+use Rattle.steps.specs.{declared.running.RunAnswer.the-variants.Runs, Bytes.isComparison, Bytes.bytesOf, Machine.Values, Machine.ago, Machine.effect}
+use Rattle.steps.specs.{Machine.does, Machine.after, Machine.run, Machine.visitCount, Machine.start, Running.ranIf, Running.runs}
+use Rattle.steps.specs.{Laws.TranslatedSteps.FieldsRight, Laws.TranslatedSteps.AllFieldsRight, Laws.WrittenSteps.well-formed, Laws.WrittenSteps.reads-back}
 use lib.Ieee as Ieee
-use borrow.Author.Tests.{le-ltb}
-use Rattle.words.specs.Limits.{mostSlots, mostRows}
-use Rattle.floats.specs.Floats.{floatOf}
-use Rattle.rows.specs.History.{History, historyOf, wholeRows}
-use Rattle.table.specs.Trees.{const}
-use Rattle.rules.specs.declared.position.PositionState.{PositionState}
-use Rattle.rules.specs.declared.values.Value.the-variants.{Missing, Number}
-use Rattle.rules.specs.Values.{tested, compared}
-use Rattle.rules.specs.Meaning.{newest, there, value}
-use Rattle.rules.specs.Answers.{stateRight}
-use Rattle.steps.specs.declared.step.Op.{Op}
-use Rattle.steps.specs.declared.step.Op.the-variants.{Const, Compare}
-use Rattle.steps.specs.declared.running.RunAnswer.the-variants.{Runs}
-use Rattle.steps.specs.Bytes.{isComparison, bytesOf}
-use Rattle.steps.specs.Machine.{Values, ago, effect, does, after, run, visitCount, start}
-use Rattle.steps.specs.Running.{ranIf, runs}
-use Rattle.steps.specs.Laws.TranslatedSteps.{FieldsRight, AllFieldsRight}
-use Rattle.steps.specs.Laws.WrittenSteps.{well-formed, reads-back}
 
 five : ℕ
 five = 0x4014_0000_0000_0000

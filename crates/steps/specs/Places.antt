@@ -1,19 +1,10 @@
 -- A run with so many places for values, for the code alone: the machine of Machine.antt has no end of them. Definitions only.
-use Prim.Native.Nat.{ℕ, _+_, _-_, _*_, _<_, _≤_}
-use mathlib.Core.Path.{_≡_}
-use mathlib.Core.Bool.{Bool, true, false, cond}
-use mathlib.Core.List.{List, []}
-use lib.Ieee.{Float, nan}
-use lib.Dec.{ltb}
-use lib.ListN.{length, getD, replicate, set}
-use Rattle.rows.specs.History.{History}
-use Rattle.rules.specs.declared.position.PositionState.{PositionState}
-use Rattle.rules.specs.declared.values.Value.{Value}
-use Rattle.rules.specs.declared.values.Value.the-variants.{Missing, Number}
-use Rattle.rules.specs.Values.{crossed, within}
-use Rattle.steps.specs.declared.machine.Ran.{Ran}
-use Rattle.steps.specs.Bytes.{opOf, stepAt, opsFrom}
-use Rattle.steps.specs.Machine.{Values, giving, effect, run, visitCount, start}
+use Rattle.words.specs.Prelude.{ℕ, _+_, _-_, _*_, _<_, _≤_, _≡_, Bool, true, false, cond, List, [], Float, nan, ltb, length, getD, replicate, set}
+use Rattle.rows.specs.{History.History}
+use Rattle.rules.specs.{declared.position.PositionState.PositionState, declared.values.Value.Value, declared.values.Value.the-variants.Missing}
+use Rattle.rules.specs.{declared.values.Value.the-variants.Number, Values.crossed, Values.within}
+use Rattle.steps.specs.{declared.machine.Ran.Ran, Bytes.opOf, Bytes.stepAt, Bytes.opsFrom, Machine.Values, Machine.giving, Machine.effect, Machine.run}
+use Rattle.steps.specs.{Machine.visitCount, Machine.start}
 
 -- A value as two: its number, which is written where there is one, and whether it is there.
 unfoldable pub numbersWith : List Float → ℕ → Value → List Float

@@ -1,12 +1,9 @@
 -- "at most four steps a node": a tree takes at most two, whatever its size.
-use Prim.Native.Nat.{ℕ, _+_, _*_, _≤_}
-use mathlib.Core.Bool.{Bool, true, false}
-use native.Mathlib.Omega.{arith}
-use lib.ListN.{length, length-append}
-use Rattle.table.specs.Trees.{Operand, const, ref, price, prev, arith as sums, extreme, Condition, Conditions, compare, cross, between, trend, every, any}
-use Rattle.table.specs.Trees.{negated, inPosition, barsSince, none, more}
-use Rattle.table.specs.Writing.{nodesIn, nodesOf, nodesOfAll}
-use Rattle.steps.specs.Translation.{code, codeOf, codeEach}
+use Rattle.words.specs.Prelude.{ℕ, _+_, _*_, _≤_, Bool, true, false, arith, length, length-append}
+use Rattle.table.specs.{Trees.Operand, Trees.const, Trees.ref, Trees.price, Trees.prev, Trees.arith as sums, Trees.extreme, Trees.Condition, Trees.Conditions}
+use Rattle.table.specs.{Trees.compare, Trees.cross, Trees.between, Trees.trend, Trees.every, Trees.any, Trees.negated, Trees.inPosition, Trees.barsSince}
+use Rattle.table.specs.{Trees.none, Trees.more, Writing.nodesIn, Writing.nodesOf, Writing.nodesOfAll}
+use Rattle.steps.specs.{Translation.code, Translation.codeOf, Translation.codeEach}
 
 operand-room : (a : Operand) (n : ℕ) → length (code a n) ≤ nodesIn a
 unfolding code nodesIn

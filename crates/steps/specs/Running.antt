@@ -1,21 +1,11 @@
 -- What a list of steps answers over rows and a position state, refusals and all. Definitions only.
-use Prim.Native.Nat.{ℕ}
-use mathlib.Core.Bool.{cond, _&&_}
-use mathlib.Core.List.{List}
-use lib.Dec.{ltb}
-use Rattle.words.specs.Limits.{mostSlots, mostRows}
-use Rattle.words.specs.Outcome.{refusal}
-use Rattle.rows.specs.History.{historyOf, wholeRows}
-use Rattle.rules.specs.declared.position.PositionState.{PositionState}
-use Rattle.rules.specs.Answers.{stateRight}
-use Rattle.steps.specs.declared.wellformed.Formed.{Formed}
-use Rattle.steps.specs.declared.wellformed.Formed.the-variants.{Well, Bad}
-use Rattle.steps.specs.declared.machine.Ran.{Ran}
-use Rattle.steps.specs.declared.running.RunAnswer.{RunAnswer}
-use Rattle.steps.specs.declared.running.RunAnswer.the-variants.{Runs, Refuses}
-use Rattle.steps.specs.Bytes.{opsOf}
-use Rattle.steps.specs.Machine.{ranOver}
-use Rattle.steps.specs.WellFormed.{formed}
+use Rattle.words.specs.Prelude.{ℕ, cond, _&&_, List, ltb}
+use Rattle.words.specs.{Limits.mostSlots, Limits.mostRows, Outcome.refusal}
+use Rattle.rows.specs.{History.historyOf, History.wholeRows}
+use Rattle.rules.specs.{declared.position.PositionState.PositionState, Answers.stateRight}
+use Rattle.steps.specs.{declared.wellformed.Formed.Formed, declared.wellformed.Formed.the-variants.Well, declared.wellformed.Formed.the-variants.Bad}
+use Rattle.steps.specs.{declared.machine.Ran.Ran, declared.running.RunAnswer.RunAnswer, declared.running.RunAnswer.the-variants.Runs}
+use Rattle.steps.specs.{declared.running.RunAnswer.the-variants.Refuses, Bytes.opsOf, Machine.ranOver, WellFormed.formed}
 
 -- "15: a step list is not well formed: 1,024 times the list .. plus its lowest bad step". Decided: a list that is run by itself is list 0.
 unfoldable pub ranIf : Formed → Ran → RunAnswer

@@ -1,39 +1,15 @@
 -- What the steps of a table's tree answer over a window of any length, too short ones as well.
-use Prim.Native.Nat.{ℕ, _*_, _≤_, _<_}
-use mathlib.Core.Path.{_≡_, _∙_}
-use mathlib.Core.Bool.{true}
-use mathlib.Core.List.{List}
-use lib.ListN.{take}
-use native.Mathlib.Omega.{arith}
-use borrow.Author.Tests.{le-ltb}
-use Rattle.words.specs.Limits.{mostSlots, mostRows}
-use Rattle.rows.specs.History.{historyOf, lastRows, wholeRows}
-use Rattle.table.specs.declared.answer.Answer.the-variants.{Accepted}
-use Rattle.table.specs.Trees.{reachOf}
-use Rattle.table.specs.Header.{slots}
-use Rattle.table.specs.Checked.{checked}
-use Rattle.table.specs.Reading.{treeOf}
-use Rattle.table.specs.Laws.Accepted.{header-of}
-use Rattle.rules.specs.declared.position.PositionState.{PositionState}
-use Rattle.table.specs.declared.trees.Tree.{Tree}
-use Rattle.rules.specs.Meaning.{says}
-use Rattle.table.specs.Header.{treeNumber}
-use Rattle.rules.specs.Answers.{stateRight}
-use Rattle.rules.specs.Laws.Answers.{tree-of-four}
-use Rattle.rules.specs.WindowAnswers.{window-whole}
-use Rattle.rules.specs.Shortage.{struckOut}
-use Rattle.rules.specs.AnyWindow.{any-window}
-use Rattle.needed.specs.declared.depth.DepthAnswer.the-variants.{Needs}
-use Rattle.steps.specs.declared.running.RunAnswer.the-variants.{Runs}
-use Rattle.steps.specs.declared.translated.Translated.the-variants.{Writes}
-use Rattle.steps.specs.Bytes.{bytesOf, opsOf}
-use Rattle.steps.specs.Machine.{visitsOf}
-use Rattle.needed.specs.Depth.{depthAnswer}
-use Rattle.steps.specs.Translating.{stepsOf, translates, roomLeft}
-use Rattle.steps.specs.Running.{ranIf, runs}
-use Rattle.table.specs.Bytes.{Bytes}
-use Rattle.steps.specs.Window.{translated-well-formed, translated-says}
-use Rattle.steps.specs.Demand.{written-there, deep, depth-above, depth-most}
+use Rattle.words.specs.Prelude.{ℕ, _*_, _≤_, _<_, _≡_, _∙_, true, List, take, arith, le-ltb}
+use Rattle.words.specs.{Limits.mostSlots, Limits.mostRows}
+use Rattle.rows.specs.{History.historyOf, History.lastRows, History.wholeRows}
+use Rattle.table.specs.{declared.answer.Answer.the-variants.Accepted, Trees.reachOf, Header.slots, Checked.checked, Reading.treeOf, Laws.Accepted.header-of}
+use Rattle.table.specs.{declared.trees.Tree.Tree, Header.treeNumber, Bytes.Bytes}
+use Rattle.rules.specs.{declared.position.PositionState.PositionState, Meaning.says, Answers.stateRight, Laws.Answers.tree-of-four, WindowAnswers.window-whole}
+use Rattle.rules.specs.{Shortage.struckOut, AnyWindow.any-window}
+use Rattle.needed.specs.{declared.depth.DepthAnswer.the-variants.Needs, Depth.depthAnswer}
+use Rattle.steps.specs.{declared.running.RunAnswer.the-variants.Runs, declared.translated.Translated.the-variants.Writes, Bytes.bytesOf, Bytes.opsOf}
+use Rattle.steps.specs.{Machine.visitsOf, Translating.stepsOf, Translating.translates, Translating.roomLeft, Running.ranIf, Running.runs}
+use Rattle.steps.specs.{Window.translated-well-formed, Window.translated-says, Demand.written-there, Demand.deep, Demand.depth-above, Demand.depth-most}
 
 -- the public run of a translated tree, over any rows
 runs-any : (t : List ℕ) (n r : ℕ) → checked t ≡ Accepted n r → Bytes t → (x : ℕ) → x < 4 → (D : ℕ) → reachOf (treeOf t x) < D → D ≤ mostRows

@@ -1,19 +1,14 @@
 -- D cannot be smaller: for each kind that looks back, rows on which the steps answer yes over D = reach + 1 of them and no over one less.
-use Prim.Native.Nat.{ℕ, _+_}
-use mathlib.Core.Path.{_≡_, refl}
-use mathlib.Core.Bool.{Bool, true, false}
-use mathlib.Core.List.{List, [], _∷_, _++_}
+use Rattle.words.specs.Prelude.{ℕ, _+_, _≡_, refl, Bool, true, false, List, [], _∷_, _++_}
+use Rattle.floats.specs.{Floats.zero, Floats.abs}
+use Rattle.rows.specs.{History.historyOf, History.lastRows}
+use Rattle.table.specs.{Trees.Operand, Trees.const, Trees.ref, Trees.price, Trees.prev, Trees.Condition, Trees.compare, Trees.cross, Trees.trend, Trees.reach}
+use Rattle.table.specs.{Trees.reachOf}
+use Rattle.rules.specs.{declared.position.PositionState.PositionState, declared.position.Entered.the-variants.Never, Values.priceOf, Values.slotOf, Values.both}
+use Rattle.rules.specs.{Values.tested, Values.compared, Values.crossed, Meaning.newest, Meaning.there, Meaning.value}
+use Rattle.steps.specs.{Machine.ago, Machine.effect, Machine.does, Machine.after, Machine.run, Machine.answers, Translation.code, Translation.codeOf}
 use lib.Ieee as Ieee
-use Rattle.floats.specs.Floats.{zero, abs}
-use Rattle.rows.specs.History.{historyOf, lastRows}
 use Rattle.table.specs.Named as Named
-use Rattle.table.specs.Trees.{Operand, const, ref, price, prev, Condition, compare, cross, trend, reach, reachOf}
-use Rattle.rules.specs.declared.position.PositionState.{PositionState}
-use Rattle.rules.specs.declared.position.Entered.the-variants.{Never}
-use Rattle.rules.specs.Values.{priceOf, slotOf, both, tested, compared, crossed}
-use Rattle.rules.specs.Meaning.{newest, there, value}
-use Rattle.steps.specs.Machine.{ago, effect, does, after, run, answers}
-use Rattle.steps.specs.Translation.{code, codeOf}
 
 -- a row of two slots, both present, with this close and these slot words
 row : ℕ → ℕ → ℕ → List ℕ

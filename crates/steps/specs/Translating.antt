@@ -1,22 +1,10 @@
 -- What the translation of a tree of a table answers, and what it leaves in the lent room. Definitions only.
-use Prim.Native.Nat.{ℕ, _+_, _*_}
-use mathlib.Core.Bool.{cond}
-use mathlib.Core.List.{List, [], _++_}
-use lib.ListN.{length, drop}
-use lib.Dec.{ltb}
-use Rattle.words.specs.Outcome.{refusal}
-use Rattle.table.specs.declared.answer.Answer.{Answer}
-use Rattle.table.specs.declared.answer.Answer.the-variants.{Accepted, Refused}
-use Rattle.table.specs.Header.{count}
-use Rattle.table.specs.Checked.{checked}
-use Rattle.table.specs.Reading.{treeOf, present}
-use Rattle.table.specs.declared.trees.Tree.{Tree}
-use Rattle.table.specs.Header.{treeNumber}
-use Rattle.steps.specs.declared.step.Op.{Op}
-use Rattle.steps.specs.declared.translated.Translated.{Translated}
-use Rattle.steps.specs.declared.translated.Translated.the-variants.{Writes, Refuses}
-use Rattle.steps.specs.Bytes.{bytesOf}
-use Rattle.steps.specs.Translation.{codeOf}
+use Rattle.words.specs.Prelude.{ℕ, _+_, _*_, cond, List, [], _++_, length, drop, ltb}
+use Rattle.words.specs.{Outcome.refusal}
+use Rattle.table.specs.{declared.answer.Answer.Answer, declared.answer.Answer.the-variants.Accepted, declared.answer.Answer.the-variants.Refused, Header.count}
+use Rattle.table.specs.{Checked.checked, Reading.treeOf, Reading.present, declared.trees.Tree.Tree, Header.treeNumber}
+use Rattle.steps.specs.{declared.step.Op.Op, declared.translated.Translated.Translated, declared.translated.Translated.the-variants.Writes}
+use Rattle.steps.specs.{declared.translated.Translated.the-variants.Refuses, Bytes.bytesOf, Translation.codeOf}
 
 -- "Each tree is translated into its own lent room": its steps, none where the tree is absent.
 unfoldable pub stepsOf : List ℕ → ℕ → List Op

@@ -1,15 +1,14 @@
 -- "Each tree is translated": the steps of a tree. Definitions only.
-use Prim.Native.Nat.{ℕ, _+_}
-use mathlib.Core.Bool.{Bool, true, false, cond}
-use mathlib.Core.List.{List, [], _∷_, _++_}
-use lib.ListN.{length}
-use lib.Dec.{eqb}
+use Rattle.words.specs.Prelude.{ℕ, _+_, Bool, true, false, cond, List, [], _∷_, _++_, length, eqb}
+use Rattle.table.specs.{Trees.Operand, Trees.const, Trees.ref, Trees.price, Trees.prev, Trees.arith, Trees.extreme, Trees.Condition, Trees.Conditions}
+use Rattle.table.specs.{Trees.compare, Trees.cross, Trees.between, Trees.trend, Trees.every, Trees.any, Trees.negated, Trees.inPosition, Trees.barsSince}
+use Rattle.table.specs.{Trees.none, Trees.more}
+use Rattle.steps.specs.{declared.step.Op.Op, declared.step.Op.the-variants.Const, declared.step.Op.the-variants.Ref, declared.step.Op.the-variants.Price}
+use Rattle.steps.specs.{declared.step.Op.the-variants.Extreme, declared.step.Op.the-variants.Arith, declared.step.Op.the-variants.Compare}
+use Rattle.steps.specs.{declared.step.Op.the-variants.Cross, declared.step.Op.the-variants.Between, declared.step.Op.the-variants.Answer}
+use Rattle.steps.specs.{declared.step.Op.the-variants.Turn, declared.step.Op.the-variants.InPosition, declared.step.Op.the-variants.BarsSinceEntry}
+use Rattle.steps.specs.{declared.step.Op.the-variants.JumpIf}
 use Rattle.table.specs.Named as Named
-use Rattle.table.specs.Trees.{Operand, const, ref, price, prev, arith, extreme, Condition, Conditions, compare, cross, between, trend, every, any, negated}
-use Rattle.table.specs.Trees.{inPosition, barsSince, none, more}
-use Rattle.steps.specs.declared.step.Op.{Op}
-use Rattle.steps.specs.declared.step.Op.the-variants.{Const, Ref, Price, Extreme, Arith, Compare}
-use Rattle.steps.specs.declared.step.Op.the-variants.{Cross, Between, Answer, Turn, InPosition, BarsSinceEntry, JumpIf}
 
 -- The steps of an operand, n rows back. Prev makes no step of its own: it adds its n to the look-back of the leaves below it, so
 -- nothing is folded and "missing" is kept.

@@ -1,18 +1,14 @@
 -- "The definition of a run gives the places visited, in rising order, .. never more than the list holds." And how many visits they count
 -- (request 8): at most the list's length plus the sum of n − 1 over its steps of Highest and Lowest; every other step counts once.
-use Prim.Native.Nat.{ℕ, zero, suc, _+_, _-_, _≤_}
-use mathlib.Core.Bool.{Bool}
-use mathlib.Core.List.{List, [], _∷_}
-use mathlib.Core.Path.{_≡_, refl}
-use native.Mathlib.Omega.{arith}
-use lib.ListN.{length}
-use Rattle.rows.specs.History.{History}
-use Rattle.rules.specs.declared.position.PositionState.{PositionState}
-use Rattle.rules.specs.declared.values.Value.{Value}
-use Rattle.steps.specs.declared.step.Op.{Op}
-use Rattle.steps.specs.declared.step.Op.the-variants.{Const, Ref, Price, Extreme, Arith, Compare, Cross, Between, Answer, Turn, InPosition}
-use Rattle.steps.specs.declared.step.Op.the-variants.{BarsSinceEntry, JumpIf, Unknown}
-use Rattle.steps.specs.Machine.{Values, effect, does, after, places, visited, visitCount, visitsOf}
+use Rattle.words.specs.Prelude.{ℕ, zero, suc, _+_, _-_, _≤_, Bool, List, [], _∷_, _≡_, refl, arith, length}
+use Rattle.rows.specs.{History.History}
+use Rattle.rules.specs.{declared.position.PositionState.PositionState, declared.values.Value.Value}
+use Rattle.steps.specs.{declared.step.Op.Op, declared.step.Op.the-variants.Const, declared.step.Op.the-variants.Ref, declared.step.Op.the-variants.Price}
+use Rattle.steps.specs.{declared.step.Op.the-variants.Extreme, declared.step.Op.the-variants.Arith, declared.step.Op.the-variants.Compare}
+use Rattle.steps.specs.{declared.step.Op.the-variants.Cross, declared.step.Op.the-variants.Between, declared.step.Op.the-variants.Answer}
+use Rattle.steps.specs.{declared.step.Op.the-variants.Turn, declared.step.Op.the-variants.InPosition, declared.step.Op.the-variants.BarsSinceEntry}
+use Rattle.steps.specs.{declared.step.Op.the-variants.JumpIf, declared.step.Op.the-variants.Unknown, Machine.Values, Machine.effect, Machine.does}
+use Rattle.steps.specs.{Machine.after, Machine.places, Machine.visited, Machine.visitCount, Machine.visitsOf}
 
 -- each place lies at or after p, and before the next: so none stands there twice
 pub data StrictlyRising : ℕ → List ℕ → Type 0 where

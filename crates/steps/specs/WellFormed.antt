@@ -1,19 +1,15 @@
 -- Which lists of steps are well formed. Definitions only.
-use Prim.Native.Nat.{ℕ, zero, suc, _+_, _-_, _%_}
-use mathlib.Core.Bool.{Bool, true, false, cond, _&&_}
-use mathlib.Core.List.{List}
-use lib.ListN.{length}
-use lib.Dec.{ltb, leb, eqb}
-use Rattle.words.specs.Limits.{mostSteps}
-use Rattle.table.specs.declared.series.Series.{Series}
+use Rattle.words.specs.Prelude.{ℕ, zero, suc, _+_, _-_, _%_, Bool, true, false, cond, _&&_, List, length, ltb, leb, eqb}
+use Rattle.words.specs.{Limits.mostSteps}
+use Rattle.table.specs.{declared.series.Series.Series}
+use Rattle.steps.specs.{declared.step.Step.Step, declared.wellformed.Formed.Formed, declared.wellformed.Formed.the-variants.Well}
+use Rattle.steps.specs.{declared.wellformed.Formed.the-variants.Bad, declared.step.Op.Op, declared.step.Op.the-variants.Const}
+use Rattle.steps.specs.{declared.step.Op.the-variants.Ref, declared.step.Op.the-variants.Price, declared.step.Op.the-variants.Arith}
+use Rattle.steps.specs.{declared.step.Op.the-variants.Compare, declared.step.Op.the-variants.Cross, declared.step.Op.the-variants.Between}
+use Rattle.steps.specs.{declared.step.Op.the-variants.Answer, declared.step.Op.the-variants.Turn, declared.step.Op.the-variants.InPosition}
+use Rattle.steps.specs.{declared.step.Op.the-variants.BarsSinceEntry, declared.step.Op.the-variants.JumpIf, declared.step.Op.the-variants.Extreme}
+use Rattle.steps.specs.{declared.step.Op.the-variants.Unknown, Bytes.stepAt, Bytes.opOf, Bytes.stepsIn}
 use Rattle.table.specs.declared.series.Series.the-variants as Over
-use Rattle.steps.specs.declared.step.Step.{Step}
-use Rattle.steps.specs.declared.wellformed.Formed.{Formed}
-use Rattle.steps.specs.declared.wellformed.Formed.the-variants.{Well, Bad}
-use Rattle.steps.specs.declared.step.Op.{Op}
-use Rattle.steps.specs.declared.step.Op.the-variants.{Const, Ref, Price, Arith, Compare, Cross, Between, Answer, Turn, InPosition, BarsSinceEntry, JumpIf}
-use Rattle.steps.specs.declared.step.Op.the-variants.{Extreme, Unknown}
-use Rattle.steps.specs.Bytes.{stepAt, opOf, stepsIn}
 
 unfoldable pub zeros : ℕ → ℕ → ℕ → ℕ → Bool
 zeros selector skip n bits = eqb selector 0 && eqb skip 0 && eqb n 0 && eqb bits 0

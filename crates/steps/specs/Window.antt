@@ -1,42 +1,15 @@
 -- What the steps of an accepted table's tree answer over a window of rows: the theorems that a user rests on.
-use Prim.Native.Nat.{ℕ, _+_, _≤_, _<_}
-use mathlib.Core.Path.{_≡_, refl, _∙_}
-use mathlib.Core.Bool.{true}
-use mathlib.Core.List.{List, []}
-use native.Mathlib.Omega.{arith}
-use native.Mathlib.Nat.{eq-zero-or-pos}
-use mathlib.Core.Logic.{⊎-elim}
-use lib.ListN.{length}
-use borrow.Author.Tests.{eq-eqb, ne-eqb, le-ltb}
-use Rattle.words.specs.Limits.{mostSlots, mostRows, mostReach, mostSteps}
-use Rattle.rows.specs.History.{History, historyOf, lastRows, wholeRows}
-use Rattle.table.specs.declared.answer.Answer.the-variants.{Accepted}
-use Rattle.table.specs.Trees.{reachOf}
-use Rattle.table.specs.Header.{slots, count, root, formOf}
-use Rattle.table.specs.Checked.{checked}
-use Rattle.table.specs.Reading.{treeOf, present}
-use Rattle.table.specs.Laws.Accepted.{header-of, tree-ends}
-use Rattle.table.specs.Limits.{TreeWithin}
-use Rattle.roundtrip.specs.Laws.AcceptedWithin.{tree-within}
-use Rattle.roundtrip.specs.Laws.AcceptedWritten.{tree-nodes}
-use Rattle.rules.specs.declared.position.PositionState.{PositionState}
-use Rattle.rules.specs.Meaning.{says}
-use Rattle.rules.specs.Answers.{stateRight}
-use Rattle.rules.specs.Laws.Answers.{absent-says}
-use Rattle.rules.specs.Window.{window}
-use Rattle.steps.specs.declared.wellformed.Formed.the-variants.{Well}
-use Rattle.steps.specs.declared.running.RunAnswer.the-variants.{Runs}
-use Rattle.steps.specs.Machine.{run, answers, visitsOf}
-use Rattle.steps.specs.Bytes.{bytesOf, opsFrom, opsOf, stepsRun}
-use Rattle.steps.specs.Translation.{codeOf}
-use Rattle.steps.specs.Laws.Compiled.{compiled}
-use Rattle.steps.specs.Room.{two-a-node}
-use Rattle.steps.specs.WellFormed.{formedFrom, formed}
-use Rattle.table.specs.Bytes.{Bytes}
-use Rattle.steps.specs.Laws.TranslatedSteps.{AllFieldsRight, translated-right}
-use Rattle.steps.specs.Laws.WrittenSteps.{well-formed, reads-back}
-use Rattle.steps.specs.Translating.{stepsOf}
-use Rattle.steps.specs.Running.{ranIf, runs}
+use Rattle.words.specs.Prelude.{ℕ, _+_, _≤_, _<_, _≡_, refl, _∙_, true, List, [], arith, eq-zero-or-pos, ⊎-elim, length, eq-eqb, ne-eqb, le-ltb}
+use Rattle.words.specs.{Limits.mostSlots, Limits.mostRows, Limits.mostReach, Limits.mostSteps}
+use Rattle.rows.specs.{History.History, History.historyOf, History.lastRows, History.wholeRows}
+use Rattle.table.specs.{declared.answer.Answer.the-variants.Accepted, Trees.reachOf, Header.slots, Header.count, Header.root, Header.formOf, Checked.checked}
+use Rattle.table.specs.{Reading.treeOf, Reading.present, Laws.Accepted.header-of, Laws.Accepted.tree-ends, Limits.TreeWithin, Bytes.Bytes}
+use Rattle.roundtrip.specs.{Laws.AcceptedWithin.tree-within, Laws.AcceptedWritten.tree-nodes}
+use Rattle.rules.specs.{declared.position.PositionState.PositionState, Meaning.says, Answers.stateRight, Laws.Answers.absent-says, Window.window}
+use Rattle.steps.specs.{declared.wellformed.Formed.the-variants.Well, declared.running.RunAnswer.the-variants.Runs, Machine.run, Machine.answers}
+use Rattle.steps.specs.{Machine.visitsOf, Bytes.bytesOf, Bytes.opsFrom, Bytes.opsOf, Bytes.stepsRun, Translation.codeOf, Laws.Compiled.compiled}
+use Rattle.steps.specs.{Room.two-a-node, WellFormed.formedFrom, WellFormed.formed, Laws.TranslatedSteps.AllFieldsRight, Laws.TranslatedSteps.translated-right}
+use Rattle.steps.specs.{Laws.WrittenSteps.well-formed, Laws.WrittenSteps.reads-back, Translating.stepsOf, Running.ranIf, Running.runs}
 
 module _ (t : List ℕ) (n r : ℕ) (ok : checked t ≡ Accepted n r) (bytes : Bytes t) (x : ℕ) (l : x < 4) where
   -- ---- a tree that is there

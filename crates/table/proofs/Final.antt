@@ -1,32 +1,14 @@
 -- The parts of the check put together.
 -- Assumes nothing.
-use mathlib.Core.Path.{_≡_, refl, sym, _∙_, ap}
-use mathlib.Core.Bool.{cond}
-use mathlib.Core.Logic.{⊎-elim}
-use mathlib.Core.List.{List}
-use Prim.Native.Nat.{ℕ, _-_, _≤_, _<_}
-use native.Mathlib.Omega.{arith}
-use native.Mathlib.Nat.{eq-zero-or-pos, zero-add}
-use lib.ListN.{getD, replicate}
-use lib.Seq.{ext-getD}
-use lib.Dec.{ltb}
-use borrow.Author.Tests.{lt-ltb, le-ltb, eq-eqb, ne-eqb}
-use Rattle.words.specs.Limits.{mostNodes}
-use Rattle.words.specs.declared.refusal.Refusal.{Refusal}
-use Rattle.words.specs.Outcome.{refusal}
-use Rattle.table.specs.declared.places.Place.{Place}
-use Rattle.table.specs.declared.places.Place.the-variants.{Nowhere, At}
-use Rattle.table.specs.declared.answer.Answer.{Answer}
-use Rattle.table.specs.declared.answer.Answer.the-variants.{Accepted, Refused}
-use Rattle.table.specs.Bytes.{u16}
-use Rattle.table.specs.Header.{total, headerRefusal, root}
-use Rattle.table.specs.Nodes.{wrongNode}
-use Rattle.table.specs.Checked.{orRefused, orHeader, from9, from8, from7, checkedUpTo}
-use Rattle.table.specs.Ends.{endsFor, endAt, from, endOfNode, endsAll, Linked}
-use Rattle.table.specs.Passes.{EndedFrom, Roots, EndedAll, LinkedAll}
-use Rattle.table.specs.Laws.Ends.{from-long, from-at}
-use Rattle.table.specs.Laws.Header.{header-right}
-use Rattle.table.proofs.Linked.{end-word}
+use Rattle.words.specs.Prelude.{_≡_, refl, sym, _∙_, ap, cond, ⊎-elim, List, ℕ, _-_, _≤_, _<_, arith, eq-zero-or-pos, zero-add, getD, replicate, ext-getD, ltb}
+use Rattle.words.specs.Prelude.{lt-ltb, le-ltb, eq-eqb, ne-eqb}
+use Rattle.words.specs.{Limits.mostNodes, declared.refusal.Refusal.Refusal, Outcome.refusal}
+use Rattle.table.specs.{declared.places.Place.Place, declared.places.Place.the-variants.Nowhere, declared.places.Place.the-variants.At}
+use Rattle.table.specs.{declared.answer.Answer.Answer, declared.answer.Answer.the-variants.Accepted, declared.answer.Answer.the-variants.Refused, Bytes.u16}
+use Rattle.table.specs.{Header.total, Header.headerRefusal, Header.root, Nodes.wrongNode, Checked.orRefused, Checked.orHeader, Checked.from9, Checked.from8}
+use Rattle.table.specs.{Checked.from7, Checked.checkedUpTo, Ends.endsFor, Ends.endAt, Ends.from, Ends.endOfNode, Ends.endsAll, Ends.Linked, Passes.EndedFrom}
+use Rattle.table.specs.{Passes.Roots, Passes.EndedAll, Passes.LinkedAll, Laws.Ends.from-long, Laws.Ends.from-at, Laws.Header.header-right}
+use Rattle.table.proofs.{Linked.end-word}
 
 -- One rule: it is broken, or what is left decides.
 module _ (nr : ℕ) (q : Place) (x rest : Answer) (es ends : List ℕ) where

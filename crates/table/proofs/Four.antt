@@ -1,31 +1,15 @@
 -- The four trees together.
 -- Assumes nothing.
-use mathlib.Core.Path.{_≡_, refl, sym, _∙_, ap, subst}
-use mathlib.Core.Logic.{⊎-elim}
-use mathlib.Core.List.{List, [], _∷_}
-use Prim.Native.Nat.{ℕ, zero, suc, _+_, _-_, _≤_, _<_, max, min}
-use native.Mathlib.Omega.{arith}
-use native.Mathlib.Nat.{eq-zero-or-pos}
-use lib.ListN.{length, getD, replicate}
-use borrow.Author.Tests.{lt-ltb, le-ltb}
-use Rattle.words.specs.Limits.{mostNodes, mostReach, mostRows}
-use Rattle.words.specs.Outcome.{refusal}
-use Rattle.table.specs.declared.places.Place.{Place}
-use Rattle.table.specs.declared.places.Place.the-variants.{Nowhere, At}
-use Rattle.table.specs.declared.answer.Answer.the-variants.{Accepted, Refused}
-use Rattle.table.specs.Bytes.{u16}
-use Rattle.table.specs.Header.{count, root}
-use Rattle.table.specs.Nodes.{sortAt}
-use Rattle.table.specs.Order.{fits, misfit, firstPlace, ofFour, misfits}
-use Rattle.table.specs.Forest.{trees, forestOf}
-use Rattle.table.specs.Nesting.{deeper, tooDeep}
-use Rattle.table.specs.Reach.{forestReach, treeReach, tooFar, rowsNeeded, farAt}
-use Rattle.table.specs.Checked.{orRefused, from9}
-use Rattle.table.specs.Passes.{Ended, EndedFrom, Ordered, Roots, EndedAll, LinkedTree, LinkedAll, misfitFrom}
-use Rattle.table.proofs.Prefix.{fits-two, fits-soon, pass}
-use Rattle.table.specs.Laws.Accepted.{of-four}
-use Rattle.table.specs.Laws.Order.{first-sort, never-at}
-use Rattle.table.proofs.Linked.{linked, word-end}
+use Rattle.words.specs.Prelude.{_≡_, refl, sym, _∙_, ap, subst, ⊎-elim, List, [], _∷_, ℕ, zero, suc, _+_, _-_, _≤_, _<_, max, min, arith, eq-zero-or-pos, length}
+use Rattle.words.specs.Prelude.{getD, replicate, lt-ltb, le-ltb}
+use Rattle.words.specs.{Limits.mostNodes, Limits.mostReach, Limits.mostRows, Outcome.refusal}
+use Rattle.table.specs.{declared.places.Place.Place, declared.places.Place.the-variants.Nowhere, declared.places.Place.the-variants.At}
+use Rattle.table.specs.{declared.answer.Answer.the-variants.Accepted, declared.answer.Answer.the-variants.Refused, Bytes.u16, Header.count, Header.root}
+use Rattle.table.specs.{Nodes.sortAt, Order.fits, Order.misfit, Order.firstPlace, Order.ofFour, Order.misfits, Forest.trees, Forest.forestOf, Nesting.deeper}
+use Rattle.table.specs.{Nesting.tooDeep, Reach.forestReach, Reach.treeReach, Reach.tooFar, Reach.rowsNeeded, Reach.farAt, Checked.orRefused, Checked.from9}
+use Rattle.table.specs.{Passes.Ended, Passes.EndedFrom, Passes.Ordered, Passes.Roots, Passes.EndedAll, Passes.LinkedTree, Passes.LinkedAll, Passes.misfitFrom}
+use Rattle.table.specs.{Laws.Accepted.of-four, Laws.Order.first-sort, Laws.Order.never-at}
+use Rattle.table.proofs.{Prefix.fits-two, Prefix.fits-soon, Prefix.pass, Linked.linked, Linked.word-end}
 
 root-zero : (t : List ℕ) → 0 ≡ root t 0
 unfolding root

@@ -1,29 +1,12 @@
 -- Silent tests put into a list, node by node. Assumes nothing.
-use Prim.Native.Nat.{ℕ, suc, _+_, _-_, _≤_, _<_, min}
-use mathlib.Core.Path.{_≡_, refl, sym, ap, _∙_}
-use mathlib.Core.Bool.{Bool, true, false, cond, _&&_}
-use mathlib.Core.List.{List, [], _∷_, _++_}
-use native.Mathlib.Omega.{arith}
-use native.Mathlib.Numerals.{add-one}
-use lib.Dec.{leb}
-use borrow.Author.Tests.{lt-ltb, le-ltb}
-use lib.ListN.{length, set, drop, length-set, length-append}
-use Rattle.words.specs.Limits.{mostRows}
-use Rattle.words.specs.declared.refusal.Refusal.{Refusal}
-use Rattle.words.specs.Outcome.{refusal}
-use Rattle.table.specs.declared.answer.Answer.the-variants.{Accepted, Refused}
-use Rattle.table.specs.declared.silent.SilentAnswer.{SilentAnswer}
-use Rattle.table.specs.declared.silent.SilentAnswer.the-variants.{Lists, Refuses}
-use Rattle.table.specs.Header.{count, root}
-use Rattle.table.specs.Kinds.{isTestKind}
-use Rattle.table.specs.Nodes.{nodeAt}
-use Rattle.table.specs.Forest.{trees, firstTrees, forestOf}
-use Rattle.table.specs.Reach.{ownBack, weigh}
-use Rattle.table.specs.Checked.{checked}
-use Rattle.table.specs.Ends.{endsBeside}
-use Rattle.table.specs.Laws.Accepted.{ends-of, tree-whole}
-use Rattle.table.specs.Silent.{WholeTrees, silentAnswer, listAfter, silentNode, silentNodes, fourSilent, putAll}
-use Rattle.table.specs.Laws.Silent.{next-node, no-node}
+use Rattle.words.specs.Prelude.{ℕ, suc, _+_, _-_, _≤_, _<_, min, _≡_, refl, sym, ap, _∙_, Bool, true, false, cond, _&&_, List, [], _∷_, _++_, arith, add-one, leb}
+use Rattle.words.specs.Prelude.{lt-ltb, le-ltb, length, set, drop, length-set, length-append}
+use Rattle.words.specs.{Limits.mostRows, declared.refusal.Refusal.Refusal, Outcome.refusal}
+use Rattle.table.specs.{declared.answer.Answer.the-variants.Accepted, declared.answer.Answer.the-variants.Refused, declared.silent.SilentAnswer.SilentAnswer}
+use Rattle.table.specs.{declared.silent.SilentAnswer.the-variants.Lists, declared.silent.SilentAnswer.the-variants.Refuses, Header.count, Header.root}
+use Rattle.table.specs.{Kinds.isTestKind, Nodes.nodeAt, Forest.trees, Forest.firstTrees, Forest.forestOf, Reach.ownBack, Reach.weigh, Checked.checked}
+use Rattle.table.specs.{Ends.endsBeside, Laws.Accepted.ends-of, Laws.Accepted.tree-whole, Silent.WholeTrees, Silent.silentAnswer, Silent.listAfter}
+use Rattle.table.specs.{Silent.silentNode, Silent.silentNodes, Silent.fourSilent, Silent.putAll, Laws.Silent.next-node, Laws.Silent.no-node}
 
 -- ---- numbers put one after the other
 

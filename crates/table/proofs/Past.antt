@@ -1,11 +1,7 @@
 -- Past the end of the bytes every number is 0.
 -- Assumes nothing.
-use mathlib.Core.Path.{_≡_}
-use mathlib.Core.List.{List}
-use Prim.Native.Nat.{ℕ, _+_, _≤_}
-use native.Mathlib.Omega.{arith}
-use lib.ListN.{length, getD, List·getD-eq-default}
-use Rattle.table.specs.Bytes.{u16, u32, u64}
+use Rattle.words.specs.Prelude.{_≡_, List, ℕ, _+_, _≤_, arith, length, getD, List·getD-eq-default}
+use Rattle.table.specs.{Bytes.u16, Bytes.u32, Bytes.u64}
 
 module _ (t : List ℕ) where
   pub past8 : (at : ℕ) → length t ≤ at → getD t at 0 ≡ 0

@@ -1,21 +1,11 @@
 -- Rule 7, one step at a time: what `fits` says at a node, and at a node whose end is known.
 -- Assumes nothing.
-use mathlib.Core.Path.{_≡_, refl, sym, _∙_, ap, subst}
-use mathlib.Core.Bool.{true, false}
-use mathlib.Core.List.{List, [], _∷_, _++_}
-use Prim.Native.Nat.{ℕ, suc, _+_, _-_, _≤_, _<_}
-use native.Mathlib.Omega.{arith}
-use native.Mathlib.Nat.{le-trans, eq-or-lt-of-le}
-use mathlib.Core.Logic.{⊎-elim, _≢_}
-use lib.ListN.{length, getD, set, replicate}
-use lib.Seq.{getD-set-same, getD-set-other}
-use borrow.Author.Tests.{eq-eqb, ne-eqb, lt-ltb, le-ltb}
-use Rattle.words.specs.Limits.{mostNodes}
-use Rattle.table.specs.declared.places.Place.the-variants.{Nowhere, At}
-use Rattle.table.specs.Nodes.{sortAt, childCountAt, childSortAt, childFitsAt}
-use Rattle.table.specs.Order.{fits, misfit}
-use Rattle.table.specs.Passes.{after, Ended, EndedFrom, Ordered, misfitFrom}
-use Rattle.table.specs.Laws.Forest.{left-suc, left-zero}
+use Rattle.words.specs.Prelude.{_≡_, refl, sym, _∙_, ap, subst, true, false, List, [], _∷_, _++_, ℕ, suc, _+_, _-_, _≤_, _<_, arith, le-trans, eq-or-lt-of-le}
+use Rattle.words.specs.Prelude.{⊎-elim, _≢_, length, getD, set, replicate, getD-set-same, getD-set-other, eq-eqb, ne-eqb, lt-ltb, le-ltb}
+use Rattle.words.specs.{Limits.mostNodes}
+use Rattle.table.specs.{declared.places.Place.the-variants.Nowhere, declared.places.Place.the-variants.At, Nodes.sortAt, Nodes.childCountAt}
+use Rattle.table.specs.{Nodes.childSortAt, Nodes.childFitsAt, Order.fits, Order.misfit, Passes.after, Passes.Ended, Passes.EndedFrom, Passes.Ordered}
+use Rattle.table.specs.{Passes.misfitFrom, Laws.Forest.left-suc, Laws.Forest.left-zero}
 
 module _ (t : List ℕ) (e i : ℕ) where
   pub fits-node : i < e → (w : ℕ) (ws : List ℕ) → sortAt t i ≡ w → childFitsAt t i ≡ true

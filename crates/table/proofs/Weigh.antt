@@ -1,25 +1,13 @@
 -- The laws of rules 8 and 9: what a row of trees weighs, one tree at a time, and where it is too deep.
 -- Assumes nothing.
-use mathlib.Core.Path.{_≡_, refl, sym, _∙_, ap, subst}
-use mathlib.Core.Logic.{⊎-elim, _≢_}
-use mathlib.Core.List.{List}
-use Prim.Native.Nat.{ℕ, zero, suc, _+_, _-_, _≤_, _<_, max, min}
-use native.Mathlib.Omega.{arith}
-use native.Mathlib.Nat.{le-trans, eq-or-lt-of-le, eq-zero-or-pos}
-use lib.ListN.{length, getD, set}
-use lib.Seq.{getD-set-same, getD-set-other}
-use Rattle.words.specs.Limits.{mostRows}
-use Rattle.table.specs.declared.nodes.Node.{Node}
-use Rattle.table.specs.declared.places.Place.{Place}
-use Rattle.table.specs.declared.places.Place.the-variants.{Nowhere, At}
-use Rattle.table.specs.Nodes.{nodeAt, childCountAt}
-use Rattle.table.specs.Order.{orPlace}
-use Rattle.table.specs.Forest.{Forest, none, tree, firstTrees, otherTrees, nodeOver, trees}
-use Rattle.table.specs.Nesting.{deeper}
-use Rattle.table.specs.Reach.{weigh, ownBack, forestReach}
-use Rattle.table.specs.Ends.{Link, Linked}
-use Rattle.table.specs.Passes.{WordsFrom, Most, weight}
-use Rattle.table.specs.Laws.Forest.{left-suc, left-zero, first-none}
+use Rattle.words.specs.Prelude.{_≡_, refl, sym, _∙_, ap, subst, ⊎-elim, _≢_, List, ℕ, zero, suc, _+_, _-_, _≤_, _<_, max, min, arith, le-trans, eq-or-lt-of-le}
+use Rattle.words.specs.Prelude.{eq-zero-or-pos, length, getD, set, getD-set-same, getD-set-other}
+use Rattle.words.specs.{Limits.mostRows}
+use Rattle.table.specs.{declared.nodes.Node.Node, declared.places.Place.Place, declared.places.Place.the-variants.Nowhere}
+use Rattle.table.specs.{declared.places.Place.the-variants.At, Nodes.nodeAt, Nodes.childCountAt, Order.orPlace, Forest.Forest, Forest.none, Forest.tree}
+use Rattle.table.specs.{Forest.firstTrees, Forest.otherTrees, Forest.nodeOver, Forest.trees, Nesting.deeper, Reach.weigh, Reach.ownBack, Reach.forestReach}
+use Rattle.table.specs.{Ends.Link, Ends.Linked, Passes.WordsFrom, Passes.Most, Passes.weight, Laws.Forest.left-suc, Laws.Forest.left-zero}
+use Rattle.table.specs.{Laws.Forest.first-none}
 
 weigh-row : (w : Node → ℕ) (l : ℕ) (f : Forest) → weigh w (firstTrees (suc l) f) ≡ max (weigh w (firstTrees 1 f)) (weigh w (firstTrees l (otherTrees 1 f)))
 unfolding weigh firstTrees otherTrees

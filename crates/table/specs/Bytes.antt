@@ -1,7 +1,5 @@
 -- Numbers in a table's bytes. Definitions only.
-use mathlib.Core.List.{List}
-use Prim.Native.Nat.{ℕ, _+_, _*_, _<_}
-use lib.ListN.{getD}
+use Rattle.words.specs.Prelude.{List, ℕ, _+_, _*_, _<_, getD}
 
 -- "Little-endian." A byte past the end counts as 0, so that every place of every byte string has a number.
 unfoldable pub u16 : List ℕ → ℕ → ℕ

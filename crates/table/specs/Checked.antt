@@ -1,18 +1,10 @@
 -- The answer to a table, whatever its bytes are. Definitions only.
-use mathlib.Core.Bool.{cond}
-use mathlib.Core.List.{List}
-use Prim.Native.Nat.{ℕ}
-use lib.Dec.{eqb}
-use Rattle.words.specs.Outcome.{refusal}
-use Rattle.table.specs.declared.places.Place.{Place}
-use Rattle.table.specs.declared.places.Place.the-variants.{Nowhere, At}
-use Rattle.table.specs.declared.answer.Answer.{Answer}
-use Rattle.table.specs.declared.answer.Answer.the-variants.{Accepted, Refused}
-use Rattle.table.specs.Header.{newestVersion, total, headerRefusal}
-use Rattle.table.specs.Nodes.{wrongNode}
-use Rattle.table.specs.Order.{misfits}
-use Rattle.table.specs.Nesting.{tooDeep}
-use Rattle.table.specs.Reach.{tooFar, rowsNeeded}
+use Rattle.words.specs.Prelude.{cond, List, ℕ, eqb}
+use Rattle.words.specs.{Outcome.refusal}
+use Rattle.table.specs.{declared.places.Place.Place, declared.places.Place.the-variants.Nowhere, declared.places.Place.the-variants.At}
+use Rattle.table.specs.{declared.answer.Answer.Answer, declared.answer.Answer.the-variants.Accepted, declared.answer.Answer.the-variants.Refused}
+use Rattle.table.specs.{Header.newestVersion, Header.total, Header.headerRefusal, Nodes.wrongNode, Order.misfits, Nesting.tooDeep, Reach.tooFar}
+use Rattle.table.specs.{Reach.rowsNeeded}
 
 -- a rule that is broken at a place refuses the table; else the rules after it decide
 unfoldable pub orRefused : ℕ → Place → Answer → Answer

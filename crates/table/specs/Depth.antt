@@ -1,10 +1,7 @@
 -- How many rows a rule needs. Definitions only.
-use Prim.Native.Nat.{ℕ, _+_, _*_, max}
-use mathlib.Core.List.{List}
-use Rattle.words.specs.Limits.{rowWords}
-use Rattle.table.specs.Trees.{reachOf}
-use Rattle.table.specs.Reading.{treeOf}
-use Rattle.table.specs.Header.{slots}
+use Rattle.words.specs.Prelude.{ℕ, _+_, _*_, max, List}
+use Rattle.words.specs.{Limits.rowWords}
+use Rattle.table.specs.{Trees.reachOf, Reading.treeOf, Header.slots}
 
 -- "the greatest of the four reaches"
 unfoldable pub greatestReach : List ℕ → ℕ

@@ -1,20 +1,9 @@
 -- The array of subtree ends. Definitions only.
-use mathlib.Core.Path.{_≡_}
-use mathlib.Core.Bool.{cond}
-use mathlib.Core.List.{List, [], _∷_}
-use Prim.Native.Nat.{ℕ, zero, suc, _+_, _-_, _≤_, _<_}
-use lib.ListN.{getD, replicate}
-use lib.Dec.{ltb}
-use Rattle.words.specs.Limits.{mostNodes}
-use Rattle.table.specs.declared.places.Place.{Place}
-use Rattle.table.specs.declared.places.Place.the-variants.{Nowhere, At}
-use Rattle.table.specs.declared.answer.Answer.{Answer}
-use Rattle.table.specs.declared.answer.Answer.the-variants.{Accepted, Refused}
-use Rattle.table.specs.Header.{root}
-use Rattle.table.specs.Nodes.{sortAt}
-use Rattle.table.specs.Order.{fits}
-use Rattle.table.specs.Forest.{firstTrees, otherTrees, trees, size}
-use Rattle.table.specs.Checked.{checked}
+use Rattle.words.specs.Prelude.{_≡_, cond, List, [], _∷_, ℕ, zero, suc, _+_, _-_, _≤_, _<_, getD, replicate, ltb}
+use Rattle.words.specs.{Limits.mostNodes}
+use Rattle.table.specs.{declared.places.Place.Place, declared.places.Place.the-variants.Nowhere, declared.places.Place.the-variants.At}
+use Rattle.table.specs.{declared.answer.Answer.Answer, declared.answer.Answer.the-variants.Accepted, declared.answer.Answer.the-variants.Refused, Header.root}
+use Rattle.table.specs.{Nodes.sortAt, Order.fits, Forest.firstTrees, Forest.otherTrees, Forest.trees, Forest.size, Checked.checked}
 
 -- "While reading, the checker keeps the end of the subtree for each of the 256 nodes."
 -- The end of the subtree that begins at node i, with m nodes from there to its tree's end: the place where one tree of its

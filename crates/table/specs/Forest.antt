@@ -1,13 +1,7 @@
 -- Trees in a row, as the nodes of a table make them in prefix order, whatever their bytes are. Definitions only.
-use mathlib.Core.Path.{_≡_}
-use mathlib.Core.Bool.{true}
-use mathlib.Core.List.{List, [], _∷_, _++_}
-use Prim.Native.Nat.{ℕ, zero, suc, _+_}
-use lib.ListN.{replicate}
-use Rattle.table.specs.declared.nodes.Node.{Node}
-use Rattle.table.specs.Kinds.{kindOf}
-use Rattle.table.specs.Header.{count, root}
-use Rattle.table.specs.Nodes.{nodeAt, childCount, childCountAt, childFits}
+use Rattle.words.specs.Prelude.{_≡_, true, List, [], _∷_, _++_, ℕ, zero, suc, _+_, replicate}
+use Rattle.table.specs.{declared.nodes.Node.Node, Kinds.kindOf, Header.count, Header.root, Nodes.nodeAt, Nodes.childCount, Nodes.childCountAt}
+use Rattle.table.specs.{Nodes.childFits}
 
 -- no tree; or a node, the trees below it, and the trees after it
 pub data Forest : Type 0 where

@@ -1,14 +1,8 @@
 -- The header, and the rules 1 to 5. Definitions only.
-use mathlib.Core.Bool.{Bool, not, cond, _&&_}
-use mathlib.Core.List.{List}
-use Prim.Native.Nat.{ℕ, zero, suc, _+_, _*_}
-use lib.ListN.{length, getD}
-use lib.Dec.{ltb, leb, eqb}
-use Rattle.words.specs.Limits.{mostSlots, mostNodes}
-use Rattle.table.specs.Bytes.{u16}
-use Rattle.table.specs.declared.header.Form.{Form}
-use Rattle.table.specs.declared.trees.Tree.{Tree}
-use Rattle.table.specs.declared.trees.Tree.the-variants.{Entry, Exit, ShortEntry, ShortExit}
+use Rattle.words.specs.Prelude.{Bool, not, cond, _&&_, List, ℕ, zero, suc, _+_, _*_, length, getD, ltb, leb, eqb}
+use Rattle.words.specs.{Limits.mostSlots, Limits.mostNodes}
+use Rattle.table.specs.{Bytes.u16, declared.header.Form.Form, declared.trees.Tree.Tree, declared.trees.Tree.the-variants.Entry}
+use Rattle.table.specs.{declared.trees.Tree.the-variants.Exit, declared.trees.Tree.the-variants.ShortEntry, declared.trees.Tree.the-variants.ShortExit}
 
 -- "Header, 16 bytes: mark `RTB`; slot count K (one byte, 0 to 64); version, 16 bits, 1; total nodes (16 bits, 2 to 256); node
 -- counts of entry, exit, short entry, short exit (16 bits each; the first two at least 1, 0 means absent; they sum to the

@@ -1,16 +1,15 @@
 -- The table of kinds: what a node of each kind takes. `Named` has the kinds by name. Definitions only.
-use mathlib.Core.List.{List, [], _∷_}
-use Prim.Native.Nat.{ℕ}
-use mathlib.Core.Bool.{Bool, _&&_}
-use lib.Dec.{eqb}
-use lib.ListN.{getD}
-use Rattle.table.specs.declared.kinds.Kind.{Kind}
-use Rattle.table.specs.declared.kinds.OperandClass.{OperandClass}
-use Rattle.table.specs.declared.kinds.ConditionClass.{ConditionClass}
-use Rattle.table.specs.declared.kinds.Row.{Row}
-use Rattle.table.specs.declared.kinds.OperandClass.the-variants.{NoOperand, Const, Ref, Price, Prev, Arith, Extreme}
-use Rattle.table.specs.declared.kinds.ConditionClass.the-variants.{NoCondition, Compare, Cross, Between, Trend, All, Any, Not}
-use Rattle.table.specs.declared.kinds.ConditionClass.the-variants.{InPosition, BarsSince}
+use Rattle.words.specs.Prelude.{List, [], _∷_, ℕ, Bool, _&&_, eqb, getD}
+use Rattle.table.specs.{declared.kinds.Kind.Kind, declared.kinds.OperandClass.OperandClass, declared.kinds.ConditionClass.ConditionClass}
+use Rattle.table.specs.{declared.kinds.Row.Row, declared.kinds.OperandClass.the-variants.NoOperand, declared.kinds.OperandClass.the-variants.Const}
+use Rattle.table.specs.{declared.kinds.OperandClass.the-variants.Ref, declared.kinds.OperandClass.the-variants.Price}
+use Rattle.table.specs.{declared.kinds.OperandClass.the-variants.Prev, declared.kinds.OperandClass.the-variants.Arith}
+use Rattle.table.specs.{declared.kinds.OperandClass.the-variants.Extreme, declared.kinds.ConditionClass.the-variants.NoCondition}
+use Rattle.table.specs.{declared.kinds.ConditionClass.the-variants.Compare, declared.kinds.ConditionClass.the-variants.Cross}
+use Rattle.table.specs.{declared.kinds.ConditionClass.the-variants.Between, declared.kinds.ConditionClass.the-variants.Trend}
+use Rattle.table.specs.{declared.kinds.ConditionClass.the-variants.All, declared.kinds.ConditionClass.the-variants.Any}
+use Rattle.table.specs.{declared.kinds.ConditionClass.the-variants.Not, declared.kinds.ConditionClass.the-variants.InPosition}
+use Rattle.table.specs.{declared.kinds.ConditionClass.the-variants.BarsSince}
 
 -- ---- what a row says
 

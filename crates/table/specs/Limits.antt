@@ -1,19 +1,14 @@
 -- The limits that document 01 sets a rule's trees. Definitions only.
-use mathlib.Core.Path.{_≡_}
-use mathlib.Core.Bool.{true}
-use Prim.Native.Nat.{ℕ, _+_, _≤_, _<_, max}
-use Rattle.words.specs.Limits.{mostSlots, mostReach, mostNesting, mostNodes}
-use Rattle.floats.specs.Floats.{finite, floatOf}
-use Rattle.table.specs.declared.header.Form.{Form}
-use Rattle.table.specs.declared.series.Series.{Series}
-use Rattle.table.specs.declared.series.Series.the-variants.{Price, Slot}
+use Rattle.words.specs.Prelude.{_≡_, true, ℕ, _+_, _≤_, _<_, max}
+use Rattle.words.specs.{Limits.mostSlots, Limits.mostReach, Limits.mostNesting, Limits.mostNodes}
+use Rattle.floats.specs.{Floats.finite, Floats.floatOf}
+use Rattle.table.specs.{declared.header.Form.Form, declared.series.Series.Series, declared.series.Series.the-variants.Price}
+use Rattle.table.specs.{declared.series.Series.the-variants.Slot, Kinds.kindOf, Kinds.arithmetic, Kinds.extremum, Kinds.comparison, Kinds.crossing}
+use Rattle.table.specs.{Header.newestVersion, Nodes.kindRight, Trees.Operand, Trees.const, Trees.ref, Trees.price, Trees.prev, Trees.arith, Trees.extreme}
+use Rattle.table.specs.{Trees.Condition, Trees.Conditions, Trees.compare, Trees.cross, Trees.between, Trees.trend, Trees.every, Trees.any, Trees.negated}
+use Rattle.table.specs.{Trees.inPosition, Trees.barsSince, Trees.none, Trees.more, Trees.reachOf, Writing.Short, Writing.absent, Writing.given, Writing.Rule}
+use Rattle.table.specs.{Writing.nodesOfRule}
 use Rattle.table.specs.Kinds as Kinds
-use Rattle.table.specs.Kinds.{kindOf, arithmetic, extremum, comparison, crossing}
-use Rattle.table.specs.Header.{newestVersion}
-use Rattle.table.specs.Nodes.{kindRight}
-use Rattle.table.specs.Trees.{Operand, const, ref, price, prev, arith, extreme, Condition, Conditions, compare, cross, between, trend, every, any}
-use Rattle.table.specs.Trees.{negated, inPosition, barsSince, none, more, reachOf}
-use Rattle.table.specs.Writing.{Short, absent, given, Rule, nodesOfRule}
 
 -- "Ref (n = slot, below K)"; "Price (selector 0..6 ..)"
 unfoldable pub WithinSeries : Form → Series → Type 0

@@ -1,11 +1,8 @@
 -- Rule 8: nesting. Definitions only.
-use mathlib.Core.List.{List}
-use Prim.Native.Nat.{ℕ, zero, suc}
-use Rattle.words.specs.Limits.{mostNesting}
-use Rattle.table.specs.declared.places.Place.{Place}
-use Rattle.table.specs.declared.places.Place.the-variants.{Nowhere, At}
-use Rattle.table.specs.Order.{orPlace, ofFour}
-use Rattle.table.specs.Forest.{Forest, none, tree, forestOf}
+use Rattle.words.specs.Prelude.{List, ℕ, zero, suc}
+use Rattle.words.specs.{Limits.mostNesting}
+use Rattle.table.specs.{declared.places.Place.Place, declared.places.Place.the-variants.Nowhere, declared.places.Place.the-variants.At, Order.orPlace}
+use Rattle.table.specs.{Order.ofFour, Forest.Forest, Forest.none, Forest.tree, Forest.forestOf}
 
 -- the first node, and so the lowest, with more than l levels down to it, itself counted
 unfoldable pub deeper : ℕ → Forest → Place

@@ -1,19 +1,10 @@
 -- Nodes, and rule 6. Definitions only.
-use mathlib.Core.Bool.{Bool, true, not, cond, _&&_}
-use mathlib.Core.List.{List}
-use Prim.Native.Nat.{ℕ, zero, suc, _+_, _*_}
-use lib.ListN.{getD}
-use lib.Dec.{ltb, leb, eqb}
-use Rattle.words.specs.Limits.{mostReach}
-use Rattle.floats.specs.Floats.{finite, floatOf}
-use Rattle.table.specs.declared.kinds.Kind.{Kind}
-use Rattle.table.specs.declared.nodes.Node.{Node}
-use Rattle.table.specs.declared.header.Form.{Form}
-use Rattle.table.specs.declared.places.Place.{Place}
-use Rattle.table.specs.declared.places.Place.the-variants.{Nowhere, At}
-use Rattle.table.specs.Bytes.{u16, u32, u64}
-use Rattle.table.specs.Kinds.{kindOf, asWritten, aSeries, overASeries, secondVersion, sinceOf}
-use Rattle.table.specs.Header.{formOf}
+use Rattle.words.specs.Prelude.{Bool, true, not, cond, _&&_, List, ℕ, zero, suc, _+_, _*_, getD, ltb, leb, eqb}
+use Rattle.words.specs.{Limits.mostReach}
+use Rattle.floats.specs.{Floats.finite, Floats.floatOf}
+use Rattle.table.specs.{declared.kinds.Kind.Kind, declared.nodes.Node.Node, declared.header.Form.Form, declared.places.Place.Place}
+use Rattle.table.specs.{declared.places.Place.the-variants.Nowhere, declared.places.Place.the-variants.At, Bytes.u16, Bytes.u32, Bytes.u64, Kinds.kindOf}
+use Rattle.table.specs.{Kinds.asWritten, Kinds.aSeries, Kinds.overASeries, Kinds.secondVersion, Kinds.sinceOf, Header.formOf}
 
 -- "Then 16 bytes a node." "Node: kind (1), selector (1), children (2), n (4), constant bits (8)." The number of the node is
 -- kept beside its fields.

@@ -1,13 +1,7 @@
 -- Rule 7: "each tree in prefix order". Definitions only.
-use mathlib.Core.Bool.{cond}
-use mathlib.Core.List.{List, [], _∷_, _++_}
-use Prim.Native.Nat.{ℕ, zero, suc, _+_}
-use lib.ListN.{replicate}
-use lib.Dec.{eqb}
-use Rattle.table.specs.declared.places.Place.{Place}
-use Rattle.table.specs.declared.places.Place.the-variants.{Nowhere, At}
-use Rattle.table.specs.Header.{count, root}
-use Rattle.table.specs.Nodes.{sortAt, childCountAt, childSortAt, childFitsAt}
+use Rattle.words.specs.Prelude.{cond, List, [], _∷_, _++_, ℕ, zero, suc, _+_, replicate, eqb}
+use Rattle.table.specs.{declared.places.Place.Place, declared.places.Place.the-variants.Nowhere, declared.places.Place.the-variants.At, Header.count}
+use Rattle.table.specs.{Header.root, Nodes.sortAt, Nodes.childCountAt, Nodes.childSortAt, Nodes.childFitsAt}
 
 -- Do the m nodes from node i on fit the sorts that are wanted, one tree in prefix order for each? A node of the wanted sort
 -- stands there, and its children are wanted next. If not, the place:

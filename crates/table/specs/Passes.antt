@@ -1,21 +1,9 @@
 -- What the parts of the check promise each other while they work: statements about the arrays that the passes fill.
 -- Definitions only, and none of them is in a promise of `check`.
-use mathlib.Core.Path.{_≡_}
-use mathlib.Core.Bool.{cond}
-use mathlib.Core.List.{List, _∷_}
-use Prim.Native.Nat.{ℕ, _+_, _-_, _*_, _≤_, _<_, min}
-use lib.ListN.{length, getD}
-use lib.Dec.{ltb, eqb}
-use Rattle.words.specs.Limits.{mostRows, mostNodes}
-use Rattle.table.specs.declared.nodes.Node.{Node}
-use Rattle.table.specs.declared.places.Place.{Place}
-use Rattle.table.specs.declared.places.Place.the-variants.{At}
-use Rattle.table.specs.Header.{total, root}
-use Rattle.table.specs.Nodes.{sortAt, childCountAt}
-use Rattle.table.specs.Order.{fits}
-use Rattle.table.specs.Forest.{firstTrees, trees}
-use Rattle.table.specs.Reach.{weigh, ownBack}
-use Rattle.table.specs.Ends.{Linked}
+use Rattle.words.specs.Prelude.{_≡_, cond, List, _∷_, ℕ, _+_, _-_, _*_, _≤_, _<_, min, length, getD, ltb, eqb}
+use Rattle.words.specs.{Limits.mostRows, Limits.mostNodes}
+use Rattle.table.specs.{declared.nodes.Node.Node, declared.places.Place.Place, declared.places.Place.the-variants.At, Header.total, Header.root, Nodes.sortAt}
+use Rattle.table.specs.{Nodes.childCountAt, Order.fits, Forest.firstTrees, Forest.trees, Reach.weigh, Reach.ownBack, Ends.Linked}
 
 -- From here on a word is no end, but a place and as much more.
 abbrev pub misfitFrom : ℕ

@@ -1,17 +1,9 @@
 -- Rule 9: how far back a tree reads. Definitions only.
-use mathlib.Core.Bool.{cond}
-use mathlib.Core.List.{List}
-use Prim.Native.Nat.{ℕ, _+_, _-_, max}
-use lib.Dec.{ltb, eqb}
-use Rattle.words.specs.Limits.{mostReach}
-use Rattle.table.specs.declared.kinds.Kind.{Kind}
-use Rattle.table.specs.declared.nodes.Node.{Node}
-use Rattle.table.specs.declared.places.Place.{Place}
-use Rattle.table.specs.declared.places.Place.the-variants.{Nowhere, At}
-use Rattle.table.specs.Kinds.{kindOf}
-use Rattle.table.specs.Header.{root}
-use Rattle.table.specs.Order.{ofFour}
-use Rattle.table.specs.Forest.{Forest, none, tree, forestOf}
+use Rattle.words.specs.Prelude.{cond, List, ℕ, _+_, _-_, max, ltb, eqb}
+use Rattle.words.specs.{Limits.mostReach}
+use Rattle.table.specs.{declared.kinds.Kind.Kind, declared.nodes.Node.Node, declared.places.Place.Place, declared.places.Place.the-variants.Nowhere}
+use Rattle.table.specs.{declared.places.Place.the-variants.At, Kinds.kindOf, Header.root, Order.ofFour, Forest.Forest, Forest.none, Forest.tree}
+use Rattle.table.specs.{Forest.forestOf}
 
 -- "Reach: 0 for leaves, else the greatest child's (0 if none); Prev, Rising and Falling add n, a cross adds 1."
 -- "The reach is n − 1 plus the child's" (request 8). What a node adds stands in its kind's row.

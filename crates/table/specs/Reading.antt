@@ -1,22 +1,13 @@
 -- The trees of a table as trees: read off the forest of its nodes, each node over what is below it. Bytes that are no
 -- accepted table read as some tree too; RoundTrip says why the reading is right. Definitions only.
-use mathlib.Core.Bool.{Bool, not}
-use mathlib.Core.List.{List, [], _∷_}
-use Prim.Native.Nat.{ℕ, _-_}
-use lib.ListN.{getD}
-use lib.Dec.{eqb}
-use Rattle.table.specs.declared.nodes.Node.{Node}
-use Rattle.table.specs.declared.kinds.OperandClass.{OperandClass}
+use Rattle.words.specs.Prelude.{Bool, not, List, [], _∷_, ℕ, _-_, getD, eqb}
+use Rattle.table.specs.{declared.nodes.Node.Node, declared.kinds.OperandClass.OperandClass, declared.kinds.ConditionClass.ConditionClass, Kinds.kindOf}
+use Rattle.table.specs.{Header.count, Forest.Forest, Forest.firstTrees, Forest.trees, Forest.forestOf, Trees.Operand, Trees.const, Trees.ref, Trees.price}
+use Rattle.table.specs.{Trees.prev, Trees.arith, Trees.extreme, Trees.Condition, Trees.Conditions, Trees.compare, Trees.cross, Trees.between, Trees.trend}
+use Rattle.table.specs.{Trees.every, Trees.any, Trees.negated, Trees.inPosition, Trees.barsSince, Trees.none, Trees.more, Series.asSeries}
 use Rattle.table.specs.declared.kinds.OperandClass.the-variants as AsOperand
-use Rattle.table.specs.declared.kinds.ConditionClass.{ConditionClass}
 use Rattle.table.specs.declared.kinds.ConditionClass.the-variants as AsCondition
-use Rattle.table.specs.Kinds.{kindOf}
-use Rattle.table.specs.Header.{count}
-use Rattle.table.specs.Forest.{Forest, firstTrees, trees, forestOf}
 use Rattle.table.specs.Forest as Forest
-use Rattle.table.specs.Trees.{Operand, const, ref, price, prev, arith, extreme, Condition, Conditions, compare, cross, between, trend, every, any}
-use Rattle.table.specs.Trees.{negated, inPosition, barsSince, none, more}
-use Rattle.table.specs.Series.{asSeries}
 
 -- operand k of those in a row
 abbrev pub child : List Operand → ℕ → Operand

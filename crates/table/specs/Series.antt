@@ -1,14 +1,9 @@
 -- What Highest and Lowest look over: "one child that must be a Price or a Ref". Definitions only.
-use mathlib.Core.List.{List}
-use Prim.Native.Nat.{ℕ}
-use Rattle.table.specs.declared.nodes.Node.{Node}
-use Rattle.table.specs.declared.kinds.OperandClass.{OperandClass}
+use Rattle.words.specs.Prelude.{List, ℕ}
+use Rattle.table.specs.{declared.nodes.Node.Node, declared.kinds.OperandClass.OperandClass, declared.series.Series.Series}
+use Rattle.table.specs.{declared.series.Series.the-variants.Price, declared.series.Series.the-variants.Slot, Kinds.kindOf, Nodes.nodeAt, Trees.Operand}
+use Rattle.table.specs.{Trees.const, Trees.ref, Trees.price, Trees.prev, Trees.arith, Trees.extreme}
 use Rattle.table.specs.declared.kinds.OperandClass.the-variants as AsOperand
-use Rattle.table.specs.declared.series.Series.{Series}
-use Rattle.table.specs.declared.series.Series.the-variants.{Price, Slot}
-use Rattle.table.specs.Kinds.{kindOf}
-use Rattle.table.specs.Nodes.{nodeAt}
-use Rattle.table.specs.Trees.{Operand, const, ref, price, prev, arith, extreme}
 
 -- an operand as a series, and a series as the operand that it is; what is no Price and no Ref counts as the open
 unfoldable pub asSeries : Operand → Series

@@ -1,25 +1,13 @@
 -- The tests of a table that fall silent over so few rows. Definitions only.
-use Prim.Native.Nat.{ℕ, _+_, _<_, min}
-use mathlib.Core.Bool.{Bool, true, false, cond, _&&_}
-use mathlib.Core.List.{List, [], _∷_, _++_}
-use lib.Dec.{ltb, leb}
-use lib.ListN.{length, drop, set}
-use Rattle.words.specs.Limits.{mostRows}
-use Rattle.words.specs.Outcome.{refusal}
-use Rattle.table.specs.declared.nodes.Node.{Node}
-use Rattle.table.specs.declared.answer.Answer.{Answer}
-use Rattle.table.specs.declared.answer.Answer.the-variants.{Accepted, Refused}
-use Rattle.table.specs.declared.silent.SilentAnswer.{SilentAnswer}
-use Rattle.table.specs.declared.silent.SilentAnswer.the-variants.{Lists, Refuses}
-use Rattle.table.specs.Kinds.{isTestKind}
-use Rattle.table.specs.Header.{root}
-use Rattle.table.specs.Forest.{Forest, forestOf}
+use Rattle.words.specs.Prelude.{ℕ, _+_, _<_, min, Bool, true, false, cond, _&&_, List, [], _∷_, _++_, ltb, leb, length, drop, set}
+use Rattle.words.specs.{Limits.mostRows, Outcome.refusal}
+use Rattle.table.specs.{declared.nodes.Node.Node, declared.answer.Answer.Answer, declared.answer.Answer.the-variants.Accepted}
+use Rattle.table.specs.{declared.answer.Answer.the-variants.Refused, declared.silent.SilentAnswer.SilentAnswer}
+use Rattle.table.specs.{declared.silent.SilentAnswer.the-variants.Lists, declared.silent.SilentAnswer.the-variants.Refuses, Kinds.isTestKind, Header.root}
+use Rattle.table.specs.{Forest.Forest, Forest.forestOf, Reach.ownBack, Reach.weigh, Trees.Condition, Trees.Conditions, Trees.compare, Trees.cross}
+use Rattle.table.specs.{Trees.between, Trees.trend, Trees.every, Trees.any, Trees.negated, Trees.inPosition, Trees.barsSince, Trees.none, Trees.more}
+use Rattle.table.specs.{Trees.reachOf, Reading.treeOf, Writing.nodesOf, Laws.Accepted.WholeTree}
 use Rattle.table.specs.Forest as Forest
-use Rattle.table.specs.Reach.{ownBack, weigh}
-use Rattle.table.specs.Trees.{Condition, Conditions, compare, cross, between, trend, every, any, negated, inPosition, barsSince, none, more, reachOf}
-use Rattle.table.specs.Reading.{treeOf}
-use Rattle.table.specs.Writing.{nodesOf}
-use Rattle.table.specs.Laws.Accepted.{WholeTree}
 
 -- The tests: a comparison, a cross, Between, Rising and Falling. All else only joins their answers, or reads the position.
 unfoldable pub isTest : Condition → Bool

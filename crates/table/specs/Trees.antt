@@ -1,7 +1,6 @@
 -- The trees that a table holds, as trees, and how far back each one reads.
-use mathlib.Core.Bool.{Bool}
-use Prim.Native.Nat.{ℕ, _+_, _-_, max}
-use Rattle.table.specs.declared.series.Series.{Series}
+use Rattle.words.specs.Prelude.{Bool, ℕ, _+_, _-_, max}
+use Rattle.table.specs.{declared.series.Series.Series}
 
 -- "Kinds: 1 Const (constant, finite); 2 Ref (n = slot, below K); 3 Price (selector 0..6: open, high, low, close, volume,
 -- hlc3, ohlc4); 4 Prev (n; one operand); 5..8 Add, Sub, Mul, Div (two operands)": the constant's bits, the slot, the

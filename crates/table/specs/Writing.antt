@@ -1,15 +1,10 @@
 -- Writing trees as a table: the other way round from reading. Definitions only.
-use mathlib.Core.Bool.{cond}
-use mathlib.Core.List.{List, [], _∷_, _++_}
-use Prim.Native.Nat.{ℕ, suc, _+_, _/_, _%_}
-use Rattle.table.specs.declared.nodes.Node.{Node}
-use Rattle.table.specs.declared.header.Form.{Form}
-use Rattle.table.specs.declared.series.Series.{Series}
-use Rattle.table.specs.declared.series.Series.the-variants.{Price, Slot}
+use Rattle.words.specs.Prelude.{cond, List, [], _∷_, _++_, ℕ, suc, _+_, _/_, _%_}
+use Rattle.table.specs.{declared.nodes.Node.Node, declared.header.Form.Form, declared.series.Series.Series, declared.series.Series.the-variants.Price}
+use Rattle.table.specs.{declared.series.Series.the-variants.Slot, Trees.Operand, Trees.const, Trees.ref, Trees.price, Trees.prev, Trees.arith, Trees.extreme}
+use Rattle.table.specs.{Trees.Condition, Trees.Conditions, Trees.compare, Trees.cross, Trees.between, Trees.trend, Trees.every, Trees.any, Trees.negated}
+use Rattle.table.specs.{Trees.inPosition, Trees.barsSince, Trees.none, Trees.more, Reading.treeOf, Reading.present}
 use Rattle.table.specs.Named as Named
-use Rattle.table.specs.Trees.{Operand, const, ref, price, prev, arith, extreme, Condition, Conditions, compare, cross, between, trend, every, any}
-use Rattle.table.specs.Trees.{negated, inPosition, barsSince, none, more}
-use Rattle.table.specs.Reading.{treeOf, present}
 
 -- "Little-endian."
 unfoldable pub le16 : ℕ → List ℕ

@@ -1,9 +1,5 @@
 -- A room filled from a line, and a part of a room. Definitions only.
-use Prim.Native.Nat.{ℕ, _+_, _-_, _*_, _/_, _%_, _^_}
-use mathlib.Core.Bool.{cond}
-use mathlib.Core.List.{List, [], _∷_}
-use lib.Dec.{ltb}
-use lib.ListN.{length, take, drop, getD}
+use Rattle.words.specs.Prelude.{ℕ, _+_, _-_, _*_, _/_, _%_, _^_, cond, List, [], _∷_, ltb, length, take, drop, getD}
 
 -- those from one place up to another; none where there are not as many
 unfoldable pub partOf : List ℕ → ℕ → ℕ → List ℕ

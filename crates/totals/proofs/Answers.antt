@@ -1,25 +1,13 @@
 -- What each line of the two orders of refusals needs to be the answer. Assumes nothing.
-use mathlib.Core.Path.{_≡_, refl, sym, ap, subst, _∙_}
-use mathlib.Core.Bool.{Bool, true, false, cond, false≢true}
-use mathlib.Core.List.{List, [], _∷_, _++_}
-use Prim.Native.Nat.{ℕ, _+_, _*_, _/_, _%_, _<_, _≤_}
-use native.Mathlib.Omega.{arith}
-use borrow.Author.Tests.{le-leb, lt-leb, eq-eqb, ne-eqb, leb-true, leb-false}
-use lib.Dec.{leb}
-use lib.ListN.{length}
-use Rattle.words.specs.Words.{word, overwrite}
-use Rattle.words.specs.Limits.{tradeWords, mostCount}
-use Rattle.words.specs.declared.refusal.Refusal.{Refusal}
-use Rattle.words.specs.Outcome.{refusal}
-use Rattle.floats.specs.Floats.{wordOf}
-use Rattle.totals.specs.declared.Answer.{Answer}
-use Rattle.totals.specs.declared.Answer.the-variants.{Done, Refused}
-use Rattle.totals.specs.Exact.{nearestTo, numberIn}
-use Rattle.totals.specs.Trades.{Trade, tradesFrom, tradesOf, goodStart, judgedCount, pnlSum}
-use Rattle.totals.specs.Totals.{totalWords, totalsRoom, countSize, AllAtMost, allSmall, countsOf, sumWords, recordOf}
-use Rattle.totals.specs.Totals.{withCounts, bothCounts, sumWith, traded, countsFine, addAnswer, addLeaves, joinAnswer, joinLeaves}
-use Rattle.totals.specs.Laws.Trades.{length-trades, all-good}
-use Rattle.totals.specs.Laws.Counts.{small-all}
+use Rattle.words.specs.Prelude.{_≡_, refl, sym, ap, subst, _∙_, Bool, true, false, cond, false≢true, List, [], _∷_, _++_, ℕ, _+_, _*_, _/_, _%_, _<_, _≤_, arith}
+use Rattle.words.specs.Prelude.{le-leb, lt-leb, eq-eqb, ne-eqb, leb-true, leb-false, leb, length}
+use Rattle.words.specs.{Words.word, Words.overwrite, Limits.tradeWords, Limits.mostCount, declared.refusal.Refusal.Refusal, Outcome.refusal}
+use Rattle.floats.specs.{Floats.wordOf}
+use Rattle.totals.specs.{declared.Answer.Answer, declared.Answer.the-variants.Done, declared.Answer.the-variants.Refused, Exact.nearestTo, Exact.numberIn}
+use Rattle.totals.specs.{Trades.Trade, Trades.tradesFrom, Trades.tradesOf, Trades.goodStart, Trades.judgedCount, Trades.pnlSum, Totals.totalWords}
+use Rattle.totals.specs.{Totals.totalsRoom, Totals.countSize, Totals.AllAtMost, Totals.allSmall, Totals.countsOf, Totals.sumWords, Totals.recordOf}
+use Rattle.totals.specs.{Totals.withCounts, Totals.bothCounts, Totals.sumWith, Totals.traded, Totals.countsFine, Totals.addAnswer, Totals.addLeaves}
+use Rattle.totals.specs.{Totals.joinAnswer, Totals.joinLeaves, Laws.Trades.length-trades, Laws.Trades.all-good, Laws.Counts.small-all}
 
 -- as many are judged as there are, where totals can hold them
 few : (n : ℕ) → n ≤ mostCount → judgedCount n ≡ n

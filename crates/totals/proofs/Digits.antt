@@ -1,14 +1,9 @@
 -- The digits of a float, moved to their place, lie in two words at the most. Assumes nothing.
-use mathlib.Core.Path.{_≡_, refl, sym, ap, _∙_}
-use mathlib.Core.List.{List, [], _∷_}
-use Prim.Native.Nat.{ℕ, zero, suc, _+_, _-_, _*_, _/_, _%_, _^_, _<_}
-use native.Mathlib.Nat.{mul-assoc, mul-left-comm, mul-div-mul-right, div-div-eq-div-mul, mod-lt, zero-mul}
-use native.Mathlib.Omega.{arith}
-use lib.ListN.{getD, take}
-use lib.Pow.{pow-add, pow-pos}
-use Rattle.floats.specs.Root.{unitsOf}
-use Rattle.totals.specs.Number.{place, numberOf}
-use Rattle.totals.specs.Laws.Places.{place-pow}
+use Rattle.words.specs.Prelude.{_≡_, refl, sym, ap, _∙_, List, [], _∷_, ℕ, zero, suc, _+_, _-_, _*_, _/_, _%_, _^_, _<_, mul-assoc, mul-left-comm}
+use Rattle.words.specs.Prelude.{div-div-eq-div-mul, mod-lt, zero-mul, arith, getD, take, pow-add, pow-pos}
+use Rattle.floats.specs.{Root.unitsOf}
+use Rattle.totals.specs.{Number.place, Number.numberOf, Laws.Places.place-pow}
+use native.Mathlib.Nat.{mul-div-mul-right}
 
 -- m moved up by s places: its lower word, and what goes over into the next
 pub two-words : (m s : ℕ) → s < 64 → (m * 2 ^ s) % 2 ^ 64 + 2 ^ 64 * (m / 2 / 2 ^ (63 - s)) ≡ m * 2 ^ s

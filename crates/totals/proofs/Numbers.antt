@@ -1,14 +1,9 @@
 -- A number whose words are set one after another: what was moved and what is still to be moved. Assumes nothing.
-use mathlib.Core.Path.{_≡_, refl, sym, ap, subst, _∙_}
-use mathlib.Core.Bool.{Bool, true, false}
-use mathlib.Core.List.{List, [], _∷_}
-use Prim.Native.Nat.{ℕ, zero, suc, _+_, _-_, _*_, _/_, _%_, _^_, _≤_, _<_}
-use native.Mathlib.Nat.{add-mul, mul-assoc, mul-comm, mul-left-comm, mod-lt, mod-eq-of-lt, le-of-suc-le-suc, not-suc-le-zero}
-use native.Mathlib.Nat.{add-mul-mod-self-right, div-add-mod', one-mul, add-zero}
-use native.Mathlib.Omega.{arith}
-use lib.ListN.{length, getD, set}
-use Rattle.totals.specs.Number.{place, numberOf, wordsOf, AreWords, Moves, shifted}
-use Rattle.totals.specs.Laws.Places.{place-add, number-below, words-of-number}
+use Rattle.words.specs.Prelude.{_≡_, refl, sym, ap, subst, _∙_, Bool, true, false, List, [], _∷_, ℕ, zero, suc, _+_, _-_, _*_, _/_, _%_, _^_, _≤_, _<_, add-mul}
+use Rattle.words.specs.Prelude.{mul-assoc, mul-comm, mul-left-comm, mod-lt, mod-eq-of-lt, le-of-suc-le-suc, not-suc-le-zero, add-mul-mod-self-right, div-add-mod'}
+use Rattle.words.specs.Prelude.{one-mul, add-zero, arith, length, getD, set}
+use Rattle.totals.specs.{Number.place, Number.numberOf, Number.wordsOf, Number.AreWords, Number.Moves, Number.shifted, Laws.Places.place-add}
+use Rattle.totals.specs.{Laws.Places.number-below, Laws.Places.words-of-number}
 
 -- a word set anew
 pub number-set : (ws : List ℕ) (i v : ℕ) → i < length ws → numberOf (set ws i v) + getD ws i 0 * place i ≡ numberOf ws + v * place i

@@ -1,30 +1,14 @@
 -- Digits read out of words. Assumes nothing.
-use mathlib.Core.Path.{_≡_, refl, sym, ap, subst, _∙_}
-use mathlib.Core.Bool.{Bool, true, false, not}
-use mathlib.Core.Logic.{_⊎_, inl, inr}
-use mathlib.Core.List.{List, [], _∷_}
-use Prim.Native.Nat.{ℕ, zero, suc, _+_, _-_, _*_, _/_, _%_, _^_, _≤_, _<_, min, compare, Ordering, Ordering·lt, Ordering·eq, Ordering·gt}
-use native.Mathlib.Nat.{mul-assoc, mul-comm, mul-left-comm, add-mul, mod-lt, mod-eq-of-lt}
-use native.Mathlib.Nat.{zero-mul, add-mul-div-right, div-div-eq-div-mul, lt-of-lt-of-le, le-of-eq, le-trans}
-use native.Mathlib.Nat.{mul-le-mul-right, le-of-lt, lt-irrefl, le-mul-of-pos-right, lt-of-le-of-lt, add-mul-mod-self-right, pow-succ'}
-use native.Mathlib.Nat.{one-mul, mul-pos, div-add-mod', eq-zero-or-pos, zero-add, mul-div-cancel, mul-mod-left, le-div-iff-mul-le}
-use native.Mathlib.Omega.{arith}
-use native.Mathlib.Numerals.{add-one, one-add}
-use lib.ListN.{length, getD, take, drop}
-use lib.Pow.{pow-add, pow-pos, pow-mono, mod-pow-add, shl-lt}
-use lib.Arith.{digits-div, digits-mod, lt-of-le-ne, mod-mul}
-use lib.Dec.{T, isLe, isEq, eqb, leb→le, nleb→lt, eqb→eq, eqb-refl}
-use lib.Count.{leadingZeros, leading-top}
-use lib.Seq.{take-length}
-use borrow.Author.Tests.{eq-eqb, ne-eqb}
-use lib.Ieee.{nearest, size, binary64, round, toBits}
-use lib.Ieee.Digits.{size-lt, size-le, size-reaches}
-use lib.Ieee.Fits.{nearest-le, kept-lt}
-use lib.Ieee.Nearest.{closest, closest-same, nearest-ge}
-use Rattle.totals.specs.Number.{place, numberOf, AreWords, Top}
-use Rattle.totals.specs.Laws.Places.{place-some, number-below, place-pow}
-use Rattle.totals.proofs.Digits.{number-take}
-use Rattle.totals.proofs.Patterns.{size-is, round-units, pattern-units, Kept}
+use Rattle.words.specs.Prelude.{_≡_, refl, sym, ap, subst, _∙_, Bool, true, false, not, _⊎_, inl, inr, List, [], _∷_, ℕ, zero, suc, _+_, _-_, _*_, _/_, _%_, _^_}
+use Rattle.words.specs.Prelude.{_≤_, _<_, min, compare, Ordering, Ordering·lt, Ordering·eq, Ordering·gt, mul-assoc, mul-comm, mul-left-comm, add-mul, mod-lt}
+use Rattle.words.specs.Prelude.{mod-eq-of-lt, zero-mul, add-mul-div-right, div-div-eq-div-mul, lt-of-lt-of-le, le-of-eq, le-trans, mul-le-mul-right, le-of-lt}
+use Rattle.words.specs.Prelude.{lt-irrefl, le-mul-of-pos-right, lt-of-le-of-lt, add-mul-mod-self-right, pow-succ', one-mul, mul-pos, div-add-mod', eq-zero-or-pos}
+use Rattle.words.specs.Prelude.{zero-add, mul-div-cancel, mul-mod-left, le-div-iff-mul-le, arith, add-one, one-add, length, getD, take, drop, pow-add, pow-pos}
+use Rattle.words.specs.Prelude.{pow-mono, mod-pow-add, shl-lt, digits-div, digits-mod, lt-of-le-ne, mod-mul, T, isLe, isEq, eqb, leb→le, nleb→lt, eqb→eq, eqb-refl}
+use Rattle.words.specs.Prelude.{leadingZeros, leading-top, take-length, eq-eqb, ne-eqb, nearest, size, binary64, round, toBits, size-lt, size-le, size-reaches}
+use Rattle.words.specs.Prelude.{nearest-le, kept-lt, closest, closest-same, nearest-ge}
+use Rattle.totals.specs.{Number.place, Number.numberOf, Number.AreWords, Number.Top, Laws.Places.place-some, Laws.Places.number-below, Laws.Places.place-pow}
+use Rattle.totals.proofs.{Digits.number-take, Patterns.size-is, Patterns.round-units, Patterns.pattern-units, Patterns.Kept}
 
 -- the words below word i, and those from it on
 pub number-split : (ws : List ℕ) (i : ℕ) → numberOf ws ≡ numberOf (drop i ws) * place i + numberOf (take i ws)

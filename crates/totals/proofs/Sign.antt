@@ -1,20 +1,12 @@
 -- The sign of a number in two's complement, and its size. Assumes nothing.
-use mathlib.Core.Path.{_≡_, refl, sym, ap, subst, _∙_}
-use mathlib.Core.Bool.{Bool, true, false, cond}
-use mathlib.Core.List.{List, []}
-use Prim.Native.Nat.{ℕ, zero, suc, _+_, _-_, _*_, _/_, _%_, _^_, _≤_, _<_, min}
-use native.Mathlib.Nat.{mod-eq-of-lt, mul-le-mul-right, add-mul, le-of-eq, zero-add, min-le-right, le-trans, mul-assoc}
-use native.Mathlib.Omega.{arith}
-use borrow.Author.Tests.{lt-ltb, le-ltb}
-use lib.ListN.{length, getD, take, drop, drop-of-length-le}
-use lib.IntN.{pos, negsuc}
-use lib.Ieee.{binary64, round, toBits}
-use Rattle.totals.specs.Number.{place, numberOf, wordsOf, shifted, AreWords}
-use Rattle.totals.specs.Exact.{signed, nearestTo}
-use Rattle.totals.proofs.Patterns.{round-units, pattern-units}
-use Rattle.totals.proofs.Reading.{number-split, take-below, drop-word}
-use Rattle.totals.proofs.Rounding.{kept-most, kept-fits, pattern-sign}
-use Rattle.totals.specs.Laws.Places.{place-some}
+use Rattle.words.specs.Prelude.{_≡_, refl, sym, ap, subst, _∙_, Bool, true, false, cond, List, [], ℕ, zero, suc, _+_, _-_, _*_, _/_, _%_, _^_, _≤_, _<_, min}
+use Rattle.words.specs.Prelude.{mod-eq-of-lt, mul-le-mul-right, add-mul, le-of-eq, zero-add, le-trans, mul-assoc, arith, lt-ltb, le-ltb, length, getD, take, drop}
+use Rattle.words.specs.Prelude.{drop-of-length-le, pos, negsuc, binary64, round, toBits}
+use Rattle.totals.specs.{Number.place, Number.numberOf, Number.wordsOf, Number.shifted, Number.AreWords, Exact.signed, Exact.nearestTo}
+use Rattle.totals.specs.{Laws.Places.place-some}
+use Rattle.totals.proofs.{Patterns.round-units, Patterns.pattern-units, Reading.number-split, Reading.take-below, Reading.drop-word, Rounding.kept-most}
+use Rattle.totals.proofs.{Rounding.kept-fits, Rounding.pattern-sign}
+use native.Mathlib.Nat.{min-le-right}
 
 module _ (ws : List ℕ) (words : AreWords ws) (n : ℕ) (size : length ws ≡ suc n) where
   -- the last word, and those below it

@@ -1,6 +1,5 @@
 -- What is known after `if !b`. Assumes nothing.
-use mathlib.Core.Path.{_≡_, refl}
-use mathlib.Core.Bool.{Bool, true, false, not, true≢false, false≢true}
+use Rattle.words.specs.Prelude.{_≡_, refl, Bool, true, false, not, true≢false, false≢true}
 
 pub not-so : (b : Bool) → not b ≡ true → b ≡ false
 not-so true h = absurd (false≢true h)

@@ -1,12 +1,7 @@
 -- The words of a record, written part by part. Assumes nothing.
-use mathlib.Core.Path.{_≡_, refl, sym, ap, _∙_}
-use mathlib.Core.List.{List, [], _∷_, _++_, append-nil}
-use Prim.Native.Nat.{ℕ, _+_, _≤_}
-use native.Mathlib.Omega.{arith}
-use lib.ListN.{length, take, drop, set, replicate, length-append}
-use lib.Seq.{take-at, drop-append-add, set-at}
-use Rattle.words.specs.Words.{overwrite}
-use Rattle.words.specs.Laws.Overwrite.{overwrite-fits}
+use Rattle.words.specs.Prelude.{_≡_, refl, sym, ap, _∙_, List, [], _∷_, _++_, append-nil, ℕ, _+_, _≤_, arith, length, take, drop, set, replicate, length-append}
+use Rattle.words.specs.Prelude.{take-at, drop-append-add, set-at}
+use Rattle.words.specs.{Words.overwrite, Laws.Overwrite.overwrite-fits}
 
 -- counts, sum and float over 43 zeros
 pub filled : (c s : List ℕ) (f : ℕ) → length c ≡ 8 → length s ≡ 34

@@ -1,13 +1,8 @@
 -- Floats as whole multiples of 2 ^ -1074, and whole numbers in two's complement. Definitions only.
-use mathlib.Core.Bool.{Bool, true, false, cond}
-use mathlib.Core.List.{List}
-use Prim.Native.Nat.{ℕ, suc, _+_, _-_, _%_, _^_}
-use lib.IntN.{ℤ, pos, negsuc, negℤ}
-use lib.Dec.{leb, ltb}
+use Rattle.words.specs.Prelude.{Bool, true, false, cond, List, ℕ, suc, _+_, _-_, _%_, _^_, ℤ, pos, negsuc, negℤ, leb, ltb, Float, binary64}
+use Rattle.floats.specs.{Root.unitsOf}
+use Rattle.totals.specs.{Number.numberOf, Number.wordsOf, Number.place}
 use lib.Ieee as Ieee
-use lib.Ieee.{Float, binary64}
-use Rattle.floats.specs.Root.{unitsOf}
-use Rattle.totals.specs.Number.{numberOf, wordsOf, place}
 
 -- x, or -x where `down`
 abbrev pub step : Bool → ℕ → ℤ

@@ -1,14 +1,8 @@
 -- Worked examples: the float at its edges, and three trades whose float sum depends on the order. Assumes nothing.
-use mathlib.Core.Path.{_≡_, refl}
-use mathlib.Core.List.{List, [], _∷_}
-use Prim.Native.Nat.{ℕ, _+_, _-_, _*_, _^_}
-use lib.IntN.{ℤ, pos, negℤ}
+use Rattle.words.specs.Prelude.{_≡_, refl, List, [], _∷_, ℕ, _+_, _-_, _*_, _^_, ℤ, pos, negℤ, round, toBits, ofBits}
+use Rattle.floats.specs.{Floats.wordOf, Floats.floatOf, Floats._⊕_, Root.unitsOf}
+use Rattle.totals.specs.{Exact.nearestTo, Exact.unitsIn, Trades.Trade, Trades.trade, Trades.pnlSum}
 use lib.Ieee as Ieee
-use lib.Ieee.{round, toBits, ofBits}
-use Rattle.floats.specs.Floats.{wordOf, floatOf, _⊕_}
-use Rattle.floats.specs.Root.{unitsOf}
-use Rattle.totals.specs.Exact.{nearestTo, unitsIn}
-use Rattle.totals.specs.Trades.{Trade, trade, pnlSum}
 
 -- the word of the float nearest to a sum
 abbrev shown : ℤ → ℕ

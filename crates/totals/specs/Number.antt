@@ -1,9 +1,5 @@
 -- Words, lowest first, as one whole number. Definitions only.
-use mathlib.Core.Path.{_≡_}
-use mathlib.Core.Bool.{Bool, true, false}
-use mathlib.Core.List.{List, [], _∷_}
-use Prim.Native.Nat.{ℕ, zero, suc, _+_, _-_, _*_, _/_, _%_, _^_, _≤_, _<_}
-use lib.ListN.{getD, take}
+use Rattle.words.specs.Prelude.{_≡_, Bool, true, false, List, [], _∷_, ℕ, zero, suc, _+_, _-_, _*_, _/_, _%_, _^_, _≤_, _<_, getD, take}
 
 -- the weight of word i
 unfoldable pub place : ℕ → ℕ

@@ -1,18 +1,10 @@
 -- The record of totals, and the two calls that keep it. Definitions only.
-use mathlib.Core.Bool.{Bool, true, false, cond}
-use mathlib.Core.List.{List, [], _∷_, _++_}
-use Prim.Native.Nat.{ℕ, _+_, _*_, _/_, _%_, _≤_, _<_}
-use lib.Dec.{leb, eqb}
-use lib.ListN.{length, getD, take, drop}
-use lib.IntN.{ℤ, _+ℤ_}
-use Rattle.words.specs.Words.{word, overwrite}
-use Rattle.words.specs.Limits.{tradeWords, mostCount}
-use Rattle.words.specs.Outcome.{refusal}
-use Rattle.floats.specs.Floats.{wordOf}
-use Rattle.totals.specs.declared.Answer.{Answer}
-use Rattle.totals.specs.declared.Answer.the-variants.{Done, Refused}
-use Rattle.totals.specs.Exact.{numberIn, wordsFor, nearestTo, sumSize}
-use Rattle.totals.specs.Trades.{Trade, tradesFrom, tradesOf, goodStart, judgedCount, countOf, endedBy, won, lost, pnlSum}
+use Rattle.words.specs.Prelude.{Bool, true, false, cond, List, [], _∷_, _++_, ℕ, _+_, _*_, _/_, _%_, _≤_, _<_, leb, eqb, length, getD, take, drop, ℤ, _+ℤ_}
+use Rattle.words.specs.{Words.word, Words.overwrite, Limits.tradeWords, Limits.mostCount, Outcome.refusal}
+use Rattle.floats.specs.{Floats.wordOf}
+use Rattle.totals.specs.{declared.Answer.Answer, declared.Answer.the-variants.Done, declared.Answer.the-variants.Refused, Exact.numberIn, Exact.wordsFor}
+use Rattle.totals.specs.{Exact.nearestTo, Exact.sumSize, Trades.Trade, Trades.tradesFrom, Trades.tradesOf, Trades.goodStart, Trades.judgedCount}
+use Rattle.totals.specs.{Trades.countOf, Trades.endedBy, Trades.won, Trades.lost, Trades.pnlSum}
 
 -- ---- the record: eight counts, the sum, the float
 

@@ -1,15 +1,9 @@
 -- Trades as totals read them. Definitions only.
-use mathlib.Core.Bool.{Bool, true, false, cond, _&&_}
-use mathlib.Core.List.{List, [], _∷_}
-use Prim.Native.Nat.{ℕ, zero, suc, _+_, _*_, _/_}
-use lib.Dec.{leb, eqb}
-use lib.ListN.{length}
-use lib.IntN.{ℤ, pos, _+ℤ_}
-use Rattle.words.specs.Words.{word}
-use Rattle.words.specs.Limits.{tradeWords, mostCount}
+use Rattle.words.specs.Prelude.{Bool, true, false, cond, _&&_, List, [], _∷_, ℕ, zero, suc, _+_, _*_, _/_, leb, eqb, length, ℤ, pos, _+ℤ_}
+use Rattle.words.specs.{Words.word, Limits.tradeWords, Limits.mostCount}
+use Rattle.floats.specs.{Floats.floatOf, Floats.finite, Floats._≺_}
+use Rattle.totals.specs.{Exact.unitsIn}
 use Rattle.floats.specs.Floats as Floats
-use Rattle.floats.specs.Floats.{floatOf, finite, _≺_}
-use Rattle.totals.specs.Exact.{unitsIn}
 
 pub record Trade : Type 0 where
   pub pnl : ℕ

@@ -1,14 +1,9 @@
 -- Every way to make totals: lists added one after another, totals joined. Definitions only.
-use mathlib.Core.Path.{_≡_}
-use mathlib.Core.List.{List, [], _∷_, _++_}
-use Prim.Native.Nat.{ℕ, _%_}
-use lib.ListN.{length, replicate}
-use Rattle.words.specs.Limits.{tradeWords}
-use Rattle.floats.specs.Floats.{wordOf}
-use Rattle.totals.specs.declared.Answer.the-variants.{Done}
-use Rattle.totals.specs.Exact.{wordsFor, nearestTo}
-use Rattle.totals.specs.Trades.{Trade, tradesOf, pnlSum}
-use Rattle.totals.specs.Totals.{totalWords, withCounts, addAnswer, addLeaves, joinAnswer, joinLeaves}
+use Rattle.words.specs.Prelude.{_≡_, List, [], _∷_, _++_, ℕ, _%_, length, replicate}
+use Rattle.words.specs.{Limits.tradeWords}
+use Rattle.floats.specs.{Floats.wordOf}
+use Rattle.totals.specs.{declared.Answer.the-variants.Done, Exact.wordsFor, Exact.nearestTo, Trades.Trade, Trades.tradesOf, Trades.pnlSum, Totals.totalWords}
+use Rattle.totals.specs.{Totals.withCounts, Totals.addAnswer, Totals.addLeaves, Totals.joinAnswer, Totals.joinLeaves}
 
 pub data Way : Type 0 where
   -- 43 zeros

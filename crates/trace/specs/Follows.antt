@@ -1,16 +1,10 @@
 -- The visits of a run, said place by place: from place 0 on, each visit does what its own step does with the values so far, and the next is at the place
 -- just past it and what it passes over; there is none where that is past the list. The trace alone is so.
-use Prim.Native.Nat.{ℕ, zero, suc, _+_, _≤_, _<_}
-use mathlib.Core.Path.{_≡_, refl, sym, ap, subst, _∙_}
-use mathlib.Core.List.{List, [], _∷_}
-use native.Mathlib.Omega.{arith}
-use lib.ListN.{length, getD, drop}
-use Rattle.rows.specs.History.{History}
-use Rattle.rules.specs.declared.position.PositionState.{PositionState}
-use Rattle.steps.specs.declared.step.Op.{Op}
-use Rattle.steps.specs.declared.step.Op.the-variants.{Unknown}
-use Rattle.steps.specs.Machine.{Values, start, Effect, does, after}
-use Rattle.trace.specs.Trace.{Visit, trace, traceOf}
+use Rattle.words.specs.Prelude.{ℕ, zero, suc, _+_, _≤_, _<_, _≡_, refl, sym, ap, subst, _∙_, List, [], _∷_, arith, length, getD, drop}
+use Rattle.rows.specs.{History.History}
+use Rattle.rules.specs.{declared.position.PositionState.PositionState}
+use Rattle.steps.specs.{declared.step.Op.Op, declared.step.Op.the-variants.Unknown, Machine.Values, Machine.start, Machine.Effect, Machine.does, Machine.after}
+use Rattle.trace.specs.{Trace.Visit, Trace.trace, Trace.traceOf}
 
 module _ (h : History) (s : PositionState) (xs : List Op) where
   -- what the step at place p does with these values

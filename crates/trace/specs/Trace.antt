@@ -1,12 +1,10 @@
 -- "The definition of a run gives the places visited, in rising order, and a run reports how many steps it visited": one recursion gives the visits of a
 -- run, and its answer, its places and its count are read off them.
-use Prim.Native.Nat.{ℕ, zero, suc, _+_}
-use mathlib.Core.Path.{_≡_, refl, ap}
-use mathlib.Core.List.{List, [], _∷_}
-use Rattle.rows.specs.History.{History}
-use Rattle.rules.specs.declared.position.PositionState.{PositionState}
-use Rattle.steps.specs.declared.step.Op.{Op}
-use Rattle.steps.specs.Machine.{Values, start, Effect, does, after, run, places, visitCount, answers, visited, visitsOf}
+use Rattle.words.specs.Prelude.{ℕ, zero, suc, _+_, _≡_, refl, ap, List, [], _∷_}
+use Rattle.rows.specs.{History.History}
+use Rattle.rules.specs.{declared.position.PositionState.PositionState}
+use Rattle.steps.specs.{declared.step.Op.Op, Machine.Values, Machine.start, Machine.Effect, Machine.does, Machine.after, Machine.run, Machine.places}
+use Rattle.steps.specs.{Machine.visitCount, Machine.answers, Machine.visited, Machine.visitsOf}
 
 -- "each use of that rule is one visit": the place of a step, and what it does there.
 pub record Visit : Type 0 where

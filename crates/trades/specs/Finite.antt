@@ -1,26 +1,13 @@
 -- Every bar that a run took has finite prices: 11 sees to it.
-use Prim.Native.Nat.{ℕ}
-use mathlib.Core.Path.{_≡_, refl}
-use mathlib.Core.Bool.{Bool, true, false, _&&_}
-use mathlib.Core.List.{List, [], _∷_, _++_}
-use native.Mathlib.Numerals.{add-one}
-use lib.ListN.{take}
-use Rattle.floats.specs.Floats.{finite}
-use Rattle.portfolio.specs.declared.Candle.{Candle}
-use Rattle.records.specs.declared.settings.Settings.{Settings}
-use Rattle.records.specs.declared.state.State.{State}
-use Rattle.records.specs.Bar.{candleOf}
-use Rattle.records.specs.Lent.{Lists, Rooms}
-use Rattle.refusals.specs.declared.verdict.Verdict.{Verdict}
-use Rattle.refusals.specs.declared.verdict.Verdict.the-variants.{Fine, Bad}
-use Rattle.refusals.specs.Bar.{candleFine, barLines}
-use Rattle.refusals.specs.Judgement.{runLines, stepLines}
-use Rattle.refusals.specs.Laws.Lines.{and-true, first-holds, both-fine}
-use Rattle.refusals.specs.Rooms.{placeLines}
-use Rattle.engine.specs.Laws.Runs.{run-none, run-stops, run-takes}
-use Rattle.engine.specs.Run.{Run, runOver}
-use Rattle.engine.specs.Step.{stepped, sizeLines, stepVerdict}
-use Rattle.runs.specs.During.{against, AllFinite}
+use Rattle.words.specs.Prelude.{ℕ, _≡_, refl, Bool, true, false, _&&_, List, [], _∷_, _++_, add-one, take}
+use Rattle.floats.specs.{Floats.finite}
+use Rattle.portfolio.specs.{declared.Candle.Candle}
+use Rattle.records.specs.{declared.settings.Settings.Settings, declared.state.State.State, Bar.candleOf, Lent.Lists, Lent.Rooms}
+use Rattle.refusals.specs.{declared.verdict.Verdict.Verdict, declared.verdict.Verdict.the-variants.Fine, declared.verdict.Verdict.the-variants.Bad, Bar.candleFine}
+use Rattle.refusals.specs.{Bar.barLines, Judgement.runLines, Judgement.stepLines, Laws.Lines.and-true, Laws.Lines.first-holds, Laws.Lines.both-fine}
+use Rattle.refusals.specs.{Rooms.placeLines}
+use Rattle.engine.specs.{Laws.Runs.run-none, Laws.Runs.run-stops, Laws.Runs.run-takes, Run.Run, Run.runOver, Step.stepped, Step.sizeLines, Step.stepVerdict}
+use Rattle.runs.specs.{During.against, During.AllFinite}
 
 -- "a price, volume .. not finite" is said of none of these bars
 unfoldable pub AllFine : List (List ℕ) → Type 0

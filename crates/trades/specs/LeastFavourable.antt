@@ -1,30 +1,17 @@
 -- Request 6: the least favourable price of each trade of a run is as bad as its fill and as every bar's from the entry bar on, and is one of them.
 -- A fill need not be finite (docs/DECISIONS.md), so nothing is asked of it.
-use Prim.Native.Nat.{ℕ}
-use mathlib.Core.Path.{_≡_, refl, sym, _∙_}
-use mathlib.Core.Logic.{_⊎_, inl, inr}
-use mathlib.Core.Bool.{Bool, true, false, false≢true}
-use mathlib.Core.List.{List, [], _∷_, _++_}
+use Rattle.words.specs.Prelude.{ℕ, _≡_, refl, sym, _∙_, _⊎_, inl, inr, Bool, true, false, false≢true, List, [], _∷_, _++_, Float, nan, inf, fin, take}
+use Rattle.floats.specs.{Floats._≺_, Floats.finite, Floats.zero, Laws.Order.numbers, Laws.Order.itself, Laws.Order.in-turn, Laws.Order.min-is, Laws.Order.max-is}
+use Rattle.floats.specs.{Laws.Order.min-first, Laws.Order.min-second, Laws.Order.max-first, Laws.Order.max-second}
+use Rattle.rules.specs.{declared.position.Entered.Entered as EntryBar}
+use Rattle.portfolio.specs.{declared.Trade.Trade, Portfolio.worse}
+use Rattle.records.specs.{declared.settings.Settings.Settings, Bar.candleOf, Lent.Lists, Lent.Rooms, State.freshState}
+use Rattle.refusals.specs.{declared.verdict.Verdict.the-variants.Fine}
+use Rattle.engine.specs.{Books.tradesOf, Finish.lastExit, Run.Run, Run.runOver, Step.fillOf, Step.stepVerdict}
+use Rattle.runs.specs.{During.against, During.worstOver, During.asBad, During.AsBadAsEach, During.OneOfThem, During.AllFinite, Recorded.Recorded}
+use Rattle.runs.specs.{Recorded.RecordedAtEnd, Recorded.Each, Recorded.recorded, Recorded.recorded-end}
+use Rattle.trades.specs.{Finite.AllFine, Finite.taken-fine, Finite.run-fine, Finite.fine-after, Finite.fine-both, Finite.fine-finite}
 use lib.Ieee as Ieee
-use lib.Ieee.{Float, nan, inf, fin}
-use lib.ListN.{take}
-use Rattle.floats.specs.Floats.{_≺_, finite, zero}
-use Rattle.floats.specs.Laws.Order.{numbers, itself, in-turn, min-is, max-is, min-first, min-second, max-first, max-second}
-use Rattle.rules.specs.declared.position.Entered.{Entered as EntryBar}
-use Rattle.portfolio.specs.declared.Trade.{Trade}
-use Rattle.portfolio.specs.Portfolio.{worse}
-use Rattle.records.specs.declared.settings.Settings.{Settings}
-use Rattle.records.specs.Bar.{candleOf}
-use Rattle.records.specs.Lent.{Lists, Rooms}
-use Rattle.records.specs.State.{freshState}
-use Rattle.refusals.specs.declared.verdict.Verdict.the-variants.{Fine}
-use Rattle.engine.specs.Books.{tradesOf}
-use Rattle.engine.specs.Finish.{lastExit}
-use Rattle.engine.specs.Run.{Run, runOver}
-use Rattle.engine.specs.Step.{fillOf, stepVerdict}
-use Rattle.runs.specs.During.{against, worstOver, asBad, AsBadAsEach, OneOfThem, AllFinite}
-use Rattle.runs.specs.Recorded.{Recorded, RecordedAtEnd, Each, recorded, recorded-end}
-use Rattle.trades.specs.Finite.{AllFine, taken-fine, run-fine, fine-after, fine-both, fine-finite}
 
 -- w is the least favourable of a fill and of these bars
 pub record LeastOf (long : Bool) (price : Float) (over : List (List ℕ)) (w : Float) : Type 0 where

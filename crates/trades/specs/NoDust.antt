@@ -1,58 +1,31 @@
 -- No dust (request 7): a box that a run leaves is in a position, with an entry bar, or holds nothing: its quantity is 0 and it has no entry bar.
-use Prim.Native.Nat.{ℕ}
-use mathlib.Core.Path.{_≡_, refl, sym, ap, _∙_}
-use mathlib.Core.Bool.{Bool, true, false, cond}
-use mathlib.Core.List.{List}
-use lib.Dec.{T}
+use Rattle.words.specs.Prelude.{ℕ, _≡_, refl, sym, ap, _∙_, Bool, true, false, cond, List, T, Float, binary64, fits, cond-fits, mul-fits}
+use Rattle.floats.specs.{Floats._⊗_, Floats._⊘_, Floats._≺_, Floats._≼_, Floats.min, Floats.eps, Floats.zero, Floats.one, Floor.floor, Floor.twoTo53}
+use Rattle.rows.specs.{History.History}
+use Rattle.rules.specs.{declared.position.Entered.the-variants.Never, declared.position.Entered.the-variants.Bar}
+use Rattle.portfolio.specs.{declared.Candle.Candle, declared.Closed.Closed, declared.Portfolio.Portfolio, Portfolio.fresh, Portfolio.inPosition, Portfolio.funded}
+use Rattle.portfolio.specs.{Portfolio.worsened, Portfolio.entered, Portfolio.exited}
+use Rattle.execution.specs.{declared.fills.Entry.Entry, declared.fills.Exit.Exit, declared.fills.Exit.the-variants.NoExit, declared.fills.Exit.the-variants.Exited}
+use Rattle.execution.specs.{declared.costs.Funding.Funding, declared.costs.Funding.the-variants.NotSupplied, declared.costs.Funding.the-variants.Supplied}
+use Rattle.execution.specs.{declared.optional.Optional.Optional, declared.lots.Quantity.Quantity, declared.level.Side.Side, declared.level.OrderKind.OrderKind}
+use Rattle.execution.specs.{declared.terms.Risk.Risk, declared.terms.Terms.Terms, declared.intrabar.Trigger.Trigger}
+use Rattle.execution.specs.{declared.intrabar.Trigger.the-variants.Untouched, declared.intrabar.Trigger.the-variants.At, Costs.slippageRate, Costs.fillPrice}
+use Rattle.execution.specs.{Costs.closed, Costs.withFunding, Costs.chargeFunding, Size.size, Size.ordered, Lots.wholeLots, Lots.inLots, Lots.sizeInLots}
+use Rattle.execution.specs.{Lots.isTooLarge, Lots.orZero, Fills.direction, Fills.volatilityFor, Fills.quantity, Fills.probeQty, Fills.withinVolume, Fills.booked}
+use Rattle.execution.specs.{Fills.executeEntry, Fills.executeExit, Intrabar.closedBy, Intrabar.applyIntrabarExits}
+use Rattle.records.specs.{declared.settings.Settings.Settings, declared.state.Order.Order, declared.state.Position.Position, declared.state.State.State}
+use Rattle.records.specs.{Bar.candleOf, Bar.fundingOf, Lent.Lists, Lent.Rooms, State.freshState}
+use Rattle.refusals.specs.{Rooms.toClose}
+use Rattle.engine.specs.{declared.account.Due.Due, declared.account.Due.the-variants.Waits, declared.account.Due.the-variants.Enters}
+use Rattle.engine.specs.{declared.account.Due.the-variants.Leaves, Account.leaving, Account.facing, Account.entering, Account.dueOf, Account.doneOf, Account.filled}
+use Rattle.engine.specs.{Account.intrabar, Account.charged, Finish.lastExit, Finish.endState, Laws.Runs.run-keeps, Run.runOver, Step.stepped}
+use Rattle.trades.specs.{Times.directed}
 use lib.Ieee as Ieee
-use lib.Ieee.{Float, binary64, fits}
-use lib.Ieee.Fits.{cond-fits, mul-fits, div-fits}
-use Rattle.floats.specs.Floats.{_⊗_, _⊘_, _≺_, _≼_, min, eps, zero, one}
-use Rattle.floats.specs.Floor.{floor, twoTo53}
-use Rattle.rows.specs.History.{History}
-use Rattle.rules.specs.declared.position.Entered.the-variants.{Never, Bar}
-use Rattle.portfolio.specs.declared.Candle.{Candle}
-use Rattle.portfolio.specs.declared.Closed.{Closed}
-use Rattle.portfolio.specs.declared.Portfolio.{Portfolio}
-use Rattle.portfolio.specs.Portfolio.{fresh, inPosition, funded, worsened, entered, exited}
-use Rattle.execution.specs.declared.fills.Entry.{Entry}
+use lib.Ieee.Fits.{div-fits}
 use Rattle.execution.specs.declared.fills.Entry.the-variants as Entry
-use Rattle.execution.specs.declared.fills.Exit.{Exit}
-use Rattle.execution.specs.declared.fills.Exit.the-variants.{NoExit, Exited}
-use Rattle.execution.specs.declared.costs.Funding.{Funding}
-use Rattle.execution.specs.declared.costs.Funding.the-variants.{NotSupplied, Supplied}
-use Rattle.execution.specs.declared.optional.Optional.{Optional}
 use Rattle.execution.specs.declared.optional.Optional.the-variants as Optional
-use Rattle.execution.specs.declared.lots.Quantity.{Quantity}
 use Rattle.execution.specs.declared.lots.Quantity.the-variants as Quantity
-use Rattle.execution.specs.declared.level.Side.{Side}
-use Rattle.execution.specs.declared.level.OrderKind.{OrderKind}
-use Rattle.execution.specs.declared.terms.Risk.{Risk}
-use Rattle.execution.specs.declared.terms.Terms.{Terms}
-use Rattle.execution.specs.declared.intrabar.Trigger.{Trigger}
-use Rattle.execution.specs.declared.intrabar.Trigger.the-variants.{Untouched, At}
-use Rattle.execution.specs.Costs.{slippageRate, fillPrice, closed, withFunding, chargeFunding}
-use Rattle.execution.specs.Size.{size, ordered}
-use Rattle.execution.specs.Lots.{wholeLots, inLots, sizeInLots, isTooLarge, orZero}
-use Rattle.execution.specs.Fills.{direction, volatilityFor, quantity, probeQty, withinVolume, booked, executeEntry, executeExit}
-use Rattle.execution.specs.Intrabar.{closedBy, applyIntrabarExits}
-use Rattle.records.specs.declared.settings.Settings.{Settings}
-use Rattle.records.specs.declared.state.Order.{Order}
-use Rattle.records.specs.declared.state.Position.{Position}
-use Rattle.records.specs.declared.state.State.{State}
-use Rattle.records.specs.Bar.{candleOf, fundingOf}
-use Rattle.records.specs.Lent.{Lists, Rooms}
-use Rattle.records.specs.State.{freshState}
-use Rattle.refusals.specs.Rooms.{toClose}
-use Rattle.engine.specs.declared.account.Due.{Due}
-use Rattle.engine.specs.declared.account.Due.the-variants.{Waits, Enters, Leaves}
 use Rattle.engine.specs.Account as Account
-use Rattle.engine.specs.Account.{leaving, facing, entering, dueOf, doneOf, filled, intrabar, charged}
-use Rattle.engine.specs.Finish.{lastExit, endState}
-use Rattle.engine.specs.Laws.Runs.{run-keeps}
-use Rattle.engine.specs.Run.{runOver}
-use Rattle.engine.specs.Step.{stepped}
-use Rattle.trades.specs.Times.{directed}
 
 -- In a position, entered at a bar; or nothing is held, and no bar was entered at.
 pub data OpenOrEmpty (p : Position) : Type 0 where

@@ -1,22 +1,13 @@
 -- One times a float, and minus one times it, is as large as the float: nothing is rounded.
-use Prim.Native.Nat.{ℕ, zero, suc, _+_, _-_, _*_, _%_, _^_, _≤_, _<_}
-use native.Mathlib.Nat.{mul-assoc, mul-right-comm, mul-one, one-mul, mul-lt-mul-of-pos-right, lt-of-mul-lt-mul-right}
-use native.Mathlib.Nat.{zero-mul, mul-comm, le-of-eq, le-of-suc-le-suc, lt-of-not-le, lt-irrefl, lt-of-lt-of-le}
-use native.Mathlib.Omega.{arith}
-use mathlib.Core.Path.{_≡_, refl, sym, ap, _∙_, subst}
-use mathlib.Core.Bool.{Bool, true, false, true≢false, _&&_}
-use lib.Dec.{T, eqb, ltb, leb, ltb→lt, leb→le}
-use lib.Pow.{pow-add, pow-pos, pow-lt, pow-mono, shl-lt}
-use lib.IntN.{ℤ, pos, negsuc}
+use Rattle.words.specs.Prelude.{ℕ, zero, suc, _+_, _-_, _*_, _%_, _^_, _≤_, _<_, mul-assoc, mul-right-comm, mul-one, one-mul, mul-lt-mul-of-pos-right}
+use Rattle.words.specs.Prelude.{lt-of-mul-lt-mul-right, zero-mul, mul-comm, le-of-eq, le-of-suc-le-suc, lt-of-not-le, lt-irrefl, lt-of-lt-of-le, arith, _≡_, refl}
+use Rattle.words.specs.Prelude.{sym, ap, _∙_, subst, Bool, true, false, true≢false, _&&_, T, eqb, ltb, leb, ltb→lt, leb→le, pow-add, pow-pos, pow-lt, pow-mono}
+use Rattle.words.specs.Prelude.{shl-lt, ℤ, pos, negsuc, Float, nan, inf, fin, binary64, fits, round, up, down, HasValue, round-exact, and-l, and-r, down-pos}
+use Rattle.words.specs.Prelude.{ltb-true, lt-ltb}
+use Rattle.floats.specs.{Floats._⊗_, Floats._≺_, Floats.abs, Floats.eps, Floats.one}
+use Rattle.execution.specs.{declared.level.Side.Side, declared.level.Side.the-variants.Long, declared.level.Side.the-variants.Short, Fills.direction}
 use lib.Ieee as Ieee
-use lib.Ieee.{Float, nan, inf, fin, binary64, fits, round, up, down, unlike}
-use lib.Ieee.Exact.{HasValue, round-exact}
-use lib.Ieee.Fits.{and-l, and-r, down-pos}
-use borrow.Author.Tests.{ltb-true, lt-ltb}
-use Rattle.floats.specs.Floats.{_⊗_, _≺_, abs, eps, one}
-use Rattle.execution.specs.declared.level.Side.{Side}
-use Rattle.execution.specs.declared.level.Side.the-variants.{Long, Short}
-use Rattle.execution.specs.Fills.{direction}
+use lib.Ieee.{unlike}
 
 -- ---- a finite float is rounded to itself
 

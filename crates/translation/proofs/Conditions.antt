@@ -1,18 +1,13 @@
 -- The steps of a condition, and how far its operands reach.
-use Prim.Native.Nat.{ℕ, zero, suc, _+_, _-_, _≤_}
-use mathlib.Core.Path.{_≡_, refl}
-use mathlib.Core.Bool.{Bool, true, false, not}
-use mathlib.Core.List.{List, [], _∷_, _++_, append-assoc}
-use native.Mathlib.Omega.{arith}
-use native.Mathlib.Numerals.{sub-one}
-use lib.ListN.{length}
-use Rattle.table.specs.Trees.{Operand, Condition, Conditions, compare, cross, between, trend, any, negated, inPosition, barsSince, none, more, reach, reachOf}
-use Rattle.table.specs.Trees.{reachOfAll}
-use Rattle.rules.specs.declared.shapes.ConditionShape.{ConditionShape}
-use Rattle.rules.specs.Shapes.{endIn, conditionShape}
-use Rattle.rules.specs.Flat.{operandAt, growConditions, group, growCondition, conditionAt}
-use Rattle.steps.specs.declared.step.Op.the-variants.{Compare, Cross, Between, Answer, Turn, InPosition, BarsSinceEntry, JumpIf}
-use Rattle.steps.specs.Translation.{code, codeOf, codeEach, trendTest}
+use Rattle.words.specs.Prelude.{ℕ, zero, suc, _+_, _-_, _≤_, _≡_, refl, Bool, true, false, not, List, [], _∷_, _++_, append-assoc, arith, sub-one, length}
+use Rattle.table.specs.{Trees.Operand, Trees.Condition, Trees.Conditions, Trees.compare, Trees.cross, Trees.between, Trees.trend, Trees.any, Trees.negated}
+use Rattle.table.specs.{Trees.inPosition, Trees.barsSince, Trees.none, Trees.more, Trees.reach, Trees.reachOf, Trees.reachOfAll}
+use Rattle.rules.specs.{declared.shapes.ConditionShape.ConditionShape, Shapes.endIn, Shapes.conditionShape, Flat.operandAt, Flat.growConditions, Flat.group}
+use Rattle.rules.specs.{Flat.growCondition, Flat.conditionAt}
+use Rattle.steps.specs.{declared.step.Op.the-variants.Compare, declared.step.Op.the-variants.Cross, declared.step.Op.the-variants.Between}
+use Rattle.steps.specs.{declared.step.Op.the-variants.Answer, declared.step.Op.the-variants.Turn, declared.step.Op.the-variants.InPosition}
+use Rattle.steps.specs.{declared.step.Op.the-variants.BarsSinceEntry, declared.step.Op.the-variants.JumpIf, Translation.code, Translation.codeOf}
+use Rattle.steps.specs.{Translation.codeEach, Translation.trendTest}
 
 -- ---- the condition at a node
 

@@ -1,36 +1,14 @@
 -- A tree of an accepted table has room for its steps, and its look-backs are small.
-use Prim.Native.Nat.{ℕ, _+_, _*_, _≤_, _<_}
-use mathlib.Core.Path.{_≡_, sym, _∙_}
-use mathlib.Core.List.{List, [], _++_}
-use native.Mathlib.Omega.{arith}
-use mathlib.Core.Bool.{true, false}
-use lib.ListN.{length, drop}
-use lib.Dec.{ltb}
-use borrow.Author.Tests.{eq-eqb, ne-eqb, lt-ltb, le-ltb}
-use Rattle.words.specs.declared.refusal.Refusal.{Refusal}
-use Rattle.words.specs.Outcome.{refusal}
-use Rattle.table.specs.declared.answer.Answer.the-variants.{Accepted, Refused}
-use Rattle.table.specs.Trees.{reachOf}
-use Rattle.table.specs.Header.{count, root}
-use Rattle.table.specs.Checked.{checked}
-use Rattle.table.specs.Ends.{endsBeside}
-use Rattle.table.specs.Reading.{treeOf, present}
-use Rattle.table.specs.Laws.Accepted.{tree-reach}
-use Rattle.roundtrip.specs.Laws.Reach.{tree-reach-is}
-use Rattle.roundtrip.specs.Laws.AcceptedWritten.{tree-nodes}
-use Rattle.rules.specs.Flat.{conditionAt}
-use Rattle.rules.specs.Laws.FlatReading.{tree-joined}
-use Rattle.table.specs.declared.trees.Tree.{Tree}
-use Rattle.table.specs.Header.{treeNumber}
-use Rattle.rules.specs.Laws.Answers.{tree-of-four}
-use Rattle.steps.specs.declared.translated.Translated.the-variants.{Writes, Refuses}
-use Rattle.steps.specs.declared.step.Op.{Op}
-use Rattle.steps.specs.Bytes.{written, bytesOf, Fits, Wrote}
-use Rattle.steps.specs.Translation.{codeOf}
-use Rattle.steps.specs.Translating.{stepsOf, roomFor, writesOr, afterTable, translates, roomAfter, roomLeft}
-use Rattle.steps.specs.Room.{two-a-node}
-use Rattle.steps.specs.Laws.Encoding.{steps-long}
-use Rattle.translation.proofs.Writes.{bytes-there}
+use Rattle.words.specs.Prelude.{ℕ, _+_, _*_, _≤_, _<_, _≡_, sym, _∙_, List, [], _++_, arith, true, false, length, drop, ltb, eq-eqb, ne-eqb, lt-ltb, le-ltb}
+use Rattle.words.specs.{declared.refusal.Refusal.Refusal, Outcome.refusal}
+use Rattle.table.specs.{declared.answer.Answer.the-variants.Accepted, declared.answer.Answer.the-variants.Refused, Trees.reachOf, Header.count, Header.root}
+use Rattle.table.specs.{Checked.checked, Ends.endsBeside, Reading.treeOf, Reading.present, Laws.Accepted.tree-reach, declared.trees.Tree.Tree, Header.treeNumber}
+use Rattle.roundtrip.specs.{Laws.Reach.tree-reach-is, Laws.AcceptedWritten.tree-nodes}
+use Rattle.rules.specs.{Flat.conditionAt, Laws.FlatReading.tree-joined, Laws.Answers.tree-of-four}
+use Rattle.steps.specs.{declared.translated.Translated.the-variants.Writes, declared.translated.Translated.the-variants.Refuses, declared.step.Op.Op, Bytes.written}
+use Rattle.steps.specs.{Bytes.bytesOf, Bytes.Fits, Bytes.Wrote, Translation.codeOf, Translating.stepsOf, Translating.roomFor, Translating.writesOr}
+use Rattle.steps.specs.{Translating.afterTable, Translating.translates, Translating.roomAfter, Translating.roomLeft, Room.two-a-node, Laws.Encoding.steps-long}
+use Rattle.translation.proofs.{Writes.bytes-there}
 
 -- ---- what is written at the front of a room
 

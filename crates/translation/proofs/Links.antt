@@ -1,24 +1,15 @@
 -- The conditions of All or Any are written one after the other, with a link in place of each jump: the place of the link before. From the
 -- last to the first a jump takes each link's place.
-use Prim.Native.Nat.{ℕ, _+_, _-_, _*_, _/_, _<_, _≤_}
-use mathlib.Core.Path.{_≡_, refl, ap, _∙_}
-use mathlib.Core.Bool.{Bool}
-use mathlib.Core.List.{List, [], _∷_, _++_, append-assoc}
-use native.Mathlib.Omega.{arith}
-use lib.ListN.{length, take, drop, length-take}
-use borrow.Author.Tests.{lt-ltb}
-use Rattle.table.specs.Bytes.{u64}
-use Rattle.table.specs.Trees.{Condition, reachOf, reachOfAll}
-use Rattle.rules.specs.Shapes.{endIn}
-use Rattle.rules.specs.Flat.{growConditions}
-use Rattle.steps.specs.declared.step.Op.{Op}
-use Rattle.steps.specs.declared.step.Step.{Step}
-use Rattle.steps.specs.declared.step.Op.the-variants.{Const, JumpIf}
-use Rattle.steps.specs.Bytes.{write, stepOf, stepBytes, bytesOf, stepAt, readStep, Fits, Wrote}
-use Rattle.steps.specs.Translation.{codeOf, codeEach}
-use Rattle.steps.specs.Laws.Encoding.{Sayable, step-there, steps-long}
-use Rattle.translation.proofs.Writes.{length-write, length-wrote, bytes-there, fits-first, fits-rest, wrote-none, wrote-one, wrote-then, wrote-over}
-use Rattle.translation.proofs.Conditions.{no-more, one-more, code-no-more, code-more, more-reach}
+use Rattle.words.specs.Prelude.{ℕ, _+_, _-_, _*_, _/_, _<_, _≤_, _≡_, refl, ap, _∙_, Bool, List, [], _∷_, _++_, append-assoc, arith, length, take, drop}
+use Rattle.words.specs.Prelude.{length-take, lt-ltb}
+use Rattle.table.specs.{Bytes.u64, Trees.Condition, Trees.reachOf, Trees.reachOfAll}
+use Rattle.rules.specs.{Shapes.endIn, Flat.growConditions}
+use Rattle.steps.specs.{declared.step.Op.Op, declared.step.Step.Step, declared.step.Op.the-variants.Const, declared.step.Op.the-variants.JumpIf, Bytes.write}
+use Rattle.steps.specs.{Bytes.stepOf, Bytes.stepBytes, Bytes.bytesOf, Bytes.stepAt, Bytes.readStep, Bytes.Fits, Bytes.Wrote, Translation.codeOf}
+use Rattle.steps.specs.{Translation.codeEach, Laws.Encoding.Sayable, Laws.Encoding.step-there, Laws.Encoding.steps-long}
+use Rattle.translation.proofs.{Writes.length-write, Writes.length-wrote, Writes.bytes-there, Writes.fits-first, Writes.fits-rest, Writes.wrote-none}
+use Rattle.translation.proofs.{Writes.wrote-one, Writes.wrote-then, Writes.wrote-over, Conditions.no-more, Conditions.one-more, Conditions.code-no-more}
+use Rattle.translation.proofs.{Conditions.code-more, Conditions.more-reach}
 
 -- a link reads as what was written
 reads-link : (l : List ℕ) (at last : ℕ) (ys : List Op) (l′ : List ℕ) (p : ℕ) → last < 18446744073709551616 → Fits l at (Const last 0 ∷ ys)

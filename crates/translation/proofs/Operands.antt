@@ -1,18 +1,13 @@
 -- The steps of an operand, by the shape of its node.
-use Prim.Native.Nat.{ℕ, zero, suc, _+_, _-_, _≤_}
-use mathlib.Core.Path.{_≡_, refl}
-use mathlib.Core.List.{List, [], _∷_, _++_}
-use native.Mathlib.Omega.{arith}
-use native.Mathlib.Numerals.{sub-one}
-use Rattle.table.specs.Trees.{Operand, const, ref, price, prev, arith as sums, extreme, reach}
-use Rattle.table.specs.declared.series.Series.{Series}
-use Rattle.table.specs.Series.{seriesIn}
-use Rattle.rules.specs.declared.shapes.OperandShape.{OperandShape}
-use Rattle.rules.specs.declared.shapes.OperandShape.the-variants.{Const, Ref, Price, Prev, Arith, Extreme, NoOperand}
-use Rattle.rules.specs.Shapes.{operandShape}
-use Rattle.rules.specs.Flat.{growOperand, operandAt}
+use Rattle.words.specs.Prelude.{ℕ, zero, suc, _+_, _-_, _≤_, _≡_, refl, List, [], _∷_, _++_, arith, sub-one}
+use Rattle.table.specs.{Trees.Operand, Trees.const, Trees.ref, Trees.price, Trees.prev, Trees.arith as sums, Trees.extreme, Trees.reach}
+use Rattle.table.specs.{declared.series.Series.Series, Series.seriesIn}
+use Rattle.rules.specs.{declared.shapes.OperandShape.OperandShape, declared.shapes.OperandShape.the-variants.Const, declared.shapes.OperandShape.the-variants.Ref}
+use Rattle.rules.specs.{declared.shapes.OperandShape.the-variants.Price, declared.shapes.OperandShape.the-variants.Prev}
+use Rattle.rules.specs.{declared.shapes.OperandShape.the-variants.Arith, declared.shapes.OperandShape.the-variants.Extreme}
+use Rattle.rules.specs.{declared.shapes.OperandShape.the-variants.NoOperand, Shapes.operandShape, Flat.growOperand, Flat.operandAt}
+use Rattle.steps.specs.{Translation.code}
 use Rattle.steps.specs.declared.step.Op.the-variants as Op
-use Rattle.steps.specs.Translation.{code}
 
 module _ (t ends : List ℕ) (i : ℕ) where
   pub ground : (left : ℕ) → left ≡ 0 → operandAt left t ends i ≡ const 0

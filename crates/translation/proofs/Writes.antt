@@ -1,13 +1,9 @@
 -- Laws of writing bytes into a room. Assumes nothing.
-use Prim.Native.Nat.{ℕ, suc, _+_, _*_, _/_, _%_, _<_, _≤_}
-use mathlib.Core.Path.{_≡_, refl, sym, ap, _∙_}
-use mathlib.Core.List.{List, [], _∷_, _++_, append-assoc}
-use native.Mathlib.Omega.{arith}
-use lib.ListN.{length, set, take, drop, length-set, length-append}
+use Rattle.words.specs.Prelude.{ℕ, suc, _+_, _*_, _/_, _%_, _<_, _≤_, _≡_, refl, sym, ap, _∙_, List, [], _∷_, _++_, append-assoc, arith, length, set, take, drop}
+use Rattle.words.specs.Prelude.{length-set, length-append}
+use Rattle.steps.specs.{declared.step.Op.Op, Bytes.write, Bytes.writeFrom, Bytes.bytesOf, Bytes.stepBytes, Bytes.stepOf, Bytes.fields, Bytes.four, Bytes.eight}
+use Rattle.steps.specs.{Bytes.written, Bytes.Fits, Bytes.Wrote, Laws.Encoding.steps-long}
 use lib.Seq.{set-comm, set-set, sets, sets-eq}
-use Rattle.steps.specs.declared.step.Op.{Op}
-use Rattle.steps.specs.Bytes.{write, writeFrom, bytesOf, stepBytes, stepOf, fields, four, eight, written, Fits, Wrote}
-use Rattle.steps.specs.Laws.Encoding.{steps-long}
 
 length-from : (l : List ℕ) (i j : ℕ) (vs : List ℕ) → length (writeFrom l i j vs) ≡ length l
 length-from l i j [] = refl

@@ -1,15 +1,8 @@
 -- An account's own bar: as long as a bar of its slots, and readable from the room that it was written to.
-use Prim.Native.Nat.{ℕ, _+_, _≤_}
-use mathlib.Core.Path.{_≡_, refl, sym, ap, _∙_}
-use mathlib.Core.List.{List, [], _∷_, _++_, append-assoc}
-use native.Mathlib.Omega.{arith}
-use borrow.Author.Tests.{eq-eqb, le-leb}
-use lib.ListN.{length, take, drop, length-append, length-take, length-drop}
-use lib.Seq.{take-at, drop-append-add, drop-drop}
-use Rattle.words.specs.Laws.Overwrite.{overwrite-fits, overwrite-length}
-use Rattle.words.specs.Limits.{barWords, rowWords}
-use Rattle.words.specs.Words.{overwrite}
-use Rattle.accounts.specs.Own.{ownBar, ownInto}
+use Rattle.words.specs.Prelude.{ℕ, _+_, _≤_, _≡_, refl, sym, ap, _∙_, List, [], _∷_, _++_, append-assoc, arith, eq-eqb, le-leb, length, take, drop, length-append}
+use Rattle.words.specs.Prelude.{length-take, length-drop, take-at, drop-append-add, drop-drop}
+use Rattle.words.specs.{Laws.Overwrite.overwrite-fits, Laws.Overwrite.overwrite-length, Limits.barWords, Limits.rowWords, Words.overwrite}
+use Rattle.accounts.specs.{Own.ownBar, Own.ownInto}
 
 -- words written to the start of a room
 pub overwrite-start : (room a : List ℕ) → length a ≤ length room → overwrite room 0 a ≡ a ++ drop (length a) room

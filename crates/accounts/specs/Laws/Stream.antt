@@ -1,24 +1,12 @@
 -- The stream, bar after bar: the bars that are left after those taken, and what a bar that is taken has been seen to have.
-use Prim.Native.Nat.{ℕ, zero, suc, _+_, _-_, _*_, _/_, _<_, _≤_}
-use mathlib.Core.Path.{_≡_, refl, sym, _∙_}
-use mathlib.Core.Bool.{Bool, true, false, cond}
-use mathlib.Core.List.{List, [], _∷_}
-use native.Mathlib.Omega.{arith}
-use borrow.Author.Tests.{leb-true}
-use lib.Dec.{eqb, leb}
-use lib.ListN.{length, take, drop}
-use lib.Seq.{drop-drop}
-use Rattle.words.specs.declared.refusal.Refusal.{Refusal}
-use Rattle.words.specs.Laws.Records.{records-fit}
-use Rattle.words.specs.Limits.{barWords, mostCount, mostSlots}
-use Rattle.refusals.specs.declared.verdict.Verdict.{Verdict}
-use Rattle.refusals.specs.declared.verdict.Verdict.the-variants.{Fine, Bad}
-use Rattle.refusals.specs.Laws.Lines.{first-holds}
-use Rattle.refusals.specs.Lines.{judged}
-use Rattle.engine.specs.Day.{cut}
-use Rattle.engine.specs.Laws.Days.{cut-next}
-use Rattle.accounts.specs.declared.stream.Taken.{Taken}
-use Rattle.accounts.specs.Stream.{streamLines, streamBarLines, noneTaken, oneMoreTaken, takenUnless, streamTakes, streamTaken}
+use Rattle.words.specs.Prelude.{ℕ, zero, suc, _+_, _-_, _*_, _/_, _<_, _≤_, _≡_, refl, sym, _∙_, Bool, true, false, cond, List, [], _∷_, arith, leb-true, eqb, leb}
+use Rattle.words.specs.Prelude.{length, take, drop, drop-drop}
+use Rattle.words.specs.{declared.refusal.Refusal.Refusal, Laws.Records.records-fit, Limits.barWords, Limits.mostCount, Limits.mostSlots}
+use Rattle.refusals.specs.{declared.verdict.Verdict.Verdict, declared.verdict.Verdict.the-variants.Fine, declared.verdict.Verdict.the-variants.Bad}
+use Rattle.refusals.specs.{Laws.Lines.first-holds, Lines.judged}
+use Rattle.engine.specs.{Day.cut, Laws.Days.cut-next}
+use Rattle.accounts.specs.{declared.stream.Taken.Taken, Stream.streamLines, Stream.streamBarLines, Stream.noneTaken, Stream.oneMoreTaken, Stream.takenUnless}
+use Rattle.accounts.specs.{Stream.streamTakes, Stream.streamTaken}
 
 -- the next record, and those after it
 pub next-record : (count w : ℕ) (ws : List ℕ) (done : ℕ) → done < count

@@ -1,11 +1,7 @@
 -- `put_answer` meets its contract: each answer has its own two words.
-use mathlib.Core.Path.{sym, _∙_, ap}
-use mathlib.Core.List.{List}
-use Prim.Native.Nat.{ℕ}
-use Rattle.answers.specs.Text.{put, next}
-use Rattle.answers.specs.Lines.{lineOf}
-use borrow.Author.Needs.{needs}
-use Rattle.answers.proofs.put_answer.Statement.{statement}
+use Rattle.words.specs.Prelude.{sym, _∙_, ap, List, ℕ, needs}
+use Rattle.answers.specs.{Text.put, Text.next, Lines.lineOf}
+use Rattle.answers.proofs.{put_answer.Statement.statement}
 use Rattle.answers.proofs.put_answer.Tie as tie
 
 returns : tie.Need-returns

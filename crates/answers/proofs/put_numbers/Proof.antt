@@ -1,14 +1,7 @@
 -- `put_numbers` meets its contract: four pieces in a row of newlines, and the newline after them.
-use mathlib.Core.Path.{sym, _∙_, ap}
-use mathlib.Core.List.{List}
-use Prim.Native.Nat.{ℕ}
-use native.Mathlib.Omega.{arith}
-use lib.Seq.{length-take-le}
-use Rattle.answers.specs.Text.{put, next}
-use Rattle.answers.specs.Lines.{twoNumbers}
-use Rattle.answers.proofs.Pieces.{four, with-newline, room-long, counted}
-use borrow.Author.Needs.{needs}
-use Rattle.answers.proofs.put_numbers.Statement.{statement}
+use Rattle.words.specs.Prelude.{sym, _∙_, ap, List, ℕ, arith, length-take-le, needs}
+use Rattle.answers.specs.{Text.put, Text.next, Lines.twoNumbers}
+use Rattle.answers.proofs.{Pieces.four, Pieces.with-newline, Pieces.room-long, Pieces.counted, put_numbers.Statement.statement}
 use Rattle.answers.proofs.put_numbers.Tie as tie
 
 add-line : tie.Need-add-line

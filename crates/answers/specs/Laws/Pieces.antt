@@ -1,16 +1,9 @@
 -- Laws of `put`: pieces that are put one after another are one piece.
-use mathlib.Core.Bool.{Bool, true, false, cond}
-use mathlib.Core.Path.{_≡_, refl, sym, ap, _∙_, subst⁻¹}
-use mathlib.Core.List.{List, _++_, append-assoc}
-use Prim.Native.Nat.{ℕ, zero, suc, _+_, _/_, _≤_}
-use native.Mathlib.Numerals.{add-one}
-use native.Mathlib.Omega.{arith}
-use borrow.Author.Tests.{le-leb, leb-true}
-use lib.Dec.{leb}
-use lib.ListN.{length, take, drop, length-append, length-drop}
-use lib.Seq.{take-at, drop-at, drop-drop, length-take-le}
-use Rattle.io.specs.Digits.{digits}
-use Rattle.answers.specs.Text.{put, next}
+use Rattle.words.specs.Prelude.{Bool, true, false, cond, _≡_, refl, sym, ap, _∙_, List, _++_, append-assoc, ℕ, zero, suc, _+_, _/_, _≤_, add-one, arith, le-leb}
+use Rattle.words.specs.Prelude.{leb-true, leb, length, take, drop, length-append, length-drop, take-at, drop-at, drop-drop, length-take-le}
+use Rattle.io.specs.{Digits.digits}
+use Rattle.answers.specs.{Text.put, Text.next}
+use mathlib.Core.Path.{subst⁻¹}
 
 -- the piece fits
 pub next-fits : (room : List ℕ) (at : ℕ) (s : List ℕ) → at + length s ≤ length room → next room at s ≡ at + length s

@@ -1,21 +1,10 @@
 -- A close is taken exactly where both rooms have a place for it and it is finite. Assumes nothing.
-use Prim.Native.Nat.{ℕ, _+_, _*_, _/_, _<_, _≤_}
-use mathlib.Core.Path.{_≡_, refl, sym, ap, _∙_}
-use mathlib.Core.Bool.{Bool, true, false, cond, _&&_, false≢true}
-use mathlib.Core.List.{List}
-use native.Mathlib.Omega.{arith}
-use borrow.Author.Tests.{ltb-true, leb-true, lt-ltb, le-leb}
-use lib.Dec.{ltb}
-use lib.Ieee.{Float, nan, inf, fin, isNan}
-use lib.ListN.{length}
-use Rattle.words.specs.Limits.{mostCount}
-use Rattle.words.specs.declared.refusal.Refusal.{Refusal}
-use Rattle.floats.specs.Floats.{floatOf, finite}
-use Rattle.blocks.specs.declared.append.Added.{Added}
-use Rattle.blocks.specs.declared.append.Added.the-variants.{Held, Refused}
-use Rattle.blocks.specs.Reading.{Number}
-use Rattle.blocks.specs.Blocks.{blockBars, blockWords}
-use Rattle.blocks.specs.Append.{Append, appended, kept, unchanged, placeForBlock}
+use Rattle.words.specs.Prelude.{ℕ, _+_, _*_, _/_, _<_, _≤_, _≡_, refl, sym, ap, _∙_, Bool, true, false, cond, _&&_, false≢true, List, arith, ltb-true, leb-true}
+use Rattle.words.specs.Prelude.{lt-ltb, le-leb, ltb, Float, nan, inf, fin, isNan, length}
+use Rattle.words.specs.{Limits.mostCount, declared.refusal.Refusal.Refusal}
+use Rattle.floats.specs.{Floats.floatOf, Floats.finite}
+use Rattle.blocks.specs.{declared.append.Added.Added, declared.append.Added.the-variants.Held, declared.append.Added.the-variants.Refused, Reading.Number}
+use Rattle.blocks.specs.{Blocks.blockBars, Blocks.blockWords, Append.Append, Append.appended, Append.kept, Append.unchanged, Append.placeForBlock}
 
 -- what an append that is not refused has
 pub record Taken (held close : ℕ) (closes blocks : List ℕ) : Type 0 where

@@ -1,15 +1,8 @@
 -- What reading every close gives is the highest and the lowest of them, each with its earliest bar. Assumes nothing.
-use Prim.Native.Nat.{ℕ, zero, suc, _+_, _<_, _≤_}
-use mathlib.Core.Path.{_≡_, refl, sym, subst, _∙_}
-use mathlib.Core.Bool.{Bool, true, false, cond, true≢false}
-use mathlib.Core.List.{List}
-use native.Mathlib.Decide.{ℕ-discrete}
-use native.Mathlib.Nat.{add-zero}
-use native.Mathlib.Omega.{arith}
-use lib.Arith.{lt-of-le-ne}
-use lib.ListN.{getD}
-use Rattle.blocks.specs.Reading.{above, below, one, join, reading, Number, Earliest, HighAndLow}
-use Rattle.blocks.specs.Laws.Order.{twice, not-twice, not-itself}
+use Rattle.words.specs.Prelude.{ℕ, zero, suc, _+_, _<_, _≤_, _≡_, refl, sym, subst, _∙_, Bool, true, false, cond, true≢false, List, ℕ-discrete, add-zero, arith}
+use Rattle.words.specs.Prelude.{lt-of-le-ne, getD}
+use Rattle.blocks.specs.{Reading.above, Reading.below, Reading.one, Reading.join, Reading.reading, Reading.Number, Reading.Earliest, Reading.HighAndLow}
+use Rattle.blocks.specs.{Laws.Order.twice, Laws.Order.not-twice, Laws.Order.not-itself}
 
 -- an order of words, as far as the search for the best needs it
 record Ordered (over : ℕ → ℕ → Bool) (Of : ℕ → Type 0) : Type 0 where

@@ -1,22 +1,11 @@
 -- What appending alone leaves, and that a question over it gives what reading every close gives. Assumes nothing.
-use Prim.Native.Nat.{ℕ, zero, suc, _+_, _-_, _*_, _/_, _%_, _<_, _≤_, min}
-use mathlib.Core.Path.{_≡_, refl, sym, ap, subst, _∙_}
-use mathlib.Core.Bool.{Bool, true, false, cond}
-use mathlib.Core.List.{List}
-use native.Mathlib.Nat.{add-zero, zero-add, add-suc, lt-irrefl, not-suc-le-zero}
-use native.Mathlib.Decide.{ℕ-discrete}
-use native.Mathlib.Omega.{arith}
-use borrow.Author.Tests.{eqb-true, eqb-false}
-use lib.Arith.{lt-of-le-ne}
-use lib.Dec.{eqb}
-use lib.ListN.{getD, set, length, length-set}
-use lib.Seq.{getD-set-same, getD-set-other}
-use Rattle.blocks.specs.declared.best.Best.{Best}
-use Rattle.blocks.specs.Reading.{one, join, reading, Number}
-use Rattle.blocks.specs.Blocks.{blockBars, block, put, grown, withCloses, withBlocks}
-use Rattle.blocks.specs.Reads.{single, whole, reads, front, beginsBlock, best, onto, told}
-use Rattle.blocks.specs.Laws.Joining.{same, reading-on}
-use Rattle.blocks.specs.Laws.Reads.{block-begins, block-fits, reads-block, reads-close, onto-reads}
+use Rattle.words.specs.Prelude.{ℕ, zero, suc, _+_, _-_, _*_, _/_, _%_, _<_, _≤_, min, _≡_, refl, sym, ap, subst, _∙_, Bool, true, false, cond, List, add-zero}
+use Rattle.words.specs.Prelude.{zero-add, add-suc, lt-irrefl, not-suc-le-zero, ℕ-discrete, arith, eqb-true, eqb-false, lt-of-le-ne, eqb, getD, set, length}
+use Rattle.words.specs.Prelude.{length-set, getD-set-same, getD-set-other}
+use Rattle.blocks.specs.{declared.best.Best.Best, Reading.one, Reading.join, Reading.reading, Reading.Number, Blocks.blockBars, Blocks.block, Blocks.put}
+use Rattle.blocks.specs.{Blocks.grown, Blocks.withCloses, Blocks.withBlocks, Reads.single, Reads.whole, Reads.reads, Reads.front, Reads.beginsBlock}
+use Rattle.blocks.specs.{Reads.best, Reads.onto, Reads.told, Laws.Joining.same, Laws.Joining.reading-on, Laws.Reads.block-begins, Laws.Reads.block-fits}
+use Rattle.blocks.specs.{Laws.Reads.reads-block, Laws.Reads.reads-close, Laws.Reads.onto-reads}
 
 -- every close is a number, and every block is what reading its bars gives, the last one as far as there are bars
 pub record Kept (held : ℕ) (closes blocks : List ℕ) : Type 0 where

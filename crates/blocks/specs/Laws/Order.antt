@@ -1,11 +1,7 @@
 -- Closes that are numbers, in their order: below, twice, is below; not below, twice, is not below. Assumes nothing.
-use Prim.Native.Nat.{ℕ}
-use mathlib.Core.Path.{_≡_, refl, sym, _∙_}
-use mathlib.Core.Bool.{Bool, true, false, true≢false}
-use lib.Ieee.{Float, le}
-use Rattle.floats.specs.Floats.{_≺_, _≼_, floatOf}
-use Rattle.floats.specs.Laws.Order.{not-below, not-above, in-turn, itself}
-use Rattle.blocks.specs.Reading.{below, Number}
+use Rattle.words.specs.Prelude.{ℕ, _≡_, refl, sym, _∙_, Bool, true, false, true≢false, Float, le}
+use Rattle.floats.specs.{Floats._≺_, Floats._≼_, Floats.floatOf, Laws.Order.not-below, Laws.Order.not-above, Laws.Order.in-turn, Laws.Order.itself}
+use Rattle.blocks.specs.{Reading.below, Reading.Number}
 
 -- what is below is at most
 at-most : (x y : Float) → x ≺ y ≡ true → x ≼ y ≡ true

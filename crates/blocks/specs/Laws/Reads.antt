@@ -1,20 +1,10 @@
 -- Of what a question reads: it is a walk that takes a block wherever one begins and fits, and else one close; it is little; and no bar is read
 -- twice. Assumes nothing.
-use Prim.Native.Nat.{ℕ, zero, suc, _+_, _-_, _*_, _/_, _%_, _<_, _≤_}
-use mathlib.Core.Path.{_≡_, refl, sym, ap, _∙_}
-use mathlib.Core.Bool.{Bool, true, false, _&&_, false≢true}
-use mathlib.Core.List.{List, [], _∷_, _++_, append-assoc, append-nil}
-use native.Mathlib.Nat.{add-zero, add-suc}
-use native.Mathlib.Omega.{arith}
-use native.Mathlib.Numerals.{add-one}
-use borrow.Author.Tests.{eqb-true, eqb-false, leb-true, eq-eqb, le-leb}
-use lib.Dec.{leb, eqb}
-use lib.ListN.{getD}
-use Rattle.blocks.specs.declared.best.Best.{Best}
-use Rattle.blocks.specs.Reading.{one, join}
-use Rattle.blocks.specs.Blocks.{blockBars, block, withCloses, withBlocks}
-use Rattle.blocks.specs.Reads.{Read, single, whole, singles, wholes, front, reads, beginsBlock, best, onto}
-use Rattle.blocks.specs.Reads.{closesRead, blocksRead, bars, barsRead, Little}
+use Rattle.words.specs.Prelude.{ℕ, zero, suc, _+_, _-_, _*_, _/_, _%_, _<_, _≤_, _≡_, refl, sym, ap, _∙_, Bool, true, false, _&&_, false≢true, List, [], _∷_, _++_}
+use Rattle.words.specs.Prelude.{append-assoc, append-nil, add-zero, add-suc, arith, add-one, eqb-true, eqb-false, leb-true, eq-eqb, le-leb, leb, eqb, getD}
+use Rattle.blocks.specs.{declared.best.Best.Best, Reading.one, Reading.join, Blocks.blockBars, Blocks.block, Blocks.withCloses, Blocks.withBlocks, Reads.Read}
+use Rattle.blocks.specs.{Reads.single, Reads.whole, Reads.singles, Reads.wholes, Reads.front, Reads.reads, Reads.beginsBlock, Reads.best, Reads.onto}
+use Rattle.blocks.specs.{Reads.closesRead, Reads.blocksRead, Reads.bars, Reads.barsRead, Reads.Little}
 
 -- ---- a block that begins at a bar and fits
 

@@ -1,16 +1,8 @@
 -- What a question that is not refused may rely on, and where none is refused. Assumes nothing.
-use Prim.Native.Nat.{ℕ, _+_, _-_, _*_, _/_, _<_, _≤_}
-use mathlib.Core.Path.{_≡_, refl}
-use mathlib.Core.Bool.{Bool, true, false, _&&_, false≢true}
-use mathlib.Core.List.{List}
-use borrow.Author.Tests.{leb-true, ltb-true, le-leb, lt-ltb}
-use native.Mathlib.Omega.{arith}
-use lib.Dec.{ltb, leb}
-use lib.ListN.{length}
-use Rattle.words.specs.Limits.{mostCount}
-use Rattle.blocks.specs.declared.stretch.Found.the-variants.{Best}
-use Rattle.blocks.specs.Reads.{reads, told}
-use Rattle.blocks.specs.Stretch.{holds, exists, stretched}
+use Rattle.words.specs.Prelude.{ℕ, _+_, _-_, _*_, _/_, _<_, _≤_, _≡_, refl, Bool, true, false, _&&_, false≢true, List, leb-true, ltb-true, le-leb, lt-ltb, arith}
+use Rattle.words.specs.Prelude.{ltb, leb, length}
+use Rattle.words.specs.{Limits.mostCount}
+use Rattle.blocks.specs.{declared.stretch.Found.the-variants.Best, Reads.reads, Reads.told, Stretch.holds, Stretch.exists, Stretch.stretched}
 
 -- three tests that all hold
 all-three : (x y z : Bool) → x && (y && z) ≡ true → (x ≡ true) × (y ≡ true) × (z ≡ true)

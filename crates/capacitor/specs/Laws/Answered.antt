@@ -1,12 +1,8 @@
 -- What an answer of 0 tells: an outcome that gives was decided by no verdict before it, and what it gives is what is left.
-use Prim.Native.Nat.{ℕ}
-use mathlib.Core.Path.{_≡_, refl}
-use native.Mathlib.Omega.{arith}
-use Rattle.words.specs.declared.refusal.Refusal.{Refusal}
-use Rattle.words.specs.Outcome.{Outcome, gives, refuses}
-use Rattle.refusals.specs.declared.verdict.Verdict.{Verdict}
-use Rattle.refusals.specs.declared.verdict.Verdict.the-variants.{Fine, Bad}
-use Rattle.capi.specs.Call.{unlessBad}
+use Rattle.words.specs.Prelude.{ℕ, _≡_, refl, arith}
+use Rattle.words.specs.{declared.refusal.Refusal.Refusal, Outcome.Outcome, Outcome.gives, Outcome.refuses}
+use Rattle.refusals.specs.{declared.verdict.Verdict.Verdict, declared.verdict.Verdict.the-variants.Fine, declared.verdict.Verdict.the-variants.Bad}
+use Rattle.capi.specs.{Call.unlessBad}
 
 pub refuses-not : {A B : Type 0} {after : A} {r : Refusal} → refuses r ≡ gives after → B
 refuses-not e = absurd (let z : _≡_ {A = ℕ} 0 1 = cc in omega arith)

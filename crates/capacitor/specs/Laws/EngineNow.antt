@@ -1,32 +1,18 @@
 -- The box after its losses and the bars since is the engine's: what the theorems of images say of it, for the words that the calls leave.
-use Prim.Native.Nat.{ℕ, _/_, _^_, _≤_}
-use mathlib.Core.Path.{_≡_, refl, ap, subst, _∙_}
-use mathlib.Core.List.{List, [], _∷_, _++_}
-use lib.ListN.{length, getD}
-use Rattle.words.specs.Limits.{settingWords, stateWords, mostCount}
-use Rattle.records.specs.declared.state.State.{State}
-use Rattle.records.specs.Lent.{Lists, Rooms, rowPlaces}
-use Rattle.records.specs.Settings.{settingsOf}
-use Rattle.records.specs.State.{freshState}
-use Rattle.records.specs.StateWords.{countsOf, stateOf}
-use Rattle.records.specs.Laws.RoundTrip.{Floats64, fresh-floats}
-use Rattle.engine.specs.Boxes.{NotFull}
-use Rattle.engine.specs.Run.{runOver}
-use Rattle.runs.specs.NeverFull.{PlacesFor}
-use Rattle.dump.specs.Reading.{wordsIn, stateIn}
-use Rattle.restart.specs.AsIfNever.{AsIfNever, Ready, same-as-unbroken, always-ready, as-if-never}
-use Rattle.restart.specs.Laws.Reached64.{Bars64}
-use Rattle.restart.specs.Laws.Times.{Word64}
-use Rattle.restart.specs.Lives.{Life, restoredState, lastState, lastRooms, allBars, allPoints, allTrades, SinceLosses}
-use Rattle.capi.specs.Bars.{StepLent}
-use Rattle.capi.specs.Joined.{calls-run}
-use Rattle.capi.specs.WordRun.{lentWith, inWords}
-use Rattle.capacitor.specs.Begun.{Begun}
-use Rattle.capacitor.specs.Capacitor.{now, unbroken}
-use Rattle.capacitor.specs.Loss.{Loss, Restored, lastBox, barsBefore, pointsBefore, tradesBefore}
-use Rattle.capacitor.specs.Laws.FromCalls.{begun-from, begun-lengths, begun-box}
-use Rattle.capacitor.specs.Laws.LivesInWords.{livesOf, InWords, losses-in-words}
-use Rattle.capacitor.specs.Laws.PowerCalls.{not-full}
+use Rattle.words.specs.Prelude.{ℕ, _/_, _^_, _≤_, _≡_, refl, ap, subst, _∙_, List, [], _∷_, _++_, length, getD}
+use Rattle.words.specs.{Limits.settingWords, Limits.stateWords, Limits.mostCount}
+use Rattle.records.specs.{declared.state.State.State, Lent.Lists, Lent.Rooms, Lent.rowPlaces, Settings.settingsOf, State.freshState, StateWords.countsOf}
+use Rattle.records.specs.{StateWords.stateOf, Laws.RoundTrip.Floats64, Laws.RoundTrip.fresh-floats}
+use Rattle.engine.specs.{Boxes.NotFull, Run.runOver}
+use Rattle.runs.specs.{NeverFull.PlacesFor}
+use Rattle.dump.specs.{Reading.wordsIn, Reading.stateIn}
+use Rattle.restart.specs.{AsIfNever.AsIfNever, AsIfNever.Ready, AsIfNever.same-as-unbroken, AsIfNever.always-ready, AsIfNever.as-if-never, Laws.Reached64.Bars64}
+use Rattle.restart.specs.{Laws.Times.Word64, Lives.Life, Lives.restoredState, Lives.lastState, Lives.lastRooms, Lives.allBars, Lives.allPoints, Lives.allTrades}
+use Rattle.restart.specs.{Lives.SinceLosses}
+use Rattle.capi.specs.{Bars.StepLent, Joined.calls-run, WordRun.lentWith, WordRun.inWords}
+use Rattle.capacitor.specs.{Begun.Begun, Capacitor.now, Capacitor.unbroken, Loss.Loss, Loss.Restored, Loss.lastBox, Loss.barsBefore, Loss.pointsBefore}
+use Rattle.capacitor.specs.{Loss.tradesBefore, Laws.FromCalls.begun-from, Laws.FromCalls.begun-lengths, Laws.FromCalls.begun-box, Laws.LivesInWords.livesOf}
+use Rattle.capacitor.specs.{Laws.LivesInWords.InWords, Laws.LivesInWords.losses-in-words, Laws.PowerCalls.not-full}
 
 -- The box that the last restore left is (state, rooms), the words of whose state stand in `room`.
 pub record EngineNow (table settings : List ℕ) (ls : Lists) (box : StepLent) (losses : List Loss) (bars : List (List ℕ)) : Type 0 where

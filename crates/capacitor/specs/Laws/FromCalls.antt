@@ -1,44 +1,22 @@
 -- A box that is begun by calls is one from a table, and has the words of a fresh state.
-use Prim.Native.Nat.{ℕ, _*_, _≤_}
-use mathlib.Core.Path.{_≡_, refl, sym, ap, _∙_}
-use mathlib.Core.Bool.{false}
-use mathlib.Core.List.{List}
-use lib.Dec.{leb}
-use lib.ListN.{length}
-use Rattle.words.specs.Limits.{settingWords, stateWords, trees}
-use Rattle.words.specs.Outcome.{gives}
-use Rattle.words.specs.Words.{overwrite}
-use Rattle.table.specs.declared.trees.Tree.{Tree}
-use Rattle.table.specs.declared.trees.Tree.the-variants.{Entry, Exit, ShortEntry, ShortExit}
-use Rattle.table.specs.Checked.{checked}
-use Rattle.table.specs.Header.{treeNumber}
-use Rattle.needed.specs.declared.depth.DepthAnswer.{DepthAnswer}
-use Rattle.needed.specs.declared.depth.DepthAnswer.the-variants.{Needs, Refuses as DepthRefuses}
-use Rattle.needed.specs.Depth.{depthAnswer}
-use Rattle.steps.specs.declared.translated.Translated.{Translated}
-use Rattle.steps.specs.declared.translated.Translated.the-variants.{Writes, Refuses}
-use Rattle.steps.specs.Bytes.{bytesOf}
-use Rattle.steps.specs.Demand.{deep, written-there}
-use Rattle.steps.specs.Translating.{stepsOf, translates, roomLeft}
-use Rattle.records.specs.Lent.{Lists}
-use Rattle.records.specs.Settings.{settingsOf}
-use Rattle.records.specs.State.{freshState}
-use Rattle.records.specs.StateWords.{wordsOf}
-use Rattle.refusals.specs.declared.verdict.Verdict.the-variants.{Fine}
-use Rattle.refusals.specs.Lines.{judged}
-use Rattle.engine.specs.Rules.{listsOf, FromTable}
-use Rattle.runs.specs.Laws.Meaning.{from-depth}
-use Rattle.capi.specs.Bars.{StepLent}
-use Rattle.capi.specs.Call.{callOf, unlessBad, wordLines}
-use Rattle.capi.specs.DayJoined.{words-had}
-use Rattle.capi.specs.Fresh.{freshCall}
-use Rattle.capi.specs.Joined.{words-fine}
-use Rattle.capi.specs.Laws.RunCalls.{fresh-honest}
-use Rattle.capi.specs.Laws.TableCalls.{depth-honest, translate-honest}
-use Rattle.capi.specs.Tables.{numberedTree, DepthLent, depthGives, depthCall, TranslateLent, translateGives, translateOutcome, translateCall}
-use Rattle.capi.specs.WordRun.{lentWith}
-use Rattle.capacitor.specs.Begun.{Translation, Begun}
-use Rattle.capacitor.specs.Laws.Answered.{refuses-not, gives-same, unless-gives}
+use Rattle.words.specs.Prelude.{ℕ, _*_, _≤_, _≡_, refl, sym, ap, _∙_, false, List, leb, length}
+use Rattle.words.specs.{Limits.settingWords, Limits.stateWords, Limits.trees, Outcome.gives, Words.overwrite}
+use Rattle.table.specs.{declared.trees.Tree.Tree, declared.trees.Tree.the-variants.Entry, declared.trees.Tree.the-variants.Exit}
+use Rattle.table.specs.{declared.trees.Tree.the-variants.ShortEntry, declared.trees.Tree.the-variants.ShortExit, Checked.checked, Header.treeNumber}
+use Rattle.needed.specs.{declared.depth.DepthAnswer.DepthAnswer, declared.depth.DepthAnswer.the-variants.Needs}
+use Rattle.needed.specs.{declared.depth.DepthAnswer.the-variants.Refuses as DepthRefuses, Depth.depthAnswer}
+use Rattle.steps.specs.{declared.translated.Translated.Translated, declared.translated.Translated.the-variants.Writes}
+use Rattle.steps.specs.{declared.translated.Translated.the-variants.Refuses, Bytes.bytesOf, Demand.deep, Demand.written-there, Translating.stepsOf}
+use Rattle.steps.specs.{Translating.translates, Translating.roomLeft}
+use Rattle.records.specs.{Lent.Lists, Settings.settingsOf, State.freshState, StateWords.wordsOf}
+use Rattle.refusals.specs.{declared.verdict.Verdict.the-variants.Fine, Lines.judged}
+use Rattle.engine.specs.{Rules.listsOf, Rules.FromTable}
+use Rattle.runs.specs.{Laws.Meaning.from-depth}
+use Rattle.capi.specs.{Bars.StepLent, Call.callOf, Call.unlessBad, Call.wordLines, DayJoined.words-had, Fresh.freshCall, Joined.words-fine}
+use Rattle.capi.specs.{Laws.RunCalls.fresh-honest, Laws.TableCalls.depth-honest, Laws.TableCalls.translate-honest, Tables.numberedTree, Tables.DepthLent}
+use Rattle.capi.specs.{Tables.depthGives, Tables.depthCall, Tables.TranslateLent, Tables.translateGives, Tables.translateOutcome, Tables.translateCall}
+use Rattle.capi.specs.{WordRun.lentWith}
+use Rattle.capacitor.specs.{Begun.Translation, Begun.Begun, Laws.Answered.refuses-not, Laws.Answered.gives-same, Laws.Answered.unless-gives}
 
 -- ---- the table
 

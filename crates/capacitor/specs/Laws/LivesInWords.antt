@@ -1,33 +1,18 @@
 -- Losses, in the words of the C calls, are lives of the engine's box, restored from whole images.
-use Prim.Native.Nat.{ℕ, _≤_}
-use mathlib.Core.Path.{_≡_, refl, sym, ap, subst, _∙_}
-use mathlib.Core.List.{List, [], _∷_, _++_}
-use native.Mathlib.Omega.{arith}
-use lib.ListN.{length, take}
-use Rattle.words.specs.Limits.{settingWords, stateWords}
-use Rattle.records.specs.declared.settings.Settings.{Settings}
-use Rattle.records.specs.declared.state.State.{State}
-use Rattle.records.specs.Lent.{Lists, Rooms}
-use Rattle.records.specs.Settings.{settingsOf}
-use Rattle.records.specs.Laws.RoundTrip.{Floats64, state-kept, words-floats}
-use Rattle.refusals.specs.declared.verdict.Verdict.the-variants.{Fine}
-use Rattle.engine.specs.Books.{heldPoints, heldTrades}
-use Rattle.engine.specs.Run.{Run, runOver}
-use Rattle.runs.specs.Laws.Floats.{run-floats}
-use Rattle.dump.specs.Layout.{imageOf}
-use Rattle.dump.specs.Reading.{stateIn}
-use Rattle.dump.specs.Refused.{restoreJudged}
-use Rattle.dump.specs.Laws.Fine.{dump-fine, restore-fine}
-use Rattle.restart.specs.Cut.{size-of-image}
-use Rattle.restart.specs.Lives.{Life, restoredState, restoredRooms, lastState, lastRooms, allBars, allPoints, allTrades, LifeOf, LivesOf}
-use Rattle.restart.specs.PlanCut.{plan-accepted}
-use Rattle.restart.specs.Plans.{CutIn, inOrder, Plan}
-use Rattle.capi.specs.Bars.{StepLent}
-use Rattle.capi.specs.Joined.{calls-run}
-use Rattle.capi.specs.WordRun.{WordRun, callsOver, lentWith}
-use Rattle.capacitor.specs.Loss.{Loss, sizeOf, boxBefore, dumpOf, imageIn, restoreOf, boxAfter, Driven, Restored, lastBox}
-use Rattle.capacitor.specs.Loss.{barsBefore, pointsIn, tradesIn, pointsBefore, tradesBefore}
-use Rattle.capacitor.specs.Laws.PowerCalls.{all-taken, dumped-image, RestoreDone, restore-done}
+use Rattle.words.specs.Prelude.{ℕ, _≤_, _≡_, refl, sym, ap, subst, _∙_, List, [], _∷_, _++_, arith, length, take}
+use Rattle.words.specs.{Limits.settingWords, Limits.stateWords}
+use Rattle.records.specs.{declared.settings.Settings.Settings, declared.state.State.State, Lent.Lists, Lent.Rooms, Settings.settingsOf, Laws.RoundTrip.Floats64}
+use Rattle.records.specs.{Laws.RoundTrip.state-kept, Laws.RoundTrip.words-floats}
+use Rattle.refusals.specs.{declared.verdict.Verdict.the-variants.Fine}
+use Rattle.engine.specs.{Books.heldPoints, Books.heldTrades, Run.Run, Run.runOver}
+use Rattle.runs.specs.{Laws.Floats.run-floats}
+use Rattle.dump.specs.{Layout.imageOf, Reading.stateIn, Refused.restoreJudged, Laws.Fine.dump-fine, Laws.Fine.restore-fine}
+use Rattle.restart.specs.{Cut.size-of-image, Lives.Life, Lives.restoredState, Lives.restoredRooms, Lives.lastState, Lives.lastRooms, Lives.allBars, Lives.allPoints}
+use Rattle.restart.specs.{Lives.allTrades, Lives.LifeOf, Lives.LivesOf, PlanCut.plan-accepted, Plans.CutIn, Plans.inOrder, Plans.Plan}
+use Rattle.capi.specs.{Bars.StepLent, Joined.calls-run, WordRun.WordRun, WordRun.callsOver, WordRun.lentWith}
+use Rattle.capacitor.specs.{Loss.Loss, Loss.sizeOf, Loss.boxBefore, Loss.dumpOf, Loss.imageIn, Loss.restoreOf, Loss.boxAfter, Loss.Driven, Loss.Restored}
+use Rattle.capacitor.specs.{Loss.lastBox, Loss.barsBefore, Loss.pointsIn, Loss.tradesIn, Loss.pointsBefore, Loss.tradesBefore, Laws.PowerCalls.all-taken}
+use Rattle.capacitor.specs.{Laws.PowerCalls.dumped-image, Laws.PowerCalls.RestoreDone, Laws.PowerCalls.restore-done}
 
 -- the life before a loss
 abbrev pub lifeOf : List ℕ → Loss → Life

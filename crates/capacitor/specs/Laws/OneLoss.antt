@@ -1,35 +1,17 @@
 -- One loss: what the restore after it answers.
-use Prim.Native.Nat.{ℕ, _*_, _^_, _≤_}
-use mathlib.Core.Path.{_≡_, refl, subst, _∙_}
-use mathlib.Core.List.{List, [], _∷_, _++_}
-use native.Mathlib.Omega.{arith}
-use borrow.Author.Tests.{le-leb}
-use lib.ListN.{length, take}
-use Rattle.words.specs.Limits.{settingWords, stateWords}
-use Rattle.words.specs.Outcome.{refusal}
-use Rattle.records.specs.declared.settings.Settings.{Settings}
-use Rattle.records.specs.declared.state.State.{State}
-use Rattle.records.specs.Lent.{Lists, Rooms, rowPlaces}
-use Rattle.records.specs.Settings.{settingsOf}
-use Rattle.records.specs.Laws.RoundTrip.{Floats64}
-use Rattle.refusals.specs.declared.verdict.Verdict.the-variants.{Fine, Bad}
-use Rattle.refusals.specs.Lines.{judged}
-use Rattle.refusals.specs.Rooms.{roomLines}
-use Rattle.refusals.specs.Settings.{settingLines}
-use Rattle.engine.specs.Run.{Run, runOver}
-use Rattle.dump.specs.Layout.{imageOf}
-use Rattle.dump.specs.Refused.{restoreJudged}
-use Rattle.restart.specs.AsIfNever.{Ready}
-use Rattle.restart.specs.FirstWord.{RefusedOr, nineteen, twenty, whole}
-use Rattle.restart.specs.PlanCut.{plan-cut}
-use Rattle.restart.specs.Plans.{CutIn, inOrder, Plan}
-use Rattle.capi.specs.Bars.{StepLent}
-use Rattle.capi.specs.Call.{answerWord}
-use Rattle.capi.specs.WordRun.{answerOf, lentWith}
-use Rattle.capacitor.specs.Capacitor.{AfterLoss, goesOn, refused19, refused20}
-use Rattle.capacitor.specs.Loss.{Loss, sizeOf, restoreOf, boxAfter, Driven, Restored, lastBox}
-use Rattle.capacitor.specs.Laws.LivesInWords.{image-is}
-use Rattle.capacitor.specs.Laws.PowerCalls.{restore-answers}
+use Rattle.words.specs.Prelude.{ℕ, _*_, _^_, _≤_, _≡_, refl, subst, _∙_, List, [], _∷_, _++_, arith, le-leb, length, take}
+use Rattle.words.specs.{Limits.settingWords, Limits.stateWords, Outcome.refusal}
+use Rattle.records.specs.{declared.settings.Settings.Settings, declared.state.State.State, Lent.Lists, Lent.Rooms, Lent.rowPlaces, Settings.settingsOf}
+use Rattle.records.specs.{Laws.RoundTrip.Floats64}
+use Rattle.refusals.specs.{declared.verdict.Verdict.the-variants.Fine, declared.verdict.Verdict.the-variants.Bad, Lines.judged, Rooms.roomLines}
+use Rattle.refusals.specs.{Settings.settingLines}
+use Rattle.engine.specs.{Run.Run, Run.runOver}
+use Rattle.dump.specs.{Layout.imageOf, Refused.restoreJudged}
+use Rattle.restart.specs.{AsIfNever.Ready, FirstWord.RefusedOr, FirstWord.nineteen, FirstWord.twenty, FirstWord.whole, PlanCut.plan-cut, Plans.CutIn, Plans.inOrder}
+use Rattle.restart.specs.{Plans.Plan}
+use Rattle.capi.specs.{Bars.StepLent, Call.answerWord, WordRun.answerOf, WordRun.lentWith}
+use Rattle.capacitor.specs.{Capacitor.AfterLoss, Capacitor.goesOn, Capacitor.refused19, Capacitor.refused20, Loss.Loss, Loss.sizeOf, Loss.restoreOf}
+use Rattle.capacitor.specs.{Loss.boxAfter, Loss.Driven, Loss.Restored, Loss.lastBox, Laws.LivesInWords.image-is, Laws.PowerCalls.restore-answers}
 
 -- one loss more
 pub restored-more : (settings : List ℕ) (ls : Lists) (losses : List Loss) (box : StepLent) (l : Loss) → Restored settings ls box losses

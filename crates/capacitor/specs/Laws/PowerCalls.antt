@@ -1,47 +1,18 @@
 -- `ysh_step`, `ysh_dump` and `ysh_restore` on the words of a state: what an answer of 0 tells of the engine, and what the engine's verdict makes the answer.
-use Prim.Native.Nat.{ℕ, _≤_, _/_, _^_}
-use mathlib.Core.Path.{_≡_, refl, sym, ap, _∙_}
-use mathlib.Core.List.{List}
-use native.Mathlib.Omega.{arith}
-use lib.ListN.{length, take}
-use Rattle.words.specs.Limits.{settingWords, stateWords}
-use Rattle.words.specs.declared.refusal.Refusal.{Refusal}
-use Rattle.words.specs.Outcome.{gives}
-use Rattle.words.specs.Words.{overwrite}
-use Rattle.words.specs.Laws.Overwrite.{overwrite-length}
-use Rattle.records.specs.declared.settings.Settings.{Settings}
-use Rattle.records.specs.declared.state.State.{State}
-use Rattle.records.specs.Lent.{Lists, Rooms}
-use Rattle.records.specs.Settings.{settingsOf}
-use Rattle.records.specs.StateWords.{stateOf, wordsOf}
-use Rattle.records.specs.Laws.RoundTrip.{Floats64, state-kept}
-use Rattle.refusals.specs.declared.verdict.Verdict.{Verdict}
-use Rattle.refusals.specs.declared.verdict.Verdict.the-variants.{Fine, Bad}
-use Rattle.refusals.specs.Lines.{judged}
-use Rattle.refusals.specs.Rooms.{roomLines}
-use Rattle.refusals.specs.Laws.Lines.{never, both-fine}
-use Rattle.engine.specs.Boxes.{NotFull}
-use Rattle.engine.specs.Laws.Runs.{run-ends}
-use Rattle.engine.specs.Run.{runOver}
-use Rattle.dump.specs.Layout.{dumpBytes, imageOf}
-use Rattle.dump.specs.Order.{written}
-use Rattle.dump.specs.Reading.{stateIn, windowIn}
-use Rattle.dump.specs.Refused.{dumpLines, dumpJudged, restoreJudged}
-use Rattle.dump.specs.Dumping.{leftBy}
-use Rattle.dump.specs.Restoring.{restoredBy}
-use Rattle.dump.specs.Laws.Fine.{dump-fine}
-use Rattle.restart.specs.Cut.{size-of-image}
-use Rattle.restart.specs.OrderPlan.{all-written}
-use Rattle.capi.specs.Call.{callOf, unlessBad}
-use Rattle.capi.specs.DayJoined.{lent-had}
-use Rattle.capi.specs.Joined.{lent-fine}
-use Rattle.capi.specs.Power.{RestoreLent, dumpGives, dumpCall, restoreGives, restoreCall}
-use Rattle.capi.specs.WordRun.{answerOf}
-use Rattle.capi.specs.Laws.Answers.{answer-number}
-use Rattle.capi.specs.Laws.Calls.{Small, refused-word}
-use Rattle.capi.specs.Laws.DumpCalls.{dump-honest, restore-honest}
-use Rattle.capi.specs.Laws.RunCalls.{step-small}
-use Rattle.capacitor.specs.Laws.Answered.{refuses-not, gives-same, unless-gives}
+use Rattle.words.specs.Prelude.{ℕ, _≤_, _/_, _^_, _≡_, refl, sym, ap, _∙_, List, arith, length, take}
+use Rattle.words.specs.{Limits.settingWords, Limits.stateWords, declared.refusal.Refusal.Refusal, Outcome.gives, Words.overwrite, Laws.Overwrite.overwrite-length}
+use Rattle.records.specs.{declared.settings.Settings.Settings, declared.state.State.State, Lent.Lists, Lent.Rooms, Settings.settingsOf, StateWords.stateOf}
+use Rattle.records.specs.{StateWords.wordsOf, Laws.RoundTrip.Floats64, Laws.RoundTrip.state-kept}
+use Rattle.refusals.specs.{declared.verdict.Verdict.Verdict, declared.verdict.Verdict.the-variants.Fine, declared.verdict.Verdict.the-variants.Bad, Lines.judged}
+use Rattle.refusals.specs.{Rooms.roomLines, Laws.Lines.never, Laws.Lines.both-fine}
+use Rattle.engine.specs.{Boxes.NotFull, Laws.Runs.run-ends, Run.runOver}
+use Rattle.dump.specs.{Layout.dumpBytes, Layout.imageOf, Order.written, Reading.stateIn, Reading.windowIn, Refused.dumpLines, Refused.dumpJudged}
+use Rattle.dump.specs.{Refused.restoreJudged, Dumping.leftBy, Restoring.restoredBy, Laws.Fine.dump-fine}
+use Rattle.restart.specs.{Cut.size-of-image, OrderPlan.all-written}
+use Rattle.capi.specs.{Call.callOf, Call.unlessBad, DayJoined.lent-had, Joined.lent-fine, Power.RestoreLent, Power.dumpGives, Power.dumpCall, Power.restoreGives}
+use Rattle.capi.specs.{Power.restoreCall, WordRun.answerOf, Laws.Answers.answer-number, Laws.Calls.Small, Laws.Calls.refused-word, Laws.DumpCalls.dump-honest}
+use Rattle.capi.specs.{Laws.DumpCalls.restore-honest, Laws.RunCalls.step-small}
+use Rattle.capacitor.specs.{Laws.Answered.refuses-not, Laws.Answered.gives-same, Laws.Answered.unless-gives}
 
 -- ---- bars
 

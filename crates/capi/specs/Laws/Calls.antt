@@ -1,14 +1,9 @@
 -- Of every call: an answer other than 0 leaves all that was lent as it was, its halves are the number and the place of what is refused, and
 -- an answer of 0 means that nothing was refused. One law over calls; TableCalls and RunCalls say for each call that its refusals are small.
-use Prim.Native.Nat.{ℕ, _<_, _/_, _%_, _^_}
-use mathlib.Core.Path.{_≡_, refl}
-use native.Mathlib.Omega.{arith}
-use Rattle.words.specs.declared.refusal.Refusal.{Refusal}
-use Rattle.words.specs.Outcome.{Outcome, gives, refuses}
-use Rattle.refusals.specs.declared.verdict.Verdict.{Verdict}
-use Rattle.refusals.specs.declared.verdict.Verdict.the-variants.{Fine, Bad}
-use Rattle.capi.specs.Call.{Call, answerWord, callOf, unlessBad}
-use Rattle.capi.specs.Laws.Answers.{answer-number, answer-place}
+use Rattle.words.specs.Prelude.{ℕ, _<_, _/_, _%_, _^_, _≡_, refl, arith}
+use Rattle.words.specs.{declared.refusal.Refusal.Refusal, Outcome.Outcome, Outcome.gives, Outcome.refuses}
+use Rattle.refusals.specs.{declared.verdict.Verdict.Verdict, declared.verdict.Verdict.the-variants.Fine, declared.verdict.Verdict.the-variants.Bad}
+use Rattle.capi.specs.{Call.Call, Call.answerWord, Call.callOf, Call.unlessBad, Laws.Answers.answer-number, Laws.Answers.answer-place}
 
 -- a number and a place that stand in the halves of an answer, and make it no 0
 pub record Small (r : Refusal) : Type 0 where

@@ -1,16 +1,10 @@
 -- ysh_compare: each of its refusals has a number and a place that an answer can hold, so the law over calls holds of it.
-use Prim.Native.Nat.{ℕ, _*_}
-use mathlib.Core.Bool.{Bool, true, false, cond, _&&_}
-use mathlib.Core.List.{List}
-use native.Mathlib.Omega.{arith}
-use lib.Dec.{leb}
-use lib.ListN.{length}
-use Rattle.words.specs.Words.{overwrite}
-use Rattle.differences.specs.declared.compare.Compared.the-variants.{Lines}
-use Rattle.differences.specs.Lines.{lineWords, differences, wordsOf}
-use Rattle.differences.specs.Compared.{Comparison, compared, written, whole, refused}
-use Rattle.capi.specs.Compare.{LineRooms, compareGives, compareCall}
-use Rattle.capi.specs.Laws.Calls.{Numbered, Honest, honest, one-refusal, never-refuses}
+use Rattle.words.specs.Prelude.{ℕ, _*_, Bool, true, false, cond, _&&_, List, arith, leb, length}
+use Rattle.words.specs.{Words.overwrite}
+use Rattle.differences.specs.{declared.compare.Compared.the-variants.Lines, Lines.lineWords, Lines.differences, Lines.wordsOf, Compared.Comparison}
+use Rattle.differences.specs.{Compared.compared, Compared.written, Compared.whole, Compared.refused}
+use Rattle.capi.specs.{Compare.LineRooms, Compare.compareGives, Compare.compareCall, Laws.Calls.Numbered, Laws.Calls.Honest, Laws.Calls.honest}
+use Rattle.capi.specs.{Laws.Calls.one-refusal, Laws.Calls.never-refuses}
 
 compare-by : (p q : Bool) (n : ℕ) (room lines : List ℕ) →
     (let after = cond {A = Comparison} p (cond q (record { answer = Lines n; room = lines }) (record { answer = refused 10 15; room = room }))

@@ -1,37 +1,17 @@
 -- ysh_dump_bytes, ysh_dump and ysh_restore: the size that is asked for is the one that 10 asks of an area, and each refusal has a number and a place that an
 -- answer can hold, so the law over calls holds of both.
-use Prim.Native.Nat.{ℕ, _≤_}
-use mathlib.Core.Path.{_≡_, refl, sym}
-use mathlib.Core.Bool.{Bool, true, false, cond, _&&_}
-use mathlib.Core.List.{List, [], _∷_}
-use native.Mathlib.Omega.{arith}
-use borrow.Author.Tests.{leb-true, le-leb}
-use lib.Dec.{leb}
-use lib.ListN.{length}
-use Rattle.words.specs.declared.refusal.Refusal.{Refusal}
-use Rattle.words.specs.Limits.{mostSlots, mostRows}
-use Rattle.words.specs.Outcome.{refusal}
-use Rattle.words.specs.Words.{overwrite}
-use Rattle.records.specs.declared.settings.Settings.{Settings}
-use Rattle.records.specs.declared.state.State.{State}
-use Rattle.records.specs.Settings.{settingsOf}
-use Rattle.records.specs.StateWords.{stateOf}
-use Rattle.refusals.specs.declared.verdict.Verdict.{Verdict}
-use Rattle.refusals.specs.declared.verdict.Verdict.the-variants.{Fine, Bad}
-use Rattle.refusals.specs.Lines.{Line, judged}
-use Rattle.refusals.specs.Rooms.{roomLines, stateLines}
-use Rattle.refusals.specs.Settings.{sizingLines, slippageLines, riskLines, termLines, entryLines, settingLines}
-use Rattle.refusals.specs.Laws.Lines.{never, and-true, first-holds}
-use Rattle.dump.specs.Layout.{dumpBytes, sizeFor, imageOf}
-use Rattle.dump.specs.Order.{written}
-use Rattle.dump.specs.Reading.{windowIn}
-use Rattle.dump.specs.Refused.{areaLines, dumpStateLines, dumpLines, dumpJudged, imageLines, sameLines, restoreLines, restoreJudged}
-use Rattle.dump.specs.Dumping.{leftBy}
-use Rattle.dump.specs.Restoring.{restoredBy}
-use Rattle.capi.specs.Call.{unlessBad, wordLines}
-use Rattle.capi.specs.Bars.{lentLines}
-use Rattle.capi.specs.Power.{dumpGives, dumpCall, restoreGives, restoreCall}
-use Rattle.capi.specs.Laws.Calls.{Small, Numbered, Honest, honest, never-refuses, one-refusal, after-verdict}
+use Rattle.words.specs.Prelude.{ℕ, _≤_, _≡_, refl, sym, Bool, true, false, cond, _&&_, List, [], _∷_, arith, leb-true, le-leb, leb, length}
+use Rattle.words.specs.{declared.refusal.Refusal.Refusal, Limits.mostSlots, Limits.mostRows, Outcome.refusal, Words.overwrite}
+use Rattle.records.specs.{declared.settings.Settings.Settings, declared.state.State.State, Settings.settingsOf, StateWords.stateOf}
+use Rattle.refusals.specs.{declared.verdict.Verdict.Verdict, declared.verdict.Verdict.the-variants.Fine, declared.verdict.Verdict.the-variants.Bad, Lines.Line}
+use Rattle.refusals.specs.{Lines.judged, Rooms.roomLines, Rooms.stateLines, Settings.sizingLines, Settings.slippageLines, Settings.riskLines, Settings.termLines}
+use Rattle.refusals.specs.{Settings.entryLines, Settings.settingLines, Laws.Lines.never, Laws.Lines.and-true, Laws.Lines.first-holds}
+use Rattle.dump.specs.{Layout.dumpBytes, Layout.sizeFor, Layout.imageOf, Order.written, Reading.windowIn, Refused.areaLines, Refused.dumpStateLines}
+use Rattle.dump.specs.{Refused.dumpLines, Refused.dumpJudged, Refused.imageLines, Refused.sameLines, Refused.restoreLines, Refused.restoreJudged, Dumping.leftBy}
+use Rattle.dump.specs.{Restoring.restoredBy}
+use Rattle.capi.specs.{Call.unlessBad, Call.wordLines, Bars.lentLines, Power.dumpGives, Power.dumpCall, Power.restoreGives, Power.restoreCall}
+use Rattle.capi.specs.{Laws.Calls.Small, Laws.Calls.Numbered, Laws.Calls.Honest, Laws.Calls.honest, Laws.Calls.never-refuses, Laws.Calls.one-refusal}
+use Rattle.capi.specs.{Laws.Calls.after-verdict}
 
 -- ---- ysh_dump_bytes
 

@@ -1,38 +1,19 @@
 -- ysh_dump_part: a part is a stretch of what ysh_dump leaves, and parts one after another are all of it. Each refusal has a number and a place that an
 -- answer can hold.
-use Prim.Native.Nat.{ℕ, _+_, _≤_}
-use mathlib.Core.Path.{_≡_, refl, sym, ap, _∙_}
-use mathlib.Core.Bool.{true}
-use mathlib.Core.List.{List, [], _∷_, _++_}
-use native.Mathlib.Omega.{arith}
-use lib.ListN.{length, take, drop, length-take}
+use Rattle.words.specs.Prelude.{ℕ, _+_, _≤_, _≡_, refl, sym, ap, _∙_, true, List, [], _∷_, _++_, arith, length, take, drop, length-take}
+use Rattle.words.specs.{declared.refusal.Refusal.Refusal, Outcome.gives, Laws.Overwrite.overwrite-fits}
+use Rattle.records.specs.{declared.settings.Settings.Settings, declared.state.State.State, Settings.settingsOf, StateWords.stateOf}
+use Rattle.refusals.specs.{declared.verdict.Verdict.Verdict, declared.verdict.Verdict.the-variants.Fine, declared.verdict.Verdict.the-variants.Bad, Lines.judged}
+use Rattle.refusals.specs.{Rooms.roomLines, Rooms.stateLines, Settings.sizingLines, Settings.slippageLines, Settings.riskLines, Settings.termLines}
+use Rattle.refusals.specs.{Settings.entryLines, Settings.settingLines, Laws.Lines.both-fine}
+use Rattle.dump.specs.{Layout.dumpBytes, Layout.sizeFor, Layout.imageOf, Order.written, Refused.areaLines, Refused.dumpStateLines, Refused.dumpLines}
+use Rattle.dump.specs.{Refused.dumpJudged, Parts.bytesFrom, Parts.partLines, Parts.partJudged, Laws.Fine.dump-fine, Laws.PartFine.fine-part, Laws.Parts.inParts}
+use Rattle.dump.specs.{Laws.Parts.total, Laws.Parts.parts-are-whole, Laws.Parts.size-of, Laws.Parts.whole-written}
+use Rattle.capi.specs.{Call.Call, Call.callOf, Call.unlessBad, Bars.lentLines, Power.dumpGives, Power.dumpCall, Part.PartLent, Part.partGives}
+use Rattle.capi.specs.{Part.filledWith, Part.partCall, Laws.Calls.Small, Laws.Calls.Numbered, Laws.Calls.Honest, Laws.Calls.honest, Laws.Calls.never-refuses}
+use Rattle.capi.specs.{Laws.Calls.one-refusal, Laws.Calls.after-verdict, Laws.DumpCalls.onPaper, Laws.DumpCalls.paper-small, Laws.DumpCalls.lent-small}
+use Rattle.capi.specs.{Laws.DumpCalls.dump-bytes, Laws.DumpCalls.dump-honest}
 use lib.Seq.{take-append-seam}
-use Rattle.words.specs.declared.refusal.Refusal.{Refusal}
-use Rattle.words.specs.Outcome.{gives}
-use Rattle.words.specs.Laws.Overwrite.{overwrite-fits}
-use Rattle.records.specs.declared.settings.Settings.{Settings}
-use Rattle.records.specs.declared.state.State.{State}
-use Rattle.records.specs.Settings.{settingsOf}
-use Rattle.records.specs.StateWords.{stateOf}
-use Rattle.refusals.specs.declared.verdict.Verdict.{Verdict}
-use Rattle.refusals.specs.declared.verdict.Verdict.the-variants.{Fine, Bad}
-use Rattle.refusals.specs.Lines.{judged}
-use Rattle.refusals.specs.Rooms.{roomLines, stateLines}
-use Rattle.refusals.specs.Settings.{sizingLines, slippageLines, riskLines, termLines, entryLines, settingLines}
-use Rattle.refusals.specs.Laws.Lines.{both-fine}
-use Rattle.dump.specs.Layout.{dumpBytes, sizeFor, imageOf}
-use Rattle.dump.specs.Order.{written}
-use Rattle.dump.specs.Refused.{areaLines, dumpStateLines, dumpLines, dumpJudged}
-use Rattle.dump.specs.Parts.{bytesFrom, partLines, partJudged}
-use Rattle.dump.specs.Laws.Fine.{dump-fine}
-use Rattle.dump.specs.Laws.PartFine.{fine-part}
-use Rattle.dump.specs.Laws.Parts.{inParts, total, parts-are-whole, size-of, whole-written}
-use Rattle.capi.specs.Call.{Call, callOf, unlessBad}
-use Rattle.capi.specs.Bars.{lentLines}
-use Rattle.capi.specs.Power.{dumpGives, dumpCall}
-use Rattle.capi.specs.Part.{PartLent, partGives, filledWith, partCall}
-use Rattle.capi.specs.Laws.Calls.{Small, Numbered, Honest, honest, never-refuses, one-refusal, after-verdict}
-use Rattle.capi.specs.Laws.DumpCalls.{onPaper, paper-small, lent-small, dump-bytes, dump-honest}
 
 -- ---- honest
 

@@ -1,45 +1,22 @@
 -- The calls that begin a run, step over a bar, end a run and give the metrics: each of their refusals has a number and a place that an
 -- answer can hold, so of each the law over calls holds.
-use Prim.Native.Nat.{ℕ, _<_, _^_}
-use mathlib.Core.Path.{_≡_, refl}
-use mathlib.Core.Bool.{Bool, true, false, cond}
-use mathlib.Core.List.{List, _++_}
-use native.Mathlib.Omega.{arith}
-use Rattle.words.specs.declared.refusal.Refusal.{Refusal}
-use Rattle.words.specs.Outcome.{Outcome, gives, refuses}
-use Rattle.words.specs.Words.{overwrite}
-use Rattle.floats.specs.Floats.{floatOf}
-use Rattle.metrics.specs.declared.Metrics.{Metrics}
-use Rattle.metrics.specs.Records.{whole}
-use Rattle.metrics.specs.Figures.{notWhole, computed}
-use Rattle.records.specs.declared.settings.Settings.{Settings}
-use Rattle.records.specs.declared.state.State.{State}
-use Rattle.records.specs.Lent.{Rooms, Lists}
-use Rattle.records.specs.Settings.{settingsOf}
-use Rattle.records.specs.State.{freshState}
-use Rattle.records.specs.StateWords.{stateOf, wordsOf}
-use Rattle.refusals.specs.declared.verdict.Verdict.{Verdict}
-use Rattle.refusals.specs.declared.verdict.Verdict.the-variants.{Fine, Bad}
-use Rattle.refusals.specs.Lines.{Line, judged}
-use Rattle.refusals.specs.Rooms.{roomLines}
-use Rattle.refusals.specs.Judgement.{stepLines, finishLines, finishJudged}
-use Rattle.refusals.specs.Laws.Numbers.{numbered, number-within, both-numbered, step-numbered, finish-numbered}
-use Rattle.refusals.specs.Laws.Places.{named, named-placed, place-below, finish-place}
-use Rattle.engine.specs.declared.answer.Answer.{Answer}
-use Rattle.engine.specs.declared.answer.Answer.the-variants.{Refused, Done}
-use Rattle.engine.specs.declared.answer.Ended.{Ended}
-use Rattle.engine.specs.declared.answer.Finished.{Finished}
-use Rattle.engine.specs.declared.answer.Finished.the-variants.{Refused as NotEnded, Done as AtEnd}
-use Rattle.engine.specs.Step.{With, sizeLines, stepVerdict, stepAnswer}
-use Rattle.engine.specs.Finish.{ended, concluded, finishOf}
-use Rattle.engine.specs.Laws.Refusal.{refusal-changes-nothing}
-use Rattle.engine.specs.Laws.Verdict.{verdict-place}
-use Rattle.capi.specs.Call.{unlessBad, wordLines, metricLines}
-use Rattle.capi.specs.Fresh.{freshCall}
-use Rattle.capi.specs.Bars.{lentLines, stepGives, stepCall}
-use Rattle.capi.specs.Finish.{finishGives, finishCall}
-use Rattle.capi.specs.Figures.{metricsGives, metricsCall}
-use Rattle.capi.specs.Laws.Calls.{Small, Numbered, Honest, honest, never-refuses, one-refusal, after-verdict}
+use Rattle.words.specs.Prelude.{ℕ, _<_, _^_, _≡_, refl, Bool, true, false, cond, List, _++_, arith}
+use Rattle.words.specs.{declared.refusal.Refusal.Refusal, Outcome.Outcome, Outcome.gives, Outcome.refuses, Words.overwrite}
+use Rattle.floats.specs.{Floats.floatOf}
+use Rattle.metrics.specs.{declared.Metrics.Metrics, Records.whole, Figures.notWhole, Figures.computed}
+use Rattle.records.specs.{declared.settings.Settings.Settings, declared.state.State.State, Lent.Rooms, Lent.Lists, Settings.settingsOf, State.freshState}
+use Rattle.records.specs.{StateWords.stateOf, StateWords.wordsOf}
+use Rattle.refusals.specs.{declared.verdict.Verdict.Verdict, declared.verdict.Verdict.the-variants.Fine, declared.verdict.Verdict.the-variants.Bad, Lines.Line}
+use Rattle.refusals.specs.{Lines.judged, Rooms.roomLines, Judgement.stepLines, Judgement.finishLines, Judgement.finishJudged, Laws.Numbers.numbered}
+use Rattle.refusals.specs.{Laws.Numbers.number-within, Laws.Numbers.both-numbered, Laws.Numbers.step-numbered, Laws.Numbers.finish-numbered, Laws.Places.named}
+use Rattle.refusals.specs.{Laws.Places.named-placed, Laws.Places.place-below, Laws.Places.finish-place}
+use Rattle.engine.specs.{declared.answer.Answer.Answer, declared.answer.Answer.the-variants.Refused, declared.answer.Answer.the-variants.Done}
+use Rattle.engine.specs.{declared.answer.Ended.Ended, declared.answer.Finished.Finished, declared.answer.Finished.the-variants.Refused as NotEnded}
+use Rattle.engine.specs.{declared.answer.Finished.the-variants.Done as AtEnd, Step.With, Step.sizeLines, Step.stepVerdict, Step.stepAnswer, Finish.ended}
+use Rattle.engine.specs.{Finish.concluded, Finish.finishOf, Laws.Refusal.refusal-changes-nothing, Laws.Verdict.verdict-place}
+use Rattle.capi.specs.{Call.unlessBad, Call.wordLines, Call.metricLines, Fresh.freshCall, Bars.lentLines, Bars.stepGives, Bars.stepCall, Finish.finishGives}
+use Rattle.capi.specs.{Finish.finishCall, Figures.metricsGives, Figures.metricsCall, Laws.Calls.Small, Laws.Calls.Numbered, Laws.Calls.Honest}
+use Rattle.capi.specs.{Laws.Calls.honest, Laws.Calls.never-refuses, Laws.Calls.one-refusal, Laws.Calls.after-verdict}
 
 -- lines that have the paper's numbers, and places below 2^32
 lines-small : (ls : List Line) → numbered ls ≡ true → (r : Refusal) → judged ls ≡ Bad r → r .place < 2 ^ 32 → Small r

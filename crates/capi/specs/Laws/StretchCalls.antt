@@ -1,22 +1,13 @@
 -- ysh_append and ysh_stretch: each of their refusals has a number and a place that an answer can hold, so the law over calls holds of them.
-use Prim.Native.Nat.{ℕ, _<_}
-use mathlib.Core.Path.{_≡_, refl}
-use mathlib.Core.Bool.{Bool, true, false, cond, _&&_}
-use mathlib.Core.List.{List}
-use native.Mathlib.Omega.{arith}
-use borrow.Author.Tests.{ltb-true}
-use lib.Dec.{ltb}
-use lib.ListN.{length}
-use Rattle.words.specs.Limits.{mostCount}
-use Rattle.words.specs.Outcome.{refusal}
-use Rattle.floats.specs.Floats.{floatOf, finite}
-use Rattle.blocks.specs.declared.best.Best.{Best}
-use Rattle.blocks.specs.Append.{Append, appended, kept, unchanged, refused, placeForBlock}
-use Rattle.blocks.specs.Reads.{reads, told}
+use Rattle.words.specs.Prelude.{ℕ, _<_, _≡_, refl, Bool, true, false, cond, _&&_, List, arith, ltb-true, ltb, length}
+use Rattle.words.specs.{Limits.mostCount, Outcome.refusal}
+use Rattle.floats.specs.{Floats.floatOf, Floats.finite}
+use Rattle.blocks.specs.{declared.best.Best.Best, Append.Append, Append.appended, Append.kept, Append.unchanged, Append.refused, Append.placeForBlock, Reads.reads}
+use Rattle.blocks.specs.{Reads.told}
+use Rattle.capi.specs.{Stretch.BlockRooms, Stretch.appendGives, Stretch.appendCall, Stretch.stretchGives, Stretch.stretchCall, Laws.Calls.Numbered}
+use Rattle.capi.specs.{Laws.Calls.Honest, Laws.Calls.honest, Laws.Calls.one-refusal, Laws.Calls.never-refuses}
 use Rattle.blocks.specs.declared.stretch.Found.the-variants as Found
 use Rattle.blocks.specs.Stretch as Stretch
-use Rattle.capi.specs.Stretch.{BlockRooms, appendGives, appendCall, stretchGives, stretchCall}
-use Rattle.capi.specs.Laws.Calls.{Numbered, Honest, honest, one-refusal, never-refuses}
 
 append-by : (p q r s : Bool) (held : ℕ) (closes blocks : List ℕ) → (q ≡ true → held < mostCount) → (k : Append)
     → Numbered (appendGives (k .answer) (k .closes) (k .blocks)) →

@@ -1,46 +1,30 @@
 -- The calls over a table, and over rows and lists of steps: each of their refusals has a number and a place that an answer can hold, so of
 -- each the law over calls holds.
-use Prim.Native.Nat.{ℕ, _+_, _*_, _<_, _≤_}
-use mathlib.Core.Path.{_≡_, refl}
-use mathlib.Core.Bool.{Bool, true, false, cond, not, _&&_}
-use mathlib.Core.List.{List}
-use native.Mathlib.Omega.{arith}
-use lib.Dec.{eqb, ltb, leb}
-use lib.ListN.{length}
-use borrow.Author.Tests.{eqb-true, eqb-false}
-use Rattle.words.specs.declared.refusal.Refusal.{Refusal}
-use Rattle.words.specs.Limits.{mostSlots, mostRows, mostReach, mostNodes, mostSteps, trees}
-use Rattle.words.specs.Outcome.{Outcome, refusal}
-use Rattle.rows.specs.History.{wholeRows}
-use Rattle.table.specs.declared.answer.Answer.{Answer}
-use Rattle.table.specs.declared.answer.Answer.the-variants.{Accepted, Refused}
-use Rattle.table.specs.declared.places.Place.{Place}
-use Rattle.table.specs.declared.places.Place.the-variants.{At, Nowhere}
-use Rattle.table.specs.declared.silent.SilentAnswer.the-variants.{Lists, Refuses as SilentRefuses}
-use Rattle.needed.specs.declared.depth.DepthAnswer.the-variants.{Needs, Refuses as DepthRefuses}
-use Rattle.table.specs.declared.trees.Tree.{Tree}
-use Rattle.table.specs.declared.trees.Tree.the-variants.{Entry, Exit, ShortEntry, ShortExit}
-use Rattle.table.specs.Header.{newestVersion, markRight, versionRight, countsRight, total, headerRefusal, slots, treeNumber}
-use Rattle.table.specs.Checked.{orRefused, orHeader, from7, from8, from9, checkedUpTo, checked}
-use Rattle.needed.specs.Depth.{depthAnswer}
-use Rattle.table.specs.Laws.Header.{header-right}
-use Rattle.table.specs.Silent.{silentTests, silentAnswer, listAfter}
-use Rattle.rules.specs.declared.position.PositionState.{PositionState}
-use Rattle.rules.specs.declared.answers.RuleAnswer.the-variants.{Says, Refuses as RuleRefuses}
-use Rattle.rules.specs.Answers.{stateRight, afterCheck, judged, answered}
-use Rattle.steps.specs.declared.wellformed.Formed.{Formed}
-use Rattle.steps.specs.declared.wellformed.Formed.the-variants.{Well, Bad}
-use Rattle.steps.specs.declared.machine.Ran.{Ran}
-use Rattle.steps.specs.declared.running.RunAnswer.the-variants.{Refuses as RunRefuses}
-use Rattle.steps.specs.declared.translated.Translated.the-variants.{Writes, Refuses}
-use Rattle.steps.specs.Running.{ranIf, runs}
-use Rattle.steps.specs.Translating.{roomFor, writesOr, afterTable, translates}
-use Rattle.refusals.specs.Laws.BadStep.{bad-below}
-use Rattle.capi.specs.Tables.{numberedTree, CheckLent, checkGives, checkCall, DepthLent, depthGives, depthCall, SilentLent, silentGives, silentCall}
-use Rattle.capi.specs.Tables.{TranslateLent, translateGives, translateOutcome, translateCall}
-use Rattle.capi.specs.Run.{ruleGives, ruleCall, RunLent, runGives, runCall}
-use Rattle.capi.specs.Laws.TablePlaces.{UpTo, wrong-within, misfits-within, deep-within, far-within}
-use Rattle.capi.specs.Laws.Calls.{Small, Numbered, Honest, honest, one-refusal, never-refuses}
+use Rattle.words.specs.Prelude.{ℕ, _+_, _*_, _<_, _≤_, _≡_, refl, Bool, true, false, cond, not, _&&_, List, arith, eqb, ltb, leb, length, eqb-true, eqb-false}
+use Rattle.words.specs.{declared.refusal.Refusal.Refusal, Limits.mostSlots, Limits.mostRows, Limits.mostReach, Limits.mostNodes, Limits.mostSteps, Limits.trees}
+use Rattle.words.specs.{Outcome.Outcome, Outcome.refusal}
+use Rattle.rows.specs.{History.wholeRows}
+use Rattle.table.specs.{declared.answer.Answer.Answer, declared.answer.Answer.the-variants.Accepted, declared.answer.Answer.the-variants.Refused}
+use Rattle.table.specs.{declared.places.Place.Place, declared.places.Place.the-variants.At, declared.places.Place.the-variants.Nowhere}
+use Rattle.table.specs.{declared.silent.SilentAnswer.the-variants.Lists, declared.silent.SilentAnswer.the-variants.Refuses as SilentRefuses}
+use Rattle.table.specs.{declared.trees.Tree.Tree, declared.trees.Tree.the-variants.Entry, declared.trees.Tree.the-variants.Exit}
+use Rattle.table.specs.{declared.trees.Tree.the-variants.ShortEntry, declared.trees.Tree.the-variants.ShortExit, Header.newestVersion, Header.markRight}
+use Rattle.table.specs.{Header.versionRight, Header.countsRight, Header.total, Header.headerRefusal, Header.slots, Header.treeNumber, Checked.orRefused}
+use Rattle.table.specs.{Checked.orHeader, Checked.from7, Checked.from8, Checked.from9, Checked.checkedUpTo, Checked.checked, Laws.Header.header-right}
+use Rattle.table.specs.{Silent.silentTests, Silent.silentAnswer, Silent.listAfter}
+use Rattle.needed.specs.{declared.depth.DepthAnswer.the-variants.Needs, declared.depth.DepthAnswer.the-variants.Refuses as DepthRefuses, Depth.depthAnswer}
+use Rattle.rules.specs.{declared.position.PositionState.PositionState, declared.answers.RuleAnswer.the-variants.Says}
+use Rattle.rules.specs.{declared.answers.RuleAnswer.the-variants.Refuses as RuleRefuses, Answers.stateRight, Answers.afterCheck, Answers.judged, Answers.answered}
+use Rattle.steps.specs.{declared.wellformed.Formed.Formed, declared.wellformed.Formed.the-variants.Well, declared.wellformed.Formed.the-variants.Bad}
+use Rattle.steps.specs.{declared.machine.Ran.Ran, declared.running.RunAnswer.the-variants.Refuses as RunRefuses, declared.translated.Translated.the-variants.Writes}
+use Rattle.steps.specs.{declared.translated.Translated.the-variants.Refuses, Running.ranIf, Running.runs, Translating.roomFor, Translating.writesOr}
+use Rattle.steps.specs.{Translating.afterTable, Translating.translates}
+use Rattle.refusals.specs.{Laws.BadStep.bad-below}
+use Rattle.capi.specs.{Tables.numberedTree, Tables.CheckLent, Tables.checkGives, Tables.checkCall, Tables.DepthLent, Tables.depthGives, Tables.depthCall}
+use Rattle.capi.specs.{Tables.SilentLent, Tables.silentGives, Tables.silentCall, Tables.TranslateLent, Tables.translateGives, Tables.translateOutcome}
+use Rattle.capi.specs.{Tables.translateCall, Run.ruleGives, Run.ruleCall, Run.RunLent, Run.runGives, Run.runCall, Laws.TablePlaces.UpTo}
+use Rattle.capi.specs.{Laws.TablePlaces.wrong-within, Laws.TablePlaces.misfits-within, Laws.TablePlaces.deep-within, Laws.TablePlaces.far-within}
+use Rattle.capi.specs.{Laws.Calls.Small, Laws.Calls.Numbered, Laws.Calls.Honest, Laws.Calls.honest, Laws.Calls.one-refusal, Laws.Calls.never-refuses}
 
 -- ---- the numbers of a table's refusals
 

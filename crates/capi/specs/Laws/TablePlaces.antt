@@ -1,19 +1,11 @@
 -- The places of a table's refusals: a node's number, or just past the last one, and so at most 256.
-use Prim.Native.Nat.{ℕ, zero, suc, _+_, _≤_}
-use mathlib.Core.Bool.{Bool, true, false, cond}
-use mathlib.Core.List.{List, [], _∷_}
-use native.Mathlib.Omega.{arith}
-use lib.Dec.{ltb, eqb}
-use Rattle.words.specs.Limits.{mostReach, mostNesting, mostNodes}
-use Rattle.table.specs.declared.places.Place.{Place}
-use Rattle.table.specs.declared.places.Place.the-variants.{At, Nowhere}
-use Rattle.table.specs.Header.{newestVersion, total, count, root}
-use Rattle.table.specs.Nodes.{nodeAt, nodeRight, wrongNode, sortAt, childCountAt, childFitsAt}
-use Rattle.table.specs.Order.{fits, misfit, orPlace, ofFour, misfits}
-use Rattle.table.specs.Forest.{Forest, none, tree, firstTrees, otherTrees, nodeOver, trees, forestOf}
-use Rattle.table.specs.Nesting.{deeper, tooDeep}
-use Rattle.table.specs.Reach.{treeReach, farAt, tooFar}
-use Rattle.table.specs.Laws.Header.{HeaderRight}
+use Rattle.words.specs.Prelude.{ℕ, zero, suc, _+_, _≤_, Bool, true, false, cond, List, [], _∷_, arith, ltb, eqb}
+use Rattle.words.specs.{Limits.mostReach, Limits.mostNesting, Limits.mostNodes}
+use Rattle.table.specs.{declared.places.Place.Place, declared.places.Place.the-variants.At, declared.places.Place.the-variants.Nowhere, Header.newestVersion}
+use Rattle.table.specs.{Header.total, Header.count, Header.root, Nodes.nodeAt, Nodes.nodeRight, Nodes.wrongNode, Nodes.sortAt, Nodes.childCountAt}
+use Rattle.table.specs.{Nodes.childFitsAt, Order.fits, Order.misfit, Order.orPlace, Order.ofFour, Order.misfits, Forest.Forest, Forest.none, Forest.tree}
+use Rattle.table.specs.{Forest.firstTrees, Forest.otherTrees, Forest.nodeOver, Forest.trees, Forest.forestOf, Nesting.deeper, Nesting.tooDeep, Reach.treeReach}
+use Rattle.table.specs.{Reach.farAt, Reach.tooFar, Laws.Header.HeaderRight}
 
 -- a place, where there is one, is at most n
 unfoldable pub UpTo : ℕ → Place → Type 0

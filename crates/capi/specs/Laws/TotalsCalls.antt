@@ -1,19 +1,12 @@
 -- ysh_totals and ysh_totals_join: each of their refusals has a number and a place that an answer can hold, so the law over calls holds of both.
-use Prim.Native.Nat.{ℕ, suc, _+_, _/_, _%_, _^_, _<_, _≤_}
-use mathlib.Core.Path.{_≡_, refl, sym, ap}
-use mathlib.Core.Bool.{Bool, true, false, cond}
-use mathlib.Core.List.{List, [], _∷_}
-use native.Mathlib.Omega.{arith}
-use borrow.Author.Tests.{leb-true, leb-false}
-use lib.Dec.{leb, eqb}
-use lib.ListN.{length}
-use Rattle.words.specs.Limits.{tradeWords, mostCount}
-use Rattle.totals.specs.declared.Answer.the-variants.{Done}
-use Rattle.totals.specs.Trades.{Trade, acceptable, tradesFrom, goodStart, judgedCount}
-use Rattle.totals.specs.Totals.{unless, totalWords, countsOf, traded, countsFine, addAnswer, addLeaves, joinAnswer, joinLeaves}
-use Rattle.totals.specs.Laws.Trades.{length-trades}
-use Rattle.capi.specs.Totals.{totalsGives, totalsCall, joinCall}
-use Rattle.capi.specs.Laws.Calls.{Small, Numbered, Honest, honest, one-refusal, never-refuses}
+use Rattle.words.specs.Prelude.{ℕ, suc, _+_, _/_, _%_, _^_, _<_, _≤_, _≡_, refl, sym, ap, Bool, true, false, cond, List, [], _∷_, arith, leb-true, leb-false, leb}
+use Rattle.words.specs.Prelude.{eqb, length}
+use Rattle.words.specs.{Limits.tradeWords, Limits.mostCount}
+use Rattle.totals.specs.{declared.Answer.the-variants.Done, Trades.Trade, Trades.acceptable, Trades.tradesFrom, Trades.goodStart, Trades.judgedCount, Totals.unless}
+use Rattle.totals.specs.{Totals.totalWords, Totals.countsOf, Totals.traded, Totals.countsFine, Totals.addAnswer, Totals.addLeaves, Totals.joinAnswer}
+use Rattle.totals.specs.{Totals.joinLeaves, Laws.Trades.length-trades}
+use Rattle.capi.specs.{Totals.totalsGives, Totals.totalsCall, Totals.joinCall, Laws.Calls.Small, Laws.Calls.Numbered, Laws.Calls.Honest, Laws.Calls.honest}
+use Rattle.capi.specs.{Laws.Calls.one-refusal, Laws.Calls.never-refuses}
 
 -- ---- a trade's number
 

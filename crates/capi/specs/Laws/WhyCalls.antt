@@ -1,25 +1,14 @@
 -- ysh_why: each of its refusals has a number and a place that an answer can hold, so the law over calls holds of it.
-use Prim.Native.Nat.{ℕ}
-use mathlib.Core.Path.{_≡_, refl}
-use mathlib.Core.Bool.{Bool, true, false, cond, _&&_}
-use mathlib.Core.List.{List}
-use native.Mathlib.Omega.{arith}
-use lib.Dec.{ltb}
-use lib.ListN.{length}
-use Rattle.words.specs.declared.refusal.Refusal.{Refusal}
-use Rattle.words.specs.Outcome.{refusal}
-use Rattle.rows.specs.History.{wholeRows}
-use Rattle.table.specs.declared.answer.Answer.{Answer}
-use Rattle.table.specs.declared.answer.Answer.the-variants.{Accepted, Refused}
-use Rattle.table.specs.Header.{slots}
-use Rattle.table.specs.Checked.{checked}
-use Rattle.rules.specs.declared.position.PositionState.{PositionState}
-use Rattle.rules.specs.Answers.{stateRight}
-use Rattle.chain.specs.declared.explain.Explained.the-variants.{Lines, Refuses}
-use Rattle.chain.specs.Explained.{explanation, explainedBy, explained, linesAfter}
-use Rattle.capi.specs.Why.{WhyLent, whyGives, whyCall}
-use Rattle.capi.specs.Laws.Calls.{Small, Numbered, Honest, honest, one-refusal, never-refuses}
-use Rattle.capi.specs.Laws.TableCalls.{table-number}
+use Rattle.words.specs.Prelude.{ℕ, _≡_, refl, Bool, true, false, cond, _&&_, List, arith, ltb, length}
+use Rattle.words.specs.{declared.refusal.Refusal.Refusal, Outcome.refusal}
+use Rattle.rows.specs.{History.wholeRows}
+use Rattle.table.specs.{declared.answer.Answer.Answer, declared.answer.Answer.the-variants.Accepted, declared.answer.Answer.the-variants.Refused, Header.slots}
+use Rattle.table.specs.{Checked.checked}
+use Rattle.rules.specs.{declared.position.PositionState.PositionState, Answers.stateRight}
+use Rattle.chain.specs.{declared.explain.Explained.the-variants.Lines, declared.explain.Explained.the-variants.Refuses, Explained.explanation}
+use Rattle.chain.specs.{Explained.explainedBy, Explained.explained, Explained.linesAfter}
+use Rattle.capi.specs.{Why.WhyLent, Why.whyGives, Why.whyCall, Laws.Calls.Small, Laws.Calls.Numbered, Laws.Calls.Honest, Laws.Calls.honest}
+use Rattle.capi.specs.{Laws.Calls.one-refusal, Laws.Calls.never-refuses, Laws.TableCalls.table-number}
 
 why-by : (few fine : Bool) (many : ℕ) (lines : List ℕ)
     → Numbered (whyGives (cond few (Refuses (refusal 10 10)) (cond fine (Lines many) (Refuses (refusal 13 0)))) lines)

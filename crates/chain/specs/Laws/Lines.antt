@@ -1,14 +1,8 @@
 -- Lines written one after the other are the words of the lines, and what stood past them. Assumes nothing.
-use Prim.Native.Nat.{ℕ, suc, _+_, _*_, _≤_}
-use mathlib.Core.Path.{_≡_, refl, sym, ap, _∙_}
-use mathlib.Core.List.{List, [], _∷_, _++_, append-assoc, append-nil}
-use native.Mathlib.Omega.{arith}
-use lib.ListN.{length, take, drop, length-append, length-take, length-drop, take-append-drop}
-use lib.Seq.{take-at, drop-at, drop-drop}
-use Rattle.words.specs.Words.{overwrite}
-use Rattle.words.specs.Laws.Overwrite.{overwrite-fits}
-use Rattle.chain.specs.Chain.{ChainLine}
-use Rattle.chain.specs.Lines.{lineFrom, lineWords, chainWords, putLines}
+use Rattle.words.specs.Prelude.{ℕ, suc, _+_, _*_, _≤_, _≡_, refl, sym, ap, _∙_, List, [], _∷_, _++_, append-assoc, append-nil, arith, length, take, drop}
+use Rattle.words.specs.Prelude.{length-append, length-take, length-drop, take-append-drop, take-at, drop-at, drop-drop}
+use Rattle.words.specs.{Words.overwrite, Laws.Overwrite.overwrite-fits}
+use Rattle.chain.specs.{Chain.ChainLine, Lines.lineFrom, Lines.lineWords, Lines.chainWords, Lines.putLines}
 
 line-long : (l : ChainLine) → length (lineWords l) ≡ 8
 unfolding lineWords lineFrom

@@ -1,30 +1,15 @@
 -- The chain with nodes numbered by the array of ends is the chain with the table's own numbers. Assumes nothing.
-use Prim.Native.Nat.{ℕ, _+_, _<_}
-use mathlib.Core.Path.{_≡_, refl}
-use mathlib.Core.Bool.{Bool, true, false, cond}
-use mathlib.Core.List.{List, []}
-use native.Mathlib.Omega.{arith}
-use lib.Dec.{leb, eqb}
-use borrow.Author.Tests.{leb-false, eqb-false}
-use Rattle.words.specs.Limits.{trees}
-use Rattle.rows.specs.History.{History, historyOf}
-use Rattle.table.specs.declared.answer.Answer.the-variants.{Accepted}
-use Rattle.table.specs.Header.{slots, count, root}
-use Rattle.table.specs.Checked.{checked}
-use Rattle.table.specs.Ends.{endsBeside}
-use Rattle.table.specs.Reading.{treeOf}
-use Rattle.table.specs.Trees.{Operand, const, ref, price, prev, arith as sums, extreme, Condition, Conditions, compare, cross, between, trend, every, any}
-use Rattle.table.specs.Trees.{negated, inPosition, barsSince, none, more}
-use Rattle.table.specs.Writing.{nodesIn, nodesOf}
-use Rattle.rules.specs.declared.position.PositionState.{PositionState}
-use Rattle.rules.specs.Meaning.{newest}
-use Rattle.rules.specs.Flat.{conditionAt}
-use Rattle.rules.specs.Laws.FlatReading.{tree-joined}
-use Rattle.chain.specs.Missing.{inTable, missingIn, missingInTwo, missingInThree}
-use Rattle.chain.specs.Chain.{shown, lineAt, chain, firstWith}
-use Rattle.chain.specs.Explained.{explanation}
-use Rattle.chain.specs.Flat.{byEnds, flatExplanation}
-use Rattle.chain.specs.Laws.Spaced.{SpacedIn, Spaced, SpacedAll, operand-end, condition-end, tree-spaced}
+use Rattle.words.specs.Prelude.{ℕ, _+_, _<_, _≡_, refl, Bool, true, false, cond, List, [], arith, leb, eqb, leb-false, eqb-false}
+use Rattle.words.specs.{Limits.trees}
+use Rattle.rows.specs.{History.History, History.historyOf}
+use Rattle.table.specs.{declared.answer.Answer.the-variants.Accepted, Header.slots, Header.count, Header.root, Checked.checked, Ends.endsBeside, Reading.treeOf}
+use Rattle.table.specs.{Trees.Operand, Trees.const, Trees.ref, Trees.price, Trees.prev, Trees.arith as sums, Trees.extreme, Trees.Condition, Trees.Conditions}
+use Rattle.table.specs.{Trees.compare, Trees.cross, Trees.between, Trees.trend, Trees.every, Trees.any, Trees.negated, Trees.inPosition, Trees.barsSince}
+use Rattle.table.specs.{Trees.none, Trees.more, Writing.nodesIn, Writing.nodesOf}
+use Rattle.rules.specs.{declared.position.PositionState.PositionState, Meaning.newest, Flat.conditionAt, Laws.FlatReading.tree-joined}
+use Rattle.chain.specs.{Missing.inTable, Missing.missingIn, Missing.missingInTwo, Missing.missingInThree, Chain.shown, Chain.lineAt, Chain.chain}
+use Rattle.chain.specs.{Chain.firstWith, Explained.explanation, Flat.byEnds, Flat.flatExplanation, Laws.Spaced.SpacedIn, Laws.Spaced.Spaced}
+use Rattle.chain.specs.{Laws.Spaced.SpacedAll, Laws.Spaced.operand-end, Laws.Spaced.condition-end, Laws.Spaced.tree-spaced}
 
 module _ (ends : List ℕ) (h : History) where
   missing-same : (a : Operand) (i bar back : ℕ) → SpacedIn ends a i → missingIn (byEnds ends) h a i bar back ≡ missingIn inTable h a i bar back

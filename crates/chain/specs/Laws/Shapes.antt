@@ -1,23 +1,19 @@
 -- Where the children of a node stand. Assumes nothing.
-use Prim.Native.Nat.{ℕ, _+_, _<_}
-use mathlib.Core.Path.{_≡_, refl, sym, _∙_}
-use mathlib.Core.Bool.{Bool, true, false, cond}
-use mathlib.Core.List.{List}
-use native.Mathlib.Omega.{arith}
-use lib.Dec.{leb}
-use Rattle.table.specs.declared.kinds.OperandClass.{OperandClass}
+use Rattle.words.specs.Prelude.{ℕ, _+_, _<_, _≡_, refl, sym, _∙_, Bool, true, false, cond, List, arith, leb}
+use Rattle.table.specs.{declared.kinds.OperandClass.OperandClass, declared.kinds.ConditionClass.ConditionClass, Bytes.Bytes, Kinds.kindOf, Nodes.nodeAt}
+use Rattle.roundtrip.specs.{Laws.AcceptedWritten.u32-small}
+use Rattle.rules.specs.{declared.shapes.OperandShape.OperandShape, declared.shapes.OperandShape.the-variants.Const, declared.shapes.OperandShape.the-variants.Ref}
+use Rattle.rules.specs.{declared.shapes.OperandShape.the-variants.Price, declared.shapes.OperandShape.the-variants.Prev}
+use Rattle.rules.specs.{declared.shapes.OperandShape.the-variants.Arith, declared.shapes.OperandShape.the-variants.Extreme}
+use Rattle.rules.specs.{declared.shapes.OperandShape.the-variants.NoOperand, declared.shapes.ConditionShape.ConditionShape}
+use Rattle.rules.specs.{declared.shapes.ConditionShape.the-variants.Compare, declared.shapes.ConditionShape.the-variants.Cross}
+use Rattle.rules.specs.{declared.shapes.ConditionShape.the-variants.Between, declared.shapes.ConditionShape.the-variants.Trend}
+use Rattle.rules.specs.{declared.shapes.ConditionShape.the-variants.Group, declared.shapes.ConditionShape.the-variants.Not}
+use Rattle.rules.specs.{declared.shapes.ConditionShape.the-variants.InPosition, declared.shapes.ConditionShape.the-variants.BarsSince}
+use Rattle.rules.specs.{declared.shapes.ConditionShape.the-variants.NoCondition, Shapes.endIn, Shapes.operandOf, Shapes.conditionOf, Shapes.operandShape}
+use Rattle.rules.specs.{Shapes.conditionShape}
 use Rattle.table.specs.declared.kinds.OperandClass.the-variants as AsOperand
-use Rattle.table.specs.declared.kinds.ConditionClass.{ConditionClass}
 use Rattle.table.specs.declared.kinds.ConditionClass.the-variants as AsCondition
-use Rattle.table.specs.Bytes.{Bytes}
-use Rattle.table.specs.Kinds.{kindOf}
-use Rattle.table.specs.Nodes.{nodeAt}
-use Rattle.roundtrip.specs.Laws.AcceptedWritten.{u32-small}
-use Rattle.rules.specs.declared.shapes.OperandShape.{OperandShape}
-use Rattle.rules.specs.declared.shapes.OperandShape.the-variants.{Const, Ref, Price, Prev, Arith, Extreme, NoOperand}
-use Rattle.rules.specs.declared.shapes.ConditionShape.{ConditionShape}
-use Rattle.rules.specs.declared.shapes.ConditionShape.the-variants.{Compare, Cross, Between, Trend, Group, Not, InPosition, BarsSince, NoCondition}
-use Rattle.rules.specs.Shapes.{endIn, operandOf, conditionOf, operandShape, conditionShape}
 
 -- "each tree in prefix order": a first child comes right after its node i, each further one at the end of the one before.
 unfoldable pub OperandPlaced : List ℕ → List ℕ → ℕ → OperandShape → Type 0

@@ -1,28 +1,13 @@
 -- How many lines there can be. Assumes nothing.
-use Prim.Native.Nat.{ℕ, _+_, _≤_, _<_, max}
-use mathlib.Core.Path.{_≡_, refl}
-use mathlib.Core.Bool.{Bool, true, false, cond, Bool·beq}
-use mathlib.Core.List.{List, []}
-use native.Mathlib.Omega.{arith}
-use lib.Dec.{leb, eqb}
-use lib.ListN.{length}
-use borrow.Author.Tests.{leb-false, eqb-false}
-use Rattle.words.specs.Limits.{trees}
-use Rattle.rows.specs.History.{History, historyOf}
-use Rattle.table.specs.declared.answer.Answer.the-variants.{Accepted}
-use Rattle.table.specs.Bytes.{Bytes}
-use Rattle.table.specs.Header.{slots, count, root}
-use Rattle.table.specs.Checked.{checked}
-use Rattle.table.specs.Reading.{treeOf}
-use Rattle.table.specs.Trees.{Condition, Conditions, compare, cross, between, trend, every, any, negated, inPosition, barsSince, none, more}
-use Rattle.table.specs.Writing.{nodesOf}
-use Rattle.table.specs.Limits.{levelsOf, levelsOfAll}
-use Rattle.roundtrip.specs.Laws.AcceptedWithin.{tree-within}
-use Rattle.rules.specs.declared.position.PositionState.{PositionState}
-use Rattle.rules.specs.Meaning.{newest, holds}
-use Rattle.chain.specs.Missing.{Numbering, inTable}
-use Rattle.chain.specs.Chain.{ChainLine, chain, firstWith}
-use Rattle.chain.specs.Explained.{explanation}
+use Rattle.words.specs.Prelude.{ℕ, _+_, _≤_, _<_, max, _≡_, refl, Bool, true, false, cond, Bool·beq, List, [], arith, leb, eqb, length, leb-false, eqb-false}
+use Rattle.words.specs.{Limits.trees}
+use Rattle.rows.specs.{History.History, History.historyOf}
+use Rattle.table.specs.{declared.answer.Answer.the-variants.Accepted, Bytes.Bytes, Header.slots, Header.count, Header.root, Checked.checked, Reading.treeOf}
+use Rattle.table.specs.{Trees.Condition, Trees.Conditions, Trees.compare, Trees.cross, Trees.between, Trees.trend, Trees.every, Trees.any, Trees.negated}
+use Rattle.table.specs.{Trees.inPosition, Trees.barsSince, Trees.none, Trees.more, Writing.nodesOf, Limits.levelsOf, Limits.levelsOfAll}
+use Rattle.roundtrip.specs.{Laws.AcceptedWithin.tree-within}
+use Rattle.rules.specs.{declared.position.PositionState.PositionState, Meaning.newest, Meaning.holds}
+use Rattle.chain.specs.{Missing.Numbering, Missing.inTable, Chain.ChainLine, Chain.chain, Chain.firstWith, Explained.explanation}
 
 picked : (b : Bool) (xs ys : List ChainLine) (m n : ℕ) → length xs ≤ m → length ys ≤ n → length (cond b xs ys) ≤ max m n
 picked true xs ys m n p q = omega arith

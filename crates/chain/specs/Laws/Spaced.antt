@@ -1,34 +1,21 @@
 -- The array of subtree ends numbers an accepted table's nodes as the table does: past a subtree come as many numbers as it has
 -- nodes. Assumes nothing.
-use Prim.Native.Nat.{ℕ, zero, suc, _+_, _-_, _≤_, _<_}
-use mathlib.Core.Path.{_≡_, sym, ap, subst, _∙_}
-use mathlib.Core.Bool.{true, true≢false}
-use mathlib.Core.List.{List}
-use native.Mathlib.Omega.{arith}
-use lib.Dec.{eqb}
-use borrow.Author.Tests.{lt-leb}
-use Rattle.table.specs.declared.kinds.Kind.{Kind}
-use Rattle.table.specs.declared.answer.Answer.the-variants.{Accepted}
-use Rattle.table.specs.Kinds.{kindOf, aSeries, extremum}
-use Rattle.table.specs.Laws.Kinds.{OperandKind, a-const, a-ref, a-price, a-prev, an-arith, an-extreme, operand-kind}
-use Rattle.table.specs.Laws.Kinds.{ConditionKind, a-compare, a-cross, a-between, a-trend, an-all, an-any, a-not, a-position, a-count, condition-kind}
-use Rattle.table.specs.Header.{count, root}
-use Rattle.table.specs.Nodes.{nodeAt, sortAt, childCount, childCountAt, childSortAt, childFits}
-use Rattle.table.specs.Forest.{Forest, firstTrees, otherTrees, nodeOver, trees, size, Fitting, Sorted}
+use Rattle.words.specs.Prelude.{ℕ, zero, suc, _+_, _-_, _≤_, _<_, _≡_, sym, ap, subst, _∙_, true, true≢false, List, arith, eqb, lt-leb}
+use Rattle.table.specs.{declared.kinds.Kind.Kind, declared.answer.Answer.the-variants.Accepted, Kinds.kindOf, Kinds.aSeries, Kinds.extremum, Laws.Kinds.OperandKind}
+use Rattle.table.specs.{Laws.Kinds.a-const, Laws.Kinds.a-ref, Laws.Kinds.a-price, Laws.Kinds.a-prev, Laws.Kinds.an-arith, Laws.Kinds.an-extreme}
+use Rattle.table.specs.{Laws.Kinds.operand-kind, Laws.Kinds.ConditionKind, Laws.Kinds.a-compare, Laws.Kinds.a-cross, Laws.Kinds.a-between, Laws.Kinds.a-trend}
+use Rattle.table.specs.{Laws.Kinds.an-all, Laws.Kinds.an-any, Laws.Kinds.a-not, Laws.Kinds.a-position, Laws.Kinds.a-count, Laws.Kinds.condition-kind, Header.count}
+use Rattle.table.specs.{Header.root, Nodes.nodeAt, Nodes.sortAt, Nodes.childCount, Nodes.childCountAt, Nodes.childSortAt, Nodes.childFits, Forest.Forest}
+use Rattle.table.specs.{Forest.firstTrees, Forest.otherTrees, Forest.nodeOver, Forest.trees, Forest.size, Forest.Fitting, Forest.Sorted, Checked.checked}
+use Rattle.table.specs.{Ends.endsAll, Ends.endsBeside, Ends.Link, Ends.Linked, Series.seriesIn, Reading.treeOf, Trees.Operand, Trees.const, Trees.ref, Trees.price}
+use Rattle.table.specs.{Trees.prev, Trees.arith as sums, Trees.extreme, Trees.Condition, Trees.Conditions, Trees.compare, Trees.cross, Trees.between, Trees.trend}
+use Rattle.table.specs.{Trees.every, Trees.any, Trees.negated, Trees.inPosition, Trees.barsSince, Trees.none, Trees.more, Writing.nodesIn, Writing.nodesOf}
+use Rattle.table.specs.{Writing.nodesOfAll, Laws.Forest.left-suc, Laws.Forest.first-none, Laws.Accepted.WholeTree, Laws.Accepted.tree-whole, Laws.Accepted.ends-of}
+use Rattle.roundtrip.specs.{Laws.Walking.Stands, Laws.Walking.node-there, Laws.Walking.sort-there, Laws.Walking.level-left, Laws.Walking.stands-one}
+use Rattle.roundtrip.specs.{Laws.Walking.stands-next, Laws.Walking.stands-below, Laws.Walking.tree-stands}
+use Rattle.rules.specs.{Shapes.endIn, Shapes.operandOf, Shapes.conditionOf, Shapes.operandShape, Shapes.conditionShape, Flat.growOperand, Flat.operandAt}
+use Rattle.rules.specs.{Flat.growConditions, Flat.group, Flat.growCondition, Flat.conditionAt, Laws.FlatReading.end-is, Laws.FlatReading.tree-joined}
 use Rattle.table.specs.Forest as Forest
-use Rattle.table.specs.Checked.{checked}
-use Rattle.table.specs.Ends.{endsAll, endsBeside, Link, Linked}
-use Rattle.table.specs.Series.{seriesIn}
-use Rattle.table.specs.Reading.{treeOf}
-use Rattle.table.specs.Trees.{Operand, const, ref, price, prev, arith as sums, extreme, Condition, Conditions, compare, cross, between, trend, every, any}
-use Rattle.table.specs.Trees.{negated, inPosition, barsSince, none, more}
-use Rattle.table.specs.Writing.{nodesIn, nodesOf, nodesOfAll}
-use Rattle.table.specs.Laws.Forest.{left-suc, first-none}
-use Rattle.table.specs.Laws.Accepted.{WholeTree, tree-whole, ends-of}
-use Rattle.roundtrip.specs.Laws.Walking.{Stands, node-there, sort-there, level-left, stands-one, stands-next, stands-below, tree-stands}
-use Rattle.rules.specs.Shapes.{endIn, operandOf, conditionOf, operandShape, conditionShape}
-use Rattle.rules.specs.Flat.{growOperand, operandAt, growConditions, group, growCondition, conditionAt}
-use Rattle.rules.specs.Laws.FlatReading.{end-is, tree-joined}
 
 -- The array leads from each node of a tree, the first one number i, over as many numbers as stand below it.
 unfoldable pub SpacedIn : List ℕ → Operand → ℕ → Type 0

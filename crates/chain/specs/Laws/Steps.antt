@@ -1,23 +1,17 @@
 -- The chain on the flat table, one node at a time. Assumes nothing.
-use Prim.Native.Nat.{ℕ, zero, suc, _-_, _<_}
-use mathlib.Core.Path.{_≡_, refl, sym, ap}
-use mathlib.Core.Bool.{Bool, true, false, cond, Bool·beq}
-use mathlib.Core.List.{List, [], _∷_}
-use native.Mathlib.Omega.{arith}
-use native.Mathlib.Numerals.{sub-one}
-use Rattle.rows.specs.History.{History}
-use Rattle.table.specs.Trees.{Operand, Condition, every, any, negated}
-use Rattle.rules.specs.declared.position.PositionState.{PositionState}
-use Rattle.rules.specs.declared.shapes.ConditionShape.{ConditionShape}
-use Rattle.rules.specs.declared.shapes.ConditionShape.the-variants.{Compare, Cross, Between, Trend, Group, Not, InPosition, BarsSince, NoCondition}
-use Rattle.rules.specs.Meaning.{holds}
-use Rattle.rules.specs.Shapes.{endIn, conditionShape}
-use Rattle.rules.specs.Flat.{operandAt, growConditions, group, growCondition, conditionAt}
-use Rattle.chain.specs.declared.walk.Next.{Next}
-use Rattle.chain.specs.declared.walk.Next.the-variants.{Stop, Node}
-use Rattle.chain.specs.Chain.{ChainLine, lineAt, chain, firstWith}
-use Rattle.chain.specs.Flat.{byEnds, firstAt, nextBy, nextAt, followed}
-use Rattle.chain.specs.Laws.Shapes.{ConditionPlaced, condition-placed}
+use Rattle.words.specs.Prelude.{ℕ, zero, suc, _-_, _<_, _≡_, refl, sym, ap, Bool, true, false, cond, Bool·beq, List, [], _∷_, arith, sub-one}
+use Rattle.rows.specs.{History.History}
+use Rattle.table.specs.{Trees.Operand, Trees.Condition, Trees.every, Trees.any, Trees.negated}
+use Rattle.rules.specs.{declared.position.PositionState.PositionState, declared.shapes.ConditionShape.ConditionShape}
+use Rattle.rules.specs.{declared.shapes.ConditionShape.the-variants.Compare, declared.shapes.ConditionShape.the-variants.Cross}
+use Rattle.rules.specs.{declared.shapes.ConditionShape.the-variants.Between, declared.shapes.ConditionShape.the-variants.Trend}
+use Rattle.rules.specs.{declared.shapes.ConditionShape.the-variants.Group, declared.shapes.ConditionShape.the-variants.Not}
+use Rattle.rules.specs.{declared.shapes.ConditionShape.the-variants.InPosition, declared.shapes.ConditionShape.the-variants.BarsSince}
+use Rattle.rules.specs.{declared.shapes.ConditionShape.the-variants.NoCondition, Meaning.holds, Shapes.endIn, Shapes.conditionShape, Flat.operandAt}
+use Rattle.rules.specs.{Flat.growConditions, Flat.group, Flat.growCondition, Flat.conditionAt}
+use Rattle.chain.specs.{declared.walk.Next.Next, declared.walk.Next.the-variants.Stop, declared.walk.Next.the-variants.Node, Chain.ChainLine, Chain.lineAt}
+use Rattle.chain.specs.{Chain.chain, Chain.firstWith, Flat.byEnds, Flat.firstAt, Flat.nextBy, Flat.nextAt, Flat.followed, Laws.Shapes.ConditionPlaced}
+use Rattle.chain.specs.{Laws.Shapes.condition-placed}
 
 module _ (ends : List ℕ) (h : History) (s : PositionState) (bar : ℕ) (below : ℕ → Condition) where
   -- the lines from node j on

@@ -1,7 +1,6 @@
 -- The loop counts to five; the measure is what is left of them.
-use Prim.Native.Nat.{_≤_, _-_}
-use borrow.Author.Needs.{needs}
-use Rattle.demo.proofs.say_trades.Statement.{statement}
+use Rattle.words.specs.Prelude.{_≤_, _-_, needs}
+use Rattle.demo.proofs.{say_trades.Statement.statement}
 use Rattle.demo.proofs.say_trades.Tie as tie
 
 abbrev Inv-loop : tie.InvT-loop

@@ -1,20 +1,14 @@
 -- ALL AND ONLY: where the comparison answers lines, they say what differs between the two runs, all of it and nothing else. Assumes nothing.
-use Prim.Native.Nat.{ℕ, _+_, _*_, _/_, _%_, _<_, _≤_, min}
-use mathlib.Core.Path.{_≡_, refl, sym, ap, subst, _∙_}
-use mathlib.Core.Bool.{Bool, true, false, cond, _&&_, false≢true}
-use mathlib.Core.List.{List, _++_, List·Memᴰ, List·Memᴰ·append-cases, Memᴰ·append-left, Memᴰ·append-right, Memᴰ·cast}
-use mathlib.Core.Logic.{⊎-elim}
-use native.Mathlib.Omega.{arith}
-use borrow.Author.Tests.{eqb-true, leb-true}
-use lib.Dec.{eqb, leb}
-use lib.ListN.{getD, length}
-use Rattle.words.specs.declared.refusal.Refusal.{Refusal}
-use Rattle.words.specs.Limits.{pointWords, tradeWords}
-use Rattle.words.specs.Outcome.{refusal}
-use Rattle.words.specs.Words.{overwrite}
-use Rattle.differences.specs.declared.compare.Compared.{Compared}
-use Rattle.differences.specs.declared.compare.Compared.the-variants.{Lines, Refused}
-use Rattle.differences.specs.Compared.{Comparison, whole, written, compared}
+use Rattle.words.specs.Prelude.{ℕ, _+_, _*_, _/_, _%_, _<_, _≤_, min, _≡_, refl, sym, ap, subst, _∙_, Bool, true, false, cond, _&&_, false≢true, List, _++_}
+use Rattle.words.specs.Prelude.{List·Memᴰ, ⊎-elim, arith, eqb-true, leb-true, eqb, leb, getD, length}
+use Rattle.words.specs.{declared.refusal.Refusal.Refusal, Limits.pointWords, Limits.tradeWords, Outcome.refusal, Words.overwrite}
+use Rattle.differences.specs.{declared.compare.Compared.Compared, declared.compare.Compared.the-variants.Lines}
+use Rattle.differences.specs.{declared.compare.Compared.the-variants.Refused, Compared.Comparison, Compared.whole, Compared.written, Compared.compared}
+use Rattle.differences.specs.{Truth.Says, Truth.equity, Truth.trade, Truth.more-trades, Truth.more-points, Truth.Once, Truth.AllAndOnly, Truth.Answered}
+use Rattle.differences.specs.{Laws.First.before-equal, Laws.First.first-differs, Laws.First.first-is, Laws.Told.once-both, Laws.Told.words-told}
+use Rattle.differences.specs.{Laws.Told.tells-words, Laws.Told.words-once, Laws.Told.point-told, Laws.Told.tells-point, Laws.Told.point-once}
+use Rattle.differences.specs.{Laws.Told.counts-told, Laws.Told.tells-counts, Laws.Told.counts-once}
+use mathlib.Core.List.{List·Memᴰ·append-cases, Memᴰ·append-left, Memᴰ·append-right, Memᴰ·cast}
 use Rattle.differences.specs.Lines.{
   Line,
   line,
@@ -30,10 +24,6 @@ use Rattle.differences.specs.Lines.{
   lineWords,
   wordsOf,
 }
-use Rattle.differences.specs.Truth.{Says, equity, trade, more-trades, more-points, Once, AllAndOnly, Answered}
-use Rattle.differences.specs.Laws.First.{before-equal, first-differs, first-is}
-use Rattle.differences.specs.Laws.Told.{once-both, words-told, tells-words, words-once, point-told, tells-point, point-once}
-use Rattle.differences.specs.Laws.Told.{counts-told, tells-counts, counts-once}
 
 -- ---- word k of a list of trades is word k % 10 of trade k / 10
 

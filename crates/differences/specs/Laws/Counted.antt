@@ -1,16 +1,9 @@
 -- How many lines there are, a word more at a time; and the first point that differs, a point at a time. Assumes nothing.
-use Prim.Native.Nat.{ℕ, zero, suc, _+_, _-_, _/_, _%_, _<_, _≤_, min}
-use mathlib.Core.Path.{_≡_, refl, sym, ap, _∙_}
-use mathlib.Core.Bool.{Bool, true, false, cond}
-use mathlib.Core.List.{List, [], _∷_, _++_}
-use native.Mathlib.Nat.{add-zero, add-suc, le-trans, le-of-eq}
-use native.Mathlib.Numerals.{add-one}
-use native.Mathlib.Omega.{arith}
-use borrow.Author.Tests.{eq-eqb, ne-eqb, lt-ltb, le-ltb}
-use lib.Dec.{eqb, ltb}
-use lib.ListN.{getD, length, length-append}
-use Rattle.words.specs.Limits.{tradeWords}
-use Rattle.differences.specs.Lines.{Line, line, equityAt, firstPoint, equityLine, wordLine, wordLines, surplus, points, trades, differencesFrom}
+use Rattle.words.specs.Prelude.{ℕ, zero, suc, _+_, _-_, _/_, _%_, _<_, _≤_, min, _≡_, refl, sym, ap, _∙_, Bool, true, false, cond, List, [], _∷_, _++_, add-zero}
+use Rattle.words.specs.Prelude.{add-suc, le-trans, le-of-eq, add-one, arith, eq-eqb, ne-eqb, lt-ltb, le-ltb, eqb, ltb, getD, length, length-append}
+use Rattle.words.specs.{Limits.tradeWords}
+use Rattle.differences.specs.{Lines.Line, Lines.line, Lines.equityAt, Lines.firstPoint, Lines.equityLine, Lines.wordLine, Lines.wordLines, Lines.surplus}
+use Rattle.differences.specs.{Lines.points, Lines.trades, Lines.differencesFrom}
 
 -- ---- words
 

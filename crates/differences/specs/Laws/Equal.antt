@@ -1,16 +1,11 @@
 -- EQUAL RUNS: no lines exactly where the lists of trades are equal, and the equity of the points. Assumes nothing.
-use Prim.Native.Nat.{ℕ, zero, suc, _+_, _*_, _/_, _%_, _<_, _≤_, min}
-use mathlib.Core.Path.{_≡_, refl, sym, ap, subst, _∙_}
-use mathlib.Core.List.{List, [], _∷_, List·Memᴰ, List·Memᴰ·head, List·Memᴰ·not-nil}
-use mathlib.Core.Logic.{⊎-elim}
-use native.Mathlib.Omega.{arith}
-use lib.ListN.{getD, length}
-use lib.Seq.{ext-getD}
-use Rattle.words.specs.Limits.{tradeWords}
-use Rattle.differences.specs.Lines.{Line, points, trades, equityAt, differences}
-use Rattle.differences.specs.Truth.{Says, equity, trade, more-trades, more-points, AllAndOnly, Equal}
-use Rattle.differences.specs.Laws.First.{same-or}
-use Rattle.differences.specs.Laws.AllAndOnly.{at-place, of-both, lines-so}
+use Rattle.words.specs.Prelude.{ℕ, zero, suc, _+_, _*_, _/_, _%_, _<_, _≤_, min, _≡_, refl, sym, ap, subst, _∙_, List, [], _∷_, List·Memᴰ, ⊎-elim, arith, getD}
+use Rattle.words.specs.Prelude.{length, ext-getD}
+use Rattle.words.specs.{Limits.tradeWords}
+use Rattle.differences.specs.{Lines.Line, Lines.points, Lines.trades, Lines.equityAt, Lines.differences, Truth.Says, Truth.equity, Truth.trade}
+use Rattle.differences.specs.{Truth.more-trades, Truth.more-points, Truth.AllAndOnly, Truth.Equal, Laws.First.same-or, Laws.AllAndOnly.at-place}
+use Rattle.differences.specs.{Laws.AllAndOnly.of-both, Laws.AllAndOnly.lines-so}
+use mathlib.Core.List.{List·Memᴰ·head, List·Memᴰ·not-nil}
 
 module _ (e t e′ t′ : List ℕ) where
   -- of equal runs no line is so

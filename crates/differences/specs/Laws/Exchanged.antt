@@ -1,15 +1,10 @@
 -- THE RUNS EXCHANGED: the same lines, with the two runs' words exchanged. Assumes nothing.
-use Prim.Native.Nat.{ℕ, zero, suc, _<_, _≤_, min}
-use mathlib.Core.Path.{_≡_, refl, sym, ap, _∙_}
-use mathlib.Core.List.{List, [], _∷_, _++_, map, map-append}
-use mathlib.Core.Logic.{⊎-elim}
-use native.Mathlib.Omega.{arith}
-use lib.ListN.{getD, length}
-use Rattle.differences.specs.Lines.{Line, line, points, trades, firstPoint, equityLine, wordLine, wordLines, surplus, differencesFrom, differences}
-use Rattle.differences.specs.Truth.{exchanged}
-use Rattle.differences.specs.Laws.Counted.{line-same, line-other, equity-some, equity-none, surplus-none, surplus-some}
-use Rattle.differences.specs.Laws.First.{same-or, first-exchanged}
-use Rattle.differences.specs.Laws.Told.{below-or}
+use Rattle.words.specs.Prelude.{ℕ, zero, suc, _<_, _≤_, min, _≡_, refl, sym, ap, _∙_, List, [], _∷_, _++_, map, ⊎-elim, arith, getD, length}
+use Rattle.differences.specs.{Lines.Line, Lines.line, Lines.points, Lines.trades, Lines.firstPoint, Lines.equityLine, Lines.wordLine, Lines.wordLines}
+use Rattle.differences.specs.{Lines.surplus, Lines.differencesFrom, Lines.differences, Truth.exchanged, Laws.Counted.line-same, Laws.Counted.line-other}
+use Rattle.differences.specs.{Laws.Counted.equity-some, Laws.Counted.equity-none, Laws.Counted.surplus-none, Laws.Counted.surplus-some, Laws.First.same-or}
+use Rattle.differences.specs.{Laws.First.first-exchanged, Laws.Told.below-or}
+use mathlib.Core.List.{map-append}
 
 either-way : (m n : ℕ) → min m n ≡ min n m
 either-way m n = omega arith

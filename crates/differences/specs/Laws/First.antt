@@ -1,13 +1,7 @@
 -- The first point that differs: it does, those before it do not, and no other is the first. Assumes nothing.
-use Prim.Native.Nat.{ℕ, zero, suc, _+_, _<_, _≤_}
-use mathlib.Core.Path.{_≡_, refl, sym, subst, _∙_}
-use mathlib.Core.Bool.{Bool, true, false}
-use mathlib.Core.List.{List}
-use mathlib.Core.Logic.{_⊎_, inl, inr, ⊎-elim}
-use native.Mathlib.Omega.{arith}
-use borrow.Author.Tests.{eq-eqb, ne-eqb, eqb-true, eqb-false}
-use lib.Dec.{eqb}
-use Rattle.differences.specs.Lines.{equityAt, firstPoint}
+use Rattle.words.specs.Prelude.{ℕ, zero, suc, _+_, _<_, _≤_, _≡_, refl, sym, subst, _∙_, Bool, true, false, List, _⊎_, inl, inr, ⊎-elim, arith, eq-eqb, ne-eqb}
+use Rattle.words.specs.Prelude.{eqb-true, eqb-false, eqb}
+use Rattle.differences.specs.{Lines.equityAt, Lines.firstPoint}
 
 -- equal or not
 pub same-or : (x y : ℕ) → (x ≡ y) ⊎ (x ≡ y → ⊥)

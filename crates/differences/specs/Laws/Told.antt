@@ -1,6 +1,10 @@
 -- Which lines stand in each part, and that none tells a place twice. Assumes nothing.
-use Prim.Native.Nat.{ℕ, zero, suc, _+_, _/_, _%_, _<_, _≤_, min}
-use mathlib.Core.Path.{_≡_, refl, sym, ap, subst, _∙_}
+use Rattle.words.specs.Prelude.{ℕ, zero, suc, _+_, _/_, _%_, _<_, _≤_, min, _≡_, refl, sym, ap, subst, _∙_, _⊎_, inl, inr, ⊎-elim, Bool, true, false, arith}
+use Rattle.words.specs.Prelude.{ltb-true, ltb-false, ltb, getD}
+use Rattle.words.specs.{Limits.tradeWords}
+use Rattle.differences.specs.{Lines.Line, Lines.line, Lines.equityAt, Lines.equityLine, Lines.wordLine, Lines.wordLines, Lines.surplus, Truth.SamePlace}
+use Rattle.differences.specs.{Truth.Once, Truth.none, Truth.first, Laws.Counted.line-same, Laws.Counted.line-other, Laws.Counted.equity-some}
+use Rattle.differences.specs.{Laws.Counted.equity-none, Laws.Counted.surplus-none, Laws.Counted.surplus-some, Laws.First.same-or}
 use mathlib.Core.List.{
   List,
   [],
@@ -15,17 +19,6 @@ use mathlib.Core.List.{
   Memᴰ·append-left,
   Memᴰ·append-right,
 }
-use mathlib.Core.Logic.{_⊎_, inl, inr, ⊎-elim}
-use mathlib.Core.Bool.{Bool, true, false}
-use native.Mathlib.Omega.{arith}
-use borrow.Author.Tests.{ltb-true, ltb-false}
-use lib.Dec.{ltb}
-use lib.ListN.{getD}
-use Rattle.words.specs.Limits.{tradeWords}
-use Rattle.differences.specs.Lines.{Line, line, equityAt, equityLine, wordLine, wordLines, surplus}
-use Rattle.differences.specs.Truth.{SamePlace, Once, none, first}
-use Rattle.differences.specs.Laws.Counted.{line-same, line-other, equity-some, equity-none, surplus-none, surplus-some}
-use Rattle.differences.specs.Laws.First.{same-or}
 
 -- ---- no place twice
 

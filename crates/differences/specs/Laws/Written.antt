@@ -1,14 +1,8 @@
 -- Lines written one after another into a room. Assumes nothing.
-use Prim.Native.Nat.{ℕ, _+_, _*_, _≤_}
-use mathlib.Core.Path.{_≡_, refl, sym, ap, subst, _∙_}
-use mathlib.Core.List.{List, [], _∷_, _++_, append-assoc, append-nil}
-use native.Mathlib.Nat.{add-zero, zero-add}
-use native.Mathlib.Omega.{arith}
-use lib.ListN.{length, take, drop, length-append, take-append-drop}
-use lib.Seq.{take-at, drop-at, drop-drop, length-take-le}
-use Rattle.words.specs.Words.{overwrite}
-use Rattle.words.specs.Laws.Overwrite.{overwrite-fits, overwrite-length}
-use Rattle.differences.specs.Lines.{Line, wordsOf}
+use Rattle.words.specs.Prelude.{ℕ, _+_, _*_, _≤_, _≡_, refl, sym, ap, subst, _∙_, List, [], _∷_, _++_, append-assoc, append-nil, add-zero, zero-add, arith, length}
+use Rattle.words.specs.Prelude.{take, drop, length-append, take-append-drop, take-at, drop-at, drop-drop, length-take-le}
+use Rattle.words.specs.{Words.overwrite, Laws.Overwrite.overwrite-fits, Laws.Overwrite.overwrite-length}
+use Rattle.differences.specs.{Lines.Line, Lines.wordsOf}
 
 -- words of two lists of lines
 pub words-more : (ks ls : List Line) → wordsOf (ks ++ ls) ≡ wordsOf ks ++ wordsOf ls

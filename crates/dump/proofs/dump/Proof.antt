@@ -1,9 +1,7 @@
 -- Refused, or written.
-use mathlib.Core.Path.{sym, _∙_}
-use Rattle.dump.specs.Laws.Fine.{dump-fine}
-use Rattle.dump.proofs.Answers.{dump-refused, dump-done}
-use borrow.Author.Needs.{needs}
-use Rattle.dump.proofs.dump.Statement.{statement}
+use Rattle.words.specs.Prelude.{sym, _∙_, needs}
+use Rattle.dump.specs.{Laws.Fine.dump-fine}
+use Rattle.dump.proofs.{Answers.dump-refused, Answers.dump-done, dump.Statement.statement}
 use Rattle.dump.proofs.dump.Tie as tie
 
 write-dump-requires : tie.Need-write-dump-requires

@@ -1,9 +1,7 @@
 -- Refused, or read.
-use mathlib.Core.Path.{sym, _∙_}
-use Rattle.dump.specs.Laws.Fine.{rows-within, restore-fine}
-use Rattle.dump.proofs.Answers.{window-fits, restore-refused, restore-done}
-use borrow.Author.Needs.{needs}
-use Rattle.dump.proofs.restore.Statement.{statement}
+use Rattle.words.specs.Prelude.{sym, _∙_, needs}
+use Rattle.dump.specs.{Laws.Fine.rows-within, Laws.Fine.restore-fine}
+use Rattle.dump.proofs.{Answers.window-fits, Answers.restore-refused, Answers.restore-done, restore.Statement.statement}
 use Rattle.dump.proofs.restore.Tie as tie
 
 read-window-requires : tie.Need-read-window-requires

@@ -1,26 +1,14 @@
 -- What a dump and an image that are judged fine have been seen to have.
-use Prim.Native.Nat.{ℕ, _*_, _≤_}
-use mathlib.Core.Path.{_≡_, sym, ap, _∙_}
-use mathlib.Core.Bool.{true, _&&_}
-use mathlib.Core.List.{List}
-use native.Mathlib.Nat.{mul-assoc, mul-comm, mul-le-mul-right}
-use native.Mathlib.Omega.{arith}
-use borrow.Author.Tests.{leb-true, eqb-true}
-use lib.Dec.{leb, eqb}
-use lib.ListN.{length, getD}
-use Rattle.words.specs.Limits.{rowWords, mostSlots, mostRows}
-use Rattle.records.specs.declared.settings.Settings.{Settings}
-use Rattle.records.specs.declared.state.State.{State}
-use Rattle.records.specs.Lent.{rowPlaces}
-use Rattle.refusals.specs.declared.verdict.Verdict.the-variants.{Fine}
-use Rattle.refusals.specs.Rooms.{roomLines, stateLines}
-use Rattle.refusals.specs.Settings.{settingLines}
-use Rattle.refusals.specs.Laws.Lines.{and-true, first-holds, both-fine}
-use Rattle.engine.specs.Books.{emptied}
-use Rattle.dump.specs.Layout.{headBytes, dumpBytes}
-use Rattle.dump.specs.Reading.{slotsIn, versionIn, depthIn, seenIn, rowsIn, rowPlace}
-use Rattle.dump.specs.Refused.{areaLines, dumpStateLines, dumpLines, dumpJudged}
-use Rattle.dump.specs.Refused.{shapeFine, numbersFine, imageLines, sameLines, restoreLines, restoreJudged}
+use Rattle.words.specs.Prelude.{ℕ, _*_, _≤_, _≡_, sym, ap, _∙_, true, _&&_, List, mul-assoc, mul-comm, mul-le-mul-right, arith, leb-true, eqb-true, leb, eqb}
+use Rattle.words.specs.Prelude.{length, getD}
+use Rattle.words.specs.{Limits.rowWords, Limits.mostSlots, Limits.mostRows}
+use Rattle.records.specs.{declared.settings.Settings.Settings, declared.state.State.State, Lent.rowPlaces}
+use Rattle.refusals.specs.{declared.verdict.Verdict.the-variants.Fine, Rooms.roomLines, Rooms.stateLines, Settings.settingLines, Laws.Lines.and-true}
+use Rattle.refusals.specs.{Laws.Lines.first-holds, Laws.Lines.both-fine}
+use Rattle.engine.specs.{Books.emptied}
+use Rattle.dump.specs.{Layout.headBytes, Layout.dumpBytes, Reading.slotsIn, Reading.versionIn, Reading.depthIn, Reading.seenIn, Reading.rowsIn}
+use Rattle.dump.specs.{Reading.rowPlace, Refused.areaLines, Refused.dumpStateLines, Refused.dumpLines, Refused.dumpJudged, Refused.shapeFine}
+use Rattle.dump.specs.{Refused.numbersFine, Refused.imageLines, Refused.sameLines, Refused.restoreLines, Refused.restoreJudged}
 
 pub record DumpFine (s : Settings) (t : State) (rows area : List ℕ) : Type 0 where
   pub slots : s .slots ≤ mostSlots

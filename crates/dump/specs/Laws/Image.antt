@@ -1,27 +1,14 @@
 -- An image's length, and each of its bytes as one of the header's or the rows' words.
-use Prim.Native.Nat.{ℕ, zero, suc, _+_, _-_, _*_, _/_, _≤_, _<_}
-use mathlib.Core.Path.{_≡_, refl, sym, ap, _∙_}
-use mathlib.Core.List.{List, [], _∷_, _++_}
-use mathlib.Core.Bool.{Bool, true, false}
-use native.Mathlib.Nat.{zero-mul, sub-zero, mul-le-mul-right, mul-le-mul-left, add-mul, mul-div-cancel, mul-assoc, mul-comm}
-use native.Mathlib.Omega.{arith}
-use borrow.Author.Tests.{leb-true, leb-false}
-use lib.Dec.{leb}
-use lib.ListN.{length, getD, take, replicate, length-append, length-drop, length-replicate, List·getD-append}
-use lib.Seq.{getD-append-add, length-take-le}
-use Rattle.words.specs.Limits.{rowWords}
-use Rattle.words.specs.Laws.Records.{records-fit}
-use Rattle.rows.specs.History.{lastRows}
-use Rattle.records.specs.declared.settings.Settings.{Settings}
-use Rattle.records.specs.declared.state.State.{State}
-use Rattle.records.specs.Lent.{rowPlaces}
-use Rattle.records.specs.StateWords.{wordsOf}
-use Rattle.engine.specs.Record.{heldRows}
-use Rattle.dump.specs.Layout.{bodyBytes, wordsBytes, numbers, amounts, head, body, image, windowOf, imageOf}
-use Rattle.dump.specs.Order.{written}
-use Rattle.dump.specs.Laws.InOrder.{inOrder, in-order}
-use Rattle.dump.specs.Laws.Packed.{headWords, head-packed}
-use Rattle.dump.specs.Laws.WordBytes.{words-long}
+use Rattle.words.specs.Prelude.{ℕ, zero, suc, _+_, _-_, _*_, _/_, _≤_, _<_, _≡_, refl, sym, ap, _∙_, List, [], _∷_, _++_, Bool, true, false, zero-mul, sub-zero}
+use Rattle.words.specs.Prelude.{mul-le-mul-right, mul-le-mul-left, add-mul, mul-div-cancel, mul-assoc, mul-comm, arith, leb-true, leb-false, leb, length, getD}
+use Rattle.words.specs.Prelude.{take, replicate, length-append, length-drop, length-replicate, List·getD-append, getD-append-add, length-take-le}
+use Rattle.words.specs.{Limits.rowWords, Laws.Records.records-fit}
+use Rattle.rows.specs.{History.lastRows}
+use Rattle.records.specs.{declared.settings.Settings.Settings, declared.state.State.State, Lent.rowPlaces, StateWords.wordsOf}
+use Rattle.engine.specs.{Record.heldRows}
+use Rattle.dump.specs.{Layout.bodyBytes, Layout.wordsBytes, Layout.numbers, Layout.amounts, Layout.head, Layout.body, Layout.image, Layout.windowOf}
+use Rattle.dump.specs.{Layout.imageOf, Order.written, Laws.InOrder.inOrder, Laws.InOrder.in-order, Laws.Packed.headWords, Laws.Packed.head-packed}
+use Rattle.dump.specs.{Laws.WordBytes.words-long}
 
 -- zeros behind a list are what reading past its end gives
 pub zeros-behind : (xs : List ℕ) (n i : ℕ) → getD (xs ++ replicate n 0) i 0 ≡ getD xs i 0

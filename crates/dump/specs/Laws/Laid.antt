@@ -1,12 +1,6 @@
 -- Bytes laid one after another into an area: parts of a stretch, and stretches of the order of writing.
-use Prim.Native.Nat.{ℕ, zero, suc, _+_, _≤_, _<_}
-use mathlib.Core.Path.{_≡_, refl, sym, ap}
-use mathlib.Core.List.{List, [], _∷_}
-use native.Mathlib.Nat.{add-zero, add-suc}
-use native.Mathlib.Numerals.{add-one}
-use native.Mathlib.Omega.{arith}
-use lib.ListN.{length, getD, set, length-set}
-use Rattle.dump.specs.Order.{placeOf, stretch}
+use Rattle.words.specs.Prelude.{ℕ, zero, suc, _+_, _≤_, _<_, _≡_, refl, sym, ap, List, [], _∷_, add-zero, add-suc, add-one, arith, length, getD, set, length-set}
+use Rattle.dump.specs.{Order.placeOf, Order.stretch}
 
 -- the n bytes of xs from p on, each at its place after base
 unfoldable pub laid : List ℕ → ℕ → List ℕ → ℕ → ℕ → List ℕ

@@ -1,13 +1,9 @@
 -- The header as words: fields that are no words of their own stand side by side in one, the first lowest.
-use Prim.Native.Nat.{ℕ, _+_, _*_, _/_, _%_, _<_}
-use mathlib.Core.Path.{_≡_, refl, sym, ap, _∙_}
-use mathlib.Core.List.{List, [], _∷_, _++_}
-use native.Mathlib.Nat.{mod-eq-of-lt, div-eq-of-lt, add-mul-div-left, add-mul-mod-self-left, zero-add}
-use native.Mathlib.Omega.{arith}
-use lib.ListN.{replicate}
-use Rattle.words.specs.Words.{word}
-use Rattle.steps.specs.Bytes.{two, four, eight}
-use Rattle.dump.specs.Layout.{single, wordsBytes, numbers, amounts, head}
+use Rattle.words.specs.Prelude.{ℕ, _+_, _*_, _/_, _%_, _<_, _≡_, refl, sym, ap, _∙_, List, [], _∷_, _++_, mod-eq-of-lt, div-eq-of-lt, zero-add, arith, replicate}
+use Rattle.words.specs.{Words.word}
+use Rattle.steps.specs.{Bytes.two, Bytes.four, Bytes.eight}
+use Rattle.dump.specs.{Layout.single, Layout.wordsBytes, Layout.numbers, Layout.amounts, Layout.head}
+use native.Mathlib.Nat.{add-mul-div-left, add-mul-mod-self-left}
 
 -- the mark and version 1, K, D
 abbrev pub firstWord : ℕ → ℕ → ℕ

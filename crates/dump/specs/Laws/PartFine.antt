@@ -1,27 +1,12 @@
 -- What a part that is judged fine has been seen to have; and words of which a part refuses nothing, seen in the words as they are.
-use Prim.Native.Nat.{ℕ, _+_, _*_, _≤_}
-use mathlib.Core.Path.{_≡_, sym, ap, _∙_}
-use mathlib.Core.Bool.{Bool, true, cond}
-use mathlib.Core.List.{List}
-use borrow.Author.Tests.{leb-true}
-use lib.Dec.{leb}
-use lib.ListN.{length, replicate, length-replicate}
-use Rattle.words.specs.Limits.{settingWords, stateWords, rowWords, mostSlots, mostRows}
-use Rattle.words.specs.Words.{overwrite}
-use Rattle.records.specs.declared.settings.Settings.{Settings}
-use Rattle.records.specs.declared.state.State.{State}
-use Rattle.records.specs.Lent.{rowPlaces}
-use Rattle.records.specs.Settings.{settingsOf}
-use Rattle.records.specs.StateWords.{stateOf}
-use Rattle.refusals.specs.declared.verdict.Verdict.the-variants.{Fine}
-use Rattle.refusals.specs.Rooms.{roomLines, stateLines}
-use Rattle.refusals.specs.Settings.{settingLines}
-use Rattle.refusals.specs.Laws.Lines.{and-true, first-holds, both-fine, below-fine}
-use Rattle.engine.specs.Books.{emptied}
-use Rattle.dump.specs.Layout.{headBytes, imageOf}
-use Rattle.dump.specs.Refused.{areaLines, dumpStateLines, dumpLines, dumpJudged}
-use Rattle.dump.specs.Parts.{bytesFrom, partLines, partJudged}
-use Rattle.dump.specs.Laws.Passing.{wordsPass, words-fine}
+use Rattle.words.specs.Prelude.{ℕ, _+_, _*_, _≤_, _≡_, sym, ap, _∙_, Bool, true, cond, List, leb-true, leb, length, replicate, length-replicate}
+use Rattle.words.specs.{Limits.settingWords, Limits.stateWords, Limits.rowWords, Limits.mostSlots, Limits.mostRows, Words.overwrite}
+use Rattle.records.specs.{declared.settings.Settings.Settings, declared.state.State.State, Lent.rowPlaces, Settings.settingsOf, StateWords.stateOf}
+use Rattle.refusals.specs.{declared.verdict.Verdict.the-variants.Fine, Rooms.roomLines, Rooms.stateLines, Settings.settingLines, Laws.Lines.and-true}
+use Rattle.refusals.specs.{Laws.Lines.first-holds, Laws.Lines.both-fine, Laws.Lines.below-fine}
+use Rattle.engine.specs.{Books.emptied}
+use Rattle.dump.specs.{Layout.headBytes, Layout.imageOf, Refused.areaLines, Refused.dumpStateLines, Refused.dumpLines, Refused.dumpJudged, Parts.bytesFrom}
+use Rattle.dump.specs.{Parts.partLines, Parts.partJudged, Laws.Passing.wordsPass, Laws.Passing.words-fine}
 
 pub record PartFine (s : Settings) (t : State) (rows : List ℕ) : Type 0 where
   pub slots : s .slots ≤ mostSlots

@@ -1,24 +1,12 @@
 -- Parts one after another are the whole image, which is what a whole dump leaves.
-use Prim.Native.Nat.{ℕ, _+_, _/_, _≤_}
-use mathlib.Core.Path.{_≡_, refl, sym, ap, _∙_}
-use mathlib.Core.List.{List, [], _∷_, _++_}
-use native.Mathlib.Omega.{arith}
-use lib.ListN.{length, take, drop, length-drop}
-use lib.Seq.{take-add, drop-drop, take-all}
-use Rattle.words.specs.Limits.{rowWords}
-use Rattle.words.specs.Laws.Records.{records-fit}
-use Rattle.records.specs.declared.settings.Settings.{Settings}
-use Rattle.records.specs.declared.state.State.{State}
-use Rattle.records.specs.Lent.{rowPlaces}
-use Rattle.records.specs.StateWords.{wordsOf}
-use Rattle.engine.specs.Record.{heldRows}
-use Rattle.dump.specs.Layout.{bodyBytes, dumpBytes, windowOf, imageOf}
-use Rattle.dump.specs.Order.{written}
-use Rattle.dump.specs.Parts.{bytesFrom}
-use Rattle.dump.specs.Laws.InOrder.{in-order, in-order-whole}
-use Rattle.dump.specs.Laws.Image.{image-long, image-head, image-body, window-short}
-use Rattle.dump.specs.Laws.Packed.{headWords}
-use Rattle.dump.specs.Laws.Placed.{whole-laid}
+use Rattle.words.specs.Prelude.{ℕ, _+_, _/_, _≤_, _≡_, refl, sym, ap, _∙_, List, [], _∷_, _++_, arith, length, take, drop, length-drop, take-add, drop-drop}
+use Rattle.words.specs.Prelude.{take-all}
+use Rattle.words.specs.{Limits.rowWords, Laws.Records.records-fit}
+use Rattle.records.specs.{declared.settings.Settings.Settings, declared.state.State.State, Lent.rowPlaces, StateWords.wordsOf}
+use Rattle.engine.specs.{Record.heldRows}
+use Rattle.dump.specs.{Layout.bodyBytes, Layout.dumpBytes, Layout.windowOf, Layout.imageOf, Order.written, Parts.bytesFrom, Laws.InOrder.in-order}
+use Rattle.dump.specs.{Laws.InOrder.in-order-whole, Laws.Image.image-long, Laws.Image.image-head, Laws.Image.image-body, Laws.Image.window-short}
+use Rattle.dump.specs.{Laws.Packed.headWords, Laws.Placed.whole-laid}
 
 -- buffers of these lengths, each filled from where the one before it ends
 unfoldable pub inParts : List ℕ → ℕ → List ℕ → List ℕ

@@ -1,32 +1,20 @@
 -- Words of settings and state of which a dump refuses nothing, seen in the words as they are. It is enough, and seldom more than is needed: a
 -- level that is not given has to be finite too.
-use Prim.Native.Nat.{ℕ, zero, suc, _+_, _*_, _/_, _%_, _^_, _≤_, _<_}
-use mathlib.Core.Path.{_≡_, refl, sym, ap, _∙_}
-use mathlib.Core.Bool.{Bool, true, false, cond, _&&_, true≢false}
-use mathlib.Core.List.{List, []}
-use native.Mathlib.Nat.{le-div-iff-mul-le, mul-assoc, mul-comm}
-use native.Mathlib.Omega.{arith}
-use borrow.Author.Tests.{lt-ltb, le-ltb, le-leb, ne-eqb, leb-true, ltb-true}
-use lib.Dec.{leb, ltb, eqb}
-use lib.ListN.{length}
-use Rattle.words.specs.Limits.{settingWords, stateWords, rowWords, mostSlots, mostRows, mostReach, mostCount}
-use Rattle.words.specs.Words.{word}
-use Rattle.floats.specs.Floats.{finite, floatOf}
-use Rattle.execution.specs.declared.optional.Optional.the-variants.{Absent, Of}
-use Rattle.records.specs.Lent.{rowPlaces, pointPlaces, tradePlaces}
-use Rattle.records.specs.Settings.{levelOf, sizingOf, slippageOf, orderTypeOf, riskOf, termsOf, entriesOf, settingsOf}
-use Rattle.records.specs.StateWords.{enteredOf, countsOf, positionOf, stateOf}
-use Rattle.refusals.specs.declared.verdict.Verdict.the-variants.{Fine}
-use Rattle.refusals.specs.Lines.{judged}
-use Rattle.refusals.specs.Rooms.{roomLines, entryBelow, stateLines}
-use Rattle.refusals.specs.Settings.{lookback, sizingKnown, sizingValue, slippageKnown, slippageValue, levelFine, stopThere, orderTypeKnown, lotFine}
-use Rattle.refusals.specs.Settings.{sizingLines, slippageLines, riskLines, termLines, entryLines, settingLines}
-use Rattle.refusals.specs.Laws.Lines.{and-true, below-fine}
-use Rattle.refusals.specs.Laws.Descent.{no-line, fine-line}
-use Rattle.engine.specs.Books.{emptied}
-use Rattle.dump.specs.Layout.{headBytes, dumpBytes, imageOf}
-use Rattle.dump.specs.Order.{written}
-use Rattle.dump.specs.Refused.{areaLines, dumpStateLines, dumpLines, dumpJudged}
+use Rattle.words.specs.Prelude.{ℕ, zero, suc, _+_, _*_, _/_, _%_, _^_, _≤_, _<_, _≡_, refl, sym, ap, _∙_, Bool, true, false, cond, _&&_, true≢false, List, []}
+use Rattle.words.specs.Prelude.{le-div-iff-mul-le, mul-assoc, mul-comm, arith, lt-ltb, le-ltb, le-leb, ne-eqb, leb-true, ltb-true, leb, ltb, eqb, length}
+use Rattle.words.specs.{Limits.settingWords, Limits.stateWords, Limits.rowWords, Limits.mostSlots, Limits.mostRows, Limits.mostReach, Limits.mostCount, Words.word}
+use Rattle.floats.specs.{Floats.finite, Floats.floatOf}
+use Rattle.execution.specs.{declared.optional.Optional.the-variants.Absent, declared.optional.Optional.the-variants.Of}
+use Rattle.records.specs.{Lent.rowPlaces, Lent.pointPlaces, Lent.tradePlaces, Settings.levelOf, Settings.sizingOf, Settings.slippageOf, Settings.orderTypeOf}
+use Rattle.records.specs.{Settings.riskOf, Settings.termsOf, Settings.entriesOf, Settings.settingsOf, StateWords.enteredOf, StateWords.countsOf}
+use Rattle.records.specs.{StateWords.positionOf, StateWords.stateOf}
+use Rattle.refusals.specs.{declared.verdict.Verdict.the-variants.Fine, Lines.judged, Rooms.roomLines, Rooms.entryBelow, Rooms.stateLines, Settings.lookback}
+use Rattle.refusals.specs.{Settings.sizingKnown, Settings.sizingValue, Settings.slippageKnown, Settings.slippageValue, Settings.levelFine, Settings.stopThere}
+use Rattle.refusals.specs.{Settings.orderTypeKnown, Settings.lotFine, Settings.sizingLines, Settings.slippageLines, Settings.riskLines, Settings.termLines}
+use Rattle.refusals.specs.{Settings.entryLines, Settings.settingLines, Laws.Lines.and-true, Laws.Lines.below-fine, Laws.Descent.no-line, Laws.Descent.fine-line}
+use Rattle.engine.specs.{Books.emptied}
+use Rattle.dump.specs.{Layout.headBytes, Layout.dumpBytes, Layout.imageOf, Order.written, Refused.areaLines, Refused.dumpStateLines, Refused.dumpLines}
+use Rattle.dump.specs.{Refused.dumpJudged}
 
 -- ---- what is looked at
 

@@ -1,16 +1,10 @@
 -- The words of the state that words mean: of a NaN one pattern, and 0 where a kind does not use its word.
-use Prim.Native.Nat.{ℕ, zero, suc}
-use mathlib.Core.Path.{_≡_, refl}
-use mathlib.Core.Bool.{cond}
-use mathlib.Core.List.{List, [], _∷_}
-use native.Mathlib.Omega.{arith}
-use borrow.Author.Tests.{lt-leb, ne-eqb}
-use lib.Dec.{leb, eqb}
-use lib.Ieee.{Float}
-use Rattle.words.specs.Words.{word}
-use Rattle.floats.specs.Floats.{wordOf, floatOf}
-use Rattle.records.specs.StateWords.{orderOf, entryKindOf, enteredOf, countsOf, portfolioOf, positionOf, stateOf}
-use Rattle.records.specs.StateWords.{orderKind, orderDelay, waitsFor, kindWord, levelWord, limitWord, enteredKind, entryBar, wordsOf}
+use Rattle.words.specs.Prelude.{ℕ, zero, suc, _≡_, refl, cond, List, [], _∷_, arith, lt-leb, ne-eqb, leb, eqb, Float}
+use Rattle.words.specs.{Words.word}
+use Rattle.floats.specs.{Floats.wordOf, Floats.floatOf}
+use Rattle.records.specs.{StateWords.orderOf, StateWords.entryKindOf, StateWords.enteredOf, StateWords.countsOf, StateWords.portfolioOf, StateWords.positionOf}
+use Rattle.records.specs.{StateWords.stateOf, StateWords.orderKind, StateWords.orderDelay, StateWords.waitsFor, StateWords.kindWord, StateWords.levelWord}
+use Rattle.records.specs.{StateWords.limitWord, StateWords.enteredKind, StateWords.entryBar, StateWords.wordsOf}
 
 -- an order and an order kind that there is
 abbrev pub orderIn : ℕ → ℕ

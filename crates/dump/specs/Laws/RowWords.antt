@@ -1,30 +1,17 @@
 -- A row judged by its words where they stand: prices and volume, the bits above K, and slot by slot, present and finite or absent and zero.
-use Prim.Native.Nat.{ℕ, zero, suc, _+_, _-_, _*_, _/_, _%_, _^_, _≤_, _<_}
-use mathlib.Core.Path.{_≡_, refl, sym, ap, _∙_}
-use mathlib.Core.Bool.{Bool, true, false, cond, _&&_, _||_}
-use mathlib.Core.List.{List, [], _∷_}
-use mathlib.Core.Logic.{⊎-elim}
-use native.Mathlib.Nat.{eq-or-lt-of-le, add-zero, add-suc, one-mul, pow-suc, zero-div, div-lt-iff-lt-mul, div-div-eq-div-mul, mul-comm}
-use native.Mathlib.Numerals.{add-one}
-use native.Mathlib.Omega.{arith}
-use borrow.Author.Tests.{lt-ltb, le-ltb, eq-eqb, ne-eqb, eqb-true, eqb-false}
-use lib.Dec.{ltb, eqb}
-use lib.ListN.{length, getD, List·getD-append, List·getD-eq-default}
-use lib.Pow.{pow-add, pow-pos}
-use lib.Seq.{getD-at}
-use Rattle.words.specs.Limits.{rowWords}
-use Rattle.floats.specs.Floats.{finite, floatOf}
-use Rattle.table.specs.Bytes.{u64}
-use Rattle.records.specs.Bar.{candleOf, fundingOf}
-use Rattle.engine.specs.Record.{listed}
-use Rattle.engine.specs.Laws.Lengths.{listed-long}
-use Rattle.words.specs.declared.refusal.Refusal.{Refusal}
-use Rattle.execution.specs.declared.costs.Funding.the-variants.{NotSupplied}
-use Rattle.refusals.specs.declared.verdict.Verdict.the-variants.{Fine, Bad}
-use Rattle.refusals.specs.Bar.{bitFine, slotFine, every, slotsFine, candleFine, barLines}
-use Rattle.refusals.specs.Lines.{judged}
-use Rattle.dump.specs.Reading.{wordsAt}
-use Rattle.dump.specs.Refused.{isFine, absentZero, rowFine}
+use Rattle.words.specs.Prelude.{ℕ, zero, suc, _+_, _-_, _*_, _/_, _%_, _^_, _≤_, _<_, _≡_, refl, sym, ap, _∙_, Bool, true, false, cond, _&&_, _||_, List, [], _∷_}
+use Rattle.words.specs.Prelude.{⊎-elim, eq-or-lt-of-le, add-zero, add-suc, one-mul, pow-suc, zero-div, div-lt-iff-lt-mul, div-div-eq-div-mul, mul-comm, add-one}
+use Rattle.words.specs.Prelude.{arith, lt-ltb, le-ltb, eq-eqb, ne-eqb, eqb-true, eqb-false, ltb, eqb, length, getD, List·getD-append, List·getD-eq-default, pow-add}
+use Rattle.words.specs.Prelude.{pow-pos, getD-at}
+use Rattle.words.specs.{Limits.rowWords, declared.refusal.Refusal.Refusal}
+use Rattle.floats.specs.{Floats.finite, Floats.floatOf}
+use Rattle.table.specs.{Bytes.u64}
+use Rattle.records.specs.{Bar.candleOf, Bar.fundingOf}
+use Rattle.engine.specs.{Record.listed, Laws.Lengths.listed-long}
+use Rattle.execution.specs.{declared.costs.Funding.the-variants.NotSupplied}
+use Rattle.refusals.specs.{declared.verdict.Verdict.the-variants.Fine, declared.verdict.Verdict.the-variants.Bad, Bar.bitFine, Bar.slotFine, Bar.every}
+use Rattle.refusals.specs.{Bar.slotsFine, Bar.candleFine, Bar.barLines, Lines.judged}
+use Rattle.dump.specs.{Reading.wordsAt, Refused.isFine, Refused.absentZero, Refused.rowFine}
 
 -- a present slot is finite, the word of an absent one 0
 abbrev pub slotPlain : ℕ → ℕ → ℕ → Bool

@@ -1,12 +1,8 @@
 -- The bytes of words: how many there are, and each of them.
-use Prim.Native.Nat.{ℕ, zero, suc, _+_, _*_, _/_, _%_, _<_}
-use mathlib.Core.Path.{_≡_, refl, sym, ap, _∙_}
-use mathlib.Core.List.{List, [], _∷_, _++_}
-use native.Mathlib.Omega.{arith}
-use lib.ListN.{length, getD, List·getD-append}
-use lib.Seq.{getD-append-add}
-use Rattle.steps.specs.Bytes.{eight}
-use Rattle.dump.specs.Layout.{wordsBytes}
+use Rattle.words.specs.Prelude.{ℕ, zero, suc, _+_, _*_, _/_, _%_, _<_, _≡_, refl, sym, ap, _∙_, List, [], _∷_, _++_, arith, length, getD, List·getD-append}
+use Rattle.words.specs.Prelude.{getD-append-add}
+use Rattle.steps.specs.{Bytes.eight}
+use Rattle.dump.specs.{Layout.wordsBytes}
 
 pub words-long : (ws : List ℕ) → length (wordsBytes ws) ≡ 8 * length ws
 unfolding wordsBytes

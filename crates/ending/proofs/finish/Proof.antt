@@ -1,8 +1,6 @@
 -- The judgement decides: refused, or the end of the run. Assumes nothing.
-use mathlib.Core.Path.{sym, _∙_}
-use borrow.Author.Needs.{needs}
-use Rattle.ending.proofs.Endings.{refused, went}
-use Rattle.ending.proofs.finish.Statement.{statement}
+use Rattle.words.specs.Prelude.{sym, _∙_, needs}
+use Rattle.ending.proofs.{Endings.refused, Endings.went, finish.Statement.statement}
 use Rattle.ending.proofs.finish.Tie as tie
 
 returns : tie.Need-returns

@@ -1,8 +1,7 @@
 -- A call of one bar, as an answer. Assumes nothing.
-use borrow.Author.Needs.{needs}
-use Rattle.records.specs.Lent.{rooms, lists}
-use Rattle.engine.proofs.Days.{one-refused, one-done}
-use Rattle.engine.proofs.step.Statement.{statement}
+use Rattle.words.specs.Prelude.{needs}
+use Rattle.records.specs.{Lent.rooms, Lent.lists}
+use Rattle.engine.proofs.{Days.one-refused, Days.one-done, step.Statement.statement}
 use Rattle.engine.proofs.step.Tie as tie
 
 returns : tie.Need-returns

@@ -1,35 +1,17 @@
 -- A call over many bars is a step for each: its first bar, one bar more, and what is judged once.
-use Prim.Native.Nat.{ℕ, zero, suc, _+_, _-_, _*_, _/_, _%_, _<_, _≤_}
-use mathlib.Core.Path.{_≡_, refl, sym, ap, _∙_}
-use mathlib.Core.Bool.{Bool, true, false}
-use mathlib.Core.List.{List, [], _∷_, _++_}
-use native.Mathlib.Nat.{zero-mod, zero-div, le-div-iff-mul-le, mod-eq-of-lt, div-self}
-use native.Mathlib.Omega.{arith}
-use borrow.Author.Tests.{eqb-true, eqb-false, ltb-true, ltb-false}
-use lib.Dec.{ltb}
-use lib.ListN.{length, take, drop}
-use lib.Seq.{drop-drop, length-take-le, take-all}
-use Rattle.words.specs.Limits.{barWords}
-use Rattle.words.specs.declared.refusal.Refusal.{Refusal}
-use Rattle.records.specs.declared.settings.Settings.{Settings}
-use Rattle.records.specs.declared.state.State.{State}
-use Rattle.records.specs.Lent.{Lists, Rooms, rooms}
-use Rattle.refusals.specs.declared.verdict.Verdict.{Verdict}
-use Rattle.refusals.specs.declared.verdict.Verdict.the-variants.{Fine, Bad}
-use Rattle.refusals.specs.Day.{wholeBars, wholeFor, dayLines, nextLines}
-use Rattle.refusals.specs.Judgement.{stepJudged}
-use Rattle.refusals.specs.Laws.Lines.{below-fine, below-bad}
-use Rattle.refusals.specs.Laws.Steady.{Steady, day-bad, day-ragged, next-judged}
-use Rattle.refusals.specs.Lines.{Line, judged}
-use Rattle.refusals.specs.Lists.{listLines}
-use Rattle.engine.specs.declared.answer.Answer.{Answer}
-use Rattle.engine.specs.declared.answer.Answer.the-variants.{Refused, Done}
-use Rattle.engine.specs.Day.{Underway, cut, barsIn, barsFor, noBars, dayOf, stopped, runWith, unlistedBy}
-use Rattle.engine.specs.Run.{Run, oneMore, goesOn, runOver}
-use Rattle.engine.specs.Step.{With, Is, answered, stepped, stepVerdict, stepAnswer}
-use Rattle.engine.specs.Laws.Runs.{run-none, run-stops}
-use Rattle.engine.specs.Laws.Underway.{step-steady}
-use Rattle.engine.specs.Laws.Verdict.{handed-bad}
+use Rattle.words.specs.Prelude.{ℕ, zero, suc, _+_, _-_, _*_, _/_, _%_, _<_, _≤_, _≡_, refl, sym, ap, _∙_, Bool, true, false, List, [], _∷_, _++_, zero-div}
+use Rattle.words.specs.Prelude.{le-div-iff-mul-le, mod-eq-of-lt, arith, eqb-true, eqb-false, ltb-true, ltb-false, ltb, length, take, drop, drop-drop}
+use Rattle.words.specs.Prelude.{length-take-le, take-all}
+use Rattle.words.specs.{Limits.barWords, declared.refusal.Refusal.Refusal}
+use Rattle.records.specs.{declared.settings.Settings.Settings, declared.state.State.State, Lent.Lists, Lent.Rooms, Lent.rooms}
+use Rattle.refusals.specs.{declared.verdict.Verdict.Verdict, declared.verdict.Verdict.the-variants.Fine, declared.verdict.Verdict.the-variants.Bad, Day.wholeBars}
+use Rattle.refusals.specs.{Day.wholeFor, Day.dayLines, Day.nextLines, Judgement.stepJudged, Laws.Lines.below-fine, Laws.Lines.below-bad, Laws.Steady.Steady}
+use Rattle.refusals.specs.{Laws.Steady.day-bad, Laws.Steady.day-ragged, Laws.Steady.next-judged, Lines.Line, Lines.judged, Lists.listLines}
+use Rattle.engine.specs.{declared.answer.Answer.Answer, declared.answer.Answer.the-variants.Refused, declared.answer.Answer.the-variants.Done, Day.Underway}
+use Rattle.engine.specs.{Day.cut, Day.barsIn, Day.barsFor, Day.noBars, Day.dayOf, Day.stopped, Day.runWith, Day.unlistedBy, Run.Run, Run.oneMore, Run.goesOn}
+use Rattle.engine.specs.{Run.runOver, Step.With, Step.Is, Step.answered, Step.stepped, Step.stepVerdict, Step.stepAnswer, Laws.Runs.run-none}
+use Rattle.engine.specs.{Laws.Runs.run-stops, Laws.Underway.step-steady, Laws.Verdict.handed-bad}
+use native.Mathlib.Nat.{zero-mod, div-self}
 
 -- ---- a bar
 

@@ -1,43 +1,19 @@
 -- Rows that do not move are read, and added to, as if they did.
-use Prim.Native.Nat.{ℕ, _/_}
-use mathlib.Core.Path.{_≡_, refl, ap, _∙_}
-use mathlib.Core.Bool.{Bool, true, false, cond}
-use mathlib.Core.List.{List}
-use native.Mathlib.Omega.{arith}
-use borrow.Author.Tests.{eqb-true}
-use lib.Dec.{eqb}
-use lib.Ieee.{Float}
-use lib.ListN.{length}
-use Rattle.rows.specs.declared.ring.Ring.{Ring}
-use Rattle.rows.specs.History.{historyOf, width, lastRows}
-use Rattle.rows.specs.Laws.Ring.{RingFine, ring-adds, ring-none, held-turned}
-use Rattle.rows.specs.Laws.Turned.{turned-none}
-use Rattle.rows.specs.Ring.{ringOf, turned}
-use Rattle.rows.specs.Room.{withRow, heldWith}
-use Rattle.rules.specs.declared.position.PositionState.{PositionState}
-use Rattle.portfolio.specs.declared.Candle.{Candle}
-use Rattle.execution.specs.RingEntry.{entry-turned}
-use Rattle.steps.specs.declared.wellformed.Formed.{Formed}
-use Rattle.steps.specs.declared.wellformed.Formed.the-variants.{Well, Bad}
-use Rattle.steps.specs.declared.machine.Ran.{Ran}
-use Rattle.steps.specs.AnyList.{ring-any}
-use Rattle.steps.specs.WellFormed.{formed}
-use Rattle.records.specs.declared.settings.Settings.{Settings}
-use Rattle.records.specs.declared.state.Order.{Order}
-use Rattle.records.specs.declared.state.Position.{Position}
-use Rattle.records.specs.Lent.{Lists}
-use Rattle.refusals.specs.declared.verdict.Verdict.the-variants.{Fine}
-use Rattle.refusals.specs.Laws.Lines.{first-holds}
-use Rattle.refusals.specs.Lines.{judged}
-use Rattle.refusals.specs.Lists.{isWell, listLines}
-use Rattle.engine.specs.declared.account.Due.{Due}
-use Rattle.engine.specs.declared.account.Due.the-variants.{Waits, Enters, Leaves}
-use Rattle.engine.specs.declared.record.Place.{Place}
-use Rattle.engine.specs.Account.{entered, dueOf, doneOf, filled}
-use Rattle.engine.specs.Decide.{listSays, answersOf, stateAt, decided}
-use Rattle.engine.specs.InPlace.{keptRing, keptRoom, rowPlaced, PlaceFor, readFrom, decidedFrom}
-use Rattle.engine.specs.Laws.Lengths.{row-long, row-fits}
-use Rattle.engine.specs.Record.{rowOf, heldRows}
+use Rattle.words.specs.Prelude.{ℕ, _/_, _≡_, refl, ap, _∙_, Bool, true, false, cond, List, arith, eqb-true, eqb, Float, length}
+use Rattle.rows.specs.{declared.ring.Ring.Ring, History.historyOf, History.width, History.lastRows, Laws.Ring.RingFine, Laws.Ring.ring-adds, Laws.Ring.ring-none}
+use Rattle.rows.specs.{Laws.Ring.held-turned, Laws.Turned.turned-none, Ring.ringOf, Ring.turned, Room.withRow, Room.heldWith}
+use Rattle.rules.specs.{declared.position.PositionState.PositionState}
+use Rattle.portfolio.specs.{declared.Candle.Candle}
+use Rattle.execution.specs.{RingEntry.entry-turned}
+use Rattle.steps.specs.{declared.wellformed.Formed.Formed, declared.wellformed.Formed.the-variants.Well, declared.wellformed.Formed.the-variants.Bad}
+use Rattle.steps.specs.{declared.machine.Ran.Ran, AnyList.ring-any, WellFormed.formed}
+use Rattle.records.specs.{declared.settings.Settings.Settings, declared.state.Order.Order, declared.state.Position.Position, Lent.Lists}
+use Rattle.refusals.specs.{declared.verdict.Verdict.the-variants.Fine, Laws.Lines.first-holds, Lines.judged, Lists.isWell, Lists.listLines}
+use Rattle.engine.specs.{declared.account.Due.Due, declared.account.Due.the-variants.Waits, declared.account.Due.the-variants.Enters}
+use Rattle.engine.specs.{declared.account.Due.the-variants.Leaves, declared.record.Place.Place, Account.entered, Account.dueOf, Account.doneOf}
+use Rattle.engine.specs.{Account.filled, Decide.listSays, Decide.answersOf, Decide.stateAt, Decide.decided, InPlace.keptRing, InPlace.keptRoom}
+use Rattle.engine.specs.{InPlace.rowPlaced, InPlace.PlaceFor, InPlace.readFrom, InPlace.decidedFrom, Laws.Lengths.row-long, Laws.Lengths.row-fits}
+use Rattle.engine.specs.{Record.rowOf, Record.heldRows}
 
 -- ---- lists
 

@@ -1,27 +1,14 @@
 -- What is written into a room stays within it: its length is kept, and it holds no more than it has places for.
-use Prim.Native.Nat.{ℕ, zero, suc, _+_, _-_, _*_, _/_, _≤_, _<_}
-use mathlib.Core.Path.{_≡_, refl, ap, _∙_}
-use mathlib.Core.Bool.{Bool, true, false, cond}
-use mathlib.Core.List.{List, [], _∷_, _++_}
-use native.Mathlib.Nat.{le-div-iff-mul-le, suc-mul, le-refl, mul-le-mul-right}
-use native.Mathlib.Omega.{arith}
-use borrow.Author.Tests.{ltb-true, eqb-false}
-use lib.ListN.{length, take, drop, length-append, length-drop}
-use lib.Seq.{length-take-le}
-use lib.Dec.{ltb, eqb}
+use Rattle.words.specs.Prelude.{ℕ, zero, suc, _+_, _-_, _*_, _/_, _≤_, _<_, _≡_, refl, ap, _∙_, Bool, true, false, cond, List, [], _∷_, _++_, le-div-iff-mul-le}
+use Rattle.words.specs.Prelude.{suc-mul, le-refl, mul-le-mul-right, arith, ltb-true, eqb-false, length, take, drop, length-append, length-drop, length-take-le, ltb}
+use Rattle.words.specs.Prelude.{eqb}
+use Rattle.words.specs.{Words.overwrite, Laws.Overwrite.overwrite-length}
+use Rattle.rows.specs.{History.width, Room.placesFor, Room.withRow, Room.heldWith}
+use Rattle.execution.specs.{declared.fills.Exit.Exit, declared.fills.Exit.the-variants.NoExit, declared.fills.Exit.the-variants.Exited}
+use Rattle.portfolio.specs.{declared.Candle.Candle, Trade.wordsOfTrade}
+use Rattle.records.specs.{declared.state.Position.Position, Lent.pointPlaces, Lent.tradePlaces}
+use Rattle.engine.specs.{Books.Held, Books.wordsOfPoint, Books.pointOf, Books.booked, Books.marked, Record.listed, Record.rowWord, Record.rowOf}
 use Rattle.words.specs.Limits as Limits
-use Rattle.words.specs.Words.{overwrite}
-use Rattle.words.specs.Laws.Overwrite.{overwrite-length}
-use Rattle.rows.specs.History.{width}
-use Rattle.rows.specs.Room.{placesFor, withRow, heldWith}
-use Rattle.execution.specs.declared.fills.Exit.{Exit}
-use Rattle.execution.specs.declared.fills.Exit.the-variants.{NoExit, Exited}
-use Rattle.portfolio.specs.declared.Candle.{Candle}
-use Rattle.portfolio.specs.Trade.{wordsOfTrade}
-use Rattle.records.specs.declared.state.Position.{Position}
-use Rattle.records.specs.Lent.{pointPlaces, tradePlaces}
-use Rattle.engine.specs.Books.{Held, wordsOfPoint, pointOf, booked, marked}
-use Rattle.engine.specs.Record.{listed, rowWord, rowOf}
 
 -- ---- lengths
 

@@ -1,16 +1,9 @@
 -- "A refusal returns number, place and the state it was given, and changes nothing lent."
-use Prim.Native.Nat.{ℕ}
-use mathlib.Core.Path.{_≡_, refl}
-use mathlib.Core.List.{List}
-use native.Mathlib.Omega.{arith}
-use Rattle.words.specs.declared.refusal.Refusal.{Refusal}
-use Rattle.records.specs.declared.settings.Settings.{Settings}
-use Rattle.records.specs.declared.state.State.{State}
-use Rattle.refusals.specs.declared.verdict.Verdict.{Verdict}
-use Rattle.refusals.specs.declared.verdict.Verdict.the-variants.{Fine, Bad}
-use Rattle.records.specs.Lent.{Lists, Rooms}
-use Rattle.engine.specs.declared.answer.Answer.the-variants.{Refused}
-use Rattle.engine.specs.Step.{With, stepped, answered, stepVerdict, stepAnswer}
+use Rattle.words.specs.Prelude.{ℕ, _≡_, refl, List, arith}
+use Rattle.words.specs.{declared.refusal.Refusal.Refusal}
+use Rattle.records.specs.{declared.settings.Settings.Settings, declared.state.State.State, Lent.Lists, Lent.Rooms}
+use Rattle.refusals.specs.{declared.verdict.Verdict.Verdict, declared.verdict.Verdict.the-variants.Fine, declared.verdict.Verdict.the-variants.Bad}
+use Rattle.engine.specs.{declared.answer.Answer.the-variants.Refused, Step.With, Step.stepped, Step.answered, Step.stepVerdict, Step.stepAnswer}
 
 by-verdict : (v : Verdict) (t : State) (m : Rooms) (done : With State) (why : Refusal) (u : State)
     → answered v t m done .result ≡ Refused why u → (v ≡ Bad why) × (u ≡ t) × (answered v t m done .rooms ≡ m)

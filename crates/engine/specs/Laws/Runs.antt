@@ -1,18 +1,10 @@
 -- A run, bar by bar: the bar at which it stops, a bar that it takes, and what holds at its end.
-use Prim.Native.Nat.{ℕ}
-use mathlib.Core.Path.{_≡_, refl}
-use mathlib.Core.List.{List, [], _∷_}
-use native.Mathlib.Omega.{arith}
-use lib.ListN.{length}
-use Rattle.words.specs.declared.refusal.Refusal.{Refusal}
-use Rattle.records.specs.declared.settings.Settings.{Settings}
-use Rattle.records.specs.declared.state.State.{State}
-use Rattle.records.specs.Lent.{Lists, Rooms}
-use Rattle.refusals.specs.declared.verdict.Verdict.{Verdict}
-use Rattle.refusals.specs.declared.verdict.Verdict.the-variants.{Fine, Bad}
-use Rattle.refusals.specs.Laws.Lines.{never}
-use Rattle.engine.specs.Run.{Run, oneMore, goesOn, runOver}
-use Rattle.engine.specs.Step.{stepped, answered, stepVerdict, stepAnswer}
+use Rattle.words.specs.Prelude.{ℕ, _≡_, refl, List, [], _∷_, arith, length}
+use Rattle.words.specs.{declared.refusal.Refusal.Refusal}
+use Rattle.records.specs.{declared.settings.Settings.Settings, declared.state.State.State, Lent.Lists, Lent.Rooms}
+use Rattle.refusals.specs.{declared.verdict.Verdict.Verdict, declared.verdict.Verdict.the-variants.Fine, declared.verdict.Verdict.the-variants.Bad}
+use Rattle.refusals.specs.{Laws.Lines.never}
+use Rattle.engine.specs.{Run.Run, Run.oneMore, Run.goesOn, Run.runOver, Step.stepped, Step.answered, Step.stepVerdict, Step.stepAnswer}
 
 -- no bars
 pub run-none : (s : Settings) (ls : Lists) (t : State) (m : Rooms) → runOver s ls t m [] ≡ record { done = 0; verdict = Fine; state = t; rooms = m }

@@ -1,34 +1,18 @@
 -- What a call over many bars looks at once stays fine from bar to bar.
-use Prim.Native.Nat.{ℕ, _+_, _≤_}
-use mathlib.Core.Path.{_≡_, refl}
-use mathlib.Core.Bool.{Bool, true, _&&_}
-use mathlib.Core.List.{List}
-use native.Mathlib.Omega.{arith}
-use borrow.Author.Tests.{leb-true, le-leb, ltb-true, lt-ltb}
-use lib.Dec.{leb}
-use Rattle.rows.specs.History.{History}
-use Rattle.rules.specs.declared.position.Entered.{Entered as EntryBar}
-use Rattle.rules.specs.declared.position.Entered.the-variants.{Never, Bar}
-use Rattle.portfolio.specs.declared.Candle.{Candle}
-use Rattle.execution.specs.declared.fills.Entry.{Entry}
-use Rattle.execution.specs.declared.fills.Entry.the-variants.{NoEntry, TooLarge, Entered}
-use Rattle.execution.specs.declared.fills.Exit.{Exit}
-use Rattle.execution.specs.declared.fills.Exit.the-variants.{NoExit, Exited}
-use Rattle.records.specs.declared.settings.Settings.{Settings}
-use Rattle.records.specs.declared.state.Position.{Position}
-use Rattle.records.specs.declared.state.State.{State}
-use Rattle.records.specs.Bar.{candleOf}
-use Rattle.records.specs.Lent.{Lists, Rooms, rowPlaces, pointPlaces, tradePlaces}
-use Rattle.refusals.specs.Laws.Lines.{and-true}
-use Rattle.refusals.specs.Laws.Steady.{Steady}
-use Rattle.refusals.specs.Rooms.{heldFine, entryBelow, roomLines}
-use Rattle.engine.specs.declared.account.Due.{Due}
-use Rattle.engine.specs.declared.account.Due.the-variants.{Waits, Enters, Leaves}
-use Rattle.engine.specs.declared.account.Filled.{Filled}
-use Rattle.engine.specs.declared.account.Left.{Left}
-use Rattle.engine.specs.Account.{leaving, entering, entered, facing, exited, doneOf, filled, intrabar, charged}
-use Rattle.engine.specs.Laws.Lengths.{row-fits, twice-booked-fits, marked-fits}
-use Rattle.engine.specs.Step.{fillOf, stepped}
+use Rattle.words.specs.Prelude.{ℕ, _+_, _≤_, _≡_, refl, Bool, true, _&&_, List, arith, leb-true, le-leb, ltb-true, lt-ltb, leb}
+use Rattle.rows.specs.{History.History}
+use Rattle.rules.specs.{declared.position.Entered.Entered as EntryBar, declared.position.Entered.the-variants.Never, declared.position.Entered.the-variants.Bar}
+use Rattle.portfolio.specs.{declared.Candle.Candle}
+use Rattle.execution.specs.{declared.fills.Entry.Entry, declared.fills.Entry.the-variants.NoEntry, declared.fills.Entry.the-variants.TooLarge}
+use Rattle.execution.specs.{declared.fills.Entry.the-variants.Entered, declared.fills.Exit.Exit, declared.fills.Exit.the-variants.NoExit}
+use Rattle.execution.specs.{declared.fills.Exit.the-variants.Exited}
+use Rattle.records.specs.{declared.settings.Settings.Settings, declared.state.Position.Position, declared.state.State.State, Bar.candleOf, Lent.Lists, Lent.Rooms}
+use Rattle.records.specs.{Lent.rowPlaces, Lent.pointPlaces, Lent.tradePlaces}
+use Rattle.refusals.specs.{Laws.Lines.and-true, Laws.Steady.Steady, Rooms.heldFine, Rooms.entryBelow, Rooms.roomLines}
+use Rattle.engine.specs.{declared.account.Due.Due, declared.account.Due.the-variants.Waits, declared.account.Due.the-variants.Enters}
+use Rattle.engine.specs.{declared.account.Due.the-variants.Leaves, declared.account.Filled.Filled, declared.account.Left.Left, Account.leaving}
+use Rattle.engine.specs.{Account.entering, Account.entered, Account.facing, Account.exited, Account.doneOf, Account.filled, Account.intrabar, Account.charged}
+use Rattle.engine.specs.{Laws.Lengths.row-fits, Laws.Lengths.twice-booked-fits, Laws.Lengths.marked-fits, Step.fillOf, Step.stepped}
 
 -- ---- the entry bar
 

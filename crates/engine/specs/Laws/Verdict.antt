@@ -1,20 +1,11 @@
 -- The verdict on a step: what it was handed is judged first, then what it would fill.
-use Prim.Native.Nat.{ℕ, _<_, _^_}
-use mathlib.Core.Path.{_≡_, refl, sym, _∙_}
-use mathlib.Core.List.{List}
-use native.Mathlib.Omega.{arith}
-use Rattle.words.specs.declared.refusal.Refusal.{Refusal}
-use Rattle.records.specs.declared.settings.Settings.{Settings}
-use Rattle.records.specs.declared.state.State.{State}
-use Rattle.records.specs.Lent.{Lists, Rooms}
-use Rattle.refusals.specs.declared.verdict.Verdict.{Verdict}
-use Rattle.refusals.specs.declared.verdict.Verdict.the-variants.{Fine, Bad}
-use Rattle.refusals.specs.Judgement.{stepLines, stepJudged}
-use Rattle.refusals.specs.Laws.Fine.{StepFine, step-fine}
-use Rattle.refusals.specs.Laws.Lines.{both-fine, below-fine, below-bad}
-use Rattle.refusals.specs.Laws.Places.{Placed, place-below, placed-under, step-placed}
-use Rattle.refusals.specs.Lines.{judged}
-use Rattle.engine.specs.Step.{sizeLines, stepVerdict}
+use Rattle.words.specs.Prelude.{ℕ, _<_, _^_, _≡_, refl, sym, _∙_, List, arith}
+use Rattle.words.specs.{declared.refusal.Refusal.Refusal}
+use Rattle.records.specs.{declared.settings.Settings.Settings, declared.state.State.State, Lent.Lists, Lent.Rooms}
+use Rattle.refusals.specs.{declared.verdict.Verdict.Verdict, declared.verdict.Verdict.the-variants.Fine, declared.verdict.Verdict.the-variants.Bad}
+use Rattle.refusals.specs.{Judgement.stepLines, Judgement.stepJudged, Laws.Fine.StepFine, Laws.Fine.step-fine, Laws.Lines.both-fine, Laws.Lines.below-fine}
+use Rattle.refusals.specs.{Laws.Lines.below-bad, Laws.Places.Placed, Laws.Places.place-below, Laws.Places.placed-under, Laws.Places.step-placed, Lines.judged}
+use Rattle.engine.specs.{Step.sizeLines, Step.stepVerdict}
 
 module _ (s : Settings) (t : State) (bar : List ℕ) (m : Rooms) (ls : Lists) where
   -- a step that is fine was handed what it can use

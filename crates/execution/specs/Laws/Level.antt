@@ -1,16 +1,12 @@
 -- What a client may count on of an entry away from the market: it fills only on a bar that reaches its level, and its raw price, before slippage, is no
 -- worse than a limit and no better than a stop. Assumes nothing.
-use mathlib.Core.Path.{_≡_, refl}
-use mathlib.Core.Bool.{Bool, true, false, cond}
-use lib.Ieee.{Float}
-use Rattle.floats.specs.Floats.{_≼_, min, max}
-use Rattle.floats.specs.Laws.Order.{numbers, itself, min-second, max-second}
-use Rattle.portfolio.specs.declared.Candle.{Candle}
-use Rattle.execution.specs.declared.optional.Optional.{Optional}
-use Rattle.execution.specs.declared.optional.Optional.the-variants.{Absent, Of}
-use Rattle.execution.specs.declared.level.Side.the-variants.{Long, Short}
-use Rattle.execution.specs.declared.level.OrderKind.the-variants.{Limit, Stop, StopLimit}
-use Rattle.execution.specs.Level.{reachedBelow, reachedAbove, noDearerThan, noCheaperThan, longFill, shortFill, levelFill}
+use Rattle.words.specs.Prelude.{_≡_, refl, Bool, true, false, cond, Float}
+use Rattle.floats.specs.{Floats._≼_, Floats.min, Floats.max, Laws.Order.numbers, Laws.Order.itself, Laws.Order.min-second, Laws.Order.max-second}
+use Rattle.portfolio.specs.{declared.Candle.Candle}
+use Rattle.execution.specs.{declared.optional.Optional.Optional, declared.optional.Optional.the-variants.Absent, declared.optional.Optional.the-variants.Of}
+use Rattle.execution.specs.{declared.level.Side.the-variants.Long, declared.level.Side.the-variants.Short, declared.level.OrderKind.the-variants.Limit}
+use Rattle.execution.specs.{declared.level.OrderKind.the-variants.Stop, declared.level.OrderKind.the-variants.StopLimit, Level.reachedBelow}
+use Rattle.execution.specs.{Level.reachedAbove, Level.noDearerThan, Level.noCheaperThan, Level.longFill, Level.shortFill, Level.levelFill}
 
 -- so of the price, where there is a fill
 unfoldable pub WhereFilled : (Float → Type 0) → Optional → Type 0

@@ -1,10 +1,7 @@
 -- What a bit more of a root leaves over, and the number nearest to a root. Assumes nothing.
-use mathlib.Core.Path.{_≡_, refl, sym, ap, subst, _∙_}
-use mathlib.Core.Logic.{_⊎_, inl, inr}
-use Prim.Native.Nat.{ℕ, zero, suc, _+_, _-_, _*_, _/_, _%_, _^_, _≤_, _<_}
-use native.Mathlib.Nat.{mul-le-mul, lt-of-not-le, not-le-of-lt, lt-irrefl, lt-of-le-of-lt, lt-of-lt-of-le, le-trans, eq-zero-or-pos}
-use native.Mathlib.Omega.{arith}
-use Rattle.floats.specs.Root.{Goes, WholeRoot, Sized, NearestRoot}
+use Rattle.words.specs.Prelude.{_≡_, refl, sym, ap, subst, _∙_, _⊎_, inl, inr, ℕ, zero, suc, _+_, _-_, _*_, _/_, _%_, _^_, _≤_, _<_, mul-le-mul, lt-of-not-le}
+use Rattle.words.specs.Prelude.{not-le-of-lt, lt-irrefl, lt-of-le-of-lt, lt-of-lt-of-le, le-trans, eq-zero-or-pos, arith}
+use Rattle.floats.specs.{Root.Goes, Root.WholeRoot, Root.Sized, Root.NearestRoot}
 
 -- s is twice the root of n but for its bits below r, and y times r is left over
 pub record Found (n s y r : ℕ) : Type 0 where

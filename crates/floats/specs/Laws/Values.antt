@@ -1,14 +1,8 @@
 -- What a bit pattern stands for: so many units of 2^-1074. Assumes nothing.
-use mathlib.Core.Path.{_≡_, refl, sym, ap, subst, _∙_}
-use mathlib.Core.Bool.{Bool, false, cond}
-use Prim.Native.Nat.{ℕ, zero, suc, _+_, _*_, _/_, _%_, _^_, _<_}
-use native.Mathlib.Nat.{not-le-of-lt, mod-eq-of-lt, mul-one}
-use native.Mathlib.Omega.{arith}
-use lib.Dec.{T, leb, eqb, leb→le, eqb→eq, not-T}
-use lib.Ieee.{Float, nan, inf, binary64, odd, ofFields, ofBits}
-use lib.Ieee.Bits.{is-false, cond-no}
-use lib.Ieee.Exact.{HasValue, odd-sign}
-use Rattle.floats.specs.Root.{fieldUnits, unitsOf}
+use Rattle.words.specs.Prelude.{_≡_, refl, sym, ap, subst, _∙_, Bool, false, cond, ℕ, zero, suc, _+_, _*_, _/_, _%_, _^_, _<_, not-le-of-lt, mod-eq-of-lt, mul-one}
+use Rattle.words.specs.Prelude.{arith, T, leb, eqb, leb→le, eqb→eq, not-T, Float, nan, inf, binary64, odd, ofFields, ofBits, is-false, HasValue, odd-sign}
+use Rattle.floats.specs.{Root.fieldUnits, Root.unitsOf}
+use lib.Ieee.Bits.{cond-no}
 
 -- a pattern by its three fields
 ofBits-is : (b : ℕ) → ofBits binary64 b ≡ ofFields binary64 (leb (2 ^ 63) b) (b % 2 ^ 63 / 2 ^ 52) (b % 2 ^ 52)

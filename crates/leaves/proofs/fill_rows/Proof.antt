@@ -1,9 +1,6 @@
 -- The loop goes over the rows, which stay as many.
-use mathlib.Core.Path.{_≡_}
-use Prim.Native.Nat.{_≤_, _-_, _*_}
-use lib.ListN.{length}
-use borrow.Author.Needs.{needs}
-use Rattle.leaves.proofs.fill_rows.Statement.{statement}
+use Rattle.words.specs.Prelude.{_≡_, _≤_, _-_, _*_, length, needs}
+use Rattle.leaves.proofs.{fill_rows.Statement.statement}
 use Rattle.leaves.proofs.fill_rows.Tie as tie
 
 abbrev Inv-loop : tie.InvT-loop

@@ -1,9 +1,7 @@
 -- Refused where one of the two tests fails, and else the figures.
-use borrow.Author.Tests.{eq-eqb, ne-eqb}
-use Rattle.metrics.specs.Records.{whole}
-use Rattle.metrics.specs.Figures.{outcome, computed}
-use borrow.Author.Needs.{needs}
-use Rattle.metrics.proofs.compute.Statement.{statement}
+use Rattle.words.specs.Prelude.{eq-eqb, ne-eqb, needs}
+use Rattle.metrics.specs.{Records.whole, Figures.outcome, Figures.computed}
+use Rattle.metrics.proofs.{compute.Statement.statement}
 use Rattle.metrics.proofs.compute.Tie as tie
 
 pub compute-spec : {M : Type 1} → statement M

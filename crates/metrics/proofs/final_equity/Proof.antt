@@ -1,15 +1,8 @@
 -- The last point is the one before as many as there are.
-use mathlib.Core.Path.{_≡_, refl, sym, ap, _∙_}
-use mathlib.Core.List.{List, [], _∷_}
-use Prim.Native.Nat.{ℕ, zero, suc, _-_}
-use native.Mathlib.Omega.{arith}
-use lib.ListN.{length, getD}
-use lib.Ieee.{Float}
+use Rattle.words.specs.Prelude.{_≡_, refl, sym, ap, _∙_, List, [], _∷_, ℕ, zero, suc, _-_, arith, length, getD, Float, needs}
+use Rattle.metrics.specs.{Records.equityOf, Figures.finalEquity}
+use Rattle.metrics.proofs.{final_equity.Statement.statement}
 use Rattle.floats.specs.Floats as Floats
-use Rattle.metrics.specs.Records.{equityOf}
-use Rattle.metrics.specs.Figures.{finalEquity}
-use borrow.Author.Needs.{needs}
-use Rattle.metrics.proofs.final_equity.Statement.{statement}
 use Rattle.metrics.proofs.final_equity.Tie as tie
 
 final-none : (d : Float) (es : List Float) → length es ≡ 0 → finalEquity d es ≡ d

@@ -1,7 +1,7 @@
 -- Figure by figure.
-use Rattle.metrics.specs.Figures.{metricsOf}
-use borrow.Author.Needs.{needs}
-use Rattle.metrics.proofs.metrics_of.Statement.{statement}
+use Rattle.words.specs.Prelude.{needs}
+use Rattle.metrics.specs.{Figures.metricsOf}
+use Rattle.metrics.proofs.{metrics_of.Statement.statement}
 use Rattle.metrics.proofs.metrics_of.Tie as tie
 
 pub metrics-of-spec : {M : Type 1} → statement M

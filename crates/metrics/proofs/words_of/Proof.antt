@@ -1,7 +1,7 @@
 -- Word for word.
-use Rattle.metrics.specs.Figures.{figureWords}
-use borrow.Author.Needs.{needs}
-use Rattle.metrics.proofs.words_of.Statement.{statement}
+use Rattle.words.specs.Prelude.{needs}
+use Rattle.metrics.specs.{Figures.figureWords}
+use Rattle.metrics.proofs.{words_of.Statement.statement}
 use Rattle.metrics.proofs.words_of.Tie as tie
 
 pub words-of-spec : {M : Type 1} → statement M

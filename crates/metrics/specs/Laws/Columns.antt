@@ -1,16 +1,11 @@
 -- What stands at each place of a column of records, and how long it is.
-use mathlib.Core.Path.{_≡_, refl, sym, ap, _∙_}
-use mathlib.Core.List.{List}
-use Prim.Native.Nat.{ℕ, zero, suc, _+_, _*_, _/_, _≤_, _<_}
-use native.Mathlib.Nat.{mul-suc, mul-zero, mul-comm, zero-add, not-suc-le-zero, le-of-suc-le-suc}
-use native.Mathlib.Omega.{arith}
-use lib.ListN.{length, getD, drop, List·getD-eq-default}
-use lib.Seq.{getD-drop}
+use Rattle.words.specs.Prelude.{_≡_, refl, sym, ap, _∙_, List, ℕ, zero, suc, _+_, _*_, _/_, _≤_, _<_, mul-zero, mul-comm, zero-add, not-suc-le-zero}
+use Rattle.words.specs.Prelude.{le-of-suc-le-suc, arith, length, getD, drop, List·getD-eq-default, getD-drop}
+use Rattle.floats.specs.{Floats.floatOf}
+use Rattle.words.specs.{Limits.pointWords, Limits.tradeWords, Laws.Records.record-ends}
+use Rattle.metrics.specs.{Records.equityWord, Records.pnlWord, Records.column, Records.equityOf, Records.pnlsOf}
+use native.Mathlib.Nat.{mul-suc}
 use Rattle.floats.specs.Floats as Floats
-use Rattle.floats.specs.Floats.{floatOf}
-use Rattle.words.specs.Limits.{pointWords, tradeWords}
-use Rattle.words.specs.Laws.Records.{record-ends}
-use Rattle.metrics.specs.Records.{equityWord, pnlWord, column, equityOf, pnlsOf}
 
 -- a word of a whole record is there
 pub in-record : (w j i len : ℕ) → j < w → i < len / w → w * i + j < len

@@ -1,47 +1,21 @@
 -- The tests that the code finds silent are those of the trees; and a table has none over as many rows as it needs. Assumes nothing.
-use Prim.Native.Nat.{ℕ, suc, _+_, _-_, _*_, _≤_, _<_, min, zero}
-use mathlib.Core.Path.{_≡_, refl, sym, ap, _∙_}
-use mathlib.Core.Bool.{Bool, true, false, cond}
-use mathlib.Core.List.{List, [], _∷_, _++_, append-assoc, append-nil}
-use mathlib.Core.Logic.{⊎-elim}
-use native.Mathlib.Omega.{arith}
-use native.Mathlib.Nat.{eq-zero-or-pos}
-use lib.Dec.{leb}
-use lib.ListN.{length, getD, drop, replicate}
-use lib.Seq.{drop-at}
-use borrow.Author.Tests.{lt-leb, leb-false}
-use Rattle.words.specs.Limits.{mostRows, mostReach}
-use Rattle.table.specs.declared.nodes.Node.{Node}
-use Rattle.table.specs.declared.header.Form.{Form}
-use Rattle.table.specs.declared.answer.Answer.the-variants.{Accepted}
-use Rattle.table.specs.Header.{count, root}
+use Rattle.words.specs.Prelude.{ℕ, suc, _+_, _-_, _*_, _≤_, _<_, min, zero, _≡_, refl, sym, ap, _∙_, Bool, true, false, cond, List, [], _∷_, _++_, append-assoc}
+use Rattle.words.specs.Prelude.{append-nil, ⊎-elim, arith, eq-zero-or-pos, leb, length, getD, drop, replicate, drop-at, lt-leb, leb-false}
+use Rattle.words.specs.{Limits.mostRows, Limits.mostReach}
+use Rattle.table.specs.{declared.nodes.Node.Node, declared.header.Form.Form, declared.answer.Answer.the-variants.Accepted, Header.count, Header.root, Forest.Forest}
+use Rattle.table.specs.{Forest.trees, Forest.forestOf, Forest.sorts, Forest.Sorted, Reach.ownBack, Reach.weigh, Checked.checked, Ends.from, Trees.reachOf}
+use Rattle.table.specs.{Trees.reachOfAll, Trees.Condition, Trees.Conditions, Trees.compare, Trees.cross, Trees.between, Trees.trend, Trees.every, Trees.any}
+use Rattle.table.specs.{Trees.negated, Trees.inPosition, Trees.barsSince, Trees.none, Trees.more, Reading.firstOf, Reading.conditions, Reading.treeOf}
+use Rattle.table.specs.{Writing.writeOf, Writing.nodesOf, Limits.WithinOf, Limits.WithinAll, Laws.Ends.from-long, Laws.Ends.from-two, Laws.Ends.from-all}
+use Rattle.table.specs.{Laws.Accepted.header-of, Laws.Accepted.tree-ends, Bytes.Bytes, Silent.isTest, Silent.silent, Silent.ifSilent, Silent.silentIn}
+use Rattle.table.specs.{Silent.silentInAll, Silent.silentOf, Silent.silentTests, Silent.silentNode, Silent.silentNodes, Silent.fourSilent, declared.kinds.Kind.Kind}
+use Rattle.table.specs.{Kinds.kinds, Kinds.kindOf, Kinds.isTestKind, Nodes.childCount}
+use Rattle.roundtrip.specs.{Laws.Reach.rows-are, Laws.AcceptedWritten.byte, Laws.AcceptedWritten.nodes-back, Laws.AcceptedWritten.tree-written}
+use Rattle.roundtrip.specs.{Laws.AcceptedWritten.tree-nodes, Laws.WrittenForest.plantOf, Laws.WrittenForest.plantAll, Laws.WrittenNodes.From}
+use Rattle.roundtrip.specs.{Laws.WrittenGrows.growsOf, Laws.WrittenTrees.given-reach, Laws.AcceptedWithin.tree-within, Laws.Reading.operands-below}
+use Rattle.roundtrip.specs.{Laws.WrittenForestKept.sortedOf}
 use Rattle.table.specs.Header as Header
-use Rattle.table.specs.Forest.{Forest, trees, forestOf, sorts, Sorted}
 use Rattle.table.specs.Forest as Forest
-use Rattle.table.specs.Reach.{ownBack, weigh}
-use Rattle.table.specs.Checked.{checked}
-use Rattle.table.specs.Ends.{from}
-use Rattle.table.specs.Trees.{reachOf, reachOfAll}
-use Rattle.table.specs.Trees.{Condition, Conditions, compare, cross, between, trend, every, any, negated, inPosition, barsSince, none, more}
-use Rattle.table.specs.Reading.{firstOf, conditions, treeOf}
-use Rattle.table.specs.Writing.{writeOf, nodesOf}
-use Rattle.table.specs.Limits.{WithinOf, WithinAll}
-use Rattle.table.specs.Laws.Ends.{from-long, from-two, from-all}
-use Rattle.roundtrip.specs.Laws.Reach.{rows-are}
-use Rattle.table.specs.Laws.Accepted.{header-of, tree-ends}
-use Rattle.table.specs.Bytes.{Bytes}
-use Rattle.roundtrip.specs.Laws.AcceptedWritten.{byte, nodes-back, tree-written, tree-nodes}
-use Rattle.roundtrip.specs.Laws.WrittenForest.{plantOf, plantAll}
-use Rattle.roundtrip.specs.Laws.WrittenNodes.{From}
-use Rattle.roundtrip.specs.Laws.WrittenGrows.{growsOf}
-use Rattle.roundtrip.specs.Laws.WrittenTrees.{given-reach}
-use Rattle.roundtrip.specs.Laws.AcceptedWithin.{tree-within}
-use Rattle.table.specs.Silent.{isTest, silent, ifSilent, silentIn, silentInAll, silentOf, silentTests, silentNode, silentNodes, fourSilent}
-use Rattle.table.specs.declared.kinds.Kind.{Kind}
-use Rattle.table.specs.Kinds.{kinds, kindOf, isTestKind}
-use Rattle.table.specs.Nodes.{childCount}
-use Rattle.roundtrip.specs.Laws.Reading.{operands-below}
-use Rattle.roundtrip.specs.Laws.WrittenForestKept.{sortedOf}
 
 -- ---- the forest of a tree
 

@@ -1,7 +1,7 @@
 -- `worse`: a side each, by what `min` and `max` ensure.
-use Rattle.portfolio.specs.Portfolio.{worse}
-use borrow.Author.Needs.{needs}
-use Rattle.portfolio.proofs.worse.Statement.{statement}
+use Rattle.words.specs.Prelude.{needs}
+use Rattle.portfolio.specs.{Portfolio.worse}
+use Rattle.portfolio.proofs.{worse.Statement.statement}
 use Rattle.portfolio.proofs.worse.Tie as tie
 
 pub worse-spec : {M : Type 1} → statement M

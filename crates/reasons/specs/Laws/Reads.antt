@@ -1,25 +1,14 @@
 -- An operand has a value at a bar exactly where none of the leaves that it looks at is missing. Assumes nothing.
-use Prim.Native.Nat.{ℕ, zero, suc, _+_, _-_, _≤_, _<_}
-use mathlib.Core.Path.{_≡_, refl, sym, ap, subst}
-use mathlib.Core.Bool.{Bool, true, false, cond}
-use native.Mathlib.Omega.{arith}
-use lib.Dec.{ltb}
-use lib.Ieee.{Float}
-use borrow.Author.Tests.{le-ltb, lt-ltb, ltb-true, ltb-false}
-use Rattle.rows.specs.History.{History}
-use Rattle.table.specs.declared.series.Series.{Series}
-use Rattle.table.specs.declared.series.Series.the-variants.{Price, Slot}
-use Rattle.table.specs.Trees.{Operand, const, ref, price, prev, arith as sums, extreme}
-use Rattle.table.specs.Series.{asOperand}
-use Rattle.table.specs.Writing.{nodesIn}
-use Rattle.rules.specs.declared.values.Value.{Value}
-use Rattle.rules.specs.declared.values.Value.the-variants.{Missing, Number}
-use Rattle.rules.specs.Values.{both, pick}
-use Rattle.rules.specs.Meaning.{newest, there, seriesAt, extremeOver, extremeAt, value}
-use Rattle.rules.specs.Laws.Meaning.{past, extreme-early, extreme-late}
-use Rattle.chain.specs.declared.missing.Found.{Found}
-use Rattle.chain.specs.declared.missing.Found.the-variants.{Nowhere, Leaf}
-use Rattle.chain.specs.Missing.{inTable, firstFound, goneIf, leafGone, newestGone, missingIn}
+use Rattle.words.specs.Prelude.{ℕ, zero, suc, _+_, _-_, _≤_, _<_, _≡_, refl, sym, ap, subst, Bool, true, false, cond, arith, ltb, Float, le-ltb, lt-ltb, ltb-true}
+use Rattle.words.specs.Prelude.{ltb-false}
+use Rattle.rows.specs.{History.History}
+use Rattle.table.specs.{declared.series.Series.Series, declared.series.Series.the-variants.Price, declared.series.Series.the-variants.Slot, Trees.Operand}
+use Rattle.table.specs.{Trees.const, Trees.ref, Trees.price, Trees.prev, Trees.arith as sums, Trees.extreme, Series.asOperand, Writing.nodesIn}
+use Rattle.rules.specs.{declared.values.Value.Value, declared.values.Value.the-variants.Missing, declared.values.Value.the-variants.Number, Values.both}
+use Rattle.rules.specs.{Values.pick, Meaning.newest, Meaning.there, Meaning.seriesAt, Meaning.extremeOver, Meaning.extremeAt, Meaning.value, Laws.Meaning.past}
+use Rattle.rules.specs.{Laws.Meaning.extreme-early, Laws.Meaning.extreme-late}
+use Rattle.chain.specs.{declared.missing.Found.Found, declared.missing.Found.the-variants.Nowhere, declared.missing.Found.the-variants.Leaf, Missing.inTable}
+use Rattle.chain.specs.{Missing.firstFound, Missing.goneIf, Missing.leafGone, Missing.newestGone, Missing.missingIn}
 
 -- A leaf was found missing and so is the value, or none was and it is there.
 pub data Reads : Found → Value → Type 0 where

@@ -1,16 +1,9 @@
 -- Settings and states are made of their first words alone: lists that agree in these have the same.
-use Prim.Native.Nat.{ℕ, zero, suc, _+_, _<_, _≤_}
-use mathlib.Core.Path.{_≡_, refl, ap, _∙_}
-use mathlib.Core.Bool.{Bool, cond}
-use mathlib.Core.List.{List, [], _∷_, _++_, append-nil}
-use native.Mathlib.Nat.{zero-add}
-use native.Mathlib.Omega.{arith}
-use borrow.Author.Tests.{le-leb}
-use lib.ListN.{length, drop, replicate, length-replicate}
-use Rattle.words.specs.Limits.{settingWords, stateWords}
-use Rattle.words.specs.Words.{word, overwrite}
-use Rattle.records.specs.Settings.{settingsOf, termsOf, riskOf, entriesOf}
-use Rattle.records.specs.StateWords.{stateOf, countsOf, positionOf, portfolioOf}
+use Rattle.words.specs.Prelude.{ℕ, zero, suc, _+_, _<_, _≤_, _≡_, refl, ap, _∙_, Bool, cond, List, [], _∷_, _++_, append-nil, zero-add, arith, le-leb, length, drop}
+use Rattle.words.specs.Prelude.{replicate, length-replicate}
+use Rattle.words.specs.{Limits.settingWords, Limits.stateWords, Words.word, Words.overwrite}
+use Rattle.records.specs.{Settings.settingsOf, Settings.termsOf, Settings.riskOf, Settings.entriesOf, StateWords.stateOf, StateWords.countsOf}
+use Rattle.records.specs.{StateWords.positionOf, StateWords.portfolioOf}
 
 -- two lists with the same first n words
 abbrev pub Agree : ℕ → List ℕ → List ℕ → Type 0

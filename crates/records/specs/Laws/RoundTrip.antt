@@ -1,30 +1,18 @@
 -- A caller loses nothing between calls: the words of a state mean that state, if its floats are f64, as they are in every state that words
 -- mean and in a fresh one.
-use Prim.Native.Nat.{ℕ, _≤_}
-use mathlib.Core.Path.{_≡_, refl}
-use mathlib.Core.Bool.{Bool, true, false, cond}
-use mathlib.Core.List.{List, _++_}
-use native.Mathlib.Omega.{arith}
-use borrow.Author.Tests.{le-leb}
-use lib.Dec.{T, eqb}
-use lib.ListN.{length, drop}
-use lib.Ieee.{Float, binary64, fits}
-use lib.Ieee.Bits.{ofBits-toBits, ofBits-fits}
-use Rattle.portfolio.specs.Portfolio.{fresh}
-use Rattle.floats.specs.Floats.{floatOf}
-use Rattle.rules.specs.declared.position.Entered.{Entered}
-use Rattle.rules.specs.declared.position.Entered.the-variants.{Never, Bar}
-use Rattle.execution.specs.declared.level.OrderKind.{OrderKind}
-use Rattle.execution.specs.declared.level.OrderKind.the-variants.{Market, Limit, Stop, StopLimit}
-use Rattle.words.specs.Words.{overwrite}
-use Rattle.records.specs.declared.state.Order.{Order}
-use Rattle.records.specs.declared.state.Order.the-variants.{Idle, EnterLong, EnterShort, Exit}
-use Rattle.records.specs.declared.state.State.{State}
-use Rattle.words.specs.Limits.{stateWords}
-use Rattle.records.specs.Settings.{settingsOf}
-use Rattle.records.specs.State.{freshState}
-use Rattle.records.specs.StateWords.{countsOf, orderOf, entryKindOf, enteredOf, portfolioOf, positionOf, stateOf}
-use Rattle.records.specs.StateWords.{orderKind, orderDelay, waitsFor, kindWord, levelWord, limitWord, enteredKind, entryBar, wordsOf}
+use Rattle.words.specs.Prelude.{ℕ, _≤_, _≡_, refl, Bool, true, false, cond, List, _++_, arith, le-leb, T, eqb, length, drop, Float, binary64, fits, ofBits-toBits}
+use Rattle.words.specs.Prelude.{ofBits-fits}
+use Rattle.portfolio.specs.{Portfolio.fresh}
+use Rattle.floats.specs.{Floats.floatOf}
+use Rattle.rules.specs.{declared.position.Entered.Entered, declared.position.Entered.the-variants.Never, declared.position.Entered.the-variants.Bar}
+use Rattle.execution.specs.{declared.level.OrderKind.OrderKind, declared.level.OrderKind.the-variants.Market, declared.level.OrderKind.the-variants.Limit}
+use Rattle.execution.specs.{declared.level.OrderKind.the-variants.Stop, declared.level.OrderKind.the-variants.StopLimit}
+use Rattle.words.specs.{Words.overwrite, Limits.stateWords}
+use Rattle.records.specs.{declared.state.Order.Order, declared.state.Order.the-variants.Idle, declared.state.Order.the-variants.EnterLong}
+use Rattle.records.specs.{declared.state.Order.the-variants.EnterShort, declared.state.Order.the-variants.Exit, declared.state.State.State}
+use Rattle.records.specs.{Settings.settingsOf, State.freshState, StateWords.countsOf, StateWords.orderOf, StateWords.entryKindOf, StateWords.enteredOf}
+use Rattle.records.specs.{StateWords.portfolioOf, StateWords.positionOf, StateWords.stateOf, StateWords.orderKind, StateWords.orderDelay, StateWords.waitsFor}
+use Rattle.records.specs.{StateWords.kindWord, StateWords.levelWord, StateWords.limitWord, StateWords.enteredKind, StateWords.entryBar, StateWords.wordsOf}
 
 -- the levels of an entry, each an f64 in the code
 unfoldable pub KindFits : OrderKind → Type 0

@@ -1,8 +1,7 @@
 -- Room, settings and state are blocks, each judged by itself; the trade to be closed comes last.
-use Rattle.refusals.specs.Judgement.{finishJudged, finishLines}
-use Rattle.refusals.specs.Laws.Lines.{blocks}
-use borrow.Author.Needs.{needs}
-use Rattle.refusals.proofs.judge_finish.Statement.{statement}
+use Rattle.words.specs.Prelude.{needs}
+use Rattle.refusals.specs.{Judgement.finishJudged, Judgement.finishLines, Laws.Lines.blocks}
+use Rattle.refusals.proofs.{judge_finish.Statement.statement}
 use Rattle.refusals.proofs.judge_finish.Tie as tie
 
 returns : tie.Need-returns

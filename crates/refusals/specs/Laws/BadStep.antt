@@ -1,16 +1,7 @@
 -- A bad step of a list is one of its at most 1,024.
-use Prim.Native.Nat.{ℕ, zero, suc, _+_, _<_, _%_}
-use mathlib.Core.Path.{_≡_, refl}
-use mathlib.Core.Bool.{Bool, true, false, cond}
-use mathlib.Core.List.{List}
-use native.Mathlib.Omega.{arith}
-use borrow.Author.Tests.{ltb-false}
-use lib.ListN.{length}
-use lib.Dec.{eqb, ltb}
-use Rattle.words.specs.Limits.{mostSteps}
-use Rattle.steps.specs.declared.wellformed.Formed.the-variants.{Bad}
-use Rattle.steps.specs.Bytes.{stepAt, stepsIn}
-use Rattle.steps.specs.WellFormed.{goodStep, formedFrom, formed}
+use Rattle.words.specs.Prelude.{ℕ, zero, suc, _+_, _<_, _%_, _≡_, refl, Bool, true, false, cond, List, arith, ltb-false, length, eqb, ltb}
+use Rattle.words.specs.{Limits.mostSteps}
+use Rattle.steps.specs.{declared.wellformed.Formed.the-variants.Bad, Bytes.stepAt, Bytes.stepsIn, WellFormed.goodStep, WellFormed.formedFrom, WellFormed.formed}
 
 -- one of the m steps from place p on
 among : (K D : ℕ) (bs : List ℕ) (p m q : ℕ) → formedFrom K D bs p m ≡ Bad q → q < p + m

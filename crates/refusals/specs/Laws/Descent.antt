@@ -1,15 +1,9 @@
 -- The code goes down the lines: where one holds, or a list judged by itself is fine, what stands below it decides; where it does
 -- not, it decides, and nothing below it is looked at.
-use mathlib.Core.Path.{_≡_, refl, sym, _∙_}
-use mathlib.Core.Bool.{Bool, true, false, not}
-use mathlib.Core.List.{List, [], _∷_, _++_}
-use borrow.Author.Tests.{not-true, not-false}
-use Rattle.words.specs.declared.refusal.Refusal.{Refusal}
-use Rattle.words.specs.Outcome.{refusal}
-use Rattle.refusals.specs.declared.verdict.Verdict.{Verdict}
-use Rattle.refusals.specs.declared.verdict.Verdict.the-variants.{Fine, Bad}
-use Rattle.refusals.specs.Lines.{Line, judged}
-use Rattle.refusals.specs.Laws.Lines.{below-fine, below-bad}
+use Rattle.words.specs.Prelude.{_≡_, refl, sym, _∙_, Bool, true, false, not, List, [], _∷_, _++_, not-true, not-false}
+use Rattle.words.specs.{declared.refusal.Refusal.Refusal, Outcome.refusal}
+use Rattle.refusals.specs.{declared.verdict.Verdict.Verdict, declared.verdict.Verdict.the-variants.Fine, declared.verdict.Verdict.the-variants.Bad}
+use Rattle.refusals.specs.{Lines.Line, Lines.judged, Laws.Lines.below-fine, Laws.Lines.below-bad}
 
 -- a test that a function answers with yes
 pub so : {r ok : Bool} → r ≡ ok → not r ≡ false → ok ≡ true

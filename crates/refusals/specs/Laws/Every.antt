@@ -1,12 +1,6 @@
 -- A test of each number below n.
-use Prim.Native.Nat.{ℕ, zero, suc, _+_, _<_}
-use mathlib.Core.Path.{_≡_, refl, sym, ap, _∙_}
-use mathlib.Core.Bool.{Bool, true, false, _&&_}
-use mathlib.Core.Logic.{⊎-elim}
-use native.Mathlib.Nat.{eq-or-lt-of-le}
-use native.Mathlib.Numerals.{add-one}
-use native.Mathlib.Omega.{arith}
-use Rattle.refusals.specs.Bar.{every}
+use Rattle.words.specs.Prelude.{ℕ, zero, suc, _+_, _<_, _≡_, refl, sym, ap, _∙_, Bool, true, false, _&&_, ⊎-elim, eq-or-lt-of-le, add-one, arith}
+use Rattle.refusals.specs.{Bar.every}
 
 -- of none
 pub every-none : (f : ℕ → Bool) → every 0 f ≡ true

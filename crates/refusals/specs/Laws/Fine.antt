@@ -1,19 +1,11 @@
 -- What a step that is judged fine has been seen to have: every line of the table of refusals holds.
-use Prim.Native.Nat.{ℕ, _≤_, _<_}
-use mathlib.Core.Path.{_≡_}
-use mathlib.Core.List.{List}
-use borrow.Author.Tests.{ltb-true, leb-true, eqb-true}
-use lib.ListN.{length}
-use Rattle.words.specs.Limits.{barWords, mostCount, mostSlots}
-use Rattle.records.specs.declared.settings.Settings.{Settings}
-use Rattle.records.specs.declared.state.State.{State}
-use Rattle.records.specs.Lent.{Rooms, Lists, rowPlaces, pointPlaces, tradePlaces}
-use Rattle.refusals.specs.declared.verdict.Verdict.the-variants.{Fine}
-use Rattle.refusals.specs.Lines.{judged}
-use Rattle.refusals.specs.Settings.{lookback, settingLines}
-use Rattle.refusals.specs.Rooms.{roomLines, stateLines, placeLines}
-use Rattle.refusals.specs.Judgement.{runLines, stepLines, stepJudged}
-use Rattle.refusals.specs.Laws.Lines.{and-true, first-holds, both-fine}
+use Rattle.words.specs.Prelude.{ℕ, _≤_, _<_, _≡_, List, ltb-true, leb-true, eqb-true, length}
+use Rattle.words.specs.{Limits.barWords, Limits.mostCount, Limits.mostSlots}
+use Rattle.records.specs.{declared.settings.Settings.Settings, declared.state.State.State, Lent.Rooms, Lent.Lists, Lent.rowPlaces, Lent.pointPlaces}
+use Rattle.records.specs.{Lent.tradePlaces}
+use Rattle.refusals.specs.{declared.verdict.Verdict.the-variants.Fine, Lines.judged, Settings.lookback, Settings.settingLines, Rooms.roomLines}
+use Rattle.refusals.specs.{Rooms.stateLines, Rooms.placeLines, Judgement.runLines, Judgement.stepLines, Judgement.stepJudged, Laws.Lines.and-true}
+use Rattle.refusals.specs.{Laws.Lines.first-holds, Laws.Lines.both-fine}
 
 -- what fine settings have
 pub record SettingsFine (s : Settings) : Type 0 where

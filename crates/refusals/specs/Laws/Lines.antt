@@ -1,13 +1,8 @@
 -- A list of lines, judged from the top: what holds of it as a whole, and of a list that stands below another.
-use Prim.Native.Nat.{ℕ}
-use mathlib.Core.Path.{_≡_, refl, sym}
-use mathlib.Core.Bool.{Bool, true, false, cond, _&&_}
-use mathlib.Core.List.{List, [], _∷_, _++_}
-use native.Mathlib.Omega.{arith}
-use Rattle.words.specs.declared.refusal.Refusal.{Refusal}
-use Rattle.refusals.specs.declared.verdict.Verdict.{Verdict}
-use Rattle.refusals.specs.declared.verdict.Verdict.the-variants.{Fine, Bad}
-use Rattle.refusals.specs.Lines.{Line, judged, firstBad}
+use Rattle.words.specs.Prelude.{ℕ, _≡_, refl, sym, Bool, true, false, cond, _&&_, List, [], _∷_, _++_, arith}
+use Rattle.words.specs.{declared.refusal.Refusal.Refusal}
+use Rattle.refusals.specs.{declared.verdict.Verdict.Verdict, declared.verdict.Verdict.the-variants.Fine, declared.verdict.Verdict.the-variants.Bad}
+use Rattle.refusals.specs.{Lines.Line, Lines.judged, Lines.firstBad}
 
 -- no verdict is both
 pub never : {A : Type 0} {r : Refusal} → Bad r ≡ Fine → A

@@ -1,25 +1,11 @@
 -- Every refusal of a step and of a finish has a number from 10 to 16.
-use Prim.Native.Nat.{ℕ, _≤_}
-use mathlib.Core.Path.{_≡_, refl, sym}
-use mathlib.Core.Bool.{Bool, true, false, cond, _&&_}
-use mathlib.Core.List.{List, [], _∷_, _++_}
-use native.Mathlib.Omega.{arith}
-use lib.Dec.{leb}
-use borrow.Author.Tests.{leb-true}
-use Rattle.words.specs.declared.refusal.Refusal.{Refusal}
-use Rattle.words.specs.Outcome.{refusal}
-use Rattle.records.specs.declared.settings.Settings.{Settings}
-use Rattle.records.specs.declared.state.State.{State}
-use Rattle.records.specs.Lent.{Rooms, Lists}
-use Rattle.refusals.specs.declared.verdict.Verdict.{Verdict}
-use Rattle.refusals.specs.declared.verdict.Verdict.the-variants.{Bad}
-use Rattle.refusals.specs.Lines.{Line, judged}
-use Rattle.refusals.specs.Settings.{sizingLines, slippageLines, riskLines, termLines, entryLines, settingLines}
-use Rattle.refusals.specs.Rooms.{roomLines, stateLines, placeLines, closeLines}
-use Rattle.refusals.specs.Bar.{barLines}
-use Rattle.refusals.specs.Lists.{listLines}
-use Rattle.refusals.specs.Judgement.{runLines, stepLines, finishLines}
-use Rattle.refusals.specs.Laws.Lines.{never, and-true}
+use Rattle.words.specs.Prelude.{ℕ, _≤_, _≡_, refl, sym, Bool, true, false, cond, _&&_, List, [], _∷_, _++_, arith, leb, leb-true}
+use Rattle.words.specs.{declared.refusal.Refusal.Refusal, Outcome.refusal}
+use Rattle.records.specs.{declared.settings.Settings.Settings, declared.state.State.State, Lent.Rooms, Lent.Lists}
+use Rattle.refusals.specs.{declared.verdict.Verdict.Verdict, declared.verdict.Verdict.the-variants.Bad, Lines.Line, Lines.judged, Settings.sizingLines}
+use Rattle.refusals.specs.{Settings.slippageLines, Settings.riskLines, Settings.termLines, Settings.entryLines, Settings.settingLines, Rooms.roomLines}
+use Rattle.refusals.specs.{Rooms.stateLines, Rooms.placeLines, Rooms.closeLines, Bar.barLines, Lists.listLines, Judgement.runLines, Judgement.stepLines}
+use Rattle.refusals.specs.{Judgement.finishLines, Laws.Lines.never, Laws.Lines.and-true}
 
 -- the numbers of all lines
 unfoldable pub numbered : List Line → Bool

@@ -1,30 +1,15 @@
 -- Every place of a refusal of a step and of a finish is below 2^32: those that the papers name are small, a bad step's is below 4 times 1,024,
 -- and the bars seen are below 4,294,967,295 where a bar is looked at, since 14 comes before 11.
-use Prim.Native.Nat.{ℕ, _+_, _<_, _^_}
-use mathlib.Core.Path.{_≡_, refl, sym}
-use mathlib.Core.Bool.{Bool, true, false, cond, _&&_}
-use mathlib.Core.List.{List, [], _∷_, _++_}
-use native.Mathlib.Omega.{arith}
-use lib.Dec.{leb}
-use borrow.Author.Tests.{leb-true, ltb-true}
-use Rattle.words.specs.Limits.{mostCount, mostSteps}
-use Rattle.words.specs.Outcome.{refusal}
-use Rattle.words.specs.declared.refusal.Refusal.{Refusal}
-use Rattle.steps.specs.declared.wellformed.Formed.{Formed}
-use Rattle.steps.specs.declared.wellformed.Formed.the-variants.{Well, Bad as BadStep}
-use Rattle.steps.specs.WellFormed.{formed}
-use Rattle.records.specs.declared.settings.Settings.{Settings}
-use Rattle.records.specs.declared.state.State.{State}
-use Rattle.records.specs.Lent.{Rooms, Lists}
-use Rattle.refusals.specs.declared.verdict.Verdict.the-variants.{Fine, Bad}
-use Rattle.refusals.specs.Lines.{Line, judged}
-use Rattle.refusals.specs.Settings.{sizingLines, slippageLines, riskLines, termLines, entryLines, settingLines}
-use Rattle.refusals.specs.Rooms.{roomLines, stateLines, placeLines, closeLines}
-use Rattle.refusals.specs.Bar.{barLines}
-use Rattle.refusals.specs.Lists.{badStep, listLines}
-use Rattle.refusals.specs.Judgement.{runLines, stepLines, finishLines, finishJudged}
-use Rattle.refusals.specs.Laws.Lines.{never, and-true, first-holds}
-use Rattle.refusals.specs.Laws.BadStep.{bad-below}
+use Rattle.words.specs.Prelude.{ℕ, _+_, _<_, _^_, _≡_, refl, sym, Bool, true, false, cond, _&&_, List, [], _∷_, _++_, arith, leb, leb-true, ltb-true}
+use Rattle.words.specs.{Limits.mostCount, Limits.mostSteps, Outcome.refusal, declared.refusal.Refusal.Refusal}
+use Rattle.steps.specs.{declared.wellformed.Formed.Formed, declared.wellformed.Formed.the-variants.Well, declared.wellformed.Formed.the-variants.Bad as BadStep}
+use Rattle.steps.specs.{WellFormed.formed}
+use Rattle.records.specs.{declared.settings.Settings.Settings, declared.state.State.State, Lent.Rooms, Lent.Lists}
+use Rattle.refusals.specs.{declared.verdict.Verdict.the-variants.Fine, declared.verdict.Verdict.the-variants.Bad, Lines.Line, Lines.judged}
+use Rattle.refusals.specs.{Settings.sizingLines, Settings.slippageLines, Settings.riskLines, Settings.termLines, Settings.entryLines, Settings.settingLines}
+use Rattle.refusals.specs.{Rooms.roomLines, Rooms.stateLines, Rooms.placeLines, Rooms.closeLines, Bar.barLines, Lists.badStep, Lists.listLines}
+use Rattle.refusals.specs.{Judgement.runLines, Judgement.stepLines, Judgement.finishLines, Judgement.finishJudged, Laws.Lines.never, Laws.Lines.and-true}
+use Rattle.refusals.specs.{Laws.Lines.first-holds, Laws.BadStep.bad-below}
 
 -- each line's place is below 2^32, where those above it hold
 unfoldable pub Placed : List Line → Type 0

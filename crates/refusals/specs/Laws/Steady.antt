@@ -1,26 +1,13 @@
 -- What stays as it is from bar to bar is looked at once: where it is fine, a step is judged by its counts, its places, its bar and the lists.
-use Prim.Native.Nat.{ℕ, _%_}
-use mathlib.Core.Path.{_≡_, refl, sym, _∙_}
-use mathlib.Core.Bool.{Bool, true, false}
-use mathlib.Core.List.{List, [], _∷_, _++_, append-assoc}
+use Rattle.words.specs.Prelude.{ℕ, _%_, _≡_, refl, sym, _∙_, Bool, true, false, List, [], _∷_, _++_, append-assoc, eq-eqb, ne-eqb, eqb-false, eqb, length}
+use Rattle.words.specs.{Limits.barWords, declared.refusal.Refusal.Refusal}
+use Rattle.records.specs.{declared.settings.Settings.Settings, declared.state.State.State, Lent.Rooms, Lent.Lists}
+use Rattle.refusals.specs.{declared.verdict.Verdict.the-variants.Fine, declared.verdict.Verdict.the-variants.Bad, Lines.Line, Lines.line, Lines.judged}
+use Rattle.refusals.specs.{Bar.barLines, Day.wholeBars, Day.wholeFor, Day.dayLines, Day.nextLines, Judgement.runLines, Judgement.stepLines}
+use Rattle.refusals.specs.{Judgement.stepJudged, Lists.listLines, Rooms.heldFine, Rooms.entryBelow, Rooms.roomLines, Rooms.stateLines, Rooms.placeLines}
+use Rattle.refusals.specs.{Settings.settingLines, Laws.Lines.first-holds, Laws.Lines.below-fine, Laws.Lines.below-bad, Laws.Lines.fine-adds-nothing}
+use Rattle.refusals.specs.{Laws.Lines.both-fine}
 use native.Mathlib.Nat.{mod-self}
-use borrow.Author.Tests.{eq-eqb, ne-eqb, eqb-false}
-use lib.Dec.{eqb}
-use lib.ListN.{length}
-use Rattle.words.specs.Limits.{barWords}
-use Rattle.words.specs.declared.refusal.Refusal.{Refusal}
-use Rattle.records.specs.declared.settings.Settings.{Settings}
-use Rattle.records.specs.declared.state.State.{State}
-use Rattle.records.specs.Lent.{Rooms, Lists}
-use Rattle.refusals.specs.declared.verdict.Verdict.the-variants.{Fine, Bad}
-use Rattle.refusals.specs.Lines.{Line, line, judged}
-use Rattle.refusals.specs.Bar.{barLines}
-use Rattle.refusals.specs.Day.{wholeBars, wholeFor, dayLines, nextLines}
-use Rattle.refusals.specs.Judgement.{runLines, stepLines, stepJudged}
-use Rattle.refusals.specs.Lists.{listLines}
-use Rattle.refusals.specs.Rooms.{heldFine, entryBelow, roomLines, stateLines, placeLines}
-use Rattle.refusals.specs.Settings.{settingLines}
-use Rattle.refusals.specs.Laws.Lines.{first-holds, below-fine, below-bad, fine-adds-nothing, both-fine}
 
 -- a room for D rows, fine settings, counts that are within the rooms, and an entry bar below the bars seen
 pub record Steady (s : Settings) (t : State) (m : Rooms) : Type 0 where

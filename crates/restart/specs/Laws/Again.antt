@@ -1,21 +1,15 @@
 -- The words of the state that words mean are these words again, where each is of a known kind, no field is set that its kind does not use, and each
 -- float's word is that of the float it means.
-use Prim.Native.Nat.{ℕ, _≤_, _<_}
-use mathlib.Core.Path.{_≡_, refl, sym}
-use mathlib.Core.Bool.{Bool, true, false, cond, not}
-use native.Mathlib.Omega.{arith}
-use borrow.Author.Tests.{eqb-true, eqb-false}
-use lib.Dec.{T, eqb, ltb}
-use lib.Ieee.{binary64, isNan}
-use lib.Ieee.Bits.{toBits-ofBits}
-use Rattle.floats.specs.Floats.{floatOf, wordOf}
-use Rattle.rules.specs.declared.position.Entered.the-variants.{Never, Bar}
-use Rattle.execution.specs.declared.level.OrderKind.{OrderKind}
-use Rattle.execution.specs.declared.level.OrderKind.the-variants.{Market, Limit, Stop, StopLimit}
-use Rattle.records.specs.declared.state.Order.{Order}
-use Rattle.records.specs.declared.state.Order.the-variants.{Idle, EnterLong, EnterShort, Exit}
-use Rattle.records.specs.StateWords.{orderOf, entryKindOf, enteredOf, orderKind, orderDelay, waitsFor, kindWord, levelWord, limitWord, enteredKind, entryBar}
-use Rattle.dump.specs.Refused.{usedOrZero, isEntry}
+use Rattle.words.specs.Prelude.{ℕ, _≤_, _<_, _≡_, refl, sym, Bool, true, false, cond, not, arith, eqb-true, eqb-false, T, eqb, ltb, binary64, isNan, toBits-ofBits}
+use Rattle.floats.specs.{Floats.floatOf, Floats.wordOf}
+use Rattle.rules.specs.{declared.position.Entered.the-variants.Never, declared.position.Entered.the-variants.Bar}
+use Rattle.execution.specs.{declared.level.OrderKind.OrderKind, declared.level.OrderKind.the-variants.Market, declared.level.OrderKind.the-variants.Limit}
+use Rattle.execution.specs.{declared.level.OrderKind.the-variants.Stop, declared.level.OrderKind.the-variants.StopLimit}
+use Rattle.records.specs.{declared.state.Order.Order, declared.state.Order.the-variants.Idle, declared.state.Order.the-variants.EnterLong}
+use Rattle.records.specs.{declared.state.Order.the-variants.EnterShort, declared.state.Order.the-variants.Exit, StateWords.orderOf, StateWords.entryKindOf}
+use Rattle.records.specs.{StateWords.enteredOf, StateWords.orderKind, StateWords.orderDelay, StateWords.waitsFor, StateWords.kindWord, StateWords.levelWord}
+use Rattle.records.specs.{StateWords.limitWord, StateWords.enteredKind, StateWords.entryBar}
+use Rattle.dump.specs.{Refused.usedOrZero, Refused.isEntry}
 
 -- the word of the float that it means: of every float there is one such word, and of NaN one of its many patterns
 abbrev pub Own : ℕ → Type 0

@@ -1,25 +1,12 @@
 -- The first eight bytes of an image: bytes that are an image's behind them, and that 19 and 20 let pass, are the image.
-use Prim.Native.Nat.{ℕ, zero, suc, _+_, _*_, _/_, _%_, _≤_, _<_}
-use mathlib.Core.Path.{_≡_, refl, sym, _∙_}
-use mathlib.Core.Bool.{Bool, true, false}
-use mathlib.Core.List.{List}
-use native.Mathlib.Nat.{mod-eq-of-lt}
-use native.Mathlib.Omega.{arith}
-use borrow.Author.Tests.{eqb-true, ltb-true, ltb-false}
-use lib.Dec.{ltb}
-use lib.ListN.{length, getD}
-use lib.Seq.{ext-getD}
-use Rattle.table.specs.Bytes.{u16, Bytes}
-use Rattle.records.specs.declared.settings.Settings.{Settings}
-use Rattle.records.specs.declared.state.State.{State}
-use Rattle.refusals.specs.declared.verdict.Verdict.the-variants.{Fine}
-use Rattle.refusals.specs.Lines.{judged}
-use Rattle.refusals.specs.Laws.Lines.{first-holds}
-use Rattle.dump.specs.Layout.{numbers, head, image, imageOf}
-use Rattle.dump.specs.Reading.{slotsIn, depthIn}
-use Rattle.dump.specs.Refused.{imageLines, sameLines}
-use Rattle.dump.specs.Laws.Fine.{ShapeFine, shape-fine}
-use Rattle.restart.specs.Laws.Marked.{Marked, marked}
+use Rattle.words.specs.Prelude.{ℕ, zero, suc, _+_, _*_, _/_, _%_, _≤_, _<_, _≡_, refl, sym, _∙_, Bool, true, false, List, mod-eq-of-lt, arith, eqb-true, ltb-true}
+use Rattle.words.specs.Prelude.{ltb-false, ltb, length, getD, ext-getD}
+use Rattle.table.specs.{Bytes.u16, Bytes.Bytes}
+use Rattle.records.specs.{declared.settings.Settings.Settings, declared.state.State.State}
+use Rattle.refusals.specs.{declared.verdict.Verdict.the-variants.Fine, Lines.judged, Laws.Lines.first-holds}
+use Rattle.dump.specs.{Layout.numbers, Layout.head, Layout.image, Layout.imageOf, Reading.slotsIn, Reading.depthIn, Refused.imageLines, Refused.sameLines}
+use Rattle.dump.specs.{Laws.Fine.ShapeFine, Laws.Fine.shape-fine}
+use Rattle.restart.specs.{Laws.Marked.Marked, Laws.Marked.marked}
 
 -- what the lines of 19 and 20 have seen of the first eight bytes: the mark and the version, K and D
 record FirstWord (s : Settings) (x : List ℕ) : Type 0 where

@@ -1,16 +1,8 @@
 -- What a fine shape says of an image's first bytes: the mark and the version.
-use Prim.Native.Nat.{ℕ}
-use mathlib.Core.Path.{_≡_}
-use mathlib.Core.Bool.{true}
-use mathlib.Core.List.{List}
-use borrow.Author.Tests.{eqb-true}
-use lib.Dec.{leb, eqb}
-use lib.ListN.{length, getD}
-use Rattle.words.specs.Limits.{mostSlots, mostRows}
-use Rattle.refusals.specs.Laws.Lines.{and-true}
-use Rattle.dump.specs.Layout.{headBytes, dumpBytes}
-use Rattle.dump.specs.Reading.{slotsIn, versionIn, depthIn}
-use Rattle.dump.specs.Refused.{shapeFine}
+use Rattle.words.specs.Prelude.{ℕ, _≡_, true, List, eqb-true, leb, eqb, length, getD}
+use Rattle.words.specs.{Limits.mostSlots, Limits.mostRows}
+use Rattle.refusals.specs.{Laws.Lines.and-true}
+use Rattle.dump.specs.{Layout.headBytes, Layout.dumpBytes, Reading.slotsIn, Reading.versionIn, Reading.depthIn, Refused.shapeFine}
 
 pub record Marked (x : List ℕ) : Type 0 where
   pub m₀ : getD x 0 0 ≡ 87

@@ -1,16 +1,8 @@
 -- Programs, done and cut: what each byte of an area is then.
-use Prim.Native.Nat.{ℕ, _≤_, _<_}
-use mathlib.Core.Path.{_≡_, refl, sym, ap, _∙_}
-use mathlib.Core.Bool.{Bool, true, false, _||_}
-use mathlib.Core.List.{List, [], _∷_}
-use mathlib.Core.Logic.{inl, inr}
-use native.Mathlib.Omega.{arith}
-use borrow.Author.Tests.{eqb-true, eqb-false}
-use lib.Dec.{eqb}
-use lib.ListN.{length, getD, take, set, length-set}
-use lib.Seq.{getD-set-same, getD-set-other, ext-getD, length-take-le, getD-take}
-use Rattle.table.specs.Bytes.{Bytes}
-use Rattle.restart.specs.Plans.{touches, covers, programmed, allProgrammed, CutIn, inOrder, RestRight}
+use Rattle.words.specs.Prelude.{ℕ, _≤_, _<_, _≡_, refl, sym, ap, _∙_, Bool, true, false, _||_, List, [], _∷_, inl, inr, arith, eqb-true, eqb-false, eqb, length}
+use Rattle.words.specs.Prelude.{getD, take, set, length-set, getD-set-same, getD-set-other, ext-getD, length-take-le, getD-take}
+use Rattle.table.specs.{Bytes.Bytes}
+use Rattle.restart.specs.{Plans.touches, Plans.covers, Plans.programmed, Plans.allProgrammed, Plans.CutIn, Plans.inOrder, Plans.RestRight}
 
 -- of two tests, neither holds
 pub neither : (a b : Bool) → (a || b) ≡ false → (a ≡ false) × (b ≡ false)

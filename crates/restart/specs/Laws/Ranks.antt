@@ -1,11 +1,6 @@
 -- The order of writing: which byte of it stands at a place, and that the mark's last byte is the last.
-use Prim.Native.Nat.{ℕ, _+_, _-_, _≤_, _<_}
-use mathlib.Core.Path.{_≡_, refl}
-use mathlib.Core.Bool.{Bool, true, false, cond}
-use native.Mathlib.Omega.{arith}
-use borrow.Author.Tests.{lt-ltb, le-ltb, ltb-true, ltb-false}
-use lib.Dec.{ltb}
-use Rattle.dump.specs.Order.{placeOf}
+use Rattle.words.specs.Prelude.{ℕ, _+_, _-_, _≤_, _<_, _≡_, refl, Bool, true, false, cond, arith, lt-ltb, le-ltb, ltb-true, ltb-false, ltb}
+use Rattle.dump.specs.{Order.placeOf}
 
 -- no byte of the order but the last goes to place 2
 pub mark-last : (size n : ℕ) → 256 ≤ size → n + 1 < size → placeOf size n ≡ 2 → ⊥

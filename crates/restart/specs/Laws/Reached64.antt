@@ -1,44 +1,21 @@
 -- After any bars from a fresh state, the numbers of a state and the words of its window are such as the code's types hold, where those of the settings
 -- and of the bars are.
-use Prim.Native.Nat.{ℕ, zero, suc, _-_, _*_, _/_, _%_, _^_, _≤_, _<_}
-use mathlib.Core.Path.{_≡_, refl, ap, _∙_}
-use mathlib.Core.Bool.{Bool, true, false, cond}
-use mathlib.Core.List.{List, [], _∷_, _++_}
-use native.Mathlib.Nat.{zero-mul}
-use native.Mathlib.Omega.{arith}
-use borrow.Author.Tests.{leb-true, ltb-true}
-use lib.Dec.{leb, ltb, eqb}
-use lib.ListN.{length, getD, List·getD-eq-default}
-use lib.Seq.{getD-drop}
-use Rattle.words.specs.Limits.{rowWords, mostRows}
-use Rattle.rows.specs.History.{lastRows}
-use Rattle.rules.specs.declared.position.Entered.{Entered}
-use Rattle.rules.specs.declared.position.Entered.the-variants.{Never, Bar}
-use Rattle.portfolio.specs.Portfolio.{fresh}
-use Rattle.records.specs.declared.settings.Settings.{Settings}
-use Rattle.records.specs.declared.state.State.{State}
-use Rattle.records.specs.Bar.{candleOf}
-use Rattle.records.specs.Lent.{Lists, Rooms, rowPlaces}
-use Rattle.records.specs.State.{freshState}
-use Rattle.records.specs.StateWords.{orderDelay, entryBar}
-use Rattle.records.specs.Laws.RoundTrip.{Floats64}
-use Rattle.refusals.specs.declared.verdict.Verdict.{Verdict}
-use Rattle.refusals.specs.declared.verdict.Verdict.the-variants.{Fine, Bad}
-use Rattle.refusals.specs.Lines.{judged}
-use Rattle.refusals.specs.Rooms.{entryBelow}
-use Rattle.refusals.specs.Settings.{settingLines}
-use Rattle.refusals.specs.Laws.Fine.{settings-fine, step-fine}
-use Rattle.refusals.specs.Laws.Lines.{and-true, first-holds}
-use Rattle.runs.specs.Laws.Floats.{step-floats}
-use Rattle.engine.specs.Laws.Runs.{run-none, run-stops, run-takes}
-use Rattle.engine.specs.Record.{rowWord, listed, rowOf}
-use Rattle.engine.specs.Run.{Run, runOver}
-use Rattle.engine.specs.Step.{stepped, stepVerdict}
-use Rattle.restart.specs.Accepted.{Passed, fresh-passed, step-passed, window-moved, step-judged}
-use Rattle.dump.specs.Layout.{windowOf}
-use Rattle.restart.specs.Restart.{Kept}
-use Rattle.restart.specs.Window.{window-whole}
-use Rattle.restart.specs.Laws.Times.{Word64, step-timed, step-delayed}
+use Rattle.words.specs.Prelude.{ℕ, zero, suc, _-_, _*_, _/_, _%_, _^_, _≤_, _<_, _≡_, refl, ap, _∙_, Bool, true, false, cond, List, [], _∷_, _++_, zero-mul, arith}
+use Rattle.words.specs.Prelude.{leb-true, ltb-true, leb, ltb, eqb, length, getD, List·getD-eq-default, getD-drop}
+use Rattle.words.specs.{Limits.rowWords, Limits.mostRows}
+use Rattle.rows.specs.{History.lastRows}
+use Rattle.rules.specs.{declared.position.Entered.Entered, declared.position.Entered.the-variants.Never, declared.position.Entered.the-variants.Bar}
+use Rattle.portfolio.specs.{Portfolio.fresh}
+use Rattle.records.specs.{declared.settings.Settings.Settings, declared.state.State.State, Bar.candleOf, Lent.Lists, Lent.Rooms, Lent.rowPlaces, State.freshState}
+use Rattle.records.specs.{StateWords.orderDelay, StateWords.entryBar, Laws.RoundTrip.Floats64}
+use Rattle.refusals.specs.{declared.verdict.Verdict.Verdict, declared.verdict.Verdict.the-variants.Fine, declared.verdict.Verdict.the-variants.Bad, Lines.judged}
+use Rattle.refusals.specs.{Rooms.entryBelow, Settings.settingLines, Laws.Fine.settings-fine, Laws.Fine.step-fine, Laws.Lines.and-true, Laws.Lines.first-holds}
+use Rattle.runs.specs.{Laws.Floats.step-floats}
+use Rattle.engine.specs.{Laws.Runs.run-none, Laws.Runs.run-stops, Laws.Runs.run-takes, Record.rowWord, Record.listed, Record.rowOf, Run.Run, Run.runOver}
+use Rattle.engine.specs.{Step.stepped, Step.stepVerdict}
+use Rattle.restart.specs.{Accepted.Passed, Accepted.fresh-passed, Accepted.step-passed, Accepted.window-moved, Accepted.step-judged, Restart.Kept}
+use Rattle.restart.specs.{Window.window-whole, Laws.Times.Word64, Laws.Times.step-timed, Laws.Times.step-delayed}
+use Rattle.dump.specs.{Layout.windowOf}
 
 -- ---- words
 

@@ -1,12 +1,8 @@
 -- The bytes of a number that bytes say are these bytes.
-use Prim.Native.Nat.{ℕ, zero, suc, _+_, _<_}
-use mathlib.Core.Path.{_≡_, refl, ap, _∙_}
-use mathlib.Core.List.{List, [], _∷_, _++_}
-use native.Mathlib.Omega.{arith}
-use lib.ListN.{getD}
-use Rattle.table.specs.Bytes.{u16, u32, u64, Bytes}
-use Rattle.steps.specs.Bytes.{four, eight}
-use Rattle.dump.specs.Laws.Packed.{halves, joined}
+use Rattle.words.specs.Prelude.{ℕ, zero, suc, _+_, _<_, _≡_, refl, ap, _∙_, List, [], _∷_, _++_, arith, getD}
+use Rattle.table.specs.{Bytes.u16, Bytes.u32, Bytes.u64, Bytes.Bytes}
+use Rattle.steps.specs.{Bytes.four, Bytes.eight}
+use Rattle.dump.specs.{Laws.Packed.halves, Laws.Packed.joined}
 
 module _ (x : List ℕ) (bytes : Bytes x) (at : ℕ) where
   four-read : four (u32 x at) ≡ getD x at 0 ∷ getD x (at + 1) 0 ∷ getD x (at + 2) 0 ∷ getD x (at + 2 + 1) 0 ∷ []

@@ -1,27 +1,16 @@
 -- Rows that 11 would let pass: the row of a bar that it let pass, and a window to which such a row is added.
-use Prim.Native.Nat.{ℕ, zero, suc, _+_, _-_, _*_, _/_, _%_, _^_, _≤_, _<_}
-use mathlib.Core.Path.{_≡_, refl, ap, _∙_}
-use mathlib.Core.Bool.{Bool, true, false}
-use mathlib.Core.List.{List, _++_}
-use mathlib.Core.Logic.{⊎-elim}
-use native.Mathlib.Nat.{eq-or-lt-of-le, add-mul, le-div-iff-mul-le, mul-div-cancel, mul-le-mul-right}
-use native.Mathlib.Omega.{arith}
-use borrow.Author.Tests.{lt-ltb, le-ltb, ltb-true}
-use lib.Dec.{ltb, eqb}
-use lib.ListN.{length, getD, drop, length-append, length-drop, List·getD-append, List·getD-eq-default}
-use lib.Seq.{getD-append-add, getD-drop}
-use Rattle.words.specs.Limits.{rowWords, mostSlots}
-use Rattle.rows.specs.History.{lastRows}
-use Rattle.execution.specs.declared.costs.Funding.the-variants.{NotSupplied}
-use Rattle.records.specs.Bar.{candleOf, fundingOf}
-use Rattle.refusals.specs.declared.verdict.Verdict.the-variants.{Fine}
-use Rattle.refusals.specs.Bar.{bitFine, slotFine, every, slotsFine, candleFine, barLines}
-use Rattle.refusals.specs.Lines.{judged}
-use Rattle.refusals.specs.Laws.Lines.{and-true, first-holds}
-use Rattle.engine.specs.Record.{rowWord, listed, rowOf}
-use Rattle.engine.specs.Laws.Lengths.{row-long}
-use Rattle.dump.specs.Refused.{usedOrZero, absentZero, rowFine}
-use Rattle.restart.specs.Window.{listed-at}
+use Rattle.words.specs.Prelude.{ℕ, zero, suc, _+_, _-_, _*_, _/_, _%_, _^_, _≤_, _<_, _≡_, refl, ap, _∙_, Bool, true, false, List, _++_, ⊎-elim, eq-or-lt-of-le}
+use Rattle.words.specs.Prelude.{add-mul, le-div-iff-mul-le, mul-div-cancel, mul-le-mul-right, arith, lt-ltb, le-ltb, ltb-true, ltb, eqb, length, getD, drop}
+use Rattle.words.specs.Prelude.{length-append, length-drop, List·getD-append, List·getD-eq-default, getD-append-add, getD-drop}
+use Rattle.words.specs.{Limits.rowWords, Limits.mostSlots}
+use Rattle.rows.specs.{History.lastRows}
+use Rattle.execution.specs.{declared.costs.Funding.the-variants.NotSupplied}
+use Rattle.records.specs.{Bar.candleOf, Bar.fundingOf}
+use Rattle.refusals.specs.{declared.verdict.Verdict.the-variants.Fine, Bar.bitFine, Bar.slotFine, Bar.every, Bar.slotsFine, Bar.candleFine, Bar.barLines}
+use Rattle.refusals.specs.{Lines.judged, Laws.Lines.and-true, Laws.Lines.first-holds}
+use Rattle.engine.specs.{Record.rowWord, Record.listed, Record.rowOf, Laws.Lengths.row-long}
+use Rattle.dump.specs.{Refused.usedOrZero, Refused.absentZero, Refused.rowFine}
+use Rattle.restart.specs.{Window.listed-at}
 
 -- ---- each number below n
 

@@ -1,7 +1,6 @@
 -- States with the same position, order and last bar have the same floats.
-use mathlib.Core.Path.{_≡_}
-use Rattle.records.specs.declared.state.State.{State}
-use Rattle.records.specs.Laws.RoundTrip.{Floats64}
+use Rattle.words.specs.Prelude.{_≡_}
+use Rattle.records.specs.{declared.state.State.State, Laws.RoundTrip.Floats64}
 
 pub floats-alike : (t t′ : State) → t .position ≡ t′ .position → t .last ≡ t′ .last → t .order ≡ t′ .order → Floats64 t → Floats64 t′
 floats-alike t t′ position last order f = record {

@@ -1,25 +1,17 @@
 -- What a whole image says of the state that it was written from, and that none of its fields is one that 19 refuses.
-use Prim.Native.Nat.{ℕ, _+_, _*_, _≤_}
-use mathlib.Core.Path.{_≡_, refl}
-use mathlib.Core.Bool.{true}
-use mathlib.Core.List.{List}
-use native.Mathlib.Omega.{arith}
-use borrow.Author.Tests.{le-leb, eq-eqb}
-use lib.Dec.{leb, ltb, eqb}
-use lib.ListN.{length, getD}
-use Rattle.words.specs.Limits.{rowWords, mostSlots, mostRows}
-use Rattle.rules.specs.declared.position.Entered.{Entered}
-use Rattle.rules.specs.declared.position.Entered.the-variants.{Never, Bar}
-use Rattle.execution.specs.declared.level.OrderKind.{OrderKind}
-use Rattle.execution.specs.declared.level.OrderKind.the-variants.{Market, Limit, Stop, StopLimit}
-use Rattle.records.specs.declared.state.Order.{Order}
-use Rattle.records.specs.declared.state.Order.the-variants.{Idle, EnterLong, EnterShort, Exit}
-use Rattle.records.specs.StateWords.{orderKind, orderDelay, waitsFor, kindWord, levelWord, limitWord, enteredKind, entryBar}
-use Rattle.records.specs.Laws.RoundTrip.{entered-back}
-use Rattle.refusals.specs.Rooms.{entryBelow}
-use Rattle.dump.specs.Layout.{headBytes, dumpBytes}
-use Rattle.dump.specs.Reading.{slotsIn, versionIn, depthIn, seenIn, rowsIn, orderIn, kindIn, enteredIn, entryIn, delayIn, levelIn, limitIn}
-use Rattle.dump.specs.Refused.{shapeFine, numbersFine, usedOrZero, isEntry, unusedZero}
+use Rattle.words.specs.Prelude.{ℕ, _+_, _*_, _≤_, _≡_, refl, true, List, arith, le-leb, eq-eqb, leb, ltb, eqb, length, getD}
+use Rattle.words.specs.{Limits.rowWords, Limits.mostSlots, Limits.mostRows}
+use Rattle.rules.specs.{declared.position.Entered.Entered, declared.position.Entered.the-variants.Never, declared.position.Entered.the-variants.Bar}
+use Rattle.execution.specs.{declared.level.OrderKind.OrderKind, declared.level.OrderKind.the-variants.Market, declared.level.OrderKind.the-variants.Limit}
+use Rattle.execution.specs.{declared.level.OrderKind.the-variants.Stop, declared.level.OrderKind.the-variants.StopLimit}
+use Rattle.records.specs.{declared.state.Order.Order, declared.state.Order.the-variants.Idle, declared.state.Order.the-variants.EnterLong}
+use Rattle.records.specs.{declared.state.Order.the-variants.EnterShort, declared.state.Order.the-variants.Exit, StateWords.orderKind, StateWords.orderDelay}
+use Rattle.records.specs.{StateWords.waitsFor, StateWords.kindWord, StateWords.levelWord, StateWords.limitWord, StateWords.enteredKind, StateWords.entryBar}
+use Rattle.records.specs.{Laws.RoundTrip.entered-back}
+use Rattle.refusals.specs.{Rooms.entryBelow}
+use Rattle.dump.specs.{Layout.headBytes, Layout.dumpBytes, Reading.slotsIn, Reading.versionIn, Reading.depthIn, Reading.seenIn, Reading.rowsIn, Reading.orderIn}
+use Rattle.dump.specs.{Reading.kindIn, Reading.enteredIn, Reading.entryIn, Reading.delayIn, Reading.levelIn, Reading.limitIn, Refused.shapeFine}
+use Rattle.dump.specs.{Refused.numbersFine, Refused.usedOrZero, Refused.isEntry, Refused.unusedZero}
 
 -- The fields of an image `x`: K, D, bars seen, rows, the order and the entry bar.
 pub record Says (x : List ℕ) (K D bars held : ℕ) (o : Order) (e : Entered) : Type 0 where

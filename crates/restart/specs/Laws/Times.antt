@@ -1,53 +1,31 @@
 -- The time of the last entry and the delay of an order stay below 2^64, where the bar's time and the delay setting are.
-use Prim.Native.Nat.{ℕ, _-_, _<_}
-use mathlib.Core.Bool.{Bool, true, false, cond}
-use mathlib.Core.List.{List}
-use native.Mathlib.Omega.{arith}
-use lib.Dec.{ltb}
-use lib.Ieee.{Float}
-use Rattle.floats.specs.Floats.{_⊗_, _≺_, eps}
-use Rattle.rows.specs.History.{History}
-use Rattle.portfolio.specs.declared.Candle.{Candle}
-use Rattle.portfolio.specs.declared.Closed.{Closed}
-use Rattle.portfolio.specs.declared.Portfolio.{Portfolio}
-use Rattle.portfolio.specs.Portfolio.{inPosition, isLong, funded, worsened, entered, exited}
-use Rattle.execution.specs.declared.fills.Entry.{Entry}
-use Rattle.execution.specs.declared.fills.Entry.the-variants.{NoEntry, TooLarge, Entered}
-use Rattle.execution.specs.declared.fills.Exit.{Exit}
-use Rattle.execution.specs.declared.fills.Exit.the-variants.{NoExit, Exited}
-use Rattle.execution.specs.declared.costs.Funding.{Funding}
-use Rattle.execution.specs.declared.costs.Funding.the-variants.{NotSupplied, Supplied}
-use Rattle.execution.specs.declared.optional.Optional.{Optional}
-use Rattle.execution.specs.declared.optional.Optional.the-variants.{Absent}
+use Rattle.words.specs.Prelude.{ℕ, _-_, _<_, Bool, true, false, cond, List, arith, ltb, Float}
+use Rattle.floats.specs.{Floats._⊗_, Floats._≺_, Floats.eps}
+use Rattle.rows.specs.{History.History}
+use Rattle.portfolio.specs.{declared.Candle.Candle, declared.Closed.Closed, declared.Portfolio.Portfolio, Portfolio.inPosition, Portfolio.isLong, Portfolio.funded}
+use Rattle.portfolio.specs.{Portfolio.worsened, Portfolio.entered, Portfolio.exited}
+use Rattle.execution.specs.{declared.fills.Entry.Entry, declared.fills.Entry.the-variants.NoEntry, declared.fills.Entry.the-variants.TooLarge}
+use Rattle.execution.specs.{declared.fills.Entry.the-variants.Entered, declared.fills.Exit.Exit, declared.fills.Exit.the-variants.NoExit}
+use Rattle.execution.specs.{declared.fills.Exit.the-variants.Exited, declared.costs.Funding.Funding, declared.costs.Funding.the-variants.NotSupplied}
+use Rattle.execution.specs.{declared.costs.Funding.the-variants.Supplied, declared.optional.Optional.Optional, declared.optional.Optional.the-variants.Absent}
+use Rattle.execution.specs.{declared.lots.Quantity.Quantity, declared.lots.Quantity.the-variants.Nothing, declared.lots.Quantity.the-variants.Of}
+use Rattle.execution.specs.{declared.level.OrderKind.OrderKind, declared.level.Side.Side, declared.level.Side.the-variants.Long}
+use Rattle.execution.specs.{declared.level.Side.the-variants.Short, declared.terms.Terms.Terms, declared.intrabar.Trigger.Trigger}
+use Rattle.execution.specs.{declared.intrabar.Trigger.the-variants.Untouched, declared.intrabar.Trigger.the-variants.At, Costs.slippageRate, Costs.fillPrice}
+use Rattle.execution.specs.{Costs.closed, Costs.withFunding, Costs.chargeFunding, Fills.direction, Fills.volatilityFor, Fills.quantity, Fills.probeQty}
+use Rattle.execution.specs.{Fills.withinVolume, Fills.booked, Fills.executeEntry, Fills.executeExit, Lots.isTooLarge, Lots.orZero, Level.levelFill}
+use Rattle.execution.specs.{Intrabar.closedBy, Intrabar.applyIntrabarExits}
+use Rattle.records.specs.{declared.settings.Settings.Settings, declared.state.Order.Order, declared.state.Order.the-variants.Idle}
+use Rattle.records.specs.{declared.state.Order.the-variants.EnterLong, declared.state.Order.the-variants.EnterShort}
+use Rattle.records.specs.{declared.state.Order.the-variants.Exit as ExitOrder, declared.state.Position.Position, declared.state.State.State, Bar.candleOf}
+use Rattle.records.specs.{Lent.Lists, Lent.Rooms, StateWords.orderDelay}
+use Rattle.engine.specs.{declared.account.Due.Due, declared.account.Due.the-variants.Waits, declared.account.Due.the-variants.Enters}
+use Rattle.engine.specs.{declared.account.Due.the-variants.Leaves, Account.leaving, Account.facing, Account.entering, Account.reached, Account.dueOf}
+use Rattle.engine.specs.{Account.doneOf, Account.filled, Account.intrabar, Account.charged, Decide.Answers, Decide.ordered, Decide.openingOrder}
+use Rattle.engine.specs.{Decide.closingOrder, Decide.orderAfter, Decide.decided, Step.stepped}
 use Rattle.execution.specs.declared.optional.Optional.the-variants as Optional
-use Rattle.execution.specs.declared.lots.Quantity.{Quantity}
-use Rattle.execution.specs.declared.lots.Quantity.the-variants.{Nothing, Of}
 use Rattle.execution.specs.declared.lots.Quantity.the-variants as Quantity
-use Rattle.execution.specs.declared.level.OrderKind.{OrderKind}
-use Rattle.execution.specs.declared.level.Side.{Side}
-use Rattle.execution.specs.declared.level.Side.the-variants.{Long, Short}
-use Rattle.execution.specs.declared.terms.Terms.{Terms}
-use Rattle.execution.specs.declared.intrabar.Trigger.{Trigger}
-use Rattle.execution.specs.declared.intrabar.Trigger.the-variants.{Untouched, At}
-use Rattle.execution.specs.Costs.{slippageRate, fillPrice, closed, withFunding, chargeFunding}
-use Rattle.execution.specs.Fills.{direction, volatilityFor, quantity, probeQty, withinVolume, booked, executeEntry, executeExit}
-use Rattle.execution.specs.Lots.{isTooLarge, orZero}
-use Rattle.execution.specs.Level.{levelFill}
-use Rattle.execution.specs.Intrabar.{closedBy, applyIntrabarExits}
-use Rattle.records.specs.declared.settings.Settings.{Settings}
-use Rattle.records.specs.declared.state.Order.{Order}
-use Rattle.records.specs.declared.state.Order.the-variants.{Idle, EnterLong, EnterShort, Exit as ExitOrder}
-use Rattle.records.specs.declared.state.Position.{Position}
-use Rattle.records.specs.declared.state.State.{State}
-use Rattle.records.specs.Bar.{candleOf}
-use Rattle.records.specs.Lent.{Lists, Rooms}
-use Rattle.records.specs.StateWords.{orderDelay}
-use Rattle.engine.specs.declared.account.Due.{Due}
-use Rattle.engine.specs.declared.account.Due.the-variants.{Waits, Enters, Leaves}
 use Rattle.engine.specs.Account as Account
-use Rattle.engine.specs.Account.{leaving, facing, entering, reached, dueOf, doneOf, filled, intrabar, charged}
-use Rattle.engine.specs.Decide.{Answers, ordered, openingOrder, closingOrder, orderAfter, decided}
-use Rattle.engine.specs.Step.{stepped}
 
 -- what a 64-bit word holds
 abbrev pub Word64 : ℕ → Type 0

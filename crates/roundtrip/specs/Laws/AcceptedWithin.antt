@@ -1,31 +1,16 @@
 -- An accepted table holds a rule within the paper's limits.
 -- Assumes nothing.
-use mathlib.Core.Path.{_≡_, _∙_, ap}
-use mathlib.Core.Logic.{⊎-elim}
-use mathlib.Core.List.{List}
-use Prim.Native.Nat.{ℕ, zero, suc, _+_, _*_, _<_}
-use native.Mathlib.Omega.{arith}
-use native.Mathlib.Nat.{eq-zero-or-pos}
-use lib.ListN.{length}
-use borrow.Author.Tests.{eq-eqb, ne-eqb}
-use Rattle.words.specs.Limits.{mostNesting}
-use Rattle.table.specs.declared.answer.Answer.the-variants.{Accepted}
-use Rattle.table.specs.Bytes.{u64}
-use Rattle.table.specs.Header.{formOf, count, root}
-use Rattle.table.specs.Nodes.{nodeAt, childCountAt}
-use Rattle.table.specs.Forest.{Forest, firstTrees, otherTrees, nodeOver, trees, forestOf}
+use Rattle.words.specs.Prelude.{_≡_, _∙_, ap, ⊎-elim, List, ℕ, zero, suc, _+_, _*_, _<_, arith, eq-zero-or-pos, length, eq-eqb, ne-eqb}
+use Rattle.words.specs.{Limits.mostNesting}
+use Rattle.table.specs.{declared.answer.Answer.the-variants.Accepted, Bytes.u64, Header.formOf, Header.count, Header.root, Nodes.nodeAt, Nodes.childCountAt}
+use Rattle.table.specs.{Forest.Forest, Forest.firstTrees, Forest.otherTrees, Forest.nodeOver, Forest.trees, Forest.forestOf, Checked.checked, Reading.conditions}
+use Rattle.table.specs.{Reading.present, Reading.treeOf, Writing.shortOf, Writing.ruleOf, Limits.TreeWithin, Limits.ShortWithin, Limits.RuleWithin}
+use Rattle.table.specs.{Laws.Accepted.header-of, Laws.Accepted.node-of, Laws.Accepted.tree-ends, Laws.Accepted.tree-sorts, Laws.Accepted.tree-nesting}
+use Rattle.table.specs.{Laws.Accepted.tree-reach, Bytes.Bytes}
+use Rattle.roundtrip.specs.{Laws.Reading.many-conditions, Laws.Reach.tree-reach-is, Laws.AcceptedWritten.right-trees, Laws.AcceptedWritten.u16-small}
+use Rattle.roundtrip.specs.{Laws.AcceptedWritten.u32-small, Laws.AcceptedWritten.rule-nodes, Laws.Limits.first-in, Laws.Limits.all-fine}
+use Rattle.roundtrip.specs.{Laws.OwnBytes.NodeFits, Laws.OwnBytes.FieldsFit}
 use Rattle.table.specs.Forest as Forest
-use Rattle.table.specs.Checked.{checked}
-use Rattle.table.specs.Reading.{conditions, present, treeOf}
-use Rattle.table.specs.Writing.{shortOf, ruleOf}
-use Rattle.table.specs.Limits.{TreeWithin, ShortWithin, RuleWithin}
-use Rattle.roundtrip.specs.Laws.Reading.{many-conditions}
-use Rattle.roundtrip.specs.Laws.Reach.{tree-reach-is}
-use Rattle.table.specs.Laws.Accepted.{header-of, node-of, tree-ends, tree-sorts, tree-nesting, tree-reach}
-use Rattle.table.specs.Bytes.{Bytes}
-use Rattle.roundtrip.specs.Laws.AcceptedWritten.{right-trees, u16-small, u32-small, rule-nodes}
-use Rattle.roundtrip.specs.Laws.Limits.{first-in, all-fine}
-use Rattle.roundtrip.specs.Laws.OwnBytes.{NodeFits, FieldsFit}
 
 -- the fields of a node read from bytes fit
 small-node : (t : List ℕ) → Bytes t → (i : ℕ) → NodeFits (nodeAt t i)

@@ -1,38 +1,19 @@
 -- An accepted table is the table of the rule that it holds: writing its trees in prefix order under the paper's header gives
 -- its own bytes back. So the reading of an accepted table loses nothing and makes nothing up.
 -- Assumes nothing.
-use mathlib.Core.Path.{_≡_, refl, sym, _∙_, ap}
-use mathlib.Core.Bool.{true}
-use mathlib.Core.Logic.{⊎-elim}
-use mathlib.Core.List.{List, [], _∷_, _++_}
-use Prim.Native.Nat.{ℕ, zero, suc, _+_, _*_, _/_, _%_, _≤_, _<_}
-use native.Mathlib.Omega.{arith}
-use native.Mathlib.Nat.{eq-zero-or-pos}
-use lib.ListN.{length, getD, length-append}
-use lib.Dec.{eqb}
-use borrow.Author.Tests.{ne-eqb, eqb-true}
-use Rattle.table.specs.declared.answer.Answer.the-variants.{Accepted}
-use Rattle.table.specs.declared.header.Form.{Form}
-use Rattle.table.specs.Bytes.{Bytes, u16, u32, u64}
-use Rattle.table.specs.Header.{newestVersion, version, formOf, total, count, root, markRight}
-use Rattle.table.specs.Nodes.{nodeAt, childCountAt, nodeRight}
-use Rattle.table.specs.Forest.{Forest, firstTrees, otherTrees, nodeOver, trees, forestOf, nodes}
+use Rattle.words.specs.Prelude.{_≡_, refl, sym, _∙_, ap, true, ⊎-elim, List, [], _∷_, _++_, ℕ, zero, suc, _+_, _*_, _/_, _%_, _≤_, _<_, arith, eq-zero-or-pos}
+use Rattle.words.specs.Prelude.{length, getD, length-append, eqb, ne-eqb, eqb-true}
+use Rattle.table.specs.{declared.answer.Answer.the-variants.Accepted, declared.header.Form.Form, Bytes.Bytes, Bytes.u16, Bytes.u32, Bytes.u64, Header.newestVersion}
+use Rattle.table.specs.{Header.version, Header.formOf, Header.total, Header.count, Header.root, Header.markRight, Nodes.nodeAt, Nodes.childCountAt, Nodes.nodeRight}
+use Rattle.table.specs.{Forest.Forest, Forest.firstTrees, Forest.otherTrees, Forest.nodeOver, Forest.trees, Forest.forestOf, Forest.nodes, Checked.checked}
+use Rattle.table.specs.{Ends.from, Trees.arith as sums, Trees.none, Reading.conditions, Reading.treeOf, Reading.present, Writing.le16, Writing.le32, Writing.le64}
+use Rattle.table.specs.{Writing.node, Writing.nodeBytes, Writing.nodesBytes, Writing.writeOf, Writing.nodesOf, Writing.Short, Writing.absent, Writing.given}
+use Rattle.table.specs.{Writing.nodesOfShort, Writing.writeShort, Writing.nodesOfRule, Writing.headerOf, Writing.tableOf, Writing.shortOf, Writing.ruleOf}
+use Rattle.table.specs.{Laws.Ends.from-two, Laws.Ends.from-all, Laws.Header.both, Laws.Header.HeaderRight, Laws.Forest.flat-trees, Laws.Accepted.header-of}
+use Rattle.table.specs.{Laws.Accepted.node-of, Laws.Accepted.tree-ends, Laws.Accepted.tree-sorts}
+use Rattle.roundtrip.specs.{Laws.Reading.many-conditions, Laws.Writing.Right, Laws.Writing.written-all, Laws.OwnBytes.all-one, Laws.NodeBytes.node-long}
+use Rattle.roundtrip.specs.{Laws.WrittenForest.condition-long}
 use Rattle.table.specs.Forest as Forest
-use Rattle.table.specs.Checked.{checked}
-use Rattle.table.specs.Ends.{from}
-use Rattle.table.specs.Trees.{arith as sums, none}
-use Rattle.table.specs.Reading.{conditions, treeOf, present}
-use Rattle.table.specs.Writing.{le16, le32, le64, node, nodeBytes, nodesBytes, writeOf, nodesOf, Short, absent, given, nodesOfShort, writeShort}
-use Rattle.table.specs.Writing.{nodesOfRule, headerOf, tableOf, shortOf, ruleOf}
-use Rattle.table.specs.Laws.Ends.{from-two, from-all}
-use Rattle.table.specs.Laws.Header.{both, HeaderRight}
-use Rattle.table.specs.Laws.Forest.{flat-trees}
-use Rattle.roundtrip.specs.Laws.Reading.{many-conditions}
-use Rattle.roundtrip.specs.Laws.Writing.{Right, written-all}
-use Rattle.roundtrip.specs.Laws.OwnBytes.{all-one}
-use Rattle.roundtrip.specs.Laws.NodeBytes.{node-long}
-use Rattle.roundtrip.specs.Laws.WrittenForest.{condition-long}
-use Rattle.table.specs.Laws.Accepted.{header-of, node-of, tree-ends, tree-sorts}
 
 -- ---- each tree
 

@@ -1,38 +1,23 @@
 -- What an accepted table holds is within the paper's limits.
 -- Assumes nothing.
-use mathlib.Core.Path.{_≡_, sym, _∙_, ap, subst}
-use mathlib.Core.Bool.{true}
-use mathlib.Core.List.{List, [], _∷_}
-use Prim.Native.Nat.{ℕ, zero, suc, _≤_, _<_}
-use native.Mathlib.Omega.{arith}
-use lib.ListN.{length, replicate, length-replicate}
-use lib.Dec.{leb}
-use borrow.Author.Tests.{ltb-true, leb-true}
-use Rattle.words.specs.Limits.{mostReach}
-use Rattle.table.specs.declared.nodes.Node.{Node}
-use Rattle.table.specs.declared.kinds.Kind.{Kind}
-use Rattle.table.specs.declared.header.Form.{Form}
-use Rattle.table.specs.declared.places.Place.the-variants.{Nowhere}
+use Rattle.words.specs.Prelude.{_≡_, sym, _∙_, ap, subst, true, List, [], _∷_, ℕ, zero, suc, _≤_, _<_, arith, length, replicate, length-replicate, leb, ltb-true}
+use Rattle.words.specs.Prelude.{leb-true}
+use Rattle.words.specs.{Limits.mostReach}
+use Rattle.table.specs.{declared.nodes.Node.Node, declared.kinds.Kind.Kind, declared.header.Form.Form, declared.places.Place.the-variants.Nowhere, Kinds.kindOf}
+use Rattle.table.specs.{Kinds.constant, Kinds.reference, Kinds.extremum, Kinds.barsSince, Nodes.childCount, Nodes.nRight, Nodes.constantRight, Nodes.ownRight}
+use Rattle.table.specs.{Forest.Forest, Forest.sorts, Forest.Sorted, Nesting.deeper, Trees.Operand, Trees.const, Trees.ref, Trees.price, Trees.prev}
+use Rattle.table.specs.{Trees.arith as sums, Trees.extreme, Trees.Condition, Trees.Conditions, Trees.none, Trees.more, Series.asSeries, Reading.child}
+use Rattle.table.specs.{Reading.operandBy, Reading.operandFrom, Reading.operands, Reading.firstOf, Reading.conditionBy, Reading.conditionFrom, Reading.conditions}
+use Rattle.table.specs.{Writing.manyOf, Limits.Within, Limits.WithinOf, Limits.WithinAll, Limits.levels, Limits.levelsOf, Limits.levelsOfAll, Laws.Order.never-at}
+use Rattle.table.specs.{Laws.Accepted.or-none, Laws.Kinds.OperandKind, Laws.Kinds.a-const, Laws.Kinds.a-ref, Laws.Kinds.a-price, Laws.Kinds.a-prev}
+use Rattle.table.specs.{Laws.Kinds.an-arith, Laws.Kinds.an-extreme, Laws.Kinds.operand-kind, Laws.Header.both, Laws.Kinds.ConditionKind, Laws.Kinds.a-compare}
+use Rattle.table.specs.{Laws.Kinds.a-cross, Laws.Kinds.a-between, Laws.Kinds.a-trend, Laws.Kinds.an-all, Laws.Kinds.an-any, Laws.Kinds.a-not, Laws.Kinds.a-position}
+use Rattle.table.specs.{Laws.Kinds.a-count, Laws.Kinds.condition-kind}
+use Rattle.roundtrip.specs.{Laws.Series.IsSeries, Laws.Series.series-child, Laws.Series.leaf-within, Laws.Reading.as-many, Laws.Reading.many-conditions}
+use Rattle.roundtrip.specs.{Laws.Reading.operands-below, Laws.Writing.Right, Laws.OwnBytes.OwnFields, Laws.OwnBytes.own-fields, Laws.OwnBytes.NodeFits}
+use Rattle.roundtrip.specs.{Laws.OwnBytes.FieldsFit}
 use Rattle.table.specs.Kinds as Kinds
-use Rattle.table.specs.Kinds.{kindOf, constant, reference, extremum, barsSince}
-use Rattle.table.specs.Nodes.{childCount, nRight, constantRight, ownRight}
-use Rattle.table.specs.Forest.{Forest, sorts, Sorted}
 use Rattle.table.specs.Forest as Forest
-use Rattle.table.specs.Nesting.{deeper}
-use Rattle.table.specs.Trees.{Operand, const, ref, price, prev, arith as sums, extreme, Condition, Conditions, none, more}
-use Rattle.table.specs.Series.{asSeries}
-use Rattle.table.specs.Reading.{child, operandBy, operandFrom, operands, firstOf, conditionBy, conditionFrom, conditions}
-use Rattle.table.specs.Writing.{manyOf}
-use Rattle.table.specs.Limits.{Within, WithinOf, WithinAll, levels, levelsOf, levelsOfAll}
-use Rattle.table.specs.Laws.Order.{never-at}
-use Rattle.table.specs.Laws.Accepted.{or-none}
-use Rattle.table.specs.Laws.Kinds.{OperandKind, a-const, a-ref, a-price, a-prev, an-arith, an-extreme, operand-kind}
-use Rattle.table.specs.Laws.Header.{both}
-use Rattle.roundtrip.specs.Laws.Series.{IsSeries, series-child, leaf-within}
-use Rattle.table.specs.Laws.Kinds.{ConditionKind, a-compare, a-cross, a-between, a-trend, an-all, an-any, a-not, a-position, a-count, condition-kind}
-use Rattle.roundtrip.specs.Laws.Reading.{as-many, many-conditions, operands-below}
-use Rattle.roundtrip.specs.Laws.Writing.{Right}
-use Rattle.roundtrip.specs.Laws.OwnBytes.{OwnFields, own-fields, NodeFits, FieldsFit}
 
 -- ---- operands in a row
 

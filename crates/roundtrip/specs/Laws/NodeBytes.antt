@@ -1,14 +1,9 @@
 -- The bytes of nodes: sixteen each, and a forest's in prefix order.
 -- Assumes nothing.
-use mathlib.Core.Path.{_≡_, refl, sym, ap}
-use mathlib.Core.List.{List, [], _∷_, _++_, append-assoc}
-use Prim.Native.Nat.{ℕ, _*_}
-use native.Mathlib.Omega.{arith}
-use lib.ListN.{length, length-append}
-use Rattle.table.specs.declared.nodes.Node.{Node}
-use Rattle.table.specs.Forest.{Forest, size, flat}
+use Rattle.words.specs.Prelude.{_≡_, refl, sym, ap, List, [], _∷_, _++_, append-assoc, ℕ, _*_, arith, length, length-append}
+use Rattle.table.specs.{declared.nodes.Node.Node, Forest.Forest, Forest.size, Forest.flat, Writing.le16, Writing.le32, Writing.le64, Writing.node}
+use Rattle.table.specs.{Writing.nodeBytes, Writing.nodesBytes}
 use Rattle.table.specs.Forest as Forest
-use Rattle.table.specs.Writing.{le16, le32, le64, node, nodeBytes, nodesBytes}
 
 pub node-long : (a b c d e : ℕ) → length (node a b c d e) ≡ 16
 unfolding node le64 le32 le16

@@ -1,22 +1,10 @@
 -- A row of one condition, and a node whose own bytes are right.
 -- Assumes nothing.
-use mathlib.Core.Path.{_≡_, refl}
-use mathlib.Core.Bool.{true, not}
-use mathlib.Core.List.{[], append-nil}
-use Prim.Native.Nat.{ℕ, _<_}
-use native.Mathlib.Omega.{arith}
-use lib.Dec.{ltb, eqb}
-use borrow.Author.Tests.{ltb-true, eqb-true}
-use Rattle.table.specs.declared.nodes.Node.{Node}
-use Rattle.table.specs.declared.kinds.Kind.{Kind}
-use Rattle.table.specs.declared.header.Form.{Form}
-use Rattle.table.specs.Nodes.{childrenRight, nRight, constantRight, kindRight, fieldsRight, ownRight}
-use Rattle.table.specs.Forest.{Forest}
+use Rattle.words.specs.Prelude.{_≡_, refl, true, not, [], append-nil, ℕ, _<_, arith, ltb, eqb, ltb-true, eqb-true}
+use Rattle.table.specs.{declared.nodes.Node.Node, declared.kinds.Kind.Kind, declared.header.Form.Form, Nodes.childrenRight, Nodes.nRight, Nodes.constantRight}
+use Rattle.table.specs.{Nodes.kindRight, Nodes.fieldsRight, Nodes.ownRight, Forest.Forest, Trees.Conditions, Trees.none, Trees.more, Reading.firstOf, Writing.node}
+use Rattle.table.specs.{Writing.nodeBytes, Writing.manyOf, Writing.writeOf, Writing.writeAll, Laws.Header.both}
 use Rattle.table.specs.Forest as Forest
-use Rattle.table.specs.Trees.{Conditions, none, more}
-use Rattle.table.specs.Reading.{firstOf}
-use Rattle.table.specs.Writing.{node, nodeBytes, manyOf, writeOf, writeAll}
-use Rattle.table.specs.Laws.Header.{both}
 
 -- ---- a row of one condition
 

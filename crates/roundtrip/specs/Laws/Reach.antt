@@ -1,31 +1,18 @@
 -- The reach of the typed trees is the reach that the checker weighs, and the rows needed are one more than the greatest.
 -- Assumes nothing.
-use mathlib.Core.Path.{_≡_, refl, _∙_, ap}
-use mathlib.Core.Logic.{⊎-elim}
-use mathlib.Core.List.{List, [], _∷_}
-use Prim.Native.Nat.{ℕ, zero, suc, _+_, _<_, max}
-use native.Mathlib.Omega.{arith}
-use native.Mathlib.Nat.{eq-zero-or-pos}
-use lib.ListN.{length, replicate, length-replicate}
-use Rattle.table.specs.declared.nodes.Node.{Node}
-use Rattle.table.specs.declared.kinds.Kind.{Kind}
-use Rattle.table.specs.declared.answer.Answer.the-variants.{Accepted}
-use Rattle.table.specs.Kinds.{kindOf, extremum}
-use Rattle.table.specs.Header.{count}
-use Rattle.table.specs.Nodes.{childCount}
-use Rattle.table.specs.Forest.{Forest, trees, forestOf, sorts, Sorted}
+use Rattle.words.specs.Prelude.{_≡_, refl, _∙_, ap, ⊎-elim, List, [], _∷_, ℕ, zero, suc, _+_, _<_, max, arith, eq-zero-or-pos, length, replicate, length-replicate}
+use Rattle.table.specs.{declared.nodes.Node.Node, declared.kinds.Kind.Kind, declared.answer.Answer.the-variants.Accepted, Kinds.kindOf, Kinds.extremum}
+use Rattle.table.specs.{Header.count, Nodes.childCount, Forest.Forest, Forest.trees, Forest.forestOf, Forest.sorts, Forest.Sorted, Reach.back, Reach.ownBack}
+use Rattle.table.specs.{Reach.weigh, Reach.forestReach, Reach.treeReach, Reach.rowsNeeded, Checked.checked, Trees.Operand, Trees.Conditions, Trees.none, Trees.more}
+use Rattle.table.specs.{Trees.reach, Trees.reachOf, Trees.reachOfAll, Reading.child, Reading.operandBy, Reading.operandFrom, Reading.operands, Reading.firstOf}
+use Rattle.table.specs.{Reading.conditionBy, Reading.conditionFrom, Reading.conditions, Reading.treeOf, Series.asSeries, Writing.manyOf, Laws.Kinds.OperandKind}
+use Rattle.table.specs.{Laws.Kinds.a-const, Laws.Kinds.a-ref, Laws.Kinds.a-price, Laws.Kinds.a-prev, Laws.Kinds.an-arith, Laws.Kinds.an-extreme}
+use Rattle.table.specs.{Laws.Kinds.operand-kind, Laws.Kinds.ConditionKind, Laws.Kinds.a-compare, Laws.Kinds.a-cross, Laws.Kinds.a-between, Laws.Kinds.a-trend}
+use Rattle.table.specs.{Laws.Kinds.an-all, Laws.Kinds.an-any, Laws.Kinds.a-not, Laws.Kinds.a-position, Laws.Kinds.a-count, Laws.Kinds.condition-kind}
+use Rattle.table.specs.{Laws.Accepted.accepted, Laws.Accepted.tree-sorts}
+use Rattle.roundtrip.specs.{Laws.Series.IsSeries, Laws.Series.series-child, Laws.Series.leaf-reach, Laws.Reading.as-many, Laws.Reading.many-conditions}
+use Rattle.roundtrip.specs.{Laws.Reading.row-none, Laws.Reading.row-one, Laws.Reading.row-two, Laws.Reading.row-three, Laws.Reading.operands-below}
 use Rattle.table.specs.Forest as Forest
-use Rattle.table.specs.Reach.{back, ownBack, weigh, forestReach, treeReach, rowsNeeded}
-use Rattle.table.specs.Checked.{checked}
-use Rattle.table.specs.Trees.{Operand, Conditions, none, more, reach, reachOf, reachOfAll}
-use Rattle.table.specs.Reading.{child, operandBy, operandFrom, operands, firstOf, conditionBy, conditionFrom, conditions, treeOf}
-use Rattle.table.specs.Series.{asSeries}
-use Rattle.table.specs.Writing.{manyOf}
-use Rattle.roundtrip.specs.Laws.Series.{IsSeries, series-child, leaf-reach}
-use Rattle.roundtrip.specs.Laws.Reading.{as-many, many-conditions, row-none, row-one, row-two, row-three, operands-below}
-use Rattle.table.specs.Laws.Kinds.{OperandKind, a-const, a-ref, a-price, a-prev, an-arith, an-extreme, operand-kind}
-use Rattle.table.specs.Laws.Kinds.{ConditionKind, a-compare, a-cross, a-between, a-trend, an-all, an-any, a-not, a-position, a-count, condition-kind}
-use Rattle.table.specs.Laws.Accepted.{accepted, tree-sorts}
 
 -- the greatest reach of operands in a row
 unfoldable pub reachOfRow : List Operand → ℕ

@@ -1,23 +1,9 @@
 -- Laws of reading: a row of trees reads as many operands or conditions as it has trees, and operands stand on operands.
 -- Assumes nothing.
-use mathlib.Core.Path.{_≡_, refl, _∙_, ap}
-use mathlib.Core.Bool.{Bool, true, false, cond}
-use mathlib.Core.List.{List, [], _∷_}
-use Prim.Native.Nat.{ℕ, suc}
-use native.Mathlib.Omega.{arith}
-use lib.ListN.{length, replicate, length-replicate}
-use lib.Dec.{eqb}
-use borrow.Author.Tests.{eqb-true}
-use Rattle.table.specs.declared.nodes.Node.{Node}
-use Rattle.table.specs.Kinds.{kinds, kindOf}
-use Rattle.table.specs.Nodes.{childCount}
-use Rattle.table.specs.Forest.{Forest, sorts}
+use Rattle.words.specs.Prelude.{_≡_, refl, _∙_, ap, Bool, true, false, cond, List, [], _∷_, ℕ, suc, arith, length, replicate, length-replicate, eqb, eqb-true}
+use Rattle.table.specs.{declared.nodes.Node.Node, Kinds.kinds, Kinds.kindOf, Nodes.childCount, Forest.Forest, Forest.sorts, Trees.Operand, Reading.child}
+use Rattle.table.specs.{Reading.operands, Reading.conditions, Writing.manyOf, Ends.from, Laws.Kinds.of-rows, Laws.Kinds.known}
 use Rattle.table.specs.Forest as Forest
-use Rattle.table.specs.Trees.{Operand}
-use Rattle.table.specs.Reading.{child, operands, conditions}
-use Rattle.table.specs.Writing.{manyOf}
-use Rattle.table.specs.Ends.{from}
-use Rattle.table.specs.Laws.Kinds.{of-rows, known}
 
 pub as-many : (f : Forest) → length (operands f) ≡ length (sorts f)
 unfolding operands sorts

@@ -1,28 +1,14 @@
 -- The child of Highest and Lowest is a series: where each node has the children that its kind takes, it is a Price or a Ref.
 -- Assumes nothing.
-use mathlib.Core.Path.{_≡_, refl, sym}
-use mathlib.Core.Bool.{true, true≢false}
-use mathlib.Core.List.{List, [], _∷_}
-use Prim.Native.Nat.{ℕ}
-use native.Mathlib.Omega.{arith}
-use lib.ListN.{replicate}
-use lib.Dec.{eqb}
-use Rattle.table.specs.declared.nodes.Node.{Node}
-use Rattle.table.specs.declared.header.Form.{Form}
-use Rattle.table.specs.declared.series.Series.{Series}
-use Rattle.table.specs.declared.series.Series.the-variants.{Price, Slot}
-use Rattle.table.specs.declared.kinds.OperandClass.{OperandClass}
+use Rattle.words.specs.Prelude.{_≡_, refl, sym, true, true≢false, List, [], _∷_, ℕ, arith, replicate, eqb}
+use Rattle.table.specs.{declared.nodes.Node.Node, declared.header.Form.Form, declared.series.Series.Series, declared.series.Series.the-variants.Price}
+use Rattle.table.specs.{declared.series.Series.the-variants.Slot, declared.kinds.OperandClass.OperandClass, Kinds.kindOf, Kinds.extremum, Kinds.aSeries}
+use Rattle.table.specs.{Nodes.childCount, Nodes.childFits, Forest.Forest, Forest.sorts, Forest.Fitting, Trees.Operand, Trees.reach, Series.asSeries}
+use Rattle.table.specs.{Series.asOperand, Series.seriesBy, Reading.child, Reading.operandBy, Reading.operandFrom, Reading.operands, Writing.write}
+use Rattle.table.specs.{Writing.writeSeries, Limits.Within, Limits.WithinSeries, Laws.Kinds.OperandKind, Laws.Kinds.a-const, Laws.Kinds.a-ref, Laws.Kinds.a-price}
+use Rattle.table.specs.{Laws.Kinds.a-prev, Laws.Kinds.an-arith, Laws.Kinds.an-extreme, Laws.Kinds.operand-kind}
 use Rattle.table.specs.declared.kinds.OperandClass.the-variants as AsOperand
-use Rattle.table.specs.Kinds.{kindOf, extremum, aSeries}
-use Rattle.table.specs.Nodes.{childCount, childFits}
-use Rattle.table.specs.Forest.{Forest, sorts, Fitting}
 use Rattle.table.specs.Forest as Forest
-use Rattle.table.specs.Trees.{Operand, reach}
-use Rattle.table.specs.Series.{asSeries, asOperand, seriesBy}
-use Rattle.table.specs.Reading.{child, operandBy, operandFrom, operands}
-use Rattle.table.specs.Writing.{write, writeSeries}
-use Rattle.table.specs.Limits.{Within, WithinSeries}
-use Rattle.table.specs.Laws.Kinds.{OperandKind, a-const, a-ref, a-price, a-prev, an-arith, an-extreme, operand-kind}
 
 -- an operand that is a series
 abbrev pub IsSeries : Operand → Type 0

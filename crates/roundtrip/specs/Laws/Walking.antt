@@ -1,31 +1,16 @@
 -- Laws for whoever walks an accepted table's trees with its array of ends: what stands below a node and after it, and what it
 -- reads as. `WholeTree` is of Accepted, `tree-whole` gives it for each tree of an accepted table.
 -- Assumes nothing.
-use mathlib.Core.Path.{_≡_, refl, sym, _∙_, ap}
-use mathlib.Core.List.{List, [], _∷_}
-use Prim.Native.Nat.{ℕ, zero, suc, _+_, _-_, _≤_, _<_}
-use native.Mathlib.Omega.{arith}
-use native.Mathlib.Nat.{eq-zero-or-pos}
-use mathlib.Core.Logic.{⊎-elim}
-use lib.ListN.{replicate}
-use Rattle.words.specs.Limits.{mostNesting}
-use Rattle.table.specs.declared.nodes.Node.{Node}
-use Rattle.table.specs.declared.answer.Answer.the-variants.{Accepted}
-use Rattle.table.specs.declared.places.Place.the-variants.{Nowhere}
-use Rattle.table.specs.Header.{count, root}
-use Rattle.table.specs.Nodes.{nodeAt, sortAt, childCountAt, childSortAt}
-use Rattle.table.specs.Order.{orPlace}
-use Rattle.table.specs.Forest.{Forest, forestOf, firstTrees, otherTrees, nodeOver, trees, sorts, Sorted}
+use Rattle.words.specs.Prelude.{_≡_, refl, sym, _∙_, ap, List, [], _∷_, ℕ, zero, suc, _+_, _-_, _≤_, _<_, arith, eq-zero-or-pos, ⊎-elim, replicate}
+use Rattle.words.specs.{Limits.mostNesting}
+use Rattle.table.specs.{declared.nodes.Node.Node, declared.answer.Answer.the-variants.Accepted, declared.places.Place.the-variants.Nowhere, Header.count}
+use Rattle.table.specs.{Header.root, Nodes.nodeAt, Nodes.sortAt, Nodes.childCountAt, Nodes.childSortAt, Order.orPlace, Forest.Forest, Forest.forestOf}
+use Rattle.table.specs.{Forest.firstTrees, Forest.otherTrees, Forest.nodeOver, Forest.trees, Forest.sorts, Forest.Sorted, Nesting.deeper, Checked.checked}
+use Rattle.table.specs.{Ends.Link, Trees.none, Trees.more, Reading.treeOf, Reading.child, Reading.operandFrom, Reading.operands, Reading.firstOf}
+use Rattle.table.specs.{Reading.conditionFrom, Reading.conditions, Reading.operandsAt, Reading.conditionsAt, Reading.operandAt, Reading.conditionAt}
+use Rattle.table.specs.{Laws.Forest.left-suc, Laws.Forest.left-zero, Laws.Forest.first-none, Laws.Order.never-at, Laws.Accepted.or-none, Laws.Accepted.WholeTree}
+use Rattle.table.specs.{Laws.Accepted.tree-sorts, Laws.Accepted.tree-nesting}
 use Rattle.table.specs.Forest as Forest
-use Rattle.table.specs.Nesting.{deeper}
-use Rattle.table.specs.Checked.{checked}
-use Rattle.table.specs.Ends.{Link}
-use Rattle.table.specs.Trees.{none, more}
-use Rattle.table.specs.Reading.{treeOf, child, operandFrom, operands, firstOf, conditionFrom, conditions, operandsAt, conditionsAt, operandAt}
-use Rattle.table.specs.Reading.{conditionAt}
-use Rattle.table.specs.Laws.Forest.{left-suc, left-zero, first-none}
-use Rattle.table.specs.Laws.Order.{never-at}
-use Rattle.table.specs.Laws.Accepted.{or-none, WholeTree, tree-sorts, tree-nesting}
 
 -- ---- what stands where
 

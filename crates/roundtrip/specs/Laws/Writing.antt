@@ -1,32 +1,23 @@
 -- Where each node's own bytes are right and each has the children that its kind takes, writing what the forest reads as gives
 -- the forest's own nodes back, in prefix order.
 -- Assumes nothing.
-use mathlib.Core.Path.{_≡_, refl, sym, _∙_, ap}
-use mathlib.Core.Bool.{true, cond}
-use mathlib.Core.List.{List, _++_, append-assoc, append-nil}
-use Prim.Native.Nat.{ℕ, zero, suc, _+_, _<_}
-use native.Mathlib.Omega.{arith}
-use lib.ListN.{length, replicate, length-replicate}
-use lib.Dec.{eqb}
-use borrow.Author.Tests.{eqb-true}
-use Rattle.table.specs.declared.nodes.Node.{Node}
-use Rattle.table.specs.declared.kinds.Kind.{Kind}
-use Rattle.table.specs.declared.header.Form.{Form}
-use Rattle.table.specs.Kinds.{kindOf, constant, reference, price, previous, arithmetic, extremum}
-use Rattle.table.specs.Kinds.{comparison, crossing, between, trend, allOf, anyOf, negation, position, barsSince}
-use Rattle.table.specs.Nodes.{childCount, childrenRight, nRight, constantRight, ownRight}
-use Rattle.table.specs.Forest.{Forest, sorts, Sorted, flat}
+use Rattle.words.specs.Prelude.{_≡_, refl, sym, _∙_, ap, true, cond, List, _++_, append-assoc, append-nil, ℕ, zero, suc, _+_, _<_, arith, length, replicate}
+use Rattle.words.specs.Prelude.{length-replicate, eqb, eqb-true}
+use Rattle.table.specs.{declared.nodes.Node.Node, declared.kinds.Kind.Kind, declared.header.Form.Form, Kinds.kindOf, Kinds.constant, Kinds.reference, Kinds.price}
+use Rattle.table.specs.{Kinds.previous, Kinds.arithmetic, Kinds.extremum, Kinds.comparison, Kinds.crossing, Kinds.between, Kinds.trend, Kinds.allOf, Kinds.anyOf}
+use Rattle.table.specs.{Kinds.negation, Kinds.position, Kinds.barsSince, Nodes.childCount, Nodes.childrenRight, Nodes.nRight, Nodes.constantRight, Nodes.ownRight}
+use Rattle.table.specs.{Forest.Forest, Forest.sorts, Forest.Sorted, Forest.flat, Trees.Operand, Trees.none, Reading.child, Reading.operandBy, Reading.operandFrom}
+use Rattle.table.specs.{Reading.operands, Reading.conditionBy, Reading.conditionFrom, Reading.conditions, Writing.node, Writing.nodeBytes, Writing.nodesBytes}
+use Rattle.table.specs.{Writing.writeSeries, Writing.write, Writing.writeRow, Writing.manyOf, Writing.writeOf, Writing.writeAll, Series.asSeries}
+use Rattle.table.specs.{Laws.Kinds.OperandKind, Laws.Kinds.a-const, Laws.Kinds.a-ref, Laws.Kinds.a-price, Laws.Kinds.a-prev, Laws.Kinds.an-arith}
+use Rattle.table.specs.{Laws.Kinds.an-extreme, Laws.Kinds.operand-kind, Laws.Kinds.ConditionKind, Laws.Kinds.a-compare, Laws.Kinds.a-cross, Laws.Kinds.a-between}
+use Rattle.table.specs.{Laws.Kinds.a-trend, Laws.Kinds.an-all, Laws.Kinds.an-any, Laws.Kinds.a-not, Laws.Kinds.a-position, Laws.Kinds.a-count}
+use Rattle.table.specs.{Laws.Kinds.condition-kind}
+use Rattle.roundtrip.specs.{Laws.Series.IsSeries, Laws.Series.series-child, Laws.Series.leaf-written, Laws.Reading.as-many, Laws.Reading.many-conditions}
+use Rattle.roundtrip.specs.{Laws.Reading.row-none, Laws.Reading.row-one, Laws.Reading.row-two, Laws.Reading.row-three, Laws.Reading.operands-below}
+use Rattle.roundtrip.specs.{Laws.NodeBytes.tree-bytes, Laws.NodeBytes.no-bytes, Laws.OwnBytes.all-one, Laws.OwnBytes.OwnFields, Laws.OwnBytes.own-fields}
+use Rattle.roundtrip.specs.{Laws.OwnBytes.bytes-by-fields, Laws.OwnBytes.number-node, Laws.OwnBytes.plain-node}
 use Rattle.table.specs.Forest as Forest
-use Rattle.table.specs.Trees.{Operand, none}
-use Rattle.table.specs.Reading.{child, operandBy, operandFrom, operands, conditionBy, conditionFrom, conditions}
-use Rattle.table.specs.Writing.{node, nodeBytes, nodesBytes, writeSeries, write, writeRow, manyOf, writeOf, writeAll}
-use Rattle.table.specs.Series.{asSeries}
-use Rattle.table.specs.Laws.Kinds.{OperandKind, a-const, a-ref, a-price, a-prev, an-arith, an-extreme, operand-kind}
-use Rattle.roundtrip.specs.Laws.Series.{IsSeries, series-child, leaf-written}
-use Rattle.table.specs.Laws.Kinds.{ConditionKind, a-compare, a-cross, a-between, a-trend, an-all, an-any, a-not, a-position, a-count, condition-kind}
-use Rattle.roundtrip.specs.Laws.Reading.{as-many, many-conditions, row-none, row-one, row-two, row-three, operands-below}
-use Rattle.roundtrip.specs.Laws.NodeBytes.{tree-bytes, no-bytes}
-use Rattle.roundtrip.specs.Laws.OwnBytes.{all-one, OwnFields, own-fields, bytes-by-fields, number-node, plain-node}
 
 -- ---- an operand's node, over the operands below it
 

@@ -1,40 +1,21 @@
 -- The table of a rule within the limits breaks no rule, and holds that rule.
 -- Assumes nothing.
-use mathlib.Core.Path.{_≡_, refl, sym, _∙_, ap, subst}
-use mathlib.Core.Bool.{true, false}
-use mathlib.Core.List.{List, [], _++_, append-nil, append-assoc}
-use Prim.Native.Nat.{ℕ, zero, suc, _+_, _*_, _≤_, max}
-use native.Mathlib.Omega.{arith}
-use lib.ListN.{length, length-append}
-use lib.Dec.{ltb, eqb}
-use borrow.Author.Tests.{le-ltb, le-leb, eq-eqb}
-use Rattle.words.specs.Limits.{mostSlots, mostNesting, mostNodes}
-use Rattle.table.specs.declared.places.Place.{Place}
-use Rattle.table.specs.declared.places.Place.the-variants.{Nowhere}
-use Rattle.table.specs.declared.answer.Answer.the-variants.{Accepted}
-use Rattle.table.specs.declared.header.Form.{Form}
-use Rattle.table.specs.Bytes.{u16}
-use Rattle.table.specs.Header.{newestVersion, slots, version, formOf, total, count, root, markRight, versionRight, countsRight, headerRefusal}
-use Rattle.table.specs.Nodes.{wrongNode}
-use Rattle.table.specs.Order.{misfit, misfits, orPlace, ofFour}
-use Rattle.table.specs.Forest.{Forest, trees, forestOf}
+use Rattle.words.specs.Prelude.{_≡_, refl, sym, _∙_, ap, subst, true, false, List, [], _++_, append-nil, append-assoc, ℕ, zero, suc, _+_, _*_, _≤_, max, arith}
+use Rattle.words.specs.Prelude.{length, length-append, ltb, eqb, le-ltb, le-leb, eq-eqb}
+use Rattle.words.specs.{Limits.mostSlots, Limits.mostNesting, Limits.mostNodes}
+use Rattle.table.specs.{declared.places.Place.Place, declared.places.Place.the-variants.Nowhere, declared.answer.Answer.the-variants.Accepted}
+use Rattle.table.specs.{declared.header.Form.Form, Bytes.u16, Header.newestVersion, Header.slots, Header.version, Header.formOf, Header.total, Header.count}
+use Rattle.table.specs.{Header.root, Header.markRight, Header.versionRight, Header.countsRight, Header.headerRefusal, Nodes.wrongNode, Order.misfit, Order.misfits}
+use Rattle.table.specs.{Order.orPlace, Order.ofFour, Forest.Forest, Forest.trees, Forest.forestOf, Nesting.deeper, Nesting.tooDeep, Reach.treeReach, Reach.farAt}
+use Rattle.table.specs.{Reach.tooFar, Reach.rowsNeeded, Checked.checked, Trees.Condition, Trees.reachOf, Reading.conditions, Reading.firstOf, Reading.treeOf}
+use Rattle.table.specs.{Writing.le16, Writing.writeOf, Writing.nodesOf, Writing.Short, Writing.given, Writing.Rule, Writing.nodesOfShort, Writing.writeShort}
+use Rattle.table.specs.{Writing.nodesOfRule, Writing.headerOf, Writing.tableOf, Writing.ruleOf, Limits.ShortWithin, Limits.RuleWithin, Laws.Accepted.all-kept}
+use Rattle.roundtrip.specs.{Laws.WrittenNodes.pair, Laws.WrittenNodes.From, Laws.WrittenNodes.from-past, Laws.AcceptedWritten.short-long}
+use Rattle.roundtrip.specs.{Laws.WrittenForestRead.readsOf, Laws.WrittenTrees.wrong-two, Laws.WrittenTrees.reachOfShort, Laws.WrittenTrees.plantShort}
+use Rattle.roundtrip.specs.{Laws.WrittenTrees.short-grows, Laws.WrittenTrees.TreeHolds, Laws.WrittenTrees.planted, Laws.WrittenTrees.held-deep}
+use Rattle.roundtrip.specs.{Laws.WrittenTrees.held-reach, Laws.WrittenTrees.held-near, Laws.WrittenTrees.held-fits, Laws.WrittenTrees.held-right}
+use Rattle.roundtrip.specs.{Laws.WrittenTrees.held-reads, Laws.WrittenForest.some-nodes, Laws.WrittenForest.condition-long}
 use Rattle.table.specs.Forest as Forest
-use Rattle.table.specs.Nesting.{deeper, tooDeep}
-use Rattle.table.specs.Reach.{treeReach, farAt, tooFar, rowsNeeded}
-use Rattle.table.specs.Checked.{checked}
-use Rattle.table.specs.Trees.{Condition, reachOf}
-use Rattle.table.specs.Reading.{conditions, firstOf, treeOf}
-use Rattle.table.specs.Writing.{le16, writeOf, nodesOf, Short, given, Rule, nodesOfShort, writeShort, nodesOfRule, headerOf, tableOf}
-use Rattle.table.specs.Writing.{ruleOf}
-use Rattle.table.specs.Limits.{ShortWithin, RuleWithin}
-use Rattle.table.specs.Laws.Accepted.{all-kept}
-use Rattle.roundtrip.specs.Laws.WrittenNodes.{pair, From, from-past}
-use Rattle.roundtrip.specs.Laws.AcceptedWritten.{short-long}
-use Rattle.roundtrip.specs.Laws.WrittenForestRead.{readsOf}
-use Rattle.roundtrip.specs.Laws.WrittenTrees.{wrong-two, reachOfShort, plantShort, short-grows}
-use Rattle.roundtrip.specs.Laws.WrittenTrees.{TreeHolds, planted, held-deep, held-reach, held-near}
-use Rattle.roundtrip.specs.Laws.WrittenTrees.{held-fits, held-right, held-reads}
-use Rattle.roundtrip.specs.Laws.WrittenForest.{some-nodes, condition-long}
 
 module _ (form : Form) (r : Rule) where
   abbrev t : List ℕ

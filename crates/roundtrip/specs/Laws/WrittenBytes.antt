@@ -1,23 +1,14 @@
 -- The table of a rule within the limits is a byte string: each of its numbers is below 256.
 -- Assumes nothing.
-use mathlib.Core.List.{List, [], _∷_, _++_}
-use Prim.Native.Nat.{ℕ, zero, suc, _/_, _%_, _≤_, _<_}
-use native.Mathlib.Omega.{arith}
-use lib.ListN.{getD}
-use Rattle.words.specs.Limits.{mostSlots, mostNodes}
-use Rattle.table.specs.declared.header.Form.{Form}
-use Rattle.table.specs.declared.nodes.Node.{Node}
-use Rattle.table.specs.Forest.{Forest, flat}
+use Rattle.words.specs.Prelude.{List, [], _∷_, _++_, ℕ, zero, suc, _/_, _%_, _≤_, _<_, arith, getD}
+use Rattle.words.specs.{Limits.mostSlots, Limits.mostNodes}
+use Rattle.table.specs.{declared.header.Form.Form, declared.nodes.Node.Node, Forest.Forest, Forest.flat, Trees.Condition, Writing.le16, Writing.le32, Writing.le64}
+use Rattle.table.specs.{Writing.node, Writing.nodeBytes, Writing.nodesBytes, Writing.writeOf, Writing.nodesOf, Writing.Short, Writing.absent, Writing.given}
+use Rattle.table.specs.{Writing.Rule, Writing.nodesOfShort, Writing.writeShort, Writing.nodesOfRule, Writing.headerOf, Writing.tableOf, Limits.WithinOf}
+use Rattle.table.specs.{Limits.ShortWithin, Limits.RuleWithin, Bytes.Bytes}
+use Rattle.roundtrip.specs.{Laws.OwnBytes.NodeFits, Laws.OwnBytes.FieldsFit, Laws.WrittenForestKept.fieldsOf, Laws.NodeBytes.tree-bytes}
+use Rattle.roundtrip.specs.{Laws.WrittenForest.plantOf, Laws.WrittenForest.condition-bytes}
 use Rattle.table.specs.Forest as Forest
-use Rattle.table.specs.Trees.{Condition}
-use Rattle.table.specs.Writing.{le16, le32, le64, node, nodeBytes, nodesBytes, writeOf, nodesOf, Short, absent, given, Rule}
-use Rattle.table.specs.Writing.{nodesOfShort, writeShort, nodesOfRule, headerOf, tableOf}
-use Rattle.table.specs.Limits.{WithinOf, ShortWithin, RuleWithin}
-use Rattle.table.specs.Bytes.{Bytes}
-use Rattle.roundtrip.specs.Laws.OwnBytes.{NodeFits, FieldsFit}
-use Rattle.roundtrip.specs.Laws.WrittenForestKept.{fieldsOf}
-use Rattle.roundtrip.specs.Laws.NodeBytes.{tree-bytes}
-use Rattle.roundtrip.specs.Laws.WrittenForest.{plantOf, condition-bytes}
 
 unfoldable AllBytes : List ℕ → Type 0
 AllBytes [] = Unit

@@ -1,21 +1,14 @@
 -- The forest of a tree that is written in a table: its nodes with their numbers, over their children.
 -- Assumes nothing.
-use mathlib.Core.Path.{_≡_, refl, sym, ap, _∙_}
-use mathlib.Core.Bool.{cond}
-use mathlib.Core.List.{List, _++_, append-assoc, append-nil}
-use Prim.Native.Nat.{ℕ, _+_, _*_}
-use native.Mathlib.Omega.{arith}
-use lib.ListN.{length}
-use Rattle.table.specs.declared.nodes.Node.{Node}
-use Rattle.table.specs.declared.series.Series.{Series}
-use Rattle.table.specs.declared.series.Series.the-variants.{Price, Slot}
+use Rattle.words.specs.Prelude.{_≡_, refl, sym, ap, _∙_, cond, List, _++_, append-assoc, append-nil, ℕ, _+_, _*_, arith, length}
+use Rattle.table.specs.{declared.nodes.Node.Node, declared.series.Series.Series, declared.series.Series.the-variants.Price}
+use Rattle.table.specs.{declared.series.Series.the-variants.Slot, Forest.Forest, Forest.size, Forest.flat, Trees.Operand, Trees.const, Trees.ref, Trees.price}
+use Rattle.table.specs.{Trees.prev, Trees.arith as sums, Trees.extreme, Trees.Condition, Trees.Conditions, Trees.compare, Trees.cross, Trees.between, Trees.trend}
+use Rattle.table.specs.{Trees.every, Trees.any, Trees.negated, Trees.inPosition, Trees.barsSince, Trees.none, Trees.more, Writing.nodeBytes, Writing.nodesBytes}
+use Rattle.table.specs.{Writing.writeSeries, Writing.write, Writing.nodesIn, Writing.manyOf, Writing.writeOf, Writing.writeAll, Writing.nodesOf, Writing.nodesOfAll}
+use Rattle.roundtrip.specs.{Laws.NodeBytes.tree-bytes, Laws.NodeBytes.no-bytes, Laws.NodeBytes.forest-long}
 use Rattle.table.specs.Named as Named
-use Rattle.table.specs.Forest.{Forest, size, flat}
 use Rattle.table.specs.Forest as Forest
-use Rattle.table.specs.Trees.{Operand, const, ref, price, prev, arith as sums, extreme, Condition, Conditions, compare, cross, between, trend, every}
-use Rattle.table.specs.Trees.{any, negated, inPosition, barsSince, none, more}
-use Rattle.table.specs.Writing.{nodeBytes, nodesBytes, writeSeries, write, nodesIn, manyOf, writeOf, writeAll, nodesOf, nodesOfAll}
-use Rattle.roundtrip.specs.Laws.NodeBytes.{tree-bytes, no-bytes, forest-long}
 
 abbrev pub nd : ℕ → ℕ → ℕ → ℕ → ℕ → ℕ → Node
 nd i kind selector children n constant = record { number = i; kind = kind; selector = selector; children = children; n = n; constant = constant }

@@ -1,32 +1,20 @@
 -- The forest of a tree within the limits keeps the rules of a table: own bytes, sorts and children.
 -- Assumes nothing.
-use mathlib.Core.Path.{_≡_, refl, _∙_, ap}
-use mathlib.Core.Bool.{true, false}
-use mathlib.Core.List.{List, [], _∷_}
-use Prim.Native.Nat.{ℕ, _+_, _-_, _≤_, _<_}
-use lib.ListN.{replicate}
-use lib.Dec.{eqb}
-use borrow.Author.Tests.{lt-ltb, le-leb}
-use Rattle.words.specs.Limits.{mostReach, mostSlots, mostNodes}
-use Rattle.table.specs.declared.nodes.Node.{Node}
-use Rattle.table.specs.declared.kinds.Kind.{Kind}
-use Rattle.table.specs.declared.header.Form.{Form}
-use Rattle.table.specs.declared.series.Series.{Series}
-use Rattle.table.specs.declared.series.Series.the-variants.{Price, Slot}
+use Rattle.words.specs.Prelude.{_≡_, refl, _∙_, ap, true, false, List, [], _∷_, ℕ, _+_, _-_, _≤_, _<_, replicate, eqb, lt-ltb, le-leb, arith}
+use Rattle.words.specs.{Limits.mostReach, Limits.mostSlots, Limits.mostNodes}
+use Rattle.table.specs.{declared.nodes.Node.Node, declared.kinds.Kind.Kind, declared.header.Form.Form, declared.series.Series.Series}
+use Rattle.table.specs.{declared.series.Series.the-variants.Price, declared.series.Series.the-variants.Slot, Kinds.kinds, Kinds.kindOf, Kinds.versions}
+use Rattle.table.specs.{Kinds.sinceOf, Kinds.overASeries, Kinds.previous, Kinds.arithmetic, Kinds.extremum, Kinds.comparison, Kinds.crossing, Kinds.allOf}
+use Rattle.table.specs.{Kinds.anyOf, Kinds.negation, Nodes.childCount, Nodes.childFits, Nodes.kindRight, Nodes.fieldsRight, Nodes.childrenRight, Nodes.nRight}
+use Rattle.table.specs.{Nodes.constantRight, Nodes.ownRight, Forest.Forest, Forest.sorts, Forest.Fitting, Forest.Sorted, Trees.Operand, Trees.const, Trees.ref}
+use Rattle.table.specs.{Trees.price, Trees.prev, Trees.arith as sums, Trees.extreme, Trees.Condition, Trees.Conditions, Trees.compare, Trees.cross, Trees.between}
+use Rattle.table.specs.{Trees.trend, Trees.every, Trees.any, Trees.negated, Trees.inPosition, Trees.barsSince, Trees.none, Trees.more, Writing.manyOf}
+use Rattle.table.specs.{Writing.nodesIn, Writing.nodesOf, Writing.nodesOfAll, Limits.WithinSeries, Limits.Within, Limits.WithinOf, Limits.WithinAll}
+use Rattle.table.specs.{Laws.Kinds.known}
+use Rattle.roundtrip.specs.{Laws.OwnBytes.NodeFits, Laws.OwnBytes.FieldsFit, Laws.Writing.Right, Laws.WrittenForest.plantSeries, Laws.WrittenForest.plant}
+use Rattle.roundtrip.specs.{Laws.WrittenForest.plantOf, Laws.WrittenForest.plantAll, Laws.WrittenForest.nd, Laws.WrittenForest.some-nodes}
 use Rattle.table.specs.Kinds as Kinds
-use Rattle.table.specs.Kinds.{kinds, kindOf, versions, sinceOf, overASeries, previous, arithmetic, extremum, comparison, crossing, allOf, anyOf, negation}
-use Rattle.table.specs.Nodes.{childCount, childFits, kindRight, fieldsRight, childrenRight, nRight, constantRight, ownRight}
-use Rattle.table.specs.Forest.{Forest, sorts, Fitting, Sorted}
 use Rattle.table.specs.Forest as Forest
-use Rattle.table.specs.Trees.{Operand, const, ref, price, prev, arith as sums, extreme, Condition, Conditions, compare, cross, between, trend, every}
-use Rattle.table.specs.Trees.{any, negated, inPosition, barsSince, none, more}
-use Rattle.table.specs.Writing.{manyOf, nodesIn, nodesOf, nodesOfAll}
-use Rattle.table.specs.Limits.{WithinSeries, Within, WithinOf, WithinAll}
-use Rattle.roundtrip.specs.Laws.OwnBytes.{NodeFits, FieldsFit}
-use Rattle.roundtrip.specs.Laws.Writing.{Right}
-use Rattle.roundtrip.specs.Laws.WrittenForest.{plantSeries, plant, plantOf, plantAll, nd, some-nodes}
-use native.Mathlib.Omega.{arith}
-use Rattle.table.specs.Laws.Kinds.{known}
 
 -- ---- own bytes
 

@@ -1,28 +1,15 @@
 -- The forest of a tree within the limits is no deeper than the tree, and reads as the tree.
 -- Assumes nothing.
-use mathlib.Core.Path.{_≡_, refl, _∙_, ap}
-use mathlib.Core.Bool.{Bool, true, false, cond}
-use mathlib.Core.List.{List, [], _∷_}
-use Prim.Native.Nat.{ℕ, zero, suc, _+_, _-_, _≤_, _<_}
-use native.Mathlib.Omega.{arith}
-use lib.Dec.{eqb}
-use Rattle.table.specs.declared.nodes.Node.{Node}
-use Rattle.table.specs.declared.header.Form.{Form}
-use Rattle.table.specs.declared.series.Series.{Series}
-use Rattle.table.specs.declared.series.Series.the-variants.{Price, Slot}
-use Rattle.table.specs.declared.places.Place.the-variants.{Nowhere}
-use Rattle.table.specs.Kinds.{kinds, kindOf}
-use Rattle.table.specs.Order.{orPlace}
-use Rattle.table.specs.Forest.{Forest}
+use Rattle.words.specs.Prelude.{_≡_, refl, _∙_, ap, Bool, true, false, cond, List, [], _∷_, ℕ, zero, suc, _+_, _-_, _≤_, _<_, arith, eqb}
+use Rattle.table.specs.{declared.nodes.Node.Node, declared.header.Form.Form, declared.series.Series.Series, declared.series.Series.the-variants.Price}
+use Rattle.table.specs.{declared.series.Series.the-variants.Slot, declared.places.Place.the-variants.Nowhere, Kinds.kinds, Kinds.kindOf, Order.orPlace}
+use Rattle.table.specs.{Forest.Forest, Nesting.deeper, Trees.Operand, Trees.const, Trees.ref, Trees.price, Trees.prev, Trees.arith as sums, Trees.extreme}
+use Rattle.table.specs.{Trees.Condition, Trees.Conditions, Trees.compare, Trees.cross, Trees.between, Trees.trend, Trees.every, Trees.any, Trees.negated}
+use Rattle.table.specs.{Trees.inPosition, Trees.barsSince, Trees.none, Trees.more, Reading.child, Reading.operandBy, Reading.operandFrom, Reading.operands}
+use Rattle.table.specs.{Reading.firstOf, Reading.conditionBy, Reading.conditionFrom, Reading.conditions, Series.asSeries, Writing.nodesIn, Writing.nodesOf}
+use Rattle.table.specs.{Limits.Within, Limits.WithinOf, Limits.WithinAll, Limits.levels, Limits.levelsOf, Limits.levelsOfAll}
+use Rattle.roundtrip.specs.{Laws.WrittenForest.plantSeries, Laws.WrittenForest.plant, Laws.WrittenForest.plantOf, Laws.WrittenForest.plantAll}
 use Rattle.table.specs.Forest as Forest
-use Rattle.table.specs.Nesting.{deeper}
-use Rattle.table.specs.Trees.{Operand, const, ref, price, prev, arith as sums, extreme, Condition, Conditions, compare, cross, between, trend, every}
-use Rattle.table.specs.Trees.{any, negated, inPosition, barsSince, none, more}
-use Rattle.table.specs.Reading.{child, operandBy, operandFrom, operands, firstOf, conditionBy, conditionFrom, conditions}
-use Rattle.table.specs.Series.{asSeries}
-use Rattle.table.specs.Writing.{nodesIn, nodesOf}
-use Rattle.table.specs.Limits.{Within, WithinOf, WithinAll, levels, levelsOf, levelsOfAll}
-use Rattle.roundtrip.specs.Laws.WrittenForest.{plantSeries, plant, plantOf, plantAll}
 
 -- ---- depth
 

@@ -1,23 +1,14 @@
 -- The nodes of a tree that is written in a table grow the tree's forest.
 -- Assumes nothing.
-use mathlib.Core.Path.{_≡_, refl, sym, _∙_, ap}
-use mathlib.Core.List.{List, _++_, append-assoc}
-use Prim.Native.Nat.{ℕ, suc, _+_}
-use native.Mathlib.Omega.{arith}
-use lib.ListN.{length, replicate, length-replicate}
-use Rattle.table.specs.declared.nodes.Node.{Node}
-use Rattle.table.specs.declared.header.Form.{Form}
-use Rattle.table.specs.Kinds.{kindOf}
-use Rattle.table.specs.Nodes.{nodeAt, childCount, childCountAt}
-use Rattle.table.specs.Forest.{Forest, firstTrees, otherTrees, nodeOver, trees, size, flat, sorts, Sorted}
+use Rattle.words.specs.Prelude.{_≡_, refl, sym, _∙_, ap, List, _++_, append-assoc, ℕ, suc, _+_, arith, length, replicate, length-replicate}
+use Rattle.table.specs.{declared.nodes.Node.Node, declared.header.Form.Form, Kinds.kindOf, Nodes.nodeAt, Nodes.childCount, Nodes.childCountAt, Forest.Forest}
+use Rattle.table.specs.{Forest.firstTrees, Forest.otherTrees, Forest.nodeOver, Forest.trees, Forest.size, Forest.flat, Forest.sorts, Forest.Sorted, Trees.Condition}
+use Rattle.table.specs.{Limits.WithinOf, Writing.nodeBytes, Writing.nodesBytes, Writing.writeOf, Writing.nodesOf}
+use Rattle.roundtrip.specs.{Laws.NodeBytes.tree-bytes, Laws.NodeBytes.forest-long, Laws.WrittenForest.nd, Laws.WrittenForest.plantOf}
+use Rattle.roundtrip.specs.{Laws.WrittenForest.NumberedFrom, Laws.WrittenForest.condition-nodes, Laws.WrittenForest.condition-bytes}
+use Rattle.roundtrip.specs.{Laws.WrittenForestKept.sortedOf, Laws.WrittenNodes.From, Laws.WrittenNodes.node-there, Laws.WrittenNodes.nodes-after}
+use Rattle.roundtrip.specs.{Laws.WrittenNodes.from-past}
 use Rattle.table.specs.Forest as Forest
-use Rattle.table.specs.Trees.{Condition}
-use Rattle.table.specs.Limits.{WithinOf}
-use Rattle.table.specs.Writing.{nodeBytes, nodesBytes, writeOf, nodesOf}
-use Rattle.roundtrip.specs.Laws.NodeBytes.{tree-bytes, forest-long}
-use Rattle.roundtrip.specs.Laws.WrittenForest.{nd, plantOf, NumberedFrom, condition-nodes, condition-bytes}
-use Rattle.roundtrip.specs.Laws.WrittenForestKept.{sortedOf}
-use Rattle.roundtrip.specs.Laws.WrittenNodes.{From, node-there, nodes-after, from-past}
 
 -- ---- trees in a row, and others after them
 

@@ -1,15 +1,8 @@
 -- A node that is written in a table stands there, and what is written after it stands after it.
 -- Assumes nothing.
-use mathlib.Core.Path.{_≡_, sym, _∙_, ap}
-use mathlib.Core.List.{List, _++_}
-use Prim.Native.Nat.{ℕ, _+_, _*_, _/_, _%_}
-use native.Mathlib.Omega.{arith}
-use lib.ListN.{length, getD, drop}
-use lib.Seq.{getD-drop, drop-drop, drop-at}
-use Rattle.table.specs.Bytes.{u16, u32, u64}
-use Rattle.table.specs.Nodes.{nodeAt}
-use Rattle.table.specs.Writing.{le16, le32, le64, node}
-use Rattle.roundtrip.specs.Laws.WrittenForest.{nd}
+use Rattle.words.specs.Prelude.{_≡_, sym, _∙_, ap, List, _++_, ℕ, _+_, _*_, _/_, _%_, arith, length, getD, drop, getD-drop, drop-drop, drop-at}
+use Rattle.table.specs.{Bytes.u16, Bytes.u32, Bytes.u64, Nodes.nodeAt, Writing.le16, Writing.le32, Writing.le64, Writing.node}
+use Rattle.roundtrip.specs.{Laws.WrittenForest.nd}
 
 -- the bytes of the nodes from node i on
 abbrev pub From : List ℕ → ℕ → List ℕ → Type 0

@@ -1,38 +1,19 @@
 -- A tree within the limits, or none, that a table holds: it breaks no rule there, and is read back.
 -- Assumes nothing.
-use mathlib.Core.Path.{_≡_, refl, sym, _∙_, ap, subst}
-use mathlib.Core.Bool.{Bool, true, false, cond, not}
-use mathlib.Core.List.{List, [], _∷_, _++_}
-use Prim.Native.Nat.{ℕ, zero, suc, _+_, _≤_}
-use native.Mathlib.Omega.{arith}
-use native.Mathlib.Nat.{add-zero, suc-add}
-use lib.ListN.{replicate}
-use lib.Dec.{eqb}
-use borrow.Author.Tests.{le-ltb, eq-eqb, ne-eqb}
-use Rattle.words.specs.Limits.{mostNesting, mostReach}
-use Rattle.table.specs.declared.places.Place.the-variants.{Nowhere}
-use Rattle.table.specs.declared.header.Form.{Form}
-use Rattle.table.specs.Kinds.{kindOf, overASeries}
-use Rattle.table.specs.Header.{formOf, count, root}
-use Rattle.table.specs.Nodes.{nodeAt, nodeRight, wrongNode, sortAt, childCount, childCountAt, childSortAt, childFits, childFitsAt}
-use Rattle.table.specs.Order.{fits, misfit}
-use Rattle.table.specs.Forest.{Forest, firstTrees, otherTrees, nodeOver, trees, forestOf, sorts, Fitting, Sorted}
+use Rattle.words.specs.Prelude.{_≡_, refl, sym, _∙_, ap, subst, Bool, true, false, cond, not, List, [], _∷_, _++_, ℕ, zero, suc, _+_, _≤_, arith, add-zero, suc-add}
+use Rattle.words.specs.Prelude.{replicate, eqb, le-ltb, eq-eqb, ne-eqb}
+use Rattle.words.specs.{Limits.mostNesting, Limits.mostReach}
+use Rattle.table.specs.{declared.places.Place.the-variants.Nowhere, declared.header.Form.Form, Kinds.kindOf, Kinds.overASeries, Header.formOf, Header.count}
+use Rattle.table.specs.{Header.root, Nodes.nodeAt, Nodes.nodeRight, Nodes.wrongNode, Nodes.sortAt, Nodes.childCount, Nodes.childCountAt, Nodes.childSortAt}
+use Rattle.table.specs.{Nodes.childFits, Nodes.childFitsAt, Order.fits, Order.misfit, Forest.Forest, Forest.firstTrees, Forest.otherTrees, Forest.nodeOver}
+use Rattle.table.specs.{Forest.trees, Forest.forestOf, Forest.sorts, Forest.Fitting, Forest.Sorted, Nesting.deeper, Reach.weigh, Reach.ownBack, Reach.forestReach}
+use Rattle.table.specs.{Reach.treeReach, Reach.farAt, Trees.Condition, Trees.reachOf, Trees.reachOfAll, Reading.conditions, Reading.firstOf, Reading.present}
+use Rattle.table.specs.{Reading.treeOf, Writing.nodesOf, Writing.Short, Writing.absent, Writing.given, Writing.nodesOfShort, Writing.writeShort, Writing.shortOf}
+use Rattle.table.specs.{Limits.WithinOf, Limits.ShortWithin, Laws.Kinds.over-series-one, Laws.Order.test-held}
+use Rattle.roundtrip.specs.{Laws.Reach.all-reach, Laws.Writing.Right, Laws.WrittenForest.plantOf, Laws.WrittenForest.some-nodes, Laws.WrittenNodes.From}
+use Rattle.roundtrip.specs.{Laws.WrittenGrows.growsOf, Laws.WrittenForestKept.rightOf, Laws.WrittenForestKept.sortedOf, Laws.WrittenForestKept.plantOf-sorts}
+use Rattle.roundtrip.specs.{Laws.WrittenForestRead.shallowOf, Laws.WrittenForestRead.readsOf}
 use Rattle.table.specs.Forest as Forest
-use Rattle.table.specs.Nesting.{deeper}
-use Rattle.table.specs.Reach.{weigh, ownBack, forestReach, treeReach, farAt}
-use Rattle.table.specs.Trees.{Condition, reachOf, reachOfAll}
-use Rattle.table.specs.Reading.{conditions, firstOf, present, treeOf}
-use Rattle.table.specs.Writing.{nodesOf, Short, absent, given, nodesOfShort, writeShort, shortOf}
-use Rattle.table.specs.Limits.{WithinOf, ShortWithin}
-use Rattle.table.specs.Laws.Kinds.{over-series-one}
-use Rattle.roundtrip.specs.Laws.Reach.{all-reach}
-use Rattle.roundtrip.specs.Laws.Writing.{Right}
-use Rattle.table.specs.Laws.Order.{test-held}
-use Rattle.roundtrip.specs.Laws.WrittenForest.{plantOf, some-nodes}
-use Rattle.roundtrip.specs.Laws.WrittenNodes.{From}
-use Rattle.roundtrip.specs.Laws.WrittenGrows.{growsOf}
-use Rattle.roundtrip.specs.Laws.WrittenForestKept.{rightOf, sortedOf, plantOf-sorts}
-use Rattle.roundtrip.specs.Laws.WrittenForestRead.{shallowOf, readsOf}
 
 -- ---- from the forest back to the rules
 

@@ -1,9 +1,7 @@
 -- Fewer words than slots are fewer than a row; else the width fits. Assumes nothing.
-use borrow.Author.Needs.{needs}
-use native.Mathlib.Omega.{arith}
-use Rattle.rows.specs.History.{historyOf}
-use Rattle.rows.proofs.Places.{no-rows}
-use Rattle.rows.proofs.row_count.Statement.{statement}
+use Rattle.words.specs.Prelude.{needs, arith}
+use Rattle.rows.specs.{History.historyOf}
+use Rattle.rows.proofs.{Places.no-rows, row_count.Statement.statement}
 use Rattle.rows.proofs.row_count.Tie as tie
 
 returns : tie.Need-returns

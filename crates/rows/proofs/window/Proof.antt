@@ -1,11 +1,7 @@
 -- The rows before the last `depth` lie within the list, so the part exists and nothing wraps. Assumes nothing.
-use borrow.Author.Needs.{needs}
-use native.Mathlib.Omega.{arith}
-use Prim.Native.Nat.{_-_, _*_, _≤_}
-use lib.ListN.{length}
-use Rattle.rows.specs.History.{width}
-use Rattle.rows.proofs.Places.{skipped-fit, row-fits, window-all, window-part}
-use Rattle.rows.proofs.window.Statement.{statement}
+use Rattle.words.specs.Prelude.{needs, arith, _-_, _*_, _≤_, length}
+use Rattle.rows.specs.{History.width}
+use Rattle.rows.proofs.{Places.skipped-fit, Places.row-fits, Places.window-all, Places.window-part, window.Statement.statement}
 use Rattle.rows.proofs.window.Tie as tie
 
 fits : (c : tie.Else1) → let a = c .before .before .before .args in (c .before .row-count .result - a .depth) * width (a .slots) ≤ length (a .rows .now)

@@ -1,16 +1,8 @@
 -- A row more in a full room: the rows move up by one, and it goes over the last place.
-use Prim.Native.Nat.{ℕ, _+_, _-_, _*_, _<_, _≤_}
-use mathlib.Core.Path.{_≡_, refl, sym, ap, _∙_}
-use mathlib.Core.List.{List, _++_}
-use native.Mathlib.Omega.{arith}
-use native.Mathlib.Nat.{mul-le-mul-right}
-use lib.ListN.{length, take, drop, length-drop}
-use lib.Seq.{drop-append-add, drop-drop, length-take-le, take-at}
-use borrow.Author.Tests.{le-ltb, ne-eqb}
-use Rattle.words.specs.Words.{overwrite, shifted}
-use Rattle.words.specs.Laws.Overwrite.{overwrite-fits, shifted-fits}
-use Rattle.rows.specs.Room.{placesFor, withRow, heldWith}
-use Rattle.words.specs.Laws.Records.{records-fit}
+use Rattle.words.specs.Prelude.{ℕ, _+_, _-_, _*_, _<_, _≤_, _≡_, refl, sym, ap, _∙_, List, _++_, arith, mul-le-mul-right, length, take, drop, length-drop}
+use Rattle.words.specs.Prelude.{drop-append-add, drop-drop, length-take-le, take-at, le-ltb, ne-eqb}
+use Rattle.words.specs.{Words.overwrite, Words.shifted, Laws.Overwrite.overwrite-fits, Laws.Overwrite.shifted-fits, Laws.Records.records-fit}
+use Rattle.rows.specs.{Room.placesFor, Room.withRow, Room.heldWith}
 
 -- how many words stand from w up to n
 rest-length : (d : List ℕ) (w n : ℕ) → n ≤ length d → length (drop w (take n d)) ≡ n - w

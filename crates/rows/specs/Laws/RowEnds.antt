@@ -1,10 +1,7 @@
 -- The row of a bar that exists lies within the list of words.
-use Prim.Native.Nat.{ℕ, _+_, _*_, _<_, _≤_}
-use mathlib.Core.List.{List}
-use native.Mathlib.Omega.{arith}
-use lib.ListN.{length}
-use Rattle.words.specs.Laws.Records.{record-ends}
-use Rattle.rows.specs.History.{historyOf, width}
+use Rattle.words.specs.Prelude.{ℕ, _+_, _*_, _<_, _≤_, List, arith, length}
+use Rattle.words.specs.{Laws.Records.record-ends}
+use Rattle.rows.specs.{History.historyOf, History.width}
 
 pub row-ends : (K : ℕ) (ws : List ℕ) (i : ℕ) → i < historyOf K ws .rows → i * width K + width K ≤ length ws
 unfolding historyOf

@@ -1,26 +1,12 @@
 -- The answer as the evaluator finds it. Assumes nothing.
-use Prim.Native.Nat.{ℕ, _<_}
-use mathlib.Core.Path.{_≡_, refl, ap}
-use mathlib.Core.Bool.{Bool, true, false, cond}
-use mathlib.Core.List.{List}
-use native.Mathlib.Omega.{arith}
-use lib.Dec.{eqb}
-use borrow.Author.Tests.{eqb-true, eqb-false}
-use Rattle.words.specs.Limits.{mostNesting}
-use Rattle.rows.specs.History.{History}
-use Rattle.table.specs.declared.answer.Answer.the-variants.{Accepted}
-use Rattle.table.specs.Header.{count, root}
-use Rattle.table.specs.Forest.{trees, forestOf}
-use Rattle.table.specs.Checked.{checked}
-use Rattle.table.specs.Ends.{endsBeside}
-use Rattle.table.specs.Reading.{firstOf, conditions, treeOf}
-use Rattle.rules.specs.declared.position.PositionState.{PositionState}
-use Rattle.table.specs.declared.trees.Tree.{Tree}
-use Rattle.table.specs.declared.trees.Tree.the-variants.{Entry, Exit, ShortEntry, ShortExit}
-use Rattle.rules.specs.Meaning.{holds, says}
-use Rattle.rules.specs.Flat.{conditionAt}
-use Rattle.table.specs.Header.{treeNumber}
-use Rattle.rules.specs.Laws.FlatReading.{tree-joined}
+use Rattle.words.specs.Prelude.{ℕ, _<_, _≡_, refl, ap, Bool, true, false, cond, List, arith, eqb, eqb-true, eqb-false}
+use Rattle.words.specs.{Limits.mostNesting}
+use Rattle.rows.specs.{History.History}
+use Rattle.table.specs.{declared.answer.Answer.the-variants.Accepted, Header.count, Header.root, Forest.trees, Forest.forestOf, Checked.checked, Ends.endsBeside}
+use Rattle.table.specs.{Reading.firstOf, Reading.conditions, Reading.treeOf, declared.trees.Tree.Tree, declared.trees.Tree.the-variants.Entry}
+use Rattle.table.specs.{declared.trees.Tree.the-variants.Exit, declared.trees.Tree.the-variants.ShortEntry, declared.trees.Tree.the-variants.ShortExit}
+use Rattle.table.specs.{Header.treeNumber}
+use Rattle.rules.specs.{declared.position.PositionState.PositionState, Meaning.holds, Meaning.says, Flat.conditionAt, Laws.FlatReading.tree-joined}
 
 pub tree-of-four : (tree : Tree) → treeNumber tree < 4
 tree-of-four Entry = omega arith

@@ -1,29 +1,20 @@
 -- On an accepted table the tree that stands at a node, read with the array of ends, is the table's own. Assumes nothing.
-use Prim.Native.Nat.{ℕ, zero, suc, _+_, _-_, _≤_, _<_}
-use mathlib.Core.Path.{_≡_, sym, ap, _∙_}
-use mathlib.Core.List.{List}
-use native.Mathlib.Omega.{arith}
-use lib.ListN.{getD}
-use borrow.Author.Tests.{lt-ltb, lt-leb}
-use Rattle.words.specs.Limits.{mostNesting, mostNodes}
-use Rattle.table.specs.declared.kinds.Kind.{Kind}
-use Rattle.table.specs.declared.answer.Answer.the-variants.{Accepted}
-use Rattle.table.specs.Kinds.{kindOf}
-use Rattle.table.specs.Laws.Kinds.{OperandKind, a-const, a-ref, a-price, a-prev, an-arith, an-extreme, operand-kind}
-use Rattle.table.specs.Laws.Kinds.{ConditionKind, a-compare, a-cross, a-between, a-trend, an-all, an-any, a-not, a-position, a-count, condition-kind}
-use Rattle.table.specs.Header.{count, root}
-use Rattle.table.specs.Nodes.{nodeAt, sortAt, childCount, childCountAt, childSortAt}
-use Rattle.table.specs.Checked.{checked}
-use Rattle.table.specs.Series.{asSeries, seriesIn}
-use Rattle.roundtrip.specs.Laws.Series.{series-read}
-use Rattle.table.specs.Ends.{endsAll, endsBeside, Link, Linked}
+use Rattle.words.specs.Prelude.{ℕ, zero, suc, _+_, _-_, _≤_, _<_, _≡_, sym, ap, _∙_, List, arith, getD, lt-ltb, lt-leb}
+use Rattle.words.specs.{Limits.mostNesting, Limits.mostNodes}
+use Rattle.table.specs.{declared.kinds.Kind.Kind, declared.answer.Answer.the-variants.Accepted, Kinds.kindOf, Laws.Kinds.OperandKind, Laws.Kinds.a-const}
+use Rattle.table.specs.{Laws.Kinds.a-ref, Laws.Kinds.a-price, Laws.Kinds.a-prev, Laws.Kinds.an-arith, Laws.Kinds.an-extreme, Laws.Kinds.operand-kind}
+use Rattle.table.specs.{Laws.Kinds.ConditionKind, Laws.Kinds.a-compare, Laws.Kinds.a-cross, Laws.Kinds.a-between, Laws.Kinds.a-trend, Laws.Kinds.an-all}
+use Rattle.table.specs.{Laws.Kinds.an-any, Laws.Kinds.a-not, Laws.Kinds.a-position, Laws.Kinds.a-count, Laws.Kinds.condition-kind, Header.count, Header.root}
+use Rattle.table.specs.{Nodes.nodeAt, Nodes.sortAt, Nodes.childCount, Nodes.childCountAt, Nodes.childSortAt, Checked.checked, Series.asSeries, Series.seriesIn}
+use Rattle.table.specs.{Ends.endsAll, Ends.endsBeside, Ends.Link, Ends.Linked, Reading.child, Reading.operandBy, Reading.operandFrom, Reading.conditionBy}
+use Rattle.table.specs.{Reading.conditionFrom, Reading.treeOf, Laws.Accepted.WholeTree, Laws.Accepted.tree-whole, Laws.Accepted.ends-of}
+use Rattle.roundtrip.specs.{Laws.Series.series-read, Laws.Walking.Stands, Laws.Walking.node-there, Laws.Walking.sort-there, Laws.Walking.level-left}
+use Rattle.roundtrip.specs.{Laws.Walking.stands-one, Laws.Walking.stands-next, Laws.Walking.stands-below, Laws.Walking.child-first, Laws.Walking.child-next}
+use Rattle.roundtrip.specs.{Laws.Walking.condition-first, Laws.Walking.conditions-none, Laws.Walking.conditions-more, Laws.Walking.operand-is}
+use Rattle.roundtrip.specs.{Laws.Walking.condition-is, Laws.Walking.tree-reads, Laws.Walking.tree-stands}
+use Rattle.rules.specs.{Shapes.endIn, Shapes.operandOf, Shapes.conditionOf, Shapes.operandShape, Shapes.conditionShape, Flat.growOperand, Flat.operandAt}
+use Rattle.rules.specs.{Flat.growConditions, Flat.group as groupOf, Flat.growCondition, Flat.conditionAt}
 use Rattle.table.specs.Reading as Reading
-use Rattle.table.specs.Reading.{child, operandBy, operandFrom, conditionBy, conditionFrom, treeOf}
-use Rattle.table.specs.Laws.Accepted.{WholeTree, tree-whole, ends-of}
-use Rattle.roundtrip.specs.Laws.Walking.{Stands, node-there, sort-there, level-left, stands-one, stands-next, stands-below, child-first, child-next}
-use Rattle.roundtrip.specs.Laws.Walking.{condition-first, conditions-none, conditions-more, operand-is, condition-is, tree-reads, tree-stands}
-use Rattle.rules.specs.Shapes.{endIn, operandOf, conditionOf, operandShape, conditionShape}
-use Rattle.rules.specs.Flat.{growOperand, operandAt, growConditions, group as groupOf, growCondition, conditionAt}
 
 -- the shape of a node that is there
 operand-node : (t ends : List ℕ) (i : ℕ) → i < mostNodes

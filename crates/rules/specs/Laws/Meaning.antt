@@ -1,24 +1,15 @@
 -- Laws of the meaning of operands and conditions, for the proofs that cite it. Assumes nothing.
-use Prim.Native.Nat.{ℕ, zero, suc, _+_, _-_, _*_, _≤_, _<_}
-use mathlib.Core.Path.{_≡_, refl, sym, ap, _∙_}
-use mathlib.Core.Bool.{Bool, true, false, cond}
-use native.Mathlib.Omega.{arith}
-use native.Mathlib.Nat.{le-refl, sub-zero}
-use lib.Dec.{ltb, eqb}
+use Rattle.words.specs.Prelude.{ℕ, zero, suc, _+_, _-_, _*_, _≤_, _<_, _≡_, refl, sym, ap, _∙_, Bool, true, false, cond, arith, le-refl, sub-zero, ltb, eqb, Float}
+use Rattle.words.specs.Prelude.{nan, inf, fin, lt-ltb, le-ltb, ltb-true, ltb-false}
+use Rattle.floats.specs.{Floats._≺_, Floats.floatOf}
+use Rattle.rows.specs.{History.History}
+use Rattle.table.specs.{declared.series.Series.Series, declared.series.Series.the-variants.Price, declared.series.Series.the-variants.Slot, Trees.Operand}
+use Rattle.table.specs.{Trees.const, Trees.ref, Trees.price, Trees.prev, Trees.arith as sums, Trees.extreme, Trees.trend}
+use Rattle.rules.specs.{declared.values.Value.Value, declared.values.Value.the-variants.Missing, declared.values.Value.the-variants.Number}
+use Rattle.rules.specs.{declared.position.PositionState.PositionState, Values.priceOf, Values.slotOf, Values.both, Values.took, Values.pick, Values.tested}
+use Rattle.rules.specs.{Values.compared, Values.trended, Laws.Missing.either-way, Meaning.there, Meaning.seriesAt, Meaning.extremeOver, Meaning.extremeAt}
+use Rattle.rules.specs.{Meaning.value, Meaning.holds}
 use lib.Ieee as Ieee
-use lib.Ieee.{Float, nan, inf, fin}
-use borrow.Author.Tests.{lt-ltb, le-ltb, ltb-true, ltb-false}
-use Rattle.floats.specs.Floats.{_≺_, floatOf}
-use Rattle.rows.specs.History.{History}
-use Rattle.table.specs.declared.series.Series.{Series}
-use Rattle.table.specs.declared.series.Series.the-variants.{Price, Slot}
-use Rattle.table.specs.Trees.{Operand, const, ref, price, prev, arith as sums, extreme, trend}
-use Rattle.rules.specs.declared.values.Value.{Value}
-use Rattle.rules.specs.declared.values.Value.the-variants.{Missing, Number}
-use Rattle.rules.specs.declared.position.PositionState.{PositionState}
-use Rattle.rules.specs.Values.{priceOf, slotOf, both, took, pick, tested, compared, trended}
-use Rattle.rules.specs.Laws.Missing.{either-way}
-use Rattle.rules.specs.Meaning.{there, seriesAt, extremeOver, extremeAt, value, holds}
 
 -- What is asked of a row that is there, and of one that is not.
 module _ (h : History) (i : ℕ) (v : Value) where

@@ -1,13 +1,8 @@
 -- A value that is missing leaves an operand missing and answers a test with no. Assumes nothing.
-use Prim.Native.Nat.{ℕ}
-use mathlib.Core.Path.{_≡_, refl}
-use mathlib.Core.Bool.{Bool, true, false, cond, _&&_}
-use lib.Dec.{ltb, eqb}
-use Rattle.rows.specs.History.{History}
-use Rattle.rules.specs.declared.values.Value.{Value}
-use Rattle.rules.specs.declared.values.Value.the-variants.{Missing, Number}
-use Rattle.rules.specs.Values.{both, compared, crossed, within, trended}
-use Rattle.rules.specs.Meaning.{there}
+use Rattle.words.specs.Prelude.{ℕ, _≡_, refl, Bool, true, false, cond, _&&_, ltb, eqb}
+use Rattle.rows.specs.{History.History}
+use Rattle.rules.specs.{declared.values.Value.Value, declared.values.Value.the-variants.Missing, declared.values.Value.the-variants.Number, Values.both}
+use Rattle.rules.specs.{Values.compared, Values.crossed, Values.within, Values.trended, Meaning.there}
 
 -- what a test chooses between two that are the same
 pub either-way : {A : Type 0} (t : Bool) (x : A) → cond t x x ≡ x

@@ -1,24 +1,11 @@
 -- What a step does to the account is what a bar does to it over the rows held; and no row older than the last D matters.
-use Prim.Native.Nat.{ℕ, _<_}
-use mathlib.Core.Path.{_≡_, sym, ap, _∙_}
-use mathlib.Core.List.{List, _++_}
-use Rattle.rows.specs.History.{historyOf}
-use Rattle.records.specs.declared.settings.Settings.{Settings}
-use Rattle.records.specs.declared.state.State.{State}
-use Rattle.records.specs.Bar.{candleOf}
-use Rattle.records.specs.Lent.{Lists, Rooms}
-use Rattle.refusals.specs.Laws.Fine.{StepFine}
-use Rattle.refusals.specs.Settings.{lookback}
-use Rattle.engine.specs.Account.{filled}
-use Rattle.engine.specs.Decide.{decided}
-use Rattle.runs.specs.Laws.FillWindow.{fill-over-last}
-use Rattle.engine.specs.Laws.Lengths.{row-long}
-use Rattle.runs.specs.Laws.Window.{last-added, window-added}
-use Rattle.engine.specs.Record.{rowOf}
-use Rattle.engine.specs.Rules.{rulesOf, FromTable}
-use Rattle.runs.specs.Laws.Meaning.{lists-mean}
-use Rattle.engine.specs.Step.{stepped}
-use Rattle.engine.specs.Whole.{Account, accountOf, rowsHeld, byLists, byMeaning, taken, takenBy, lastOf}
+use Rattle.words.specs.Prelude.{ℕ, _<_, _≡_, sym, ap, _∙_, List, _++_}
+use Rattle.rows.specs.{History.historyOf}
+use Rattle.records.specs.{declared.settings.Settings.Settings, declared.state.State.State, Bar.candleOf, Lent.Lists, Lent.Rooms}
+use Rattle.refusals.specs.{Laws.Fine.StepFine, Settings.lookback}
+use Rattle.engine.specs.{Account.filled, Decide.decided, Laws.Lengths.row-long, Record.rowOf, Rules.rulesOf, Rules.FromTable, Step.stepped, Whole.Account}
+use Rattle.engine.specs.{Whole.accountOf, Whole.rowsHeld, Whole.byLists, Whole.byMeaning, Whole.taken, Whole.takenBy, Whole.lastOf}
+use Rattle.runs.specs.{Laws.FillWindow.fill-over-last, Laws.Window.last-added, Laws.Window.window-added, Laws.Meaning.lists-mean}
 
 -- the parts of an account
 pub record SameParts (t t′ : State) : Type 0 where

@@ -1,16 +1,10 @@
 -- Two boxes with the same account and the same last D rows, and a bar that both take.
-use Prim.Native.Nat.{ℕ}
-use mathlib.Core.Path.{_≡_, refl, sym, _∙_}
-use mathlib.Core.List.{List}
-use Rattle.records.specs.declared.settings.Settings.{Settings}
-use Rattle.records.specs.declared.state.State.{State}
-use Rattle.records.specs.Lent.{Lists, Rooms}
-use Rattle.refusals.specs.declared.verdict.Verdict.the-variants.{Fine}
-use Rattle.engine.specs.Boxes.{Follows, Sound, SameCounts, Alike, SameButRows}
-use Rattle.runs.specs.Laws.Counts.{step-within, step-lengths}
-use Rattle.runs.specs.Laws.Follows.{step-follows, step-grows}
-use Rattle.engine.specs.Step.{stepped, stepVerdict}
-use Rattle.engine.specs.Whole.{accountOf, rowsHeld}
+use Rattle.words.specs.Prelude.{ℕ, _≡_, refl, sym, _∙_, List}
+use Rattle.records.specs.{declared.settings.Settings.Settings, declared.state.State.State, Lent.Lists, Lent.Rooms}
+use Rattle.refusals.specs.{declared.verdict.Verdict.the-variants.Fine}
+use Rattle.engine.specs.{Boxes.Follows, Boxes.Sound, Boxes.SameCounts, Boxes.Alike, Boxes.SameButRows, Step.stepped, Step.stepVerdict, Whole.accountOf}
+use Rattle.engine.specs.{Whole.rowsHeld}
+use Rattle.runs.specs.{Laws.Counts.step-within, Laws.Counts.step-lengths, Laws.Follows.step-follows, Laws.Follows.step-grows}
 
 module _ (s : Settings) (ls : Lists) (t : State) (m : Rooms) (t′ : State) (m′ : Rooms) (bar : List ℕ) (alike : Alike s t m t′ m′)
     (fine : stepVerdict s t bar m ls ≡ Fine) (fine′ : stepVerdict s t′ bar m′ ls ≡ Fine) where

@@ -1,31 +1,16 @@
 -- The books after a bar are the books before it, its point and its trades at their end, whatever stale words lie behind.
-use Prim.Native.Nat.{ℕ, _+_, _-_, _*_, _/_, _≤_, _<_}
-use mathlib.Core.Path.{_≡_, refl, sym, _∙_}
-use mathlib.Core.List.{List, [], _∷_, _++_, append-nil, append-assoc, flatMap}
-use native.Mathlib.Nat.{le-div-iff-mul-le, suc-mul}
-use native.Mathlib.Numerals.{add-one}
-use native.Mathlib.Omega.{arith}
-use borrow.Author.Tests.{lt-ltb, le-ltb}
-use lib.ListN.{length, take, drop, length-append, take-append-drop}
-use lib.Seq.{length-take-le, take-at, drop-at, drop-drop}
+use Rattle.words.specs.Prelude.{ℕ, _+_, _-_, _*_, _/_, _≤_, _<_, _≡_, refl, sym, _∙_, List, [], _∷_, _++_, append-nil, append-assoc, flatMap, le-div-iff-mul-le}
+use Rattle.words.specs.Prelude.{suc-mul, add-one, arith, lt-ltb, le-ltb, length, take, drop, length-append, take-append-drop, length-take-le, take-at, drop-at}
+use Rattle.words.specs.Prelude.{drop-drop}
+use Rattle.words.specs.{Words.overwrite, Laws.Overwrite.overwrite-fits}
+use Rattle.portfolio.specs.{declared.Candle.Candle, declared.Closed.Closed, declared.Trade.Trade, Trade.wordsOfTrade}
+use Rattle.execution.specs.{declared.fills.Exit.Exit, declared.fills.Exit.the-variants.NoExit, declared.fills.Exit.the-variants.Exited}
+use Rattle.records.specs.{declared.settings.Settings.Settings, declared.state.Position.Position, declared.state.State.State, Lent.Lists, Lent.Rooms}
+use Rattle.records.specs.{Lent.pointPlaces, Lent.tradePlaces}
+use Rattle.engine.specs.{Books.Point, Books.pointOf, Books.wordsOfPoint, Books.tradesOf, Books.Held, Books.booked, Books.marked, Books.heldPoints, Books.heldTrades}
+use Rattle.engine.specs.{Boxes.Grown, Step.stepped, Whole.Asked, Whole.accountOf, Whole.rowsHeld, Whole.taken, Whole.takenBy}
+use Rattle.runs.specs.{Laws.OneTrade.one-exit}
 use Rattle.words.specs.Limits as Limits
-use Rattle.words.specs.Words.{overwrite}
-use Rattle.words.specs.Laws.Overwrite.{overwrite-fits}
-use Rattle.portfolio.specs.declared.Candle.{Candle}
-use Rattle.portfolio.specs.declared.Closed.{Closed}
-use Rattle.portfolio.specs.declared.Trade.{Trade}
-use Rattle.portfolio.specs.Trade.{wordsOfTrade}
-use Rattle.execution.specs.declared.fills.Exit.{Exit}
-use Rattle.execution.specs.declared.fills.Exit.the-variants.{NoExit, Exited}
-use Rattle.records.specs.declared.settings.Settings.{Settings}
-use Rattle.records.specs.declared.state.Position.{Position}
-use Rattle.records.specs.declared.state.State.{State}
-use Rattle.records.specs.Lent.{Lists, Rooms, pointPlaces, tradePlaces}
-use Rattle.engine.specs.Books.{Point, pointOf, wordsOfPoint, tradesOf, Held, booked, marked, heldPoints, heldTrades}
-use Rattle.engine.specs.Boxes.{Grown}
-use Rattle.runs.specs.Laws.OneTrade.{one-exit}
-use Rattle.engine.specs.Step.{stepped}
-use Rattle.engine.specs.Whole.{Asked, accountOf, rowsHeld, taken, takenBy}
 
 -- ---- growth after growth
 

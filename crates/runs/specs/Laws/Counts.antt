@@ -1,26 +1,12 @@
 -- However many bars are run from a fresh state, no count exceeds its room or the bars seen, and no room changes its length.
-use Prim.Native.Nat.{ℕ, _+_, _≤_}
-use mathlib.Core.Path.{_≡_, refl, _∙_}
-use mathlib.Core.Bool.{Bool, true, false, cond}
-use mathlib.Core.List.{List}
-use native.Mathlib.Omega.{arith}
-use borrow.Author.Tests.{ltb-false}
-use lib.Dec.{ltb}
-use Rattle.rows.specs.Room.{placesFor, heldWith}
-use Rattle.portfolio.specs.declared.Candle.{Candle}
-use Rattle.records.specs.declared.settings.Settings.{Settings}
-use Rattle.records.specs.declared.state.Position.{Position}
-use Rattle.records.specs.declared.state.State.{State}
-use Rattle.records.specs.Lent.{Lists, Rooms, pointPlaces}
-use Rattle.records.specs.State.{freshState}
-use Rattle.engine.specs.Books.{Held, marked}
-use Rattle.engine.specs.Boxes.{WithinRooms, SameLengths}
-use Rattle.engine.specs.Laws.Lengths.{row-fits, twice-booked-fits, marked-fits}
-use Rattle.runs.specs.Laws.OneTrade.{one-trade}
-use Rattle.engine.specs.Laws.Runs.{run-keeps}
-use Rattle.engine.specs.Record.{rowOf}
-use Rattle.engine.specs.Run.{runOver}
-use Rattle.engine.specs.Step.{stepped}
+use Rattle.words.specs.Prelude.{ℕ, _+_, _≤_, _≡_, refl, _∙_, Bool, true, false, cond, List, arith, ltb-false, ltb}
+use Rattle.rows.specs.{Room.placesFor, Room.heldWith}
+use Rattle.portfolio.specs.{declared.Candle.Candle}
+use Rattle.records.specs.{declared.settings.Settings.Settings, declared.state.Position.Position, declared.state.State.State, Lent.Lists, Lent.Rooms}
+use Rattle.records.specs.{Lent.pointPlaces, State.freshState}
+use Rattle.engine.specs.{Books.Held, Books.marked, Boxes.WithinRooms, Boxes.SameLengths, Laws.Lengths.row-fits, Laws.Lengths.twice-booked-fits}
+use Rattle.engine.specs.{Laws.Lengths.marked-fits, Laws.Runs.run-keeps, Record.rowOf, Run.runOver, Step.stepped}
+use Rattle.runs.specs.{Laws.OneTrade.one-trade}
 
 -- ---- a bar
 

@@ -1,28 +1,17 @@
 -- A step depends on no row older than the last D of the rows that it is given: a fill reads the closes of fewer, and the
 -- decision is over the last D by its definition.
-use Prim.Native.Nat.{ℕ, _-_, _<_}
-use mathlib.Core.Path.{_≡_, refl}
-use mathlib.Core.List.{List}
-use native.Mathlib.Omega.{arith}
-use lib.Ieee.{Float}
-use Rattle.rows.specs.History.{historyOf, lastRows}
-use Rattle.rules.specs.Window.{Without, without-first}
-use Rattle.portfolio.specs.declared.Candle.{Candle}
-use Rattle.portfolio.specs.declared.Portfolio.{Portfolio}
-use Rattle.execution.specs.declared.level.Side.{Side}
-use Rattle.execution.specs.declared.terms.Sizing.{Sizing}
-use Rattle.execution.specs.declared.terms.Sizing.the-variants.{FixedFraction, FixedQty, FixedCash, VolTarget, RiskPerTrade, Unknown}
-use Rattle.execution.specs.declared.terms.Terms.{Terms}
-use Rattle.execution.specs.Fills.{volatilityFor, executeEntry}
-use Rattle.execution.specs.Volatility.{realizedVol}
-use Rattle.execution.specs.VolatilityWindow.{same-volatility}
-use Rattle.records.specs.declared.state.Order.{Order}
-use Rattle.records.specs.declared.state.Position.{Position}
-use Rattle.records.specs.declared.settings.Settings.{Settings}
-use Rattle.refusals.specs.Settings.{lookback}
-use Rattle.engine.specs.declared.account.Due.{Due}
-use Rattle.engine.specs.declared.account.Due.the-variants.{Waits, Enters, Leaves}
-use Rattle.engine.specs.Account.{entered, dueOf, doneOf, filled}
+use Rattle.words.specs.Prelude.{ℕ, _-_, _<_, _≡_, refl, List, arith, Float}
+use Rattle.rows.specs.{History.historyOf, History.lastRows}
+use Rattle.rules.specs.{Window.Without, Window.without-first}
+use Rattle.portfolio.specs.{declared.Candle.Candle, declared.Portfolio.Portfolio}
+use Rattle.execution.specs.{declared.level.Side.Side, declared.terms.Sizing.Sizing, declared.terms.Sizing.the-variants.FixedFraction}
+use Rattle.execution.specs.{declared.terms.Sizing.the-variants.FixedQty, declared.terms.Sizing.the-variants.FixedCash, declared.terms.Sizing.the-variants.VolTarget}
+use Rattle.execution.specs.{declared.terms.Sizing.the-variants.RiskPerTrade, declared.terms.Sizing.the-variants.Unknown, declared.terms.Terms.Terms}
+use Rattle.execution.specs.{Fills.volatilityFor, Fills.executeEntry, Volatility.realizedVol, VolatilityWindow.same-volatility}
+use Rattle.records.specs.{declared.state.Order.Order, declared.state.Position.Position, declared.settings.Settings.Settings}
+use Rattle.refusals.specs.{Settings.lookback}
+use Rattle.engine.specs.{declared.account.Due.Due, declared.account.Due.the-variants.Waits, declared.account.Due.the-variants.Enters}
+use Rattle.engine.specs.{declared.account.Due.the-variants.Leaves, Account.entered, Account.dueOf, Account.doneOf, Account.filled}
 
 module _ (K D : ℕ) (rows : List ℕ) where
   older : Without (historyOf K rows) (historyOf K (lastRows K D rows)) (historyOf K rows .rows - D)

@@ -1,29 +1,15 @@
 -- Two boxes that differ in their rows alone finish alike.
-use Prim.Native.Nat.{ℕ, _+_, _*_, _<_}
-use mathlib.Core.Path.{_≡_, refl, sym, _∙_}
-use mathlib.Core.Bool.{Bool, true, false}
-use mathlib.Core.List.{List, _++_, flatMap}
-use borrow.Author.Tests.{ltb-true, ltb-false}
-use lib.Dec.{ltb}
-use lib.ListN.{length, take, drop}
+use Rattle.words.specs.Prelude.{ℕ, _+_, _*_, _<_, _≡_, refl, sym, _∙_, Bool, true, false, List, _++_, flatMap, ltb-true, ltb-false, ltb, length, take, drop}
+use Rattle.portfolio.specs.{Trade.wordsOfTrade}
+use Rattle.execution.specs.{declared.fills.Exit.Exit, declared.fills.Exit.the-variants.NoExit}
+use Rattle.records.specs.{declared.settings.Settings.Settings, declared.state.State.State, Lent.Rooms, Lent.tradePlaces}
+use Rattle.refusals.specs.{declared.verdict.Verdict.the-variants.Fine, Judgement.finishLines, Judgement.finishJudged, Laws.Lines.first-holds, Laws.Lines.both-fine}
+use Rattle.refusals.specs.{Rooms.roomLines, Rooms.stateLines, Rooms.toClose, Rooms.closeLines, Settings.settingLines}
+use Rattle.engine.specs.{Books.tradesOf, Books.booked, Books.heldPoints, Books.heldTrades, Boxes.SameButRows, Finish.lastExit, Finish.remarked, Finish.endState}
+use Rattle.engine.specs.{Finish.measured, Finish.ended}
+use Rattle.runs.specs.{Laws.AccountStep.same-parts, Laws.BooksGrow.Added, Laws.BooksGrow.trade-booked, Laws.BooksGrow.none-added, Laws.BooksGrow.none-booked}
+use Rattle.runs.specs.{Laws.LastPoint.remarked-held, Laws.LastPoint.remarked-behind}
 use Rattle.words.specs.Limits as Limits
-use Rattle.portfolio.specs.Trade.{wordsOfTrade}
-use Rattle.execution.specs.declared.fills.Exit.{Exit}
-use Rattle.execution.specs.declared.fills.Exit.the-variants.{NoExit}
-use Rattle.records.specs.declared.settings.Settings.{Settings}
-use Rattle.records.specs.declared.state.State.{State}
-use Rattle.records.specs.Lent.{Rooms, tradePlaces}
-use Rattle.refusals.specs.declared.verdict.Verdict.the-variants.{Fine}
-use Rattle.refusals.specs.Judgement.{finishLines, finishJudged}
-use Rattle.refusals.specs.Laws.Lines.{first-holds, both-fine}
-use Rattle.refusals.specs.Rooms.{roomLines, stateLines, toClose, closeLines}
-use Rattle.refusals.specs.Settings.{settingLines}
-use Rattle.engine.specs.Books.{tradesOf, booked, heldPoints, heldTrades}
-use Rattle.engine.specs.Boxes.{SameButRows}
-use Rattle.engine.specs.Finish.{lastExit, remarked, endState, measured, ended}
-use Rattle.runs.specs.Laws.AccountStep.{same-parts}
-use Rattle.runs.specs.Laws.BooksGrow.{Added, trade-booked, none-added, none-booked}
-use Rattle.runs.specs.Laws.LastPoint.{remarked-held, remarked-behind}
 
 -- the trades that a room holds
 abbrev tradesIn : List ℕ → ℕ → List ℕ

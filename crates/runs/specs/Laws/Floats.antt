@@ -1,69 +1,40 @@
 -- Every float of a state is an f64: it was one in the state before, it is a word of the bar, or an operation of IEEE 754 gave it. So what the
 -- round trip of a state's words asks (records, Laws/RoundTrip) holds after every bar and after a finish.
-use Prim.Native.Nat.{ℕ, _-_}
-use mathlib.Core.Path.{_≡_, refl}
-use mathlib.Core.Bool.{Bool, true, false, cond}
-use mathlib.Core.List.{List}
-use lib.Dec.{T, ltb}
+use Rattle.words.specs.Prelude.{ℕ, _-_, _≡_, refl, Bool, true, false, cond, List, T, ltb, Float, binary64, fits, ofBits-fits, cond-fits, mul-fits}
+use Rattle.floats.specs.{Floats._⊗_, Floats._≺_, Floats.min, Floats.max, Floats.eps}
+use Rattle.rows.specs.{History.History, History.historyOf}
+use Rattle.portfolio.specs.{declared.Candle.Candle, declared.Closed.Closed, declared.Portfolio.Portfolio, Portfolio.inPosition, Portfolio.isLong, Portfolio.funded}
+use Rattle.portfolio.specs.{Portfolio.worse, Portfolio.worsened, Portfolio.entered, Portfolio.exited, Trade.signal, Trade.end}
+use Rattle.execution.specs.{declared.fills.Entry.Entry, declared.fills.Entry.the-variants.NoEntry, declared.fills.Entry.the-variants.TooLarge}
+use Rattle.execution.specs.{declared.fills.Entry.the-variants.Entered, declared.fills.Exit.Exit, declared.fills.Exit.the-variants.NoExit}
+use Rattle.execution.specs.{declared.fills.Exit.the-variants.Exited, declared.costs.Funding.Funding, declared.costs.Funding.the-variants.NotSupplied}
+use Rattle.execution.specs.{declared.costs.Funding.the-variants.Supplied, declared.optional.Optional.Optional, declared.optional.Optional.the-variants.Absent}
+use Rattle.execution.specs.{declared.lots.Quantity.Quantity, declared.lots.Quantity.the-variants.Nothing, declared.lots.Quantity.the-variants.Of}
+use Rattle.execution.specs.{declared.level.Entries.Entries, declared.level.OrderKind.OrderKind, declared.level.OrderType.OrderType}
+use Rattle.execution.specs.{declared.level.OrderType.the-variants.Market as MarketType, declared.level.OrderType.the-variants.Limit as LimitType}
+use Rattle.execution.specs.{declared.level.OrderType.the-variants.Stop as StopType, declared.level.OrderType.the-variants.StopLimit as StopLimitType}
+use Rattle.execution.specs.{declared.level.OrderType.the-variants.Unknown as UnknownType, declared.level.Side.Side, declared.level.Side.the-variants.Long}
+use Rattle.execution.specs.{declared.level.Side.the-variants.Short, declared.terms.Terms.Terms, declared.intrabar.Trigger.Trigger}
+use Rattle.execution.specs.{declared.intrabar.Trigger.the-variants.Untouched, declared.intrabar.Trigger.the-variants.At, Costs.slippageRate, Costs.fillPrice}
+use Rattle.execution.specs.{Costs.takerRate, Costs.closed, Costs.withFunding, Costs.chargeFunding, Fills.direction, Fills.volatilityFor, Fills.quantity}
+use Rattle.execution.specs.{Fills.probeQty, Fills.withinVolume, Fills.booked, Fills.executeEntry, Fills.exitDirection, Fills.executeExit, Level.levelFrom}
+use Rattle.execution.specs.{Level.entryTrigger, Level.feeBps, Level.levelFill, Lots.isTooLarge, Lots.orZero, Intrabar.favourable, Intrabar.extremeWith}
+use Rattle.execution.specs.{Intrabar.touched, Intrabar.closedBy, Intrabar.applyIntrabarExits}
+use Rattle.records.specs.{declared.settings.Settings.Settings, declared.state.Order.Order, declared.state.Order.the-variants.Idle}
+use Rattle.records.specs.{declared.state.Order.the-variants.EnterLong, declared.state.Order.the-variants.EnterShort}
+use Rattle.records.specs.{declared.state.Order.the-variants.Exit as ExitOrder, declared.state.Position.Position, declared.state.State.State, Bar.candleOf}
+use Rattle.records.specs.{Bar.fundingOf, Lent.Lists, Lent.Rooms, StateWords.waitsFor, Laws.RoundTrip.KindFits, Laws.RoundTrip.Floats64}
+use Rattle.refusals.specs.{Rooms.toClose}
+use Rattle.engine.specs.{declared.account.Due.Due, declared.account.Due.the-variants.Waits, declared.account.Due.the-variants.Enters}
+use Rattle.engine.specs.{declared.account.Due.the-variants.Leaves, declared.account.Filled.Filled, Account.leaving, Account.facing, Account.entering}
+use Rattle.engine.specs.{Account.reached, Account.dueOf, Account.doneOf, Account.filled, Account.intrabar, Account.charged, Decide.Answers, Decide.ordered}
+use Rattle.engine.specs.{Decide.openingOrder, Decide.closingOrder, Decide.orderAfter, Decide.decided, Finish.lastExit, Finish.endState, Laws.Runs.run-keeps}
+use Rattle.engine.specs.{Record.heldRows, Run.runOver, Step.stepped}
 use lib.Ieee as Ieee
-use lib.Ieee.{Float, binary64, fits}
-use lib.Ieee.Bits.{ofBits-fits}
-use lib.Ieee.Fits.{cond-fits, add-fits, sub-fits, mul-fits}
-use Rattle.floats.specs.Floats.{_⊗_, _≺_, min, max, eps}
-use Rattle.rows.specs.History.{History, historyOf}
-use Rattle.portfolio.specs.declared.Candle.{Candle}
-use Rattle.portfolio.specs.declared.Closed.{Closed}
-use Rattle.portfolio.specs.declared.Portfolio.{Portfolio}
-use Rattle.portfolio.specs.Portfolio.{inPosition, isLong, funded, worse, worsened, entered, exited}
-use Rattle.portfolio.specs.Trade.{signal, end}
-use Rattle.execution.specs.declared.fills.Entry.{Entry}
-use Rattle.execution.specs.declared.fills.Entry.the-variants.{NoEntry, TooLarge, Entered}
-use Rattle.execution.specs.declared.fills.Exit.{Exit}
-use Rattle.execution.specs.declared.fills.Exit.the-variants.{NoExit, Exited}
-use Rattle.execution.specs.declared.costs.Funding.{Funding}
-use Rattle.execution.specs.declared.costs.Funding.the-variants.{NotSupplied, Supplied}
-use Rattle.execution.specs.declared.optional.Optional.{Optional}
-use Rattle.execution.specs.declared.optional.Optional.the-variants.{Absent}
+use lib.Ieee.Fits.{add-fits, sub-fits}
 use Rattle.execution.specs.declared.optional.Optional.the-variants as Optional
-use Rattle.execution.specs.declared.lots.Quantity.{Quantity}
-use Rattle.execution.specs.declared.lots.Quantity.the-variants.{Nothing, Of}
 use Rattle.execution.specs.declared.lots.Quantity.the-variants as Quantity
-use Rattle.execution.specs.declared.level.Entries.{Entries}
-use Rattle.execution.specs.declared.level.OrderKind.{OrderKind}
-use Rattle.execution.specs.declared.level.OrderType.{OrderType}
-use Rattle.execution.specs.declared.level.OrderType.the-variants.{Market as MarketType, Limit as LimitType, Stop as StopType}
-use Rattle.execution.specs.declared.level.OrderType.the-variants.{StopLimit as StopLimitType, Unknown as UnknownType}
-use Rattle.execution.specs.declared.level.Side.{Side}
-use Rattle.execution.specs.declared.level.Side.the-variants.{Long, Short}
-use Rattle.execution.specs.declared.terms.Terms.{Terms}
-use Rattle.execution.specs.declared.intrabar.Trigger.{Trigger}
-use Rattle.execution.specs.declared.intrabar.Trigger.the-variants.{Untouched, At}
-use Rattle.execution.specs.Costs.{slippageRate, fillPrice, takerRate, closed, withFunding, chargeFunding}
-use Rattle.execution.specs.Fills.{direction, volatilityFor, quantity, probeQty, withinVolume, booked, executeEntry, exitDirection, executeExit}
-use Rattle.execution.specs.Level.{levelFrom, entryTrigger, feeBps, levelFill}
-use Rattle.execution.specs.Lots.{isTooLarge, orZero}
-use Rattle.execution.specs.Intrabar.{favourable, extremeWith, touched, closedBy, applyIntrabarExits}
-use Rattle.records.specs.declared.settings.Settings.{Settings}
-use Rattle.records.specs.declared.state.Order.{Order}
-use Rattle.records.specs.declared.state.Order.the-variants.{Idle, EnterLong, EnterShort, Exit as ExitOrder}
-use Rattle.records.specs.declared.state.Position.{Position}
-use Rattle.records.specs.declared.state.State.{State}
-use Rattle.records.specs.Bar.{candleOf, fundingOf}
-use Rattle.records.specs.Lent.{Lists, Rooms}
-use Rattle.records.specs.StateWords.{waitsFor}
-use Rattle.records.specs.Laws.RoundTrip.{KindFits, Floats64}
-use Rattle.refusals.specs.Rooms.{toClose}
-use Rattle.engine.specs.declared.account.Due.{Due}
-use Rattle.engine.specs.declared.account.Due.the-variants.{Waits, Enters, Leaves}
-use Rattle.engine.specs.declared.account.Filled.{Filled}
 use Rattle.engine.specs.Account as Account
-use Rattle.engine.specs.Account.{leaving, facing, entering, reached, dueOf, doneOf, filled, intrabar, charged}
-use Rattle.engine.specs.Decide.{Answers, ordered, openingOrder, closingOrder, orderAfter, decided}
-use Rattle.engine.specs.Finish.{lastExit, endState}
-use Rattle.engine.specs.Laws.Runs.{run-keeps}
-use Rattle.engine.specs.Record.{heldRows}
-use Rattle.engine.specs.Run.{runOver}
-use Rattle.engine.specs.Step.{stepped}
 
 abbrev Is64 : Float → Type 0
 Is64 x = T (fits binary64 x)

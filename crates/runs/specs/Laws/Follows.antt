@@ -1,23 +1,12 @@
 -- A box keeps the last D rows, and its run is one that keeps every row.
-use Prim.Native.Nat.{ℕ}
-use mathlib.Core.Path.{_≡_, refl, _∙_}
-use mathlib.Core.List.{List, [], _∷_, _++_, append-nil, append-assoc, flatMap}
-use native.Mathlib.Numerals.{add-one}
-use lib.ListN.{take}
-use Rattle.records.specs.declared.settings.Settings.{Settings}
-use Rattle.records.specs.declared.state.State.{State}
-use Rattle.records.specs.Lent.{Lists, Rooms}
-use Rattle.refusals.specs.declared.verdict.Verdict.{Verdict}
-use Rattle.refusals.specs.declared.verdict.Verdict.the-variants.{Fine, Bad}
-use Rattle.engine.specs.Boxes.{Grown, Follows}
-use Rattle.runs.specs.Laws.AccountStep.{window-after, account-after, last-alike, taken-alike}
-use Rattle.runs.specs.Laws.BooksGrow.{grown-none, grown-more, books-grow}
-use Rattle.engine.specs.Laws.Runs.{run-none, run-stops, run-takes}
-use Rattle.engine.specs.Laws.Verdict.{verdict-fine}
-use Rattle.engine.specs.Record.{rowOf}
-use Rattle.engine.specs.Run.{Run, runOver}
-use Rattle.engine.specs.Step.{With, stepped, stepVerdict}
-use Rattle.engine.specs.Whole.{Account, accountOf, rowsHeld, byLists, taken, wholeRun, wholeRunBy, rowsOf}
+use Rattle.words.specs.Prelude.{ℕ, _≡_, refl, _∙_, List, [], _∷_, _++_, append-nil, append-assoc, flatMap, add-one, take}
+use Rattle.records.specs.{declared.settings.Settings.Settings, declared.state.State.State, Lent.Lists, Lent.Rooms}
+use Rattle.refusals.specs.{declared.verdict.Verdict.Verdict, declared.verdict.Verdict.the-variants.Fine, declared.verdict.Verdict.the-variants.Bad}
+use Rattle.engine.specs.{Boxes.Grown, Boxes.Follows, Laws.Runs.run-none, Laws.Runs.run-stops, Laws.Runs.run-takes, Laws.Verdict.verdict-fine, Record.rowOf, Run.Run}
+use Rattle.engine.specs.{Run.runOver, Step.With, Step.stepped, Step.stepVerdict, Whole.Account, Whole.accountOf, Whole.rowsHeld, Whole.byLists, Whole.taken}
+use Rattle.engine.specs.{Whole.wholeRun, Whole.wholeRunBy, Whole.rowsOf}
+use Rattle.runs.specs.{Laws.AccountStep.window-after, Laws.AccountStep.account-after, Laws.AccountStep.last-alike, Laws.AccountStep.taken-alike}
+use Rattle.runs.specs.{Laws.BooksGrow.grown-none, Laws.BooksGrow.grown-more, Laws.BooksGrow.books-grow}
 
 -- ---- a bar
 

@@ -1,46 +1,28 @@
 -- The funding paid and the least favourable price decide nothing: what a phase of a bar does, but for these two words, it does without them.
-use Prim.Native.Nat.{ℕ}
-use mathlib.Core.Path.{_≡_, refl, sym, _∙_}
-use mathlib.Core.Bool.{Bool, true, false, cond}
-use mathlib.Core.List.{List, [], _∷_, _++_}
-use lib.Ieee.{Float}
-use Rattle.rows.specs.History.{History}
-use Rattle.portfolio.specs.declared.Candle.{Candle}
-use Rattle.portfolio.specs.declared.Portfolio.{Portfolio}
-use Rattle.portfolio.specs.declared.Trade.{Trade}
-use Rattle.portfolio.specs.Portfolio.{inPosition, isLong, equity, funded, worsened, entered, notional, pnl, tradeOf, exited}
-use Rattle.execution.specs.declared.fills.Entry.{Entry}
-use Rattle.execution.specs.declared.fills.Entry.the-variants.{NoEntry, Entered}
+use Rattle.words.specs.Prelude.{ℕ, _≡_, refl, sym, _∙_, Bool, true, false, cond, List, [], _∷_, _++_, Float}
+use Rattle.rows.specs.{History.History}
+use Rattle.portfolio.specs.{declared.Candle.Candle, declared.Portfolio.Portfolio, declared.Trade.Trade, Portfolio.inPosition, Portfolio.isLong, Portfolio.equity}
+use Rattle.portfolio.specs.{Portfolio.funded, Portfolio.worsened, Portfolio.entered, Portfolio.notional, Portfolio.pnl, Portfolio.tradeOf, Portfolio.exited}
+use Rattle.portfolio.specs.{Trade.signal}
+use Rattle.execution.specs.{declared.fills.Entry.Entry, declared.fills.Entry.the-variants.NoEntry, declared.fills.Entry.the-variants.Entered}
+use Rattle.execution.specs.{declared.fills.Exit.Exit, declared.fills.Exit.the-variants.NoExit, declared.fills.Exit.the-variants.Exited}
+use Rattle.execution.specs.{declared.costs.Funding.Funding, declared.costs.Funding.the-variants.NotSupplied, declared.costs.Funding.the-variants.Supplied}
+use Rattle.execution.specs.{declared.lots.Quantity.Quantity, declared.lots.Quantity.the-variants.Nothing, declared.lots.Quantity.the-variants.TooLarge}
+use Rattle.execution.specs.{declared.lots.Quantity.the-variants.Of, declared.level.Side.Side, declared.level.OrderKind.OrderKind, declared.terms.Terms.Terms}
+use Rattle.execution.specs.{declared.terms.Risk.Risk, declared.intrabar.Trigger.Trigger, declared.intrabar.Trigger.the-variants.Untouched}
+use Rattle.execution.specs.{declared.intrabar.Trigger.the-variants.At, Costs.closed, Costs.withFunding, Costs.chargeFunding, Fills.booked, Fills.executeEntry}
+use Rattle.execution.specs.{Fills.exitDirection, Fills.executeExit, Intrabar.favourable, Intrabar.extremeWith, Intrabar.bankruptcyPrice, Intrabar.liquidated}
+use Rattle.execution.specs.{Intrabar.orLiquidated, Intrabar.touched, Intrabar.closedBy, Intrabar.applyIntrabarExits}
+use Rattle.records.specs.{declared.settings.Settings.Settings, declared.state.Order.Order, declared.state.Order.the-variants.Idle}
+use Rattle.records.specs.{declared.state.Order.the-variants.EnterLong, declared.state.Order.the-variants.EnterShort}
+use Rattle.records.specs.{declared.state.Order.the-variants.Exit as ExitOrder, declared.state.Position.Position, Bar.fundingOf}
+use Rattle.engine.specs.{declared.account.Due.Due, declared.account.Due.the-variants.Waits, declared.account.Due.the-variants.Enters}
+use Rattle.engine.specs.{declared.account.Due.the-variants.Leaves, declared.account.Filled.Filled, Account.leaving, Account.facing, Account.entering, Account.dueOf}
+use Rattle.engine.specs.{Account.doneOf, Account.filled, Account.intrabar, Account.charged, Books.pointOf, Books.tradesOf, Decide.Answers, Decide.stateAt}
+use Rattle.engine.specs.{Decide.ordered, Decide.orderAfter}
+use Rattle.runs.specs.{Forgotten.forget, Forgotten.forgetTrade, Forgotten.forgetExit, Forgotten.forgetPosition, Forgotten.forgetTrades}
 use Rattle.execution.specs.declared.fills.Entry.the-variants as Entry
-use Rattle.execution.specs.declared.fills.Exit.{Exit}
-use Rattle.execution.specs.declared.fills.Exit.the-variants.{NoExit, Exited}
-use Rattle.portfolio.specs.Trade.{signal}
-use Rattle.execution.specs.declared.costs.Funding.{Funding}
-use Rattle.execution.specs.declared.costs.Funding.the-variants.{NotSupplied, Supplied}
-use Rattle.execution.specs.declared.lots.Quantity.{Quantity}
-use Rattle.execution.specs.declared.lots.Quantity.the-variants.{Nothing, TooLarge, Of}
-use Rattle.execution.specs.declared.level.Side.{Side}
-use Rattle.execution.specs.declared.level.OrderKind.{OrderKind}
-use Rattle.execution.specs.declared.terms.Terms.{Terms}
-use Rattle.execution.specs.declared.terms.Risk.{Risk}
-use Rattle.execution.specs.declared.intrabar.Trigger.{Trigger}
-use Rattle.execution.specs.declared.intrabar.Trigger.the-variants.{Untouched, At}
-use Rattle.execution.specs.Costs.{closed, withFunding, chargeFunding}
-use Rattle.execution.specs.Fills.{booked, executeEntry, exitDirection, executeExit}
-use Rattle.execution.specs.Intrabar.{favourable, extremeWith, bankruptcyPrice, liquidated, orLiquidated, touched, closedBy, applyIntrabarExits}
-use Rattle.records.specs.declared.settings.Settings.{Settings}
-use Rattle.records.specs.declared.state.Order.{Order}
-use Rattle.records.specs.declared.state.Order.the-variants.{Idle, EnterLong, EnterShort, Exit as ExitOrder}
-use Rattle.records.specs.declared.state.Position.{Position}
-use Rattle.records.specs.Bar.{fundingOf}
-use Rattle.engine.specs.declared.account.Due.{Due}
-use Rattle.engine.specs.declared.account.Due.the-variants.{Waits, Enters, Leaves}
-use Rattle.engine.specs.declared.account.Filled.{Filled}
 use Rattle.engine.specs.Account as Account
-use Rattle.engine.specs.Account.{leaving, facing, entering, dueOf, doneOf, filled, intrabar, charged}
-use Rattle.engine.specs.Books.{pointOf, tradesOf}
-use Rattle.engine.specs.Decide.{Answers, stateAt, ordered, orderAfter}
-use Rattle.runs.specs.Forgotten.{forget, forgetTrade, forgetExit, forgetPosition, forgetTrades}
 
 -- ---- tests
 

@@ -1,21 +1,11 @@
 -- The last equity point after finish: on the words that a room holds, behind them, and on points.
-use Prim.Native.Nat.{ℕ, suc, _+_, _-_, _*_}
-use mathlib.Core.Path.{_≡_, refl, ap}
-use mathlib.Core.Bool.{Bool, true, false, cond}
-use mathlib.Core.List.{List, [], _∷_, flatMap}
-use native.Mathlib.Omega.{arith}
-use borrow.Author.Tests.{ltb-true, lt-ltb}
-use lib.Dec.{ltb}
-use lib.Ieee.{Float}
-use lib.ListN.{length, take, drop, set, length-set}
+use Rattle.words.specs.Prelude.{ℕ, suc, _+_, _-_, _*_, _≡_, refl, ap, Bool, true, false, cond, List, [], _∷_, flatMap, arith, ltb-true, lt-ltb, ltb, Float, length}
+use Rattle.words.specs.Prelude.{take, drop, set, length-set}
+use Rattle.floats.specs.{Floats.wordOf}
+use Rattle.execution.specs.{declared.fills.Exit.Exit, declared.fills.Exit.the-variants.NoExit, declared.fills.Exit.the-variants.Exited}
+use Rattle.engine.specs.{Books.Point, Books.wordsOfPoint, Books.lastBecomes, Finish.remarked, Whole.endPoints}
 use lib.Seq.{take-set-lt, drop-set-lt}
 use Rattle.words.specs.Limits as Limits
-use Rattle.floats.specs.Floats.{wordOf}
-use Rattle.execution.specs.declared.fills.Exit.{Exit}
-use Rattle.execution.specs.declared.fills.Exit.the-variants.{NoExit, Exited}
-use Rattle.engine.specs.Books.{Point, wordsOfPoint, lastBecomes}
-use Rattle.engine.specs.Finish.{remarked}
-use Rattle.engine.specs.Whole.{endPoints}
 
 -- ---- a word stored in the last of n points, where there is one
 

@@ -1,29 +1,14 @@
 -- What a step decides is what the table's rules mean over all rows, although its lists read a window of them.
-use Prim.Native.Nat.{ℕ, zero, suc, _≤_, _<_}
-use mathlib.Core.Path.{_≡_, refl, ap}
-use mathlib.Core.List.{List}
-use native.Mathlib.Omega.{arith}
-use lib.Ieee.{Float}
-use Rattle.rows.specs.History.{historyOf, lastRows}
-use Rattle.table.specs.declared.answer.Answer.the-variants.{Accepted}
-use Rattle.table.specs.Checked.{checked}
-use Rattle.table.specs.Header.{slots}
-use Rattle.table.specs.Reading.{treeOf}
-use Rattle.table.specs.Trees.{reachOf}
-use Rattle.rules.specs.declared.position.PositionState.{PositionState}
+use Rattle.words.specs.Prelude.{ℕ, zero, suc, _≤_, _<_, _≡_, refl, ap, List, arith, Float}
+use Rattle.rows.specs.{History.historyOf, History.lastRows}
+use Rattle.table.specs.{declared.answer.Answer.the-variants.Accepted, Checked.checked, Header.slots, Reading.treeOf, Trees.reachOf, Depth.greatestReach}
+use Rattle.table.specs.{Depth.depthOf, Bytes.Bytes}
+use Rattle.rules.specs.{declared.position.PositionState.PositionState}
+use Rattle.steps.specs.{Bytes.bytesOf, Translating.stepsOf, Window.window-steps}
+use Rattle.records.specs.{declared.state.Order.Order, declared.state.Position.Position, declared.settings.Settings.Settings, Lent.Lists}
+use Rattle.engine.specs.{Decide.listSays, Decide.stateAt, Decide.answersOf, Decide.orderAfter, Decide.decided, Rules.rulesOf, Rules.listsOf, Rules.meanings}
+use Rattle.engine.specs.{Rules.FromTable, Whole.byLists, Whole.byMeaning}
 use Rattle.rules.specs.Meaning as Meaning
-use Rattle.steps.specs.Bytes.{bytesOf}
-use Rattle.table.specs.Depth.{greatestReach, depthOf}
-use Rattle.table.specs.Bytes.{Bytes}
-use Rattle.steps.specs.Translating.{stepsOf}
-use Rattle.steps.specs.Window.{window-steps}
-use Rattle.records.specs.declared.state.Order.{Order}
-use Rattle.records.specs.declared.state.Position.{Position}
-use Rattle.records.specs.declared.settings.Settings.{Settings}
-use Rattle.records.specs.Lent.{Lists}
-use Rattle.engine.specs.Decide.{listSays, stateAt, answersOf, orderAfter, decided}
-use Rattle.engine.specs.Rules.{rulesOf, listsOf, meanings, FromTable}
-use Rattle.engine.specs.Whole.{byLists, byMeaning}
 
 -- "D = 1 + the greatest of the four reaches and, for VolTarget, its lookback" lies above each reach
 reach-below : (table : List ℕ) (back x : ℕ) → x < 4 → reachOf (treeOf table x) < depthOf table back

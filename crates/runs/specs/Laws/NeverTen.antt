@@ -1,32 +1,12 @@
 -- Where the row room has places for D rows, no bar is refused with 10.
-use Prim.Native.Nat.{ℕ, _≤_}
-use mathlib.Core.Path.{_≡_, refl, sym}
-use mathlib.Core.Bool.{Bool, true, false, cond, _&&_, _||_}
-use mathlib.Core.List.{List, [], _∷_, _++_}
-use native.Mathlib.Omega.{arith}
-use borrow.Author.Tests.{le-leb, leb-true}
-use lib.Dec.{leb}
-use Rattle.words.specs.declared.refusal.Refusal.{Refusal}
-use Rattle.records.specs.declared.settings.Settings.{Settings}
-use Rattle.records.specs.declared.state.State.{State}
-use Rattle.records.specs.Lent.{Lists, Rooms, rowPlaces}
-use Rattle.records.specs.State.{freshState}
-use Rattle.refusals.specs.declared.verdict.Verdict.{Verdict}
-use Rattle.refusals.specs.declared.verdict.Verdict.the-variants.{Bad}
-use Rattle.refusals.specs.Bar.{barLines}
-use Rattle.refusals.specs.Judgement.{runLines, stepLines}
-use Rattle.refusals.specs.Laws.Lines.{never, and-true}
-use Rattle.words.specs.Outcome.{refusal}
-use Rattle.refusals.specs.Lines.{Line, judged}
-use Rattle.refusals.specs.Lists.{listLines}
-use Rattle.refusals.specs.Rooms.{roomLines, stateLines, placeLines}
-use Rattle.refusals.specs.Settings.{sizingLines, slippageLines, riskLines, termLines, entryLines, settingLines}
-use Rattle.engine.specs.Boxes.{Sound}
-use Rattle.runs.specs.Laws.Alike.{step-sound}
-use Rattle.engine.specs.Laws.Runs.{run-ends}
-use Rattle.runs.specs.Laws.TwoRuns.{fresh-sound}
-use Rattle.engine.specs.Run.{runOver}
-use Rattle.engine.specs.Step.{sizeLines, stepVerdict}
+use Rattle.words.specs.Prelude.{ℕ, _≤_, _≡_, refl, sym, Bool, true, false, cond, _&&_, _||_, List, [], _∷_, _++_, arith, le-leb, leb-true, leb}
+use Rattle.words.specs.{declared.refusal.Refusal.Refusal, Outcome.refusal}
+use Rattle.records.specs.{declared.settings.Settings.Settings, declared.state.State.State, Lent.Lists, Lent.Rooms, Lent.rowPlaces, State.freshState}
+use Rattle.refusals.specs.{declared.verdict.Verdict.Verdict, declared.verdict.Verdict.the-variants.Bad, Bar.barLines, Judgement.runLines, Judgement.stepLines}
+use Rattle.refusals.specs.{Laws.Lines.never, Laws.Lines.and-true, Lines.Line, Lines.judged, Lists.listLines, Rooms.roomLines, Rooms.stateLines, Rooms.placeLines}
+use Rattle.refusals.specs.{Settings.sizingLines, Settings.slippageLines, Settings.riskLines, Settings.termLines, Settings.entryLines, Settings.settingLines}
+use Rattle.engine.specs.{Boxes.Sound, Laws.Runs.run-ends, Run.runOver, Step.sizeLines, Step.stepVerdict}
+use Rattle.runs.specs.{Laws.Alike.step-sound, Laws.TwoRuns.fresh-sound}
 
 -- each line has a number above 10, or holds
 aboveTen : List Line → Bool

@@ -1,36 +1,18 @@
 -- "A step records at most one trade."
-use Prim.Native.Nat.{ℕ, _+_, _≤_}
-use mathlib.Core.Path.{_≡_, refl}
-use mathlib.Core.Bool.{Bool, true, false, cond}
-use mathlib.Core.List.{List}
-use native.Mathlib.Omega.{arith}
-use lib.Dec.{ltb}
+use Rattle.words.specs.Prelude.{ℕ, _+_, _≤_, _≡_, refl, Bool, true, false, cond, List, arith, ltb, Float}
+use Rattle.rows.specs.{History.History}
+use Rattle.portfolio.specs.{declared.Candle.Candle, declared.Closed.Closed, declared.Portfolio.Portfolio, Portfolio.inPosition, Portfolio.worsened}
+use Rattle.portfolio.specs.{Portfolio.exited}
+use Rattle.execution.specs.{declared.fills.Exit.Exit, declared.fills.Exit.the-variants.NoExit, declared.fills.Exit.the-variants.Exited, Costs.closed}
+use Rattle.execution.specs.{Fills.executeExit, Intrabar.applyIntrabarExits}
+use Rattle.records.specs.{declared.state.Order.Order, declared.state.Position.Position, declared.settings.Settings.Settings, declared.state.State.State}
+use Rattle.records.specs.{Bar.candleOf, Lent.Lists, Lent.Rooms, Lent.tradePlaces}
+use Rattle.engine.specs.{declared.account.Due.Due, declared.account.Due.the-variants.Waits, declared.account.Due.the-variants.Enters}
+use Rattle.engine.specs.{declared.account.Due.the-variants.Leaves, declared.account.Filled.Filled, Account.leaving, Account.facing, Account.entered, Account.dueOf}
+use Rattle.engine.specs.{Account.doneOf, Account.filled, Account.intrabar, Books.Held, Books.booked, Step.stepped}
 use lib.Ieee as Ieee
-use lib.Ieee.{Float}
 use Rattle.floats.specs.Floats as Floats
-use Rattle.rows.specs.History.{History}
-use Rattle.portfolio.specs.declared.Candle.{Candle}
-use Rattle.portfolio.specs.declared.Closed.{Closed}
-use Rattle.portfolio.specs.declared.Portfolio.{Portfolio}
-use Rattle.portfolio.specs.Portfolio.{inPosition, worsened, exited}
-use Rattle.execution.specs.declared.fills.Exit.{Exit}
-use Rattle.execution.specs.declared.fills.Exit.the-variants.{NoExit, Exited}
-use Rattle.execution.specs.Costs.{closed}
-use Rattle.execution.specs.Fills.{executeExit}
-use Rattle.execution.specs.Intrabar.{applyIntrabarExits}
-use Rattle.records.specs.declared.state.Order.{Order}
-use Rattle.records.specs.declared.state.Position.{Position}
-use Rattle.records.specs.declared.settings.Settings.{Settings}
-use Rattle.records.specs.declared.state.State.{State}
-use Rattle.records.specs.Bar.{candleOf}
-use Rattle.records.specs.Lent.{Lists, Rooms, tradePlaces}
-use Rattle.engine.specs.declared.account.Due.{Due}
-use Rattle.engine.specs.declared.account.Due.the-variants.{Waits, Enters, Leaves}
-use Rattle.engine.specs.declared.account.Filled.{Filled}
-use Rattle.engine.specs.Account.{leaving, facing, entered, dueOf, doneOf, filled, intrabar}
-use Rattle.engine.specs.Books.{Held, booked}
 use Rattle.engine.specs.Account as Account
-use Rattle.engine.specs.Step.{stepped}
 
 never : {A : Type 0} (c : Closed) → NoExit ≡ Exited c → A
 never c e = absurd (let z : _≡_ {A = ℕ} 0 1 = cc in omega arith)

@@ -1,24 +1,13 @@
 -- A flat account with no order: a bar adds a row, an equity point and its counts, and nothing else unless a rule says yes.
-use Prim.Native.Nat.{ℕ}
-use mathlib.Core.Path.{_≡_, refl}
-use mathlib.Core.Bool.{Bool, true, false, cond}
-use mathlib.Core.List.{List}
-use lib.Ieee.{Float}
-use Rattle.rows.specs.History.{historyOf, lastRows}
-use Rattle.portfolio.specs.Portfolio.{inPosition}
-use Rattle.execution.specs.Costs.{chargeFunding}
-use Rattle.execution.specs.Intrabar.{extremeWith, applyIntrabarExits}
-use Rattle.records.specs.declared.state.Order.the-variants.{Idle}
-use Rattle.records.specs.declared.state.Position.{Position}
-use Rattle.records.specs.declared.settings.Settings.{Settings}
-use Rattle.records.specs.declared.state.State.{State}
-use Rattle.records.specs.Bar.{candleOf}
-use Rattle.records.specs.Lent.{Lists, Rooms}
-use Rattle.engine.specs.Account.{leaving, dueOf, doneOf, filled, intrabar, charged}
-use Rattle.engine.specs.Books.{booked}
-use Rattle.engine.specs.Decide.{listSays, stateAt, answersOf, ordered, openingOrder, orderAfter, decided}
-use Rattle.runs.specs.Laws.OneTrade.{flat-faces}
-use Rattle.engine.specs.Step.{stepped}
+use Rattle.words.specs.Prelude.{ℕ, _≡_, refl, Bool, true, false, cond, List, Float}
+use Rattle.rows.specs.{History.historyOf, History.lastRows}
+use Rattle.portfolio.specs.{Portfolio.inPosition}
+use Rattle.execution.specs.{Costs.chargeFunding, Intrabar.extremeWith, Intrabar.applyIntrabarExits}
+use Rattle.records.specs.{declared.state.Order.the-variants.Idle, declared.state.Position.Position, declared.settings.Settings.Settings, declared.state.State.State}
+use Rattle.records.specs.{Bar.candleOf, Lent.Lists, Lent.Rooms}
+use Rattle.engine.specs.{Account.leaving, Account.dueOf, Account.doneOf, Account.filled, Account.intrabar, Account.charged, Books.booked, Decide.listSays}
+use Rattle.engine.specs.{Decide.stateAt, Decide.answersOf, Decide.ordered, Decide.openingOrder, Decide.orderAfter, Decide.decided, Step.stepped}
+use Rattle.runs.specs.{Laws.OneTrade.flat-faces}
 
 same : {A : Type 0} (b : Bool) (x : A) → cond b x x ≡ x
 same true x = refl

@@ -1,22 +1,12 @@
 -- An entry that the bar does not reach works on unchanged, and nothing is decided while an order works.
-use Prim.Native.Nat.{ℕ}
-use mathlib.Core.Path.{_≡_}
-use mathlib.Core.List.{List}
-use Rattle.rows.specs.History.{History}
-use Rattle.portfolio.specs.declared.Candle.{Candle}
-use Rattle.execution.specs.declared.optional.Optional.the-variants.{Absent}
-use Rattle.execution.specs.declared.level.Side.the-variants.{Long, Short}
-use Rattle.execution.specs.declared.level.OrderKind.{OrderKind}
-use Rattle.execution.specs.Level.{levelFill}
-use Rattle.records.specs.declared.state.Order.the-variants.{EnterLong, EnterShort}
-use Rattle.records.specs.declared.state.Position.{Position}
-use Rattle.records.specs.declared.settings.Settings.{Settings}
-use Rattle.records.specs.declared.state.State.{State}
-use Rattle.records.specs.Bar.{candleOf}
-use Rattle.records.specs.Lent.{Lists, Rooms}
-use Rattle.engine.specs.Account.{waiting, reached, dueOf, doneOf, filled}
-use Rattle.engine.specs.Decide.{orderAfter, decided}
-use Rattle.engine.specs.Step.{stepped}
+use Rattle.words.specs.Prelude.{ℕ, _≡_, List}
+use Rattle.rows.specs.{History.History}
+use Rattle.portfolio.specs.{declared.Candle.Candle}
+use Rattle.execution.specs.{declared.optional.Optional.the-variants.Absent, declared.level.Side.the-variants.Long, declared.level.Side.the-variants.Short}
+use Rattle.execution.specs.{declared.level.OrderKind.OrderKind, Level.levelFill}
+use Rattle.records.specs.{declared.state.Order.the-variants.EnterLong, declared.state.Order.the-variants.EnterShort, declared.state.Position.Position}
+use Rattle.records.specs.{declared.settings.Settings.Settings, declared.state.State.State, Bar.candleOf, Lent.Lists, Lent.Rooms}
+use Rattle.engine.specs.{Account.waiting, Account.reached, Account.dueOf, Account.doneOf, Account.filled, Decide.orderAfter, Decide.decided, Step.stepped}
 
 module _ (s : Settings) (p : Position) (k : Candle) (before : History) (number : ℕ) (kind : OrderKind) where
   -- not reached: the fill leaves the order and the position as they were, and closes no trade

@@ -1,21 +1,12 @@
 -- Two boxes with the same account and the same last D rows take as many bars and end with the same verdict.
-use Prim.Native.Nat.{ℕ, _+_, _≤_}
-use mathlib.Core.Path.{_≡_, refl, sym, ap, _∙_}
-use mathlib.Core.List.{List, [], _∷_}
-use Rattle.records.specs.declared.settings.Settings.{Settings}
-use Rattle.records.specs.declared.state.State.{State}
-use Rattle.records.specs.Lent.{Lists, Rooms, rowPlaces}
-use Rattle.records.specs.State.{freshState}
-use Rattle.refusals.specs.declared.verdict.Verdict.{Verdict}
-use Rattle.refusals.specs.declared.verdict.Verdict.the-variants.{Fine, Bad}
-use Rattle.refusals.specs.Laws.Lines.{never}
-use Rattle.engine.specs.Boxes.{Sound, SameCounts, NotFull, Alike}
-use Rattle.runs.specs.Laws.Alike.{step-alike, step-counts, step-sound}
-use Rattle.runs.specs.Laws.Counts.{fresh-within}
-use Rattle.engine.specs.Laws.Runs.{run-none, run-stops, run-takes, run-keeps}
-use Rattle.runs.specs.Laws.Verdicts.{roomy, same-verdict, same-unless-full}
-use Rattle.engine.specs.Run.{Run, runOver}
-use Rattle.engine.specs.Step.{With, stepped, stepVerdict}
+use Rattle.words.specs.Prelude.{ℕ, _+_, _≤_, _≡_, refl, sym, ap, _∙_, List, [], _∷_}
+use Rattle.records.specs.{declared.settings.Settings.Settings, declared.state.State.State, Lent.Lists, Lent.Rooms, Lent.rowPlaces, State.freshState}
+use Rattle.refusals.specs.{declared.verdict.Verdict.Verdict, declared.verdict.Verdict.the-variants.Fine, declared.verdict.Verdict.the-variants.Bad}
+use Rattle.refusals.specs.{Laws.Lines.never}
+use Rattle.engine.specs.{Boxes.Sound, Boxes.SameCounts, Boxes.NotFull, Boxes.Alike, Laws.Runs.run-none, Laws.Runs.run-stops, Laws.Runs.run-takes}
+use Rattle.engine.specs.{Laws.Runs.run-keeps, Run.Run, Run.runOver, Step.With, Step.stepped, Step.stepVerdict}
+use Rattle.runs.specs.{Laws.Alike.step-alike, Laws.Alike.step-counts, Laws.Alike.step-sound, Laws.Counts.fresh-within, Laws.Verdicts.roomy}
+use Rattle.runs.specs.{Laws.Verdicts.same-verdict, Laws.Verdicts.same-unless-full}
 
 -- ---- a box that is sound stays so
 

@@ -1,33 +1,16 @@
 -- Two boxes with the same account, the same last D rows and room for D rows are judged by the same lines, but for those of a full book.
-use Prim.Native.Nat.{ℕ, _≤_, _<_}
-use mathlib.Core.Path.{_≡_, refl, sym, _∙_}
-use mathlib.Core.Bool.{Bool, true, false, cond, _&&_}
-use mathlib.Core.List.{List, [], _∷_, _++_}
-use native.Mathlib.Omega.{arith}
-use borrow.Author.Tests.{leb-true, le-leb}
-use lib.Dec.{ltb, leb, eqb}
-use lib.ListN.{length}
-use Rattle.words.specs.Limits.{barWords, mostCount}
-use Rattle.words.specs.declared.refusal.Refusal.{Refusal}
-use Rattle.records.specs.declared.settings.Settings.{Settings}
-use Rattle.records.specs.declared.state.Counts.{Counts}
-use Rattle.records.specs.declared.state.State.{State}
-use Rattle.records.specs.Lent.{Lists, Rooms, pointPlaces, tradePlaces}
-use Rattle.refusals.specs.declared.verdict.Verdict.{Verdict}
-use Rattle.refusals.specs.declared.verdict.Verdict.the-variants.{Fine, Bad}
-use Rattle.refusals.specs.Judgement.{runLines, stepLines, stepJudged, finishLines, finishJudged}
-use Rattle.refusals.specs.Laws.Lines.{never, below-fine, below-bad}
-use Rattle.words.specs.Outcome.{refusal}
-use Rattle.refusals.specs.Lines.{Line, line, judged}
-use Rattle.refusals.specs.Bar.{barLines}
-use Rattle.refusals.specs.Lists.{listLines}
-use Rattle.refusals.specs.Settings.{lookback}
-use Rattle.refusals.specs.Rooms.{entryBelow, roomLines, stateLines, placeLines, toClose, closeLines}
-use Rattle.engine.specs.Boxes.{WithinRooms, Roomy, Sound, SameCounts, Alike, NotFull}
-use Rattle.runs.specs.Laws.AccountStep.{same-parts, fill-alike}
-use Rattle.engine.specs.Laws.Verdict.{handed-bad, verdicts-alike}
-use Rattle.engine.specs.Step.{sizeLines, stepVerdict}
-use Rattle.engine.specs.Whole.{accountOf, rowsHeld}
+use Rattle.words.specs.Prelude.{ℕ, _≤_, _<_, _≡_, refl, sym, _∙_, Bool, true, false, cond, _&&_, List, [], _∷_, _++_, arith, leb-true, le-leb, ltb, leb, eqb}
+use Rattle.words.specs.Prelude.{length}
+use Rattle.words.specs.{Limits.barWords, Limits.mostCount, declared.refusal.Refusal.Refusal, Outcome.refusal}
+use Rattle.records.specs.{declared.settings.Settings.Settings, declared.state.Counts.Counts, declared.state.State.State, Lent.Lists, Lent.Rooms, Lent.pointPlaces}
+use Rattle.records.specs.{Lent.tradePlaces}
+use Rattle.refusals.specs.{declared.verdict.Verdict.Verdict, declared.verdict.Verdict.the-variants.Fine, declared.verdict.Verdict.the-variants.Bad}
+use Rattle.refusals.specs.{Judgement.runLines, Judgement.stepLines, Judgement.stepJudged, Judgement.finishLines, Judgement.finishJudged, Laws.Lines.never}
+use Rattle.refusals.specs.{Laws.Lines.below-fine, Laws.Lines.below-bad, Lines.Line, Lines.line, Lines.judged, Bar.barLines, Lists.listLines, Settings.lookback}
+use Rattle.refusals.specs.{Rooms.entryBelow, Rooms.roomLines, Rooms.stateLines, Rooms.placeLines, Rooms.toClose, Rooms.closeLines}
+use Rattle.engine.specs.{Boxes.WithinRooms, Boxes.Roomy, Boxes.Sound, Boxes.SameCounts, Boxes.Alike, Boxes.NotFull, Laws.Verdict.handed-bad}
+use Rattle.engine.specs.{Laws.Verdict.verdicts-alike, Step.sizeLines, Step.stepVerdict, Whole.accountOf, Whole.rowsHeld}
+use Rattle.runs.specs.{Laws.AccountStep.same-parts, Laws.AccountStep.fill-alike}
 
 pub roomy : {s : Settings} {t : State} {m : Rooms} → Sound s t m → Roomy s t m
 roomy r = record { depth = r .depth; rows = r .within .rows; rowsSeen = r .within .rowsSeen }

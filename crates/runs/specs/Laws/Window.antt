@@ -1,17 +1,10 @@
 -- The rows that a room holds, and the last D of them, when a row is added.
-use Prim.Native.Nat.{ℕ, _+_, _-_, _*_, _/_, _≤_, _<_}
-use mathlib.Core.Path.{_≡_, refl, sym, ap, _∙_}
-use mathlib.Core.Bool.{Bool, true, false}
-use mathlib.Core.List.{List, _++_}
-use native.Mathlib.Nat.{add-mul, le-div-iff-mul-le, mul-add-div-right, mul-div-cancel, mul-le-mul-right}
-use native.Mathlib.Omega.{arith}
-use borrow.Author.Tests.{ltb-true, ltb-false, lt-ltb, le-ltb, ne-eqb}
-use lib.Dec.{ltb}
-use lib.ListN.{length, take, drop, length-append, length-drop}
-use lib.Seq.{length-take-le, drop-append-le, drop-drop, take-at}
-use Rattle.rows.specs.History.{width, lastRows}
-use Rattle.rows.specs.Room.{withRow, heldWith}
-use Rattle.engine.specs.Record.{heldRows}
+use Rattle.words.specs.Prelude.{ℕ, _+_, _-_, _*_, _/_, _≤_, _<_, _≡_, refl, sym, ap, _∙_, Bool, true, false, List, _++_, add-mul, le-div-iff-mul-le}
+use Rattle.words.specs.Prelude.{mul-add-div-right, mul-div-cancel, mul-le-mul-right, arith, ltb-true, ltb-false, lt-ltb, le-ltb, ne-eqb, ltb, length, take, drop}
+use Rattle.words.specs.Prelude.{length-append, length-drop, length-take-le, drop-drop, take-at}
+use Rattle.rows.specs.{History.width, History.lastRows, Room.withRow, Room.heldWith}
+use Rattle.engine.specs.{Record.heldRows}
+use lib.Seq.{drop-append-le}
 
 -- ---- the last D rows of any list of words
 

@@ -1,21 +1,11 @@
 -- Operands n rows before the newest bar: laws that the translation rests on.
-use Prim.Native.Nat.{ℕ, _+_, _-_, _≤_, _<_}
-use mathlib.Core.Path.{_≡_, refl, sym, ap, _∙_}
-use mathlib.Core.Bool.{Bool, true, false, not, cond, _&&_}
-use native.Mathlib.Omega.{arith}
-use native.Mathlib.Nat.{sub-zero}
-use lib.Dec.{ltb, eqb}
-use borrow.Author.Tests.{lt-ltb, le-ltb, ltb-true, ltb-false, eqb-true, eqb-false}
-use Rattle.rows.specs.History.{History}
-use Rattle.table.specs.Trees.{Operand, prev, arith as sums}
-use Rattle.rules.specs.declared.values.Value.{Value}
-use Rattle.rules.specs.declared.values.Value.the-variants.{Missing}
-use Rattle.rules.specs.Values.{both, compared, crossed, trended}
-use Rattle.rules.specs.Meaning.{there, value, newest}
-use Rattle.rules.specs.Laws.Missing.{compared-late, crossed-first}
-use Rattle.rules.specs.Laws.Meaning.{past}
-use Rattle.steps.specs.Machine.{ago}
-use Rattle.steps.specs.Translation.{trendTest}
+use Rattle.words.specs.Prelude.{ℕ, _+_, _-_, _≤_, _<_, _≡_, refl, sym, ap, _∙_, Bool, true, false, not, cond, _&&_, arith, sub-zero, ltb, eqb, lt-ltb, le-ltb}
+use Rattle.words.specs.Prelude.{ltb-true, ltb-false, eqb-true, eqb-false}
+use Rattle.rows.specs.{History.History}
+use Rattle.table.specs.{Trees.Operand, Trees.prev, Trees.arith as sums}
+use Rattle.rules.specs.{declared.values.Value.Value, declared.values.Value.the-variants.Missing, Values.both, Values.compared, Values.crossed, Values.trended}
+use Rattle.rules.specs.{Meaning.there, Meaning.value, Meaning.newest, Laws.Missing.compared-late, Laws.Missing.crossed-first, Laws.Meaning.past}
+use Rattle.steps.specs.{Machine.ago, Translation.trendTest}
 
 module _ (h : History) where
   pub arith-ago : (k : ℕ) (a b : Operand) (n : ℕ) → ago h (sums k a b) n ≡ both k (ago h a n) (ago h b n)

@@ -1,14 +1,10 @@
 -- The classes of steps: the numbers in each, and what a step of a class says. Whoever goes by a class needs no number of a kind in it.
-use Prim.Native.Nat.{ℕ, _≤_, _<_}
-use mathlib.Core.Path.{_≡_, refl, sym}
-use mathlib.Core.Bool.{Bool, true, false, true≢false, _&&_}
-use native.Mathlib.Omega.{arith}
-use lib.Dec.{ltb, leb}
-use borrow.Author.Tests.{leb-true, ltb-true, ltb-false, eq-eqb, ne-eqb, le-leb, lt-ltb, le-ltb}
+use Rattle.words.specs.Prelude.{ℕ, _≤_, _<_, _≡_, refl, sym, Bool, true, false, true≢false, _&&_, arith, ltb, leb, leb-true, ltb-true, ltb-false, eq-eqb, ne-eqb}
+use Rattle.words.specs.Prelude.{le-leb, lt-ltb, le-ltb}
+use Rattle.steps.specs.{declared.step.Step.Step, declared.step.Op.the-variants.Arith, declared.step.Op.the-variants.Compare}
+use Rattle.steps.specs.{declared.step.Op.the-variants.Cross, declared.step.Op.the-variants.Between, declared.step.Op.the-variants.Unknown, Bytes.isOperation}
+use Rattle.steps.specs.{Bytes.isComparison, Bytes.isTest, Bytes.firstTest, Bytes.lowestSlot, Bytes.opOf, Bytes.operandOp, Bytes.testOp}
 use Rattle.table.specs.Named as Named
-use Rattle.steps.specs.declared.step.Step.{Step}
-use Rattle.steps.specs.declared.step.Op.the-variants.{Arith, Compare, Cross, Between, Unknown}
-use Rattle.steps.specs.Bytes.{isOperation, isComparison, isTest, firstTest, lowestSlot, opOf, operandOp, testOp}
 
 -- ---- a range, as it is asked for
 

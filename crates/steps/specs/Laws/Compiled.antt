@@ -1,20 +1,16 @@
 -- The steps of a tree answer what the tree means.
-use Prim.Native.Nat.{ℕ, _+_}
-use mathlib.Core.Path.{_≡_, refl, sym, ap, _∙_}
-use mathlib.Core.Bool.{Bool, true, false, not, cond, _&&_, _||_}
-use mathlib.Core.List.{List, [], _∷_, _++_, append-assoc, append-nil}
-use lib.ListN.{length}
-use Rattle.rows.specs.History.{History}
-use Rattle.table.specs.Trees.{Operand, const, ref, price, prev, arith as sums, extreme, Condition, Conditions, compare, cross, between, trend, every, any}
-use Rattle.table.specs.Trees.{negated, inPosition, barsSince, none, more}
-use Rattle.rules.specs.declared.position.PositionState.{PositionState}
-use Rattle.rules.specs.declared.values.Value.{Value}
-use Rattle.rules.specs.Meaning.{holds, allHold, anyHolds, newest, says}
-use Rattle.steps.specs.declared.step.Op.{Op}
-use Rattle.steps.specs.declared.step.Op.the-variants.{Arith, Compare, Cross, Between, Turn, JumpIf}
-use Rattle.steps.specs.Machine.{Values, ago, does, effect, after, run, start, answers}
-use Rattle.steps.specs.Translation.{code, codeOf, codeEach, trendTest}
-use Rattle.steps.specs.Laws.Ago.{arith-ago, prev-ago, now-ago, cross-ago, trend-ago}
+use Rattle.words.specs.Prelude.{ℕ, _+_, _≡_, refl, sym, ap, _∙_, Bool, true, false, not, cond, _&&_, _||_, List, [], _∷_, _++_, append-assoc, append-nil, length}
+use Rattle.rows.specs.{History.History}
+use Rattle.table.specs.{Trees.Operand, Trees.const, Trees.ref, Trees.price, Trees.prev, Trees.arith as sums, Trees.extreme, Trees.Condition, Trees.Conditions}
+use Rattle.table.specs.{Trees.compare, Trees.cross, Trees.between, Trees.trend, Trees.every, Trees.any, Trees.negated, Trees.inPosition, Trees.barsSince}
+use Rattle.table.specs.{Trees.none, Trees.more}
+use Rattle.rules.specs.{declared.position.PositionState.PositionState, declared.values.Value.Value, Meaning.holds, Meaning.allHold, Meaning.anyHolds}
+use Rattle.rules.specs.{Meaning.newest, Meaning.says}
+use Rattle.steps.specs.{declared.step.Op.Op, declared.step.Op.the-variants.Arith, declared.step.Op.the-variants.Compare, declared.step.Op.the-variants.Cross}
+use Rattle.steps.specs.{declared.step.Op.the-variants.Between, declared.step.Op.the-variants.Turn, declared.step.Op.the-variants.JumpIf, Machine.Values}
+use Rattle.steps.specs.{Machine.ago, Machine.does, Machine.effect, Machine.after, Machine.run, Machine.start, Machine.answers, Translation.code}
+use Rattle.steps.specs.{Translation.codeOf, Translation.codeEach, Translation.trendTest, Laws.Ago.arith-ago, Laws.Ago.prev-ago, Laws.Ago.now-ago}
+use Rattle.steps.specs.{Laws.Ago.cross-ago, Laws.Ago.trend-ago}
 
 abbrev holding : Bool → List Value → Values
 holding b vs = record { stack = vs; answer = b }

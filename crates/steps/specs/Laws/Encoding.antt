@@ -1,26 +1,17 @@
 -- Steps written as bytes read back as the same steps.
-use Prim.Native.Nat.{ℕ, _+_, _-_, _*_, _/_, _%_, _<_, _≤_}
-use mathlib.Core.Path.{_≡_, refl, _∙_}
-use mathlib.Core.Bool.{true, false}
-use mathlib.Core.Logic.{⊎-elim}
-use mathlib.Core.List.{List, [], _∷_, _++_, append-assoc}
-use native.Mathlib.Omega.{arith}
-use native.Mathlib.Nat.{mod-eq-of-lt, mod-add-div, div-div-eq-div-mul}
-use lib.ListN.{length, getD, length-append}
-use lib.Seq.{getD-append-add}
-use borrow.Author.Tests.{lt-ltb}
-use Rattle.words.specs.Limits.{mostSteps}
-use Rattle.words.specs.Laws.Numbers.{less-or-not}
-use Rattle.table.specs.declared.series.Series.{Series}
+use Rattle.words.specs.Prelude.{ℕ, _+_, _-_, _*_, _/_, _%_, _<_, _≤_, _≡_, refl, _∙_, true, false, ⊎-elim, List, [], _∷_, _++_, append-assoc, arith, mod-eq-of-lt}
+use Rattle.words.specs.Prelude.{mod-add-div, div-div-eq-div-mul, length, getD, length-append, getD-append-add, lt-ltb}
+use Rattle.words.specs.{Limits.mostSteps, Laws.Numbers.less-or-not}
+use Rattle.table.specs.{declared.series.Series.Series, Bytes.u16, Bytes.u32, Bytes.u64}
+use Rattle.steps.specs.{declared.step.Step.Step, declared.step.Op.Op, declared.step.Op.the-variants.Const, declared.step.Op.the-variants.Ref}
+use Rattle.steps.specs.{declared.step.Op.the-variants.Price, declared.step.Op.the-variants.Arith, declared.step.Op.the-variants.Compare}
+use Rattle.steps.specs.{declared.step.Op.the-variants.Cross, declared.step.Op.the-variants.Between, declared.step.Op.the-variants.Answer}
+use Rattle.steps.specs.{declared.step.Op.the-variants.Turn, declared.step.Op.the-variants.InPosition, declared.step.Op.the-variants.BarsSinceEntry}
+use Rattle.steps.specs.{declared.step.Op.the-variants.JumpIf, declared.step.Op.the-variants.Extreme, declared.step.Op.the-variants.Unknown, Bytes.readStep}
+use Rattle.steps.specs.{Bytes.stepAt, Bytes.stepsRun, Bytes.slotKind, Bytes.isOperation, Bytes.isComparison, Bytes.isTest, Bytes.extremeOp, Bytes.operandOp}
+use Rattle.steps.specs.{Bytes.testOp, Bytes.fields, Bytes.answerOp, Bytes.opOf, Bytes.opsFrom, Bytes.opsOf, Bytes.extremeStep, Bytes.stepOf, Bytes.stepBytes}
+use Rattle.steps.specs.{Bytes.bytesOf, Laws.Classes.says-arith, Laws.Classes.says-compare, Laws.Classes.says-cross}
 use Rattle.table.specs.declared.series.Series.the-variants as Over
-use Rattle.table.specs.Bytes.{u16, u32, u64}
-use Rattle.steps.specs.declared.step.Step.{Step}
-use Rattle.steps.specs.declared.step.Op.{Op}
-use Rattle.steps.specs.declared.step.Op.the-variants.{Const, Ref, Price, Arith, Compare, Cross, Between, Answer, Turn, InPosition, BarsSinceEntry, JumpIf}
-use Rattle.steps.specs.declared.step.Op.the-variants.{Extreme, Unknown}
-use Rattle.steps.specs.Bytes.{readStep, stepAt, stepsRun, slotKind, isOperation, isComparison, isTest, extremeOp, operandOp, testOp, fields}
-use Rattle.steps.specs.Bytes.{answerOp, opOf, opsFrom, opsOf, extremeStep, stepOf, stepBytes, bytesOf}
-use Rattle.steps.specs.Laws.Classes.{says-arith, says-compare, says-cross}
 
 -- ---- the fields that a step has room for
 

@@ -1,25 +1,19 @@
 -- Every translated list is well formed.
-use Prim.Native.Nat.{ℕ, _+_, _-_, _≤_, _<_}
-use mathlib.Core.Path.{_≡_, refl, _∙_}
-use mathlib.Core.Bool.{Bool, true, false, cond}
-use mathlib.Core.List.{List, [], _∷_, _++_}
-use native.Mathlib.Omega.{arith}
-use lib.ListN.{length, length-append}
-use lib.Dec.{eqb}
+use Rattle.words.specs.Prelude.{ℕ, _+_, _-_, _≤_, _<_, _≡_, refl, _∙_, Bool, true, false, cond, List, [], _∷_, _++_, arith, length, length-append, eqb}
+use Rattle.table.specs.{Trees.Operand, Trees.const, Trees.ref, Trees.price, Trees.prev, Trees.arith as sums, Trees.extreme, Trees.Condition, Trees.Conditions}
+use Rattle.table.specs.{Trees.compare, Trees.cross, Trees.between, Trees.trend, Trees.every, Trees.any, Trees.negated, Trees.inPosition, Trees.barsSince}
+use Rattle.table.specs.{Trees.none, Trees.more, Trees.reach, Trees.reachOf, Trees.reachOfAll, declared.header.Form.Form, declared.series.Series.Series}
+use Rattle.table.specs.{Laws.Kinds.arith-numbers, Laws.Kinds.extreme-numbers, Laws.Kinds.compare-numbers, Laws.Kinds.cross-numbers, Limits.WithinSeries}
+use Rattle.table.specs.{Limits.Within, Limits.WithinOf, Limits.WithinAll}
+use Rattle.steps.specs.{declared.step.Op.Op, declared.step.Op.the-variants.Const, declared.step.Op.the-variants.Ref, declared.step.Op.the-variants.Price}
+use Rattle.steps.specs.{declared.step.Op.the-variants.Arith, declared.step.Op.the-variants.Compare, declared.step.Op.the-variants.Cross}
+use Rattle.steps.specs.{declared.step.Op.the-variants.Between, declared.step.Op.the-variants.Answer, declared.step.Op.the-variants.Turn}
+use Rattle.steps.specs.{declared.step.Op.the-variants.InPosition, declared.step.Op.the-variants.BarsSinceEntry, declared.step.Op.the-variants.JumpIf}
+use Rattle.steps.specs.{declared.step.Op.the-variants.Extreme, declared.step.Op.the-variants.Unknown, Bytes.isOperation, Bytes.isComparison}
+use Rattle.steps.specs.{Laws.Classes.operation-is, Laws.Classes.comparison-is, Translation.code, Translation.codeOf, Translation.codeEach}
+use Rattle.steps.specs.{Translation.trendTest}
 use Rattle.table.specs.Named as Named
-use Rattle.table.specs.Trees.{Operand, const, ref, price, prev, arith as sums, extreme, Condition, Conditions, compare, cross, between, trend, every, any}
-use Rattle.table.specs.Trees.{negated, inPosition, barsSince, none, more, reach, reachOf, reachOfAll}
-use Rattle.table.specs.declared.header.Form.{Form}
-use Rattle.table.specs.declared.series.Series.{Series}
 use Rattle.table.specs.declared.series.Series.the-variants as Over
-use Rattle.table.specs.Laws.Kinds.{arith-numbers, extreme-numbers, compare-numbers, cross-numbers}
-use Rattle.table.specs.Limits.{WithinSeries, Within, WithinOf, WithinAll}
-use Rattle.steps.specs.declared.step.Op.{Op}
-use Rattle.steps.specs.declared.step.Op.the-variants.{Const, Ref, Price, Arith, Compare, Cross, Between, Answer, Turn, InPosition, BarsSinceEntry, JumpIf}
-use Rattle.steps.specs.declared.step.Op.the-variants.{Extreme, Unknown}
-use Rattle.steps.specs.Bytes.{isOperation, isComparison}
-use Rattle.steps.specs.Laws.Classes.{operation-is, comparison-is}
-use Rattle.steps.specs.Translation.{code, codeOf, codeEach, trendTest}
 
 -- ---- steps that are well formed where `after` steps follow
 

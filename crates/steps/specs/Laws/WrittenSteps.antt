@@ -1,22 +1,19 @@
 -- A list that is written from steps with right fields is well formed, and reads back as those steps.
-use Prim.Native.Nat.{ℕ, _+_, _-_, _*_, _%_, _<_, _≤_}
-use mathlib.Core.Path.{_≡_, refl}
-use mathlib.Core.Bool.{true, _&&_}
-use mathlib.Core.List.{List, [], _∷_, _++_, append-assoc}
-use native.Mathlib.Omega.{arith}
-use lib.ListN.{length, length-append}
-use borrow.Author.Tests.{lt-ltb, le-ltb, le-leb, eq-eqb}
-use Rattle.words.specs.Limits.{mostSlots, mostRows, mostSteps}
-use Rattle.table.specs.declared.series.Series.{Series}
+use Rattle.words.specs.Prelude.{ℕ, _+_, _-_, _*_, _%_, _<_, _≤_, _≡_, refl, true, _&&_, List, [], _∷_, _++_, append-assoc, arith, length, length-append, lt-ltb}
+use Rattle.words.specs.Prelude.{le-ltb, le-leb, eq-eqb}
+use Rattle.words.specs.{Limits.mostSlots, Limits.mostRows, Limits.mostSteps}
+use Rattle.table.specs.{declared.series.Series.Series}
+use Rattle.steps.specs.{declared.step.Op.Op, declared.step.Op.the-variants.Extreme, declared.step.Op.the-variants.Const, declared.step.Op.the-variants.Ref}
+use Rattle.steps.specs.{declared.step.Op.the-variants.Price, declared.step.Op.the-variants.Arith, declared.step.Op.the-variants.Compare}
+use Rattle.steps.specs.{declared.step.Op.the-variants.Cross, declared.step.Op.the-variants.Between, declared.step.Op.the-variants.Answer}
+use Rattle.steps.specs.{declared.step.Op.the-variants.Turn, declared.step.Op.the-variants.InPosition, declared.step.Op.the-variants.BarsSinceEntry}
+use Rattle.steps.specs.{declared.step.Op.the-variants.JumpIf, declared.wellformed.Formed.the-variants.Well, Bytes.extremeStep, Bytes.stepOf, Bytes.stepBytes}
+use Rattle.steps.specs.{Bytes.bytesOf, Bytes.stepsIn, Bytes.opsOf, WellFormed.zeros, WellFormed.rowsFit, WellFormed.plain, WellFormed.seriesWithin}
+use Rattle.steps.specs.{WellFormed.looksWithin, WellFormed.bounded, WellFormed.goodStep, WellFormed.formedFrom, WellFormed.formed}
+use Rattle.steps.specs.{Laws.Encoding.SayableSeries, Laws.Encoding.Sayable, Laws.Encoding.AllSayable, Laws.Encoding.says-back, Laws.Encoding.step-there}
+use Rattle.steps.specs.{Laws.Encoding.steps-long, Laws.Encoding.ops-of-bytes, Laws.TranslatedSteps.SeriesRight, Laws.TranslatedSteps.FieldsRight}
+use Rattle.steps.specs.{Laws.TranslatedSteps.AllFieldsRight}
 use Rattle.table.specs.declared.series.Series.the-variants as Over
-use Rattle.steps.specs.declared.step.Op.{Op}
-use Rattle.steps.specs.declared.step.Op.the-variants.{Extreme}
-use Rattle.steps.specs.declared.step.Op.the-variants.{Const, Ref, Price, Arith, Compare, Cross, Between, Answer, Turn, InPosition, BarsSinceEntry, JumpIf}
-use Rattle.steps.specs.declared.wellformed.Formed.the-variants.{Well}
-use Rattle.steps.specs.Bytes.{extremeStep, stepOf, stepBytes, bytesOf, stepsIn, opsOf}
-use Rattle.steps.specs.WellFormed.{zeros, rowsFit, plain, seriesWithin, looksWithin, bounded, goodStep, formedFrom, formed}
-use Rattle.steps.specs.Laws.Encoding.{SayableSeries, Sayable, AllSayable, says-back, step-there, steps-long, ops-of-bytes}
-use Rattle.steps.specs.Laws.TranslatedSteps.{SeriesRight, FieldsRight, AllFieldsRight}
 
 module _ (K D : ℕ) (few : K ≤ mostSlots) (near : D ≤ mostRows) where
   series-sayable : (over : Series) → SeriesRight K over → SayableSeries over

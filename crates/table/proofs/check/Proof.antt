@@ -1,9 +1,8 @@
 -- `check` meets its contract: it is the reader of every version that there is.
 -- Assumes nothing.
-use Rattle.table.specs.Checked.{checked}
-use Rattle.table.specs.Ends.{endsBeside}
-use borrow.Author.Needs.{needs}
-use Rattle.table.proofs.check.Statement.{statement}
+use Rattle.words.specs.Prelude.{needs}
+use Rattle.table.specs.{Checked.checked, Ends.endsBeside}
+use Rattle.table.proofs.{check.Statement.statement}
 use Rattle.table.proofs.check.Tie as tie
 
 returns : tie.Need-returns

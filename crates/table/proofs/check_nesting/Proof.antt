@@ -1,10 +1,8 @@
 -- `check_nesting` meets its contract: rule 8 is broken, or what is left decides.
 -- Assumes nothing.
-use Rattle.table.proofs.Final.{stage-at, stage-none}
-use mathlib.Core.Path.{sym, _∙_}
-use Rattle.table.specs.Checked.{from8}
-use borrow.Author.Needs.{needs}
-use Rattle.table.proofs.check_nesting.Statement.{statement}
+use Rattle.words.specs.Prelude.{sym, _∙_, needs}
+use Rattle.table.proofs.{Final.stage-at, Final.stage-none, check_nesting.Statement.statement}
+use Rattle.table.specs.{Checked.from8}
 use Rattle.table.proofs.check_nesting.Tie as tie
 
 returns : tie.Need-returns

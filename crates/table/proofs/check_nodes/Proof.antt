@@ -1,8 +1,7 @@
 -- `check_nodes` meets its contract: rule 6 is broken, or what is left decides.
 -- Assumes nothing.
-use borrow.Author.Needs.{needs}
-use Rattle.table.proofs.Final.{six-at, six-none, head-roots}
-use Rattle.table.proofs.check_nodes.Statement.{statement}
+use Rattle.words.specs.Prelude.{needs}
+use Rattle.table.proofs.{Final.six-at, Final.six-none, Final.head-roots, check_nodes.Statement.statement}
 use Rattle.table.proofs.check_nodes.Tie as tie
 
 check-order-requires : tie.Need-check-order-requires

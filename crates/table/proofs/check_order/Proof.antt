@@ -1,14 +1,8 @@
 -- `check_order` meets its contract: rule 7 is broken, or what is left decides and the array is the subtree ends.
 -- Assumes nothing.
-use Rattle.table.proofs.Final.{stage-at, stage-none, ends-are}
-use mathlib.Core.Path.{sym, _∙_, ap}
-use Rattle.table.specs.Checked.{from7, from8}
-use Rattle.table.specs.Ends.{endsFor}
-use Rattle.table.proofs.Four.{linked-all}
-use Prim.Native.Nat.{ℕ}
-use mathlib.Core.List.{List}
-use borrow.Author.Needs.{needs}
-use Rattle.table.proofs.check_order.Statement.{statement}
+use Rattle.words.specs.Prelude.{sym, _∙_, ap, ℕ, List, needs}
+use Rattle.table.proofs.{Final.stage-at, Final.stage-none, Final.ends-are, Four.linked-all, check_order.Statement.statement}
+use Rattle.table.specs.{Checked.from7, Checked.from8, Ends.endsFor}
 use Rattle.table.proofs.check_order.Tie as tie
 
 check-nesting-requires : tie.Need-check-nesting-requires

@@ -1,9 +1,7 @@
 -- `check_reach` meets its contract: the answer is handed on, with the array beside it.
 -- Assumes nothing.
-use Rattle.table.proofs.Final.{keep-refused, keep-accepted}
-use mathlib.Core.Path.{sym, _∙_}
-use borrow.Author.Needs.{needs}
-use Rattle.table.proofs.check_reach.Statement.{statement}
+use Rattle.words.specs.Prelude.{sym, _∙_, needs}
+use Rattle.table.proofs.{Final.keep-refused, Final.keep-accepted, check_reach.Statement.statement}
 use Rattle.table.proofs.check_reach.Tie as tie
 
 returns : tie.Need-returns

@@ -1,8 +1,7 @@
 -- `check_up_to` meets its contract: a rule of the header is broken, or what is left decides.
 -- Assumes nothing.
-use Rattle.table.proofs.Final.{one-at}
-use borrow.Author.Needs.{needs}
-use Rattle.table.proofs.check_up_to.Statement.{statement}
+use Rattle.words.specs.Prelude.{needs}
+use Rattle.table.proofs.{Final.one-at, check_up_to.Statement.statement}
 use Rattle.table.proofs.check_up_to.Tie as tie
 
 returns-2 : tie.Need-returns-2

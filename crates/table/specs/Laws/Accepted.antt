@@ -1,33 +1,16 @@
 -- What an accepted table is: every rule is kept, and what follows for each of its trees.
 -- Assumes nothing.
-use mathlib.Core.Path.{_≡_, refl, sym, _∙_, ap, subst}
-use mathlib.Core.Bool.{Bool, true, false, cond}
-use mathlib.Core.List.{List, [], _∷_}
-use Prim.Native.Nat.{ℕ, zero, suc, _+_, _-_, _≤_, _<_}
-use native.Mathlib.Omega.{arith}
-use native.Mathlib.Nat.{eq-zero-or-pos, zero-add, add-zero}
-use mathlib.Core.Logic.{⊎-elim}
-use lib.ListN.{getD}
-use lib.Dec.{ltb, eqb}
-use borrow.Author.Tests.{eqb-true, ne-eqb, lt-ltb, le-ltb}
-use Rattle.words.specs.Limits.{mostReach, mostNesting, mostNodes}
-use Rattle.words.specs.declared.refusal.Refusal.{Refusal}
-use Rattle.words.specs.Outcome.{refusal}
-use Rattle.table.specs.declared.places.Place.{Place}
-use Rattle.table.specs.declared.places.Place.the-variants.{Nowhere, At}
-use Rattle.table.specs.declared.answer.Answer.{Answer}
-use Rattle.table.specs.declared.answer.Answer.the-variants.{Accepted, Refused}
-use Rattle.table.specs.Header.{newestVersion, total, count, root, headerRefusal}
-use Rattle.table.specs.Nodes.{nodeRight, wrongNode}
-use Rattle.table.specs.Order.{fits, misfit, misfits, orPlace, ofFour}
-use Rattle.table.specs.Forest.{trees, sorts, Sorted, forestOf}
-use Rattle.table.specs.Nesting.{deeper, tooDeep}
-use Rattle.table.specs.Reach.{treeReach, farAt, tooFar, rowsNeeded}
-use Rattle.table.specs.Checked.{orRefused, orHeader, from9, from8, from7, checkedUpTo, checked}
-use Rattle.table.specs.Ends.{endAt, endOfNode, endsAll, endsFor, endsBeside, Link, Linked}
-use Rattle.table.specs.Laws.Ends.{from-at}
-use Rattle.table.specs.Laws.Header.{HeaderRight, header-right}
-use Rattle.table.specs.Laws.Order.{never-at, test-held, sorts-trees, each, link-end}
+use Rattle.words.specs.Prelude.{_≡_, refl, sym, _∙_, ap, subst, Bool, true, false, cond, List, [], _∷_, ℕ, zero, suc, _+_, _-_, _≤_, _<_, arith, eq-zero-or-pos}
+use Rattle.words.specs.Prelude.{zero-add, add-zero, ⊎-elim, getD, ltb, eqb, eqb-true, ne-eqb, lt-ltb, le-ltb}
+use Rattle.words.specs.{Limits.mostReach, Limits.mostNesting, Limits.mostNodes, declared.refusal.Refusal.Refusal, Outcome.refusal}
+use Rattle.table.specs.{declared.places.Place.Place, declared.places.Place.the-variants.Nowhere, declared.places.Place.the-variants.At}
+use Rattle.table.specs.{declared.answer.Answer.Answer, declared.answer.Answer.the-variants.Accepted, declared.answer.Answer.the-variants.Refused}
+use Rattle.table.specs.{Header.newestVersion, Header.total, Header.count, Header.root, Header.headerRefusal, Nodes.nodeRight, Nodes.wrongNode, Order.fits}
+use Rattle.table.specs.{Order.misfit, Order.misfits, Order.orPlace, Order.ofFour, Forest.trees, Forest.sorts, Forest.Sorted, Forest.forestOf, Nesting.deeper}
+use Rattle.table.specs.{Nesting.tooDeep, Reach.treeReach, Reach.farAt, Reach.tooFar, Reach.rowsNeeded, Checked.orRefused, Checked.orHeader, Checked.from9}
+use Rattle.table.specs.{Checked.from8, Checked.from7, Checked.checkedUpTo, Checked.checked, Ends.endAt, Ends.endOfNode, Ends.endsAll, Ends.endsFor}
+use Rattle.table.specs.{Ends.endsBeside, Ends.Link, Ends.Linked, Laws.Ends.from-at, Laws.Header.HeaderRight, Laws.Header.header-right, Laws.Order.never-at}
+use Rattle.table.specs.{Laws.Order.test-held, Laws.Order.sorts-trees, Laws.Order.each, Laws.Order.link-end}
 
 -- ---- from the answer to the rules
 

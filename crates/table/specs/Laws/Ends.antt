@@ -1,13 +1,7 @@
 -- Laws of a list by a rule for its places.
 -- Assumes nothing.
-use mathlib.Core.Path.{_≡_, refl, _∙_, ap}
-use mathlib.Core.List.{List, _∷_, _++_}
-use Prim.Native.Nat.{ℕ, zero, suc, _+_, _<_}
-use native.Mathlib.Omega.{arith}
-use native.Mathlib.Nat.{zero-add, suc-add, add-zero}
-use lib.ListN.{length, getD}
-use lib.Seq.{ext-getD}
-use Rattle.table.specs.Ends.{from}
+use Rattle.words.specs.Prelude.{_≡_, refl, _∙_, ap, List, _∷_, _++_, ℕ, zero, suc, _+_, _<_, arith, zero-add, suc-add, add-zero, length, getD, ext-getD}
+use Rattle.table.specs.{Ends.from}
 
 module _ {A : Type 0} (f : ℕ → A) where
   pub from-long : (m i : ℕ) → length (from f m i) ≡ m

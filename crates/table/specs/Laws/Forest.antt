@@ -1,14 +1,8 @@
 -- Laws of trees in a row: how they come apart, and that their nodes in prefix order are the table's.
 -- Assumes nothing.
-use mathlib.Core.Path.{_≡_, refl, sym, _∙_, ap}
-use mathlib.Core.List.{List, _∷_, _++_, append-assoc}
-use Prim.Native.Nat.{ℕ, zero, suc, _+_, _-_, _≤_, _<_}
-use native.Mathlib.Omega.{arith}
-use native.Mathlib.Nat.{zero-add, suc-add}
-use lib.ListN.{replicate}
-use Rattle.table.specs.declared.nodes.Node.{Node}
-use Rattle.table.specs.Nodes.{nodeAt, childCountAt}
-use Rattle.table.specs.Forest.{Forest, none, tree, firstTrees, otherTrees, nodeOver, trees, size, flat, nodes, sorts, Sorted}
+use Rattle.words.specs.Prelude.{_≡_, refl, sym, _∙_, ap, List, _∷_, _++_, append-assoc, ℕ, zero, suc, _+_, _-_, _≤_, _<_, arith, zero-add, suc-add, replicate}
+use Rattle.table.specs.{declared.nodes.Node.Node, Nodes.nodeAt, Nodes.childCountAt, Forest.Forest, Forest.none, Forest.tree, Forest.firstTrees}
+use Rattle.table.specs.{Forest.otherTrees, Forest.nodeOver, Forest.trees, Forest.size, Forest.flat, Forest.nodes, Forest.sorts, Forest.Sorted}
 
 -- The nodes from node i up to e: how many are left.
 pub left-suc : (e i : ℕ) → i < e → e - i ≡ suc (e - (i + 1))

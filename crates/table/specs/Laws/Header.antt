@@ -1,15 +1,10 @@
 -- What a header that breaks no rule says.
 -- Assumes nothing.
-use mathlib.Core.Path.{_≡_, refl, sym}
-use mathlib.Core.Bool.{Bool, true, false, not, cond, _&&_}
-use mathlib.Core.List.{List}
-use Prim.Native.Nat.{ℕ, _+_, _*_, _≤_}
-use native.Mathlib.Omega.{arith}
-use lib.ListN.{length}
-use lib.Dec.{ltb, leb, eqb}
-use borrow.Author.Tests.{ltb-false, leb-true, eqb-true, not-true}
-use Rattle.words.specs.Limits.{mostSlots, mostNodes}
-use Rattle.table.specs.Header.{slots, version, total, count, markRight, versionRight, countsRight, headerRefusal}
+use Rattle.words.specs.Prelude.{_≡_, refl, sym, Bool, true, false, not, cond, _&&_, List, ℕ, _+_, _*_, _≤_, arith, length, ltb, leb, eqb, ltb-false, leb-true}
+use Rattle.words.specs.Prelude.{eqb-true, not-true}
+use Rattle.words.specs.{Limits.mostSlots, Limits.mostNodes}
+use Rattle.table.specs.{Header.slots, Header.version, Header.total, Header.count, Header.markRight, Header.versionRight, Header.countsRight}
+use Rattle.table.specs.{Header.headerRefusal}
 
 true-false : false ≡ true → ⊥
 true-false h = let z : _≡_ {A = ℕ} 0 1 = cc in omega arith

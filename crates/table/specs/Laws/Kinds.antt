@@ -1,29 +1,22 @@
 -- THE VIEW of a node's kind: one case for each class of operands and one for each class of conditions, with what the table
 -- of kinds says there. Whoever goes by the kind of a node goes by these cases.
 -- Assumes nothing.
-use mathlib.Core.Path.{_≡_, refl, sym, _∙_, ap}
-use mathlib.Core.Bool.{Bool, true, cond, true≢false, _&&_}
-use mathlib.Core.Logic.{⊎-elim}
-use mathlib.Core.List.{List}
-use Prim.Native.Nat.{ℕ, _+_, _-_, _≤_, _<_}
-use native.Mathlib.Omega.{arith}
-use native.Mathlib.Nat.{eq-zero-or-pos}
-use lib.ListN.{getD, List·getD-eq-default}
-use lib.Dec.{leb, eqb}
-use borrow.Author.Tests.{leb-true, eqb-true, eq-eqb}
-use Rattle.table.specs.declared.kinds.Kind.{Kind}
-use Rattle.table.specs.declared.kinds.OperandClass.{OperandClass}
-use Rattle.table.specs.declared.kinds.OperandClass.the-variants.{NoOperand, Const, Ref, Price, Prev, Arith, Extreme}
-use Rattle.table.specs.declared.kinds.ConditionClass.{ConditionClass}
-use Rattle.table.specs.declared.kinds.ConditionClass.the-variants.{NoCondition, Compare, Cross, Between, Trend, All, Any, Not}
-use Rattle.table.specs.declared.kinds.ConditionClass.the-variants.{InPosition, BarsSince}
+use Rattle.words.specs.Prelude.{_≡_, refl, sym, _∙_, ap, Bool, true, cond, true≢false, _&&_, ⊎-elim, List, ℕ, _+_, _-_, _≤_, _<_, arith, eq-zero-or-pos, getD}
+use Rattle.words.specs.Prelude.{List·getD-eq-default, leb, eqb, leb-true, eqb-true, eq-eqb}
+use Rattle.table.specs.{declared.kinds.Kind.Kind, declared.kinds.OperandClass.OperandClass, declared.kinds.OperandClass.the-variants.NoOperand}
+use Rattle.table.specs.{declared.kinds.OperandClass.the-variants.Const, declared.kinds.OperandClass.the-variants.Ref}
+use Rattle.table.specs.{declared.kinds.OperandClass.the-variants.Price, declared.kinds.OperandClass.the-variants.Prev}
+use Rattle.table.specs.{declared.kinds.OperandClass.the-variants.Arith, declared.kinds.OperandClass.the-variants.Extreme}
+use Rattle.table.specs.{declared.kinds.ConditionClass.ConditionClass, declared.kinds.ConditionClass.the-variants.NoCondition}
+use Rattle.table.specs.{declared.kinds.ConditionClass.the-variants.Compare, declared.kinds.ConditionClass.the-variants.Cross}
+use Rattle.table.specs.{declared.kinds.ConditionClass.the-variants.Between, declared.kinds.ConditionClass.the-variants.Trend}
+use Rattle.table.specs.{declared.kinds.ConditionClass.the-variants.All, declared.kinds.ConditionClass.the-variants.Any}
+use Rattle.table.specs.{declared.kinds.ConditionClass.the-variants.Not, declared.kinds.ConditionClass.the-variants.InPosition}
+use Rattle.table.specs.{declared.kinds.ConditionClass.the-variants.BarsSince, Kinds.kinds, Kinds.kindOf, Kinds.noKind, Kinds.constant, Kinds.reference}
+use Rattle.table.specs.{Kinds.price, Kinds.previous, Kinds.arithmetic, Kinds.extremum, Kinds.overASeries, Kinds.comparison, Kinds.crossing, Kinds.between}
+use Rattle.table.specs.{Kinds.trend, Kinds.allOf, Kinds.anyOf, Kinds.negation, Kinds.position, Kinds.barsSince, Kinds.secondVersion, Kinds.versions}
+use Rattle.table.specs.{Kinds.sinceOf, Ends.from, Laws.Header.both, Laws.Ends.from-at}
 use Rattle.table.specs.Named as Named
-use Rattle.table.specs.Kinds.{kinds, kindOf, noKind, constant, reference, price, previous, arithmetic, extremum}
-use Rattle.table.specs.Kinds.{overASeries, comparison, crossing, between, trend, allOf, anyOf, negation, position, barsSince}
-use Rattle.table.specs.Kinds.{secondVersion, versions, sinceOf}
-use Rattle.table.specs.Ends.{from}
-use Rattle.table.specs.Laws.Header.{both}
-use Rattle.table.specs.Laws.Ends.{from-at}
 
 -- ---- what holds of the 32 rows, and of no row past them
 

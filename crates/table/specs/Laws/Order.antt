@@ -1,21 +1,11 @@
 -- Laws of rule 7: where it is kept, each node has the children that its kind takes, and its end leads past its subtree.
 -- Assumes nothing.
-use mathlib.Core.Path.{_≡_, refl, sym, _∙_, ap, subst}
-use mathlib.Core.Bool.{Bool, true, false, cond}
-use mathlib.Core.List.{List, [], _∷_, _++_, append-assoc}
-use Prim.Native.Nat.{ℕ, zero, suc, _+_, _-_, _≤_, _<_}
-use native.Mathlib.Omega.{arith}
-use native.Mathlib.Nat.{zero-add, suc-add, add-zero, sub-zero}
-use borrow.Author.Tests.{eqb-true}
-use lib.ListN.{length, replicate, length-append, length-replicate}
-use lib.Dec.{eqb}
-use Rattle.table.specs.declared.places.Place.{Place}
-use Rattle.table.specs.declared.places.Place.the-variants.{Nowhere, At}
-use Rattle.table.specs.Nodes.{nodeAt, sortAt, childCountAt, childSortAt, childFitsAt}
-use Rattle.table.specs.Order.{fits}
-use Rattle.table.specs.Forest.{firstTrees, otherTrees, nodeOver, trees, size, sorts, Fitting, Sorted}
-use Rattle.table.specs.Ends.{placeOr, endAt, Link}
-use Rattle.table.specs.Laws.Forest.{left-suc, other-other, size-split, sorts-first, sorted-first}
+use Rattle.words.specs.Prelude.{_≡_, refl, sym, _∙_, ap, subst, Bool, true, false, cond, List, [], _∷_, _++_, append-assoc, ℕ, zero, suc, _+_, _-_, _≤_, _<_, arith}
+use Rattle.words.specs.Prelude.{zero-add, suc-add, add-zero, sub-zero, eqb-true, length, replicate, length-append, length-replicate, eqb}
+use Rattle.table.specs.{declared.places.Place.Place, declared.places.Place.the-variants.Nowhere, declared.places.Place.the-variants.At, Nodes.nodeAt}
+use Rattle.table.specs.{Nodes.sortAt, Nodes.childCountAt, Nodes.childSortAt, Nodes.childFitsAt, Order.fits, Forest.firstTrees, Forest.otherTrees}
+use Rattle.table.specs.{Forest.nodeOver, Forest.trees, Forest.size, Forest.sorts, Forest.Fitting, Forest.Sorted, Ends.placeOr, Ends.endAt, Ends.Link}
+use Rattle.table.specs.{Laws.Forest.left-suc, Laws.Forest.other-other, Laws.Forest.size-split, Laws.Forest.sorts-first, Laws.Forest.sorted-first}
 
 pub never-at : (i : ℕ) → At i ≡ Nowhere → ⊥
 never-at i e = let z : _≡_ {A = ℕ} 0 1 = cc in omega arith

@@ -1,14 +1,8 @@
 -- The silent tests among the nodes of a forest, one node after another. Assumes nothing.
-use Prim.Native.Nat.{ℕ, zero, suc, _+_, _-_, _≤_, _<_, max}
-use mathlib.Core.Path.{_≡_, refl, ap, _∙_}
-use mathlib.Core.List.{List, [], _++_, append-assoc}
-use native.Mathlib.Omega.{arith}
-use Rattle.table.specs.Nodes.{nodeAt, childCountAt}
-use Rattle.table.specs.Forest.{Forest, firstTrees, otherTrees, nodeOver, trees}
+use Rattle.words.specs.Prelude.{ℕ, zero, suc, _+_, _-_, _≤_, _<_, max, _≡_, refl, ap, _∙_, List, [], _++_, append-assoc, arith}
+use Rattle.table.specs.{Nodes.nodeAt, Nodes.childCountAt, Forest.Forest, Forest.firstTrees, Forest.otherTrees, Forest.nodeOver, Forest.trees, Reach.ownBack}
+use Rattle.table.specs.{Reach.weigh, Laws.Forest.left-suc, Silent.silentNode, Silent.silentNodes}
 use Rattle.table.specs.Forest as Forest
-use Rattle.table.specs.Reach.{ownBack, weigh}
-use Rattle.table.specs.Laws.Forest.{left-suc}
-use Rattle.table.specs.Silent.{silentNode, silentNodes}
 
 module _ (d : ℕ) where
   in-two : (k : ℕ) (f : Forest) → silentNodes d (firstTrees k f) ++ silentNodes d (otherTrees k f) ≡ silentNodes d f

@@ -1,12 +1,7 @@
 -- As many words stand in the room as were counted; the measure is the places left.
-use mathlib.Core.Path.{_≡_, sym}
-use mathlib.Core.List.{List}
-use Prim.Native.Nat.{ℕ, _≤_, _-_}
-use lib.ListN.{length, length-set}
-use lib.Seq.{length-take-le}
-use borrow.Author.Needs.{needs}
-use Rattle.io.specs.Counts.{Counts}
-use Rattle.text.proofs.read_line.Statement.{statement}
+use Rattle.words.specs.Prelude.{_≡_, sym, List, ℕ, _≤_, _-_, length, length-set, length-take-le, needs}
+use Rattle.io.specs.{Counts.Counts}
+use Rattle.text.proofs.{read_line.Statement.statement}
 use Rattle.text.proofs.read_line.Tie as tie
 
 abbrev Inv-loop : tie.InvT-loop

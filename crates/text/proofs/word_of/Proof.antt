@@ -1,8 +1,6 @@
 -- The loop goes over the digits; the word keeps its last 60 bits before each, so that nothing is lost.
-use Prim.Native.Nat.{_≤_, _-_}
-use lib.ListN.{length}
-use borrow.Author.Needs.{needs}
-use Rattle.text.proofs.word_of.Statement.{statement}
+use Rattle.words.specs.Prelude.{_≤_, _-_, length, needs}
+use Rattle.text.proofs.{word_of.Statement.statement}
 use Rattle.text.proofs.word_of.Tie as tie
 
 abbrev Inv-loop : tie.InvT-loop

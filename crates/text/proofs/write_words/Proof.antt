@@ -1,9 +1,6 @@
 -- The loop goes over the words; the measure is those that are left.
-use mathlib.Core.Path.{_≡_}
-use Prim.Native.Nat.{_≤_, _-_}
-use lib.ListN.{length}
-use borrow.Author.Needs.{needs}
-use Rattle.text.proofs.write_words.Statement.{statement}
+use Rattle.words.specs.Prelude.{_≡_, _≤_, _-_, length, needs}
+use Rattle.text.proofs.{write_words.Statement.statement}
 use Rattle.text.proofs.write_words.Tie as tie
 
 abbrev Inv-loop : tie.InvT-loop

@@ -1,13 +1,7 @@
 -- A room that is filled place by place. Assumes nothing.
-use Prim.Native.Nat.{ℕ, zero, suc, _+_, _-_, _*_, _/_, _^_, _≤_, _<_}
-use mathlib.Core.Path.{_≡_, refl, sym, ap, _∙_}
-use mathlib.Core.List.{List, [], _∷_}
-use native.Mathlib.Omega.{arith}
-use native.Mathlib.Nat.{div-one}
-use lib.Dec.{ltb}
-use lib.ListN.{length, take, drop, set}
-use borrow.Author.Tests.{lt-ltb, le-ltb}
-use Rattle.text.specs.Rooms.{laid}
+use Rattle.words.specs.Prelude.{ℕ, zero, suc, _+_, _-_, _*_, _/_, _^_, _≤_, _<_, _≡_, refl, sym, ap, _∙_, List, [], _∷_, arith, div-one, ltb, length, take, drop}
+use Rattle.words.specs.Prelude.{set, lt-ltb, le-ltb}
+use Rattle.text.specs.{Rooms.laid}
 
 module _ (f : ℕ → ℕ) where
   pub laid-long : (at n : ℕ) (xs : List ℕ) → length (laid f at n xs) ≡ length xs

@@ -1,21 +1,12 @@
 -- Each test is a line of the order; what is written is the record with the trades. Assumes nothing.
-use mathlib.Core.Path.{_≡_, refl, sym, ap, subst, _∙_}
-use mathlib.Core.Bool.{true, false}
-use mathlib.Core.List.{List}
-use Prim.Native.Nat.{ℕ, _+_, _*_, _/_, _%_, _<_, _≤_}
-use native.Mathlib.Omega.{arith}
-use borrow.Author.Needs.{needs}
-use lib.ListN.{length}
-use Rattle.words.specs.Limits.{tradeWords, mostCount}
-use Rattle.words.specs.Outcome.{refusal}
-use Rattle.totals.specs.declared.Answer.the-variants.{Refused}
-use Rattle.totals.specs.Exact.{numberIn}
-use Rattle.totals.specs.Trades.{Trade, tradesFrom, tradesOf, goodStart, judgedCount, pnlSum}
-use Rattle.totals.specs.Totals.{countSize, AllAtMost, totalWords, countsOf, sumWords, withCounts, sumWith, traded, countsFine}
-use Rattle.totals.proofs.Testing.{so, not-so}
-use Rattle.totals.proofs.Answers.{judged-most, fine-small, traded-most, length-of, written, less-as, at-most-as}
-use Rattle.totals.proofs.Answers.{good, add-short, add-ragged, add-wrong, add-bad, add-many, add-done, all-of-them, add-keeps, add-writes}
-use Rattle.totals.proofs.add.Statement.{statement}
+use Rattle.words.specs.Prelude.{_≡_, refl, sym, ap, subst, _∙_, true, false, List, ℕ, _+_, _*_, _/_, _%_, _<_, _≤_, arith, needs, length}
+use Rattle.words.specs.{Limits.tradeWords, Limits.mostCount, Outcome.refusal}
+use Rattle.totals.specs.{declared.Answer.the-variants.Refused, Exact.numberIn, Trades.Trade, Trades.tradesFrom, Trades.tradesOf, Trades.goodStart}
+use Rattle.totals.specs.{Trades.judgedCount, Trades.pnlSum, Totals.countSize, Totals.AllAtMost, Totals.totalWords, Totals.countsOf, Totals.sumWords}
+use Rattle.totals.specs.{Totals.withCounts, Totals.sumWith, Totals.traded, Totals.countsFine}
+use Rattle.totals.proofs.{Testing.so, Testing.not-so, Answers.judged-most, Answers.fine-small, Answers.traded-most, Answers.length-of, Answers.written}
+use Rattle.totals.proofs.{Answers.less-as, Answers.at-most-as, Answers.good, Answers.add-short, Answers.add-ragged, Answers.add-wrong, Answers.add-bad}
+use Rattle.totals.proofs.{Answers.add-many, Answers.add-done, Answers.all-of-them, Answers.add-keeps, Answers.add-writes, add.Statement.statement}
 use Rattle.totals.proofs.add.Tie as tie
 
 returns : tie.Need-returns

@@ -1,20 +1,11 @@
 -- Each test is a line of the order; what is written is the record of both. Assumes nothing.
-use mathlib.Core.Path.{_≡_, refl, sym, ap, subst, _∙_}
-use mathlib.Core.Bool.{true, false}
-use mathlib.Core.List.{List}
-use Prim.Native.Nat.{ℕ, _+_, _*_, _/_, _%_, _<_, _≤_}
-use native.Mathlib.Omega.{arith}
-use borrow.Author.Needs.{needs}
-use lib.ListN.{length}
-use Rattle.words.specs.Limits.{tradeWords, mostCount}
-use Rattle.words.specs.Outcome.{refusal}
-use Rattle.totals.specs.declared.Answer.the-variants.{Refused}
-use Rattle.totals.specs.Exact.{numberIn}
-use Rattle.totals.specs.Totals.{countSize, AllAtMost, totalWords, countsOf, sumWords, bothCounts, sumWith, traded, countsFine}
-use Rattle.totals.proofs.Testing.{so, not-so}
-use Rattle.totals.proofs.Answers.{fine-small, traded-most, length-of, written, less-as, at-most-as}
-use Rattle.totals.proofs.Answers.{join-short, join-ragged, join-wrong, join-other, join-many, join-done, join-keeps, join-writes}
-use Rattle.totals.proofs.join.Statement.{statement}
+use Rattle.words.specs.Prelude.{_≡_, refl, sym, ap, subst, _∙_, true, false, List, ℕ, _+_, _*_, _/_, _%_, _<_, _≤_, arith, needs, length}
+use Rattle.words.specs.{Limits.tradeWords, Limits.mostCount, Outcome.refusal}
+use Rattle.totals.specs.{declared.Answer.the-variants.Refused, Exact.numberIn, Totals.countSize, Totals.AllAtMost, Totals.totalWords, Totals.countsOf}
+use Rattle.totals.specs.{Totals.sumWords, Totals.bothCounts, Totals.sumWith, Totals.traded, Totals.countsFine}
+use Rattle.totals.proofs.{Testing.so, Testing.not-so, Answers.fine-small, Answers.traded-most, Answers.length-of, Answers.written, Answers.less-as}
+use Rattle.totals.proofs.{Answers.at-most-as, Answers.join-short, Answers.join-ragged, Answers.join-wrong, Answers.join-other, Answers.join-many}
+use Rattle.totals.proofs.{Answers.join-done, Answers.join-keeps, Answers.join-writes, join.Statement.statement}
 use Rattle.totals.proofs.join.Tie as tie
 
 returns : tie.Need-returns

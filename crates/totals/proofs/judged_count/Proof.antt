@@ -1,7 +1,7 @@
 -- The smaller of two. Assumes nothing.
-use borrow.Author.Tests.{le-leb, lt-leb}
-use Rattle.totals.specs.Trades.{judgedCount}
-use Rattle.totals.proofs.judged_count.Statement.{statement}
+use Rattle.words.specs.Prelude.{le-leb, lt-leb}
+use Rattle.totals.specs.{Trades.judgedCount}
+use Rattle.totals.proofs.{judged_count.Statement.statement}
 use Rattle.totals.proofs.judged_count.Tie as tie
 
 returns : tie.Need-returns

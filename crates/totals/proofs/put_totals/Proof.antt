@@ -1,12 +1,7 @@
 -- Counts, sum and float fill the 43 words. Assumes nothing.
-use mathlib.Core.Path.{_≡_, ap, _∙_}
-use mathlib.Core.List.{List}
-use Prim.Native.Nat.{ℕ}
-use borrow.Author.Needs.{needs}
-use lib.ListN.{set, replicate}
-use Rattle.words.specs.Words.{overwrite}
-use Rattle.totals.proofs.Writing.{filled}
-use Rattle.totals.proofs.put_totals.Statement.{statement}
+use Rattle.words.specs.Prelude.{_≡_, ap, _∙_, List, ℕ, needs, set, replicate}
+use Rattle.words.specs.{Words.overwrite}
+use Rattle.totals.proofs.{Writing.filled, put_totals.Statement.statement}
 use Rattle.totals.proofs.put_totals.Tie as tie
 
 returns : tie.Need-returns

@@ -1,27 +1,15 @@
 -- No sum of so many finite floats passes the 34 words: they read back as it is. Assumes nothing.
-use mathlib.Core.Path.{_≡_, refl, sym, ap, subst, _∙_}
-use mathlib.Core.Bool.{Bool, true, false, cond, not, true≢false}
-use mathlib.Core.List.{List, [], _∷_}
-use Prim.Native.Nat.{ℕ, zero, suc, _+_, _-_, _*_, _/_, _%_, _^_, _≤_, _<_}
-use native.Mathlib.Nat.{mod-lt, le-trans, le-of-eq, le-of-lt, add-le-add, zero-mul, suc-mul, mul-one}
-use native.Mathlib.Omega.{arith}
-use borrow.Author.Tests.{ltb-true, ltb-false, ne-eqb}
-use lib.Dec.{leb, ltb, eqb, lit≤}
-use lib.Pow.{pow-pos, pow-mono, shl-lt}
-use lib.ListN.{length}
-use lib.IntN.{ℤ, pos, negsuc, negℤ, _+ℤ_, subℕ, natAbs}
-use lib.Ieee.{Float, nan, inf, binary64, odd, ofFields, ofBits}
-use lib.Ieee.Exact.{HasValue, odd-sign}
-use Rattle.words.specs.Limits.{mostCount}
-use Rattle.floats.specs.Floats.{floatOf, finite}
-use Rattle.floats.specs.Root.{fieldUnits, unitsOf}
-use Rattle.totals.specs.Number.{place}
-use Rattle.totals.specs.Exact.{residue, signed, step, unitsIn, numberIn, wordsFor, sumSize}
-use Rattle.totals.specs.Trades.{Trade, acceptable, pnlSum}
-use Rattle.totals.specs.Laws.Places.{place-pow}
-use Rattle.totals.specs.Laws.Residues.{signed-up, signed-down}
-use Rattle.totals.specs.Laws.Sums.{number-for}
-use Rattle.totals.specs.Laws.Trades.{Acceptable, none, more, acceptable-finite}
+use Rattle.words.specs.Prelude.{_≡_, refl, sym, ap, subst, _∙_, Bool, true, false, cond, not, true≢false, List, [], _∷_, ℕ, zero, suc, _+_, _-_, _*_, _/_, _%_, _^_}
+use Rattle.words.specs.Prelude.{_≤_, _<_, mod-lt, le-trans, le-of-eq, le-of-lt, zero-mul, suc-mul, mul-one, arith, ltb-true, ltb-false, ne-eqb, leb, ltb, eqb, lit≤}
+use Rattle.words.specs.Prelude.{pow-pos, pow-mono, shl-lt, length, ℤ, pos, negsuc, negℤ, _+ℤ_, subℕ, Float, nan, inf, binary64, odd, ofFields, ofBits, HasValue}
+use Rattle.words.specs.Prelude.{odd-sign}
+use Rattle.words.specs.{Limits.mostCount}
+use Rattle.floats.specs.{Floats.floatOf, Floats.finite, Root.fieldUnits, Root.unitsOf}
+use Rattle.totals.specs.{Number.place, Exact.residue, Exact.signed, Exact.step, Exact.unitsIn, Exact.numberIn, Exact.wordsFor, Exact.sumSize, Trades.Trade}
+use Rattle.totals.specs.{Trades.acceptable, Trades.pnlSum, Laws.Places.place-pow, Laws.Residues.signed-up, Laws.Residues.signed-down, Laws.Sums.number-for}
+use Rattle.totals.specs.{Laws.Trades.Acceptable, Laws.Trades.none, Laws.Trades.more, Laws.Trades.acceptable-finite}
+use native.Mathlib.Nat.{add-le-add}
+use lib.IntN.{natAbs}
 
 -- ---- a finite float and its units
 

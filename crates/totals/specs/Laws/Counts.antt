@@ -1,18 +1,9 @@
 -- The eight counts: with one trade more, with those of more trades, and their bounds. Assumes nothing.
-use mathlib.Core.Path.{_≡_, refl, sym, ap, subst, _∙_}
-use mathlib.Core.Bool.{Bool, true, false, cond, false≢true}
-use mathlib.Core.List.{List, [], _∷_, _++_}
-use Prim.Native.Nat.{ℕ, zero, suc, _+_, _-_, _*_, _<_, _≤_}
-use native.Mathlib.Omega.{arith}
-use borrow.Author.Tests.{leb-true, le-leb, lt-leb}
-use lib.Dec.{leb}
-use lib.ListN.{length, getD, drop, set, drop-of-length-le}
-use lib.Seq.{drop-cons}
-use Rattle.words.specs.Words.{word}
-use Rattle.words.specs.Limits.{mostCount}
-use Rattle.totals.specs.Trades.{Trade, trade, bitOf, countOf, endedBy, won, lost}
-use Rattle.totals.specs.Totals.{countSize, AllAtMost, allSmall, withCounts}
-use Rattle.totals.specs.Laws.Trades.{count-append}
+use Rattle.words.specs.Prelude.{_≡_, refl, sym, ap, subst, _∙_, Bool, true, false, cond, false≢true, List, [], _∷_, _++_, ℕ, zero, suc, _+_, _-_, _*_, _<_, _≤_}
+use Rattle.words.specs.Prelude.{arith, leb-true, le-leb, lt-leb, leb, length, getD, drop, set, drop-of-length-le, drop-cons}
+use Rattle.words.specs.{Words.word, Limits.mostCount}
+use Rattle.totals.specs.{Trades.Trade, Trades.trade, Trades.bitOf, Trades.countOf, Trades.endedBy, Trades.won, Trades.lost, Totals.countSize}
+use Rattle.totals.specs.{Totals.AllAtMost, Totals.allSmall, Totals.withCounts, Laws.Trades.count-append}
 
 -- eight of them, each equal to another
 pub eight-same : {a b c d e f g h a′ b′ c′ d′ e′ f′ g′ h′ : ℕ} → a ≡ a′ → b ≡ b′ → c ≡ c′ → d ≡ d′ → e ≡ e′ → f ≡ f′ → g ≡ g′ → h ≡ h′

@@ -1,12 +1,7 @@
 -- Places of words, and the words of a number. Assumes nothing.
-use mathlib.Core.Path.{_≡_, refl, sym, ap, _∙_}
-use mathlib.Core.List.{List, [], _∷_}
-use Prim.Native.Nat.{ℕ, zero, suc, _+_, _*_, _/_, _%_, _^_, _<_}
-use native.Mathlib.Nat.{mul-assoc, zero-add, suc-add, one-mul, mod-lt}
-use native.Mathlib.Omega.{arith}
-use lib.ListN.{length}
-use lib.Pow.{pow-add, pow-pos}
-use Rattle.totals.specs.Number.{place, numberOf, wordsOf, AreWords}
+use Rattle.words.specs.Prelude.{_≡_, refl, sym, ap, _∙_, List, [], _∷_, ℕ, zero, suc, _+_, _*_, _/_, _%_, _^_, _<_, mul-assoc, zero-add, suc-add, one-mul, mod-lt}
+use Rattle.words.specs.Prelude.{arith, length, pow-add, pow-pos}
+use Rattle.totals.specs.{Number.place, Number.numberOf, Number.wordsOf, Number.AreWords}
 
 pub place-some : (i : ℕ) → 0 < place i
 unfolding place

@@ -1,15 +1,8 @@
 -- Two's complement: numbers that are the same but for multiples of m, and the sums of whole numbers. Assumes nothing.
-use mathlib.Core.Path.{_≡_, refl, sym, ap, subst, _∙_}
-use mathlib.Core.Bool.{Bool, true, false, cond}
-use mathlib.Core.List.{List, [], _∷_, _++_}
-use Prim.Native.Nat.{ℕ, zero, suc, _+_, _-_, _*_, _/_, _%_, _^_, _≤_, _<_}
-use native.Mathlib.Nat.{add-mul, one-mul, zero-mul, mod-lt, mod-eq-of-lt, add-mul-mod-self-right, div-add-mod'}
-use native.Mathlib.Omega.{arith}
-use borrow.Author.Tests.{ltb-true, ltb-false, lt-ltb, le-ltb}
-use lib.Dec.{leb, ltb}
-use lib.IntN.{ℤ, pos, negsuc, negℤ, _+ℤ_, subℕ, +ℤ-assoc, +ℤ-comm, +ℤ-idl, +ℤ-idr}
-use Rattle.totals.specs.Number.{shifted}
-use Rattle.totals.specs.Exact.{residue, signed, step}
+use Rattle.words.specs.Prelude.{_≡_, refl, sym, ap, subst, _∙_, Bool, true, false, cond, List, [], _∷_, _++_, ℕ, zero, suc, _+_, _-_, _*_, _/_, _%_, _^_, _≤_, _<_}
+use Rattle.words.specs.Prelude.{add-mul, one-mul, zero-mul, mod-lt, mod-eq-of-lt, add-mul-mod-self-right, div-add-mod', arith, ltb-true, ltb-false, lt-ltb, le-ltb}
+use Rattle.words.specs.Prelude.{leb, ltb, ℤ, pos, negsuc, negℤ, _+ℤ_, subℕ, +ℤ-assoc, +ℤ-comm, +ℤ-idl, +ℤ-idr}
+use Rattle.totals.specs.{Number.shifted, Exact.residue, Exact.signed, Exact.step}
 
 pub record Same (m u v : ℕ) : Type 0 where
   pub k : ℕ

@@ -1,17 +1,10 @@
 -- The 34 words of a sum with a float more, and with another sum. Assumes nothing.
-use mathlib.Core.Path.{_≡_, refl, sym, ap, subst, _∙_}
-use mathlib.Core.Bool.{Bool, false}
-use mathlib.Core.List.{List}
-use Prim.Native.Nat.{ℕ, _%_, _^_, _<_}
-use lib.Dec.{leb}
-use lib.ListN.{length}
-use lib.IntN.{ℤ, pos, _+ℤ_, +ℤ-assoc, +ℤ-idr}
-use Rattle.floats.specs.Root.{unitsOf}
-use Rattle.totals.specs.Number.{place, numberOf, wordsOf, shifted, AreWords}
-use Rattle.totals.specs.Exact.{residue, signed, step, unitsIn, numberIn, wordsFor, sumSize}
-use Rattle.totals.specs.Totals.{sumWith}
-use Rattle.totals.specs.Laws.Places.{place-some, number-below, words-of-number, length-words, number-words, are-words}
-use Rattle.totals.specs.Laws.Residues.{residue-below, residue-signed, residue-on, residue-join, residue-cut}
+use Rattle.words.specs.Prelude.{_≡_, refl, sym, ap, subst, _∙_, Bool, false, List, ℕ, _%_, _^_, _<_, leb, length, ℤ, pos, _+ℤ_, +ℤ-assoc, +ℤ-idr}
+use Rattle.floats.specs.{Root.unitsOf}
+use Rattle.totals.specs.{Number.place, Number.numberOf, Number.wordsOf, Number.shifted, Number.AreWords, Exact.residue, Exact.signed, Exact.step}
+use Rattle.totals.specs.{Exact.unitsIn, Exact.numberIn, Exact.wordsFor, Exact.sumSize, Totals.sumWith, Laws.Places.place-some, Laws.Places.number-below}
+use Rattle.totals.specs.{Laws.Places.words-of-number, Laws.Places.length-words, Laws.Places.number-words, Laws.Places.are-words, Laws.Residues.residue-below}
+use Rattle.totals.specs.{Laws.Residues.residue-signed, Laws.Residues.residue-on, Laws.Residues.residue-join, Laws.Residues.residue-cut}
 
 -- the weight past the last word
 abbrev all : ℕ

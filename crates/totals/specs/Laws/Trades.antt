@@ -1,17 +1,9 @@
 -- Lists of trades: read one after another, counted, joined, rearranged. Assumes nothing.
-use mathlib.Core.Path.{_≡_, refl, sym, ap, subst, _∙_}
-use mathlib.Core.Bool.{Bool, true, false, cond, _&&_, false≢true}
-use mathlib.Core.List.{List, [], _∷_, _++_}
-use Prim.Native.Nat.{ℕ, zero, suc, _+_, _-_, _<_, _≤_}
-use native.Mathlib.Nat.{zero-add, add-assoc, le-of-suc-le-suc, not-suc-le-zero}
-use native.Mathlib.Omega.{arith}
-use borrow.Author.Tests.{leb-true}
-use lib.Dec.{leb}
-use lib.ListN.{length}
-use lib.IntN.{ℤ, pos, _+ℤ_, +ℤ-assoc, +ℤ-comm, +ℤ-idl}
-use Rattle.floats.specs.Floats.{floatOf, finite}
-use Rattle.totals.specs.Exact.{unitsIn}
-use Rattle.totals.specs.Trades.{Trade, tradeAt, tradesFrom, acceptable, goodStart, bitOf, countOf, pnlSum}
+use Rattle.words.specs.Prelude.{_≡_, refl, sym, ap, subst, _∙_, Bool, true, false, cond, _&&_, false≢true, List, [], _∷_, _++_, ℕ, zero, suc, _+_, _-_, _<_, _≤_}
+use Rattle.words.specs.Prelude.{zero-add, add-assoc, le-of-suc-le-suc, not-suc-le-zero, arith, leb-true, leb, length, ℤ, pos, _+ℤ_, +ℤ-assoc, +ℤ-comm, +ℤ-idl}
+use Rattle.floats.specs.{Floats.floatOf, Floats.finite}
+use Rattle.totals.specs.{Exact.unitsIn, Trades.Trade, Trades.tradeAt, Trades.tradesFrom, Trades.acceptable, Trades.goodStart, Trades.bitOf, Trades.countOf}
+use Rattle.totals.specs.{Trades.pnlSum}
 
 -- trade i and those after it
 pub trades-next : (n i : ℕ) (words : List ℕ) → i < n → tradesFrom (n - i) i words ≡ tradeAt i words ∷ tradesFrom (n - (i + 1)) (i + 1) words

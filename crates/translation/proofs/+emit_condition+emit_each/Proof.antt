@@ -1,20 +1,14 @@
 -- By the node's shape; what is left of the nesting falls, and the conditions of All or Any come just above each of them. Their loops write
 -- links in place of the jumps, and then the jumps (Links.antt).
-use Prim.Native.Nat.{ℕ, _<_, _+_, _-_, _*_}
-use mathlib.Core.Path.{_∙_}
-use mathlib.Core.Bool.{false, not}
-use mathlib.Core.List.{List}
-use native.Mathlib.Omega.{arith}
-use borrow.Author.Needs.{needs}
-use Rattle.rules.specs.Flat.{growCondition, conditionAt}
-use Rattle.steps.specs.declared.step.Op.the-variants.{Answer, Turn, InPosition, BarsSinceEntry}
-use Rattle.steps.specs.Bytes.{stepOf}
-use Rattle.translation.proofs.Writes.{fits-first, fits-rest, fits-one, wrote-one, wrote-then, length-wrote}
-use Rattle.translation.proofs.Links.{Writing, Closing, begin, next, link-fits, push, turn, pop, finish}
-use Rattle.translation.proofs.Conditions.{ground, grown, code-none, code-group, code-not, code-position}
-use Rattle.translation.proofs.Conditions.{code-since, code-compare, code-trend, reach-group, reach-not, compare-reach, trend-reach}
-use borrow.Fn.Kinds.{In}
-use borrow.Fn.PlainCycle.{Measures, is, falls, and}
+use Rattle.words.specs.Prelude.{ℕ, _<_, _+_, _-_, _*_, _∙_, false, not, List, arith, needs, In, Measures, is, falls, and}
+use Rattle.rules.specs.{Flat.growCondition, Flat.conditionAt}
+use Rattle.steps.specs.{declared.step.Op.the-variants.Answer, declared.step.Op.the-variants.Turn, declared.step.Op.the-variants.InPosition}
+use Rattle.steps.specs.{declared.step.Op.the-variants.BarsSinceEntry, Bytes.stepOf}
+use Rattle.translation.proofs.{Writes.fits-first, Writes.fits-rest, Writes.fits-one, Writes.wrote-one, Writes.wrote-then, Writes.length-wrote, Links.Writing}
+use Rattle.translation.proofs.{Links.Closing, Links.begin, Links.next, Links.link-fits, Links.push, Links.turn, Links.pop, Links.finish, Conditions.ground}
+use Rattle.translation.proofs.{Conditions.grown, Conditions.code-none, Conditions.code-group, Conditions.code-not, Conditions.code-position}
+use Rattle.translation.proofs.{Conditions.code-since, Conditions.code-compare, Conditions.code-trend, Conditions.reach-group, Conditions.reach-not}
+use Rattle.translation.proofs.{Conditions.compare-reach, Conditions.trend-reach, +emit_condition+emit_each.statement, +emit_condition+emit_each.Tie.close}
 use Rattle.translation.proofs.emit_condition.Reads as emit-condition
 use Rattle.translation.proofs.emit_condition.Kinds as emit-condition-kinds
 use Rattle.translation.proofs.+emit_condition+emit_each.Lts-emit_condition as emit-condition-lts
@@ -32,8 +26,6 @@ use Rattle.translation.proofs.emit.put_step.Reads as put-step-reads
 use Rattle.translation.proofs.flag.Reads as flag-reads
 use Rattle.translation.proofs.group_kind.Reads as group-kind-reads
 use Rattle.translation.proofs.jump_kind.Reads as jump-kind-reads
-use Rattle.translation.proofs.+emit_condition+emit_each.{statement}
-use Rattle.translation.proofs.+emit_condition+emit_each.Tie.{close}
 
 abbrev μ-emit-condition : Measures 3 emit-condition-kinds.ps ℕ
 μ-emit-condition κs a = 2 * a .1 .1 .1 .0

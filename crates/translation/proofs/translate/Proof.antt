@@ -1,9 +1,7 @@
 -- On an accepted table the room is large enough for the steps of the tree.
-use borrow.Author.Needs.{needs}
-use native.Mathlib.Omega.{arith}
-use mathlib.Core.Path.{sym, _∙_}
-use Rattle.translation.proofs.Fitting.{refuses-table, refuses-room, writes-none, can-write, writes-all}
-use Rattle.translation.proofs.translate.Statement.{statement}
+use Rattle.words.specs.Prelude.{needs, arith, sym, _∙_}
+use Rattle.translation.proofs.{Fitting.refuses-table, Fitting.refuses-room, Fitting.writes-none, Fitting.can-write, Fitting.writes-all}
+use Rattle.translation.proofs.{translate.Statement.statement}
 use Rattle.translation.proofs.translate.Tie as tie
 
 pub translate-spec : {M : Type 1} → statement M

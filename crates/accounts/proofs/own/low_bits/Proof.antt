@@ -1,8 +1,7 @@
 -- A mask of 64 bits has no others.
-use borrow.Author.Tests.{lt-ltb, le-ltb}
-use borrow.Author.Needs.{needs}
-use Rattle.accounts.specs.Own.{lowBits}
-use Rattle.accounts.proofs.own.low_bits.Statement.{statement}
+use Rattle.words.specs.Prelude.{lt-ltb, le-ltb, needs}
+use Rattle.accounts.specs.{Own.lowBits}
+use Rattle.accounts.proofs.{own.low_bits.Statement.statement}
 use Rattle.accounts.proofs.own.low_bits.Tie as tie
 
 returns : tie.Need-returns

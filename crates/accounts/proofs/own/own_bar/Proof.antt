@@ -1,15 +1,9 @@
 -- What does not fit changes nothing; else the parts are written.
-use mathlib.Core.Path.{_≡_}
-use Prim.Native.Nat.{_+_, _<_}
-use native.Mathlib.Omega.{arith}
-use borrow.Author.Tests.{lt-leb, le-leb, eqb-true}
-use borrow.Author.Needs.{needs}
-use lib.ListN.{length}
-use Rattle.words.specs.Laws.Overwrite.{overwrite-late}
-use Rattle.refusals.specs.Laws.Descent.{so, not-so}
-use Rattle.accounts.specs.Laws.Own.{own-length}
-use Rattle.accounts.specs.Own.{ownBar, ownInto}
-use Rattle.accounts.proofs.own.own_bar.Statement.{statement}
+use Rattle.words.specs.Prelude.{_≡_, _+_, _<_, arith, lt-leb, le-leb, eqb-true, needs, length}
+use Rattle.words.specs.{Laws.Overwrite.overwrite-late}
+use Rattle.refusals.specs.{Laws.Descent.so, Laws.Descent.not-so}
+use Rattle.accounts.specs.{Laws.Own.own-length, Own.ownBar, Own.ownInto}
+use Rattle.accounts.proofs.{own.own_bar.Statement.statement}
 use Rattle.accounts.proofs.own.own_bar.Tie as tie
 
 returns : tie.Need-returns

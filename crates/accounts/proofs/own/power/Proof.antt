@@ -1,10 +1,6 @@
 -- A shift below the width loses nothing.
-use Prim.Native.Nat.{_+_, _*_, _%_, _^_, _≤_}
-use mathlib.Core.Path.{_≡_, _∙_}
-use native.Mathlib.Omega.{arith}
-use borrow.Author.Needs.{needs}
-use lib.Pow.{pow-pos, shl-exact}
-use Rattle.accounts.proofs.own.power.Statement.{statement}
+use Rattle.words.specs.Prelude.{_+_, _*_, _%_, _^_, _≤_, _≡_, _∙_, arith, needs, pow-pos, shl-exact}
+use Rattle.accounts.proofs.{own.power.Statement.statement}
 use Rattle.accounts.proofs.own.power.Tie as tie
 
 returns : tie.Need-returns

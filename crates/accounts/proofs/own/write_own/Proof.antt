@@ -1,12 +1,6 @@
 -- Part by part.
-use Prim.Native.Nat.{_+_, _-_, _≤_}
-use mathlib.Core.Path.{_≡_, sym, ap, _∙_}
-use native.Mathlib.Omega.{arith}
-use borrow.Author.Needs.{needs}
-use lib.ListN.{length, take, drop, length-drop}
-use lib.Seq.{length-take-le, take-all}
-use Rattle.accounts.proofs.Parts.{own-written}
-use Rattle.accounts.proofs.own.write_own.Statement.{statement}
+use Rattle.words.specs.Prelude.{_+_, _-_, _≤_, _≡_, sym, ap, _∙_, arith, needs, length, take, drop, length-drop, length-take-le, take-all}
+use Rattle.accounts.proofs.{Parts.own-written, own.write_own.Statement.statement}
 use Rattle.accounts.proofs.own.write_own.Tie as tie
 
 slice-aggregate-put : tie.Need-slice-aggregate-put

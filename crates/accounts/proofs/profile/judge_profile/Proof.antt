@@ -1,9 +1,8 @@
 -- The table decides first, then the profile.
-use mathlib.Core.Path.{sym, _∙_}
-use borrow.Author.Needs.{needs}
-use Rattle.refusals.specs.Lines.{judged}
-use Rattle.accounts.specs.Profile.{afterTable, profileJudged}
-use Rattle.accounts.proofs.profile.judge_profile.Statement.{statement}
+use Rattle.words.specs.Prelude.{sym, _∙_, needs}
+use Rattle.refusals.specs.{Lines.judged}
+use Rattle.accounts.specs.{Profile.afterTable, Profile.profileJudged}
+use Rattle.accounts.proofs.{profile.judge_profile.Statement.statement}
 use Rattle.accounts.proofs.profile.judge_profile.Tie as tie
 
 returns : tie.Need-returns

@@ -1,7 +1,7 @@
 -- One case for each.
-use borrow.Author.Needs.{needs}
-use Rattle.accounts.specs.Profile.{leverageWithin}
-use Rattle.accounts.proofs.profile.leverage_within.Statement.{statement}
+use Rattle.words.specs.Prelude.{needs}
+use Rattle.accounts.specs.{Profile.leverageWithin}
+use Rattle.accounts.proofs.{profile.leverage_within.Statement.statement}
 use Rattle.accounts.proofs.profile.leverage_within.Tie as tie
 
 returns : tie.Need-returns

@@ -1,8 +1,7 @@
 -- One count after the other.
-use borrow.Author.Tests.{eq-eqb, ne-eqb}
-use borrow.Author.Needs.{needs}
-use Rattle.accounts.specs.Profile.{noShortTrees}
-use Rattle.accounts.proofs.profile.no_short_trees.Statement.{statement}
+use Rattle.words.specs.Prelude.{eq-eqb, ne-eqb, needs}
+use Rattle.accounts.specs.{Profile.noShortTrees}
+use Rattle.accounts.proofs.{profile.no_short_trees.Statement.statement}
 use Rattle.accounts.proofs.profile.no_short_trees.Tie as tie
 
 returns : tie.Need-returns

@@ -1,8 +1,7 @@
 -- The table, then the settings.
-use borrow.Author.Tests.{lt-leb, le-leb}
-use borrow.Author.Needs.{needs}
-use Rattle.accounts.specs.Profile.{slotsWithin}
-use Rattle.accounts.proofs.profile.slots_within.Statement.{statement}
+use Rattle.words.specs.Prelude.{lt-leb, le-leb, needs}
+use Rattle.accounts.specs.{Profile.slotsWithin}
+use Rattle.accounts.proofs.{profile.slots_within.Statement.statement}
 use Rattle.accounts.proofs.profile.slots_within.Tie as tie
 
 returns : tie.Need-returns

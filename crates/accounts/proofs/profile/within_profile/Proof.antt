@@ -1,8 +1,8 @@
 -- Test by test: those passed hold, and the first that does not decides.
-use borrow.Author.Needs.{needs}
-use Rattle.refusals.specs.Laws.Descent.{so, not-so}
-use Rattle.accounts.specs.Profile.{withinProfile}
-use Rattle.accounts.proofs.profile.within_profile.Statement.{statement}
+use Rattle.words.specs.Prelude.{needs}
+use Rattle.refusals.specs.{Laws.Descent.so, Laws.Descent.not-so}
+use Rattle.accounts.specs.{Profile.withinProfile}
+use Rattle.accounts.proofs.{profile.within_profile.Statement.statement}
 use Rattle.accounts.proofs.profile.within_profile.Tie as tie
 
 returns : tie.Need-returns

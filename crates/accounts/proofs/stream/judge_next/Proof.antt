@@ -1,9 +1,8 @@
 -- A count that is full, then the bar.
-use borrow.Author.Tests.{lt-ltb, le-ltb}
-use borrow.Author.Needs.{needs}
-use Rattle.refusals.specs.Laws.Descent.{fine-line, bad-line}
-use Rattle.accounts.specs.Stream.{streamBarLines}
-use Rattle.accounts.proofs.stream.judge_next.Statement.{statement}
+use Rattle.words.specs.Prelude.{lt-ltb, le-ltb, needs}
+use Rattle.refusals.specs.{Laws.Descent.fine-line, Laws.Descent.bad-line}
+use Rattle.accounts.specs.{Stream.streamBarLines}
+use Rattle.accounts.proofs.{stream.judge_next.Statement.statement}
 use Rattle.accounts.proofs.stream.judge_next.Tie as tie
 
 returns : tie.Need-returns

@@ -1,10 +1,8 @@
 -- Line by line: those passed are fine, and the first that is not decides.
-use borrow.Author.Tests.{lt-leb, le-leb, eq-eqb, ne-eqb}
-use borrow.Author.Needs.{needs}
-use Rattle.refusals.specs.Day.{wholeBars}
-use Rattle.refusals.specs.Laws.Descent.{no-line, fine-line, bad-line}
-use Rattle.accounts.specs.Stream.{streamLines}
-use Rattle.accounts.proofs.stream.judge_stream.Statement.{statement}
+use Rattle.words.specs.Prelude.{lt-leb, le-leb, eq-eqb, ne-eqb, needs}
+use Rattle.refusals.specs.{Day.wholeBars, Laws.Descent.no-line, Laws.Descent.fine-line, Laws.Descent.bad-line}
+use Rattle.accounts.specs.{Stream.streamLines}
+use Rattle.accounts.proofs.{stream.judge_stream.Statement.statement}
 use Rattle.accounts.proofs.stream.judge_stream.Tie as tie
 
 returns : tie.Need-returns

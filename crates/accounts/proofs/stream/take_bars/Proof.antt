@@ -1,9 +1,7 @@
 -- No bars, a stream that is not fine, or bar after bar.
-use mathlib.Core.Path.{sym, _∙_}
-use borrow.Author.Tests.{eq-eqb, ne-eqb}
-use borrow.Author.Needs.{needs}
-use Rattle.accounts.specs.Stream.{takenUnless, streamTaken}
-use Rattle.accounts.proofs.stream.take_bars.Statement.{statement}
+use Rattle.words.specs.Prelude.{sym, _∙_, eq-eqb, ne-eqb, needs}
+use Rattle.accounts.specs.{Stream.takenUnless, Stream.streamTaken}
+use Rattle.accounts.proofs.{stream.take_bars.Statement.statement}
 use Rattle.accounts.proofs.stream.take_bars.Tie as tie
 
 returns : tie.Need-returns

@@ -1,13 +1,9 @@
 -- Each turn judges a bar, and what is left of the bars is judged from there.
-use Prim.Native.Nat.{_+_, _-_, _/_}
-use mathlib.Core.Path.{sym, _∙_}
-use native.Mathlib.Omega.{arith}
-use borrow.Author.Needs.{needs}
-use lib.ListN.{length}
-use Rattle.words.specs.Laws.Records.{records-fit, record-ends}
-use Rattle.words.specs.Limits.{barWords}
-use Rattle.accounts.specs.Laws.Stream.{stream-fine, tenth, LeftAfter, left-none, left-all, left-more, left-stops}
-use Rattle.accounts.proofs.stream.take_whole.Statement.{statement}
+use Rattle.words.specs.Prelude.{_+_, _-_, _/_, sym, _∙_, arith, needs, length}
+use Rattle.words.specs.{Laws.Records.records-fit, Laws.Records.record-ends, Limits.barWords}
+use Rattle.accounts.specs.{Laws.Stream.stream-fine, Laws.Stream.tenth, Laws.Stream.LeftAfter, Laws.Stream.left-none, Laws.Stream.left-all}
+use Rattle.accounts.specs.{Laws.Stream.left-more, Laws.Stream.left-stops}
+use Rattle.accounts.proofs.{stream.take_whole.Statement.statement}
 use Rattle.accounts.proofs.stream.take_whole.Tie as tie
 
 abbrev Inv-loop : tie.InvT-loop

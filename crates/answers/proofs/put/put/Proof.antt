@@ -1,17 +1,8 @@
 -- `put` copies byte by byte, once it has seen that all of them fit.
-use borrow.Author.Needs.{needs}
-use borrow.Author.Tests.{le-leb, lt-leb}
-use native.Mathlib.Omega.{arith}
-use mathlib.Core.Path.{_≡_, refl, ap, _∙_}
-use mathlib.Core.Bool.{true, false}
-use mathlib.Core.List.{List}
-use Prim.Native.Nat.{ℕ, _+_, _-_, _≤_, _<_}
-use lib.ListN.{length, set, getD, length-set}
-use lib.Dec.{leb}
-use lib.Seq.{paste, paste-zero}
-use Rattle.answers.specs.Text.{put, next}
-use Rattle.answers.proofs.Writing.{turn, done}
-use Rattle.answers.proofs.put.put.Statement.{statement}
+use Rattle.words.specs.Prelude.{needs, le-leb, lt-leb, arith, _≡_, refl, ap, _∙_, true, false, List, ℕ, _+_, _-_, _≤_, _<_, length, set, getD, length-set, leb}
+use Rattle.words.specs.Prelude.{paste, paste-zero}
+use Rattle.answers.specs.{Text.put, Text.next}
+use Rattle.answers.proofs.{Writing.turn, Writing.done, put.put.Statement.statement}
 use Rattle.answers.proofs.put.put.Tie as tie
 
 abbrev Inv-loop : tie.InvT-loop

@@ -1,12 +1,7 @@
 -- `put_decimal`: what `io::decimal` spells is the definition's text.
-use native.Mathlib.Omega.{arith}
-use mathlib.Core.Path.{ap, _∙_}
-use mathlib.Core.List.{List}
-use Prim.Native.Nat.{ℕ, _<_, _^_}
-use borrow.Author.Needs.{needs}
-use Rattle.answers.specs.Text.{put, next}
-use Rattle.answers.proofs.Writing.{decimal-is}
-use Rattle.answers.proofs.put.put_decimal.Statement.{statement}
+use Rattle.words.specs.Prelude.{arith, ap, _∙_, List, ℕ, _<_, _^_, needs}
+use Rattle.answers.specs.{Text.put, Text.next}
+use Rattle.answers.proofs.{Writing.decimal-is, put.put_decimal.Statement.statement}
 use Rattle.answers.proofs.put.put_decimal.Tie as tie
 
 returns : tie.Need-returns

@@ -1,9 +1,7 @@
 -- The tests of the definition in its order; the last way writes the bar.
-use mathlib.Core.Path.{sym, _∙_}
-use borrow.Author.Needs.{needs}
-use borrow.Author.Tests.{lt-ltb, le-ltb, lt-leb, le-leb}
-use Rattle.blocks.specs.Append.{appended}
-use Rattle.blocks.proofs.append.append.Statement.{statement}
+use Rattle.words.specs.Prelude.{sym, _∙_, needs, lt-ltb, le-ltb, lt-leb, le-leb}
+use Rattle.blocks.specs.{Append.appended}
+use Rattle.blocks.proofs.{append.append.Statement.statement}
 use Rattle.blocks.proofs.append.append.Tie as tie
 
 returns : tie.Need-returns

@@ -1,11 +1,7 @@
 -- A block's first bar begins it; each one after it is joined to what the room has.
-use mathlib.Core.Path.{ap, _∙_}
-use borrow.Author.Needs.{needs}
-use borrow.Author.Tests.{eq-eqb, ne-eqb}
-use Rattle.blocks.specs.Blocks.{grown}
-use Rattle.blocks.specs.Reading.{join}
-use Rattle.blocks.specs.declared.best.Best.{Best}
-use Rattle.blocks.proofs.append.grown.Statement.{statement}
+use Rattle.words.specs.Prelude.{ap, _∙_, needs, eq-eqb, ne-eqb}
+use Rattle.blocks.specs.{Blocks.grown, Reading.join, declared.best.Best.Best}
+use Rattle.blocks.proofs.{append.grown.Statement.statement}
 use Rattle.blocks.proofs.append.grown.Tie as tie
 
 returns : tie.Need-returns

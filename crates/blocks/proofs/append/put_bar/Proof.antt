@@ -1,11 +1,7 @@
 -- The close and the block's four words are stored.
-use mathlib.Core.Path.{refl, ap}
-use Prim.Native.Nat.{_/_}
-use native.Mathlib.Omega.{arith}
-use borrow.Author.Needs.{needs}
-use lib.ListN.{length-set}
-use Rattle.blocks.specs.Blocks.{put}
-use Rattle.blocks.proofs.append.put_bar.Statement.{statement}
+use Rattle.words.specs.Prelude.{refl, ap, _/_, arith, needs, length-set}
+use Rattle.blocks.specs.{Blocks.put}
+use Rattle.blocks.proofs.{append.put_bar.Statement.statement}
 use Rattle.blocks.proofs.append.put_bar.Tie as tie
 
 returns : tie.Need-returns

@@ -1,6 +1,6 @@
 -- The floats of both words.
-use borrow.Author.Needs.{needs}
-use Rattle.blocks.proofs.best.below.Statement.{statement}
+use Rattle.words.specs.Prelude.{needs}
+use Rattle.blocks.proofs.{best.below.Statement.statement}
 use Rattle.blocks.proofs.best.below.Tie as tie
 
 returns : tie.Need-returns

@@ -1,6 +1,6 @@
 -- Four words.
-use borrow.Author.Needs.{needs}
-use Rattle.blocks.proofs.best.block.Statement.{statement}
+use Rattle.words.specs.Prelude.{needs}
+use Rattle.blocks.proofs.{best.block.Statement.statement}
 use Rattle.blocks.proofs.best.block.Tie as tie
 
 pub block-spec : {M : Type 1} → statement M

@@ -1,8 +1,7 @@
 -- Each side by its test.
-use mathlib.Core.Path.{sym, _∙_}
-use borrow.Author.Needs.{needs}
-use Rattle.blocks.specs.Reading.{join}
-use Rattle.blocks.proofs.best.join.Statement.{statement}
+use Rattle.words.specs.Prelude.{sym, _∙_, needs}
+use Rattle.blocks.specs.{Reading.join}
+use Rattle.blocks.proofs.{best.join.Statement.statement}
 use Rattle.blocks.proofs.best.join.Tie as tie
 
 returns : tie.Need-returns

@@ -1,12 +1,8 @@
 -- A block where one begins at the first bar and fits, else that bar; then the rest of what is read.
-use mathlib.Core.Path.{sym, ap, _∙_}
-use Prim.Native.Nat.{_+_, _-_}
-use native.Mathlib.Omega.{arith}
-use borrow.Author.Needs.{needs}
-use Rattle.blocks.specs.declared.best.Best.{Best}
-use Rattle.blocks.specs.Reads.{reads, best, onto, told}
-use Rattle.blocks.specs.Laws.Reads.{block-fits, reads-block, reads-close}
-use Rattle.blocks.proofs.question.ask.Statement.{statement}
+use Rattle.words.specs.Prelude.{sym, ap, _∙_, _+_, _-_, arith, needs}
+use Rattle.blocks.specs.{declared.best.Best.Best, Reads.reads, Reads.best, Reads.onto, Reads.told, Laws.Reads.block-fits, Laws.Reads.reads-block}
+use Rattle.blocks.specs.{Laws.Reads.reads-close}
+use Rattle.blocks.proofs.{question.ask.Statement.statement}
 use Rattle.blocks.proofs.question.ask.Tie as tie
 
 sub-onward : tie.Need-sub-onward

@@ -1,6 +1,6 @@
 -- By its two tests.
-use borrow.Author.Tests.{eq-eqb, ne-eqb}
-use Rattle.blocks.proofs.question.begins_block.Statement.{statement}
+use Rattle.words.specs.Prelude.{eq-eqb, ne-eqb}
+use Rattle.blocks.proofs.{question.begins_block.Statement.statement}
 use Rattle.blocks.proofs.question.begins_block.Tie as tie
 
 pub begins-block-spec : {M : Type 1} → statement M

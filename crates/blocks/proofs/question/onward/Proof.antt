@@ -1,13 +1,7 @@
 -- Single bars, whole blocks, single bars: what is read, joined in order (`onto-reads`).
-use mathlib.Core.Path.{_≡_}
-use mathlib.Core.List.{List}
-use Prim.Native.Nat.{ℕ, _+_, _-_, _*_, _/_}
-use borrow.Author.Needs.{needs}
-use Rattle.blocks.specs.declared.best.Best.{Best}
-use Rattle.blocks.specs.Blocks.{withCloses, withBlocks}
-use Rattle.blocks.specs.Reads.{front, reads, onto}
-use Rattle.blocks.specs.Laws.Reads.{onto-reads}
-use Rattle.blocks.proofs.question.onward.Statement.{statement}
+use Rattle.words.specs.Prelude.{_≡_, List, ℕ, _+_, _-_, _*_, _/_, needs}
+use Rattle.blocks.specs.{declared.best.Best.Best, Blocks.withCloses, Blocks.withBlocks, Reads.front, Reads.reads, Reads.onto, Laws.Reads.onto-reads}
+use Rattle.blocks.proofs.{question.onward.Statement.statement}
 use Rattle.blocks.proofs.question.onward.Tie as tie
 
 -- the three calls, each from what the one before it gave

@@ -1,13 +1,7 @@
 -- After i turns: the best so far, and i bars more.
-use mathlib.Core.Path.{_≡_, refl, sym, ap, _∙_}
-use Prim.Native.Nat.{_-_, _≤_}
-use native.Mathlib.Omega.{arith}
-use native.Mathlib.Numerals.{add-one}
-use borrow.Author.Needs.{needs}
-use Rattle.blocks.specs.declared.best.Best.{Best}
-use Rattle.blocks.specs.Reading.{join}
-use Rattle.blocks.specs.Blocks.{withCloses}
-use Rattle.blocks.proofs.question.singles.Statement.{statement}
+use Rattle.words.specs.Prelude.{_≡_, refl, sym, ap, _∙_, _-_, _≤_, arith, add-one, needs}
+use Rattle.blocks.specs.{declared.best.Best.Best, Reading.join, Blocks.withCloses}
+use Rattle.blocks.proofs.{question.singles.Statement.statement}
 use Rattle.blocks.proofs.question.singles.Tie as tie
 
 abbrev Inv-loop : tie.InvT-loop

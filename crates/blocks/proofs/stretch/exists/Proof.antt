@@ -1,6 +1,6 @@
 -- By its three tests.
-use borrow.Author.Tests.{lt-leb, le-leb, le-ltb, lt-ltb}
-use Rattle.blocks.proofs.stretch.exists.Statement.{statement}
+use Rattle.words.specs.Prelude.{lt-leb, le-leb, le-ltb, lt-ltb}
+use Rattle.blocks.proofs.{stretch.exists.Statement.statement}
 use Rattle.blocks.proofs.stretch.exists.Tie as tie
 
 pub exists-spec : {M : Type 1} → statement M

@@ -1,7 +1,6 @@
 -- By its three tests.
-use borrow.Author.Needs.{needs}
-use borrow.Author.Tests.{lt-leb, le-leb}
-use Rattle.blocks.proofs.stretch.holds.Statement.{statement}
+use Rattle.words.specs.Prelude.{needs, lt-leb, le-leb}
+use Rattle.blocks.proofs.{stretch.holds.Statement.statement}
 use Rattle.blocks.proofs.stretch.holds.Tie as tie
 
 pub holds-spec : {M : Type 1} → statement M

@@ -1,10 +1,7 @@
 -- By its two tests; what passes both is a question over bars that there are.
-use mathlib.Core.Path.{sym, _∙_}
-use native.Mathlib.Omega.{arith}
-use borrow.Author.Needs.{needs}
-use Rattle.blocks.specs.Stretch.{stretched}
-use Rattle.blocks.specs.Laws.Stretch.{counted, closes-held, in-order, last-held}
-use Rattle.blocks.proofs.stretch.stretch.Statement.{statement}
+use Rattle.words.specs.Prelude.{sym, _∙_, arith, needs}
+use Rattle.blocks.specs.{Stretch.stretched, Laws.Stretch.counted, Laws.Stretch.closes-held, Laws.Stretch.in-order, Laws.Stretch.last-held}
+use Rattle.blocks.proofs.{stretch.stretch.Statement.statement}
 use Rattle.blocks.proofs.stretch.stretch.Tie as tie
 
 add-ask : tie.Need-add-ask

@@ -1,9 +1,7 @@
 -- The rooms are judged, then the run is ended on what the words mean: one law for each way out.
-use mathlib.Core.Path.{_∙_}
-use Rattle.refusals.specs.Laws.Lines.{two-blocks}
-use Rattle.capi.proofs.Finishing.{finish-short, finish-refused, finish-done}
-use borrow.Author.Needs.{needs}
-use Rattle.capi.proofs.bars.ysh_finish.Statement.{statement}
+use Rattle.words.specs.Prelude.{_∙_, needs}
+use Rattle.refusals.specs.{Laws.Lines.two-blocks}
+use Rattle.capi.proofs.{Finishing.finish-short, Finishing.finish-refused, Finishing.finish-done, bars.ysh_finish.Statement.statement}
 use Rattle.capi.proofs.bars.ysh_finish.Tie as tie
 
 judge-rooms-requires : tie.Need-judge-rooms-requires

@@ -1,7 +1,7 @@
 -- The two halves of the word.
-use Rattle.capi.specs.Call.{answerWord}
-use borrow.Author.Needs.{needs}
-use Rattle.capi.proofs.calls.answer_word.Statement.{statement}
+use Rattle.words.specs.Prelude.{needs}
+use Rattle.capi.specs.{Call.answerWord}
+use Rattle.capi.proofs.{calls.answer_word.Statement.statement}
 use Rattle.capi.proofs.calls.answer_word.Tie as tie
 
 returns : tie.Need-returns

@@ -1,6 +1,6 @@
 -- One word for each case.
-use Rattle.capi.specs.Call.{bitOf}
-use Rattle.capi.proofs.calls.bit_of.Statement.{statement}
+use Rattle.capi.specs.{Call.bitOf}
+use Rattle.capi.proofs.{calls.bit_of.Statement.statement}
 use Rattle.capi.proofs.calls.bit_of.Tie as tie
 
 returns : tie.Need-returns

@@ -1,8 +1,8 @@
 -- One line.
-use Rattle.refusals.specs.Lines.{judged}
-use Rattle.capi.specs.Call.{metricLines}
-use borrow.Author.Needs.{needs}
-use Rattle.capi.proofs.calls.judge_metrics.Statement.{statement}
+use Rattle.words.specs.Prelude.{needs}
+use Rattle.refusals.specs.{Lines.judged}
+use Rattle.capi.specs.{Call.metricLines}
+use Rattle.capi.proofs.{calls.judge_metrics.Statement.statement}
 use Rattle.capi.proofs.calls.judge_metrics.Tie as tie
 
 returns : tie.Need-returns

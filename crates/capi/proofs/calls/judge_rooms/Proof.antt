@@ -1,9 +1,8 @@
 -- Two blocks, each judged by itself.
-use mathlib.Core.Path.{_∙_}
-use Rattle.refusals.specs.Laws.Lines.{two-blocks}
-use Rattle.capi.specs.Bars.{lentLines}
-use borrow.Author.Needs.{needs}
-use Rattle.capi.proofs.calls.judge_rooms.Statement.{statement}
+use Rattle.words.specs.Prelude.{_∙_, needs}
+use Rattle.refusals.specs.{Laws.Lines.two-blocks}
+use Rattle.capi.specs.{Bars.lentLines}
+use Rattle.capi.proofs.{calls.judge_rooms.Statement.statement}
 use Rattle.capi.proofs.calls.judge_rooms.Tie as tie
 
 returns : tie.Need-returns

@@ -1,8 +1,8 @@
 -- The lines, one over another.
-use Rattle.refusals.specs.Lines.{judged}
-use Rattle.capi.specs.Call.{wordLines}
-use borrow.Author.Needs.{needs}
-use Rattle.capi.proofs.calls.judge_words.Statement.{statement}
+use Rattle.words.specs.Prelude.{needs}
+use Rattle.refusals.specs.{Lines.judged}
+use Rattle.capi.specs.{Call.wordLines}
+use Rattle.capi.proofs.{calls.judge_words.Statement.statement}
 use Rattle.capi.proofs.calls.judge_words.Tie as tie
 
 returns : tie.Need-returns

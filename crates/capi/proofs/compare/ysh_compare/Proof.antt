@@ -1,7 +1,6 @@
 -- By the comparison's answer: a refusal keeps the lines and their count, and else both are told.
-use Rattle.capi.proofs.Comparing.{compare-refused, compare-told}
-use borrow.Author.Needs.{needs}
-use Rattle.capi.proofs.compare.ysh_compare.Statement.{statement}
+use Rattle.words.specs.Prelude.{needs}
+use Rattle.capi.proofs.{Comparing.compare-refused, Comparing.compare-told, compare.ysh_compare.Statement.statement}
 use Rattle.capi.proofs.compare.ysh_compare.Tie as tie
 
 returns : tie.Need-returns

@@ -1,7 +1,7 @@
 -- 0, or the refusal's word. Assumes nothing.
-use borrow.Author.Needs.{needs}
-use Rattle.capi.specs.WordRun.{answerOf}
-use Rattle.capi.proofs.day.answer_of.Statement.{statement}
+use Rattle.words.specs.Prelude.{needs}
+use Rattle.capi.specs.{WordRun.answerOf}
+use Rattle.capi.proofs.{day.answer_of.Statement.statement}
 use Rattle.capi.proofs.day.answer_of.Tie as tie
 
 returns : tie.Need-returns

@@ -1,7 +1,6 @@
 -- The rooms are judged, then the engine's call is made on what the words mean. Assumes nothing.
-use borrow.Author.Needs.{needs}
-use Rattle.capi.proofs.Days.{day-short, day-ran}
-use Rattle.capi.proofs.day.call_bars.Statement.{statement}
+use Rattle.words.specs.Prelude.{needs}
+use Rattle.capi.proofs.{Days.day-short, Days.day-ran, day.call_bars.Statement.statement}
 use Rattle.capi.proofs.day.call_bars.Tie as tie
 
 judge-lent-requires : tie.Need-judge-lent-requires

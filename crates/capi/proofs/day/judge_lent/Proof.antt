@@ -1,10 +1,8 @@
 -- No bars ask for the settings and the state alone; else the room of rows comes first. Assumes nothing.
-use mathlib.Core.Path.{sym, _∙_}
-use borrow.Author.Needs.{needs}
-use Rattle.refusals.specs.Laws.Descent.{fine-block, bad-block}
-use Rattle.capi.specs.Bars.{lentLines}
-use Rattle.capi.specs.Day.{dayLentLines}
-use Rattle.capi.proofs.day.judge_lent.Statement.{statement}
+use Rattle.words.specs.Prelude.{sym, _∙_, needs}
+use Rattle.refusals.specs.{Laws.Descent.fine-block, Laws.Descent.bad-block}
+use Rattle.capi.specs.{Bars.lentLines, Day.dayLentLines}
+use Rattle.capi.proofs.{day.judge_lent.Statement.statement}
 use Rattle.capi.proofs.day.judge_lent.Tie as tie
 
 returns : tie.Need-returns

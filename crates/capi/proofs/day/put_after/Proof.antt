@@ -1,8 +1,7 @@
 -- Nothing is written where no bar was done. Assumes nothing.
-use borrow.Author.Needs.{needs}
-use borrow.Author.Tests.{eq-eqb, ne-eqb}
-use Rattle.capi.specs.Day.{stateAfter}
-use Rattle.capi.proofs.day.put_after.Statement.{statement}
+use Rattle.words.specs.Prelude.{needs, eq-eqb, ne-eqb}
+use Rattle.capi.specs.{Day.stateAfter}
+use Rattle.capi.proofs.{day.put_after.Statement.statement}
 use Rattle.capi.proofs.day.put_after.Tie as tie
 
 returns : tie.Need-returns

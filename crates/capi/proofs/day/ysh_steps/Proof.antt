@@ -1,6 +1,6 @@
 -- A call of many bars. Assumes nothing.
-use borrow.Author.Needs.{needs}
-use Rattle.capi.proofs.day.ysh_steps.Statement.{statement}
+use Rattle.words.specs.Prelude.{needs}
+use Rattle.capi.proofs.{day.ysh_steps.Statement.statement}
 use Rattle.capi.proofs.day.ysh_steps.Tie as tie
 
 returns : tie.Need-returns

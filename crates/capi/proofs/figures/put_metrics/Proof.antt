@@ -1,6 +1,6 @@
 -- `put` writes the words of the metrics.
-use borrow.Author.Needs.{needs}
-use Rattle.capi.proofs.figures.put_metrics.Statement.{statement}
+use Rattle.words.specs.Prelude.{needs}
+use Rattle.capi.proofs.{figures.put_metrics.Statement.statement}
 use Rattle.capi.proofs.figures.put_metrics.Tie as tie
 
 returns : tie.Need-returns

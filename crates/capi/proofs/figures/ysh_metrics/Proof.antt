@@ -1,10 +1,8 @@
 -- The room is judged, then the metrics are computed and written.
-use mathlib.Core.Path.{sym, ap, _∙_}
-use Rattle.metrics.specs.Figures.{outcome}
-use Rattle.capi.specs.Figures.{metricsCall, metricsGives}
-use Rattle.capi.proofs.Calling.{call-bad, call-refused, call-gives}
-use borrow.Author.Needs.{needs}
-use Rattle.capi.proofs.figures.ysh_metrics.Statement.{statement}
+use Rattle.words.specs.Prelude.{sym, ap, _∙_, needs}
+use Rattle.metrics.specs.{Figures.outcome}
+use Rattle.capi.specs.{Figures.metricsCall, Figures.metricsGives}
+use Rattle.capi.proofs.{Calling.call-bad, Calling.call-refused, Calling.call-gives, figures.ysh_metrics.Statement.statement}
 use Rattle.capi.proofs.figures.ysh_metrics.Tie as tie
 
 returns : tie.Need-returns

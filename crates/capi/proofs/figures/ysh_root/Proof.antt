@@ -1,6 +1,6 @@
 -- Each call is one function of the definition.
-use borrow.Author.Needs.{needs}
-use Rattle.capi.proofs.figures.ysh_root.Statement.{statement}
+use Rattle.words.specs.Prelude.{needs}
+use Rattle.capi.proofs.{figures.ysh_root.Statement.statement}
 use Rattle.capi.proofs.figures.ysh_root.Tie as tie
 
 returns : tie.Need-returns

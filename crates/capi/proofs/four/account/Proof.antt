@@ -1,11 +1,7 @@
 -- One law for each way out.
-use mathlib.Core.Path.{sym, _∙_}
-use native.Mathlib.Omega.{arith}
-use borrow.Author.Needs.{needs}
-use lib.ListN.{length}
-use Rattle.capi.proofs.Accounting.{some-of, account-none, account-stopped, account-refused, account-rode, account-stops}
-use Rattle.capi.proofs.Riding.{ride-within, profile-slots}
-use Rattle.capi.proofs.four.account.Statement.{statement}
+use Rattle.words.specs.Prelude.{sym, _∙_, arith, needs, length}
+use Rattle.capi.proofs.{Accounting.some-of, Accounting.account-none, Accounting.account-stopped, Accounting.account-refused, Accounting.account-rode}
+use Rattle.capi.proofs.{Accounting.account-stops, Riding.ride-within, Riding.profile-slots, four.account.Statement.statement}
 use Rattle.capi.proofs.four.account.Tie as tie
 
 returns : tie.Need-returns

@@ -1,11 +1,7 @@
 -- A bar that was taken is one that can be counted.
-use mathlib.Core.Path.{_≡_}
-use native.Mathlib.Omega.{arith}
-use borrow.Author.Tests.{eq-eqb, ne-eqb}
-use borrow.Author.Needs.{needs}
-use Rattle.capi.specs.Accounts.{streamAfter}
-use Rattle.capi.proofs.Accounting.{some-of}
-use Rattle.capi.proofs.four.count_bars.Statement.{statement}
+use Rattle.words.specs.Prelude.{_≡_, arith, eq-eqb, ne-eqb, needs}
+use Rattle.capi.specs.{Accounts.streamAfter}
+use Rattle.capi.proofs.{Accounting.some-of, four.count_bars.Statement.statement}
 use Rattle.capi.proofs.four.count_bars.Tie as tie
 
 returns : tie.Need-returns

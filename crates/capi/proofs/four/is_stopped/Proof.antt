@@ -1,7 +1,7 @@
 -- The first word.
-use borrow.Author.Needs.{needs}
-use Rattle.capi.specs.Accounts.{isStopped}
-use Rattle.capi.proofs.four.is_stopped.Statement.{statement}
+use Rattle.words.specs.Prelude.{needs}
+use Rattle.capi.specs.{Accounts.isStopped}
+use Rattle.capi.proofs.{four.is_stopped.Statement.statement}
 use Rattle.capi.proofs.four.is_stopped.Tie as tie
 
 returns : tie.Need-returns

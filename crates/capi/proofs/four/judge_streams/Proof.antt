@@ -1,8 +1,8 @@
 -- The lines, one over another.
-use borrow.Author.Needs.{needs}
-use Rattle.refusals.specs.Lines.{judged}
-use Rattle.capi.specs.Accounts.{accountsLines}
-use Rattle.capi.proofs.four.judge_streams.Statement.{statement}
+use Rattle.words.specs.Prelude.{needs}
+use Rattle.refusals.specs.{Lines.judged}
+use Rattle.capi.specs.{Accounts.accountsLines}
+use Rattle.capi.proofs.{four.judge_streams.Statement.statement}
 use Rattle.capi.proofs.four.judge_streams.Tie as tie
 
 returns : tie.Need-returns

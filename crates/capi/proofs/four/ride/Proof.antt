@@ -1,15 +1,10 @@
 -- Each turn steps over a bar, and what is left of the bars is stepped over from there.
-use Prim.Native.Nat.{ℕ, _+_, _-_, _*_, _≤_}
-use mathlib.Core.Path.{refl, sym, _∙_}
-use mathlib.Core.List.{[]}
-use native.Mathlib.Omega.{arith}
-use borrow.Author.Needs.{needs}
-use lib.ListN.{length, length-replicate}
-use Rattle.words.specs.Limits.{barWords}
-use Rattle.records.specs.Lent.{lists}
-use Rattle.accounts.specs.Own.{ownBar}
-use Rattle.capi.proofs.Riding.{Turn, stepLent, bar-within, record-long, calls-none, calls-all, calls-more, calls-stop}
-use Rattle.capi.proofs.four.ride.Statement.{statement}
+use Rattle.words.specs.Prelude.{ℕ, _+_, _-_, _*_, _≤_, refl, sym, _∙_, [], arith, needs, length, length-replicate}
+use Rattle.words.specs.{Limits.barWords}
+use Rattle.records.specs.{Lent.lists}
+use Rattle.accounts.specs.{Own.ownBar}
+use Rattle.capi.proofs.{Riding.Turn, Riding.stepLent, Riding.bar-within, Riding.record-long, Riding.calls-none, Riding.calls-all, Riding.calls-more}
+use Rattle.capi.proofs.{Riding.calls-stop, four.ride.Statement.statement}
 use Rattle.capi.proofs.four.ride.Tie as tie
 
 abbrev Inv-loop : tie.InvT-loop

@@ -1,14 +1,7 @@
 -- The own part of the bar, and a call of one bar.
-use Prim.Native.Nat.{_+_}
-use mathlib.Core.Path.{sym}
-use mathlib.Core.List.{[]}
-use native.Mathlib.Omega.{arith}
-use borrow.Author.Needs.{needs}
-use lib.Seq.{length-take-le}
-use Rattle.records.specs.Lent.{rooms, lists}
-use Rattle.capi.proofs.Riding.{own-call}
-use Rattle.capi.proofs.Stepping.{one-call}
-use Rattle.capi.proofs.four.step_own.Statement.{statement}
+use Rattle.words.specs.Prelude.{_+_, sym, [], arith, needs, length-take-le}
+use Rattle.records.specs.{Lent.rooms, Lent.lists}
+use Rattle.capi.proofs.{Riding.own-call, Stepping.one-call, four.step_own.Statement.statement}
 use Rattle.capi.proofs.four.step_own.Tie as tie
 
 slice-aggregate-call-bars : tie.Need-slice-aggregate-call-bars

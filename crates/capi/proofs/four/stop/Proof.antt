@@ -1,7 +1,7 @@
 -- Three words.
-use borrow.Author.Needs.{needs}
-use Rattle.capi.specs.Accounts.{stoppedWith}
-use Rattle.capi.proofs.four.stop.Statement.{statement}
+use Rattle.words.specs.Prelude.{needs}
+use Rattle.capi.specs.{Accounts.stoppedWith}
+use Rattle.capi.proofs.{four.stop.Statement.statement}
 use Rattle.capi.proofs.four.stop.Tie as tie
 
 returns : tie.Need-returns

@@ -1,8 +1,7 @@
 -- The rooms of the call, the stream, then each account by its own call.
-use borrow.Author.Needs.{needs}
-use Rattle.capi.specs.Accounts.{given, lent}
-use Rattle.capi.proofs.Accounting.{accounts-short, accounts-ran, taken-so}
-use Rattle.capi.proofs.four.ysh_accounts.Statement.{statement}
+use Rattle.words.specs.Prelude.{needs}
+use Rattle.capi.specs.{Accounts.given, Accounts.lent}
+use Rattle.capi.proofs.{Accounting.accounts-short, Accounting.accounts-ran, Accounting.taken-so, four.ysh_accounts.Statement.statement}
 use Rattle.capi.proofs.four.ysh_accounts.Tie as tie
 
 returns : tie.Need-returns

@@ -1,8 +1,6 @@
 -- The rooms are judged, then the part of what the words mean is written: one law for each way out.
-use mathlib.Core.Path.{sym, _∙_}
-use Rattle.capi.proofs.Parting.{part-short, part-refused, part-done}
-use borrow.Author.Needs.{needs}
-use Rattle.capi.proofs.part.part_judged.Statement.{statement}
+use Rattle.words.specs.Prelude.{sym, _∙_, needs}
+use Rattle.capi.proofs.{Parting.part-short, Parting.part-refused, Parting.part-done, part.part_judged.Statement.statement}
 use Rattle.capi.proofs.part.part_judged.Tie as tie
 
 judge-rooms-requires : tie.Need-judge-rooms-requires

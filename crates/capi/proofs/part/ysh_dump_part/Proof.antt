@@ -1,7 +1,6 @@
 -- Words that pass have their part written at once; else part and count are as they were, and the lines decide.
-use Rattle.capi.proofs.Parting.{part-passed, part-kept}
-use borrow.Author.Needs.{needs}
-use Rattle.capi.proofs.part.ysh_dump_part.Statement.{statement}
+use Rattle.words.specs.Prelude.{needs}
+use Rattle.capi.proofs.{Parting.part-passed, Parting.part-kept, part.ysh_dump_part.Statement.statement}
 use Rattle.capi.proofs.part.ysh_dump_part.Tie as tie
 
 returns : tie.Need-returns

@@ -1,8 +1,6 @@
 -- The rooms are judged, then the dump of what the words mean is made: one law for each way out.
-use mathlib.Core.Path.{sym, _∙_}
-use Rattle.capi.proofs.Powering.{dump-short, dump-refused, dump-done}
-use borrow.Author.Needs.{needs}
-use Rattle.capi.proofs.power.dump_judged.Statement.{statement}
+use Rattle.words.specs.Prelude.{sym, _∙_, needs}
+use Rattle.capi.proofs.{Powering.dump-short, Powering.dump-refused, Powering.dump-done, power.dump_judged.Statement.statement}
 use Rattle.capi.proofs.power.dump_judged.Tie as tie
 
 judge-rooms-requires : tie.Need-judge-rooms-requires

@@ -1,7 +1,6 @@
 -- Words that pass are dumped at once; else the area is as it was, and the lines decide.
-use Rattle.capi.proofs.Powering.{dump-passed, dump-kept}
-use borrow.Author.Needs.{needs}
-use Rattle.capi.proofs.power.ysh_dump.Statement.{statement}
+use Rattle.words.specs.Prelude.{needs}
+use Rattle.capi.proofs.{Powering.dump-passed, Powering.dump-kept, power.ysh_dump.Statement.statement}
 use Rattle.capi.proofs.power.ysh_dump.Tie as tie
 
 returns : tie.Need-returns

@@ -1,8 +1,6 @@
 -- The rooms are judged, then the restore is made: one law for each way out.
-use mathlib.Core.Path.{sym, _∙_}
-use Rattle.capi.proofs.Powering.{restore-short, restore-refused, restore-done}
-use borrow.Author.Needs.{needs}
-use Rattle.capi.proofs.power.ysh_restore.Statement.{statement}
+use Rattle.words.specs.Prelude.{sym, _∙_, needs}
+use Rattle.capi.proofs.{Powering.restore-short, Powering.restore-refused, Powering.restore-done, power.ysh_restore.Statement.statement}
 use Rattle.capi.proofs.power.ysh_restore.Tie as tie
 
 judge-rooms-requires : tie.Need-judge-rooms-requires

@@ -1,10 +1,8 @@
 -- The definition goes by the same answer; a refusal leaves the totals as they were. Assumes nothing.
-use mathlib.Core.Path.{sym, _∙_}
-use borrow.Author.Needs.{needs}
-use Rattle.totals.specs.Totals.{addLeaves}
-use Rattle.capi.specs.Totals.{totalsCall}
-use Rattle.capi.proofs.Totalling.{totals-refuse, totals-do}
-use Rattle.capi.proofs.report.ysh_totals.Statement.{statement}
+use Rattle.words.specs.Prelude.{sym, _∙_, needs}
+use Rattle.totals.specs.{Totals.addLeaves}
+use Rattle.capi.specs.{Totals.totalsCall}
+use Rattle.capi.proofs.{Totalling.totals-refuse, Totalling.totals-do, report.ysh_totals.Statement.statement}
 use Rattle.capi.proofs.report.ysh_totals.Tie as tie
 
 returns : tie.Need-returns

@@ -1,7 +1,7 @@
 -- Each field is read from its own word.
-use Rattle.capi.specs.Run.{positionState}
-use borrow.Author.Needs.{needs}
-use Rattle.capi.proofs.run.position_state.Statement.{statement}
+use Rattle.words.specs.Prelude.{needs}
+use Rattle.capi.specs.{Run.positionState}
+use Rattle.capi.proofs.{run.position_state.Statement.statement}
 use Rattle.capi.proofs.run.position_state.Tie as tie
 
 returns : tie.Need-returns

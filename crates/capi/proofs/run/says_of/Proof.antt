@@ -1,8 +1,7 @@
 -- The test is the definition's.
-use Rattle.capi.specs.Run.{saysOf}
-use borrow.Author.Needs.{needs}
-use borrow.Author.Tests.{lt-ltb, le-ltb}
-use Rattle.capi.proofs.run.says_of.Statement.{statement}
+use Rattle.words.specs.Prelude.{needs, lt-ltb, le-ltb}
+use Rattle.capi.specs.{Run.saysOf}
+use Rattle.capi.proofs.{run.says_of.Statement.statement}
 use Rattle.capi.proofs.run.says_of.Tie as tie
 
 returns : tie.Need-returns

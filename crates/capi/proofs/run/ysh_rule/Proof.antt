@@ -1,9 +1,7 @@
 -- The definition goes by the same answer of the rule.
-use mathlib.Core.Path.{sym, _∙_}
-use Rattle.capi.specs.Run.{ruleCall, ruleGives}
-use Rattle.capi.proofs.Calling.{call-refuses, call-does}
-use borrow.Author.Needs.{needs}
-use Rattle.capi.proofs.run.ysh_rule.Statement.{statement}
+use Rattle.words.specs.Prelude.{sym, _∙_, needs}
+use Rattle.capi.specs.{Run.ruleCall, Run.ruleGives}
+use Rattle.capi.proofs.{Calling.call-refuses, Calling.call-does, run.ysh_rule.Statement.statement}
 use Rattle.capi.proofs.run.ysh_rule.Tie as tie
 
 returns : tie.Need-returns

@@ -1,9 +1,7 @@
 -- The definition goes by the same answer of the run.
-use mathlib.Core.Path.{sym, _∙_}
-use Rattle.capi.specs.Run.{runCall, runGives}
-use Rattle.capi.proofs.Calling.{call-refuses, call-does}
-use borrow.Author.Needs.{needs}
-use Rattle.capi.proofs.run.ysh_run.Statement.{statement}
+use Rattle.words.specs.Prelude.{sym, _∙_, needs}
+use Rattle.capi.specs.{Run.runCall, Run.runGives}
+use Rattle.capi.proofs.{Calling.call-refuses, Calling.call-does, run.ysh_run.Statement.statement}
 use Rattle.capi.proofs.run.ysh_run.Tie as tie
 
 returns : tie.Need-returns

@@ -1,9 +1,7 @@
 -- The rooms are judged, then the fresh state is written.
-use mathlib.Core.Path.{sym, _∙_}
-use Rattle.capi.specs.Fresh.{freshCall}
-use Rattle.capi.proofs.Calling.{call-bad, call-gives}
-use borrow.Author.Needs.{needs}
-use Rattle.capi.proofs.state.ysh_fresh.Statement.{statement}
+use Rattle.words.specs.Prelude.{sym, _∙_, needs}
+use Rattle.capi.specs.{Fresh.freshCall}
+use Rattle.capi.proofs.{Calling.call-bad, Calling.call-gives, state.ysh_fresh.Statement.statement}
 use Rattle.capi.proofs.state.ysh_fresh.Tie as tie
 
 returns : tie.Need-returns

@@ -1,7 +1,6 @@
 -- By the append's answer: a refusal keeps the rooms, and else a bar more is held.
-use Rattle.capi.proofs.Stretching.{append-refused, append-taken}
-use borrow.Author.Needs.{needs}
-use Rattle.capi.proofs.stretch.ysh_append.Statement.{statement}
+use Rattle.words.specs.Prelude.{needs}
+use Rattle.capi.proofs.{Stretching.append-refused, Stretching.append-taken, stretch.ysh_append.Statement.statement}
 use Rattle.capi.proofs.stretch.ysh_append.Tie as tie
 
 returns : tie.Need-returns

@@ -1,9 +1,7 @@
 -- The definition goes by the same answer of the question.
-use mathlib.Core.Path.{sym, _∙_}
-use Rattle.capi.specs.Stretch.{stretchCall, stretchGives}
-use Rattle.capi.proofs.Calling.{call-refuses, call-does}
-use borrow.Author.Needs.{needs}
-use Rattle.capi.proofs.stretch.ysh_stretch.Statement.{statement}
+use Rattle.words.specs.Prelude.{sym, _∙_, needs}
+use Rattle.capi.specs.{Stretch.stretchCall, Stretch.stretchGives}
+use Rattle.capi.proofs.{Calling.call-refuses, Calling.call-does, stretch.ysh_stretch.Statement.statement}
 use Rattle.capi.proofs.stretch.ysh_stretch.Tie as tie
 
 returns : tie.Need-returns

@@ -1,7 +1,7 @@
 -- Each number picks its tree, and any other the last.
-use Rattle.capi.specs.Tables.{numberedTree}
-use borrow.Author.Tests.{ne-eqb}
-use Rattle.capi.proofs.tables.numbered_tree.Statement.{statement}
+use Rattle.words.specs.Prelude.{ne-eqb}
+use Rattle.capi.specs.{Tables.numberedTree}
+use Rattle.capi.proofs.{tables.numbered_tree.Statement.statement}
 use Rattle.capi.proofs.tables.numbered_tree.Tie as tie
 
 returns : tie.Need-returns

@@ -1,9 +1,7 @@
 -- The definition goes by the same answer.
-use mathlib.Core.Path.{sym, _∙_}
-use Rattle.capi.specs.Tables.{depthCall, depthGives}
-use Rattle.capi.proofs.Calling.{call-refuses, call-does}
-use borrow.Author.Needs.{needs}
-use Rattle.capi.proofs.tables.ysh_depth.Statement.{statement}
+use Rattle.words.specs.Prelude.{sym, _∙_, needs}
+use Rattle.capi.specs.{Tables.depthCall, Tables.depthGives}
+use Rattle.capi.proofs.{Calling.call-refuses, Calling.call-does, tables.ysh_depth.Statement.statement}
 use Rattle.capi.proofs.tables.ysh_depth.Tie as tie
 
 returns : tie.Need-returns

@@ -1,10 +1,8 @@
 -- The definition goes by the same answer of the table's list; a refusal leaves the list as it was.
-use mathlib.Core.Path.{sym, _∙_}
-use Rattle.table.specs.Silent.{listAfter}
-use Rattle.capi.specs.Tables.{silentCall, silentGives}
-use Rattle.capi.proofs.Calling.{call-refuses, call-does}
-use borrow.Author.Needs.{needs}
-use Rattle.capi.proofs.tables.ysh_silent.Statement.{statement}
+use Rattle.words.specs.Prelude.{sym, _∙_, needs}
+use Rattle.table.specs.{Silent.listAfter}
+use Rattle.capi.specs.{Tables.silentCall, Tables.silentGives}
+use Rattle.capi.proofs.{Calling.call-refuses, Calling.call-does, tables.ysh_silent.Statement.statement}
 use Rattle.capi.proofs.tables.ysh_silent.Tie as tie
 
 returns : tie.Need-returns

@@ -1,14 +1,9 @@
 -- A tree that no table has, then the translation of one that it may have: the definition's cases, in its order. The steps lie within
 -- the room, so that their bytes can be counted.
-use mathlib.Core.Path.{sym, _∙_}
-use native.Mathlib.Omega.{arith}
-use borrow.Author.Tests.{le-leb, lt-leb}
-use Rattle.steps.specs.Translating.{afterTable, roomAfter, roomLeft}
-use Rattle.capi.specs.Tables.{translateCall, translateOutcome, translateGives}
-use Rattle.capi.proofs.Calling.{call-refuses, call-does}
-use Rattle.capi.proofs.Writing.{writes-within}
-use borrow.Author.Needs.{needs}
-use Rattle.capi.proofs.tables.ysh_translate.Statement.{statement}
+use Rattle.words.specs.Prelude.{sym, _∙_, arith, le-leb, lt-leb, needs}
+use Rattle.steps.specs.{Translating.afterTable, Translating.roomAfter, Translating.roomLeft}
+use Rattle.capi.specs.{Tables.translateCall, Tables.translateOutcome, Tables.translateGives}
+use Rattle.capi.proofs.{Calling.call-refuses, Calling.call-does, Writing.writes-within, tables.ysh_translate.Statement.statement}
 use Rattle.capi.proofs.tables.ysh_translate.Tie as tie
 
 returns : tie.Need-returns

@@ -1,10 +1,8 @@
 -- The definition goes by the same answer of the chain; a refusal leaves the list as it was.
-use mathlib.Core.Path.{sym, _∙_}
-use Rattle.chain.specs.Explained.{linesAfter}
-use Rattle.capi.specs.Why.{whyCall, whyGives}
-use Rattle.capi.proofs.Calling.{call-refuses, call-does}
-use borrow.Author.Needs.{needs}
-use Rattle.capi.proofs.why.ysh_why.Statement.{statement}
+use Rattle.words.specs.Prelude.{sym, _∙_, needs}
+use Rattle.chain.specs.{Explained.linesAfter}
+use Rattle.capi.specs.{Why.whyCall, Why.whyGives}
+use Rattle.capi.proofs.{Calling.call-refuses, Calling.call-does, why.ysh_why.Statement.statement}
 use Rattle.capi.proofs.why.ysh_why.Tie as tie
 
 returns : tie.Need-returns

@@ -1,9 +1,8 @@
 -- The table's refusals first, then 10, then 13, then the lines: what the walk finds is the tree's chain. Assumes nothing.
-use borrow.Author.Needs.{needs}
-use native.Mathlib.Omega.{arith}
-use Rattle.table.specs.Bytes.{Bytes}
-use Rattle.chain.proofs.Explaining.{refused, too-small, unwhole, unright, explains}
-use Rattle.chain.proofs.explain.explain.Statement.{statement}
+use Rattle.words.specs.Prelude.{needs, arith}
+use Rattle.table.specs.{Bytes.Bytes}
+use Rattle.chain.proofs.{Explaining.refused, Explaining.too-small, Explaining.unwhole, Explaining.unright, Explaining.explains}
+use Rattle.chain.proofs.{explain.explain.Statement.statement}
 use Rattle.chain.proofs.explain.explain.Tie as tie
 
 pub explain-spec : {M : Type 1} → statement M

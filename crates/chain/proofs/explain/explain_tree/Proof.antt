@@ -1,8 +1,6 @@
 -- No line where there is no such tree, or it is absent; else those of the walk from its root. Assumes nothing.
-use borrow.Author.Needs.{needs}
-use native.Mathlib.Omega.{arith}
-use Rattle.chain.proofs.Explaining.{no-tree, absent-tree, present-tree}
-use Rattle.chain.proofs.explain.explain_tree.Statement.{statement}
+use Rattle.words.specs.Prelude.{needs, arith}
+use Rattle.chain.proofs.{Explaining.no-tree, Explaining.absent-tree, Explaining.present-tree, explain.explain_tree.Statement.statement}
 use Rattle.chain.proofs.explain.explain_tree.Tie as tie
 
 pub explain-tree-spec : {M : Type 1} → statement M

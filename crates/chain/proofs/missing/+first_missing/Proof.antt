@@ -1,12 +1,8 @@
-use Prim.Native.Nat.{ℕ, _<_}
-use mathlib.Core.Path.{refl}
-use native.Mathlib.Omega.{arith}
-use borrow.Author.Needs.{needs}
-use Rattle.table.specs.Bytes.{Bytes}
-use Rattle.chain.specs.Laws.Shapes.{prev-small, extreme-small}
-use Rattle.chain.proofs.Leaves.{isLeaf, gone-deep, gone-leaf, gone-prev, gone-arith, gone-extreme}
-use borrow.Fn.Kinds.{In}
-use borrow.Fn.PlainCycle.{Measures, is, falls, and}
+use Rattle.words.specs.Prelude.{ℕ, _<_, refl, arith, needs, In, Measures, is, falls, and}
+use Rattle.table.specs.{Bytes.Bytes}
+use Rattle.chain.specs.{Laws.Shapes.prev-small, Laws.Shapes.extreme-small}
+use Rattle.chain.proofs.{Leaves.isLeaf, Leaves.gone-deep, Leaves.gone-leaf, Leaves.gone-prev, Leaves.gone-arith, Leaves.gone-extreme}
+use Rattle.chain.proofs.{missing.+first_missing.statement, missing.+first_missing.Tie.close}
 use Rattle.chain.proofs.missing.first_missing.Reads as first-missing
 use Rattle.chain.proofs.missing.first_missing.Kinds as first-missing-kinds
 use Rattle.chain.proofs.missing.+first_missing.Lts-first_missing as first-missing-lts
@@ -16,8 +12,6 @@ use Rattle.chain.proofs.missing.one_less.Reads as one-less-reads
 use Rattle.chain.proofs.missing.first_found.Reads as first-found-reads
 use Rattle.rules.proofs.shapes.operand_shape.Reads as operand-shape-reads
 use Rattle.table.proofs.series.series_in.Reads as series-in-reads
-use Rattle.chain.proofs.missing.+first_missing.{statement}
-use Rattle.chain.proofs.missing.+first_missing.Tie.{close}
 
 abbrev μ-first-missing : Measures 3 first-missing-kinds.ps ℕ
 μ-first-missing κs a = a .1 .1 .1 .1 .1 .1 .1 .0

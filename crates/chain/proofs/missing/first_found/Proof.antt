@@ -1,7 +1,7 @@
 -- One return for each case of the first. Assumes nothing.
-use borrow.Author.Needs.{needs}
-use Rattle.chain.specs.Missing.{firstFound}
-use Rattle.chain.proofs.missing.first_found.Statement.{statement}
+use Rattle.words.specs.Prelude.{needs}
+use Rattle.chain.specs.{Missing.firstFound}
+use Rattle.chain.proofs.{missing.first_found.Statement.statement}
 use Rattle.chain.proofs.missing.first_found.Tie as tie
 
 pub first-found-spec : {M : Type 1} → statement M

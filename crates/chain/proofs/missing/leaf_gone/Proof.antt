@@ -1,8 +1,7 @@
 -- Missing where there is no such bar, or by the value there. Assumes nothing.
-use borrow.Author.Needs.{needs}
-use borrow.Author.Tests.{lt-ltb, le-ltb}
-use Rattle.chain.specs.Missing.{leafGone, goneIf}
-use Rattle.chain.proofs.missing.leaf_gone.Statement.{statement}
+use Rattle.words.specs.Prelude.{needs, lt-ltb, le-ltb}
+use Rattle.chain.specs.{Missing.leafGone, Missing.goneIf}
+use Rattle.chain.proofs.{missing.leaf_gone.Statement.statement}
 use Rattle.chain.proofs.missing.leaf_gone.Tie as tie
 
 pub leaf-gone-spec : {M : Type 1} → statement M

@@ -1,13 +1,9 @@
 -- The loop's invariant: the newest of all is the newest of what is left. Assumes nothing.
-use borrow.Author.Needs.{needs}
-use Prim.Native.Nat.{_+_, _≤_}
-use mathlib.Core.Path.{_≡_, refl, sym, _∙_}
-use native.Mathlib.Omega.{arith}
-use Rattle.rows.specs.History.{historyOf}
-use Rattle.table.specs.Series.{asOperand}
-use Rattle.chain.specs.Missing.{newestGone}
-use Rattle.chain.proofs.Newest.{newest-here, newest-further, newest-last}
-use Rattle.chain.proofs.missing.newest_gone.Statement.{statement}
+use Rattle.words.specs.Prelude.{needs, _+_, _≤_, _≡_, refl, sym, _∙_, arith}
+use Rattle.rows.specs.{History.historyOf}
+use Rattle.table.specs.{Series.asOperand}
+use Rattle.chain.specs.{Missing.newestGone}
+use Rattle.chain.proofs.{Newest.newest-here, Newest.newest-further, Newest.newest-last, missing.newest_gone.Statement.statement}
 use Rattle.chain.proofs.missing.newest_gone.Tie as tie
 
 abbrev Inv-loop : tie.InvT-loop

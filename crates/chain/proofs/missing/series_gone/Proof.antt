@@ -1,13 +1,9 @@
 -- Missing where there is no such bar or no such row; a price is there, a slot by its bit. Assumes nothing.
-use borrow.Author.Needs.{needs}
-use Prim.Native.Nat.{_-_}
-use native.Mathlib.Omega.{arith}
-use Rattle.rows.specs.History.{historyOf}
-use Rattle.rows.specs.Laws.RowEnds.{row-ends}
-use Rattle.rules.proofs.Grown.{below}
-use Rattle.chain.specs.Missing.{goneIf}
-use Rattle.chain.proofs.Newest.{series-early, series-past, series-price, series-slot}
-use Rattle.chain.proofs.missing.series_gone.Statement.{statement}
+use Rattle.words.specs.Prelude.{needs, _-_, arith}
+use Rattle.rows.specs.{History.historyOf, Laws.RowEnds.row-ends}
+use Rattle.rules.proofs.{Grown.below}
+use Rattle.chain.specs.{Missing.goneIf}
+use Rattle.chain.proofs.{Newest.series-early, Newest.series-past, Newest.series-price, Newest.series-slot, missing.series_gone.Statement.statement}
 use Rattle.chain.proofs.missing.series_gone.Tie as tie
 
 pub series-gone-spec : {M : Type 1} → statement M

@@ -1,7 +1,7 @@
 -- No word is used. Assumes nothing.
-use mathlib.Core.Path.{refl}
-use Rattle.chain.specs.Lines.{detail}
-use Rattle.chain.proofs.shown.bare.Statement.{statement}
+use Rattle.words.specs.Prelude.{refl}
+use Rattle.chain.specs.{Lines.detail}
+use Rattle.chain.proofs.{shown.bare.Statement.statement}
 use Rattle.chain.proofs.shown.bare.Tie as tie
 
 pub bare-spec : {M : Type 1} → statement M

@@ -1,7 +1,7 @@
 -- One return for each case of what was found. Assumes nothing.
-use borrow.Author.Needs.{needs}
-use Rattle.chain.specs.Lines.{leafOr, detail}
-use Rattle.chain.proofs.shown.leaf_or.Statement.{statement}
+use Rattle.words.specs.Prelude.{needs}
+use Rattle.chain.specs.{Lines.leafOr, Lines.detail}
+use Rattle.chain.proofs.{shown.leaf_or.Statement.statement}
 use Rattle.chain.proofs.shown.leaf_or.Tie as tie
 
 pub leaf-or-spec : {M : Type 1} → statement M

@@ -1,7 +1,7 @@
 -- One return for each case of the operand's value. Assumes nothing.
-use borrow.Author.Needs.{needs}
-use Rattle.chain.specs.Lines.{valueWord}
-use Rattle.chain.proofs.shown.operand_word.Statement.{statement}
+use Rattle.words.specs.Prelude.{needs}
+use Rattle.chain.specs.{Lines.valueWord}
+use Rattle.chain.proofs.{shown.operand_word.Statement.statement}
 use Rattle.chain.proofs.shown.operand_word.Tie as tie
 
 pub operand-word-spec : {M : Type 1} → statement M

@@ -1,11 +1,10 @@
 -- Each return is a case of `shown` at the condition that stands at the node. Assumes nothing.
-use borrow.Author.Needs.{needs}
-use native.Mathlib.Omega.{arith}
-use Rattle.table.specs.Bytes.{Bytes}
-use Rattle.chain.specs.Laws.Shapes.{trend-small}
-use Rattle.chain.proofs.Showing.{gone, worth, shown-deep, shown-compare, shown-cross, shown-between, shown-trend}
-use Rattle.chain.proofs.Showing.{shown-group, shown-not, shown-position, shown-since, shown-none}
-use Rattle.chain.proofs.shown.show.Statement.{statement}
+use Rattle.words.specs.Prelude.{needs, arith}
+use Rattle.table.specs.{Bytes.Bytes}
+use Rattle.chain.specs.{Laws.Shapes.trend-small}
+use Rattle.chain.proofs.{Showing.gone, Showing.worth, Showing.shown-deep, Showing.shown-compare, Showing.shown-cross, Showing.shown-between}
+use Rattle.chain.proofs.{Showing.shown-trend, Showing.shown-group, Showing.shown-not, Showing.shown-position, Showing.shown-since, Showing.shown-none}
+use Rattle.chain.proofs.{shown.show.Statement.statement}
 use Rattle.chain.proofs.shown.show.Tie as tie
 
 pub show-spec : {M : Type 1} → statement M

@@ -1,8 +1,6 @@
 -- The missing leaf of the three operands, or their values. Assumes nothing.
-use borrow.Author.Needs.{needs}
-use native.Mathlib.Omega.{arith}
-use Rattle.chain.proofs.Showing.{three-shown}
-use Rattle.chain.proofs.shown.show_between.Statement.{statement}
+use Rattle.words.specs.Prelude.{needs, arith}
+use Rattle.chain.proofs.{Showing.three-shown, shown.show_between.Statement.statement}
 use Rattle.chain.proofs.shown.show_between.Tie as tie
 
 pub show-between-spec : {M : Type 1} → statement M

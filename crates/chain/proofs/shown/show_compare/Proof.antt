@@ -1,8 +1,6 @@
 -- The missing leaf of the two operands, or their values. Assumes nothing.
-use borrow.Author.Needs.{needs}
-use native.Mathlib.Omega.{arith}
-use Rattle.chain.proofs.Showing.{two-shown}
-use Rattle.chain.proofs.shown.show_compare.Statement.{statement}
+use Rattle.words.specs.Prelude.{needs, arith}
+use Rattle.chain.proofs.{Showing.two-shown, shown.show_compare.Statement.statement}
 use Rattle.chain.proofs.shown.show_compare.Tie as tie
 
 pub show-compare-spec : {M : Type 1} → statement M

@@ -1,10 +1,7 @@
 -- The first bar, or the missing leaf now and before, or the four values. Assumes nothing.
-use borrow.Author.Needs.{needs}
-use native.Mathlib.Omega.{arith}
-use borrow.Author.Tests.{eq-eqb, ne-eqb}
-use Rattle.chain.specs.Lines.{detailOf}
-use Rattle.chain.proofs.Showing.{four-shown}
-use Rattle.chain.proofs.shown.show_cross.Statement.{statement}
+use Rattle.words.specs.Prelude.{needs, arith, eq-eqb, ne-eqb}
+use Rattle.chain.specs.{Lines.detailOf}
+use Rattle.chain.proofs.{Showing.four-shown, shown.show_cross.Statement.statement}
 use Rattle.chain.proofs.shown.show_cross.Tie as tie
 
 pub show-cross-spec : {M : Type 1} → statement M

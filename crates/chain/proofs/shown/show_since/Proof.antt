@@ -1,9 +1,7 @@
 -- One return for each way to have no entry bar, and one for the count. Assumes nothing.
-use mathlib.Core.Path.{refl}
-use borrow.Author.Needs.{needs}
-use Rattle.chain.specs.Chain.{shownSince}
-use Rattle.chain.specs.Lines.{detailOf, detail}
-use Rattle.chain.proofs.shown.show_since.Statement.{statement}
+use Rattle.words.specs.Prelude.{refl, needs}
+use Rattle.chain.specs.{Chain.shownSince, Lines.detailOf, Lines.detail}
+use Rattle.chain.proofs.{shown.show_since.Statement.statement}
 use Rattle.chain.proofs.shown.show_since.Tie as tie
 
 pub show-since-spec : {M : Type 1} → statement M

@@ -1,9 +1,7 @@
 -- Too few bars, or the missing leaf now and then, or the two values. Assumes nothing.
-use borrow.Author.Needs.{needs}
-use borrow.Author.Tests.{lt-ltb, le-ltb}
-use Rattle.chain.specs.Lines.{detailOf}
-use Rattle.chain.proofs.Showing.{two-shown}
-use Rattle.chain.proofs.shown.show_trend.Statement.{statement}
+use Rattle.words.specs.Prelude.{needs, lt-ltb, le-ltb}
+use Rattle.chain.specs.{Lines.detailOf}
+use Rattle.chain.proofs.{Showing.two-shown, shown.show_trend.Statement.statement}
 use Rattle.chain.proofs.shown.show_trend.Tie as tie
 
 pub show-trend-spec : {M : Type 1} → statement M

@@ -1,6 +1,6 @@
 -- The first missing of the two. Assumes nothing.
-use borrow.Author.Needs.{needs}
-use Rattle.chain.proofs.shown.two_missing.Statement.{statement}
+use Rattle.words.specs.Prelude.{needs}
+use Rattle.chain.proofs.{shown.two_missing.Statement.statement}
 use Rattle.chain.proofs.shown.two_missing.Tie as tie
 
 pub two-missing-spec : {M : Type 1} → statement M

@@ -1,19 +1,12 @@
 -- The node's line, then the lines of the node that the chain goes on from; what is left of the nesting falls. Assumes nothing.
-use Prim.Native.Nat.{ℕ, _<_}
-use mathlib.Core.Path.{sym, _∙_}
-use native.Mathlib.Omega.{arith}
-use borrow.Author.Needs.{needs}
-use Rattle.chain.specs.Laws.Steps.{goes-down}
-use Rattle.chain.proofs.Walking.{walked-one, walked-on}
-use borrow.Fn.Kinds.{In}
-use borrow.Fn.PlainCycle.{Measures, is, falls, and}
+use Rattle.words.specs.Prelude.{ℕ, _<_, sym, _∙_, arith, needs, In, Measures, is, falls, and}
+use Rattle.chain.specs.{Laws.Steps.goes-down}
+use Rattle.chain.proofs.{Walking.walked-one, Walking.walked-on, walk.+walk.statement, walk.+walk.Tie.close}
 use Rattle.chain.proofs.walk.walk.Reads as walk
 use Rattle.chain.proofs.walk.walk.Kinds as walk-kinds
 use Rattle.chain.proofs.walk.+walk.Lts-walk as walk-lts
 use Rattle.chain.proofs.walk.next_node.Reads as next-node-reads
 use Rattle.chain.proofs.walk.put_line.Reads as put-line-reads
-use Rattle.chain.proofs.walk.+walk.{statement}
-use Rattle.chain.proofs.walk.+walk.Tie.{close}
 
 abbrev μ-walk : Measures 4 walk-kinds.ps ℕ
 μ-walk κs a = a .1 .1 .1 .1 .1 .1 .1 .0

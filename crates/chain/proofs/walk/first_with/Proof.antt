@@ -1,13 +1,9 @@
 -- The loop's invariant: the first of all is the first of what is left. Assumes nothing.
-use borrow.Author.Needs.{needs}
-use mathlib.Core.Path.{_≡_, refl, sym, _∙_}
-use native.Mathlib.Omega.{arith}
-use Rattle.rows.specs.History.{historyOf}
-use Rattle.rules.specs.Meaning.{holds}
-use Rattle.rules.specs.Flat.{conditionAt}
-use Rattle.chain.specs.Flat.{firstAt}
-use Rattle.chain.proofs.Going.{first-is, first-not, first-none}
-use Rattle.chain.proofs.walk.first_with.Statement.{statement}
+use Rattle.words.specs.Prelude.{needs, _≡_, refl, sym, _∙_, arith}
+use Rattle.rows.specs.{History.historyOf}
+use Rattle.rules.specs.{Meaning.holds, Flat.conditionAt}
+use Rattle.chain.specs.{Flat.firstAt}
+use Rattle.chain.proofs.{Going.first-is, Going.first-not, Going.first-none, walk.first_with.Statement.statement}
 use Rattle.chain.proofs.walk.first_with.Tie as tie
 
 abbrev Inv-loop : tie.InvT-loop

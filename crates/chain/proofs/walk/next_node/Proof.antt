@@ -1,8 +1,7 @@
 -- Each return is where the chain goes from a node of that shape. Assumes nothing.
-use borrow.Author.Needs.{needs}
-use Rattle.chain.specs.Flat.{nextBy}
-use Rattle.chain.proofs.Going.{next-deep, next-by}
-use Rattle.chain.proofs.walk.next_node.Statement.{statement}
+use Rattle.words.specs.Prelude.{needs}
+use Rattle.chain.specs.{Flat.nextBy}
+use Rattle.chain.proofs.{Going.next-deep, Going.next-by, walk.next_node.Statement.statement}
 use Rattle.chain.proofs.walk.next_node.Tie as tie
 
 pub next-node-spec : {M : Type 1} → statement M

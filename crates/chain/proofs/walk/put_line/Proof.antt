@@ -1,9 +1,7 @@
 -- The eight words of the line are written at its place. Assumes nothing.
-use borrow.Author.Needs.{needs}
-use native.Mathlib.Omega.{arith}
-use Rattle.chain.specs.Chain.{lineAt}
-use Rattle.chain.specs.Lines.{lineWords}
-use Rattle.chain.proofs.walk.put_line.Statement.{statement}
+use Rattle.words.specs.Prelude.{needs, arith}
+use Rattle.chain.specs.{Chain.lineAt, Lines.lineWords}
+use Rattle.chain.proofs.{walk.put_line.Statement.statement}
 use Rattle.chain.proofs.walk.put_line.Tie as tie
 
 pub put-line-spec : {M : Type 1} → statement M

@@ -1,9 +1,6 @@
 -- The loop counts the minutes, and each bar that is put leaves the room as long as it was.
-use Prim.Native.Nat.{_-_, _≤_}
-use mathlib.Core.Path.{_≡_}
-use lib.ListN.{length}
-use borrow.Author.Needs.{needs}
-use Rattle.demo.proofs.bars.write_day.Statement.{statement}
+use Rattle.words.specs.Prelude.{_-_, _≤_, _≡_, length, needs}
+use Rattle.demo.proofs.{bars.write_day.Statement.statement}
 use Rattle.demo.proofs.bars.write_day.Tie as tie
 
 abbrev Inv-loop : tie.InvT-loop

@@ -1,8 +1,6 @@
 -- A part of so many words as were tested to be there is so long.
-use mathlib.Core.Path.{sym}
-use borrow.Author.Needs.{needs}
-use lib.Seq.{length-take-le}
-use Rattle.demo.proofs.loss.bars_before.Statement.{statement}
+use Rattle.words.specs.Prelude.{sym, needs, length-take-le}
+use Rattle.demo.proofs.{loss.bars_before.Statement.statement}
 use Rattle.demo.proofs.loss.bars_before.Tie as tie
 
 slice-aggregate-result : tie.Need-slice-aggregate-result

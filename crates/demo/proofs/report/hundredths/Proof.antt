@@ -1,9 +1,6 @@
 -- The two tests before the cast are what the cast asks.
-use mathlib.Core.Path.{sym, subst}
-use lib.Dec.{T}
-use lib.Ieee.{ofBits, neg}
-use borrow.Author.Needs.{needs}
-use Rattle.demo.proofs.report.hundredths.Statement.{statement}
+use Rattle.words.specs.Prelude.{sym, subst, T, ofBits, neg, needs}
+use Rattle.demo.proofs.{report.hundredths.Statement.statement}
 use Rattle.demo.proofs.report.hundredths.Tie as tie
 
 truncating-f64-to-u64-requires : tie.Need-truncating-f64-to-u64-requires

@@ -1,8 +1,6 @@
 -- "13 here comes first"; then what the lists of whole records give.
-use mathlib.Core.Path.{sym, _∙_}
-use borrow.Author.Needs.{needs}
-use Rattle.differences.proofs.Comparing.{both-whole, other-ragged, ragged}
-use Rattle.differences.proofs.compare.compare.Statement.{statement}
+use Rattle.words.specs.Prelude.{sym, _∙_, needs}
+use Rattle.differences.proofs.{Comparing.both-whole, Comparing.other-ragged, Comparing.ragged, compare.compare.Statement.statement}
 use Rattle.differences.proofs.compare.compare.Tie as tie
 
 returns : tie.Need-returns

@@ -1,10 +1,7 @@
 -- From what was counted, by the law of each way out.
-use Prim.Native.Nat.{ℕ, _*_, _/_, _^_, _<_, _≤_, min}
-use mathlib.Core.Path.{_≡_, sym, _∙_}
-use native.Mathlib.Omega.{arith}
-use borrow.Author.Needs.{needs}
-use Rattle.differences.proofs.Comparing.{refuses, lines-fit, all-fit, nothing, writes}
-use Rattle.differences.proofs.compare.compare_whole.Statement.{statement}
+use Rattle.words.specs.Prelude.{ℕ, _*_, _/_, _^_, _<_, _≤_, min, _≡_, sym, _∙_, arith, needs}
+use Rattle.differences.proofs.{Comparing.refuses, Comparing.lines-fit, Comparing.all-fit, Comparing.nothing, Comparing.writes}
+use Rattle.differences.proofs.{compare.compare_whole.Statement.statement}
 use Rattle.differences.proofs.compare.compare_whole.Tie as tie
 
 -- what both lists have, each has

@@ -1,10 +1,7 @@
 -- One count after another.
-use mathlib.Core.Path.{_≡_, sym, _∙_}
-use Prim.Native.Nat.{ℕ, _+_}
-use native.Mathlib.Omega.{arith}
-use borrow.Author.Needs.{needs}
-use Rattle.differences.specs.Laws.Counted.{fewLines, equity-count, surplus-length}
-use Rattle.differences.proofs.compare.count_few.Statement.{statement}
+use Rattle.words.specs.Prelude.{_≡_, sym, _∙_, ℕ, _+_, arith, needs}
+use Rattle.differences.specs.{Laws.Counted.fewLines, Laws.Counted.equity-count, Laws.Counted.surplus-length}
+use Rattle.differences.proofs.{compare.count_few.Statement.statement}
 use Rattle.differences.proofs.compare.count_few.Tie as tie
 
 sum : (a b c x y z : ℕ) → a ≡ x → b ≡ y → c ≡ z → a + b + c ≡ x + y + z

@@ -1,12 +1,6 @@
 -- So many lines fit where their number is at most that of the room's lines.
-use mathlib.Core.Path.{_≡_, refl, sym}
-use mathlib.Core.Bool.{Bool, true, false}
-use Prim.Native.Nat.{ℕ, _+_, _-_, _*_, _/_, _<_, _≤_}
-use native.Mathlib.Omega.{arith}
-use borrow.Author.Needs.{needs}
-use borrow.Author.Tests.{lt-leb, le-leb, leb-true, leb-false}
-use lib.Dec.{leb}
-use Rattle.differences.proofs.compare.holds.Statement.{statement}
+use Rattle.words.specs.Prelude.{_≡_, refl, sym, Bool, true, false, ℕ, _+_, _-_, _*_, _/_, _<_, _≤_, arith, needs, lt-leb, le-leb, leb-true, leb-false, leb}
+use Rattle.differences.proofs.{compare.holds.Statement.statement}
 use Rattle.differences.proofs.compare.holds.Tie as tie
 
 few-fit : (r f w : ℕ) → r / 5 < f → false ≡ leb (5 * (f + w)) r

@@ -1,7 +1,6 @@
 -- By the test.
-use native.Mathlib.Omega.{arith}
-use borrow.Author.Tests.{lt-ltb, le-ltb}
-use Rattle.differences.proofs.compare.one_of.Statement.{statement}
+use Rattle.words.specs.Prelude.{arith, lt-ltb, le-ltb}
+use Rattle.differences.proofs.{compare.one_of.Statement.statement}
 use Rattle.differences.proofs.compare.one_of.Tie as tie
 
 pub one-of-spec : {M : Type 1} → statement M

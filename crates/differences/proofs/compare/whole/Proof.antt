@@ -1,6 +1,6 @@
 -- By its two tests.
-use borrow.Author.Tests.{eq-eqb, ne-eqb}
-use Rattle.differences.proofs.compare.whole.Statement.{statement}
+use Rattle.words.specs.Prelude.{eq-eqb, ne-eqb}
+use Rattle.differences.proofs.{compare.whole.Statement.statement}
 use Rattle.differences.proofs.compare.whole.Tie as tie
 
 pub whole-spec : {M : Type 1} → statement M

@@ -1,11 +1,7 @@
 -- After k turns the first k points are the same: what is left begins at point k.
-use mathlib.Core.Path.{_≡_, sym, ap, _∙_}
-use Prim.Native.Nat.{_-_, _≤_}
-use native.Mathlib.Omega.{arith}
-use borrow.Author.Needs.{needs}
-use Rattle.differences.specs.Lines.{firstPoint}
-use Rattle.differences.specs.Laws.Counted.{point-same, point-other, no-point}
-use Rattle.differences.proofs.equity.first_point.Statement.{statement}
+use Rattle.words.specs.Prelude.{_≡_, sym, ap, _∙_, _-_, _≤_, arith, needs}
+use Rattle.differences.specs.{Lines.firstPoint, Laws.Counted.point-same, Laws.Counted.point-other, Laws.Counted.no-point}
+use Rattle.differences.proofs.{equity.first_point.Statement.statement}
 use Rattle.differences.proofs.equity.first_point.Tie as tie
 
 abbrev Inv-loop : tie.InvT-loop

@@ -1,7 +1,7 @@
 -- One write of five words.
-use borrow.Author.Needs.{needs}
-use Rattle.differences.specs.Lines.{wordsOf}
-use Rattle.differences.proofs.put.put_line.Statement.{statement}
+use Rattle.words.specs.Prelude.{needs}
+use Rattle.differences.specs.{Lines.wordsOf}
+use Rattle.differences.proofs.{put.put_line.Statement.statement}
 use Rattle.differences.proofs.put.put_line.Tie as tie
 
 returns : tie.Need-returns

@@ -1,15 +1,9 @@
 -- Four parts, each written where the one before it ends (`four-put`).
-use mathlib.Core.Path.{_≡_, ap, _∙_}
-use mathlib.Core.List.{List, _++_}
-use Prim.Native.Nat.{ℕ, _+_, _*_, _≤_}
-use native.Mathlib.Omega.{arith}
-use borrow.Author.Needs.{needs}
-use lib.ListN.{length, length-append}
-use Rattle.words.specs.Words.{overwrite}
-use Rattle.words.specs.Laws.Overwrite.{overwrite-length}
-use Rattle.differences.specs.Lines.{Line, points, trades, equityLine, wordLines, surplus, differencesFrom, wordsOf}
-use Rattle.differences.specs.Laws.Written.{four-put}
-use Rattle.differences.proofs.put_all.put_all.Statement.{statement}
+use Rattle.words.specs.Prelude.{_≡_, ap, _∙_, List, _++_, ℕ, _+_, _*_, _≤_, arith, needs, length, length-append}
+use Rattle.words.specs.{Words.overwrite, Laws.Overwrite.overwrite-length}
+use Rattle.differences.specs.{Lines.Line, Lines.points, Lines.trades, Lines.equityLine, Lines.wordLines, Lines.surplus, Lines.differencesFrom, Lines.wordsOf}
+use Rattle.differences.specs.{Laws.Written.four-put}
+use Rattle.differences.proofs.{put_all.put_all.Statement.statement}
 use Rattle.differences.proofs.put_all.put_all.Tie as tie
 
 -- how many lines four parts have

@@ -1,14 +1,8 @@
 -- The line where the point is one of them, and else none.
-use mathlib.Core.Path.{sym, ap, _∙_}
-use mathlib.Core.List.{List}
-use native.Mathlib.Omega.{arith}
-use borrow.Author.Needs.{needs}
-use lib.ListN.{length}
-use Rattle.words.specs.Words.{overwrite}
-use Rattle.differences.specs.Lines.{Line, wordsOf}
-use Rattle.differences.specs.Laws.Counted.{equity-some, equity-none}
-use Rattle.differences.specs.Laws.Written.{none-written}
-use Rattle.differences.proofs.put_all.put_equity.Statement.{statement}
+use Rattle.words.specs.Prelude.{sym, ap, _∙_, List, arith, needs, length}
+use Rattle.words.specs.{Words.overwrite}
+use Rattle.differences.specs.{Lines.Line, Lines.wordsOf, Laws.Counted.equity-some, Laws.Counted.equity-none, Laws.Written.none-written}
+use Rattle.differences.proofs.{put_all.put_equity.Statement.statement}
 use Rattle.differences.proofs.put_all.put_equity.Tie as tie
 
 put-line-requires : tie.Need-put-line-requires

@@ -1,9 +1,7 @@
 -- By the test.
-use mathlib.Core.Path.{sym, ap}
-use native.Mathlib.Omega.{arith}
-use lib.ListN.{length}
-use Rattle.differences.specs.Laws.Counted.{surplus-none, surplus-some}
-use Rattle.differences.proofs.surplus.apart.Statement.{statement}
+use Rattle.words.specs.Prelude.{sym, ap, arith, length}
+use Rattle.differences.specs.{Laws.Counted.surplus-none, Laws.Counted.surplus-some}
+use Rattle.differences.proofs.{surplus.apart.Statement.statement}
 use Rattle.differences.proofs.surplus.apart.Tie as tie
 
 pub apart-spec : {M : Type 1} → statement M

@@ -1,11 +1,7 @@
 -- No line where the counts are equal, and else the one.
-use mathlib.Core.Path.{ap}
-use native.Mathlib.Omega.{arith}
-use borrow.Author.Needs.{needs}
-use lib.ListN.{length}
-use Rattle.differences.specs.Laws.Counted.{surplus-none, surplus-some}
-use Rattle.differences.specs.Laws.Written.{none-put, one-put}
-use Rattle.differences.proofs.surplus.put_surplus.Statement.{statement}
+use Rattle.words.specs.Prelude.{ap, arith, needs, length}
+use Rattle.differences.specs.{Laws.Counted.surplus-none, Laws.Counted.surplus-some, Laws.Written.none-put, Laws.Written.one-put}
+use Rattle.differences.proofs.{surplus.put_surplus.Statement.statement}
 use Rattle.differences.proofs.surplus.put_surplus.Tie as tie
 
 returns : tie.Need-returns

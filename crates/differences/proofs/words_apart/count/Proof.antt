@@ -1,13 +1,7 @@
 -- After k turns: how many of the first k words differ.
-use mathlib.Core.Path.{_≡_, refl, sym, ap, _∙_}
-use Prim.Native.Nat.{ℕ, suc, _+_, _-_, _^_, _<_, _≤_}
-use native.Mathlib.Omega.{arith}
-use native.Mathlib.Numerals.{add-one}
-use borrow.Author.Needs.{needs}
-use lib.ListN.{length}
-use Rattle.differences.specs.Lines.{wordLines}
-use Rattle.differences.specs.Laws.Counted.{lines-next, lines-most}
-use Rattle.differences.proofs.words_apart.count.Statement.{statement}
+use Rattle.words.specs.Prelude.{_≡_, refl, sym, ap, _∙_, ℕ, suc, _+_, _-_, _^_, _<_, _≤_, arith, add-one, needs, length}
+use Rattle.differences.specs.{Lines.wordLines, Laws.Counted.lines-next, Laws.Counted.lines-most}
+use Rattle.differences.proofs.{words_apart.count.Statement.statement}
 use Rattle.differences.proofs.words_apart.count.Tie as tie
 
 abbrev Inv-loop : tie.InvT-loop

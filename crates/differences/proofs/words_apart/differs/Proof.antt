@@ -1,9 +1,7 @@
 -- By the test.
-use mathlib.Core.Path.{sym, ap}
-use borrow.Author.Needs.{needs}
-use lib.ListN.{length}
-use Rattle.differences.specs.Laws.Counted.{line-same, line-other}
-use Rattle.differences.proofs.words_apart.differs.Statement.{statement}
+use Rattle.words.specs.Prelude.{sym, ap, needs, length}
+use Rattle.differences.specs.{Laws.Counted.line-same, Laws.Counted.line-other}
+use Rattle.differences.proofs.{words_apart.differs.Statement.statement}
 use Rattle.differences.proofs.words_apart.differs.Tie as tie
 
 returns : tie.Need-returns

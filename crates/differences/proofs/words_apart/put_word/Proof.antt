@@ -1,11 +1,7 @@
 -- No line where the words are equal, and else the one.
-use mathlib.Core.Path.{ap}
-use native.Mathlib.Omega.{arith}
-use borrow.Author.Needs.{needs}
-use lib.ListN.{length}
-use Rattle.differences.specs.Laws.Counted.{line-same, line-other}
-use Rattle.differences.specs.Laws.Written.{none-put, one-put}
-use Rattle.differences.proofs.words_apart.put_word.Statement.{statement}
+use Rattle.words.specs.Prelude.{ap, arith, needs, length}
+use Rattle.differences.specs.{Laws.Counted.line-same, Laws.Counted.line-other, Laws.Written.none-put, Laws.Written.one-put}
+use Rattle.differences.proofs.{words_apart.put_word.Statement.statement}
 use Rattle.differences.proofs.words_apart.put_word.Tie as tie
 
 returns : tie.Need-returns

@@ -1,18 +1,9 @@
 -- After k turns: the lines of the first k words stand from line `from` on.
-use mathlib.Core.Path.{_≡_, sym, ap, _∙_}
-use mathlib.Core.List.{List}
-use Prim.Native.Nat.{ℕ, _+_, _-_, _*_, _≤_}
-use native.Mathlib.Nat.{add-zero}
-use native.Mathlib.Numerals.{add-one}
-use native.Mathlib.Omega.{arith}
-use borrow.Author.Needs.{needs}
-use lib.ListN.{length}
-use Rattle.words.specs.Words.{overwrite}
-use Rattle.words.specs.Laws.Overwrite.{overwrite-length}
-use Rattle.differences.specs.Lines.{wordLine, wordLines, wordsOf}
-use Rattle.differences.specs.Laws.Counted.{lines-next, lines-rise}
-use Rattle.differences.specs.Laws.Written.{none-written, written-on}
-use Rattle.differences.proofs.words_apart.put_words.Statement.{statement}
+use Rattle.words.specs.Prelude.{_≡_, sym, ap, _∙_, List, ℕ, _+_, _-_, _*_, _≤_, add-zero, add-one, arith, needs, length}
+use Rattle.words.specs.{Words.overwrite, Laws.Overwrite.overwrite-length}
+use Rattle.differences.specs.{Lines.wordLine, Lines.wordLines, Lines.wordsOf, Laws.Counted.lines-next, Laws.Counted.lines-rise, Laws.Written.none-written}
+use Rattle.differences.specs.{Laws.Written.written-on}
+use Rattle.differences.proofs.{words_apart.put_words.Statement.statement}
 use Rattle.differences.proofs.words_apart.put_words.Tie as tie
 
 abbrev Inv-loop : tie.InvT-loop

@@ -1,6 +1,6 @@
 -- Five words.
-use borrow.Author.Needs.{needs}
-use Rattle.dump.proofs.body.candle_fine.Statement.{statement}
+use Rattle.words.specs.Prelude.{needs}
+use Rattle.dump.proofs.{body.candle_fine.Statement.statement}
 use Rattle.dump.proofs.body.candle_fine.Tie as tie
 
 returns : tie.Need-returns

@@ -1,9 +1,7 @@
 -- The word, and whether its float is finite.
-use Prim.Native.Nat.{ℕ}
-use mathlib.Core.Path.{ap, _∙_}
-use Rattle.floats.specs.Floats.{finite, floatOf}
-use borrow.Author.Needs.{needs}
-use Rattle.dump.proofs.body.finite_at.Statement.{statement}
+use Rattle.words.specs.Prelude.{ℕ, ap, _∙_, needs}
+use Rattle.floats.specs.{Floats.finite, Floats.floatOf}
+use Rattle.dump.proofs.{body.finite_at.Statement.statement}
 use Rattle.dump.proofs.body.finite_at.Tie as tie
 
 returns : tie.Need-returns

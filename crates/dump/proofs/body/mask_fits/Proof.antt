@@ -1,11 +1,6 @@
 -- With 64 slots there is no bit above them.
-use Prim.Native.Nat.{ℕ, _/_, _^_, _<_}
-use mathlib.Core.Path.{_≡_, sym, ap, _∙_}
-use native.Mathlib.Nat.{div-eq-of-lt}
-use native.Mathlib.Omega.{arith}
-use borrow.Author.Tests.{eq-eqb}
-use borrow.Author.Needs.{needs}
-use Rattle.dump.proofs.body.mask_fits.Statement.{statement}
+use Rattle.words.specs.Prelude.{ℕ, _/_, _^_, _<_, _≡_, sym, ap, _∙_, div-eq-of-lt, arith, eq-eqb, needs}
+use Rattle.dump.proofs.{body.mask_fits.Statement.statement}
 use Rattle.dump.proofs.body.mask_fits.Tie as tie
 
 returns-2 : tie.Need-returns-2

@@ -1,9 +1,7 @@
 -- Prices and volume, the mask, and the slots: what the row is judged by.
-use mathlib.Core.Path.{sym, ap, _∙_}
-use native.Mathlib.Omega.{arith}
-use Rattle.dump.specs.Laws.RowWords.{row-read}
-use borrow.Author.Needs.{needs}
-use Rattle.dump.proofs.body.row_fine.Statement.{statement}
+use Rattle.words.specs.Prelude.{sym, ap, _∙_, arith, needs}
+use Rattle.dump.specs.{Laws.RowWords.row-read}
+use Rattle.dump.proofs.{body.row_fine.Statement.statement}
 use Rattle.dump.proofs.body.row_fine.Tie as tie
 
 returns : tie.Need-returns

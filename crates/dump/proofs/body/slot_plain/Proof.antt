@@ -1,7 +1,6 @@
 -- One test.
-use borrow.Author.Tests.{eq-eqb, ne-eqb}
-use borrow.Author.Needs.{needs}
-use Rattle.dump.proofs.body.slot_plain.Statement.{statement}
+use Rattle.words.specs.Prelude.{eq-eqb, ne-eqb, needs}
+use Rattle.dump.proofs.{body.slot_plain.Statement.statement}
 use Rattle.dump.proofs.body.slot_plain.Tie as tie
 
 pub slot-plain-spec : {M : Type 1} → statement M

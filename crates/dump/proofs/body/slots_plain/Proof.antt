@@ -1,15 +1,9 @@
 -- The loop's invariant: whether those passed are as they should be.
-use Prim.Native.Nat.{ℕ, _+_, _-_, _*_, _/_, _%_, _^_, _≤_}
-use mathlib.Core.Path.{_≡_, refl, sym, ap, _∙_}
-use mathlib.Core.Bool.{Bool}
-use mathlib.Core.List.{List}
-use native.Mathlib.Omega.{arith}
-use Rattle.table.specs.Bytes.{u64}
-use Rattle.refusals.specs.Bar.{every}
-use Rattle.refusals.specs.Laws.Every.{every-none}
-use Rattle.dump.specs.Laws.RowWords.{slotPlain, every-next}
-use borrow.Author.Needs.{needs}
-use Rattle.dump.proofs.body.slots_plain.Statement.{statement}
+use Rattle.words.specs.Prelude.{ℕ, _+_, _-_, _*_, _/_, _%_, _^_, _≤_, _≡_, refl, sym, ap, _∙_, Bool, List, arith, needs}
+use Rattle.table.specs.{Bytes.u64}
+use Rattle.refusals.specs.{Bar.every, Laws.Every.every-none}
+use Rattle.dump.specs.{Laws.RowWords.slotPlain, Laws.RowWords.every-next}
+use Rattle.dump.proofs.{body.slots_plain.Statement.statement}
 use Rattle.dump.proofs.body.slots_plain.Tie as tie
 
 abbrev isPlain : List ℕ → ℕ → ℕ → ℕ → Bool

@@ -1,12 +1,8 @@
 -- The byte of the word that it stands in.
-use Prim.Native.Nat.{ℕ, _%_}
-use mathlib.Core.Path.{sym, ap, _∙_}
-use mathlib.Core.List.{List}
-use lib.ListN.{getD}
-use Rattle.steps.specs.Bytes.{eight}
-use Rattle.dump.specs.Laws.WordBytes.{byte-of}
-use borrow.Author.Needs.{needs}
-use Rattle.dump.proofs.bytes.byte_at.Statement.{statement}
+use Rattle.words.specs.Prelude.{ℕ, _%_, sym, ap, _∙_, List, getD, needs}
+use Rattle.steps.specs.{Bytes.eight}
+use Rattle.dump.specs.{Laws.WordBytes.byte-of}
+use Rattle.dump.proofs.{bytes.byte_at.Statement.statement}
 use Rattle.dump.proofs.bytes.byte_at.Tie as tie
 
 returns : tie.Need-returns

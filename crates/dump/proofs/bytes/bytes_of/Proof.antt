@@ -1,6 +1,6 @@
 -- Four bytes of each half.
-use borrow.Author.Needs.{needs}
-use Rattle.dump.proofs.bytes.bytes_of.Statement.{statement}
+use Rattle.words.specs.Prelude.{needs}
+use Rattle.dump.proofs.{bytes.bytes_of.Statement.statement}
 use Rattle.dump.proofs.bytes.bytes_of.Tie as tie
 
 returns : tie.Need-returns

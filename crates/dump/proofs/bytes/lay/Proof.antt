@@ -1,10 +1,7 @@
 -- Bytes up to a whole word, whole words, and the bytes that are over.
-use Prim.Native.Nat.{_+_, _-_, _*_, _/_, _%_, _<_, _≤_}
-use native.Mathlib.Omega.{arith}
-use Rattle.dump.specs.Layout.{wordsBytes}
-use Rattle.dump.proofs.Storing.{laid-two}
-use borrow.Author.Needs.{needs}
-use Rattle.dump.proofs.bytes.lay.Statement.{statement}
+use Rattle.words.specs.Prelude.{_+_, _-_, _*_, _/_, _%_, _<_, _≤_, arith, needs}
+use Rattle.dump.specs.{Layout.wordsBytes}
+use Rattle.dump.proofs.{Storing.laid-two, bytes.lay.Statement.statement}
 use Rattle.dump.proofs.bytes.lay.Tie as tie
 
 returns-2 : tie.Need-returns-2

@@ -1,13 +1,7 @@
 -- The loop's invariant: the bytes before k are laid.
-use Prim.Native.Nat.{_-_, _≤_}
-use mathlib.Core.Path.{_≡_, refl}
-use native.Mathlib.Omega.{arith}
-use lib.ListN.{length, length-set}
-use Rattle.dump.specs.Layout.{wordsBytes}
-use Rattle.dump.specs.Laws.Laid.{laid}
-use Rattle.dump.proofs.Storing.{laid-nothing, laid-next, laid-all}
-use borrow.Author.Needs.{needs}
-use Rattle.dump.proofs.bytes.lay_bytes.Statement.{statement}
+use Rattle.words.specs.Prelude.{_-_, _≤_, _≡_, refl, arith, length, length-set, needs}
+use Rattle.dump.specs.{Layout.wordsBytes, Laws.Laid.laid}
+use Rattle.dump.proofs.{Storing.laid-nothing, Storing.laid-next, Storing.laid-all, bytes.lay_bytes.Statement.statement}
 use Rattle.dump.proofs.bytes.lay_bytes.Tie as tie
 
 abbrev Inv-loop : tie.InvT-loop

@@ -1,13 +1,7 @@
 -- The loop's invariant: the words before k are laid.
-use Prim.Native.Nat.{_-_, _*_, _≤_}
-use mathlib.Core.Path.{_≡_, refl, ap, _∙_}
-use native.Mathlib.Omega.{arith}
-use lib.ListN.{length}
-use Rattle.dump.specs.Layout.{wordsBytes}
-use Rattle.dump.specs.Laws.Laid.{laid, laid-length}
-use Rattle.dump.proofs.Storing.{words-nothing, eight-next}
-use borrow.Author.Needs.{needs}
-use Rattle.dump.proofs.bytes.lay_eights.Statement.{statement}
+use Rattle.words.specs.Prelude.{_-_, _*_, _≤_, _≡_, refl, ap, _∙_, arith, length, needs}
+use Rattle.dump.specs.{Layout.wordsBytes, Laws.Laid.laid, Laws.Laid.laid-length}
+use Rattle.dump.proofs.{Storing.words-nothing, Storing.eight-next, bytes.lay_eights.Statement.statement}
 use Rattle.dump.proofs.bytes.lay_eights.Tie as tie
 
 abbrev Inv-loop : tie.InvT-loop

@@ -1,7 +1,6 @@
 -- Four words, one after another.
-use Rattle.dump.proofs.Storing.{four-words}
-use borrow.Author.Needs.{needs}
-use Rattle.dump.proofs.bytes.lay_four.Statement.{statement}
+use Rattle.words.specs.Prelude.{needs}
+use Rattle.dump.proofs.{Storing.four-words, bytes.lay_four.Statement.statement}
 use Rattle.dump.proofs.bytes.lay_four.Tie as tie
 
 returns : tie.Need-returns

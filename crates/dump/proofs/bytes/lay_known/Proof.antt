@@ -1,13 +1,7 @@
 -- Eights first. The loop's invariant: from where they end, the words before k are laid.
-use Prim.Native.Nat.{_-_, _*_, _≤_}
-use mathlib.Core.Path.{_≡_, refl, ap, _∙_}
-use native.Mathlib.Omega.{arith}
-use lib.ListN.{length}
-use Rattle.dump.specs.Layout.{wordsBytes}
-use Rattle.dump.specs.Laws.Laid.{laid, laid-length}
-use Rattle.dump.proofs.Storing.{words-nothing, word-next, words-all, laid-two}
-use borrow.Author.Needs.{needs}
-use Rattle.dump.proofs.bytes.lay_known.Statement.{statement}
+use Rattle.words.specs.Prelude.{_-_, _*_, _≤_, _≡_, refl, ap, _∙_, arith, length, needs}
+use Rattle.dump.specs.{Layout.wordsBytes, Laws.Laid.laid, Laws.Laid.laid-length}
+use Rattle.dump.proofs.{Storing.words-nothing, Storing.word-next, Storing.words-all, Storing.laid-two, bytes.lay_known.Statement.statement}
 use Rattle.dump.proofs.bytes.lay_known.Tie as tie
 
 abbrev Inv-loop : tie.InvT-loop

@@ -1,13 +1,7 @@
 -- Words that there are, then zeros.
-use Prim.Native.Nat.{ℕ, _-_, _*_}
-use mathlib.Core.Path.{ap, _∙_}
-use native.Mathlib.Omega.{arith}
-use lib.ListN.{length}
-use Rattle.dump.specs.Layout.{wordsBytes}
-use Rattle.dump.specs.Laws.Laid.{laid}
-use Rattle.dump.proofs.Storing.{laid-two}
-use borrow.Author.Needs.{needs}
-use Rattle.dump.proofs.bytes.lay_words.Statement.{statement}
+use Rattle.words.specs.Prelude.{ℕ, _-_, _*_, ap, _∙_, arith, length, needs}
+use Rattle.dump.specs.{Layout.wordsBytes, Laws.Laid.laid}
+use Rattle.dump.proofs.{Storing.laid-two, bytes.lay_words.Statement.statement}
 use Rattle.dump.proofs.bytes.lay_words.Tie as tie
 
 returns : tie.Need-returns

@@ -1,13 +1,7 @@
 -- Eight stores.
-use mathlib.Core.Path.{ap, _∙_}
-use mathlib.Core.List.{List}
-use Prim.Native.Nat.{ℕ}
-use native.Mathlib.Omega.{arith}
-use lib.ListN.{length-set}
-use Rattle.dump.specs.Laws.Laid.{laid}
-use Rattle.dump.proofs.Storing.{eight-sets}
-use borrow.Author.Needs.{needs}
-use Rattle.dump.proofs.bytes.put_word.Statement.{statement}
+use Rattle.words.specs.Prelude.{ap, _∙_, List, ℕ, arith, length-set, needs}
+use Rattle.dump.specs.{Laws.Laid.laid}
+use Rattle.dump.proofs.{Storing.eight-sets, bytes.put_word.Statement.statement}
 use Rattle.dump.proofs.bytes.put_word.Tie as tie
 
 slice-write-area-2 : tie.Need-slice-write-area-2

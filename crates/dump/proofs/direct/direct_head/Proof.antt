@@ -1,7 +1,6 @@
 -- Word by word.
-use Rattle.dump.proofs.Plain.{head-made}
-use borrow.Author.Needs.{needs}
-use Rattle.dump.proofs.direct.direct_head.Statement.{statement}
+use Rattle.words.specs.Prelude.{needs}
+use Rattle.dump.proofs.{Plain.head-made, direct.direct_head.Statement.statement}
 use Rattle.dump.proofs.direct.direct_head.Tie as tie
 
 returns : tie.Need-returns

@@ -1,7 +1,6 @@
 -- Two tests.
-use borrow.Author.Tests.{le-leb, lt-leb, eq-eqb, ne-eqb}
-use borrow.Author.Needs.{needs}
-use Rattle.dump.proofs.direct.kind_in.Statement.{statement}
+use Rattle.words.specs.Prelude.{le-leb, lt-leb, eq-eqb, ne-eqb, needs}
+use Rattle.dump.proofs.{direct.kind_in.Statement.statement}
 use Rattle.dump.proofs.direct.kind_in.Tie as tie
 
 pub kind-in-spec : {M : Type 1} → statement M

@@ -1,7 +1,6 @@
 -- One test.
-use borrow.Author.Tests.{eq-eqb, ne-eqb}
-use borrow.Author.Needs.{needs}
-use Rattle.dump.proofs.direct.limit_in.Statement.{statement}
+use Rattle.words.specs.Prelude.{eq-eqb, ne-eqb, needs}
+use Rattle.dump.proofs.{direct.limit_in.Statement.statement}
 use Rattle.dump.proofs.direct.limit_in.Tie as tie
 
 pub limit-in-spec : {M : Type 1} → statement M

@@ -1,6 +1,6 @@
 -- One test.
-use borrow.Author.Tests.{le-leb, lt-leb}
-use Rattle.dump.proofs.direct.order_in.Statement.{statement}
+use Rattle.words.specs.Prelude.{le-leb, lt-leb}
+use Rattle.dump.proofs.{direct.order_in.Statement.statement}
 use Rattle.dump.proofs.direct.order_in.Tie as tie
 
 pub order-in-spec : {M : Type 1} → statement M

@@ -1,10 +1,7 @@
 -- The patterns above that of the infinity, with either sign, are the NaNs; any other is that of its float.
-use mathlib.Core.Path.{ap}
-use native.Mathlib.Omega.{arith}
-use lib.Ieee.{binary64, toBits}
-use Rattle.floats.proofs.Words.{word-nan}
-use Rattle.dump.proofs.Plain.{plain-own}
-use Rattle.dump.proofs.direct.plain.Statement.{statement}
+use Rattle.words.specs.Prelude.{ap, arith, binary64, toBits}
+use Rattle.floats.proofs.{Words.word-nan}
+use Rattle.dump.proofs.{Plain.plain-own, direct.plain.Statement.statement}
 use Rattle.dump.proofs.direct.plain.Tie as tie
 
 returns : tie.Need-returns

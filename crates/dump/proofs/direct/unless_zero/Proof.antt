@@ -1,6 +1,6 @@
 -- One test.
-use borrow.Author.Tests.{eq-eqb, ne-eqb}
-use Rattle.dump.proofs.direct.unless_zero.Statement.{statement}
+use Rattle.words.specs.Prelude.{eq-eqb, ne-eqb}
+use Rattle.dump.proofs.{direct.unless_zero.Statement.statement}
 use Rattle.dump.proofs.direct.unless_zero.Tie as tie
 
 pub unless-zero-spec : {M : Type 1} → statement M

@@ -1,15 +1,8 @@
 -- The window, its header, and both in the order of writing.
-use mathlib.Core.Path.{sym, ap, _∙_}
-use native.Mathlib.Omega.{arith}
-use Rattle.records.specs.Settings.{settingsOf}
-use Rattle.records.specs.StateWords.{countsOf, stateOf}
-use Rattle.dump.specs.Layout.{dumpBytes, windowOf}
-use Rattle.dump.specs.Laws.Packed.{headWords}
-use Rattle.dump.specs.Laws.Fine.{dump-fine}
-use Rattle.dump.specs.Laws.Plain.{plain-words}
-use Rattle.dump.proofs.Whole.{dumped}
-use borrow.Author.Needs.{needs}
-use Rattle.dump.proofs.direct.write_words.Statement.{statement}
+use Rattle.words.specs.Prelude.{sym, ap, _∙_, arith, needs}
+use Rattle.records.specs.{Settings.settingsOf, StateWords.countsOf, StateWords.stateOf}
+use Rattle.dump.specs.{Layout.dumpBytes, Layout.windowOf, Laws.Packed.headWords, Laws.Fine.dump-fine, Laws.Plain.plain-words}
+use Rattle.dump.proofs.{Whole.dumped, direct.write_words.Statement.statement}
 use Rattle.dump.proofs.direct.write_words.Tie as tie
 
 shared-slice-read-slots : tie.Need-shared-slice-read-slots

@@ -1,18 +1,9 @@
 -- The loop's invariant: the rows passed are fine.
-use Prim.Native.Nat.{ℕ, _+_, _-_, _*_, _≤_, _<_}
-use mathlib.Core.Path.{_≡_, sym, ap, _∙_}
-use mathlib.Core.Bool.{Bool, true}
-use mathlib.Core.List.{List}
-use native.Mathlib.Nat.{mul-le-mul-right}
-use native.Mathlib.Omega.{arith}
-use Rattle.words.specs.Limits.{rowWords}
-use Rattle.refusals.specs.Bar.{every}
-use Rattle.refusals.specs.Laws.Descent.{so, not-so}
-use Rattle.refusals.specs.Laws.Every.{every-none, every-more, every-no}
-use Rattle.dump.specs.Reading.{wordsAt, rowIn}
-use Rattle.dump.specs.Refused.{rowFine, eachFine}
-use borrow.Author.Needs.{needs}
-use Rattle.dump.proofs.image.each_fine.Statement.{statement}
+use Rattle.words.specs.Prelude.{ℕ, _+_, _-_, _*_, _≤_, _<_, _≡_, sym, ap, _∙_, Bool, true, List, mul-le-mul-right, arith, needs}
+use Rattle.words.specs.{Limits.rowWords}
+use Rattle.refusals.specs.{Bar.every, Laws.Descent.so, Laws.Descent.not-so, Laws.Every.every-none, Laws.Every.every-more, Laws.Every.every-no}
+use Rattle.dump.specs.{Reading.wordsAt, Reading.rowIn, Refused.rowFine, Refused.eachFine}
+use Rattle.dump.proofs.{image.each_fine.Statement.statement}
 use Rattle.dump.proofs.image.each_fine.Tie as tie
 
 abbrev isFine : List ℕ → ℕ → ℕ → Bool

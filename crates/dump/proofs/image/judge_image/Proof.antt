@@ -1,11 +1,8 @@
 -- Six lines.
-use native.Mathlib.Omega.{arith}
-use Rattle.refusals.specs.Laws.Descent.{so, not-so, no-line, fine-line, bad-line}
-use Rattle.dump.specs.Refused.{imageLines}
-use Rattle.dump.specs.Laws.Fine.{shape-fine, rows-few, rows-within}
-use Rattle.dump.proofs.Testing.{equal, other}
-use borrow.Author.Needs.{needs}
-use Rattle.dump.proofs.image.judge_image.Statement.{statement}
+use Rattle.words.specs.Prelude.{arith, needs}
+use Rattle.refusals.specs.{Laws.Descent.so, Laws.Descent.not-so, Laws.Descent.no-line, Laws.Descent.fine-line, Laws.Descent.bad-line}
+use Rattle.dump.specs.{Refused.imageLines, Laws.Fine.shape-fine, Laws.Fine.rows-few, Laws.Fine.rows-within}
+use Rattle.dump.proofs.{Testing.equal, Testing.other, image.judge_image.Statement.statement}
 use Rattle.dump.proofs.image.judge_image.Tie as tie
 
 returns : tie.Need-returns

@@ -1,8 +1,8 @@
 -- Room, settings and image are blocks, each judged by itself; then its D and K.
-use Rattle.refusals.specs.Laws.Descent.{fine-block, bad-block}
-use Rattle.dump.specs.Refused.{restoreJudged, restoreLines}
-use borrow.Author.Needs.{needs}
-use Rattle.dump.proofs.image.judge_restore.Statement.{statement}
+use Rattle.words.specs.Prelude.{needs}
+use Rattle.refusals.specs.{Laws.Descent.fine-block, Laws.Descent.bad-block}
+use Rattle.dump.specs.{Refused.restoreJudged, Refused.restoreLines}
+use Rattle.dump.proofs.{image.judge_restore.Statement.statement}
 use Rattle.dump.proofs.image.judge_restore.Tie as tie
 
 returns : tie.Need-returns

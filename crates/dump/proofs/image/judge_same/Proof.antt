@@ -1,8 +1,8 @@
 -- Two lines.
-use Rattle.refusals.specs.Lines.{judged}
-use Rattle.dump.specs.Refused.{sameLines}
-use borrow.Author.Needs.{needs}
-use Rattle.dump.proofs.image.judge_same.Statement.{statement}
+use Rattle.words.specs.Prelude.{needs}
+use Rattle.refusals.specs.{Lines.judged}
+use Rattle.dump.specs.{Refused.sameLines}
+use Rattle.dump.proofs.{image.judge_same.Statement.statement}
 use Rattle.dump.proofs.image.judge_same.Tie as tie
 
 returns : tie.Need-returns

@@ -1,7 +1,7 @@
 -- Six tests in the order of the definition, none of them a branch.
-use Rattle.dump.specs.Refused.{numbersFine}
-use borrow.Author.Needs.{needs}
-use Rattle.dump.proofs.image.numbers_fine.Statement.{statement}
+use Rattle.words.specs.Prelude.{needs}
+use Rattle.dump.specs.{Refused.numbersFine}
+use Rattle.dump.proofs.{image.numbers_fine.Statement.statement}
 use Rattle.dump.proofs.image.numbers_fine.Tie as tie
 
 returns : tie.Need-returns

@@ -1,10 +1,6 @@
 -- The product is small.
-use Prim.Native.Nat.{_+_}
-use mathlib.Core.Path.{refl}
-use native.Mathlib.Nat.{mul-le-mul-left, mul-le-mul-right}
-use native.Mathlib.Omega.{arith}
-use borrow.Author.Needs.{needs}
-use Rattle.dump.proofs.image.row_place.Statement.{statement}
+use Rattle.words.specs.Prelude.{_+_, refl, mul-le-mul-left, mul-le-mul-right, arith, needs}
+use Rattle.dump.proofs.{image.row_place.Statement.statement}
 use Rattle.dump.proofs.image.row_place.Tie as tie
 
 mul-result : tie.Need-mul-result

@@ -1,13 +1,7 @@
 -- The rows, and what is behind them.
-use Prim.Native.Nat.{ℕ, _≤_}
-use mathlib.Core.Path.{_≡_, ap, _∙_}
-use borrow.Author.Tests.{not-true, not-false}
-use native.Mathlib.Omega.{arith}
-use lib.ListN.{length}
-use Rattle.dump.specs.Reading.{slotsIn, rowsIn, rowPlace}
-use Rattle.dump.proofs.Testing.{each-as, rows-rest, rows-bad}
-use borrow.Author.Needs.{needs}
-use Rattle.dump.proofs.image.rows_fine.Statement.{statement}
+use Rattle.words.specs.Prelude.{ℕ, _≤_, _≡_, ap, _∙_, not-true, not-false, arith, length, needs}
+use Rattle.dump.specs.{Reading.slotsIn, Reading.rowsIn, Reading.rowPlace}
+use Rattle.dump.proofs.{Testing.each-as, Testing.rows-rest, Testing.rows-bad, image.rows_fine.Statement.statement}
 use Rattle.dump.proofs.image.rows_fine.Tie as tie
 
 each-fine-requires : tie.Need-each-fine-requires

@@ -1,12 +1,8 @@
 -- Nine tests in the order of the definition, none of them a branch.
-use Prim.Native.Nat.{ℕ, _+_, _*_, _<_}
-use native.Mathlib.Nat.{mul-le-mul-left, mul-le-mul-right}
-use native.Mathlib.Omega.{arith}
-use borrow.Author.Needs.{needs}
+use Rattle.words.specs.Prelude.{ℕ, _+_, _*_, _<_, mul-le-mul-left, mul-le-mul-right, arith, needs}
+use Rattle.dump.specs.{Layout.dumpBytes, Refused.shapeFine}
+use Rattle.dump.proofs.{image.shape_fine.Statement.statement}
 use Rattle.table.specs.Bytes as Bytes
-use Rattle.dump.specs.Layout.{dumpBytes}
-use Rattle.dump.specs.Refused.{shapeFine}
-use Rattle.dump.proofs.image.shape_fine.Statement.{statement}
 use Rattle.dump.proofs.image.shape_fine.Tie as tie
 
 -- a D of two bytes and a K of one never make too large a size

@@ -1,7 +1,7 @@
 -- Five tests in the order of the definition, none of them a branch.
-use borrow.Author.Needs.{needs}
-use Rattle.dump.specs.Refused.{unusedZero}
-use Rattle.dump.proofs.image.unused_zero.Statement.{statement}
+use Rattle.words.specs.Prelude.{needs}
+use Rattle.dump.specs.{Refused.unusedZero}
+use Rattle.dump.proofs.{image.unused_zero.Statement.statement}
 use Rattle.dump.proofs.image.unused_zero.Tie as tie
 
 returns : tie.Need-returns

@@ -1,17 +1,8 @@
 -- The loop's invariant: the bytes passed are zero.
-use Prim.Native.Nat.{ℕ, _+_, _-_, _≤_}
-use mathlib.Core.Path.{_≡_, sym}
-use mathlib.Core.Bool.{Bool, true}
-use mathlib.Core.List.{List}
-use native.Mathlib.Omega.{arith}
-use lib.Dec.{eqb}
-use lib.ListN.{getD}
-use Rattle.refusals.specs.Bar.{every}
-use Rattle.refusals.specs.Laws.Every.{every-none, every-more, every-no}
-use Rattle.dump.specs.Refused.{zeroAt}
-use Rattle.dump.proofs.Testing.{equal, other}
-use borrow.Author.Needs.{needs}
-use Rattle.dump.proofs.image.zero_at.Statement.{statement}
+use Rattle.words.specs.Prelude.{ℕ, _+_, _-_, _≤_, _≡_, sym, Bool, true, List, arith, eqb, getD, needs}
+use Rattle.refusals.specs.{Bar.every, Laws.Every.every-none, Laws.Every.every-more, Laws.Every.every-no}
+use Rattle.dump.specs.{Refused.zeroAt}
+use Rattle.dump.proofs.{Testing.equal, Testing.other, image.zero_at.Statement.statement}
 use Rattle.dump.proofs.image.zero_at.Tie as tie
 
 abbrev isZero : List ℕ → ℕ → ℕ → Bool

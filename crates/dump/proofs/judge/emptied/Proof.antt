@@ -1,7 +1,7 @@
 -- Field by field.
-use mathlib.Core.Path.{refl}
-use Rattle.engine.specs.Books.{emptied}
-use Rattle.dump.proofs.judge.emptied.Statement.{statement}
+use Rattle.words.specs.Prelude.{refl}
+use Rattle.engine.specs.{Books.emptied}
+use Rattle.dump.proofs.{judge.emptied.Statement.statement}
 use Rattle.dump.proofs.judge.emptied.Tie as tie
 
 returns : tie.Need-returns

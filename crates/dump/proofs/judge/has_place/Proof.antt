@@ -1,8 +1,6 @@
 -- Tests on the bytes that are left for rows.
-use mathlib.Core.Path.{sym}
-use Rattle.dump.proofs.Places.{too-short, no-rows, too-wide, rows-place}
-use borrow.Author.Needs.{needs}
-use Rattle.dump.proofs.judge.has_place.Statement.{statement}
+use Rattle.words.specs.Prelude.{sym, needs}
+use Rattle.dump.proofs.{Places.too-short, Places.no-rows, Places.too-wide, Places.rows-place, judge.has_place.Statement.statement}
 use Rattle.dump.proofs.judge.has_place.Tie as tie
 
 returns : tie.Need-returns

@@ -1,8 +1,8 @@
 -- One line.
-use Rattle.refusals.specs.Lines.{judged}
-use Rattle.dump.specs.Refused.{areaLines}
-use borrow.Author.Needs.{needs}
-use Rattle.dump.proofs.judge.judge_area.Statement.{statement}
+use Rattle.words.specs.Prelude.{needs}
+use Rattle.refusals.specs.{Lines.judged}
+use Rattle.dump.specs.{Refused.areaLines}
+use Rattle.dump.proofs.{judge.judge_area.Statement.statement}
 use Rattle.dump.proofs.judge.judge_area.Tie as tie
 
 returns : tie.Need-returns

@@ -1,8 +1,8 @@
 -- Two lines, over those of the state with its books emptied.
-use Rattle.refusals.specs.Lines.{judged}
-use Rattle.dump.specs.Refused.{dumpStateLines}
-use borrow.Author.Needs.{needs}
-use Rattle.dump.proofs.judge.judge_counts.Statement.{statement}
+use Rattle.words.specs.Prelude.{needs}
+use Rattle.refusals.specs.{Lines.judged}
+use Rattle.dump.specs.{Refused.dumpStateLines}
+use Rattle.dump.proofs.{judge.judge_counts.Statement.statement}
 use Rattle.dump.proofs.judge.judge_counts.Tie as tie
 
 returns : tie.Need-returns

@@ -1,9 +1,8 @@
 -- Room, area and settings are blocks, each judged by itself; the state comes last.
-use mathlib.Core.Path.{_∙_}
-use Rattle.refusals.specs.Laws.Lines.{two-blocks}
-use Rattle.dump.specs.Refused.{dumpJudged, dumpLines}
-use borrow.Author.Needs.{needs}
-use Rattle.dump.proofs.judge.judge_dump.Statement.{statement}
+use Rattle.words.specs.Prelude.{_∙_, needs}
+use Rattle.refusals.specs.{Laws.Lines.two-blocks}
+use Rattle.dump.specs.{Refused.dumpJudged, Refused.dumpLines}
+use Rattle.dump.proofs.{judge.judge_dump.Statement.statement}
 use Rattle.dump.proofs.judge.judge_dump.Tie as tie
 
 returns : tie.Need-returns

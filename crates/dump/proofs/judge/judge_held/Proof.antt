@@ -1,9 +1,8 @@
 -- Room and settings are blocks, each judged by itself; the state comes last.
-use mathlib.Core.Path.{_∙_}
-use Rattle.refusals.specs.Laws.Lines.{two-blocks}
-use Rattle.dump.specs.Parts.{partJudged, partLines}
-use borrow.Author.Needs.{needs}
-use Rattle.dump.proofs.judge.judge_held.Statement.{statement}
+use Rattle.words.specs.Prelude.{_∙_, needs}
+use Rattle.refusals.specs.{Laws.Lines.two-blocks}
+use Rattle.dump.specs.{Parts.partJudged, Parts.partLines}
+use Rattle.dump.proofs.{judge.judge_held.Statement.statement}
 use Rattle.dump.proofs.judge.judge_held.Tie as tie
 
 returns : tie.Need-returns

@@ -1,9 +1,7 @@
 -- Bytes up to a whole word, and what follows it.
-use Prim.Native.Nat.{_+_, _-_, _*_, _/_, _%_, _<_}
-use native.Mathlib.Omega.{arith}
-use Rattle.dump.specs.Laws.Placed.{laid-from}
-use borrow.Author.Needs.{needs}
-use Rattle.dump.proofs.part.copy.Statement.{statement}
+use Rattle.words.specs.Prelude.{_+_, _-_, _*_, _/_, _%_, _<_, arith, needs}
+use Rattle.dump.specs.{Laws.Placed.laid-from}
+use Rattle.dump.proofs.{part.copy.Statement.statement}
 use Rattle.dump.proofs.part.copy.Tie as tie
 
 returns-2 : tie.Need-returns-2

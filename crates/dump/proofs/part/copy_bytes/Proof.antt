@@ -1,13 +1,7 @@
 -- The loop's invariant: k bytes are laid.
-use Prim.Native.Nat.{_-_, _≤_}
-use mathlib.Core.Path.{_≡_, refl}
-use native.Mathlib.Omega.{arith}
-use lib.ListN.{length, drop, length-set}
-use Rattle.dump.specs.Layout.{wordsBytes}
-use Rattle.dump.specs.Laws.Laid.{laid, laid-none}
-use Rattle.dump.proofs.Storing.{copied-next}
-use borrow.Author.Needs.{needs}
-use Rattle.dump.proofs.part.copy_bytes.Statement.{statement}
+use Rattle.words.specs.Prelude.{_-_, _≤_, _≡_, refl, arith, length, drop, length-set, needs}
+use Rattle.dump.specs.{Layout.wordsBytes, Laws.Laid.laid, Laws.Laid.laid-none}
+use Rattle.dump.proofs.{Storing.copied-next, part.copy_bytes.Statement.statement}
 use Rattle.dump.proofs.part.copy_bytes.Tie as tie
 
 abbrev Inv-loop : tie.InvT-loop

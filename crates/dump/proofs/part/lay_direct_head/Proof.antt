@@ -1,10 +1,7 @@
 -- None of the header, or its share.
-use mathlib.Core.Path.{ap, _∙_}
-use mathlib.Core.List.{List}
-use Prim.Native.Nat.{ℕ}
-use Rattle.dump.specs.Laws.Placed.{headLaid, no-head}
-use borrow.Author.Needs.{needs}
-use Rattle.dump.proofs.part.lay_direct_head.Statement.{statement}
+use Rattle.words.specs.Prelude.{ap, _∙_, List, ℕ, needs}
+use Rattle.dump.specs.{Laws.Placed.headLaid, Laws.Placed.no-head}
+use Rattle.dump.proofs.{part.lay_direct_head.Statement.statement}
 use Rattle.dump.proofs.part.lay_direct_head.Tie as tie
 
 returns : tie.Need-returns

@@ -1,11 +1,7 @@
 -- As many bytes as are the header's.
-use Prim.Native.Nat.{ℕ}
-use mathlib.Core.Path.{ap, _∙_}
-use lib.ListN.{drop}
-use Rattle.dump.specs.Layout.{wordsBytes}
-use Rattle.dump.specs.Laws.Laid.{laid}
-use borrow.Author.Needs.{needs}
-use Rattle.dump.proofs.part.lay_head.Statement.{statement}
+use Rattle.words.specs.Prelude.{ℕ, ap, _∙_, drop, needs}
+use Rattle.dump.specs.{Layout.wordsBytes, Laws.Laid.laid}
+use Rattle.dump.proofs.{part.lay_head.Statement.statement}
 use Rattle.dump.proofs.part.lay_head.Tie as tie
 
 returns : tie.Need-returns

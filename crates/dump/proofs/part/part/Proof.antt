@@ -1,9 +1,7 @@
 -- Refused, or written.
-use mathlib.Core.Path.{sym, _∙_}
-use Rattle.dump.specs.Laws.PartFine.{part-fine}
-use Rattle.dump.proofs.Answers.{part-refused, part-done}
-use borrow.Author.Needs.{needs}
-use Rattle.dump.proofs.part.part.Statement.{statement}
+use Rattle.words.specs.Prelude.{sym, _∙_, needs}
+use Rattle.dump.specs.{Laws.PartFine.part-fine}
+use Rattle.dump.proofs.{Answers.part-refused, Answers.part-done, part.part.Statement.statement}
 use Rattle.dump.proofs.part.part.Tie as tie
 
 returns : tie.Need-returns

@@ -1,11 +1,7 @@
 -- D rows of the widest are few bytes.
-use Prim.Native.Nat.{ℕ, _+_, _-_, _*_, _≤_, min}
-use mathlib.Core.Path.{ap, _∙_}
-use native.Mathlib.Nat.{mul-le-mul-left, mul-le-mul-right}
-use native.Mathlib.Omega.{arith}
-use Rattle.dump.specs.Layout.{dumpBytes}
-use borrow.Author.Needs.{needs}
-use Rattle.dump.proofs.part.used_of.Statement.{statement}
+use Rattle.words.specs.Prelude.{ℕ, _+_, _-_, _*_, _≤_, min, ap, _∙_, mul-le-mul-left, mul-le-mul-right, arith, needs}
+use Rattle.dump.specs.{Layout.dumpBytes}
+use Rattle.dump.proofs.{part.used_of.Statement.statement}
 use Rattle.dump.proofs.part.used_of.Tie as tie
 
 few-bytes : (slots depth : ℕ) → slots ≤ 64 → depth ≤ 4096 → depth * (8 * (7 + slots)) ≤ 2326528

@@ -1,11 +1,7 @@
 -- From the end on nothing is left, and so it is from any place past it.
-use Prim.Native.Nat.{_-_}
-use mathlib.Core.Path.{sym, ap, _∙_}
-use native.Mathlib.Nat.{le-refl}
-use lib.ListN.{length, take, drop, length-drop, drop-of-length-le}
-use lib.Seq.{drop-length, take-nil, take-all}
-use borrow.Author.Needs.{needs}
-use Rattle.dump.proofs.part.words_from.Statement.{statement}
+use Rattle.words.specs.Prelude.{_-_, sym, ap, _∙_, le-refl, length, take, drop, length-drop, drop-of-length-le, drop-length, take-all, needs}
+use Rattle.dump.proofs.{part.words_from.Statement.statement}
+use lib.Seq.{take-nil}
 use Rattle.dump.proofs.part.words_from.Tie as tie
 
 returns : tie.Need-returns

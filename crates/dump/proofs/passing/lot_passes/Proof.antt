@@ -1,6 +1,6 @@
 -- The two tests, joined.
-use borrow.Author.Needs.{needs}
-use Rattle.dump.proofs.passing.lot_passes.Statement.{statement}
+use Rattle.words.specs.Prelude.{needs}
+use Rattle.dump.proofs.{passing.lot_passes.Statement.statement}
 use Rattle.dump.proofs.passing.lot_passes.Tie as tie
 
 returns : tie.Need-returns

@@ -1,10 +1,7 @@
 -- The products are small, and three tests.
-use Prim.Native.Nat.{_+_}
-use native.Mathlib.Nat.{mul-le-mul-left, mul-le-mul-right}
-use native.Mathlib.Omega.{arith}
-use Rattle.dump.specs.Laws.Passing.{roomsPass}
-use borrow.Author.Needs.{needs}
-use Rattle.dump.proofs.passing.rooms_pass.Statement.{statement}
+use Rattle.words.specs.Prelude.{_+_, mul-le-mul-left, mul-le-mul-right, arith, needs}
+use Rattle.dump.specs.{Laws.Passing.roomsPass}
+use Rattle.dump.proofs.{passing.rooms_pass.Statement.statement}
 use Rattle.dump.proofs.passing.rooms_pass.Tie as tie
 
 mul-deep : tie.Need-mul-deep

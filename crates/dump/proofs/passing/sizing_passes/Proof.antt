@@ -1,7 +1,7 @@
 -- Test by test.
-use borrow.Author.Tests.{lt-ltb, le-ltb, eq-eqb, ne-eqb}
-use Rattle.dump.specs.Laws.Passing.{sizingPasses}
-use Rattle.dump.proofs.passing.sizing_passes.Statement.{statement}
+use Rattle.words.specs.Prelude.{lt-ltb, le-ltb, eq-eqb, ne-eqb}
+use Rattle.dump.specs.{Laws.Passing.sizingPasses}
+use Rattle.dump.proofs.{passing.sizing_passes.Statement.statement}
 use Rattle.dump.proofs.passing.sizing_passes.Tie as tie
 
 returns : tie.Need-returns

@@ -1,16 +1,10 @@
 -- The lengths are known; of the tests that are joined each holds where all do, and then the products are small.
-use Prim.Native.Nat.{ℕ, _≤_}
-use mathlib.Core.Path.{_≡_, sym, _∙_}
-use mathlib.Core.Bool.{Bool, true, false, _&&_}
-use mathlib.Core.List.{List}
-use borrow.Author.Tests.{le-leb}
-use lib.ListN.{length}
-use Rattle.words.specs.Limits.{settingWords, stateWords}
-use Rattle.words.specs.Words.{word}
-use Rattle.refusals.specs.Laws.Lines.{and-true}
-use Rattle.dump.specs.Laws.Passing.{kindsPass, costsPass, levelsPass, entriesPass, countsPass, roomsPass, wordsPass, kinds-pass, counts-held}
-use borrow.Author.Needs.{needs}
-use Rattle.dump.proofs.passing.whole_pass.Statement.{statement}
+use Rattle.words.specs.Prelude.{ℕ, _≤_, _≡_, sym, _∙_, Bool, true, false, _&&_, List, le-leb, length, needs}
+use Rattle.words.specs.{Limits.settingWords, Limits.stateWords, Words.word}
+use Rattle.refusals.specs.{Laws.Lines.and-true}
+use Rattle.dump.specs.{Laws.Passing.kindsPass, Laws.Passing.costsPass, Laws.Passing.levelsPass, Laws.Passing.entriesPass, Laws.Passing.countsPass}
+use Rattle.dump.specs.{Laws.Passing.roomsPass, Laws.Passing.wordsPass, Laws.Passing.kinds-pass, Laws.Passing.counts-held}
+use Rattle.dump.proofs.{passing.whole_pass.Statement.statement}
 use Rattle.dump.proofs.passing.whole_pass.Tie as tie
 
 module _ (settings state : List ℕ) (rows area : ℕ) {k c l e n : Bool} (long : settingWords ≤ length settings) (full : stateWords ≤ length state)

@@ -1,8 +1,7 @@
 -- The two lengths, and the rest.
-use borrow.Author.Tests.{le-leb, lt-leb}
-use Rattle.dump.specs.Laws.Passing.{wordsPass}
-use borrow.Author.Needs.{needs}
-use Rattle.dump.proofs.passing.words_pass.Statement.{statement}
+use Rattle.words.specs.Prelude.{le-leb, lt-leb, needs}
+use Rattle.dump.specs.{Laws.Passing.wordsPass}
+use Rattle.dump.proofs.{passing.words_pass.Statement.statement}
 use Rattle.dump.proofs.passing.words_pass.Tie as tie
 
 returns : tie.Need-returns

@@ -1,13 +1,8 @@
 -- As many words as the rows have.
-use Prim.Native.Nat.{_+_, _*_}
-use mathlib.Core.Path.{_≡_}
-use native.Mathlib.Nat.{mul-le-mul-left}
-use native.Mathlib.Omega.{arith}
-use Rattle.words.specs.Limits.{rowWords}
-use Rattle.dump.specs.Reading.{slotsIn, rowsIn}
-use Rattle.dump.proofs.Reading.{window-over}
-use borrow.Author.Needs.{needs}
-use Rattle.dump.proofs.reader.read_window.Statement.{statement}
+use Rattle.words.specs.Prelude.{_+_, _*_, _≡_, mul-le-mul-left, arith, needs}
+use Rattle.words.specs.{Limits.rowWords}
+use Rattle.dump.specs.{Reading.slotsIn, Reading.rowsIn}
+use Rattle.dump.proofs.{Reading.window-over, reader.read_window.Statement.statement}
 use Rattle.dump.proofs.reader.read_window.Tie as tie
 
 mul-n : tie.Need-mul-n

@@ -1,13 +1,7 @@
 -- The loop's invariant: the first i words are read.
-use Prim.Native.Nat.{_-_, _≤_}
-use mathlib.Core.Path.{_≡_, refl}
-use mathlib.Core.List.{_++_}
-use native.Mathlib.Omega.{arith}
-use lib.ListN.{length, drop, length-set}
-use Rattle.dump.specs.Reading.{wordsAt}
-use Rattle.dump.proofs.Reading.{words-none, words-more}
-use borrow.Author.Needs.{needs}
-use Rattle.dump.proofs.reader.read_words.Statement.{statement}
+use Rattle.words.specs.Prelude.{_-_, _≤_, _≡_, refl, _++_, arith, length, drop, length-set, needs}
+use Rattle.dump.specs.{Reading.wordsAt}
+use Rattle.dump.proofs.{Reading.words-none, Reading.words-more, reader.read_words.Statement.statement}
 use Rattle.dump.proofs.reader.read_words.Tie as tie
 
 abbrev Inv-loop : tie.InvT-loop

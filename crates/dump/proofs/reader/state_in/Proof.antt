@@ -1,7 +1,7 @@
 -- The words, one by one, and the state that they mean.
-use Rattle.dump.specs.Reading.{wordsIn, stateIn}
-use borrow.Author.Needs.{needs}
-use Rattle.dump.proofs.reader.state_in.Statement.{statement}
+use Rattle.words.specs.Prelude.{needs}
+use Rattle.dump.specs.{Reading.wordsIn, Reading.stateIn}
+use Rattle.dump.proofs.{reader.state_in.Statement.statement}
 use Rattle.dump.proofs.reader.state_in.Tie as tie
 
 returns : tie.Need-returns

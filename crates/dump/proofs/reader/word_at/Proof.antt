@@ -1,8 +1,7 @@
 -- Each byte is below 256, so nothing wraps.
-use native.Mathlib.Omega.{arith}
-use Rattle.table.specs.Bytes.{u16, u32, u64}
-use borrow.Author.Needs.{needs}
-use Rattle.dump.proofs.reader.word_at.Statement.{statement}
+use Rattle.words.specs.Prelude.{arith, needs}
+use Rattle.table.specs.{Bytes.u16, Bytes.u32, Bytes.u64}
+use Rattle.dump.proofs.{reader.word_at.Statement.statement}
 use Rattle.dump.proofs.reader.word_at.Tie as tie
 
 returns : tie.Need-returns

@@ -1,10 +1,6 @@
 -- The product is small; eight times it is that of eight times the width.
-use Prim.Native.Nat.{ℕ, _+_, _*_}
-use mathlib.Core.Path.{sym, ap, _∙_}
-use native.Mathlib.Nat.{mul-le-mul-left, mul-le-mul-right, mul-assoc, mul-comm}
-use native.Mathlib.Omega.{arith}
-use borrow.Author.Needs.{needs}
-use Rattle.dump.proofs.writer.body_words.Statement.{statement}
+use Rattle.words.specs.Prelude.{ℕ, _+_, _*_, sym, ap, _∙_, mul-le-mul-left, mul-le-mul-right, mul-assoc, mul-comm, arith, needs}
+use Rattle.dump.proofs.{writer.body_words.Statement.statement}
 use Rattle.dump.proofs.writer.body_words.Tie as tie
 
 mul-result : tie.Need-mul-result

@@ -1,11 +1,7 @@
 -- Three tests, and the sum.
-use Prim.Native.Nat.{_+_, _*_}
-use native.Mathlib.Nat.{mul-le-mul-left, mul-le-mul-right}
-use native.Mathlib.Omega.{arith}
-use borrow.Author.Tests.{le-leb, lt-leb}
-use Rattle.dump.specs.Layout.{dumpBytes, sizeFor}
-use borrow.Author.Needs.{needs}
-use Rattle.dump.proofs.writer.dump_bytes.Statement.{statement}
+use Rattle.words.specs.Prelude.{_+_, _*_, mul-le-mul-left, mul-le-mul-right, arith, le-leb, lt-leb, needs}
+use Rattle.dump.specs.{Layout.dumpBytes, Layout.sizeFor}
+use Rattle.dump.proofs.{writer.dump_bytes.Statement.statement}
 use Rattle.dump.proofs.writer.dump_bytes.Tie as tie
 
 returns : tie.Need-returns

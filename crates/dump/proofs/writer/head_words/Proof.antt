@@ -1,10 +1,9 @@
 -- The words of the state fill the array, and are packed.
-use mathlib.Core.Path.{ap, _∙_}
-use Rattle.words.specs.Words.{overwrite}
-use Rattle.records.specs.StateWords.{wordsOf}
-use Rattle.dump.specs.Laws.Packed.{headWords}
-use borrow.Author.Needs.{needs}
-use Rattle.dump.proofs.writer.head_words.Statement.{statement}
+use Rattle.words.specs.Prelude.{ap, _∙_, needs}
+use Rattle.words.specs.{Words.overwrite}
+use Rattle.records.specs.{StateWords.wordsOf}
+use Rattle.dump.specs.{Laws.Packed.headWords}
+use Rattle.dump.proofs.{writer.head_words.Statement.statement}
 use Rattle.dump.proofs.writer.head_words.Tie as tie
 
 returns : tie.Need-returns

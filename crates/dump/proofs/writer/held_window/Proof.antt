@@ -1,12 +1,8 @@
 -- The rows held lie within the room.
-use Prim.Native.Nat.{_+_, _*_}
-use mathlib.Core.Path.{sym}
-use native.Mathlib.Omega.{arith}
-use lib.Seq.{length-take-le}
-use Rattle.words.specs.Laws.Records.{records-fit}
-use Rattle.engine.specs.Record.{heldRows}
-use borrow.Author.Needs.{needs}
-use Rattle.dump.proofs.writer.held_window.Statement.{statement}
+use Rattle.words.specs.Prelude.{_+_, _*_, sym, arith, length-take-le, needs}
+use Rattle.words.specs.{Laws.Records.records-fit}
+use Rattle.engine.specs.{Record.heldRows}
+use Rattle.dump.proofs.{writer.held_window.Statement.statement}
 use Rattle.dump.proofs.writer.held_window.Tie as tie
 
 mul-end : tie.Need-mul-end

@@ -1,7 +1,6 @@
 -- The bytes between the two places.
-use Rattle.dump.proofs.Storing.{part-laid}
-use borrow.Author.Needs.{needs}
-use Rattle.dump.proofs.writer.lay_part.Statement.{statement}
+use Rattle.words.specs.Prelude.{needs}
+use Rattle.dump.proofs.{Storing.part-laid, writer.lay_part.Statement.statement}
 use Rattle.dump.proofs.writer.lay_part.Tie as tie
 
 returns : tie.Need-returns

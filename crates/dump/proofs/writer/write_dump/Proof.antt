@@ -1,9 +1,7 @@
 -- The window, its header, and both in the order of writing.
-use native.Mathlib.Omega.{arith}
-use Rattle.dump.specs.Layout.{dumpBytes, windowOf}
-use Rattle.dump.proofs.Whole.{dumped}
-use borrow.Author.Needs.{needs}
-use Rattle.dump.proofs.writer.write_dump.Statement.{statement}
+use Rattle.words.specs.Prelude.{arith, needs}
+use Rattle.dump.specs.{Layout.dumpBytes, Layout.windowOf}
+use Rattle.dump.proofs.{Whole.dumped, writer.write_dump.Statement.statement}
 use Rattle.dump.proofs.writer.write_dump.Tie as tie
 
 write-order-requires : tie.Need-write-order-requires

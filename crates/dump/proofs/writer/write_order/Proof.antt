@@ -1,9 +1,7 @@
 -- All of it, or in parts.
-use Prim.Native.Nat.{_*_}
-use mathlib.Core.Path.{_∙_}
-use Rattle.dump.specs.Laws.InOrder.{in-order-whole}
-use borrow.Author.Needs.{needs}
-use Rattle.dump.proofs.writer.write_order.Statement.{statement}
+use Rattle.words.specs.Prelude.{_*_, _∙_, needs}
+use Rattle.dump.specs.{Laws.InOrder.in-order-whole}
+use Rattle.dump.proofs.{writer.write_order.Statement.statement}
 use Rattle.dump.proofs.writer.write_order.Tie as tie
 
 returns : tie.Need-returns

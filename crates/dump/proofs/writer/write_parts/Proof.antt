@@ -1,7 +1,7 @@
 -- Part after part.
-use Rattle.dump.specs.Laws.InOrder.{inOrder}
-use borrow.Author.Needs.{needs}
-use Rattle.dump.proofs.writer.write_parts.Statement.{statement}
+use Rattle.words.specs.Prelude.{needs}
+use Rattle.dump.specs.{Laws.InOrder.inOrder}
+use Rattle.dump.proofs.{writer.write_parts.Statement.statement}
 use Rattle.dump.proofs.writer.write_parts.Tie as tie
 
 returns : tie.Need-returns

@@ -1,7 +1,6 @@
 -- The rows, the header's other words, the word with the mark.
-use Rattle.dump.proofs.Storing.{whole-laid}
-use borrow.Author.Needs.{needs}
-use Rattle.dump.proofs.writer.write_whole.Statement.{statement}
+use Rattle.words.specs.Prelude.{needs}
+use Rattle.dump.proofs.{Storing.whole-laid, writer.write_whole.Statement.statement}
 use Rattle.dump.proofs.writer.write_whole.Tie as tie
 
 returns : tie.Need-returns

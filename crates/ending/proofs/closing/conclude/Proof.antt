@@ -1,7 +1,6 @@
 -- The exit, the trade, the last point, the state and the figures, each by its own definition. Assumes nothing.
-use borrow.Author.Needs.{needs}
-use Rattle.ending.proofs.Endings.{endings}
-use Rattle.ending.proofs.closing.conclude.Statement.{statement}
+use Rattle.words.specs.Prelude.{needs}
+use Rattle.ending.proofs.{Endings.endings, closing.conclude.Statement.statement}
 use Rattle.ending.proofs.closing.conclude.Tie as tie
 
 returns : tie.Need-returns

@@ -1,7 +1,7 @@
 -- Field by field. Assumes nothing.
-use borrow.Author.Needs.{needs}
-use Rattle.engine.specs.Finish.{endState}
-use Rattle.ending.proofs.closing.end_state.Statement.{statement}
+use Rattle.words.specs.Prelude.{needs}
+use Rattle.engine.specs.{Finish.endState}
+use Rattle.ending.proofs.{closing.end_state.Statement.statement}
 use Rattle.ending.proofs.closing.end_state.Tie as tie
 
 pub end-state-spec : {M : Type 1} → statement M

@@ -1,8 +1,7 @@
 -- The test decides the case. Assumes nothing.
-use mathlib.Core.Path.{sym, _∙_}
-use borrow.Author.Needs.{needs}
-use Rattle.engine.specs.Finish.{lastExit}
-use Rattle.ending.proofs.closing.last_exit.Statement.{statement}
+use Rattle.words.specs.Prelude.{sym, _∙_, needs}
+use Rattle.engine.specs.{Finish.lastExit}
+use Rattle.ending.proofs.{closing.last_exit.Statement.statement}
 use Rattle.ending.proofs.closing.last_exit.Tie as tie
 
 returns : tie.Need-returns

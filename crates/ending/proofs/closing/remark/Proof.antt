@@ -1,9 +1,7 @@
 -- By the cases of the exit; where there is no point, or none in the room, nothing is done.
-use mathlib.Core.Path.{_∙_}
-use borrow.Author.Needs.{needs}
-use Rattle.engine.specs.Finish.{remarked}
-use Rattle.ending.proofs.Endings.{no-point, late-point, last-point}
-use Rattle.ending.proofs.closing.remark.Statement.{statement}
+use Rattle.words.specs.Prelude.{_∙_, needs}
+use Rattle.engine.specs.{Finish.remarked}
+use Rattle.ending.proofs.{Endings.no-point, Endings.late-point, Endings.last-point, closing.remark.Statement.statement}
 use Rattle.ending.proofs.closing.remark.Tie as tie
 
 returns : tie.Need-returns

@@ -1,7 +1,7 @@
 -- The extreme first, then the exits, as the definition has them.
-use Rattle.engine.specs.Account.{intrabar}
-use borrow.Author.Needs.{needs}
-use Rattle.engine.proofs.account.apply_intrabar_exits.Statement.{statement}
+use Rattle.words.specs.Prelude.{needs}
+use Rattle.engine.specs.{Account.intrabar}
+use Rattle.engine.proofs.{account.apply_intrabar_exits.Statement.statement}
 use Rattle.engine.proofs.account.apply_intrabar_exits.Tie as tie
 
 pub apply-intrabar-exits-spec : {M : Type 1} → statement M

@@ -1,8 +1,7 @@
 -- A trade that has a place is written there; else nothing is done.
-use borrow.Author.Needs.{needs}
-use borrow.Author.Tests.{le-ltb, lt-ltb}
-use Rattle.engine.specs.Books.{booked}
-use Rattle.engine.proofs.account.book.Statement.{statement}
+use Rattle.words.specs.Prelude.{needs, le-ltb, lt-ltb}
+use Rattle.engine.specs.{Books.booked}
+use Rattle.engine.proofs.{account.book.Statement.statement}
 use Rattle.engine.proofs.account.book.Tie as tie
 
 returns : tie.Need-returns

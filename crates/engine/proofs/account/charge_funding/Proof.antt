@@ -1,7 +1,7 @@
 -- The portfolio alone changes.
-use Rattle.engine.specs.Account.{charged}
-use borrow.Author.Needs.{needs}
-use Rattle.engine.proofs.account.charge_funding.Statement.{statement}
+use Rattle.words.specs.Prelude.{needs}
+use Rattle.engine.specs.{Account.charged}
+use Rattle.engine.proofs.{account.charge_funding.Statement.statement}
 use Rattle.engine.proofs.account.charge_funding.Tie as tie
 
 pub charge-funding-spec : {M : Type 1} → statement M

@@ -1,8 +1,7 @@
 -- Order by order, with the test of the definition.
-use borrow.Author.Needs.{needs}
-use borrow.Author.Tests.{le-ltb, lt-ltb}
-use Rattle.engine.specs.Account.{dueOf}
-use Rattle.engine.proofs.account.due_of.Statement.{statement}
+use Rattle.words.specs.Prelude.{needs, le-ltb, lt-ltb}
+use Rattle.engine.specs.{Account.dueOf}
+use Rattle.engine.proofs.{account.due_of.Statement.statement}
 use Rattle.engine.proofs.account.due_of.Tie as tie
 
 pub due-of-spec : {M : Type 1} → statement M

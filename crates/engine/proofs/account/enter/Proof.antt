@@ -1,7 +1,7 @@
 -- The entry over the rows held, by the terms as they are, then the position with it.
-use Rattle.engine.specs.Account.{entered}
-use borrow.Author.Needs.{needs}
-use Rattle.engine.proofs.account.enter.Statement.{statement}
+use Rattle.words.specs.Prelude.{needs}
+use Rattle.engine.specs.{Account.entered}
+use Rattle.engine.proofs.{account.enter.Statement.statement}
 use Rattle.engine.proofs.account.enter.Tie as tie
 
 pub enter-spec : {M : Type 1} → statement M

@@ -1,7 +1,7 @@
 -- By the cases of the entry.
-use Rattle.engine.specs.Account.{entering}
-use borrow.Author.Needs.{needs}
-use Rattle.engine.proofs.account.entering.Statement.{statement}
+use Rattle.words.specs.Prelude.{needs}
+use Rattle.engine.specs.{Account.entering}
+use Rattle.engine.proofs.{account.entering.Statement.statement}
 use Rattle.engine.proofs.account.entering.Tie as tie
 
 returns : tie.Need-returns

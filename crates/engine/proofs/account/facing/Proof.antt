@@ -1,7 +1,7 @@
 -- The portfolio alone changes.
-use Rattle.engine.specs.Account.{facing}
-use borrow.Author.Needs.{needs}
-use Rattle.engine.proofs.account.facing.Statement.{statement}
+use Rattle.words.specs.Prelude.{needs}
+use Rattle.engine.specs.{Account.facing}
+use Rattle.engine.proofs.{account.facing.Statement.statement}
 use Rattle.engine.proofs.account.facing.Tie as tie
 
 pub facing-spec : {M : Type 1} → statement M

@@ -1,8 +1,7 @@
 -- What is due is done.
-use Rattle.engine.specs.Account.{doneOf}
-use borrow.Author.Needs.{needs}
-use Rattle.engine.proofs.Dues.{so-filled}
-use Rattle.engine.proofs.account.fill_working_order.Statement.{statement}
+use Rattle.words.specs.Prelude.{needs}
+use Rattle.engine.specs.{Account.doneOf}
+use Rattle.engine.proofs.{Dues.so-filled, account.fill_working_order.Statement.statement}
 use Rattle.engine.proofs.account.fill_working_order.Tie as tie
 
 pub fill-working-order-spec : {M : Type 1} → statement M

@@ -1,7 +1,7 @@
 -- The exit, then the position without it.
-use Rattle.engine.specs.Account.{exited}
-use borrow.Author.Needs.{needs}
-use Rattle.engine.proofs.account.leave.Statement.{statement}
+use Rattle.words.specs.Prelude.{needs}
+use Rattle.engine.specs.{Account.exited}
+use Rattle.engine.proofs.{account.leave.Statement.statement}
 use Rattle.engine.proofs.account.leave.Tie as tie
 
 pub leave-spec : {M : Type 1} → statement M

@@ -1,7 +1,7 @@
 -- By the cases of the exit.
-use Rattle.engine.specs.Account.{leaving}
-use borrow.Author.Needs.{needs}
-use Rattle.engine.proofs.account.leaving.Statement.{statement}
+use Rattle.words.specs.Prelude.{needs}
+use Rattle.engine.specs.{Account.leaving}
+use Rattle.engine.proofs.{account.leaving.Statement.statement}
 use Rattle.engine.proofs.account.leaving.Tie as tie
 
 returns : tie.Need-returns

@@ -1,8 +1,7 @@
 -- A point that has a place is written there; else nothing is done.
-use borrow.Author.Needs.{needs}
-use borrow.Author.Tests.{le-ltb, lt-ltb}
-use Rattle.engine.specs.Books.{wordsOfPoint, marked}
-use Rattle.engine.proofs.account.mark_equity.Statement.{statement}
+use Rattle.words.specs.Prelude.{needs, le-ltb, lt-ltb}
+use Rattle.engine.specs.{Books.wordsOfPoint, Books.marked}
+use Rattle.engine.proofs.{account.mark_equity.Statement.statement}
 use Rattle.engine.proofs.account.mark_equity.Tie as tie
 
 returns : tie.Need-returns

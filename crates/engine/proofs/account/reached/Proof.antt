@@ -1,7 +1,7 @@
 -- A case each.
-use Rattle.engine.specs.Account.{reached}
-use borrow.Author.Needs.{needs}
-use Rattle.engine.proofs.account.reached.Statement.{statement}
+use Rattle.words.specs.Prelude.{needs}
+use Rattle.engine.specs.{Account.reached}
+use Rattle.engine.proofs.{account.reached.Statement.statement}
 use Rattle.engine.proofs.account.reached.Tie as tie
 
 pub reached-spec : {M : Type 1} → statement M

@@ -1,11 +1,8 @@
 -- What can change is judged: refused, or the phases, whose fill may be turned away. Assumes nothing.
-use native.Mathlib.Omega.{arith}
-use borrow.Author.Needs.{needs}
-use Rattle.rows.specs.History.{width}
-use Rattle.rows.specs.Ring.{turned}
-use Rattle.records.specs.Lent.{rooms, lists}
-use Rattle.engine.proofs.Days.{next-ready, next-refused, next-went}
-use Rattle.engine.proofs.day.next_bar.Statement.{statement}
+use Rattle.words.specs.Prelude.{arith, needs}
+use Rattle.rows.specs.{History.width, Ring.turned}
+use Rattle.records.specs.{Lent.rooms, Lent.lists}
+use Rattle.engine.proofs.{Days.next-ready, Days.next-refused, Days.next-went, day.next_bar.Statement.statement}
 use Rattle.engine.proofs.day.next_bar.Tie as tie
 
 advance-requires : tie.Need-advance-requires

@@ -1,6 +1,6 @@
 -- One bar is never none. Assumes nothing.
-use Rattle.engine.specs.Day.{noBars}
-use Rattle.engine.proofs.day.no_bars.Statement.{statement}
+use Rattle.engine.specs.{Day.noBars}
+use Rattle.engine.proofs.{day.no_bars.Statement.statement}
 use Rattle.engine.proofs.day.no_bars.Tie as tie
 
 returns : tie.Need-returns

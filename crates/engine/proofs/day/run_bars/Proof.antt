@@ -1,13 +1,10 @@
 -- No bars; then what is looked at once; then the lists, before which the first bar comes; then bar after bar, and the room is turned.
 -- Assumes nothing.
-use mathlib.Core.Path.{sym, _∙_}
-use native.Mathlib.Omega.{arith}
-use borrow.Author.Needs.{needs}
-use Rattle.records.specs.Lent.{rooms, lists}
-use Rattle.refusals.specs.Laws.Fine.{settings-fine}
-use Rattle.refusals.specs.Laws.Steady.{day-fine}
-use Rattle.engine.specs.Laws.Days.{day-none, day-whole, whole-one, day-stops, day-unlisted}
-use Rattle.engine.proofs.day.run_bars.Statement.{statement}
+use Rattle.words.specs.Prelude.{sym, _∙_, arith, needs}
+use Rattle.records.specs.{Lent.rooms, Lent.lists}
+use Rattle.refusals.specs.{Laws.Fine.settings-fine, Laws.Steady.day-fine}
+use Rattle.engine.specs.{Laws.Days.day-none, Laws.Days.day-whole, Laws.Days.whole-one, Laws.Days.day-stops, Laws.Days.day-unlisted}
+use Rattle.engine.proofs.{day.run_bars.Statement.statement}
 use Rattle.engine.proofs.day.run_bars.Tie as tie
 
 returns : tie.Need-returns

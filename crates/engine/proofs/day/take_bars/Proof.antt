@@ -1,14 +1,8 @@
 -- Each turn takes a bar, and what is left of the bars is run over from there, over the rows as they would stand. Assumes nothing.
-use Prim.Native.Nat.{_+_, _-_}
-use mathlib.Core.Path.{_∙_}
-use native.Mathlib.Nat.{div-le-self}
-use native.Mathlib.Omega.{arith}
-use borrow.Author.Needs.{needs}
-use lib.ListN.{length}
-use Rattle.records.specs.Lent.{rooms, lists}
-use Rattle.refusals.specs.Laws.Fine.{settings-fine}
-use Rattle.engine.proofs.Days.{Turn, begins, bar-ends, bar-long, one-more, stops, all-done}
-use Rattle.engine.proofs.day.take_bars.Statement.{statement}
+use Rattle.words.specs.Prelude.{_+_, _-_, _∙_, div-le-self, arith, needs, length}
+use Rattle.records.specs.{Lent.rooms, Lent.lists}
+use Rattle.refusals.specs.{Laws.Fine.settings-fine}
+use Rattle.engine.proofs.{Days.Turn, Days.begins, Days.bar-ends, Days.bar-long, Days.one-more, Days.stops, Days.all-done, day.take_bars.Statement.statement}
 use Rattle.engine.proofs.day.take_bars.Tie as tie
 
 abbrev Inv-loop : tie.InvT-loop

@@ -1,11 +1,7 @@
 -- The bar is judged, and where it is fine 15 is given. Assumes nothing.
-use Prim.Native.Nat.{_+_}
-use mathlib.Core.Path.{sym}
-use native.Mathlib.Omega.{arith}
-use borrow.Author.Needs.{needs}
-use lib.Seq.{length-take-le}
-use Rattle.engine.specs.Day.{unlistedBy}
-use Rattle.engine.proofs.day.unlisted.Statement.{statement}
+use Rattle.words.specs.Prelude.{_+_, sym, arith, needs, length-take-le}
+use Rattle.engine.specs.{Day.unlistedBy}
+use Rattle.engine.proofs.{day.unlisted.Statement.statement}
 use Rattle.engine.proofs.day.unlisted.Tie as tie
 
 add-width : tie.Need-add-width

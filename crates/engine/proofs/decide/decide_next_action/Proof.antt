@@ -1,9 +1,7 @@
 -- An order that works stays; with none, warmup is tested, and the rules are asked over what they read.
-use borrow.Author.Tests.{le-ltb, lt-ltb}
-use Rattle.engine.specs.Decide.{orderAfter, stateAt}
-use Rattle.engine.specs.InPlace.{decidedFrom}
-use borrow.Author.Needs.{needs}
-use Rattle.engine.proofs.decide.decide_next_action.Statement.{statement}
+use Rattle.words.specs.Prelude.{le-ltb, lt-ltb, needs}
+use Rattle.engine.specs.{Decide.orderAfter, Decide.stateAt, InPlace.decidedFrom}
+use Rattle.engine.proofs.{decide.decide_next_action.Statement.statement}
 use Rattle.engine.proofs.decide.decide_next_action.Tie as tie
 
 returns-5 : tie.Need-returns-5

@@ -1,7 +1,7 @@
 -- The run's answer.
-use Rattle.engine.specs.Decide.{listSays}
-use borrow.Author.Needs.{needs}
-use Rattle.engine.proofs.decide.list_says.Statement.{statement}
+use Rattle.words.specs.Prelude.{needs}
+use Rattle.engine.specs.{Decide.listSays}
+use Rattle.engine.proofs.{decide.list_says.Statement.statement}
 use Rattle.engine.proofs.decide.list_says.Tie as tie
 
 pub list-says-spec : {M : Type 1} → statement M

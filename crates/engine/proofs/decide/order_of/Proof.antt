@@ -1,20 +1,14 @@
 -- The list that is run to leave a position is that of its side; flat, the entry lists are run one after the other.
-use Prim.Native.Nat.{ℕ}
-use mathlib.Core.Path.{_≡_, refl, sym, ap, _∙_}
-use mathlib.Core.Bool.{Bool, true, false, cond}
-use mathlib.Core.List.{List}
-use Rattle.floats.specs.Floats.{_≺_, zero}
-use Rattle.rows.specs.History.{History}
-use Rattle.rules.specs.declared.position.PositionState.{PositionState}
-use Rattle.rules.specs.Values.{held}
-use Rattle.portfolio.specs.declared.Portfolio.{Portfolio}
-use Rattle.execution.specs.declared.level.OrderKind.{OrderKind}
-use Rattle.portfolio.specs.Portfolio.{inPosition, isLong}
-use Rattle.steps.specs.Choice.{exitList}
-use Rattle.records.specs.Lent.{Lists}
-use Rattle.engine.specs.Decide.{listSays, answersOf, ordered, openingOrder, closingOrder}
-use borrow.Author.Needs.{needs}
-use Rattle.engine.proofs.decide.order_of.Statement.{statement}
+use Rattle.words.specs.Prelude.{ℕ, _≡_, refl, sym, ap, _∙_, Bool, true, false, cond, List, needs}
+use Rattle.floats.specs.{Floats._≺_, Floats.zero}
+use Rattle.rows.specs.{History.History}
+use Rattle.rules.specs.{declared.position.PositionState.PositionState, Values.held}
+use Rattle.portfolio.specs.{declared.Portfolio.Portfolio, Portfolio.inPosition, Portfolio.isLong}
+use Rattle.execution.specs.{declared.level.OrderKind.OrderKind}
+use Rattle.steps.specs.{Choice.exitList}
+use Rattle.records.specs.{Lent.Lists}
+use Rattle.engine.specs.{Decide.listSays, Decide.answersOf, Decide.ordered, Decide.openingOrder, Decide.closingOrder}
+use Rattle.engine.proofs.{decide.order_of.Statement.statement}
 use Rattle.engine.proofs.decide.order_of.Tie as tie
 
 by-side : (d : ℕ) (h : History) (st : PositionState) (x y : List ℕ) (long : Bool)

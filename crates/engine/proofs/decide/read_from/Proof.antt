@@ -1,17 +1,8 @@
 -- The rows held are that many, so the last D of them begin where the code says, with nothing divided. Assumes nothing.
-use Prim.Native.Nat.{ℕ, _+_, _-_, _*_, _≤_}
-use mathlib.Core.Path.{_≡_, sym, _∙_}
-use mathlib.Core.List.{List}
-use native.Mathlib.Nat.{mul-le-mul-right}
-use native.Mathlib.Omega.{arith}
-use borrow.Author.Needs.{needs}
-use borrow.Author.Tests.{eq-eqb, ne-eqb}
-use lib.ListN.{length, take, drop, length-drop}
-use lib.Seq.{length-take-le, take-all}
-use Rattle.engine.specs.InPlace.{readFrom}
-use Rattle.engine.specs.Record.{heldRows}
-use Rattle.engine.proofs.Rows.{last-held, all-held}
-use Rattle.engine.proofs.decide.read_from.Statement.{statement}
+use Rattle.words.specs.Prelude.{ℕ, _+_, _-_, _*_, _≤_, _≡_, sym, _∙_, List, mul-le-mul-right, arith, needs, eq-eqb, ne-eqb, length, take, drop, length-drop}
+use Rattle.words.specs.Prelude.{length-take-le, take-all}
+use Rattle.engine.specs.{InPlace.readFrom, Record.heldRows}
+use Rattle.engine.proofs.{Rows.last-held, Rows.all-held, decide.read_from.Statement.statement}
 use Rattle.engine.proofs.decide.read_from.Tie as tie
 
 -- what is passed over lies among the rows held

@@ -1,15 +1,10 @@
 -- A fill that is turned away ends it; else each phase is its own definition, and `phases` puts them together, over the rows as they would stand
 -- had they moved. Assumes nothing.
-use mathlib.Core.Path.{_∙_}
-use native.Mathlib.Omega.{arith}
-use Rattle.rows.specs.History.{width}
-use Rattle.rows.specs.Ring.{turned}
-use Rattle.records.specs.Lent.{Rooms, Lists, rooms, lists}
-use Rattle.engine.specs.Laws.InPlace.{fill-in-place, decide-in-place, placed}
-use borrow.Author.Needs.{needs}
-use Rattle.engine.proofs.OneBar.{phases, away, goes}
-use Rattle.engine.proofs.Placing.{held-ends}
-use Rattle.engine.proofs.phases.advance.Statement.{statement}
+use Rattle.words.specs.Prelude.{_∙_, arith, needs}
+use Rattle.rows.specs.{History.width, Ring.turned}
+use Rattle.records.specs.{Lent.Rooms, Lent.Lists, Lent.rooms, Lent.lists}
+use Rattle.engine.specs.{Laws.InPlace.fill-in-place, Laws.InPlace.decide-in-place, Laws.InPlace.placed}
+use Rattle.engine.proofs.{OneBar.phases, OneBar.away, OneBar.goes, Placing.held-ends, phases.advance.Statement.statement}
 use Rattle.engine.proofs.phases.advance.Tie as tie
 
 record-bar-requires : tie.Need-record-bar-requires

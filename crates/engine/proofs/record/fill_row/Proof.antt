@@ -1,14 +1,8 @@
 -- The words written so far are the row's first j; all of them are the row. Assumes nothing.
-use Prim.Native.Nat.{ℕ, _+_, _-_, _<_, _≤_}
-use mathlib.Core.Path.{_≡_, refl, sym, subst, _∙_}
-use native.Mathlib.Omega.{arith}
-use borrow.Author.Needs.{needs}
-use lib.ListN.{length, take, length-set}
-use lib.Seq.{take-all}
-use Rattle.words.specs.Limits.{rowWords}
-use Rattle.engine.specs.Record.{rowWord, listed, rowOf}
-use Rattle.engine.proofs.Rows.{word-more}
-use Rattle.engine.proofs.record.fill_row.Statement.{statement}
+use Rattle.words.specs.Prelude.{ℕ, _+_, _-_, _<_, _≤_, _≡_, refl, sym, subst, _∙_, arith, needs, length, take, length-set, take-all}
+use Rattle.words.specs.{Limits.rowWords}
+use Rattle.engine.specs.{Record.rowWord, Record.listed, Record.rowOf}
+use Rattle.engine.proofs.{Rows.word-more, record.fill_row.Statement.statement}
 use Rattle.engine.proofs.record.fill_row.Tie as tie
 
 abbrev Inv-loop : tie.InvT-loop

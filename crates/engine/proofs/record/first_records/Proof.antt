@@ -1,13 +1,7 @@
 -- The records asked for lie within the list, or there are no more than it has; records of no words are none. Assumes nothing.
-use Prim.Native.Nat.{ℕ, _*_, _<_}
-use mathlib.Core.Path.{_≡_, sym}
-use native.Mathlib.Omega.{arith}
-use native.Mathlib.Nat.{mul-zero}
-use borrow.Author.Needs.{needs}
-use lib.Seq.{length-take-le}
-use Rattle.words.specs.Laws.Records.{records-fit}
-use Rattle.engine.proofs.Rows.{all-of-them}
-use Rattle.engine.proofs.record.first_records.Statement.{statement}
+use Rattle.words.specs.Prelude.{ℕ, _*_, _<_, _≡_, sym, arith, mul-zero, needs, length-take-le}
+use Rattle.words.specs.{Laws.Records.records-fit}
+use Rattle.engine.proofs.{Rows.all-of-them, record.first_records.Statement.statement}
 use Rattle.engine.proofs.record.first_records.Tie as tie
 
 -- a record that has words

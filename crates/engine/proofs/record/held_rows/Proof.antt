@@ -1,7 +1,7 @@
 -- A row is 7 + K words. Assumes nothing.
-use borrow.Author.Needs.{needs}
-use Rattle.engine.specs.Record.{heldRows}
-use Rattle.engine.proofs.record.held_rows.Statement.{statement}
+use Rattle.words.specs.Prelude.{needs}
+use Rattle.engine.specs.{Record.heldRows}
+use Rattle.engine.proofs.{record.held_rows.Statement.statement}
 use Rattle.engine.proofs.record.held_rows.Tie as tie
 
 pub held-rows-spec : {M : Type 1} → statement M

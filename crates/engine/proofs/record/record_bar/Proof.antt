@@ -1,10 +1,7 @@
 -- The rows move up where they must, and the row is written at its place: all else of the room stands. Assumes nothing.
-use native.Mathlib.Omega.{arith}
-use borrow.Author.Needs.{needs}
-use Rattle.engine.specs.Laws.Lengths.{row-long}
-use Rattle.engine.specs.Record.{rowOf}
-use Rattle.engine.proofs.Placing.{written}
-use Rattle.engine.proofs.record.record_bar.Statement.{statement}
+use Rattle.words.specs.Prelude.{arith, needs}
+use Rattle.engine.specs.{Laws.Lengths.row-long, Record.rowOf}
+use Rattle.engine.proofs.{Placing.written, record.record_bar.Statement.statement}
 use Rattle.engine.proofs.record.record_bar.Tie as tie
 
 returns : tie.Need-returns

@@ -1,8 +1,7 @@
 -- A word before the slots, a slot that is present, a slot that is absent.
-use borrow.Author.Tests.{eq-eqb, le-ltb, lt-ltb, ne-eqb}
-use Rattle.engine.specs.Record.{rowWord}
-use borrow.Author.Needs.{needs}
-use Rattle.engine.proofs.record.row_word.Statement.{statement}
+use Rattle.words.specs.Prelude.{eq-eqb, le-ltb, lt-ltb, ne-eqb, needs}
+use Rattle.engine.specs.{Record.rowWord}
+use Rattle.engine.proofs.{record.row_word.Statement.statement}
 use Rattle.engine.proofs.record.row_word.Tie as tie
 
 returns : tie.Need-returns

@@ -1,6 +1,6 @@
 -- Part by part.
-use borrow.Author.Needs.{needs}
-use Rattle.engine.proofs.terms.anew.Statement.{statement}
+use Rattle.words.specs.Prelude.{needs}
+use Rattle.engine.proofs.{terms.anew.Statement.statement}
 use Rattle.engine.proofs.terms.anew.Tie as tie
 
 pub anew-spec : {M : Type 1} → statement M

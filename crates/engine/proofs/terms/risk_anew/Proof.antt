@@ -1,6 +1,6 @@
 -- Level by level.
-use borrow.Author.Needs.{needs}
-use Rattle.engine.proofs.terms.risk_anew.Statement.{statement}
+use Rattle.words.specs.Prelude.{needs}
+use Rattle.engine.proofs.{terms.risk_anew.Statement.statement}
 use Rattle.engine.proofs.terms.risk_anew.Tie as tie
 
 returns : tie.Need-returns

@@ -1,8 +1,7 @@
 -- `charge_funding`: the switch, then whether a position is open.
-use mathlib.Core.Path.{sym, _∙_}
-use Rattle.execution.specs.Costs.{chargeFunding}
-use borrow.Author.Needs.{needs}
-use Rattle.execution.proofs.costs.charge_funding.Statement.{statement}
+use Rattle.words.specs.Prelude.{sym, _∙_, needs}
+use Rattle.execution.specs.{Costs.chargeFunding}
+use Rattle.execution.proofs.{costs.charge_funding.Statement.statement}
 use Rattle.execution.proofs.costs.charge_funding.Tie as tie
 
 pub charge-funding-spec : {M : Type 1} → statement M

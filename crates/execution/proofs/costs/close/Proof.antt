@@ -1,7 +1,7 @@
 -- `close`: the fee from what `abs` ensures, then `exit`.
-use Rattle.execution.specs.Costs.{closed}
-use borrow.Author.Needs.{needs}
-use Rattle.execution.proofs.costs.close.Statement.{statement}
+use Rattle.words.specs.Prelude.{needs}
+use Rattle.execution.specs.{Costs.closed}
+use Rattle.execution.proofs.{costs.close.Statement.statement}
 use Rattle.execution.proofs.costs.close.Tie as tie
 
 pub close-spec : {M : Type 1} → statement M

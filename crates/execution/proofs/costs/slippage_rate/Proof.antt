@@ -1,7 +1,7 @@
 -- `slippage_rate`: a kind each; the volume's test as the definition has it.
-use Rattle.execution.specs.Costs.{slippageRate}
-use borrow.Author.Needs.{needs}
-use Rattle.execution.proofs.costs.slippage_rate.Statement.{statement}
+use Rattle.words.specs.Prelude.{needs}
+use Rattle.execution.specs.{Costs.slippageRate}
+use Rattle.execution.proofs.{costs.slippage_rate.Statement.statement}
 use Rattle.execution.proofs.costs.slippage_rate.Tie as tie
 
 pub slippage-rate-spec : {M : Type 1} → statement M

@@ -1,7 +1,7 @@
 -- `with_funding`: a case each.
-use Rattle.execution.specs.Costs.{withFunding}
-use borrow.Author.Needs.{needs}
-use Rattle.execution.proofs.costs.with_funding.Statement.{statement}
+use Rattle.words.specs.Prelude.{needs}
+use Rattle.execution.specs.{Costs.withFunding}
+use Rattle.execution.proofs.{costs.with_funding.Statement.statement}
 use Rattle.execution.proofs.costs.with_funding.Tie as tie
 
 pub with-funding-spec : {M : Type 1} → statement M

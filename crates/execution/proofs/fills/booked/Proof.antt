@@ -1,7 +1,7 @@
 -- `booked`: a case each, then one test and `enter`.
-use Rattle.execution.specs.Fills.{booked}
-use borrow.Author.Needs.{needs}
-use Rattle.execution.proofs.fills.booked.Statement.{statement}
+use Rattle.words.specs.Prelude.{needs}
+use Rattle.execution.specs.{Fills.booked}
+use Rattle.execution.proofs.{fills.booked.Statement.statement}
 use Rattle.execution.proofs.fills.booked.Tie as tie
 
 pub booked-spec : {M : Type 1} → statement M

@@ -1,7 +1,7 @@
 -- `direction`: a case each.
-use Rattle.execution.specs.Fills.{direction}
-use borrow.Author.Needs.{needs}
-use Rattle.execution.proofs.fills.direction.Statement.{statement}
+use Rattle.words.specs.Prelude.{needs}
+use Rattle.execution.specs.{Fills.direction}
+use Rattle.execution.proofs.{fills.direction.Statement.statement}
 use Rattle.execution.proofs.fills.direction.Tie as tie
 
 pub direction-spec : {M : Type 1} → statement M

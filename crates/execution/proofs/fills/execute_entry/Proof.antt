@@ -1,7 +1,7 @@
 -- `execute_entry`: rows that begin at row 0.
-use borrow.Author.Needs.{needs}
-use Rattle.rows.specs.Laws.Ring.{ring-none}
-use Rattle.execution.proofs.fills.execute_entry.Statement.{statement}
+use Rattle.words.specs.Prelude.{needs}
+use Rattle.rows.specs.{Laws.Ring.ring-none}
+use Rattle.execution.proofs.{fills.execute_entry.Statement.statement}
 use Rattle.execution.proofs.fills.execute_entry.Tie as tie
 
 pub execute-entry-spec : {M : Type 1} → statement M

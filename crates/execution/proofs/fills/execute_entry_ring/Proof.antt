@@ -1,8 +1,7 @@
 -- `execute_entry_ring`: whether the probe is too large, then the calls, one in the other.
-use mathlib.Core.Path.{sym, _∙_}
-use Rattle.execution.specs.Fills.{executeEntry}
-use borrow.Author.Needs.{needs}
-use Rattle.execution.proofs.fills.execute_entry_ring.Statement.{statement}
+use Rattle.words.specs.Prelude.{sym, _∙_, needs}
+use Rattle.execution.specs.{Fills.executeEntry}
+use Rattle.execution.proofs.{fills.execute_entry_ring.Statement.statement}
 use Rattle.execution.proofs.fills.execute_entry_ring.Tie as tie
 
 returns : tie.Need-returns

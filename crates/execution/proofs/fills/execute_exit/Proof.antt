@@ -1,8 +1,7 @@
 -- `execute_exit`: whether a position is open, then the calls, one in the other.
-use mathlib.Core.Path.{sym, _∙_}
-use Rattle.execution.specs.Fills.{executeExit}
-use borrow.Author.Needs.{needs}
-use Rattle.execution.proofs.fills.execute_exit.Statement.{statement}
+use Rattle.words.specs.Prelude.{sym, _∙_, needs}
+use Rattle.execution.specs.{Fills.executeExit}
+use Rattle.execution.proofs.{fills.execute_exit.Statement.statement}
 use Rattle.execution.proofs.fills.execute_exit.Tie as tie
 
 returns : tie.Need-returns

@@ -1,8 +1,7 @@
 -- `exit_direction`: the side.
-use mathlib.Core.Path.{sym, _∙_}
-use Rattle.execution.specs.Fills.{exitDirection}
-use borrow.Author.Needs.{needs}
-use Rattle.execution.proofs.fills.exit_direction.Statement.{statement}
+use Rattle.words.specs.Prelude.{sym, _∙_, needs}
+use Rattle.execution.specs.{Fills.exitDirection}
+use Rattle.execution.proofs.{fills.exit_direction.Statement.statement}
 use Rattle.execution.proofs.fills.exit_direction.Tie as tie
 
 pub exit-direction-spec : {M : Type 1} → statement M

@@ -1,7 +1,7 @@
 -- `probe_qty`: a kind each.
-use Rattle.execution.specs.Fills.{probeQty}
-use borrow.Author.Needs.{needs}
-use Rattle.execution.proofs.fills.probe_qty.Statement.{statement}
+use Rattle.words.specs.Prelude.{needs}
+use Rattle.execution.specs.{Fills.probeQty}
+use Rattle.execution.proofs.{fills.probe_qty.Statement.statement}
 use Rattle.execution.proofs.fills.probe_qty.Tie as tie
 
 pub probe-qty-spec : {M : Type 1} → statement M

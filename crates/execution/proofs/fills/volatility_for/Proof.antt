@@ -1,7 +1,7 @@
 -- `volatility_for`: a kind each.
-use Rattle.execution.specs.Fills.{volatilityFor}
-use borrow.Author.Needs.{needs}
-use Rattle.execution.proofs.fills.volatility_for.Statement.{statement}
+use Rattle.words.specs.Prelude.{needs}
+use Rattle.execution.specs.{Fills.volatilityFor}
+use Rattle.execution.proofs.{fills.volatility_for.Statement.statement}
 use Rattle.execution.proofs.fills.volatility_for.Tie as tie
 
 pub volatility-for-spec : {M : Type 1} → statement M

@@ -1,7 +1,7 @@
 -- `within_volume`: a case each, then the switch, and the two calls, one in the other.
-use Rattle.execution.specs.Fills.{withinVolume}
-use borrow.Author.Needs.{needs}
-use Rattle.execution.proofs.fills.within_volume.Statement.{statement}
+use Rattle.words.specs.Prelude.{needs}
+use Rattle.execution.specs.{Fills.withinVolume}
+use Rattle.execution.proofs.{fills.within_volume.Statement.statement}
 use Rattle.execution.proofs.fills.within_volume.Tie as tie
 
 pub within-volume-spec : {M : Type 1} → statement M

@@ -1,8 +1,7 @@
 -- `apply_intrabar_exits`: whether a position is open, then the calls one after another.
-use mathlib.Core.Path.{sym, _∙_}
-use Rattle.execution.specs.Intrabar.{touched, applyIntrabarExits}
-use borrow.Author.Needs.{needs}
-use Rattle.execution.proofs.intrabar.apply_intrabar_exits.Statement.{statement}
+use Rattle.words.specs.Prelude.{sym, _∙_, needs}
+use Rattle.execution.specs.{Intrabar.touched, Intrabar.applyIntrabarExits}
+use Rattle.execution.proofs.{intrabar.apply_intrabar_exits.Statement.statement}
 use Rattle.execution.proofs.intrabar.apply_intrabar_exits.Tie as tie
 
 returns : tie.Need-returns

@@ -1,6 +1,6 @@
 -- `breached`: the side.
-use Rattle.execution.specs.Intrabar.{breached}
-use Rattle.execution.proofs.intrabar.breached.Statement.{statement}
+use Rattle.execution.specs.{Intrabar.breached}
+use Rattle.execution.proofs.{intrabar.breached.Statement.statement}
 use Rattle.execution.proofs.intrabar.breached.Tie as tie
 
 pub breached-spec : {M : Type 1} → statement M

@@ -1,7 +1,7 @@
 -- `closed_by`: a case each.
-use Rattle.execution.specs.Intrabar.{closedBy}
-use borrow.Author.Needs.{needs}
-use Rattle.execution.proofs.intrabar.closed_by.Statement.{statement}
+use Rattle.words.specs.Prelude.{needs}
+use Rattle.execution.specs.{Intrabar.closedBy}
+use Rattle.execution.proofs.{intrabar.closed_by.Statement.statement}
 use Rattle.execution.proofs.intrabar.closed_by.Tie as tie
 
 pub closed-by-spec : {M : Type 1} → statement M

@@ -1,8 +1,7 @@
 -- `extreme_with`: whether a position is open, then `favourable` on its side.
-use mathlib.Core.Path.{sym, _∙_}
-use Rattle.execution.specs.Intrabar.{extremeWith}
-use borrow.Author.Needs.{needs}
-use Rattle.execution.proofs.intrabar.extreme_with.Statement.{statement}
+use Rattle.words.specs.Prelude.{sym, _∙_, needs}
+use Rattle.execution.specs.{Intrabar.extremeWith}
+use Rattle.execution.proofs.{intrabar.extreme_with.Statement.statement}
 use Rattle.execution.proofs.intrabar.extreme_with.Tie as tie
 
 pub extreme-with-spec : {M : Type 1} → statement M

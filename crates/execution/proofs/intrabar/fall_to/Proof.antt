@@ -1,7 +1,7 @@
 -- `fall_to`: one test, then what `min` ensures.
-use Rattle.execution.specs.Intrabar.{fallTo}
-use borrow.Author.Needs.{needs}
-use Rattle.execution.proofs.intrabar.fall_to.Statement.{statement}
+use Rattle.words.specs.Prelude.{needs}
+use Rattle.execution.specs.{Intrabar.fallTo}
+use Rattle.execution.proofs.{intrabar.fall_to.Statement.statement}
 use Rattle.execution.proofs.intrabar.fall_to.Tie as tie
 
 pub fall-to-spec : {M : Type 1} → statement M

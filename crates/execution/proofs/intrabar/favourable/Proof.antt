@@ -1,7 +1,7 @@
 -- `favourable`: the side, then what `max` and `min` ensure.
-use Rattle.execution.specs.Intrabar.{favourable}
-use borrow.Author.Needs.{needs}
-use Rattle.execution.proofs.intrabar.favourable.Statement.{statement}
+use Rattle.words.specs.Prelude.{needs}
+use Rattle.execution.specs.{Intrabar.favourable}
+use Rattle.execution.proofs.{intrabar.favourable.Statement.statement}
 use Rattle.execution.proofs.intrabar.favourable.Tie as tie
 
 pub favourable-spec : {M : Type 1} → statement M

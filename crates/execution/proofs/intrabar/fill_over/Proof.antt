@@ -1,7 +1,7 @@
 -- `fill_over`: a case each.
-use Rattle.execution.specs.Intrabar.{fillOver}
-use borrow.Author.Needs.{needs}
-use Rattle.execution.proofs.intrabar.fill_over.Statement.{statement}
+use Rattle.words.specs.Prelude.{needs}
+use Rattle.execution.specs.{Intrabar.fillOver}
+use Rattle.execution.proofs.{intrabar.fill_over.Statement.statement}
 use Rattle.execution.proofs.intrabar.fill_over.Tie as tie
 
 pub fill-over-spec : {M : Type 1} → statement M

@@ -1,7 +1,7 @@
 -- `fill_under`: a case each.
-use Rattle.execution.specs.Intrabar.{fillUnder}
-use borrow.Author.Needs.{needs}
-use Rattle.execution.proofs.intrabar.fill_under.Statement.{statement}
+use Rattle.words.specs.Prelude.{needs}
+use Rattle.execution.specs.{Intrabar.fillUnder}
+use Rattle.execution.proofs.{intrabar.fill_under.Statement.statement}
 use Rattle.execution.proofs.intrabar.fill_under.Tie as tie
 
 pub fill-under-spec : {M : Type 1} → statement M

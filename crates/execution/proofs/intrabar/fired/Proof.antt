@@ -1,7 +1,7 @@
 -- `fired`: a case each.
-use Rattle.execution.specs.Intrabar.{fired}
-use borrow.Author.Needs.{needs}
-use Rattle.execution.proofs.intrabar.fired.Statement.{statement}
+use Rattle.words.specs.Prelude.{needs}
+use Rattle.execution.specs.{Intrabar.fired}
+use Rattle.execution.proofs.{intrabar.fired.Statement.statement}
 use Rattle.execution.proofs.intrabar.fired.Tie as tie
 
 pub fired-spec : {M : Type 1} → statement M

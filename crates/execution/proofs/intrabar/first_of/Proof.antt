@@ -1,7 +1,7 @@
 -- `first_of`: the calls, one in the other.
-use Rattle.execution.specs.Intrabar.{firstOf}
-use borrow.Author.Needs.{needs}
-use Rattle.execution.proofs.intrabar.first_of.Statement.{statement}
+use Rattle.words.specs.Prelude.{needs}
+use Rattle.execution.specs.{Intrabar.firstOf}
+use Rattle.execution.proofs.{intrabar.first_of.Statement.statement}
 use Rattle.execution.proofs.intrabar.first_of.Tie as tie
 
 returns : tie.Need-returns

@@ -1,7 +1,7 @@
 -- `intrabar_exit`: the entry's test, then the side.
-use Rattle.execution.specs.Intrabar.{intrabarExit}
-use borrow.Author.Needs.{needs}
-use Rattle.execution.proofs.intrabar.intrabar_exit.Statement.{statement}
+use Rattle.words.specs.Prelude.{needs}
+use Rattle.execution.specs.{Intrabar.intrabarExit}
+use Rattle.execution.proofs.{intrabar.intrabar_exit.Statement.statement}
 use Rattle.execution.proofs.intrabar.intrabar_exit.Tie as tie
 
 pub intrabar-exit-spec : {M : Type 1} → statement M

@@ -1,8 +1,7 @@
 -- `liquidation`: the tests on the bankruptcy price, in the definition's order.
-use mathlib.Core.Path.{sym, _∙_}
-use Rattle.execution.specs.Intrabar.{bankruptcyPrice, liquidated}
-use borrow.Author.Needs.{needs}
-use Rattle.execution.proofs.intrabar.liquidation.Statement.{statement}
+use Rattle.words.specs.Prelude.{sym, _∙_, needs}
+use Rattle.execution.specs.{Intrabar.bankruptcyPrice, Intrabar.liquidated}
+use Rattle.execution.proofs.{intrabar.liquidation.Statement.statement}
 use Rattle.execution.proofs.intrabar.liquidation.Tie as tie
 
 pub liquidation-spec : {M : Type 1} → statement M

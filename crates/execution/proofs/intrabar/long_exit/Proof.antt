@@ -1,7 +1,7 @@
 -- `long_exit`: the three levels, then the first of them.
-use Rattle.execution.specs.Intrabar.{longExit}
-use borrow.Author.Needs.{needs}
-use Rattle.execution.proofs.intrabar.long_exit.Statement.{statement}
+use Rattle.words.specs.Prelude.{needs}
+use Rattle.execution.specs.{Intrabar.longExit}
+use Rattle.execution.proofs.{intrabar.long_exit.Statement.statement}
 use Rattle.execution.proofs.intrabar.long_exit.Tie as tie
 
 pub long-exit-spec : {M : Type 1} → statement M

@@ -1,7 +1,7 @@
 -- `or_else`: a case each.
-use Rattle.execution.specs.Intrabar.{orElse}
-use borrow.Author.Needs.{needs}
-use Rattle.execution.proofs.intrabar.or_else.Statement.{statement}
+use Rattle.words.specs.Prelude.{needs}
+use Rattle.execution.specs.{Intrabar.orElse}
+use Rattle.execution.proofs.{intrabar.or_else.Statement.statement}
 use Rattle.execution.proofs.intrabar.or_else.Tie as tie
 
 pub or-else-spec : {M : Type 1} → statement M

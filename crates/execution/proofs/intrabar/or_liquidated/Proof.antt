@@ -1,7 +1,7 @@
 -- `or_liquidated`: a case each, then the switch.
-use Rattle.execution.specs.Intrabar.{orLiquidated}
-use borrow.Author.Needs.{needs}
-use Rattle.execution.proofs.intrabar.or_liquidated.Statement.{statement}
+use Rattle.words.specs.Prelude.{needs}
+use Rattle.execution.specs.{Intrabar.orLiquidated}
+use Rattle.execution.proofs.{intrabar.or_liquidated.Statement.statement}
 use Rattle.execution.proofs.intrabar.or_liquidated.Tie as tie
 
 pub or-liquidated-spec : {M : Type 1} → statement M

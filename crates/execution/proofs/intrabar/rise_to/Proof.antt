@@ -1,7 +1,7 @@
 -- `rise_to`: one test, then what `max` ensures.
-use Rattle.execution.specs.Intrabar.{riseTo}
-use borrow.Author.Needs.{needs}
-use Rattle.execution.proofs.intrabar.rise_to.Statement.{statement}
+use Rattle.words.specs.Prelude.{needs}
+use Rattle.execution.specs.{Intrabar.riseTo}
+use Rattle.execution.proofs.{intrabar.rise_to.Statement.statement}
 use Rattle.execution.proofs.intrabar.rise_to.Tie as tie
 
 pub rise-to-spec : {M : Type 1} → statement M

@@ -1,7 +1,7 @@
 -- `entry_trigger`: the two levels, then a kind each.
-use Rattle.execution.specs.Level.{entryTrigger}
-use borrow.Author.Needs.{needs}
-use Rattle.execution.proofs.level.entry_trigger.Statement.{statement}
+use Rattle.words.specs.Prelude.{needs}
+use Rattle.execution.specs.{Level.entryTrigger}
+use Rattle.execution.proofs.{level.entry_trigger.Statement.statement}
 use Rattle.execution.proofs.level.entry_trigger.Tie as tie
 
 pub entry-trigger-spec : {M : Type 1} → statement M

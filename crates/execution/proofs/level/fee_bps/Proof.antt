@@ -1,7 +1,7 @@
 -- The definition goes by the same cases.
-use Rattle.execution.specs.Level.{feeBps}
-use borrow.Author.Needs.{needs}
-use Rattle.execution.proofs.level.fee_bps.Statement.{statement}
+use Rattle.words.specs.Prelude.{needs}
+use Rattle.execution.specs.{Level.feeBps}
+use Rattle.execution.proofs.{level.fee_bps.Statement.statement}
 use Rattle.execution.proofs.level.fee_bps.Tie as tie
 
 pub fee-bps-spec : {M : Type 1} → statement M

@@ -1,7 +1,7 @@
 -- `level_fill`: a side each.
-use Rattle.execution.specs.Level.{levelFill}
-use borrow.Author.Needs.{needs}
-use Rattle.execution.proofs.level.level_fill.Statement.{statement}
+use Rattle.words.specs.Prelude.{needs}
+use Rattle.execution.specs.{Level.levelFill}
+use Rattle.execution.proofs.{level.level_fill.Statement.statement}
 use Rattle.execution.proofs.level.level_fill.Tie as tie
 
 pub level-fill-spec : {M : Type 1} → statement M

@@ -1,6 +1,6 @@
 -- `level_from`: by its definition.
-use Rattle.execution.specs.Level.{levelFrom}
-use Rattle.execution.proofs.level.level_from.Statement.{statement}
+use Rattle.execution.specs.{Level.levelFrom}
+use Rattle.execution.proofs.{level.level_from.Statement.statement}
 use Rattle.execution.proofs.level.level_from.Tie as tie
 
 pub level-from-spec : {M : Type 1} → statement M

@@ -1,7 +1,7 @@
 -- `long_fill`: a kind each.
-use Rattle.execution.specs.Level.{longFill}
-use borrow.Author.Needs.{needs}
-use Rattle.execution.proofs.level.long_fill.Statement.{statement}
+use Rattle.words.specs.Prelude.{needs}
+use Rattle.execution.specs.{Level.longFill}
+use Rattle.execution.proofs.{level.long_fill.Statement.statement}
 use Rattle.execution.proofs.level.long_fill.Tie as tie
 
 pub long-fill-spec : {M : Type 1} → statement M

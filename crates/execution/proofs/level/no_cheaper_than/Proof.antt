@@ -1,7 +1,7 @@
 -- `no_cheaper_than`: a case each, then its two tests.
-use Rattle.execution.specs.Level.{noCheaperThan}
-use borrow.Author.Needs.{needs}
-use Rattle.execution.proofs.level.no_cheaper_than.Statement.{statement}
+use Rattle.words.specs.Prelude.{needs}
+use Rattle.execution.specs.{Level.noCheaperThan}
+use Rattle.execution.proofs.{level.no_cheaper_than.Statement.statement}
 use Rattle.execution.proofs.level.no_cheaper_than.Tie as tie
 
 pub no-cheaper-than-spec : {M : Type 1} → statement M

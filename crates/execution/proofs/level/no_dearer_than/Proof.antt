@@ -1,7 +1,7 @@
 -- `no_dearer_than`: a case each, then its two tests.
-use Rattle.execution.specs.Level.{noDearerThan}
-use borrow.Author.Needs.{needs}
-use Rattle.execution.proofs.level.no_dearer_than.Statement.{statement}
+use Rattle.words.specs.Prelude.{needs}
+use Rattle.execution.specs.{Level.noDearerThan}
+use Rattle.execution.proofs.{level.no_dearer_than.Statement.statement}
 use Rattle.execution.proofs.level.no_dearer_than.Tie as tie
 
 pub no-dearer-than-spec : {M : Type 1} → statement M

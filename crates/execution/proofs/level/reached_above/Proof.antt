@@ -1,7 +1,7 @@
 -- `reached_above`: one test, then what `max` ensures.
-use Rattle.execution.specs.Level.{reachedAbove}
-use borrow.Author.Needs.{needs}
-use Rattle.execution.proofs.level.reached_above.Statement.{statement}
+use Rattle.words.specs.Prelude.{needs}
+use Rattle.execution.specs.{Level.reachedAbove}
+use Rattle.execution.proofs.{level.reached_above.Statement.statement}
 use Rattle.execution.proofs.level.reached_above.Tie as tie
 
 pub reached-above-spec : {M : Type 1} → statement M

@@ -1,7 +1,7 @@
 -- `reached_below`: one test, then what `min` ensures.
-use Rattle.execution.specs.Level.{reachedBelow}
-use borrow.Author.Needs.{needs}
-use Rattle.execution.proofs.level.reached_below.Statement.{statement}
+use Rattle.words.specs.Prelude.{needs}
+use Rattle.execution.specs.{Level.reachedBelow}
+use Rattle.execution.proofs.{level.reached_below.Statement.statement}
 use Rattle.execution.proofs.level.reached_below.Tie as tie
 
 pub reached-below-spec : {M : Type 1} → statement M

@@ -1,7 +1,7 @@
 -- `short_fill`: a kind each.
-use Rattle.execution.specs.Level.{shortFill}
-use borrow.Author.Needs.{needs}
-use Rattle.execution.proofs.level.short_fill.Statement.{statement}
+use Rattle.words.specs.Prelude.{needs}
+use Rattle.execution.specs.{Level.shortFill}
+use Rattle.execution.proofs.{level.short_fill.Statement.statement}
 use Rattle.execution.proofs.level.short_fill.Tie as tie
 
 pub short-fill-spec : {M : Type 1} → statement M

@@ -1,7 +1,7 @@
 -- `in_lots`: the tests in the definition's order, then the two leaves of floats.
-use Rattle.execution.specs.Lots.{wholeLots, inLots}
-use borrow.Author.Needs.{needs}
-use Rattle.execution.proofs.lots.in_lots.Statement.{statement}
+use Rattle.words.specs.Prelude.{needs}
+use Rattle.execution.specs.{Lots.wholeLots, Lots.inLots}
+use Rattle.execution.proofs.{lots.in_lots.Statement.statement}
 use Rattle.execution.proofs.lots.in_lots.Tie as tie
 
 pub in-lots-spec : {M : Type 1} → statement M

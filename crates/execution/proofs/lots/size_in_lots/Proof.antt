@@ -1,7 +1,7 @@
 -- `size_in_lots`: a case each.
-use Rattle.execution.specs.Lots.{sizeInLots}
-use borrow.Author.Needs.{needs}
-use Rattle.execution.proofs.lots.size_in_lots.Statement.{statement}
+use Rattle.words.specs.Prelude.{needs}
+use Rattle.execution.specs.{Lots.sizeInLots}
+use Rattle.execution.proofs.{lots.size_in_lots.Statement.statement}
 use Rattle.execution.proofs.lots.size_in_lots.Tie as tie
 
 pub size-in-lots-spec : {M : Type 1} → statement M

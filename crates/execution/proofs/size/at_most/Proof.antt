@@ -1,7 +1,7 @@
 -- `at_most`: a case each, with what `min` ensures.
-use Rattle.execution.specs.Size.{atMost}
-use borrow.Author.Needs.{needs}
-use Rattle.execution.proofs.size.at_most.Statement.{statement}
+use Rattle.words.specs.Prelude.{needs}
+use Rattle.execution.specs.{Size.atMost}
+use Rattle.execution.proofs.{size.at_most.Statement.statement}
 use Rattle.execution.proofs.size.at_most.Tie as tie
 
 pub at-most-spec : {M : Type 1} → statement M

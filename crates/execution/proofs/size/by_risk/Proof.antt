@@ -1,7 +1,7 @@
 -- `by_risk`: the case of a stop, then its one test.
-use Rattle.execution.specs.Size.{byRisk}
-use borrow.Author.Needs.{needs}
-use Rattle.execution.proofs.size.by_risk.Statement.{statement}
+use Rattle.words.specs.Prelude.{needs}
+use Rattle.execution.specs.{Size.byRisk}
+use Rattle.execution.proofs.{size.by_risk.Statement.statement}
 use Rattle.execution.proofs.size.by_risk.Tie as tie
 
 pub by-risk-spec : {M : Type 1} → statement M

@@ -1,7 +1,7 @@
 -- `by_volatility`: a case each.
-use Rattle.execution.specs.Size.{byVolatility}
-use borrow.Author.Needs.{needs}
-use Rattle.execution.proofs.size.by_volatility.Statement.{statement}
+use Rattle.words.specs.Prelude.{needs}
+use Rattle.execution.specs.{Size.byVolatility}
+use Rattle.execution.proofs.{size.by_volatility.Statement.statement}
 use Rattle.execution.proofs.size.by_volatility.Tie as tie
 
 pub by-volatility-spec : {M : Type 1} → statement M

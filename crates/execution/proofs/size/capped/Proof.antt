@@ -1,6 +1,6 @@
 -- `capped`: what `min` ensures, divided.
-use borrow.Author.Needs.{needs}
-use Rattle.execution.proofs.size.capped.Statement.{statement}
+use Rattle.words.specs.Prelude.{needs}
+use Rattle.execution.proofs.{size.capped.Statement.statement}
 use Rattle.execution.proofs.size.capped.Tie as tie
 
 pub capped-spec : {M : Type 1} → statement M

@@ -1,7 +1,7 @@
 -- `max_notional`: the two calls, one in the other.
-use Rattle.execution.specs.Size.{maxNotional}
-use borrow.Author.Needs.{needs}
-use Rattle.execution.proofs.size.max_notional.Statement.{statement}
+use Rattle.words.specs.Prelude.{needs}
+use Rattle.execution.specs.{Size.maxNotional}
+use Rattle.execution.proofs.{size.max_notional.Statement.statement}
 use Rattle.execution.proofs.size.max_notional.Tie as tie
 
 pub max-notional-spec : {M : Type 1} → statement M

@@ -1,8 +1,7 @@
 -- `size`: the tests in the definition's order, then the case of what is wanted.
-use mathlib.Core.Path.{sym, _∙_}
-use Rattle.execution.specs.Size.{size, ordered}
-use borrow.Author.Needs.{needs}
-use Rattle.execution.proofs.size.size.Statement.{statement}
+use Rattle.words.specs.Prelude.{sym, _∙_, needs}
+use Rattle.execution.specs.{Size.size, Size.ordered}
+use Rattle.execution.proofs.{size.size.Statement.statement}
 use Rattle.execution.proofs.size.size.Tie as tie
 
 returns-3 : tie.Need-returns-3

@@ -1,7 +1,7 @@
 -- `wanted`: a kind each.
-use Rattle.execution.specs.Size.{wanted}
-use borrow.Author.Needs.{needs}
-use Rattle.execution.proofs.size.wanted.Statement.{statement}
+use Rattle.words.specs.Prelude.{needs}
+use Rattle.execution.specs.{Size.wanted}
+use Rattle.execution.proofs.{size.wanted.Statement.statement}
 use Rattle.execution.proofs.size.wanted.Tie as tie
 
 pub wanted-spec : {M : Type 1} → statement M

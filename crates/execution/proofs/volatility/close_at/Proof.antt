@@ -1,12 +1,7 @@
 -- `close_at`: the row stands within the list, so nothing wraps; then its word, as a float.
-use borrow.Author.Needs.{needs}
-use native.Mathlib.Omega.{arith}
-use Prim.Native.Nat.{_*_, _+_, _≤_}
-use lib.ListN.{length}
-use Rattle.rows.specs.History.{historyOf, field, width}
-use Rattle.rows.specs.Laws.RowEnds.{row-ends}
-use Rattle.rows.specs.Laws.Ring.{place-within, ring-row}
-use Rattle.execution.proofs.volatility.close_at.Statement.{statement}
+use Rattle.words.specs.Prelude.{needs, arith, _*_, _+_, _≤_, length}
+use Rattle.rows.specs.{History.historyOf, History.field, History.width, Laws.RowEnds.row-ends, Laws.Ring.place-within, Laws.Ring.ring-row}
+use Rattle.execution.proofs.{volatility.close_at.Statement.statement}
 use Rattle.execution.proofs.volatility.close_at.Tie as tie
 
 -- the row ends by the list's end

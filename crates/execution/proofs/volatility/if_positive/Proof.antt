@@ -1,6 +1,6 @@
 -- `if_positive`: one test.
-use Rattle.execution.specs.Volatility.{ifPositive}
-use Rattle.execution.proofs.volatility.if_positive.Statement.{statement}
+use Rattle.execution.specs.{Volatility.ifPositive}
+use Rattle.execution.proofs.{volatility.if_positive.Statement.statement}
 use Rattle.execution.proofs.volatility.if_positive.Tie as tie
 
 pub if-positive-spec : {M : Type 1} → statement M

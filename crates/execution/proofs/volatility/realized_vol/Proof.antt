@@ -1,7 +1,7 @@
 -- `realized_vol`: rows that begin at row 0.
-use borrow.Author.Needs.{needs}
-use Rattle.rows.specs.Laws.Ring.{ring-none}
-use Rattle.execution.proofs.volatility.realized_vol.Statement.{statement}
+use Rattle.words.specs.Prelude.{needs}
+use Rattle.rows.specs.{Laws.Ring.ring-none}
+use Rattle.execution.proofs.{volatility.realized_vol.Statement.statement}
 use Rattle.execution.proofs.volatility.realized_vol.Tie as tie
 
 pub realized-vol-spec : {M : Type 1} → statement M

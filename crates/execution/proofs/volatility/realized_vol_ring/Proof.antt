@@ -1,15 +1,8 @@
 -- `realized_vol_ring`: too short a lookback, too few rows; then the two passes, as the law of them says.
-use borrow.Author.Tests.{lt-ltb, le-ltb}
-use mathlib.Core.Path.{_≡_}
-use Prim.Native.Nat.{_≤_}
-use native.Mathlib.Omega.{arith}
-use Rattle.rows.specs.History.{historyOf}
-use Rattle.rows.specs.Ring.{ringOf}
-use Rattle.rows.specs.Laws.Ring.{first-fits, ring-first}
-use Rattle.execution.specs.Volatility.{realizedVol}
-use Rattle.execution.proofs.Realized.{no-returns, some-returns}
-use borrow.Author.Needs.{needs}
-use Rattle.execution.proofs.volatility.realized_vol_ring.Statement.{statement}
+use Rattle.words.specs.Prelude.{lt-ltb, le-ltb, _≡_, _≤_, arith, needs}
+use Rattle.rows.specs.{History.historyOf, Ring.ringOf, Laws.Ring.first-fits, Laws.Ring.ring-first}
+use Rattle.execution.specs.{Volatility.realizedVol}
+use Rattle.execution.proofs.{Realized.no-returns, Realized.some-returns, volatility.realized_vol_ring.Statement.statement}
 use Rattle.execution.proofs.volatility.realized_vol_ring.Tie as tie
 
 -- the rows from the row that was set right are the rows from `start` on

@@ -1,7 +1,7 @@
 -- `simple_return`: the test of what `abs` ensures.
-use Rattle.execution.specs.Volatility.{simpleReturn}
-use borrow.Author.Needs.{needs}
-use Rattle.execution.proofs.volatility.simple_return.Statement.{statement}
+use Rattle.words.specs.Prelude.{needs}
+use Rattle.execution.specs.{Volatility.simpleReturn}
+use Rattle.execution.proofs.{volatility.simple_return.Statement.statement}
 use Rattle.execution.proofs.volatility.simple_return.Tie as tie
 
 pub simple-return-spec : {M : Type 1} → statement M

@@ -1,14 +1,9 @@
 -- `tally_of`: at each row, what the pass has and what is left of it come to the whole. `before` is the row's close.
-use mathlib.Core.Path.{_≡_}
-use Prim.Native.Nat.{_-_, _≤_}
-use native.Mathlib.Omega.{arith}
-use borrow.Author.Needs.{needs}
+use Rattle.words.specs.Prelude.{_≡_, _-_, _≤_, arith, needs}
+use Rattle.rows.specs.{Ring.ringOf}
+use Rattle.execution.specs.{Volatility.closeAt, Tally.tallyFrom}
+use Rattle.execution.proofs.{Passes.rest, Passes.added, Passes.passed, Passes.ended, volatility.tally_of.Statement.statement}
 use Rattle.floats.specs.Floats as Floats
-use Rattle.rows.specs.Ring.{ringOf}
-use Rattle.execution.specs.Volatility.{closeAt}
-use Rattle.execution.specs.Tally.{tallyFrom}
-use Rattle.execution.proofs.Passes.{rest, added, passed, ended}
-use Rattle.execution.proofs.volatility.tally_of.Statement.{statement}
 use Rattle.execution.proofs.volatility.tally_of.Tie as tie
 
 abbrev Inv-loop : tie.InvT-loop

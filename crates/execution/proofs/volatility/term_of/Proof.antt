@@ -1,8 +1,7 @@
 -- `term_of`: a case each.
-use Rattle.execution.specs.Tally.{termOf}
-use Rattle.execution.specs.Volatility.{squareFrom}
-use borrow.Author.Needs.{needs}
-use Rattle.execution.proofs.volatility.term_of.Statement.{statement}
+use Rattle.words.specs.Prelude.{needs}
+use Rattle.execution.specs.{Tally.termOf, Volatility.squareFrom}
+use Rattle.execution.proofs.{volatility.term_of.Statement.statement}
 use Rattle.execution.proofs.volatility.term_of.Tie as tie
 
 pub term-of-spec : {M : Type 1} → statement M

@@ -1,11 +1,7 @@
 -- `floats::root::bit`: by whether its square still fits. Assumes nothing.
-use mathlib.Core.Path.{_≡_, refl, sym, ap, subst, _∙_}
-use Prim.Native.Nat.{ℕ, zero, suc, _+_, _-_, _*_, _/_, _%_, _^_, _<_, _≤_}
-use native.Mathlib.Omega.{arith}
-use borrow.Author.Needs.{needs}
-use Rattle.floats.specs.Root.{Goes}
-use Rattle.floats.proofs.root.Bits.{bit-one, bit-none}
-use Rattle.floats.proofs.root.bit.Statement.{statement}
+use Rattle.words.specs.Prelude.{_≡_, refl, sym, ap, subst, _∙_, ℕ, zero, suc, _+_, _-_, _*_, _/_, _%_, _^_, _<_, _≤_, arith, needs}
+use Rattle.floats.specs.{Root.Goes}
+use Rattle.floats.proofs.{root.Bits.bit-one, root.Bits.bit-none, root.bit.Statement.statement}
 use Rattle.floats.proofs.root.bit.Tie as tie
 use Rattle.floats.proofs.root.bit.Reads as reads
 use Rattle.floats.proofs.root.bit.Lts as lts

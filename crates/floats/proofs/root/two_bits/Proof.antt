@@ -1,12 +1,8 @@
 -- `floats::root::two_bits`: one bit after another. Assumes nothing.
-use mathlib.Core.Path.{_≡_, refl, sym, ap, subst, _∙_}
-use Prim.Native.Nat.{ℕ, zero, suc, _+_, _-_, _*_, _/_, _%_, _^_, _<_, _≤_}
+use Rattle.words.specs.Prelude.{_≡_, refl, sym, ap, subst, _∙_, ℕ, zero, suc, _+_, _-_, _*_, _/_, _%_, _^_, _<_, _≤_, arith, needs}
+use Rattle.floats.specs.{Root.Goes}
+use Rattle.floats.proofs.{root.Bits.goes-on, root.two_bits.Statement.statement}
 use native.Mathlib.Nat.{mul-mod-right}
-use native.Mathlib.Omega.{arith}
-use borrow.Author.Needs.{needs}
-use Rattle.floats.specs.Root.{Goes}
-use Rattle.floats.proofs.root.Bits.{goes-on}
-use Rattle.floats.proofs.root.two_bits.Statement.{statement}
 use Rattle.floats.proofs.root.two_bits.Tie as tie
 use Rattle.floats.proofs.root.two_bits.Reads as reads
 use Rattle.floats.proofs.root.two_bits.Lts as lts

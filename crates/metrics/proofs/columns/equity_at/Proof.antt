@@ -1,7 +1,7 @@
 -- A float of the column.
-use Rattle.metrics.specs.Records.{equityOf}
-use borrow.Author.Needs.{needs}
-use Rattle.metrics.proofs.columns.equity_at.Statement.{statement}
+use Rattle.words.specs.Prelude.{needs}
+use Rattle.metrics.specs.{Records.equityOf}
+use Rattle.metrics.proofs.{columns.equity_at.Statement.statement}
 use Rattle.metrics.proofs.columns.equity_at.Tie as tie
 
 pub equity-at-spec : {M : Type 1} → statement M

@@ -1,11 +1,7 @@
 -- A record that is whole has all of its words; past the last whole one there is no float.
-use mathlib.Core.Path.{sym, _∙_}
-use Prim.Native.Nat.{_+_, _*_, _<_}
-use native.Mathlib.Omega.{arith}
-use lib.ListN.{length}
-use Rattle.metrics.specs.Laws.Columns.{in-record, column-at, column-past}
-use borrow.Author.Needs.{needs}
-use Rattle.metrics.proofs.columns.float_at.Statement.{statement}
+use Rattle.words.specs.Prelude.{sym, _∙_, _+_, _*_, _<_, arith, length, needs}
+use Rattle.metrics.specs.{Laws.Columns.in-record, Laws.Columns.column-at, Laws.Columns.column-past}
+use Rattle.metrics.proofs.{columns.float_at.Statement.statement}
 use Rattle.metrics.proofs.columns.float_at.Tie as tie
 
 there : (c : tie.Then1) → let a = c .before .before .args in a .width * a .i + a .at < length (a .words .now)

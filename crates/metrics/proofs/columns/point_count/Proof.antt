@@ -1,7 +1,7 @@
 -- A column has as many floats as there are whole records.
-use mathlib.Core.Path.{sym}
-use Rattle.metrics.specs.Laws.Columns.{length-equity}
-use Rattle.metrics.proofs.columns.point_count.Statement.{statement}
+use Rattle.words.specs.Prelude.{sym}
+use Rattle.metrics.specs.{Laws.Columns.length-equity}
+use Rattle.metrics.proofs.{columns.point_count.Statement.statement}
 use Rattle.metrics.proofs.columns.point_count.Tie as tie
 
 pub point-count-spec : {M : Type 1} → statement M

@@ -1,6 +1,6 @@
 -- `deepest_at` is the definition, test for test.
-use Rattle.metrics.specs.Drawdown.{fallPct, deepestAt}
-use Rattle.metrics.proofs.drawdown.deepest_at.Statement.{statement}
+use Rattle.metrics.specs.{Drawdown.fallPct, Drawdown.deepestAt}
+use Rattle.metrics.proofs.{drawdown.deepest_at.Statement.statement}
 use Rattle.metrics.proofs.drawdown.deepest_at.Tie as tie
 
 pub deepest-at-spec : {M : Type 1} → statement M

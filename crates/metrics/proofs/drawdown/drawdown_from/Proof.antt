@@ -1,14 +1,8 @@
 -- The deepest fall of what is to come, from the peak and the deepest fall so far, is that of the whole.
-use borrow.Author.Needs.{needs}
-use mathlib.Core.Path.{_≡_, refl}
-use Prim.Native.Nat.{_-_}
-use native.Mathlib.Omega.{arith}
-use lib.ListN.{drop}
+use Rattle.words.specs.Prelude.{needs, _≡_, refl, _-_, arith, drop}
+use Rattle.metrics.specs.{Records.equityOf, Drawdown.drawdownFrom}
+use Rattle.metrics.proofs.{Walks.turn, Walks.done, drawdown.drawdown_from.Statement.statement}
 use Rattle.floats.specs.Floats as Floats
-use Rattle.metrics.specs.Records.{equityOf}
-use Rattle.metrics.specs.Drawdown.{drawdownFrom}
-use Rattle.metrics.proofs.Walks.{turn, done}
-use Rattle.metrics.proofs.drawdown.drawdown_from.Statement.{statement}
 use Rattle.metrics.proofs.drawdown.drawdown_from.Tie as tie
 
 abbrev Inv-loop : tie.InvT-loop

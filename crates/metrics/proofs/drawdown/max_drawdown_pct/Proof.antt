@@ -1,7 +1,7 @@
 -- The peak starts at the float of that word.
-use borrow.Author.Needs.{needs}
-use Rattle.metrics.specs.Drawdown.{maxDrawdownPct}
-use Rattle.metrics.proofs.drawdown.max_drawdown_pct.Statement.{statement}
+use Rattle.words.specs.Prelude.{needs}
+use Rattle.metrics.specs.{Drawdown.maxDrawdownPct}
+use Rattle.metrics.proofs.{drawdown.max_drawdown_pct.Statement.statement}
 use Rattle.metrics.proofs.drawdown.max_drawdown_pct.Tie as tie
 
 pub max-drawdown-pct-spec : {M : Type 1} → statement M

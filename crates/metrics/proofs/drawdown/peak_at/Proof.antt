@@ -1,6 +1,6 @@
 -- `peak_at` is the definition, test for test.
-use Rattle.metrics.specs.Drawdown.{peakAt}
-use Rattle.metrics.proofs.drawdown.peak_at.Statement.{statement}
+use Rattle.metrics.specs.{Drawdown.peakAt}
+use Rattle.metrics.proofs.{drawdown.peak_at.Statement.statement}
 use Rattle.metrics.proofs.drawdown.peak_at.Tie as tie
 
 pub peak-at-spec : {M : Type 1} → statement M

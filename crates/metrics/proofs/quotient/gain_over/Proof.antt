@@ -1,8 +1,7 @@
 -- The three ways of the definition.
-use mathlib.Core.Path.{_∙_}
-use Rattle.metrics.specs.Quotients.{gainOver}
-use borrow.Author.Needs.{needs}
-use Rattle.metrics.proofs.quotient.gain_over.Statement.{statement}
+use Rattle.words.specs.Prelude.{_∙_, needs}
+use Rattle.metrics.specs.{Quotients.gainOver}
+use Rattle.metrics.proofs.{quotient.gain_over.Statement.statement}
 use Rattle.metrics.proofs.quotient.gain_over.Tie as tie
 
 returns : tie.Need-returns

@@ -1,7 +1,7 @@
 -- The two ways of the definition.
-use Rattle.metrics.specs.Quotients.{meanOver}
-use borrow.Author.Needs.{needs}
-use Rattle.metrics.proofs.quotient.mean_over.Statement.{statement}
+use Rattle.words.specs.Prelude.{needs}
+use Rattle.metrics.specs.{Quotients.meanOver}
+use Rattle.metrics.proofs.{quotient.mean_over.Statement.statement}
 use Rattle.metrics.proofs.quotient.mean_over.Tie as tie
 
 pub mean-over-spec : {M : Type 1} → statement M

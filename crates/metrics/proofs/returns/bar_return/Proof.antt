@@ -1,7 +1,7 @@
 -- The two ways of the definition.
-use Rattle.metrics.specs.Returns.{barReturn}
-use borrow.Author.Needs.{needs}
-use Rattle.metrics.proofs.returns.bar_return.Statement.{statement}
+use Rattle.words.specs.Prelude.{needs}
+use Rattle.metrics.specs.{Returns.barReturn}
+use Rattle.metrics.proofs.{returns.bar_return.Statement.statement}
 use Rattle.metrics.proofs.returns.bar_return.Tie as tie
 
 pub bar-return-spec : {M : Type 1} → statement M

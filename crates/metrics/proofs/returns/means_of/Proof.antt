@@ -1,11 +1,7 @@
 -- Each of the two sums, with what is to come, makes its whole sum.
-use borrow.Author.Needs.{needs}
-use Prim.Native.Nat.{_-_}
-use native.Mathlib.Omega.{arith}
-use Rattle.metrics.specs.declared.returns.Part.the-variants.{Itself, Below}
-use Rattle.metrics.specs.Records.{equityOf}
-use Rattle.metrics.proofs.Passes.{Summing, starts, goes-on, ends}
-use Rattle.metrics.proofs.returns.means_of.Statement.{statement}
+use Rattle.words.specs.Prelude.{needs, _-_, arith}
+use Rattle.metrics.specs.{declared.returns.Part.the-variants.Itself, declared.returns.Part.the-variants.Below, Records.equityOf}
+use Rattle.metrics.proofs.{Passes.Summing, Passes.starts, Passes.goes-on, Passes.ends, returns.means_of.Statement.statement}
 use Rattle.metrics.proofs.returns.means_of.Tie as tie
 
 abbrev Inv-loop : tie.InvT-loop

@@ -1,7 +1,6 @@
 -- One arm a part.
-use mathlib.Core.Path.{_∙_}
-use borrow.Author.Needs.{needs}
-use Rattle.metrics.proofs.returns.part_of.Statement.{statement}
+use Rattle.words.specs.Prelude.{_∙_, needs}
+use Rattle.metrics.proofs.{returns.part_of.Statement.statement}
 use Rattle.metrics.proofs.returns.part_of.Tie as tie
 
 pub part-of-spec : {M : Type 1} → statement M

@@ -1,11 +1,7 @@
 -- The two ways of each definition: they test the same count.
-use mathlib.Core.Path.{_∙_}
-use borrow.Author.Tests.{lt-ltb, le-ltb}
-use lib.ListN.{length}
-use Rattle.metrics.specs.Records.{equityOf}
-use Rattle.metrics.specs.Returns.{sharpeRatio, sortinoRatio}
-use borrow.Author.Needs.{needs}
-use Rattle.metrics.proofs.returns.ratios_of.Statement.{statement}
+use Rattle.words.specs.Prelude.{_∙_, lt-ltb, le-ltb, length, needs}
+use Rattle.metrics.specs.{Records.equityOf, Returns.sharpeRatio, Returns.sortinoRatio}
+use Rattle.metrics.proofs.{returns.ratios_of.Statement.statement}
 use Rattle.metrics.proofs.returns.ratios_of.Tie as tie
 
 returns : tie.Need-returns

@@ -1,9 +1,7 @@
 -- One less than the points, of which there may be none.
-use native.Mathlib.Omega.{arith}
-use Rattle.metrics.specs.Records.{equityOf}
-use Rattle.metrics.proofs.Neighbours.{length-returns}
-use borrow.Author.Needs.{needs}
-use Rattle.metrics.proofs.returns.return_count.Statement.{statement}
+use Rattle.words.specs.Prelude.{arith, needs}
+use Rattle.metrics.specs.{Records.equityOf}
+use Rattle.metrics.proofs.{Neighbours.length-returns, returns.return_count.Statement.statement}
 use Rattle.metrics.proofs.returns.return_count.Tie as tie
 
 pub return-count-spec : {M : Type 1} → statement M

@@ -1,11 +1,7 @@
 -- What is summed and what is to come make the whole sum.
-use borrow.Author.Needs.{needs}
-use Prim.Native.Nat.{_-_}
-use native.Mathlib.Omega.{arith}
-use Rattle.metrics.specs.declared.returns.Part.the-variants.{Away}
-use Rattle.metrics.specs.Records.{equityOf}
-use Rattle.metrics.proofs.Passes.{Summing, starts, goes-on, ends}
-use Rattle.metrics.proofs.returns.var_of.Statement.{statement}
+use Rattle.words.specs.Prelude.{needs, _-_, arith}
+use Rattle.metrics.specs.{declared.returns.Part.the-variants.Away, Records.equityOf}
+use Rattle.metrics.proofs.{Passes.Summing, Passes.starts, Passes.goes-on, Passes.ends, returns.var_of.Statement.statement}
 use Rattle.metrics.proofs.returns.var_of.Tie as tie
 
 abbrev Inv-loop : tie.InvT-loop

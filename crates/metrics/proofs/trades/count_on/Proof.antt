@@ -1,17 +1,7 @@
 -- Those so far and those to come are all; there are no more than trades passed.
-use borrow.Author.Needs.{needs}
-use mathlib.Core.Path.{_≡_, sym, _∙_}
-use mathlib.Core.Logic.{⊎-elim}
-use mathlib.Core.List.{List}
-use native.Mathlib.Omega.{arith}
-use Prim.Native.Nat.{_+_, _-_, _≤_}
-use native.Mathlib.Nat.{zero-add, add-zero}
-use lib.ListN.{length, drop}
-use lib.Ieee.{Float}
-use Rattle.metrics.specs.Records.{pnlsOf}
-use Rattle.metrics.specs.Trades.{sizesOn}
-use Rattle.metrics.proofs.Walks.{turn, done, one-on, not-on}
-use Rattle.metrics.proofs.trades.count_on.Statement.{statement}
+use Rattle.words.specs.Prelude.{needs, _≡_, sym, _∙_, ⊎-elim, List, arith, _+_, _-_, _≤_, zero-add, add-zero, length, drop, Float}
+use Rattle.metrics.specs.{Records.pnlsOf, Trades.sizesOn}
+use Rattle.metrics.proofs.{Walks.turn, Walks.done, Walks.one-on, Walks.not-on, trades.count_on.Statement.statement}
 use Rattle.metrics.proofs.trades.count_on.Tie as tie
 
 abbrev Inv-loop : tie.InvT-loop

@@ -1,17 +1,8 @@
 -- What is summed and what is to come make the whole sum.
-use borrow.Author.Needs.{needs}
-use mathlib.Core.Path.{_≡_, refl, sym, _∙_}
-use mathlib.Core.Logic.{⊎-elim}
-use mathlib.Core.List.{List}
-use native.Mathlib.Omega.{arith}
-use Prim.Native.Nat.{_+_, _-_}
-use lib.ListN.{drop}
-use lib.Ieee.{Float}
-use Rattle.metrics.specs.Records.{pnlsOf}
-use Rattle.floats.specs.Sums.{sumFrom}
-use Rattle.metrics.specs.Trades.{sizesOn, gross}
-use Rattle.metrics.proofs.Walks.{turn, done, one-on, not-on}
-use Rattle.metrics.proofs.trades.gross.Statement.{statement}
+use Rattle.words.specs.Prelude.{needs, _≡_, refl, sym, _∙_, ⊎-elim, List, arith, _+_, _-_, drop, Float}
+use Rattle.metrics.specs.{Records.pnlsOf, Trades.sizesOn, Trades.gross}
+use Rattle.floats.specs.{Sums.sumFrom}
+use Rattle.metrics.proofs.{Walks.turn, Walks.done, Walks.one-on, Walks.not-on, trades.gross.Statement.statement}
 use Rattle.metrics.proofs.trades.gross.Tie as tie
 
 abbrev Inv-loop : tie.InvT-loop

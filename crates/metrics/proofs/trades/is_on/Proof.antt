@@ -1,6 +1,6 @@
 -- One arm a side.
-use borrow.Author.Needs.{needs}
-use Rattle.metrics.proofs.trades.is_on.Statement.{statement}
+use Rattle.words.specs.Prelude.{needs}
+use Rattle.metrics.proofs.{trades.is_on.Statement.statement}
 use Rattle.metrics.proofs.trades.is_on.Tie as tie
 
 pub is-on-spec : {M : Type 1} → statement M

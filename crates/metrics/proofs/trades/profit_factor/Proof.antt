@@ -1,8 +1,7 @@
 -- The quotient of the two sums.
-use mathlib.Core.Path.{_∙_}
-use Rattle.metrics.specs.Trades.{profitFactor}
-use borrow.Author.Needs.{needs}
-use Rattle.metrics.proofs.trades.profit_factor.Statement.{statement}
+use Rattle.words.specs.Prelude.{_∙_, needs}
+use Rattle.metrics.specs.{Trades.profitFactor}
+use Rattle.metrics.proofs.{trades.profit_factor.Statement.statement}
 use Rattle.metrics.proofs.trades.profit_factor.Tie as tie
 
 pub profit-factor-spec : {M : Type 1} → statement M

@@ -1,6 +1,6 @@
 -- One arm a side.
-use borrow.Author.Needs.{needs}
-use Rattle.metrics.proofs.trades.size_of.Statement.{statement}
+use Rattle.words.specs.Prelude.{needs}
+use Rattle.metrics.proofs.{trades.size_of.Statement.statement}
 use Rattle.metrics.proofs.trades.size_of.Tie as tie
 
 pub size-of-spec : {M : Type 1} → statement M

@@ -1,11 +1,7 @@
 -- The two ways of the definition.
-use mathlib.Core.Path.{sym, _∙_}
-use borrow.Author.Tests.{eq-eqb, ne-eqb}
-use lib.ListN.{length}
-use Rattle.metrics.specs.Records.{pnlsOf}
-use Rattle.metrics.specs.Trades.{winRate}
-use borrow.Author.Needs.{needs}
-use Rattle.metrics.proofs.trades.win_rate.Statement.{statement}
+use Rattle.words.specs.Prelude.{sym, _∙_, eq-eqb, ne-eqb, length, needs}
+use Rattle.metrics.specs.{Records.pnlsOf, Trades.winRate}
+use Rattle.metrics.proofs.{trades.win_rate.Statement.statement}
 use Rattle.metrics.proofs.trades.win_rate.Tie as tie
 
 returns : tie.Need-returns

@@ -1,11 +1,7 @@
 -- The rows of an accepted table are one more than its greatest reach.
-use borrow.Author.Needs.{needs}
-use native.Mathlib.Omega.{arith}
-use borrow.Author.Tests.{lt-ltb, le-ltb}
-use mathlib.Core.Path.{sym, _∙_}
-use Rattle.needed.specs.Depth.{depthAnswer}
-use Rattle.needed.proofs.Needed.{few, needed, product}
-use Rattle.needed.proofs.depth.depth.Statement.{statement}
+use Rattle.words.specs.Prelude.{needs, arith, lt-ltb, le-ltb, sym, _∙_}
+use Rattle.needed.specs.{Depth.depthAnswer}
+use Rattle.needed.proofs.{Needed.few, Needed.needed, Needed.product, depth.depth.Statement.statement}
 use Rattle.needed.proofs.depth.depth.Tie as tie
 
 pub depth-spec : {M : Type 1} → statement M

@@ -1,8 +1,7 @@
 -- Eight bytes a word.
-use borrow.Author.Needs.{needs}
-use native.Mathlib.Omega.{arith}
-use Rattle.table.specs.Depth.{rowBytes}
-use Rattle.needed.proofs.depth.row_bytes.Statement.{statement}
+use Rattle.words.specs.Prelude.{needs, arith}
+use Rattle.table.specs.{Depth.rowBytes}
+use Rattle.needed.proofs.{depth.row_bytes.Statement.statement}
 use Rattle.needed.proofs.depth.row_bytes.Tie as tie
 
 pub row-bytes-spec : {M : Type 1} → statement M

@@ -1,19 +1,10 @@
 -- The nodes that are listed are the silent tests of the table's trees, where it is accepted; else nothing is listed.
-use Prim.Native.Nat.{ℕ}
-use mathlib.Core.Path.{_≡_, refl, _∙_}
-use mathlib.Core.List.{List}
-use native.Mathlib.Omega.{arith}
-use lib.ListN.{length}
-use borrow.Author.Needs.{needs}
-use Rattle.table.specs.declared.answer.Answer.{Answer}
-use Rattle.table.specs.declared.answer.Answer.the-variants.{Accepted, Refused}
-use Rattle.table.specs.declared.silent.SilentAnswer.{SilentAnswer}
-use Rattle.table.specs.declared.silent.SilentAnswer.the-variants.{Refuses}
-use Rattle.table.specs.Bytes.{Bytes}
-use Rattle.table.specs.Checked.{checked}
-use Rattle.table.specs.Silent.{silentTests, silentAnswer, listAfter, fourSilent}
-use Rattle.needed.specs.Laws.Silent.{silent-found}
-use Rattle.needed.proofs.silent.silent_tests.Statement.{statement}
+use Rattle.words.specs.Prelude.{ℕ, _≡_, refl, _∙_, List, arith, length, needs}
+use Rattle.table.specs.{declared.answer.Answer.Answer, declared.answer.Answer.the-variants.Accepted, declared.answer.Answer.the-variants.Refused}
+use Rattle.table.specs.{declared.silent.SilentAnswer.SilentAnswer, declared.silent.SilentAnswer.the-variants.Refuses, Bytes.Bytes, Checked.checked}
+use Rattle.table.specs.{Silent.silentTests, Silent.silentAnswer, Silent.listAfter, Silent.fourSilent}
+use Rattle.needed.specs.{Laws.Silent.silent-found}
+use Rattle.needed.proofs.{silent.silent_tests.Statement.statement}
 use Rattle.needed.proofs.silent.silent_tests.Tie as tie
 
 module _ (t : List ℕ) (small : Bytes t) (d : ℕ) (given : List ℕ) (answer : SilentAnswer) (list : List ℕ)

@@ -1,7 +1,7 @@
 -- `equity`: the definition's sum.
-use mathlib.Core.Path.{refl}
-use Rattle.portfolio.specs.Portfolio.{equity}
-use Rattle.portfolio.proofs.Portfolio.equity.Statement.{statement}
+use Rattle.words.specs.Prelude.{refl}
+use Rattle.portfolio.specs.{Portfolio.equity}
+use Rattle.portfolio.proofs.{Portfolio.equity.Statement.statement}
 use Rattle.portfolio.proofs.Portfolio.equity.Tie as tie
 
 pub equity-spec : {M : Type 1} → statement M

@@ -1,7 +1,7 @@
 -- `exit`: the records that the definition writes, with what `abs` and `return_pct` ensure put in.
-use Rattle.portfolio.specs.Portfolio.{notional, pnl, tradeOf, exited}
-use borrow.Author.Needs.{needs}
-use Rattle.portfolio.proofs.Portfolio.exit.Statement.{statement}
+use Rattle.words.specs.Prelude.{needs}
+use Rattle.portfolio.specs.{Portfolio.notional, Portfolio.pnl, Portfolio.tradeOf, Portfolio.exited}
+use Rattle.portfolio.proofs.{Portfolio.exit.Statement.statement}
 use Rattle.portfolio.proofs.Portfolio.exit.Tie as tie
 
 pub exit-spec : {M : Type 1} → statement M

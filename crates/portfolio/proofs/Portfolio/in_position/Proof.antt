@@ -1,7 +1,7 @@
 -- `in_position`: the size of the quantity is what `abs` ensures.
-use Rattle.portfolio.specs.Portfolio.{inPosition}
-use borrow.Author.Needs.{needs}
-use Rattle.portfolio.proofs.Portfolio.in_position.Statement.{statement}
+use Rattle.words.specs.Prelude.{needs}
+use Rattle.portfolio.specs.{Portfolio.inPosition}
+use Rattle.portfolio.proofs.{Portfolio.in_position.Statement.statement}
 use Rattle.portfolio.proofs.Portfolio.in_position.Tie as tie
 
 pub in-position-spec : {M : Type 1} → statement M

@@ -1,8 +1,7 @@
 -- `worsen`: where a position is open, the record that the definition writes.
-use mathlib.Core.Path.{sym, _∙_}
-use Rattle.portfolio.specs.Portfolio.{worsened}
-use borrow.Author.Needs.{needs}
-use Rattle.portfolio.proofs.Portfolio.worsen.Statement.{statement}
+use Rattle.words.specs.Prelude.{sym, _∙_, needs}
+use Rattle.portfolio.specs.{Portfolio.worsened}
+use Rattle.portfolio.proofs.{Portfolio.worsen.Statement.statement}
 use Rattle.portfolio.proofs.Portfolio.worsen.Tie as tie
 
 pub worsen-spec : {M : Type 1} → statement M

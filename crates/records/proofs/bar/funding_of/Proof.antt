@@ -1,9 +1,7 @@
 -- None where the word behind the slots is 0, else what the two words after it hold.
-use mathlib.Core.Path.{sym, _∙_}
-use borrow.Author.Tests.{eq-eqb, ne-eqb}
-use Rattle.records.specs.Bar.{fundingOf}
-use borrow.Author.Needs.{needs}
-use Rattle.records.proofs.bar.funding_of.Statement.{statement}
+use Rattle.words.specs.Prelude.{sym, _∙_, eq-eqb, ne-eqb, needs}
+use Rattle.records.specs.{Bar.fundingOf}
+use Rattle.records.proofs.{bar.funding_of.Statement.statement}
 use Rattle.records.proofs.bar.funding_of.Tie as tie
 
 returns : tie.Need-returns

@@ -1,13 +1,6 @@
 -- Ten words and K more: compared without a sum, which could wrap. Assumes nothing.
-use Prim.Native.Nat.{ℕ, _+_, _-_, _≤_}
-use mathlib.Core.Path.{_≡_, refl, sym}
-use mathlib.Core.Bool.{Bool, true, false}
-use native.Mathlib.Omega.{arith}
-use borrow.Author.Needs.{needs}
-use borrow.Author.Tests.{eq-eqb, ne-eqb, eqb-true, eqb-false}
-use lib.Dec.{eqb}
-use lib.ListN.{length}
-use Rattle.records.proofs.bar.is_whole.Statement.{statement}
+use Rattle.words.specs.Prelude.{ℕ, _+_, _-_, _≤_, _≡_, refl, sym, Bool, true, false, arith, needs, eq-eqb, ne-eqb, eqb-true, eqb-false, eqb, length}
+use Rattle.records.proofs.{bar.is_whole.Statement.statement}
 use Rattle.records.proofs.bar.is_whole.Tie as tie
 
 moved : (n k : ℕ) → 10 ≤ n → eqb (n - 10) k ≡ eqb n (10 + k)

@@ -1,6 +1,6 @@
 -- The float of the word.
-use borrow.Author.Needs.{needs}
-use Rattle.records.proofs.fields.float_at.Statement.{statement}
+use Rattle.words.specs.Prelude.{needs}
+use Rattle.records.proofs.{fields.float_at.Statement.statement}
 use Rattle.records.proofs.fields.float_at.Tie as tie
 
 returns : tie.Need-returns

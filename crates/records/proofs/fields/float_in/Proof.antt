@@ -1,6 +1,6 @@
 -- The float of the word.
-use borrow.Author.Needs.{needs}
-use Rattle.records.proofs.fields.float_in.Statement.{statement}
+use Rattle.words.specs.Prelude.{needs}
+use Rattle.records.proofs.{fields.float_in.Statement.statement}
 use Rattle.records.proofs.fields.float_in.Tie as tie
 
 returns : tie.Need-returns

@@ -1,7 +1,7 @@
 -- A flag is off where the word is 0.
-use Rattle.records.specs.Settings.{flagOf}
-use mathlib.Core.Path.{refl}
-use Rattle.records.proofs.settings.flag_of.Statement.{statement}
+use Rattle.words.specs.Prelude.{refl}
+use Rattle.records.specs.{Settings.flagOf}
+use Rattle.records.proofs.{settings.flag_of.Statement.statement}
 use Rattle.records.proofs.settings.flag_of.Tie as tie
 
 returns : tie.Need-returns

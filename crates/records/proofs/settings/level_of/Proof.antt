@@ -1,8 +1,7 @@
 -- The test is the definition's.
-use Rattle.records.specs.Settings.{levelOf}
-use borrow.Author.Needs.{needs}
-use borrow.Author.Tests.{eq-eqb, ne-eqb}
-use Rattle.records.proofs.settings.level_of.Statement.{statement}
+use Rattle.words.specs.Prelude.{needs, eq-eqb, ne-eqb}
+use Rattle.records.specs.{Settings.levelOf}
+use Rattle.records.proofs.{settings.level_of.Statement.statement}
 use Rattle.records.proofs.settings.level_of.Tie as tie
 
 returns : tie.Need-returns

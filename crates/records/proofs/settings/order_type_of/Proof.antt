@@ -1,7 +1,7 @@
 -- Each kind's number picks its case; any other number none of them.
-use Rattle.records.specs.Settings.{orderTypeOf}
-use borrow.Author.Tests.{ne-eqb}
-use Rattle.records.proofs.settings.order_type_of.Statement.{statement}
+use Rattle.words.specs.Prelude.{ne-eqb}
+use Rattle.records.specs.{Settings.orderTypeOf}
+use Rattle.records.proofs.{settings.order_type_of.Statement.statement}
 use Rattle.records.proofs.settings.order_type_of.Tie as tie
 
 pub order-type-of-spec : {M : Type 1} → statement M

@@ -1,10 +1,8 @@
 -- Settings are made of their first words, and of zeros where the list is short.
-use mathlib.Core.Path.{_∙_}
-use native.Mathlib.Omega.{arith}
-use borrow.Author.Needs.{needs}
-use Rattle.words.specs.Limits.{settingWords}
-use Rattle.records.specs.Laws.FirstWords.{padded-agree, settings-agree}
-use Rattle.records.proofs.settings.settings_of.Statement.{statement}
+use Rattle.words.specs.Prelude.{_∙_, arith, needs}
+use Rattle.words.specs.{Limits.settingWords}
+use Rattle.records.specs.{Laws.FirstWords.padded-agree, Laws.FirstWords.settings-agree}
+use Rattle.records.proofs.{settings.settings_of.Statement.statement}
 use Rattle.records.proofs.settings.settings_of.Tie as tie
 
 returns : tie.Need-returns

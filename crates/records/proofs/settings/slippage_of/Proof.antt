@@ -1,8 +1,7 @@
 -- Each kind's number picks its case; any other number none of them.
-use Rattle.records.specs.Settings.{slippageOf}
-use borrow.Author.Needs.{needs}
-use borrow.Author.Tests.{ne-eqb}
-use Rattle.records.proofs.settings.slippage_of.Statement.{statement}
+use Rattle.words.specs.Prelude.{needs, ne-eqb}
+use Rattle.records.specs.{Settings.slippageOf}
+use Rattle.records.proofs.{settings.slippage_of.Statement.statement}
 use Rattle.records.proofs.settings.slippage_of.Tie as tie
 
 returns : tie.Need-returns

@@ -1,7 +1,7 @@
 -- Field by field, what each call gives.
-use Rattle.records.specs.Settings.{termsOf}
-use borrow.Author.Needs.{needs}
-use Rattle.records.proofs.settings.terms_of.Statement.{statement}
+use Rattle.words.specs.Prelude.{needs}
+use Rattle.records.specs.{Settings.termsOf}
+use Rattle.records.proofs.{settings.terms_of.Statement.statement}
 use Rattle.records.proofs.settings.terms_of.Tie as tie
 
 returns : tie.Need-returns

@@ -1,7 +1,7 @@
 -- Field by field, what each call gives.
-use Rattle.records.specs.Settings.{settingsOf}
-use borrow.Author.Needs.{needs}
-use Rattle.records.proofs.settings.whole_settings.Statement.{statement}
+use Rattle.words.specs.Prelude.{needs}
+use Rattle.records.specs.{Settings.settingsOf}
+use Rattle.records.proofs.{settings.whole_settings.Statement.statement}
 use Rattle.records.proofs.settings.whole_settings.Tie as tie
 
 returns : tie.Need-returns

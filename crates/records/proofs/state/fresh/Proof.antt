@@ -1,7 +1,7 @@
 -- The account is the only part that a call makes.
-use Rattle.records.specs.State.{freshState}
-use borrow.Author.Needs.{needs}
-use Rattle.records.proofs.state.fresh.Statement.{statement}
+use Rattle.words.specs.Prelude.{needs}
+use Rattle.records.specs.{State.freshState}
+use Rattle.records.proofs.{state.fresh.Statement.statement}
 use Rattle.records.proofs.state.fresh.Tie as tie
 
 returns : tie.Need-returns

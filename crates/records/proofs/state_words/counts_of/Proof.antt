@@ -1,7 +1,7 @@
 -- Each field is read from its own word.
-use Rattle.records.specs.StateWords.{countsOf}
-use borrow.Author.Needs.{needs}
-use Rattle.records.proofs.state_words.counts_of.Statement.{statement}
+use Rattle.words.specs.Prelude.{needs}
+use Rattle.records.specs.{StateWords.countsOf}
+use Rattle.records.proofs.{state_words.counts_of.Statement.statement}
 use Rattle.records.proofs.state_words.counts_of.Tie as tie
 
 returns : tie.Need-returns

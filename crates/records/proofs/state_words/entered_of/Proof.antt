@@ -1,7 +1,7 @@
 -- The test is the definition's.
-use Rattle.records.specs.StateWords.{enteredOf}
-use borrow.Author.Tests.{eq-eqb, ne-eqb}
-use Rattle.records.proofs.state_words.entered_of.Statement.{statement}
+use Rattle.words.specs.Prelude.{eq-eqb, ne-eqb}
+use Rattle.records.specs.{StateWords.enteredOf}
+use Rattle.records.proofs.{state_words.entered_of.Statement.statement}
 use Rattle.records.proofs.state_words.entered_of.Tie as tie
 
 returns : tie.Need-returns

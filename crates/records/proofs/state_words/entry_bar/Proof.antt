@@ -1,7 +1,7 @@
 -- The definition goes by the same cases.
-use Rattle.records.specs.StateWords.{entryBar}
-use borrow.Author.Needs.{needs}
-use Rattle.records.proofs.state_words.entry_bar.Statement.{statement}
+use Rattle.words.specs.Prelude.{needs}
+use Rattle.records.specs.{StateWords.entryBar}
+use Rattle.records.proofs.{state_words.entry_bar.Statement.statement}
 use Rattle.records.proofs.state_words.entry_bar.Tie as tie
 
 returns : tie.Need-returns

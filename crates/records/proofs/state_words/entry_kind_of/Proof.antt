@@ -1,7 +1,7 @@
 -- Each kind's number picks its case; any other number none of them.
-use Rattle.records.specs.StateWords.{entryKindOf}
-use borrow.Author.Tests.{ne-eqb}
-use Rattle.records.proofs.state_words.entry_kind_of.Statement.{statement}
+use Rattle.words.specs.Prelude.{ne-eqb}
+use Rattle.records.specs.{StateWords.entryKindOf}
+use Rattle.records.proofs.{state_words.entry_kind_of.Statement.statement}
 use Rattle.records.proofs.state_words.entry_kind_of.Tie as tie
 
 pub entry-kind-of-spec : {M : Type 1} → statement M

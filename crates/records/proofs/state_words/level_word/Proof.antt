@@ -1,7 +1,7 @@
 -- The definition goes by the same cases.
-use Rattle.records.specs.StateWords.{levelWord}
-use borrow.Author.Needs.{needs}
-use Rattle.records.proofs.state_words.level_word.Statement.{statement}
+use Rattle.words.specs.Prelude.{needs}
+use Rattle.records.specs.{StateWords.levelWord}
+use Rattle.records.proofs.{state_words.level_word.Statement.statement}
 use Rattle.records.proofs.state_words.level_word.Tie as tie
 
 pub level-word-spec : {M : Type 1} → statement M

@@ -1,7 +1,7 @@
 -- The definition goes by the same cases.
-use Rattle.records.specs.StateWords.{limitWord}
-use borrow.Author.Needs.{needs}
-use Rattle.records.proofs.state_words.limit_word.Statement.{statement}
+use Rattle.words.specs.Prelude.{needs}
+use Rattle.records.specs.{StateWords.limitWord}
+use Rattle.records.proofs.{state_words.limit_word.Statement.statement}
 use Rattle.records.proofs.state_words.limit_word.Tie as tie
 
 pub limit-word-spec : {M : Type 1} → statement M

@@ -1,7 +1,7 @@
 -- The definition goes by the same cases.
-use Rattle.records.specs.StateWords.{orderDelay}
-use borrow.Author.Needs.{needs}
-use Rattle.records.proofs.state_words.order_delay.Statement.{statement}
+use Rattle.words.specs.Prelude.{needs}
+use Rattle.records.specs.{StateWords.orderDelay}
+use Rattle.records.proofs.{state_words.order_delay.Statement.statement}
 use Rattle.records.proofs.state_words.order_delay.Tie as tie
 
 returns : tie.Need-returns

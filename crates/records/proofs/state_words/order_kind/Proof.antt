@@ -1,7 +1,7 @@
 -- The definition goes by the same cases.
-use Rattle.records.specs.StateWords.{orderKind}
-use borrow.Author.Needs.{needs}
-use Rattle.records.proofs.state_words.order_kind.Statement.{statement}
+use Rattle.words.specs.Prelude.{needs}
+use Rattle.records.specs.{StateWords.orderKind}
+use Rattle.records.proofs.{state_words.order_kind.Statement.statement}
 use Rattle.records.proofs.state_words.order_kind.Tie as tie
 
 returns : tie.Need-returns

@@ -1,7 +1,7 @@
 -- Each kind's number picks its case; any other number none of them.
-use Rattle.records.specs.StateWords.{orderOf}
-use borrow.Author.Tests.{ne-eqb}
-use Rattle.records.proofs.state_words.order_of.Statement.{statement}
+use Rattle.words.specs.Prelude.{ne-eqb}
+use Rattle.records.specs.{StateWords.orderOf}
+use Rattle.records.proofs.{state_words.order_of.Statement.statement}
 use Rattle.records.proofs.state_words.order_of.Tie as tie
 
 returns : tie.Need-returns

@@ -1,7 +1,7 @@
 -- Field by field, what each call gives.
-use Rattle.records.specs.StateWords.{portfolioOf}
-use borrow.Author.Needs.{needs}
-use Rattle.records.proofs.state_words.portfolio_of.Statement.{statement}
+use Rattle.words.specs.Prelude.{needs}
+use Rattle.records.specs.{StateWords.portfolioOf}
+use Rattle.records.proofs.{state_words.portfolio_of.Statement.statement}
 use Rattle.records.proofs.state_words.portfolio_of.Tie as tie
 
 returns : tie.Need-returns

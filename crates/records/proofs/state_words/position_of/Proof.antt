@@ -1,7 +1,7 @@
 -- Part by part, what each call gives.
-use Rattle.records.specs.StateWords.{positionOf}
-use borrow.Author.Needs.{needs}
-use Rattle.records.proofs.state_words.position_of.Statement.{statement}
+use Rattle.words.specs.Prelude.{needs}
+use Rattle.records.specs.{StateWords.positionOf}
+use Rattle.records.proofs.{state_words.position_of.Statement.statement}
 use Rattle.records.proofs.state_words.position_of.Tie as tie
 
 returns : tie.Need-returns

@@ -1,8 +1,8 @@
 -- The words are the state's, one by one, and `put` writes them.
-use Rattle.records.specs.StateWords.{wordsOf}
-use Rattle.words.specs.Words.{overwrite}
-use borrow.Author.Needs.{needs}
-use Rattle.records.proofs.state_words.put_state.Statement.{statement}
+use Rattle.words.specs.Prelude.{needs}
+use Rattle.records.specs.{StateWords.wordsOf}
+use Rattle.words.specs.{Words.overwrite}
+use Rattle.records.proofs.{state_words.put_state.Statement.statement}
 use Rattle.records.proofs.state_words.put_state.Tie as tie
 
 returns : tie.Need-returns

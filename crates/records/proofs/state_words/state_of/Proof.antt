@@ -1,10 +1,8 @@
 -- A state is made of its first words, and of zeros where the list is short.
-use mathlib.Core.Path.{_∙_}
-use native.Mathlib.Omega.{arith}
-use borrow.Author.Needs.{needs}
-use Rattle.words.specs.Limits.{stateWords}
-use Rattle.records.specs.Laws.FirstWords.{padded-agree, state-agree}
-use Rattle.records.proofs.state_words.state_of.Statement.{statement}
+use Rattle.words.specs.Prelude.{_∙_, arith, needs}
+use Rattle.words.specs.{Limits.stateWords}
+use Rattle.records.specs.{Laws.FirstWords.padded-agree, Laws.FirstWords.state-agree}
+use Rattle.records.proofs.{state_words.state_of.Statement.statement}
 use Rattle.records.proofs.state_words.state_of.Tie as tie
 
 returns : tie.Need-returns

@@ -1,7 +1,7 @@
 -- The definition goes by the same cases.
-use Rattle.records.specs.StateWords.{waitsFor}
-use borrow.Author.Needs.{needs}
-use Rattle.records.proofs.state_words.waits_for.Statement.{statement}
+use Rattle.words.specs.Prelude.{needs}
+use Rattle.records.specs.{StateWords.waitsFor}
+use Rattle.records.proofs.{state_words.waits_for.Statement.statement}
 use Rattle.records.proofs.state_words.waits_for.Tie as tie
 
 pub waits-for-spec : {M : Type 1} → statement M

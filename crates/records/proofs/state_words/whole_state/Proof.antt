@@ -1,7 +1,7 @@
 -- Part by part, what each call gives.
-use Rattle.records.specs.StateWords.{stateOf}
-use borrow.Author.Needs.{needs}
-use Rattle.records.proofs.state_words.whole_state.Statement.{statement}
+use Rattle.words.specs.Prelude.{needs}
+use Rattle.records.specs.{StateWords.stateOf}
+use Rattle.records.proofs.{state_words.whole_state.Statement.statement}
 use Rattle.records.proofs.state_words.whole_state.Tie as tie
 
 returns : tie.Need-returns

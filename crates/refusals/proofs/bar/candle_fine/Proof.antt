@@ -1,10 +1,8 @@
 -- Test by test, from the last: those passed hold, and the first that does not decides.
-use mathlib.Core.Path.{_≡_, refl}
-use mathlib.Core.Bool.{Bool, true, false, _&&_}
-use Rattle.records.specs.Bar.{candleOf}
-use Rattle.refusals.specs.Laws.Descent.{so, not-so}
-use borrow.Author.Needs.{needs}
-use Rattle.refusals.proofs.bar.candle_fine.Statement.{statement}
+use Rattle.words.specs.Prelude.{_≡_, refl, Bool, true, false, _&&_, needs}
+use Rattle.records.specs.{Bar.candleOf}
+use Rattle.refusals.specs.{Laws.Descent.so, Laws.Descent.not-so}
+use Rattle.refusals.proofs.{bar.candle_fine.Statement.statement}
 use Rattle.refusals.proofs.bar.candle_fine.Tie as tie
 
 and-no : (b : Bool) → (b && false) ≡ false

@@ -1,9 +1,8 @@
 -- The candle is one test, the slots and the funding two more.
-use mathlib.Core.Path.{ap, _∙_}
-use Rattle.refusals.specs.Bar.{fundingFine, barLines}
-use Rattle.refusals.specs.Laws.Descent.{so, not-so, no-line, fine-line, bad-line}
-use borrow.Author.Needs.{needs}
-use Rattle.refusals.proofs.bar.judge_bar.Statement.{statement}
+use Rattle.words.specs.Prelude.{ap, _∙_, needs}
+use Rattle.refusals.specs.{Bar.fundingFine, Bar.barLines, Laws.Descent.so, Laws.Descent.not-so, Laws.Descent.no-line, Laws.Descent.fine-line}
+use Rattle.refusals.specs.{Laws.Descent.bad-line}
+use Rattle.refusals.proofs.{bar.judge_bar.Statement.statement}
 use Rattle.refusals.proofs.bar.judge_bar.Tie as tie
 
 returns : tie.Need-returns

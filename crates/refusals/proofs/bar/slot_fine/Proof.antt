@@ -1,8 +1,7 @@
 -- By the bit, then by the slot's number.
-use borrow.Author.Tests.{eq-eqb, le-ltb, lt-ltb, ne-eqb}
-use Rattle.refusals.specs.Bar.{bitFine}
-use borrow.Author.Needs.{needs}
-use Rattle.refusals.proofs.bar.slot_fine.Statement.{statement}
+use Rattle.words.specs.Prelude.{eq-eqb, le-ltb, lt-ltb, ne-eqb, needs}
+use Rattle.refusals.specs.{Bar.bitFine}
+use Rattle.refusals.proofs.{bar.slot_fine.Statement.statement}
 use Rattle.refusals.proofs.bar.slot_fine.Tie as tie
 
 returns : tie.Need-returns

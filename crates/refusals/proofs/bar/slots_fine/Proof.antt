@@ -1,15 +1,7 @@
 -- The mask is halved, so that its lowest bit is bit k; all bits below k are fine. Assumes nothing.
-use Prim.Native.Nat.{ℕ, _-_, _/_, _^_, _≤_}
-use mathlib.Core.Path.{_≡_, refl, sym, ap, _∙_}
-use mathlib.Core.Bool.{true}
-use native.Mathlib.Nat.{div-one}
-use native.Mathlib.Omega.{arith}
-use borrow.Author.Needs.{needs}
-use lib.ListN.{getD}
-use Rattle.refusals.specs.Bar.{every, slotFine, slotsFine}
-use Rattle.refusals.specs.Laws.Every.{every-more}
-use Rattle.refusals.proofs.Bits.{halved, all-fine, one-bad}
-use Rattle.refusals.proofs.bar.slots_fine.Statement.{statement}
+use Rattle.words.specs.Prelude.{ℕ, _-_, _/_, _^_, _≤_, _≡_, refl, sym, ap, _∙_, true, div-one, arith, needs, getD}
+use Rattle.refusals.specs.{Bar.every, Bar.slotFine, Bar.slotsFine, Laws.Every.every-more}
+use Rattle.refusals.proofs.{Bits.halved, Bits.all-fine, Bits.one-bad, bar.slots_fine.Statement.statement}
 use Rattle.refusals.proofs.bar.slots_fine.Tie as tie
 
 abbrev Inv-loop : tie.InvT-loop

@@ -1,7 +1,7 @@
 -- One bar, or whole bars. Assumes nothing.
-use borrow.Author.Needs.{needs}
-use Rattle.refusals.specs.Day.{wholeFor}
-use Rattle.refusals.proofs.day.are_for.Statement.{statement}
+use Rattle.words.specs.Prelude.{needs}
+use Rattle.refusals.specs.{Day.wholeFor}
+use Rattle.refusals.proofs.{day.are_for.Statement.statement}
 use Rattle.refusals.proofs.day.are_for.Tie as tie
 
 returns : tie.Need-returns

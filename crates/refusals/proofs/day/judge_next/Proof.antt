@@ -1,10 +1,7 @@
 -- The counts; then places and bar, each a block that is judged by itself.
-use mathlib.Core.Path.{_∙_}
-use Rattle.refusals.specs.Day.{nextLines}
-use Rattle.refusals.specs.Laws.Lines.{two-blocks}
-use Rattle.refusals.specs.Laws.Descent.{so, not-so, fine-line, bad-line}
-use borrow.Author.Needs.{needs}
-use Rattle.refusals.proofs.day.judge_next.Statement.{statement}
+use Rattle.words.specs.Prelude.{_∙_, needs}
+use Rattle.refusals.specs.{Day.nextLines, Laws.Lines.two-blocks, Laws.Descent.so, Laws.Descent.not-so, Laws.Descent.fine-line, Laws.Descent.bad-line}
+use Rattle.refusals.proofs.{day.judge_next.Statement.statement}
 use Rattle.refusals.proofs.day.judge_next.Tie as tie
 
 returns : tie.Need-returns

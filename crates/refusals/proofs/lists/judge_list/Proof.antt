@@ -1,10 +1,7 @@
 -- A bad step's place is below 1,024, so the sum fits. Assumes nothing.
-use mathlib.Core.Path.{sym, _∙_}
-use native.Mathlib.Omega.{arith}
-use Rattle.refusals.specs.Lines.{judged}
-use Rattle.refusals.specs.Laws.BadStep.{bad-below}
-use borrow.Author.Needs.{needs}
-use Rattle.refusals.proofs.lists.judge_list.Statement.{statement}
+use Rattle.words.specs.Prelude.{sym, _∙_, arith, needs}
+use Rattle.refusals.specs.{Lines.judged, Laws.BadStep.bad-below}
+use Rattle.refusals.proofs.{lists.judge_list.Statement.statement}
 use Rattle.refusals.proofs.lists.judge_list.Tie as tie
 
 add-place : tie.Need-add-place

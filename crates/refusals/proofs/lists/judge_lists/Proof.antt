@@ -1,8 +1,7 @@
 -- Each list is a block, judged by itself.
-use Rattle.refusals.specs.Lists.{listLines}
-use Rattle.refusals.specs.Laws.Descent.{fine-block, bad-block}
-use borrow.Author.Needs.{needs}
-use Rattle.refusals.proofs.lists.judge_lists.Statement.{statement}
+use Rattle.words.specs.Prelude.{needs}
+use Rattle.refusals.specs.{Lists.listLines, Laws.Descent.fine-block, Laws.Descent.bad-block}
+use Rattle.refusals.proofs.{lists.judge_lists.Statement.statement}
 use Rattle.refusals.proofs.lists.judge_lists.Tie as tie
 
 returns : tie.Need-returns

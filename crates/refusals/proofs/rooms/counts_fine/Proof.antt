@@ -1,6 +1,6 @@
 -- Test by test: those passed hold, and the first that does not decides.
-use borrow.Author.Tests.{lt-leb, le-leb}
-use Rattle.refusals.proofs.rooms.counts_fine.Statement.{statement}
+use Rattle.words.specs.Prelude.{lt-leb, le-leb}
+use Rattle.refusals.proofs.{rooms.counts_fine.Statement.statement}
 use Rattle.refusals.proofs.rooms.counts_fine.Tie as tie
 
 returns : tie.Need-returns

@@ -1,6 +1,6 @@
 -- By the cases of the entry bar.
-use borrow.Author.Needs.{needs}
-use Rattle.refusals.proofs.rooms.entry_below.Statement.{statement}
+use Rattle.words.specs.Prelude.{needs}
+use Rattle.refusals.proofs.{rooms.entry_below.Statement.statement}
 use Rattle.refusals.proofs.rooms.entry_below.Tie as tie
 
 returns-2 : tie.Need-returns-2

@@ -1,8 +1,7 @@
 -- Test by test: those passed hold, and the first that does not decides.
-use Rattle.rows.specs.History.{historyOf}
-use borrow.Author.Tests.{lt-leb, le-leb}
-use borrow.Author.Needs.{needs}
-use Rattle.refusals.proofs.rooms.held_fine.Statement.{statement}
+use Rattle.words.specs.Prelude.{lt-leb, le-leb, needs}
+use Rattle.rows.specs.{History.historyOf}
+use Rattle.refusals.proofs.{rooms.held_fine.Statement.statement}
 use Rattle.refusals.proofs.rooms.held_fine.Tie as tie
 
 returns : tie.Need-returns

@@ -1,8 +1,7 @@
 -- One line: no trade is to be closed, or it has a place.
-use Rattle.refusals.specs.Lines.{judged}
-use Rattle.refusals.specs.Rooms.{closeLines}
-use borrow.Author.Needs.{needs}
-use Rattle.refusals.proofs.rooms.judge_close.Statement.{statement}
+use Rattle.words.specs.Prelude.{needs}
+use Rattle.refusals.specs.{Lines.judged, Rooms.closeLines}
+use Rattle.refusals.proofs.{rooms.judge_close.Statement.statement}
 use Rattle.refusals.proofs.rooms.judge_close.Tie as tie
 
 returns : tie.Need-returns

@@ -1,8 +1,7 @@
 -- Line by line: those passed are fine, and the first that is not decides.
-use borrow.Author.Tests.{lt-ltb, le-ltb}
-use Rattle.refusals.specs.Rooms.{placeLines}
-use Rattle.refusals.specs.Laws.Descent.{no-line, fine-line, bad-line}
-use Rattle.refusals.proofs.rooms.judge_place.Statement.{statement}
+use Rattle.words.specs.Prelude.{lt-ltb, le-ltb}
+use Rattle.refusals.specs.{Rooms.placeLines, Laws.Descent.no-line, Laws.Descent.fine-line, Laws.Descent.bad-line}
+use Rattle.refusals.proofs.{rooms.judge_place.Statement.statement}
 use Rattle.refusals.proofs.rooms.judge_place.Tie as tie
 
 returns : tie.Need-returns

@@ -1,10 +1,8 @@
 -- One line: places for D rows.
-use borrow.Author.Tests.{lt-leb, le-leb}
-use Rattle.rows.specs.History.{historyOf}
-use Rattle.refusals.specs.Rooms.{roomLines}
-use Rattle.refusals.specs.Laws.Descent.{no-line, fine-line, bad-line}
-use borrow.Author.Needs.{needs}
-use Rattle.refusals.proofs.rooms.judge_room.Statement.{statement}
+use Rattle.words.specs.Prelude.{lt-leb, le-leb, needs}
+use Rattle.rows.specs.{History.historyOf}
+use Rattle.refusals.specs.{Rooms.roomLines, Laws.Descent.no-line, Laws.Descent.fine-line, Laws.Descent.bad-line}
+use Rattle.refusals.proofs.{rooms.judge_room.Statement.statement}
 use Rattle.refusals.proofs.rooms.judge_room.Tie as tie
 
 returns : tie.Need-returns

@@ -1,8 +1,7 @@
 -- Counts and rooms are one test each, and the entry bar a third.
-use Rattle.refusals.specs.Rooms.{stateLines}
-use Rattle.refusals.specs.Laws.Descent.{so, not-so, no-line, fine-line, bad-line}
-use borrow.Author.Needs.{needs}
-use Rattle.refusals.proofs.rooms.judge_state.Statement.{statement}
+use Rattle.words.specs.Prelude.{needs}
+use Rattle.refusals.specs.{Rooms.stateLines, Laws.Descent.so, Laws.Descent.not-so, Laws.Descent.no-line, Laws.Descent.fine-line, Laws.Descent.bad-line}
+use Rattle.refusals.proofs.{rooms.judge_state.Statement.statement}
 use Rattle.refusals.proofs.rooms.judge_state.Tie as tie
 
 returns : tie.Need-returns

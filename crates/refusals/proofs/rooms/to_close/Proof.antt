@@ -1,7 +1,7 @@
 -- In a position, and a bar was seen.
-use Rattle.refusals.specs.Rooms.{toClose}
-use borrow.Author.Needs.{needs}
-use Rattle.refusals.proofs.rooms.to_close.Statement.{statement}
+use Rattle.words.specs.Prelude.{needs}
+use Rattle.refusals.specs.{Rooms.toClose}
+use Rattle.refusals.proofs.{rooms.to_close.Statement.statement}
 use Rattle.refusals.proofs.rooms.to_close.Tie as tie
 
 returns : tie.Need-returns

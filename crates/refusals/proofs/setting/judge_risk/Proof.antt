@@ -1,8 +1,7 @@
 -- Line by line: those passed are fine, and the first that is not decides.
-use Rattle.refusals.specs.Settings.{riskLines}
-use Rattle.refusals.specs.Laws.Descent.{so, not-so, no-line, fine-line, bad-line}
-use borrow.Author.Needs.{needs}
-use Rattle.refusals.proofs.setting.judge_risk.Statement.{statement}
+use Rattle.words.specs.Prelude.{needs}
+use Rattle.refusals.specs.{Settings.riskLines, Laws.Descent.so, Laws.Descent.not-so, Laws.Descent.no-line, Laws.Descent.fine-line, Laws.Descent.bad-line}
+use Rattle.refusals.proofs.{setting.judge_risk.Statement.statement}
 use Rattle.refusals.proofs.setting.judge_risk.Tie as tie
 
 returns : tie.Need-returns

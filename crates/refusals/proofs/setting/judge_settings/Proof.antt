@@ -1,9 +1,8 @@
 -- Line by line: those of setting 1 are one test, then two blocks, those of terms and those of entries.
-use borrow.Author.Tests.{not-true, not-false, lt-leb, le-leb}
-use Rattle.refusals.specs.Settings.{settingLines}
-use Rattle.refusals.specs.Laws.Descent.{so, not-so, fine-line, bad-line, fine-block, bad-block}
-use borrow.Author.Needs.{needs}
-use Rattle.refusals.proofs.setting.judge_settings.Statement.{statement}
+use Rattle.words.specs.Prelude.{not-true, not-false, lt-leb, le-leb, needs}
+use Rattle.refusals.specs.{Settings.settingLines, Laws.Descent.so, Laws.Descent.not-so, Laws.Descent.fine-line, Laws.Descent.bad-line}
+use Rattle.refusals.specs.{Laws.Descent.fine-block, Laws.Descent.bad-block}
+use Rattle.refusals.proofs.{setting.judge_settings.Statement.statement}
 use Rattle.refusals.proofs.setting.judge_settings.Tie as tie
 
 returns : tie.Need-returns

@@ -1,8 +1,8 @@
 -- Settings 5 to 7, 9 and 10, and 12 to 16 are blocks, each judged by itself; the others are lines.
-use Rattle.refusals.specs.Settings.{termLines}
-use Rattle.refusals.specs.Laws.Descent.{so, not-so, no-line, fine-line, bad-line, fine-block, bad-block}
-use borrow.Author.Needs.{needs}
-use Rattle.refusals.proofs.setting.judge_terms.Statement.{statement}
+use Rattle.words.specs.Prelude.{needs}
+use Rattle.refusals.specs.{Settings.termLines, Laws.Descent.so, Laws.Descent.not-so, Laws.Descent.no-line, Laws.Descent.fine-line, Laws.Descent.bad-line}
+use Rattle.refusals.specs.{Laws.Descent.fine-block, Laws.Descent.bad-block}
+use Rattle.refusals.proofs.{setting.judge_terms.Statement.statement}
 use Rattle.refusals.proofs.setting.judge_terms.Tie as tie
 
 returns : tie.Need-returns

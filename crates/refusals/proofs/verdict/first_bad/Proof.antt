@@ -1,6 +1,6 @@
 -- By the first of the two.
-use borrow.Author.Needs.{needs}
-use Rattle.refusals.proofs.verdict.first_bad.Statement.{statement}
+use Rattle.words.specs.Prelude.{needs}
+use Rattle.refusals.proofs.{verdict.first_bad.Statement.statement}
 use Rattle.refusals.proofs.verdict.first_bad.Tie as tie
 
 returns-2 : tie.Need-returns-2

@@ -1,5 +1,5 @@
 -- By the test.
-use Rattle.refusals.proofs.verdict.line.Statement.{statement}
+use Rattle.refusals.proofs.{verdict.line.Statement.statement}
 use Rattle.refusals.proofs.verdict.line.Tie as tie
 
 pub line-spec : {M : Type 1} → statement M

@@ -1,7 +1,6 @@
 -- Two parts turned round, and then both as one. Assumes nothing.
-use borrow.Author.Needs.{needs}
-use Rattle.rows.proofs.Turning.{places-changed}
-use Rattle.rows.proofs.ring.change_places.Statement.{statement}
+use Rattle.words.specs.Prelude.{needs}
+use Rattle.rows.proofs.{Turning.places-changed, ring.change_places.Statement.statement}
 use Rattle.rows.proofs.ring.change_places.Tie as tie
 
 returns : tie.Need-returns

@@ -1,7 +1,7 @@
 -- The test is that of the definition. Assumes nothing.
-use borrow.Author.Tests.{lt-ltb, le-ltb}
-use Rattle.rows.specs.Ring.{startWithin}
-use Rattle.rows.proofs.ring.first_of.Statement.{statement}
+use Rattle.words.specs.Prelude.{lt-ltb, le-ltb}
+use Rattle.rows.specs.{Ring.startWithin}
+use Rattle.rows.proofs.{ring.first_of.Statement.statement}
 use Rattle.rows.proofs.ring.first_of.Tie as tie
 
 pub first-of-spec : {M : Type 1} → statement M

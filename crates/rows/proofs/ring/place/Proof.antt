@@ -1,11 +1,7 @@
 -- The tests are those of the definition, with nothing that wraps. Assumes nothing.
-use borrow.Author.Needs.{needs}
-use borrow.Author.Tests.{lt-ltb, le-ltb}
-use native.Mathlib.Omega.{arith}
-use mathlib.Core.Path.{_≡_}
-use Prim.Native.Nat.{_+_, _-_}
-use Rattle.rows.specs.Ring.{ringPlace}
-use Rattle.rows.proofs.ring.place.Statement.{statement}
+use Rattle.words.specs.Prelude.{needs, lt-ltb, le-ltb, arith, _≡_, _+_, _-_}
+use Rattle.rows.specs.{Ring.ringPlace}
+use Rattle.rows.proofs.{ring.place.Statement.statement}
 use Rattle.rows.proofs.ring.place.Tie as tie
 
 pub place-spec : {M : Type 1} → statement M

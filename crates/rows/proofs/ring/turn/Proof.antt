@@ -1,13 +1,8 @@
 -- Whole rows change places; a row number that is none turns nothing. Assumes nothing.
-use borrow.Author.Needs.{needs}
-use native.Mathlib.Omega.{arith}
-use mathlib.Core.Path.{_≡_, sym}
-use Prim.Native.Nat.{_/_, _*_, _≤_}
-use lib.ListN.{length}
-use native.Mathlib.Nat.{div-zero, div-mul-le-self, mul-le-mul-right}
-use Rattle.rows.specs.Ring.{turned}
-use Rattle.rows.specs.Laws.Turned.{turned-none, turned-past}
-use Rattle.rows.proofs.ring.turn.Statement.{statement}
+use Rattle.words.specs.Prelude.{needs, arith, _≡_, sym, _/_, _*_, _≤_, length, div-mul-le-self, mul-le-mul-right}
+use Rattle.rows.specs.{Ring.turned, Laws.Turned.turned-none, Laws.Turned.turned-past}
+use Rattle.rows.proofs.{ring.turn.Statement.statement}
+use native.Mathlib.Nat.{div-zero}
 use Rattle.rows.proofs.ring.turn.Tie as tie
 
 -- the rows before `start` are some of those that there are, and these end by the room's end

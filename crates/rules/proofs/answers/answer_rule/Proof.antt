@@ -1,7 +1,6 @@
 -- The table's refusals first, then 13, then what the tree says: the flat reading's answer is the tree's. Assumes nothing.
-use borrow.Author.Needs.{needs}
-use Rattle.rules.proofs.Judged.{refused, unwhole, unright, answers}
-use Rattle.rules.proofs.answers.answer_rule.Statement.{statement}
+use Rattle.words.specs.Prelude.{needs}
+use Rattle.rules.proofs.{Judged.refused, Judged.unwhole, Judged.unright, Judged.answers, answers.answer_rule.Statement.statement}
 use Rattle.rules.proofs.answers.answer_rule.Tie as tie
 
 returns : tie.Need-returns

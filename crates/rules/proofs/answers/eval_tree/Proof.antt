@@ -1,8 +1,7 @@
 -- An absent tree is told by its count; any other is evaluated at its root. Assumes nothing.
-use borrow.Author.Needs.{needs}
-use borrow.Author.Tests.{eq-eqb, ne-eqb}
-use Rattle.rules.specs.Meaning.{says}
-use Rattle.rules.proofs.answers.eval_tree.Statement.{statement}
+use Rattle.words.specs.Prelude.{needs, eq-eqb, ne-eqb}
+use Rattle.rules.specs.{Meaning.says}
+use Rattle.rules.proofs.{answers.eval_tree.Statement.statement}
 use Rattle.rules.proofs.answers.eval_tree.Tie as tie
 
 pub eval-tree-spec : {M : Type 1} → statement M

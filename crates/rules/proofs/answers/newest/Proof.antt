@@ -1,8 +1,7 @@
 -- The count less 1, 0 where there is none. Assumes nothing.
-use borrow.Author.Needs.{needs}
-use native.Mathlib.Omega.{arith}
-use Rattle.rules.specs.Meaning.{newest}
-use Rattle.rules.proofs.answers.newest.Statement.{statement}
+use Rattle.words.specs.Prelude.{needs, arith}
+use Rattle.rules.specs.{Meaning.newest}
+use Rattle.rules.proofs.{answers.newest.Statement.statement}
 use Rattle.rules.proofs.answers.newest.Tie as tie
 
 pub newest-spec : {M : Type 1} → statement M

@@ -1,8 +1,7 @@
 -- One return for each way the counts can stand. Assumes nothing.
-use borrow.Author.Needs.{needs}
-use borrow.Author.Tests.{le-leb, lt-leb}
-use Rattle.rules.specs.Answers.{stateRight}
-use Rattle.rules.proofs.answers.state_right.Statement.{statement}
+use Rattle.words.specs.Prelude.{needs, le-leb, lt-leb}
+use Rattle.rules.specs.{Answers.stateRight}
+use Rattle.rules.proofs.{answers.state_right.Statement.statement}
 use Rattle.rules.proofs.answers.state_right.Tie as tie
 
 pub state-right-spec : {M : Type 1} → statement M

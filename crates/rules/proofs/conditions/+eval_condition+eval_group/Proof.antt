@@ -1,16 +1,10 @@
 -- Each return is a case of `holds` at the condition that stands at the node; what is left of the nesting falls, and a group
 -- comes just above the conditions in it. The loop's invariant: the group says what is left of it says. Assumes nothing.
-use mathlib.Core.Path.{_≡_, refl, sym}
-use native.Mathlib.Omega.{arith}
-use borrow.Author.Needs.{needs}
-use Rattle.rows.specs.History.{historyOf}
-use Rattle.rules.specs.Meaning.{holds}
-use Rattle.rules.specs.Flat.{growConditions, group, growCondition, conditionAt}
-use Rattle.rules.proofs.Grown.{no-condition, grown-condition}
-use Rattle.rules.proofs.Groups.{group-none, group-on, group-off, group-front, group-end}
-use Prim.Native.Nat.{ℕ, _+_, _*_, _<_}
-use borrow.Fn.Kinds.{In}
-use borrow.Fn.PlainCycle.{Measures, is, falls, and}
+use Rattle.words.specs.Prelude.{_≡_, refl, sym, arith, needs, ℕ, _+_, _*_, _<_, In, Measures, is, falls, and}
+use Rattle.rows.specs.{History.historyOf}
+use Rattle.rules.specs.{Meaning.holds, Flat.growConditions, Flat.group, Flat.growCondition, Flat.conditionAt}
+use Rattle.rules.proofs.{Grown.no-condition, Grown.grown-condition, Groups.group-none, Groups.group-on, Groups.group-off, Groups.group-front}
+use Rattle.rules.proofs.{Groups.group-end, conditions.+eval_condition+eval_group.statement, conditions.+eval_condition+eval_group.Tie.close}
 use Rattle.rules.proofs.conditions.eval_condition.Reads as eval-condition
 use Rattle.rules.proofs.conditions.eval_condition.Kinds as eval-condition-kinds
 use Rattle.rules.proofs.conditions.+eval_condition+eval_group.Lts-eval_condition as eval-condition-lts
@@ -25,8 +19,6 @@ use Rattle.rules.proofs.conditions.in_position.Reads as in-position-rea
 use Rattle.rules.proofs.shapes.condition_shape.Reads as condition-shape-reads
 use Rattle.rules.proofs.shapes.end_in.Reads as end-in-reads
 use Rattle.rules.proofs.values.since_entry.Reads as since-entry-reads
-use Rattle.rules.proofs.conditions.+eval_condition+eval_group.{statement}
-use Rattle.rules.proofs.conditions.+eval_condition+eval_group.Tie.{close}
 
 abbrev μ-eval-condition : Measures 3 eval-condition-kinds.ps ℕ
 μ-eval-condition κs a = 2 * a .1 .1 .1 .1 .1 .1 .1 .0

@@ -1,6 +1,6 @@
 -- The comparison of the three values. Assumes nothing.
-use borrow.Author.Needs.{needs}
-use Rattle.rules.proofs.conditions.between.Statement.{statement}
+use Rattle.words.specs.Prelude.{needs}
+use Rattle.rules.proofs.{conditions.between.Statement.statement}
 use Rattle.rules.proofs.conditions.between.Tie as tie
 
 pub between-spec : {M : Type 1} → statement M

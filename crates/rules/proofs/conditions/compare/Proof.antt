@@ -1,6 +1,6 @@
 -- The comparison of the two values. Assumes nothing.
-use borrow.Author.Needs.{needs}
-use Rattle.rules.proofs.conditions.compare.Statement.{statement}
+use Rattle.words.specs.Prelude.{needs}
+use Rattle.rules.proofs.{conditions.compare.Statement.statement}
 use Rattle.rules.proofs.conditions.compare.Tie as tie
 
 pub compare-spec : {M : Type 1} → statement M

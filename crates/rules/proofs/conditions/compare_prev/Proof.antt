@@ -1,7 +1,6 @@
 -- No where there is no bar n back; else the comparison of the two values. Assumes nothing.
-use borrow.Author.Needs.{needs}
-use borrow.Author.Tests.{lt-ltb, le-ltb}
-use Rattle.rules.proofs.conditions.compare_prev.Statement.{statement}
+use Rattle.words.specs.Prelude.{needs, lt-ltb, le-ltb}
+use Rattle.rules.proofs.{conditions.compare_prev.Statement.statement}
 use Rattle.rules.proofs.conditions.compare_prev.Tie as tie
 
 pub compare-prev-spec : {M : Type 1} → statement M

@@ -1,7 +1,6 @@
 -- No at bar 0; else the cross of the four values. Assumes nothing.
-use borrow.Author.Needs.{needs}
-use borrow.Author.Tests.{eq-eqb, ne-eqb}
-use Rattle.rules.proofs.conditions.cross.Statement.{statement}
+use Rattle.words.specs.Prelude.{needs, eq-eqb, ne-eqb}
+use Rattle.rules.proofs.{conditions.cross.Statement.statement}
 use Rattle.rules.proofs.conditions.cross.Tie as tie
 
 pub cross-spec : {M : Type 1} → statement M

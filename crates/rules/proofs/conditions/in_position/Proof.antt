@@ -1,6 +1,6 @@
 -- What is wanted picks the answer. Assumes nothing.
-use borrow.Author.Needs.{needs}
-use Rattle.rules.proofs.conditions.in_position.Statement.{statement}
+use Rattle.words.specs.Prelude.{needs}
+use Rattle.rules.proofs.{conditions.in_position.Statement.statement}
 use Rattle.rules.proofs.conditions.in_position.Tie as tie
 
 pub in-position-spec : {M : Type 1} → statement M

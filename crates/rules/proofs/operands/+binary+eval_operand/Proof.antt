@@ -1,15 +1,11 @@
 -- Each return is a case of `value` at the operand that stands at the node; what is left of the nesting falls, and `binary`
 -- comes just above the operands that it calls. Assumes nothing.
-use mathlib.Core.Path.{sym}
-use borrow.Author.Needs.{needs}
-use Rattle.rows.specs.History.{historyOf}
-use Rattle.rules.specs.Values.{both}
-use Rattle.rules.specs.Flat.{growOperand}
-use Rattle.rules.specs.Laws.Meaning.{past, const-value, ref-value, price-value, early-value, prev-value, arith-value, extreme-value}
-use Rattle.rules.proofs.Grown.{no-operand, grown-operand, below, above}
-use Prim.Native.Nat.{ℕ, _+_, _*_, _<_}
-use borrow.Fn.Kinds.{In}
-use borrow.Fn.PlainCycle.{Measures, is, falls, and}
+use Rattle.words.specs.Prelude.{sym, needs, ℕ, _+_, _*_, _<_, In, Measures, is, falls, and}
+use Rattle.rows.specs.{History.historyOf}
+use Rattle.rules.specs.{Values.both, Flat.growOperand, Laws.Meaning.past, Laws.Meaning.const-value, Laws.Meaning.ref-value, Laws.Meaning.price-value}
+use Rattle.rules.specs.{Laws.Meaning.early-value, Laws.Meaning.prev-value, Laws.Meaning.arith-value, Laws.Meaning.extreme-value}
+use Rattle.rules.proofs.{Grown.no-operand, Grown.grown-operand, Grown.below, Grown.above, operands.+binary+eval_operand.statement}
+use Rattle.rules.proofs.{operands.+binary+eval_operand.Tie.close}
 use Rattle.rules.proofs.operands.binary.Reads as binary
 use Rattle.rules.proofs.operands.binary.Kinds as binary-kinds
 use Rattle.rules.proofs.operands.+binary+eval_operand.Lts-binary as binary-lts
@@ -24,8 +20,6 @@ use Rattle.rules.proofs.shapes.operand_shape.Reads as operand-shape-rea
 use Rattle.rules.proofs.operands.extreme_of_bar.Reads as extreme-of-bar-reads
 use Rattle.table.proofs.series.series_in.Reads as series-in-reads
 use Rattle.rules.proofs.values.combine.Reads as combine-reads
-use Rattle.rules.proofs.operands.+binary+eval_operand.{statement}
-use Rattle.rules.proofs.operands.+binary+eval_operand.Tie.{close}
 
 abbrev μ-binary : Measures 3 binary-kinds.ps ℕ
 μ-binary κs a = 2 * a .1 .1 .1 .1 .1 .1 .1 .1 .0 + 1

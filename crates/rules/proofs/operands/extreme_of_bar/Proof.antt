@@ -1,12 +1,8 @@
 -- Too few bars before it, or all of them. Assumes nothing.
-use borrow.Author.Needs.{needs}
-use Prim.Native.Nat.{_-_, _≤_, _<_}
-use mathlib.Core.Path.{_≡_, sym, ap}
-use native.Mathlib.Omega.{arith}
-use Rattle.rows.specs.History.{historyOf}
-use Rattle.rules.specs.Meaning.{extremeOver}
-use Rattle.rules.specs.Laws.Meaning.{extreme-early, extreme-late}
-use Rattle.rules.proofs.operands.extreme_of_bar.Statement.{statement}
+use Rattle.words.specs.Prelude.{needs, _-_, _≤_, _<_, _≡_, sym, ap, arith}
+use Rattle.rows.specs.{History.historyOf}
+use Rattle.rules.specs.{Meaning.extremeOver, Laws.Meaning.extreme-early, Laws.Meaning.extreme-late}
+use Rattle.rules.proofs.{operands.extreme_of_bar.Statement.statement}
 use Rattle.rules.proofs.operands.extreme_of_bar.Tie as tie
 
 pub extreme-of-bar-spec : {M : Type 1} → statement M

@@ -1,6 +1,6 @@
 -- A price or a slot. Assumes nothing.
-use borrow.Author.Needs.{needs}
-use Rattle.rules.proofs.operands.extreme_over.Statement.{statement}
+use Rattle.words.specs.Prelude.{needs}
+use Rattle.rules.proofs.{operands.extreme_over.Statement.statement}
 use Rattle.rules.proofs.operands.extreme_over.Tie as tie
 
 pub extreme-over-spec : {M : Type 1} → statement M

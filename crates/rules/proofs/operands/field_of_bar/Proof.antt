@@ -1,11 +1,8 @@
 -- The row of a bar that is there lies within the list, so its place fits; the price is the word after the time. Assumes nothing.
-use borrow.Author.Needs.{needs}
-use native.Mathlib.Omega.{arith}
-use borrow.Author.Tests.{lt-ltb}
-use Rattle.rows.specs.History.{historyOf}
-use Rattle.rows.specs.Laws.RowEnds.{row-ends}
-use Rattle.rules.specs.Values.{priceOf}
-use Rattle.rules.proofs.operands.field_of_bar.Statement.{statement}
+use Rattle.words.specs.Prelude.{needs, arith, lt-ltb}
+use Rattle.rows.specs.{History.historyOf, Laws.RowEnds.row-ends}
+use Rattle.rules.specs.{Values.priceOf}
+use Rattle.rules.proofs.{operands.field_of_bar.Statement.statement}
 use Rattle.rules.proofs.operands.field_of_bar.Tie as tie
 
 pub field-of-bar-spec : {M : Type 1} → statement M

@@ -1,9 +1,7 @@
 -- The row of a bar that is there lies within the list, so its place fits. Assumes nothing.
-use borrow.Author.Needs.{needs}
-use native.Mathlib.Omega.{arith}
-use Rattle.rows.specs.History.{historyOf}
-use Rattle.rows.specs.Laws.RowEnds.{row-ends}
-use Rattle.rules.proofs.operands.price_of_bar.Statement.{statement}
+use Rattle.words.specs.Prelude.{needs, arith}
+use Rattle.rows.specs.{History.historyOf, Laws.RowEnds.row-ends}
+use Rattle.rules.proofs.{operands.price_of_bar.Statement.statement}
 use Rattle.rules.proofs.operands.price_of_bar.Tie as tie
 
 pub price-of-bar-spec : {M : Type 1} → statement M

@@ -1,17 +1,9 @@
 -- One word of each row, or the loop; its invariant: the best so far is that of the bars up to the one reached. Assumes nothing.
-use borrow.Author.Needs.{needs}
-use Prim.Native.Nat.{ℕ, _+_, _-_, _≤_, _<_}
-use mathlib.Core.Path.{_≡_, ap, _∙_}
-use native.Mathlib.Omega.{arith}
-use native.Mathlib.Nat.{le-refl}
-use lib.Ieee.{Float}
-use Rattle.rows.specs.History.{historyOf}
-use Rattle.table.specs.declared.series.Series.the-variants.{Price}
-use Rattle.rules.specs.declared.values.Value.the-variants.{Number}
-use Rattle.rules.specs.Values.{took}
-use Rattle.rules.specs.Meaning.{extremeOver}
-use Rattle.rules.specs.Laws.Meaning.{price-one, price-more}
-use Rattle.rules.proofs.operands.price_over.Statement.{statement}
+use Rattle.words.specs.Prelude.{needs, ℕ, _+_, _-_, _≤_, _<_, _≡_, ap, _∙_, arith, le-refl, Float}
+use Rattle.rows.specs.{History.historyOf}
+use Rattle.table.specs.{declared.series.Series.the-variants.Price}
+use Rattle.rules.specs.{declared.values.Value.the-variants.Number, Values.took, Meaning.extremeOver, Laws.Meaning.price-one, Laws.Meaning.price-more}
+use Rattle.rules.proofs.{operands.price_over.Statement.statement}
 use Rattle.rules.proofs.operands.price_over.Tie as tie
 
 abbrev Inv-loop : tie.InvT-loop

@@ -1,14 +1,9 @@
 -- The loop's invariant: the best so far is that of the bars up to the one reached. Assumes nothing.
-use borrow.Author.Needs.{needs}
-use Prim.Native.Nat.{ℕ, _+_, _-_, _≤_, _<_}
-use mathlib.Core.Path.{_≡_, sym, ap, _∙_}
-use native.Mathlib.Omega.{arith}
-use native.Mathlib.Nat.{le-refl}
-use Rattle.rows.specs.History.{historyOf}
-use Rattle.table.specs.declared.series.Series.the-variants.{Slot}
-use Rattle.rules.specs.Meaning.{extremeOver}
-use Rattle.rules.specs.Laws.Meaning.{slot-series, extreme-one, extreme-more}
-use Rattle.rules.proofs.operands.slot_over.Statement.{statement}
+use Rattle.words.specs.Prelude.{needs, ℕ, _+_, _-_, _≤_, _<_, _≡_, sym, ap, _∙_, arith, le-refl}
+use Rattle.rows.specs.{History.historyOf}
+use Rattle.table.specs.{declared.series.Series.the-variants.Slot}
+use Rattle.rules.specs.{Meaning.extremeOver, Laws.Meaning.slot-series, Laws.Meaning.extreme-one, Laws.Meaning.extreme-more}
+use Rattle.rules.proofs.{operands.slot_over.Statement.statement}
 use Rattle.rules.proofs.operands.slot_over.Tie as tie
 
 abbrev Inv-loop : tie.InvT-loop

@@ -1,7 +1,7 @@
 -- One return for each class. Assumes nothing.
-use borrow.Author.Needs.{needs}
-use Rattle.rules.specs.Shapes.{conditionOf}
-use Rattle.rules.proofs.shapes.condition_of.Statement.{statement}
+use Rattle.words.specs.Prelude.{needs}
+use Rattle.rules.specs.{Shapes.conditionOf}
+use Rattle.rules.proofs.{shapes.condition_of.Statement.statement}
 use Rattle.rules.proofs.shapes.condition_of.Tie as tie
 
 pub condition-of-spec : {M : Type 1} → statement M

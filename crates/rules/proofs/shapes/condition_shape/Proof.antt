@@ -1,8 +1,7 @@
 -- The test on the place, and then the node's own shape by its kind's row. Assumes nothing.
-use borrow.Author.Needs.{needs}
-use borrow.Author.Tests.{le-leb, lt-leb}
-use Rattle.rules.specs.Shapes.{conditionShape}
-use Rattle.rules.proofs.shapes.condition_shape.Statement.{statement}
+use Rattle.words.specs.Prelude.{needs, le-leb, lt-leb}
+use Rattle.rules.specs.{Shapes.conditionShape}
+use Rattle.rules.proofs.{shapes.condition_shape.Statement.statement}
 use Rattle.rules.proofs.shapes.condition_shape.Tie as tie
 
 pub condition-shape-spec : {M : Type 1} → statement M

@@ -1,8 +1,7 @@
 -- The test is the definition's. Assumes nothing.
-use borrow.Author.Needs.{needs}
-use borrow.Author.Tests.{lt-ltb, le-ltb}
-use Rattle.rules.specs.Shapes.{endIn}
-use Rattle.rules.proofs.shapes.end_in.Statement.{statement}
+use Rattle.words.specs.Prelude.{needs, lt-ltb, le-ltb}
+use Rattle.rules.specs.{Shapes.endIn}
+use Rattle.rules.proofs.{shapes.end_in.Statement.statement}
 use Rattle.rules.proofs.shapes.end_in.Tie as tie
 
 pub end-in-spec : {M : Type 1} → statement M

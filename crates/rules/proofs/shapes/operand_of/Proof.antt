@@ -1,7 +1,7 @@
 -- One return for each class. Assumes nothing.
-use borrow.Author.Needs.{needs}
-use Rattle.rules.specs.Shapes.{operandOf}
-use Rattle.rules.proofs.shapes.operand_of.Statement.{statement}
+use Rattle.words.specs.Prelude.{needs}
+use Rattle.rules.specs.{Shapes.operandOf}
+use Rattle.rules.proofs.{shapes.operand_of.Statement.statement}
 use Rattle.rules.proofs.shapes.operand_of.Tie as tie
 
 pub operand-of-spec : {M : Type 1} → statement M

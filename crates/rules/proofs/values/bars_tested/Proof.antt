@@ -1,7 +1,7 @@
 -- Each return is what `barsTested` says where the tests that led there hold. Assumes nothing.
-use borrow.Author.Tests.{eq-eqb, ne-eqb}
-use Rattle.rules.specs.Values.{barsTested}
-use Rattle.rules.proofs.values.bars_tested.Statement.{statement}
+use Rattle.words.specs.Prelude.{eq-eqb, ne-eqb}
+use Rattle.rules.specs.{Values.barsTested}
+use Rattle.rules.proofs.{values.bars_tested.Statement.statement}
 use Rattle.rules.proofs.values.bars_tested.Tie as tie
 
 pub bars-tested-spec : {M : Type 1} → statement M

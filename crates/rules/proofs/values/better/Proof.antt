@@ -1,7 +1,7 @@
 -- By the kind. Assumes nothing.
-use borrow.Author.Tests.{eq-eqb, ne-eqb}
-use Rattle.rules.specs.Values.{better}
-use Rattle.rules.proofs.values.better.Statement.{statement}
+use Rattle.words.specs.Prelude.{eq-eqb, ne-eqb}
+use Rattle.rules.specs.{Values.better}
+use Rattle.rules.proofs.{values.better.Statement.statement}
 use Rattle.rules.proofs.values.better.Tie as tie
 
 pub better-spec : {M : Type 1} → statement M

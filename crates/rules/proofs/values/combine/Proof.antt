@@ -1,8 +1,7 @@
 -- Each return is what `combine` says where the tests that led there hold. Assumes nothing.
-use borrow.Author.Needs.{needs}
-use borrow.Author.Tests.{eq-eqb, ne-eqb}
-use Rattle.rules.specs.Values.{combine}
-use Rattle.rules.proofs.values.combine.Statement.{statement}
+use Rattle.words.specs.Prelude.{needs, eq-eqb, ne-eqb}
+use Rattle.rules.specs.{Values.combine}
+use Rattle.rules.proofs.{values.combine.Statement.statement}
 use Rattle.rules.proofs.values.combine.Tie as tie
 
 pub combine-spec : {M : Type 1} → statement M

@@ -1,7 +1,7 @@
 -- One return for each case of the two values. Assumes nothing.
-use borrow.Author.Needs.{needs}
-use Rattle.rules.specs.Values.{compared}
-use Rattle.rules.proofs.values.compared.Statement.{statement}
+use Rattle.words.specs.Prelude.{needs}
+use Rattle.rules.specs.{Values.compared}
+use Rattle.rules.proofs.{values.compared.Statement.statement}
 use Rattle.rules.proofs.values.compared.Tie as tie
 
 pub compared-spec : {M : Type 1} → statement M

@@ -1,8 +1,7 @@
 -- Each return is what `crossed` says where the tests that led there hold. Assumes nothing.
-use borrow.Author.Needs.{needs}
-use borrow.Author.Tests.{eq-eqb, ne-eqb}
-use Rattle.rules.specs.Values.{crossed}
-use Rattle.rules.proofs.values.crossed.Statement.{statement}
+use Rattle.words.specs.Prelude.{needs, eq-eqb, ne-eqb}
+use Rattle.rules.specs.{Values.crossed}
+use Rattle.rules.proofs.{values.crossed.Statement.statement}
 use Rattle.rules.proofs.values.crossed.Tie as tie
 
 pub crossed-spec : {M : Type 1} → statement M

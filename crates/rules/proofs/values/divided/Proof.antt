@@ -1,8 +1,7 @@
 -- The test on the divisor is the definition's. Assumes nothing.
-use borrow.Author.Needs.{needs}
-use Rattle.rules.specs.Values.{divide}
-use Rattle.rules.proofs.Words.{nan-is}
-use Rattle.rules.proofs.values.divided.Statement.{statement}
+use Rattle.words.specs.Prelude.{needs}
+use Rattle.rules.specs.{Values.divide}
+use Rattle.rules.proofs.{Words.nan-is, values.divided.Statement.statement}
 use Rattle.rules.proofs.values.divided.Tie as tie
 
 pub divided-spec : {M : Type 1} → statement M

@@ -1,7 +1,7 @@
 -- The test is the definition's. Assumes nothing.
-use borrow.Author.Needs.{needs}
-use Rattle.rules.specs.Values.{held}
-use Rattle.rules.proofs.values.in_position.Statement.{statement}
+use Rattle.words.specs.Prelude.{needs}
+use Rattle.rules.specs.{Values.held}
+use Rattle.rules.proofs.{values.in_position.Statement.statement}
 use Rattle.rules.proofs.values.in_position.Tie as tie
 
 pub in-position-spec : {M : Type 1} → statement M

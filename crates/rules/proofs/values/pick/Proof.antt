@@ -1,7 +1,7 @@
 -- One return for each case of the two values. Assumes nothing.
-use borrow.Author.Needs.{needs}
-use Rattle.rules.specs.Values.{pick}
-use Rattle.rules.proofs.values.pick.Statement.{statement}
+use Rattle.words.specs.Prelude.{needs}
+use Rattle.rules.specs.{Values.pick}
+use Rattle.rules.proofs.{values.pick.Statement.statement}
 use Rattle.rules.proofs.values.pick.Tie as tie
 
 pub pick-spec : {M : Type 1} → statement M

@@ -1,8 +1,7 @@
 -- Each return is what `priceOf` says where the tests that led there hold. Assumes nothing.
-use borrow.Author.Needs.{needs}
-use borrow.Author.Tests.{eq-eqb, ne-eqb, lt-ltb, le-ltb}
-use Rattle.rules.specs.Values.{priceOf}
-use Rattle.rules.proofs.values.price_at.Statement.{statement}
+use Rattle.words.specs.Prelude.{needs, eq-eqb, ne-eqb, lt-ltb, le-ltb}
+use Rattle.rules.specs.{Values.priceOf}
+use Rattle.rules.proofs.{values.price_at.Statement.statement}
 use Rattle.rules.proofs.values.price_at.Tie as tie
 
 pub price-at-spec : {M : Type 1} → statement M

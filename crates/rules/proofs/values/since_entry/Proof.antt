@@ -1,7 +1,7 @@
 -- One return for each way to say no, and one for the count. Assumes nothing.
-use borrow.Author.Needs.{needs}
-use Rattle.rules.specs.Values.{countedSince}
-use Rattle.rules.proofs.values.since_entry.Statement.{statement}
+use Rattle.words.specs.Prelude.{needs}
+use Rattle.rules.specs.{Values.countedSince}
+use Rattle.rules.proofs.{values.since_entry.Statement.statement}
 use Rattle.rules.proofs.values.since_entry.Tie as tie
 
 returns : tie.Need-returns

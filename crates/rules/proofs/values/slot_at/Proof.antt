@@ -1,11 +1,7 @@
 -- A slot at or above 64 has no bit; below, the bit decides. Assumes nothing.
-use borrow.Author.Needs.{needs}
-use borrow.Author.Tests.{eq-eqb, ne-eqb}
-use native.Mathlib.Omega.{arith}
-use Prim.Native.Nat.{_<_}
-use Rattle.rules.specs.Values.{slotOf}
-use Rattle.rules.proofs.Words.{no-bit}
-use Rattle.rules.proofs.values.slot_at.Statement.{statement}
+use Rattle.words.specs.Prelude.{needs, eq-eqb, ne-eqb, arith, _<_}
+use Rattle.rules.specs.{Values.slotOf}
+use Rattle.rules.proofs.{Words.no-bit, values.slot_at.Statement.statement}
 use Rattle.rules.proofs.values.slot_at.Tie as tie
 
 returns : tie.Need-returns

@@ -1,8 +1,7 @@
 -- Each return is what `tested` says where the tests that led there hold. Assumes nothing.
-use borrow.Author.Needs.{needs}
-use borrow.Author.Tests.{eq-eqb, ne-eqb}
-use Rattle.rules.specs.Values.{tested}
-use Rattle.rules.proofs.values.test.Statement.{statement}
+use Rattle.words.specs.Prelude.{needs, eq-eqb, ne-eqb}
+use Rattle.rules.specs.{Values.tested}
+use Rattle.rules.proofs.{values.test.Statement.statement}
 use Rattle.rules.proofs.values.test.Tie as tie
 
 pub test-spec : {M : Type 1} → statement M

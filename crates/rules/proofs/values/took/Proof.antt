@@ -1,7 +1,7 @@
 -- The later one where it is better. Assumes nothing.
-use borrow.Author.Needs.{needs}
-use Rattle.rules.specs.Values.{took}
-use Rattle.rules.proofs.values.took.Statement.{statement}
+use Rattle.words.specs.Prelude.{needs}
+use Rattle.rules.specs.{Values.took}
+use Rattle.rules.proofs.{values.took.Statement.statement}
 use Rattle.rules.proofs.values.took.Tie as tie
 
 pub took-spec : {M : Type 1} → statement M

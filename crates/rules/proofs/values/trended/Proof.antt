@@ -1,8 +1,7 @@
 -- The kind picks the comparison. Assumes nothing.
-use borrow.Author.Needs.{needs}
-use borrow.Author.Tests.{eq-eqb, ne-eqb}
-use Rattle.rules.specs.Values.{trended}
-use Rattle.rules.proofs.values.trended.Statement.{statement}
+use Rattle.words.specs.Prelude.{needs, eq-eqb, ne-eqb}
+use Rattle.rules.specs.{Values.trended}
+use Rattle.rules.proofs.{values.trended.Statement.statement}
 use Rattle.rules.proofs.values.trended.Tie as tie
 
 pub trended-spec : {M : Type 1} → statement M

@@ -1,7 +1,7 @@
 -- The first comparison decides where it is no. Assumes nothing.
-use borrow.Author.Needs.{needs}
-use Rattle.rules.specs.Values.{within}
-use Rattle.rules.proofs.values.within.Statement.{statement}
+use Rattle.words.specs.Prelude.{needs}
+use Rattle.rules.specs.{Values.within}
+use Rattle.rules.proofs.{values.within.Statement.statement}
 use Rattle.rules.proofs.values.within.Tie as tie
 
 pub within-spec : {M : Type 1} → statement M

@@ -1,7 +1,7 @@
 -- The tests are those of the definition.
-use borrow.Author.Needs.{needs}
-use Rattle.steps.specs.Choice.{exitList}
-use Rattle.steps.proofs.choice.exit_list.Statement.{statement}
+use Rattle.words.specs.Prelude.{needs}
+use Rattle.steps.specs.{Choice.exitList}
+use Rattle.steps.proofs.{choice.exit_list.Statement.statement}
 use Rattle.steps.proofs.choice.exit_list.Tie as tie
 
 pub exit-list-spec : {M : Type 1} → statement M

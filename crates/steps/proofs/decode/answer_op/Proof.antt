@@ -1,7 +1,7 @@
 -- The tests are those of the definition, in its order.
-use borrow.Author.Tests.{eq-eqb, le-ltb, lt-ltb, ne-eqb}
-use Rattle.steps.specs.Bytes.{answerOp}
-use Rattle.steps.proofs.decode.answer_op.Statement.{statement}
+use Rattle.words.specs.Prelude.{eq-eqb, le-ltb, lt-ltb, ne-eqb}
+use Rattle.steps.specs.{Bytes.answerOp}
+use Rattle.steps.proofs.{decode.answer_op.Statement.statement}
 use Rattle.steps.proofs.decode.answer_op.Tie as tie
 
 pub answer-op-spec : {M : Type 1} → statement M

@@ -1,7 +1,7 @@
 -- Both halves are below 2^32, so nothing wraps.
-use borrow.Author.Needs.{needs}
-use Rattle.table.specs.Bytes.{u64}
-use Rattle.steps.proofs.decode.eight_at.Statement.{statement}
+use Rattle.words.specs.Prelude.{needs}
+use Rattle.table.specs.{Bytes.u64}
+use Rattle.steps.proofs.{decode.eight_at.Statement.statement}
 use Rattle.steps.proofs.decode.eight_at.Tie as tie
 
 pub eight-at-spec : {M : Type 1} → statement M

@@ -1,9 +1,7 @@
 -- The test is that of the definition.
-use borrow.Author.Needs.{needs}
-use borrow.Author.Tests.{lt-ltb, le-ltb}
-use native.Mathlib.Omega.{arith}
-use Rattle.steps.specs.Bytes.{extremeOp}
-use Rattle.steps.proofs.decode.extreme_op.Statement.{statement}
+use Rattle.words.specs.Prelude.{needs, lt-ltb, le-ltb, arith}
+use Rattle.steps.specs.{Bytes.extremeOp}
+use Rattle.steps.proofs.{decode.extreme_op.Statement.statement}
 use Rattle.steps.proofs.decode.extreme_op.Tie as tie
 
 pub extreme-op-spec : {M : Type 1} → statement M

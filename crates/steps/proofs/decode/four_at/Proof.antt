@@ -1,8 +1,7 @@
 -- Both halves are below 2^16, so nothing wraps.
-use borrow.Author.Needs.{needs}
-use native.Mathlib.Omega.{arith}
-use Rattle.table.specs.Bytes.{u32}
-use Rattle.steps.proofs.decode.four_at.Statement.{statement}
+use Rattle.words.specs.Prelude.{needs, arith}
+use Rattle.table.specs.{Bytes.u32}
+use Rattle.steps.proofs.{decode.four_at.Statement.statement}
 use Rattle.steps.proofs.decode.four_at.Tie as tie
 
 pub four-at-spec : {M : Type 1} → statement M

@@ -1,7 +1,7 @@
 -- The tests are those of the definition.
-use borrow.Author.Tests.{lt-leb, le-leb}
-use Rattle.steps.specs.Bytes.{isComparison}
-use Rattle.steps.proofs.decode.is_comparison.Statement.{statement}
+use Rattle.words.specs.Prelude.{lt-leb, le-leb}
+use Rattle.steps.specs.{Bytes.isComparison}
+use Rattle.steps.proofs.{decode.is_comparison.Statement.statement}
 use Rattle.steps.proofs.decode.is_comparison.Tie as tie
 
 pub is-comparison-spec : {M : Type 1} → statement M

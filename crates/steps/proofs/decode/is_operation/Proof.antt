@@ -1,7 +1,7 @@
 -- The tests are those of the definition.
-use borrow.Author.Tests.{lt-leb, le-leb}
-use Rattle.steps.specs.Bytes.{isOperation}
-use Rattle.steps.proofs.decode.is_operation.Statement.{statement}
+use Rattle.words.specs.Prelude.{lt-leb, le-leb}
+use Rattle.steps.specs.{Bytes.isOperation}
+use Rattle.steps.proofs.{decode.is_operation.Statement.statement}
 use Rattle.steps.proofs.decode.is_operation.Tie as tie
 
 pub is-operation-spec : {M : Type 1} → statement M

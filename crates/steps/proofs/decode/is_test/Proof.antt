@@ -1,8 +1,7 @@
 -- The tests are those of the definition.
-use borrow.Author.Needs.{needs}
-use borrow.Author.Tests.{lt-leb, le-leb}
-use Rattle.steps.specs.Bytes.{isTest}
-use Rattle.steps.proofs.decode.is_test.Statement.{statement}
+use Rattle.words.specs.Prelude.{needs, lt-leb, le-leb}
+use Rattle.steps.specs.{Bytes.isTest}
+use Rattle.steps.proofs.{decode.is_test.Statement.statement}
 use Rattle.steps.proofs.decode.is_test.Tie as tie
 
 pub is-test-spec : {M : Type 1} → statement M

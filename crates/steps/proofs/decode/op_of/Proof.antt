@@ -1,8 +1,7 @@
 -- The tests are those of the definition, in its order.
-use borrow.Author.Needs.{needs}
-use borrow.Author.Tests.{le-ltb, lt-ltb}
-use Rattle.steps.specs.Bytes.{opOf}
-use Rattle.steps.proofs.decode.op_of.Statement.{statement}
+use Rattle.words.specs.Prelude.{needs, le-ltb, lt-ltb}
+use Rattle.steps.specs.{Bytes.opOf}
+use Rattle.steps.proofs.{decode.op_of.Statement.statement}
 use Rattle.steps.proofs.decode.op_of.Tie as tie
 
 pub op-of-spec : {M : Type 1} → statement M

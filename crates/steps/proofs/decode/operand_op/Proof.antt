@@ -1,11 +1,7 @@
 -- The tests are those of the definition, in its order.
-use borrow.Author.Needs.{needs}
-use mathlib.Core.Path.{sym, _∙_}
-use native.Mathlib.Omega.{arith}
-use borrow.Author.Tests.{eq-eqb, le-leb, lt-leb, le-ltb, lt-ltb, ne-eqb}
-use Rattle.steps.specs.Bytes.{operandOp}
-use Rattle.steps.specs.Laws.Classes.{operation-out}
-use Rattle.steps.proofs.decode.operand_op.Statement.{statement}
+use Rattle.words.specs.Prelude.{needs, sym, _∙_, arith, eq-eqb, le-leb, lt-leb, le-ltb, lt-ltb, ne-eqb}
+use Rattle.steps.specs.{Bytes.operandOp, Laws.Classes.operation-out}
+use Rattle.steps.proofs.{decode.operand_op.Statement.statement}
 use Rattle.steps.proofs.decode.operand_op.Tie as tie
 
 pub operand-op-spec : {M : Type 1} → statement M

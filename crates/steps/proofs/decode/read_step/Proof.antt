@@ -1,7 +1,7 @@
 -- Field by field.
-use borrow.Author.Needs.{needs}
-use Rattle.steps.specs.Bytes.{readStep}
-use Rattle.steps.proofs.decode.read_step.Statement.{statement}
+use Rattle.words.specs.Prelude.{needs}
+use Rattle.steps.specs.{Bytes.readStep}
+use Rattle.steps.proofs.{decode.read_step.Statement.statement}
 use Rattle.steps.proofs.decode.read_step.Tie as tie
 
 pub read-step-spec : {M : Type 1} → statement M

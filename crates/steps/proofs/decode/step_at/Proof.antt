@@ -1,8 +1,7 @@
 -- A place below the number of whole steps has its 16 bytes in the list.
-use borrow.Author.Needs.{needs}
-use borrow.Author.Tests.{lt-ltb}
-use Rattle.steps.specs.Bytes.{stepAt}
-use Rattle.steps.proofs.decode.step_at.Statement.{statement}
+use Rattle.words.specs.Prelude.{needs, lt-ltb}
+use Rattle.steps.specs.{Bytes.stepAt}
+use Rattle.steps.proofs.{decode.step_at.Statement.statement}
 use Rattle.steps.proofs.decode.step_at.Tie as tie
 
 pub step-at-spec : {M : Type 1} → statement M

@@ -1,9 +1,7 @@
 -- The tests are those of the definition, in its order.
-use borrow.Author.Needs.{needs}
-use borrow.Author.Tests.{eq-eqb, le-ltb, lt-ltb, ne-eqb}
-use mathlib.Core.Path.{sym, _∙_}
-use Rattle.steps.specs.Bytes.{testOp}
-use Rattle.steps.proofs.decode.test_op.Statement.{statement}
+use Rattle.words.specs.Prelude.{needs, eq-eqb, le-ltb, lt-ltb, ne-eqb, sym, _∙_}
+use Rattle.steps.specs.{Bytes.testOp}
+use Rattle.steps.proofs.{decode.test_op.Statement.statement}
 use Rattle.steps.proofs.decode.test_op.Tie as tie
 
 pub test-op-spec : {M : Type 1} → statement M

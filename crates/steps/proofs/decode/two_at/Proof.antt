@@ -1,8 +1,7 @@
 -- Both bytes are below 256, so nothing wraps.
-use borrow.Author.Needs.{needs}
-use native.Mathlib.Omega.{arith}
-use Rattle.table.specs.Bytes.{u16}
-use Rattle.steps.proofs.decode.two_at.Statement.{statement}
+use Rattle.words.specs.Prelude.{needs, arith}
+use Rattle.table.specs.{Bytes.u16}
+use Rattle.steps.proofs.{decode.two_at.Statement.statement}
 use Rattle.steps.proofs.decode.two_at.Tie as tie
 
 pub two-at-spec : {M : Type 1} → statement M

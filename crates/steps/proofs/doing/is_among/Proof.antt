@@ -1,6 +1,6 @@
 -- The tests are those of the contract.
-use borrow.Author.Tests.{lt-leb, le-leb}
-use Rattle.steps.proofs.doing.is_among.Statement.{statement}
+use Rattle.words.specs.Prelude.{lt-leb, le-leb}
+use Rattle.steps.proofs.{doing.is_among.Statement.statement}
 use Rattle.steps.proofs.doing.is_among.Tie as tie
 
 pub is-among-spec : {M : Type 1} → statement M

@@ -1,6 +1,6 @@
 -- The test is that of the definition.
-use borrow.Author.Needs.{needs}
-use Rattle.steps.proofs.doing.position.Statement.{statement}
+use Rattle.words.specs.Prelude.{needs}
+use Rattle.steps.proofs.{doing.position.Statement.statement}
 use Rattle.steps.proofs.doing.position.Tie as tie
 
 pub position-spec : {M : Type 1} → statement M

@@ -1,11 +1,9 @@
 -- Kind by kind.
-use borrow.Author.Needs.{needs}
-use Prim.Native.Nat.{_≤_}
-use native.Mathlib.Omega.{arith}
-use Rattle.steps.specs.Machine.{effect}
-use Rattle.rules.specs.Meaning.{holds}
-use Rattle.steps.proofs.Said.{says-answer, says-turn, says-in-position, says-bars, says-nothing-early, says-nothing-late}
-use Rattle.steps.proofs.doing.said.Statement.{statement}
+use Rattle.words.specs.Prelude.{needs, _≤_, arith}
+use Rattle.steps.specs.{Machine.effect}
+use Rattle.rules.specs.{Meaning.holds}
+use Rattle.steps.proofs.{Said.says-answer, Said.says-turn, Said.says-in-position, Said.says-bars, Said.says-nothing-early, Said.says-nothing-late}
+use Rattle.steps.proofs.{doing.said.Statement.statement}
 use Rattle.steps.proofs.doing.said.Tie as tie
 
 pub said-spec : {M : Type 1} → statement M

@@ -1,8 +1,6 @@
 -- Missing where there are not more than n rows.
-use borrow.Author.Needs.{needs}
-use mathlib.Core.Path.{sym}
-use Rattle.steps.proofs.Rows.{ago-const, ago-late}
-use Rattle.steps.proofs.leaves.const_ago.Statement.{statement}
+use Rattle.words.specs.Prelude.{needs, sym}
+use Rattle.steps.proofs.{Rows.ago-const, Rows.ago-late, leaves.const_ago.Statement.statement}
 use Rattle.steps.proofs.leaves.const_ago.Tie as tie
 
 pub const-ago-spec : {M : Type 1} → statement M

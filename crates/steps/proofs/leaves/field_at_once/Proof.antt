@@ -1,10 +1,7 @@
 -- The test is that of the definition; where it fails, nothing is told.
-use borrow.Author.Needs.{needs}
-use borrow.Author.Tests.{lt-ltb}
-use mathlib.Core.Path.{sym}
-use mathlib.Core.Bool.{true≢false}
-use Rattle.rules.specs.Values.{priceOf}
-use Rattle.steps.proofs.leaves.field_at_once.Statement.{statement}
+use Rattle.words.specs.Prelude.{needs, lt-ltb, sym, true≢false}
+use Rattle.rules.specs.{Values.priceOf}
+use Rattle.steps.proofs.{leaves.field_at_once.Statement.statement}
 use Rattle.steps.proofs.leaves.field_at_once.Tie as tie
 
 pub field-at-once-spec : {M : Type 1} → statement M

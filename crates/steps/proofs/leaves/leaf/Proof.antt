@@ -1,6 +1,6 @@
 -- At once, or else the long way.
-use borrow.Author.Needs.{needs}
-use Rattle.steps.proofs.leaves.leaf.Statement.{statement}
+use Rattle.words.specs.Prelude.{needs}
+use Rattle.steps.proofs.{leaves.leaf.Statement.statement}
 use Rattle.steps.proofs.leaves.leaf.Tie as tie
 
 pub leaf-spec : {M : Type 1} → statement M

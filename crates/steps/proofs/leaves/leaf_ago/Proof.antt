@@ -1,12 +1,8 @@
 -- Kind by kind.
-use borrow.Author.Needs.{needs}
-use mathlib.Core.Path.{_≡_}
-use native.Mathlib.Omega.{arith}
-use Rattle.rows.specs.Ring.{ringOf}
-use Rattle.steps.specs.Machine.{effect}
-use Rattle.steps.proofs.Rows.{ring-held}
-use Rattle.steps.proofs.Said.{says-const, says-ref, says-price}
-use Rattle.steps.proofs.leaves.leaf_ago.Statement.{statement}
+use Rattle.words.specs.Prelude.{needs, _≡_, arith}
+use Rattle.rows.specs.{Ring.ringOf}
+use Rattle.steps.specs.{Machine.effect}
+use Rattle.steps.proofs.{Rows.ring-held, Said.says-const, Said.says-ref, Said.says-price, leaves.leaf_ago.Statement.statement}
 use Rattle.steps.proofs.leaves.leaf_ago.Tie as tie
 
 pub leaf-ago-spec : {M : Type 1} → statement M

@@ -1,16 +1,10 @@
 -- A row that is there lies within the words; then kind by kind.
-use borrow.Author.Needs.{needs}
-use native.Mathlib.Omega.{arith}
-use mathlib.Core.Path.{_≡_, sym}
-use mathlib.Core.Bool.{true≢false}
-use Prim.Native.Nat.{ℕ, _+_, _-_, _*_, _<_, _≤_}
-use lib.ListN.{length}
-use Rattle.rows.specs.Ring.{ringPlace, ringOf}
-use Rattle.table.specs.Trees.{ref, price}
-use Rattle.steps.specs.Machine.{ago, effect}
-use Rattle.steps.proofs.Rows.{ring-held, place-ends, ago-const, ago-price, ago-ref}
-use Rattle.steps.proofs.Said.{says-const, says-ref, says-price}
-use Rattle.steps.proofs.leaves.leaf_at_once.Statement.{statement}
+use Rattle.words.specs.Prelude.{needs, arith, _≡_, sym, true≢false, ℕ, _+_, _-_, _*_, _<_, _≤_, length}
+use Rattle.rows.specs.{Ring.ringPlace, Ring.ringOf}
+use Rattle.table.specs.{Trees.ref, Trees.price}
+use Rattle.steps.specs.{Machine.ago, Machine.effect}
+use Rattle.steps.proofs.{Rows.ring-held, Rows.place-ends, Rows.ago-const, Rows.ago-price, Rows.ago-ref, Said.says-const, Said.says-ref, Said.says-price}
+use Rattle.steps.proofs.{leaves.leaf_at_once.Statement.statement}
 use Rattle.steps.proofs.leaves.leaf_at_once.Tie as tie
 
 -- the row ends by the words' end

@@ -1,11 +1,7 @@
 -- It stands no row before the newest.
-use borrow.Author.Needs.{needs}
-use mathlib.Core.Path.{sym, ap, _∙_}
-use native.Mathlib.Nat.{sub-zero}
-use Prim.Native.Nat.{ℕ, _+_, _-_, _*_}
-use Rattle.rows.specs.Ring.{ringPlace}
-use Rattle.steps.proofs.Rows.{place-none}
-use Rattle.steps.proofs.leaves.newest_row.Statement.{statement}
+use Rattle.words.specs.Prelude.{needs, sym, ap, _∙_, sub-zero, ℕ, _+_, _-_, _*_}
+use Rattle.rows.specs.{Ring.ringPlace}
+use Rattle.steps.proofs.{Rows.place-none, leaves.newest_row.Statement.statement}
 use Rattle.steps.proofs.leaves.newest_row.Tie as tie
 
 pub newest-row-spec : {M : Type 1} → statement M

@@ -1,8 +1,7 @@
 -- Each return is what `priceOf` says where the tests that led there hold.
-use borrow.Author.Needs.{needs}
-use borrow.Author.Tests.{eq-eqb, ne-eqb, lt-ltb, le-ltb}
-use Rattle.rules.specs.Values.{priceOf}
-use Rattle.steps.proofs.leaves.price_in.Statement.{statement}
+use Rattle.words.specs.Prelude.{needs, eq-eqb, ne-eqb, lt-ltb, le-ltb}
+use Rattle.rules.specs.{Values.priceOf}
+use Rattle.steps.proofs.{leaves.price_in.Statement.statement}
 use Rattle.steps.proofs.leaves.price_in.Tie as tie
 
 pub price-in-spec : {M : Type 1} → statement M

@@ -1,8 +1,6 @@
 -- Missing where there are not more than n rows.
-use borrow.Author.Needs.{needs}
-use mathlib.Core.Path.{sym}
-use Rattle.steps.proofs.Rows.{ring-held, ago-ref, ago-late}
-use Rattle.steps.proofs.leaves.ref_ago.Statement.{statement}
+use Rattle.words.specs.Prelude.{needs, sym}
+use Rattle.steps.proofs.{Rows.ring-held, Rows.ago-ref, Rows.ago-late, leaves.ref_ago.Statement.statement}
 use Rattle.steps.proofs.leaves.ref_ago.Tie as tie
 
 pub ref-ago-spec : {M : Type 1} → statement M

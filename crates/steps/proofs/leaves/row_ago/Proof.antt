@@ -1,12 +1,7 @@
 -- A row that is there lies within the words, so nothing wraps.
-use borrow.Author.Needs.{needs}
-use borrow.Author.Tests.{lt-ltb, le-ltb}
-use native.Mathlib.Omega.{arith}
-use Prim.Native.Nat.{ℕ, _+_, _-_, _*_, _<_, _≤_}
-use lib.ListN.{length}
-use Rattle.rows.specs.Laws.RowEnds.{row-ends}
-use Rattle.steps.proofs.Rows.{place-ago}
-use Rattle.steps.proofs.leaves.row_ago.Statement.{statement}
+use Rattle.words.specs.Prelude.{needs, lt-ltb, le-ltb, arith, ℕ, _+_, _-_, _*_, _<_, _≤_, length}
+use Rattle.rows.specs.{Laws.RowEnds.row-ends}
+use Rattle.steps.proofs.{Rows.place-ago, leaves.row_ago.Statement.statement}
 use Rattle.steps.proofs.leaves.row_ago.Tie as tie
 
 -- row i ends by the words' end

@@ -1,10 +1,7 @@
 -- No row before the newest is the newest.
-use borrow.Author.Needs.{needs}
-use mathlib.Core.Path.{_≡_, ap, _∙_}
-use native.Mathlib.Omega.{arith}
-use Prim.Native.Nat.{ℕ, _+_, _-_, _*_}
-use Rattle.rows.specs.Ring.{ringPlace}
-use Rattle.steps.proofs.leaves.row_back.Statement.{statement}
+use Rattle.words.specs.Prelude.{needs, _≡_, ap, _∙_, arith, ℕ, _+_, _-_, _*_}
+use Rattle.rows.specs.{Ring.ringPlace}
+use Rattle.steps.proofs.{leaves.row_back.Statement.statement}
 use Rattle.steps.proofs.leaves.row_back.Tie as tie
 
 pub row-back-spec : {M : Type 1} → statement M

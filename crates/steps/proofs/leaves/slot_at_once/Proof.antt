@@ -1,8 +1,6 @@
 -- Where the row does not have it, nothing is told.
-use borrow.Author.Needs.{needs}
-use mathlib.Core.Path.{sym}
-use mathlib.Core.Bool.{true≢false}
-use Rattle.steps.proofs.leaves.slot_at_once.Statement.{statement}
+use Rattle.words.specs.Prelude.{needs, sym, true≢false}
+use Rattle.steps.proofs.{leaves.slot_at_once.Statement.statement}
 use Rattle.steps.proofs.leaves.slot_at_once.Tie as tie
 
 pub slot-at-once-spec : {M : Type 1} → statement M

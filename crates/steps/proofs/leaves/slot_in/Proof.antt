@@ -1,8 +1,7 @@
 -- The test of the bit is that of the definition.
-use borrow.Author.Needs.{needs}
-use borrow.Author.Tests.{eq-eqb, ne-eqb}
-use Rattle.rules.specs.Values.{slotOf}
-use Rattle.steps.proofs.leaves.slot_in.Statement.{statement}
+use Rattle.words.specs.Prelude.{needs, eq-eqb, ne-eqb}
+use Rattle.rules.specs.{Values.slotOf}
+use Rattle.steps.proofs.{leaves.slot_in.Statement.statement}
 use Rattle.steps.proofs.leaves.slot_in.Tie as tie
 
 pub slot-in-spec : {M : Type 1} → statement M

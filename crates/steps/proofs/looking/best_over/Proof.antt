@@ -1,16 +1,10 @@
 -- The loop's invariant: the best so far is that of the rows up to the one reached.
-use borrow.Author.Needs.{needs}
-use Prim.Native.Nat.{ℕ, _+_, _-_, _≤_}
-use mathlib.Core.Path.{_≡_, sym, ap, _∙_}
-use native.Mathlib.Omega.{arith}
-use native.Mathlib.Nat.{le-refl}
-use Rattle.rows.specs.Ring.{ringOf}
-use Rattle.rules.specs.declared.values.Value.the-variants.{Number}
-use Rattle.rules.specs.Values.{pick}
-use Rattle.rules.specs.Meaning.{extremeOver}
-use Rattle.rules.specs.Laws.Meaning.{extreme-one, extreme-more, any-missing}
-use Rattle.steps.specs.Looks.{overOf}
-use Rattle.steps.proofs.looking.best_over.Statement.{statement}
+use Rattle.words.specs.Prelude.{needs, ℕ, _+_, _-_, _≤_, _≡_, sym, ap, _∙_, arith, le-refl}
+use Rattle.rows.specs.{Ring.ringOf}
+use Rattle.rules.specs.{declared.values.Value.the-variants.Number, Values.pick, Meaning.extremeOver, Laws.Meaning.extreme-one, Laws.Meaning.extreme-more}
+use Rattle.rules.specs.{Laws.Meaning.any-missing}
+use Rattle.steps.specs.{Looks.overOf}
+use Rattle.steps.proofs.{looking.best_over.Statement.statement}
 use Rattle.steps.proofs.looking.best_over.Tie as tie
 
 abbrev Inv-loop : tie.InvT-loop

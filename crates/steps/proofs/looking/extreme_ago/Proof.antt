@@ -1,17 +1,11 @@
 -- Missing where the newest or the oldest of the rows is not there.
-use borrow.Author.Needs.{needs}
-use native.Mathlib.Omega.{arith}
-use mathlib.Core.Path.{_≡_, sym, _∙_}
-use Prim.Native.Nat.{ℕ, _-_, _<_, _≤_}
-use Rattle.rows.specs.History.{History}
-use Rattle.table.specs.declared.series.Series.{Series}
-use Rattle.table.specs.Trees.{extreme}
-use Rattle.rules.specs.declared.values.Value.the-variants.{Missing}
-use Rattle.rules.specs.Meaning.{extremeOver}
-use Rattle.rules.specs.Laws.Meaning.{extreme-value, extreme-early, extreme-late}
-use Rattle.steps.specs.Machine.{ago}
-use Rattle.steps.proofs.Rows.{ring-held, there-ago, ago-late}
-use Rattle.steps.proofs.looking.extreme_ago.Statement.{statement}
+use Rattle.words.specs.Prelude.{needs, arith, _≡_, sym, _∙_, ℕ, _-_, _<_, _≤_}
+use Rattle.rows.specs.{History.History}
+use Rattle.table.specs.{declared.series.Series.Series, Trees.extreme}
+use Rattle.rules.specs.{declared.values.Value.the-variants.Missing, Meaning.extremeOver, Laws.Meaning.extreme-value, Laws.Meaning.extreme-early}
+use Rattle.rules.specs.{Laws.Meaning.extreme-late}
+use Rattle.steps.specs.{Machine.ago}
+use Rattle.steps.proofs.{Rows.ring-held, Rows.there-ago, Rows.ago-late, looking.extreme_ago.Statement.statement}
 use Rattle.steps.proofs.looking.extreme_ago.Tie as tie
 
 module _ (h : History) (kind : ℕ) (over : Series) (n back held : ℕ) (is : held ≡ h .rows) (near : back < held) where

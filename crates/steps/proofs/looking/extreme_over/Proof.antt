@@ -1,12 +1,9 @@
 -- Missing where the oldest row does not have it.
-use borrow.Author.Needs.{needs}
-use Prim.Native.Nat.{_+_, _-_}
-use mathlib.Core.Path.{_≡_, sym, _∙_}
-use native.Mathlib.Omega.{arith}
-use Rattle.rows.specs.Ring.{ringOf}
-use Rattle.rules.specs.Laws.Meaning.{any-missing}
-use Rattle.steps.specs.Looks.{overOf}
-use Rattle.steps.proofs.looking.extreme_over.Statement.{statement}
+use Rattle.words.specs.Prelude.{needs, _+_, _-_, _≡_, sym, _∙_, arith}
+use Rattle.rows.specs.{Ring.ringOf}
+use Rattle.rules.specs.{Laws.Meaning.any-missing}
+use Rattle.steps.specs.{Looks.overOf}
+use Rattle.steps.proofs.{looking.extreme_over.Statement.statement}
 use Rattle.steps.proofs.looking.extreme_over.Tie as tie
 
 pub extreme-over-spec : {M : Type 1} → statement M

@@ -1,11 +1,7 @@
 -- Rows that do not have the slot: the first of them stops it.
-use borrow.Author.Needs.{needs}
-use Prim.Native.Nat.{ℕ, _+_, _*_}
-use mathlib.Core.Path.{_≡_, sym, ap, _∙_}
-use mathlib.Core.Bool.{true≢false}
-use native.Mathlib.Omega.{arith}
-use Rattle.rules.specs.Values.{wordsFrom, slotOf}
-use Rattle.steps.proofs.looking.pass.Statement.{statement}
+use Rattle.words.specs.Prelude.{needs, ℕ, _+_, _*_, _≡_, sym, ap, _∙_, true≢false, arith}
+use Rattle.rules.specs.{Values.wordsFrom, Values.slotOf}
+use Rattle.steps.proofs.{looking.pass.Statement.statement}
 use Rattle.steps.proofs.looking.pass.Tie as tie
 
 first-row : tie.Need-returns-2

@@ -1,17 +1,8 @@
 -- The loop's invariant: so many rows are passed over, and the one after them begins at `at`.
-use borrow.Author.Needs.{needs}
-use Prim.Native.Nat.{ℕ, _+_, _-_, _*_, _<_, _≤_}
-use mathlib.Core.Path.{_≡_, refl, sym, ap, _∙_}
-use mathlib.Core.Bool.{true}
-use mathlib.Core.Logic.{⊎-elim}
-use native.Mathlib.Omega.{arith}
-use native.Mathlib.Nat.{mul-le-mul-right}
-use lib.ListN.{length}
-use Rattle.rules.specs.declared.values.Value.{Value}
-use Rattle.rules.specs.Values.{wordsFrom}
-use Rattle.steps.specs.Looks.{overOf, ofRow, PassedOver, Stopped}
-use Rattle.steps.proofs.Looks.{not-higher, not-lower, passed-more}
-use Rattle.steps.proofs.looking.pass_rows.Statement.{statement}
+use Rattle.words.specs.Prelude.{needs, ℕ, _+_, _-_, _*_, _<_, _≤_, _≡_, refl, sym, ap, _∙_, true, ⊎-elim, arith, mul-le-mul-right, length}
+use Rattle.rules.specs.{declared.values.Value.Value, Values.wordsFrom}
+use Rattle.steps.specs.{Looks.overOf, Looks.ofRow, Looks.PassedOver, Looks.Stopped}
+use Rattle.steps.proofs.{Looks.not-higher, Looks.not-lower, Looks.passed-more, looking.pass_rows.Statement.statement}
 use Rattle.steps.proofs.looking.pass_rows.Tie as tie
 
 abbrev Inv-loop : tie.InvT-loop

@@ -1,14 +1,9 @@
 -- As many rows as follow before the words' end are passed over at most, so they stand one after the other.
-use borrow.Author.Needs.{needs}
-use Prim.Native.Nat.{_+_, _-_, _*_, _<_, _≤_}
-use mathlib.Core.Path.{sym, _∙_}
-use native.Mathlib.Omega.{arith}
-use lib.ListN.{length}
-use Rattle.rows.specs.Laws.Ring.{place-within}
-use Rattle.steps.specs.Looks.{overOf}
-use Rattle.steps.proofs.Rows.{place-ends}
-use Rattle.steps.proofs.Looks.{no-more, at-row, at-end, rows-end, series-after, passed-on}
-use Rattle.steps.proofs.looking.passed_from.Statement.{statement}
+use Rattle.words.specs.Prelude.{needs, _+_, _-_, _*_, _<_, _≤_, sym, _∙_, arith, length}
+use Rattle.rows.specs.{Laws.Ring.place-within}
+use Rattle.steps.specs.{Looks.overOf}
+use Rattle.steps.proofs.{Rows.place-ends, Looks.no-more, Looks.at-row, Looks.at-end, Looks.rows-end, Looks.series-after, Looks.passed-on}
+use Rattle.steps.proofs.{looking.passed_from.Statement.statement}
 use Rattle.steps.proofs.looking.passed_from.Tie as tie
 
 -- the row is one of them, and ends by the words' end

@@ -1,14 +1,7 @@
 -- The row lies within the words, so nothing wraps; then a slot or a price.
-use borrow.Author.Needs.{needs}
-use native.Mathlib.Omega.{arith}
-use mathlib.Core.Path.{sym}
-use mathlib.Core.Bool.{true, false}
-use Prim.Native.Nat.{_+_, _*_, _≤_}
-use lib.ListN.{length}
-use Rattle.steps.specs.Looks.{overOf}
-use Rattle.steps.proofs.Rows.{place-ends}
-use Rattle.steps.proofs.Looks.{series-there}
-use Rattle.steps.proofs.looking.series_at.Statement.{statement}
+use Rattle.words.specs.Prelude.{needs, arith, sym, true, false, _+_, _*_, _≤_, length}
+use Rattle.steps.specs.{Looks.overOf}
+use Rattle.steps.proofs.{Rows.place-ends, Looks.series-there, looking.series_at.Statement.statement}
 use Rattle.steps.proofs.looking.series_at.Tie as tie
 
 ends : (c : tie.After-place) → let a = c .before .before .args in c .place .result * (7 + a .slots) + (7 + a .slots) ≤ length (a .rows .now)

@@ -1,6 +1,6 @@
 -- A slot or a price.
-use native.Mathlib.Omega.{arith}
-use Rattle.steps.proofs.looking.series_in.Statement.{statement}
+use Rattle.words.specs.Prelude.{arith}
+use Rattle.steps.proofs.{looking.series_in.Statement.statement}
 use Rattle.steps.proofs.looking.series_in.Tie as tie
 
 pub series-in-spec : {M : Type 1} → statement M

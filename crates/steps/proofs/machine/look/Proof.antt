@@ -1,9 +1,7 @@
 -- Over a price, or over a slot.
-use borrow.Author.Needs.{needs}
-use native.Mathlib.Omega.{arith}
-use Rattle.steps.specs.Machine.{effect}
-use Rattle.steps.proofs.Said.{says-over-price, says-over-slot}
-use Rattle.steps.proofs.machine.look.Statement.{statement}
+use Rattle.words.specs.Prelude.{needs, arith}
+use Rattle.steps.specs.{Machine.effect}
+use Rattle.steps.proofs.{Said.says-over-price, Said.says-over-slot, machine.look.Statement.statement}
 use Rattle.steps.proofs.machine.look.Tie as tie
 
 pub look-spec : {M : Type 1} → statement M

@@ -1,11 +1,7 @@
 -- It is the run, or else it is run again with more places.
-use borrow.Author.Needs.{needs}
-use mathlib.Core.Path.{refl}
-use native.Mathlib.Omega.{arith}
-use lib.ListN.{length-replicate}
-use Rattle.floats.specs.Floats.{zero}
-use Rattle.steps.proofs.Going.{tried-through}
-use Rattle.steps.proofs.machine.run_few.Statement.{statement}
+use Rattle.words.specs.Prelude.{needs, refl, arith, length-replicate}
+use Rattle.floats.specs.{Floats.zero}
+use Rattle.steps.proofs.{Going.tried-through, machine.run_few.Statement.statement}
 use Rattle.steps.proofs.machine.run_few.Tie as tie
 
 pub run-few-spec : {M : Type 1} → statement M

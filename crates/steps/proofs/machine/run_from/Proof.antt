@@ -1,12 +1,7 @@
 -- What is left where the tests end is run with places for values.
-use borrow.Author.Needs.{needs}
-use Prim.Native.Nat.{ℕ, _≤_}
-use mathlib.Core.List.{List}
-use mathlib.Core.Path.{_≡_}
-use native.Mathlib.Omega.{arith}
-use Rattle.steps.specs.Bytes.{opsOf, stepsIn, stepsRun}
-use Rattle.steps.proofs.Coming.{came-end}
-use Rattle.steps.proofs.machine.run_from.Statement.{statement}
+use Rattle.words.specs.Prelude.{needs, ℕ, _≤_, List, _≡_, arith}
+use Rattle.steps.specs.{Bytes.opsOf, Bytes.stepsIn, Bytes.stepsRun}
+use Rattle.steps.proofs.{Coming.came-end, machine.run_from.Statement.statement}
 use Rattle.steps.proofs.machine.run_from.Tie as tie
 
 -- the steps that are run are steps of the list, and at most 1,024

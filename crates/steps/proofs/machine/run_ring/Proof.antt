@@ -1,7 +1,7 @@
 -- The row that the rows begin at, set right first.
-use borrow.Author.Needs.{needs}
-use Rattle.rows.specs.Laws.Ring.{first-fits, ring-first}
-use Rattle.steps.proofs.machine.run_ring.Statement.{statement}
+use Rattle.words.specs.Prelude.{needs}
+use Rattle.rows.specs.{Laws.Ring.first-fits, Laws.Ring.ring-first}
+use Rattle.steps.proofs.{machine.run_ring.Statement.statement}
 use Rattle.steps.proofs.machine.run_ring.Tie as tie
 
 pub run-ring-spec : {M : Type 1} → statement M

@@ -1,11 +1,7 @@
 -- There is a place for each step.
-use borrow.Author.Needs.{needs}
-use mathlib.Core.Path.{refl}
-use native.Mathlib.Omega.{arith}
-use lib.ListN.{length-replicate}
-use Rattle.floats.specs.Floats.{zero}
-use Rattle.steps.proofs.Going.{tried-whole}
-use Rattle.steps.proofs.machine.run_whole.Statement.{statement}
+use Rattle.words.specs.Prelude.{needs, refl, arith, length-replicate}
+use Rattle.floats.specs.{Floats.zero}
+use Rattle.steps.proofs.{Going.tried-whole, machine.run_whole.Statement.statement}
 use Rattle.steps.proofs.machine.run_whole.Tie as tie
 
 pub run-whole-spec : {M : Type 1} → statement M

@@ -1,17 +1,11 @@
 -- The loop's invariant is that the run has come to place p; a step of each kind takes it one further, and a value that finds no
 -- place is one more than there are places.
-use borrow.Author.Needs.{needs}
-use mathlib.Core.Path.{sym, _∙_}
-use native.Mathlib.Omega.{arith}
-use Prim.Native.Nat.{_-_}
-use Rattle.rows.specs.Ring.{ringOf}
-use Rattle.steps.specs.Places.{Tries}
-use Rattle.steps.specs.Laws.Classes.{range-in, range-out}
-use Rattle.steps.proofs.Said.{does-compare, does-test, does-jump, does-arith}
-use Rattle.steps.proofs.Coming.{came-end}
-use Rattle.steps.proofs.Going.{Going, fresh-long, going-start, going-leaf, going-give}
-use Rattle.steps.proofs.Going.{going-look, going-say, going-set, going-pass, going-stay}
-use Rattle.steps.proofs.machine.run_with.Statement.{statement}
+use Rattle.words.specs.Prelude.{needs, sym, _∙_, arith, _-_}
+use Rattle.rows.specs.{Ring.ringOf}
+use Rattle.steps.specs.{Places.Tries, Laws.Classes.range-in, Laws.Classes.range-out}
+use Rattle.steps.proofs.{Said.does-compare, Said.does-test, Said.does-jump, Said.does-arith, Coming.came-end, Going.Going, Going.fresh-long}
+use Rattle.steps.proofs.{Going.going-start, Going.going-leaf, Going.going-give, Going.going-look, Going.going-say, Going.going-set, Going.going-pass}
+use Rattle.steps.proofs.{Going.going-stay, machine.run_with.Statement.statement}
 use Rattle.steps.proofs.machine.run_with.Tie as tie
 
 abbrev Inv-loop : tie.InvT-loop

@@ -1,6 +1,6 @@
 -- The test is that of the contract.
-use borrow.Author.Tests.{lt-ltb, le-ltb}
-use Rattle.steps.proofs.machine.taken.Statement.{statement}
+use Rattle.words.specs.Prelude.{lt-ltb, le-ltb}
+use Rattle.steps.proofs.{machine.taken.Statement.statement}
 use Rattle.steps.proofs.machine.taken.Tie as tie
 
 pub taken-spec : {M : Type 1} → statement M

@@ -1,7 +1,6 @@
 -- The test is that of the definition.
-use borrow.Author.Needs.{needs}
-use borrow.Author.Tests.{lt-ltb, le-ltb}
-use Rattle.steps.proofs.machine.tested.Statement.{statement}
+use Rattle.words.specs.Prelude.{needs, lt-ltb, le-ltb}
+use Rattle.steps.proofs.{machine.tested.Statement.statement}
 use Rattle.steps.proofs.machine.tested.Tie as tie
 
 pub tested-spec : {M : Type 1} → statement M

@@ -1,10 +1,7 @@
 -- Four leaves and a cross, or no test.
-use borrow.Author.Needs.{needs}
-use mathlib.Core.Path.{sym, _∙_}
-use native.Mathlib.Omega.{arith}
-use Rattle.steps.specs.Laws.Classes.{range-in}
-use Rattle.steps.proofs.Coming.{cross-tests}
-use Rattle.steps.proofs.phrases.cross_at.Statement.{statement}
+use Rattle.words.specs.Prelude.{needs, sym, _∙_, arith}
+use Rattle.steps.specs.{Laws.Classes.range-in}
+use Rattle.steps.proofs.{Coming.cross-tests, phrases.cross_at.Statement.statement}
 use Rattle.steps.proofs.phrases.cross_at.Tie as tie
 
 crosses : tie.Need-returns-2

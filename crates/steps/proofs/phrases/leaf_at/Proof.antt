@@ -1,6 +1,6 @@
 -- The step at p is the one that is read.
-use borrow.Author.Needs.{needs}
-use Rattle.steps.proofs.phrases.leaf_at.Statement.{statement}
+use Rattle.words.specs.Prelude.{needs}
+use Rattle.steps.proofs.{phrases.leaf_at.Statement.statement}
 use Rattle.steps.proofs.phrases.leaf_at.Tie as tie
 
 pub leaf-at-spec : {M : Type 1} → statement M

@@ -1,15 +1,8 @@
 -- The loop's invariant is that the run has come to place p with no value; a jump, an answer and a test with its leaves each take it further.
-use borrow.Author.Needs.{needs}
-use mathlib.Core.Path.{sym, _∙_}
-use mathlib.Core.List.{[]}
-use native.Mathlib.Omega.{arith}
-use Prim.Native.Nat.{_-_}
-use Rattle.rows.specs.Ring.{ringOf}
-use Rattle.steps.specs.Places.{Came}
-use Rattle.steps.specs.Laws.Classes.{range-in, late-no-operation, no-test}
-use Rattle.steps.proofs.Said.{does-jump}
-use Rattle.steps.proofs.Coming.{came-start, came-say, came-pass, came-stay}
-use Rattle.steps.proofs.phrases.run_tests.Statement.{statement}
+use Rattle.words.specs.Prelude.{needs, sym, _∙_, [], arith, _-_}
+use Rattle.rows.specs.{Ring.ringOf}
+use Rattle.steps.specs.{Places.Came, Laws.Classes.range-in, Laws.Classes.late-no-operation, Laws.Classes.no-test}
+use Rattle.steps.proofs.{Said.does-jump, Coming.came-start, Coming.came-say, Coming.came-pass, Coming.came-stay, phrases.run_tests.Statement.statement}
 use Rattle.steps.proofs.phrases.run_tests.Tie as tie
 
 abbrev Inv-loop : tie.InvT-loop

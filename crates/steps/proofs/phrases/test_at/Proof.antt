@@ -1,9 +1,6 @@
 -- Two leaves and a comparison, or what may be a cross, or no test.
-use borrow.Author.Needs.{needs}
-use mathlib.Core.Path.{sym, _∙_}
-use native.Mathlib.Omega.{arith}
-use Rattle.steps.proofs.Coming.{compare-tests}
-use Rattle.steps.proofs.phrases.test_at.Statement.{statement}
+use Rattle.words.specs.Prelude.{needs, sym, _∙_, arith}
+use Rattle.steps.proofs.{Coming.compare-tests, phrases.test_at.Statement.statement}
 use Rattle.steps.proofs.phrases.test_at.Tie as tie
 
 compares : tie.Need-returns-2

@@ -1,8 +1,7 @@
 -- The refusals are those of the definition, in its order.
-use borrow.Author.Needs.{needs}
-use borrow.Author.Tests.{lt-ltb, le-ltb}
-use Rattle.steps.specs.Running.{ranIf, runs}
-use Rattle.steps.proofs.running.run.Statement.{statement}
+use Rattle.words.specs.Prelude.{needs, lt-ltb, le-ltb}
+use Rattle.steps.specs.{Running.ranIf, Running.runs}
+use Rattle.steps.proofs.{running.run.Statement.statement}
 use Rattle.steps.proofs.running.run.Tie as tie
 
 pub run-spec : {M : Type 1} → statement M

@@ -1,7 +1,7 @@
 -- The test is that of the definition.
-use borrow.Author.Needs.{needs}
-use Rattle.steps.specs.Places.{valueAt}
-use Rattle.steps.proofs.stack.at.Statement.{statement}
+use Rattle.words.specs.Prelude.{needs}
+use Rattle.steps.specs.{Places.valueAt}
+use Rattle.steps.proofs.{stack.at.Statement.statement}
 use Rattle.steps.proofs.stack.at.Tie as tie
 
 pub at-spec : {M : Type 1} → statement M

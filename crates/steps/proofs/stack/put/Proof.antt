@@ -1,8 +1,7 @@
 -- Case by case.
-use borrow.Author.Needs.{needs}
-use mathlib.Core.Path.{refl}
-use Rattle.steps.specs.Places.{numbersWith, isThere}
-use Rattle.steps.proofs.stack.put.Statement.{statement}
+use Rattle.words.specs.Prelude.{needs, refl}
+use Rattle.steps.specs.{Places.numbersWith, Places.isThere}
+use Rattle.steps.proofs.{stack.put.Statement.statement}
 use Rattle.steps.proofs.stack.put.Tie as tie
 
 pub put-spec : {M : Type 1} → statement M

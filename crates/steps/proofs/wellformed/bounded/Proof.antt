@@ -1,8 +1,7 @@
 -- Arm by arm.
-use borrow.Author.Needs.{needs}
-use borrow.Author.Tests.{le-ltb, lt-ltb}
-use Rattle.steps.specs.WellFormed.{bounded}
-use Rattle.steps.proofs.wellformed.bounded.Statement.{statement}
+use Rattle.words.specs.Prelude.{needs, le-ltb, lt-ltb}
+use Rattle.steps.specs.{WellFormed.bounded}
+use Rattle.steps.proofs.{wellformed.bounded.Statement.statement}
 use Rattle.steps.proofs.wellformed.bounded.Tie as tie
 
 pub bounded-spec : {M : Type 1} → statement M

@@ -1,17 +1,8 @@
 -- The steps are asked in their order, so the first bad one is the lowest: what is said of the whole list is what is said of it from p on.
-use borrow.Author.Needs.{needs}
-use borrow.Author.Tests.{eq-eqb, ne-eqb, lt-ltb, le-ltb}
-use native.Mathlib.Omega.{arith}
-use native.Mathlib.Nat.{sub-zero}
-use native.Mathlib.Numerals.{sub-one}
-use Prim.Native.Nat.{ℕ, suc, _+_, _*_, _-_, _<_, _≤_}
-use mathlib.Core.Path.{_≡_, refl, sym, _∙_}
-use mathlib.Core.Bool.{cond}
-use mathlib.Core.List.{List}
-use Rattle.steps.specs.declared.wellformed.Formed.the-variants.{Well, Bad}
-use Rattle.steps.specs.Bytes.{readStep, stepAt, stepsIn}
-use Rattle.steps.specs.WellFormed.{goodStep, formedFrom, formed}
-use Rattle.steps.proofs.wellformed.check.Statement.{statement}
+use Rattle.words.specs.Prelude.{needs, eq-eqb, ne-eqb, lt-ltb, le-ltb, arith, sub-zero, sub-one, ℕ, suc, _+_, _*_, _-_, _<_, _≤_, _≡_, refl, sym, _∙_, cond, List}
+use Rattle.steps.specs.{declared.wellformed.Formed.the-variants.Well, declared.wellformed.Formed.the-variants.Bad, Bytes.readStep, Bytes.stepAt}
+use Rattle.steps.specs.{Bytes.stepsIn, WellFormed.goodStep, WellFormed.formedFrom, WellFormed.formed}
+use Rattle.steps.proofs.{wellformed.check.Statement.statement}
 use Rattle.steps.proofs.wellformed.check.Tie as tie
 
 module _ (K D : ℕ) (bs : List ℕ) (n p : ℕ) where

@@ -1,8 +1,6 @@
 -- A quick yes is right for the step of the two words, which is the step there; every other step is asked in full.
-use borrow.Author.Needs.{needs}
-use native.Mathlib.Omega.{arith}
-use Rattle.steps.proofs.Heads.{of-words}
-use Rattle.steps.proofs.wellformed.good_at.Statement.{statement}
+use Rattle.words.specs.Prelude.{needs, arith}
+use Rattle.steps.proofs.{Heads.of-words, wellformed.good_at.Statement.statement}
 use Rattle.steps.proofs.wellformed.good_at.Tie as tie
 
 pub good-at-spec : {M : Type 1} → statement M

@@ -1,7 +1,7 @@
 -- What the step says is asked for once.
-use borrow.Author.Needs.{needs}
-use Rattle.steps.specs.WellFormed.{goodStep}
-use Rattle.steps.proofs.wellformed.good_step.Statement.{statement}
+use Rattle.words.specs.Prelude.{needs}
+use Rattle.steps.specs.{WellFormed.goodStep}
+use Rattle.steps.proofs.{wellformed.good_step.Statement.statement}
 use Rattle.steps.proofs.wellformed.good_step.Tie as tie
 
 pub good-step-spec : {M : Type 1} → statement M

@@ -1,14 +1,8 @@
 -- The depth less n - 1 is compared, so that nothing wraps.
-use borrow.Author.Needs.{needs}
-use borrow.Author.Tests.{lt-ltb, le-ltb}
-use native.Mathlib.Omega.{arith}
-use Prim.Native.Nat.{ℕ, _+_, _-_, _<_, _≤_}
-use mathlib.Core.Path.{_≡_, sym, _∙_}
-use mathlib.Core.Logic.{⊎-elim}
-use lib.Dec.{ltb}
-use Rattle.words.specs.Laws.Numbers.{less-or-not}
-use Rattle.steps.specs.WellFormed.{looksWithin}
-use Rattle.steps.proofs.wellformed.looks_within.Statement.{statement}
+use Rattle.words.specs.Prelude.{needs, lt-ltb, le-ltb, arith, ℕ, _+_, _-_, _<_, _≤_, _≡_, sym, _∙_, ⊎-elim, ltb}
+use Rattle.words.specs.{Laws.Numbers.less-or-not}
+use Rattle.steps.specs.{WellFormed.looksWithin}
+use Rattle.steps.proofs.{wellformed.looks_within.Statement.statement}
 use Rattle.steps.proofs.wellformed.looks_within.Tie as tie
 
 shifted : (back rest depth : ℕ) → rest < depth → ltb back (depth - rest) ≡ ltb (back + rest) depth

@@ -1,7 +1,7 @@
 -- Arm by arm.
-use borrow.Author.Needs.{needs}
-use Rattle.steps.specs.WellFormed.{plain}
-use Rattle.steps.proofs.wellformed.plain.Statement.{statement}
+use Rattle.words.specs.Prelude.{needs}
+use Rattle.steps.specs.{WellFormed.plain}
+use Rattle.steps.proofs.{wellformed.plain.Statement.statement}
 use Rattle.steps.proofs.wellformed.plain.Tie as tie
 
 pub plain-spec : {M : Type 1} → statement M

@@ -1,9 +1,6 @@
 -- Each yes is one law of the words, and a no is not asked for anything.
-use borrow.Author.Needs.{needs}
-use borrow.Author.Tests.{ltb-true, leb-true}
-use mathlib.Core.Path.{sym, _∙_}
-use Rattle.steps.proofs.Heads.{constant-told, test-told, price-told, jump-told}
-use Rattle.steps.proofs.wellformed.quick_yes.Statement.{statement}
+use Rattle.words.specs.Prelude.{needs, ltb-true, leb-true, sym, _∙_}
+use Rattle.steps.proofs.{Heads.constant-told, Heads.test-told, Heads.price-told, Heads.jump-told, wellformed.quick_yes.Statement.statement}
 use Rattle.steps.proofs.wellformed.quick_yes.Tie as tie
 
 pub quick-yes-spec : {M : Type 1} → statement M

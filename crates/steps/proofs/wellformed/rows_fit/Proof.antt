@@ -1,9 +1,7 @@
 -- The tests are those of the definition, with nothing that wraps.
-use borrow.Author.Needs.{needs}
-use borrow.Author.Tests.{le-leb, lt-leb}
-use native.Mathlib.Omega.{arith}
-use Rattle.steps.specs.WellFormed.{rowsFit}
-use Rattle.steps.proofs.wellformed.rows_fit.Statement.{statement}
+use Rattle.words.specs.Prelude.{needs, le-leb, lt-leb, arith}
+use Rattle.steps.specs.{WellFormed.rowsFit}
+use Rattle.steps.proofs.{wellformed.rows_fit.Statement.statement}
 use Rattle.steps.proofs.wellformed.rows_fit.Tie as tie
 
 pub rows-fit-spec : {M : Type 1} → statement M

@@ -1,7 +1,7 @@
 -- A case each.
-use borrow.Author.Needs.{needs}
-use Rattle.steps.specs.WellFormed.{seriesWithin}
-use Rattle.steps.proofs.wellformed.series_within.Statement.{statement}
+use Rattle.words.specs.Prelude.{needs}
+use Rattle.steps.specs.{WellFormed.seriesWithin}
+use Rattle.steps.proofs.{wellformed.series_within.Statement.statement}
 use Rattle.steps.proofs.wellformed.series_within.Tie as tie
 
 pub series-within-spec : {M : Type 1} → statement M

@@ -1,7 +1,7 @@
 -- The tests are those of the definition, in its order.
-use borrow.Author.Tests.{eq-eqb, ne-eqb}
-use Rattle.steps.specs.WellFormed.{zeros}
-use Rattle.steps.proofs.wellformed.zeros.Statement.{statement}
+use Rattle.words.specs.Prelude.{eq-eqb, ne-eqb}
+use Rattle.steps.specs.{WellFormed.zeros}
+use Rattle.steps.proofs.{wellformed.zeros.Statement.statement}
 use Rattle.steps.proofs.wellformed.zeros.Tie as tie
 
 pub zeros-spec : {M : Type 1} → statement M

@@ -1,9 +1,7 @@
 -- `byte` meets its contract: past the end `getD` gives 0.
 -- Assumes nothing.
-use mathlib.Core.Path.{sym}
-use borrow.Author.Needs.{needs}
-use lib.ListN.{List·getD-eq-default}
-use Rattle.table.proofs.bytes.byte.Statement.{statement}
+use Rattle.words.specs.Prelude.{sym, needs, List·getD-eq-default}
+use Rattle.table.proofs.{bytes.byte.Statement.statement}
 use Rattle.table.proofs.bytes.byte.Tie as tie
 
 returns-2 : tie.Need-returns-2

@@ -1,10 +1,8 @@
 -- `read16` meets its contract: its two halves, and 0 past the end.
 -- Assumes nothing.
-use native.Mathlib.Omega.{arith}
-use Rattle.table.specs.Bytes.{u16}
-use Rattle.table.proofs.Past.{past16}
-use borrow.Author.Needs.{needs}
-use Rattle.table.proofs.bytes.read16.Statement.{statement}
+use Rattle.words.specs.Prelude.{arith, needs}
+use Rattle.table.specs.{Bytes.u16}
+use Rattle.table.proofs.{Past.past16, bytes.read16.Statement.statement}
 use Rattle.table.proofs.bytes.read16.Tie as tie
 
 returns : tie.Need-returns

@@ -1,10 +1,8 @@
 -- `read32` meets its contract: its two halves, and 0 past the end.
 -- Assumes nothing.
-use native.Mathlib.Omega.{arith}
-use Rattle.table.specs.Bytes.{u32}
-use Rattle.table.proofs.Past.{past32}
-use borrow.Author.Needs.{needs}
-use Rattle.table.proofs.bytes.read32.Statement.{statement}
+use Rattle.words.specs.Prelude.{arith, needs}
+use Rattle.table.specs.{Bytes.u32}
+use Rattle.table.proofs.{Past.past32, bytes.read32.Statement.statement}
 use Rattle.table.proofs.bytes.read32.Tie as tie
 
 returns : tie.Need-returns

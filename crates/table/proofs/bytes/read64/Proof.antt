@@ -1,10 +1,8 @@
 -- `read64` meets its contract: its two halves, and 0 past the end.
 -- Assumes nothing.
-use mathlib.Core.Path.{sym}
-use Rattle.table.specs.Bytes.{u64}
-use Rattle.table.proofs.Past.{past64}
-use borrow.Author.Needs.{needs}
-use Rattle.table.proofs.bytes.read64.Statement.{statement}
+use Rattle.words.specs.Prelude.{sym, needs}
+use Rattle.table.specs.{Bytes.u64}
+use Rattle.table.proofs.{Past.past64, bytes.read64.Statement.statement}
 use Rattle.table.proofs.bytes.read64.Tie as tie
 
 returns : tie.Need-returns

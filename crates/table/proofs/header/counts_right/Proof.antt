@@ -1,14 +1,8 @@
 -- `counts_right` meets its contract, test by test.
 -- Assumes nothing.
-use mathlib.Core.Path.{_≡_}
-use mathlib.Core.Bool.{false}
-use mathlib.Core.List.{List}
-use Prim.Native.Nat.{ℕ, _+_, _≤_, _<_}
-use lib.Dec.{eqb}
-use borrow.Author.Tests.{lt-ltb, le-ltb}
-use borrow.Author.Needs.{needs}
-use Rattle.table.specs.Header.{slots, total, count, countsRight}
-use Rattle.table.proofs.header.counts_right.Statement.{statement}
+use Rattle.words.specs.Prelude.{_≡_, false, List, ℕ, _+_, _≤_, _<_, eqb, lt-ltb, le-ltb, needs}
+use Rattle.table.specs.{Header.slots, Header.total, Header.count, Header.countsRight}
+use Rattle.table.proofs.{header.counts_right.Statement.statement}
 use Rattle.table.proofs.header.counts_right.Tie as tie
 
 count1 : (t : List ℕ) → 64 < slots t → false ≡ countsRight t

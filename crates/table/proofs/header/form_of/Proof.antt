@@ -1,7 +1,7 @@
 -- `form_of` meets its contract: the version and K, as they are read.
 -- Assumes nothing.
-use borrow.Author.Needs.{needs}
-use Rattle.table.proofs.header.form_of.Statement.{statement}
+use Rattle.words.specs.Prelude.{needs}
+use Rattle.table.proofs.{header.form_of.Statement.statement}
 use Rattle.table.proofs.header.form_of.Tie as tie
 
 pub form-of-spec : {M : Type 1} → statement M

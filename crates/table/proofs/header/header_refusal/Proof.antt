@@ -1,14 +1,8 @@
 -- `header_refusal` meets its contract, rule by rule.
 -- Assumes nothing.
-use mathlib.Core.Path.{_≡_}
-use mathlib.Core.Bool.{true, false, not}
-use mathlib.Core.List.{List}
-use Prim.Native.Nat.{ℕ, _+_, _*_, _≤_, _<_}
-use lib.ListN.{length}
-use borrow.Author.Tests.{lt-ltb, le-ltb, eq-eqb, ne-eqb}
-use borrow.Author.Needs.{needs}
-use Rattle.table.specs.Header.{total, markRight, versionRight, countsRight, headerRefusal}
-use Rattle.table.proofs.header.header_refusal.Statement.{statement}
+use Rattle.words.specs.Prelude.{_≡_, true, false, not, List, ℕ, _+_, _*_, _≤_, _<_, length, lt-ltb, le-ltb, eq-eqb, ne-eqb, needs}
+use Rattle.table.specs.{Header.total, Header.markRight, Header.versionRight, Header.countsRight, Header.headerRefusal}
+use Rattle.table.proofs.{header.header_refusal.Statement.statement}
 use Rattle.table.proofs.header.header_refusal.Tie as tie
 
 rule1 : (newest : ℕ) (t : List ℕ) → length t < 16 → 1 ≡ headerRefusal newest t

@@ -1,15 +1,8 @@
 -- `mark_right` meets its contract, byte by byte.
 -- Assumes nothing.
-use mathlib.Core.Path.{_≡_}
-use mathlib.Core.Bool.{false}
-use mathlib.Core.List.{List}
-use Prim.Native.Nat.{ℕ}
-use lib.ListN.{getD}
-use lib.Dec.{eqb}
-use borrow.Author.Tests.{eq-eqb, ne-eqb}
-use borrow.Author.Needs.{needs}
-use Rattle.table.specs.Header.{markRight}
-use Rattle.table.proofs.header.mark_right.Statement.{statement}
+use Rattle.words.specs.Prelude.{_≡_, false, List, ℕ, getD, eqb, eq-eqb, ne-eqb, needs}
+use Rattle.table.specs.{Header.markRight}
+use Rattle.table.proofs.{header.mark_right.Statement.statement}
 use Rattle.table.proofs.header.mark_right.Tie as tie
 
 mark1 : (t : List ℕ) → (getD t 0 0 ≡ 82 → ⊥) → false ≡ markRight t

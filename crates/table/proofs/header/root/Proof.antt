@@ -1,13 +1,8 @@
 -- `root` meets its contract. The loop's invariant: the place is the root of tree x.
 -- Assumes nothing.
-use mathlib.Core.Path.{_≡_, refl, ap}
-use mathlib.Core.List.{List}
-use Prim.Native.Nat.{ℕ, _+_, _*_, _-_, _≤_}
-use native.Mathlib.Numerals.{add-one}
-use native.Mathlib.Omega.{arith}
-use borrow.Author.Needs.{needs}
+use Rattle.words.specs.Prelude.{_≡_, refl, ap, List, ℕ, _+_, _*_, _-_, _≤_, add-one, arith, needs}
+use Rattle.table.proofs.{header.root.Statement.statement}
 use Rattle.table.specs.Header as Header
-use Rattle.table.proofs.header.root.Statement.{statement}
 use Rattle.table.proofs.header.root.Tie as tie
 
 root-next : (t : List ℕ) (x : ℕ) → Header.root t (x + 1) ≡ Header.root t x + Header.count t x

@@ -1,9 +1,8 @@
 -- `version_right` meets its contract: 1 or more, and no more than the newest.
 -- Assumes nothing.
-use borrow.Author.Tests.{lt-leb, le-leb}
-use Rattle.table.specs.Header.{versionRight}
-use borrow.Author.Needs.{needs}
-use Rattle.table.proofs.header.version_right.Statement.{statement}
+use Rattle.words.specs.Prelude.{lt-leb, le-leb, needs}
+use Rattle.table.specs.{Header.versionRight}
+use Rattle.table.proofs.{header.version_right.Statement.statement}
 use Rattle.table.proofs.header.version_right.Tie as tie
 
 pub version-right-spec : {M : Type 1} → statement M

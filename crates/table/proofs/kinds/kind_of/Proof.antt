@@ -1,16 +1,13 @@
 -- The code's names of rows name the rows of the definition's table, one by one.
-use mathlib.Core.Path.{_≡_, refl, sym, _∙_}
-use mathlib.Core.List.{List, [], _∷_}
-use Prim.Native.Nat.{ℕ, _<_}
-use borrow.Author.Needs.{needs}
-use lib.ListN.{getD, List·getD-eq-default}
-use Rattle.table.specs.declared.kinds.Row.{Row}
-use Rattle.table.specs.declared.kinds.Row.the-variants.{Unknown, Const, Ref, Price, Prev, Arith, Extreme, Compare, Cross, Between, Trend}
-use Rattle.table.specs.declared.kinds.Row.the-variants.{All, Any, Not, InPosition, BarsSince}
-use Rattle.table.specs.Kinds.{kindOf, kinds, noKind, rowNamed}
-use Rattle.table.specs.Ends.{from}
-use Rattle.table.specs.Laws.Kinds.{of-rows}
-use Rattle.table.proofs.kinds.kind_of.Statement.{statement}
+use Rattle.words.specs.Prelude.{_≡_, refl, sym, _∙_, List, [], _∷_, ℕ, _<_, needs, getD, List·getD-eq-default}
+use Rattle.table.specs.{declared.kinds.Row.Row, declared.kinds.Row.the-variants.Unknown, declared.kinds.Row.the-variants.Const}
+use Rattle.table.specs.{declared.kinds.Row.the-variants.Ref, declared.kinds.Row.the-variants.Price, declared.kinds.Row.the-variants.Prev}
+use Rattle.table.specs.{declared.kinds.Row.the-variants.Arith, declared.kinds.Row.the-variants.Extreme, declared.kinds.Row.the-variants.Compare}
+use Rattle.table.specs.{declared.kinds.Row.the-variants.Cross, declared.kinds.Row.the-variants.Between, declared.kinds.Row.the-variants.Trend}
+use Rattle.table.specs.{declared.kinds.Row.the-variants.All, declared.kinds.Row.the-variants.Any, declared.kinds.Row.the-variants.Not}
+use Rattle.table.specs.{declared.kinds.Row.the-variants.InPosition, declared.kinds.Row.the-variants.BarsSince, Kinds.kindOf, Kinds.kinds, Kinds.noKind}
+use Rattle.table.specs.{Kinds.rowNamed, Ends.from, Laws.Kinds.of-rows}
+use Rattle.table.proofs.{kinds.kind_of.Statement.statement}
 use Rattle.table.proofs.kinds.kind_of.Tie as tie
 
 -- the code's names

@@ -1,7 +1,7 @@
 -- Name by name.
-use borrow.Author.Needs.{needs}
-use Rattle.table.specs.Kinds.{rowNamed}
-use Rattle.table.proofs.kinds.row_named.Statement.{statement}
+use Rattle.words.specs.Prelude.{needs}
+use Rattle.table.specs.{Kinds.rowNamed}
+use Rattle.table.proofs.{kinds.row_named.Statement.statement}
 use Rattle.table.proofs.kinds.row_named.Tie as tie
 
 pub row-named-spec : {M : Type 1} → statement M

@@ -1,9 +1,7 @@
 -- The code's list is the definition's.
-use mathlib.Core.Path.{refl, sym}
-use borrow.Author.Needs.{needs}
-use lib.ListN.{List·getD-eq-default}
-use Rattle.table.specs.Kinds.{sinceOf, versions}
-use Rattle.table.proofs.kinds.since_of.Statement.{statement}
+use Rattle.words.specs.Prelude.{refl, sym, needs, List·getD-eq-default}
+use Rattle.table.specs.{Kinds.sinceOf, Kinds.versions}
+use Rattle.table.proofs.{kinds.since_of.Statement.statement}
 use Rattle.table.proofs.kinds.since_of.Tie as tie
 
 pub since-of-spec : {M : Type 1} → statement M

@@ -1,16 +1,9 @@
 -- `deep_of` meets its contract. The loop's invariant: the first node below more than 32 levels is the first below more than `left`
 -- levels among those from node j on. A subtree that is too tall has it inside, any other is passed by its end.
 -- Assumes nothing.
-use mathlib.Core.Path.{_≡_, refl, sym, _∙_}
-use Prim.Native.Nat.{_-_, _≤_}
-use native.Mathlib.Omega.{arith}
-use Rattle.table.specs.Forest.{trees}
-use Rattle.table.specs.Nesting.{deeper}
-use Rattle.table.specs.Ends.{Linked}
-use Rattle.table.specs.Passes.{WordsFrom}
-use Rattle.table.proofs.Weigh.{deep-here, deep-end, deep-down, deep-over}
-use borrow.Author.Needs.{needs}
-use Rattle.table.proofs.nesting.deep_of.Statement.{statement}
+use Rattle.words.specs.Prelude.{_≡_, refl, sym, _∙_, _-_, _≤_, arith, needs}
+use Rattle.table.specs.{Forest.trees, Nesting.deeper, Ends.Linked, Passes.WordsFrom}
+use Rattle.table.proofs.{Weigh.deep-here, Weigh.deep-end, Weigh.deep-down, Weigh.deep-over, nesting.deep_of.Statement.statement}
 use Rattle.table.proofs.nesting.deep_of.Tie as tie
 
 abbrev Inv-loop : tie.InvT-loop

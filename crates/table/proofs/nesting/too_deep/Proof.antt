@@ -1,9 +1,7 @@
 -- `too_deep` meets its contract: the first place that one of the four trees gives.
 -- Assumes nothing.
-use mathlib.Core.Path.{_∙_}
-use Rattle.table.proofs.Four.{four-deep}
-use borrow.Author.Needs.{needs}
-use Rattle.table.proofs.nesting.too_deep.Statement.{statement}
+use Rattle.words.specs.Prelude.{_∙_, needs}
+use Rattle.table.proofs.{Four.four-deep, nesting.too_deep.Statement.statement}
 use Rattle.table.proofs.nesting.too_deep.Tie as tie
 
 returns : tie.Need-returns

@@ -1,9 +1,8 @@
 -- `child_count` meets its contract.
 -- Assumes nothing.
-use Rattle.table.specs.Nodes.{childCount}
-use borrow.Author.Tests.{eq-eqb, ne-eqb}
-use borrow.Author.Needs.{needs}
-use Rattle.table.proofs.nodes.child_count.Statement.{statement}
+use Rattle.words.specs.Prelude.{eq-eqb, ne-eqb, needs}
+use Rattle.table.specs.{Nodes.childCount}
+use Rattle.table.proofs.{nodes.child_count.Statement.statement}
 use Rattle.table.proofs.nodes.child_count.Tie as tie
 
 returns : tie.Need-returns

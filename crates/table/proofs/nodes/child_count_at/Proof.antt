@@ -1,8 +1,8 @@
 -- `child_count_at` meets its contract.
 -- Assumes nothing.
-use Rattle.table.specs.Nodes.{childCountAt}
-use borrow.Author.Needs.{needs}
-use Rattle.table.proofs.nodes.child_count_at.Statement.{statement}
+use Rattle.words.specs.Prelude.{needs}
+use Rattle.table.specs.{Nodes.childCountAt}
+use Rattle.table.proofs.{nodes.child_count_at.Statement.statement}
 use Rattle.table.proofs.nodes.child_count_at.Tie as tie
 
 returns : tie.Need-returns

@@ -1,9 +1,8 @@
 -- `child_fits` meets its contract.
 -- Assumes nothing.
-use borrow.Author.Tests.{eq-eqb, ne-eqb}
-use Rattle.table.specs.Nodes.{childFits}
-use borrow.Author.Needs.{needs}
-use Rattle.table.proofs.nodes.child_fits.Statement.{statement}
+use Rattle.words.specs.Prelude.{eq-eqb, ne-eqb, needs}
+use Rattle.table.specs.{Nodes.childFits}
+use Rattle.table.proofs.{nodes.child_fits.Statement.statement}
 use Rattle.table.proofs.nodes.child_fits.Tie as tie
 
 pub child-fits-spec : {M : Type 1} → statement M

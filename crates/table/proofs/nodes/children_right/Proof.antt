@@ -1,8 +1,8 @@
 -- `children_right` meets its contract.
 -- Assumes nothing.
-use borrow.Author.Tests.{eq-eqb, ne-eqb}
-use Rattle.table.specs.Nodes.{childrenRight}
-use Rattle.table.proofs.nodes.children_right.Statement.{statement}
+use Rattle.words.specs.Prelude.{eq-eqb, ne-eqb}
+use Rattle.table.specs.{Nodes.childrenRight}
+use Rattle.table.proofs.{nodes.children_right.Statement.statement}
 use Rattle.table.proofs.nodes.children_right.Tie as tie
 
 returns : tie.Need-returns

@@ -1,9 +1,8 @@
 -- `constant_right` meets its contract.
 -- Assumes nothing.
-use borrow.Author.Tests.{eq-eqb, ne-eqb}
-use Rattle.table.specs.Nodes.{constantRight}
-use borrow.Author.Needs.{needs}
-use Rattle.table.proofs.nodes.constant_right.Statement.{statement}
+use Rattle.words.specs.Prelude.{eq-eqb, ne-eqb, needs}
+use Rattle.table.specs.{Nodes.constantRight}
+use Rattle.table.proofs.{nodes.constant_right.Statement.statement}
 use Rattle.table.proofs.nodes.constant_right.Tie as tie
 
 returns : tie.Need-returns

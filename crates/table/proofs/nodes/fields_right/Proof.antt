@@ -1,14 +1,8 @@
 -- `fields_right` meets its contract, field by field.
 -- Assumes nothing.
-use mathlib.Core.Path.{_≡_, _∙_}
-use mathlib.Core.Bool.{true, false}
-use Prim.Native.Nat.{ℕ, _≤_, _<_}
-use borrow.Author.Tests.{lt-ltb, le-ltb}
-use Rattle.table.specs.declared.kinds.Kind.{Kind}
-use Rattle.table.specs.declared.nodes.Node.{Node}
-use Rattle.table.specs.Nodes.{childrenRight, nRight, constantRight, fieldsRight}
-use borrow.Author.Needs.{needs}
-use Rattle.table.proofs.nodes.fields_right.Statement.{statement}
+use Rattle.words.specs.Prelude.{_≡_, _∙_, true, false, ℕ, _≤_, _<_, lt-ltb, le-ltb, needs}
+use Rattle.table.specs.{declared.kinds.Kind.Kind, declared.nodes.Node.Node, Nodes.childrenRight, Nodes.nRight, Nodes.constantRight, Nodes.fieldsRight}
+use Rattle.table.proofs.{nodes.fields_right.Statement.statement}
 use Rattle.table.proofs.nodes.fields_right.Tie as tie
 
 module _ (k : ℕ) (n : Node) (w : Kind) where

@@ -1,9 +1,8 @@
 -- `kind_right` meets its contract.
 -- Assumes nothing.
-use borrow.Author.Tests.{eq-eqb, ne-eqb}
-use Rattle.table.specs.Nodes.{kindRight}
-use borrow.Author.Needs.{needs}
-use Rattle.table.proofs.nodes.kind_right.Statement.{statement}
+use Rattle.words.specs.Prelude.{eq-eqb, ne-eqb, needs}
+use Rattle.table.specs.{Nodes.kindRight}
+use Rattle.table.proofs.{nodes.kind_right.Statement.statement}
 use Rattle.table.proofs.nodes.kind_right.Tie as tie
 
 pub kind-right-spec : {M : Type 1} → statement M

@@ -1,8 +1,8 @@
 -- `n_right` meets its contract, use by use.
 -- Assumes nothing.
-use borrow.Author.Tests.{eq-eqb, ne-eqb, lt-leb, le-leb}
-use Rattle.table.specs.Nodes.{nRight}
-use Rattle.table.proofs.nodes.n_right.Statement.{statement}
+use Rattle.words.specs.Prelude.{eq-eqb, ne-eqb, lt-leb, le-leb}
+use Rattle.table.specs.{Nodes.nRight}
+use Rattle.table.proofs.{nodes.n_right.Statement.statement}
 use Rattle.table.proofs.nodes.n_right.Tie as tie
 
 pub n-right-spec : {M : Type 1} → statement M

@@ -1,14 +1,8 @@
 -- `node_at` meets its contract: sixteen bytes of the table, all 0 past its end.
 -- Assumes nothing.
-use mathlib.Core.Path.{_≡_}
-use mathlib.Core.List.{List}
-use Prim.Native.Nat.{ℕ, _+_, _*_, _≤_}
-use native.Mathlib.Omega.{arith}
-use lib.ListN.{length}
-use borrow.Author.Needs.{needs}
-use Rattle.table.specs.Nodes.{nodeAt}
-use Rattle.table.proofs.Past.{past8, past16, past32, past64}
-use Rattle.table.proofs.nodes.node_at.Statement.{statement}
+use Rattle.words.specs.Prelude.{_≡_, List, ℕ, _+_, _*_, _≤_, arith, length, needs}
+use Rattle.table.specs.{Nodes.nodeAt}
+use Rattle.table.proofs.{Past.past8, Past.past16, Past.past32, Past.past64, nodes.node_at.Statement.statement}
 use Rattle.table.proofs.nodes.node_at.Tie as tie
 
 past-node : (t : List ℕ) (i : ℕ) → length t ≤ 16 + 16 * i

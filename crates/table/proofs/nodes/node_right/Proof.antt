@@ -1,7 +1,7 @@
 -- `node_right` meets its contract.
 -- Assumes nothing.
-use borrow.Author.Needs.{needs}
-use Rattle.table.proofs.nodes.node_right.Statement.{statement}
+use Rattle.words.specs.Prelude.{needs}
+use Rattle.table.proofs.{nodes.node_right.Statement.statement}
 use Rattle.table.proofs.nodes.node_right.Tie as tie
 
 pub node-right-spec : {M : Type 1} → statement M

@@ -1,14 +1,8 @@
 -- `own_right` meets its contract: a known kind, of a version that is there, with right fields.
 -- Assumes nothing.
-use mathlib.Core.Path.{_≡_, _∙_}
-use mathlib.Core.Bool.{true, false}
-use borrow.Author.Tests.{eq-eqb, ne-eqb}
-use Rattle.table.specs.declared.header.Form.{Form}
-use Rattle.table.specs.declared.kinds.Kind.{Kind}
-use Rattle.table.specs.declared.nodes.Node.{Node}
-use Rattle.table.specs.Nodes.{kindRight, fieldsRight, ownRight}
-use borrow.Author.Needs.{needs}
-use Rattle.table.proofs.nodes.own_right.Statement.{statement}
+use Rattle.words.specs.Prelude.{_≡_, _∙_, true, false, eq-eqb, ne-eqb, needs}
+use Rattle.table.specs.{declared.header.Form.Form, declared.kinds.Kind.Kind, declared.nodes.Node.Node, Nodes.kindRight, Nodes.fieldsRight, Nodes.ownRight}
+use Rattle.table.proofs.{nodes.own_right.Statement.statement}
 use Rattle.table.proofs.nodes.own_right.Tie as tie
 
 module _ (form : Form) (n : Node) (w : Kind) where

@@ -1,8 +1,8 @@
 -- `sort_at` meets its contract.
 -- Assumes nothing.
-use Rattle.table.specs.Nodes.{sortAt}
-use borrow.Author.Needs.{needs}
-use Rattle.table.proofs.nodes.sort_at.Statement.{statement}
+use Rattle.words.specs.Prelude.{needs}
+use Rattle.table.specs.{Nodes.sortAt}
+use Rattle.table.proofs.{nodes.sort_at.Statement.statement}
 use Rattle.table.proofs.nodes.sort_at.Tie as tie
 
 returns : tie.Need-returns

@@ -1,15 +1,9 @@
 -- `wrong_node` meets its contract. The loop's invariant: the lowest wrong node is the lowest of those from node i on.
 -- Assumes nothing.
-use mathlib.Core.Path.{_≡_, _∙_, sym, ap}
-use mathlib.Core.Bool.{true, false}
-use mathlib.Core.List.{List}
-use Prim.Native.Nat.{ℕ, _+_, _-_, _≤_, _<_}
-use native.Mathlib.Nat.{sub-zero}
-use Rattle.table.specs.declared.places.Place.the-variants.{Nowhere, At}
-use Rattle.table.specs.Nodes.{nodeRight, wrongNode}
-use Rattle.table.specs.Laws.Forest.{left-suc, left-zero}
-use borrow.Author.Needs.{needs}
-use Rattle.table.proofs.nodes.wrong_node.Statement.{statement}
+use Rattle.words.specs.Prelude.{_≡_, _∙_, sym, ap, true, false, List, ℕ, _+_, _-_, _≤_, _<_, sub-zero, needs}
+use Rattle.table.specs.{declared.places.Place.the-variants.Nowhere, declared.places.Place.the-variants.At, Nodes.nodeRight, Nodes.wrongNode}
+use Rattle.table.specs.{Laws.Forest.left-suc, Laws.Forest.left-zero}
+use Rattle.table.proofs.{nodes.wrong_node.Statement.statement}
 use Rattle.table.proofs.nodes.wrong_node.Tie as tie
 
 module _ (t : List ℕ) (e i : ℕ) where

@@ -1,12 +1,10 @@
 -- `end_below` meets its contract. The loop's invariant: what is wanted from node i on is, at node j, the children that are left;
 -- a child's own word passes it in one step.
 -- Assumes nothing.
-use native.Mathlib.Omega.{arith}
-use Prim.Native.Nat.{_≤_, _<_}
-use Rattle.table.specs.Passes.{EndedFrom}
-use Rattle.table.proofs.Prefix.{Here, begin, turn, cut-short, wrong, inside, closed}
-use borrow.Author.Needs.{needs}
-use Rattle.table.proofs.order.end_below.Statement.{statement}
+use Rattle.words.specs.Prelude.{arith, _≤_, _<_, needs}
+use Rattle.table.specs.{Passes.EndedFrom}
+use Rattle.table.proofs.{Prefix.Here, Prefix.begin, Prefix.turn, Prefix.cut-short, Prefix.wrong, Prefix.inside, Prefix.closed}
+use Rattle.table.proofs.{order.end_below.Statement.statement}
 use Rattle.table.proofs.order.end_below.Tie as tie
 
 abbrev Inv-loop : tie.InvT-loop

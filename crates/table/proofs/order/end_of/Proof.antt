@@ -1,16 +1,9 @@
 -- `end_of` meets its contract: the first child is none that the node takes, or its children decide.
 -- Assumes nothing.
-use mathlib.Core.Path.{_≡_, sym, _∙_, ap}
-use mathlib.Core.Bool.{Bool}
-use mathlib.Core.List.{List}
-use Prim.Native.Nat.{ℕ, _+_}
-use Rattle.table.specs.declared.kinds.Kind.{Kind}
-use Rattle.table.specs.declared.nodes.Node.{Node}
-use Rattle.table.specs.Kinds.{kindOf}
-use Rattle.table.specs.Nodes.{nodeAt, childCount, childCountAt, childSortAt, childFits, childFitsAt}
-use Rattle.table.proofs.Prefix.{wrong-child}
-use borrow.Author.Needs.{needs}
-use Rattle.table.proofs.order.end_of.Statement.{statement}
+use Rattle.words.specs.Prelude.{_≡_, sym, _∙_, ap, Bool, List, ℕ, _+_, needs}
+use Rattle.table.specs.{declared.kinds.Kind.Kind, declared.nodes.Node.Node, Kinds.kindOf, Nodes.nodeAt, Nodes.childCount, Nodes.childCountAt}
+use Rattle.table.specs.{Nodes.childSortAt, Nodes.childFits, Nodes.childFitsAt}
+use Rattle.table.proofs.{Prefix.wrong-child, order.end_of.Statement.statement}
 use Rattle.table.proofs.order.end_of.Tie as tie
 
 -- what was read of the node is what the definitions read

@@ -1,9 +1,9 @@
 -- `misfit_of` meets its contract: a tree's place of misfit is told by its root's word.
 -- Assumes nothing.
-use Rattle.table.specs.Passes.{EndedFrom}
-use Rattle.table.proofs.Prefix.{misfit-none, misfit-sort, misfit-inside, misfit-soon, misfit-fits}
-use borrow.Author.Needs.{needs}
-use Rattle.table.proofs.order.misfit_of.Statement.{statement}
+use Rattle.words.specs.Prelude.{needs}
+use Rattle.table.specs.{Passes.EndedFrom}
+use Rattle.table.proofs.{Prefix.misfit-none, Prefix.misfit-sort, Prefix.misfit-inside, Prefix.misfit-soon, Prefix.misfit-fits}
+use Rattle.table.proofs.{order.misfit_of.Statement.statement}
 use Rattle.table.proofs.order.misfit_of.Tie as tie
 
 returns : tie.Need-returns

@@ -1,9 +1,7 @@
 -- `misfits_of` meets its contract: the first place that one of the four trees gives.
 -- Assumes nothing.
-use mathlib.Core.Path.{_∙_}
-use Rattle.table.proofs.Four.{four-misfits}
-use borrow.Author.Needs.{needs}
-use Rattle.table.proofs.order.misfits_of.Statement.{statement}
+use Rattle.words.specs.Prelude.{_∙_, needs}
+use Rattle.table.proofs.{Four.four-misfits, order.misfits_of.Statement.statement}
 use Rattle.table.proofs.order.misfits_of.Tie as tie
 
 returns : tie.Need-returns

@@ -1,9 +1,8 @@
 -- `order_all` meets its contract: each pass leaves the words of the trees before it as they are.
 -- Assumes nothing.
-use Rattle.table.proofs.Four.{order-four, zeros-at}
-use borrow.Author.Needs.{needs}
-use Rattle.words.specs.Limits.{mostNodes}
-use Rattle.table.proofs.order.order_all.Statement.{statement}
+use Rattle.words.specs.Prelude.{needs}
+use Rattle.table.proofs.{Four.order-four, Four.zeros-at, order.order_all.Statement.statement}
+use Rattle.words.specs.{Limits.mostNodes}
 use Rattle.table.proofs.order.order_all.Tie as tie
 
 returns : tie.Need-returns

@@ -1,15 +1,9 @@
 -- `order_tree` meets its contract. The loop's invariant: the array has the words of the nodes from i on, and is as given elsewhere.
 -- Assumes nothing.
-use native.Mathlib.Omega.{arith}
-use lib.ListN.{length-set}
-use borrow.Author.Needs.{needs}
-use mathlib.Core.Path.{_≡_}
-use Prim.Native.Nat.{_-_, _≤_}
-use lib.ListN.{length}
-use Rattle.words.specs.Limits.{mostNodes}
-use Rattle.table.specs.Passes.{Ordered}
-use Rattle.table.proofs.Prefix.{order-none, from-next, order-more, order-at}
-use Rattle.table.proofs.order.order_tree.Statement.{statement}
+use Rattle.words.specs.Prelude.{arith, length-set, needs, _≡_, _-_, _≤_, length}
+use Rattle.words.specs.{Limits.mostNodes}
+use Rattle.table.specs.{Passes.Ordered}
+use Rattle.table.proofs.{Prefix.order-none, Prefix.from-next, Prefix.order-more, Prefix.order-at, order.order_tree.Statement.statement}
 use Rattle.table.proofs.order.order_tree.Tie as tie
 
 abbrev Inv-loop : tie.InvT-loop

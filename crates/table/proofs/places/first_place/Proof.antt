@@ -1,7 +1,7 @@
 -- `first_place` meets its contract: what the three calls say, put together.
 -- Assumes nothing.
-use borrow.Author.Needs.{needs}
-use Rattle.table.proofs.places.first_place.Statement.{statement}
+use Rattle.words.specs.Prelude.{needs}
+use Rattle.table.proofs.{places.first_place.Statement.statement}
 use Rattle.table.proofs.places.first_place.Tie as tie
 
 pub first-place-spec : {M : Type 1} → statement M

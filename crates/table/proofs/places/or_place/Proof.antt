@@ -1,10 +1,8 @@
 -- `or_place` meets its contract.
 -- Assumes nothing.
-use mathlib.Core.Path.{sym, ap}
-use Rattle.table.specs.declared.places.Place.{Place}
-use Rattle.table.specs.Order.{orPlace}
-use borrow.Author.Needs.{needs}
-use Rattle.table.proofs.places.or_place.Statement.{statement}
+use Rattle.words.specs.Prelude.{sym, ap, needs}
+use Rattle.table.specs.{declared.places.Place.Place, Order.orPlace}
+use Rattle.table.proofs.{places.or_place.Statement.statement}
 use Rattle.table.proofs.places.or_place.Tie as tie
 
 returns : tie.Need-returns

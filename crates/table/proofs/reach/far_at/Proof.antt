@@ -1,8 +1,8 @@
 -- `far_at` meets its contract.
 -- Assumes nothing.
-use borrow.Author.Tests.{lt-ltb, le-ltb}
-use Rattle.table.specs.Reach.{farAt}
-use Rattle.table.proofs.reach.far_at.Statement.{statement}
+use Rattle.words.specs.Prelude.{lt-ltb, le-ltb}
+use Rattle.table.specs.{Reach.farAt}
+use Rattle.table.proofs.{reach.far_at.Statement.statement}
 use Rattle.table.proofs.reach.far_at.Tie as tie
 
 returns : tie.Need-returns

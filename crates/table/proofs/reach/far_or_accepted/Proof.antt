@@ -1,9 +1,7 @@
 -- `far_or_accepted` meets its contract: a reach capped at 4,096 tells as much as the reach.
 -- Assumes nothing.
-use mathlib.Core.Path.{sym, _∙_}
-use Rattle.table.proofs.Four.{fars-are, rows-are, nine-refused, nine-accepted}
-use borrow.Author.Needs.{needs}
-use Rattle.table.proofs.reach.far_or_accepted.Statement.{statement}
+use Rattle.words.specs.Prelude.{sym, _∙_, needs}
+use Rattle.table.proofs.{Four.fars-are, Four.rows-are, Four.nine-refused, Four.nine-accepted, reach.far_or_accepted.Statement.statement}
 use Rattle.table.proofs.reach.far_or_accepted.Tie as tie
 
 returns : tie.Need-returns

@@ -1,10 +1,8 @@
 -- `reach_of` meets its contract: the root's word weighs the whole tree, which ends where the nodes do.
 -- Assumes nothing.
-use Rattle.table.specs.Ends.{Linked}
-use Rattle.table.specs.Passes.{WordsFrom}
-use Rattle.table.proofs.Weigh.{reach-none, reach-one}
-use borrow.Author.Needs.{needs}
-use Rattle.table.proofs.reach.reach_of.Statement.{statement}
+use Rattle.words.specs.Prelude.{needs}
+use Rattle.table.specs.{Ends.Linked, Passes.WordsFrom}
+use Rattle.table.proofs.{Weigh.reach-none, Weigh.reach-one, reach.reach_of.Statement.statement}
 use Rattle.table.proofs.reach.reach_of.Tie as tie
 
 returns : tie.Need-returns

@@ -1,7 +1,7 @@
 -- `too_far` meets its contract.
 -- Assumes nothing.
-use borrow.Author.Needs.{needs}
-use Rattle.table.proofs.reach.too_far.Statement.{statement}
+use Rattle.words.specs.Prelude.{needs}
+use Rattle.table.proofs.{reach.too_far.Statement.statement}
 use Rattle.table.proofs.reach.too_far.Tie as tie
 
 returns : tie.Need-returns

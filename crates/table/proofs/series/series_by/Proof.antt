@@ -1,8 +1,8 @@
 -- Class by class.
 -- Assumes nothing.
-use Rattle.table.specs.Series.{seriesBy}
-use borrow.Author.Needs.{needs}
-use Rattle.table.proofs.series.series_by.Statement.{statement}
+use Rattle.words.specs.Prelude.{needs}
+use Rattle.table.specs.{Series.seriesBy}
+use Rattle.table.proofs.{series.series_by.Statement.statement}
 use Rattle.table.proofs.series.series_by.Tie as tie
 
 pub series-by-spec : {M : Type 1} → statement M

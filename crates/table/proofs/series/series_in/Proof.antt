@@ -1,8 +1,8 @@
 -- `series_in` meets its contract.
 -- Assumes nothing.
-use Rattle.table.specs.Series.{seriesIn}
-use borrow.Author.Needs.{needs}
-use Rattle.table.proofs.series.series_in.Statement.{statement}
+use Rattle.words.specs.Prelude.{needs}
+use Rattle.table.specs.{Series.seriesIn}
+use Rattle.table.proofs.{series.series_in.Statement.statement}
 use Rattle.table.proofs.series.series_in.Tie as tie
 
 pub series-in-spec : {M : Type 1} → statement M

@@ -1,8 +1,7 @@
 -- The tests are those of the definition.
-use borrow.Author.Needs.{needs}
-use borrow.Author.Tests.{eq-eqb, ne-eqb}
-use Rattle.table.specs.Kinds.{isTestKind}
-use Rattle.table.proofs.silent.is_silent.Statement.{statement}
+use Rattle.words.specs.Prelude.{needs, eq-eqb, ne-eqb}
+use Rattle.table.specs.{Kinds.isTestKind}
+use Rattle.table.proofs.{silent.is_silent.Statement.statement}
 use Rattle.table.proofs.silent.is_silent.Tie as tie
 
 pub is-silent-spec : {M : Type 1} → statement M

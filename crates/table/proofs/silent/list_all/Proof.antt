@@ -1,9 +1,7 @@
 -- Each tree's tests follow those of the tree before it.
-use borrow.Author.Needs.{needs}
-use native.Mathlib.Omega.{arith}
-use Rattle.table.specs.Silent.{WholeTrees, fourSilent}
-use Rattle.table.proofs.Listing.{put-four}
-use Rattle.table.proofs.silent.list_all.Statement.{statement}
+use Rattle.words.specs.Prelude.{needs, arith}
+use Rattle.table.specs.{Silent.WholeTrees, Silent.fourSilent}
+use Rattle.table.proofs.{Listing.put-four, silent.list_all.Statement.statement}
 use Rattle.table.proofs.silent.list_all.Tie as tie
 
 pub list-all-spec : {M : Type 1} → statement M

@@ -1,12 +1,8 @@
 -- The loop's invariant: what is still to be put, put after what was, gives what is to be there at the end.
-use borrow.Author.Needs.{needs}
-use mathlib.Core.Path.{sym, _∙_}
-use native.Mathlib.Omega.{arith}
-use Prim.Native.Nat.{_+_, _-_}
-use Rattle.table.specs.Header.{root}
-use Rattle.table.specs.Passes.{WordsFrom, weight}
-use Rattle.table.proofs.Listing.{Listing, listing-start, listing-yes, listing-no, spans, listing-end, listing-puts}
-use Rattle.table.proofs.silent.list_tree.Statement.{statement}
+use Rattle.words.specs.Prelude.{needs, sym, _∙_, arith, _+_, _-_}
+use Rattle.table.specs.{Header.root, Passes.WordsFrom, Passes.weight}
+use Rattle.table.proofs.{Listing.Listing, Listing.listing-start, Listing.listing-yes, Listing.listing-no, Listing.spans, Listing.listing-end}
+use Rattle.table.proofs.{Listing.listing-puts, silent.list_tree.Statement.statement}
 use Rattle.table.proofs.silent.list_tree.Tie as tie
 
 abbrev Inv-loop : tie.InvT-loop

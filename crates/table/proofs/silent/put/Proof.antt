@@ -1,8 +1,6 @@
 -- Past its end a list stays as it is.
-use borrow.Author.Needs.{needs}
-use mathlib.Core.Path.{sym}
-use lib.Seq.{set-out}
-use Rattle.table.proofs.silent.put.Statement.{statement}
+use Rattle.words.specs.Prelude.{needs, sym, set-out}
+use Rattle.table.proofs.{silent.put.Statement.statement}
 use Rattle.table.proofs.silent.put.Tie as tie
 
 pub put-spec : {M : Type 1} → statement M

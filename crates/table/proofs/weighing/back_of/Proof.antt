@@ -1,9 +1,8 @@
 -- `back_of` meets its contract.
 -- Assumes nothing.
-use borrow.Author.Tests.{eq-eqb, ne-eqb}
-use Rattle.table.specs.Reach.{back}
-use borrow.Author.Needs.{needs}
-use Rattle.table.proofs.weighing.back_of.Statement.{statement}
+use Rattle.words.specs.Prelude.{eq-eqb, ne-eqb, needs}
+use Rattle.table.specs.{Reach.back}
+use Rattle.table.proofs.{weighing.back_of.Statement.statement}
 use Rattle.table.proofs.weighing.back_of.Tie as tie
 
 pub back-of-spec : {M : Type 1} → statement M

@@ -1,11 +1,8 @@
 -- `most_below` meets its contract. The loop's invariant: the greatest of the words passed and of those to come is the greatest of all.
 -- Assumes nothing.
-use native.Mathlib.Omega.{arith}
-use Prim.Native.Nat.{_-_, _≤_, _<_}
-use Rattle.table.specs.Ends.{Linked}
-use Rattle.table.proofs.Weigh.{Rest, rest-all, rest-turn, rest-none, rest-end}
-use borrow.Author.Needs.{needs}
-use Rattle.table.proofs.weighing.most_below.Statement.{statement}
+use Rattle.words.specs.Prelude.{arith, _-_, _≤_, _<_, needs}
+use Rattle.table.specs.{Ends.Linked}
+use Rattle.table.proofs.{Weigh.Rest, Weigh.rest-all, Weigh.rest-turn, Weigh.rest-none, Weigh.rest-end, weighing.most_below.Statement.statement}
 use Rattle.table.proofs.weighing.most_below.Tie as tie
 
 abbrev Inv-loop : tie.InvT-loop

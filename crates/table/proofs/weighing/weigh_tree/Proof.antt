@@ -1,15 +1,10 @@
 -- `weigh_tree` meets its contract. The loop's invariant: the array has what each subtree from node i on weighs, capped at 4,096.
 -- Assumes nothing.
-use Rattle.table.proofs.Weigh.{words-next, most-small}
-use mathlib.Core.Path.{_≡_}
-use Prim.Native.Nat.{_-_, _≤_}
-use native.Mathlib.Omega.{arith}
-use lib.ListN.{length, length-set}
-use Rattle.table.specs.Passes.{WordsFrom, weight}
-use Rattle.table.proofs.Weigh.{words-none, words-more, words-at, links-next}
-use borrow.Author.Needs.{needs}
-use Rattle.words.specs.Limits.{mostNodes}
-use Rattle.table.proofs.weighing.weigh_tree.Statement.{statement}
+use Rattle.words.specs.Prelude.{_≡_, _-_, _≤_, arith, length, length-set, needs}
+use Rattle.table.proofs.{Weigh.words-next, Weigh.most-small, Weigh.words-none, Weigh.words-more, Weigh.words-at, Weigh.links-next}
+use Rattle.table.proofs.{weighing.weigh_tree.Statement.statement}
+use Rattle.table.specs.{Passes.WordsFrom, Passes.weight}
+use Rattle.words.specs.{Limits.mostNodes}
 use Rattle.table.proofs.weighing.weigh_tree.Tie as tie
 
 abbrev Inv-loop : tie.InvT-loop

@@ -1,13 +1,9 @@
 -- `weight_at` meets its contract.
 -- Assumes nothing.
-use mathlib.Core.Path.{_∙_, ap}
-use Prim.Native.Nat.{ℕ, min}
-use borrow.Author.Tests.{eq-eqb, ne-eqb}
-use Rattle.table.specs.Reach.{ownBack}
-use Rattle.table.specs.Passes.{weight}
-use borrow.Author.Needs.{needs}
-use Rattle.words.specs.Limits.{mostRows}
-use Rattle.table.proofs.weighing.weight_at.Statement.{statement}
+use Rattle.words.specs.Prelude.{_∙_, ap, ℕ, min, eq-eqb, ne-eqb, needs}
+use Rattle.table.specs.{Reach.ownBack, Passes.weight}
+use Rattle.words.specs.{Limits.mostRows}
+use Rattle.table.proofs.{weighing.weight_at.Statement.statement}
 use Rattle.table.proofs.weighing.weight_at.Tie as tie
 
 returns : tie.Need-returns

@@ -1,7 +1,7 @@
 -- The word that holds the byte, moved.
-use borrow.Author.Needs.{needs}
-use Rattle.text.specs.Rooms.{byteIn}
-use Rattle.text.proofs.rooms.byte_from.Statement.{statement}
+use Rattle.words.specs.Prelude.{needs}
+use Rattle.text.specs.{Rooms.byteIn}
+use Rattle.text.proofs.{rooms.byte_from.Statement.statement}
 use Rattle.text.proofs.rooms.byte_from.Tie as tie
 
 returns : tie.Need-returns

@@ -1,9 +1,7 @@
 -- The part, or the part past the end, which is nothing.
-use borrow.Author.Needs.{needs}
-use borrow.Author.Tests.{lt-ltb, le-ltb}
-use Rattle.text.specs.Rooms.{partOf}
-use Rattle.text.specs.Laws.Laid.{nothing-left}
-use Rattle.text.proofs.rooms.bytes.Statement.{statement}
+use Rattle.words.specs.Prelude.{needs, lt-ltb, le-ltb}
+use Rattle.text.specs.{Rooms.partOf, Laws.Laid.nothing-left}
+use Rattle.text.proofs.{rooms.bytes.Statement.statement}
 use Rattle.text.proofs.rooms.bytes.Tie as tie
 
 returns : tie.Need-returns

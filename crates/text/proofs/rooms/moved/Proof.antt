@@ -1,7 +1,7 @@
 -- A division for each byte but the last.
-use native.Mathlib.Omega.{arith}
-use Rattle.text.specs.Laws.Laid.{moved-to, not-moved}
-use Rattle.text.proofs.rooms.moved.Statement.{statement}
+use Rattle.words.specs.Prelude.{arith}
+use Rattle.text.specs.{Laws.Laid.moved-to, Laws.Laid.not-moved}
+use Rattle.text.proofs.{rooms.moved.Statement.statement}
 use Rattle.text.proofs.rooms.moved.Tie as tie
 
 returns : tie.Need-returns

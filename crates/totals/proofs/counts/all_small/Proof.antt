@@ -1,17 +1,9 @@
 -- Those passed are small: the rest decides. Assumes nothing.
-use mathlib.Core.Path.{_≡_, refl, sym, ap, _∙_}
-use mathlib.Core.Bool.{Bool, true, false}
-use mathlib.Core.List.{List, [], _∷_}
-use Prim.Native.Nat.{ℕ, suc, _+_, _-_, _<_, _≤_}
-use native.Mathlib.Omega.{arith}
-use native.Mathlib.Numerals.{add-one}
-use borrow.Author.Needs.{needs}
-use borrow.Author.Tests.{le-leb, lt-leb}
-use lib.ListN.{length, getD, drop, drop-of-length-le}
-use lib.Seq.{drop-cons}
-use Rattle.words.specs.Limits.{mostCount}
-use Rattle.totals.specs.Totals.{allSmall}
-use Rattle.totals.proofs.counts.all_small.Statement.{statement}
+use Rattle.words.specs.Prelude.{_≡_, refl, sym, ap, _∙_, Bool, true, false, List, [], _∷_, ℕ, suc, _+_, _-_, _<_, _≤_, arith, add-one, needs, le-leb, lt-leb}
+use Rattle.words.specs.Prelude.{length, getD, drop, drop-of-length-le, drop-cons}
+use Rattle.words.specs.{Limits.mostCount}
+use Rattle.totals.specs.{Totals.allSmall}
+use Rattle.totals.proofs.{counts.all_small.Statement.statement}
 use Rattle.totals.proofs.counts.all_small.Tie as tie
 
 abbrev Inv-loop : tie.InvT-loop

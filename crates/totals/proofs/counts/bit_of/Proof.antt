@@ -1,7 +1,7 @@
 -- A bit for each of the two. Assumes nothing.
-use mathlib.Core.Path.{refl}
-use Rattle.totals.specs.Trades.{bitOf}
-use Rattle.totals.proofs.counts.bit_of.Statement.{statement}
+use Rattle.words.specs.Prelude.{refl}
+use Rattle.totals.specs.{Trades.bitOf}
+use Rattle.totals.proofs.{counts.bit_of.Statement.statement}
 use Rattle.totals.proofs.counts.bit_of.Tie as tie
 
 returns : tie.Need-returns

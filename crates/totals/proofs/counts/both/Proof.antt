@@ -1,9 +1,7 @@
 -- Two counts, each below 2^32, fit a word. Assumes nothing.
-use mathlib.Core.Path.{refl}
-use native.Mathlib.Omega.{arith}
-use borrow.Author.Needs.{needs}
-use Rattle.totals.specs.Totals.{bothCounts}
-use Rattle.totals.proofs.counts.both.Statement.{statement}
+use Rattle.words.specs.Prelude.{refl, arith, needs}
+use Rattle.totals.specs.{Totals.bothCounts}
+use Rattle.totals.proofs.{counts.both.Statement.statement}
 use Rattle.totals.proofs.counts.both.Tie as tie
 
 add-t7 : tie.Need-add-t7

@@ -1,14 +1,9 @@
 -- Three counts are set: the reason's, wins, losses. Assumes nothing.
-use mathlib.Core.Path.{_≡_, sym, ap, subst, _∙_}
-use Prim.Native.Nat.{ℕ, _-_, _≤_}
-use native.Mathlib.Omega.{arith}
-use borrow.Author.Needs.{needs}
-use lib.Ieee.{Float}
+use Rattle.words.specs.Prelude.{_≡_, sym, ap, subst, _∙_, ℕ, _-_, _≤_, arith, needs, Float}
+use Rattle.floats.specs.{Floats._≺_}
+use Rattle.totals.specs.{Trades.bitOf, Trades.trade, Trades.won, Trades.lost, Laws.Counts.counted, Laws.Counts.counts-one, Laws.Counts.bit-most}
+use Rattle.totals.proofs.{counts.count.Statement.statement}
 use Rattle.floats.specs.Floats as Floats
-use Rattle.floats.specs.Floats.{_≺_}
-use Rattle.totals.specs.Trades.{bitOf, trade, won, lost}
-use Rattle.totals.specs.Laws.Counts.{counted, counts-one, bit-most}
-use Rattle.totals.proofs.counts.count.Statement.{statement}
 use Rattle.totals.proofs.counts.count.Tie as tie
 
 add-ended : tie.Need-add-ended

@@ -1,18 +1,10 @@
 -- What is counted and what is still to be counted, up to the first trade that cannot be, make up the whole. Assumes nothing.
-use mathlib.Core.Path.{_≡_, refl, sym, ap, subst, _∙_}
-use mathlib.Core.Bool.{Bool, true, false}
-use mathlib.Core.List.{List, [], _∷_}
-use Prim.Native.Nat.{ℕ, suc, _+_, _-_, _*_, _<_, _≤_}
-use native.Mathlib.Omega.{arith}
-use borrow.Author.Needs.{needs}
-use lib.ListN.{length, getD}
-use Rattle.words.specs.Limits.{tradeWords, mostCount}
-use Rattle.totals.specs.Trades.{Trade, tradeAt, tradesFrom, acceptable, goodStart}
-use Rattle.totals.specs.Totals.{countSize, AllAtMost, withCounts}
-use Rattle.totals.specs.Laws.Trades.{trades-next, trades-none, good-next, good-ends, acceptable-reason}
-use Rattle.totals.specs.Laws.Counts.{counts-none, counts-twice, length-counts, one-more}
-use Rattle.totals.proofs.Testing.{so, not-so}
-use Rattle.totals.proofs.counts.count_trades.Statement.{statement}
+use Rattle.words.specs.Prelude.{_≡_, refl, sym, ap, subst, _∙_, Bool, true, false, List, [], _∷_, ℕ, suc, _+_, _-_, _*_, _<_, _≤_, arith, needs, length, getD}
+use Rattle.words.specs.{Limits.tradeWords, Limits.mostCount}
+use Rattle.totals.specs.{Trades.Trade, Trades.tradeAt, Trades.tradesFrom, Trades.acceptable, Trades.goodStart, Totals.countSize, Totals.AllAtMost}
+use Rattle.totals.specs.{Totals.withCounts, Laws.Trades.trades-next, Laws.Trades.trades-none, Laws.Trades.good-next, Laws.Trades.good-ends}
+use Rattle.totals.specs.{Laws.Trades.acceptable-reason, Laws.Counts.counts-none, Laws.Counts.counts-twice, Laws.Counts.length-counts, Laws.Counts.one-more}
+use Rattle.totals.proofs.{Testing.so, Testing.not-so, counts.count_trades.Statement.statement}
 use Rattle.totals.proofs.counts.count_trades.Tie as tie
 
 -- the good ones from trade i on, of n

@@ -1,7 +1,7 @@
 -- Each count is a word of its own. Assumes nothing.
-use borrow.Author.Needs.{needs}
-use Rattle.totals.specs.Totals.{countsOf}
-use Rattle.totals.proofs.counts.counts_of.Statement.{statement}
+use Rattle.words.specs.Prelude.{needs}
+use Rattle.totals.specs.{Totals.countsOf}
+use Rattle.totals.proofs.{counts.counts_of.Statement.statement}
 use Rattle.totals.proofs.counts.counts_of.Tie as tie
 
 returns : tie.Need-returns

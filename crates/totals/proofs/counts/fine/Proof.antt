@@ -1,14 +1,7 @@
 -- Small ones can be added up. Assumes nothing.
-use mathlib.Core.Path.{_≡_, refl, sym, ap, _∙_}
-use mathlib.Core.Bool.{true}
-use Prim.Native.Nat.{ℕ, _+_}
-use native.Mathlib.Omega.{arith}
-use borrow.Author.Needs.{needs}
-use lib.Dec.{leb}
-use lib.ListN.{getD}
-use Rattle.totals.specs.Totals.{countsFine}
-use Rattle.totals.specs.Laws.Counts.{small-all}
-use Rattle.totals.proofs.counts.fine.Statement.{statement}
+use Rattle.words.specs.Prelude.{_≡_, refl, sym, ap, _∙_, true, ℕ, _+_, arith, needs, leb, getD}
+use Rattle.totals.specs.{Totals.countsFine, Laws.Counts.small-all}
+use Rattle.totals.proofs.{counts.fine.Statement.statement}
 use Rattle.totals.proofs.counts.fine.Tie as tie
 
 add-result : tie.Need-add-result

@@ -1,9 +1,7 @@
 -- The reason, then the pnl. Assumes nothing.
-use mathlib.Core.Path.{sym}
-use borrow.Author.Needs.{needs}
-use borrow.Author.Tests.{le-leb, lt-leb}
-use Rattle.totals.specs.Trades.{acceptable}
-use Rattle.totals.proofs.counts.is_acceptable.Statement.{statement}
+use Rattle.words.specs.Prelude.{sym, needs, le-leb, lt-leb}
+use Rattle.totals.specs.{Trades.acceptable}
+use Rattle.totals.proofs.{counts.is_acceptable.Statement.statement}
 use Rattle.totals.proofs.counts.is_acceptable.Tie as tie
 
 returns : tie.Need-returns

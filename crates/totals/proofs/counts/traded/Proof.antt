@@ -1,9 +1,7 @@
 -- Six counts, each below 2^32, fit a word. Assumes nothing.
-use mathlib.Core.Path.{refl}
-use native.Mathlib.Omega.{arith}
-use borrow.Author.Needs.{needs}
-use Rattle.totals.specs.Totals.{traded}
-use Rattle.totals.proofs.counts.traded.Statement.{statement}
+use Rattle.words.specs.Prelude.{refl, arith, needs}
+use Rattle.totals.specs.{Totals.traded}
+use Rattle.totals.proofs.{counts.traded.Statement.statement}
 use Rattle.totals.proofs.counts.traded.Tie as tie
 
 add-result : tie.Need-add-result

@@ -1,12 +1,7 @@
 -- `totals::nearest::clear_below`: the word where place j is, and those below it. Assumes nothing.
-use mathlib.Core.Path.{_≡_, refl, sym, ap, subst, _∙_}
-use Prim.Native.Nat.{ℕ, suc, _+_, _-_, _*_, _/_, _%_, _^_, _<_, _≤_, min}
-use native.Mathlib.Omega.{arith}
-use borrow.Author.Needs.{needs}
-use lib.ListN.{getD, length}
-use Rattle.totals.specs.Number.{numberOf, AreWords}
-use Rattle.totals.proofs.Reading.{same-word, other-word, clear-below, not-clear}
-use Rattle.totals.proofs.nearest.clear_below.Statement.{statement}
+use Rattle.words.specs.Prelude.{_≡_, refl, sym, ap, subst, _∙_, ℕ, suc, _+_, _-_, _*_, _/_, _%_, _^_, _<_, _≤_, min, arith, needs, getD, length}
+use Rattle.totals.specs.{Number.numberOf, Number.AreWords}
+use Rattle.totals.proofs.{Reading.same-word, Reading.other-word, Reading.clear-below, Reading.not-clear, nearest.clear_below.Statement.statement}
 use Rattle.totals.proofs.nearest.clear_below.Tie as tie
 
 returns : tie.Need-returns

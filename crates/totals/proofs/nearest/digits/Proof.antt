@@ -1,14 +1,8 @@
 -- `totals::nearest::digits`: the highest word that is not 0 has the first digit. Assumes nothing.
-use mathlib.Core.Path.{_≡_, refl, sym, ap, subst, _∙_}
-use Prim.Native.Nat.{ℕ, suc, _+_, _-_, _*_, _/_, _%_, _^_, _<_, _≤_, min}
-use native.Mathlib.Omega.{arith}
-use borrow.Author.Needs.{needs}
-use lib.ListN.{getD, length}
-use Rattle.totals.specs.Number.{numberOf, AreWords}
-use lib.Count.{leadingZeros, leading-le}
-use Rattle.totals.specs.Number.{Top}
-use Rattle.totals.proofs.Reading.{size-of-top, size-of-none}
-use Rattle.totals.proofs.nearest.digits.Statement.{statement}
+use Rattle.words.specs.Prelude.{_≡_, refl, sym, ap, subst, _∙_, ℕ, suc, _+_, _-_, _*_, _/_, _%_, _^_, _<_, _≤_, min, arith, needs, getD, length, leadingZeros}
+use Rattle.totals.specs.{Number.numberOf, Number.AreWords, Number.Top}
+use Rattle.totals.proofs.{Reading.size-of-top, Reading.size-of-none, nearest.digits.Statement.statement}
+use lib.Count.{leading-le}
 use Rattle.totals.proofs.nearest.digits.Tie as tie
 
 returns : tie.Need-returns

@@ -1,12 +1,7 @@
 -- `totals::nearest::kept`: few digits lie in one word or in two. Assumes nothing.
-use mathlib.Core.Path.{_≡_, refl, sym, ap, subst, _∙_}
-use Prim.Native.Nat.{ℕ, suc, _+_, _-_, _*_, _/_, _%_, _^_, _<_, _≤_}
-use native.Mathlib.Omega.{arith}
-use borrow.Author.Needs.{needs}
-use lib.ListN.{getD}
-use Rattle.totals.specs.Number.{numberOf, AreWords}
-use Rattle.totals.proofs.Reading.{few-digits, few-whole}
-use Rattle.totals.proofs.nearest.kept.Statement.{statement}
+use Rattle.words.specs.Prelude.{_≡_, refl, sym, ap, subst, _∙_, ℕ, suc, _+_, _-_, _*_, _/_, _%_, _^_, _<_, _≤_, arith, needs, getD}
+use Rattle.totals.specs.{Number.numberOf, Number.AreWords}
+use Rattle.totals.proofs.{Reading.few-digits, Reading.few-whole, nearest.kept.Statement.statement}
 use Rattle.totals.proofs.nearest.kept.Tie as tie
 
 -- the two words' digits, as the code adds them

@@ -1,15 +1,8 @@
 -- `totals::nearest::nearest`: 53 digits, how many were dropped, and no more than an infinity. Assumes nothing.
-use mathlib.Core.Path.{_≡_, refl, sym, ap, subst, _∙_}
-use Prim.Native.Nat.{ℕ, suc, _+_, _-_, _*_, _/_, _%_, _^_, _<_, _≤_, min}
-use native.Mathlib.Omega.{arith}
-use borrow.Author.Needs.{needs}
-use lib.ListN.{getD, length}
-use Rattle.totals.specs.Number.{numberOf, AreWords}
-use lib.Ieee.{size}
-use lib.Ieee.Fits.{kept-lt}
-use lib.Ieee.Nearest.{closest}
-use Rattle.totals.proofs.Rounding.{size-most, nearest-small, nearest-large, kept-most}
-use Rattle.totals.proofs.nearest.nearest.Statement.{statement}
+use Rattle.words.specs.Prelude.{_≡_, refl, sym, ap, subst, _∙_, ℕ, suc, _+_, _-_, _*_, _/_, _%_, _^_, _<_, _≤_, min, arith, needs, getD, length, size, kept-lt}
+use Rattle.words.specs.Prelude.{closest}
+use Rattle.totals.specs.{Number.numberOf, Number.AreWords}
+use Rattle.totals.proofs.{Rounding.size-most, Rounding.nearest-small, Rounding.nearest-large, Rounding.kept-most, nearest.nearest.Statement.statement}
 use Rattle.totals.proofs.nearest.nearest.Tie as tie
 
 le-of : {x y : ℕ} → x ≡ y → x ≤ 53 → y ≤ 53

@@ -1,19 +1,10 @@
 -- `totals::nearest::nearest_to`: the highest digit is the sign; the size of a negative sum is 0 less it. Assumes nothing.
-use mathlib.Core.Path.{_≡_, refl, sym, ap, subst, _∙_}
-use mathlib.Core.Bool.{true, false}
-use Prim.Native.Nat.{ℕ, suc, _+_, _-_, _*_, _^_, _<_, _≤_}
-use native.Mathlib.Omega.{arith}
-use borrow.Author.Needs.{needs}
-use lib.ListN.{getD, length, replicate}
-use lib.IntN.{ℤ}
-use lib.Ieee.{binary64, round, toBits}
-use Rattle.totals.specs.Number.{numberOf, AreWords, place, wordsOf, shifted}
-use Rattle.totals.specs.Laws.Places.{number-below, place-some}
-use Rattle.totals.specs.Laws.Residues.{shifted-below}
-use Rattle.totals.specs.Laws.Places.{number-words}
-use Rattle.totals.specs.Exact.{nearestTo, numberIn}
-use Rattle.totals.proofs.Sign.{not-negative, negative, some-of-negative, negated, pattern-most, nearest-negative}
-use Rattle.totals.proofs.nearest.nearest_to.Statement.{statement}
+use Rattle.words.specs.Prelude.{_≡_, refl, sym, ap, subst, _∙_, true, false, ℕ, suc, _+_, _-_, _*_, _^_, _<_, _≤_, arith, needs, getD, length, replicate, ℤ}
+use Rattle.words.specs.Prelude.{binary64, round, toBits}
+use Rattle.totals.specs.{Number.numberOf, Number.AreWords, Number.place, Number.wordsOf, Number.shifted, Laws.Places.number-below, Laws.Places.place-some}
+use Rattle.totals.specs.{Laws.Residues.shifted-below, Laws.Places.number-words, Exact.nearestTo, Exact.numberIn}
+use Rattle.totals.proofs.{Sign.not-negative, Sign.negative, Sign.some-of-negative, Sign.negated, Sign.pattern-most, Sign.nearest-negative}
+use Rattle.totals.proofs.{nearest.nearest_to.Statement.statement}
 use Rattle.totals.proofs.nearest.nearest_to.Tie as tie
 
 returns : tie.Need-returns

@@ -1,15 +1,8 @@
 -- `totals::nearest::rounded`: by the first digit that is dropped, and whether any other is. Assumes nothing.
-use mathlib.Core.Path.{_≡_, refl, sym, ap, subst, _∙_}
-use Prim.Native.Nat.{ℕ, suc, _+_, _-_, _*_, _/_, _%_, _^_, _<_, _≤_, min}
-use native.Mathlib.Omega.{arith}
-use borrow.Author.Needs.{needs}
-use lib.ListN.{getD, length}
-use Rattle.totals.specs.Number.{numberOf, AreWords}
-use borrow.Author.Tests.{eqb-true, eqb-false}
-use lib.Ieee.Nearest.{closest}
-use Rattle.totals.proofs.Reading.{digit-at}
-use Rattle.totals.proofs.Rounding.{round-down, round-even, round-up}
-use Rattle.totals.proofs.nearest.rounded.Statement.{statement}
+use Rattle.words.specs.Prelude.{_≡_, refl, sym, ap, subst, _∙_, ℕ, suc, _+_, _-_, _*_, _/_, _%_, _^_, _<_, _≤_, min, arith, needs, getD, length, eqb-true}
+use Rattle.words.specs.Prelude.{eqb-false, closest}
+use Rattle.totals.specs.{Number.numberOf, Number.AreWords}
+use Rattle.totals.proofs.{Reading.digit-at, Rounding.round-down, Rounding.round-even, Rounding.round-up, nearest.rounded.Statement.statement}
 use Rattle.totals.proofs.nearest.rounded.Tie as tie
 
 up : (k : ℕ) → 0 < k → suc (k - 1) ≡ k

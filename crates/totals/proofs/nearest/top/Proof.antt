@@ -1,15 +1,7 @@
 -- `totals::nearest::top`: the words from t on are 0. Assumes nothing.
-use mathlib.Core.Path.{_≡_, refl, sym, ap, _∙_}
-use mathlib.Core.List.{List}
-use Prim.Native.Nat.{ℕ, suc, _+_, _-_, _*_, _<_, _≤_}
-use native.Mathlib.Nat.{zero-mul, add-zero, lt-irrefl}
-use native.Mathlib.Omega.{arith}
-use borrow.Author.Needs.{needs}
-use lib.ListN.{take, getD}
-use Rattle.totals.specs.Number.{numberOf, place}
-use Rattle.totals.proofs.Digits.{number-take}
-use Rattle.totals.specs.Number.{Top}
-use Rattle.totals.proofs.nearest.top.Statement.{statement}
+use Rattle.words.specs.Prelude.{_≡_, refl, sym, ap, _∙_, List, ℕ, suc, _+_, _-_, _*_, _<_, _≤_, zero-mul, add-zero, lt-irrefl, arith, needs, take, getD}
+use Rattle.totals.specs.{Number.numberOf, Number.place, Number.Top}
+use Rattle.totals.proofs.{Digits.number-take, nearest.top.Statement.statement}
 use Rattle.totals.proofs.nearest.top.Tie as tie
 
 abbrev Inv-loop : tie.InvT-loop

@@ -1,16 +1,8 @@
 -- `totals::sum::add_float`: a float's digits, moved to their place, lie in two words. Assumes nothing.
-use mathlib.Core.Path.{_≡_, refl, sym, ap, subst, _∙_}
-use mathlib.Core.Bool.{Bool, true, false}
-use mathlib.Core.List.{List}
-use Prim.Native.Nat.{ℕ, suc, _+_, _-_, _*_, _/_, _%_, _^_, _<_, _≤_}
-use native.Mathlib.Nat.{div-le-self}
-use native.Mathlib.Omega.{arith}
-use borrow.Author.Needs.{needs}
-use lib.Dec.{leb}
-use lib.ListN.{length}
-use Rattle.totals.specs.Number.{place, numberOf, wordsOf, shifted}
-use Rattle.totals.proofs.Digits.{at-place, units-small, units-large}
-use Rattle.totals.proofs.sum.add_float.Statement.{statement}
+use Rattle.words.specs.Prelude.{_≡_, refl, sym, ap, subst, _∙_, Bool, true, false, List, ℕ, suc, _+_, _-_, _*_, _/_, _%_, _^_, _<_, _≤_, div-le-self, arith, needs}
+use Rattle.words.specs.Prelude.{leb, length}
+use Rattle.totals.specs.{Number.place, Number.numberOf, Number.wordsOf, Number.shifted}
+use Rattle.totals.proofs.{Digits.at-place, Digits.units-small, Digits.units-large, sum.add_float.Statement.statement}
 use Rattle.totals.proofs.sum.add_float.Tie as tie
 
 small : (m s : ℕ) → m < 2 ^ 53 → m / 2 / 2 ^ s < 2 ^ 63

@@ -1,12 +1,7 @@
 -- Words are added as numbers: what they stand for is added. Assumes nothing.
-use mathlib.Core.Path.{_≡_, ap, _∙_}
-use mathlib.Core.Bool.{false}
-use Prim.Native.Nat.{ℕ}
-use native.Mathlib.Omega.{arith}
-use borrow.Author.Needs.{needs}
-use Rattle.totals.specs.Number.{AreWords, numberOf, wordsOf, shifted, place}
-use Rattle.totals.specs.Laws.Sums.{sum-with-sum}
-use Rattle.totals.proofs.sum.add_sum.Statement.{statement}
+use Rattle.words.specs.Prelude.{_≡_, ap, _∙_, false, ℕ, arith, needs}
+use Rattle.totals.specs.{Number.AreWords, Number.numberOf, Number.wordsOf, Number.shifted, Number.place, Laws.Sums.sum-with-sum}
+use Rattle.totals.proofs.{sum.add_sum.Statement.statement}
 use Rattle.totals.proofs.sum.add_sum.Tie as tie
 
 returns : tie.Need-returns

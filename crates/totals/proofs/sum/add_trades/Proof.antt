@@ -1,21 +1,11 @@
 -- What is in the sum and the pnl to come make up the whole. Assumes nothing.
-use mathlib.Core.Path.{_≡_, refl, sym, ap, subst, _∙_}
-use mathlib.Core.List.{List, [], _∷_}
-use Prim.Native.Nat.{ℕ, _+_, _-_, _*_, _/_, _%_, _^_, _<_, _≤_}
-use native.Mathlib.Omega.{arith}
-use borrow.Author.Needs.{needs}
-use lib.Dec.{leb}
-use lib.ListN.{length, getD}
-use Rattle.words.specs.Words.{word}
-use Rattle.words.specs.Limits.{tradeWords}
-use Rattle.floats.specs.Root.{unitsOf}
-use Rattle.totals.specs.Number.{AreWords, numberOf, wordsOf, shifted, place}
-use Rattle.totals.specs.Exact.{unitsIn, sumSize}
-use Rattle.totals.specs.Trades.{Trade, tradesFrom, tradesOf, pnlSum}
-use Rattle.totals.specs.Totals.{sumWith}
-use Rattle.totals.specs.Laws.Trades.{trades-next, trades-none}
-use Rattle.totals.specs.Laws.Sums.{sum-with-float, sum-with-twice, sum-with-none, sum-words, sum-length}
-use Rattle.totals.proofs.sum.add_trades.Statement.{statement}
+use Rattle.words.specs.Prelude.{_≡_, refl, sym, ap, subst, _∙_, List, [], _∷_, ℕ, _+_, _-_, _*_, _/_, _%_, _^_, _<_, _≤_, arith, needs, leb, length, getD}
+use Rattle.words.specs.{Words.word, Limits.tradeWords}
+use Rattle.floats.specs.{Root.unitsOf}
+use Rattle.totals.specs.{Number.AreWords, Number.numberOf, Number.wordsOf, Number.shifted, Number.place, Exact.unitsIn, Exact.sumSize, Trades.Trade}
+use Rattle.totals.specs.{Trades.tradesFrom, Trades.tradesOf, Trades.pnlSum, Totals.sumWith, Laws.Trades.trades-next, Laws.Trades.trades-none}
+use Rattle.totals.specs.{Laws.Sums.sum-with-float, Laws.Sums.sum-with-twice, Laws.Sums.sum-with-none, Laws.Sums.sum-words, Laws.Sums.sum-length}
+use Rattle.totals.proofs.{sum.add_trades.Statement.statement}
 use Rattle.totals.proofs.sum.add_trades.Tie as tie
 
 abbrev Inv-loop : tie.InvT-loop

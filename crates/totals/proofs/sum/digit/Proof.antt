@@ -1,6 +1,6 @@
 -- `totals::sum::digit`: one of the two, by the sign. Assumes nothing.
-use borrow.Author.Needs.{needs}
-use Rattle.totals.proofs.sum.digit.Statement.{statement}
+use Rattle.words.specs.Prelude.{needs}
+use Rattle.totals.proofs.{sum.digit.Statement.statement}
 use Rattle.totals.proofs.sum.digit.Tie as tie
 
 returns : tie.Need-returns

@@ -1,15 +1,8 @@
 -- `totals::sum::shift`: what was moved and what is still to be moved, at the place of word i, make up the whole. Assumes nothing.
-use mathlib.Core.Path.{_≡_, refl, sym, ap, subst, _∙_}
-use mathlib.Core.Bool.{Bool, true, false}
-use Prim.Native.Nat.{ℕ, _+_, _-_, _*_, _^_, _<_, _≤_}
-use native.Mathlib.Nat.{zero-mul}
-use native.Mathlib.Omega.{arith}
-use native.Mathlib.Numerals.{add-one}
-use borrow.Author.Needs.{needs}
-use lib.ListN.{length, length-set}
-use Rattle.totals.specs.Number.{Moves, AreWords, numberOf, place}
-use Rattle.totals.proofs.Numbers.{moves-on, words-settled, past, set-words}
-use Rattle.totals.proofs.sum.shift.Statement.{statement}
+use Rattle.words.specs.Prelude.{_≡_, refl, sym, ap, subst, _∙_, Bool, true, false, ℕ, _+_, _-_, _*_, _^_, _<_, _≤_, zero-mul, arith, add-one, needs, length}
+use Rattle.words.specs.Prelude.{length-set}
+use Rattle.totals.specs.{Number.Moves, Number.AreWords, Number.numberOf, Number.place}
+use Rattle.totals.proofs.{Numbers.moves-on, Numbers.words-settled, Numbers.past, Numbers.set-words, sum.shift.Statement.statement}
 use Rattle.totals.proofs.sum.shift.Tie as tie
 
 abbrev Inv-loop : tie.InvT-loop

@@ -1,19 +1,10 @@
 -- `totals::sum::shift_all`: after i words the number of the first i has been moved. Assumes nothing.
-use mathlib.Core.Path.{_≡_, refl, sym, ap, subst, _∙_}
-use mathlib.Core.Bool.{Bool, true, false}
-use mathlib.Core.List.{List}
-use Prim.Native.Nat.{ℕ, suc, _+_, _-_, _*_, _/_, _%_, _^_, _<_, _≤_}
-use native.Mathlib.Omega.{arith}
-use native.Mathlib.Numerals.{add-one}
-use borrow.Author.Needs.{needs}
-use lib.ListN.{length, take, getD}
-use native.Mathlib.Nat.{add-zero}
-use lib.Seq.{take-length}
-use Rattle.totals.specs.Number.{place, numberOf, wordsOf, shifted, AreWords}
-use Rattle.totals.specs.Laws.Places.{words-of-number, number-below, place-some, length-words, number-words}
-use Rattle.totals.specs.Laws.Residues.{shifted-below, shifted-none, shifted-twice}
-use Rattle.totals.proofs.Digits.{number-take}
-use Rattle.totals.proofs.sum.shift_all.Statement.{statement}
+use Rattle.words.specs.Prelude.{_≡_, refl, sym, ap, subst, _∙_, Bool, true, false, List, ℕ, suc, _+_, _-_, _*_, _/_, _%_, _^_, _<_, _≤_, arith, add-one, needs}
+use Rattle.words.specs.Prelude.{length, take, getD, add-zero, take-length}
+use Rattle.totals.specs.{Number.place, Number.numberOf, Number.wordsOf, Number.shifted, Number.AreWords, Laws.Places.words-of-number}
+use Rattle.totals.specs.{Laws.Places.number-below, Laws.Places.place-some, Laws.Places.length-words, Laws.Places.number-words, Laws.Residues.shifted-below}
+use Rattle.totals.specs.{Laws.Residues.shifted-none, Laws.Residues.shifted-twice}
+use Rattle.totals.proofs.{Digits.number-take, sum.shift_all.Statement.statement}
 use Rattle.totals.proofs.sum.shift_all.Tie as tie
 
 abbrev Inv-loop : tie.InvT-loop

@@ -1,13 +1,7 @@
 -- The 34 words from word 8 on. Assumes nothing.
-use mathlib.Core.Path.{_≡_, _∙_}
-use Prim.Native.Nat.{_-_}
-use native.Mathlib.Omega.{arith}
-use borrow.Author.Needs.{needs}
-use lib.ListN.{length, take, drop, length-drop}
-use lib.Seq.{length-take-le}
-use Rattle.totals.specs.Totals.{sumWords}
-use Rattle.totals.proofs.Writing.{copied}
-use Rattle.totals.proofs.sum.sum_of.Statement.{statement}
+use Rattle.words.specs.Prelude.{_≡_, _∙_, _-_, arith, needs, length, take, drop, length-drop, length-take-le}
+use Rattle.totals.specs.{Totals.sumWords}
+use Rattle.totals.proofs.{Writing.copied, sum.sum_of.Statement.statement}
 use Rattle.totals.proofs.sum.sum_of.Tie as tie
 
 returns : tie.Need-returns

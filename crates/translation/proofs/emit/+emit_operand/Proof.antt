@@ -1,16 +1,12 @@
 -- By the node's shape: a leaf is one step, Prev is its operand further back, arithmetic is its operands and one step more.
-use Prim.Native.Nat.{ℕ, _<_}
-use mathlib.Core.Path.{_∙_}
-use native.Mathlib.Omega.{arith}
-use borrow.Author.Needs.{needs}
+use Rattle.words.specs.Prelude.{ℕ, _<_, _∙_, arith, needs, In, Measures, is, falls, and}
+use Rattle.steps.specs.{Bytes.stepOf}
+use Rattle.translation.proofs.{Writes.fits-first, Writes.fits-rest, Writes.fits-one, Writes.wrote-then, Writes.wrote-one, Operands.ground, Operands.a-const}
+use Rattle.translation.proofs.{Operands.a-ref, Operands.a-price, Operands.a-prev, Operands.a-sum, Operands.no-operand, Operands.code-const}
+use Rattle.translation.proofs.{Operands.code-ref, Operands.code-price, Operands.code-prev, Operands.code-sum, Operands.an-extreme, Operands.code-extreme}
+use Rattle.translation.proofs.{Operands.extreme-reach, Operands.prev-reach, Operands.first-reach, Operands.second-reach, emit.+emit_operand.statement}
+use Rattle.translation.proofs.{emit.+emit_operand.Tie.close}
 use Rattle.steps.specs.declared.step.Op.the-variants as Op
-use Rattle.steps.specs.Bytes.{stepOf}
-use Rattle.translation.proofs.Writes.{fits-first, fits-rest, fits-one, wrote-then, wrote-one}
-use Rattle.translation.proofs.Operands.{ground, a-const, a-ref, a-price, a-prev, a-sum, no-operand}
-use Rattle.translation.proofs.Operands.{code-const, code-ref, code-price, code-prev, code-sum}
-use Rattle.translation.proofs.Operands.{an-extreme, code-extreme, extreme-reach, prev-reach, first-reach, second-reach}
-use borrow.Fn.Kinds.{In}
-use borrow.Fn.PlainCycle.{Measures, is, falls, and}
 use Rattle.translation.proofs.emit.emit_operand.Reads as emit-operand
 use Rattle.translation.proofs.emit.emit_operand.Kinds as emit-operand-kinds
 use Rattle.translation.proofs.emit.+emit_operand.Lts-emit_operand as emit-operand-lts
@@ -18,8 +14,6 @@ use Rattle.rules.proofs.shapes.operand_shape.Reads as operand-shape-reads
 use Rattle.translation.proofs.emit.put_step.Reads as put-step-reads
 use Rattle.table.proofs.series.series_in.Reads as series-in-reads
 use Rattle.translation.proofs.emit.put_extreme.Reads as put-extreme-reads
-use Rattle.translation.proofs.emit.+emit_operand.{statement}
-use Rattle.translation.proofs.emit.+emit_operand.Tie.{close}
 
 abbrev μ-emit-operand : Measures 3 emit-operand-kinds.ps ℕ
 μ-emit-operand κs a = a .1 .1 .1 .1 .0

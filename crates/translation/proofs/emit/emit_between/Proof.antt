@@ -1,10 +1,8 @@
 -- The value, both ends, and a step.
-use borrow.Author.Needs.{needs}
-use Rattle.steps.specs.declared.step.Op.the-variants.{Between}
-use Rattle.steps.specs.Bytes.{stepOf}
-use Rattle.translation.proofs.Writes.{fits-first, fits-rest, fits-one, wrote-then, wrote-one}
-use Rattle.translation.proofs.Conditions.{code-between, between-reach}
-use Rattle.translation.proofs.emit.emit_between.Statement.{statement}
+use Rattle.words.specs.Prelude.{needs}
+use Rattle.steps.specs.{declared.step.Op.the-variants.Between, Bytes.stepOf}
+use Rattle.translation.proofs.{Writes.fits-first, Writes.fits-rest, Writes.fits-one, Writes.wrote-then, Writes.wrote-one, Conditions.code-between}
+use Rattle.translation.proofs.{Conditions.between-reach, emit.emit_between.Statement.statement}
 use Rattle.translation.proofs.emit.emit_between.Tie as tie
 
 pub emit-between-spec : {M : Type 1} → statement M

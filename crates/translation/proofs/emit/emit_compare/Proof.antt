@@ -1,9 +1,8 @@
 -- Both operands and a step.
-use borrow.Author.Needs.{needs}
-use Rattle.steps.specs.declared.step.Op.the-variants.{Compare}
-use Rattle.steps.specs.Bytes.{stepOf}
-use Rattle.translation.proofs.Writes.{fits-first, fits-rest, fits-one, wrote-then, wrote-one}
-use Rattle.translation.proofs.emit.emit_compare.Statement.{statement}
+use Rattle.words.specs.Prelude.{needs}
+use Rattle.steps.specs.{declared.step.Op.the-variants.Compare, Bytes.stepOf}
+use Rattle.translation.proofs.{Writes.fits-first, Writes.fits-rest, Writes.fits-one, Writes.wrote-then, Writes.wrote-one}
+use Rattle.translation.proofs.{emit.emit_compare.Statement.statement}
 use Rattle.translation.proofs.emit.emit_compare.Tie as tie
 
 pub emit-compare-spec : {M : Type 1} → statement M

@@ -1,11 +1,8 @@
 -- Both operands now, both one row back, and a step.
-use borrow.Author.Needs.{needs}
-use native.Mathlib.Omega.{arith}
-use Rattle.steps.specs.declared.step.Op.the-variants.{Cross}
-use Rattle.steps.specs.Bytes.{stepOf}
-use Rattle.translation.proofs.Writes.{fits-first, fits-rest, fits-one, wrote-then, wrote-one}
-use Rattle.translation.proofs.Conditions.{code-cross, cross-reach}
-use Rattle.translation.proofs.emit.emit_cross.Statement.{statement}
+use Rattle.words.specs.Prelude.{needs, arith}
+use Rattle.steps.specs.{declared.step.Op.the-variants.Cross, Bytes.stepOf}
+use Rattle.translation.proofs.{Writes.fits-first, Writes.fits-rest, Writes.fits-one, Writes.wrote-then, Writes.wrote-one, Conditions.code-cross}
+use Rattle.translation.proofs.{Conditions.cross-reach, emit.emit_cross.Statement.statement}
 use Rattle.translation.proofs.emit.emit_cross.Tie as tie
 
 pub emit-cross-spec : {M : Type 1} → statement M

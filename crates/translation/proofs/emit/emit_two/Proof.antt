@@ -1,7 +1,6 @@
 -- One operand after the other.
-use borrow.Author.Needs.{needs}
-use Rattle.translation.proofs.Writes.{fits-first, fits-rest, wrote-then}
-use Rattle.translation.proofs.emit.emit_two.Statement.{statement}
+use Rattle.words.specs.Prelude.{needs}
+use Rattle.translation.proofs.{Writes.fits-first, Writes.fits-rest, Writes.wrote-then, emit.emit_two.Statement.statement}
 use Rattle.translation.proofs.emit.emit_two.Tie as tie
 
 pub emit-two-spec : {M : Type 1} → statement M

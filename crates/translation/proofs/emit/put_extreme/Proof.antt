@@ -1,11 +1,9 @@
 -- One step, by what is looked over.
-use borrow.Author.Needs.{needs}
-use native.Mathlib.Omega.{arith}
+use Rattle.words.specs.Prelude.{needs, arith}
+use Rattle.steps.specs.{Bytes.extremeStep, Bytes.stepOf}
+use Rattle.translation.proofs.{Writes.fits-one, Writes.wrote-one, emit.put_extreme.Statement.statement}
 use Rattle.table.specs.declared.series.Series.the-variants as Over
 use Rattle.steps.specs.declared.step.Op.the-variants as Op
-use Rattle.steps.specs.Bytes.{extremeStep, stepOf}
-use Rattle.translation.proofs.Writes.{fits-one, wrote-one}
-use Rattle.translation.proofs.emit.put_extreme.Statement.{statement}
 use Rattle.translation.proofs.emit.put_extreme.Tie as tie
 
 returns : tie.Need-returns

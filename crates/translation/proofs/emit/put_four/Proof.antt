@@ -1,9 +1,6 @@
 -- Four stores.
-use borrow.Author.Needs.{needs}
-use native.Mathlib.Omega.{arith}
-use lib.ListN.{length-set}
-use Rattle.translation.proofs.Writes.{four-sets}
-use Rattle.translation.proofs.emit.put_four.Statement.{statement}
+use Rattle.words.specs.Prelude.{needs, arith, length-set}
+use Rattle.translation.proofs.{Writes.four-sets, emit.put_four.Statement.statement}
 use Rattle.translation.proofs.emit.put_four.Tie as tie
 
 pub put-four-spec : {M : Type 1} → statement M

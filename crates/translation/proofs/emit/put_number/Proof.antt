@@ -1,6 +1,6 @@
 -- Byte by byte.
-use borrow.Author.Needs.{needs}
-use Rattle.translation.proofs.emit.put_number.Statement.{statement}
+use Rattle.words.specs.Prelude.{needs}
+use Rattle.translation.proofs.{emit.put_number.Statement.statement}
 use Rattle.translation.proofs.emit.put_number.Tie as tie
 
 pub put-number-spec : {M : Type 1} → statement M

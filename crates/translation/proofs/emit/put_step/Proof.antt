@@ -1,8 +1,6 @@
 -- Four bytes at a time.
-use borrow.Author.Needs.{needs}
-use mathlib.Core.Path.{refl}
-use Rattle.translation.proofs.Writes.{step-written}
-use Rattle.translation.proofs.emit.put_step.Statement.{statement}
+use Rattle.words.specs.Prelude.{needs, refl}
+use Rattle.translation.proofs.{Writes.step-written, emit.put_step.Statement.statement}
 use Rattle.translation.proofs.emit.put_step.Tie as tie
 
 pub put-step-spec : {M : Type 1} → statement M

@@ -1,7 +1,7 @@
 -- The test is that of the definition.
-use borrow.Author.Tests.{eq-eqb, ne-eqb}
-use Rattle.steps.specs.Bytes.{slotKind}
-use Rattle.translation.proofs.emit.slot_kind.Statement.{statement}
+use Rattle.words.specs.Prelude.{eq-eqb, ne-eqb}
+use Rattle.steps.specs.{Bytes.slotKind}
+use Rattle.translation.proofs.{emit.slot_kind.Statement.statement}
 use Rattle.translation.proofs.emit.slot_kind.Tie as tie
 
 pub slot-kind-spec : {M : Type 1} → statement M

@@ -1,6 +1,6 @@
 -- The test is that of the definition.
-use borrow.Author.Tests.{eq-eqb, ne-eqb}
-use Rattle.translation.proofs.emit.trend_test.Statement.{statement}
+use Rattle.words.specs.Prelude.{eq-eqb, ne-eqb}
+use Rattle.translation.proofs.{emit.trend_test.Statement.statement}
 use Rattle.translation.proofs.emit.trend_test.Tie as tie
 
 pub trend-test-spec : {M : Type 1} → statement M

@@ -1,8 +1,6 @@
 -- There are at most 32 lines, so their places fit.
-use Prim.Native.Nat.{_≤_, _-_}
-use native.Mathlib.Omega.{arith}
-use borrow.Author.Needs.{needs}
-use Rattle.why.proofs.lines.say_lines.Statement.{statement}
+use Rattle.words.specs.Prelude.{_≤_, _-_, arith, needs}
+use Rattle.why.proofs.{lines.say_lines.Statement.statement}
 use Rattle.why.proofs.lines.say_lines.Tie as tie
 
 abbrev Inv-loop : tie.InvT-loop

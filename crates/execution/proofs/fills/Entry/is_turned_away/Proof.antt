@@ -1,6 +1,6 @@
 -- `is_turned_away`: a case each.
-use borrow.Author.Needs.{needs}
-use Rattle.execution.proofs.fills.Entry.is_turned_away.Statement.{statement}
+use Rattle.words.specs.Prelude.{needs}
+use Rattle.execution.proofs.{fills.Entry.is_turned_away.Statement.statement}
 use Rattle.execution.proofs.fills.Entry.is_turned_away.Tie as tie
 
 pub is-turned-away-spec : {M : Type 1} → statement M

@@ -1,6 +1,6 @@
 -- `is_too_large`: a case each.
-use borrow.Author.Needs.{needs}
-use Rattle.execution.proofs.lots.Quantity.is_too_large.Statement.{statement}
+use Rattle.words.specs.Prelude.{needs}
+use Rattle.execution.proofs.{lots.Quantity.is_too_large.Statement.statement}
 use Rattle.execution.proofs.lots.Quantity.is_too_large.Tie as tie
 
 pub is-too-large-spec : {M : Type 1} → statement M

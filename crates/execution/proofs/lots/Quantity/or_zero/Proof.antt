@@ -1,6 +1,6 @@
 -- `or_zero`: a case each.
-use borrow.Author.Needs.{needs}
-use Rattle.execution.proofs.lots.Quantity.or_zero.Statement.{statement}
+use Rattle.words.specs.Prelude.{needs}
+use Rattle.execution.proofs.{lots.Quantity.or_zero.Statement.statement}
 use Rattle.execution.proofs.lots.Quantity.or_zero.Tie as tie
 
 pub or-zero-spec : {M : Type 1} → statement M

@@ -1,7 +1,7 @@
 -- `unwrap_or`: a case each.
-use Rattle.execution.specs.Optional.{unwrapOr}
-use borrow.Author.Needs.{needs}
-use Rattle.execution.proofs.optional.Optional.unwrap_or.Statement.{statement}
+use Rattle.words.specs.Prelude.{needs}
+use Rattle.execution.specs.{Optional.unwrapOr}
+use Rattle.execution.proofs.{optional.Optional.unwrap_or.Statement.statement}
 use Rattle.execution.proofs.optional.Optional.unwrap_or.Tie as tie
 
 pub unwrap-or-spec : {M : Type 1} → statement M
