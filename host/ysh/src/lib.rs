@@ -4,6 +4,7 @@
 #![forbid(unsafe_code)]
 
 mod bars;
+mod blocked;
 mod cli;
 mod columns;
 mod commands;
@@ -22,6 +23,7 @@ mod source;
 pub mod strategy;
 mod svg;
 pub mod table;
+mod times;
 mod why;
 
 use std::ffi::OsString;
@@ -51,7 +53,9 @@ pub fn run(arguments: impl IntoIterator<Item = OsString>, out: &mut dyn Write, e
         Command::Holdup(asked) => commands::holdup::answer(&asked, &arguments),
         Command::Run(asked) => commands::run::answer(&asked),
         Command::Why(asked) => commands::why::answer(&asked),
+        Command::Blocked(asked) => commands::blocked::answer(&asked),
         Command::Dump(asked) => commands::dump::answer(&asked),
+        Command::Schema => commands::schema::answer(),
         Command::Manual => commands::manual::answer(),
     }
     .into_parts();
