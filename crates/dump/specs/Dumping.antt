@@ -2,7 +2,7 @@
 use Rattle.words.specs.Prelude.{ℕ, _≡_, List}
 use Rattle.records.specs.{declared.settings.Settings.Settings, declared.state.State.State}
 use Rattle.refusals.specs.{declared.verdict.Verdict.Verdict}
-use Rattle.images.specs.{Layout.imageOf}
+use Rattle.images.specs.{Layout.imageOf, Refused.leftBy}
 use Rattle.dump.specs.{Order.written, Refused.dumpJudged}
 
 -- a dump's verdict, and the area that it leaves
