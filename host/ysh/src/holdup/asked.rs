@@ -164,6 +164,9 @@ pub struct Wanted {
     /// Write the answer as a page too, to be printed and signed
     #[arg(long, value_name = "FILE")]
     pub html: Option<PathBuf>,
+    /// Write the page's chart, each client alone against the limit, as a picture of its own
+    #[arg(long, value_name = "FILE")]
+    pub svg: Option<PathBuf>,
 }
 
 fn parse_dumps(text: &str) -> Result<u64, String> {
