@@ -10,7 +10,7 @@ use crate::show::rounded;
 use crate::svg::escape;
 use crate::table::number;
 
-const STYLE: &str = concat!(include_str!("../page.css"), include_str!("trials.css"));
+const STYLE: &str = concat!(include_str!("../page.css"), include_str!("../chart.css"), include_str!("trials.css"));
 const SORT: &str = include_str!("sort.js");
 
 pub fn page(document: &Document) -> String {
