@@ -131,6 +131,7 @@ fn greatest_trees() -> Vec<Condition> {
         staircase(1, MOST_NODES - 5, bottom()),
         staircase(MOST_NESTING - 2, MOST_NODES - 4 - (MOST_NESTING - 2), bottom()),
         staircase(MOST_NESTING - 1, MOST_NODES - 2 - (MOST_NESTING - 1), always()),
+        turned(MOST_NESTING - 1, always()),
         turned(MOST_NESTING - 2, bottom()),
         turned(MOST_NESTING - 3, test(17, prev(close(), 2), number(0.0))),
     ]

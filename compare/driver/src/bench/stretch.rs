@@ -11,8 +11,8 @@ use crate::stretches::model::{block_words, plain_loop};
 /// Minutes of a year and of a day.
 const YEAR: usize = 525_600;
 const DAY: usize = 1_440;
-const QUESTIONS: usize = 64;
-const PLAIN: usize = 2;
+const QUESTIONS: usize = 256;
+const FEW: usize = 2;
 
 fn closes() -> Vec<u64> {
     let dice = &mut Dice::new(1);
@@ -96,14 +96,15 @@ pub fn bench() {
     for bars in [1, 60, DAY, 30 * DAY, YEAR] {
         let asked = questions(bars);
         let mut best = [0; 4];
-        let plain_ones = &asked[..PLAIN];
+        // A block of a plain loop over few bars is all questions, so that it is not too short to be measured.
+        let plain_ones = &asked[..if bars > DAY { FEW } else { QUESTIONS }];
         let [ours, plain, table] = by_turns([
             side(QUESTIONS, || {
                 for &(first, last) in black_box(&asked) {
                     calls::stretch(held, first as u64, last as u64, &room, &blocks, black_box(&mut best));
                 }
             }),
-            side(PLAIN, || {
+            side(plain_ones.len(), || {
                 for &(first, last) in black_box(plain_ones) {
                     black_box(plain_loop(&given, first, last));
                 }
