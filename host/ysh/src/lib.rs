@@ -3,6 +3,7 @@
 //! rules comes from the library's calls.
 #![forbid(unsafe_code)]
 
+mod axis;
 mod bars;
 mod blocked;
 mod cli;
@@ -24,6 +25,7 @@ pub mod strategy;
 mod svg;
 pub mod table;
 mod times;
+mod trials;
 mod why;
 
 use std::ffi::OsString;
@@ -56,6 +58,9 @@ pub fn run(arguments: impl IntoIterator<Item = OsString>, out: &mut dyn Write, e
         Command::Blocked(asked) => commands::blocked::answer(&asked),
         Command::Dump(asked) => commands::dump::answer(&asked),
         Command::Schema => commands::schema::answer(),
+        Command::Trials(asked) => commands::trials::answer(&asked),
+        Command::Totals(asked) => commands::trials::totals(&asked),
+        Command::Completions { shell } => commands::completions::answer(shell),
         Command::Manual => commands::manual::answer(),
     }
     .into_parts();

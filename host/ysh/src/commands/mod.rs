@@ -2,6 +2,7 @@
 
 pub mod blocked;
 pub mod compile;
+pub mod completions;
 pub mod depth;
 pub mod dump;
 pub mod holdup;
@@ -10,6 +11,7 @@ pub mod run;
 pub mod schema;
 pub mod short;
 pub mod show;
+pub mod trials;
 pub mod why;
 
 use crate::problem::Problem;
