@@ -3,10 +3,14 @@
 pub mod asked;
 mod charts;
 pub mod csv;
+pub mod decisions;
+mod histogram;
 pub mod json;
 pub mod outcome;
 pub mod page;
 mod ready;
+mod study;
 pub mod text;
+mod used;
 
 pub use ready::Ready;
