@@ -14,9 +14,11 @@ pub mod Compare
 pub mod WordRun
 pub mod Day
 pub mod Accounts
+pub mod Version
 pub mod Laws
 pub mod StretchIsReading
 pub mod Joined
 pub mod DayJoined
 pub mod TotalsJoined
+pub mod CompareJoined
 pub mod AsIfAlone
