@@ -479,8 +479,14 @@ call-behind g l a b front back = go (roomsJudged a g l) refl
         by Fine f =
             on-zero b g (accountsCall a g l) (left g l a b e) (call-zero g l a b e front back f) (call-on g l a b e front back f)
 
+-- rooms that have their words have them after a call
+pub rooms-stay : (bars : List ℕ) (g : Four) (l : AccountsLent) → roomsJudged bars g l ≡ Fine → roomsJudged bars g (accountsCall bars g l .lent) ≡ Fine
+rooms-stay bars g l e =
+    subst (λ (m : AccountsLent). judged (accountsLines (m .stream) (m .first .status) (m .second .status) (m .third .status) (m .fourth .status)) ≡ Fine)
+    (sym (ap (λ (c : Call AccountsLent). c .lent) (call-is g l bars [] e bars))) (rooms-again g l bars [] e)
+
 -- the slots of the stream stay
-slots-stay : (bars : List ℕ) (g : Four) (l : AccountsLent) → word (accountsCall bars g l .lent .stream) 0 ≡ word (l .stream) 0
+pub slots-stay : (bars : List ℕ) (g : Four) (l : AccountsLent) → word (accountsCall bars g l .lent .stream) 0 ≡ word (l .stream) 0
 slots-stay bars g l = go (roomsJudged bars g l) refl
   where
     go : (v : Verdict) → roomsJudged bars g l ≡ v → word (accountsCall bars g l .lent .stream) 0 ≡ word (l .stream) 0
