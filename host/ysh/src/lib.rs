@@ -23,6 +23,7 @@ mod source;
 pub mod strategy;
 mod svg;
 pub mod table;
+mod trials;
 mod why;
 
 use std::ffi::OsString;
@@ -53,6 +54,9 @@ pub fn run(arguments: impl IntoIterator<Item = OsString>, out: &mut dyn Write, e
         Command::Run(asked) => commands::run::answer(&asked),
         Command::Why(asked) => commands::why::answer(&asked),
         Command::Dump(asked) => commands::dump::answer(&asked),
+        Command::Trials(asked) => commands::trials::answer(&asked),
+        Command::Totals(asked) => commands::trials::totals(&asked),
+        Command::Completions { shell } => commands::completions::answer(shell),
         Command::Manual => commands::manual::answer(),
     }
     .into_parts();

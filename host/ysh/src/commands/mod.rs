@@ -1,6 +1,7 @@
 //! One module a command: what was asked to what is written.
 
 pub mod compile;
+pub mod completions;
 pub mod depth;
 pub mod dump;
 pub mod holdup;
@@ -8,6 +9,7 @@ pub mod manual;
 pub mod run;
 pub mod short;
 pub mod show;
+pub mod trials;
 pub mod why;
 
 use crate::problem::Problem;

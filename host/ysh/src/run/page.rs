@@ -9,7 +9,7 @@ use crate::columns::counted;
 use crate::show::{rounded, Clock};
 use crate::svg::escape;
 
-const STYLE: &str = concat!(include_str!("../page.css"), include_str!("report.css"));
+const STYLE: &str = concat!(include_str!("../page.css"), include_str!("../chart.css"), include_str!("report.css"));
 
 /// As many trades as the table has rows for: the first half and the last half of these.
 const ROWS: usize = 2000;
