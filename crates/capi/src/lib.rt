@@ -12,4 +12,5 @@ pub mod run;
 pub mod state;
 pub mod stretch;
 pub mod tables;
+pub mod version;
 pub mod why;

@@ -5,6 +5,7 @@ use std::path::PathBuf;
 use clap::{Args, Parser, Subcommand};
 use clap_complete::Shell;
 
+use crate::blocked::asked::Blocked;
 use crate::dump::asked::Dump;
 use crate::holdup::asked::Holdup;
 use crate::run::asked::Run;
@@ -34,13 +35,17 @@ pub enum Command {
     /// Which tests fall silent in a window of so many rows
     Short(Short),
     /// How long the dumps take after the supply drops, and how large a capacitor that needs
-    Holdup(Holdup),
+    Holdup(Box<Holdup>),
     /// A strategy or a table over bars from a file: trades, equity and the nine metrics
     Run(Run),
     /// Why a rule said yes or no at a bar: the chain from its root to what decided, in words
     Why(Why),
+    /// Which tests kept a rule from a yes over a stretch of bars: how often each decided, was no or had no value
+    Blocked(Blocked),
     /// A box's dump: what an image holds, one made from a run, a run that goes on from one, one that is cut short
     Dump(Dump),
+    /// A JSON schema of strategies, for editors; docs/STRATEGY.md says what each key means
+    Schema,
     /// Every strategy over every file of bars: a row a run, and the exact totals of all of them
     Trials(Trials),
     /// The exact totals of parts of trials, joined

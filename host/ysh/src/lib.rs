@@ -5,6 +5,7 @@
 
 mod axis;
 mod bars;
+mod blocked;
 mod cli;
 mod columns;
 mod commands;
@@ -23,6 +24,7 @@ mod source;
 pub mod strategy;
 mod svg;
 pub mod table;
+mod times;
 mod trials;
 mod why;
 
@@ -53,7 +55,9 @@ pub fn run(arguments: impl IntoIterator<Item = OsString>, out: &mut dyn Write, e
         Command::Holdup(asked) => commands::holdup::answer(&asked, &arguments),
         Command::Run(asked) => commands::run::answer(&asked),
         Command::Why(asked) => commands::why::answer(&asked),
+        Command::Blocked(asked) => commands::blocked::answer(&asked),
         Command::Dump(asked) => commands::dump::answer(&asked),
+        Command::Schema => commands::schema::answer(),
         Command::Trials(asked) => commands::trials::answer(&asked),
         Command::Totals(asked) => commands::trials::totals(&asked),
         Command::Completions { shell } => commands::completions::answer(shell),

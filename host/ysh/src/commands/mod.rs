@@ -1,5 +1,6 @@
 //! One module a command: what was asked to what is written.
 
+pub mod blocked;
 pub mod compile;
 pub mod completions;
 pub mod depth;
@@ -7,6 +8,7 @@ pub mod dump;
 pub mod holdup;
 pub mod manual;
 pub mod run;
+pub mod schema;
 pub mod short;
 pub mod show;
 pub mod trials;

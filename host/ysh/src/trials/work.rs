@@ -10,7 +10,7 @@ use super::document::{Document, Parts};
 use super::inputs::{named, twice, Inputs, Named};
 use super::journal::Journal;
 use super::row::{Came, Figures, Row};
-use crate::bars::Way;
+use crate::bars::{Form, Way};
 use crate::files::{files, Found};
 use crate::problem::Problem;
 use crate::progress;
@@ -58,7 +58,7 @@ impl Work {
     fn figures(&self, strategy: &str, bars: &str) -> Result<Figures, Problem> {
         let How { on_refusal, strict, given } = self.how;
         let (file, bars) = (self.strategies[strategy].clone(), self.bars[bars].clone());
-        let over = Over { file, bars, on_refusal, strict, given };
+        let over = Over { file, bars, on_refusal, strict, form: Form::default(), given };
         let way = Way { on_refusal, after: None, until: None };
         Figures::of(&Outcome::of(Ready::of(&over)?, way)?)
     }
