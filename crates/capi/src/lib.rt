@@ -13,3 +13,4 @@ pub mod state;
 pub mod stretch;
 pub mod tables;
 pub mod why;
+pub mod why_over;
