@@ -1,5 +1,5 @@
 //! Links the proved library. `YSH_LIB` is the folder that holds libcapi.a; left out, it is target/native of the repository, where
-//! compare/staticlib writes it.
+//! release/library writes it.
 
 use std::env;
 use std::path::PathBuf;

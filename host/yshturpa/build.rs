@@ -1,5 +1,5 @@
-// Links libcapi.a from the folder YSH_LIB. Left out, it is the repository's target/staticlib on x86-64, where `rt staticlib capi`
-// writes it, and its target/native elsewhere, where `compare/staticlib` writes it for the machine's own processor.
+// Links libcapi.a from the folder YSH_LIB. Left out, it is the repository's target/native, where `release/library` writes it
+// for the machine's own processor.
 use std::path::{Path, PathBuf};
 use std::{env, fs, process};
 
@@ -20,9 +20,9 @@ fn machine_in(archive: &[u8]) -> Option<u16> {
 }
 
 /// One line that says what to do, in place of pages from the linker.
-fn stop(folder: &Path, fault: &str, made: &str) -> ! {
+fn stop(folder: &Path, fault: &str) -> ! {
     eprintln!(
-        "{fault} in {}: run `{made}` in the repository, or set YSH_LIB to the folder that has it",
+        "{fault} in {}: run `release/library` in the repository, or set YSH_LIB to the folder that has it",
         folder.display()
     );
     process::exit(1)
@@ -32,17 +32,13 @@ fn main() {
     println!("cargo:rerun-if-env-changed=YSH_LIB");
     let here = PathBuf::from(env::var_os("CARGO_MANIFEST_DIR").expect("cargo sets CARGO_MANIFEST_DIR"));
     let arch = env::var("CARGO_CFG_TARGET_ARCH").expect("cargo sets CARGO_CFG_TARGET_ARCH");
-    let (made, usual) = match arch.as_str() {
-        "x86_64" => ("rt staticlib capi", "../../target/staticlib"),
-        _ => ("compare/staticlib", "../../target/native"),
-    };
-    let folder = env::var_os("YSH_LIB").map_or_else(|| here.join(usual), PathBuf::from);
+    let folder = env::var_os("YSH_LIB").map_or_else(|| here.join("../../target/native"), PathBuf::from);
     let archive = folder.join("libcapi.a");
     println!("cargo:rerun-if-changed={}", archive.display());
     match fs::read(&archive) {
-        Err(_) => stop(&folder, "no libcapi.a", made),
+        Err(_) => stop(&folder, "no libcapi.a"),
         Ok(bytes) if machine_of(&arch).is_some() && machine_in(&bytes) != machine_of(&arch) => {
-            stop(&folder, &format!("no libcapi.a for {arch}"), made)
+            stop(&folder, &format!("no libcapi.a for {arch}"))
         }
         Ok(_) => {}
     }

@@ -2,7 +2,7 @@
 use Rattle.words.specs.Prelude.{ℕ, _≤_, _≡_, List, [], _∷_, _++_, length, take}
 use Rattle.records.specs.{Lent.Lists, Lent.rooms, Settings.settingsOf, StateWords.stateOf}
 use Rattle.engine.specs.{Books.heldPoints, Books.heldTrades}
-use Rattle.dump.specs.{Layout.dumpBytes}
+use Rattle.images.specs.{Layout.dumpBytes}
 use Rattle.restart.specs.{FirstWord.Unmarked, Plans.CutIn, Plans.inOrder, Plans.Plan}
 use Rattle.capi.specs.{Call.Call, Bars.StepLent, Power.RestoreLent, Power.dumpCall, Power.restoreCall, WordRun.callsOver}
 

@@ -7,7 +7,7 @@ use Rattle.records.specs.{Laws.RoundTrip.Floats64, Laws.RoundTrip.state-kept, L
 use Rattle.refusals.specs.{declared.verdict.Verdict.the-variants.Fine, Lines.judged, Settings.settingLines}
 use Rattle.engine.specs.{Run.Run, Run.runOver}
 use Rattle.runs.specs.{NeverFull.PlacesFor, Laws.Floats.run-floats}
-use Rattle.dump.specs.{Layout.dumpBytes, Layout.imageOf}
+use Rattle.images.specs.{Layout.dumpBytes, Layout.imageOf}
 use Rattle.restart.specs.{AsIfNever.Ready, FirstWord.Unmarked, Laws.Programs.done-is-cut, Laws.Programs.plan-done, PagePlan.firstWord, PagePlan.wholePages}
 use Rattle.restart.specs.{PagePlan.whole-pages-plan, Plans.inOrder, Plans.Plan}
 use Rattle.capi.specs.{Bars.StepLent, Fresh.freshCall, Joined.calls-run, Power.dumpCall, WordRun.WordRun, WordRun.callsOver, WordRun.answerOf}

@@ -4,9 +4,10 @@ use Rattle.words.specs.{declared.refusal.Refusal.Refusal}
 use Rattle.records.specs.{declared.settings.Settings.Settings, declared.state.State.State, Settings.settingsOf, StateWords.stateOf}
 use Rattle.refusals.specs.{declared.verdict.Verdict.Verdict, declared.verdict.Verdict.the-variants.Fine, declared.verdict.Verdict.the-variants.Bad, Lines.judged}
 use Rattle.refusals.specs.{Rooms.roomLines, Laws.Lines.below-fine, Laws.Lines.both-fine, Laws.Descent.no-line, Laws.Descent.fine-line}
-use Rattle.dump.specs.{declared.part.Parted.Parted, declared.part.Parted.the-variants.Refused, declared.part.Parted.the-variants.Used, Layout.imageOf}
-use Rattle.dump.specs.{Parts.bytesFrom, Parts.partLines, Parts.partJudged, Parts.partedBy, Parts.PartDumped, Dumping.leftBy, Laws.PartFine.WordsFit}
-use Rattle.dump.specs.{Laws.PartFine.WordsParted, Laws.PartFine.words-fit}
+use Rattle.images.specs.{Layout.imageOf, Refused.leftBy}
+use Rattle.dump.specs.{declared.part.Parted.Parted, declared.part.Parted.the-variants.Refused, declared.part.Parted.the-variants.Used, Parts.bytesFrom}
+use Rattle.dump.specs.{Parts.partLines, Parts.partJudged, Parts.partedBy, Parts.PartDumped, Laws.PartFine.WordsFit, Laws.PartFine.WordsParted}
+use Rattle.dump.specs.{Laws.PartFine.words-fit}
 use Rattle.capi.specs.{Call.Call, Call.answerWord, Call.wordLines, Bars.lentLines, Part.PartLent, Part.partGives, Part.filledWith, Part.partCall}
 use Rattle.capi.proofs.{Calling.call-bad, Calling.call-refused, Calling.call-gives}
 

@@ -4,9 +4,10 @@ use Rattle.words.specs.{declared.refusal.Refusal.Refusal, Words.overwrite}
 use Rattle.records.specs.{declared.settings.Settings.Settings, declared.state.State.State, Settings.settingsOf, StateWords.stateOf, StateWords.wordsOf}
 use Rattle.refusals.specs.{declared.verdict.Verdict.Verdict, declared.verdict.Verdict.the-variants.Fine, declared.verdict.Verdict.the-variants.Bad, Lines.judged}
 use Rattle.refusals.specs.{Rooms.roomLines, Laws.Lines.below-fine, Laws.Lines.both-fine, Laws.Descent.no-line, Laws.Descent.fine-line}
-use Rattle.dump.specs.{declared.reader.Restored.Restored, declared.reader.Restored.the-variants.Refused, declared.reader.Restored.the-variants.Done, Layout.imageOf}
-use Rattle.dump.specs.{Order.written, Reading.windowIn, Refused.dumpLines, Refused.dumpJudged, Refused.restoreJudged, Dumping.leftBy, Dumping.Dumped}
-use Rattle.dump.specs.{Restoring.restoredBy, Restoring.Restores, Laws.Passing.WordsDumped, Laws.Passing.WordsFine, Laws.Passing.words-fine}
+use Rattle.images.specs.{declared.reader.Restored.Restored, declared.reader.Restored.the-variants.Refused, declared.reader.Restored.the-variants.Done}
+use Rattle.images.specs.{Layout.imageOf, Reading.windowIn, Refused.restoreJudged, Refused.leftBy, Restoring.restoredBy, Restoring.Restores}
+use Rattle.dump.specs.{Order.written, Refused.dumpLines, Refused.dumpJudged, Dumping.Dumped, Laws.Passing.WordsDumped, Laws.Passing.WordsFine}
+use Rattle.dump.specs.{Laws.Passing.words-fine}
 use Rattle.capi.specs.{Call.Call, Call.answerWord, Call.wordLines, Bars.lentLines, Power.dumpGives, Power.dumpCall, Power.restoreGives, Power.restoreCall}
 use Rattle.capi.proofs.{Calling.call-bad, Calling.call-refused, Calling.call-gives}
 

@@ -3,8 +3,9 @@ use Rattle.words.specs.Prelude.{ℕ, List}
 use Rattle.words.specs.{Words.overwrite, Outcome.Outcome, Outcome.gives, Outcome.refuses}
 use Rattle.records.specs.{Settings.settingsOf, StateWords.stateOf, StateWords.wordsOf}
 use Rattle.refusals.specs.{declared.verdict.Verdict.Verdict, declared.verdict.Verdict.the-variants.Fine, declared.verdict.Verdict.the-variants.Bad, Lines.judged}
-use Rattle.dump.specs.{declared.reader.Restored.Restored, declared.reader.Restored.the-variants.Refused, declared.reader.Restored.the-variants.Done, Layout.imageOf}
-use Rattle.dump.specs.{Order.written, Reading.windowIn, Refused.dumpJudged, Refused.restoreJudged, Dumping.leftBy, Restoring.restoredBy}
+use Rattle.images.specs.{declared.reader.Restored.Restored, declared.reader.Restored.the-variants.Refused, declared.reader.Restored.the-variants.Done}
+use Rattle.images.specs.{Layout.imageOf, Reading.windowIn, Refused.restoreJudged, Refused.leftBy, Restoring.restoredBy}
+use Rattle.dump.specs.{Order.written, Refused.dumpJudged}
 use Rattle.capi.specs.{Call.Call, Call.callOf, Call.unlessBad, Bars.lentLines}
 
 unfoldable pub dumpGives : Verdict → List ℕ → Outcome (List ℕ)

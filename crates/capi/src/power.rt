@@ -1,10 +1,10 @@
 // A loss of power: the size of a dump, the dump and the restore.
 ghost use mathlib.Core.Path.{_≡_};
-ghost use Rattle.dump.specs.Layout.{sizeFor};
+ghost use Rattle.images.specs.Layout.{sizeFor};
 ghost use Rattle.capi.specs.Power.{dumpCall, restoreCall};
 use crate::calls::answer_word;
 use crate::calls::judge_rooms;
-use dump::reader::Restored;
+use images::reader::Restored;
 use records::settings::settings_of;
 use records::state_words::put_state;
 use records::state_words::state_of;
@@ -82,7 +82,7 @@ pub extern "C" fn ysh_restore(
     if let Verdict::Bad(refusal) = judge_rooms(chosen, settings, state, rows) {
         return answer_word(refusal);
     }
-    let restored = dump::restore(chosen, image, rows);
+    let restored = images::restore(chosen, image, rows);
     match restored {
         Restored::Refused(refusal) => answer_word(refusal),
         Restored::Done(next) => {

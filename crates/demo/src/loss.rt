@@ -2,8 +2,8 @@
 // and goes on with empty books. Its trades are those of the unbroken day.
 use crate::bars::BAR_WORDS;
 use crate::report;
-use dump::reader::Restored;
 use engine::answer::Finished;
+use images::reader::Restored;
 use records::state::State;
 
 // How many minutes are seen when the supply is lost: a position is held, and the order to leave it works.
@@ -39,7 +39,7 @@ fn write_image(state: State, rows: &[u64], area: &mut [u8]) {
 // What a restore says to the area as it is.
 fn say_restored(area: &[u8]) {
     let mut rows = [0u64; 27];
-    match dump::restore(crate::settings(), area, &mut rows) {
+    match images::restore(crate::settings(), area, &mut rows) {
         Restored::Refused(refusal) => crate::say_refusal(refusal.number, refusal.place),
         Restored::Done(state) => say_state(state),
     }
@@ -131,7 +131,7 @@ fn rest_of_day<'a>(
     trades: &mut [u64],
 ) -> usize {
     let mut rows = [0u64; 27];
-    match dump::restore(crate::settings(), area, &mut rows) {
+    match images::restore(crate::settings(), area, &mut rows) {
         Restored::Refused(_) => 0,
         Restored::Done(state) => {
             let evening = crate::run_bars(

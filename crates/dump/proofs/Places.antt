@@ -1,7 +1,7 @@
 -- Whether bytes have a place for an image, by division.
 use Rattle.words.specs.Prelude.{ℕ, _+_, _-_, _*_, _/_, _≤_, _<_, _≡_, refl, sym, ap, _∙_, Bool, true, false, zero-mul, mul-comm, mul-assoc, mul-le-mul-right}
 use Rattle.words.specs.Prelude.{lt-of-not-le, le-div-iff-mul-le, arith, le-leb, lt-leb, leb-true, leb-false, leb}
-use Rattle.dump.specs.{Layout.dumpBytes}
+use Rattle.images.specs.{Layout.dumpBytes}
 
 module _ (K D bytes : ℕ) where
   pub too-short : bytes < 256 → leb (dumpBytes K D) bytes ≡ false

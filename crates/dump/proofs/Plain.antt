@@ -3,7 +3,8 @@ use Rattle.words.specs.Prelude.{ℕ, _%_, _^_, _≤_, _<_, _≡_, sym, subst, B
 use Rattle.words.specs.{Words.word}
 use Rattle.floats.specs.{Floats.wordOf, Floats.floatOf}
 use Rattle.floats.proofs.{Words.word-no-nan}
-use Rattle.dump.specs.{Layout.amounts, Laws.Packed.firstWord, Laws.Packed.secondWord, Laws.Packed.thirdWord, Laws.Packed.headWords, Laws.Plain.orderIn}
+use Rattle.images.specs.{Layout.amounts}
+use Rattle.dump.specs.{Laws.Packed.firstWord, Laws.Packed.secondWord, Laws.Packed.thirdWord, Laws.Packed.headWords, Laws.Plain.orderIn}
 use Rattle.dump.specs.{Laws.Plain.kindIn, Laws.Plain.unlessZero, Laws.Plain.plainAt, Laws.Plain.plainWords}
 
 -- a pattern that is no NaN's is the word of its float

@@ -1,7 +1,8 @@
 -- Stores, one after another, as bytes laid.
 use Rattle.words.specs.Prelude.{ℕ, _+_, _-_, _*_, _≤_, _≡_, refl, sym, ap, _∙_, List, zero-add, arith, getD, set, drop, getD-drop}
 use Rattle.steps.specs.{Bytes.eight}
-use Rattle.dump.specs.{Layout.wordsBytes, Laws.Laid.laid, Laws.Laid.laid-none, Laws.Laid.laid-more, Laws.Laid.laid-on, Laws.Laid.laid-as, Laws.InOrder.clip}
+use Rattle.images.specs.{Layout.wordsBytes}
+use Rattle.dump.specs.{Laws.Laid.laid, Laws.Laid.laid-none, Laws.Laid.laid-more, Laws.Laid.laid-on, Laws.Laid.laid-as, Laws.InOrder.clip}
 use Rattle.dump.specs.{Laws.InOrder.partLaid, Laws.InOrder.wholeLaid, Laws.WordBytes.word-byte}
 use native.Mathlib.Nat.{sub-self}
 

@@ -9,4 +9,3 @@ pub mod Plain
 pub mod Placed
 pub mod PartFine
 pub mod Parts
-pub mod RowWords

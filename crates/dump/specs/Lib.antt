@@ -1,8 +1,5 @@
-pub mod Layout
 pub mod Order
-pub mod Reading
 pub mod Refused
 pub mod Dumping
 pub mod Parts
-pub mod Restoring
 pub mod Laws

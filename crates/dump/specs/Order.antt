@@ -1,6 +1,6 @@
 -- The order of writing, and what an area holds when some of it is written. Definitions only.
 use Rattle.words.specs.Prelude.{ℕ, zero, suc, _+_, _-_, min, cond, List, length, getD, set, ltb}
-use Rattle.dump.specs.{Layout.headBytes}
+use Rattle.images.specs.{Layout.headBytes}
 
 -- the bytes of the mark
 abbrev pub markBytes : ℕ

@@ -4,8 +4,9 @@ use Rattle.words.specs.{Words.overwrite}
 use Rattle.records.specs.{declared.settings.Settings.Settings, declared.state.State.State}
 use Rattle.refusals.specs.{declared.verdict.Verdict.Verdict, declared.verdict.Verdict.the-variants.Fine, declared.verdict.Verdict.the-variants.Bad, Lines.Line}
 use Rattle.refusals.specs.{Lines.judged, Rooms.roomLines, Settings.settingLines}
-use Rattle.dump.specs.{declared.part.Parted.Parted, declared.part.Parted.the-variants.Refused, declared.part.Parted.the-variants.Used, Layout.imageOf}
-use Rattle.dump.specs.{Refused.dumpStateLines, Dumping.leftBy}
+use Rattle.images.specs.{Layout.imageOf, Refused.leftBy}
+use Rattle.dump.specs.{declared.part.Parted.Parted, declared.part.Parted.the-variants.Refused, declared.part.Parted.the-variants.Used}
+use Rattle.dump.specs.{Refused.dumpStateLines}
 
 -- bytes `at` to `at + n` of an image, in the order of their places; past its end there are none
 unfoldable pub bytesFrom : List ℕ → ℕ → ℕ → List ℕ

@@ -3,7 +3,7 @@ ghost use mathlib.Core.Path.{_≡_};
 ghost use Prim.Native.Nat.{_+_, _-_, _*_, _%_, _≤_};
 ghost use lib.ListN.{length, getD};
 ghost use Rattle.steps.specs.Bytes.{eight};
-ghost use Rattle.dump.specs.Layout.{wordsBytes};
+ghost use Rattle.images.specs.Layout.{wordsBytes};
 ghost use Rattle.dump.specs.Laws.Laid.{laid};
 
 // The lowest byte of a number.

@@ -4,6 +4,7 @@ use crate::writer::HEAD_MARK;
 use crate::writer::body_words;
 use crate::writer::held_window;
 use crate::writer::write_order;
+use words::places;
 ghost use mathlib.Core.Path.{_≡_};
 ghost use mathlib.Core.Bool.{cond};
 ghost use Prim.Native.Nat.{_≤_};
@@ -13,7 +14,7 @@ ghost use Rattle.words.specs.Limits.{stateWords};
 ghost use Rattle.floats.specs.Floats.{wordOf, floatOf};
 ghost use Rattle.records.specs.Settings.{settingsOf};
 ghost use Rattle.records.specs.StateWords.{stateOf};
-ghost use Rattle.dump.specs.Layout.{imageOf};
+ghost use Rattle.images.specs.Layout.{imageOf};
 ghost use Rattle.dump.specs.Order.{written};
 ghost use Rattle.dump.specs.Laws.Packed.{headWords};
 ghost use Rattle.dump.specs.Laws.Plain.{orderIn, kindIn, unlessZero, plainWords};
@@ -77,28 +78,28 @@ pub(crate) fn direct_head(w: &[u64], slots: u64, depth: u64, held: u64) -> [u64;
     requires { ⌜ stateWords ≤ length (now w) ⌝ }
     ensures { λ r. ⌜ r ≡ headWords slots depth held (plainWords (now (w .entry))) ⌝ }
 {
-    let order = order_in(w[4]);
-    let kind = kind_in(order, w[17]);
-    let there = unless_zero(w[6], 1);
-    let bar = unless_zero(w[6], w[7]);
+    let order = order_in(w[places::ORDER]);
+    let kind = kind_in(order, w[places::ORDER_KIND]);
+    let there = unless_zero(w[places::ENTERED], 1);
+    let bar = unless_zero(w[places::ENTERED], w[places::ENTRY_BAR]);
     [
         HEAD_MARK + 16777216 * (slots % 256) + 281474976710656 * (depth % 65536),
-        w[0] % 4294967296 + 4294967296 * (held % 4294967296),
+        w[places::BARS_SEEN] % 4294967296 + 4294967296 * (held % 4294967296),
         order % 256 + 256 * (kind % 256) + 65536 * (there % 256) + 4294967296 * (bar % 4294967296),
-        unless_zero(order, w[5]),
-        plain(w[8]),
-        plain(w[9]),
-        plain(w[10]),
-        w[11],
-        plain(w[12]),
-        plain(w[13]),
-        plain(w[14]),
-        w[15],
-        plain(w[16]),
-        unless_zero(kind, plain(w[18])),
-        limit_in(kind, w[19]),
-        plain(w[20]),
-        plain(w[21]),
+        unless_zero(order, w[places::ORDER_DELAY]),
+        plain(w[places::CASH]),
+        plain(w[places::QTY]),
+        plain(w[places::ENTRY_PRICE]),
+        w[places::ENTRY_TIME],
+        plain(w[places::ENTRY_FEE]),
+        plain(w[places::FEES_PAID]),
+        plain(w[places::EXTREME]),
+        w[places::LAST_TIME],
+        plain(w[places::LAST_CLOSE]),
+        unless_zero(kind, plain(w[places::ORDER_LEVEL])),
+        limit_in(kind, w[places::ORDER_LIMIT]),
+        plain(w[places::OPEN_FUNDING]),
+        plain(w[places::OPEN_WORST]),
     ]
 }
 
@@ -115,9 +116,9 @@ fn write_words(
     ensures { λ _. ⌜ now (area .exit)
         ≡ written (imageOf (settingsOf (now (settings .entry))) (stateOf (now (state .entry))) (now (rows .entry))) (now (area .entry)) from upto ⌝ }
 {
-    let slots = settings[0] as usize;
-    let depth = settings[1] as usize;
-    let held = state[1] as usize;
+    let slots = settings[places::SLOTS] as usize;
+    let depth = settings[places::DEPTH] as usize;
+    let held = state[places::ROWS_HELD] as usize;
     let kept = held_window(rows, slots, depth, held);
     let count = rows::row_count(kept, slots);
     let head = direct_head(state, slots as u64, depth as u64, count as u64);

@@ -1,5 +1,5 @@
 // Whether a dump can be made: 10, 12, 13.
-use crate::writer::HEAD_BYTES;
+use images::layout::HEAD_BYTES;
 use records::settings::Settings;
 use records::state::Counts;
 use records::state::State;
@@ -15,7 +15,7 @@ ghost use mathlib.Core.Path.{_≡_};
 ghost use lib.Dec.{leb};
 ghost use Rattle.refusals.specs.Lines.{judged};
 ghost use Rattle.engine.specs.Books.{emptied};
-ghost use Rattle.dump.specs.Layout.{dumpBytes};
+ghost use Rattle.images.specs.Layout.{dumpBytes};
 ghost use Rattle.dump.specs.Refused.{areaLines, dumpStateLines, dumpJudged};
 ghost use Rattle.dump.specs.Parts.{partJudged};
 

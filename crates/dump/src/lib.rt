@@ -1,18 +1,13 @@
-// The dump: a state and its window as bytes for an area that keeps them without power, and back. The mark's last byte is written last, so
+// The dump: a state and its window as bytes for an area that keeps them without power. The mark's last byte is written last, so
 // that an area that was not written to the end is no image.
-mod body;
 mod bytes;
 pub mod direct;
-mod image;
 mod judge;
 pub mod part;
 mod passing;
-pub mod reader;
 pub mod writer;
 
 ghost use Rattle.dump.specs.Dumping.{Dumped};
-ghost use Rattle.dump.specs.Restoring.{Restores};
-use reader::Restored;
 use records::settings::Settings;
 use records::state::State;
 use refusals::verdict::Verdict;
@@ -34,15 +29,4 @@ pub fn dump(
     }
     writer::write_dump(s, t, rows, area, from, upto);
     Verdict::Fine
-}
-
-// The state that an image holds, and its window over the first words of the row room.
-pub fn restore(s: Settings, image: &[u8], rows: &mut [u64]) -> Restored
-    ensures { λ r. ⌜ Restores s (now (image .entry)) (now (rows .entry)) r (now (rows .exit)) ⌝ }
-{
-    if let Verdict::Bad(refusal) = image::judge_restore(s, image, rows) {
-        return Restored::Refused(refusal);
-    }
-    reader::read_window(image, rows);
-    Restored::Done(reader::state_in(image))
 }

@@ -4,17 +4,18 @@ use crate::bytes::lay;
 use crate::direct::direct_head;
 use crate::judge::judge_held;
 use crate::passing::words_pass;
-use crate::writer::HEAD_BYTES;
 use crate::writer::body_words;
 use crate::writer::clip;
 use crate::writer::head_words;
 use crate::writer::held_window;
+use images::layout::HEAD_BYTES;
 use records::settings::Settings;
 use records::state::State;
 use refusals::verdict::Verdict;
 use words::limits::MOST_ROWS;
 use words::limits::MOST_SLOTS;
 use words::limits::ROW_FIXED;
+use words::places;
 use words::refusal::Refusal;
 ghost use mathlib.Core.Path.{_≡_};
 ghost use Prim.Native.Nat.{_+_, _-_, _<_, _≤_, min};
@@ -22,7 +23,7 @@ ghost use lib.ListN.{length, drop};
 ghost use Rattle.words.specs.Limits.{stateWords, mostSlots, mostRows};
 ghost use Rattle.records.specs.Settings.{settingsOf};
 ghost use Rattle.records.specs.StateWords.{stateOf};
-ghost use Rattle.dump.specs.Layout.{wordsBytes, dumpBytes, imageOf};
+ghost use Rattle.images.specs.Layout.{wordsBytes, dumpBytes, imageOf};
 ghost use Rattle.dump.specs.Parts.{PartLaid, PartDumped};
 ghost use Rattle.dump.specs.Laws.Laid.{laid};
 ghost use Rattle.dump.specs.Laws.Packed.{headWords};
@@ -161,9 +162,9 @@ fn write_words_part(
     ensures { λ r. ⌜ PartLaid (imageOf (settingsOf (now (settings .entry))) (stateOf (now (state .entry))) (now (rows .entry))) at
         (now (part .entry)) r (now (part .exit)) ⌝ }
 {
-    let slots = settings[0] as usize;
-    let depth = settings[1] as usize;
-    let held = state[1] as usize;
+    let slots = settings[places::SLOTS] as usize;
+    let depth = settings[places::DEPTH] as usize;
+    let held = state[places::ROWS_HELD] as usize;
     let used = used_of(slots, depth, at, part.len());
     if used == 0 {
         return 0;

@@ -1,6 +1,6 @@
 // Whether a dump refuses nothing of the words that it is handed, seen in the words as they are: no record is made of them. It is enough, and
 // seldom more than is needed; where it does not hold, the lines of the refusals say which one it is, if any.
-use crate::writer::HEAD_BYTES;
+use images::layout::HEAD_BYTES;
 use records::state_words::entered_of;
 use refusals::rooms::entry_below;
 use words::limits::MOST_COUNT;
@@ -9,6 +9,7 @@ use words::limits::MOST_SLOTS;
 use words::limits::ROW_FIXED;
 use words::limits::SETTING_WORDS;
 use words::limits::STATE_WORDS;
+use words::places;
 ghost use mathlib.Core.Path.{_≡_};
 ghost use Prim.Native.Nat.{_≤_, _<_};
 ghost use lib.ListN.{length};
@@ -46,12 +47,17 @@ fn kinds_pass(w: &[u64]) -> bool
     requires { ⌜ settingWords ≤ length (now w) ⌝ }
     ensures { λ r. ⌜ r ≡ kindsPass (now (w .entry)) ⌝ }
 {
-    (w[0] as usize <= MOST_SLOTS)
-        & (1 <= w[1])
-        & (w[1] as usize <= MOST_ROWS)
-        & (w[9] <= 1)
-        & (w[20] <= 3)
-        & sizing_passes(w[5], w[7], w[1], w[31])
+    (w[places::SLOTS] as usize <= MOST_SLOTS)
+        & (1 <= w[places::DEPTH])
+        & (w[places::DEPTH] as usize <= MOST_ROWS)
+        & (w[places::SLIPPAGE_KIND] <= 1)
+        & (w[places::ENTRY_KIND] <= 3)
+        & sizing_passes(
+            w[places::SIZING_KIND],
+            w[places::LOOKBACK],
+            w[places::DEPTH],
+            w[places::GIVEN],
+        )
 }
 
 // Capital, sizing, taker fee, slippage, participation.
@@ -59,7 +65,11 @@ fn costs_pass(w: &[u64]) -> bool
     requires { ⌜ settingWords ≤ length (now w) ⌝ }
     ensures { λ r. ⌜ r ≡ costsPass (now (w .entry)) ⌝ }
 {
-    finite_at(w, 2) & finite_at(w, 6) & finite_at(w, 8) & finite_at(w, 10) & finite_at(w, 19)
+    finite_at(w, places::CAPITAL)
+        & finite_at(w, places::SIZING_VALUE)
+        & finite_at(w, places::TAKER_BPS)
+        & finite_at(w, places::SLIPPAGE_VALUE)
+        & finite_at(w, places::PARTICIPATION)
 }
 
 // The levels, given or not.
@@ -67,7 +77,11 @@ fn levels_pass(w: &[u64]) -> bool
     requires { ⌜ settingWords ≤ length (now w) ⌝ }
     ensures { λ r. ⌜ r ≡ levelsPass (now (w .entry)) ⌝ }
 {
-    finite_at(w, 12) & finite_at(w, 13) & finite_at(w, 14) & finite_at(w, 15) & finite_at(w, 16)
+    finite_at(w, places::STOP_LOSS)
+        & finite_at(w, places::TRAILING_STOP)
+        & finite_at(w, places::TAKE_PROFIT)
+        & finite_at(w, places::MAX_LEVERAGE)
+        & finite_at(w, places::MAX_POSITION)
 }
 
 // A lot is finite and not negative.
@@ -82,7 +96,10 @@ fn entries_pass(w: &[u64]) -> bool
     requires { ⌜ settingWords ≤ length (now w) ⌝ }
     ensures { λ r. ⌜ r ≡ entriesPass (now (w .entry)) ⌝ }
 {
-    finite_at(w, 21) & finite_at(w, 22) & finite_at(w, 23) & lot_passes(w[24])
+    finite_at(w, places::LEVEL_PCT)
+        & finite_at(w, places::LIMIT_PCT)
+        & finite_at(w, places::MAKER_BPS)
+        & lot_passes(w[places::LOT])
 }
 
 // Counts and the entry bar.
@@ -90,11 +107,14 @@ fn counts_pass(w: &[u64]) -> bool
     requires { ⌜ stateWords ≤ length (now w) ⌝ }
     ensures { λ r. ⌜ r ≡ countsPass (now (w .entry)) ⌝ }
 {
-    (w[0] <= MOST_COUNT)
-        & (w[1] <= MOST_COUNT)
-        & (w[2] <= MOST_COUNT)
-        & (w[3] <= MOST_COUNT)
-        & entry_below(entered_of(w[6], w[7]), w[0])
+    (w[places::BARS_SEEN] <= MOST_COUNT)
+        & (w[places::ROWS_HELD] <= MOST_COUNT)
+        & (w[places::EQUITY_POINTS] <= MOST_COUNT)
+        & (w[places::TRADES] <= MOST_COUNT)
+        & entry_below(
+            entered_of(w[places::ENTERED], w[places::ENTRY_BAR]),
+            w[places::BARS_SEEN],
+        )
 }
 
 // Row room and area: products of small numbers, and no division.
@@ -119,9 +139,9 @@ fn whole_pass(settings: &[u64], state: &[u64], rows: usize, area: usize) -> bool
         & counts_pass(state);
     if fine {
         return rooms_pass(
-            settings[0] as usize,
-            settings[1] as usize,
-            state[1] as usize,
+            settings[places::SLOTS] as usize,
+            settings[places::DEPTH] as usize,
+            state[places::ROWS_HELD] as usize,
             rows,
             area,
         );

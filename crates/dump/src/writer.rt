@@ -1,12 +1,14 @@
 // An image written into an area, in the one order of writing.
 use crate::bytes::lay;
 use crate::bytes::lay_words;
+use images::layout::HEAD_BYTES;
 use records::settings::Settings;
 use records::state::State;
 use words::limits::MOST_ROWS;
 use words::limits::MOST_SLOTS;
 use words::limits::ROW_FIXED;
 use words::limits::STATE_WORDS;
+use words::places;
 ghost use mathlib.Core.Path.{_≡_};
 ghost use Prim.Native.Nat.{_+_, _-_, _*_, _≤_};
 ghost use lib.ListN.{length};
@@ -15,17 +17,15 @@ ghost use Rattle.words.specs.Limits.{mostSlots, mostRows, stateWords};
 ghost use Rattle.rows.specs.History.{lastRows};
 ghost use Rattle.records.specs.Lent.{rowPlaces};
 ghost use Rattle.engine.specs.Record.{heldRows};
-ghost use Rattle.dump.specs.Layout.{bodyBytes, sizeFor, imageOf};
+ghost use Rattle.images.specs.Layout.{bodyBytes, sizeFor, imageOf};
 ghost use Rattle.dump.specs.Order.{written};
 ghost use Rattle.dump.specs.Laws.Packed.{headWords};
 ghost use Rattle.dump.specs.Laws.InOrder.{clip, partLaid, inOrder, wholeLaid};
 ghost use Rattle.dump.specs.Laws.Fine.{DumpFine};
 
-// The bytes before the rows; of these the mark's, and the rest.
-pub const HEAD_BYTES: usize = 256;
-
 const HEAD_WORDS: usize = HEAD_BYTES / 8;
 
+// Of the bytes before the rows the mark's, and the rest.
 pub const MARK_BYTES: usize = 3;
 
 const REST_BYTES: usize = HEAD_BYTES - MARK_BYTES;
@@ -53,22 +53,25 @@ fn pack(w: &[u64], slots: u64, depth: u64, held: u64) -> [u64; 17]
 {
     [
         HEAD_MARK + 16777216 * (slots % 256) + 281474976710656 * (depth % 65536),
-        w[0] % 4294967296 + 4294967296 * (held % 4294967296),
-        w[4] % 256 + 256 * (w[17] % 256) + 65536 * (w[6] % 256) + 4294967296 * (w[7] % 4294967296),
-        w[5],
-        w[8],
-        w[9],
-        w[10],
-        w[11],
-        w[12],
-        w[13],
-        w[14],
-        w[15],
-        w[16],
-        w[18],
-        w[19],
-        w[20],
-        w[21],
+        w[places::BARS_SEEN] % 4294967296 + 4294967296 * (held % 4294967296),
+        w[places::ORDER] % 256
+            + 256 * (w[places::ORDER_KIND] % 256)
+            + 65536 * (w[places::ENTERED] % 256)
+            + 4294967296 * (w[places::ENTRY_BAR] % 4294967296),
+        w[places::ORDER_DELAY],
+        w[places::CASH],
+        w[places::QTY],
+        w[places::ENTRY_PRICE],
+        w[places::ENTRY_TIME],
+        w[places::ENTRY_FEE],
+        w[places::FEES_PAID],
+        w[places::EXTREME],
+        w[places::LAST_TIME],
+        w[places::LAST_CLOSE],
+        w[places::ORDER_LEVEL],
+        w[places::ORDER_LIMIT],
+        w[places::OPEN_FUNDING],
+        w[places::OPEN_WORST],
     ]
 }
 

@@ -24,7 +24,7 @@ pub fn candle_of(bar: &[u64]) -> Candle
     ensures { λ r. ⌜ r ≡ candleOf (now (bar .entry)) ⌝ }
 {
     Candle {
-        time: words::word(bar, 0),
+        time: words::word(bar, words::places::BAR_TIME),
         open: float_at(bar, rows::OPEN),
         high: float_at(bar, rows::HIGH),
         low: float_at(bar, rows::LOW),

@@ -14,6 +14,7 @@ use execution::terms::Sizing;
 use execution::terms::Slippage;
 use execution::terms::Terms;
 use words::limits::SETTING_WORDS;
+use words::places;
 
 // The settings, with their numbers.
 pub struct Settings {
@@ -35,8 +36,16 @@ pub struct Settings {
     pub entries: Entries,
 }
 
-// The word of the mask that says which optional settings are given.
-const GIVEN: usize = 31;
+// The mask's bit of each optional setting, as the number to divide by: setting i has bit i.
+const STOP_LOSS_BIT: u64 = 4096;
+
+const TRAILING_STOP_BIT: u64 = 8192;
+
+const TAKE_PROFIT_BIT: u64 = 16384;
+
+const MAX_LEVERAGE_BIT: u64 = 32768;
+
+const MAX_POSITION_BIT: u64 = 65536;
 
 // Off is 0, on is any other word.
 fn flag_of(w: u64) -> bool
@@ -87,14 +96,23 @@ fn risk_of(words: &[u64]) -> Risk
     requires { ⌜ settingWords ≤ length (now words) ⌝ }
     ensures { λ r. ⌜ r ≡ riskOf (now (words .entry)) ⌝ }
 {
-    let given = word_in(words, GIVEN);
+    let given = word_in(words, places::GIVEN);
     Risk {
-        stop_loss_pct: level_of(given / 4096, word_in(words, 12)),
-        trailing_stop_pct: level_of(given / 8192, word_in(words, 13)),
-        take_profit_pct: level_of(given / 16384, word_in(words, 14)),
-        max_leverage: level_of(given / 32768, word_in(words, 15)),
-        max_position_pct: level_of(given / 65536, word_in(words, 16)),
-        liquidation: flag_of(word_in(words, 17)),
+        stop_loss_pct: level_of(given / STOP_LOSS_BIT, word_in(words, places::STOP_LOSS)),
+        trailing_stop_pct: level_of(
+            given / TRAILING_STOP_BIT,
+            word_in(words, places::TRAILING_STOP),
+        ),
+        take_profit_pct: level_of(given / TAKE_PROFIT_BIT, word_in(words, places::TAKE_PROFIT)),
+        max_leverage: level_of(
+            given / MAX_LEVERAGE_BIT,
+            word_in(words, places::MAX_LEVERAGE),
+        ),
+        max_position_pct: level_of(
+            given / MAX_POSITION_BIT,
+            word_in(words, places::MAX_POSITION),
+        ),
+        liquidation: flag_of(word_in(words, places::LIQUIDATION)),
     }
 }
 
@@ -104,13 +122,20 @@ fn terms_of(words: &[u64]) -> Terms
     ensures { λ r. ⌜ r ≡ termsOf (now (words .entry)) ⌝ }
 {
     Terms {
-        sizing: sizing_of(word_in(words, 5), word_in(words, 6), word_in(words, 7)),
+        sizing: sizing_of(
+            word_in(words, places::SIZING_KIND),
+            word_in(words, places::SIZING_VALUE),
+            word_in(words, places::LOOKBACK),
+        ),
         risk: risk_of(words),
-        taker_bps: float_in(words, 8),
-        slippage: slippage_of(word_in(words, 9), word_in(words, 10)),
-        partial_fills: flag_of(word_in(words, 18)),
-        max_participation: float_in(words, 19),
-        lot: float_in(words, 24),
+        taker_bps: float_in(words, places::TAKER_BPS),
+        slippage: slippage_of(
+            word_in(words, places::SLIPPAGE_KIND),
+            word_in(words, places::SLIPPAGE_VALUE),
+        ),
+        partial_fills: flag_of(word_in(words, places::PARTIAL_FILLS)),
+        max_participation: float_in(words, places::PARTICIPATION),
+        lot: float_in(words, places::LOT),
     }
 }
 
@@ -133,10 +158,10 @@ fn entries_of(words: &[u64]) -> Entries
     ensures { λ r. ⌜ r ≡ entriesOf (now (words .entry)) ⌝ }
 {
     Entries {
-        order_type: order_type_of(word_in(words, 20)),
-        level_pct: float_in(words, 21),
-        limit_pct: float_in(words, 22),
-        maker_bps: float_in(words, 23),
+        order_type: order_type_of(word_in(words, places::ENTRY_KIND)),
+        level_pct: float_in(words, places::LEVEL_PCT),
+        limit_pct: float_in(words, places::LIMIT_PCT),
+        maker_bps: float_in(words, places::MAKER_BPS),
     }
 }
 
@@ -146,13 +171,13 @@ fn whole_settings(words: &[u64]) -> Settings
     ensures { λ r. ⌜ r ≡ settingsOf (now (words .entry)) ⌝ }
 {
     Settings {
-        slots: word_in(words, 0) as usize,
-        depth: word_in(words, 1) as usize,
-        capital: float_in(words, 2),
-        warmup: word_in(words, 3),
-        delay: word_in(words, 4),
+        slots: word_in(words, places::SLOTS) as usize,
+        depth: word_in(words, places::DEPTH) as usize,
+        capital: float_in(words, places::CAPITAL),
+        warmup: word_in(words, places::WARMUP),
+        delay: word_in(words, places::DELAY),
         terms: terms_of(words),
-        funding: flag_of(word_in(words, 11)),
+        funding: flag_of(word_in(words, places::FUNDING)),
         entries: entries_of(words),
     }
 }

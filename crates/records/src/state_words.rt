@@ -18,6 +18,7 @@ use execution::level::OrderKind;
 use portfolio::Portfolio;
 use rules::position::Entered;
 use words::limits::STATE_WORDS;
+use words::places;
 
 fn order_of(order: u64, delay: u64, kind: OrderKind) -> Order
     ensures { λ r. ⌜ r ≡ orderOf order delay kind ⌝ }
@@ -55,10 +56,10 @@ fn counts_of(words: &[u64]) -> Counts
     ensures { λ r. ⌜ r ≡ countsOf (now (words .entry)) ⌝ }
 {
     Counts {
-        bars_seen: word_in(words, 0),
-        rows_held: word_in(words, 1) as usize,
-        equity_points: word_in(words, 2) as usize,
-        trades: word_in(words, 3) as usize,
+        bars_seen: word_in(words, places::BARS_SEEN),
+        rows_held: word_in(words, places::ROWS_HELD) as usize,
+        equity_points: word_in(words, places::EQUITY_POINTS) as usize,
+        trades: word_in(words, places::TRADES) as usize,
     }
 }
 
@@ -67,14 +68,14 @@ fn portfolio_of(words: &[u64]) -> Portfolio
     ensures { λ r. ⌜ r ≡ portfolioOf (now (words .entry)) ⌝ }
 {
     Portfolio {
-        cash: float_in(words, 8),
-        qty: float_in(words, 9),
-        entry_price: float_in(words, 10),
-        entry_time: word_in(words, 11),
-        entry_fee: float_in(words, 12),
-        fees_paid: float_in(words, 13),
-        funding: float_in(words, 20),
-        worst: float_in(words, 21),
+        cash: float_in(words, places::CASH),
+        qty: float_in(words, places::QTY),
+        entry_price: float_in(words, places::ENTRY_PRICE),
+        entry_time: word_in(words, places::ENTRY_TIME),
+        entry_fee: float_in(words, places::ENTRY_FEE),
+        fees_paid: float_in(words, places::FEES_PAID),
+        funding: float_in(words, places::OPEN_FUNDING),
+        worst: float_in(words, places::OPEN_WORST),
     }
 }
 
@@ -84,8 +85,11 @@ fn position_of(words: &[u64]) -> Position
 {
     Position {
         portfolio: portfolio_of(words),
-        entered: entered_of(word_in(words, 6), word_in(words, 7)),
-        extreme: float_in(words, 14),
+        entered: entered_of(
+            word_in(words, places::ENTERED),
+            word_in(words, places::ENTRY_BAR),
+        ),
+        extreme: float_in(words, places::EXTREME),
     }
 }
 
@@ -97,14 +101,18 @@ fn whole_state(words: &[u64]) -> State
     State {
         counts: counts_of(words),
         order: order_of(
-            word_in(words, 4),
-            word_in(words, 5),
-            entry_kind_of(word_in(words, 17), float_in(words, 18), float_in(words, 19)),
+            word_in(words, places::ORDER),
+            word_in(words, places::ORDER_DELAY),
+            entry_kind_of(
+                word_in(words, places::ORDER_KIND),
+                float_in(words, places::ORDER_LEVEL),
+                float_in(words, places::ORDER_LIMIT),
+            ),
         ),
         position: position_of(words),
         last: Last {
-            time: word_in(words, 15),
-            close: float_in(words, 16),
+            time: word_in(words, places::LAST_TIME),
+            close: float_in(words, places::LAST_CLOSE),
         },
     }
 }

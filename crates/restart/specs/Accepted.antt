@@ -13,10 +13,10 @@ use Rattle.refusals.specs.{Laws.Lines.first-holds, Laws.Lines.below-fine, Laws.
 use Rattle.engine.specs.{Boxes.Sound, Laws.Lengths.row-long, Laws.Runs.run-keeps, Laws.Underway.entry-stays, Record.rowOf, Record.heldRows, Run.Run, Run.runOver}
 use Rattle.engine.specs.{Step.stepped, Step.stepVerdict}
 use Rattle.runs.specs.{Laws.Alike.step-sound, Laws.TwoRuns.fresh-sound, Laws.Window.last-added, Laws.Window.window-added}
-use Rattle.dump.specs.{Layout.wordsBytes, Layout.numbers, Layout.amounts, Layout.head, Layout.image, Layout.windowOf, Layout.imageOf, Reading.slotsIn}
-use Rattle.dump.specs.{Reading.versionIn, Reading.depthIn, Reading.wordsIn, Reading.wordsAt, Reading.rowPlace, Reading.rowIn, Refused.zeroAt, Refused.eachFine}
-use Rattle.dump.specs.{Refused.rowsFine, Refused.imageLines, Refused.sameLines, Refused.restoreLines, Refused.restoreJudged, Laws.Image.image-head}
-use Rattle.dump.specs.{Laws.Image.image-body, Laws.Packed.headWords, Laws.WordBytes.words-long}
+use Rattle.images.specs.{Layout.wordsBytes, Layout.numbers, Layout.amounts, Layout.head, Layout.image, Layout.windowOf, Layout.imageOf, Reading.slotsIn}
+use Rattle.images.specs.{Reading.versionIn, Reading.depthIn, Reading.wordsIn, Reading.wordsAt, Reading.rowPlace, Reading.rowIn, Refused.zeroAt}
+use Rattle.images.specs.{Refused.eachFine, Refused.rowsFine, Refused.imageLines, Refused.sameLines, Refused.restoreLines, Refused.restoreJudged}
+use Rattle.dump.specs.{Laws.Image.image-head, Laws.Image.image-body, Laws.Packed.headWords, Laws.WordBytes.words-long}
 use Rattle.restart.specs.{RoundTrip.restoredOf, RoundTrip.words-back, Cut.size-of-image, Window.Whole, Window.window-whole, Window.word-at, Restart.Kept}
 use Rattle.restart.specs.{Laws.RowsPass.every-of, Laws.RowsPass.row-passes, Laws.RowsPass.rowAt, Laws.RowsPass.RowsPass, Laws.RowsPass.listed-same}
 use Rattle.restart.specs.{Laws.RowsPass.last-pass, Laws.RowsPass.added-pass, Laws.Says.Says, Laws.Says.unused-fine, Laws.Says.numbers-fine}

@@ -11,13 +11,14 @@ use Rattle.records.specs.{StateWords.stateOf, StateWords.wordsOf}
 use Rattle.refusals.specs.{declared.verdict.Verdict.the-variants.Fine, Lines.judged, Rooms.roomLines, Rooms.entryBelow, Settings.settingLines, Laws.Lines.and-true}
 use Rattle.refusals.specs.{Laws.Lines.first-holds, Laws.Lines.both-fine}
 use Rattle.engine.specs.{Record.listed, Record.heldRows, Laws.Lengths.listed-long}
-use Rattle.dump.specs.{Layout.headBytes, Layout.dumpBytes, Layout.wordsBytes, Layout.amounts, Layout.image, Layout.windowOf, Layout.imageOf, Reading.slotsIn}
-use Rattle.dump.specs.{Reading.depthIn, Reading.seenIn, Reading.rowsIn, Reading.orderIn, Reading.kindIn, Reading.enteredIn, Reading.entryIn, Reading.delayIn}
-use Rattle.dump.specs.{Reading.levelIn, Reading.limitIn, Reading.wordsIn, Reading.stateIn, Reading.wordsAt, Reading.rowPlace, Reading.windowIn, Refused.shapeFine}
-use Rattle.dump.specs.{Refused.numbersFine, Refused.usedOrZero, Refused.isEntry, Refused.unusedZero, Refused.zeroAt, Refused.eachFine, Refused.rowsFine}
-use Rattle.dump.specs.{Refused.imageLines, Refused.restoreLines, Refused.restoreJudged, Laws.Fine.shape-fine, Laws.Fine.rows-few, Laws.Fine.restore-fine}
-use Rattle.dump.specs.{Laws.Image.image-long, Laws.Image.image-head, Laws.Image.image-body, Laws.Packed.firstWord, Laws.Packed.secondWord, Laws.Packed.thirdWord}
-use Rattle.dump.specs.{Laws.Packed.headWords, Laws.WordBytes.words-long, Laws.WordBytes.byte-of}
+use Rattle.images.specs.{Layout.headBytes, Layout.dumpBytes, Layout.wordsBytes, Layout.amounts, Layout.image, Layout.windowOf, Layout.imageOf, Reading.slotsIn}
+use Rattle.images.specs.{Reading.depthIn, Reading.seenIn, Reading.rowsIn, Reading.orderIn, Reading.kindIn, Reading.enteredIn, Reading.entryIn, Reading.delayIn}
+use Rattle.images.specs.{Reading.levelIn, Reading.limitIn, Reading.wordsIn, Reading.stateIn, Reading.wordsAt, Reading.rowPlace, Reading.windowIn}
+use Rattle.images.specs.{Refused.shapeFine, Refused.numbersFine, Refused.usedOrZero, Refused.isEntry, Refused.unusedZero, Refused.zeroAt, Refused.eachFine}
+use Rattle.images.specs.{Refused.rowsFine, Refused.imageLines, Refused.restoreLines, Refused.restoreJudged, Laws.Fine.shape-fine, Laws.Fine.rows-few}
+use Rattle.images.specs.{Laws.Fine.restore-fine}
+use Rattle.dump.specs.{Laws.Image.image-long, Laws.Image.image-head, Laws.Image.image-body, Laws.Packed.firstWord, Laws.Packed.secondWord}
+use Rattle.dump.specs.{Laws.Packed.thirdWord, Laws.Packed.headWords, Laws.WordBytes.words-long, Laws.WordBytes.byte-of}
 use Rattle.restart.specs.{Window.listed-at, Laws.Again.Own, Laws.Again.kind-again, Laws.Again.order-again, Laws.Again.entered-again, Laws.Marked.marked}
 use Rattle.restart.specs.{Laws.ReadBytes.four-small, Laws.ReadBytes.two-small, Laws.ReadBytes.byte-read, Laws.RowsPass.one-of}
 

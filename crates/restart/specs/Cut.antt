@@ -5,7 +5,8 @@ use Rattle.records.specs.{declared.settings.Settings.Settings, declared.state.S
 use Rattle.engine.specs.{Record.heldRows}
 use Rattle.refusals.specs.{declared.verdict.Verdict.the-variants.Fine, declared.verdict.Verdict.the-variants.Bad, Lines.judged, Rooms.roomLines}
 use Rattle.refusals.specs.{Settings.settingLines}
-use Rattle.dump.specs.{Layout.dumpBytes, Layout.windowOf, Layout.imageOf, Order.written, Refused.restoreJudged, Laws.Image.image-long, Laws.Image.window-short}
+use Rattle.images.specs.{Layout.dumpBytes, Layout.windowOf, Layout.imageOf, Refused.restoreJudged}
+use Rattle.dump.specs.{Order.written, Laws.Image.image-long, Laws.Image.window-short}
 use Rattle.restart.specs.{FirstWord.Unmarked, FirstWord.unmarked-refused, OrderPlan.all-written, OrderPlan.mark-stays}
 
 module _ (s : Settings) (t : State) (room : List ℕ) (held : t .counts .«rows_held» ≤ rowPlaces (s .slots) room) where

@@ -5,7 +5,8 @@ use Rattle.records.specs.{declared.settings.Settings.Settings, declared.state.S
 use Rattle.refusals.specs.{declared.verdict.Verdict.the-variants.Fine, Lines.judged, Rooms.roomLines, Rooms.entryBelow, Rooms.stateLines, Settings.settingLines}
 use Rattle.refusals.specs.{Laws.Fine.step-fine, Laws.Lines.below-fine}
 use Rattle.engine.specs.{Books.emptied, Boxes.Sound, Laws.Runs.run-keeps, Run.Run, Run.runOver, Step.stepped, Step.stepVerdict}
-use Rattle.dump.specs.{Layout.dumpBytes, Refused.areaLines, Refused.dumpStateLines, Refused.dumpLines, Refused.dumpJudged}
+use Rattle.images.specs.{Layout.dumpBytes}
+use Rattle.dump.specs.{Refused.areaLines, Refused.dumpStateLines, Refused.dumpLines, Refused.dumpJudged}
 use Rattle.restart.specs.{Accepted.Passed, Accepted.fresh-passed, Accepted.step-passed, Accepted.step-judged}
 
 -- what every bar keeps, beside what an image needs: bars seen that are counted

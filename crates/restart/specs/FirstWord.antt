@@ -7,7 +7,7 @@ use Rattle.records.specs.{declared.settings.Settings.Settings, declared.state.S
 use Rattle.refusals.specs.{declared.verdict.Verdict.Verdict, declared.verdict.Verdict.the-variants.Fine, declared.verdict.Verdict.the-variants.Bad, Lines.Line}
 use Rattle.refusals.specs.{Lines.line, Lines.judged, Rooms.roomLines, Settings.settingLines, Laws.Lines.never, Laws.Lines.both-fine, Laws.Lines.below-fine}
 use Rattle.refusals.specs.{Laws.Lines.below-bad}
-use Rattle.dump.specs.{Layout.imageOf, Refused.shapeFine, Refused.imageLines, Refused.sameLines, Refused.restoreLines, Refused.restoreJudged}
+use Rattle.images.specs.{Layout.imageOf, Refused.shapeFine, Refused.imageLines, Refused.sameLines, Refused.restoreLines, Refused.restoreJudged}
 use Rattle.restart.specs.{Laws.FirstBytes.passed-whole}
 
 -- ---- definitions

@@ -5,7 +5,7 @@ use Rattle.words.specs.{Words.overwrite}
 use Rattle.records.specs.{declared.settings.Settings.Settings, declared.state.State.State, Lent.Lists, Lent.Rooms, Lent.rooms, Lent.rowPlaces}
 use Rattle.refusals.specs.{declared.verdict.Verdict.the-variants.Fine}
 use Rattle.engine.specs.{Books.heldPoints, Books.heldTrades, Boxes.Alike, Boxes.Sound, Run.Run, Run.runOver, Whole.accountOf}
-use Rattle.dump.specs.{Layout.imageOf, Reading.stateIn, Reading.windowIn}
+use Rattle.images.specs.{Layout.imageOf, Reading.stateIn, Reading.windowIn}
 
 -- a life: its bars, the bytes that the restore after it is lent, and the rooms that the box is lent from then on
 pub record Life : Type 0 where

@@ -5,7 +5,7 @@ use Rattle.words.specs.Prelude.{List·getD-eq-default, length-take-le, getD-tak
 use Rattle.table.specs.{Bytes.Bytes}
 use Rattle.records.specs.{declared.settings.Settings.Settings, declared.state.State.State}
 use Rattle.refusals.specs.{declared.verdict.Verdict.the-variants.Fine, Lines.judged, Rooms.roomLines, Settings.settingLines}
-use Rattle.dump.specs.{Layout.imageOf, Refused.restoreJudged}
+use Rattle.images.specs.{Layout.imageOf, Refused.restoreJudged}
 use Rattle.restart.specs.{FirstWord.Unmarked, FirstWord.RefusedOr, FirstWord.nineteen, FirstWord.whole, FirstWord.unmarked-refused}
 use Rattle.restart.specs.{FirstWord.first-word-decides, FirstWord.accepted-whole, FirstWord.above-fine, Laws.FirstBytes.image-first, Laws.Programs.Left}
 use Rattle.restart.specs.{Laws.Programs.early, Laws.Programs.late, Laws.Programs.done, Laws.Programs.neither, Laws.Programs.starts-with}

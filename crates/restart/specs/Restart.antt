@@ -7,7 +7,7 @@ use Rattle.words.specs.{Laws.Overwrite.overwrite-length}
 use Rattle.records.specs.{declared.settings.Settings.Settings, declared.state.State.State, Lent.Lists, Lent.Rooms, Lent.rooms, Lent.rowPlaces, State.freshState}
 use Rattle.engine.specs.{Boxes.NotFull, Record.heldRows, Run.Run, Run.runOver}
 use Rattle.runs.specs.{OtherBooks.Emptied, Restart.Restarted, Restart.restart, Laws.TwoRuns.fresh-sound, Laws.TwoRuns.run-sound}
-use Rattle.dump.specs.{Layout.windowOf, Layout.imageOf, Reading.stateIn, Reading.windowIn}
+use Rattle.images.specs.{Layout.windowOf, Layout.imageOf, Reading.stateIn, Reading.windowIn}
 use Rattle.restart.specs.{RoundTrip.Small, RoundTrip.restoredOf, RoundTrip.state-comes-back, Window.Whole, Window.window-whole, Window.window-comes-back}
 
 -- What the image of a box needs: D and K as 12 lets them be, and numbers of its state and words of its rows such as the code's types hold.

@@ -13,8 +13,8 @@ use Rattle.records.specs.{declared.state.State.State, StateWords.orderKind, Sta
 use Rattle.records.specs.{StateWords.limitWord, StateWords.enteredKind, StateWords.entryBar, StateWords.wordsOf, StateWords.stateOf, Laws.RoundTrip.KindFits}
 use Rattle.records.specs.{Laws.RoundTrip.Floats64, Laws.RoundTrip.state-back}
 use Rattle.steps.specs.{Laws.Encoding.four-back}
-use Rattle.dump.specs.{Layout.wordsBytes, Layout.numbers, Layout.amounts, Layout.head, Layout.image, Layout.windowOf, Layout.imageOf, Reading.wordsIn}
-use Rattle.dump.specs.{Reading.stateIn}
+use Rattle.images.specs.{Layout.wordsBytes, Layout.numbers, Layout.amounts, Layout.head, Layout.image, Layout.windowOf, Layout.imageOf, Reading.wordsIn}
+use Rattle.images.specs.{Reading.stateIn}
 use Rattle.restart.specs.{Laws.SameFloats.floats-alike}
 
 -- ---- numbers

@@ -3,7 +3,7 @@ use Rattle.words.specs.Prelude.{ℕ, _≡_, refl, sym, ap, _∙_, List}
 use Rattle.records.specs.{declared.settings.Settings.Settings, declared.state.State.State, Lent.Rooms, StateWords.wordsOf}
 use Rattle.engine.specs.{Boxes.Alike, Whole.Account, Whole.accountOf, Whole.stateOf}
 use Rattle.runs.specs.{Laws.AccountStep.same-parts}
-use Rattle.dump.specs.{Layout.numbers, Layout.amounts, Layout.head, Layout.image, Layout.windowOf, Layout.imageOf}
+use Rattle.images.specs.{Layout.numbers, Layout.amounts, Layout.head, Layout.image, Layout.windowOf, Layout.imageOf}
 use Rattle.restart.specs.{Laws.SameFloats.floats-alike, RoundTrip.Small, Restart.Kept}
 
 -- ---- the image

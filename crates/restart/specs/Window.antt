@@ -7,8 +7,9 @@ use Rattle.table.specs.{Bytes.u16, Bytes.u32, Bytes.u64}
 use Rattle.steps.specs.{Bytes.eight, Laws.Encoding.four-back}
 use Rattle.records.specs.{declared.settings.Settings.Settings, declared.state.State.State, Lent.rowPlaces, StateWords.wordsOf}
 use Rattle.engine.specs.{Record.listed, Record.heldRows, Laws.Lengths.listed-long}
-use Rattle.dump.specs.{Layout.headBytes, Layout.wordsBytes, Layout.numbers, Layout.amounts, Layout.head, Layout.image, Layout.windowOf, Layout.imageOf}
-use Rattle.dump.specs.{Reading.slotsIn, Reading.rowsIn, Reading.wordsAt, Reading.windowIn, Laws.WordBytes.word-byte, Laws.Image.image-body}
+use Rattle.images.specs.{Layout.headBytes, Layout.wordsBytes, Layout.numbers, Layout.amounts, Layout.head, Layout.image, Layout.windowOf, Layout.imageOf}
+use Rattle.images.specs.{Reading.slotsIn, Reading.rowsIn, Reading.wordsAt, Reading.windowIn}
+use Rattle.dump.specs.{Laws.WordBytes.word-byte, Laws.Image.image-body}
 use Rattle.restart.specs.{RoundTrip.eight-back}
 use native.Mathlib.Nat.{mul-sub}
 

@@ -41,7 +41,11 @@ pub fn text(path: &str) -> String {
 /// A paper says how things are. docs/CHANGES.md says how they were, too, so it may name what is gone.
 pub fn is_paper(path: &str) -> bool {
     let in_docs = path.starts_with("docs/") && path.ends_with(".md") && path != "docs/CHANGES.md";
-    in_docs || path == "README.md" || path == "CONTRIBUTING.md" || path.ends_with("/README.md") || path == "include/yshturpa.h"
+    in_docs
+        || path == "README.md"
+        || path == "CONTRIBUTING.md"
+        || path.ends_with("/README.md")
+        || path == "include/yshturpa.h"
 }
 
 /// What stands between backquotes on a line, with the number of the line. Blocks of code are passed over.

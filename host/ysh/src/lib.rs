@@ -3,6 +3,7 @@
 //! rules comes from the library's calls.
 #![forbid(unsafe_code)]
 
+mod axis;
 mod bars;
 mod cli;
 mod columns;

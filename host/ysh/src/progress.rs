@@ -1,6 +1,7 @@
 //! Work over many files, on every core, or over one long file, with a bar on a terminal where it takes longer than a second.
 
 use std::io::IsTerminal;
+use std::sync::atomic::{AtomicBool, Ordering};
 use std::time::{Duration, Instant};
 
 use indicatif::{ProgressBar, ProgressDrawTarget, ProgressStyle};
@@ -8,10 +9,20 @@ use rayon::prelude::*;
 
 const QUIET: Duration = Duration::from_secs(1);
 
-/// What a function gives for each item, in the items' order.
+/// Whether a bar over many items is shown: then their own bars are not.
+static MANY: AtomicBool = AtomicBool::new(false);
+
+/// What a function gives for each file, in the files' order.
 pub fn each<T: Sync, R: Send>(items: &[T], work: impl Fn(&T) -> R + Sync) -> Vec<R> {
-    let bar = Late::new(items.len() as u64, "{bar:40} {pos} of {len} files, {eta} left");
+    each_of("files", items, work)
+}
+
+/// What a function gives for each item, in the items' order; what the items are is told.
+pub fn each_of<T: Sync, R: Send>(what: &str, items: &[T], work: impl Fn(&T) -> R + Sync) -> Vec<R> {
+    let bar = Late::new(items.len() as u64, &format!("{{bar:40}} {{pos}} of {{len}} {what}, {{eta}} left"));
+    MANY.store(true, Ordering::Relaxed);
     let results = items.par_iter().map(|item| bar.after(work(item))).collect();
+    MANY.store(false, Ordering::Relaxed);
     bar.ended();
     results
 }
@@ -42,7 +53,9 @@ impl Late {
 
     pub fn reached(&self, position: u64) {
         self.bar.set_position(position);
-        self.drawn();
+        if !MANY.load(Ordering::Relaxed) {
+            self.drawn();
+        }
     }
 
     pub fn ended(&self) {

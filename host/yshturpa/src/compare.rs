@@ -43,6 +43,7 @@ pub fn compare(first: (&[Point], &[Trade]), second: (&[Point], &[Trade])) -> Res
     let trades = |run: &[Trade]| run.iter().flat_map(Trade::words).collect::<Vec<u64>>();
     let shorter = first.1.len().min(second.1.len());
     let mut lines = vec![0; DIFFERENCE_WORDS * (TRADE_WORDS * shorter + 3)];
-    let count = calls::compare((&points(first.0), &trades(first.1)), (&points(second.0), &trades(second.1)), &mut lines)?;
+    let count =
+        calls::compare((&points(first.0), &trades(first.1)), (&points(second.0), &trades(second.1)), &mut lines)?;
     Ok(lines.chunks_exact(DIFFERENCE_WORDS).take(count).map(Difference::of_words).collect())
 }

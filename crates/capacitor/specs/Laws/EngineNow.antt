@@ -5,7 +5,7 @@ use Rattle.records.specs.{declared.state.State.State, Lent.Lists, Lent.Rooms, L
 use Rattle.records.specs.{StateWords.stateOf, Laws.RoundTrip.Floats64, Laws.RoundTrip.fresh-floats}
 use Rattle.engine.specs.{Boxes.NotFull, Run.runOver}
 use Rattle.runs.specs.{NeverFull.PlacesFor}
-use Rattle.dump.specs.{Reading.wordsIn, Reading.stateIn}
+use Rattle.images.specs.{Reading.wordsIn, Reading.stateIn}
 use Rattle.restart.specs.{AsIfNever.AsIfNever, AsIfNever.Ready, AsIfNever.same-as-unbroken, AsIfNever.always-ready, AsIfNever.as-if-never, Laws.Reached64.Bars64}
 use Rattle.restart.specs.{Laws.Times.Word64, Lives.Life, Lives.restoredState, Lives.lastState, Lives.lastRooms, Lives.allBars, Lives.allPoints, Lives.allTrades}
 use Rattle.restart.specs.{Lives.SinceLosses}

@@ -6,7 +6,7 @@ use Rattle.records.specs.{Laws.RoundTrip.Floats64}
 use Rattle.refusals.specs.{declared.verdict.Verdict.the-variants.Fine, declared.verdict.Verdict.the-variants.Bad, Lines.judged, Rooms.roomLines}
 use Rattle.refusals.specs.{Settings.settingLines}
 use Rattle.engine.specs.{Run.Run, Run.runOver}
-use Rattle.dump.specs.{Layout.imageOf, Refused.restoreJudged}
+use Rattle.images.specs.{Layout.imageOf, Refused.restoreJudged}
 use Rattle.restart.specs.{AsIfNever.Ready, FirstWord.RefusedOr, FirstWord.nineteen, FirstWord.twenty, FirstWord.whole, PlanCut.plan-cut, Plans.CutIn, Plans.inOrder}
 use Rattle.restart.specs.{Plans.Plan}
 use Rattle.capi.specs.{Bars.StepLent, Call.answerWord, WordRun.answerOf, WordRun.lentWith}

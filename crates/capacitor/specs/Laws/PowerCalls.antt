@@ -6,8 +6,8 @@ use Rattle.records.specs.{StateWords.wordsOf, Laws.RoundTrip.Floats64, Laws.Rou
 use Rattle.refusals.specs.{declared.verdict.Verdict.Verdict, declared.verdict.Verdict.the-variants.Fine, declared.verdict.Verdict.the-variants.Bad, Lines.judged}
 use Rattle.refusals.specs.{Rooms.roomLines, Laws.Lines.never, Laws.Lines.both-fine}
 use Rattle.engine.specs.{Boxes.NotFull, Laws.Runs.run-ends, Run.runOver}
-use Rattle.dump.specs.{Layout.dumpBytes, Layout.imageOf, Order.written, Reading.stateIn, Reading.windowIn, Refused.dumpLines, Refused.dumpJudged}
-use Rattle.dump.specs.{Refused.restoreJudged, Dumping.leftBy, Restoring.restoredBy, Laws.Fine.dump-fine}
+use Rattle.images.specs.{Layout.dumpBytes, Layout.imageOf, Reading.stateIn, Reading.windowIn, Refused.restoreJudged, Refused.leftBy, Restoring.restoredBy}
+use Rattle.dump.specs.{Order.written, Refused.dumpLines, Refused.dumpJudged, Laws.Fine.dump-fine}
 use Rattle.restart.specs.{Cut.size-of-image, OrderPlan.all-written}
 use Rattle.capi.specs.{Call.callOf, Call.unlessBad, DayJoined.lent-had, Joined.lent-fine, Power.RestoreLent, Power.dumpGives, Power.dumpCall, Power.restoreGives}
 use Rattle.capi.specs.{Power.restoreCall, WordRun.answerOf, Laws.Answers.answer-number, Laws.Calls.Small, Laws.Calls.refused-word, Laws.DumpCalls.dump-honest}

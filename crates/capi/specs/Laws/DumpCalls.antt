@@ -6,9 +6,9 @@ use Rattle.records.specs.{declared.settings.Settings.Settings, declared.state.S
 use Rattle.refusals.specs.{declared.verdict.Verdict.Verdict, declared.verdict.Verdict.the-variants.Fine, declared.verdict.Verdict.the-variants.Bad, Lines.Line}
 use Rattle.refusals.specs.{Lines.judged, Rooms.roomLines, Rooms.stateLines, Settings.sizingLines, Settings.slippageLines, Settings.riskLines, Settings.termLines}
 use Rattle.refusals.specs.{Settings.entryLines, Settings.settingLines, Laws.Lines.never, Laws.Lines.and-true, Laws.Lines.first-holds}
-use Rattle.dump.specs.{Layout.dumpBytes, Layout.sizeFor, Layout.imageOf, Order.written, Reading.windowIn, Refused.areaLines, Refused.dumpStateLines}
-use Rattle.dump.specs.{Refused.dumpLines, Refused.dumpJudged, Refused.imageLines, Refused.sameLines, Refused.restoreLines, Refused.restoreJudged, Dumping.leftBy}
-use Rattle.dump.specs.{Restoring.restoredBy}
+use Rattle.images.specs.{Layout.dumpBytes, Layout.sizeFor, Layout.imageOf, Reading.windowIn, Refused.imageLines, Refused.sameLines, Refused.restoreLines}
+use Rattle.images.specs.{Refused.restoreJudged, Refused.leftBy, Restoring.restoredBy}
+use Rattle.dump.specs.{Order.written, Refused.areaLines, Refused.dumpStateLines, Refused.dumpLines, Refused.dumpJudged}
 use Rattle.capi.specs.{Call.unlessBad, Call.wordLines, Bars.lentLines, Power.dumpGives, Power.dumpCall, Power.restoreGives, Power.restoreCall}
 use Rattle.capi.specs.{Laws.Calls.Small, Laws.Calls.Numbered, Laws.Calls.Honest, Laws.Calls.honest, Laws.Calls.never-refuses, Laws.Calls.one-refusal}
 use Rattle.capi.specs.{Laws.Calls.after-verdict}

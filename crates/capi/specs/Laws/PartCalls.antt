@@ -6,9 +6,10 @@ use Rattle.records.specs.{declared.settings.Settings.Settings, declared.state.S
 use Rattle.refusals.specs.{declared.verdict.Verdict.Verdict, declared.verdict.Verdict.the-variants.Fine, declared.verdict.Verdict.the-variants.Bad, Lines.judged}
 use Rattle.refusals.specs.{Rooms.roomLines, Rooms.stateLines, Settings.sizingLines, Settings.slippageLines, Settings.riskLines, Settings.termLines}
 use Rattle.refusals.specs.{Settings.entryLines, Settings.settingLines, Laws.Lines.both-fine}
-use Rattle.dump.specs.{Layout.dumpBytes, Layout.sizeFor, Layout.imageOf, Order.written, Refused.areaLines, Refused.dumpStateLines, Refused.dumpLines}
-use Rattle.dump.specs.{Refused.dumpJudged, Parts.bytesFrom, Parts.partLines, Parts.partJudged, Laws.Fine.dump-fine, Laws.PartFine.fine-part, Laws.Parts.inParts}
-use Rattle.dump.specs.{Laws.Parts.total, Laws.Parts.parts-are-whole, Laws.Parts.size-of, Laws.Parts.whole-written}
+use Rattle.images.specs.{Layout.dumpBytes, Layout.sizeFor, Layout.imageOf}
+use Rattle.dump.specs.{Order.written, Refused.areaLines, Refused.dumpStateLines, Refused.dumpLines, Refused.dumpJudged, Parts.bytesFrom, Parts.partLines}
+use Rattle.dump.specs.{Parts.partJudged, Laws.Fine.dump-fine, Laws.PartFine.fine-part, Laws.Parts.inParts, Laws.Parts.total, Laws.Parts.parts-are-whole}
+use Rattle.dump.specs.{Laws.Parts.size-of, Laws.Parts.whole-written}
 use Rattle.capi.specs.{Call.Call, Call.callOf, Call.unlessBad, Bars.lentLines, Power.dumpGives, Power.dumpCall, Part.PartLent, Part.partGives}
 use Rattle.capi.specs.{Part.filledWith, Part.partCall, Laws.Calls.Small, Laws.Calls.Numbered, Laws.Calls.Honest, Laws.Calls.honest, Laws.Calls.never-refuses}
 use Rattle.capi.specs.{Laws.Calls.one-refusal, Laws.Calls.after-verdict, Laws.DumpCalls.onPaper, Laws.DumpCalls.paper-small, Laws.DumpCalls.lent-small}

@@ -6,8 +6,9 @@ use Rattle.words.specs.{Limits.rowWords, Laws.Records.records-fit}
 use Rattle.rows.specs.{History.lastRows}
 use Rattle.records.specs.{declared.settings.Settings.Settings, declared.state.State.State, Lent.rowPlaces, StateWords.wordsOf}
 use Rattle.engine.specs.{Record.heldRows}
-use Rattle.dump.specs.{Layout.bodyBytes, Layout.wordsBytes, Layout.numbers, Layout.amounts, Layout.head, Layout.body, Layout.image, Layout.windowOf}
-use Rattle.dump.specs.{Layout.imageOf, Order.written, Laws.InOrder.inOrder, Laws.InOrder.in-order, Laws.Packed.headWords, Laws.Packed.head-packed}
+use Rattle.images.specs.{Layout.bodyBytes, Layout.wordsBytes, Layout.numbers, Layout.amounts, Layout.head, Layout.body, Layout.image, Layout.windowOf}
+use Rattle.images.specs.{Layout.imageOf}
+use Rattle.dump.specs.{Order.written, Laws.InOrder.inOrder, Laws.InOrder.in-order, Laws.Packed.headWords, Laws.Packed.head-packed}
 use Rattle.dump.specs.{Laws.WordBytes.words-long}
 
 -- zeros behind a list are what reading past its end gives

@@ -2,7 +2,7 @@
 use Rattle.words.specs.Prelude.{ℕ, _+_, _*_, _/_, _%_, _<_, _≡_, refl, sym, ap, _∙_, List, [], _∷_, _++_, mod-eq-of-lt, div-eq-of-lt, zero-add, arith, replicate}
 use Rattle.words.specs.{Words.word}
 use Rattle.steps.specs.{Bytes.two, Bytes.four, Bytes.eight}
-use Rattle.dump.specs.{Layout.single, Layout.wordsBytes, Layout.numbers, Layout.amounts, Layout.head}
+use Rattle.images.specs.{Layout.single, Layout.wordsBytes, Layout.numbers, Layout.amounts, Layout.head}
 use native.Mathlib.Nat.{add-mul-div-left, add-mul-mod-self-left}
 
 -- the mark and version 1, K, D

@@ -5,8 +5,9 @@ use Rattle.records.specs.{declared.settings.Settings.Settings, declared.state.S
 use Rattle.refusals.specs.{declared.verdict.Verdict.the-variants.Fine, Rooms.roomLines, Rooms.stateLines, Settings.settingLines, Laws.Lines.and-true}
 use Rattle.refusals.specs.{Laws.Lines.first-holds, Laws.Lines.both-fine, Laws.Lines.below-fine}
 use Rattle.engine.specs.{Books.emptied}
-use Rattle.dump.specs.{Layout.headBytes, Layout.imageOf, Refused.areaLines, Refused.dumpStateLines, Refused.dumpLines, Refused.dumpJudged, Parts.bytesFrom}
-use Rattle.dump.specs.{Parts.partLines, Parts.partJudged, Laws.Passing.wordsPass, Laws.Passing.words-fine}
+use Rattle.images.specs.{Layout.headBytes, Layout.imageOf}
+use Rattle.dump.specs.{Refused.areaLines, Refused.dumpStateLines, Refused.dumpLines, Refused.dumpJudged, Parts.bytesFrom, Parts.partLines}
+use Rattle.dump.specs.{Parts.partJudged, Laws.Passing.wordsPass, Laws.Passing.words-fine}
 
 pub record PartFine (s : Settings) (t : State) (rows : List ℕ) : Type 0 where
   pub slots : s .slots ≤ mostSlots

@@ -1,12 +1,12 @@
 -- Parts one after another are the whole image, which is what a whole dump leaves.
-use Rattle.words.specs.Prelude.{ℕ, _+_, _/_, _≤_, _≡_, refl, sym, ap, _∙_, List, [], _∷_, _++_, arith, length, take, drop, length-drop, take-add, drop-drop}
+use Rattle.words.specs.Prelude.{ℕ, _+_, _/_, _≤_, _≡_, refl, sym, ap, _∙_, List, [], _∷_, _++_, arith, length, take, drop, take-add, drop-drop}
 use Rattle.words.specs.Prelude.{take-all}
 use Rattle.words.specs.{Limits.rowWords, Laws.Records.records-fit}
 use Rattle.records.specs.{declared.settings.Settings.Settings, declared.state.State.State, Lent.rowPlaces, StateWords.wordsOf}
 use Rattle.engine.specs.{Record.heldRows}
-use Rattle.dump.specs.{Layout.bodyBytes, Layout.dumpBytes, Layout.windowOf, Layout.imageOf, Order.written, Parts.bytesFrom, Laws.InOrder.in-order}
-use Rattle.dump.specs.{Laws.InOrder.in-order-whole, Laws.Image.image-long, Laws.Image.image-head, Laws.Image.image-body, Laws.Image.window-short}
-use Rattle.dump.specs.{Laws.Packed.headWords, Laws.Placed.whole-laid}
+use Rattle.images.specs.{Layout.bodyBytes, Layout.dumpBytes, Layout.windowOf, Layout.imageOf}
+use Rattle.dump.specs.{Order.written, Parts.bytesFrom, Laws.InOrder.in-order, Laws.InOrder.in-order-whole, Laws.Image.image-long, Laws.Image.image-head}
+use Rattle.dump.specs.{Laws.Image.image-body, Laws.Image.window-short, Laws.Packed.headWords, Laws.Placed.whole-laid}
 
 -- buffers of these lengths, each filled from where the one before it ends
 unfoldable pub inParts : List ℕ → ℕ → List ℕ → List ℕ

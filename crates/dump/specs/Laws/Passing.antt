@@ -13,8 +13,8 @@ use Rattle.refusals.specs.{Settings.sizingKnown, Settings.sizingValue, Settings
 use Rattle.refusals.specs.{Settings.orderTypeKnown, Settings.lotFine, Settings.sizingLines, Settings.slippageLines, Settings.riskLines, Settings.termLines}
 use Rattle.refusals.specs.{Settings.entryLines, Settings.settingLines, Laws.Lines.and-true, Laws.Lines.below-fine, Laws.Descent.no-line, Laws.Descent.fine-line}
 use Rattle.engine.specs.{Books.emptied}
-use Rattle.dump.specs.{Layout.headBytes, Layout.dumpBytes, Layout.imageOf, Order.written, Refused.areaLines, Refused.dumpStateLines, Refused.dumpLines}
-use Rattle.dump.specs.{Refused.dumpJudged}
+use Rattle.images.specs.{Layout.headBytes, Layout.dumpBytes, Layout.imageOf}
+use Rattle.dump.specs.{Order.written, Refused.areaLines, Refused.dumpStateLines, Refused.dumpLines, Refused.dumpJudged}
 
 -- ---- what is looked at
 

@@ -1,11 +1,12 @@
 -- A part laid from the header's words and the rows': that is the stretch of the image that begins there.
 use Rattle.words.specs.Prelude.{ℕ, zero, suc, _+_, _-_, _*_, _/_, _%_, _≤_, _<_, min, _≡_, refl, sym, ap, _∙_, List, [], _++_, append-nil, zero-add, sub-zero}
-use Rattle.words.specs.Prelude.{arith, length, getD, set, take, drop, length-take, length-drop, drop-of-length-le, getD-take, getD-drop, drop-cons, set-at}
+use Rattle.words.specs.Prelude.{arith, length, getD, take, drop, length-take, length-drop, drop-of-length-le, getD-take, getD-drop, drop-cons, set-at}
 use Rattle.words.specs.Prelude.{append-snoc, take-length, length-take-le}
-use Rattle.words.specs.{Words.overwrite, Laws.Overwrite.overwrite-fits}
+use Rattle.words.specs.{Laws.Overwrite.overwrite-fits}
 use Rattle.steps.specs.{Bytes.eight}
-use Rattle.dump.specs.{Layout.wordsBytes, Parts.bytesFrom, Parts.PartLaid, Laws.Laid.laid, Laws.Laid.laid-none, Laws.Laid.laid-as, Laws.Laid.laid-on}
-use Rattle.dump.specs.{Laws.Laid.laid-swap, Laws.WordBytes.byte-of, Laws.WordBytes.word-byte, Laws.InOrder.wholeLaid}
+use Rattle.images.specs.{Layout.wordsBytes}
+use Rattle.dump.specs.{Parts.bytesFrom, Parts.PartLaid, Laws.Laid.laid, Laws.Laid.laid-none, Laws.Laid.laid-as, Laws.Laid.laid-on, Laws.Laid.laid-swap}
+use Rattle.dump.specs.{Laws.WordBytes.byte-of, Laws.WordBytes.word-byte, Laws.InOrder.wholeLaid}
 use lib.Seq.{take-suc}
 
 -- how many of n bytes from `at` on are the header's

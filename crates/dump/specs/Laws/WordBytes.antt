@@ -2,7 +2,7 @@
 use Rattle.words.specs.Prelude.{ℕ, zero, suc, _+_, _*_, _/_, _%_, _<_, _≡_, refl, sym, ap, _∙_, List, [], _∷_, _++_, arith, length, getD, List·getD-append}
 use Rattle.words.specs.Prelude.{getD-append-add}
 use Rattle.steps.specs.{Bytes.eight}
-use Rattle.dump.specs.{Layout.wordsBytes}
+use Rattle.images.specs.{Layout.wordsBytes}
 
 pub words-long : (ws : List ℕ) → length (wordsBytes ws) ≡ 8 * length ws
 unfolding wordsBytes

@@ -9,7 +9,7 @@ use Rattle.records.specs.{declared.state.Order.Order, declared.state.Order.the-
 use Rattle.records.specs.{declared.state.Order.the-variants.EnterShort, declared.state.Order.the-variants.Exit, StateWords.orderOf, StateWords.entryKindOf}
 use Rattle.records.specs.{StateWords.enteredOf, StateWords.orderKind, StateWords.orderDelay, StateWords.waitsFor, StateWords.kindWord, StateWords.levelWord}
 use Rattle.records.specs.{StateWords.limitWord, StateWords.enteredKind, StateWords.entryBar}
-use Rattle.dump.specs.{Refused.usedOrZero, Refused.isEntry}
+use Rattle.images.specs.{Refused.usedOrZero, Refused.isEntry}
 
 -- the word of the float that it means: of every float there is one such word, and of NaN one of its many patterns
 abbrev pub Own : ℕ → Type 0

@@ -4,8 +4,8 @@ use Rattle.words.specs.Prelude.{ltb-false, ltb, length, getD, ext-getD}
 use Rattle.table.specs.{Bytes.u16, Bytes.Bytes}
 use Rattle.records.specs.{declared.settings.Settings.Settings, declared.state.State.State}
 use Rattle.refusals.specs.{declared.verdict.Verdict.the-variants.Fine, Lines.judged, Laws.Lines.first-holds}
-use Rattle.dump.specs.{Layout.numbers, Layout.head, Layout.image, Layout.imageOf, Reading.slotsIn, Reading.depthIn, Refused.imageLines, Refused.sameLines}
-use Rattle.dump.specs.{Laws.Fine.ShapeFine, Laws.Fine.shape-fine}
+use Rattle.images.specs.{Layout.numbers, Layout.head, Layout.image, Layout.imageOf, Reading.slotsIn, Reading.depthIn, Refused.imageLines, Refused.sameLines}
+use Rattle.images.specs.{Laws.Fine.ShapeFine, Laws.Fine.shape-fine}
 use Rattle.restart.specs.{Laws.Marked.Marked, Laws.Marked.marked}
 
 -- what the lines of 19 and 20 have seen of the first eight bytes: the mark and the version, K and D

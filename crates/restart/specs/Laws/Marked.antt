@@ -2,7 +2,7 @@
 use Rattle.words.specs.Prelude.{ℕ, _≡_, true, List, eqb-true, leb, eqb, length, getD}
 use Rattle.words.specs.{Limits.mostSlots, Limits.mostRows}
 use Rattle.refusals.specs.{Laws.Lines.and-true}
-use Rattle.dump.specs.{Layout.headBytes, Layout.dumpBytes, Reading.slotsIn, Reading.versionIn, Reading.depthIn, Refused.shapeFine}
+use Rattle.images.specs.{Layout.headBytes, Layout.dumpBytes, Reading.slotsIn, Reading.versionIn, Reading.depthIn, Refused.shapeFine}
 
 pub record Marked (x : List ℕ) : Type 0 where
   pub m₀ : getD x 0 0 ≡ 87

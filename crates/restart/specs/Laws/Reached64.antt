@@ -15,7 +15,7 @@ use Rattle.engine.specs.{Laws.Runs.run-none, Laws.Runs.run-stops, Laws.Runs.run
 use Rattle.engine.specs.{Step.stepped, Step.stepVerdict}
 use Rattle.restart.specs.{Accepted.Passed, Accepted.fresh-passed, Accepted.step-passed, Accepted.window-moved, Accepted.step-judged, Restart.Kept}
 use Rattle.restart.specs.{Window.window-whole, Laws.Times.Word64, Laws.Times.step-timed, Laws.Times.step-delayed}
-use Rattle.dump.specs.{Layout.windowOf}
+use Rattle.images.specs.{Layout.windowOf}
 
 -- ---- words
 

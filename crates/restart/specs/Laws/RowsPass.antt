@@ -9,7 +9,7 @@ use Rattle.records.specs.{Bar.candleOf, Bar.fundingOf}
 use Rattle.refusals.specs.{declared.verdict.Verdict.the-variants.Fine, Bar.bitFine, Bar.slotFine, Bar.every, Bar.slotsFine, Bar.candleFine, Bar.barLines}
 use Rattle.refusals.specs.{Lines.judged, Laws.Lines.and-true, Laws.Lines.first-holds}
 use Rattle.engine.specs.{Record.rowWord, Record.listed, Record.rowOf, Laws.Lengths.row-long}
-use Rattle.dump.specs.{Refused.usedOrZero, Refused.absentZero, Refused.rowFine}
+use Rattle.images.specs.{Refused.usedOrZero, Refused.absentZero, Refused.rowFine}
 use Rattle.restart.specs.{Window.listed-at}
 
 -- ---- each number below n

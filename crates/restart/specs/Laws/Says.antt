@@ -9,9 +9,9 @@ use Rattle.records.specs.{declared.state.Order.the-variants.EnterShort, declare
 use Rattle.records.specs.{StateWords.waitsFor, StateWords.kindWord, StateWords.levelWord, StateWords.limitWord, StateWords.enteredKind, StateWords.entryBar}
 use Rattle.records.specs.{Laws.RoundTrip.entered-back}
 use Rattle.refusals.specs.{Rooms.entryBelow}
-use Rattle.dump.specs.{Layout.headBytes, Layout.dumpBytes, Reading.slotsIn, Reading.versionIn, Reading.depthIn, Reading.seenIn, Reading.rowsIn, Reading.orderIn}
-use Rattle.dump.specs.{Reading.kindIn, Reading.enteredIn, Reading.entryIn, Reading.delayIn, Reading.levelIn, Reading.limitIn, Refused.shapeFine}
-use Rattle.dump.specs.{Refused.numbersFine, Refused.usedOrZero, Refused.isEntry, Refused.unusedZero}
+use Rattle.images.specs.{Layout.headBytes, Layout.dumpBytes, Reading.slotsIn, Reading.versionIn, Reading.depthIn, Reading.seenIn, Reading.rowsIn}
+use Rattle.images.specs.{Reading.orderIn, Reading.kindIn, Reading.enteredIn, Reading.entryIn, Reading.delayIn, Reading.levelIn, Reading.limitIn}
+use Rattle.images.specs.{Refused.shapeFine, Refused.numbersFine, Refused.usedOrZero, Refused.isEntry, Refused.unusedZero}
 
 -- The fields of an image `x`: K, D, bars seen, rows, the order and the entry bar.
 pub record Says (x : List ℕ) (K D bars held : ℕ) (o : Order) (e : Entered) : Type 0 where

@@ -3,6 +3,7 @@
 use yshturpa::Trade;
 
 use super::outcome::{reason_words, Outcome};
+use crate::axis::Axis;
 use crate::show::{rounded, Clock};
 use crate::svg::{Anchor, Svg, LETTER};
 
@@ -49,16 +50,14 @@ impl Charts {
 struct Frame {
     left: f64,
     bottom: f64,
-    low: f64,
-    high: f64,
+    axis: Axis,
     bars: usize,
 }
 
 impl Frame {
     fn new(height: f64, bars: usize, values: impl Iterator<Item = f64>) -> Frame {
-        let (low, high) = spread(values);
-        let mut frame = Frame { left: 0.0, bottom: TOP + height, low, high, bars };
-        let widest = frame.ticks().into_iter().map(|tick| rounded(tick).chars().count()).max().unwrap_or(1);
+        let mut frame = Frame { left: 0.0, bottom: TOP + height, axis: Axis::of(values), bars };
+        let widest = frame.axis.ticks().into_iter().map(|tick| rounded(tick).chars().count()).max().unwrap_or(1);
         frame.left = 16.0 + LETTER * widest as f64;
         frame
     }
@@ -68,33 +67,14 @@ impl Frame {
         self.left + (RIGHT - self.left) * share
     }
 
-    /// By halves where the difference is too large for a float.
     fn y(&self, value: f64) -> f64 {
-        let span = self.high - self.low;
-        let share = match span.is_finite() {
-            true => (value - self.low) / span,
-            false => (value / 2.0 - self.low / 2.0) / (self.high / 2.0 - self.low / 2.0),
-        };
-        self.bottom - (self.bottom - TOP) * share.clamp(0.0, 1.0)
-    }
-
-    /// Round numbers, about five of them; the two ends where there are none.
-    fn ticks(&self) -> Vec<f64> {
-        let rough = (self.high / 5.0 - self.low / 5.0).max(f64::MIN_POSITIVE);
-        let scale = 10f64.powf(rough.log10().floor());
-        let step = [1.0, 2.0, 5.0, 10.0].into_iter().map(|m| m * scale).find(|step| *step >= rough).unwrap_or(rough);
-        let first = (self.low / step).ceil();
-        let ticks: Vec<f64> = (0..8).map(|i| (first + f64::from(i)) * step).take_while(|t| *t <= self.high).collect();
-        match ticks.iter().all(|tick| tick.is_finite()) && ticks.len() > 1 {
-            true => ticks,
-            false => vec![self.low, self.high],
-        }
+        self.bottom - (self.bottom - TOP) * self.axis.share(value)
     }
 
     /// A drawing with the values' lines and the times below.
     fn svg(&self, what: &str, outcome: &Outcome) -> Svg {
         let mut svg = Svg::new(WIDTH, self.bottom + 26.0, what);
-        for tick in self.ticks() {
+        for tick in self.axis.ticks() {
             svg.line("grid", (self.left, self.y(tick)), (RIGHT, self.y(tick)));
             svg.text("axis", (self.left - 6.0, self.y(tick) + 4.0), Anchor::End, &rounded(tick));
         }
@@ -135,20 +115,6 @@ impl Frame {
         }
         outline
     }
-}
-
-/// The least and the greatest finite value, apart from each other.
-fn spread(values: impl Iterator<Item = f64>) -> (f64, f64) {
-    let finite = values.filter(|value| value.is_finite());
-    let (low, high) = finite.fold((f64::INFINITY, f64::NEG_INFINITY), |(l, h), v| (l.min(v), h.max(v)));
-    if low > high {
-        return (0.0, 1.0);
-    }
-    if low < high {
-        return (low, high);
-    }
-    let pad = (low.abs() / 100.0).max(f64::MIN_POSITIVE);
-    ((low - pad).max(f64::MIN), (high + pad).min(f64::MAX))
 }
 
 /// How the times of a run are told.
@@ -250,24 +216,6 @@ fn drawdown_chart(frame: &Frame, outcome: &Outcome, values: &[f64]) -> String {
 #[cfg(test)]
 mod tests {
     use super::*;
-
-    #[test]
-    fn any_values_have_a_frame() {
-        for values in [
-            vec![],
-            vec![f64::NAN],
-            vec![0.0],
-            vec![5.0, 5.0],
-            vec![f64::MAX, f64::MIN],
-            vec![5e-324, -5e-324],
-            vec![1e16, 1e16 + 2.0],
-        ] {
-            let frame = Frame::new(100.0, values.len().max(1), values.iter().copied());
-            assert!(frame.low < frame.high, "{values:?}");
-            assert!(frame.ticks().len() > 1 && frame.ticks().iter().all(|tick| tick.is_finite()), "{values:?}");
-            assert!(values.iter().filter(|v| v.is_finite()).all(|v| (TOP..=frame.bottom).contains(&frame.y(*v))));
-        }
-    }
 
     #[test]
     fn a_long_line_is_as_wide_as_the_chart() {

@@ -2,7 +2,7 @@
 
 use std::collections::BTreeMap;
 
-use serde::{Serialize, Serializer};
+use serde::{Deserialize, Deserializer, Serialize, Serializer};
 use yshturpa::{Point, Trade};
 
 use super::outcome::{reason_name, Outcome};
@@ -10,6 +10,7 @@ use crate::problem::Problem;
 use crate::table::number;
 
 /// A float as it is; one that is not finite, which JSON has no number for, as a text: `inf`, `-inf` or `NaN`.
+#[derive(Clone, Copy, Debug, PartialEq)]
 pub struct Exact(pub f64);
 
 impl Serialize for Exact {
@@ -17,6 +18,26 @@ impl Serialize for Exact {
         match self.0.is_finite() {
             true => serializer.serialize_f64(self.0),
             false => serializer.serialize_str(&number(self.0)),
+        }
+    }
+}
+
+impl<'de> Deserialize<'de> for Exact {
+    fn deserialize<D: Deserializer<'de>>(deserializer: D) -> Result<Exact, D::Error> {
+        #[derive(Deserialize)]
+        #[serde(untagged)]
+        enum Written {
+            Number(f64),
+            Text(String),
+        }
+        match Written::deserialize(deserializer)? {
+            Written::Number(x) => Ok(Exact(x)),
+            Written::Text(text) => match text.as_str() {
+                "inf" => Ok(Exact(f64::INFINITY)),
+                "-inf" => Ok(Exact(f64::NEG_INFINITY)),
+                "NaN" => Ok(Exact(f64::NAN)),
+                _ => Err(serde::de::Error::custom("a number, or \"inf\", \"-inf\" or \"NaN\", was expected")),
+            },
         }
     }
 }
@@ -112,5 +133,20 @@ fn refused(problem: &Problem) -> RefusedJson {
         place: problem.place.clone(),
         text: problem.text.clone(),
         refused: problem.refusal.map(|refusal| [refusal.number, refusal.place]),
+    }
+}
+
+#[cfg(test)]
+mod tests {
+    use super::*;
+
+    #[test]
+    fn numbers_read_as_they_were_written() {
+        for x in [0.0, -0.0, 0.1, 5e-324, f64::MAX, 1e300, 12345.678, f64::INFINITY, f64::NEG_INFINITY, f64::NAN] {
+            let text = serde_json::to_string(&Exact(x)).unwrap();
+            let Exact(read) = serde_json::from_str(&text).unwrap();
+            assert!(read.to_bits() == x.to_bits() || (read.is_nan() && x.is_nan()), "{text}");
+        }
+        assert!(serde_json::from_str::<Exact>("\"infinite\"").is_err());
     }
 }

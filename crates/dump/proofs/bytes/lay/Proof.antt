@@ -1,6 +1,6 @@
 -- Bytes up to a whole word, whole words, and the bytes that are over.
 use Rattle.words.specs.Prelude.{_+_, _-_, _*_, _/_, _%_, _<_, _≤_, arith, needs}
-use Rattle.dump.specs.{Layout.wordsBytes}
+use Rattle.images.specs.{Layout.wordsBytes}
 use Rattle.dump.proofs.{Storing.laid-two, bytes.lay.Statement.statement}
 use Rattle.dump.proofs.bytes.lay.Tie as tie
 

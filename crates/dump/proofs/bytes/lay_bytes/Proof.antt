@@ -1,6 +1,7 @@
 -- The loop's invariant: the bytes before k are laid.
 use Rattle.words.specs.Prelude.{_-_, _≤_, _≡_, refl, arith, length, length-set, needs}
-use Rattle.dump.specs.{Layout.wordsBytes, Laws.Laid.laid}
+use Rattle.images.specs.{Layout.wordsBytes}
+use Rattle.dump.specs.{Laws.Laid.laid}
 use Rattle.dump.proofs.{Storing.laid-nothing, Storing.laid-next, Storing.laid-all, bytes.lay_bytes.Statement.statement}
 use Rattle.dump.proofs.bytes.lay_bytes.Tie as tie
 

@@ -1,6 +1,7 @@
 -- The loop's invariant: the words before k are laid.
 use Rattle.words.specs.Prelude.{_-_, _*_, _≤_, _≡_, refl, ap, _∙_, arith, length, needs}
-use Rattle.dump.specs.{Layout.wordsBytes, Laws.Laid.laid, Laws.Laid.laid-length}
+use Rattle.images.specs.{Layout.wordsBytes}
+use Rattle.dump.specs.{Laws.Laid.laid, Laws.Laid.laid-length}
 use Rattle.dump.proofs.{Storing.words-nothing, Storing.eight-next, bytes.lay_eights.Statement.statement}
 use Rattle.dump.proofs.bytes.lay_eights.Tie as tie
 

@@ -1,6 +1,7 @@
 -- Words that there are, then zeros.
 use Rattle.words.specs.Prelude.{ℕ, _-_, _*_, ap, _∙_, arith, length, needs}
-use Rattle.dump.specs.{Layout.wordsBytes, Laws.Laid.laid}
+use Rattle.images.specs.{Layout.wordsBytes}
+use Rattle.dump.specs.{Laws.Laid.laid}
 use Rattle.dump.proofs.{Storing.laid-two, bytes.lay_words.Statement.statement}
 use Rattle.dump.proofs.bytes.lay_words.Tie as tie
 

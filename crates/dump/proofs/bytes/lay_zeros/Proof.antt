@@ -1,6 +1,7 @@
 -- The loop's invariant: the bytes before k are laid. All of them are past the words' end.
 use Rattle.words.specs.Prelude.{_-_, _≤_, _≡_, refl, sym, arith, length, length-set, List·getD-eq-default, needs}
-use Rattle.dump.specs.{Layout.wordsBytes, Laws.Laid.laid, Laws.WordBytes.words-long}
+use Rattle.images.specs.{Layout.wordsBytes}
+use Rattle.dump.specs.{Laws.Laid.laid, Laws.WordBytes.words-long}
 use Rattle.dump.proofs.{Storing.laid-nothing, Storing.laid-next, Storing.laid-all, bytes.lay_zeros.Statement.statement}
 use Rattle.dump.proofs.bytes.lay_zeros.Tie as tie
 

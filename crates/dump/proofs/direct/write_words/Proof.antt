@@ -1,7 +1,8 @@
 -- The window, its header, and both in the order of writing.
 use Rattle.words.specs.Prelude.{sym, ap, _∙_, arith, needs}
 use Rattle.records.specs.{Settings.settingsOf, StateWords.countsOf, StateWords.stateOf}
-use Rattle.dump.specs.{Layout.dumpBytes, Layout.windowOf, Laws.Packed.headWords, Laws.Fine.dump-fine, Laws.Plain.plain-words}
+use Rattle.images.specs.{Layout.dumpBytes, Layout.windowOf}
+use Rattle.dump.specs.{Laws.Packed.headWords, Laws.Fine.dump-fine, Laws.Plain.plain-words}
 use Rattle.dump.proofs.{Whole.dumped, direct.write_words.Statement.statement}
 use Rattle.dump.proofs.direct.write_words.Tie as tie
 

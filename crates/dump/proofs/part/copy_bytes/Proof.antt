@@ -1,6 +1,7 @@
 -- The loop's invariant: k bytes are laid.
 use Rattle.words.specs.Prelude.{_-_, _≤_, _≡_, refl, arith, length, drop, length-set, needs}
-use Rattle.dump.specs.{Layout.wordsBytes, Laws.Laid.laid, Laws.Laid.laid-none}
+use Rattle.images.specs.{Layout.wordsBytes}
+use Rattle.dump.specs.{Laws.Laid.laid, Laws.Laid.laid-none}
 use Rattle.dump.proofs.{Storing.copied-next, part.copy_bytes.Statement.statement}
 use Rattle.dump.proofs.part.copy_bytes.Tie as tie
 

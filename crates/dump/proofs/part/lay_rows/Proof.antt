@@ -1,6 +1,7 @@
 -- What is left of them, from where the rows begin.
 use Rattle.words.specs.Prelude.{ℕ, _-_, ap, _∙_, drop, needs}
-use Rattle.dump.specs.{Layout.wordsBytes, Laws.Laid.laid, Laws.Placed.headShare}
+use Rattle.images.specs.{Layout.wordsBytes}
+use Rattle.dump.specs.{Laws.Laid.laid}
 use Rattle.dump.proofs.{part.lay_rows.Statement.statement}
 use Rattle.dump.proofs.part.lay_rows.Tie as tie
 

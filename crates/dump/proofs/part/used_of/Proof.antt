@@ -1,6 +1,6 @@
 -- D rows of the widest are few bytes.
 use Rattle.words.specs.Prelude.{ℕ, _+_, _-_, _*_, _≤_, min, ap, _∙_, mul-le-mul-left, mul-le-mul-right, arith, needs}
-use Rattle.dump.specs.{Layout.dumpBytes}
+use Rattle.images.specs.{Layout.dumpBytes}
 use Rattle.dump.proofs.{part.used_of.Statement.statement}
 use Rattle.dump.proofs.part.used_of.Tie as tie
 

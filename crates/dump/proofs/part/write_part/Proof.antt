@@ -1,6 +1,6 @@
 -- How many bytes there are; where there are some, the window, its header, and the share of both.
 use Rattle.words.specs.Prelude.{arith, needs}
-use Rattle.dump.specs.{Layout.windowOf}
+use Rattle.images.specs.{Layout.windowOf}
 use Rattle.dump.proofs.{Whole.parted-none, Whole.parted, part.write_part.Statement.statement}
 use Rattle.dump.proofs.part.write_part.Tie as tie
 

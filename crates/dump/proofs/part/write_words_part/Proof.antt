@@ -1,7 +1,8 @@
 -- How many bytes there are; where there are some, the window, and the share of its header and of its rows.
-use Rattle.words.specs.Prelude.{sym, ap, _∙_, arith, needs}
+use Rattle.words.specs.Prelude.{sym, ap, arith, needs}
 use Rattle.records.specs.{Settings.settingsOf, StateWords.countsOf, StateWords.stateOf}
-use Rattle.dump.specs.{Layout.windowOf, Laws.Packed.headWords, Laws.PartFine.part-fine, Laws.Plain.plain-words}
+use Rattle.images.specs.{Layout.windowOf}
+use Rattle.dump.specs.{Laws.Packed.headWords, Laws.PartFine.part-fine, Laws.Plain.plain-words}
 use Rattle.dump.proofs.{Whole.parted-none, Whole.parted, part.write_words_part.Statement.statement}
 use Rattle.dump.proofs.part.write_words_part.Tie as tie
 

@@ -1,6 +1,6 @@
 -- Three tests, and the sum.
 use Rattle.words.specs.Prelude.{_+_, _*_, mul-le-mul-left, mul-le-mul-right, arith, le-leb, lt-leb, needs}
-use Rattle.dump.specs.{Layout.dumpBytes, Layout.sizeFor}
+use Rattle.images.specs.{Layout.dumpBytes, Layout.sizeFor}
 use Rattle.dump.proofs.{writer.dump_bytes.Statement.statement}
 use Rattle.dump.proofs.writer.dump_bytes.Tie as tie
 

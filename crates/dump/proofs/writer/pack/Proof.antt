@@ -1,6 +1,7 @@
 -- Word by word.
 use Rattle.words.specs.Prelude.{refl, needs}
-use Rattle.dump.specs.{Layout.amounts, Laws.Packed.headWords}
+use Rattle.images.specs.{Layout.amounts}
+use Rattle.dump.specs.{Laws.Packed.headWords}
 use Rattle.dump.proofs.{writer.pack.Statement.statement}
 use Rattle.dump.proofs.writer.pack.Tie as tie
 

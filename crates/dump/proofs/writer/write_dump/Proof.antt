@@ -1,6 +1,6 @@
 -- The window, its header, and both in the order of writing.
 use Rattle.words.specs.Prelude.{arith, needs}
-use Rattle.dump.specs.{Layout.dumpBytes, Layout.windowOf}
+use Rattle.images.specs.{Layout.dumpBytes, Layout.windowOf}
 use Rattle.dump.proofs.{Whole.dumped, writer.write_dump.Statement.statement}
 use Rattle.dump.proofs.writer.write_dump.Tie as tie
 

@@ -1,0 +1,5 @@
+pub mod Layout
+pub mod Reading
+pub mod Refused
+pub mod Restoring
+pub mod Laws
