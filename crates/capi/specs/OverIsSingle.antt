@@ -1,17 +1,18 @@
 -- ysh_why_over is single calls of ysh_why, one for each row that is asked.
-use Rattle.words.specs.Prelude.{ℕ, _+_, _*_, _<_, _≤_, _≡_, refl, sym, ap, _∙_, true, List, _++_, arith, le-ltb, length, length-drop, length-take-le, drop, getD}
-use Rattle.words.specs.{declared.refusal.Refusal.Refusal, Outcome.Outcome, Outcome.gives, Outcome.refuses}
+use Rattle.words.specs.Prelude.{ℕ, _*_, _<_, _≤_, _≡_, refl, sym, true, List, _++_, arith, le-ltb, length, length-drop, length-take-le, drop, getD}
+use Rattle.words.specs.{Outcome.gives}
 use Rattle.rows.specs.{History.wholeRows}
 use Rattle.table.specs.{declared.answer.Answer.Answer, declared.answer.Answer.the-variants.Accepted, declared.answer.Answer.the-variants.Refused, Bytes.Bytes}
 use Rattle.table.specs.{Header.slots, Checked.checked}
 use Rattle.rules.specs.{declared.position.PositionState.PositionState, Answers.stateRight}
 use Rattle.chain.specs.{Lines.chainWords, Explained.explanation, Explained.explained, Explained.explainedBy, Explained.linesAfter, Laws.Short.few-lines}
-use Rattle.refusals.specs.{declared.verdict.Verdict.Verdict, declared.verdict.Verdict.the-variants.Fine, declared.verdict.Verdict.the-variants.Bad, Laws.Lines.never}
-use Rattle.questions.specs.{Position.positionAt, Over.askedRows, Over.rowsTo, Over.explanationOver, Over.placeWords, Over.linesOver, Over.countsOver, Over.overBy}
-use Rattle.questions.specs.{Over.overVerdict, Laws.Fine.OverFine, Laws.Fine.over-fine, Laws.Right.each-right, Laws.Upto.upto-whole, Laws.Places.place}
-use Rattle.questions.specs.{Laws.Places.place-after, Laws.Places.past-places, Laws.Places.lines-long, Laws.Places.count-after, Laws.Places.past-counts}
-use Rattle.questions.specs.{Laws.Places.counts-long}
-use Rattle.capi.specs.{Call.Call, Call.callOf, Call.unlessBad, Why.WhyLent, Why.whyGives, Why.whyCall, WhyOver.OverLent, WhyOver.overGives, WhyOver.overCall}
+use Rattle.refusals.specs.{declared.verdict.Verdict.Verdict, declared.verdict.Verdict.the-variants.Fine, declared.verdict.Verdict.the-variants.Bad}
+use Rattle.refusals.specs.{Laws.Lines.never}
+use Rattle.questions.specs.{Position.positionAt, Over.askedRows, Over.rowsTo, Over.explanationOver, Over.placeWords, Over.linesOver, Over.countsOver}
+use Rattle.questions.specs.{Over.overBy, Over.overVerdict, Laws.Fine.OverFine, Laws.Fine.over-fine, Laws.Right.each-right, Laws.Upto.upto-whole}
+use Rattle.questions.specs.{Laws.Places.place, Laws.Places.place-after, Laws.Places.past-places, Laws.Places.lines-long, Laws.Places.count-after}
+use Rattle.questions.specs.{Laws.Places.past-counts, Laws.Places.counts-long}
+use Rattle.capi.specs.{Call.callOf, Call.unlessBad, Why.whyGives, Why.whyCall, WhyOver.OverLent, WhyOver.overGives, WhyOver.overCall}
 use Rattle.capi.specs.{Laws.Calls.Honest, Laws.WhyOverCalls.why-over-honest}
 
 -- ---- the statement

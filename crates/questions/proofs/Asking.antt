@@ -6,7 +6,8 @@ use Rattle.table.specs.{declared.answer.Answer.Answer, declared.answer.Answer.t
 use Rattle.table.specs.{Checked.checked}
 use Rattle.rules.specs.{declared.position.PositionState.PositionState}
 use Rattle.chain.specs.{Chain.ChainLine, Lines.chainWords, Explained.explanation}
-use Rattle.refusals.specs.{declared.verdict.Verdict.Verdict, declared.verdict.Verdict.the-variants.Fine, declared.verdict.Verdict.the-variants.Bad, Lines.judged}
+use Rattle.refusals.specs.{declared.verdict.Verdict.Verdict, declared.verdict.Verdict.the-variants.Fine, declared.verdict.Verdict.the-variants.Bad}
+use Rattle.refusals.specs.{Lines.judged}
 use Rattle.questions.specs.{Position.positionAt, Over.askedRows, Over.rowsTo, Over.explanationOver, Over.placeWords, Over.linesOver, Over.countsOver}
 use Rattle.questions.specs.{Over.overLines, Over.overBy, Over.overVerdict, Laws.Fine.OverFine, Laws.Fine.over-fine, Laws.Upto.upto-fits}
 

@@ -35,12 +35,12 @@ unfoldable pub countsOver : (ℕ → List ChainLine) → ℕ → List ℕ → Li
 countsOver each zero counts = counts
 countsOver each (suc n) counts = overwrite (countsOver each n counts) n (length (each n) ∷ [])
 
--- "10 if the lent list holds fewer than 32 lines" for each, room 10; the counts are room 18: both by their lengths. Then 13, as for a single question, and where there are more
--- positions than rows.
+-- "10 if the lent list holds fewer than 32 lines", here for each row: room 10, and room 19 for the counts, both by their lengths. Then 13, as for a single
+-- question, and where there are more positions than rows.
 unfoldable pub overLines : ℕ → List ℕ → List ℕ → ℕ → ℕ → List Line
 overLines K rows ps lines counts =
     line (leb (askedRows ps) (lines / placeWords)) 10 10
-    ∷ line (leb (askedRows ps) counts) 10 18
+    ∷ line (leb (askedRows ps) counts) 10 19
     ∷ line (wholeRows K rows) 13 0
     ∷ line (eqb (length ps % positionWords) 0) 13 0
     ∷ line (leb (askedRows ps) (historyOf K rows .rows)) 13 0

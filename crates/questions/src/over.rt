@@ -13,10 +13,10 @@ ghost use Rattle.refusals.specs.Lines.{judged};
 ghost use Rattle.questions.specs.Over.{askedRows, overLines, overVerdict, linesOver, countsOver, explanationOver, unlessRefused};
 
 // The number of the list of counts, as a room.
-const COUNTS_ROOM: u64 = 18;
+const COUNTS_ROOM: u64 = 19;
 
-// 10 for the rooms of the lines and of the counts, by their lengths; then 13: rows and positions are whole, there is a row for each position, and every position's
-// counts are in order.
+// 10 for the rooms of the lines and of the counts, by their lengths; then 13: rows and positions are whole, there is a row for each position, and every
+// position's counts are in order.
 fn judge_over(slots: usize, rows: &[u64], positions: &[u64], lines: usize, counts: usize) -> Verdict
     ensures { λ r. ⌜ r ≡ judged (overLines slots (now (rows .entry)) (now (positions .entry)) lines counts) ⌝ }
 {
@@ -39,7 +39,8 @@ pub fn explain_over(
     lines: &mut [u64],
     counts: &mut [u64],
 ) -> Verdict
-    ensures { λ r. ⌜ (r ≡ overVerdict (now (t .entry)) (now (rows .entry)) (now (positions .entry)) (length (now (lines .entry))) (length (now (counts .entry))))
+    ensures { λ r. ⌜ (r ≡ overVerdict (now (t .entry)) (now (rows .entry)) (now (positions .entry)) (length (now (lines .entry)))
+        (length (now (counts .entry))))
         × (now (lines .exit) ≡ unlessRefused r (linesOver (explanationOver (now (t .entry)) tree (now (rows .entry)) (now (positions .entry)))
         (askedRows (now (positions .entry))) (now (lines .entry))) (now (lines .entry)))
         × (now (counts .exit) ≡ unlessRefused r (countsOver (explanationOver (now (t .entry)) tree (now (rows .entry)) (now (positions .entry)))

@@ -96,6 +96,11 @@ impl Rows {
         Rows { slots: self.slots, words: self.words[from..].to_vec() }
     }
 
+    /// The words of the first so many rows, where there are so many.
+    pub(crate) fn first(&self, count: usize) -> Option<&[u64]> {
+        self.words.get(..count.checked_mul(ROW_FIXED + self.slots)?)
+    }
+
     /// One row, by its place, as the bar that it was; funding is not kept.
     pub fn bar(&self, place: usize) -> Bar {
         let width = ROW_FIXED + self.slots;

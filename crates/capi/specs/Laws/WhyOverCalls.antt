@@ -6,7 +6,8 @@ use Rattle.table.specs.{Checked.checked}
 use Rattle.refusals.specs.{declared.verdict.Verdict.the-variants.Bad}
 use Rattle.questions.specs.{Over.overLines, Over.overBy, Over.overVerdict}
 use Rattle.capi.specs.{WhyOver.OverLent, WhyOver.overGives, WhyOver.overCall, Laws.Calls.Small, Laws.Calls.Honest, Laws.Calls.honest}
-use Rattle.capi.specs.{Laws.Calls.never-refuses, Laws.Calls.after-verdict, Laws.TableCalls.table-number, Laws.DumpCalls.onPaper, Laws.DumpCalls.paper-small}
+use Rattle.capi.specs.{Laws.Calls.never-refuses, Laws.Calls.after-verdict, Laws.TableCalls.table-number, Laws.DumpCalls.onPaper}
+use Rattle.capi.specs.{Laws.DumpCalls.paper-small}
 
 over-small : (a : Answer) (t rows ps : List ℕ) (lines counts : ℕ) → ((why : Refusal) → a ≡ Refused why → Small why)
     → (r : Refusal) → overBy a t rows ps lines counts ≡ Bad r → Small r

@@ -122,7 +122,8 @@ module _ (each : ℕ → List ChainLine) (short : (i : ℕ) → length (each i) 
   -- an earlier one
   earlier-place : (n i : ℕ) → placeWords * suc n ≤ length lines → i < n → place i (linesOver each (suc n) lines) ≡ place i (linesOver each n lines)
   unfolding linesOver place
-  earlier-place n i fits l = before-write (linesOver each n lines) (placeWords * n) (chainWords (each n)) (fits-done n fits) placeWords (placeWords * i) (omega arith)
+  earlier-place n i fits l =
+      before-write (linesOver each n lines) (placeWords * n) (chainWords (each n)) (fits-done n fits) placeWords (placeWords * i) (omega arith)
 
   -- A PLACE: its question's lines, and what stood past them.
   pub place-after : (n : ℕ) → placeWords * n ≤ length lines → (i : ℕ) → i < n

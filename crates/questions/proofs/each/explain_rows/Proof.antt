@@ -17,7 +17,8 @@ sub-older : tie.Need-sub-older Inv-loop μ-loop
 unfolding askedRows
 sub-older c =
     let start = c .before .before .before .before .before .before .before in
-    rows-held (start .args .t .now) (start .args .rows .now) (start .args .positions .now) _ _ (c .before .slots .ensures) (c .row-count .ensures) (start .pre .1)
+    rows-held (start .args .t .now) (start .args .rows .now) (start .args .positions .now) _ _ (c .before .slots .ensures) (c .row-count .ensures)
+    (start .pre .1)
 
 loop-holds : tie.Need-loop-holds Inv-loop μ-loop
 unfolding linesOver countsOver

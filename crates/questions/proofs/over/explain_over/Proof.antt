@@ -13,7 +13,8 @@ explain-rows-requires c κs =
     let told = judge .before .before in
     let check = told .before .before in
     let a = check .before .before .before .before .before .before .args in
-    let f = seen (a .t .now) (a .rows .now) (a .positions .now) _ _ _ (judge .before .slots .ensures) _ (judge .judge-over .ensures) (fine .enum-told2 .given .1) in (
+    let f = seen (a .t .now) (a .rows .now) (a .positions .now) _ _ _ (judge .before .slots .ensures) _ (judge .judge-over .ensures)
+    (fine .enum-told2 .given .1) in (
       known (a .t .now) (λ j. omega (arith, check .before .before .before .before .before .shared-slice-known .given j)) _ _
           (sym (check .check .ensures .0) ∙ told .enum-told .given .1) _ (check .check .ensures .1),
       f .held,
