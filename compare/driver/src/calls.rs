@@ -20,6 +20,8 @@ pub const MOST_NODES: usize = 256;
 /// The most lines of an explanation, and the words of one.
 pub const MOST_LINES: usize = 32;
 pub const LINE_WORDS: usize = 8;
+/// Words of a line that says what differs between two runs.
+pub const DIFFERENCE_WORDS: usize = 5;
 pub const STEP_BYTES: usize = 16;
 /// Bytes of step room that a node takes.
 pub const NODE_STEP_BYTES: usize = 64;
@@ -237,6 +239,19 @@ c_calls! {
     ) -> u64;
     fn ysh_totals(totals: *mut u64, totals_len: usize, trades: *const u64, trades_len: usize) -> u64;
     fn ysh_totals_join(totals: *mut u64, totals_len: usize, other: *const u64, other_len: usize) -> u64;
+    fn ysh_compare(
+        equity: *const u64,
+        equity_len: usize,
+        trades: *const u64,
+        trades_len: usize,
+        other_equity: *const u64,
+        other_equity_len: usize,
+        other_trades: *const u64,
+        other_trades_len: usize,
+        lines: *mut u64,
+        lines_len: usize,
+        count: *mut u64,
+    ) -> u64;
     fn ysh_root(word: u64) -> u64;
     fn ysh_append(
         held: *mut u64,
@@ -484,6 +499,32 @@ pub fn totals(totals: &mut [u64], trades: &[u64]) -> u64 {
 
 pub fn totals_join(totals: &mut [u64], other: &[u64]) -> u64 {
     unsafe { with::ysh_totals_join(totals.as_mut_ptr(), totals.len(), other.as_ptr(), other.len()) }
+}
+
+/// Equity points and trades of a run.
+#[derive(Clone, Copy)]
+pub struct Books<'a> {
+    pub equity: &'a [u64],
+    pub trades: &'a [u64],
+}
+
+/// What differs between two runs as lines, and how many there are.
+pub fn compare(run: Books, other: Books, lines: &mut [u64], count: &mut u64) -> u64 {
+    unsafe {
+        with::ysh_compare(
+            run.equity.as_ptr(),
+            run.equity.len(),
+            run.trades.as_ptr(),
+            run.trades.len(),
+            other.equity.as_ptr(),
+            other.equity.len(),
+            other.trades.as_ptr(),
+            other.trades.len(),
+            lines.as_mut_ptr(),
+            lines.len(),
+            count,
+        )
+    }
 }
 
 pub fn root(word: u64) -> u64 {

@@ -11,7 +11,16 @@ use crate::ours::done;
 use crate::progress::Progress;
 use crate::view::{unlike, METRICS};
 
-/// A word to take the root of: any bits, below the normal numbers, squares and near them, near halfway between two roots.
+/// A number whose root is a float, of any exponent, below the normal numbers too: the square of up to 26 digits, times a power of four.
+fn some_square(dice: &mut Dice) -> f64 {
+    let whole = (dice.bits() >> dice.between(38, 62)) as f64;
+    // Two factors, since one alone may be past the floats.
+    let power = dice.below(1_050) as i32 - 537;
+    let half = power / 2;
+    whole * whole * 4f64.powi(half) * 4f64.powi(power - half)
+}
+
+/// A word to take the root of: any bits, below the normal numbers, squares and their neighbours, near halfway between two roots.
 fn some_word(dice: &mut Dice) -> u64 {
     let near = |dice: &mut Dice, square: f64| {
         let word = square.to_bits() as i64 + dice.below(5) as i64 - 2;
@@ -21,8 +30,8 @@ fn some_word(dice: &mut Dice) -> u64 {
         0 | 1 => dice.bits(),
         2 => dice.bits() >> dice.between(12, 63),
         3 => {
-            let whole = (dice.bits() >> dice.between(38, 60)) as f64;
-            near(dice, whole * whole)
+            let square = some_square(dice);
+            near(dice, square)
         }
         4 | 5 => {
             let s = (1u64 << 52 | dice.bits() >> 12) as f64;

@@ -1,10 +1,12 @@
 //! The proved engine, through its C interface, beside the Rust original in one process. See compare/README.md.
 
+mod accounts;
 mod bench;
 mod calls;
 mod case;
 mod cases;
 mod compare;
+mod differences;
 mod extremes;
 mod figures;
 mod guard;
@@ -24,7 +26,8 @@ mod view;
 use std::process::ExitCode;
 
 const USAGE: &str = "usage: driver compare SEED RUNS | guard SEED CALLS | root SEED COUNT | metrics SEED COUNT
-       driver extremes SEED COUNT | images SEED COUNT | stretches SEED COUNT | totals SEED COUNT
+       driver extremes SEED COUNT | images SEED COUNT | stretches SEED COUNT | totals SEED COUNT | differences SEED COUNT
+       driver accounts SEED STREAMS
        driver replay < runs | bench [PART]
        driver stack SEED RUNS (with the feature `stack`: compare/stack)";
 
@@ -53,6 +56,8 @@ fn main() -> ExitCode {
         ["replay"] => compare::replay().expect("standard input can be read"),
         ["root", seed, count] => figures::roots(number(seed), number(count)),
         ["metrics", seed, count] => figures::metrics(number(seed), number(count)),
+        ["accounts", seed, count] => accounts::accounts(number(seed), number(count)),
+        ["differences", seed, count] => differences::differences(number(seed), number(count)),
         ["totals", seed, count] => totals::totals(number(seed), number(count)),
         _ => usage(),
     };

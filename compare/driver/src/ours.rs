@@ -182,32 +182,34 @@ impl Ours {
 
     /// What can be seen after a bar.
     pub fn view(&self) -> View {
-        let s = &self.state;
-        let order = match s[state::ORDER] {
-            number @ 1..=3 => [number, s[state::ORDER_DELAY]],
-            _ => [0, 0],
-        };
-        let entry = match s[state::ENTERED] {
-            0 => [0, 0],
-            _ => [1, s[state::ENTRY_BAR]],
-        };
-        let point = self.newest_point();
-        let trade = self
-            .trades_held()
-            .last_chunk::<TRADE_WORDS>()
-            .copied()
-            .unwrap_or_default();
-        let waits = &s[state::ORDER_KIND..=state::ORDER_LIMIT];
-        let held = &s[state::CASH..state::ORDER_KIND];
-        View::of(&[
-            &[s[state::BARS_SEEN], s[state::EQUITY_POINTS], s[state::TRADES]],
-            &point,
-            &order,
-            waits,
-            &entry,
-            held,
-            &s[state::FUNDING..],
-            &trade,
-        ])
+        view_of(&self.state, &self.equity, &self.trades)
     }
+}
+
+/// What can be seen of a state and of the room of its points and trades.
+pub fn view_of(s: &[u64], equity: &[u64], trades: &[u64]) -> View {
+    let order = match s[state::ORDER] {
+        number @ 1..=3 => [number, s[state::ORDER_DELAY]],
+        _ => [0, 0],
+    };
+    let entry = match s[state::ENTERED] {
+        0 => [0, 0],
+        _ => [1, s[state::ENTRY_BAR]],
+    };
+    let points = &equity[..s[state::EQUITY_POINTS] as usize * POINT_WORDS];
+    let trades = &trades[..s[state::TRADES] as usize * TRADE_WORDS];
+    let point: [u64; POINT_WORDS] = points.last_chunk().copied().unwrap_or_default();
+    let trade: [u64; TRADE_WORDS] = trades.last_chunk().copied().unwrap_or_default();
+    let waits = &s[state::ORDER_KIND..=state::ORDER_LIMIT];
+    let held = &s[state::CASH..state::ORDER_KIND];
+    View::of(&[
+        &[s[state::BARS_SEEN], s[state::EQUITY_POINTS], s[state::TRADES]],
+        &point,
+        &order,
+        waits,
+        &entry,
+        held,
+        &s[state::FUNDING..],
+        &trade,
+    ])
 }

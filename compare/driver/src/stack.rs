@@ -5,10 +5,14 @@ use oracle::lists::trees::{always, close, compare as test, negated, number, prev
 use oracle::spec::Condition;
 use oracle::table::Table;
 
+use crate::accounts::accounts as four;
+use crate::accounts::call::{accounts, Account};
+use crate::bench::setup::Size;
 use crate::calls::{self, Position, LINE_WORDS, MOST_LINES, MOST_NODES, STEP_BYTES};
 use crate::case::bar_words;
 use crate::cases;
 use crate::compare::compare;
+use crate::differences::differences;
 use crate::extremes::extremes;
 use crate::figures::{metrics, roots};
 use crate::guard::guard;
@@ -20,6 +24,9 @@ use crate::totals::totals;
 
 /// Steps of the longest list that there is.
 const MOST_STEPS: usize = 1_024;
+
+/// Bars of a call over accounts.
+const BARS: usize = 40;
 
 /// Levels of a tree, operands counted too.
 const MOST_NESTING: usize = 32;
@@ -63,6 +70,47 @@ fn longest_lists(seed: u64) {
     assert_eq!(visits, MOST_STEPS as u64, "every step is visited");
 }
 
+/// Four accounts alike over some bars, with that table and those steps of its two trees.
+fn four_accounts(run: &Ours, table: &[u8], lists: [&[u8]; 2], bars: &[u64]) {
+    let (mut stream, mut done) = ([run.settings[0], 0], 0);
+    let mut rooms = [(); 4].map(|()| {
+        let (state, rows) = (run.state, run.rows.clone());
+        (state, rows, run.equity.clone(), run.trades.clone(), [0; 3])
+    });
+    let lent = rooms.each_mut().map(|(state, rows, equity, trades, status)| Account {
+        table,
+        settings: &run.settings,
+        entry: lists[0],
+        exit: lists[1],
+        state,
+        rows,
+        equity,
+        trades,
+        status,
+    });
+    assert_eq!(accounts(&mut stream, bars, &mut done, lent), 0, "bars in the domain");
+    assert!(rooms.iter().all(|room| room.4 == [0; 3]), "accounts that run");
+}
+
+/// The same with the longest lists, and with the greatest tables.
+fn greatest_accounts() {
+    let size = Size {
+        large: false,
+        depth: 14,
+        slots: 2,
+    };
+    let case = size.case();
+    let run = Ours::with_room(&case, size.depth, BARS).expect("an accepted case");
+    let bars: Vec<u64> = case.bars.iter().take(BARS).flat_map(bar_words).collect();
+    let longest = longest_list();
+    four_accounts(&run, &case.table.bytes(), [&longest, &longest], &bars);
+    for entry in greatest_trees() {
+        let table = table_of(entry);
+        let lists = [0, 1].map(|tree| translated(&table, tree).expect("an accepted table"));
+        four_accounts(&run, &table, [&lists[0], &lists[1]], &bars);
+    }
+}
+
 /// All of `before` conditions that are nothing but yes, and one more.
 fn behind(before: usize, last: Condition) -> Condition {
     Condition::All((0..before).map(|_| always()).chain([last]).collect())
@@ -83,9 +131,16 @@ fn greatest_trees() -> Vec<Condition> {
         staircase(1, MOST_NODES - 5, bottom()),
         staircase(MOST_NESTING - 2, MOST_NODES - 4 - (MOST_NESTING - 2), bottom()),
         staircase(MOST_NESTING - 1, MOST_NODES - 2 - (MOST_NESTING - 1), always()),
+        turned(MOST_NESTING - 1, always()),
         turned(MOST_NESTING - 2, bottom()),
         turned(MOST_NESTING - 3, test(17, prev(close(), 2), number(0.0))),
     ]
+}
+
+/// A table with such an entry.
+fn table_of(entry: Condition) -> Vec<u8> {
+    let trees = [Some(entry), Some(always()), None, None];
+    Table { slots: 0, trees }.bytes()
 }
 
 /// Every call over a table, with such an entry.
@@ -98,11 +153,7 @@ fn greatest_tables() {
     };
     let rows = [0; 14];
     for entry in greatest_trees() {
-        let table = Table {
-            slots: 0,
-            trees: [Some(entry), Some(always()), None, None],
-        };
-        let table = table.bytes();
+        let table = table_of(entry);
         let (mut a, mut b) = (0, 0);
         assert_eq!(calls::check(&table, &mut a, &mut b), 0, "an accepted table");
         calls::depth(&table, 0, &mut a, &mut b);
@@ -145,6 +196,7 @@ fn limit(call: &str) -> Option<u64> {
 pub fn stack(seed: u64, runs: u64) -> bool {
     longest_lists(seed);
     greatest_tables();
+    greatest_accounts();
     let agree = compare(seed, runs)
         && images(seed, runs)
         && extremes(seed, 20 * runs)
@@ -152,7 +204,9 @@ pub fn stack(seed: u64, runs: u64) -> bool {
         && metrics(seed, runs)
         && roots(seed, 100 * runs)
         && totals(seed, 100 * runs)
-        && stretches(seed, runs);
+        && stretches(seed, runs)
+        && differences(seed, 100 * runs)
+        && four(seed, runs);
     println!("\n| call | calls | bytes of stack at most | docs/PERFORMANCE.md |\n|---|---|---|---|");
     let mut within = true;
     for (name, used) in uses() {

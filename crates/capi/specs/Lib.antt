@@ -21,4 +21,5 @@ pub mod OverIsSingle
 pub mod Joined
 pub mod DayJoined
 pub mod TotalsJoined
+pub mod CompareJoined
 pub mod AsIfAlone

@@ -100,3 +100,47 @@ pub fn paths(files: &[String]) -> BTreeSet<String> {
     }
     found
 }
+
+/// The sentences of a paper's paragraphs and lists, a name in backquotes as one word. Code, tables and headings have none.
+pub fn sentences(paper: &str) -> Vec<String> {
+    let mut paragraphs = vec![String::new()];
+    for line in paper.lines() {
+        let prose = !line.is_empty() && !line.starts_with("    ") && !line.starts_with(['|', '#']);
+        let item = line
+            .trim_start()
+            .split_once(' ')
+            .filter(|(mark, _)| *mark == "-" || mark.trim_end_matches('.').parse::<u8>().is_ok());
+        if !prose || item.is_some() {
+            paragraphs.push(String::new());
+        }
+        if prose {
+            let paragraph = paragraphs.last_mut().expect("there is one");
+            paragraph.push_str(item.map_or(line, |(_, rest)| rest).trim());
+            paragraph.push(' ');
+        }
+    }
+    paragraphs.iter().flat_map(|paragraph| cut(&plain(paragraph))).collect()
+}
+
+/// A paragraph with one word for each name in backquotes.
+fn plain(paragraph: &str) -> String {
+    paragraph.split('`').enumerate().map(|(place, part)| if place % 2 == 0 { part } else { "Name" }).collect()
+}
+
+/// A sentence ends at a full stop, a question mark or an exclamation mark that a space and then a capital, a digit or a mark follows.
+fn cut(paragraph: &str) -> Vec<String> {
+    let mut sentences = vec![String::new()];
+    let mut words = paragraph.split_whitespace().peekable();
+    while let Some(word) = words.next() {
+        let sentence = sentences.last_mut().expect("there is one");
+        sentence.push_str(word);
+        sentence.push(' ');
+        let ends = word.trim_end_matches(['"', ')', '*', '_']).ends_with(['.', '?', '!']);
+        let begins = words.peek().is_some_and(|next| !next.starts_with(|c: char| c.is_lowercase()));
+        if ends && begins {
+            sentences.push(String::new());
+        }
+    }
+    sentences.retain(|sentence| sentence.chars().any(char::is_alphanumeric));
+    sentences
+}

@@ -3,10 +3,13 @@
 use std::path::PathBuf;
 
 use clap::{Args, Parser, Subcommand};
+use clap_complete::Shell;
 
+use crate::blocked::asked::Blocked;
 use crate::dump::asked::Dump;
 use crate::holdup::asked::Holdup;
 use crate::run::asked::Run;
+use crate::trials::asked::{Totals, Trials};
 use crate::why::asked::Why;
 
 /// From a strategy to the capacitors: how deep a box's window of bars has to be, how long its dump takes, and how large a capacitor
@@ -37,8 +40,22 @@ pub enum Command {
     Run(Run),
     /// Why a rule said yes or no at a bar: the chain from its root to what decided, in words
     Why(Why),
+    /// Which tests kept a rule from a yes over a stretch of bars: how often each decided, was no or had no value
+    Blocked(Blocked),
     /// A box's dump: what an image holds, one made from a run, a run that goes on from one, one that is cut short
     Dump(Dump),
+    /// A JSON schema of strategies, for editors; docs/STRATEGY.md says what each key means
+    Schema,
+    /// Every strategy over every file of bars: a row a run, and the exact totals of all of them
+    Trials(Trials),
+    /// The exact totals of parts of trials, joined
+    Totals(Totals),
+    /// What a shell completes; `ysh completions bash > /etc/bash_completion.d/ysh`, or as the shell's own guide says
+    Completions {
+        /// The shell
+        #[arg(value_enum)]
+        shell: Shell,
+    },
     /// The manual page of all commands; `ysh manual > ysh.1`, then `man -l ysh.1`
     Manual,
 }

@@ -5,6 +5,7 @@
 
 mod axis;
 mod bars;
+mod blocked;
 mod cli;
 mod columns;
 mod commands;
@@ -23,6 +24,8 @@ mod source;
 pub mod strategy;
 mod svg;
 pub mod table;
+mod times;
+mod trials;
 mod why;
 
 use std::ffi::OsString;
@@ -52,7 +55,12 @@ pub fn run(arguments: impl IntoIterator<Item = OsString>, out: &mut dyn Write, e
         Command::Holdup(asked) => commands::holdup::answer(&asked, &arguments),
         Command::Run(asked) => commands::run::answer(&asked),
         Command::Why(asked) => commands::why::answer(&asked),
+        Command::Blocked(asked) => commands::blocked::answer(&asked),
         Command::Dump(asked) => commands::dump::answer(&asked),
+        Command::Schema => commands::schema::answer(),
+        Command::Trials(asked) => commands::trials::answer(&asked),
+        Command::Totals(asked) => commands::trials::totals(&asked),
+        Command::Completions { shell } => commands::completions::answer(shell),
         Command::Manual => commands::manual::answer(),
     }
     .into_parts();

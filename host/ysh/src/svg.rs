@@ -1,4 +1,4 @@
-//! A drawing as SVG text: lines, bars and letters. The classes are those of the page's style.
+//! A drawing as SVG text: lines, bars and letters. The classes are those of `chart.css`, and of the style of the page that it is in.
 
 /// How wide a letter of the drawing's font is, at most.
 pub const LETTER: f64 = 7.4;
@@ -11,8 +11,13 @@ pub enum Anchor {
 }
 
 pub struct Svg {
+    width: f64,
+    height: f64,
+    what: String,
     text: String,
 }
+
+const STYLE: &str = include_str!("chart.css");
 
 /// Stripes for what is over the limit, so that it shows in black and white too.
 const HATCH: &str = concat!(
@@ -23,8 +28,7 @@ const HATCH: &str = concat!(
 
 impl Svg {
     pub fn new(width: f64, height: f64, what: &str) -> Svg {
-        let what = escape(what);
-        Svg { text: format!(r#"<svg role="img" aria-label="{what}" viewBox="0 0 {width} {height}">{HATCH}"#) }
+        Svg { width, height, what: escape(what), text: String::new() }
     }
 
     pub fn line(&mut self, class: &str, (x1, y1): (f64, f64), (x2, y2): (f64, f64)) {
@@ -59,8 +63,21 @@ impl Svg {
             .push_str(&format!(r#"<text class="{class}" x="{x:.1}" y="{y:.1}" text-anchor="{anchor}">{text}</text>"#));
     }
 
+    /// As a part of a page, as wide as there is room.
     pub fn done(self) -> String {
-        self.text + "</svg>"
+        let Svg { width, height, what, text } = self;
+        format!(r#"<svg role="img" aria-label="{what}" viewBox="0 0 {width} {height}">{HATCH}{text}</svg>"#)
+    }
+
+    /// As a file of its own, with its style, on white; an element a line.
+    pub fn file(self) -> String {
+        let Svg { width, height, what, text } = self;
+        let open = format!(
+            r#"<svg xmlns="http://www.w3.org/2000/svg" role="img" aria-label="{what}" width="{width}" height="{height}" viewBox="0 0 {width} {height}">"#
+        );
+        let ground = r##"<rect width="100%" height="100%" fill="#fff"/>"##;
+        let body = format!("{HATCH}{ground}{text}").replace("><", ">\n<");
+        format!("{open}\n<style>\n{STYLE}</style>\n{body}\n</svg>\n")
     }
 }
 

@@ -83,6 +83,23 @@ fn the_longest_times_decide() {
     assert!(ysh(&["holdup", &a, "--rate", "1MB/s"]).1.contains("no time was given for it, and 0 ms are counted"));
 }
 
+/// At the start an image is consumed by a program of its own: 0.7 ms where the longest call takes 0.05.
+#[test]
+fn what_ends_first_is_the_longer_one() {
+    let folder = folder("holdup-consume");
+    let a = put(&folder, "a.json", 60);
+    let told = json(&[&a, "--consume", "0.7ms"]);
+    assert_eq!((&told["boxes"][0]["total_ms"], &told["consume_ms"]), (&Value::from(14.8), &Value::from(0.7)));
+    let (status, out, _) = holdup(&[&a, "--consume", "0.7ms", "--have", "14.8ms"]);
+    assert!(status == 0 && out.contains("the program that does so takes 0.7 ms; it decides"), "{out}");
+    assert_eq!(holdup(&[&a, "--consume", "0.7ms", "--have", "14.799ms"]).0, 3);
+    let (_, out, _) = holdup(&[&a, "--consume", "0.05ms", "--have", "14.15ms"]);
+    assert!(
+        out.starts_with("the box fits with 0.000 ms to spare") && out.contains("the longest call decides"),
+        "{out}"
+    );
+}
+
 #[test]
 fn a_folder_says_what_it_left_out() {
     let folder = folder("holdup-folder");
@@ -199,8 +216,16 @@ fn the_sheet_says_what_was_read() {
     let hash = told["files"][0]["sha256"][0]["sha256"].as_str().unwrap();
     let library = told["library_sha256"].as_str().unwrap();
     assert!(hash.len() == 64 && library.len() == 64);
-    for part in [hash, library, "ysh holdup", "UTC", "longest on box 7", "does not count it", "docs/FLASH.md", "ysh 0."]
-    {
+    for part in [
+        hash,
+        library,
+        "ysh holdup",
+        "UTC",
+        "longest on box 7",
+        "does not count it",
+        "docs/FLASH.md",
+        concat!("ysh ", env!("CARGO_PKG_VERSION")),
+    ] {
         assert!(page.contains(part), "{part:?} is not on the page");
     }
     let verdict = page.find("the box fits with 0.850 ms to spare").unwrap();

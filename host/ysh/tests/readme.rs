@@ -1,5 +1,5 @@
 //! The examples of README ("Does my box fit?") and of docs/TOUR.md ("How deep, how long, how large", "A strategy over bars"), as they stand: each
-//! command is run and must write what is shown below it.
+//! command is run and must write what is shown below it. README's picture is the one that its command draws.
 
 mod common;
 
@@ -37,6 +37,20 @@ fn examples(paper: &str, title: &str) -> Vec<(String, Vec<String>)> {
 }
 
 #[test]
+fn the_picture_is_of_the_example() {
+    let root = Path::new(env!("CARGO_MANIFEST_DIR")).join("../..");
+    let readme = std::fs::read_to_string(root.join("README.md")).unwrap();
+    assert!(readme.contains("](docs/holdup.svg)"), "README shows it");
+    let (command, _) = examples(&readme, "Does my box fit?").remove(0);
+    let drawn = Path::new(env!("CARGO_TARGET_TMPDIR")).join("holdup.svg");
+    let mut ysh = std::process::Command::new(env!("CARGO_BIN_EXE_ysh"));
+    ysh.args(command.split_whitespace().skip(1)).arg("--svg").arg(&drawn).current_dir(&root);
+    assert_eq!(ysh.output().unwrap().status.code(), Some(3), "{command}");
+    let read = |path: &Path| std::fs::read_to_string(path).unwrap();
+    assert_eq!(read(&drawn), read(&root.join("docs/holdup.svg")), "draw it anew: {command} --svg docs/holdup.svg");
+}
+
+#[test]
 fn the_examples_run_as_they_stand() {
     let root = Path::new(env!("CARGO_MANIFEST_DIR")).join("../..");
     let read = |paper: &str| std::fs::read_to_string(root.join(paper)).unwrap();
@@ -45,7 +59,7 @@ fn the_examples_run_as_they_stand() {
     let box_fits = examples(&readme, "Does my box fit?");
     let holdup = examples(&tour, "How deep, how long, how large");
     let bars = examples(&tour, "A strategy over bars");
-    assert_eq!((box_fits.len(), holdup.len(), bars.len()), (1, 2, 6));
+    assert_eq!((box_fits.len(), holdup.len(), bars.len()), (1, 2, 7));
     for (command, shown) in box_fits.into_iter().chain(holdup).chain(bars) {
         let arguments: Vec<&str> = command.split_whitespace().skip(1).collect();
         let (status, out, err) = ysh(&arguments);

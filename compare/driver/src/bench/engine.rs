@@ -9,7 +9,7 @@ use std::hint::black_box;
 use oracle::Reading;
 
 use super::setup::{Size, DEPTHS};
-use super::timing::{each, nanoseconds, ratio};
+use super::timing::{by_turns, nanoseconds, ratio, side, REPETITIONS};
 use crate::calls::state;
 use crate::case::{bar_words, Case};
 use crate::ours::Ours;
@@ -22,54 +22,80 @@ pub struct Marks {
     block: usize,
 }
 
+impl Marks {
+    /// Bars that are stepped over in all.
+    fn bars(&self) -> usize {
+        self.many + REPETITIONS * self.block
+    }
+}
+
 pub fn marks(depth: usize) -> Marks {
     match depth {
         0..=1_000 => Marks {
             few: 1_000,
             many: 100_000,
-            block: 2_000,
+            block: 500,
         },
         _ => Marks {
             few: 5_000,
             many: 20_000,
-            block: 200,
+            block: 50,
         },
     }
 }
 
-/// Nanoseconds a bar after few and after many bars, by a step over bar number i.
-fn measure(marks: &Marks, mut step: impl FnMut(usize)) -> (f64, f64) {
-    let mut seen = 0;
-    let mut on_to = |bars: usize, seen: &mut usize| {
-        while *seen < bars {
-            step(*seen);
-            *seen += 1;
-        }
-    };
-    let mut at = |mark: usize| {
-        on_to(mark, &mut seen);
-        each(marks.block, || {
-            let end = seen + marks.block;
-            on_to(end, &mut seen);
-        })
-    };
-    (at(marks.few), at(marks.many))
+/// A step over bar number i.
+pub type Stepper<'a> = Box<dyn FnMut(usize) + 'a>;
+
+/// A run and the bars it has seen.
+struct Walk<'a> {
+    step: Stepper<'a>,
+    seen: usize,
 }
 
-pub fn ours(case: &Case, marks: &Marks, rows: usize) -> (f64, f64) {
+impl Walk<'_> {
+    fn on_to(&mut self, bars: usize) {
+        while self.seen < bars {
+            (self.step)(self.seen);
+            self.seen += 1;
+        }
+    }
+}
+
+/// Nanoseconds a bar of each side after few and after many bars, the sides by turns.
+pub fn measure<const N: usize>(marks: &Marks, sides: [Stepper; N]) -> [(f64, f64); N] {
+    let mut walks = sides.map(|step| Walk { step, seen: 0 });
+    let mut at = |mark: usize| {
+        walks.iter_mut().for_each(|walk| walk.on_to(mark));
+        let sides = walks
+            .each_mut()
+            .map(|walk| side(marks.block, || walk.on_to(walk.seen + marks.block)));
+        by_turns(sides)
+    };
+    let (few, many) = (at(marks.few), at(marks.many));
+    std::array::from_fn(|i| (few[i], many[i]))
+}
+
+/// Our run over the case's bars, again and again, in a room of so many rows.
+pub fn ours<'a>(case: &'a Case, marks: &Marks, rows: usize) -> Stepper<'a> {
     let bars: Vec<Vec<u64>> = case.bars.iter().map(bar_words).collect();
-    let mut run = Ours::with_room(case, rows, marks.many + 20 * marks.block).expect("an accepted case");
-    let times = measure(marks, |i| {
+    let mut run = Ours::with_room(case, rows, marks.bars()).expect("an accepted case");
+    let last = marks.bars() - 1;
+    Box::new(move |i| {
         let bar = &bars[i % bars.len()];
         run.step(black_box(bar)).expect("a bar in the domain");
-    });
-    assert!(run.state[state::TRADES] > 0, "a run that trades");
-    times
+        assert!(i < last || run.state[state::TRADES] > 0, "a run that trades");
+    })
 }
 
-pub fn theirs(case: &Case, marks: &Marks) -> (f64, f64) {
+/// Our run in a room with a place for every row.
+pub fn roomy<'a>(case: &'a Case, marks: &Marks) -> Stepper<'a> {
+    ours(case, marks, marks.bars())
+}
+
+pub fn theirs(case: &Case) -> Stepper<'_> {
     let mut run = Theirs::new(case, Reading::Rust);
-    measure(marks, |i| {
+    Box::new(move |i| {
         let bar = &case.bars[i % case.bars.len()];
         run.step(black_box(bar)).expect("a bar that the text takes");
     })
@@ -78,16 +104,14 @@ pub fn theirs(case: &Case, marks: &Marks) -> (f64, f64) {
 /// A step after many bars, in a full room of D rows and in one with a place.
 pub fn both_rooms(size: Size) -> (f64, f64) {
     let (case, marks) = (size.case(), marks(size.depth));
-    let full = ours(&case, &marks, size.depth);
-    let with_place = ours(&case, &marks, marks.many + 20 * marks.block);
+    let [full, with_place] = measure(&marks, [ours(&case, &marks, size.depth), roomy(&case, &marks)]);
     (full.1, with_place.1)
 }
 
 fn row(size: Size) {
     let (case, marks) = (size.case(), marks(size.depth));
-    let tight = ours(&case, &marks, size.depth);
-    let roomy = ours(&case, &marks, marks.many + 20 * marks.block);
-    let rust = theirs(&case, &marks);
+    let sides = [ours(&case, &marks, size.depth), roomy(&case, &marks), theirs(&case)];
+    let [tight, roomy, rust] = measure(&marks, sides);
     let n = nanoseconds;
     println!(
         "| {} | {} | {} | {} | {} | {} | {} | {} | {} | {} | {} |",
@@ -107,7 +131,7 @@ fn row(size: Size) {
 
 pub fn bench() {
     println!("## One bar\n");
-    println!("Nanoseconds a bar, the median of fifteen. \"Few\" is after 1,000 bars (5,000 at D 4,096), \"many\" after 100,000 (20,000).\n");
+    println!("Nanoseconds a bar. \"Few\" is after 1,000 bars (5,000 at D 4,096), \"many\" after 100,000 (20,000).\n");
     println!("| table | D | K | C, room of D rows: few | many | C, room not full: few | many | Rust: few | many | C / Rust | not full / Rust |");
     println!("|---|---|---|---|---|---|---|---|---|---|---|");
     for large in [false, true] {
@@ -133,7 +157,7 @@ pub fn by_slots() {
             slots,
         };
         let (case, marks) = (size.case(), marks(size.depth));
-        let (tight, rust) = (ours(&case, &marks, size.depth).1, theirs(&case, &marks).1);
+        let [(_, tight), (_, rust)] = measure(&marks, [ours(&case, &marks, size.depth), theirs(&case)]);
         println!(
             "| {slots} | {} | {} | {} |",
             nanoseconds(tight),

@@ -7,13 +7,13 @@ use oracle::metrics::compute;
 use oracle::portfolio::Trade;
 use oracle::words::Line;
 
-use super::timing::{each, nanoseconds, ratio};
+use super::timing::{by_turns, nanoseconds, ratio, side};
 use crate::calls::{self, METRIC_WORDS};
 
 /// Minutes of a year.
 const POINTS: usize = 525_600;
 const TRADES: u64 = 2_000;
-const ROOTS: usize = 100_000;
+const ROOTS: usize = 5_000;
 
 fn trade(dice: &mut Dice) -> Trade {
     Trade {
@@ -41,12 +41,14 @@ fn metrics() {
     let trade_words = trades.iter().fold(Line::new(), calls::ten_words);
     let initial = 10_000.0f64;
     let mut words = [0; METRIC_WORDS];
-    let ours = each(POINTS, || {
-        calls::metrics(initial.to_bits(), black_box(&points), trade_words.words(), &mut words);
-    });
-    let theirs = each(POINTS, || {
-        black_box(compute(initial, black_box(&equity), &trades));
-    });
+    let [ours, theirs] = by_turns([
+        side(POINTS, || {
+            calls::metrics(initial.to_bits(), black_box(&points), trade_words.words(), &mut words);
+        }),
+        side(POINTS, || {
+            black_box(compute(initial, black_box(&equity), &trades));
+        }),
+    ]);
     println!(
         "| metrics over {POINTS} points, a point | {} | {} | {} |",
         nanoseconds(ours),
@@ -58,16 +60,18 @@ fn metrics() {
 fn root() {
     let dice = &mut Dice::new(1);
     let words: Vec<u64> = (0..ROOTS).map(|_| dice.span(0.0, 1e9).to_bits()).collect();
-    let ours = each(ROOTS, || {
-        for &word in &words {
-            black_box(calls::root(black_box(word)));
-        }
-    });
-    let theirs = each(ROOTS, || {
-        for &word in &words {
-            black_box(f64::from_bits(black_box(word)).sqrt());
-        }
-    });
+    let [ours, theirs] = by_turns([
+        side(ROOTS, || {
+            for &word in &words {
+                black_box(calls::root(black_box(word)));
+            }
+        }),
+        side(ROOTS, || {
+            for &word in &words {
+                black_box(f64::from_bits(black_box(word)).sqrt());
+            }
+        }),
+    ]);
     println!(
         "| square root | {} | {} | {} |",
         nanoseconds(ours),

@@ -5,13 +5,13 @@ use std::hint::black_box;
 use oracle::lists::runs::Bar;
 
 use super::setup::Size;
-use super::timing::{each, nanoseconds, ratio};
+use super::timing::{by_turns, nanoseconds, ratio, side, Side};
 use crate::calls::{self, Position};
 use crate::case::row_words;
 use crate::extremes::trees::{table, Condition, Operand};
 use crate::ours::translated;
 
-const BLOCK: usize = 2_000;
+const BLOCK: usize = 500;
 const SLOTS: usize = 2;
 const LENGTHS: [usize; 3] = [20, 100, 1_000];
 
@@ -76,15 +76,15 @@ const OVER: [(&str, Operand, Plain); 4] = [
     ("ohlc4", Operand::Price(6), of_ohlc4),
 ];
 
-/// Nanoseconds of `ysh_run` over the list of "the highest of the last n is above no price".
-fn through_c(over: &Operand, n: usize, rows: &[u64]) -> f64 {
+/// `ysh_run` over the list of "the highest of the last n is above no price".
+fn through_c<'a>(over: &Operand, n: usize, rows: &'a [u64]) -> Side<'a> {
     let highest = Operand::Extreme(9, Box::new(over.clone()), n as u32);
     let rule = Condition::Compare(16, highest, Operand::Number(0.0));
     let list = translated(&table(2, SLOTS as u8, [&rule, &rule]), 0).expect("an accepted table");
-    let (mut answer, mut visits) = (0, 0);
-    let time = each(BLOCK, || {
+    let window = (SLOTS as u64, n as u64);
+    side(BLOCK, move || {
+        let (mut answer, mut visits) = (0, 0);
         for _ in 0..BLOCK {
-            let window = (SLOTS as u64, n as u64);
             calls::run(
                 black_box(&list),
                 black_box(rows),
@@ -94,17 +94,16 @@ fn through_c(over: &Operand, n: usize, rows: &[u64]) -> f64 {
                 &mut visits,
             );
         }
-    });
-    assert_eq!(
-        (answer, visits),
-        (1, n as u64 + 2),
-        "a highest above 0, and {n} visits for it"
-    );
-    time
+        assert_eq!(
+            (answer, visits),
+            (1, n as u64 + 2),
+            "a highest above 0, and {n} visits for it"
+        );
+    })
 }
 
-fn in_a_loop(plain: Plain, rows: &[u64]) -> f64 {
-    each(BLOCK, || {
+fn in_a_loop(plain: Plain, rows: &[u64]) -> Side<'_> {
+    side(BLOCK, move || {
         for _ in 0..BLOCK {
             black_box(plain(black_box(rows)));
         }
@@ -125,10 +124,15 @@ pub fn bench() {
     let bars = size.case().bars;
     let rows = |n: usize| -> Vec<u64> { bars.iter().map(whole).take(n).flat_map(|bar| row_words(&bar)).collect() };
     for (name, over, plain) in OVER {
-        let one = through_c(&over, 1, &rows(1));
+        let first = rows(1);
         for n in LENGTHS {
             let rows = rows(n);
-            let (c, rust) = (through_c(&over, n, &rows), in_a_loop(plain, &rows));
+            let sides = [
+                through_c(&over, n, &rows),
+                through_c(&over, 1, &first),
+                in_a_loop(plain, &rows),
+            ];
+            let [c, one, rust] = by_turns(sides);
             println!(
                 "| {name} | {n} | {} | {} | {} | {} | {} |",
                 nanoseconds(c),

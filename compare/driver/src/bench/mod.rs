@@ -1,6 +1,8 @@
 //! `driver bench`: the C interface against the Rust original, on the same bars in one run, as tables in markdown.
 
+mod accounts;
 mod day;
+mod differences;
 mod dump;
 mod engine;
 mod figures;
@@ -8,7 +10,7 @@ mod looks;
 mod moving;
 mod parts;
 mod rules;
-mod setup;
+pub mod setup;
 mod stretch;
 mod timing;
 mod totals;
@@ -16,7 +18,7 @@ mod totals;
 /// A table, under the name that picks it.
 type Part = (&'static str, fn());
 
-const PARTS: [Part; 11] = [
+const PARTS: [Part; 13] = [
     ("bar", engine::bench),
     ("slots", engine::by_slots),
     ("day", day::bench),
@@ -28,6 +30,8 @@ const PARTS: [Part; 11] = [
     ("figures", figures::bench),
     ("stretch", stretch::bench),
     ("totals", totals::bench),
+    ("differences", differences::bench),
+    ("accounts", accounts::bench),
 ];
 
 /// Measures everything, or the part of that name; whether there is one.

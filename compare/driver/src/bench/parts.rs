@@ -8,7 +8,7 @@ use crate::calls::{self, state, Step, STATE_WORDS};
 use crate::case::bar_words;
 use crate::ours::Ours;
 
-const BLOCK: usize = 2_000;
+const BLOCK: usize = 500;
 const SEEN: usize = 1_000;
 
 /// A run after some bars, with its next bar; each call begins from this state again.

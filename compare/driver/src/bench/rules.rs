@@ -6,14 +6,14 @@ use oracle::registry::slot_name;
 use oracle::rules::{eval_condition, BarRow, RuleState};
 
 use super::setup::{Size, DEPTHS};
-use super::timing::{each, nanoseconds, ratio};
+use super::timing::{by_turns, nanoseconds, ratio, side};
 use crate::calls::{self, Position};
 use crate::case::row_words;
 use crate::ours::translated;
 
-const BLOCK: usize = 20_000;
+const BLOCK: usize = 2_000;
 /// Of the slower calls.
-const FEW: usize = 1_000;
+const FEW: usize = 50;
 
 const LONG: Position = Position {
     qty: 0x3ff0_0000_0000_0000,
@@ -46,35 +46,33 @@ fn row(size: Size, tree: usize, name: &str) {
         in_position: true,
         bars_since_entry: Some(5),
     };
-    let (mut answer, mut visits) = (0, 0);
-    let steps = each(BLOCK, || {
-        for _ in 0..BLOCK {
-            let window = (slots, size.depth as u64);
-            calls::run(
-                black_box(&list),
-                black_box(&rows),
-                window,
-                LONG,
-                &mut answer,
-                &mut visits,
-            );
-        }
-    });
-    let plain = each(FEW, || {
-        for _ in 0..FEW {
-            calls::rule(black_box(&table), tree as u64, black_box(&rows), LONG, &mut answer);
-        }
-    });
-    let rust = each(BLOCK, || {
-        for _ in 0..BLOCK {
-            black_box(eval_condition(
-                black_box(condition),
-                black_box(&history),
-                history.len() - 1,
-                state,
-            ));
-        }
-    });
+    let (mut answer, mut visits, mut said) = (0, 0, 0);
+    let window = (slots, size.depth as u64);
+    let [steps, plain, rust] = by_turns([
+        side(BLOCK, || {
+            for _ in 0..BLOCK {
+                calls::run(
+                    black_box(&list),
+                    black_box(&rows),
+                    window,
+                    LONG,
+                    &mut answer,
+                    &mut visits,
+                );
+            }
+        }),
+        side(FEW, || {
+            for _ in 0..FEW {
+                calls::rule(black_box(&table), tree as u64, black_box(&rows), LONG, &mut said);
+            }
+        }),
+        side(BLOCK, || {
+            for _ in 0..BLOCK {
+                let last = history.len() - 1;
+                black_box(eval_condition(black_box(condition), black_box(&history), last, state));
+            }
+        }),
+    ]);
     println!(
         "| {}, {name} | {} | {} | {visits} | {} | {} | {} | {} |",
         size.name(),

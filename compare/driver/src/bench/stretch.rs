@@ -4,7 +4,7 @@ use std::hint::black_box;
 
 use oracle::lists::dice::Dice;
 
-use super::timing::{each, nanoseconds};
+use super::timing::{by_turns, each, nanoseconds, side};
 use crate::calls;
 use crate::stretches::model::{block_words, plain_loop};
 
@@ -12,7 +12,9 @@ use crate::stretches::model::{block_words, plain_loop};
 const YEAR: usize = 525_600;
 const DAY: usize = 1_440;
 const QUESTIONS: usize = 64;
-const PLAIN: usize = 8;
+/// How often each question is asked in a block: but for the first time with what it reads in the caches.
+const TIMES: usize = 16;
+const FEW: usize = 2;
 
 fn closes() -> Vec<u64> {
     let dice = &mut Dice::new(1);
@@ -96,21 +98,25 @@ pub fn bench() {
     for bars in [1, 60, DAY, 30 * DAY, YEAR] {
         let asked = questions(bars);
         let mut best = [0; 4];
-        let ours = each(QUESTIONS, || {
-            for &(first, last) in black_box(&asked) {
-                calls::stretch(held, first as u64, last as u64, &room, &blocks, black_box(&mut best));
-            }
-        });
-        let plain = each(PLAIN, || {
-            for &(first, last) in black_box(&asked[..PLAIN]) {
-                black_box(plain_loop(&given, first, last));
-            }
-        });
-        let table = each(QUESTIONS, || {
-            for &(first, last) in black_box(&asked) {
-                black_box(sparse.ask(&given, first, last));
-            }
-        });
+        // A block of a plain loop over few bars is all questions, so that it is not too short to be measured.
+        let plain_ones = &asked[..if bars > DAY { FEW } else { QUESTIONS }];
+        let [ours, plain, table] = by_turns([
+            side(TIMES * QUESTIONS, || {
+                for &(first, last) in black_box(&asked).iter().cycle().take(TIMES * QUESTIONS) {
+                    calls::stretch(held, first as u64, last as u64, &room, &blocks, black_box(&mut best));
+                }
+            }),
+            side(plain_ones.len(), || {
+                for &(first, last) in black_box(plain_ones) {
+                    black_box(plain_loop(&given, first, last));
+                }
+            }),
+            side(TIMES * QUESTIONS, || {
+                for &(first, last) in black_box(&asked).iter().cycle().take(TIMES * QUESTIONS) {
+                    black_box(sparse.ask(&given, first, last));
+                }
+            }),
+        ]);
         println!(
             "| {bars} | {} | {} | 1/{:.1} | {} |",
             nanoseconds(ours),

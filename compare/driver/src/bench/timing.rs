@@ -1,8 +1,10 @@
-//! Medians of repeated measurements, in time of this thread on a processor: what other programs take is not counted.
+//! The least of many short measurements, the sides of a comparison by turns, in time of this thread on a processor. What other programs take is not
+//! counted, and what they do to the caches is not in the least of many.
 
 use std::time::Duration;
 
-const REPETITIONS: usize = 15;
+/// Blocks of each side that are measured.
+pub const REPETITIONS: usize = 60;
 
 #[repr(C)]
 struct TimeSpec {
@@ -27,17 +29,43 @@ fn processor_time() -> Duration {
     Duration::new(time.seconds as u64, time.nanoseconds as u32)
 }
 
-/// Nanoseconds for each of `count` units of work that one call of `block` does: the median of several calls.
-pub fn each(count: usize, mut block: impl FnMut()) -> f64 {
-    let mut times: Vec<f64> = (0..REPETITIONS)
-        .map(|_| {
-            let began = processor_time();
-            block();
-            (processor_time() - began).as_nanos() as f64 / count as f64
-        })
-        .collect();
-    times.sort_by(f64::total_cmp);
-    times[REPETITIONS / 2]
+/// A side of a comparison: a block of work, and how many units of it the block is.
+pub struct Side<'a> {
+    count: usize,
+    block: Box<dyn FnMut() + 'a>,
+}
+
+pub fn side<'a>(count: usize, block: impl FnMut() + 'a) -> Side<'a> {
+    Side {
+        count,
+        block: Box::new(block),
+    }
+}
+
+impl Side<'_> {
+    /// Nanoseconds a unit, of one block.
+    fn time(&mut self) -> f64 {
+        let began = processor_time();
+        (self.block)();
+        (processor_time() - began).as_nanos() as f64 / self.count as f64
+    }
+}
+
+/// Nanoseconds a unit of each side: the least of many blocks, the sides by turns.
+pub fn by_turns<const N: usize>(mut sides: [Side; N]) -> [f64; N] {
+    let mut least = [f64::INFINITY; N];
+    for _ in 0..REPETITIONS {
+        for (least, side) in least.iter_mut().zip(&mut sides) {
+            *least = least.min(side.time());
+        }
+    }
+    least
+}
+
+/// The same of one side alone.
+pub fn each(count: usize, block: impl FnMut()) -> f64 {
+    let [time] = by_turns([side(count, block)]);
+    time
 }
 
 /// A time as it is written in a table.

@@ -4,11 +4,12 @@ use std::hint::black_box;
 
 use oracle::lists::dice::Dice;
 
-use super::timing::{each, nanoseconds};
+use super::timing::{by_turns, nanoseconds, side};
 use crate::calls::{self, TRADE_WORDS};
 
 const TRADES: usize = 1_000;
 const TOTAL_WORDS: usize = 43;
+const JOINS: usize = 100;
 
 /// The pnl of each trade.
 fn pnls(trades: &[u64]) -> impl Iterator<Item = f64> + '_ {
@@ -37,19 +38,52 @@ pub fn bench() {
         trade[5] = dice.span(-490.0, 510.0).to_bits();
         trade[7] = dice.between(1, 6);
     }
-    println!("\n| a trade of {TRADES} in a call | ns |\n|---|---|");
-    let exact = each(TRADES, || {
-        let mut totals = [0; TOTAL_WORDS];
-        calls::totals(&mut totals, black_box(&trades));
-        black_box(totals);
-    });
+    let [exact, plain, kept] = by_turns([
+        side(TRADES, || {
+            let mut totals = [0; TOTAL_WORDS];
+            calls::totals(&mut totals, black_box(&trades));
+            black_box(totals);
+        }),
+        side(TRADES, || {
+            black_box(pnls(black_box(&trades)).sum::<f64>());
+        }),
+        side(TRADES, || {
+            black_box(compensated(black_box(&trades)));
+        }),
+    ]);
+    println!("## Exact totals\n");
+    println!("| a trade of {TRADES} in a call | ns |\n|---|---|");
     println!("| exact totals: judged, counted and added | {} |", nanoseconds(exact));
-    let plain = each(TRADES, || {
-        black_box(pnls(black_box(&trades)).sum::<f64>());
-    });
     println!("| a plain float sum | {} |", nanoseconds(plain));
-    let kept = each(TRADES, || {
-        black_box(compensated(black_box(&trades)));
-    });
     println!("| a compensated float sum | {} |", nanoseconds(kept));
+    joins(&trades);
+    println!();
+}
+
+/// Totals of the trades with every pnl times a number.
+fn totals_of(trades: &[u64], times: f64) -> [u64; TOTAL_WORDS] {
+    let mut totals = [0; TOTAL_WORDS];
+    let mut trades = trades.to_vec();
+    for trade in trades.chunks_exact_mut(TRADE_WORDS) {
+        trade[5] = (f64::from_bits(trade[5]) * times).to_bits();
+    }
+    assert_eq!(calls::totals(&mut totals, &trades), 0, "trades that are taken");
+    totals
+}
+
+/// Totals of a sum above zero and of one below it, each joined with those of one trade, again and again.
+fn joins(trades: &[u64]) {
+    let one = totals_of(&trades[..TRADE_WORDS], 1.0);
+    let join = |whole: [u64; TOTAL_WORDS]| {
+        side(JOINS, move || {
+            let mut totals = whole;
+            for _ in 0..JOINS {
+                calls::totals_join(&mut totals, black_box(&one));
+            }
+            black_box(totals);
+        })
+    };
+    let [above, below] = by_turns([join(totals_of(trades, 1e6)), join(totals_of(trades, -1e6))]);
+    println!("| a join | {} |", nanoseconds(above));
+    println!("| a join whose sum is negative | {} |", nanoseconds(below));
 }

@@ -6,7 +6,7 @@ mod tables;
 
 use oracle::lists::dice::Dice;
 use oracle::lists::orders::around_levels;
-use oracle::lists::runs::settings_for;
+use oracle::lists::runs::{settings_for, Bar};
 use oracle::spec::OrderType;
 
 use crate::case::Case;
@@ -48,7 +48,7 @@ pub fn edge(dice: &mut Dice) -> f64 {
 }
 
 /// The dice of case `number` under a seed.
-fn dice_of(seed: u64, number: u64) -> Dice {
+pub fn dice_of(seed: u64, number: u64) -> Dice {
     Dice::new(Dice::new(seed).bits() ^ Dice::new(!number).bits())
 }
 
@@ -79,4 +79,29 @@ pub fn some_case(seed: u64, number: u64) -> (Case, Plan) {
     let spare = dice.pick(&[1, 2, case.settings.depth, count + 1]);
     let ask_every = if count > 600 { 37 } else { dice.pick(&[1, 1, 3]) };
     (case, Plan { spare, ask_every })
+}
+
+/// An account of a stream, with no bars: most have no short trees and a leverage of at most 1, as their profile asks.
+pub fn some_account(dice: &mut Dice) -> Case {
+    let kind = tables::some_kind(dice);
+    let mut table = tables::table(dice, kind);
+    if dice.percent(97) {
+        table.trees[2..].fill(None);
+    }
+    let mut settings = settings::some(dice);
+    if dice.percent(97) {
+        settings.risk.max_leverage = dice.pick(&[None, None, Some(1.0), Some(0.5), Some(-0.0), Some(-2.0)]);
+    }
+    let settings = settings::ordered(dice, settings, false);
+    let settings = settings_for(settings::in_lots(dice, settings), &table);
+    Case {
+        settings,
+        table,
+        bars: Vec::new(),
+    }
+}
+
+/// Bars of a stream.
+pub fn some_bars(dice: &mut Dice, count: usize, slots: usize, funding: bool) -> Vec<Bar> {
+    bars::some(dice, count, slots, funding)
 }

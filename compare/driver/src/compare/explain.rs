@@ -65,7 +65,7 @@ pub fn met(entry: Entry, case: &Case, i: usize, view: &View) -> bool {
     }
 }
 
-fn has_a_zero_price(bar: &Bar) -> bool {
+pub fn has_a_zero_price(bar: &Bar) -> bool {
     let c = &bar.candle;
     [c.open, c.high, c.low].contains(&0.0)
 }

@@ -3,7 +3,7 @@
 mod command;
 mod day;
 mod ends;
-mod explain;
+pub mod explain;
 mod rules;
 mod shrink;
 

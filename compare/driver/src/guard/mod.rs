@@ -13,6 +13,8 @@ pub mod room;
 mod runs;
 mod tables;
 
+pub use tables::nested;
+
 use oracle::lists::dice::Dice;
 
 use crate::calls;

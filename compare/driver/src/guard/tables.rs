@@ -19,7 +19,7 @@ fn swap_nodes(dice: &mut Dice, table: &mut [u8]) {
 }
 
 /// A tree that nests about as far as it may, or too far, with its deepest node anywhere.
-fn nested(dice: &mut Dice) -> Vec<u8> {
+pub fn nested(dice: &mut Dice) -> Vec<u8> {
     let (levels, operands) = (dice.between(20, 34), dice.below(12));
     let operand = (0..operands).fold(close(), |inner, _| prev(inner, 1));
     let last = compare(16, operand, close());

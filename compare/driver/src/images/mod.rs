@@ -176,7 +176,12 @@ pub fn images(seed: u64, count: u64) -> bool {
         progress.at(number + 1, || format!("{} cuts", tally.cuts));
     }
     tally.print();
-    let calls = tally.restores.iter().chain(&tally.dumps).chain(&tally.refused_parts).sum::<u64>();
+    let calls = tally
+        .restores
+        .iter()
+        .chain(&tally.dumps)
+        .chain(&tally.refused_parts)
+        .sum::<u64>();
     println!(
         "images: seed {seed}, {} images, {} cuts, {} restarts, {calls} damaged, 0 differ",
         tally.images, tally.cuts, tally.restarts

@@ -1,13 +1,17 @@
 //! One module a command: what was asked to what is written.
 
+pub mod blocked;
 pub mod compile;
+pub mod completions;
 pub mod depth;
 pub mod dump;
 pub mod holdup;
 pub mod manual;
 pub mod run;
+pub mod schema;
 pub mod short;
 pub mod show;
+pub mod trials;
 pub mod why;
 
 use crate::problem::Problem;

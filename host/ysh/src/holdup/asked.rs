@@ -100,7 +100,10 @@ pub struct FlashAsked {
     /// The longest call that has to end before the dump begins: examples/c/longest measures it on the box
     #[arg(long, value_name = "TIME", value_parser = parse_time, allow_hyphen_values = true, default_value = "0ms")]
     pub call: Time,
-    /// Where that number is from, for the sheet
+    /// The program that consumes an image at the start, where the supply may fall in it: it counts where it takes longer than the longest call
+    #[arg(long, value_name = "TIME", value_parser = parse_time, allow_hyphen_values = true, default_value = "0ms")]
+    pub consume: Time,
+    /// Where the time of the longest call is from, for the sheet
     #[arg(long, value_name = "TEXT", requires = "call")]
     pub call_from: Option<String>,
     /// Each file is a box of its own that writes N such dumps one after another, one a client: for boxes whose clients are not known yet
@@ -164,6 +167,9 @@ pub struct Wanted {
     /// Write the answer as a page too, to be printed and signed
     #[arg(long, value_name = "FILE")]
     pub html: Option<PathBuf>,
+    /// Write the page's chart, each client alone against the limit, as a picture of its own
+    #[arg(long, value_name = "FILE")]
+    pub svg: Option<PathBuf>,
 }
 
 fn parse_dumps(text: &str) -> Result<u64, String> {

@@ -14,13 +14,14 @@ const WIDTH: f64 = 1000.0;
 const ROW: f64 = 24.0;
 const TOP: f64 = 34.0;
 
-pub fn chart(report: &Report) -> String {
+/// None where no file was answered.
+pub fn chart(report: &Report) -> Option<Svg> {
     let mut files: Vec<&Client> = report.clients.iter().collect();
     files.sort_by_key(|client| std::cmp::Reverse(client.alone));
     match files.len() {
-        0 => String::new(),
-        1..=NAMED => bars(&files, report.given.have),
-        _ => profile(&files, report.given.have),
+        0 => None,
+        1..=NAMED => Some(bars(&files, report.given.have)),
+        _ => Some(profile(&files, report.given.have)),
     }
 }
 
@@ -50,7 +51,7 @@ fn class(client: &Client) -> &'static str {
 }
 
 /// Names on the left, times on the right, between them a bar a file, and the limit as an upright line.
-fn bars(files: &[&Client], have: Option<Time>) -> String {
+fn bars(files: &[&Client], have: Option<Time>) -> Svg {
     let longest = files.iter().map(|client| client.file.chars().count()).max().unwrap_or(0);
     let left = 24.0 + LETTER * longest.clamp(8, MOST_LETTERS) as f64;
     let right = WIDTH - 40.0 - LETTER * files[0].alone.up().len() as f64;
@@ -75,11 +76,11 @@ fn bars(files: &[&Client], have: Option<Time>) -> String {
         svg.line("limit", (at, TOP - 6.0), (at, bottom));
         limit_text(&mut svg, at, TOP - 12.0, have);
     }
-    svg.done()
+    svg
 }
 
 /// The files side by side, the longest first, and the limit as a level line.
-fn profile(files: &[&Client], have: Option<Time>) -> String {
+fn profile(files: &[&Client], have: Option<Time>) -> Svg {
     let most = most(files, have);
     let ticks = ticks(most);
     let widest = ticks.iter().map(|tick| tick_text(*tick).len()).max().unwrap_or(0);
@@ -105,7 +106,7 @@ fn profile(files: &[&Client], have: Option<Time>) -> String {
         svg.line("limit", (left, y(have.ms())), (right, y(have.ms())));
         limit_text(&mut svg, right - 90.0, y(have.ms()) - 6.0, have);
     }
-    svg.done()
+    svg
 }
 
 /// What is there, beside its line and off both edges.

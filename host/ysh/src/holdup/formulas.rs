@@ -39,8 +39,8 @@ pub fn of_file(given: &Given, client: &Client) -> Vec<Formula> {
     all.push(writing(&given.plan, client));
     let (words, numbers) = with_margin(
         given,
-        "longest call + before the first byte + dumps · writing",
-        format!("{} + {} + {} · {}", given.call, given.before, grouped(given.copies()), client.written.time),
+        &format!("{} + before the first byte + dumps · writing", given.first_named()),
+        format!("{} + {} + {} · {}", given.first(), given.before, grouped(given.copies()), client.written.time),
     );
     all.push(formula("time", &words, numbers, ms(client.alone)));
     all.extend(capacitance(given, client.alone));
@@ -235,8 +235,8 @@ pub fn of_fit(given: &Given, have: Time, client: &Client) -> Vec<Formula> {
     let mut all = held_up(given);
     all.push(formula(
         "share",
-        &format!("({there} − longest call − before the first byte) / dumps"),
-        format!("({number} − {} − {}) / {}", given.call, given.before, grouped(given.copies())),
+        &format!("({there} − {} − before the first byte) / dumps", given.first_named()),
+        format!("({number} − {} − {}) / {}", given.first(), given.before, grouped(given.copies())),
         format!("{share} ms"),
     ));
     let (words, numbers) = beside(plan, " − ", true);
@@ -282,8 +282,8 @@ fn of_box(report: &Report, one: &Boxed) -> Vec<Formula> {
     };
     let (words, numbers) = with_margin(
         given,
-        "longest call + before the first byte + the writing of each dump",
-        format!("{} + {} + {writing}", given.call, given.before),
+        &format!("{} + before the first byte + the writing of each dump", given.first_named()),
+        format!("{} + {} + {writing}", given.first(), given.before),
     );
     let mut all = vec![formula("time", &words, numbers, ms(one.total))];
     all.extend(capacitance(given, one.total));

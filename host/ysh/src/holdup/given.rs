@@ -25,9 +25,10 @@ pub struct Given {
     pub typical: Option<Time>,
     /// Before the first byte.
     pub before: Time,
-    /// The longest call, which has to end first.
+    /// The longest call, and the program that consumes an image: the longer one has to end first.
     pub call: Time,
     pub call_from: Option<String>,
+    pub consume: Time,
     /// Each file a box of its own, with so many dumps one after another.
     pub dumps: Option<u64>,
     /// On the whole time.
@@ -56,6 +57,7 @@ impl Given {
             before: asked.flash.before,
             call: asked.flash.call,
             call_from: asked.flash.call_from.clone(),
+            consume: asked.flash.consume,
             dumps: asked.flash.dumps,
             margin: asked.flash.margin,
             supply,
@@ -80,14 +82,27 @@ impl Given {
         }
     }
 
-    /// How long a box needs power that writes these dumps: the longest call, the time before the first byte, the writing, and the margin.
+    /// What has to end before a dump begins.
+    pub fn first(&self) -> Time {
+        self.call.max(self.consume)
+    }
+
+    pub fn first_named(&self) -> &'static str {
+        if self.consume > self.call {
+            "program that consumes"
+        } else {
+            "longest call"
+        }
+    }
+
+    /// How long a box needs power that writes these dumps: what has to end first, the time before the first byte, the writing, and the margin.
     pub fn total(&self, writing: Time) -> Time {
-        self.margin.more(self.call + self.before + writing)
+        self.margin.more(self.first() + self.before + writing)
     }
 
     /// What a time leaves for each dump.
     pub fn share(&self, have: Time) -> Time {
-        Time(self.margin.less(have).less(self.call).less(self.before).0 / u128::from(self.copies()))
+        Time(self.margin.less(have).less(self.first()).less(self.before).0 / u128::from(self.copies()))
     }
 
     /// The rows of the deepest window of so many slots whose dumps fit in a time.
@@ -173,11 +188,23 @@ mod tests {
         let cases = [(1, 0, 0), (1, 64, 15), (3, 2, 0), (7, 5, 333)];
         for (flash, (dumps, slots, margin)) in flashes.into_iter().flat_map(|f| cases.map(|case| (f, case))) {
             let plan = Plan { flash, commit: Commit::Mark, commit_time: None, unit: SEAL, erase: Time(2) };
-            let (before, call, margin) = (Time(3), Time(5), Share::of_thousands(margin));
+            let (before, call, consume, margin) = (Time(3), Time(5), Time(6), Share::of_thousands(margin));
             let (have_from, limits, call_from) = (HaveFrom::Told, false, None);
             let (typical, supply, have, dumps) = (None, None, None, Some(dumps));
-            let given =
-                Given { plan, typical, before, call, call_from, dumps, margin, supply, have, have_from, limits };
+            let given = Given {
+                plan,
+                typical,
+                before,
+                call,
+                call_from,
+                consume,
+                dumps,
+                margin,
+                supply,
+                have,
+                have_from,
+                limits,
+            };
             for have in (0..4000).step_by(13).map(Time) {
                 let most = given.rows_within(have, slots);
                 for rows in [1, 2, 3, 10, most.max(1), most + 1] {

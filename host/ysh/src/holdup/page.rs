@@ -12,9 +12,9 @@ use super::text::{change_said, limits_said, needs};
 use super::told::{asked, capacitance, room, verdict, ASSUMED};
 use super::units::Time;
 use crate::columns::{counted, grouped};
-use crate::svg::escape;
+use crate::svg::{escape, Svg};
 
-const STYLE: &str = include_str!("../page.css");
+const STYLE: &str = concat!(include_str!("../page.css"), include_str!("../chart.css"));
 
 pub fn page(report: &Report) -> String {
     let parts = [
@@ -24,7 +24,7 @@ pub fn page(report: &Report) -> String {
         missing(report),
         told(&report.given),
         section("Each box", &boxes(report)),
-        section("Each client, alone in its box, against the limit", &chart(report)),
+        section("Each client, alone in its box, against the limit", &chart(report).map_or(String::new(), Svg::done)),
         section("Each client", &table(report)),
         alone(report),
         report.against.as_ref().map_or(String::new(), |against| changes(report, against)),

@@ -108,6 +108,9 @@ pub fn asked(given: &Given) -> Vec<(&'static str, String)> {
         None => " (as it was told)".to_owned(),
     };
     lines.push(("call", format!("the longest takes {} ms{from}", given.call)));
+    let decides = if given.consume > given.call { "; it decides" } else { "; the longest call decides" };
+    let consume = || ("consume", format!("the program that does so takes {} ms{decides}", given.consume));
+    lines.extend((given.consume > Time(0)).then(consume));
     lines.extend((!given.margin.is_none()).then(|| ("margin", format!("{} on the whole time", given.margin))));
     lines.extend(supply(given).map(|said| ("supply", said)));
     lines.extend(given.have.map(|have| ("there is", there_is(given, have))));

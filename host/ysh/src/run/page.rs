@@ -9,7 +9,7 @@ use crate::columns::counted;
 use crate::show::{rounded, Clock};
 use crate::svg::escape;
 
-const STYLE: &str = concat!(include_str!("../page.css"), include_str!("report.css"));
+const STYLE: &str = concat!(include_str!("../page.css"), include_str!("../chart.css"), include_str!("report.css"));
 
 /// As many trades as the table has rows for: the first half and the last half of these.
 const ROWS: usize = 2000;
@@ -164,7 +164,7 @@ fn percent(x: f64) -> String {
 }
 
 fn notes(outcome: &Outcome) -> String {
-    let mut notes = [&outcome.doubts[..], &outcome.notes].concat();
+    let mut notes = [&outcome.doubts[..], &outcome.odd, &outcome.notes].concat();
     if !outcome.unread.is_empty() {
         notes.push(format!("columns that nothing reads: {}", outcome.unread.join(", ")));
     }
