@@ -1,9 +1,10 @@
 /* Yshturpa: a trading-rule engine whose answers, and the depth of bar history they need, are proved.
  *
  * Words in, words out. All words are 64 bits: a float's word is its IEEE 754 binary64 bit pattern, a time's its two's
- * complement. A float that a call works out and that is a NaN is written as 0x7ff8000000000000. Link libcapi.a.
+ * complement. A float that a call works out and that is a NaN is written as 0x7ff8000000000000. Link libyshturpa.a
+ * (`pkg-config --cflags --libs yshturpa`), which is called libcapi.a where the repository builds it.
  *
- * Every call but ysh_root and ysh_dump_bytes answers one word: 0 where it did its work, else a refusal: the refusal's number times
+ * Every call but ysh_root, ysh_dump_bytes and ysh_version answers one word: 0 where it did its work, else a refusal: the refusal's number times
  * 2^32 plus its place (YSH_NUMBER, YSH_PLACE; what each number means stands below). A refused call changes nothing that was lent to it;
  * ysh_steps and ysh_accounts, which take many bars, leave those done that came before the refused one.
  *
@@ -28,6 +29,10 @@
 #ifdef __cplusplus
 extern "C" {
 #endif
+
+/* The version, as one number: major * 1,000,000 + minor * 1,000 + patch. A later version has a larger number; docs/STABILITY.md says what it may
+ * add. ysh_version answers that of the library that is linked. */
+#define YSH_VERSION 1000000 /* 1.0.0 */
 
 #define YSH_NUMBER(answer) ((uint32_t)((answer) >> 32))
 #define YSH_PLACE(answer) ((uint32_t)(answer))
@@ -551,6 +556,9 @@ uint64_t ysh_stretch(uint64_t held, uint64_t first, uint64_t last, const uint64_
 
 /* The square root of a float's word, correctly rounded. */
 uint64_t ysh_root(uint64_t word);
+
+/* The version of the library, as YSH_VERSION has the header's. */
+uint64_t ysh_version(void);
 
 #ifdef __cplusplus
 }

@@ -15,6 +15,7 @@ pub mod Compare
 pub mod WordRun
 pub mod Day
 pub mod Accounts
+pub mod Version
 pub mod Laws
 pub mod StretchIsReading
 pub mod OverIsSingle

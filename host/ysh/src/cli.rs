@@ -35,7 +35,7 @@ pub enum Command {
     /// Which tests fall silent in a window of so many rows
     Short(Short),
     /// How long the dumps take after the supply drops, and how large a capacitor that needs
-    Holdup(Holdup),
+    Holdup(Box<Holdup>),
     /// A strategy or a table over bars from a file: trades, equity and the nine metrics
     Run(Run),
     /// Why a rule said yes or no at a bar: the chain from its root to what decided, in words

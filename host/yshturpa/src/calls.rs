@@ -79,6 +79,7 @@ mod raw {
         pub fn ysh_totals(totals: *mut u64, totals_len: usize, trades: *const u64, trades_len: usize) -> u64;
         pub fn ysh_totals_join(totals: *mut u64, totals_len: usize, other: *const u64, other_len: usize) -> u64;
         pub fn ysh_root(word: u64) -> u64;
+        pub fn ysh_version() -> u64;
         pub fn ysh_dump(
             settings: *const u64, settings_len: usize, state: *const u64, state_len: usize, rows: *const u64, rows_len: usize,
             area: *mut u8, area_len: usize, from: u64, upto: u64,
@@ -463,6 +464,10 @@ pub fn totals_join(totals: &mut [u64], other: &[u64]) -> Answer<()> {
 
 pub fn root(word: u64) -> u64 {
     unsafe { raw::ysh_root(word) }
+}
+
+pub fn version() -> u64 {
+    unsafe { raw::ysh_version() }
 }
 
 pub fn dump(settings: &[u64], state: &[u64], rows: &[u64], area: &mut [u8], from: u64, upto: u64) -> Answer<()> {
