@@ -3,11 +3,13 @@
 //! rules comes from the library's calls.
 #![forbid(unsafe_code)]
 
+mod accounts;
 mod axis;
 mod bars;
 mod cli;
 mod columns;
 mod commands;
+mod compare;
 pub mod compile;
 pub mod decompile;
 mod dump;
@@ -16,6 +18,7 @@ mod holdup;
 mod output;
 mod problem;
 mod progress;
+mod range;
 mod run;
 mod settings_file;
 mod show;
@@ -37,7 +40,7 @@ pub use problem::Problem;
 use show::shown;
 pub use source::Source;
 
-/// What the program was asked, answered; its exit status: 0, 1 where the library refused something, 2 where input is bad, 3 where something
+/// What the program was asked, answered; its exit status: 0, 1 where the library refused something or two runs differ, 2 where input is bad, 3 where something
 /// does not fit.
 pub fn run(arguments: impl IntoIterator<Item = OsString>, out: &mut dyn Write, err: &mut dyn Write) -> u8 {
     let arguments: Vec<OsString> = arguments.into_iter().collect();
@@ -56,6 +59,9 @@ pub fn run(arguments: impl IntoIterator<Item = OsString>, out: &mut dyn Write, e
         Command::Dump(asked) => commands::dump::answer(&asked),
         Command::Trials(asked) => commands::trials::answer(&asked),
         Command::Totals(asked) => commands::trials::totals(&asked),
+        Command::Compare(asked) => commands::compare::answer(&asked),
+        Command::Range(asked) => commands::range::answer(&asked),
+        Command::Accounts(asked) => commands::accounts::answer(&asked),
         Command::Completions { shell } => commands::completions::answer(shell),
         Command::Manual => commands::manual::answer(),
     }

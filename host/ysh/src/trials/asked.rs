@@ -5,7 +5,7 @@ use std::path::PathBuf;
 use clap::{Args, Subcommand};
 
 use crate::bars::OnRefusal;
-use crate::run::asked::Given;
+use crate::run::asked::{Given, Over};
 
 const EXAMPLES: &str = "The same runs give the same answer, byte for byte, with any number of threads, in any order of the files, and in any parts \
 that are joined again.
@@ -53,6 +53,13 @@ pub struct How {
     pub strict: bool,
     #[command(flatten)]
     pub given: Given,
+}
+
+impl How {
+    /// A run of a file over bars.
+    pub fn over(&self, file: PathBuf, bars: PathBuf) -> Over {
+        Over { file, bars, on_refusal: self.on_refusal, strict: self.strict, given: self.given }
+    }
 }
 
 #[derive(Clone, Debug, Args)]

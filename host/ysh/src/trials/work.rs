@@ -14,7 +14,6 @@ use crate::bars::Way;
 use crate::files::{files, Found};
 use crate::problem::Problem;
 use crate::progress;
-use crate::run::asked::Over;
 use crate::run::outcome::Outcome;
 use crate::run::Ready;
 use crate::settings_file::SettingsFile;
@@ -56,10 +55,8 @@ impl Work {
     }
 
     fn figures(&self, strategy: &str, bars: &str) -> Result<Figures, Problem> {
-        let How { on_refusal, strict, given } = self.how;
-        let (file, bars) = (self.strategies[strategy].clone(), self.bars[bars].clone());
-        let over = Over { file, bars, on_refusal, strict, given };
-        let way = Way { on_refusal, after: None, until: None };
+        let over = self.how.over(self.strategies[strategy].clone(), self.bars[bars].clone());
+        let way = Way { on_refusal: over.on_refusal, after: None, until: None };
         Figures::of(&Outcome::of(Ready::of(&over)?, way)?)
     }
 }
