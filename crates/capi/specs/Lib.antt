@@ -19,4 +19,5 @@ pub mod StretchIsReading
 pub mod Joined
 pub mod DayJoined
 pub mod TotalsJoined
+pub mod CompareJoined
 pub mod AsIfAlone

@@ -1,25 +1,22 @@
 -- What the comparison answers and leaves, from what was counted: one law for each way out.
-use Rattle.words.specs.Prelude.{ℕ, _+_, _*_, _≤_, min, _≡_, refl, sym, ap, _∙_, true, false, List, [], _∷_, arith, leb-true, leb, length}
-use Rattle.words.specs.{Words.overwrite}
-use Rattle.differences.specs.{declared.compare.Compared.Compared, declared.compare.Compared.the-variants.Lines, Lines.Line, Lines.points, Lines.firstPoint}
-use Rattle.differences.specs.{Lines.wordLines, Lines.differencesFrom, Lines.differences, Lines.wordsOf, Compared.Comparison, Compared.whole, Compared.refused}
-use Rattle.differences.specs.{Compared.written, Compared.compared, Laws.Counted.fewLines, Laws.Counted.all-lines, Laws.Written.none-written}
-
-no-lines : (ls : List Line) → length ls ≡ 0 → ls ≡ []
-no-lines [] e = refl
-no-lines (l ∷ ls) e = absurd (omega arith)
+use Rattle.words.specs.Prelude.{ℕ, _+_, _*_, _≤_, min, _≡_, sym, ap, _∙_, true, false, List, arith, leb-true, leb, length}
+use Rattle.words.specs.{Limits.tradeWords, Words.overwrite}
+use Rattle.differences.specs.{declared.compare.Compared.Compared, declared.compare.Compared.the-variants.Lines, Lines.Line, Lines.points, Lines.trades}
+use Rattle.differences.specs.{Lines.firstPoint, Lines.wordLines, Lines.differencesFrom, Lines.differences, Lines.wordsOf, Compared.Comparison}
+use Rattle.differences.specs.{Compared.whole, Compared.refused, Compared.written, Compared.compared, Laws.Counted.fewLines, Laws.Counted.all-lines}
+use Rattle.differences.specs.{Laws.Written.none-written, Laws.Written.no-lines}
 
 abbrev told : ℕ → List ℕ → Comparison
 told n room = record { answer = Lines n; room = room }
 
-module _ (e t e′ t′ room : List ℕ) (p n k few words : ℕ) (shared : p ≡ min (points e) (points e′)) (short : n ≡ min (length t) (length t′))
-    (first : k ≡ firstPoint e e′ 0 p) (other : few ≡ fewLines e t e′ t′ k p) (apart : words ≡ length (wordLines t t′ n)) where
-  same : differences e t e′ t′ ≡ differencesFrom e t e′ t′ k p n
+module _ (e t e′ t′ room : List ℕ) (p n k few words : ℕ) (shared : p ≡ min (points e) (points e′)) (short : n ≡ min (trades t) (trades t′))
+    (first : k ≡ firstPoint e e′ 0 p) (other : few ≡ fewLines e t e′ t′ k p) (apart : words ≡ length (wordLines t t′ (tradeWords * n))) where
+  same : differences e t e′ t′ ≡ differencesFrom e t e′ t′ k p (tradeWords * n)
   unfolding differences
   same = cc
 
-  many : length (differencesFrom e t e′ t′ k p n) ≡ few + words
-  many = all-lines e t e′ t′ k p n ∙ cc
+  many : length (differencesFrom e t e′ t′ k p (tradeWords * n)) ≡ few + words
+  many = all-lines e t e′ t′ k p (tradeWords * n) ∙ cc
 
   count : length (differences e t e′ t′) ≡ few + words
   count = ap length same ∙ many
@@ -33,17 +30,17 @@ module _ (e t e′ t′ room : List ℕ) (p n k few words : ℕ) (shared : p ≡
     pub lines-fit : 5 * (few + words) ≤ length room
     lines-fit = leb-true (5 * (few + words)) (length room) h
 
-    pub all-fit : 5 * length (differencesFrom e t e′ t′ k p n) ≤ length room
+    pub all-fit : 5 * length (differencesFrom e t e′ t′ k p (tradeWords * n)) ≤ length room
     all-fit = omega (arith, many, lines-fit)
 
-    pub writes : (after : List ℕ) → after ≡ overwrite room 0 (wordsOf (differencesFrom e t e′ t′ k p n))
+    pub writes : (after : List ℕ) → after ≡ overwrite room 0 (wordsOf (differencesFrom e t e′ t′ k p (tradeWords * n)))
         → written (differences e t e′ t′) room ≡ told (few + words) after
     unfolding written
     writes after w = simp (many, h, same, w)
 
     pub nothing : few + words ≡ 0 → written (differences e t e′ t′) room ≡ told 0 room
     nothing z =
-        let kept : room ≡ overwrite room 0 (wordsOf (differencesFrom e t e′ t′ k p n)) =
+        let kept : room ≡ overwrite room 0 (wordsOf (differencesFrom e t e′ t′ k p (tradeWords * n))) =
         sym (ap (λ (ls : List Line). overwrite room 0 (wordsOf ls)) (no-lines _ (many ∙ z)) ∙ none-written room 0 (omega arith)) in
         writes room kept ∙ ap (λ (m : ℕ). told m room) z
 

@@ -2,6 +2,9 @@ pub mod Written
 pub mod Counted
 pub mod First
 pub mod Told
+pub mod Said
+pub mod ReadBack
 pub mod AllAndOnly
+pub mod Enough
 pub mod Exchanged
 pub mod Equal

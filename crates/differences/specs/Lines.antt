@@ -62,7 +62,7 @@ surplus sort m n = cond (eqb m n) [] (line sort (min m n) 0 m n ∷ [])
 
 -- ---- all of them, in the request's order
 
--- where k is the first of `points` points that differs, and n words of the trades are compared
+-- where k is the first of `shared` points that differs, and n words of the trades are compared
 unfoldable pub differencesFrom : List ℕ → List ℕ → List ℕ → List ℕ → ℕ → ℕ → ℕ → List Line
 differencesFrom equity list otherEquity otherList k shared n =
     equityLine equity otherEquity k shared
@@ -74,7 +74,7 @@ differencesFrom equity list otherEquity otherList k shared n =
 unfoldable pub differences : List ℕ → List ℕ → List ℕ → List ℕ → List Line
 differences equity list otherEquity otherList =
     let shared = min (points equity) (points otherEquity) in
-    differencesFrom equity list otherEquity otherList (firstPoint equity otherEquity 0 shared) shared (min (length list) (length otherList))
+    differencesFrom equity list otherEquity otherList (firstPoint equity otherEquity 0 shared) shared (tradeWords * min (trades list) (trades otherList))
 
 -- their words, one line after another
 unfoldable pub wordsOf : List Line → List ℕ

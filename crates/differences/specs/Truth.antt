@@ -1,7 +1,7 @@
 -- What may be said of two runs, and what a list of lines must be to say all of it and nothing else. Definitions only.
-use Rattle.words.specs.Prelude.{ℕ, _*_, _<_, _≤_, min, _≡_, List, [], _∷_, List·Memᴰ, length}
-use Rattle.words.specs.{Limits.tradeWords, Words.overwrite}
-use Rattle.differences.specs.{Lines.Line, Lines.line, Lines.points, Lines.trades, Lines.equityAt, Lines.tradeWord, Lines.lineWords, Lines.wordsOf}
+use Rattle.words.specs.Prelude.{ℕ, zero, suc, _+_, _*_, _<_, _≤_, min, _≡_, List, [], _∷_, List·Memᴰ, drop, getD, length}
+use Rattle.words.specs.{Limits.tradeWords}
+use Rattle.differences.specs.{Lines.Line, Lines.line, Lines.points, Lines.trades, Lines.equityAt, Lines.tradeWord, Lines.lineWords}
 
 -- the lines that are true of two runs
 pub data Says (e t e′ t′ : List ℕ) (l : Line) : Type 0 where
@@ -33,13 +33,21 @@ pub record AllAndOnly (e t e′ t′ : List ℕ) (ls : List Line) : Type 0 where
   pub all : (l : Line) → Says e t e′ t′ l → List·Memᴰ l ls
   pub once : Once ls
 
--- the answer of n lines and the room as it is left: the lines stand from its start on, and nothing past them is touched
+-- the first n lines that stand in a room, read as its header has them: five words each, one after another
+unfoldable pub linesIn : ℕ → List ℕ → List Line
+linesIn zero room = []
+linesIn (suc n) room = line (getD room 0 0) (getD room 1 0) (getD room 2 0) (getD room 3 0) (getD room 4 0) ∷ linesIn n (drop lineWords room)
+
+-- the answer of n lines and the room as it is left: those lines stand at its start, and nothing past them is touched
 pub record Answered (e t e′ t′ room : List ℕ) (n : ℕ) (after : List ℕ) : Type 0 where
-  pub lines : List Line
-  pub count : length lines ≡ n
   pub fits : lineWords * n ≤ length room
-  pub stand : after ≡ overwrite room 0 (wordsOf lines)
-  pub so : AllAndOnly e t e′ t′ lines
+  pub so : AllAndOnly e t e′ t′ (linesIn n after)
+  pub rest : drop (lineWords * n) after ≡ drop (lineWords * n) room
+  pub long : length after ≡ length room
+
+-- a room that is always enough, by the trades of the shorter list (`YSH_DIFFERENCES_WORDS`): a line for each word of a trade, and three more
+abbrev pub enoughWords : ℕ → ℕ
+enoughWords shorter = lineWords * (tradeWords * shorter + 3)
 
 -- two runs that differ in nothing that a line tells: their trades, and the equity of their points
 pub record Equal (e t e′ t′ : List ℕ) : Type 0 where

@@ -109,10 +109,10 @@ fn compare_whole(
         (now (lines .entry)) ≡ record { answer = r; room = now (lines .exit) } ⌝ }
 {
     let points = least(equity.len() / POINT_WORDS, other_equity.len() / POINT_WORDS);
-    let n = least(trades.len(), other_trades.len());
+    let n = least(trades.len() / TRADE_WORDS, other_trades.len() / TRADE_WORDS);
     let k = first_point(equity, other_equity, points);
     let few = count_few(equity, trades, other_equity, other_trades, k, points);
-    let words = count(trades, other_trades, n);
+    let words = count(trades, other_trades, TRADE_WORDS * n);
     if holds(lines.len(), few, words) {
         let many = few + words;
         if many == 0 {

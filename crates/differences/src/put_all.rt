@@ -1,12 +1,13 @@
 // All lines of two runs, one after another.
 use crate::put::put_line;
 use crate::surplus::put_surplus;
-use crate::words_apart::put_words;
+use crate::words_apart::put_trades;
 use words::limits::POINT_WORDS;
 use words::limits::TRADE_WORDS;
 ghost use mathlib.Core.Path.{_≡_};
 ghost use Prim.Native.Nat.{_*_, _≤_};
 ghost use lib.ListN.{length};
+ghost use Rattle.words.specs.Limits.{tradeWords};
 ghost use Rattle.words.specs.Words.{overwrite};
 ghost use Rattle.differences.specs.Lines.{equityLine, differencesFrom, wordsOf};
 
@@ -31,7 +32,7 @@ fn put_equity(a: &[u64], b: &[u64], k: usize, n: usize, lines: &mut [u64]) -> us
     0
 }
 
-// The lines that there are where k is the first of `points` points that differs and n words of the trades are compared.
+// The lines that there are where k is the first of `points` points that differs and n trades are compared.
 pub(crate) fn put_all(
     equity: &[u64],
     trades: &[u64],
@@ -42,13 +43,14 @@ pub(crate) fn put_all(
     n: usize,
     lines: &mut [u64],
 )
-    requires { ⌜ (2 * points ≤ length (now equity)) × (2 * points ≤ length (now «other_equity»)) × (n ≤ length (now trades)) × (n ≤ length (now «other_trades»))
-        × (5 * length (differencesFrom (now equity) (now trades) (now «other_equity») (now «other_trades») k points n) ≤ length (now lines)) ⌝ }
+    requires { ⌜ (2 * points ≤ length (now equity)) × (2 * points ≤ length (now «other_equity»)) × (tradeWords * n ≤ length (now trades))
+        × (tradeWords * n ≤ length (now «other_trades»))
+        × (5 * length (differencesFrom (now equity) (now trades) (now «other_equity») (now «other_trades») k points (tradeWords * n)) ≤ length (now lines)) ⌝ }
     ensures { λ _. ⌜ now (lines .exit) ≡ overwrite (now (lines .entry)) 0 (wordsOf (differencesFrom (now (equity .entry)) (now (trades .entry))
-        (now («other_equity» .entry)) (now («other_trades» .entry)) k points n)) ⌝ }
+        (now («other_equity» .entry)) (now («other_trades» .entry)) k points (tradeWords * n))) ⌝ }
 {
     let c = put_equity(equity, other_equity, k, points, lines);
-    let d = put_words(trades, other_trades, n, lines, c);
+    let d = put_trades(trades, other_trades, n, lines, c);
     let e = put_surplus(
         3,
         trades.len() / TRADE_WORDS,

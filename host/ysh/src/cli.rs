@@ -6,6 +6,7 @@ use clap::{Args, Parser, Subcommand};
 use clap_complete::Shell;
 
 use crate::accounts::asked::Accounts;
+use crate::blocked::asked::Blocked;
 use crate::compare::asked::Compare;
 use crate::dump::asked::Dump;
 use crate::holdup::asked::Holdup;
@@ -42,8 +43,12 @@ pub enum Command {
     Run(Run),
     /// Why a rule said yes or no at a bar: the chain from its root to what decided, in words
     Why(Why),
+    /// Which tests kept a rule from a yes over a stretch of bars: how often each decided, was no or had no value
+    Blocked(Blocked),
     /// A box's dump: what an image holds, one made from a run, a run that goes on from one, one that is cut short
     Dump(Dump),
+    /// A JSON schema of strategies, for editors; docs/STRATEGY.md says what each key means
+    Schema,
     /// Every strategy over every file of bars: a row a run, and the exact totals of all of them
     Trials(Trials),
     /// The exact totals of parts of trials, joined

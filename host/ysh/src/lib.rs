@@ -6,6 +6,7 @@
 mod accounts;
 mod axis;
 mod bars;
+mod blocked;
 mod cli;
 mod columns;
 mod commands;
@@ -26,6 +27,7 @@ mod source;
 pub mod strategy;
 mod svg;
 pub mod table;
+mod times;
 mod trials;
 mod why;
 
@@ -56,7 +58,9 @@ pub fn run(arguments: impl IntoIterator<Item = OsString>, out: &mut dyn Write, e
         Command::Holdup(asked) => commands::holdup::answer(&asked, &arguments),
         Command::Run(asked) => commands::run::answer(&asked),
         Command::Why(asked) => commands::why::answer(&asked),
+        Command::Blocked(asked) => commands::blocked::answer(&asked),
         Command::Dump(asked) => commands::dump::answer(&asked),
+        Command::Schema => commands::schema::answer(),
         Command::Trials(asked) => commands::trials::answer(&asked),
         Command::Totals(asked) => commands::trials::totals(&asked),
         Command::Compare(asked) => commands::compare::answer(&asked),

@@ -41,7 +41,7 @@ pub use settings::{EntryOrder, Settings, Sizing, Slippage};
 pub use state::{Order, OrderLevel, Position, State};
 pub use table::{check, depth, dump_bytes, silent, slots_of, translate, Accepted, Depth, Tree};
 pub use totals::Totals;
-pub use why::{why, By, WhyLine};
+pub use why::{why, why_within, By, WhyLine};
 
 /// The square root, correctly rounded, computed from the bits alone.
 pub fn root(x: f64) -> f64 {

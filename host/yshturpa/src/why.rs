@@ -1,5 +1,7 @@
 //! Why a rule said what it said: the chain of nodes from the root of a tree to what decided.
 
+use std::ops::Range;
+
 use crate::layout::{WHY_LINES, WHY_WORDS};
 use crate::{calls, slots_of, Error, Position, Rows, Tree};
 
@@ -51,11 +53,22 @@ impl WhyLine {
 
 /// The chain of a tree at the newest row, the root first; no lines where the tree is absent.
 pub fn why(table: &[u8], tree: Tree, rows: &Rows, position: &Position) -> Result<Vec<WhyLine>, Error> {
+    why_within(table, tree, rows, 0..rows.len(), position)
+}
+
+/// The chain over some of the rows, the last of them being the newest.
+pub fn why_within(
+    table: &[u8],
+    tree: Tree,
+    rows: &Rows,
+    places: Range<usize>,
+    position: &Position,
+) -> Result<Vec<WhyLine>, Error> {
     let slots = slots_of(table)?;
     if rows.slots() != slots {
         return Err(Error::Slots { given: rows.slots(), table: slots });
     }
     let mut lines = [0; WHY_LINES * WHY_WORDS];
-    let count = calls::why(table, tree as u64, rows.words(), position.words(), &mut lines)? as usize;
+    let count = calls::why(table, tree as u64, rows.some(places), position.words(), &mut lines)? as usize;
     Ok(lines.chunks_exact(WHY_WORDS).take(count).map(WhyLine::of).collect())
 }

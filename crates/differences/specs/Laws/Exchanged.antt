@@ -1,9 +1,10 @@
 -- THE RUNS EXCHANGED: the same lines, with the two runs' words exchanged. Assumes nothing.
-use Rattle.words.specs.Prelude.{ℕ, zero, suc, _<_, _≤_, min, _≡_, refl, sym, ap, _∙_, List, [], _∷_, _++_, map, ⊎-elim, arith, getD, length}
+use Rattle.words.specs.Prelude.{ℕ, zero, suc, _*_, _<_, _≤_, min, _≡_, refl, sym, ap, _∙_, List, [], _∷_, _++_, map, ⊎-elim, arith, getD}
+use Rattle.words.specs.{Limits.tradeWords}
 use Rattle.differences.specs.{Lines.Line, Lines.line, Lines.points, Lines.trades, Lines.firstPoint, Lines.equityLine, Lines.wordLine, Lines.wordLines}
 use Rattle.differences.specs.{Lines.surplus, Lines.differencesFrom, Lines.differences, Truth.exchanged, Laws.Counted.line-same, Laws.Counted.line-other}
-use Rattle.differences.specs.{Laws.Counted.equity-some, Laws.Counted.equity-none, Laws.Counted.surplus-none, Laws.Counted.surplus-some, Laws.First.same-or}
-use Rattle.differences.specs.{Laws.First.first-exchanged, Laws.Told.below-or}
+use Rattle.differences.specs.{Laws.Counted.equity-some, Laws.Counted.equity-none, Laws.Counted.surplus-none, Laws.Counted.surplus-some}
+use Rattle.differences.specs.{Laws.First.same-or, Laws.First.first-exchanged, Laws.Told.below-or}
 use mathlib.Core.List.{map-append}
 
 either-way : (m n : ℕ) → min m n ≡ min n m
@@ -57,7 +58,8 @@ pub runs-exchanged : (e t e′ t′ : List ℕ) → differences e′ t′ e t �
 unfolding differences
 runs-exchanged e t e′ t′ =
     let shared = min (points e) (points e′) in
-    ap (λ (z : ℕ). differencesFrom e′ t′ e t (firstPoint e′ e 0 z) z (min (length t′) (length t))) (either-way (points e′) (points e))
-    ∙ ap (λ (z : ℕ). differencesFrom e′ t′ e t z shared (min (length t′) (length t))) (first-exchanged e e′ shared 0)
-    ∙ ap (differencesFrom e′ t′ e t (firstPoint e e′ 0 shared) shared) (either-way (length t′) (length t))
-    ∙ from-exchanged e t e′ t′ (firstPoint e e′ 0 shared) shared (min (length t) (length t′))
+    let both = tradeWords * min (trades t′) (trades t) in
+    ap (λ (z : ℕ). differencesFrom e′ t′ e t (firstPoint e′ e 0 z) z both) (either-way (points e′) (points e))
+    ∙ ap (λ (z : ℕ). differencesFrom e′ t′ e t z shared both) (first-exchanged e e′ shared 0)
+    ∙ ap (λ (z : ℕ). differencesFrom e′ t′ e t (firstPoint e e′ 0 shared) shared (tradeWords * z)) (either-way (trades t′) (trades t))
+    ∙ from-exchanged e t e′ t′ (firstPoint e e′ 0 shared) shared (tradeWords * min (trades t) (trades t′))

@@ -14,6 +14,10 @@ same-or x y = go (eqb x y) refl
 further : (x y : ℕ) → x ≤ y → (x ≡ y → ⊥) → suc x ≤ y
 further x y h d = omega arith
 
+-- one of y and one more that is not the last
+pub not-last : (x y : ℕ) → x < suc y → (x ≡ y → ⊥) → x < y
+not-last x y h d = omega arith
+
 module _ (a b : List ℕ) where
   on : (i n : ℕ) → equityAt a i ≡ equityAt b i → firstPoint a b i (suc n) ≡ firstPoint a b (suc i) n
   unfolding firstPoint

@@ -4,7 +4,7 @@ use Rattle.words.specs.Prelude.{ltb-true, ltb-false, ltb, getD}
 use Rattle.words.specs.{Limits.tradeWords}
 use Rattle.differences.specs.{Lines.Line, Lines.line, Lines.equityAt, Lines.equityLine, Lines.wordLine, Lines.wordLines, Lines.surplus, Truth.SamePlace}
 use Rattle.differences.specs.{Truth.Once, Truth.none, Truth.first, Laws.Counted.line-same, Laws.Counted.line-other, Laws.Counted.equity-some}
-use Rattle.differences.specs.{Laws.Counted.equity-none, Laws.Counted.surplus-none, Laws.Counted.surplus-some, Laws.First.same-or}
+use Rattle.differences.specs.{Laws.Counted.equity-none, Laws.Counted.surplus-none, Laws.Counted.surplus-some, Laws.First.same-or, Laws.First.not-last}
 use mathlib.Core.List.{
   List,
   [],
@@ -70,11 +70,8 @@ module _ (a b : List ℕ) where
   tells-words (suc n) k h d = ⊎-elim
       (λ (e : k ≡ n). subst (λ (x : ℕ). List·Memᴰ (ofWord a b k) (wordLines a b n ++ wordLine a b x)) e
       (Memᴰ·append-right (wordLines a b n) (subst (List·Memᴰ (ofWord a b k)) (sym (line-other a b k d)) (List·Memᴰ·head refl))))
-      (λ (v : k ≡ n → ⊥). Memᴰ·append-left (wordLine a b n) (tells-words n k (down k n h v) d))
+      (λ (v : k ≡ n → ⊥). Memᴰ·append-left (wordLine a b n) (tells-words n k (not-last k n h v) d))
       (same-or k n)
-    where
-      down : (x y : ℕ) → x < suc y → (x ≡ y → ⊥) → x < y
-      down x y h v = omega arith
 
   one-once : (k : ℕ) → Once (wordLine a b k)
   one-once k = ⊎-elim

@@ -1,6 +1,6 @@
 -- Lines written one after another into a room. Assumes nothing.
-use Rattle.words.specs.Prelude.{ℕ, _+_, _*_, _≤_, _≡_, refl, sym, ap, subst, _∙_, List, [], _∷_, _++_, append-assoc, append-nil, add-zero, zero-add, arith, length}
-use Rattle.words.specs.Prelude.{take, drop, length-append, take-append-drop, take-at, drop-at, drop-drop, length-take-le}
+use Rattle.words.specs.Prelude.{ℕ, _+_, _*_, _≤_, _≡_, refl, sym, ap, subst, _∙_, List, [], _∷_, _++_, append-assoc, append-nil, add-zero, zero-add, arith}
+use Rattle.words.specs.Prelude.{length, take, drop, length-append, take-append-drop, take-at, drop-at, drop-drop, length-take-le}
 use Rattle.words.specs.{Words.overwrite, Laws.Overwrite.overwrite-fits, Laws.Overwrite.overwrite-length}
 use Rattle.differences.specs.{Lines.Line, Lines.wordsOf}
 
@@ -38,6 +38,10 @@ overwrite-on r xs ys at h =
   where
     sum : (x y z : ℕ) → x + (y + z) ≡ x + y + z
     sum x y z = omega arith
+
+pub no-lines : (ls : List Line) → length ls ≡ 0 → ls ≡ []
+no-lines [] e = refl
+no-lines (l ∷ ls) e = absurd (omega arith)
 
 -- no line changes nothing
 pub none-written : (r : List ℕ) (at : ℕ) → at ≤ length r → overwrite r at (wordsOf []) ≡ r
@@ -77,6 +81,32 @@ none-put c r ls e h = (
 pub one-put : (c : ℕ) (r after : List ℕ) (ls : List Line) {l : Line} → ls ≡ l ∷ [] → after ≡ overwrite r (5 * c) (wordsOf (l ∷ []))
     → (c + 1 ≡ c + length ls) × (after ≡ overwrite r (5 * c) (wordsOf ls))
 one-put c r after ls e w = (sym (ap (λ (x : List Line). c + length x) e), w ∙ sym (ap (λ (x : List Line). overwrite r (5 * c) (wordsOf x)) e))
+
+-- A TURN of a loop that writes: lines `done` stand from line f on in a room for m of them; `next` is written after them.
+module _ (r₀ r : List ℕ) (f c m : ℕ) (done next : List Line) (stand : (c ≡ f + length done) × (r ≡ overwrite r₀ (5 * f) (wordsOf done)))
+    (few : length done + length next ≤ m) (room : 5 * (f + m) ≤ length r₀) where
+  pub turn-fits : 5 * (c + length next) ≤ length r
+  turn-fits =
+      fits f c (length done) (length next) m (length r₀) (length r) (stand .0) few room (ap length (stand .1) ∙ overwrite-length r₀ (5 * f) (wordsOf done))
+    where
+      fits : (f c d n m l k : ℕ) → c ≡ f + d → d + n ≤ m → 5 * (f + m) ≤ l → k ≡ l → 5 * (c + n) ≤ k
+      fits f c d n m l k e h i j = omega arith
+
+  pub turn-stands : {c′ : ℕ} {r′ : List ℕ} (after : List Line) → after ≡ done ++ next
+      → (c′ ≡ c + length next) × (r′ ≡ overwrite r (5 * c) (wordsOf next)) → (c′ ≡ f + length after) × (r′ ≡ overwrite r₀ (5 * f) (wordsOf after))
+  turn-stands after e put = (
+    put .0 ∙ sum f c (length done) (length next) (stand .0) (ap length e ∙ length-append done next),
+    put .1 ∙ ap (λ (w : List ℕ). overwrite w (5 * c) (wordsOf next)) (stand .1)
+        ∙ ap (λ (n : ℕ). overwrite (overwrite r₀ (5 * f) (wordsOf done)) (5 * n) (wordsOf next)) (stand .0)
+        ∙ written-on r₀ f done next (fits f (length done) (length next) m (length r₀) few room)
+        ∙ ap (λ (ls : List Line). overwrite r₀ (5 * f) (wordsOf ls)) (sym e),
+  )
+    where
+      sum : (f c d n : ℕ) {a : ℕ} → c ≡ f + d → a ≡ d + n → c + n ≡ f + a
+      sum f c d n e g = omega arith
+
+      fits : (f d n m l : ℕ) → d + n ≤ m → 5 * (f + m) ≤ l → 5 * (f + d + n) ≤ l
+      fits f d n m l h i = omega arith
 
 -- FOUR PARTS, each written where the one before it ends, are written together.
 pub four-put : (r r1 r2 r3 r4 : List ℕ) (ks bs cs ds : List Line) (c d e : ℕ) → 5 * length (ks ++ bs ++ cs ++ ds) ≤ length r

@@ -6,13 +6,15 @@ use yshturpa::{Account, Engine, Refusal, Status, Stream};
 
 use super::asked::Accounts;
 use super::slots::of_stream;
-use crate::bars::{BarsFile, OnRefusal, Refusals};
+use crate::bars::{BarsFile, Input, OnRefusal, Refusals};
 use crate::problem::Problem;
+use crate::progress::Late;
 use crate::run::asked::Over;
 use crate::run::outcome::Outcome;
 use crate::run::{made, names_of, notes_of, source_and_settings};
 use crate::show::shown;
 use crate::source::Source;
+use crate::trials::asked::How;
 
 /// What became of the accounts, in their order.
 pub struct Streamed {
@@ -45,13 +47,13 @@ pub fn streamed(asked: &Accounts) -> Result<Streamed, Problem> {
     let alone: Vec<(Source, Vec<String>)> =
         overs.iter().map(|over| alone(over).map(|(names, source)| (source, names))).collect::<Result<_, _>>()?;
     let slots = of_stream(&alone)?;
-    let bars = BarsFile::open(&asked.bars, &slots)?;
+    let bars = BarsFile::open(Input::of(&asked.bars), &asked.how.form, &slots)?;
     let mut accounts = Vec::new();
     for (over, (source, own)) in overs.iter().zip(alone) {
         accounts.push(begun(over, source, own, &slots, &bars)?);
     }
     let mut four: [Account; 4] = std::array::from_fn(|n| accounts[n].account.clone());
-    let run = stepped(&bars, slots.len(), asked.how.on_refusal, &mut four)?;
+    let run = stepped(&bars, slots.len(), &asked.how, &mut four)?;
     let ended = accounts.into_iter().zip(four).map(|(begun, account)| begun.ended(account, &run));
     Ok(Streamed {
         bars_file: bars.name.clone(),
@@ -90,6 +92,7 @@ fn begun(over: &Over, source: Source, own: Vec<String>, slots: &[String], bars: 
         fees: 0.0,
         refusals: Refusals::default(),
         unread: columns.unread().into_iter().map(shown).collect(),
+        odd: Vec::new(),
         doubts: source.doubts.clone(),
         notes: notes_of(&source, &settings, bars),
     };
@@ -109,8 +112,8 @@ impl Begun {
         let equity: Vec<_> = engine.equity().collect();
         let closes = run.closes[..equity.len()].to_vec();
         let (trades, fees) = (engine.trades().collect(), engine.state().fees_paid());
-        let refusals = run.refusals.clone();
-        Ok(Ended { outcome: Outcome { metrics, trades, equity, closes, fees, refusals, ..self.outcome }, stopped })
+        let (refusals, odd) = (run.refusals.clone(), run.odd.clone());
+        Ok(Ended { outcome: Outcome { metrics, trades, equity, closes, fees, refusals, odd, ..self.outcome }, stopped })
     }
 }
 
@@ -120,13 +123,15 @@ struct Stepped {
     times: Vec<i64>,
     closes: Vec<f64>,
     refusals: Refusals,
+    /// What looked wrong in them.
+    odd: Vec<String>,
 }
 
-fn stepped(bars: &BarsFile, slots: usize, on_refusal: OnRefusal, four: &mut [Account; 4]) -> Result<Stepped, Problem> {
+fn stepped(bars: &BarsFile, slots: usize, how: &How, four: &mut [Account; 4]) -> Result<Stepped, Problem> {
     let mut stream = Stream::new(slots);
     let mut run = Stepped::default();
-    let mut lines = bars.lines();
-    bars.each(|part| {
+    let shown = Late::bytes(bars.length());
+    let read = bars.each(|part| {
         let (mut at, end) = (0, part.bars.len());
         four.iter_mut().for_each(|account| account.engine.make_room(end));
         while at < end {
@@ -138,9 +143,9 @@ fn stepped(bars: &BarsFile, slots: usize, on_refusal: OnRefusal, four: &mut [Acc
             let Some(refusal) = done.refused else { continue };
             let wrong = if refusal.number == 11 { bars.columns.not_finite(&part.bars.bar(at)) } else { None };
             let Some(wrong) = wrong else { return Err(Problem::refused(&bars.name, refusal)) };
-            let problem = bars.problem(&mut lines, part.bytes[at], wrong);
+            let problem = bars.problem(part.lines[at], wrong);
             let problem = Problem { refusal: Some(refusal), ..problem };
-            if on_refusal == OnRefusal::Stop {
+            if how.on_refusal == OnRefusal::Stop {
                 return Err(problem);
             }
             run.refusals.count += 1;
@@ -149,8 +154,12 @@ fn stepped(bars: &BarsFile, slots: usize, on_refusal: OnRefusal, four: &mut [Acc
             }
             at += 1;
         }
+        shown.reached(part.reached);
         Ok(true)
-    })?;
+    });
+    shown.ended();
+    read?;
+    run.odd = bars.doubts(how.strict)?;
     Ok(run)
 }
 

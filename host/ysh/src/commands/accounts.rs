@@ -37,6 +37,7 @@ fn said(streamed: &Streamed, answer: &mut Answer) {
         answer.notes(&ended.outcome.file, &ended.outcome.notes);
     }
     if let Some(first) = streamed.accounts.first() {
+        answer.doubts(&first.outcome.bars_file, &first.outcome.odd);
         answer.problems.extend(first.outcome.refusals.told.iter().take(20).cloned());
     }
     for (number, ended) in streamed.accounts.iter().enumerate() {

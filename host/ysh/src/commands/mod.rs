@@ -1,6 +1,7 @@
 //! One module a command: what was asked to what is written.
 
 pub mod accounts;
+pub mod blocked;
 pub mod compare;
 pub mod compile;
 pub mod completions;
@@ -10,6 +11,7 @@ pub mod holdup;
 pub mod manual;
 pub mod range;
 pub mod run;
+pub mod schema;
 pub mod short;
 pub mod show;
 pub mod trials;

@@ -14,7 +14,7 @@ pub fn answer(asked: &Range) -> Answer {
 
 fn answered(asked: &Range) -> Result<Answer, Problem> {
     let questions = questions(asked)?;
-    let series = Series::read(&asked.bars)?;
+    let series = Series::read(&asked.bars, &asked.form)?;
     let began = Instant::now();
     let found: Vec<Found> = questions.iter().map(|question| series.ask(*question)).collect::<Result<_, _>>()?;
     let took = began.elapsed();

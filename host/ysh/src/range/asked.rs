@@ -4,7 +4,8 @@ use std::path::PathBuf;
 
 use clap::Args;
 
-use crate::why::asked::{parse_place, Place};
+use crate::bars::Form;
+use crate::why::place::{parse_place, Place};
 
 const EXAMPLES: &str = "Examples:
   ysh range examples/bars/day.csv --from 100 --to 900
@@ -28,4 +29,6 @@ pub struct Range {
     /// Write the answer as JSON; numbers are exact
     #[arg(long)]
     pub json: bool,
+    #[command(flatten)]
+    pub form: Form,
 }

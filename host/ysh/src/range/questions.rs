@@ -7,7 +7,7 @@ use csv::ReaderBuilder;
 use super::asked::Range;
 use crate::files::name_of;
 use crate::problem::Problem;
-use crate::why::asked::{parse_place, Place};
+use crate::why::place::{parse_place, Place};
 
 /// A stretch: from its first bar to its last; an end that is left out is that of the bars.
 #[derive(Clone, Copy, Debug, Default, PartialEq, Eq)]

@@ -6,10 +6,11 @@ use yshturpa::layout::BLOCK_BARS;
 use yshturpa::{Closes, Error, Stretch};
 
 use super::questions::Question;
-use crate::bars::BarsFile;
+use crate::bars::{BarsFile, Form, Input};
 use crate::problem::Problem;
+use crate::progress::Late;
 use crate::show::Clock;
-use crate::why::asked::Place;
+use crate::why::place::{Place, Times};
 
 pub struct Series {
     pub name: String,
@@ -30,24 +31,24 @@ pub struct Found {
 }
 
 impl Series {
-    pub fn read(path: &Path) -> Result<Series, Problem> {
-        let bars = BarsFile::open(path, &[])?;
+    pub fn read(path: &Path, form: &Form) -> Result<Series, Problem> {
+        let bars = BarsFile::open(Input::of(path), form, &[])?;
         let (mut closes, mut times) = (Closes::new(), Vec::new());
-        let mut lines = bars.lines();
-        bars.each(|part| {
+        let shown = Late::bytes(bars.length());
+        let read = bars.each(|part| {
             for place in 0..part.bars.len() {
                 closes.append(part.bars.close(place)).map_err(|error| {
                     let wrong = bars.columns.not_finite(&part.bars.bar(place));
-                    let problem = match wrong {
-                        Some(wrong) => bars.problem(&mut lines, part.bytes[place], wrong),
-                        None => Problem::input(&bars.name, "", ""),
-                    };
-                    refused(problem, error)
+                    let problem = wrong.map(|wrong| bars.problem(part.lines[place], wrong));
+                    refused(problem.unwrap_or_else(|| Problem::input(&bars.name, "", "")), error)
                 })?;
                 times.push(part.bars.time(place));
             }
+            shown.reached(part.reached);
             Ok(true)
-        })?;
+        });
+        shown.ended();
+        read?;
         let rising = times.windows(2).all(|two| two[0] <= two[1]);
         Ok(Series { name: bars.name, closes, times, rising })
     }
@@ -69,8 +70,8 @@ impl Series {
 
     /// The high and the low of a stretch are the library's to say, and so is that there is none.
     pub fn ask(&self, question: Question) -> Result<Found, Problem> {
-        let first = question.from.map_or(0, |place| self.first(place));
-        let last = question.to.map_or(self.len().wrapping_sub(1), |place| self.last(place));
+        let first = question.from.map_or(Ok(0), |place| self.first(place))?;
+        let last = question.to.map_or(Ok(self.len().wrapping_sub(1)), |place| self.last(place))?;
         let stretch =
             self.closes.stretch(first, last).map_err(|error| refused(Problem::input(&self.name, "", ""), error))?;
         let (closes_read, blocks_read) = reads(first, last);
@@ -78,29 +79,36 @@ impl Series {
     }
 
     /// The bar that a stretch begins with: of a time the first bar that is not before it.
-    fn first(&self, place: Place) -> u64 {
-        self.bar(place).unwrap_or_else(|time| match self.rising {
+    fn first(&self, place: Place) -> Result<u64, Problem> {
+        Ok(self.bar(place)?.unwrap_or_else(|time| match self.rising {
             true => self.times.partition_point(|there| *there < time) as u64,
             false => self.times.iter().position(|there| *there >= time).unwrap_or(self.times.len()) as u64,
-        })
+        }))
     }
 
     /// The bar that it ends with: of a time the last bar that is not after it. Before all bars there is none: a number that no bar has.
-    fn last(&self, place: Place) -> u64 {
+    fn last(&self, place: Place) -> Result<u64, Problem> {
         let before = |end: usize| (end as u64).wrapping_sub(1);
-        self.bar(place).unwrap_or_else(|time| match self.rising {
+        Ok(self.bar(place)?.unwrap_or_else(|time| match self.rising {
             true => before(self.times.partition_point(|there| *there <= time)),
             false => before(self.times.iter().rposition(|there| *there <= time).map_or(0, |at| at + 1)),
-        })
+        }))
     }
 
-    /// A bar's number, or else a time.
-    fn bar(&self, place: Place) -> Result<u64, i64> {
-        match place {
+    /// A bar's number, or else a time as the file counts it.
+    fn bar(&self, place: Place) -> Result<Result<u64, i64>, Problem> {
+        let times = || {
+            let (first, last) = (self.times.iter().min(), self.times.iter().max());
+            Times::between(*first.unwrap_or(&0), *last.unwrap_or(&0))
+        };
+        let wrong = |problem| Problem { place: String::new(), ..problem };
+        Ok(match place {
             Place::Bar(number) => Ok(number),
             Place::Time(time) => Err(time),
             Place::Either(n) => u64::try_from(n).ok().filter(|n| *n < self.len()).ok_or(n),
-        }
+            Place::Moment(moment) => Err(times().unit(&self.name, &moment).map_err(wrong)?),
+            Place::OfDay(time) => Err(times().once(&self.name, time).map_err(wrong)?),
+        })
     }
 }
 

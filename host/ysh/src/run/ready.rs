@@ -3,7 +3,7 @@
 use yshturpa::{Engine, Settings};
 
 use super::asked::{Given, Over};
-use crate::bars::BarsFile;
+use crate::bars::{BarsFile, Input};
 use crate::cli::Reading;
 use crate::compile::{self, Choices, Rules};
 use crate::decompile::slot_names;
@@ -18,6 +18,8 @@ pub struct Ready {
     pub settings: Settings,
     pub bars: BarsFile,
     pub engine: Engine,
+    /// Whether bars that look wrong are an error.
+    pub strict: bool,
 }
 
 /// The cash at the start where none is given.
@@ -25,10 +27,26 @@ const CAPITAL: f64 = 10_000.0;
 
 impl Ready {
     pub fn of(over: &Over) -> Result<Ready, Problem> {
+        Ready::over(over, Input::of(&over.bars))
+    }
+
+    /// The same with bars that can be read more than once.
+    pub fn kept(over: &Over) -> Result<Ready, Problem> {
+        let input = Input::of(&over.bars);
+        let name = input.name.clone();
+        Ready::over(over, input.kept().map_err(|error| Problem::io(name, "kept", &error))?)
+    }
+
+    fn over(over: &Over, input: Input) -> Result<Ready, Problem> {
         let (source, settings) = source_and_settings(over, None)?;
-        let bars = BarsFile::open(&over.bars, &names_of(&source))?;
+        let bars = BarsFile::open(input, &over.form, &names_of(&source))?;
         let engine = made(&source, &settings)?;
-        Ok(Ready { source, settings, bars, engine })
+        Ok(Ready { source, settings, bars, engine, strict: over.strict })
+    }
+
+    /// What looked wrong in the bars that were read; an error where reading is strict.
+    pub fn odd(&self) -> Result<Vec<String>, Problem> {
+        self.bars.doubts(self.strict)
     }
 
     /// What is to be said beside the answer.

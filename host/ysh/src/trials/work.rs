@@ -7,7 +7,7 @@ use rayon::ThreadPoolBuilder;
 
 use super::asked::{How, Part, Trials};
 use super::document::{Document, Parts};
-use super::inputs::{named, twice, Inputs, Named};
+use super::inputs::{named, unfit, Inputs, Named};
 use super::journal::Journal;
 use super::row::{Came, Figures, Row};
 use crate::bars::Way;
@@ -30,12 +30,12 @@ pub struct Work {
 impl Work {
     pub fn of(asked: &Trials) -> Result<Work, Problem> {
         let Found { files, left_out } = files(&asked.files, asked.recursive)?;
-        if let Some(problem) = twice(&files).or_else(|| twice(&asked.bars)) {
+        if let Some(problem) = unfit(&files).or_else(|| unfit(&asked.bars)) {
             return Err(problem);
         }
         let (strategies, bars) = (named(files), named(asked.bars.iter().cloned()));
         let inputs = Inputs::of(&strategies, &bars, &asked.how);
-        Ok(Work { strategies, bars, how: asked.how, inputs, left_out })
+        Ok(Work { strategies, bars, how: asked.how.clone(), inputs, left_out })
     }
 
     /// The files that are read.

@@ -5,8 +5,8 @@ use Rattle.differences.proofs.{compare.compare_whole.Statement.statemen
 use Rattle.differences.proofs.compare.compare_whole.Tie as tie
 
 -- what both lists have, each has
-both-have : (n x y : ℕ) → n ≡ min x y → (n ≤ x) × (n ≤ y)
-both-have n x y e = (omega arith, omega arith)
+both-trades : (n x y : ℕ) → n ≡ min (x / 10) (y / 10) → (10 * n ≤ x) × (10 * n ≤ y)
+both-trades n x y e = (omega arith, omega arith)
 
 both-points : (n x y : ℕ) → n ≡ min (x / 2) (y / 2) → (2 * n ≤ x) × (2 * n ≤ y)
 both-points n x y e = (omega arith, omega arith)
@@ -15,7 +15,7 @@ first-point-requires : tie.Need-first-point-requires
 first-point-requires c κs = both-points _ _ _ (c .before .least .ensures)
 
 count-requires : tie.Need-count-requires
-count-requires c κs = both-have _ _ _ (c .before .before .least2 .ensures)
+count-requires c κs = both-trades _ _ _ (c .before .before .least2 .ensures)
 
 small : (x r : ℕ) → 5 * x ≤ r → r < 2 ^ 64 → x < 2 ^ 64
 small x r h l = omega arith
@@ -57,7 +57,7 @@ put-all-requires c κs =
     let n = k .before in
     let start = n .before .before .before .before .before .before .before .args in
     let p = both-points _ _ _ (n .before .least .ensures) in
-    let q = both-have _ _ _ (n .least2 .ensures) in (
+    let q = both-trades _ _ _ (n .least2 .ensures) in (
       p .0,
       p .1,
       q .0,
@@ -96,5 +96,5 @@ returns-3 c =
 
 pub compare-whole-spec : {M : Type 1} → statement M
 compare-whole-spec =
-    tie.close (tie.spec (λ c κs. search needs) (λ c κs. search needs) first-point-requires (λ c κs. search needs) count-requires
+    tie.close (tie.spec (λ c κs. search needs) (λ c κs. search needs) first-point-requires (λ c κs. search needs) (λ c. search needs) count-requires
     (λ c κs. search needs) add-many returns put-all-requires (λ c. search needs) returns-2 (λ c κs. search needs) returns-3)

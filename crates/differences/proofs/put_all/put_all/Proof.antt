@@ -1,8 +1,8 @@
 -- Four parts, each written where the one before it ends (`four-put`).
 use Rattle.words.specs.Prelude.{_≡_, ap, _∙_, List, _++_, ℕ, _+_, _*_, _≤_, arith, needs, length, length-append}
 use Rattle.words.specs.{Words.overwrite, Laws.Overwrite.overwrite-length}
-use Rattle.differences.specs.{Lines.Line, Lines.points, Lines.trades, Lines.equityLine, Lines.wordLines, Lines.surplus, Lines.differencesFrom, Lines.wordsOf}
-use Rattle.differences.specs.{Laws.Written.four-put}
+use Rattle.differences.specs.{Lines.Line, Lines.points, Lines.trades, Lines.equityLine, Lines.wordLines, Lines.surplus, Lines.differencesFrom}
+use Rattle.differences.specs.{Lines.wordsOf, Laws.Written.four-put}
 use Rattle.differences.proofs.{put_all.put_all.Statement.statement}
 use Rattle.differences.proofs.put_all.put_all.Tie as tie
 
@@ -65,8 +65,8 @@ put-equity-requires c κs =
     let pre = start .pre in
     (pre .0, pre .1, fits-one _ _ _ _ _ _ _ (start .args .lines .now) (pre .4))
 
-put-words-requires : tie.Need-put-words-requires
-put-words-requires c κs =
+put-trades-requires : tie.Need-put-trades-requires
+put-trades-requires c κs =
     let one = c .before .before .before in
     let pre = one .before .before .before .before .before .before .before .pre in
     (pre .2, pre .3, fits-two _ _ _ _ _ _ _ _ (pre .4) _ _ (one .put-equity .ensures))
@@ -76,7 +76,7 @@ put-surplus-requires c κs =
     let two = c .before .before .before in
     let one = two .before .before .before .before in
     let pre = one .before .before .before .before .before .before .before .pre in
-    fits-three _ _ _ _ _ _ _ _ (pre .4) _ _ (one .put-equity .ensures) _ _ (two .put-words .ensures)
+    fits-three _ _ _ _ _ _ _ _ (pre .4) _ _ (one .put-equity .ensures) _ _ (two .put-trades .ensures)
 
 put-surplus-requires-2 : tie.Need-put-surplus-requires-2
 put-surplus-requires-2 c κs =
@@ -84,7 +84,7 @@ put-surplus-requires-2 c κs =
     let two = three .before .before .before .before in
     let one = two .before .before .before .before in
     let pre = one .before .before .before .before .before .before .before .pre in
-    fits-four _ _ _ _ _ _ _ _ (pre .4) _ _ (one .put-equity .ensures) _ _ (two .put-words .ensures) _ _ (three .put-surplus .ensures)
+    fits-four _ _ _ _ _ _ _ _ (pre .4) _ _ (one .put-equity .ensures) _ _ (two .put-trades .ensures) _ _ (three .put-surplus .ensures)
 
 returns : tie.Need-returns
 returns c =
@@ -93,9 +93,9 @@ returns c =
     let two = three .before .before .before .before in
     let one = two .before .before .before .before in
     let pre = one .before .before .before .before .before .before .before .pre in
-    together _ _ _ _ _ _ _ _ (pre .4) _ _ (one .put-equity .ensures) _ _ (two .put-words .ensures) _ _ (three .put-surplus .ensures)
+    together _ _ _ _ _ _ _ _ (pre .4) _ _ (one .put-equity .ensures) _ _ (two .put-trades .ensures) _ _ (three .put-surplus .ensures)
     _ (last .put-surplus2 .ensures .1)
 
 pub put-all-spec : {M : Type 1} → statement M
 put-all-spec =
-    tie.close (tie.spec put-equity-requires put-words-requires put-surplus-requires put-surplus-requires-2 (λ c. search needs) returns)
+    tie.close (tie.spec put-equity-requires put-trades-requires put-surplus-requires put-surplus-requires-2 (λ c. search needs) returns)
