@@ -74,7 +74,8 @@ enum {
     YSH_REFUSED_RECORDS = 13,   /* Place 0. Any of these:
                                  * - the bar is not exactly 10 + K words: two bars at once, the three words of funding left out, or
                                  *   another K than the settings';
-                                 * - rows for ysh_rule, ysh_why or ysh_run that are not whole rows of 7 + K words;
+                                 * - rows for ysh_rule, ysh_why, ysh_why_over or ysh_run that are not whole rows of 7 + K words; positions for ysh_why_over that
+                                 *   are not whole, or are more than the rows;
                                  * - equity points or trades for ysh_metrics or ysh_compare, or trades for ysh_totals, that are not whole records;
                                  * - totals with a count above 4,294,967,295, or with more wins and losses than trades: words that no call
                                  *   wrote; other totals that are not exactly 43 words;
@@ -134,6 +135,8 @@ enum {
 #define YSH_BLOCKS_WORDS(bars) (4 * (((bars) + 63) / 64))   /* the blocks of so many closes */
 #define YSH_DIFFERENCE_WORDS 5                    /* of a line that tells of a difference: sort, number, word, the first run's, the second's */
 #define YSH_DIFFERENCES_WORDS(trades) (5 * (10 * (trades) + 3))   /* always enough, for the trades of the shorter list */
+#define YSH_POSITION_WORDS 4                      /* for ysh_why_over: qty, entered, entry_bar, bars_seen, as ysh_why takes them */
+#define YSH_PLACE_WORDS 256                       /* the lines of a row that ysh_why_over is asked for: YSH_MOST_LINES of YSH_LINE_WORDS */
 #define YSH_STREAM_WORDS 2                        /* slots, bars taken */
 #define YSH_STATUS_WORDS 3                        /* number, place, bar of the stream */
 #define YSH_STEP_BYTES(nodes) (64 * (nodes))      /* room for the steps of a tree of so many nodes, in bytes */
@@ -162,7 +165,8 @@ enum {
     YSH_ROOM_DUMP = 14,
     YSH_ROOM_DIFFERENCES = 15,
     YSH_ROOM_STREAM = 16, YSH_ROOM_STATUS = 17,
-    YSH_ROOM_SILENT = 18
+    YSH_ROOM_SILENT = 18,
+    YSH_ROOM_COUNTS = 19
 };
 
 /* ---- the trees of a table, by number */
@@ -486,6 +490,15 @@ enum {
 uint64_t ysh_why(const uint8_t *table, size_t table_len, uint64_t tree, const uint64_t *rows, size_t rows_len,
                  uint64_t qty, uint64_t entered, uint64_t entry_bar, uint64_t bars_seen,
                  uint64_t *lines, size_t lines_len, uint64_t *count);
+
+/* ysh_why for each of the newest rows, as many as there are positions (YSH_POSITION_WORDS words each), oldest first, with one check of the table. Row i of
+ * them is asked as if it were the newest: over all rows up to it, with position i. Done: its lines stand from word YSH_PLACE_WORDS * i on, and counts[i]
+ * says how many they are; what stands past them in its place is not touched, nor what stands past the places and the counts. It is proved to be a call of
+ * ysh_why for each row. A year of rows is asked part by part: rows up to the last row of the part, and the positions of the part. Refusals 1 to 9, then 10
+ * (room 10: fewer than YSH_PLACE_WORDS words a row; room 19: fewer counts than rows), then 13, also where there are more positions than rows. */
+uint64_t ysh_why_over(const uint8_t *table, size_t table_len, uint64_t tree, const uint64_t *rows, size_t rows_len,
+                      const uint64_t *positions, size_t positions_len, uint64_t *lines, size_t lines_len,
+                      uint64_t *counts, size_t counts_len);
 
 /* Runs a list of steps over all the rows handed over; no step of it looks back `depth` bars or more. Done: 1 yes or 0 no, and
  * how many steps were visited. Refusals 12 for slots (at 0) or depth (at 1), then 13, then 15 at the lowest bad step. */

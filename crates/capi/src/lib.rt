@@ -14,3 +14,4 @@ pub mod stretch;
 pub mod tables;
 pub mod version;
 pub mod why;
+pub mod why_over;

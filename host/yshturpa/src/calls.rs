@@ -1,6 +1,7 @@
 //! The C interface as include/yshturpa.h declares it, and each call once over slices: all the `unsafe` there is.
 #![allow(unsafe_code)]
 
+use crate::layout::POSITION_WORDS;
 use crate::Refusal;
 
 #[rustfmt::skip]
@@ -49,6 +50,10 @@ mod raw {
         pub fn ysh_why(
             table: *const u8, table_len: usize, tree: u64, rows: *const u64, rows_len: usize,
             qty: u64, entered: u64, entry_bar: u64, bars_seen: u64, lines: *mut u64, lines_len: usize, count: *mut u64,
+        ) -> u64;
+        pub fn ysh_why_over(
+            table: *const u8, table_len: usize, tree: u64, rows: *const u64, rows_len: usize, positions: *const u64, positions_len: usize,
+            lines: *mut u64, lines_len: usize, counts: *mut u64, counts_len: usize,
         ) -> u64;
         pub fn ysh_run(
             steps: *const u8, steps_len: usize, rows: *const u64, rows_len: usize, slots: u64, depth: u64,
@@ -323,7 +328,7 @@ pub fn finish(settings: &[u64], rooms: Rooms, metrics: &mut [u64]) -> Answer<()>
 }
 
 /// A position as its four words: quantity, whether there is an entry bar, its number, bars seen.
-pub type PositionWords = [u64; 4];
+pub type PositionWords = [u64; POSITION_WORDS];
 
 pub fn rule(table: &[u8], tree: u64, rows: &[u64], position: PositionWords) -> Answer<u64> {
     let [qty, entered, entry_bar, bars_seen] = position;
@@ -365,6 +370,31 @@ pub fn why(table: &[u8], tree: u64, rows: &[u64], position: PositionWords, lines
         )
     })?;
     Ok(count)
+}
+
+pub fn why_over(
+    table: &[u8],
+    tree: u64,
+    rows: &[u64],
+    positions: &[u64],
+    lines: &mut [u64],
+    counts: &mut [u64],
+) -> Answer<()> {
+    Refusal::of(unsafe {
+        raw::ysh_why_over(
+            table.as_ptr(),
+            table.len(),
+            tree,
+            rows.as_ptr(),
+            rows.len(),
+            positions.as_ptr(),
+            positions.len(),
+            lines.as_mut_ptr(),
+            lines.len(),
+            counts.as_mut_ptr(),
+            counts.len(),
+        )
+    })
 }
 
 pub fn run(steps: &[u8], rows: &[u64], slots: u64, depth: u64, position: PositionWords) -> Answer<(u64, u64)> {
