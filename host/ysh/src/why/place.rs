@@ -61,12 +61,12 @@ pub fn find(place: Place, bars: &BarsFile) -> Result<Found, Problem> {
         }
         Place::Moment(moment) => {
             let times = Times::of(bars)?;
-            let time = times.unit(bars, &moment)?;
+            let time = times.unit(&bars.name, &moment)?;
             times.at_or_before(bars, time)
         }
         Place::OfDay(time) => {
             let times = Times::of(bars)?;
-            let time = times.once(bars, time)?;
+            let time = times.once(&bars.name, time)?;
             times.at_or_before(bars, time)
         }
     }
@@ -120,14 +120,14 @@ impl Bound {
                 Ok(number) if number < bars.times(|_, _| ())? => Bound::Bar(number),
                 _ => Bound::Time(n),
             },
-            Place::Moment(moment) => Bound::Time(Times::of(bars)?.unit(bars, &moment)?),
-            Place::OfDay(time) => Bound::Time(Times::of(bars)?.once(bars, time)?),
+            Place::Moment(moment) => Bound::Time(Times::of(bars)?.unit(&bars.name, &moment)?),
+            Place::OfDay(time) => Bound::Time(Times::of(bars)?.once(&bars.name, time)?),
         })
     }
 }
 
-fn problem(bars: &BarsFile, text: String) -> Problem {
-    Problem::input(&bars.name, "--at", text)
+fn problem(name: &str, text: String) -> Problem {
+    Problem::input(name, "--at", text)
 }
 
 /// The bars with exactly this time.
@@ -139,7 +139,10 @@ fn exactly(bars: &BarsFile, time: i64, count: u64) -> Result<Found, Problem> {
         }
     })?;
     match places.is_empty() {
-        true => Err(problem(bars, format!("no bar has the time {time}, and it has not so many bars either ({count})"))),
+        true => Err(problem(
+            &bars.name,
+            format!("no bar has the time {time}, and it has not so many bars either ({count})"),
+        )),
         false => Ok(shown(places, &time.to_string(), None)),
     }
 }
@@ -158,7 +161,7 @@ fn shown(places: Vec<u64>, time: &str, before: Option<String>) -> Found {
 }
 
 /// The first and the last time of a file, and how they are told.
-struct Times {
+pub struct Times {
     first: i64,
     last: i64,
     clock: Clock,
@@ -172,18 +175,22 @@ impl Times {
             ends = Some((first.min(time), last.max(time)));
         })?;
         let Some((first, last)) = ends else {
-            return Err(problem(bars, "it has no bars".to_owned()));
+            return Err(problem(&bars.name, "it has no bars".to_owned()));
         };
-        Ok(Times { first, last, clock: Clock::of(first, last) })
+        Ok(Times::between(first, last))
+    }
+
+    pub fn between(first: i64, last: i64) -> Times {
+        Times { first, last, clock: Clock::of(first, last) }
     }
 
     /// A date and time as the file counts time.
-    fn unit(&self, bars: &BarsFile, moment: &DateTime<Utc>) -> Result<i64, Problem> {
+    pub fn unit(&self, name: &str, moment: &DateTime<Utc>) -> Result<i64, Problem> {
         match self.clock {
             Clock::Seconds => Ok(moment.timestamp()),
             Clock::Milliseconds => Ok(moment.timestamp_millis()),
             Clock::Number => Err(problem(
-                bars,
+                name,
                 format!(
                     "its times, {} to {}, are no seconds and no milliseconds since 1970 of the years 1990 to 2100; a bar's number or time was \
                      expected, such as bar:900 or time:{}",
@@ -194,15 +201,15 @@ impl Times {
     }
 
     /// The one moment with a time of day in the file's stretch; on the day of the bars where all are of one.
-    fn once(&self, bars: &BarsFile, time: NaiveTime) -> Result<i64, Problem> {
+    pub fn once(&self, name: &str, time: NaiveTime) -> Result<i64, Problem> {
         let day_of = |time: i64| self.clock.date(time).map(|date| date.naive_utc().date());
         let (Some(mut day), Some(last)) = (day_of(self.first), day_of(self.last)) else {
-            return self.unit(bars, &DateTime::<Utc>::MIN_UTC);
+            return self.unit(name, &DateTime::<Utc>::MIN_UTC);
         };
         let mut within = Vec::new();
         let alone = day == last;
         while day <= last && within.len() < 2 {
-            let moment = self.unit(bars, &DateTime::from_utc(day.and_time(time), Utc))?;
+            let moment = self.unit(name, &DateTime::from_utc(day.and_time(time), Utc))?;
             if alone || (self.first..=self.last).contains(&moment) {
                 within.push(moment);
             }
@@ -211,9 +218,9 @@ impl Times {
         let stretch = format!("{} to {}", self.clock.text(self.first), self.clock.text(self.last));
         match within[..] {
             [moment] => Ok(moment),
-            [] => Err(problem(bars, format!("the bars, {stretch}, have no {time}"))),
+            [] => Err(problem(name, format!("the bars, {stretch}, have no {time}"))),
             _ => Err(problem(
-                bars,
+                name,
                 format!("the bars, {stretch}, have {time} more than once; a date was expected with it, such as \"{} {time}\"", last),
             )),
         }
@@ -233,7 +240,7 @@ impl Times {
         })?;
         let Some(best) = best else {
             let (wanted, first) = (self.clock.text(wanted), self.clock.text(self.first));
-            return Err(problem(bars, format!("no bar is at {wanted} or before it; the first is at {first}")));
+            return Err(problem(&bars.name, format!("no bar is at {wanted} or before it; the first is at {first}")));
         };
         let before = (best != wanted).then(|| {
             format!("no bar is at {}; the last before it is at {}", self.clock.text(wanted), self.clock.text(best))

@@ -1,8 +1,8 @@
 -- The first word.
 use Rattle.words.specs.Prelude.{needs}
-use Rattle.capi.specs.{Accounts.isStopped}
-use Rattle.capi.proofs.{four.is_stopped.Statement.statement}
-use Rattle.capi.proofs.four.is_stopped.Tie as tie
+use Rattle.accounts.specs.{Status.isStopped}
+use Rattle.accounts.proofs.{status.is_stopped.Statement.statement}
+use Rattle.accounts.proofs.status.is_stopped.Tie as tie
 
 returns : tie.Need-returns
 unfolding isStopped

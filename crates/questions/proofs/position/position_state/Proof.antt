@@ -1,8 +1,8 @@
 -- Each field is read from its own word.
 use Rattle.words.specs.Prelude.{needs}
-use Rattle.capi.specs.{Run.positionState}
-use Rattle.capi.proofs.{run.position_state.Statement.statement}
-use Rattle.capi.proofs.run.position_state.Tie as tie
+use Rattle.questions.specs.{Position.positionState}
+use Rattle.questions.proofs.{position.position_state.Statement.statement}
+use Rattle.questions.proofs.position.position_state.Tie as tie
 
 returns : tie.Need-returns
 unfolding positionState

@@ -1,8 +1,8 @@
 -- Three words.
 use Rattle.words.specs.Prelude.{needs}
-use Rattle.capi.specs.{Accounts.stoppedWith}
-use Rattle.capi.proofs.{four.stop.Statement.statement}
-use Rattle.capi.proofs.four.stop.Tie as tie
+use Rattle.accounts.specs.{Status.stoppedWith}
+use Rattle.accounts.proofs.{status.stop.Statement.statement}
+use Rattle.accounts.proofs.status.stop.Tie as tie
 
 returns : tie.Need-returns
 unfolding stoppedWith
