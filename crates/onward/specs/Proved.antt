@@ -1,23 +1,22 @@
 -- Accounts over a loss of supply, proved: on the stream an account is `ysh_step` over its own bars (`as-if-alone`), of which the capacitor theorem speaks.
 use Rattle.words.specs.Prelude.{ℕ, _+_, _/_, _%_, _^_, _≤_, _≡_, refl, sym, ap, subst, _∙_, Bool, true, false, cond, List, [], _∷_, _++_, append-nil, arith, eqb}
-use Rattle.words.specs.Prelude.{eq-eqb, ne-eqb, eqb-true, eqb-false, length, length-append, take}
-use Rattle.words.specs.{Limits.barWords, Limits.mostCount, Words.word}
-use Rattle.portfolio.specs.{Trade.wordsOfTrade}
+use Rattle.words.specs.Prelude.{eq-eqb, eqb-true, eqb-false, length, length-append, take}
+use Rattle.words.specs.{Limits.mostCount, Words.word}
 use Rattle.records.specs.{Lent.Lists, Lent.pointPlaces, Lent.tradePlaces, Settings.settingsOf, StateWords.stateOf}
 use Rattle.refusals.specs.{declared.verdict.Verdict.Verdict, declared.verdict.Verdict.the-variants.Fine, declared.verdict.Verdict.the-variants.Bad, Lines.judged}
 use Rattle.refusals.specs.{Laws.Lines.never, Lines.firstBad}
-use Rattle.engine.specs.{Day.cut, Whole.accountOf, Whole.meantRun}
+use Rattle.engine.specs.{Whole.accountOf}
 use Rattle.restart.specs.{Laws.Reached64.Bars64}
 use Rattle.accounts.specs.{Profile.profileJudged, Status.statusWords, Status.stoppedWith}
-use Rattle.capi.specs.{Accounts.AccountGiven, Accounts.AccountLent, Accounts.AccountsLent, Accounts.Four, Accounts.alone, Accounts.ownBars, Accounts.ownLists}
+use Rattle.capi.specs.{Accounts.AccountGiven, Accounts.AccountLent, Accounts.AccountsLent, Accounts.Four, Accounts.alone, Accounts.ownLists}
 use Rattle.capi.specs.{Accounts.accountsLines, Accounts.accountsCall, Accounts.statusAfter, AsIfAlone.Which, AsIfAlone.first, AsIfAlone.second, AsIfAlone.third}
 use Rattle.capi.specs.{AsIfAlone.fourth, AsIfAlone.givenTo, AsIfAlone.lentTo, AsIfAlone.Rode, AsIfAlone.roomsJudged, AsIfAlone.taken, AsIfAlone.as-if-alone}
 use Rattle.capi.specs.{Bars.StepLent, Call.Call, Fresh.freshCall, WordRun.WordRun, WordRun.callsOver}
 use Rattle.capacitor.specs.{Begun.Begun, Capacitor.Capacitor, Capacitor.now, Loss.Loss, Loss.Restored, Loss.lastBox, Loss.barsBefore, Loss.pointsIn, Loss.tradesIn}
 use Rattle.capacitor.specs.{Loss.pointsBefore, Loss.tradesBefore, Laws.FromCalls.begun-lengths, Proved.capacitor}
-use Rattle.beside.specs.{Appended.moreCalls, Appended.calls-behind, Honest.callJudged, Honest.accounts-honest, NeverEleven.statuses, NeverEleven.stopped-number}
+use Rattle.beside.specs.{Appended.moreCalls, Appended.calls-behind, Honest.accounts-honest, NeverEleven.statuses, NeverEleven.stopped-number}
 use Rattle.beside.specs.{Parts.doneBefore, Parts.call-behind, Parts.rooms-stay, Parts.slots-stay}
-use Rattle.onward.specs.{GoesOn.boxOf, GoesOn.took, GoesOn.sofar, GoesOn.unbroken, GoesOn.onward, GoesOn.Kept, GoesOn.own, GoesOn.ownAll, GoesOn.Lost}
+use Rattle.onward.specs.{GoesOn.boxOf, GoesOn.took, GoesOn.sofar, GoesOn.unbroken, GoesOn.onward, GoesOn.Kept, GoesOn.Lost}
 use Rattle.onward.specs.{GoesOn.AsUnbroken, GoesOn.GoesOn}
 use lib.Seq.{take-append-add}
 
