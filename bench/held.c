@@ -41,6 +41,28 @@ FIGURE(day_small) { step_many(&the, bars, DAY); }
 FIGURE(day_large) { step_many(&the, bars, DAY); }
 FIGURE(day_deep) { step_many(&the, bars, DAY); }
 
+static uint64_t paused[YSH_STATE_WORDS];
+
+/* A bar at which an entry is due: its size is asked of the volatility of 13 closes, so a root is taken. */
+FIGURE(entry_volatility)
+{
+    for (uint64_t i = 0; i < CALLS; i++) {
+        memcpy(the.state, paused, sizeof paused);
+        step(&the, bar_of(i));
+    }
+}
+
+static void measure_entry(void)
+{
+    begin(&the, small_table, sizeof small_table, 14);
+    the.settings[YSH_SIZING_KIND] = YSH_SIZE_VOLATILITY, the.settings[YSH_LOOKBACK] = 13;
+    the.settings[YSH_GIVEN] = 0;
+    memcpy(paused, the.state, sizeof paused);
+    paused[YSH_QTY] = 0, paused[YSH_ENTERED] = 0, paused[YSH_ORDER] = YSH_ORDER_LONG;
+    MEASURE(entry_volatility, CALLS);
+    must(the.state[YSH_ENTERED] != 1);
+}
+
 static void measure_bars(void)
 {
     write_tables(2, 14);
@@ -48,6 +70,7 @@ static void measure_bars(void)
     begin(&the, small_table, sizeof small_table, 14);
     MEASURE(step_small, CALLS);
     MEASURE(day_small, DAY);
+    measure_entry();
     begin(&the, large_table, sizeof large_table, 14);
     MEASURE(step_large, CALLS);
     MEASURE(day_large, DAY);

@@ -4,7 +4,8 @@ import sys
 
 HERE = os.path.dirname(os.path.abspath(__file__))
 TABLE = os.path.join(HERE, "held.txt")
-MOST = 1.03
+# More than this, of what it was, fails; less than that is worth a new table.
+MOST, LESS = 1.03, 0.97
 
 
 def pairs(path):
@@ -33,7 +34,8 @@ def main():
         ratio = now / before if before else 0.0
         more = ratio > MOST and write == "0"
         above += more
-        print("%-22s %10.1f instructions a %-6s %10.1f before%s" % (name, now, unit, before, ": MORE, %.3f" % ratio if more else ""))
+        said = ": MORE, %.3f" % ratio if more else ": less, %.3f" % ratio if 0 < ratio < LESS else ""
+        print("%-22s %10.1f instructions a %-6s %10.1f before%s" % (name, now, unit, before, said))
         cells[column] = "%.1f" % now
     if write == "1":
         cell = "%-22s %-7s" + " %11s" * len(processors)

@@ -1,9 +1,10 @@
 /* Yshturpa: a trading-rule engine whose answers, and the depth of bar history they need, are proved.
  *
  * Words in, words out. All words are 64 bits: a float's word is its IEEE 754 binary64 bit pattern, a time's its two's
- * complement. A float that a call works out and that is a NaN is written as 0x7ff8000000000000. Link libcapi.a.
+ * complement. A float that a call works out and that is a NaN is written as 0x7ff8000000000000. Link libyshturpa.a
+ * (`pkg-config --cflags --libs yshturpa`), which is called libcapi.a where the repository builds it.
  *
- * Every call but ysh_root and ysh_dump_bytes answers one word: 0 where it did its work, else a refusal: the refusal's number times
+ * Every call but ysh_root, ysh_dump_bytes and ysh_version answers one word: 0 where it did its work, else a refusal: the refusal's number times
  * 2^32 plus its place (YSH_NUMBER, YSH_PLACE; what each number means stands below). A refused call changes nothing that was lent to it;
  * ysh_steps and ysh_accounts, which take many bars, leave those done that came before the refused one.
  *
@@ -28,6 +29,10 @@
 #ifdef __cplusplus
 extern "C" {
 #endif
+
+/* The version, as one number: major * 1,000,000 + minor * 1,000 + patch. A later version has a larger number; docs/STABILITY.md says what it may
+ * add. ysh_version answers that of the library that is linked. */
+#define YSH_VERSION 1000000 /* 1.0.0 */
 
 #define YSH_NUMBER(answer) ((uint32_t)((answer) >> 32))
 #define YSH_PLACE(answer) ((uint32_t)(answer))
@@ -69,7 +74,8 @@ enum {
     YSH_REFUSED_RECORDS = 13,   /* Place 0. Any of these:
                                  * - the bar is not exactly 10 + K words: two bars at once, the three words of funding left out, or
                                  *   another K than the settings';
-                                 * - rows for ysh_rule, ysh_why or ysh_run that are not whole rows of 7 + K words;
+                                 * - rows for ysh_rule, ysh_why, ysh_why_over or ysh_run that are not whole rows of 7 + K words; positions for ysh_why_over that
+                                 *   are not whole, or are more than the rows;
                                  * - equity points or trades for ysh_metrics or ysh_compare, or trades for ysh_totals, that are not whole records;
                                  * - totals with a count above 4,294,967,295, or with more wins and losses than trades: words that no call
                                  *   wrote; other totals that are not exactly 43 words;
@@ -129,6 +135,8 @@ enum {
 #define YSH_BLOCKS_WORDS(bars) (4 * (((bars) + 63) / 64))   /* the blocks of so many closes */
 #define YSH_DIFFERENCE_WORDS 5                    /* of a line that tells of a difference: sort, number, word, the first run's, the second's */
 #define YSH_DIFFERENCES_WORDS(trades) (5 * (10 * (trades) + 3))   /* always enough, for the trades of the shorter list */
+#define YSH_POSITION_WORDS 4                      /* for ysh_why_over: qty, entered, entry_bar, bars_seen, as ysh_why takes them */
+#define YSH_PLACE_WORDS 256                       /* the lines of a row that ysh_why_over is asked for: YSH_MOST_LINES of YSH_LINE_WORDS */
 #define YSH_STREAM_WORDS 2                        /* slots, bars taken */
 #define YSH_STATUS_WORDS 3                        /* number, place, bar of the stream */
 #define YSH_STEP_BYTES(nodes) (64 * (nodes))      /* room for the steps of a tree of so many nodes, in bytes */
@@ -157,7 +165,8 @@ enum {
     YSH_ROOM_DUMP = 14,
     YSH_ROOM_DIFFERENCES = 15,
     YSH_ROOM_STREAM = 16, YSH_ROOM_STATUS = 17,
-    YSH_ROOM_SILENT = 18
+    YSH_ROOM_SILENT = 18,
+    YSH_ROOM_COUNTS = 19
 };
 
 /* ---- the trees of a table, by number */
@@ -482,6 +491,15 @@ uint64_t ysh_why(const uint8_t *table, size_t table_len, uint64_t tree, const ui
                  uint64_t qty, uint64_t entered, uint64_t entry_bar, uint64_t bars_seen,
                  uint64_t *lines, size_t lines_len, uint64_t *count);
 
+/* ysh_why for each of the newest rows, as many as there are positions (YSH_POSITION_WORDS words each), oldest first, with one check of the table. Row i of
+ * them is asked as if it were the newest: over all rows up to it, with position i. Done: its lines stand from word YSH_PLACE_WORDS * i on, and counts[i]
+ * says how many they are; what stands past them in its place is not touched, nor what stands past the places and the counts. It is proved to be a call of
+ * ysh_why for each row. A year of rows is asked part by part: rows up to the last row of the part, and the positions of the part. Refusals 1 to 9, then 10
+ * (room 10: fewer than YSH_PLACE_WORDS words a row; room 19: fewer counts than rows), then 13, also where there are more positions than rows. */
+uint64_t ysh_why_over(const uint8_t *table, size_t table_len, uint64_t tree, const uint64_t *rows, size_t rows_len,
+                      const uint64_t *positions, size_t positions_len, uint64_t *lines, size_t lines_len,
+                      uint64_t *counts, size_t counts_len);
+
 /* Runs a list of steps over all the rows handed over; no step of it looks back `depth` bars or more. Done: 1 yes or 0 no, and
  * how many steps were visited. Refusals 12 for slots (at 0) or depth (at 1), then 13, then 15 at the lowest bad step. */
 uint64_t ysh_run(const uint8_t *steps, size_t steps_len, const uint64_t *rows, size_t rows_len,
@@ -538,6 +556,9 @@ uint64_t ysh_stretch(uint64_t held, uint64_t first, uint64_t last, const uint64_
 
 /* The square root of a float's word, correctly rounded. */
 uint64_t ysh_root(uint64_t word);
+
+/* The version of the library, as YSH_VERSION has the header's. */
+uint64_t ysh_version(void);
 
 #ifdef __cplusplus
 }

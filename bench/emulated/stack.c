@@ -171,7 +171,7 @@ static void take_runs(void)
         begin(&the, kind % 3 ? small_table : large_table, kind % 3 ? sizeof small_table : sizeof large_table, 14);
         the.settings[YSH_SIZING_KIND] = kind % 5;
         the.settings[YSH_LOOKBACK] = 7;
-        the.settings[YSH_ORDER_KIND] = kind / 5;
+        the.settings[YSH_ENTRY_KIND] = kind / 5;
         the.settings[YSH_LEVEL_PCT] = word_of(0.5), the.settings[YSH_LIMIT_PCT] = word_of(1.0);
         the.settings[YSH_SLIPPAGE_KIND] = kind & 1;
         the.settings[YSH_SLIPPAGE_VALUE] = word_of(0.1);

@@ -210,6 +210,10 @@ int main(void)
     static Run run;
     uint8_t table[TABLE_BYTES];
     uint64_t nodes, needed, depth, bytes, done, bar[YSH_BAR_WORDS(SLOTS)], metrics[YSH_METRIC_WORDS];
+    if (ysh_version() < YSH_VERSION) {
+        fprintf(stderr, "the library is older than its header: %" PRIu64 " and %d\n", ysh_version(), YSH_VERSION);
+        return 1;
+    }
     write_table(table);
     must("ysh_check", ysh_check(table, sizeof table, &nodes, &needed));
     printf("accepted nodes %" PRIu64 " rows %" PRIu64 "\n", nodes, needed);

@@ -9,4 +9,6 @@ fn main() {
     let bytes = fs::read(&archive).expect("yshturpa's build found the library");
     let digest: String = Sha256::digest(&bytes).iter().map(|byte| format!("{byte:02x}")).collect();
     println!("cargo:rustc-env=YSH_LIBRARY_SHA256={digest}");
+    // Where it is, for the tests alone.
+    println!("cargo:rustc-env=YSH_LIBRARY_ARCHIVE={archive}");
 }

@@ -1,4 +1,5 @@
 pub mod Stream
 pub mod Profile
 pub mod Own
+pub mod Status
 pub mod Laws

@@ -4,8 +4,8 @@ use Rattle.words.specs.{Limits.barWords, Words.word}
 use Rattle.refusals.specs.{declared.verdict.Verdict.Verdict, declared.verdict.Verdict.the-variants.Fine, declared.verdict.Verdict.the-variants.Bad, Lines.line}
 use Rattle.refusals.specs.{Lines.judged}
 use Rattle.engine.specs.{Day.cut}
-use Rattle.accounts.specs.{Stream.streamTaken}
-use Rattle.capi.specs.{Accounts.AccountGiven, Accounts.AccountLent, Accounts.AccountsLent, Accounts.Four, Accounts.streamWords, Accounts.statusWords}
+use Rattle.accounts.specs.{Status.statusWords, Stream.streamTaken}
+use Rattle.capi.specs.{Accounts.AccountGiven, Accounts.AccountLent, Accounts.AccountsLent, Accounts.Four, Accounts.streamWords}
 use Rattle.capi.specs.{Accounts.accountAfter, Accounts.accountsLines, Accounts.afterBars, Accounts.accountsBy, Accounts.accountsCall, AsIfAlone.Which}
 use Rattle.capi.specs.{AsIfAlone.first, AsIfAlone.second, AsIfAlone.third, AsIfAlone.fourth, AsIfAlone.givenTo, AsIfAlone.lentTo, AsIfAlone.call}
 

@@ -3,37 +3,34 @@
 use Rattle.words.specs.Prelude.{ℕ, _+_, _/_, _%_, _^_, _<_, _≡_, refl, sym, ap, _∙_, Bool, true, false, cond, List, [], _∷_, arith, ltb-true, eqb, length}
 use Rattle.words.specs.{declared.refusal.Refusal.Refusal, Limits.barWords, Limits.mostCount, Words.word}
 use Rattle.refusals.specs.{declared.verdict.Verdict.Verdict, declared.verdict.Verdict.the-variants.Fine, declared.verdict.Verdict.the-variants.Bad, Bar.barLines}
-use Rattle.refusals.specs.{Laws.Lines.never, Laws.Numbers.numbered, Laws.Numbers.number-within, Laws.Places.Placed, Laws.Places.place-below, Laws.Places.named}
-use Rattle.refusals.specs.{Laws.Places.named-placed, Lines.Line, Lines.judged, Lines.firstBad}
+use Rattle.refusals.specs.{Laws.Lines.never, Laws.Numbers.numbered, Laws.Places.Placed, Laws.Places.place-below, Laws.Places.named}
+use Rattle.refusals.specs.{Laws.Places.named-placed, Lines.judged, Lines.firstBad}
 use Rattle.engine.specs.{Day.cut}
 use Rattle.accounts.specs.{declared.stream.Taken.Taken, Stream.streamLines, Stream.streamBarLines, Stream.noneTaken, Stream.oneMoreTaken, Stream.takenUnless}
 use Rattle.accounts.specs.{Stream.streamTakes, Stream.streamTaken}
 use Rattle.capi.specs.{Accounts.AccountsLent, Accounts.Four, Accounts.accountAfter, Accounts.accountsLines, Accounts.noneDone, Accounts.streamAfter}
 use Rattle.capi.specs.{Accounts.afterBars, Accounts.accountsBy, Accounts.accountsCall, AsIfAlone.taken, AsIfAlone.call, AsIfAlone.roomsJudged, Call.answerWord}
-use Rattle.capi.specs.{Laws.Answers.answer-number, Laws.Answers.answer-place, Laws.Calls.Small, Laws.Calls.refused-word, WordRun.answerOf}
+use Rattle.capi.specs.{Laws.Answers.answer-number, Laws.Answers.answer-place, Laws.Calls.Small, Laws.Calls.refused-word, Laws.RunCalls.lines-small}
+use Rattle.capi.specs.{WordRun.answerOf}
 
 -- ---- the refusals are small
-
-lines-small : (ls : List Line) → numbered ls ≡ true → Placed ls → (r : Refusal) → judged ls ≡ Bad r → Small r
-lines-small ls n p r e =
-    let w = number-within ls r n e in
-    record { some = omega (arith, w .0); number = omega (arith, w .1); place = place-below ls r p e }
 
 -- room 16 is the stream's, room 17 a status
 rooms-small : (l : AccountsLent) (r : Refusal)
     → judged (accountsLines (l .stream) (l .first .status) (l .second .status) (l .third .status) (l .fourth .status)) ≡ Bad r → Small r
 unfolding accountsLines numbered named
-rooms-small l = lines-small _ refl (named-placed _ refl)
+rooms-small l r e = lines-small _ refl r e (place-below _ r (named-placed _ refl) e)
 
 stream-small : (S seen : ℕ) (bars : List ℕ) (r : Refusal) → judged (streamLines S seen bars) ≡ Bad r → Small r
 unfolding streamLines numbered named
-stream-small S seen bars = lines-small _ refl (named-placed _ refl)
+stream-small S seen bars r e = lines-small _ refl r e (place-below _ r (named-placed _ refl) e)
 
 -- 14 comes before 11: the stream's bars are a place
 bar-small : (S seen : ℕ) (bar : List ℕ) (r : Refusal) → judged (streamBarLines S seen bar) ≡ Bad r → Small r
 unfolding streamBarLines barLines numbered Placed
-bar-small S seen bar =
-    lines-small (streamBarLines S seen bar) refl (omega arith, λ early. places (ltb-true seen mostCount early))
+bar-small S seen bar r e =
+    lines-small (streamBarLines S seen bar) refl r e
+    (place-below (streamBarLines S seen bar) r (omega arith, λ early. places (ltb-true seen mostCount early)) e)
   where
     places : seen < mostCount → Placed (barLines S bar seen)
     places early = (omega arith, λ candle. (omega arith, λ slots. (omega arith, λ funding. tt)))

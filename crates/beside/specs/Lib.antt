@@ -4,3 +4,5 @@ pub mod Step
 pub mod NeverEleven
 pub mod Alike
 pub mod Honest
+pub mod Appended
+pub mod Parts

@@ -1,85 +1,32 @@
 -- Request 14: "a bar refused with 11 changes and stops none". A bar that 11 accepts for the stream's slots is one that 11 accepts for fewer: so 11 is
 -- never an account's.
-use Rattle.words.specs.Prelude.{ℕ, _+_, _*_, _/_, _^_, _≤_, _≡_, refl, sym, ap, _∙_, Bool, true, false, cond, not, _&&_, List, [], _∷_, arith, eqb-true, eqb-false}
-use Rattle.words.specs.Prelude.{leb-true, eqb, leb, ltb, length}
-use Rattle.words.specs.{declared.refusal.Refusal.Refusal, Limits.barWords, Outcome.refusal, Words.word}
-use Rattle.table.specs.{declared.answer.Answer.Answer, declared.answer.Answer.the-variants.Accepted, declared.answer.Answer.the-variants.Refused}
-use Rattle.table.specs.{declared.places.Place.Place, declared.places.Place.the-variants.At, declared.places.Place.the-variants.Nowhere, Checked.orRefused}
-use Rattle.table.specs.{Checked.orHeader, Checked.from7, Checked.from8, Checked.from9, Checked.checkedUpTo, Checked.checked, Header.newestVersion, Header.markRight}
-use Rattle.table.specs.{Header.versionRight, Header.countsRight, Header.total, Header.headerRefusal, Header.slots as tableSlots}
-use Rattle.records.specs.{declared.settings.Settings.Settings, Settings.settingsOf}
+use Rattle.words.specs.Prelude.{ℕ, _/_, _^_, _≤_, _≡_, refl, sym, ap, _∙_, Bool, true, false, List, [], _∷_, arith, eqb-true, eqb-false, leb-true, eqb, length}
+use Rattle.words.specs.{declared.refusal.Refusal.Refusal, Limits.barWords, Words.word}
+use Rattle.table.specs.{declared.answer.Answer.Answer, declared.answer.Answer.the-variants.Accepted, declared.answer.Answer.the-variants.Refused, Checked.checked}
+use Rattle.records.specs.{Settings.settingsOf}
 use Rattle.refusals.specs.{declared.verdict.Verdict.Verdict, declared.verdict.Verdict.the-variants.Fine, declared.verdict.Verdict.the-variants.Bad}
-use Rattle.refusals.specs.{Laws.Lines.never, Laws.Lines.and-true, Laws.Lines.first-holds, Lines.line, Lines.judged}
+use Rattle.refusals.specs.{Laws.Lines.never, Laws.Lines.first-holds, Lines.judged}
 use Rattle.engine.specs.{Day.cut}
-use Rattle.accounts.specs.{Laws.Own.overwrite-start, Profile.noShortTrees, Profile.leverageWithin, Profile.slotsWithin, Profile.withinProfile, Profile.afterTable}
-use Rattle.accounts.specs.{Profile.profileJudged}
-use Rattle.capi.specs.{Accounts.AccountGiven, Accounts.AccountLent, Accounts.AccountsLent, Accounts.Four, Accounts.statusWords, Accounts.alone, Accounts.ownBars}
-use Rattle.capi.specs.{Accounts.ownLists, Accounts.stoppedWith, Accounts.accountsLines, Accounts.noneDone, AsIfAlone.Which, AsIfAlone.first, AsIfAlone.second}
-use Rattle.capi.specs.{AsIfAlone.third, AsIfAlone.fourth, AsIfAlone.givenTo, AsIfAlone.lentTo, AsIfAlone.Rode, AsIfAlone.AsAlone, AsIfAlone.slots, AsIfAlone.seen}
-use Rattle.capi.specs.{AsIfAlone.taken, AsIfAlone.call, AsIfAlone.roomsJudged, AsIfAlone.as-if-alone, Call.Call, WordRun.WordRun}
+use Rattle.accounts.specs.{Laws.Own.overwrite-start, Laws.Profile.profile-slots, Profile.withinProfile, Profile.afterTable, Profile.profileJudged}
+use Rattle.accounts.specs.{Status.statusWords, Status.stoppedWith}
+use Rattle.capi.specs.{Accounts.AccountGiven, Accounts.AccountLent, Accounts.AccountsLent, Accounts.Four, Accounts.alone, Accounts.ownBars, Accounts.ownLists}
+use Rattle.capi.specs.{Accounts.accountsLines, Accounts.noneDone, AsIfAlone.Which, AsIfAlone.first, AsIfAlone.second, AsIfAlone.third, AsIfAlone.fourth}
+use Rattle.capi.specs.{AsIfAlone.givenTo, AsIfAlone.lentTo, AsIfAlone.Rode, AsIfAlone.AsAlone, AsIfAlone.slots, AsIfAlone.seen, AsIfAlone.taken, AsIfAlone.call}
+use Rattle.capi.specs.{AsIfAlone.roomsJudged, AsIfAlone.as-if-alone, Call.Call, Laws.TableCalls.OneToNine, Laws.TableCalls.one-to-nine, WordRun.WordRun}
 use Rattle.beside.specs.{Step.calls-other, Taken.AllFine, Taken.taken-fine}
 
 -- ---- an account's table and the profile
 
-five : (a b c d e : Bool) → cond a 1 (cond b 2 (cond c 3 (cond d 4 (cond e 5 0)))) ≤ 9
-five true b c d e = omega arith
-five false true c d e = omega arith
-five false false true d e = omega arith
-five false false false true e = omega arith
-five false false false false true = omega arith
-five false false false false false = omega arith
-
-header-nine : (t : List ℕ) → headerRefusal newestVersion t ≤ 9
-unfolding headerRefusal
-header-nine t =
-    five (ltb (length t) 16) (not (markRight t)) (not (versionRight newestVersion t)) (not (countsRight t)) (not (eqb (length t) (16 + 16 * total t)))
-
--- a number up to 9, where there is one
-abbrev UpToNine : Answer → Type 0
-UpToNine a = (why : Refusal) → a ≡ Refused why → why .number ≤ 9
-
-rule-nine : (n : ℕ) (q : Place) (a : Answer) → n ≤ 9 → UpToNine a → UpToNine (orRefused n q a)
-unfolding orRefused
-rule-nine n Nowhere a small below = below
-rule-nine n (At p) a small below = λ why e. let same : n ≡ why .number = cc in omega (arith, same, small)
-
-header-or : (n : ℕ) (a : Answer) → n ≤ 9 → UpToNine a → UpToNine (orHeader n a)
-unfolding orHeader
-header-or n a small below = go (eqb n 0)
-  where
-    go : (b : Bool) → UpToNine (cond b a (Refused (refusal n 0)))
-    go true = below
-    go false = λ why e. let same : n ≡ why .number = cc in omega (arith, same, small)
-
-accepted-nine : (n r : ℕ) → UpToNine (Accepted n r)
-accepted-nine n r = λ why e. absurd (let z : _≡_ {A = ℕ} 0 1 = cc in omega arith)
-
--- "1 to 9 come first"
-table-nine : (t : List ℕ) → UpToNine (checked t)
-unfolding checked checkedUpTo from7 from8 from9
-table-nine t =
-    header-or (headerRefusal newestVersion t) _ (header-nine t)
-    (rule-nine 6 _ _ (omega arith) (rule-nine 7 _ _ (omega arith) (rule-nine 8 _ _ (omega arith) (rule-nine 9 _ _ (omega arith) (accepted-nine _ _)))))
-
-outside-other : (within : Bool) (a : Answer) (why : Refusal) → UpToNine a → afterTable a within ≡ Bad why → why .number ≡ 11 → ⊥
+outside-other : (within : Bool) (a : Answer) (why : Refusal) → ((r : Refusal) → a ≡ Refused r → OneToNine r) → afterTable a within ≡ Bad why
+    → why .number ≡ 11 → ⊥
 unfolding afterTable judged
-outside-other within (Refused q) why nine e eleven = let same : q .number ≡ why .number = cc in omega (arith, nine q refl, same, eleven)
+outside-other within (Refused q) why nine e eleven = let same : q .number ≡ why .number = cc in omega (arith, nine q refl .most, same, eleven)
 outside-other true (Accepted n r) why nine e eleven = never (sym e)
 outside-other false (Accepted n r) why nine e eleven = let same : 21 ≡ why .number = cc in omega (arith, same, eleven)
 
--- an account within the profile has no more slots than the stream
-within-slots : (a : Answer) (table : List ℕ) (s : Settings) (S : ℕ) → afterTable a (withinProfile table s S) ≡ Fine → s .slots ≤ S
-unfolding afterTable withinProfile slotsWithin
-within-slots (Refused why) table s S e = never e
-within-slots (Accepted n r) table s S e =
-    let leverage : Bool = leverageWithin (s .terms .risk .«max_leverage») in
-    let all = and-true (noShortTrees table) (leverage && slotsWithin table s S) (first-holds (line (withinProfile table s S) 21 0) [] e .0) in
-    let most = and-true leverage (slotsWithin table s S) (all .1) in
-    leb-true (s .slots) S (and-true (leb (tableSlots table) S) (leb (s .slots) S) (most .1) .1)
-
 -- ---- its status
 
-stopped-number : (status : List ℕ) (number place bar : ℕ) → statusWords ≤ length status → word (stoppedWith status number place bar) 0 ≡ number
+pub stopped-number : (status : List ℕ) (number place bar : ℕ) → statusWords ≤ length status → word (stoppedWith status number place bar) 0 ≡ number
 unfolding stoppedWith
 stopped-number status number place bar h = rw (overwrite-start status (number ∷ place ∷ bar ∷ []) h)
 
@@ -111,9 +58,9 @@ account-other S seen (bar ∷ bars) g a b is fine room running eleven = go (prof
         let told : word (b .status) 0 ≡ why .number =
         ap (λ (x : AccountLent). word (x .status) 0) (is .refused some running why e)
         ∙ stopped-number (a .status) (why .number) (why .place) seen room in
-        outside-other (withinProfile (g .table) (settingsOf (g .settings)) S) (checked (g .table)) why (table-nine (g .table)) e (sym told ∙ eleven)
+        outside-other (withinProfile (g .table) (settingsOf (g .settings)) S) (checked (g .table)) why (one-to-nine (g .table)) e (sym told ∙ eleven)
     go Fine e =
-        let few : settingsOf (g .settings) .slots ≤ S = within-slots (checked (g .table)) (g .table) (settingsOf (g .settings)) S e in
+        let few : settingsOf (g .settings) .slots ≤ S = profile-slots (g .table) (settingsOf (g .settings)) S e in
         rode-other seen a b (alone S g a (bar ∷ bars)) (is .rides running e) room running
         (calls-other S (g .settings) (ownLists g) few (bar ∷ bars) fine (record { state = a .state; rooms = a .rooms })) eleven
 
@@ -127,7 +74,7 @@ none-done third l = refl
 none-done fourth l = refl
 
 -- where the rooms of the call are fine, each status has its three words
-statuses : (l : AccountsLent) (which : Which)
+pub statuses : (l : AccountsLent) (which : Which)
     → judged (accountsLines (l .stream) (l .first .status) (l .second .status) (l .third .status) (l .fourth .status)) ≡ Fine
     → statusWords ≤ length (lentTo which l .status)
 unfolding accountsLines lentTo

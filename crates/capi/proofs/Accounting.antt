@@ -4,9 +4,10 @@ use Rattle.words.specs.{declared.refusal.Refusal.Refusal, Limits.barWords, Word
 use Rattle.records.specs.{declared.settings.Settings.Settings, Settings.settingsOf}
 use Rattle.refusals.specs.{declared.verdict.Verdict.Verdict, declared.verdict.Verdict.the-variants.Fine, declared.verdict.Verdict.the-variants.Bad, Lines.judged}
 use Rattle.engine.specs.{Day.cut}
-use Rattle.accounts.specs.{declared.stream.Taken.Taken, Laws.Stream.Within, Laws.Stream.taken-within, Own.ownBar, Profile.profileJudged, Stream.streamTaken}
-use Rattle.capi.specs.{Accounts.AccountGiven, Accounts.AccountLent, Accounts.ownLists, Accounts.ownBars, Accounts.alone, Accounts.isStopped}
-use Rattle.capi.specs.{Accounts.stoppedWith, Accounts.statusAfter, Accounts.ridesBy, Accounts.accountAfter, Accounts.AccountsLent, Accounts.Four}
+use Rattle.accounts.specs.{declared.stream.Taken.Taken, Laws.Stream.Within, Laws.Stream.taken-within, Own.ownBar, Profile.profileJudged, Status.isStopped}
+use Rattle.accounts.specs.{Status.stoppedWith, Stream.streamTaken}
+use Rattle.capi.specs.{Accounts.AccountGiven, Accounts.AccountLent, Accounts.ownLists, Accounts.ownBars, Accounts.alone}
+use Rattle.capi.specs.{Accounts.statusAfter, Accounts.ridesBy, Accounts.accountAfter, Accounts.AccountsLent, Accounts.Four}
 use Rattle.capi.specs.{Accounts.accountsLines, Accounts.noneDone, Accounts.streamAfter, Accounts.afterBars, Accounts.accountsBy, Accounts.accountsCall}
 use Rattle.capi.specs.{Bars.StepLent, WordRun.callsOver, WordRun.answerOf, Call.answerWord}
 

@@ -8,5 +8,6 @@ pub mod Parting
 pub mod Totalling
 pub mod Stretching
 pub mod Comparing
+pub mod Asking
 pub mod Riding
 pub mod Accounting

@@ -1,14 +1,10 @@
 -- An account over the bars of a stream: calls of step, one after another, over its own part of each.
-use Rattle.words.specs.Prelude.{ℕ, zero, suc, _+_, _-_, _*_, _/_, _<_, _≤_, _≡_, refl, sym, _∙_, Bool, true, false, cond, _&&_, List, [], _∷_, map}
-use Rattle.words.specs.Prelude.{le-div-iff-mul-le, arith, ne-eqb, leb-true, leb, eqb, length, take, drop, length-drop, length-take-le}
+use Rattle.words.specs.Prelude.{ℕ, _+_, _-_, _*_, _/_, _<_, _≤_, _≡_, sym, _∙_, Bool, true, false, cond, List, [], _∷_, map}
+use Rattle.words.specs.Prelude.{le-div-iff-mul-le, arith, ne-eqb, eqb, length, take, drop, length-drop, length-take-le}
 use Rattle.words.specs.{Laws.Records.record-ends, Limits.barWords}
-use Rattle.records.specs.{declared.settings.Settings.Settings, Lent.Rooms, Lent.Lists, Lent.rooms}
-use Rattle.refusals.specs.{declared.verdict.Verdict.the-variants.Fine, Laws.Lines.never, Laws.Lines.and-true, Laws.Lines.first-holds}
-use Rattle.table.specs.{declared.answer.Answer.Answer, declared.answer.Answer.the-variants.Accepted, declared.answer.Answer.the-variants.Refused, Checked.checked}
-use Rattle.table.specs.{Header.slots}
+use Rattle.records.specs.{Lent.Rooms, Lent.Lists, Lent.rooms}
 use Rattle.engine.specs.{Day.cut}
-use Rattle.accounts.specs.{Laws.Own.own-front, Laws.Stream.next-record, Laws.Stream.recordAt, Laws.Stream.same-record, Own.ownBar, Own.ownInto}
-use Rattle.accounts.specs.{Profile.noShortTrees, Profile.leverageWithin, Profile.slotsWithin, Profile.withinProfile, Profile.afterTable, Profile.profileJudged}
+use Rattle.accounts.specs.{Laws.Own.own-front, Laws.Stream.cut-length, Laws.Stream.next-record, Laws.Stream.recordAt, Laws.Stream.same-record, Own.ownBar, Own.ownInto}
 use Rattle.capi.specs.{Bars.StepLent, Bars.stepCall, Call.Call, WordRun.WordRun, WordRun.callsOver}
 use lib.ListN.{length-map}
 
@@ -87,11 +83,6 @@ own-call S K bar room whole few fits after settings state m ls e called =
 
 -- ---- how many calls
 
-cut-length : (n w : ℕ) (ws : List ℕ) → length (cut n w ws) ≡ n
-unfolding cut
-cut-length zero w ws = refl
-cut-length (suc n) w ws = rw (cut-length n w (drop w ws))
-
 -- no more than there are bars
 calls-few : (settings : List ℕ) (ls : Lists) (bars : List (List ℕ)) (lent : StepLent) → callsOver settings ls lent bars .done ≤ length bars
 unfolding callsOver
@@ -118,19 +109,3 @@ ride-within settings ls own bars count w given {d} {a} {l} e =
     let long : length (map own (cut count w bars)) ≡ count = length-map (cut count w bars) own ∙ cut-length count w bars in
     let so : d ≤ length (map own (cut count w bars)) = rw e at few in
     omega (arith, long, so)
-
--- ---- an account that may ride has no more slots than the stream
-
-slots-few : (a b c d : Bool) → (a && (b && (c && d))) ≡ true → d ≡ true
-slots-few a b c d h = and-true c d (and-true b (c && d) (and-true a (b && (c && d)) h .1) .1) .1
-
-pub profile-slots : (table : List ℕ) (s : Settings) (S : ℕ) → profileJudged table s S ≡ Fine → s .slots ≤ S
-unfolding profileJudged afterTable withinProfile slotsWithin
-profile-slots table s S = go (checked table)
-  where
-    go : (a : Answer) → afterTable a (withinProfile table s S) ≡ Fine → s .slots ≤ S
-    go (Refused why) h = never h
-    go (Accepted nodes rows) h =
-        leb-true (s .slots) S
-        (slots-few (noShortTrees table) (leverageWithin (s .terms .risk .«max_leverage»)) (leb (slots table) S) (leb (s .slots) S)
-        (first-holds _ _ h .0))

@@ -1,12 +1,13 @@
 -- Four accounts on one stream (request 14), on words. "Each account has its table, settings, state and rooms; the bar and the slots are shared."
 -- Definitions only.
-use Rattle.words.specs.Prelude.{ℕ, _+_, _/_, _%_, _^_, Bool, not, cond, List, [], _∷_, map, leb, eqb, length}
+use Rattle.words.specs.Prelude.{ℕ, _+_, _/_, _%_, _^_, cond, List, [], _∷_, map, leb, eqb, length}
 use Rattle.words.specs.{Limits.barWords, Words.word, Words.overwrite}
 use Rattle.records.specs.{Lent.Rooms, Lent.Lists, Lent.rooms, Lent.lists, Settings.settingsOf}
 use Rattle.refusals.specs.{declared.verdict.Verdict.Verdict, declared.verdict.Verdict.the-variants.Fine, declared.verdict.Verdict.the-variants.Bad, Lines.Line}
 use Rattle.refusals.specs.{Lines.line, Lines.judged}
 use Rattle.engine.specs.{Day.cut}
-use Rattle.accounts.specs.{declared.stream.Taken.Taken, Own.ownBar, Profile.profileJudged, Stream.streamTaken}
+use Rattle.accounts.specs.{declared.stream.Taken.Taken, Own.ownBar, Profile.profileJudged, Status.statusWords}
+use Rattle.accounts.specs.{Status.isStopped, Status.stoppedWith, Stream.streamTaken}
 use Rattle.capi.specs.{Call.Call, Call.answerWord, WordRun.WordRun, WordRun.callsOver, WordRun.answerOf}
 
 -- what an account is handed to read
@@ -32,10 +33,6 @@ lent state rows equity trades status = record { state = state; rooms = rooms row
 abbrev pub streamWords : ℕ
 streamWords = 2
 
--- the status of an account: a number, a place, a bar of the stream
-abbrev pub statusWords : ℕ
-statusWords = 3
-
 -- ---- one account, alone
 
 -- "no short trees": its short lists are empty
@@ -51,14 +48,6 @@ unfoldable pub alone : ℕ → AccountGiven → AccountLent → List (List ℕ) 
 alone S g a bars = callsOver (g .settings) (ownLists g) (record { state = a .state; rooms = a .rooms }) (ownBars S g bars)
 
 -- ---- on the stream
-
--- a number other than 0: the account is stopped
-unfoldable pub isStopped : List ℕ → Bool
-isStopped status = not (eqb (word status 0) 0)
-
--- "stopped at it, with number and place": and the stream's bar
-unfoldable pub stoppedWith : List ℕ → ℕ → ℕ → ℕ → List ℕ
-stoppedWith status number place bar = overwrite status 0 (number ∷ place ∷ bar ∷ [])
 
 -- the number and the place of an answer other than 0
 unfoldable pub statusAfter : List ℕ → ℕ → WordRun → List ℕ

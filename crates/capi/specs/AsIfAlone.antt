@@ -6,9 +6,9 @@ use Rattle.words.specs.{declared.refusal.Refusal.Refusal, Limits.barWords, Word
 use Rattle.records.specs.{Settings.settingsOf}
 use Rattle.refusals.specs.{declared.verdict.Verdict.Verdict, declared.verdict.Verdict.the-variants.Fine, declared.verdict.Verdict.the-variants.Bad, Lines.judged}
 use Rattle.engine.specs.{Day.cut}
-use Rattle.accounts.specs.{declared.stream.Taken.Taken, Profile.profileJudged, Stream.streamTaken}
-use Rattle.capi.specs.{Accounts.AccountGiven, Accounts.AccountLent, Accounts.AccountsLent, Accounts.Four, Accounts.alone, Accounts.isStopped}
-use Rattle.capi.specs.{Accounts.stoppedWith, Accounts.statusAfter, Accounts.ridesBy, Accounts.ownBars, Accounts.accountAfter, Accounts.accountsLines}
+use Rattle.accounts.specs.{declared.stream.Taken.Taken, Profile.profileJudged, Status.isStopped, Status.stoppedWith, Stream.streamTaken}
+use Rattle.capi.specs.{Accounts.AccountGiven, Accounts.AccountLent, Accounts.AccountsLent, Accounts.Four, Accounts.alone}
+use Rattle.capi.specs.{Accounts.statusAfter, Accounts.ridesBy, Accounts.ownBars, Accounts.accountAfter, Accounts.accountsLines}
 use Rattle.capi.specs.{Accounts.noneDone, Accounts.streamAfter, Accounts.afterBars, Accounts.accountsBy, Accounts.accountsCall, Call.Call, Call.answerWord}
 use Rattle.capi.specs.{WordRun.WordRun, WordRun.callsOver, WordRun.answerOf}
 

@@ -6,6 +6,7 @@ pub mod RunCalls
 pub mod WhyCalls
 pub mod TotalsCalls
 pub mod DumpCalls
+pub mod WhyOverCalls
 pub mod PartCalls
 pub mod StretchCalls
 pub mod CompareCalls

@@ -2,6 +2,7 @@ pub mod Call
 pub mod Tables
 pub mod Run
 pub mod Why
+pub mod WhyOver
 pub mod Fresh
 pub mod Bars
 pub mod Finish
@@ -14,8 +15,10 @@ pub mod Compare
 pub mod WordRun
 pub mod Day
 pub mod Accounts
+pub mod Version
 pub mod Laws
 pub mod StretchIsReading
+pub mod OverIsSingle
 pub mod Joined
 pub mod DayJoined
 pub mod TotalsJoined

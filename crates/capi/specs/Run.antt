@@ -1,17 +1,11 @@
 -- The calls that answer a rule. Definitions only.
 use Rattle.words.specs.Prelude.{ℕ, Bool, cond, List, ltb}
 use Rattle.words.specs.{Limits.trees, Outcome.Outcome, Outcome.gives, Outcome.refuses}
-use Rattle.floats.specs.{Floats.floatOf}
 use Rattle.rules.specs.{declared.position.PositionState.PositionState, declared.answers.RuleAnswer.RuleAnswer, declared.answers.RuleAnswer.the-variants.Says}
 use Rattle.rules.specs.{declared.answers.RuleAnswer.the-variants.Refuses, Answers.answered}
 use Rattle.steps.specs.{declared.running.RunAnswer.RunAnswer, declared.running.RunAnswer.the-variants.Runs}
 use Rattle.steps.specs.{declared.running.RunAnswer.the-variants.Refuses as RunRefuses, Running.runs}
-use Rattle.records.specs.{StateWords.enteredOf}
 use Rattle.capi.specs.{Call.Call, Call.callOf, Call.bitOf, Tables.numberedTree}
-
--- a position state by its words
-unfoldable pub positionState : ℕ → ℕ → ℕ → ℕ → PositionState
-positionState qty there bar seen = record { qty = floatOf qty; entered = enteredOf there bar; «bars_seen» = seen }
 
 -- 1 yes, 0 no; an absent tree says no
 unfoldable pub saysOf : ℕ → Bool → ℕ

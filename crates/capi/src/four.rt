@@ -10,7 +10,7 @@ ghost use Rattle.refusals.specs.Lines.{judged};
 ghost use Rattle.engine.specs.Day.{cut};
 ghost use Rattle.accounts.specs.Own.{ownBar};
 ghost use Rattle.accounts.specs.Laws.Stream.{Within};
-ghost use Rattle.capi.specs.Accounts.{given, lent, isStopped, stoppedWith, accountAfter, accountsLines, streamAfter, accountsCall};
+ghost use Rattle.capi.specs.Accounts.{given, lent, accountAfter, accountsLines, streamAfter, accountsCall};
 ghost use Rattle.capi.specs.Bars.{stepCall};
 ghost use Rattle.capi.specs.WordRun.{callsOver};
 use crate::calls::HALF;
@@ -19,6 +19,9 @@ use crate::day::answer_of;
 use crate::day::call_bars;
 use accounts::own::own_bar;
 use accounts::profile::judge_profile;
+use accounts::status::STATUS_WORDS;
+use accounts::status::is_stopped;
+use accounts::status::stop;
 use accounts::stream::take_bars;
 use records::settings::settings_of;
 use refusals::verdict::Verdict;
@@ -33,9 +36,6 @@ const STATUS_ROOM: u64 = 17;
 
 // The stream: its slots, and the bars that it has taken.
 const STREAM_WORDS: usize = 2;
-
-// A status: number, place, bar of the stream.
-const STATUS_WORDS: usize = 3;
 
 // A bar of as many slots as there may be.
 const WIDEST_BAR: usize = BAR_FIXED + MOST_SLOTS;
@@ -56,21 +56,6 @@ fn judge_streams(stream: &[u64], a: &[u64], b: &[u64], c: &[u64], d: &[u64]) -> 
     let below = line(STATUS_WORDS <= b.len(), 10, STATUS_ROOM, below);
     let below = line(STATUS_WORDS <= a.len(), 10, STATUS_ROOM, below);
     line(STREAM_WORDS <= stream.len(), 10, STREAM_ROOM, below)
-}
-
-// Whether an account is stopped.
-fn is_stopped(status: &[u64]) -> bool
-    ensures { λ r. ⌜ r ≡ isStopped (now (status .entry)) ⌝ }
-{
-    words::word(status, 0) != 0
-}
-
-// Stops an account, with number and place, at a bar of the stream.
-fn stop(status: &mut [u64], number: u64, place: u64, bar: u64)
-    ensures { λ _. ⌜ now (status .exit) ≡ stoppedWith (now (status .entry)) number place bar ⌝ }
-{
-    let stopped = [number, place, bar];
-    words::put(status, 0, &stopped);
 }
 
 // A bar of the stream, as a step of an account over its own part of it.

@@ -12,4 +12,6 @@ pub mod run;
 pub mod state;
 pub mod stretch;
 pub mod tables;
+pub mod version;
 pub mod why;
+pub mod why_over;

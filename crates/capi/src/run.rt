@@ -1,29 +1,14 @@
 // One rule of a table over rows, and a list of steps over rows.
 ghost use mathlib.Core.Path.{_≡_};
-ghost use Rattle.capi.specs.Run.{positionState, saysOf, ruleCall, runCall};
+ghost use Rattle.questions.specs.Position.{positionState};
+ghost use Rattle.capi.specs.Run.{saysOf, ruleCall, runCall};
 use crate::calls::answer_word;
 use crate::calls::bit_of;
 use crate::tables::numbered_tree;
-use records::state_words::entered_of;
+use questions::position::position_state;
 use rules::answers::RuleAnswer;
-use rules::position::PositionState;
 use steps::running::RunAnswer;
 use words::limits::TREES;
-
-pub(crate) fn position_state(
-    qty: u64,
-    entered: u64,
-    entry_bar: u64,
-    bars_seen: u64,
-) -> PositionState
-    ensures { λ r. ⌜ r ≡ positionState qty entered «entry_bar» «bars_seen» ⌝ }
-{
-    PositionState {
-        qty: floats::float_of(qty),
-        entered: entered_of(entered, entry_bar),
-        bars_seen,
-    }
-}
 
 // What is written for a tree's answer; an absent tree says no.
 fn says_of(tree: u64, said: bool) -> u64

@@ -1,10 +1,10 @@
 // Why one tree of a table says yes or no.
 ghost use mathlib.Core.Path.{_≡_};
-ghost use Rattle.capi.specs.Run.{positionState};
+ghost use Rattle.questions.specs.Position.{positionState};
 ghost use Rattle.capi.specs.Why.{whyCall};
 use crate::calls::answer_word;
-use crate::run::position_state;
 use chain::explain::Explained;
+use questions::position::position_state;
 
 // The chain of nodes from a tree's root to what decided at the newest row, a line of eight words for each, and how many lines.
 #[no_mangle]

@@ -22,8 +22,9 @@ pub enum Explained {
     Refuses(Refusal),
 }
 
-// The lines of a tree into the list, and how many they are: none where the tree is absent.
-fn explain_tree(
+// The lines of a tree into the list, and how many they are: none where the tree is absent. For a caller that has the array that a check of the
+// table leaves, and asks more than once.
+pub fn explain_tree(
     t: &[u8],
     ends: &[usize; 256],
     tree: u64,

@@ -76,16 +76,22 @@ static void program(uint8_t *flash, const uint8_t *bytes, uint64_t len, uint64_t
         flash[i] &= bytes[i];
 }
 
+/* Bytes `at` to `at + len` of the image, made in a page's memory, and programmed where they belong. */
+static void program_part(const Box *box, uint8_t *area, uint64_t at, uint64_t len, uint64_t *supply)
+{
+    uint8_t page[PAGE];
+    uint64_t used = 0;
+    must("ysh_dump_part", ysh_dump_part(box->settings, YSH_SETTING_WORDS, box->state, YSH_STATE_WORDS, box->rows, sizeof box->rows / 8, at, page, len, &used));
+    program(area + at, page, used, supply);
+}
+
 /* The plan of docs/FLASH.md: every page of the image with the first word left erased, then the first word alone. */
 static void dump(const Box *box, uint8_t *area, uint64_t size, uint64_t supply)
 {
-    uint8_t image[MOST];
-    must("ysh_dump", ysh_dump(box->settings, YSH_SETTING_WORDS, box->state, YSH_STATE_WORDS, box->rows, sizeof box->rows / 8, image, size, 0, size));
-    for (uint64_t at = 0; at < size; at += PAGE) {
-        uint64_t begin = at == 0 ? FIRST_WORD : at, end = at + PAGE < size ? at + PAGE : size;
-        program(area + begin, image + begin, end - begin, &supply);
-    }
-    program(area, image, FIRST_WORD, &supply);
+    program_part(box, area, FIRST_WORD, PAGE - FIRST_WORD, &supply);
+    for (uint64_t at = PAGE; at < size; at += PAGE)
+        program_part(box, area, at, PAGE, &supply);
+    program_part(box, area, 0, FIRST_WORD, &supply);
 }
 
 static void print_trades(const char *who, const Box *box, uint64_t after)

@@ -5,8 +5,12 @@ use std::path::PathBuf;
 use clap::{Args, Parser, Subcommand};
 use clap_complete::Shell;
 
+use crate::accounts::asked::Accounts;
+use crate::blocked::asked::Blocked;
+use crate::compare::asked::Compare;
 use crate::dump::asked::Dump;
 use crate::holdup::asked::Holdup;
+use crate::range::asked::Range;
 use crate::run::asked::Run;
 use crate::trials::asked::{Totals, Trials};
 use crate::why::asked::Why;
@@ -20,7 +24,7 @@ pub struct Cli {
     pub command: Command,
 }
 
-const STATUS: &str = "The exit status is 0; 1 where the library refused something, which is told with its number and place; 2 where input \
+const STATUS: &str = "The exit status is 0; 1 where the library refused something, which is told with its number and place, or where two runs differ (ysh compare); 2 where input \
     is bad, which is told in one line with its file and place; 3 where a box does not fit in the time that is there (ysh holdup).";
 
 #[derive(Debug, Subcommand)]
@@ -34,17 +38,27 @@ pub enum Command {
     /// Which tests fall silent in a window of so many rows
     Short(Short),
     /// How long the dumps take after the supply drops, and how large a capacitor that needs
-    Holdup(Holdup),
+    Holdup(Box<Holdup>),
     /// A strategy or a table over bars from a file: trades, equity and the nine metrics
     Run(Run),
     /// Why a rule said yes or no at a bar: the chain from its root to what decided, in words
     Why(Why),
+    /// Which tests kept a rule from a yes over a stretch of bars: how often each decided, was no or had no value
+    Blocked(Blocked),
     /// A box's dump: what an image holds, one made from a run, a run that goes on from one, one that is cut short
     Dump(Dump),
+    /// A JSON schema of strategies, for editors; docs/STRATEGY.md says what each key means
+    Schema,
     /// Every strategy over every file of bars: a row a run, and the exact totals of all of them
     Trials(Trials),
     /// The exact totals of parts of trials, joined
     Totals(Totals),
+    /// Two runs side by side: what differs between two files, or between two libraries over the same bars
+    Compare(Compare),
+    /// The high and the low of a stretch of closes, by blocks
+    Range(Range),
+    /// Four paper accounts on one stream of bars: the report of each, and which one stopped where and why
+    Accounts(Accounts),
     /// What a shell completes; `ysh completions bash > /etc/bash_completion.d/ysh`, or as the shell's own guide says
     Completions {
         /// The shell

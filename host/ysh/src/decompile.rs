@@ -139,6 +139,8 @@ impl Reader<'_> {
             kind::ADD => Expr::Add(two()),
             kind::SUB => Expr::Sub(two()),
             kind::MUL => Expr::Mul(two()),
+            kind::HIGHEST => Expr::Highest((self.operand(below[0]), it.n)),
+            kind::LOWEST => Expr::Lowest((self.operand(below[0]), it.n)),
             _ => Expr::Div(two()),
         };
         Operand::Expr(Box::new(expr))

@@ -22,7 +22,7 @@ pub fn read_most(path: &Path) -> io::Result<Vec<u8>> {
     let mut bytes = Vec::new();
     fs::File::open(path)?.take(MOST_BYTES + 1).read_to_end(&mut bytes)?;
     match bytes.len() as u64 > MOST_BYTES {
-        true => Err(io::Error::new(io::ErrorKind::Other, format!("it has more than {} bytes", grouped(MOST_BYTES)))),
+        true => Err(io::Error::other(format!("it has more than {} bytes", grouped(MOST_BYTES)))),
         false => Ok(bytes),
     }
 }

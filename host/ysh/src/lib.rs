@@ -3,11 +3,14 @@
 //! rules comes from the library's calls.
 #![forbid(unsafe_code)]
 
+mod accounts;
 mod axis;
 mod bars;
+mod blocked;
 mod cli;
 mod columns;
 mod commands;
+mod compare;
 pub mod compile;
 pub mod decompile;
 mod dump;
@@ -16,6 +19,7 @@ mod holdup;
 mod output;
 mod problem;
 mod progress;
+mod range;
 mod run;
 mod settings_file;
 mod show;
@@ -23,6 +27,7 @@ mod source;
 pub mod strategy;
 mod svg;
 pub mod table;
+mod times;
 mod trials;
 mod why;
 
@@ -37,7 +42,7 @@ pub use problem::Problem;
 use show::shown;
 pub use source::Source;
 
-/// What the program was asked, answered; its exit status: 0, 1 where the library refused something, 2 where input is bad, 3 where something
+/// What the program was asked, answered; its exit status: 0, 1 where the library refused something or two runs differ, 2 where input is bad, 3 where something
 /// does not fit.
 pub fn run(arguments: impl IntoIterator<Item = OsString>, out: &mut dyn Write, err: &mut dyn Write) -> u8 {
     let arguments: Vec<OsString> = arguments.into_iter().collect();
@@ -53,9 +58,14 @@ pub fn run(arguments: impl IntoIterator<Item = OsString>, out: &mut dyn Write, e
         Command::Holdup(asked) => commands::holdup::answer(&asked, &arguments),
         Command::Run(asked) => commands::run::answer(&asked),
         Command::Why(asked) => commands::why::answer(&asked),
+        Command::Blocked(asked) => commands::blocked::answer(&asked),
         Command::Dump(asked) => commands::dump::answer(&asked),
+        Command::Schema => commands::schema::answer(),
         Command::Trials(asked) => commands::trials::answer(&asked),
         Command::Totals(asked) => commands::trials::totals(&asked),
+        Command::Compare(asked) => commands::compare::answer(&asked),
+        Command::Range(asked) => commands::range::answer(&asked),
+        Command::Accounts(asked) => commands::accounts::answer(&asked),
         Command::Completions { shell } => commands::completions::answer(shell),
         Command::Manual => commands::manual::answer(),
     }

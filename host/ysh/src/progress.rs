@@ -40,9 +40,12 @@ impl Late {
         Late { bar, began: Instant::now() }
     }
 
-    /// Over a file of so many bytes.
-    pub fn bytes(length: u64) -> Late {
-        Late::new(length, "{bar:40} {bytes} of {total_bytes}, {eta} left")
+    /// Over a file of so many bytes, where that is known.
+    pub fn bytes(length: Option<u64>) -> Late {
+        match length {
+            Some(length) => Late::new(length, "{bar:40} {bytes} of {total_bytes}, {eta} left"),
+            None => Late::new(0, "{bytes} so far"),
+        }
     }
 
     fn after<R>(&self, result: R) -> R {

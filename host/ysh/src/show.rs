@@ -1,6 +1,6 @@
 //! Numbers and times as people read them. What programs read is exact, and written elsewhere.
 
-use chrono::{TimeZone, Utc};
+use chrono::{DateTime, TimeZone, Utc};
 
 use crate::columns::grouped;
 
@@ -65,13 +65,18 @@ impl Clock {
         }
     }
 
-    /// A time: as `2026-01-05 13:45` in UTC, with seconds and milliseconds where these are not 0.
-    pub fn text(self, time: i64) -> String {
-        let found = match self {
+    /// The date and time that a time is, where it is one.
+    pub fn date(self, time: i64) -> Option<DateTime<Utc>> {
+        match self {
             Clock::Seconds => Utc.timestamp_opt(time, 0).single(),
             Clock::Milliseconds => Utc.timestamp_millis_opt(time).single(),
             Clock::Number => None,
-        };
+        }
+    }
+
+    /// A time: as `2026-01-05 13:45` in UTC, with seconds and milliseconds where these are not 0.
+    pub fn text(self, time: i64) -> String {
+        let found = self.date(time);
         let second = if self == Clock::Milliseconds { 1000 } else { 1 };
         let form = match (time.rem_euclid(60 * second), time.rem_euclid(second)) {
             (0, _) => "%Y-%m-%d %H:%M",

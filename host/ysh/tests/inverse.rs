@@ -52,6 +52,58 @@ fn a_table_shown_as_a_strategy_compiles_to_itself() {
     }
 }
 
+/// An accepted table with some of its prices and slots put below a Highest or a Lowest.
+fn with_extremes(dice: &mut Dice) -> Vec<u8> {
+    let forest = loop {
+        if let Ok(forest) = Forest::of(&table(dice)) {
+            break forest;
+        }
+    };
+    let mut tree = |tree| {
+        let mut nodes = Vec::new();
+        for node in forest.tree_nodes(tree) {
+            if matches!(node.kind, kind::PRICE | kind::REF) && dice.percent(30) {
+                nodes.push(Node {
+                    n: 1 + dice.below(40) as u32,
+                    ..Node::plain(dice.pick(&[kind::HIGHEST, kind::LOWEST]))
+                });
+            }
+            nodes.push(*node);
+        }
+        nodes
+    };
+    let [a, b, c, d] = Tree::ALL.map(&mut tree);
+    bytes_of(forest.slots, [&a, &b, &c, &d])
+}
+
+/// A table of version 2 is one of JSON too, and the version is found by what is in it.
+#[test]
+fn highest_and_lowest_are_written_and_read() {
+    let folder = folder("extremes");
+    let [path, document, other] =
+        ["table.rtb", "shown.json", "other.rtb"].map(|name| folder.join(name).to_str().unwrap().to_owned());
+    let mut dice = Dice(13);
+    let (mut second, mut accepted) = (0, 0);
+    while accepted < 1000 {
+        let table = with_extremes(&mut dice);
+        let Ok(forest) = Forest::of(&table) else { continue };
+        accepted += 1;
+        second += usize::from(table[4] == 2);
+        assert_eq!(again(&forest), table);
+        if accepted % 50 == 0 {
+            fs::write(&path, &table).unwrap();
+            let (status, out, _) = ysh(&["show", &path]);
+            assert_eq!((status, table_of(&out, forest.slots)), (0, table.clone()));
+            let (status, out, _) = ysh(&["show", &path, "--json"]);
+            assert_eq!(status, 0);
+            fs::write(&document, out).unwrap();
+            let (status, _, err) = ysh(&["compile", &document, "-o", &other, "--absent-short-exit"]);
+            assert_eq!(status, 0, "{err}");
+        }
+    }
+    assert!(second > 300, "{second}");
+}
+
 /// The nodes of the readable rules, from the labels in their lines alone.
 fn nodes_of(lines: &[&str], names: &[String]) -> Vec<Node> {
     let start = lines[0].find("rule").unwrap();
@@ -93,6 +145,8 @@ fn node_of(label: &str, names: &[String]) -> Node {
     let bars = |n: &str| n.replace(',', "").parse().unwrap();
     match parts[..] {
         [n, "bar" | "bars", "before"] => Node { n: bars(n), ..plain(kind::PREV) },
+        ["highest", "over", n, _] => Node { n: bars(n), ..plain(kind::HIGHEST) },
+        ["lowest", "over", n, _] => Node { n: bars(n), ..plain(kind::LOWEST) },
         ["rising", "over", n, _] => Node { n: bars(n), ..plain(kind::RISING) },
         ["falling", "over", n, _] => Node { n: bars(n), ..plain(kind::FALLING) },
         ["all", "of", n] => Node { children: n.parse().unwrap(), ..plain(kind::ALL) },

@@ -59,7 +59,7 @@ fn the_examples_run_as_they_stand() {
     let box_fits = examples(&readme, "Does my box fit?");
     let holdup = examples(&tour, "How deep, how long, how large");
     let bars = examples(&tour, "A strategy over bars");
-    assert_eq!((box_fits.len(), holdup.len(), bars.len()), (1, 2, 6));
+    assert_eq!((box_fits.len(), holdup.len(), bars.len()), (1, 2, 7));
     for (command, shown) in box_fits.into_iter().chain(holdup).chain(bars) {
         let arguments: Vec<&str> = command.split_whitespace().skip(1).collect();
         let (status, out, err) = ysh(&arguments);

@@ -267,6 +267,7 @@ fn refused_runs_are_rows() {
     assert_eq!((status, err.lines().count()), (2, 3), "{err}");
     assert_eq!(out.lines().filter(|line| line.ends_with("1 bar refused")).count(), 4, "{out}");
     let (file, bars) = (&files.strategies[0], &files.bars[0]);
+    one_line(&["trials", file, "--bars", bars, "-"], "it is read once");
     one_line(&["trials", file, file, "--bars", bars], "it is named twice");
     one_line(&["trials", file, "--bars", bars, bars], "it is named twice");
     one_line(&["trials", file, "--bars", bars, "--csv", bars], "it is read by this command");
@@ -304,6 +305,27 @@ fn an_interrupted_run_goes_on() {
     assert!(status == 2 && err.contains("it is the journal of other runs: --lot is another"), "{err}");
     fs::write(&journal, "time,open\n").unwrap();
     assert!(resumed(&[]).2.contains("a journal of `ysh trials --resume` was expected"));
+}
+
+/// A doubt of a file is told once, however many runs it has, and with --strict its runs are refused.
+#[test]
+fn doubts_are_told() {
+    let files = Files::new("trials-doubts");
+    let odd = put(&files.folder, "odd.json", strategy(2).replace("\"warmup\"", "\"colour\": \"red\", \"warmup\""));
+    let other = put(&files.folder, "late.csv", bars(60, 1.0).replace("\n120000,", "\n119,"));
+    let asked = |more: &[&str]| {
+        ysh(&[&["trials", &odd, &files.strategies[0], "--bars", &files.bars[0], &files.bars[2], &other], more].concat())
+    };
+    let (status, out, err) = asked(&[]);
+    let warnings: Vec<&str> = out.lines().take_while(|line| line.starts_with("WARNING  ")).collect();
+    assert_eq!((status, err.as_str()), (0, ""));
+    assert!(warnings.len() >= 2 && warnings.iter().filter(|line| line.contains("colour")).count() == 1, "{out}");
+    assert!(warnings.iter().any(|line| line.contains("late.csv: ")), "{out}");
+    let (status, out, err) = asked(&["--json"]);
+    assert_eq!((status, err.lines().count()), (0, warnings.len()));
+    assert!(out.contains("colour"));
+    let (status, out, _) = asked(&["--strict"]);
+    assert_eq!((status, out.lines().filter(|line| line.contains("not run: ")).count()), (2, 4), "{out}");
 }
 
 /// After a click on a head the rows stand by it, and after another the other way.

@@ -70,8 +70,25 @@ fn a_chain_in_words() {
                 "fast > 0: yes, fast is 1, 0\n",
             ],
         ),
-        ("4", vec!["asked     entry\n", "entry says yes\n  #0 all of 2: yes, each of them says yes\n"]),
-        ("6", vec!["position  long 1, entered at bar 5\n", "exit says no\n", "any of 2: no, none of them says yes\n"]),
+        (
+            "4",
+            vec![
+                "asked     entry\n",
+                "entry says yes\n  #0 all of 2: yes, each of them says yes\n",
+                "    #1 fast crosses above slow: yes, fast is 3 and slow is 2; a bar before they were 1 and 2\n",
+                "    #4 close >= close 2 bars before: yes, close is 103, close 2 bars before is 102\n",
+            ],
+        ),
+        (
+            "6",
+            vec![
+                "position  long 1, entered at bar 5\n",
+                "exit says no\n",
+                "any of 2: no, none of them says yes\n",
+                "    #9 close falling over 1 bar: no, close is 105, and 1 bar before it was 104\n",
+                "    #11 bars since entry >= 2: no, the entry was 1 bar ago\n",
+            ],
+        ),
         ("7", vec!["exit says yes\n", "bars since entry >= 2: yes, the entry was 2 bars ago\n"]),
         (
             "8",
@@ -96,6 +113,7 @@ fn a_chain_in_words() {
     );
     let out = why(&files, &["--at", "0", "--tree", "exit"]);
     assert!(out.contains("any of 2: no, none of them says yes\n"), "{out}");
+    assert!(out.contains("close falling over 1 bar: no, it looks 1 bar back, and there is 1 bar so far\n"), "{out}");
     assert_eq!(why(&files, &["--at", "time:480"]), why(&files, &["--at", "bar:8"]));
     assert_eq!(why(&files, &["--at", "480"]), why(&files, &["--at", "8"]));
 }
@@ -112,6 +130,107 @@ fn a_bar_that_is_not_there() {
         assert_eq!((status, out.as_str(), err.lines().count()), (2, "", 1), "{err}");
         assert!(err.contains(part), "{err}");
     }
+}
+
+/// The same bars with dates, from 2026-01-05 00:00 on, a minute apart; some of them changed.
+fn dated(folder: &Path, change: impl Fn(usize, i64) -> i64) -> [String; 2] {
+    let files = files(folder);
+    let text = fs::read_to_string(&files[1]).unwrap();
+    let mut lines = text.lines();
+    let mut new = format!("{}\n", lines.next().unwrap());
+    for (n, line) in lines.enumerate() {
+        let time = change(n, 1_767_571_200_000 + 60_000 * n as i64);
+        new.push_str(&format!("{time},{}\n", line.split_once(',').unwrap().1));
+    }
+    fs::write(&files[1], new).unwrap();
+    files
+}
+
+#[test]
+fn times_as_people_write_them() {
+    let files = dated(&folder("why-times"), |_, time| time);
+    let bar = why(&files, &["--at", "bar:4"]);
+    assert!(bar.contains("at bar 4, 2026-01-05 00:04\nposition"), "{bar}");
+    for at in
+        ["00:04", "00:04:00", "2026-01-05 00:04", "2026-01-05T00:04Z", "2026-01-05T02:04:00+02:00", "1767571440000"]
+    {
+        assert_eq!(why(&files, &["--at", at]), bar, "{at}");
+    }
+    let said = "time      no bar is at 2026-01-05 00:04:30; the last before it is at 2026-01-05 00:04\n";
+    for at in ["00:04:30", "2026-01-05 00:04:30", "2026-01-04T23:04:30-01:00", "time:1767571470000"] {
+        let out = why(&files, &["--at", at]);
+        assert!(out.contains(said) && out.replace(said, "") == bar, "{at}: {out}");
+    }
+    let late = why(&files, &["--at", "23:00"]);
+    assert!(
+        late.contains("at bar 13, ") && late.contains("no bar is at 2026-01-05 23:00; the last before it"),
+        "{late}"
+    );
+    let (status, _, err) = ysh(&["why", &files[0], &files[1], "--at", "2026-01-04 23:00"]);
+    assert!(
+        status == 2 && err.contains("no bar is at 2026-01-04 23:00 or before it; the first is at 2026-01-05 00:00"),
+        "{err}"
+    );
+}
+
+#[test]
+fn a_time_of_day_is_asked_for_once() {
+    // A session over midnight has each time of day once; three days have 00:04 more than once.
+    let night = dated(&folder("why-night"), |_, time| time - 300_000);
+    assert!(why(&night, &["--at", "00:01"]).contains("at bar 6, 2026-01-05 00:01\n"));
+    assert!(why(&night, &["--at", "23:56"]).contains("at bar 1, 2026-01-04 23:56\n"));
+    let days = dated(&folder("why-days"), |n, time| time + 86_400_000 * (n / 5) as i64);
+    let (status, _, err) = ysh(&["why", &days[0], &days[1], "--at", "00:07"]);
+    assert!(status == 2 && err.contains("have 00:07:00 more than once; a date was expected with it"), "{err}");
+    let plain = files(&folder("why-numbers"));
+    let (status, _, err) = ysh(&["why", &plain[0], &plain[1], "--at", "00:07"]);
+    assert!(status == 2 && err.contains("its times, 0 to 780, are no seconds and no milliseconds since 1970"), "{err}");
+}
+
+#[test]
+fn a_time_that_stands_twice_is_said_and_both_are_shown() {
+    let files = dated(&folder("why-twice"), |n, time| if n == 5 { time - 60_000 } else { time });
+    let out = why(&files, &["--at", "00:04"]);
+    assert_eq!(out.matches("time      2 bars have the time 2026-01-05 00:04\n").count(), 2, "{out}");
+    assert!(out.contains("at bar 4, ") && out.contains("at bar 5, "), "{out}");
+    assert!(
+        out.starts_with("WARNING  ") && out.contains("1 time that repeats the one above it; the first in line 7\n"),
+        "{out}"
+    );
+    let (status, _, err) = ysh(&["why", &files[0], &files[1], "--at", "00:04", "--strict"]);
+    assert!(status == 2 && err.contains("line 7: 1 time that repeats the one above it (--strict)"), "{err}");
+}
+
+#[test]
+fn the_same_for_programs() {
+    let files = dated(&folder("why-json"), |_, time| time);
+    let (status, out, err) = ysh(&["why", &files[0], &files[1], "--at", "00:08:30", "--json"]);
+    assert_eq!((status, err.as_str()), (0, ""));
+    let json: serde_json::Value = serde_json::from_str(&out).unwrap();
+    assert!(json["said"].as_str().unwrap().starts_with("no bar is at 2026-01-05 00:08:30"), "{out}");
+    let bar = &json["bars"][0];
+    assert_eq!(
+        (&bar["bar"], &bar["time"], &bar["position"]["side"]),
+        (&8.into(), &1_767_571_680_000i64.into(), &"none".into())
+    );
+    assert_eq!(bar["asked"], serde_json::json!(["entry", "short entry"]));
+    let entry = &bar["rules"][0]["chain"][1];
+    assert_eq!(
+        (&entry["node"], &entry["by"], &entry["missing_node"], &entry["bars_back"]),
+        (&1.into(), &"missing".into(), &2.into(), &0.into())
+    );
+    let short = &bar["rules"][1];
+    assert_eq!(
+        (&short["tree"], &short["answer"], &short["chain"][1]["by"]),
+        (&"short entry".into(), &true.into(), &"missing".into())
+    );
+    let (_, out, _) = ysh(&["why", &files[0], &files[1], "--at", "00:04", "--json"]);
+    let json: serde_json::Value = serde_json::from_str(&out).unwrap();
+    let chain = &json["bars"][0]["rules"][0]["chain"];
+    assert_eq!(
+        (&chain[0]["by"], &chain[1]["level"], &chain[2]["values"]),
+        (&"below".into(), &1.into(), &serde_json::json!([103.0, 102.0]))
+    );
 }
 
 /// Every entry and every exit by signal of a run was decided a bar before, and `why` says so there.

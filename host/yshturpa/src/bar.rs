@@ -117,6 +117,17 @@ impl Rows {
     pub fn words(&self) -> &[u64] {
         &self.words
     }
+
+    /// The rows before a place, at most so many of the last of them.
+    pub fn upto(&self, end: usize, count: usize) -> Rows {
+        Rows { slots: self.slots, words: self.some(end.saturating_sub(count)..end).to_vec() }
+    }
+
+    /// The words of the rows at some places; places past the end have none.
+    pub(crate) fn some(&self, places: std::ops::Range<usize>) -> &[u64] {
+        let (width, end) = (ROW_FIXED + self.slots, places.end.min(self.len()));
+        &self.words[places.start.min(end) * width..end * width]
+    }
 }
 
 #[cfg(test)]

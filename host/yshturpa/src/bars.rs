@@ -85,6 +85,11 @@ impl Bars {
         }
     }
 
+    /// The words of the bars at some places, as they are handed over.
+    pub fn words(&self, places: Range<usize>) -> &[u64] {
+        &self.words[places.start * self.width()..places.end * self.width()]
+    }
+
     pub fn time(&self, place: usize) -> i64 {
         self.words[place * self.width()] as i64
     }

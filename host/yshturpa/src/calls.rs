@@ -1,6 +1,7 @@
 //! The C interface as include/yshturpa.h declares it, and each call once over slices: all the `unsafe` there is.
 #![allow(unsafe_code)]
 
+use crate::layout::POSITION_WORDS;
 use crate::Refusal;
 
 #[rustfmt::skip]
@@ -50,6 +51,10 @@ mod raw {
             table: *const u8, table_len: usize, tree: u64, rows: *const u64, rows_len: usize,
             qty: u64, entered: u64, entry_bar: u64, bars_seen: u64, lines: *mut u64, lines_len: usize, count: *mut u64,
         ) -> u64;
+        pub fn ysh_why_over(
+            table: *const u8, table_len: usize, tree: u64, rows: *const u64, rows_len: usize, positions: *const u64, positions_len: usize,
+            lines: *mut u64, lines_len: usize, counts: *mut u64, counts_len: usize,
+        ) -> u64;
         pub fn ysh_run(
             steps: *const u8, steps_len: usize, rows: *const u64, rows_len: usize, slots: u64, depth: u64,
             qty: u64, entered: u64, entry_bar: u64, bars_seen: u64, answer: *mut u64, visits: *mut u64,
@@ -74,6 +79,7 @@ mod raw {
         pub fn ysh_totals(totals: *mut u64, totals_len: usize, trades: *const u64, trades_len: usize) -> u64;
         pub fn ysh_totals_join(totals: *mut u64, totals_len: usize, other: *const u64, other_len: usize) -> u64;
         pub fn ysh_root(word: u64) -> u64;
+        pub fn ysh_version() -> u64;
         pub fn ysh_dump(
             settings: *const u64, settings_len: usize, state: *const u64, state_len: usize, rows: *const u64, rows_len: usize,
             area: *mut u8, area_len: usize, from: u64, upto: u64,
@@ -322,7 +328,7 @@ pub fn finish(settings: &[u64], rooms: Rooms, metrics: &mut [u64]) -> Answer<()>
 }
 
 /// A position as its four words: quantity, whether there is an entry bar, its number, bars seen.
-pub type PositionWords = [u64; 4];
+pub type PositionWords = [u64; POSITION_WORDS];
 
 pub fn rule(table: &[u8], tree: u64, rows: &[u64], position: PositionWords) -> Answer<u64> {
     let [qty, entered, entry_bar, bars_seen] = position;
@@ -364,6 +370,31 @@ pub fn why(table: &[u8], tree: u64, rows: &[u64], position: PositionWords, lines
         )
     })?;
     Ok(count)
+}
+
+pub fn why_over(
+    table: &[u8],
+    tree: u64,
+    rows: &[u64],
+    positions: &[u64],
+    lines: &mut [u64],
+    counts: &mut [u64],
+) -> Answer<()> {
+    Refusal::of(unsafe {
+        raw::ysh_why_over(
+            table.as_ptr(),
+            table.len(),
+            tree,
+            rows.as_ptr(),
+            rows.len(),
+            positions.as_ptr(),
+            positions.len(),
+            lines.as_mut_ptr(),
+            lines.len(),
+            counts.as_mut_ptr(),
+            counts.len(),
+        )
+    })
 }
 
 pub fn run(steps: &[u8], rows: &[u64], slots: u64, depth: u64, position: PositionWords) -> Answer<(u64, u64)> {
@@ -433,6 +464,10 @@ pub fn totals_join(totals: &mut [u64], other: &[u64]) -> Answer<()> {
 
 pub fn root(word: u64) -> u64 {
     unsafe { raw::ysh_root(word) }
+}
+
+pub fn version() -> u64 {
+    unsafe { raw::ysh_version() }
 }
 
 pub fn dump(settings: &[u64], state: &[u64], rows: &[u64], area: &mut [u8], from: u64, upto: u64) -> Answer<()> {

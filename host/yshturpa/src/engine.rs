@@ -109,6 +109,28 @@ impl Engine {
         Ok(Metrics::of(&metrics))
     }
 
+    /// The same run by itself, to try a bar on: the last D rows, and rooms for equity and trades with nothing in them.
+    pub fn apart(&self) -> Engine {
+        let (width, depth) = (ROW_FIXED + self.slots, self.settings[setting::DEPTH] as usize);
+        let held = self.state[state::ROWS_HELD] as usize;
+        let kept = held.min(depth);
+        let mut rows = self.rows[(held - kept) * width..held * width].to_vec();
+        rows.resize((depth + 1) * width, 0);
+        let mut state = self.state;
+        state[state::ROWS_HELD] = kept as u64;
+        state[state::EQUITY_POINTS] = 0;
+        state[state::TRADES] = 0;
+        let (equity, trades) = (vec![0; POINT_WORDS], vec![0; 2 * TRADE_WORDS]);
+        let (slots, settings, steps) = (self.slots, self.settings, self.steps.clone());
+        Engine { slots, settings, state, bar: Vec::new(), rows, equity, trades, steps }
+    }
+
+    /// Empties the rooms of equity and trades: what comes is counted from 0.
+    pub fn forget_results(&mut self) {
+        self.state[state::EQUITY_POINTS] = 0;
+        self.state[state::TRADES] = 0;
+    }
+
     pub fn state(&self) -> State {
         State { words: self.state }
     }

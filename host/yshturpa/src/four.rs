@@ -1,8 +1,10 @@
 //! Four accounts on one stream of bars.
 
+use std::ops::Range;
+
 use crate::calls::{self, Rooms};
 use crate::layout::{status, stream, STATUS_WORDS, STREAM_WORDS};
-use crate::{Bar, Engine, Refusal};
+use crate::{Bar, Bars, Done, Engine, Refusal};
 
 /// A stream of bars: how many slots each has, and how many were taken so far.
 #[derive(Clone, Debug, PartialEq, Eq)]
@@ -86,7 +88,17 @@ impl Stream {
             bar.words(slots, &mut words);
             list.extend_from_slice(&words);
         }
+        self.step_words(&list, accounts)
+    }
+
+    /// The bars at some places of a list, up to the first that the stream refuses. Bars of another number of slots are none of its.
+    pub fn step_over(&mut self, bars: &Bars, places: Range<usize>, accounts: &mut [Account; 4]) -> Done {
+        let (done, answer) = self.step_words(bars.words(places), accounts);
+        Done { bars: done as usize, refused: answer.err() }
+    }
+
+    fn step_words(&mut self, list: &[u64], accounts: &mut [Account; 4]) -> (u64, Result<(), Refusal>) {
         let [a, b, c, d] = accounts;
-        calls::accounts(&mut self.words, &list, [a.lent(), b.lent(), c.lent(), d.lent()])
+        calls::accounts(&mut self.words, list, [a.lent(), b.lent(), c.lent(), d.lent()])
     }
 }

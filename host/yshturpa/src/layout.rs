@@ -27,6 +27,9 @@ pub const STATUS_WORDS: usize = 3;
 pub const WHY_WORDS: usize = 8;
 pub const WHY_LINES: usize = 32;
 
+/// Words of a position, where one is asked for each of many rows.
+pub const POSITION_WORDS: usize = 4;
+
 /// Bytes of a dump's header.
 pub const DUMP_HEADER: usize = 256;
 
@@ -147,9 +150,10 @@ pub mod room {
     pub const STREAM: u32 = 16;
     pub const STATUS: u32 = 17;
     pub const SILENT: u32 = 18;
+    pub const COUNTS: u32 = 19;
 
     /// What each is called.
-    pub const NAMES: [(u32, &str); 19] = [
+    pub const NAMES: [(u32, &str); 20] = [
         (ROWS, "rows"),
         (1, "equity"),
         (2, "trades"),
@@ -169,6 +173,7 @@ pub mod room {
         (STREAM, "the stream"),
         (STATUS, "the status of an account"),
         (SILENT, "silent tests"),
+        (COUNTS, "counts of lines"),
     ];
 }
 

@@ -41,7 +41,15 @@ pub use settings::{EntryOrder, Settings, Sizing, Slippage};
 pub use state::{Order, OrderLevel, Position, State};
 pub use table::{check, depth, dump_bytes, silent, slots_of, translate, Accepted, Depth, Tree};
 pub use totals::Totals;
-pub use why::{why, By, WhyLine};
+pub use why::{why, why_over, why_within, By, WhyLine};
+
+/// The version of this wrapper, which is that of the library it was written for.
+pub const VERSION: &str = env!("CARGO_PKG_VERSION");
+
+/// The version of the library that is linked, as one number: major · 1,000,000 + minor · 1,000 + patch.
+pub fn library_version() -> u64 {
+    calls::version()
+}
 
 /// The square root, correctly rounded, computed from the bits alone.
 pub fn root(x: f64) -> f64 {

@@ -11,7 +11,8 @@ pub struct Point {
 }
 
 impl Point {
-    pub(crate) fn of(words: &[u64]) -> Point {
+    /// By its words.
+    pub fn of(words: &[u64]) -> Point {
         Point { time: words[0] as i64, equity: f64::from_bits(words[1]) }
     }
 
@@ -62,7 +63,8 @@ pub struct Trade {
 }
 
 impl Trade {
-    pub(crate) fn of(words: &[u64]) -> Trade {
+    /// By its words.
+    pub fn of(words: &[u64]) -> Trade {
         let x = |i: usize| f64::from_bits(words[i]);
         Trade {
             entry_time: words[0] as i64,

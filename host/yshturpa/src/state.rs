@@ -1,6 +1,6 @@
 //! The state between two bars, by name.
 
-use crate::layout::{state, STATE_WORDS};
+use crate::layout::{state, POSITION_WORDS, STATE_WORDS};
 
 /// The order that may be working.
 #[derive(Clone, Copy, Debug, PartialEq, Eq)]
@@ -30,7 +30,7 @@ pub struct Position {
 }
 
 impl Position {
-    pub(crate) fn words(&self) -> [u64; 4] {
+    pub(crate) fn words(&self) -> [u64; POSITION_WORDS] {
         [self.qty.to_bits(), self.entry_bar.is_some() as u64, self.entry_bar.unwrap_or(0), self.bars_seen]
     }
 }

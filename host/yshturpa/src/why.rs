@@ -1,7 +1,15 @@
 //! Why a rule said what it said: the chain of nodes from the root of a tree to what decided.
 
+use std::ops::Range;
+
 use crate::layout::{WHY_LINES, WHY_WORDS};
-use crate::{calls, slots_of, Error, Position, Rows, Tree};
+use crate::{calls, slots_of, Error, Position, Refusal, Rows, Tree};
+
+/// Words of the lines of one row.
+const PLACE: usize = WHY_LINES * WHY_WORDS;
+
+/// Rows that are asked in one call: their lines take half a megabyte, and the check of the table is little beside the answers.
+const PART: usize = 256;
 
 /// One node of the chain: its number in the table, what it says, and by what.
 #[derive(Clone, Copy, Debug, PartialEq)]
@@ -51,11 +59,57 @@ impl WhyLine {
 
 /// The chain of a tree at the newest row, the root first; no lines where the tree is absent.
 pub fn why(table: &[u8], tree: Tree, rows: &Rows, position: &Position) -> Result<Vec<WhyLine>, Error> {
+    why_within(table, tree, rows, 0..rows.len(), position)
+}
+
+/// The chain over some of the rows, the last of them being the newest.
+pub fn why_within(
+    table: &[u8],
+    tree: Tree,
+    rows: &Rows,
+    places: Range<usize>,
+    position: &Position,
+) -> Result<Vec<WhyLine>, Error> {
+    same_slots(table, rows)?;
+    let mut lines = [0; PLACE];
+    let count = calls::why(table, tree as u64, rows.some(places), position.words(), &mut lines)?;
+    Ok(chain(&lines, count))
+}
+
+/// The chains of a tree at row `first` and at those after it, one for each position: what [`why`] gives over the rows up to
+/// that one, with that position. The table is checked once for many rows. Rows that are not there are refused with 13.
+pub fn why_over(
+    table: &[u8],
+    tree: Tree,
+    rows: &Rows,
+    first: usize,
+    positions: &[Position],
+) -> Result<Vec<Vec<WhyLine>>, Error> {
+    same_slots(table, rows)?;
+    if rows.len().saturating_sub(first) < positions.len() {
+        return Err(Refusal { number: 13, place: 0 }.into());
+    }
+    let most = positions.len().min(PART);
+    let (mut lines, mut counts) = (vec![0; most * PLACE], vec![0; most]);
+    let mut chains = Vec::with_capacity(positions.len());
+    for asked in positions.chunks(PART) {
+        let upto = rows.some(0..first + chains.len() + asked.len());
+        let words: Vec<u64> = asked.iter().flat_map(Position::words).collect();
+        calls::why_over(table, tree as u64, upto, &words, &mut lines, &mut counts)?;
+        let places = lines.chunks_exact(PLACE).zip(&counts).take(asked.len());
+        chains.extend(places.map(|(place, count)| chain(place, *count)));
+    }
+    Ok(chains)
+}
+
+fn same_slots(table: &[u8], rows: &Rows) -> Result<(), Error> {
     let slots = slots_of(table)?;
     if rows.slots() != slots {
         return Err(Error::Slots { given: rows.slots(), table: slots });
     }
-    let mut lines = [0; WHY_LINES * WHY_WORDS];
-    let count = calls::why(table, tree as u64, rows.words(), position.words(), &mut lines)? as usize;
-    Ok(lines.chunks_exact(WHY_WORDS).take(count).map(WhyLine::of).collect())
+    Ok(())
+}
+
+fn chain(lines: &[u64], count: u64) -> Vec<WhyLine> {
+    lines.chunks_exact(WHY_WORDS).take(count as usize).map(WhyLine::of).collect()
 }

@@ -71,6 +71,8 @@ fn every_number_is_the_headers() {
         ("STATUS_BAR", status::BAR),
         ("LINE_WORDS", layout::WHY_WORDS),
         ("MOST_LINES", layout::WHY_LINES),
+        ("PLACE_WORDS", layout::WHY_LINES * layout::WHY_WORDS),
+        ("POSITION_WORDS", layout::POSITION_WORDS),
         ("TABLE_BYTES", layout::TABLE_BYTES),
         ("MOST_SLOTS", layout::MOST_SLOTS),
         ("MOST_DEPTH", layout::MOST_DEPTH),
@@ -113,6 +115,7 @@ fn every_number_is_the_headers() {
         ("ROOM_STREAM", room::STREAM),
         ("ROOM_STATUS", room::STATUS),
         ("ROOM_SILENT", room::SILENT),
+        ("ROOM_COUNTS", room::COUNTS),
     ];
     ours.extend(rooms.map(|(n, v)| (n, v.into())));
     let kinds = [

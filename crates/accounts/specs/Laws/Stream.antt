@@ -75,7 +75,8 @@ stream-fine S seen bars h =
 pub tenth : (n S done : ℕ) → done < n / barWords S → 10 * done ≤ n
 tenth n S done h = let fits : done * barWords S ≤ n = records-fit n (barWords S) (omega arith) done (omega arith) in omega arith
 
-cut-length : (n w : ℕ) (ws : List ℕ) → length (cut n w ws) ≡ n
+-- as many records as are cut
+pub cut-length : (n w : ℕ) (ws : List ℕ) → length (cut n w ws) ≡ n
 unfolding cut
 cut-length zero w ws = refl
 cut-length (suc n) w ws = rw (cut-length n w (drop w ws))

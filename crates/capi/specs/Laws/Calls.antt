@@ -21,6 +21,8 @@ pub record Honest {A : Type 0} (call : Call A) (before : A) (o : Outcome A) : Ty
   -- the number is the upper half of the answer, the place its lower half
   pub number : (r : Refusal) → o ≡ refuses r → call .answer / 2 ^ 32 ≡ r .number
   pub place : (r : Refusal) → o ≡ refuses r → call .answer % 2 ^ 32 ≡ r .place
+  -- an answer other than 0 has a number other than 0
+  pub told : (call .answer ≡ 0 → ⊥) → call .answer / 2 ^ 32 ≡ 0 → ⊥
   -- 0: nothing was refused, and what is lent is what was given
   pub does : call .answer ≡ 0 → o ≡ gives (call .lent)
 
@@ -38,12 +40,14 @@ honest (gives after) before n = record {
   keeps = λ z. absurd (z refl);
   number = λ r e. gives-not e;
   place = λ r e. gives-not e;
+  told = λ z. absurd (z refl);
   does = λ z. refl;
 }
 honest (refuses q) before n = record {
   keeps = λ z. refl;
   number = λ r e. let s = n .small r e in let same : q ≡ r = cc in rw same (answer-number r (s .number) (s .place));
   place = λ r e. let s = n .small r e in let same : q ≡ r = cc in rw same (answer-place r (s .number) (s .place));
+  told = λ z e. let s = n .small q refl in omega (arith, s .some, answer-number q (s .number) (s .place), e);
   does = λ z. absurd (refused-word q (n .small q refl) z);
 }
 

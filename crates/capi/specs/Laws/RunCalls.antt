@@ -19,7 +19,7 @@ use Rattle.capi.specs.{Finish.finishCall, Figures.metricsGives, Figures.
 use Rattle.capi.specs.{Laws.Calls.honest, Laws.Calls.never-refuses, Laws.Calls.one-refusal, Laws.Calls.after-verdict}
 
 -- lines that have the paper's numbers, and places below 2^32
-lines-small : (ls : List Line) → numbered ls ≡ true → (r : Refusal) → judged ls ≡ Bad r → r .place < 2 ^ 32 → Small r
+pub lines-small : (ls : List Line) → numbered ls ≡ true → (r : Refusal) → judged ls ≡ Bad r → r .place < 2 ^ 32 → Small r
 lines-small ls n r e near =
     let w = number-within ls r n e in
     record { some = omega (arith, w .0); number = omega (arith, w .1); place = near }

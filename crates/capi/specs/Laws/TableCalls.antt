@@ -45,36 +45,50 @@ header-number t =
 small : (n p : ℕ) → 0 < n → n ≤ 15 → p ≤ 1024 → Small (refusal n p)
 small n p lo hi near = record { some = lo; number = omega arith; place = omega arith }
 
+-- a number from 1 to 9, at a place of the table
+pub record OneToNine (why : Refusal) : Type 0 where
+  pub some : 0 < why .number
+  pub most : why .number ≤ 9
+  pub near : why .place ≤ 1024
+
 -- a rule of the table that is broken, or what the rules below it say
-rule-number : (n : ℕ) (q : Place) (a : Answer) (why : Refusal) → 0 < n → n ≤ 9 → UpTo mostNodes q → (a ≡ Refused why → Small why)
-    → orRefused n q a ≡ Refused why → Small why
+rule-number : (n : ℕ) (q : Place) (a : Answer) (why : Refusal) → 0 < n → n ≤ 9 → UpTo mostNodes q → (a ≡ Refused why → OneToNine why)
+    → orRefused n q a ≡ Refused why → OneToNine why
 unfolding orRefused UpTo
 rule-number n Nowhere a why lo hi near below e = below e
 rule-number n (At p) a why lo hi near below e =
-    let same : refusal n p ≡ why = cc in rw same at (small n p lo (omega arith) (omega (arith, near)))
+    let nine : OneToNine (refusal n p) = record { some = lo; most = hi; near = omega (arith, near) } in
+    let same : refusal n p ≡ why = cc in rw same at nine
 
-header-or : (n : ℕ) (a : Answer) (why : Refusal) → n ≤ 9 → (n ≡ 0 → a ≡ Refused why → Small why) → orHeader n a ≡ Refused why → Small why
+header-or : (n : ℕ) (a : Answer) (why : Refusal) → n ≤ 9 → (n ≡ 0 → a ≡ Refused why → OneToNine why) → orHeader n a ≡ Refused why → OneToNine why
 unfolding orHeader
 header-or n a why hi below e = go (eqb n 0) refl e
   where
-    go : (b : Bool) → eqb n 0 ≡ b → cond b a (Refused (refusal n 0)) ≡ Refused why → Small why
+    go : (b : Bool) → eqb n 0 ≡ b → cond b a (Refused (refusal n 0)) ≡ Refused why → OneToNine why
     go true d f = below (eqb-true n 0 d) f
     go false d f =
-        let same : refusal n 0 ≡ why = cc in rw same at (small n 0 (omega (arith, eqb-false n 0 d)) (omega arith) (omega arith))
+        let nine : OneToNine (refusal n 0) = record { some = omega (arith, eqb-false n 0 d); most = hi; near = omega arith } in
+        let same : refusal n 0 ≡ why = cc in rw same at nine
 
-accepted-not : (n r : ℕ) (why : Refusal) → Accepted n r ≡ Refused why → Small why
+accepted-not : (n r : ℕ) (why : Refusal) → Accepted n r ≡ Refused why → OneToNine why
 accepted-not n r why e = absurd (let z : _≡_ {A = ℕ} 0 1 = cc in omega arith)
 
 -- "1 to 9 come first"
-pub table-number : (t : List ℕ) (why : Refusal) → checked t ≡ Refused why → Small why
+pub one-to-nine : (t : List ℕ) (why : Refusal) → checked t ≡ Refused why → OneToNine why
 unfolding checked checkedUpTo from7 from8 from9
-table-number t why =
+one-to-nine t why =
     header-or (headerRefusal newestVersion t) _ why (header-number t)
     (λ h. let r = header-right newestVersion t h in
     rule-number 6 _ _ why (omega arith) (omega arith) (wrong-within t r)
     (rule-number 7 _ _ why (omega arith) (omega arith) (misfits-within t r)
     (rule-number 8 _ _ why (omega arith) (omega arith) (deep-within t r)
     (rule-number 9 _ _ why (omega arith) (omega arith) (far-within t r) (accepted-not _ _ why)))))
+
+-- and so it stands in an answer
+pub table-number : (t : List ℕ) (why : Refusal) → checked t ≡ Refused why → Small why
+table-number t why e =
+    let nine = one-to-nine t why e in
+    record { some = nine .some; number = omega (arith, nine .most); place = omega (arith, nine .near) }
 
 -- what a call goes by: its answer to a table
 abbrev ByTable : Answer → Type 0

@@ -5,6 +5,7 @@ use yshturpa::{Bars, Funding};
 
 use super::columns::Columns;
 use super::{quoted, Wrong};
+use crate::times;
 
 /// A line, with the text that all its cells are, where it is one.
 struct Line<'a> {
@@ -13,8 +14,13 @@ struct Line<'a> {
 }
 
 impl Columns {
-    /// Adds the bar of a line. The slots' room is lent, so that a line allocates nothing.
-    pub fn push(&self, cells: &ByteRecord, slots: &mut Vec<Option<f64>>, bars: &mut Bars) -> Result<(), Wrong> {
+    /// Adds the bar of a line; its time and prices. The slots' room is lent, so that a line allocates nothing.
+    pub fn push(
+        &self,
+        cells: &ByteRecord,
+        slots: &mut Vec<Option<f64>>,
+        bars: &mut Bars,
+    ) -> Result<(i64, [f64; 5]), Wrong> {
         self.whole(cells)?;
         let line = Line { cells, text: std::str::from_utf8(cells.as_slice()).ok() };
         let mut prices = [0.0; 5];
@@ -29,8 +35,9 @@ impl Columns {
             None => None,
             Some(both) => line.funding(both)?,
         };
-        bars.push_parts(line.time(self.time)?, prices, slots.iter().copied(), funding);
-        Ok(())
+        let time = line.time(self.time)?;
+        bars.push_parts(time, prices, slots.iter().copied(), funding);
+        Ok((time, prices))
     }
 
     /// As many cells as there are columns.
@@ -46,6 +53,11 @@ impl Columns {
             }
         }
     }
+}
+
+/// A time as a cell has it: a whole number as it is, a date and time as its milliseconds since 1970.
+pub fn time(cell: &str) -> Option<i64> {
+    cell.parse().ok().or_else(|| times::milliseconds(cell))
 }
 
 impl Line<'_> {
@@ -64,8 +76,8 @@ impl Line<'_> {
     }
 
     fn time(&self, column: usize) -> Result<i64, Wrong> {
-        let said = "is no whole number of 64 bits; a time was expected, such as milliseconds since 1970";
-        self.cell(column).parse().map_err(|_| self.wrong(column, said))
+        let said = "is no whole number of 64 bits; a time was expected, such as milliseconds since 1970 or 2026-01-05T10:31:00Z";
+        time(self.cell(column)).ok_or_else(|| self.wrong(column, said))
     }
 
     fn number(&self, column: usize) -> Result<f64, Wrong> {

@@ -32,8 +32,8 @@ fn column_of_slot(name: &str) -> String {
 }
 
 impl Columns {
-    /// The columns of a first line, for slots of these names.
-    pub fn of(header: &ByteRecord, slots: &[String]) -> Result<Columns, Wrong> {
+    /// The columns of a first line, some of them meant by another name, for slots of these names.
+    pub fn of(header: &ByteRecord, meant: &[(String, String)], slots: &[String]) -> Result<Columns, Wrong> {
         let mut names = Vec::with_capacity(header.len());
         for (column, cell) in header.iter().enumerate() {
             match std::str::from_utf8(cell) {
@@ -41,10 +41,14 @@ impl Columns {
                 Err(_) => return Err(Wrong::new(column, format!("{} is no UTF-8 text", quoted(cell)))),
             }
         }
-        let needed = |name: &str| {
-            place(&names, name)?
-                .ok_or_else(|| Wrong::new(names.len(), format!("no column is called {name:?}, and one was expected")))
-        };
+        let there = names.clone();
+        for (from, to) in meant {
+            match place(&there, from)? {
+                Some(at) => names[at] = to.clone(),
+                None => return Err(Wrong::new(there.len(), format!("no column is called {from:?} (--columns)"))),
+            }
+        }
+        let needed = |name: &str| place(&names, name)?.ok_or_else(|| Wrong::new(names.len(), missing(name, slots)));
         let slot = |name: &String| needed(column_of_slot(name.trim()).as_str());
         let [open, high, low, close, volume] = PRICES;
         let columns = Columns {
@@ -59,6 +63,11 @@ impl Columns {
             return Err(Wrong::new(*twice.1, text));
         }
         Ok(Columns { names, ..columns })
+    }
+
+    /// The time in a line, where there is one.
+    pub fn time_of(&self, cells: &ByteRecord) -> Option<i64> {
+        super::cells::time(std::str::from_utf8(cells.get(self.time)?).ok()?.trim())
     }
 
     /// The columns that nothing reads.
@@ -96,6 +105,18 @@ impl Columns {
     }
 }
 
+/// What is said of a column that is not there; of a slot's, that nobody works its values out here.
+fn missing(name: &str, slots: &[String]) -> String {
+    let said = format!("no column is called {name:?}, and one was expected");
+    match slots.iter().any(|slot| column_of_slot(slot.trim()) == name) {
+        false => said,
+        true => {
+            let all: Vec<String> = slots.iter().map(|slot| column_of_slot(slot.trim())).collect();
+            format!("{said}; indicators are not worked out here, and the rules read {}", all.join(", "))
+        }
+    }
+}
+
 fn place(names: &[String], name: &str) -> Result<Option<usize>, Wrong> {
     let mut found = names.iter().enumerate().filter(|(_, there)| *there == name).map(|(at, _)| at);
     let first = found.next();
@@ -122,7 +143,7 @@ mod tests {
 
     fn of(header: &str, slots: &[&str]) -> Result<Columns, Wrong> {
         let slots: Vec<String> = slots.iter().map(|name| (*name).to_owned()).collect();
-        Columns::of(&ByteRecord::from(header.split(',').collect::<Vec<_>>()), &slots)
+        Columns::of(&ByteRecord::from(header.split(',').collect::<Vec<_>>()), &[], &slots)
     }
 
     #[test]

@@ -2,12 +2,17 @@
 
 mod cells;
 mod columns;
+mod ends;
 mod file;
-mod lines;
+mod form;
+mod input;
+mod odd;
 mod over;
 
 pub use file::BarsFile;
-pub use over::{over, At, OnRefusal, Refusals, Seen, Way};
+pub use form::Form;
+pub use input::Input;
+pub use over::{one_by_one, over, At, OnRefusal, Refusals, Seen, Stepped, Way};
 
 /// What is wrong in a line, and in which column, counted from 0.
 #[derive(Clone, Debug, PartialEq, Eq)]

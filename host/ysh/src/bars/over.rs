@@ -3,10 +3,9 @@
 use std::ops::Range;
 
 use clap::ValueEnum;
-use yshturpa::{Bar, Bars, Engine, Refusal, State};
+use yshturpa::{Bar, Bars, Engine, Position, Refusal, Rows, State};
 
 use super::file::{BarsFile, Part};
-use super::lines::Lines;
 use crate::problem::Problem;
 use crate::progress::Late;
 
@@ -19,11 +18,11 @@ pub enum OnRefusal {
     Skip,
 }
 
-/// A bar of a run, by its number, from 0, or by its time.
+/// A bar of a run by its number, which counts the bars that were done, or by its place, which counts the file's bars; both from 0.
 #[derive(Clone, Copy, Debug, PartialEq, Eq)]
 pub enum At {
     Bar(u64),
-    Time(i64),
+    Place(u64),
 }
 
 /// The last bar that a run has seen: how many it had seen with it, and what it was.
@@ -71,13 +70,14 @@ pub fn over(
     way: Way,
     mut done: impl FnMut(&Bars, Range<usize>),
 ) -> Result<Walked, Problem> {
-    let mut walk = Walk { file, lines: file.lines(), way, passed: 0, refusals: Refusals::default() };
+    let mut walk = Walk { file, way, passed: 0, places: 0, refusals: Refusals::default() };
     let mut before = None;
-    let bar = Late::bytes(file.bytes() as u64);
+    let bar = Late::bytes(file.length());
     let result = file.each(|part| {
         engine.make_room(part.bars.len());
         before = walk.part(engine, &part, &mut done)?;
-        bar.reached(part.bytes.last().map_or(0, |byte| *byte as u64));
+        walk.places += part.bars.len() as u64;
+        bar.reached(part.reached);
         Ok(before.is_none())
     });
     bar.ended();
@@ -93,12 +93,64 @@ pub fn over(
     Ok(Walked { refusals: walk.refusals, before })
 }
 
+/// A bar that was done: its number, what is held after it, and whether an order still worked when rules could have been asked.
+pub struct Stepped {
+    pub number: u64,
+    pub time: i64,
+    pub position: Position,
+    pub worked: bool,
+}
+
+/// Steps over a file's bars one by one, keeping neither equity nor trades. After each part of the file what was done in it is handed over,
+/// with the rows that are held and how many of these were there before; it goes on while it is told to.
+pub fn one_by_one(
+    file: &BarsFile,
+    engine: &mut Engine,
+    on_refusal: OnRefusal,
+    mut take: impl FnMut(&Rows, usize, &[Stepped]) -> Result<bool, Problem>,
+) -> Result<Refusals, Problem> {
+    let way = Way { on_refusal, after: None, until: None };
+    let mut walk = Walk { file, way, passed: 0, places: 0, refusals: Refusals::default() };
+    let progress = Late::bytes(file.length());
+    let result = file.each(|part| {
+        engine.forget_results();
+        engine.make_room(part.bars.len());
+        let kept = engine.state().rows_held() as usize;
+        let mut done = Vec::with_capacity(part.bars.len());
+        for place in 0..part.bars.len() {
+            let before = engine.state();
+            let worked = before.order().is_some() && works(engine, &part.bars, place);
+            match engine.step_over(&part.bars, place..place + 1).refused {
+                Some(refusal) => walk.refused(&part.bars.bar(place), part.lines[place], refusal)?,
+                None => {
+                    let (number, position) = (before.bars_seen(), engine.state().position());
+                    done.push(Stepped { number, time: part.bars.time(place), position, worked });
+                }
+            }
+        }
+        progress.reached(part.reached);
+        take(&engine.rows(), kept, &done)
+    });
+    progress.ended();
+    result?;
+    Ok(walk.refusals)
+}
+
+/// Whether the working order still works after a bar's fills. A run without rules decides nothing, so what works after its step worked
+/// before anything was decided.
+fn works(engine: &Engine, bars: &Bars, place: usize) -> bool {
+    let mut apart = engine.apart().without_rules();
+    apart.step_over(bars, place..place + 1);
+    apart.state().order().is_some()
+}
+
 struct Walk<'a> {
     file: &'a BarsFile,
-    lines: Lines<'a>,
     way: Way,
     /// Bars that were passed over while the one that was seen last is looked for.
     passed: u64,
+    /// Bars of the parts before.
+    places: u64,
     refusals: Refusals,
 }
 
@@ -120,12 +172,12 @@ impl Walk<'_> {
                 Some(refusal) => refusal,
                 None if end == part.bars.len() => return Ok(None),
                 // The bar that is asked for: one that is refused has no number, and the next one may have it.
-                None => match engine.clone().step(&part.bars.bar(end)) {
+                None => match engine.apart().step(&part.bars.bar(end)) {
                     Ok(()) => return Ok(Some(part.bars.bar(end))),
                     Err(refusal) => refusal,
                 },
             };
-            self.refused(&part.bars.bar(at), part.bytes[at], refusal)?;
+            self.refused(&part.bars.bar(at), part.lines[at], refusal)?;
             at += 1;
         }
     }
@@ -147,28 +199,23 @@ impl Walk<'_> {
 
     /// The place of the bar that is asked for, from a place on whose bar has this number.
     fn asked_for(&self, bars: &Bars, from: usize, number: u64) -> Option<usize> {
-        match self.way.until? {
-            At::Bar(wanted) => {
-                let place = from + usize::try_from(wanted.checked_sub(number)?).ok()?;
-                (place < bars.len()).then_some(place)
-            }
-            At::Time(wanted) => (from..bars.len()).find(|place| bars.time(*place) == wanted),
-        }
+        let place = match self.way.until? {
+            At::Bar(wanted) => from + usize::try_from(wanted.checked_sub(number)?).ok()?,
+            At::Place(wanted) => usize::try_from(wanted.checked_sub(self.places)?).ok()?,
+        };
+        (from..bars.len()).contains(&place).then_some(place)
     }
 
     /// A refused bar: the end of the run, or one that is left out. Only what a bar is refused for can be left out with it.
-    fn refused(&mut self, bar: &Bar, byte: usize, refusal: Refusal) -> Result<(), Problem> {
+    fn refused(&mut self, bar: &Bar, line: u64, refusal: Refusal) -> Result<(), Problem> {
         let wrong = match refusal.number {
             11 => self.file.columns.not_finite(bar),
             16 => None,
             _ => return Err(Problem::refused(&self.file.name, refusal)),
         };
         let problem = match wrong {
-            Some(wrong) => self.file.problem(&mut self.lines, byte, wrong),
-            None => {
-                let place = format!("line {}", self.lines.after(byte));
-                Problem::input(&self.file.name, place, refusal.meaning())
-            }
+            Some(wrong) => self.file.problem(line, wrong),
+            None => Problem::input(&self.file.name, format!("line {line}"), refusal.meaning()),
         };
         let problem = Problem { refusal: Some(refusal), ..problem };
         if self.way.on_refusal == OnRefusal::Stop {

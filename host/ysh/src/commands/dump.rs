@@ -12,7 +12,8 @@ use crate::output::Outputs;
 use crate::problem::Problem;
 use crate::run::outcome::Outcome;
 use crate::run::Ready;
-use crate::why::moment::{at, not_there};
+use crate::why::moment::not_there;
+use crate::why::place::find;
 
 pub fn answer(asked: &Dump) -> Answer {
     let answered = match &asked.which {
@@ -46,10 +47,13 @@ fn show(asked: &Show) -> Result<Answer, Problem> {
 }
 
 fn take(asked: &Take) -> Result<Answer, Problem> {
-    let ready = Ready::of(&asked.over)?;
-    let notes = ready.notes();
+    let ready = Ready::kept(&asked.over)?;
+    let mut notes = ready.notes();
     let Ready { source, bars, mut engine, .. } = ready;
-    let place = at(asked.at, &bars);
+    let found = find(asked.at, &bars)?;
+    notes.extend(found.said);
+    // Of bars with the same time the last: what the box had seen when that time was over.
+    let place = *found.at.last().expect("a bar was found");
     let way = Way { on_refusal: asked.over.on_refusal, after: None, until: Some(place) };
     let walked = over(&bars, &mut engine, way, |_, _| ())?;
     let Some(bar) = walked.before else {

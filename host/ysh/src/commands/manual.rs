@@ -85,7 +85,7 @@ fn described(page: &mut Roff, command: &Command) {
 fn named(argument: &Arg) -> Vec<Inline> {
     let dashed = [argument.get_short().map(|c| format!("-{c}")), argument.get_long().map(|name| format!("--{name}"))];
     let dashed: Vec<String> = dashed.into_iter().flatten().collect();
-    let takes = argument.get_num_args().map_or(false, |count| count.takes_values());
+    let takes = argument.get_num_args().is_some_and(|count| count.takes_values());
     let values = argument.get_value_names().unwrap_or_default().iter().map(|name| name.to_string());
     let values = if takes { values.collect::<Vec<_>>().join(" ") } else { String::new() };
     let blank = if dashed.is_empty() || values.is_empty() { "" } else { " " };
@@ -95,7 +95,7 @@ fn named(argument: &Arg) -> Vec<Inline> {
 /// What an argument is, what it can be, and what it is where it is left out.
 fn help(argument: &Arg) -> String {
     let mut said = argument.get_long_help().or(argument.get_help()).map_or(String::new(), ToString::to_string);
-    let takes = argument.get_num_args().map_or(false, |count| count.takes_values());
+    let takes = argument.get_num_args().is_some_and(|count| count.takes_values());
     if !takes {
         return said;
     }

@@ -1,12 +1,17 @@
 //! One module a command: what was asked to what is written.
 
+pub mod accounts;
+pub mod blocked;
+pub mod compare;
 pub mod compile;
 pub mod completions;
 pub mod depth;
 pub mod dump;
 pub mod holdup;
 pub mod manual;
+pub mod range;
 pub mod run;
+pub mod schema;
 pub mod short;
 pub mod show;
 pub mod trials;
@@ -27,10 +32,15 @@ pub struct Answer {
     pub problems: Vec<Problem>,
     /// Whether something does not fit.
     pub unfit: bool,
+    /// Whether two runs differ.
+    pub differs: bool,
 }
 
 /// The status where something does not fit in the time that is there.
 const UNFIT: u8 = 3;
+
+/// The status where two runs differ.
+const DIFFERS: u8 = 1;
 
 /// Lines for standard error, and the exit status.
 pub struct Said {
@@ -55,8 +65,8 @@ impl Answer {
     }
 
     pub fn into_parts(self) -> (String, Said) {
-        let unfit = self.unfit.then_some(UNFIT);
-        let status = self.problems.iter().map(Problem::status).chain(unfit).max().unwrap_or(0);
+        let others = self.unfit.then_some(UNFIT).into_iter().chain(self.differs.then_some(DIFFERS));
+        let status = self.problems.iter().map(Problem::status).chain(others).max().unwrap_or(0);
         let lines = self.notes.into_iter().chain(self.problems.iter().map(Problem::to_string));
         match self.document {
             true => (self.text, Said { lines: self.doubts.into_iter().chain(lines).collect(), status }),

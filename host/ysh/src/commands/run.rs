@@ -1,7 +1,7 @@
 //! `ysh run`: rules over bars from a file.
 
 use super::Answer;
-use crate::bars::Way;
+use crate::bars::{Refusals, Way};
 use crate::columns::counted;
 use crate::output::Outputs;
 use crate::problem::Problem;
@@ -36,11 +36,17 @@ pub fn written(outcome: Outcome, wanted: &Wanted, mut outputs: Outputs) -> Resul
     let text = if wanted.json { json::json(&outcome) } else { text::text(&outcome) };
     let mut answer = Answer { text, document: wanted.json, ..Answer::default() };
     answer.doubts(&outcome.file, &outcome.doubts);
+    answer.doubts(&outcome.bars_file, &outcome.odd);
     answer.notes(&outcome.file, &outcome.notes);
-    answer.problems = outcome.refusals.told.iter().take(TOLD).cloned().collect();
-    if outcome.refusals.count > TOLD as u64 {
-        let more = counted(outcome.refusals.count - TOLD as u64, "bar more was", "bars more were");
-        answer.notes(&outcome.bars_file, &[format!("{more} refused and left out")]);
-    }
+    refused(&mut answer, &outcome.bars_file, &outcome.refusals);
     Ok(answer)
+}
+
+/// The bars that were left out, the first of them one by one.
+pub fn refused(answer: &mut Answer, bars_file: &str, refusals: &Refusals) {
+    answer.problems = refusals.told.iter().take(TOLD).cloned().collect();
+    if refusals.count > TOLD as u64 {
+        let more = counted(refusals.count - TOLD as u64, "bar more was", "bars more were");
+        answer.notes(bars_file, &[format!("{more} refused and left out")]);
+    }
 }

@@ -10,7 +10,7 @@ use crate::compile::entry_order_of;
 use crate::decompile;
 use crate::problem::Problem;
 use crate::source::Source;
-use crate::table::{deepest, reach_of, reads, Node, Words};
+use crate::table::{deepest, reach_of, reads, Words};
 
 pub fn answer(asked: &Show) -> Answer {
     let shown = |source: Source| if asked.json { document(&source) } else { rules(&source) };
@@ -130,10 +130,6 @@ fn read_back(source: &Source, reaches: &[u64], answer: &mut Answer) {
 fn document(source: &Source) -> Result<Answer, Problem> {
     let mut answer = Answer { document: true, ..Answer::default() };
     answer.doubts(&source.file, &source.doubts);
-    if let Some(node) = source.forest.nodes.iter().position(Node::is_extreme) {
-        let text = "highest and lowest have no form in a strategy; a table of version 1 was expected";
-        return Err(Problem::input(&source.file, format!("node {node}"), text));
-    }
     let strategy = source.strategy.clone().unwrap_or_else(|| decompile::strategy(source));
     if source.strategy.is_none() && strategy.short_entry.is_some() && strategy.short_exit.is_none() {
         let note = "the table has no short exit: compile this with --absent-short-exit to have the same table again";

@@ -9,7 +9,7 @@ use crate::trials::asked::{Join, Totals, Trials, Wanted, Which};
 use crate::trials::document::Document;
 use crate::trials::{csv, done, join, page, text, Journal, Work};
 
-/// As many refused runs as are told one by one.
+/// As many refused runs, and as many doubts, as are told one by one.
 const TOLD: usize = 20;
 
 pub fn answer(asked: &Trials) -> Answer {
@@ -55,6 +55,12 @@ fn written(document: &Document, wanted: &Wanted, mut outputs: Outputs) -> Result
     outputs.write()?;
     let text = if wanted.json { document.json() } else { text::text(document) };
     let mut answer = Answer { text, document: wanted.json, ..Answer::default() };
+    let doubts = document.doubts();
+    answer.doubts.extend(doubts.iter().take(TOLD).map(|doubt| format!("WARNING  {doubt}")));
+    if doubts.len() > TOLD {
+        let more = counted((doubts.len() - TOLD) as u64, "more is", "more are");
+        answer.doubts.push(format!("WARNING  {more} told by --json"));
+    }
     let refused = document.runs.iter().filter_map(|row| row.refused());
     let mut problems: Vec<Problem> = refused.map(|refused| refused.problem()).collect();
     if problems.len() > TOLD {

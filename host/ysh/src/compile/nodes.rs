@@ -73,16 +73,20 @@ impl Found<'_> {
         };
         match expr.as_ref() {
             Expr::Price(field) => self.put(Node { selector: selector_of(*field), ..Node::plain(kind::PRICE) }, path),
-            Expr::Prev((a, n)) => {
-                let inner = format!("{path}.prev[0]");
-                self.put(Node { n: *n, ..Node::plain(kind::PREV) }, path);
-                self.operand(a, inner);
-            }
+            Expr::Prev((a, n)) => self.over(kind::PREV, "prev", path, a, *n),
+            Expr::Highest((a, n)) => self.over(kind::HIGHEST, "highest", path, a, *n),
+            Expr::Lowest((a, n)) => self.over(kind::LOWEST, "lowest", path, a, *n),
             Expr::Add(ab) => self.arithmetic(kind::ADD, "add", path, ab),
             Expr::Sub(ab) => self.arithmetic(kind::SUB, "sub", path, ab),
             Expr::Mul(ab) => self.arithmetic(kind::MUL, "mul", path, ab),
             Expr::Div(ab) => self.arithmetic(kind::DIV, "div", path, ab),
         }
+    }
+
+    fn over(&mut self, kind: u8, name: &str, path: String, a: &Operand, n: u32) {
+        let inner = format!("{path}.{name}[0]");
+        self.put(Node { n, ..Node::plain(kind) }, path);
+        self.operand(a, inner);
     }
 
     fn arithmetic(&mut self, kind: u8, name: &str, path: String, ab: &(Operand, Operand)) {
@@ -163,7 +167,7 @@ fn names_of<'a, const N: usize>(operands: [&'a Operand; N], found: &mut Vec<&'a 
             Operand::Const(_) => {}
             Operand::Expr(expr) => match expr.as_ref() {
                 Expr::Price(_) => {}
-                Expr::Prev((a, _)) => names_of([a], found),
+                Expr::Prev((a, _)) | Expr::Highest((a, _)) | Expr::Lowest((a, _)) => names_of([a], found),
                 Expr::Add((a, b)) | Expr::Sub((a, b)) | Expr::Mul((a, b)) | Expr::Div((a, b)) => {
                     names_of([a, b], found)
                 }

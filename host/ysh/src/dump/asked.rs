@@ -6,7 +6,7 @@ use clap::{Args, Subcommand};
 
 use crate::cli::parse_count;
 use crate::run::asked::{Over, Wanted};
-use crate::why::asked::{parse_place, Place};
+use crate::why::place::{parse_place, Place};
 
 #[derive(Debug, Args)]
 pub struct Dump {
@@ -36,8 +36,8 @@ pub struct Show {
 pub struct Take {
     #[command(flatten)]
     pub over: Over,
-    /// The last bar that the image has seen, by its number from 0 or by its time: bar:N, time:N, or N alone, which is a number where
-    /// the file has so many bars
+    /// The last bar that the image has seen: bar:N, time:N, a date and time, a time of day, or N alone, which is a number where the file
+    /// has so many bars (as `ysh why --at`)
     #[arg(long, value_name = "BAR|TIME", value_parser = parse_place, allow_hyphen_values = true)]
     pub at: Place,
     /// The image to write

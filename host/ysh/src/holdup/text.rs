@@ -139,7 +139,8 @@ pub fn needs(more: u64) -> String {
 
 fn change(change: &Change) -> Vec<String> {
     let part = |brief: &Option<Brief>, of: fn(&Brief) -> String| brief.as_ref().map_or("-".to_owned(), of);
-    let (rows, slots): (fn(&Brief) -> String, fn(&Brief) -> String) = (|b| grouped(b.rows), |b| grouped(b.slots));
+    let rows: fn(&Brief) -> String = |b| grouped(b.rows);
+    let slots: fn(&Brief) -> String = |b| grouped(b.slots);
     let writing: fn(&Brief) -> String = |b| b.writing.up();
     let (before, now) = (&change.before, &change.now);
     let all = [part(before, rows), part(now, rows), part(before, slots), part(now, slots)];

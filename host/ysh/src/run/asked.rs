@@ -4,7 +4,7 @@ use std::path::PathBuf;
 
 use clap::Args;
 
-use crate::bars::OnRefusal;
+use crate::bars::{Form, OnRefusal};
 use crate::cli::{parse_count, parse_lot, parse_money};
 use crate::settings_file::SettingsFile;
 
@@ -28,15 +28,20 @@ pub struct Over {
     /// A strategy, or a rule table with its settings beside it (TABLE.settings.json)
     pub file: PathBuf,
     /// The bars, a CSV file: the first line names the columns time, open, high, low, close, volume, one for each slot by its name and,
-    /// where there is funding, mark and rate; then a bar a line. A time is a whole number, an empty cell an absent value
+    /// where there is funding, mark and rate; then a bar a line. A time is a whole number, or a date and time such as
+    /// 2026-01-05T10:31:00Z, which is read as milliseconds since 1970; an empty cell is an absent value. A file that ends in .gz or .zst is
+    /// unpacked; - is standard input
     #[arg(value_name = "BARS.csv")]
     pub bars: PathBuf,
     /// What a bar that the engine refuses does to the run
     #[arg(long, value_name = "WHAT", value_enum, default_value = "stop")]
     pub on_refusal: OnRefusal,
-    /// A key of a strategy that nothing reads is an error
+    /// A key of a strategy that nothing reads is an error, and so are bars that look wrong: times that fall or repeat, gaps between times, a
+    /// high below the low, a close outside both, a volume below 0
     #[arg(long)]
     pub strict: bool,
+    #[command(flatten)]
+    pub form: Form,
     #[command(flatten)]
     pub given: Given,
 }

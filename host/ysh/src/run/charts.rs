@@ -1,6 +1,6 @@
 //! The charts of a run: closes with entries and exits, equity, drawdown; all over the same bars.
 
-use yshturpa::Trade;
+use yshturpa::{Point, Trade};
 
 use super::outcome::{reason_words, Outcome};
 use crate::axis::Axis;
@@ -36,8 +36,7 @@ impl Charts {
             Frame::new(230.0, bars, equity.iter().copied().chain([outcome.capital])),
             Frame::new(150.0, bars, under.iter().copied().chain([0.0])),
         ];
-        let left = frames.iter().map(|frame| frame.left).fold(0.0, f64::max);
-        frames.iter_mut().for_each(|frame| frame.left = left);
+        Frame::align(&mut frames);
         Some(Charts {
             closes: closes(&frames[0], outcome),
             equity: equity_chart(&frames[1], outcome, &equity),
@@ -47,7 +46,7 @@ impl Charts {
 }
 
 /// Where the bars and the values of a chart stand.
-struct Frame {
+pub struct Frame {
     left: f64,
     bottom: f64,
     axis: Axis,
@@ -55,11 +54,17 @@ struct Frame {
 }
 
 impl Frame {
-    fn new(height: f64, bars: usize, values: impl Iterator<Item = f64>) -> Frame {
+    pub fn new(height: f64, bars: usize, values: impl Iterator<Item = f64>) -> Frame {
         let mut frame = Frame { left: 0.0, bottom: TOP + height, axis: Axis::of(values), bars };
         let widest = frame.axis.ticks().into_iter().map(|tick| rounded(tick).chars().count()).max().unwrap_or(1);
         frame.left = 16.0 + LETTER * widest as f64;
         frame
+    }
+
+    /// Puts the same bars of several charts one below the other.
+    pub fn align(frames: &mut [Frame]) {
+        let left = frames.iter().map(|frame| frame.left).fold(0.0, f64::max);
+        frames.iter_mut().for_each(|frame| frame.left = left);
     }
 
     fn x(&self, bar: usize) -> f64 {
@@ -71,15 +76,15 @@ impl Frame {
         self.bottom - (self.bottom - TOP) * self.axis.share(value)
     }
 
-    /// A drawing with the values' lines and the times below.
-    fn svg(&self, what: &str, outcome: &Outcome) -> Svg {
+    /// A drawing with the values' lines and the times of these points below.
+    pub fn svg(&self, what: &str, points: &[Point]) -> Svg {
         let mut svg = Svg::new(WIDTH, self.bottom + 26.0, what);
         for tick in self.axis.ticks() {
             svg.line("grid", (self.left, self.y(tick)), (RIGHT, self.y(tick)));
             svg.text("axis", (self.left - 6.0, self.y(tick) + 4.0), Anchor::End, &rounded(tick));
         }
-        let clock = clock(outcome);
-        let text = |bar: usize| clock.text(outcome.equity[bar].time);
+        let clock = clock_of(points);
+        let text = |bar: usize| clock.text(points[bar].time);
         let widest = [0, self.bars - 1].map(|bar| text(bar).chars().count()).into_iter().max().unwrap_or(1);
         let wide = LETTER * (widest + 3) as f64;
         let most = (((RIGHT - self.left) / wide) as usize).clamp(2, 6).min(self.bars);
@@ -92,7 +97,7 @@ impl Frame {
     }
 
     /// A line through the values of all bars; the least and the greatest of those that share a pixel.
-    fn line(&self, values: &[f64]) -> String {
+    pub fn line(&self, values: &[f64]) -> String {
         let columns = (RIGHT - self.left) as usize;
         let each = values.len().div_ceil(columns).max(1);
         let mut outline = String::new();
@@ -115,11 +120,25 @@ impl Frame {
         }
         outline
     }
+
+    /// A line across at a value.
+    pub fn level(&self, svg: &mut Svg, class: &str, value: f64) {
+        svg.line(class, (self.left, self.y(value)), (RIGHT, self.y(value)));
+    }
+
+    /// An upright line at a bar.
+    pub fn upright(&self, svg: &mut Svg, class: &str, bar: usize) {
+        svg.line(class, (self.x(bar), TOP), (self.x(bar), self.bottom));
+    }
 }
 
 /// How the times of a run are told.
 pub fn clock(outcome: &Outcome) -> Clock {
-    match (outcome.equity.first(), outcome.equity.last()) {
+    clock_of(&outcome.equity)
+}
+
+fn clock_of(points: &[Point]) -> Clock {
+    match (points.first(), points.last()) {
         (Some(first), Some(last)) => Clock::of(first.time, last.time),
         _ => Clock::Number,
     }
@@ -127,7 +146,7 @@ pub fn clock(outcome: &Outcome) -> Clock {
 
 /// The closes, with a mark at each entry and each exit.
 fn closes(frame: &Frame, outcome: &Outcome) -> String {
-    let mut svg = frame.svg("Closes, entries and exits", outcome);
+    let mut svg = frame.svg("Closes, entries and exits", &outcome.equity);
     svg.path("series", &frame.line(&outcome.closes));
     let every = outcome.trades.len().div_ceil(MARKED).max(1);
     let clock = clock(outcome);
@@ -182,9 +201,8 @@ fn places(outcome: &Outcome) -> Vec<[usize; 2]> {
 
 /// The equity at each close, and the capital as a broken line.
 fn equity_chart(frame: &Frame, outcome: &Outcome, values: &[f64]) -> String {
-    let mut svg = frame.svg("Equity over time", outcome);
-    let y = frame.y(outcome.capital);
-    svg.line("capital", (frame.left, y), (RIGHT, y));
+    let mut svg = frame.svg("Equity over time", &outcome.equity);
+    frame.level(&mut svg, "capital", outcome.capital);
     svg.path("series", &frame.line(values));
     svg.done()
 }
@@ -204,7 +222,7 @@ fn under(equity: &[f64]) -> Vec<f64> {
 }
 
 fn drawdown_chart(frame: &Frame, outcome: &Outcome, values: &[f64]) -> String {
-    let mut svg = frame.svg("Drawdown over time, in percent", outcome);
+    let mut svg = frame.svg("Drawdown over time, in percent", &outcome.equity);
     let line = frame.line(values);
     if !line.is_empty() {
         let (first, last, zero) = (frame.x(0), frame.x(values.len() - 1), frame.y(0.0));

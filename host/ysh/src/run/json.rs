@@ -58,6 +58,7 @@ struct Document<'a> {
     refused: Vec<RefusedJson>,
     columns_not_read: &'a [String],
     doubts: &'a [String],
+    bars_doubts: &'a [String],
     notes: &'a [String],
 }
 
@@ -108,6 +109,7 @@ pub fn json(outcome: &Outcome) -> String {
         refused: outcome.refusals.told.iter().map(refused).collect(),
         columns_not_read: &outcome.unread,
         doubts: &outcome.doubts,
+        bars_doubts: &outcome.odd,
         notes: &outcome.notes,
     };
     serde_json::to_string(&document).expect("an answer is JSON") + "\n"

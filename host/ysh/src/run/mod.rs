@@ -1,7 +1,7 @@
 //! A strategy over a file of bars: how it is made ready, what came of it, and how that is written.
 
 pub mod asked;
-mod charts;
+pub mod charts;
 pub mod csv;
 pub mod json;
 pub mod outcome;
@@ -9,4 +9,4 @@ pub mod page;
 mod ready;
 pub mod text;
 
-pub use ready::Ready;
+pub use ready::{made, names_of, notes_of, source_and_settings, Ready};

@@ -22,6 +22,8 @@ pub struct Outcome {
     pub fees: f64,
     pub refusals: Refusals,
     pub unread: Vec<String>,
+    /// What looks wrong in the bars.
+    pub odd: Vec<String>,
     /// What may make the answer another than was meant.
     pub doubts: Vec<String>,
     pub notes: Vec<String>,
@@ -51,7 +53,7 @@ pub fn reason_words(reason: Reason) -> String {
 impl Outcome {
     pub fn of(ready: Ready, way: Way) -> Result<Outcome, Problem> {
         let notes = ready.notes();
-        let Ready { source, settings, bars, mut engine } = ready;
+        let Ready { source, settings, bars, mut engine, strict } = ready;
         let mut closes = Vec::new();
         let walked = over(&bars, &mut engine, way, |list, places| {
             closes.extend(places.map(|place| list.close(place)));
@@ -70,6 +72,7 @@ impl Outcome {
             fees: engine.state().fees_paid(),
             refusals: walked.refusals,
             unread: bars.columns.unread().into_iter().map(shown).collect(),
+            odd: bars.doubts(strict)?,
             doubts: source.doubts,
             notes,
         })

@@ -164,7 +164,7 @@ fn percent(x: f64) -> String {
 }
 
 fn notes(outcome: &Outcome) -> String {
-    let mut notes = [&outcome.doubts[..], &outcome.notes].concat();
+    let mut notes = [&outcome.doubts[..], &outcome.odd, &outcome.notes].concat();
     if !outcome.unread.is_empty() {
         notes.push(format!("columns that nothing reads: {}", outcome.unread.join(", ")));
     }

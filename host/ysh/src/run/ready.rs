@@ -3,7 +3,7 @@
 use yshturpa::{Engine, Settings};
 
 use super::asked::{Given, Over};
-use crate::bars::BarsFile;
+use crate::bars::{BarsFile, Input};
 use crate::cli::Reading;
 use crate::compile::{self, Choices, Rules};
 use crate::decompile::slot_names;
@@ -18,6 +18,8 @@ pub struct Ready {
     pub settings: Settings,
     pub bars: BarsFile,
     pub engine: Engine,
+    /// Whether bars that look wrong are an error.
+    pub strict: bool,
 }
 
 /// The cash at the start where none is given.
@@ -25,25 +27,46 @@ const CAPITAL: f64 = 10_000.0;
 
 impl Ready {
     pub fn of(over: &Over) -> Result<Ready, Problem> {
-        let (source, settings) = source_and_settings(over)?;
-        let bars = BarsFile::open(&over.bars, &names_of(&source))?;
-        let engine = engine(&source, &settings)?;
-        Ok(Ready { source, settings, bars, engine })
+        Ready::over(over, Input::of(&over.bars))
+    }
+
+    /// The same with bars that can be read more than once.
+    pub fn kept(over: &Over) -> Result<Ready, Problem> {
+        let input = Input::of(&over.bars);
+        let name = input.name.clone();
+        Ready::over(over, input.kept().map_err(|error| Problem::io(name, "kept", &error))?)
+    }
+
+    fn over(over: &Over, input: Input) -> Result<Ready, Problem> {
+        let (source, settings) = source_and_settings(over, None)?;
+        let bars = BarsFile::open(input, &over.form, &names_of(&source))?;
+        let engine = made(&source, &settings)?;
+        Ok(Ready { source, settings, bars, engine, strict: over.strict })
+    }
+
+    /// What looked wrong in the bars that were read; an error where reading is strict.
+    pub fn odd(&self) -> Result<Vec<String>, Problem> {
+        self.bars.doubts(self.strict)
     }
 
     /// What is to be said beside the answer.
     pub fn notes(&self) -> Vec<String> {
-        let mut notes = self.source.notes.clone();
-        if self.settings.funding && self.bars.columns.funding.is_none() {
-            notes.push(format!("funding is on, and {} has no mark and rate: nothing is charged", self.bars.name));
-        }
-        notes
+        notes_of(&self.source, &self.settings, &self.bars)
     }
 }
 
-/// What a FILE says, and the settings that a run of it has.
-pub fn source_and_settings(over: &Over) -> Result<(Source, Settings), Problem> {
-    let choices = Choices { order: None, absent_short_exit: over.given.absent_short_exit };
+/// What is to be said beside a run of a file over bars.
+pub fn notes_of(source: &Source, settings: &Settings, bars: &BarsFile) -> Vec<String> {
+    let mut notes = source.notes.clone();
+    if settings.funding && bars.columns.funding.is_none() {
+        notes.push(format!("funding is on, and {} has no mark and rate: nothing is charged", bars.name));
+    }
+    notes
+}
+
+/// What a FILE says, and the settings that a run of it has; a strategy's slots in an order, where one is given.
+pub fn source_and_settings(over: &Over, order: Option<&[String]>) -> Result<(Source, Settings), Problem> {
+    let choices = Choices { order, absent_short_exit: over.given.absent_short_exit };
     let reading = Reading { lookback: None, strict: over.strict };
     let source = Source::read_with(&over.file, &reading, choices)?;
     let settings = match (&source.strategy, &source.settings) {
@@ -77,7 +100,7 @@ fn of_table(source: &Source, beside: &SettingsFile, over: &Over) -> Result<Setti
 }
 
 /// The slots' names; those of a table's slots that have none are `slot0` and so on.
-fn names_of(source: &Source) -> Vec<String> {
+pub fn names_of(source: &Source) -> Vec<String> {
     match source.names.is_empty() {
         true => slot_names(source.forest.slots),
         false => source.names.clone(),
@@ -85,7 +108,7 @@ fn names_of(source: &Source) -> Vec<String> {
 }
 
 /// An engine before its first bar; settings that it would refuse at every bar (12) are refused now.
-fn engine(source: &Source, settings: &Settings) -> Result<Engine, Problem> {
+pub fn made(source: &Source, settings: &Settings) -> Result<Engine, Problem> {
     let made = Engine::new(&source.table, settings, 0, 1).map_err(|error| match error {
         yshturpa::Error::Refused(refusal) => source.refused(refusal),
         other => Problem::input(&source.file, "", other.to_string()),

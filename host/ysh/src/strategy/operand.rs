@@ -27,6 +27,10 @@ pub enum Expr {
     Sub((Operand, Operand)),
     Mul((Operand, Operand)),
     Div((Operand, Operand)),
+    /// The highest of the operand over so many bars, the newest among them. An extension of ours: the original has none.
+    Highest((Operand, u32)),
+    /// The lowest, likewise.
+    Lowest((Operand, u32)),
 }
 
 /// The key of an operand's object.
@@ -39,6 +43,8 @@ enum Operator {
     Sub,
     Mul,
     Div,
+    Highest,
+    Lowest,
 }
 
 impl<'de> Deserialize<'de> for Operand {
@@ -83,6 +89,8 @@ impl<'de> Visitor<'de> for OperandVisitor {
             Operator::Sub => Expr::Sub(map.next_value()?),
             Operator::Mul => Expr::Mul(map.next_value()?),
             Operator::Div => Expr::Div(map.next_value()?),
+            Operator::Highest => Expr::Highest(map.next_value()?),
+            Operator::Lowest => Expr::Lowest(map.next_value()?),
         };
         if map.next_key::<IgnoredAny>()?.is_some() {
             return Err(Error::custom("a second key, expected an object with one operator"));

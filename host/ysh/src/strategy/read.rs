@@ -19,7 +19,8 @@ pub fn read(text: &str) -> Result<Read, Fault> {
     let strategy: Strategy = serde_json::from_str(text).map_err(|error| fault(text, &error))?;
     validate(&strategy)?;
     let ignored = match (serde_json::from_str::<Value>(text), serde_json::to_value(&strategy)) {
-        (Ok(document), Ok(read)) => ignored(&document, &read),
+        // An editor finds the schema by this key.
+        (Ok(document), Ok(read)) => ignored(&document, &read).into_iter().filter(|path| path != "$schema").collect(),
         _ => Vec::new(),
     };
     Ok(Read { strategy, ignored })

@@ -110,6 +110,8 @@ fn check_operand(strategy: &Strategy, operand: &Operand, path: &str) -> Result<(
         Expr::Sub(ab) => two(ab, "sub"),
         Expr::Mul(ab) => two(ab, "mul"),
         Expr::Div(ab) => two(ab, "div"),
+        Expr::Highest((a, _)) => check_operand(strategy, a, &format!("{path}.highest[0]")),
+        Expr::Lowest((a, _)) => check_operand(strategy, a, &format!("{path}.lowest[0]")),
     }
 }
 

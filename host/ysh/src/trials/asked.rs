@@ -4,8 +4,8 @@ use std::path::PathBuf;
 
 use clap::{Args, Subcommand};
 
-use crate::bars::OnRefusal;
-use crate::run::asked::Given;
+use crate::bars::{Form, OnRefusal};
+use crate::run::asked::{Given, Over};
 
 const EXAMPLES: &str = "The same runs give the same answer, byte for byte, with any number of threads, in any order of the files, and in any parts \
 that are joined again.
@@ -43,16 +43,26 @@ pub struct Trials {
 }
 
 /// What else decides what a run comes to.
-#[derive(Clone, Copy, Debug, Args)]
+#[derive(Clone, Debug, Args)]
 pub struct How {
     /// What a bar that the engine refuses does to its run: the run is refused, or goes on without the bar
     #[arg(long, value_name = "WHAT", value_enum, default_value = "stop")]
     pub on_refusal: OnRefusal,
-    /// A key of a strategy that nothing reads is an error
+    /// A key of a strategy that nothing reads is an error, and so are bars that look wrong, as in `ysh run`
     #[arg(long)]
     pub strict: bool,
     #[command(flatten)]
+    pub form: Form,
+    #[command(flatten)]
     pub given: Given,
+}
+
+impl How {
+    /// A run of a file over bars.
+    pub fn over(&self, file: PathBuf, bars: PathBuf) -> Over {
+        let How { on_refusal, strict, form, given } = self.clone();
+        Over { file, bars, on_refusal, strict, form, given }
+    }
 }
 
 #[derive(Clone, Debug, Args)]

@@ -1,5 +1,6 @@
 //! The runs that were done and their totals, for programs and for `ysh totals join`: numbers are exact, and what went in is named.
 
+use std::collections::BTreeSet;
 use std::path::Path;
 
 use serde::{Deserialize, Serialize};
@@ -93,6 +94,11 @@ impl Document {
         }
         let totals = Totaled::of(&runs, &totals);
         Ok(Document { what: WHAT.to_owned(), inputs, parts, totals, runs })
+    }
+
+    /// What is doubtful of the runs: a file's doubts once, whatever the number of its runs.
+    pub fn doubts(&self) -> BTreeSet<&str> {
+        self.runs.iter().filter_map(Row::ran).flat_map(|ran| ran.doubts.iter().map(String::as_str)).collect()
     }
 
     pub fn json(&self) -> String {

@@ -10,6 +10,7 @@ use serde::{Deserialize, Serialize};
 use sha2::{Digest, Sha256};
 
 use super::asked::How;
+use crate::bars::Form;
 use crate::files::name_of;
 use crate::holdup::sheet::digest;
 use crate::problem::Problem;
@@ -106,9 +107,13 @@ fn choices(how: &How) -> BTreeMap<String, String> {
     let on_refusal = how.on_refusal.to_possible_value().map_or(String::new(), |value| value.get_name().to_owned());
     let given = &how.given;
     let flag = |on: bool| on.then(String::new);
+    let columns: Vec<String> = how.form.columns.iter().map(|(there, here)| format!("{there}={here}")).collect();
+    let usual = Form::default();
     let all = [
         ("on-refusal", Some(on_refusal)),
         ("strict", flag(how.strict)),
+        ("columns", (!columns.is_empty()).then(|| columns.join(","))),
+        ("delimiter", (how.form.delimiter != usual.delimiter).then(|| char::from(how.form.delimiter).to_string())),
         ("warmup", given.warmup.map(|bars| bars.to_string())),
         ("capital", given.capital.map(number)),
         ("lot", given.lot.map(number)),
@@ -129,8 +134,15 @@ fn digest_of(path: &Path) -> io::Result<String> {
     Ok(hasher.finalize().iter().map(|byte| format!("{byte:02x}")).collect())
 }
 
-/// Files that are named twice would be run twice: it is told which.
-pub fn twice(paths: &[PathBuf]) -> Option<Problem> {
+/// What cannot be run so: a file that is named twice, which would be run twice, and standard input, which is read once.
+pub fn unfit(paths: &[PathBuf]) -> Option<Problem> {
+    if paths.iter().any(|path| path == Path::new("-")) {
+        return Some(Problem::input(
+            "standard input",
+            "",
+            "it is read once, and there are many runs; a file was expected",
+        ));
+    }
     let mut seen = std::collections::BTreeSet::new();
     let again = paths.iter().map(|path| name_of(path)).find(|name| !seen.insert(name.clone()))?;
     Some(Problem::input(again, "", "it is named twice; each file once was expected"))

@@ -27,6 +27,7 @@ pub fn page(document: &Document) -> String {
         big(document),
         drawn,
         table(document),
+        doubts(document),
         footer(),
     ];
     format!(
@@ -119,6 +120,15 @@ fn exact(ran: &Figures) -> [String; 9] {
         [ran.pnl, ran.return_pct, ran.sharpe, ran.max_drawdown, ran.worst_pct]
             .map(|Exact(x)| number(x).replace("inf", "Infinity"));
     [bars, trades, won, lost, pnl, return_pct, sharpe, drawdown, worst]
+}
+
+/// What may make the answer another than was meant.
+fn doubts(document: &Document) -> String {
+    let list: String = document.doubts().iter().map(|doubt| format!("<li>{}</li>", escape(doubt))).collect();
+    match list.is_empty() {
+        true => list,
+        false => format!("<h2>Doubts</h2>\n<ul>{list}</ul>"),
+    }
 }
 
 fn footer() -> String {

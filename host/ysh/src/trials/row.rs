@@ -7,6 +7,7 @@ use super::sum::Sum;
 use crate::problem::Problem;
 use crate::run::json::Exact;
 use crate::run::outcome::Outcome;
+use crate::show::shown;
 
 #[derive(Clone, Debug, PartialEq, Serialize, Deserialize)]
 #[serde(deny_unknown_fields)]
@@ -40,6 +41,8 @@ pub struct Figures {
     pub totals: Sum,
     /// The equity at some of the closes, evenly apart, the last among them.
     pub curve: Vec<Exact>,
+    /// What may make the answer another than was meant, each with its file.
+    pub doubts: Vec<String>,
 }
 
 /// A problem, by its parts.
@@ -61,6 +64,8 @@ impl Figures {
     pub fn of(outcome: &Outcome) -> Result<Figures, Problem> {
         let sum = Sum::of_trades(&outcome.trades).map_err(|refusal| Problem::refused(&outcome.file, refusal))?;
         let metrics = &outcome.metrics;
+        let rules = outcome.doubts.iter().map(|doubt| format!("{}: {doubt}", outcome.file));
+        let bars = outcome.odd.iter().map(|doubt| format!("{}: {doubt}", outcome.bars_file));
         Ok(Figures {
             bars: outcome.equity.len() as u64,
             trades: outcome.trades.len() as u64,
@@ -72,6 +77,7 @@ impl Figures {
             refused_bars: outcome.refusals.count,
             totals: sum,
             curve: curve(&outcome.equity),
+            doubts: rules.chain(bars).map(|doubt| shown(&doubt)).collect(),
         })
     }
 }

@@ -7,14 +7,13 @@ use rayon::ThreadPoolBuilder;
 
 use super::asked::{How, Part, Trials};
 use super::document::{Document, Parts};
-use super::inputs::{named, twice, Inputs, Named};
+use super::inputs::{named, unfit, Inputs, Named};
 use super::journal::Journal;
 use super::row::{Came, Figures, Row};
 use crate::bars::Way;
 use crate::files::{files, Found};
 use crate::problem::Problem;
 use crate::progress;
-use crate::run::asked::Over;
 use crate::run::outcome::Outcome;
 use crate::run::Ready;
 use crate::settings_file::SettingsFile;
@@ -31,12 +30,12 @@ pub struct Work {
 impl Work {
     pub fn of(asked: &Trials) -> Result<Work, Problem> {
         let Found { files, left_out } = files(&asked.files, asked.recursive)?;
-        if let Some(problem) = twice(&files).or_else(|| twice(&asked.bars)) {
+        if let Some(problem) = unfit(&files).or_else(|| unfit(&asked.bars)) {
             return Err(problem);
         }
         let (strategies, bars) = (named(files), named(asked.bars.iter().cloned()));
         let inputs = Inputs::of(&strategies, &bars, &asked.how);
-        Ok(Work { strategies, bars, how: asked.how, inputs, left_out })
+        Ok(Work { strategies, bars, how: asked.how.clone(), inputs, left_out })
     }
 
     /// The files that are read.
@@ -56,10 +55,8 @@ impl Work {
     }
 
     fn figures(&self, strategy: &str, bars: &str) -> Result<Figures, Problem> {
-        let How { on_refusal, strict, given } = self.how;
-        let (file, bars) = (self.strategies[strategy].clone(), self.bars[bars].clone());
-        let over = Over { file, bars, on_refusal, strict, given };
-        let way = Way { on_refusal, after: None, until: None };
+        let over = self.how.over(self.strategies[strategy].clone(), self.bars[bars].clone());
+        let way = Way { on_refusal: over.on_refusal, after: None, until: None };
         Figures::of(&Outcome::of(Ready::of(&over)?, way)?)
     }
 }

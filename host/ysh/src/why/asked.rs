@@ -5,23 +5,31 @@ use std::path::PathBuf;
 use clap::{Args, ValueEnum};
 use yshturpa::Tree;
 
+use super::place::{parse_place, Place};
 use crate::run::asked::Over;
 
 const EXAMPLES: &str = "Examples:
   ysh why examples/strategies/breakout.json examples/bars/day.csv --at 900
-  ysh why strategy.json bars.csv --at time:1767625200000 --tree entry --html why.html";
+  ysh why strategy.json bars.csv --at 10:31
+  ysh why strategy.json bars.csv --at '2026-01-05 10:31' --tree entry --html why.html
+  ysh why strategy.json bars.csv.gz --at 2026-01-05T12:31:00+02:00 --json";
 
 #[derive(Debug, Args)]
 #[command(after_help = EXAMPLES)]
 pub struct Why {
     #[command(flatten)]
     pub over: Over,
-    /// The bar, by its number from 0 or by its time: bar:N, time:N, or N alone, which is a number where the file has so many bars
+    /// The bar: its number from 0 (bar:N), its time as the file has it (time:N), a date and time (UTC where no zone is given), a time of
+    /// day where the bars are of one day, or N alone, which is a number where the file has so many bars. Where no bar has that date and
+    /// time, it is the last before it
     #[arg(long, value_name = "BAR|TIME", value_parser = parse_place, allow_hyphen_values = true)]
     pub at: Place,
     /// The rule that is asked about; left out, what the engine asked at that bar
     #[arg(long, value_name = "TREE", value_enum)]
     pub tree: Option<TreeName>,
+    /// Write the answer as JSON; numbers are exact, one that is not finite is a text
+    #[arg(long)]
+    pub json: bool,
     /// Write the whole rule as a page too, drawn as a tree with the chain marked and each value beside its node
     #[arg(long, value_name = "FILE")]
     pub html: Option<PathBuf>,
@@ -38,40 +46,5 @@ pub enum TreeName {
 impl TreeName {
     pub fn tree(self) -> Tree {
         Tree::ALL[self as usize]
-    }
-}
-
-/// A bar as it is asked for.
-#[derive(Clone, Copy, Debug, PartialEq, Eq)]
-pub enum Place {
-    Bar(u64),
-    Time(i64),
-    /// A bar's number where there are so many, else a time.
-    Either(i64),
-}
-
-pub fn parse_place(text: &str) -> Result<Place, String> {
-    let found = match text.split_once(':') {
-        Some(("bar", number)) => number.parse().ok().map(Place::Bar),
-        Some(("time", number)) => number.parse().ok().map(Place::Time),
-        Some(_) => None,
-        None => text.parse().ok().map(Place::Either),
-    };
-    found.ok_or_else(|| {
-        "a bar's number from 0, or its time, was expected, such as 900, bar:900 or time:1767625200000".to_owned()
-    })
-}
-
-#[cfg(test)]
-mod tests {
-    use super::*;
-
-    #[test]
-    fn places() {
-        assert_eq!(parse_place("900"), Ok(Place::Either(900)));
-        assert_eq!((parse_place("bar:0"), parse_place("time:-5")), (Ok(Place::Bar(0)), Ok(Place::Time(-5))));
-        for bad in ["", "noon", "bar:", "bar:-1", "bar:1.5", "day:3", "99999999999999999999"] {
-            assert!(parse_place(bad).is_err(), "{bad}");
-        }
     }
 }

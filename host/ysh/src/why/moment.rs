@@ -2,8 +2,9 @@
 
 use yshturpa::{rule, Bar, Engine, Order, OrderLevel, Position, Rows, State, Tree};
 
-use super::asked::Place;
+use super::words::Telling;
 use crate::bars::{over, At, BarsFile, OnRefusal, Way};
+use crate::columns::counted;
 use crate::problem::Problem;
 use crate::run::Ready;
 use crate::show::rounded;
@@ -31,45 +32,49 @@ pub enum Asked {
 }
 
 impl Moment {
-    pub fn of(ready: Ready, on_refusal: OnRefusal, place: Place) -> Result<Moment, Problem> {
-        let Ready { source, settings, bars, mut engine } = ready;
-        let at = at(place, &bars);
+    pub fn of(ready: &Ready, on_refusal: OnRefusal, at: At) -> Result<Moment, Problem> {
+        let Ready { source, settings, bars, engine, .. } = ready;
+        let mut engine = engine.clone();
         let way = Way { on_refusal, after: None, until: Some(at) };
-        let walked = over(&bars, &mut engine, way, |_, _| ())?;
+        let walked = over(bars, &mut engine, way, |_, _| ())?;
         let Some(bar) = walked.before else {
-            return Err(not_there(&bars, at, engine.state().bars_seen()));
+            return Err(not_there(bars, at, engine.state().bars_seen()));
         };
         let number = engine.state().bars_seen();
         let refused = |refusal| Problem::refused(&bars.name, refusal);
         engine.make_room(1);
-        let working = working(engine.clone(), &bar).map_err(refused)?;
+        let working = working(engine.apart(), &bar).map_err(refused)?;
         engine.step(&bar).map_err(refused)?;
         let (rows, position) = (engine.rows(), engine.state().position());
         let asked = match working {
             Some(order) => Asked::Working(order),
             None if number < settings.warmup => Asked::Warmup(settings.warmup),
-            None => Asked::Trees(trees(&source, &rows, &position)?),
+            None => Asked::Trees(trees(source, &rows, &position)?),
         };
-        Ok(Moment { source, bar, number, rows, position, asked })
+        Ok(Moment { source: source.clone(), bar, number, rows, position, asked })
+    }
+
+    /// How its chains are told.
+    pub fn telling(&self) -> Telling<'_> {
+        let (forest, names) = (&self.source.forest, &self.source.names[..]);
+        Telling { forest, names, position: &self.position, bars: self.number + 1 }
     }
 }
 
-/// A place of a file: a number that stands alone is a bar's where there are so many bars.
-pub fn at(place: Place, bars: &BarsFile) -> At {
-    match place {
-        Place::Bar(number) => At::Bar(number),
-        Place::Time(time) => At::Time(time),
-        Place::Either(n) => match u64::try_from(n) {
-            Ok(number) if number < bars.count() => At::Bar(number),
-            _ => At::Time(n),
-        },
+impl Asked {
+    pub fn words(&self) -> String {
+        match self {
+            Asked::Warmup(bars) => format!("nothing: the first {} are warmup", counted(*bars, "bar", "bars")),
+            Asked::Working(order) => format!("nothing: {order} works"),
+            Asked::Trees(trees) => trees.iter().map(|tree| tree.name()).collect::<Vec<_>>().join(", then "),
+        }
     }
 }
 
 pub fn not_there(bars: &BarsFile, at: At, seen: u64) -> Problem {
     let text = match at {
         At::Bar(number) => format!("there is no bar {number}; it has {seen} bars, the first of them bar 0"),
-        At::Time(time) => format!("no bar has the time {time}, and it has not so many bars either ({seen})"),
+        At::Place(_) => "the bar of that time was refused, and left out".to_owned(),
     };
     Problem::input(&bars.name, "--at", text)
 }

@@ -22,7 +22,8 @@ pub fn value_of(forest: &Forest, node: usize, rows: &Rows, position: &Position) 
     }
 }
 
-fn alone(forest: &Forest, entry: &[Node]) -> Vec<u8> {
+/// A table with these nodes alone as its entry.
+pub fn alone(forest: &Forest, entry: &[Node]) -> Vec<u8> {
     let never = [Node::plain(kind::ANY)];
     bytes_of(forest.slots, [entry, &never, &[], &[]])
 }

@@ -1,7 +1,8 @@
 -- One law for each way out.
 use Rattle.words.specs.Prelude.{sym, _∙_, arith, needs, length}
+use Rattle.accounts.specs.{Laws.Profile.profile-slots}
 use Rattle.capi.proofs.{Accounting.some-of, Accounting.account-none, Accounting.account-stopped, Accounting.account-refused, Accounting.account-rode}
-use Rattle.capi.proofs.{Accounting.account-stops, Riding.ride-within, Riding.profile-slots, four.account.Statement.statement}
+use Rattle.capi.proofs.{Accounting.account-stops, Riding.ride-within, four.account.Statement.statement}
 use Rattle.capi.proofs.four.account.Tie as tie
 
 returns : tie.Need-returns

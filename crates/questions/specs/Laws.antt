@@ -1,0 +1,5 @@
+pub mod Known
+pub mod Right
+pub mod Places
+pub mod Fine
+pub mod Upto

@@ -1,0 +1,63 @@
+//! What a rule and each of its tests say at many bars, asked of the library: the rule's chain, and for each test that the chain does not
+//! end at, the chain of a table that holds the test alone. All questions about many bars are asked here.
+
+use std::ops::Range;
+
+use yshturpa::{why_within, By, Position, Rows, Tree, WhyLine};
+
+use super::shape::{Shape, Sort};
+use crate::source::Source;
+use crate::why::chain::moved;
+use crate::why::values::alone;
+
+pub struct Asker<'a> {
+    table: &'a [u8],
+    tree: Tree,
+    pub shape: &'a Shape,
+    /// A table for each test, and the node that it was.
+    tests: Vec<(Vec<u8>, usize)>,
+}
+
+/// What was answered at one bar.
+#[derive(Clone, Debug)]
+pub struct Answers {
+    /// The part of the rule that the chain ends at.
+    pub decided: usize,
+    pub answer: bool,
+    /// The line of each test, its node that of the rule's table.
+    pub tests: Vec<WhyLine>,
+}
+
+/// Whether a test was no for want of a value or of bars.
+pub fn is_missing(line: &WhyLine) -> bool {
+    matches!(line.by, By::Missing { .. } | By::FirstBar | By::TooFewBars)
+}
+
+impl<'a> Asker<'a> {
+    pub fn new(source: &'a Source, tree: Tree, shape: &'a Shape) -> Asker<'a> {
+        let forest = &source.forest;
+        let test = |&part: &usize| {
+            let node = shape.parts[part].node;
+            (alone(forest, &forest.nodes[node..forest.end(node)]), node)
+        };
+        Asker { table: &source.table, tree, shape, tests: shape.tests.iter().map(test).collect() }
+    }
+
+    pub fn ask(&self, rows: &Rows, places: Range<usize>, position: &Position) -> Result<Answers, yshturpa::Error> {
+        let chain = why_within(self.table, self.tree, rows, places.clone(), position)?;
+        let (first, last) = (chain[0], chain[chain.len() - 1]);
+        let decided = self.shape.part_of(last.node).expect("a chain ends at a condition");
+        let known = match self.shape.parts[decided].sort {
+            Sort::Test(n) => Some(n),
+            _ => None,
+        };
+        let mut tests = Vec::with_capacity(self.tests.len());
+        for (n, (table, node)) in self.tests.iter().enumerate() {
+            tests.push(match known == Some(n) {
+                true => last,
+                false => moved(why_within(table, Tree::Entry, rows, places.clone(), position)?[0], *node),
+            });
+        }
+        Ok(Answers { decided, answer: first.answer, tests })
+    }
+}

@@ -1,0 +1,174 @@
+//! A run that is watched bar by bar: at which bars the engine asked a rule, what was said there, and why it was not asked at the others.
+
+use rayon::prelude::*;
+use yshturpa::{rule, Error, Position, Rows, Tree};
+
+use super::asker::{Answers, Asker};
+use super::shape::Shape;
+use super::tally::{Stamp, Tally};
+use crate::bars::{one_by_one, OnRefusal, Refusals, Stepped};
+use crate::problem::Problem;
+use crate::run::Ready;
+use crate::source::Source;
+use crate::why::moment::is_flat;
+use crate::why::place::Bounds;
+
+/// Why a rule was not asked at a bar.
+#[derive(Clone, Copy, Debug, PartialEq, Eq)]
+pub enum Why {
+    Warmup,
+    Order,
+    Position,
+    Entry,
+}
+
+impl Why {
+    pub const ALL: [Why; 4] = [Why::Warmup, Why::Order, Why::Position, Why::Entry];
+
+    pub fn words(self, tree: Tree) -> &'static str {
+        match (self, tree) {
+            (Why::Warmup, _) => "the warmup",
+            (Why::Order, _) => "an order works",
+            (Why::Position, Tree::Entry | Tree::ShortEntry) => "a position is held",
+            (Why::Position, Tree::Exit) => "no long position is held",
+            (Why::Position, Tree::ShortExit) => "no short position is held",
+            (Why::Entry, _) => "the entry said yes",
+        }
+    }
+}
+
+/// A bar at which one test alone kept the rule from a yes.
+pub struct Missed {
+    pub at: Stamp,
+    /// The tests, each of which alone would have made it a yes.
+    pub tests: Vec<usize>,
+    pub answers: Answers,
+    pub position: Position,
+}
+
+/// What was seen over a stretch of bars.
+pub struct Blocked {
+    pub tree: Tree,
+    pub tally: Tally,
+    /// The bars of the stretch, and at how many of them the rule was asked and said yes.
+    pub bars: u64,
+    pub asked: u64,
+    pub yes: u64,
+    pub not_asked: [u64; Why::ALL.len()],
+    pub first: Option<Stamp>,
+    pub last: Option<Stamp>,
+    pub missed: Vec<Missed>,
+    pub missed_count: u64,
+    pub refusals: Refusals,
+}
+
+/// As many bars that were one test away as are kept.
+const KEPT: usize = 1000;
+
+impl Blocked {
+    /// Watches a run to the end of its stretch; each bar of the stretch is shown, with what was answered where the rule was asked.
+    pub fn of(
+        ready: &Ready,
+        tree: Tree,
+        bounds: Bounds,
+        on_refusal: OnRefusal,
+        mut see: impl FnMut(Stamp, Option<(&Answers, &Position)>),
+    ) -> Result<(Blocked, Shape), Problem> {
+        let source = &ready.source;
+        let Some(shape) = Shape::of(&source.forest, tree) else {
+            return Err(Problem::input(
+                &source.file,
+                "--tree",
+                format!("the {} is absent, and never yes", tree.name()),
+            ));
+        };
+        let mut found = Blocked::new(tree, &shape);
+        let asker = Asker::new(source, tree, &shape);
+        let failed = |error: Error| Problem::input(&source.file, "", error.to_string());
+        let (warmup, depth) = (ready.settings.warmup, ready.settings.depth);
+        let mut engine = ready.engine.clone();
+        found.refusals = one_by_one(&ready.bars, &mut engine, on_refusal, |rows, kept, done| {
+            let answered = done.par_iter().enumerate().map(|(n, bar)| {
+                if !bounds.holds(bar.number, bar.time) {
+                    return Ok(None);
+                }
+                let newest = kept + n + 1;
+                let within = newest.saturating_sub(depth)..newest;
+                let asked = match not_asked(bar, tree, warmup) {
+                    None if tree == Tree::ShortEntry && entered(source, rows, within.end, depth, &bar.position)? => {
+                        Some(Why::Entry)
+                    }
+                    asked => asked,
+                };
+                Ok(Some(match asked {
+                    Some(why) => Err(why),
+                    None => Ok(asker.ask(rows, within, &bar.position)?),
+                }))
+            });
+            let answered = answered.collect::<Result<Vec<_>, Error>>().map_err(failed)?;
+            for (bar, said) in done.iter().zip(&answered).filter_map(|(bar, said)| Some((bar, said.as_ref()?))) {
+                let at = Stamp { bar: bar.number, time: bar.time };
+                found.add(&shape, at, &bar.position, said);
+                see(at, said.as_ref().ok().map(|answers| (answers, &bar.position)));
+            }
+            Ok(!done.last().is_some_and(|bar| bounds.is_past(bar.number)))
+        })?;
+        Ok((found, shape))
+    }
+
+    fn new(tree: Tree, shape: &Shape) -> Blocked {
+        Blocked {
+            tree,
+            tally: Tally::of(shape),
+            bars: 0,
+            asked: 0,
+            yes: 0,
+            not_asked: [0; Why::ALL.len()],
+            first: None,
+            last: None,
+            missed: Vec::new(),
+            missed_count: 0,
+            refusals: Refusals::default(),
+        }
+    }
+
+    fn add(&mut self, shape: &Shape, at: Stamp, position: &Position, said: &Result<Answers, Why>) {
+        self.bars += 1;
+        self.first.get_or_insert(at);
+        self.last = Some(at);
+        let answers = match said {
+            Ok(answers) => answers,
+            Err(why) => return self.not_asked[*why as usize] += 1,
+        };
+        self.asked += 1;
+        self.yes += u64::from(answers.answer);
+        let tests = self.tally.add(shape, answers, at);
+        if !tests.is_empty() {
+            self.missed_count += 1;
+            if self.missed.len() < KEPT {
+                self.missed.push(Missed { at, tests, answers: answers.clone(), position: *position });
+            }
+        }
+    }
+}
+
+/// Why the engine did not ask a rule at a bar; whether the entry said yes before a short entry is not looked at.
+fn not_asked(bar: &Stepped, tree: Tree, warmup: u64) -> Option<Why> {
+    let (flat, long) = (is_flat(&bar.position), bar.position.qty > 0.0);
+    let right = match tree {
+        Tree::Entry | Tree::ShortEntry => flat,
+        Tree::Exit => !flat && long,
+        Tree::ShortExit => !flat && !long,
+    };
+    match (bar.worked, bar.number < warmup, right) {
+        (true, _, _) => Some(Why::Order),
+        (false, true, _) => Some(Why::Warmup),
+        (false, false, false) => Some(Why::Position),
+        (false, false, true) => None,
+    }
+}
+
+/// Whether the entry said yes, so that the short entry was not asked.
+fn entered(source: &Source, rows: &Rows, end: usize, depth: usize, position: &Position) -> Result<bool, Error> {
+    rule(&source.table, Tree::Entry, &rows.upto(end, depth), position)
+}

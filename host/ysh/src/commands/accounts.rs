@@ -1,0 +1,49 @@
+//! `ysh accounts`: four paper accounts on one stream.
+
+use super::Answer;
+use crate::accounts::asked::Accounts;
+use crate::accounts::{streamed, told, Streamed};
+use crate::files::name_of;
+use crate::output::Outputs;
+use crate::problem::Problem;
+use crate::run::page;
+use crate::settings_file::SettingsFile;
+
+pub fn answer(asked: &Accounts) -> Answer {
+    answered(asked).unwrap_or_else(Answer::from)
+}
+
+fn answered(asked: &Accounts) -> Result<Answer, Problem> {
+    let streamed = streamed(asked)?;
+    if let Some(folder) = &asked.reports {
+        std::fs::create_dir_all(folder).map_err(|error| Problem::io(name_of(folder), "made", &error))?;
+        let beside = asked.files.iter().map(|file| SettingsFile::beside(file));
+        let mut outputs = Outputs::of(asked.files.iter().cloned().chain(beside).chain([asked.bars.clone()]));
+        for (path, ended) in streamed.reports(folder).iter().zip(&streamed.accounts) {
+            outputs.add(path, page::page(&ended.outcome));
+        }
+        outputs.write()?;
+    }
+    let text = if asked.json { told::json(&streamed) } else { told::text(&streamed) };
+    let mut answer = Answer { text, document: asked.json, ..Answer::default() };
+    said(&streamed, &mut answer);
+    Ok(answer)
+}
+
+/// What the accounts' files have to say, what the stream refused, and which accounts it stopped.
+fn said(streamed: &Streamed, answer: &mut Answer) {
+    for ended in &streamed.accounts {
+        answer.doubts(&ended.outcome.file, &ended.outcome.doubts);
+        answer.notes(&ended.outcome.file, &ended.outcome.notes);
+    }
+    if let Some(first) = streamed.accounts.first() {
+        answer.doubts(&first.outcome.bars_file, &first.outcome.odd);
+        answer.problems.extend(first.outcome.refusals.told.iter().take(20).cloned());
+    }
+    for (number, ended) in streamed.accounts.iter().enumerate() {
+        if let Some(stopped) = &ended.stopped {
+            let place = format!("account {}, bar {}", number + 1, stopped.bar);
+            answer.problems.push(Problem { place, ..Problem::refused(&ended.outcome.file, stopped.refusal) });
+        }
+    }
+}
