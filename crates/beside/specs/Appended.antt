@@ -1,6 +1,6 @@
 -- Bars behind bars: their records, what the stream takes of them, and what an account's calls over them come to.
-use Rattle.words.specs.Prelude.{ℕ, zero, suc, _+_, _*_, _/_, _^_, _≤_, _≡_, refl, sym, ap, Bool, true, false, cond, List, [], _∷_, _++_}
-use Rattle.words.specs.Prelude.{arith, ltb-true, eqb-false, eqb, length, drop, length-drop}
+use Rattle.words.specs.Prelude.{ℕ, zero, suc, _+_, _*_, _/_, _^_, _≤_, _≡_, refl, sym, ap, Bool, true, false, cond, List, [], _∷_, _++_, arith, ltb-true}
+use Rattle.words.specs.Prelude.{eqb-false, eqb, length, drop, length-drop}
 use Rattle.words.specs.{declared.refusal.Refusal.Refusal, Limits.mostCount}
 use Rattle.records.specs.{Lent.Lists}
 use Rattle.refusals.specs.{declared.verdict.Verdict.Verdict, declared.verdict.Verdict.the-variants.Fine, declared.verdict.Verdict.the-variants.Bad}
