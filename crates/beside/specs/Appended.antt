@@ -1,12 +1,12 @@
 -- Bars behind bars: their records, what the stream takes of them, and what an account's calls over them come to.
-use Rattle.words.specs.Prelude.{ℕ, zero, suc, _+_, _*_, _/_, _%_, _^_, _≤_, _≡_, refl, sym, ap, _∙_, Bool, true, false, cond, List, [], _∷_, _++_, append-nil}
-use Rattle.words.specs.Prelude.{arith, ltb-true, eqb-true, eqb-false, eq-eqb, ne-eqb, eqb, length, drop, length-drop}
+use Rattle.words.specs.Prelude.{ℕ, zero, suc, _+_, _*_, _/_, _^_, _≤_, _≡_, refl, sym, ap, Bool, true, false, cond, List, [], _∷_, _++_, arith, ltb-true}
+use Rattle.words.specs.Prelude.{eqb-false, eqb, length, drop, length-drop}
 use Rattle.words.specs.{declared.refusal.Refusal.Refusal, Limits.mostCount}
 use Rattle.records.specs.{Lent.Lists}
 use Rattle.refusals.specs.{declared.verdict.Verdict.Verdict, declared.verdict.Verdict.the-variants.Fine, declared.verdict.Verdict.the-variants.Bad}
 use Rattle.refusals.specs.{Laws.Lines.never, Laws.Lines.first-holds, Lines.judged}
 use Rattle.engine.specs.{Day.cut}
-use Rattle.accounts.specs.{declared.stream.Taken.Taken, Laws.Stream.moreTaken, Stream.streamBarLines, Stream.noneTaken, Stream.oneMoreTaken, Stream.takenUnless}
+use Rattle.accounts.specs.{declared.stream.Taken.Taken, Laws.Stream.moreTaken, Stream.streamBarLines, Stream.oneMoreTaken, Stream.takenUnless}
 use Rattle.accounts.specs.{Stream.streamTakes}
 use Rattle.capi.specs.{Bars.StepLent, Bars.stepCall, Call.Call, Laws.RunCalls.step-honest, WordRun.WordRun, WordRun.callMore, WordRun.callsOver}
 use lib.Seq.{take-append-le, drop-append-le}

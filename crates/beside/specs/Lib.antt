@@ -5,4 +5,6 @@ pub mod NeverEleven
 pub mod Alike
 pub mod Honest
 pub mod Appended
+pub mod AccountBehind
+pub mod StreamBehind
 pub mod Parts

@@ -11,7 +11,6 @@ use Rattle.capi.specs.{Accounts.AccountGiven, Accounts.AccountLent, Accounts.Ac
 use Rattle.capi.specs.{Accounts.accountsCall, AsIfAlone.Which, AsIfAlone.givenTo, AsIfAlone.lentTo, Bars.StepLent, Call.Call}
 use Rattle.capacitor.specs.{Begun.Begun, Loss.Loss, Loss.Restored, Loss.lastBox, Loss.barsBefore, Loss.pointsIn, Loss.tradesIn, Loss.pointsBefore}
 use Rattle.capacitor.specs.{Loss.tradesBefore}
-use Rattle.beside.specs.{Alike.StatusesFit}
 
 -- an account's words, as `ysh_step`, `ysh_dump` and `ysh_restore` are lent them
 abbrev pub boxOf : AccountLent → StepLent

@@ -1,24 +1,23 @@
 -- Accounts over a loss of supply, proved: on the stream an account is `ysh_step` over its own bars (`as-if-alone`), of which the capacitor theorem speaks.
-use Rattle.words.specs.Prelude.{ℕ, _+_, _/_, _%_, _^_, _≤_, _≡_, refl, sym, ap, subst, _∙_, Bool, true, false, cond, List, [], _∷_, _++_, append-nil, arith, eqb}
-use Rattle.words.specs.Prelude.{eq-eqb, ne-eqb, eqb-true, eqb-false, length, length-append, take}
-use Rattle.words.specs.{Limits.barWords, Limits.mostCount, Words.word}
-use Rattle.portfolio.specs.{Trade.wordsOfTrade}
+use Rattle.words.specs.Prelude.{ℕ, _+_, _/_, _%_, _^_, _≤_, _≡_, refl, sym, ap, subst, _∙_, Bool, true, false, cond, List, [], _∷_, _++_, append-nil, arith}
+use Rattle.words.specs.Prelude.{eqb, eq-eqb, eqb-true, eqb-false, length, length-append, take}
+use Rattle.words.specs.{Limits.mostCount, Words.word}
 use Rattle.records.specs.{Lent.Lists, Lent.pointPlaces, Lent.tradePlaces, Settings.settingsOf, StateWords.stateOf}
-use Rattle.refusals.specs.{declared.verdict.Verdict.Verdict, declared.verdict.Verdict.the-variants.Fine, declared.verdict.Verdict.the-variants.Bad, Lines.judged}
-use Rattle.refusals.specs.{Laws.Lines.never, Lines.firstBad}
-use Rattle.engine.specs.{Day.cut, Whole.accountOf, Whole.meantRun}
+use Rattle.refusals.specs.{declared.verdict.Verdict.Verdict, declared.verdict.Verdict.the-variants.Fine, declared.verdict.Verdict.the-variants.Bad}
+use Rattle.refusals.specs.{Lines.judged, Laws.Lines.never, Lines.firstBad}
+use Rattle.engine.specs.{Whole.accountOf}
 use Rattle.restart.specs.{Laws.Reached64.Bars64}
 use Rattle.accounts.specs.{Profile.profileJudged, Status.statusWords, Status.stoppedWith}
-use Rattle.capi.specs.{Accounts.AccountGiven, Accounts.AccountLent, Accounts.AccountsLent, Accounts.Four, Accounts.alone, Accounts.ownBars, Accounts.ownLists}
+use Rattle.capi.specs.{Accounts.AccountGiven, Accounts.AccountLent, Accounts.AccountsLent, Accounts.Four, Accounts.alone, Accounts.ownLists}
 use Rattle.capi.specs.{Accounts.accountsLines, Accounts.accountsCall, Accounts.statusAfter, AsIfAlone.Which, AsIfAlone.first, AsIfAlone.second, AsIfAlone.third}
 use Rattle.capi.specs.{AsIfAlone.fourth, AsIfAlone.givenTo, AsIfAlone.lentTo, AsIfAlone.Rode, AsIfAlone.roomsJudged, AsIfAlone.taken, AsIfAlone.as-if-alone}
 use Rattle.capi.specs.{Bars.StepLent, Call.Call, Fresh.freshCall, WordRun.WordRun, WordRun.callsOver}
-use Rattle.capacitor.specs.{Begun.Begun, Capacitor.Capacitor, Capacitor.now, Loss.Loss, Loss.Restored, Loss.lastBox, Loss.barsBefore, Loss.pointsIn, Loss.tradesIn}
-use Rattle.capacitor.specs.{Loss.pointsBefore, Loss.tradesBefore, Laws.FromCalls.begun-lengths, Proved.capacitor}
-use Rattle.beside.specs.{Appended.moreCalls, Appended.calls-behind, Honest.callJudged, Honest.accounts-honest, NeverEleven.statuses, NeverEleven.stopped-number}
-use Rattle.beside.specs.{Parts.doneBefore, Parts.call-behind, Parts.rooms-stay, Parts.slots-stay}
-use Rattle.onward.specs.{GoesOn.boxOf, GoesOn.took, GoesOn.sofar, GoesOn.unbroken, GoesOn.onward, GoesOn.Kept, GoesOn.own, GoesOn.ownAll, GoesOn.Lost}
-use Rattle.onward.specs.{GoesOn.AsUnbroken, GoesOn.GoesOn}
+use Rattle.capacitor.specs.{Begun.Begun, Capacitor.Capacitor, Capacitor.now, Loss.Loss, Loss.Restored, Loss.lastBox, Loss.barsBefore, Loss.pointsIn}
+use Rattle.capacitor.specs.{Loss.tradesIn, Loss.pointsBefore, Loss.tradesBefore, Laws.FromCalls.begun-lengths, Proved.capacitor}
+use Rattle.beside.specs.{Appended.moreCalls, Appended.calls-behind, Honest.accounts-honest, NeverEleven.statuses, NeverEleven.stopped-number, Parts.doneBefore}
+use Rattle.beside.specs.{Parts.call-behind, Parts.rooms-stay, Parts.slots-stay}
+use Rattle.onward.specs.{GoesOn.boxOf, GoesOn.took, GoesOn.sofar, GoesOn.unbroken, GoesOn.onward, GoesOn.Kept, GoesOn.Lost, GoesOn.AsUnbroken}
+use Rattle.onward.specs.{GoesOn.GoesOn}
 use lib.Seq.{take-append-add}
 
 -- ---- a run of steps, with and without losses
@@ -69,11 +68,13 @@ module _ (table settings : List ℕ) (ls : Lists) (whole box : StepLent) (begun 
 
 -- ---- an account on the stream
 
+-- bars in front of others are 64-bit words where all are
 front-64 : (a b : List (List ℕ)) → Bars64 (a ++ b) → Bars64 a
 unfolding Bars64
 front-64 [] b h = tt
 front-64 (bar ∷ a) b h = (h .0, front-64 a b (h .1))
 
+-- where the first of two that is not fine would decide, and none does
 first-fine : (v w : Verdict) → firstBad v w ≡ Fine → v ≡ Fine
 first-fine Fine w e = refl
 first-fine (Bad why) w e = never e
@@ -91,6 +92,7 @@ rides-alone : (bars : List ℕ) (g : Four) (l : AccountsLent) (which : Which) �
 unfolding alone
 rides-alone bars g l which fine runs fits = let is = as-if-alone bars g l in rw (is .done fine) (is .account fine which .rides runs fits)
 
+-- what it is left with, and its status
 rode-box : {seen : ℕ} {a b : AccountLent} {r : WordRun} → Rode seen a b r → boxOf b ≡ r .lent
 rode-box rode = rw (rode .state, rode .rooms)
 
@@ -131,6 +133,7 @@ conclude q p rx ry at status answer done same = record {
 
 -- ---- the call
 
+-- the count of bars done is no part of an account
 done-apart : (which : Which) (n : ℕ) (c : Call AccountsLent) → lentTo which (doneBefore n c .lent) ≡ lentTo which (c .lent)
 unfolding lentTo
 done-apart first n c = refl

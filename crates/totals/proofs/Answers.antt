@@ -6,7 +6,7 @@ use Rattle.floats.specs.{Floats.wordOf}
 use Rattle.totals.specs.{declared.Answer.Answer, declared.Answer.the-variants.Done, declared.Answer.the-variants.Refused, Exact.nearestTo, Exact.numberIn}
 use Rattle.totals.specs.{Trades.Trade, Trades.tradesFrom, Trades.tradesOf, Trades.goodStart, Trades.judgedCount, Trades.pnlSum, Totals.totalWords}
 use Rattle.totals.specs.{Totals.totalsRoom, Totals.countSize, Totals.AllAtMost, Totals.allSmall, Totals.countsOf, Totals.sumWords, Totals.recordOf}
-use Rattle.totals.specs.{Totals.withCounts, Totals.bothCounts, Totals.sumWith, Totals.traded, Totals.countsFine, Totals.addAnswer, Totals.addLeaves}
+use Rattle.totals.specs.{Totals.withCounts, Totals.bothCounts, Totals.sumWith, Totals.traded, Totals.countsFine, Totals.unless, Totals.firstOf, Totals.addAnswer, Totals.addLeaves}
 use Rattle.totals.specs.{Totals.joinAnswer, Totals.joinLeaves, Laws.Trades.length-trades, Laws.Trades.all-good, Laws.Counts.small-all}
 
 -- as many are judged as there are, where totals can hold them
@@ -55,6 +55,20 @@ less-as e f h = omega arith
 pub at-most-as : {a a′ b b′ : ℕ} → a ≡ a′ → b ≡ b′ → a ≤ b → a′ ≤ b′
 at-most-as e f h = omega arith
 
+-- ---- lines of an order
+
+-- a line by itself, and then the lines after it
+first-line : (ok : Bool) (number at : ℕ) (later : Answer) → firstOf (unless ok number at Done) later ≡ unless ok number at later
+unfolding firstOf
+first-line true number at later = refl
+first-line false number at later = refl
+
+-- where two lines answer Done, both hold
+both-hold : (p q : Bool) (a b : Refusal) → cond p (cond q Done (Refused b)) (Refused a) ≡ Done → (p ≡ true) × (q ≡ true)
+both-hold true true a b e = (refl, refl)
+both-hold true false a b e = absurd (let z : _≡_ {A = ℕ} 0 1 = cc in omega arith)
+both-hold false q a b e = absurd (let z : _≡_ {A = ℕ} 0 1 = cc in omega arith)
+
 module _ (totals trades : List ℕ) where
   -- the trades that are judged, up to the first that is not acceptable
   abbrev pub good : List Trade
@@ -75,28 +89,36 @@ module _ (totals trades : List ℕ) where
       add-wrong h = simp (le-leb _ _ long, eq-eqb _ _ whole, h)
 
       module _ (fine : countsFine (countsOf totals) ≡ true) where
-        pub add-bad : length good < judgedCount (length trades / tradeWords) → addAnswer totals trades ≡ Refused (refusal 17 (length good))
+        abbrev n : ℕ
+        n = length trades / tradeWords
+
+        -- the two lines that are left
+        add-left : addAnswer totals trades ≡ unless (leb (judgedCount n) (length good)) 17 (length good) (unless (leb (traded (countsOf totals) + n) mostCount) 22 0 Done)
         unfolding addAnswer
-        add-bad h = simp (le-leb _ _ long, eq-eqb _ _ whole, fine, lt-leb _ _ h)
+        add-left = simp (le-leb _ _ long, eq-eqb _ _ whole, fine)
 
-        module _ (all : judgedCount (length trades / tradeWords) ≤ length good) where
-          pub add-many : mostCount < traded (countsOf totals) + length trades / tradeWords → addAnswer totals trades ≡ Refused (refusal 22 0)
-          unfolding addAnswer
-          add-many h = simp (le-leb _ _ long, eq-eqb _ _ whole, fine, le-leb _ _ all, lt-leb _ _ h)
+        -- the first of two judgements decides, where each is a line's
+        pub add-judged : {g j m : ℕ} {bad many said : Answer} → g ≡ length good → j ≡ judgedCount n → m ≡ traded (countsOf totals) + n
+            → bad ≡ unless (leb j g) 17 g Done → many ≡ unless (leb m mostCount) 22 0 Done → said ≡ firstOf bad many → addAnswer totals trades ≡ said
+        add-judged {g} {j} {m} {bad} {many} {said} u v w x y z =
+            let over = unless (leb m mostCount) 22 0 Done in
+            add-left ∙ sym (z ∙ ap (λ (q : Answer). firstOf q many) x ∙ ap (firstOf (unless (leb j g) 17 g Done)) y ∙ first-line (leb j g) 17 g over
+            ∙ ap (λ (k : ℕ). unless (leb j k) 17 k over) u ∙ ap (λ (k : ℕ). unless (leb k (length good)) 17 (length good) over) v
+            ∙ ap (λ (k : ℕ). unless (leb (judgedCount n) (length good)) 17 (length good) (unless (leb k mostCount) 22 0 Done)) w)
 
-          module _ (room : traded (countsOf totals) + length trades / tradeWords ≤ mostCount) where
-            pub add-done : addAnswer totals trades ≡ Done
-            unfolding addAnswer
-            add-done = simp (le-leb _ _ long, eq-eqb _ _ whole, fine, le-leb _ _ all, le-leb _ _ room)
+        module _ (done : addAnswer totals trades ≡ Done) where
+          both : (leb (judgedCount n) (length good) ≡ true) × (leb (traded (countsOf totals) + n) mostCount ≡ true)
+          both = both-hold _ _ _ _ (sym add-left ∙ done)
 
-            -- then all trades of the list are good ones
-            pub all-of-them : good ≡ tradesOf trades
-            unfolding tradesOf
-            all-of-them =
-                let same : judgedCount (length trades / tradeWords) ≡ length trades / tradeWords = few (length trades / tradeWords) (omega arith) in
-                all-good (tradesFrom (judgedCount (length trades / tradeWords)) 0 trades)
-                (subst (λ (k : ℕ). k ≤ length good) (sym (length-trades (judgedCount (length trades / tradeWords)) 0 trades)) all)
-                ∙ ap (λ (k : ℕ). tradesFrom k 0 trades) same
+          -- all trades of the list are good ones
+          pub all-of-them : good ≡ tradesOf trades
+          unfolding tradesOf
+          all-of-them =
+              let room : traded (countsOf totals) + n ≤ mostCount = leb-true _ _ (both .1) in
+              let same : judgedCount n ≡ n = few n (omega arith) in
+              all-good (tradesFrom (judgedCount n) 0 trades)
+              (subst (λ (k : ℕ). k ≤ length good) (sym (length-trades (judgedCount n) 0 trades)) (leb-true _ _ (both .0)))
+              ∙ ap (λ (k : ℕ). tradesFrom k 0 trades) same
 
   -- beside a refusal nothing changes ..
   pub add-keeps : (why : Refusal) → addAnswer totals trades ≡ Refused why → totals ≡ addLeaves totals trades

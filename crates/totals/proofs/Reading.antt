@@ -1,14 +1,13 @@
 -- Digits read out of words. Assumes nothing.
-use Rattle.words.specs.Prelude.{_≡_, refl, sym, ap, subst, _∙_, Bool, true, false, not, _⊎_, inl, inr, List, [], _∷_, ℕ, zero, suc, _+_, _-_, _*_, _/_, _%_, _^_}
-use Rattle.words.specs.Prelude.{_≤_, _<_, min, compare, Ordering, Ordering·lt, Ordering·eq, Ordering·gt, mul-assoc, mul-comm, mul-left-comm, add-mul, mod-lt}
-use Rattle.words.specs.Prelude.{mod-eq-of-lt, zero-mul, add-mul-div-right, div-div-eq-div-mul, lt-of-lt-of-le, le-of-eq, le-trans, mul-le-mul-right, le-of-lt}
-use Rattle.words.specs.Prelude.{lt-irrefl, le-mul-of-pos-right, lt-of-le-of-lt, add-mul-mod-self-right, pow-succ', one-mul, mul-pos, div-add-mod', eq-zero-or-pos}
-use Rattle.words.specs.Prelude.{zero-add, mul-div-cancel, mul-mod-left, le-div-iff-mul-le, arith, add-one, one-add, length, getD, take, drop, pow-add, pow-pos}
-use Rattle.words.specs.Prelude.{pow-mono, mod-pow-add, shl-lt, digits-div, digits-mod, lt-of-le-ne, mod-mul, T, isLe, isEq, eqb, leb→le, nleb→lt, eqb→eq, eqb-refl}
-use Rattle.words.specs.Prelude.{leadingZeros, leading-top, take-length, eq-eqb, ne-eqb, nearest, size, binary64, round, toBits, size-lt, size-le, size-reaches}
-use Rattle.words.specs.Prelude.{nearest-le, kept-lt, closest, closest-same, nearest-ge}
-use Rattle.totals.specs.{Number.place, Number.numberOf, Number.AreWords, Number.Top, Laws.Places.place-some, Laws.Places.number-below, Laws.Places.place-pow}
-use Rattle.totals.proofs.{Digits.number-take, Patterns.size-is, Patterns.round-units, Patterns.pattern-units, Patterns.Kept}
+use Rattle.words.specs.Prelude.{_≡_, refl, sym, ap, subst, _∙_, false, _⊎_, inl, inr, List, [], _∷_, ℕ, zero, suc, _+_, _-_, _*_, _/_, _%_, _^_}
+use Rattle.words.specs.Prelude.{_≤_, _<_, mul-assoc, mul-comm, mul-left-comm, add-mul, mod-lt}
+use Rattle.words.specs.Prelude.{mod-eq-of-lt, zero-mul, add-mul-div-right, div-div-eq-div-mul, le-of-eq, le-trans, mul-le-mul-right}
+use Rattle.words.specs.Prelude.{le-mul-of-pos-right, lt-of-le-of-lt, add-mul-mod-self-right, mul-pos, div-add-mod', eq-zero-or-pos}
+use Rattle.words.specs.Prelude.{zero-add, arith, length, getD, take, drop, pow-add, pow-pos}
+use Rattle.words.specs.Prelude.{digits-div, digits-mod, mod-mul, eqb}
+use Rattle.words.specs.Prelude.{leadingZeros, leading-top, take-length, eq-eqb, ne-eqb, size}
+use Rattle.totals.specs.{Number.place, Number.numberOf, Number.AreWords, Number.Top, Laws.Places.place-some, Laws.Places.place-pow}
+use Rattle.totals.proofs.{Digits.number-take, Patterns.size-is}
 
 -- the words below word i, and those from it on
 pub number-split : (ws : List ℕ) (i : ℕ) → numberOf ws ≡ numberOf (drop i ws) * place i + numberOf (take i ws)

@@ -1,14 +1,14 @@
 -- The digits that are kept: to nearest, ties to even, and the pattern that they make. Assumes nothing.
-use Rattle.words.specs.Prelude.{_≡_, refl, sym, ap, subst, _∙_, Bool, true, false, not, _⊎_, inl, inr, List, [], _∷_, ℕ, zero, suc, _+_, _-_, _*_, _/_, _%_, _^_}
-use Rattle.words.specs.Prelude.{_≤_, _<_, min, compare, Ordering, Ordering·lt, Ordering·eq, Ordering·gt, mul-assoc, mul-comm, mul-left-comm, add-mul, mod-lt}
-use Rattle.words.specs.Prelude.{mod-eq-of-lt, zero-mul, add-mul-div-right, div-div-eq-div-mul, lt-of-lt-of-le, le-of-eq, le-trans, mul-le-mul-right, le-of-lt}
-use Rattle.words.specs.Prelude.{lt-irrefl, le-mul-of-pos-right, lt-of-le-of-lt, add-mul-mod-self-right, pow-succ', one-mul, mul-pos, div-add-mod', eq-zero-or-pos}
-use Rattle.words.specs.Prelude.{zero-add, mul-div-cancel, mul-mod-left, le-div-iff-mul-le, arith, add-one, one-add, length, getD, take, drop, pow-add, pow-pos}
-use Rattle.words.specs.Prelude.{pow-mono, mod-pow-add, shl-lt, digits-div, digits-mod, lt-of-le-ne, mod-mul, T, isLe, isEq, eqb, leb→le, nleb→lt, eqb→eq, eqb-refl}
-use Rattle.words.specs.Prelude.{leadingZeros, leading-top, take-length, eq-eqb, ne-eqb, nearest, size, binary64, round, toBits, size-lt, size-le, size-reaches}
+use Rattle.words.specs.Prelude.{_≡_, refl, sym, ap, subst, _∙_, true, false, not, _⊎_, inl, inr, List, ℕ, suc, _+_, _-_, _*_, _/_, _%_, _^_}
+use Rattle.words.specs.Prelude.{_≤_, _<_, min, compare, Ordering, Ordering·lt, Ordering·eq, Ordering·gt, mod-lt}
+use Rattle.words.specs.Prelude.{zero-mul, lt-of-lt-of-le, le-of-eq, le-trans}
+use Rattle.words.specs.Prelude.{pow-succ', one-mul, eq-zero-or-pos}
+use Rattle.words.specs.Prelude.{zero-add, mul-div-cancel, mul-mod-left, le-div-iff-mul-le, arith, add-one, one-add, length, getD, drop, pow-add, pow-pos}
+use Rattle.words.specs.Prelude.{pow-mono, mod-pow-add, lt-of-le-ne, T, isLe, isEq, eqb, leb→le, nleb→lt, eqb→eq, eqb-refl}
+use Rattle.words.specs.Prelude.{nearest, size, binary64, round, toBits, size-lt, size-le, size-reaches}
 use Rattle.words.specs.Prelude.{nearest-le, kept-lt, closest, closest-same, nearest-ge}
-use Rattle.totals.specs.{Number.place, Number.numberOf, Number.AreWords, Number.Top, Laws.Places.place-some, Laws.Places.number-below, Laws.Places.place-pow}
-use Rattle.totals.proofs.{Digits.number-take, Patterns.size-is, Patterns.round-units, Patterns.pattern-units, Patterns.Kept, Reading.drop-word}
+use Rattle.totals.specs.{Number.numberOf, Number.AreWords, Laws.Places.number-below, Laws.Places.place-pow}
+use Rattle.totals.proofs.{Patterns.round-units, Patterns.pattern-units, Patterns.Kept, Reading.drop-word}
 
 -- what `compare` says
 abbrev Cmp : Ordering → ℕ → ℕ → Type 0

@@ -1,8 +1,8 @@
 -- The sign of a number in two's complement, and its size. Assumes nothing.
-use Rattle.words.specs.Prelude.{_≡_, refl, sym, ap, subst, _∙_, Bool, true, false, cond, List, [], ℕ, zero, suc, _+_, _-_, _*_, _/_, _%_, _^_, _≤_, _<_, min}
-use Rattle.words.specs.Prelude.{mod-eq-of-lt, mul-le-mul-right, add-mul, le-of-eq, zero-add, le-trans, mul-assoc, arith, lt-ltb, le-ltb, length, getD, take, drop}
+use Rattle.words.specs.Prelude.{_≡_, refl, sym, ap, _∙_, true, false, List, ℕ, suc, _+_, _-_, _*_, _%_, _^_, _≤_, _<_}
+use Rattle.words.specs.Prelude.{mod-eq-of-lt, mul-le-mul-right, add-mul, le-of-eq, zero-add, le-trans, arith, lt-ltb, le-ltb, length, getD, take, drop}
 use Rattle.words.specs.Prelude.{drop-of-length-le, pos, negsuc, binary64, round, toBits}
-use Rattle.totals.specs.{Number.place, Number.numberOf, Number.wordsOf, Number.shifted, Number.AreWords, Exact.signed, Exact.nearestTo}
+use Rattle.totals.specs.{Number.place, Number.numberOf, Number.shifted, Number.AreWords, Exact.signed, Exact.nearestTo}
 use Rattle.totals.specs.{Laws.Places.place-some}
 use Rattle.totals.proofs.{Patterns.round-units, Patterns.pattern-units, Reading.number-split, Reading.take-below, Reading.drop-word, Rounding.kept-most}
 use Rattle.totals.proofs.{Rounding.kept-fits, Rounding.pattern-sign}

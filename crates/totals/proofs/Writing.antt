@@ -1,7 +1,8 @@
 -- The words of a record, written part by part. Assumes nothing.
-use Rattle.words.specs.Prelude.{_≡_, refl, sym, ap, _∙_, List, [], _∷_, _++_, append-nil, ℕ, _+_, _≤_, arith, length, take, drop, set, replicate, length-append}
-use Rattle.words.specs.Prelude.{take-at, drop-append-add, set-at}
+use Rattle.words.specs.Prelude.{_≡_, ap, _∙_, List, [], _∷_, _++_, append-nil, ℕ, _+_, _≤_, arith, length, drop, set, replicate}
+use Rattle.words.specs.Prelude.{length-append, length-drop, length-take-le, take-at, drop-append-add, set-at}
 use Rattle.words.specs.{Words.overwrite, Laws.Overwrite.overwrite-fits}
+use Rattle.totals.specs.{Exact.sumSize, Totals.totalWords, Totals.sumWords}
 
 -- counts, sum and float over 43 zeros
 pub filled : (c s : List ℕ) (f : ℕ) → length c ≡ 8 → length s ≡ 34
@@ -31,3 +32,8 @@ pub copied : (w : List ℕ) → length w ≡ 34 → overwrite (replicate 34 0) 0
 copied w e =
     let n : 0 + length w ≡ 34 = omega arith in
     overwrite-fits (replicate 34 0) 0 w (omega arith) ∙ ap (λ (k : ℕ). w ++ drop k (replicate 34 0)) n ∙ append-nil w
+
+-- the sum in totals is of 34 words
+pub sum-long : (totals : List ℕ) → totalWords ≤ length totals → length (sumWords totals) ≡ sumSize
+unfolding sumWords
+sum-long totals h = length-take-le 34 (drop 8 totals) (omega (arith, length-drop 8 totals, h))

@@ -1,16 +1,16 @@
 -- EXACT TOTALS: every way to total the same trades does its work and leaves the same 43 words. Assumes nothing.
-use Rattle.words.specs.Prelude.{_≡_, refl, sym, ap, subst, _∙_, Bool, true, false, List, [], _∷_, _++_, append-nil, ℕ, zero, suc, _+_, _*_, _/_, _%_, _≤_, le-trans}
-use Rattle.words.specs.Prelude.{zero-add, arith, le-leb, eq-eqb, eqb, length, take, drop, replicate, length-append, drop-of-length-le, take-at, drop-length, ℤ}
-use Rattle.words.specs.Prelude.{_+ℤ_, +ℤ-idl, le, round, toBits}
+use Rattle.words.specs.Prelude.{_≡_, refl, sym, ap, subst, _∙_, Bool, true, false, List, [], _∷_, _++_, append-nil, ℕ, zero, suc, _+_, _/_, _%_, _≤_}
+use Rattle.words.specs.Prelude.{arith, le-leb, eq-eqb, eqb, length, drop, replicate, length-append, take-at, drop-length, ℤ}
+use Rattle.words.specs.Prelude.{_+ℤ_, le, round, toBits}
 use Rattle.words.specs.{Words.word, Words.overwrite, Limits.tradeWords, Limits.mostCount, Laws.Overwrite.overwrite-fits}
-use Rattle.floats.specs.{Floats.wordOf, Floats.floatOf, Floats._≺_, Floats._≼_, Laws.Order.not-above}
+use Rattle.floats.specs.{Floats.wordOf, Floats.floatOf, Floats._≼_, Laws.Order.not-above}
 use Rattle.totals.specs.{Number.place, Number.wordsOf, declared.Answer.the-variants.Done, Exact.numberIn, Exact.wordsFor, Exact.nearestTo, Exact.residue}
 use Rattle.totals.specs.{Exact.sumSize, Trades.Trade, Trades.acceptable, Trades.tradesOf, Trades.tradesFrom, Trades.goodStart, Trades.judgedCount}
 use Rattle.totals.specs.{Trades.bitOf, Trades.countOf, Trades.endedBy, Trades.won, Trades.lost, Trades.pnlSum, Totals.totalWords, Totals.countSize}
 use Rattle.totals.specs.{Totals.countsOf, Totals.sumWords, Totals.recordOf, Totals.withCounts, Totals.bothCounts, Totals.sumWith, Totals.traded}
 use Rattle.totals.specs.{Totals.countsFine, Totals.AllAtMost, Totals.addAnswer, Totals.addLeaves, Totals.joinAnswer, Totals.joinLeaves, Ways.Way, Ways.begin}
 use Rattle.totals.specs.{Ways.add, Ways.join, Ways.made, Ways.AllDone, Ways.tradesIn, Ways.Whole, Ways.totalsOf, Laws.Sums.length-for}
-use Rattle.totals.specs.{Laws.Sums.sum-with-twice, Laws.Trades.Acceptable, Laws.Trades.none, Laws.Trades.more, Laws.Trades.acceptable-reason}
+use Rattle.totals.specs.{Laws.Trades.Acceptable, Laws.Trades.none, Laws.Trades.more, Laws.Trades.acceptable-reason}
 use Rattle.totals.specs.{Laws.Trades.good-all, Laws.Trades.length-trades, Laws.Trades.count-append, Laws.Trades.sum-append, Laws.Trades.Rearranged}
 use Rattle.totals.specs.{Laws.Trades.sum-rearranged, Laws.Trades.count-rearranged, Laws.Counts.eight-same, Laws.Counts.counts-twice, Laws.Counts.all-small}
 use Rattle.totals.specs.{Laws.Counts.bit-most, Laws.Bound.reads-back}

@@ -1,5 +1,5 @@
 -- Worked examples: the float at its edges, and three trades whose float sum depends on the order. Assumes nothing.
-use Rattle.words.specs.Prelude.{_≡_, refl, List, [], _∷_, ℕ, _+_, _-_, _*_, _^_, ℤ, pos, negℤ, round, toBits, ofBits}
+use Rattle.words.specs.Prelude.{_≡_, refl, List, [], _∷_, ℕ, _+_, _-_, _^_, ℤ, pos, negℤ, round, toBits, ofBits}
 use Rattle.floats.specs.{Floats.wordOf, Floats.floatOf, Floats._⊕_, Root.unitsOf}
 use Rattle.totals.specs.{Exact.nearestTo, Exact.unitsIn, Trades.Trade, Trades.trade, Trades.pnlSum}
 use lib.Ieee as Ieee

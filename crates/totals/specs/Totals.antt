@@ -1,5 +1,5 @@
 -- The record of totals, and the two calls that keep it. Definitions only.
-use Rattle.words.specs.Prelude.{Bool, true, false, cond, List, [], _∷_, _++_, ℕ, _+_, _*_, _/_, _%_, _≤_, _<_, leb, eqb, length, getD, take, drop, ℤ, _+ℤ_}
+use Rattle.words.specs.Prelude.{Bool, true, false, cond, List, [], _∷_, _++_, ℕ, _+_, _/_, _%_, _≤_, leb, eqb, length, getD, take, drop, ℤ, _+ℤ_}
 use Rattle.words.specs.{Words.word, Words.overwrite, Limits.tradeWords, Limits.mostCount, Outcome.refusal}
 use Rattle.floats.specs.{Floats.wordOf}
 use Rattle.totals.specs.{declared.Answer.Answer, declared.Answer.the-variants.Done, declared.Answer.the-variants.Refused, Exact.numberIn, Exact.wordsFor}
@@ -73,6 +73,11 @@ countsFine c = cond (allSmall c) (leb (word c 6 + word c 7) (traded c)) false
 -- a line of the order: where it does not hold it is the answer; else what follows decides
 abbrev pub unless : Bool → ℕ → ℕ → Answer → Answer
 unless ok number at later = cond ok later (Refused (refusal number at))
+
+-- of two lines the first that refuses
+unfoldable pub firstOf : Answer → Answer → Answer
+firstOf Done later = later
+firstOf (Refused why) later = Refused why
 
 -- "after 13, 17 for a pnl that is not finite or a reason outside 1 to 6, with its trade number, then 22 at 0 if the trades would pass 2^32 − 1"
 unfoldable pub addAnswer : List ℕ → List ℕ → Answer

@@ -2,10 +2,9 @@
 use words::limits::MOST_COUNT;
 use words::limits::TRADE_WORDS;
 ghost use mathlib.Core.Path.{_≡_};
-ghost use mathlib.Core.Bool.{Bool};
 ghost use mathlib.Core.List.{_∷_, []};
-ghost use Prim.Native.Nat.{ℕ, _+_, _*_, _≤_, _<_};
-ghost use lib.ListN.{length, getD};
+ghost use Prim.Native.Nat.{_*_, _≤_};
+ghost use lib.ListN.{length};
 ghost use Rattle.words.specs.Limits.{tradeWords, mostCount};
 ghost use Rattle.totals.specs.Trades.{trade, acceptable, goodStart, tradesFrom, bitOf};
 ghost use Rattle.totals.specs.Totals.{countSize, countsOf, allSmall, AllAtMost, withCounts, bothCounts};

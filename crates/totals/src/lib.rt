@@ -10,12 +10,13 @@ use words::refusal::Refusal;
 ghost use mathlib.Core.Path.{_≡_};
 ghost use mathlib.Core.List.{_++_, _∷_, []};
 ghost use lib.ListN.{length};
+ghost use lib.Dec.{leb};
 ghost use Rattle.words.specs.Words.{overwrite};
-ghost use Rattle.words.specs.Limits.{tradeWords, mostCount};
+ghost use Rattle.words.specs.Limits.{mostCount};
 ghost use Rattle.totals.specs.declared.Answer.the-variants.{Done, Refused};
 ghost use Rattle.totals.specs.Exact.{sumSize};
 ghost use Rattle.totals.specs.Trades.{judgedCount};
-ghost use Rattle.totals.specs.Totals.{countSize, addAnswer, addLeaves, joinAnswer, joinLeaves};
+ghost use Rattle.totals.specs.Totals.{countSize, unless, firstOf, addAnswer, addLeaves, joinAnswer, joinLeaves};
 
 // The words of a record, and where in it the sum and the float stand; before them the eight counts.
 pub const TOTAL_WORDS: usize = 43;
@@ -52,6 +53,36 @@ fn judged_count(n: usize) -> usize
     MOST_COUNT as usize
 }
 
+// 17 at the first trade that cannot be counted, where so many of those that are judged can be.
+fn bad_trade(good: usize, judged: usize) -> Answer
+    ensures { λ r. ⌜ r ≡ unless (leb judged good) 17 good Done ⌝ }
+{
+    if good < judged {
+        return refused(17, good as u64);
+    }
+    Answer::Done
+}
+
+// 22 where totals cannot hold so many trades.
+fn too_many(trades: u64) -> Answer
+    ensures { λ r. ⌜ r ≡ unless (leb trades mostCount) 22 0 Done ⌝ }
+{
+    if MOST_COUNT < trades {
+        return refused(22, 0);
+    }
+    Answer::Done
+}
+
+// Of two judgements the first that refuses.
+fn first_of(one: Answer, two: Answer) -> Answer
+    ensures { λ r. ⌜ r ≡ firstOf one two ⌝ }
+{
+    match one {
+        Answer::Done => two,
+        Answer::Refused(why) => Answer::Refused(why),
+    }
+}
+
 // Adds a list of trades to the totals.
 pub fn add(totals: &mut [u64], trades: &[u64]) -> Answer
     ensures { λ r. ⌜ (r ≡ addAnswer (now (totals .entry)) (now (trades .entry)))
@@ -71,11 +102,11 @@ pub fn add(totals: &mut [u64], trades: &[u64]) -> Answer
     let n = trades.len() / TRADE_WORDS;
     let judged = judged_count(n);
     let good = counts::count_trades(&mut counts, trades, judged);
-    if good < judged {
-        return refused(17, good as u64);
-    }
-    if MOST_COUNT < traded + n as u64 {
-        return refused(22, 0);
+    let bad = bad_trade(good, judged);
+    let many = too_many(traded + n as u64);
+    let judgement = first_of(bad, many);
+    if let Answer::Refused(why) = judgement {
+        return Answer::Refused(why);
     }
     let before = sum::sum_of(totals);
     let mut after = before;
@@ -109,7 +140,7 @@ pub fn join(totals: &mut [u64], other: &[u64]) -> Answer
     }
     let both = counts::both(&counts, &more);
     let mut sum = sum::sum_of(totals);
-    sum::add_sum(&mut sum, &sum::sum_of(other));
+    sum::add_sum(&mut sum, other);
     let float = nearest::nearest_to(&sum);
     put_totals(totals, &both, &sum, float);
     Answer::Done

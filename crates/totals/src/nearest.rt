@@ -4,7 +4,7 @@ ghost use mathlib.Core.Path.{_≡_};
 ghost use lib.Dec.{eqb};
 ghost use mathlib.Core.Bool.{false};
 ghost use Prim.Native.Nat.{_/_, _%_, _^_, _<_, _≤_};
-ghost use lib.ListN.{length, getD};
+ghost use lib.ListN.{length};
 ghost use lib.Ieee.{binary64, round, size};
 ghost use lib.Ieee.Nearest.{closest};
 ghost use Rattle.floats.specs.Floats.{wordOf};

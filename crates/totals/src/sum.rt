@@ -4,7 +4,7 @@ use words::limits::TRADE_WORDS;
 ghost use mathlib.Core.Path.{_≡_};
 ghost use Prim.Native.Nat.{_+_, _*_, _/_, _%_, _^_, _<_, _≤_};
 ghost use lib.Dec.{leb};
-ghost use lib.ListN.{length, getD, take, drop};
+ghost use lib.ListN.{length};
 ghost use Rattle.floats.specs.Root.{unitsOf};
 ghost use Rattle.totals.specs.Number.{Moves, numberOf, wordsOf, place, shifted};
 ghost use Rattle.totals.specs.Totals.{totalWords, sumWords, sumWith};
@@ -144,10 +144,10 @@ pub(crate) fn add_trades(sum: &mut [u64], trades: &[u64])
     }
 }
 
-// Adds another sum.
+// Adds the sum of other totals.
 pub(crate) fn add_sum(sum: &mut [u64], other: &[u64])
-    requires { ⌜ (length (now sum) ≡ sumSize) × (length (now other) ≡ sumSize) ⌝ }
-    ensures { λ _. ⌜ now (sum .exit) ≡ sumWith (now (sum .entry)) (numberIn (now (other .entry))) ⌝ }
+    requires { ⌜ (length (now sum) ≡ sumSize) × (totalWords ≤ length (now other)) ⌝ }
+    ensures { λ _. ⌜ now (sum .exit) ≡ sumWith (now (sum .entry)) (numberIn (sumWords (now (other .entry)))) ⌝ }
 {
-    shift_all(sum, false, other);
+    shift_all(sum, false, &other[8..42]);
 }

@@ -50,8 +50,8 @@ fn a_run_is_summed_up_and_written() {
     let equity = fs::read_to_string(&equity).unwrap();
     assert!(equity.starts_with("time,equity\n0,5000\n60000,5000\n") && equity.lines().count() == 401, "{equity}");
     let page = fs::read_to_string(&html).unwrap();
-    assert!(page.contains("<td>1</td><td>long</td>") && page.matches("<svg").count() == 3);
-    assert!(!page.contains("http") && !page.contains("<script"));
+    assert!(page.contains("<td>1</td><td>long</td>") && page.matches("<svg").count() == 4);
+    assert!(!page.contains("http") && !page.contains("src=") && !page.contains("@import"));
     let (_, out, _) = ysh(&["run", &strategy, &bars, "--json", "--capital", "5000"]);
     let json: serde_json::Value = serde_json::from_str(&out).unwrap();
     assert_eq!(json["trades"].as_array().unwrap().len(), count);

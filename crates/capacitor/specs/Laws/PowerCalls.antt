@@ -9,7 +9,7 @@ use Rattle.engine.specs.{Boxes.NotFull, Laws.Runs.run-ends, Run.runOver}
 use Rattle.images.specs.{Layout.dumpBytes, Layout.imageOf, Reading.stateIn, Reading.windowIn, Refused.restoreJudged, Refused.leftBy, Restoring.restoredBy}
 use Rattle.dump.specs.{Order.written, Refused.dumpLines, Refused.dumpJudged, Laws.Fine.dump-fine}
 use Rattle.restart.specs.{Cut.size-of-image, OrderPlan.all-written}
-use Rattle.capi.specs.{Call.callOf, Call.unlessBad, DayJoined.lent-had, Joined.lent-fine, Power.RestoreLent, Power.dumpGives, Power.dumpCall, Power.restoreGives}
+use Rattle.capi.specs.{Bars.lentLines, Call.callOf, Call.unlessBad, DayJoined.lent-had, Joined.lent-fine, Power.RestoreLent, Power.dumpGives, Power.dumpCall, Power.restoreGives}
 use Rattle.capi.specs.{Power.restoreCall, WordRun.answerOf, Laws.Answers.answer-number, Laws.Calls.Small, Laws.Calls.refused-word, Laws.DumpCalls.dump-honest}
 use Rattle.capi.specs.{Laws.DumpCalls.restore-honest, Laws.RunCalls.step-small}
 use Rattle.capacitor.specs.{Laws.Answered.refuses-not, Laws.Answered.gives-same, Laws.Answered.unless-gives}
@@ -49,13 +49,35 @@ dump-room : (s : Settings) (t : State) (rows buffer : List ℕ) → dumpJudged s
 unfolding dumpJudged dumpLines
 dump-room s t rows buffer fine = both-fine (roomLines s rows) _ fine .0
 
+-- an answer of 0, on any words: nothing was refused, and the buffer begins with the image
+pub record DumpDone (settings state rows buffer : List ℕ) : Type 0 where
+  pub lines : judged (lentLines settings state rows) ≡ Fine
+  pub fine : dumpJudged (settingsOf settings) (stateOf state) rows buffer ≡ Fine
+  pub image : let size = dumpBytes (settingsOf settings .slots) (settingsOf settings .depth) in
+      take size (dumpCall settings state rows buffer 0 size .lent) ≡ imageOf (settingsOf settings) (stateOf state) rows
+
+pub dump-done : (settings state rows buffer : List ℕ)
+    → dumpCall settings state rows buffer 0 (dumpBytes (settingsOf settings .slots) (settingsOf settings .depth)) .answer ≡ 0
+    → DumpDone settings state rows buffer
+unfolding dumpBytes
+dump-done settings state rows buffer done =
+    let s = settingsOf settings in
+    let t = stateOf state in
+    let size = dumpBytes (s .slots) (s .depth) in
+    let given = unless-gives _ _ _ (dump-honest settings state rows buffer 0 size .does done) in
+    let d = dump-given (dumpJudged s t rows buffer) (written (imageOf s t rows) buffer 0 size) _ (given .1) in
+    let known = dump-fine s t rows buffer (d .0) in
+    let long = size-of-image s t rows (known .held) in
+    record {
+      lines = given .0;
+      fine = d .0;
+      image = rw (← (d .1), ← long) (all-written (imageOf s t rows) buffer (omega (arith, long)) (omega (arith, long, known .place)) _ (omega (arith, long)));
+    }
+
 module _ (settings room : List ℕ) (set : settingWords ≤ length settings) (long : stateWords ≤ length room) (t : State) (h : Floats64 t)
     (rows buffer : List ℕ) where
   abbrev s : Settings
   s = settingsOf settings
-
-  abbrev size : ℕ
-  size = dumpBytes (s .slots) (s .depth)
 
   abbrev words : List ℕ
   words = overwrite room 0 (wordsOf t)
@@ -65,15 +87,10 @@ module _ (settings room : List ℕ) (set : settingWords ≤ length settings) (lo
       → (dumpJudged s t rows buffer ≡ Fine)
       × (take (dumpBytes (s .slots) (s .depth)) (dumpCall settings (overwrite room 0 (wordsOf t)) rows buffer 0 (dumpBytes (s .slots) (s .depth)) .lent)
       ≡ imageOf s t rows)
-  unfolding dumpBytes
   dumped-image zero =
       let same : stateOf words ≡ t = state-kept t h room long in
-      let given = unless-gives _ _ _ (dump-honest settings words rows buffer 0 size .does zero) in
-      let d = dump-given (dumpJudged s (stateOf words) rows buffer) (written (imageOf s (stateOf words) rows) buffer 0 size) _ (given .1) in
-      let fine : dumpJudged s t rows buffer ≡ Fine = rw (← same) (d .0) in
-      let known = dump-fine s t rows buffer fine in
-      let long = size-of-image s t rows (known .held) in
-      (fine, rw (← (d .1), same, ← long) (all-written (imageOf s t rows) buffer (omega (arith, long)) (omega (arith, long, known .place)) _ (omega (arith, long))))
+      let d = dump-done settings words rows buffer zero in
+      (rw same at (d .fine), rw same at (d .image))
 
   -- a dump that the engine does not refuse answers 0
   pub dump-answers : (from upto : ℕ) → dumpJudged s t rows buffer ≡ Fine → dumpCall settings (overwrite room 0 (wordsOf t)) rows buffer from upto .answer ≡ 0

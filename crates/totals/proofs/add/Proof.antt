@@ -1,12 +1,12 @@
 -- Each test is a line of the order; what is written is the record with the trades. Assumes nothing.
-use Rattle.words.specs.Prelude.{_≡_, refl, sym, ap, subst, _∙_, true, false, List, ℕ, _+_, _*_, _/_, _%_, _<_, _≤_, arith, needs, length}
-use Rattle.words.specs.{Limits.tradeWords, Limits.mostCount, Outcome.refusal}
-use Rattle.totals.specs.{declared.Answer.the-variants.Refused, Exact.numberIn, Trades.Trade, Trades.tradesFrom, Trades.tradesOf, Trades.goodStart}
-use Rattle.totals.specs.{Trades.judgedCount, Trades.pnlSum, Totals.countSize, Totals.AllAtMost, Totals.totalWords, Totals.countsOf, Totals.sumWords}
-use Rattle.totals.specs.{Totals.withCounts, Totals.sumWith, Totals.traded, Totals.countsFine}
+use Rattle.words.specs.Prelude.{_≡_, refl, sym, ap, _∙_, true, List, ℕ, _+_, _*_, _/_, _≤_, arith, needs, length}
+use Rattle.words.specs.{Limits.tradeWords, Limits.mostCount}
+use Rattle.totals.specs.{Trades.tradesFrom, Trades.tradesOf, Trades.goodStart}
+use Rattle.totals.specs.{Trades.pnlSum, Totals.countSize, Totals.AllAtMost, Totals.countsOf}
+use Rattle.totals.specs.{Totals.withCounts, Totals.sumWith, Totals.traded, Totals.countsFine, Totals.addAnswer}
 use Rattle.totals.proofs.{Testing.so, Testing.not-so, Answers.judged-most, Answers.fine-small, Answers.traded-most, Answers.length-of, Answers.written}
-use Rattle.totals.proofs.{Answers.less-as, Answers.at-most-as, Answers.good, Answers.add-short, Answers.add-ragged, Answers.add-wrong, Answers.add-bad}
-use Rattle.totals.proofs.{Answers.add-many, Answers.add-done, Answers.all-of-them, Answers.add-keeps, Answers.add-writes, add.Statement.statement}
+use Rattle.totals.proofs.{Answers.at-most-as, Answers.add-short, Answers.add-ragged, Answers.add-wrong, Answers.add-judged, Answers.all-of-them}
+use Rattle.totals.proofs.{Answers.add-keeps, Answers.add-writes, add.Statement.statement}
 use Rattle.totals.proofs.add.Tie as tie
 
 returns : tie.Need-returns
@@ -58,72 +58,49 @@ count-trades-requires c κs =
     let e = c .before .before .before .before in
     (judged-few _ _ _ (at-most-as (sym judged) refl (most .0)) refl, at-most-as (sym judged) refl (most .1), small e .0, small e .1)
 
-returns-4 : tie.Need-returns-4
-returns-4 c =
-    let e = c .before .before .before .before .before .before .before .before in
-    let start = c .before .before .before .before .before .before .before .before .before .before .before .before .before .before .before .before .before
-    .args in
-    let trades = start .trades .now in
-    let judged = c .before .before .before .before .before .judged-count .ensures in
-    let many = c .before .before .before .count-trades .ensures .0 ∙ ap (λ (k : ℕ). length (goodStart (tradesFrom k 0 trades))) judged in
-    let told = add-bad (start .totals .now) trades (e .before .before .before .before .before .before .if1 .left)
-    (e .before .before .before .before .before .if2 .left) (fine-held e) (less-as many judged (c .before .if4 .taken)) in
-    (c .refused4 .ensures ∙ ap (λ (k : ℕ). Refused (refusal 17 k)) many ∙ sym told, add-keeps _ _ _ told)
-
 -- ---- past the trades
 
--- all that are judged are good
-all-good : (d : tie.Else4) → let a = d .before .before .before .before .before .before .before .before .before .before .before .before .before .before
-    .before .before .args in judgedCount (length (a .trades .now) / tradeWords) ≤ length (good (a .totals .now) (a .trades .now))
-all-good d =
-    let trades = d .before .before .before .before .before .before .before .before .before .before .before .before .before .before .before .before .args
-    .trades .now in
-    let judged = d .before .before .before .before .judged-count .ensures in
-    let many = d .before .before .count-trades .ensures .0 ∙ ap (λ (k : ℕ). length (goodStart (tradesFrom k 0 trades))) judged in
-    at-most-as judged many (d .if4 .left)
-
--- the trades that totals have
-traded-held : (d : tie.Else4) → d .before .before .before .before .before .traded .result
-    ≡ traded (countsOf (d .before .before .before .before .before .before .before .before .before .before .before .before .before .before .before .before
-    .args .totals .now))
-traded-held d = d .before .before .before .before .before .traded .ensures
-    ∙ ap traded (d .before .before .before .before .before .before .before .before .before .before .counts-of .ensures)
-
-add-if5 : tie.Need-add-if5
-add-if5 c =
+add-too-many : tie.Need-add-too-many
+add-too-many c =
     let good = c .before .before .before .before .before .before .before .before .before .before .before .before .before .before .before .before .good in
     let e = c .before .before .before .before .before .before .before in
     omega (arith, c .before .before .before .before .before .traded .ensures, traded-most (e .before .before .before .counts-of .result) (small e .1))
 
+-- the counts are fine: the two judgements are the answer
+judged-so : (f : tie.After-first-of) →
+    (let a = f .before .before .before .before .before .before .before .before .before .before .before .before .before .before .before .before .before .before
+    .args in addAnswer (a .totals .now) (a .trades .now) ≡ f .first-of .result)
+judged-so f =
+    let e = f .before .before .before .before .before .before .before .before .before in
+    let start = e .before .before .before .before .before .before .before .before .before .args in
+    let trades = start .trades .now in
+    let judged = f .before .before .before .before .before .before .judged-count .ensures in
+    let many = f .before .before .before .before .count-trades .ensures .0 ∙ ap (λ (k : ℕ). length (goodStart (tradesFrom k 0 trades))) judged in
+    let traded = f .before .before .before .before .before .before .before .traded .ensures ∙ ap traded (e .before .before .before .counts-of .ensures) in
+    add-judged (start .totals .now) trades (e .before .before .before .before .before .before .if1 .left) (e .before .before .before .before .before .if2 .left)
+    (fine-held e) many judged (ap (λ (k : ℕ). k + length trades / tradeWords) traded) (f .before .before .bad-trade .ensures) (f .before .too-many .ensures)
+    (f .first-of .ensures)
+
+returns-4 : tie.Need-returns-4
+returns-4 c =
+    let told = judged-so (c .before .before .before) ∙ c .before .judgement .given .1 in
+    (sym told, add-keeps _ _ _ told)
+
 returns-5 : tie.Need-returns-5
 returns-5 c =
-    let d = c .before .before in
-    let e = d .before .before .before .before .before .before .before in
-    let start = d .before .before .before .before .before .before .before .before .before .before .before .before .before .before .before .before .args in
-    let told = add-many (start .totals .now) (start .trades .now) (e .before .before .before .before .before .before .if1 .left)
-    (e .before .before .before .before .before .if2 .left) (fine-held e) (all-good d)
-    (less-as refl (ap (λ (k : ℕ). k + length (start .trades .now) / tradeWords) (traded-held d)) (c .before .if5 .taken)) in
-    (c .refused5 .ensures ∙ sym told, add-keeps _ _ _ told)
-
-returns-6 : tie.Need-returns-6
-returns-6 c =
-    let f = c .before .before .before .before .before .before .before .before .before .before .before .before .before in
-    let d = f .before in
-    let e = d .before .before .before .before .before .before .before in
-    let start = d .before .before .before .before .before .before .before .before .before .before .before .before .before .before .before .before .args in
+    let f = c .before .before .before .before .before .before .before .before .before .before .before .before .before .before .before in
+    let e = f .before .before .before .before .before .before .before .before .before in
+    let start = e .before .before .before .before .before .before .before .before .before .args in
     let totals = start .totals .now in
     let trades = start .trades .now in
-    let long = e .before .before .before .before .before .before .if1 .left in
-    let whole = e .before .before .before .before .before .if2 .left in
-    let room = at-most-as (ap (λ (k : ℕ). k + length trades / tradeWords) (traded-held d)) refl (f .if5 .left) in
-    let done = add-done totals trades long whole (fine-held e) (all-good d) room in
-    let judged = d .before .before .before .before .judged-count .ensures in
+    let done = judged-so f ∙ c .before .before .before .before .before .before .before .before .before .before .before .before .before .enum-told .given .1 in
+    let judged = f .before .before .before .before .before .before .judged-count in
     let counts =
-    d .before .before .count-trades .ensures .1 ∙ ap (λ (l : List ℕ). withCounts l (goodStart (tradesFrom
-    (d .before .before .before .before .judged-count .result) 0 trades)))
-    (d .before .before .before .before .before .before .before .before .before .before .counts-of .ensures)
-    ∙ ap (λ (k : ℕ). withCounts (countsOf totals) (goodStart (tradesFrom k 0 trades))) judged
-    ∙ ap (withCounts (countsOf totals)) (all-of-them totals trades long whole (fine-held e) (all-good d) room) in
+    f .before .before .before .before .count-trades .ensures .1
+    ∙ ap (λ (l : List ℕ). withCounts l (goodStart (tradesFrom (judged .result) 0 trades))) (e .before .before .before .counts-of .ensures)
+    ∙ ap (λ (k : ℕ). withCounts (countsOf totals) (goodStart (tradesFrom k 0 trades))) (judged .ensures)
+    ∙ ap (withCounts (countsOf totals)) (all-of-them totals trades (e .before .before .before .before .before .before .if1 .left)
+    (e .before .before .before .before .before .if2 .left) (fine-held e) done) in
     let sum = c .before .before .before .before .before .before .before .before .before .add-trades .ensures
     ∙ ap (λ (l : List ℕ). sumWith l (pnlSum (tradesOf trades))) (c .before .before .before .before .before .before .before .before .before .before
     .before .sum-of .ensures) in (
@@ -136,6 +113,6 @@ pub add-spec : {M : Type 1} → statement M
 add-spec =
     tie.close (tie.spec (λ c κs. search needs) returns (λ c κs. search needs) returns-2 (λ c κs. search needs) (λ c. search needs) (λ c κs. search needs)
     (λ c κs. search needs) (λ c. search needs) returns-3 (λ c. search needs) traded-requires (λ c κs. search needs) (λ c. search needs)
-    count-trades-requires (λ c κs. search needs) (λ c. search needs) returns-4 add-if5 (λ c κs. search needs) (λ c. search needs) returns-5
-    (λ c κs. search needs) (λ c. search needs) (λ c κs. search needs) (λ c. search needs) (λ c κs. search needs) (λ c. search needs)
-    (λ c. search needs) (λ c κs. search needs) (λ c. search needs) returns-6)
+    count-trades-requires (λ c κs. search needs) add-too-many (λ c κs. search needs) (λ c κs. search needs) (λ c. search needs) (λ c. search needs) returns-4
+    (λ c. search needs) (λ c κs. search needs) (λ c. search needs) (λ c κs. search needs) (λ c. search needs) (λ c κs. search needs) (λ c. search needs)
+    (λ c. search needs) (λ c κs. search needs) (λ c. search needs) returns-5)

@@ -1,7 +1,7 @@
 -- Each test is a line of the order; what is written is the record of both. Assumes nothing.
-use Rattle.words.specs.Prelude.{_≡_, refl, sym, ap, subst, _∙_, true, false, List, ℕ, _+_, _*_, _/_, _%_, _<_, _≤_, arith, needs, length}
-use Rattle.words.specs.{Limits.tradeWords, Limits.mostCount, Outcome.refusal}
-use Rattle.totals.specs.{declared.Answer.the-variants.Refused, Exact.numberIn, Totals.countSize, Totals.AllAtMost, Totals.totalWords, Totals.countsOf}
+use Rattle.words.specs.Prelude.{_≡_, refl, sym, ap, _∙_, true, List, ℕ, _+_, arith, needs, length}
+use Rattle.words.specs.{Limits.mostCount}
+use Rattle.totals.specs.{Exact.numberIn, Totals.countSize, Totals.AllAtMost, Totals.countsOf}
 use Rattle.totals.specs.{Totals.sumWords, Totals.bothCounts, Totals.sumWith, Totals.traded, Totals.countsFine}
 use Rattle.totals.proofs.{Testing.so, Testing.not-so, Answers.fine-small, Answers.traded-most, Answers.length-of, Answers.written, Answers.less-as}
 use Rattle.totals.proofs.{Answers.at-most-as, Answers.join-short, Answers.join-ragged, Answers.join-wrong, Answers.join-other, Answers.join-many}
@@ -106,7 +106,7 @@ both-requires c κs =
 
 returns-6 : tie.Need-returns-6
 returns-6 c =
-    let f = c .before .before .before .before .before .before .before .before .before .before .before .before .before .before .before .before .before .before in
+    let f = c .before .before .before .before .before .before .before .before .before .before .before .before .before .before .before .before in
     let a = f .before in
     let d = a .before .before .before .before in
     let e = d .before .before .before .before in
@@ -117,16 +117,14 @@ returns-6 c =
     let done = join-done totals other (e .before .before .before .before .before .before .if1 .left) (e .before .before .before .before .before .if2 .left)
     (fine-held e) (fine-other d) (at-most-as (traded-both a) refl (f .if5 .left)) in
     let counts =
-    c .before .before .before .before .before .before .before .before .before .before .before .before .before .before .before .both .ensures
+    c .before .before .before .before .before .before .before .before .before .before .before .before .before .both .ensures
     ∙ ap (λ (l : List ℕ). bothCounts l (d .before .before .before .counts-of2 .result))
     (d .before .before .before .before .before .before .before .counts-of .ensures)
     ∙ ap (bothCounts (countsOf totals)) (d .before .before .before .counts-of2 .ensures) in
     let sum =
     c .before .before .before .before .before .before .before .before .before .add-sum .ensures
-    ∙ ap (λ (l : List ℕ). sumWith l (numberIn (c .before .before .before .before .before .before .before .before .before .before .before .sum-of2
-    .result))) (c .before .before .before .before .before .before .before .before .before .before .before .before .before .sum-of .ensures)
-    ∙ ap (λ (l : List ℕ). sumWith (sumWords totals) (numberIn l)) (c .before .before .before .before .before .before .before .before .before .before .before
-    .sum-of2 .ensures) in (
+    ∙ ap (λ (l : List ℕ). sumWith l (numberIn (sumWords other))) (c .before .before .before .before .before .before .before .before .before .before .before
+    .sum-of .ensures) in (
       sym done,
       c .before .before .put-totals .ensures ∙ written totals _ _ counts sum
           (c .before .before .before .before .before .before .nearest-to .ensures) ∙ sym (join-writes totals other done),
@@ -138,5 +136,4 @@ join-spec =
     (λ c κs. search needs) (λ c. search needs) returns-3 (λ c κs. search needs) (λ c. search needs) (λ c κs. search needs) (λ c κs. search needs)
     (λ c. search needs) returns-4 (λ c. search needs) traded-requires (λ c. search needs) traded-requires-2 add-if5 (λ c κs. search needs)
     (λ c. search needs) returns-5 (λ c. search needs) (λ c. search needs) both-requires (λ c κs. search needs) (λ c. search needs) (λ c κs. search needs)
-    (λ c. search needs) (λ c κs. search needs) (λ c. search needs) (λ c κs. search needs) (λ c. search needs) (λ c. search needs)
-    (λ c κs. search needs) (λ c. search needs) returns-6)
+    (λ c. search needs) (λ c κs. search needs) (λ c. search needs) (λ c. search needs) (λ c κs. search needs) (λ c. search needs) returns-6)

@@ -1,5 +1,5 @@
 -- Counts, sum and float fill the 43 words. Assumes nothing.
-use Rattle.words.specs.Prelude.{_≡_, ap, _∙_, List, ℕ, needs, set, replicate}
+use Rattle.words.specs.Prelude.{ap, _∙_, List, ℕ, needs, set}
 use Rattle.words.specs.{Words.overwrite}
 use Rattle.totals.proofs.{Writing.filled, put_totals.Statement.statement}
 use Rattle.totals.proofs.put_totals.Tie as tie

@@ -1,12 +1,12 @@
 -- No sum of so many finite floats passes the 34 words: they read back as it is. Assumes nothing.
-use Rattle.words.specs.Prelude.{_≡_, refl, sym, ap, subst, _∙_, Bool, true, false, cond, not, true≢false, List, [], _∷_, ℕ, zero, suc, _+_, _-_, _*_, _/_, _%_, _^_}
-use Rattle.words.specs.Prelude.{_≤_, _<_, mod-lt, le-trans, le-of-eq, le-of-lt, zero-mul, suc-mul, mul-one, arith, ltb-true, ltb-false, ne-eqb, leb, ltb, eqb, lit≤}
-use Rattle.words.specs.Prelude.{pow-pos, pow-mono, shl-lt, length, ℤ, pos, negsuc, negℤ, _+ℤ_, subℕ, Float, nan, inf, binary64, odd, ofFields, ofBits, HasValue}
+use Rattle.words.specs.Prelude.{_≡_, refl, sym, subst, _∙_, Bool, true, false, cond, true≢false, List, ℕ, zero, suc, _+_, _-_, _*_, _/_, _%_, _^_}
+use Rattle.words.specs.Prelude.{_≤_, _<_, mod-lt, le-trans, le-of-eq, le-of-lt, zero-mul, suc-mul, mul-one, arith, ltb-true, ne-eqb, leb, ltb, eqb, lit≤}
+use Rattle.words.specs.Prelude.{pow-pos, pow-mono, shl-lt, length, ℤ, pos, negsuc, _+ℤ_, subℕ, nan, inf, binary64, odd, ofFields, ofBits, HasValue}
 use Rattle.words.specs.Prelude.{odd-sign}
 use Rattle.words.specs.{Limits.mostCount}
 use Rattle.floats.specs.{Floats.floatOf, Floats.finite, Root.fieldUnits, Root.unitsOf}
 use Rattle.totals.specs.{Number.place, Exact.residue, Exact.signed, Exact.step, Exact.unitsIn, Exact.numberIn, Exact.wordsFor, Exact.sumSize, Trades.Trade}
-use Rattle.totals.specs.{Trades.acceptable, Trades.pnlSum, Laws.Places.place-pow, Laws.Residues.signed-up, Laws.Residues.signed-down, Laws.Sums.number-for}
+use Rattle.totals.specs.{Trades.pnlSum, Laws.Places.place-pow, Laws.Residues.signed-up, Laws.Residues.signed-down, Laws.Sums.number-for}
 use Rattle.totals.specs.{Laws.Trades.Acceptable, Laws.Trades.none, Laws.Trades.more, Laws.Trades.acceptable-finite}
 use native.Mathlib.Nat.{add-le-add}
 use lib.IntN.{natAbs}

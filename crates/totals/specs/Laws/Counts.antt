@@ -1,6 +1,6 @@
 -- The eight counts: with one trade more, with those of more trades, and their bounds. Assumes nothing.
-use Rattle.words.specs.Prelude.{_≡_, refl, sym, ap, subst, _∙_, Bool, true, false, cond, false≢true, List, [], _∷_, _++_, ℕ, zero, suc, _+_, _-_, _*_, _<_, _≤_}
-use Rattle.words.specs.Prelude.{arith, leb-true, le-leb, lt-leb, leb, length, getD, drop, set, drop-of-length-le, drop-cons}
+use Rattle.words.specs.Prelude.{_≡_, refl, sym, ap, _∙_, Bool, true, false, cond, false≢true, List, [], _∷_, _++_, ℕ, zero, suc, _+_, _-_, _<_, _≤_}
+use Rattle.words.specs.Prelude.{arith, leb-true, le-leb, leb, length, getD, drop, set, drop-of-length-le, drop-cons}
 use Rattle.words.specs.{Words.word, Limits.mostCount}
 use Rattle.totals.specs.{Trades.Trade, Trades.trade, Trades.bitOf, Trades.countOf, Trades.endedBy, Trades.won, Trades.lost, Totals.countSize}
 use Rattle.totals.specs.{Totals.AllAtMost, Totals.allSmall, Totals.withCounts, Laws.Trades.count-append}

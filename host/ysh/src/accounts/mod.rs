@@ -5,4 +5,4 @@ mod slots;
 mod stream;
 pub mod told;
 
-pub use stream::{streamed, Streamed};
+pub use stream::{streamed, Ended, Streamed};

@@ -11,6 +11,7 @@ use crate::problem::Problem;
 use crate::progress::Late;
 use crate::run::asked::Over;
 use crate::run::outcome::Outcome;
+use crate::run::used::used;
 use crate::run::{made, names_of, notes_of, source_and_settings};
 use crate::show::shown;
 use crate::source::Source;
@@ -81,6 +82,7 @@ fn begun(over: &Over, source: Source, own: Vec<String>, slots: &[String], bars: 
     let title = source.strategy.as_ref().map(|s| format!("{} {}", s.symbol, s.timeframe)).unwrap_or_default();
     let metrics = engine.clone().finish().map_err(|refusal| source.refused(refusal))?;
     let outcome = Outcome {
+        used: used(&source, &settings),
         file: source.file.clone(),
         bars_file: bars.name.clone(),
         title: shown(title.trim()),

@@ -3,7 +3,7 @@
 use std::ops::Range;
 
 use clap::ValueEnum;
-use yshturpa::{Bar, Bars, Engine, Position, Refusal, Rows, State};
+use yshturpa::{Bar, Bars, Engine, Order, Position, Refusal, Rows, State};
 
 use super::file::{BarsFile, Part};
 use crate::problem::Problem;
@@ -99,6 +99,8 @@ pub struct Stepped {
     pub time: i64,
     pub position: Position,
     pub worked: bool,
+    /// The order that was made at it.
+    pub ordered: Option<Order>,
 }
 
 /// Steps over a file's bars one by one, keeping neither equity nor trades. After each part of the file what was done in it is handed over,
@@ -123,8 +125,14 @@ pub fn one_by_one(
             match engine.step_over(&part.bars, place..place + 1).refused {
                 Some(refusal) => walk.refused(&part.bars.bar(place), part.lines[place], refusal)?,
                 None => {
-                    let (number, position) = (before.bars_seen(), engine.state().position());
-                    done.push(Stepped { number, time: part.bars.time(place), position, worked });
+                    let after = engine.state();
+                    done.push(Stepped {
+                        number: before.bars_seen(),
+                        time: part.bars.time(place),
+                        position: after.position(),
+                        worked,
+                        ordered: after.order().filter(|_| !worked).map(|(order, _)| order),
+                    });
                 }
             }
         }

@@ -1,11 +1,9 @@
-//! What a rule and each of its tests say at many bars, asked of the library: the rule's chain, and for each test that the chain does not
-//! end at, the chain of a table that holds the test alone. All questions about many bars are asked here.
+//! What a rule and each of its tests say at many bars, asked of the library: the rule's chain, and for each test the chain of a table that
+//! holds the test alone. All questions about many bars are asked here.
 
-use std::ops::Range;
+use yshturpa::{why_over, By, Position, Rows, Tree, WhyLine};
 
-use yshturpa::{why_within, By, Position, Rows, Tree, WhyLine};
-
-use super::shape::{Shape, Sort};
+use super::shape::Shape;
 use crate::source::Source;
 use crate::why::chain::moved;
 use crate::why::values::alone;
@@ -43,21 +41,19 @@ impl<'a> Asker<'a> {
         Asker { table: &source.table, tree, shape, tests: shape.tests.iter().map(test).collect() }
     }
 
-    pub fn ask(&self, rows: &Rows, places: Range<usize>, position: &Position) -> Result<Answers, yshturpa::Error> {
-        let chain = why_within(self.table, self.tree, rows, places.clone(), position)?;
-        let (first, last) = (chain[0], chain[chain.len() - 1]);
-        let decided = self.shape.part_of(last.node).expect("a chain ends at a condition");
-        let known = match self.shape.parts[decided].sort {
-            Sort::Test(n) => Some(n),
-            _ => None,
+    /// What is answered at a row and those after it, one for each position.
+    pub fn ask(&self, rows: &Rows, first: usize, positions: &[Position]) -> Result<Vec<Answers>, yshturpa::Error> {
+        let chains = why_over(self.table, self.tree, rows, first, positions)?;
+        let answered = |chain: &Vec<WhyLine>| {
+            let (root, last) = (chain[0], chain[chain.len() - 1]);
+            let decided = self.shape.part_of(last.node).expect("a chain ends at a condition");
+            Answers { decided, answer: root.answer, tests: Vec::with_capacity(self.tests.len()) }
         };
-        let mut tests = Vec::with_capacity(self.tests.len());
-        for (n, (table, node)) in self.tests.iter().enumerate() {
-            tests.push(match known == Some(n) {
-                true => last,
-                false => moved(why_within(table, Tree::Entry, rows, places.clone(), position)?[0], *node),
-            });
+        let mut answers: Vec<Answers> = chains.iter().map(answered).collect();
+        for (table, node) in &self.tests {
+            let lines = why_over(table, Tree::Entry, rows, first, positions)?;
+            answers.iter_mut().zip(lines).for_each(|(answers, lines)| answers.tests.push(moved(lines[0], *node)));
         }
-        Ok(Answers { decided, answer: first.answer, tests })
+        Ok(answers)
     }
 }

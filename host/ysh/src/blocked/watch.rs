@@ -1,7 +1,7 @@
 //! A run that is watched bar by bar: at which bars the engine asked a rule, what was said there, and why it was not asked at the others.
 
 use rayon::prelude::*;
-use yshturpa::{rule, Error, Position, Rows, Tree};
+use yshturpa::{why_over, Error, Position, Rows, Tree};
 
 use super::asker::{Answers, Asker};
 use super::shape::Shape;
@@ -85,27 +85,19 @@ impl Blocked {
         let mut found = Blocked::new(tree, &shape);
         let asker = Asker::new(source, tree, &shape);
         let failed = |error: Error| Problem::input(&source.file, "", error.to_string());
-        let (warmup, depth) = (ready.settings.warmup, ready.settings.depth);
+        let warmup = ready.settings.warmup;
         let mut engine = ready.engine.clone();
         found.refusals = one_by_one(&ready.bars, &mut engine, on_refusal, |rows, kept, done| {
-            let answered = done.par_iter().enumerate().map(|(n, bar)| {
-                if !bounds.holds(bar.number, bar.time) {
-                    return Ok(None);
-                }
-                let newest = kept + n + 1;
-                let within = newest.saturating_sub(depth)..newest;
-                let asked = match not_asked(bar, tree, warmup) {
-                    None if tree == Tree::ShortEntry && entered(source, rows, within.end, depth, &bar.position)? => {
-                        Some(Why::Entry)
+            let answered = done.par_chunks(CHUNK).enumerate().map(|(n, bars)| {
+                said(source, &asker, tree, (rows, kept + n * CHUNK), bars, |bar| {
+                    match bounds.holds(bar.number, bar.time) {
+                        true => Some(not_asked(bar, tree, warmup)),
+                        false => None,
                     }
-                    asked => asked,
-                };
-                Ok(Some(match asked {
-                    Some(why) => Err(why),
-                    None => Ok(asker.ask(rows, within, &bar.position)?),
-                }))
+                })
             });
-            let answered = answered.collect::<Result<Vec<_>, Error>>().map_err(failed)?;
+            let answered: Vec<_> = answered.collect::<Result<_, Error>>().map_err(failed)?;
+            let answered: Vec<_> = answered.into_iter().flatten().collect();
             for (bar, said) in done.iter().zip(&answered).filter_map(|(bar, said)| Some((bar, said.as_ref()?))) {
                 let at = Stamp { bar: bar.number, time: bar.time };
                 found.add(&shape, at, &bar.position, said);
@@ -168,7 +160,35 @@ fn not_asked(bar: &Stepped, tree: Tree, warmup: u64) -> Option<Why> {
     }
 }
 
-/// Whether the entry said yes, so that the short entry was not asked.
-fn entered(source: &Source, rows: &Rows, end: usize, depth: usize, position: &Position) -> Result<bool, Error> {
-    rule(&source.table, Tree::Entry, &rows.upto(end, depth), position)
+/// Bars that are asked about in one call.
+const CHUNK: usize = 512;
+
+/// What was said at some bars one after another, of those that are looked at; the row of the first of them is given.
+fn said(
+    source: &Source,
+    asker: &Asker,
+    tree: Tree,
+    (rows, first): (&Rows, usize),
+    bars: &[Stepped],
+    looked_at: impl Fn(&Stepped) -> Option<Option<Why>>,
+) -> Result<Vec<Option<Result<Answers, Why>>>, Error> {
+    let wanted: Vec<Option<Option<Why>>> = bars.iter().map(looked_at).collect();
+    if !wanted.contains(&Some(None)) {
+        return Ok(wanted.into_iter().map(|wanted| wanted.flatten().map(Err)).collect());
+    }
+    let positions: Vec<Position> = bars.iter().map(|bar| bar.position).collect();
+    // Where the entry said yes, the short entry was not asked.
+    let entered = match tree {
+        Tree::ShortEntry => why_over(&source.table, Tree::Entry, rows, first, &positions)?,
+        _ => Vec::new(),
+    };
+    let answers = asker.ask(rows, first, &positions)?;
+    let one = |(n, (wanted, answers)): (usize, (Option<Option<Why>>, Answers))| {
+        wanted.map(|why| match why {
+            Some(why) => Err(why),
+            None if entered.get(n).is_some_and(|chain| chain[0].answer) => Err(Why::Entry),
+            None => Ok(answers),
+        })
+    };
+    Ok(wanted.into_iter().zip(answers).enumerate().map(one).collect())
 }

@@ -1,12 +1,15 @@
 //! `ysh accounts`: four paper accounts on one stream.
 
+use std::path::Path;
+
 use super::Answer;
 use crate::accounts::asked::Accounts;
-use crate::accounts::{streamed, told, Streamed};
+use crate::accounts::{streamed, told, Ended, Streamed};
 use crate::files::name_of;
 use crate::output::Outputs;
 use crate::problem::Problem;
-use crate::run::page;
+use crate::run::decisions::{decisions, Decision};
+use crate::run::{page, Ready};
 use crate::settings_file::SettingsFile;
 
 pub fn answer(asked: &Accounts) -> Answer {
@@ -19,8 +22,8 @@ fn answered(asked: &Accounts) -> Result<Answer, Problem> {
         std::fs::create_dir_all(folder).map_err(|error| Problem::io(name_of(folder), "made", &error))?;
         let beside = asked.files.iter().map(|file| SettingsFile::beside(file));
         let mut outputs = Outputs::of(asked.files.iter().cloned().chain(beside).chain([asked.bars.clone()]));
-        for (path, ended) in streamed.reports(folder).iter().zip(&streamed.accounts) {
-            outputs.add(path, page::page(&ended.outcome));
+        for ((path, ended), file) in streamed.reports(folder).iter().zip(&streamed.accounts).zip(&asked.files) {
+            outputs.add(path, page::page(&ended.outcome, &decided(asked, file, ended)?));
         }
         outputs.write()?;
     }
@@ -28,6 +31,16 @@ fn answered(asked: &Accounts) -> Result<Answer, Problem> {
     let mut answer = Answer { text, document: asked.json, ..Answer::default() };
     said(&streamed, &mut answer);
     Ok(answer)
+}
+
+/// Why an account's orders were made: those of its run alone, which the account is equal to where nothing stopped it. Bars from standard
+/// input are gone by now.
+fn decided(asked: &Accounts, file: &Path, ended: &Ended) -> Result<Vec<Decision>, Problem> {
+    if ended.stopped.is_some() || asked.bars == Path::new("-") {
+        return Ok(Vec::new());
+    }
+    let over = asked.how.over(file.to_owned(), asked.bars.clone());
+    decisions(&Ready::of(&over)?, over.on_refusal)
 }
 
 /// What the accounts' files have to say, what the stream refused, and which accounts it stopped.

@@ -90,7 +90,7 @@ fn resume(asked: &Resume) -> Result<Answer, Problem> {
     );
     outcome.notes.push(said);
     let inputs = asked.over.read().into_iter().chain([asked.image.clone()]);
-    run::written(outcome, &asked.wanted, Outputs::of(inputs))
+    run::written(outcome, &[], &asked.wanted, Outputs::of(inputs))
 }
 
 fn cut(asked: &Cut) -> Result<Answer, Problem> {

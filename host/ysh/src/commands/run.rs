@@ -6,6 +6,7 @@ use crate::columns::counted;
 use crate::output::Outputs;
 use crate::problem::Problem;
 use crate::run::asked::{Run, Wanted};
+use crate::run::decisions::{decisions, Decision};
 use crate::run::outcome::Outcome;
 use crate::run::{csv, json, page, text, Ready};
 
@@ -18,11 +19,25 @@ pub fn answer(asked: &Run) -> Answer {
 
 fn answered(asked: &Run) -> Result<Answer, Problem> {
     let way = Way { on_refusal: asked.over.on_refusal, after: None, until: None };
-    written(Outcome::of(Ready::of(&asked.over)?, way)?, &asked.wanted, Outputs::of(asked.over.read()))
+    // A page says why each trade was entered and left, for which the bars are looked at one by one first.
+    let (ready, decisions) = match &asked.wanted.html {
+        None => (Ready::of(&asked.over)?, Vec::new()),
+        Some(_) => {
+            let ready = Ready::kept(&asked.over)?;
+            let decisions = decisions(&ready, asked.over.on_refusal)?;
+            (ready, decisions)
+        }
+    };
+    written(Outcome::of(ready, way)?, &decisions, &asked.wanted, Outputs::of(asked.over.read()))
 }
 
 /// The files that are wanted of a run, and the answer.
-pub fn written(outcome: Outcome, wanted: &Wanted, mut outputs: Outputs) -> Result<Answer, Problem> {
+pub fn written(
+    outcome: Outcome,
+    decisions: &[Decision],
+    wanted: &Wanted,
+    mut outputs: Outputs,
+) -> Result<Answer, Problem> {
     if let Some(path) = &wanted.trades {
         outputs.add(path, csv::trades(&outcome.trades));
     }
@@ -30,7 +45,7 @@ pub fn written(outcome: Outcome, wanted: &Wanted, mut outputs: Outputs) -> Resul
         outputs.add(path, csv::equity(&outcome.equity));
     }
     if let Some(path) = &wanted.html {
-        outputs.add(path, page::page(&outcome));
+        outputs.add(path, page::page(&outcome, decisions));
     }
     outputs.write()?;
     let text = if wanted.json { json::json(&outcome) } else { text::text(&outcome) };

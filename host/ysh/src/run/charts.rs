@@ -19,6 +19,8 @@ pub struct Charts {
     pub closes: String,
     pub equity: String,
     pub drawdown: String,
+    /// What stands under the pointer, as JSON.
+    pub points: String,
 }
 
 impl Charts {
@@ -30,17 +32,18 @@ impl Charts {
         }
         let fills = outcome.trades.iter().flat_map(|trade| [trade.entry_price, trade.exit_price]);
         let equity: Vec<f64> = outcome.equity.iter().map(|point| point.equity).collect();
-        let under = under(&equity);
+        let (under, hold) = (under(&equity), hold(outcome));
         let mut frames = [
             Frame::new(300.0, bars, outcome.closes.iter().copied().chain(fills)),
-            Frame::new(230.0, bars, equity.iter().copied().chain([outcome.capital])),
+            Frame::new(230.0, bars, equity.iter().copied().chain([outcome.capital]).chain(hold.iter().copied())),
             Frame::new(150.0, bars, under.iter().copied().chain([0.0])),
         ];
         Frame::align(&mut frames);
         Some(Charts {
             closes: closes(&frames[0], outcome),
-            equity: equity_chart(&frames[1], outcome, &equity),
+            equity: equity_chart(&frames[1], outcome, &equity, &hold),
             drawdown: drawdown_chart(&frames[2], outcome, &under),
+            points: points(frames[0].left, outcome, &under),
         })
     }
 }
@@ -189,7 +192,7 @@ fn exit_words(trade: &Trade, clock: Clock) -> String {
 
 /// The bars of each trade's entry and exit. A trade has their times; one after another they are looked for from where the trade before
 /// was left, so that times which occur twice do no harm.
-fn places(outcome: &Outcome) -> Vec<[usize; 2]> {
+pub fn places(outcome: &Outcome) -> Vec<[usize; 2]> {
     let mut at = 0;
     let mut from = |time: i64| {
         let found = outcome.equity[at..].iter().position(|point| point.time == time);
@@ -199,10 +202,42 @@ fn places(outcome: &Outcome) -> Vec<[usize; 2]> {
     outcome.trades.iter().map(|trade| [from(trade.entry_time), from(trade.exit_time)]).collect()
 }
 
-/// The equity at each close, and the capital as a broken line.
-fn equity_chart(frame: &Frame, outcome: &Outcome, values: &[f64]) -> String {
+/// What the capital would be, had it bought at the first close and held, without costs; nothing where that is no number.
+fn hold(outcome: &Outcome) -> Vec<f64> {
+    let first = outcome.closes.first().copied().unwrap_or(f64::NAN);
+    let worth: Vec<f64> = outcome.closes.iter().map(|close| outcome.capital * (close / first)).collect();
+    if worth.iter().all(|value| value.is_finite()) {
+        worth
+    } else {
+        Vec::new()
+    }
+}
+
+/// The values of as many bars as there are pixels to point at.
+fn points(left: f64, outcome: &Outcome, under: &[f64]) -> String {
+    let (bars, clock) = (outcome.equity.len(), clock(outcome));
+    let most = bars.min((RIGHT - left) as usize).max(1);
+    let bar_of = |n: usize| if most < 2 { 0 } else { n * (bars - 1) / (most - 1) };
+    let point = |bar: usize| {
+        let point = &outcome.equity[bar];
+        let close = outcome.closes.get(bar).map_or(String::new(), |close| rounded(*close));
+        let under = format!("{}%", rounded(under[bar]));
+        [format!("{bar}, {}", clock.text(point.time)), close, rounded(point.equity), under]
+    };
+    let points: Vec<[String; 4]> = (0..most).map(|n| point(bar_of(n))).collect();
+    let data = serde_json::json!({
+        "left": left, "right": RIGHT, "width": WIDTH, "names": ["bar", "close", "equity", "drawdown"], "points": points,
+    });
+    data.to_string().replace('<', "\\u003c")
+}
+
+/// The equity at each close, the capital as a broken line, and what buying and holding would have come to.
+fn equity_chart(frame: &Frame, outcome: &Outcome, values: &[f64], hold: &[f64]) -> String {
     let mut svg = frame.svg("Equity over time", &outcome.equity);
     frame.level(&mut svg, "capital", outcome.capital);
+    if !hold.is_empty() {
+        svg.path("hold", &frame.line(hold));
+    }
     svg.path("series", &frame.line(values));
     svg.done()
 }

@@ -3,10 +3,14 @@
 pub mod asked;
 pub mod charts;
 pub mod csv;
+pub mod decisions;
+mod histogram;
 pub mod json;
 pub mod outcome;
 pub mod page;
 mod ready;
+mod study;
 pub mod text;
+pub mod used;
 
 pub use ready::{made, names_of, notes_of, source_and_settings, Ready};

@@ -2,6 +2,7 @@
 
 use yshturpa::{Metrics, Point, Reason, Trade};
 
+use super::used::used;
 use super::Ready;
 use crate::bars::{over, Refusals, Way};
 use crate::problem::Problem;
@@ -14,6 +15,8 @@ pub struct Outcome {
     /// What a strategy says that it trades, and on which bars; empty for a table.
     pub title: String,
     pub capital: f64,
+    /// The rules, sizing and costs that it used, in words.
+    pub used: Vec<(&'static str, String)>,
     pub metrics: Metrics,
     pub trades: Vec<Trade>,
     pub equity: Vec<Point>,
@@ -61,6 +64,7 @@ impl Outcome {
         let metrics = engine.finish().map_err(|refusal| source.refused(refusal))?;
         let title = source.strategy.as_ref().map(|s| format!("{} {}", s.symbol, s.timeframe)).unwrap_or_default();
         Ok(Outcome {
+            used: used(&source, &settings),
             file: source.file,
             bars_file: bars.name.clone(),
             title: shown(title.trim()),
@@ -115,5 +119,38 @@ impl Outcome {
             ("profit_factor", "profit factor", "", m.profit_factor),
             ("num_trades", "trades", "", m.num_trades as f64),
         ]
+    }
+}
+
+/// What a figure is of, where its name does not say it.
+pub fn of(name: &str) -> &'static str {
+    match name {
+        "return_pct" => "of the capital",
+        "sharpe" | "sortino" => "per bar, not annualised",
+        "calmar" => "return by greatest drawdown, not annualised",
+        "max_drawdown" => "of the highest equity so far",
+        "win_rate" => "of all trades",
+        "profit_factor" => "what was won by what was lost",
+        _ => "",
+    }
+}
+
+#[cfg(test)]
+pub mod tests {
+    use super::*;
+
+    pub fn trade() -> Trade {
+        Trade {
+            entry_time: 0,
+            exit_time: 0,
+            entry_price: 1.0,
+            exit_price: 1.0,
+            qty: 1.0,
+            pnl: 0.0,
+            return_pct: 0.0,
+            reason: Reason::Signal,
+            funding: 0.0,
+            worst: 1.0,
+        }
     }
 }

@@ -1,9 +1,12 @@
-//! A run as a page of its own, for a client to open: no network, no script.
+//! A run as a page of its own, for a client to open: no network, and no script but its own.
 
 use yshturpa::Trade;
 
-use super::charts::{clock, marks, Charts};
-use super::outcome::{reason_words, Outcome};
+use super::charts::{clock, marks, places, Charts};
+use super::decisions::{of_entry, of_exit, Decision};
+use super::histogram::histogram;
+use super::outcome::{of, reason_words, Outcome};
+use super::study::{Side, Study};
 use super::text;
 use crate::columns::counted;
 use crate::show::{rounded, Clock};
@@ -14,11 +17,21 @@ const STYLE: &str = concat!(include_str!("../page.css"), include_str!("../chart.
 /// As many trades as the table has rows for: the first half and the last half of these.
 const ROWS: usize = 2000;
 
-pub fn page(outcome: &Outcome) -> String {
+const SCRIPT: &str = include_str!("pointer.js");
+
+/// The page of a run, and of the orders that it made where these are known.
+pub fn page(outcome: &Outcome, decisions: &[Decision]) -> String {
+    let study = Study::of(outcome);
     let title = if outcome.title.is_empty() { &outcome.file } else { &outcome.title };
     let drawn = Charts::of(outcome);
     let chart = |title: &str, lead: &str, which: fn(&Charts) -> &String| {
-        let one = |charts| format!("<h2>{title}</h2>\n<p class=\"lead why\">{}</p>\n{}", escape(lead), which(charts));
+        let one = |charts| {
+            format!(
+                "<h2>{title}</h2>\n<p class=\"lead why\">{}</p>\n<div class=\"chart\">{}</div>",
+                escape(lead),
+                which(charts)
+            )
+        };
         drawn.as_ref().map(one).unwrap_or_default()
     };
     let parts = [
@@ -26,12 +39,24 @@ pub fn page(outcome: &Outcome) -> String {
         told(outcome),
         refused(outcome),
         figures(outcome),
+        used(outcome),
         chart("Closes, entries and exits", &marks(outcome), |charts| &charts.closes),
-        chart("Equity", "At each bar's close; the broken line is the capital.", |charts| &charts.equity),
+        chart(
+            "Equity",
+            "At each bar's close; the broken line is the capital, the thin one the capital bought at the first close and held, without costs.",
+            |charts| &charts.equity,
+        ),
         chart("Drawdown", "Percent under the highest equity so far.", |charts| &charts.drawdown),
-        trades(outcome),
+        told_more(outcome, &study),
+        months(&study),
+        returns(outcome),
+        trades(outcome, decisions),
+        decided(outcome, decisions),
         notes(outcome),
         footer(),
+        drawn.as_ref().map_or(String::new(), |charts| {
+            format!("<script type=\"application/json\" id=\"points\">{}</script>\n<script>\n{SCRIPT}</script>", charts.points)
+        }),
     ];
     format!(
         "<!doctype html>\n<html lang=\"en\">\n<head>\n<meta charset=\"utf-8\">\n\
@@ -74,23 +99,146 @@ fn refused(outcome: &Outcome) -> String {
 }
 
 fn figures(outcome: &Outcome) -> String {
-    let figure = |class: &str, big: &str, small: &str| {
-        format!("<div class=\"figure{class}\"><b>{}</b><span>{}</span></div>", escape(big), escape(small))
+    let figure = |class: &str, big: &str, small: &str, of: &str| {
+        let of = if of.is_empty() { String::new() } else { format!("<small>{}</small>", escape(of)) };
+        format!("<div class=\"figure{class}\"><b>{}</b><span>{}</span>{of}</div>", escape(big), escape(small))
     };
     let class = |name: &str, x: f64| match name {
         "pnl" | "return_pct" if x > 0.0 => " good",
         "pnl" | "return_pct" if x < 0.0 => " over",
         _ => "",
     };
-    let mut all = vec![figure("", &rounded(outcome.last_equity()), "equity at the end")];
+    let mut all = vec![figure("", &rounded(outcome.last_equity()), "equity at the end", "")];
     for (name, words, unit, x) in outcome.nine() {
         let unit = if unit.is_empty() { String::new() } else { format!(" {unit}") };
-        all.push(figure(class(name, x), &format!("{}{unit}", rounded(x)), words));
+        all.push(figure(class(name, x), &format!("{}{unit}", rounded(x)), words, of(name)));
     }
     format!("<div class=\"figures\">{}</div>", all.concat())
 }
 
-fn trades(outcome: &Outcome) -> String {
+/// The rules, sizing and costs that the run used.
+fn used(outcome: &Outcome) -> String {
+    let row = |(what, said): &(&str, String)| format!("<tr><td>{what}</td><td>{}</td></tr>\n", escape(said));
+    format!(
+        "<h2>What ran</h2>\n<table class=\"used\"><tbody>{}</tbody></table>",
+        outcome.used.iter().map(row).collect::<String>()
+    )
+}
+
+/// What the nine metrics do not say.
+fn told_more(outcome: &Outcome, study: &Study) -> String {
+    let percent = |x: Option<f64>| x.map_or("—".to_owned(), |x| format!("{}%", rounded(x)));
+    let clock = clock(outcome);
+    let drawdown = study.drawdown.map_or("never under its highest".to_owned(), |found| {
+        let until = if found.open { ", still under at the end" } else { "" };
+        let (first, last) = (clock.text(found.first), clock.text(found.last));
+        format!("{} in a row, {first} to {last}{until}", counted(found.bars as u64, "bar", "bars"))
+    });
+    let [won, lost] = study.sides[0].streaks.map(|n| counted(n as u64, "trade", "trades"));
+    let lines = [
+        ("buy and hold", format!("{}, from the first close to the last, without costs", percent(study.hold))),
+        ("exposure", format!("{} of the bars had a position", percent(study.exposure))),
+        ("longest drawdown", drawdown),
+        ("streaks", format!("{won} won in a row, {lost} lost in a row, at most")),
+    ];
+    let line = |(what, said): &(&str, String)| format!("<tr><td>{what}</td><td>{}</td></tr>\n", escape(said));
+    let heads = ["", "trades", "won", "lost", "pnl", "average win", "average loss", "best", "worst"];
+    let head: String = heads.iter().map(|head| format!("<th>{head}</th>")).collect();
+    let sides: String = study.sides.iter().filter(|side| side.trades > 0).map(side).collect();
+    let table = match sides.is_empty() {
+        true => String::new(),
+        false => format!("<table class=\"trades\"><thead><tr>{head}</tr></thead><tbody>{sides}</tbody></table>"),
+    };
+    format!(
+        "<h2>Beside the metrics</h2>\n<p class=\"lead why\">Worked out by ysh from trades, equity and closes.</p>\n\
+         <table class=\"used\"><tbody>{}</tbody></table>\n{table}",
+        lines.iter().map(line).collect::<String>()
+    )
+}
+
+fn side(side: &Side) -> String {
+    let maybe = |x: Option<f64>| x.map_or("—".to_owned(), rounded);
+    let cells = [
+        side.name.to_owned(),
+        side.trades.to_string(),
+        side.won.to_string(),
+        side.lost.to_string(),
+        rounded(side.pnl),
+        maybe(side.average_win),
+        maybe(side.average_loss),
+        maybe(side.best),
+        maybe(side.worst),
+    ];
+    format!("<tr>{}</tr>\n", cells.iter().map(|cell| format!("<td>{}</td>", escape(cell))).collect::<String>())
+}
+
+/// The months, where there are several.
+fn months(study: &Study) -> String {
+    if study.months.is_empty() {
+        return String::new();
+    }
+    let month = |month: &super::study::Month| {
+        let class = if month.change < 0.0 { " class=\"fell\"" } else { "" };
+        format!("<span{class}><i>{}</i><b>{}</b></span>\n", escape(&month.name), escape(&percent(month.change)))
+    };
+    let lead = "What the equity at the end of each is over that at the end of the one before, or over the capital.";
+    let all: String = study.months.iter().map(month).collect();
+    format!("<h2>Months</h2>\n<p class=\"lead why\">{lead}</p>\n<div class=\"months\">{all}</div>")
+}
+
+/// How often the trades had which return.
+fn returns(outcome: &Outcome) -> String {
+    let drawn = histogram(&outcome.trades);
+    drawn.map_or(String::new(), |svg| {
+        format!("<h2>Returns of the trades</h2>\n<p class=\"lead why\">How many trades had which return.</p>\n{svg}")
+    })
+}
+
+/// The decisions to enter and to leave of each trade that has a row, by its number.
+fn of_trades<'a>(outcome: &Outcome, decisions: &'a [Decision]) -> Vec<[Option<&'a Decision>; 2]> {
+    let mut since = 0;
+    let one = |[entry, exit]: [usize; 2]| {
+        let found = [of_entry(decisions, since, entry), of_exit(decisions, entry, exit)];
+        since = exit;
+        found
+    };
+    places(outcome).into_iter().map(one).collect()
+}
+
+fn has_row(number: usize, count: usize) -> bool {
+    count <= ROWS || number < ROWS / 2 || number >= count - ROWS / 2
+}
+
+/// Why each trade was entered and left: the chains that the table's times lead to.
+fn decided(outcome: &Outcome, decisions: &[Decision]) -> String {
+    let clock = clock(outcome);
+    let count = outcome.trades.len();
+    let mut all = String::new();
+    for (number, found) in
+        of_trades(outcome, decisions).into_iter().enumerate().filter(|(number, _)| has_row(*number, count))
+    {
+        for ((decision, letter), what) in found.into_iter().zip(["e", "x"]).zip(["entered", "left"]) {
+            let Some(decision) = decision else { continue };
+            let line = |(level, text): &(usize, String)| {
+                format!("<p style=\"margin-left:{}em\">{}</p>", level + 1, escape(text))
+            };
+            all.push_str(&format!(
+                "<div class=\"decided\" id=\"{letter}{}\"><b>trade {} was {what}</b>: decided at bar {}, {}{}</div>\n",
+                number + 1,
+                number + 1,
+                decision.bar,
+                clock.text(decision.time),
+                decision.lines.iter().map(line).collect::<String>()
+            ));
+        }
+    }
+    match all.is_empty() {
+        true => all,
+        false => format!("<h2>Why each trade was entered and left</h2>\n{all}"),
+    }
+}
+
+fn trades(outcome: &Outcome, decisions: &[Decision]) -> String {
     if outcome.trades.is_empty() {
         return "<h2>Trades</h2>\n<p>There was no trade.</p>".to_owned();
     }
@@ -115,15 +263,15 @@ fn trades(outcome: &Outcome) -> String {
     let head: String = heads.iter().map(|head| format!("<th>{head}</th>")).collect();
     let count = outcome.trades.len();
     let mut rows = String::new();
-    for (number, trade) in outcome.trades.iter().enumerate() {
-        if count <= ROWS || number < ROWS / 2 || number >= count - ROWS / 2 {
-            rows.push_str(&row(number, trade, clock));
+    for (number, (trade, why)) in outcome.trades.iter().zip(of_trades(outcome, decisions)).enumerate() {
+        if has_row(number, count) {
+            rows.push_str(&row(number, trade, clock, why.map(|decision| decision.is_some())));
         } else if number == ROWS / 2 {
             let between = count - ROWS;
             rows.push_str(&format!("<tr><td colspan=\"13\">{between} trades between are in no row here</td></tr>\n"));
         }
     }
-    let lead = "Worst price: the least favourable from the entry bar to the closing bar, and how far against the entry that is. \
+    let lead = "A time leads to why the trade was entered or left then. Worst price: the least favourable from the entry bar to the closing bar, and how far against the entry that is. \
                 Funding is not part of the pnl; below 0 it was received.";
     format!(
         "<h2>Trades</h2>\n<p class=\"lead why\">{lead}</p>\n\
@@ -131,7 +279,8 @@ fn trades(outcome: &Outcome) -> String {
     )
 }
 
-fn row(number: usize, trade: &Trade, clock: Clock) -> String {
+/// A trade; its times lead to why it was entered and left, where that is told.
+fn row(number: usize, trade: &Trade, clock: Clock, why: [bool; 2]) -> String {
     let long = trade.qty > 0.0;
     let against = (trade.worst - trade.entry_price) / trade.entry_price * 100.0;
     let against = if long { -against } else { against };
@@ -151,7 +300,12 @@ fn row(number: usize, trade: &Trade, clock: Clock) -> String {
         percent(against),
     ];
     let class = if trade.pnl < 0.0 { " class=\"loss\"" } else { "" };
-    let cells: String = cells.iter().map(|cell| format!("<td>{}</td>", escape(cell))).collect();
+    let cell = |(place, cell): (usize, &String)| match (place, why) {
+        (2, [true, _]) => format!("<td><a href=\"#e{}\">{}</a></td>", number + 1, escape(cell)),
+        (3, [_, true]) => format!("<td><a href=\"#x{}\">{}</a></td>", number + 1, escape(cell)),
+        _ => format!("<td>{}</td>", escape(cell)),
+    };
+    let cells: String = cells.iter().enumerate().map(cell).collect();
     format!("<tr{class}>{cells}</tr>\n")
 }
 

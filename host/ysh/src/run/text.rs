@@ -1,6 +1,6 @@
 //! A run as text: the summary and the nine metrics.
 
-use super::outcome::{reason_words, Outcome, REASONS};
+use super::outcome::{of, reason_words, Outcome, REASONS};
 use crate::columns::{columns, counted, grouped, Side};
 use crate::show::{rounded, Clock};
 
@@ -17,7 +17,9 @@ pub fn text(outcome: &Outcome) -> String {
         lines.push(format!("columns  not read: {}", outcome.unread.join(", ")));
     }
     lines.push(String::new());
-    let row = |(_, name, unit, x): (&str, &str, &str, f64)| vec![name.to_owned(), rounded(x), unit.to_owned()];
+    let row = |(key, name, unit, x): (&str, &str, &str, f64)| {
+        vec![name.to_owned(), rounded(x), [unit, of(key)].join(" ").trim().to_owned()]
+    };
     let rows: Vec<Vec<String>> = outcome.nine().into_iter().map(row).collect();
     let no_heads = [("", Side::Left), ("", Side::Right), ("", Side::Left)];
     lines.extend(columns(&no_heads, &rows).into_iter().skip(1));

@@ -1,5 +1,5 @@
 -- Those passed are small: the rest decides. Assumes nothing.
-use Rattle.words.specs.Prelude.{_≡_, refl, sym, ap, _∙_, Bool, true, false, List, [], _∷_, ℕ, suc, _+_, _-_, _<_, _≤_, arith, add-one, needs, le-leb, lt-leb}
+use Rattle.words.specs.Prelude.{_≡_, refl, sym, ap, _∙_, false, List, _∷_, ℕ, suc, _+_, _-_, _<_, _≤_, arith, add-one, needs, le-leb, lt-leb}
 use Rattle.words.specs.Prelude.{length, getD, drop, drop-of-length-le, drop-cons}
 use Rattle.words.specs.{Limits.mostCount}
 use Rattle.totals.specs.{Totals.allSmall}

@@ -1,5 +1,5 @@
 -- What is counted and what is still to be counted, up to the first trade that cannot be, make up the whole. Assumes nothing.
-use Rattle.words.specs.Prelude.{_≡_, refl, sym, ap, subst, _∙_, Bool, true, false, List, [], _∷_, ℕ, suc, _+_, _-_, _*_, _<_, _≤_, arith, needs, length, getD}
+use Rattle.words.specs.Prelude.{_≡_, refl, sym, ap, subst, _∙_, true, false, List, [], _∷_, ℕ, suc, _+_, _-_, _*_, _<_, _≤_, arith, needs, length, getD}
 use Rattle.words.specs.{Limits.tradeWords, Limits.mostCount}
 use Rattle.totals.specs.{Trades.Trade, Trades.tradeAt, Trades.tradesFrom, Trades.acceptable, Trades.goodStart, Totals.countSize, Totals.AllAtMost}
 use Rattle.totals.specs.{Totals.withCounts, Laws.Trades.trades-next, Laws.Trades.trades-none, Laws.Trades.good-next, Laws.Trades.good-ends}

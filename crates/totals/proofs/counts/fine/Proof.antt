@@ -1,5 +1,5 @@
 -- Small ones can be added up. Assumes nothing.
-use Rattle.words.specs.Prelude.{_≡_, refl, sym, ap, _∙_, true, ℕ, _+_, arith, needs, leb, getD}
+use Rattle.words.specs.Prelude.{refl, sym, ap, _∙_, _+_, arith, needs, leb, getD}
 use Rattle.totals.specs.{Totals.countsFine, Laws.Counts.small-all}
 use Rattle.totals.proofs.{counts.fine.Statement.statement}
 use Rattle.totals.proofs.counts.fine.Tie as tie

@@ -1,5 +1,5 @@
 -- The reason, then the pnl. Assumes nothing.
-use Rattle.words.specs.Prelude.{sym, needs, le-leb, lt-leb}
+use Rattle.words.specs.Prelude.{needs, le-leb, lt-leb}
 use Rattle.totals.specs.{Trades.acceptable}
 use Rattle.totals.proofs.{counts.is_acceptable.Statement.statement}
 use Rattle.totals.proofs.counts.is_acceptable.Tie as tie

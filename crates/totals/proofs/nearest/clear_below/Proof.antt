@@ -1,6 +1,6 @@
 -- `totals::nearest::clear_below`: the word where place j is, and those below it. Assumes nothing.
-use Rattle.words.specs.Prelude.{_≡_, refl, sym, ap, subst, _∙_, ℕ, suc, _+_, _-_, _*_, _/_, _%_, _^_, _<_, _≤_, min, arith, needs, getD, length}
-use Rattle.totals.specs.{Number.numberOf, Number.AreWords}
+use Rattle.words.specs.Prelude.{sym, ap, subst, _∙_, ℕ, _-_, _/_, _%_, _^_, _<_, arith, needs}
+use Rattle.totals.specs.{Number.AreWords}
 use Rattle.totals.proofs.{Reading.same-word, Reading.other-word, Reading.clear-below, Reading.not-clear, nearest.clear_below.Statement.statement}
 use Rattle.totals.proofs.nearest.clear_below.Tie as tie
 

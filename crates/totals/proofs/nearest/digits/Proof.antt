@@ -1,6 +1,6 @@
 -- `totals::nearest::digits`: the highest word that is not 0 has the first digit. Assumes nothing.
-use Rattle.words.specs.Prelude.{_≡_, refl, sym, ap, subst, _∙_, ℕ, suc, _+_, _-_, _*_, _/_, _%_, _^_, _<_, _≤_, min, arith, needs, getD, length, leadingZeros}
-use Rattle.totals.specs.{Number.numberOf, Number.AreWords, Number.Top}
+use Rattle.words.specs.Prelude.{_≡_, sym, ap, subst, _∙_, ℕ, _-_, _*_, _^_, _<_, _≤_, arith, needs, length, leadingZeros}
+use Rattle.totals.specs.{Number.AreWords, Number.Top}
 use Rattle.totals.proofs.{Reading.size-of-top, Reading.size-of-none, nearest.digits.Statement.statement}
 use lib.Count.{leading-le}
 use Rattle.totals.proofs.nearest.digits.Tie as tie

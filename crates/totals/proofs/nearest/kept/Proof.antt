@@ -1,5 +1,5 @@
 -- `totals::nearest::kept`: few digits lie in one word or in two. Assumes nothing.
-use Rattle.words.specs.Prelude.{_≡_, refl, sym, ap, subst, _∙_, ℕ, suc, _+_, _-_, _*_, _/_, _%_, _^_, _<_, _≤_, arith, needs, getD}
+use Rattle.words.specs.Prelude.{_≡_, ap, _∙_, ℕ, _+_, _-_, _*_, _/_, _%_, _^_, _<_, arith, needs, getD}
 use Rattle.totals.specs.{Number.numberOf, Number.AreWords}
 use Rattle.totals.proofs.{Reading.few-digits, Reading.few-whole, nearest.kept.Statement.statement}
 use Rattle.totals.proofs.nearest.kept.Tie as tie

@@ -1,5 +1,5 @@
 -- `totals::nearest::nearest`: 53 digits, how many were dropped, and no more than an infinity. Assumes nothing.
-use Rattle.words.specs.Prelude.{_≡_, refl, sym, ap, subst, _∙_, ℕ, suc, _+_, _-_, _*_, _/_, _%_, _^_, _<_, _≤_, min, arith, needs, getD, length, size, kept-lt}
+use Rattle.words.specs.Prelude.{_≡_, sym, ap, subst, _∙_, ℕ, _+_, _-_, _*_, _/_, _^_, _<_, _≤_, min, arith, needs, size, kept-lt}
 use Rattle.words.specs.Prelude.{closest}
 use Rattle.totals.specs.{Number.numberOf, Number.AreWords}
 use Rattle.totals.proofs.{Rounding.size-most, Rounding.nearest-small, Rounding.nearest-large, Rounding.kept-most, nearest.nearest.Statement.statement}

@@ -1,7 +1,7 @@
 -- `totals::nearest::nearest_to`: the highest digit is the sign; the size of a negative sum is 0 less it. Assumes nothing.
-use Rattle.words.specs.Prelude.{_≡_, refl, sym, ap, subst, _∙_, true, false, ℕ, suc, _+_, _-_, _*_, _^_, _<_, _≤_, arith, needs, getD, length, replicate, ℤ}
+use Rattle.words.specs.Prelude.{_≡_, refl, sym, ap, subst, _∙_, true, false, ℕ, _+_, _-_, _^_, _<_, _≤_, arith, needs, getD, replicate, ℤ}
 use Rattle.words.specs.Prelude.{binary64, round, toBits}
-use Rattle.totals.specs.{Number.numberOf, Number.AreWords, Number.place, Number.wordsOf, Number.shifted, Laws.Places.number-below, Laws.Places.place-some}
+use Rattle.totals.specs.{Number.numberOf, Number.AreWords, Number.place, Number.shifted, Laws.Places.number-below, Laws.Places.place-some}
 use Rattle.totals.specs.{Laws.Residues.shifted-below, Laws.Places.number-words, Exact.nearestTo, Exact.numberIn}
 use Rattle.totals.proofs.{Sign.not-negative, Sign.negative, Sign.some-of-negative, Sign.negated, Sign.pattern-most, Sign.nearest-negative}
 use Rattle.totals.proofs.{nearest.nearest_to.Statement.statement}

@@ -1,5 +1,5 @@
 -- `totals::nearest::rounded`: by the first digit that is dropped, and whether any other is. Assumes nothing.
-use Rattle.words.specs.Prelude.{_≡_, refl, sym, ap, subst, _∙_, ℕ, suc, _+_, _-_, _*_, _/_, _%_, _^_, _<_, _≤_, min, arith, needs, getD, length, eqb-true}
+use Rattle.words.specs.Prelude.{_≡_, sym, ap, subst, _∙_, ℕ, suc, _+_, _-_, _/_, _%_, _^_, _<_, arith, needs, eqb-true}
 use Rattle.words.specs.Prelude.{eqb-false, closest}
 use Rattle.totals.specs.{Number.numberOf, Number.AreWords}
 use Rattle.totals.proofs.{Reading.digit-at, Rounding.round-down, Rounding.round-even, Rounding.round-up, nearest.rounded.Statement.statement}

@@ -1,6 +1,6 @@
 -- `totals::nearest::top`: the words from t on are 0. Assumes nothing.
 use Rattle.words.specs.Prelude.{_≡_, refl, sym, ap, _∙_, List, ℕ, suc, _+_, _-_, _*_, _<_, _≤_, zero-mul, add-zero, lt-irrefl, arith, needs, take, getD}
-use Rattle.totals.specs.{Number.numberOf, Number.place, Number.Top}
+use Rattle.totals.specs.{Number.numberOf, Number.place}
 use Rattle.totals.proofs.{Digits.number-take, nearest.top.Statement.statement}
 use Rattle.totals.proofs.nearest.top.Tie as tie
 

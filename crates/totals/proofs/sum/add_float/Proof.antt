@@ -1,5 +1,5 @@
 -- `totals::sum::add_float`: a float's digits, moved to their place, lie in two words. Assumes nothing.
-use Rattle.words.specs.Prelude.{_≡_, refl, sym, ap, subst, _∙_, Bool, true, false, List, ℕ, suc, _+_, _-_, _*_, _/_, _%_, _^_, _<_, _≤_, div-le-self, arith, needs}
+use Rattle.words.specs.Prelude.{_≡_, ap, _∙_, List, ℕ, suc, _+_, _-_, _/_, _%_, _^_, _<_, div-le-self, arith, needs}
 use Rattle.words.specs.Prelude.{leb, length}
 use Rattle.totals.specs.{Number.place, Number.numberOf, Number.wordsOf, Number.shifted}
 use Rattle.totals.proofs.{Digits.at-place, Digits.units-small, Digits.units-large, sum.add_float.Statement.statement}

@@ -1,5 +1,5 @@
 -- What is in the sum and the pnl to come make up the whole. Assumes nothing.
-use Rattle.words.specs.Prelude.{_≡_, refl, sym, ap, subst, _∙_, List, [], _∷_, ℕ, _+_, _-_, _*_, _/_, _%_, _^_, _<_, _≤_, arith, needs, leb, length, getD}
+use Rattle.words.specs.Prelude.{_≡_, sym, ap, subst, _∙_, List, ℕ, _+_, _-_, _*_, _/_, _%_, _^_, _<_, _≤_, arith, needs, leb, length, getD}
 use Rattle.words.specs.{Words.word, Limits.tradeWords}
 use Rattle.floats.specs.{Root.unitsOf}
 use Rattle.totals.specs.{Number.AreWords, Number.numberOf, Number.wordsOf, Number.shifted, Number.place, Exact.unitsIn, Exact.sumSize, Trades.Trade}

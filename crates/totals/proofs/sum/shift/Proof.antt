@@ -1,5 +1,5 @@
 -- `totals::sum::shift`: what was moved and what is still to be moved, at the place of word i, make up the whole. Assumes nothing.
-use Rattle.words.specs.Prelude.{_≡_, refl, sym, ap, subst, _∙_, Bool, true, false, ℕ, _+_, _-_, _*_, _^_, _<_, _≤_, zero-mul, arith, add-one, needs, length}
+use Rattle.words.specs.Prelude.{_≡_, refl, sym, ap, subst, _∙_, Bool, true, false, ℕ, _+_, _-_, _*_, _^_, _<_, zero-mul, arith, add-one, needs, length}
 use Rattle.words.specs.Prelude.{length-set}
 use Rattle.totals.specs.{Number.Moves, Number.AreWords, Number.numberOf, Number.place}
 use Rattle.totals.proofs.{Numbers.moves-on, Numbers.words-settled, Numbers.past, Numbers.set-words, sum.shift.Statement.statement}

@@ -1,5 +1,5 @@
 -- `totals::sum::shift_all`: after i words the number of the first i has been moved. Assumes nothing.
-use Rattle.words.specs.Prelude.{_≡_, refl, sym, ap, subst, _∙_, Bool, true, false, List, ℕ, suc, _+_, _-_, _*_, _/_, _%_, _^_, _<_, _≤_, arith, add-one, needs}
+use Rattle.words.specs.Prelude.{_≡_, sym, ap, _∙_, Bool, List, ℕ, _+_, _-_, _*_, _^_, _<_, _≤_, arith, add-one, needs}
 use Rattle.words.specs.Prelude.{length, take, getD, add-zero, take-length}
 use Rattle.totals.specs.{Number.place, Number.numberOf, Number.wordsOf, Number.shifted, Number.AreWords, Laws.Places.words-of-number}
 use Rattle.totals.specs.{Laws.Places.number-below, Laws.Places.place-some, Laws.Places.length-words, Laws.Places.number-words, Laws.Residues.shifted-below}

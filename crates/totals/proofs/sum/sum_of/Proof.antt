@@ -1,7 +1,7 @@
 -- The 34 words from word 8 on. Assumes nothing.
-use Rattle.words.specs.Prelude.{_≡_, _∙_, _-_, arith, needs, length, take, drop, length-drop, length-take-le}
+use Rattle.words.specs.Prelude.{_∙_, _-_, needs, take, drop}
 use Rattle.totals.specs.{Totals.sumWords}
-use Rattle.totals.proofs.{Writing.copied, sum.sum_of.Statement.statement}
+use Rattle.totals.proofs.{Writing.copied, Writing.sum-long, sum.sum_of.Statement.statement}
 use Rattle.totals.proofs.sum.sum_of.Tie as tie
 
 returns : tie.Need-returns
@@ -9,8 +9,7 @@ unfolding sumWords
 returns c =
     let start = c .before .before .before .before .before in
     let totals = start .args .totals .now in
-    let rest : length (drop 8 totals) ≡ length totals - 8 = length-drop 8 totals in
-    c .before .put .ensures ∙ copied (take 34 (drop 8 totals)) (length-take-le 34 (drop 8 totals) (omega (arith, start .pre)))
+    c .before .put .ensures ∙ copied (take 34 (drop 8 totals)) (sum-long totals (start .pre))
 
 pub sum-of-spec : {M : Type 1} → statement M
 sum-of-spec =
