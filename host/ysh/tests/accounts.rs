@@ -40,7 +40,7 @@ fn each_account_is_the_run_alone() {
     // A table keeps its slots where it has them; with strategies around it these are the stream's first.
     assert_eq!(ysh(&["compile", &example("strategies/hour.json"), "-o", &table, "--capital", "500"]).0, 0);
     let files = ["strategies/breakout.json", "strategies/crossover.json", "strategies/hour.json"].map(example);
-    let [breakout, crossover, hour] = files.each_ref().map(String::as_str);
+    let (breakout, crossover, hour) = (&files[0][..], &files[1][..], &files[2][..]);
     for four in [[breakout, crossover, hour, crossover], [crossover, &table, breakout, hour]] {
         let reports = at(&folder, "reports");
         let (status, found) = accounts(four, &bars, &["--reports", &reports]);

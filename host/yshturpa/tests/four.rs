@@ -1,6 +1,6 @@
 //! Four accounts on one stream against four runs, each alone.
 
-use yshturpa::{Account, Bar, Engine, Refusal, Settings, Sizing, Status, Stream};
+use yshturpa::{Account, Bar, Bars, Done, Engine, Refusal, Settings, Sizing, Status, Stream};
 
 const BARS: usize = 60;
 const BAD: usize = 20;
@@ -74,5 +74,27 @@ fn each_account_is_as_it_would_be_alone() {
         assert_eq!(account.engine.save().words(), alone.save().words());
         assert!(account.engine.equity().eq(alone.equity()) && account.engine.trades().eq(alone.trades()));
         assert_eq!(number == 2, account.status() != Status::Runs);
+    }
+}
+
+#[test]
+fn a_list_comes_to_what_its_bars_come_to() {
+    let accounts = || [0.5, 1.0, 0.25, 0.75].map(|fraction| Account::new(&table(), engine(fraction, 1.0, 32)));
+    let (mut one, mut other) = (accounts(), accounts());
+    let mut bars: Vec<Bar> = (0..BARS).map(|i| bar(i, 3)).collect();
+    bars[BAD].close = f64::INFINITY;
+    let mut list = Bars::new(3);
+    bars.iter().for_each(|bar| list.push(bar));
+    let mut streams = [Stream::new(3), Stream::new(3)];
+    let refused = Some(Refusal { number: 11, place: BAD as u32 });
+    assert_eq!(streams[0].step_over(&list, 0..BARS, &mut one), Done { bars: BAD, refused });
+    assert_eq!(streams[0].step_over(&list, BAD + 1..BARS, &mut one), Done { bars: BARS - BAD - 1, refused: None });
+    for part in [&bars[..BAD], &bars[BAD + 1..]] {
+        assert_eq!(streams[1].step(part, &mut other), (part.len() as u64, Ok(())));
+    }
+    assert_eq!(streams[0], streams[1]);
+    for (one, other) in one.iter().zip(&other) {
+        assert_eq!((one.status(), one.engine.save().words()), (Status::Runs, other.engine.save().words()));
+        assert!(one.engine.equity().eq(other.engine.equity()) && one.engine.trades().eq(other.engine.trades()));
     }
 }

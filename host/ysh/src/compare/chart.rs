@@ -14,7 +14,7 @@ pub struct Charts {
 impl Charts {
     /// Over the bars of the longer run; none where neither has any.
     pub fn of(compared: &Compared) -> Option<Charts> {
-        let [a, b] = compared.sides.each_ref().map(|side| values(&side.equity));
+        let [a, b] = compared.both(|side| values(&side.equity));
         let longer = longer(compared)?;
         let mut apart: Vec<f64> = a.iter().zip(&b).map(|(a, b)| b - a).collect();
         let differ = apart.iter().any(|x| *x != 0.0);

@@ -50,6 +50,11 @@ impl Compared {
         Ok(Compared { sides, equity, trades, more_trades, more_points })
     }
 
+    /// What a function gives for each of the two.
+    pub fn both<'a, T>(&'a self, of: impl Fn(&'a Side) -> T) -> [T; 2] {
+        [of(&self.sides[0]), of(&self.sides[1])]
+    }
+
     pub fn same(&self) -> bool {
         self.equity.is_none() && self.trades.is_empty() && self.more_trades.is_none() && self.more_points.is_none()
     }

@@ -2,7 +2,7 @@
 
 use super::chart::Charts;
 use super::text::{equity, more, trades, verdict, words};
-use super::Compared;
+use super::{Compared, Side};
 use crate::svg::escape;
 
 const STYLE: &str = concat!(include_str!("../page.css"), include_str!("../chart.css"), include_str!("compare.css"));
@@ -38,7 +38,7 @@ pub fn page(compared: &Compared) -> String {
 }
 
 fn told(compared: &Compared) -> String {
-    let [a, b] = compared.sides.each_ref().map(|side| side.told());
+    let [a, b] = compared.both(Side::told);
     let mut lines = vec![("a", a), ("b", b)];
     lines.extend(equity(compared).map(|said| ("equity", said)));
     lines.extend(trades(compared).map(|said| ("trades", said)));
