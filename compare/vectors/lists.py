@@ -8,6 +8,7 @@ script (four.in, four.out), for compare/four.
 """
 import os
 
+import compared
 import dumps
 import extremes
 import four
@@ -52,7 +53,7 @@ def lines(listed):
 def calls():
     parts = (tables.calls(), extremes.calls(), rust.rules(), rust.runs("runs"), rust.runs("orders"), rust.kept_orders(),
              rust.runs("run_long"), rust.days("runs"), rust.days("orders"), refusals.calls(rust.figures_of), dumps.calls(),
-             totals.calls(), stretches.calls(), rust.figures(), roots.calls(), rust.roots())
+             totals.calls(), stretches.calls(), compared.calls(), rust.figures(), roots.calls(), rust.roots())
     return lines(pair for part in parts for pair in part)
 
 

@@ -2,6 +2,7 @@
 // digits. Where the first is below 20 (hex) it is the number of a room, 1f that of the table, and the line says how many words or bytes
 // of the room are lent and what stands there; bytes are eight to a word. Else it is a call over the rooms as they are, and it is
 // answered with a line. compare/README.md has the list of calls; compare/vectors/make makes the stored lines.
+mod compare;
 mod power;
 mod report;
 mod rooms;
@@ -28,7 +29,11 @@ const RECORDS: usize = 8192;
 
 const FEW: usize = 64;
 
-// Fills the room that the line names. Closes, blocks and totals stand in the rooms of equity points, trades and metrics: no call is lent both of a pair.
+// The room of the metrics, which holds the lines of a comparison too.
+const LINES: usize = 256;
+
+// Fills the room that the line names. Closes, blocks, totals and differences stand in the rooms of equity points, trades and metrics: no call is
+// lent both of a pair.
 fn lend(
     line: &[u64],
     sizes: &mut [u64],
@@ -49,7 +54,7 @@ fn lend(
         2 => text::rooms::fill(trades, line),
         7 => text::rooms::fill(settings, line),
         8 => text::rooms::fill(state, line),
-        9 | 0xb => text::rooms::fill(metrics, line),
+        9 | 0xb | 0xf => text::rooms::fill(metrics, line),
         0xc => text::rooms::fill(equity, line),
         0xd => text::rooms::fill(trades, line),
         0xe => text::rooms::fill_bytes(area, line),
@@ -79,10 +84,11 @@ fn call_rules(line: &[u64], sizes: &mut [u64], table: &[u8], lists: &mut [u8], r
     }
 }
 
-// Makes a call of totals or over closes, which stand in the rooms that `lend` says.
+// Makes a call of totals, over closes or over two runs; what it is lent stands in the rooms that `lend` says.
 fn call_report(
     line: &[u64],
     sizes: &[u64],
+    rows: &[u64],
     equity: &mut [u64],
     trades: &mut [u64],
     metrics: &mut [u64],
@@ -91,7 +97,8 @@ fn call_report(
         0x30 => report::totals(sizes, metrics, trades),
         0x31 => report::join(line, sizes, metrics),
         0x32 => stretch::append(line, sizes, equity, trades),
-        _ => stretch::ask(line, sizes, equity, trades),
+        0x33 => stretch::ask(line, sizes, equity, trades),
+        _ => compare::compare(line, sizes, rows, equity, trades, metrics),
     }
 }
 
@@ -164,7 +171,7 @@ fn take(
         ),
         0x20..=0x24 | 0x2a => call_rules(line, sizes, table, lists, rows),
         0x2c..=0x2f => call_power(line, sizes, settings, state, rows, area),
-        0x30..=0x33 => call_report(line, sizes, equity, trades, metrics),
+        0x30..=0x34 => call_report(line, sizes, rows, equity, trades, metrics),
         _ => call_run(
             line,
             sizes,
@@ -224,7 +231,7 @@ fn main() {
     let mut rows = [0u64; ROWS];
     let mut equity = [0u64; RECORDS];
     let mut trades = [0u64; RECORDS];
-    let mut metrics = [0u64; FEW];
+    let mut metrics = [0u64; LINES];
     let mut turns = u64::MAX;
     while turns > 0
         && take_next(

@@ -25,6 +25,8 @@ pub(crate) const BLOCKS: usize = 13;
 
 pub(crate) const AREA: usize = 14;
 
+pub(crate) const DIFFERENCES: usize = 15;
+
 pub(crate) const TABLE: usize = 31;
 
 // The bytes of the largest list of steps. The four lists stand one after another.

@@ -183,7 +183,17 @@ fn two_libraries() {
     assert!(done.unwrap().success());
     let shared = folder.join("updated.so").to_str().unwrap().to_owned();
     let linked = Command::new("cc")
-        .args(["-shared", "-fPIC", "-o", &shared, &shim, "-Wl,--whole-archive", &renamed, "-Wl,--no-whole-archive"])
+        .args([
+            "-shared",
+            "-fPIC",
+            "-Wl,-Bsymbolic",
+            "-o",
+            &shared,
+            &shim,
+            "-Wl,--whole-archive",
+            &renamed,
+            "-Wl,--no-whole-archive",
+        ])
         .status();
     assert!(linked.unwrap().success());
     let (status, out, err) = ysh(&["compare", &plain, &day(), "--lib-a", ARCHIVE, "--lib-b", &shared, "--json"]);
