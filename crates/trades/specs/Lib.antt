@@ -2,3 +2,4 @@ pub mod Times
 pub mod NoDust
 pub mod Finite
 pub mod LeastFavourable
+pub mod OnlyFlat

@@ -159,7 +159,7 @@ unfolding leaving
 left p NoExit e h = h
 left p (Exited c) e h = is-empty e refl
 
-worsened-keeps : (p : Portfolio) (k : Candle) → worsened p k .qty ≡ p .qty
+pub worsened-keeps : (p : Portfolio) (k : Candle) → worsened p k .qty ≡ p .qty
 worsened-keeps p k = go (inPosition p) refl
   where
     go : (b : Bool) → inPosition p ≡ b → worsened p k .qty ≡ p .qty
@@ -186,7 +186,7 @@ inside-keeps : (s : Settings) (p : Position) (k : Candle) → OpenOrEmpty p → 
 unfolding intrabar
 inside-keeps s p k h = left _ _ (stop-empties k (s .terms) _ _) (kept (facing p k) _ refl refl (faced p k h))
 
-charge-keeps : (on : Bool) (f : Funding) (p : Portfolio) → chargeFunding on f p .qty ≡ p .qty
+pub charge-keeps : (on : Bool) (f : Funding) (p : Portfolio) → chargeFunding on f p .qty ≡ p .qty
 unfolding chargeFunding
 charge-keeps on f p = go on (inPosition p) f
   where

@@ -84,7 +84,7 @@ impl Lines {
             Ok(false) => Ok(None),
             Err(error) => Err(match error.into_kind() {
                 csv::ErrorKind::Io(error) => error,
-                other => io::Error::new(io::ErrorKind::Other, format!("{other:?}")),
+                other => io::Error::other(format!("{other:?}")),
             }),
         }
     }

@@ -1,14 +1,12 @@
 //! `ysh why`: why a rule said what it said at a bar.
 
-use yshturpa::Tree;
-
 use super::Answer;
 use crate::output::Outputs;
 use crate::problem::Problem;
 use crate::run::Ready;
 use crate::show::{rounded, Clock};
 use crate::why::asked::Why;
-use crate::why::chain::{chain, Link};
+use crate::why::chain::{chain, Chains, Link};
 use crate::why::moment::{is_flat, Asked, Moment};
 use crate::why::place::find;
 use crate::why::words::yes;
@@ -18,7 +16,7 @@ pub fn answer(asked: &Why) -> Answer {
     answered(asked).unwrap_or_else(Answer::from)
 }
 
-type Shown = (Moment, Vec<(Tree, Vec<Link>)>);
+type Shown = (Moment, Chains);
 
 fn answered(asked: &Why) -> Result<Answer, Problem> {
     let ready = Ready::kept(&asked.over)?;
@@ -54,7 +52,7 @@ fn answered(asked: &Why) -> Result<Answer, Problem> {
 }
 
 /// The rule that is asked about, or those that the engine asked, each with its chain.
-fn chains(asked: &Why, moment: &Moment) -> Result<Vec<(Tree, Vec<Link>)>, Problem> {
+fn chains(asked: &Why, moment: &Moment) -> Result<Chains, Problem> {
     let trees = match (&asked.tree, &moment.asked) {
         (Some(name), _) => vec![name.tree()],
         (None, Asked::Trees(trees)) => trees.clone(),

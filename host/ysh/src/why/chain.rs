@@ -6,6 +6,9 @@ use yshturpa::{why, By, Position, Rows, Tree, WhyLine};
 use super::values::alone;
 use crate::table::Forest;
 
+/// The rules that are shown, each with its chain.
+pub type Chains = Vec<(Tree, Vec<Link>)>;
+
 /// A line of the chain, how many lines lead to it, and its node's number in the whole table.
 #[derive(Clone, Copy, Debug, PartialEq)]
 pub struct Link {

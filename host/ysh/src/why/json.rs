@@ -3,7 +3,7 @@
 use serde::Serialize;
 use yshturpa::{By, Tree};
 
-use super::chain::Link;
+use super::chain::{Chains, Link};
 use super::moment::{is_flat, Asked, Moment};
 use super::words::Telling;
 use crate::run::json::Exact;
@@ -62,12 +62,7 @@ struct LinkJson {
 }
 
 /// The moments of one time, with the chains of the rules that are shown.
-pub fn json(
-    moments: &[(Moment, Vec<(Tree, Vec<Link>)>)],
-    said: Option<&str>,
-    bars_file: &str,
-    notes: &[String],
-) -> String {
+pub fn json(moments: &[(Moment, Chains)], said: Option<&str>, bars_file: &str, notes: &[String]) -> String {
     let source = &moments[0].0.source;
     let document = Document {
         file: &source.file,

@@ -3,7 +3,7 @@
 use yshturpa::layout::kind;
 use yshturpa::Tree;
 
-use super::chain::Link;
+use super::chain::{Chains, Link};
 use super::moment::Moment;
 use super::values::{value_of, Value};
 use super::words::yes;
@@ -13,7 +13,7 @@ use crate::table::Words;
 const STYLE: &str = concat!(include_str!("../page.css"), include_str!("tree.css"));
 
 /// The rules that were asked at each of some bars, with their chains, below what is said above them.
-pub fn page(moments: &[(Moment, Vec<(Tree, Vec<Link>)>)], heads: &[Vec<String>]) -> String {
+pub fn page(moments: &[(Moment, Chains)], heads: &[Vec<String>]) -> String {
     let mut body = String::new();
     for ((moment, chains), head) in moments.iter().zip(heads) {
         body.push_str(&format!("<h1>{}</h1>\n", escape(&head[0])));
