@@ -50,6 +50,11 @@ impl<'a> Asker<'a> {
             Answers { decided, answer: root.answer, tests: Vec::with_capacity(self.tests.len()) }
         };
         let mut answers: Vec<Answers> = chains.iter().map(answered).collect();
+        // A rule that is one test has said it already.
+        if self.shape.parts.len() == 1 {
+            answers.iter_mut().zip(&chains).for_each(|(answers, chain)| answers.tests.push(chain[0]));
+            return Ok(answers);
+        }
         for (table, node) in &self.tests {
             let lines = why_over(table, Tree::Entry, rows, first, positions)?;
             answers.iter_mut().zip(lines).for_each(|(answers, lines)| answers.tests.push(moved(lines[0], *node)));

@@ -173,22 +173,23 @@ fn said(
     looked_at: impl Fn(&Stepped) -> Option<Option<Why>>,
 ) -> Result<Vec<Option<Result<Answers, Why>>>, Error> {
     let wanted: Vec<Option<Option<Why>>> = bars.iter().map(looked_at).collect();
-    if !wanted.contains(&Some(None)) {
-        return Ok(wanted.into_iter().map(|wanted| wanted.flatten().map(Err)).collect());
+    let mut all: Vec<Option<Result<Answers, Why>>> = wanted.iter().map(|wanted| wanted.flatten().map(Err)).collect();
+    // Bars in a row at which the rule was asked are one question.
+    let mut from = 0;
+    while let Some(next) = wanted[from..].iter().position(|wanted| *wanted == Some(None)) {
+        let begin = from + next;
+        let count = wanted[begin..].iter().take_while(|wanted| **wanted == Some(None)).count();
+        from = begin + count;
+        let positions: Vec<Position> = bars[begin..from].iter().map(|bar| bar.position).collect();
+        // Where the entry said yes, the short entry was not asked.
+        let entered = match tree {
+            Tree::ShortEntry => why_over(&source.table, Tree::Entry, rows, first + begin, &positions)?,
+            _ => Vec::new(),
+        };
+        for (n, answers) in asker.ask(rows, first + begin, &positions)?.into_iter().enumerate() {
+            let short = entered.get(n).is_some_and(|chain| chain[0].answer);
+            all[begin + n] = Some(if short { Err(Why::Entry) } else { Ok(answers) });
+        }
     }
-    let positions: Vec<Position> = bars.iter().map(|bar| bar.position).collect();
-    // Where the entry said yes, the short entry was not asked.
-    let entered = match tree {
-        Tree::ShortEntry => why_over(&source.table, Tree::Entry, rows, first, &positions)?,
-        _ => Vec::new(),
-    };
-    let answers = asker.ask(rows, first, &positions)?;
-    let one = |(n, (wanted, answers)): (usize, (Option<Option<Why>>, Answers))| {
-        wanted.map(|why| match why {
-            Some(why) => Err(why),
-            None if entered.get(n).is_some_and(|chain| chain[0].answer) => Err(Why::Entry),
-            None => Ok(answers),
-        })
-    };
-    Ok(wanted.into_iter().zip(answers).enumerate().map(one).collect())
+    Ok(all)
 }
