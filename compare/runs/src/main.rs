@@ -8,7 +8,8 @@ mod files;
 mod ours;
 mod theirs;
 
-/// The driver's random cases, and what they name of it.
+/// The driver's random cases, and what they name of it. Accounts and their streams are the driver's alone.
+#[allow(dead_code)]
 #[path = "../../driver/src/cases/mod.rs"]
 mod cases;
 
