@@ -1,20 +1,16 @@
 -- A step as two words: its constant, and its head, one number whose digits are the other fields. Which heads tell that a step is good.
 use Rattle.words.specs.Prelude.{ℕ, _+_, _*_, _/_, _%_, _≤_, _<_, _≡_, refl, Bool, true, false, List, arith, getD, ltb, lt-ltb, le-leb, ltb-true, ltb-false}
 use Rattle.table.specs.{Bytes.u16, Bytes.u32, Bytes.u64}
-use Rattle.steps.specs.{declared.step.Step.Step, Bytes.isComparison, Bytes.isTest, Bytes.fields, Bytes.readStep, Laws.Classes.test-in, Laws.Classes.test-rest}
+use Rattle.steps.specs.{declared.step.Step.Step, Bytes.isComparison, Bytes.isTest, Bytes.fields, Bytes.ofWords, Bytes.readStep, Bytes.stepAt, Bytes.stepsIn, Laws.Classes.test-in, Laws.Classes.test-rest}
 use Rattle.steps.specs.{Laws.Classes.says-compare, Laws.Classes.says-cross, Laws.Classes.says-between, WellFormed.zeros, WellFormed.plain, WellFormed.bounded}
 use Rattle.steps.specs.{WellFormed.goodStep}
-use Rattle.steps.proofs.{Said.says-const, Said.says-price, Said.says-jump}
+use Rattle.steps.proofs.{Said.says-const, Said.says-ref, Said.says-price, Said.says-jump}
 
 -- ---- the words and the fields
 
--- The step of two words.
-abbrev pub split : ℕ → ℕ → Step
-split head bits = fields (head % 256) (head / 256 % 256) (head / 65536 % 65536) (head / 4294967296) bits
-
 -- A head splits into the fields that it is the sum of.
 digits : (k s skip n bits : ℕ) → k < 256 → s < 256 → skip < 65536 → (head : ℕ) → head ≡ k + 256 * s + 65536 * skip + 4294967296 * n
-    → fields k s skip n bits ≡ split head bits
+    → fields k s skip n bits ≡ ofWords head bits
 digits k s skip n bits lk ls lskip head e =
     let past-kind : head / 256 ≡ s + 256 * skip + 16777216 * n = omega arith in
     let past-selector : head / 65536 ≡ skip + 65536 * n = omega arith in
@@ -25,11 +21,26 @@ digits k s skip n bits lk ls lskip head e =
     rw (is-k, is-s, is-skip, is-n)
 
 -- The step that is read from bytes is that of the two words there.
-pub of-words : (bs : List ℕ) (at : ℕ) → ((i : ℕ) → getD bs i 0 < 256) → readStep bs at ≡ split (u64 bs at) (u64 bs (at + 8))
+pub of-words : (bs : List ℕ) (at : ℕ) → ((i : ℕ) → getD bs i 0 < 256) → readStep bs at ≡ ofWords (u64 bs at) (u64 bs (at + 8))
 unfolding readStep u64 u32 u16
 of-words bs at below =
     digits (getD bs at 0) (getD bs (at + 1) 0) (u16 bs (at + 2)) (u32 bs (at + 4)) (u64 bs (at + 8)) (below at) (below (at + 1))
     (omega (arith, below (at + 2), below (at + 2 + 1))) (u64 bs at) (omega arith)
+
+-- What is told of the two words is told of the step there.
+pub told-there : (bs : List ℕ) (at : ℕ) → ((i : ℕ) → getD bs i 0 < 256) → (head bits : ℕ) → head ≡ u64 bs at → bits ≡ u64 bs (at + 8)
+    → (K D after : ℕ) → goodStep K D after (ofWords head bits) ≡ true → goodStep K D after (readStep bs at) ≡ true
+told-there bs at below head bits is const K D after good = rw (of-words bs at below, ← is, ← const, good)
+
+-- A head below 65,536 has a kind and a selector alone.
+pub near : (bs : List ℕ) (p head : ℕ) → ((i : ℕ) → getD bs i 0 < 256) → p < stepsIn bs → head ≡ u64 bs (16 * p) → head < 65536
+    → fields (head % 256) (head / 256) 0 0 (u64 bs (16 * p + 8)) ≡ stepAt bs p
+unfolding stepAt
+near bs p head below l is small =
+    let selector : head / 256 % 256 ≡ head / 256 = omega arith in
+    let skip : head / 65536 % 65536 ≡ 0 = omega arith in
+    let n : head / 4294967296 ≡ 0 = omega arith in
+    rw (lt-ltb p (stepsIn bs) l, of-words bs (16 * p) below, ← is, selector, skip, n)
 
 -- ---- good steps, by their fields
 
@@ -53,6 +64,11 @@ module _ (K D after : ℕ) where
   unfolding goodStep plain bounded zeros
   price p n l = rw (says-price (fields 3 p 0 n 0) refl, lt-ltb n D l)
 
+  -- a slot that the rows have, within the window
+  slot : (k n : ℕ) → k < K → n < D → goodStep K D after (fields 2 k 0 n 0) ≡ true
+  unfolding goodStep plain bounded zeros
+  slot k n few l = rw (says-ref (fields 2 k 0 n 0) refl, lt-ltb k K few, lt-ltb n D l)
+
   -- a jump that lands in the list or just past it
   jump : (k skip : ℕ) → 32 ≤ k → k < 34 → skip ≤ after → goodStep K D after (fields k 0 skip 0 0) ≡ true
   unfolding goodStep plain bounded zeros
@@ -62,23 +78,27 @@ module _ (K D after : ℕ) where
 
 module _ (K D after head : ℕ) where
   -- All of the head below its n is 1: a constant, selector and skip zero.
-  pub constant-told : (bits : ℕ) → head % 4294967296 ≡ 1 → head / 4294967296 < D → goodStep K D after (split head bits) ≡ true
+  pub constant-told : (bits : ℕ) → head % 4294967296 ≡ 1 → head / 4294967296 < D → goodStep K D after (ofWords head bits) ≡ true
   constant-told bits e l =
       let n : ℕ = head / 4294967296 in
       rw (← digits 1 0 0 n bits (omega arith) (omega arith) (omega arith) head (omega arith)) (constant K D after n bits l)
 
   -- The whole head is a kind: the other fields are zero.
-  pub test-told : isTest head ≡ true → goodStep K D after (split head 0) ≡ true
+  pub test-told : isTest head ≡ true → goodStep K D after (ofWords head 0) ≡ true
   test-told is =
       rw (← digits head 0 0 0 0 (omega (arith, test-in head is .1)) (omega arith) (omega arith) head (omega arith))
       (test K D after head is (isComparison head) (ltb head 24) refl refl)
 
   -- A price's kind, and a skip of zero.
-  pub price-told : head % 256 ≡ 3 → head / 65536 % 65536 ≡ 0 → head / 4294967296 < D → goodStep K D after (split head 0) ≡ true
+  pub price-told : head % 256 ≡ 3 → head / 65536 % 65536 ≡ 0 → head / 4294967296 < D → goodStep K D after (ofWords head 0) ≡ true
   price-told e f l = rw (e, f) (price K D after (head / 256 % 256) (head / 4294967296) l)
 
+  -- A slot's kind, a selector below K, and a skip of zero.
+  pub slot-told : head % 256 ≡ 2 → head / 65536 % 65536 ≡ 0 → head / 256 % 256 < K → head / 4294967296 < D → goodStep K D after (ofWords head 0) ≡ true
+  slot-told e f few l = rw (e, f) (slot K D after (head / 256 % 256) (head / 4294967296) few l)
+
   -- A jump's kind with selector zero; the rest of the head is at most `after`, so that it is all skip.
-  pub jump-told : after < 65536 → 32 ≤ head % 65536 → head % 65536 < 34 → head / 65536 ≤ after → goodStep K D after (split head 0) ≡ true
+  pub jump-told : after < 65536 → 32 ≤ head % 65536 → head % 65536 < 34 → head / 65536 ≤ after → goodStep K D after (ofWords head 0) ≡ true
   jump-told few lo hi l =
       let k : ℕ = head % 65536 in
       let skip : ℕ = head / 65536 in

@@ -3,4 +3,5 @@ pub mod Rows
 pub mod Looks
 pub mod Said
 pub mod Coming
+pub mod Forms
 pub mod Going

@@ -20,6 +20,10 @@ unfoldable pub readStep : List ℕ → ℕ → Step
 readStep bs at =
     fields (getD bs at 0) (getD bs (at + 1) 0) (u16 bs (at + 2)) (u32 bs (at + 4)) (u64 bs (at + 8))
 
+-- The step of two words: its constant, and its head, the number that the eight bytes before it make.
+abbrev pub ofWords : ℕ → ℕ → Step
+ofWords head bits = fields (head % 256) (head / 256 % 256) (head / 65536 % 65536) (head / 4294967296) bits
+
 -- How many whole steps there are, and the one at place p: all zeros past the last.
 abbrev pub stepsIn : List ℕ → ℕ
 stepsIn bs = length bs / 16

@@ -83,6 +83,20 @@ pub(crate) fn eight_at(list: &[u8], at: usize) -> u64
     four_at(list, at) + 4294967296 * four_at(list, at + 4)
 }
 
+// The step at place p, where its first eight bytes are a number below 65,536: kind and selector, and no skip and no look-back.
+pub(crate) fn near_step(list: &[u8], p: usize, head: u64) -> Step
+    requires { ⌜ (p < stepsIn (now list)) × (head ≡ u64 (now list) (16 * p)) × (head < 65536) ⌝ }
+    ensures { λ r. ⌜ r ≡ stepAt (now (list .entry)) p ⌝ }
+{
+    Step {
+        kind: (head % 256) as u8,
+        selector: (head / 256) as u8,
+        skip: 0,
+        n: 0,
+        bits: eight_at(list, 16 * p + 8),
+    }
+}
+
 // The fields of the step whose bytes begin at `at`.
 pub(crate) fn read_step(list: &[u8], at: usize) -> Step
     requires { ⌜ at + 16 ≤ length (now list) ⌝ }

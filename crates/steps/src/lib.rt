@@ -6,6 +6,7 @@ mod leaves;
 mod looking;
 pub mod machine;
 mod phrases;
+mod quick;
 pub mod running;
 mod stack;
 pub mod step;

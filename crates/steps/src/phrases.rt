@@ -7,10 +7,12 @@ use crate::leaves::AtOnce;
 use rules::position::PositionState;
 use rules::values;
 use rules::values::Value;
+use table::kinds;
 ghost use mathlib.Core.Path.{_≡_};
 ghost use mathlib.Core.Bool.{true};
 ghost use mathlib.Core.List.{[]};
 ghost use Prim.Native.Nat.{_+_, _-_, _*_, _<_, _≤_};
+ghost use Rattle.table.specs.Bytes.{u64};
 ghost use Rattle.rows.specs.History.{historyOf};
 ghost use Rattle.rows.specs.Ring.{ringPlace, ringOf};
 ghost use Rattle.steps.specs.Bytes.{stepsIn};
@@ -134,6 +136,106 @@ fn test_at(
     }
 }
 
+// The leaf at place p, whose first eight bytes are a number below 65,536: one of the newest row.
+fn near_leaf(
+    list: &[u8],
+    p: usize,
+    head: u64,
+    rows: &[u64],
+    slots: usize,
+    held: usize,
+    first: usize,
+    newest: usize,
+) -> AtOnce
+    requires { ⌜ (p < stepsIn (now list)) × (head ≡ u64 (now list) (16 * p)) × (head < 65536) ⌝ }
+    requires { ⌜ (held ≡ historyOf slots (now rows) .rows) × (first ≤ held) ⌝ }
+    requires { ⌜ newest ≡ ringPlace held first (held - 1) * (7 + slots) ⌝ }
+    ensures { λ r. ⌜ (r .told ≡ true → Gives (ringOf slots first (now (rows .entry))) (now (list .entry)) p (r .value)) ⌝ }
+{
+    leaves::leaf_at_once(
+        decode::near_step(list, p, head),
+        rows,
+        slots,
+        held,
+        first,
+        newest,
+    )
+}
+
+// A price or a slot of the newest row against a constant, which is the test that most strategies have most of: three steps, told by their
+// first eight bytes.
+fn newest_against(
+    list: &[u8],
+    n: usize,
+    p: usize,
+    rows: &[u64],
+    slots: usize,
+    held: usize,
+    first: usize,
+    newest: usize,
+) -> Test
+    requires { ⌜ (n ≤ stepsIn (now list)) × (p < n) ⌝ }
+    requires { ⌜ (held ≡ historyOf slots (now rows) .rows) × (first ≤ held) ⌝ }
+    requires { ⌜ newest ≡ ringPlace held first (held - 1) * (7 + slots) ⌝ }
+    ensures { λ r. ⌜ (p + r .steps ≤ n) × Tests (ringOf slots first (now (rows .entry))) (now (list .entry)) n p (r .steps) (r .answer) ⌝ }
+{
+    if 3 <= n - p {
+        let head = decode::eight_at(list, 16 * p);
+        if head < 65536 {
+            let second = decode::eight_at(list, 16 * (p + 1));
+            if second == kinds::CONST as u64 {
+                let a = near_leaf(list, p, head, rows, slots, held, first, newest);
+                if a.told {
+                    let b = near_leaf(list, p + 1, second, rows, slots, held, first, newest);
+                    if b.told {
+                        let x = decode::step_at(list, p + 2);
+                        if decode::is_comparison(x.kind) {
+                            let one = a.value;
+                            let other = b.value;
+                            let answer = values::compared(x.kind, one, other);
+                            return Test { steps: 3, answer };
+                        }
+                    }
+                }
+            }
+        }
+    }
+    Test {
+        steps: 0,
+        answer: false,
+    }
+}
+
+// A run that has come to place p, past such a test where there is one.
+fn past_newest(
+    list: &[u8],
+    n: usize,
+    p: usize,
+    rows: &[u64],
+    slots: usize,
+    held: usize,
+    first: usize,
+    newest: usize,
+    answer: bool,
+    visits: usize,
+) -> Reached
+    requires { ⌜ (n ≤ stepsIn (now list)) × (p < n) × (visits ≤ 65536 * p) × (n ≤ 1024) ⌝ }
+    requires { ⌜ (held ≡ historyOf slots (now rows) .rows) × (first ≤ held) ⌝ }
+    requires { ⌜ newest ≡ ringPlace held first (held - 1) * (7 + slots) ⌝ }
+    ensures { λ r. ⌜ (p ≤ r .p) × ((s : PositionState) → Came (ringOf slots first (now (rows .entry))) s (now (list .entry)) n [] answer visits p
+        → Came (ringOf slots first (now (rows .entry))) s (now (list .entry)) n [] (r .answer) (r .visits) (r .p)) ⌝ }
+{
+    let t = newest_against(list, n, p, rows, slots, held, first, newest);
+    if 0 < t.steps {
+        return Reached {
+            p: p + t.steps,
+            answer: t.answer,
+            visits: visits + t.steps,
+        };
+    }
+    Reached { p, answer, visits }
+}
+
 // The run of the first n steps, as far as they are such tests, jumps and answers.
 pub(crate) fn run_tests(
     list: &[u8],
@@ -152,6 +254,13 @@ pub(crate) fn run_tests(
     let mut visits: usize = 0;
     let mut p: usize = 0;
     while p < n {
+        let on = past_newest(list, n, p, rows, slots, held, first, newest, answer, visits);
+        p = on.p;
+        answer = on.answer;
+        visits = on.visits;
+        if p == n {
+            return Reached { p, answer, visits };
+        }
         let x = decode::step_at(list, p);
         let kind = x.kind;
         if doing::is_among(kind, 32, 34) {

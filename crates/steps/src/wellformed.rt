@@ -1,15 +1,16 @@
 // Which lists of steps are well formed, for rows of so many slots and a window of so many rows.
 use crate::decode;
+use crate::quick;
 use crate::step::Op;
 use crate::step::Step;
 use table::series::Series;
 use words::limits::MOST_STEPS;
 ghost use mathlib.Core.Path.{_≡_};
-ghost use mathlib.Core.Bool.{true};
-ghost use Prim.Native.Nat.{ℕ, _+_, _/_, _%_, _<_, _≤_};
+ghost use Prim.Native.Nat.{_+_, _-_, _<_, _≤_};
 ghost use lib.ListN.{length};
-ghost use Rattle.steps.specs.Bytes.{fields, readStep};
-ghost use Rattle.steps.specs.WellFormed.{zeros, rowsFit, plain, seriesWithin, looksWithin, bounded, goodStep, formed};
+ghost use Rattle.steps.specs.Bytes.{readStep, stepsIn};
+ghost use Rattle.steps.specs.declared.wellformed.Formed.the-variants.{Bad};
+ghost use Rattle.steps.specs.WellFormed.{zeros, rowsFit, plain, seriesWithin, looksWithin, bounded, goodStep, formedFrom, formed};
 
 // Whether a list of steps is well formed, and if not, its lowest bad step (0 for a bad length).
 pub enum Formed {
@@ -122,39 +123,6 @@ fn good_step(slots: u64, depth: u64, after: u64, x: Step) -> bool
     false
 }
 
-// A quick yes to the steps that are most common, from two words: the constant, and the rest of the step as one number, its
-// head: kind + 256 selector + 65,536 skip + 2^32 n. A no says nothing. Every bar looks through its lists, so the order counts.
-fn quick_yes(head: u64, bits: u64, depth: u64, after: u64) -> bool
-    requires { ⌜ after < 65536 ⌝ }
-    ensures { λ r. ⌜ (r ≡ true → (slots : ℕ) → goodStep slots depth after
-        (fields (head % 256) (head / 256 % 256) (head / 65536 % 65536) (head / 4294967296) bits) ≡ true) ⌝ }
-{
-    if bits != 0 {
-        // A constant: kind 1, selector and skip zero.
-        if head % 4294967296 == 1 {
-            return head / 4294967296 < depth;
-        }
-        return false;
-    }
-    // A comparison, a cross or Between: every other field is zero.
-    if decode::is_test(head) {
-        return true;
-    }
-    // A price: kind 3, any selector, skip zero.
-    if head % 256 == 3 {
-        if head / 65536 % 65536 == 0 {
-            return head / 4294967296 < depth;
-        }
-    }
-    // A jump: kind 32 or 33, selector zero. The rest is skip + 65,536 n: at most `after`, so n is zero.
-    if 32 <= head % 65536 {
-        if head % 65536 < 34 {
-            return head / 65536 <= after;
-        }
-    }
-    false
-}
-
 // Whether the step whose bytes begin at `at` is good.
 fn good_at(list: &[u8], at: usize, slots: u64, depth: u64, after: u64) -> bool
     requires { ⌜ (at + 16 ≤ length (now list)) × (after < 65536) ⌝ }
@@ -162,10 +130,34 @@ fn good_at(list: &[u8], at: usize, slots: u64, depth: u64, after: u64) -> bool
 {
     let head = decode::eight_at(list, at);
     let bits = decode::eight_at(list, at + 8);
-    if quick_yes(head, bits, depth, after) {
+    if quick::leaf_yes(head, bits, slots, depth) {
+        return true;
+    }
+    if quick::test_yes(head, bits) {
+        return true;
+    }
+    if quick::jump_yes(head, bits, after) {
         return true;
     }
     good_step(slots, depth, after, decode::read_step(list, at))
+}
+
+// How many of the n steps are good from place p on: four at once, one, or none.
+fn good_from(list: &[u8], n: usize, p: usize, slots: u64, depth: u64) -> usize
+    requires { ⌜ (n ≡ stepsIn (now list)) × (n ≤ 1024) × (p < n) ⌝ }
+    ensures { λ r. ⌜ (p + r ≤ n) × (r ≡ 0 → formedFrom slots depth (now (list .entry)) p (n - p) ≡ Bad p)
+        × (formedFrom slots depth (now (list .entry)) p (n - p) ≡ formedFrom slots depth (now (list .entry)) (p + r) (n - (p + r))) ⌝ }
+{
+    let left = n - p;
+    if 4 <= left {
+        if quick::phrase_yes(list, 16 * p, slots, depth, (left - 4) as u64) {
+            return 4;
+        }
+    }
+    if good_at(list, 16 * p, slots, depth, (left - 1) as u64) {
+        return 1;
+    }
+    0
 }
 
 // Whether a list is well formed for rows of `slots` slots and a window of `depth` rows.
@@ -181,12 +173,11 @@ pub fn check(list: &[u8], slots: u64, depth: u64) -> Formed
     }
     let mut p = 0;
     while p < n {
-        let after = n - p - 1;
-        if good_at(list, 16 * p, slots, depth, after as u64) {
-            p += 1;
-        } else {
+        let good = good_from(list, n, p, slots, depth);
+        if good == 0 {
             return Formed::Bad(p);
         }
+        p += good;
     }
     Formed::Well
 }
