@@ -6,8 +6,8 @@ use Rattle.records.specs.{Laws.RoundTrip.Floats64}
 use Rattle.refusals.specs.{declared.verdict.Verdict.Verdict, declared.verdict.Verdict.the-variants.Fine, Lines.judged, Settings.settingLines, Laws.Lines.never}
 use Rattle.engine.specs.{Books.heldPoints, Books.heldTrades, Boxes.NotFull, Boxes.Sound, Laws.Runs.run-none, Laws.Runs.fine-took-all, Run.Run, Run.runOver}
 use Rattle.runs.specs.{RunOn.joinedRun, RunOn.run-on, RunOn.run-over, Laws.TwoRuns.fresh-sound, Laws.TwoRuns.run-sound, OtherBooks.SameFromHere}
-use Rattle.runs.specs.{OtherBooks.books-do-not-matter, Restart.Restarted, Restart.restarted-alike, Restart.restarted-sound, Restart.no-points, Restart.no-trades}
-use Rattle.runs.specs.{WholeHistory.fresh-follows}
+use Rattle.runs.specs.{OtherBooks.books-do-not-matter, Restart.Restarted, Restart.restarted-alike, Restart.restarted-sound, Restart.no-points}
+use Rattle.runs.specs.{Restart.no-trades, WholeHistory.fresh-follows}
 use Rattle.restart.specs.{Laws.Reached64.Bars64, Laws.Reached64.reached-kept, Laws.Times.Word64, Lives.Life, Lives.restoredState, Lives.restoredRooms}
 use Rattle.restart.specs.{Lives.lastState, Lives.lastRooms, Lives.allBars, Lives.allPoints, Lives.allTrades, Lives.LifeOf, Lives.LivesOf, Lives.Survived}
 use Rattle.restart.specs.{Lives.SinceLosses, Restart.Kept, Restart.image-restarts, SameImage.same-image, SameImage.kept-alike}
@@ -102,7 +102,8 @@ module _ (s : Settings) (ls : Lists) (m : Rooms) (deep : s .depth ≤ rowPlaces 
 
   all-lives : (lives : List Life) (before : List (List ℕ)) (t′ : State) (m′ : Rooms) (ps xs : List ℕ) → Survived s (run before) t′ m′ ps xs
       → Bars64 (before ++ allBars lives) → NotFull (run (before ++ allBars lives) .verdict) → LivesOf s ls t′ m′ lives
-      → Survived s (run (before ++ allBars lives)) (lastState t′ lives) (lastRooms m′ lives) (ps ++ allPoints s ls t′ m′ lives) (xs ++ allTrades s ls t′ m′ lives)
+      → Survived s (run (before ++ allBars lives)) (lastState t′ lives) (lastRooms m′ lives)
+      (ps ++ allPoints s ls t′ m′ lives) (xs ++ allTrades s ls t′ m′ lives)
   unfolding allBars lastState lastRooms allPoints allTrades LivesOf
   all-lives [] before t′ m′ ps xs was words free lived = rw (append-nil before, append-nil ps, append-nil xs) was
   all-lives (l ∷ lives) before t′ m′ ps xs was words free lived =

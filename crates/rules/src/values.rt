@@ -80,8 +80,8 @@ fn divided(x: f64, y: f64) -> f64
 }
 
 // An operation on two values.
-pub fn both(kind: u8, a: Value, b: Value) -> Value
-    ensures { λ r. ⌜ r ≡ Values.both kind a b ⌝ }
+pub fn combined(kind: u8, a: Value, b: Value) -> Value
+    ensures { λ r. ⌜ r ≡ Values.combined kind a b ⌝ }
 {
     match a {
         Value::Missing => Value::Missing,

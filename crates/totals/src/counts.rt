@@ -126,7 +126,7 @@ pub(crate) fn count_trades(counts: &mut [u64], trades: &[u64], n: usize) -> usiz
 }
 
 // The counts of two together.
-pub(crate) fn both(counts: &[u64], others: &[u64]) -> [u64; 8]
+pub(crate) fn both_counts(counts: &[u64], others: &[u64]) -> [u64; 8]
     requires { ⌜ (length (now counts) ≡ countSize) × (length (now others) ≡ countSize)
         × AllAtMost mostCount (now counts) × AllAtMost mostCount (now others) ⌝ }
     ensures { λ r. ⌜ r ≡ bothCounts (now (counts .entry)) (now (others .entry)) ⌝ }

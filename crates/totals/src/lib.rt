@@ -138,7 +138,7 @@ pub fn join(totals: &mut [u64], other: &[u64]) -> Answer
     if MOST_COUNT < counts::traded(&counts) + counts::traded(&more) {
         return refused(22, 0);
     }
-    let both = counts::both(&counts, &more);
+    let both = counts::both_counts(&counts, &more);
     let mut sum = sum::sum_of(totals);
     sum::add_sum(&mut sum, other);
     let float = nearest::nearest_to(&sum);

@@ -1,15 +1,16 @@
 -- After any bars from a fresh state, the numbers of a state and the words of its window are such as the code's types hold, where those of the settings
 -- and of the bars are.
-use Rattle.words.specs.Prelude.{ℕ, zero, suc, _-_, _*_, _/_, _%_, _^_, _≤_, _<_, _≡_, refl, ap, _∙_, Bool, true, false, cond, List, [], _∷_, _++_, zero-mul, arith}
-use Rattle.words.specs.Prelude.{leb-true, ltb-true, leb, ltb, eqb, length, getD, List·getD-eq-default, getD-drop}
+use Rattle.words.specs.Prelude.{ℕ, zero, suc, _-_, _*_, _/_, _%_, _^_, _≤_, _<_, _≡_, refl, ap, _∙_, Bool, true, false, cond, List, [], _∷_, _++_, zero-mul}
+use Rattle.words.specs.Prelude.{arith, leb-true, ltb-true, leb, ltb, eqb, length, getD, List·getD-eq-default, getD-drop}
 use Rattle.words.specs.{Limits.rowWords, Limits.mostRows}
 use Rattle.rows.specs.{History.lastRows}
 use Rattle.rules.specs.{declared.position.Entered.Entered, declared.position.Entered.the-variants.Never, declared.position.Entered.the-variants.Bar}
 use Rattle.portfolio.specs.{Portfolio.fresh}
-use Rattle.records.specs.{declared.settings.Settings.Settings, declared.state.State.State, Bar.candleOf, Lent.Lists, Lent.Rooms, Lent.rowPlaces, State.freshState}
-use Rattle.records.specs.{StateWords.orderDelay, StateWords.entryBar, Laws.RoundTrip.Floats64}
-use Rattle.refusals.specs.{declared.verdict.Verdict.Verdict, declared.verdict.Verdict.the-variants.Fine, declared.verdict.Verdict.the-variants.Bad, Lines.judged}
-use Rattle.refusals.specs.{Rooms.entryBelow, Settings.settingLines, Laws.Fine.settings-fine, Laws.Fine.step-fine, Laws.Lines.and-true, Laws.Lines.first-holds}
+use Rattle.records.specs.{declared.settings.Settings.Settings, declared.state.State.State, Bar.candleOf, Lent.Lists, Lent.Rooms, Lent.rowPlaces}
+use Rattle.records.specs.{State.freshState, StateWords.orderDelay, StateWords.entryBar, Laws.RoundTrip.Floats64}
+use Rattle.refusals.specs.{declared.verdict.Verdict.Verdict, declared.verdict.Verdict.the-variants.Fine, declared.verdict.Verdict.the-variants.Bad}
+use Rattle.refusals.specs.{Lines.judged, Rooms.entryBelow, Settings.settingLines, Laws.Fine.settings-fine, Laws.Fine.step-fine, Laws.Lines.and-true}
+use Rattle.refusals.specs.{Laws.Lines.first-holds}
 use Rattle.runs.specs.{Laws.Floats.step-floats}
 use Rattle.engine.specs.{Laws.Runs.run-none, Laws.Runs.run-stops, Laws.Runs.run-takes, Record.rowWord, Record.listed, Record.rowOf, Run.Run, Run.runOver}
 use Rattle.engine.specs.{Step.stepped, Step.stepVerdict}

@@ -1,6 +1,7 @@
 -- Room, settings and state are blocks, each judged by itself; the list of bars comes last.
 use Rattle.words.specs.Prelude.{sym, _∙_, needs}
-use Rattle.refusals.specs.{Day.dayLines, Laws.Descent.no-line, Laws.Descent.fine-line, Laws.Descent.bad-line, Laws.Descent.fine-block, Laws.Descent.bad-block}
+use Rattle.refusals.specs.{Day.dayLines, Laws.Descent.no-line, Laws.Descent.fine-line, Laws.Descent.bad-line, Laws.Descent.fine-block}
+use Rattle.refusals.specs.{Laws.Descent.bad-block}
 use Rattle.refusals.proofs.{day.judge_day.Statement.statement}
 use Rattle.refusals.proofs.day.judge_day.Tie as tie
 
