@@ -73,13 +73,8 @@ module _ (h : History) (bar : ℕ) where
       rw (first-two xs ys) (sym (first-found-assoc (goneIf (l .node) (l .back) (seen h bar l)) (firstGone xs) (firstGone ys)))
 
   leaf-first : (a : Operand) (i back : ℕ) → leafGone h a i bar back ≡ firstGone (look a i back ∷ [])
-  unfolding leafGone firstGone seen goneIf
-  leaf-first a i back = go (ltb bar back)
-    where
-      go : (b : Bool) → cond b (Leaf i back) (goneIf i back (value h a (bar - back)))
-          ≡ firstFound (goneIf i back (cond b Missing (value h a (bar - back)))) Nowhere
-      go true = sym (or-nowhere (Leaf i back))
-      go false = sym (or-nowhere (goneIf i back (value h a (bar - back))))
+  unfolding leafGone firstGone seen
+  leaf-first a i back = sym (or-nowhere (goneIf i back (seen h bar (look a i back))))
 
   back-in-order : (a : Operand) (i back m : ℕ) → newestGone h a i bar back m ≡ firstGone (looksBack a i back m)
   unfolding newestGone looksBack

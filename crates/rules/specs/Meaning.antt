@@ -18,6 +18,10 @@ newest h = h .rows - 1
 unfoldable pub there : History → ℕ → Value → Value
 there h i v = cond (ltb i (h .rows)) v Missing
 
+-- what is so many bars before bar i, or missing where there are not so many: "missing if i < n, else .. at i − n"
+abbrev pub barsBack : (ℕ → Value) → ℕ → ℕ → Value
+barsBack what n i = cond (ltb i n) Missing (what (i - n))
+
 -- "one child that must be a Price or a Ref" (request 8): that child at bar i
 unfoldable pub seriesAt : History → Series → ℕ → Value
 seriesAt h (Price selector) i = there h i (Number (priceOf (h .word i) selector))
@@ -30,14 +34,14 @@ extremeOver h kind s oldest (suc m) = pick kind (extremeOver h kind s oldest m) 
 
 -- "The answer is over the bar and the n − 1 before it, and missing if any is missing": missing too where there are not so many before it
 unfoldable pub extremeAt : History → ℕ → Series → ℕ → ℕ → Value
-extremeAt h kind s n i = cond (ltb i (n - 1)) Missing (extremeOver h kind s (i - (n - 1)) (n - 1))
+extremeAt h kind s n i = barsBack (λ oldest. extremeOver h kind s oldest (n - 1)) (n - 1) i
 
 -- `eval_operand`. "Prev is missing if i < n, else its operand at i − n."
 unfoldable pub value : History → Operand → ℕ → Value
 value h (const bits) i = there h i (Number (floatOf bits))
 value h (ref slot) i = there h i (slotOf (h .word i) slot)
 value h (price selector) i = there h i (Number (priceOf (h .word i) selector))
-value h (prev a n) i = there h i (cond (ltb i n) Missing (value h a (i - n)))
+value h (prev a n) i = there h i (barsBack (value h a) n i)
 value h (arith kind a b) i = combined kind (value h a i) (value h b i)
 value h (extreme kind s n) i = extremeAt h kind s n i
 

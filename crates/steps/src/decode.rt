@@ -15,10 +15,16 @@ pub const JUMP_AT_NO: u8 = 32;
 
 pub const JUMP_AT_YES: u8 = 33;
 
+// No step has this number or a larger one.
+pub(crate) const PAST_JUMPS: u8 = 34;
+
 // Highest and Lowest over a price have the kind's number; over a slot they have numbers of their own.
 pub const HIGHEST_SLOT: u8 = 11;
 
 pub const LOWEST_SLOT: u8 = 12;
+
+// The number just past those of Highest and Lowest.
+pub(crate) const PAST_LOOKS: u8 = 13;
 
 // The steps of operands come first, then those that test values.
 const FIRST_TEST: u8 = kinds::GT;
@@ -195,7 +201,7 @@ fn answer_op(x: Step) -> Op
     if x.kind == kinds::BARS_SINCE_ENTRY {
         return Op::BarsSinceEntry(x.selector, x.n);
     }
-    if x.kind < 34 {
+    if x.kind < PAST_JUMPS {
         return Op::JumpIf(x.kind == JUMP_AT_YES, x.skip);
     }
     Op::Unknown

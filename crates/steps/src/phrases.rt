@@ -7,6 +7,7 @@ use crate::leaves::AtOnce;
 use rules::position::PositionState;
 use rules::values;
 use rules::values::Value;
+use table::kinds;
 ghost use mathlib.Core.Path.{_≡_};
 ghost use mathlib.Core.Bool.{true};
 ghost use mathlib.Core.List.{[]};
@@ -74,7 +75,7 @@ fn cross_at(
     }
     let x = decode::step_at(list, p + 4);
     let kind = x.kind;
-    if doing::is_among(kind, 22, 24) {
+    if doing::is_among(kind, kinds::CROSS_ABOVE, kinds::BETWEEN) {
         let c = leaf_at(list, p + 2, rows, slots, held, first, newest);
         if c.told {
             let d = leaf_at(list, p + 3, rows, slots, held, first, newest);
@@ -154,9 +155,9 @@ pub(crate) fn run_tests(
     while p < n {
         let x = decode::step_at(list, p);
         let kind = x.kind;
-        if doing::is_among(kind, 32, 34) {
+        if doing::is_among(kind, decode::JUMP_AT_NO, decode::PAST_JUMPS) {
             visits += 1;
-            if answer == (kind == 33) {
+            if answer == (kind == decode::JUMP_AT_YES) {
                 p = doing::landing(p, x.skip, n);
             } else {
                 p += 1;
@@ -167,7 +168,7 @@ pub(crate) fn run_tests(
                 visits += t.steps;
                 answer = t.answer;
                 p += t.steps;
-            } else if doing::is_among(kind, 27, 32) {
+            } else if doing::is_among(kind, kinds::ALL, decode::JUMP_AT_NO) {
                 visits += 1;
                 answer = doing::said(x, s, answer);
                 p += 1;

@@ -2,6 +2,7 @@
 use crate::decode;
 use crate::step::Op;
 use crate::step::Step;
+use table::kinds;
 use table::series::Series;
 use words::limits::MOST_STEPS;
 ghost use mathlib.Core.Path.{_≡_};
@@ -122,6 +123,15 @@ fn good_step(slots: u64, depth: u64, after: u64, x: Step) -> bool
     false
 }
 
+// The kinds of a step's head that are asked for first.
+const CONST: u64 = kinds::CONST as u64;
+
+const PRICE: u64 = kinds::PRICE as u64;
+
+const JUMP_AT_NO: u64 = decode::JUMP_AT_NO as u64;
+
+const PAST_JUMPS: u64 = decode::PAST_JUMPS as u64;
+
 // A quick yes to the steps that are most common, from two words: the constant, and the rest of the step as one number, its
 // head: kind + 256 selector + 65,536 skip + 2^32 n. A no says nothing. Every bar looks through its lists, so the order counts.
 fn quick_yes(head: u64, bits: u64, depth: u64, after: u64) -> bool
@@ -130,8 +140,8 @@ fn quick_yes(head: u64, bits: u64, depth: u64, after: u64) -> bool
         (fields (head % 256) (head / 256 % 256) (head / 65536 % 65536) (head / 4294967296) bits) ≡ true) ⌝ }
 {
     if bits != 0 {
-        // A constant: kind 1, selector and skip zero.
-        if head % 4294967296 == 1 {
+        // A constant: selector and skip zero.
+        if head % 4294967296 == CONST {
             return head / 4294967296 < depth;
         }
         return false;
@@ -140,15 +150,15 @@ fn quick_yes(head: u64, bits: u64, depth: u64, after: u64) -> bool
     if decode::is_test(head) {
         return true;
     }
-    // A price: kind 3, any selector, skip zero.
-    if head % 256 == 3 {
+    // A price: any selector, skip zero.
+    if head % 256 == PRICE {
         if head / 65536 % 65536 == 0 {
             return head / 4294967296 < depth;
         }
     }
-    // A jump: kind 32 or 33, selector zero. The rest is skip + 65,536 n: at most `after`, so n is zero.
-    if 32 <= head % 65536 {
-        if head % 65536 < 34 {
+    // A jump: selector zero. The rest is skip + 65,536 n: at most `after`, so n is zero.
+    if JUMP_AT_NO <= head % 65536 {
+        if head % 65536 < PAST_JUMPS {
             return head / 65536 <= after;
         }
     }

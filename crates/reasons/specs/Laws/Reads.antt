@@ -58,7 +58,7 @@ module _ (h : History) (bar : ℕ) where
 
   leaf-far : (a : Operand) (i back : ℕ) → bar < back → Reads (leafGone h a i bar back) Missing
   unfolding leafGone
-  leaf-far a i back l = rw (lt-ltb bar back l) (gone i back)
+  leaf-far a i back l = rw (lt-ltb bar back l) (reads-gone i back Missing)
 
   -- a leaf over bars some of which are before the first
   newest-far : (a : Operand) (i back m : ℕ) → bar < back + m → Reads (newestGone h a i bar back m) Missing
