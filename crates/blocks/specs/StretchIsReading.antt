@@ -6,7 +6,8 @@ use Rattle.words.specs.{Limits.mostCount}
 use Rattle.blocks.specs.{declared.append.Added.the-variants.Held, declared.stretch.Found.Found, declared.best.Best.Best, Reading.one, Reading.join}
 use Rattle.blocks.specs.{Reading.reading, Reading.HighAndLow, Reading.Number, Append.Append, Append.appended, Append.kept, Reads.reads, Reads.told}
 use Rattle.blocks.specs.{Stretch.stretched, Laws.Append.Appendable, Laws.Append.appended-has, Laws.Append.is-taken, Laws.Append.finite-number}
-use Rattle.blocks.specs.{Laws.Stretch.answers, Laws.Earliest.reading-is, Laws.Kept.Kept, Laws.Kept.appended-kept, Laws.Kept.empty-kept, Laws.Kept.told-is}
+use Rattle.blocks.specs.{Laws.Stretch.answers, Laws.Earliest.reading-is, Laws.Kept.BlocksKept, Laws.Kept.appended-kept, Laws.Kept.empty-kept}
+use Rattle.blocks.specs.{Laws.Kept.told-is}
 use Rattle.blocks.specs.declared.stretch.Found.the-variants as Found
 
 -- "rooms filled from empty by appending alone": the closes that were appended, in order, the bars held and both rooms. Empty is no bar held, whatever the
@@ -35,7 +36,7 @@ record Held-up (given : List ℕ) (held : ℕ) (closes blocks : List ℕ) : Type
   room : held ≤ length closes
   place : 4 * ((held + 64 - 1) / 64) ≤ length blocks
   words : (i : ℕ) → i < held → getD closes i 0 ≡ getD given i 0
-  rooms : Kept held closes blocks
+  rooms : BlocksKept held closes blocks
 
 -- each append keeps it up
 one-more : (given closes blocks : List ℕ) (held close : ℕ) → Held-up given held closes blocks → Appendable held close closes blocks

@@ -25,12 +25,6 @@ pub record SameLengths (m n : Rooms) : Type 0 where
   pub equity : length (n .equity) ≡ length (m .equity)
   pub trades : length (n .trades) ≡ length (m .trades)
 
--- a box whose row room has places for D rows, and that holds no more rows than places and bars seen
-pub record Roomy (s : Settings) (t : State) (m : Rooms) : Type 0 where
-  pub depth : s .depth ≤ rowPlaces (s .slots) (m .rows)
-  pub rows : t .counts .«rows_held» ≤ rowPlaces (s .slots) (m .rows)
-  pub rowsSeen : t .counts .«rows_held» ≤ t .counts .«bars_seen»
-
 -- what a run from a fresh state has at each bar, where its row room has places for D rows
 pub record Sound (s : Settings) (t : State) (m : Rooms) : Type 0 where
   pub depth : s .depth ≤ rowPlaces (s .slots) (m .rows)

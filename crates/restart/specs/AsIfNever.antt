@@ -13,8 +13,8 @@ use Rattle.runs.specs.{AsMeant.as-meant, NeverFull.PlacesFor, NeverFull.never-f
 use Rattle.images.specs.{Layout.dumpBytes, Layout.imageOf, Refused.restoreJudged}
 use Rattle.dump.specs.{Refused.dumpJudged}
 use Rattle.restart.specs.{Accepted.reached-accepted, Cut.size-of-image, Dumps.dump-passes, Dumps.reached-entry, Laws.Reached64.Bars64}
-use Rattle.restart.specs.{Laws.Reached64.reached-kept, Laws.Times.Word64, Lives.Life, Lives.lastState, Lives.lastRooms, Lives.allBars, Lives.allPoints}
-use Rattle.restart.specs.{Lives.allTrades, Lives.LivesOf, Lives.SinceLosses, Losses.front-words, Losses.losses-run}
+use Rattle.restart.specs.{Laws.Reached64.reached-storable, Laws.Times.Word64, Lives.Life, Lives.lastState, Lives.lastRooms, Lives.allBars}
+use Rattle.restart.specs.{Lives.allPoints, Lives.allTrades, Lives.LivesOf, Lives.SinceLosses, Losses.front-words, Losses.losses-run}
 use lib.Seq.{take-append-add}
 
 -- ---- definitions
@@ -89,7 +89,7 @@ module _ (s : Settings) (ls : Lists) (m : Rooms) (deep : s .depth ≤ rowPlaces 
             (subst (λ (a : Account). a .seen ≤ mostCount) (since .account) (entry .1)) twelve place;
         accepted = λ rows place.
             subst (λ (y : List ℕ). restoreJudged s y rows ≡ Fine) (since .image)
-            (reached-accepted s ls big all deep (reached-kept s ls big all deep twelve floats delay words) twelve rows place);
+            (reached-accepted s ls big all deep (reached-storable s ls big all deep twelve floats delay words) twelve rows place);
         size = size-of-image s (e .state) (e .rooms .rows) (since .sound .within .rows);
         sound = since .sound;
       }

@@ -36,6 +36,11 @@ pub record Plain (x : List ℕ) : Type 0 where
   pub funding : Own (u64 x 120)
   pub worst : Own (u64 x 128)
 
+-- THE STATEMENT: dumping the state and the rows that a restore of an accepted image leaves gives the same bytes again.
+abbrev pub WayBackTheorem : Type 0
+WayBackTheorem =
+    (s : Settings) (x rows : List ℕ) → Bytes x → Plain x → restoreJudged s x rows ≡ Fine → imageOf s (stateIn x) (overwrite rows 0 (windowIn x)) ≡ x
+
 -- ---- what the lines of 19 have seen
 
 record Seen (x : List ℕ) : Type 0 where
@@ -264,9 +269,12 @@ module _ (s : Settings) (x rows : List ℕ) (bytes : Bytes x) (plain : Plain x) 
       let fits : rowsIn x * w ≤ length rows = records-fit (length rows) w (omega arith) (rowsIn x) (omega (arith, known .room)) in
       window-held (s .slots) (s .depth) (rowsIn x) rows (windowIn x) long few (omega arith)
 
-  -- AN ACCEPTED IMAGE IS ITS STATE'S: dumping the state and the rows that a restore leaves gives the same bytes again.
-  pub image-back : imageOf s (stateIn x) (overwrite rows 0 (windowIn x)) ≡ x
+  again : imageOf s (stateIn x) (overwrite rows 0 (windowIn x)) ≡ x
   unfolding imageOf
-  image-back =
+  again =
       let known = restore-fine s x rows fine in
       rw (window-again, ← (known .slots), ← (known .depth)) (image-again x bytes seen plain)
+
+-- AN ACCEPTED IMAGE IS ITS STATE'S.
+pub image-back : WayBackTheorem
+image-back s x rows bytes plain fine = again s x rows bytes plain fine

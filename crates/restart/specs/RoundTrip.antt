@@ -9,13 +9,13 @@ use Rattle.execution.specs.{declared.level.OrderKind.OrderKind, declared.level.
 use Rattle.execution.specs.{declared.level.OrderKind.the-variants.Stop, declared.level.OrderKind.the-variants.StopLimit}
 use Rattle.records.specs.{declared.state.Order.Order, declared.state.Order.the-variants.Idle, declared.state.Order.the-variants.EnterLong}
 use Rattle.records.specs.{declared.state.Order.the-variants.EnterShort, declared.state.Order.the-variants.Exit, declared.settings.Settings.Settings}
-use Rattle.records.specs.{declared.state.State.State, StateWords.orderKind, StateWords.orderDelay, StateWords.waitsFor, StateWords.kindWord}
-use Rattle.records.specs.{StateWords.levelWord, StateWords.limitWord, StateWords.enteredKind, StateWords.entryBar, StateWords.wordsOf, StateWords.stateOf}
+use Rattle.records.specs.{declared.state.State.State, StateWords.orderKind, StateWords.waitsFor, StateWords.kindWord}
+use Rattle.records.specs.{StateWords.levelWord, StateWords.limitWord, StateWords.enteredKind, StateWords.wordsOf, StateWords.stateOf}
 use Rattle.records.specs.{Laws.RoundTrip.KindFits, Laws.RoundTrip.Floats64, Laws.RoundTrip.state-back}
 use Rattle.steps.specs.{Laws.Encoding.four-back}
 use Rattle.images.specs.{Layout.wordsBytes, Layout.numbers, Layout.amounts, Layout.head, Layout.image, Layout.windowOf, Layout.imageOf, Reading.wordsIn}
 use Rattle.images.specs.{Reading.stateIn}
-use Rattle.restart.specs.{Laws.SameFloats.floats-alike}
+use Rattle.restart.specs.{Boxes.FitsImage, Laws.SameFloats.floats-alike}
 
 -- ---- numbers
 
@@ -32,15 +32,7 @@ eight-back n l =
     let high : b4 (n / 4294967296) ≡ n / 4294967296 = four-back (n / 4294967296) (omega arith) in
     ap (λ (m : ℕ). m + 4294967296 * b4 (n / 4294967296)) low ∙ ap (λ (m : ℕ). n % 4294967296 + 4294967296 * m) high ∙ mod-add-div n 4294967296
 
--- ---- a state whose numbers have a place in an image: those of every state that the code holds, once 13 has let it pass
-
-pub record FitsImage (t : State) : Type 0 where
-  pub seen : t .counts .«bars_seen» < 4294967296
-  pub entry : entryBar (t .position .entered) < 4294967296
-  pub delay : orderDelay (t .order) < 18446744073709551616
-  pub entryTime : t .position .portfolio .«entry_time» < 18446744073709551616
-  pub lastTime : t .last .time < 18446744073709551616
-  pub floats : Floats64 t
+-- ---- a state whose numbers have a place in an image
 
 float-small : (v : Float) → T (fits binary64 v) → wordOf v < 18446744073709551616
 float-small v h = toBits-lt binary64 v h

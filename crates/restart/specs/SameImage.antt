@@ -4,7 +4,7 @@ use Rattle.records.specs.{declared.settings.Settings.Settings, declared.state.S
 use Rattle.engine.specs.{Boxes.Alike, Whole.Account, Whole.accountOf, Whole.stateOfAccount}
 use Rattle.runs.specs.{Laws.AccountStep.same-parts}
 use Rattle.images.specs.{Layout.numbers, Layout.amounts, Layout.head, Layout.image, Layout.windowOf, Layout.imageOf}
-use Rattle.restart.specs.{Laws.SameFloats.floats-alike, RoundTrip.FitsImage, Restart.Kept}
+use Rattle.restart.specs.{Laws.SameFloats.floats-alike, Boxes.FitsImage, Boxes.Storable}
 
 -- ---- the image
 
@@ -41,7 +41,7 @@ small-alike t t′ same h =
       floats = floats-alike t t′ (p .position) (p .last) (p .order) (h .floats);
     }
 
-pub kept-alike : (s : Settings) (t : State) (m : Rooms) (t′ : State) (m′ : Rooms) → Alike s t m t′ m′ → Kept s t m → Kept s t′ m′
+pub kept-alike : (s : Settings) (t : State) (m : Rooms) (t′ : State) (m′ : Rooms) → Alike s t m t′ m′ → Storable s t m → Storable s t′ m′
 kept-alike s t m t′ m′ alike kept = record {
   slots = kept .slots;
   depth = kept .depth;

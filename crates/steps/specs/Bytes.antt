@@ -34,6 +34,10 @@ jumpAtNo = 32
 abbrev pub jumpAtYes : ℕ
 jumpAtYes = 33
 
+-- No step has this number or a larger one.
+abbrev pub pastJumps : ℕ
+pastJumps = 34
+
 -- "Kinds of steps 9, 10 over a price and 11, 12 over a slot" (decided): Highest and Lowest over a price have the kind's number.
 abbrev pub highestSlot : ℕ
 highestSlot = 11
@@ -88,7 +92,7 @@ answerOp x =
     (cond (eqb (x .kind) Named.not) Turn
     (cond (eqb (x .kind) Named.inPosition) (InPosition (eqb (x .selector) 1))
     (cond (eqb (x .kind) Named.barsSinceEntry) (BarsSinceEntry (x .selector) (x .n))
-    (cond (ltb (x .kind) 34) (JumpIf (eqb (x .kind) jumpAtYes) (x .skip)) Unknown))))
+    (cond (ltb (x .kind) pastJumps) (JumpIf (eqb (x .kind) jumpAtYes) (x .skip)) Unknown))))
 
 unfoldable pub opOf : Step → Op
 opOf x = cond (ltb (x .kind) firstTest) (operandOp x) (cond (ltb (x .kind) Named.all) (testOp x) (answerOp x))

@@ -21,6 +21,7 @@ ghost use lib.Dec.{ltb};
 ghost use lib.ListN.{length};
 ghost use Rattle.rows.specs.History.{historyOf};
 ghost use Rattle.rows.specs.Ring.{ringOf};
+ghost use Rattle.table.specs.Named as Named;
 ghost use Rattle.steps.specs.Bytes.{opOf, opsFrom, opsOf, stepsIn, stepsRun};
 ghost use Rattle.steps.specs.Machine.{viewing, effect, ranOver};
 ghost use Rattle.steps.specs.Places.{testedAt, Tries, Fresh, Came};
@@ -78,7 +79,7 @@ fn look(x: Step, rows: &[u64], slots: usize, held: usize, first: usize) -> Value
 
 // How many values a cross or Between takes.
 fn taken(kind: u8) -> usize
-    ensures { λ r. ⌜ r ≡ cond (ltb kind 24) 4 3 ⌝ }
+    ensures { λ r. ⌜ r ≡ cond (ltb kind Named.between) 4 3 ⌝ }
 {
     if kind < kinds::BETWEEN { 4 } else { 3 }
 }
