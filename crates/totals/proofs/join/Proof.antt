@@ -98,7 +98,7 @@ returns-5 c =
     (less-as refl (traded-both a) (c .before .if5 .taken)) in
     (c .refused5 .ensures ∙ sym told, join-keeps _ _ _ told)
 
-both-counts-requires : tie.Need-both-requires
+both-counts-requires : tie.Need-both-counts-requires
 both-counts-requires c κs =
     let d = c .before .before .before .before .before .before .before in
     let e = d .before .before .before .before in
