@@ -18,8 +18,8 @@ use Rattle.images.specs.{Reading.versionIn, Reading.depthIn, Reading.wordsIn, R
 use Rattle.images.specs.{Refused.eachFine, Refused.rowsFine, Refused.imageLines, Refused.sameLines, Refused.restoreLines, Refused.restoreJudged}
 use Rattle.dump.specs.{Laws.Image.image-head, Laws.Image.image-body, Laws.Packed.headWords, Laws.WordBytes.words-long}
 use Rattle.restart.specs.{RoundTrip.restoredOf, RoundTrip.words-back, Cut.size-of-image, Window.WholeWindow, Window.window-whole, Window.word-at}
-use Rattle.restart.specs.{Boxes.Storable, Boxes.Dumpable, Boxes.Passed, Laws.RowsPass.every-of, Laws.RowsPass.row-passes, Laws.RowsPass.rowAt}
-use Rattle.restart.specs.{Laws.RowsPass.RowsPass, Laws.RowsPass.listed-same, Laws.RowsPass.last-pass, Laws.RowsPass.added-pass, Laws.Says.Says}
+use Rattle.restart.specs.{Boxes.Storable, Boxes.Dumpable, Boxes.Passed, Boxes.rowAt, Boxes.RowsPass, Laws.RowsPass.every-of, Laws.RowsPass.row-passes}
+use Rattle.restart.specs.{Laws.RowsPass.listed-same, Laws.RowsPass.last-pass, Laws.RowsPass.added-pass, Laws.Says.Says}
 use Rattle.restart.specs.{Laws.Says.unused-fine, Laws.Says.numbers-fine, Laws.Says.shape-holds}
 
 -- ---- the statements
