@@ -269,12 +269,12 @@ module _ (s : Settings) (x rows : List ℕ) (bytes : Bytes x) (plain : Plain x) 
       let fits : rowsIn x * w ≤ length rows = records-fit (length rows) w (omega arith) (rowsIn x) (omega (arith, known .room)) in
       window-held (s .slots) (s .depth) (rowsIn x) rows (windowIn x) long few (omega arith)
 
-  again : imageOf s (stateIn x) (overwrite rows 0 (windowIn x)) ≡ x
+  same-bytes : imageOf s (stateIn x) (overwrite rows 0 (windowIn x)) ≡ x
   unfolding imageOf
-  again =
+  same-bytes =
       let known = restore-fine s x rows fine in
       rw (window-again, ← (known .slots), ← (known .depth)) (image-again x bytes seen plain)
 
 -- AN ACCEPTED IMAGE IS ITS STATE'S.
 pub image-back : WayBackTheorem
-image-back s x rows bytes plain fine = again s x rows bytes plain fine
+image-back s x rows bytes plain fine = same-bytes s x rows bytes plain fine

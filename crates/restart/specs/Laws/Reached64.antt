@@ -74,6 +74,7 @@ depth-fine s h =
 module _ (s : Settings) (ls : Lists) (delay : Word64 (s .delay)) where
   step-storable : (t : State) (m : Rooms) (bar : List ℕ) → stepVerdict s t bar m ls ≡ Fine → Words64 bar → Passed s t m → Storable s t m
       → Storable s (stepped s t bar m ls .result) (stepped s t bar m ls .rooms)
+  unfolding stepped candleOf
   step-storable t m bar fine w p k =
       let W = windowOf s t (m .rows) in
       let next = step-passed s ls t m bar fine p in
@@ -86,7 +87,7 @@ module _ (s : Settings) (ls : Lists) (delay : Word64 (s .delay)) where
           entry = entry-small (stepped s t bar m ls .result .position .entered) (stepped s t bar m ls .result .counts .«bars_seen») (next .entry) seen;
           delay = step-delayed s t bar m ls delay (k .small .delay);
           entryTime = step-timed s t bar m ls (w 0) (k .small .entryTime);
-          lastTime = unfold stepped candleOf in w 0;
+          lastTime = w 0;
           floats = step-floats s t bar m ls (k .small .floats);
         };
         words = rw (window-moved s ls t m bar fine (p .sound))
