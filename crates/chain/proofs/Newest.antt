@@ -9,7 +9,7 @@ use Rattle.chain.specs.{Missing.firstFound, Missing.goneIf, Missing.leaf
 
 module _ (h : History) (over : Series) (i bar back : ℕ) where
   pub series-early : bar < back → Leaf i back ≡ leafGone h (asOperand over) i bar back
-  unfolding leafGone
+  unfolding leafGone goneIf
   series-early l = rw (lt-ltb bar back l)
 
   module _ (late : back ≤ bar) where

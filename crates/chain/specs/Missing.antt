@@ -1,8 +1,9 @@
 -- "the first missing leaf in table order .. and how many bars back it looked". Definitions only.
-use Rattle.words.specs.Prelude.{ℕ, zero, suc, _+_, _-_, _*_, _≤_, cond, ltb}
+use Rattle.words.specs.Prelude.{ℕ, zero, suc, _+_, _-_, _*_, _≤_}
 use Rattle.rows.specs.{History.History}
 use Rattle.table.specs.{Series.asOperand, Trees.Operand, Trees.const, Trees.ref, Trees.price, Trees.prev, Trees.arith, Trees.extreme, Writing.nodesIn}
-use Rattle.rules.specs.{declared.values.Value.Value, declared.values.Value.the-variants.Missing, declared.values.Value.the-variants.Number, Meaning.value}
+use Rattle.rules.specs.{declared.values.Value.Value, declared.values.Value.the-variants.Missing, declared.values.Value.the-variants.Number, Meaning.barsBack}
+use Rattle.rules.specs.{Meaning.value}
 use Rattle.chain.specs.{declared.missing.Found.Found, declared.missing.Found.the-variants.Nowhere, declared.missing.Found.the-variants.Leaf}
 
 -- How nodes are numbered: the number just past a subtree of so many nodes that begins at node j.
@@ -24,7 +25,7 @@ goneIf i back (Number x) = Nowhere
 
 -- A leaf, node i, looked at so many bars before `bar`: missing where there is no such bar, or it has no value there.
 unfoldable pub leafGone : History → Operand → ℕ → ℕ → ℕ → Found
-leafGone h a i bar back = cond (ltb bar back) (Leaf i back) (goneIf i back (value h a (bar - back)))
+leafGone h a i bar back = goneIf i back (barsBack (value h a) back bar)
 
 -- "Request 4 names its child at the newest missing bar" (request 8): node i, a leaf, so many bars back and the m before that.
 unfoldable pub newestGone : History → Operand → ℕ → ℕ → ℕ → ℕ → Found

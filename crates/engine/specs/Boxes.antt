@@ -4,8 +4,8 @@ use Rattle.words.specs.{declared.refusal.Refusal.Refusal}
 use Rattle.portfolio.specs.{declared.Trade.Trade, Trade.wordsOfTrade}
 use Rattle.records.specs.{declared.settings.Settings.Settings, declared.state.State.State, Lent.Rooms, Lent.rowPlaces, Lent.pointPlaces, Lent.tradePlaces}
 use Rattle.refusals.specs.{declared.verdict.Verdict.Verdict, declared.verdict.Verdict.the-variants.Bad}
-use Rattle.engine.specs.{Books.Point, Books.wordsOfPoint, Books.heldPoints, Books.heldTrades, Whole.Account, Whole.accountOf, Whole.rowsHeld, Whole.lastOf}
-use Rattle.engine.specs.{Whole.Whole}
+use Rattle.engine.specs.{Books.Point, Books.wordsOfPoint, Books.heldPoints, Books.heldTrades, Whole.Account, Whole.accountOf, Whole.rowsHeld}
+use Rattle.engine.specs.{Whole.lastOf, Whole.Ledger}
 use Rattle.words.specs.Limits as Limits
 
 -- ---- a box and its rooms
@@ -25,12 +25,6 @@ pub record SameLengths (m n : Rooms) : Type 0 where
   pub equity : length (n .equity) ≡ length (m .equity)
   pub trades : length (n .trades) ≡ length (m .trades)
 
--- a box whose row room has places for D rows, and that holds no more rows than places and bars seen
-pub record Roomy (s : Settings) (t : State) (m : Rooms) : Type 0 where
-  pub depth : s .depth ≤ rowPlaces (s .slots) (m .rows)
-  pub rows : t .counts .«rows_held» ≤ rowPlaces (s .slots) (m .rows)
-  pub rowsSeen : t .counts .«rows_held» ≤ t .counts .«bars_seen»
-
 -- what a run from a fresh state has at each bar, where its row room has places for D rows
 pub record Sound (s : Settings) (t : State) (m : Rooms) : Type 0 where
   pub depth : s .depth ≤ rowPlaces (s .slots) (m .rows)
@@ -44,7 +38,7 @@ pub record Follows (s : Settings) (t : State) (m : Rooms) (a : Account) (rows : 
   pub window : lastOf s (rowsHeld s t m) ≡ lastOf s rows
 
 -- The box (t, m) has the account of a whole run, and holds exactly its points and trades.
-pub record Holds (t : State) (m : Rooms) (w : Whole) : Type 0 where
+pub record Holds (t : State) (m : Rooms) (w : Ledger) : Type 0 where
   pub account : accountOf t ≡ w .account
   pub points : t .counts .«equity_points» ≡ length (w .points)
   pub trades : t .counts .trades ≡ length (w .trades)

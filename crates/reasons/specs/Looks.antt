@@ -1,9 +1,10 @@
 -- The leaves that a test looks at, in the request's order, and what is said of them. Definitions only.
-use Rattle.words.specs.Prelude.{ℕ, zero, suc, _+_, _-_, _≡_, cond, List, [], _∷_, _++_, ltb, Float}
+use Rattle.words.specs.Prelude.{ℕ, zero, suc, _+_, _-_, _≡_, List, [], _∷_, _++_, Float}
 use Rattle.rows.specs.{History.History}
 use Rattle.table.specs.{Trees.Operand, Trees.const, Trees.ref, Trees.price, Trees.prev, Trees.arith, Trees.extreme, Trees.Condition, Trees.compare, Trees.cross}
 use Rattle.table.specs.{Trees.between, Trees.trend, Trees.every, Trees.any, Trees.negated, Trees.inPosition, Trees.barsSince, Series.asOperand, Writing.nodesIn}
-use Rattle.rules.specs.{declared.values.Value.Value, declared.values.Value.the-variants.Missing, declared.values.Value.the-variants.Number, Meaning.value}
+use Rattle.rules.specs.{declared.values.Value.Value, declared.values.Value.the-variants.Missing, declared.values.Value.the-variants.Number, Meaning.barsBack}
+use Rattle.rules.specs.{Meaning.value}
 
 -- a leaf, its node, and how many bars back it is looked at
 pub record Look : Type 0 where
@@ -44,7 +45,7 @@ looksOf (barsSince selector k) i = []
 
 -- what a leaf is so many bars before `bar`: missing where there is no such bar
 unfoldable pub seen : History → ℕ → Look → Value
-seen h bar l = cond (ltb bar (l .back)) Missing (value h (l .leaf) (bar - l .back))
+seen h bar l = barsBack (value h (l .leaf)) (l .back) bar
 
 -- it has a value there
 pub data IsThere : Value → Type 0 where

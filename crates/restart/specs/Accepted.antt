@@ -2,34 +2,42 @@
 -- not refused.
 use Rattle.words.specs.Prelude.{ℕ, _+_, _-_, _*_, _/_, _%_, _≤_, _≡_, refl, ap, _∙_, true, List, _++_, mod-eq-of-lt, arith, le-leb, eq-eqb, eqb, length, getD}
 use Rattle.words.specs.Prelude.{List·getD-eq-default}
-use Rattle.words.specs.{Limits.rowWords, Words.word}
+use Rattle.words.specs.{Limits.rowWords, Limits.mostCount, Words.word}
 use Rattle.rows.specs.{History.lastRows}
 use Rattle.table.specs.{Bytes.u16, Bytes.u64}
 use Rattle.records.specs.{declared.settings.Settings.Settings, declared.state.State.State, Lent.Lists, Lent.Rooms, Lent.rowPlaces, State.freshState}
 use Rattle.records.specs.{StateWords.wordsOf}
-use Rattle.refusals.specs.{declared.verdict.Verdict.the-variants.Fine, Bar.barLines, Judgement.runLines, Judgement.stepLines, Judgement.stepJudged, Lines.judged}
-use Rattle.refusals.specs.{Rooms.roomLines, Rooms.entryBelow, Rooms.placeLines, Settings.settingLines, Laws.Fine.settings-fine, Laws.Fine.step-fine}
-use Rattle.refusals.specs.{Laws.Lines.first-holds, Laws.Lines.below-fine, Laws.Lines.both-fine}
-use Rattle.engine.specs.{Boxes.Sound, Laws.Lengths.row-long, Laws.Runs.run-keeps, Laws.Underway.entry-stays, Record.rowOf, Record.heldRows, Run.Run, Run.runOver}
-use Rattle.engine.specs.{Step.stepped, Step.stepVerdict}
+use Rattle.refusals.specs.{declared.verdict.Verdict.the-variants.Fine, Bar.barLines, Judgement.runLines, Judgement.stepLines, Judgement.stepJudged}
+use Rattle.refusals.specs.{Lines.judged, Rooms.roomLines, Rooms.placeLines, Settings.settingLines, Laws.Fine.settings-fine}
+use Rattle.refusals.specs.{Laws.Fine.step-fine, Laws.Lines.first-holds, Laws.Lines.below-fine, Laws.Lines.both-fine}
+use Rattle.engine.specs.{Boxes.Sound, Laws.Lengths.row-long, Laws.Runs.run-keeps, Laws.Underway.entry-stays, Record.rowOf, Record.heldRows, Run.Run}
+use Rattle.engine.specs.{Run.runOver, Step.stepped, Step.stepVerdict}
 use Rattle.runs.specs.{Laws.Alike.step-sound, Laws.TwoRuns.fresh-sound, Laws.Window.last-added, Laws.Window.window-added}
 use Rattle.images.specs.{Layout.wordsBytes, Layout.numbers, Layout.amounts, Layout.head, Layout.image, Layout.windowOf, Layout.imageOf, Reading.slotsIn}
 use Rattle.images.specs.{Reading.versionIn, Reading.depthIn, Reading.wordsIn, Reading.wordsAt, Reading.rowPlace, Reading.rowIn, Refused.zeroAt}
 use Rattle.images.specs.{Refused.eachFine, Refused.rowsFine, Refused.imageLines, Refused.sameLines, Refused.restoreLines, Refused.restoreJudged}
 use Rattle.dump.specs.{Laws.Image.image-head, Laws.Image.image-body, Laws.Packed.headWords, Laws.WordBytes.words-long}
-use Rattle.restart.specs.{RoundTrip.restoredOf, RoundTrip.words-back, Cut.size-of-image, Window.Whole, Window.window-whole, Window.word-at, Restart.Kept}
-use Rattle.restart.specs.{Laws.RowsPass.every-of, Laws.RowsPass.row-passes, Laws.RowsPass.rowAt, Laws.RowsPass.RowsPass, Laws.RowsPass.listed-same}
-use Rattle.restart.specs.{Laws.RowsPass.last-pass, Laws.RowsPass.added-pass, Laws.Says.Says, Laws.Says.unused-fine, Laws.Says.numbers-fine}
-use Rattle.restart.specs.{Laws.Says.shape-holds}
+use Rattle.restart.specs.{RoundTrip.restoredOf, RoundTrip.words-back, Cut.size-of-image, Window.WholeWindow, Window.window-whole, Window.word-at}
+use Rattle.restart.specs.{Boxes.Storable, Boxes.Dumpable, Boxes.Passed, Boxes.rowAt, Boxes.RowsPass, Laws.RowsPass.every-of, Laws.RowsPass.row-passes}
+use Rattle.restart.specs.{Laws.RowsPass.listed-same, Laws.RowsPass.last-pass, Laws.RowsPass.added-pass, Laws.Says.Says}
+use Rattle.restart.specs.{Laws.Says.unused-fine, Laws.Says.numbers-fine, Laws.Says.shape-holds}
 
--- A box whose image is accepted: numbers and words such as the code's types hold, what 13 asks of rows and of the entry bar, no more rows than bars
--- seen, and rows that 11 would let pass. A box that was reached from a fresh state has the first by `reached-kept`, and the rest by `reached-dumpable`.
-pub record Dumpable (s : Settings) (t : State) (m : Rooms) : Type 0 where
-  pub kept : Kept s t m
-  pub held : t .counts .«rows_held» ≤ rowPlaces (s .slots) (m .rows)
-  pub early : t .counts .«rows_held» ≤ t .counts .«bars_seen»
-  pub entry : entryBelow (t .position .entered) (t .counts .«bars_seen») ≡ true
-  pub rows : RowsPass (s .slots) (windowOf s t (m .rows))
+-- ---- the statements
+
+-- THE WHOLE IMAGE IS ACCEPTED: a restore with the same settings, over a row room with its places, is refused by no line.
+abbrev pub AcceptedTheorem : Type 0
+AcceptedTheorem =
+    (s : Settings) (t : State) (m : Rooms) → Dumpable s t m
+    → (rows : List ℕ) → judged (roomLines s rows) ≡ Fine → judged (settingLines s) ≡ Fine → restoreJudged s (imageOf s t (m .rows)) rows ≡ Fine
+
+-- REQUEST 11, ACCEPTANCE: after any bars from a fresh state the whole image is restored: 10, 12, 19 and 20 refuse nothing, with the settings that it was
+-- written with, if 12 lets them pass, and over any row room with D places.
+abbrev pub ReachedTheorem : Type 0
+ReachedTheorem =
+    (s : Settings) (ls : Lists) (m : Rooms) (bars : List (List ℕ)) → s .depth ≤ rowPlaces (s .slots) (m .rows)
+    → let b = runOver s ls (freshState s) m bars in
+    Storable s (b .state) (b .rooms) → judged (settingLines s) ≡ Fine → (rows : List ℕ) → s .depth ≤ rowPlaces (s .slots) rows
+    → restoreJudged s (imageOf s (b .state) (b .rooms .rows)) rows ≡ Fine
 
 -- ---- the bytes
 
@@ -79,7 +87,7 @@ module _ (s : Settings) (t : State) (m : Rooms) (fit : Dumpable s t m) where
   count : ℕ
   count = length W / rowWords (s .slots)
 
-  whole : Whole s t (m .rows)
+  whole : WholeWindow s t (m .rows)
   whole = window-whole s t (m .rows) (fit .held)
 
   back : wordsIn x ≡ wordsOf (restoredOf s t (m .rows))
@@ -153,27 +161,23 @@ module _ (s : Settings) (t : State) (m : Rooms) (fit : Dumpable s t m) where
   unfolding judged sameLines
   same-passes = rw (says .depth, says .slots, eq-eqb (s .depth) (s .depth) refl, eq-eqb (s .slots) (s .slots) refl)
 
-  -- THE WHOLE IMAGE IS ACCEPTED: a restore with the same settings, over a row room with its places, is refused by no line.
-  pub accepted : (rows : List ℕ) → judged (roomLines s rows) ≡ Fine → judged (settingLines s) ≡ Fine → restoreJudged s (imageOf s t (m .rows)) rows ≡ Fine
+  passes : (rows : List ℕ) → judged (roomLines s rows) ≡ Fine → judged (settingLines s) ≡ Fine → restoreJudged s (imageOf s t (m .rows)) rows ≡ Fine
   unfolding restoreJudged restoreLines x
-  accepted rows ten twelve =
+  passes rows ten twelve =
       below-fine (roomLines s rows) _ ten ∙ below-fine (settingLines s) _ twelve
       ∙ below-fine (imageLines x) (sameLines s x) (image-passes (settings-fine s twelve .depth)) ∙ same-passes
 
--- ---- a box that was reached
+pub accepted : AcceptedTheorem
+accepted s t m fit rows ten twelve = passes s t m fit rows ten twelve
 
--- what every bar keeps: counts within their rooms, an entry bar below the bars seen, and rows that 11 would let pass
-pub record Passed (s : Settings) (t : State) (m : Rooms) : Type 0 where
-  pub sound : Sound s t m
-  pub entry : entryBelow (t .position .entered) (t .counts .«bars_seen») ≡ true
-  pub rows : RowsPass (s .slots) (windowOf s t (m .rows))
+-- ---- a box that was reached
 
 pub fresh-passed : (s : Settings) (m : Rooms) → s .depth ≤ rowPlaces (s .slots) (m .rows) → Passed s (freshState s) m
 unfolding freshState RowsPass
 fresh-passed s m deep =
     let sound = fresh-sound s m deep in
     let none = window-whole s (freshState s) (m .rows) (sound .within .rows) .held in
-    record { sound = sound; entry = refl; rows = λ i l. absurd (omega (arith, none)) }
+    record { sound = sound; seen = omega arith; entry = refl; rows = λ i l. absurd (omega (arith, none)) }
 
 module _ (s : Settings) (ls : Lists) (t : State) (m : Rooms) (bar : List ℕ) (fine : stepVerdict s t bar m ls ≡ Fine) where
   pub step-judged : stepJudged s t bar m ls ≡ Fine
@@ -200,6 +204,10 @@ module _ (s : Settings) (ls : Lists) (t : State) (m : Rooms) (bar : List ℕ) (f
       window-added K (m .rows) held row (row-long K bar) (s .depth) some (sound .depth) (sound .within .rows)
       ∙ last-added K (s .depth) (heldRows K held (m .rows)) row (row-long K bar)
 
+  bars-counted : stepped s t bar m ls .result .counts .«bars_seen» ≤ mostCount
+  unfolding stepped
+  bars-counted = omega (arith, step-fine s t bar m ls step-judged .bars)
+
   pub step-passed : Passed s t m → Passed s (stepped s t bar m ls .result) (stepped s t bar m ls .rooms)
   step-passed p =
       let K = s .slots in
@@ -208,6 +216,7 @@ module _ (s : Settings) (ls : Lists) (t : State) (m : Rooms) (bar : List ℕ) (f
       let added = added-pass K W (p .rows) (length W / rowWords K) bar (whole .words) (row-passes K bar (t .counts .«bars_seen») bar-passed) in
       record {
         sound = step-sound s t bar m ls (p .sound);
+        seen = bars-counted;
         entry = entry-stays s t bar m ls (p .entry);
         rows = rw (window-moved (p .sound)) (last-pass K (W ++ rowOf K bar) added (s .depth));
       }
@@ -216,18 +225,17 @@ module _ (s : Settings) (ls : Lists) (m : Rooms) (bars : List (List ℕ)) (deep 
   abbrev reached : Run
   reached = runOver s ls (freshState s) m bars
 
+  pub reached-passed : Passed s (reached .state) (reached .rooms)
+  reached-passed = run-keeps s ls (Passed s) (λ t n bar h p. step-passed s ls t n bar h p) bars (freshState s) m (fresh-passed s m deep)
+
   -- ANY BARS FROM A FRESH STATE leave a box whose image is accepted, where its numbers and words are such as the code's types hold.
-  pub reached-dumpable : Kept s (reached .state) (reached .rooms) → Dumpable s (reached .state) (reached .rooms)
+  pub reached-dumpable : Storable s (reached .state) (reached .rooms) → Dumpable s (reached .state) (reached .rooms)
   reached-dumpable kept =
-      let p : Passed s (reached .state) (reached .rooms) =
-      run-keeps s ls (Passed s) (λ t n bar h q. step-passed s ls t n bar h q) bars (freshState s) m (fresh-passed s m deep) in
+      let p = reached-passed in
       record { kept = kept; held = p .sound .within .rows; early = p .sound .within .rowsSeen; entry = p .entry; rows = p .rows }
 
-  -- REQUEST 11, ACCEPTANCE: after any bars from a fresh state the whole image is restored: 10, 12, 19 and 20 refuse nothing, with the settings that it was
-  -- written with, if 12 lets them pass, and over any row room with D places.
-  pub reached-accepted : let b = runOver s ls (freshState s) m bars in
-      Kept s (b .state) (b .rooms) → judged (settingLines s) ≡ Fine → (rows : List ℕ) → s .depth ≤ rowPlaces (s .slots) rows
-      → restoreJudged s (imageOf s (b .state) (b .rooms .rows)) rows ≡ Fine
-  reached-accepted kept twelve rows place =
-      accepted s (reached .state) (reached .rooms) (reached-dumpable kept) rows
-      (unfold roomLines judged in rw (le-leb (s .depth) (rowPlaces (s .slots) rows) place)) twelve
+pub reached-accepted : ReachedTheorem
+reached-accepted s ls m bars deep kept twelve rows place =
+    let b : Run = runOver s ls (freshState s) m bars in
+    accepted s (b .state) (b .rooms) (reached-dumpable s ls m bars deep kept) rows
+    (unfold roomLines judged in rw (le-leb (s .depth) (rowPlaces (s .slots) rows) place)) twelve

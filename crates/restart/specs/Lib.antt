@@ -7,6 +7,7 @@ pub mod Cut
 pub mod Clearing
 pub mod Seal
 pub mod Pages
+pub mod Boxes
 pub mod RoundTrip
 pub mod Window
 pub mod Restart

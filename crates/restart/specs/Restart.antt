@@ -1,21 +1,15 @@
 -- THE RESTART, over the bytes of an image. "From a whole image of a state reached from a fresh one, with the same table and settings and empty trade
 -- and equity rooms counted from 0, further bars give the trades, equity points and decisions that the unbroken run gives for them, until
 -- either refuses." What runs/specs/Restart says of a box that was started again holds of the box that a restore leaves.
-use Rattle.words.specs.Prelude.{ℕ, _+_, _/_, _≤_, _<_, _≡_, refl, List, zero-add, arith, length, getD, drop, take-at}
-use Rattle.words.specs.{Limits.rowWords, Limits.mostSlots, Limits.mostRows, Words.overwrite, Laws.Overwrite.overwrite-fits, Laws.Records.records-fit}
+use Rattle.words.specs.Prelude.{ℕ, _+_, _/_, _≤_, _≡_, refl, List, zero-add, arith, length, drop, take-at}
+use Rattle.words.specs.{Limits.rowWords, Words.overwrite, Laws.Overwrite.overwrite-fits, Laws.Records.records-fit}
 use Rattle.words.specs.{Laws.Overwrite.overwrite-length}
 use Rattle.records.specs.{declared.settings.Settings.Settings, declared.state.State.State, Lent.Lists, Lent.Rooms, Lent.rooms, Lent.rowPlaces, State.freshState}
 use Rattle.engine.specs.{Boxes.NotFull, Record.heldRows, Run.Run, Run.runOver}
 use Rattle.runs.specs.{OtherBooks.Emptied, Restart.Restarted, Restart.restart, Laws.TwoRuns.fresh-sound, Laws.TwoRuns.run-sound}
 use Rattle.images.specs.{Layout.windowOf, Layout.imageOf, Reading.stateIn, Reading.windowIn}
-use Rattle.restart.specs.{RoundTrip.Small, RoundTrip.restoredOf, RoundTrip.state-comes-back, Window.Whole, Window.window-whole, Window.window-comes-back}
-
--- What the image of a box needs: D and K as 12 lets them be, and numbers of its state and words of its rows such as the code's types hold.
-pub record Kept (s : Settings) (t : State) (m : Rooms) : Type 0 where
-  pub slots : s .slots ≤ mostSlots
-  pub depth : s .depth ≤ mostRows
-  pub small : Small t
-  pub words : (i : ℕ) → getD (windowOf s t (m .rows)) i 0 < 18446744073709551616
+use Rattle.restart.specs.{Boxes.Storable, RoundTrip.restoredOf, RoundTrip.state-comes-back, Window.WholeWindow, Window.window-whole}
+use Rattle.restart.specs.{Window.window-comes-back}
 
 -- the box that a restore of its image leaves, over any row room, and any equity and trade rooms
 abbrev pub stateAgain : Settings → State → Rooms → State
@@ -25,11 +19,11 @@ abbrev pub roomsAgain : Settings → State → Rooms → List ℕ → List ℕ �
 roomsAgain s t m rows equity trades = rooms (overwrite rows 0 (windowIn (imageOf s t (m .rows)))) equity trades
 
 module _ (s : Settings) (t : State) (m : Rooms) (rows equity trades : List ℕ) (held : t .counts .«rows_held» ≤ rowPlaces (s .slots) (m .rows))
-    (kept : Kept s t m) (place : s .depth ≤ rowPlaces (s .slots) rows) where
+    (kept : Storable s t m) (place : s .depth ≤ rowPlaces (s .slots) rows) where
   W : List ℕ
   W = windowOf s t (m .rows)
 
-  whole : Whole s t (m .rows)
+  whole : WholeWindow s t (m .rows)
   whole = window-whole s t (m .rows) held
 
   state-is : stateAgain s t m ≡ restoredOf s t (m .rows)
@@ -71,7 +65,7 @@ module _ (s : Settings) (t : State) (m : Rooms) (rows equity trades : List ℕ) 
 pub restart-from-image : (s : Settings) (ls : Lists) (m : Rooms) (before bars : List (List ℕ)) (rows equity trades : List ℕ)
     → s .depth ≤ rowPlaces (s .slots) (m .rows) → s .depth ≤ rowPlaces (s .slots) rows
     → let b = runOver s ls (freshState s) m before in
-    Kept s (b .state) (b .rooms)
+    Storable s (b .state) (b .rooms)
     → let u = runOver s ls (b .state) (b .rooms) bars in
     let e = runOver s ls (stateAgain s (b .state) (b .rooms)) (roomsAgain s (b .state) (b .rooms) rows equity trades) bars in
     NotFull (u .verdict) → NotFull (e .verdict) → Emptied s (b .state) (b .rooms) u e

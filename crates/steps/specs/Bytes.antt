@@ -38,6 +38,10 @@ jumpAtNo = 32
 abbrev pub jumpAtYes : ℕ
 jumpAtYes = 33
 
+-- No step has this number or a larger one.
+abbrev pub pastJumps : ℕ
+pastJumps = 34
+
 -- "Kinds of steps 9, 10 over a price and 11, 12 over a slot" (decided): Highest and Lowest over a price have the kind's number.
 abbrev pub highestSlot : ℕ
 highestSlot = 11
@@ -57,8 +61,8 @@ firstTest = Named.gt
 unfoldable pub isComparison : ℕ → Bool
 isComparison step = leb firstTest step && ltb step Named.crossAbove
 
-unfoldable pub isTest : ℕ → Bool
-isTest step = leb firstTest step && ltb step Named.rising
+unfoldable pub isTestStep : ℕ → Bool
+isTestStep step = leb firstTest step && ltb step Named.rising
 
 unfoldable pub slotKind : ℕ → ℕ
 slotKind kind = cond (eqb kind Named.highest) highestSlot lowestSlot
@@ -92,7 +96,7 @@ answerOp x =
     (cond (eqb (x .kind) Named.not) Turn
     (cond (eqb (x .kind) Named.inPosition) (InPosition (eqb (x .selector) 1))
     (cond (eqb (x .kind) Named.barsSinceEntry) (BarsSinceEntry (x .selector) (x .n))
-    (cond (ltb (x .kind) 34) (JumpIf (eqb (x .kind) jumpAtYes) (x .skip)) Unknown))))
+    (cond (ltb (x .kind) pastJumps) (JumpIf (eqb (x .kind) jumpAtYes) (x .skip)) Unknown))))
 
 unfoldable pub opOf : Step → Op
 opOf x = cond (ltb (x .kind) firstTest) (operandOp x) (cond (ltb (x .kind) Named.all) (testOp x) (answerOp x))
@@ -159,12 +163,12 @@ abbrev pub writeFrom : List ℕ → ℕ → ℕ → List ℕ → List ℕ
 writeFrom room i j [] = room
 writeFrom room i j (v ∷ vs) = writeFrom (set room (i + j) v) i (suc j) vs
 
-unfoldable pub write : List ℕ → ℕ → List ℕ → List ℕ
-write room i vs = writeFrom room i 0 vs
+unfoldable pub writeAt : List ℕ → ℕ → List ℕ → List ℕ
+writeAt room i vs = writeFrom room i 0 vs
 
 -- A room with steps written into it from place `at` on, where they fit.
 abbrev pub written : List ℕ → ℕ → List Op → List ℕ
-written room at xs = write room (16 * at) (bytesOf xs)
+written room at xs = writeAt room (16 * at) (bytesOf xs)
 
 pub record Fits (room : List ℕ) (at : ℕ) (xs : List Op) : Type 0 where
   pub bytes : 16 * (at + length xs) ≤ length room

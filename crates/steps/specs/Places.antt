@@ -5,6 +5,7 @@ use Rattle.rules.specs.{declared.position.PositionState.PositionState, declared
 use Rattle.rules.specs.{declared.values.Value.the-variants.Number, Values.crossed, Values.within}
 use Rattle.steps.specs.{declared.machine.Ran.Ran, Bytes.opOf, Bytes.stepAt, Bytes.opsFrom, Machine.Values, Machine.giving, Machine.effect, Machine.run}
 use Rattle.steps.specs.{Machine.visitCount, Machine.start}
+use Rattle.table.specs.Named as Named
 
 -- A value as two: its number, which is written where there is one, and whether it is there.
 unfoldable pub numbersWith : List Float → ℕ → Value → List Float
@@ -22,7 +23,7 @@ valueAt numbers there i = cond (getD there i false) (Number (getD numbers i nan)
 -- What a cross or Between answers of the last values, the last at place top + 3, by its kind.
 abbrev pub testedAt : ℕ → List Float → List Bool → ℕ → Bool
 testedAt kind numbers there top =
-    cond (ltb kind 24)
+    cond (ltb kind Named.between)
     (crossed kind (valueAt numbers there top) (valueAt numbers there (top + 1)) (valueAt numbers there (top + 2)) (valueAt numbers there (top + 3)))
     (within (valueAt numbers there (top + 1)) (valueAt numbers there (top + 2)) (valueAt numbers there (top + 3)))
 

@@ -8,17 +8,23 @@ ghost use Prim.Native.Nat.{_+_, _-_, _*_, _<_, _≤_};
 ghost use lib.ListN.{length};
 ghost use Rattle.table.specs.Bytes.{u16, u32, u64};
 ghost use Rattle.steps.specs.Bytes.{readStep, stepAt, stepsIn, opOf, extremeOp, operandOp, testOp, answerOp};
-ghost use Rattle.steps.specs.Bytes.{isOperation, isComparison, isTest};
+ghost use Rattle.steps.specs.Bytes.{isOperation, isComparison, isTestStep};
 
 // A step has the number of the kind that it stands for. Jumps stand for no kind and have numbers of their own.
 pub const JUMP_AT_NO: u8 = 32;
 
 pub const JUMP_AT_YES: u8 = 33;
 
+// No step has this number or a larger one.
+pub(crate) const PAST_JUMPS: u8 = 34;
+
 // Highest and Lowest over a price have the kind's number; over a slot they have numbers of their own.
 pub const HIGHEST_SLOT: u8 = 11;
 
 pub const LOWEST_SLOT: u8 = 12;
+
+// The number just past those of Highest and Lowest.
+pub(crate) const PAST_LOOKS: u8 = 13;
 
 // The steps of operands come first, then those that test values.
 const FIRST_TEST: u8 = kinds::GT;
@@ -46,7 +52,7 @@ pub(crate) fn is_comparison(step: u8) -> bool
 // Whether a step tests values: a comparison, a cross or Between. It takes 64 bits, since it is asked of a step's first eight bytes as one
 // number too, of which the kind is the lowest: a yes says that the others are zero.
 pub(crate) fn is_test(step: u64) -> bool
-    ensures { λ r. ⌜ r ≡ isTest step ⌝ }
+    ensures { λ r. ⌜ r ≡ isTestStep step ⌝ }
 {
     if step < FIRST_TEST as u64 {
         return false;
@@ -209,7 +215,7 @@ fn answer_op(x: Step) -> Op
     if x.kind == kinds::BARS_SINCE_ENTRY {
         return Op::BarsSinceEntry(x.selector, x.n);
     }
-    if x.kind < 34 {
+    if x.kind < PAST_JUMPS {
         return Op::JumpIf(x.kind == JUMP_AT_YES, x.skip);
     }
     Op::Unknown

@@ -3,13 +3,14 @@ use crate::step::Step;
 use rules::position::PositionState;
 use rules::values;
 use rules::values::Value;
+use table::kinds;
 ghost use mathlib.Core.Path.{_≡_};
 ghost use mathlib.Core.Bool.{false, cond, not, _&&_};
 ghost use Prim.Native.Nat.{_+_, _<_, _≤_, min};
 ghost use lib.Dec.{ltb, leb};
 ghost use Rattle.rows.specs.History.{History};
 ghost use Rattle.rules.specs.Values as Values;
-ghost use Rattle.steps.specs.Bytes.{opOf, isOperation, isTest};
+ghost use Rattle.steps.specs.Bytes.{opOf, isOperation, isTestStep};
 ghost use Rattle.steps.specs.Machine.{saying, effect};
 
 // Whether a kind is one from `low` on and below `high`.
@@ -35,22 +36,22 @@ fn position(wanted: bool, qty: f64) -> bool
 // What the answer is after a step that neither takes nor gives a value, nor jumps. One of no known kind leaves it as it was.
 pub(crate) fn said(x: Step, s: PositionState, answer: bool) -> bool
     requires { ⌜ (1 ≤ x .kind → 4 ≤ x .kind) × (isOperation (x .kind) ≡ false) × (9 ≤ x .kind → 13 ≤ x .kind)
-        × (isTest (x .kind) ≡ false) × (32 ≤ x .kind → 34 ≤ x .kind) ⌝ }
+        × (isTestStep (x .kind) ≡ false) × (32 ≤ x .kind → 34 ≤ x .kind) ⌝ }
     ensures { λ r. ⌜ ((h : History) (a b c d : Value) → effect h s (opOf x) a b c d answer ≡ saying 0 r) ⌝ }
 {
-    if x.kind < 27 {
+    if x.kind < kinds::ALL {
         return answer;
     }
-    if x.kind < 29 {
-        return x.kind == 27;
+    if x.kind < kinds::NOT {
+        return x.kind == kinds::ALL;
     }
-    if x.kind == 29 {
+    if x.kind == kinds::NOT {
         return !answer;
     }
-    if x.kind == 30 {
+    if x.kind == kinds::IN_POSITION {
         return position(x.selector == 1, s.qty);
     }
-    if x.kind == 31 {
+    if x.kind == kinds::BARS_SINCE_ENTRY {
         return values::since_entry(x.selector, x.n, s);
     }
     answer

@@ -11,6 +11,7 @@ use rows::ring;
 use rules::position::PositionState;
 use rules::values;
 use rules::values::Value;
+use table::kinds;
 use words::limits::MOST_STEPS;
 ghost use mathlib.Core.Path.{_≡_};
 ghost use mathlib.Core.Bool.{Bool, true, cond};
@@ -20,6 +21,7 @@ ghost use lib.Dec.{ltb};
 ghost use lib.ListN.{length};
 ghost use Rattle.rows.specs.History.{historyOf};
 ghost use Rattle.rows.specs.Ring.{ringOf};
+ghost use Rattle.table.specs.Named as Named;
 ghost use Rattle.steps.specs.Bytes.{opOf, opsFrom, opsOf, stepsIn, stepsRun};
 ghost use Rattle.steps.specs.Machine.{viewing, effect, ranOver};
 ghost use Rattle.steps.specs.Places.{testedAt, Tries, Fresh, Came};
@@ -77,9 +79,9 @@ fn look(x: Step, rows: &[u64], slots: usize, held: usize, first: usize) -> Value
 
 // How many values a cross or Between takes.
 fn taken(kind: u8) -> usize
-    ensures { λ r. ⌜ r ≡ cond (ltb kind 24) 4 3 ⌝ }
+    ensures { λ r. ⌜ r ≡ cond (ltb kind Named.between) 4 3 ⌝ }
 {
-    if kind < 24 { 4 } else { 3 }
+    if kind < kinds::BETWEEN { 4 } else { 3 }
 }
 
 // What a cross or Between answers of the last values, of which it reads no more than it takes.
@@ -91,7 +93,7 @@ fn tested(kind: u8, numbers: &[f64], there: &[bool], top: usize) -> bool
     let a = stack::at(numbers, there, top + 3);
     let b = stack::at(numbers, there, top + 2);
     let c = stack::at(numbers, there, top + 1);
-    if kind < 24 {
+    if kind < kinds::BETWEEN {
         let d = stack::at(numbers, there, top);
         return values::crossed(kind, d, c, b, a);
     }
@@ -118,7 +120,7 @@ fn steps_run(list: &[u8]) -> usize
 }
 
 // A run that stopped because a value found no place.
-fn stopped(answer: bool, visits: usize) -> Tried
+fn out_of_places(answer: bool, visits: usize) -> Tried
     ensures { λ r. ⌜ r .full ≡ true ⌝ }
 {
     Tried {
@@ -160,7 +162,7 @@ fn run_with(
         let x = decode::step_at(list, p);
         let kind = x.kind;
         visits += 1;
-        if doing::is_among(kind, 1, 4) {
+        if doing::is_among(kind, kinds::CONST, kinds::PREV) {
             if top == places {
                 return Tried {
                     full: true,
@@ -187,8 +189,8 @@ fn run_with(
                 top = left(top, taken(kind));
                 p += 1;
             }
-        } else if doing::is_among(kind, 32, 34) {
-            if answer == (kind == 33) {
+        } else if doing::is_among(kind, decode::JUMP_AT_NO, decode::PAST_JUMPS) {
+            if answer == (kind == decode::JUMP_AT_YES) {
                 p = doing::landing(p, x.skip, n);
             } else {
                 p += 1;
@@ -197,12 +199,12 @@ fn run_with(
             let a = stack::at(numbers, there, top + 3);
             let b = stack::at(numbers, there, top + 2);
             let under = left(top, 2);
-            stack::put(numbers, there, under + 4, values::both(kind, b, a));
+            stack::put(numbers, there, under + 4, values::combined(kind, b, a));
             top = under + 1;
             p += 1;
-        } else if doing::is_among(kind, 9, 13) {
+        } else if doing::is_among(kind, kinds::HIGHEST, decode::PAST_LOOKS) {
             if top == places {
-                return stopped(answer, visits);
+                return out_of_places(answer, visits);
             }
             visits += decode::before(x.skip) as usize;
             let value = look(x, rows, slots, held, first);

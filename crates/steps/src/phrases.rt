@@ -76,7 +76,7 @@ fn cross_at(
     }
     let x = decode::step_at(list, p + 4);
     let kind = x.kind;
-    if doing::is_among(kind, 22, 24) {
+    if doing::is_among(kind, kinds::CROSS_ABOVE, kinds::BETWEEN) {
         let c = leaf_at(list, p + 2, rows, slots, held, first, newest);
         if c.told {
             let d = leaf_at(list, p + 3, rows, slots, held, first, newest);
@@ -263,9 +263,9 @@ pub(crate) fn run_tests(
         }
         let x = decode::step_at(list, p);
         let kind = x.kind;
-        if doing::is_among(kind, 32, 34) {
+        if doing::is_among(kind, decode::JUMP_AT_NO, decode::PAST_JUMPS) {
             visits += 1;
-            if answer == (kind == 33) {
+            if answer == (kind == decode::JUMP_AT_YES) {
                 p = doing::landing(p, x.skip, n);
             } else {
                 p += 1;
@@ -276,7 +276,7 @@ pub(crate) fn run_tests(
                 visits += t.steps;
                 answer = t.answer;
                 p += t.steps;
-            } else if doing::is_among(kind, 27, 32) {
+            } else if doing::is_among(kind, kinds::ALL, decode::JUMP_AT_NO) {
                 visits += 1;
                 answer = doing::said(x, s, answer);
                 p += 1;

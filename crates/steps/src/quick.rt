@@ -15,12 +15,18 @@ const NO_SKIP: u64 = 65536;
 // What a head's look-back is counted in.
 const LOOK_BACK: u64 = 4294967296;
 
-// The kinds of jumps, as a head has them.
-const FIRST_JUMP: u64 = 32;
+// The kinds, as a head has them.
+const CONST: u64 = kinds::CONST as u64;
 
-const LAST_JUMP: u64 = 33;
+const REF: u64 = kinds::REF as u64;
 
-// A constant, a price or a slot: a look-back within the window, no skip, and no selector or no constant where there is none.
+const PRICE: u64 = kinds::PRICE as u64;
+
+const JUMP_AT_NO: u64 = decode::JUMP_AT_NO as u64;
+
+const PAST_JUMPS: u64 = decode::PAST_JUMPS as u64;
+
+// A constant, a price, or a slot that the rows have: the look-back within the window, and what its kind does not use zero.
 pub(crate) fn leaf_yes(head: u64, bits: u64, slots: u64, depth: u64) -> bool
     ensures { λ r. ⌜ (r ≡ true → (after : ℕ) → goodStep slots depth after (ofWords head bits) ≡ true) ⌝ }
 {
@@ -28,7 +34,7 @@ pub(crate) fn leaf_yes(head: u64, bits: u64, slots: u64, depth: u64) -> bool
         return false;
     }
     let low = head % LOOK_BACK;
-    if low == kinds::CONST as u64 {
+    if low == CONST {
         return true;
     }
     if bits != 0 {
@@ -37,10 +43,10 @@ pub(crate) fn leaf_yes(head: u64, bits: u64, slots: u64, depth: u64) -> bool
     if NO_SKIP <= low {
         return false;
     }
-    if low % 256 == kinds::PRICE as u64 {
+    if low % 256 == PRICE {
         return true;
     }
-    if low % 256 == kinds::REF as u64 {
+    if low % 256 == REF {
         return low / 256 < slots;
     }
     false
@@ -64,10 +70,10 @@ pub(crate) fn jump_yes(head: u64, bits: u64, after: u64) -> bool
     if bits != 0 {
         return false;
     }
-    if head % NO_SKIP < FIRST_JUMP {
+    if head % NO_SKIP < JUMP_AT_NO {
         return false;
     }
-    if LAST_JUMP < head % NO_SKIP {
+    if PAST_JUMPS <= head % NO_SKIP {
         return false;
     }
     head / NO_SKIP <= after

@@ -10,7 +10,7 @@ ghost use Prim.Native.Nat.{_+_, _-_, _<_, _≤_};
 ghost use lib.ListN.{length};
 ghost use Rattle.steps.specs.Bytes.{readStep, stepsIn};
 ghost use Rattle.steps.specs.declared.wellformed.Formed.the-variants.{Bad};
-ghost use Rattle.steps.specs.WellFormed.{zeros, rowsFit, plain, seriesWithin, looksWithin, bounded, goodStep, formedFrom, formed};
+ghost use Rattle.steps.specs.WellFormed.{zeros, rowsFit, unusedFieldsZero, seriesWithin, looksWithin, bounded, goodStep, formedFrom, formed};
 
 // Whether a list of steps is well formed, and if not, its lowest bad step (0 for a bad length).
 pub enum Formed {
@@ -69,8 +69,8 @@ fn looks_within(slots: u64, depth: u64, over: Series, n: u64, back: u64) -> bool
 }
 
 // Whether the step is of a known kind and the fields that its kind does not use are zero.
-fn plain(x: Step, op: Op) -> bool
-    ensures { λ r. ⌜ r ≡ plain x op ⌝ }
+fn unused_fields_zero(x: Step, op: Op) -> bool
+    ensures { λ r. ⌜ r ≡ unusedFieldsZero x op ⌝ }
 {
     match op {
         Op::Const(_, _) => zeros(x.selector, x.skip, 0, 0),
@@ -117,7 +117,7 @@ fn good_step(slots: u64, depth: u64, after: u64, x: Step) -> bool
     ensures { λ r. ⌜ r ≡ goodStep slots depth after x ⌝ }
 {
     let op = decode::op_of(x);
-    if plain(x, op) {
+    if unused_fields_zero(x, op) {
         return bounded(slots, depth, after, op);
     }
     false

@@ -1,21 +1,46 @@
 // The lines of a chain, in words.
 use crate::names;
-use libc::STDOUT_FILENO;
+use crate::say::say;
+use crate::say::say_number;
+use crate::say::say_value;
 ghost use Prim.Native.Nat.{_≤_};
+
+// Where a line has its words.
+const NODE: usize = 0;
+
+const ANSWER: usize = 1;
+
+const SHOWS: usize = 2;
+
+const USED: usize = 3;
+
+const FIRST: usize = 4;
+
+const SECOND: usize = 5;
+
+const THIRD: usize = 6;
+
+const FOURTH: usize = 7;
+
+const LINE_WORDS: usize = 8;
+
+// What a line shows; 7 is no entry.
+const LINK: u64 = 0;
+
+const VALUES: u64 = 1;
+
+const MISSING: u64 = 2;
+
+const AT_FIRST_BAR: u64 = 3;
+
+const TOO_FEW_BARS: u64 = 4;
+
+const POSITION: u64 = 5;
+
+const SINCE_ENTRY: u64 = 6;
 
 // A refusal's number stands in the upper half of an answer, its place in the lower.
 const HALF: u64 = 4_294_967_296;
-
-// A value is shown with six places after the point.
-const PLACES: f64 = 1000000.0;
-
-pub(crate) fn say(text: &[u8]) {
-    io::write_all(STDOUT_FILENO, text);
-}
-
-pub(crate) fn say_number(n: u64) {
-    io::print_decimal(STDOUT_FILENO, n);
-}
 
 pub(crate) fn say_refused(answer: u64) {
     say(b"refused ");
@@ -23,37 +48,6 @@ pub(crate) fn say_refused(answer: u64) {
     say(b" at ");
     say_number(answer % HALF);
     say(b"\n");
-}
-
-// A number of millionths: the whole part and six digits.
-fn say_millionths(n: u64) {
-    say_number(n / 1_000_000);
-    say(b".");
-    say_number(n / 100_000 % 10);
-    say_number(n / 10_000 % 10);
-    say_number(n / 1_000 % 10);
-    say_number(n / 100 % 10);
-    say_number(n / 10 % 10);
-    say_number(n % 10);
-}
-
-// A value by its word: decimal where it is not too large for that, else its bits.
-fn say_value(word: u64) {
-    let x = floats::float_of(word);
-    let size = floats::abs(x);
-    if x != x {
-        say(b"NaN");
-        return;
-    }
-    if size < 1000000000000.0 {
-        if x < 0.0 {
-            say(b"-");
-        }
-        say_millionths(floats::floor(size * PLACES + 0.5));
-        return;
-    }
-    say(b"bits ");
-    io::print_hex(STDOUT_FILENO, word, 16);
 }
 
 // A value after the first, where it is used.
@@ -65,10 +59,10 @@ fn say_next(list: &[u64], at: usize, k: usize, used: bool) {
 }
 
 fn say_values(list: &[u64], at: usize, used: u64) {
-    say_value(words::word_from(list, at, 4));
-    say_next(list, at, 5, 1 < used);
-    say_next(list, at, 6, 2 < used);
-    say_next(list, at, 7, 3 < used);
+    say_value(words::word_from(list, at, FIRST));
+    say_next(list, at, SECOND, 1 < used);
+    say_next(list, at, THIRD, 2 < used);
+    say_next(list, at, FOURTH, 3 < used);
 }
 
 // How far back: this bar, or so many bars.
@@ -107,15 +101,15 @@ fn say_link(kind: u8, next: u64, last: bool) {
 }
 
 fn say_shown(t: &[u8], kind: u8, list: &[u64], at: usize, last: bool) {
-    let first = words::word_from(list, at, 4);
-    match words::word_from(list, at, 2) {
-        0 => say_link(kind, words::word_from(list, at, 8), last),
-        1 => say_values(list, at, words::word_from(list, at, 3)),
-        2 => say_missing(t, first, words::word_from(list, at, 5)),
-        3 => say(b"the first bar has none before it"),
-        4 => say(b"too few bars"),
-        5 => say(b"by the position"),
-        6 => {
+    let first = words::word_from(list, at, FIRST);
+    match words::word_from(list, at, SHOWS) {
+        LINK => say_link(kind, words::word_from(list, at, LINE_WORDS + NODE), last),
+        VALUES => say_values(list, at, words::word_from(list, at, USED)),
+        MISSING => say_missing(t, first, words::word_from(list, at, SECOND)),
+        AT_FIRST_BAR => say(b"the first bar has none before it"),
+        TOO_FEW_BARS => say(b"too few bars"),
+        POSITION => say(b"by the position"),
+        SINCE_ENTRY => {
             say_number(first);
             say(b" bars since the entry");
         }
@@ -125,13 +119,13 @@ fn say_shown(t: &[u8], kind: u8, list: &[u64], at: usize, last: bool) {
 
 // One line: its node, the node's kind, its answer and what it shows.
 fn say_line(t: &[u8], list: &[u64], at: usize, last: bool) {
-    let node = words::word_from(list, at, 0);
+    let node = words::word_from(list, at, NODE);
     let kind = names::kind_at(t, node);
     say(b"  node ");
     say_number(node);
     say(b"  ");
     names::say_kind(kind);
-    if words::word_from(list, at, 1) == 1 {
+    if words::word_from(list, at, ANSWER) == 1 {
         say(b"yes  ");
     } else {
         say(b"no   ");
@@ -145,7 +139,7 @@ fn say_lines(t: &[u8], list: &[u64], count: usize)
 {
     let mut i: usize = 0;
     while i < count {
-        say_line(t, list, 8 * i, i + 1 == count);
+        say_line(t, list, LINE_WORDS * i, i + 1 == count);
         i += 1;
     }
 }
@@ -157,7 +151,7 @@ pub(crate) fn say_chain(t: &[u8], tree: u64, list: &[u64], count: usize) {
         say(b" is absent\n");
         return;
     }
-    if words::word(list, 1) == 1 {
+    if words::word(list, ANSWER) == 1 {
         say(b" said yes\n");
     } else {
         say(b" said no\n");

@@ -3,6 +3,7 @@
 // begins 30 asks: tree, quantity, whether there is an entry bar, the entry bar, bars seen.
 mod lines;
 mod names;
+mod say;
 
 // The words of the longest line, the bytes of the largest table and a bit more, and the words of the rows.
 const LINE: usize = 8192;

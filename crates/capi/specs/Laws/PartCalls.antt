@@ -3,17 +3,17 @@
 use Rattle.words.specs.Prelude.{ℕ, _+_, _≤_, _≡_, refl, sym, ap, _∙_, true, List, [], _∷_, _++_, arith, length, take, drop, length-take}
 use Rattle.words.specs.{declared.refusal.Refusal.Refusal, Outcome.gives, Laws.Overwrite.overwrite-fits}
 use Rattle.records.specs.{declared.settings.Settings.Settings, declared.state.State.State, Settings.settingsOf, StateWords.stateOf}
-use Rattle.refusals.specs.{declared.verdict.Verdict.Verdict, declared.verdict.Verdict.the-variants.Fine, declared.verdict.Verdict.the-variants.Bad, Lines.judged}
-use Rattle.refusals.specs.{Rooms.roomLines, Rooms.stateLines, Settings.sizingLines, Settings.slippageLines, Settings.riskLines, Settings.termLines}
-use Rattle.refusals.specs.{Settings.entryLines, Settings.settingLines, Laws.Lines.both-fine}
+use Rattle.refusals.specs.{declared.verdict.Verdict.Verdict, declared.verdict.Verdict.the-variants.Fine, declared.verdict.Verdict.the-variants.Bad}
+use Rattle.refusals.specs.{Lines.judged, Rooms.roomLines, Rooms.stateLines, Settings.sizingLines, Settings.slippageLines, Settings.riskLines}
+use Rattle.refusals.specs.{Settings.termLines, Settings.entryLines, Settings.settingLines, Laws.Lines.both-fine}
 use Rattle.images.specs.{Layout.dumpBytes, Layout.sizeFor, Layout.imageOf}
 use Rattle.dump.specs.{Order.written, Refused.areaLines, Refused.dumpStateLines, Refused.dumpLines, Refused.dumpJudged, Parts.bytesFrom, Parts.partLines}
 use Rattle.dump.specs.{Parts.partJudged, Laws.Fine.dump-fine, Laws.PartFine.fine-part, Laws.Parts.inParts, Laws.Parts.total, Laws.Parts.parts-are-whole}
 use Rattle.dump.specs.{Laws.Parts.size-of, Laws.Parts.whole-written}
 use Rattle.capi.specs.{Call.Call, Call.callOf, Call.unlessBad, Bars.lentLines, Power.dumpGives, Power.dumpCall, Part.PartLent, Part.partGives}
-use Rattle.capi.specs.{Part.filledWith, Part.partCall, Laws.Calls.Small, Laws.Calls.Numbered, Laws.Calls.Honest, Laws.Calls.honest, Laws.Calls.never-refuses}
-use Rattle.capi.specs.{Laws.Calls.one-refusal, Laws.Calls.after-verdict, Laws.DumpCalls.onPaper, Laws.DumpCalls.paper-small, Laws.DumpCalls.lent-small}
-use Rattle.capi.specs.{Laws.DumpCalls.dump-bytes, Laws.DumpCalls.dump-honest}
+use Rattle.capi.specs.{Part.filledWith, Part.partCall, Laws.Calls.FitsAnswer, Laws.Calls.Numbered, Laws.Calls.Honest, Laws.Calls.honest}
+use Rattle.capi.specs.{Laws.Calls.never-refuses, Laws.Calls.one-refusal, Laws.Calls.after-verdict, Laws.DumpCalls.onPaper, Laws.DumpCalls.paper-small}
+use Rattle.capi.specs.{Laws.DumpCalls.lent-small, Laws.DumpCalls.dump-bytes, Laws.DumpCalls.dump-honest}
 use lib.Seq.{take-append-seam}
 
 -- ---- honest
@@ -22,7 +22,7 @@ part-on-paper : (s : Settings) (t : State) (rows : List ℕ) → onPaper (partLi
 unfolding onPaper partLines roomLines settingLines termLines entryLines sizingLines slippageLines riskLines dumpStateLines stateLines
 part-on-paper s t rows = refl
 
-part-by : (v : Verdict) (after : PartLent) → ((r : Refusal) → v ≡ Bad r → Small r) → Numbered (partGives v after)
+part-by : (v : Verdict) (after : PartLent) → ((r : Refusal) → v ≡ Bad r → FitsAnswer r) → Numbered (partGives v after)
 unfolding partGives
 part-by Fine after s = never-refuses after
 part-by (Bad why) after s = one-refusal why (s why refl)

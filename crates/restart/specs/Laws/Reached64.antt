@@ -1,19 +1,20 @@
 -- After any bars from a fresh state, the numbers of a state and the words of its window are such as the code's types hold, where those of the settings
 -- and of the bars are.
-use Rattle.words.specs.Prelude.{ℕ, zero, suc, _-_, _*_, _/_, _%_, _^_, _≤_, _<_, _≡_, refl, ap, _∙_, Bool, true, false, cond, List, [], _∷_, _++_, zero-mul, arith}
-use Rattle.words.specs.Prelude.{leb-true, ltb-true, leb, ltb, eqb, length, getD, List·getD-eq-default, getD-drop}
+use Rattle.words.specs.Prelude.{ℕ, zero, suc, _-_, _*_, _/_, _%_, _^_, _≤_, _<_, _≡_, refl, ap, _∙_, Bool, true, false, cond, List, [], _∷_, _++_, zero-mul}
+use Rattle.words.specs.Prelude.{arith, leb-true, ltb-true, leb, ltb, eqb, length, getD, List·getD-eq-default, getD-drop}
 use Rattle.words.specs.{Limits.rowWords, Limits.mostRows}
 use Rattle.rows.specs.{History.lastRows}
 use Rattle.rules.specs.{declared.position.Entered.Entered, declared.position.Entered.the-variants.Never, declared.position.Entered.the-variants.Bar}
 use Rattle.portfolio.specs.{Portfolio.fresh}
-use Rattle.records.specs.{declared.settings.Settings.Settings, declared.state.State.State, Bar.candleOf, Lent.Lists, Lent.Rooms, Lent.rowPlaces, State.freshState}
-use Rattle.records.specs.{StateWords.orderDelay, StateWords.entryBar, Laws.RoundTrip.Floats64}
-use Rattle.refusals.specs.{declared.verdict.Verdict.Verdict, declared.verdict.Verdict.the-variants.Fine, declared.verdict.Verdict.the-variants.Bad, Lines.judged}
-use Rattle.refusals.specs.{Rooms.entryBelow, Settings.settingLines, Laws.Fine.settings-fine, Laws.Fine.step-fine, Laws.Lines.and-true, Laws.Lines.first-holds}
+use Rattle.records.specs.{declared.settings.Settings.Settings, declared.state.State.State, Bar.candleOf, Lent.Lists, Lent.Rooms, Lent.rowPlaces}
+use Rattle.records.specs.{State.freshState, StateWords.orderDelay, StateWords.entryBar, Laws.RoundTrip.Floats64}
+use Rattle.refusals.specs.{declared.verdict.Verdict.Verdict, declared.verdict.Verdict.the-variants.Fine, declared.verdict.Verdict.the-variants.Bad}
+use Rattle.refusals.specs.{Lines.judged, Rooms.entryBelow, Settings.settingLines, Laws.Fine.settings-fine, Laws.Lines.and-true}
+use Rattle.refusals.specs.{Laws.Lines.first-holds}
 use Rattle.runs.specs.{Laws.Floats.step-floats}
 use Rattle.engine.specs.{Laws.Runs.run-none, Laws.Runs.run-stops, Laws.Runs.run-takes, Record.rowWord, Record.listed, Record.rowOf, Run.Run, Run.runOver}
 use Rattle.engine.specs.{Step.stepped, Step.stepVerdict}
-use Rattle.restart.specs.{Accepted.Passed, Accepted.fresh-passed, Accepted.step-passed, Accepted.window-moved, Accepted.step-judged, Restart.Kept}
+use Rattle.restart.specs.{Boxes.Passed, Boxes.Storable, Accepted.fresh-passed, Accepted.step-passed, Accepted.window-moved}
 use Rattle.restart.specs.{Window.window-whole, Laws.Times.Word64, Laws.Times.step-timed, Laws.Times.step-delayed}
 use Rattle.images.specs.{Layout.windowOf}
 
@@ -55,70 +56,7 @@ row-words K bar h =
     listed-words (rowWords K) (rowWord bar)
     (λ j. word-either (ltb j 7) (getD bar j 0) _ (h j) (word-either (eqb (getD bar 6 0 / 2 ^ (j - 7) % 2) 1) (getD bar j 0) 0 (h j) (omega arith)))
 
--- ---- a box
-
-record Held64 (s : Settings) (t : State) (m : Rooms) : Type 0 where
-  passed : Passed s t m
-  seen : t .counts .«bars_seen» < 4294967296
-  delay : Word64 (orderDelay (t .order))
-  entryTime : Word64 (t .position .portfolio .«entry_time»)
-  lastTime : Word64 (t .last .time)
-  floats : Floats64 t
-  words : Words64 (windowOf s t (m .rows))
-
-module _ (s : Settings) (ls : Lists) (delay : Word64 (s .delay)) where
-  step-held : (t : State) (m : Rooms) (bar : List ℕ) → stepVerdict s t bar m ls ≡ Fine → Words64 bar → Held64 s t m
-      → Held64 s (stepped s t bar m ls .result) (stepped s t bar m ls .rooms)
-  unfolding stepped candleOf
-  step-held t m bar fine w h =
-      let known = step-fine s t bar m ls (step-judged s ls t m bar fine) in
-      let W = windowOf s t (m .rows) in
-      record {
-        passed = step-passed s ls t m bar fine (h .passed);
-        seen = omega (arith, known .bars);
-        delay = step-delayed s t bar m ls delay (h .delay);
-        entryTime = step-timed s t bar m ls (w 0) (h .entryTime);
-        lastTime = w 0;
-        floats = step-floats s t bar m ls (h .floats);
-        words = rw (window-moved s ls t m bar fine (h .passed .sound))
-            (last-words (s .slots) (s .depth) (W ++ rowOf (s .slots) bar) (append-words W (rowOf (s .slots) bar) (h .words) (row-words (s .slots) bar w)));
-      }
-
-  run-held : (bars : List (List ℕ)) (t : State) (m : Rooms) → Bars64 bars → Held64 s t m
-      → Held64 s (runOver s ls t m bars .state) (runOver s ls t m bars .rooms)
-  unfolding Bars64
-  run-held [] t m f h = rw run-none h
-  run-held (bar ∷ bars) t m f h =
-      go (stepVerdict s t bar m ls) refl
-      (λ e. run-held bars (stepped s t bar m ls .result) (stepped s t bar m ls .rooms) (f .1) (step-held t m bar e (f .0) h))
-    where
-      later : Run
-      later = runOver s ls (stepped s t bar m ls .result) (stepped s t bar m ls .rooms) bars
-
-      go : (v : Verdict) → stepVerdict s t bar m ls ≡ v → (stepVerdict s t bar m ls ≡ Fine → Held64 s (later .state) (later .rooms))
-          → Held64 s (runOver s ls t m (bar ∷ bars) .state) (runOver s ls t m (bar ∷ bars) .rooms)
-      go (Bad why) e goes = rw (run-stops s ls t m bar bars why e) h
-      go Fine e goes = rw (run-takes s ls t m bar bars e) (goes e)
-
-fresh-held : (s : Settings) (m : Rooms) → s .depth ≤ rowPlaces (s .slots) (m .rows) → Floats64 (freshState s) → Held64 s (freshState s) m
-unfolding freshState fresh orderDelay
-fresh-held s m deep floats =
-    let passed = fresh-passed s m deep in
-    let whole = window-whole s (freshState s) (m .rows) (passed .sound .within .rows) in
-    let W = windowOf s (freshState s) (m .rows) in
-    let none : length W / rowWords (s .slots) ≡ 0 = omega (arith, whole .held) in
-    let empty : length W ≡ 0 = whole .words ∙ ap (λ (n : ℕ). n * rowWords (s .slots)) none ∙ zero-mul (rowWords (s .slots)) in
-    record {
-      passed = passed;
-      seen = omega arith;
-      delay = omega arith;
-      entryTime = omega arith;
-      lastTime = omega arith;
-      floats = floats;
-      words = λ i. omega (arith, List·getD-eq-default W 0 {n = i} (omega (arith, empty)));
-    }
-
--- ---- what its image needs
+-- ---- what an image needs of its numbers
 
 entry-small : (e : Entered) (n : ℕ) → entryBelow e n ≡ true → n < 4294967296 → entryBar e < 4294967296
 unfolding entryBar
@@ -131,25 +69,75 @@ depth-fine s h =
     let depth = first-holds _ _ (first-holds _ _ h .1) .0 in
     leb-true _ _ (and-true (leb 1 (s .depth)) (leb (s .depth) mostRows) (and-true _ _ depth .0) .1)
 
--- ANY BARS FROM A FRESH STATE leave a box that has all that its image needs (`Kept`): settings that 12 lets pass, whose capital is an f64 and whose delay a
--- 64-bit word, and bars of 64-bit words are all that is asked.
-pub reached-kept : (s : Settings) (ls : Lists) (m : Rooms) (bars : List (List ℕ)) → s .depth ≤ rowPlaces (s .slots) (m .rows)
-    → judged (settingLines s) ≡ Fine → Floats64 (freshState s) → Word64 (s .delay) → Bars64 bars
-    → let b = runOver s ls (freshState s) m bars in
-    Kept s (b .state) (b .rooms)
-reached-kept s ls m bars deep twelve floats delay words =
-    let b : Run = runOver s ls (freshState s) m bars in
-    let h : Held64 s (b .state) (b .rooms) = run-held s ls delay bars (freshState s) m words (fresh-held s m deep floats) in
+-- ---- a box
+
+module _ (s : Settings) (ls : Lists) (delay : Word64 (s .delay)) where
+  step-storable : (t : State) (m : Rooms) (bar : List ℕ) → stepVerdict s t bar m ls ≡ Fine → Words64 bar → Passed s t m → Storable s t m
+      → Storable s (stepped s t bar m ls .result) (stepped s t bar m ls .rooms)
+  unfolding stepped candleOf
+  step-storable t m bar fine w p k =
+      let W = windowOf s t (m .rows) in
+      let next = step-passed s ls t m bar fine p in
+      let seen : stepped s t bar m ls .result .counts .«bars_seen» < 4294967296 = omega (arith, next .seen) in
+      record {
+        slots = k .slots;
+        depth = k .depth;
+        small = record {
+          seen = seen;
+          entry = entry-small (stepped s t bar m ls .result .position .entered) (stepped s t bar m ls .result .counts .«bars_seen») (next .entry) seen;
+          delay = step-delayed s t bar m ls delay (k .small .delay);
+          entryTime = step-timed s t bar m ls (w 0) (k .small .entryTime);
+          lastTime = w 0;
+          floats = step-floats s t bar m ls (k .small .floats);
+        };
+        words = rw (window-moved s ls t m bar fine (p .sound))
+            (last-words (s .slots) (s .depth) (W ++ rowOf (s .slots) bar) (append-words W (rowOf (s .slots) bar) (k .words) (row-words (s .slots) bar w)));
+      }
+
+  run-storable : (bars : List (List ℕ)) (t : State) (m : Rooms) → Bars64 bars → Passed s t m → Storable s t m
+      → Storable s (runOver s ls t m bars .state) (runOver s ls t m bars .rooms)
+  unfolding Bars64
+  run-storable [] t m f p k = rw run-none k
+  run-storable (bar ∷ bars) t m f p k =
+      go (stepVerdict s t bar m ls) refl
+      (λ e.
+      run-storable bars (stepped s t bar m ls .result) (stepped s t bar m ls .rooms) (f .1) (step-passed s ls t m bar e p) (step-storable t m bar e (f .0) p k))
+    where
+      later : Run
+      later = runOver s ls (stepped s t bar m ls .result) (stepped s t bar m ls .rooms) bars
+
+      go : (v : Verdict) → stepVerdict s t bar m ls ≡ v → (stepVerdict s t bar m ls ≡ Fine → Storable s (later .state) (later .rooms))
+          → Storable s (runOver s ls t m (bar ∷ bars) .state) (runOver s ls t m (bar ∷ bars) .rooms)
+      go (Bad why) e goes = rw (run-stops s ls t m bar bars why e) k
+      go Fine e goes = rw (run-takes s ls t m bar bars e) (goes e)
+
+fresh-storable : (s : Settings) (m : Rooms) → Passed s (freshState s) m → judged (settingLines s) ≡ Fine → Floats64 (freshState s) → Storable s (freshState s) m
+unfolding freshState fresh orderDelay entryBar
+fresh-storable s m passed twelve floats =
+    let whole = window-whole s (freshState s) (m .rows) (passed .sound .within .rows) in
+    let W = windowOf s (freshState s) (m .rows) in
+    let none : length W / rowWords (s .slots) ≡ 0 = omega (arith, whole .held) in
+    let empty : length W ≡ 0 = whole .words ∙ ap (λ (n : ℕ). n * rowWords (s .slots)) none ∙ zero-mul (rowWords (s .slots)) in
     record {
       slots = settings-fine s twelve .slots;
       depth = depth-fine s twelve;
       small = record {
-        seen = h .seen;
-        entry = entry-small (b .state .position .entered) (b .state .counts .«bars_seen») (h .passed .entry) (h .seen);
-        delay = h .delay;
-        entryTime = h .entryTime;
-        lastTime = h .lastTime;
-        floats = h .floats;
+        seen = omega arith;
+        entry = omega arith;
+        delay = omega arith;
+        entryTime = omega arith;
+        lastTime = omega arith;
+        floats = floats;
       };
-      words = h .words;
+      words = λ i. omega (arith, List·getD-eq-default W 0 {n = i} (omega (arith, empty)));
     }
+
+-- ANY BARS FROM A FRESH STATE leave a box that has all that its image needs (`Storable`): settings that 12 lets pass, whose capital is an f64 and whose delay a
+-- 64-bit word, and bars of 64-bit words are all that is asked.
+pub reached-storable : (s : Settings) (ls : Lists) (m : Rooms) (bars : List (List ℕ)) → s .depth ≤ rowPlaces (s .slots) (m .rows)
+    → judged (settingLines s) ≡ Fine → Floats64 (freshState s) → Word64 (s .delay) → Bars64 bars
+    → let b = runOver s ls (freshState s) m bars in
+    Storable s (b .state) (b .rooms)
+reached-storable s ls m bars deep twelve floats delay words =
+    let passed = fresh-passed s m deep in
+    run-storable s ls delay bars (freshState s) m words passed (fresh-storable s m passed twelve floats)

@@ -10,7 +10,7 @@ use Rattle.refusals.specs.{declared.verdict.Verdict.the-variants.Fine, Bar.bitF
 use Rattle.refusals.specs.{Lines.judged, Laws.Lines.and-true, Laws.Lines.first-holds}
 use Rattle.engine.specs.{Record.rowWord, Record.listed, Record.rowOf, Laws.Lengths.row-long}
 use Rattle.images.specs.{Refused.usedOrZero, Refused.absentZero, Refused.rowFine}
-use Rattle.restart.specs.{Window.listed-at}
+use Rattle.restart.specs.{Boxes.rowAt, Boxes.RowsPass, Window.listed-at}
 
 -- ---- each number below n
 
@@ -94,14 +94,6 @@ module _ (K : ℕ) (bar : List ℕ) where
       rw (same-candle ∙ looked .0, slots-pass (looked .1), no-funding, absent-pass)
 
 -- ---- the rows of a window
-
--- row i of rows that stand one after another
-abbrev pub rowAt : ℕ → List ℕ → ℕ → List ℕ
-rowAt K ws i = listed (rowWords K) (λ j. getD ws (i * rowWords K + j) 0)
-
--- "a row 11 would refuse": none of these is one
-unfoldable pub RowsPass : ℕ → List ℕ → Type 0
-RowsPass K ws = (i : ℕ) → i < length ws / rowWords K → rowFine K (rowAt K ws i) ≡ true
 
 pub listed-same : (n : ℕ) (f g : ℕ → ℕ) → ((j : ℕ) → j < n → f j ≡ g j) → listed n f ≡ listed n g
 unfolding listed

@@ -5,7 +5,7 @@ use Rattle.refusals.specs.{declared.verdict.Verdict.Verdict, declared.verdict.V
 use Rattle.refusals.specs.{Laws.Lines.never}
 use Rattle.engine.specs.{Boxes.Sound, Boxes.SameCounts, Boxes.NotFull, Boxes.Alike, Laws.Runs.run-none, Laws.Runs.run-stops, Laws.Runs.run-takes}
 use Rattle.engine.specs.{Laws.Runs.run-keeps, Run.Run, Run.runOver, Step.With, Step.stepped, Step.stepVerdict}
-use Rattle.runs.specs.{Laws.Alike.step-alike, Laws.Alike.step-counts, Laws.Alike.step-sound, Laws.Counts.fresh-within, Laws.Verdicts.roomy}
+use Rattle.runs.specs.{Laws.Alike.step-alike, Laws.Alike.step-counts, Laws.Alike.step-sound, Laws.Counts.fresh-within}
 use Rattle.runs.specs.{Laws.Verdicts.same-verdict, Laws.Verdicts.same-unless-full}
 
 -- ---- a box that is sound stays so
@@ -67,7 +67,7 @@ pub same-counts-run : (s : Settings) (ls : Lists) (bars : List (List ℕ)) (t : 
     (r .done ≡ r′ .done) × (r .verdict ≡ r′ .verdict)
 same-counts-run s ls bars t m t′ m′ alike sound sound′ counts =
     two-runs s ls (λ v. Unit {0}) tt (λ t m t′ m′. Sound s t m × Sound s t′ m′ × SameCounts t m t′ m′)
-    (λ t m t′ m′ bar a q f f′. same-verdict s t t′ m m′ (roomy (q .0)) (roomy (q .1)) a (q .2) bar ls)
+    (λ t m t′ m′ bar a q f f′. same-verdict s t t′ m m′ (q .0) (q .1) a (q .2) bar ls)
     (λ t m t′ m′ bar a h h′ q. (
       step-sound s t bar m ls (q .0),
       step-sound s t′ bar m′ ls (q .1),

@@ -2,20 +2,17 @@
 use Rattle.words.specs.Prelude.{ℕ, _≤_, _<_, _≡_, refl, sym, _∙_, Bool, true, false, cond, _&&_, List, [], _∷_, _++_, arith, leb-true, le-leb, ltb, leb, eqb}
 use Rattle.words.specs.Prelude.{length}
 use Rattle.words.specs.{Limits.barWords, Limits.mostCount, declared.refusal.Refusal.Refusal, Outcome.refusal}
-use Rattle.records.specs.{declared.settings.Settings.Settings, declared.state.Counts.Counts, declared.state.State.State, Lent.Lists, Lent.Rooms, Lent.pointPlaces}
-use Rattle.records.specs.{Lent.tradePlaces}
+use Rattle.records.specs.{declared.settings.Settings.Settings, declared.state.Counts.Counts, declared.state.State.State, Lent.Lists, Lent.Rooms}
+use Rattle.records.specs.{Lent.pointPlaces, Lent.tradePlaces}
 use Rattle.refusals.specs.{declared.verdict.Verdict.Verdict, declared.verdict.Verdict.the-variants.Fine, declared.verdict.Verdict.the-variants.Bad}
 use Rattle.refusals.specs.{Judgement.runLines, Judgement.stepLines, Judgement.stepJudged, Judgement.finishLines, Judgement.finishJudged, Laws.Lines.never}
 use Rattle.refusals.specs.{Laws.Lines.below-fine, Laws.Lines.below-bad, Lines.Line, Lines.line, Lines.judged, Bar.barLines, Lists.listLines, Settings.lookback}
 use Rattle.refusals.specs.{Rooms.entryBelow, Rooms.roomLines, Rooms.stateLines, Rooms.placeLines, Rooms.toClose, Rooms.closeLines}
-use Rattle.engine.specs.{Boxes.WithinRooms, Boxes.Roomy, Boxes.Sound, Boxes.SameCounts, Boxes.Alike, Boxes.NotFull, Laws.Verdict.handed-bad}
+use Rattle.engine.specs.{Boxes.WithinRooms, Boxes.Sound, Boxes.SameCounts, Boxes.Alike, Boxes.NotFull, Laws.Verdict.handed-bad}
 use Rattle.engine.specs.{Laws.Verdict.verdicts-alike, Step.sizeLines, Step.stepVerdict, Whole.accountOf, Whole.rowsHeld}
 use Rattle.runs.specs.{Laws.AccountStep.same-parts, Laws.AccountStep.fill-alike}
 
-pub roomy : {s : Settings} {t : State} {m : Rooms} → Sound s t m → Roomy s t m
-roomy r = record { depth = r .depth; rows = r .within .rows; rowsSeen = r .within .rowsSeen }
-
--- ---- the lines of a roomy box: none looks at its rows
+-- ---- the lines of a box with room for D rows: none looks at its rows
 
 -- a test that holds where the one before it does
 passing : (a b : Bool) → (a ≡ true → b ≡ true) → (a && b) ≡ a
@@ -34,18 +31,18 @@ module _ (s : Settings) (t : State) (m : Rooms) where
   abbrev booksHeld : Bool
   booksHeld = leb (t .counts .«equity_points») (pointPlaces (m .equity)) && leb (t .counts .trades) (tradePlaces (m .trades))
 
-  room-lines : Roomy s t m → roomLines s (m .rows) ≡ line true 10 0 ∷ []
+  room-lines : Sound s t m → roomLines s (m .rows) ≡ line true 10 0 ∷ []
   unfolding roomLines
   room-lines r = rw (le-leb _ _ (r .depth))
 
-  state-lines : Roomy s t m
+  state-lines : Sound s t m
       → stateLines s t m ≡ line booksFine 13 0 ∷ line booksHeld 13 0 ∷ line (entryBelow (t .position .entered) (t .counts .«bars_seen»)) 13 0 ∷ []
   unfolding stateLines
-  state-lines r = rw (count-below (t .counts .«bars_seen») (t .counts .«rows_held») (r .rowsSeen), le-leb _ _ (r .rows))
+  state-lines r = rw (count-below (t .counts .«bars_seen») (t .counts .«rows_held») (r .within .rowsSeen), le-leb _ _ (r .within .rows))
 
 -- ---- the same books, as far as their counts and places go
 
-module _ (s : Settings) (t t′ : State) (m m′ : Rooms) (r : Roomy s t m) (r′ : Roomy s t′ m′) (same : accountOf t ≡ accountOf t′)
+module _ (s : Settings) (t t′ : State) (m m′ : Rooms) (r : Sound s t m) (r′ : Sound s t′ m′) (same : accountOf t ≡ accountOf t′)
     (c : SameCounts t m t′ m′) where
   same-handed : (bar : List ℕ) (ls : Lists) → stepJudged s t bar m ls ≡ stepJudged s t′ bar m′ ls
   unfolding stepJudged stepLines runLines placeLines
@@ -71,7 +68,7 @@ same-sizes s t t′ m m′ a bar deep =
     rw (fill-alike s (accountOf t) (rowsHeld s t m) bar (rowsHeld s t′ m′) deep (a .window)) (rw (p .seen, p .order, p .position))
 
 -- THE SAME VERDICT, number and place, on a bar: also of 16, which reads the rows
-pub same-verdict : (s : Settings) (t t′ : State) (m m′ : Rooms) → Roomy s t m → Roomy s t′ m′ → Alike s t m t′ m′ → SameCounts t m t′ m′
+pub same-verdict : (s : Settings) (t t′ : State) (m m′ : Rooms) → Sound s t m → Sound s t′ m′ → Alike s t m t′ m′ → SameCounts t m t′ m′
     → (bar : List ℕ) (ls : Lists) → stepVerdict s t bar m ls ≡ stepVerdict s t′ bar m′ ls
 same-verdict s t t′ m m′ r r′ a c bar ls =
     verdicts-alike s t t′ bar m m′ ls (same-handed s t t′ m m′ r r′ (a .account) c bar ls) (λ f. same-sizes s t t′ m m′ a bar (f .settings .behind))
@@ -134,7 +131,7 @@ handed-unless-full s t t′ m m′ r r′ same bar ls f f′ =
     let b = books-within s t m (r .within) in
     let b′ = books-within s t′ m′ (r′ .within) in
     let e : stepLines s t bar m ls ≡ start ++ (whole ∷ (p ++ rest)) =
-    rw (room-lines s t m (roomy r), room-lines s t′ m′ (roomy r′), state-lines s t m (roomy r), state-lines s t′ m′ (roomy r′), b .0, b .1, b′ .0, b′ .1)
+    rw (room-lines s t m r, room-lines s t′ m′ r′, state-lines s t m r, state-lines s t′ m′ r′, b .0, b .1, b′ .0, b′ .1)
     (rw (parts .seen, parts .position)) in
     rw e (above start (whole ∷ (p ++ rest)) (whole ∷ (p′ ++ rest))
     (above (whole ∷ []) (p ++ rest) (p′ ++ rest)

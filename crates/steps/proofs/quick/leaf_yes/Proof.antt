@@ -1,19 +1,18 @@
 -- Each yes is one law of the words, and a no is not asked for anything.
-use Rattle.words.specs.Prelude.{needs, ltb-true, arith, _/_, _%_}
+use Rattle.words.specs.Prelude.{ltb-true, arith, _/_, _%_}
 use Rattle.steps.proofs.{Heads.constant-told, Heads.price-told, Heads.slot-told, quick.leaf_yes.Statement.statement}
 use Rattle.steps.proofs.quick.leaf_yes.Tie as tie
 
 pub leaf-yes-spec : {M : Type 1} → statement M
 leaf-yes-spec =
-    tie.close (tie.spec (λ c e after. cc) (λ c. search needs)
+    tie.close (tie.spec (λ c e after. cc)
     (λ c e after. constant-told _ _ after _ _ (c .if2 .taken) (c .before .if1 .left))
-    (λ c e after. cc) (λ c e after. cc) (λ c. search needs)
+    (λ c e after. cc) (λ c e after. cc)
     (λ c e after.
     let low = c .before in
     let bits = low .before in
     rw (bits .if3 .left)
     (price-told _ _ after _ (omega (arith, c .if5 .taken)) (omega (arith, low .if4 .left)) (bits .before .before .if1 .left)))
-    (λ c. search needs)
     (λ c e after.
     let low = c .before .before in
     let bits = low .before in
