@@ -1,7 +1,10 @@
 // The phases of a bar.
+ghost use mathlib.Core.Path.{_≡_};
+ghost use Rattle.words.specs.Outcome.{refusal};
 ghost use Rattle.records.specs.Lent.{rooms, lists};
 ghost use Rattle.rows.specs.History.{width};
 ghost use Rattle.rows.specs.Ring.{turned};
+ghost use Rattle.engine.specs.declared.answer.Answer.the-variants.{Refused};
 ghost use Rattle.engine.specs.InPlace.{ReadyAt, Turns};
 ghost use Rattle.engine.specs.Step.{advanced};
 use crate::account;
@@ -9,15 +12,51 @@ use crate::answer::Advanced;
 use crate::answer::Answer;
 use crate::decide;
 use crate::record;
+use portfolio::Candle;
 use records::settings::Settings;
 use records::state::Counts;
 use records::state::Last;
+use records::state::Order;
+use records::state::Position;
 use records::state::State;
 use rows::ring::Ring;
 use words::refusal::Refusal;
 
-// The phases in order, for a bar of a call that was handed what it can use. The rows held begin at row `start` of their room. The place of the
-// bar's row and the fill, over the rows before it, are known before anything is written: a fill that is turned away is refused with 16.
+// 16: an entry that is due cannot be sized. The state is the one that was given, and no row moves.
+fn not_sized(t: State, start: usize) -> Advanced
+    ensures { λ r. ⌜ r ≡ record { answer = Refused (refusal 16 (t .counts .«bars_seen»)) t; start = start } ⌝ }
+{
+    let n = t.counts;
+    let sixteen = Refusal {
+        number: 16,
+        place: n.bars_seen,
+    };
+    Advanced {
+        answer: Answer::Refused(sixteen, t),
+        start,
+    }
+}
+
+// The state after a bar: the bar's time and close are the last.
+fn after_bar(counts: Counts, order: Order, position: Position, candle: Candle) -> State
+    ensures { λ r. ⌜ r ≡ record { counts = counts; order = order; position = position; last = record { time = candle .time; close = candle .close } } ⌝ }
+{
+    let last = Last {
+        time: candle.time,
+        close: candle.close,
+    };
+    State {
+        counts,
+        order,
+        position,
+        last,
+    }
+}
+
+// The phases in the paper's order, for a bar of a call that was handed what it can use: the working order is filled, the row recorded, the exits
+// inside the bar taken, funding charged, the equity marked, and the next action decided. The order is the argument: each phase reads what those
+// before it left, and nothing is written before the fill is known, so that one that is turned away (16) changes nothing. The rows held begin
+// at row `start` of their room.
 pub(crate) fn advance<'a>(
     one: bool,
     s: Settings,
@@ -51,16 +90,7 @@ pub(crate) fn advance<'a>(
     let after = place.ring;
     let filled = account::fill_working_order(s, order, position, candle, rows, before, number);
     if filled.turned_away {
-        return Advanced {
-            answer: Answer::Refused(
-                Refusal {
-                    number: 16,
-                    place: number,
-                },
-                t,
-            ),
-            start,
-        };
+        return not_sized(t, start);
     }
     let working = filled.order;
     let opened = filled.position;
@@ -86,22 +116,14 @@ pub(crate) fn advance<'a>(
         short_entry,
         short_exit,
     );
-    let seen = number + 1;
+    let counts = Counts {
+        bars_seen: number + 1,
+        rows_held: after.held,
+        equity_points: points,
+        trades: closed,
+    };
     Advanced {
-        answer: Answer::Done(State {
-            counts: Counts {
-                bars_seen: seen,
-                rows_held: after.held,
-                equity_points: points,
-                trades: closed,
-            },
-            order: next,
-            position: charged,
-            last: Last {
-                time: candle.time,
-                close: candle.close,
-            },
-        }),
+        answer: Answer::Done(after_bar(counts, next, charged, candle)),
         start: after.start,
     }
 }

@@ -24,7 +24,7 @@ decide-next-action-requires c κs =
     let ends = held-ends (row .record-bar .last .0) (place .place-for .result .ring) (width (a .s .slots)) (omega arith) (kept .ring) in
     (start .pre .ready .slots, start .pre .ready .bars, ends)
 
-add-seen : tie.Need-add-seen
+add-seen : tie.Need-add-t50
 add-seen c =
     let stop = c .before .before .before .before .before .before .before .before .before in
     let sell = stop .before .before .before .before .before .before .before .before .before .before in
@@ -32,30 +32,36 @@ add-seen c =
     let start = place .before .before .before .before .before .before .before .before .before .before .before .before .before in
     omega (arith, start .pre .ready .bars)
 
+same-length-2 : tie.Need-same-length-2
+same-length-2 c =
+    let stop = c .before .before .before .before .before .before .before .before .before .before in
+    stop .before .before .before .before .before .before .record-bar .kept .0
+
 same-length-4 : tie.Need-same-length-4
 same-length-4 c =
-    let stop = c .before .before .before .before .before .before .before .before .before in
+    let stop = c .before .before .before .before .before .before .before .before .before .before in
     let sell = stop .before .before .before .before .before .before .before .before .before .before in
     stop .book2 .kept .0 ∙ sell .book .kept .0
 
 -- the fill is turned away
 returns : tie.Need-returns
 returns c =
-    let fill = c .before in
+    let fill = c .before .before in
     let candle = fill .before .before .before .before .before in
     let start = candle .before .before .before .before .before .before .before .before .before .before .before in
     let a = start .args in
     let same = fill-in-place (a .s) (a .rows .now) _ (start .pre .at .ring) (a .t .order) (a .t .position) _ (a .t .counts .«bars_seen») in
-    record {
+    rw (c .not-sized .ensures) (record {
       answer = away (a .s) (a .t) (a .bar .now) (rooms (turned (width (a .s .slots)) (a .start) (a .rows .now)) (a .equity .now) (a .trades .now))
           (lists (a .entry .now) (a .exit .now) (a .«short-entry» .now) (a .«short-exit» .now))
-          (candle .candle-of .ensures) (fill .fill-working-order .ensures ∙ same) (c .if1 .taken);
+          (candle .candle-of .ensures) (fill .fill-working-order .ensures ∙ same) (c .before .if1 .taken);
       at = start .pre .at;
-    }
+    })
 
 returns-2 : tie.Need-returns-2
 returns-2 c =
-    let mark = c .before .before .before .before in
+    let decide = c .before in
+    let mark = decide .before .before .before .before in
     let fund = mark .before .before in
     let stop = fund .before .before .before in
     let left = stop .before .before .before in
@@ -72,7 +78,7 @@ returns-2 c =
     let kept = placed (a .one) (a .s .slots) (a .rows .now) _ (a .bar .now) (start .pre .at .ring) (start .pre .at .first)
     (place .place-for .ensures) (row .record-bar .ensures) in
     let decides = decide-in-place (a .s) _ _ (kept .ring) ls (start .pre .lists) _ _ _ _ in
-    record {
+    rw (c .after-bar .ensures) (record {
       answer = goes (a .s) (a .t) (a .bar .now) m ls (candle .candle-of .ensures) (fill .fill-working-order .ensures ∙ same)
           (sell .before .before .before .if1 .left) _ _ _ _
           (phases (a .s) (a .t) (a .bar .now) m ls
@@ -85,13 +91,13 @@ returns-2 c =
           (stop .book2 .ensures)
           (fund .charge-funding .ensures)
           (mark .mark-equity .ensures)
-          (c .decide-next-action .ensures ∙ decides));
+          (decide .decide-next-action .ensures ∙ decides));
       at = record { ring = kept .ring; first = kept .first };
-    }
+    })
 
 pub advance-spec : {M : Type 1} → statement M
 advance-spec =
-    tie.close (tie.spec (λ c κs. search needs) (λ c κs. search needs) (λ c κs. search needs) (λ c. search needs) returns
-    (λ c κs. search needs) record-bar-requires (λ c κs. search needs) (λ c κs. search needs) (λ c κs. search needs)
-    (λ c κs. search needs) decide-next-action-requires add-seen (λ c. search needs) (λ c. search needs) same-length-4
-    returns-2)
+    tie.close (tie.spec (λ c κs. search needs) (λ c κs. search needs) (λ c κs. search needs) (λ c κs. search needs) (λ c. search needs)
+    returns (λ c κs. search needs) record-bar-requires (λ c κs. search needs) (λ c κs. search needs) (λ c κs. search needs)
+    (λ c κs. search needs) decide-next-action-requires add-seen (λ c κs. search needs) same-length-2 (λ c. search needs)
+    same-length-4 returns-2)
