@@ -18,6 +18,7 @@ mod files;
 mod holdup;
 mod lists;
 mod output;
+mod page;
 mod problem;
 mod progress;
 mod range;

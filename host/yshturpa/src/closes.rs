@@ -3,7 +3,7 @@
 use std::io;
 
 use crate::layout::{BLOCK_BARS, BLOCK_WORDS};
-use crate::{calls, Error};
+use crate::{calls, Error, Refusal};
 
 /// Closes with the best of every 64 kept beside them, in rooms of a sort: vectors, where none is named.
 #[derive(Clone, Debug, Default)]
@@ -85,14 +85,17 @@ impl<R: Room> Closes<R> {
             // Where this fails the call says that there is no room.
             let _ = self.make_room(self.held as usize + 2);
         }
-        calls::append(&mut self.held, close.to_bits(), self.closes.words_mut(), self.blocks.words_mut())?;
-        Ok(())
+        let (closes, blocks) = (self.closes.words_mut(), self.blocks.words_mut());
+        Ok(Refusal::of(calls::append(&mut self.held, close.to_bits(), closes, blocks))?)
     }
 
     /// The high and the low of bars `first` to `last`, both included; refused with 18 where one of them is not there.
     pub fn stretch(&self, first: u64, last: u64) -> Result<Stretch, Error> {
+        let [mut high, mut high_bar, mut low, mut low_bar] = [0; 4];
         let (closes, blocks) = (self.closes.words(), self.blocks.words());
-        let [high, high_bar, low, low_bar] = calls::stretch(self.held, first, last, closes, blocks)?;
+        let answer =
+            calls::stretch(self.held, first, last, closes, blocks, &mut high, &mut high_bar, &mut low, &mut low_bar);
+        Refusal::of(answer)?;
         Ok(Stretch { high: f64::from_bits(high), high_bar, low: f64::from_bits(low), low_bar })
     }
 }

@@ -49,11 +49,12 @@ pub fn compare_words(first: (&[u64], &[u64]), second: (&[u64], &[u64])) -> Resul
     let most = first.1.len().min(second.1.len()) + OTHERS;
     let mut room = most.min(FEW);
     loop {
-        let mut lines = vec![0; DIFFERENCE_WORDS * room];
-        match calls::compare(first, second, &mut lines) {
+        let (mut lines, mut count) = (vec![0; DIFFERENCE_WORDS * room], 0);
+        match Refusal::of(calls::compare(first.0, first.1, second.0, second.1, &mut lines, &mut count)) {
             Err(Refusal { number: NO_ROOM, .. }) if room < most => room = room.saturating_mul(8).min(most),
             answer => {
-                let lines = lines.chunks_exact(DIFFERENCE_WORDS).take(answer?);
+                answer?;
+                let lines = lines.chunks_exact(DIFFERENCE_WORDS).take(count as usize);
                 return Ok(lines.map(Difference::of_words).collect());
             }
         }

@@ -131,7 +131,7 @@ pub fn metrics(capital: f64, equity: &[Point], trades: &[Trade]) -> Result<Metri
 /// The same of points and trades in their words.
 pub fn metrics_of_words(capital: f64, points: &[u64], trades: &[u64]) -> Result<Metrics, Refusal> {
     let mut words = [0; METRIC_WORDS];
-    calls::metrics(capital.to_bits(), points, trades, &mut words)?;
+    Refusal::of(calls::metrics(capital.to_bits(), points, trades, &mut words))?;
     Ok(Metrics::of(&words))
 }
 

@@ -40,12 +40,12 @@ impl Totals {
 
     /// The same of trades in their words.
     pub fn add_words(&mut self, trades: &[u64]) -> Result<(), Refusal> {
-        calls::totals(&mut self.words, trades)
+        Refusal::of(calls::totals(&mut self.words, trades))
     }
 
     /// Adds the totals of another machine. A refusal leaves these as they were.
     pub fn join(&mut self, other: &Totals) -> Result<(), Refusal> {
-        calls::totals_join(&mut self.words, &other.words)
+        Refusal::of(calls::totals_join(&mut self.words, &other.words))
     }
 
     /// How many trades ended by a reason.

@@ -10,11 +10,12 @@ use super::tally::Stamp;
 use super::text::Told;
 use super::values::{Values, MILLIONS, TOGETHER};
 use crate::columns::grouped;
+use crate::page as skeleton;
 use crate::show::Clock;
 use crate::source::Source;
 use crate::svg::escape;
 
-const STYLE: &str = concat!(include_str!("../page.css"), include_str!("../why/tree.css"), include_str!("strip.css"));
+const STYLE: &str = concat!(include_str!("../why/tree.css"), include_str!("strip.css"));
 const SCRIPT: &str = include_str!("strip.js");
 
 /// What was said at each bar of a stretch.
@@ -191,14 +192,7 @@ pub fn page(told: &Told, strip: &Strip) -> String {
         node(told, 0),
         footer(strip),
     );
-    format!(
-        "<!doctype html>\n<html lang=\"en\">\n<head>\n<meta charset=\"utf-8\">\n\
-         <meta name=\"viewport\" content=\"width=device-width, initial-scale=1\">\n\
-         <title>{}</title>\n<style>\n{STYLE}</style>\n</head>\n<body>\n{body}\n\
-         <script type=\"application/json\" id=\"data\">{}</script>\n<script>\n{SCRIPT}</script>\n</body>\n</html>\n",
-        escape(&title),
-        data(told, strip),
-    )
+    skeleton::page(&title, STYLE, &[body, skeleton::script_over("data", &data(told, strip), SCRIPT)])
 }
 
 const LEGEND: &str = "<span class=\"key yes\"></span> yes <span class=\"key no\"></span> no <span class=\"key none\"></span> no, for want of a value or of \
