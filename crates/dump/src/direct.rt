@@ -1,5 +1,5 @@
 // A dump straight from the words of settings and state.
-use crate::passing::words_pass;
+use dumpable::passing::words_pass;
 use crate::writer::HEAD_MARK;
 use crate::writer::body_words;
 use crate::writer::held_window;
@@ -18,7 +18,8 @@ ghost use Rattle.images.specs.Layout.{imageOf};
 ghost use Rattle.dump.specs.Order.{written};
 ghost use Rattle.dump.specs.Laws.Packed.{headWords};
 ghost use Rattle.dump.specs.Laws.Plain.{orderIn, kindIn, unlessZero, plainWords};
-ghost use Rattle.dump.specs.Laws.Passing.{WordsFine, WordsDumped};
+ghost use Rattle.dumpable.specs.Laws.Passing.{WordsFine};
+ghost use Rattle.dump.specs.Dumping.{WordsDumped};
 
 // The word of the float that a word holds: of a NaN there is one pattern.
 fn plain(w: u64) -> u64

@@ -2,8 +2,8 @@
 use crate::bytes::byte_at;
 use crate::bytes::lay;
 use crate::direct::direct_head;
-use crate::judge::judge_held;
-use crate::passing::words_pass;
+use dumpable::judge::judge_held;
+use dumpable::passing::words_pass;
 use crate::writer::body_words;
 use crate::writer::clip;
 use crate::writer::head_words;

@@ -21,7 +21,7 @@ ghost use Rattle.images.specs.Layout.{bodyBytes, sizeFor, imageOf};
 ghost use Rattle.dump.specs.Order.{written};
 ghost use Rattle.dump.specs.Laws.Packed.{headWords};
 ghost use Rattle.dump.specs.Laws.InOrder.{clip, partLaid, inOrder, wholeLaid};
-ghost use Rattle.dump.specs.Laws.Fine.{DumpFine};
+ghost use Rattle.dumpable.specs.Laws.Fine.{DumpFine};
 
 const HEAD_WORDS: usize = HEAD_BYTES / 8;
 

@@ -7,7 +7,7 @@ use Rattle.refusals.specs.{declared.verdict.Verdict.the-variants.Fine}
 use Rattle.engine.specs.{Books.heldPoints, Books.heldTrades, Run.Run, Run.runOver}
 use Rattle.runs.specs.{Laws.Floats.run-floats}
 use Rattle.images.specs.{Layout.imageOf, Reading.stateIn, Refused.restoreJudged, Laws.Fine.restore-fine}
-use Rattle.dump.specs.{Laws.Fine.dump-fine}
+use Rattle.dumpable.specs.{Laws.Fine.dump-fine}
 use Rattle.restart.specs.{Cut.size-of-image, Lives.Life, Lives.restoredState, Lives.restoredRooms, Lives.lastState, Lives.lastRooms, Lives.allBars, Lives.allPoints}
 use Rattle.restart.specs.{Lives.allTrades, Lives.LifeOf, Lives.LivesOf, PlanCut.plan-accepted, Plans.CutIn, Plans.inOrder, Plans.Plan}
 use Rattle.capi.specs.{Bars.StepLent, Joined.calls-run, WordRun.WordRun, WordRun.callsOver, WordRun.lentWith}

@@ -7,7 +7,8 @@ use Rattle.refusals.specs.{declared.verdict.Verdict.Verdict, declared.verdict.V
 use Rattle.refusals.specs.{Rooms.roomLines, Laws.Lines.never, Laws.Lines.both-fine}
 use Rattle.engine.specs.{Boxes.NotFull, Laws.Runs.run-ends, Run.runOver}
 use Rattle.images.specs.{Layout.dumpBytes, Layout.imageOf, Reading.stateIn, Reading.windowIn, Refused.restoreJudged, Refused.leftBy, Restoring.restoredBy}
-use Rattle.dump.specs.{Order.written, Refused.dumpLines, Refused.dumpJudged, Laws.Fine.dump-fine}
+use Rattle.dumpable.specs.{Refused.dumpLines, Refused.dumpJudged, Laws.Fine.dump-fine}
+use Rattle.dump.specs.{Order.written}
 use Rattle.restart.specs.{Cut.size-of-image, OrderPlan.all-written}
 use Rattle.capi.specs.{Bars.lentLines, Call.callOf, Call.unlessBad, DayJoined.lent-had, Joined.lent-fine, Power.RestoreLent, Power.dumpGives, Power.dumpCall, Power.restoreGives}
 use Rattle.capi.specs.{Power.restoreCall, WordRun.answerOf, Laws.Answers.answer-number, Laws.Calls.Small, Laws.Calls.refused-word, Laws.DumpCalls.dump-honest}

@@ -2,7 +2,8 @@
 use Rattle.words.specs.Prelude.{sym, ap, _∙_, arith, needs}
 use Rattle.records.specs.{Settings.settingsOf, StateWords.countsOf, StateWords.stateOf}
 use Rattle.images.specs.{Layout.dumpBytes, Layout.windowOf}
-use Rattle.dump.specs.{Laws.Packed.headWords, Laws.Fine.dump-fine, Laws.Plain.plain-words}
+use Rattle.dumpable.specs.{Laws.Fine.dump-fine}
+use Rattle.dump.specs.{Laws.Packed.headWords, Laws.Plain.plain-words}
 use Rattle.dump.proofs.{Whole.dumped, direct.write_words.Statement.statement}
 use Rattle.dump.proofs.direct.write_words.Tie as tie
 
