@@ -8,7 +8,8 @@ use Rattle.refusals.specs.{Laws.Lines.never, Laws.Lines.first-holds, Lines.judg
 use Rattle.engine.specs.{Day.cut}
 use Rattle.accounts.specs.{declared.stream.Taken.Taken, Laws.Stream.moreTaken, Stream.streamBarLines, Stream.oneMoreTaken, Stream.takenUnless}
 use Rattle.accounts.specs.{Stream.streamTakes}
-use Rattle.capi.specs.{Bars.StepLent, Bars.stepCall, Call.Call, Laws.RunCalls.step-honest, WordRun.WordRun, WordRun.callMore, WordRun.callsOver}
+use Rattle.replies.specs.{Call.Call}
+use Rattle.capi.specs.{Bars.StepLent, Bars.stepCall, Laws.RunCalls.step-honest, WordRun.WordRun, WordRun.callMore, WordRun.callsOver}
 use lib.Seq.{take-append-le, drop-append-le}
 
 -- ---- records of words

@@ -6,8 +6,9 @@ use Rattle.refusals.specs.{declared.verdict.Verdict.the-variants.Fine, Laws.Lin
 use Rattle.images.specs.{Layout.dumpBytes}
 use Rattle.dumpable.specs.{Refused.areaLines, Refused.dumpLines, Refused.dumpJudged, Laws.Fine.dump-fine}
 use Rattle.dump.specs.{Laws.Parts.total}
-use Rattle.capi.specs.{Bars.StepLent, Bars.lentLines, Call.callOf, Call.unlessBad, Part.PartLent, Power.dumpGives, Power.dumpCall, Laws.DumpCalls.dump-bytes}
-use Rattle.capi.specs.{Laws.PartCalls.inCalls, Laws.PartCalls.partLengths, Laws.PartCalls.dump-is-image, Laws.PartCalls.parts-are-dump}
+use Rattle.replies.specs.{Call.callOf, Call.unlessBad}
+use Rattle.capi.specs.{Bars.StepLent, Bars.lentLines, Part.PartLent, Power.dumpGives, Power.dumpCall, Laws.DumpCalls.dump-bytes, Laws.PartCalls.inCalls}
+use Rattle.capi.specs.{Laws.PartCalls.partLengths, Laws.PartCalls.dump-is-image, Laws.PartCalls.parts-are-dump}
 use Rattle.capacitor.specs.{Loss.Loss, Loss.sizeOf, Loss.boxBefore, Loss.dumpOf, Loss.imageIn, Laws.PowerCalls.dump-done}
 
 -- a dump is judged alike over any two areas that have the size

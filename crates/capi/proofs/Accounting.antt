@@ -6,10 +6,11 @@ use Rattle.refusals.specs.{declared.verdict.Verdict.Verdict, declared.verdict.V
 use Rattle.engine.specs.{Day.cut}
 use Rattle.accounts.specs.{declared.stream.Taken.Taken, Laws.Stream.Within, Laws.Stream.taken-within, Own.ownBar, Profile.profileJudged, Status.isStopped}
 use Rattle.accounts.specs.{Status.stoppedWith, Stream.streamTaken}
-use Rattle.capi.specs.{Accounts.AccountGiven, Accounts.AccountLent, Accounts.ownLists, Accounts.ownBars, Accounts.alone}
-use Rattle.capi.specs.{Accounts.statusAfter, Accounts.ridesBy, Accounts.accountAfter, Accounts.AccountsLent, Accounts.Four}
-use Rattle.capi.specs.{Accounts.accountsLines, Accounts.noneDone, Accounts.streamAfter, Accounts.afterBars, Accounts.accountsBy, Accounts.accountsCall}
-use Rattle.capi.specs.{Bars.StepLent, WordRun.callsOver, WordRun.answerOf, Call.answerWord}
+use Rattle.replies.specs.{Call.answerWord}
+use Rattle.capi.specs.{Accounts.AccountGiven, Accounts.AccountLent, Accounts.ownLists, Accounts.ownBars, Accounts.alone, Accounts.statusAfter}
+use Rattle.capi.specs.{Accounts.ridesBy, Accounts.accountAfter, Accounts.AccountsLent, Accounts.Four, Accounts.accountsLines, Accounts.noneDone}
+use Rattle.capi.specs.{Accounts.streamAfter, Accounts.afterBars, Accounts.accountsBy, Accounts.accountsCall, Bars.StepLent, WordRun.callsOver}
+use Rattle.capi.specs.{WordRun.answerOf}
 
 pub some-of : (n : ℕ) → (n ≡ 0 → ⊥) → 0 < n
 some-of zero h = absurd (h refl)

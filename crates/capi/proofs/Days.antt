@@ -5,7 +5,8 @@ use Rattle.records.specs.{declared.settings.Settings.Settings, declared.state.S
 use Rattle.records.specs.{StateWords.stateOf}
 use Rattle.refusals.specs.{declared.verdict.Verdict.Verdict, declared.verdict.Verdict.the-variants.Fine, declared.verdict.Verdict.the-variants.Bad, Lines.judged}
 use Rattle.engine.specs.{Day.dayOf}
-use Rattle.capi.specs.{Call.answerWord, Day.dayLentLines, Day.stateAfter, Day.dayGives, Day.dayCall, WordRun.answerOf}
+use Rattle.replies.specs.{Call.answerWord}
+use Rattle.capi.specs.{Day.dayLentLines, Day.stateAfter, Day.dayGives, Day.dayCall, WordRun.answerOf}
 
 module _ (one : Bool) (settings state bars : List ℕ) (m : Rooms) (ls : Lists) {v : Verdict}
     (lent : v ≡ judged (dayLentLines one settings state bars (m .rows))) where

@@ -8,7 +8,8 @@ use Rattle.images.specs.{Layout.imageOf, Refused.leftBy}
 use Rattle.dumpable.specs.{Refused.partLines, Refused.partJudged}
 use Rattle.dump.specs.{declared.part.Parted.Parted, declared.part.Parted.the-variants.Refused, declared.part.Parted.the-variants.Used, Parts.bytesFrom}
 use Rattle.dump.specs.{Parts.partedBy, Parts.PartDumped, Laws.PartFine.WordsFit, Laws.PartFine.WordsParted, Laws.PartFine.words-fit}
-use Rattle.capi.specs.{Call.Call, Call.answerWord, Call.wordLines, Bars.lentLines, Part.PartLent, Part.partGives, Part.filledWith, Part.partCall}
+use Rattle.replies.specs.{Call.Call, Call.answerWord, Call.wordLines}
+use Rattle.capi.specs.{Bars.lentLines, Part.PartLent, Part.partGives, Part.filledWith, Part.partCall}
 use Rattle.capi.proofs.{Calling.call-bad, Calling.call-refused, Calling.call-gives}
 
 -- what an answer tells of the verdict

@@ -8,7 +8,8 @@ use Rattle.images.specs.{declared.reader.Restored.Restored, declared.reader.Res
 use Rattle.images.specs.{Layout.imageOf, Reading.windowIn, Refused.restoreJudged, Refused.leftBy, Restoring.restoredBy, Restoring.Restores}
 use Rattle.dumpable.specs.{Refused.dumpLines, Refused.dumpJudged, Laws.Passing.WordsFine, Laws.Passing.words-fine}
 use Rattle.dump.specs.{Order.written, Dumping.Dumped, Dumping.WordsDumped}
-use Rattle.capi.specs.{Call.Call, Call.answerWord, Call.wordLines, Bars.lentLines, Power.dumpGives, Power.dumpCall, Power.restoreGives, Power.restoreCall}
+use Rattle.replies.specs.{Call.Call, Call.answerWord, Call.wordLines}
+use Rattle.capi.specs.{Bars.lentLines, Power.dumpGives, Power.dumpCall, Power.restoreGives, Power.restoreCall}
 use Rattle.capi.proofs.{Calling.call-bad, Calling.call-refused, Calling.call-gives}
 
 module _ (settings state rows area : List ℕ) (from upto : ℕ) where

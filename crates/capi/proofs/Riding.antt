@@ -5,7 +5,8 @@ use Rattle.words.specs.{Laws.Records.record-ends, Limits.barWords}
 use Rattle.records.specs.{Lent.Rooms, Lent.Lists, Lent.rooms}
 use Rattle.engine.specs.{Day.cut}
 use Rattle.accounts.specs.{Laws.Own.own-front, Laws.Stream.cut-length, Laws.Stream.next-record, Laws.Stream.recordAt, Laws.Stream.same-record, Own.ownBar, Own.ownInto}
-use Rattle.capi.specs.{Bars.StepLent, Bars.stepCall, Call.Call, WordRun.WordRun, WordRun.callsOver}
+use Rattle.replies.specs.{Call.Call}
+use Rattle.capi.specs.{Bars.StepLent, Bars.stepCall, WordRun.WordRun, WordRun.callsOver}
 use lib.ListN.{length-map}
 
 -- k calls more, before those of a run

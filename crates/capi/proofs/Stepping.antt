@@ -4,8 +4,9 @@ use Rattle.records.specs.{declared.settings.Settings.Settings, declared.state.S
 use Rattle.refusals.specs.{declared.verdict.Verdict.Verdict, declared.verdict.Verdict.the-variants.Fine, declared.verdict.Verdict.the-variants.Bad, Lines.judged}
 use Rattle.engine.specs.{declared.answer.Answer.Answer, declared.answer.Answer.the-variants.Refused, declared.answer.Answer.the-variants.Done, Day.barsFor}
 use Rattle.engine.specs.{Day.noBars, Day.dayOf, Run.goesOn, Run.runOver, Step.With, Step.stepAnswer, Laws.Refusal.refusal-changes-nothing}
-use Rattle.capi.specs.{Call.Call, Call.callOf, Call.unlessBad, Bars.StepLent, Bars.lentLines, Bars.stepGives, Bars.stepCall, Day.DayLent, Day.dayLentLines}
-use Rattle.capi.specs.{Day.stateAfter, Day.dayGives, Day.dayCall, WordRun.answerOf}
+use Rattle.replies.specs.{Call.Call, Call.callOf, Call.unlessBad}
+use Rattle.capi.specs.{Bars.StepLent, Bars.lentLines, Bars.stepGives, Bars.stepCall, Day.DayLent, Day.dayLentLines, Day.stateAfter, Day.dayGives}
+use Rattle.capi.specs.{Day.dayCall, WordRun.answerOf}
 
 -- without the count
 abbrev uncounted : Call DayLent → Call StepLent

@@ -8,7 +8,8 @@ use Rattle.refusals.specs.{Lines.line, Lines.judged}
 use Rattle.engine.specs.{Day.cut}
 use Rattle.accounts.specs.{declared.stream.Taken.Taken, Own.ownBar, Profile.profileJudged, Status.statusWords}
 use Rattle.accounts.specs.{Status.isStopped, Status.stoppedWith, Stream.streamTaken}
-use Rattle.capi.specs.{Call.Call, Call.answerWord, WordRun.WordRun, WordRun.callsOver, WordRun.answerOf}
+use Rattle.replies.specs.{Call.Call, Call.answerWord}
+use Rattle.capi.specs.{WordRun.WordRun, WordRun.callsOver, WordRun.answerOf}
 
 -- what an account is handed to read
 pub record AccountGiven : Type 0 where

@@ -4,7 +4,7 @@ use Rattle.words.specs.{Words.overwrite, Outcome.Outcome, Outcome.gives, Outcom
 use Rattle.records.specs.{Lent.Rooms, Lent.Lists, Settings.settingsOf, StateWords.stateOf, StateWords.wordsOf}
 use Rattle.refusals.specs.{Lines.Line, Lines.judged, Rooms.roomLines}
 use Rattle.engine.specs.{declared.answer.Answer.Answer, declared.answer.Answer.the-variants.Refused, declared.answer.Answer.the-variants.Done, Step.stepAnswer}
-use Rattle.capi.specs.{Call.Call, Call.callOf, Call.unlessBad, Call.wordLines}
+use Rattle.replies.specs.{Call.Call, Call.callOf, Call.unlessBad, Call.wordLines}
 
 -- "Under one number the lowest place is given": the room of rows is number 0, and so comes before those that only a C call has.
 -- A setting past the end of the words reads as 0.

@@ -5,7 +5,8 @@ use Rattle.records.specs.{declared.state.State.State, Lent.Rooms, Lent.Lists, S
 use Rattle.refusals.specs.{declared.verdict.Verdict.Verdict, declared.verdict.Verdict.the-variants.Fine, declared.verdict.Verdict.the-variants.Bad, Lines.Line}
 use Rattle.refusals.specs.{Lines.judged}
 use Rattle.engine.specs.{Day.noBars, Day.dayOf, Run.Run}
-use Rattle.capi.specs.{Call.Call, Call.answerWord, Call.wordLines, Bars.lentLines, WordRun.answerOf}
+use Rattle.replies.specs.{Call.Call, Call.answerWord, Call.wordLines}
+use Rattle.capi.specs.{Bars.lentLines, WordRun.answerOf}
 
 -- the state's words, the rooms, and the count of bars done
 pub record DayLent : Type 0 where

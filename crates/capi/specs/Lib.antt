@@ -1,4 +1,3 @@
-pub mod Call
 pub mod Tables
 pub mod Run
 pub mod Why

@@ -6,7 +6,8 @@ use Rattle.refusals.specs.{declared.verdict.Verdict.Verdict, declared.verdict.V
 use Rattle.images.specs.{Layout.imageOf}
 use Rattle.dumpable.specs.{Refused.partJudged}
 use Rattle.dump.specs.{Parts.bytesFrom}
-use Rattle.capi.specs.{Call.Call, Call.callOf, Call.unlessBad, Bars.lentLines}
+use Rattle.replies.specs.{Call.Call, Call.callOf, Call.unlessBad}
+use Rattle.capi.specs.{Bars.lentLines}
 
 -- lent: the part, and how many of its bytes are the image's
 pub record PartLent : Type 0 where

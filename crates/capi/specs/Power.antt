@@ -7,7 +7,8 @@ use Rattle.images.specs.{declared.reader.Restored.Restored, declared.reader.Res
 use Rattle.images.specs.{Layout.imageOf, Reading.windowIn, Refused.restoreJudged, Refused.leftBy, Restoring.restoredBy}
 use Rattle.dumpable.specs.{Refused.dumpJudged}
 use Rattle.dump.specs.{Order.written}
-use Rattle.capi.specs.{Call.Call, Call.callOf, Call.unlessBad, Bars.lentLines}
+use Rattle.replies.specs.{Call.Call, Call.callOf, Call.unlessBad}
+use Rattle.capi.specs.{Bars.lentLines}
 
 unfoldable pub dumpGives : Verdict → List ℕ → Outcome (List ℕ)
 dumpGives Fine after = gives after

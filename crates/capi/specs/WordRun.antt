@@ -4,7 +4,8 @@ use Rattle.words.specs.{Words.overwrite}
 use Rattle.records.specs.{declared.state.State.State, Lent.Rooms, Lent.Lists, StateWords.wordsOf}
 use Rattle.refusals.specs.{declared.verdict.Verdict.Verdict, declared.verdict.Verdict.the-variants.Fine, declared.verdict.Verdict.the-variants.Bad}
 use Rattle.engine.specs.{Run.Run}
-use Rattle.capi.specs.{Bars.StepLent, Bars.stepCall, Call.answerWord}
+use Rattle.replies.specs.{Call.answerWord}
+use Rattle.capi.specs.{Bars.StepLent, Bars.stepCall}
 
 -- How many calls did their work, the answer of the one that ended the run (0 where all did), and what is left.
 pub record WordRun : Type 0 where

@@ -3,8 +3,6 @@ ghost use mathlib.Core.Path.{_≡_};
 ghost use Rattle.records.specs.Lent.{rooms, lists};
 ghost use Rattle.capi.specs.Bars.{stepCall};
 ghost use Rattle.capi.specs.Finish.{finishCall};
-use crate::calls::answer_word;
-use crate::calls::judge_metrics;
 use crate::calls::judge_rooms;
 use crate::day::call_bars;
 use crate::figures::put_metrics;
@@ -14,6 +12,8 @@ use records::state_words::put_state;
 use records::state_words::state_of;
 use refusals::verdict::Verdict;
 use refusals::verdict::first_bad;
+use replies::answer_word;
+use replies::judge_metrics;
 
 // One bar.
 #[no_mangle]

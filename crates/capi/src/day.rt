@@ -5,14 +5,14 @@ ghost use Rattle.records.specs.Settings.{settingsOf};
 ghost use Rattle.refusals.specs.Lines.{judged};
 ghost use Rattle.capi.specs.Day.{dayLentLines, stateAfter, dayCall, stepsCall};
 ghost use Rattle.capi.specs.WordRun.{answerOf};
-use crate::calls::answer_word;
-use crate::calls::judge_words;
 use records::settings::Settings;
 use records::settings::settings_of;
 use records::state::State;
 use records::state_words::put_state;
 use records::state_words::state_of;
 use refusals::verdict::Verdict;
+use replies::answer_word;
+use replies::judge_words;
 
 // 10: the room of rows, where there is a bar; then settings and state.
 fn judge_lent(

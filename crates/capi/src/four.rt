@@ -13,8 +13,6 @@ ghost use Rattle.accounts.specs.Laws.Stream.{Within};
 ghost use Rattle.capi.specs.Accounts.{given, lent, accountAfter, accountsLines, streamAfter, accountsCall};
 ghost use Rattle.capi.specs.Bars.{stepCall};
 ghost use Rattle.capi.specs.WordRun.{callsOver};
-use crate::calls::HALF;
-use crate::calls::answer_word;
 use crate::day::answer_of;
 use crate::day::call_bars;
 use accounts::own::own_bar;
@@ -26,6 +24,8 @@ use accounts::stream::take_bars;
 use records::settings::settings_of;
 use refusals::verdict::Verdict;
 use refusals::verdict::line;
+use replies::HALF;
+use replies::answer_word;
 use words::limits::BAR_FIXED;
 use words::limits::MOST_SLOTS;
 

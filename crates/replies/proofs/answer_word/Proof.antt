@@ -1,8 +1,8 @@
 -- The two halves of the word.
 use Rattle.words.specs.Prelude.{needs}
-use Rattle.capi.specs.{Call.answerWord}
-use Rattle.capi.proofs.{calls.answer_word.Statement.statement}
-use Rattle.capi.proofs.calls.answer_word.Tie as tie
+use Rattle.replies.specs.{Call.answerWord}
+use Rattle.replies.proofs.{answer_word.Statement.statement}
+use Rattle.replies.proofs.answer_word.Tie as tie
 
 returns : tie.Need-returns
 unfolding answerWord

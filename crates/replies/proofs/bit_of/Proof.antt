@@ -1,7 +1,7 @@
 -- One word for each case.
-use Rattle.capi.specs.{Call.bitOf}
-use Rattle.capi.proofs.{calls.bit_of.Statement.statement}
-use Rattle.capi.proofs.calls.bit_of.Tie as tie
+use Rattle.replies.specs.{Call.bitOf}
+use Rattle.replies.proofs.{bit_of.Statement.statement}
+use Rattle.replies.proofs.bit_of.Tie as tie
 
 returns : tie.Need-returns
 unfolding bitOf

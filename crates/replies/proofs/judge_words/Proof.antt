@@ -1,9 +1,9 @@
 -- The lines, one over another.
 use Rattle.words.specs.Prelude.{needs}
 use Rattle.refusals.specs.{Lines.judged}
-use Rattle.capi.specs.{Call.wordLines}
-use Rattle.capi.proofs.{calls.judge_words.Statement.statement}
-use Rattle.capi.proofs.calls.judge_words.Tie as tie
+use Rattle.replies.specs.{Call.wordLines}
+use Rattle.replies.proofs.{judge_words.Statement.statement}
+use Rattle.replies.proofs.judge_words.Tie as tie
 
 returns : tie.Need-returns
 unfolding judged wordLines

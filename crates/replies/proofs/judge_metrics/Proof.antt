@@ -1,9 +1,9 @@
 -- One line.
 use Rattle.words.specs.Prelude.{needs}
 use Rattle.refusals.specs.{Lines.judged}
-use Rattle.capi.specs.{Call.metricLines}
-use Rattle.capi.proofs.{calls.judge_metrics.Statement.statement}
-use Rattle.capi.proofs.calls.judge_metrics.Tie as tie
+use Rattle.replies.specs.{Call.metricLines}
+use Rattle.replies.proofs.{judge_metrics.Statement.statement}
+use Rattle.replies.proofs.judge_metrics.Tie as tie
 
 returns : tie.Need-returns
 unfolding judged metricLines
