@@ -1,4 +1,3 @@
 pub mod Storing
 pub mod Whole
 pub mod Answers
-pub mod Plain

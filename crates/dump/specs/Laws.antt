@@ -1,9 +1,7 @@
 pub mod Laid
 pub mod WordBytes
-pub mod Packed
 pub mod InOrder
 pub mod Image
-pub mod Plain
 pub mod Placed
 pub mod PartFine
 pub mod Parts

@@ -1,7 +1,7 @@
 -- Two tests.
 use Rattle.words.specs.Prelude.{le-leb, lt-leb, eq-eqb, ne-eqb, needs}
-use Rattle.dump.proofs.{direct.kind_in.Statement.statement}
-use Rattle.dump.proofs.direct.kind_in.Tie as tie
+use Rattle.heads.proofs.{plain.kind_in.Statement.statement}
+use Rattle.heads.proofs.plain.kind_in.Tie as tie
 
 pub kind-in-spec : {M : Type 1} → statement M
 kind-in-spec =

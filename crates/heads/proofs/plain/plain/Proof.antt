@@ -1,8 +1,9 @@
 -- The patterns above that of the infinity, with either sign, are the NaNs; any other is that of its float.
 use Rattle.words.specs.Prelude.{ap, arith, binary64, toBits}
 use Rattle.floats.proofs.{Words.word-nan}
-use Rattle.dump.proofs.{Plain.plain-own, direct.plain.Statement.statement}
-use Rattle.dump.proofs.direct.plain.Tie as tie
+use Rattle.heads.proofs.{Made.plain-own}
+use Rattle.heads.proofs.{plain.plain.Statement.statement}
+use Rattle.heads.proofs.plain.plain.Tie as tie
 
 returns : tie.Need-returns
 unfolding toBits

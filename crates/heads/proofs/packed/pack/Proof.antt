@@ -1,9 +1,9 @@
 -- Word by word.
 use Rattle.words.specs.Prelude.{refl, needs}
 use Rattle.images.specs.{Layout.amounts}
-use Rattle.dump.specs.{Laws.Packed.headWords}
-use Rattle.dump.proofs.{writer.pack.Statement.statement}
-use Rattle.dump.proofs.writer.pack.Tie as tie
+use Rattle.heads.specs.{Laws.Packed.headWords}
+use Rattle.heads.proofs.{packed.pack.Statement.statement}
+use Rattle.heads.proofs.packed.pack.Tie as tie
 
 returns : tie.Need-returns
 unfolding headWords amounts

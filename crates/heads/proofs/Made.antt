@@ -4,8 +4,8 @@ use Rattle.words.specs.{Words.word}
 use Rattle.floats.specs.{Floats.wordOf, Floats.floatOf}
 use Rattle.floats.proofs.{Words.word-no-nan}
 use Rattle.images.specs.{Layout.amounts}
-use Rattle.dump.specs.{Laws.Packed.firstWord, Laws.Packed.secondWord, Laws.Packed.thirdWord, Laws.Packed.headWords, Laws.Plain.orderIn}
-use Rattle.dump.specs.{Laws.Plain.kindIn, Laws.Plain.unlessZero, Laws.Plain.plainAt, Laws.Plain.plainWords}
+use Rattle.heads.specs.{Laws.Packed.firstWord, Laws.Packed.secondWord, Laws.Packed.thirdWord, Laws.Packed.headWords, Laws.Plain.orderIn}
+use Rattle.heads.specs.{Laws.Plain.kindIn, Laws.Plain.unlessZero, Laws.Plain.plainAt, Laws.Plain.plainWords}
 
 -- a pattern that is no NaN's is the word of its float
 pub plain-own : (w : ℕ) → w < 18446744073709551616 → w % 2 ^ 63 ≤ 0x7ff0_0000_0000_0000 → w ≡ wordOf (floatOf w)

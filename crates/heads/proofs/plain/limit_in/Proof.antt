@@ -1,7 +1,7 @@
 -- One test.
 use Rattle.words.specs.Prelude.{eq-eqb, ne-eqb, needs}
-use Rattle.dump.proofs.{direct.limit_in.Statement.statement}
-use Rattle.dump.proofs.direct.limit_in.Tie as tie
+use Rattle.heads.proofs.{plain.limit_in.Statement.statement}
+use Rattle.heads.proofs.plain.limit_in.Tie as tie
 
 pub limit-in-spec : {M : Type 1} → statement M
 limit-in-spec =

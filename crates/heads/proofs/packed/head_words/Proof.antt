@@ -2,9 +2,9 @@
 use Rattle.words.specs.Prelude.{ap, _∙_, needs}
 use Rattle.words.specs.{Words.overwrite}
 use Rattle.records.specs.{StateWords.wordsOf}
-use Rattle.dump.specs.{Laws.Packed.headWords}
-use Rattle.dump.proofs.{writer.head_words.Statement.statement}
-use Rattle.dump.proofs.writer.head_words.Tie as tie
+use Rattle.heads.specs.{Laws.Packed.headWords}
+use Rattle.heads.proofs.{packed.head_words.Statement.statement}
+use Rattle.heads.proofs.packed.head_words.Tie as tie
 
 returns : tie.Need-returns
 unfolding wordsOf overwrite
