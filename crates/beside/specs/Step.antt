@@ -10,8 +10,8 @@ use Rattle.engine.specs.{declared.answer.Answer.Answer, declared.answer.Answer.
 use Rattle.engine.specs.{Laws.Refusal.refusal-changes-nothing, Step.sizeLines, Step.stepVerdict, Step.stepAnswer}
 use Rattle.accounts.specs.{Own.ownBar}
 use Rattle.replies.specs.{Call.callOf, Call.unlessBad, Call.wordLines}
-use Rattle.capi.specs.{Bars.StepLent, Bars.lentLines, Bars.stepGives, Bars.stepCall, Laws.Calls.Honest, Laws.RunCalls.step-honest, WordRun.WordRun}
-use Rattle.capi.specs.{WordRun.callMore, WordRun.callsOver}
+use Rattle.stepping.specs.{Bars.StepLent, Bars.lentLines, Bars.stepGives, Bars.stepCall, WordRun.WordRun, WordRun.callMore, WordRun.callsOver}
+use Rattle.capi.specs.{Laws.Calls.Honest, Laws.RunCalls.step-honest}
 use Rattle.beside.specs.{OwnFine.own-fine, Taken.AllFine}
 
 -- each line of number 11 holds

@@ -7,8 +7,9 @@ use Rattle.images.specs.{Layout.dumpBytes}
 use Rattle.dumpable.specs.{Refused.areaLines, Refused.dumpLines, Refused.dumpJudged, Laws.Fine.dump-fine}
 use Rattle.dump.specs.{Laws.Parts.total}
 use Rattle.replies.specs.{Call.callOf, Call.unlessBad}
-use Rattle.capi.specs.{Bars.StepLent, Bars.lentLines, Part.PartLent, Power.dumpGives, Power.dumpCall, Laws.DumpCalls.dump-bytes, Laws.PartCalls.inCalls}
-use Rattle.capi.specs.{Laws.PartCalls.partLengths, Laws.PartCalls.dump-is-image, Laws.PartCalls.parts-are-dump}
+use Rattle.stepping.specs.{Bars.StepLent, Bars.lentLines}
+use Rattle.capi.specs.{Part.PartLent, Power.dumpGives, Power.dumpCall, Laws.DumpCalls.dump-bytes, Laws.PartCalls.inCalls, Laws.PartCalls.partLengths}
+use Rattle.capi.specs.{Laws.PartCalls.dump-is-image, Laws.PartCalls.parts-are-dump}
 use Rattle.capacitor.specs.{Loss.Loss, Loss.sizeOf, Loss.boxBefore, Loss.dumpOf, Loss.imageIn, Laws.PowerCalls.dump-done}
 
 -- a dump is judged alike over any two areas that have the size

@@ -8,9 +8,10 @@ use Rattle.refusals.specs.{declared.verdict.Verdict.Verdict, declared.verdict.V
 use Rattle.engine.specs.{Day.cut}
 use Rattle.accounts.specs.{declared.stream.Taken.Taken, Profile.profileJudged, Status.isStopped, Status.stoppedWith, Stream.streamTaken}
 use Rattle.replies.specs.{Call.Call, Call.answerWord}
-use Rattle.capi.specs.{Accounts.AccountGiven, Accounts.AccountLent, Accounts.AccountsLent, Accounts.Four, Accounts.alone, Accounts.statusAfter}
-use Rattle.capi.specs.{Accounts.ridesBy, Accounts.ownBars, Accounts.accountAfter, Accounts.accountsLines, Accounts.noneDone, Accounts.streamAfter}
-use Rattle.capi.specs.{Accounts.afterBars, Accounts.accountsBy, Accounts.accountsCall, WordRun.WordRun, WordRun.callsOver, WordRun.answerOf}
+use Rattle.stepping.specs.{WordRun.WordRun, WordRun.callsOver, WordRun.answerOf}
+use Rattle.streamed.specs.{Accounts.AccountGiven, Accounts.AccountLent, Accounts.AccountsLent, Accounts.Four, Accounts.alone, Accounts.statusAfter}
+use Rattle.streamed.specs.{Accounts.ridesBy, Accounts.ownBars, Accounts.accountAfter, Accounts.accountsLines, Accounts.noneDone, Accounts.streamAfter}
+use Rattle.streamed.specs.{Accounts.afterBars, Accounts.accountsBy, Accounts.accountsCall}
 
 -- ---- which of the four
 

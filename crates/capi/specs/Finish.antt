@@ -6,7 +6,7 @@ use Rattle.refusals.specs.{Lines.judged}
 use Rattle.engine.specs.{declared.answer.Finished.Finished, declared.answer.Finished.the-variants.Refused, declared.answer.Finished.the-variants.Done}
 use Rattle.engine.specs.{Finish.finishOf}
 use Rattle.replies.specs.{Call.Call, Call.callOf, Call.unlessBad, Call.metricLines}
-use Rattle.capi.specs.{Bars.lentLines}
+use Rattle.stepping.specs.{Bars.lentLines}
 use Rattle.metrics.specs.Figures as Figures
 
 -- the state's words, the rooms of equity points and of trades, and that of the metrics

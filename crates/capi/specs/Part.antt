@@ -7,7 +7,7 @@ use Rattle.images.specs.{Layout.imageOf}
 use Rattle.dumpable.specs.{Refused.partJudged}
 use Rattle.dump.specs.{Parts.bytesFrom}
 use Rattle.replies.specs.{Call.Call, Call.callOf, Call.unlessBad}
-use Rattle.capi.specs.{Bars.lentLines}
+use Rattle.stepping.specs.{Bars.lentLines}
 
 -- lent: the part, and how many of its bytes are the image's
 pub record PartLent : Type 0 where

@@ -8,7 +8,7 @@ use Rattle.images.specs.{Layout.imageOf, Reading.windowIn, Refused.restoreJudge
 use Rattle.dumpable.specs.{Refused.dumpJudged}
 use Rattle.dump.specs.{Order.written}
 use Rattle.replies.specs.{Call.Call, Call.callOf, Call.unlessBad}
-use Rattle.capi.specs.{Bars.lentLines}
+use Rattle.stepping.specs.{Bars.lentLines}
 
 unfoldable pub dumpGives : Verdict → List ℕ → Outcome (List ℕ)
 dumpGives Fine after = gives after

@@ -2,7 +2,7 @@
 ghost use mathlib.Core.Path.{_≡_};
 ghost use Rattle.records.specs.Settings.{settingsOf};
 ghost use Rattle.refusals.specs.Lines.{judged};
-ghost use Rattle.capi.specs.Bars.{lentLines};
+ghost use Rattle.stepping.specs.Bars.{lentLines};
 use records::settings::Settings;
 use refusals::rooms::judge_room;
 use refusals::verdict::Verdict;

@@ -10,7 +10,7 @@ use Rattle.images.specs.{Layout.imageOf, Refused.restoreJudged}
 use Rattle.restart.specs.{AsIfNever.Ready, FirstWord.RefusedOr, FirstWord.nineteen, FirstWord.twenty, FirstWord.whole, PlanCut.plan-cut, Plans.CutIn, Plans.inOrder}
 use Rattle.restart.specs.{Plans.Plan}
 use Rattle.replies.specs.{Call.answerWord}
-use Rattle.capi.specs.{Bars.StepLent, WordRun.answerOf, WordRun.lentWith}
+use Rattle.stepping.specs.{Bars.StepLent, WordRun.answerOf, WordRun.lentWith}
 use Rattle.capacitor.specs.{Capacitor.AfterLoss, Capacitor.goesOn, Capacitor.refused19, Capacitor.refused20, Loss.Loss, Loss.sizeOf, Loss.restoreOf}
 use Rattle.capacitor.specs.{Loss.boxAfter, Loss.Driven, Loss.Restored, Loss.lastBox, Laws.LivesInWords.image-is, Laws.PowerCalls.restore-answers}
 

@@ -11,9 +11,9 @@ use Rattle.dumpable.specs.{Refused.dumpLines, Refused.dumpJudged, Laws.Fine.dum
 use Rattle.dump.specs.{Order.written}
 use Rattle.restart.specs.{Cut.size-of-image, OrderPlan.all-written}
 use Rattle.replies.specs.{Call.callOf, Call.unlessBad, Laws.Answers.answer-number}
-use Rattle.capi.specs.{Bars.lentLines, DayJoined.lent-had, Joined.lent-fine, Power.RestoreLent, Power.dumpGives, Power.dumpCall, Power.restoreGives}
-use Rattle.capi.specs.{Power.restoreCall, WordRun.answerOf, Laws.Calls.Small, Laws.Calls.refused-word, Laws.DumpCalls.dump-honest}
-use Rattle.capi.specs.{Laws.DumpCalls.restore-honest, Laws.RunCalls.step-small}
+use Rattle.stepping.specs.{Bars.lentLines, WordRun.answerOf}
+use Rattle.capi.specs.{DayJoined.lent-had, Joined.lent-fine, Power.RestoreLent, Power.dumpGives, Power.dumpCall, Power.restoreGives, Power.restoreCall}
+use Rattle.capi.specs.{Laws.Calls.Small, Laws.Calls.refused-word, Laws.DumpCalls.dump-honest, Laws.DumpCalls.restore-honest, Laws.RunCalls.step-small}
 use Rattle.capacitor.specs.{Laws.Answered.refuses-not, Laws.Answered.gives-same, Laws.Answered.unless-gives}
 
 -- ---- bars

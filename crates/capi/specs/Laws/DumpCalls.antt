@@ -11,8 +11,9 @@ use Rattle.images.specs.{Refused.restoreJudged, Refused.leftBy, Restoring.resto
 use Rattle.dumpable.specs.{Refused.areaLines, Refused.dumpStateLines, Refused.dumpLines, Refused.dumpJudged}
 use Rattle.dump.specs.{Order.written}
 use Rattle.replies.specs.{Call.unlessBad, Call.wordLines}
-use Rattle.capi.specs.{Bars.lentLines, Power.dumpGives, Power.dumpCall, Power.restoreGives, Power.restoreCall, Laws.Calls.Small, Laws.Calls.Numbered}
-use Rattle.capi.specs.{Laws.Calls.Honest, Laws.Calls.honest, Laws.Calls.never-refuses, Laws.Calls.one-refusal, Laws.Calls.after-verdict}
+use Rattle.stepping.specs.{Bars.lentLines}
+use Rattle.capi.specs.{Power.dumpGives, Power.dumpCall, Power.restoreGives, Power.restoreCall, Laws.Calls.Small, Laws.Calls.Numbered, Laws.Calls.Honest}
+use Rattle.capi.specs.{Laws.Calls.honest, Laws.Calls.never-refuses, Laws.Calls.one-refusal, Laws.Calls.after-verdict}
 
 -- ---- ysh_dump_bytes
 

@@ -12,7 +12,8 @@ use Rattle.dumpable.specs.{Laws.Fine.dump-fine}
 use Rattle.dump.specs.{Order.written, Parts.bytesFrom, Laws.PartFine.fine-part, Laws.Parts.inParts, Laws.Parts.total, Laws.Parts.parts-are-whole}
 use Rattle.dump.specs.{Laws.Parts.size-of, Laws.Parts.whole-written}
 use Rattle.replies.specs.{Call.Call, Call.callOf, Call.unlessBad}
-use Rattle.capi.specs.{Bars.lentLines, Power.dumpGives, Power.dumpCall, Part.PartLent, Part.partGives, Part.filledWith, Part.partCall, Laws.Calls.Small}
+use Rattle.stepping.specs.{Bars.lentLines}
+use Rattle.capi.specs.{Power.dumpGives, Power.dumpCall, Part.PartLent, Part.partGives, Part.filledWith, Part.partCall, Laws.Calls.Small}
 use Rattle.capi.specs.{Laws.Calls.Numbered, Laws.Calls.Honest, Laws.Calls.honest, Laws.Calls.never-refuses, Laws.Calls.one-refusal}
 use Rattle.capi.specs.{Laws.Calls.after-verdict, Laws.DumpCalls.onPaper, Laws.DumpCalls.paper-small, Laws.DumpCalls.lent-small}
 use Rattle.capi.specs.{Laws.DumpCalls.dump-bytes, Laws.DumpCalls.dump-honest}
