@@ -1,112 +1,36 @@
--- Six lines.
-use Rattle.words.specs.Prelude.{arith, needs}
-use Rattle.refusals.specs.{Laws.Descent.so, Laws.Descent.not-so, Laws.Descent.no-line, Laws.Descent.fine-line, Laws.Descent.bad-line}
+-- Six lines: those passed hold, and the first that does not decides.
+use Rattle.words.specs.Prelude.{refl, arith, needs}
+use Rattle.refusals.specs.Laws.Descent.{so, not-so, Below, top, past, stop, all-hold}
 use Rattle.images.specs.{Refused.imageLines, Laws.Fine.shape-fine, Laws.Fine.rows-few, Laws.Fine.rows-within}
 use Rattle.images.proofs.{Testing.equal, Testing.other, judge.judge_image.Statement.statement}
 use Rattle.images.proofs.judge.judge_image.Tie as tie
 
-returns : tie.Need-returns
-unfolding imageLines
-returns c =
-    let c1 = c .before in
-    bad-line _ _ (not-so (c1 .shape-fine .ensures) (c .if1 .taken))
+abbrev Rest : tie.Start → Type 0
+Rest s = Below (imageLines (s .args .image .now))
 
-returns-2 : tie.Need-returns-2
+abbrev past1 : (c : tie.Else1) → Rest (c .before .before .before)
 unfolding imageLines
-returns-2 c =
-    let c1 = c .before in
-    let c2 = c1 .before in
-    let c3 = c2 .before in
-    fine-line _ _ (so (c3 .shape-fine .ensures) (c2 .if1 .left))
-    (bad-line _ _ (not-so (c1 .numbers-fine .ensures) (c .if2 .taken)))
+past1 c = past top refl (so (c .before .shape-fine .ensures) (c .if1 .left))
 
-returns-3 : tie.Need-returns-3
+abbrev past2 : (c : tie.Else2) → Rest (c .before .before .before .before .before)
 unfolding imageLines
-returns-3 c =
-    let c1 = c .before in
-    let c2 = c1 .before in
-    let c3 = c2 .before in
-    let c4 = c3 .before in
-    let c5 = c4 .before in
-    fine-line _ _ (so (c5 .shape-fine .ensures) (c4 .if1 .left))
-    (fine-line _ _ (so (c3 .numbers-fine .ensures) (c2 .if2 .left))
-    (bad-line _ _ (not-so (c1 .unused-zero .ensures) (c .if3 .taken))))
+past2 c = past (past1 (c .before .before)) refl (so (c .before .numbers-fine .ensures) (c .if2 .left))
 
-returns-4 : tie.Need-returns-4
+abbrev past3 : (c : tie.Else3) → Rest (c .before .before .before .before .before .before .before)
 unfolding imageLines
-returns-4 c =
-    let c1 = c .before in
-    let c2 = c1 .before in
-    let c3 = c2 .before in
-    let c4 = c3 .before in
-    let c5 = c4 .before in
-    let c6 = c5 .before in
-    let c7 = c6 .before in
-    fine-line _ _ (so (c7 .shape-fine .ensures) (c6 .if1 .left))
-    (fine-line _ _ (so (c5 .numbers-fine .ensures) (c4 .if2 .left))
-    (fine-line _ _ (so (c3 .unused-zero .ensures) (c2 .if3 .left))
-    (bad-line _ _ (other (c1 .byte .ensures) (c .if4 .taken)))))
+past3 c = past (past2 (c .before .before)) refl (so (c .before .unused-zero .ensures) (c .if3 .left))
 
-returns-5 : tie.Need-returns-5
+abbrev past4 : (c : tie.Else4) → Rest (c .before .before .before .before .before .before .before .before .before)
 unfolding imageLines
-returns-5 c =
-    let c1 = c .before in
-    let c2 = c1 .before in
-    let c3 = c2 .before in
-    let c4 = c3 .before in
-    let c5 = c4 .before in
-    let c6 = c5 .before in
-    let c7 = c6 .before in
-    let c8 = c7 .before in
-    let c9 = c8 .before in
-    fine-line _ _ (so (c9 .shape-fine .ensures) (c8 .if1 .left))
-    (fine-line _ _ (so (c7 .numbers-fine .ensures) (c6 .if2 .left))
-    (fine-line _ _ (so (c5 .unused-zero .ensures) (c4 .if3 .left))
-    (fine-line _ _ (equal (c3 .byte .ensures) (c2 .if4 .left))
-    (bad-line _ _ (not-so (c1 .zero-at .ensures) (c .if5 .taken))))))
+past4 c = past (past3 (c .before .before)) refl (equal (c .before .byte .ensures) (c .if4 .left))
 
-returns-6 : tie.Need-returns-6
+abbrev past5 : (c : tie.Else5) → Rest (c .before .before .before .before .before .before .before .before .before .before .before)
 unfolding imageLines
-returns-6 c =
-    let c1 = c .before in
-    let c2 = c1 .before in
-    let c3 = c2 .before in
-    let c4 = c3 .before in
-    let c5 = c4 .before in
-    let c6 = c5 .before in
-    let c7 = c6 .before in
-    let c8 = c7 .before in
-    let c9 = c8 .before in
-    let c10 = c9 .before in
-    let c11 = c10 .before in
-    fine-line _ _ (so (c11 .shape-fine .ensures) (c10 .if1 .left))
-    (fine-line _ _ (so (c9 .numbers-fine .ensures) (c8 .if2 .left))
-    (fine-line _ _ (so (c7 .unused-zero .ensures) (c6 .if3 .left))
-    (fine-line _ _ (equal (c5 .byte .ensures) (c4 .if4 .left))
-    (fine-line _ _ (so (c3 .zero-at .ensures) (c2 .if5 .left))
-    (bad-line _ _ (not-so (c1 .rows-fine .ensures) (c .if6 .taken)))))))
+past5 c = past (past4 (c .before .before)) refl (so (c .before .zero-at .ensures) (c .if5 .left))
 
-returns-7 : tie.Need-returns-7
+abbrev past6 : (c : tie.Else6) → Rest (c .before .before .before .before .before .before .before .before .before .before .before .before .before)
 unfolding imageLines
-returns-7 c =
-    let c1 = c .before in
-    let c2 = c1 .before in
-    let c3 = c2 .before in
-    let c4 = c3 .before in
-    let c5 = c4 .before in
-    let c6 = c5 .before in
-    let c7 = c6 .before in
-    let c8 = c7 .before in
-    let c9 = c8 .before in
-    let c10 = c9 .before in
-    let c11 = c10 .before in
-    fine-line _ _ (so (c11 .shape-fine .ensures) (c10 .if1 .left))
-    (fine-line _ _ (so (c9 .numbers-fine .ensures) (c8 .if2 .left))
-    (fine-line _ _ (so (c7 .unused-zero .ensures) (c6 .if3 .left))
-    (fine-line _ _ (equal (c5 .byte .ensures) (c4 .if4 .left))
-    (fine-line _ _ (so (c3 .zero-at .ensures) (c2 .if5 .left))
-    (fine-line _ _ (so (c1 .rows-fine .ensures) (c .if6 .left))
-    (no-line))))))
+past6 c = past (past5 (c .before .before)) refl (so (c .before .rows-fine .ensures) (c .if6 .left))
 
 rows-fine-requires : tie.Need-rows-fine-requires
 rows-fine-requires c κs =
@@ -118,6 +42,13 @@ rows-fine-requires c κs =
     (fine .slots, omega (arith, few, fine .depth), rows-within x fine few)
 
 pub judge-image-spec : {M : Type 1} → statement M
+unfolding imageLines
 judge-image-spec =
-    tie.close (tie.spec (λ c κs. search needs) returns (λ c κs. search needs) returns-2 (λ c κs. search needs) returns-3
-    (λ c κs. search needs) returns-4 (λ c κs. search needs) returns-5 rows-fine-requires returns-6 returns-7)
+    tie.close (tie.spec
+    (λ c κs. search needs) (λ c. stop top refl (not-so (c .before .shape-fine .ensures) (c .if1 .taken)))
+    (λ c κs. search needs) (λ c. stop (past1 (c .before .before)) refl (not-so (c .before .numbers-fine .ensures) (c .if2 .taken)))
+    (λ c κs. search needs) (λ c. stop (past2 (c .before .before)) refl (not-so (c .before .unused-zero .ensures) (c .if3 .taken)))
+    (λ c κs. search needs) (λ c. stop (past3 (c .before .before)) refl (other (c .before .byte .ensures) (c .if4 .taken)))
+    (λ c κs. search needs) (λ c. stop (past4 (c .before .before)) refl (not-so (c .before .zero-at .ensures) (c .if5 .taken)))
+    rows-fine-requires (λ c. stop (past5 (c .before .before)) refl (not-so (c .before .rows-fine .ensures) (c .if6 .taken)))
+    (λ c. all-hold (past6 c) refl))

@@ -1,42 +1,34 @@
 -- The candle is one test, the slots and the funding two more.
-use Rattle.words.specs.Prelude.{ap, _∙_, needs}
-use Rattle.refusals.specs.{Bar.fundingFine, Bar.barLines, Laws.Descent.so, Laws.Descent.not-so, Laws.Descent.no-line, Laws.Descent.fine-line}
-use Rattle.refusals.specs.{Laws.Descent.bad-line}
+use Rattle.words.specs.Prelude.{refl, ap, _∙_, needs}
+use Rattle.refusals.specs.{Bar.fundingFine, Bar.barLines}
+use Rattle.refusals.specs.Laws.Descent.{so, not-so, Below, top, past, stop, all-hold}
 use Rattle.refusals.proofs.{bar.judge_bar.Statement.statement}
 use Rattle.refusals.proofs.bar.judge_bar.Tie as tie
 
-returns : tie.Need-returns
-unfolding barLines
-returns c = bad-line _ _ (not-so (c .before .candle-fine .ensures) (c .if1 .taken))
+abbrev Rest : tie.Start → Type 0
+Rest s = Below (barLines (s .args .slots) (s .args .bar .now) (s .args .seen))
 
-returns-2 : tie.Need-returns-2
+abbrev past1 : (c : tie.Else1) → Rest (c .before .before .before)
 unfolding barLines
-returns-2 c =
-    let c1 = c .before .before in
-    fine-line _ _ (so (c1 .before .candle-fine .ensures) (c1 .if1 .left))
-    (bad-line _ _ (not-so (c .before .slots-fine .ensures) (c .if2 .taken)))
+past1 c = past top refl (so (c .before .candle-fine .ensures) (c .if1 .left))
 
-returns-3 : tie.Need-returns-3
+abbrev past2 : (c : tie.Else2) → Rest (c .before .before .before .before .before)
 unfolding barLines
-returns-3 c =
-    let c1 = c .before .before in
-    let c2 = c1 .before .before in
-    let c3 = c2 .before .before in
-    fine-line _ _ (so (c3 .candle-fine .ensures) (c2 .before .if1 .left))
-    (fine-line _ _ (so (c2 .slots-fine .ensures) (c1 .before .if2 .left))
-    (bad-line _ _ (not-so (c .before .funding-fine .ensures ∙ ap fundingFine (c1 .funding-of .ensures)) (c .if3 .taken))))
+past2 c = past (past1 (c .before .before)) refl (so (c .before .slots-fine .ensures) (c .if2 .left))
 
-returns-4 : tie.Need-returns-4
+abbrev past3 : (c : tie.Else3) → Rest (c .before .before .before .before .before .before .before .before)
 unfolding barLines
-returns-4 c =
-    let c1 = c .before .before in
-    let c2 = c1 .before .before in
-    let c3 = c2 .before .before in
-    fine-line _ _ (so (c3 .candle-fine .ensures) (c2 .before .if1 .left))
-    (fine-line _ _ (so (c2 .slots-fine .ensures) (c1 .before .if2 .left))
-    (fine-line _ _ (so (c .before .funding-fine .ensures ∙ ap fundingFine (c1 .funding-of .ensures)) (c .if3 .left)) no-line))
+past3 c =
+    past (past2 (c .before .before .before)) refl
+    (so (c .before .funding-fine .ensures ∙ ap fundingFine (c .before .before .funding-of .ensures)) (c .if3 .left))
 
 pub judge-bar-spec : {M : Type 1} → statement M
+unfolding barLines
 judge-bar-spec =
-    tie.close (tie.spec (λ c κs. search needs) returns (λ c κs. search needs) returns-2 (λ c κs. search needs)
-    (λ c κs. search needs) returns-3 returns-4)
+    tie.close (tie.spec
+    (λ c κs. search needs) (λ c. stop top refl (not-so (c .before .candle-fine .ensures) (c .if1 .taken)))
+    (λ c κs. search needs) (λ c. stop (past1 (c .before .before)) refl (not-so (c .before .slots-fine .ensures) (c .if2 .taken)))
+    (λ c κs. search needs) (λ c κs. search needs)
+    (λ c. stop (past2 (c .before .before .before)) refl
+    (not-so (c .before .funding-fine .ensures ∙ ap fundingFine (c .before .before .funding-of .ensures)) (c .if3 .taken)))
+    (λ c. all-hold (past3 c) refl))

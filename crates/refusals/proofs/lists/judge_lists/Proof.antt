@@ -1,46 +1,36 @@
 -- Each list is a block, judged by itself.
-use Rattle.words.specs.Prelude.{needs}
-use Rattle.refusals.specs.{Lists.listLines, Laws.Descent.fine-block, Laws.Descent.bad-block}
+use Rattle.words.specs.Prelude.{refl, needs}
+use Rattle.records.specs.{Lent.lists}
+use Rattle.refusals.specs.{Lists.listLines}
+use Rattle.refusals.specs.Laws.Descent.{Below, top, past-block, stop-block, last-block}
 use Rattle.refusals.proofs.{lists.judge_lists.Statement.statement}
 use Rattle.refusals.proofs.lists.judge_lists.Tie as tie
 
-returns : tie.Need-returns
-unfolding listLines
-returns c =
-    let c1 = c .before .before .before in
-    bad-block _ _ (c1 .judge-list .ensures) (c .before .refusal .given .1)
+abbrev Rest : tie.Start → Type 0
+Rest s =
+    let a = s .args in
+    Below (listLines (a .slots) (a .depth) (lists (a .entry .now) (a .exit .now) (a .short-entry .now) (a .short-exit .now)))
 
-returns-2 : tie.Need-returns-2
+abbrev past1 : (c : tie.After-enum-told) → Rest (c .before .before .before .before .before .before .before)
 unfolding listLines
-returns-2 c =
-    let c1 = c .before .before .before in
-    let c2 = c1 .before .before .before in
-    fine-block _ _ (c2 .judge-list .ensures) (c1 .before .enum-told .given .1)
-    (bad-block _ _ (c1 .judge-list2 .ensures) (c .before .refusal2 .given .1))
+past1 c = past-block top _ _ (c .before .before .judge-list .ensures) refl (c .enum-told .given .1)
 
-returns-3 : tie.Need-returns-3
+abbrev past2 : (c : tie.After-enum-told2) → Rest (c .before .before .before .before .before .before .before .before .before .before)
 unfolding listLines
-returns-3 c =
-    let c1 = c .before .before .before in
-    let c2 = c1 .before .before .before in
-    let c3 = c2 .before .before .before in
-    fine-block _ _ (c3 .judge-list .ensures) (c2 .before .enum-told .given .1)
-    (fine-block _ _ (c2 .judge-list2 .ensures) (c1 .before .enum-told2 .given .1)
-    (bad-block _ _ (c1 .judge-list3 .ensures) (c .before .refusal3 .given .1)))
+past2 c = past-block (past1 (c .before .before .before)) _ _ (c .before .before .judge-list2 .ensures) refl (c .enum-told2 .given .1)
 
-returns-4 : tie.Need-returns-4
+abbrev past3 : (c : tie.After-enum-told3) → Rest (c .before .before .before .before .before .before .before .before .before .before .before .before .before)
 unfolding listLines
-returns-4 c =
-    let c1 = c .before .before .before in
-    let c2 = c1 .before .before .before in
-    let c3 = c2 .before .before .before in
-    fine-block _ _ (c3 .judge-list .ensures) (c2 .before .enum-told .given .1)
-    (fine-block _ _ (c2 .judge-list2 .ensures) (c1 .before .enum-told2 .given .1)
-    (fine-block _ _ (c1 .judge-list3 .ensures) (c .before .enum-told3 .given .1)
-    (c .judge-list4 .ensures)))
+past3 c = past-block (past2 (c .before .before .before)) _ _ (c .before .before .judge-list3 .ensures) refl (c .enum-told3 .given .1)
 
 pub judge-lists-spec : {M : Type 1} → statement M
+unfolding listLines
 judge-lists-spec =
-    tie.close (tie.spec (λ c κs. search needs) (λ c. search needs) returns (λ c. search needs) (λ c κs. search needs)
-    (λ c. search needs) returns-2 (λ c. search needs) (λ c κs. search needs) (λ c. search needs) returns-3
-    (λ c. search needs) (λ c κs. search needs) returns-4)
+    tie.close (tie.spec
+    (λ c κs. search needs) (λ c. search needs)
+    (λ c. stop-block top _ _ (c .before .before .before .judge-list .ensures) refl (c .before .refusal .given .1))
+    (λ c. search needs) (λ c κs. search needs) (λ c. search needs)
+    (λ c. stop-block (past1 (c .before .before .before .before)) _ _ (c .before .before .before .judge-list2 .ensures) refl (c .before .refusal2 .given .1))
+    (λ c. search needs) (λ c κs. search needs) (λ c. search needs)
+    (λ c. stop-block (past2 (c .before .before .before .before)) _ _ (c .before .before .before .judge-list3 .ensures) refl (c .before .refusal3 .given .1))
+    (λ c. search needs) (λ c κs. search needs) (λ c. last-block (past3 (c .before)) (c .judge-list4 .ensures)))

@@ -1,37 +1,29 @@
--- Line by line: those passed are fine, and the first that is not decides.
-use Rattle.words.specs.Prelude.{lt-ltb, le-ltb}
-use Rattle.refusals.specs.{Rooms.placeLines, Laws.Descent.no-line, Laws.Descent.fine-line, Laws.Descent.bad-line}
+-- Line by line: those passed hold, and the first that does not decides.
+use Rattle.words.specs.Prelude.{refl, lt-ltb, le-ltb}
+use Rattle.refusals.specs.{Rooms.placeLines}
+use Rattle.refusals.specs.Laws.Descent.{Below, top, past, stop, all-hold}
 use Rattle.refusals.proofs.{rooms.judge_place.Statement.statement}
 use Rattle.refusals.proofs.rooms.judge_place.Tie as tie
 
-returns : tie.Need-returns
-unfolding placeLines
-returns c = bad-line _ _ (le-ltb _ _ (c .if1 .taken))
+abbrev Rest : tie.Start → Type 0
+Rest s = Below (placeLines (s .args .n) (s .args .equity .now) (s .args .trades .now))
 
-returns-2 : tie.Need-returns-2
+abbrev past1 : (c : tie.Else1) → Rest (c .before .before)
 unfolding placeLines
-returns-2 c =
-    let c1 = c .before .before in
-    fine-line _ _ (lt-ltb _ _ (c1 .if1 .left))
-    (bad-line _ _ (le-ltb _ _ (c .if2 .taken)))
+past1 c = past top refl (lt-ltb _ _ (c .if1 .left))
 
-returns-3 : tie.Need-returns-3
+abbrev past2 : (c : tie.Else2) → Rest (c .before .before .before .before)
 unfolding placeLines
-returns-3 c =
-    let c1 = c .before .before in
-    let c2 = c1 .before .before in
-    fine-line _ _ (lt-ltb _ _ (c2 .if1 .left))
-    (fine-line _ _ (lt-ltb _ _ (c1 .if2 .left))
-    (bad-line _ _ (le-ltb _ _ (c .if3 .taken))))
+past2 c = past (past1 (c .before .before)) refl (lt-ltb _ _ (c .if2 .left))
 
-returns-4 : tie.Need-returns-4
+abbrev past3 : (c : tie.Else3) → Rest (c .before .before .before .before .before .before)
 unfolding placeLines
-returns-4 c =
-    let c1 = c .before .before in
-    let c2 = c1 .before .before in
-    fine-line _ _ (lt-ltb _ _ (c2 .if1 .left))
-    (fine-line _ _ (lt-ltb _ _ (c1 .if2 .left))
-    (fine-line _ _ (lt-ltb _ _ (c .if3 .left)) no-line))
+past3 c = past (past2 (c .before .before)) refl (lt-ltb _ _ (c .if3 .left))
 
 pub judge-place-spec : {M : Type 1} → statement M
-judge-place-spec = tie.close (tie.spec returns returns-2 returns-3 returns-4)
+unfolding placeLines
+judge-place-spec =
+    tie.close (tie.spec (λ c. stop top refl (le-ltb _ _ (c .if1 .taken)))
+    (λ c. stop (past1 (c .before .before)) refl (le-ltb _ _ (c .if2 .taken)))
+    (λ c. stop (past2 (c .before .before)) refl (le-ltb _ _ (c .if3 .taken)))
+    (λ c. all-hold (past3 c) refl))

@@ -1,39 +1,31 @@
 -- Counts and rooms are one test each, and the entry bar a third.
-use Rattle.words.specs.Prelude.{needs}
-use Rattle.refusals.specs.{Rooms.stateLines, Laws.Descent.so, Laws.Descent.not-so, Laws.Descent.no-line, Laws.Descent.fine-line, Laws.Descent.bad-line}
+use Rattle.words.specs.Prelude.{refl, needs}
+use Rattle.records.specs.{Lent.rooms}
+use Rattle.refusals.specs.{Rooms.stateLines}
+use Rattle.refusals.specs.Laws.Descent.{so, not-so, Below, top, past, stop, all-hold}
 use Rattle.refusals.proofs.{rooms.judge_state.Statement.statement}
 use Rattle.refusals.proofs.rooms.judge_state.Tie as tie
 
-returns : tie.Need-returns
-unfolding stateLines
-returns c = bad-line _ _ (not-so (c .before .counts-fine .ensures) (c .if1 .taken))
+abbrev Rest : tie.Start → Type 0
+Rest s = let a = s .args in Below (stateLines (a .s) (a .t) (rooms (a .rows .now) (a .equity .now) (a .trades .now)))
 
-returns-2 : tie.Need-returns-2
+abbrev past1 : (c : tie.Else1) → Rest (c .before .before .before .before .before .before)
 unfolding stateLines
-returns-2 c =
-    let c1 = c .before .before in
-    fine-line _ _ (so (c1 .before .counts-fine .ensures) (c1 .if1 .left))
-    (bad-line _ _ (not-so (c .before .held-fine .ensures) (c .if2 .taken)))
+past1 c = past top refl (so (c .before .counts-fine .ensures) (c .if1 .left))
 
-returns-3 : tie.Need-returns-3
+abbrev past2 : (c : tie.Else2) → Rest (c .before .before .before .before .before .before .before .before)
 unfolding stateLines
-returns-3 c =
-    let c1 = c .before .before .before in
-    let c2 = c1 .before .before in
-    fine-line _ _ (so (c2 .before .counts-fine .ensures) (c2 .if1 .left))
-    (fine-line _ _ (so (c1 .before .held-fine .ensures) (c1 .if2 .left))
-    (bad-line _ _ (not-so (c .before .entry-below .ensures) (c .if3 .taken))))
+past2 c = past (past1 (c .before .before)) refl (so (c .before .held-fine .ensures) (c .if2 .left))
 
-returns-4 : tie.Need-returns-4
+abbrev past3 : (c : tie.Else3) → Rest (c .before .before .before .before .before .before .before .before .before .before .before)
 unfolding stateLines
-returns-4 c =
-    let c1 = c .before .before .before in
-    let c2 = c1 .before .before in
-    fine-line _ _ (so (c2 .before .counts-fine .ensures) (c2 .if1 .left))
-    (fine-line _ _ (so (c1 .before .held-fine .ensures) (c1 .if2 .left))
-    (fine-line _ _ (so (c .before .entry-below .ensures) (c .if3 .left)) no-line))
+past3 c = past (past2 (c .before .before .before)) refl (so (c .before .entry-below .ensures) (c .if3 .left))
 
 pub judge-state-spec : {M : Type 1} → statement M
+unfolding stateLines
 judge-state-spec =
-    tie.close (tie.spec (λ c κs. search needs) returns (λ c κs. search needs) returns-2 (λ c κs. search needs) returns-3
-    returns-4)
+    tie.close (tie.spec
+    (λ c κs. search needs) (λ c. stop top refl (not-so (c .before .counts-fine .ensures) (c .if1 .taken)))
+    (λ c κs. search needs) (λ c. stop (past1 (c .before .before)) refl (not-so (c .before .held-fine .ensures) (c .if2 .taken)))
+    (λ c κs. search needs) (λ c. stop (past2 (c .before .before .before)) refl (not-so (c .before .entry-below .ensures) (c .if3 .taken)))
+    (λ c. all-hold (past3 c) refl))

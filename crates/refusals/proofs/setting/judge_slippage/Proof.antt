@@ -1,31 +1,29 @@
--- Line by line: those passed are fine, and the first that is not decides.
-use Rattle.words.specs.Prelude.{ap, _∙_, needs}
+-- Line by line: those passed hold, and the first that does not decides.
+use Rattle.words.specs.Prelude.{refl, ap, _∙_, needs}
 use Rattle.floats.specs.{Floats.finite}
-use Rattle.refusals.specs.{Settings.slippageLines, Laws.Descent.so, Laws.Descent.not-so, Laws.Descent.no-line, Laws.Descent.fine-line, Laws.Descent.bad-line}
+use Rattle.refusals.specs.{Settings.slippageLines}
+use Rattle.refusals.specs.Laws.Descent.{so, not-so, Below, top, past, stop, all-hold}
 use Rattle.refusals.proofs.{setting.judge_slippage.Statement.statement}
 use Rattle.refusals.proofs.setting.judge_slippage.Tie as tie
 
-returns : tie.Need-returns
-unfolding slippageLines
-returns c = bad-line _ _ (not-so (c .before .slippage-known .ensures) (c .if1 .taken))
+abbrev Rest : tie.Start → Type 0
+Rest s = Below (slippageLines (s .args .slippage))
 
-returns-2 : tie.Need-returns-2
+abbrev past1 : (c : tie.Else1) → Rest (c .before .before)
 unfolding slippageLines
-returns-2 c =
-    let c1 = c .before .before in
-    let c2 = c1 .before .before in
-    fine-line _ _ (so (c2 .slippage-known .ensures) (c1 .before .if1 .left))
-    (bad-line _ _ (not-so (c .before .is-finite .ensures ∙ ap finite (c1 .slippage-value .ensures)) (c .if2 .taken)))
+past1 c = past top refl (so (c .before .slippage-known .ensures) (c .if1 .left))
 
-returns-3 : tie.Need-returns-3
+abbrev past2 : (c : tie.Else2) → Rest (c .before .before .before .before .before)
 unfolding slippageLines
-returns-3 c =
-    let c1 = c .before .before in
-    let c2 = c1 .before .before in
-    fine-line _ _ (so (c2 .slippage-known .ensures) (c1 .before .if1 .left))
-    (fine-line _ _ (so (c .before .is-finite .ensures ∙ ap finite (c1 .slippage-value .ensures)) (c .if2 .left)) no-line)
+past2 c =
+    past (past1 (c .before .before .before)) refl (so (c .before .is-finite .ensures ∙ ap finite (c .before .before .slippage-value .ensures)) (c .if2 .left))
 
 pub judge-slippage-spec : {M : Type 1} → statement M
+unfolding slippageLines
 judge-slippage-spec =
-    tie.close (tie.spec (λ c κs. search needs) returns (λ c κs. search needs) (λ c κs. search needs) returns-2
-    returns-3)
+    tie.close (tie.spec
+    (λ c κs. search needs) (λ c. stop top refl (not-so (c .before .slippage-known .ensures) (c .if1 .taken)))
+    (λ c κs. search needs) (λ c κs. search needs)
+    (λ c. stop (past1 (c .before .before .before)) refl
+    (not-so (c .before .is-finite .ensures ∙ ap finite (c .before .before .slippage-value .ensures)) (c .if2 .taken)))
+    (λ c. all-hold (past2 c) refl))

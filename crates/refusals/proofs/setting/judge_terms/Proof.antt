@@ -1,76 +1,43 @@
 -- Settings 5 to 7, 9 and 10, and 12 to 16 are blocks, each judged by itself; the others are lines.
-use Rattle.words.specs.Prelude.{needs}
-use Rattle.refusals.specs.{Settings.termLines, Laws.Descent.so, Laws.Descent.not-so, Laws.Descent.no-line, Laws.Descent.fine-line, Laws.Descent.bad-line}
-use Rattle.refusals.specs.{Laws.Descent.fine-block, Laws.Descent.bad-block}
+use Rattle.words.specs.Prelude.{refl, needs}
+use Rattle.refusals.specs.{Settings.termLines}
+use Rattle.refusals.specs.Laws.Descent.{so, not-so, Below, top, past, stop, all-hold, past-block, stop-block}
 use Rattle.refusals.proofs.{setting.judge_terms.Statement.statement}
 use Rattle.refusals.proofs.setting.judge_terms.Tie as tie
 
-returns : tie.Need-returns
-unfolding termLines
-returns c =
-    let c1 = c .before .before .before in
-    bad-block _ _ (c1 .judge-sizing .ensures) (c .before .refusal .given .1)
+abbrev Rest : tie.Start → Type 0
+Rest s = Below (termLines (s .args .t))
 
-returns-2 : tie.Need-returns-2
+abbrev past1 : (c : tie.After-enum-told) → Rest (c .before .before .before .before)
 unfolding termLines
-returns-2 c =
-    let c1 = c .before .before in
-    let c2 = c1 .before .before in
-    fine-block _ _ (c2 .judge-sizing .ensures) (c1 .enum-told .given .1)
-    (bad-line _ _ (not-so (c .before .is-finite .ensures) (c .if1 .taken)))
+past1 c = past-block top _ _ (c .before .before .judge-sizing .ensures) refl (c .enum-told .given .1)
 
-returns-3 : tie.Need-returns-3
+abbrev past2 : (c : tie.Else1) → Rest (c .before .before .before .before .before .before)
 unfolding termLines
-returns-3 c =
-    let c1 = c .before .before .before in
-    let c2 = c1 .before .before in
-    let c3 = c2 .before .before .before in
-    fine-block _ _ (c3 .judge-sizing .ensures) (c2 .before .enum-told .given .1)
-    (fine-line _ _ (so (c2 .is-finite .ensures) (c1 .before .if1 .left))
-    (bad-block _ _ (c1 .judge-slippage .ensures) (c .before .refusal2 .given .1)))
+past2 c = past (past1 (c .before .before)) refl (so (c .before .is-finite .ensures) (c .if1 .left))
 
-returns-4 : tie.Need-returns-4
+abbrev past3 : (c : tie.After-enum-told2) → Rest (c .before .before .before .before .before .before .before .before .before)
 unfolding termLines
-returns-4 c =
-    let c1 = c .before .before .before in
-    let c2 = c1 .before .before .before in
-    let c3 = c2 .before .before in
-    let c4 = c3 .before .before .before in
-    fine-block _ _ (c4 .judge-sizing .ensures) (c3 .before .enum-told .given .1)
-    (fine-line _ _ (so (c3 .is-finite .ensures) (c2 .before .if1 .left))
-    (fine-block _ _ (c2 .judge-slippage .ensures) (c1 .before .enum-told2 .given .1)
-    (bad-block _ _ (c1 .judge-risk .ensures) (c .before .refusal3 .given .1))))
+past3 c = past-block (past2 (c .before .before .before)) _ _ (c .before .before .judge-slippage .ensures) refl (c .enum-told2 .given .1)
 
-returns-5 : tie.Need-returns-5
+abbrev past4 : (c : tie.After-enum-told3) → Rest (c .before .before .before .before .before .before .before .before .before .before .before .before)
 unfolding termLines
-returns-5 c =
-    let c1 = c .before .before in
-    let c2 = c1 .before .before in
-    let c3 = c2 .before .before .before in
-    let c4 = c3 .before .before in
-    let c5 = c4 .before .before .before in
-    fine-block _ _ (c5 .judge-sizing .ensures) (c4 .before .enum-told .given .1)
-    (fine-line _ _ (so (c4 .is-finite .ensures) (c3 .before .if1 .left))
-    (fine-block _ _ (c3 .judge-slippage .ensures) (c2 .before .enum-told2 .given .1)
-    (fine-block _ _ (c2 .judge-risk .ensures) (c1 .enum-told3 .given .1)
-    (bad-line _ _ (not-so (c .before .is-finite2 .ensures) (c .if2 .taken))))))
+past4 c = past-block (past3 (c .before .before .before)) _ _ (c .before .before .judge-risk .ensures) refl (c .enum-told3 .given .1)
 
-returns-6 : tie.Need-returns-6
+abbrev past5 : (c : tie.Else2) → Rest (c .before .before .before .before .before .before .before .before .before .before .before .before .before .before)
 unfolding termLines
-returns-6 c =
-    let c1 = c .before .before in
-    let c2 = c1 .before .before in
-    let c3 = c2 .before .before .before in
-    let c4 = c3 .before .before in
-    let c5 = c4 .before .before .before in
-    fine-block _ _ (c5 .judge-sizing .ensures) (c4 .before .enum-told .given .1)
-    (fine-line _ _ (so (c4 .is-finite .ensures) (c3 .before .if1 .left))
-    (fine-block _ _ (c3 .judge-slippage .ensures) (c2 .before .enum-told2 .given .1)
-    (fine-block _ _ (c2 .judge-risk .ensures) (c1 .enum-told3 .given .1)
-    (fine-line _ _ (so (c .before .is-finite2 .ensures) (c .if2 .left)) no-line))))
+past5 c = past (past4 (c .before .before)) refl (so (c .before .is-finite2 .ensures) (c .if2 .left))
 
 pub judge-terms-spec : {M : Type 1} → statement M
+unfolding termLines
 judge-terms-spec =
-    tie.close (tie.spec (λ c κs. search needs) (λ c. search needs) returns (λ c. search needs) (λ c κs. search needs)
-    returns-2 (λ c κs. search needs) (λ c. search needs) returns-3 (λ c. search needs) (λ c κs. search needs)
-    (λ c. search needs) returns-4 (λ c. search needs) (λ c κs. search needs) returns-5 returns-6)
+    tie.close (tie.spec
+    (λ c κs. search needs) (λ c. search needs)
+    (λ c. stop-block top _ _ (c .before .before .before .judge-sizing .ensures) refl (c .before .refusal .given .1))
+    (λ c. search needs) (λ c κs. search needs) (λ c. stop (past1 (c .before .before)) refl (not-so (c .before .is-finite .ensures) (c .if1 .taken)))
+    (λ c κs. search needs) (λ c. search needs)
+    (λ c. stop-block (past2 (c .before .before .before .before)) _ _ (c .before .before .before .judge-slippage .ensures) refl (c .before .refusal2 .given .1))
+    (λ c. search needs) (λ c κs. search needs) (λ c. search needs)
+    (λ c. stop-block (past3 (c .before .before .before .before)) _ _ (c .before .before .before .judge-risk .ensures) refl (c .before .refusal3 .given .1))
+    (λ c. search needs) (λ c κs. search needs) (λ c. stop (past4 (c .before .before)) refl (not-so (c .before .is-finite2 .ensures) (c .if2 .taken)))
+    (λ c. all-hold (past5 c) refl))
