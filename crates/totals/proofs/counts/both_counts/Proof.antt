@@ -1,8 +1,8 @@
 -- Two counts, each below 2^32, fit a word. Assumes nothing.
 use Rattle.words.specs.Prelude.{refl, arith, needs}
 use Rattle.totals.specs.{Totals.bothCounts}
-use Rattle.totals.proofs.{counts.both.Statement.statement}
-use Rattle.totals.proofs.counts.both.Tie as tie
+use Rattle.totals.proofs.{counts.both_counts.Statement.statement}
+use Rattle.totals.proofs.counts.both_counts.Tie as tie
 
 add-t7 : tie.Need-add-t7
 add-t7 c = let p = c .before .before .pre in omega (arith, p .2 0, p .3 0)
@@ -34,8 +34,8 @@ returns : tie.Need-returns
 unfolding bothCounts
 returns c = refl
 
-pub both-spec : {M : Type 1} → statement M
-both-spec =
+pub both-counts-spec : {M : Type 1} → statement M
+both-counts-spec =
     tie.close (tie.spec (λ c. search needs) (λ c. search needs) add-t7 (λ c. search needs) (λ c. search needs) add-t12 (λ c. search needs)
     (λ c. search needs) add-t17
     (λ c. search needs) (λ c. search needs) add-t22 (λ c. search needs) (λ c. search needs) add-t27 (λ c. search needs) (λ c. search needs) add-t32
