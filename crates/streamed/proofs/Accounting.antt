@@ -38,7 +38,8 @@ module _ (S seen count w : ℕ) (bars : List ℕ) (g : AccountGiven) (a : Accoun
       account-runs = go count some
         where
           go : (n : ℕ) → (n ≡ 0 → ⊥)
-              → accountAfter S seen (inRecords n w bars) g a ≡ ridesBy (profileJudged (g .table) (settingsOf (g .settings)) S) seen (alone S g a (inRecords n w bars)) a
+              → accountAfter S seen (inRecords n w bars) g a
+              ≡ ridesBy (profileJudged (g .table) (settingsOf (g .settings)) S) seen (alone S g a (inRecords n w bars)) a
           go zero h = absurd (h refl)
           go (suc n) h = unfold inRecords accountAfter in rw runs
 

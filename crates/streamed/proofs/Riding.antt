@@ -107,7 +107,8 @@ calls-few settings ls (bar ∷ bars) lent =
 pub ride-within : (settings : List ℕ) (ls : Lists) (own : List ℕ → List ℕ) (bars : List ℕ) (count w : ℕ) (given : StepLent) {d a : ℕ} {l : StepLent}
     → callsOver settings ls given (map own (inRecords count w bars)) ≡ record { done = d; answer = a; lent = l } → d ≤ count
 ride-within settings ls own bars count w given {d} {a} {l} e =
-    let few : callsOver settings ls given (map own (inRecords count w bars)) .done ≤ length (map own (inRecords count w bars)) = calls-few settings ls _ given in
+    let few : callsOver settings ls given (map own (inRecords count w bars)) .done ≤ length (map own (inRecords count w bars)) =
+    calls-few settings ls _ given in
     let long : length (map own (inRecords count w bars)) ≡ count = length-map (inRecords count w bars) own ∙ records-length count w bars in
     let so : d ≤ length (map own (inRecords count w bars)) = rw e at few in
     omega (arith, long, so)

@@ -49,7 +49,8 @@ returns c =
     let a = s .args in
     let fine = dump-fine _ _ _ _ (s .pre .fine) in
     dumped (settingsOf (a .settings .now)) (stateOf (a .state .now)) (a .rows .now) (a .area .now) (a .from) (a .upto) _ _ (fine .held)
-    (kept .held-window .ensures) (count .row-count .ensures) (head .direct-head .ensures (s .pre .full) ∙ ap (headWords _ _ _) (sym (plain-words (a .state .now))))
+    (kept .held-window .ensures) (count .row-count .ensures)
+    (head .direct-head .ensures (s .pre .full) ∙ ap (headWords _ _ _) (sym (plain-words (a .state .now))))
     (body .body-words .ensures) (order .write-order .ensures)
 
 pub write-words-spec : {M : Type 1} → statement M
