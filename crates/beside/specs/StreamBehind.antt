@@ -8,7 +8,7 @@ use Rattle.refusals.specs.{Day.wholeBars, Laws.Lines.never, Lines.judged}
 use Rattle.engine.specs.{Day.inRecords}
 use Rattle.accounts.specs.{Laws.Stream.records-length, Laws.Stream.moreTaken, Laws.Stream.stream-fine, Stream.streamLines, Stream.noneTaken, Stream.takenUnless}
 use Rattle.accounts.specs.{Stream.streamTakes, Stream.streamTaken}
-use Rattle.capi.specs.{Accounts.streamWords, Accounts.streamAfter}
+use Rattle.streamed.specs.{Accounts.streamWords, Accounts.streamAfter}
 use Rattle.beside.specs.{Appended.records-behind, Appended.takes-behind, Appended.takes-all, Appended.takes-early, Appended.takes-ended}
 
 -- ---- the stream's words

@@ -8,10 +8,11 @@ use Rattle.refusals.specs.{declared.verdict.Verdict.Verdict, declared.verdict.V
 use Rattle.refusals.specs.{Lines.judged}
 use Rattle.engine.specs.{Day.inRecords}
 use Rattle.accounts.specs.{declared.stream.StreamTaken.StreamTaken, Profile.profileJudged, Status.isStopped, Status.stoppedWith, Stream.streamTaken}
-use Rattle.capi.specs.{Accounts.AccountGiven, Accounts.AccountLent, Accounts.AccountsLent, Accounts.Four, Accounts.alone, Accounts.statusAfter}
-use Rattle.capi.specs.{Accounts.ridesBy, Accounts.ownBars, Accounts.accountAfter, Accounts.accountsLines, Accounts.noneDone, Accounts.streamAfter}
-use Rattle.capi.specs.{Accounts.afterBars, Accounts.accountsBy, Accounts.accountsCall, Call.Call, Call.answerWord, WordRun.WordRun, WordRun.callsOver}
-use Rattle.capi.specs.{WordRun.answerOf}
+use Rattle.replies.specs.{Call.Call, Call.answerWord}
+use Rattle.stepping.specs.{WordRun.WordRun, WordRun.callsOver, WordRun.answerOf}
+use Rattle.streamed.specs.{Accounts.AccountGiven, Accounts.AccountLent, Accounts.AccountsLent, Accounts.Four, Accounts.alone, Accounts.statusAfter}
+use Rattle.streamed.specs.{Accounts.ridesBy, Accounts.ownBars, Accounts.accountAfter, Accounts.accountsLines, Accounts.noneDone, Accounts.streamAfter}
+use Rattle.streamed.specs.{Accounts.afterBars, Accounts.accountsBy, Accounts.accountsCall}
 
 -- ---- which of the four
 

@@ -6,7 +6,7 @@ use Rattle.refusals.specs.{declared.verdict.Verdict.the-variants.Fine, Lines.ju
 use Rattle.refusals.specs.{Laws.Lines.below-fine}
 use Rattle.engine.specs.{Books.emptied, Boxes.Sound, Run.Run, Run.runOver}
 use Rattle.images.specs.{Layout.dumpBytes}
-use Rattle.dump.specs.{Refused.areaLines, Refused.dumpStateLines, Refused.dumpLines, Refused.dumpJudged}
+use Rattle.dumpable.specs.{Refused.areaLines, Refused.dumpStateLines, Refused.dumpLines, Refused.dumpJudged}
 use Rattle.restart.specs.{Accepted.reached-passed}
 
 -- A dump of a sound box, with an entry bar below the bars seen and these no more than 4,294,967,295, is not refused.
