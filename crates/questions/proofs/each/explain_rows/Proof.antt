@@ -1,5 +1,5 @@
 -- After i turns: the first i places and counts are written.
-use Rattle.words.specs.Prelude.{ℕ, _+_, _-_, _*_, _/_, _<_, _≤_, _≡_, refl, sym, ap, _∙_, subst, arith, needs, length}
+use Rattle.words.specs.Prelude.{ℕ, _+_, _-_, _*_, _/_, _<_, _≤_, _≡_, refl, sym, ap, _∙_, subst, List, arith, needs, length}
 use Rattle.questions.specs.{Over.askedRows, Over.placeWords, Over.linesOver, Over.countsOver, Over.explanationOver, Laws.Places.lines-long}
 use Rattle.questions.specs.{Laws.Places.counts-long}
 use Rattle.questions.proofs.{Asking.place-fits, Asking.rows-held, Asking.rows-few, Asking.upto-there, Asking.lines-turn, Asking.counts-turn}
@@ -19,6 +19,10 @@ sub-older c =
     let start = c .before .before .before .before .before .before .before in
     rows-held (start .args .t .now) (start .args .rows .now) (start .args .positions .now) _ _ (c .before .slots .ensures) (c .row-count .ensures)
     (start .pre .1)
+
+loop-holds : tie.Need-loop-holds Inv-loop μ-loop
+unfolding linesOver countsOver
+loop-holds c = (omega arith, refl, refl)
 
 -- rows and questions are fewer than the words of the rows
 few : (R n i long : ℕ) → R ≤ long → n ≤ R → i < n → (R - n + i < long) × (R - n + i + 1 ≤ long)
@@ -91,6 +95,12 @@ loop-again c =
           (position .before .first-rows .ensures) (position .position-at .ensures) (a .counts .now) (l .counts) _ (l .inv .2) (row .explain-row .ensures .1),
     )
 
+same-length : tie.Need-same-length Inv-loop μ-loop
+same-length c = ap length (c .before .loop .inv .1) ∙ lines-long _ _ _
+
+same-length-2 : tie.Need-same-length-2 Inv-loop μ-loop
+same-length-2 c = ap length (c .before .loop .inv .2) ∙ counts-long _ _ _
+
 returns : tie.Need-returns Inv-loop μ-loop
 unfolding askedRows
 returns c =
@@ -102,10 +112,9 @@ returns c =
     (l .inv .1 ∙ ap (λ (n : ℕ). linesOver each n (a .lines .now)) end, l .inv .2 ∙ ap (λ (n : ℕ). countsOver each n (a .counts .now)) end)
 
 pub explain-rows-spec : {M : Type 1} → statement M
-unfolding linesOver countsOver
 explain-rows-spec =
-    tie.close (tie.spec Inv-loop μ-loop (λ c κs. search needs) (λ c. search needs) (λ c κs. search needs) sub-older (λ c. (omega arith, refl, refl))
-    (λ c. search needs) add-first-rows-2 add-first-rows-3 first-rows-requires position-at-requires explain-row-requires
+    tie.close (tie.spec Inv-loop μ-loop (λ c κs. search needs) (λ c. search needs) (λ c κs. search needs) sub-older loop-holds (λ c. search needs)
+    add-first-rows-2 add-first-rows-3 first-rows-requires position-at-requires explain-row-requires
     (λ c. omega (arith, c .before .before .before .before .before .before .before .before .before .loop-test .taken))
-    (λ c. omega (arith, c .before .before .before .before .before .before .before .before .before .loop-test .taken)) loop-again
-    (λ c. ap length (c .before .loop .inv .1) ∙ lines-long _ _ _) (λ c. ap length (c .before .loop .inv .2) ∙ counts-long _ _ _) returns)
+    (λ c. omega (arith, c .before .before .before .before .before .before .before .before .before .loop-test .taken)) loop-again same-length same-length-2
+    returns)
