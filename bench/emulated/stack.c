@@ -73,7 +73,7 @@ static uint64_t painted(const char *name, const void *function, const uint64_t *
 /* ---- tables as deep and as wide as they may be: their entry; the exit is one node */
 
 static uint8_t table[16 + 16 * NODES], entry_steps[YSH_STEP_BYTES(NODES)];
-static uint64_t out[4], silent[NODES], lines[YSH_MOST_LINES * YSH_LINE_WORDS], two_rows[14];
+static uint64_t out[4], silent[NODES], lines[2 * YSH_PLACE_WORDS], two_rows[14], two_positions[2 * YSH_POSITION_WORDS] = {0, 0, 0, 1, 0, 0, 0, 2};
 
 /* All of `leaves` conditions that are nothing but yes; the next node is its last child. */
 static uint8_t *put_stair(uint8_t *at, int leaves)
@@ -116,6 +116,7 @@ static void take_table(size_t bytes)
     must(CALL(ysh_silent, AT(table), bytes, 1, ALL(silent), AT(out)));
     must(CALL(ysh_rule, AT(table), bytes, 0, ALL(two_rows), 0, 0, 0, 2, AT(out)));
     must(CALL(ysh_why, AT(table), bytes, 0, ALL(two_rows), 0, 0, 0, 2, ALL(lines), AT(out)));
+    must(CALL(ysh_why_over, AT(table), bytes, 0, ALL(two_rows), ALL(two_positions), ALL(lines), AT(out), 2));
     must(CALL(ysh_translate, AT(table), bytes, 0, ALL(entry_steps), AT(out)));
     uint64_t used = out[0];
     must(CALL(ysh_run, AT(entry_steps), used, ALL(two_rows), 0, 2, 0, 0, 0, 2, AT(out), AT(out + 1)));
@@ -227,6 +228,7 @@ static void take_figures(void)
     for (int i = 0; i < 400; i++)
         CALL(ysh_root, word_of(i < 200 ? 1e9 * chance() : 1e-310 * chance()));
     CALL(ysh_dump_bytes, 2, 14);
+    painted("ysh_version", (const void *)ysh_version, NULL, 0);
 }
 
 int main(void)

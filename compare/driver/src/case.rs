@@ -5,8 +5,7 @@ use oracle::spec::{Sizing, Slippage};
 use oracle::table::{slots_of, Table};
 use oracle::words::{bytes_of_hex, order_number, Words};
 use oracle::Settings;
-
-use crate::calls::{GIVEN, SETTING_WORDS};
+use yshturpa::layout::{GIVEN, SETTING_WORDS};
 
 /// What stands in words that must not be looked at: a NaN of an odd pattern.
 pub const JUNK: u64 = 0xfff4_dead_beef_f00d;

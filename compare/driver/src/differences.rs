@@ -5,8 +5,9 @@
 //! exchanged.
 
 use oracle::lists::dice::Dice;
+use yshturpa::calls;
+use yshturpa::layout::{DIFFERENCE_WORDS, POINT_WORDS, TRADE_WORDS};
 
-use crate::calls::{self, Books, DIFFERENCE_WORDS, POINT_WORDS, TRADE_WORDS};
 use crate::guard::room::Room;
 use crate::model::refusal;
 use crate::progress::Progress;
@@ -188,10 +189,11 @@ impl Lent {
 
     fn call(&mut self) -> u64 {
         let [equity, trades, other_equity, other_trades] = &self.data;
-        let books = |equity, trades| Books { equity, trades };
         calls::compare(
-            books(equity.lent(), trades.lent()),
-            books(other_equity.lent(), other_trades.lent()),
+            equity.lent(),
+            trades.lent(),
+            other_equity.lent(),
+            other_trades.lent(),
             self.lines.lent_mut(),
             &mut self.count.lent_mut()[0],
         )

@@ -5,10 +5,11 @@ use oracle::lists::dice::{Dice, ODD};
 use oracle::portfolio::Trade;
 use oracle::words::{reason_name, Line, NAN};
 use oracle::{metrics_of, Reading};
+use yshturpa::layout::METRIC_WORDS;
+use yshturpa::{calls, Refusal};
 
-use crate::calls::{self, METRIC_WORDS};
-use crate::ours::done;
 use crate::progress::Progress;
+use crate::records;
 use crate::view::{unlike, METRICS};
 
 /// A number whose root is a float, of any exponent, below the normal numbers too: the square of up to 26 digits, times a power of four.
@@ -145,13 +146,13 @@ pub fn metrics(seed: u64, count: u64) -> bool {
     let mut progress = Progress::new("metrics", count);
     for number in 0..count {
         let figures = some_figures(dice);
-        let trades = figures.trades.iter().fold(Line::new(), calls::ten_words);
+        let trades = figures.trades.iter().fold(Line::new(), records::ten_words);
         let mut ours = [0; METRIC_WORDS];
         let points = points_of(&figures.equity);
         let called = calls::metrics(figures.initial.to_bits(), &points, trades.words(), &mut ours);
         let theirs = metrics_of(figures.initial, &figures.equity, &figures.trades, Reading::Paper);
         let parted = unlike(&METRICS, &ours, Line::new().metrics(&theirs).words());
-        if done(called).is_err() || !parted.is_empty() {
+        if Refusal::of(called).is_err() || !parted.is_empty() {
             println!(
                 "answer {called:x}, {parted:x?}, capital {:016x}",
                 figures.initial.to_bits()

@@ -2,7 +2,6 @@
 
 mod accounts;
 mod bench;
-mod calls;
 mod case;
 mod cases;
 mod compare;
@@ -16,6 +15,8 @@ mod ours;
 #[cfg(feature = "stack")]
 mod painted;
 mod progress;
+mod questions;
+mod records;
 #[cfg(feature = "stack")]
 mod stack;
 mod stretches;
@@ -27,7 +28,7 @@ use std::process::ExitCode;
 
 const USAGE: &str = "usage: driver compare SEED RUNS | guard SEED CALLS | root SEED COUNT | metrics SEED COUNT
        driver extremes SEED COUNT | images SEED COUNT | stretches SEED COUNT | totals SEED COUNT | differences SEED COUNT
-       driver accounts SEED STREAMS
+       driver accounts SEED STREAMS | questions SEED COUNT
        driver replay < runs | bench [PART]
        driver stack SEED RUNS (with the feature `stack`: compare/stack)";
 
@@ -58,6 +59,7 @@ fn main() -> ExitCode {
         ["metrics", seed, count] => figures::metrics(number(seed), number(count)),
         ["accounts", seed, count] => accounts::accounts(number(seed), number(count)),
         ["differences", seed, count] => differences::differences(number(seed), number(count)),
+        ["questions", seed, count] => questions::questions(number(seed), number(count)),
         ["totals", seed, count] => totals::totals(number(seed), number(count)),
         _ => usage(),
     };

@@ -1,38 +1,22 @@
 //! The proved engine: a run through the C interface.
 
-use crate::calls::{self, state, Finish, Position, Step};
-use crate::calls::{METRIC_WORDS, NODE_STEP_BYTES, POINT_WORDS, SETTING_WORDS, STATE_WORDS, TRADE_WORDS};
+use yshturpa::layout::{state, METRIC_WORDS, POINT_WORDS, SETTING_WORDS, STATE_WORDS, STEP_ROOM, TRADE_WORDS};
+use yshturpa::{calls, Refusal};
+
 use crate::case::{setting_words, Case};
+use crate::records::{self, Position};
 use crate::view::View;
 
 /// What the rooms are filled with before a run.
 const UNTOUCHED: u64 = 0x5a5a_a5a5_5a5a_a5a5;
 
-/// A refusal's number and place, from an answer.
-#[derive(Debug, Clone, Copy, PartialEq, Eq)]
-pub struct Refusal {
-    pub number: u64,
-    pub place: u64,
-}
-
-/// Nothing where a call did its work, else what it refused.
-pub fn done(answer: u64) -> Result<(), Refusal> {
-    match answer {
-        0 => Ok(()),
-        _ => Err(Refusal {
-            number: answer >> 32,
-            place: answer & 0xffff_ffff,
-        }),
-    }
-}
-
 /// The steps of tree `tree`, translated into a room of exactly the size it needs.
 pub fn translated(table: &[u8], tree: u64) -> Result<Vec<u8>, Refusal> {
     let at = 8 + 2 * tree as usize;
     let nodes = usize::from(u16::from_le_bytes([table[at], table[at + 1]]));
-    let mut room = vec![0xa5; NODE_STEP_BYTES * nodes];
+    let mut room = vec![0xa5; STEP_ROOM * nodes];
     let mut used = 0;
-    done(calls::translate(table, tree, &mut room, &mut used))?;
+    Refusal::of(calls::translate(table, tree, &mut room, &mut used))?;
     room.truncate(used as usize);
     Ok(room)
 }
@@ -61,26 +45,26 @@ impl Ours {
         let mut run = Self {
             settings,
             state: [UNTOUCHED; STATE_WORDS],
-            rows: vec![UNTOUCHED; rows * calls::row_words(case.table.slots)],
+            rows: vec![UNTOUCHED; rows * records::row_words(case.table.slots)],
             equity: vec![UNTOUCHED; bars * POINT_WORDS],
             trades: vec![UNTOUCHED; (bars + 1) * TRADE_WORDS],
             lists: [list(0)?, list(1)?, list(2)?, list(3)?],
         };
-        done(calls::fresh(&run.settings, &mut run.state))?;
+        Refusal::of(calls::fresh(&run.settings, &mut run.state))?;
         Ok(run)
     }
 
     pub fn step(&mut self, bar: &[u64]) -> Result<(), Refusal> {
         let [entry, exit, short_entry, short_exit] = &self.lists;
-        done(calls::step(Step {
-            settings: &self.settings,
-            state: &mut self.state,
+        Refusal::of(calls::step(
+            &self.settings,
+            &mut self.state,
             bar,
-            rows: &mut self.rows,
-            equity: &mut self.equity,
-            trades: &mut self.trades,
-            lists: [entry, exit, short_entry, short_exit],
-        }))
+            &mut self.rows,
+            &mut self.equity,
+            &mut self.trades,
+            [entry, exit, short_entry, short_exit],
+        ))
     }
 
     /// Many bars in one call: how many were done, and what stopped it.
@@ -88,30 +72,28 @@ impl Ours {
         let [entry, exit, short_entry, short_exit] = &self.lists;
         let mut count = UNTOUCHED;
         let answer = calls::steps(
-            Step {
-                settings: &self.settings,
-                state: &mut self.state,
-                bar: bars,
-                rows: &mut self.rows,
-                equity: &mut self.equity,
-                trades: &mut self.trades,
-                lists: [entry, exit, short_entry, short_exit],
-            },
+            &self.settings,
+            &mut self.state,
+            bars,
+            &mut self.rows,
+            &mut self.equity,
+            &mut self.trades,
+            [entry, exit, short_entry, short_exit],
             &mut count,
         );
-        (count as usize, done(answer))
+        (count as usize, Refusal::of(answer))
     }
 
     pub fn finish(&mut self) -> Result<[u64; METRIC_WORDS], Refusal> {
         let mut metrics = [UNTOUCHED; METRIC_WORDS];
-        done(calls::finish(Finish {
-            settings: &self.settings,
-            state: &mut self.state,
-            rows: &self.rows,
-            equity: &mut self.equity,
-            trades: &mut self.trades,
-            metrics: &mut metrics,
-        }))?;
+        Refusal::of(calls::finish(
+            &self.settings,
+            &mut self.state,
+            &self.rows,
+            &mut self.equity,
+            &mut self.trades,
+            &mut metrics,
+        ))?;
         Ok(metrics)
     }
 
@@ -119,7 +101,7 @@ impl Ours {
     pub fn metrics(&self) -> Result<[u64; METRIC_WORDS], Refusal> {
         let mut metrics = [UNTOUCHED; METRIC_WORDS];
         let (points, trades) = (self.points_held(), self.trades_held());
-        done(calls::metrics(self.settings[2], points, trades, &mut metrics))?;
+        Refusal::of(calls::metrics(self.settings[2], points, trades, &mut metrics))?;
         Ok(metrics)
     }
 
@@ -130,7 +112,7 @@ impl Ours {
         if let Some(last) = points.last_chunk_mut() {
             *last = point;
         }
-        done(calls::metrics(
+        Refusal::of(calls::metrics(
             self.settings[2],
             &points,
             self.trades_held(),
@@ -149,7 +131,7 @@ impl Ours {
     }
 
     pub fn rows_held(&self) -> &[u64] {
-        let width = calls::row_words(self.settings[0] as usize);
+        let width = records::row_words(self.settings[0] as usize);
         &self.rows[..self.count(state::ROWS_HELD) * width]
     }
 
@@ -209,7 +191,7 @@ pub fn view_of(s: &[u64], equity: &[u64], trades: &[u64]) -> View {
         waits,
         &entry,
         held,
-        &s[state::FUNDING..],
+        &s[state::OPEN_FUNDING..],
         &trade,
     ])
 }

@@ -4,11 +4,11 @@
 use oracle::lists::trees::{always, close, compare as test, negated, number, prev};
 use oracle::spec::Condition;
 use oracle::table::Table;
+use yshturpa::calls::{self, accounts, Account};
+use yshturpa::layout::{MOST_NODES, STEP_BYTES, WHY_LINES, WHY_WORDS};
 
 use crate::accounts::accounts as four;
-use crate::accounts::call::{accounts, Account};
 use crate::bench::setup::Size;
-use crate::calls::{self, Position, LINE_WORDS, MOST_LINES, MOST_NODES, STEP_BYTES};
 use crate::case::bar_words;
 use crate::cases;
 use crate::compare::compare;
@@ -18,7 +18,9 @@ use crate::figures::{metrics, roots};
 use crate::guard::guard;
 use crate::images::images;
 use crate::ours::{translated, Ours};
-use crate::painted::uses;
+use crate::painted::{self, uses};
+use crate::questions::questions;
+use crate::records;
 use crate::stretches::stretches;
 use crate::totals::totals;
 
@@ -50,7 +52,7 @@ fn longest_lists(seed: u64) {
     let mut run = Ours::new(&case, case.settings.depth).expect("an accepted case");
     run.lists = [(); 4].map(|()| longest_list());
     let bars: Vec<u64> = case.bars.iter().flat_map(bar_words).collect();
-    let width = calls::bar_words(case.table.slots);
+    let width = records::bar_words(case.table.slots);
     let (single, many) = bars.split_at(20 * width);
     single
         .chunks(width)
@@ -58,12 +60,12 @@ fn longest_lists(seed: u64) {
     let (_, answer) = run.steps(many);
     answer.expect("bars in the domain");
     let (mut said, mut visits) = (0, 0);
-    let window = (run.settings[0], run.settings[1]);
     calls::run(
         &run.lists[0],
         run.rows_held(),
-        window,
-        run.position(),
+        run.settings[0],
+        run.settings[1],
+        run.position().words(),
         &mut said,
         &mut visits,
     );
@@ -77,7 +79,7 @@ fn four_accounts(run: &Ours, table: &[u8], lists: [&[u8]; 2], bars: &[u64]) {
         let (state, rows) = (run.state, run.rows.clone());
         (state, rows, run.equity.clone(), run.trades.clone(), [0; 3])
     });
-    let lent = rooms.each_mut().map(|(state, rows, equity, trades, status)| Account {
+    let [a, b, c, d] = rooms.each_mut().map(|(state, rows, equity, trades, status)| Account {
         table,
         settings: &run.settings,
         entry: lists[0],
@@ -88,7 +90,8 @@ fn four_accounts(run: &Ours, table: &[u8], lists: [&[u8]; 2], bars: &[u64]) {
         trades,
         status,
     });
-    assert_eq!(accounts(&mut stream, bars, &mut done, lent), 0, "bars in the domain");
+    let answer = accounts(&mut stream, bars, &mut done, a, b, c, d);
+    assert_eq!(answer, 0, "bars in the domain");
     assert!(rooms.iter().all(|room| room.4 == [0; 3]), "accounts that run");
 }
 
@@ -145,12 +148,7 @@ fn table_of(entry: Condition) -> Vec<u8> {
 
 /// Every call over a table, with such an entry.
 fn greatest_tables() {
-    let at = Position {
-        qty: 0,
-        entered: 0,
-        entry_bar: 0,
-        bars_seen: 2,
-    };
+    let at = [0, 0, 0, 2];
     let rows = [0; 14];
     for entry in greatest_trees() {
         let table = table_of(entry);
@@ -159,9 +157,11 @@ fn greatest_tables() {
         calls::depth(&table, 0, &mut a, &mut b);
         calls::silent(&table, 1, &mut [0; MOST_NODES], &mut a);
         calls::rule(&table, 0, &rows, at, &mut a);
-        calls::why(&table, 0, &rows, at, &mut [0; MOST_LINES * LINE_WORDS], &mut a);
+        calls::why(&table, 0, &rows, at, &mut [0; WHY_LINES * WHY_WORDS], &mut a);
+        let (mut lines, mut counts) = ([0; 2 * WHY_LINES * WHY_WORDS], [0; 2]);
+        calls::why_over(&table, 0, &rows, &[at, at].concat(), &mut lines, &mut counts);
         let list = translated(&table, 0).expect("an accepted table");
-        calls::run(&list, &rows, (0, 2), at, &mut a, &mut b);
+        calls::run(&list, &rows, 0, 2, at, &mut a, &mut b);
     }
 }
 
@@ -194,6 +194,7 @@ fn limit(call: &str) -> Option<u64> {
 /// Runs what the other commands compare on a painted stack, and writes how much of it each call took; whether all agree, and no call takes more
 /// than docs/PERFORMANCE.md says.
 pub fn stack(seed: u64, runs: u64) -> bool {
+    calls::WATCHED.set(painted::call).expect("nobody else watches");
     longest_lists(seed);
     greatest_tables();
     greatest_accounts();
@@ -206,7 +207,8 @@ pub fn stack(seed: u64, runs: u64) -> bool {
         && totals(seed, 100 * runs)
         && stretches(seed, runs)
         && differences(seed, 100 * runs)
-        && four(seed, runs);
+        && four(seed, runs)
+        && questions(seed, runs);
     println!("\n| call | calls | bytes of stack at most | docs/PERFORMANCE.md |\n|---|---|---|---|");
     let mut within = true;
     for (name, used) in uses() {

@@ -8,8 +8,8 @@ use oracle::portfolio::Trade;
 use oracle::report::BacktestReport;
 use oracle::words::Line;
 use oracle::{by_reading, run_of, spec_of, Reading};
+use yshturpa::layout::TRADE_WORDS;
 
-use crate::calls::TRADE_WORDS;
 use crate::case::Case;
 use crate::view::View;
 

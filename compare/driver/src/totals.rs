@@ -5,8 +5,9 @@
 //! 64 highest digits, the last of them standing for all below.
 
 use oracle::lists::dice::Dice;
+use yshturpa::calls;
+use yshturpa::layout::TRADE_WORDS;
 
-use crate::calls::{self, TRADE_WORDS};
 use crate::progress::Progress;
 
 const TOTAL_WORDS: usize = 43;

@@ -1,9 +1,9 @@
 //! What the trees of a compiled strategy say, against `eval_condition`.
 
+use dice::Dice;
 use yshturpa::{rule, Bar, Position, Rows, Tree};
 
 use crate::data::Candle;
-use crate::dice::Dice;
 use crate::limits::trees;
 use crate::meaning::Counts;
 use crate::rules::{eval_condition, BarRow, RuleState};

@@ -1,8 +1,8 @@
 //! A document that is damaged: something in it replaced, left out or added, or its text cut, struck or mixed up.
 
+use dice::Dice;
 use serde_json::{json, Value};
 
-use crate::dice::Dice;
 use crate::write;
 
 pub fn damaged(document: &Value, text: &str, dice: &mut Dice) -> String {

@@ -1,8 +1,8 @@
 //! Random strategies, in every form that the format has.
 
+use dice::Dice;
 use serde_json::{json, Map, Value};
 
-use crate::dice::Dice;
 use crate::trees::{constant, tree, Manner, NAMES};
 
 pub fn strategy(dice: &mut Dice) -> Value {

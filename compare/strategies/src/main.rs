@@ -8,7 +8,6 @@ include!(concat!(env!("OUT_DIR"), "/modules.rs"));
 
 mod answers;
 mod damage;
-mod dice;
 mod documents;
 mod limits;
 mod meaning;
@@ -34,7 +33,7 @@ fn main() {
         eprintln!("usage: strategies SEED COUNT");
         std::process::exit(2)
     };
-    let mut dice = Dice::new(seed);
+    let mut dice = Dice(seed);
     let mut counts = Counts::default();
     for number in 0..count {
         let document = documents::strategy(&mut dice);

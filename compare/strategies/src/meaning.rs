@@ -1,12 +1,12 @@
 //! One text on both sides: read, compiled, asked over rows, and shown again.
 
+use dice::Dice;
 use std::collections::BTreeMap;
 use std::fmt;
 
 use yshturpa::Tree;
 
 use crate::answers::same_answers;
-use crate::dice::Dice;
 use crate::limits::{lacking, Size};
 use crate::settings::same_settings;
 use crate::spec::StrategySpec;

@@ -1,8 +1,7 @@
 //! Random conditions and operands, in every form that the format has.
 
+use dice::Dice;
 use serde_json::{json, Value};
-
-use crate::dice::Dice;
 
 /// Names that rules read; the base of each, up to the dot, may be declared.
 pub const NAMES: [&str; 12] = [

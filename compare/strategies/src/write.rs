@@ -1,8 +1,7 @@
 //! A JSON value as text: keys in any order, spaces anywhere, now and then a key twice or a letter as its number.
 
+use dice::Dice;
 use serde_json::Value;
-
-use crate::dice::Dice;
 
 pub fn text(value: &Value, dice: &mut Dice) -> String {
     let mut text = String::new();

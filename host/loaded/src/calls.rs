@@ -1,28 +1,17 @@
-//! The calls of a loaded library that a run needs, each once over slices: all the `unsafe` there is.
+//! The calls of a loaded library that a run needs: `yshturpa`'s, by the functions of another file. All the `unsafe` there is.
 #![allow(unsafe_code)]
 
 use std::path::Path;
 
+use yshturpa::calls::{finish, fresh, steps, translate};
 use yshturpa::Refusal;
-
-type Translate = unsafe extern "C" fn(*const u8, usize, u64, *mut u8, usize, *mut u64) -> u64;
-type Fresh = unsafe extern "C" fn(*const u64, usize, *mut u64, usize) -> u64;
-#[rustfmt::skip]
-type Steps = unsafe extern "C" fn(
-    *const u64, usize, *mut u64, usize, *const u64, usize, *mut u64, usize, *mut u64, usize, *mut u64, usize,
-    *const u8, usize, *const u8, usize, *const u8, usize, *const u8, usize, *mut u64,
-) -> u64;
-#[rustfmt::skip]
-type Finish = unsafe extern "C" fn(
-    *const u64, usize, *mut u64, usize, *const u64, usize, *mut u64, usize, *mut u64, usize, *mut u64, usize,
-) -> u64;
 
 /// A library that was loaded. Its code is trusted as the program's own is: whoever names the file answers for it.
 pub struct Library {
-    translate: Translate,
-    fresh: Fresh,
-    steps: Steps,
-    finish: Finish,
+    translate: translate::Function,
+    fresh: fresh::Function,
+    steps: steps::Function,
+    finish: finish::Function,
     /// The functions above are this one's: it goes last.
     _library: libloading::Library,
 }
@@ -35,17 +24,8 @@ pub struct Rooms<'a> {
     pub trades: &'a mut [u64],
 }
 
-/// An answer in C: the refusal's number times 2^32 plus its place, 0 where the call did its work.
-fn answer(word: u64) -> Result<(), Refusal> {
-    match word {
-        0 => Ok(()),
-        _ => Err(Refusal { number: (word >> 32) as u32, place: word as u32 }),
-    }
-}
-
-// SAFETY, of every call below: each pointer and the length behind it are one slice's, what is lent for writing is a slice that is ours
-// alone, and a pointer with no length behind it is a local word's. That the functions of the file are those of include/yshturpa.h is the
-// word of whoever names it, and so is what the file does when it is loaded.
+// SAFETY, of every call below: that the functions of the file are those of include/yshturpa.h is the word of whoever names it, and so is what the file
+// does when it is loaded.
 impl Library {
     /// Loads a shared object. What went wrong is told in the system's words.
     pub fn open(path: &Path) -> Result<Library, String> {
@@ -53,10 +33,10 @@ impl Library {
         unsafe {
             let library = libloading::Library::new(path).map_err(told)?;
             Ok(Library {
-                translate: *library.get::<Translate>(b"ysh_translate\0").map_err(told)?,
-                fresh: *library.get::<Fresh>(b"ysh_fresh\0").map_err(told)?,
-                steps: *library.get::<Steps>(b"ysh_steps\0").map_err(told)?,
-                finish: *library.get::<Finish>(b"ysh_finish\0").map_err(told)?,
+                translate: *library.get(b"ysh_translate\0").map_err(told)?,
+                fresh: *library.get(b"ysh_fresh\0").map_err(told)?,
+                steps: *library.get(b"ysh_steps\0").map_err(told)?,
+                finish: *library.get(b"ysh_finish\0").map_err(told)?,
                 _library: library,
             })
         }
@@ -64,14 +44,12 @@ impl Library {
 
     pub(crate) fn translate(&self, table: &[u8], tree: u64, room: &mut [u8]) -> Result<u64, Refusal> {
         let mut used = 0;
-        answer(unsafe {
-            (self.translate)(table.as_ptr(), table.len(), tree, room.as_mut_ptr(), room.len(), &mut used)
-        })?;
+        Refusal::of(unsafe { translate::by(self.translate, table, tree, room, &mut used) })?;
         Ok(used)
     }
 
     pub(crate) fn fresh(&self, settings: &[u64], state: &mut [u64]) -> Result<(), Refusal> {
-        answer(unsafe { (self.fresh)(settings.as_ptr(), settings.len(), state.as_mut_ptr(), state.len()) })
+        Refusal::of(unsafe { fresh::by(self.fresh, settings, state) })
     }
 
     /// Many bars, one after another: how many were done, and what stopped it.
@@ -80,54 +58,18 @@ impl Library {
         settings: &[u64],
         rooms: Rooms,
         bars: &[u64],
-        steps: &[Vec<u8>; 4],
+        lists: &[Vec<u8>; 4],
     ) -> (u64, Result<(), Refusal>) {
-        let [entry, exit, short_entry, short_exit] = steps;
+        let Rooms { state, rows, equity, trades } = rooms;
+        let [entry, exit, short_entry, short_exit] = lists;
+        let lists = [&entry[..], exit, short_entry, short_exit];
         let mut done = 0;
-        let word = unsafe {
-            (self.steps)(
-                settings.as_ptr(),
-                settings.len(),
-                rooms.state.as_mut_ptr(),
-                rooms.state.len(),
-                bars.as_ptr(),
-                bars.len(),
-                rooms.rows.as_mut_ptr(),
-                rooms.rows.len(),
-                rooms.equity.as_mut_ptr(),
-                rooms.equity.len(),
-                rooms.trades.as_mut_ptr(),
-                rooms.trades.len(),
-                entry.as_ptr(),
-                entry.len(),
-                exit.as_ptr(),
-                exit.len(),
-                short_entry.as_ptr(),
-                short_entry.len(),
-                short_exit.as_ptr(),
-                short_exit.len(),
-                &mut done,
-            )
-        };
-        (done, answer(word))
+        let answer = unsafe { steps::by(self.steps, settings, state, bars, rows, equity, trades, lists, &mut done) };
+        (done, Refusal::of(answer))
     }
 
     pub(crate) fn finish(&self, settings: &[u64], rooms: Rooms, metrics: &mut [u64]) -> Result<(), Refusal> {
-        answer(unsafe {
-            (self.finish)(
-                settings.as_ptr(),
-                settings.len(),
-                rooms.state.as_mut_ptr(),
-                rooms.state.len(),
-                rooms.rows.as_ptr(),
-                rooms.rows.len(),
-                rooms.equity.as_mut_ptr(),
-                rooms.equity.len(),
-                rooms.trades.as_mut_ptr(),
-                rooms.trades.len(),
-                metrics.as_mut_ptr(),
-                metrics.len(),
-            )
-        })
+        let Rooms { state, rows, equity, trades } = rooms;
+        Refusal::of(unsafe { finish::by(self.finish, settings, state, rows, equity, trades, metrics) })
     }
 }

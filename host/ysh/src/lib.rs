@@ -17,6 +17,7 @@ mod dump;
 mod files;
 mod holdup;
 mod output;
+mod page;
 mod problem;
 mod progress;
 mod range;

@@ -2,9 +2,8 @@
 
 use std::ops::Range;
 
-use crate::calls::{self, Rooms};
 use crate::layout::{setting, state, BAR_FIXED, MOST_SLOTS, POINT_WORDS, ROW_FIXED, TRADE_WORDS};
-use crate::{Bar, Engine, Funding, Refusal};
+use crate::{calls, Bar, Engine, Funding, Refusal};
 
 /// Bars of one K, in the words that they are handed over in, one after another.
 #[derive(Clone, Debug, PartialEq, Eq)]
@@ -115,12 +114,12 @@ impl Engine {
         let lists = [&entry[..], exit, short_entry, short_exit];
         let end = places.end.min(bars.len());
         let asked = &bars.words[places.start.min(end) * bars.width()..end * bars.width()];
-        let rooms = Rooms { state, rows, equity, trades };
-        if bars.slots != *slots && !asked.is_empty() {
-            return Done { bars: 0, refused: calls::step(settings, rooms, &asked[..bars.width()], lists).err() };
-        }
-        let (done, answer) = calls::steps(settings, rooms, asked, lists);
-        Done { bars: done as usize, refused: answer.err() }
+        let mut done = 0;
+        let answer = match bars.slots != *slots && !asked.is_empty() {
+            true => calls::step(settings, state, &asked[..bars.width()], rows, equity, trades, lists),
+            false => calls::steps(settings, state, asked, rows, equity, trades, lists, &mut done),
+        };
+        Done { bars: done as usize, refused: Refusal::of(answer).err() }
     }
 
     /// Places for so many bars more, and for as many trades, the one that finish may close too. The rows are cut to the last D, which is

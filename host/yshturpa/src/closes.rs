@@ -1,7 +1,7 @@
 //! Closes, and the high and the low of any stretch of them, quickly.
 
 use crate::layout::{BLOCK_BARS, BLOCK_WORDS};
-use crate::{calls, Error};
+use crate::{calls, Error, Refusal};
 
 /// Closes with the best of every 64 kept beside them.
 #[derive(Clone, Debug, Default)]
@@ -42,13 +42,17 @@ impl Closes {
             self.closes.resize(2 * bars, 0);
             self.blocks.resize(BLOCK_WORDS * (2 * bars).div_ceil(BLOCK_BARS), 0);
         }
-        calls::append(&mut self.held, close.to_bits(), &mut self.closes, &mut self.blocks)?;
-        Ok(())
+        let answer = calls::append(&mut self.held, close.to_bits(), &mut self.closes, &mut self.blocks);
+        Ok(Refusal::of(answer)?)
     }
 
     /// The high and the low of bars `first` to `last`, both included; refused with 18 where one of them is not there.
     pub fn stretch(&self, first: u64, last: u64) -> Result<Stretch, Error> {
-        let [high, high_bar, low, low_bar] = calls::stretch(self.held, first, last, &self.closes, &self.blocks)?;
+        let [mut high, mut high_bar, mut low, mut low_bar] = [0; 4];
+        let (closes, blocks) = (&self.closes, &self.blocks);
+        let answer =
+            calls::stretch(self.held, first, last, closes, blocks, &mut high, &mut high_bar, &mut low, &mut low_bar);
+        Refusal::of(answer)?;
         Ok(Stretch { high: f64::from_bits(high), high_bar, low: f64::from_bits(low), low_bar })
     }
 }

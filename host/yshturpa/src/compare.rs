@@ -43,7 +43,8 @@ pub fn compare(first: (&[Point], &[Trade]), second: (&[Point], &[Trade])) -> Res
     let trades = |run: &[Trade]| run.iter().flat_map(Trade::words).collect::<Vec<u64>>();
     let shorter = first.1.len().min(second.1.len());
     let mut lines = vec![0; DIFFERENCE_WORDS * (TRADE_WORDS * shorter + 3)];
-    let count =
-        calls::compare((&points(first.0), &trades(first.1)), (&points(second.0), &trades(second.1)), &mut lines)?;
-    Ok(lines.chunks_exact(DIFFERENCE_WORDS).take(count).map(Difference::of_words).collect())
+    let mut count = 0;
+    let ((a, a_trades), (b, b_trades)) = ((points(first.0), trades(first.1)), (points(second.0), trades(second.1)));
+    Refusal::of(calls::compare(&a, &a_trades, &b, &b_trades, &mut lines, &mut count))?;
+    Ok(lines.chunks_exact(DIFFERENCE_WORDS).take(count as usize).map(Difference::of_words).collect())
 }

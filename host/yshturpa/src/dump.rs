@@ -32,7 +32,7 @@ impl Image {
         let (slots, depth) = (byte(3).min(MOST_SLOTS), (byte(6) + 256 * byte(7)).clamp(1, MOST_DEPTH));
         let settings = Settings::new(slots, depth, 0.0, crate::Sizing::FixedQty(0.0)).words();
         let (mut state, mut rows) = ([0; STATE_WORDS], vec![0; (ROW_FIXED + slots) * depth]);
-        calls::restore(&settings, &mut state, image, &mut rows)?;
+        Refusal::of(calls::restore(&settings, &mut state, image, &mut rows))?;
         rows.truncate(state[state::ROWS_HELD] as usize * (ROW_FIXED + slots));
         let rows = Rows::of_words(slots, rows).expect("whole rows are held");
         Ok(Image { settings, depth, state: State { words: state }, rows })
@@ -44,7 +44,7 @@ impl Image {
         let mut area = vec![0; dump_bytes(self.depth as u64, slots as u64) as usize];
         let mut room = self.rows.words().to_vec();
         room.resize((ROW_FIXED + slots) * self.depth, 0);
-        calls::dump(&self.settings, &self.state.words, &room, &mut area, 0, bytes)?;
+        Refusal::of(calls::dump(&self.settings, &self.state.words, &room, &mut area, 0, bytes))?;
         Ok(area)
     }
 }
@@ -66,21 +66,22 @@ impl Engine {
     pub fn dump(&self) -> Result<Vec<u8>, Refusal> {
         let size = dump_bytes(self.settings[setting::DEPTH], self.slots as u64);
         let mut area = vec![0; size as usize];
-        calls::dump(&self.settings, &self.state, &self.rows, &mut area, 0, size)?;
+        Refusal::of(calls::dump(&self.settings, &self.state, &self.rows, &mut area, 0, size))?;
         Ok(area)
     }
 
     /// The bytes of that image from `at` on, as many as there are and the part has place for; and how many they are. A driver that programs
     /// page after page needs a page's memory and no more.
     pub fn dump_part(&self, at: u64, part: &mut [u8]) -> Result<usize, Refusal> {
-        let used = calls::dump_part(&self.settings, &self.state, &self.rows, at, part)?;
+        let mut used = 0;
+        Refusal::of(calls::dump_part(&self.settings, &self.state, &self.rows, at, part, &mut used))?;
         Ok(used as usize)
     }
 
     /// A run that goes on from an image, with no equity and no trades yet.
     pub fn restored(table: &[u8], settings: &Settings, image: &[u8]) -> Result<Engine, Error> {
         let mut engine = Engine::new(table, settings, 0, 1)?;
-        calls::restore(&engine.settings, &mut engine.state, image, &mut engine.rows)?;
+        Refusal::of(calls::restore(&engine.settings, &mut engine.state, image, &mut engine.rows))?;
         Ok(engine)
     }
 }

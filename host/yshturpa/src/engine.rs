@@ -1,10 +1,9 @@
 //! One run: the engine's state and every room it is lent.
 
-use crate::calls::{self, Rooms};
 use crate::layout::{
     setting, state, METRIC_WORDS, MOST_DEPTH, POINT_WORDS, ROW_FIXED, SETTING_WORDS, STATE_WORDS, TRADE_WORDS,
 };
-use crate::{depth, slots_of, translate};
+use crate::{calls, depth, slots_of, translate};
 use crate::{Bar, Error, Metrics, Point, Refusal, Rows, Saved, Settings, State, Trade, Tree};
 
 /// A run of one table's rules. It owns its rooms, so a step allocates nothing.
@@ -41,7 +40,7 @@ impl Engine {
                 translate(table, Tree::ShortExit)?,
             ],
         };
-        calls::fresh(&engine.settings, &mut engine.state)?;
+        Refusal::of(calls::fresh(&engine.settings, &mut engine.state))?;
         Ok(engine)
     }
 
@@ -78,7 +77,8 @@ impl Engine {
         let Engine { slots, settings, state, bar: words, rows, equity, trades, steps } = self;
         bar.words(*slots, words);
         let [entry, exit, short_entry, short_exit] = steps;
-        calls::step(settings, Rooms { state, rows, equity, trades }, words, [entry, exit, short_entry, short_exit])
+        let lists = [&entry[..], exit, short_entry, short_exit];
+        Refusal::of(calls::step(settings, state, words, rows, equity, trades, lists))
     }
 
     /// Many bars in one call: how many were done, and what stopped it. A refused bar has changed nothing, and those before it stay done.
@@ -92,9 +92,10 @@ impl Engine {
         }
         let Engine { settings, state, rows, equity, trades, steps, .. } = self;
         let [entry, exit, short_entry, short_exit] = &*steps;
-        let rooms = Rooms { state, rows, equity, trades };
-        let (done, answer) = calls::steps(settings, rooms, &list, [entry, exit, short_entry, short_exit]);
-        let answer = match (answer, bars.get(even)) {
+        let lists = [&entry[..], exit, short_entry, short_exit];
+        let mut done = 0;
+        let answer = calls::steps(settings, state, &list, rows, equity, trades, lists, &mut done);
+        let answer = match (Refusal::of(answer), bars.get(even)) {
             (Ok(()), Some(bar)) => self.step(bar),
             (answer, _) => answer,
         };
@@ -105,7 +106,7 @@ impl Engine {
     pub fn finish(&mut self) -> Result<Metrics, Refusal> {
         let mut metrics = [0; METRIC_WORDS];
         let Engine { settings, state, rows, equity, trades, .. } = self;
-        calls::finish(settings, Rooms { state, rows, equity, trades }, &mut metrics)?;
+        Refusal::of(calls::finish(settings, state, rows, equity, trades, &mut metrics))?;
         Ok(Metrics::of(&metrics))
     }
 

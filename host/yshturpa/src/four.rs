@@ -2,9 +2,8 @@
 
 use std::ops::Range;
 
-use crate::calls::{self, Rooms};
 use crate::layout::{status, stream, STATUS_WORDS, STREAM_WORDS};
-use crate::{Bar, Bars, Done, Engine, Refusal};
+use crate::{calls, Bar, Bars, Done, Engine, Refusal};
 
 /// A stream of bars: how many slots each has, and how many were taken so far.
 #[derive(Clone, Debug, PartialEq, Eq)]
@@ -61,7 +60,10 @@ impl Account {
             settings,
             entry,
             exit,
-            rooms: Rooms { state, rows, equity, trades },
+            state,
+            rows,
+            equity,
+            trades,
             status: &mut self.status,
         }
     }
@@ -99,6 +101,8 @@ impl Stream {
 
     fn step_words(&mut self, list: &[u64], accounts: &mut [Account; 4]) -> (u64, Result<(), Refusal>) {
         let [a, b, c, d] = accounts;
-        calls::accounts(&mut self.words, list, [a.lent(), b.lent(), c.lent(), d.lent()])
+        let mut done = 0;
+        let answer = calls::accounts(&mut self.words, list, &mut done, a.lent(), b.lent(), c.lent(), d.lent());
+        (done, Refusal::of(answer))
     }
 }

@@ -7,7 +7,7 @@
 
 mod bar;
 mod bars;
-mod calls;
+pub mod calls;
 mod closes;
 mod compare;
 mod dump;

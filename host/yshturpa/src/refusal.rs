@@ -16,7 +16,7 @@ pub struct Refusal {
 
 impl Refusal {
     /// The word that a call answers, taken apart.
-    pub(crate) fn of(word: u64) -> Result<(), Refusal> {
+    pub fn of(word: u64) -> Result<(), Refusal> {
         match word {
             0 => Ok(()),
             _ => Err(Refusal { number: (word >> 32) as u32, place: word as u32 }),

@@ -124,7 +124,7 @@ pub fn metrics(capital: f64, equity: &[Point], trades: &[Trade]) -> Result<Metri
     let points: Vec<u64> = equity.iter().flat_map(Point::words).collect();
     let records: Vec<u64> = trades.iter().flat_map(Trade::words).collect();
     let mut words = [0; METRIC_WORDS];
-    calls::metrics(capital.to_bits(), &points, &records, &mut words)?;
+    Refusal::of(calls::metrics(capital.to_bits(), &points, &records, &mut words))?;
     Ok(Metrics::of(&words))
 }
 

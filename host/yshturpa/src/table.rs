@@ -29,7 +29,8 @@ pub struct Accepted {
 
 /// Checks a rule table.
 pub fn check(table: &[u8]) -> Result<Accepted, Refusal> {
-    let (nodes, rows) = calls::check(table)?;
+    let (mut nodes, mut rows) = (0, 0);
+    Refusal::of(calls::check(table, &mut nodes, &mut rows))?;
     Ok(Accepted { nodes, rows })
 }
 
@@ -47,7 +48,8 @@ pub struct Depth {
 
 /// The rows that a table's rules need and, for a volatility target, one more than its lookback (0 where sizing is another).
 pub fn depth(table: &[u8], lookback: u64) -> Result<Depth, Refusal> {
-    let (rows, bytes) = calls::depth(table, lookback)?;
+    let (mut rows, mut bytes) = (0, 0);
+    Refusal::of(calls::depth(table, lookback, &mut rows, &mut bytes))?;
     Ok(Depth { rows, bytes })
 }
 
@@ -59,8 +61,8 @@ pub fn dump_bytes(depth: u64, slots: u64) -> u64 {
 /// The tests that answer no over a window of so many rows, whatever the rows hold, by the numbers of their nodes in table order. A
 /// test is a comparison, a cross, Between, Rising or Falling. There are none where `rows` is at least what [`check`] says.
 pub fn silent(table: &[u8], rows: u64) -> Result<Vec<u64>, Refusal> {
-    let mut list = vec![0; MOST_NODES];
-    let count = calls::silent(table, rows, &mut list)?;
+    let (mut list, mut count) = (vec![0; MOST_NODES], 0);
+    Refusal::of(calls::silent(table, rows, &mut list, &mut count))?;
     list.truncate(count as usize);
     Ok(list)
 }
@@ -68,7 +70,8 @@ pub fn silent(table: &[u8], rows: u64) -> Result<Vec<u64>, Refusal> {
 /// The steps of one tree of a table; none where it is absent.
 pub fn translate(table: &[u8], tree: Tree) -> Result<Vec<u8>, Refusal> {
     let mut room = vec![0; STEP_ROOM * table.len().saturating_sub(HEADER_BYTES).min(MOST_NODES * 16) / 16];
-    let used = calls::translate(table, tree as u64, &mut room)?;
+    let mut used = 0;
+    Refusal::of(calls::translate(table, tree as u64, &mut room, &mut used))?;
     room.truncate(used as usize);
     Ok(room)
 }

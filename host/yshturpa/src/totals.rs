@@ -35,12 +35,12 @@ impl Totals {
     /// Adds the trades of a run. A refusal leaves the totals as they were.
     pub fn add(&mut self, trades: &[Trade]) -> Result<(), Refusal> {
         let records: Vec<u64> = trades.iter().flat_map(Trade::words).collect();
-        calls::totals(&mut self.words, &records)
+        Refusal::of(calls::totals(&mut self.words, &records))
     }
 
     /// Adds the totals of another machine. A refusal leaves these as they were.
     pub fn join(&mut self, other: &Totals) -> Result<(), Refusal> {
-        calls::totals_join(&mut self.words, &other.words)
+        Refusal::of(calls::totals_join(&mut self.words, &other.words))
     }
 
     /// How many trades ended by a reason.

@@ -71,8 +71,9 @@ pub fn why_within(
     position: &Position,
 ) -> Result<Vec<WhyLine>, Error> {
     same_slots(table, rows)?;
-    let mut lines = [0; PLACE];
-    let count = calls::why(table, tree as u64, rows.some(places), position.words(), &mut lines)?;
+    let (mut lines, mut count) = ([0; PLACE], 0);
+    let answer = calls::why(table, tree as u64, rows.some(places), position.words(), &mut lines, &mut count);
+    Refusal::of(answer)?;
     Ok(chain(&lines, count))
 }
 
@@ -95,7 +96,7 @@ pub fn why_over(
     for asked in positions.chunks(PART) {
         let upto = rows.some(0..first + chains.len() + asked.len());
         let words: Vec<u64> = asked.iter().flat_map(Position::words).collect();
-        calls::why_over(table, tree as u64, upto, &words, &mut lines, &mut counts)?;
+        Refusal::of(calls::why_over(table, tree as u64, upto, &words, &mut lines, &mut counts))?;
         let places = lines.chunks_exact(PLACE).zip(&counts).take(asked.len());
         chains.extend(places.map(|(place, count)| chain(place, *count)));
     }

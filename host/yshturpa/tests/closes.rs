@@ -1,17 +1,15 @@
 //! High and low of stretches of closes against reading every close, and what is refused.
 
+use dice::Dice;
 use yshturpa::{Closes, Error, Refusal, Stretch};
 
 /// Closes that repeat, so that the earliest bar matters; zeros of both signs among them.
 fn closes(count: u64) -> Vec<f64> {
-    let mut state = 7u64;
-    let next = |_| {
-        state = state.wrapping_mul(6364136223846793005).wrapping_add(1442695040888963407);
-        match state >> 60 {
-            0 => -0.0,
-            1 => 0.0,
-            _ => ((state >> 33) % 101) as f64 - 50.0,
-        }
+    let mut dice = Dice(7);
+    let next = |_| match dice.below(16) {
+        0 => -0.0,
+        1 => 0.0,
+        _ => dice.below(101) as f64 - 50.0,
     };
     (0..count).map(next).collect()
 }

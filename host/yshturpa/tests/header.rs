@@ -36,17 +36,55 @@ fn numbers(header: &str) -> BTreeMap<String, u64> {
     found
 }
 
-#[test]
-fn every_call_is_wrapped() {
-    let calls = include_str!("../src/calls.rs");
-    let header = header();
-    let declared: Vec<&str> =
-        header.lines().filter_map(|line| line.strip_prefix("uint64_t ")?.split('(').next()).collect();
-    assert!(declared.len() >= 11, "{declared:?}");
-    for call in declared {
-        assert!(calls.contains(&format!("pub fn {call}(")), "{call} is not declared");
-        assert!(calls.contains(&format!("raw::{call}(")), "{call} is not called");
+/// What the header declares: each call, with the types of its parameters.
+fn declared(header: &str) -> BTreeMap<String, Vec<String>> {
+    let (_, account) = header.split_once("#define YSH_ACCOUNT_PARAMETERS(a)").expect("an account's parameters");
+    let (account, _) = account.split_once("#define").expect("what comes after");
+    let account = account.replace('\\', " ");
+    let mut found = BTreeMap::new();
+    for part in header.split("\nuint64_t ysh_").skip(1) {
+        let (name, rest) = part.split_once('(').expect("parameters");
+        let (list, _) = rest.split_once(");").expect("their end");
+        let accounts = |list: String, a: &str| list.replace(&format!("YSH_ACCOUNT_PARAMETERS({a})"), &account);
+        let list = ["a", "b", "c", "d"].into_iter().fold(list.to_owned(), accounts);
+        let types = list.split(',').map(str::trim).filter(|parameter| *parameter != "void");
+        let of = |parameter: &str| parameter[..=parameter.rfind([' ', '*']).expect("a type")].trim().to_owned();
+        found.insert(name.to_owned(), types.map(of).collect());
     }
+    found
+}
+
+/// A parameter of the wrapper's list as C has it.
+fn in_c(kind: &str) -> Vec<&'static str> {
+    let (bytes, words, lent) =
+        (["const uint8_t *", "size_t"], ["const uint64_t *", "size_t"], ["uint64_t *", "size_t"]);
+    match kind {
+        "&[u8]" => bytes.to_vec(),
+        "&[u64]" => words.to_vec(),
+        "&mut [u8]" => vec!["uint8_t *", "size_t"],
+        "&mut [u64]" => lent.to_vec(),
+        "&mut u64" => vec!["uint64_t *"],
+        "u64" => vec!["uint64_t"],
+        "PositionWords" => vec!["uint64_t"; 4],
+        "[&[u8]; 4]" => [bytes; 4].concat(),
+        "Account" => [bytes, words, bytes, bytes, lent, lent, lent, lent, lent].concat(),
+        _ => panic!("{kind} is no kind of a parameter"),
+    }
+}
+
+#[test]
+fn every_call_is_declared_as_the_header_has_it() {
+    let (_, list) = include_str!("../src/calls.rs").split_once("\ncalls! {").expect("the list of calls");
+    let mut ours = BTreeMap::new();
+    for part in list.split(" = ysh_").skip(1) {
+        let (name, rest) = part.split_once('(').expect("parameters");
+        let (parameters, _) = rest.split_once(");").expect("their end");
+        let kinds = parameters.split(',').filter_map(|parameter| Some(parameter.split_once(':')?.1.trim()));
+        ours.insert(name.to_owned(), kinds.flat_map(in_c).map(str::to_owned).collect::<Vec<_>>());
+    }
+    let header = declared(&header());
+    assert!(header.len() >= 25, "{header:?}");
+    assert_eq!(ours, header);
 }
 
 #[test]

@@ -1,6 +1,7 @@
 //! Everything that a call over four accounts is handed or lent, each in a room of its own with guards around it.
 
-use super::call::{accounts, Account};
+use yshturpa::calls::{accounts, Account};
+
 use crate::guard::room::Room;
 
 /// What an account is handed: `table`, `settings`, `entry`, `exit`; the others are lent to it.
@@ -153,8 +154,8 @@ impl Lent {
         }
         self.accounts.iter_mut().for_each(Rooms::lay);
         let (stream, bars, done) = (&mut self.stream, &self.bars, &mut self.done);
-        let lent = self.accounts.each_mut().map(Rooms::lend);
-        let answer = accounts(stream.lent_mut(), bars.lent(), &mut done.lent_mut()[0], lent);
+        let [a, b, c, d] = self.accounts.each_mut().map(Rooms::lend);
+        let answer = accounts(stream.lent_mut(), bars.lent(), &mut done.lent_mut()[0], a, b, c, d);
         if answer != after.answer {
             return Err(format!("answers {answer:x}, the model {:x}", after.answer));
         }

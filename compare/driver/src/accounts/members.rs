@@ -3,15 +3,17 @@
 use oracle::lists::dice::Dice;
 use oracle::lists::runs::Bar;
 use oracle::Reading;
+use yshturpa::calls;
+use yshturpa::layout::{POINT_WORDS, STATE_WORDS, TRADE_WORDS};
 
 use super::lent::{Held, Kept, Rooms};
 use super::model::stops;
 use super::Tally;
-use crate::calls::{self, row_words, POINT_WORDS, STATE_WORDS, TRADE_WORDS};
 use crate::case::{setting_words, Case};
 use crate::compare::explain;
 use crate::guard::{damage, nested};
 use crate::ours::{translated, view_of};
+use crate::records::row_words;
 use crate::theirs::Theirs;
 use crate::view::{unlike, NAMES};
 

@@ -5,7 +5,6 @@
 //! request 14 written once more (`model`), with a call of `ysh_step` for each account's own bar; after each such bar the Rust, by document 01's
 //! reading, must hold the same. Beside each call come damaged ones; every list and room stands between guards.
 
-pub mod call;
 mod lent;
 mod members;
 mod model;

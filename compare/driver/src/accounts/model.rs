@@ -1,9 +1,12 @@
 //! Request 14 once more: what the stream takes, what stops an account, and what each account does by itself, a call of `ysh_step` a bar.
 
+use yshturpa::calls;
+use yshturpa::layout::GIVEN;
+
 use super::lent::{After, Held, Lent, Rooms};
-use crate::calls::{self, bar_words, Step, GIVEN};
 use crate::model::refusals::{bar, need, word, Checked};
 use crate::model::table;
+use crate::records::bar_words;
 
 const STREAM_WORDS: usize = 2;
 const STATUS_WORDS: usize = 3;
@@ -66,15 +69,15 @@ fn admitted(account: &Rooms, stream_slots: u64) -> Checked {
 
 /// One bar of an account by itself.
 fn step(account: &Rooms, held: &mut Held, bar: &[u64]) -> u64 {
-    calls::step(Step {
-        settings: &account.settings.content,
-        state: &mut held.state,
+    calls::step(
+        &account.settings.content,
+        &mut held.state,
         bar,
-        rows: &mut held.rows,
-        equity: &mut held.equity,
-        trades: &mut held.trades,
-        lists: [&account.entry.content, &account.exit.content, &[], &[]],
-    })
+        &mut held.rows,
+        &mut held.equity,
+        &mut held.trades,
+        [&account.entry.content, &account.exit.content, &[], &[]],
+    )
 }
 
 /// Who watches an account: its number, the bar's within the call, and what it held after that bar or was refused with.

@@ -2,9 +2,10 @@
 
 use std::hint::black_box;
 
+use yshturpa::calls::{accounts, Account};
+
 use super::setup::Size;
 use super::timing::{by_turns, nanoseconds, ratio, side, REPETITIONS};
-use crate::accounts::call::{accounts, Account};
 use crate::case::{bar_words, Case};
 use crate::ours::Ours;
 
@@ -28,7 +29,7 @@ fn row(depth: usize, slots: usize, count: usize) {
     let [ours, single] = by_turns([
         side(count, || {
             let mut statuses = statuses.iter_mut();
-            let lent = together.each_mut().map(|run| Account {
+            let [a, b, c, d] = together.each_mut().map(|run| Account {
                 table: &table,
                 settings: &run.settings,
                 entry: &run.lists[0],
@@ -39,7 +40,8 @@ fn row(depth: usize, slots: usize, count: usize) {
                 trades: &mut run.trades,
                 status: statuses.next().expect("four of them"),
             });
-            assert_eq!(accounts(&mut stream, black_box(&bars), &mut done, lent), 0);
+            let answer = accounts(&mut stream, black_box(&bars), &mut done, a, b, c, d);
+            assert_eq!(answer, 0);
         }),
         side(count, || {
             for run in &mut alone {

@@ -3,9 +3,10 @@
 use std::hint::black_box;
 
 use oracle::lists::dice::Dice;
+use yshturpa::calls;
+use yshturpa::layout::{DIFFERENCE_WORDS, POINT_WORDS, TRADE_WORDS};
 
 use super::timing::{by_turns, nanoseconds, ratio, side};
-use crate::calls::{self, Books, DIFFERENCE_WORDS, POINT_WORDS, TRADE_WORDS};
 
 const POINTS: usize = 525_600;
 const TRADES: usize = 10_000;
@@ -29,13 +30,6 @@ impl Run {
         Self {
             equity: self.equity.clone(),
             trades: self.trades.iter().map(|word| word ^ 1).collect(),
-        }
-    }
-
-    fn books(&self) -> Books<'_> {
-        Books {
-            equity: &self.equity,
-            trades: &self.trades,
         }
     }
 }
@@ -66,10 +60,9 @@ fn row(name: &str, a: &Run, b: &Run, expected: usize) {
     let (mut lines, mut other, mut count) = (room(), room(), 0);
     let [ours, loops, all] = by_turns([
         side(1, || {
-            assert_eq!(
-                calls::compare(black_box(a).books(), b.books(), &mut lines, &mut count),
-                0
-            );
+            let a = black_box(a);
+            let answer = calls::compare(&a.equity, &a.trades, &b.equity, &b.trades, &mut lines, &mut count);
+            assert_eq!(answer, 0);
         }),
         side(1, || assert_eq!(plain(black_box(a), b, &mut other), expected)),
         side(1, || {

@@ -1,10 +1,10 @@
 //! A loss of power: a whole dump, and a restore of it, beside a copy of as many bytes.
 
 use std::hint::black_box;
+use yshturpa::calls;
 
 use super::setup::Size;
 use super::timing::{by_turns, nanoseconds, ratio, side};
-use crate::calls;
 use crate::case::{bar_words, JUNK};
 use crate::ours::Ours;
 
@@ -41,7 +41,7 @@ fn row(depth: usize, slots: usize) {
     // As a caller has them: 0 where nothing is given.
     let settings = run.settings.map(|word| if word == JUNK { 0 } else { word });
     let dump = |run: &Ours, area: &mut [u8]| {
-        let answer = calls::dump(&settings, &run.state, &run.rows, black_box(area), (0, size));
+        let answer = calls::dump(&settings, &run.state, &run.rows, black_box(area), 0, size);
         assert_eq!(answer, 0, "a state that can be dumped");
     };
     dump(&run, &mut image);

@@ -7,10 +7,10 @@
 use std::hint::black_box;
 
 use oracle::Reading;
+use yshturpa::layout::state;
 
 use super::setup::{Size, DEPTHS};
 use super::timing::{by_turns, nanoseconds, ratio, side, REPETITIONS};
-use crate::calls::state;
 use crate::case::{bar_words, Case};
 use crate::ours::Ours;
 use crate::theirs::Theirs;

@@ -6,9 +6,11 @@ use oracle::lists::dice::Dice;
 use oracle::metrics::compute;
 use oracle::portfolio::Trade;
 use oracle::words::Line;
+use yshturpa::calls;
+use yshturpa::layout::METRIC_WORDS;
 
 use super::timing::{by_turns, nanoseconds, ratio, side};
-use crate::calls::{self, METRIC_WORDS};
+use crate::records;
 
 /// Minutes of a year.
 const POINTS: usize = 525_600;
@@ -38,7 +40,7 @@ fn metrics() {
     let equity: Vec<f64> = (0..POINTS).map(|_| next()).collect();
     let trades: Vec<Trade> = (0..TRADES).map(|_| trade(dice)).collect();
     let points: Vec<u64> = equity.iter().flat_map(|x| [0, x.to_bits()]).collect();
-    let trade_words = trades.iter().fold(Line::new(), calls::ten_words);
+    let trade_words = trades.iter().fold(Line::new(), records::ten_words);
     let initial = 10_000.0f64;
     let mut words = [0; METRIC_WORDS];
     let [ours, theirs] = by_turns([

@@ -3,13 +3,14 @@
 use std::hint::black_box;
 
 use oracle::lists::runs::Bar;
+use yshturpa::calls;
 
 use super::setup::Size;
 use super::timing::{by_turns, nanoseconds, ratio, side, Side};
-use crate::calls::{self, Position};
 use crate::case::row_words;
 use crate::extremes::trees::{table, Condition, Operand};
 use crate::ours::translated;
+use crate::records::{self, Position};
 
 const BLOCK: usize = 500;
 const SLOTS: usize = 2;
@@ -38,7 +39,7 @@ fn float(row: &[u64], word: usize) -> f64 {
 #[inline(always)]
 fn plain(rows: &[u64], value: impl Fn(&[u64]) -> Option<f64>) -> Option<f64> {
     let mut greatest = f64::NEG_INFINITY;
-    for row in rows.chunks_exact(calls::row_words(SLOTS)) {
+    for row in rows.chunks_exact(records::row_words(SLOTS)) {
         let x = value(row)?;
         if x > greatest {
             greatest = x;
@@ -81,15 +82,15 @@ fn through_c<'a>(over: &Operand, n: usize, rows: &'a [u64]) -> Side<'a> {
     let highest = Operand::Extreme(9, Box::new(over.clone()), n as u32);
     let rule = Condition::Compare(16, highest, Operand::Number(0.0));
     let list = translated(&table(2, SLOTS as u8, [&rule, &rule]), 0).expect("an accepted table");
-    let window = (SLOTS as u64, n as u64);
     side(BLOCK, move || {
         let (mut answer, mut visits) = (0, 0);
         for _ in 0..BLOCK {
             calls::run(
                 black_box(&list),
                 black_box(rows),
-                window,
-                FLAT,
+                SLOTS as u64,
+                n as u64,
+                FLAT.words(),
                 &mut answer,
                 &mut visits,
             );

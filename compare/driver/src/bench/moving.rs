@@ -5,13 +5,13 @@ use std::hint::black_box;
 use super::engine;
 use super::setup::Size;
 use super::timing::{each, nanoseconds, ratio};
-use crate::calls;
+use crate::records;
 
 const BLOCK: usize = 200;
 
 /// The time of one memmove of all rows but the oldest to the front of a room of `depth` rows.
 fn memmove(depth: usize, slots: usize) -> f64 {
-    let width = calls::row_words(slots);
+    let width = records::row_words(slots);
     let mut room = vec![1_u64; depth * width];
     each(BLOCK, || {
         for _ in 0..BLOCK {
@@ -23,7 +23,7 @@ fn memmove(depth: usize, slots: usize) -> f64 {
 fn row(size: Size) {
     let (full, with_place) = engine::both_rooms(size);
     let moving = full - with_place;
-    let bytes = (size.depth - 1) * calls::row_words(size.slots) * 8;
+    let bytes = (size.depth - 1) * records::row_words(size.slots) * 8;
     let memmove = memmove(size.depth, size.slots);
     println!(
         "| {} | {} | {bytes} | {} | {} | {} | {} | {} |",

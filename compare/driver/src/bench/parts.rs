@@ -1,10 +1,11 @@
 //! Where a step's time goes: calls that are refused ever later, from the same state, and one that does its work.
 
 use std::hint::black_box;
+use yshturpa::calls;
+use yshturpa::layout::{state, STATE_WORDS};
 
 use super::setup::Size;
 use super::timing::{each, nanoseconds};
-use crate::calls::{self, state, Step, STATE_WORDS};
 use crate::case::bar_words;
 use crate::ours::Ours;
 
@@ -41,15 +42,15 @@ impl Paused {
                 self.run.state = self.state;
                 let run = &mut self.run;
                 let [entry, exit, short_entry, short_exit] = &run.lists;
-                answer = calls::step(Step {
-                    settings: &run.settings,
-                    state: &mut run.state,
-                    bar: black_box(&self.bar),
-                    rows: &mut run.rows,
-                    equity: &mut run.equity,
-                    trades: &mut run.trades,
-                    lists: [entry, exit, short_entry, short_exit],
-                });
+                answer = calls::step(
+                    &run.settings,
+                    &mut run.state,
+                    black_box(&self.bar),
+                    &mut run.rows,
+                    &mut run.equity,
+                    &mut run.trades,
+                    [entry, exit, short_entry, short_exit],
+                );
             }
         });
         (time, answer >> 32)

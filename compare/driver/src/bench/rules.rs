@@ -4,12 +4,13 @@ use std::hint::black_box;
 
 use oracle::registry::slot_name;
 use oracle::rules::{eval_condition, BarRow, RuleState};
+use yshturpa::calls;
 
 use super::setup::{Size, DEPTHS};
 use super::timing::{by_turns, nanoseconds, ratio, side};
-use crate::calls::{self, Position};
 use crate::case::row_words;
 use crate::ours::translated;
+use crate::records::Position;
 
 const BLOCK: usize = 2_000;
 /// Of the slower calls.
@@ -47,15 +48,15 @@ fn row(size: Size, tree: usize, name: &str) {
         bars_since_entry: Some(5),
     };
     let (mut answer, mut visits, mut said) = (0, 0, 0);
-    let window = (slots, size.depth as u64);
     let [steps, plain, rust] = by_turns([
         side(BLOCK, || {
             for _ in 0..BLOCK {
                 calls::run(
                     black_box(&list),
                     black_box(&rows),
-                    window,
-                    LONG,
+                    slots,
+                    size.depth as u64,
+                    LONG.words(),
                     &mut answer,
                     &mut visits,
                 );
@@ -63,7 +64,13 @@ fn row(size: Size, tree: usize, name: &str) {
         }),
         side(FEW, || {
             for _ in 0..FEW {
-                calls::rule(black_box(&table), tree as u64, black_box(&rows), LONG, &mut said);
+                calls::rule(
+                    black_box(&table),
+                    tree as u64,
+                    black_box(&rows),
+                    LONG.words(),
+                    &mut said,
+                );
             }
         }),
         side(BLOCK, || {

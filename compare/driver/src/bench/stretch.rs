@@ -3,9 +3,9 @@
 use std::hint::black_box;
 
 use oracle::lists::dice::Dice;
+use yshturpa::calls;
 
 use super::timing::{by_turns, each, nanoseconds, side};
-use crate::calls;
 use crate::stretches::model::{block_words, plain_loop};
 
 /// Minutes of a year and of a day.
@@ -97,13 +97,23 @@ pub fn bench() {
     println!("|---|---|---|---|---|");
     for bars in [1, 60, DAY, 30 * DAY, YEAR] {
         let asked = questions(bars);
-        let mut best = [0; 4];
+        let [mut high, mut high_bar, mut low, mut low_bar] = [0; 4];
         // A block of a plain loop over few bars is all questions, so that it is not too short to be measured.
         let plain_ones = &asked[..if bars > DAY { FEW } else { QUESTIONS }];
         let [ours, plain, table] = by_turns([
             side(TIMES * QUESTIONS, || {
                 for &(first, last) in black_box(&asked).iter().cycle().take(TIMES * QUESTIONS) {
-                    calls::stretch(held, first as u64, last as u64, &room, &blocks, black_box(&mut best));
+                    calls::stretch(
+                        held,
+                        first as u64,
+                        last as u64,
+                        &room,
+                        &blocks,
+                        black_box(&mut high),
+                        &mut high_bar,
+                        &mut low,
+                        &mut low_bar,
+                    );
                 }
             }),
             side(plain_ones.len(), || {

@@ -3,9 +3,10 @@
 use std::hint::black_box;
 
 use oracle::lists::dice::Dice;
+use yshturpa::calls;
+use yshturpa::layout::TRADE_WORDS;
 
 use super::timing::{by_turns, nanoseconds, side};
-use crate::calls::{self, TRADE_WORDS};
 
 const TRADES: usize = 1_000;
 const TOTAL_WORDS: usize = 43;

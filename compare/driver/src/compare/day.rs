@@ -1,9 +1,12 @@
 //! A whole run in calls over many bars: word for word what a call for each bar leaves.
 
+use yshturpa::layout::state;
+use yshturpa::Refusal;
+
 use super::{Mismatch, Plan};
-use crate::calls::{self, state};
 use crate::case::{bar_words, Case};
-use crate::ours::{Ours, Refusal};
+use crate::ours::Ours;
+use crate::records;
 
 const DAYS: &str = "the same run in calls over many bars";
 
@@ -32,11 +35,11 @@ fn with_bad_bars(case: &Case, every: usize) -> Vec<Vec<u64>> {
 /// The run `single`, which was made bar after bar, made anew in calls over all the bars that are left: a call stops at a bar that is
 /// refused, with the number and place of its own step, and the next goes on behind it.
 pub fn same_in_days(case: &Case, plan: Plan, single: &Ours) -> Result<(), Mismatch> {
-    let width = calls::row_words(case.table.slots);
+    let width = records::row_words(case.table.slots);
     let refused = |refusal| Mismatch::refused(None, DAYS, refusal);
     let mut run = Ours::new(case, single.rows.len() / width).map_err(refused)?;
     let bars = with_bad_bars(case, plan.ask_every + plan.spare);
-    let (list, words) = (bars.concat(), calls::bar_words(case.table.slots));
+    let (list, words) = (bars.concat(), records::bar_words(case.table.slots));
     let mut next = 0;
     while next < bars.len() {
         let seen = run.state[state::BARS_SEEN];
@@ -55,11 +58,11 @@ pub fn same_in_days(case: &Case, plan: Plan, single: &Ours) -> Result<(), Mismat
             Ok(()) if next == bars.len() => {}
             Ok(()) => return Err(Mismatch::one(None, DAYS, "bars done", next as u64, bars.len() as u64)),
             Err(Refusal { number: 11, place })
-                if bars[next][CLOSE] == NOT_A_NUMBER && place == run.state[state::BARS_SEEN] =>
+                if bars[next][CLOSE] == NOT_A_NUMBER && u64::from(place) == run.state[state::BARS_SEEN] =>
             {
                 next += 1
             }
-            Err(Refusal { number: 16, place }) if place == run.state[state::BARS_SEEN] => next += 1,
+            Err(Refusal { number: 16, place }) if u64::from(place) == run.state[state::BARS_SEEN] => next += 1,
             Err(refusal) => return Err(Mismatch::refused(None, DAYS, refusal)),
         }
     }

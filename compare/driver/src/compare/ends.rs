@@ -1,12 +1,13 @@
 //! What is compared before the first bar and after the last: the depth of the window, and the end of a run.
 
 use oracle::spec::Sizing;
+use yshturpa::layout::{MOST_NODES, TRADE_WORDS};
+use yshturpa::{calls, Refusal};
 
 use super::explain::{self, Entry};
 use super::{Mismatch, Tally, RUST};
-use crate::calls::{self, MOST_NODES, TRADE_WORDS};
 use crate::case::Case;
-use crate::ours::done;
+use crate::records;
 use crate::theirs::{self, Ending};
 use crate::view::{unlike, METRICS, NAMES};
 
@@ -17,15 +18,15 @@ pub fn depth_agrees(case: &Case) -> Result<(), Mismatch> {
     let table = case.table.bytes();
     let (mut nodes, mut rows, mut deep, mut bytes, mut silent) = (0, 0, 0, 0, u64::MAX);
     let refused = |refusal| Mismatch::refused(None, DEPTH, refusal);
-    done(calls::check(&table, &mut nodes, &mut rows)).map_err(refused)?;
+    Refusal::of(calls::check(&table, &mut nodes, &mut rows)).map_err(refused)?;
     let lookback = match case.settings.sizing {
         Sizing::VolTarget { lookback, .. } => lookback.into(),
         _ => 0,
     };
-    done(calls::depth(&table, lookback, &mut deep, &mut bytes)).map_err(refused)?;
-    done(calls::silent(&table, rows, &mut [0; MOST_NODES], &mut silent)).map_err(refused)?;
+    Refusal::of(calls::depth(&table, lookback, &mut deep, &mut bytes)).map_err(refused)?;
+    Refusal::of(calls::silent(&table, rows, &mut [0; MOST_NODES], &mut silent)).map_err(refused)?;
     let theirs = theirs::depth(case) as u64;
-    let width = calls::row_words(case.table.slots) as u64;
+    let width = records::row_words(case.table.slots) as u64;
     let parted = unlike(
         &["nodes", "rows of the rules", "rows", "bytes", "silent tests"],
         &[nodes, rows, deep, bytes, silent],

@@ -10,10 +10,11 @@ mod shrink;
 pub use command::{compare, replay};
 
 use oracle::Reading;
+use yshturpa::layout::{state, TRADE_WORDS};
+use yshturpa::Refusal;
 
-use crate::calls::{self, TRADE_WORDS};
 use crate::case::{bar_words, row_words, Case};
-use crate::ours::{Ours, Refusal};
+use crate::ours::Ours;
 use crate::theirs::{Ending, Theirs};
 use crate::view::{unlike, Unlike, View, METRICS, NAMES};
 use day::same_in_days;
@@ -65,7 +66,13 @@ impl Mismatch {
     }
 
     fn refused(bar: Option<usize>, against: &'static str, refusal: Refusal) -> Self {
-        Self::one(bar, against, "refused", refusal.number << 32 | refusal.place, 0)
+        Self::one(
+            bar,
+            against,
+            "refused",
+            u64::from(refusal.number) << 32 | u64::from(refusal.place),
+            0,
+        )
     }
 }
 
@@ -154,11 +161,11 @@ impl<'a> Comparison<'a> {
 
     /// A bar of too many lots is refused with 16 at the bars seen in both rooms, and the run goes on from where it was.
     fn turned_away(&mut self, i: usize, words: &[u64]) -> Result<(), Mismatch> {
-        let number = self.tight.state[calls::state::BARS_SEEN];
+        let number = self.tight.state[state::BARS_SEEN];
         for run in [&mut self.tight, &mut self.larger] {
             let before = (run.state, run.rows.clone(), run.equity.clone(), run.trades.clone());
             match run.step(words) {
-                Err(Refusal { number: 16, place }) if place == number => {}
+                Err(Refusal { number: 16, place }) if u64::from(place) == number => {}
                 Err(refusal) => return Err(Mismatch::refused(Some(i), AWAY, refusal)),
                 Ok(()) => return Err(Mismatch::one(Some(i), AWAY, "refused", 0, 16 << 32 | number)),
             }
@@ -255,13 +262,13 @@ impl<'a> Comparison<'a> {
         let mut ending = Ending {
             metrics: metrics.to_vec(),
             point: self.tight.newest_point().to_vec(),
-            trades: self.tight.state[calls::state::TRADES],
+            trades: self.tight.state[state::TRADES],
             newest: self
                 .tight
                 .trades_held()
                 .last_chunk::<TRADE_WORDS>()
                 .map_or(vec![0; TRADE_WORDS], |t| t.to_vec()),
-            fees_paid: self.tight.state[calls::state::FEES_PAID],
+            fees_paid: self.tight.state[state::FEES_PAID],
         };
         let signs = self.signs;
         same_ending(PAPER, &ending, &self.paper.finish(), signs, &mut self.tally)?;

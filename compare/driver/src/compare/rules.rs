@@ -4,11 +4,13 @@ use oracle::lists::dice::Dice;
 use oracle::lists::runs::Bar;
 use oracle::registry::slot_name;
 use oracle::rules::{eval_condition, BarRow, RuleState};
+use yshturpa::layout::{STEP_BYTES, WHY_LINES, WHY_WORDS};
+use yshturpa::{calls, Refusal};
 
 use super::{Mismatch, Tally};
-use crate::calls::{self, Position, LINE_WORDS, MOST_LINES, STEP_BYTES};
 use crate::case::{row_words, Case};
-use crate::ours::{done, Ours, Refusal};
+use crate::ours::Ours;
+use crate::records::Position;
 
 const RULE: &str = "eval_condition over the whole history";
 
@@ -79,13 +81,13 @@ impl<'a> Rules<'a> {
 
     /// The answer in the first line of the chain over all rows; none where there is no line, as of an absent tree.
     fn why(&self, tree: usize, at: Position) -> Result<Option<u64>, Refusal> {
-        let mut lines = [u64::MAX; MOST_LINES * LINE_WORDS];
+        let mut lines = [u64::MAX; WHY_LINES * WHY_WORDS];
         let mut count = u64::MAX;
-        done(calls::why(
+        Refusal::of(calls::why(
             &self.table,
             tree as u64,
             &self.words,
-            at,
+            at.words(),
             &mut lines,
             &mut count,
         ))?;
@@ -101,7 +103,14 @@ impl<'a> Rules<'a> {
         let wrong = |what, ours| Mismatch::one(Some(i), RULE, what, ours, theirs);
         let refused = |refusal| Mismatch::refused(Some(i), RULE, refusal);
         let mut answer = u64::MAX;
-        done(calls::rule(&self.table, tree as u64, &self.words, at, &mut answer)).map_err(refused)?;
+        Refusal::of(calls::rule(
+            &self.table,
+            tree as u64,
+            &self.words,
+            at.words(),
+            &mut answer,
+        ))
+        .map_err(refused)?;
         if answer != theirs {
             return Err(wrong("rule over all rows", answer));
         }
@@ -111,8 +120,8 @@ impl<'a> Rules<'a> {
         }
         let run_over = |rows: &[u64]| {
             let (mut answer, mut visits) = (u64::MAX, u64::MAX);
-            let called = calls::run(list, rows, (slots, depth), at, &mut answer, &mut visits);
-            done(called).map(|()| (answer, visits)).map_err(refused)
+            let called = calls::run(list, rows, slots, depth, at.words(), &mut answer, &mut visits);
+            Refusal::of(called).map(|()| (answer, visits)).map_err(refused)
         };
         let window = run_over(run.rows_held())?;
         if window.0 != theirs {

@@ -12,13 +12,14 @@ use oracle::lists::runs::Bar;
 use oracle::registry::slot_name;
 use oracle::rules::{eval_condition, BarRow, RuleState};
 use oracle::table::Table;
+use yshturpa::calls;
 
-use crate::calls::{self, Position};
 use crate::case;
 use crate::model::steps::{ill_formed, steps};
 use crate::model::{machine, table::checked};
 use crate::ours::translated;
 use crate::progress::Progress;
+use crate::records::{self, Position};
 use meaning::Rows;
 use trees::{table, Condition, Grove, Operand};
 
@@ -49,7 +50,7 @@ fn check(bytes: &[u8]) -> Result<(u64, u64), u64> {
 
 fn rule(bytes: &[u8], tree: u64, rows: &[u64]) -> Result<bool, u64> {
     let mut answer = u64::MAX;
-    match calls::rule(bytes, tree, rows, FLAT, &mut answer) {
+    match calls::rule(bytes, tree, rows, FLAT.words(), &mut answer) {
         0 => Ok(answer == 1),
         refused => Err(refused),
     }
@@ -83,7 +84,7 @@ fn words(bars: &[Bar]) -> Vec<u64> {
 /// The rules of an accepted table over the rows.
 fn ask(bytes: &[u8], depth: u64, trees: [&Condition; 2], rows: &[u64]) -> Outcome {
     let slots = u64::from(bytes[3]);
-    let width = calls::row_words(slots as usize);
+    let width = records::row_words(slots as usize);
     let all = Rows { words: rows, width };
     for (number, tree) in trees.into_iter().enumerate() {
         let means = all.holds(tree, all.newest());
@@ -91,7 +92,7 @@ fn ask(bytes: &[u8], depth: u64, trees: [&Condition; 2], rows: &[u64]) -> Outcom
         let list = translated(bytes, number as u64).map_err(|refusal| format!("the steps: {refusal:?}"))?;
         same("a step that is not well formed", None, ill_formed(&list, slots, depth))?;
         let (mut answer, mut visits) = (u64::MAX, u64::MAX);
-        let called = calls::run(&list, rows, (slots, depth), FLAT, &mut answer, &mut visits);
+        let called = calls::run(&list, rows, slots, depth, FLAT.words(), &mut answer, &mut visits);
         same("the call of the steps", called, 0)?;
         same("the steps", answer, means.into())?;
         same("the visits", visits, machine::run(&list, rows, (slots, depth), FLAT).1)?;
@@ -103,12 +104,23 @@ fn ask(bytes: &[u8], depth: u64, trees: [&Condition; 2], rows: &[u64]) -> Outcom
     Ok(())
 }
 
-/// A table of two random trees: its check, its rules, and a damaged copy.
-fn random(dice: &mut Dice) -> Outcome {
+/// The slots, and the trees of an entry and an exit.
+fn some_trees(dice: &mut Dice) -> (u8, Condition, Condition) {
     let slots = dice.below(4) as u8;
     let back = dice.pick(&[2, 5, 20, 60]);
     let grove = Grove { slots, back };
-    let (entry, exit) = (grove.condition(dice, 2), grove.condition(dice, 1));
+    (slots, grove.condition(dice, 2), grove.condition(dice, 1))
+}
+
+/// A table of two random trees, with so many rows.
+pub fn some_table_and_rows(dice: &mut Dice, count: u64) -> (Vec<u8>, Vec<u64>) {
+    let (slots, entry, exit) = some_trees(dice);
+    (table(2, slots, [&entry, &exit]), words(&bars(dice, slots, count)))
+}
+
+/// A table of two random trees: its check, its rules, and a damaged copy.
+fn random(dice: &mut Dice) -> Outcome {
+    let (slots, entry, exit) = some_trees(dice);
     let bytes = table(2, slots, [&entry, &exit]);
     let answer = checked(&bytes);
     same("the check", check(&bytes), answer)?;

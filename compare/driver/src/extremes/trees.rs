@@ -95,7 +95,7 @@ impl Grove {
     /// A price or a slot.
     pub fn series(&self, dice: &mut Dice) -> Operand {
         if self.slots > 0 && dice.percent(40) {
-            Operand::Slot(dice.below(self.slots.into()) as u8)
+            Operand::Slot(dice.below(u64::from(self.slots)) as u8)
         } else {
             Operand::Price(dice.below(7) as u8)
         }

@@ -1,9 +1,12 @@
 //! The calls on rows and lists of their own: rule, run, metrics.
 
+use yshturpa::calls;
+use yshturpa::layout::{state, METRIC_WORDS};
+
 use super::tables::out;
 use super::{damage, Guard, Outcome};
-use crate::calls::{self, row_words, state, Position, METRIC_WORDS};
 use crate::model::{machine, refusals};
+use crate::records::{row_words, Position};
 
 impl Guard {
     fn some_position(&mut self) -> Position {
@@ -27,7 +30,7 @@ impl Guard {
         let (tree, at) = (self.dice.pick(&[0, 1, 2, 3, 4, u64::MAX]), self.some_position());
         self.lent.lay();
         let [said, _] = out(&mut self.lent.out);
-        let answer = calls::rule(self.lent.table.lent(), tree, self.lent.rows.lent(), at, said);
+        let answer = calls::rule(self.lent.table.lent(), tree, self.lent.rows.lent(), at.words(), said);
         let expected = refusals::rule(&self.lent.table.content, &self.lent.rows.content, at);
         if self.judge("rule", answer, expected)? && self.lent.out.lent()[0] > 1 {
             return Err("rule: neither yes nor no".into());
@@ -74,7 +77,7 @@ impl Guard {
         self.lent.lay();
         let [said, visits] = out(&mut self.lent.out);
         let (list, rows) = (self.lent.lists[0].lent(), self.lent.rows.lent());
-        let answer = calls::run(list, rows, (slots, depth), at, said, visits);
+        let answer = calls::run(list, rows, slots, depth, at.words(), said, visits);
         let (list, rows) = (&self.lent.lists[0].content, &self.lent.rows.content);
         let expected = refusals::run(list, rows, (slots, depth), at);
         let ran = expected.is_ok().then(|| machine::run(list, rows, (slots, depth), at));

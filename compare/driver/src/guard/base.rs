@@ -1,11 +1,12 @@
 //! What is damaged: small runs that go on while they are not, each with its table, settings, rooms and bars.
 
 use oracle::lists::dice::Dice;
+use yshturpa::layout::{POINT_WORDS, SETTING_WORDS, STATE_WORDS, TRADE_WORDS};
 
-use crate::calls::{row_words, POINT_WORDS, SETTING_WORDS, STATE_WORDS, TRADE_WORDS};
 use crate::case::{bar_words, setting_words, Case};
 use crate::cases;
 use crate::ours::{translated, Ours};
+use crate::records::row_words;
 
 /// Points and trades that the rooms have places for.
 const POINTS: usize = 12;

@@ -1,9 +1,11 @@
 //! Many bars in one call: it must answer and leave what a call of step for each bar answers and leaves.
 
+use yshturpa::calls;
+
 use super::room::Room;
 use super::{Guard, Outcome};
-use crate::calls::{self, bar_words, Step};
 use crate::model::refusals;
+use crate::records::bar_words;
 
 /// The bars of a call at most: a little more than the rooms have places for.
 const MOST_BARS: u64 = 15;
@@ -35,15 +37,13 @@ impl Guard {
             let lent = &mut self.lent;
             let [entry, exit, short_entry, short_exit] = &lent.lists;
             let answer = calls::steps(
-                Step {
-                    settings: lent.settings.lent(),
-                    state: lent.state.lent_mut(),
-                    bar: lent.bar.lent(),
-                    rows: lent.rows.lent_mut(),
-                    equity: lent.equity.lent_mut(),
-                    trades: lent.trades.lent_mut(),
-                    lists: [entry.lent(), exit.lent(), short_entry.lent(), short_exit.lent()],
-                },
+                lent.settings.lent(),
+                lent.state.lent_mut(),
+                lent.bar.lent(),
+                lent.rows.lent_mut(),
+                lent.equity.lent_mut(),
+                lent.trades.lent_mut(),
+                [entry.lent(), exit.lent(), short_entry.lent(), short_exit.lent()],
                 &mut lent.out.lent_mut()[0],
             );
             if answer != single.answer {
@@ -102,15 +102,15 @@ impl Guard {
         };
         let [entry, exit, short_entry, short_exit] = &lent.lists;
         for bar in bars.chunks(width) {
-            single.answer = calls::step(Step {
+            single.answer = calls::step(
                 settings,
-                state: &mut single.state,
+                &mut single.state,
                 bar,
-                rows: &mut single.rows,
-                equity: &mut single.equity,
-                trades: &mut single.trades,
-                lists: [&entry.content, &exit.content, &short_entry.content, &short_exit.content],
-            });
+                &mut single.rows,
+                &mut single.equity,
+                &mut single.trades,
+                [&entry.content, &exit.content, &short_entry.content, &short_exit.content],
+            );
             if single.answer != 0 {
                 break;
             }

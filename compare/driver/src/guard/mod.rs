@@ -16,8 +16,8 @@ mod tables;
 pub use tables::nested;
 
 use oracle::lists::dice::Dice;
+use yshturpa::calls;
 
-use crate::calls;
 use crate::figures;
 use crate::progress::Progress;
 use base::Base;

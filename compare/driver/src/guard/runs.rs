@@ -1,9 +1,11 @@
 //! The calls of a run: fresh, step, finish.
 
+use yshturpa::calls;
+use yshturpa::layout::{state, METRIC_WORDS, POINT_WORDS, STATE_WORDS, TRADE_WORDS};
+
 use super::{damage, Guard, Outcome};
-use crate::calls::{self, row_words, state, Finish, Step};
-use crate::calls::{METRIC_WORDS, POINT_WORDS, STATE_WORDS, TRADE_WORDS};
 use crate::model::refusals;
+use crate::records::row_words;
 
 impl Guard {
     /// A run as it stands, not yet damaged.
@@ -77,15 +79,15 @@ impl Guard {
         self.lent.lay();
         let lent = &mut self.lent;
         let [entry, exit, short_entry, short_exit] = &lent.lists;
-        let answer = calls::step(Step {
-            settings: lent.settings.lent(),
-            state: lent.state.lent_mut(),
-            bar: lent.bar.lent(),
-            rows: lent.rows.lent_mut(),
-            equity: lent.equity.lent_mut(),
-            trades: lent.trades.lent_mut(),
-            lists: [entry.lent(), exit.lent(), short_entry.lent(), short_exit.lent()],
-        });
+        let answer = calls::step(
+            lent.settings.lent(),
+            lent.state.lent_mut(),
+            lent.bar.lent(),
+            lent.rows.lent_mut(),
+            lent.equity.lent_mut(),
+            lent.trades.lent_mut(),
+            [entry.lent(), exit.lent(), short_entry.lent(), short_exit.lent()],
+        );
         let [entry, exit, short_entry, short_exit] = &lent.lists;
         let lists = [
             &entry.content[..],
@@ -159,14 +161,14 @@ impl Guard {
         }
         self.lent.lay();
         let lent = &mut self.lent;
-        let answer = calls::finish(Finish {
-            settings: lent.settings.lent(),
-            state: lent.state.lent_mut(),
-            rows: lent.rows.lent(),
-            equity: lent.equity.lent_mut(),
-            trades: lent.trades.lent_mut(),
-            metrics: lent.metrics.lent_mut(),
-        });
+        let answer = calls::finish(
+            lent.settings.lent(),
+            lent.state.lent_mut(),
+            lent.rows.lent(),
+            lent.equity.lent_mut(),
+            lent.trades.lent_mut(),
+            lent.metrics.lent_mut(),
+        );
         let expected = refusals::finish(&lent.contents(), &lent.metrics.content);
         if self.judge("finish", answer, expected)? {
             let lent = &self.lent;

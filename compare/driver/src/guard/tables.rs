@@ -4,9 +4,10 @@ use oracle::lists::dice::Dice;
 use oracle::lists::trees::{close, compare, negated, never, prev};
 use oracle::spec::Condition;
 use oracle::table::Table;
+use yshturpa::calls;
+use yshturpa::layout::{STEP_BYTES, STEP_ROOM};
 
 use super::{damage, Guard, Outcome};
-use crate::calls;
 use crate::model::{refusals, silent, table};
 
 /// Two nodes change places.
@@ -116,7 +117,7 @@ impl Guard {
         self.lend_table(base);
         let tree = self.dice.pick(&[0, 0, 1, 1, 2, 3, 4, u64::MAX]);
         let bytes = &self.bases[base].table;
-        let room = calls::NODE_STEP_BYTES * table::nodes_of_tree(bytes, tree) as usize;
+        let room = STEP_ROOM * table::nodes_of_tree(bytes, tree) as usize;
         self.lent.steps.content.resize(room, 0x5a);
         if self.dice.percent(40) {
             damage::length(&mut self.dice, &mut self.lent.steps);
@@ -128,7 +129,7 @@ impl Guard {
         if self.judge("translate", answer, expected)? {
             let used = self.lent.out.lent()[0] as usize;
             let nodes = table::nodes_of_tree(&self.lent.table.content, tree) as usize;
-            let fits = used <= calls::NODE_STEP_BYTES * nodes && used.is_multiple_of(calls::STEP_BYTES);
+            let fits = used <= STEP_ROOM * nodes && used.is_multiple_of(STEP_BYTES);
             if !fits || !self.lent.steps.is_unchanged_outside(0, used) {
                 return Err(format!("translate: {used} bytes used, or more was written"));
             }

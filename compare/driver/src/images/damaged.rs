@@ -2,10 +2,11 @@
 //! image that is read is, patterns of NaN apart, the one that its state is written as.
 
 use oracle::lists::dice::Dice;
+use yshturpa::calls;
+use yshturpa::layout::STATE_WORDS;
 
 use super::lent::{room, Back};
 use super::{need, same, same_bytes, same_words, Outcome, Tally};
-use crate::calls;
 use crate::guard::damage::{self, Damaged};
 use crate::guard::room::Room;
 use crate::model::image;
@@ -129,20 +130,18 @@ fn read(settings: &[u64], image: &[u8], back: &Back) -> Outcome {
     let (held, past) = rows.split_at(window.len());
     same_words(
         "the state read",
-        &plain(state)[..calls::STATE_WORDS],
+        &plain(state)[..STATE_WORDS],
         &plain(&image::state(image)),
     )?;
-    need(
-        state[calls::STATE_WORDS..] == back.state.content[calls::STATE_WORDS..],
-        || "past the state".into(),
-    )?;
+    need(state[STATE_WORDS..] == back.state.content[STATE_WORDS..], || {
+        "past the state".into()
+    })?;
     same_words("the rows read", held, &window)?;
     same_words("past the rows read", past, &back.rows.content[window.len()..])?;
     let mut area = room(vec![0; image.len()]);
-    let all = (0, image.len() as u64);
     same(
         "a dump of it",
-        calls::dump(settings, state, rows, area.lent_mut(), all),
+        calls::dump(settings, state, rows, area.lent_mut(), 0, image.len() as u64),
         0,
     )?;
     need(area.guards_hold(), || "a dump touched a guard".into())?;
@@ -171,8 +170,7 @@ fn dump(dice: &mut Dice, run: &Ours, whole: &[u8], tally: &mut Tally) -> Outcome
     }
     area.lay();
     let model = image::dump(&settings.content, &state.content, &rows.content, area.content.len());
-    let all = (0, u64::MAX);
-    let answer = calls::dump(settings.lent(), state.lent(), rows.lent(), area.lent_mut(), all);
+    let answer = calls::dump(settings.lent(), state.lent(), rows.lent(), area.lent_mut(), 0, u64::MAX);
     tally.dumps[(answer >> 32) as usize] += 1;
     same("a damaged dump's answer", answer, model.err().unwrap_or(0))?;
     let unchanged = [&settings, &state, &rows]

@@ -1,7 +1,9 @@
 //! What is lent to a dump and to a restore, between guards.
 
+use yshturpa::calls;
+use yshturpa::layout::STATE_WORDS;
+
 use super::{need, same, same_bytes, Outcome};
-use crate::calls::{self, STATE_WORDS};
 use crate::guard::room::{Element, Room};
 use crate::model::image;
 use crate::ours::Ours;
@@ -39,8 +41,8 @@ impl Area {
 
     /// Writes the next stretch, up to byte `upto` of the order.
     pub fn write(&mut self, run: &Ours, model: &[u8], upto: usize) -> Outcome {
-        let stretch = (self.written as u64, upto as u64);
-        let answer = calls::dump(&run.settings, &run.state, &run.rows, self.room.lent_mut(), stretch);
+        let (from, room) = (self.written as u64, self.room.lent_mut());
+        let answer = calls::dump(&run.settings, &run.state, &run.rows, room, from, upto as u64);
         same("a dump's answer", answer, 0)?;
         let end = upto.min(self.order.len());
         for &at in &self.order[self.written..end] {

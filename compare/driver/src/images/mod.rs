@@ -12,12 +12,13 @@ mod parts;
 mod restart;
 
 use oracle::lists::dice::Dice;
+use yshturpa::layout::state;
+use yshturpa::{calls, Refusal};
 
-use crate::calls;
 use crate::case::{bar_words, Case};
 use crate::cases;
 use crate::model::image;
-use crate::ours::{Ours, Refusal};
+use crate::ours::Ours;
 use crate::progress::Progress;
 use lent::Area;
 
@@ -111,11 +112,11 @@ fn dumped(dice: &mut Dice, run: &Ours, tally: &mut Tally) -> Outcome<Vec<u8>> {
 fn count(run: &Ours, tally: &mut Tally) {
     let state = &run.state;
     tally.images += 1;
-    tally.open += u64::from(f64::from_bits(state[calls::state::QTY]).abs() > f64::EPSILON);
-    if state[calls::state::ORDER] != 0 {
-        tally.orders[state[calls::state::ORDER_KIND] as usize] += 1;
+    tally.open += u64::from(f64::from_bits(state[state::QTY]).abs() > f64::EPSILON);
+    if state[state::ORDER] != 0 {
+        tally.orders[state[state::ORDER_KIND] as usize] += 1;
     }
-    tally.partly += u64::from(state[calls::state::ROWS_HELD] < run.settings[1]);
+    tally.partly += u64::from(state[state::ROWS_HELD] < run.settings[1]);
 }
 
 fn one(seed: u64, number: u64, tally: &mut Tally) -> Outcome {

@@ -2,10 +2,10 @@
 //! after another they are all of it; and of damaged settings, states and rows a part refuses what the model says.
 
 use oracle::lists::dice::Dice;
+use yshturpa::calls;
 
 use super::lent::room;
 use super::{need, same, same_bytes, Outcome, Tally};
-use crate::calls;
 use crate::guard::damage::{self, Damaged};
 use crate::guard::room::Room;
 use crate::model::image;

@@ -1,10 +1,10 @@
 //! The restart: from a whole image, in stale rooms and with empty books, further bars give what the unbroken run gives for them.
 
 use oracle::lists::dice::Dice;
+use yshturpa::layout::{state, POINT_WORDS, TRADE_WORDS};
 
 use super::lent::Back;
 use super::{dumped, same, same_words, Outcome, Tally};
-use crate::calls::{state, POINT_WORDS, TRADE_WORDS};
 use crate::case::{bar_words, Case};
 use crate::model::image;
 use crate::ours::Ours;

@@ -1,7 +1,8 @@
 //! Request 11 written once more: the bytes of an image, their order of writing, what an image says and which are refused.
 
+use yshturpa::layout::STATE_WORDS;
+
 use super::refusals::{bar, counts_held, need, rooms, settings, word, Checked};
-use crate::calls::STATE_WORDS;
 
 const HEAD: usize = 256;
 const AREA: u64 = 14;

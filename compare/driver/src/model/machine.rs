@@ -1,7 +1,7 @@
 //! What a list of steps answers over rows, and how many steps it visits.
 
 use super::steps::{steps, Step};
-use crate::calls::{row_words, Position};
+use crate::records::{row_words, Position};
 
 struct Machine<'a> {
     rows: &'a [u64],

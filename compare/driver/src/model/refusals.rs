@@ -4,19 +4,24 @@ use oracle::data::Candle;
 use oracle::engine::reach::{raw_price, realized_vol, Lots, Order, Waits};
 use oracle::lists::dice::sizing_of;
 use oracle::spec::{Risk, Sizing, Slippage};
+use yshturpa::layout::{
+    state, GIVEN, METRIC_WORDS, POSITION_WORDS, SETTING_WORDS, STATE_WORDS, STEP_ROOM, TRADE_WORDS,
+};
 
 use super::{finite, refusal, silent, steps, table};
-use crate::calls::{
-    bar_words, state, Position, GIVEN, METRIC_WORDS, NODE_STEP_BYTES, SETTING_WORDS, STATE_WORDS, TRADE_WORDS,
-};
+use crate::records::{bar_words, Position};
 
 const MOST: u64 = 4_294_967_295;
 const MOST_SLOTS: u64 = 64;
 const MOST_DEPTH: u64 = 4_096;
 const MOST_LOOKBACK: u64 = 4_095;
 const LOOKBACK: u64 = 7;
-/// The room of the silent tests.
+/// The rooms of the silent tests, of the lines that say why, and of their counts.
 const SILENT_ROOM: u64 = 18;
+const LINES_ROOM: u64 = 10;
+const COUNTS_ROOM: u64 = 19;
+/// Words of the lines of one row.
+const PLACE: usize = 256;
 
 pub type Checked = Result<(), u64>;
 
@@ -245,13 +250,25 @@ pub fn silent(bytes: &[u8], rows: u64, places: usize) -> Checked {
 
 pub fn translate(bytes: &[u8], tree: u64, room: usize) -> Checked {
     table::checked(bytes)?;
-    let needed = NODE_STEP_BYTES as u64 * table::nodes_of_tree(bytes, tree);
+    let needed = STEP_ROOM as u64 * table::nodes_of_tree(bytes, tree);
     need(needed <= room as u64, 10, 3 + tree)
 }
 
 pub fn rule(bytes: &[u8], rows: &[u64], at: Position) -> Checked {
     table::checked(bytes)?;
     position(rows, table::slots(bytes), at)
+}
+
+/// As a call for each of the newest rows, with as many positions; all of these are judged before any line is written.
+pub fn why_over(bytes: &[u8], rows: &[u64], positions: &[u64], lines: usize, counts: usize) -> Checked {
+    table::checked(bytes)?;
+    let (asked, width) = (positions.len() / POSITION_WORDS, 7 + table::slots(bytes) as usize);
+    need(asked <= lines / PLACE, 10, LINES_ROOM)?;
+    need(asked <= counts, 10, COUNTS_ROOM)?;
+    let whole = rows.len().is_multiple_of(width) && positions.len().is_multiple_of(POSITION_WORDS);
+    need(whole && asked <= rows.len() / width, 13, 0)?;
+    let mut each = positions.chunks_exact(POSITION_WORDS);
+    each.try_for_each(|at| position(rows, table::slots(bytes), Position::of(at)))
 }
 
 pub fn run(list: &[u8], rows: &[u64], (slots, depth): (u64, u64), at: Position) -> Checked {

@@ -3,8 +3,8 @@
 pub mod model;
 
 use oracle::lists::dice::{Dice, ODD};
+use yshturpa::calls;
 
-use crate::calls;
 use crate::guard::room::Room;
 use crate::progress::Progress;
 
@@ -91,13 +91,19 @@ impl Rooms {
     }
 
     fn stretch(&mut self, held: u64, first: u64, last: u64) -> u64 {
+        let [high, high_bar, low, low_bar] = self.best.lent_mut() else {
+            panic!("four words")
+        };
         calls::stretch(
             held,
             first,
             last,
             self.closes.lent(),
             self.blocks.lent(),
-            self.best.lent_mut(),
+            high,
+            high_bar,
+            low,
+            low_bar,
         )
     }
 

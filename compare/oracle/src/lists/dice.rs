@@ -1,10 +1,26 @@
-//! Repeatable chance, and the numbers that the lists are made of.
+//! The numbers that the lists are made of, by the dice of the host's own tests.
+
+use std::ops::{Deref, DerefMut};
 
 use crate::data::Candle;
 use crate::spec::{Risk, Sizing, Slippage};
 
-/// SplitMix64: a seed gives the same list everywhere.
-pub struct Dice(u64);
+/// A seed gives the same list everywhere.
+pub struct Dice(dice::Dice);
+
+impl Deref for Dice {
+    type Target = dice::Dice;
+
+    fn deref(&self) -> &Self::Target {
+        &self.0
+    }
+}
+
+impl DerefMut for Dice {
+    fn deref_mut(&mut self) -> &mut Self::Target {
+        &mut self.0
+    }
+}
 
 /// Numbers at the edges of what a float can be, and of what the rules ask. No −0.0: the sign of a zero min or max is open.
 pub const ODD: [f64; 20] = [
@@ -32,31 +48,11 @@ pub const ODD: [f64; 20] = [
 
 impl Dice {
     pub fn new(seed: u64) -> Self {
-        Self(seed)
-    }
-
-    pub fn bits(&mut self) -> u64 {
-        self.0 = self.0.wrapping_add(0x9e37_79b9_7f4a_7c15);
-        let x = (self.0 ^ self.0 >> 30).wrapping_mul(0xbf58_476d_1ce4_e5b9);
-        let x = (x ^ x >> 27).wrapping_mul(0x94d0_49bb_1331_11eb);
-        x ^ x >> 31
-    }
-
-    /// 0 to `n` - 1.
-    pub fn below(&mut self, n: u64) -> u64 {
-        self.bits() % n
+        Self(dice::Dice(seed))
     }
 
     pub fn between(&mut self, low: u64, high: u64) -> u64 {
         low + self.below(high - low + 1)
-    }
-
-    pub fn percent(&mut self, chance: u64) -> bool {
-        self.below(100) < chance
-    }
-
-    pub fn pick<T: Copy>(&mut self, from: &[T]) -> T {
-        from[self.below(from.len() as u64) as usize]
     }
 
     /// 0 up to 1.

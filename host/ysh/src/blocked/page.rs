@@ -11,10 +11,11 @@ use super::shape::Sort;
 use super::tally::Stamp;
 use super::text::Told;
 use crate::columns::grouped;
+use crate::page as skeleton;
 use crate::show::Clock;
 use crate::svg::escape;
 
-const STYLE: &str = concat!(include_str!("../page.css"), include_str!("../why/tree.css"), include_str!("strip.css"));
+const STYLE: &str = concat!(include_str!("../why/tree.css"), include_str!("strip.css"));
 const SCRIPT: &str = include_str!("strip.js");
 
 /// As many bars as have the values of their chain in the page; of the others the page has who decided.
@@ -167,14 +168,7 @@ pub fn page(told: &Told, strip: &Strip) -> String {
         node(told, 0),
         footer(),
     );
-    format!(
-        "<!doctype html>\n<html lang=\"en\">\n<head>\n<meta charset=\"utf-8\">\n\
-         <meta name=\"viewport\" content=\"width=device-width, initial-scale=1\">\n\
-         <title>{}</title>\n<style>\n{STYLE}</style>\n</head>\n<body>\n{body}\n\
-         <script type=\"application/json\" id=\"data\">{}</script>\n<script>\n{SCRIPT}</script>\n</body>\n</html>\n",
-        escape(&title),
-        data(told, strip),
-    )
+    skeleton::page(&title, STYLE, &[body, skeleton::script_over("data", &data(told, strip), SCRIPT)])
 }
 
 const LEGEND: &str = "<span class=\"key yes\"></span> yes <span class=\"key no\"></span> no <span class=\"key none\"></span> no, for want of a value or of \

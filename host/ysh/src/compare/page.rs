@@ -3,9 +3,10 @@
 use super::chart::Charts;
 use super::text::{equity, more, trades, verdict, words};
 use super::{Compared, Side};
+use crate::page as skeleton;
 use crate::svg::escape;
 
-const STYLE: &str = concat!(include_str!("../page.css"), include_str!("../chart.css"), include_str!("compare.css"));
+const STYLE: &str = concat!(include_str!("../chart.css"), include_str!("compare.css"));
 
 /// As many words as the table has rows for.
 const ROWS: usize = 5000;
@@ -29,12 +30,7 @@ pub fn page(compared: &Compared) -> String {
         table(compared),
         footer(),
     ];
-    format!(
-        "<!doctype html>\n<html lang=\"en\">\n<head>\n<meta charset=\"utf-8\">\n\
-         <meta name=\"viewport\" content=\"width=device-width, initial-scale=1\">\n\
-         <title>{title}</title>\n<style>\n{STYLE}</style>\n</head>\n<body>\n{}\n</body>\n</html>\n",
-        parts.join("\n")
-    )
+    skeleton::page(title, STYLE, &parts)
 }
 
 fn told(compared: &Compared) -> String {

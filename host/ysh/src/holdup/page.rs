@@ -12,9 +12,10 @@ use super::text::{change_said, limits_said, needs};
 use super::told::{asked, capacitance, room, verdict, ASSUMED};
 use super::units::Time;
 use crate::columns::{counted, grouped};
+use crate::page as skeleton;
 use crate::svg::{escape, Svg};
 
-const STYLE: &str = concat!(include_str!("../page.css"), include_str!("../chart.css"));
+const STYLE: &str = include_str!("../chart.css");
 
 pub fn page(report: &Report) -> String {
     let parts = [
@@ -35,12 +36,7 @@ pub fn page(report: &Report) -> String {
         section("What was read", &identity(report)),
         SIGNATURE.to_owned(),
     ];
-    format!(
-        "<!doctype html>\n<html lang=\"en\">\n<head>\n<meta charset=\"utf-8\">\n\
-         <meta name=\"viewport\" content=\"width=device-width, initial-scale=1\">\n\
-         <title>Hold-up time</title>\n<style>\n{STYLE}</style>\n</head>\n<body>\n{}\n</body>\n</html>\n",
-        parts.join("\n")
-    )
+    skeleton::page("Hold-up time", STYLE, &parts)
 }
 
 fn section(title: &str, body: &str) -> String {

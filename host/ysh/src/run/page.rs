@@ -9,10 +9,11 @@ use super::outcome::{of, reason_words, Outcome};
 use super::study::{Side, Study};
 use super::text;
 use crate::columns::counted;
+use crate::page as skeleton;
 use crate::show::{rounded, Clock};
 use crate::svg::escape;
 
-const STYLE: &str = concat!(include_str!("../page.css"), include_str!("../chart.css"), include_str!("report.css"));
+const STYLE: &str = concat!(include_str!("../chart.css"), include_str!("report.css"));
 
 /// As many trades as the table has rows for: the first half and the last half of these.
 const ROWS: usize = 2000;
@@ -54,17 +55,9 @@ pub fn page(outcome: &Outcome, decisions: &[Decision]) -> String {
         decided(outcome, decisions),
         notes(outcome),
         footer(),
-        drawn.as_ref().map_or(String::new(), |charts| {
-            format!("<script type=\"application/json\" id=\"points\">{}</script>\n<script>\n{SCRIPT}</script>", charts.points)
-        }),
+        drawn.as_ref().map_or(String::new(), |charts| skeleton::script_over("points", &charts.points, SCRIPT)),
     ];
-    format!(
-        "<!doctype html>\n<html lang=\"en\">\n<head>\n<meta charset=\"utf-8\">\n\
-         <meta name=\"viewport\" content=\"width=device-width, initial-scale=1\">\n\
-         <title>{}</title>\n<style>\n{STYLE}</style>\n</head>\n<body>\n{}\n</body>\n</html>\n",
-        escape(title),
-        parts.join("\n")
-    )
+    skeleton::page(title, STYLE, &parts)
 }
 
 fn told(outcome: &Outcome) -> String {

@@ -5,12 +5,13 @@ use super::document::Document;
 use super::row::{Figures, Row};
 use super::text::{figures, note, totals};
 use crate::columns::{counted, grouped};
+use crate::page as skeleton;
 use crate::run::json::Exact;
 use crate::show::rounded;
 use crate::svg::escape;
 use crate::table::number;
 
-const STYLE: &str = concat!(include_str!("../page.css"), include_str!("../chart.css"), include_str!("trials.css"));
+const STYLE: &str = concat!(include_str!("../chart.css"), include_str!("trials.css"));
 const SORT: &str = include_str!("sort.js");
 
 pub fn page(document: &Document) -> String {
@@ -29,13 +30,9 @@ pub fn page(document: &Document) -> String {
         table(document),
         doubts(document),
         footer(),
+        skeleton::script(SORT),
     ];
-    format!(
-        "<!doctype html>\n<html lang=\"en\">\n<head>\n<meta charset=\"utf-8\">\n\
-         <meta name=\"viewport\" content=\"width=device-width, initial-scale=1\">\n\
-         <title>{title}</title>\n<style>\n{STYLE}</style>\n</head>\n<body>\n{}\n<script>\n{SORT}</script>\n</body>\n</html>\n",
-        parts.join("\n")
-    )
+    skeleton::page(&title, STYLE, &parts)
 }
 
 fn big(document: &Document) -> String {

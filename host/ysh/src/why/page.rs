@@ -7,10 +7,11 @@ use super::chain::{Chains, Link};
 use super::moment::Moment;
 use super::values::{value_of, Value};
 use super::words::yes;
+use crate::page as skeleton;
 use crate::svg::escape;
 use crate::table::Words;
 
-const STYLE: &str = concat!(include_str!("../page.css"), include_str!("tree.css"));
+const STYLE: &str = include_str!("tree.css");
 
 /// The rules that were asked at each of some bars, with their chains, below what is said above them.
 pub fn page(moments: &[(Moment, Chains)], heads: &[Vec<String>]) -> String {
@@ -29,12 +30,7 @@ pub fn page(moments: &[(Moment, Chains)], heads: &[Vec<String>]) -> String {
          where they are read: below “bars before” so many bars back. Written by ysh {}.</p></footer>",
         env!("CARGO_PKG_VERSION")
     ));
-    format!(
-        "<!doctype html>\n<html lang=\"en\">\n<head>\n<meta charset=\"utf-8\">\n\
-         <meta name=\"viewport\" content=\"width=device-width, initial-scale=1\">\n\
-         <title>{}</title>\n<style>\n{STYLE}</style>\n</head>\n<body>\n{body}\n</body>\n</html>\n",
-        escape(&heads[0][0])
-    )
+    skeleton::page(&heads[0][0], STYLE, &[body])
 }
 
 fn part(moment: &Moment, tree: Tree, links: &[Link]) -> String {
