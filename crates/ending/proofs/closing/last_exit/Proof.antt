@@ -10,7 +10,9 @@ returns c =
     let test = c .before .before .before .before .before in
     simp (sym (test .before .to-close .ensures) ∙ test .if1 .taken, c .close .ensures)
 
-pub last-exit-spec : {M : Type 1} → statement M
+returns-2 : tie.Need-returns-2
 unfolding lastExit
-last-exit-spec =
-    tie.close (tie.spec (λ c κs. search needs) (λ c κs. search needs) returns (λ c. simp (sym (c .before .to-close .ensures) ∙ c .if1 .left)))
+returns-2 c = simp (sym (c .before .to-close .ensures) ∙ c .if1 .left)
+
+pub last-exit-spec : {M : Type 1} → statement M
+last-exit-spec = tie.close (tie.spec (λ c κs. search needs) (λ c κs. search needs) returns returns-2)
