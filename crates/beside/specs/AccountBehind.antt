@@ -9,8 +9,10 @@ use Rattle.refusals.specs.{declared.verdict.Verdict.Verdict, declared.verdict.V
 use Rattle.refusals.specs.{Laws.Lines.never, Lines.judged}
 use Rattle.accounts.specs.{Own.ownBar, Profile.withinProfile, Profile.afterTable, Profile.profileJudged, Status.statusWords, Status.isStopped}
 use Rattle.accounts.specs.{Status.stoppedWith}
-use Rattle.capi.specs.{Accounts.AccountGiven, Accounts.AccountLent, Accounts.alone, Accounts.ownBars, Accounts.ownLists, Accounts.statusAfter, Accounts.ridesBy}
-use Rattle.capi.specs.{Accounts.accountAfter, Laws.Calls.Small, Laws.TableCalls.table-number, WordRun.WordRun, WordRun.callsOver}
+use Rattle.stepping.specs.{WordRun.WordRun, WordRun.callsOver}
+use Rattle.streamed.specs.{Accounts.AccountGiven, Accounts.AccountLent, Accounts.alone, Accounts.ownBars, Accounts.ownLists, Accounts.statusAfter}
+use Rattle.streamed.specs.{Accounts.ridesBy, Accounts.accountAfter}
+use Rattle.capi.specs.{Laws.Calls.Small, Laws.TableCalls.table-number}
 use Rattle.beside.specs.{Appended.moreCalls, Appended.calls-behind, Appended.calls-ended, Appended.calls-number, NeverEleven.stopped-number}
 use mathlib.Core.List.{map-append}
 use lib.ListN.{length-map}

@@ -5,9 +5,10 @@ use Rattle.refusals.specs.{declared.verdict.Verdict.Verdict, declared.verdict.V
 use Rattle.refusals.specs.{Lines.judged}
 use Rattle.engine.specs.{Day.cut}
 use Rattle.accounts.specs.{Status.statusWords, Stream.streamTaken}
-use Rattle.capi.specs.{Accounts.AccountGiven, Accounts.AccountLent, Accounts.AccountsLent, Accounts.Four, Accounts.streamWords}
-use Rattle.capi.specs.{Accounts.accountAfter, Accounts.accountsLines, Accounts.afterBars, Accounts.accountsBy, Accounts.accountsCall, AsIfAlone.Which}
-use Rattle.capi.specs.{AsIfAlone.first, AsIfAlone.second, AsIfAlone.third, AsIfAlone.fourth, AsIfAlone.givenTo, AsIfAlone.lentTo, AsIfAlone.call}
+use Rattle.streamed.specs.{Accounts.AccountGiven, Accounts.AccountLent, Accounts.AccountsLent, Accounts.Four, Accounts.streamWords, Accounts.accountAfter}
+use Rattle.streamed.specs.{Accounts.accountsLines, Accounts.afterBars, Accounts.accountsBy, Accounts.accountsCall}
+use Rattle.capi.specs.{AsIfAlone.Which, AsIfAlone.first, AsIfAlone.second, AsIfAlone.third, AsIfAlone.fourth, AsIfAlone.givenTo, AsIfAlone.lentTo}
+use Rattle.capi.specs.{AsIfAlone.call}
 
 -- each status has its three words: "10 at 17" is the call's own
 abbrev pub StatusesFit : AccountsLent → Type 0

@@ -8,7 +8,9 @@ use Rattle.refusals.specs.{Laws.Lines.never, Laws.Lines.first-holds, Lines.judg
 use Rattle.engine.specs.{Day.cut}
 use Rattle.accounts.specs.{declared.stream.Taken.Taken, Laws.Stream.moreTaken, Stream.streamBarLines, Stream.oneMoreTaken, Stream.takenUnless}
 use Rattle.accounts.specs.{Stream.streamTakes}
-use Rattle.capi.specs.{Bars.StepLent, Bars.stepCall, Call.Call, Laws.RunCalls.step-honest, WordRun.WordRun, WordRun.callMore, WordRun.callsOver}
+use Rattle.replies.specs.{Call.Call}
+use Rattle.stepping.specs.{Bars.StepLent, Bars.stepCall, WordRun.WordRun, WordRun.callMore, WordRun.callsOver}
+use Rattle.capi.specs.{Laws.RunCalls.step-honest}
 use lib.Seq.{take-append-le, drop-append-le}
 
 -- ---- records of words

@@ -8,10 +8,11 @@ use Rattle.refusals.specs.{Laws.Places.named-placed, Lines.judged, Lines.firstB
 use Rattle.engine.specs.{Day.cut}
 use Rattle.accounts.specs.{declared.stream.Taken.Taken, Stream.streamLines, Stream.streamBarLines, Stream.noneTaken, Stream.oneMoreTaken, Stream.takenUnless}
 use Rattle.accounts.specs.{Stream.streamTakes, Stream.streamTaken}
-use Rattle.capi.specs.{Accounts.AccountsLent, Accounts.Four, Accounts.accountAfter, Accounts.accountsLines, Accounts.noneDone, Accounts.streamAfter}
-use Rattle.capi.specs.{Accounts.afterBars, Accounts.accountsBy, Accounts.accountsCall, AsIfAlone.taken, AsIfAlone.call, AsIfAlone.roomsJudged, Call.answerWord}
-use Rattle.capi.specs.{Laws.Answers.answer-number, Laws.Answers.answer-place, Laws.Calls.Small, Laws.Calls.refused-word, Laws.RunCalls.lines-small}
-use Rattle.capi.specs.{WordRun.answerOf}
+use Rattle.replies.specs.{Call.answerWord, Laws.Answers.answer-number, Laws.Answers.answer-place}
+use Rattle.stepping.specs.{WordRun.answerOf}
+use Rattle.streamed.specs.{Accounts.AccountsLent, Accounts.Four, Accounts.accountAfter, Accounts.accountsLines, Accounts.noneDone, Accounts.streamAfter}
+use Rattle.streamed.specs.{Accounts.afterBars, Accounts.accountsBy, Accounts.accountsCall}
+use Rattle.capi.specs.{AsIfAlone.taken, AsIfAlone.call, AsIfAlone.roomsJudged, Laws.Calls.Small, Laws.Calls.refused-word, Laws.RunCalls.lines-small}
 
 -- ---- the refusals are small
 

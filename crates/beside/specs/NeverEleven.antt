@@ -9,10 +9,13 @@ use Rattle.refusals.specs.{Laws.Lines.never, Laws.Lines.first-holds, Lines.judg
 use Rattle.engine.specs.{Day.cut}
 use Rattle.accounts.specs.{Laws.Own.overwrite-start, Laws.Profile.profile-slots, Profile.withinProfile, Profile.afterTable, Profile.profileJudged}
 use Rattle.accounts.specs.{Status.statusWords, Status.stoppedWith}
-use Rattle.capi.specs.{Accounts.AccountGiven, Accounts.AccountLent, Accounts.AccountsLent, Accounts.Four, Accounts.alone, Accounts.ownBars, Accounts.ownLists}
-use Rattle.capi.specs.{Accounts.accountsLines, Accounts.noneDone, AsIfAlone.Which, AsIfAlone.first, AsIfAlone.second, AsIfAlone.third, AsIfAlone.fourth}
-use Rattle.capi.specs.{AsIfAlone.givenTo, AsIfAlone.lentTo, AsIfAlone.Rode, AsIfAlone.AsAlone, AsIfAlone.slots, AsIfAlone.seen, AsIfAlone.taken, AsIfAlone.call}
-use Rattle.capi.specs.{AsIfAlone.roomsJudged, AsIfAlone.as-if-alone, Call.Call, Laws.TableCalls.OneToNine, Laws.TableCalls.one-to-nine, WordRun.WordRun}
+use Rattle.replies.specs.{Call.Call}
+use Rattle.stepping.specs.{WordRun.WordRun}
+use Rattle.streamed.specs.{Accounts.AccountGiven, Accounts.AccountLent, Accounts.AccountsLent, Accounts.Four, Accounts.alone, Accounts.ownBars}
+use Rattle.streamed.specs.{Accounts.ownLists, Accounts.accountsLines, Accounts.noneDone}
+use Rattle.capi.specs.{AsIfAlone.Which, AsIfAlone.first, AsIfAlone.second, AsIfAlone.third, AsIfAlone.fourth, AsIfAlone.givenTo, AsIfAlone.lentTo}
+use Rattle.capi.specs.{AsIfAlone.Rode, AsIfAlone.AsAlone, AsIfAlone.slots, AsIfAlone.seen, AsIfAlone.taken, AsIfAlone.call, AsIfAlone.roomsJudged}
+use Rattle.capi.specs.{AsIfAlone.as-if-alone, Laws.TableCalls.OneToNine, Laws.TableCalls.one-to-nine}
 use Rattle.beside.specs.{Step.calls-other, Taken.AllFine, Taken.taken-fine}
 
 -- ---- an account's table and the profile

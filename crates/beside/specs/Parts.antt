@@ -5,9 +5,11 @@ use Rattle.refusals.specs.{declared.verdict.Verdict.Verdict, declared.verdict.V
 use Rattle.refusals.specs.{Day.wholeBars, Laws.Lines.never, Laws.Lines.first-holds, Lines.judged}
 use Rattle.engine.specs.{Day.cut}
 use Rattle.accounts.specs.{declared.stream.Taken.Taken, Laws.Stream.cut-length, Laws.Stream.taken-within, Status.statusWords, Stream.streamTaken}
-use Rattle.capi.specs.{Accounts.AccountGiven, Accounts.AccountLent, Accounts.AccountsLent, Accounts.Four, Accounts.streamWords, Accounts.accountAfter}
-use Rattle.capi.specs.{Accounts.accountsLines, Accounts.afterBars, Accounts.accountsBy, Accounts.accountsCall, AsIfAlone.lentTo, AsIfAlone.taken}
-use Rattle.capi.specs.{AsIfAlone.roomsJudged, AsIfAlone.first, AsIfAlone.second, AsIfAlone.third, AsIfAlone.fourth, Call.Call, WordRun.answerOf}
+use Rattle.replies.specs.{Call.Call}
+use Rattle.stepping.specs.{WordRun.answerOf}
+use Rattle.streamed.specs.{Accounts.AccountGiven, Accounts.AccountLent, Accounts.AccountsLent, Accounts.Four, Accounts.streamWords, Accounts.accountAfter}
+use Rattle.streamed.specs.{Accounts.accountsLines, Accounts.afterBars, Accounts.accountsBy, Accounts.accountsCall}
+use Rattle.capi.specs.{AsIfAlone.lentTo, AsIfAlone.taken, AsIfAlone.roomsJudged, AsIfAlone.first, AsIfAlone.second, AsIfAlone.third, AsIfAlone.fourth}
 use Rattle.beside.specs.{Appended.cut-front, Appended.cut-behind, Honest.callJudged, Honest.accounts-honest, NeverEleven.statuses}
 use Rattle.beside.specs.{AccountBehind.status-long, AccountBehind.account-behind, StreamBehind.counted, StreamBehind.stream-long, StreamBehind.whole-both}
 use Rattle.beside.specs.{StreamBehind.Behind, StreamBehind.taken-behind, StreamBehind.taken-ended}

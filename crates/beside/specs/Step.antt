@@ -9,8 +9,9 @@ use Rattle.refusals.specs.{Settings.riskLines, Settings.termLines, Settings.ent
 use Rattle.engine.specs.{declared.answer.Answer.Answer, declared.answer.Answer.the-variants.Refused, declared.answer.Answer.the-variants.Done}
 use Rattle.engine.specs.{Laws.Refusal.refusal-changes-nothing, Step.sizeLines, Step.stepVerdict, Step.stepAnswer}
 use Rattle.accounts.specs.{Own.ownBar}
-use Rattle.capi.specs.{Bars.StepLent, Bars.lentLines, Bars.stepGives, Bars.stepCall, Call.callOf, Call.unlessBad, Call.wordLines, Laws.Calls.Honest}
-use Rattle.capi.specs.{Laws.RunCalls.step-honest, WordRun.WordRun, WordRun.callMore, WordRun.callsOver}
+use Rattle.replies.specs.{Call.callOf, Call.unlessBad, Call.wordLines}
+use Rattle.stepping.specs.{Bars.StepLent, Bars.lentLines, Bars.stepGives, Bars.stepCall, WordRun.WordRun, WordRun.callMore, WordRun.callsOver}
+use Rattle.capi.specs.{Laws.Calls.Honest, Laws.RunCalls.step-honest}
 use Rattle.beside.specs.{OwnFine.own-fine, Taken.AllFine}
 
 -- each line of number 11 holds

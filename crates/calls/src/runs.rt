@@ -129,7 +129,7 @@ fn steps_call(
     let r = rooms::lent(sizes, rooms::ROWS, rows.len());
     let e = rooms::lent(sizes, rooms::EQUITY, equity.len());
     let t = rooms::lent(sizes, rooms::TRADES, trades.len());
-    capi::day::ysh_steps(
+    capi::many::ysh_steps(
         rooms::words_of(sizes, rooms::SETTINGS, settings),
         &mut state[from..s],
         bars,

@@ -4,7 +4,8 @@ use Rattle.table.specs.{Bytes.Bytes, Header.slots}
 use Rattle.records.specs.{Lent.Lists, Lent.rowPlaces, Settings.settingsOf}
 use Rattle.refusals.specs.{declared.verdict.Verdict.the-variants.Fine, Lines.judged, Settings.settingLines}
 use Rattle.restart.specs.{Laws.Reached64.Words64}
-use Rattle.capi.specs.{Tables.DepthLent, Tables.depthCall, Tables.TranslateLent, Tables.translateCall, Fresh.freshCall, Bars.StepLent}
+use Rattle.stepping.specs.{Bars.StepLent}
+use Rattle.capi.specs.{Tables.DepthLent, Tables.depthCall, Tables.TranslateLent, Tables.translateCall, Fresh.freshCall}
 
 -- `ysh_translate` answered 0, and these are the bytes that it used of the buffer that it was lent.
 pub record Translation (table : List ℕ) (tree : ℕ) (steps : List ℕ) : Type 0 where

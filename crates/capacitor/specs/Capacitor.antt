@@ -7,7 +7,8 @@ use Rattle.portfolio.specs.{Trade.wordsOfTrade}
 use Rattle.records.specs.{Lent.Lists, Lent.Rooms, Lent.rowPlaces, Lent.pointPlaces, Lent.tradePlaces, Settings.settingsOf, StateWords.stateOf}
 use Rattle.engine.specs.{Books.wordsOfPoint, Whole.accountOf, Whole.Whole, Whole.meantRun}
 use Rattle.restart.specs.{FirstWord.Unmarked, Laws.Reached64.Bars64, PagePlan.firstWord, PagePlan.wholePages, Plans.allProgrammed, Plans.inOrder}
-use Rattle.capi.specs.{Bars.StepLent, Fresh.freshCall, Power.dumpCall, WordRun.WordRun, WordRun.callsOver}
+use Rattle.stepping.specs.{Bars.StepLent, WordRun.WordRun, WordRun.callsOver}
+use Rattle.capi.specs.{Fresh.freshCall, Power.dumpCall}
 use Rattle.capacitor.specs.{Begun.Begun, Loss.Loss, Loss.sizeOf, Loss.imageIn, Loss.restoreOf, Loss.Driven, Loss.Restored, Loss.lastBox, Loss.barsBefore}
 use Rattle.capacitor.specs.{Loss.pointsIn, Loss.tradesIn, Loss.pointsBefore, Loss.tradesBefore}
 

@@ -8,7 +8,9 @@ use Rattle.metrics.specs.{Figures.figureWords}
 use Rattle.records.specs.{declared.state.State.State, Lent.Lists, Lent.rooms, Settings.settingsOf, StateWords.stateOf}
 use Rattle.engine.specs.{Whole.Whole, Whole.wholeEnd, Whole.wholeMetrics}
 use Rattle.restart.specs.{Laws.Reached64.Bars64}
-use Rattle.capi.specs.{Bars.StepLent, Call.Call, Figures.metricsCall, Finish.FinishLent, Finish.finishCall}
+use Rattle.replies.specs.{Call.Call}
+use Rattle.stepping.specs.{Bars.StepLent}
+use Rattle.capi.specs.{Figures.metricsCall, Finish.FinishLent, Finish.finishCall}
 use Rattle.capacitor.specs.{Begun.Begun, Capacitor.now, Capacitor.unbroken, Loss.Loss, Loss.Restored, Loss.barsBefore, Loss.pointsIn, Loss.tradesIn}
 use Rattle.capacitor.specs.{Loss.pointsBefore, Loss.tradesBefore}
 

@@ -15,8 +15,9 @@ use Rattle.engine.specs.{Finish.ended, Laws.Runs.run-none, Run.Run, Run.runOver
 use Rattle.runs.specs.{Laws.Finishes.end-closes, Laws.Floats.run-floats, Restart.no-points}
 use Rattle.restart.specs.{EndAfterLosses.lastRemarked, EndAfterLosses.points-long, EndAfterLosses.trades-long, EndAfterLosses.EndsAsNever}
 use Rattle.restart.specs.{EndAfterLosses.ends-after-losses, EndAfterLosses.figures-after-losses}
-use Rattle.capi.specs.{Bars.StepLent, Call.callOf, Call.unlessBad, Call.metricLines, Figures.metricsGives, Figures.metricsCall, Joined.IsEnd, Joined.ends-in-words}
-use Rattle.capi.specs.{WordRun.WordRun, WordRun.answerOf, Laws.Calls.refused-word, Laws.RunCalls.finish-small}
+use Rattle.replies.specs.{Call.callOf, Call.unlessBad, Call.metricLines}
+use Rattle.stepping.specs.{Bars.StepLent, WordRun.WordRun, WordRun.answerOf}
+use Rattle.capi.specs.{Figures.metricsGives, Figures.metricsCall, Joined.IsEnd, Joined.ends-in-words, Laws.Calls.refused-word, Laws.RunCalls.finish-small}
 use Rattle.capacitor.specs.{Capacitor.now, Capacitor.unbroken, Finish.finishNow, Finish.boxFinished, Finish.lastKept, Finish.GivesWhole}
 use Rattle.capacitor.specs.{Finish.FinishAfterLosses, Finish.FinishTheorem, Loss.Loss, Loss.pointsIn, Loss.tradesIn, Loss.pointsBefore, Loss.tradesBefore}
 use Rattle.capacitor.specs.{Laws.EngineNow.EngineNow, Laws.EngineNow.engine-now}

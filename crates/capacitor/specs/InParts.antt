@@ -4,9 +4,12 @@ use Rattle.words.specs.Prelude.{ℕ, _≤_, _≡_, sym, _∙_, List, arith, le-
 use Rattle.records.specs.{declared.settings.Settings.Settings, declared.state.State.State, Lent.Lists, Settings.settingsOf, StateWords.stateOf}
 use Rattle.refusals.specs.{declared.verdict.Verdict.the-variants.Fine, Laws.Lines.both-fine, Lines.judged, Rooms.roomLines, Settings.settingLines}
 use Rattle.images.specs.{Layout.dumpBytes}
-use Rattle.dump.specs.{Refused.areaLines, Refused.dumpLines, Refused.dumpJudged, Laws.Fine.dump-fine, Laws.Parts.total}
-use Rattle.capi.specs.{Bars.StepLent, Bars.lentLines, Call.callOf, Call.unlessBad, Part.PartLent, Power.dumpGives, Power.dumpCall, Laws.DumpCalls.dump-bytes}
-use Rattle.capi.specs.{Laws.PartCalls.inCalls, Laws.PartCalls.partLengths, Laws.PartCalls.dump-is-image, Laws.PartCalls.parts-are-dump}
+use Rattle.dumpable.specs.{Refused.areaLines, Refused.dumpLines, Refused.dumpJudged, Laws.Fine.dump-fine}
+use Rattle.dump.specs.{Laws.Parts.total}
+use Rattle.replies.specs.{Call.callOf, Call.unlessBad}
+use Rattle.stepping.specs.{Bars.StepLent, Bars.lentLines}
+use Rattle.capi.specs.{Part.PartLent, Power.dumpGives, Power.dumpCall, Laws.DumpCalls.dump-bytes, Laws.PartCalls.inCalls, Laws.PartCalls.partLengths}
+use Rattle.capi.specs.{Laws.PartCalls.dump-is-image, Laws.PartCalls.parts-are-dump}
 use Rattle.capacitor.specs.{Loss.Loss, Loss.sizeOf, Loss.boxBefore, Loss.dumpOf, Loss.imageIn, Laws.PowerCalls.dump-done}
 
 -- a dump is judged alike over any two areas that have the size

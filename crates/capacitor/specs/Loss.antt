@@ -4,7 +4,9 @@ use Rattle.records.specs.{Lent.Lists, Lent.rooms, Settings.settingsOf, StateWor
 use Rattle.engine.specs.{Books.heldPoints, Books.heldTrades}
 use Rattle.images.specs.{Layout.dumpBytes}
 use Rattle.restart.specs.{FirstWord.Unmarked, Plans.CutIn, Plans.inOrder, Plans.Plan}
-use Rattle.capi.specs.{Call.Call, Bars.StepLent, Power.RestoreLent, Power.dumpCall, Power.restoreCall, WordRun.callsOver}
+use Rattle.replies.specs.{Call.Call}
+use Rattle.stepping.specs.{Bars.StepLent, WordRun.callsOver}
+use Rattle.capi.specs.{Power.RestoreLent, Power.dumpCall, Power.restoreCall}
 
 pub record Loss : Type 0 where
   -- the bars since the box was begun, or restored last

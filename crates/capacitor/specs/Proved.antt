@@ -10,7 +10,8 @@ use Rattle.runs.specs.{NeverFull.PlacesFor, Laws.Floats.run-floats}
 use Rattle.images.specs.{Layout.dumpBytes, Layout.imageOf}
 use Rattle.restart.specs.{AsIfNever.Ready, FirstWord.Unmarked, Laws.Programs.done-is-cut, Laws.Programs.plan-done, PagePlan.firstWord, PagePlan.wholePages}
 use Rattle.restart.specs.{PagePlan.whole-pages-plan, Plans.inOrder, Plans.Plan}
-use Rattle.capi.specs.{Bars.StepLent, Fresh.freshCall, Joined.calls-run, Power.dumpCall, WordRun.WordRun, WordRun.callsOver, WordRun.answerOf}
+use Rattle.stepping.specs.{Bars.StepLent, WordRun.WordRun, WordRun.callsOver, WordRun.answerOf}
+use Rattle.capi.specs.{Fresh.freshCall, Joined.calls-run, Power.dumpCall}
 use Rattle.capacitor.specs.{Capacitor.now, Capacitor.pagesDone, Capacitor.Capacitor, Capacitor.CapacitorTheorem, Loss.Loss, Loss.sizeOf, Loss.dumpOf}
 use Rattle.capacitor.specs.{Loss.imageIn, Loss.Driven, Loss.Restored, Loss.lastBox, Loss.barsBefore, Laws.EngineNow.EngineNow, Laws.EngineNow.engine-now}
 use Rattle.capacitor.specs.{Laws.FromCalls.fresh-lent, Laws.LivesInWords.image-is, Laws.OneLoss.restored-more, Laws.OneLoss.whole-answers}

@@ -3,7 +3,8 @@ use Rattle.words.specs.Prelude.{ℕ, _≡_, refl, sym, ap, _∙_, List, length}
 use Rattle.words.specs.{declared.refusal.Refusal.Refusal}
 use Rattle.refusals.specs.{declared.verdict.Verdict.Verdict, declared.verdict.Verdict.the-variants.Fine, declared.verdict.Verdict.the-variants.Bad}
 use Rattle.questions.specs.{Over.askedRows, Over.explanationOver, Over.linesOver, Over.countsOver, Over.overVerdict, Over.unlessRefused}
-use Rattle.capi.specs.{Call.answerWord, WhyOver.overGives, WhyOver.overCall}
+use Rattle.replies.specs.{Call.answerWord}
+use Rattle.capi.specs.{WhyOver.overGives, WhyOver.overCall}
 use Rattle.capi.proofs.{Calling.call-bad, Calling.call-gives}
 
 module _ (t : List ℕ) (x : ℕ) (rows ps lines counts : List ℕ) (v : Verdict) (after count : List ℕ)

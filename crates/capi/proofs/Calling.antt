@@ -2,7 +2,7 @@
 use Rattle.words.specs.Prelude.{ℕ, _≡_}
 use Rattle.words.specs.{declared.refusal.Refusal.Refusal, Outcome.Outcome, Outcome.gives, Outcome.refuses}
 use Rattle.refusals.specs.{declared.verdict.Verdict.Verdict, declared.verdict.Verdict.the-variants.Fine, declared.verdict.Verdict.the-variants.Bad}
-use Rattle.capi.specs.{Call.answerWord, Call.callOf, Call.unlessBad}
+use Rattle.replies.specs.{Call.answerWord, Call.callOf, Call.unlessBad}
 
 module _ {A : Type 0} (o : Outcome A) (before : A) where
   -- a refusal

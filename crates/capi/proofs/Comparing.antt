@@ -3,7 +3,8 @@ use Rattle.words.specs.Prelude.{ℕ, _*_, _≡_, refl, sym, ap, _∙_, Bool, tr
 use Rattle.words.specs.{declared.refusal.Refusal.Refusal, Words.overwrite}
 use Rattle.differences.specs.{declared.compare.Compared.Compared, declared.compare.Compared.the-variants.Lines, declared.compare.Compared.the-variants.Refused}
 use Rattle.differences.specs.{Lines.lineWords, Lines.differences, Lines.wordsOf, Compared.Comparison, Compared.compared, Compared.written, Compared.whole}
-use Rattle.capi.specs.{Call.answerWord, Call.callOf, Compare.compareGives, Compare.compareCall}
+use Rattle.replies.specs.{Call.answerWord, Call.callOf}
+use Rattle.capi.specs.{Compare.compareGives, Compare.compareCall}
 
 no-lines : {A : Type 0} {r : Refusal} {n : ℕ} → Lines n ≡ Refused r → A
 no-lines e = absurd (let z : _≡_ {A = ℕ} 0 1 = cc in omega arith)

@@ -8,7 +8,9 @@ use Rattle.refusals.specs.{declared.verdict.Verdict.Verdict, declared.verdict.V
 use Rattle.refusals.specs.{Judgement.finishJudged}
 use Rattle.engine.specs.{declared.answer.Finished.Finished, declared.answer.Finished.the-variants.Refused, declared.answer.Finished.the-variants.Done}
 use Rattle.engine.specs.{declared.answer.Ended.Ended, Step.With, Step.Is, Finish.ended, Finish.concluded, Finish.finishOf}
-use Rattle.capi.specs.{Call.answerWord, Call.metricLines, Bars.lentLines, Finish.finishGives, Finish.finishCall}
+use Rattle.replies.specs.{Call.answerWord, Call.metricLines}
+use Rattle.stepping.specs.{Bars.lentLines}
+use Rattle.capi.specs.{Finish.finishGives, Finish.finishCall}
 use Rattle.capi.proofs.{Calling.call-bad, Calling.call-refused, Calling.call-gives}
 use Rattle.metrics.specs.Figures as Figures
 

@@ -1,6 +1,4 @@
 pub mod Calling
-pub mod Stepping
-pub mod Days
 pub mod Finishing
 pub mod Writing
 pub mod Powering
@@ -9,5 +7,3 @@ pub mod Totalling
 pub mod Stretching
 pub mod Comparing
 pub mod Asking
-pub mod Riding
-pub mod Accounting

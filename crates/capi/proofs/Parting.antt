@@ -5,10 +5,12 @@ use Rattle.records.specs.{declared.settings.Settings.Settings, declared.state.S
 use Rattle.refusals.specs.{declared.verdict.Verdict.Verdict, declared.verdict.Verdict.the-variants.Fine, declared.verdict.Verdict.the-variants.Bad, Lines.judged}
 use Rattle.refusals.specs.{Rooms.roomLines, Laws.Lines.below-fine, Laws.Lines.both-fine, Laws.Descent.no-line, Laws.Descent.fine-line}
 use Rattle.images.specs.{Layout.imageOf, Refused.leftBy}
+use Rattle.dumpable.specs.{Refused.partLines, Refused.partJudged}
 use Rattle.dump.specs.{declared.part.Parted.Parted, declared.part.Parted.the-variants.Refused, declared.part.Parted.the-variants.Used, Parts.bytesFrom}
-use Rattle.dump.specs.{Parts.partLines, Parts.partJudged, Parts.partedBy, Parts.PartDumped, Laws.PartFine.WordsFit, Laws.PartFine.WordsParted}
-use Rattle.dump.specs.{Laws.PartFine.words-fit}
-use Rattle.capi.specs.{Call.Call, Call.answerWord, Call.wordLines, Bars.lentLines, Part.PartLent, Part.partGives, Part.filledWith, Part.partCall}
+use Rattle.dump.specs.{Parts.partedBy, Parts.PartDumped, Laws.PartFine.WordsFit, Laws.PartFine.WordsParted, Laws.PartFine.words-fit}
+use Rattle.replies.specs.{Call.Call, Call.answerWord, Call.wordLines}
+use Rattle.stepping.specs.{Bars.lentLines}
+use Rattle.capi.specs.{Part.PartLent, Part.partGives, Part.filledWith, Part.partCall}
 use Rattle.capi.proofs.{Calling.call-bad, Calling.call-refused, Calling.call-gives}
 
 -- what an answer tells of the verdict

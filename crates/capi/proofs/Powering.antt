@@ -6,9 +6,11 @@ use Rattle.refusals.specs.{declared.verdict.Verdict.Verdict, declared.verdict.V
 use Rattle.refusals.specs.{Rooms.roomLines, Laws.Lines.below-fine, Laws.Lines.both-fine, Laws.Descent.no-line, Laws.Descent.fine-line}
 use Rattle.images.specs.{declared.reader.Restored.Restored, declared.reader.Restored.the-variants.Refused, declared.reader.Restored.the-variants.Done}
 use Rattle.images.specs.{Layout.imageOf, Reading.windowIn, Refused.restoreJudged, Refused.leftBy, Restoring.restoredBy, Restoring.Restores}
-use Rattle.dump.specs.{Order.written, Refused.dumpLines, Refused.dumpJudged, Dumping.Dumped, Laws.Passing.WordsDumped, Laws.Passing.WordsFine}
-use Rattle.dump.specs.{Laws.Passing.words-fine}
-use Rattle.capi.specs.{Call.Call, Call.answerWord, Call.wordLines, Bars.lentLines, Power.dumpGives, Power.dumpCall, Power.restoreGives, Power.restoreCall}
+use Rattle.dumpable.specs.{Refused.dumpLines, Refused.dumpJudged, Laws.Passing.WordsFine, Laws.Passing.words-fine}
+use Rattle.dump.specs.{Order.written, Dumping.Dumped, Dumping.WordsDumped}
+use Rattle.replies.specs.{Call.Call, Call.answerWord, Call.wordLines}
+use Rattle.stepping.specs.{Bars.lentLines}
+use Rattle.capi.specs.{Power.dumpGives, Power.dumpCall, Power.restoreGives, Power.restoreCall}
 use Rattle.capi.proofs.{Calling.call-bad, Calling.call-refused, Calling.call-gives}
 
 module _ (settings state rows area : List ℕ) (from upto : ℕ) where

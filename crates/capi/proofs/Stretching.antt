@@ -3,7 +3,8 @@ use Rattle.words.specs.Prelude.{ℕ, _≡_, sym, ap, _∙_, List}
 use Rattle.words.specs.{declared.refusal.Refusal.Refusal}
 use Rattle.blocks.specs.{declared.append.Added.Added, declared.append.Added.the-variants.Held, declared.append.Added.the-variants.Refused, Append.Append}
 use Rattle.blocks.specs.{Append.appended, Laws.Append.refusal-keeps}
-use Rattle.capi.specs.{Call.answerWord, Call.callOf, Stretch.appendGives, Stretch.appendCall}
+use Rattle.replies.specs.{Call.answerWord, Call.callOf}
+use Rattle.capi.specs.{Stretch.appendGives, Stretch.appendCall}
 
 module _ (held close : ℕ) (closes blocks : List ℕ) (r : Added) (after behind : List ℕ)
     (did : appended held close closes blocks ≡ record { answer = r; closes = after; blocks = behind }) where

@@ -2,7 +2,8 @@
 use Rattle.words.specs.Prelude.{ℕ, _≡_, refl, sym, ap, _∙_, List}
 use Rattle.words.specs.{declared.refusal.Refusal.Refusal}
 use Rattle.totals.specs.{declared.Answer.Answer, declared.Answer.the-variants.Done, declared.Answer.the-variants.Refused, Totals.left}
-use Rattle.capi.specs.{Call.answerWord, Call.callOf, Totals.totalsGives}
+use Rattle.replies.specs.{Call.answerWord, Call.callOf}
+use Rattle.capi.specs.{Totals.totalsGives}
 
 module _ (answer : Answer) (before after exit : List ℕ) (same : exit ≡ left answer before after) where
   -- refused: what was lent is as it was

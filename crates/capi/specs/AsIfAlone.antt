@@ -7,10 +7,11 @@ use Rattle.records.specs.{Settings.settingsOf}
 use Rattle.refusals.specs.{declared.verdict.Verdict.Verdict, declared.verdict.Verdict.the-variants.Fine, declared.verdict.Verdict.the-variants.Bad, Lines.judged}
 use Rattle.engine.specs.{Day.cut}
 use Rattle.accounts.specs.{declared.stream.Taken.Taken, Profile.profileJudged, Status.isStopped, Status.stoppedWith, Stream.streamTaken}
-use Rattle.capi.specs.{Accounts.AccountGiven, Accounts.AccountLent, Accounts.AccountsLent, Accounts.Four, Accounts.alone}
-use Rattle.capi.specs.{Accounts.statusAfter, Accounts.ridesBy, Accounts.ownBars, Accounts.accountAfter, Accounts.accountsLines}
-use Rattle.capi.specs.{Accounts.noneDone, Accounts.streamAfter, Accounts.afterBars, Accounts.accountsBy, Accounts.accountsCall, Call.Call, Call.answerWord}
-use Rattle.capi.specs.{WordRun.WordRun, WordRun.callsOver, WordRun.answerOf}
+use Rattle.replies.specs.{Call.Call, Call.answerWord}
+use Rattle.stepping.specs.{WordRun.WordRun, WordRun.callsOver, WordRun.answerOf}
+use Rattle.streamed.specs.{Accounts.AccountGiven, Accounts.AccountLent, Accounts.AccountsLent, Accounts.Four, Accounts.alone, Accounts.statusAfter}
+use Rattle.streamed.specs.{Accounts.ridesBy, Accounts.ownBars, Accounts.accountAfter, Accounts.accountsLines, Accounts.noneDone, Accounts.streamAfter}
+use Rattle.streamed.specs.{Accounts.afterBars, Accounts.accountsBy, Accounts.accountsCall}
 
 -- ---- which of the four
 

@@ -2,7 +2,7 @@
 use Rattle.words.specs.Prelude.{ℕ, List}
 use Rattle.words.specs.{Outcome.Outcome, Outcome.gives, Outcome.refuses}
 use Rattle.differences.specs.{declared.compare.Compared.Compared, Compared.compared}
-use Rattle.capi.specs.{Call.Call, Call.callOf}
+use Rattle.replies.specs.{Call.Call, Call.callOf}
 use Rattle.differences.specs.declared.compare.Compared.the-variants as Compared
 
 -- lent: the buffer of the lines, and the word that says how many there are

@@ -6,8 +6,8 @@ use Rattle.differences.specs.{declared.compare.Compared.the-variants.Refused, L
 use Rattle.differences.specs.{Compared.compared, Truth.linesIn, Truth.Answered, Truth.Equal, Truth.enoughWords}
 use Rattle.differences.specs.{Truth.exchanged, Laws.AllAndOnly.stand-there, Laws.AllAndOnly.all-and-only, Laws.Enough.always-written}
 use Rattle.differences.specs.{Laws.Equal.none-exactly, Laws.Exchanged.runs-exchanged}
-use Rattle.capi.specs.{Call.Call, Call.answerWord, Call.callOf, Compare.LineRooms, Compare.compareGives, Compare.compareCall}
-use Rattle.capi.specs.{Laws.CompareCalls.compare-honest}
+use Rattle.replies.specs.{Call.Call, Call.answerWord, Call.callOf}
+use Rattle.capi.specs.{Compare.LineRooms, Compare.compareGives, Compare.compareCall, Laws.CompareCalls.compare-honest}
 
 -- what is given was answered as lines: as many as are counted, in the buffer as it is left
 lines-given : (a : Compared) (room : List ℕ) (after : LineRooms) → compareGives a room ≡ gives after → (a ≡ Lines (after .count)) × (room ≡ after .lines)

@@ -9,10 +9,11 @@ use Rattle.engine.specs.{Day.cut, Day.barsIn, Day.barsFor, Day.noBars, Day.dayO
 use Rattle.engine.specs.{Laws.Runs.run-none, Laws.Runs.run-stops, Laws.Runs.run-takes, Run.Run, Run.runOver, Step.answered, Step.stepped, Step.stepVerdict}
 use Rattle.engine.specs.{Step.stepAnswer}
 use Rattle.runs.specs.{Laws.Floats.step-floats}
-use Rattle.capi.specs.{Bars.StepLent, Bars.lentLines, Bars.stepGives, Bars.stepCall, Call.Call, Call.answerWord, Call.callOf, Call.unlessBad, Call.wordLines}
-use Rattle.capi.specs.{Day.DayLent, Day.dayLentLines, Day.stateAfter, Day.dayGives, Day.dayCall, Day.stepsCall, Joined.first-agrees, Joined.words-fine}
-use Rattle.capi.specs.{Joined.lent-fine, Joined.room-first, Joined.room-passed, Joined.calls-run, Laws.Calls.refused-word, Laws.DumpCalls.lent-small}
-use Rattle.capi.specs.{Laws.RunCalls.step-small, WordRun.WordRun, WordRun.callsOver, WordRun.answerOf, WordRun.lentWith}
+use Rattle.replies.specs.{Call.Call, Call.answerWord, Call.callOf, Call.unlessBad, Call.wordLines}
+use Rattle.stepping.specs.{Bars.StepLent, Bars.lentLines, Bars.stepGives, Bars.stepCall, Day.DayLent, Day.dayLentLines, Day.stateAfter, Day.dayGives}
+use Rattle.stepping.specs.{Day.dayCall, Day.stepsCall, WordRun.WordRun, WordRun.callsOver, WordRun.answerOf, WordRun.lentWith}
+use Rattle.capi.specs.{Joined.first-agrees, Joined.words-fine, Joined.lent-fine, Joined.room-first, Joined.room-passed, Joined.calls-run}
+use Rattle.capi.specs.{Laws.Calls.refused-word, Laws.DumpCalls.lent-small, Laws.RunCalls.step-small}
 
 -- a run in words, over a state's words as they were given
 abbrev pub fromWords : List ℕ → Run → WordRun

@@ -4,7 +4,7 @@ use Rattle.words.specs.{Words.overwrite, Outcome.Outcome, Outcome.gives, Outcom
 use Rattle.floats.specs.{Floats.floatOf}
 use Rattle.metrics.specs.{declared.Metrics.Metrics, Figures.computed, Figures.figureWords}
 use Rattle.refusals.specs.{Lines.judged}
-use Rattle.capi.specs.{Call.Call, Call.callOf, Call.unlessBad, Call.metricLines}
+use Rattle.replies.specs.{Call.Call, Call.callOf, Call.unlessBad, Call.metricLines}
 
 -- lent: the room of the metrics
 unfoldable pub metricsGives : Outcome Metrics → List ℕ → Outcome (List ℕ)

@@ -5,7 +5,8 @@ use Rattle.records.specs.{Lent.Rooms, Settings.settingsOf, StateWords.stateOf, 
 use Rattle.refusals.specs.{Lines.judged}
 use Rattle.engine.specs.{declared.answer.Finished.Finished, declared.answer.Finished.the-variants.Refused, declared.answer.Finished.the-variants.Done}
 use Rattle.engine.specs.{Finish.finishOf}
-use Rattle.capi.specs.{Call.Call, Call.callOf, Call.unlessBad, Call.metricLines, Bars.lentLines}
+use Rattle.replies.specs.{Call.Call, Call.callOf, Call.unlessBad, Call.metricLines}
+use Rattle.stepping.specs.{Bars.lentLines}
 use Rattle.metrics.specs.Figures as Figures
 
 -- the state's words, the rooms of equity points and of trades, and that of the metrics

@@ -3,7 +3,7 @@ use Rattle.words.specs.Prelude.{ℕ, List}
 use Rattle.words.specs.{Words.overwrite, Outcome.gives}
 use Rattle.records.specs.{Settings.settingsOf, State.freshState, StateWords.wordsOf}
 use Rattle.refusals.specs.{Lines.judged}
-use Rattle.capi.specs.{Call.Call, Call.callOf, Call.unlessBad, Call.wordLines}
+use Rattle.replies.specs.{Call.Call, Call.callOf, Call.unlessBad, Call.wordLines}
 
 -- lent: the room of the state
 unfoldable pub freshCall : List ℕ → List ℕ → Call (List ℕ)

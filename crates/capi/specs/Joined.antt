@@ -10,9 +10,10 @@ use Rattle.refusals.specs.{Laws.Lines.below-bad, Laws.Lines.fine-adds-nothing, 
 use Rattle.engine.specs.{declared.answer.Ended.Ended, Finish.ended, Finish.concluded, Finish.finishOf, Laws.Runs.run-none, Laws.Runs.run-stops, Laws.Runs.run-takes}
 use Rattle.engine.specs.{Run.runOver, Laws.Verdict.handed-bad, Step.With, Step.stepped, Step.answered, Step.sizeLines, Step.stepVerdict, Step.stepAnswer}
 use Rattle.runs.specs.{Laws.Floats.step-floats, Laws.Floats.run-floats, Laws.Floats.end-floats}
-use Rattle.capi.specs.{Call.Call, Call.answerWord, Call.callOf, Call.unlessBad, Call.wordLines, Call.metricLines, Bars.StepLent, Bars.lentLines}
-use Rattle.capi.specs.{Bars.stepGives, Bars.stepCall, Finish.FinishLent, Finish.finishGives, Finish.finishCall, Fresh.freshCall, WordRun.callsOver}
-use Rattle.capi.specs.{WordRun.answerOf, WordRun.lentWith, WordRun.inWords, Laws.Calls.refused-word, Laws.RunCalls.step-small}
+use Rattle.replies.specs.{Call.Call, Call.answerWord, Call.callOf, Call.unlessBad, Call.wordLines, Call.metricLines}
+use Rattle.stepping.specs.{Bars.StepLent, Bars.lentLines, Bars.stepGives, Bars.stepCall, WordRun.callsOver, WordRun.answerOf, WordRun.lentWith}
+use Rattle.stepping.specs.{WordRun.inWords}
+use Rattle.capi.specs.{Finish.FinishLent, Finish.finishGives, Finish.finishCall, Fresh.freshCall, Laws.Calls.refused-word, Laws.RunCalls.step-small}
 use Rattle.metrics.specs.Figures as Figures
 
 -- ---- rooms that have their words

@@ -1,4 +1,3 @@
-pub mod Answers
 pub mod Calls
 pub mod TablePlaces
 pub mod TableCalls

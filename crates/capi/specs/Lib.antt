@@ -1,10 +1,8 @@
-pub mod Call
 pub mod Tables
 pub mod Run
 pub mod Why
 pub mod WhyOver
 pub mod Fresh
-pub mod Bars
 pub mod Finish
 pub mod Power
 pub mod Part
@@ -12,9 +10,6 @@ pub mod Figures
 pub mod Totals
 pub mod Stretch
 pub mod Compare
-pub mod WordRun
-pub mod Day
-pub mod Accounts
 pub mod Version
 pub mod Laws
 pub mod StretchIsReading

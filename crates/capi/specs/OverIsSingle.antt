@@ -12,8 +12,9 @@ use Rattle.questions.specs.{Position.positionAt, Over.askedRows, Over.rowsTo, O
 use Rattle.questions.specs.{Over.overBy, Over.overVerdict, Laws.Fine.OverFine, Laws.Fine.over-fine, Laws.Right.each-right, Laws.Upto.upto-whole}
 use Rattle.questions.specs.{Laws.Places.place, Laws.Places.place-after, Laws.Places.past-places, Laws.Places.lines-long, Laws.Places.count-after}
 use Rattle.questions.specs.{Laws.Places.past-counts, Laws.Places.counts-long}
-use Rattle.capi.specs.{Call.callOf, Call.unlessBad, Why.whyGives, Why.whyCall, WhyOver.OverLent, WhyOver.overGives, WhyOver.overCall}
-use Rattle.capi.specs.{Laws.Calls.Honest, Laws.WhyOverCalls.why-over-honest}
+use Rattle.replies.specs.{Call.callOf, Call.unlessBad}
+use Rattle.capi.specs.{Why.whyGives, Why.whyCall, WhyOver.OverLent, WhyOver.overGives, WhyOver.overCall, Laws.Calls.Honest}
+use Rattle.capi.specs.{Laws.WhyOverCalls.why-over-honest}
 
 -- ---- the statement
 

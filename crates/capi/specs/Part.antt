@@ -4,8 +4,10 @@ use Rattle.words.specs.{Words.overwrite, Outcome.Outcome, Outcome.gives, Outcom
 use Rattle.records.specs.{Settings.settingsOf, StateWords.stateOf}
 use Rattle.refusals.specs.{declared.verdict.Verdict.Verdict, declared.verdict.Verdict.the-variants.Fine, declared.verdict.Verdict.the-variants.Bad, Lines.judged}
 use Rattle.images.specs.{Layout.imageOf}
-use Rattle.dump.specs.{Parts.bytesFrom, Parts.partJudged}
-use Rattle.capi.specs.{Call.Call, Call.callOf, Call.unlessBad, Bars.lentLines}
+use Rattle.dumpable.specs.{Refused.partJudged}
+use Rattle.dump.specs.{Parts.bytesFrom}
+use Rattle.replies.specs.{Call.Call, Call.callOf, Call.unlessBad}
+use Rattle.stepping.specs.{Bars.lentLines}
 
 -- lent: the part, and how many of its bytes are the image's
 pub record PartLent : Type 0 where

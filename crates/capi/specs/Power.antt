@@ -5,8 +5,10 @@ use Rattle.records.specs.{Settings.settingsOf, StateWords.stateOf, StateWords.w
 use Rattle.refusals.specs.{declared.verdict.Verdict.Verdict, declared.verdict.Verdict.the-variants.Fine, declared.verdict.Verdict.the-variants.Bad, Lines.judged}
 use Rattle.images.specs.{declared.reader.Restored.Restored, declared.reader.Restored.the-variants.Refused, declared.reader.Restored.the-variants.Done}
 use Rattle.images.specs.{Layout.imageOf, Reading.windowIn, Refused.restoreJudged, Refused.leftBy, Restoring.restoredBy}
-use Rattle.dump.specs.{Order.written, Refused.dumpJudged}
-use Rattle.capi.specs.{Call.Call, Call.callOf, Call.unlessBad, Bars.lentLines}
+use Rattle.dumpable.specs.{Refused.dumpJudged}
+use Rattle.dump.specs.{Order.written}
+use Rattle.replies.specs.{Call.Call, Call.callOf, Call.unlessBad}
+use Rattle.stepping.specs.{Bars.lentLines}
 
 unfoldable pub dumpGives : Verdict → List ℕ → Outcome (List ℕ)
 dumpGives Fine after = gives after

@@ -5,7 +5,8 @@ use Rattle.rules.specs.{declared.position.PositionState.PositionState, declared
 use Rattle.rules.specs.{declared.answers.RuleAnswer.the-variants.Refuses, Answers.answered}
 use Rattle.steps.specs.{declared.running.RunAnswer.RunAnswer, declared.running.RunAnswer.the-variants.Runs}
 use Rattle.steps.specs.{declared.running.RunAnswer.the-variants.Refuses as RunRefuses, Running.runs}
-use Rattle.capi.specs.{Call.Call, Call.callOf, Call.bitOf, Tables.numberedTree}
+use Rattle.replies.specs.{Call.Call, Call.callOf, Call.bitOf}
+use Rattle.capi.specs.{Tables.numberedTree}
 
 -- 1 yes, 0 no; an absent tree says no
 unfoldable pub saysOf : ℕ → Bool → ℕ

@@ -2,7 +2,7 @@
 use Rattle.words.specs.Prelude.{ℕ, List}
 use Rattle.words.specs.{Outcome.Outcome, Outcome.gives, Outcome.refuses}
 use Rattle.blocks.specs.{declared.append.Added.Added, declared.best.Best.Best, declared.stretch.Found.Found, Append.Append, Append.appended, Stretch.stretched}
-use Rattle.capi.specs.{Call.Call, Call.callOf}
+use Rattle.replies.specs.{Call.Call, Call.callOf}
 use Rattle.blocks.specs.declared.append.Added.the-variants as Added
 use Rattle.blocks.specs.declared.stretch.Found.the-variants as Found
 

@@ -5,7 +5,8 @@ use Rattle.blocks.specs.{declared.append.Added.Added, declared.append.Added.the
 use Rattle.blocks.specs.{declared.stretch.Found.Found, Append.Append, Append.appended, Reading.reading, Reading.HighAndLow, Stretch.stretched}
 use Rattle.blocks.specs.{Laws.Append.taken-has, Laws.Append.is-taken, StretchIsReading.Filled, StretchIsReading.empty, StretchIsReading.then}
 use Rattle.blocks.specs.{StretchIsReading.IsReading, StretchIsReading.stretch-is-reading}
-use Rattle.capi.specs.{Call.Call, Call.callOf, Stretch.BlockRooms, Stretch.appendGives, Stretch.appendCall, Stretch.stretchGives, Stretch.stretchCall}
+use Rattle.replies.specs.{Call.Call, Call.callOf}
+use Rattle.capi.specs.{Stretch.BlockRooms, Stretch.appendGives, Stretch.appendCall, Stretch.stretchGives, Stretch.stretchCall}
 use Rattle.capi.specs.{Laws.StretchCalls.append-honest}
 use Rattle.blocks.specs.declared.stretch.Found.the-variants as Found
 

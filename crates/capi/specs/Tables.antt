@@ -10,7 +10,7 @@ use Rattle.needed.specs.{declared.depth.DepthAnswer.DepthAnswer, declared.depth
 use Rattle.needed.specs.{declared.depth.DepthAnswer.the-variants.Refuses as DepthRefuses, Depth.depthAnswer}
 use Rattle.steps.specs.{declared.translated.Translated.Translated, declared.translated.Translated.the-variants.Writes}
 use Rattle.steps.specs.{declared.translated.Translated.the-variants.Refuses, Translating.afterTable, Translating.translates, Translating.roomLeft}
-use Rattle.capi.specs.{Call.Call, Call.callOf}
+use Rattle.replies.specs.{Call.Call, Call.callOf}
 
 -- a tree by its number; that of a higher number is absent, as each call says
 unfoldable pub numberedTree : ℕ → Tree

@@ -3,7 +3,7 @@ use Rattle.words.specs.Prelude.{ℕ, List}
 use Rattle.words.specs.{Outcome.Outcome, Outcome.gives, Outcome.refuses}
 use Rattle.totals.specs.{declared.Answer.Answer, declared.Answer.the-variants.Done, declared.Answer.the-variants.Refused, Totals.addAnswer, Totals.addLeaves}
 use Rattle.totals.specs.{Totals.joinAnswer, Totals.joinLeaves}
-use Rattle.capi.specs.{Call.Call, Call.callOf}
+use Rattle.replies.specs.{Call.Call, Call.callOf}
 
 -- lent: the totals
 unfoldable pub totalsGives : Answer → List ℕ → Outcome (List ℕ)

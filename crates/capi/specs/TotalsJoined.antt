@@ -4,7 +4,8 @@ use Rattle.words.specs.{Limits.mostCount}
 use Rattle.totals.specs.{declared.Answer.Answer, declared.Answer.the-variants.Done, declared.Answer.the-variants.Refused, Totals.totalWords, Totals.addAnswer}
 use Rattle.totals.specs.{Totals.addLeaves, Totals.joinAnswer, Totals.joinLeaves, Ways.Way, Ways.begin, Ways.add, Ways.join, Ways.made, Ways.AllDone, Ways.tradesIn}
 use Rattle.totals.specs.{Ways.Whole, Ways.totalsOf, Laws.Trades.Acceptable, ExactTotals.exact-totals}
-use Rattle.capi.specs.{Call.Call, Call.callOf, Totals.totalsGives, Totals.totalsCall, Totals.joinCall}
+use Rattle.replies.specs.{Call.Call, Call.callOf}
+use Rattle.capi.specs.{Totals.totalsGives, Totals.totalsCall, Totals.joinCall}
 
 -- the words that the calls of a way leave, begun with 43 zeros
 unfoldable pub calledBy : Way → List ℕ

@@ -4,7 +4,7 @@ use Rattle.words.specs.{Outcome.Outcome, Outcome.gives, Outcome.refuses}
 use Rattle.rules.specs.{declared.position.PositionState.PositionState}
 use Rattle.chain.specs.{declared.explain.Explained.Explained, declared.explain.Explained.the-variants.Lines, declared.explain.Explained.the-variants.Refuses}
 use Rattle.chain.specs.{Explained.explanation, Explained.explained, Explained.linesAfter}
-use Rattle.capi.specs.{Call.Call, Call.callOf}
+use Rattle.replies.specs.{Call.Call, Call.callOf}
 
 -- ---- lent: how many lines there are, and the list of lines
 pub record WhyLent : Type 0 where

@@ -2,7 +2,7 @@
 use Rattle.words.specs.Prelude.{ℕ, List, length}
 use Rattle.words.specs.{Outcome.Outcome, Outcome.gives}
 use Rattle.questions.specs.{Over.askedRows, Over.explanationOver, Over.linesOver, Over.countsOver, Over.overVerdict}
-use Rattle.capi.specs.{Call.Call, Call.callOf, Call.unlessBad}
+use Rattle.replies.specs.{Call.Call, Call.callOf, Call.unlessBad}
 
 -- ---- lent: a place of 32 lines for each row, and the count of lines for each
 pub record OverLent : Type 0 where

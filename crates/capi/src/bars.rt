@@ -1,12 +1,9 @@
 // One bar, and the end of a run.
 ghost use mathlib.Core.Path.{_≡_};
 ghost use Rattle.records.specs.Lent.{rooms, lists};
-ghost use Rattle.capi.specs.Bars.{stepCall};
+ghost use Rattle.stepping.specs.Bars.{stepCall};
 ghost use Rattle.capi.specs.Finish.{finishCall};
-use crate::calls::answer_word;
-use crate::calls::judge_metrics;
 use crate::calls::judge_rooms;
-use crate::day::call_bars;
 use crate::figures::put_metrics;
 use engine::answer::Finished;
 use records::settings::settings_of;
@@ -14,6 +11,9 @@ use records::state_words::put_state;
 use records::state_words::state_of;
 use refusals::verdict::Verdict;
 use refusals::verdict::first_bad;
+use replies::answer_word;
+use replies::judge_metrics;
+use stepping::day::call_bars;
 
 // One bar.
 #[no_mangle]

@@ -1,9 +1,9 @@
 // Two runs compared: what differs, as lines.
 ghost use mathlib.Core.Path.{_≡_};
 ghost use Rattle.capi.specs.Compare.{compareCall};
-use crate::calls::answer_word;
 use differences::compare::Compared;
 use differences::compare::compare;
+use replies::answer_word;
 
 // Writes what differs between two runs, a line each, and how many lines there are.
 #[no_mangle]

@@ -5,11 +5,11 @@ ghost use Rattle.metrics.specs.Figures.{figureWords};
 ghost use Rattle.floats.specs.Floats.{wordOf, floatOf};
 ghost use Rattle.floats.specs.Sqrt.{sqrt};
 ghost use Rattle.capi.specs.Figures.{metricsCall};
-use crate::calls::answer_word;
-use crate::calls::judge_metrics;
 use metrics::Answer;
 use metrics::Metrics;
 use refusals::verdict::Verdict;
+use replies::answer_word;
+use replies::judge_metrics;
 
 // Writes the nine metrics over the first words of a room; nothing where it is shorter.
 pub(crate) fn put_metrics(room: &mut [u64], m: Metrics)

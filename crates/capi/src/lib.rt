@@ -2,9 +2,9 @@
 pub mod bars;
 mod calls;
 pub mod compare;
-pub mod day;
 pub mod figures;
 pub mod four;
+pub mod many;
 pub mod part;
 pub mod power;
 pub mod report;

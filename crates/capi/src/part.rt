@@ -1,12 +1,12 @@
 // A part of a dump: a driver that programs page after page has it made in a page's memory.
 ghost use mathlib.Core.Path.{_≡_};
 ghost use Rattle.capi.specs.Part.{partCall};
-use crate::calls::answer_word;
 use crate::calls::judge_rooms;
 use dump::part::Parted;
 use records::settings::settings_of;
 use records::state_words::state_of;
 use refusals::verdict::Verdict;
+use replies::answer_word;
 
 // A part by the lines of the refusals, the first of which is answered that does not hold.
 fn part_judged(

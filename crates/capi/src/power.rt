@@ -2,13 +2,13 @@
 ghost use mathlib.Core.Path.{_≡_};
 ghost use Rattle.images.specs.Layout.{sizeFor};
 ghost use Rattle.capi.specs.Power.{dumpCall, restoreCall};
-use crate::calls::answer_word;
 use crate::calls::judge_rooms;
 use images::reader::Restored;
 use records::settings::settings_of;
 use records::state_words::put_state;
 use records::state_words::state_of;
 use refusals::verdict::Verdict;
+use replies::answer_word;
 
 // The bytes of a dump, for a K and a D; 0 where no settings have them.
 #[no_mangle]

@@ -1,7 +1,7 @@
 // Exact totals over the trades of many runs.
 ghost use mathlib.Core.Path.{_≡_};
 ghost use Rattle.capi.specs.Totals.{totalsCall, joinCall};
-use crate::calls::answer_word;
+use replies::answer_word;
 use totals::Answer;
 
 // Adds a list of trades to totals.

@@ -2,10 +2,10 @@
 ghost use mathlib.Core.Path.{_≡_};
 ghost use Rattle.questions.specs.Position.{positionState};
 ghost use Rattle.capi.specs.Run.{saysOf, ruleCall, runCall};
-use crate::calls::answer_word;
-use crate::calls::bit_of;
 use crate::tables::numbered_tree;
 use questions::position::position_state;
+use replies::answer_word;
+use replies::bit_of;
 use rules::answers::RuleAnswer;
 use steps::running::RunAnswer;
 use words::limits::TREES;

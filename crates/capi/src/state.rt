@@ -1,11 +1,11 @@
 // The state before the first bar.
 ghost use mathlib.Core.Path.{_≡_};
 ghost use Rattle.capi.specs.Fresh.{freshCall};
-use crate::calls::answer_word;
-use crate::calls::judge_words;
 use records::settings::settings_of;
 use records::state_words::put_state;
 use refusals::verdict::Verdict;
+use replies::answer_word;
+use replies::judge_words;
 
 // The state before the first bar.
 #[no_mangle]

@@ -1,11 +1,11 @@
 // The high and the low of a stretch of closes: one close more, and the question.
 ghost use mathlib.Core.Path.{_≡_};
 ghost use Rattle.capi.specs.Stretch.{appendCall, stretchCall};
-use crate::calls::answer_word;
 use blocks::append::Added;
 use blocks::append::append;
 use blocks::stretch::Found;
 use blocks::stretch::stretch;
+use replies::answer_word;
 
 // Appends a close to the bars held.
 #[no_mangle]

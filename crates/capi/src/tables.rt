@@ -1,8 +1,8 @@
 // Checking a rule table, how deep a window it needs, and its trees as steps.
 ghost use mathlib.Core.Path.{_≡_};
 ghost use Rattle.capi.specs.Tables.{numberedTree, checkCall, depthCall, silentCall, translateCall};
-use crate::calls::answer_word;
 use needed::depth::DepthAnswer;
+use replies::answer_word;
 use steps::translated::Translated;
 use table::answer::Answer;
 use table::silent::SilentAnswer;

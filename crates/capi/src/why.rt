@@ -2,9 +2,9 @@
 ghost use mathlib.Core.Path.{_≡_};
 ghost use Rattle.questions.specs.Position.{positionState};
 ghost use Rattle.capi.specs.Why.{whyCall};
-use crate::calls::answer_word;
 use chain::explain::Explained;
 use questions::position::position_state;
+use replies::answer_word;
 
 // The chain of nodes from a tree's root to what decided at the newest row, a line of eight words for each, and how many lines.
 #[no_mangle]

@@ -1,9 +1,9 @@
 // Why one tree of a table says yes or no at each of the newest rows.
 ghost use mathlib.Core.Path.{_≡_};
 ghost use Rattle.capi.specs.WhyOver.{overCall};
-use crate::calls::answer_word;
 use questions::over::explain_over;
 use refusals::verdict::Verdict;
+use replies::answer_word;
 
 // The chain of ysh_why for each of the newest rows, as many as there are positions, oldest first: each has its own 256 words of the lines, and a count.
 #[no_mangle]

@@ -5,7 +5,8 @@ use Rattle.records.specs.{declared.settings.Settings.Settings, declared.state.S
 use Rattle.refusals.specs.{declared.verdict.Verdict.Verdict, declared.verdict.Verdict.the-variants.Fine, declared.verdict.Verdict.the-variants.Bad}
 use Rattle.images.specs.{declared.reader.Restored.the-variants.Refused, Layout.imageOf}
 use Rattle.images.specs.{Refused.leftBy}
-use Rattle.dump.specs.{Order.written, Refused.dumpJudged, Dumping.Dumped, Parts.partJudged, Parts.PartLaid, Parts.partedBy, Parts.PartDumped}
+use Rattle.dumpable.specs.{Refused.dumpJudged, Refused.partJudged}
+use Rattle.dump.specs.{Order.written, Dumping.Dumped, Parts.PartLaid, Parts.partedBy, Parts.PartDumped}
 use Rattle.dump.specs.declared.part.Parted.the-variants as Parted
 
 module _ (s : Settings) (t : State) (rows area : List ℕ) (from upto : ℕ) {v : Verdict} (judge : v ≡ dumpJudged s t rows area) where

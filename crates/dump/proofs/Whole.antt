@@ -4,9 +4,10 @@ use Rattle.words.specs.{Limits.rowWords}
 use Rattle.rows.specs.{History.historyOf}
 use Rattle.records.specs.{declared.settings.Settings.Settings, declared.state.State.State, Lent.rowPlaces, StateWords.wordsOf}
 use Rattle.images.specs.{Layout.bodyBytes, Layout.dumpBytes, Layout.windowOf, Layout.imageOf}
-use Rattle.dump.specs.{Order.written, Parts.PartLaid, Laws.Laid.laid-none, Laws.Packed.headWords, Laws.InOrder.inOrder, Laws.Image.image-head}
-use Rattle.dump.specs.{Laws.Image.image-body, Laws.Image.image-in-order, Laws.Placed.headLaid, Laws.Placed.rowsLaid, Laws.Placed.placed}
-use Rattle.dump.specs.{Laws.Placed.part-laid, Laws.Parts.size-of}
+use Rattle.heads.specs.{Laws.Packed.headWords}
+use Rattle.dump.specs.{Order.written, Parts.PartLaid, Laws.Laid.laid-none, Laws.InOrder.inOrder, Laws.Image.image-head, Laws.Image.image-body}
+use Rattle.dump.specs.{Laws.Image.image-in-order, Laws.Placed.headLaid, Laws.Placed.rowsLaid, Laws.Placed.placed, Laws.Placed.part-laid}
+use Rattle.dump.specs.{Laws.Parts.size-of}
 
 pub dumped : (s : Settings) (t : State) (room area : List ℕ) (from upto count body : ℕ) {out head kept : List ℕ}
     → t .counts .«rows_held» ≤ rowPlaces (s .slots) room → kept ≡ windowOf s t room → count ≡ historyOf (s .slots) kept .rows

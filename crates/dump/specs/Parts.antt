@@ -1,23 +1,15 @@
 -- A part of an image: what it refuses, answers and leaves. Definitions only.
-use Rattle.words.specs.Prelude.{ℕ, _≡_, List, _++_, length, take, drop}
+use Rattle.words.specs.Prelude.{ℕ, _≡_, List, length, take, drop}
 use Rattle.words.specs.{Words.overwrite}
 use Rattle.records.specs.{declared.settings.Settings.Settings, declared.state.State.State}
-use Rattle.refusals.specs.{declared.verdict.Verdict.Verdict, declared.verdict.Verdict.the-variants.Fine, declared.verdict.Verdict.the-variants.Bad, Lines.Line}
-use Rattle.refusals.specs.{Lines.judged, Rooms.roomLines, Settings.settingLines}
+use Rattle.refusals.specs.{declared.verdict.Verdict.Verdict, declared.verdict.Verdict.the-variants.Fine, declared.verdict.Verdict.the-variants.Bad}
 use Rattle.images.specs.{Layout.imageOf, Refused.leftBy}
+use Rattle.dumpable.specs.{Refused.partJudged}
 use Rattle.dump.specs.{declared.part.Parted.Parted, declared.part.Parted.the-variants.Refused, declared.part.Parted.the-variants.Used}
-use Rattle.dump.specs.{Refused.dumpStateLines}
 
 -- bytes `at` to `at + n` of an image, in the order of their places; past its end there are none
 unfoldable pub bytesFrom : List ℕ → ℕ → ℕ → List ℕ
 bytesFrom image at n = take n (drop at image)
-
--- Of a dump's refusals all but that of the area: a buffer of any length is none too short.
-unfoldable pub partLines : Settings → State → List ℕ → List Line
-partLines s t rows = roomLines s rows ++ (settingLines s ++ dumpStateLines s t rows)
-
-unfoldable pub partJudged : Settings → State → List ℕ → Verdict
-partJudged s t rows = judged (partLines s t rows)
 
 -- The part over a buffer's first bytes, and how many they are.
 pub record PartLaid (image : List ℕ) (at : ℕ) (part : List ℕ) (used : ℕ) (after : List ℕ) : Type 0 where

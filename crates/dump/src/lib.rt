@@ -2,9 +2,7 @@
 // that an area that was not written to the end is no image.
 mod bytes;
 pub mod direct;
-mod judge;
 pub mod part;
-mod passing;
 pub mod writer;
 
 ghost use Rattle.dump.specs.Dumping.{Dumped};
@@ -24,7 +22,7 @@ pub fn dump(
 ) -> Verdict
     ensures { λ r. ⌜ Dumped s t (now (rows .entry)) (now (area .entry)) from upto r (now (area .exit)) ⌝ }
 {
-    if let Verdict::Bad(refusal) = judge::judge_dump(s, t, rows, area) {
+    if let Verdict::Bad(refusal) = dumpable::judge::judge_dump(s, t, rows, area) {
         return Verdict::Bad(refusal);
     }
     writer::write_dump(s, t, rows, area, from, upto);

@@ -1,13 +1,13 @@
 // A part of an image: its bytes from a place on, into a buffer of any length, so that a page is made in a page's memory.
 use crate::bytes::byte_at;
 use crate::bytes::lay;
-use crate::direct::direct_head;
-use crate::judge::judge_held;
-use crate::passing::words_pass;
 use crate::writer::body_words;
 use crate::writer::clip;
-use crate::writer::head_words;
 use crate::writer::held_window;
+use dumpable::judge::judge_held;
+use dumpable::passing::words_pass;
+use heads::packed::head_words;
+use heads::plain::direct_head;
 use images::layout::HEAD_BYTES;
 use records::settings::Settings;
 use records::state::State;
@@ -26,8 +26,8 @@ ghost use Rattle.records.specs.StateWords.{stateOf};
 ghost use Rattle.images.specs.Layout.{wordsBytes, dumpBytes, imageOf};
 ghost use Rattle.dump.specs.Parts.{PartLaid, PartDumped};
 ghost use Rattle.dump.specs.Laws.Laid.{laid};
-ghost use Rattle.dump.specs.Laws.Packed.{headWords};
-ghost use Rattle.dump.specs.Laws.Plain.{plainWords};
+ghost use Rattle.heads.specs.Laws.Packed.{headWords};
+ghost use Rattle.heads.specs.Laws.Plain.{plainWords};
 ghost use Rattle.dump.specs.Laws.Placed.{headLaid, rowsLaid};
 ghost use Rattle.dump.specs.Laws.PartFine.{PartFine, WordsFit, WordsParted};
 

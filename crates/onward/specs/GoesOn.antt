@@ -7,8 +7,11 @@ use Rattle.refusals.specs.{declared.verdict.Verdict.the-variants.Fine, Day.whol
 use Rattle.engine.specs.{Day.cut, Whole.accountOf}
 use Rattle.restart.specs.{Laws.Reached64.Bars64}
 use Rattle.accounts.specs.{Profile.profileJudged}
-use Rattle.capi.specs.{Accounts.AccountGiven, Accounts.AccountLent, Accounts.AccountsLent, Accounts.Four, Accounts.ownBars, Accounts.ownLists}
-use Rattle.capi.specs.{Accounts.accountsCall, AsIfAlone.Which, AsIfAlone.givenTo, AsIfAlone.lentTo, Bars.StepLent, Call.Call}
+use Rattle.replies.specs.{Call.Call}
+use Rattle.stepping.specs.{Bars.StepLent}
+use Rattle.streamed.specs.{Accounts.AccountGiven, Accounts.AccountLent, Accounts.AccountsLent, Accounts.Four, Accounts.ownBars, Accounts.ownLists}
+use Rattle.streamed.specs.{Accounts.accountsCall}
+use Rattle.capi.specs.{AsIfAlone.Which, AsIfAlone.givenTo, AsIfAlone.lentTo}
 use Rattle.capacitor.specs.{Begun.Begun, Loss.Loss, Loss.Restored, Loss.lastBox, Loss.barsBefore, Loss.pointsIn, Loss.tradesIn, Loss.pointsBefore}
 use Rattle.capacitor.specs.{Loss.tradesBefore}
 

@@ -8,10 +8,12 @@ use Rattle.refusals.specs.{Lines.judged, Laws.Lines.never, Lines.firstBad}
 use Rattle.engine.specs.{Whole.accountOf}
 use Rattle.restart.specs.{Laws.Reached64.Bars64}
 use Rattle.accounts.specs.{Profile.profileJudged, Status.statusWords, Status.stoppedWith}
-use Rattle.capi.specs.{Accounts.AccountGiven, Accounts.AccountLent, Accounts.AccountsLent, Accounts.Four, Accounts.alone, Accounts.ownLists}
-use Rattle.capi.specs.{Accounts.accountsLines, Accounts.accountsCall, Accounts.statusAfter, AsIfAlone.Which, AsIfAlone.first, AsIfAlone.second, AsIfAlone.third}
-use Rattle.capi.specs.{AsIfAlone.fourth, AsIfAlone.givenTo, AsIfAlone.lentTo, AsIfAlone.Rode, AsIfAlone.roomsJudged, AsIfAlone.taken, AsIfAlone.as-if-alone}
-use Rattle.capi.specs.{Bars.StepLent, Call.Call, Fresh.freshCall, WordRun.WordRun, WordRun.callsOver}
+use Rattle.replies.specs.{Call.Call}
+use Rattle.stepping.specs.{Bars.StepLent, WordRun.WordRun, WordRun.callsOver}
+use Rattle.streamed.specs.{Accounts.AccountGiven, Accounts.AccountLent, Accounts.AccountsLent, Accounts.Four, Accounts.alone, Accounts.ownLists}
+use Rattle.streamed.specs.{Accounts.accountsLines, Accounts.accountsCall, Accounts.statusAfter}
+use Rattle.capi.specs.{AsIfAlone.Which, AsIfAlone.first, AsIfAlone.second, AsIfAlone.third, AsIfAlone.fourth, AsIfAlone.givenTo, AsIfAlone.lentTo}
+use Rattle.capi.specs.{AsIfAlone.Rode, AsIfAlone.roomsJudged, AsIfAlone.taken, AsIfAlone.as-if-alone, Fresh.freshCall}
 use Rattle.capacitor.specs.{Begun.Begun, Capacitor.Capacitor, Capacitor.now, Loss.Loss, Loss.Restored, Loss.lastBox, Loss.barsBefore, Loss.pointsIn}
 use Rattle.capacitor.specs.{Loss.tradesIn, Loss.pointsBefore, Loss.tradesBefore, Laws.FromCalls.begun-lengths, Proved.capacitor}
 use Rattle.beside.specs.{Appended.moreCalls, Appended.calls-behind, Honest.accounts-honest, NeverEleven.statuses, NeverEleven.stopped-number, Parts.doneBefore}

@@ -16,7 +16,8 @@ use Rattle.runs.specs.{Laws.Alike.step-sound, Laws.TwoRuns.fresh-sound, Laws.Wi
 use Rattle.images.specs.{Layout.wordsBytes, Layout.numbers, Layout.amounts, Layout.head, Layout.image, Layout.windowOf, Layout.imageOf, Reading.slotsIn}
 use Rattle.images.specs.{Reading.versionIn, Reading.depthIn, Reading.wordsIn, Reading.wordsAt, Reading.rowPlace, Reading.rowIn, Refused.zeroAt}
 use Rattle.images.specs.{Refused.eachFine, Refused.rowsFine, Refused.imageLines, Refused.sameLines, Refused.restoreLines, Refused.restoreJudged}
-use Rattle.dump.specs.{Laws.Image.image-head, Laws.Image.image-body, Laws.Packed.headWords, Laws.WordBytes.words-long}
+use Rattle.heads.specs.{Laws.Packed.headWords}
+use Rattle.dump.specs.{Laws.Image.image-head, Laws.Image.image-body, Laws.WordBytes.words-long}
 use Rattle.restart.specs.{RoundTrip.restoredOf, RoundTrip.words-back, Cut.size-of-image, Window.Whole, Window.window-whole, Window.word-at, Restart.Kept}
 use Rattle.restart.specs.{Laws.RowsPass.every-of, Laws.RowsPass.row-passes, Laws.RowsPass.rowAt, Laws.RowsPass.RowsPass, Laws.RowsPass.listed-same}
 use Rattle.restart.specs.{Laws.RowsPass.last-pass, Laws.RowsPass.added-pass, Laws.Says.Says, Laws.Says.unused-fine, Laws.Says.numbers-fine}

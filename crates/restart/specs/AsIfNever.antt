@@ -11,7 +11,7 @@ use Rattle.engine.specs.{Books.wordsOfPoint, Books.heldPoints, Books.heldTrades
 use Rattle.engine.specs.{Whole.Account, Whole.accountOf, Whole.Whole, Whole.meantRun}
 use Rattle.runs.specs.{AsMeant.as-meant, NeverFull.PlacesFor, NeverFull.never-full, Laws.TwoRuns.fresh-sound}
 use Rattle.images.specs.{Layout.dumpBytes, Layout.imageOf, Refused.restoreJudged}
-use Rattle.dump.specs.{Refused.dumpJudged}
+use Rattle.dumpable.specs.{Refused.dumpJudged}
 use Rattle.restart.specs.{Accepted.reached-accepted, Cut.size-of-image, Dumps.dump-passes, Dumps.reached-entry, Laws.Reached64.Bars64}
 use Rattle.restart.specs.{Laws.Reached64.reached-kept, Laws.Times.Word64, Lives.Life, Lives.lastState, Lives.lastRooms, Lives.allBars, Lives.allPoints}
 use Rattle.restart.specs.{Lives.allTrades, Lives.LivesOf, Lives.SinceLosses, Losses.front-words, Losses.losses-run}

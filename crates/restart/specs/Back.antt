@@ -17,8 +17,8 @@ use Rattle.images.specs.{Reading.levelIn, Reading.limitIn, Reading.wordsIn, Rea
 use Rattle.images.specs.{Refused.shapeFine, Refused.numbersFine, Refused.usedOrZero, Refused.isEntry, Refused.unusedZero, Refused.zeroAt, Refused.eachFine}
 use Rattle.images.specs.{Refused.rowsFine, Refused.imageLines, Refused.restoreLines, Refused.restoreJudged, Laws.Fine.shape-fine, Laws.Fine.rows-few}
 use Rattle.images.specs.{Laws.Fine.restore-fine}
-use Rattle.dump.specs.{Laws.Image.image-long, Laws.Image.image-head, Laws.Image.image-body, Laws.Packed.firstWord, Laws.Packed.secondWord}
-use Rattle.dump.specs.{Laws.Packed.thirdWord, Laws.Packed.headWords, Laws.WordBytes.words-long, Laws.WordBytes.byte-of}
+use Rattle.heads.specs.{Laws.Packed.firstWord, Laws.Packed.secondWord, Laws.Packed.thirdWord, Laws.Packed.headWords}
+use Rattle.dump.specs.{Laws.Image.image-long, Laws.Image.image-head, Laws.Image.image-body, Laws.WordBytes.words-long, Laws.WordBytes.byte-of}
 use Rattle.restart.specs.{Window.listed-at, Laws.Again.Own, Laws.Again.kind-again, Laws.Again.order-again, Laws.Again.entered-again, Laws.Marked.marked}
 use Rattle.restart.specs.{Laws.ReadBytes.four-small, Laws.ReadBytes.two-small, Laws.ReadBytes.byte-read, Laws.RowsPass.one-of}
 

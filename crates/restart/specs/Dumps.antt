@@ -6,7 +6,7 @@ use Rattle.refusals.specs.{declared.verdict.Verdict.the-variants.Fine, Lines.ju
 use Rattle.refusals.specs.{Laws.Fine.step-fine, Laws.Lines.below-fine}
 use Rattle.engine.specs.{Books.emptied, Boxes.Sound, Laws.Runs.run-keeps, Run.Run, Run.runOver, Step.stepped, Step.stepVerdict}
 use Rattle.images.specs.{Layout.dumpBytes}
-use Rattle.dump.specs.{Refused.areaLines, Refused.dumpStateLines, Refused.dumpLines, Refused.dumpJudged}
+use Rattle.dumpable.specs.{Refused.areaLines, Refused.dumpStateLines, Refused.dumpLines, Refused.dumpJudged}
 use Rattle.restart.specs.{Accepted.Passed, Accepted.fresh-passed, Accepted.step-passed, Accepted.step-judged}
 
 -- what every bar keeps, beside what an image needs: bars seen that are counted

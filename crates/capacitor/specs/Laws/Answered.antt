@@ -2,7 +2,7 @@
 use Rattle.words.specs.Prelude.{ℕ, _≡_, refl, arith}
 use Rattle.words.specs.{declared.refusal.Refusal.Refusal, Outcome.Outcome, Outcome.gives, Outcome.refuses}
 use Rattle.refusals.specs.{declared.verdict.Verdict.Verdict, declared.verdict.Verdict.the-variants.Fine, declared.verdict.Verdict.the-variants.Bad}
-use Rattle.capi.specs.{Call.unlessBad}
+use Rattle.replies.specs.{Call.unlessBad}
 
 pub refuses-not : {A B : Type 0} {after : A} {r : Refusal} → refuses r ≡ gives after → B
 refuses-not e = absurd (let z : _≡_ {A = ℕ} 0 1 = cc in omega arith)

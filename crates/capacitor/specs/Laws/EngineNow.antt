@@ -9,7 +9,8 @@ use Rattle.images.specs.{Reading.wordsIn, Reading.stateIn}
 use Rattle.restart.specs.{AsIfNever.AsIfNever, AsIfNever.Ready, AsIfNever.same-as-unbroken, AsIfNever.always-ready, AsIfNever.as-if-never, Laws.Reached64.Bars64}
 use Rattle.restart.specs.{Laws.Times.Word64, Lives.Life, Lives.restoredState, Lives.lastState, Lives.lastRooms, Lives.allBars, Lives.allPoints, Lives.allTrades}
 use Rattle.restart.specs.{Lives.SinceLosses}
-use Rattle.capi.specs.{Bars.StepLent, Joined.calls-run, WordRun.lentWith, WordRun.inWords}
+use Rattle.stepping.specs.{Bars.StepLent, WordRun.lentWith, WordRun.inWords}
+use Rattle.capi.specs.{Joined.calls-run}
 use Rattle.capacitor.specs.{Begun.Begun, Capacitor.now, Capacitor.unbroken, Loss.Loss, Loss.Restored, Loss.lastBox, Loss.barsBefore, Loss.pointsBefore}
 use Rattle.capacitor.specs.{Loss.tradesBefore, Laws.FromCalls.begun-from, Laws.FromCalls.begun-lengths, Laws.FromCalls.begun-box, Laws.LivesInWords.livesOf}
 use Rattle.capacitor.specs.{Laws.LivesInWords.InWords, Laws.LivesInWords.losses-in-words, Laws.PowerCalls.not-full}

@@ -12,10 +12,11 @@ use Rattle.records.specs.{Lent.Lists, Settings.settingsOf, State.freshState, St
 use Rattle.refusals.specs.{declared.verdict.Verdict.the-variants.Fine, Lines.judged}
 use Rattle.engine.specs.{Rules.listsOf, Rules.FromTable}
 use Rattle.runs.specs.{Laws.Meaning.from-depth}
-use Rattle.capi.specs.{Bars.StepLent, Call.callOf, Call.unlessBad, Call.wordLines, DayJoined.words-had, Fresh.freshCall, Joined.words-fine}
-use Rattle.capi.specs.{Laws.RunCalls.fresh-honest, Laws.TableCalls.depth-honest, Laws.TableCalls.translate-honest, Tables.numberedTree, Tables.DepthLent}
-use Rattle.capi.specs.{Tables.depthGives, Tables.depthCall, Tables.TranslateLent, Tables.translateGives, Tables.translateOutcome, Tables.translateCall}
-use Rattle.capi.specs.{WordRun.lentWith}
+use Rattle.replies.specs.{Call.callOf, Call.unlessBad, Call.wordLines}
+use Rattle.stepping.specs.{Bars.StepLent, WordRun.lentWith}
+use Rattle.capi.specs.{DayJoined.words-had, Fresh.freshCall, Joined.words-fine, Laws.RunCalls.fresh-honest, Laws.TableCalls.depth-honest}
+use Rattle.capi.specs.{Laws.TableCalls.translate-honest, Tables.numberedTree, Tables.DepthLent, Tables.depthGives, Tables.depthCall, Tables.TranslateLent}
+use Rattle.capi.specs.{Tables.translateGives, Tables.translateOutcome, Tables.translateCall}
 use Rattle.capacitor.specs.{Begun.Translation, Begun.Begun, Laws.Answered.refuses-not, Laws.Answered.gives-same, Laws.Answered.unless-gives}
 
 -- ---- the table

@@ -7,10 +7,11 @@ use Rattle.refusals.specs.{declared.verdict.Verdict.the-variants.Fine}
 use Rattle.engine.specs.{Books.heldPoints, Books.heldTrades, Run.Run, Run.runOver}
 use Rattle.runs.specs.{Laws.Floats.run-floats}
 use Rattle.images.specs.{Layout.imageOf, Reading.stateIn, Refused.restoreJudged, Laws.Fine.restore-fine}
-use Rattle.dump.specs.{Laws.Fine.dump-fine}
+use Rattle.dumpable.specs.{Laws.Fine.dump-fine}
 use Rattle.restart.specs.{Cut.size-of-image, Lives.Life, Lives.restoredState, Lives.restoredRooms, Lives.lastState, Lives.lastRooms, Lives.allBars, Lives.allPoints}
 use Rattle.restart.specs.{Lives.allTrades, Lives.LifeOf, Lives.LivesOf, PlanCut.plan-accepted, Plans.CutIn, Plans.inOrder, Plans.Plan}
-use Rattle.capi.specs.{Bars.StepLent, Joined.calls-run, WordRun.WordRun, WordRun.callsOver, WordRun.lentWith}
+use Rattle.stepping.specs.{Bars.StepLent, WordRun.WordRun, WordRun.callsOver, WordRun.lentWith}
+use Rattle.capi.specs.{Joined.calls-run}
 use Rattle.capacitor.specs.{Loss.Loss, Loss.sizeOf, Loss.boxBefore, Loss.dumpOf, Loss.imageIn, Loss.restoreOf, Loss.boxAfter, Loss.Driven, Loss.Restored}
 use Rattle.capacitor.specs.{Loss.lastBox, Loss.barsBefore, Loss.pointsIn, Loss.tradesIn, Loss.pointsBefore, Loss.tradesBefore, Laws.PowerCalls.all-taken}
 use Rattle.capacitor.specs.{Laws.PowerCalls.dumped-image, Laws.PowerCalls.RestoreDone, Laws.PowerCalls.restore-done}

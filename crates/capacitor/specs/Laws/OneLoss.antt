@@ -9,7 +9,8 @@ use Rattle.engine.specs.{Run.Run, Run.runOver}
 use Rattle.images.specs.{Layout.imageOf, Refused.restoreJudged}
 use Rattle.restart.specs.{AsIfNever.Ready, FirstWord.RefusedOr, FirstWord.nineteen, FirstWord.twenty, FirstWord.whole, PlanCut.plan-cut, Plans.CutIn, Plans.inOrder}
 use Rattle.restart.specs.{Plans.Plan}
-use Rattle.capi.specs.{Bars.StepLent, Call.answerWord, WordRun.answerOf, WordRun.lentWith}
+use Rattle.replies.specs.{Call.answerWord}
+use Rattle.stepping.specs.{Bars.StepLent, WordRun.answerOf, WordRun.lentWith}
 use Rattle.capacitor.specs.{Capacitor.AfterLoss, Capacitor.goesOn, Capacitor.refused19, Capacitor.refused20, Loss.Loss, Loss.sizeOf, Loss.restoreOf}
 use Rattle.capacitor.specs.{Loss.boxAfter, Loss.Driven, Loss.Restored, Loss.lastBox, Laws.LivesInWords.image-is, Laws.PowerCalls.restore-answers}
 

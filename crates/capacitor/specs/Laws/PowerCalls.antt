@@ -7,11 +7,13 @@ use Rattle.refusals.specs.{declared.verdict.Verdict.Verdict, declared.verdict.V
 use Rattle.refusals.specs.{Rooms.roomLines, Laws.Lines.never, Laws.Lines.both-fine}
 use Rattle.engine.specs.{Boxes.NotFull, Laws.Runs.run-ends, Run.runOver}
 use Rattle.images.specs.{Layout.dumpBytes, Layout.imageOf, Reading.stateIn, Reading.windowIn, Refused.restoreJudged, Refused.leftBy, Restoring.restoredBy}
-use Rattle.dump.specs.{Order.written, Refused.dumpLines, Refused.dumpJudged, Laws.Fine.dump-fine}
+use Rattle.dumpable.specs.{Refused.dumpLines, Refused.dumpJudged, Laws.Fine.dump-fine}
+use Rattle.dump.specs.{Order.written}
 use Rattle.restart.specs.{Cut.size-of-image, OrderPlan.all-written}
-use Rattle.capi.specs.{Bars.lentLines, Call.callOf, Call.unlessBad, DayJoined.lent-had, Joined.lent-fine, Power.RestoreLent, Power.dumpGives, Power.dumpCall, Power.restoreGives}
-use Rattle.capi.specs.{Power.restoreCall, WordRun.answerOf, Laws.Answers.answer-number, Laws.Calls.Small, Laws.Calls.refused-word, Laws.DumpCalls.dump-honest}
-use Rattle.capi.specs.{Laws.DumpCalls.restore-honest, Laws.RunCalls.step-small}
+use Rattle.replies.specs.{Call.callOf, Call.unlessBad, Laws.Answers.answer-number}
+use Rattle.stepping.specs.{Bars.lentLines, WordRun.answerOf}
+use Rattle.capi.specs.{DayJoined.lent-had, Joined.lent-fine, Power.RestoreLent, Power.dumpGives, Power.dumpCall, Power.restoreGives, Power.restoreCall}
+use Rattle.capi.specs.{Laws.Calls.Small, Laws.Calls.refused-word, Laws.DumpCalls.dump-honest, Laws.DumpCalls.restore-honest, Laws.RunCalls.step-small}
 use Rattle.capacitor.specs.{Laws.Answered.refuses-not, Laws.Answered.gives-same, Laws.Answered.unless-gives}
 
 -- ---- bars

@@ -3,7 +3,7 @@
 use Rattle.words.specs.Prelude.{ℕ, _<_, _/_, _%_, _^_, _≡_, refl, arith}
 use Rattle.words.specs.{declared.refusal.Refusal.Refusal, Outcome.Outcome, Outcome.gives, Outcome.refuses}
 use Rattle.refusals.specs.{declared.verdict.Verdict.Verdict, declared.verdict.Verdict.the-variants.Fine, declared.verdict.Verdict.the-variants.Bad}
-use Rattle.capi.specs.{Call.Call, Call.answerWord, Call.callOf, Call.unlessBad, Laws.Answers.answer-number, Laws.Answers.answer-place}
+use Rattle.replies.specs.{Call.Call, Call.answerWord, Call.callOf, Call.unlessBad, Laws.Answers.answer-number, Laws.Answers.answer-place}
 
 -- a number and a place that stand in the halves of an answer, and make it no 0
 pub record Small (r : Refusal) : Type 0 where

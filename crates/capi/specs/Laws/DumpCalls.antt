@@ -8,10 +8,12 @@ use Rattle.refusals.specs.{Lines.judged, Rooms.roomLines, Rooms.stateLines, Set
 use Rattle.refusals.specs.{Settings.entryLines, Settings.settingLines, Laws.Lines.never, Laws.Lines.and-true, Laws.Lines.first-holds}
 use Rattle.images.specs.{Layout.dumpBytes, Layout.sizeFor, Layout.imageOf, Reading.windowIn, Refused.imageLines, Refused.sameLines, Refused.restoreLines}
 use Rattle.images.specs.{Refused.restoreJudged, Refused.leftBy, Restoring.restoredBy}
-use Rattle.dump.specs.{Order.written, Refused.areaLines, Refused.dumpStateLines, Refused.dumpLines, Refused.dumpJudged}
-use Rattle.capi.specs.{Call.unlessBad, Call.wordLines, Bars.lentLines, Power.dumpGives, Power.dumpCall, Power.restoreGives, Power.restoreCall}
-use Rattle.capi.specs.{Laws.Calls.Small, Laws.Calls.Numbered, Laws.Calls.Honest, Laws.Calls.honest, Laws.Calls.never-refuses, Laws.Calls.one-refusal}
-use Rattle.capi.specs.{Laws.Calls.after-verdict}
+use Rattle.dumpable.specs.{Refused.areaLines, Refused.dumpStateLines, Refused.dumpLines, Refused.dumpJudged}
+use Rattle.dump.specs.{Order.written}
+use Rattle.replies.specs.{Call.unlessBad, Call.wordLines}
+use Rattle.stepping.specs.{Bars.lentLines}
+use Rattle.capi.specs.{Power.dumpGives, Power.dumpCall, Power.restoreGives, Power.restoreCall, Laws.Calls.Small, Laws.Calls.Numbered, Laws.Calls.Honest}
+use Rattle.capi.specs.{Laws.Calls.honest, Laws.Calls.never-refuses, Laws.Calls.one-refusal, Laws.Calls.after-verdict}
 
 -- ---- ysh_dump_bytes
 

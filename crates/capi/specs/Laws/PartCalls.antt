@@ -7,12 +7,15 @@ use Rattle.refusals.specs.{declared.verdict.Verdict.Verdict, declared.verdict.V
 use Rattle.refusals.specs.{Rooms.roomLines, Rooms.stateLines, Settings.sizingLines, Settings.slippageLines, Settings.riskLines, Settings.termLines}
 use Rattle.refusals.specs.{Settings.entryLines, Settings.settingLines, Laws.Lines.both-fine}
 use Rattle.images.specs.{Layout.dumpBytes, Layout.sizeFor, Layout.imageOf}
-use Rattle.dump.specs.{Order.written, Refused.areaLines, Refused.dumpStateLines, Refused.dumpLines, Refused.dumpJudged, Parts.bytesFrom, Parts.partLines}
-use Rattle.dump.specs.{Parts.partJudged, Laws.Fine.dump-fine, Laws.PartFine.fine-part, Laws.Parts.inParts, Laws.Parts.total, Laws.Parts.parts-are-whole}
+use Rattle.dumpable.specs.{Refused.areaLines, Refused.dumpStateLines, Refused.dumpLines, Refused.dumpJudged, Refused.partLines, Refused.partJudged}
+use Rattle.dumpable.specs.{Laws.Fine.dump-fine}
+use Rattle.dump.specs.{Order.written, Parts.bytesFrom, Laws.PartFine.fine-part, Laws.Parts.inParts, Laws.Parts.total, Laws.Parts.parts-are-whole}
 use Rattle.dump.specs.{Laws.Parts.size-of, Laws.Parts.whole-written}
-use Rattle.capi.specs.{Call.Call, Call.callOf, Call.unlessBad, Bars.lentLines, Power.dumpGives, Power.dumpCall, Part.PartLent, Part.partGives}
-use Rattle.capi.specs.{Part.filledWith, Part.partCall, Laws.Calls.Small, Laws.Calls.Numbered, Laws.Calls.Honest, Laws.Calls.honest, Laws.Calls.never-refuses}
-use Rattle.capi.specs.{Laws.Calls.one-refusal, Laws.Calls.after-verdict, Laws.DumpCalls.onPaper, Laws.DumpCalls.paper-small, Laws.DumpCalls.lent-small}
+use Rattle.replies.specs.{Call.Call, Call.callOf, Call.unlessBad}
+use Rattle.stepping.specs.{Bars.lentLines}
+use Rattle.capi.specs.{Power.dumpGives, Power.dumpCall, Part.PartLent, Part.partGives, Part.filledWith, Part.partCall, Laws.Calls.Small}
+use Rattle.capi.specs.{Laws.Calls.Numbered, Laws.Calls.Honest, Laws.Calls.honest, Laws.Calls.never-refuses, Laws.Calls.one-refusal}
+use Rattle.capi.specs.{Laws.Calls.after-verdict, Laws.DumpCalls.onPaper, Laws.DumpCalls.paper-small, Laws.DumpCalls.lent-small}
 use Rattle.capi.specs.{Laws.DumpCalls.dump-bytes, Laws.DumpCalls.dump-honest}
 use lib.Seq.{take-append-seam}
 

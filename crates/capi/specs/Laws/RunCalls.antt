@@ -14,9 +14,11 @@ use Rattle.engine.specs.{declared.answer.Answer.Answer, declared.answer.Answer.
 use Rattle.engine.specs.{declared.answer.Ended.Ended, declared.answer.Finished.Finished, declared.answer.Finished.the-variants.Refused as NotEnded}
 use Rattle.engine.specs.{declared.answer.Finished.the-variants.Done as AtEnd, Step.With, Step.sizeLines, Step.stepVerdict, Step.stepAnswer, Finish.ended}
 use Rattle.engine.specs.{Finish.concluded, Finish.finishOf, Laws.Refusal.refusal-changes-nothing, Laws.Verdict.verdict-place}
-use Rattle.capi.specs.{Call.unlessBad, Call.wordLines, Call.metricLines, Fresh.freshCall, Bars.lentLines, Bars.stepGives, Bars.stepCall, Finish.finishGives}
-use Rattle.capi.specs.{Finish.finishCall, Figures.metricsGives, Figures.metricsCall, Laws.Calls.Small, Laws.Calls.Numbered, Laws.Calls.Honest}
-use Rattle.capi.specs.{Laws.Calls.honest, Laws.Calls.never-refuses, Laws.Calls.one-refusal, Laws.Calls.after-verdict}
+use Rattle.replies.specs.{Call.unlessBad, Call.wordLines, Call.metricLines}
+use Rattle.stepping.specs.{Bars.lentLines, Bars.stepGives, Bars.stepCall}
+use Rattle.capi.specs.{Fresh.freshCall, Finish.finishGives, Finish.finishCall, Figures.metricsGives, Figures.metricsCall, Laws.Calls.Small}
+use Rattle.capi.specs.{Laws.Calls.Numbered, Laws.Calls.Honest, Laws.Calls.honest, Laws.Calls.never-refuses, Laws.Calls.one-refusal}
+use Rattle.capi.specs.{Laws.Calls.after-verdict}
 
 -- lines that have the paper's numbers, and places below 2^32
 pub lines-small : (ls : List Line) → numbered ls ≡ true → (r : Refusal) → judged ls ≡ Bad r → r .place < 2 ^ 32 → Small r

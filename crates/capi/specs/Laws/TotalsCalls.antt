@@ -5,8 +5,8 @@ use Rattle.words.specs.{Limits.tradeWords, Limits.mostCount}
 use Rattle.totals.specs.{declared.Answer.the-variants.Done, Trades.Trade, Trades.acceptable, Trades.tradesFrom, Trades.goodStart, Trades.judgedCount, Totals.unless}
 use Rattle.totals.specs.{Totals.totalWords, Totals.countsOf, Totals.traded, Totals.countsFine, Totals.addAnswer, Totals.addLeaves, Totals.joinAnswer}
 use Rattle.totals.specs.{Totals.joinLeaves, Laws.Trades.length-trades}
-use Rattle.capi.specs.{Totals.totalsGives, Totals.totalsCall, Totals.joinCall, Laws.Calls.Small, Laws.Calls.Numbered, Laws.Calls.Honest, Laws.Calls.honest}
-use Rattle.capi.specs.{Laws.Calls.one-refusal, Laws.Calls.never-refuses}
+use Rattle.capi.specs.{Totals.totalsGives, Totals.totalsCall, Totals.joinCall, Laws.Calls.Small, Laws.Calls.Numbered, Laws.Calls.Honest}
+use Rattle.capi.specs.{Laws.Calls.honest, Laws.Calls.one-refusal, Laws.Calls.never-refuses}
 
 -- ---- a trade's number
 

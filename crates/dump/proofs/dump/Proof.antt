@@ -1,6 +1,6 @@
 -- Refused, or written.
 use Rattle.words.specs.Prelude.{sym, _∙_, needs}
-use Rattle.dump.specs.{Laws.Fine.dump-fine}
+use Rattle.dumpable.specs.{Laws.Fine.dump-fine}
 use Rattle.dump.proofs.{Answers.dump-refused, Answers.dump-done, dump.Statement.statement}
 use Rattle.dump.proofs.dump.Tie as tie
 

@@ -8,8 +8,8 @@ use Rattle.records.specs.{declared.settings.Settings.Settings, declared.state.S
 use Rattle.engine.specs.{Record.heldRows}
 use Rattle.images.specs.{Layout.bodyBytes, Layout.wordsBytes, Layout.numbers, Layout.amounts, Layout.head, Layout.body, Layout.image, Layout.windowOf}
 use Rattle.images.specs.{Layout.imageOf}
-use Rattle.dump.specs.{Order.written, Laws.InOrder.inOrder, Laws.InOrder.in-order, Laws.Packed.headWords, Laws.Packed.head-packed}
-use Rattle.dump.specs.{Laws.WordBytes.words-long}
+use Rattle.heads.specs.{Laws.Packed.headWords, Laws.Packed.head-packed}
+use Rattle.dump.specs.{Order.written, Laws.InOrder.inOrder, Laws.InOrder.in-order, Laws.WordBytes.words-long}
 
 -- zeros behind a list are what reading past its end gives
 pub zeros-behind : (xs : List ℕ) (n i : ℕ) → getD (xs ++ replicate n 0) i 0 ≡ getD xs i 0

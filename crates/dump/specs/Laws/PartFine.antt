@@ -6,8 +6,9 @@ use Rattle.refusals.specs.{declared.verdict.Verdict.the-variants.Fine, Rooms.ro
 use Rattle.refusals.specs.{Laws.Lines.first-holds, Laws.Lines.both-fine, Laws.Lines.below-fine}
 use Rattle.engine.specs.{Books.emptied}
 use Rattle.images.specs.{Layout.headBytes, Layout.imageOf}
-use Rattle.dump.specs.{Refused.areaLines, Refused.dumpStateLines, Refused.dumpLines, Refused.dumpJudged, Parts.bytesFrom, Parts.partLines}
-use Rattle.dump.specs.{Parts.partJudged, Laws.Passing.wordsPass, Laws.Passing.words-fine}
+use Rattle.dumpable.specs.{Refused.areaLines, Refused.dumpStateLines, Refused.dumpLines, Refused.dumpJudged, Refused.partLines, Refused.partJudged}
+use Rattle.dumpable.specs.{Laws.Passing.wordsPass, Laws.Passing.words-fine}
+use Rattle.dump.specs.{Parts.bytesFrom}
 
 pub record PartFine (s : Settings) (t : State) (rows : List ℕ) : Type 0 where
   pub slots : s .slots ≤ mostSlots

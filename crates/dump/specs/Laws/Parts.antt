@@ -5,8 +5,9 @@ use Rattle.words.specs.{Limits.rowWords, Laws.Records.records-fit}
 use Rattle.records.specs.{declared.settings.Settings.Settings, declared.state.State.State, Lent.rowPlaces, StateWords.wordsOf}
 use Rattle.engine.specs.{Record.heldRows}
 use Rattle.images.specs.{Layout.bodyBytes, Layout.dumpBytes, Layout.windowOf, Layout.imageOf}
+use Rattle.heads.specs.{Laws.Packed.headWords}
 use Rattle.dump.specs.{Order.written, Parts.bytesFrom, Laws.InOrder.in-order, Laws.InOrder.in-order-whole, Laws.Image.image-long, Laws.Image.image-head}
-use Rattle.dump.specs.{Laws.Image.image-body, Laws.Image.window-short, Laws.Packed.headWords, Laws.Placed.whole-laid}
+use Rattle.dump.specs.{Laws.Image.image-body, Laws.Image.window-short, Laws.Placed.whole-laid}
 
 -- buffers of these lengths, each filled from where the one before it ends
 unfoldable pub inParts : List ℕ → ℕ → List ℕ → List ℕ

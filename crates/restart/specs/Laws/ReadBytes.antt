@@ -2,7 +2,7 @@
 use Rattle.words.specs.Prelude.{ℕ, zero, suc, _+_, _<_, _≡_, refl, ap, _∙_, List, [], _∷_, _++_, arith, getD}
 use Rattle.table.specs.{Bytes.u16, Bytes.u32, Bytes.u64, Bytes.Bytes}
 use Rattle.steps.specs.{Bytes.four, Bytes.eight}
-use Rattle.dump.specs.{Laws.Packed.halves, Laws.Packed.joined}
+use Rattle.heads.specs.{Laws.Packed.halves, Laws.Packed.joined}
 
 module _ (x : List ℕ) (bytes : Bytes x) (at : ℕ) where
   four-read : four (u32 x at) ≡ getD x at 0 ∷ getD x (at + 1) 0 ∷ getD x (at + 2) 0 ∷ getD x (at + 2 + 1) 0 ∷ []

@@ -1,6 +1,7 @@
 -- A call of one bar. Assumes nothing.
 use Rattle.words.specs.Prelude.{needs}
-use Rattle.capi.proofs.{Stepping.one-call, bars.ysh_step.Statement.statement}
+use Rattle.stepping.proofs.{Stepping.one-call}
+use Rattle.capi.proofs.{bars.ysh_step.Statement.statement}
 use Rattle.capi.proofs.bars.ysh_step.Tie as tie
 
 returns : tie.Need-returns

@@ -1,7 +1,7 @@
 -- Two blocks, each judged by itself.
 use Rattle.words.specs.Prelude.{_∙_, needs}
 use Rattle.refusals.specs.{Laws.Lines.two-blocks}
-use Rattle.capi.specs.{Bars.lentLines}
+use Rattle.stepping.specs.{Bars.lentLines}
 use Rattle.capi.proofs.{calls.judge_rooms.Statement.statement}
 use Rattle.capi.proofs.calls.judge_rooms.Tie as tie
 

@@ -1,6 +1,6 @@
 -- Words that pass are written; else nothing is.
 use Rattle.words.specs.Prelude.{refl, sym, _∙_, needs}
-use Rattle.dump.specs.{Laws.Passing.words-fine}
+use Rattle.dumpable.specs.{Laws.Passing.words-fine}
 use Rattle.dump.proofs.{direct.dump_words.Statement.statement}
 use Rattle.dump.proofs.direct.dump_words.Tie as tie
 

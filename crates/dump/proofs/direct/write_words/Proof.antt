@@ -2,7 +2,8 @@
 use Rattle.words.specs.Prelude.{sym, ap, _∙_, arith, needs}
 use Rattle.records.specs.{Settings.settingsOf, StateWords.countsOf, StateWords.stateOf}
 use Rattle.images.specs.{Layout.dumpBytes, Layout.windowOf}
-use Rattle.dump.specs.{Laws.Packed.headWords, Laws.Fine.dump-fine, Laws.Plain.plain-words}
+use Rattle.dumpable.specs.{Laws.Fine.dump-fine}
+use Rattle.heads.specs.{Laws.Packed.headWords, Laws.Plain.plain-words}
 use Rattle.dump.proofs.{Whole.dumped, direct.write_words.Statement.statement}
 use Rattle.dump.proofs.direct.write_words.Tie as tie
 
@@ -21,9 +22,6 @@ held-window-requires c κs =
     let s = c .before .before .before .before .before .before .before in
     let fine = dump-fine _ _ _ _ (s .pre .fine) in
     (fine .slots, fine .held)
-
-direct-head-requires : tie.Need-direct-head-requires
-direct-head-requires c κs = c .before .before .before .before .before .before .before .before .before .pre .full
 
 body-words-requires : tie.Need-body-words-requires
 unfolding settingsOf
@@ -51,11 +49,11 @@ returns c =
     let a = s .args in
     let fine = dump-fine _ _ _ _ (s .pre .fine) in
     dumped (settingsOf (a .settings .now)) (stateOf (a .state .now)) (a .rows .now) (a .area .now) (a .from) (a .upto) _ _ (fine .held)
-    (kept .held-window .ensures) (count .row-count .ensures) (head .direct-head .ensures ∙ ap (headWords _ _ _) (sym (plain-words (a .state .now))))
+    (kept .held-window .ensures) (count .row-count .ensures) (head .direct-head .ensures (s .pre .full) ∙ ap (headWords _ _ _) (sym (plain-words (a .state .now))))
     (body .body-words .ensures) (order .write-order .ensures)
 
 pub write-words-spec : {M : Type 1} → statement M
 write-words-spec =
     tie.close (tie.spec shared-slice-read-slots shared-slice-read-depth shared-slice-read-held held-window-requires
-    (λ c κs. search needs) direct-head-requires (λ c. search needs) body-words-requires write-order-requires
+    (λ c κs. search needs) (λ c κs. search needs) (λ c. search needs) body-words-requires write-order-requires
     (λ c. search needs) returns)

@@ -12,7 +12,7 @@ returns-2 c =
     let put = c .before .before in
     let head = put .before .before .before in
     let a = head .before .before .before .before .args in
-    put .lay-head .ensures ∙ ap (λ (h : List ℕ). headLaid (a .part .now) h (a .at) (a .n)) (head .direct-head .ensures)
+    put .lay-head .ensures ∙ ap (λ (h : List ℕ). headLaid (a .part .now) h (a .at) (a .n)) (head .direct-head .ensures (head .before .before .before .before .pre .0))
 
 pub lay-direct-head-spec : {M : Type 1} → statement M
 lay-direct-head-spec =

@@ -2,7 +2,8 @@
 use Rattle.words.specs.Prelude.{sym, ap, arith, needs}
 use Rattle.records.specs.{Settings.settingsOf, StateWords.countsOf, StateWords.stateOf}
 use Rattle.images.specs.{Layout.windowOf}
-use Rattle.dump.specs.{Laws.Packed.headWords, Laws.PartFine.part-fine, Laws.Plain.plain-words}
+use Rattle.heads.specs.{Laws.Packed.headWords, Laws.Plain.plain-words}
+use Rattle.dump.specs.{Laws.PartFine.part-fine}
 use Rattle.dump.proofs.{Whole.parted-none, Whole.parted, part.write_words_part.Statement.statement}
 use Rattle.dump.proofs.part.write_words_part.Tie as tie
 

@@ -1,0 +1,14 @@
+-- The tests, joined.
+use Rattle.words.specs.Prelude.{needs}
+use Rattle.dumpable.specs.{Laws.Passing.costsPass}
+use Rattle.dumpable.proofs.{passing.costs_pass.Statement.statement}
+use Rattle.dumpable.proofs.passing.costs_pass.Tie as tie
+
+returns : tie.Need-returns
+unfolding costsPass
+returns c = cc
+
+pub costs-pass-spec : {M : Type 1} → statement M
+costs-pass-spec =
+    tie.close (tie.spec (λ c κs. search needs) (λ c κs. search needs) (λ c κs. search needs) (λ c κs. search needs)
+    (λ c κs. search needs) returns)

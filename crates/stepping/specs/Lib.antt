@@ -1,0 +1,3 @@
+pub mod Bars
+pub mod WordRun
+pub mod Day

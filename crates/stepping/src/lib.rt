@@ -1,0 +1,2 @@
+// Bars in a call over words.
+pub mod day;

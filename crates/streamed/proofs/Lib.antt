@@ -1,0 +1,2 @@
+pub mod Riding
+pub mod Accounting

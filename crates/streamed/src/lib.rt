@@ -1,0 +1,2 @@
+// Four accounts on one stream, over words.
+pub mod four;
