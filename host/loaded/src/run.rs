@@ -5,7 +5,7 @@ use std::ops::Range;
 use yshturpa::layout::{
     setting, state, METRIC_WORDS, POINT_WORDS, ROW_FIXED, SETTING_WORDS, STATE_WORDS, STEP_ROOM, TRADE_WORDS,
 };
-use yshturpa::{Bars, Done, Point, Refusal, Settings, Trade, Tree};
+use yshturpa::{Bars, Done, Refusal, Settings, Tree};
 
 use crate::calls::{Library, Rooms};
 
@@ -56,14 +56,25 @@ impl<'l> Run<'l> {
         library.finish(settings, Rooms { state, rows, equity, trades }, &mut metrics)
     }
 
-    pub fn equity(&self) -> Vec<Point> {
-        let count = self.state[state::EQUITY_POINTS] as usize;
-        self.equity.chunks_exact(POINT_WORDS).take(count).map(Point::of).collect()
+    /// The words of the points and of the trades so far that nothing changes any more: all but the last point, in which `finish` counts the
+    /// fee of closing.
+    pub fn settled(&self) -> (&[u64], &[u64]) {
+        let (points, trades) = self.results();
+        (&points[..points.len().saturating_sub(POINT_WORDS)], trades)
     }
 
-    pub fn trades(&self) -> Vec<Trade> {
-        let count = self.state[state::TRADES] as usize;
-        self.trades.chunks_exact(TRADE_WORDS).take(count).map(Trade::of).collect()
+    /// Forgets what is settled: what is kept is the last point, and no trade.
+    pub fn forget_settled(&mut self) {
+        let (points, last) = (self.results().0.len(), POINT_WORDS.min(self.results().0.len()));
+        self.equity.copy_within(points - last..points, 0);
+        self.state[state::EQUITY_POINTS] = (last / POINT_WORDS) as u64;
+        self.state[state::TRADES] = 0;
+    }
+
+    /// The words of all points and of all trades that are kept.
+    pub fn results(&self) -> (&[u64], &[u64]) {
+        let [points, trades] = [state::EQUITY_POINTS, state::TRADES].map(|count| self.state[count] as usize);
+        (&self.equity[..POINT_WORDS * points], &self.trades[..TRADE_WORDS * trades])
     }
 
     /// K, which the bars have to have.

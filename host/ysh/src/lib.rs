@@ -16,6 +16,7 @@ pub mod decompile;
 mod dump;
 mod files;
 mod holdup;
+mod lists;
 mod output;
 mod page;
 mod problem;
@@ -51,7 +52,7 @@ pub fn run(arguments: impl IntoIterator<Item = OsString>, out: &mut dyn Write, e
         Ok(cli) => cli,
         Err(error) => return not_understood(&error, &arguments, out, err),
     };
-    let (text, problems) = match cli.command {
+    let (text, rest, problems) = match cli.command {
         Command::Compile(asked) => commands::compile::answer(&asked),
         Command::Show(asked) => commands::show::answer(&asked),
         Command::Depth(asked) => commands::depth::answer(&asked),
@@ -72,7 +73,8 @@ pub fn run(arguments: impl IntoIterator<Item = OsString>, out: &mut dyn Write, e
     }
     .into_parts();
     let mut status = problems.status;
-    if let Err(error) = whole(out.write_all(text.as_bytes()).and_then(|()| out.flush())) {
+    let written = out.write_all(text.as_bytes()).and_then(|()| rest.map_or(Ok(()), |rest| rest(out)));
+    if let Err(error) = whole(written.and_then(|()| out.flush())) {
         status = status.max(2);
         let _ = writeln!(err, "ysh: standard output: cannot be written: {error}");
     }

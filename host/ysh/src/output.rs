@@ -11,19 +11,28 @@ use crate::problem::Problem;
 
 /// What one command reads and writes.
 #[derive(Default)]
-pub struct Outputs {
+pub struct Outputs<'a> {
     inputs: Vec<PathBuf>,
-    files: Vec<(PathBuf, Vec<u8>)>,
+    files: Vec<(PathBuf, Writing<'a>)>,
 }
 
-impl Outputs {
+/// What writes a file, piece by piece where it is long.
+type Writing<'a> = Box<dyn Fn(&mut dyn Write) -> io::Result<()> + 'a>;
+
+impl<'a> Outputs<'a> {
     /// For a command that reads these files.
-    pub fn of<P: Into<PathBuf>>(inputs: impl IntoIterator<Item = P>) -> Outputs {
+    pub fn of<P: Into<PathBuf>>(inputs: impl IntoIterator<Item = P>) -> Outputs<'a> {
         Outputs { inputs: inputs.into_iter().map(Into::into).collect(), files: Vec::new() }
     }
 
     pub fn add(&mut self, path: &Path, bytes: impl Into<Vec<u8>>) {
-        self.files.push((path.to_owned(), bytes.into()));
+        let bytes = bytes.into();
+        self.add_written(path, move |out| out.write_all(&bytes));
+    }
+
+    /// A file by what writes it.
+    pub fn add_written(&mut self, path: &Path, write: impl Fn(&mut dyn Write) -> io::Result<()> + 'a) {
+        self.files.push((path.to_owned(), Box::new(write)));
     }
 
     /// Writes all files beside their places, then puts them there: where one cannot be written, none is.
@@ -34,8 +43,8 @@ impl Outputs {
             move |error: io::Error| Problem::io(name, "written", &error)
         };
         let mut ready = Vec::new();
-        for (path, bytes) in &self.files {
-            ready.push(Ready::of(path, bytes).map_err(written(path))?);
+        for (path, write) in &self.files {
+            ready.push(Ready::of(path, write).map_err(written(path))?);
         }
         for at in 0..ready.len() {
             if let Err(error) = ready[at].place() {
@@ -98,10 +107,10 @@ struct Ready {
 }
 
 impl Ready {
-    fn of(path: &Path, bytes: &[u8]) -> io::Result<Ready> {
+    fn of(path: &Path, write: &Writing) -> io::Result<Ready> {
         let there = fs::metadata(path).ok();
         if there.as_ref().is_some_and(|there| !there.is_file() && !there.is_dir()) {
-            OpenOptions::new().write(true).open(path)?.write_all(bytes)?;
+            buffered(&OpenOptions::new().write(true).open(path)?, write)?;
             return Ok(Ready { target: path.to_owned(), beside: None, before: None });
         }
         if there.as_ref().is_some_and(fs::Metadata::is_dir) {
@@ -110,9 +119,9 @@ impl Ready {
         // A link stays one: what it leads to is replaced.
         let target = if there.is_some() { fs::canonicalize(path)? } else { path.to_owned() };
         let new = |path: &Path| OpenOptions::new().write(true).create_new(true).open(path);
-        let (mut file, beside) = made_beside(&target, new)?;
+        let (file, beside) = made_beside(&target, new)?;
         let ready = Ready { target, beside: Some(beside), before: None };
-        file.write_all(bytes)?;
+        buffered(&file, write)?;
         if let Some(there) = there {
             file.set_permissions(there.permissions())?;
         }
@@ -150,6 +159,13 @@ impl Drop for Ready {
             let _ = fs::remove_file(path);
         }
     }
+}
+
+/// What is written in pieces goes to the file in larger ones.
+fn buffered(file: &File, write: &Writing) -> io::Result<()> {
+    let mut out = io::BufWriter::with_capacity(1 << 16, file);
+    write(&mut out)?;
+    out.flush()
 }
 
 const IS_A_DIRECTORY: i32 = 21;

@@ -142,6 +142,56 @@ fn a_stretch_is_told() {
     assert!(status == 2 && err.contains("--tree: the short entry is absent, and never yes"), "{err}");
 }
 
+/// Bars far into a file: a click on the last ones shows their values too.
+#[test]
+fn every_bar_has_its_values() {
+    const BARS: usize = 30_000;
+    let folder = folder("blocked-long");
+    let both = put(&folder, "both.json", BOTH);
+    let mut text = "time,open,high,low,close,volume,rsi\n".to_owned();
+    for n in 0..BARS {
+        let (time, price, rsi) = (1_735_689_600_000 + 60_000 * n, 100 + n * 7 % 13, 20 + n * 11 % 60);
+        text.push_str(&format!("{time},{price},{},{},{price}.25,5,{rsi}.5\n", price + 1, price - 1));
+    }
+    let bars = put(&folder, "long.csv", &text);
+    let html = folder.join("p.html").to_str().unwrap().to_owned();
+    assert_eq!(ysh(&["blocked", &both, &bars, "--html", &html]).0, 0);
+    let page = fs::read_to_string(&html).unwrap();
+    assert!(page.contains("Every bar has the values of its chain here; a page takes 30 MB of them at most."));
+    let Some(program) = chromium() else { return };
+    let click = r#"<script>window.addEventListener('load', () => {
+      const near = document.getElementById('near'), whole = document.getElementById('whole'), all = [];
+      const click = (it, share) => {
+        const box = it.getBoundingClientRect();
+        it.dispatchEvent(new MouseEvent('click', { clientX: box.left + share * box.width, clientY: box.top + 5 }));
+      };
+      click(whole, 0.9999);
+      for (let bar = 200; bar < 240; bar++) {
+        click(near, (bar + 0.5) / 240);
+        all.push([...document.querySelectorAll('#chain b, #chain li')].map((it) => it.textContent));
+      }
+      document.body.innerHTML = '<pre id="all"></pre>';
+      document.getElementById('all').textContent = JSON.stringify(all);
+    });</script></body>"#;
+    let path = put(&folder, "clicked.html", &page.replace("</body>", click));
+    let dom = browse(&program, &folder, &["--dump-dom", &format!("file://{path}")]);
+    let text = dom.split("<pre id=\"all\">").nth(1).and_then(|rest| rest.split("</pre>").next()).expect("clicked");
+    let text = text.replace("&lt;", "<").replace("&gt;", ">").replace("&amp;", "&");
+    let all: Vec<Vec<String>> = serde_json::from_str(&text).unwrap();
+    let mut chains = 0;
+    for (shown, bar) in all.iter().zip(BARS - 40..).step_by(3) {
+        assert!(shown[0].starts_with(&format!("Bar {bar}, ")), "{bar}: {shown:?}");
+        let why = json(&["why", &both, &bars, "--at", &format!("bar:{bar}"), "--json"]);
+        let rules = why["bars"][0]["rules"].as_array().unwrap();
+        let Some(rule) = rules.iter().find(|rule| rule["tree"] == "entry") else { continue };
+        let last = rule["chain"].as_array().unwrap().last().unwrap();
+        let wanted = format!("#{} {}", last["node"], last["text"].as_str().unwrap());
+        assert!(shown.contains(&wanted), "{wanted} is not in {shown:?}");
+        chains += 1;
+    }
+    assert!(chains > 0, "{all:?}");
+}
+
 /// Every bar in turn is clicked, and the page shows what `ysh why` says there.
 #[test]
 fn a_click_shows_the_chain() {

@@ -1,6 +1,6 @@
 //! Two runs compared: all that differs, and nothing else.
 
-use crate::layout::{DIFFERENCE_WORDS, TRADE_WORDS};
+use crate::layout::DIFFERENCE_WORDS;
 use crate::{calls, Point, Refusal, Trade};
 
 /// What the first run has, and what the second.
@@ -41,10 +41,27 @@ impl Difference {
 pub fn compare(first: (&[Point], &[Trade]), second: (&[Point], &[Trade])) -> Result<Vec<Difference>, Refusal> {
     let points = |run: &[Point]| run.iter().flat_map(Point::words).collect::<Vec<u64>>();
     let trades = |run: &[Trade]| run.iter().flat_map(Trade::words).collect::<Vec<u64>>();
-    let shorter = first.1.len().min(second.1.len());
-    let mut lines = vec![0; DIFFERENCE_WORDS * (TRADE_WORDS * shorter + 3)];
-    let mut count = 0;
-    let ((a, a_trades), (b, b_trades)) = ((points(first.0), trades(first.1)), (points(second.0), trades(second.1)));
-    Refusal::of(calls::compare(&a, &a_trades, &b, &b_trades, &mut lines, &mut count))?;
-    Ok(lines.chunks_exact(DIFFERENCE_WORDS).take(count as usize).map(Difference::of_words).collect())
+    compare_words((&points(first.0), &trades(first.1)), (&points(second.0), &trades(second.1)))
 }
+
+/// The same of points and trades in their words. Room for lines is made as there are lines, so runs that are equal take little.
+pub fn compare_words(first: (&[u64], &[u64]), second: (&[u64], &[u64])) -> Result<Vec<Difference>, Refusal> {
+    let most = first.1.len().min(second.1.len()) + OTHERS;
+    let mut room = most.min(FEW);
+    loop {
+        let (mut lines, mut count) = (vec![0; DIFFERENCE_WORDS * room], 0);
+        match Refusal::of(calls::compare(first.0, first.1, second.0, second.1, &mut lines, &mut count)) {
+            Err(Refusal { number: NO_ROOM, .. }) if room < most => room = room.saturating_mul(8).min(most),
+            answer => {
+                answer?;
+                let lines = lines.chunks_exact(DIFFERENCE_WORDS).take(count as usize);
+                return Ok(lines.map(Difference::of_words).collect());
+            }
+        }
+    }
+}
+
+/// Lines that are of no word of a trade, at most; lines that there is room for at first; the refusal of a room that is too small.
+const OTHERS: usize = 3;
+const FEW: usize = 1024;
+const NO_ROOM: u32 = 10;

@@ -132,6 +132,27 @@ impl Engine {
         self.state[state::TRADES] = 0;
     }
 
+    /// The words of the points and of the trades so far that nothing changes any more: all but the last point, in which `finish` counts the
+    /// fee of closing.
+    pub fn settled(&self) -> (&[u64], &[u64]) {
+        let (points, trades) = self.results();
+        (&points[..points.len().saturating_sub(POINT_WORDS)], trades)
+    }
+
+    /// Forgets what is settled: the rooms have the last point, and no trade.
+    pub fn forget_settled(&mut self) {
+        let (points, last) = (self.results().0.len(), POINT_WORDS.min(self.results().0.len()));
+        self.equity.copy_within(points - last..points, 0);
+        self.state[state::EQUITY_POINTS] = (last / POINT_WORDS) as u64;
+        self.state[state::TRADES] = 0;
+    }
+
+    /// The words of all points and of all trades that the rooms have.
+    pub fn results(&self) -> (&[u64], &[u64]) {
+        let [points, trades] = [state::EQUITY_POINTS, state::TRADES].map(|count| self.state[count] as usize);
+        (&self.equity[..POINT_WORDS * points], &self.trades[..TRADE_WORDS * trades])
+    }
+
     pub fn state(&self) -> State {
         State { words: self.state }
     }

@@ -27,14 +27,14 @@ mod why;
 
 pub use bar::{Bar, Funding, Rows};
 pub use bars::{Bars, Done};
-pub use closes::{Closes, Stretch};
-pub use compare::{compare, Difference, Two};
+pub use closes::{Closes, Room, Stretch};
+pub use compare::{compare, compare_words, Difference, Two};
 pub use dump::{parts_written, Image};
 pub use engine::Engine;
 pub use error::Error;
 pub use four::{Account, Status, Stream};
 pub use refusal::Refusal;
-pub use results::{metrics, Metrics, Point, Reason, Trade};
+pub use results::{metrics, metrics_of_words, Metrics, Point, Reason, Trade};
 pub use rule::{rule, run, Ran};
 pub use saved::Saved;
 pub use settings::{EntryOrder, Settings, Sizing, Slippage};

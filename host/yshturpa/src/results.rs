@@ -16,7 +16,8 @@ impl Point {
         Point { time: words[0] as i64, equity: f64::from_bits(words[1]) }
     }
 
-    pub(crate) fn words(&self) -> [u64; POINT_WORDS] {
+    /// As the engine has it.
+    pub fn words(&self) -> [u64; POINT_WORDS] {
         [self.time as u64, self.equity.to_bits()]
     }
 }
@@ -80,7 +81,8 @@ impl Trade {
         }
     }
 
-    pub(crate) fn words(&self) -> [u64; TRADE_WORDS] {
+    /// As the engine has it.
+    pub fn words(&self) -> [u64; TRADE_WORDS] {
         let [a, b, c, d, e] =
             [self.entry_price, self.exit_price, self.qty, self.pnl, self.return_pct].map(f64::to_bits);
         let [funding, worst] = [self.funding, self.worst].map(f64::to_bits);
@@ -123,8 +125,13 @@ impl Metrics {
 pub fn metrics(capital: f64, equity: &[Point], trades: &[Trade]) -> Result<Metrics, Refusal> {
     let points: Vec<u64> = equity.iter().flat_map(Point::words).collect();
     let records: Vec<u64> = trades.iter().flat_map(Trade::words).collect();
+    metrics_of_words(capital, &points, &records)
+}
+
+/// The same of points and trades in their words.
+pub fn metrics_of_words(capital: f64, points: &[u64], trades: &[u64]) -> Result<Metrics, Refusal> {
     let mut words = [0; METRIC_WORDS];
-    Refusal::of(calls::metrics(capital.to_bits(), &points, &records, &mut words))?;
+    Refusal::of(calls::metrics(capital.to_bits(), points, trades, &mut words))?;
     Ok(Metrics::of(&words))
 }
 

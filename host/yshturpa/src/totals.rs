@@ -35,7 +35,12 @@ impl Totals {
     /// Adds the trades of a run. A refusal leaves the totals as they were.
     pub fn add(&mut self, trades: &[Trade]) -> Result<(), Refusal> {
         let records: Vec<u64> = trades.iter().flat_map(Trade::words).collect();
-        Refusal::of(calls::totals(&mut self.words, &records))
+        self.add_words(&records)
+    }
+
+    /// The same of trades in their words.
+    pub fn add_words(&mut self, trades: &[u64]) -> Result<(), Refusal> {
+        Refusal::of(calls::totals(&mut self.words, trades))
     }
 
     /// Adds the totals of another machine. A refusal leaves these as they were.

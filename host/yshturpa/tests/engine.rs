@@ -1,7 +1,7 @@
 //! Every call of the wrapper, over the papers' worked rule.
 
 use yshturpa::layout::STATE_WORDS;
-use yshturpa::{check, depth, metrics, root, rule, run, silent, translate};
+use yshturpa::{check, depth, metrics, metrics_of_words, root, rule, run, silent, translate};
 use yshturpa::{
     Bar, Bars, Done, Engine, EntryOrder, Error, Funding, Metrics, Order, OrderLevel, Reason, Refusal, Rows, Saved,
     Settings, Sizing, Slippage, Tree,
@@ -208,6 +208,35 @@ fn many_bars_at_once() {
     assert_eq!(many.save(), one.save());
     assert_eq!(many.finish(), one.finish());
     assert!(many.trades().count() > 1 && many.trades().eq(one.trades()) && many.equity().eq(one.equity()));
+}
+
+/// What is settled is handed over after every few bars, and forgotten: the parts together are the run, and have its metrics.
+#[test]
+fn results_in_parts_are_those_of_the_run() {
+    let (whole, found) = whole_run();
+    for each in [1, 2, 7, 59, 60] {
+        let mut engine = Engine::new(&table(), &settings(3), 0, 1).unwrap();
+        let (mut points, mut trades) = (Vec::new(), Vec::new());
+        let mut keep = |(some, more): (&[u64], &[u64])| {
+            points.extend_from_slice(some);
+            trades.extend_from_slice(more);
+        };
+        for first in (0..BARS).step_by(each) {
+            engine.make_room(each);
+            (first..BARS.min(first + each)).for_each(|i| engine.step(&bar(i)).unwrap());
+            keep(engine.settled());
+            engine.forget_settled();
+            assert_eq!((engine.equity().count(), engine.trades().count()), (1, 0));
+        }
+        engine.finish().unwrap();
+        keep(engine.results());
+        assert_eq!((&points[..], &trades[..]), whole.results());
+        assert_eq!(metrics_of_words(10_000.0, &points, &trades), Ok(found));
+        assert_eq!(engine.state().fees_paid(), whole.state().fees_paid());
+    }
+    let mut none = Engine::new(&table(), &settings(3), 0, 1).unwrap();
+    none.forget_settled();
+    assert_eq!((none.settled(), none.results()), ((&[][..], &[][..]), (&[][..], &[][..])));
 }
 
 #[test]

@@ -1,21 +1,23 @@
 //! The stream: its bars go to four accounts at once.
 
 use std::path::PathBuf;
+use std::sync::Arc;
 
-use yshturpa::{Account, Engine, Refusal, Status, Stream};
+use yshturpa::{Account, Refusal, Status, Stream};
 
 use super::asked::Accounts;
 use super::slots::of_stream;
-use crate::bars::{BarsFile, Input, OnRefusal, Refusals};
+use crate::bars::{BarsFile, Input, Keep, OnRefusal, Part, Refusals};
+use crate::lists::List;
 use crate::problem::Problem;
 use crate::progress::Late;
 use crate::run::asked::Over;
 use crate::run::outcome::Outcome;
+use crate::run::results::{Results, Tally};
 use crate::run::used::used;
 use crate::run::{made, names_of, notes_of, source_and_settings};
 use crate::show::shown;
 use crate::source::Source;
-use crate::trials::asked::How;
 
 /// What became of the accounts, in their order.
 pub struct Streamed {
@@ -54,14 +56,12 @@ pub fn streamed(asked: &Accounts) -> Result<Streamed, Problem> {
         accounts.push(begun(over, source, own, &slots, &bars)?);
     }
     let mut four: [Account; 4] = std::array::from_fn(|n| accounts[n].account.clone());
-    let run = stepped(&bars, slots.len(), &asked.how, &mut four)?;
-    let ended = accounts.into_iter().zip(four).map(|(begun, account)| begun.ended(account, &run));
-    Ok(Streamed {
-        bars_file: bars.name.clone(),
-        bars: run.times.len() as u64,
-        accounts: ended.collect::<Result<_, _>>()?,
-        slots,
-    })
+    let mut run = stepped(&bars, slots.len(), asked, &mut four)?;
+    let mut ended = Vec::new();
+    for (number, (begun, account)) in accounts.into_iter().zip(four).enumerate() {
+        ended.push(begun.ended(account, number, &mut run)?);
+    }
+    Ok(Streamed { bars_file: bars.name.clone(), bars: run.bars, accounts: ended, slots })
 }
 
 /// An account before its first bar.
@@ -88,9 +88,10 @@ fn begun(over: &Over, source: Source, own: Vec<String>, slots: &[String], bars: 
         title: shown(title.trim()),
         capital: settings.capital,
         metrics,
-        trades: Vec::new(),
-        equity: Vec::new(),
-        closes: Vec::new(),
+        trades: List::default(),
+        tally: Tally::default(),
+        equity: List::default(),
+        closes: Arc::default(),
         fees: 0.0,
         refusals: Refusals::default(),
         unread: columns.unread().into_iter().map(shown).collect(),
@@ -102,45 +103,65 @@ fn begun(over: &Over, source: Source, own: Vec<String>, slots: &[String], bars: 
 }
 
 impl Begun {
-    fn ended(self, mut account: Account, run: &Stepped) -> Result<Ended, Problem> {
-        let stopped = match account.status() {
-            Status::Runs => None,
-            Status::Stopped { refusal, bar } => {
-                Some(Stopped { refusal, bar, time: run.times.get(bar as usize).copied() })
-            }
+    fn ended(self, mut account: Account, number: usize, run: &mut Stepped) -> Result<Ended, Problem> {
+        let mut results = std::mem::take(&mut run.results[number]);
+        let refused = |refusal| Problem::refused(&self.outcome.file, refusal);
+        let metrics = results.finished(&mut account.engine, self.outcome.capital, refused)?;
+        let outcome = Outcome {
+            metrics,
+            tally: Tally::of(&results.trades),
+            trades: results.trades,
+            equity: results.points,
+            closes: run.closes.clone(),
+            fees: account.engine.state().fees_paid(),
+            refusals: run.refusals.clone(),
+            odd: run.odd.clone(),
+            ..self.outcome
         };
-        let engine: &mut Engine = &mut account.engine;
-        let metrics = engine.finish().map_err(|refusal| Problem::refused(&self.outcome.file, refusal))?;
-        let equity: Vec<_> = engine.equity().collect();
-        let closes = run.closes[..equity.len()].to_vec();
-        let (trades, fees) = (engine.trades().collect(), engine.state().fees_paid());
-        let (refusals, odd) = (run.refusals.clone(), run.odd.clone());
-        Ok(Ended { outcome: Outcome { metrics, trades, equity, closes, fees, refusals, odd, ..self.outcome }, stopped })
+        Ok(Ended { outcome, stopped: run.stopped[number] })
     }
 }
 
-/// The bars that the stream took, and those that it refused.
+/// The bars that the stream took, and those that it refused; what the accounts left behind on the way, and what stopped them.
 #[derive(Default)]
 struct Stepped {
-    times: Vec<i64>,
-    closes: Vec<f64>,
+    bars: u64,
+    /// Where a page is drawn.
+    closes: Arc<List<f64>>,
+    results: [Results; 4],
+    stopped: [Option<Stopped>; 4],
     refusals: Refusals,
     /// What looked wrong in them.
     odd: Vec<String>,
 }
 
-fn stepped(bars: &BarsFile, slots: usize, how: &How, four: &mut [Account; 4]) -> Result<Stepped, Problem> {
+impl Stepped {
+    /// Some bars more that the stream took, from a place of a part on: which accounts they stopped.
+    fn took(&mut self, part: &Part, at: usize, four: &[Account; 4]) {
+        for (stopped, account) in self.stopped.iter_mut().zip(four) {
+            if let (None, Status::Stopped { refusal, bar }) = (&stopped, account.status()) {
+                let place = at + (bar - self.bars) as usize;
+                let time = (place < part.bars.len()).then(|| part.bars.time(place));
+                *stopped = Some(Stopped { refusal, bar, time });
+            }
+        }
+    }
+}
+
+fn stepped(bars: &BarsFile, slots: usize, asked: &Accounts, four: &mut [Account; 4]) -> Result<Stepped, Problem> {
+    let how = &asked.how;
     let mut stream = Stream::new(slots);
     let mut run = Stepped::default();
+    let mut closes = Results::new(asked.reports.is_some());
     let shown = Late::bytes(bars.length());
     let read = bars.each(|part| {
         let (mut at, end) = (0, part.bars.len());
         four.iter_mut().for_each(|account| account.engine.make_room(end));
         while at < end {
             let done = stream.step_over(&part.bars, at..end, four);
-            let taken = at..at + done.bars;
-            run.times.extend(taken.clone().map(|place| part.bars.time(place)));
-            run.closes.extend(taken.map(|place| part.bars.close(place)));
+            closes.bars(&part.bars, at..at + done.bars)?;
+            run.took(&part, at, four);
+            run.bars += done.bars as u64;
             at += done.bars;
             let Some(refusal) = done.refused else { continue };
             let wrong = if refusal.number == 11 { bars.columns.not_finite(&part.bars.bar(at)) } else { None };
@@ -156,12 +177,18 @@ fn stepped(bars: &BarsFile, slots: usize, how: &How, four: &mut [Account; 4]) ->
             }
             at += 1;
         }
+        for (results, account) in run.results.iter_mut().zip(&mut *four) {
+            let (points, trades) = account.engine.settled();
+            results.results(points, trades)?;
+            account.engine.forget_settled();
+        }
         shown.reached(part.reached);
         Ok(true)
     });
     shown.ended();
     read?;
     run.odd = bars.doubts(how.strict)?;
+    run.closes = Arc::new(closes.closes.unwrap_or_default());
     Ok(run)
 }
 

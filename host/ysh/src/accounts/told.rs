@@ -1,7 +1,8 @@
 //! What became of four accounts, as text and for programs.
 
+use std::io::{self, Write};
+
 use serde::Serialize;
-use serde_json::value::RawValue;
 
 use super::stream::{Ended, Stopped, Streamed};
 use crate::columns::{counted, grouped};
@@ -38,14 +39,14 @@ struct Document<'a> {
     bars_file: &'a str,
     bars: u64,
     slots: &'a [String],
-    accounts: Vec<AccountJson>,
+    accounts: Vec<AccountJson<'a>>,
 }
 
 #[derive(Serialize)]
-struct AccountJson {
+struct AccountJson<'a> {
     stopped: Option<StoppedJson>,
     /// As `ysh run --json` writes it.
-    run: Box<RawValue>,
+    run: run_json::Document<'a>,
 }
 
 #[derive(Serialize)]
@@ -56,22 +57,23 @@ struct StoppedJson {
     text: String,
 }
 
-pub fn json(streamed: &Streamed) -> String {
-    let stopped = |Stopped { refusal, bar, time }: Stopped| StoppedJson {
-        bar,
-        time,
-        refused: [refusal.number, refusal.place],
-        text: refusal.meaning().to_owned(),
-    };
-    let account = |ended: &Ended| AccountJson {
-        stopped: ended.stopped.map(stopped),
-        run: RawValue::from_string(run_json::json(&ended.outcome)).expect("a run is JSON"),
-    };
+pub fn json(streamed: &Streamed, out: &mut dyn Write) -> io::Result<()> {
     let document = Document {
         bars_file: &streamed.bars_file,
         bars: streamed.bars,
         slots: &streamed.slots,
         accounts: streamed.accounts.iter().map(account).collect(),
     };
-    serde_json::to_string(&document).expect("an answer is JSON") + "\n"
+    serde_json::to_writer(&mut *out, &document)?;
+    out.write_all(b"\n")
+}
+
+fn account(ended: &Ended) -> AccountJson<'_> {
+    let stopped = |Stopped { refusal, bar, time }: Stopped| StoppedJson {
+        bar,
+        time,
+        refused: [refusal.number, refusal.place],
+        text: refusal.meaning().to_owned(),
+    };
+    AccountJson { stopped: ended.stopped.map(stopped), run: run_json::document(&ended.outcome) }
 }

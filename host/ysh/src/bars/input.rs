@@ -1,6 +1,6 @@
 //! Where a file's bytes come from: a file or standard input, unpacked by its ending. It is read as it is needed, and never held whole.
 
-use std::fs::{self, File, OpenOptions};
+use std::fs::{self, File};
 use std::io::{self, Read, Seek};
 use std::path::{Path, PathBuf};
 use std::sync::atomic::{AtomicU64, Ordering};
@@ -51,7 +51,7 @@ impl Input {
     /// What can be read a second time: standard input is copied to a file of the system's folder for such files.
     pub fn kept(self) -> io::Result<Input> {
         let From::Standard = self.from else { return Ok(self) };
-        let mut copy = unnamed()?;
+        let mut copy = spill::unnamed()?;
         io::copy(&mut io::stdin().lock(), &mut copy)?;
         Ok(Input { from: From::Copy(copy), ..self })
     }
@@ -99,21 +99,5 @@ impl Read for Counted {
         let read = self.inner.read(room)?;
         self.reached.fetch_add(read as u64, Ordering::Relaxed);
         Ok(read)
-    }
-}
-
-/// A file that is gone once nothing holds it.
-fn unnamed() -> io::Result<File> {
-    let mut number = 0;
-    loop {
-        let path = std::env::temp_dir().join(format!(".ysh-{}-{number}", std::process::id()));
-        match OpenOptions::new().read(true).write(true).create_new(true).open(&path) {
-            Err(error) if error.kind() == io::ErrorKind::AlreadyExists && number < 1000 => number += 1,
-            Err(error) => return Err(error),
-            Ok(file) => {
-                fs::remove_file(&path)?;
-                return Ok(file);
-            }
-        }
     }
 }

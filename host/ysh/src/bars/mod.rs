@@ -9,10 +9,10 @@ mod input;
 mod odd;
 mod over;
 
-pub use file::BarsFile;
+pub use file::{BarsFile, Part};
 pub use form::Form;
 pub use input::Input;
-pub use over::{one_by_one, over, At, OnRefusal, Refusals, Seen, Stepped, Way};
+pub use over::{one_by_one, over, At, Keep, Nothing, OnRefusal, Refusals, Seen, Stepped, Way};
 
 /// What is wrong in a line, and in which column, counted from 0.
 #[derive(Clone, Debug, PartialEq, Eq)]

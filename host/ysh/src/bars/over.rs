@@ -63,19 +63,38 @@ pub struct Walked {
     pub before: Option<Bar>,
 }
 
-/// Steps over a file's bars; each bar that was done is shown, in the list that it stands in.
-pub fn over(
-    file: &BarsFile,
-    engine: &mut Engine,
-    way: Way,
-    mut done: impl FnMut(&Bars, Range<usize>),
-) -> Result<Walked, Problem> {
+/// What a run leaves behind on its way.
+pub trait Keep {
+    /// Bars that were done, in the list that they stand in.
+    fn bars(&mut self, list: &Bars, places: Range<usize>) -> Result<(), Problem>;
+    /// Points and trades that nothing changes any more, in their words.
+    fn results(&mut self, points: &[u64], trades: &[u64]) -> Result<(), Problem>;
+}
+
+/// Nothing of it is kept.
+pub struct Nothing;
+
+impl Keep for Nothing {
+    fn bars(&mut self, _: &Bars, _: Range<usize>) -> Result<(), Problem> {
+        Ok(())
+    }
+
+    fn results(&mut self, _: &[u64], _: &[u64]) -> Result<(), Problem> {
+        Ok(())
+    }
+}
+
+/// Steps over a file's bars. What is settled is handed over part by part; the engine has the rest.
+pub fn over(file: &BarsFile, engine: &mut Engine, way: Way, keep: &mut impl Keep) -> Result<Walked, Problem> {
     let mut walk = Walk { file, way, passed: 0, places: 0, refusals: Refusals::default() };
     let mut before = None;
     let bar = Late::bytes(file.length());
     let result = file.each(|part| {
         engine.make_room(part.bars.len());
-        before = walk.part(engine, &part, &mut done)?;
+        before = walk.part(engine, &part, keep)?;
+        let (points, trades) = engine.settled();
+        keep.results(points, trades)?;
+        engine.forget_settled();
         walk.places += part.bars.len() as u64;
         bar.reached(part.reached);
         Ok(before.is_none())
@@ -164,17 +183,12 @@ struct Walk<'a> {
 
 impl Walk<'_> {
     /// The bars of a part; the one that is asked for, where it is among them.
-    fn part(
-        &mut self,
-        engine: &mut Engine,
-        part: &Part,
-        done: &mut impl FnMut(&Bars, Range<usize>),
-    ) -> Result<Option<Bar>, Problem> {
+    fn part(&mut self, engine: &mut Engine, part: &Part, keep: &mut impl Keep) -> Result<Option<Bar>, Problem> {
         let Some(mut at) = self.first(&part.bars) else { return Ok(None) };
         loop {
             let end = self.asked_for(&part.bars, at, engine.state().bars_seen()).unwrap_or(part.bars.len());
             let stepped = engine.step_over(&part.bars, at..end);
-            done(&part.bars, at..at + stepped.bars);
+            keep.bars(&part.bars, at..at + stepped.bars)?;
             at += stepped.bars;
             let refusal = match stepped.refused {
                 Some(refusal) => refusal,

@@ -8,6 +8,7 @@ pub mod page;
 mod shape;
 pub mod tally;
 pub mod text;
+mod values;
 mod watch;
 
 pub use watch::Blocked;

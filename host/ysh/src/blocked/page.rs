@@ -1,67 +1,117 @@
 //! What kept a rule from a yes, as a page of its own: the rule with its counts, and a strip over time, in which a click shows a bar's
 //! chain. No network, and no script but its own.
 
-use std::collections::BTreeMap;
-
 use serde::Serialize;
-use yshturpa::Position;
+use yshturpa::{Position, Tree};
 
 use super::asker::{is_missing, Answers};
-use super::shape::Sort;
+use super::shape::{Shape, Sort};
 use super::tally::Stamp;
 use super::text::Told;
+use super::values::{Values, MILLIONS, TOGETHER};
 use crate::columns::grouped;
 use crate::page as skeleton;
 use crate::show::Clock;
+use crate::source::Source;
 use crate::svg::escape;
 
 const STYLE: &str = concat!(include_str!("../why/tree.css"), include_str!("strip.css"));
 const SCRIPT: &str = include_str!("strip.js");
 
-/// As many bars as have the values of their chain in the page; of the others the page has who decided.
-const VALUES: usize = 20_000;
-
 /// What was said at each bar of a stretch.
-#[derive(Default)]
-pub struct Strip {
-    stamps: Vec<Stamp>,
-    /// A letter for each bar and test, the tests of a bar together: y, n, m (missing), or - where the rule was not asked.
-    said: Vec<u8>,
-    tests: usize,
-    /// The part that decided, and what the rule said; none where it was not asked.
-    decided: Vec<Option<(u16, bool)>>,
-    values: Vec<Option<(Answers, Position)>>,
+pub struct Strip<'a> {
+    source: &'a Source,
+    shape: Shape,
+    bars: usize,
+    numbers: Steps,
+    times: Steps,
+    /// A letter for each bar, of each test: y, n, m (missing), or - where the rule was not asked.
+    said: Vec<Runs<u8>>,
+    /// The part that decided, or -1 where the rule was not asked, and what the rule said.
+    decided: Runs<(i64, bool)>,
+    values: Values,
 }
 
-impl Strip {
+impl<'a> Strip<'a> {
+    /// Before the first bar; none for a rule that is absent.
+    pub fn of(source: &'a Source, tree: Tree) -> Option<Strip<'a>> {
+        let shape = Shape::of(&source.forest, tree)?;
+        Some(Strip {
+            source,
+            bars: 0,
+            numbers: Steps::default(),
+            times: Steps::default(),
+            said: vec![Runs::default(); shape.tests.len()],
+            decided: Runs::default(),
+            values: Values::default(),
+            shape,
+        })
+    }
+
     pub fn add(&mut self, at: Stamp, said: Option<(&Answers, &Position)>) {
-        self.stamps.push(at);
-        self.decided.push(said.map(|(answers, _)| (answers.decided as u16, answers.answer)));
-        if let Some((answers, _)) = said {
-            self.widen(answers.tests.len());
+        self.bars += 1;
+        self.numbers.add(at.bar as i64);
+        self.times.add(at.time);
+        let Some((answers, position)) = said else {
+            self.said.iter_mut().for_each(|letters| letters.add(b'-'));
+            self.decided.add((-1, false));
+            self.values.skip();
+            return;
+        };
+        for (letters, line) in self.said.iter_mut().zip(&answers.tests) {
+            letters.add(match (line.answer, is_missing(line)) {
+                (true, _) => b'y',
+                (false, true) => b'm',
+                (false, false) => b'n',
+            });
         }
-        let before = self.said.len();
-        self.said.resize(before + self.tests, b'-');
-        if let Some((answers, _)) = said {
-            for (letter, line) in self.said[before..].iter_mut().zip(&answers.tests) {
-                *letter = match (line.answer, is_missing(line)) {
-                    (true, _) => b'y',
-                    (false, true) => b'm',
-                    (false, false) => b'n',
-                };
-            }
+        self.decided.add((answers.decided as i64, answers.answer));
+        // The lines of the tests that the chain ends at: the one that decided, or all below an All or an Any.
+        let ends = self.shape.tests_below(answers.decided);
+        self.values.add(self.source, position, at, ends.iter().map(|&test| &answers.tests[test]));
+    }
+}
+
+/// Equal things one after another, and how many.
+#[derive(Clone)]
+struct Runs<T>(Vec<(T, u64)>);
+
+impl<T> Default for Runs<T> {
+    fn default() -> Runs<T> {
+        Runs(Vec::new())
+    }
+}
+
+impl<T: PartialEq> Runs<T> {
+    fn add(&mut self, one: T) {
+        match self.0.last_mut() {
+            Some((same, count)) if *same == one => *count += 1,
+            _ => self.0.push((one, 1)),
         }
-        if self.values.len() < VALUES {
-            self.values.push(said.map(|(answers, position)| (answers.clone(), *position)));
+    }
+}
+
+/// Numbers one after another: the first, the last, and how far each is from the one before it.
+#[derive(Default)]
+struct Steps {
+    ends: Option<(i64, i64)>,
+    steps: Runs<i64>,
+}
+
+impl Steps {
+    fn add(&mut self, next: i64) {
+        if let Some((first, last)) = self.ends.replace((next, next)) {
+            self.ends = Some((first, next));
+            self.steps.add(next.wrapping_sub(last));
         }
     }
 
-    /// How many tests there are is known from the first bar at which the rule was asked.
-    fn widen(&mut self, tests: usize) {
-        if self.tests == 0 {
-            self.tests = tests;
-            self.said = vec![b'-'; (self.stamps.len() - 1) * tests];
-        }
+    fn first(&self) -> i64 {
+        self.ends.map_or(0, |(first, _)| first)
+    }
+
+    fn told(&self) -> Vec<[i64; 2]> {
+        self.steps.0.iter().map(|(step, count)| [*step, *count as i64]).collect()
     }
 }
 
@@ -78,8 +128,10 @@ struct Data<'a> {
     parts: Vec<PartData>,
     /// The part that decided, or -1, whether the rule said yes, and how many bars in a row.
     decided: Vec<(i64, bool, u64)>,
-    /// What the tests said that a chain ends at, by the bar's place.
-    values: BTreeMap<usize, Vec<String>>,
+    /// What the tests said that a chain ends at, as `Values` has it: words, texts, and how many bars a text has.
+    words: &'a [String],
+    values: &'a [String],
+    together: usize,
     /// How the values of other bars are asked for.
     why: &'a str,
 }
@@ -91,58 +143,30 @@ struct PartData {
     not: bool,
 }
 
-/// Equal things one after another, and how many.
-fn runs<T: PartialEq + Copy>(all: impl Iterator<Item = T>) -> Vec<(T, u64)> {
-    let mut found: Vec<(T, u64)> = Vec::new();
-    for one in all {
-        match found.last_mut() {
-            Some((same, count)) if *same == one => *count += 1,
-            _ => found.push((one, 1)),
-        }
-    }
-    found
-}
-
-fn steps(all: impl Iterator<Item = i64> + Clone) -> Vec<[i64; 2]> {
-    let next = all.clone().skip(1);
-    runs(all.zip(next).map(|(one, next)| next.wrapping_sub(one)))
-        .into_iter()
-        .map(|(step, n)| [step, n as i64])
-        .collect()
-}
-
 fn data(told: &Told, strip: &Strip) -> String {
     let parts = told.shape.parts.iter().enumerate().map(|(part, it)| PartData {
         label: format!("#{} {}", it.node, told.part(part)),
         above: it.above.map_or(-1, |above| above as i64),
         not: it.sort == Sort::Not,
     });
-    let letters = |test: usize| {
-        let all = (0..strip.stamps.len()).map(|bar| strip.said.get(bar * strip.tests + test).copied().unwrap_or(b'-'));
-        runs(all).into_iter().map(|(letter, count)| format!("{}{count}", letter as char)).collect::<String>()
+    let letters = |runs: &Runs<u8>| {
+        runs.0.iter().map(|(letter, count)| format!("{}{count}", *letter as char)).collect::<String>()
     };
-    let values = strip.values.iter().enumerate().filter_map(|(bar, said)| {
-        let (answers, position) = said.as_ref()?;
-        let line = |test: usize| told.said(&answers.tests[test], position, strip.stamps[bar]);
-        Some((bar, told.ends(answers).into_iter().map(line).collect()))
-    });
-    let first = strip.stamps.first().map_or([0, 0], |at| [at.bar as i64, at.time]);
     let data = Data {
         clock: match told.clock() {
             Clock::Seconds => "seconds",
             Clock::Milliseconds => "milliseconds",
             Clock::Number => "number",
         },
-        first,
-        numbers: steps(strip.stamps.iter().map(|at| at.bar as i64)),
-        times: steps(strip.stamps.iter().map(|at| at.time)),
-        tests: told.shape.tests.iter().enumerate().map(|(test, &part)| (part, letters(test))).collect(),
+        first: [strip.numbers.first(), strip.times.first()],
+        numbers: strip.numbers.told(),
+        times: strip.times.told(),
+        tests: told.shape.tests.iter().zip(&strip.said).map(|(&part, said)| (part, letters(said))).collect(),
         parts: parts.collect(),
-        decided: runs(strip.decided.iter().map(|said| said.map_or((-1, false), |(part, yes)| (part.into(), yes))))
-            .into_iter()
-            .map(|((part, yes), count)| (part, yes, count))
-            .collect(),
-        values: values.collect(),
+        decided: strip.decided.0.iter().map(|((part, yes), count)| (*part, *yes, *count)).collect(),
+        words: &strip.values.words,
+        values: &strip.values.texts,
+        together: TOGETHER,
         why: "ysh why",
     };
     // Nothing in a text may end the script that holds it.
@@ -166,7 +190,7 @@ pub fn page(told: &Told, strip: &Strip) -> String {
         head.iter().map(line).collect::<String>(),
         LEGEND,
         node(told, 0),
-        footer(),
+        footer(strip),
     );
     skeleton::page(&title, STYLE, &[body, skeleton::script_over("data", &data(told, strip), SCRIPT)])
 }
@@ -215,11 +239,25 @@ fn strip_part(told: &Told) -> String {
     )
 }
 
-fn footer() -> String {
+/// Which bars have the values of their chain here.
+fn valued(strip: &Strip) -> String {
+    let there = strip.values.bars;
+    match there < strip.bars {
+        false => format!("Every bar has the values of its chain here; a page takes {MILLIONS} MB of them at most."),
+        true => format!(
+            "The first {} of {} bars have the values of their chain here, as a page takes {MILLIONS} MB of them at most; with --from and --to \
+             it is of other bars.",
+            grouped(there as u64),
+            grouped(strip.bars as u64),
+        ),
+    }
+}
+
+fn footer(strip: &Strip) -> String {
     format!(
         "<footer><p>What a test says, and the chain, are the proved engine's. What a rule would say with one test turned around is all, any and not of \
-         its tests. The first {} bars have the values of their chain here. Written by ysh {}.</p></footer>",
-        grouped(VALUES as u64),
+         its tests. {} Written by ysh {}.</p></footer>",
+        valued(strip),
         env!("CARGO_PKG_VERSION")
     )
 }
@@ -230,8 +268,15 @@ mod tests {
 
     #[test]
     fn what_comes_one_after_another_is_counted() {
-        assert_eq!(runs([1, 1, 2, 1].into_iter()), [(1, 2), (2, 1), (1, 1)]);
-        assert_eq!(steps([5, 65, 125, 130].into_iter()), [[60, 2], [5, 1]]);
-        assert!(steps(std::iter::empty()).is_empty() && steps(std::iter::once(4)).is_empty());
+        let mut runs = Runs::default();
+        [1, 1, 2, 1].into_iter().for_each(|one| runs.add(one));
+        assert_eq!(runs.0, [(1, 2), (2, 1), (1, 1)]);
+        let steps = |all: &[i64]| {
+            let mut steps = Steps::default();
+            all.iter().for_each(|one| steps.add(*one));
+            (steps.first(), steps.told())
+        };
+        assert_eq!(steps(&[5, 65, 125, 130]), (5, vec![[60, 2], [5, 1]]));
+        assert_eq!((steps(&[]), steps(&[4])), ((0, vec![]), (4, vec![])));
     }
 }

@@ -29,6 +29,14 @@
     }
   }
 
+  // The lines of a bar's chain: the words of each, with its numbers in their places.
+  const valuesOf = (bar) => {
+    const some = data.values[Math.floor(bar / data.together)];
+    const text = some === undefined ? '' : some.split(';')[bar % data.together];
+    const filled = ([words, ...numbers]) => data.words[words].split('\u0001').map((part, n) => part + (numbers[n] ?? '')).join('');
+    return text ? text.split('|').map((line) => filled(line.split(' '))) : null;
+  };
+
   const time = (bar) => {
     if (data.clock === 'number') return String(times[bar]);
     const date = new Date(times[bar] * (data.clock === 'seconds' ? 1000 : 1));
@@ -113,7 +121,7 @@
         for (let at = of; at >= 0; at = data.parts[at].above) if (at === part) return true;
         return false;
       });
-      const values = data.values[chosen];
+      const values = valuesOf(chosen);
       if (values) values.forEach((text) => list.append(line(text)));
       else {
         below.forEach(([of, n]) => list.append(line(data.parts[of].label + ':', letters[n][chosen] === 'y')));

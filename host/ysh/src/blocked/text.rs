@@ -2,7 +2,6 @@
 
 use yshturpa::WhyLine;
 
-use super::asker::Answers;
 use super::shape::{Shape, Sort};
 use super::tally::Stamp;
 use super::watch::{Blocked, Missed, Why};
@@ -79,11 +78,6 @@ impl Told<'_> {
         let (forest, names) = (&self.source.forest, &self.source.names[..]);
         let telling = Telling { forest, names, position, bars: at.bar + 1 };
         format!("#{} {}", line.node, telling.line(line))
-    }
-
-    /// The lines of the tests that a chain ends at: the one that decided, or all below an All or an Any.
-    pub fn ends(&self, answers: &Answers) -> Vec<usize> {
-        self.shape.tests_below(answers.decided)
     }
 }
 

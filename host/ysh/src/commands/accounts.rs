@@ -27,9 +27,12 @@ fn answered(asked: &Accounts) -> Result<Answer, Problem> {
         }
         outputs.write()?;
     }
-    let text = if asked.json { told::json(&streamed) } else { told::text(&streamed) };
-    let mut answer = Answer { text, document: asked.json, ..Answer::default() };
+    let mut answer = Answer { document: asked.json, ..Answer::default() };
     said(&streamed, &mut answer);
+    match asked.json {
+        true => answer.rest = Some(Box::new(move |out| told::json(&streamed, out))),
+        false => answer.text = told::text(&streamed),
+    }
     Ok(answer)
 }
 

@@ -19,7 +19,7 @@ fn answered(asked: &Asked) -> Result<Answer, Problem> {
     let ready = if by_time { Ready::kept(&asked.over)? } else { Ready::of(&asked.over)? };
     let notes = ready.notes();
     let bounds = Bounds::of(asked.from, asked.to, &ready.bars)?;
-    let mut strip = asked.html.as_ref().map(|_| Strip::default());
+    let mut strip = asked.html.as_ref().and_then(|_| Strip::of(&ready.source, asked.tree.tree()));
     let (blocked, shape) = Blocked::of(&ready, asked.tree.tree(), bounds, asked.over.on_refusal, |at, said| {
         if let Some(strip) = &mut strip {
             strip.add(at, said);

@@ -3,7 +3,7 @@
 use yshturpa::{Engine, Image};
 
 use super::{run, Answer};
-use crate::bars::{over, Seen, Way};
+use crate::bars::{over, Nothing, Seen, Way};
 use crate::columns::{counted, grouped};
 use crate::dump::asked::{Cut, Dump, Resume, Show, Take, Which};
 use crate::dump::words;
@@ -55,7 +55,7 @@ fn take(asked: &Take) -> Result<Answer, Problem> {
     // Of bars with the same time the last: what the box had seen when that time was over.
     let place = *found.at.last().expect("a bar was found");
     let way = Way { on_refusal: asked.over.on_refusal, after: None, until: Some(place) };
-    let walked = over(&bars, &mut engine, way, |_, _| ())?;
+    let walked = over(&bars, &mut engine, way, &mut Nothing)?;
     let Some(bar) = walked.before else {
         return Err(not_there(&bars, place, engine.state().bars_seen()));
     };
@@ -83,14 +83,14 @@ fn resume(asked: &Resume) -> Result<Answer, Problem> {
     let seen = engine.state().bars_seen();
     let after = (!asked.rest && seen > 0).then(|| Seen::of(&engine.state()));
     let way = Way { on_refusal: asked.over.on_refusal, after, until: None };
-    let mut outcome = Outcome::of(Ready { engine, ..ready }, way)?;
+    let mut outcome = Outcome::of(Ready { engine, ..ready }, way, asked.wanted.html.is_some())?;
     let said = format!(
         "goes on from {file} after {}: all figures are of the bars from there on",
         counted(seen, "bar", "bars")
     );
     outcome.notes.push(said);
     let inputs = asked.over.read().into_iter().chain([asked.image.clone()]);
-    run::written(outcome, &[], &asked.wanted, Outputs::of(inputs))
+    run::written(outcome, &[], &asked.wanted, inputs)
 }
 
 fn cut(asked: &Cut) -> Result<Answer, Problem> {

@@ -17,13 +17,17 @@ pub mod show;
 pub mod trials;
 pub mod why;
 
+use std::io::{self, Write};
+
 use crate::problem::Problem;
 use crate::show::shown;
 
 /// What a command writes, what it has to say beside, and what went wrong.
-#[derive(Debug, Default)]
+#[derive(Default)]
 pub struct Answer {
     pub text: String,
+    /// What writes the rest of the text, where that may be long.
+    pub rest: Option<Rest>,
     /// Whether the text is for programs, and no line may be put before it.
     pub document: bool,
     /// What may make the answer another than was meant: the first lines of it.
@@ -35,6 +39,9 @@ pub struct Answer {
     /// Whether two runs differ.
     pub differs: bool,
 }
+
+/// What writes a text piece by piece.
+pub type Rest = Box<dyn FnOnce(&mut dyn Write) -> io::Result<()> + Send>;
 
 /// The status where something does not fit in the time that is there.
 const UNFIT: u8 = 3;
@@ -64,15 +71,16 @@ impl Answer {
         self.doubts.extend(doubts.iter().map(|doubt| shown(&format!("WARNING  {file}: {doubt}"))));
     }
 
-    pub fn into_parts(self) -> (String, Said) {
+    /// What is written: a text, and what writes more; what is said beside it.
+    pub fn into_parts(self) -> (String, Option<Rest>, Said) {
         let others = self.unfit.then_some(UNFIT).into_iter().chain(self.differs.then_some(DIFFERS));
         let status = self.problems.iter().map(Problem::status).chain(others).max().unwrap_or(0);
         let lines = self.notes.into_iter().chain(self.problems.iter().map(Problem::to_string));
         match self.document {
-            true => (self.text, Said { lines: self.doubts.into_iter().chain(lines).collect(), status }),
+            true => (self.text, self.rest, Said { lines: self.doubts.into_iter().chain(lines).collect(), status }),
             false => {
                 let first: String = self.doubts.iter().map(|doubt| format!("{doubt}\n")).collect();
-                (first + &self.text, Said { lines: lines.collect(), status })
+                (first + &self.text, self.rest, Said { lines: lines.collect(), status })
             }
         }
     }

@@ -6,7 +6,7 @@ use super::Answer;
 use crate::columns::counted;
 use crate::problem::Problem;
 use crate::range::asked::Range;
-use crate::range::{questions, told, Found, Series};
+use crate::range::{questions, told, Series};
 
 pub fn answer(asked: &Range) -> Answer {
     answered(asked).unwrap_or_else(Answer::from)
@@ -16,7 +16,7 @@ fn answered(asked: &Range) -> Result<Answer, Problem> {
     let questions = questions(asked)?;
     let series = Series::read(&asked.bars, &asked.form)?;
     let began = Instant::now();
-    let found: Vec<Found> = questions.iter().map(|question| series.ask(*question)).collect::<Result<_, _>>()?;
+    let found = series.answers(&questions)?;
     let took = began.elapsed();
     let text = match asked.json {
         true => told::json(&series, &found),

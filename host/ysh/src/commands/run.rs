@@ -1,5 +1,7 @@
 //! `ysh run`: rules over bars from a file.
 
+use std::path::PathBuf;
+
 use super::Answer;
 use crate::bars::{Refusals, Way};
 use crate::columns::counted;
@@ -28,7 +30,8 @@ fn answered(asked: &Run) -> Result<Answer, Problem> {
             (ready, decisions)
         }
     };
-    written(Outcome::of(ready, way)?, &decisions, &asked.wanted, Outputs::of(asked.over.read()))
+    let outcome = Outcome::of(ready, way, asked.wanted.html.is_some())?;
+    written(outcome, &decisions, &asked.wanted, asked.over.read())
 }
 
 /// The files that are wanted of a run, and the answer.
@@ -36,24 +39,28 @@ pub fn written(
     outcome: Outcome,
     decisions: &[Decision],
     wanted: &Wanted,
-    mut outputs: Outputs,
+    read: impl IntoIterator<Item = PathBuf>,
 ) -> Result<Answer, Problem> {
+    let mut outputs = Outputs::of(read);
     if let Some(path) = &wanted.trades {
-        outputs.add(path, csv::trades(&outcome.trades));
+        outputs.add_written(path, |out| csv::trades(&outcome.trades, out));
     }
     if let Some(path) = &wanted.equity {
-        outputs.add(path, csv::equity(&outcome.equity));
+        outputs.add_written(path, |out| csv::equity(&outcome.equity, out));
     }
     if let Some(path) = &wanted.html {
         outputs.add(path, page::page(&outcome, decisions));
     }
     outputs.write()?;
-    let text = if wanted.json { json::json(&outcome) } else { text::text(&outcome) };
-    let mut answer = Answer { text, document: wanted.json, ..Answer::default() };
+    let mut answer = Answer { document: wanted.json, ..Answer::default() };
     answer.doubts(&outcome.file, &outcome.doubts);
     answer.doubts(&outcome.bars_file, &outcome.odd);
     answer.notes(&outcome.file, &outcome.notes);
     refused(&mut answer, &outcome.bars_file, &outcome.refusals);
+    match wanted.json {
+        true => answer.rest = Some(Box::new(move |out| json::json(&outcome, out))),
+        false => answer.text = text::text(&outcome),
+    }
     Ok(answer)
 }
 

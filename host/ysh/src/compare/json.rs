@@ -73,11 +73,9 @@ pub fn json(compared: &Compared) -> String {
         Run { name: &side.name, of: &side.of, bars, trades }
     };
     let more = |(from, counts): (usize, Two)| More { from, a: counts.first, b: counts.second };
-    let equity = compared.equity.map(|(bar, words)| Bar {
-        bar,
-        time: a.equity[bar].time,
-        a: Exact(f64::from_bits(words.first)),
-        b: Exact(f64::from_bits(words.second)),
+    let equity = compared.equity.and_then(|(bar, words)| {
+        let [first, second] = [words.first, words.second].map(|bits| Exact(f64::from_bits(bits)));
+        Some(Bar { bar, time: a.equity.get(bar)?.time, a: first, b: second })
     });
     let document = Document {
         same: compared.same(),

@@ -7,11 +7,12 @@ use std::process::Command;
 use loaded::{Library, Run};
 
 use super::side::Side;
-use crate::bars::{OnRefusal, Way};
+use crate::bars::{Keep, OnRefusal, Way};
 use crate::files::name_of;
 use crate::problem::Problem;
 use crate::run::asked::Over;
 use crate::run::outcome::Outcome;
+use crate::run::results::Results;
 use crate::run::Ready;
 
 /// A run by the library of a file; by the one that the program was built with where none is named.
@@ -20,7 +21,7 @@ pub fn side(library: Option<&Path>, over: &Over) -> Result<Side, Problem> {
         Some(path) => by_file(path, over),
         None => {
             let way = Way { on_refusal: over.on_refusal, after: None, until: None };
-            let outcome = Outcome::of(Ready::of(over)?, way)?;
+            let outcome = Outcome::of(Ready::of(over)?, way, false)?;
             Ok(Side {
                 name: "this program's own library".to_owned(),
                 of: format!("{} over {}", outcome.file, outcome.bars_file),
@@ -40,6 +41,7 @@ fn by_file(path: &Path, over: &Over) -> Result<Side, Problem> {
     let ready = Ready::of(over)?;
     let refused = |refusal| Problem::refused(&name, refusal);
     let mut run = Run::new(&library, &ready.source.table, &ready.settings).map_err(refused)?;
+    let mut results = Results::default();
     ready.bars.each(|part| {
         let (mut at, end) = (0, part.bars.len());
         while at < end {
@@ -54,11 +56,16 @@ fn by_file(path: &Path, over: &Over) -> Result<Side, Problem> {
                 None => {}
             }
         }
+        let (points, trades) = run.settled();
+        results.results(points, trades)?;
+        run.forget_settled();
         Ok(true)
     })?;
     run.finish().map_err(refused)?;
+    let (points, trades) = run.results();
+    results.results(points, trades)?;
     let of = format!("{} over {}", ready.source.file, ready.bars.name);
-    Ok(Side { name, of, equity: run.equity(), trades: run.trades() })
+    Ok(Side { name, of, equity: results.points, trades: results.trades })
 }
 
 /// Whether a refusal is for the bar, which can be left out.

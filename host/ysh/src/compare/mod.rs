@@ -11,7 +11,8 @@ pub mod text;
 use std::collections::BTreeMap;
 
 pub use side::Side;
-use yshturpa::{compare, Difference, Two};
+use spill::swept;
+use yshturpa::{compare_words, Difference, Two};
 
 use crate::problem::Problem;
 
@@ -35,8 +36,11 @@ impl Compared {
     /// What differs is the library's to say.
     pub fn of(sides: [Side; 2]) -> Result<Compared, Problem> {
         let [a, b] = &sides;
-        let lines = compare((&a.equity, &a.trades), (&b.equity, &b.trades))
-            .map_err(|refusal| Problem::refused(&a.name, refusal))?;
+        let [[a_points, a_trades], [b_points, b_trades]] = [a, b].map(|side| [&side.equity.words, &side.trades.words]);
+        let lines = swept(&[a_points, a_trades, b_points, b_trades], || {
+            compare_words((a_points.words(), a_trades.words()), (b_points.words(), b_trades.words()))
+        });
+        let lines = lines.map_err(|refusal| Problem::refused(&a.name, refusal))?;
         let (mut equity, mut more_trades, mut more_points) = (None, None, None);
         let mut trades: BTreeMap<usize, Vec<(usize, Two)>> = BTreeMap::new();
         for line in lines {

@@ -1,6 +1,6 @@
 //! What differs, as text.
 
-use yshturpa::{Point, Two};
+use yshturpa::Two;
 
 use super::{Compared, Side, WORDS};
 use crate::columns::{columns, counted, grouped, Side as Place};
@@ -33,17 +33,18 @@ pub fn verdict(compared: &Compared) -> String {
 
 /// How times are told: by those of both runs.
 pub fn clock(sides: &[Side; 2]) -> Clock {
-    let times = || sides.iter().flat_map(|side| side.equity.iter().map(|point: &Point| point.time));
-    match (times().min(), times().max()) {
-        (Some(first), Some(last)) => Clock::of(first, last),
-        _ => Clock::Number,
-    }
+    let times = sides.iter().flat_map(|side| side.equity.iter().map(|point| point.time));
+    let ends = times.fold(None, |ends, time| match ends {
+        None => Some((time, time)),
+        Some((first, last)) => Some((time.min(first), time.max(last))),
+    });
+    ends.map_or(Clock::Number, |(first, last)| Clock::of(first, last))
 }
 
 /// The first bar whose equity differs.
 pub fn equity(compared: &Compared) -> Option<String> {
     let (bar, words) = compared.equity?;
-    let time = clock(&compared.sides).text(compared.sides[0].equity[bar].time);
+    let time = clock(&compared.sides).text(compared.sides[0].equity.get(bar)?.time);
     let [a, b] = two(words, float);
     Some(format!("first differs at bar {}, {time}: {a} and {b}", grouped(bar as u64)))
 }

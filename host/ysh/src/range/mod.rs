@@ -6,4 +6,4 @@ mod series;
 pub mod told;
 
 pub use questions::questions;
-pub use series::{Found, Series};
+pub use series::Series;

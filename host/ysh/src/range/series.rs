@@ -2,11 +2,13 @@
 
 use std::path::Path;
 
+use spill::swept;
 use yshturpa::layout::BLOCK_BARS;
 use yshturpa::{Closes, Error, Stretch};
 
 use super::questions::Question;
 use crate::bars::{BarsFile, Form, Input};
+use crate::lists::{no_room, Lent, List};
 use crate::problem::Problem;
 use crate::progress::Late;
 use crate::show::Clock;
@@ -14,8 +16,10 @@ use crate::why::place::{Place, Times};
 
 pub struct Series {
     pub name: String,
-    closes: Closes,
-    times: Vec<i64>,
+    closes: Closes<Lent>,
+    times: List<i64>,
+    /// The least and the greatest of them.
+    between: (i64, i64),
     /// Whether no time is before the one of the bar before.
     rising: bool,
 }
@@ -33,24 +37,34 @@ pub struct Found {
 impl Series {
     pub fn read(path: &Path, form: &Form) -> Result<Series, Problem> {
         let bars = BarsFile::open(Input::of(path), form, &[])?;
-        let (mut closes, mut times) = (Closes::new(), Vec::new());
+        let (mut closes, mut times) = (Closes::within(Lent::default(), Lent::default()), List::<i64>::default());
+        let (mut between, mut rising, mut words) = ((i64::MAX, i64::MIN), true, Vec::new());
         let shown = Late::bytes(bars.length());
         let read = bars.each(|part| {
+            let held = closes.len() as usize;
+            closes.make_room(part.bars.len()).map_err(no_room)?;
             for place in 0..part.bars.len() {
                 closes.append(part.bars.close(place)).map_err(|error| {
                     let wrong = bars.columns.not_finite(&part.bars.bar(place));
                     let problem = wrong.map(|wrong| bars.problem(part.lines[place], wrong));
                     refused(problem.unwrap_or_else(|| Problem::input(&bars.name, "", "")), error)
                 })?;
-                times.push(part.bars.time(place));
             }
+            words.clear();
+            for time in (0..part.bars.len()).map(|place| part.bars.time(place)) {
+                // A time is not below the greatest before it just where it is not below the last, as long as they rise.
+                rising &= time >= between.1;
+                between = (time.min(between.0), time.max(between.1));
+                words.push(time as u64);
+            }
+            times.add(&words)?;
+            closes.rooms()[0].0.release(held, closes.len() as usize);
             shown.reached(part.reached);
             Ok(true)
         });
         shown.ended();
         read?;
-        let rising = times.windows(2).all(|two| two[0] <= two[1]);
-        Ok(Series { name: bars.name, closes, times, rising })
+        Ok(Series { name: bars.name, closes, times, between, rising })
     }
 
     pub fn len(&self) -> u64 {
@@ -58,18 +72,24 @@ impl Series {
     }
 
     pub fn time(&self, bar: u64) -> i64 {
-        self.times[bar as usize]
+        self.times.get(bar as usize).unwrap_or_default()
     }
 
     pub fn clock(&self) -> Clock {
         match (self.times.first(), self.times.last()) {
-            (Some(first), Some(last)) => Clock::of(*first, *last),
+            (Some(first), Some(last)) => Clock::of(first, last),
             _ => Clock::Number,
         }
     }
 
+    /// Questions one after another; closes and blocks that they passed are given back meanwhile.
+    pub fn answers(&self, questions: &[Question]) -> Result<Vec<Found>, Problem> {
+        let lists = self.closes.rooms().map(|room| &room.0);
+        swept(&lists, || questions.iter().map(|question| self.ask(*question)).collect())
+    }
+
     /// The high and the low of a stretch are the library's to say, and so is that there is none.
-    pub fn ask(&self, question: Question) -> Result<Found, Problem> {
+    fn ask(&self, question: Question) -> Result<Found, Problem> {
         let first = question.from.map_or(Ok(0), |place| self.first(place))?;
         let last = question.to.map_or(Ok(self.len().wrapping_sub(1)), |place| self.last(place))?;
         let stretch =
@@ -81,8 +101,8 @@ impl Series {
     /// The bar that a stretch begins with: of a time the first bar that is not before it.
     fn first(&self, place: Place) -> Result<u64, Problem> {
         Ok(self.bar(place)?.unwrap_or_else(|time| match self.rising {
-            true => self.times.partition_point(|there| *there < time) as u64,
-            false => self.times.iter().position(|there| *there >= time).unwrap_or(self.times.len()) as u64,
+            true => self.times.words.words().partition_point(|there| (*there as i64) < time) as u64,
+            false => self.times.iter().position(|there| there >= time).unwrap_or(self.times.len()) as u64,
         }))
     }
 
@@ -90,16 +110,19 @@ impl Series {
     fn last(&self, place: Place) -> Result<u64, Problem> {
         let before = |end: usize| (end as u64).wrapping_sub(1);
         Ok(self.bar(place)?.unwrap_or_else(|time| match self.rising {
-            true => before(self.times.partition_point(|there| *there <= time)),
-            false => before(self.times.iter().rposition(|there| *there <= time).map_or(0, |at| at + 1)),
+            true => before(self.times.words.words().partition_point(|there| *there as i64 <= time)),
+            false => {
+                let found = self.times.iter().enumerate().filter(|(_, there)| *there <= time).last();
+                before(found.map_or(0, |(at, _)| at + 1))
+            }
         }))
     }
 
     /// A bar's number, or else a time as the file counts it.
     fn bar(&self, place: Place) -> Result<Result<u64, i64>, Problem> {
-        let times = || {
-            let (first, last) = (self.times.iter().min(), self.times.iter().max());
-            Times::between(*first.unwrap_or(&0), *last.unwrap_or(&0))
+        let times = || match self.between {
+            (first, last) if first <= last => Times::between(first, last),
+            _ => Times::between(0, 0),
         };
         let wrong = |problem| Problem { place: String::new(), ..problem };
         Ok(match place {

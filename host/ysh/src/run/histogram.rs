@@ -3,6 +3,7 @@
 use yshturpa::Trade;
 
 use crate::columns::counted;
+use crate::lists::List;
 use crate::show::rounded;
 use crate::svg::{Anchor, Svg};
 
@@ -11,25 +12,25 @@ const HEIGHT: f64 = 170.0;
 const BINS: f64 = 24.0;
 
 /// A round width of the bins, and how many returns are in each, by its number: 0 is the one from 0 up.
-fn bins(returns: &[f64]) -> Option<(f64, i64, Vec<usize>)> {
-    let (low, high) = returns.iter().fold((f64::INFINITY, f64::NEG_INFINITY), |(l, h), x| (l.min(*x), h.max(*x)));
+fn bins<I: Iterator<Item = f64>>(returns: impl Fn() -> I) -> Option<(f64, i64, Vec<usize>)> {
+    let (low, high) = returns().fold((f64::INFINITY, f64::NEG_INFINITY), |(l, h), x| (l.min(x), h.max(x)));
     let rough = ((high - low) / BINS).max(1e-9);
     let scale = 10f64.powf(rough.log10().floor());
     let step = [1.0, 2.0, 5.0, 10.0].into_iter().map(|m| m * scale).find(|step| *step >= rough)?;
     let place = |x: f64| (x / step).floor() as i64;
     let (first, last) = (place(low), place(high));
     let mut counts = vec![0; usize::try_from(last.checked_sub(first)?).ok().filter(|n| *n < 200)? + 1];
-    returns.iter().for_each(|x| counts[(place(*x) - first) as usize] += 1);
+    returns().for_each(|x| counts[(place(x) - first) as usize] += 1);
     Some((step, first, counts))
 }
 
 /// The drawing; none where there are fewer than two trades with a finite return.
-pub fn histogram(trades: &[Trade]) -> Option<String> {
-    let returns: Vec<f64> = trades.iter().map(|trade| trade.return_pct).filter(|x| x.is_finite()).collect();
-    if returns.len() < 2 {
+pub fn histogram(trades: &List<Trade>) -> Option<String> {
+    let returns = || trades.iter().map(|trade| trade.return_pct).filter(|x| x.is_finite());
+    if returns().count() < 2 {
         return None;
     }
-    let (step, first, counts) = bins(&returns)?;
+    let (step, first, counts) = bins(returns)?;
     let most = *counts.iter().max()?;
     let mut svg = Svg::new(WIDTH, HEIGHT + 30.0, "How often the trades had which return");
     let (left, right, top) = (40.0, WIDTH - 40.0, 16.0);
@@ -69,6 +70,7 @@ mod tests {
     #[test]
     fn every_return_is_in_a_bin_and_0_is_an_edge() {
         let returns = [-3.0, -0.1, 0.0, 0.2, 7.9];
+        let bins = |returns: &[f64]| bins(|| returns.iter().copied());
         let (step, first, counts) = bins(&returns).unwrap();
         assert_eq!((step, first, counts.iter().sum::<usize>()), (0.5, -6, 5));
         assert_eq!(counts[(-first) as usize], 2);

@@ -1,11 +1,13 @@
 //! A run for programs: everything, in exact numbers.
 
 use std::collections::BTreeMap;
+use std::io::{self, Write};
 
 use serde::{Deserialize, Deserializer, Serialize, Serializer};
 use yshturpa::{Point, Trade};
 
 use super::outcome::{reason_name, Outcome};
+use crate::lists::List;
 use crate::problem::Problem;
 use crate::table::number;
 
@@ -42,8 +44,9 @@ impl<'de> Deserialize<'de> for Exact {
     }
 }
 
+/// A run, to be written one record after another.
 #[derive(Serialize)]
-struct Document<'a> {
+pub struct Document<'a> {
     file: &'a str,
     bars_file: &'a str,
     capital: Exact,
@@ -51,8 +54,10 @@ struct Document<'a> {
     metrics: MetricsJson,
     last_equity: Exact,
     fees_paid: Exact,
-    trades: Vec<TradeJson>,
-    equity: Vec<(i64, Exact)>,
+    #[serde(serialize_with = "trades")]
+    trades: &'a List<Trade>,
+    #[serde(serialize_with = "points")]
+    equity: &'a List<Point>,
     refused_bars: u64,
     /// The first of them.
     refused: Vec<RefusedJson>,
@@ -90,9 +95,14 @@ struct RefusedJson {
     refused: Option<[u32; 2]>,
 }
 
-pub fn json(outcome: &Outcome) -> String {
+pub fn json(outcome: &Outcome, out: &mut dyn Write) -> io::Result<()> {
+    serde_json::to_writer(&mut *out, &document(outcome))?;
+    out.write_all(b"\n")
+}
+
+pub fn document(outcome: &Outcome) -> Document<'_> {
     let floats = outcome.nine().into_iter().filter(|(name, ..)| *name != "num_trades");
-    let document = Document {
+    Document {
         file: &outcome.file,
         bars_file: &outcome.bars_file,
         capital: Exact(outcome.capital),
@@ -103,19 +113,26 @@ pub fn json(outcome: &Outcome) -> String {
         },
         last_equity: Exact(outcome.last_equity()),
         fees_paid: Exact(outcome.fees),
-        trades: outcome.trades.iter().map(trade).collect(),
-        equity: outcome.equity.iter().map(|point: &Point| (point.time, Exact(point.equity))).collect(),
+        trades: &outcome.trades,
+        equity: &outcome.equity,
         refused_bars: outcome.refusals.count,
         refused: outcome.refusals.told.iter().map(refused).collect(),
         columns_not_read: &outcome.unread,
         doubts: &outcome.doubts,
         bars_doubts: &outcome.odd,
         notes: &outcome.notes,
-    };
-    serde_json::to_string(&document).expect("an answer is JSON") + "\n"
+    }
 }
 
-fn trade(trade: &Trade) -> TradeJson {
+fn trades<S: Serializer>(trades: &List<Trade>, serializer: S) -> Result<S::Ok, S::Error> {
+    serializer.collect_seq(trades.iter().map(trade))
+}
+
+fn points<S: Serializer>(points: &List<Point>, serializer: S) -> Result<S::Ok, S::Error> {
+    serializer.collect_seq(points.iter().map(|point| (point.time, Exact(point.equity))))
+}
+
+fn trade(trade: Trade) -> TradeJson {
     TradeJson {
         entry_time: trade.entry_time,
         exit_time: trade.exit_time,

@@ -9,6 +9,7 @@ pub mod json;
 pub mod outcome;
 pub mod page;
 mod ready;
+pub mod results;
 mod study;
 pub mod text;
 pub mod used;

@@ -1,10 +1,14 @@
 //! What came of a run.
 
+use std::sync::Arc;
+
 use yshturpa::{Metrics, Point, Reason, Trade};
 
+use super::results::{Results, Tally};
 use super::used::used;
 use super::Ready;
 use crate::bars::{over, Refusals, Way};
+use crate::lists::List;
 use crate::problem::Problem;
 use crate::show::shown;
 
@@ -18,10 +22,11 @@ pub struct Outcome {
     /// The rules, sizing and costs that it used, in words.
     pub used: Vec<(&'static str, String)>,
     pub metrics: Metrics,
-    pub trades: Vec<Trade>,
-    pub equity: Vec<Point>,
-    /// The close of each bar that was done.
-    pub closes: Vec<f64>,
+    pub trades: List<Trade>,
+    pub tally: Tally,
+    pub equity: List<Point>,
+    /// The close of each bar that was done, and perhaps of some after; none where no page is drawn.
+    pub closes: Arc<List<f64>>,
     pub fees: f64,
     pub refusals: Refusals,
     pub unread: Vec<String>,
@@ -54,14 +59,13 @@ pub fn reason_words(reason: Reason) -> String {
 }
 
 impl Outcome {
-    pub fn of(ready: Ready, way: Way) -> Result<Outcome, Problem> {
+    /// A run to the end; with the closes where a page is to be drawn.
+    pub fn of(ready: Ready, way: Way, closes: bool) -> Result<Outcome, Problem> {
         let notes = ready.notes();
         let Ready { source, settings, bars, mut engine, strict } = ready;
-        let mut closes = Vec::new();
-        let walked = over(&bars, &mut engine, way, |list, places| {
-            closes.extend(places.map(|place| list.close(place)));
-        })?;
-        let metrics = engine.finish().map_err(|refusal| source.refused(refusal))?;
+        let mut results = Results::new(closes);
+        let walked = over(&bars, &mut engine, way, &mut results)?;
+        let metrics = results.finished(&mut engine, settings.capital, |refusal| source.refused(refusal))?;
         let title = source.strategy.as_ref().map(|s| format!("{} {}", s.symbol, s.timeframe)).unwrap_or_default();
         Ok(Outcome {
             used: used(&source, &settings),
@@ -70,9 +74,10 @@ impl Outcome {
             title: shown(title.trim()),
             capital: settings.capital,
             metrics,
-            trades: engine.trades().collect(),
-            equity: engine.equity().collect(),
-            closes,
+            tally: Tally::of(&results.trades),
+            trades: results.trades,
+            equity: results.points,
+            closes: Arc::new(results.closes.unwrap_or_default()),
             fees: engine.state().fees_paid(),
             refusals: walked.refusals,
             unread: bars.columns.unread().into_iter().map(shown).collect(),
@@ -80,24 +85,6 @@ impl Outcome {
             doubts: source.doubts,
             notes,
         })
-    }
-
-    /// How many trades were left for a reason.
-    pub fn left_for(&self, reason: Reason) -> usize {
-        self.trades.iter().filter(|trade| trade.reason == reason).count()
-    }
-
-    pub fn won(&self) -> usize {
-        self.trades.iter().filter(|trade| trade.pnl > 0.0).count()
-    }
-
-    pub fn lost(&self) -> usize {
-        self.trades.iter().filter(|trade| trade.pnl < 0.0).count()
-    }
-
-    /// What the trades paid in funding.
-    pub fn funding(&self) -> f64 {
-        self.trades.iter().fold(0.0, |sum, trade| sum + trade.funding)
     }
 
     /// The equity after the last bar, the closing fee counted; the capital where there was none.

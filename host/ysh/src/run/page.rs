@@ -66,7 +66,7 @@ fn told(outcome: &Outcome) -> String {
         ("bars", text::bars(outcome)),
         ("capital", rounded(outcome.capital)),
         ("trades", text::trades(outcome)),
-        ("fees", format!("{}; funding {}", rounded(outcome.fees), rounded(outcome.funding()))),
+        ("fees", format!("{}; funding {}", rounded(outcome.fees), rounded(outcome.tally.funding))),
     ];
     let line = |(what, said): &(&str, String)| format!("<p><b>{what}</b> {}</p>\n", escape(said));
     format!("<div class=\"asked\">{}</div>", lines.iter().map(line).collect::<String>())
@@ -188,14 +188,17 @@ fn returns(outcome: &Outcome) -> String {
 }
 
 /// The decisions to enter and to leave of each trade that has a row, by its number.
-fn of_trades<'a>(outcome: &Outcome, decisions: &'a [Decision]) -> Vec<[Option<&'a Decision>; 2]> {
-    let mut since = 0;
-    let one = |[entry, exit]: [usize; 2]| {
-        let found = [of_entry(decisions, since, entry), of_exit(decisions, entry, exit)];
-        since = exit;
-        found
+fn of_trades<'a>(
+    outcome: &'a Outcome,
+    decisions: &'a [Decision],
+) -> impl Iterator<Item = (usize, [Option<&'a Decision>; 2])> + 'a {
+    let (mut since, count) = (0, outcome.trades.len());
+    let one = move |(number, [entry, exit]): (usize, [usize; 2])| {
+        let before = std::mem::replace(&mut since, exit);
+        let found = || [of_entry(decisions, before, entry), of_exit(decisions, entry, exit)];
+        has_row(number, count).then(|| (number, found()))
     };
-    places(outcome).into_iter().map(one).collect()
+    places(outcome).enumerate().filter_map(one)
 }
 
 fn has_row(number: usize, count: usize) -> bool {
@@ -205,11 +208,8 @@ fn has_row(number: usize, count: usize) -> bool {
 /// Why each trade was entered and left: the chains that the table's times lead to.
 fn decided(outcome: &Outcome, decisions: &[Decision]) -> String {
     let clock = clock(outcome);
-    let count = outcome.trades.len();
     let mut all = String::new();
-    for (number, found) in
-        of_trades(outcome, decisions).into_iter().enumerate().filter(|(number, _)| has_row(*number, count))
-    {
+    for (number, found) in of_trades(outcome, decisions) {
         for ((decision, letter), what) in found.into_iter().zip(["e", "x"]).zip(["entered", "left"]) {
             let Some(decision) = decision else { continue };
             let line = |(level, text): &(usize, String)| {
@@ -256,12 +256,13 @@ fn trades(outcome: &Outcome, decisions: &[Decision]) -> String {
     let head: String = heads.iter().map(|head| format!("<th>{head}</th>")).collect();
     let count = outcome.trades.len();
     let mut rows = String::new();
-    for (number, (trade, why)) in outcome.trades.iter().zip(of_trades(outcome, decisions)).enumerate() {
-        if has_row(number, count) {
-            rows.push_str(&row(number, trade, clock, why.map(|decision| decision.is_some())));
-        } else if number == ROWS / 2 {
+    for (number, why) in of_trades(outcome, decisions) {
+        if count > ROWS && number == count - ROWS / 2 {
             let between = count - ROWS;
             rows.push_str(&format!("<tr><td colspan=\"13\">{between} trades between are in no row here</td></tr>\n"));
+        }
+        if let Some(trade) = outcome.trades.get(number) {
+            rows.push_str(&row(number, &trade, clock, why.map(|decision| decision.is_some())));
         }
     }
     let lead = "A time leads to why the trade was entered or left then. Worst price: the least favourable from the entry bar to the closing bar, and how far against the entry that is. \

@@ -1,5 +1,6 @@
 //! What else a run tells, worked out here from its trades, equity and closes: no part of the nine metrics, which are the library's.
 
+use chrono::Datelike;
 use yshturpa::Trade;
 
 use super::charts::{clock, places};
@@ -53,9 +54,10 @@ pub struct Month {
 
 impl Study {
     pub fn of(outcome: &Outcome) -> Study {
-        let side = |name, which: fn(&Trade) -> bool| Side::of(name, outcome.trades.iter().filter(|trade| which(trade)));
+        let side = |name, which: fn(&Trade) -> bool| Side::of(name, outcome.trades.iter().filter(which));
+        let closes = &outcome.closes;
         Study {
-            hold: hold(&outcome.closes),
+            hold: hold(closes.first(), outcome.equity.len().checked_sub(1).and_then(|last| closes.get(last))),
             exposure: exposure(outcome),
             drawdown: drawdown(outcome),
             sides: [
@@ -69,38 +71,30 @@ impl Study {
 }
 
 impl Side {
-    fn of<'a>(name: &'static str, trades: impl Iterator<Item = &'a Trade>) -> Side {
-        let pnls: Vec<f64> = trades.map(|trade| trade.pnl).collect();
-        let mean = |which: fn(&f64) -> bool| {
-            let some: Vec<f64> = pnls.iter().copied().filter(which).collect();
-            (!some.is_empty()).then(|| some.iter().sum::<f64>() / some.len() as f64)
-        };
-        Side {
-            name,
-            trades: pnls.len(),
-            won: pnls.iter().filter(|pnl| **pnl > 0.0).count(),
-            lost: pnls.iter().filter(|pnl| **pnl < 0.0).count(),
-            pnl: pnls.iter().sum(),
-            average_win: mean(|pnl| *pnl > 0.0),
-            average_loss: mean(|pnl| *pnl < 0.0),
-            best: pnls.iter().copied().reduce(f64::max),
-            worst: pnls.iter().copied().reduce(f64::min),
-            streaks: [streak(&pnls, |pnl| pnl > 0.0), streak(&pnls, |pnl| pnl < 0.0)],
+    fn of(name: &'static str, trades: impl Iterator<Item = Trade>) -> Side {
+        let mut side = Side { name, ..Side::default() };
+        let (mut sums, mut runs) = ([0.0; 2], [0; 2]);
+        for pnl in trades.map(|trade| trade.pnl) {
+            side.trades += 1;
+            side.pnl += pnl;
+            side.best = Some(side.best.map_or(pnl, |best| best.max(pnl)));
+            side.worst = Some(side.worst.map_or(pnl, |worst| worst.min(pnl)));
+            for (at, counts) in [pnl > 0.0, pnl < 0.0].into_iter().enumerate() {
+                runs[at] = if counts { runs[at] + 1 } else { 0 };
+                side.streaks[at] = side.streaks[at].max(runs[at]);
+                sums[at] += if counts { pnl } else { 0.0 };
+            }
+            side.won += usize::from(pnl > 0.0);
+            side.lost += usize::from(pnl < 0.0);
         }
+        let mean = |sum: f64, count: usize| (count > 0).then(|| sum / count as f64);
+        [side.average_win, side.average_loss] = [mean(sums[0], side.won), mean(sums[1], side.lost)];
+        side
     }
 }
 
-fn streak(pnls: &[f64], counts: fn(f64) -> bool) -> usize {
-    let mut run = 0;
-    let runs = pnls.iter().map(|&pnl| {
-        run = if counts(pnl) { run + 1 } else { 0 };
-        run
-    });
-    runs.max().unwrap_or(0)
-}
-
-fn hold(closes: &[f64]) -> Option<f64> {
-    let (first, last) = (closes.first()?, closes.last()?);
+fn hold(first: Option<f64>, last: Option<f64>) -> Option<f64> {
+    let (first, last) = (first?, last?);
     Some((last - first) / first * 100.0).filter(|change| change.is_finite())
 }
 
@@ -126,31 +120,33 @@ fn drawdown(outcome: &Outcome) -> Option<Drawdown> {
             began = None;
             continue;
         }
-        let first = *began.get_or_insert(bar);
+        let (from, first) = *began.get_or_insert((bar, point.time));
         let open = bar + 1 == outcome.equity.len();
-        if longest.map_or(true, |longest| bar + 1 - first > longest.bars) {
-            longest =
-                Some(Drawdown { bars: bar + 1 - first, first: outcome.equity[first].time, last: point.time, open });
+        if longest.map_or(true, |longest| bar + 1 - from > longest.bars) {
+            longest = Some(Drawdown { bars: bar + 1 - from, first, last: point.time, open });
         }
     }
     longest
 }
 
+/// The most months that are told: those of 1990 to 2100. Where there are more, times fall.
+const MONTHS: usize = 110 * 12;
+
 fn months(outcome: &Outcome) -> Vec<Month> {
     let clock = clock(outcome);
     let mut months: Vec<Month> = Vec::new();
-    let mut before = outcome.capital;
-    for point in &outcome.equity {
+    let (mut before, mut now) = (outcome.capital, None);
+    for point in outcome.equity.iter() {
         let Some(date) = clock.date(point.time) else { return Vec::new() };
-        let name = date.format("%Y-%m").to_string();
-        match months.last_mut() {
-            Some(month) if month.name == name => month.equity = point.equity,
-            _ => {
-                before = months.last().map_or(before, |month| month.equity);
-                months.push(Month { name, equity: point.equity, change: 0.0 });
+        if now.replace((date.year(), date.month())) != Some((date.year(), date.month())) {
+            if months.len() == MONTHS {
+                return Vec::new();
             }
+            before = months.last().map_or(before, |month| month.equity);
+            months.push(Month { name: date.format("%Y-%m").to_string(), equity: 0.0, change: 0.0 });
         }
         if let Some(month) = months.last_mut() {
+            month.equity = point.equity;
             month.change = (month.equity - before) / before * 100.0;
         }
     }
@@ -167,16 +163,16 @@ mod tests {
     #[test]
     fn streaks_and_averages() {
         let trade = |pnl: f64| Trade { pnl, ..crate::run::outcome::tests::trade() };
-        let trades: Vec<Trade> = [1.0, 3.0, -2.0, 0.0, -1.0, -3.0, 4.0].into_iter().map(trade).collect();
-        let side = Side::of("all", trades.iter());
+        let side = Side::of("all", [1.0, 3.0, -2.0, 0.0, -1.0, -3.0, 4.0].into_iter().map(trade));
         assert_eq!((side.trades, side.won, side.lost, side.pnl), (7, 3, 3, 2.0));
         assert_eq!((side.average_win, side.average_loss), (Some(8.0 / 3.0), Some(-2.0)));
         assert_eq!((side.best, side.worst, side.streaks), (Some(4.0), Some(-3.0), [2, 2]));
-        assert_eq!(Side::of("none", [].iter()).average_win, None);
+        assert_eq!(Side::of("none", [].into_iter()).average_win, None);
     }
 
     #[test]
     fn holding_is_of_the_first_close() {
-        assert_eq!((hold(&[50.0, 70.0, 60.0]), hold(&[]), hold(&[0.0, 1.0])), (Some(20.0), None, None));
+        let of = |first, last| hold(Some(first), Some(last));
+        assert_eq!((of(50.0, 60.0), hold(None, None), of(0.0, 1.0)), (Some(20.0), None, None));
     }
 }

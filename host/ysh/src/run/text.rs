@@ -10,7 +10,7 @@ pub fn text(outcome: &Outcome) -> String {
         format!("bars     {}", bars(outcome)),
         format!("capital  {}", rounded(outcome.capital)),
         format!("trades   {}", trades(outcome)),
-        format!("fees     {}; funding {}", rounded(outcome.fees), rounded(outcome.funding())),
+        format!("fees     {}; funding {}", rounded(outcome.fees), rounded(outcome.tally.funding)),
         format!("equity   {} at the end", rounded(outcome.last_equity())),
     ];
     if !outcome.unread.is_empty() {
@@ -44,10 +44,10 @@ pub fn trades(outcome: &Outcome) -> String {
     if outcome.trades.is_empty() {
         return "none".to_owned();
     }
-    let reasons = REASONS.into_iter().filter(|reason| outcome.left_for(*reason) > 0);
+    let tally = &outcome.tally;
+    let reasons = REASONS.into_iter().filter(|reason| tally.left_for(*reason) > 0);
     let left: Vec<String> =
-        reasons.map(|r| format!("{} {}", reason_words(r), grouped(outcome.left_for(r) as u64))).collect();
-    let (won, lost) = (outcome.won(), outcome.lost());
-    let [all, won, lost] = [outcome.trades.len(), won, lost].map(|n| grouped(n as u64));
+        reasons.map(|r| format!("{} {}", reason_words(r), grouped(tally.left_for(r) as u64))).collect();
+    let [all, won, lost] = [outcome.trades.len(), tally.won, tally.lost].map(|n| grouped(n as u64));
     format!("{all}: {won} won, {lost} lost; left by {}", left.join(", "))
 }

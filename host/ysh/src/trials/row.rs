@@ -62,7 +62,7 @@ const POINTS: usize = 60;
 impl Figures {
     /// Refused where a trade has no finite pnl, which no exact total has a place for.
     pub fn of(outcome: &Outcome) -> Result<Figures, Problem> {
-        let sum = Sum::of_trades(&outcome.trades).map_err(|refusal| Problem::refused(&outcome.file, refusal))?;
+        let sum = Sum::of_trades(&outcome.trades.words).map_err(|refusal| Problem::refused(&outcome.file, refusal))?;
         let metrics = &outcome.metrics;
         let rules = outcome.doubts.iter().map(|doubt| format!("{}: {doubt}", outcome.file));
         let bars = outcome.odd.iter().map(|doubt| format!("{}: {doubt}", outcome.bars_file));
@@ -73,10 +73,10 @@ impl Figures {
             return_pct: Exact(metrics.return_pct),
             sharpe: Exact(metrics.sharpe),
             max_drawdown: Exact(metrics.max_drawdown),
-            worst_pct: Exact(outcome.trades.iter().map(against).fold(0.0, f64::max)),
+            worst_pct: Exact(outcome.trades.iter().map(|trade| against(&trade)).fold(0.0, f64::max)),
             refused_bars: outcome.refusals.count,
             totals: sum,
-            curve: curve(&outcome.equity),
+            curve: curve(outcome.equity.len(), |place| outcome.equity.get(place)),
             doubts: rules.chain(bars).map(|doubt| shown(&doubt)).collect(),
         })
     }
@@ -92,10 +92,10 @@ fn against(trade: &Trade) -> f64 {
     }
 }
 
-fn curve(equity: &[Point]) -> Vec<Exact> {
-    let count = equity.len().min(POINTS);
-    let place = |n: usize| if count < 2 { 0 } else { n * (equity.len() - 1) / (count - 1) };
-    (0..count).map(|n| Exact(equity[place(n)].equity)).collect()
+fn curve(bars: usize, point: impl Fn(usize) -> Option<Point>) -> Vec<Exact> {
+    let count = bars.min(POINTS);
+    let place = |n: usize| if count < 2 { 0 } else { n * (bars - 1) / (count - 1) };
+    (0..count).filter_map(|n| point(place(n))).map(|point| Exact(point.equity)).collect()
 }
 
 impl From<Problem> for Refused {
@@ -134,8 +134,8 @@ mod tests {
 
     #[test]
     fn a_curve_begins_and_ends_with_the_run() {
-        let equity: Vec<Point> = (0..1441).map(|n| Point { time: n, equity: n as f64 }).collect();
-        let drawn = |n: usize| curve(&equity[..n]).into_iter().map(|Exact(x)| x).collect::<Vec<_>>();
+        let point = |n: usize| Some(Point { time: n as i64, equity: n as f64 });
+        let drawn = |n: usize| curve(n, point).into_iter().map(|Exact(x)| x).collect::<Vec<_>>();
         let long = drawn(1441);
         assert_eq!((long.len(), long[0], long[POINTS - 1]), (POINTS, 0.0, 1440.0));
         assert_eq!((drawn(0), drawn(1), drawn(3)), (vec![], vec![0.0], vec![0.0, 1.0, 2.0]));

@@ -1,8 +1,9 @@
 //! Exact totals as they are written: counts by reason, wins and losses, and the sum of all pnl to the last digit.
 
 use serde::{Deserialize, Serialize};
+use spill::{swept, Words};
 use yshturpa::layout::TOTAL_WORDS;
-use yshturpa::{Reason, Refusal, Totals, Trade};
+use yshturpa::{Reason, Refusal, Totals};
 
 use super::exact;
 use crate::run::outcome::REASONS;
@@ -60,10 +61,10 @@ impl Sum {
         }
     }
 
-    /// Of the trades of a run; refused where one has no finite pnl.
-    pub fn of_trades(trades: &[Trade]) -> Result<Sum, Refusal> {
+    /// Of the trades of a run, in their words; refused where one has no finite pnl.
+    pub fn of_trades(trades: &Words) -> Result<Sum, Refusal> {
         let mut totals = Totals::default();
-        totals.add(trades)?;
+        swept(&[trades], || totals.add_words(trades.words()))?;
         Ok(Sum::of(&totals))
     }
 

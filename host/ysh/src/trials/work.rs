@@ -57,7 +57,7 @@ impl Work {
     fn figures(&self, strategy: &str, bars: &str) -> Result<Figures, Problem> {
         let over = self.how.over(self.strategies[strategy].clone(), self.bars[bars].clone());
         let way = Way { on_refusal: over.on_refusal, after: None, until: None };
-        Figures::of(&Outcome::of(Ready::of(&over)?, way)?)
+        Figures::of(&Outcome::of(Ready::of(&over)?, way, false)?)
     }
 }
 

@@ -3,7 +3,7 @@
 use yshturpa::{rule, Bar, Engine, Order, OrderLevel, Position, Rows, State, Tree};
 
 use super::words::Telling;
-use crate::bars::{over, At, BarsFile, OnRefusal, Way};
+use crate::bars::{over, At, BarsFile, Nothing, OnRefusal, Way};
 use crate::columns::counted;
 use crate::problem::Problem;
 use crate::run::Ready;
@@ -36,7 +36,7 @@ impl Moment {
         let Ready { source, settings, bars, engine, .. } = ready;
         let mut engine = engine.clone();
         let way = Way { on_refusal, after: None, until: Some(at) };
-        let walked = over(bars, &mut engine, way, |_, _| ())?;
+        let walked = over(bars, &mut engine, way, &mut Nothing)?;
         let Some(bar) = walked.before else {
             return Err(not_there(bars, at, engine.state().bars_seen()));
         };

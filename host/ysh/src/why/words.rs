@@ -32,19 +32,24 @@ impl Telling<'_> {
 
     /// A line of the chain, without its node's number.
     pub fn line(&self, line: &WhyLine) -> String {
+        self.line_with(line, &mut rounded)
+    }
+
+    /// The same with its values told otherwise.
+    pub fn line_with(&self, line: &WhyLine, told: &mut dyn FnMut(f64) -> String) -> String {
         let node = line.node;
         let said = yes(line.answer);
         let rule = match line.by {
             By::Below => self.words().label(node),
             _ => self.words().whole(node),
         };
-        format!("{rule}: {said}, {}", self.because(line))
+        format!("{rule}: {said}, {}", self.because(line, told))
     }
 
-    fn because(&self, line: &WhyLine) -> String {
+    fn because(&self, line: &WhyLine, told: &mut dyn FnMut(f64) -> String) -> String {
         match line.by {
             By::Below => self.below(line),
-            By::Values(values, count) => self.values(line.node, &values[..count]),
+            By::Values(values, count) => self.values(line.node, &values[..count], told),
             By::Missing { leaf, back } => self.missing(leaf, back),
             By::FirstBar => "a cross needs a bar before this one, and this is the first".to_owned(),
             By::TooFewBars => {
@@ -72,24 +77,26 @@ impl Telling<'_> {
     }
 
     /// Each value with what it is of; of a cross those before as well, of Rising and Falling now and then.
-    fn values(&self, node: usize, values: &[f64]) -> String {
+    fn values(&self, node: usize, values: &[f64], told: &mut dyn FnMut(f64) -> String) -> String {
         let below = &self.forest.children[node];
         let of = |child: usize| self.words().whole(below[child]);
-        let is = |child: usize, value: f64| match self.forest.nodes[below[child]].kind {
-            kind::CONST => rounded(value),
-            _ => format!("{} is {}", of(child), rounded(value)),
+        // Told in the order in which they stand in the line.
+        let values: Vec<String> = values.iter().map(|value| told(*value)).collect();
+        let is = |child: usize, value: &String| match self.forest.nodes[below[child]].kind {
+            kind::CONST => value.clone(),
+            _ => format!("{} is {value}", of(child)),
         };
-        match (self.forest.nodes[node].kind, values) {
+        match (self.forest.nodes[node].kind, &values[..]) {
             (kind::CROSS_ABOVE | kind::CROSS_BELOW, [a, b, a_before, b_before]) => {
-                let before = format!("a bar before they were {} and {}", rounded(*a_before), rounded(*b_before));
-                format!("{} and {}; {before}", is(0, *a), is(1, *b))
+                let before = format!("a bar before they were {a_before} and {b_before}");
+                format!("{} and {}; {before}", is(0, a), is(1, b))
             }
             (kind::RISING | kind::FALLING, [now, then]) => {
                 let back = counted(self.forest.nodes[node].n.into(), "bar", "bars");
-                format!("{}, and {back} before it was {}", is(0, *now), rounded(*then))
+                format!("{}, and {back} before it was {then}", is(0, now))
             }
             _ => {
-                let all: Vec<String> = values.iter().take(below.len()).enumerate().map(|(k, v)| is(k, *v)).collect();
+                let all: Vec<String> = values.iter().take(below.len()).enumerate().map(|(k, v)| is(k, v)).collect();
                 all.join(", ")
             }
         }
