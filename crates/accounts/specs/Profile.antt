@@ -4,8 +4,8 @@ use Rattle.floats.specs.{Floats._≼_, Floats.one}
 use Rattle.execution.specs.{declared.optional.Optional.Optional, declared.optional.Optional.the-variants.Absent, declared.optional.Optional.the-variants.Of}
 use Rattle.records.specs.{declared.settings.Settings.Settings}
 use Rattle.refusals.specs.{declared.verdict.Verdict.Verdict, declared.verdict.Verdict.the-variants.Bad, Lines.line, Lines.judged}
-use Rattle.table.specs.{declared.answer.Answer.Answer, declared.answer.Answer.the-variants.Accepted, declared.answer.Answer.the-variants.Refused, Checked.checked}
-use Rattle.table.specs.{Header.slots, Header.count}
+use Rattle.table.specs.{declared.answer.Answer.Answer, declared.answer.Answer.the-variants.Accepted, declared.answer.Answer.the-variants.Refused}
+use Rattle.table.specs.{Checked.checked, Header.slots, Header.count}
 
 -- "no short trees": the counts of trees 2 and 3; "0 means absent"
 unfoldable pub noShortTrees : List ℕ → Bool

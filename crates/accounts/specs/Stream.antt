@@ -1,10 +1,10 @@
 -- The stream of request 14: which of its bars are taken. Definitions only.
 use Rattle.words.specs.Prelude.{ℕ, _+_, _/_, cond, List, [], _∷_, ltb, leb, eqb, length}
 use Rattle.words.specs.{Limits.barWords, Limits.mostCount, Limits.mostSlots}
-use Rattle.refusals.specs.{declared.verdict.Verdict.Verdict, declared.verdict.Verdict.the-variants.Fine, declared.verdict.Verdict.the-variants.Bad, Bar.barLines}
-use Rattle.refusals.specs.{Day.wholeBars, Lines.Line, Lines.line, Lines.judged}
-use Rattle.engine.specs.{Day.cut}
-use Rattle.accounts.specs.{declared.stream.Taken.Taken}
+use Rattle.refusals.specs.{declared.verdict.Verdict.Verdict, declared.verdict.Verdict.the-variants.Fine, declared.verdict.Verdict.the-variants.Bad}
+use Rattle.refusals.specs.{Bar.barLines, Day.wholeBars, Lines.Line, Lines.line, Lines.judged}
+use Rattle.engine.specs.{Day.inRecords}
+use Rattle.accounts.specs.{declared.stream.StreamTaken.StreamTaken}
 
 -- Once for all bars. "more than 64 stream slots gives 12 at 0". 13 as in a step: a count above 4,294,967,295, a list that is not whole records.
 unfoldable pub streamLines : ℕ → ℕ → List ℕ → List Line
@@ -18,24 +18,24 @@ streamLines S seen bars =
 unfoldable pub streamBarLines : ℕ → ℕ → List ℕ → List Line
 streamBarLines S seen bar = line (ltb seen mostCount) 14 0 ∷ barLines S bar seen
 
-abbrev pub noneTaken : Verdict → Taken
+abbrev pub noneTaken : Verdict → StreamTaken
 noneTaken v = record { done = 0; verdict = v }
 
-abbrev pub oneMoreTaken : Taken → Taken
+abbrev pub oneMoreTaken : StreamTaken → StreamTaken
 oneMoreTaken t = record { done = t .done + 1; verdict = t .verdict }
 
 -- what a verdict ends, or another goes on with
-unfoldable pub takenUnless : Verdict → Taken → Taken
+unfoldable pub takenUnless : Verdict → StreamTaken → StreamTaken
 takenUnless (Bad why) t = noneTaken (Bad why)
 takenUnless Fine t = t
 
 -- bar after bar, until one is refused
-unfoldable pub streamTakes : ℕ → ℕ → List (List ℕ) → Taken
+unfoldable pub streamTakes : ℕ → ℕ → List (List ℕ) → StreamTaken
 streamTakes S seen [] = noneTaken Fine
 streamTakes S seen (bar ∷ bars) = takenUnless (judged (streamBarLines S seen bar)) (oneMoreTaken (streamTakes S (seen + 1) bars))
 
 -- Of a list of bars. Decided: no bars ask nothing of the stream.
-unfoldable pub streamTaken : ℕ → ℕ → List ℕ → Taken
+unfoldable pub streamTaken : ℕ → ℕ → List ℕ → StreamTaken
 streamTaken S seen bars =
     cond (eqb (length bars) 0) (noneTaken Fine)
-    (takenUnless (judged (streamLines S seen bars)) (streamTakes S seen (cut (length bars / barWords S) (barWords S) bars)))
+    (takenUnless (judged (streamLines S seen bars)) (streamTakes S seen (inRecords (length bars / barWords S) (barWords S) bars)))

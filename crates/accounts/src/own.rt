@@ -33,7 +33,7 @@ fn write_own(stream: usize, slots: usize, bar: &[u64], room: &mut [u64])
     requires { ⌜ (length (now bar) ≡ barWords stream) × (slots ≤ stream) × (barWords slots ≤ length (now room)) ⌝ }
     ensures { λ _. ⌜ now (room .exit) ≡ overwrite (now (room .entry)) 0 (ownBar stream slots (now (bar .entry))) ⌝ }
 {
-    let mask_at = rows::MASK;
+    let mask_at = words::places::BAR_MASK;
     let first = ROW_FIXED;
     let end = first + slots;
     let funding = first + stream;

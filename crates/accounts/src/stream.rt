@@ -5,7 +5,7 @@ ghost use Prim.Native.Nat.{_/_};
 ghost use lib.ListN.{length};
 ghost use Rattle.words.specs.Limits.{barWords};
 ghost use Rattle.refusals.specs.declared.verdict.Verdict.the-variants.{Fine};
-ghost use Rattle.engine.specs.Day.{cut};
+ghost use Rattle.engine.specs.Day.{inRecords};
 ghost use Rattle.accounts.specs.Stream.{streamLines, streamBarLines, streamTakes, streamTaken};
 use refusals::bar::judge_bar;
 use refusals::verdict::Verdict;
@@ -15,7 +15,7 @@ use words::limits::MOST_SLOTS;
 use words::refusal::Refusal;
 
 // How many bars the stream takes, and what ended it (fine where it takes all).
-pub struct Taken {
+pub struct StreamTaken {
     pub done: usize,
     pub verdict: Verdict,
 }
@@ -59,9 +59,9 @@ fn judge_next(slots: usize, seen: u64, bar: &[u64]) -> Verdict
 }
 
 // Bar after bar, until one is refused.
-fn take_whole(slots: usize, seen: u64, bars: &[u64]) -> Taken
+fn take_whole(slots: usize, seen: u64, bars: &[u64]) -> StreamTaken
     requires { ⌜ judged (streamLines slots seen (now bars)) ≡ Fine ⌝ }
-    ensures { λ r. ⌜ r ≡ streamTakes slots seen (cut (length (now (bars .entry)) / barWords slots) (barWords slots) (now (bars .entry))) ⌝ }
+    ensures { λ r. ⌜ r ≡ streamTakes slots seen (inRecords (length (now (bars .entry)) / barWords slots) (barWords slots) (now (bars .entry))) ⌝ }
 {
     let width = BAR_FIXED + slots;
     let count = bars.len() / width;
@@ -71,31 +71,31 @@ fn take_whole(slots: usize, seen: u64, bars: &[u64]) -> Taken
         let to = from + width;
         let verdict = judge_next(slots, seen + done as u64, &bars[from..to]);
         if let Verdict::Bad(refusal) = verdict {
-            return Taken {
+            return StreamTaken {
                 done,
                 verdict: Verdict::Bad(refusal),
             };
         }
         done += 1;
     }
-    Taken {
+    StreamTaken {
         done,
         verdict: Verdict::Fine,
     }
 }
 
 // How many of the bars the stream takes. Any slots, count and bars get an answer; no bars ask nothing.
-pub fn take_bars(slots: usize, seen: u64, bars: &[u64]) -> Taken
+pub fn take_bars(slots: usize, seen: u64, bars: &[u64]) -> StreamTaken
     ensures { λ r. ⌜ r ≡ streamTaken slots seen (now (bars .entry)) ⌝ }
 {
     if bars.len() == 0 {
-        return Taken {
+        return StreamTaken {
             done: 0,
             verdict: Verdict::Fine,
         };
     }
     if let Verdict::Bad(refusal) = judge_stream(slots, seen, bars) {
-        return Taken {
+        return StreamTaken {
             done: 0,
             verdict: Verdict::Bad(refusal),
         };

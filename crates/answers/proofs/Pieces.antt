@@ -1,6 +1,6 @@
 -- Four pieces put one after another into a room of newlines, and the newline after them.
-use Rattle.words.specs.Prelude.{_≡_, refl, sym, _∙_, ap, Bool, true, false, cond, List, [], _∷_, _++_, ℕ, zero, suc, _+_, _/_, _≤_, _<_, arith, length, take, drop}
-use Rattle.words.specs.Prelude.{replicate, length-append, length-take-le, ltb, leb, leb-true}
+use Rattle.words.specs.Prelude.{_≡_, refl, sym, _∙_, ap, Bool, true, false, cond, List, [], _∷_, _++_, ℕ, zero, suc, _+_, _/_, _≤_, _<_, arith, length, take}
+use Rattle.words.specs.Prelude.{drop, replicate, length-append, length-take-le, ltb, leb, leb-true}
 use Rattle.io.specs.{Counts.Counts}
 use Rattle.answers.specs.{Text.put, Text.next, Text.places, Text.decimal, Laws.Pieces.next-fits, Laws.Pieces.put-fits, Laws.Pieces.put-put}
 use Rattle.answers.specs.{Laws.Pieces.length-put, Laws.Pieces.length-digits}

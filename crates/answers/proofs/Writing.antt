@@ -1,7 +1,7 @@
 -- A copy loop, and the decimal digits of a number.
-use Rattle.words.specs.Prelude.{Bool, true, false, cond, _≡_, refl, sym, ap, _∙_, List, _++_, ℕ, zero, suc, _+_, _-_, _*_, _/_, _^_, _≤_, _<_, pow-suc, le-trans}
-use Rattle.words.specs.Prelude.{div-lt-iff-lt-mul, le-div-iff-mul-le, sub-zero, add-one, arith, length, take, drop, getD, set, ltb, ltb-true, ltb-false, paste}
-use Rattle.words.specs.Prelude.{paste-suc, take-length}
+use Rattle.words.specs.Prelude.{Bool, true, false, cond, _≡_, refl, sym, ap, _∙_, List, _++_, ℕ, zero, suc, _+_, _-_, _*_, _/_, _^_, _≤_, _<_, pow-suc}
+use Rattle.words.specs.Prelude.{le-trans, div-lt-iff-lt-mul, le-div-iff-mul-le, sub-zero, add-one, arith, length, take, drop, getD, set, ltb, ltb-true}
+use Rattle.words.specs.Prelude.{ltb-false, paste, paste-suc, take-length}
 use Rattle.io.specs.{Digits.digits, Digits.Fewest}
 use Rattle.answers.specs.{Text.places, Text.decimal}
 use native.Mathlib.Nat.{pow-le-pow-right, suc-sub-suc}

@@ -12,20 +12,22 @@ use Rattle.accounts.specs.{Status.stoppedWith}
 use Rattle.stepping.specs.{WordRun.WordRun, WordRun.callsOver}
 use Rattle.streamed.specs.{Accounts.AccountGiven, Accounts.AccountLent, Accounts.alone, Accounts.ownBars, Accounts.ownLists, Accounts.statusAfter}
 use Rattle.streamed.specs.{Accounts.ridesBy, Accounts.accountAfter}
-use Rattle.capi.specs.{Laws.Calls.Small, Laws.TableCalls.table-number}
+use Rattle.capi.specs.{Laws.Calls.FitsAnswer, Laws.TableCalls.table-number}
 use Rattle.beside.specs.{Appended.moreCalls, Appended.calls-behind, Appended.calls-ended, Appended.calls-number, NeverEleven.stopped-number}
 use mathlib.Core.List.{map-append}
 use lib.ListN.{length-map}
 
 -- a table, or the profile, stops an account with a number
-outside-number : (within : Bool) (a : Answer) (why : Refusal) → ((r : Refusal) → a ≡ Refused r → Small r) → afterTable a within ≡ Bad why → why .number ≡ 0 → ⊥
+outside-number : (within : Bool) (a : Answer) (why : Refusal) → ((r : Refusal) → a ≡ Refused r → FitsAnswer r)
+    → afterTable a within ≡ Bad why → why .number ≡ 0 → ⊥
 unfolding afterTable judged
 outside-number within (Refused q) why small e none = let same : q .number ≡ why .number = cc in omega (arith, small q refl .some, same, none)
 outside-number true (Accepted n r) why small e none = never (sym e)
 outside-number false (Accepted n r) why small e none = let same : 21 ≡ why .number = cc in omega (arith, same, none)
 
 -- a status that was given a number is stopped
-stays-stopped : (status : List ℕ) (number place bar : ℕ) → statusWords ≤ length status → (number ≡ 0 → ⊥) → isStopped (stoppedWith status number place bar) ≡ true
+stays-stopped : (status : List ℕ) (number place bar : ℕ) → statusWords ≤ length status → (number ≡ 0 → ⊥)
+    → isStopped (stoppedWith status number place bar) ≡ true
 unfolding isStopped
 stays-stopped status number place bar room some = rw (stopped-number status number place bar room, ne-eqb number 0 some)
 
@@ -160,7 +162,10 @@ module _ (S seen : ℕ) (bar next : List ℕ) (a b : List (List ℕ)) (g : Accou
 -- AN ACCOUNT over bars behind bars: over those behind, on what those in front left
 pub account-behind : (S seen : ℕ) (a b : List (List ℕ)) (g : AccountGiven) (x : AccountLent) → statusWords ≤ length (x .status)
     → accountAfter S seen (a ++ b) g x ≡ accountAfter S (seen + length a) b g (accountAfter S seen a g x)
-account-behind S seen [] b g x room = let none : seen + 0 ≡ seen = omega arith in let same : accountAfter S seen [] g x ≡ x = unfold accountAfter in refl in rw (none, same)
+account-behind S seen [] b g x room =
+    let none : seen + 0 ≡ seen = omega arith in
+    let same : accountAfter S seen [] g x ≡ x = unfold accountAfter in refl in
+    rw (none, same)
 account-behind S seen (bar ∷ a) [] g x room =
     let none : (y : AccountLent) → accountAfter S (seen + length (bar ∷ a)) [] g y ≡ y = λ y. unfold accountAfter in refl in
     rw (append-nil a, none)

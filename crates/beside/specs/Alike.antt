@@ -3,7 +3,7 @@ use Rattle.words.specs.Prelude.{ℕ, _≤_, _≡_, refl, sym, _∙_, List, [], 
 use Rattle.words.specs.{Limits.barWords, Words.word}
 use Rattle.refusals.specs.{declared.verdict.Verdict.Verdict, declared.verdict.Verdict.the-variants.Fine, declared.verdict.Verdict.the-variants.Bad, Lines.line}
 use Rattle.refusals.specs.{Lines.judged}
-use Rattle.engine.specs.{Day.cut}
+use Rattle.engine.specs.{Day.inRecords}
 use Rattle.accounts.specs.{Status.statusWords, Stream.streamTaken}
 use Rattle.streamed.specs.{Accounts.AccountGiven, Accounts.AccountLent, Accounts.AccountsLent, Accounts.Four, Accounts.streamWords, Accounts.accountAfter}
 use Rattle.streamed.specs.{Accounts.accountsLines, Accounts.afterBars, Accounts.accountsBy, Accounts.accountsCall}
@@ -27,7 +27,7 @@ leavesOf (Bad why) stream bars g a = a
 leavesOf Fine stream bars g a =
     let S = word stream 0 in
     let seen = word stream 1 in
-    accountAfter S seen (cut (streamTaken S seen bars .done) (barWords S) bars) g a
+    accountAfter S seen (inRecords (streamTaken S seen bars .done) (barWords S) bars) g a
 
 by-itself : (v : Verdict) (bars : List ℕ) (g : Four) (l : AccountsLent) (which : Which)
     → lentTo which (accountsBy v bars g l .lent) ≡ leavesOf v (l .stream) bars (givenTo which g) (lentTo which l)

@@ -5,8 +5,8 @@ use Rattle.words.specs.{declared.refusal.Refusal.Refusal, Limits.mostCount}
 use Rattle.records.specs.{Lent.Lists}
 use Rattle.refusals.specs.{declared.verdict.Verdict.Verdict, declared.verdict.Verdict.the-variants.Fine, declared.verdict.Verdict.the-variants.Bad}
 use Rattle.refusals.specs.{Laws.Lines.never, Laws.Lines.first-holds, Lines.judged}
-use Rattle.engine.specs.{Day.cut}
-use Rattle.accounts.specs.{declared.stream.Taken.Taken, Laws.Stream.moreTaken, Stream.streamBarLines, Stream.oneMoreTaken, Stream.takenUnless}
+use Rattle.engine.specs.{Day.inRecords}
+use Rattle.accounts.specs.{declared.stream.StreamTaken.StreamTaken, Laws.Stream.moreTaken, Stream.streamBarLines, Stream.oneMoreTaken, Stream.takenUnless}
 use Rattle.accounts.specs.{Stream.streamTakes}
 use Rattle.replies.specs.{Call.Call}
 use Rattle.stepping.specs.{Bars.StepLent, Bars.stepCall, WordRun.WordRun, WordRun.callMore, WordRun.callsOver}
@@ -16,31 +16,31 @@ use lib.Seq.{take-append-le, drop-append-le}
 -- ---- records of words
 
 -- the first records are those of the front, where they lie in it
-pub cut-front : (n w : ℕ) (a b : List ℕ) → n * w ≤ length a → cut n w (a ++ b) ≡ cut n w a
-unfolding cut
-cut-front zero w a b h = refl
-cut-front (suc n) w a b h =
+pub records-front : (n w : ℕ) (a b : List ℕ) → n * w ≤ length a → inRecords n w (a ++ b) ≡ inRecords n w a
+unfolding inRecords
+records-front zero w a b h = refl
+records-front (suc n) w a b h =
     let one : suc n * w ≡ w + n * w = omega arith in
     let long : w ≤ length a = omega arith in
     let rest : n * w ≤ length (drop w a) = rw length-drop (omega arith) in
-    rw (take-append-le w a b long, drop-append-le w a b long, cut-front n w (drop w a) b rest)
+    rw (take-append-le w a b long, drop-append-le w a b long, records-front n w (drop w a) b rest)
 
 -- and so many more are those that stand behind
-pub cut-behind : (n m w : ℕ) (a b : List ℕ) → length a ≡ n * w → cut (n + m) w (a ++ b) ≡ cut n w a ++ cut m w b
-unfolding cut
-cut-behind zero m w [] b h = let none : 0 + m ≡ m = omega arith in rw none
-cut-behind zero m w (x ∷ a) b h = absurd (omega (arith, h))
-cut-behind (suc n) m w a b h =
+pub records-behind : (n m w : ℕ) (a b : List ℕ) → length a ≡ n * w → inRecords (n + m) w (a ++ b) ≡ inRecords n w a ++ inRecords m w b
+unfolding inRecords
+records-behind zero m w [] b h = let none : 0 + m ≡ m = omega arith in rw none
+records-behind zero m w (x ∷ a) b h = absurd (omega (arith, h))
+records-behind (suc n) m w a b h =
     let one : suc n * w ≡ w + n * w = omega arith in
     let long : w ≤ length a = omega arith in
     let rest : length (drop w a) ≡ n * w = rw length-drop (omega arith) in
     let more : suc n + m ≡ suc (n + m) = omega arith in
-    rw (more, take-append-le w a b long, drop-append-le w a b long, cut-behind n m w (drop w a) b rest)
+    rw (more, take-append-le w a b long, drop-append-le w a b long, records-behind n m w (drop w a) b rest)
 
 -- ---- the stream
 
 -- a bar that is taken, and those after it
-one-more : (v : Verdict) (t : Taken) → takenUnless v (oneMoreTaken t) .verdict ≡ Fine → (v ≡ Fine) × (t .verdict ≡ Fine)
+one-more : (v : Verdict) (t : StreamTaken) → takenUnless v (oneMoreTaken t) .verdict ≡ Fine → (v ≡ Fine) × (t .verdict ≡ Fine)
 unfolding takenUnless
 one-more Fine t e = (refl, e)
 one-more (Bad why) t e = never e

@@ -2,32 +2,32 @@
 -- bar leaves all that was lent as it was.
 use Rattle.words.specs.Prelude.{ℕ, _+_, _/_, _%_, _^_, _<_, _≡_, refl, sym, ap, _∙_, Bool, true, false, cond, List, [], _∷_, arith, ltb-true, eqb, length}
 use Rattle.words.specs.{declared.refusal.Refusal.Refusal, Limits.barWords, Limits.mostCount, Words.word}
-use Rattle.refusals.specs.{declared.verdict.Verdict.Verdict, declared.verdict.Verdict.the-variants.Fine, declared.verdict.Verdict.the-variants.Bad, Bar.barLines}
-use Rattle.refusals.specs.{Laws.Lines.never, Laws.Numbers.numbered, Laws.Places.Placed, Laws.Places.place-below, Laws.Places.named}
+use Rattle.refusals.specs.{declared.verdict.Verdict.Verdict, declared.verdict.Verdict.the-variants.Fine, declared.verdict.Verdict.the-variants.Bad}
+use Rattle.refusals.specs.{Bar.barLines, Laws.Lines.never, Laws.Numbers.numbered, Laws.Places.Placed, Laws.Places.place-below, Laws.Places.named}
 use Rattle.refusals.specs.{Laws.Places.named-placed, Lines.judged, Lines.firstBad}
-use Rattle.engine.specs.{Day.cut}
-use Rattle.accounts.specs.{declared.stream.Taken.Taken, Stream.streamLines, Stream.streamBarLines, Stream.noneTaken, Stream.oneMoreTaken, Stream.takenUnless}
-use Rattle.accounts.specs.{Stream.streamTakes, Stream.streamTaken}
+use Rattle.engine.specs.{Day.inRecords}
+use Rattle.accounts.specs.{declared.stream.StreamTaken.StreamTaken, Stream.streamLines, Stream.streamBarLines, Stream.noneTaken, Stream.oneMoreTaken}
+use Rattle.accounts.specs.{Stream.takenUnless, Stream.streamTakes, Stream.streamTaken}
 use Rattle.replies.specs.{Call.answerWord, Laws.Answers.answer-number, Laws.Answers.answer-place}
 use Rattle.stepping.specs.{WordRun.answerOf}
 use Rattle.streamed.specs.{Accounts.AccountsLent, Accounts.Four, Accounts.accountAfter, Accounts.accountsLines, Accounts.noneDone, Accounts.streamAfter}
 use Rattle.streamed.specs.{Accounts.afterBars, Accounts.accountsBy, Accounts.accountsCall}
-use Rattle.capi.specs.{AsIfAlone.taken, AsIfAlone.call, AsIfAlone.roomsJudged, Laws.Calls.Small, Laws.Calls.refused-word, Laws.RunCalls.lines-small}
+use Rattle.capi.specs.{AsIfAlone.taken, AsIfAlone.call, AsIfAlone.roomsJudged, Laws.Calls.FitsAnswer, Laws.Calls.refused-word, Laws.RunCalls.lines-small}
 
 -- ---- the refusals are small
 
 -- room 16 is the stream's, room 17 a status
 rooms-small : (l : AccountsLent) (r : Refusal)
-    → judged (accountsLines (l .stream) (l .first .status) (l .second .status) (l .third .status) (l .fourth .status)) ≡ Bad r → Small r
+    → judged (accountsLines (l .stream) (l .first .status) (l .second .status) (l .third .status) (l .fourth .status)) ≡ Bad r → FitsAnswer r
 unfolding accountsLines numbered named
 rooms-small l r e = lines-small _ refl r e (place-below _ r (named-placed _ refl) e)
 
-stream-small : (S seen : ℕ) (bars : List ℕ) (r : Refusal) → judged (streamLines S seen bars) ≡ Bad r → Small r
+stream-small : (S seen : ℕ) (bars : List ℕ) (r : Refusal) → judged (streamLines S seen bars) ≡ Bad r → FitsAnswer r
 unfolding streamLines numbered named
 stream-small S seen bars r e = lines-small _ refl r e (place-below _ r (named-placed _ refl) e)
 
 -- 14 comes before 11: the stream's bars are a place
-bar-small : (S seen : ℕ) (bar : List ℕ) (r : Refusal) → judged (streamBarLines S seen bar) ≡ Bad r → Small r
+bar-small : (S seen : ℕ) (bar : List ℕ) (r : Refusal) → judged (streamBarLines S seen bar) ≡ Bad r → FitsAnswer r
 unfolding streamBarLines barLines numbered Placed
 bar-small S seen bar r e =
     lines-small (streamBarLines S seen bar) refl r e
@@ -37,10 +37,10 @@ bar-small S seen bar r e =
     places early = (omega arith, λ candle. (omega arith, λ slots. (omega arith, λ funding. tt)))
 
 -- what ends a stream
-abbrev SmallEnd : Taken → Type 0
-SmallEnd t = (r : Refusal) → t .verdict ≡ Bad r → Small r
+abbrev SmallEnd : StreamTaken → Type 0
+SmallEnd t = (r : Refusal) → t .verdict ≡ Bad r → FitsAnswer r
 
-unless-small : (v : Verdict) (t : Taken) → ((r : Refusal) → v ≡ Bad r → Small r) → SmallEnd t → SmallEnd (takenUnless v t)
+unless-small : (v : Verdict) (t : StreamTaken) → ((r : Refusal) → v ≡ Bad r → FitsAnswer r) → SmallEnd t → SmallEnd (takenUnless v t)
 unfolding takenUnless
 unless-small (Bad why) t own later = own
 unless-small Fine t own later = later
@@ -57,7 +57,7 @@ unfolding streamTaken
 taken-small S seen bars = go (eqb (length bars) 0)
   where
     each : List (List ℕ)
-    each = cut (length bars / barWords S) (barWords S) bars
+    each = inRecords (length bars / barWords S) (barWords S) bars
 
     go : (b : Bool) → SmallEnd (cond b (noneTaken Fine) (takenUnless (judged (streamLines S seen bars)) (streamTakes S seen each)))
     go true = λ r e. never (sym e)
@@ -80,8 +80,8 @@ module _ (bars : List ℕ) (g : Four) (l : AccountsLent) where
     pub does : call bars g l .answer ≡ 0 → callJudged ≡ Fine
 
 -- over no bars
-none-left : (S seen : ℕ) (t : Taken) (bars : List ℕ) (g : Four) (l : AccountsLent) → t .done ≡ 0 → afterBars S seen t bars g l ≡ noneDone l
-unfolding afterBars streamAfter accountAfter cut
+none-left : (S seen : ℕ) (t : StreamTaken) (bars : List ℕ) (g : Four) (l : AccountsLent) → t .done ≡ 0 → afterBars S seen t bars g l ≡ noneDone l
+unfolding afterBars streamAfter accountAfter inRecords
 none-left S seen t bars g l none = rw none
 
 keeps-by : (v : Verdict) (bars : List ℕ) (g : Four) (l : AccountsLent) → accountsBy v bars g l .lent .done ≡ 0 → accountsBy v bars g l .lent ≡ noneDone l
@@ -95,11 +95,12 @@ unfolding accountsBy answerOf
 answer-by (Bad why) bars g l = refl
 answer-by Fine bars g l = refl
 
-first-small : (v w : Verdict) → ((r : Refusal) → v ≡ Bad r → Small r) → ((r : Refusal) → w ≡ Bad r → Small r) → (r : Refusal) → firstBad v w ≡ Bad r → Small r
+first-small : (v w : Verdict) → ((r : Refusal) → v ≡ Bad r → FitsAnswer r) → ((r : Refusal) → w ≡ Bad r → FitsAnswer r)
+    → (r : Refusal) → firstBad v w ≡ Bad r → FitsAnswer r
 first-small (Bad why) w p q = p
 first-small Fine w p q = q
 
-answers-nothing : (v : Verdict) → ((r : Refusal) → v ≡ Bad r → Small r) → answerOf v ≡ 0 → v ≡ Fine
+answers-nothing : (v : Verdict) → ((r : Refusal) → v ≡ Bad r → FitsAnswer r) → answerOf v ≡ 0 → v ≡ Fine
 unfolding answerOf
 answers-nothing Fine small e = refl
 answers-nothing (Bad why) small e = absurd (refused-word why (small why refl) e)
@@ -118,7 +119,7 @@ accounts-honest bars g l = record {
   does = λ e. answers-nothing (callJudged bars g l) small (sym (answer-by (roomsJudged bars g l) bars g l) ∙ e);
 }
   where
-    small : (r : Refusal) → callJudged bars g l ≡ Bad r → Small r
+    small : (r : Refusal) → callJudged bars g l ≡ Bad r → FitsAnswer r
     small = first-small (roomsJudged bars g l) (taken bars g l .verdict) (rooms-small l) (taken-small (word (l .stream) 0) (word (l .stream) 1) bars)
 
     answer : (r : Refusal) → callJudged bars g l ≡ Bad r → call bars g l .answer ≡ answerWord r

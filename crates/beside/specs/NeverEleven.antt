@@ -2,11 +2,12 @@
 -- never an account's.
 use Rattle.words.specs.Prelude.{ℕ, _/_, _^_, _≤_, _≡_, refl, sym, ap, _∙_, Bool, true, false, List, [], _∷_, arith, eqb-true, eqb-false, leb-true, eqb, length}
 use Rattle.words.specs.{declared.refusal.Refusal.Refusal, Limits.barWords, Words.word}
-use Rattle.table.specs.{declared.answer.Answer.Answer, declared.answer.Answer.the-variants.Accepted, declared.answer.Answer.the-variants.Refused, Checked.checked}
+use Rattle.table.specs.{declared.answer.Answer.Answer, declared.answer.Answer.the-variants.Accepted, declared.answer.Answer.the-variants.Refused}
+use Rattle.table.specs.{Checked.checked}
 use Rattle.records.specs.{Settings.settingsOf}
 use Rattle.refusals.specs.{declared.verdict.Verdict.Verdict, declared.verdict.Verdict.the-variants.Fine, declared.verdict.Verdict.the-variants.Bad}
 use Rattle.refusals.specs.{Laws.Lines.never, Laws.Lines.first-holds, Lines.judged}
-use Rattle.engine.specs.{Day.cut}
+use Rattle.engine.specs.{Day.inRecords}
 use Rattle.accounts.specs.{Laws.Own.overwrite-start, Laws.Profile.profile-slots, Profile.withinProfile, Profile.afterTable, Profile.profileJudged}
 use Rattle.accounts.specs.{Status.statusWords, Status.stoppedWith}
 use Rattle.replies.specs.{Call.Call}
@@ -100,6 +101,6 @@ never-eleven bars g l which running eleven = go (roomsJudged bars g l) refl
         ap (λ (x : AccountLent). word (x .status) 0) same in
         omega (arith, number, running, eleven)
     go Fine e =
-        account-other (slots bars g l) (seen bars g l) (cut (taken bars g l .done) (barWords (slots bars g l)) bars) (givenTo which g) (lentTo which l)
+        account-other (slots bars g l) (seen bars g l) (inRecords (taken bars g l .done) (barWords (slots bars g l)) bars) (givenTo which g) (lentTo which l)
         (lentTo which (call bars g l .lent))
         (as-if-alone bars g l .account e which) (taken-fine (slots bars g l) (seen bars g l) bars) (statuses l which e) running eleven

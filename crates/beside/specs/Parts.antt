@@ -3,14 +3,15 @@ use Rattle.words.specs.Prelude.{ℕ, _+_, _≤_, _≡_, refl, sym, ap, subst, _
 use Rattle.words.specs.{declared.refusal.Refusal.Refusal, Limits.barWords, Words.word}
 use Rattle.refusals.specs.{declared.verdict.Verdict.Verdict, declared.verdict.Verdict.the-variants.Fine, declared.verdict.Verdict.the-variants.Bad}
 use Rattle.refusals.specs.{Day.wholeBars, Laws.Lines.never, Laws.Lines.first-holds, Lines.judged}
-use Rattle.engine.specs.{Day.cut}
-use Rattle.accounts.specs.{declared.stream.Taken.Taken, Laws.Stream.cut-length, Laws.Stream.taken-within, Status.statusWords, Stream.streamTaken}
+use Rattle.engine.specs.{Day.inRecords}
+use Rattle.accounts.specs.{declared.stream.StreamTaken.StreamTaken, Laws.Stream.records-length, Laws.Stream.taken-within, Status.statusWords}
+use Rattle.accounts.specs.{Stream.streamTaken}
 use Rattle.replies.specs.{Call.Call}
 use Rattle.stepping.specs.{WordRun.answerOf}
 use Rattle.streamed.specs.{Accounts.AccountGiven, Accounts.AccountLent, Accounts.AccountsLent, Accounts.Four, Accounts.streamWords, Accounts.accountAfter}
 use Rattle.streamed.specs.{Accounts.accountsLines, Accounts.afterBars, Accounts.accountsBy, Accounts.accountsCall}
 use Rattle.capi.specs.{AsIfAlone.lentTo, AsIfAlone.taken, AsIfAlone.roomsJudged, AsIfAlone.first, AsIfAlone.second, AsIfAlone.third, AsIfAlone.fourth}
-use Rattle.beside.specs.{Appended.cut-front, Appended.cut-behind, Honest.callJudged, Honest.accounts-honest, NeverEleven.statuses}
+use Rattle.beside.specs.{Appended.records-front, Appended.records-behind, Honest.callJudged, Honest.accounts-honest, NeverEleven.statuses}
 use Rattle.beside.specs.{AccountBehind.status-long, AccountBehind.account-behind, StreamBehind.counted, StreamBehind.stream-long, StreamBehind.whole-both}
 use Rattle.beside.specs.{StreamBehind.Behind, StreamBehind.taken-behind, StreamBehind.taken-ended}
 use native.Mathlib.Nat.{zero-mod}
@@ -77,10 +78,10 @@ module _ (g : Four) (l : AccountsLent) (a b : List ℕ) (fine : roomsJudged a g 
   rooms-again =
       rw (
         stream-long (l .stream) s n,
-        status-long S s (cut n (barWords S) a) (g .first) (l .first),
-        status-long S s (cut n (barWords S) a) (g .second) (l .second),
-        status-long S s (cut n (barWords S) a) (g .third) (l .third),
-        status-long S s (cut n (barWords S) a) (g .fourth) (l .fourth),
+        status-long S s (inRecords n (barWords S) a) (g .first) (l .first),
+        status-long S s (inRecords n (barWords S) a) (g .second) (l .second),
+        status-long S s (inRecords n (barWords S) a) (g .third) (l .third),
+        status-long S s (inRecords n (barWords S) a) (g .fourth) (l .fourth),
       )
       fine
 
@@ -90,23 +91,23 @@ module _ (g : Four) (l : AccountsLent) (a b : List ℕ) (fine : roomsJudged a g 
     unfolding afterBars
     call-ended why bad =
         call-is (a ++ b)
-        ∙ (rw (taken-ended S s a b front back why bad, cut-front n (barWords S) a b (taken-within S s a .words)) (sym (call-is a)))
+        ∙ (rw (taken-ended S s a b front back why bad, records-front n (barWords S) a b (taken-within S s a .words)) (sym (call-is a)))
 
     module _ (all : streamTaken S s a .verdict ≡ Fine) where
       -- what the stream takes of the second
-      abbrev u : Taken
+      abbrev u : StreamTaken
       u = streamTaken S (s + n) b
 
       behind : Behind S s a b front back
       behind = taken-behind S s a b front back all
 
       one-behind : (o : AccountGiven) (x : AccountLent) → statusWords ≤ length (x .status)
-          → accountAfter S s (cut (u .done + n) (barWords S) (a ++ b)) o x
-          ≡ accountAfter S (s + n) (cut (u .done) (barWords S) b) o (accountAfter S s (cut n (barWords S) a) o x)
+          → accountAfter S s (inRecords (u .done + n) (barWords S) (a ++ b)) o x
+          ≡ accountAfter S (s + n) (inRecords (u .done) (barWords S) b) o (accountAfter S s (inRecords n (barWords S) a) o x)
       one-behind o x room =
           let sum : u .done + n ≡ n + u .done = omega arith in
-          let on = account-behind S s (cut n (barWords S) a) (cut (u .done) (barWords S) b) o x room in
-          rw (sum, cut-behind n (u .done) (barWords S) a b (behind .words)) (rw (cut-length n (barWords S) a) at on)
+          let on = account-behind S s (inRecords n (barWords S) a) (inRecords (u .done) (barWords S) b) o x room in
+          rw (sum, records-behind n (u .done) (barWords S) a b (behind .words)) (rw (records-length n (barWords S) a) at on)
 
       left-call : accountsCall b g left ≡ record { answer = answerOf (u .verdict); lent = afterBars S (s + n) u b g left }
       unfolding accountsCall accountsBy

@@ -2,10 +2,10 @@
 use Rattle.words.specs.Prelude.{ℕ, _/_, _^_, _≤_, _≡_, refl, sym, _∙_, Bool, true, false, cond, _&&_, List, [], _∷_, _++_, map, arith, eq-eqb, eqb, length}
 use Rattle.words.specs.{declared.refusal.Refusal.Refusal, Limits.barWords, Outcome.Outcome, Outcome.gives, Outcome.refuses, Outcome.refusal}
 use Rattle.records.specs.{declared.settings.Settings.Settings, declared.state.State.State, Lent.Rooms, Lent.Lists, Settings.settingsOf, StateWords.stateOf}
-use Rattle.refusals.specs.{declared.verdict.Verdict.Verdict, declared.verdict.Verdict.the-variants.Fine, declared.verdict.Verdict.the-variants.Bad, Bar.barLines}
-use Rattle.refusals.specs.{Judgement.runLines, Judgement.stepLines, Laws.Lines.never, Laws.Lines.and-true, Laws.Lines.first-holds, Lines.Line, Lines.line}
-use Rattle.refusals.specs.{Lines.judged, Lists.listLines, Rooms.roomLines, Rooms.stateLines, Rooms.placeLines, Settings.sizingLines, Settings.slippageLines}
-use Rattle.refusals.specs.{Settings.riskLines, Settings.termLines, Settings.entryLines, Settings.settingLines}
+use Rattle.refusals.specs.{declared.verdict.Verdict.Verdict, declared.verdict.Verdict.the-variants.Fine, declared.verdict.Verdict.the-variants.Bad}
+use Rattle.refusals.specs.{Bar.barLines, Judgement.runLines, Judgement.stepLines, Laws.Lines.never, Laws.Lines.and-true, Laws.Lines.first-holds, Lines.Line}
+use Rattle.refusals.specs.{Lines.line, Lines.judged, Lists.listLines, Rooms.roomLines, Rooms.stateLines, Rooms.placeLines, Settings.sizingLines}
+use Rattle.refusals.specs.{Settings.slippageLines, Settings.riskLines, Settings.termLines, Settings.entryLines, Settings.settingLines}
 use Rattle.engine.specs.{declared.answer.Answer.Answer, declared.answer.Answer.the-variants.Refused, declared.answer.Answer.the-variants.Done}
 use Rattle.engine.specs.{Laws.Refusal.refusal-changes-nothing, Step.sizeLines, Step.stepVerdict, Step.stepAnswer}
 use Rattle.accounts.specs.{Own.ownBar}

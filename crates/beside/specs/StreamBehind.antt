@@ -5,11 +5,11 @@ use Rattle.words.specs.{declared.refusal.Refusal.Refusal, Laws.Overwrite.overwr
 use Rattle.words.specs.{Words.overwrite}
 use Rattle.refusals.specs.{declared.verdict.Verdict.Verdict, declared.verdict.Verdict.the-variants.Fine, declared.verdict.Verdict.the-variants.Bad}
 use Rattle.refusals.specs.{Day.wholeBars, Laws.Lines.never, Lines.judged}
-use Rattle.engine.specs.{Day.cut}
-use Rattle.accounts.specs.{Laws.Stream.cut-length, Laws.Stream.moreTaken, Laws.Stream.stream-fine, Stream.streamLines, Stream.noneTaken, Stream.takenUnless}
+use Rattle.engine.specs.{Day.inRecords}
+use Rattle.accounts.specs.{Laws.Stream.records-length, Laws.Stream.moreTaken, Laws.Stream.stream-fine, Stream.streamLines, Stream.noneTaken, Stream.takenUnless}
 use Rattle.accounts.specs.{Stream.streamTakes, Stream.streamTaken}
 use Rattle.streamed.specs.{Accounts.streamWords, Accounts.streamAfter}
-use Rattle.beside.specs.{Appended.cut-behind, Appended.takes-behind, Appended.takes-all, Appended.takes-early, Appended.takes-ended}
+use Rattle.beside.specs.{Appended.records-behind, Appended.takes-behind, Appended.takes-all, Appended.takes-early, Appended.takes-ended}
 
 -- ---- the stream's words
 
@@ -70,11 +70,11 @@ unfolding streamLines
 lines-alike S seen a b p q = rw (p, q)
 
 abbrev barsOf : ℕ → List ℕ → List (List ℕ)
-barsOf S ws = cut (length ws / barWords S) (barWords S) ws
+barsOf S ws = inRecords (length ws / barWords S) (barWords S) ws
 
 -- with lines that hold, it takes bar after bar; no bars are none
 taken-is : (S seen : ℕ) (ws : List ℕ) → judged (streamLines S seen ws) ≡ Fine → streamTaken S seen ws ≡ streamTakes S seen (barsOf S ws)
-unfolding streamTaken takenUnless cut streamTakes
+unfolding streamTaken takenUnless inRecords streamTakes
 taken-is S seen ws fine = go (eqb (length ws) 0) refl
   where
     go : (b : Bool) → eqb (length ws) 0 ≡ b
@@ -83,7 +83,8 @@ taken-is S seen ws fine = go (eqb (length ws) 0) refl
     go false e = rw fine
 
 -- with one that does not, it takes nothing
-taken-not : (S seen : ℕ) (x : ℕ) (ws : List ℕ) (why : Refusal) → judged (streamLines S seen (x ∷ ws)) ≡ Bad why → streamTaken S seen (x ∷ ws) ≡ noneTaken (Bad why)
+taken-not : (S seen : ℕ) (x : ℕ) (ws : List ℕ) (why : Refusal) → judged (streamLines S seen (x ∷ ws)) ≡ Bad why
+    → streamTaken S seen (x ∷ ws) ≡ noneTaken (Bad why)
 unfolding streamTaken takenUnless
 taken-not S seen x ws why bad = rw (ne-eqb (length (x ∷ ws)) 0 (λ e. omega (arith, e)), bad)
 
@@ -118,7 +119,7 @@ module _ (S seen : ℕ) (a b : List ℕ) (front : wholeBars S a ≡ true) (back 
   both-bars =
       let many : length (a ++ b) / barWords S ≡ length a / barWords S + length b / barWords S =
       rw all-long (mul-div-cancel (length a / barWords S + length b / barWords S) {n = barWords S} (omega arith)) in
-      rw many (cut-behind (length a / barWords S) (length b / barWords S) (barWords S) a b (whole-long S a front))
+      rw many (records-behind (length a / barWords S) (length b / barWords S) (barWords S) a b (whole-long S a front))
 
   -- of two lists of which the first is taken whole
   pub record Behind : Type 0 where
@@ -131,7 +132,7 @@ module _ (S seen : ℕ) (a b : List ℕ) (front : wholeBars S a ≡ true) (back 
       let own : streamTaken S seen a ≡ streamTakes S seen (barsOf S a) = taken-is S seen a fine in
       let verdict : streamTakes S seen (barsOf S a) .verdict ≡ Fine = rw own at all in
       let many : streamTaken S seen a .done ≡ length (barsOf S a) = rw own (takes-all S (barsOf S a) seen verdict) in
-      let long : length (barsOf S a) ≡ length a / barWords S = cut-length (length a / barWords S) (barWords S) a in
+      let long : length (barsOf S a) ≡ length a / barWords S = records-length (length a / barWords S) (barWords S) a in
       let early = takes-early S (barsOf S a) seen (known .1) verdict in
       let rest : streamTaken S (seen + length (barsOf S a)) b ≡ streamTakes S (seen + length (barsOf S a)) (barsOf S b) =
       taken-is S _ b (lines-hold S _ b (known .0) early back) in

@@ -2,8 +2,8 @@
 use Rattle.words.specs.Prelude.{ℕ, _+_, _*_, _/_, Bool, cond, _&&_, List, ltb, leb, length, set}
 use Rattle.words.specs.{Limits.mostCount, Outcome.refusal}
 use Rattle.floats.specs.{Floats.floatOf, Floats.finite}
-use Rattle.blocks.specs.{declared.append.Added.Added, declared.append.Added.the-variants.Held, declared.append.Added.the-variants.Refused, Blocks.blockBars}
-use Rattle.blocks.specs.{Blocks.blockWords, Blocks.put, Blocks.grown}
+use Rattle.blocks.specs.{declared.append.Added.Added, declared.append.Added.the-variants.Held, declared.append.Added.the-variants.Refused}
+use Rattle.blocks.specs.{Blocks.blockBars, Blocks.blockWords, Blocks.put, Blocks.grown}
 
 -- what an append answers, and both rooms as it leaves them
 pub record Append : Type 0 where

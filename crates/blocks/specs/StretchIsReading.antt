@@ -5,8 +5,9 @@ use Rattle.words.specs.Prelude.{getD, length, set, length-append, length-set, L
 use Rattle.words.specs.{Limits.mostCount}
 use Rattle.blocks.specs.{declared.append.Added.the-variants.Held, declared.stretch.Found.Found, declared.best.Best.Best, Reading.one, Reading.join}
 use Rattle.blocks.specs.{Reading.reading, Reading.HighAndLow, Reading.Number, Append.Append, Append.appended, Append.kept, Reads.reads, Reads.told}
-use Rattle.blocks.specs.{Stretch.stretched, Laws.Append.Taken, Laws.Append.taken-has, Laws.Append.is-taken, Laws.Append.finite-number, Laws.Stretch.answers}
-use Rattle.blocks.specs.{Laws.Earliest.reading-is, Laws.Kept.Kept, Laws.Kept.appended-kept, Laws.Kept.empty-kept, Laws.Kept.told-is}
+use Rattle.blocks.specs.{Stretch.stretched, Laws.Append.Appendable, Laws.Append.appended-has, Laws.Append.is-taken, Laws.Append.finite-number}
+use Rattle.blocks.specs.{Laws.Stretch.answers, Laws.Earliest.reading-is, Laws.Kept.BlocksKept, Laws.Kept.appended-kept, Laws.Kept.empty-kept}
+use Rattle.blocks.specs.{Laws.Kept.told-is}
 use Rattle.blocks.specs.declared.stretch.Found.the-variants as Found
 
 -- "rooms filled from empty by appending alone": the closes that were appended, in order, the bars held and both rooms. Empty is no bar held, whatever the
@@ -35,10 +36,10 @@ record Held-up (given : List ℕ) (held : ℕ) (closes blocks : List ℕ) : Type
   room : held ≤ length closes
   place : 4 * ((held + 64 - 1) / 64) ≤ length blocks
   words : (i : ℕ) → i < held → getD closes i 0 ≡ getD given i 0
-  rooms : Kept held closes blocks
+  rooms : BlocksKept held closes blocks
 
 -- each append keeps it up
-one-more : (given closes blocks : List ℕ) (held close : ℕ) → Held-up given held closes blocks → Taken held close closes blocks
+one-more : (given closes blocks : List ℕ) (held close : ℕ) → Held-up given held closes blocks → Appendable held close closes blocks
     → Held-up (given ++ (close ∷ [])) (held + 1) (kept held close closes blocks .closes) (kept held close closes blocks .blocks)
 one-more given closes blocks held close h t = record {
   count = omega (arith, t .count);
@@ -70,7 +71,7 @@ held-up (empty closes blocks) = record {
   rooms = empty-kept closes blocks;
 }
 held-up (then {given} {closes} {blocks} {held} f close e) =
-    let t = taken-has held close closes blocks e in
+    let t = appended-has held close closes blocks e in
     subst (λ (a : Append). Held-up (given ++ (close ∷ [])) (held + 1) (a .closes) (a .blocks)) (sym (is-taken held close closes blocks t))
     (one-more given closes blocks held close (held-up f) t)
 

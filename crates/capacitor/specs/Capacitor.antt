@@ -5,7 +5,7 @@ use Rattle.words.specs.Prelude.{ℕ, _+_, _*_, _/_, _^_, _≤_, _≡_, List, []
 use Rattle.words.specs.{Limits.stateWords, Limits.mostCount}
 use Rattle.portfolio.specs.{Trade.wordsOfTrade}
 use Rattle.records.specs.{Lent.Lists, Lent.Rooms, Lent.rowPlaces, Lent.pointPlaces, Lent.tradePlaces, Settings.settingsOf, StateWords.stateOf}
-use Rattle.engine.specs.{Books.wordsOfPoint, Whole.accountOf, Whole.Whole, Whole.meantRun}
+use Rattle.engine.specs.{Books.wordsOfPoint, Whole.accountOf, Whole.Ledger, Whole.meantRun}
 use Rattle.restart.specs.{FirstWord.Unmarked, Laws.Reached64.Bars64, PagePlan.firstWord, PagePlan.wholePages, Plans.allProgrammed, Plans.inOrder}
 use Rattle.stepping.specs.{Bars.StepLent, WordRun.WordRun, WordRun.callsOver}
 use Rattle.capi.specs.{Fresh.freshCall, Power.dumpCall}
@@ -17,7 +17,7 @@ abbrev pub now : List ℕ → Lists → StepLent → List Loss → List (List �
 now settings ls box losses bars = callsOver settings ls (lastBox settings box losses) bars
 
 -- the run of a box with unbroken supply, whose rules, by their meaning, and whose volatility read every bar that was ever taken
-abbrev pub unbroken : List ℕ → List ℕ → List Loss → List (List ℕ) → ℕ → Whole
+abbrev pub unbroken : List ℕ → List ℕ → List Loss → List (List ℕ) → ℕ → Ledger
 unbroken table settings losses bars taken = meantRun table (settingsOf settings) (barsBefore losses ++ take taken bars)
 
 -- A restore that answers 0, after which the loss is one more of the list; or one that is refused with 19 or 20, at place 0.

@@ -6,7 +6,7 @@ use Rattle.floats.specs.{Floats.wordOf}
 use Rattle.portfolio.specs.{Portfolio.equity}
 use Rattle.metrics.specs.{Figures.figureWords}
 use Rattle.records.specs.{declared.state.State.State, Lent.Lists, Lent.rooms, Settings.settingsOf, StateWords.stateOf}
-use Rattle.engine.specs.{Whole.Whole, Whole.wholeEnd, Whole.wholeMetrics}
+use Rattle.engine.specs.{Whole.Ledger, Whole.wholeEnd, Whole.wholeMetrics}
 use Rattle.restart.specs.{Laws.Reached64.Bars64}
 use Rattle.replies.specs.{Call.Call}
 use Rattle.stepping.specs.{Bars.StepLent}
@@ -31,13 +31,14 @@ unfoldable pub lastKept : List ℕ → State → List ℕ
 lastKept points t = cond (ltb 0 (t .counts .trades)) (set points (length points - 1) (wordOf (equity (t .position .portfolio) (t .last .close)))) points
 
 -- `ysh_metrics` over these points and trades, with the capital of the settings, gives the figures of the whole run w that has ended
-abbrev pub GivesWhole : List ℕ → Whole → List ℕ → List ℕ → Type 0
+abbrev pub GivesWhole : List ℕ → Ledger → List ℕ → List ℕ → Type 0
 GivesWhole settings w points trades =
     (room : List ℕ) → metricWords ≤ length room
     → metricsCall (word settings 2) points trades room
     ≡ record { answer = 0; lent = overwrite room 0 (figureWords (wholeMetrics (settingsOf settings) (wholeEnd (settingsOf settings) w))) }
 
-pub record FinishAfterLosses (table settings : List ℕ) (ls : Lists) (box : StepLent) (losses : List Loss) (bars : List (List ℕ)) (metrics : List ℕ) : Type 0 where
+pub record FinishAfterLosses (table settings : List ℕ) (ls : Lists) (box : StepLent) (losses : List Loss)
+    (bars : List (List ℕ)) (metrics : List ℕ) : Type 0 where
   -- the state counts a point, since a bar was taken after the last restore: the points and trades of before, and then those of this life
   pub own : let w = now settings ls box losses bars in
       let f = boxFinished settings ls box losses bars metrics in
@@ -47,7 +48,8 @@ pub record FinishAfterLosses (table settings : List ℕ) (ls : Lists) (box : Ste
   -- no bar was taken: the same trades, and the points of before, with the last as finish leaves it
   pub none : let f = boxFinished settings ls box losses bars metrics in
       bars ≡ []
-      → GivesWhole settings (unbroken table settings losses bars (now settings ls box losses bars .done)) (lastKept (pointsBefore settings ls box losses) (stateOf (f .state)))
+      → GivesWhole settings (unbroken table settings losses bars (now settings ls box losses bars .done))
+      (lastKept (pointsBefore settings ls box losses) (stateOf (f .state)))
       (tradesBefore settings ls box losses ++ tradesIn f)
 
 -- THE STATEMENT: with the premises of the capacitor theorem, where `ysh_finish` answers 0, over a buffer for the figures.

@@ -10,8 +10,8 @@ use Rattle.records.specs.{declared.settings.Settings.Settings, declared.state.P
 use Rattle.records.specs.{Settings.settingsOf, StateWords.stateOf, Laws.RoundTrip.Floats64, Laws.RoundTrip.state-kept}
 use Rattle.refusals.specs.{declared.verdict.Verdict.Verdict, declared.verdict.Verdict.the-variants.Fine, declared.verdict.Verdict.the-variants.Bad}
 use Rattle.refusals.specs.{Judgement.finishJudged, Lines.judged}
-use Rattle.engine.specs.{Account.leaving, Books.wordsOfPoint, Books.tradesOf, Books.heldPoints, Books.heldTrades, Finish.lastExit, Finish.remarked, Finish.endState}
-use Rattle.engine.specs.{Finish.ended, Laws.Runs.run-none, Run.Run, Run.runOver, Whole.Whole, Whole.wholeEnd}
+use Rattle.engine.specs.{Account.leaving, Books.wordsOfPoint, Books.tradesOf, Books.heldPoints, Books.heldTrades, Finish.lastExit, Finish.remarked}
+use Rattle.engine.specs.{Finish.endState, Finish.ended, Laws.Runs.run-none, Run.Run, Run.runOver, Whole.Ledger, Whole.wholeEnd}
 use Rattle.runs.specs.{Laws.Finishes.end-closes, Laws.Floats.run-floats, Restart.no-points}
 use Rattle.restart.specs.{EndAfterLosses.lastRemarked, EndAfterLosses.points-long, EndAfterLosses.trades-long, EndAfterLosses.EndsAsNever}
 use Rattle.restart.specs.{EndAfterLosses.ends-after-losses, EndAfterLosses.figures-after-losses}
@@ -37,7 +37,7 @@ capital-is : (settings : List ℕ) → floatOf (word settings 2) ≡ settingsOf 
 unfolding settingsOf
 capital-is settings = refl
 
-metrics-whole : (settings : List ℕ) (w : Whole) (points trades : List ℕ) → points ≡ flatMap wordsOfPoint (wholeEnd (settingsOf settings) w .points)
+metrics-whole : (settings : List ℕ) (w : Ledger) (points trades : List ℕ) → points ≡ flatMap wordsOfPoint (wholeEnd (settingsOf settings) w .points)
     → trades ≡ flatMap wordsOfTrade (wholeEnd (settingsOf settings) w .trades) → GivesWhole settings w points trades
 unfolding metricsCall callOf unlessBad metricsGives
 metrics-whole settings w points trades p t room nine =
@@ -82,7 +82,7 @@ module _ (table settings : List ℕ) (ls : Lists) (box : StepLent) (losses : Lis
   abbrev e : Run
   e = runOver s ls (n .state) (n .rooms) bars
 
-  abbrev w : Whole
+  abbrev w : Ledger
   w = unbroken table settings losses bars (e .done)
 
   floats-now : Floats64 (e .state)

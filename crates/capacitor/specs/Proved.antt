@@ -8,7 +8,7 @@ use Rattle.refusals.specs.{declared.verdict.Verdict.the-variants.Fine, Lines.ju
 use Rattle.engine.specs.{Run.Run, Run.runOver}
 use Rattle.runs.specs.{NeverFull.PlacesFor, Laws.Floats.run-floats}
 use Rattle.images.specs.{Layout.dumpBytes, Layout.imageOf}
-use Rattle.restart.specs.{AsIfNever.Ready, FirstWord.Unmarked, Laws.Programs.done-is-cut, Laws.Programs.plan-done, PagePlan.firstWord, PagePlan.wholePages}
+use Rattle.restart.specs.{AsIfNever.Restorable, FirstWord.Unmarked, Laws.Programs.done-is-cut, Laws.Programs.plan-done, PagePlan.firstWord, PagePlan.wholePages}
 use Rattle.restart.specs.{PagePlan.whole-pages-plan, Plans.inOrder, Plans.Plan}
 use Rattle.stepping.specs.{Bars.StepLent, WordRun.WordRun, WordRun.callsOver, WordRun.answerOf}
 use Rattle.capi.specs.{Fresh.freshCall, Joined.calls-run, Power.dumpCall}
@@ -64,8 +64,8 @@ module _ (table settings : List ℕ) (ls : Lists) (box : StepLent) (losses : Lis
 
   -- ---- a loss here
 
-  ready-at : (l : Loss) → l .bars ≡ bars → Ready (settingsOf settings) (run (l .bars))
-  ready-at l same = subst (λ (bs : List (List ℕ)). Ready (settingsOf settings) (run bs)) (sym same) (n .ready)
+  ready-at : (l : Loss) → l .bars ≡ bars → Restorable (settingsOf settings) (run (l .bars))
+  ready-at l same = subst (λ (bs : List (List ℕ)). Restorable (settingsOf settings) (run bs)) (sym same) (n .ready)
 
   done-now : (l : Loss) (page : ℕ) → l .bars ≡ bars → now settings ls box losses bars .answer ≡ 0 → 8 ≤ page → sizeOf settings ≤ length (l .buffer)
       → sizeOf settings ≤ length (l .area) → Unmarked (l .area) → stateWords ≤ length (l .state)

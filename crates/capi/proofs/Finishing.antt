@@ -4,8 +4,8 @@ use Rattle.words.specs.{declared.refusal.Refusal.Refusal, Words.overwrite}
 use Rattle.metrics.specs.{declared.Metrics.Metrics}
 use Rattle.records.specs.{declared.settings.Settings.Settings, declared.state.State.State, Lent.Rooms, Lent.rooms, Settings.settingsOf, StateWords.stateOf}
 use Rattle.records.specs.{StateWords.wordsOf}
-use Rattle.refusals.specs.{declared.verdict.Verdict.Verdict, declared.verdict.Verdict.the-variants.Fine, declared.verdict.Verdict.the-variants.Bad, Lines.judged}
-use Rattle.refusals.specs.{Judgement.finishJudged}
+use Rattle.refusals.specs.{declared.verdict.Verdict.Verdict, declared.verdict.Verdict.the-variants.Fine, declared.verdict.Verdict.the-variants.Bad}
+use Rattle.refusals.specs.{Lines.judged, Judgement.finishJudged}
 use Rattle.engine.specs.{declared.answer.Finished.Finished, declared.answer.Finished.the-variants.Refused, declared.answer.Finished.the-variants.Done}
 use Rattle.engine.specs.{declared.answer.Ended.Ended, Step.With, Step.Is, Finish.ended, Finish.concluded, Finish.finishOf}
 use Rattle.replies.specs.{Call.answerWord, Call.metricLines}

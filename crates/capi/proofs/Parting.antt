@@ -2,8 +2,8 @@
 use Rattle.words.specs.Prelude.{ℕ, _≡_, refl, sym, _∙_, Bool, true, false, List, arith, le-leb, length}
 use Rattle.words.specs.{declared.refusal.Refusal.Refusal}
 use Rattle.records.specs.{declared.settings.Settings.Settings, declared.state.State.State, Settings.settingsOf, StateWords.stateOf}
-use Rattle.refusals.specs.{declared.verdict.Verdict.Verdict, declared.verdict.Verdict.the-variants.Fine, declared.verdict.Verdict.the-variants.Bad, Lines.judged}
-use Rattle.refusals.specs.{Rooms.roomLines, Laws.Lines.below-fine, Laws.Lines.both-fine, Laws.Descent.no-line, Laws.Descent.fine-line}
+use Rattle.refusals.specs.{declared.verdict.Verdict.Verdict, declared.verdict.Verdict.the-variants.Fine, declared.verdict.Verdict.the-variants.Bad}
+use Rattle.refusals.specs.{Lines.judged, Rooms.roomLines, Laws.Lines.below-fine, Laws.Lines.both-fine, Laws.Descent.no-line, Laws.Descent.fine-line}
 use Rattle.images.specs.{Layout.imageOf, Refused.leftBy}
 use Rattle.dumpable.specs.{Refused.partLines, Refused.partJudged}
 use Rattle.dump.specs.{declared.part.Parted.Parted, declared.part.Parted.the-variants.Refused, declared.part.Parted.the-variants.Used, Parts.bytesFrom}
@@ -40,7 +40,8 @@ module _ (settings state rows : List ℕ) (at : ℕ) (part : List ℕ) (used : �
     part-passed yes-all =
         let d = rw yes-all at ran in
         let w = words-fit settings state rows (sym (d .passes)) in
-        call-gives _ _ _ {after = filledWith part (bytesFrom (imageOf (settingsOf settings) (stateOf state) rows) at (length part))} (lent-passed w) (rw (w .fine))
+        call-gives _ _ _ {after = filledWith part (bytesFrom (imageOf (settingsOf settings) (stateOf state) rows) at (length part))}
+        (lent-passed w) (rw (w .fine))
         ∙ rw (d .leaves, d .counts)
 
     -- words that do not leave part and count as they were

@@ -2,8 +2,8 @@
 use Rattle.words.specs.Prelude.{ℕ, _≡_, refl, sym, _∙_, Bool, true, false, List, arith, le-leb}
 use Rattle.words.specs.{declared.refusal.Refusal.Refusal, Words.overwrite}
 use Rattle.records.specs.{declared.settings.Settings.Settings, declared.state.State.State, Settings.settingsOf, StateWords.stateOf, StateWords.wordsOf}
-use Rattle.refusals.specs.{declared.verdict.Verdict.Verdict, declared.verdict.Verdict.the-variants.Fine, declared.verdict.Verdict.the-variants.Bad, Lines.judged}
-use Rattle.refusals.specs.{Rooms.roomLines, Laws.Lines.below-fine, Laws.Lines.both-fine, Laws.Descent.no-line, Laws.Descent.fine-line}
+use Rattle.refusals.specs.{declared.verdict.Verdict.Verdict, declared.verdict.Verdict.the-variants.Fine, declared.verdict.Verdict.the-variants.Bad}
+use Rattle.refusals.specs.{Lines.judged, Rooms.roomLines, Laws.Lines.below-fine, Laws.Lines.both-fine, Laws.Descent.no-line, Laws.Descent.fine-line}
 use Rattle.images.specs.{declared.reader.Restored.Restored, declared.reader.Restored.the-variants.Refused, declared.reader.Restored.the-variants.Done}
 use Rattle.images.specs.{Layout.imageOf, Reading.windowIn, Refused.restoreJudged, Refused.leftBy, Restoring.restoredBy, Restoring.Restores}
 use Rattle.dumpable.specs.{Refused.dumpLines, Refused.dumpJudged, Laws.Passing.WordsFine, Laws.Passing.words-fine}

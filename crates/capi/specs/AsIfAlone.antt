@@ -4,9 +4,10 @@ use Rattle.words.specs.Prelude.{ℕ, _+_, _/_, _%_, _^_, _≤_, _≡_, refl, sy
 use Rattle.words.specs.Prelude.{length}
 use Rattle.words.specs.{declared.refusal.Refusal.Refusal, Limits.barWords, Words.word}
 use Rattle.records.specs.{Settings.settingsOf}
-use Rattle.refusals.specs.{declared.verdict.Verdict.Verdict, declared.verdict.Verdict.the-variants.Fine, declared.verdict.Verdict.the-variants.Bad, Lines.judged}
-use Rattle.engine.specs.{Day.cut}
-use Rattle.accounts.specs.{declared.stream.Taken.Taken, Profile.profileJudged, Status.isStopped, Status.stoppedWith, Stream.streamTaken}
+use Rattle.refusals.specs.{declared.verdict.Verdict.Verdict, declared.verdict.Verdict.the-variants.Fine, declared.verdict.Verdict.the-variants.Bad}
+use Rattle.refusals.specs.{Lines.judged}
+use Rattle.engine.specs.{Day.inRecords}
+use Rattle.accounts.specs.{declared.stream.StreamTaken.StreamTaken, Profile.profileJudged, Status.isStopped, Status.stoppedWith, Stream.streamTaken}
 use Rattle.replies.specs.{Call.Call, Call.answerWord}
 use Rattle.stepping.specs.{WordRun.WordRun, WordRun.callsOver, WordRun.answerOf}
 use Rattle.streamed.specs.{Accounts.AccountGiven, Accounts.AccountLent, Accounts.AccountsLent, Accounts.Four, Accounts.alone, Accounts.statusAfter}
@@ -64,7 +65,7 @@ module _ (bars : List ℕ) (g : Four) (l : AccountsLent) where
   seen = word (l .stream) 1
 
   -- what the stream takes
-  abbrev pub taken : Taken
+  abbrev pub taken : StreamTaken
   taken = streamTaken slots seen bars
 
   abbrev pub call : Call AccountsLent
@@ -83,7 +84,7 @@ module _ (bars : List ℕ) (g : Four) (l : AccountsLent) where
     pub stream : roomsJudged ≡ Fine → call .lent .stream ≡ streamAfter (l .stream) seen (taken .done)
     -- each account is as it would be alone, whatever the others are
     pub account : roomsJudged ≡ Fine → (which : Which)
-        → AsAlone slots seen (cut (taken .done) (barWords slots) bars) (givenTo which g) (lentTo which l) (lentTo which (call .lent))
+        → AsAlone slots seen (inRecords (taken .done) (barWords slots) bars) (givenTo which g) (lentTo which l) (lentTo which (call .lent))
 
 rode : (seen : ℕ) (a : AccountLent) (r : WordRun) → Rode seen a (ridesBy Fine seen r a) r
 unfolding ridesBy statusAfter
@@ -121,7 +122,7 @@ as-if-alone bars g l = record {
 }
   where
     own : List (List ℕ)
-    own = cut (taken bars g l .done) (barWords (slots bars g l)) bars
+    own = inRecords (taken bars g l .done) (barWords (slots bars g l)) bars
 
     by : (which : Which) → AsAlone (slots bars g l) (seen bars g l) own (givenTo which g) (lentTo which l)
         (lentTo which (afterBars (slots bars g l) (seen bars g l) (taken bars g l) bars g l))

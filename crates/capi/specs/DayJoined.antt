@@ -1,13 +1,13 @@
 -- ysh_steps is ysh_step, bar after bar: for any words of settings and state, any bars, rooms and lists.
 use Rattle.words.specs.Prelude.{ℕ, _+_, _-_, _/_, _<_, _≤_, _≡_, refl, sym, _∙_, Bool, true, false, List, [], _∷_, arith, leb-true, ne-eqb, length, take, drop}
 use Rattle.words.specs.{Limits.settingWords, Limits.stateWords, Limits.barWords, declared.refusal.Refusal.Refusal, Outcome.Outcome, Outcome.refuses}
-use Rattle.records.specs.{declared.settings.Settings.Settings, declared.state.State.State, Lent.Rooms, Lent.Lists, Laws.RoundTrip.words-floats, Settings.settingsOf}
-use Rattle.records.specs.{StateWords.stateOf}
-use Rattle.refusals.specs.{declared.verdict.Verdict.Verdict, declared.verdict.Verdict.the-variants.Fine, declared.verdict.Verdict.the-variants.Bad, Day.wholeBars}
-use Rattle.refusals.specs.{Day.wholeFor, Lines.judged, Laws.Lines.first-holds, Laws.Lines.both-fine, Rooms.roomLines}
-use Rattle.engine.specs.{Day.cut, Day.barsIn, Day.barsFor, Day.noBars, Day.dayOf, Laws.Days.cut-next, Laws.Days.bars-none, Laws.Days.whole-one, Laws.Days.some-bars}
-use Rattle.engine.specs.{Laws.Runs.run-none, Laws.Runs.run-stops, Laws.Runs.run-takes, Run.Run, Run.runOver, Step.answered, Step.stepped, Step.stepVerdict}
-use Rattle.engine.specs.{Step.stepAnswer}
+use Rattle.records.specs.{declared.settings.Settings.Settings, declared.state.State.State, Lent.Rooms, Lent.Lists, Laws.RoundTrip.words-floats}
+use Rattle.records.specs.{Settings.settingsOf, StateWords.stateOf}
+use Rattle.refusals.specs.{declared.verdict.Verdict.Verdict, declared.verdict.Verdict.the-variants.Fine, declared.verdict.Verdict.the-variants.Bad}
+use Rattle.refusals.specs.{Day.wholeBars, Day.wholeFor, Lines.judged, Laws.Lines.first-holds, Laws.Lines.both-fine, Rooms.roomLines}
+use Rattle.engine.specs.{Day.inRecords, Day.barsIn, Day.barsFor, Day.noBars, Day.dayOf, Laws.Days.records-next, Laws.Days.bars-none, Laws.Days.whole-one}
+use Rattle.engine.specs.{Laws.Days.some-bars, Laws.Runs.run-none, Laws.Runs.run-stops, Laws.Runs.run-takes, Run.Run, Run.runOver, Step.answered, Step.stepped}
+use Rattle.engine.specs.{Step.stepVerdict, Step.stepAnswer}
 use Rattle.runs.specs.{Laws.Floats.step-floats}
 use Rattle.replies.specs.{Call.Call, Call.answerWord, Call.callOf, Call.unlessBad, Call.wordLines}
 use Rattle.stepping.specs.{Bars.StepLent, Bars.lentLines, Bars.stepGives, Bars.stepCall, Day.DayLent, Day.dayLentLines, Day.stateAfter, Day.dayGives}
@@ -30,9 +30,9 @@ first-bar K w ws h = whole-one K (w ∷ ws) false (ne-eqb (length (w ∷ ws)) 0 
 
 -- and is that bar and the others
 bars-first : (K w : ℕ) (ws : List ℕ) → wholeBars K (w ∷ ws) ≡ true
-    → barsIn K (w ∷ ws) ≡ take (barWords K) (w ∷ ws) ∷ cut (length (w ∷ ws) / barWords K - 1) (barWords K) (drop (barWords K) (w ∷ ws))
+    → barsIn K (w ∷ ws) ≡ take (barWords K) (w ∷ ws) ∷ inRecords (length (w ∷ ws) / barWords K - 1) (barWords K) (drop (barWords K) (w ∷ ws))
 unfolding barsIn
-bars-first K w ws h = rw h (cut-next _ (barWords K) (w ∷ ws) (some-bars K (w ∷ ws) (first-bar K w ws h)))
+bars-first K w ws h = rw h (records-next _ (barWords K) (w ∷ ws) (some-bars K (w ∷ ws) (first-bar K w ws h)))
 
 module _ (settings state : List ℕ) (set : settingWords ≤ length settings) (long : stateWords ≤ length state) (ls : Lists) (m : Rooms) where
   abbrev s : Settings

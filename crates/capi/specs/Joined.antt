@@ -4,11 +4,12 @@ use Rattle.words.specs.{Limits.settingWords, Limits.stateWords, Limits.metricWo
 use Rattle.words.specs.{Words.overwrite, Laws.Overwrite.overwrite-length}
 use Rattle.records.specs.{declared.settings.Settings.Settings, declared.state.State.State, Lent.Rooms, Lent.Lists, Settings.settingsOf, State.freshState}
 use Rattle.records.specs.{StateWords.wordsOf, Laws.RoundTrip.Floats64, Laws.RoundTrip.state-kept, Laws.RoundTrip.state-again, Laws.RoundTrip.fresh-floats}
-use Rattle.refusals.specs.{declared.verdict.Verdict.Verdict, declared.verdict.Verdict.the-variants.Fine, declared.verdict.Verdict.the-variants.Bad, Lines.judged}
-use Rattle.refusals.specs.{Rooms.roomLines, Judgement.runLines, Judgement.stepLines, Judgement.stepJudged, Judgement.finishLines, Judgement.finishJudged}
-use Rattle.refusals.specs.{Laws.Lines.below-bad, Laws.Lines.fine-adds-nothing, Laws.Lines.both-fine}
-use Rattle.engine.specs.{declared.answer.Ended.Ended, Finish.ended, Finish.concluded, Finish.finishOf, Laws.Runs.run-none, Laws.Runs.run-stops, Laws.Runs.run-takes}
-use Rattle.engine.specs.{Run.runOver, Laws.Verdict.handed-bad, Step.With, Step.stepped, Step.answered, Step.sizeLines, Step.stepVerdict, Step.stepAnswer}
+use Rattle.refusals.specs.{declared.verdict.Verdict.Verdict, declared.verdict.Verdict.the-variants.Fine, declared.verdict.Verdict.the-variants.Bad}
+use Rattle.refusals.specs.{Lines.judged, Rooms.roomLines, Judgement.runLines, Judgement.stepLines, Judgement.stepJudged, Judgement.finishLines}
+use Rattle.refusals.specs.{Judgement.finishJudged, Laws.Lines.below-bad, Laws.Lines.fine-adds-nothing, Laws.Lines.both-fine}
+use Rattle.engine.specs.{declared.answer.Ended.Ended, Finish.ended, Finish.concluded, Finish.finishOf, Laws.Runs.run-none, Laws.Runs.run-stops}
+use Rattle.engine.specs.{Laws.Runs.run-takes, Run.runOver, Laws.Verdict.handed-bad, Step.With, Step.stepped, Step.answered, Step.sizeLines, Step.stepVerdict}
+use Rattle.engine.specs.{Step.stepAnswer}
 use Rattle.runs.specs.{Laws.Floats.step-floats, Laws.Floats.run-floats, Laws.Floats.end-floats}
 use Rattle.replies.specs.{Call.Call, Call.answerWord, Call.callOf, Call.unlessBad, Call.wordLines, Call.metricLines}
 use Rattle.stepping.specs.{Bars.StepLent, Bars.lentLines, Bars.stepGives, Bars.stepCall, WordRun.callsOver, WordRun.answerOf, WordRun.lentWith}

@@ -2,7 +2,8 @@
 use Rattle.words.specs.Prelude.{ℕ, List, length}
 use Rattle.words.specs.{Words.overwrite, Outcome.Outcome, Outcome.gives, Outcome.refuses}
 use Rattle.records.specs.{Settings.settingsOf, StateWords.stateOf}
-use Rattle.refusals.specs.{declared.verdict.Verdict.Verdict, declared.verdict.Verdict.the-variants.Fine, declared.verdict.Verdict.the-variants.Bad, Lines.judged}
+use Rattle.refusals.specs.{declared.verdict.Verdict.Verdict, declared.verdict.Verdict.the-variants.Fine, declared.verdict.Verdict.the-variants.Bad}
+use Rattle.refusals.specs.{Lines.judged}
 use Rattle.images.specs.{Layout.imageOf}
 use Rattle.dumpable.specs.{Refused.partJudged}
 use Rattle.dump.specs.{Parts.bytesFrom}

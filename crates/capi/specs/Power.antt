@@ -2,7 +2,8 @@
 use Rattle.words.specs.Prelude.{ℕ, List}
 use Rattle.words.specs.{Words.overwrite, Outcome.Outcome, Outcome.gives, Outcome.refuses}
 use Rattle.records.specs.{Settings.settingsOf, StateWords.stateOf, StateWords.wordsOf}
-use Rattle.refusals.specs.{declared.verdict.Verdict.Verdict, declared.verdict.Verdict.the-variants.Fine, declared.verdict.Verdict.the-variants.Bad, Lines.judged}
+use Rattle.refusals.specs.{declared.verdict.Verdict.Verdict, declared.verdict.Verdict.the-variants.Fine, declared.verdict.Verdict.the-variants.Bad}
+use Rattle.refusals.specs.{Lines.judged}
 use Rattle.images.specs.{declared.reader.Restored.Restored, declared.reader.Restored.the-variants.Refused, declared.reader.Restored.the-variants.Done}
 use Rattle.images.specs.{Layout.imageOf, Reading.windowIn, Refused.restoreJudged, Refused.leftBy, Restoring.restoredBy}
 use Rattle.dumpable.specs.{Refused.dumpJudged}

@@ -1,10 +1,10 @@
 -- Request 10 in the words of the C calls: rooms filled from empty by ysh_append, each answered 0, and any ysh_stretch over bars that they hold.
 use Rattle.words.specs.Prelude.{ℕ, _+_, _-_, _<_, _≤_, _≡_, refl, sym, ap, subst, _∙_, List, [], _∷_, _++_, arith}
 use Rattle.words.specs.{Outcome.gives}
-use Rattle.blocks.specs.{declared.append.Added.Added, declared.append.Added.the-variants.Held, declared.append.Added.the-variants.Refused, declared.best.Best.Best}
-use Rattle.blocks.specs.{declared.stretch.Found.Found, Append.Append, Append.appended, Reading.reading, Reading.HighAndLow, Stretch.stretched}
-use Rattle.blocks.specs.{Laws.Append.taken-has, Laws.Append.is-taken, StretchIsReading.Filled, StretchIsReading.empty, StretchIsReading.then}
-use Rattle.blocks.specs.{StretchIsReading.IsReading, StretchIsReading.stretch-is-reading}
+use Rattle.blocks.specs.{declared.append.Added.Added, declared.append.Added.the-variants.Held, declared.append.Added.the-variants.Refused}
+use Rattle.blocks.specs.{declared.best.Best.Best, declared.stretch.Found.Found, Append.Append, Append.appended, Reading.reading, Reading.HighAndLow}
+use Rattle.blocks.specs.{Stretch.stretched, Laws.Append.appended-has, Laws.Append.is-taken, StretchIsReading.Filled, StretchIsReading.empty}
+use Rattle.blocks.specs.{StretchIsReading.then, StretchIsReading.IsReading, StretchIsReading.stretch-is-reading}
 use Rattle.replies.specs.{Call.Call, Call.callOf}
 use Rattle.capi.specs.{Stretch.BlockRooms, Stretch.appendGives, Stretch.appendCall, Stretch.stretchGives, Stretch.stretchCall}
 use Rattle.capi.specs.{Laws.StretchCalls.append-honest}
@@ -36,7 +36,7 @@ filled (none closes blocks) = empty closes blocks
 filled (more {given} {rooms} f close e) =
     let after = appended (rooms .held) close (rooms .closes) (rooms .blocks) in
     let up = given-up (after .answer) (after .closes) (after .blocks) _ (append-honest close rooms .does e) in
-    let taken = is-taken (rooms .held) close (rooms .closes) (rooms .blocks) (taken-has (rooms .held) close (rooms .closes) (rooms .blocks) (up .0)) in
+    let taken = is-taken (rooms .held) close (rooms .closes) (rooms .blocks) (appended-has (rooms .held) close (rooms .closes) (rooms .blocks) (up .0)) in
     let held = ap (λ (x : Append). x .answer) taken in
     let next : appendCall close rooms .lent .held ≡ rooms .held + 1 = cc in
     subst (λ (r : BlockRooms). Filled (given ++ (close ∷ [])) (r .held) (r .closes) (r .blocks))

@@ -2,8 +2,8 @@
 use Rattle.words.specs.Prelude.{ℕ, _≤_, _≡_, refl, ap, _∙_, List, length, replicate}
 use Rattle.words.specs.{Limits.mostCount}
 use Rattle.totals.specs.{declared.Answer.Answer, declared.Answer.the-variants.Done, declared.Answer.the-variants.Refused, Totals.totalWords, Totals.addAnswer}
-use Rattle.totals.specs.{Totals.addLeaves, Totals.joinAnswer, Totals.joinLeaves, Ways.Way, Ways.begin, Ways.add, Ways.join, Ways.made, Ways.AllDone, Ways.tradesIn}
-use Rattle.totals.specs.{Ways.Whole, Ways.totalsOf, Laws.Trades.Acceptable, ExactTotals.exact-totals}
+use Rattle.totals.specs.{Totals.addLeaves, Totals.joinAnswer, Totals.joinLeaves, Ways.Way, Ways.begin, Ways.add, Ways.join, Ways.made, Ways.AllDone}
+use Rattle.totals.specs.{Ways.tradesIn, Ways.WholeLists, Ways.totalsOf, Laws.Trades.Acceptable, ExactTotals.exact-totals}
 use Rattle.replies.specs.{Call.Call, Call.callOf}
 use Rattle.capi.specs.{Totals.totalsGives, Totals.totalsCall, Totals.joinCall}
 
@@ -41,7 +41,7 @@ calls-do (join v w) h =
     ((one .0, two .0, call .0), call .1 ∙ ap (λ (t : List ℕ). joinLeaves t (calledBy w)) (one .1) ∙ ap (joinLeaves (made v)) (two .1))
 
 -- EXACT TOTALS, of the calls.
-pub exact-totals-in-c : (w : Way) → Whole w → Acceptable (tradesIn w) → length (tradesIn w) ≤ mostCount
+pub exact-totals-in-c : (w : Way) → WholeLists w → Acceptable (tradesIn w) → length (tradesIn w) ≤ mostCount
     → AllZero w × (calledBy w ≡ totalsOf (tradesIn w))
 exact-totals-in-c w h a few =
     let below = exact-totals w h a few in

@@ -5,7 +5,7 @@ use Rattle.words.specs.{declared.refusal.Refusal.Refusal, Outcome.refusal}
 use Rattle.rows.specs.{History.historyOf, History.wholeRows}
 use Rattle.table.specs.{declared.answer.Answer.Answer, declared.answer.Answer.the-variants.Accepted, declared.answer.Answer.the-variants.Refused, Bytes.Bytes}
 use Rattle.table.specs.{Header.slots, Header.count, Header.root, Checked.checked, Ends.endsBeside}
-use Rattle.rules.specs.{declared.position.PositionState.PositionState, Meaning.newest, Flat.conditionAt, Answers.stateRight}
+use Rattle.rules.specs.{declared.position.PositionState.PositionState, Meaning.newest, Flat.flatConditionAt, Answers.stateRight}
 use Rattle.chain.specs.{declared.explain.Explained.the-variants.Lines, declared.explain.Explained.the-variants.Refuses, Chain.chain, Lines.chainWords}
 use Rattle.chain.specs.{Lines.putLines, Explained.explanation, Explained.explainedBy, Explained.explained, Explained.linesAfter, Flat.byEnds}
 use Rattle.chain.specs.{Flat.flatExplanation, Laws.Numbered.explanation-found, Laws.Lines.lines-put, Laws.Short.few-lines}
@@ -22,8 +22,8 @@ module _ (t ends : List ℕ) (x : ℕ) (rows : List ℕ) (s : PositionState) (li
     absent-tree e = rw (lt-leb 4 x low, ← counted, eq-eqb c 0 e) (refl, refl)
 
     pub present-tree : (c ≡ 0 → ⊥) → (k i bar r : ℕ) (after : List ℕ) → k ≡ slots t → i ≡ root t x → bar ≡ newest (historyOf k rows)
-        → r ≡ 0 + length (chain (byEnds ends) (historyOf k rows) s (conditionAt 32 t ends i) i bar)
-        → after ≡ putLines list 0 (chain (byEnds ends) (historyOf k rows) s (conditionAt 32 t ends i) i bar)
+        → r ≡ 0 + length (chain (byEnds ends) (historyOf k rows) s (flatConditionAt 32 t ends i) i bar)
+        → after ≡ putLines list 0 (chain (byEnds ends) (historyOf k rows) s (flatConditionAt 32 t ends i) i bar)
         → (r ≡ length (flatExplanation t ends x rows s)) × (after ≡ putLines list 0 (flatExplanation t ends x rows s))
     unfolding flatExplanation
     present-tree some k i bar r after e f g many put =

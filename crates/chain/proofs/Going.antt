@@ -2,7 +2,7 @@
 use Rattle.words.specs.Prelude.{ℕ, zero, suc, _-_, _<_, _≤_, _≡_, refl, Bool, true, false, Bool·beq, List, arith, sub-one}
 use Rattle.rows.specs.{History.History}
 use Rattle.rules.specs.{declared.position.PositionState.PositionState, declared.shapes.ConditionShape.ConditionShape, Meaning.holds, Shapes.endIn}
-use Rattle.rules.specs.{Shapes.conditionShape, Flat.conditionAt}
+use Rattle.rules.specs.{Shapes.conditionShape, Flat.flatConditionAt}
 use Rattle.chain.specs.{declared.walk.Next.the-variants.Stop, declared.walk.Next.the-variants.Node, Flat.firstAt, Flat.nextBy, Flat.nextAt}
 
 -- the first of a row of conditions gives the answer, does not, or is not there
@@ -38,10 +38,10 @@ module _ (t ends : List ℕ) (h : History) (s : PositionState) (i bar left : ℕ
   next-deep e = rw e
 
   pub next-by : (left ≡ 0 → ⊥) → (sh u : ConditionShape) → sh ≡ conditionShape t ends i → sh ≡ u
-      → nextAt left t ends h s i bar ≡ nextBy ends (λ j. holds h s (conditionAt (left - 1) t ends j) bar) u
+      → nextAt left t ends h s i bar ≡ nextBy ends (λ j. holds h s (flatConditionAt (left - 1) t ends j) bar) u
   unfolding nextAt
   next-by some sh u e f = go left some
     where
-      go : (left : ℕ) → (left ≡ 0 → ⊥) → nextAt left t ends h s i bar ≡ nextBy ends (λ j. holds h s (conditionAt (left - 1) t ends j) bar) u
+      go : (left : ℕ) → (left ≡ 0 → ⊥) → nextAt left t ends h s i bar ≡ nextBy ends (λ j. holds h s (flatConditionAt (left - 1) t ends j) bar) u
       go zero n = absurd (n refl)
       go (suc left) n = rw (sub-one (suc left), ← e, f)

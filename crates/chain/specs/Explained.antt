@@ -5,8 +5,9 @@ use Rattle.rows.specs.{History.historyOf, History.wholeRows}
 use Rattle.table.specs.{declared.answer.Answer.Answer, declared.answer.Answer.the-variants.Accepted, declared.answer.Answer.the-variants.Refused, Header.slots}
 use Rattle.table.specs.{Header.count, Header.root, Checked.checked, Reading.treeOf}
 use Rattle.rules.specs.{declared.position.PositionState.PositionState, Meaning.newest, Answers.stateRight}
-use Rattle.chain.specs.{declared.explain.Explained.Explained, declared.explain.Explained.the-variants.Lines, declared.explain.Explained.the-variants.Refuses}
-use Rattle.chain.specs.{Missing.inTable, Chain.ChainLine, Chain.chain, Lines.lineLength, Lines.chainWords}
+use Rattle.chain.specs.{declared.explain.Explained.Explained, declared.explain.Explained.the-variants.Lines}
+use Rattle.chain.specs.{declared.explain.Explained.the-variants.Refuses, Missing.inTable, Chain.ChainLine, Chain.chain, Lines.lineLength}
+use Rattle.chain.specs.{Lines.chainWords}
 
 -- "Given a table, rows and position state, list the chain of nodes from the root to what decided": at the newest bar, and with the
 -- table's own node numbers. "an absent tree has no lines"; a number above 3 names no tree.

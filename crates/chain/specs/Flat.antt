@@ -9,7 +9,7 @@ use Rattle.rules.specs.{declared.shapes.ConditionShape.the-variants.Between, de
 use Rattle.rules.specs.{declared.shapes.ConditionShape.the-variants.Group, declared.shapes.ConditionShape.the-variants.Not}
 use Rattle.rules.specs.{declared.shapes.ConditionShape.the-variants.InPosition, declared.shapes.ConditionShape.the-variants.BarsSince}
 use Rattle.rules.specs.{declared.shapes.ConditionShape.the-variants.NoCondition, Meaning.newest, Meaning.holds, Shapes.endIn, Shapes.conditionShape}
-use Rattle.rules.specs.{Flat.conditionAt}
+use Rattle.rules.specs.{Flat.flatConditionAt}
 use Rattle.chain.specs.{declared.walk.Next.Next, declared.walk.Next.the-variants.Stop, declared.walk.Next.the-variants.Node, Missing.Numbering}
 use Rattle.chain.specs.{Chain.ChainLine, Chain.chain}
 
@@ -37,7 +37,7 @@ nextBy ends says NoCondition = Stop
 -- where it goes from node i, with `left` levels of nesting left, the node's own counted
 unfoldable pub nextAt : ℕ → List ℕ → List ℕ → History → PositionState → ℕ → ℕ → Next
 nextAt zero t ends h s i bar = Stop
-nextAt (suc left) t ends h s i bar = nextBy ends (λ j. holds h s (conditionAt left t ends j) bar) (conditionShape t ends i)
+nextAt (suc left) t ends h s i bar = nextBy ends (λ j. holds h s (flatConditionAt left t ends j) bar) (conditionShape t ends i)
 
 -- the lines from there on
 unfoldable pub followed : Next → (ℕ → List ChainLine) → List ChainLine
@@ -49,4 +49,4 @@ unfoldable pub flatExplanation : List ℕ → List ℕ → ℕ → List ℕ → 
 flatExplanation t ends x rows s =
     let h = historyOf (slots t) rows in
     cond (leb trees x) []
-    (cond (eqb (count t x) 0) [] (chain (byEnds ends) h s (conditionAt mostNesting t ends (root t x)) (root t x) (newest h)))
+    (cond (eqb (count t x) 0) [] (chain (byEnds ends) h s (flatConditionAt mostNesting t ends (root t x)) (root t x) (newest h)))

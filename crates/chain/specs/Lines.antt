@@ -4,8 +4,8 @@ use Rattle.words.specs.{Words.overwrite}
 use Rattle.floats.specs.{Floats.wordOf}
 use Rattle.rules.specs.{declared.values.Value.Value, declared.values.Value.the-variants.Missing, declared.values.Value.the-variants.Number}
 use Rattle.chain.specs.{declared.shown.Detail.Detail, declared.missing.Found.Found, declared.missing.Found.the-variants.Nowhere}
-use Rattle.chain.specs.{declared.missing.Found.the-variants.Leaf, Chain.Shown, Chain.link, Chain.values, Chain.missing, Chain.atFirstBar, Chain.tooFewBars}
-use Rattle.chain.specs.{Chain.position, Chain.sinceEntry, Chain.noEntry, Chain.ChainLine}
+use Rattle.chain.specs.{declared.missing.Found.the-variants.Leaf, Chain.Shown, Chain.link, Chain.values, Chain.missing, Chain.atFirstBar}
+use Rattle.chain.specs.{Chain.tooFewBars, Chain.position, Chain.sinceEntry, Chain.noEntry, Chain.ChainLine}
 
 -- a value's word; one that is missing, which a line of values never has, would be 0
 unfoldable pub valueWord : Value → ℕ

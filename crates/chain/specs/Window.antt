@@ -1,18 +1,18 @@
 -- The window: over the last rows that a table needs the chain is the chain over all rows, so a box can answer from its window.
 -- Assumes nothing.
-use Rattle.words.specs.Prelude.{ℕ, zero, suc, _+_, _-_, _*_, _≤_, _<_, _≡_, refl, sym, ap, _∙_, Bool, true, false, cond, List, [], arith, zero-mul, drop, ltb, leb}
-use Rattle.words.specs.Prelude.{eqb, le-ltb, leb-true, leb-false, ne-eqb}
+use Rattle.words.specs.Prelude.{ℕ, zero, suc, _+_, _-_, _*_, _≤_, _<_, _≡_, refl, sym, ap, _∙_, Bool, true, false, cond, List, [], arith, zero-mul, drop, ltb}
+use Rattle.words.specs.Prelude.{leb, eqb, le-ltb, leb-true, leb-false, ne-eqb}
 use Rattle.words.specs.{Limits.trees}
 use Rattle.rows.specs.{History.History, History.historyOf, History.lastRows}
 use Rattle.table.specs.{declared.answer.Answer.the-variants.Accepted, Header.slots, Header.count, Header.root, Checked.checked, Reading.treeOf, Trees.Operand}
 use Rattle.table.specs.{Trees.const, Trees.ref, Trees.price, Trees.prev, Trees.arith as sums, Trees.extreme, Trees.Condition, Trees.Conditions, Trees.compare}
-use Rattle.table.specs.{Trees.cross, Trees.between, Trees.trend, Trees.every, Trees.any, Trees.negated, Trees.inPosition, Trees.barsSince, Trees.none, Trees.more}
-use Rattle.table.specs.{Trees.reach, Trees.reachOf, Trees.reachOfAll, Writing.nodesIn, Writing.nodesOf, Series.asOperand}
+use Rattle.table.specs.{Trees.cross, Trees.between, Trees.trend, Trees.every, Trees.any, Trees.negated, Trees.inPosition, Trees.barsSince, Trees.none}
+use Rattle.table.specs.{Trees.more, Trees.reach, Trees.reachOf, Trees.reachOfAll, Writing.nodesIn, Writing.nodesOf, Series.asOperand}
 use Rattle.roundtrip.specs.{Laws.Reach.rows-are, Laws.Series.leaf-reach}
 use Rattle.rules.specs.{declared.position.PositionState.PositionState, Meaning.newest, Window.Without, Window.operand-same, Window.condition-same}
 use Rattle.rules.specs.{Window.without-first, WindowAnswers.window-whole}
-use Rattle.chain.specs.{Missing.inTable, Missing.leafGone, Missing.newestGone, Missing.missingIn, Missing.missingInTwo, Missing.missingInThree, Chain.shown}
-use Rattle.chain.specs.{Chain.lineAt, Chain.chain, Chain.firstWith, Explained.explanation, Explained.explainedBy, Explained.explained}
+use Rattle.chain.specs.{Missing.inTable, Missing.leafGone, Missing.newestGone, Missing.missingIn, Missing.missingInTwo, Missing.missingInThree}
+use Rattle.chain.specs.{Chain.shown, Chain.lineAt, Chain.chain, Chain.firstWith, Explained.explanation, Explained.explainedBy, Explained.explained}
 
 module _ (h w : History) (s : ℕ) (part : Without h w s) where
   -- an operand at a bar that it does not look back beyond

@@ -11,7 +11,7 @@ ghost use mathlib.Core.Path.{_≡_};
 ghost use Prim.Native.Nat.{_+_, _-_, _≤_};
 ghost use Rattle.rows.specs.History.{historyOf};
 ghost use Rattle.table.specs.Series.{asOperand};
-ghost use Rattle.rules.specs.Flat.{operandAt};
+ghost use Rattle.rules.specs.Flat.{flatOperandAt};
 ghost use Rattle.chain.specs.Missing.{Near, leafGone, newestGone, missingIn};
 ghost use Rattle.chain.specs.Missing as Missing;
 ghost use Rattle.chain.specs.Flat.{byEnds};
@@ -43,7 +43,7 @@ fn leaf_gone(
     back: usize,
     left: usize,
 ) -> Found
-    ensures { λ r. ⌜ r ≡ leafGone (historyOf slots (now (rows .entry))) (operandAt left (now (t .entry)) (now (ends .entry)) i) i bar back ⌝ }
+    ensures { λ r. ⌜ r ≡ leafGone (historyOf slots (now (rows .entry))) (flatOperandAt left (now (t .entry)) (now (ends .entry)) i) i bar back ⌝ }
 {
     if bar < back {
         return Found::Leaf(i, back);
@@ -126,7 +126,7 @@ pub(crate) fn first_missing(
 ) -> Found
     requires { ⌜ Near back left ⌝ }
     ensures { λ r. ⌜ r ≡ missingIn (byEnds (now (ends .entry))) (historyOf slots (now (rows .entry)))
-        (operandAt left (now (t .entry)) (now (ends .entry)) i) i bar back ⌝ }
+        (flatOperandAt left (now (t .entry)) (now (ends .entry)) i) i bar back ⌝ }
 {
     if left == 0 {
         return leaf_gone(t, ends, rows, slots, i, bar, back, left);

@@ -17,7 +17,7 @@ ghost use lib.Dec.{eqb, ltb};
 ghost use Rattle.rows.specs.History.{historyOf};
 ghost use Rattle.rules.specs.declared.values.Value.{Value};
 ghost use Rattle.rules.specs.Meaning.{value};
-ghost use Rattle.rules.specs.Flat.{operandAt, conditionAt};
+ghost use Rattle.rules.specs.Flat.{flatOperandAt, flatConditionAt};
 ghost use Rattle.chain.specs.declared.missing.Found.{Found};
 ghost use Rattle.chain.specs.Missing.{Near, missingIn, firstFound};
 ghost use Rattle.chain.specs.Chain as Chain;
@@ -62,7 +62,7 @@ fn operand_word(
     bar: usize,
     left: usize,
 ) -> u64
-    ensures { λ r. ⌜ r ≡ valueWord (value (historyOf slots (now (rows .entry))) (operandAt left (now (t .entry)) (now (ends .entry)) i) bar) ⌝ }
+    ensures { λ r. ⌜ r ≡ valueWord (value (historyOf slots (now (rows .entry))) (flatOperandAt left (now (t .entry)) (now (ends .entry)) i) bar) ⌝ }
 {
     match eval_operand(t, ends, rows, slots, i, bar, left) {
         Value::Missing => 0,
@@ -122,7 +122,7 @@ fn two_missing(
 ) -> Found
     requires { ⌜ Near back left ⌝ }
     ensures { λ r. ⌜ (let m : ℕ → Found = λ i. missingIn (byEnds (now (ends .entry))) (historyOf slots (now (rows .entry)))
-        (operandAt left (now (t .entry)) (now (ends .entry)) i) i bar back in
+        (flatOperandAt left (now (t .entry)) (now (ends .entry)) i) i bar back in
         r ≡ firstFound (m a) (m b)) ⌝ }
 {
     let x = first_missing(t, ends, rows, slots, a, bar, back, left);
@@ -143,8 +143,8 @@ fn show_compare(
 ) -> Detail
     requires { ⌜ left ≤ 32 ⌝ }
     ensures { λ r. ⌜ (let m : ℕ → ℕ → Found = λ i back. missingIn (byEnds (now (ends .entry))) (historyOf slots (now (rows .entry)))
-        (operandAt left (now (t .entry)) (now (ends .entry)) i) i bar back in
-        let v : ℕ → ℕ → Value = λ i at. value (historyOf slots (now (rows .entry))) (operandAt left (now (t .entry)) (now (ends .entry)) i) at in
+        (flatOperandAt left (now (t .entry)) (now (ends .entry)) i) i bar back in
+        let v : ℕ → ℕ → Value = λ i at. value (historyOf slots (now (rows .entry))) (flatOperandAt left (now (t .entry)) (now (ends .entry)) i) at in
         r ≡ detailOf (shownBy (firstFound (m a 0) (m b 0)) (v a bar ∷ v b bar ∷ []))) ⌝ }
 {
     let gone = two_missing(t, ends, rows, slots, a, b, bar, 0, left);
@@ -166,8 +166,8 @@ fn show_cross(
 ) -> Detail
     requires { ⌜ left ≤ 32 ⌝ }
     ensures { λ r. ⌜ (let m : ℕ → ℕ → Found = λ i back. missingIn (byEnds (now (ends .entry))) (historyOf slots (now (rows .entry)))
-        (operandAt left (now (t .entry)) (now (ends .entry)) i) i bar back in
-        let v : ℕ → ℕ → Value = λ i at. value (historyOf slots (now (rows .entry))) (operandAt left (now (t .entry)) (now (ends .entry)) i) at in
+        (flatOperandAt left (now (t .entry)) (now (ends .entry)) i) i bar back in
+        let v : ℕ → ℕ → Value = λ i at. value (historyOf slots (now (rows .entry))) (flatOperandAt left (now (t .entry)) (now (ends .entry)) i) at in
         r ≡ detailOf (cond (eqb bar 0) Chain.atFirstBar (shownBy (firstFound (firstFound (m a 0) (m b 0)) (firstFound (m a 1) (m b 1)))
         (v a bar ∷ v b bar ∷ v a (bar - 1) ∷ v b (bar - 1) ∷ [])))) ⌝ }
 {
@@ -198,8 +198,8 @@ fn show_between(
 ) -> Detail
     requires { ⌜ left ≤ 32 ⌝ }
     ensures { λ r. ⌜ (let m : ℕ → ℕ → Found = λ i back. missingIn (byEnds (now (ends .entry))) (historyOf slots (now (rows .entry)))
-        (operandAt left (now (t .entry)) (now (ends .entry)) i) i bar back in
-        let v : ℕ → ℕ → Value = λ i at. value (historyOf slots (now (rows .entry))) (operandAt left (now (t .entry)) (now (ends .entry)) i) at in
+        (flatOperandAt left (now (t .entry)) (now (ends .entry)) i) i bar back in
+        let v : ℕ → ℕ → Value = λ i at. value (historyOf slots (now (rows .entry))) (flatOperandAt left (now (t .entry)) (now (ends .entry)) i) at in
         r ≡ detailOf (shownBy (firstFound (firstFound (m x 0) (m low 0)) (m high 0)) (v x bar ∷ v low bar ∷ v high bar ∷ []))) ⌝ }
 {
     let two = two_missing(t, ends, rows, slots, x, low, bar, 0, left);
@@ -224,8 +224,8 @@ fn show_trend(
 ) -> Detail
     requires { ⌜ Near n left ⌝ }
     ensures { λ r. ⌜ (let m : ℕ → ℕ → Found = λ i back. missingIn (byEnds (now (ends .entry))) (historyOf slots (now (rows .entry)))
-        (operandAt left (now (t .entry)) (now (ends .entry)) i) i bar back in
-        let v : ℕ → ℕ → Value = λ i at. value (historyOf slots (now (rows .entry))) (operandAt left (now (t .entry)) (now (ends .entry)) i) at in
+        (flatOperandAt left (now (t .entry)) (now (ends .entry)) i) i bar back in
+        let v : ℕ → ℕ → Value = λ i at. value (historyOf slots (now (rows .entry))) (flatOperandAt left (now (t .entry)) (now (ends .entry)) i) at in
         r ≡ detailOf (cond (ltb bar n) Chain.tooFewBars (shownBy (firstFound (m a 0) (m a n)) (v a bar ∷ v a (bar - n) ∷ [])))) ⌝ }
 {
     let back = n as usize;
@@ -285,7 +285,7 @@ pub(crate) fn show(
 ) -> Detail
     requires { ⌜ left ≤ 32 ⌝ }
     ensures { λ r. ⌜ r ≡ detailOf (shown (byEnds (now (ends .entry))) (historyOf slots (now (rows .entry))) s
-        (conditionAt left (now (t .entry)) (now (ends .entry)) i) i bar) ⌝ }
+        (flatConditionAt left (now (t .entry)) (now (ends .entry)) i) i bar) ⌝ }
 {
     if left == 0 {
         return bare(LINK);

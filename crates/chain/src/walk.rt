@@ -12,7 +12,7 @@ ghost use lib.ListN.{length};
 ghost use Rattle.rows.specs.History.{historyOf};
 ghost use Rattle.words.specs.Words.{overwrite};
 ghost use Rattle.rules.specs.Meaning.{holds};
-ghost use Rattle.rules.specs.Flat.{conditionAt};
+ghost use Rattle.rules.specs.Flat.{flatConditionAt};
 ghost use Rattle.chain.specs.Chain.{lineAt, chain};
 ghost use Rattle.chain.specs.Lines.{lineFrom, lineWords, putLines};
 ghost use Rattle.chain.specs.Flat.{byEnds, firstAt, nextAt};
@@ -37,7 +37,7 @@ fn first_with(
     left: usize,
 ) -> Next
     ensures { λ r. ⌜ r ≡ firstAt (now (ends .entry))
-        (λ j. holds (historyOf slots (now (rows .entry))) s (conditionAt left (now (t .entry)) (now (ends .entry)) j) bar) answer n first ⌝ }
+        (λ j. holds (historyOf slots (now (rows .entry))) s (flatConditionAt left (now (t .entry)) (now (ends .entry)) j) bar) answer n first ⌝ }
 {
     let mut at = first;
     let mut m = n;
@@ -126,7 +126,7 @@ fn put_line(
     requires { ⌜ left + at ≤ 32 ⌝ }
     ensures { λ _. ⌜ now (lines .exit) ≡ overwrite (now (lines .entry)) (8 * at)
         (lineWords (lineAt (byEnds (now (ends .entry))) (historyOf slots (now (rows .entry))) s
-        (conditionAt left (now (t .entry)) (now (ends .entry)) i) i bar)) ⌝ }
+        (flatConditionAt left (now (t .entry)) (now (ends .entry)) i) i bar)) ⌝ }
 {
     let yes = eval_condition(t, ends, rows, slots, s, i, bar, left);
     let d = show(t, ends, rows, slots, s, i, bar, left);
@@ -149,9 +149,9 @@ pub(crate) fn walk(
 ) -> usize
     requires { ⌜ left + at ≤ 32 ⌝ }
     ensures { λ r. ⌜ r ≡ at + length (chain (byEnds (now (ends .entry))) (historyOf slots (now (rows .entry))) s
-        (conditionAt left (now (t .entry)) (now (ends .entry)) i) i bar) ⌝ }
+        (flatConditionAt left (now (t .entry)) (now (ends .entry)) i) i bar) ⌝ }
     ensures { λ _. ⌜ now (lines .exit) ≡ putLines (now (lines .entry)) at (chain (byEnds (now (ends .entry))) (historyOf slots (now (rows .entry))) s
-        (conditionAt left (now (t .entry)) (now (ends .entry)) i) i bar) ⌝ }
+        (flatConditionAt left (now (t .entry)) (now (ends .entry)) i) i bar) ⌝ }
 {
     put_line(t, ends, rows, slots, s, i, bar, left, lines, at);
     match next_node(t, ends, rows, slots, s, i, bar, left) {

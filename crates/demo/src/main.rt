@@ -266,25 +266,25 @@ fn say_trade(trades: &[u64], i: usize) {
     report::say_count(b"  trade ", i as u64, b"");
     report::say_float(
         b"       in ",
-        floats::float_of(words::word_from(trades, base, 2)),
+        floats::float_of(words::word_from(trades, base, words::places::TRADE_ENTRY_PRICE)),
         b"",
     );
     report::say_float(
         b", out ",
-        floats::float_of(words::word_from(trades, base, 3)),
+        floats::float_of(words::word_from(trades, base, words::places::TRADE_EXIT_PRICE)),
         b"",
     );
     report::say_float(
         b", pnl ",
-        floats::float_of(words::word_from(trades, base, 5)),
+        floats::float_of(words::word_from(trades, base, words::places::TRADE_PNL)),
         b", worst ",
     );
     report::say_float(
         b"",
-        floats::float_of(words::word_from(trades, base, 9)),
+        floats::float_of(words::word_from(trades, base, words::places::TRADE_WORST)),
         b", ",
     );
-    report::say_reason(words::word_from(trades, base, 7));
+    report::say_reason(words::word_from(trades, base, words::places::TRADE_REASON));
 }
 
 // The first trades of the day.

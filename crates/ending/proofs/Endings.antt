@@ -8,8 +8,8 @@ use Rattle.words.specs.{declared.refusal.Refusal.Refusal}
 use Rattle.records.specs.{declared.settings.Settings.Settings, declared.state.State.State, Lent.Rooms}
 use Rattle.refusals.specs.{declared.verdict.Verdict.the-variants.Fine, declared.verdict.Verdict.the-variants.Bad, Judgement.finishJudged}
 use Rattle.engine.specs.{declared.answer.Ended.Ended, declared.answer.Finished.Finished, declared.answer.Finished.the-variants.Refused}
-use Rattle.engine.specs.{declared.answer.Finished.the-variants.Done, Books.booked, Finish.lastExit, Finish.remarked, Finish.endState, Finish.measured, Finish.ended}
-use Rattle.engine.specs.{Finish.concluded, Finish.finishOf, Step.Is}
+use Rattle.engine.specs.{declared.answer.Finished.the-variants.Done, Books.booked, Finish.lastExit, Finish.remarked, Finish.endState, Finish.measured}
+use Rattle.engine.specs.{Finish.ended, Finish.concluded, Finish.finishOf, Step.Is}
 use Rattle.words.specs.Limits as Limits
 
 -- the last point: there is none, it lies past the room, or it is written

@@ -5,13 +5,14 @@ use Rattle.words.specs.{Laws.Records.record-ends, Limits.barWords, declared.ref
 use Rattle.rows.specs.{History.width, Laws.Turned.turned-none, Ring.turned}
 use Rattle.records.specs.{declared.settings.Settings.Settings, declared.state.State.State, Lent.Lists, Lent.Rooms, Lent.rooms, Lent.rowPlaces, Lent.pointPlaces}
 use Rattle.records.specs.{Lent.tradePlaces}
-use Rattle.refusals.specs.{declared.verdict.Verdict.Verdict, declared.verdict.Verdict.the-variants.Fine, declared.verdict.Verdict.the-variants.Bad, Day.nextLines}
-use Rattle.refusals.specs.{Judgement.stepJudged, Laws.Fine.settings-fine, Laws.Lines.and-true, Laws.Lines.first-holds, Laws.Lines.fine-adds-nothing}
-use Rattle.refusals.specs.{Laws.Steady.next-judged, Lines.line, Lines.judged, Lists.listLines, Rooms.roomLines}
+use Rattle.refusals.specs.{declared.verdict.Verdict.Verdict, declared.verdict.Verdict.the-variants.Fine, declared.verdict.Verdict.the-variants.Bad}
+use Rattle.refusals.specs.{Day.nextLines, Judgement.stepJudged, Laws.Fine.settings-fine, Laws.Lines.and-true, Laws.Lines.first-holds}
+use Rattle.refusals.specs.{Laws.Lines.fine-adds-nothing, Laws.Steady.next-judged, Lines.line, Lines.judged, Lists.listLines, Rooms.roomLines}
 use Rattle.engine.specs.{declared.answer.Advanced.Advanced, declared.answer.Answer.Answer, declared.answer.Answer.the-variants.Refused}
-use Rattle.engine.specs.{declared.answer.Answer.the-variants.Done, Boxes.SameLengths, Day.Underway, Day.cut, Day.dayOf, InPlace.RingAt, InPlace.Turns}
-use Rattle.engine.specs.{Laws.Days.answerIn, Laws.Days.day-one, Laws.Days.stays-underway, Laws.Days.After, Laws.Days.after-none, Laws.Days.nextBar}
-use Rattle.engine.specs.{Laws.Days.after-all, Laws.Days.after-more, Laws.Days.after-refused, Run.runOver, Step.Is, Step.Ready, Step.advanced, Step.stepAnswer}
+use Rattle.engine.specs.{declared.answer.Answer.the-variants.Done, Boxes.SameLengths, Day.Underway, Day.inRecords, Day.dayOf, InPlace.RingAt}
+use Rattle.engine.specs.{InPlace.Turns, Laws.Days.answerIn, Laws.Days.day-one, Laws.Days.stays-underway, Laws.Days.After, Laws.Days.after-none}
+use Rattle.engine.specs.{Laws.Days.nextBar, Laws.Days.after-all, Laws.Days.after-more, Laws.Days.after-refused, Run.runOver, Step.Is, Step.Ready}
+use Rattle.engine.specs.{Step.advanced, Step.stepAnswer}
 use Rattle.engine.proofs.{OneBar.ready, OneBar.refused, OneBar.went}
 
 -- ---- a bar
@@ -104,7 +105,7 @@ module _ (one : Bool) (s : Settings) (ls : Lists) (t₀ : State) (m₀ : Rooms) 
         }
 
     pub stops : {why : Refusal} {u : State} → r .answer ≡ Refused why u
-        → runOver s ls t₀ m₀ (cut (length bars / barWords (s .slots)) (barWords (s .slots)) bars)
+        → runOver s ls t₀ m₀ (inRecords (length bars / barWords (s .slots)) (barWords (s .slots)) bars)
         ≡ record { done = done; verdict = Bad why; state = u; rooms = rooms (turned (width (s .slots)) (r .start) ws) es ts }
     stops {why} {u} e =
         let went : Is Answer (stepAnswer s t bar room ls) (Refused why u) (turned (width (s .slots)) (r .start) ws) es ts = rw e at (d .answer) in
@@ -112,7 +113,7 @@ module _ (one : Bool) (s : Settings) (ls : Lists) (t₀ : State) (m₀ : Rooms) 
 
 pub all-done : (one : Bool) (s : Settings) (ls : Lists) (t₀ : State) (m₀ : Rooms) (bars : List ℕ) (done start : ℕ) (t : State) (rows equity trades : List ℕ)
     → Turn one s ls t₀ m₀ bars done start t rows equity trades → length bars / barWords (s .slots) ≤ done
-    → runOver s ls t₀ m₀ (cut (length bars / barWords (s .slots)) (barWords (s .slots)) bars)
+    → runOver s ls t₀ m₀ (inRecords (length bars / barWords (s .slots)) (barWords (s .slots)) bars)
     ≡ record { done = done; verdict = Fine; state = t; rooms = rooms (turned (width (s .slots)) start rows) equity trades }
 all-done one s ls t₀ m₀ bars done start t rows equity trades c h = after-all s ls t₀ m₀ bars _ _ done h (c .after)
 

@@ -14,27 +14,27 @@ use Rattle.engine.specs.{Laws.Verdict.handed-fine, Step.Is, Step.Ready, 
 use Rattle.engine.specs.{Step.stepAnswer}
 
 module _ (s : Settings) (t : State) (bar : List ℕ) (m : Rooms) (ls : Lists) where
-  pub phases : (k : Candle) (f : Filled) (x : Left) (p : Position) (o : Order) (sold held stopped points : ℕ) (ts us ws es : List ℕ)
+  pub phases : (k : Candle) (f : Filled) (x : Left) (p : Position) (o : Order) (atOpen held inside points : ℕ) (ts us ws es : List ℕ)
       → k ≡ candleOf bar
       → f ≡ filled s (t .order) (t .position) k (historyOf (s .slots) (heldRows (s .slots) (t .counts .«rows_held») (m .rows))) (t .counts .«bars_seen»)
-      → (sold ≡ booked (m .trades) (t .counts .trades) (f .«exit») .count) × (ts ≡ booked (m .trades) (t .counts .trades) (f .«exit») .room)
+      → (atOpen ≡ booked (m .trades) (t .counts .trades) (f .«exit») .count) × (ts ≡ booked (m .trades) (t .counts .trades) (f .«exit») .room)
       → (held ≡ heldWith (m .rows) (t .counts .«rows_held») (rowOf (s .slots) bar))
       × (ws ≡ withRow (m .rows) (t .counts .«rows_held») (rowOf (s .slots) bar))
       → x ≡ intrabar s (f .position) k
-      → (stopped ≡ booked ts sold (x .«exit») .count) × (us ≡ booked ts sold (x .«exit») .room)
+      → (inside ≡ booked ts atOpen (x .«exit») .count) × (us ≡ booked ts atOpen (x .«exit») .room)
       → p ≡ charged s (x .position) bar
       → (points ≡ marked (m .equity) (t .counts .«equity_points») k p .count) × (es ≡ marked (m .equity) (t .counts .«equity_points») k p .room)
       → o ≡ decided s (f .order) p (t .counts .«bars_seen») (k .close) (heldRows (s .slots) held ws) ls
       → Is State (stepped s t bar m ls)
       (record {
-        counts = record { «bars_seen» = t .counts .«bars_seen» + 1; «rows_held» = held; «equity_points» = points; trades = stopped };
+        counts = record { «bars_seen» = t .counts .«bars_seen» + 1; «rows_held» = held; «equity_points» = points; trades = inside };
         order = o;
         position = p;
         last = record { time = k .time; close = k .close };
       })
       ws es us
   unfolding stepped
-  phases k f x p o sold held stopped points ts us ws es ek ef es₁ er ex es₂ ep em eo =
+  phases k f x p o atOpen held inside points ts us ws es ek ef es₁ er ex es₂ ep em eo =
       rw (eo, em .0, em .1, ep, es₂ .0, es₂ .1, ex, er .0, er .1, es₁ .0, es₁ .1, ef, ek)
       (record { result = refl; rows = refl; equity = refl; trades = refl })
 

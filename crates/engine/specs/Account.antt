@@ -36,8 +36,8 @@ waiting order p = record { order = order; position = p; «exit» = NoExit; «tur
 
 -- at the raw price that the order's kind gives, "with the rate of `slippage_rate`"; "Realized volatility reads the rows before this bar."
 -- Decided: an order filled or dropped no longer works.
-unfoldable pub entered : Side → OrderKind → Float → Settings → Position → Candle → History → ℕ → Filled
-entered side kind price s p k before number =
+unfoldable pub entryFilled : Side → OrderKind → Float → Settings → Position → Candle → History → ℕ → Filled
+entryFilled side kind price s p k before number =
     let bps = feeBps kind (s .entries .«maker_bps») (s .terms .«taker_bps») in
     let e = executeEntry side price bps (s .terms) k (p .portfolio) before in
     record { order = Idle; position = entering p e number; «exit» = NoExit; «turned_away» = isTurnedAway e }
@@ -47,29 +47,29 @@ unfoldable pub facing : Position → Candle → Position
 facing p k = record { portfolio = worsened (p .portfolio) k; entered = p .entered; extreme = p .extreme }
 
 -- "Exit only if |qty| > EPS."
-unfoldable pub exited : Settings → Position → Candle → Filled
-exited s p k =
+unfoldable pub exitFilled : Settings → Position → Candle → Filled
+exitFilled s p k =
     let q = facing p k in
     let x = executeExit signal (k .«open») (s .terms) k (q .portfolio) in
     record { order = Idle; position = leaving q x; «exit» = x; «turned_away» = false }
 
 -- What is due at a bar: an entry where it is reached, at its price; ".. else works on unchanged"
-unfoldable pub reached : Side → OrderKind → Order → Optional → Due
-reached side kind order Absent = Waits order
-reached side kind order (Of price) = Enters side kind price
+unfoldable pub dueIfReached : Side → OrderKind → Order → Optional → Due
+dueIfReached side kind order Absent = Waits order
+dueIfReached side kind order (Of price) = Enters side kind price
 
 -- "Fill: a delay above 0 counts down by 1; otherwise at the open", or where the bar reaches the level
 unfoldable pub dueOf : Order → Candle → Due
 dueOf Idle k = Waits Idle
-dueOf (EnterLong n kind) k = cond (ltb 0 n) (Waits (EnterLong (n - 1) kind)) (reached Long kind (EnterLong n kind) (levelFill Long kind k))
-dueOf (EnterShort n kind) k = cond (ltb 0 n) (Waits (EnterShort (n - 1) kind)) (reached Short kind (EnterShort n kind) (levelFill Short kind k))
+dueOf (EnterLong n kind) k = cond (ltb 0 n) (Waits (EnterLong (n - 1) kind)) (dueIfReached Long kind (EnterLong n kind) (levelFill Long kind k))
+dueOf (EnterShort n kind) k = cond (ltb 0 n) (Waits (EnterShort (n - 1) kind)) (dueIfReached Short kind (EnterShort n kind) (levelFill Short kind k))
 dueOf (ExitOrder n) k = cond (ltb 0 n) (Waits (ExitOrder (n - 1))) Leaves
 
 -- and what is due is done
 unfoldable pub doneOf : Due → Settings → Position → Candle → History → ℕ → Filled
 doneOf (Waits order) s p k before number = waiting order p
-doneOf (Enters side kind price) s p k before number = entered side kind price s p k before number
-doneOf Leaves s p k before number = exited s p k
+doneOf (Enters side kind price) s p k before number = entryFilled side kind price s p k before number
+doneOf Leaves s p k before number = exitFilled s p k
 
 unfoldable pub filled : Settings → Order → Position → Candle → History → ℕ → Filled
 filled s order p k before number = doneOf (dueOf order k) s p k before number

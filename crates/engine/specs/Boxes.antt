@@ -4,8 +4,8 @@ use Rattle.words.specs.{declared.refusal.Refusal.Refusal}
 use Rattle.portfolio.specs.{declared.Trade.Trade, Trade.wordsOfTrade}
 use Rattle.records.specs.{declared.settings.Settings.Settings, declared.state.State.State, Lent.Rooms, Lent.rowPlaces, Lent.pointPlaces, Lent.tradePlaces}
 use Rattle.refusals.specs.{declared.verdict.Verdict.Verdict, declared.verdict.Verdict.the-variants.Bad}
-use Rattle.engine.specs.{Books.Point, Books.wordsOfPoint, Books.heldPoints, Books.heldTrades, Whole.Account, Whole.accountOf, Whole.rowsHeld, Whole.lastOf}
-use Rattle.engine.specs.{Whole.Whole}
+use Rattle.engine.specs.{Books.Point, Books.wordsOfPoint, Books.heldPoints, Books.heldTrades, Whole.Account, Whole.accountOf, Whole.rowsHeld}
+use Rattle.engine.specs.{Whole.lastOf, Whole.Ledger}
 use Rattle.words.specs.Limits as Limits
 
 -- ---- a box and its rooms
@@ -44,7 +44,7 @@ pub record Follows (s : Settings) (t : State) (m : Rooms) (a : Account) (rows : 
   pub window : lastOf s (rowsHeld s t m) ≡ lastOf s rows
 
 -- The box (t, m) has the account of a whole run, and holds exactly its points and trades.
-pub record Holds (t : State) (m : Rooms) (w : Whole) : Type 0 where
+pub record Holds (t : State) (m : Rooms) (w : Ledger) : Type 0 where
   pub account : accountOf t ≡ w .account
   pub points : t .counts .«equity_points» ≡ length (w .points)
   pub trades : t .counts .trades ≡ length (w .trades)

@@ -3,19 +3,19 @@
 use Rattle.words.specs.Prelude.{ℕ, zero, suc, _/_, _≡_, Bool, true, false, cond, List, [], _∷_, eqb, length, take, drop}
 use Rattle.words.specs.{Limits.barWords, declared.refusal.Refusal.Refusal}
 use Rattle.records.specs.{declared.settings.Settings.Settings, declared.state.State.State, Lent.Lists, Lent.Rooms}
-use Rattle.refusals.specs.{declared.verdict.Verdict.Verdict, declared.verdict.Verdict.the-variants.Fine, declared.verdict.Verdict.the-variants.Bad, Day.wholeBars}
-use Rattle.refusals.specs.{Laws.Steady.Steady, Lines.judged, Lists.listLines}
-use Rattle.engine.specs.{declared.day.Day.Day, declared.day.Taken.Taken, Run.Run, Run.runOver}
+use Rattle.refusals.specs.{declared.verdict.Verdict.Verdict, declared.verdict.Verdict.the-variants.Fine, declared.verdict.Verdict.the-variants.Bad}
+use Rattle.refusals.specs.{Day.wholeBars, Laws.Steady.Steady, Lines.judged, Lists.listLines}
+use Rattle.engine.specs.{declared.day.Day.Day, declared.day.RingDay.RingDay, Run.Run, Run.runOver}
 
 -- the first n records of a list, each of w words
-unfoldable pub cut : ℕ → ℕ → List ℕ → List (List ℕ)
-cut zero w ws = []
-cut (suc n) w ws = take w ws ∷ cut n w (drop w ws)
+unfoldable pub inRecords : ℕ → ℕ → List ℕ → List (List ℕ)
+inRecords zero w ws = []
+inRecords (suc n) w ws = take w ws ∷ inRecords n w (drop w ws)
 
 -- Decided: the bars are one list of records of 10 + K words. "13: .. a .. bar .. list is not whole records": it is judged as a step that is handed
 -- the list as its bar.
 unfoldable pub barsIn : ℕ → List ℕ → List (List ℕ)
-barsIn K bars = cond (wholeBars K bars) (cut (length bars / barWords K) (barWords K) bars) (bars ∷ [])
+barsIn K bars = cond (wholeBars K bars) (inRecords (length bars / barWords K) (barWords K) bars) (bars ∷ [])
 
 -- a call of one bar takes the list as that bar
 unfoldable pub barsFor : Bool → ℕ → List ℕ → List (List ℕ)
@@ -35,17 +35,17 @@ dayOf one s t bars m ls = runOver s ls t m (barsFor one (s .slots) bars)
 abbrev pub runWith : Day → Rooms → Run
 runWith d m = record { done = d .done; verdict = d .verdict; state = d .state; rooms = m }
 
-abbrev pub takenWith : Taken → Rooms → Run
-takenWith d m = record { done = d .done; verdict = d .verdict; state = d .state; rooms = m }
+abbrev pub runOfRing : RingDay → Rooms → Run
+runOfRing d m = record { done = d .done; verdict = d .verdict; state = d .state; rooms = m }
 
 -- a call whose first bar is refused
-abbrev pub stopped : State → Refusal → Day
-stopped t why = record { done = 0; verdict = Bad why; state = t }
+abbrev pub firstRefused : State → Refusal → Day
+firstRefused t why = record { done = 0; verdict = Bad why; state = t }
 
 -- 15 comes last: where the first bar is refused with another number, that is given
 unfoldable pub unlistedBy : Verdict → State → Refusal → Day
-unlistedBy (Bad why) t fifteen = stopped t why
-unlistedBy Fine t fifteen = stopped t fifteen
+unlistedBy (Bad why) t fifteen = firstRefused t why
+unlistedBy Fine t fifteen = firstRefused t fifteen
 
 -- what was looked at once, and stays fine from bar to bar: what Steady says, and the lists
 pub record Underway (s : Settings) (t : State) (m : Rooms) (ls : Lists) : Type 0 where

@@ -4,8 +4,8 @@ use Rattle.words.specs.Prelude.{ℕ, _+_, _≤_, _≡_, Bool, true, false, cond
 use Rattle.words.specs.{Limits.rowWords, Words.overwrite, Words.shifted}
 use Rattle.rows.specs.{declared.ring.Ring.Ring, History.width, History.lastRows, Laws.Ring.RingFine, Ring.ringOf, Ring.turned, Ring.ringWith, Ring.ringAfter}
 use Rattle.rows.specs.{Room.withRow, Room.heldWith}
-use Rattle.records.specs.{declared.settings.Settings.Settings, declared.state.Order.Order, declared.state.Position.Position, declared.state.State.State, Lent.Lists}
-use Rattle.records.specs.{Lent.rowPlaces}
+use Rattle.records.specs.{declared.settings.Settings.Settings, declared.state.Order.Order, declared.state.Position.Position, declared.state.State.State}
+use Rattle.records.specs.{Lent.Lists, Lent.rowPlaces}
 use Rattle.refusals.specs.{declared.verdict.Verdict.the-variants.Fine, Lines.judged, Lists.listLines}
 use Rattle.engine.specs.{declared.answer.Advanced.Advanced, declared.answer.Answer.Answer, declared.record.Place.Place}
 use Rattle.engine.specs.{declared.answer.Answer.the-variants.Refused, declared.answer.Answer.the-variants.Done, Decide.answersOf, Decide.stateAt}
@@ -51,11 +51,11 @@ pub record ReadyAt (one : Bool) (s : Settings) (t : State) (bar rows : List ℕ)
   pub lists : judged (listLines (s .slots) (s .depth) ls) ≡ Fine
 
 -- the state that an answer hands back
-abbrev pub stateIn : Answer → State
-stateIn (Refused why t) = t
-stateIn (Done t) = t
+abbrev pub answerState : Answer → State
+answerState (Refused why t) = t
+answerState (Done t) = t
 
 -- each part is the definition's, for rows that stand with the oldest first
 pub record Turns (one : Bool) (s : Settings) (d : With Answer) (r : Advanced) (ws es ts : List ℕ) : Type 0 where
   pub answer : Is Answer d (r .answer) (turned (width (s .slots)) (r .start) ws) es ts
-  pub at : RingAt one s (stateIn (r .answer)) ws (r .start)
+  pub at : RingAt one s (answerState (r .answer)) ws (r .start)

@@ -1,7 +1,8 @@
 -- The rules of a table and what they mean, and the settings and lists that belong to a table.
 use Rattle.words.specs.Prelude.{ℕ, _<_, _≡_, List}
 use Rattle.rows.specs.{History.History}
-use Rattle.table.specs.{declared.answer.Answer.the-variants.Accepted, Checked.checked, Header.slots, Reading.treeOf, Trees.Condition, Trees.reachOf, Bytes.Bytes}
+use Rattle.table.specs.{declared.answer.Answer.the-variants.Accepted, Checked.checked, Header.slots, Reading.treeOf, Trees.Condition, Trees.reachOf}
+use Rattle.table.specs.{Bytes.Bytes}
 use Rattle.rules.specs.{declared.position.PositionState.PositionState}
 use Rattle.steps.specs.{Bytes.bytesOf, Translating.stepsOf}
 use Rattle.records.specs.{declared.settings.Settings.Settings, Lent.Lists}

@@ -27,21 +27,21 @@ stepped s t bar m ls =
     let n = t .counts in
     let k = candleOf bar in
     let f = fillOf s t bar m in
-    let sold = booked (m .trades) (n .trades) (f .«exit») in
+    let atOpen = booked (m .trades) (n .trades) (f .«exit») in
     let rows = withRow (m .rows) (n .«rows_held») (rowOf (s .slots) bar) in
     let held = heldWith (m .rows) (n .«rows_held») (rowOf (s .slots) bar) in
     let x = intrabar s (f .position) k in
-    let stopped = booked (sold .room) (sold .count) (x .«exit») in
+    let inside = booked (atOpen .room) (atOpen .count) (x .«exit») in
     let p = charged s (x .position) bar in
     let e = marked (m .equity) (n .«equity_points») k p in
     record {
       result = record {
-        counts = record { «bars_seen» = n .«bars_seen» + 1; «rows_held» = held; «equity_points» = e .count; trades = stopped .count };
+        counts = record { «bars_seen» = n .«bars_seen» + 1; «rows_held» = held; «equity_points» = e .count; trades = inside .count };
         order = decided s (f .order) p (n .«bars_seen») (k .close) (heldRows (s .slots) held rows) ls;
         position = p;
         last = record { time = k .time; close = k .close };
       };
-      rooms = record { rows = rows; equity = e .room; trades = stopped .room };
+      rooms = record { rows = rows; equity = e .room; trades = inside .room };
     }
 
 -- The paper's values for each case of the answer. "A refusal returns number, place and the state it was given, and changes

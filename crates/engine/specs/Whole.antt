@@ -85,31 +85,31 @@ taken = takenBy filled
 -- ---- bar after bar
 
 -- What bars come to: the account after the last of them, and the points and trades of all.
-pub record Whole : Type 0 where
+pub record Ledger : Type 0 where
   pub account : Account
   pub points : List Point
   pub trades : List Trade
 
 -- each bar reads the rows of every bar before it
-unfoldable pub wholeRunBy : Fill → Settings → Asked → Account → List ℕ → List (List ℕ) → Whole
+unfoldable pub wholeRunBy : Fill → Settings → Asked → Account → List ℕ → List (List ℕ) → Ledger
 wholeRunBy fill s asked a rows [] = record { account = a; points = []; trades = [] }
 wholeRunBy fill s asked a rows (bar ∷ bars) =
     let b = takenBy fill s asked a rows bar in
     let later = wholeRunBy fill s asked (b .account) (rows ++ rowOf (s .slots) bar) bars in
     record { account = later .account; points = b .point ∷ later .points; trades = b .trades ++ later .trades }
 
-abbrev pub wholeRun : Settings → Asked → Account → List ℕ → List (List ℕ) → Whole
+abbrev pub wholeRun : Settings → Asked → Account → List ℕ → List (List ℕ) → Ledger
 wholeRun = wholeRunBy filled
 
 -- from a fresh state, by what the rules of a table mean
-abbrev pub meantRun : List ℕ → Settings → List (List ℕ) → Whole
+abbrev pub meantRun : List ℕ → Settings → List (List ℕ) → Ledger
 meantRun table s bars = wholeRun s (byMeaning s (rulesOf table)) (accountOf (freshState s)) [] bars
 
 -- ---- the end
 
 -- an account as a state that holds nothing
-abbrev pub stateOf : Account → State
-stateOf a = record {
+abbrev pub stateOfAccount : Account → State
+stateOfAccount a = record {
   counts = record { «bars_seen» = a .seen; «rows_held» = 0; «equity_points» = 0; trades = 0 };
   order = a .order;
   position = a .position;
@@ -122,9 +122,9 @@ endPoints ps NoExit close = ps
 endPoints ps (Exited c) close = lastBecomes ps (equity (c .portfolio) close)
 
 -- "Finish closes an open position, if a bar was seen, at the last close with a taker fee, reason end."
-unfoldable pub wholeEnd : Settings → Whole → Whole
+unfoldable pub wholeEnd : Settings → Ledger → Ledger
 wholeEnd s w =
-    let x = lastExit s (stateOf (w .account)) in
+    let x = lastExit s (stateOfAccount (w .account)) in
     let a = w .account in
     record {
       account = record { seen = a .seen; order = a .order; position = leaving (a .position) x; last = a .last };
@@ -132,5 +132,5 @@ wholeEnd s w =
       trades = w .trades ++ tradesOf x;
     }
 
-unfoldable pub wholeMetrics : Settings → Whole → Metrics
+unfoldable pub wholeMetrics : Settings → Ledger → Metrics
 wholeMetrics s w = metricsOf (s .capital) (equityOf (flatMap wordsOfPoint (w .points))) (pnlsOf (flatMap wordsOfTrade (w .trades)))

@@ -6,7 +6,7 @@ ghost use Rattle.words.specs.Limits.{mostSlots};
 ghost use Rattle.rows.specs.Ring.{ringOf};
 ghost use Rattle.engine.specs.Record.{heldRows};
 ghost use Rattle.engine.specs.Account as Account;
-ghost use Rattle.engine.specs.Account.{leaving, facing, entering, reached, dueOf, charged};
+ghost use Rattle.engine.specs.Account.{leaving, facing, entering, dueIfReached, dueOf, charged};
 ghost use Rattle.engine.specs.Books.{booked, marked};
 use crate::record;
 use crate::terms;
@@ -107,7 +107,7 @@ fn enter(
     number: u64,
 ) -> Filled
     requires { ⌜ s .slots ≤ mostSlots ⌝ }
-    ensures { λ r. ⌜ r ≡ Account.entered side kind price s p candle
+    ensures { λ r. ⌜ r ≡ Account.entryFilled side kind price s p candle
         (ringOf (s .slots) (before .start) (heldRows (s .slots) (before .held) (now (rows .entry)))) number ⌝ }
 {
     let account = p.portfolio;
@@ -139,7 +139,7 @@ fn enter(
 
 // An exit at the open.
 fn leave(s: Settings, p: Position, candle: Candle) -> Filled
-    ensures { λ r. ⌜ r ≡ Account.exited s p candle ⌝ }
+    ensures { λ r. ⌜ r ≡ Account.exitFilled s p candle ⌝ }
 {
     let terms = s.terms;
     let open = facing(p, candle);
@@ -167,8 +167,8 @@ fn wait(order: Order, p: Position) -> Filled
 }
 
 // An entry is due where the bar reaches it; the order works on where it does not.
-fn reached(side: Side, kind: OrderKind, order: Order, price: Optional) -> Due
-    ensures { λ r. ⌜ r ≡ reached side kind order price ⌝ }
+fn due_if_reached(side: Side, kind: OrderKind, order: Order, price: Optional) -> Due
+    ensures { λ r. ⌜ r ≡ dueIfReached side kind order price ⌝ }
 {
     match price {
         Optional::Absent => Due::Waits(order),
@@ -186,7 +186,7 @@ fn due_of(order: Order, candle: Candle) -> Due
             if 0 < n {
                 return Due::Waits(Order::EnterLong(n - 1, kind));
             }
-            reached(
+            due_if_reached(
                 Side::Long,
                 kind,
                 order,
@@ -197,7 +197,7 @@ fn due_of(order: Order, candle: Candle) -> Due
             if 0 < n {
                 return Due::Waits(Order::EnterShort(n - 1, kind));
             }
-            reached(
+            due_if_reached(
                 Side::Short,
                 kind,
                 order,

@@ -9,7 +9,7 @@ ghost use Rattle.refusals.specs.Day.{nextLines};
 ghost use Rattle.refusals.specs.Lines.{judged};
 ghost use Rattle.rows.specs.History.{width};
 ghost use Rattle.rows.specs.Ring.{turned};
-ghost use Rattle.engine.specs.Day.{Underway, cut, noBars, dayOf, runWith, takenWith, unlistedBy};
+ghost use Rattle.engine.specs.Day.{Underway, inRecords, noBars, dayOf, runWith, runOfRing, unlistedBy};
 ghost use Rattle.engine.specs.InPlace.{RingAt, Turns};
 ghost use Rattle.engine.specs.Run.{runOver};
 ghost use Rattle.engine.specs.Step.{stepAnswer};
@@ -30,7 +30,7 @@ pub struct Day {
 }
 
 // The same, and the row of the room at which the rows held begin then.
-pub struct Taken {
+pub struct RingDay {
     pub done: usize,
     pub verdict: Verdict,
     pub state: State,
@@ -97,12 +97,12 @@ fn take_bars<'a>(
     exit: &'a [u8],
     short_entry: &[u8],
     short_exit: &'a [u8],
-) -> Taken
+) -> RingDay
     requires { ⌜ Underway s t (rooms (now rows) (now equity) (now trades)) (lists (now entry) (now «exit») (now «short_entry») (now «short_exit»)) ⌝ }
     ensures { λ r. ⌜ runOver s (lists (now (entry .entry)) (now («exit» .entry)) (now («short_entry» .entry)) (now («short_exit» .entry))) t
         (rooms (now (rows .entry)) (now (equity .entry)) (now (trades .entry)))
-        (cut (length (now (bars .entry)) / barWords (s .slots)) (barWords (s .slots)) (now (bars .entry)))
-        ≡ takenWith r (rooms (turned (width (s .slots)) (r .start) (now (rows .exit))) (now (equity .exit)) (now (trades .exit))) ⌝ }
+        (inRecords (length (now (bars .entry)) / barWords (s .slots)) (barWords (s .slots)) (now (bars .entry)))
+        ≡ runOfRing r (rooms (turned (width (s .slots)) (r .start) (now (rows .exit))) (now (equity .exit)) (now (trades .exit))) ⌝ }
 {
     let width = BAR_FIXED + s.slots;
     let count = bars.len() / width;
@@ -129,7 +129,7 @@ fn take_bars<'a>(
         start = went.start;
         let answer = went.answer;
         match answer {
-            Answer::Refused(refusal, given) => return Taken {
+            Answer::Refused(refusal, given) => return RingDay {
                 done,
                 verdict: Verdict::Bad(refusal),
                 state: given,
@@ -141,7 +141,7 @@ fn take_bars<'a>(
             }
         }
     }
-    Taken {
+    RingDay {
         done,
         verdict: Verdict::Fine,
         state,

@@ -64,13 +64,13 @@ pub(crate) fn advance<'a>(
     }
     let working = filled.order;
     let opened = filled.position;
-    let sold = filled.exit;
-    let booked = account::book(trades, n.trades, sold);
+    let at_open = filled.exit;
+    let booked = account::book(trades, n.trades, at_open);
     record::record_bar(rows, place, bar, s.slots);
     let left = account::apply_intrabar_exits(s, opened, candle);
     let open = left.position;
-    let stopped = left.exit;
-    let closed = account::book(trades, booked, stopped);
+    let inside = left.exit;
+    let closed = account::book(trades, booked, inside);
     let charged = account::charge_funding(s, open, bar);
     let points = account::mark_equity(equity, n, candle, charged);
     let next = decide::decide_next_action(

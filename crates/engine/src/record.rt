@@ -48,7 +48,7 @@ fn row_word(bar: &[u64], j: usize) -> u64
     if j < words::limits::ROW_FIXED {
         return word;
     }
-    let mask = bar[rows::MASK];
+    let mask = bar[words::places::BAR_MASK];
     let slot = j - words::limits::ROW_FIXED;
     if (mask >> slot) % 2 == 1 {
         return word;

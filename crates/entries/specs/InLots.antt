@@ -1,17 +1,17 @@
 -- Whole lots (request 5): with a lot that is not 0 what is entered is k·lot of the size that `size` gives at the fill, or of the lesser of that and the
 -- share of the volume; and which entries are turned away, exactly.
 use Rattle.words.specs.Prelude.{_≡_, refl, sym, ap, _∙_, Bool, true, false, cond, true≢false, ℕ, arith, Float}
-use Rattle.floats.specs.{Floats._⊗_, Floats._⊘_, Floats._≺_, Floats._≼_, Floats.min, Floats.eps, Floats.zero, Floats.one, Floor.floor, Floor.twoTo53}
+use Rattle.floats.specs.{Floats._⊗_, Floats._⊘_, Floats._≺_, Floats._≼_, Floats.min, Floats.eps, Floats.zero, Floats.one, Floor.asU64, Floor.twoTo53}
 use Rattle.floats.specs.{Laws.Floor.Counts, Laws.Floor.counts, Sums.counted}
 use Rattle.rows.specs.{History.History}
 use Rattle.portfolio.specs.{declared.Candle.Candle, declared.Portfolio.Portfolio}
 use Rattle.execution.specs.{Size.size, Lots.wholeLots, Lots.inLots, Lots.sizeInLots, Lots.isTooLarge, Lots.orZero, Fills.direction, Fills.volatilityFor}
-use Rattle.execution.specs.{Fills.quantity, Fills.probeQty, Fills.withinVolume, Fills.booked, Fills.executeEntry, Fills.isTurnedAway, WholeLots.none-turned-away}
-use Rattle.execution.specs.{declared.fills.Entry.Entry, declared.fills.Entry.the-variants.NoEntry, declared.fills.Entry.the-variants.Entered}
-use Rattle.execution.specs.{declared.optional.Optional.Optional, declared.lots.Quantity.Quantity, declared.lots.Quantity.the-variants.Nothing}
-use Rattle.execution.specs.{declared.lots.Quantity.the-variants.TooLarge, declared.lots.Quantity.the-variants.Of, declared.level.Side.Side}
-use Rattle.execution.specs.{declared.terms.Slippage.Slippage, declared.terms.Slippage.the-variants.FixedBps, declared.terms.Slippage.the-variants.VolumeImpact}
-use Rattle.execution.specs.{declared.terms.Slippage.the-variants.Unknown, declared.terms.Terms.Terms}
+use Rattle.execution.specs.{Fills.quantity, Fills.probeQty, Fills.withinVolume, Fills.entryWith, Fills.executeEntry, Fills.isTurnedAway}
+use Rattle.execution.specs.{WholeLots.none-turned-away, declared.fills.Entry.Entry, declared.fills.Entry.the-variants.NoEntry}
+use Rattle.execution.specs.{declared.fills.Entry.the-variants.Entered, declared.optional.Optional.Optional, declared.lots.Quantity.Quantity}
+use Rattle.execution.specs.{declared.lots.Quantity.the-variants.Nothing, declared.lots.Quantity.the-variants.TooLarge, declared.lots.Quantity.the-variants.Of}
+use Rattle.execution.specs.{declared.level.Side.Side, declared.terms.Slippage.Slippage, declared.terms.Slippage.the-variants.FixedBps}
+use Rattle.execution.specs.{declared.terms.Slippage.the-variants.VolumeImpact, declared.terms.Slippage.the-variants.Unknown, declared.terms.Terms.Terms}
 use Rattle.entries.specs.{Ordered.fillOf, Ordered.orderedAt, Ordered.Entering, Ordered.entering}
 use lib.Ieee as Ieee
 use Rattle.execution.specs.declared.fills.Entry.the-variants as Entry
@@ -59,9 +59,9 @@ module _ (lot : Float) (some : Ieee.eq lot zero ≡ false) where
   in-lots qty = rw some (go (twoTo53 ≼ (qty ⊘ lot)) (one ≼ (qty ⊘ lot)) refl refl)
     where
       go : (large counted-at : Bool) → twoTo53 ≼ (qty ⊘ lot) ≡ large → one ≼ (qty ⊘ lot) ≡ counted-at
-          → InLots qty (cond large TooLarge (cond counted-at (Of (counted (floor (qty ⊘ lot)) ⊗ lot)) Nothing))
+          → InLots qty (cond large TooLarge (cond counted-at (Of (counted (asU64 (qty ⊘ lot)) ⊗ lot)) Nothing))
       go true b l h = too-many l
-      go false true l h = lots _ (record { k = floor (qty ⊘ lot); counts = counts (qty ⊘ lot) h l; made = refl })
+      go false true l h = lots _ (record { k = asU64 (qty ⊘ lot); counts = counts (qty ⊘ lot) h l; made = refl })
       go false false l h = none
 
   lots-are : (qty base : Float) → inLots lot qty ≡ Of base → LotsOf lot qty base
@@ -161,7 +161,7 @@ module _ (side : Side) (raw bps : Float) (terms : Terms) (k : Candle) (p : Portf
       record { base = t .base; at = t .at; orders = ordered-of terms (k .volume) some (sizeAt fill) (t .base) (t .ordered); signed = t .signed }
 
   large-turned : orderedAt (fillOf side raw terms k p h) terms k p h ≡ TooLarge → isTurnedAway (executeEntry side raw bps terms k p h) ≡ true
-  unfolding executeEntry fillOf orderedAt booked
+  unfolding executeEntry fillOf orderedAt entryWith
   large-turned e = rw e (either (isTooLarge (probeQty (terms .slippage) terms (p .cash) raw (volatilityFor (terms .sizing) h))))
     where
       either : (b : Bool) → isTurnedAway (cond b Entry.TooLarge Entry.TooLarge) ≡ true
@@ -189,14 +189,14 @@ module _ (side : Side) (raw bps : Float) (terms : Terms) (k : Candle) (p : Portf
       fill = fillOf side raw terms k p h
 
       booked-large : (w : Quantity) → withinVolume terms (sizeInLots (terms .lot) (sizeAt fill)) (k .volume) ≡ w
-          → isTurnedAway (booked (direction side) w fill bps k p) ≡ true → Ieee.eq (terms .lot) zero ≡ false
+          → isTurnedAway (entryWith (direction side) w fill bps k p) ≡ true → Ieee.eq (terms .lot) zero ≡ false
           → TurnsAway terms (k .volume) probedSize (sizeAt fill)
-      booked-large Nothing m e some = absurd (true≢false (sym (unfold booked in e)))
+      booked-large Nothing m e some = absurd (true≢false (sym (unfold entryWith in e)))
       booked-large TooLarge m e some = turned-of terms (k .volume) some probedSize (sizeAt fill) m
       booked-large (Of base) m e some = absurd (true≢false (sym e ∙ quantity-stays base))
         where
-          quantity-stays : (b : Float) → isTurnedAway (booked (direction side) (Of b) fill bps k p) ≡ false
-          quantity-stays b = unfold booked in either (eps ≺ b) _
+          quantity-stays : (b : Float) → isTurnedAway (entryWith (direction side) (Of b) fill bps k p) ≡ false
+          quantity-stays b = unfold entryWith in either (eps ≺ b) _
             where
               either : (c : Bool) (x : Portfolio) → isTurnedAway (cond c (Entered x fill) NoEntry) ≡ false
               either true x = refl
@@ -204,7 +204,7 @@ module _ (side : Side) (raw bps : Float) (terms : Terms) (k : Candle) (p : Portf
 
       probed : (large : Bool) → isTooLarge (probeQty (terms .slippage) terms (p .cash) raw rv) ≡ large
           → isTurnedAway (cond large Entry.TooLarge
-          (booked (direction side) (withinVolume terms (sizeInLots (terms .lot) (sizeAt fill)) (k .volume)) fill bps k p)) ≡ true
+          (entryWith (direction side) (withinVolume terms (sizeInLots (terms .lot) (sizeAt fill)) (k .volume)) fill bps k p)) ≡ true
           → Ieee.eq (terms .lot) zero ≡ false → TurnsAway terms (k .volume) probedSize (sizeAt fill)
       probed true l e some = probed-of terms (k .volume) some (p .cash) raw rv (sizeAt fill) (terms .slippage) refl l
       probed false l e some = booked-large _ refl e some

@@ -1,8 +1,8 @@
 -- An entry away from the market (request 1) fills exactly where the bar reaches it, and this is said of the raw price, before slippage. For any level and
 -- any bar, NaN and infinities too.
 use Rattle.words.specs.Prelude.{_≡_, refl, Bool, true, false, cond, _⊎_, Float, isNan}
-use Rattle.floats.specs.{Floats._≼_, Floats.min, Floats.max, Laws.Order.numbers, Laws.Order.min-is, Laws.Order.max-is, Laws.Order.min-first, Laws.Order.min-second}
-use Rattle.floats.specs.{Laws.Order.max-first, Laws.Order.max-second}
+use Rattle.floats.specs.{Floats._≼_, Floats.min, Floats.max, Laws.Order.numbers, Laws.Order.min-is, Laws.Order.max-is, Laws.Order.min-first}
+use Rattle.floats.specs.{Laws.Order.min-second, Laws.Order.max-first, Laws.Order.max-second}
 use Rattle.portfolio.specs.{declared.Candle.Candle}
 use Rattle.execution.specs.{declared.optional.Optional.Optional, declared.optional.Optional.the-variants.Absent, declared.optional.Optional.the-variants.Of}
 use Rattle.execution.specs.{declared.level.Side.the-variants.Long, declared.level.Side.the-variants.Short, declared.level.OrderKind.the-variants.Market}

@@ -4,7 +4,7 @@ use Rattle.floats.specs.{Floats._⊘_, Floats._≼_, Floats.floatOf, Floats.zer
 use Rattle.execution.specs.{declared.optional.Optional.Optional, declared.optional.Optional.the-variants.Absent, declared.optional.Optional.the-variants.Of}
 use Rattle.execution.specs.{declared.terms.Risk.Risk, declared.terms.Sizing.Sizing, declared.terms.Sizing.the-variants.FixedQty}
 use Rattle.execution.specs.{declared.terms.Slippage.the-variants.FixedBps, Costs.slippageRate, Costs.fillPrice, Optional.unwrapOr, Size.wanted, Size.atMost}
-use Rattle.execution.specs.{Size.maxNotional, Size.ordered, Size.size}
+use Rattle.execution.specs.{Size.maxNotional, Size.cappedQty, Size.size}
 use lib.Ieee as Ieee
 use Rattle.floats.specs.Floats as Floats
 
@@ -12,7 +12,7 @@ use Rattle.floats.specs.Floats as Floats
 -- position may be worth, over the price.
 pub nan-becomes-the-cap : (sizing : Sizing) (r : Risk) (equity price : Float) (rv : Optional) → price ≼ zero ≡ false → equity ≼ zero ≡ false
     → wanted sizing (r .«stop_loss_pct») equity price rv ≡ Of nan → size sizing r equity price rv ≡ Of (maxNotional r equity ⊘ price)
-unfolding size ordered Floats.min Ieee.isNan Ieee.le Ieee.lt Ieee.eq Ieee.mul
+unfolding size cappedQty Floats.min Ieee.isNan Ieee.le Ieee.lt Ieee.eq Ieee.mul
 nan-becomes-the-cap sizing r equity price rv p q e = rw (p, q, e)
 
 -- 1e300, 1e10, 1e308 and 1e5
@@ -41,5 +41,5 @@ leveraged = record {
 -- A cap that is infinite over a price that is infinite is a NaN: one contract, with a cash of 1e300 and a leverage of 1e10, at 1e308 and 100,000 basis
 -- points of slippage. (No position is entered with it: see Ordered.)
 pub a-nan-size : size (FixedQty one) leveraged cash (fillPrice raw one (slippageRate (FixedBps points) zero zero)) Absent ≡ Of nan
-unfolding size ordered wanted maxNotional atMost unwrapOr slippageRate Floats.min Ieee.isNan Ieee.le Ieee.lt Ieee.eq Ieee.mul Ieee.div Ieee.add Ieee.ofBits
+unfolding size cappedQty wanted maxNotional atMost unwrapOr slippageRate Floats.min Ieee.isNan Ieee.le Ieee.lt Ieee.eq Ieee.mul Ieee.div Ieee.add Ieee.ofBits
 a-nan-size = refl

@@ -3,8 +3,8 @@ use Rattle.words.specs.Prelude.{_≡_, refl, sym, _∙_, Bool, true, false, con
 use Rattle.floats.specs.{Floats._⊗_, Floats._≺_, Floats.eps}
 use Rattle.rows.specs.{History.History}
 use Rattle.portfolio.specs.{declared.Candle.Candle, declared.Portfolio.Portfolio, Portfolio.entered}
-use Rattle.execution.specs.{Costs.slippageRate, Costs.fillPrice, Costs.takerRate, Lots.isTooLarge, Lots.orZero, Fills.direction, Fills.volatilityFor}
-use Rattle.execution.specs.{Fills.quantity, Fills.probeQty, Fills.withinVolume, Fills.booked, Fills.executeEntry, declared.fills.Entry.Entry}
+use Rattle.execution.specs.{Costs.slippageRate, Costs.fillPrice, Costs.feeRate, Lots.isTooLarge, Lots.orZero, Fills.direction, Fills.volatilityFor}
+use Rattle.execution.specs.{Fills.quantity, Fills.probeQty, Fills.withinVolume, Fills.entryWith, Fills.executeEntry, declared.fills.Entry.Entry}
 use Rattle.execution.specs.{declared.fills.Entry.the-variants.NoEntry, declared.fills.Entry.the-variants.Entered, declared.lots.Quantity.Quantity}
 use Rattle.execution.specs.{declared.lots.Quantity.the-variants.Nothing, declared.lots.Quantity.the-variants.TooLarge, declared.lots.Quantity.the-variants.Of}
 use Rattle.execution.specs.{declared.level.Side.Side, declared.terms.Terms.Terms}
@@ -30,8 +30,8 @@ pub record Entering (side : Side) (raw : Float) (terms : Terms) (k : Candle) (p 
 
 module _ (side : Side) (raw bps : Float) (terms : Terms) (k : Candle) (p : Portfolio) (h : History) where
   by-booking : (w : Quantity) → orderedAt (fillOf side raw terms k p h) terms k p h ≡ w → (q : Portfolio) (fill : Float)
-      → booked (direction side) w (fillOf side raw terms k p h) bps k p ≡ Entered q fill → Entering side raw terms k p h q fill
-  unfolding booked entered
+      → entryWith (direction side) w (fillOf side raw terms k p h) bps k p ≡ Entered q fill → Entering side raw terms k p h q fill
+  unfolding entryWith entered
   by-booking Nothing o q fill e = absurd (let z : _≡_ {A = ℕ} 0 1 = cc in omega arith)
   by-booking TooLarge o q fill e = absurd (let z : _≡_ {A = ℕ} 0 1 = cc in omega arith)
   by-booking (Of base) o q fill e = go (eps ≺ base) refl e
@@ -40,7 +40,7 @@ module _ (side : Side) (raw bps : Float) (terms : Terms) (k : Candle) (p : Portf
       at = fillOf side raw terms k p h
 
       opened : Portfolio
-      opened = entered p (direction side ⊗ base) at (k .time) (base ⊗ at ⊗ takerRate bps)
+      opened = entered p (direction side ⊗ base) at (k .time) (base ⊗ at ⊗ feeRate bps)
 
       go : (b : Bool) → eps ≺ base ≡ b → cond b (Entered opened at) NoEntry ≡ Entered q fill → Entering side raw terms k p h q fill
       go true some e =
@@ -55,7 +55,7 @@ module _ (side : Side) (raw bps : Float) (terms : Terms) (k : Candle) (p : Portf
   entering q fill e = go (isTooLarge (probeQty (terms .slippage) terms (p .cash) raw (volatilityFor (terms .sizing) h))) e
     where
       go : (large : Bool)
-          → cond large Entry.TooLarge (booked (direction side) (orderedAt (fillOf side raw terms k p h) terms k p h) (fillOf side raw terms k p h) bps k p)
+          → cond large Entry.TooLarge (entryWith (direction side) (orderedAt (fillOf side raw terms k p h) terms k p h) (fillOf side raw terms k p h) bps k p)
           ≡ Entered q fill → Entering side raw terms k p h q fill
       go true e = absurd (let z : _≡_ {A = ℕ} 0 1 = cc in omega arith)
       go false e = by-booking (orderedAt (fillOf side raw terms k p h) terms k p h) refl q fill e

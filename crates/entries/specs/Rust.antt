@@ -1,12 +1,12 @@
 -- The Rust's own entry, which drops a quantity of 0 or less where ours drops one of at most EPS (request 7): with a lot of 0 the two are the same, but for
 -- such dust.
 use Rattle.words.specs.Prelude.{_≡_, refl, sym, ap, _∙_, _⊎_, inl, inr, Bool, true, false, cond, true≢false, Float, isNan}
-use Rattle.floats.specs.{Floats._⊗_, Floats._≺_, Floats._≼_, Floats.min, Floats.eps, Floats.zero, Laws.Order.not-below, Laws.Order.not-above, Laws.Order.numbers}
-use Rattle.floats.specs.{Laws.Order.in-turn}
+use Rattle.floats.specs.{Floats._⊗_, Floats._≺_, Floats._≼_, Floats.min, Floats.eps, Floats.zero, Laws.Order.not-below, Laws.Order.not-above}
+use Rattle.floats.specs.{Laws.Order.numbers, Laws.Order.in-turn}
 use Rattle.rows.specs.{History.History}
 use Rattle.portfolio.specs.{declared.Candle.Candle, declared.Portfolio.Portfolio, Portfolio.entered}
-use Rattle.execution.specs.{Costs.slippageRate, Costs.fillPrice, Costs.takerRate, Size.size, Fills.direction, Fills.volatilityFor, Fills.booked, Fills.executeEntry}
-use Rattle.execution.specs.{RustEntry.rustProbe, RustEntry.rustFill, RustEntry.rustEntry, WholeLots.no-lots, declared.fills.Entry.Entry}
+use Rattle.execution.specs.{Costs.slippageRate, Costs.fillPrice, Costs.feeRate, Size.size, Fills.direction, Fills.volatilityFor, Fills.entryWith}
+use Rattle.execution.specs.{Fills.executeEntry, RustEntry.rustProbe, RustEntry.rustFill, RustEntry.rustEntry, WholeLots.no-lots, declared.fills.Entry.Entry}
 use Rattle.execution.specs.{declared.fills.Entry.the-variants.NoEntry, declared.fills.Entry.the-variants.Entered, declared.optional.Optional.Optional}
 use Rattle.execution.specs.{declared.optional.Optional.the-variants.Absent, declared.optional.Optional.the-variants.Of, declared.level.Side.Side}
 use Rattle.execution.specs.{declared.terms.Terms.Terms}
@@ -21,7 +21,7 @@ unfoldable pub theRustFills : Optional → Float → Float → Float → Terms �
 theRustFills Absent dir fill bps terms k p = NoEntry
 theRustFills (Of base) dir fill bps terms k p =
     cond (zero ≺ baseOf terms (k .volume) base)
-    (Entered (entered p (dir ⊗ baseOf terms (k .volume) base) fill (k .time) (baseOf terms (k .volume) base ⊗ fill ⊗ takerRate bps)) fill)
+    (Entered (entered p (dir ⊗ baseOf terms (k .volume) base) fill (k .time) (baseOf terms (k .volume) base ⊗ fill ⊗ feeRate bps)) fill)
     NoEntry
 
 -- the price of its fill, and `execute_entry`
@@ -65,7 +65,7 @@ some-above x e = go (zero ≺ x) refl
 module _ (terms : Terms) (none : Ieee.eq (terms .lot) zero ≡ true) (side : Side) (raw bps : Float) (k : Candle) (p : Portfolio) (h : History) where
   fills-alike : (sized : Optional) (fill : Float)
       → (rustFill sized (direction side) fill bps terms k p ≡ theRustFills sized (direction side) fill bps terms k p) ⊎ Dust terms (k .volume) sized
-  unfolding rustFill theRustFills booked baseOf
+  unfolding rustFill theRustFills entryWith baseOf
   fills-alike Absent fill = inl refl
   fills-alike (Of base) fill = go (zero ≺ baseOf terms (k .volume) base) (eps ≺ baseOf terms (k .volume) base) refl refl
     where
@@ -73,7 +73,7 @@ module _ (terms : Terms) (none : Ieee.eq (terms .lot) zero ≡ true) (side : Sid
       b = baseOf terms (k .volume) base
 
       opened : Portfolio
-      opened = entered p (direction side ⊗ b) fill (k .time) (b ⊗ fill ⊗ takerRate bps)
+      opened = entered p (direction side ⊗ b) fill (k .time) (b ⊗ fill ⊗ feeRate bps)
 
       go : (some more : Bool) → zero ≺ b ≡ some → eps ≺ b ≡ more
           → (cond more (Entered opened fill) NoEntry ≡ cond some (Entered opened fill) NoEntry) ⊎ Dust terms (k .volume) (Of base)

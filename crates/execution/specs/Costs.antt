@@ -3,8 +3,8 @@ use Rattle.words.specs.Prelude.{Bool, cond, ℕ, Float}
 use Rattle.floats.specs.{Floats._⊕_, Floats._⊗_, Floats._⊘_, Floats._≺_, Floats.abs, Floats.zero, Floats.one, Floats.tenThousand}
 use Rattle.portfolio.specs.{declared.Portfolio.Portfolio, declared.Closed.Closed, Portfolio.inPosition, Portfolio.funded, Portfolio.exited}
 use Rattle.execution.specs.{declared.terms.Slippage.Slippage, declared.terms.Slippage.the-variants.FixedBps}
-use Rattle.execution.specs.{declared.terms.Slippage.the-variants.VolumeImpact, declared.terms.Slippage.the-variants.Unknown, declared.costs.Funding.Funding}
-use Rattle.execution.specs.{declared.costs.Funding.the-variants.NotSupplied, declared.costs.Funding.the-variants.Supplied}
+use Rattle.execution.specs.{declared.terms.Slippage.the-variants.VolumeImpact, declared.terms.Slippage.the-variants.Unknown}
+use Rattle.execution.specs.{declared.costs.Funding.Funding, declared.costs.Funding.the-variants.NotSupplied, declared.costs.Funding.the-variants.Supplied}
 
 -- `slippage_rate`: a fraction of the price. A kind that the papers do not name slips nothing (added).
 unfoldable pub slippageRate : Slippage → Float → Float → Float
@@ -16,13 +16,13 @@ slippageRate Unknown qty volume = zero
 abbrev pub fillPrice : Float → Float → Float → Float
 fillPrice raw dir slip = raw ⊗ (one ⊕ dir ⊗ slip)
 
--- `let taker = spec.costs.taker_bps / 10_000.0;`
-abbrev pub takerRate : Float → Float
-takerRate bps = bps ⊘ tenThousand
+-- `let taker = spec.costs.taker_bps / 10_000.0;`, and the maker's rate so too
+abbrev pub feeRate : Float → Float
+feeRate bps = bps ⊘ tenThousand
 
 -- `let fee = pf.qty.abs() * price * taker;  pf.exit(price, time, fee, reason);`
 unfoldable pub closed : Portfolio → Float → ℕ → Float → ℕ → Closed
-closed p price time bps reason = exited p price time (abs (p .qty) ⊗ price ⊗ takerRate bps) reason
+closed p price time bps reason = exited p price time (abs (p .qty) ⊗ price ⊗ feeRate bps) reason
 
 -- `let payment = self.pf.qty * d.mark_price * d.funding_rate;  self.pf.apply_funding(payment);`
 -- "nothing if not supplied (added)"

@@ -1,9 +1,9 @@
 -- Both sides of the edges of this crate, proved of its definitions.
 use Rattle.words.specs.Prelude.{_≡_, refl, true, false, ℕ, pos, negsuc, Float, binary64, fin}
-use Rattle.floats.specs.{Floats._⊗_, Floats._⊘_, Floor.floor, Sums.counted}
+use Rattle.floats.specs.{Floats._⊗_, Floats._⊘_, Floor.asU64, Sums.counted}
 use Rattle.portfolio.specs.{declared.Candle.Candle, Trade.stopLoss}
-use Rattle.execution.specs.{Size.capped, Lots.wholeLots, Lots.inLots, Intrabar.fallTo, Intrabar.fillUnder, Intrabar.fillOver, Intrabar.fired, Intrabar.orElse}
-use Rattle.execution.specs.{Intrabar.firstOf, Intrabar.longExit, Intrabar.intrabarExit, declared.optional.Optional.the-variants.Absent}
+use Rattle.execution.specs.{Size.capped, Lots.wholeLots, Lots.inLots, Intrabar.fallTo, Intrabar.fillUnder, Intrabar.fillOver, Intrabar.fired}
+use Rattle.execution.specs.{Intrabar.orElse, Intrabar.firstOf, Intrabar.longExit, Intrabar.intrabarExit, declared.optional.Optional.the-variants.Absent}
 use Rattle.execution.specs.{declared.optional.Optional.the-variants.Of, declared.terms.Risk.Risk, declared.intrabar.Trigger.the-variants.Untouched}
 use Rattle.execution.specs.{declared.intrabar.Trigger.the-variants.At}
 use lib.Ieee as Ieee
@@ -52,5 +52,5 @@ tenth = Floats.floatOf 0x3fb9_9999_9999_999a
 -- Taken literally, "and again after the partial-fill cap" can lose a lot: 4.35 holds 43 lots of 0.1, and 43 · 0.1 holds 42 by its float quotient.
 pub a-lot-lost : (inLots tenth (Floats.floatOf 0x4011_6666_6666_6666) ≡ Quantity.Of (num 43 ⊗ tenth))
     × (inLots tenth (num 43 ⊗ tenth) ≡ Quantity.Of (num 42 ⊗ tenth))
-unfolding inLots wholeLots counted floor Ieee.toUnsigned Ieee.ofInt Ieee.ofBits Ieee.eq Ieee.le Ieee.lt Ieee.mul Ieee.div
+unfolding inLots wholeLots counted asU64 Ieee.toUnsigned Ieee.ofInt Ieee.ofBits Ieee.eq Ieee.le Ieee.lt Ieee.mul Ieee.div
 a-lot-lost = (refl, refl)

@@ -4,15 +4,16 @@ use Rattle.floats.specs.{Floats._⊗_, Floats._≺_, Floats.min, Floats.eps, Fl
 use Rattle.rows.specs.{History.History}
 use Rattle.portfolio.specs.{declared.Candle.Candle, declared.Portfolio.Portfolio, Portfolio.inPosition, Portfolio.isLong, Portfolio.entered}
 use Rattle.execution.specs.{Size.size, Lots.inLots, Lots.sizeInLots, Lots.isTooLarge, Lots.orZero, Volatility.realizedVol, Costs.slippageRate}
-use Rattle.execution.specs.{Costs.fillPrice, Costs.takerRate, Costs.closed, declared.fills.Entry.Entry, declared.fills.Entry.the-variants.NoEntry}
+use Rattle.execution.specs.{Costs.fillPrice, Costs.feeRate, Costs.closed, declared.fills.Entry.Entry, declared.fills.Entry.the-variants.NoEntry}
 use Rattle.execution.specs.{declared.fills.Entry.the-variants.TooLarge, declared.fills.Entry.the-variants.Entered, declared.fills.Exit.Exit}
 use Rattle.execution.specs.{declared.fills.Exit.the-variants.NoExit, declared.fills.Exit.the-variants.Exited, declared.optional.Optional.Optional}
 use Rattle.execution.specs.{declared.optional.Optional.the-variants.Absent, declared.lots.Quantity.Quantity, declared.lots.Quantity.the-variants.Nothing}
 use Rattle.execution.specs.{declared.lots.Quantity.the-variants.Of, declared.level.Side.Side, declared.level.Side.the-variants.Long}
 use Rattle.execution.specs.{declared.level.Side.the-variants.Short, declared.terms.Sizing.Sizing, declared.terms.Sizing.the-variants.FixedFraction}
 use Rattle.execution.specs.{declared.terms.Sizing.the-variants.FixedQty, declared.terms.Sizing.the-variants.FixedCash}
-use Rattle.execution.specs.{declared.terms.Sizing.the-variants.VolTarget, declared.terms.Sizing.the-variants.RiskPerTrade, declared.terms.Slippage.Slippage}
-use Rattle.execution.specs.{declared.terms.Slippage.the-variants.FixedBps, declared.terms.Slippage.the-variants.VolumeImpact, declared.terms.Terms.Terms}
+use Rattle.execution.specs.{declared.terms.Sizing.the-variants.VolTarget, declared.terms.Sizing.the-variants.RiskPerTrade}
+use Rattle.execution.specs.{declared.terms.Slippage.Slippage, declared.terms.Slippage.the-variants.FixedBps}
+use Rattle.execution.specs.{declared.terms.Slippage.the-variants.VolumeImpact, declared.terms.Terms.Terms}
 use lib.Ieee as Ieee
 use Rattle.execution.specs.declared.lots.Quantity.the-variants as Quantity
 use Rattle.execution.specs.declared.terms.Sizing.the-variants as Sizing
@@ -53,12 +54,12 @@ withinVolume terms (Of base) volume =
 
 -- `if base > 0.0 { let fee = base * fill * rate;  pf.enter(dir * base, fill, candle.time, fee); .. }`, where request 7 puts EPS for 0:
 -- "an entry whose quantity is at most EPS takes cash but counts as flat .. such an entry is now dropped"
-unfoldable pub booked : Float → Quantity → Float → Float → Candle → Portfolio → Entry
-booked dir Nothing fill bps k p = NoEntry
-booked dir Quantity.TooLarge fill bps k p = TooLarge
-booked dir (Of base) fill bps k p =
+unfoldable pub entryWith : Float → Quantity → Float → Float → Candle → Portfolio → Entry
+entryWith dir Nothing fill bps k p = NoEntry
+entryWith dir Quantity.TooLarge fill bps k p = TooLarge
+entryWith dir (Of base) fill bps k p =
     cond (eps ≺ base)
-    (Entered (entered p (dir ⊗ base) fill (k .time) (base ⊗ fill ⊗ takerRate bps)) fill)
+    (Entered (entered p (dir ⊗ base) fill (k .time) (base ⊗ fill ⊗ feeRate bps)) fill)
     NoEntry
 
 -- `execute_entry`: from flat, so that the equity is the cash; at a raw price, with a fee of so many basis points. "too large a quotient gives
@@ -70,7 +71,7 @@ executeEntry side raw bps terms k p h =
     let probe = probeQty (terms .slippage) terms (p .cash) raw rv in
     let fill = fillPrice raw dir (slippageRate (terms .slippage) (orZero probe) (k .volume)) in
     cond (isTooLarge probe) TooLarge
-    (booked dir (withinVolume terms (quantity terms (p .cash) fill rv) (k .volume)) fill bps k p)
+    (entryWith dir (withinVolume terms (quantity terms (p .cash) fill rv) (k .volume)) fill bps k p)
 
 -- whether an entry is turned away: its quantity is too large
 abbrev pub isTurnedAway : Entry → Bool

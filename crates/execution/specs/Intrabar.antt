@@ -1,12 +1,14 @@
 -- Exits inside a bar: levels, then liquidation. Definitions only, each under what the Rust writes.
 use Rattle.words.specs.Prelude.{Bool, cond, ℕ, Float}
-use Rattle.floats.specs.{Floats._⊕_, Floats._⊖_, Floats._⊗_, Floats._⊘_, Floats._≺_, Floats._≼_, Floats.min, Floats.max, Floats.zero, Floats.one, Floats.hundred}
+use Rattle.floats.specs.{Floats._⊕_, Floats._⊖_, Floats._⊗_, Floats._⊘_, Floats._≺_, Floats._≼_, Floats.min, Floats.max, Floats.zero, Floats.one}
+use Rattle.floats.specs.{Floats.hundred}
 use Rattle.portfolio.specs.{declared.Candle.Candle, declared.Portfolio.Portfolio, Portfolio.inPosition, Portfolio.isLong, Trade.stopLoss, Trade.trailingStop}
 use Rattle.portfolio.specs.{Trade.takeProfit, Trade.liquidation}
 use Rattle.execution.specs.{Costs.closed, declared.fills.Exit.Exit, declared.fills.Exit.the-variants.NoExit, declared.fills.Exit.the-variants.Exited}
-use Rattle.execution.specs.{declared.optional.Optional.Optional, declared.optional.Optional.the-variants.Absent, declared.optional.Optional.the-variants.Of}
-use Rattle.execution.specs.{declared.terms.Risk.Risk, declared.terms.Terms.Terms, declared.intrabar.Trigger.Trigger}
-use Rattle.execution.specs.{declared.intrabar.Trigger.the-variants.Untouched, declared.intrabar.Trigger.the-variants.At}
+use Rattle.execution.specs.{declared.optional.Optional.Optional, declared.optional.Optional.the-variants.Absent}
+use Rattle.execution.specs.{declared.optional.Optional.the-variants.Of, declared.terms.Risk.Risk, declared.terms.Terms.Terms}
+use Rattle.execution.specs.{declared.intrabar.Trigger.Trigger, declared.intrabar.Trigger.the-variants.Untouched}
+use Rattle.execution.specs.{declared.intrabar.Trigger.the-variants.At}
 use lib.Ieee as Ieee
 
 -- "The favourable extreme takes this bar first": `if is_long { extreme.max(high) } else { extreme.min(low) }`

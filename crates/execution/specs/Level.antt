@@ -2,12 +2,13 @@
 use Rattle.words.specs.Prelude.{cond, Float}
 use Rattle.floats.specs.{Floats._⊕_, Floats._⊗_, Floats._⊘_, Floats._≼_, Floats.min, Floats.max, Floats.one, Floats.hundred}
 use Rattle.portfolio.specs.{declared.Candle.Candle}
-use Rattle.execution.specs.{declared.optional.Optional.Optional, declared.optional.Optional.the-variants.Absent, declared.optional.Optional.the-variants.Of}
-use Rattle.execution.specs.{declared.level.Side.Side, declared.level.Side.the-variants.Long, declared.level.Side.the-variants.Short}
-use Rattle.execution.specs.{declared.level.Entries.Entries, declared.level.OrderType.OrderType, declared.level.OrderType.the-variants.Market as MarketType}
-use Rattle.execution.specs.{declared.level.OrderType.the-variants.Limit as LimitType, declared.level.OrderType.the-variants.Stop as StopType}
-use Rattle.execution.specs.{declared.level.OrderType.the-variants.StopLimit as StopLimitType, declared.level.OrderType.the-variants.Unknown}
-use Rattle.execution.specs.{declared.level.OrderKind.OrderKind, declared.level.OrderKind.the-variants.Market, declared.level.OrderKind.the-variants.Limit}
+use Rattle.execution.specs.{declared.optional.Optional.Optional, declared.optional.Optional.the-variants.Absent}
+use Rattle.execution.specs.{declared.optional.Optional.the-variants.Of, declared.level.Side.Side, declared.level.Side.the-variants.Long}
+use Rattle.execution.specs.{declared.level.Side.the-variants.Short, declared.level.Entries.Entries, declared.level.OrderType.OrderType}
+use Rattle.execution.specs.{declared.level.OrderType.the-variants.Market as MarketType, declared.level.OrderType.the-variants.Limit as LimitType}
+use Rattle.execution.specs.{declared.level.OrderType.the-variants.Stop as StopType, declared.level.OrderType.the-variants.StopLimit as StopLimitType}
+use Rattle.execution.specs.{declared.level.OrderType.the-variants.Unknown, declared.level.OrderKind.OrderKind}
+use Rattle.execution.specs.{declared.level.OrderKind.the-variants.Market, declared.level.OrderKind.the-variants.Limit}
 use Rattle.execution.specs.{declared.level.OrderKind.the-variants.Stop, declared.level.OrderKind.the-variants.StopLimit}
 
 -- "the level is the deciding bar's close times (1 + pct/100)"

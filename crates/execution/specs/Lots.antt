@@ -1,6 +1,6 @@
 -- Whole lots: "Brokers reject 3.7 contracts. Sizing gains a lot." Definitions only.
 use Rattle.words.specs.Prelude.{Bool, true, false, cond, Float}
-use Rattle.floats.specs.{Floats._⊗_, Floats._⊘_, Floats._≼_, Floats.zero, Floats.one, Floor.floor, Floor.twoTo53, Sums.counted}
+use Rattle.floats.specs.{Floats._⊗_, Floats._⊘_, Floats._≼_, Floats.zero, Floats.one, Floor.asU64, Floor.twoTo53, Sums.counted}
 use Rattle.execution.specs.{declared.optional.Optional.Optional, declared.lots.Quantity.Quantity, declared.lots.Quantity.the-variants.Nothing}
 use Rattle.execution.specs.{declared.lots.Quantity.the-variants.TooLarge, declared.lots.Quantity.the-variants.Of}
 use lib.Ieee as Ieee
@@ -11,7 +11,7 @@ use Rattle.execution.specs.declared.optional.Optional.the-variants as Op
 unfoldable pub wholeLots : Float → Float → Quantity
 wholeLots lot quotient =
     cond (twoTo53 ≼ quotient) TooLarge
-    (cond (one ≼ quotient) (Of (counted (floor quotient) ⊗ lot)) Nothing)
+    (cond (one ≼ quotient) (Of (counted (asU64 quotient) ⊗ lot)) Nothing)
 
 -- "The quantity becomes k·lot"; "A lot of 0 means as before."
 unfoldable pub inLots : Float → Float → Quantity

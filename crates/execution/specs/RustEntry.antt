@@ -4,7 +4,7 @@ use Rattle.words.specs.Prelude.{cond, Float}
 use Rattle.floats.specs.{Floats._⊗_, Floats.min, Floats.zero}
 use Rattle.rows.specs.{History.History}
 use Rattle.portfolio.specs.{declared.Candle.Candle, declared.Portfolio.Portfolio}
-use Rattle.execution.specs.{Optional.unwrapOr, Size.size, Costs.slippageRate, Costs.fillPrice, Fills.direction, Fills.volatilityFor, Fills.booked}
+use Rattle.execution.specs.{Optional.unwrapOr, Size.size, Costs.slippageRate, Costs.fillPrice, Fills.direction, Fills.volatilityFor, Fills.entryWith}
 use Rattle.execution.specs.{declared.fills.Entry.Entry, declared.fills.Entry.the-variants.NoEntry, declared.optional.Optional.Optional}
 use Rattle.execution.specs.{declared.optional.Optional.the-variants.Absent, declared.optional.Optional.the-variants.Of, declared.level.Side.Side}
 use Rattle.execution.specs.{declared.terms.Slippage.Slippage, declared.terms.Slippage.the-variants.FixedBps}
@@ -21,7 +21,7 @@ rustProbe Unknown terms cash raw rv = zero
 unfoldable pub rustFill : Optional → Float → Float → Float → Terms → Candle → Portfolio → Entry
 rustFill Absent dir fill bps terms k p = NoEntry
 rustFill (Of base) dir fill bps terms k p =
-    booked dir (Quantity.Of (cond (terms .«partial_fills») (min base (terms .«max_participation» ⊗ k .volume)) base)) fill bps k p
+    entryWith dir (Quantity.Of (cond (terms .«partial_fills») (min base (terms .«max_participation» ⊗ k .volume)) base)) fill bps k p
 
 -- `execute_entry`
 unfoldable pub rustEntry : Side → Float → Float → Terms → Candle → Portfolio → History → Entry

@@ -1,11 +1,11 @@
 -- `size`: the quantity of an entry, without its sign. Definitions only, each under what the Rust writes.
 use Rattle.words.specs.Prelude.{cond, Float}
 use Rattle.floats.specs.{Floats._⊗_, Floats._⊘_, Floats._≼_, Floats.min, Floats.zero, Floats.one, Floats.hundred}
-use Rattle.execution.specs.{declared.optional.Optional.Optional, declared.optional.Optional.the-variants.Absent, declared.optional.Optional.the-variants.Of}
-use Rattle.execution.specs.{Optional.unwrapOr, declared.terms.Risk.Risk, declared.terms.Sizing.Sizing, declared.terms.Sizing.the-variants.FixedFraction}
-use Rattle.execution.specs.{declared.terms.Sizing.the-variants.FixedQty, declared.terms.Sizing.the-variants.FixedCash}
-use Rattle.execution.specs.{declared.terms.Sizing.the-variants.VolTarget, declared.terms.Sizing.the-variants.RiskPerTrade}
-use Rattle.execution.specs.{declared.terms.Sizing.the-variants.Unknown}
+use Rattle.execution.specs.{declared.optional.Optional.Optional, declared.optional.Optional.the-variants.Absent}
+use Rattle.execution.specs.{declared.optional.Optional.the-variants.Of, Optional.unwrapOr, declared.terms.Risk.Risk, declared.terms.Sizing.Sizing}
+use Rattle.execution.specs.{declared.terms.Sizing.the-variants.FixedFraction, declared.terms.Sizing.the-variants.FixedQty}
+use Rattle.execution.specs.{declared.terms.Sizing.the-variants.FixedCash, declared.terms.Sizing.the-variants.VolTarget}
+use Rattle.execution.specs.{declared.terms.Sizing.the-variants.RiskPerTrade, declared.terms.Sizing.the-variants.Unknown}
 
 -- `let stop = risk.stop_loss_pct.ok_or_else(..)?`: the Rust's error, which refusal 12 keeps out, is no order here (added).
 -- `if stop <= 0.0 { return Ok(None); }  (equity * risk_pct / 100.0) / (price * stop / 100.0)`
@@ -43,13 +43,13 @@ abbrev pub capped : Float → Float → Float → Float
 capped qty price most = min (qty ⊗ price) most ⊘ price
 
 -- `if qty <= 0.0 { return Ok(None); }`, then the cap
-unfoldable pub ordered : Optional → Risk → Float → Float → Optional
-ordered Absent r equity price = Absent
-ordered (Of qty) r equity price = cond (qty ≼ zero) Absent (Of (capped qty price (maxNotional r equity)))
+unfoldable pub cappedQty : Optional → Risk → Float → Float → Optional
+cappedQty Absent r equity price = Absent
+cappedQty (Of qty) r equity price = cond (qty ≼ zero) Absent (Of (capped qty price (maxNotional r equity)))
 
 -- `if price <= 0.0 || equity <= 0.0 { return Ok(None); }`
 unfoldable pub size : Sizing → Risk → Float → Float → Optional → Optional
 size sizing r equity price rv =
     cond (price ≼ zero) Absent
     (cond (equity ≼ zero) Absent
-    (ordered (wanted sizing (r .«stop_loss_pct») equity price rv) r equity price))
+    (cappedQty (wanted sizing (r .«stop_loss_pct») equity price rv) r equity price))

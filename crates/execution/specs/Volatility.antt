@@ -3,7 +3,8 @@
 use Rattle.words.specs.Prelude.{cond, List, [], _∷_, map, ℕ, zero, suc, _-_, ltb, eqb, length, Float}
 use Rattle.floats.specs.{Floats._⊖_, Floats._⊘_, Floats._≺_, Floats.abs, Floats.eps, Sums.sum, Sums.counted, Sums.square, Sqrt.sqrt}
 use Rattle.rows.specs.{History.History, History.field}
-use Rattle.execution.specs.{declared.optional.Optional.Optional, declared.optional.Optional.the-variants.Absent, declared.optional.Optional.the-variants.Of}
+use Rattle.execution.specs.{declared.optional.Optional.Optional, declared.optional.Optional.the-variants.Absent}
+use Rattle.execution.specs.{declared.optional.Optional.the-variants.Of}
 use Rattle.floats.specs.Floats as Floats
 
 -- `row.candle.close`

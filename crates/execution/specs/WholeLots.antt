@@ -1,17 +1,18 @@
 -- What whole lots come to: with a lot of 0 an entry is the Rust's, and with any other every quantity that is entered is k·lot.
 use Rattle.words.specs.Prelude.{_≡_, refl, ap, subst, _∙_, Bool, true, false, cond, ℕ, arith, Float}
-use Rattle.floats.specs.{Floats._⊗_, Floats._⊘_, Floats._≺_, Floats._≼_, Floats.min, Floats.eps, Floats.zero, Floats.one, Floor.floor, Floor.twoTo53}
+use Rattle.floats.specs.{Floats._⊗_, Floats._⊘_, Floats._≺_, Floats._≼_, Floats.min, Floats.eps, Floats.zero, Floats.one, Floor.asU64, Floor.twoTo53}
 use Rattle.floats.specs.{Laws.Floor.Counts, Laws.Floor.counts, Sums.counted}
 use Rattle.rows.specs.{History.History}
 use Rattle.portfolio.specs.{declared.Candle.Candle, declared.Portfolio.Portfolio, Portfolio.entered}
-use Rattle.execution.specs.{Costs.slippageRate, Costs.fillPrice, Costs.takerRate, Optional.unwrapOr, Size.size, Lots.wholeLots, Lots.inLots, Lots.sizeInLots}
-use Rattle.execution.specs.{Lots.isTooLarge, Lots.orZero, Fills.direction, Fills.volatilityFor, Fills.quantity, Fills.probeQty, Fills.withinVolume}
-use Rattle.execution.specs.{Fills.booked, Fills.executeEntry, Fills.isTurnedAway, RustEntry.rustProbe, RustEntry.rustFill, RustEntry.rustEntry}
-use Rattle.execution.specs.{declared.fills.Entry.Entry, declared.fills.Entry.the-variants.NoEntry, declared.fills.Entry.the-variants.Entered}
-use Rattle.execution.specs.{declared.optional.Optional.Optional, declared.lots.Quantity.Quantity, declared.lots.Quantity.the-variants.Nothing}
-use Rattle.execution.specs.{declared.lots.Quantity.the-variants.TooLarge, declared.lots.Quantity.the-variants.Of, declared.level.Side.Side}
-use Rattle.execution.specs.{declared.terms.Slippage.Slippage, declared.terms.Slippage.the-variants.FixedBps}
-use Rattle.execution.specs.{declared.terms.Slippage.the-variants.VolumeImpact, declared.terms.Slippage.the-variants.Unknown, declared.terms.Terms.Terms}
+use Rattle.execution.specs.{Costs.slippageRate, Costs.fillPrice, Costs.feeRate, Optional.unwrapOr, Size.size, Lots.wholeLots, Lots.inLots}
+use Rattle.execution.specs.{Lots.sizeInLots, Lots.isTooLarge, Lots.orZero, Fills.direction, Fills.volatilityFor, Fills.quantity, Fills.probeQty}
+use Rattle.execution.specs.{Fills.withinVolume, Fills.entryWith, Fills.executeEntry, Fills.isTurnedAway, RustEntry.rustProbe, RustEntry.rustFill}
+use Rattle.execution.specs.{RustEntry.rustEntry, declared.fills.Entry.Entry, declared.fills.Entry.the-variants.NoEntry}
+use Rattle.execution.specs.{declared.fills.Entry.the-variants.Entered, declared.optional.Optional.Optional, declared.lots.Quantity.Quantity}
+use Rattle.execution.specs.{declared.lots.Quantity.the-variants.Nothing, declared.lots.Quantity.the-variants.TooLarge}
+use Rattle.execution.specs.{declared.lots.Quantity.the-variants.Of, declared.level.Side.Side, declared.terms.Slippage.Slippage}
+use Rattle.execution.specs.{declared.terms.Slippage.the-variants.FixedBps, declared.terms.Slippage.the-variants.VolumeImpact}
+use Rattle.execution.specs.{declared.terms.Slippage.the-variants.Unknown, declared.terms.Terms.Terms}
 use lib.Ieee as Ieee
 use Rattle.execution.specs.declared.fills.Entry.the-variants as Entry
 use Rattle.execution.specs.declared.optional.Optional.the-variants as Optional
@@ -19,10 +20,10 @@ use Rattle.execution.specs.declared.optional.Optional.the-variants as Op
 -- ---- a lot of 0
 
 -- the Rust turns none away
-quantity-booked : (dir base fill bps : Float) (k : Candle) (p : Portfolio) → isTurnedAway (booked dir (Of base) fill bps k p) ≡ false
-unfolding booked
+quantity-booked : (dir base fill bps : Float) (k : Candle) (p : Portfolio) → isTurnedAway (entryWith dir (Of base) fill bps k p) ≡ false
+unfolding entryWith
 quantity-booked dir base fill bps k p =
-    by-test (eps ≺ base) (entered p (dir ⊗ base) fill (k .time) (base ⊗ fill ⊗ takerRate bps))
+    by-test (eps ≺ base) (entered p (dir ⊗ base) fill (k .time) (base ⊗ fill ⊗ feeRate bps))
   where
     by-test : (some : Bool) (q : Portfolio) → isTurnedAway (cond some (Entered q fill) NoEntry) ≡ false
     by-test true q = refl
@@ -51,13 +52,13 @@ module _ (terms : Terms) (none : Ieee.eq (terms .lot) zero ≡ true) where
       sized (Optional.Of qty) = rw (unchanged qty) (refl, refl)
 
   fill-as-before : (sized : Optional) (dir fill bps : Float) (k : Candle) (p : Portfolio)
-      → booked dir (withinVolume terms (sizeInLots (terms .lot) sized) (k .volume)) fill bps k p ≡ rustFill sized dir fill bps terms k p
-  unfolding sizeInLots withinVolume booked rustFill
+      → entryWith dir (withinVolume terms (sizeInLots (terms .lot) sized) (k .volume)) fill bps k p ≡ rustFill sized dir fill bps terms k p
+  unfolding sizeInLots withinVolume entryWith rustFill
   fill-as-before Optional.Absent dir fill bps k p = refl
   fill-as-before (Optional.Of qty) dir fill bps k p = rw (unchanged qty) (by-switch (terms .«partial_fills»))
     where
-      by-switch : (on : Bool) → booked dir (cond on (inLots (terms .lot) (min qty (terms .«max_participation» ⊗ k .volume))) (Of qty)) fill bps k p
-          ≡ booked dir (Of (cond on (min qty (terms .«max_participation» ⊗ k .volume)) qty)) fill bps k p
+      by-switch : (on : Bool) → entryWith dir (cond on (inLots (terms .lot) (min qty (terms .«max_participation» ⊗ k .volume))) (Of qty)) fill bps k p
+          ≡ entryWith dir (Of (cond on (min qty (terms .«max_participation» ⊗ k .volume)) qty)) fill bps k p
       by-switch true = rw (unchanged _)
       by-switch false = refl
 
@@ -96,10 +97,10 @@ module _ (lot : Float) (some : Ieee.eq lot zero ≡ false) where
   in-lots qty q e = go (twoTo53 ≼ (qty ⊘ lot)) (one ≼ (qty ⊘ lot)) refl refl (rw some at e)
     where
       go : (large counted-at : Bool) → twoTo53 ≼ (qty ⊘ lot) ≡ large → one ≼ (qty ⊘ lot) ≡ counted-at
-          → cond large TooLarge (cond counted-at (Of (counted (floor (qty ⊘ lot)) ⊗ lot)) Nothing) ≡ Of q → InWholeLots lot q
+          → cond large TooLarge (cond counted-at (Of (counted (asU64 (qty ⊘ lot)) ⊗ lot)) Nothing) ≡ Of q → InWholeLots lot q
       go true b l h e = absurd (let z : _≡_ {A = ℕ} 0 1 = cc in omega arith)
       go false false l h e = absurd (let z : _≡_ {A = ℕ} 0 1 = cc in omega arith)
-      go false true l h e = record { qty = qty; k = floor (qty ⊘ lot); counts = counts (qty ⊘ lot) h l; made = cc }
+      go false true l h e = record { qty = qty; k = asU64 (qty ⊘ lot); counts = counts (qty ⊘ lot) h l; made = cc }
 
   -- a size in lots
   sized-in-lots : (o : Optional) (q : Float) → sizeInLots lot o ≡ Of q → InWholeLots lot q
@@ -121,14 +122,14 @@ within-in-lots terms volume some (Of b) q sized e = by-switch (terms .«partial_
 
 -- what is entered is what was ordered, with its sign
 booked-qty : (dir : Float) (w : Quantity) (fill bps : Float) (k : Candle) (p q : Portfolio) (at : Float) (P : Float → Type 0)
-    → ((b : Float) → w ≡ Of b → P (dir ⊗ b)) → booked dir w fill bps k p ≡ Entered q at → P (q .qty)
-unfolding booked entered
+    → ((b : Float) → w ≡ Of b → P (dir ⊗ b)) → entryWith dir w fill bps k p ≡ Entered q at → P (q .qty)
+unfolding entryWith entered
 booked-qty dir Nothing fill bps k p q at P each e = absurd (let z : _≡_ {A = ℕ} 0 1 = cc in omega arith)
 booked-qty dir TooLarge fill bps k p q at P each e = absurd (let z : _≡_ {A = ℕ} 0 1 = cc in omega arith)
 booked-qty dir (Of b) fill bps k p q at P each e = by-test (eps ≺ b) e
   where
     opened : Portfolio
-    opened = entered p (dir ⊗ b) fill (k .time) (b ⊗ fill ⊗ takerRate bps)
+    opened = entered p (dir ⊗ b) fill (k .time) (b ⊗ fill ⊗ feeRate bps)
 
     by-test : (some : Bool) → cond some (Entered opened fill) NoEntry ≡ Entered q at → P (q .qty)
     by-test true e = let same : opened ≡ q = cc in subst (λ (x : Portfolio). P (x .qty)) same (each b refl)
@@ -147,7 +148,7 @@ entered-in-lots side raw bps terms k p q h fill some e =
     ordered price =
         withinVolume terms (sizeInLots (terms .lot) (size (terms .sizing) (terms .risk) (p .cash) price (volatilityFor (terms .sizing) h))) (k .volume)
 
-    by-probe : (large : Bool) (price : Float) → cond large Entry.TooLarge (booked (direction side) (ordered price) price bps k p) ≡ Entered q fill
+    by-probe : (large : Bool) (price : Float) → cond large Entry.TooLarge (entryWith (direction side) (ordered price) price bps k p) ≡ Entered q fill
         → EntersLots (terms .lot) (direction side) (q .qty)
     by-probe true price e = absurd (let z : _≡_ {A = ℕ} 0 1 = cc in omega arith)
     by-probe false price e =

@@ -16,7 +16,7 @@ ghost use mathlib.Core.Path.{_≡_};
 ghost use Rattle.rows.specs.History.{historyOf};
 ghost use Rattle.rows.specs.Ring.{ringOf};
 ghost use Rattle.execution.specs.Fills.{isTurnedAway, direction, volatilityFor, quantity, probeQty, withinVolume};
-ghost use Rattle.execution.specs.Fills.{booked, executeEntry, exitDirection, executeExit};
+ghost use Rattle.execution.specs.Fills.{entryWith, executeEntry, exitDirection, executeExit};
 
 // An entry order's answer: the portfolio with the position, and the fill price. A quantity that is too large enters nothing, and the
 // step that meets one is refused.
@@ -110,7 +110,7 @@ fn within_volume(terms: Terms, sized: Quantity, volume: f64) -> Quantity
 }
 
 // The position opened, where it would not count as flat.
-fn booked(
+fn entry_with(
     dir: f64,
     ordered: Quantity,
     fill: f64,
@@ -118,7 +118,7 @@ fn booked(
     candle: Candle,
     pf: Portfolio,
 ) -> Entry
-    ensures { λ r. ⌜ r ≡ booked dir ordered fill «fee_bps» candle pf ⌝ }
+    ensures { λ r. ⌜ r ≡ entryWith dir ordered fill «fee_bps» candle pf ⌝ }
 {
     match ordered {
         Quantity::Nothing => Entry::NoEntry,
@@ -176,7 +176,7 @@ pub fn execute_entry_ring(
     let fill = raw_price * (1.0 + dir * slip);
     let sized = quantity(terms, pf.cash, fill, rv);
     let ordered = within_volume(terms, sized, candle.volume);
-    booked(dir, ordered, fill, fee_bps, candle, pf)
+    entry_with(dir, ordered, fill, fee_bps, candle, pf)
 }
 
 // A long exit sells and fills lower, a short exit buys and fills higher.

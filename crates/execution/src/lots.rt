@@ -45,7 +45,7 @@ pub fn in_lots(lot: f64, qty: f64) -> Quantity
         return Quantity::TooLarge;
     }
     if quotient >= 1.0 {
-        return Quantity::Of(floats::sums::counted(floats::floor(quotient)) * lot);
+        return Quantity::Of(floats::sums::counted(floats::as_u64(quotient)) * lot);
     }
     Quantity::Nothing
 }

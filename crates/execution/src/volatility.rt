@@ -28,7 +28,7 @@ fn close_at(rows: &[u64], slots: usize, held: usize, start: usize, i: usize) -> 
     ensures { λ r. ⌜ r ≡ closeAt (ringOf slots start (now (rows .entry))) i ⌝ }
 {
     let base = ring::place(held, start, i) * (words::limits::ROW_FIXED + slots);
-    floats::float_of(words::word_from(rows, base, rows::CLOSE))
+    floats::float_of(words::word_from(rows, base, words::places::BAR_CLOSE))
 }
 
 // The return from one close to the next; absent where the first is next to nothing.

@@ -5,10 +5,11 @@ use Rattle.floats.specs.{Floats.zero}
 use Rattle.rows.specs.{History.historyOf, History.lastRows}
 use Rattle.table.specs.{declared.series.Series.the-variants.Price, declared.series.Series.the-variants.Slot, Trees.const, Trees.prev, Trees.extreme}
 use Rattle.table.specs.{Trees.Condition, Trees.compare, Trees.reach, Trees.reachOf}
-use Rattle.rules.specs.{declared.position.PositionState.PositionState, declared.position.Entered.the-variants.Never, Values.priceOf, Values.slotOf, Values.better}
-use Rattle.rules.specs.{Values.took, Values.pick, Values.tested, Values.compared, Meaning.newest, Meaning.there, Meaning.seriesAt, Meaning.extremeOver}
-use Rattle.rules.specs.{Meaning.extremeAt, Meaning.value}
-use Rattle.steps.specs.{Machine.ago, Machine.effect, Machine.does, Machine.after, Machine.run, Machine.answers, Smallest.Pair, Translation.code, Translation.codeOf}
+use Rattle.rules.specs.{declared.position.PositionState.PositionState, declared.position.Entered.the-variants.Never, Values.priceOf, Values.slotOf}
+use Rattle.rules.specs.{Values.better, Values.took, Values.pick, Values.tested, Values.compared, Meaning.newest, Meaning.there, Meaning.seriesAt}
+use Rattle.rules.specs.{Meaning.extremeOver, Meaning.extremeAt, Meaning.value}
+use Rattle.steps.specs.{Machine.ago, Machine.effect, Machine.does, Machine.afterStep, Machine.run, Machine.answers, Smallest.Pair, Translation.code}
+use Rattle.steps.specs.{Translation.codeOf}
 use lib.Ieee as Ieee
 use Rattle.table.specs.Named as Named
 
@@ -48,5 +49,5 @@ split = record { enough = true; short = false }
 
 pub one-row-less : cases ≡ (split ∷ split ∷ split ∷ split ∷ [])
 unfolding row ten eleven flat overLast both-ways rows cases historyOf lastRows newest there seriesAt extremeOver extremeAt value priceOf slotOf better took pick
-    tested compared reach reachOf ago effect does after run code codeOf Ieee.lt Ieee.le Ieee.ofBits
+    tested compared reach reachOf ago effect does afterStep run code codeOf Ieee.lt Ieee.le Ieee.ofBits
 one-row-less = refl

@@ -13,7 +13,7 @@ ghost use Rattle.heads.specs.Laws.Packed.{headWords};
 ghost use Rattle.heads.specs.Laws.Plain.{orderIn, kindIn, unlessZero, plainWords};
 
 // The word of the float that a word holds: of a NaN there is one pattern.
-pub fn plain(w: u64) -> u64
+pub fn plain_word(w: u64) -> u64
     ensures { λ r. ⌜ r ≡ wordOf (floatOf w) ⌝ }
 {
     if 0x7ff0_0000_0000_0000 < w % 0x8000_0000_0000_0000 {
@@ -60,7 +60,7 @@ pub fn limit_in(kind: u64, w: u64) -> u64
     ensures { λ r. ⌜ r ≡ cond (eqb kind 3) (wordOf (floatOf w)) 0 ⌝ }
 {
     if kind == 3 {
-        return plain(w);
+        return plain_word(w);
     }
     0
 }
@@ -81,18 +81,18 @@ pub fn direct_head(w: &[u64], slots: u64, depth: u64, held: u64) -> [u64; 17]
         w[places::BARS_SEEN] % 4294967296 + 4294967296 * (held % 4294967296),
         order % 256 + 256 * (kind % 256) + 65536 * (there % 256) + 4294967296 * (bar % 4294967296),
         unless_zero(order, w[places::ORDER_DELAY]),
-        plain(w[places::CASH]),
-        plain(w[places::QTY]),
-        plain(w[places::ENTRY_PRICE]),
+        plain_word(w[places::CASH]),
+        plain_word(w[places::QTY]),
+        plain_word(w[places::ENTRY_PRICE]),
         w[places::ENTRY_TIME],
-        plain(w[places::ENTRY_FEE]),
-        plain(w[places::FEES_PAID]),
-        plain(w[places::EXTREME]),
+        plain_word(w[places::ENTRY_FEE]),
+        plain_word(w[places::FEES_PAID]),
+        plain_word(w[places::EXTREME]),
         w[places::LAST_TIME],
-        plain(w[places::LAST_CLOSE]),
-        unless_zero(kind, plain(w[places::ORDER_LEVEL])),
+        plain_word(w[places::LAST_CLOSE]),
+        unless_zero(kind, plain_word(w[places::ORDER_LEVEL])),
         limit_in(kind, w[places::ORDER_LIMIT]),
-        plain(w[places::OPEN_FUNDING]),
-        plain(w[places::OPEN_WORST]),
+        plain_word(w[places::OPEN_FUNDING]),
+        plain_word(w[places::OPEN_WORST]),
     ]
 }

@@ -15,7 +15,7 @@ ghost use Rattle.images.specs.Refused.{rowFine};
 ghost use Rattle.images.specs.Laws.RowWords.{slotPlain};
 
 // Where the mask and the slots of a row stand, behind its first byte.
-const MASK_AT: usize = 8 * rows::MASK;
+const MASK_AT: usize = 8 * words::places::BAR_MASK;
 
 const SLOTS_AT: usize = MASK_AT + 8;
 

@@ -52,7 +52,7 @@ fn fill_rows(case: &[u64], rows: &mut [u64]) -> usize {
     let n = closes(case, rows.len() / words::limits::ROW_FIXED);
     let mut i = 0;
     while i < n {
-        rows[words::limits::ROW_FIXED * i + rows::CLOSE] = cases::word(case, first, i);
+        rows[words::limits::ROW_FIXED * i + words::places::BAR_CLOSE] = cases::word(case, first, i);
         i += 1;
     }
     words::limits::ROW_FIXED * n

@@ -1,7 +1,7 @@
 -- One turn of each loop over a list: what is to come from place i is the element there and what is to come after it. Assumes nothing.
 use Rattle.words.specs.Prelude.{_≡_, sym, ap, _∙_, true, false, List, [], _∷_, ℕ, suc, _+_, _≤_, _<_, add-one, length, getD, drop, drop-of-length-le, drop-cons}
 use Rattle.words.specs.Prelude.{Float}
-use Rattle.metrics.specs.{declared.trades.Side.Side, Trades.isOn, Trades.sizeOf, Trades.sizesOn}
+use Rattle.metrics.specs.{declared.trades.WinOrLoss.WinOrLoss, Trades.isOn, Trades.sizeOf, Trades.sizesOn}
 use Rattle.floats.specs.Floats as Floats
 
 -- A loop that keeps f of what is to come: x stands at i.
@@ -19,10 +19,10 @@ done f xs i l h p = sym (ap f (drop-of-length-le xs (rw l at h))) ∙ p
 
 -- ---- a trade that is on a side, and one that is not
 
-pub one-on : (side : Side) (pnl : Float) (later : List Float) → isOn side pnl ≡ true → sizesOn side (pnl ∷ later) ≡ sizeOf side pnl ∷ sizesOn side later
+pub one-on : (side : WinOrLoss) (pnl : Float) (later : List Float) → isOn side pnl ≡ true → sizesOn side (pnl ∷ later) ≡ sizeOf side pnl ∷ sizesOn side later
 unfolding sizesOn
 one-on side pnl later h = rw h
 
-pub not-on : (side : Side) (pnl : Float) (later : List Float) → isOn side pnl ≡ false → sizesOn side (pnl ∷ later) ≡ sizesOn side later
+pub not-on : (side : WinOrLoss) (pnl : Float) (later : List Float) → isOn side pnl ≡ false → sizesOn side (pnl ∷ later) ≡ sizesOn side later
 unfolding sizesOn
 not-on side pnl later h = rw h

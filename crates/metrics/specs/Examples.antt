@@ -2,9 +2,9 @@
 use Rattle.words.specs.Prelude.{_≡_, refl, [], _∷_, ℕ, ℤ, pos, negsuc, Float, binary64}
 use Rattle.words.specs.{Outcome.refuses}
 use Rattle.floats.specs.{Sums.sumFrom}
-use Rattle.metrics.specs.{Records.whole, Quotients.infinity, Quotients.gainOver, Returns.barReturn, Returns.returnsFrom, Returns.barReturns, Drawdown.peakAt}
-use Rattle.metrics.specs.{Drawdown.fallPct, Drawdown.deepestAt, Drawdown.drawdownFrom, Drawdown.maxDrawdownPct, Trades.sizesOn, Trades.winRate, Trades.gross}
-use Rattle.metrics.specs.{Trades.profitFactor, Figures.notWhole, Figures.computed}
+use Rattle.metrics.specs.{Records.whole, Quotients.infinity, Quotients.gainOver, Returns.barReturn, Returns.returnsFrom, Returns.barReturns}
+use Rattle.metrics.specs.{Drawdown.peakAt, Drawdown.fallPct, Drawdown.deepestAt, Drawdown.drawdownFrom, Drawdown.maxDrawdownPct, Trades.sizesOn}
+use Rattle.metrics.specs.{Trades.winRate, Trades.gross, Trades.profitFactor, Figures.notWhole, Figures.computed}
 use lib.Ieee as Ieee
 use Rattle.floats.specs.Floats as Floats
 

@@ -1,6 +1,7 @@
 // Lists of records in lent words, and the floats that the figures read of them.
 use words::limits::POINT_WORDS;
 use words::limits::TRADE_WORDS;
+use words::places::TRADE_PNL;
 ghost use mathlib.Core.Path.{_≡_};
 ghost use Prim.Native.Nat.{_/_, _<_};
 ghost use lib.ListN.{length, getD};
@@ -9,10 +10,6 @@ ghost use Rattle.metrics.specs.Records.{column, equityOf, pnlsOf};
 
 // Where an equity point has its equity: time, equity.
 const EQUITY: usize = 1;
-
-// Where a trade has its pnl, in the Rust record's order: entry time, exit time, entry price, exit price, quantity, pnl,
-// return, reason.
-const PNL: usize = 5;
 
 // Word `at` of record i, of those of `width` words that the list has whole, as a float; 0 past the last.
 fn float_at(words: &[u64], width: usize, at: usize, i: usize) -> f64
@@ -50,5 +47,5 @@ pub fn trade_count(trades: &[u64]) -> usize
 pub fn pnl_at(trades: &[u64], i: usize) -> f64
     ensures { λ r. ⌜ r ≡ getD (pnlsOf (now (trades .entry))) i zero ⌝ }
 {
-    float_at(trades, TRADE_WORDS, PNL, i)
+    float_at(trades, TRADE_WORDS, TRADE_PNL, i)
 }

@@ -8,33 +8,33 @@ ghost use Rattle.metrics.specs.Trades.{isOn, sizeOf, sizesOn, winRate, p
 ghost use Rattle.metrics.specs.Trades as Trades;
 
 // Trades that won, or that lost.
-pub enum Side {
+pub enum WinOrLoss {
     Wins,
     Losses,
 }
 
 // Whether a trade with this pnl is on a side.
-pub fn is_on(side: Side, pnl: f64) -> bool
+pub fn is_on(side: WinOrLoss, pnl: f64) -> bool
     ensures { λ r. ⌜ r ≡ isOn side pnl ⌝ }
 {
     match side {
-        Side::Wins => 0.0 < pnl,
-        Side::Losses => pnl < 0.0,
+        WinOrLoss::Wins => 0.0 < pnl,
+        WinOrLoss::Losses => pnl < 0.0,
     }
 }
 
 // The pnl of a trade of that side, without its sign.
-pub fn size_of(side: Side, pnl: f64) -> f64
+pub fn size_of(side: WinOrLoss, pnl: f64) -> f64
     ensures { λ r. ⌜ r ≡ sizeOf side pnl ⌝ }
 {
     match side {
-        Side::Wins => pnl,
-        Side::Losses => -pnl,
+        WinOrLoss::Wins => pnl,
+        WinOrLoss::Losses => -pnl,
     }
 }
 
 // How many trades are on a side.
-pub fn count_on(trades: &[u64], side: Side) -> usize
+pub fn count_on(trades: &[u64], side: WinOrLoss) -> usize
     ensures { λ r. ⌜ r ≡ length (sizesOn side (pnlsOf (now (trades .entry)))) ⌝ }
 {
     let n = columns::trade_count(trades);
@@ -57,12 +57,12 @@ pub fn win_rate(trades: &[u64]) -> f64
     if n == 0 {
         return 0.0;
     }
-    let wins = count_on(trades, Side::Wins);
+    let wins = count_on(trades, WinOrLoss::Wins);
     floats::sums::counted(wins as u64) / floats::sums::counted(n as u64) * 100.0
 }
 
 // What the trades of a side add up to: gross profit, or gross loss.
-pub fn gross(trades: &[u64], side: Side) -> f64
+pub fn gross(trades: &[u64], side: WinOrLoss) -> f64
     ensures { λ r. ⌜ r ≡ Trades.gross side (pnlsOf (now (trades .entry))) ⌝ }
 {
     let n = columns::trade_count(trades);
@@ -82,7 +82,7 @@ pub fn gross(trades: &[u64], side: Side) -> f64
 pub fn profit_factor(trades: &[u64]) -> f64
     ensures { λ r. ⌜ r ≡ profitFactor (pnlsOf (now (trades .entry))) ⌝ }
 {
-    let gross_profit = gross(trades, Side::Wins);
-    let gross_loss = gross(trades, Side::Losses);
+    let gross_profit = gross(trades, WinOrLoss::Wins);
+    let gross_loss = gross(trades, WinOrLoss::Losses);
     quotient::gain_over(gross_profit, gross_loss)
 }

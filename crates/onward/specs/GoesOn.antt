@@ -4,7 +4,7 @@ use Rattle.words.specs.Prelude.{ℕ, _+_, _≤_, _≡_, true, List, _++_, lengt
 use Rattle.words.specs.{Limits.barWords, Limits.mostCount, Words.word}
 use Rattle.records.specs.{Lent.pointPlaces, Lent.tradePlaces, Settings.settingsOf, StateWords.stateOf}
 use Rattle.refusals.specs.{declared.verdict.Verdict.the-variants.Fine, Day.wholeBars}
-use Rattle.engine.specs.{Day.cut, Whole.accountOf}
+use Rattle.engine.specs.{Day.inRecords, Whole.accountOf}
 use Rattle.restart.specs.{Laws.Reached64.Bars64}
 use Rattle.accounts.specs.{Profile.profileJudged}
 use Rattle.replies.specs.{Call.Call}
@@ -21,7 +21,7 @@ boxOf a = record { state = a .state; rooms = a .rooms }
 
 -- an account's own part of the bars that a call took of a list
 abbrev pub took : ℕ → AccountGiven → Call AccountsLent → List ℕ → List (List ℕ)
-took S own call bars = ownBars S own (cut (call .lent .done) (barWords S) bars)
+took S own call bars = ownBars S own (inRecords (call .lent .done) (barWords S) bars)
 
 -- AS IF ITS SUPPLY HAD NEVER FAILED: x with unbroken supply, and y after losses at which it held these points and trades. The account, the status, and the
 -- points and trades, those held at each loss and then those held now.

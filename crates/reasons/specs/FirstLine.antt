@@ -1,6 +1,6 @@
 -- "the first gives the rule's answer (an absent tree has no lines)": joined with what `answer_rule` promises. Assumes nothing.
-use Rattle.words.specs.Prelude.{ℕ, _*_, _<_, _≡_, refl, sym, ap, _∙_, Bool, true, false, cond, _&&_, List, [], _∷_, arith, ltb, leb, eqb, length, lt-leb, eqb-true}
-use Rattle.words.specs.Prelude.{eqb-false}
+use Rattle.words.specs.Prelude.{ℕ, _*_, _<_, _≡_, refl, sym, ap, _∙_, Bool, true, false, cond, _&&_, List, [], _∷_, arith, ltb, leb, eqb, length, lt-leb}
+use Rattle.words.specs.Prelude.{eqb-true, eqb-false}
 use Rattle.words.specs.{Limits.trees, Outcome.refusal}
 use Rattle.rows.specs.{History.History, History.historyOf, History.wholeRows}
 use Rattle.table.specs.{declared.answer.Answer.Answer, declared.answer.Answer.the-variants.Accepted, declared.answer.Answer.the-variants.Refused}

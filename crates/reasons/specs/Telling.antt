@@ -6,8 +6,8 @@ use Rattle.table.specs.{Trees.Operand, Trees.Condition, Trees.Conditions, Trees
 use Rattle.table.specs.{Trees.negated, Trees.inPosition, Trees.barsSince}
 use Rattle.rules.specs.{declared.values.Value.the-variants.Number, declared.position.PositionState.PositionState, declared.position.Entered.the-variants.Never}
 use Rattle.rules.specs.{declared.position.Entered.the-variants.Bar, Values.held, Values.tested, Values.barsTested, Meaning.value, Meaning.holds}
-use Rattle.chain.specs.{Chain.Shown, Chain.link, Chain.values, Chain.missing, Chain.atFirstBar, Chain.tooFewBars, Chain.position, Chain.sinceEntry, Chain.noEntry}
-use Rattle.chain.specs.{Chain.ChainLine}
+use Rattle.chain.specs.{Chain.Shown, Chain.link, Chain.values, Chain.missing, Chain.atFirstBar, Chain.tooFewBars, Chain.position, Chain.sinceEntry}
+use Rattle.chain.specs.{Chain.noEntry, Chain.ChainLine}
 use Rattle.reasons.specs.{Looks.looksOf, Looks.FirstMissing}
 use Rattle.table.specs.Named as Named
 

@@ -1,7 +1,7 @@
 -- Each line is true of the rule's meaning, and shows all that is: what a line shows is true of its condition (Telling), and nothing else is. At any
 -- bar up to the newest.
-use Rattle.words.specs.Prelude.{ℕ, zero, suc, _+_, _-_, _≤_, _<_, _≡_, refl, sym, ap, _∙_, Bool, true, false, not, cond, _&&_, List, [], _∷_, _++_, _⊎_, inl, inr}
-use Rattle.words.specs.Prelude.{arith, ltb, eqb, Float, eqb-true, eqb-false, ne-eqb, ltb-true, ltb-false, lt-ltb, le-ltb}
+use Rattle.words.specs.Prelude.{ℕ, zero, suc, _+_, _-_, _≤_, _<_, _≡_, refl, sym, ap, _∙_, Bool, true, false, not, cond, _&&_, List, [], _∷_, _++_, _⊎_, inl}
+use Rattle.words.specs.Prelude.{inr, arith, ltb, eqb, Float, eqb-true, eqb-false, ne-eqb, ltb-true, ltb-false, lt-ltb, le-ltb}
 use Rattle.rows.specs.{History.History}
 use Rattle.table.specs.{Trees.Operand, Trees.const, Trees.ref, Trees.price, Trees.prev, Trees.arith as sums, Trees.extreme, Trees.Condition, Trees.compare}
 use Rattle.table.specs.{Trees.cross, Trees.between, Trees.trend, Trees.every, Trees.any, Trees.negated, Trees.inPosition, Trees.barsSince, Series.asOperand}
@@ -9,18 +9,18 @@ use Rattle.table.specs.{Writing.nodesIn}
 use Rattle.rules.specs.{declared.values.Value.Value, declared.values.Value.the-variants.Missing, declared.values.Value.the-variants.Number}
 use Rattle.rules.specs.{declared.position.PositionState.PositionState, declared.position.Entered.Entered, declared.position.Entered.the-variants.Never}
 use Rattle.rules.specs.{declared.position.Entered.the-variants.Bar, Values.held, Values.tested, Values.compared, Values.crossed, Values.within, Values.trended}
-use Rattle.rules.specs.{Values.barsTested, Values.countedSince, Meaning.newest, Meaning.value, Meaning.holds, Laws.Missing.either-way, Laws.Missing.compared-late}
-use Rattle.rules.specs.{Laws.Missing.trended-late, Laws.Missing.within-low, Laws.Missing.within-high, Laws.Missing.within-value, Laws.Missing.crossed-first}
-use Rattle.rules.specs.{Laws.Missing.crossed-second}
+use Rattle.rules.specs.{Values.barsTested, Values.countedSince, Meaning.newest, Meaning.value, Meaning.holds, Laws.Missing.either-way}
+use Rattle.rules.specs.{Laws.Missing.compared-late, Laws.Missing.trended-late, Laws.Missing.within-low, Laws.Missing.within-high, Laws.Missing.within-value}
+use Rattle.rules.specs.{Laws.Missing.crossed-first, Laws.Missing.crossed-second}
 use Rattle.chain.specs.{declared.missing.Found.Found, declared.missing.Found.the-variants.Nowhere, declared.missing.Found.the-variants.Leaf, Missing.inTable}
-use Rattle.chain.specs.{Missing.firstFound, Missing.goneIf, Missing.leafGone, Missing.newestGone, Missing.missingIn, Missing.missingInTwo, Missing.missingInThree}
-use Rattle.chain.specs.{Chain.Shown, Chain.values, Chain.missing, Chain.atFirstBar, Chain.tooFewBars, Chain.position, Chain.sinceEntry, Chain.noEntry}
-use Rattle.chain.specs.{Chain.shownBy, Chain.shownFrom, Chain.shownSince, Chain.shown, Chain.ChainLine, Chain.lineAt}
-use Rattle.reasons.specs.{Looks.Look, Looks.look, Looks.looksBack, Looks.looksIn, Looks.looksOf, Looks.seen, Looks.IsThere, Looks.number, Looks.FirstMissing}
-use Rattle.reasons.specs.{Looks.this, Looks.later, Telling.BarsSince, Telling.passed, Telling.not-below, Telling.LooksAt, Telling.True, Telling.compares}
-use Rattle.reasons.specs.{Telling.lies, Telling.crosses, Telling.moves, Telling.lacks, Telling.at-first, Telling.too-early, Telling.all-joins}
-use Rattle.reasons.specs.{Telling.any-joins, Telling.not-turns, Telling.in-position, Telling.out-of-it, Telling.since, Telling.no-entry, Telling.LineOf}
-use Rattle.reasons.specs.{Laws.Reads.Reads, Laws.Reads.gone, Laws.Reads.got, Laws.Reads.reads}
+use Rattle.chain.specs.{Missing.firstFound, Missing.goneIf, Missing.leafGone, Missing.newestGone, Missing.missingIn, Missing.missingInTwo}
+use Rattle.chain.specs.{Missing.missingInThree, Chain.Shown, Chain.values, Chain.missing, Chain.atFirstBar, Chain.tooFewBars, Chain.position, Chain.sinceEntry}
+use Rattle.chain.specs.{Chain.noEntry, Chain.shownBy, Chain.shownFrom, Chain.shownSince, Chain.shown, Chain.ChainLine, Chain.lineAt}
+use Rattle.reasons.specs.{Looks.Look, Looks.look, Looks.looksBack, Looks.looksIn, Looks.looksOf, Looks.seen, Looks.IsThere, Looks.number}
+use Rattle.reasons.specs.{Looks.FirstMissing, Looks.this, Looks.later, Telling.BarsSince, Telling.passed, Telling.not-below, Telling.LooksAt}
+use Rattle.reasons.specs.{Telling.True, Telling.compares, Telling.lies, Telling.crosses, Telling.moves, Telling.lacks, Telling.at-first}
+use Rattle.reasons.specs.{Telling.too-early, Telling.all-joins, Telling.any-joins, Telling.not-turns, Telling.in-position, Telling.out-of-it}
+use Rattle.reasons.specs.{Telling.since, Telling.no-entry, Telling.LineOf, Laws.Reads.Reads, Laws.Reads.gone, Laws.Reads.got, Laws.Reads.reads}
 use Rattle.table.specs.Named as Named
 
 -- lines of the same parts

@@ -3,11 +3,12 @@ use Rattle.words.specs.Prelude.{ℕ, _/_, _%_, _^_, Bool, not, cond, List, eqb}
 use Rattle.floats.specs.{Floats.floatOf}
 use Rattle.execution.specs.{declared.optional.Optional.Optional, declared.optional.Optional.the-variants.Absent, declared.optional.Optional.the-variants.Of}
 use Rattle.execution.specs.{declared.terms.Risk.Risk, declared.terms.Sizing.Sizing, declared.terms.Sizing.the-variants.FixedFraction}
-use Rattle.execution.specs.{declared.terms.Sizing.the-variants.FixedQty, declared.terms.Sizing.the-variants.FixedCash, declared.terms.Sizing.the-variants.VolTarget}
-use Rattle.execution.specs.{declared.terms.Sizing.the-variants.RiskPerTrade, declared.terms.Sizing.the-variants.Unknown, declared.terms.Slippage.Slippage}
-use Rattle.execution.specs.{declared.terms.Slippage.the-variants.FixedBps, declared.terms.Slippage.the-variants.VolumeImpact}
-use Rattle.execution.specs.{declared.terms.Slippage.the-variants.Unknown as UnknownSlippage, declared.terms.Terms.Terms, declared.level.Entries.Entries}
-use Rattle.execution.specs.{declared.level.OrderType.OrderType, declared.level.OrderType.the-variants.Market, declared.level.OrderType.the-variants.Limit}
+use Rattle.execution.specs.{declared.terms.Sizing.the-variants.FixedQty, declared.terms.Sizing.the-variants.FixedCash}
+use Rattle.execution.specs.{declared.terms.Sizing.the-variants.VolTarget, declared.terms.Sizing.the-variants.RiskPerTrade}
+use Rattle.execution.specs.{declared.terms.Sizing.the-variants.Unknown, declared.terms.Slippage.Slippage, declared.terms.Slippage.the-variants.FixedBps}
+use Rattle.execution.specs.{declared.terms.Slippage.the-variants.VolumeImpact, declared.terms.Slippage.the-variants.Unknown as UnknownSlippage}
+use Rattle.execution.specs.{declared.terms.Terms.Terms, declared.level.Entries.Entries, declared.level.OrderType.OrderType}
+use Rattle.execution.specs.{declared.level.OrderType.the-variants.Market, declared.level.OrderType.the-variants.Limit}
 use Rattle.execution.specs.{declared.level.OrderType.the-variants.Stop, declared.level.OrderType.the-variants.StopLimit}
 use Rattle.execution.specs.{declared.level.OrderType.the-variants.Unknown as UnknownType}
 use Rattle.words.specs.{Words.word}

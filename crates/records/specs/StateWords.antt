@@ -6,8 +6,8 @@ use Rattle.portfolio.specs.{declared.Portfolio.Portfolio}
 use Rattle.execution.specs.{declared.level.OrderKind.OrderKind, declared.level.OrderKind.the-variants.Market, declared.level.OrderKind.the-variants.Limit}
 use Rattle.execution.specs.{declared.level.OrderKind.the-variants.Stop, declared.level.OrderKind.the-variants.StopLimit}
 use Rattle.records.specs.{declared.state.Counts.Counts, declared.state.Order.Order, declared.state.Order.the-variants.Idle}
-use Rattle.records.specs.{declared.state.Order.the-variants.EnterLong, declared.state.Order.the-variants.EnterShort, declared.state.Order.the-variants.Exit}
-use Rattle.records.specs.{declared.state.Position.Position, declared.state.State.State, Fields.floatAt}
+use Rattle.records.specs.{declared.state.Order.the-variants.EnterLong, declared.state.Order.the-variants.EnterShort}
+use Rattle.records.specs.{declared.state.Order.the-variants.Exit, declared.state.Position.Position, declared.state.State.State, Fields.floatAt}
 use Rattle.words.specs.{Words.word}
 
 -- 0 bars seen, 1 rows held, 2 equity points, 3 trades

@@ -25,11 +25,11 @@ pub fn candle_of(bar: &[u64]) -> Candle
 {
     Candle {
         time: words::word(bar, words::places::BAR_TIME),
-        open: float_at(bar, rows::OPEN),
-        high: float_at(bar, rows::HIGH),
-        low: float_at(bar, rows::LOW),
-        close: float_at(bar, rows::CLOSE),
-        volume: float_at(bar, rows::VOLUME),
+        open: float_at(bar, words::places::BAR_OPEN),
+        high: float_at(bar, words::places::BAR_HIGH),
+        low: float_at(bar, words::places::BAR_LOW),
+        close: float_at(bar, words::places::BAR_CLOSE),
+        volume: float_at(bar, words::places::BAR_VOLUME),
     }
 }
 
@@ -37,10 +37,10 @@ pub fn candle_of(bar: &[u64]) -> Candle
 pub fn funding_of(bar: &[u64], slots: usize) -> Funding
     ensures { λ r. ⌜ r ≡ fundingOf slots (now (bar .entry)) ⌝ }
 {
-    if words::word_from(bar, 7, slots) == 0 {
+    if words::word_from(bar, words::places::BAR_FUNDED, slots) == 0 {
         return Funding::NotSupplied;
     }
-    let mark = floats::float_of(words::word_from(bar, 8, slots));
-    let rate = floats::float_of(words::word_from(bar, 9, slots));
+    let mark = floats::float_of(words::word_from(bar, words::places::BAR_MARK, slots));
+    let rate = floats::float_of(words::word_from(bar, words::places::BAR_RATE, slots));
     Funding::Supplied(mark, rate)
 }

@@ -2,7 +2,8 @@
 use Rattle.words.specs.Prelude.{ℕ, _%_, Bool, true, false, List, [], _∷_, _++_, length, eqb}
 use Rattle.words.specs.{Limits.barWords}
 use Rattle.records.specs.{declared.settings.Settings.Settings, declared.state.Counts.Counts, declared.state.State.State, Lent.Rooms}
-use Rattle.refusals.specs.{Lines.Line, Lines.line, Bar.barLines, Rooms.countsFine, Rooms.roomLines, Rooms.stateLines, Rooms.placeLines, Settings.settingLines}
+use Rattle.refusals.specs.{Lines.Line, Lines.line, Bar.barLines, Rooms.countsFine, Rooms.roomLines, Rooms.stateLines, Rooms.placeLines}
+use Rattle.refusals.specs.{Settings.settingLines}
 
 -- "13: .. a .. bar .. list is not whole records": of 10 + K words each
 unfoldable pub wholeBars : ℕ → List ℕ → Bool

@@ -27,7 +27,7 @@ fn slot_fine(bar: &[u64], slots: usize, left: u64, k: usize) -> bool
 fn slots_fine(bar: &[u64], slots: usize) -> bool
     ensures { λ r. ⌜ r ≡ slotsFine slots (now (bar .entry)) ⌝ }
 {
-    let mut left = words::word_from(bar, 0, rows::MASK);
+    let mut left = words::word_from(bar, 0, words::places::BAR_MASK);
     let mut k: usize = 0;
     while k < words::limits::MOST_SLOTS {
         if left == 0 {
@@ -69,19 +69,19 @@ fn number_fine(bar: &[u64], i: usize) -> bool
 fn candle_fine(bar: &[u64]) -> bool
     ensures { λ r. ⌜ r ≡ candleFine (candleOf (now (bar .entry))) ⌝ }
 {
-    if !number_fine(bar, rows::VOLUME) {
+    if !number_fine(bar, words::places::BAR_VOLUME) {
         return false;
     }
-    if !number_fine(bar, rows::CLOSE) {
+    if !number_fine(bar, words::places::BAR_CLOSE) {
         return false;
     }
-    if !number_fine(bar, rows::LOW) {
+    if !number_fine(bar, words::places::BAR_LOW) {
         return false;
     }
-    if !number_fine(bar, rows::HIGH) {
+    if !number_fine(bar, words::places::BAR_HIGH) {
         return false;
     }
-    number_fine(bar, rows::OPEN)
+    number_fine(bar, words::places::BAR_OPEN)
 }
 
 // 11, all of the bar.

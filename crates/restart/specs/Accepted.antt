@@ -7,26 +7,26 @@ use Rattle.rows.specs.{History.lastRows}
 use Rattle.table.specs.{Bytes.u16, Bytes.u64}
 use Rattle.records.specs.{declared.settings.Settings.Settings, declared.state.State.State, Lent.Lists, Lent.Rooms, Lent.rowPlaces, State.freshState}
 use Rattle.records.specs.{StateWords.wordsOf}
-use Rattle.refusals.specs.{declared.verdict.Verdict.the-variants.Fine, Bar.barLines, Judgement.runLines, Judgement.stepLines, Judgement.stepJudged, Lines.judged}
-use Rattle.refusals.specs.{Rooms.roomLines, Rooms.entryBelow, Rooms.placeLines, Settings.settingLines, Laws.Fine.settings-fine, Laws.Fine.step-fine}
-use Rattle.refusals.specs.{Laws.Lines.first-holds, Laws.Lines.below-fine, Laws.Lines.both-fine}
-use Rattle.engine.specs.{Boxes.Sound, Laws.Lengths.row-long, Laws.Runs.run-keeps, Laws.Underway.entry-stays, Record.rowOf, Record.heldRows, Run.Run, Run.runOver}
-use Rattle.engine.specs.{Step.stepped, Step.stepVerdict}
+use Rattle.refusals.specs.{declared.verdict.Verdict.the-variants.Fine, Bar.barLines, Judgement.runLines, Judgement.stepLines, Judgement.stepJudged}
+use Rattle.refusals.specs.{Lines.judged, Rooms.roomLines, Rooms.entryBelow, Rooms.placeLines, Settings.settingLines, Laws.Fine.settings-fine}
+use Rattle.refusals.specs.{Laws.Fine.step-fine, Laws.Lines.first-holds, Laws.Lines.below-fine, Laws.Lines.both-fine}
+use Rattle.engine.specs.{Boxes.Sound, Laws.Lengths.row-long, Laws.Runs.run-keeps, Laws.Underway.entry-stays, Record.rowOf, Record.heldRows, Run.Run}
+use Rattle.engine.specs.{Run.runOver, Step.stepped, Step.stepVerdict}
 use Rattle.runs.specs.{Laws.Alike.step-sound, Laws.TwoRuns.fresh-sound, Laws.Window.last-added, Laws.Window.window-added}
 use Rattle.images.specs.{Layout.wordsBytes, Layout.numbers, Layout.amounts, Layout.head, Layout.image, Layout.windowOf, Layout.imageOf, Reading.slotsIn}
 use Rattle.images.specs.{Reading.versionIn, Reading.depthIn, Reading.wordsIn, Reading.wordsAt, Reading.rowPlace, Reading.rowIn, Refused.zeroAt}
 use Rattle.images.specs.{Refused.eachFine, Refused.rowsFine, Refused.imageLines, Refused.sameLines, Refused.restoreLines, Refused.restoreJudged}
 use Rattle.heads.specs.{Laws.Packed.headWords}
 use Rattle.dump.specs.{Laws.Image.image-head, Laws.Image.image-body, Laws.WordBytes.words-long}
-use Rattle.restart.specs.{RoundTrip.restoredOf, RoundTrip.words-back, Cut.size-of-image, Window.Whole, Window.window-whole, Window.word-at, Restart.Kept}
-use Rattle.restart.specs.{Laws.RowsPass.every-of, Laws.RowsPass.row-passes, Laws.RowsPass.rowAt, Laws.RowsPass.RowsPass, Laws.RowsPass.listed-same}
-use Rattle.restart.specs.{Laws.RowsPass.last-pass, Laws.RowsPass.added-pass, Laws.Says.Says, Laws.Says.unused-fine, Laws.Says.numbers-fine}
-use Rattle.restart.specs.{Laws.Says.shape-holds}
+use Rattle.restart.specs.{RoundTrip.restoredOf, RoundTrip.words-back, Cut.size-of-image, Window.WholeWindow, Window.window-whole, Window.word-at}
+use Rattle.restart.specs.{Restart.Storable, Laws.RowsPass.every-of, Laws.RowsPass.row-passes, Laws.RowsPass.rowAt, Laws.RowsPass.RowsPass}
+use Rattle.restart.specs.{Laws.RowsPass.listed-same, Laws.RowsPass.last-pass, Laws.RowsPass.added-pass, Laws.Says.Says, Laws.Says.unused-fine}
+use Rattle.restart.specs.{Laws.Says.numbers-fine, Laws.Says.shape-holds}
 
 -- A box whose image is accepted: numbers and words such as the code's types hold, what 13 asks of rows and of the entry bar, no more rows than bars
--- seen, and rows that 11 would let pass. A box that was reached from a fresh state has the first by `reached-kept`, and the rest by `reached-dumpable`.
+-- seen, and rows that 11 would let pass. A box that was reached from a fresh state has the first by `reached-storable`, and the rest by `reached-dumpable`.
 pub record Dumpable (s : Settings) (t : State) (m : Rooms) : Type 0 where
-  pub kept : Kept s t m
+  pub kept : Storable s t m
   pub held : t .counts .«rows_held» ≤ rowPlaces (s .slots) (m .rows)
   pub early : t .counts .«rows_held» ≤ t .counts .«bars_seen»
   pub entry : entryBelow (t .position .entered) (t .counts .«bars_seen») ≡ true
@@ -80,7 +80,7 @@ module _ (s : Settings) (t : State) (m : Rooms) (fit : Dumpable s t m) where
   count : ℕ
   count = length W / rowWords (s .slots)
 
-  whole : Whole s t (m .rows)
+  whole : WholeWindow s t (m .rows)
   whole = window-whole s t (m .rows) (fit .held)
 
   back : wordsIn x ≡ wordsOf (restoredOf s t (m .rows))
@@ -218,7 +218,7 @@ module _ (s : Settings) (ls : Lists) (m : Rooms) (bars : List (List ℕ)) (deep 
   reached = runOver s ls (freshState s) m bars
 
   -- ANY BARS FROM A FRESH STATE leave a box whose image is accepted, where its numbers and words are such as the code's types hold.
-  pub reached-dumpable : Kept s (reached .state) (reached .rooms) → Dumpable s (reached .state) (reached .rooms)
+  pub reached-dumpable : Storable s (reached .state) (reached .rooms) → Dumpable s (reached .state) (reached .rooms)
   reached-dumpable kept =
       let p : Passed s (reached .state) (reached .rooms) =
       run-keeps s ls (Passed s) (λ t n bar h q. step-passed s ls t n bar h q) bars (freshState s) m (fresh-passed s m deep) in
@@ -227,7 +227,7 @@ module _ (s : Settings) (ls : Lists) (m : Rooms) (bars : List (List ℕ)) (deep 
   -- REQUEST 11, ACCEPTANCE: after any bars from a fresh state the whole image is restored: 10, 12, 19 and 20 refuse nothing, with the settings that it was
   -- written with, if 12 lets them pass, and over any row room with D places.
   pub reached-accepted : let b = runOver s ls (freshState s) m bars in
-      Kept s (b .state) (b .rooms) → judged (settingLines s) ≡ Fine → (rows : List ℕ) → s .depth ≤ rowPlaces (s .slots) rows
+      Storable s (b .state) (b .rooms) → judged (settingLines s) ≡ Fine → (rows : List ℕ) → s .depth ≤ rowPlaces (s .slots) rows
       → restoreJudged s (imageOf s (b .state) (b .rooms .rows)) rows ≡ Fine
   reached-accepted kept twelve rows place =
       accepted s (reached .state) (reached .rooms) (reached-dumpable kept) rows

@@ -8,25 +8,25 @@ use Rattle.records.specs.{declared.settings.Settings.Settings, Lent.Lists, Lent
 use Rattle.records.specs.{State.freshState, Laws.RoundTrip.Floats64}
 use Rattle.refusals.specs.{declared.verdict.Verdict.the-variants.Fine, Lines.judged, Rooms.entryBelow, Settings.settingLines}
 use Rattle.engine.specs.{Books.wordsOfPoint, Books.heldPoints, Books.heldTrades, Boxes.NotFull, Boxes.Sound, Boxes.Holds, Rules.FromTable, Run.Run, Run.runOver}
-use Rattle.engine.specs.{Whole.Account, Whole.accountOf, Whole.Whole, Whole.meantRun}
+use Rattle.engine.specs.{Whole.Account, Whole.accountOf, Whole.Ledger, Whole.meantRun}
 use Rattle.runs.specs.{AsMeant.as-meant, NeverFull.PlacesFor, NeverFull.never-full, Laws.TwoRuns.fresh-sound}
 use Rattle.images.specs.{Layout.dumpBytes, Layout.imageOf, Refused.restoreJudged}
 use Rattle.dumpable.specs.{Refused.dumpJudged}
 use Rattle.restart.specs.{Accepted.reached-accepted, Cut.size-of-image, Dumps.dump-passes, Dumps.reached-entry, Laws.Reached64.Bars64}
-use Rattle.restart.specs.{Laws.Reached64.reached-kept, Laws.Times.Word64, Lives.Life, Lives.lastState, Lives.lastRooms, Lives.allBars, Lives.allPoints}
-use Rattle.restart.specs.{Lives.allTrades, Lives.LivesOf, Lives.SinceLosses, Losses.front-words, Losses.losses-run}
+use Rattle.restart.specs.{Laws.Reached64.reached-storable, Laws.Times.Word64, Lives.Life, Lives.lastState, Lives.lastRooms, Lives.allBars}
+use Rattle.restart.specs.{Lives.allPoints, Lives.allTrades, Lives.LivesOf, Lives.SinceLosses, Losses.front-words, Losses.losses-run}
 use lib.Seq.{take-append-add}
 
 -- ---- definitions
 
 -- The run e of the life that is under way, after lives that held these points and trades, is the whole run w.
-pub record AsIfNever (w : Whole) (e : Run) (points trades : List ℕ) : Type 0 where
+pub record AsIfNever (w : Ledger) (e : Run) (points trades : List ℕ) : Type 0 where
   pub account : accountOf (e .state) ≡ w .account
   pub equity : points ++ heldPoints (e .state) (e .rooms) ≡ flatMap wordsOfPoint (w .points)
   pub closed : trades ++ heldTrades (e .state) (e .rooms) ≡ flatMap wordsOfTrade (w .trades)
 
 -- What a run has come to can be dumped, and its image is accepted.
-pub record Ready (s : Settings) (e : Run) : Type 0 where
+pub record Restorable (s : Settings) (e : Run) : Type 0 where
   pub dumped : (area : List ℕ) → dumpBytes (s .slots) (s .depth) ≤ length area → dumpJudged s (e .state) (e .rooms .rows) area ≡ Fine
   pub accepted : (rows : List ℕ) → s .depth ≤ rowPlaces (s .slots) rows → restoreJudged s (imageOf s (e .state) (e .rooms .rows)) rows ≡ Fine
   pub size : length (imageOf s (e .state) (e .rooms .rows)) ≡ dumpBytes (s .slots) (s .depth)
@@ -79,7 +79,7 @@ module _ (s : Settings) (ls : Lists) (m : Rooms) (deep : s .depth ≤ rowPlaces 
   since = same-as-unbroken big deep (large-places s m (length all) few)
 
   -- READY AT ANY TIME: what the life under way has come to can be dumped, and its whole image is accepted.
-  pub always-ready : Ready s (runOver s ls (lastState (freshState s) lives) (lastRooms m lives) bars)
+  pub always-ready : Restorable s (runOver s ls (lastState (freshState s) lives) (lastRooms m lives) bars)
   always-ready =
       let entry = reached-entry s ls big all deep in
       record {
@@ -89,7 +89,7 @@ module _ (s : Settings) (ls : Lists) (m : Rooms) (deep : s .depth ≤ rowPlaces 
             (subst (λ (a : Account). a .seen ≤ mostCount) (since .account) (entry .1)) twelve place;
         accepted = λ rows place.
             subst (λ (y : List ℕ). restoreJudged s y rows ≡ Fine) (since .image)
-            (reached-accepted s ls big all deep (reached-kept s ls big all deep twelve floats delay words) twelve rows place);
+            (reached-accepted s ls big all deep (reached-storable s ls big all deep twelve floats delay words) twelve rows place);
         size = size-of-image s (e .state) (e .rooms .rows) (since .sound .within .rows);
         sound = since .sound;
       }

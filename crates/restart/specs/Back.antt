@@ -1,15 +1,15 @@
 -- THE WAY BACK: an image that a restore accepts, patterns of NaN apart, is the image of the state and the rows that it leaves.
 use Rattle.words.specs.Prelude.{ℕ, _+_, _-_, _*_, _/_, _%_, _≤_, _<_, _≡_, refl, sym, ap, _∙_, Bool, true, false, _&&_, List, mod-eq-of-lt, mul-div-cancel}
-use Rattle.words.specs.Prelude.{mul-assoc, mul-comm, mul-le-mul-right, zero-add, zero-mul, arith, leb-true, eqb-true, ltb-true, ltb-false, leb, ltb, eqb, length}
-use Rattle.words.specs.Prelude.{getD, take, drop, List·getD-eq-default, ext-getD, take-at}
+use Rattle.words.specs.Prelude.{mul-assoc, mul-comm, mul-le-mul-right, zero-add, zero-mul, arith, leb-true, eqb-true, ltb-true, ltb-false, leb, ltb, eqb}
+use Rattle.words.specs.Prelude.{length, getD, take, drop, List·getD-eq-default, ext-getD, take-at}
 use Rattle.words.specs.{Limits.rowWords, Words.overwrite, Laws.Overwrite.overwrite-fits, Laws.Records.records-fit}
 use Rattle.rows.specs.{History.lastRows}
 use Rattle.table.specs.{Bytes.u16, Bytes.u32, Bytes.u64, Bytes.Bytes}
 use Rattle.steps.specs.{Bytes.eight}
 use Rattle.records.specs.{declared.settings.Settings.Settings, StateWords.countsOf, StateWords.enteredOf, StateWords.portfolioOf, StateWords.positionOf}
 use Rattle.records.specs.{StateWords.stateOf, StateWords.wordsOf}
-use Rattle.refusals.specs.{declared.verdict.Verdict.the-variants.Fine, Lines.judged, Rooms.roomLines, Rooms.entryBelow, Settings.settingLines, Laws.Lines.and-true}
-use Rattle.refusals.specs.{Laws.Lines.first-holds, Laws.Lines.both-fine}
+use Rattle.refusals.specs.{declared.verdict.Verdict.the-variants.Fine, Lines.judged, Rooms.roomLines, Rooms.entryBelow, Settings.settingLines}
+use Rattle.refusals.specs.{Laws.Lines.and-true, Laws.Lines.first-holds, Laws.Lines.both-fine}
 use Rattle.engine.specs.{Record.listed, Record.heldRows, Laws.Lengths.listed-long}
 use Rattle.images.specs.{Layout.headBytes, Layout.dumpBytes, Layout.wordsBytes, Layout.amounts, Layout.image, Layout.windowOf, Layout.imageOf, Reading.slotsIn}
 use Rattle.images.specs.{Reading.depthIn, Reading.seenIn, Reading.rowsIn, Reading.orderIn, Reading.kindIn, Reading.enteredIn, Reading.entryIn, Reading.delayIn}
@@ -19,8 +19,8 @@ use Rattle.images.specs.{Refused.rowsFine, Refused.imageLines, Refused.restoreL
 use Rattle.images.specs.{Laws.Fine.restore-fine}
 use Rattle.heads.specs.{Laws.Packed.firstWord, Laws.Packed.secondWord, Laws.Packed.thirdWord, Laws.Packed.headWords}
 use Rattle.dump.specs.{Laws.Image.image-long, Laws.Image.image-head, Laws.Image.image-body, Laws.WordBytes.words-long, Laws.WordBytes.byte-of}
-use Rattle.restart.specs.{Window.listed-at, Laws.Again.Own, Laws.Again.kind-again, Laws.Again.order-again, Laws.Again.entered-again, Laws.Marked.marked}
-use Rattle.restart.specs.{Laws.ReadBytes.four-small, Laws.ReadBytes.two-small, Laws.ReadBytes.byte-read, Laws.RowsPass.one-of}
+use Rattle.restart.specs.{Window.listed-at, Laws.Again.Own, Laws.Again.kind-again, Laws.Again.order-again, Laws.Again.entered-again}
+use Rattle.restart.specs.{Laws.Marked.shape-marked, Laws.ReadBytes.four-small, Laws.ReadBytes.two-small, Laws.ReadBytes.byte-read, Laws.RowsPass.one-of}
 
 -- "patterns of NaN apart": each float of the header has the word that its float is written as, as every word but a NaN's is (`number-own`)
 pub record Plain (x : List ℕ) : Type 0 where
@@ -120,7 +120,7 @@ module _ (x : List ℕ) (bytes : Bytes x) (seen : Seen x) where
   first-read : firstWord (slotsIn x) (depthIn x) ≡ u64 x 0
   unfolding u16 u32 u64 Bytes
   first-read =
-      let m = marked x (seen .shape) in
+      let m = shape-marked x (seen .shape) in
       let k : slotsIn x % 256 ≡ slotsIn x = mod-eq-of-lt (bytes 3) in
       let d : depthIn x % 65536 ≡ depthIn x = mod-eq-of-lt (two-small x bytes 6) in
       rw (k, d) (omega (arith, m .m₀, m .m₁, m .m₂, m .version))

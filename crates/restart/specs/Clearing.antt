@@ -3,8 +3,9 @@ use Rattle.words.specs.Prelude.{ℕ, _≤_, _<_, _≡_, _∙_, true, List, [], 
 use Rattle.records.specs.{declared.settings.Settings.Settings, declared.state.State.State}
 use Rattle.refusals.specs.{declared.verdict.Verdict.the-variants.Fine, Lines.judged, Rooms.roomLines, Settings.settingLines}
 use Rattle.images.specs.{Layout.dumpBytes, Layout.imageOf, Refused.restoreJudged, Laws.Fine.restore-fine}
-use Rattle.restart.specs.{FirstWord.Unmarked, FirstWord.RefusedOr, FirstWord.first-word-decides, Laws.Programs.programmed-long, Laws.Programs.programmed-is}
-use Rattle.restart.specs.{PagePlan.firstWord, PagePlan.word-else, PagePlan.word-at, Plans.touches, Plans.programmed, Plans.Torn}
+use Rattle.restart.specs.{FirstWord.Unmarked, FirstWord.RefusedOr, FirstWord.first-word-decides, Laws.Programs.programmed-long}
+use Rattle.restart.specs.{Laws.Programs.programmed-is, PagePlan.firstWord, PagePlan.word-else, PagePlan.word-at, Plans.touches, Plans.programmed}
+use Rattle.restart.specs.{Plans.Torn}
 
 -- the first word programmed to zeros, which flash that erases to ones always allows
 abbrev pub cleared : List ℕ → List ℕ

@@ -10,7 +10,7 @@ use Rattle.metrics.specs.{declared.Metrics.Metrics, Figures.metricsOf, Records.
 use Rattle.records.specs.{declared.settings.Settings.Settings, declared.state.State.State, Lent.Rooms}
 use Rattle.refusals.specs.{declared.verdict.Verdict.the-variants.Fine, Judgement.finishJudged}
 use Rattle.engine.specs.{Books.Point, Books.wordsOfPoint, Books.tradesOf, Books.heldPoints, Books.heldTrades, Boxes.Sound, Finish.lastExit, Finish.remarked}
-use Rattle.engine.specs.{Finish.ended, Run.Run, Whole.Account, Whole.stateOf, Whole.Whole, Whole.wholeEnd, Whole.wholeMetrics}
+use Rattle.engine.specs.{Finish.ended, Run.Run, Whole.Account, Whole.stateOfAccount, Whole.Ledger, Whole.wholeEnd, Whole.wholeMetrics}
 use Rattle.runs.specs.{AsMeant.exit-of-account, Laws.BooksGrow.flat-append, Laws.Finishes.Closes, Laws.Finishes.end-closes, Laws.LastPoint.remarked-points}
 use Rattle.runs.specs.{Restart.no-points}
 use Rattle.restart.specs.{AsIfNever.AsIfNever}
@@ -26,7 +26,7 @@ abbrev pub lastRemarked : Settings → State → List ℕ → List ℕ
 lastRemarked s t points = remarked points (length points / pointWords) (lastExit s t) (t .last .close)
 
 -- A finish of the run e, after lives that held these points and trades, is the end of the whole run w.
-pub record EndsAsNever (s : Settings) (w : Whole) (e : Run) (points trades : List ℕ) : Type 0 where
+pub record EndsAsNever (s : Settings) (w : Ledger) (e : Run) (points trades : List ℕ) : Type 0 where
   -- the trades of before and then those of this life, the one that finish closes too
   pub closed : trades ++ heldTrades (ended s (e .state) (e .rooms) .result .state) (ended s (e .state) (e .rooms) .rooms)
       ≡ flatMap wordsOfTrade (wholeEnd s w .trades)
@@ -72,16 +72,16 @@ held-long s t m sound =
 
 -- ---- the end
 
-module _ (s : Settings) (w : Whole) (e : Run) (points trades : List ℕ) (h : AsIfNever w e points trades) (sound : Sound s (e .state) (e .rooms))
+module _ (s : Settings) (w : Ledger) (e : Run) (points trades : List ℕ) (h : AsIfNever w e points trades) (sound : Sound s (e .state) (e .rooms))
     (fine : finishJudged s (e .state) (e .rooms) ≡ Fine) where
   abbrev x : Exit
-  x = lastExit s (stateOf (w .account))
+  x = lastExit s (stateOfAccount (w .account))
 
   abbrev close : Float
   close = w .account .last .close
 
   same : lastExit s (e .state) ≡ x
-  same = exit-of-account s (e .state) ∙ ap (λ (a : Account). lastExit s (stateOf a)) (h .account)
+  same = exit-of-account s (e .state) ∙ ap (λ (a : Account). lastExit s (stateOfAccount a)) (h .account)
 
   closes : Closes (e .state) (e .rooms) (ended s (e .state) (e .rooms) .result .state) (ended s (e .state) (e .rooms) .rooms) (lastExit s (e .state))
   closes = end-closes s (e .state) (e .rooms) fine
@@ -124,7 +124,7 @@ module _ (s : Settings) (w : Whole) (e : Run) (points trades : List ℕ) (h : As
   }
 
 -- SO THE FIGURES over them are the unbroken run's.
-pub figures-after-losses : (s : Settings) (w : Whole) (points trades : List ℕ) → points ≡ flatMap wordsOfPoint (wholeEnd s w .points)
+pub figures-after-losses : (s : Settings) (w : Ledger) (points trades : List ℕ) → points ≡ flatMap wordsOfPoint (wholeEnd s w .points)
     → trades ≡ flatMap wordsOfTrade (wholeEnd s w .trades) → figuresOf s points trades ≡ wholeMetrics s (wholeEnd s w)
 unfolding wholeMetrics
 figures-after-losses s w points trades p t = rw (p, t)

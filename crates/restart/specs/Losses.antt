@@ -6,11 +6,11 @@ use Rattle.records.specs.{Laws.RoundTrip.Floats64}
 use Rattle.refusals.specs.{declared.verdict.Verdict.Verdict, declared.verdict.Verdict.the-variants.Fine, Lines.judged, Settings.settingLines, Laws.Lines.never}
 use Rattle.engine.specs.{Books.heldPoints, Books.heldTrades, Boxes.NotFull, Boxes.Sound, Laws.Runs.run-none, Laws.Runs.fine-took-all, Run.Run, Run.runOver}
 use Rattle.runs.specs.{RunOn.joinedRun, RunOn.run-on, RunOn.run-over, Laws.TwoRuns.fresh-sound, Laws.TwoRuns.run-sound, OtherBooks.SameFromHere}
-use Rattle.runs.specs.{OtherBooks.books-do-not-matter, Restart.Restarted, Restart.restarted-alike, Restart.restarted-sound, Restart.no-points, Restart.no-trades}
-use Rattle.runs.specs.{WholeHistory.fresh-follows}
-use Rattle.restart.specs.{Laws.Reached64.Bars64, Laws.Reached64.reached-kept, Laws.Times.Word64, Lives.Life, Lives.restoredState, Lives.restoredRooms}
+use Rattle.runs.specs.{OtherBooks.books-do-not-matter, Restart.Restarted, Restart.restarted-alike, Restart.restarted-sound, Restart.no-points}
+use Rattle.runs.specs.{Restart.no-trades, WholeHistory.fresh-follows}
+use Rattle.restart.specs.{Laws.Reached64.Bars64, Laws.Reached64.reached-storable, Laws.Times.Word64, Lives.Life, Lives.restoredState, Lives.restoredRooms}
 use Rattle.restart.specs.{Lives.lastState, Lives.lastRooms, Lives.allBars, Lives.allPoints, Lives.allTrades, Lives.LifeOf, Lives.LivesOf, Lives.Survived}
-use Rattle.restart.specs.{Lives.SinceLosses, Restart.Kept, Restart.image-restarts, SameImage.same-image, SameImage.kept-alike}
+use Rattle.restart.specs.{Lives.SinceLosses, Restart.Storable, Restart.image-restarts, SameImage.same-image, SameImage.kept-alike}
 
 -- ---- lists of bars
 
@@ -45,14 +45,14 @@ module _ (s : Settings) (ls : Lists) (u : Run) (t′ : State) (m′ : Rooms) (ps
   same : SameFromHere s (u .state) (u .rooms) t′ m′ unbroken own
   same = books-do-not-matter s ls (l .bars) (u .state) (u .rooms) t′ m′ (was .alike) sound (was .sound) free (fine-free _ (life .fine))
 
-  again : Kept s (unbroken .state) (unbroken .rooms) → Restarted s (own .state) (own .rooms) (restoredState l) (restoredRooms l)
+  again : Storable s (unbroken .state) (unbroken .rooms) → Restarted s (own .state) (own .rooms) (restoredState l) (restoredRooms l)
   again kept =
       let sound′ = run-sound s ls (l .bars) t′ m′ (was .sound) in
       rw (life .image)
       (image-restarts s (own .state) (own .rooms) (l .rows) (l .equity) (l .trades) (sound′ .within .rows)
       (kept-alike s (unbroken .state) (unbroken .rooms) (own .state) (own .rooms) (same .alike) kept) (life .place))
 
-  life-survived : Kept s (unbroken .state) (unbroken .rooms)
+  life-survived : Storable s (unbroken .state) (unbroken .rooms)
       → Survived s unbroken (restoredState l) (restoredRooms l) (ps ++ heldPoints (own .state) (own .rooms)) (xs ++ heldTrades (own .state) (own .rooms))
   life-survived kept =
       let x = same in
@@ -94,15 +94,16 @@ module _ (s : Settings) (ls : Lists) (m : Rooms) (deep : s .depth ≤ rowPlaces 
       let u : Run = runOver s ls (run before .state) (run before .rooms) (l .bars) in
       let on = run-on s ls before (l .bars) (freshState s) m (was .fine) in
       let sound = run-sound s ls before (freshState s) m (fresh-sound s m deep) in
-      let kept = reached-kept s ls m (before ++ l .bars) deep twelve floats delay words in
-      let kept′ : Kept s (u .state) (u .rooms) = subst (λ (r : Run). Kept s (r .state) (r .rooms)) on kept in
+      let kept = reached-storable s ls m (before ++ l .bars) deep twelve floats delay words in
+      let kept′ : Storable s (u .state) (u .rooms) = subst (λ (r : Run). Storable s (r .state) (r .rooms)) on kept in
       rw on
       (joined-survived s (run before) u _ _ _ _
       (life-survived s ls (run before) t′ m′ ps xs was l sound (free-on (run (before ++ l .bars)) u (ap (λ (r : Run). r .verdict) on) free) life kept′))
 
   all-lives : (lives : List Life) (before : List (List ℕ)) (t′ : State) (m′ : Rooms) (ps xs : List ℕ) → Survived s (run before) t′ m′ ps xs
       → Bars64 (before ++ allBars lives) → NotFull (run (before ++ allBars lives) .verdict) → LivesOf s ls t′ m′ lives
-      → Survived s (run (before ++ allBars lives)) (lastState t′ lives) (lastRooms m′ lives) (ps ++ allPoints s ls t′ m′ lives) (xs ++ allTrades s ls t′ m′ lives)
+      → Survived s (run (before ++ allBars lives)) (lastState t′ lives) (lastRooms m′ lives)
+      (ps ++ allPoints s ls t′ m′ lives) (xs ++ allTrades s ls t′ m′ lives)
   unfolding allBars lastState lastRooms allPoints allTrades LivesOf
   all-lives [] before t′ m′ ps xs was words free lived = rw (append-nil before, append-nil ps, append-nil xs) was
   all-lives (l ∷ lives) before t′ m′ ps xs was words free lived =

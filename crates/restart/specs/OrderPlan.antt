@@ -32,7 +32,8 @@ unfolding covers
 covers-append [] b i = refl
 covers-append (p ∷ a) b i = rw (covers-append a b i) (or-assoc (touches p i) (covers a i) (covers b i))
 
-programmed-append : (bytes : List ℕ) (a b : List (List ℕ)) (area : List ℕ) → allProgrammed bytes (a ++ b) area ≡ allProgrammed bytes b (allProgrammed bytes a area)
+programmed-append : (bytes : List ℕ) (a b : List (List ℕ)) (area : List ℕ)
+    → allProgrammed bytes (a ++ b) area ≡ allProgrammed bytes b (allProgrammed bytes a area)
 unfolding allProgrammed
 programmed-append bytes [] b area = refl
 programmed-append bytes (p ∷ a) b area = programmed-append bytes a b (programmed bytes p area)

@@ -138,7 +138,8 @@ pub whole-pages-plan : (bytes area : List ℕ) (page : ℕ) → 8 ≤ page → 8
 whole-pages-plan bytes area page wide long =
     let size = length bytes in
     pages-plan bytes area (pageEnds page size 0 (pagesOf page size)) (ends-rise page size (pagesOf page size) 0 8 (omega arith))
-    (ends-at page size (pagesOf page size) 0 8 (enough page size wide) (λ z. absurd (omega (arith, enough page size wide, ap (λ (n : ℕ). n * page) z ∙ zero-mul page))))
+    (ends-at page size (pagesOf page size) 0 8 (enough page size wide)
+    (λ z. absurd (omega (arith, enough page size wide, ap (λ (n : ℕ). n * page) z ∙ zero-mul page))))
   where
     enough : (page size : ℕ) → 8 ≤ page → size ≤ 0 + pagesOf page size * page
     enough page size wide =

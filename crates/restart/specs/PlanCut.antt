@@ -9,8 +9,8 @@ use Rattle.images.specs.{Layout.imageOf, Refused.restoreJudged}
 use Rattle.restart.specs.{FirstWord.Unmarked, FirstWord.RefusedOr, FirstWord.nineteen, FirstWord.whole, FirstWord.unmarked-refused}
 use Rattle.restart.specs.{FirstWord.first-word-decides, FirstWord.accepted-whole, FirstWord.above-fine, Laws.FirstBytes.image-first, Laws.Programs.Left}
 use Rattle.restart.specs.{Laws.Programs.early, Laws.Programs.late, Laws.Programs.done, Laws.Programs.neither, Laws.Programs.starts-with}
-use Rattle.restart.specs.{Laws.Programs.cut-long, Laws.Programs.cut-rest, Laws.Programs.cut-leaves, Plans.touches, Plans.covers, Plans.CutIn, Plans.inOrder}
-use Rattle.restart.specs.{Plans.Plan}
+use Rattle.restart.specs.{Laws.Programs.cut-long, Laws.Programs.cut-rest, Laws.Programs.cut-leaves, Plans.touches, Plans.covers, Plans.CutIn}
+use Rattle.restart.specs.{Plans.inOrder, Plans.Plan}
 
 -- ---- the first bytes of an area
 
@@ -101,7 +101,8 @@ plan-retried s t room rows before last area after fits other plan (once _ _ cut)
     plan-cut s t room rows before last area after fits other plan cut ten twelve
 plan-retried s t room rows before last area after fits other plan (again _ between _ cut unmarked tries) ten twelve =
     let image = imageOf s t room in
-    let none : (i : ℕ) → covers before i ≡ false → touches last i ≡ false → covers (inOrder before last) i ≡ false = λ i c n. neither-covers before last i c n in
+    let none : (i : ℕ) → covers before i ≡ false → touches last i ≡ false → covers (inOrder before last) i ≡ false =
+    λ i c n. neither-covers before last i c n in
     plan-retried s t room rows before last between after (omega (arith, cut-long image (inOrder before last) area between cut)) unmarked
     (record { off = plan .off; low = plan .low; rest = λ i l c n. cut-rest image (inOrder before last) area between i (none i c n) cut ∙ plan .rest i l c n })
     tries ten twelve

@@ -8,13 +8,14 @@ use Rattle.records.specs.{declared.settings.Settings.Settings, declared.state.S
 use Rattle.engine.specs.{Boxes.NotFull, Record.heldRows, Run.Run, Run.runOver}
 use Rattle.runs.specs.{OtherBooks.Emptied, Restart.Restarted, Restart.restart, Laws.TwoRuns.fresh-sound, Laws.TwoRuns.run-sound}
 use Rattle.images.specs.{Layout.windowOf, Layout.imageOf, Reading.stateIn, Reading.windowIn}
-use Rattle.restart.specs.{RoundTrip.Small, RoundTrip.restoredOf, RoundTrip.state-comes-back, Window.Whole, Window.window-whole, Window.window-comes-back}
+use Rattle.restart.specs.{RoundTrip.FitsImage, RoundTrip.restoredOf, RoundTrip.state-comes-back, Window.WholeWindow, Window.window-whole}
+use Rattle.restart.specs.{Window.window-comes-back}
 
 -- What the image of a box needs: D and K as 12 lets them be, and numbers of its state and words of its rows such as the code's types hold.
-pub record Kept (s : Settings) (t : State) (m : Rooms) : Type 0 where
+pub record Storable (s : Settings) (t : State) (m : Rooms) : Type 0 where
   pub slots : s .slots ≤ mostSlots
   pub depth : s .depth ≤ mostRows
-  pub small : Small t
+  pub small : FitsImage t
   pub words : (i : ℕ) → getD (windowOf s t (m .rows)) i 0 < 18446744073709551616
 
 -- the box that a restore of its image leaves, over any row room, and any equity and trade rooms
@@ -25,11 +26,11 @@ abbrev pub roomsAgain : Settings → State → Rooms → List ℕ → List ℕ �
 roomsAgain s t m rows equity trades = rooms (overwrite rows 0 (windowIn (imageOf s t (m .rows)))) equity trades
 
 module _ (s : Settings) (t : State) (m : Rooms) (rows equity trades : List ℕ) (held : t .counts .«rows_held» ≤ rowPlaces (s .slots) (m .rows))
-    (kept : Kept s t m) (place : s .depth ≤ rowPlaces (s .slots) rows) where
+    (kept : Storable s t m) (place : s .depth ≤ rowPlaces (s .slots) rows) where
   W : List ℕ
   W = windowOf s t (m .rows)
 
-  whole : Whole s t (m .rows)
+  whole : WholeWindow s t (m .rows)
   whole = window-whole s t (m .rows) held
 
   state-is : stateAgain s t m ≡ restoredOf s t (m .rows)
@@ -71,7 +72,7 @@ module _ (s : Settings) (t : State) (m : Rooms) (rows equity trades : List ℕ) 
 pub restart-from-image : (s : Settings) (ls : Lists) (m : Rooms) (before bars : List (List ℕ)) (rows equity trades : List ℕ)
     → s .depth ≤ rowPlaces (s .slots) (m .rows) → s .depth ≤ rowPlaces (s .slots) rows
     → let b = runOver s ls (freshState s) m before in
-    Kept s (b .state) (b .rooms)
+    Storable s (b .state) (b .rooms)
     → let u = runOver s ls (b .state) (b .rooms) bars in
     let e = runOver s ls (stateAgain s (b .state) (b .rooms)) (roomsAgain s (b .state) (b .rooms) rows equity trades) bars in
     NotFull (u .verdict) → NotFull (e .verdict) → Emptied s (b .state) (b .rooms) u e

@@ -1,6 +1,6 @@
 -- A whole image read back holds what was written: the state, with its books emptied and the rows of its window counted, and the window.
-use Rattle.words.specs.Prelude.{ℕ, _+_, _*_, _/_, _%_, _<_, _≡_, refl, ap, _∙_, List, [], _∷_, mod-eq-of-lt, mod-add-div, arith, Float, binary64, fits, toBits-lt}
-use Rattle.words.specs.Prelude.{T, length}
+use Rattle.words.specs.Prelude.{ℕ, _+_, _*_, _/_, _%_, _<_, _≡_, refl, ap, _∙_, List, [], _∷_, mod-eq-of-lt, mod-add-div, arith, Float, binary64, fits}
+use Rattle.words.specs.Prelude.{toBits-lt, T, length}
 use Rattle.words.specs.{Limits.rowWords, Words.word}
 use Rattle.floats.specs.{Floats.wordOf}
 use Rattle.table.specs.{Bytes.u16, Bytes.u32, Bytes.u64}
@@ -9,9 +9,9 @@ use Rattle.execution.specs.{declared.level.OrderKind.OrderKind, declared.level.
 use Rattle.execution.specs.{declared.level.OrderKind.the-variants.Stop, declared.level.OrderKind.the-variants.StopLimit}
 use Rattle.records.specs.{declared.state.Order.Order, declared.state.Order.the-variants.Idle, declared.state.Order.the-variants.EnterLong}
 use Rattle.records.specs.{declared.state.Order.the-variants.EnterShort, declared.state.Order.the-variants.Exit, declared.settings.Settings.Settings}
-use Rattle.records.specs.{declared.state.State.State, StateWords.orderKind, StateWords.orderDelay, StateWords.waitsFor, StateWords.kindWord, StateWords.levelWord}
-use Rattle.records.specs.{StateWords.limitWord, StateWords.enteredKind, StateWords.entryBar, StateWords.wordsOf, StateWords.stateOf, Laws.RoundTrip.KindFits}
-use Rattle.records.specs.{Laws.RoundTrip.Floats64, Laws.RoundTrip.state-back}
+use Rattle.records.specs.{declared.state.State.State, StateWords.orderKind, StateWords.orderDelay, StateWords.waitsFor, StateWords.kindWord}
+use Rattle.records.specs.{StateWords.levelWord, StateWords.limitWord, StateWords.enteredKind, StateWords.entryBar, StateWords.wordsOf, StateWords.stateOf}
+use Rattle.records.specs.{Laws.RoundTrip.KindFits, Laws.RoundTrip.Floats64, Laws.RoundTrip.state-back}
 use Rattle.steps.specs.{Laws.Encoding.four-back}
 use Rattle.images.specs.{Layout.wordsBytes, Layout.numbers, Layout.amounts, Layout.head, Layout.image, Layout.windowOf, Layout.imageOf, Reading.wordsIn}
 use Rattle.images.specs.{Reading.stateIn}
@@ -34,7 +34,7 @@ eight-back n l =
 
 -- ---- a state whose numbers have a place in an image: those of every state that the code holds, once 13 has let it pass
 
-pub record Small (t : State) : Type 0 where
+pub record FitsImage (t : State) : Type 0 where
   pub seen : t .counts .«bars_seen» < 4294967296
   pub entry : entryBar (t .position .entered) < 4294967296
   pub delay : orderDelay (t .order) < 18446744073709551616
@@ -103,7 +103,7 @@ restoredOf s t room = record {
   last = t .last;
 }
 
-module _ (s : Settings) (t : State) (room : List ℕ) (small : Small t) (few : length (windowOf s t room) / rowWords (s .slots) < 4294967296) where
+module _ (s : Settings) (t : State) (room : List ℕ) (small : FitsImage t) (few : length (windowOf s t room) / rowWords (s .slots) < 4294967296) where
   pub words-back : wordsIn (imageOf s t room) ≡ wordsOf (restoredOf s t room)
   unfolding imageOf wordsOf restoredOf
   words-back =

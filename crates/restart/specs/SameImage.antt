@@ -1,15 +1,15 @@
 -- Boxes that are alike have the same image, and what an image needs goes over from one to the other.
 use Rattle.words.specs.Prelude.{ℕ, _≡_, refl, sym, ap, _∙_, List}
 use Rattle.records.specs.{declared.settings.Settings.Settings, declared.state.State.State, Lent.Rooms, StateWords.wordsOf}
-use Rattle.engine.specs.{Boxes.Alike, Whole.Account, Whole.accountOf, Whole.stateOf}
+use Rattle.engine.specs.{Boxes.Alike, Whole.Account, Whole.accountOf, Whole.stateOfAccount}
 use Rattle.runs.specs.{Laws.AccountStep.same-parts}
 use Rattle.images.specs.{Layout.numbers, Layout.amounts, Layout.head, Layout.image, Layout.windowOf, Layout.imageOf}
-use Rattle.restart.specs.{Laws.SameFloats.floats-alike, RoundTrip.Small, Restart.Kept}
+use Rattle.restart.specs.{Laws.SameFloats.floats-alike, RoundTrip.FitsImage, Restart.Storable}
 
 -- ---- the image
 
 -- of a state an image has its account: neither the count of its rows nor those of its books
-of-account : (K D : ℕ) (t : State) (W : List ℕ) → image K D (wordsOf t) W ≡ image K D (wordsOf (stateOf (accountOf t))) W
+of-account : (K D : ℕ) (t : State) (W : List ℕ) → image K D (wordsOf t) W ≡ image K D (wordsOf (stateOfAccount (accountOf t))) W
 unfolding image head numbers amounts wordsOf
 of-account K D t W = refl
 
@@ -23,13 +23,13 @@ module _ (s : Settings) (t : State) (m : Rooms) (t′ : State) (m′ : Rooms) (a
   unfolding imageOf
   same-image =
       of-account (s .slots) (s .depth) t (windowOf s t (m .rows))
-      ∙ ap (λ (a : Account). image (s .slots) (s .depth) (wordsOf (stateOf a)) (windowOf s t (m .rows))) (alike .account)
+      ∙ ap (λ (a : Account). image (s .slots) (s .depth) (wordsOf (stateOfAccount a)) (windowOf s t (m .rows))) (alike .account)
       ∙ sym (of-account (s .slots) (s .depth) t′ (windowOf s t (m .rows)))
       ∙ ap (λ (W : List ℕ). image (s .slots) (s .depth) (wordsOf t′) W) same-window
 
 -- ---- what an image needs
 
-small-alike : (t t′ : State) → accountOf t ≡ accountOf t′ → Small t → Small t′
+small-alike : (t t′ : State) → accountOf t ≡ accountOf t′ → FitsImage t → FitsImage t′
 small-alike t t′ same h =
     let p = same-parts t t′ same in
     record {
@@ -41,7 +41,7 @@ small-alike t t′ same h =
       floats = floats-alike t t′ (p .position) (p .last) (p .order) (h .floats);
     }
 
-pub kept-alike : (s : Settings) (t : State) (m : Rooms) (t′ : State) (m′ : Rooms) → Alike s t m t′ m′ → Kept s t m → Kept s t′ m′
+pub kept-alike : (s : Settings) (t : State) (m : Rooms) (t′ : State) (m′ : Rooms) → Alike s t m t′ m′ → Storable s t m → Storable s t′ m′
 kept-alike s t m t′ m′ alike kept = record {
   slots = kept .slots;
   depth = kept .depth;

@@ -3,9 +3,10 @@
 -- counts as the image's here.)
 use Rattle.words.specs.Prelude.{ℕ, _+_, _≤_, _<_, _≡_, refl, sym, _∙_, Bool, true, false, List, _++_, arith, ltb-true, ltb-false, ltb, length, getD, take}
 use Rattle.words.specs.Prelude.{length-append, List·getD-append}
-use Rattle.restart.specs.{Laws.Programs.Left, Laws.Programs.early, Laws.Programs.late, Laws.Programs.done, Laws.Programs.starts-with, Laws.Programs.cut-long}
-use Rattle.restart.specs.{Laws.Programs.cut-leaves, PagePlan.placesFrom, PagePlan.pagesTo, PagePlan.from-below, PagePlan.from-at, PagePlan.pages-at}
-use Rattle.restart.specs.{PagePlan.pages-above, Pages.Rising, Pages.endOf, Plans.touches, Plans.covers, Plans.CutIn, Plans.inOrder, Plans.RestRight}
+use Rattle.restart.specs.{Laws.Programs.Left, Laws.Programs.early, Laws.Programs.late, Laws.Programs.done, Laws.Programs.starts-with}
+use Rattle.restart.specs.{Laws.Programs.cut-long, Laws.Programs.cut-leaves, PagePlan.placesFrom, PagePlan.pagesTo, PagePlan.from-below, PagePlan.from-at}
+use Rattle.restart.specs.{PagePlan.pages-at, PagePlan.pages-above, Pages.Rising, Pages.endOf, Plans.touches, Plans.covers, Plans.CutIn, Plans.inOrder}
+use Rattle.restart.specs.{Plans.RestRight}
 
 -- behind so many bytes of the area stands the seal
 abbrev pub Sealed : ℕ → List ℕ → List ℕ → Type 0

@@ -58,12 +58,12 @@ fewer : (n m w : ℕ) → (n - m) * w ≡ n * w - m * w
 fewer n m w = mul-comm (n - m) w ∙ mul-sub w n m ∙ ap (λ (a : ℕ). a - w * m) (mul-comm w n) ∙ ap (λ (a : ℕ). n * w - a) (mul-comm w m)
 
 -- its rows are whole, and no more than D or than those held
-pub record Whole (s : Settings) (t : State) (room : List ℕ) : Type 0 where
+pub record WholeWindow (s : Settings) (t : State) (room : List ℕ) : Type 0 where
   pub words : length (windowOf s t room) ≡ length (windowOf s t room) / rowWords (s .slots) * rowWords (s .slots)
   pub few : length (windowOf s t room) / rowWords (s .slots) ≤ s .depth
   pub held : length (windowOf s t room) / rowWords (s .slots) ≤ t .counts .«rows_held»
 
-pub window-whole : (s : Settings) (t : State) (room : List ℕ) → t .counts .«rows_held» ≤ rowPlaces (s .slots) room → Whole s t room
+pub window-whole : (s : Settings) (t : State) (room : List ℕ) → t .counts .«rows_held» ≤ rowPlaces (s .slots) room → WholeWindow s t room
 unfolding windowOf lastRows heldRows
 window-whole s t room held =
     let w = rowWords (s .slots) in

@@ -6,10 +6,11 @@ use Rattle.table.specs.{Header.markRight, Header.versionRight, Header.countsRig
 use Rattle.table.specs.{Nodes.nRight, Nodes.constantRight, Nodes.kindRight, Nodes.fieldsRight, Nodes.ownRight, Nodes.nodeRight, Nodes.wrongNode, Nodes.sortAt}
 use Rattle.table.specs.{Nodes.childCount, Nodes.childCountAt, Nodes.childSortAt, Nodes.childFits, Nodes.childFitsAt, Order.fits, Order.misfit, Order.orPlace}
 use Rattle.table.specs.{Order.ofFour, Order.misfits, Forest.firstTrees, Forest.otherTrees, Forest.nodeOver, Forest.trees, Forest.forestOf, Nesting.deeper}
-use Rattle.table.specs.{Nesting.tooDeep, Reach.back, Reach.ownBack, Reach.weigh, Reach.forestReach, Reach.treeReach, Reach.farAt, Reach.tooFar, Reach.rowsNeeded}
-use Rattle.table.specs.{Trees.ref, Trees.price, Trees.prev, Trees.compare, Trees.cross, Reading.operandBy, Reading.operandFrom, Reading.operands, Reading.firstOf}
-use Rattle.table.specs.{Reading.conditionBy, Reading.conditionFrom, Reading.conditions, Reading.present, Reading.treeOf, Writing.absent, Writing.shortOf}
-use Rattle.table.specs.{Writing.ruleOf, Checked.orRefused, Checked.orHeader, Checked.from9, Checked.from8, Checked.from7, Checked.checkedUpTo, Checked.checked}
+use Rattle.table.specs.{Nesting.tooDeep, Reach.back, Reach.ownBack, Reach.weigh, Reach.forestReach, Reach.treeReach, Reach.farAt, Reach.tooFar}
+use Rattle.table.specs.{Reach.rowsNeeded, Trees.ref, Trees.price, Trees.prev, Trees.compare, Trees.cross, Reading.operandBy, Reading.operandFrom}
+use Rattle.table.specs.{Reading.operands, Reading.firstOf, Reading.conditionBy, Reading.conditionFrom, Reading.conditions, Reading.present, Reading.treeOf}
+use Rattle.table.specs.{Writing.absent, Writing.shortOf, Writing.ruleOf, Checked.orRefused, Checked.orHeader, Checked.from9, Checked.from8, Checked.from7}
+use Rattle.table.specs.{Checked.checkedUpTo, Checked.checked}
 use Rattle.table.specs.Named as Named
 
 -- kind, selector and n of a node that has neither children of its own number nor a constant

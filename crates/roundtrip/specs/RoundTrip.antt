@@ -5,8 +5,8 @@
 use Rattle.words.specs.Prelude.{_≡_, List, ℕ, _+_, max}
 use Rattle.table.specs.{declared.answer.Answer.the-variants.Accepted, declared.header.Form.Form, Header.formOf, Checked.checked, Trees.reachOf, Writing.Rule}
 use Rattle.table.specs.{Writing.nodesOfRule, Writing.tableOf, Writing.ruleOf, Limits.RuleWithin, Bytes.Bytes}
-use Rattle.roundtrip.specs.{Laws.AcceptedWritten.round-trip, Laws.AcceptedWithin.rule-within, Laws.WrittenBytes.written-bytes, Laws.WrittenTrees.reachOfShort}
-use Rattle.roundtrip.specs.{Laws.WrittenAccepted.is-accepted, Laws.WrittenAccepted.reads-back}
+use Rattle.roundtrip.specs.{Laws.AcceptedWritten.round-trip, Laws.AcceptedWithin.rule-within, Laws.WrittenBytes.written-bytes}
+use Rattle.roundtrip.specs.{Laws.WrittenTrees.reachOfShort, Laws.WrittenAccepted.is-accepted, Laws.WrittenAccepted.reads-back}
 
 -- **An accepted table is the table of the rule that it holds**: its four trees, written in prefix order under the paper's
 -- header, are its own bytes. (`Bytes`: each is below 256, as in every `&[u8]`.)

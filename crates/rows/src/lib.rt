@@ -6,19 +6,6 @@ ghost use mathlib.Core.Path.{_≡_};
 ghost use Rattle.rows.specs.History.{historyOf, wholeRows, lastRows};
 use words::limits::ROW_FIXED;
 
-// Where a row has its words.
-pub const OPEN: usize = 1;
-
-pub const HIGH: usize = 2;
-
-pub const LOW: usize = 3;
-
-pub const CLOSE: usize = 4;
-
-pub const VOLUME: usize = 5;
-
-pub const MASK: usize = 6;
-
 // How many whole rows there are. A row of more slots than there are words is none, so the width never wraps.
 pub fn row_count(rows: &[u64], slots: usize) -> usize
     ensures { λ r. ⌜ r ≡ historyOf slots (now (rows .entry)) .rows ⌝ }

@@ -5,7 +5,7 @@ use Rattle.rows.specs.{History.historyOf, History.wholeRows}
 use Rattle.table.specs.{declared.answer.Answer.Answer, declared.answer.Answer.the-variants.Accepted, declared.answer.Answer.the-variants.Refused, Header.slots}
 use Rattle.table.specs.{Header.count, Header.root, Checked.checked, Ends.endsBeside, declared.trees.Tree.Tree, Header.treeNumber}
 use Rattle.rules.specs.{declared.position.PositionState.PositionState, declared.answers.RuleAnswer.the-variants.Says}
-use Rattle.rules.specs.{declared.answers.RuleAnswer.the-variants.Refuses, Meaning.says, Flat.conditionAt, Answers.stateRight, Answers.judged}
+use Rattle.rules.specs.{declared.answers.RuleAnswer.the-variants.Refuses, Meaning.says, Flat.flatConditionAt, Answers.stateRight, Answers.judged}
 use Rattle.rules.specs.{Answers.afterCheck, Answers.answered, Laws.Answers.tree-of-four, Laws.Answers.flat-says}
 
 module _ (t : List ℕ) (tree : Tree) (rows : List ℕ) (s : PositionState) where
@@ -27,7 +27,8 @@ module _ (t : List ℕ) (tree : Tree) (rows : List ℕ) (s : PositionState) wher
       unright f = rw (ok, ← w, ← p, e, f)
 
       pub answers : right ≡ true → (ends : List ℕ) → ends ≡ endsBeside t → (x : ℕ) → x ≡ treeNumber tree → (b : Bool)
-          → b ≡ cond (eqb (count t x) 0) false (says (historyOf (slots t) rows) s (conditionAt mostNesting t ends (root t x))) → Says b ≡ answered t tree rows s
+          → b ≡ cond (eqb (count t x) 0) false (says (historyOf (slots t) rows) s (flatConditionAt mostNesting t ends (root t x)))
+          → Says b ≡ answered t tree rows s
       unfolding answered afterCheck judged
       answers f ends g x h b i =
           rw (ok, ← w, ← p, e, f) (ap Says (i ∙ rw (g, h) (flat-says t n r ok (treeNumber tree) (tree-of-four tree) (historyOf (slots t) rows) s)))

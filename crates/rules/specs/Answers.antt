@@ -2,11 +2,11 @@
 use Rattle.words.specs.Prelude.{ℕ, Bool, true, cond, _&&_, List, ltb, leb}
 use Rattle.words.specs.{Limits.mostCount, Outcome.refusal}
 use Rattle.rows.specs.{History.historyOf, History.wholeRows}
-use Rattle.table.specs.{declared.answer.Answer.Answer, declared.answer.Answer.the-variants.Accepted, declared.answer.Answer.the-variants.Refused, Header.treeNumber}
-use Rattle.table.specs.{Header.slots, Checked.checked, Reading.treeOf, declared.trees.Tree.Tree}
+use Rattle.table.specs.{declared.answer.Answer.Answer, declared.answer.Answer.the-variants.Accepted, declared.answer.Answer.the-variants.Refused}
+use Rattle.table.specs.{Header.treeNumber, Header.slots, Checked.checked, Reading.treeOf, declared.trees.Tree.Tree}
 use Rattle.rules.specs.{declared.position.Entered.Entered, declared.position.Entered.the-variants.Never, declared.position.Entered.the-variants.Bar}
-use Rattle.rules.specs.{declared.position.PositionState.PositionState, declared.answers.RuleAnswer.RuleAnswer, declared.answers.RuleAnswer.the-variants.Says}
-use Rattle.rules.specs.{declared.answers.RuleAnswer.the-variants.Refuses, Meaning.says}
+use Rattle.rules.specs.{declared.position.PositionState.PositionState, declared.answers.RuleAnswer.RuleAnswer}
+use Rattle.rules.specs.{declared.answers.RuleAnswer.the-variants.Says, declared.answers.RuleAnswer.the-variants.Refuses, Meaning.says}
 
 -- "13: counts in the state exceed .. 4,294,967,295 .. or an entry bar is not below the bars seen": this is where neither.
 abbrev pub entryBelow : ℕ → Entered → Bool

@@ -5,7 +5,7 @@ use Rattle.rows.specs.{History.historyOf}
 use Rattle.table.specs.{Trees.Operand, Trees.const, Trees.price, Trees.ref, Trees.prev, Trees.arith, Trees.Condition, Trees.compare, Trees.cross, Trees.every}
 use Rattle.table.specs.{Trees.any, Trees.negated, Trees.none, Trees.reach, Trees.reachOf}
 use Rattle.rules.specs.{declared.position.PositionState.PositionState, declared.position.Entered.the-variants.Never, Values.priceOf, Values.slotOf}
-use Rattle.rules.specs.{Values.divide, Values.combine, Values.both, Values.tested, Values.compared, Values.crossed, Meaning.newest, Meaning.there}
+use Rattle.rules.specs.{Values.divide, Values.combine, Values.combined, Values.tested, Values.compared, Values.crossed, Meaning.newest, Meaning.there}
 use Rattle.rules.specs.{Meaning.value, Meaning.holds, Meaning.says}
 use lib.Ieee as Ieee
 use Rattle.table.specs.Named as Named
@@ -83,6 +83,6 @@ pub edges : starred ≡
     answer false ∷ answer true ∷
     reaches 6 ∷ [])
 unfolding num0 num1 num5 num10 close gt crossAbove oneByZero row row10 row11 rowAbsent flat ask starred historyOf newest there value holds says
-    priceOf slotOf divide combine both tested compared crossed reach reachOf abs Ieee.lt Ieee.le Ieee.add Ieee.sub Ieee.mul Ieee.div Ieee.neg
+    priceOf slotOf divide combine combined tested compared crossed reach reachOf abs Ieee.lt Ieee.le Ieee.add Ieee.sub Ieee.mul Ieee.div Ieee.neg
     Ieee.ofBits
 edges = refl

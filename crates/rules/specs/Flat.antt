@@ -1,9 +1,9 @@
 -- The tree that stands at a node, read off the bytes and the array of subtree ends, whatever they are. On an accepted
 -- table it is the table's own tree. Definitions only.
 use Rattle.words.specs.Prelude.{ℕ, zero, suc, Bool, true, false, List}
-use Rattle.table.specs.{declared.series.Series.Series, Series.seriesIn, Trees.Operand, Trees.const, Trees.ref, Trees.price, Trees.prev, Trees.arith, Trees.extreme}
-use Rattle.table.specs.{Trees.Condition, Trees.Conditions, Trees.compare, Trees.cross, Trees.between, Trees.trend, Trees.every, Trees.any, Trees.negated}
-use Rattle.table.specs.{Trees.inPosition, Trees.barsSince, Trees.none, Trees.more}
+use Rattle.table.specs.{declared.series.Series.Series, Series.seriesIn, Trees.Operand, Trees.const, Trees.ref, Trees.price, Trees.prev, Trees.arith}
+use Rattle.table.specs.{Trees.extreme, Trees.Condition, Trees.Conditions, Trees.compare, Trees.cross, Trees.between, Trees.trend, Trees.every, Trees.any}
+use Rattle.table.specs.{Trees.negated, Trees.inPosition, Trees.barsSince, Trees.none, Trees.more}
 use Rattle.rules.specs.{declared.shapes.OperandShape.OperandShape, declared.shapes.OperandShape.the-variants.Const}
 use Rattle.rules.specs.{declared.shapes.OperandShape.the-variants.Ref, declared.shapes.OperandShape.the-variants.Price}
 use Rattle.rules.specs.{declared.shapes.OperandShape.the-variants.Prev, declared.shapes.OperandShape.the-variants.Arith}
@@ -26,9 +26,9 @@ growOperand over below (Extreme kind a n) = extreme kind (over a) n
 growOperand over below NoOperand = const 0
 
 -- the operand at node i, where `left` levels of nesting are left, its own counted
-unfoldable pub operandAt : ℕ → List ℕ → List ℕ → ℕ → Operand
-operandAt zero t ends i = const 0
-operandAt (suc left) t ends i = growOperand (seriesIn t) (operandAt left t ends) (operandShape t ends i)
+unfoldable pub flatOperandAt : ℕ → List ℕ → List ℕ → ℕ → Operand
+flatOperandAt zero t ends i = const 0
+flatOperandAt (suc left) t ends i = growOperand (seriesIn t) (flatOperandAt left t ends) (operandShape t ends i)
 
 -- n conditions, the first at node j, each at the end of the one before
 unfoldable pub growConditions : (ℕ → Condition) → List ℕ → ℕ → ℕ → Conditions
@@ -53,7 +53,7 @@ growCondition operand below ends (BarsSince selector k) = barsSince selector k
 growCondition operand below ends NoCondition = any none
 
 -- the condition at node i, where `left` levels of nesting are left, its own counted
-unfoldable pub conditionAt : ℕ → List ℕ → List ℕ → ℕ → Condition
-conditionAt zero t ends i = any none
-conditionAt (suc left) t ends i =
-    growCondition (operandAt left t ends) (conditionAt left t ends) ends (conditionShape t ends i)
+unfoldable pub flatConditionAt : ℕ → List ℕ → List ℕ → ℕ → Condition
+flatConditionAt zero t ends i = any none
+flatConditionAt (suc left) t ends i =
+    growCondition (flatOperandAt left t ends) (flatConditionAt left t ends) ends (conditionShape t ends i)

@@ -3,10 +3,11 @@ use Rattle.words.specs.Prelude.{ℕ, zero, suc, _+_, _-_, Bool, true, false, no
 use Rattle.floats.specs.{Floats.floatOf}
 use Rattle.rows.specs.{History.History}
 use Rattle.table.specs.{declared.series.Series.Series, declared.series.Series.the-variants.Price, declared.series.Series.the-variants.Slot, Trees.Operand}
-use Rattle.table.specs.{Trees.const, Trees.ref, Trees.price, Trees.prev, Trees.arith, Trees.extreme, Trees.Condition, Trees.Conditions, Trees.compare, Trees.cross}
-use Rattle.table.specs.{Trees.between, Trees.trend, Trees.every, Trees.any, Trees.negated, Trees.inPosition, Trees.barsSince, Trees.none, Trees.more}
+use Rattle.table.specs.{Trees.const, Trees.ref, Trees.price, Trees.prev, Trees.arith, Trees.extreme, Trees.Condition, Trees.Conditions, Trees.compare}
+use Rattle.table.specs.{Trees.cross, Trees.between, Trees.trend, Trees.every, Trees.any, Trees.negated, Trees.inPosition, Trees.barsSince, Trees.none}
+use Rattle.table.specs.{Trees.more}
 use Rattle.rules.specs.{declared.values.Value.Value, declared.values.Value.the-variants.Missing, declared.values.Value.the-variants.Number}
-use Rattle.rules.specs.{declared.position.PositionState.PositionState, Values.priceOf, Values.slotOf, Values.both, Values.pick, Values.compared}
+use Rattle.rules.specs.{declared.position.PositionState.PositionState, Values.priceOf, Values.slotOf, Values.combined, Values.pick, Values.compared}
 use Rattle.rules.specs.{Values.crossed, Values.within, Values.trended, Values.held, Values.countedSince}
 
 -- "The newest bar is the last row's; with no rows it is bar 0, whose row does not exist."
@@ -37,7 +38,7 @@ value h (const bits) i = there h i (Number (floatOf bits))
 value h (ref slot) i = there h i (slotOf (h .word i) slot)
 value h (price selector) i = there h i (Number (priceOf (h .word i) selector))
 value h (prev a n) i = there h i (cond (ltb i n) Missing (value h a (i - n)))
-value h (arith kind a b) i = both kind (value h a i) (value h b i)
+value h (arith kind a b) i = combined kind (value h a i) (value h b i)
 value h (extreme kind s n) i = extremeAt h kind s n i
 
 -- `eval_condition`. "A cross is no at bar 0"; Rising and Falling are no where there is no bar n back.

@@ -5,11 +5,11 @@ use Rattle.rows.specs.{History.History}
 use Rattle.table.specs.{Trees.Operand, Trees.const, Trees.ref, Trees.price, Trees.prev, Trees.arith as sums, Trees.extreme, Trees.reach, Trees.Condition}
 use Rattle.table.specs.{Trees.compare, Trees.cross, Trees.between, Trees.trend, Trees.every, Trees.any, Trees.negated, Trees.inPosition, Trees.barsSince}
 use Rattle.table.specs.{Trees.reachOf, Silent.isTest}
-use Rattle.rules.specs.{declared.position.PositionState.PositionState, declared.values.Value.the-variants.Missing, Values.both, Values.compared}
+use Rattle.rules.specs.{declared.position.PositionState.PositionState, declared.values.Value.the-variants.Missing, Values.combined, Values.compared}
 use Rattle.rules.specs.{Values.crossed, Values.within, Values.trended, Meaning.newest, Meaning.there, Meaning.value, Meaning.holds, Meaning.says}
 use Rattle.rules.specs.{Laws.Meaning.extreme-early, Laws.Meaning.past, Laws.Missing.missing-there, Laws.Missing.both-late, Laws.Missing.compared-late}
-use Rattle.rules.specs.{Laws.Missing.trended-late, Laws.Missing.within-low, Laws.Missing.within-high, Laws.Missing.within-value, Laws.Missing.crossed-first}
-use Rattle.rules.specs.{Laws.Missing.crossed-second}
+use Rattle.rules.specs.{Laws.Missing.trended-late, Laws.Missing.within-low, Laws.Missing.within-high, Laws.Missing.within-value}
+use Rattle.rules.specs.{Laws.Missing.crossed-first, Laws.Missing.crossed-second}
 
 -- ---- an operand that reaches back beyond bar 0 is missing
 
@@ -27,8 +27,8 @@ far h (extreme k s n) i l = extreme-early h k s n i l
 far h (sums k a b) i l = go (λ m. far h a i m) (λ m. far h b i m) (ltb i (reach a)) refl
   where
     go : (i < reach a → value h a i ≡ Missing) → (i < reach b → value h b i ≡ Missing) → (t : Bool) → ltb i (reach a) ≡ t
-        → both k (value h a i) (value h b i) ≡ Missing
-    go left right true e = rw (left (ltb-true i (reach a) e)) (unfold both in refl)
+        → combined k (value h a i) (value h b i) ≡ Missing
+    go left right true e = rw (left (ltb-true i (reach a) e)) (unfold combined in refl)
     go left right false e = rw (right (omega (arith, ltb-false i (reach a) e))) (both-late k (value h a i))
 
 -- at the newest bar, where there are no more rows than it reaches back

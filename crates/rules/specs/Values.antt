@@ -1,6 +1,7 @@
 -- "What a rule means", the leaves: what a row, an operation, a comparison and the position give. Definitions only.
 use Rattle.words.specs.Prelude.{ℕ, _+_, _-_, _/_, _%_, _^_, Bool, false, cond, _&&_, List, getD, ltb, leb, eqb, Float, nan}
-use Rattle.floats.specs.{Floats._⊕_, Floats._⊖_, Floats._⊗_, Floats._⊘_, Floats._≺_, Floats._≼_, Floats.floatOf, Floats.abs, Floats.eps, Floats.three, Floats.four}
+use Rattle.floats.specs.{Floats._⊕_, Floats._⊖_, Floats._⊗_, Floats._⊘_, Floats._≺_, Floats._≼_, Floats.floatOf, Floats.abs, Floats.eps, Floats.three}
+use Rattle.floats.specs.{Floats.four}
 use Rattle.rules.specs.{declared.values.Value.Value, declared.values.Value.the-variants.Missing, declared.values.Value.the-variants.Number}
 use Rattle.rules.specs.{declared.position.Entered.Entered, declared.position.Entered.the-variants.Never, declared.position.Entered.the-variants.Bar}
 use Rattle.rules.specs.{declared.position.PositionState.PositionState}
@@ -31,10 +32,10 @@ unfoldable pub combine : ℕ → Float → Float → Float
 combine kind x y = cond (eqb kind Named.add) (x ⊕ y) (cond (eqb kind Named.sub) (x ⊖ y) (cond (eqb kind Named.mul) (x ⊗ y) (divide x y)))
 
 -- "Arithmetic is missing if either side is."
-unfoldable pub both : ℕ → Value → Value → Value
-both kind Missing b = Missing
-both kind (Number x) Missing = Missing
-both kind (Number x) (Number y) = Number (combine kind x y)
+unfoldable pub combined : ℕ → Value → Value → Value
+combined kind Missing b = Missing
+combined kind (Number x) Missing = Missing
+combined kind (Number x) (Number y) = Number (combine kind x y)
 
 -- "a later one takes its place only if strictly greater (for Lowest, strictly less)" (request 8)
 unfoldable pub better : ℕ → Float → Float → Bool

@@ -1,12 +1,12 @@
 -- The window: the last rows answer as the whole history does. Assumes nothing.
 use Rattle.words.specs.Prelude.{ℕ, zero, suc, _+_, _-_, _*_, _/_, _≤_, _<_, _≡_, refl, sym, ap, fun-ext, _∙_, Bool, true, false, not, List, arith}
-use Rattle.words.specs.Prelude.{le-div-iff-mul-le, mul-add-div-right, zero-mul, length, getD, drop, length-drop, getD-drop, ltb, leb, eqb, lt-ltb, le-ltb, ltb-true}
-use Rattle.words.specs.Prelude.{ltb-false, leb-true, leb-false, ne-eqb}
+use Rattle.words.specs.Prelude.{le-div-iff-mul-le, mul-add-div-right, zero-mul, length, getD, drop, length-drop, getD-drop, ltb, leb, eqb, lt-ltb, le-ltb}
+use Rattle.words.specs.Prelude.{ltb-true, ltb-false, leb-true, leb-false, ne-eqb}
 use Rattle.rows.specs.{History.History, History.historyOf, History.lastRows}
 use Rattle.table.specs.{declared.series.Series.Series, declared.series.Series.the-variants.Price, declared.series.Series.the-variants.Slot, Trees.Operand}
 use Rattle.table.specs.{Trees.const, Trees.ref, Trees.price, Trees.prev, Trees.arith as sums, Trees.extreme, Trees.Condition, Trees.Conditions, Trees.compare}
-use Rattle.table.specs.{Trees.cross, Trees.between, Trees.trend, Trees.every, Trees.any, Trees.negated, Trees.inPosition, Trees.barsSince, Trees.none, Trees.more}
-use Rattle.table.specs.{Trees.reach, Trees.reachOf, Trees.reachOfAll}
+use Rattle.table.specs.{Trees.cross, Trees.between, Trees.trend, Trees.every, Trees.any, Trees.negated, Trees.inPosition, Trees.barsSince, Trees.none}
+use Rattle.table.specs.{Trees.more, Trees.reach, Trees.reachOf, Trees.reachOfAll}
 use Rattle.rules.specs.{declared.position.PositionState.PositionState, Meaning.newest, Meaning.there, Meaning.seriesAt, Meaning.extremeOver}
 use Rattle.rules.specs.{Meaning.extremeAt, Meaning.value, Meaning.holds, Meaning.allHold, Meaning.anyHolds, Meaning.says}
 

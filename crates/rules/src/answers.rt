@@ -16,7 +16,7 @@ ghost use Rattle.rows.specs.History.{historyOf};
 ghost use Rattle.table.specs.Header.{slots, count, root};
 ghost use Rattle.rules.specs.Meaning as Meaning;
 ghost use Rattle.rules.specs.Meaning.{says};
-ghost use Rattle.rules.specs.Flat.{conditionAt};
+ghost use Rattle.rules.specs.Flat.{flatConditionAt};
 ghost use Rattle.rules.specs.Answers.{stateRight, answered};
 
 // What a rule over rows comes to: yes or no, or a refusal's number and place.
@@ -54,7 +54,7 @@ pub fn newest(rows: &[u64], slots: usize) -> usize
 fn eval_tree(t: &[u8], ends: &[usize; 256], tree: u8, rows: &[u64], s: PositionState) -> bool
     ensures { λ r. ⌜ r ≡ cond (eqb (count (now (t .entry)) tree) 0) false
         (says (historyOf (slots (now (t .entry))) (now (rows .entry))) s
-        (conditionAt mostNesting (now (t .entry)) (now (ends .entry)) (root (now (t .entry)) tree))) ⌝ }
+        (flatConditionAt mostNesting (now (t .entry)) (now (ends .entry)) (root (now (t .entry)) tree))) ⌝ }
 {
     if table::header::count(t, tree) == 0 {
         return false;

@@ -13,7 +13,7 @@ ghost use Rattle.rows.specs.History.{historyOf};
 ghost use Rattle.rules.specs.declared.values.Value.{Value};
 ghost use Rattle.rules.specs.Values.{compared, crossed, within, trended, held};
 ghost use Rattle.rules.specs.Meaning.{value, holds};
-ghost use Rattle.rules.specs.Flat.{operandAt, growConditions, group, conditionAt};
+ghost use Rattle.rules.specs.Flat.{flatOperandAt, growConditions, group, flatConditionAt};
 
 // A comparison of the operands at nodes a and b.
 fn compare(
@@ -27,7 +27,8 @@ fn compare(
     bar: usize,
     left: usize,
 ) -> bool
-    ensures { λ r. ⌜ (let v : ℕ → ℕ → Value = λ i at. value (historyOf slots (now (rows .entry))) (operandAt left (now (t .entry)) (now (ends .entry)) i) at in
+    ensures { λ r. ⌜ (let v : ℕ → ℕ → Value = λ i at.
+        value (historyOf slots (now (rows .entry))) (flatOperandAt left (now (t .entry)) (now (ends .entry)) i) at in
         r ≡ compared kind (v a bar) (v b bar)) ⌝ }
 {
     let x = eval_operand(t, ends, rows, slots, a, bar, left);
@@ -47,7 +48,8 @@ fn cross(
     bar: usize,
     left: usize,
 ) -> bool
-    ensures { λ r. ⌜ (let v : ℕ → ℕ → Value = λ i at. value (historyOf slots (now (rows .entry))) (operandAt left (now (t .entry)) (now (ends .entry)) i) at in
+    ensures { λ r. ⌜ (let v : ℕ → ℕ → Value = λ i at.
+        value (historyOf slots (now (rows .entry))) (flatOperandAt left (now (t .entry)) (now (ends .entry)) i) at in
         r ≡ (not (eqb bar 0) && crossed kind (v a bar) (v b bar) (v a (bar - 1)) (v b (bar - 1)))) ⌝ }
 {
     if bar == 0 {
@@ -72,7 +74,8 @@ fn between(
     bar: usize,
     left: usize,
 ) -> bool
-    ensures { λ r. ⌜ (let v : ℕ → ℕ → Value = λ i at. value (historyOf slots (now (rows .entry))) (operandAt left (now (t .entry)) (now (ends .entry)) i) at in
+    ensures { λ r. ⌜ (let v : ℕ → ℕ → Value = λ i at.
+        value (historyOf slots (now (rows .entry))) (flatOperandAt left (now (t .entry)) (now (ends .entry)) i) at in
         r ≡ within (v x bar) (v low bar) (v high bar)) ⌝ }
 {
     let v = eval_operand(t, ends, rows, slots, x, bar, left);
@@ -93,7 +96,8 @@ fn compare_prev(
     bar: usize,
     left: usize,
 ) -> bool
-    ensures { λ r. ⌜ (let v : ℕ → ℕ → Value = λ i at. value (historyOf slots (now (rows .entry))) (operandAt left (now (t .entry)) (now (ends .entry)) i) at in
+    ensures { λ r. ⌜ (let v : ℕ → ℕ → Value = λ i at.
+        value (historyOf slots (now (rows .entry))) (flatOperandAt left (now (t .entry)) (now (ends .entry)) i) at in
         r ≡ (not (ltb bar n) && trended kind (v a bar) (v a (bar - n)))) ⌝ }
 {
     let back = n as usize;
@@ -124,7 +128,7 @@ pub fn eval_condition(
     bar: usize,
     left: usize,
 ) -> bool
-    ensures { λ r. ⌜ r ≡ holds (historyOf slots (now (rows .entry))) s (conditionAt left (now (t .entry)) (now (ends .entry)) i) bar ⌝ }
+    ensures { λ r. ⌜ r ≡ holds (historyOf slots (now (rows .entry))) s (flatConditionAt left (now (t .entry)) (now (ends .entry)) i) bar ⌝ }
 {
     if left == 0 {
         return false;
@@ -164,7 +168,7 @@ fn eval_group(
     left: usize,
 ) -> bool
     ensures { λ r. ⌜ r ≡ holds (historyOf slots (now (rows .entry))) s
-        (group all (growConditions (conditionAt left (now (t .entry)) (now (ends .entry))) (now (ends .entry)) n first)) bar ⌝ }
+        (group all (growConditions (flatConditionAt left (now (t .entry)) (now (ends .entry))) (now (ends .entry)) n first)) bar ⌝ }
 {
     let mut at = first;
     let mut m = n;

@@ -9,10 +9,10 @@ use table::series::series_in;
 ghost use mathlib.Core.Path.{_≡_};
 ghost use Prim.Native.Nat.{ℕ, _-_, _≤_, _<_};
 ghost use Rattle.rows.specs.History.{historyOf};
-ghost use Rattle.rules.specs.Values.{priceOf, slotOf, both};
+ghost use Rattle.rules.specs.Values.{priceOf, slotOf, combined};
 ghost use Rattle.rules.specs.Meaning.{extremeOver, extremeAt, value};
 ghost use Rattle.rules.specs.declared.values.Value.the-variants.{Number};
-ghost use Rattle.rules.specs.Flat.{operandAt};
+ghost use Rattle.rules.specs.Flat.{flatOperandAt};
 
 // A price of the row of a bar that is there.
 fn price_of_bar(rows: &[u64], slots: usize, bar: usize, selector: u8) -> f64
@@ -140,7 +140,7 @@ pub fn eval_operand(
     bar: usize,
     left: usize,
 ) -> Value
-    ensures { λ r. ⌜ r ≡ value (historyOf slots (now (rows .entry))) (operandAt left (now (t .entry)) (now (ends .entry)) i) bar ⌝ }
+    ensures { λ r. ⌜ r ≡ value (historyOf slots (now (rows .entry))) (flatOperandAt left (now (t .entry)) (now (ends .entry)) i) bar ⌝ }
 {
     if rows::row_count(rows, slots) <= bar {
         return Value::Missing;
@@ -180,8 +180,9 @@ fn binary(
     bar: usize,
     left: usize,
 ) -> Value
-    ensures { λ r. ⌜ (let v : ℕ → ℕ → Value = λ i at. value (historyOf slots (now (rows .entry))) (operandAt left (now (t .entry)) (now (ends .entry)) i) at in
-        r ≡ both kind (v a bar) (v b bar)) ⌝ }
+    ensures { λ r. ⌜ (let v : ℕ → ℕ → Value = λ i at.
+        value (historyOf slots (now (rows .entry))) (flatOperandAt left (now (t .entry)) (now (ends .entry)) i) at in
+        r ≡ combined kind (v a bar) (v b bar)) ⌝ }
 {
     match eval_operand(t, ends, rows, slots, a, bar, left) {
         Value::Missing => Value::Missing,

@@ -22,13 +22,13 @@ pub fn price_at(rows: &[u64], base: usize, selector: u8) -> f64
     if selector < 5 {
         return field_at(rows, base, selector as usize + 1);
     }
-    let high = field_at(rows, base, rows::HIGH);
-    let low = field_at(rows, base, rows::LOW);
-    let close = field_at(rows, base, rows::CLOSE);
+    let high = field_at(rows, base, words::places::BAR_HIGH);
+    let low = field_at(rows, base, words::places::BAR_LOW);
+    let close = field_at(rows, base, words::places::BAR_CLOSE);
     if selector == 5 {
         return (high + low + close) / 3.0;
     }
-    let open = field_at(rows, base, rows::OPEN);
+    let open = field_at(rows, base, words::places::BAR_OPEN);
     (open + high + low + close) / 4.0
 }
 
@@ -43,7 +43,7 @@ pub fn field_at(rows: &[u64], base: usize, j: usize) -> f64
 pub fn slot_at(rows: &[u64], base: usize, slot: u64) -> Value
     ensures { λ r. ⌜ r ≡ slotOf (wordsFrom (now (rows .entry)) base) slot ⌝ }
 {
-    let mask = words::word_from(rows, base, rows::MASK);
+    let mask = words::word_from(rows, base, words::places::BAR_MASK);
     if words::limits::MOST_SLOTS as u64 <= slot {
         return Value::Missing;
     }
@@ -80,8 +80,8 @@ fn divided(x: f64, y: f64) -> f64
 }
 
 // An operation on two values.
-pub fn both(kind: u8, a: Value, b: Value) -> Value
-    ensures { λ r. ⌜ r ≡ Values.both kind a b ⌝ }
+pub fn combined(kind: u8, a: Value, b: Value) -> Value
+    ensures { λ r. ⌜ r ≡ Values.combined kind a b ⌝ }
 {
     match a {
         Value::Missing => Value::Missing,

@@ -5,14 +5,14 @@ use Rattle.metrics.specs.{Figures.metricsOf, Records.equityOf, Records.pnlsOf}
 use Rattle.records.specs.{declared.settings.Settings.Settings, declared.state.State.State, Lent.Lists, Lent.Rooms, State.freshState}
 use Rattle.refusals.specs.{declared.verdict.Verdict.the-variants.Fine, Judgement.finishJudged, Rooms.toClose}
 use Rattle.engine.specs.{Books.wordsOfPoint, Books.tradesOf, Books.heldPoints, Books.heldTrades, Boxes.Grown, Boxes.Holds, Finish.lastExit, Finish.endState}
-use Rattle.engine.specs.{Finish.measured, Finish.ended, Rules.rulesOf, Rules.FromTable, Run.Run, Run.runOver, Whole.Account, Whole.accountOf, Whole.stateOf}
-use Rattle.engine.specs.{Whole.byLists, Whole.byMeaning, Whole.Whole, Whole.wholeRun, Whole.wholeRunBy, Whole.endPoints, Whole.wholeEnd, Whole.wholeMetrics}
-use Rattle.engine.specs.{Whole.meantRun}
-use Rattle.runs.specs.{Laws.AccountStep.taken-as-meant, Laws.BooksGrow.flat-append, Laws.Finishes.Closes, Laws.Finishes.end-closes, Laws.Follows.run-follows}
-use Rattle.runs.specs.{Laws.LastPoint.remarked-points, Laws.LastPoint.end-count, WholeHistory.fresh-follows}
+use Rattle.engine.specs.{Finish.measured, Finish.ended, Rules.rulesOf, Rules.FromTable, Run.Run, Run.runOver, Whole.Account, Whole.accountOf}
+use Rattle.engine.specs.{Whole.stateOfAccount, Whole.byLists, Whole.byMeaning, Whole.Ledger, Whole.wholeRun, Whole.wholeRunBy, Whole.endPoints, Whole.wholeEnd}
+use Rattle.engine.specs.{Whole.wholeMetrics, Whole.meantRun}
+use Rattle.runs.specs.{Laws.AccountStep.taken-as-meant, Laws.BooksGrow.flat-append, Laws.Finishes.Closes, Laws.Finishes.end-closes}
+use Rattle.runs.specs.{Laws.Follows.run-follows, Laws.LastPoint.remarked-points, Laws.LastPoint.end-count, WholeHistory.fresh-follows}
 
 -- what grew from a fresh state's books is all that they hold
-from-fresh : (s : Settings) (m : Rooms) (u : State) (n : Rooms) (w : Whole) → accountOf u ≡ w .account
+from-fresh : (s : Settings) (m : Rooms) (u : State) (n : Rooms) (w : Ledger) → accountOf u ≡ w .account
     → Grown (freshState s) m u n (w .points) (w .trades) → Holds u n w
 unfolding freshState heldPoints heldTrades
 from-fresh s m u n w a g = record { account = a; points = g .points ∙ zero-add _; trades = g .trades ∙ zero-add _; equity = g .equity; closed = g .closed }
@@ -28,7 +28,7 @@ by-lists s ls m bars =
 -- ---- the end
 
 -- the last exit is the account's
-pub exit-of-account : (s : Settings) (t : State) → lastExit s t ≡ lastExit s (stateOf (accountOf t))
+pub exit-of-account : (s : Settings) (t : State) → lastExit s t ≡ lastExit s (stateOfAccount (accountOf t))
 unfolding lastExit toClose
 exit-of-account s t = refl
 
@@ -41,12 +41,12 @@ unfolding ended endState measured heldPoints heldTrades
 figures s t m = refl
 
 -- THE END TOO: a finish that is fine leaves the books of a whole run that has ended, and gives their figures.
-pub ends-whole : (s : Settings) (t : State) (m : Rooms) (w : Whole) → Holds t m w → finishJudged s t m ≡ Fine
+pub ends-whole : (s : Settings) (t : State) (m : Rooms) (w : Ledger) → Holds t m w → finishJudged s t m ≡ Fine
     → let e = ended s t m in
     Holds (e .result .state) (e .rooms) (wholeEnd s w) × (e .result .metrics ≡ wholeMetrics s (wholeEnd s w))
 unfolding wholeEnd wholeMetrics
 ends-whole s t m w h fine =
-    let x = lastExit s (stateOf (w .account)) in
+    let x = lastExit s (stateOfAccount (w .account)) in
     let close = w .account .last .close in
     let g : Closes t m (ended s t m .result .state) (ended s t m .rooms) x =
     rw (← (h .account), ← (exit-of-account s t)) (end-closes s t m fine) in
@@ -74,7 +74,7 @@ whole-as-meant table s ls f [] a rows = refl
 whole-as-meant table s ls f (bar ∷ bars) a rows = rw (taken-as-meant s a rows bar table ls f, whole-as-meant table s ls f bars _ _)
 
 -- A run from a fresh state that is the whole run w, and ends as it does.
-pub record IsWhole (s : Settings) (r : Run) (w : Whole) : Type 0 where
+pub record IsWhole (s : Settings) (r : Run) (w : Ledger) : Type 0 where
   pub holds : Holds (r .state) (r .rooms) w
   pub ends : finishJudged s (r .state) (r .rooms) ≡ Fine
       → let e = ended s (r .state) (r .rooms) in

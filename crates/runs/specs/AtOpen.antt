@@ -4,14 +4,15 @@ use Rattle.rows.specs.{History.History, History.historyOf}
 use Rattle.portfolio.specs.{declared.Candle.Candle, declared.Portfolio.Portfolio, Portfolio.inPosition, Portfolio.isLong}
 use Rattle.execution.specs.{declared.fills.Exit.the-variants.NoExit, declared.level.Side.Side, declared.level.Side.the-variants.Long}
 use Rattle.execution.specs.{declared.level.Side.the-variants.Short, declared.level.OrderKind.the-variants.Market}
-use Rattle.execution.specs.{declared.level.OrderType.the-variants.Market as MarketType, Fills.executeEntry, Fills.isTurnedAway, Level.entryTrigger, Level.feeBps}
-use Rattle.execution.specs.{Level.longFill, Level.shortFill, Level.levelFill}
+use Rattle.execution.specs.{declared.level.OrderType.the-variants.Market as MarketType, Fills.executeEntry, Fills.isTurnedAway, Level.entryTrigger}
+use Rattle.execution.specs.{Level.feeBps, Level.longFill, Level.shortFill, Level.levelFill}
 use Rattle.records.specs.{declared.state.Order.Order, declared.state.Order.the-variants.Idle, declared.state.Order.the-variants.EnterLong}
 use Rattle.records.specs.{declared.state.Order.the-variants.EnterShort, declared.state.Order.the-variants.Exit as ExitOrder, declared.state.Position.Position}
 use Rattle.records.specs.{declared.settings.Settings.Settings, Bar.candleOf, State.freshState, StateWords.waitsFor}
-use Rattle.engine.specs.{declared.account.Due.Due, declared.account.Filled.Filled, Account.entering, Account.waiting, Account.entered, Account.exited}
-use Rattle.engine.specs.{Account.reached, Account.dueOf, Account.doneOf, Account.filled, Decide.Answers, Decide.openingOrder, Decide.closingOrder, Decide.ordered}
-use Rattle.engine.specs.{Decide.orderAfter, Record.rowOf, Whole.Account, Whole.Asked, Whole.accountOf, Whole.takenBy, Whole.taken, Whole.wholeRunBy, Whole.wholeRun}
+use Rattle.engine.specs.{declared.account.Due.Due, declared.account.Filled.Filled, Account.entering, Account.waiting, Account.entryFilled, Account.exitFilled}
+use Rattle.engine.specs.{Account.dueIfReached, Account.dueOf, Account.doneOf, Account.filled, Decide.Answers, Decide.openingOrder, Decide.closingOrder}
+use Rattle.engine.specs.{Decide.ordered, Decide.orderAfter, Record.rowOf, Whole.Account, Whole.Asked, Whole.accountOf, Whole.takenBy, Whole.taken}
+use Rattle.engine.specs.{Whole.wholeRunBy, Whole.wholeRun}
 
 -- ---- document 01's fill
 
@@ -26,7 +27,7 @@ unfoldable pub filledAtOpen : Settings → Order → Position → Candle → His
 filledAtOpen s Idle p k before number = waiting Idle p
 filledAtOpen s (EnterLong n kind) p k before number = cond (ltb 0 n) (waiting (EnterLong (n - 1) kind) p) (enteredAtOpen Long s p k before number)
 filledAtOpen s (EnterShort n kind) p k before number = cond (ltb 0 n) (waiting (EnterShort (n - 1) kind) p) (enteredAtOpen Short s p k before number)
-filledAtOpen s (ExitOrder n) p k before number = cond (ltb 0 n) (waiting (ExitOrder (n - 1)) p) (exited s p k)
+filledAtOpen s (ExitOrder n) p k before number = cond (ltb 0 n) (waiting (ExitOrder (n - 1)) p) (exitFilled s p k)
 
 -- ---- a market order's fill is that one
 
@@ -36,7 +37,7 @@ module _ (s : Settings) (p : Position) (k : Candle) (before : History) (number :
   done-either false x y = refl
 
   pub market-fills : (o : Order) → waitsFor o ≡ Market → filled s o p k before number ≡ filledAtOpen s o p k before number
-  unfolding waitsFor filled filledAtOpen enteredAtOpen entered dueOf doneOf reached levelFill longFill shortFill feeBps
+  unfolding waitsFor filled filledAtOpen enteredAtOpen entryFilled dueOf doneOf dueIfReached levelFill longFill shortFill feeBps
   market-fills Idle h = refl
   market-fills (EnterLong n kind) h = rw h (done-either (ltb 0 n) _ _)
   market-fills (EnterShort n kind) h = rw h (done-either (ltb 0 n) _ _)
@@ -54,7 +55,7 @@ either-filled false x y h k = k
 
 fill-stays : (s : Settings) (o : Order) (p : Position) (k : Candle) (before : History) (number : ℕ) → waitsFor o ≡ Market
     → waitsFor (filledAtOpen s o p k before number .order) ≡ Market
-unfolding waitsFor filledAtOpen enteredAtOpen exited
+unfolding waitsFor filledAtOpen enteredAtOpen exitFilled
 fill-stays s Idle p k before number h = refl
 fill-stays s (EnterLong n kind) p k before number h = either-filled (ltb 0 n) _ _ h refl
 fill-stays s (EnterShort n kind) p k before number h = either-filled (ltb 0 n) _ _ h refl

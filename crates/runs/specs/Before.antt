@@ -10,8 +10,8 @@ use Rattle.records.specs.{declared.settings.Settings.Settings, declared.state.P
 use Rattle.refusals.specs.{declared.verdict.Verdict.the-variants.Fine, Judgement.finishJudged, Rooms.toClose}
 use Rattle.engine.specs.{Account.leaving, Account.filled, Account.intrabar, Account.charged, Books.Point, Books.wordsOfPoint, Books.tradesOf, Books.heldPoints}
 use Rattle.engine.specs.{Books.heldTrades, Decide.stateAt, Decide.orderAfter, Finish.lastExit, Finish.ended, Record.rowOf, Run.Run, Run.runOver, Whole.Account}
-use Rattle.engine.specs.{Whole.accountOf, Whole.stateOf, Whole.Asked, Whole.byLists, Whole.Taken, Whole.takenBy, Whole.taken, Whole.Whole, Whole.wholeRunBy}
-use Rattle.engine.specs.{Whole.wholeRun, Whole.endPoints, Whole.wholeEnd, Whole.wholeMetrics}
+use Rattle.engine.specs.{Whole.accountOf, Whole.stateOfAccount, Whole.Asked, Whole.byLists, Whole.Taken, Whole.takenBy, Whole.taken, Whole.Ledger}
+use Rattle.engine.specs.{Whole.wholeRunBy, Whole.wholeRun, Whole.endPoints, Whole.wholeEnd, Whole.wholeMetrics}
 use Rattle.runs.specs.{AsMeant.by-lists, AsMeant.ends-whole, Forgotten.forget, Forgotten.forgetTrade, Forgotten.forgetExit, Forgotten.forgetPosition}
 use Rattle.runs.specs.{Forgotten.forgetAccount, Forgotten.forgetTrades, Forgotten.takenBefore, Forgotten.runBefore, Forgotten.endBefore}
 use Rattle.runs.specs.{Laws.Forgets.fill-forgets, Laws.Forgets.inside-same, Laws.Forgets.charge-forgets, Laws.Forgets.point-forgets}
@@ -75,7 +75,7 @@ unfolding forgetAccount forgetPosition forget
 forgotten-twice a = refl
 
 -- A run w is the run v of the engine before: the account but for the two words, the points, and of each trade all but them.
-pub record LikeBefore (w v : Whole) : Type 0 where
+pub record LikeBefore (w v : Ledger) : Type 0 where
   pub account : forgetAccount (w .account) ≡ v .account
   pub points : w .points ≡ v .points
   pub trades : forgetTrades (w .trades) ≡ v .trades
@@ -114,13 +114,13 @@ pnls-forget [] = refl
 pnls-forget (t ∷ ts) = pnls-more t _ ∙ rw (pnls-forget ts) (sym (pnls-more (forgetTrade t) _ ∙ (unfold forgetTrade in refl)))
 
 -- the same figures
-figures-like : (s : Settings) (w v : Whole) → LikeBefore w v → wholeMetrics s w ≡ wholeMetrics s v
+figures-like : (s : Settings) (w v : Ledger) → LikeBefore w v → wholeMetrics s w ≡ wholeMetrics s v
 unfolding wholeMetrics
 figures-like s w v h = rw (h .points, pnls-forget (w .trades), h .trades)
 
-last-forgets : (s : Settings) (a : Account) → forgetExit (lastExit s (stateOf a)) ≡ forgetExit (lastExit s (stateOf (forgetAccount a)))
+last-forgets : (s : Settings) (a : Account) → forgetExit (lastExit s (stateOfAccount a)) ≡ forgetExit (lastExit s (stateOfAccount (forgetAccount a)))
 unfolding lastExit toClose inPosition forgetAccount forgetPosition forget
-last-forgets s a = exit-test (toClose (stateOf a)) _ _ (closed-forgets (a .position .portfolio) _ _ _ _)
+last-forgets s a = exit-test (toClose (stateOfAccount a)) _ _ (closed-forgets (a .position .portfolio) _ _ _ _)
 
 end-forgets : (ps : List Point) (x : Exit) (close : Float) → endPoints ps x close ≡ endPoints ps (forgetExit x) close
 unfolding endPoints forgetExit equity forget
@@ -152,11 +152,11 @@ unfolding forgetPosition forget
 position-twice p = refl
 
 -- THE END TOO
-end-like-before : (s : Settings) (w v : Whole) → LikeBefore w v → LikeBefore (wholeEnd s w) (endBefore s v)
+end-like-before : (s : Settings) (w v : Ledger) → LikeBefore w v → LikeBefore (wholeEnd s w) (endBefore s v)
 unfolding wholeEnd endBefore
 end-like-before s w v h =
-    let x = lastExit s (stateOf (w .account)) in
-    let y = lastExit s (stateOf (v .account)) in
+    let x = lastExit s (stateOfAccount (w .account)) in
+    let y = lastExit s (stateOfAccount (v .account)) in
     let exits : forgetExit x ≡ forgetExit y = last-forgets s (w .account) ∙ rw (h .account) in
     let parts = account-parts (w .account) (v .account) (h .account) in
     let kept : forgetPosition (w .account .position) ≡ v .account .position = parts .2 in
@@ -184,7 +184,7 @@ eight-forget [] = refl
 eight-forget (t ∷ ts) = rw (eight-forget ts)
 
 -- A box r that has the account of v but for the two words, its points, the first eight words of its trades, and gives its figures.
-pub record AsBefore (s : Settings) (r : Run) (v : Whole) : Type 0 where
+pub record AsBefore (s : Settings) (r : Run) (v : Ledger) : Type 0 where
   pub account : forgetAccount (accountOf (r .state)) ≡ v .account
   pub equity : heldPoints (r .state) (r .rooms) ≡ flatMap wordsOfPoint (v .points)
   pub trades : List Trade
@@ -199,8 +199,8 @@ pub as-before : (s : Settings) (ls : Lists) (m : Rooms) (bars : List (List ℕ))
 as-before s ls m bars =
     let r : Run = runOver s ls (freshState s) m bars in
     let a = accountOf (freshState s) in
-    let w : Whole = wholeRun s (byLists s ls) a [] (take (r .done) bars) in
-    let v : Whole = runBefore s (byLists s ls) a [] (take (r .done) bars) in
+    let w : Ledger = wholeRun s (byLists s ls) a [] (take (r .done) bars) in
+    let v : Ledger = runBefore s (byLists s ls) a [] (take (r .done) bars) in
     let holds = by-lists s ls m bars in
     let like : LikeBefore w v = run-like-before s (byLists s ls) a [] (take (r .done) bars) in
     record {

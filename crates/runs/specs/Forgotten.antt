@@ -4,7 +4,7 @@ use Rattle.floats.specs.{Floats.zero}
 use Rattle.portfolio.specs.{declared.Portfolio.Portfolio, declared.Trade.Trade}
 use Rattle.execution.specs.{declared.fills.Exit.Exit, declared.fills.Exit.the-variants.NoExit, declared.fills.Exit.the-variants.Exited}
 use Rattle.records.specs.{declared.settings.Settings.Settings, declared.state.Position.Position}
-use Rattle.engine.specs.{Record.rowOf, Whole.Account, Whole.Asked, Whole.Taken, Whole.taken, Whole.Whole, Whole.wholeEnd}
+use Rattle.engine.specs.{Record.rowOf, Whole.Account, Whole.Asked, Whole.Taken, Whole.taken, Whole.Ledger, Whole.wholeEnd}
 
 -- ---- without the funding paid and the least favourable price
 
@@ -58,7 +58,7 @@ takenBefore s asked a rows bar =
     record { account = forgetAccount (b .account); point = b .point; trades = forgetTrades (b .trades) }
 
 -- bar after bar
-unfoldable pub runBefore : Settings → Asked → Account → List ℕ → List (List ℕ) → Whole
+unfoldable pub runBefore : Settings → Asked → Account → List ℕ → List (List ℕ) → Ledger
 runBefore s asked a rows [] = record { account = forgetAccount a; points = []; trades = [] }
 runBefore s asked a rows (bar ∷ bars) =
     let b = takenBefore s asked a rows bar in
@@ -66,7 +66,7 @@ runBefore s asked a rows (bar ∷ bars) =
     record { account = later .account; points = b .point ∷ later .points; trades = b .trades ++ later .trades }
 
 -- and its end
-unfoldable pub endBefore : Settings → Whole → Whole
+unfoldable pub endBefore : Settings → Ledger → Ledger
 endBefore s v =
     let e = wholeEnd s v in
     record { account = forgetAccount (e .account); points = e .points; trades = forgetTrades (e .trades) }

@@ -1,7 +1,7 @@
 -- Request 7. "the closing fee at finish reaches the trade but not the equity": after a finish nothing is missing any more, and a second
 -- finish changes nothing.
-use Rattle.words.specs.Prelude.{ℕ, _+_, _-_, _*_, _≤_, _<_, _≡_, refl, _∙_, Bool, true, false, _&&_, List, [], _∷_, _++_, append-assoc, le-of-lt, arith, ltb-false}
-use Rattle.words.specs.Prelude.{lt-ltb, le-leb, ltb, leb, length, take, drop, getD, length-take-le, getD-append-add, getD-set-same}
+use Rattle.words.specs.Prelude.{ℕ, _+_, _-_, _*_, _≤_, _<_, _≡_, refl, _∙_, Bool, true, false, _&&_, List, [], _∷_, _++_, append-assoc, le-of-lt, arith}
+use Rattle.words.specs.Prelude.{ltb-false, lt-ltb, le-leb, ltb, leb, length, take, drop, getD, length-take-le, getD-append-add, getD-set-same}
 use Rattle.words.specs.{Words.overwrite, Laws.Overwrite.overwrite-fits, Laws.Overwrite.overwrite-length}
 use Rattle.rules.specs.{declared.position.Entered.the-variants.Never}
 use Rattle.floats.specs.{Floats.wordOf}
@@ -13,10 +13,10 @@ use Rattle.records.specs.{Lent.tradePlaces, State.freshState}
 use Rattle.refusals.specs.{declared.verdict.Verdict.Verdict, declared.verdict.Verdict.the-variants.Fine, declared.verdict.Verdict.the-variants.Bad}
 use Rattle.refusals.specs.{Judgement.finishLines, Judgement.finishJudged, Lines.judged, Laws.Lines.and-true, Laws.Lines.first-holds, Laws.Lines.below-fine}
 use Rattle.refusals.specs.{Laws.Lines.both-fine, Rooms.roomLines, Rooms.stateLines, Rooms.toClose, Rooms.closeLines, Settings.settingLines}
-use Rattle.engine.specs.{declared.answer.Ended.Ended, declared.answer.Finished.the-variants.Done, Account.leaving, Books.wordsOfPoint, Books.booked, Books.marked}
-use Rattle.engine.specs.{Books.heldPoints, Books.heldTrades, Finish.lastExit, Finish.remarked, Finish.endState, Finish.measured, Finish.ended, Finish.concluded}
-use Rattle.engine.specs.{Finish.finishOf, Laws.Lengths.booked-fits, Laws.Runs.run-keeps, Laws.Verdict.verdict-fine, Run.Run, Run.runOver, Step.With, Step.stepped}
-use Rattle.engine.specs.{Step.stepVerdict}
+use Rattle.engine.specs.{declared.answer.Ended.Ended, declared.answer.Finished.the-variants.Done, Account.leaving, Books.wordsOfPoint, Books.booked}
+use Rattle.engine.specs.{Books.marked, Books.heldPoints, Books.heldTrades, Finish.lastExit, Finish.remarked, Finish.endState, Finish.measured, Finish.ended}
+use Rattle.engine.specs.{Finish.concluded, Finish.finishOf, Laws.Lengths.booked-fits, Laws.Runs.run-keeps, Laws.Verdict.verdict-fine, Run.Run, Run.runOver}
+use Rattle.engine.specs.{Step.With, Step.stepped, Step.stepVerdict}
 use Rattle.runs.specs.{AsMeant.figures, Laws.Finishes.close-place, Laws.LastPoint.remarked-length, Laws.OneTrade.closed-is-flat, Laws.OneTrade.books}
 use lib.Ieee as Ieee
 use Rattle.words.specs.Limits as Limits
@@ -40,12 +40,12 @@ abbrev pub LastWorth : State → Rooms → Type 0
 LastWorth t m = 0 < t .counts .«equity_points» → lastEquity t m ≡ wordOf (equity (t .position .portfolio) (t .last .close))
 
 -- what a run from a fresh state has at each bar
-record Marked (t : State) (m : Rooms) : Type 0 where
+record WorthMarked (t : State) (m : Rooms) : Type 0 where
   places : t .counts .«equity_points» ≤ pointPlaces (m .equity)
   worth : LastWorth t m
   unseen : t .counts .«bars_seen» ≡ 0 → inPosition (t .position .portfolio) ≡ false
 
-fresh-marked : (s : Settings) (m : Rooms) → Marked (freshState s) m
+fresh-marked : (s : Settings) (m : Rooms) → WorthMarked (freshState s) m
 unfolding freshState fresh inPosition Floats.abs Ieee.lt Ieee.ofBits
 fresh-marked s m = record { places = omega arith; worth = λ h. absurd (omega arith); unseen = λ h. refl }
 
@@ -59,7 +59,7 @@ second-word room n a b h =
 
 -- the step marks what the account is worth
 step-marked : (s : Settings) (ls : Lists) (t : State) (m : Rooms) (bar : List ℕ) → stepVerdict s t bar m ls ≡ Fine
-    → Marked (stepped s t bar m ls .result) (stepped s t bar m ls .rooms)
+    → WorthMarked (stepped s t bar m ls .result) (stepped s t bar m ls .rooms)
 unfolding stepped marked wordsOfPoint
 step-marked s ls t m bar fine =
     let n : ℕ = t .counts .«equity_points» in
@@ -100,7 +100,7 @@ unfolding ended endState booked remarked leaving
 unclosed s t m h = rw (not-closing s t h)
 
 -- and none was open
-unopened : (t : State) (m : Rooms) → Marked t m → toClose t ≡ false → inPosition (t .position .portfolio) ≡ false
+unopened : (t : State) (m : Rooms) → WorthMarked t m → toClose t ≡ false → inPosition (t .position .portfolio) ≡ false
 unfolding toClose
 unopened t m h e = go (inPosition (t .position .portfolio)) (ltb 0 (t .counts .«bars_seen»)) refl refl e
   where
@@ -111,14 +111,14 @@ unopened t m h e = go (inPosition (t .position .portfolio)) (ltb 0 (t .counts .�
     go true true ea eb n = absurd (let z : _≡_ {A = ℕ} 0 1 = cc in omega arith)
 
 -- a finish of such a box
-end-flat : (s : Settings) (t : State) (m : Rooms) → Marked t m → inPosition (ended s t m .result .state .position .portfolio) ≡ false
+end-flat : (s : Settings) (t : State) (m : Rooms) → WorthMarked t m → inPosition (ended s t m .result .state .position .portfolio) ≡ false
 end-flat s t m h = go (toClose t) refl
   where
     go : (b : Bool) → toClose t ≡ b → inPosition (ended s t m .result .state .position .portfolio) ≡ false
     go true e = unfold ended endState in closed-flat s t e
     go false e = rw (unclosed s t m e) (unopened t m h e)
 
-end-worth : (s : Settings) (t : State) (m : Rooms) → Marked t m → LastWorth (ended s t m .result .state) (ended s t m .rooms)
+end-worth : (s : Settings) (t : State) (m : Rooms) → WorthMarked t m → LastWorth (ended s t m .result .state) (ended s t m .rooms)
 end-worth s t m h = go (toClose t) refl
   where
     go : (b : Bool) → toClose t ≡ b → LastWorth (ended s t m .result .state) (ended s t m .rooms)
@@ -141,7 +141,7 @@ unfolding finishOf
 nothing-missing s ls m bars u f e =
     let r : Run = runOver s ls (freshState s) m bars in
     let d = finish-gives (finishJudged s (r .state) (r .rooms)) (r .state) (r .rooms) (ended s (r .state) (r .rooms)) u f e in
-    let marked = run-keeps s ls Marked (λ t m bar h p. step-marked s ls t m bar h) bars (freshState s) m (fresh-marked s m) in
+    let marked = run-keeps s ls WorthMarked (λ t m bar h p. step-marked s ls t m bar h) bars (freshState s) m (fresh-marked s m) in
     rw (d .1, d .2, d .3) (record {
       flat = end-flat s (r .state) (r .rooms) marked;
       worth = end-worth s (r .state) (r .rooms) marked;

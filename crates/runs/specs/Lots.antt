@@ -7,13 +7,13 @@ use Rattle.execution.specs.{declared.fills.Entry.Entry, declared.fills.Entry.th
 use Rattle.execution.specs.{declared.fills.Entry.the-variants.Entered, declared.level.Side.Side, declared.level.OrderKind.OrderKind, Fills.direction}
 use Rattle.execution.specs.{Fills.executeEntry, Level.feeBps, RustEntry.rustEntry, WholeLots.EntersLots, WholeLots.no-lots, WholeLots.none-turned-away}
 use Rattle.execution.specs.{WholeLots.entered-in-lots}
-use Rattle.records.specs.{declared.settings.Settings.Settings, declared.state.Order.Order, declared.state.Order.the-variants.Idle, declared.state.Position.Position}
-use Rattle.records.specs.{declared.state.State.State, Bar.candleOf, Lent.Lists, Lent.Rooms}
+use Rattle.records.specs.{declared.settings.Settings.Settings, declared.state.Order.Order, declared.state.Order.the-variants.Idle}
+use Rattle.records.specs.{declared.state.Position.Position, declared.state.State.State, Bar.candleOf, Lent.Lists, Lent.Rooms}
 use Rattle.refusals.specs.{declared.verdict.Verdict.Verdict, declared.verdict.Verdict.the-variants.Fine, declared.verdict.Verdict.the-variants.Bad}
 use Rattle.refusals.specs.{Judgement.stepJudged, Lines.judged}
 use Rattle.engine.specs.{declared.account.Due.Due, declared.account.Due.the-variants.Waits, declared.account.Due.the-variants.Enters}
-use Rattle.engine.specs.{declared.account.Due.the-variants.Leaves, declared.account.Filled.Filled, Account.waiting, Account.entering, Account.entered}
-use Rattle.engine.specs.{Account.exited, Account.dueOf, Account.doneOf, Account.filled, Laws.Verdict.handed-bad, Laws.Verdict.handed-fine, Record.rowOf}
+use Rattle.engine.specs.{declared.account.Due.the-variants.Leaves, declared.account.Filled.Filled, Account.waiting, Account.entering, Account.entryFilled}
+use Rattle.engine.specs.{Account.exitFilled, Account.dueOf, Account.doneOf, Account.filled, Laws.Verdict.handed-bad, Laws.Verdict.handed-fine, Record.rowOf}
 use Rattle.engine.specs.{Step.sizeLines, Step.stepVerdict, Whole.Account, Whole.Asked, Whole.takenBy, Whole.taken, Whole.wholeRunBy, Whole.wholeRun}
 use lib.Ieee as Ieee
 
@@ -24,7 +24,7 @@ doneWithoutLots (Waits order) s p k before number = waiting order p
 doneWithoutLots (Enters side kind price) s p k before number =
     let bps = feeBps kind (s .entries .«maker_bps») (s .terms .«taker_bps») in
     waiting Idle (entering p (rustEntry side price bps (s .terms) k (p .portfolio) before) number)
-doneWithoutLots Leaves s p k before number = exited s p k
+doneWithoutLots Leaves s p k before number = exitFilled s p k
 
 unfoldable pub filledWithoutLots : Settings → Order → Position → Candle → History → ℕ → Filled
 filledWithoutLots s order p k before number = doneWithoutLots (dueOf order k) s p k before number
@@ -33,7 +33,7 @@ filledWithoutLots s order p k before number = doneWithoutLots (dueOf order k) s 
 
 module _ (s : Settings) (none : Ieee.eq (s .terms .lot) zero ≡ true) where
   done-taken : (due : Due) (p : Position) (k : Candle) (h : History) (number : ℕ) → doneOf due s p k h number .«turned_away» ≡ false
-  unfolding doneOf entered exited
+  unfolding doneOf entryFilled exitFilled
   done-taken (Waits o) p k h number = refl
   done-taken (Enters side kind price) p k h number = none-turned-away (s .terms) none side price _ k (p .portfolio) h
   done-taken Leaves p k h number = refl
@@ -57,8 +57,8 @@ module _ (s : Settings) (none : Ieee.eq (s .terms .lot) zero ≡ true) where
   -- WITH A LOT OF 0 what an entry that is due comes to is what it was: the Rust's entry, and nothing is turned away.
   pub entered-as-before : (side : Side) (kind : OrderKind) (price : Float) (p : Position) (k : Candle) (h : History) (number : ℕ)
       → let bps = feeBps kind (s .entries .«maker_bps») (s .terms .«taker_bps») in
-      entered side kind price s p k h number ≡ waiting Idle (entering p (rustEntry side price bps (s .terms) k (p .portfolio) h) number)
-  unfolding entered
+      entryFilled side kind price s p k h number ≡ waiting Idle (entering p (rustEntry side price bps (s .terms) k (p .portfolio) h) number)
+  unfolding entryFilled
   entered-as-before side kind price p k h number =
       rw (none-turned-away (s .terms) none side price _ k (p .portfolio) h, no-lots (s .terms) none side price _ k (p .portfolio) h)
 
@@ -89,9 +89,9 @@ module _ (s : Settings) (none : Ieee.eq (s .terms .lot) zero ≡ true) where
 -- WITH ANY OTHER LOT an entry that is due leaves the position as it was, or one of k·lot for a whole k from 1 to below 2^53.
 pub fills-in-lots : (side : Side) (kind : OrderKind) (price : Float) (s : Settings) (p : Position) (k : Candle) (h : History) (number : ℕ)
     → Ieee.eq (s .terms .lot) zero ≡ false
-    → let f = entered side kind price s p k h number in
+    → let f = entryFilled side kind price s p k h number in
     (f .position ≡ p) ⊎ EntersLots (s .terms .lot) (direction side) (f .position .portfolio .qty)
-unfolding entered entering
+unfolding entryFilled entering
 fills-in-lots side kind price s p k h number some = go (executeEntry side price bps (s .terms) k (p .portfolio) h) refl
   where
     bps : Float

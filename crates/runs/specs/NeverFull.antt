@@ -1,12 +1,12 @@
 -- Where the equity and trade rooms have a place for every bar, and the bars are no more than 4,294,967,295, no bar is refused with 14.
-use Rattle.words.specs.Prelude.{ℕ, _+_, _≤_, _<_, _≡_, refl, sym, _∙_, Bool, true, false, cond, not, _&&_, _||_, List, [], _∷_, _++_, arith, lt-ltb, eqb-false, eqb}
-use Rattle.words.specs.Prelude.{length}
+use Rattle.words.specs.Prelude.{ℕ, _+_, _≤_, _<_, _≡_, refl, sym, _∙_, Bool, true, false, cond, not, _&&_, _||_, List, [], _∷_, _++_, arith, lt-ltb, eqb-false}
+use Rattle.words.specs.Prelude.{eqb, length}
 use Rattle.words.specs.{Limits.mostCount, Outcome.refusal}
 use Rattle.records.specs.{declared.settings.Settings.Settings, declared.state.State.State, Lent.Lists, Lent.Rooms, Lent.pointPlaces, Lent.tradePlaces}
-use Rattle.refusals.specs.{declared.verdict.Verdict.Verdict, declared.verdict.Verdict.the-variants.Fine, declared.verdict.Verdict.the-variants.Bad, Bar.barLines}
-use Rattle.refusals.specs.{Judgement.runLines, Judgement.stepLines, Laws.Lines.never, Laws.Lines.and-true, Lines.Line, Lines.judged, Lists.listLines}
-use Rattle.refusals.specs.{Rooms.roomLines, Rooms.stateLines, Rooms.placeLines, Settings.sizingLines, Settings.slippageLines, Settings.riskLines}
-use Rattle.refusals.specs.{Settings.termLines, Settings.entryLines, Settings.settingLines}
+use Rattle.refusals.specs.{declared.verdict.Verdict.Verdict, declared.verdict.Verdict.the-variants.Fine, declared.verdict.Verdict.the-variants.Bad}
+use Rattle.refusals.specs.{Bar.barLines, Judgement.runLines, Judgement.stepLines, Laws.Lines.never, Laws.Lines.and-true, Lines.Line, Lines.judged}
+use Rattle.refusals.specs.{Lists.listLines, Rooms.roomLines, Rooms.stateLines, Rooms.placeLines, Settings.sizingLines, Settings.slippageLines}
+use Rattle.refusals.specs.{Settings.riskLines, Settings.termLines, Settings.entryLines, Settings.settingLines}
 use Rattle.engine.specs.{Boxes.Sound, Boxes.NotFull, Laws.Runs.run-none, Laws.Runs.run-stops, Laws.Runs.run-takes, Run.runOver, Step.sizeLines, Step.stepped}
 use Rattle.engine.specs.{Step.stepVerdict}
 use Rattle.runs.specs.{Laws.Alike.step-sound, Laws.Counts.step-lengths}

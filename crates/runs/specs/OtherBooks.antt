@@ -3,8 +3,8 @@
 use Rattle.words.specs.Prelude.{ℕ, _+_, _≤_, _≡_, refl, sym, _∙_, List, _++_, arith}
 use Rattle.portfolio.specs.{declared.Trade.Trade}
 use Rattle.records.specs.{declared.settings.Settings.Settings, declared.state.State.State, Lent.Lists, Lent.Rooms, Lent.rooms, Lent.rowPlaces, State.freshState}
-use Rattle.engine.specs.{Books.Point, Books.heldPoints, Books.heldTrades, Books.emptied, Boxes.Grown, Boxes.Sound, Boxes.NotFull, Boxes.Alike, Run.Run, Run.runOver}
-use Rattle.engine.specs.{Whole.accountOf, Whole.rowsHeld}
+use Rattle.engine.specs.{Books.Point, Books.heldPoints, Books.heldTrades, Books.emptied, Boxes.Grown, Boxes.Sound, Boxes.NotFull, Boxes.Alike, Run.Run}
+use Rattle.engine.specs.{Run.runOver, Whole.accountOf, Whole.rowsHeld}
 use Rattle.runs.specs.{Laws.Follows.run-follows, Laws.TwoRuns.fresh-sound, Laws.TwoRuns.run-sound, Laws.TwoRuns.other-books-run}
 
 -- Runs r from (t, m) and r′ from (t′, m′) take as many bars and end with the same verdict, alike in account and last D rows, and have added

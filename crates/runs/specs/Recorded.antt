@@ -1,6 +1,6 @@
 -- Request 6: in every run, a trade's last two words are those of the bars from its entry bar on.
-use Rattle.words.specs.Prelude.{ℕ, _+_, _≡_, refl, sym, ap, _∙_, Bool, true, false, cond, List, [], _∷_, _++_, append-nil, append-assoc, arith, Float, length, take}
-use Rattle.words.specs.Prelude.{length-append}
+use Rattle.words.specs.Prelude.{ℕ, _+_, _≡_, refl, sym, ap, _∙_, Bool, true, false, cond, List, [], _∷_, _++_, append-nil, append-assoc, arith, Float, length}
+use Rattle.words.specs.Prelude.{take, length-append}
 use Rattle.floats.specs.{Floats._⊗_, Floats._≺_, Floats.eps, Floats.zero}
 use Rattle.rows.specs.{History.History, History.historyOf}
 use Rattle.rules.specs.{declared.position.Entered.Entered as EntryBar, declared.position.Entered.the-variants.Bar}
@@ -14,19 +14,20 @@ use Rattle.execution.specs.{declared.optional.Optional.Optional, declared.lots.
 use Rattle.execution.specs.{declared.lots.Quantity.the-variants.TooLarge, declared.lots.Quantity.the-variants.Of, declared.level.Side.Side}
 use Rattle.execution.specs.{declared.level.OrderKind.OrderKind, declared.terms.Terms.Terms, declared.intrabar.Trigger.Trigger}
 use Rattle.execution.specs.{declared.intrabar.Trigger.the-variants.Untouched, declared.intrabar.Trigger.the-variants.At, Costs.slippageRate, Costs.fillPrice}
-use Rattle.execution.specs.{Costs.takerRate, Costs.closed, Costs.withFunding, Costs.chargeFunding, Fills.direction, Fills.volatilityFor, Fills.quantity}
-use Rattle.execution.specs.{Fills.probeQty, Fills.withinVolume, Fills.booked, Fills.executeEntry, Fills.exitDirection, Fills.executeExit, Lots.isTooLarge}
+use Rattle.execution.specs.{Costs.feeRate, Costs.closed, Costs.withFunding, Costs.chargeFunding, Fills.direction, Fills.volatilityFor, Fills.quantity}
+use Rattle.execution.specs.{Fills.probeQty, Fills.withinVolume, Fills.entryWith, Fills.executeEntry, Fills.exitDirection, Fills.executeExit, Lots.isTooLarge}
 use Rattle.execution.specs.{Lots.orZero, Intrabar.touched, Intrabar.closedBy, Intrabar.applyIntrabarExits, Intrabar.extremeWith}
 use Rattle.records.specs.{declared.settings.Settings.Settings, declared.state.Order.Order, declared.state.Position.Position, declared.state.State.State}
 use Rattle.records.specs.{Bar.candleOf, Bar.fundingOf, Lent.Lists, Lent.Rooms, State.freshState}
 use Rattle.refusals.specs.{declared.verdict.Verdict.the-variants.Fine, Laws.Lines.and-true, Rooms.toClose}
 use Rattle.engine.specs.{declared.account.Due.Due, declared.account.Due.the-variants.Waits, declared.account.Due.the-variants.Enters}
-use Rattle.engine.specs.{declared.account.Due.the-variants.Leaves, declared.account.Filled.Filled, Account.leaving, Account.facing, Account.entering, Account.dueOf}
-use Rattle.engine.specs.{Account.doneOf, Account.filled, Account.intrabar, Account.charged, Books.Point, Books.tradesOf, Boxes.Grown, Finish.lastExit}
-use Rattle.engine.specs.{Laws.Verdict.verdict-fine, Record.rowOf, Run.Run, Run.runOver, Step.fillOf, Step.stepped, Step.stepVerdict, Whole.Account, Whole.accountOf}
-use Rattle.engine.specs.{Whole.Asked, Whole.byLists, Whole.rowsHeld, Whole.takenBy, Whole.taken, Whole.wholeRunBy, Whole.wholeRun}
-use Rattle.runs.specs.{During.worstOver, During.paidWith, During.paidOver, Laws.OneTrade.closed-is-flat, Laws.BooksGrow.books-grow, Laws.Follows.run-follows}
-use Rattle.runs.specs.{WholeHistory.fresh-follows}
+use Rattle.engine.specs.{declared.account.Due.the-variants.Leaves, declared.account.Filled.Filled, Account.leaving, Account.facing, Account.entering}
+use Rattle.engine.specs.{Account.dueOf, Account.doneOf, Account.filled, Account.intrabar, Account.charged, Books.Point, Books.tradesOf, Boxes.Grown}
+use Rattle.engine.specs.{Finish.lastExit, Laws.Verdict.verdict-fine, Record.rowOf, Run.Run, Run.runOver, Step.fillOf, Step.stepped, Step.stepVerdict}
+use Rattle.engine.specs.{Whole.Account, Whole.accountOf, Whole.Asked, Whole.byLists, Whole.rowsHeld, Whole.takenBy, Whole.taken, Whole.wholeRunBy}
+use Rattle.engine.specs.{Whole.wholeRun}
+use Rattle.runs.specs.{During.worstOver, During.paidWith, During.paidOver, Laws.OneTrade.closed-is-flat, Laws.BooksGrow.books-grow}
+use Rattle.runs.specs.{Laws.Follows.run-follows, WholeHistory.fresh-follows}
 use lib.Ieee as Ieee
 use Rattle.floats.specs.Floats as Floats
 use Rattle.execution.specs.declared.fills.Entry.the-variants as Entry
@@ -121,18 +122,18 @@ trigger-of Untouched k terms q P h = tt
 trigger-of (At price reason) k terms q P h = (h price reason, tt)
 
 -- of an exit by order, and of one inside a bar
-sold-each : (reason : ℕ) (raw : Float) (terms : Terms) (k : Candle) (q : Portfolio) (P : Trade → Type 0)
+by-order-each : (reason : ℕ) (raw : Float) (terms : Terms) (k : Candle) (q : Portfolio) (P : Trade → Type 0)
     → ((price : Float) → P (closed q price (k .time) (terms .«taker_bps») reason .trade)) → Each P (tradesOf (executeExit reason raw terms k q))
 unfolding executeExit
-sold-each reason raw terms k q P h =
+by-order-each reason raw terms k q P h =
     let price : Float = fillPrice raw (exitDirection q) (slippageRate (terms .slippage) (q .qty) (k .volume)) in
     let c : Closed = closed q price (k .time) (terms .«taker_bps») reason in
     exit-of (inPosition q) (Exited c) P (one-each c P (h price))
 
-stopped-each : (k : Candle) (terms : Terms) (q : Portfolio) (e : Float) (P : Trade → Type 0)
+inside-each : (k : Candle) (terms : Terms) (q : Portfolio) (e : Float) (P : Trade → Type 0)
     → ((price : Float) (reason : ℕ) → P (closed q price (k .time) (terms .«taker_bps») reason .trade)) → Each P (tradesOf (applyIntrabarExits k terms q e))
 unfolding applyIntrabarExits
-stopped-each k terms q e P h =
+inside-each k terms q e P h =
     let t : Trigger = touched k (terms .risk) q e in
     exit-of (inPosition q) (closedBy t k terms q) P (trigger-of t k terms q P h)
 
@@ -172,12 +173,12 @@ entered-begun : (p : Portfolio) (qty price : Float) (k : Candle) (fee : Float) �
 unfolding entered
 entered-begun p qty price k fee = (refl, refl, refl)
 
-begun : (x : Quantity) (dir fill bps : Float) (k : Candle) (p q : Portfolio) (f : Float) → booked dir x fill bps k p ≡ Entered q f → Begun k q
-unfolding booked
+begun : (x : Quantity) (dir fill bps : Float) (k : Candle) (p q : Portfolio) (f : Float) → entryWith dir x fill bps k p ≡ Entered q f → Begun k q
+unfolding entryWith
 begun Nothing dir fill bps k p q f e = absurd (let z : _≡_ {A = ℕ} 0 1 = cc in omega arith)
 begun TooLarge dir fill bps k p q f e = absurd (let z : _≡_ {A = ℕ} 0 1 = cc in omega arith)
 begun (Of base) dir fill bps k p q f e =
-    let fee : Float = base ⊗ fill ⊗ takerRate bps in
+    let fee : Float = base ⊗ fill ⊗ feeRate bps in
     begun-by (eps ≺ base) k (entered p (dir ⊗ base) fill (k .time) fee) q fill f (entered-begun p (dir ⊗ base) fill k fee) e
 
 begun-if : (large : Bool) (k : Candle) (x : Entry) (q : Portfolio) (f : Float) → (x ≡ Entered q f → Begun k q) → cond large Entry.TooLarge x ≡ Entered q f
@@ -193,7 +194,7 @@ entry-begun side raw bps terms k p h q f e =
     let probe : Quantity = probeQty (terms .slippage) terms (p .cash) raw rv in
     let fill : Float = fillPrice raw (direction side) (slippageRate (terms .slippage) (orZero probe) (k .volume)) in
     let sized : Quantity = withinVolume terms (quantity terms (p .cash) fill rv) (k .volume) in
-    begun-if (isTooLarge probe) k (booked (direction side) sized fill bps k p) q f (begun sized (direction side) fill bps k p q f) e
+    begun-if (isTooLarge probe) k (entryWith (direction side) sized fill bps k p) q f (begun sized (direction side) fill bps k p q f) e
 
 module _ (s : Settings) (bars : List (List ℕ)) (bar : List ℕ) where
   -- the bar is taken
@@ -221,28 +222,28 @@ module _ (s : Settings) (bars : List (List ℕ)) (bar : List ℕ) where
   MetIfOpen p = inPosition (p .portfolio) ≡ true → Met s bars bar (p .entered) (p .portfolio)
 
   module _ (p : Position) (met : MetIfOpen p) where
-    sold-open : inPosition (p .portfolio) ≡ true → Each (Recorded s bars bar (p .entered)) (tradesOf (Account.exited s p (candleOf bar) .«exit»))
-    unfolding Account.exited facing
-    sold-open e =
+    by-order-open : inPosition (p .portfolio) ≡ true → Each (Recorded s bars bar (p .entered)) (tradesOf (Account.exitFilled s p (candleOf bar) .«exit»))
+    unfolding Account.exitFilled facing
+    by-order-open e =
         let q : Portfolio = worsened (p .portfolio) (candleOf bar) in
-        sold-each signal (candleOf bar .«open») (s .terms) (candleOf bar) q (Recorded s bars bar (p .entered))
+        by-order-each signal (candleOf bar .«open») (s .terms) (candleOf bar) q (Recorded s bars bar (p .entered))
         (λ price. closing (p .entered) q price (candleOf bar .time) (s .terms .«taker_bps») signal (taking (p .entered) (p .portfolio) e (met e)))
 
-    sold-none : inPosition (p .portfolio) ≡ false → Each (Recorded s bars bar (p .entered)) (tradesOf (Account.exited s p (candleOf bar) .«exit»))
-    unfolding Account.exited facing executeExit Each tradesOf
-    sold-none e = rw (flat-stays (p .portfolio) (candleOf bar) e, e) tt
+    by-order-none : inPosition (p .portfolio) ≡ false → Each (Recorded s bars bar (p .entered)) (tradesOf (Account.exitFilled s p (candleOf bar) .«exit»))
+    unfolding Account.exitFilled facing executeExit Each tradesOf
+    by-order-none e = rw (flat-stays (p .portfolio) (candleOf bar) e, e) tt
 
-    sold : Each (Recorded s bars bar (p .entered)) (tradesOf (Account.exited s p (candleOf bar) .«exit»))
-    sold = by-side (inPosition (p .portfolio)) sold-open sold-none
+    by-order : Each (Recorded s bars bar (p .entered)) (tradesOf (Account.exitFilled s p (candleOf bar) .«exit»))
+    by-order = by-side (inPosition (p .portfolio)) by-order-open by-order-none
 
     -- and nothing is open then
-    sold-flat : inPosition (Account.exited s p (candleOf bar) .position .portfolio) ≡ false
-    sold-flat = go (inPosition (worsened (p .portfolio) (candleOf bar))) refl
+    by-order-flat : inPosition (Account.exitFilled s p (candleOf bar) .position .portfolio) ≡ false
+    by-order-flat = go (inPosition (worsened (p .portfolio) (candleOf bar))) refl
       where
         go : (b : Bool) → inPosition (worsened (p .portfolio) (candleOf bar)) ≡ b
-            → inPosition (Account.exited s p (candleOf bar) .position .portfolio) ≡ false
-        go true e = unfold Account.exited facing executeExit leaving in rw e (closed-is-flat _ _ _ _ _)
-        go false e = unfold Account.exited facing executeExit leaving in rw e e
+            → inPosition (Account.exitFilled s p (candleOf bar) .position .portfolio) ≡ false
+        go true e = unfold Account.exitFilled facing executeExit leaving in rw e (closed-is-flat _ _ _ _ _)
+        go false e = unfold Account.exitFilled facing executeExit leaving in rw e e
 
     -- what a fill leaves
     abbrev Filling : Filled → Type 0
@@ -270,12 +271,12 @@ module _ (s : Settings) (bars : List (List ℕ)) (bar : List ℕ) where
         }
 
     enters : (side : Side) (kind : OrderKind) (price : Float) (h : History) (number : ℕ) → number ≡ length bars
-        → Filling (Account.entered side kind price s p (candleOf bar) h number)
-    unfolding Account.entered Each tradesOf
+        → Filling (Account.entryFilled side kind price s p (candleOf bar) h number)
+    unfolding Account.entryFilled Each tradesOf
     enters side kind price h number n = (entering-met _ number n (λ q f e. entry-begun side price _ _ (candleOf bar) (p .portfolio) h q f e), tt)
 
-    leaves : Filling (Account.exited s p (candleOf bar))
-    leaves = (λ h. two-sides _ h sold-flat, sold)
+    leaves : Filling (Account.exitFilled s p (candleOf bar))
+    leaves = (λ h. two-sides _ h by-order-flat, by-order)
 
     does : (due : Due) (h : History) (number : ℕ) → number ≡ length bars → Filling (doneOf due s p (candleOf bar) h number)
     unfolding doneOf
@@ -289,19 +290,19 @@ module _ (s : Settings) (bars : List (List ℕ)) (bar : List ℕ) where
 
     -- ---- inside the bar
 
-    stopped-open : inPosition (p .portfolio) ≡ true → Each (Recorded s bars bar (p .entered)) (tradesOf (intrabar s p (candleOf bar) .«exit»))
+    inside-open : inPosition (p .portfolio) ≡ true → Each (Recorded s bars bar (p .entered)) (tradesOf (intrabar s p (candleOf bar) .«exit»))
     unfolding intrabar facing
-    stopped-open e =
+    inside-open e =
         let q : Portfolio = worsened (p .portfolio) (candleOf bar) in
-        stopped-each (candleOf bar) (s .terms) q (extremeWith (candleOf bar) q (p .extreme)) (Recorded s bars bar (p .entered))
+        inside-each (candleOf bar) (s .terms) q (extremeWith (candleOf bar) q (p .extreme)) (Recorded s bars bar (p .entered))
         (λ price reason. closing (p .entered) q price (candleOf bar .time) (s .terms .«taker_bps») reason (taking (p .entered) (p .portfolio) e (met e)))
 
-    stopped-none : inPosition (p .portfolio) ≡ false → Each (Recorded s bars bar (p .entered)) (tradesOf (intrabar s p (candleOf bar) .«exit»))
+    inside-none : inPosition (p .portfolio) ≡ false → Each (Recorded s bars bar (p .entered)) (tradesOf (intrabar s p (candleOf bar) .«exit»))
     unfolding intrabar facing applyIntrabarExits Each tradesOf
-    stopped-none e = rw (flat-stays (p .portfolio) (candleOf bar) e, e) tt
+    inside-none e = rw (flat-stays (p .portfolio) (candleOf bar) e, e) tt
 
-    stopped : Each (Recorded s bars bar (p .entered)) (tradesOf (intrabar s p (candleOf bar) .«exit»))
-    stopped = by-side (inPosition (p .portfolio)) stopped-open stopped-none
+    inside : Each (Recorded s bars bar (p .entered)) (tradesOf (intrabar s p (candleOf bar) .«exit»))
+    inside = by-side (inPosition (p .portfolio)) inside-open inside-none
 
     -- a position that is left open inside the bar has taken it
     abbrev Stays : Type 0
@@ -418,7 +419,7 @@ bar-lives s asked bars bar a rows l =
             charging s bars bar (x .position .entered) (x .position .portfolio) «open» (still-open s bars bar (f .position) (fine .0) «open»),
       ),
       fine .1,
-      stopped s bars bar (f .position) (fine .0),
+      inside s bars bar (f .position) (fine .0),
     )
 
 fresh-lives : (s : Settings) → Lives s [] (accountOf (freshState s))
@@ -446,13 +447,13 @@ box-lives s ls m bars =
 pub record Adds (s : Settings) (bars : List (List ℕ)) (bar : List ℕ) (t : State) (m : Rooms) (u : State) (n : Rooms) : Type 0 where
   pub points : List Point
   -- left by order, at the open
-  pub sold : List Trade
+  pub byOrder : List Trade
   -- left inside the bar
-  pub stopped : List Trade
-  pub grown : Grown t m u n points (sold ++ stopped)
+  pub insideBar : List Trade
+  pub grown : Grown t m u n points (byOrder ++ insideBar)
   -- with the entry bar of the box, and with the one that it has after the fill: the box's, or this bar where the fill is an entry
-  pub each-sold : Each (Recorded s bars bar (t .position .entered)) sold
-  pub each-stopped : Each (Recorded s bars bar (fillOf s t bar m .position .entered)) stopped
+  pub each-by-order : Each (Recorded s bars bar (t .position .entered)) byOrder
+  pub each-inside : Each (Recorded s bars bar (fillOf s t bar m .position .entered)) insideBar
 
 -- IN EVERY RUN from a fresh state, each trade that a bar closes has the words of the bars from its entry bar to that bar.
 pub recorded : (s : Settings) (ls : Lists) (m : Rooms) (bars : List (List ℕ)) (bar : List ℕ)
@@ -469,11 +470,11 @@ recorded s ls m bars bar fine =
     let b = bar-lives s (byLists s ls) done bar (accountOf (r .state)) (rowsHeld s (r .state) (r .rooms)) (box-lives s ls m bars) in
     record {
       points = _;
-      sold = tradesOf (f .«exit»);
-      stopped = tradesOf (intrabar s (f .position) (candleOf bar) .«exit»);
+      byOrder = tradesOf (f .«exit»);
+      insideBar = tradesOf (intrabar s (f .position) (candleOf bar) .«exit»);
       grown = books-grow s (byLists s ls) (r .state) bar (r .rooms) ls (there .points) (there .trades);
-      each-sold = b .1;
-      each-stopped = b .2;
+      each-by-order = b .1;
+      each-inside = b .2;
     }
 
 -- ---- the end
@@ -504,7 +505,8 @@ module _ (s : Settings) (bars : List (List ℕ)) (t : State) (l : Lives s bars (
   unfolding lastExit
   end-open e =
       let c : Closed = closed (t .position .portfolio) (t .last .close) (t .last .time) (s .terms .«taker_bps») end in
-      rw e (one-each c (RecordedAtEnd s bars (t .position .entered)) (closing-end s bars (t .position .entered) (t .position .portfolio) _ _ _ _ (l .1 (is-open t e))))
+      rw e (one-each c (RecordedAtEnd s bars (t .position .entered))
+      (closing-end s bars (t .position .entered) (t .position .portfolio) _ _ _ _ (l .1 (is-open t e))))
 
   end-none : toClose t ≡ false → Each (RecordedAtEnd s bars (t .position .entered)) (tradesOf (lastExit s t))
   unfolding lastExit Each tradesOf

@@ -4,10 +4,11 @@ use Rattle.records.specs.{declared.settings.Settings.Settings, declared.state.S
 use Rattle.records.specs.{Lent.tradePlaces, State.freshState}
 use Rattle.refusals.specs.{Judgement.finishJudged}
 use Rattle.runs.specs.{AsMeant.by-lists, Laws.BooksGrow.same-room, Laws.Counts.counts-never-exceed, Laws.Finishes.same-end, Laws.Finishes.same-end-points}
-use Rattle.runs.specs.{Laws.Finishes.same-end-room, Laws.Follows.run-follows, Laws.TwoRuns.fresh-sound, Laws.TwoRuns.run-sound, Laws.TwoRuns.same-counts-run}
-use Rattle.runs.specs.{Laws.Verdicts.roomy, Laws.Verdicts.same-finish-verdict, WholeHistory.fresh-follows, WholeHistory.whole-history}
+use Rattle.runs.specs.{Laws.Finishes.same-end-room, Laws.Follows.run-follows, Laws.TwoRuns.fresh-sound, Laws.TwoRuns.run-sound}
+use Rattle.runs.specs.{Laws.TwoRuns.same-counts-run, Laws.Verdicts.roomy, Laws.Verdicts.same-finish-verdict, WholeHistory.fresh-follows}
+use Rattle.runs.specs.{WholeHistory.whole-history}
 use Rattle.engine.specs.{Books.heldPoints, Books.heldTrades, Boxes.SameCounts, Boxes.Alike, Boxes.SameButRows, Boxes.Holds, Finish.ended, Run.Run, Run.runOver}
-use Rattle.engine.specs.{Whole.accountOf, Whole.rowsHeld, Whole.Whole, Whole.lastOf}
+use Rattle.engine.specs.{Whole.accountOf, Whole.rowsHeld, Whole.Ledger, Whole.lastOf}
 use Rattle.words.specs.Limits as Limits
 
 -- Two runs that differ in their rows alone, and finish alike.
@@ -23,7 +24,7 @@ pub record SameRun (s : Settings) (r r′ : Run) : Type 0 where
       SameButRows (e .result .state) (e .rooms) (e′ .result .state) (e′ .rooms)
 
 -- two boxes that hold the same
-same-holds : {t t′ : State} {m m′ : Rooms} {w : Whole} → Holds t m w → Holds t′ m′ w → SameButRows t m t′ m′
+same-holds : {t t′ : State} {m m′ : Rooms} {w : Ledger} → Holds t m w → Holds t′ m′ w → SameButRows t m t′ m′
 same-holds h h′ = record {
   account = h .account ∙ sym (h′ .account);
   points = h .points ∙ sym (h′ .points);

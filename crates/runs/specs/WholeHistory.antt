@@ -1,13 +1,14 @@
 -- The engine over the whole history: a box that keeps the last D rows decides by the rows of all bars.
-use Rattle.words.specs.Prelude.{ℕ, _+_, _≤_, _≡_, refl, sym, _∙_, List, [], _∷_, _++_, append-nil, append-assoc, flatMap, zero-mul, add-one, arith, lt-ltb, length}
-use Rattle.words.specs.Prelude.{take}
+use Rattle.words.specs.Prelude.{ℕ, _+_, _≤_, _≡_, refl, sym, _∙_, List, [], _∷_, _++_, append-nil, append-assoc, flatMap, zero-mul, add-one, arith, lt-ltb}
+use Rattle.words.specs.Prelude.{length, take}
 use Rattle.rows.specs.{Room.heldWith}
 use Rattle.records.specs.{declared.settings.Settings.Settings, declared.state.State.State, Lent.Lists, Lent.Rooms, Lent.rowPlaces, State.freshState}
 use Rattle.refusals.specs.{declared.verdict.Verdict.Verdict, declared.verdict.Verdict.the-variants.Fine, declared.verdict.Verdict.the-variants.Bad}
 use Rattle.engine.specs.{Boxes.Grown, Boxes.Follows, Laws.Lengths.row-long, Laws.Lengths.row-fits, Laws.Runs.run-none, Laws.Runs.run-stops, Laws.Runs.run-takes}
 use Rattle.engine.specs.{Record.rowOf, Record.heldRows, Rules.rulesOf, Rules.FromTable, Run.Run, Run.runOver, Step.With, Step.stepped, Step.stepVerdict}
 use Rattle.engine.specs.{Whole.accountOf, Whole.rowsHeld, Whole.byMeaning, Whole.taken, Whole.lastOf, Whole.rowsOf}
-use Rattle.runs.specs.{Laws.AccountStep.taken-as-meant, Laws.Follows.step-follows, Laws.Follows.step-grows, Laws.Follows.run-follows, Laws.Window.row-added}
+use Rattle.runs.specs.{Laws.AccountStep.taken-as-meant, Laws.Follows.step-follows, Laws.Follows.step-grows, Laws.Follows.run-follows}
+use Rattle.runs.specs.{Laws.Window.row-added}
 
 -- ---- a room with a place for every bar
 

@@ -1,7 +1,7 @@
 -- 16 is given exactly when nothing before it is, an entry is due and the bar reaches it, the lot is not 0, and a quotient is 2^53 or more: the
 -- probe's, the size's or that of the share (entries/specs/InLots.antt).
-use Rattle.words.specs.Prelude.{ℕ, zero, suc, _<_, _-_, _≡_, refl, sym, ap, _∙_, Bool, true, false, not, cond, _&&_, true≢false, List, [], _∷_, arith, ltb, Float}
-use Rattle.words.specs.Prelude.{ltb-true, ltb-false, lt-ltb}
+use Rattle.words.specs.Prelude.{ℕ, zero, suc, _<_, _-_, _≡_, refl, sym, ap, _∙_, Bool, true, false, not, cond, _&&_, true≢false, List, [], _∷_, arith, ltb}
+use Rattle.words.specs.Prelude.{Float, ltb-true, ltb-false, lt-ltb}
 use Rattle.words.specs.{declared.refusal.Refusal.Refusal, Outcome.refusal}
 use Rattle.rows.specs.{History.History, History.historyOf}
 use Rattle.portfolio.specs.{declared.Candle.Candle}
@@ -16,8 +16,9 @@ use Rattle.refusals.specs.{Settings.sizingLines, Settings.slippageLines, Settin
 use Rattle.refusals.specs.{Rooms.roomLines, Rooms.stateLines, Rooms.placeLines, Bar.barLines, Lists.listLines, Judgement.stepLines, Judgement.stepJudged}
 use Rattle.refusals.specs.{Judgement.runLines, Lines.Line, Lines.judged, Laws.Lines.never, Laws.Lines.and-true}
 use Rattle.engine.specs.{declared.account.Due.Due, declared.account.Due.the-variants.Waits, declared.account.Due.the-variants.Enters}
-use Rattle.engine.specs.{declared.account.Due.the-variants.Leaves, Account.reached, Account.dueOf, Account.doneOf, Account.filled, Account.waiting, Account.entered}
-use Rattle.engine.specs.{Account.exited, Record.heldRows, Step.fillOf, Step.sizeLines, Step.stepVerdict, Laws.Verdict.handed-fine, Laws.Verdict.handed-bad}
+use Rattle.engine.specs.{declared.account.Due.the-variants.Leaves, Account.dueIfReached, Account.dueOf, Account.doneOf, Account.filled, Account.waiting}
+use Rattle.engine.specs.{Account.entryFilled, Account.exitFilled, Record.heldRows, Step.fillOf, Step.sizeLines, Step.stepVerdict, Laws.Verdict.handed-fine}
+use Rattle.engine.specs.{Laws.Verdict.handed-bad}
 use Rattle.entries.specs.{InLots.TurnsAway, InLots.probedSize, InLots.sizeAt, InLots.turned-away-if, InLots.turned-away-only-if}
 use lib.Ieee as Ieee
 use Rattle.floats.specs.Floats as Floats
@@ -44,24 +45,24 @@ module _ (s : Settings) (p : Position) (k : Candle) (h : History) (number : ℕ)
         (sizeAt side price Floats.zero (s .terms) k (p .portfolio) h (Entry.fillOf side price (s .terms) k (p .portfolio) h))
 
   due-is : {order : Order} {side : Side} {kind : OrderKind} {price : Float} → DueAt k order side kind price → dueOf order k ≡ Enters side kind price
-  unfolding dueOf reached
+  unfolding dueOf dueIfReached
   due-is (long kind price e) = rw e
   due-is (short kind price e) = rw e
 
   turned-flag : (order : Order) → Turned order → filled s order p k h number .«turned_away» ≡ true
-  unfolding filled doneOf entered
+  unfolding filled doneOf entryFilled
   turned-flag order t =
       rw (due-is (t .due)) (turned-away-if (t .side) (t .price) (bpsOf (t .kind)) (s .terms) k (p .portfolio) h (t .some-lot) (t .too-many))
 
   by-entry : (order : Order) (side : Side) (kind : OrderKind) (price : Float) → DueAt k order side kind price
-      → entered side kind price s p k h number .«turned_away» ≡ true → Turned order
-  unfolding entered
+      → entryFilled side kind price s p k h number .«turned_away» ≡ true → Turned order
+  unfolding entryFilled
   by-entry order side kind price due e =
       let t = turned-away-only-if side price (bpsOf kind) (s .terms) k (p .portfolio) h e in
       record { side = side; kind = kind; price = price; due = due; some-lot = t .0; too-many = t .1 }
 
   flag-turned : (order : Order) → filled s order p k h number .«turned_away» ≡ true → Turned order
-  unfolding filled dueOf doneOf reached exited
+  unfolding filled dueOf doneOf dueIfReached exitFilled
   flag-turned Idle e = absurd (true≢false (sym e))
   flag-turned (Exit zero) e = absurd (true≢false (sym e))
   flag-turned (Exit (suc n)) e = absurd (true≢false (sym (rw (lt-ltb 0 (suc n) (omega arith)) at e)))
@@ -69,13 +70,13 @@ module _ (s : Settings) (p : Position) (k : Candle) (h : History) (number : ℕ)
   flag-turned (EnterShort (suc n) kind) e = absurd (true≢false (sym (rw (lt-ltb 0 (suc n) (omega arith)) at e)))
   flag-turned (EnterLong zero kind) e = go (levelFill Long kind k) refl e
     where
-      go : (o : Optional) → levelFill Long kind k ≡ o → doneOf (reached Long kind (EnterLong 0 kind) o) s p k h number .«turned_away» ≡ true
+      go : (o : Optional) → levelFill Long kind k ≡ o → doneOf (dueIfReached Long kind (EnterLong 0 kind) o) s p k h number .«turned_away» ≡ true
           → Turned (EnterLong 0 kind)
       go Absent f e = absurd (true≢false (sym e))
       go (Of price) f e = by-entry (EnterLong 0 kind) Long kind price (long kind price f) e
   flag-turned (EnterShort zero kind) e = go (levelFill Short kind k) refl e
     where
-      go : (o : Optional) → levelFill Short kind k ≡ o → doneOf (reached Short kind (EnterShort 0 kind) o) s p k h number .«turned_away» ≡ true
+      go : (o : Optional) → levelFill Short kind k ≡ o → doneOf (dueIfReached Short kind (EnterShort 0 kind) o) s p k h number .«turned_away» ≡ true
           → Turned (EnterShort 0 kind)
       go Absent f e = absurd (true≢false (sym e))
       go (Of price) f e = by-entry (EnterShort 0 kind) Short kind price (short kind price f) e

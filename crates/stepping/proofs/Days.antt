@@ -3,7 +3,8 @@ use Rattle.words.specs.Prelude.{ℕ, _≡_, Bool, List}
 use Rattle.words.specs.{declared.refusal.Refusal.Refusal}
 use Rattle.records.specs.{declared.settings.Settings.Settings, declared.state.State.State, Lent.Rooms, Lent.Lists, Lent.rooms, Settings.settingsOf}
 use Rattle.records.specs.{StateWords.stateOf}
-use Rattle.refusals.specs.{declared.verdict.Verdict.Verdict, declared.verdict.Verdict.the-variants.Fine, declared.verdict.Verdict.the-variants.Bad, Lines.judged}
+use Rattle.refusals.specs.{declared.verdict.Verdict.Verdict, declared.verdict.Verdict.the-variants.Fine, declared.verdict.Verdict.the-variants.Bad}
+use Rattle.refusals.specs.{Lines.judged}
 use Rattle.engine.specs.{Day.dayOf}
 use Rattle.replies.specs.{Call.answerWord}
 use Rattle.stepping.specs.{Day.dayLentLines, Day.stateAfter, Day.dayGives, Day.dayCall, WordRun.answerOf}

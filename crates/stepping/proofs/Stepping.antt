@@ -1,7 +1,8 @@
 -- A C call over a bar is the call over bars that takes one.
 use Rattle.words.specs.Prelude.{ℕ, _≡_, refl, _∙_, true, List}
 use Rattle.records.specs.{declared.settings.Settings.Settings, declared.state.State.State, Lent.Rooms, Lent.Lists, Settings.settingsOf, StateWords.stateOf}
-use Rattle.refusals.specs.{declared.verdict.Verdict.Verdict, declared.verdict.Verdict.the-variants.Fine, declared.verdict.Verdict.the-variants.Bad, Lines.judged}
+use Rattle.refusals.specs.{declared.verdict.Verdict.Verdict, declared.verdict.Verdict.the-variants.Fine, declared.verdict.Verdict.the-variants.Bad}
+use Rattle.refusals.specs.{Lines.judged}
 use Rattle.engine.specs.{declared.answer.Answer.Answer, declared.answer.Answer.the-variants.Refused, declared.answer.Answer.the-variants.Done, Day.barsFor}
 use Rattle.engine.specs.{Day.noBars, Day.dayOf, Run.goesOn, Run.runOver, Step.With, Step.stepAnswer, Laws.Refusal.refusal-changes-nothing}
 use Rattle.replies.specs.{Call.Call, Call.callOf, Call.unlessBad}

@@ -6,7 +6,7 @@ use Rattle.rules.specs.{declared.position.PositionState.PositionState, declared
 use Rattle.rules.specs.{Values.crossed}
 use Rattle.steps.specs.{declared.step.Op.Op, declared.step.Step.Step, Bytes.opOf, Bytes.stepAt, Bytes.opsFrom, Bytes.isComparison, Machine.Values}
 use Rattle.steps.specs.{Machine.Effect, Machine.nth, Machine.given, Machine.giving, Machine.saying, Machine.passing, Machine.effect, Machine.does}
-use Rattle.steps.specs.{Machine.after, Machine.run, Machine.visitCount, Machine.ranOver, Places.holding, Places.Came, Places.Gives, Places.Tests}
+use Rattle.steps.specs.{Machine.afterStep, Machine.run, Machine.visitCount, Machine.ranOver, Places.holding, Places.Came, Places.Gives, Places.Tests}
 use Rattle.steps.proofs.{Said.does-compare, Said.does-cross}
 
 -- ---- jumps
@@ -53,12 +53,12 @@ module _ (h : History) (s : PositionState) (bs : List ℕ) where
           rw (none-left q (n - q) (omega arith), none-left (min n q) (n - min n q) (omega arith))
       go false e = let at : min n q ≡ q = omega (arith, ltb-false n q e) in rw at
 
-  run-cons : (xs : List Op) (x : Op) (v : Values) → run h s (x ∷ xs) 0 v ≡ run h s xs (does h s x v .skip) (after (does h s x v) v)
+  run-cons : (xs : List Op) (x : Op) (v : Values) → run h s (x ∷ xs) 0 v ≡ run h s xs (does h s x v .skip) (afterStep (does h s x v) v)
   unfolding run
   run-cons xs x v = refl
 
   count-cons : (xs : List Op) (x : Op) (v : Values)
-      → visitCount h s (x ∷ xs) 0 v ≡ does h s x v .visits + visitCount h s xs (does h s x v .skip) (after (does h s x v) v)
+      → visitCount h s (x ∷ xs) 0 v ≡ does h s x v .visits + visitCount h s xs (does h s x v .skip) (afterStep (does h s x v) v)
   unfolding visitCount
   count-cons xs x v = refl
 
@@ -92,8 +92,8 @@ module _ (h : History) (s : PositionState) (bs : List ℕ) (n : ℕ) where
         unfolding does
         did = is
 
-        after-it : after e (holding y vs) ≡ left
-        unfolding after left
+        after-it : afterStep e (holding y vs) ≡ left
+        unfolding afterStep left
         after-it = refl
 
         q : ℕ

@@ -1,9 +1,9 @@
 -- A step as two words: its constant, and its head, one number whose digits are the other fields. Which heads tell that a step is good.
 use Rattle.words.specs.Prelude.{ℕ, _+_, _*_, _/_, _%_, _≤_, _<_, _≡_, refl, Bool, true, false, List, arith, getD, ltb, lt-ltb, le-leb, ltb-true, ltb-false}
 use Rattle.table.specs.{Bytes.u16, Bytes.u32, Bytes.u64}
-use Rattle.steps.specs.{declared.step.Step.Step, Bytes.isComparison, Bytes.isTest, Bytes.fields, Bytes.readStep, Laws.Classes.test-in, Laws.Classes.test-rest}
-use Rattle.steps.specs.{Laws.Classes.says-compare, Laws.Classes.says-cross, Laws.Classes.says-between, WellFormed.zeros, WellFormed.plain, WellFormed.bounded}
-use Rattle.steps.specs.{WellFormed.goodStep}
+use Rattle.steps.specs.{declared.step.Step.Step, Bytes.isComparison, Bytes.isTestStep, Bytes.fields, Bytes.readStep, Laws.Classes.test-in}
+use Rattle.steps.specs.{Laws.Classes.test-rest, Laws.Classes.says-compare, Laws.Classes.says-cross, Laws.Classes.says-between, WellFormed.zeros}
+use Rattle.steps.specs.{WellFormed.unusedFieldsZero, WellFormed.bounded, WellFormed.goodStep}
 use Rattle.steps.proofs.{Said.says-const, Said.says-price, Said.says-jump}
 
 -- ---- the words and the fields
@@ -36,12 +36,12 @@ of-words bs at below =
 module _ (K D after : ℕ) where
   -- a constant within the window
   constant : (n bits : ℕ) → n < D → goodStep K D after (fields 1 0 0 n bits) ≡ true
-  unfolding goodStep plain bounded zeros
+  unfolding goodStep unusedFieldsZero bounded zeros
   constant n bits l = rw (says-const (fields 1 0 0 n bits) refl, lt-ltb n D l)
 
   -- a comparison, a cross or Between, by the two tests that tell which
-  test : (k : ℕ) → isTest k ≡ true → (t u : Bool) → isComparison k ≡ t → ltb k 24 ≡ u → goodStep K D after (fields k 0 0 0 0) ≡ true
-  unfolding goodStep plain bounded zeros
+  test : (k : ℕ) → isTestStep k ≡ true → (t u : Bool) → isComparison k ≡ t → ltb k 24 ≡ u → goodStep K D after (fields k 0 0 0 0) ≡ true
+  unfolding goodStep unusedFieldsZero bounded zeros
   test k is true u e f = rw (says-compare (fields k 0 0 0 0) e)
   test k is false true e f = rw (says-cross (fields k 0 0 0 0) (test-rest k is e .0) (ltb-true k 24 f))
   test k is false false e f =
@@ -50,12 +50,12 @@ module _ (K D after : ℕ) where
 
   -- a price within the window
   price : (p n : ℕ) → n < D → goodStep K D after (fields 3 p 0 n 0) ≡ true
-  unfolding goodStep plain bounded zeros
+  unfolding goodStep unusedFieldsZero bounded zeros
   price p n l = rw (says-price (fields 3 p 0 n 0) refl, lt-ltb n D l)
 
   -- a jump that lands in the list or just past it
   jump : (k skip : ℕ) → 32 ≤ k → k < 34 → skip ≤ after → goodStep K D after (fields k 0 skip 0 0) ≡ true
-  unfolding goodStep plain bounded zeros
+  unfolding goodStep unusedFieldsZero bounded zeros
   jump k skip lo hi l = rw (says-jump (fields k 0 skip 0 0) lo hi, le-leb skip after l)
 
 -- ---- good steps, by their words
@@ -68,7 +68,7 @@ module _ (K D after head : ℕ) where
       rw (← digits 1 0 0 n bits (omega arith) (omega arith) (omega arith) head (omega arith)) (constant K D after n bits l)
 
   -- The whole head is a kind: the other fields are zero.
-  pub test-told : isTest head ≡ true → goodStep K D after (split head 0) ≡ true
+  pub test-told : isTestStep head ≡ true → goodStep K D after (split head 0) ≡ true
   test-told is =
       rw (← digits head 0 0 0 0 (omega (arith, test-in head is .1)) (omega arith) (omega arith) head (omega arith))
       (test K D after head is (isComparison head) (ltb head 24) refl refl)

@@ -1,6 +1,6 @@
 -- Rows that are passed over: they leave the best as it was.
-use Rattle.words.specs.Prelude.{ℕ, zero, suc, _+_, _-_, _*_, _<_, _≤_, _≡_, sym, _∙_, Bool, true, false, true≢false, ⊎-elim, List, arith, add-mul, Float, length}
-use Rattle.words.specs.Prelude.{eq-eqb, ne-eqb, lt-ltb, le-ltb}
+use Rattle.words.specs.Prelude.{ℕ, zero, suc, _+_, _-_, _*_, _<_, _≤_, _≡_, sym, _∙_, Bool, true, false, true≢false, ⊎-elim, List, arith, add-mul, Float}
+use Rattle.words.specs.Prelude.{length, eq-eqb, ne-eqb, lt-ltb, le-ltb}
 use Rattle.words.specs.{Laws.Numbers.less-or-not}
 use Rattle.floats.specs.{Floats._≺_}
 use Rattle.rows.specs.{History.historyOf, Ring.ringPlace, Ring.ringOf, Laws.RowEnds.row-ends}

@@ -1,16 +1,17 @@
 -- What a step says, by the range in which its kind lies.
 use Rattle.words.specs.Prelude.{_-_, _≤_, _<_, _≡_, refl, Bool, true, false, cond, arith, ltb, leb, eqb, ltb-true, ltb-false, eq-eqb, ne-eqb, le-leb, lt-leb}
 use Rattle.words.specs.Prelude.{lt-ltb, le-ltb}
-use Rattle.steps.specs.{declared.step.Step.Step, declared.step.Op.the-variants.Const, declared.step.Op.the-variants.Ref, declared.step.Op.the-variants.Price}
-use Rattle.steps.specs.{declared.step.Op.the-variants.Extreme, declared.step.Op.the-variants.Arith, declared.step.Op.the-variants.Answer}
-use Rattle.steps.specs.{declared.step.Op.the-variants.Turn, declared.step.Op.the-variants.InPosition, declared.step.Op.the-variants.BarsSinceEntry}
-use Rattle.steps.specs.{declared.step.Op.the-variants.JumpIf, declared.step.Op.the-variants.Unknown, Bytes.opOf, Bytes.extremeOp, Bytes.operandOp}
-use Rattle.steps.specs.{Bytes.answerOp, Bytes.firstTest, Bytes.isOperation, Bytes.isComparison, Bytes.isTest, Laws.Classes.operation-out}
-use Rattle.steps.specs.{Laws.Classes.look-no-operation, Laws.Classes.test-rest, Laws.Classes.operand, Laws.Classes.says-arith, Laws.Classes.says-compare}
-use Rattle.steps.specs.{Laws.Classes.says-cross, Laws.Classes.says-between, Laws.Classes.says-no-test, Machine.giving, Machine.saying, Machine.passing}
-use Rattle.steps.specs.{Machine.effect}
+use Rattle.steps.specs.{declared.step.Step.Step, declared.step.Op.the-variants.Const, declared.step.Op.the-variants.Ref}
+use Rattle.steps.specs.{declared.step.Op.the-variants.Price, declared.step.Op.the-variants.Extreme, declared.step.Op.the-variants.Arith}
+use Rattle.steps.specs.{declared.step.Op.the-variants.Answer, declared.step.Op.the-variants.Turn, declared.step.Op.the-variants.InPosition}
+use Rattle.steps.specs.{declared.step.Op.the-variants.BarsSinceEntry, declared.step.Op.the-variants.JumpIf, declared.step.Op.the-variants.Unknown}
+use Rattle.steps.specs.{Bytes.opOf, Bytes.extremeOp, Bytes.operandOp, Bytes.answerOp, Bytes.firstTest, Bytes.isOperation, Bytes.isComparison}
+use Rattle.steps.specs.{Bytes.isTestStep, Laws.Classes.operation-out, Laws.Classes.look-no-operation, Laws.Classes.test-rest, Laws.Classes.operand}
+use Rattle.steps.specs.{Laws.Classes.says-arith, Laws.Classes.says-compare, Laws.Classes.says-cross, Laws.Classes.says-between, Laws.Classes.says-no-test}
+use Rattle.steps.specs.{Machine.giving, Machine.saying, Machine.passing, Machine.effect}
 use Rattle.rows.specs.{History.History}
-use Rattle.rules.specs.{declared.position.PositionState.PositionState, declared.values.Value.Value, Values.both, Values.compared, Values.crossed, Values.within}
+use Rattle.rules.specs.{declared.position.PositionState.PositionState, declared.values.Value.Value, Values.combined, Values.compared, Values.crossed}
+use Rattle.rules.specs.{Values.within}
 use mathlib.Core.Bool.{Bool·beq as beq}
 use Rattle.table.specs.declared.series.Series.the-variants as Over
 
@@ -106,7 +107,7 @@ module _ (x : Step) where
   says-nothing-late le = rw (late (omega arith), le-ltb (x .kind) 34 le)
 
   -- a kind below 27 that is neither a leaf, an operation, a look over rows nor a test
-  pub says-nothing-early : (1 ≤ x .kind → 4 ≤ x .kind) → isOperation (x .kind) ≡ false → (9 ≤ x .kind → 13 ≤ x .kind) → isTest (x .kind) ≡ false
+  pub says-nothing-early : (1 ≤ x .kind → 4 ≤ x .kind) → isOperation (x .kind) ≡ false → (9 ≤ x .kind → 13 ≤ x .kind) → isTestStep (x .kind) ≡ false
       → x .kind < 27 → opOf x ≡ Unknown
   unfolding operandOp
   says-nothing-early leaf none look untested l = go (ltb (x .kind) firstTest) refl
@@ -131,7 +132,7 @@ module _ (x : Step) where
   -- ---- what is done
 
   module _ (h : History) (s : PositionState) (a b c d : Value) (y : Bool) where
-    pub does-arith : isOperation (x .kind) ≡ true → effect h s (opOf x) a b c d y ≡ giving 2 (both (x .kind) b a) y
+    pub does-arith : isOperation (x .kind) ≡ true → effect h s (opOf x) a b c d y ≡ giving 2 (combined (x .kind) b a) y
     unfolding effect
     does-arith is = rw (says-arith x is)
 
@@ -144,7 +145,7 @@ module _ (x : Step) where
     does-cross le l = rw (says-cross x le l)
 
     -- a crossing or Between
-    pub does-test : isTest (x .kind) ≡ true → isComparison (x .kind) ≡ false → effect h s (opOf x) a b c d y
+    pub does-test : isTestStep (x .kind) ≡ true → isComparison (x .kind) ≡ false → effect h s (opOf x) a b c d y
         ≡ saying (cond (ltb (x .kind) 24) 4 3) (cond (ltb (x .kind) 24) (crossed (x .kind) d c b a) (within c b a))
     unfolding effect
     does-test is none = go (ltb (x .kind) 24) refl

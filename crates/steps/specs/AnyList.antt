@@ -4,18 +4,18 @@ use Rattle.words.specs.Prelude.{arith, zero-mul, ltb, eqb, length, lt-ltb, le-l
 use Rattle.words.specs.{Limits.mostSteps, Laws.Numbers.less-or-not}
 use Rattle.rows.specs.{History.History, History.historyOf, History.width, History.lastRows, Ring.ringOf, Ring.turned, Laws.Ring.SameRows, Laws.Ring.ring-turned}
 use Rattle.table.specs.{declared.series.Series.Series, Trees.Operand, Trees.const, Trees.ref, Trees.price, Trees.extreme, Trees.reach}
-use Rattle.rules.specs.{declared.position.PositionState.PositionState, declared.values.Value.Value, Values.priceOf, Values.slotOf, Meaning.there, Meaning.seriesAt}
-use Rattle.rules.specs.{Meaning.extremeOver, Meaning.extremeAt, Meaning.value, Meaning.newest, Meaning.holds, Window.Without, Window.operand-same}
-use Rattle.rules.specs.{Window.without-first}
+use Rattle.rules.specs.{declared.position.PositionState.PositionState, declared.values.Value.Value, Values.priceOf, Values.slotOf, Meaning.there}
+use Rattle.rules.specs.{Meaning.seriesAt, Meaning.extremeOver, Meaning.extremeAt, Meaning.value, Meaning.newest, Meaning.holds, Window.Without}
+use Rattle.rules.specs.{Window.operand-same, Window.without-first}
 use Rattle.steps.specs.{declared.wellformed.Formed.Formed, declared.wellformed.Formed.the-variants.Well, declared.wellformed.Formed.the-variants.Bad}
 use Rattle.steps.specs.{declared.step.Op.Op, declared.step.Op.the-variants.Const, declared.step.Op.the-variants.Ref, declared.step.Op.the-variants.Price}
 use Rattle.steps.specs.{declared.step.Op.the-variants.Arith, declared.step.Op.the-variants.Compare, declared.step.Op.the-variants.Cross}
 use Rattle.steps.specs.{declared.step.Op.the-variants.Between, declared.step.Op.the-variants.Answer, declared.step.Op.the-variants.Turn}
 use Rattle.steps.specs.{declared.step.Op.the-variants.InPosition, declared.step.Op.the-variants.BarsSinceEntry, declared.step.Op.the-variants.JumpIf}
-use Rattle.steps.specs.{declared.step.Op.the-variants.Extreme, declared.step.Op.the-variants.Unknown, Bytes.opOf, Bytes.stepAt, Bytes.opsFrom, Bytes.opsOf}
-use Rattle.steps.specs.{Bytes.stepsIn, Bytes.stepsRun, Machine.Values, Machine.ago, Machine.effect, Machine.does, Machine.after, Machine.run}
-use Rattle.steps.specs.{Machine.visitCount, Machine.start, Machine.ranOver, WellFormed.plain, WellFormed.seriesWithin, WellFormed.looksWithin}
-use Rattle.steps.specs.{WellFormed.bounded, WellFormed.goodStep, WellFormed.formedFrom, WellFormed.formed}
+use Rattle.steps.specs.{declared.step.Op.the-variants.Extreme, declared.step.Op.the-variants.Unknown, Bytes.opOf, Bytes.stepAt, Bytes.opsFrom}
+use Rattle.steps.specs.{Bytes.opsOf, Bytes.stepsIn, Bytes.stepsRun, Machine.Values, Machine.ago, Machine.effect, Machine.does, Machine.afterStep}
+use Rattle.steps.specs.{Machine.run, Machine.visitCount, Machine.start, Machine.ranOver, WellFormed.unusedFieldsZero, WellFormed.seriesWithin}
+use Rattle.steps.specs.{WellFormed.looksWithin, WellFormed.bounded, WellFormed.goodStep, WellFormed.formedFrom, WellFormed.formed}
 use Rattle.table.specs.declared.series.Series.the-variants as Over
 
 -- ---- a well-formed list has its look-backs below D
@@ -41,8 +41,8 @@ bounded-from : (K D : ℕ) (bs : List ℕ) (p m : ℕ) → formedFrom K D bs p m
 unfolding formedFrom opsFrom Bounded goodStep
 bounded-from K D bs p zero w = tt
 bounded-from K D bs p (suc m) w =
-    let here = well-first (plain (stepAt bs p) (opOf (stepAt bs p)) && bounded K D m (opOf (stepAt bs p))) (formedFrom K D bs (p + 1) m) p w in (
-      rw (length-ops bs (p + 1) m) (second (plain (stepAt bs p) (opOf (stepAt bs p))) (bounded K D m (opOf (stepAt bs p))) (here .0)),
+    let here = well-first (unusedFieldsZero (stepAt bs p) (opOf (stepAt bs p)) && bounded K D m (opOf (stepAt bs p))) (formedFrom K D bs (p + 1) m) p w in (
+      rw (length-ops bs (p + 1) m) (second (unusedFieldsZero (stepAt bs p) (opOf (stepAt bs p))) (bounded K D m (opOf (stepAt bs p))) (here .0)),
       bounded-from K D bs (p + 1) m (here .1),
     )
 
@@ -110,7 +110,7 @@ module _ (K D : ℕ) (w h : History) (leaves : LeavesSame K D w h) (s : Position
   unfolding run Bounded
   run-same [] g k v = refl
   run-same (x ∷ xs) g (suc k) v = run-same xs (g .1) k v
-  run-same (x ∷ xs) g zero v = rw (does-same (length xs) x (g .0) v) (run-same xs (g .1) (does h s x v .skip) (after (does h s x v) v))
+  run-same (x ∷ xs) g zero v = rw (does-same (length xs) x (g .0) v) (run-same xs (g .1) (does h s x v .skip) (afterStep (does h s x v) v))
 
   counts-same : (xs : List Op) → Bounded K D xs → (k : ℕ) (v : Values) → visitCount w s xs k v ≡ visitCount h s xs k v
   unfolding visitCount Bounded
@@ -118,7 +118,7 @@ module _ (K D : ℕ) (w h : History) (leaves : LeavesSame K D w h) (s : Position
   counts-same (x ∷ xs) g (suc k) v = counts-same xs (g .1) k v
   counts-same (x ∷ xs) g zero v =
       rw (does-same (length xs) x (g .0) v)
-      (ap (λ (n : ℕ). does h s x v .visits + n) (counts-same xs (g .1) (does h s x v .skip) (after (does h s x v) v)))
+      (ap (λ (n : ℕ). does h s x v .visits + n) (counts-same xs (g .1) (does h s x v .skip) (afterStep (does h s x v) v)))
 
   ran-same : (xs : List Op) → Bounded K D xs → ranOver w s xs ≡ ranOver h s xs
   ran-same xs g =

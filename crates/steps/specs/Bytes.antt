@@ -53,8 +53,8 @@ firstTest = Named.gt
 unfoldable pub isComparison : ℕ → Bool
 isComparison step = leb firstTest step && ltb step Named.crossAbove
 
-unfoldable pub isTest : ℕ → Bool
-isTest step = leb firstTest step && ltb step Named.rising
+unfoldable pub isTestStep : ℕ → Bool
+isTestStep step = leb firstTest step && ltb step Named.rising
 
 unfoldable pub slotKind : ℕ → ℕ
 slotKind kind = cond (eqb kind Named.highest) highestSlot lowestSlot
@@ -155,12 +155,12 @@ abbrev pub writeFrom : List ℕ → ℕ → ℕ → List ℕ → List ℕ
 writeFrom room i j [] = room
 writeFrom room i j (v ∷ vs) = writeFrom (set room (i + j) v) i (suc j) vs
 
-unfoldable pub write : List ℕ → ℕ → List ℕ → List ℕ
-write room i vs = writeFrom room i 0 vs
+unfoldable pub writeAt : List ℕ → ℕ → List ℕ → List ℕ
+writeAt room i vs = writeFrom room i 0 vs
 
 -- A room with steps written into it from place `at` on, where they fit.
 abbrev pub written : List ℕ → ℕ → List Op → List ℕ
-written room at xs = write room (16 * at) (bytesOf xs)
+written room at xs = writeAt room (16 * at) (bytesOf xs)
 
 pub record Fits (room : List ℕ) (at : ℕ) (xs : List Op) : Type 0 where
   pub bytes : 16 * (at + length xs) ≤ length room

@@ -4,16 +4,16 @@ use Rattle.words.specs.Prelude.{ltb-false}
 use Rattle.words.specs.{Limits.mostRows, Limits.mostReach, Outcome.refusal}
 use Rattle.rows.specs.{History.historyOf, History.lastRows, History.wholeRows}
 use Rattle.table.specs.{declared.answer.Answer.Answer, declared.answer.Answer.the-variants.Accepted, declared.answer.Answer.the-variants.Refused, Trees.reachOf}
-use Rattle.table.specs.{Header.slots, Checked.checked, Reading.treeOf, Laws.Accepted.tree-reach, declared.trees.Tree.Tree, Header.treeNumber, Depth.greatestReach}
-use Rattle.table.specs.{Depth.depthOf, Depth.rowBytes, Bytes.Bytes}
+use Rattle.table.specs.{Header.slots, Checked.checked, Reading.treeOf, Laws.Accepted.tree-reach, declared.trees.Tree.Tree, Header.treeNumber}
+use Rattle.table.specs.{Depth.greatestReach, Depth.depthOf, Depth.rowBytes, Bytes.Bytes}
 use Rattle.roundtrip.specs.{Laws.Reach.rows-are, Laws.Reach.tree-reach-is}
 use Rattle.rules.specs.{declared.position.PositionState.PositionState, Meaning.says, Answers.stateRight, Laws.Answers.tree-of-four, WindowAnswers.tree-near}
 use Rattle.rules.specs.{WindowAnswers.window-whole}
 use Rattle.needed.specs.{declared.depth.DepthAnswer.the-variants.Needs, Depth.depthAnswer}
 use Rattle.steps.specs.{declared.machine.Ran.Ran, declared.running.RunAnswer.the-variants.Runs, declared.translated.Translated.the-variants.Writes}
 use Rattle.steps.specs.{declared.translated.Translated.the-variants.Refuses, Bytes.bytesOf, Bytes.opsOf, Machine.visitsOf, Laws.Encoding.steps-long}
-use Rattle.steps.specs.{Translating.stepsOf, Translating.roomFor, Translating.writesOr, Translating.afterTable, Translating.translates, Translating.roomAfter}
-use Rattle.steps.specs.{Translating.roomLeft, Running.runs, Window.translated-well-formed, Window.window-runs, AnyList.window-any}
+use Rattle.steps.specs.{Translating.stepsOf, Translating.roomFor, Translating.writesOr, Translating.afterTable, Translating.translates}
+use Rattle.steps.specs.{Translating.roomAfter, Translating.roomLeft, Running.runs, Window.translated-well-formed, Window.window-runs, AnyList.window-any}
 
 -- ---- the start of the room is what was written
 

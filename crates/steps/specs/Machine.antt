@@ -2,7 +2,7 @@
 use Rattle.words.specs.Prelude.{ℕ, zero, suc, _+_, _-_, Bool, true, false, not, cond, List, [], _∷_, getD, drop, ltb}
 use Rattle.rows.specs.{History.History}
 use Rattle.table.specs.{Trees.Operand, Trees.const, Trees.ref, Trees.price, Trees.extreme, Trees.inPosition, Trees.barsSince}
-use Rattle.rules.specs.{declared.position.PositionState.PositionState, declared.values.Value.Value, declared.values.Value.the-variants.Missing, Values.both}
+use Rattle.rules.specs.{declared.position.PositionState.PositionState, declared.values.Value.Value, declared.values.Value.the-variants.Missing, Values.combined}
 use Rattle.rules.specs.{Values.compared, Values.crossed, Values.within, Meaning.value, Meaning.holds, Meaning.newest}
 use Rattle.steps.specs.{declared.machine.Ran.Ran, declared.step.Op.Op, declared.step.Op.the-variants.Const, declared.step.Op.the-variants.Ref}
 use Rattle.steps.specs.{declared.step.Op.the-variants.Price, declared.step.Op.the-variants.Arith, declared.step.Op.the-variants.Compare}
@@ -65,7 +65,7 @@ effect h s (Const bits n) a b c d y = giving 0 (ago h (const bits) n) y
 effect h s (Ref k n) a b c d y = giving 0 (ago h (ref k) n) y
 effect h s (Price p n) a b c d y = giving 0 (ago h (price p) n) y
 effect h s (Extreme kind over n back) a b c d y = viewing n (ago h (extreme kind over n) back) y
-effect h s (Arith k) a b c d y = giving 2 (both k b a) y
+effect h s (Arith k) a b c d y = giving 2 (combined k b a) y
 effect h s (Compare k) a b c d y = saying 2 (compared k b a)
 effect h s (Cross k) a b c d y = saying 4 (crossed k d c b a)
 effect h s Between a b c d y = saying 3 (within c b a)
@@ -86,8 +86,8 @@ given true v vs = v ∷ vs
 given false v vs = vs
 
 -- the values after a step
-unfoldable pub after : Effect → Values → Values
-after e v = record { stack = given (e .gives) (e .value) (drop (e .take) (v .stack)); answer = e .answer }
+unfoldable pub afterStep : Effect → Values → Values
+afterStep e v = record { stack = given (e .gives) (e .value) (drop (e .take) (v .stack)); answer = e .answer }
 
 -- ---- a run
 
@@ -95,19 +95,19 @@ after e v = record { stack = given (e .gives) (e .value) (drop (e .take) (v .sta
 unfoldable pub run : History → PositionState → List Op → ℕ → Values → Values
 run h s [] k v = v
 run h s (x ∷ xs) (suc k) v = run h s xs k v
-run h s (x ∷ xs) zero v = run h s xs (does h s x v .skip) (after (does h s x v) v)
+run h s (x ∷ xs) zero v = run h s xs (does h s x v .skip) (afterStep (does h s x v) v)
 
 -- "The definition of a run gives the places visited, in rising order": the list begins at place p.
 unfoldable pub places : History → PositionState → ℕ → List Op → ℕ → Values → List ℕ
 places h s p [] k v = []
 places h s p (x ∷ xs) (suc k) v = places h s (p + 1) xs k v
-places h s p (x ∷ xs) zero v = p ∷ places h s (p + 1) xs (does h s x v .skip) (after (does h s x v) v)
+places h s p (x ∷ xs) zero v = p ∷ places h s (p + 1) xs (does h s x v .skip) (afterStep (does h s x v) v)
 
 -- "a run reports how many steps it visited", a look over n rows counting n times
 unfoldable pub visitCount : History → PositionState → List Op → ℕ → Values → ℕ
 visitCount h s [] k v = 0
 visitCount h s (x ∷ xs) (suc k) v = visitCount h s xs k v
-visitCount h s (x ∷ xs) zero v = does h s x v .visits + visitCount h s xs (does h s x v .skip) (after (does h s x v) v)
+visitCount h s (x ∷ xs) zero v = does h s x v .visits + visitCount h s xs (does h s x v .skip) (afterStep (does h s x v) v)
 
 -- The answer of a whole list.
 abbrev pub answers : History → PositionState → List Op → Bool

@@ -8,8 +8,9 @@ use Rattle.rules.specs.{declared.position.PositionState.PositionState, declared
 use Rattle.rules.specs.{Values.tested, Values.compared, Meaning.newest, Meaning.there, Meaning.value, Answers.stateRight}
 use Rattle.steps.specs.{declared.step.Op.Op, declared.step.Op.the-variants.Const, declared.step.Op.the-variants.Compare}
 use Rattle.steps.specs.{declared.running.RunAnswer.the-variants.Runs, Bytes.isComparison, Bytes.bytesOf, Machine.Values, Machine.ago, Machine.effect}
-use Rattle.steps.specs.{Machine.does, Machine.after, Machine.run, Machine.visitCount, Machine.start, Running.ranIf, Running.runs}
-use Rattle.steps.specs.{Laws.TranslatedSteps.FieldsRight, Laws.TranslatedSteps.AllFieldsRight, Laws.WrittenSteps.well-formed, Laws.WrittenSteps.reads-back}
+use Rattle.steps.specs.{Machine.does, Machine.afterStep, Machine.run, Machine.visitCount, Machine.start, Running.ranIf, Running.runs}
+use Rattle.steps.specs.{Laws.TranslatedSteps.FieldsRight, Laws.TranslatedSteps.AllFieldsRight, Laws.WrittenSteps.well-formed}
+use Rattle.steps.specs.{Laws.WrittenSteps.reads-back}
 use lib.Ieee as Ieee
 
 five : ℕ
@@ -44,14 +45,14 @@ module _ (h : History) (s : PositionState) where
 
   -- whatever values lie below
   says-no : (n : ℕ) (v : Values) → run h s (after-zeros n) 0 v .answer ≡ false
-  unfolding after-zeros last run does effect after
+  unfolding after-zeros last run does effect afterStep
   says-no zero v = not-below
-  says-no (suc n) v = says-no n (after (does h s (Const 0 0) v) v)
+  says-no (suc n) v = says-no n (afterStep (does h s (Const 0 0) v) v)
 
   sees-all : (n : ℕ) (v : Values) → visitCount h s (after-zeros n) 0 v ≡ n + 3
   unfolding after-zeros last visitCount does effect
   sees-all zero v = refl
-  sees-all (suc n) v = omega (arith, sees-all n (after (does h s (Const 0 0) v) v))
+  sees-all (suc n) v = omega (arith, sees-all n (afterStep (does h s (Const 0 0) v) v))
 
 module _ (K D : ℕ) (deep : 1 ≤ D) where
   all-right : (n : ℕ) → AllFieldsRight K D (after-zeros n)

@@ -4,9 +4,9 @@ use Rattle.floats.specs.{Floats.zero, Floats.abs}
 use Rattle.rows.specs.{History.historyOf, History.lastRows}
 use Rattle.table.specs.{Trees.Operand, Trees.const, Trees.ref, Trees.price, Trees.prev, Trees.Condition, Trees.compare, Trees.cross, Trees.trend, Trees.reach}
 use Rattle.table.specs.{Trees.reachOf}
-use Rattle.rules.specs.{declared.position.PositionState.PositionState, declared.position.Entered.the-variants.Never, Values.priceOf, Values.slotOf, Values.both}
-use Rattle.rules.specs.{Values.tested, Values.compared, Values.crossed, Meaning.newest, Meaning.there, Meaning.value}
-use Rattle.steps.specs.{Machine.ago, Machine.effect, Machine.does, Machine.after, Machine.run, Machine.answers, Translation.code, Translation.codeOf}
+use Rattle.rules.specs.{declared.position.PositionState.PositionState, declared.position.Entered.the-variants.Never, Values.priceOf, Values.slotOf}
+use Rattle.rules.specs.{Values.combined, Values.tested, Values.compared, Values.crossed, Meaning.newest, Meaning.there, Meaning.value}
+use Rattle.steps.specs.{Machine.ago, Machine.effect, Machine.does, Machine.afterStep, Machine.run, Machine.answers, Translation.code, Translation.codeOf}
 use lib.Ieee as Ieee
 use Rattle.table.specs.Named as Named
 
@@ -60,6 +60,6 @@ abbrev split : Pair
 split = record { enough = true; short = false }
 
 pub one-row-less : cases ≡ (split ∷ split ∷ split ∷ split ∷ split ∷ split ∷ [])
-unfolding row ten eleven flat overLast both-ways close rising falling cases historyOf lastRows newest there value priceOf slotOf both tested compared
-    crossed reach reachOf ago effect does after run code codeOf abs Ieee.lt Ieee.le Ieee.sub Ieee.ofBits
+unfolding row ten eleven flat overLast both-ways close rising falling cases historyOf lastRows newest there value priceOf slotOf combined tested compared
+    crossed reach reachOf ago effect does afterStep run code codeOf abs Ieee.lt Ieee.le Ieee.sub Ieee.ofBits
 one-row-less = refl

@@ -8,7 +8,7 @@ use Rattle.steps.specs.{declared.step.Op.the-variants.Extreme, declared.
 use Rattle.steps.specs.{declared.step.Op.the-variants.Cross, declared.step.Op.the-variants.Between, declared.step.Op.the-variants.Answer}
 use Rattle.steps.specs.{declared.step.Op.the-variants.Turn, declared.step.Op.the-variants.InPosition, declared.step.Op.the-variants.BarsSinceEntry}
 use Rattle.steps.specs.{declared.step.Op.the-variants.JumpIf, declared.step.Op.the-variants.Unknown, Machine.Values, Machine.effect, Machine.does}
-use Rattle.steps.specs.{Machine.after, Machine.places, Machine.visited, Machine.visitCount, Machine.visitsOf}
+use Rattle.steps.specs.{Machine.afterStep, Machine.places, Machine.visited, Machine.visitCount, Machine.visitsOf}
 
 -- each place lies at or after p, and before the next: so none stands there twice
 pub data StrictlyRising : ℕ → List ℕ → Type 0 where
@@ -67,13 +67,13 @@ module _ (h : History) (s : PositionState) where
   unfolding places
   rise p [] k v = end
   rise p (x ∷ xs) (suc k) v = later {q = p + 1} (omega arith) (rise (p + 1) xs k v)
-  rise p (x ∷ xs) zero v = next {p = p} {q = p} (omega arith) (rise (p + 1) xs (does h s x v .skip) (after (does h s x v) v))
+  rise p (x ∷ xs) zero v = next {p = p} {q = p} (omega arith) (rise (p + 1) xs (does h s x v .skip) (afterStep (does h s x v) v))
 
   bound : (p : ℕ) (xs : List Op) (k : ℕ) (v : Values) → length (places h s p xs k v) ≤ length xs
   unfolding places
   bound p [] k v = omega arith
   bound p (x ∷ xs) (suc k) v = omega (arith, bound (p + 1) xs k v)
-  bound p (x ∷ xs) zero v = omega (arith, bound (p + 1) xs (does h s x v .skip) (after (does h s x v) v))
+  bound p (x ∷ xs) zero v = omega (arith, bound (p + 1) xs (does h s x v .skip) (afterStep (does h s x v) v))
 
   -- the places visited, and the visits that they count
   between : (p : ℕ) (xs : List Op) (k : ℕ) (v : Values)
@@ -82,7 +82,7 @@ module _ (h : History) (s : PositionState) where
   between p [] k v = omega arith
   between p (x ∷ xs) (suc k) v = let r = between (p + 1) xs k v in (r .0, omega (arith, r .1))
   between p (x ∷ xs) zero v =
-      let r = between (p + 1) xs (does h s x v .skip) (after (does h s x v) v) in
+      let r = between (p + 1) xs (does h s x v .skip) (afterStep (does h s x v) v) in
       let c = visit-counts x v in
       (omega (arith, r .0, c), omega (arith, r .1, c))
 

@@ -19,21 +19,21 @@ unfoldable pub rowsFit : ℕ → ℕ → ℕ → Bool
 rowsFit skip n bits = leb 1 skip && leb (skip - 1) n && eqb bits 0
 
 -- "each of a known kind with unused fields zero": what the kind uses stands as 0 here.
-unfoldable pub plain : Step → Op → Bool
-plain x (Const bits n) = zeros (x .selector) (x .skip) 0 0
-plain x (Ref k n) = zeros 0 (x .skip) 0 (x .bits)
-plain x (Price p n) = zeros 0 (x .skip) 0 (x .bits)
-plain x (Extreme kind over n back) = rowsFit (x .skip) (x .n) (x .bits)
-plain x (Arith k) = zeros (x .selector) (x .skip) (x .n) (x .bits)
-plain x (Compare k) = zeros (x .selector) (x .skip) (x .n) (x .bits)
-plain x (Cross k) = zeros (x .selector) (x .skip) (x .n) (x .bits)
-plain x Between = zeros (x .selector) (x .skip) (x .n) (x .bits)
-plain x (Answer w) = zeros (x .selector) (x .skip) (x .n) (x .bits)
-plain x Turn = zeros (x .selector) (x .skip) (x .n) (x .bits)
-plain x (InPosition w) = zeros 0 (x .skip) (x .n) (x .bits)
-plain x (BarsSinceEntry p k) = zeros 0 (x .skip) 0 (x .bits)
-plain x (JumpIf w skip) = zeros (x .selector) 0 (x .n) (x .bits)
-plain x Unknown = false
+unfoldable pub unusedFieldsZero : Step → Op → Bool
+unusedFieldsZero x (Const bits n) = zeros (x .selector) (x .skip) 0 0
+unusedFieldsZero x (Ref k n) = zeros 0 (x .skip) 0 (x .bits)
+unusedFieldsZero x (Price p n) = zeros 0 (x .skip) 0 (x .bits)
+unusedFieldsZero x (Extreme kind over n back) = rowsFit (x .skip) (x .n) (x .bits)
+unusedFieldsZero x (Arith k) = zeros (x .selector) (x .skip) (x .n) (x .bits)
+unusedFieldsZero x (Compare k) = zeros (x .selector) (x .skip) (x .n) (x .bits)
+unusedFieldsZero x (Cross k) = zeros (x .selector) (x .skip) (x .n) (x .bits)
+unusedFieldsZero x Between = zeros (x .selector) (x .skip) (x .n) (x .bits)
+unusedFieldsZero x (Answer w) = zeros (x .selector) (x .skip) (x .n) (x .bits)
+unusedFieldsZero x Turn = zeros (x .selector) (x .skip) (x .n) (x .bits)
+unusedFieldsZero x (InPosition w) = zeros 0 (x .skip) (x .n) (x .bits)
+unusedFieldsZero x (BarsSinceEntry p k) = zeros 0 (x .skip) 0 (x .bits)
+unusedFieldsZero x (JumpIf w skip) = zeros (x .selector) 0 (x .n) (x .bits)
+unusedFieldsZero x Unknown = false
 
 -- "a slot below K and a look-back below D", the look-back to the oldest of n rows
 unfoldable pub seriesWithin : ℕ → Series → Bool
@@ -61,7 +61,7 @@ bounded K D after (JumpIf w skip) = leb skip after
 bounded K D after Unknown = true
 
 unfoldable pub goodStep : ℕ → ℕ → ℕ → Step → Bool
-goodStep K D after x = plain x (opOf x) && bounded K D after (opOf x)
+goodStep K D after x = unusedFieldsZero x (opOf x) && bounded K D after (opOf x)
 
 -- "its lowest bad step", of m steps from place p on
 unfoldable pub formedFrom : ℕ → ℕ → List ℕ → ℕ → ℕ → Formed

@@ -8,8 +8,9 @@ use Rattle.roundtrip.specs.{Laws.AcceptedWithin.tree-within, Laws.AcceptedWritt
 use Rattle.rules.specs.{declared.position.PositionState.PositionState, Meaning.says, Answers.stateRight, Laws.Answers.absent-says, Window.window}
 use Rattle.steps.specs.{declared.wellformed.Formed.the-variants.Well, declared.running.RunAnswer.the-variants.Runs, Machine.run, Machine.answers}
 use Rattle.steps.specs.{Machine.visitsOf, Bytes.bytesOf, Bytes.opsFrom, Bytes.opsOf, Bytes.stepsRun, Translation.codeOf, Laws.Compiled.compiled}
-use Rattle.steps.specs.{Room.two-a-node, WellFormed.formedFrom, WellFormed.formed, Laws.TranslatedSteps.AllFieldsRight, Laws.TranslatedSteps.translated-right}
-use Rattle.steps.specs.{Laws.WrittenSteps.well-formed, Laws.WrittenSteps.reads-back, Translating.stepsOf, Running.ranIf, Running.runs}
+use Rattle.steps.specs.{Room.two-a-node, WellFormed.formedFrom, WellFormed.formed, Laws.TranslatedSteps.AllFieldsRight}
+use Rattle.steps.specs.{Laws.TranslatedSteps.translated-right, Laws.WrittenSteps.well-formed, Laws.WrittenSteps.reads-back, Translating.stepsOf}
+use Rattle.steps.specs.{Running.ranIf, Running.runs}
 
 module _ (t : List ℕ) (n r : ℕ) (ok : checked t ≡ Accepted n r) (bytes : Bytes t) (x : ℕ) (l : x < 4) where
   -- ---- a tree that is there

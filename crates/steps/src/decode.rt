@@ -8,7 +8,7 @@ ghost use Prim.Native.Nat.{_+_, _-_, _*_, _<_, _≤_};
 ghost use lib.ListN.{length};
 ghost use Rattle.table.specs.Bytes.{u16, u32, u64};
 ghost use Rattle.steps.specs.Bytes.{readStep, stepAt, stepsIn, opOf, extremeOp, operandOp, testOp, answerOp};
-ghost use Rattle.steps.specs.Bytes.{isOperation, isComparison, isTest};
+ghost use Rattle.steps.specs.Bytes.{isOperation, isComparison, isTestStep};
 
 // A step has the number of the kind that it stands for. Jumps stand for no kind and have numbers of their own.
 pub const JUMP_AT_NO: u8 = 32;
@@ -46,7 +46,7 @@ pub(crate) fn is_comparison(step: u8) -> bool
 // Whether a step tests values: a comparison, a cross or Between. It takes 64 bits, since it is asked of a step's first eight bytes as one
 // number too, of which the kind is the lowest: a yes says that the others are zero.
 pub(crate) fn is_test(step: u64) -> bool
-    ensures { λ r. ⌜ r ≡ isTest step ⌝ }
+    ensures { λ r. ⌜ r ≡ isTestStep step ⌝ }
 {
     if step < FIRST_TEST as u64 {
         return false;

@@ -9,7 +9,7 @@ ghost use Prim.Native.Nat.{_+_, _<_, _≤_, min};
 ghost use lib.Dec.{ltb, leb};
 ghost use Rattle.rows.specs.History.{History};
 ghost use Rattle.rules.specs.Values as Values;
-ghost use Rattle.steps.specs.Bytes.{opOf, isOperation, isTest};
+ghost use Rattle.steps.specs.Bytes.{opOf, isOperation, isTestStep};
 ghost use Rattle.steps.specs.Machine.{saying, effect};
 
 // Whether a kind is one from `low` on and below `high`.
@@ -35,7 +35,7 @@ fn position(wanted: bool, qty: f64) -> bool
 // What the answer is after a step that neither takes nor gives a value, nor jumps. One of no known kind leaves it as it was.
 pub(crate) fn said(x: Step, s: PositionState, answer: bool) -> bool
     requires { ⌜ (1 ≤ x .kind → 4 ≤ x .kind) × (isOperation (x .kind) ≡ false) × (9 ≤ x .kind → 13 ≤ x .kind)
-        × (isTest (x .kind) ≡ false) × (32 ≤ x .kind → 34 ≤ x .kind) ⌝ }
+        × (isTestStep (x .kind) ≡ false) × (32 ≤ x .kind → 34 ≤ x .kind) ⌝ }
     ensures { λ r. ⌜ ((h : History) (a b c d : Value) → effect h s (opOf x) a b c d answer ≡ saying 0 r) ⌝ }
 {
     if x.kind < 27 {

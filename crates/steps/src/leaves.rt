@@ -141,13 +141,13 @@ pub(crate) fn price_in(rows: &[u64], base: usize, selector: u8) -> f64
     if selector < 5 {
         return field_in(rows, base, selector as usize + 1);
     }
-    let high = field_in(rows, base, rows::HIGH);
-    let low = field_in(rows, base, rows::LOW);
-    let close = field_in(rows, base, rows::CLOSE);
+    let high = field_in(rows, base, words::places::BAR_HIGH);
+    let low = field_in(rows, base, words::places::BAR_LOW);
+    let close = field_in(rows, base, words::places::BAR_CLOSE);
     if selector == 5 {
         return (high + low + close) / 3.0;
     }
-    let open = field_in(rows, base, rows::OPEN);
+    let open = field_in(rows, base, words::places::BAR_OPEN);
     (open + high + low + close) / 4.0
 }
 
@@ -156,7 +156,7 @@ pub(crate) fn slot_in(rows: &[u64], base: usize, slot: u64) -> Value
     requires { ⌜ (base + 7 + slot < length (now rows)) × (slot < 64) ⌝ }
     ensures { λ r. ⌜ r ≡ slotOf (wordsFrom (now (rows .entry)) base) slot ⌝ }
 {
-    let mask = rows[base + rows::MASK];
+    let mask = rows[base + words::places::BAR_MASK];
     if (mask >> slot) % 2 == 1 {
         Value::Number(field_in(rows, base, words::limits::ROW_FIXED + slot as usize))
     } else {

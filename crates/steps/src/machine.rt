@@ -118,7 +118,7 @@ fn steps_run(list: &[u8]) -> usize
 }
 
 // A run that stopped because a value found no place.
-fn stopped(answer: bool, visits: usize) -> Tried
+fn out_of_places(answer: bool, visits: usize) -> Tried
     ensures { λ r. ⌜ r .full ≡ true ⌝ }
 {
     Tried {
@@ -197,12 +197,12 @@ fn run_with(
             let a = stack::at(numbers, there, top + 3);
             let b = stack::at(numbers, there, top + 2);
             let under = left(top, 2);
-            stack::put(numbers, there, under + 4, values::both(kind, b, a));
+            stack::put(numbers, there, under + 4, values::combined(kind, b, a));
             top = under + 1;
             p += 1;
         } else if doing::is_among(kind, 9, 13) {
             if top == places {
-                return stopped(answer, visits);
+                return out_of_places(answer, visits);
             }
             visits += decode::before(x.skip) as usize;
             let value = look(x, rows, slots, held, first);

@@ -9,7 +9,7 @@ ghost use mathlib.Core.Bool.{true};
 ghost use Prim.Native.Nat.{ℕ, _+_, _/_, _%_, _<_, _≤_};
 ghost use lib.ListN.{length};
 ghost use Rattle.steps.specs.Bytes.{fields, readStep};
-ghost use Rattle.steps.specs.WellFormed.{zeros, rowsFit, plain, seriesWithin, looksWithin, bounded, goodStep, formed};
+ghost use Rattle.steps.specs.WellFormed.{zeros, rowsFit, unusedFieldsZero, seriesWithin, looksWithin, bounded, goodStep, formed};
 
 // Whether a list of steps is well formed, and if not, its lowest bad step (0 for a bad length).
 pub enum Formed {
@@ -68,8 +68,8 @@ fn looks_within(slots: u64, depth: u64, over: Series, n: u64, back: u64) -> bool
 }
 
 // Whether the step is of a known kind and the fields that its kind does not use are zero.
-fn plain(x: Step, op: Op) -> bool
-    ensures { λ r. ⌜ r ≡ plain x op ⌝ }
+fn unused_fields_zero(x: Step, op: Op) -> bool
+    ensures { λ r. ⌜ r ≡ unusedFieldsZero x op ⌝ }
 {
     match op {
         Op::Const(_, _) => zeros(x.selector, x.skip, 0, 0),
@@ -116,7 +116,7 @@ fn good_step(slots: u64, depth: u64, after: u64, x: Step) -> bool
     ensures { λ r. ⌜ r ≡ goodStep slots depth after x ⌝ }
 {
     let op = decode::op_of(x);
-    if plain(x, op) {
+    if unused_fields_zero(x, op) {
         return bounded(slots, depth, after, op);
     }
     false

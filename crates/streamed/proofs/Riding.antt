@@ -3,8 +3,9 @@ use Rattle.words.specs.Prelude.{ℕ, _+_, _-_, _*_, _/_, _<_, _≤_, _≡_, sym
 use Rattle.words.specs.Prelude.{le-div-iff-mul-le, arith, ne-eqb, eqb, length, take, drop, length-drop, length-take-le}
 use Rattle.words.specs.{Laws.Records.record-ends, Limits.barWords}
 use Rattle.records.specs.{Lent.Rooms, Lent.Lists, Lent.rooms}
-use Rattle.engine.specs.{Day.cut}
-use Rattle.accounts.specs.{Laws.Own.own-front, Laws.Stream.cut-length, Laws.Stream.next-record, Laws.Stream.recordAt, Laws.Stream.same-record, Own.ownBar, Own.ownInto}
+use Rattle.engine.specs.{Day.inRecords}
+use Rattle.accounts.specs.{Laws.Own.own-front, Laws.Stream.records-length, Laws.Stream.next-record, Laws.Stream.recordAt, Laws.Stream.same-record, Own.ownBar}
+use Rattle.accounts.specs.{Own.ownInto}
 use Rattle.replies.specs.{Call.Call}
 use Rattle.stepping.specs.{Bars.StepLent, Bars.stepCall, WordRun.WordRun, WordRun.callsOver}
 use lib.ListN.{length-map}
@@ -15,11 +16,11 @@ moreCalls k r = record { done = r .done + k; answer = r .answer; lent = r .lent 
 
 module _ (settings : List ℕ) (ls : Lists) (own : List ℕ → List ℕ) (bars : List ℕ) (count w : ℕ) (given : StepLent) where
   abbrev all : WordRun
-  all = callsOver settings ls given (map own (cut count w bars))
+  all = callsOver settings ls given (map own (inRecords count w bars))
 
   -- the calls over all bars are those over the bars left, after those done
   abbrev pub CallsAfter : ℕ → StepLent → Type 0
-  CallsAfter done lent = all ≡ moreCalls done (callsOver settings ls lent (map own (cut (count - done) w (drop (done * w) bars))))
+  CallsAfter done lent = all ≡ moreCalls done (callsOver settings ls lent (map own (inRecords (count - done) w (drop (done * w) bars))))
 
   pub calls-none : CallsAfter 0 given
   calls-none =
@@ -29,7 +30,7 @@ module _ (settings : List ℕ) (ls : Lists) (own : List ℕ → List ℕ) (bars 
       rw (left, start, none)
 
   pub calls-all : (done : ℕ) {lent : StepLent} → count ≤ done → CallsAfter done lent → all ≡ record { done = done; answer = 0; lent = lent }
-  unfolding cut callsOver
+  unfolding inRecords callsOver
   calls-all done h after =
       let none : count - done ≡ 0 = omega arith in
       let zero-more : 0 + done ≡ done = omega arith in
@@ -104,9 +105,10 @@ calls-few settings ls (bar ∷ bars) lent =
     go false h = omega arith
 
 pub ride-within : (settings : List ℕ) (ls : Lists) (own : List ℕ → List ℕ) (bars : List ℕ) (count w : ℕ) (given : StepLent) {d a : ℕ} {l : StepLent}
-    → callsOver settings ls given (map own (cut count w bars)) ≡ record { done = d; answer = a; lent = l } → d ≤ count
+    → callsOver settings ls given (map own (inRecords count w bars)) ≡ record { done = d; answer = a; lent = l } → d ≤ count
 ride-within settings ls own bars count w given {d} {a} {l} e =
-    let few : callsOver settings ls given (map own (cut count w bars)) .done ≤ length (map own (cut count w bars)) = calls-few settings ls _ given in
-    let long : length (map own (cut count w bars)) ≡ count = length-map (cut count w bars) own ∙ cut-length count w bars in
-    let so : d ≤ length (map own (cut count w bars)) = rw e at few in
+    let few : callsOver settings ls given (map own (inRecords count w bars)) .done ≤ length (map own (inRecords count w bars)) =
+    calls-few settings ls _ given in
+    let long : length (map own (inRecords count w bars)) ≡ count = length-map (inRecords count w bars) own ∙ records-length count w bars in
+    let so : d ≤ length (map own (inRecords count w bars)) = rw e at few in
     omega (arith, long, so)

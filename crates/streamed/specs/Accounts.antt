@@ -5,8 +5,8 @@ use Rattle.words.specs.{Limits.barWords, Words.word, Words.overwrite}
 use Rattle.records.specs.{Lent.Rooms, Lent.Lists, Lent.rooms, Lent.lists, Settings.settingsOf}
 use Rattle.refusals.specs.{declared.verdict.Verdict.Verdict, declared.verdict.Verdict.the-variants.Fine, declared.verdict.Verdict.the-variants.Bad, Lines.Line}
 use Rattle.refusals.specs.{Lines.line, Lines.judged}
-use Rattle.engine.specs.{Day.cut}
-use Rattle.accounts.specs.{declared.stream.Taken.Taken, Own.ownBar, Profile.profileJudged, Status.statusWords}
+use Rattle.engine.specs.{Day.inRecords}
+use Rattle.accounts.specs.{declared.stream.StreamTaken.StreamTaken, Own.ownBar, Profile.profileJudged, Status.statusWords}
 use Rattle.accounts.specs.{Status.isStopped, Status.stoppedWith, Stream.streamTaken}
 use Rattle.replies.specs.{Call.Call, Call.answerWord}
 use Rattle.stepping.specs.{WordRun.WordRun, WordRun.callsOver, WordRun.answerOf}
@@ -101,9 +101,9 @@ unfoldable pub streamAfter : List ℕ → ℕ → ℕ → List ℕ
 streamAfter stream seen done = cond (eqb done 0) stream (overwrite stream 1 ((seen + done) ∷ []))
 
 -- the stream's bars first, then each account over those that it took
-unfoldable pub afterBars : ℕ → ℕ → Taken → List ℕ → Four → AccountsLent → AccountsLent
+unfoldable pub afterBars : ℕ → ℕ → StreamTaken → List ℕ → Four → AccountsLent → AccountsLent
 afterBars S seen t bars g l =
-    let own = cut (t .done) (barWords S) bars in
+    let own = inRecords (t .done) (barWords S) bars in
     record {
       stream = streamAfter (l .stream) seen (t .done);
       done = t .done;

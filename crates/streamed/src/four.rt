@@ -7,7 +7,7 @@ ghost use lib.ListN.{length};
 ghost use Rattle.words.specs.Limits.{barWords, mostSlots};
 ghost use Rattle.records.specs.Lent.{rooms, lists};
 ghost use Rattle.refusals.specs.Lines.{judged};
-ghost use Rattle.engine.specs.Day.{cut};
+ghost use Rattle.engine.specs.Day.{inRecords};
 ghost use Rattle.accounts.specs.Own.{ownBar};
 ghost use Rattle.accounts.specs.Laws.Stream.{Within};
 ghost use Rattle.streamed.specs.Accounts.{given, lent, accountAfter, accountsLines, streamAfter, accountsCall};
@@ -116,7 +116,7 @@ fn ride<'a>(
     requires { ⌜ (stream ≤ mostSlots) × (slots ≤ stream) × (count * barWords stream ≤ length (now bars)) ⌝ }
     ensures { λ r. ⌜ callsOver (now (settings .entry)) (lists (now (entry .entry)) (now («exit» .entry)) [] [])
         (record { state = now (state .entry); rooms = rooms (now (rows .entry)) (now (equity .entry)) (now (trades .entry)) })
-        (map (ownBar stream slots) (cut count (barWords stream) (now (bars .entry))))
+        (map (ownBar stream slots) (inRecords count (barWords stream) (now (bars .entry))))
         ≡ record {
           done = r .done;
           answer = r .answer;
@@ -167,7 +167,7 @@ fn account<'a>(
     status: &mut [u64],
 )
     requires { ⌜ Within stream seen (now bars) count ⌝ }
-    ensures { λ _. ⌜ accountAfter stream seen (cut count (barWords stream) (now (bars .entry)))
+    ensures { λ _. ⌜ accountAfter stream seen (inRecords count (barWords stream) (now (bars .entry)))
         (given (now (table .entry)) (now (settings .entry)) (now (entry .entry)) (now («exit» .entry)))
         (lent (now (state .entry)) (now (rows .entry)) (now (equity .entry)) (now (trades .entry)) (now (status .entry)))
         ≡ lent (now (state .exit)) (now (rows .exit)) (now (equity .exit)) (now (trades .exit)) (now (status .exit)) ⌝ }

@@ -4,10 +4,11 @@ use Rattle.words.specs.Prelude.{_≡_, refl, sym, _∙_, ap, cond, ⊎-elim, Li
 use Rattle.words.specs.Prelude.{lt-ltb, le-ltb, eq-eqb, ne-eqb}
 use Rattle.words.specs.{Limits.mostNodes, declared.refusal.Refusal.Refusal, Outcome.refusal}
 use Rattle.table.specs.{declared.places.Place.Place, declared.places.Place.the-variants.Nowhere, declared.places.Place.the-variants.At}
-use Rattle.table.specs.{declared.answer.Answer.Answer, declared.answer.Answer.the-variants.Accepted, declared.answer.Answer.the-variants.Refused, Bytes.u16}
-use Rattle.table.specs.{Header.total, Header.headerRefusal, Header.root, Nodes.wrongNode, Checked.orRefused, Checked.orHeader, Checked.from9, Checked.from8}
-use Rattle.table.specs.{Checked.from7, Checked.checkedUpTo, Ends.endsFor, Ends.endAt, Ends.from, Ends.endOfNode, Ends.endsAll, Ends.Linked, Passes.EndedFrom}
-use Rattle.table.specs.{Passes.Roots, Passes.EndedAll, Passes.LinkedAll, Laws.Ends.from-long, Laws.Ends.from-at, Laws.Header.header-right}
+use Rattle.table.specs.{declared.answer.Answer.Answer, declared.answer.Answer.the-variants.Accepted, declared.answer.Answer.the-variants.Refused}
+use Rattle.table.specs.{Bytes.u16, Header.total, Header.headerRefusal, Header.root, Nodes.wrongNode, Checked.orRefused, Checked.orHeader, Checked.from9}
+use Rattle.table.specs.{Checked.from8, Checked.from7, Checked.checkedUpTo, Ends.endsFor, Ends.endAt, Ends.from, Ends.endOfNode, Ends.endsAll, Ends.Linked}
+use Rattle.table.specs.{Passes.EndedFrom, Passes.Roots, Passes.EndedAll, Passes.LinkedAll, Laws.Ends.from-long, Laws.Ends.from-at}
+use Rattle.table.specs.{Laws.Header.header-right}
 use Rattle.table.proofs.{Linked.end-word}
 
 -- One rule: it is broken, or what is left decides.

@@ -1,14 +1,14 @@
 -- The four trees together.
 -- Assumes nothing.
-use Rattle.words.specs.Prelude.{_≡_, refl, sym, _∙_, ap, subst, ⊎-elim, List, [], _∷_, ℕ, zero, suc, _+_, _-_, _≤_, _<_, max, min, arith, eq-zero-or-pos, length}
-use Rattle.words.specs.Prelude.{getD, replicate, lt-ltb, le-ltb}
+use Rattle.words.specs.Prelude.{_≡_, refl, sym, _∙_, ap, subst, ⊎-elim, List, [], _∷_, ℕ, zero, suc, _+_, _-_, _≤_, _<_, max, min, arith, eq-zero-or-pos}
+use Rattle.words.specs.Prelude.{length, getD, replicate, lt-ltb, le-ltb}
 use Rattle.words.specs.{Limits.mostNodes, Limits.mostReach, Limits.mostRows, Outcome.refusal}
 use Rattle.table.specs.{declared.places.Place.Place, declared.places.Place.the-variants.Nowhere, declared.places.Place.the-variants.At}
 use Rattle.table.specs.{declared.answer.Answer.the-variants.Accepted, declared.answer.Answer.the-variants.Refused, Bytes.u16, Header.count, Header.root}
-use Rattle.table.specs.{Nodes.sortAt, Order.fits, Order.misfit, Order.firstPlace, Order.ofFour, Order.misfits, Forest.trees, Forest.forestOf, Nesting.deeper}
-use Rattle.table.specs.{Nesting.tooDeep, Reach.forestReach, Reach.treeReach, Reach.tooFar, Reach.rowsNeeded, Reach.farAt, Checked.orRefused, Checked.from9}
-use Rattle.table.specs.{Passes.Ended, Passes.EndedFrom, Passes.Ordered, Passes.Roots, Passes.EndedAll, Passes.LinkedTree, Passes.LinkedAll, Passes.misfitFrom}
-use Rattle.table.specs.{Laws.Accepted.of-four, Laws.Order.first-sort, Laws.Order.never-at}
+use Rattle.table.specs.{Nodes.sortAt, Order.fits, Order.misfit, Order.firstPlace, Order.ofFour, Order.misfits, Forest.trees, Forest.forestOf}
+use Rattle.table.specs.{Nesting.deeper, Nesting.tooDeep, Reach.forestReach, Reach.treeReach, Reach.tooFar, Reach.rowsNeeded, Reach.farAt}
+use Rattle.table.specs.{Checked.orRefused, Checked.from9, Passes.Ended, Passes.EndedFrom, Passes.Ordered, Passes.Roots, Passes.EndedAll}
+use Rattle.table.specs.{Passes.LinkedTree, Passes.LinkedAll, Passes.misfitFrom, Laws.Accepted.of-four, Laws.Order.first-sort, Laws.Order.never-at}
 use Rattle.table.proofs.{Prefix.fits-two, Prefix.fits-soon, Prefix.pass, Linked.linked, Linked.word-end}
 
 root-zero : (t : List ℕ) → 0 ≡ root t 0

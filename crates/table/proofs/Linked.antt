@@ -1,8 +1,8 @@
 -- Where rule 7 is kept, the words that its pass leaves are the subtree ends, and lead through the trees.
 -- Assumes nothing.
 use Rattle.words.specs.Prelude.{_≡_, sym, _∙_, subst, ⊎-elim, List, [], _∷_, ℕ, _+_, _-_, _≤_, _<_, arith, eq-zero-or-pos, lt-of-le-of-lt, getD}
-use Rattle.table.specs.{declared.places.Place.the-variants.Nowhere, Nodes.sortAt, Order.fits, Order.misfit, Ends.placeOr, Ends.endAt, Ends.Link, Ends.Linked}
-use Rattle.table.specs.{Passes.Ended, Passes.EndedFrom, Passes.misfitFrom, Laws.Order.never-at, Laws.Order.each, Laws.Order.link-end}
+use Rattle.table.specs.{declared.places.Place.the-variants.Nowhere, Nodes.sortAt, Order.fits, Order.misfit, Ends.placeOr, Ends.endAt, Ends.Link}
+use Rattle.table.specs.{Ends.Linked, Passes.Ended, Passes.EndedFrom, Passes.misfitFrom, Laws.Order.never-at, Laws.Order.each, Laws.Order.link-end}
 use Rattle.table.proofs.{Prefix.after-at, Prefix.after-end, Prefix.fits-two, Prefix.fits-soon, Prefix.fits-done}
 
 pub word-end : (t : List ℕ) (e j v : ℕ) (us : List ℕ) → fits t (e - j) j (sortAt t j ∷ us) ≡ Nowhere → Ended t e j v → v < misfitFrom

@@ -1,12 +1,13 @@
 -- Silent tests put into a list, node by node. Assumes nothing.
-use Rattle.words.specs.Prelude.{ℕ, suc, _+_, _-_, _≤_, _<_, min, _≡_, refl, sym, ap, _∙_, Bool, true, false, cond, _&&_, List, [], _∷_, _++_, arith, add-one, leb}
-use Rattle.words.specs.Prelude.{lt-ltb, le-ltb, length, set, drop, length-set, length-append}
+use Rattle.words.specs.Prelude.{ℕ, suc, _+_, _-_, _≤_, _<_, min, _≡_, refl, sym, ap, _∙_, Bool, true, false, cond, _&&_, List, [], _∷_, _++_, arith, add-one}
+use Rattle.words.specs.Prelude.{leb, lt-ltb, le-ltb, length, set, drop, length-set, length-append}
 use Rattle.words.specs.{Limits.mostRows, declared.refusal.Refusal.Refusal, Outcome.refusal}
-use Rattle.table.specs.{declared.answer.Answer.the-variants.Accepted, declared.answer.Answer.the-variants.Refused, declared.silent.SilentAnswer.SilentAnswer}
-use Rattle.table.specs.{declared.silent.SilentAnswer.the-variants.Lists, declared.silent.SilentAnswer.the-variants.Refuses, Header.count, Header.root}
-use Rattle.table.specs.{Kinds.isTestKind, Nodes.nodeAt, Forest.trees, Forest.firstTrees, Forest.forestOf, Reach.ownBack, Reach.weigh, Checked.checked}
-use Rattle.table.specs.{Ends.endsBeside, Laws.Accepted.ends-of, Laws.Accepted.tree-whole, Silent.WholeTrees, Silent.silentAnswer, Silent.listAfter}
-use Rattle.table.specs.{Silent.silentNode, Silent.silentNodes, Silent.fourSilent, Silent.putAll, Laws.Silent.next-node, Laws.Silent.no-node}
+use Rattle.table.specs.{declared.answer.Answer.the-variants.Accepted, declared.answer.Answer.the-variants.Refused}
+use Rattle.table.specs.{declared.silent.SilentAnswer.SilentAnswer, declared.silent.SilentAnswer.the-variants.Lists}
+use Rattle.table.specs.{declared.silent.SilentAnswer.the-variants.Refuses, Header.count, Header.root, Kinds.isTestKind, Nodes.nodeAt, Forest.trees}
+use Rattle.table.specs.{Forest.firstTrees, Forest.forestOf, Reach.ownBack, Reach.weigh, Checked.checked, Ends.endsBeside, Laws.Accepted.ends-of}
+use Rattle.table.specs.{Laws.Accepted.tree-whole, Silent.WholeTrees, Silent.silentAnswer, Silent.listAfter, Silent.silentNode, Silent.silentNodes}
+use Rattle.table.specs.{Silent.fourSilent, Silent.putAll, Laws.Silent.next-node, Laws.Silent.no-node}
 
 -- ---- numbers put one after the other
 

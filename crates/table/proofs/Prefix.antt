@@ -4,7 +4,7 @@ use Rattle.words.specs.Prelude.{_≡_, refl, sym, _∙_, ap, subst, true, false
 use Rattle.words.specs.Prelude.{⊎-elim, _≢_, length, getD, set, replicate, getD-set-same, getD-set-other, eq-eqb, ne-eqb, lt-ltb, le-ltb}
 use Rattle.words.specs.{Limits.mostNodes}
 use Rattle.table.specs.{declared.places.Place.the-variants.Nowhere, declared.places.Place.the-variants.At, Nodes.sortAt, Nodes.childCountAt}
-use Rattle.table.specs.{Nodes.childSortAt, Nodes.childFitsAt, Order.fits, Order.misfit, Passes.after, Passes.Ended, Passes.EndedFrom, Passes.Ordered}
+use Rattle.table.specs.{Nodes.childSortAt, Nodes.childFitsAt, Order.fits, Order.misfit, Passes.fitsAfter, Passes.Ended, Passes.EndedFrom, Passes.Ordered}
 use Rattle.table.specs.{Passes.misfitFrom, Laws.Forest.left-suc, Laws.Forest.left-zero}
 
 module _ (t : List ℕ) (e i : ℕ) where
@@ -39,12 +39,12 @@ more k x ws h = ap (λ (n : ℕ). replicate n x ++ ws) k-suc
     k-suc : k ≡ suc (k - 1)
     k-suc = omega arith
 
-pub after-end : (t : List ℕ) (e v : ℕ) (ws : List ℕ) → v < misfitFrom → after t e v ws ≡ fits t (e - v) v ws
-unfolding after
+pub after-end : (t : List ℕ) (e v : ℕ) (ws : List ℕ) → v < misfitFrom → fitsAfter t e v ws ≡ fits t (e - v) v ws
+unfolding fitsAfter
 after-end t e v ws h = rw (lt-ltb _ _ h)
 
-pub after-at : (t : List ℕ) (e v : ℕ) (ws : List ℕ) → misfitFrom ≤ v → after t e v ws ≡ At (v - misfitFrom)
-unfolding after
+pub after-at : (t : List ℕ) (e v : ℕ) (ws : List ℕ) → misfitFrom ≤ v → fitsAfter t e v ws ≡ At (v - misfitFrom)
+unfolding fitsAfter
 after-at t e v ws h = rw (le-ltb _ _ h)
 
 -- A node whose word is known is passed in one step.

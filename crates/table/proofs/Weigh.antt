@@ -5,9 +5,9 @@ use Rattle.words.specs.Prelude.{eq-zero-or-pos, length, getD, set, getD-set-sam
 use Rattle.words.specs.{Limits.mostRows}
 use Rattle.table.specs.{declared.nodes.Node.Node, declared.places.Place.Place, declared.places.Place.the-variants.Nowhere}
 use Rattle.table.specs.{declared.places.Place.the-variants.At, Nodes.nodeAt, Nodes.childCountAt, Order.orPlace, Forest.Forest, Forest.none, Forest.tree}
-use Rattle.table.specs.{Forest.firstTrees, Forest.otherTrees, Forest.nodeOver, Forest.trees, Nesting.deeper, Reach.weigh, Reach.ownBack, Reach.forestReach}
-use Rattle.table.specs.{Ends.Link, Ends.Linked, Passes.WordsFrom, Passes.Most, Passes.weight, Laws.Forest.left-suc, Laws.Forest.left-zero}
-use Rattle.table.specs.{Laws.Forest.first-none}
+use Rattle.table.specs.{Forest.firstTrees, Forest.otherTrees, Forest.nodeOver, Forest.trees, Nesting.deeper, Reach.weigh, Reach.ownBack}
+use Rattle.table.specs.{Reach.forestReach, Ends.Link, Ends.Linked, Passes.WordsFrom, Passes.Most, Passes.weight, Laws.Forest.left-suc}
+use Rattle.table.specs.{Laws.Forest.left-zero, Laws.Forest.first-none}
 
 weigh-row : (w : Node → ℕ) (l : ℕ) (f : Forest) → weigh w (firstTrees (suc l) f) ≡ max (weigh w (firstTrees 1 f)) (weigh w (firstTrees l (otherTrees 1 f)))
 unfolding weigh firstTrees otherTrees

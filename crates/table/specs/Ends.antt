@@ -2,8 +2,8 @@
 use Rattle.words.specs.Prelude.{_≡_, cond, List, [], _∷_, ℕ, zero, suc, _+_, _-_, _≤_, _<_, getD, replicate, ltb}
 use Rattle.words.specs.{Limits.mostNodes}
 use Rattle.table.specs.{declared.places.Place.Place, declared.places.Place.the-variants.Nowhere, declared.places.Place.the-variants.At}
-use Rattle.table.specs.{declared.answer.Answer.Answer, declared.answer.Answer.the-variants.Accepted, declared.answer.Answer.the-variants.Refused, Header.root}
-use Rattle.table.specs.{Nodes.sortAt, Order.fits, Forest.firstTrees, Forest.otherTrees, Forest.trees, Forest.size, Checked.checked}
+use Rattle.table.specs.{declared.answer.Answer.Answer, declared.answer.Answer.the-variants.Accepted, declared.answer.Answer.the-variants.Refused}
+use Rattle.table.specs.{Header.root, Nodes.sortAt, Order.fits, Forest.firstTrees, Forest.otherTrees, Forest.trees, Forest.size, Checked.checked}
 
 -- "While reading, the checker keeps the end of the subtree for each of the 256 nodes."
 -- The end of the subtree that begins at node i, with m nodes from there to its tree's end: the place where one tree of its

@@ -6,8 +6,8 @@ use Rattle.table.specs.{declared.header.Form.Form, declared.series.Serie
 use Rattle.table.specs.{declared.series.Series.the-variants.Slot, Kinds.kindOf, Kinds.arithmetic, Kinds.extremum, Kinds.comparison, Kinds.crossing}
 use Rattle.table.specs.{Header.newestVersion, Nodes.kindRight, Trees.Operand, Trees.const, Trees.ref, Trees.price, Trees.prev, Trees.arith, Trees.extreme}
 use Rattle.table.specs.{Trees.Condition, Trees.Conditions, Trees.compare, Trees.cross, Trees.between, Trees.trend, Trees.every, Trees.any, Trees.negated}
-use Rattle.table.specs.{Trees.inPosition, Trees.barsSince, Trees.none, Trees.more, Trees.reachOf, Writing.Short, Writing.absent, Writing.given, Writing.Rule}
-use Rattle.table.specs.{Writing.nodesOfRule}
+use Rattle.table.specs.{Trees.inPosition, Trees.barsSince, Trees.none, Trees.more, Trees.reachOf, Writing.Short, Writing.absent, Writing.given}
+use Rattle.table.specs.{Writing.Rule, Writing.nodesOfRule}
 use Rattle.table.specs.Kinds as Kinds
 
 -- "Ref (n = slot, below K)"; "Price (selector 0..6 ..)"

@@ -2,8 +2,8 @@
 -- Definitions only, and none of them is in a promise of `check`.
 use Rattle.words.specs.Prelude.{_≡_, cond, List, _∷_, ℕ, _+_, _-_, _*_, _≤_, _<_, min, length, getD, ltb, eqb}
 use Rattle.words.specs.{Limits.mostRows, Limits.mostNodes}
-use Rattle.table.specs.{declared.nodes.Node.Node, declared.places.Place.Place, declared.places.Place.the-variants.At, Header.total, Header.root, Nodes.sortAt}
-use Rattle.table.specs.{Nodes.childCountAt, Order.fits, Forest.firstTrees, Forest.trees, Reach.weigh, Reach.ownBack, Ends.Linked}
+use Rattle.table.specs.{declared.nodes.Node.Node, declared.places.Place.Place, declared.places.Place.the-variants.At, Header.total, Header.root}
+use Rattle.table.specs.{Nodes.sortAt, Nodes.childCountAt, Order.fits, Forest.firstTrees, Forest.trees, Reach.weigh, Reach.ownBack, Ends.Linked}
 
 -- From here on a word is no end, but a place and as much more.
 abbrev pub misfitFrom : ℕ
@@ -11,11 +11,11 @@ misfitFrom = 512
 
 -- Rule 7. Node i's word v, of a tree's nodes below e, is the end of the subtree that begins at node i, or `misfitFrom` more than the
 -- place where that subtree stops fitting. `skips` says so in the terms of rule 7, whatever is wanted next.
-unfoldable pub after : List ℕ → ℕ → ℕ → List ℕ → Place
-after t e v ws = cond (ltb v misfitFrom) (fits t (e - v) v ws) (At (v - misfitFrom))
+unfoldable pub fitsAfter : List ℕ → ℕ → ℕ → List ℕ → Place
+fitsAfter t e v ws = cond (ltb v misfitFrom) (fits t (e - v) v ws) (At (v - misfitFrom))
 
 pub record Ended (t : List ℕ) (e i v : ℕ) : Type 0 where
-  pub skips : (ws : List ℕ) → fits t (e - i) i (sortAt t i ∷ ws) ≡ after t e v ws
+  pub skips : (ws : List ℕ) → fits t (e - i) i (sortAt t i ∷ ws) ≡ fitsAfter t e v ws
   pub beyond : v < misfitFrom → i < v
   pub within : v < misfitFrom → v ≤ e
   pub small : v < 2 * misfitFrom

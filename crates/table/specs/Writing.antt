@@ -1,9 +1,9 @@
 -- Writing trees as a table: the other way round from reading. Definitions only.
 use Rattle.words.specs.Prelude.{cond, List, [], _∷_, _++_, ℕ, suc, _+_, _/_, _%_}
 use Rattle.table.specs.{declared.nodes.Node.Node, declared.header.Form.Form, declared.series.Series.Series, declared.series.Series.the-variants.Price}
-use Rattle.table.specs.{declared.series.Series.the-variants.Slot, Trees.Operand, Trees.const, Trees.ref, Trees.price, Trees.prev, Trees.arith, Trees.extreme}
-use Rattle.table.specs.{Trees.Condition, Trees.Conditions, Trees.compare, Trees.cross, Trees.between, Trees.trend, Trees.every, Trees.any, Trees.negated}
-use Rattle.table.specs.{Trees.inPosition, Trees.barsSince, Trees.none, Trees.more, Reading.treeOf, Reading.present}
+use Rattle.table.specs.{declared.series.Series.the-variants.Slot, Trees.Operand, Trees.const, Trees.ref, Trees.price, Trees.prev, Trees.arith}
+use Rattle.table.specs.{Trees.extreme, Trees.Condition, Trees.Conditions, Trees.compare, Trees.cross, Trees.between, Trees.trend, Trees.every, Trees.any}
+use Rattle.table.specs.{Trees.negated, Trees.inPosition, Trees.barsSince, Trees.none, Trees.more, Reading.treeOf, Reading.present}
 use Rattle.table.specs.Named as Named
 
 -- "Little-endian."
@@ -29,8 +29,8 @@ nodesBytes [] = []
 nodesBytes (n ∷ ns) = nodeBytes n ++ nodesBytes ns
 
 -- "Unused fields are zero": a node whose kind says all
-abbrev pub plain : ℕ → List ℕ
-plain kind = node kind 0 0 0 0
+abbrev pub plainNode : ℕ → List ℕ
+plainNode kind = node kind 0 0 0 0
 
 -- the child of Highest and Lowest
 unfoldable pub writeSeries : Series → List ℕ
@@ -38,18 +38,18 @@ writeSeries (Price selector) = node Named.price selector 0 0 0
 writeSeries (Slot slot) = node Named.ref 0 0 slot 0
 
 -- "each tree in prefix order"
-unfoldable pub write : Operand → List ℕ
-write (const bits) = node Named.const 0 0 0 bits
-write (ref slot) = node Named.ref 0 0 slot 0
-write (price selector) = node Named.price selector 0 0 0
-write (prev a n) = node Named.prev 0 0 n 0 ++ write a
-write (arith kind a b) = plain kind ++ write a ++ write b
-write (extreme kind s n) = node kind 0 0 n 0 ++ writeSeries s
+unfoldable pub writeOperand : Operand → List ℕ
+writeOperand (const bits) = node Named.const 0 0 0 bits
+writeOperand (ref slot) = node Named.ref 0 0 slot 0
+writeOperand (price selector) = node Named.price selector 0 0 0
+writeOperand (prev a n) = node Named.prev 0 0 n 0 ++ writeOperand a
+writeOperand (arith kind a b) = plainNode kind ++ writeOperand a ++ writeOperand b
+writeOperand (extreme kind s n) = node kind 0 0 n 0 ++ writeSeries s
 
 -- operands in a row
 unfoldable pub writeRow : List Operand → List ℕ
 writeRow [] = []
-writeRow (a ∷ rest) = write a ++ writeRow rest
+writeRow (a ∷ rest) = writeOperand a ++ writeRow rest
 
 -- how many conditions stand in a row
 unfoldable pub manyOf : Conditions → ℕ
@@ -57,20 +57,20 @@ manyOf none = 0
 manyOf (more c cs) = suc (manyOf cs)
 
 unfoldable mutual
-  pub writeOf : Condition → List ℕ
-  writeOf (compare kind a b) = plain kind ++ write a ++ write b
-  writeOf (cross kind a b) = plain kind ++ write a ++ write b
-  writeOf (between x low high) = plain Named.between ++ write x ++ write low ++ write high
-  writeOf (trend kind a n) = node kind 0 0 n 0 ++ write a
-  writeOf (every cs) = node Named.all 0 (manyOf cs) 0 0 ++ writeAll cs
-  writeOf (any cs) = node Named.any 0 (manyOf cs) 0 0 ++ writeAll cs
-  writeOf (negated c) = plain Named.not ++ writeOf c
-  writeOf (inPosition want) = node Named.inPosition (cond want 1 0) 0 0 0
-  writeOf (barsSince selector k) = node Named.barsSinceEntry selector 0 k 0
+  pub writeCondition : Condition → List ℕ
+  writeCondition (compare kind a b) = plainNode kind ++ writeOperand a ++ writeOperand b
+  writeCondition (cross kind a b) = plainNode kind ++ writeOperand a ++ writeOperand b
+  writeCondition (between x low high) = plainNode Named.between ++ writeOperand x ++ writeOperand low ++ writeOperand high
+  writeCondition (trend kind a n) = node kind 0 0 n 0 ++ writeOperand a
+  writeCondition (every cs) = node Named.all 0 (manyOf cs) 0 0 ++ writeAll cs
+  writeCondition (any cs) = node Named.any 0 (manyOf cs) 0 0 ++ writeAll cs
+  writeCondition (negated c) = plainNode Named.not ++ writeCondition c
+  writeCondition (inPosition want) = node Named.inPosition (cond want 1 0) 0 0 0
+  writeCondition (barsSince selector k) = node Named.barsSinceEntry selector 0 k 0
 
   pub writeAll : Conditions → List ℕ
   writeAll none = []
-  writeAll (more c cs) = writeOf c ++ writeAll cs
+  writeAll (more c cs) = writeCondition c ++ writeAll cs
 
 -- How many nodes a tree has.
 unfoldable pub nodesIn : Operand → ℕ
@@ -114,7 +114,7 @@ nodesOfShort (given c) = nodesOf c
 
 unfoldable pub writeShort : Short → List ℕ
 writeShort absent = []
-writeShort (given c) = writeOf c
+writeShort (given c) = writeCondition c
 
 unfoldable pub nodesOfRule : Rule → ℕ
 nodesOfRule r = nodesOf (r .entry) + nodesOf (r .exit) + nodesOfShort (r .shortEntry) + nodesOfShort (r .shortExit)
@@ -132,7 +132,7 @@ headerOf form r =
 unfoldable pub tableOf : Form → Rule → List ℕ
 tableOf form r =
     headerOf form r ++
-    writeOf (r .entry) ++ writeOf (r .exit) ++ writeShort (r .shortEntry) ++ writeShort (r .shortExit)
+    writeCondition (r .entry) ++ writeCondition (r .exit) ++ writeShort (r .shortEntry) ++ writeShort (r .shortExit)
 
 -- The rule that a table holds.
 unfoldable pub shortOf : List ℕ → ℕ → Short

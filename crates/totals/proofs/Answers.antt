@@ -1,13 +1,14 @@
 -- What each line of the two orders of refusals needs to be the answer. Assumes nothing.
-use Rattle.words.specs.Prelude.{_≡_, refl, sym, ap, subst, _∙_, Bool, true, false, cond, false≢true, List, [], _∷_, _++_, ℕ, _+_, _*_, _/_, _%_, _<_, _≤_, arith}
-use Rattle.words.specs.Prelude.{le-leb, lt-leb, eq-eqb, ne-eqb, leb-true, leb-false, leb, length}
+use Rattle.words.specs.Prelude.{_≡_, refl, sym, ap, subst, _∙_, Bool, true, false, cond, false≢true, List, [], _∷_, _++_, ℕ, _+_, _*_, _/_, _%_, _<_, _≤_}
+use Rattle.words.specs.Prelude.{arith, le-leb, lt-leb, eq-eqb, ne-eqb, leb-true, leb-false, leb, length}
 use Rattle.words.specs.{Words.word, Words.overwrite, Limits.tradeWords, Limits.mostCount, declared.refusal.Refusal.Refusal, Outcome.refusal}
 use Rattle.floats.specs.{Floats.wordOf}
 use Rattle.totals.specs.{declared.Answer.Answer, declared.Answer.the-variants.Done, declared.Answer.the-variants.Refused, Exact.nearestTo, Exact.numberIn}
 use Rattle.totals.specs.{Trades.Trade, Trades.tradesFrom, Trades.tradesOf, Trades.goodStart, Trades.judgedCount, Trades.pnlSum, Totals.totalWords}
 use Rattle.totals.specs.{Totals.totalsRoom, Totals.countSize, Totals.AllAtMost, Totals.allSmall, Totals.countsOf, Totals.sumWords, Totals.recordOf}
-use Rattle.totals.specs.{Totals.withCounts, Totals.bothCounts, Totals.sumWith, Totals.traded, Totals.countsFine, Totals.unless, Totals.firstOf, Totals.addAnswer, Totals.addLeaves}
-use Rattle.totals.specs.{Totals.joinAnswer, Totals.joinLeaves, Laws.Trades.length-trades, Laws.Trades.all-good, Laws.Counts.small-all}
+use Rattle.totals.specs.{Totals.withCounts, Totals.bothCounts, Totals.sumWith, Totals.traded, Totals.countsFine, Totals.unless, Totals.firstOf}
+use Rattle.totals.specs.{Totals.addAnswer, Totals.addLeaves, Totals.joinAnswer, Totals.joinLeaves, Laws.Trades.length-trades, Laws.Trades.all-good}
+use Rattle.totals.specs.{Laws.Counts.small-all}
 
 -- as many are judged as there are, where totals can hold them
 few : (n : ℕ) → n ≤ mostCount → judgedCount n ≡ n
@@ -93,7 +94,8 @@ module _ (totals trades : List ℕ) where
         n = length trades / tradeWords
 
         -- the two lines that are left
-        add-left : addAnswer totals trades ≡ unless (leb (judgedCount n) (length good)) 17 (length good) (unless (leb (traded (countsOf totals) + n) mostCount) 22 0 Done)
+        add-left : addAnswer totals trades
+            ≡ unless (leb (judgedCount n) (length good)) 17 (length good) (unless (leb (traded (countsOf totals) + n) mostCount) 22 0 Done)
         unfolding addAnswer
         add-left = simp (le-leb _ _ long, eq-eqb _ _ whole, fine)
 

@@ -1,7 +1,7 @@
 -- A number whose words are set one after another: what was moved and what is still to be moved. Assumes nothing.
 use Rattle.words.specs.Prelude.{_≡_, sym, ap, subst, _∙_, Bool, true, false, List, [], _∷_, ℕ, zero, suc, _+_, _-_, _*_, _/_, _%_, _^_, _≤_, _<_, add-mul}
-use Rattle.words.specs.Prelude.{mul-assoc, mul-comm, mul-left-comm, mod-lt, mod-eq-of-lt, le-of-suc-le-suc, not-suc-le-zero, add-mul-mod-self-right, div-add-mod'}
-use Rattle.words.specs.Prelude.{one-mul, add-zero, arith, length, getD, set}
+use Rattle.words.specs.Prelude.{mul-assoc, mul-comm, mul-left-comm, mod-lt, mod-eq-of-lt, le-of-suc-le-suc, not-suc-le-zero, add-mul-mod-self-right}
+use Rattle.words.specs.Prelude.{div-add-mod', one-mul, add-zero, arith, length, getD, set}
 use Rattle.totals.specs.{Number.place, Number.numberOf, Number.wordsOf, Number.AreWords, Number.Moves, Number.shifted, Laws.Places.place-add}
 use Rattle.totals.specs.{Laws.Places.number-below, Laws.Places.words-of-number}
 

@@ -8,7 +8,7 @@ use Rattle.words.specs.Prelude.{pow-mono, mod-pow-add, lt-of-le-ne, T, isLe, is
 use Rattle.words.specs.Prelude.{nearest, size, binary64, round, toBits, size-lt, size-le, size-reaches}
 use Rattle.words.specs.Prelude.{nearest-le, kept-lt, closest, closest-same, nearest-ge}
 use Rattle.totals.specs.{Number.numberOf, Number.AreWords, Laws.Places.number-below, Laws.Places.place-pow}
-use Rattle.totals.proofs.{Patterns.round-units, Patterns.pattern-units, Patterns.Kept, Reading.drop-word}
+use Rattle.totals.proofs.{Patterns.round-units, Patterns.pattern-units, Patterns.FullDigits, Reading.drop-word}
 
 -- what `compare` says
 abbrev Cmp : Ordering → ℕ → ℕ → Type 0
@@ -148,10 +148,10 @@ nearest-large n many =
     under x l = omega arith
 
 -- digits can be kept, whatever the number
-pub kept-fits : (n : ℕ) → Kept (closest n (2 ^ (size n - 53))) (size n - 53)
+pub kept-fits : (n : ℕ) → FullDigits (closest n (2 ^ (size n - 53))) (size n - 53)
 kept-fits n = go (eq-zero-or-pos (size n - 53))
   where
-    go : (size n - 53 ≡ 0) ⊎ (0 < size n - 53) → Kept (closest n (2 ^ (size n - 53))) (size n - 53)
+    go : (size n - 53 ≡ 0) ⊎ (0 < size n - 53) → FullDigits (closest n (2 ^ (size n - 53))) (size n - 53)
     go (inl e) = inr e
     go (inr p) =
         let least : 2 ^ (52 + (size n - 53)) ≤ n = size-reaches n (52 + (size n - 53)) (under (size n) p) in

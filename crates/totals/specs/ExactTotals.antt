@@ -8,12 +8,12 @@ use Rattle.totals.specs.{Number.place, Number.wordsOf, declared.Answer.t
 use Rattle.totals.specs.{Exact.sumSize, Trades.Trade, Trades.acceptable, Trades.tradesOf, Trades.tradesFrom, Trades.goodStart, Trades.judgedCount}
 use Rattle.totals.specs.{Trades.bitOf, Trades.countOf, Trades.endedBy, Trades.won, Trades.lost, Trades.pnlSum, Totals.totalWords, Totals.countSize}
 use Rattle.totals.specs.{Totals.countsOf, Totals.sumWords, Totals.recordOf, Totals.withCounts, Totals.bothCounts, Totals.sumWith, Totals.traded}
-use Rattle.totals.specs.{Totals.countsFine, Totals.AllAtMost, Totals.addAnswer, Totals.addLeaves, Totals.joinAnswer, Totals.joinLeaves, Ways.Way, Ways.begin}
-use Rattle.totals.specs.{Ways.add, Ways.join, Ways.made, Ways.AllDone, Ways.tradesIn, Ways.Whole, Ways.totalsOf, Laws.Sums.length-for}
-use Rattle.totals.specs.{Laws.Trades.Acceptable, Laws.Trades.none, Laws.Trades.more, Laws.Trades.acceptable-reason}
-use Rattle.totals.specs.{Laws.Trades.good-all, Laws.Trades.length-trades, Laws.Trades.count-append, Laws.Trades.sum-append, Laws.Trades.Rearranged}
-use Rattle.totals.specs.{Laws.Trades.sum-rearranged, Laws.Trades.count-rearranged, Laws.Counts.eight-same, Laws.Counts.counts-twice, Laws.Counts.all-small}
-use Rattle.totals.specs.{Laws.Counts.bit-most, Laws.Bound.reads-back}
+use Rattle.totals.specs.{Totals.countsFine, Totals.AllAtMost, Totals.addAnswer, Totals.addLeaves, Totals.joinAnswer, Totals.joinLeaves, Ways.Way}
+use Rattle.totals.specs.{Ways.begin, Ways.add, Ways.join, Ways.made, Ways.AllDone, Ways.tradesIn, Ways.WholeLists, Ways.totalsOf, Laws.Sums.length-for}
+use Rattle.totals.specs.{Laws.Trades.Acceptable, Laws.Trades.none, Laws.Trades.more, Laws.Trades.acceptable-reason, Laws.Trades.good-all}
+use Rattle.totals.specs.{Laws.Trades.length-trades, Laws.Trades.count-append, Laws.Trades.sum-append, Laws.Trades.Rearranged, Laws.Trades.sum-rearranged}
+use Rattle.totals.specs.{Laws.Trades.count-rearranged, Laws.Counts.eight-same, Laws.Counts.counts-twice, Laws.Counts.all-small, Laws.Counts.bit-most}
+use Rattle.totals.specs.{Laws.Bound.reads-back}
 use Rattle.floats.specs.Floats as Floats
 
 -- eight zeros
@@ -236,8 +236,8 @@ back (x ∷ xs) ys (more h a) = back xs ys a
 
 -- EXACT TOTALS. Trades with a finite pnl and a reason of 1 to 6, at most 4,294,967,295 of them, cut into lists in any way and in any order, added to any
 -- number of totals that are joined in any way: every call does its work, and the 43 words are the totals of those trades.
-pub exact-totals : (w : Way) → Whole w → Acceptable (tradesIn w) → length (tradesIn w) ≤ mostCount → AllDone w × (made w ≡ totalsOf (tradesIn w))
-unfolding Whole tradesIn AllDone made
+pub exact-totals : (w : Way) → WholeLists w → Acceptable (tradesIn w) → length (tradesIn w) ≤ mostCount → AllDone w × (made w ≡ totalsOf (tradesIn w))
+unfolding WholeLists tradesIn AllDone made
 exact-totals begin h a few = (tt, nothing)
 exact-totals (add w list) h a few =
     let xs = tradesIn w in
@@ -272,6 +272,6 @@ totals-rearranged {xs} {ys} r =
     same reason = ap (λ (n : ℕ). 0 + n) (count-rearranged (endedBy reason) r)
 
 -- .. so ANY TWO WAYS to total the same trades leave the same words.
-pub any-two-ways : (v w : Way) → Whole v → Whole w → Acceptable (tradesIn v) → Acceptable (tradesIn w)
+pub any-two-ways : (v w : Way) → WholeLists v → WholeLists w → Acceptable (tradesIn v) → Acceptable (tradesIn w)
     → length (tradesIn v) ≤ mostCount → length (tradesIn w) ≤ mostCount → Rearranged (tradesIn v) (tradesIn w) → made v ≡ made w
 any-two-ways v w h k a b few few-too r = exact-totals v h a few .1 ∙ totals-rearranged r ∙ sym (exact-totals w k b few-too .1)

@@ -2,8 +2,8 @@
 use Rattle.words.specs.Prelude.{_≡_, List, [], _∷_, _++_, ℕ, _%_, length, replicate}
 use Rattle.words.specs.{Limits.tradeWords}
 use Rattle.floats.specs.{Floats.wordOf}
-use Rattle.totals.specs.{declared.Answer.the-variants.Done, Exact.wordsFor, Exact.nearestTo, Trades.Trade, Trades.tradesOf, Trades.pnlSum, Totals.totalWords}
-use Rattle.totals.specs.{Totals.withCounts, Totals.addAnswer, Totals.addLeaves, Totals.joinAnswer, Totals.joinLeaves}
+use Rattle.totals.specs.{declared.Answer.the-variants.Done, Exact.wordsFor, Exact.nearestTo, Trades.Trade, Trades.tradesOf, Trades.pnlSum}
+use Rattle.totals.specs.{Totals.totalWords, Totals.withCounts, Totals.addAnswer, Totals.addLeaves, Totals.joinAnswer, Totals.joinLeaves}
 
 pub data Way : Type 0 where
   -- 43 zeros
@@ -32,10 +32,10 @@ tradesIn (add w list) = tradesIn w ++ tradesOf list
 tradesIn (join v w) = tradesIn v ++ tradesIn w
 
 -- its lists are whole records
-unfoldable pub Whole : Way → Type 0
-Whole begin = Unit {0}
-Whole (add w list) = Whole w × (length list % tradeWords ≡ 0)
-Whole (join v w) = Whole v × Whole w
+unfoldable pub WholeLists : Way → Type 0
+WholeLists begin = Unit {0}
+WholeLists (add w list) = WholeLists w × (length list % tradeWords ≡ 0)
+WholeLists (join v w) = WholeLists v × WholeLists w
 
 -- THE TOTALS OF TRADES: how many ended by each reason, won, lost; the words of their exact sum; the float nearest to that sum
 unfoldable pub totalsOf : List Trade → List ℕ

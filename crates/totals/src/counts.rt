@@ -1,6 +1,7 @@
 // The eight counts of totals: trades by reason 1 to 6, then wins, then losses.
 use words::limits::MOST_COUNT;
 use words::limits::TRADE_WORDS;
+use words::places;
 ghost use mathlib.Core.Path.{_≡_};
 ghost use mathlib.Core.List.{_∷_, []};
 ghost use Prim.Native.Nat.{_*_, _≤_};
@@ -9,16 +10,6 @@ ghost use Rattle.words.specs.Limits.{tradeWords, mostCount};
 ghost use Rattle.totals.specs.Trades.{trade, acceptable, goodStart, tradesFrom, bitOf};
 ghost use Rattle.totals.specs.Totals.{countSize, countsOf, allSmall, AllAtMost, withCounts, bothCounts};
 ghost use Rattle.totals.specs.Totals as Totals;
-
-// Where a trade has its pnl and its reason, in the Rust record's order.
-pub(crate) const PNL: usize = 5;
-
-const REASON: usize = 7;
-
-// Where counts have wins and losses; before them stand the six reasons.
-const WINS: usize = 6;
-
-const LOSSES: usize = 7;
 
 // The eight counts.
 pub(crate) fn counts_of(totals: &[u64]) -> [u64; 8]
@@ -65,7 +56,7 @@ pub(crate) fn fine(counts: &[u64]) -> bool
     ensures { λ r. ⌜ r ≡ Totals.countsFine (now (counts .entry)) ⌝ }
 {
     if all_small(counts) {
-        return counts[WINS] + counts[LOSSES] <= traded(counts);
+        return counts[places::TOTAL_WINS] + counts[places::TOTAL_LOSSES] <= traded(counts);
     }
     false
 }
@@ -98,11 +89,11 @@ fn count(counts: &mut [u64], pnl: u64, reason: u64)
     let x = floats::float_of(pnl);
     let at = (reason - 1) as usize;
     let ended = counts[at] + 1;
-    let wins = counts[WINS] + bit_of(0.0 < x);
-    let losses = counts[LOSSES] + bit_of(x < 0.0);
+    let wins = counts[places::TOTAL_WINS] + bit_of(0.0 < x);
+    let losses = counts[places::TOTAL_LOSSES] + bit_of(x < 0.0);
     counts[at] = ended;
-    counts[WINS] = wins;
-    counts[LOSSES] = losses;
+    counts[places::TOTAL_WINS] = wins;
+    counts[places::TOTAL_LOSSES] = losses;
 }
 
 // Counts the first n trades of a list up to the first that cannot be counted, and says how many that were.
@@ -114,8 +105,8 @@ pub(crate) fn count_trades(counts: &mut [u64], trades: &[u64], n: usize) -> usiz
 {
     let mut i: usize = 0;
     while i < n {
-        let pnl = trades[TRADE_WORDS * i + PNL];
-        let reason = trades[TRADE_WORDS * i + REASON];
+        let pnl = trades[TRADE_WORDS * i + places::TRADE_PNL];
+        let reason = trades[TRADE_WORDS * i + places::TRADE_REASON];
         if !is_acceptable(pnl, reason) {
             return i;
         }
@@ -126,7 +117,7 @@ pub(crate) fn count_trades(counts: &mut [u64], trades: &[u64], n: usize) -> usiz
 }
 
 // The counts of two together.
-pub(crate) fn both(counts: &[u64], others: &[u64]) -> [u64; 8]
+pub(crate) fn both_counts(counts: &[u64], others: &[u64]) -> [u64; 8]
     requires { ⌜ (length (now counts) ≡ countSize) × (length (now others) ≡ countSize)
         × AllAtMost mostCount (now counts) × AllAtMost mostCount (now others) ⌝ }
     ensures { λ r. ⌜ r ≡ bothCounts (now (counts .entry)) (now (others .entry)) ⌝ }

@@ -6,6 +6,7 @@ mod sum;
 
 use words::limits::MOST_COUNT;
 use words::limits::TRADE_WORDS;
+use words::places;
 use words::refusal::Refusal;
 ghost use mathlib.Core.Path.{_≡_};
 ghost use mathlib.Core.List.{_++_, _∷_, []};
@@ -18,12 +19,8 @@ ghost use Rattle.totals.specs.Exact.{sumSize};
 ghost use Rattle.totals.specs.Trades.{judgedCount};
 ghost use Rattle.totals.specs.Totals.{countSize, unless, firstOf, addAnswer, addLeaves, joinAnswer, joinLeaves};
 
-// The words of a record, and where in it the sum and the float stand; before them the eight counts.
+// The words of a record: eight counts, the sum, the float.
 pub const TOTAL_WORDS: usize = 43;
-
-const SUM_AT: usize = 8;
-
-const FLOAT_AT: usize = 42;
 
 // The number of the room that holds totals.
 const TOTALS_ROOM: u64 = 11;
@@ -138,7 +135,7 @@ pub fn join(totals: &mut [u64], other: &[u64]) -> Answer
     if MOST_COUNT < counts::traded(&counts) + counts::traded(&more) {
         return refused(22, 0);
     }
-    let both = counts::both(&counts, &more);
+    let both = counts::both_counts(&counts, &more);
     let mut sum = sum::sum_of(totals);
     sum::add_sum(&mut sum, other);
     let float = nearest::nearest_to(&sum);
@@ -153,7 +150,7 @@ fn put_totals(totals: &mut [u64], counts: &[u64], sum: &[u64], float: u64)
 {
     let mut all = [0u64; TOTAL_WORDS];
     words::put(&mut all, 0, counts);
-    words::put(&mut all, SUM_AT, sum);
-    all[FLOAT_AT] = float;
+    words::put(&mut all, places::TOTAL_SUM, sum);
+    all[places::TOTAL_FLOAT] = float;
     words::put(totals, 0, &all);
 }

@@ -1,6 +1,6 @@
 // Words, lowest first, as one number of two's complement: a float added, another sum added or taken away.
-use crate::counts::PNL;
 use words::limits::TRADE_WORDS;
+use words::places;
 ghost use mathlib.Core.Path.{_≡_};
 ghost use Prim.Native.Nat.{_+_, _*_, _/_, _%_, _^_, _<_, _≤_};
 ghost use lib.Dec.{leb};
@@ -139,7 +139,7 @@ pub(crate) fn add_trades(sum: &mut [u64], trades: &[u64])
     let n = trades.len() / TRADE_WORDS;
     let mut i: usize = 0;
     while i < n {
-        add_float(sum, trades[TRADE_WORDS * i + PNL]);
+        add_float(sum, trades[TRADE_WORDS * i + places::TRADE_PNL]);
         i += 1;
     }
 }

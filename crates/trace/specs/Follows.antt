@@ -3,7 +3,8 @@
 use Rattle.words.specs.Prelude.{ℕ, zero, suc, _+_, _≤_, _<_, _≡_, refl, sym, ap, subst, _∙_, List, [], _∷_, arith, length, getD, drop}
 use Rattle.rows.specs.{History.History}
 use Rattle.rules.specs.{declared.position.PositionState.PositionState}
-use Rattle.steps.specs.{declared.step.Op.Op, declared.step.Op.the-variants.Unknown, Machine.Values, Machine.start, Machine.Effect, Machine.does, Machine.after}
+use Rattle.steps.specs.{declared.step.Op.Op, declared.step.Op.the-variants.Unknown, Machine.Values, Machine.start, Machine.Effect, Machine.does}
+use Rattle.steps.specs.{Machine.afterStep}
 use Rattle.trace.specs.{Trace.Visit, Trace.trace, Trace.traceOf}
 
 module _ (h : History) (s : PositionState) (xs : List Op) where
@@ -14,7 +15,7 @@ module _ (h : History) (s : PositionState) (xs : List Op) where
   -- the visits from place p on, with these values so far
   pub data Visits : ℕ → Values → List Visit → Type 0 where
     past : (p : ℕ) (v : Values) → length xs ≤ p → Visits p v []
-    then : (p : ℕ) (v : Values) (ts : List Visit) → p < length xs → Visits (p + 1 + doesAt p v .skip) (after (doesAt p v) v) ts
+    then : (p : ℕ) (v : Values) (ts : List Visit) → p < length xs → Visits (p + 1 + doesAt p v .skip) (afterStep (doesAt p v) v) ts
         → Visits p v (record { place = p; effect = doesAt p v } ∷ ts)
 
   -- there are no others
@@ -44,10 +45,10 @@ module _ {A : Type 0} (d : A) where
 module _ (h : History) (s : PositionState) (xs : List Op) where
   -- a visit of the step that stands at place p
   at-step : (p : ℕ) (v : Values) (y : Op) (ts : List Visit) → p < length xs → getD xs p Unknown ≡ y
-      → Visits h s xs (p + 1 + does h s y v .skip) (after (does h s y v) v) ts → Visits h s xs p v (record { place = p; effect = does h s y v } ∷ ts)
+      → Visits h s xs (p + 1 + does h s y v .skip) (afterStep (does h s y v) v) ts → Visits h s xs p v (record { place = p; effect = does h s y v } ∷ ts)
   at-step p v y ts l e r =
       subst (λ (z : Op). Visits h s xs p v (record { place = p; effect = does h s z v } ∷ ts)) e
-      (then p v ts l (subst (λ (z : Op). Visits h s xs (p + 1 + does h s z v .skip) (after (does h s z v) v) ts) (sym e) r))
+      (then p v ts l (subst (λ (z : Op). Visits h s xs (p + 1 + does h s z v .skip) (afterStep (does h s z v) v) ts) (sym e) r))
 
   visits-from : (p : ℕ) (ys : List Op) → drop p xs ≡ ys → (k : ℕ) (v : Values) → Visits h s xs (p + k) v (trace h s p ys k v)
   unfolding trace
@@ -59,8 +60,8 @@ module _ (h : History) (s : PositionState) (xs : List Op) where
       let f = from-long Unknown p xs y ys e in
       let here : p + 0 ≡ p = omega arith in
       rw here
-      (at-step p v y (trace h s (p + 1) ys (does h s y v .skip) (after (does h s y v) v)) (f .0) (f .1)
-      (visits-from (p + 1) ys (f .2) (does h s y v .skip) (after (does h s y v) v)))
+      (at-step p v y (trace h s (p + 1) ys (does h s y v .skip) (afterStep (does h s y v) v)) (f .0) (f .1)
+      (visits-from (p + 1) ys (f .2) (does h s y v .skip) (afterStep (does h s y v) v)))
 
   -- THE TRACE FOLLOWS THE JUMPS, and it alone does.
   pub trace-visits : Visits h s xs 0 start (traceOf h s xs)

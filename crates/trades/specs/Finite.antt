@@ -3,9 +3,9 @@ use Rattle.words.specs.Prelude.{ℕ, _≡_, refl, Bool, true, false, _&&_, List
 use Rattle.floats.specs.{Floats.finite}
 use Rattle.portfolio.specs.{declared.Candle.Candle}
 use Rattle.records.specs.{declared.settings.Settings.Settings, declared.state.State.State, Bar.candleOf, Lent.Lists, Lent.Rooms}
-use Rattle.refusals.specs.{declared.verdict.Verdict.Verdict, declared.verdict.Verdict.the-variants.Fine, declared.verdict.Verdict.the-variants.Bad, Bar.candleFine}
-use Rattle.refusals.specs.{Bar.barLines, Judgement.runLines, Judgement.stepLines, Laws.Lines.and-true, Laws.Lines.first-holds, Laws.Lines.both-fine}
-use Rattle.refusals.specs.{Rooms.placeLines}
+use Rattle.refusals.specs.{declared.verdict.Verdict.Verdict, declared.verdict.Verdict.the-variants.Fine, declared.verdict.Verdict.the-variants.Bad}
+use Rattle.refusals.specs.{Bar.candleFine, Bar.barLines, Judgement.runLines, Judgement.stepLines, Laws.Lines.and-true, Laws.Lines.first-holds}
+use Rattle.refusals.specs.{Laws.Lines.both-fine, Rooms.placeLines}
 use Rattle.engine.specs.{Laws.Runs.run-none, Laws.Runs.run-stops, Laws.Runs.run-takes, Run.Run, Run.runOver, Step.stepped, Step.sizeLines, Step.stepVerdict}
 use Rattle.runs.specs.{During.against, During.AllFinite}
 

@@ -1,8 +1,8 @@
 -- Request 6: the least favourable price of each trade of a run is as bad as its fill and as every bar's from the entry bar on, and is one of them.
 -- A fill need not be finite (docs/DECISIONS.md), so nothing is asked of it.
 use Rattle.words.specs.Prelude.{ℕ, _≡_, refl, sym, _∙_, _⊎_, inl, inr, Bool, true, false, false≢true, List, [], _∷_, _++_, Float, nan, inf, fin, take}
-use Rattle.floats.specs.{Floats._≺_, Floats.finite, Floats.zero, Laws.Order.numbers, Laws.Order.itself, Laws.Order.in-turn, Laws.Order.min-is, Laws.Order.max-is}
-use Rattle.floats.specs.{Laws.Order.min-first, Laws.Order.min-second, Laws.Order.max-first, Laws.Order.max-second}
+use Rattle.floats.specs.{Floats._≺_, Floats.finite, Floats.zero, Laws.Order.numbers, Laws.Order.itself, Laws.Order.in-turn, Laws.Order.min-is}
+use Rattle.floats.specs.{Laws.Order.max-is, Laws.Order.min-first, Laws.Order.min-second, Laws.Order.max-first, Laws.Order.max-second}
 use Rattle.rules.specs.{declared.position.Entered.Entered as EntryBar}
 use Rattle.portfolio.specs.{declared.Trade.Trade, Portfolio.worse}
 use Rattle.records.specs.{declared.settings.Settings.Settings, Bar.candleOf, Lent.Lists, Lent.Rooms, State.freshState}
@@ -109,8 +109,8 @@ pub least-recorded : (s : Settings) (ls : Lists) (m : Rooms) (bars : List (List 
     → let r = runOver s ls (freshState s) m bars in
     (fine : stepVerdict s (r .state) bar (r .rooms) ls ≡ Fine)
     → let a = recorded s ls m bars bar fine in
-    Each (Least s (take (r .done) bars) bar (r .state .position .entered)) (a .sold)
-    × Each (Least s (take (r .done) bars) bar (fillOf s (r .state) bar (r .rooms) .position .entered)) (a .stopped)
+    Each (Least s (take (r .done) bars) bar (r .state .position .entered)) (a .byOrder)
+    × Each (Least s (take (r .done) bars) bar (fillOf s (r .state) bar (r .rooms) .position .entered)) (a .insideBar)
 least-recorded s ls m bars bar fine =
     let r : Run = runOver s ls (freshState s) m bars in
     let done = take (r .done) bars in
@@ -119,8 +119,8 @@ least-recorded s ls m bars bar fine =
     let a = recorded s ls m bars bar fine in
     let found : EntryBar = r .state .position .entered in
     let left : EntryBar = fillOf s (r .state) bar (r .rooms) .position .entered in (
-      each (Recorded s done bar found) (Least s done bar found) (λ t x. least-is s done bar found t all own x) (a .sold) (a .each-sold),
-      each (Recorded s done bar left) (Least s done bar left) (λ t x. least-is s done bar left t all own x) (a .stopped) (a .each-stopped),
+      each (Recorded s done bar found) (Least s done bar found) (λ t x. least-is s done bar found t all own x) (a .byOrder) (a .each-by-order),
+      each (Recorded s done bar left) (Least s done bar left) (λ t x. least-is s done bar left t all own x) (a .insideBar) (a .each-inside),
     )
 
 -- and of the trade that finish closes

@@ -1,24 +1,25 @@
 -- No dust (request 7): a box that a run leaves is in a position, with an entry bar, or holds nothing: its quantity is 0 and it has no entry bar.
 use Rattle.words.specs.Prelude.{ℕ, _≡_, refl, sym, ap, _∙_, Bool, true, false, cond, List, T, Float, binary64, fits, cond-fits, mul-fits}
-use Rattle.floats.specs.{Floats._⊗_, Floats._⊘_, Floats._≺_, Floats._≼_, Floats.min, Floats.eps, Floats.zero, Floats.one, Floor.floor, Floor.twoTo53}
+use Rattle.floats.specs.{Floats._⊗_, Floats._⊘_, Floats._≺_, Floats._≼_, Floats.min, Floats.eps, Floats.zero, Floats.one, Floor.asU64, Floor.twoTo53}
 use Rattle.rows.specs.{History.History}
 use Rattle.rules.specs.{declared.position.Entered.the-variants.Never, declared.position.Entered.the-variants.Bar}
-use Rattle.portfolio.specs.{declared.Candle.Candle, declared.Closed.Closed, declared.Portfolio.Portfolio, Portfolio.fresh, Portfolio.inPosition, Portfolio.funded}
-use Rattle.portfolio.specs.{Portfolio.worsened, Portfolio.entered, Portfolio.exited}
-use Rattle.execution.specs.{declared.fills.Entry.Entry, declared.fills.Exit.Exit, declared.fills.Exit.the-variants.NoExit, declared.fills.Exit.the-variants.Exited}
-use Rattle.execution.specs.{declared.costs.Funding.Funding, declared.costs.Funding.the-variants.NotSupplied, declared.costs.Funding.the-variants.Supplied}
-use Rattle.execution.specs.{declared.optional.Optional.Optional, declared.lots.Quantity.Quantity, declared.level.Side.Side, declared.level.OrderKind.OrderKind}
-use Rattle.execution.specs.{declared.terms.Risk.Risk, declared.terms.Terms.Terms, declared.intrabar.Trigger.Trigger}
-use Rattle.execution.specs.{declared.intrabar.Trigger.the-variants.Untouched, declared.intrabar.Trigger.the-variants.At, Costs.slippageRate, Costs.fillPrice}
-use Rattle.execution.specs.{Costs.closed, Costs.withFunding, Costs.chargeFunding, Size.size, Size.ordered, Lots.wholeLots, Lots.inLots, Lots.sizeInLots}
-use Rattle.execution.specs.{Lots.isTooLarge, Lots.orZero, Fills.direction, Fills.volatilityFor, Fills.quantity, Fills.probeQty, Fills.withinVolume, Fills.booked}
-use Rattle.execution.specs.{Fills.executeEntry, Fills.executeExit, Intrabar.closedBy, Intrabar.applyIntrabarExits}
+use Rattle.portfolio.specs.{declared.Candle.Candle, declared.Closed.Closed, declared.Portfolio.Portfolio, Portfolio.fresh, Portfolio.inPosition}
+use Rattle.portfolio.specs.{Portfolio.funded, Portfolio.worsened, Portfolio.entered, Portfolio.exited}
+use Rattle.execution.specs.{declared.fills.Entry.Entry, declared.fills.Exit.Exit, declared.fills.Exit.the-variants.NoExit}
+use Rattle.execution.specs.{declared.fills.Exit.the-variants.Exited, declared.costs.Funding.Funding, declared.costs.Funding.the-variants.NotSupplied}
+use Rattle.execution.specs.{declared.costs.Funding.the-variants.Supplied, declared.optional.Optional.Optional, declared.lots.Quantity.Quantity}
+use Rattle.execution.specs.{declared.level.Side.Side, declared.level.OrderKind.OrderKind, declared.terms.Risk.Risk, declared.terms.Terms.Terms}
+use Rattle.execution.specs.{declared.intrabar.Trigger.Trigger, declared.intrabar.Trigger.the-variants.Untouched, declared.intrabar.Trigger.the-variants.At}
+use Rattle.execution.specs.{Costs.slippageRate, Costs.fillPrice, Costs.closed, Costs.withFunding, Costs.chargeFunding, Size.size, Size.cappedQty}
+use Rattle.execution.specs.{Lots.wholeLots, Lots.inLots, Lots.sizeInLots, Lots.isTooLarge, Lots.orZero, Fills.direction, Fills.volatilityFor, Fills.quantity}
+use Rattle.execution.specs.{Fills.probeQty, Fills.withinVolume, Fills.entryWith, Fills.executeEntry, Fills.executeExit, Intrabar.closedBy}
+use Rattle.execution.specs.{Intrabar.applyIntrabarExits}
 use Rattle.records.specs.{declared.settings.Settings.Settings, declared.state.Order.Order, declared.state.Position.Position, declared.state.State.State}
 use Rattle.records.specs.{Bar.candleOf, Bar.fundingOf, Lent.Lists, Lent.Rooms, State.freshState}
 use Rattle.refusals.specs.{Rooms.toClose}
 use Rattle.engine.specs.{declared.account.Due.Due, declared.account.Due.the-variants.Waits, declared.account.Due.the-variants.Enters}
-use Rattle.engine.specs.{declared.account.Due.the-variants.Leaves, Account.leaving, Account.facing, Account.entering, Account.dueOf, Account.doneOf, Account.filled}
-use Rattle.engine.specs.{Account.intrabar, Account.charged, Finish.lastExit, Finish.endState, Laws.Runs.run-keeps, Run.runOver, Step.stepped}
+use Rattle.engine.specs.{declared.account.Due.the-variants.Leaves, Account.leaving, Account.facing, Account.entering, Account.dueOf, Account.doneOf}
+use Rattle.engine.specs.{Account.filled, Account.intrabar, Account.charged, Finish.lastExit, Finish.endState, Laws.Runs.run-keeps, Run.runOver, Step.stepped}
 use Rattle.trades.specs.{Times.directed}
 use lib.Ieee as Ieee
 use lib.Ieee.Fits.{div-fits}
@@ -51,8 +52,8 @@ quantity-either : (b : Bool) (x y : Quantity) → Quantity64 x → Quantity64 y 
 quantity-either true x y h i = h
 quantity-either false x y h i = i
 
-ordered-64 : (wanted : Optional) (r : Risk) (equity price : Float) → Sized64 (ordered wanted r equity price)
-unfolding ordered
+ordered-64 : (wanted : Optional) (r : Risk) (equity price : Float) → Sized64 (cappedQty wanted r equity price)
+unfolding cappedQty
 ordered-64 Optional.Absent r equity price = tt
 ordered-64 (Optional.Of qty) r equity price = sized-if (qty ≼ zero) _ (div-fits binary64 _ price)
 
@@ -98,8 +99,8 @@ opens-unless : (b : Bool) (x : Entry) → Opens x → Opens (cond b Entry.TooLar
 opens-unless true x h = tt
 opens-unless false x h = h
 
-booked-opens : (side : Side) (x : Quantity) (fill bps : Float) (k : Candle) (p : Portfolio) → Quantity64 x → Opens (booked (direction side) x fill bps k p)
-unfolding booked entered inPosition
+booked-opens : (side : Side) (x : Quantity) (fill bps : Float) (k : Candle) (p : Portfolio) → Quantity64 x → Opens (entryWith (direction side) x fill bps k p)
+unfolding entryWith entered inPosition
 booked-opens side Quantity.Nothing fill bps k p h = tt
 booked-opens side Quantity.TooLarge fill bps k p h = tt
 booked-opens side (Quantity.Of base) fill bps k p h = opens-if (eps ≺ base) _ (λ e. directed side base h e)
@@ -112,7 +113,7 @@ entry-opens side raw bps terms k p h =
     let fill : Float = fillPrice raw (direction side) (slippageRate (terms .slippage) (orZero probe) (k .volume)) in
     let sized : Quantity = quantity terms (p .cash) fill rv in
     let base : Quantity = withinVolume terms sized (k .volume) in
-    opens-unless (isTooLarge probe) (booked (direction side) base fill bps k p)
+    opens-unless (isTooLarge probe) (entryWith (direction side) base fill bps k p)
     (booked-opens side base fill bps k p (within-64 terms sized (k .volume) (quantity-64 terms (p .cash) fill rv)))
 
 -- ---- an exit empties it
@@ -176,8 +177,9 @@ entering-opens p Entry.NoEntry number o h = h
 entering-opens p Entry.TooLarge number o h = h
 entering-opens p (Entry.Entered q fill) number o h = is-open number refl o
 
-done-keeps : (due : Due) (s : Settings) (p : Position) (k : Candle) (h : History) (number : ℕ) → OpenOrEmpty p → OpenOrEmpty (doneOf due s p k h number .position)
-unfolding doneOf Account.entered Account.exited
+done-keeps : (due : Due) (s : Settings) (p : Position) (k : Candle) (h : History) (number : ℕ)
+    → OpenOrEmpty p → OpenOrEmpty (doneOf due s p k h number .position)
+unfolding doneOf Account.entryFilled Account.exitFilled
 done-keeps (Waits o) s p k h number i = i
 done-keeps (Enters side kind price) s p k h number i = entering-opens p _ number (entry-opens side price _ (s .terms) k (p .portfolio) h) i
 done-keeps Leaves s p k h number i = left (facing p k) _ (exit-empties _ _ (s .terms) k _) (faced p k i)

@@ -59,7 +59,7 @@ enters-entry (ExitOrder n) k side kind price e = go (ltb 0 n) e
 
 filled-flat : (s : Settings) (o : Order) (p : Position) (k : Candle) (h : History) (number : ℕ) → OnlyFlat o p
     → OnlyFlat (filled s o p k h number .order) (filled s o p k h number .position)
-unfolding filled doneOf Account.entered Account.exited isEntry
+unfolding filled doneOf Account.entryFilled Account.exitFilled isEntry
 filled-flat s o p k h number i = go (dueOf o k) refl
   where
     go : (due : Due) → dueOf o k ≡ due → OnlyFlat (doneOf due s p k h number .order) (doneOf due s p k h number .position)
@@ -153,7 +153,7 @@ exit-leaves t k (Exited c) = emptied refl
 
 fill-leaves : (s : Settings) (t : State) (k : Candle) (h : History) → OnlyFlat (t .order) (t .position)
     → LeftBy t (filled s (t .order) (t .position) k h (t .counts .«bars_seen») .position .entered)
-unfolding filled doneOf Account.entered Account.exited
+unfolding filled doneOf Account.entryFilled Account.exitFilled
 fill-leaves s t k h i = go (dueOf (t .order) k) refl
   where
     go : (due : Due) → dueOf (t .order) k ≡ due → LeftBy t (doneOf due s (t .position) k h (t .counts .«bars_seen») .position .entered)

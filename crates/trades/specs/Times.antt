@@ -1,9 +1,9 @@
 -- One times a float, and minus one times it, is as large as the float: nothing is rounded.
 use Rattle.words.specs.Prelude.{ℕ, zero, suc, _+_, _-_, _*_, _%_, _^_, _≤_, _<_, mul-assoc, mul-right-comm, mul-one, one-mul, mul-lt-mul-of-pos-right}
-use Rattle.words.specs.Prelude.{lt-of-mul-lt-mul-right, zero-mul, mul-comm, le-of-eq, le-of-suc-le-suc, lt-of-not-le, lt-irrefl, lt-of-lt-of-le, arith, _≡_, refl}
-use Rattle.words.specs.Prelude.{sym, ap, _∙_, subst, Bool, true, false, true≢false, _&&_, T, eqb, ltb, leb, ltb→lt, leb→le, pow-add, pow-pos, pow-lt, pow-mono}
-use Rattle.words.specs.Prelude.{shl-lt, ℤ, pos, negsuc, Float, nan, inf, fin, binary64, fits, round, up, down, HasValue, round-exact, and-l, and-r, down-pos}
-use Rattle.words.specs.Prelude.{ltb-true, lt-ltb}
+use Rattle.words.specs.Prelude.{lt-of-mul-lt-mul-right, zero-mul, mul-comm, le-of-eq, le-of-suc-le-suc, lt-of-not-le, lt-irrefl, lt-of-lt-of-le, arith, _≡_}
+use Rattle.words.specs.Prelude.{refl, sym, ap, _∙_, subst, Bool, true, false, true≢false, _&&_, T, eqb, ltb, leb, ltb→lt, leb→le, pow-add, pow-pos, pow-lt}
+use Rattle.words.specs.Prelude.{pow-mono, shl-lt, ℤ, pos, negsuc, Float, nan, inf, fin, binary64, fits, round, up, down, HasValue, round-exact, and-l, and-r}
+use Rattle.words.specs.Prelude.{down-pos, ltb-true, lt-ltb}
 use Rattle.floats.specs.{Floats._⊗_, Floats._≺_, Floats.abs, Floats.eps, Floats.one}
 use Rattle.execution.specs.{declared.level.Side.Side, declared.level.Side.the-variants.Long, declared.level.Side.the-variants.Short, Fills.direction}
 use lib.Ieee as Ieee

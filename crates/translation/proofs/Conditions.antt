@@ -2,8 +2,8 @@
 use Rattle.words.specs.Prelude.{ℕ, zero, suc, _+_, _-_, _≤_, _≡_, refl, Bool, true, false, not, List, [], _∷_, _++_, append-assoc, arith, sub-one, length}
 use Rattle.table.specs.{Trees.Operand, Trees.Condition, Trees.Conditions, Trees.compare, Trees.cross, Trees.between, Trees.trend, Trees.any, Trees.negated}
 use Rattle.table.specs.{Trees.inPosition, Trees.barsSince, Trees.none, Trees.more, Trees.reach, Trees.reachOf, Trees.reachOfAll}
-use Rattle.rules.specs.{declared.shapes.ConditionShape.ConditionShape, Shapes.endIn, Shapes.conditionShape, Flat.operandAt, Flat.growConditions, Flat.group}
-use Rattle.rules.specs.{Flat.growCondition, Flat.conditionAt}
+use Rattle.rules.specs.{declared.shapes.ConditionShape.ConditionShape, Shapes.endIn, Shapes.conditionShape, Flat.flatOperandAt, Flat.growConditions, Flat.group}
+use Rattle.rules.specs.{Flat.growCondition, Flat.flatConditionAt}
 use Rattle.steps.specs.{declared.step.Op.the-variants.Compare, declared.step.Op.the-variants.Cross, declared.step.Op.the-variants.Between}
 use Rattle.steps.specs.{declared.step.Op.the-variants.Answer, declared.step.Op.the-variants.Turn, declared.step.Op.the-variants.InPosition}
 use Rattle.steps.specs.{declared.step.Op.the-variants.BarsSinceEntry, declared.step.Op.the-variants.JumpIf, Translation.code, Translation.codeOf}
@@ -12,13 +12,13 @@ use Rattle.steps.specs.{Translation.codeEach, Translation.trendTest}
 -- ---- the condition at a node
 
 module _ (t ends : List ℕ) (i : ℕ) where
-  pub ground : (left : ℕ) → left ≡ 0 → conditionAt left t ends i ≡ any none
-  unfolding conditionAt
+  pub ground : (left : ℕ) → left ≡ 0 → flatConditionAt left t ends i ≡ any none
+  unfolding flatConditionAt
   ground left e = rw e
 
   pub grown : (left : ℕ) → (left ≡ 0 → ⊥) → (s x : ConditionShape) → s ≡ conditionShape t ends i → s ≡ x
-      → conditionAt left t ends i ≡ growCondition (operandAt (left - 1) t ends) (conditionAt (left - 1) t ends) ends x
-  unfolding conditionAt
+      → flatConditionAt left t ends i ≡ growCondition (flatOperandAt (left - 1) t ends) (flatConditionAt (left - 1) t ends) ends x
+  unfolding flatConditionAt
   grown zero e s x p q = absurd (e refl)
   grown (suc left) e s x p q = rw (sub-one (suc left), ← p, q)
 

@@ -2,12 +2,14 @@
 use Rattle.words.specs.Prelude.{ℕ, _+_, _*_, _≤_, _<_, _≡_, sym, _∙_, List, [], _++_, arith, true, false, length, drop, ltb, eq-eqb, ne-eqb, lt-ltb, le-ltb}
 use Rattle.words.specs.{declared.refusal.Refusal.Refusal, Outcome.refusal}
 use Rattle.table.specs.{declared.answer.Answer.the-variants.Accepted, declared.answer.Answer.the-variants.Refused, Trees.reachOf, Header.count, Header.root}
-use Rattle.table.specs.{Checked.checked, Ends.endsBeside, Reading.treeOf, Reading.present, Laws.Accepted.tree-reach, declared.trees.Tree.Tree, Header.treeNumber}
+use Rattle.table.specs.{Checked.checked, Ends.endsBeside, Reading.treeOf, Reading.present, Laws.Accepted.tree-reach, declared.trees.Tree.Tree}
+use Rattle.table.specs.{Header.treeNumber}
 use Rattle.roundtrip.specs.{Laws.Reach.tree-reach-is, Laws.AcceptedWritten.tree-nodes}
-use Rattle.rules.specs.{Flat.conditionAt, Laws.FlatReading.tree-joined, Laws.Answers.tree-of-four}
-use Rattle.steps.specs.{declared.translated.Translated.the-variants.Writes, declared.translated.Translated.the-variants.Refuses, declared.step.Op.Op, Bytes.written}
-use Rattle.steps.specs.{Bytes.bytesOf, Bytes.Fits, Bytes.Wrote, Translation.codeOf, Translating.stepsOf, Translating.roomFor, Translating.writesOr}
-use Rattle.steps.specs.{Translating.afterTable, Translating.translates, Translating.roomAfter, Translating.roomLeft, Room.two-a-node, Laws.Encoding.steps-long}
+use Rattle.rules.specs.{Flat.flatConditionAt, Laws.FlatReading.tree-joined, Laws.Answers.tree-of-four}
+use Rattle.steps.specs.{declared.translated.Translated.the-variants.Writes, declared.translated.Translated.the-variants.Refuses, declared.step.Op.Op}
+use Rattle.steps.specs.{Bytes.written, Bytes.bytesOf, Bytes.Fits, Bytes.Wrote, Translation.codeOf, Translating.stepsOf, Translating.roomFor}
+use Rattle.steps.specs.{Translating.writesOr, Translating.afterTable, Translating.translates, Translating.roomAfter, Translating.roomLeft, Room.two-a-node}
+use Rattle.steps.specs.{Laws.Encoding.steps-long}
 use Rattle.translation.proofs.{Writes.bytes-there}
 
 -- ---- what is written at the front of a room
@@ -24,14 +26,14 @@ unfolding stepsOf present
 no-steps t x e = rw (eq-eqb (count t x) 0 e)
 
 module _ (t : List ℕ) (n r x : ℕ) (ok : checked t ≡ Accepted n r) (l : x < 4) (some : count t x ≡ 0 → ⊥) where
-  its-steps : stepsOf t x ≡ codeOf (conditionAt 32 t (endsBeside t) (root t x))
+  its-steps : stepsOf t x ≡ codeOf (flatConditionAt 32 t (endsBeside t) (root t x))
   unfolding stepsOf present
   its-steps = rw (ne-eqb (count t x) 0 some, tree-joined t n r ok x l (omega arith))
 
-  near : reachOf (conditionAt 32 t (endsBeside t) (root t x)) ≤ 4096
+  near : reachOf (flatConditionAt 32 t (endsBeside t) (root t x)) ≤ 4096
   near = rw (tree-joined t n r ok x l (omega arith)) (omega (arith, tree-reach-is t n r x ok l, tree-reach t n r ok x l))
 
-  roomy : (room : List ℕ) → roomFor t x ≤ length room → Fits room 0 (codeOf (conditionAt 32 t (endsBeside t) (root t x)))
+  roomy : (room : List ℕ) → roomFor t x ≤ length room → Fits room 0 (codeOf (flatConditionAt 32 t (endsBeside t) (root t x)))
   roomy room enough =
       rw (tree-joined t n r ok x l (omega arith))
       record { bytes = omega (arith, two-a-node (treeOf t x), tree-nodes t n r ok x l (omega arith)) }
@@ -67,13 +69,13 @@ module _ (t room : List ℕ) (tree : Tree) where
         there : count t x ≡ 0 → ⊥
         there e = some (is ∙ e)
 
-        pub can-write : (reachOf (conditionAt 32 t ends i) ≤ 4096) × Fits room 0 (codeOf (conditionAt 32 t ends i))
+        pub can-write : (reachOf (flatConditionAt 32 t ends i) ≤ 4096) × Fits room 0 (codeOf (flatConditionAt 32 t ends i))
         can-write = rw (beside, at) (near t n r x ok below there, roomy t n r x ok below there room (rw is at enough))
 
-        pub writes-all : (after : List ℕ) (m : ℕ) → Wrote room 0 (codeOf (conditionAt 32 t ends i)) after m
+        pub writes-all : (after : List ℕ) (m : ℕ) → Wrote room 0 (codeOf (flatConditionAt 32 t ends i)) after m
             → (Writes m ≡ translates t tree room) × (after ≡ roomLeft t tree room)
         unfolding translates afterTable writesOr roomLeft roomAfter
         writes-all after m w =
-            let all : stepsOf t (treeNumber tree) ≡ codeOf (conditionAt 32 t ends i) = rw (← of, beside, at) (its-steps t n r x ok below there) in
-            let count : m ≡ length (codeOf (conditionAt 32 t ends i)) = omega (arith, w .place) in
-            (rw (ok, fits-all, all, count), w .bytes ∙ rw (ok, fits-all, all) (front room (codeOf (conditionAt 32 t ends i)) (can-write .1)))
+            let all : stepsOf t (treeNumber tree) ≡ codeOf (flatConditionAt 32 t ends i) = rw (← of, beside, at) (its-steps t n r x ok below there) in
+            let count : m ≡ length (codeOf (flatConditionAt 32 t ends i)) = omega (arith, w .place) in
+            (rw (ok, fits-all, all, count), w .bytes ∙ rw (ok, fits-all, all) (front room (codeOf (flatConditionAt 32 t ends i)) (can-write .1)))

@@ -4,7 +4,7 @@ use Rattle.words.specs.Prelude.{ℕ, _+_, _-_, _*_, _/_, _<_, _≤_, _≡_, ref
 use Rattle.words.specs.Prelude.{length-take, lt-ltb}
 use Rattle.table.specs.{Bytes.u64, Trees.Condition, Trees.reachOf, Trees.reachOfAll}
 use Rattle.rules.specs.{Shapes.endIn, Flat.growConditions}
-use Rattle.steps.specs.{declared.step.Op.Op, declared.step.Step.Step, declared.step.Op.the-variants.Const, declared.step.Op.the-variants.JumpIf, Bytes.write}
+use Rattle.steps.specs.{declared.step.Op.Op, declared.step.Step.Step, declared.step.Op.the-variants.Const, declared.step.Op.the-variants.JumpIf, Bytes.writeAt}
 use Rattle.steps.specs.{Bytes.stepOf, Bytes.stepBytes, Bytes.bytesOf, Bytes.stepAt, Bytes.readStep, Bytes.Fits, Bytes.Wrote, Translation.codeOf}
 use Rattle.steps.specs.{Translation.codeEach, Laws.Encoding.Sayable, Laws.Encoding.step-there, Laws.Encoding.steps-long}
 use Rattle.translation.proofs.{Writes.length-write, Writes.length-wrote, Writes.bytes-there, Writes.fits-first, Writes.fits-rest, Writes.wrote-none}
@@ -37,7 +37,7 @@ module _ (w : Bool) (f : ℕ → Condition) (ends : List ℕ) (n j : ℕ) (l₀ 
   pub data Linked : ℕ → ℕ → ℕ → ℕ → List ℕ → Type 0 where
     start : {last : ℕ} → Linked n last j at₀ l₀
     child : {m last i p q : ℕ} {l l′ l″ : List ℕ} → 0 < m → last < 18446744073709551616 → Linked m last i p l → Fits l p (rest m i)
-        → Wrote l p (codeOf (f i)) l′ q → l″ ≡ write l′ (16 * q) (stepBytes (stepOf (Const last 0))) → Linked (m - 1) q (endIn ends i) (q + 1) l″
+        → Wrote l p (codeOf (f i)) l′ q → l″ ≡ writeAt l′ (16 * q) (stepBytes (stepOf (Const last 0))) → Linked (m - 1) q (endIn ends i) (q + 1) l″
 
   -- what the first loop keeps
   pub record Writing (m last i p : ℕ) (l : List ℕ) : Type 0 where
@@ -85,7 +85,7 @@ module _ (w : Bool) (f : ℕ → Condition) (ends : List ℕ) (n j : ℕ) (l₀ 
     link-fits = omega (arith, behind .bytes)
 
     -- and once it is written, one condition less is left
-    pub push : {l″ : List ℕ} → l″ ≡ write l′ (16 * q) (stepBytes (stepOf (Const last 0)))
+    pub push : {l″ : List ℕ} → l″ ≡ writeAt l′ (16 * q) (stepBytes (stepOf (Const last 0)))
         → Writing (m - 1) q (endIn ends i) (q + 1) l″
     push {l″} put =
         let same : length l″ ≡ length l′ = ap length put ∙ length-write l′ (16 * q) _ in
@@ -107,7 +107,7 @@ module _ (w : Bool) (f : ℕ → Condition) (ends : List ℕ) (n j : ℕ) (l₀ 
   pub record Popped (m last q : ℕ) (l : List ℕ) : Type 0 where
     pub above : last < q
     pub fits : 16 * (last + 1) ≤ length l
-    pub closes : (l′ : List ℕ) → l′ ≡ write l (16 * last) (stepBytes (stepOf (JumpIf w (q - last - 1)))) → Closing (m + 1) (u64 l (16 * last + 8)) q l′
+    pub closes : (l′ : List ℕ) → l′ ≡ writeAt l (16 * last) (stepBytes (stepOf (JumpIf w (q - last - 1)))) → Closing (m + 1) (u64 l (16 * last + 8)) q l′
 
   pub pop : {m last q : ℕ} {l : List ℕ} → m < n → Closing m last q l → Popped m last q l
   pop {q = q} {l} less c = go (c .linked) (c .wrote) less

@@ -2,51 +2,52 @@
 use Rattle.words.specs.Prelude.{ℕ, zero, suc, _+_, _-_, _≤_, _≡_, refl, List, [], _∷_, _++_, arith, sub-one}
 use Rattle.table.specs.{Trees.Operand, Trees.const, Trees.ref, Trees.price, Trees.prev, Trees.arith as sums, Trees.extreme, Trees.reach}
 use Rattle.table.specs.{declared.series.Series.Series, Series.seriesIn}
-use Rattle.rules.specs.{declared.shapes.OperandShape.OperandShape, declared.shapes.OperandShape.the-variants.Const, declared.shapes.OperandShape.the-variants.Ref}
-use Rattle.rules.specs.{declared.shapes.OperandShape.the-variants.Price, declared.shapes.OperandShape.the-variants.Prev}
-use Rattle.rules.specs.{declared.shapes.OperandShape.the-variants.Arith, declared.shapes.OperandShape.the-variants.Extreme}
-use Rattle.rules.specs.{declared.shapes.OperandShape.the-variants.NoOperand, Shapes.operandShape, Flat.growOperand, Flat.operandAt}
+use Rattle.rules.specs.{declared.shapes.OperandShape.OperandShape, declared.shapes.OperandShape.the-variants.Const}
+use Rattle.rules.specs.{declared.shapes.OperandShape.the-variants.Ref, declared.shapes.OperandShape.the-variants.Price}
+use Rattle.rules.specs.{declared.shapes.OperandShape.the-variants.Prev, declared.shapes.OperandShape.the-variants.Arith}
+use Rattle.rules.specs.{declared.shapes.OperandShape.the-variants.Extreme, declared.shapes.OperandShape.the-variants.NoOperand, Shapes.operandShape}
+use Rattle.rules.specs.{Flat.growOperand, Flat.flatOperandAt}
 use Rattle.steps.specs.{Translation.code}
 use Rattle.steps.specs.declared.step.Op.the-variants as Op
 
 module _ (t ends : List ℕ) (i : ℕ) where
-  pub ground : (left : ℕ) → left ≡ 0 → operandAt left t ends i ≡ const 0
-  unfolding operandAt
+  pub ground : (left : ℕ) → left ≡ 0 → flatOperandAt left t ends i ≡ const 0
+  unfolding flatOperandAt
   ground left e = rw e
 
   grown : (left : ℕ) → (left ≡ 0 → ⊥) → (s x : OperandShape) → s ≡ operandShape t ends i → s ≡ x
-      → operandAt left t ends i ≡ growOperand (seriesIn t) (operandAt (left - 1) t ends) x
-  unfolding operandAt
+      → flatOperandAt left t ends i ≡ growOperand (seriesIn t) (flatOperandAt (left - 1) t ends) x
+  unfolding flatOperandAt
   grown zero e s x p q = absurd (e refl)
   grown (suc left) e s x p q = rw (sub-one (suc left), ← p, q)
 
   module _ (left : ℕ) (more : left ≡ 0 → ⊥) (s : OperandShape) (p : s ≡ operandShape t ends i) where
-    pub a-const : (bits : ℕ) → s ≡ Const bits → operandAt left t ends i ≡ const bits
+    pub a-const : (bits : ℕ) → s ≡ Const bits → flatOperandAt left t ends i ≡ const bits
     unfolding growOperand
     a-const bits q = grown left more s (Const bits) p q
 
-    pub a-ref : (slot : ℕ) → s ≡ Ref slot → operandAt left t ends i ≡ ref slot
+    pub a-ref : (slot : ℕ) → s ≡ Ref slot → flatOperandAt left t ends i ≡ ref slot
     unfolding growOperand
     a-ref slot q = grown left more s (Ref slot) p q
 
-    pub a-price : (selector : ℕ) → s ≡ Price selector → operandAt left t ends i ≡ price selector
+    pub a-price : (selector : ℕ) → s ≡ Price selector → flatOperandAt left t ends i ≡ price selector
     unfolding growOperand
     a-price selector q = grown left more s (Price selector) p q
 
-    pub a-prev : (a n : ℕ) → s ≡ Prev a n → operandAt left t ends i ≡ prev (operandAt (left - 1) t ends a) n
+    pub a-prev : (a n : ℕ) → s ≡ Prev a n → flatOperandAt left t ends i ≡ prev (flatOperandAt (left - 1) t ends a) n
     unfolding growOperand
     a-prev a n q = grown left more s (Prev a n) p q
 
     pub a-sum : (kind a b : ℕ) → s ≡ Arith kind a b
-        → operandAt left t ends i ≡ sums kind (operandAt (left - 1) t ends a) (operandAt (left - 1) t ends b)
+        → flatOperandAt left t ends i ≡ sums kind (flatOperandAt (left - 1) t ends a) (flatOperandAt (left - 1) t ends b)
     unfolding growOperand
     a-sum kind a b q = grown left more s (Arith kind a b) p q
 
-    pub an-extreme : (kind a n : ℕ) → s ≡ Extreme kind a n → operandAt left t ends i ≡ extreme kind (seriesIn t a) n
+    pub an-extreme : (kind a n : ℕ) → s ≡ Extreme kind a n → flatOperandAt left t ends i ≡ extreme kind (seriesIn t a) n
     unfolding growOperand
     an-extreme kind a n q = grown left more s (Extreme kind a n) p q
 
-    pub no-operand : s ≡ NoOperand → operandAt left t ends i ≡ const 0
+    pub no-operand : s ≡ NoOperand → flatOperandAt left t ends i ≡ const 0
     unfolding growOperand
     no-operand q = grown left more s NoOperand p q
 

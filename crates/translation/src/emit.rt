@@ -10,15 +10,15 @@ ghost use mathlib.Core.List.{[], _∷_, _++_};
 ghost use Prim.Native.Nat.{ℕ, _+_, _-_, _*_, _%_, _≤_};
 ghost use lib.ListN.{length};
 ghost use Rattle.table.specs.Trees.{Operand, reach, reachOf, cross, between};
-ghost use Rattle.rules.specs.Flat.{operandAt};
-ghost use Rattle.steps.specs.Bytes.{four, fields, slotKind, stepBytes, write, Fits, Wrote};
+ghost use Rattle.rules.specs.Flat.{flatOperandAt};
+ghost use Rattle.steps.specs.Bytes.{four, fields, slotKind, stepBytes, writeAt, Fits, Wrote};
 ghost use Rattle.steps.specs.declared.step.Op.the-variants as Op;
 ghost use Rattle.steps.specs.Translation.{code, trendTest, codeOf};
 
 // Four bytes, the first at p.
 fn put_four(room: &mut [u8], p: usize, a: u8, b: u8, c: u8, d: u8)
     requires { ⌜ p + 4 ≤ length (now room) ⌝ }
-    ensures { λ _. ⌜ now (room .exit) ≡ write (now (room .entry)) p (a ∷ b ∷ c ∷ d ∷ []) ⌝ }
+    ensures { λ _. ⌜ now (room .exit) ≡ writeAt (now (room .entry)) p (a ∷ b ∷ c ∷ d ∷ []) ⌝ }
 {
     room[p] = a;
     room[p + 1] = b;
@@ -36,7 +36,7 @@ fn low(n: u64) -> u8
 // A number of 32 bits, the first byte at p.
 fn put_number(room: &mut [u8], p: usize, n: u64)
     requires { ⌜ p + 4 ≤ length (now room) ⌝ }
-    ensures { λ _. ⌜ now (room .exit) ≡ write (now (room .entry)) p (four n) ⌝ }
+    ensures { λ _. ⌜ now (room .exit) ≡ writeAt (now (room .entry)) p (four n) ⌝ }
 {
     put_four(
         room,
@@ -60,7 +60,7 @@ pub(crate) fn put_step(
 ) -> usize
     requires { ⌜ 16 * (at + 1) ≤ length (now room) ⌝ }
     ensures { λ r. ⌜ r ≡ at + 1 ⌝ }
-    ensures { λ _. ⌜ now (room .exit) ≡ write (now (room .entry)) (16 * at) (stepBytes (fields kind selector skip n bits)) ⌝ }
+    ensures { λ _. ⌜ now (room .exit) ≡ writeAt (now (room .entry)) (16 * at) (stepBytes (fields kind selector skip n bits)) ⌝ }
 {
     let p = 16 * at;
     put_four(room, p, kind, low(selector), low(skip), low(skip / 256));
@@ -103,9 +103,9 @@ pub(crate) fn emit_operand(
     room: &mut [u8],
     at: usize,
 ) -> usize
-    requires { ⌜ back + reach (operandAt left (now t) (now ends) i) ≤ 8192 ⌝ }
-    requires { ⌜ Fits (now room) at (code (operandAt left (now t) (now ends) i) back) ⌝ }
-    ensures { λ r. ⌜ Wrote (now (room .entry)) at (code (operandAt left (now (t .entry)) (now (ends .entry)) i) back) (now (room .exit)) r ⌝ }
+    requires { ⌜ back + reach (flatOperandAt left (now t) (now ends) i) ≤ 8192 ⌝ }
+    requires { ⌜ Fits (now room) at (code (flatOperandAt left (now t) (now ends) i) back) ⌝ }
+    ensures { λ r. ⌜ Wrote (now (room .entry)) at (code (flatOperandAt left (now (t .entry)) (now (ends .entry)) i) back) (now (room .exit)) r ⌝ }
 {
     if left == 0 {
         return put_step(room, at, kinds::CONST, 0, 0, back, 0);
@@ -148,9 +148,9 @@ fn emit_two(
     room: &mut [u8],
     at: usize,
 ) -> usize
-    requires { ⌜ (let o : ℕ → Operand = operandAt left (now t) (now ends) in (m + reach (o a) ≤ 8192) × (n + reach (o b) ≤ 8192)) ⌝ }
-    requires { ⌜ (let o : ℕ → Operand = operandAt left (now t) (now ends) in Fits (now room) at (code (o a) m ++ code (o b) n)) ⌝ }
-    ensures { λ r. ⌜ (let o : ℕ → Operand = operandAt left (now (t .entry)) (now (ends .entry)) in
+    requires { ⌜ (let o : ℕ → Operand = flatOperandAt left (now t) (now ends) in (m + reach (o a) ≤ 8192) × (n + reach (o b) ≤ 8192)) ⌝ }
+    requires { ⌜ (let o : ℕ → Operand = flatOperandAt left (now t) (now ends) in Fits (now room) at (code (o a) m ++ code (o b) n)) ⌝ }
+    ensures { λ r. ⌜ (let o : ℕ → Operand = flatOperandAt left (now (t .entry)) (now (ends .entry)) in
         Wrote (now (room .entry)) at (code (o a) m ++ code (o b) n) (now (room .exit)) r) ⌝ }
 {
     let p = emit_operand(t, ends, a, m, left, room, at);
@@ -169,10 +169,10 @@ pub(crate) fn emit_compare(
     room: &mut [u8],
     at: usize,
 ) -> usize
-    requires { ⌜ (let o : ℕ → Operand = operandAt left (now t) (now ends) in (0 + reach (o a) ≤ 8192) × (n + reach (o b) ≤ 8192)) ⌝ }
-    requires { ⌜ (let o : ℕ → Operand = operandAt left (now t) (now ends) in
+    requires { ⌜ (let o : ℕ → Operand = flatOperandAt left (now t) (now ends) in (0 + reach (o a) ≤ 8192) × (n + reach (o b) ≤ 8192)) ⌝ }
+    requires { ⌜ (let o : ℕ → Operand = flatOperandAt left (now t) (now ends) in
         Fits (now room) at ((code (o a) 0 ++ code (o b) n) ++ Op.Compare kind ∷ [])) ⌝ }
-    ensures { λ r. ⌜ (let o : ℕ → Operand = operandAt left (now (t .entry)) (now (ends .entry)) in
+    ensures { λ r. ⌜ (let o : ℕ → Operand = flatOperandAt left (now (t .entry)) (now (ends .entry)) in
         Wrote (now (room .entry)) at ((code (o a) 0 ++ code (o b) n) ++ Op.Compare kind ∷ []) (now (room .exit)) r) ⌝ }
 {
     let p = emit_two(t, ends, a, 0, b, n, left, room, at);
@@ -201,9 +201,9 @@ pub(crate) fn emit_cross(
     room: &mut [u8],
     at: usize,
 ) -> usize
-    requires { ⌜ reachOf (cross kind (operandAt left (now t) (now ends) a) (operandAt left (now t) (now ends) b)) ≤ 4096 ⌝ }
-    requires { ⌜ Fits (now room) at (codeOf (cross kind (operandAt left (now t) (now ends) a) (operandAt left (now t) (now ends) b))) ⌝ }
-    ensures { λ r. ⌜ (let o : ℕ → Operand = operandAt left (now (t .entry)) (now (ends .entry)) in
+    requires { ⌜ reachOf (cross kind (flatOperandAt left (now t) (now ends) a) (flatOperandAt left (now t) (now ends) b)) ≤ 4096 ⌝ }
+    requires { ⌜ Fits (now room) at (codeOf (cross kind (flatOperandAt left (now t) (now ends) a) (flatOperandAt left (now t) (now ends) b))) ⌝ }
+    ensures { λ r. ⌜ (let o : ℕ → Operand = flatOperandAt left (now (t .entry)) (now (ends .entry)) in
         Wrote (now (room .entry)) at (codeOf (cross kind (o a) (o b))) (now (room .exit)) r) ⌝ }
 {
     let p = emit_two(t, ends, a, 0, b, 0, left, room, at);
@@ -222,9 +222,9 @@ pub(crate) fn emit_between(
     room: &mut [u8],
     at: usize,
 ) -> usize
-    requires { ⌜ (let o : ℕ → Operand = operandAt left (now t) (now ends) in reachOf (between (o x) (o low) (o high)) ≤ 4096) ⌝ }
-    requires { ⌜ (let o : ℕ → Operand = operandAt left (now t) (now ends) in Fits (now room) at (codeOf (between (o x) (o low) (o high)))) ⌝ }
-    ensures { λ r. ⌜ (let o : ℕ → Operand = operandAt left (now (t .entry)) (now (ends .entry)) in
+    requires { ⌜ (let o : ℕ → Operand = flatOperandAt left (now t) (now ends) in reachOf (between (o x) (o low) (o high)) ≤ 4096) ⌝ }
+    requires { ⌜ (let o : ℕ → Operand = flatOperandAt left (now t) (now ends) in Fits (now room) at (codeOf (between (o x) (o low) (o high)))) ⌝ }
+    ensures { λ r. ⌜ (let o : ℕ → Operand = flatOperandAt left (now (t .entry)) (now (ends .entry)) in
         Wrote (now (room .entry)) at (codeOf (between (o x) (o low) (o high))) (now (room .exit)) r) ⌝ }
 {
     let p = emit_operand(t, ends, x, 0, left, room, at);

@@ -16,7 +16,7 @@ ghost use mathlib.Core.Path.{_≡_};
 ghost use mathlib.Core.Bool.{cond, not};
 ghost use Prim.Native.Nat.{_≤_};
 ghost use Rattle.table.specs.Trees.{reachOf, reachOfAll};
-ghost use Rattle.rules.specs.Flat.{growConditions, conditionAt};
+ghost use Rattle.rules.specs.Flat.{growConditions, flatConditionAt};
 ghost use Rattle.steps.specs.Bytes.{Fits, Wrote};
 ghost use Rattle.steps.specs.Translation.{codeOf, codeEach};
 ghost use Rattle.steps.specs.Translating.{translates, roomLeft};
@@ -61,9 +61,9 @@ fn emit_condition(
     room: &mut [u8],
     at: usize,
 ) -> usize
-    requires { ⌜ reachOf (conditionAt left (now t) (now ends) i) ≤ 4096 ⌝ }
-    requires { ⌜ Fits (now room) at (codeOf (conditionAt left (now t) (now ends) i)) ⌝ }
-    ensures { λ r. ⌜ Wrote (now (room .entry)) at (codeOf (conditionAt left (now (t .entry)) (now (ends .entry)) i)) (now (room .exit)) r ⌝ }
+    requires { ⌜ reachOf (flatConditionAt left (now t) (now ends) i) ≤ 4096 ⌝ }
+    requires { ⌜ Fits (now room) at (codeOf (flatConditionAt left (now t) (now ends) i)) ⌝ }
+    ensures { λ r. ⌜ Wrote (now (room .entry)) at (codeOf (flatConditionAt left (now (t .entry)) (now (ends .entry)) i)) (now (room .exit)) r ⌝ }
 {
     if left == 0 {
         return emit::put_step(room, at, kinds::ANY, 0, 0, 0, 0);
@@ -154,10 +154,10 @@ fn emit_each(
     room: &mut [u8],
     at: usize,
 ) -> usize
-    requires { ⌜ reachOfAll (growConditions (conditionAt left (now t) (now ends)) (now ends) n j) ≤ 4096 ⌝ }
-    requires { ⌜ Fits (now room) at (codeEach (not all) (growConditions (conditionAt left (now t) (now ends)) (now ends) n j)) ⌝ }
+    requires { ⌜ reachOfAll (growConditions (flatConditionAt left (now t) (now ends)) (now ends) n j) ≤ 4096 ⌝ }
+    requires { ⌜ Fits (now room) at (codeEach (not all) (growConditions (flatConditionAt left (now t) (now ends)) (now ends) n j)) ⌝ }
     ensures { λ r. ⌜ Wrote (now (room .entry)) at
-        (codeEach (not all) (growConditions (conditionAt left (now (t .entry)) (now (ends .entry))) (now (ends .entry)) n j))
+        (codeEach (not all) (growConditions (flatConditionAt left (now (t .entry)) (now (ends .entry))) (now (ends .entry)) n j))
         (now (room .exit)) r ⌝ }
 {
     let jump = jump_kind(all);

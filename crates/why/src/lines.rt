@@ -49,7 +49,7 @@ fn say_value(word: u64) {
         if x < 0.0 {
             say(b"-");
         }
-        say_millionths(floats::floor(size * PLACES + 0.5));
+        say_millionths(floats::as_u64(size * PLACES + 0.5));
         return;
     }
     say(b"bits ");

@@ -1,6 +1,6 @@
 -- An account's own bar: as long as a bar of its slots, and readable from the room that it was written to.
-use Rattle.words.specs.Prelude.{ℕ, _+_, _≤_, _≡_, refl, sym, ap, _∙_, List, [], _∷_, _++_, append-assoc, arith, eq-eqb, le-leb, length, take, drop, length-append}
-use Rattle.words.specs.Prelude.{length-take, length-drop, take-at, drop-append-add, drop-drop}
+use Rattle.words.specs.Prelude.{ℕ, _+_, _≤_, _≡_, refl, sym, ap, _∙_, List, [], _∷_, _++_, append-assoc, arith, eq-eqb, le-leb, length, take, drop}
+use Rattle.words.specs.Prelude.{length-append, length-take, length-drop, take-at, drop-append-add, drop-drop}
 use Rattle.words.specs.{Laws.Overwrite.overwrite-fits, Laws.Overwrite.overwrite-length, Limits.barWords, Limits.rowWords, Words.overwrite}
 use Rattle.accounts.specs.{Own.ownBar, Own.ownInto}
 

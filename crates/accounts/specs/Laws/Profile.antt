@@ -2,8 +2,8 @@
 use Rattle.words.specs.Prelude.{ℕ, _≤_, _≡_, Bool, true, _&&_, List, leb-true, leb}
 use Rattle.records.specs.{declared.settings.Settings.Settings}
 use Rattle.refusals.specs.{declared.verdict.Verdict.the-variants.Fine, Laws.Lines.never, Laws.Lines.and-true, Laws.Lines.first-holds}
-use Rattle.table.specs.{declared.answer.Answer.Answer, declared.answer.Answer.the-variants.Accepted, declared.answer.Answer.the-variants.Refused, Checked.checked}
-use Rattle.table.specs.{Header.slots}
+use Rattle.table.specs.{declared.answer.Answer.Answer, declared.answer.Answer.the-variants.Accepted, declared.answer.Answer.the-variants.Refused}
+use Rattle.table.specs.{Checked.checked, Header.slots}
 use Rattle.accounts.specs.{Profile.noShortTrees, Profile.leverageWithin, Profile.slotsWithin, Profile.withinProfile, Profile.afterTable}
 use Rattle.accounts.specs.{Profile.profileJudged}
 

@@ -7,7 +7,7 @@ use Rattle.blocks.specs.{declared.append.Added.Added, declared.append.Ad
 use Rattle.blocks.specs.{Blocks.blockBars, Blocks.blockWords, Append.Append, Append.appended, Append.kept, Append.unchanged, Append.placeForBlock}
 
 -- what an append that is not refused has
-pub record Taken (held close : ℕ) (closes blocks : List ℕ) : Type 0 where
+pub record Appendable (held close : ℕ) (closes blocks : List ℕ) : Type 0 where
   pub room : held < length closes
   pub count : held < mostCount
   pub place : blockWords * (held / blockBars) + blockWords ≤ length blocks
@@ -28,9 +28,9 @@ all-pass true false r s k a b c closes blocks e = not-held e
 all-pass false q r s k a b c closes blocks e = not-held e
 
 module _ (held close : ℕ) (closes blocks : List ℕ) where
-  pub taken-has : {n : ℕ} → appended held close closes blocks .answer ≡ Held n → Taken held close closes blocks
+  pub appended-has : {n : ℕ} → appended held close closes blocks .answer ≡ Held n → Appendable held close closes blocks
   unfolding appended
-  taken-has e =
+  appended-has e =
       let t = all-pass (ltb held (length closes)) (ltb held mostCount) (placeForBlock held blocks) (finite (floatOf close)) (kept held close closes blocks)
       _ _ _ closes blocks e in
       record {
@@ -41,7 +41,7 @@ module _ (held close : ℕ) (closes blocks : List ℕ) where
       }
 
   -- and such a close is taken
-  pub is-taken : Taken held close closes blocks → appended held close closes blocks ≡ kept held close closes blocks
+  pub is-taken : Appendable held close closes blocks → appended held close closes blocks ≡ kept held close closes blocks
   unfolding appended
   is-taken t = simp (lt-ltb _ _ (t .room), lt-ltb _ _ (t .count), le-leb _ _ (t .place), t .number)
 

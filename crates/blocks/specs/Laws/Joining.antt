@@ -1,8 +1,8 @@
 -- Joining stretches of numbers: three may be joined from either end, so two readings, one after the other, joined are one. Assumes nothing.
-use Rattle.words.specs.Prelude.{ℕ, zero, suc, _+_, _<_, _≡_, refl, sym, ap, _∙_, Bool, true, false, cond, false≢true, true≢false, List, add-zero, add-suc, arith}
-use Rattle.words.specs.Prelude.{getD}
-use Rattle.blocks.specs.{declared.best.Best.Best, Reading.above, Reading.below, Reading.one, Reading.join, Reading.reading, Reading.Number, Laws.Order.twice}
-use Rattle.blocks.specs.{Laws.Order.not-twice}
+use Rattle.words.specs.Prelude.{ℕ, zero, suc, _+_, _<_, _≡_, refl, sym, ap, _∙_, Bool, true, false, cond, false≢true, true≢false, List, add-zero, add-suc}
+use Rattle.words.specs.Prelude.{arith, getD}
+use Rattle.blocks.specs.{declared.best.Best.Best, Reading.above, Reading.below, Reading.one, Reading.join, Reading.reading, Reading.Number}
+use Rattle.blocks.specs.{Laws.Order.twice, Laws.Order.not-twice}
 
 -- two that are equal word by word
 pub same : {h i l j h′ i′ l′ j′ : ℕ} → h ≡ h′ → i ≡ i′ → l ≡ l′ → j ≡ j′

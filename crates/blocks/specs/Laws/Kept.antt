@@ -8,7 +8,7 @@ use Rattle.blocks.specs.{Reads.best, Reads.onto, Reads.told, Laws.Joinin
 use Rattle.blocks.specs.{Laws.Reads.reads-block, Laws.Reads.reads-close, Laws.Reads.onto-reads}
 
 -- every close is a number, and every block is what reading its bars gives, the last one as far as there are bars
-pub record Kept (held : ℕ) (closes blocks : List ℕ) : Type 0 where
+pub record BlocksKept (held : ℕ) (closes blocks : List ℕ) : Type 0 where
   pub numbers : (i : ℕ) → i < held → Number (getD closes i 0)
   pub blocked : (j : ℕ) → blockBars * j < held → block blocks j ≡ reading closes (blockBars * j) (min 63 (held - 1 - blockBars * j))
 
@@ -29,7 +29,7 @@ closes-on closes first k (suc n) =
     turn : (x y z : ℕ) → x + suc y + z ≡ x + suc (y + z)
     turn x y z = omega arith
 
-module _ (held : ℕ) (closes blocks : List ℕ) (kept : Kept held closes blocks) where
+module _ (held : ℕ) (closes blocks : List ℕ) (kept : BlocksKept held closes blocks) where
   full-block : (j : ℕ) → 64 * j + 63 < held → block blocks j ≡ reading closes (64 * j) 63
   full-block j h =
       let all : min 63 (held - 1 - 64 * j) ≡ 63 = omega arith in
@@ -159,7 +159,7 @@ module _ (blocks : List ℕ) (j : ℕ) (b : Best) where
       (word-other (4 * i + 2) (λ e. n (omega arith))) (word-other (4 * i + 3) (λ e. n (omega arith)))
 
 -- the block of bar `held` with it is what reading its bars gives
-grown-is : (held : ℕ) (closes blocks : List ℕ) (w : ℕ) → Kept held closes blocks → held < length closes
+grown-is : (held : ℕ) (closes blocks : List ℕ) (w : ℕ) → BlocksKept held closes blocks → held < length closes
     → grown blocks held w ≡ reading (set closes held w) (64 * (held / 64)) (held - 64 * (held / 64))
 unfolding grown reading
 grown-is held closes blocks w kept fits = go (eqb (held % 64) 0) refl
@@ -187,8 +187,8 @@ grown-is held closes blocks w kept fits = go (eqb (held % 64) 0) refl
         ∙ ap (λ (c : ℕ). join (reading (set closes held w) (64 * (held / 64)) (held - 1 - 64 * (held / 64))) (one c held)) here)
 
 -- APPENDING KEEPS IT.
-pub appended-kept : (held : ℕ) (closes blocks : List ℕ) (w : ℕ) → Kept held closes blocks → held < length closes
-    → 4 * (held / 64) + 4 ≤ length blocks → Number w → Kept (held + 1) (set closes held w) (put blocks (held / 64) (grown blocks held w))
+pub appended-kept : (held : ℕ) (closes blocks : List ℕ) (w : ℕ) → BlocksKept held closes blocks → held < length closes
+    → 4 * (held / 64) + 4 ≤ length blocks → Number w → BlocksKept (held + 1) (set closes held w) (put blocks (held / 64) (grown blocks held w))
 appended-kept held closes blocks w kept fits room number = record {
   numbers = λ i h. a-number i h (ℕ-discrete i held);
   blocked = λ j h. a-block j h (ℕ-discrete j (held / 64));
@@ -226,5 +226,5 @@ appended-kept held closes blocks w kept fits room number = record {
         all-now y x l = omega arith
 
 -- nothing was appended yet, whatever the rooms hold
-pub empty-kept : (closes blocks : List ℕ) → Kept 0 closes blocks
+pub empty-kept : (closes blocks : List ℕ) → BlocksKept 0 closes blocks
 empty-kept closes blocks = record { numbers = λ i h. absurd (not-suc-le-zero h); blocked = λ j h. absurd (not-suc-le-zero h) }

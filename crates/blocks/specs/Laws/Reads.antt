@@ -1,23 +1,24 @@
 -- Of what a question reads: it is a walk that takes a block wherever one begins and fits, and else one close; it is little; and no bar is read
 -- twice. Assumes nothing.
-use Rattle.words.specs.Prelude.{ℕ, zero, suc, _+_, _-_, _*_, _/_, _%_, _<_, _≤_, _≡_, refl, sym, ap, _∙_, Bool, true, false, _&&_, false≢true, List, [], _∷_, _++_}
-use Rattle.words.specs.Prelude.{append-assoc, append-nil, add-zero, add-suc, arith, add-one, eqb-true, eqb-false, leb-true, eq-eqb, le-leb, leb, eqb, getD}
-use Rattle.blocks.specs.{declared.best.Best.Best, Reading.one, Reading.join, Blocks.blockBars, Blocks.block, Blocks.withCloses, Blocks.withBlocks, Reads.Read}
-use Rattle.blocks.specs.{Reads.single, Reads.whole, Reads.singles, Reads.wholes, Reads.front, Reads.reads, Reads.beginsBlock, Reads.best, Reads.onto}
-use Rattle.blocks.specs.{Reads.closesRead, Reads.blocksRead, Reads.bars, Reads.barsRead, Reads.Little}
+use Rattle.words.specs.Prelude.{ℕ, zero, suc, _+_, _-_, _*_, _/_, _%_, _<_, _≤_, _≡_, refl, sym, ap, _∙_, Bool, true, false, _&&_, false≢true, List, [], _∷_}
+use Rattle.words.specs.Prelude.{_++_, append-assoc, append-nil, add-zero, add-suc, arith, add-one, eqb-true, eqb-false, leb-true, eq-eqb, le-leb, leb, eqb}
+use Rattle.words.specs.Prelude.{getD}
+use Rattle.blocks.specs.{declared.best.Best.Best, Reading.one, Reading.join, Blocks.blockBars, Blocks.block, Blocks.withCloses, Blocks.withBlocks}
+use Rattle.blocks.specs.{Reads.Read, Reads.single, Reads.whole, Reads.singles, Reads.wholes, Reads.front, Reads.reads, Reads.beginsBlock, Reads.best}
+use Rattle.blocks.specs.{Reads.onto, Reads.closesRead, Reads.blocksRead, Reads.bars, Reads.barsRead, Reads.Little}
 
 -- ---- a block that begins at a bar and fits
 
-both : (x y : Bool) → x && y ≡ true → (x ≡ true) × (y ≡ true)
-both true true e = (refl, refl)
-both true false e = absurd (false≢true e)
-both false y e = absurd (false≢true e)
+and-parts : (x y : Bool) → x && y ≡ true → (x ≡ true) × (y ≡ true)
+and-parts true true e = (refl, refl)
+and-parts true false e = absurd (false≢true e)
+and-parts false y e = absurd (false≢true e)
 
 pub block-begins : (bar n : ℕ) → beginsBlock bar n ≡ true → bar % blockBars ≡ 0
-block-begins bar n e = eqb-true (bar % 64) 0 (both (eqb (bar % 64) 0) (leb 64 n) e .0)
+block-begins bar n e = eqb-true (bar % 64) 0 (and-parts (eqb (bar % 64) 0) (leb 64 n) e .0)
 
 pub block-fits : (bar n : ℕ) → beginsBlock bar n ≡ true → blockBars ≤ n
-block-fits bar n e = leb-true 64 n (both (eqb (bar % 64) 0) (leb 64 n) e .1)
+block-fits bar n e = leb-true 64 n (and-parts (eqb (bar % 64) 0) (leb 64 n) e .1)
 
 no-block : (bar n : ℕ) → beginsBlock bar n ≡ false → blockBars ≤ n → bar % blockBars ≡ 0 → ⊥
 no-block bar n e l z = false≢true (sym e ∙ simp (eq-eqb (bar % 64) 0 z, le-leb 64 n l))

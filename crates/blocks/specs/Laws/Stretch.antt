@@ -1,6 +1,6 @@
 -- What a question that is not refused may rely on, and where none is refused. Assumes nothing.
-use Rattle.words.specs.Prelude.{ℕ, _+_, _-_, _*_, _/_, _<_, _≤_, _≡_, refl, Bool, true, false, _&&_, false≢true, List, leb-true, ltb-true, le-leb, lt-ltb, arith}
-use Rattle.words.specs.Prelude.{ltb, leb, length}
+use Rattle.words.specs.Prelude.{ℕ, _+_, _-_, _*_, _/_, _<_, _≤_, _≡_, refl, Bool, true, false, _&&_, false≢true, List, leb-true, ltb-true, le-leb, lt-ltb}
+use Rattle.words.specs.Prelude.{arith, ltb, leb, length}
 use Rattle.words.specs.{Limits.mostCount}
 use Rattle.blocks.specs.{declared.stretch.Found.the-variants.Best, Reads.reads, Reads.told, Stretch.holds, Stretch.exists, Stretch.stretched}
 

@@ -6,14 +6,14 @@ use Rattle.records.specs.{StateWords.stateOf, Laws.RoundTrip.Floats64, Laws.Rou
 use Rattle.engine.specs.{Boxes.NotFull, Run.runOver}
 use Rattle.runs.specs.{NeverFull.PlacesFor}
 use Rattle.images.specs.{Reading.wordsIn, Reading.stateIn}
-use Rattle.restart.specs.{AsIfNever.AsIfNever, AsIfNever.Ready, AsIfNever.same-as-unbroken, AsIfNever.always-ready, AsIfNever.as-if-never, Laws.Reached64.Bars64}
-use Rattle.restart.specs.{Laws.Times.Word64, Lives.Life, Lives.restoredState, Lives.lastState, Lives.lastRooms, Lives.allBars, Lives.allPoints, Lives.allTrades}
-use Rattle.restart.specs.{Lives.SinceLosses}
+use Rattle.restart.specs.{AsIfNever.AsIfNever, AsIfNever.Restorable, AsIfNever.same-as-unbroken, AsIfNever.always-ready, AsIfNever.as-if-never}
+use Rattle.restart.specs.{Laws.Reached64.Bars64, Laws.Times.Word64, Lives.Life, Lives.restoredState, Lives.lastState, Lives.lastRooms, Lives.allBars}
+use Rattle.restart.specs.{Lives.allPoints, Lives.allTrades, Lives.SinceLosses}
 use Rattle.stepping.specs.{Bars.StepLent, WordRun.lentWith, WordRun.inWords}
 use Rattle.capi.specs.{Joined.calls-run}
 use Rattle.capacitor.specs.{Begun.Begun, Capacitor.now, Capacitor.unbroken, Loss.Loss, Loss.Restored, Loss.lastBox, Loss.barsBefore, Loss.pointsBefore}
-use Rattle.capacitor.specs.{Loss.tradesBefore, Laws.FromCalls.begun-from, Laws.FromCalls.begun-lengths, Laws.FromCalls.begun-box, Laws.LivesInWords.livesOf}
-use Rattle.capacitor.specs.{Laws.LivesInWords.InWords, Laws.LivesInWords.losses-in-words, Laws.PowerCalls.not-full}
+use Rattle.capacitor.specs.{Loss.tradesBefore, Laws.FromCalls.begun-from, Laws.FromCalls.begun-lengths, Laws.FromCalls.begun-box}
+use Rattle.capacitor.specs.{Laws.LivesInWords.livesOf, Laws.LivesInWords.InWords, Laws.LivesInWords.losses-in-words, Laws.PowerCalls.not-full}
 
 -- The box that the last restore left is (state, rooms), the words of whose state stand in `room`.
 pub record EngineNow (table settings : List ℕ) (ls : Lists) (box : StepLent) (losses : List Loss) (bars : List (List ℕ)) : Type 0 where
@@ -26,7 +26,7 @@ pub record EngineNow (table settings : List ℕ) (ls : Lists) (box : StepLent) (
   pub last : lastBox settings box losses ≡ lentWith room state rooms
   -- the bars since then
   pub is : now settings ls box losses bars ≡ inWords room (runOver (settingsOf settings) ls state rooms bars)
-  pub ready : Ready (settingsOf settings) (runOver (settingsOf settings) ls state rooms bars)
+  pub ready : Restorable (settingsOf settings) (runOver (settingsOf settings) ls state rooms bars)
   pub never : let e = runOver (settingsOf settings) ls state rooms bars in
       AsIfNever (unbroken table settings losses bars (e .done)) e (pointsBefore settings ls box losses) (tradesBefore settings ls box losses)
   pub since : (n : Rooms) → settingsOf settings .depth ≤ rowPlaces (settingsOf settings .slots) (n .rows)
@@ -93,7 +93,8 @@ engine-now table settings ls box begun losses all bars words few free =
       ready = always-ready s ls m (begun .rows) (begun .twelve) floats delay lives (w .lived) bars words′ few′ free′;
       never =
           rw (w .bars, points, trades)
-          (as-if-never s ls m (begun .rows) (begun .twelve) floats delay lives (w .lived) bars words′ few′ free′ table (begun-from table settings ls box begun));
+          (as-if-never s ls m (begun .rows) (begun .twelve) floats delay lives (w .lived) bars words′ few′ free′ table
+          (begun-from table settings ls box begun));
       since = λ n deep.
           rw (w .bars, points, trades) (same-as-unbroken s ls m (begun .rows) (begun .twelve) floats delay lives (w .lived) bars words′ few′ free′ n deep);
       noPoints = empty .0;

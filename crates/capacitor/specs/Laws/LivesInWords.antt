@@ -8,8 +8,8 @@ use Rattle.engine.specs.{Books.heldPoints, Books.heldTrades, Run.Run, Run.runOv
 use Rattle.runs.specs.{Laws.Floats.run-floats}
 use Rattle.images.specs.{Layout.imageOf, Reading.stateIn, Refused.restoreJudged, Laws.Fine.restore-fine}
 use Rattle.dumpable.specs.{Laws.Fine.dump-fine}
-use Rattle.restart.specs.{Cut.size-of-image, Lives.Life, Lives.restoredState, Lives.restoredRooms, Lives.lastState, Lives.lastRooms, Lives.allBars, Lives.allPoints}
-use Rattle.restart.specs.{Lives.allTrades, Lives.LifeOf, Lives.LivesOf, PlanCut.plan-accepted, Plans.CutIn, Plans.inOrder, Plans.Plan}
+use Rattle.restart.specs.{Cut.size-of-image, Lives.Life, Lives.restoredState, Lives.restoredRooms, Lives.lastState, Lives.lastRooms, Lives.allBars}
+use Rattle.restart.specs.{Lives.allPoints, Lives.allTrades, Lives.LifeOf, Lives.LivesOf, PlanCut.plan-accepted, Plans.CutIn, Plans.inOrder, Plans.Plan}
 use Rattle.stepping.specs.{Bars.StepLent, WordRun.WordRun, WordRun.callsOver, WordRun.lentWith}
 use Rattle.capi.specs.{Joined.calls-run}
 use Rattle.capacitor.specs.{Loss.Loss, Loss.sizeOf, Loss.boxBefore, Loss.dumpOf, Loss.imageIn, Loss.restoreOf, Loss.boxAfter, Loss.Driven, Loss.Restored}

@@ -7,8 +7,8 @@ use Rattle.refusals.specs.{declared.verdict.Verdict.the-variants.Fine, declared
 use Rattle.refusals.specs.{Settings.settingLines}
 use Rattle.engine.specs.{Run.Run, Run.runOver}
 use Rattle.images.specs.{Layout.imageOf, Refused.restoreJudged}
-use Rattle.restart.specs.{AsIfNever.Ready, FirstWord.RefusedOr, FirstWord.nineteen, FirstWord.twenty, FirstWord.whole, PlanCut.plan-cut, Plans.CutIn, Plans.inOrder}
-use Rattle.restart.specs.{Plans.Plan}
+use Rattle.restart.specs.{AsIfNever.Restorable, FirstWord.RefusedOr, FirstWord.nineteen, FirstWord.twenty, FirstWord.whole, PlanCut.plan-cut, Plans.CutIn}
+use Rattle.restart.specs.{Plans.inOrder, Plans.Plan}
 use Rattle.replies.specs.{Call.answerWord}
 use Rattle.stepping.specs.{Bars.StepLent, WordRun.answerOf, WordRun.lentWith}
 use Rattle.capacitor.specs.{Capacitor.AfterLoss, Capacitor.goesOn, Capacitor.refused19, Capacitor.refused20, Loss.Loss, Loss.sizeOf, Loss.restoreOf}
@@ -36,7 +36,7 @@ fine-word = refl
 -- a loss of the box (t, m), the words of whose state stand in `room`, where what it has come to is ready
 module _ (settings room : List ℕ) (ls : Lists) (set : settingWords ≤ length settings) (long : stateWords ≤ length room) (t : State) (h : Floats64 t) (m : Rooms)
     (twelve : judged (settingLines (settingsOf settings)) ≡ Fine) (l : Loss)
-    (ready : Ready (settingsOf settings) (runOver (settingsOf settings) ls t m (l .bars)))
+    (ready : Restorable (settingsOf settings) (runOver (settingsOf settings) ls t m (l .bars)))
     (state : stateWords ≤ length (l .state)) (place : settingsOf settings .depth ≤ rowPlaces (settingsOf settings .slots) (l .rows)) where
   abbrev s : Settings
   s = settingsOf settings

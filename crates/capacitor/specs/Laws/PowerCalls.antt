@@ -1,10 +1,11 @@
 -- `ysh_step`, `ysh_dump` and `ysh_restore` on the words of a state: what an answer of 0 tells of the engine, and what the engine's verdict makes the answer.
 use Rattle.words.specs.Prelude.{ℕ, _≤_, _/_, _^_, _≡_, refl, sym, ap, _∙_, List, arith, length, take}
-use Rattle.words.specs.{Limits.settingWords, Limits.stateWords, declared.refusal.Refusal.Refusal, Outcome.gives, Words.overwrite, Laws.Overwrite.overwrite-length}
+use Rattle.words.specs.{Limits.settingWords, Limits.stateWords, declared.refusal.Refusal.Refusal, Outcome.gives, Words.overwrite}
+use Rattle.words.specs.{Laws.Overwrite.overwrite-length}
 use Rattle.records.specs.{declared.settings.Settings.Settings, declared.state.State.State, Lent.Lists, Lent.Rooms, Settings.settingsOf, StateWords.stateOf}
 use Rattle.records.specs.{StateWords.wordsOf, Laws.RoundTrip.Floats64, Laws.RoundTrip.state-kept}
-use Rattle.refusals.specs.{declared.verdict.Verdict.Verdict, declared.verdict.Verdict.the-variants.Fine, declared.verdict.Verdict.the-variants.Bad, Lines.judged}
-use Rattle.refusals.specs.{Rooms.roomLines, Laws.Lines.never, Laws.Lines.both-fine}
+use Rattle.refusals.specs.{declared.verdict.Verdict.Verdict, declared.verdict.Verdict.the-variants.Fine, declared.verdict.Verdict.the-variants.Bad}
+use Rattle.refusals.specs.{Lines.judged, Rooms.roomLines, Laws.Lines.never, Laws.Lines.both-fine}
 use Rattle.engine.specs.{Boxes.NotFull, Laws.Runs.run-ends, Run.runOver}
 use Rattle.images.specs.{Layout.dumpBytes, Layout.imageOf, Reading.stateIn, Reading.windowIn, Refused.restoreJudged, Refused.leftBy, Restoring.restoredBy}
 use Rattle.dumpable.specs.{Refused.dumpLines, Refused.dumpJudged, Laws.Fine.dump-fine}
@@ -13,16 +14,16 @@ use Rattle.restart.specs.{Cut.size-of-image, OrderPlan.all-written}
 use Rattle.replies.specs.{Call.callOf, Call.unlessBad, Laws.Answers.answer-number}
 use Rattle.stepping.specs.{Bars.lentLines, WordRun.answerOf}
 use Rattle.capi.specs.{DayJoined.lent-had, Joined.lent-fine, Power.RestoreLent, Power.dumpGives, Power.dumpCall, Power.restoreGives, Power.restoreCall}
-use Rattle.capi.specs.{Laws.Calls.Small, Laws.Calls.refused-word, Laws.DumpCalls.dump-honest, Laws.DumpCalls.restore-honest, Laws.RunCalls.step-small}
+use Rattle.capi.specs.{Laws.Calls.FitsAnswer, Laws.Calls.refused-word, Laws.DumpCalls.dump-honest, Laws.DumpCalls.restore-honest, Laws.RunCalls.step-small}
 use Rattle.capacitor.specs.{Laws.Answered.refuses-not, Laws.Answered.gives-same, Laws.Answered.unless-gives}
 
 -- ---- bars
 
 module _ (s : Settings) (ls : Lists) (bars : List (List ℕ)) (t : State) (m : Rooms) where
   -- what ends a run can stand in an answer
-  run-small : (r : Refusal) → runOver s ls t m bars .verdict ≡ Bad r → Small r
+  run-small : (r : Refusal) → runOver s ls t m bars .verdict ≡ Bad r → FitsAnswer r
   run-small =
-      run-ends s ls (λ t m. Unit {0}) (λ t m bar fine u. tt) (λ v. (r : Refusal) → v ≡ Bad r → Small r) (λ r e. never (sym e))
+      run-ends s ls (λ t m. Unit {0}) (λ t m bar fine u. tt) (λ v. (r : Refusal) → v ≡ Bad r → FitsAnswer r) (λ r e. never (sym e))
       (λ t m bar u r e. step-small s t bar m ls r e) bars t m tt
 
   -- an answer of 0: all bars were taken
@@ -102,7 +103,8 @@ module _ (settings room : List ℕ) (set : settingWords ≤ length settings) (lo
 
 -- ---- the restore
 
-restore-given : (v : Verdict) (x state rows after-rows : List ℕ) (after : RestoreLent) → restoreGives (restoredBy v x) state (leftBy v after-rows rows) ≡ gives after
+restore-given : (v : Verdict) (x state rows after-rows : List ℕ) (after : RestoreLent)
+    → restoreGives (restoredBy v x) state (leftBy v after-rows rows) ≡ gives after
     → (v ≡ Fine) × (record { state = overwrite state 0 (wordsOf (stateIn x)); rows = after-rows } ≡ after)
 unfolding restoredBy restoreGives leftBy
 restore-given Fine x state rows after-rows after e = (refl, gives-same e)

@@ -6,13 +6,13 @@ use Rattle.refusals.specs.{declared.verdict.Verdict.Verdict, declared.verdict.V
 use Rattle.replies.specs.{Call.Call, Call.answerWord, Call.callOf, Call.unlessBad, Laws.Answers.answer-number, Laws.Answers.answer-place}
 
 -- a number and a place that stand in the halves of an answer, and make it no 0
-pub record Small (r : Refusal) : Type 0 where
+pub record FitsAnswer (r : Refusal) : Type 0 where
   pub some : 0 < r .number
   pub number : r .number < 2 ^ 32
   pub place : r .place < 2 ^ 32
 
 pub record Numbered {A : Type 0} (o : Outcome A) : Type 0 where
-  pub small : (r : Refusal) → o ≡ refuses r → Small r
+  pub small : (r : Refusal) → o ≡ refuses r → FitsAnswer r
 
 -- what is said of a call: what it was lent before it, and the outcome that decides it
 pub record Honest {A : Type 0} (call : Call A) (before : A) (o : Outcome A) : Type 0 where
@@ -26,7 +26,7 @@ pub record Honest {A : Type 0} (call : Call A) (before : A) (o : Outcome A) : Ty
   -- 0: nothing was refused, and what is lent is what was given
   pub does : call .answer ≡ 0 → o ≡ gives (call .lent)
 
-pub refused-word : (r : Refusal) → Small r → answerWord r ≡ 0 → ⊥
+pub refused-word : (r : Refusal) → FitsAnswer r → answerWord r ≡ 0 → ⊥
 unfolding answerWord
 refused-word r s e = omega (arith, s .some, s .number)
 
@@ -56,11 +56,11 @@ pub never-refuses : {A : Type 0} (after : A) → Numbered (gives after)
 never-refuses after = record { small = λ r e. gives-not e }
 
 -- one refusal
-pub one-refusal : {A : Type 0} (r : Refusal) → Small r → Numbered {A = A} (refuses r)
+pub one-refusal : {A : Type 0} (r : Refusal) → FitsAnswer r → Numbered {A = A} (refuses r)
 one-refusal r s = record { small = λ q e. let same : r ≡ q = cc in rw same at s }
 
 -- a verdict before an outcome
-pub after-verdict : {A : Type 0} (v : Verdict) (o : Outcome A) → ((r : Refusal) → v ≡ Bad r → Small r) → Numbered o → Numbered (unlessBad v o)
+pub after-verdict : {A : Type 0} (v : Verdict) (o : Outcome A) → ((r : Refusal) → v ≡ Bad r → FitsAnswer r) → Numbered o → Numbered (unlessBad v o)
 unfolding unlessBad
 after-verdict (Bad r) o s n = one-refusal r (s r refl)
 after-verdict Fine o s n = n

@@ -4,16 +4,16 @@ use Rattle.words.specs.Prelude.{ℕ, _≤_, _≡_, refl, sym, Bool, true, false
 use Rattle.words.specs.{declared.refusal.Refusal.Refusal, Limits.mostSlots, Limits.mostRows, Outcome.refusal, Words.overwrite}
 use Rattle.records.specs.{declared.settings.Settings.Settings, declared.state.State.State, Settings.settingsOf, StateWords.stateOf}
 use Rattle.refusals.specs.{declared.verdict.Verdict.Verdict, declared.verdict.Verdict.the-variants.Fine, declared.verdict.Verdict.the-variants.Bad, Lines.Line}
-use Rattle.refusals.specs.{Lines.judged, Rooms.roomLines, Rooms.stateLines, Settings.sizingLines, Settings.slippageLines, Settings.riskLines, Settings.termLines}
-use Rattle.refusals.specs.{Settings.entryLines, Settings.settingLines, Laws.Lines.never, Laws.Lines.and-true, Laws.Lines.first-holds}
+use Rattle.refusals.specs.{Lines.judged, Rooms.roomLines, Rooms.stateLines, Settings.sizingLines, Settings.slippageLines, Settings.riskLines}
+use Rattle.refusals.specs.{Settings.termLines, Settings.entryLines, Settings.settingLines, Laws.Lines.never, Laws.Lines.and-true, Laws.Lines.first-holds}
 use Rattle.images.specs.{Layout.dumpBytes, Layout.sizeFor, Layout.imageOf, Reading.windowIn, Refused.imageLines, Refused.sameLines, Refused.restoreLines}
 use Rattle.images.specs.{Refused.restoreJudged, Refused.leftBy, Restoring.restoredBy}
 use Rattle.dumpable.specs.{Refused.areaLines, Refused.dumpStateLines, Refused.dumpLines, Refused.dumpJudged}
 use Rattle.dump.specs.{Order.written}
 use Rattle.replies.specs.{Call.unlessBad, Call.wordLines}
 use Rattle.stepping.specs.{Bars.lentLines}
-use Rattle.capi.specs.{Power.dumpGives, Power.dumpCall, Power.restoreGives, Power.restoreCall, Laws.Calls.Small, Laws.Calls.Numbered, Laws.Calls.Honest}
-use Rattle.capi.specs.{Laws.Calls.honest, Laws.Calls.never-refuses, Laws.Calls.one-refusal, Laws.Calls.after-verdict}
+use Rattle.capi.specs.{Power.dumpGives, Power.dumpCall, Power.restoreGives, Power.restoreCall, Laws.Calls.FitsAnswer, Laws.Calls.Numbered}
+use Rattle.capi.specs.{Laws.Calls.Honest, Laws.Calls.honest, Laws.Calls.never-refuses, Laws.Calls.one-refusal, Laws.Calls.after-verdict}
 
 -- ---- ysh_dump_bytes
 
@@ -45,8 +45,8 @@ unfoldable pub onPaper : List Line → Bool
 onPaper [] = true
 onPaper (l ∷ ls) = (leb 1 (l .number) && leb (l .number) 22 && leb (l .place) 31) && onPaper ls
 
-line-small : (ok : Bool) (v : Verdict) (n p : ℕ) (r : Refusal) → (leb 1 n && leb n 22 && leb p 31) ≡ true → (v ≡ Bad r → Small r)
-    → cond ok v (Bad (refusal n p)) ≡ Bad r → Small r
+line-small : (ok : Bool) (v : Verdict) (n p : ℕ) (r : Refusal) → (leb 1 n && leb n 22 && leb p 31) ≡ true → (v ≡ Bad r → FitsAnswer r)
+    → cond ok v (Bad (refusal n p)) ≡ Bad r → FitsAnswer r
 line-small true v n p r h below e = below e
 line-small false v n p r h below e =
     let a = and-true (leb 1 n && leb n 22) (leb p 31) h in
@@ -59,7 +59,7 @@ line-small false v n p r h below e =
       place = omega (arith, leb-true p 31 (a .1));
     }
 
-pub paper-small : (ls : List Line) → onPaper ls ≡ true → (r : Refusal) → judged ls ≡ Bad r → Small r
+pub paper-small : (ls : List Line) → onPaper ls ≡ true → (r : Refusal) → judged ls ≡ Bad r → FitsAnswer r
 unfolding judged onPaper
 paper-small [] h r e = never (sym e)
 paper-small (l ∷ ls) h r e =
@@ -67,7 +67,7 @@ paper-small (l ∷ ls) h r e =
     line-small (l .ok) (judged ls) (l .number) (l .place) r (own .0) (paper-small ls (own .1) r) e
 
 -- the rooms of rows, settings and state, which most calls ask for first
-pub lent-small : (settings state rows : List ℕ) (r : Refusal) → judged (lentLines settings state rows) ≡ Bad r → Small r
+pub lent-small : (settings state rows : List ℕ) (r : Refusal) → judged (lentLines settings state rows) ≡ Bad r → FitsAnswer r
 unfolding onPaper lentLines roomLines wordLines
 lent-small settings state rows = paper-small (lentLines settings state rows) refl
 
@@ -77,7 +77,7 @@ dump-on-paper : (s : Settings) (t : State) (rows area : List ℕ) → onPaper (d
 unfolding onPaper dumpLines roomLines areaLines settingLines termLines entryLines sizingLines slippageLines riskLines dumpStateLines stateLines
 dump-on-paper s t rows area = refl
 
-dump-by : (v : Verdict) (after : List ℕ) → ((r : Refusal) → v ≡ Bad r → Small r) → Numbered (dumpGives v after)
+dump-by : (v : Verdict) (after : List ℕ) → ((r : Refusal) → v ≡ Bad r → FitsAnswer r) → Numbered (dumpGives v after)
 unfolding dumpGives
 dump-by Fine after s = never-refuses after
 dump-by (Bad why) after s = one-refusal why (s why refl)
@@ -101,7 +101,7 @@ restore-on-paper : (s : Settings) (image rows : List ℕ) → onPaper (restoreLi
 unfolding onPaper restoreLines roomLines settingLines termLines entryLines sizingLines slippageLines riskLines imageLines sameLines
 restore-on-paper s image rows = refl
 
-restore-by : (v : Verdict) (image state rows : List ℕ) → ((r : Refusal) → v ≡ Bad r → Small r) → Numbered (restoreGives (restoredBy v image) state rows)
+restore-by : (v : Verdict) (image state rows : List ℕ) → ((r : Refusal) → v ≡ Bad r → FitsAnswer r) → Numbered (restoreGives (restoredBy v image) state rows)
 unfolding restoredBy restoreGives
 restore-by Fine image state rows s = never-refuses _
 restore-by (Bad why) image state rows s = one-refusal why (s why refl)

@@ -3,9 +3,9 @@
 use Rattle.words.specs.Prelude.{ℕ, _+_, _≤_, _≡_, refl, sym, ap, _∙_, true, List, [], _∷_, _++_, arith, length, take, drop, length-take}
 use Rattle.words.specs.{declared.refusal.Refusal.Refusal, Outcome.gives, Laws.Overwrite.overwrite-fits}
 use Rattle.records.specs.{declared.settings.Settings.Settings, declared.state.State.State, Settings.settingsOf, StateWords.stateOf}
-use Rattle.refusals.specs.{declared.verdict.Verdict.Verdict, declared.verdict.Verdict.the-variants.Fine, declared.verdict.Verdict.the-variants.Bad, Lines.judged}
-use Rattle.refusals.specs.{Rooms.roomLines, Rooms.stateLines, Settings.sizingLines, Settings.slippageLines, Settings.riskLines, Settings.termLines}
-use Rattle.refusals.specs.{Settings.entryLines, Settings.settingLines, Laws.Lines.both-fine}
+use Rattle.refusals.specs.{declared.verdict.Verdict.Verdict, declared.verdict.Verdict.the-variants.Fine, declared.verdict.Verdict.the-variants.Bad}
+use Rattle.refusals.specs.{Lines.judged, Rooms.roomLines, Rooms.stateLines, Settings.sizingLines, Settings.slippageLines, Settings.riskLines}
+use Rattle.refusals.specs.{Settings.termLines, Settings.entryLines, Settings.settingLines, Laws.Lines.both-fine}
 use Rattle.images.specs.{Layout.dumpBytes, Layout.sizeFor, Layout.imageOf}
 use Rattle.dumpable.specs.{Refused.areaLines, Refused.dumpStateLines, Refused.dumpLines, Refused.dumpJudged, Refused.partLines, Refused.partJudged}
 use Rattle.dumpable.specs.{Laws.Fine.dump-fine}
@@ -13,7 +13,7 @@ use Rattle.dump.specs.{Order.written, Parts.bytesFrom, Laws.PartFine.fine-part,
 use Rattle.dump.specs.{Laws.Parts.size-of, Laws.Parts.whole-written}
 use Rattle.replies.specs.{Call.Call, Call.callOf, Call.unlessBad}
 use Rattle.stepping.specs.{Bars.lentLines}
-use Rattle.capi.specs.{Power.dumpGives, Power.dumpCall, Part.PartLent, Part.partGives, Part.filledWith, Part.partCall, Laws.Calls.Small}
+use Rattle.capi.specs.{Power.dumpGives, Power.dumpCall, Part.PartLent, Part.partGives, Part.filledWith, Part.partCall, Laws.Calls.FitsAnswer}
 use Rattle.capi.specs.{Laws.Calls.Numbered, Laws.Calls.Honest, Laws.Calls.honest, Laws.Calls.never-refuses, Laws.Calls.one-refusal}
 use Rattle.capi.specs.{Laws.Calls.after-verdict, Laws.DumpCalls.onPaper, Laws.DumpCalls.paper-small, Laws.DumpCalls.lent-small}
 use Rattle.capi.specs.{Laws.DumpCalls.dump-bytes, Laws.DumpCalls.dump-honest}
@@ -25,7 +25,7 @@ part-on-paper : (s : Settings) (t : State) (rows : List ℕ) → onPaper (partLi
 unfolding onPaper partLines roomLines settingLines termLines entryLines sizingLines slippageLines riskLines dumpStateLines stateLines
 part-on-paper s t rows = refl
 
-part-by : (v : Verdict) (after : PartLent) → ((r : Refusal) → v ≡ Bad r → Small r) → Numbered (partGives v after)
+part-by : (v : Verdict) (after : PartLent) → ((r : Refusal) → v ≡ Bad r → FitsAnswer r) → Numbered (partGives v after)
 unfolding partGives
 part-by Fine after s = never-refuses after
 part-by (Bad why) after s = one-refusal why (s why refl)

@@ -16,18 +16,18 @@ use Rattle.engine.specs.{declared.answer.Finished.the-variants.Done as AtEnd, S
 use Rattle.engine.specs.{Finish.concluded, Finish.finishOf, Laws.Refusal.refusal-changes-nothing, Laws.Verdict.verdict-place}
 use Rattle.replies.specs.{Call.unlessBad, Call.wordLines, Call.metricLines}
 use Rattle.stepping.specs.{Bars.lentLines, Bars.stepGives, Bars.stepCall}
-use Rattle.capi.specs.{Fresh.freshCall, Finish.finishGives, Finish.finishCall, Figures.metricsGives, Figures.metricsCall, Laws.Calls.Small}
+use Rattle.capi.specs.{Fresh.freshCall, Finish.finishGives, Finish.finishCall, Figures.metricsGives, Figures.metricsCall, Laws.Calls.FitsAnswer}
 use Rattle.capi.specs.{Laws.Calls.Numbered, Laws.Calls.Honest, Laws.Calls.honest, Laws.Calls.never-refuses, Laws.Calls.one-refusal}
 use Rattle.capi.specs.{Laws.Calls.after-verdict}
 
 -- lines that have the paper's numbers, and places below 2^32
-pub lines-small : (ls : List Line) → numbered ls ≡ true → (r : Refusal) → judged ls ≡ Bad r → r .place < 2 ^ 32 → Small r
+pub lines-small : (ls : List Line) → numbered ls ≡ true → (r : Refusal) → judged ls ≡ Bad r → r .place < 2 ^ 32 → FitsAnswer r
 lines-small ls n r e near =
     let w = number-within ls r n e in
     record { some = omega (arith, w .0); number = omega (arith, w .1); place = near }
 
 -- and those whose places the papers name
-named-small : (ls : List Line) → numbered ls ≡ true → named ls ≡ true → (r : Refusal) → judged ls ≡ Bad r → Small r
+named-small : (ls : List Line) → numbered ls ≡ true → named ls ≡ true → (r : Refusal) → judged ls ≡ Bad r → FitsAnswer r
 named-small ls n p r e = lines-small ls n r e (place-below ls r (named-placed ls p) e)
 
 lent-numbered : (settings state rows : List ℕ) → numbered (lentLines settings state rows) ≡ true
@@ -48,13 +48,13 @@ fresh-honest settings state = honest _ state (after-verdict _ _ (named-small (wo
 
 -- ---- ysh_step
 
-step-by : (answer : Answer) (state : List ℕ) (m : Rooms) → ((r : Refusal) (u : State) → answer ≡ Refused r u → Small r)
+step-by : (answer : Answer) (state : List ℕ) (m : Rooms) → ((r : Refusal) (u : State) → answer ≡ Refused r u → FitsAnswer r)
     → Numbered (stepGives answer state m)
 unfolding stepGives
 step-by (Refused r u) state m s = one-refusal r (s r u refl)
 step-by (Done next) state m s = never-refuses _
 
-pub step-small : (s : Settings) (t : State) (bar : List ℕ) (m : Rooms) (ls : Lists) (r : Refusal) → stepVerdict s t bar m ls ≡ Bad r → Small r
+pub step-small : (s : Settings) (t : State) (bar : List ℕ) (m : Rooms) (ls : Lists) (r : Refusal) → stepVerdict s t bar m ls ≡ Bad r → FitsAnswer r
 unfolding sizeLines numbered
 step-small s t bar m ls r e =
     lines-small (stepLines s t bar m ls ++ sizeLines s t bar m)
@@ -76,7 +76,7 @@ step-honest settings state bar m ls =
 
 -- ---- ysh_finish
 
-finish-by : (finished : Finished) (state : List ℕ) (m : Rooms) (metrics : List ℕ) → ((r : Refusal) (u : State) → finished ≡ NotEnded r u → Small r)
+finish-by : (finished : Finished) (state : List ℕ) (m : Rooms) (metrics : List ℕ) → ((r : Refusal) (u : State) → finished ≡ NotEnded r u → FitsAnswer r)
     → Numbered (finishGives finished state m metrics)
 unfolding finishGives
 finish-by (NotEnded r u) state m metrics s = one-refusal r (s r u refl)
@@ -95,7 +95,7 @@ finish-rooms : (settings state rows metrics : List ℕ) → named (lentLines set
 unfolding named lentLines roomLines wordLines metricLines
 finish-rooms settings state rows metrics = refl
 
-pub finish-small : (s : Settings) (t : State) (m : Rooms) (r : Refusal) → finishJudged s t m ≡ Bad r → Small r
+pub finish-small : (s : Settings) (t : State) (m : Rooms) (r : Refusal) → finishJudged s t m ≡ Bad r → FitsAnswer r
 finish-small s t m r e = lines-small (finishLines s t m) (finish-numbered s t m) r (unfold finishJudged in e) (finish-place s t m r e)
 
 pub finish-honest : (settings state : List ℕ) (m : Rooms) (metrics : List ℕ) →
@@ -113,16 +113,16 @@ finish-honest settings state m metrics =
 
 -- ---- ysh_metrics
 
-metrics-by : (o : Outcome Metrics) (room : List ℕ) → ((r : Refusal) → o ≡ refuses r → Small r) → Numbered (metricsGives o room)
+metrics-by : (o : Outcome Metrics) (room : List ℕ) → ((r : Refusal) → o ≡ refuses r → FitsAnswer r) → Numbered (metricsGives o room)
 unfolding metricsGives
 metrics-by (refuses why) room s = one-refusal why (s why refl)
 metrics-by (gives m) room s = never-refuses _
 
-computed-small : (b : Bool) (m : Metrics) (r : Refusal) → cond b (gives m) (refuses notWhole) ≡ refuses r → Small r
+computed-small : (b : Bool) (m : Metrics) (r : Refusal) → cond b (gives m) (refuses notWhole) ≡ refuses r → FitsAnswer r
 computed-small true m r e = absurd (let z : _≡_ {A = ℕ} 0 1 = cc in omega arith)
 computed-small false m r e =
     let same : notWhole ≡ r = cc in
-    let small : Small notWhole = record { some = omega arith; number = omega arith; place = omega arith } in
+    let small : FitsAnswer notWhole = record { some = omega arith; number = omega arith; place = omega arith } in
     rw same at small
 
 pub metrics-honest : (initial : ℕ) (equity trades room : List ℕ)

@@ -2,8 +2,8 @@
 use Rattle.words.specs.Prelude.{ℕ, _<_, _≡_, refl, Bool, true, false, cond, _&&_, List, arith, ltb-true, ltb, length}
 use Rattle.words.specs.{Limits.mostCount, Outcome.refusal}
 use Rattle.floats.specs.{Floats.floatOf, Floats.finite}
-use Rattle.blocks.specs.{declared.best.Best.Best, Append.Append, Append.appended, Append.kept, Append.unchanged, Append.refused, Append.placeForBlock, Reads.reads}
-use Rattle.blocks.specs.{Reads.told}
+use Rattle.blocks.specs.{declared.best.Best.Best, Append.Append, Append.appended, Append.kept, Append.unchanged, Append.refused, Append.placeForBlock}
+use Rattle.blocks.specs.{Reads.reads, Reads.told}
 use Rattle.capi.specs.{Stretch.BlockRooms, Stretch.appendGives, Stretch.appendCall, Stretch.stretchGives, Stretch.stretchCall, Laws.Calls.Numbered}
 use Rattle.capi.specs.{Laws.Calls.Honest, Laws.Calls.honest, Laws.Calls.one-refusal, Laws.Calls.never-refuses}
 use Rattle.blocks.specs.declared.stretch.Found.the-variants as Found

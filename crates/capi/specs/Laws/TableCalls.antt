@@ -14,17 +14,18 @@ use Rattle.table.specs.{Checked.orHeader, Checked.from7, Checked.from8, Checked
 use Rattle.table.specs.{Silent.silentTests, Silent.silentAnswer, Silent.listAfter}
 use Rattle.needed.specs.{declared.depth.DepthAnswer.the-variants.Needs, declared.depth.DepthAnswer.the-variants.Refuses as DepthRefuses, Depth.depthAnswer}
 use Rattle.rules.specs.{declared.position.PositionState.PositionState, declared.answers.RuleAnswer.the-variants.Says}
-use Rattle.rules.specs.{declared.answers.RuleAnswer.the-variants.Refuses as RuleRefuses, Answers.stateRight, Answers.afterCheck, Answers.judged, Answers.answered}
+use Rattle.rules.specs.{declared.answers.RuleAnswer.the-variants.Refuses as RuleRefuses, Answers.stateRight, Answers.afterCheck, Answers.judged}
+use Rattle.rules.specs.{Answers.answered}
 use Rattle.steps.specs.{declared.wellformed.Formed.Formed, declared.wellformed.Formed.the-variants.Well, declared.wellformed.Formed.the-variants.Bad}
-use Rattle.steps.specs.{declared.machine.Ran.Ran, declared.running.RunAnswer.the-variants.Refuses as RunRefuses, declared.translated.Translated.the-variants.Writes}
-use Rattle.steps.specs.{declared.translated.Translated.the-variants.Refuses, Running.ranIf, Running.runs, Translating.roomFor, Translating.writesOr}
-use Rattle.steps.specs.{Translating.afterTable, Translating.translates}
+use Rattle.steps.specs.{declared.machine.Ran.Ran, declared.running.RunAnswer.the-variants.Refuses as RunRefuses}
+use Rattle.steps.specs.{declared.translated.Translated.the-variants.Writes, declared.translated.Translated.the-variants.Refuses, Running.ranIf, Running.runs}
+use Rattle.steps.specs.{Translating.roomFor, Translating.writesOr, Translating.afterTable, Translating.translates}
 use Rattle.refusals.specs.{Laws.BadStep.bad-below}
 use Rattle.capi.specs.{Tables.numberedTree, Tables.CheckLent, Tables.checkGives, Tables.checkCall, Tables.DepthLent, Tables.depthGives, Tables.depthCall}
 use Rattle.capi.specs.{Tables.SilentLent, Tables.silentGives, Tables.silentCall, Tables.TranslateLent, Tables.translateGives, Tables.translateOutcome}
 use Rattle.capi.specs.{Tables.translateCall, Run.ruleGives, Run.ruleCall, Run.RunLent, Run.runGives, Run.runCall, Laws.TablePlaces.UpTo}
 use Rattle.capi.specs.{Laws.TablePlaces.wrong-within, Laws.TablePlaces.misfits-within, Laws.TablePlaces.deep-within, Laws.TablePlaces.far-within}
-use Rattle.capi.specs.{Laws.Calls.Small, Laws.Calls.Numbered, Laws.Calls.Honest, Laws.Calls.honest, Laws.Calls.one-refusal, Laws.Calls.never-refuses}
+use Rattle.capi.specs.{Laws.Calls.FitsAnswer, Laws.Calls.Numbered, Laws.Calls.Honest, Laws.Calls.honest, Laws.Calls.one-refusal, Laws.Calls.never-refuses}
 
 -- ---- the numbers of a table's refusals
 
@@ -42,7 +43,7 @@ header-number t =
     five (ltb (length t) 16) (not (markRight t)) (not (versionRight newestVersion t)) (not (countsRight t)) (not (eqb (length t) (16 + 16 * total t)))
 
 -- a refusal with a small number and place
-small : (n p : ℕ) → 0 < n → n ≤ 15 → p ≤ 1024 → Small (refusal n p)
+small : (n p : ℕ) → 0 < n → n ≤ 15 → p ≤ 1024 → FitsAnswer (refusal n p)
 small n p lo hi near = record { some = lo; number = omega arith; place = omega arith }
 
 -- a number from 1 to 9, at a place of the table
@@ -85,14 +86,14 @@ one-to-nine t why =
     (rule-number 9 _ _ why (omega arith) (omega arith) (far-within t r) (accepted-not _ _ why)))))
 
 -- and so it stands in an answer
-pub table-number : (t : List ℕ) (why : Refusal) → checked t ≡ Refused why → Small why
+pub table-number : (t : List ℕ) (why : Refusal) → checked t ≡ Refused why → FitsAnswer why
 table-number t why e =
     let nine = one-to-nine t why e in
     record { some = nine .some; number = omega (arith, nine .most); place = omega (arith, nine .near) }
 
 -- what a call goes by: its answer to a table
 abbrev ByTable : Answer → Type 0
-ByTable a = (why : Refusal) → a ≡ Refused why → Small why
+ByTable a = (why : Refusal) → a ≡ Refused why → FitsAnswer why
 
 -- ---- ysh_check
 

@@ -1,11 +1,11 @@
 -- ysh_totals and ysh_totals_join: each of their refusals has a number and a place that an answer can hold, so the law over calls holds of both.
-use Rattle.words.specs.Prelude.{ℕ, suc, _+_, _/_, _%_, _^_, _<_, _≤_, _≡_, refl, sym, ap, Bool, true, false, cond, List, [], _∷_, arith, leb-true, leb-false, leb}
-use Rattle.words.specs.Prelude.{eqb, length}
+use Rattle.words.specs.Prelude.{ℕ, suc, _+_, _/_, _%_, _^_, _<_, _≤_, _≡_, refl, sym, ap, Bool, true, false, cond, List, [], _∷_, arith, leb-true, leb-false}
+use Rattle.words.specs.Prelude.{leb, eqb, length}
 use Rattle.words.specs.{Limits.tradeWords, Limits.mostCount}
-use Rattle.totals.specs.{declared.Answer.the-variants.Done, Trades.Trade, Trades.acceptable, Trades.tradesFrom, Trades.goodStart, Trades.judgedCount, Totals.unless}
-use Rattle.totals.specs.{Totals.totalWords, Totals.countsOf, Totals.traded, Totals.countsFine, Totals.addAnswer, Totals.addLeaves, Totals.joinAnswer}
-use Rattle.totals.specs.{Totals.joinLeaves, Laws.Trades.length-trades}
-use Rattle.capi.specs.{Totals.totalsGives, Totals.totalsCall, Totals.joinCall, Laws.Calls.Small, Laws.Calls.Numbered, Laws.Calls.Honest}
+use Rattle.totals.specs.{declared.Answer.the-variants.Done, Trades.Trade, Trades.acceptable, Trades.tradesFrom, Trades.goodStart, Trades.judgedCount}
+use Rattle.totals.specs.{Totals.unless, Totals.totalWords, Totals.countsOf, Totals.traded, Totals.countsFine, Totals.addAnswer, Totals.addLeaves}
+use Rattle.totals.specs.{Totals.joinAnswer, Totals.joinLeaves, Laws.Trades.length-trades}
+use Rattle.capi.specs.{Totals.totalsGives, Totals.totalsCall, Totals.joinCall, Laws.Calls.FitsAnswer, Laws.Calls.Numbered, Laws.Calls.Honest}
 use Rattle.capi.specs.{Laws.Calls.honest, Laws.Calls.one-refusal, Laws.Calls.never-refuses}
 
 -- ---- a trade's number

@@ -7,7 +7,7 @@ use Rattle.table.specs.{Checked.checked}
 use Rattle.rules.specs.{declared.position.PositionState.PositionState, Answers.stateRight}
 use Rattle.chain.specs.{declared.explain.Explained.the-variants.Lines, declared.explain.Explained.the-variants.Refuses, Explained.explanation}
 use Rattle.chain.specs.{Explained.explainedBy, Explained.explained, Explained.linesAfter}
-use Rattle.capi.specs.{Why.WhyLent, Why.whyGives, Why.whyCall, Laws.Calls.Small, Laws.Calls.Numbered, Laws.Calls.Honest, Laws.Calls.honest}
+use Rattle.capi.specs.{Why.WhyLent, Why.whyGives, Why.whyCall, Laws.Calls.FitsAnswer, Laws.Calls.Numbered, Laws.Calls.Honest, Laws.Calls.honest}
 use Rattle.capi.specs.{Laws.Calls.one-refusal, Laws.Calls.never-refuses, Laws.TableCalls.table-number}
 
 why-by : (few fine : Bool) (many : ℕ) (lines : List ℕ)
@@ -18,7 +18,7 @@ why-by false true many lines = never-refuses _
 why-by false false many lines = one-refusal _ (record { some = omega arith; number = omega arith; place = omega arith })
 
 why-numbered : (a : Answer) (t : List ℕ) (x : ℕ) (rows : List ℕ) (s : PositionState) (list lines : List ℕ)
-    → ((why : Refusal) → a ≡ Refused why → Small why) → Numbered (whyGives (explainedBy a t x rows s list) lines)
+    → ((why : Refusal) → a ≡ Refused why → FitsAnswer why) → Numbered (whyGives (explainedBy a t x rows s list) lines)
 unfolding whyGives explainedBy
 why-numbered (Refused why) t x rows s list lines n = one-refusal why (n why refl)
 why-numbered (Accepted n r) t x rows s list lines m = why-by (ltb (length list) 256) (wholeRows (slots t) rows && stateRight s) _ lines

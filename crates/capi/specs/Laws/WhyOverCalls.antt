@@ -5,12 +5,12 @@ use Rattle.table.specs.{declared.answer.Answer.Answer, declared.answer.Answer.t
 use Rattle.table.specs.{Checked.checked}
 use Rattle.refusals.specs.{declared.verdict.Verdict.the-variants.Bad}
 use Rattle.questions.specs.{Over.overLines, Over.overBy, Over.overVerdict}
-use Rattle.capi.specs.{WhyOver.OverLent, WhyOver.overGives, WhyOver.overCall, Laws.Calls.Small, Laws.Calls.Honest, Laws.Calls.honest}
+use Rattle.capi.specs.{WhyOver.OverLent, WhyOver.overGives, WhyOver.overCall, Laws.Calls.FitsAnswer, Laws.Calls.Honest, Laws.Calls.honest}
 use Rattle.capi.specs.{Laws.Calls.never-refuses, Laws.Calls.after-verdict, Laws.TableCalls.table-number, Laws.DumpCalls.onPaper}
 use Rattle.capi.specs.{Laws.DumpCalls.paper-small}
 
-over-small : (a : Answer) (t rows ps : List ℕ) (lines counts : ℕ) → ((why : Refusal) → a ≡ Refused why → Small why)
-    → (r : Refusal) → overBy a t rows ps lines counts ≡ Bad r → Small r
+over-small : (a : Answer) (t rows ps : List ℕ) (lines counts : ℕ) → ((why : Refusal) → a ≡ Refused why → FitsAnswer why)
+    → (r : Refusal) → overBy a t rows ps lines counts ≡ Bad r → FitsAnswer r
 unfolding overBy overLines onPaper
 over-small (Refused why) t rows ps lines counts n r e = let same : why ≡ r = cc in rw same at (n why refl)
 over-small (Accepted m k) t rows ps lines counts n r e = paper-small (overLines (slots t) rows ps lines counts) refl r e

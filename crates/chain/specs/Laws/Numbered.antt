@@ -6,7 +6,7 @@ use Rattle.table.specs.{declared.answer.Answer.the-variants.Accepted, Header.sl
 use Rattle.table.specs.{Trees.Operand, Trees.const, Trees.ref, Trees.price, Trees.prev, Trees.arith as sums, Trees.extreme, Trees.Condition, Trees.Conditions}
 use Rattle.table.specs.{Trees.compare, Trees.cross, Trees.between, Trees.trend, Trees.every, Trees.any, Trees.negated, Trees.inPosition, Trees.barsSince}
 use Rattle.table.specs.{Trees.none, Trees.more, Writing.nodesIn, Writing.nodesOf}
-use Rattle.rules.specs.{declared.position.PositionState.PositionState, Meaning.newest, Flat.conditionAt, Laws.FlatReading.tree-joined}
+use Rattle.rules.specs.{declared.position.PositionState.PositionState, Meaning.newest, Flat.flatConditionAt, Laws.FlatReading.tree-joined}
 use Rattle.chain.specs.{Missing.inTable, Missing.missingIn, Missing.missingInTwo, Missing.missingInThree, Chain.shown, Chain.lineAt, Chain.chain}
 use Rattle.chain.specs.{Chain.firstWith, Explained.explanation, Flat.byEnds, Flat.flatExplanation, Laws.Spaced.SpacedIn, Laws.Spaced.Spaced}
 use Rattle.chain.specs.{Laws.Spaced.SpacedAll, Laws.Spaced.operand-end, Laws.Spaced.condition-end, Laws.Spaced.tree-spaced}
@@ -81,7 +81,7 @@ explanation-found t n r ok x rows s = high (leb trees x) refl
     h = historyOf (slots t) rows
 
     low : (b : Bool) → eqb (count t x) 0 ≡ b → x < 4
-        → cond b [] (chain (byEnds (endsBeside t)) h s (conditionAt 32 t (endsBeside t) (root t x)) (root t x) (newest h))
+        → cond b [] (chain (byEnds (endsBeside t)) h s (flatConditionAt 32 t (endsBeside t) (root t x)) (root t x) (newest h))
         ≡ cond b [] (chain inTable h s (treeOf t x) (root t x) (newest h))
     low true e l = refl
     low false e l =
@@ -90,7 +90,7 @@ explanation-found t n r ok x rows s = high (leb trees x) refl
 
     high : (b : Bool) → leb trees x ≡ b
         → cond b [] (cond (eqb (count t x) 0) []
-        (chain (byEnds (endsBeside t)) h s (conditionAt 32 t (endsBeside t) (root t x)) (root t x) (newest h)))
+        (chain (byEnds (endsBeside t)) h s (flatConditionAt 32 t (endsBeside t) (root t x)) (root t x) (newest h)))
         ≡ cond b [] (cond (eqb (count t x) 0) [] (chain inTable h s (treeOf t x) (root t x) (newest h)))
     high true e = refl
     high false e = low (eqb (count t x) 0) refl (leb-false trees x e)

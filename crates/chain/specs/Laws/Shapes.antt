@@ -2,16 +2,16 @@
 use Rattle.words.specs.Prelude.{ℕ, _+_, _<_, _≡_, refl, sym, _∙_, Bool, true, false, cond, List, arith, leb}
 use Rattle.table.specs.{declared.kinds.OperandClass.OperandClass, declared.kinds.ConditionClass.ConditionClass, Bytes.Bytes, Kinds.kindOf, Nodes.nodeAt}
 use Rattle.roundtrip.specs.{Laws.AcceptedWritten.u32-small}
-use Rattle.rules.specs.{declared.shapes.OperandShape.OperandShape, declared.shapes.OperandShape.the-variants.Const, declared.shapes.OperandShape.the-variants.Ref}
-use Rattle.rules.specs.{declared.shapes.OperandShape.the-variants.Price, declared.shapes.OperandShape.the-variants.Prev}
-use Rattle.rules.specs.{declared.shapes.OperandShape.the-variants.Arith, declared.shapes.OperandShape.the-variants.Extreme}
-use Rattle.rules.specs.{declared.shapes.OperandShape.the-variants.NoOperand, declared.shapes.ConditionShape.ConditionShape}
-use Rattle.rules.specs.{declared.shapes.ConditionShape.the-variants.Compare, declared.shapes.ConditionShape.the-variants.Cross}
-use Rattle.rules.specs.{declared.shapes.ConditionShape.the-variants.Between, declared.shapes.ConditionShape.the-variants.Trend}
-use Rattle.rules.specs.{declared.shapes.ConditionShape.the-variants.Group, declared.shapes.ConditionShape.the-variants.Not}
-use Rattle.rules.specs.{declared.shapes.ConditionShape.the-variants.InPosition, declared.shapes.ConditionShape.the-variants.BarsSince}
-use Rattle.rules.specs.{declared.shapes.ConditionShape.the-variants.NoCondition, Shapes.endIn, Shapes.operandOf, Shapes.conditionOf, Shapes.operandShape}
-use Rattle.rules.specs.{Shapes.conditionShape}
+use Rattle.rules.specs.{declared.shapes.OperandShape.OperandShape, declared.shapes.OperandShape.the-variants.Const}
+use Rattle.rules.specs.{declared.shapes.OperandShape.the-variants.Ref, declared.shapes.OperandShape.the-variants.Price}
+use Rattle.rules.specs.{declared.shapes.OperandShape.the-variants.Prev, declared.shapes.OperandShape.the-variants.Arith}
+use Rattle.rules.specs.{declared.shapes.OperandShape.the-variants.Extreme, declared.shapes.OperandShape.the-variants.NoOperand}
+use Rattle.rules.specs.{declared.shapes.ConditionShape.ConditionShape, declared.shapes.ConditionShape.the-variants.Compare}
+use Rattle.rules.specs.{declared.shapes.ConditionShape.the-variants.Cross, declared.shapes.ConditionShape.the-variants.Between}
+use Rattle.rules.specs.{declared.shapes.ConditionShape.the-variants.Trend, declared.shapes.ConditionShape.the-variants.Group}
+use Rattle.rules.specs.{declared.shapes.ConditionShape.the-variants.Not, declared.shapes.ConditionShape.the-variants.InPosition}
+use Rattle.rules.specs.{declared.shapes.ConditionShape.the-variants.BarsSince, declared.shapes.ConditionShape.the-variants.NoCondition, Shapes.endIn}
+use Rattle.rules.specs.{Shapes.operandOf, Shapes.conditionOf, Shapes.operandShape, Shapes.conditionShape}
 use Rattle.table.specs.declared.kinds.OperandClass.the-variants as AsOperand
 use Rattle.table.specs.declared.kinds.ConditionClass.the-variants as AsCondition
 

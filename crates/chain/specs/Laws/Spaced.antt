@@ -1,20 +1,21 @@
 -- The array of subtree ends numbers an accepted table's nodes as the table does: past a subtree come as many numbers as it has
 -- nodes. Assumes nothing.
 use Rattle.words.specs.Prelude.{ℕ, zero, suc, _+_, _-_, _≤_, _<_, _≡_, sym, ap, subst, _∙_, true, true≢false, List, arith, eqb, lt-leb}
-use Rattle.table.specs.{declared.kinds.Kind.Kind, declared.answer.Answer.the-variants.Accepted, Kinds.kindOf, Kinds.aSeries, Kinds.extremum, Laws.Kinds.OperandKind}
-use Rattle.table.specs.{Laws.Kinds.a-const, Laws.Kinds.a-ref, Laws.Kinds.a-price, Laws.Kinds.a-prev, Laws.Kinds.an-arith, Laws.Kinds.an-extreme}
-use Rattle.table.specs.{Laws.Kinds.operand-kind, Laws.Kinds.ConditionKind, Laws.Kinds.a-compare, Laws.Kinds.a-cross, Laws.Kinds.a-between, Laws.Kinds.a-trend}
-use Rattle.table.specs.{Laws.Kinds.an-all, Laws.Kinds.an-any, Laws.Kinds.a-not, Laws.Kinds.a-position, Laws.Kinds.a-count, Laws.Kinds.condition-kind, Header.count}
-use Rattle.table.specs.{Header.root, Nodes.nodeAt, Nodes.sortAt, Nodes.childCount, Nodes.childCountAt, Nodes.childSortAt, Nodes.childFits, Forest.Forest}
-use Rattle.table.specs.{Forest.firstTrees, Forest.otherTrees, Forest.nodeOver, Forest.trees, Forest.size, Forest.Fitting, Forest.Sorted, Checked.checked}
-use Rattle.table.specs.{Ends.endsAll, Ends.endsBeside, Ends.Link, Ends.Linked, Series.seriesIn, Reading.treeOf, Trees.Operand, Trees.const, Trees.ref, Trees.price}
-use Rattle.table.specs.{Trees.prev, Trees.arith as sums, Trees.extreme, Trees.Condition, Trees.Conditions, Trees.compare, Trees.cross, Trees.between, Trees.trend}
-use Rattle.table.specs.{Trees.every, Trees.any, Trees.negated, Trees.inPosition, Trees.barsSince, Trees.none, Trees.more, Writing.nodesIn, Writing.nodesOf}
-use Rattle.table.specs.{Writing.nodesOfAll, Laws.Forest.left-suc, Laws.Forest.first-none, Laws.Accepted.WholeTree, Laws.Accepted.tree-whole, Laws.Accepted.ends-of}
+use Rattle.table.specs.{declared.kinds.Kind.Kind, declared.answer.Answer.the-variants.Accepted, Kinds.kindOf, Kinds.aSeries, Kinds.extremum}
+use Rattle.table.specs.{Laws.Kinds.OperandKind, Laws.Kinds.a-const, Laws.Kinds.a-ref, Laws.Kinds.a-price, Laws.Kinds.a-prev, Laws.Kinds.an-arith}
+use Rattle.table.specs.{Laws.Kinds.an-extreme, Laws.Kinds.operand-kind, Laws.Kinds.ConditionKind, Laws.Kinds.a-compare, Laws.Kinds.a-cross}
+use Rattle.table.specs.{Laws.Kinds.a-between, Laws.Kinds.a-trend, Laws.Kinds.an-all, Laws.Kinds.an-any, Laws.Kinds.a-not, Laws.Kinds.a-position}
+use Rattle.table.specs.{Laws.Kinds.a-count, Laws.Kinds.condition-kind, Header.count, Header.root, Nodes.nodeAt, Nodes.sortAt, Nodes.childCount}
+use Rattle.table.specs.{Nodes.childCountAt, Nodes.childSortAt, Nodes.childFits, Forest.Forest, Forest.firstTrees, Forest.otherTrees, Forest.nodeOver}
+use Rattle.table.specs.{Forest.trees, Forest.size, Forest.Fitting, Forest.Sorted, Checked.checked, Ends.endsAll, Ends.endsBeside, Ends.Link, Ends.Linked}
+use Rattle.table.specs.{Series.seriesIn, Reading.treeOf, Trees.Operand, Trees.const, Trees.ref, Trees.price, Trees.prev, Trees.arith as sums, Trees.extreme}
+use Rattle.table.specs.{Trees.Condition, Trees.Conditions, Trees.compare, Trees.cross, Trees.between, Trees.trend, Trees.every, Trees.any, Trees.negated}
+use Rattle.table.specs.{Trees.inPosition, Trees.barsSince, Trees.none, Trees.more, Writing.nodesIn, Writing.nodesOf, Writing.nodesOfAll, Laws.Forest.left-suc}
+use Rattle.table.specs.{Laws.Forest.first-none, Laws.Accepted.WholeTree, Laws.Accepted.tree-whole, Laws.Accepted.ends-of}
 use Rattle.roundtrip.specs.{Laws.Walking.Stands, Laws.Walking.node-there, Laws.Walking.sort-there, Laws.Walking.level-left, Laws.Walking.stands-one}
 use Rattle.roundtrip.specs.{Laws.Walking.stands-next, Laws.Walking.stands-below, Laws.Walking.tree-stands}
-use Rattle.rules.specs.{Shapes.endIn, Shapes.operandOf, Shapes.conditionOf, Shapes.operandShape, Shapes.conditionShape, Flat.growOperand, Flat.operandAt}
-use Rattle.rules.specs.{Flat.growConditions, Flat.group, Flat.growCondition, Flat.conditionAt, Laws.FlatReading.end-is, Laws.FlatReading.tree-joined}
+use Rattle.rules.specs.{Shapes.endIn, Shapes.operandOf, Shapes.conditionOf, Shapes.operandShape, Shapes.conditionShape, Flat.growOperand, Flat.flatOperandAt}
+use Rattle.rules.specs.{Flat.growConditions, Flat.group, Flat.growCondition, Flat.flatConditionAt, Laws.FlatReading.end-is, Laws.FlatReading.tree-joined}
 use Rattle.table.specs.Forest as Forest
 
 -- The array leads from each node of a tree, the first one number i, over as many numbers as stand below it.
@@ -137,14 +138,14 @@ module _ (t ends : List ℕ) (b e : ℕ) (whole : WholeTree t ends b e) where
   no-child k (an-extreme r) is = absurd (true≢false (sym (rw r at is)))
 
   -- one level of an operand, where the level below is spaced
-  operand-level : (left : ℕ) → ((i : ℕ) → Stands t e i 1 1 left → b ≤ i → SpacedIn ends (operandAt left t ends i) i)
+  operand-level : (left : ℕ) → ((i : ℕ) → Stands t e i 1 1 left → b ≤ i → SpacedIn ends (flatOperandAt left t ends i) i)
       → (i : ℕ) → Stands t e i 1 1 (suc left) → b ≤ i → OperandKind (nodeAt t i .kind)
-      → SpacedIn ends (growOperand (seriesIn t) (operandAt left t ends) (operandShape t ends i)) i
+      → SpacedIn ends (growOperand (seriesIn t) (flatOperandAt left t ends) (operandShape t ends i)) i
   unfolding growOperand operandShape operandOf childCount past SpacedIn
   operand-level left below i here lo kind = rw (lt-leb 256 i (omega (arith, whole .small, node-there t e i 0 1 (suc left) here))) (go kind)
     where
       go : OperandKind (nodeAt t i .kind)
-          → SpacedIn ends (growOperand (seriesIn t) (operandAt left t ends)
+          → SpacedIn ends (growOperand (seriesIn t) (flatOperandAt left t ends)
           (operandOf (kindOf (nodeAt t i .kind) .operand) (nodeAt t i) (i + 1) (endIn ends (i + 1)))) i
       go (a-const k row) = rw row (below-by i 1 left _ here lo row .1)
       go (a-ref k row) = rw row (below-by i 1 left _ here lo row .1)
@@ -152,15 +153,15 @@ module _ (t ends : List ℕ) (b e : ℕ) (whole : WholeTree t ends b e) where
       go (a-prev k row) =
           let one = below-by i 1 left _ here lo row in
           let a = below (i + 1) (one .0) (omega arith) in
-          rw row (omega (arith, one .1, operand-end ends (operandAt left t ends (i + 1)) (i + 1) a), a)
+          rw row (omega (arith, one .1, operand-end ends (flatOperandAt left t ends (i + 1)) (i + 1) a), a)
       go (an-arith row) =
           let two = below-by i 1 left _ here lo row in
           let link = link-at (i + 1) (omega arith) (node-there t e (i + 1) 1 1 left (two .0)) in
           let a = below (i + 1) (stands-one t e (i + 1) 1 1 left (two .0)) (omega arith) in
           let c = below (endIn ends (i + 1)) (stands-next t e (i + 1) 1 1 left (two .0) (endIn ends (i + 1)) link) (omega (arith, link .beyond)) in
-          let first = operand-end ends (operandAt left t ends (i + 1)) (i + 1) a in
-          let second = operand-end ends (operandAt left t ends (endIn ends (i + 1))) (endIn ends (i + 1)) c in
-          rw row (omega (arith, two .1, first, second), a, moved (operandAt left t ends (endIn ends (i + 1))) (endIn ends (i + 1)) _ first c)
+          let first = operand-end ends (flatOperandAt left t ends (i + 1)) (i + 1) a in
+          let second = operand-end ends (flatOperandAt left t ends (endIn ends (i + 1))) (endIn ends (i + 1)) c in
+          rw row (omega (arith, two .1, first, second), a, moved (flatOperandAt left t ends (endIn ends (i + 1))) (endIn ends (i + 1)) _ first c)
       go (an-extreme row) =
           let one = below-by i 1 left _ here lo row in
           let near = node-there t e (i + 1) 0 1 left (one .0) in
@@ -168,35 +169,35 @@ module _ (t ends : List ℕ) (b e : ℕ) (whole : WholeTree t ends b e) where
           let leaf = no-child (i + 1) (operand-kind (nodeAt t (i + 1) .kind) (unfold sortAt in sort-there t e (i + 1) 0 1 left (one .0))) is in
           rw row (omega (arith, one .1, rw leaf at (over-children (i + 1) 1 left (one .0) (omega arith))))
 
-  operand-spaced : (left i : ℕ) → Stands t e i 1 1 left → b ≤ i → SpacedIn ends (operandAt left t ends i) i
-  unfolding operandAt sortAt
+  operand-spaced : (left i : ℕ) → Stands t e i 1 1 left → b ≤ i → SpacedIn ends (flatOperandAt left t ends i) i
+  unfolding flatOperandAt sortAt
   operand-spaced zero i here lo = absurd (omega (arith, level-left t e i 0 1 0 here))
   operand-spaced (suc left) i here lo =
       operand-level left (operand-spaced left) i here lo (operand-kind (nodeAt t i .kind) (sort-there t e i 0 1 (suc left) here))
 
   -- conditions one after the other, where each is spaced
-  conditions-spaced : (left : ℕ) → ((i : ℕ) → Stands t e i 1 2 left → b ≤ i → Spaced ends (conditionAt left t ends i) i)
+  conditions-spaced : (left : ℕ) → ((i : ℕ) → Stands t e i 1 2 left → b ≤ i → Spaced ends (flatConditionAt left t ends i) i)
       → (n j : ℕ) → Stands t e j n 2 left → b ≤ j
-      → SpacedAll ends (growConditions (conditionAt left t ends) ends n j) j
-      × (past ends n j ≡ j + nodesOfAll (growConditions (conditionAt left t ends) ends n j))
+      → SpacedAll ends (growConditions (flatConditionAt left t ends) ends n j) j
+      × (past ends n j ≡ j + nodesOfAll (growConditions (flatConditionAt left t ends) ends n j))
   unfolding growConditions SpacedAll nodesOfAll past
   conditions-spaced left below zero j here lo = (tt, omega arith)
   conditions-spaced left below (suc n) j here lo =
       let link = link-at j lo (node-there t e j n 2 left here) in
       let c = below j (stands-one t e j n 2 left here) lo in
-      let first = condition-end ends (conditionAt left t ends j) j c in
+      let first = condition-end ends (flatConditionAt left t ends j) j c in
       let rest = conditions-spaced left below n (endIn ends j) (stands-next t e j n 2 left here (endIn ends j) link) (omega (arith, link .beyond)) in
-      ((c, subst (SpacedAll ends (growConditions (conditionAt left t ends) ends n (endIn ends j))) first (rest .0)), omega (arith, rest .1, first))
+      ((c, subst (SpacedAll ends (growConditions (flatConditionAt left t ends) ends n (endIn ends j))) first (rest .0)), omega (arith, rest .1, first))
 
   -- one level of a condition, where the level below is spaced
-  condition-level : (left : ℕ) → ((i : ℕ) → Stands t e i 1 2 left → b ≤ i → Spaced ends (conditionAt left t ends i) i)
+  condition-level : (left : ℕ) → ((i : ℕ) → Stands t e i 1 2 left → b ≤ i → Spaced ends (flatConditionAt left t ends i) i)
       → (i : ℕ) → Stands t e i 1 2 (suc left) → b ≤ i → ConditionKind (nodeAt t i .kind)
-      → Spaced ends (growCondition (operandAt left t ends) (conditionAt left t ends) ends (conditionShape t ends i)) i
+      → Spaced ends (growCondition (flatOperandAt left t ends) (flatConditionAt left t ends) ends (conditionShape t ends i)) i
   unfolding growCondition group conditionShape conditionOf childCount past Spaced
   condition-level left below i here lo kind = rw (lt-leb 256 i (omega (arith, whole .small, node-there t e i 0 2 (suc left) here))) (go kind)
     where
       -- the first operand below the node, and the second
-      first : (k : ℕ) → Stands t e (i + 1) (suc k) 1 left → SpacedIn ends (operandAt left t ends (i + 1)) (i + 1)
+      first : (k : ℕ) → Stands t e (i + 1) (suc k) 1 left → SpacedIn ends (flatOperandAt left t ends (i + 1)) (i + 1)
       first k some = operand-spaced left (i + 1) (stands-one t e (i + 1) k 1 left some) (omega arith)
 
       link-first : (k : ℕ) → Stands t e (i + 1) (suc k) 1 left → Link t e (i + 1) (endIn ends (i + 1))
@@ -205,25 +206,25 @@ module _ (t ends : List ℕ) (b e : ℕ) (whole : WholeTree t ends b e) where
       rest : (k : ℕ) → Stands t e (i + 1) (suc k) 1 left → Stands t e (endIn ends (i + 1)) k 1 left
       rest k some = stands-next t e (i + 1) k 1 left some (endIn ends (i + 1)) (link-first k some)
 
-      second : (k : ℕ) → Stands t e (i + 1) (suc (suc k)) 1 left → SpacedIn ends (operandAt left t ends (endIn ends (i + 1))) (endIn ends (i + 1))
+      second : (k : ℕ) → Stands t e (i + 1) (suc (suc k)) 1 left → SpacedIn ends (flatOperandAt left t ends (endIn ends (i + 1))) (endIn ends (i + 1))
       second k some =
           operand-spaced left (endIn ends (i + 1)) (stands-one t e (endIn ends (i + 1)) k 1 left (rest (suc k) some))
           (omega (arith, link-first (suc k) some .beyond))
 
       -- two operands below the node
       pair : Stands t e (i + 1) 2 1 left → endIn ends i ≡ endIn ends (endIn ends (i + 1))
-          → (endIn ends i ≡ i + (1 + nodesIn (operandAt left t ends (i + 1)) + nodesIn (operandAt left t ends (endIn ends (i + 1)))))
-          × SpacedIn ends (operandAt left t ends (i + 1)) (i + 1)
-          × SpacedIn ends (operandAt left t ends (endIn ends (i + 1))) (i + 1 + nodesIn (operandAt left t ends (i + 1)))
+          → (endIn ends i ≡ i + (1 + nodesIn (flatOperandAt left t ends (i + 1)) + nodesIn (flatOperandAt left t ends (endIn ends (i + 1)))))
+          × SpacedIn ends (flatOperandAt left t ends (i + 1)) (i + 1)
+          × SpacedIn ends (flatOperandAt left t ends (endIn ends (i + 1))) (i + 1 + nodesIn (flatOperandAt left t ends (i + 1)))
       pair two over =
           let a = first 1 two in
           let c = second 0 two in
-          let at = operand-end ends (operandAt left t ends (i + 1)) (i + 1) a in
-          let then = operand-end ends (operandAt left t ends (endIn ends (i + 1))) (endIn ends (i + 1)) c in
-          (omega (arith, over, at, then), a, moved (operandAt left t ends (endIn ends (i + 1))) (endIn ends (i + 1)) _ at c)
+          let at = operand-end ends (flatOperandAt left t ends (i + 1)) (i + 1) a in
+          let then = operand-end ends (flatOperandAt left t ends (endIn ends (i + 1))) (endIn ends (i + 1)) c in
+          (omega (arith, over, at, then), a, moved (flatOperandAt left t ends (endIn ends (i + 1))) (endIn ends (i + 1)) _ at c)
 
       go : ConditionKind (nodeAt t i .kind)
-          → Spaced ends (growCondition (operandAt left t ends) (conditionAt left t ends) ends
+          → Spaced ends (growCondition (flatOperandAt left t ends) (flatConditionAt left t ends) ends
           (conditionOf (kindOf (nodeAt t i .kind) .condition) (nodeAt t i) (i + 1) (endIn ends (i + 1)) (endIn ends (endIn ends (i + 1))))) i
       go (a-compare row) = let two = below-by i 2 left _ here lo row in rw row (pair (two .0) (two .1))
       go (a-cross row) = let two = below-by i 2 left _ here lo row in rw row (pair (two .0) (two .1))
@@ -232,22 +233,22 @@ module _ (t ends : List ℕ) (b e : ℕ) (whole : WholeTree t ends b e) where
           let two = rest 2 (three .0) in
           let x = first 2 (three .0) in
           let low = second 1 (three .0) in
-          let at = operand-end ends (operandAt left t ends (i + 1)) (i + 1) x in
+          let at = operand-end ends (flatOperandAt left t ends (i + 1)) (i + 1) x in
           let near = link-first 2 (three .0) .beyond in
           let link = link-at (endIn ends (i + 1)) (omega (arith, near)) (node-there t e (endIn ends (i + 1)) 1 1 left two) in
           let w = endIn ends (endIn ends (i + 1)) in
           let high = operand-spaced left w (stands-next t e (endIn ends (i + 1)) 1 1 left two w link) (omega (arith, link .beyond, near)) in
-          let then = operand-end ends (operandAt left t ends (endIn ends (i + 1))) (endIn ends (i + 1)) low in
+          let then = operand-end ends (flatOperandAt left t ends (endIn ends (i + 1))) (endIn ends (i + 1)) low in
           rw row (
-            omega (arith, three .1, at, then, operand-end ends (operandAt left t ends w) w high),
+            omega (arith, three .1, at, then, operand-end ends (flatOperandAt left t ends w) w high),
             x,
-            moved (operandAt left t ends (endIn ends (i + 1))) (endIn ends (i + 1)) _ at low,
-            moved (operandAt left t ends w) w _ (omega (arith, at, then)) high,
+            moved (flatOperandAt left t ends (endIn ends (i + 1))) (endIn ends (i + 1)) _ at low,
+            moved (flatOperandAt left t ends w) w _ (omega (arith, at, then)) high,
           )
       go (a-trend row) =
           let one = below-by i 2 left _ here lo row in
           let a = first 0 (one .0) in
-          rw row (omega (arith, one .1, operand-end ends (operandAt left t ends (i + 1)) (i + 1) a), a)
+          rw row (omega (arith, one .1, operand-end ends (flatOperandAt left t ends (i + 1)) (i + 1) a), a)
       go (an-all k row) =
           let all = below-by i 2 left _ here lo row in
           let cs = conditions-spaced left below (nodeAt t i .children) (i + 1) (all .0) (omega arith) in
@@ -259,12 +260,12 @@ module _ (t ends : List ℕ) (b e : ℕ) (whole : WholeTree t ends b e) where
       go (a-not k row) =
           let one = below-by i 2 left _ here lo row in
           let c = below (i + 1) (one .0) (omega arith) in
-          rw row (omega (arith, one .1, condition-end ends (conditionAt left t ends (i + 1)) (i + 1) c), c)
+          rw row (omega (arith, one .1, condition-end ends (flatConditionAt left t ends (i + 1)) (i + 1) c), c)
       go (a-position k row) = rw row (below-by i 2 left _ here lo row .1)
       go (a-count k row) = rw row (below-by i 2 left _ here lo row .1)
 
-  condition-spaced : (left i : ℕ) → Stands t e i 1 2 left → b ≤ i → Spaced ends (conditionAt left t ends i) i
-  unfolding conditionAt sortAt
+  condition-spaced : (left i : ℕ) → Stands t e i 1 2 left → b ≤ i → Spaced ends (flatConditionAt left t ends i) i
+  unfolding flatConditionAt sortAt
   condition-spaced zero i here lo = absurd (omega (arith, level-left t e i 0 2 0 here))
   condition-spaced (suc left) i here lo =
       condition-level left (condition-spaced left) i here lo (condition-kind (nodeAt t i .kind) (sort-there t e i 0 2 (suc left) here))

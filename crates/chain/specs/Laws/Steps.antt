@@ -7,11 +7,11 @@ use Rattle.rules.specs.{declared.shapes.ConditionShape.the-variants.Compare, de
 use Rattle.rules.specs.{declared.shapes.ConditionShape.the-variants.Between, declared.shapes.ConditionShape.the-variants.Trend}
 use Rattle.rules.specs.{declared.shapes.ConditionShape.the-variants.Group, declared.shapes.ConditionShape.the-variants.Not}
 use Rattle.rules.specs.{declared.shapes.ConditionShape.the-variants.InPosition, declared.shapes.ConditionShape.the-variants.BarsSince}
-use Rattle.rules.specs.{declared.shapes.ConditionShape.the-variants.NoCondition, Meaning.holds, Shapes.endIn, Shapes.conditionShape, Flat.operandAt}
-use Rattle.rules.specs.{Flat.growConditions, Flat.group, Flat.growCondition, Flat.conditionAt}
-use Rattle.chain.specs.{declared.walk.Next.Next, declared.walk.Next.the-variants.Stop, declared.walk.Next.the-variants.Node, Chain.ChainLine, Chain.lineAt}
-use Rattle.chain.specs.{Chain.chain, Chain.firstWith, Flat.byEnds, Flat.firstAt, Flat.nextBy, Flat.nextAt, Flat.followed, Laws.Shapes.ConditionPlaced}
-use Rattle.chain.specs.{Laws.Shapes.condition-placed}
+use Rattle.rules.specs.{declared.shapes.ConditionShape.the-variants.NoCondition, Meaning.holds, Shapes.endIn, Shapes.conditionShape, Flat.flatOperandAt}
+use Rattle.rules.specs.{Flat.growConditions, Flat.group, Flat.growCondition, Flat.flatConditionAt}
+use Rattle.chain.specs.{declared.walk.Next.Next, declared.walk.Next.the-variants.Stop, declared.walk.Next.the-variants.Node, Chain.ChainLine}
+use Rattle.chain.specs.{Chain.lineAt, Chain.chain, Chain.firstWith, Flat.byEnds, Flat.firstAt, Flat.nextBy, Flat.nextAt, Flat.followed}
+use Rattle.chain.specs.{Laws.Shapes.ConditionPlaced, Laws.Shapes.condition-placed}
 
 module _ (ends : List ℕ) (h : History) (s : PositionState) (bar : ℕ) (below : ℕ → Condition) where
   -- the lines from node j on
@@ -55,24 +55,25 @@ module _ (ends : List ℕ) (h : History) (s : PositionState) (bar : ℕ) (below 
 
 -- ONE NODE: its line, and the lines from the node on that the chain goes to, with a level of nesting less.
 pub chain-step : (t ends : List ℕ) (h : History) (s : PositionState) (bar left i : ℕ)
-    → chain (byEnds ends) h s (conditionAt left t ends i) i bar
-    ≡ lineAt (byEnds ends) h s (conditionAt left t ends i) i bar
-    ∷ followed (nextAt left t ends h s i bar) (λ j. chain (byEnds ends) h s (conditionAt (left - 1) t ends j) j bar)
-unfolding conditionAt nextAt chain followed
+    → chain (byEnds ends) h s (flatConditionAt left t ends i) i bar
+    ≡ lineAt (byEnds ends) h s (flatConditionAt left t ends i) i bar
+    ∷ followed (nextAt left t ends h s i bar) (λ j. chain (byEnds ends) h s (flatConditionAt (left - 1) t ends j) j bar)
+unfolding flatConditionAt nextAt chain followed
 chain-step t ends h s bar zero i = refl
 chain-step t ends h s bar (suc left) i =
-    rw (sub-one (suc left)) (by-shape ends h s bar (conditionAt left t ends) t (operandAt left t ends) i (conditionShape t ends i) (condition-placed t ends i))
+    rw (sub-one (suc left))
+    (by-shape ends h s bar (flatConditionAt left t ends) t (flatOperandAt left t ends) i (conditionShape t ends i) (condition-placed t ends i))
 
 module _ (t ends : List ℕ) (h : History) (s : PositionState) (bar left i : ℕ) where
   -- the chain stops at the node, or goes on from node j
   pub chain-stops : nextAt left t ends h s i bar ≡ Stop
-      → chain (byEnds ends) h s (conditionAt left t ends i) i bar ≡ lineAt (byEnds ends) h s (conditionAt left t ends i) i bar ∷ []
+      → chain (byEnds ends) h s (flatConditionAt left t ends i) i bar ≡ lineAt (byEnds ends) h s (flatConditionAt left t ends i) i bar ∷ []
   unfolding followed
   chain-stops e = rw e at (chain-step t ends h s bar left i)
 
   pub chain-goes : (j : ℕ) → nextAt left t ends h s i bar ≡ Node j
-      → chain (byEnds ends) h s (conditionAt left t ends i) i bar
-      ≡ lineAt (byEnds ends) h s (conditionAt left t ends i) i bar ∷ chain (byEnds ends) h s (conditionAt (left - 1) t ends j) j bar
+      → chain (byEnds ends) h s (flatConditionAt left t ends i) i bar
+      ≡ lineAt (byEnds ends) h s (flatConditionAt left t ends i) i bar ∷ chain (byEnds ends) h s (flatConditionAt (left - 1) t ends j) j bar
   unfolding followed
   chain-goes j e = rw e at (chain-step t ends h s bar left i)
 

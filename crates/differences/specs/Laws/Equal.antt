@@ -9,8 +9,8 @@ use Rattle.differences.specs.{Laws.Said.within, Laws.Said.its-place, Law
 use mathlib.Core.List.{List·Memᴰ·head, List·Memᴰ·not-nil}
 
 -- one of as many as both have
-both : (k x y : ℕ) → x ≡ y → k < x → k < min x y
-both k x y s h = omega arith
+below-both : (k x y : ℕ) → x ≡ y → k < x → k < min x y
+below-both k x y s h = omega arith
 
 module _ (e t e′ t′ : List ℕ) where
   -- of equal runs no line is so
@@ -47,7 +47,7 @@ module _ (e t e′ t′ : List ℕ) where
         ⊎-elim
         (λ (s : k ≡ n). subst (λ (z : ℕ). equityAt e z ≡ equityAt e′ z) (sym s)
         (⊎-elim (λ (r : equityAt e n ≡ equityAt e′ n). r)
-        (λ (d : equityAt e n ≡ equityAt e′ n → ⊥). absurd (unsaid _ (equity n (both n (points e) (points e′) same-points h) d u refl)))
+        (λ (d : equityAt e n ≡ equityAt e′ n → ⊥). absurd (unsaid _ (equity n (below-both n (points e) (points e′) same-points h) d u refl)))
         (same-or (equityAt e n) (equityAt e′ n))))
         (λ (v : k ≡ n → ⊥). u k (not-last k n l v))
         (same-or k n)

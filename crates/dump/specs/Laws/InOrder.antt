@@ -1,6 +1,6 @@
 -- Rows, header and mark, each in part or whole, laid in turn: that is a stretch of the order of writing.
-use Rattle.words.specs.Prelude.{ℕ, _+_, _-_, _≤_, _<_, min, _≡_, refl, sym, ap, _∙_, List, Bool, true, false, sub-zero, zero-add, add-assoc, arith, lt-ltb, le-ltb}
-use Rattle.words.specs.Prelude.{leb-true, leb-false, leb, length, getD}
+use Rattle.words.specs.Prelude.{ℕ, _+_, _-_, _≤_, _<_, min, _≡_, refl, sym, ap, _∙_, List, Bool, true, false, sub-zero, zero-add, add-assoc, arith, lt-ltb}
+use Rattle.words.specs.Prelude.{le-ltb, leb-true, leb-false, leb, length, getD}
 use Rattle.images.specs.{Layout.wordsBytes}
 use Rattle.dump.specs.{Order.placeOf, Order.stretch, Order.written, Laws.Laid.laid, Laws.Laid.laid-on, Laws.Laid.laid-swap, Laws.Laid.stretch-laid}
 use Rattle.dump.specs.{Laws.Laid.stretch-on}

@@ -1,5 +1,6 @@
 -- Bytes laid one after another into an area: parts of a stretch, and stretches of the order of writing.
-use Rattle.words.specs.Prelude.{ℕ, zero, suc, _+_, _≤_, _<_, _≡_, refl, sym, ap, List, [], _∷_, add-zero, add-suc, add-one, arith, length, getD, set, length-set}
+use Rattle.words.specs.Prelude.{ℕ, zero, suc, _+_, _≤_, _<_, _≡_, refl, sym, ap, List, [], _∷_, add-zero, add-suc, add-one, arith, length, getD, set}
+use Rattle.words.specs.Prelude.{length-set}
 use Rattle.dump.specs.{Order.placeOf, Order.stretch}
 
 -- the n bytes of xs from p on, each at its place after base

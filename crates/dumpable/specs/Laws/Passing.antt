@@ -2,7 +2,8 @@
 -- level that is not given has to be finite too.
 use Rattle.words.specs.Prelude.{ℕ, zero, suc, _+_, _*_, _/_, _%_, _^_, _≤_, _<_, _≡_, refl, sym, ap, _∙_, Bool, true, false, cond, _&&_, true≢false, List, []}
 use Rattle.words.specs.Prelude.{le-div-iff-mul-le, mul-assoc, mul-comm, arith, lt-ltb, le-ltb, le-leb, ne-eqb, leb-true, ltb-true, leb, ltb, eqb, length}
-use Rattle.words.specs.{Limits.settingWords, Limits.stateWords, Limits.rowWords, Limits.mostSlots, Limits.mostRows, Limits.mostReach, Limits.mostCount, Words.word}
+use Rattle.words.specs.{Limits.settingWords, Limits.stateWords, Limits.rowWords, Limits.mostSlots, Limits.mostRows, Limits.mostReach, Limits.mostCount}
+use Rattle.words.specs.{Words.word}
 use Rattle.floats.specs.{Floats.finite, Floats.floatOf}
 use Rattle.execution.specs.{declared.optional.Optional.the-variants.Absent, declared.optional.Optional.the-variants.Of}
 use Rattle.records.specs.{Lent.rowPlaces, Lent.pointPlaces, Lent.tradePlaces, Settings.levelOf, Settings.sizingOf, Settings.slippageOf, Settings.orderTypeOf}

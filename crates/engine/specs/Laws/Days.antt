@@ -4,13 +4,13 @@ use Rattle.words.specs.Prelude.{le-div-iff-mul-le, mod-eq-of-lt, arith, eqb-tru
 use Rattle.words.specs.Prelude.{length-take-le, take-all}
 use Rattle.words.specs.{Limits.barWords, declared.refusal.Refusal.Refusal}
 use Rattle.records.specs.{declared.settings.Settings.Settings, declared.state.State.State, Lent.Lists, Lent.Rooms, Lent.rooms}
-use Rattle.refusals.specs.{declared.verdict.Verdict.Verdict, declared.verdict.Verdict.the-variants.Fine, declared.verdict.Verdict.the-variants.Bad, Day.wholeBars}
-use Rattle.refusals.specs.{Day.wholeFor, Day.dayLines, Day.nextLines, Judgement.stepJudged, Laws.Lines.below-fine, Laws.Lines.below-bad, Laws.Steady.Steady}
-use Rattle.refusals.specs.{Laws.Steady.day-bad, Laws.Steady.day-ragged, Laws.Steady.next-judged, Lines.Line, Lines.judged, Lists.listLines}
-use Rattle.engine.specs.{declared.answer.Answer.Answer, declared.answer.Answer.the-variants.Refused, declared.answer.Answer.the-variants.Done, Day.Underway}
-use Rattle.engine.specs.{Day.cut, Day.barsIn, Day.barsFor, Day.noBars, Day.dayOf, Day.stopped, Day.runWith, Day.unlistedBy, Run.Run, Run.oneMore, Run.goesOn}
-use Rattle.engine.specs.{Run.runOver, Step.With, Step.Is, Step.answered, Step.stepped, Step.stepVerdict, Step.stepAnswer, Laws.Runs.run-none}
-use Rattle.engine.specs.{Laws.Runs.run-stops, Laws.Underway.step-steady, Laws.Verdict.handed-bad}
+use Rattle.refusals.specs.{declared.verdict.Verdict.Verdict, declared.verdict.Verdict.the-variants.Fine, declared.verdict.Verdict.the-variants.Bad}
+use Rattle.refusals.specs.{Day.wholeBars, Day.wholeFor, Day.dayLines, Day.nextLines, Judgement.stepJudged, Laws.Lines.below-fine, Laws.Lines.below-bad}
+use Rattle.refusals.specs.{Laws.Steady.Steady, Laws.Steady.day-bad, Laws.Steady.day-ragged, Laws.Steady.next-judged, Lines.Line, Lines.judged, Lists.listLines}
+use Rattle.engine.specs.{declared.answer.Answer.Answer, declared.answer.Answer.the-variants.Refused, declared.answer.Answer.the-variants.Done}
+use Rattle.engine.specs.{Day.Underway, Day.inRecords, Day.barsIn, Day.barsFor, Day.noBars, Day.dayOf, Day.firstRefused, Day.runWith, Day.unlistedBy}
+use Rattle.engine.specs.{Run.Run, Run.oneMore, Run.goesOn, Run.runOver, Step.With, Step.Is, Step.answered, Step.stepped, Step.stepVerdict}
+use Rattle.engine.specs.{Step.stepAnswer, Laws.Runs.run-none, Laws.Runs.run-stops, Laws.Underway.step-steady, Laws.Verdict.handed-bad}
 use native.Mathlib.Nat.{zero-mod, div-self}
 
 -- ---- a bar
@@ -47,15 +47,15 @@ abbrev pub moreBars : ℕ → Run → Run
 moreBars k r = record { done = r .done + k; verdict = r .verdict; state = r .state; rooms = r .rooms }
 
 -- one record more
-pub cut-next : (n w : ℕ) (ws : List ℕ) → 0 < n → cut n w ws ≡ take w ws ∷ cut (n - 1) w (drop w ws)
-unfolding cut
-cut-next zero w ws h = absurd (omega arith)
-cut-next (suc n) w ws h = let one : suc n - 1 ≡ n = omega arith in rw one
+pub records-next : (n w : ℕ) (ws : List ℕ) → 0 < n → inRecords n w ws ≡ take w ws ∷ inRecords (n - 1) w (drop w ws)
+unfolding inRecords
+records-next zero w ws h = absurd (omega arith)
+records-next (suc n) w ws h = let one : suc n - 1 ≡ n = omega arith in rw one
 
 module _ (s : Settings) (ls : Lists) (t₀ : State) (m₀ : Rooms) (bars : List ℕ) (count w : ℕ) where
   -- the run over all bars is that over the bars left, after those done
   abbrev pub After : ℕ → State → Rooms → Type 0
-  After done t m = runOver s ls t₀ m₀ (cut count w bars) ≡ moreBars done (runOver s ls t m (cut (count - done) w (drop (done * w) bars)))
+  After done t m = runOver s ls t₀ m₀ (inRecords count w bars) ≡ moreBars done (runOver s ls t m (inRecords (count - done) w (drop (done * w) bars)))
 
   pub after-none : After 0 t₀ m₀
   after-none =
@@ -66,8 +66,8 @@ module _ (s : Settings) (ls : Lists) (t₀ : State) (m₀ : Rooms) (bars : List 
 
   -- all are done
   pub after-all : (done : ℕ) {t : State} {m : Rooms} → count ≤ done → After done t m
-      → runOver s ls t₀ m₀ (cut count w bars) ≡ record { done = done; verdict = Fine; state = t; rooms = m }
-  unfolding cut
+      → runOver s ls t₀ m₀ (inRecords count w bars) ≡ record { done = done; verdict = Fine; state = t; rooms = m }
+  unfolding inRecords
   after-all done h after =
       let none : count - done ≡ 0 = omega arith in
       let zero-more : 0 + done ≡ done = omega arith in
@@ -77,11 +77,12 @@ module _ (s : Settings) (ls : Lists) (t₀ : State) (m₀ : Rooms) (bars : List 
   abbrev pub nextBar : ℕ → List ℕ
   nextBar done = take w (drop (done * w) bars)
 
-  next : (done : ℕ) → done < count → cut (count - done) w (drop (done * w) bars) ≡ nextBar done ∷ cut (count - (done + 1)) w (drop ((done + 1) * w) bars)
+  next : (done : ℕ) → done < count
+      → inRecords (count - done) w (drop (done * w) bars) ≡ nextBar done ∷ inRecords (count - (done + 1)) w (drop ((done + 1) * w) bars)
   next done h =
       let left : count - done - 1 ≡ count - (done + 1) = omega arith in
       let on : done * w + w ≡ (done + 1) * w = omega arith in
-      cut-next (count - done) w (drop (done * w) bars) (omega arith) ∙ rw (drop-drop w (done * w) bars, left, on)
+      records-next (count - done) w (drop (done * w) bars) (omega arith) ∙ rw (drop-drop w (done * w) bars, left, on)
 
   module _ (done : ℕ) (more : done < count) (t : State) (m : Rooms) (after : After done t m) where
     pub after-more : {u : State} {ws es ts : List ℕ} → Is Answer (stepAnswer s t (nextBar done) m ls) (Done u) ws es ts → After (done + 1) u (rooms ws es ts)
@@ -90,7 +91,7 @@ module _ (s : Settings) (ls : Lists) (t₀ : State) (m₀ : Rooms) (bars : List 
         after ∙ rw (next done more, run-goes s ls t m (nextBar done) _ d, one)
 
     pub after-refused : {why : Refusal} {u : State} {ws es ts : List ℕ} → Is Answer (stepAnswer s t (nextBar done) m ls) (Refused why u) ws es ts
-        → runOver s ls t₀ m₀ (cut count w bars) ≡ record { done = done; verdict = Bad why; state = u; rooms = rooms ws es ts }
+        → runOver s ls t₀ m₀ (inRecords count w bars) ≡ record { done = done; verdict = Bad why; state = u; rooms = rooms ws es ts }
     after-refused d =
         let zero-more : 0 + done ≡ done = omega arith in
         after ∙ rw (next done more, run-refused s ls t m (nextBar done) _ d, zero-more)
@@ -111,7 +112,7 @@ not-below n w some e = go (ltb n w) refl
 
 module _ (K : ℕ) (bars : List ℕ) where
   pub bars-none : length bars ≡ 0 → barsIn K bars ≡ []
-  unfolding barsIn wholeBars cut
+  unfolding barsIn wholeBars inRecords
   bars-none none = rw (none, zero-mod, zero-div)
 
   -- one bar or more, and whole: a first bar
@@ -125,8 +126,8 @@ module _ (K : ℕ) (bars : List ℕ) where
   some-bars h = le-div-iff-mul-le {k = barWords K} (omega arith) .1 (omega (arith, h))
 
   -- the bars of whole bars
-  pub whole-bars : (one : Bool) → wholeFor one K bars ≡ true → barsFor one K bars ≡ cut (length bars / barWords K) (barWords K) bars
-  unfolding barsFor wholeFor barsIn cut
+  pub whole-bars : (one : Bool) → wholeFor one K bars ≡ true → barsFor one K bars ≡ inRecords (length bars / barWords K) (barWords K) bars
+  unfolding barsFor wholeFor barsIn inRecords
   whole-bars true whole =
       let long : length bars ≡ barWords K = eqb-true (length bars) (barWords K) whole in
       let once : length bars / barWords K ≡ 1 = rw long (div-self {n = barWords K} (omega arith)) in
@@ -153,23 +154,23 @@ module _ (one : Bool) (s : Settings) (t : State) (bars : List ℕ) (m : Rooms) (
 
   -- whole bars
   pub day-whole : wholeFor one (s .slots) bars ≡ true
-      → dayOf one s t bars m ls ≡ runOver s ls t m (cut (length bars / barWords (s .slots)) (barWords (s .slots)) bars)
+      → dayOf one s t bars m ls ≡ runOver s ls t m (inRecords (length bars / barWords (s .slots)) (barWords (s .slots)) bars)
   unfolding dayOf
   day-whole h = rw (whole-bars (s .slots) bars one h)
 
   module _ (some : noBars one bars ≡ false) where
     -- whole bars whose first is refused
     first-bad : wholeFor one (s .slots) bars ≡ true → (why : Refusal) → stepJudged s t (take (barWords (s .slots)) bars) m ls ≡ Bad why
-        → dayOf one s t bars m ls ≡ runWith (stopped t why) m
+        → dayOf one s t bars m ls ≡ runWith (firstRefused t why) m
     first-bad h why bad =
-        day-whole h ∙ rw (cut-next _ (barWords (s .slots)) bars (some-bars (s .slots) bars (whole-one (s .slots) bars one some h)))
+        day-whole h ∙ rw (records-next _ (barWords (s .slots)) bars (some-bars (s .slots) bars (whole-one (s .slots) bars one some h)))
         (run-stops s ls t m _ _ why (handed-bad s t _ m ls why bad))
 
     -- WHAT IS LOOKED AT ONCE is what the first bar would be refused with
-    pub day-stops : (why : Refusal) → judged (dayLines one s t bars m) ≡ Bad why → dayOf one s t bars m ls ≡ runWith (stopped t why) m
+    pub day-stops : (why : Refusal) → judged (dayLines one s t bars m) ≡ Bad why → dayOf one s t bars m ls ≡ runWith (firstRefused t why) m
     day-stops why bad = go (wholeFor one (s .slots) bars) refl
       where
-        go : (b : Bool) → wholeFor one (s .slots) bars ≡ b → dayOf one s t bars m ls ≡ runWith (stopped t why) m
+        go : (b : Bool) → wholeFor one (s .slots) bars ≡ b → dayOf one s t bars m ls ≡ runWith (firstRefused t why) m
         go true h = first-bad h why (day-bad one s t bars m ls why bad h _)
         go false h =
             unfold dayOf in

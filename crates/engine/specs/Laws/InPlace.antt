@@ -1,7 +1,7 @@
 -- Rows that do not move are read, and added to, as if they did.
 use Rattle.words.specs.Prelude.{ℕ, _/_, _≡_, refl, ap, _∙_, Bool, true, false, cond, List, arith, eqb-true, eqb, Float, length}
-use Rattle.rows.specs.{declared.ring.Ring.Ring, History.historyOf, History.width, History.lastRows, Laws.Ring.RingFine, Laws.Ring.ring-adds, Laws.Ring.ring-none}
-use Rattle.rows.specs.{Laws.Ring.held-turned, Laws.Turned.turned-none, Ring.ringOf, Ring.turned, Room.withRow, Room.heldWith}
+use Rattle.rows.specs.{declared.ring.Ring.Ring, History.historyOf, History.width, History.lastRows, Laws.Ring.RingFine, Laws.Ring.ring-adds}
+use Rattle.rows.specs.{Laws.Ring.ring-none, Laws.Ring.held-turned, Laws.Turned.turned-none, Ring.ringOf, Ring.turned, Room.withRow, Room.heldWith}
 use Rattle.rules.specs.{declared.position.PositionState.PositionState}
 use Rattle.portfolio.specs.{declared.Candle.Candle}
 use Rattle.execution.specs.{RingEntry.entry-turned}
@@ -10,7 +10,7 @@ use Rattle.steps.specs.{declared.machine.Ran.Ran, AnyList.ring-any, WellFormed.
 use Rattle.records.specs.{declared.settings.Settings.Settings, declared.state.Order.Order, declared.state.Position.Position, Lent.Lists}
 use Rattle.refusals.specs.{declared.verdict.Verdict.the-variants.Fine, Laws.Lines.first-holds, Lines.judged, Lists.isWell, Lists.listLines}
 use Rattle.engine.specs.{declared.account.Due.Due, declared.account.Due.the-variants.Waits, declared.account.Due.the-variants.Enters}
-use Rattle.engine.specs.{declared.account.Due.the-variants.Leaves, declared.record.Place.Place, Account.entered, Account.dueOf, Account.doneOf}
+use Rattle.engine.specs.{declared.account.Due.the-variants.Leaves, declared.record.Place.Place, Account.entryFilled, Account.dueOf, Account.doneOf}
 use Rattle.engine.specs.{Account.filled, Decide.listSays, Decide.answersOf, Decide.stateAt, Decide.decided, InPlace.keptRing, InPlace.keptRoom}
 use Rattle.engine.specs.{InPlace.rowPlaced, InPlace.PlaceFor, InPlace.readFrom, InPlace.decidedFrom, Laws.Lengths.row-long, Laws.Lengths.row-fits}
 use Rattle.engine.specs.{Record.rowOf, Record.heldRows}
@@ -41,7 +41,7 @@ all-well K D ls h =
 
 filled-turned : (K start : ℕ) (ws : List ℕ) (due : Due) (s : Settings) (p : Position) (k : Candle) (n : ℕ)
     → doneOf due s p k (ringOf K start ws) n ≡ doneOf due s p k (historyOf K (turned (width K) start ws)) n
-unfolding doneOf entered
+unfolding doneOf entryFilled
 filled-turned K start ws (Waits o) s p k n = refl
 filled-turned K start ws (Enters side kind price) s p k n = rw (entry-turned K start ws)
 filled-turned K start ws Leaves s p k n = refl

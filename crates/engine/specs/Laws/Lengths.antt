@@ -1,7 +1,7 @@
 -- What is written into a room stays within it: its length is kept, and it holds no more than it has places for.
 use Rattle.words.specs.Prelude.{ℕ, zero, suc, _+_, _-_, _*_, _/_, _≤_, _<_, _≡_, refl, ap, _∙_, Bool, true, false, cond, List, [], _∷_, _++_, le-div-iff-mul-le}
-use Rattle.words.specs.Prelude.{suc-mul, le-refl, mul-le-mul-right, arith, ltb-true, eqb-false, length, take, drop, length-append, length-drop, length-take-le, ltb}
-use Rattle.words.specs.Prelude.{eqb}
+use Rattle.words.specs.Prelude.{suc-mul, le-refl, mul-le-mul-right, arith, ltb-true, eqb-false, length, take, drop, length-append, length-drop, length-take-le}
+use Rattle.words.specs.Prelude.{ltb, eqb}
 use Rattle.words.specs.{Words.overwrite, Laws.Overwrite.overwrite-length}
 use Rattle.rows.specs.{History.width, Room.placesFor, Room.withRow, Room.heldWith}
 use Rattle.execution.specs.{declared.fills.Exit.Exit, declared.fills.Exit.the-variants.NoExit, declared.fills.Exit.the-variants.Exited}

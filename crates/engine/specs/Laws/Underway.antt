@@ -6,13 +6,13 @@ use Rattle.portfolio.specs.{declared.Candle.Candle}
 use Rattle.execution.specs.{declared.fills.Entry.Entry, declared.fills.Entry.the-variants.NoEntry, declared.fills.Entry.the-variants.TooLarge}
 use Rattle.execution.specs.{declared.fills.Entry.the-variants.Entered, declared.fills.Exit.Exit, declared.fills.Exit.the-variants.NoExit}
 use Rattle.execution.specs.{declared.fills.Exit.the-variants.Exited}
-use Rattle.records.specs.{declared.settings.Settings.Settings, declared.state.Position.Position, declared.state.State.State, Bar.candleOf, Lent.Lists, Lent.Rooms}
-use Rattle.records.specs.{Lent.rowPlaces, Lent.pointPlaces, Lent.tradePlaces}
+use Rattle.records.specs.{declared.settings.Settings.Settings, declared.state.Position.Position, declared.state.State.State, Bar.candleOf, Lent.Lists}
+use Rattle.records.specs.{Lent.Rooms, Lent.rowPlaces, Lent.pointPlaces, Lent.tradePlaces}
 use Rattle.refusals.specs.{Laws.Lines.and-true, Laws.Steady.Steady, Rooms.heldFine, Rooms.entryBelow, Rooms.roomLines}
 use Rattle.engine.specs.{declared.account.Due.Due, declared.account.Due.the-variants.Waits, declared.account.Due.the-variants.Enters}
 use Rattle.engine.specs.{declared.account.Due.the-variants.Leaves, declared.account.Filled.Filled, declared.account.Left.Left, Account.leaving}
-use Rattle.engine.specs.{Account.entering, Account.entered, Account.facing, Account.exited, Account.doneOf, Account.filled, Account.intrabar, Account.charged}
-use Rattle.engine.specs.{Laws.Lengths.row-fits, Laws.Lengths.twice-booked-fits, Laws.Lengths.marked-fits, Step.fillOf, Step.stepped}
+use Rattle.engine.specs.{Account.entering, Account.entryFilled, Account.facing, Account.exitFilled, Account.doneOf, Account.filled, Account.intrabar}
+use Rattle.engine.specs.{Account.charged, Laws.Lengths.row-fits, Laws.Lengths.twice-booked-fits, Laws.Lengths.marked-fits, Step.fillOf, Step.stepped}
 
 -- ---- the entry bar
 
@@ -34,7 +34,7 @@ entering-below p (Entered portfolio fill) n h = lt-ltb n (n + 1) (omega arith)
 
 done-below : (due : Due) (s : Settings) (p : Position) (k : Candle) (before : History) (n : ℕ) → entryBelow (p .entered) n ≡ true
     → entryBelow (doneOf due s p k before n .position .entered) (n + 1) ≡ true
-unfolding doneOf entered exited facing
+unfolding doneOf entryFilled exitFilled facing
 done-below (Waits order) s p k before n h = below-more (p .entered) n h
 done-below (Enters side kind price) s p k before n h = entering-below p _ n h
 done-below Leaves s p k before n h = leaving-below (facing p k) _ (n + 1) (below-more (p .entered) n h)

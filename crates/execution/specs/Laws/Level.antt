@@ -3,10 +3,11 @@
 use Rattle.words.specs.Prelude.{_≡_, refl, Bool, true, false, cond, Float}
 use Rattle.floats.specs.{Floats._≼_, Floats.min, Floats.max, Laws.Order.numbers, Laws.Order.itself, Laws.Order.min-second, Laws.Order.max-second}
 use Rattle.portfolio.specs.{declared.Candle.Candle}
-use Rattle.execution.specs.{declared.optional.Optional.Optional, declared.optional.Optional.the-variants.Absent, declared.optional.Optional.the-variants.Of}
-use Rattle.execution.specs.{declared.level.Side.the-variants.Long, declared.level.Side.the-variants.Short, declared.level.OrderKind.the-variants.Limit}
-use Rattle.execution.specs.{declared.level.OrderKind.the-variants.Stop, declared.level.OrderKind.the-variants.StopLimit, Level.reachedBelow}
-use Rattle.execution.specs.{Level.reachedAbove, Level.noDearerThan, Level.noCheaperThan, Level.longFill, Level.shortFill, Level.levelFill}
+use Rattle.execution.specs.{declared.optional.Optional.Optional, declared.optional.Optional.the-variants.Absent}
+use Rattle.execution.specs.{declared.optional.Optional.the-variants.Of, declared.level.Side.the-variants.Long, declared.level.Side.the-variants.Short}
+use Rattle.execution.specs.{declared.level.OrderKind.the-variants.Limit, declared.level.OrderKind.the-variants.Stop}
+use Rattle.execution.specs.{declared.level.OrderKind.the-variants.StopLimit, Level.reachedBelow, Level.reachedAbove, Level.noDearerThan}
+use Rattle.execution.specs.{Level.noCheaperThan, Level.longFill, Level.shortFill, Level.levelFill}
 
 -- so of the price, where there is a fill
 unfoldable pub WhereFilled : (Float → Type 0) → Optional → Type 0

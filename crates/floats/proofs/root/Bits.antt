@@ -86,7 +86,8 @@ root-most M q y m f = less q (2 ^ 54 - 1) (near M (q * q) (omega (arith, f .made
 -- THE NEAREST: half of the whole root of 4 M, rounded up.
 pub nearest : (M q y : ℕ) → Sized M → WholeRoot (4 * M) q y → NearestRoot M ((q + 1) / 2)
 nearest M q y m f = record {
-  s-least = half-least q (lt-of-not-le (λ (g : suc q ≤ 2 ^ 53). not-le-of-lt (below-next M q y ((q + 1) / 2) (2 * ((q + 1) / 2) - q) f (parts q)) (far M q g (m .least))));
+  s-least = half-least q
+      (lt-of-not-le (λ (g : suc q ≤ 2 ^ 53). not-le-of-lt (below-next M q y ((q + 1) / 2) (2 * ((q + 1) / 2) - q) f (parts q)) (far M q g (m .least))));
   s-most = half-most q (root-most M q y m f);
   above = under (eq-zero-or-pos (2 * ((q + 1) / 2) - q));
   below = over M q y ((q + 1) / 2) (2 * ((q + 1) / 2) - q) f (parts q);
@@ -111,7 +112,8 @@ nearest M q y m f = record {
         four z h = omega arith
 
     some : 1 ≤ (q + 1) / 2
-    some = go q (lt-of-not-le (λ (g : suc q ≤ 2 ^ 53). not-le-of-lt (below-next M q y ((q + 1) / 2) (2 * ((q + 1) / 2) - q) f (parts q)) (far M q g (m .least))))
+    some = go q
+        (lt-of-not-le (λ (g : suc q ≤ 2 ^ 53). not-le-of-lt (below-next M q y ((q + 1) / 2) (2 * ((q + 1) / 2) - q) f (parts q)) (far M q g (m .least))))
       where
         go : (x : ℕ) → 2 ^ 53 < suc x → 1 ≤ (x + 1) / 2
         go x l = omega arith

@@ -1,6 +1,7 @@
 -- What a bit pattern stands for: so many units of 2^-1074. Assumes nothing.
-use Rattle.words.specs.Prelude.{_≡_, refl, sym, ap, subst, _∙_, Bool, false, cond, ℕ, zero, suc, _+_, _*_, _/_, _%_, _^_, _<_, not-le-of-lt, mod-eq-of-lt, mul-one}
-use Rattle.words.specs.Prelude.{arith, T, leb, eqb, leb→le, eqb→eq, not-T, Float, nan, inf, binary64, odd, ofFields, ofBits, is-false, HasValue, odd-sign}
+use Rattle.words.specs.Prelude.{_≡_, refl, sym, ap, subst, _∙_, Bool, false, cond, ℕ, zero, suc, _+_, _*_, _/_, _%_, _^_, _<_, not-le-of-lt, mod-eq-of-lt}
+use Rattle.words.specs.Prelude.{mul-one, arith, T, leb, eqb, leb→le, eqb→eq, not-T, Float, nan, inf, binary64, odd, ofFields, ofBits, is-false, HasValue}
+use Rattle.words.specs.Prelude.{odd-sign}
 use Rattle.floats.specs.{Root.fieldUnits, Root.unitsOf}
 use lib.Ieee.Bits.{cond-no}
 

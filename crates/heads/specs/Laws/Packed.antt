@@ -1,5 +1,6 @@
 -- The header as words: fields that are no words of their own stand side by side in one, the first lowest.
-use Rattle.words.specs.Prelude.{ℕ, _+_, _*_, _/_, _%_, _<_, _≡_, refl, sym, ap, _∙_, List, [], _∷_, _++_, mod-eq-of-lt, div-eq-of-lt, zero-add, arith, replicate}
+use Rattle.words.specs.Prelude.{ℕ, _+_, _*_, _/_, _%_, _<_, _≡_, refl, sym, ap, _∙_, List, [], _∷_, _++_, mod-eq-of-lt, div-eq-of-lt, zero-add, arith}
+use Rattle.words.specs.Prelude.{replicate}
 use Rattle.words.specs.{Words.word}
 use Rattle.steps.specs.{Bytes.two, Bytes.four, Bytes.eight}
 use Rattle.images.specs.{Layout.single, Layout.wordsBytes, Layout.numbers, Layout.amounts, Layout.head}

@@ -1,8 +1,8 @@
 -- A row judged by its words where they stand: prices and volume, the bits above K, and slot by slot, present and finite or absent and zero.
-use Rattle.words.specs.Prelude.{ℕ, zero, suc, _+_, _-_, _*_, _/_, _%_, _^_, _≤_, _<_, _≡_, refl, sym, ap, _∙_, Bool, true, false, cond, _&&_, _||_, List, [], _∷_}
-use Rattle.words.specs.Prelude.{⊎-elim, eq-or-lt-of-le, add-zero, add-suc, one-mul, pow-suc, zero-div, div-lt-iff-lt-mul, div-div-eq-div-mul, mul-comm, add-one}
-use Rattle.words.specs.Prelude.{arith, lt-ltb, le-ltb, eq-eqb, ne-eqb, eqb-true, eqb-false, ltb, eqb, length, getD, List·getD-append, List·getD-eq-default, pow-add}
-use Rattle.words.specs.Prelude.{pow-pos, getD-at}
+use Rattle.words.specs.Prelude.{ℕ, zero, suc, _+_, _-_, _*_, _/_, _%_, _^_, _≤_, _<_, _≡_, refl, sym, ap, _∙_, Bool, true, false, cond, _&&_, _||_, List, []}
+use Rattle.words.specs.Prelude.{_∷_, ⊎-elim, eq-or-lt-of-le, add-zero, add-suc, one-mul, pow-suc, zero-div, div-lt-iff-lt-mul, div-div-eq-div-mul, mul-comm}
+use Rattle.words.specs.Prelude.{add-one, arith, lt-ltb, le-ltb, eq-eqb, ne-eqb, eqb-true, eqb-false, ltb, eqb, length, getD, List·getD-append}
+use Rattle.words.specs.Prelude.{List·getD-eq-default, pow-add, pow-pos, getD-at}
 use Rattle.words.specs.{Limits.rowWords, declared.refusal.Refusal.Refusal}
 use Rattle.floats.specs.{Floats.finite, Floats.floatOf}
 use Rattle.table.specs.{Bytes.u64}

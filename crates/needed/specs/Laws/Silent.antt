@@ -2,14 +2,14 @@
 use Rattle.words.specs.Prelude.{ℕ, suc, _+_, _-_, _*_, _≤_, _<_, min, zero, _≡_, refl, sym, ap, _∙_, Bool, true, false, cond, List, [], _∷_, _++_, append-assoc}
 use Rattle.words.specs.Prelude.{append-nil, ⊎-elim, arith, eq-zero-or-pos, leb, length, getD, drop, replicate, drop-at, lt-leb, leb-false}
 use Rattle.words.specs.{Limits.mostRows, Limits.mostReach}
-use Rattle.table.specs.{declared.nodes.Node.Node, declared.header.Form.Form, declared.answer.Answer.the-variants.Accepted, Header.count, Header.root, Forest.Forest}
-use Rattle.table.specs.{Forest.trees, Forest.forestOf, Forest.sorts, Forest.Sorted, Reach.ownBack, Reach.weigh, Checked.checked, Ends.from, Trees.reachOf}
-use Rattle.table.specs.{Trees.reachOfAll, Trees.Condition, Trees.Conditions, Trees.compare, Trees.cross, Trees.between, Trees.trend, Trees.every, Trees.any}
-use Rattle.table.specs.{Trees.negated, Trees.inPosition, Trees.barsSince, Trees.none, Trees.more, Reading.firstOf, Reading.conditions, Reading.treeOf}
-use Rattle.table.specs.{Writing.writeOf, Writing.nodesOf, Limits.WithinOf, Limits.WithinAll, Laws.Ends.from-long, Laws.Ends.from-two, Laws.Ends.from-all}
-use Rattle.table.specs.{Laws.Accepted.header-of, Laws.Accepted.tree-ends, Bytes.Bytes, Silent.isTest, Silent.silent, Silent.ifSilent, Silent.silentIn}
-use Rattle.table.specs.{Silent.silentInAll, Silent.silentOf, Silent.silentTests, Silent.silentNode, Silent.silentNodes, Silent.fourSilent, declared.kinds.Kind.Kind}
-use Rattle.table.specs.{Kinds.kinds, Kinds.kindOf, Kinds.isTestKind, Nodes.childCount}
+use Rattle.table.specs.{declared.nodes.Node.Node, declared.header.Form.Form, declared.answer.Answer.the-variants.Accepted, Header.count, Header.root}
+use Rattle.table.specs.{Forest.Forest, Forest.trees, Forest.forestOf, Forest.sorts, Forest.Sorted, Reach.ownBack, Reach.weigh, Checked.checked, Ends.from}
+use Rattle.table.specs.{Trees.reachOf, Trees.reachOfAll, Trees.Condition, Trees.Conditions, Trees.compare, Trees.cross, Trees.between, Trees.trend, Trees.every}
+use Rattle.table.specs.{Trees.any, Trees.negated, Trees.inPosition, Trees.barsSince, Trees.none, Trees.more, Reading.firstOf, Reading.conditions}
+use Rattle.table.specs.{Reading.treeOf, Writing.writeCondition, Writing.nodesOf, Limits.WithinOf, Limits.WithinAll, Laws.Ends.from-long, Laws.Ends.from-two}
+use Rattle.table.specs.{Laws.Ends.from-all, Laws.Accepted.header-of, Laws.Accepted.tree-ends, Bytes.Bytes, Silent.isTest, Silent.silent, Silent.ifSilent}
+use Rattle.table.specs.{Silent.silentIn, Silent.silentInAll, Silent.silentOf, Silent.silentTests, Silent.silentNode, Silent.silentNodes, Silent.fourSilent}
+use Rattle.table.specs.{declared.kinds.Kind.Kind, Kinds.kinds, Kinds.kindOf, Kinds.isTestKind, Nodes.childCount}
 use Rattle.roundtrip.specs.{Laws.Reach.rows-are, Laws.AcceptedWritten.byte, Laws.AcceptedWritten.nodes-back, Laws.AcceptedWritten.tree-written}
 use Rattle.roundtrip.specs.{Laws.AcceptedWritten.tree-nodes, Laws.WrittenForest.plantOf, Laws.WrittenForest.plantAll, Laws.WrittenNodes.From}
 use Rattle.roundtrip.specs.{Laws.WrittenGrows.growsOf, Laws.WrittenTrees.given-reach, Laws.AcceptedWithin.tree-within, Laws.Reading.operands-below}
@@ -108,7 +108,7 @@ module _ (t : List ℕ) (small : Bytes t) (n r : ℕ) (ok : checked t ≡ Accept
       ap (drop at) parts ∙ drop-at (from f at 0) (from f (length t - at) at) at (from-long f at 0)
 
   -- the bytes from a tree's root on begin with those of the tree
-  tree-bytes : (x : ℕ) → x < 4 → 0 < count t x → From t (root t x) (writeOf (treeOf t x) ++ drop (16 + 16 * root t (suc x)) t)
+  tree-bytes : (x : ℕ) → x < 4 → 0 < count t x → From t (root t x) (writeCondition (treeOf t x) ++ drop (16 + 16 * root t (suc x)) t)
   unfolding root byte
   tree-bytes x l some =
       let f : ℕ → ℕ = λ i. getD t i 0 in
@@ -118,7 +118,7 @@ module _ (t : List ℕ) (small : Bytes t) (n r : ℕ) (ok : checked t ≡ Accept
       let long : length t ≡ 16 + 16 * Header.total t = header-of t n r ok .long in
       let rest : length t - (16 + 16 * i) ≡ 16 * m + (length t - (16 + 16 * (i + m))) = omega arith in
       let on : 16 + 16 * i + 16 * m ≡ 16 + 16 * (i + m) = omega arith in
-      let own : writeOf (treeOf t x) ≡ from f (16 * m) (16 + 16 * i) = tree-written t n r ok x l some ∙ nodes-back t small m i in
+      let own : writeCondition (treeOf t x) ≡ from f (16 * m) (16 + 16 * i) = tree-written t n r ok x l some ∙ nodes-back t small m i in
       bytes-from (16 + 16 * i) (omega arith)
       ∙ ap (λ (j : ℕ). from f j (16 + 16 * i)) rest
       ∙ from-two f (16 * m) (length t - (16 + 16 * (i + m))) (16 + 16 * i)

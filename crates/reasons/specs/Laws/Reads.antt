@@ -1,10 +1,10 @@
 -- An operand has a value at a bar exactly where none of the leaves that it looks at is missing. Assumes nothing.
-use Rattle.words.specs.Prelude.{ℕ, zero, suc, _+_, _-_, _≤_, _<_, _≡_, refl, sym, ap, subst, Bool, true, false, cond, arith, ltb, Float, le-ltb, lt-ltb, ltb-true}
-use Rattle.words.specs.Prelude.{ltb-false}
+use Rattle.words.specs.Prelude.{ℕ, zero, suc, _+_, _-_, _≤_, _<_, _≡_, refl, sym, ap, subst, Bool, true, false, cond, arith, ltb, Float, le-ltb, lt-ltb}
+use Rattle.words.specs.Prelude.{ltb-true, ltb-false}
 use Rattle.rows.specs.{History.History}
 use Rattle.table.specs.{declared.series.Series.Series, declared.series.Series.the-variants.Price, declared.series.Series.the-variants.Slot, Trees.Operand}
 use Rattle.table.specs.{Trees.const, Trees.ref, Trees.price, Trees.prev, Trees.arith as sums, Trees.extreme, Series.asOperand, Writing.nodesIn}
-use Rattle.rules.specs.{declared.values.Value.Value, declared.values.Value.the-variants.Missing, declared.values.Value.the-variants.Number, Values.both}
+use Rattle.rules.specs.{declared.values.Value.Value, declared.values.Value.the-variants.Missing, declared.values.Value.the-variants.Number, Values.combined}
 use Rattle.rules.specs.{Values.pick, Meaning.newest, Meaning.there, Meaning.seriesAt, Meaning.extremeOver, Meaning.extremeAt, Meaning.value, Laws.Meaning.past}
 use Rattle.rules.specs.{Laws.Meaning.extreme-early, Laws.Meaning.extreme-late}
 use Rattle.chain.specs.{declared.missing.Found.Found, declared.missing.Found.the-variants.Nowhere, declared.missing.Found.the-variants.Leaf, Missing.inTable}
@@ -21,8 +21,8 @@ reads-gone i back Missing = gone i back
 reads-gone i back (Number x) = got x
 
 -- of two values: both have to be there
-reads-both : (kind : ℕ) {f g : Found} {v w : Value} → Reads f v → Reads g w → Reads (firstFound f g) (both kind v w)
-unfolding firstFound both
+reads-both : (kind : ℕ) {f g : Found} {v w : Value} → Reads f v → Reads g w → Reads (firstFound f g) (combined kind v w)
+unfolding firstFound combined
 reads-both kind (gone node back) q = gone node back
 reads-both kind (got x) (gone node back) = gone node back
 reads-both kind (got x) (got y) = got _

@@ -1,6 +1,6 @@
 -- Settings and states are made of their first words alone: lists that agree in these have the same.
-use Rattle.words.specs.Prelude.{ℕ, zero, suc, _+_, _<_, _≤_, _≡_, refl, ap, _∙_, Bool, cond, List, [], _∷_, _++_, append-nil, zero-add, arith, le-leb, length, drop}
-use Rattle.words.specs.Prelude.{replicate, length-replicate}
+use Rattle.words.specs.Prelude.{ℕ, zero, suc, _+_, _<_, _≤_, _≡_, refl, ap, _∙_, Bool, cond, List, [], _∷_, _++_, append-nil, zero-add, arith, le-leb, length}
+use Rattle.words.specs.Prelude.{drop, replicate, length-replicate}
 use Rattle.words.specs.{Limits.settingWords, Limits.stateWords, Words.word, Words.overwrite}
 use Rattle.records.specs.{Settings.settingsOf, Settings.termsOf, Settings.riskOf, Settings.entriesOf, StateWords.stateOf, StateWords.countsOf}
 use Rattle.records.specs.{StateWords.positionOf, StateWords.portfolioOf}

@@ -1,7 +1,7 @@
 -- A caller loses nothing between calls: the words of a state mean that state, if its floats are f64, as they are in every state that words
 -- mean and in a fresh one.
-use Rattle.words.specs.Prelude.{ℕ, _≤_, _≡_, refl, Bool, true, false, cond, List, _++_, arith, le-leb, T, eqb, length, drop, Float, binary64, fits, ofBits-toBits}
-use Rattle.words.specs.Prelude.{ofBits-fits}
+use Rattle.words.specs.Prelude.{ℕ, _≤_, _≡_, refl, Bool, true, false, cond, List, _++_, arith, le-leb, T, eqb, length, drop, Float, binary64, fits}
+use Rattle.words.specs.Prelude.{ofBits-toBits, ofBits-fits}
 use Rattle.portfolio.specs.{Portfolio.fresh}
 use Rattle.floats.specs.{Floats.floatOf}
 use Rattle.rules.specs.{declared.position.Entered.Entered, declared.position.Entered.the-variants.Never, declared.position.Entered.the-variants.Bar}
@@ -11,8 +11,9 @@ use Rattle.words.specs.{Words.overwrite, Limits.stateWords}
 use Rattle.records.specs.{declared.state.Order.Order, declared.state.Order.the-variants.Idle, declared.state.Order.the-variants.EnterLong}
 use Rattle.records.specs.{declared.state.Order.the-variants.EnterShort, declared.state.Order.the-variants.Exit, declared.state.State.State}
 use Rattle.records.specs.{Settings.settingsOf, State.freshState, StateWords.countsOf, StateWords.orderOf, StateWords.entryKindOf, StateWords.enteredOf}
-use Rattle.records.specs.{StateWords.portfolioOf, StateWords.positionOf, StateWords.stateOf, StateWords.orderKind, StateWords.orderDelay, StateWords.waitsFor}
-use Rattle.records.specs.{StateWords.kindWord, StateWords.levelWord, StateWords.limitWord, StateWords.enteredKind, StateWords.entryBar, StateWords.wordsOf}
+use Rattle.records.specs.{StateWords.portfolioOf, StateWords.positionOf, StateWords.stateOf, StateWords.orderKind, StateWords.orderDelay}
+use Rattle.records.specs.{StateWords.waitsFor, StateWords.kindWord, StateWords.levelWord, StateWords.limitWord, StateWords.enteredKind}
+use Rattle.records.specs.{StateWords.entryBar, StateWords.wordsOf}
 
 -- the levels of an entry, each an f64 in the code
 unfoldable pub KindFits : OrderKind → Type 0

@@ -6,10 +6,10 @@ use Rattle.steps.specs.{declared.wellformed.Formed.Formed, declared.wellformed.
 use Rattle.steps.specs.{WellFormed.formed}
 use Rattle.records.specs.{declared.settings.Settings.Settings, declared.state.State.State, Lent.Rooms, Lent.Lists}
 use Rattle.refusals.specs.{declared.verdict.Verdict.the-variants.Fine, declared.verdict.Verdict.the-variants.Bad, Lines.Line, Lines.judged}
-use Rattle.refusals.specs.{Settings.sizingLines, Settings.slippageLines, Settings.riskLines, Settings.termLines, Settings.entryLines, Settings.settingLines}
-use Rattle.refusals.specs.{Rooms.roomLines, Rooms.stateLines, Rooms.placeLines, Rooms.closeLines, Bar.barLines, Lists.badStep, Lists.listLines}
-use Rattle.refusals.specs.{Judgement.runLines, Judgement.stepLines, Judgement.finishLines, Judgement.finishJudged, Laws.Lines.never, Laws.Lines.and-true}
-use Rattle.refusals.specs.{Laws.Lines.first-holds, Laws.BadStep.bad-below}
+use Rattle.refusals.specs.{Settings.sizingLines, Settings.slippageLines, Settings.riskLines, Settings.termLines, Settings.entryLines}
+use Rattle.refusals.specs.{Settings.settingLines, Rooms.roomLines, Rooms.stateLines, Rooms.placeLines, Rooms.closeLines, Bar.barLines, Lists.badStep}
+use Rattle.refusals.specs.{Lists.listLines, Judgement.runLines, Judgement.stepLines, Judgement.finishLines, Judgement.finishJudged, Laws.Lines.never}
+use Rattle.refusals.specs.{Laws.Lines.and-true, Laws.Lines.first-holds, Laws.BadStep.bad-below}
 
 -- each line's place is below 2^32, where those above it hold
 unfoldable pub Placed : List Line → Type 0

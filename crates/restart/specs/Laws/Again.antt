@@ -1,6 +1,7 @@
 -- The words of the state that words mean are these words again, where each is of a known kind, no field is set that its kind does not use, and each
 -- float's word is that of the float it means.
-use Rattle.words.specs.Prelude.{ℕ, _≤_, _<_, _≡_, refl, sym, Bool, true, false, cond, not, arith, eqb-true, eqb-false, T, eqb, ltb, binary64, isNan, toBits-ofBits}
+use Rattle.words.specs.Prelude.{ℕ, _≤_, _<_, _≡_, refl, sym, Bool, true, false, cond, not, arith, eqb-true, eqb-false, T, eqb, ltb, binary64, isNan}
+use Rattle.words.specs.Prelude.{toBits-ofBits}
 use Rattle.floats.specs.{Floats.floatOf, Floats.wordOf}
 use Rattle.rules.specs.{declared.position.Entered.the-variants.Never, declared.position.Entered.the-variants.Bar}
 use Rattle.execution.specs.{declared.level.OrderKind.OrderKind, declared.level.OrderKind.the-variants.Market, declared.level.OrderKind.the-variants.Limit}

@@ -1,12 +1,12 @@
 -- The first eight bytes of an image: bytes that are an image's behind them, and that 19 and 20 let pass, are the image.
-use Rattle.words.specs.Prelude.{ℕ, zero, suc, _+_, _*_, _/_, _%_, _≤_, _<_, _≡_, refl, sym, _∙_, Bool, true, false, List, mod-eq-of-lt, arith, eqb-true, ltb-true}
-use Rattle.words.specs.Prelude.{ltb-false, ltb, length, getD, ext-getD}
+use Rattle.words.specs.Prelude.{ℕ, zero, suc, _+_, _*_, _/_, _%_, _≤_, _<_, _≡_, refl, sym, _∙_, Bool, true, false, List, mod-eq-of-lt, arith, eqb-true}
+use Rattle.words.specs.Prelude.{ltb-true, ltb-false, ltb, length, getD, ext-getD}
 use Rattle.table.specs.{Bytes.u16, Bytes.Bytes}
 use Rattle.records.specs.{declared.settings.Settings.Settings, declared.state.State.State}
 use Rattle.refusals.specs.{declared.verdict.Verdict.the-variants.Fine, Lines.judged, Laws.Lines.first-holds}
 use Rattle.images.specs.{Layout.numbers, Layout.head, Layout.image, Layout.imageOf, Reading.slotsIn, Reading.depthIn, Refused.imageLines, Refused.sameLines}
 use Rattle.images.specs.{Laws.Fine.ShapeFine, Laws.Fine.shape-fine}
-use Rattle.restart.specs.{Laws.Marked.Marked, Laws.Marked.marked}
+use Rattle.restart.specs.{Laws.Marked.Marked, Laws.Marked.shape-marked}
 
 -- what the lines of 19 and 20 have seen of the first eight bytes: the mark and the version, K and D
 record FirstWord (s : Settings) (x : List ℕ) : Type 0 where
@@ -21,7 +21,7 @@ first-word s x nineteen twenty =
     let shape = first-holds _ _ nineteen .0 in
     let depth = first-holds _ _ twenty in
     record {
-      mark = marked x shape;
+      mark = shape-marked x shape;
       shape = shape-fine x shape;
       slots = eqb-true _ _ (first-holds _ _ (depth .1) .0);
       depth = eqb-true _ _ (depth .0);

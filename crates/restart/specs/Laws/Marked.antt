@@ -10,9 +10,9 @@ pub record Marked (x : List ℕ) : Type 0 where
   pub m₂ : getD x 2 0 ≡ 80
   pub version : versionIn x ≡ 1
 
-pub marked : (x : List ℕ) → shapeFine x ≡ true → Marked x
+pub shape-marked : (x : List ℕ) → shapeFine x ≡ true → Marked x
 unfolding shapeFine
-marked x h =
+shape-marked x h =
     let a = and-true _ (eqb (length x) (dumpBytes (slotsIn x) (depthIn x))) h .0 in
     let b = and-true _ (leb (slotsIn x) mostSlots) a .0 in
     let c = and-true _ (leb (depthIn x) mostRows) b .0 in

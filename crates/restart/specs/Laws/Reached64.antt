@@ -1,19 +1,20 @@
 -- After any bars from a fresh state, the numbers of a state and the words of its window are such as the code's types hold, where those of the settings
 -- and of the bars are.
-use Rattle.words.specs.Prelude.{ℕ, zero, suc, _-_, _*_, _/_, _%_, _^_, _≤_, _<_, _≡_, refl, ap, _∙_, Bool, true, false, cond, List, [], _∷_, _++_, zero-mul, arith}
-use Rattle.words.specs.Prelude.{leb-true, ltb-true, leb, ltb, eqb, length, getD, List·getD-eq-default, getD-drop}
+use Rattle.words.specs.Prelude.{ℕ, zero, suc, _-_, _*_, _/_, _%_, _^_, _≤_, _<_, _≡_, refl, ap, _∙_, Bool, true, false, cond, List, [], _∷_, _++_, zero-mul}
+use Rattle.words.specs.Prelude.{arith, leb-true, ltb-true, leb, ltb, eqb, length, getD, List·getD-eq-default, getD-drop}
 use Rattle.words.specs.{Limits.rowWords, Limits.mostRows}
 use Rattle.rows.specs.{History.lastRows}
 use Rattle.rules.specs.{declared.position.Entered.Entered, declared.position.Entered.the-variants.Never, declared.position.Entered.the-variants.Bar}
 use Rattle.portfolio.specs.{Portfolio.fresh}
-use Rattle.records.specs.{declared.settings.Settings.Settings, declared.state.State.State, Bar.candleOf, Lent.Lists, Lent.Rooms, Lent.rowPlaces, State.freshState}
-use Rattle.records.specs.{StateWords.orderDelay, StateWords.entryBar, Laws.RoundTrip.Floats64}
-use Rattle.refusals.specs.{declared.verdict.Verdict.Verdict, declared.verdict.Verdict.the-variants.Fine, declared.verdict.Verdict.the-variants.Bad, Lines.judged}
-use Rattle.refusals.specs.{Rooms.entryBelow, Settings.settingLines, Laws.Fine.settings-fine, Laws.Fine.step-fine, Laws.Lines.and-true, Laws.Lines.first-holds}
+use Rattle.records.specs.{declared.settings.Settings.Settings, declared.state.State.State, Bar.candleOf, Lent.Lists, Lent.Rooms, Lent.rowPlaces}
+use Rattle.records.specs.{State.freshState, StateWords.orderDelay, StateWords.entryBar, Laws.RoundTrip.Floats64}
+use Rattle.refusals.specs.{declared.verdict.Verdict.Verdict, declared.verdict.Verdict.the-variants.Fine, declared.verdict.Verdict.the-variants.Bad}
+use Rattle.refusals.specs.{Lines.judged, Rooms.entryBelow, Settings.settingLines, Laws.Fine.settings-fine, Laws.Fine.step-fine, Laws.Lines.and-true}
+use Rattle.refusals.specs.{Laws.Lines.first-holds}
 use Rattle.runs.specs.{Laws.Floats.step-floats}
 use Rattle.engine.specs.{Laws.Runs.run-none, Laws.Runs.run-stops, Laws.Runs.run-takes, Record.rowWord, Record.listed, Record.rowOf, Run.Run, Run.runOver}
 use Rattle.engine.specs.{Step.stepped, Step.stepVerdict}
-use Rattle.restart.specs.{Accepted.Passed, Accepted.fresh-passed, Accepted.step-passed, Accepted.window-moved, Accepted.step-judged, Restart.Kept}
+use Rattle.restart.specs.{Accepted.Passed, Accepted.fresh-passed, Accepted.step-passed, Accepted.window-moved, Accepted.step-judged, Restart.Storable}
 use Rattle.restart.specs.{Window.window-whole, Laws.Times.Word64, Laws.Times.step-timed, Laws.Times.step-delayed}
 use Rattle.images.specs.{Layout.windowOf}
 
@@ -131,13 +132,13 @@ depth-fine s h =
     let depth = first-holds _ _ (first-holds _ _ h .1) .0 in
     leb-true _ _ (and-true (leb 1 (s .depth)) (leb (s .depth) mostRows) (and-true _ _ depth .0) .1)
 
--- ANY BARS FROM A FRESH STATE leave a box that has all that its image needs (`Kept`): settings that 12 lets pass, whose capital is an f64 and whose delay a
+-- ANY BARS FROM A FRESH STATE leave a box that has all that its image needs (`Storable`): settings that 12 lets pass, whose capital is an f64 and whose delay a
 -- 64-bit word, and bars of 64-bit words are all that is asked.
-pub reached-kept : (s : Settings) (ls : Lists) (m : Rooms) (bars : List (List ℕ)) → s .depth ≤ rowPlaces (s .slots) (m .rows)
+pub reached-storable : (s : Settings) (ls : Lists) (m : Rooms) (bars : List (List ℕ)) → s .depth ≤ rowPlaces (s .slots) (m .rows)
     → judged (settingLines s) ≡ Fine → Floats64 (freshState s) → Word64 (s .delay) → Bars64 bars
     → let b = runOver s ls (freshState s) m bars in
-    Kept s (b .state) (b .rooms)
-reached-kept s ls m bars deep twelve floats delay words =
+    Storable s (b .state) (b .rooms)
+reached-storable s ls m bars deep twelve floats delay words =
     let b : Run = runOver s ls (freshState s) m bars in
     let h : Held64 s (b .state) (b .rooms) = run-held s ls delay bars (freshState s) m words (fresh-held s m deep floats) in
     record {

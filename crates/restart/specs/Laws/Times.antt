@@ -2,8 +2,8 @@
 use Rattle.words.specs.Prelude.{ℕ, _-_, _<_, Bool, true, false, cond, List, arith, ltb, Float}
 use Rattle.floats.specs.{Floats._⊗_, Floats._≺_, Floats.eps}
 use Rattle.rows.specs.{History.History}
-use Rattle.portfolio.specs.{declared.Candle.Candle, declared.Closed.Closed, declared.Portfolio.Portfolio, Portfolio.inPosition, Portfolio.isLong, Portfolio.funded}
-use Rattle.portfolio.specs.{Portfolio.worsened, Portfolio.entered, Portfolio.exited}
+use Rattle.portfolio.specs.{declared.Candle.Candle, declared.Closed.Closed, declared.Portfolio.Portfolio, Portfolio.inPosition, Portfolio.isLong}
+use Rattle.portfolio.specs.{Portfolio.funded, Portfolio.worsened, Portfolio.entered, Portfolio.exited}
 use Rattle.execution.specs.{declared.fills.Entry.Entry, declared.fills.Entry.the-variants.NoEntry, declared.fills.Entry.the-variants.TooLarge}
 use Rattle.execution.specs.{declared.fills.Entry.the-variants.Entered, declared.fills.Exit.Exit, declared.fills.Exit.the-variants.NoExit}
 use Rattle.execution.specs.{declared.fills.Exit.the-variants.Exited, declared.costs.Funding.Funding, declared.costs.Funding.the-variants.NotSupplied}
@@ -13,14 +13,14 @@ use Rattle.execution.specs.{declared.level.OrderKind.OrderKind, declared.level.
 use Rattle.execution.specs.{declared.level.Side.the-variants.Short, declared.terms.Terms.Terms, declared.intrabar.Trigger.Trigger}
 use Rattle.execution.specs.{declared.intrabar.Trigger.the-variants.Untouched, declared.intrabar.Trigger.the-variants.At, Costs.slippageRate, Costs.fillPrice}
 use Rattle.execution.specs.{Costs.closed, Costs.withFunding, Costs.chargeFunding, Fills.direction, Fills.volatilityFor, Fills.quantity, Fills.probeQty}
-use Rattle.execution.specs.{Fills.withinVolume, Fills.booked, Fills.executeEntry, Fills.executeExit, Lots.isTooLarge, Lots.orZero, Level.levelFill}
+use Rattle.execution.specs.{Fills.withinVolume, Fills.entryWith, Fills.executeEntry, Fills.executeExit, Lots.isTooLarge, Lots.orZero, Level.levelFill}
 use Rattle.execution.specs.{Intrabar.closedBy, Intrabar.applyIntrabarExits}
 use Rattle.records.specs.{declared.settings.Settings.Settings, declared.state.Order.Order, declared.state.Order.the-variants.Idle}
 use Rattle.records.specs.{declared.state.Order.the-variants.EnterLong, declared.state.Order.the-variants.EnterShort}
 use Rattle.records.specs.{declared.state.Order.the-variants.Exit as ExitOrder, declared.state.Position.Position, declared.state.State.State, Bar.candleOf}
 use Rattle.records.specs.{Lent.Lists, Lent.Rooms, StateWords.orderDelay}
 use Rattle.engine.specs.{declared.account.Due.Due, declared.account.Due.the-variants.Waits, declared.account.Due.the-variants.Enters}
-use Rattle.engine.specs.{declared.account.Due.the-variants.Leaves, Account.leaving, Account.facing, Account.entering, Account.reached, Account.dueOf}
+use Rattle.engine.specs.{declared.account.Due.the-variants.Leaves, Account.leaving, Account.facing, Account.entering, Account.dueIfReached, Account.dueOf}
 use Rattle.engine.specs.{Account.doneOf, Account.filled, Account.intrabar, Account.charged, Decide.Answers, Decide.ordered, Decide.openingOrder}
 use Rattle.engine.specs.{Decide.closingOrder, Decide.orderAfter, Decide.decided, Step.stepped}
 use Rattle.execution.specs.declared.optional.Optional.the-variants as Optional
@@ -76,8 +76,8 @@ unfolding entered
 booked-timed true p qty fill time fee h = one (entered p qty fill time fee) fill h
 booked-timed false p qty fill time fee h = none
 
-ordered-timed : (q : Quantity) (dir fill bps : Float) (k : Candle) (p : Portfolio) → Word64 (k .time) → TimedEntry (booked dir q fill bps k p)
-unfolding booked
+ordered-timed : (q : Quantity) (dir fill bps : Float) (k : Candle) (p : Portfolio) → Word64 (k .time) → TimedEntry (entryWith dir q fill bps k p)
+unfolding entryWith
 ordered-timed Nothing dir fill bps k p h = none
 ordered-timed Quantity.TooLarge dir fill bps k p h = large
 ordered-timed (Of base) dir fill bps k p h = booked-timed (eps ≺ base) p (dir ⊗ base) fill (k .time) _ h
@@ -94,7 +94,7 @@ entry-timed side raw bps terms k p h t =
     let probe : Quantity = probeQty (terms .slippage) terms (p .cash) raw rv in
     let fill : Float = fillPrice raw (direction side) (slippageRate (terms .slippage) (orZero probe) (k .volume)) in
     let q : Quantity = withinVolume terms (quantity terms (p .cash) fill rv) (k .volume) in
-    entry-either (isTooLarge probe) (booked (direction side) q fill bps k p) (ordered-timed q (direction side) fill bps k p t)
+    entry-either (isTooLarge probe) (entryWith (direction side) q fill bps k p) (ordered-timed q (direction side) fill bps k p t)
 
 entering-timed : (p : Position) (x : Entry) (number : ℕ) → Timed (p .portfolio) → TimedEntry x → Timed (entering p x number .portfolio)
 unfolding entering
@@ -104,7 +104,7 @@ entering-timed p (Entered account fill) number h (one _ _ a) = a
 
 filled-timed : (due : Due) (s : Settings) (p : Position) (k : Candle) (before : History) (n : ℕ) → Word64 (k .time) → Timed (p .portfolio)
     → Timed (doneOf due s p k before n .position .portfolio)
-unfolding doneOf Account.entered Account.exited
+unfolding doneOf Account.entryFilled Account.exitFilled
 filled-timed (Waits order) s p k before n t h = h
 filled-timed (Enters side kind price) s p k before n t h = entering-timed p _ n h (entry-timed side price _ (s .terms) k (p .portfolio) before t)
 filled-timed Leaves s p k before n t h =
@@ -146,13 +146,13 @@ module _ (s : Settings) (p : Position) (k : Candle) (before : History) (number :
   due-either true x y h i = h
   due-either false x y h i = i
 
-  reached-delayed : (side : Side) (kind : OrderKind) (o : Order) (x : Optional) → Delayed o → DueDelayed (reached side kind o x)
-  unfolding reached doneOf Account.entered orderDelay
+  reached-delayed : (side : Side) (kind : OrderKind) (o : Order) (x : Optional) → Delayed o → DueDelayed (dueIfReached side kind o x)
+  unfolding dueIfReached doneOf Account.entryFilled orderDelay
   reached-delayed side kind o Absent h = h
   reached-delayed side kind o (Optional.Of price) h = omega arith
 
   waits-delayed : (o : Order) → Delayed o → Delayed (filled s o p k before number .order)
-  unfolding filled dueOf doneOf Account.exited orderDelay
+  unfolding filled dueOf doneOf Account.exitFilled orderDelay
   waits-delayed Idle h = omega arith
   waits-delayed (EnterLong n kind) h =
       due-either (ltb 0 n) (Waits (EnterLong (n - 1) kind)) _ (omega arith) (reached-delayed Long kind (EnterLong n kind) (levelFill Long kind k) h)

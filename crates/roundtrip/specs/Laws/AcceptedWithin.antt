@@ -3,10 +3,10 @@
 use Rattle.words.specs.Prelude.{_≡_, _∙_, ap, ⊎-elim, List, ℕ, zero, suc, _+_, _*_, _<_, arith, eq-zero-or-pos, length, eq-eqb, ne-eqb}
 use Rattle.words.specs.{Limits.mostNesting}
 use Rattle.table.specs.{declared.answer.Answer.the-variants.Accepted, Bytes.u64, Header.formOf, Header.count, Header.root, Nodes.nodeAt, Nodes.childCountAt}
-use Rattle.table.specs.{Forest.Forest, Forest.firstTrees, Forest.otherTrees, Forest.nodeOver, Forest.trees, Forest.forestOf, Checked.checked, Reading.conditions}
-use Rattle.table.specs.{Reading.present, Reading.treeOf, Writing.shortOf, Writing.ruleOf, Limits.TreeWithin, Limits.ShortWithin, Limits.RuleWithin}
-use Rattle.table.specs.{Laws.Accepted.header-of, Laws.Accepted.node-of, Laws.Accepted.tree-ends, Laws.Accepted.tree-sorts, Laws.Accepted.tree-nesting}
-use Rattle.table.specs.{Laws.Accepted.tree-reach, Bytes.Bytes}
+use Rattle.table.specs.{Forest.Forest, Forest.firstTrees, Forest.otherTrees, Forest.nodeOver, Forest.trees, Forest.forestOf, Checked.checked}
+use Rattle.table.specs.{Reading.conditions, Reading.present, Reading.treeOf, Writing.shortOf, Writing.ruleOf, Limits.TreeWithin, Limits.ShortWithin}
+use Rattle.table.specs.{Limits.RuleWithin, Laws.Accepted.header-of, Laws.Accepted.node-of, Laws.Accepted.tree-ends, Laws.Accepted.tree-sorts}
+use Rattle.table.specs.{Laws.Accepted.tree-nesting, Laws.Accepted.tree-reach, Bytes.Bytes}
 use Rattle.roundtrip.specs.{Laws.Reading.many-conditions, Laws.Reach.tree-reach-is, Laws.AcceptedWritten.right-trees, Laws.AcceptedWritten.u16-small}
 use Rattle.roundtrip.specs.{Laws.AcceptedWritten.u32-small, Laws.AcceptedWritten.rule-nodes, Laws.Limits.first-in, Laws.Limits.all-fine}
 use Rattle.roundtrip.specs.{Laws.OwnBytes.NodeFits, Laws.OwnBytes.FieldsFit}

@@ -3,14 +3,15 @@
 -- Assumes nothing.
 use Rattle.words.specs.Prelude.{_≡_, refl, sym, _∙_, ap, true, ⊎-elim, List, [], _∷_, _++_, ℕ, zero, suc, _+_, _*_, _/_, _%_, _≤_, _<_, arith, eq-zero-or-pos}
 use Rattle.words.specs.Prelude.{length, getD, length-append, eqb, ne-eqb, eqb-true}
-use Rattle.table.specs.{declared.answer.Answer.the-variants.Accepted, declared.header.Form.Form, Bytes.Bytes, Bytes.u16, Bytes.u32, Bytes.u64, Header.newestVersion}
-use Rattle.table.specs.{Header.version, Header.formOf, Header.total, Header.count, Header.root, Header.markRight, Nodes.nodeAt, Nodes.childCountAt, Nodes.nodeRight}
-use Rattle.table.specs.{Forest.Forest, Forest.firstTrees, Forest.otherTrees, Forest.nodeOver, Forest.trees, Forest.forestOf, Forest.nodes, Checked.checked}
-use Rattle.table.specs.{Ends.from, Trees.arith as sums, Trees.none, Reading.conditions, Reading.treeOf, Reading.present, Writing.le16, Writing.le32, Writing.le64}
-use Rattle.table.specs.{Writing.node, Writing.nodeBytes, Writing.nodesBytes, Writing.writeOf, Writing.nodesOf, Writing.Short, Writing.absent, Writing.given}
-use Rattle.table.specs.{Writing.nodesOfShort, Writing.writeShort, Writing.nodesOfRule, Writing.headerOf, Writing.tableOf, Writing.shortOf, Writing.ruleOf}
-use Rattle.table.specs.{Laws.Ends.from-two, Laws.Ends.from-all, Laws.Header.both, Laws.Header.HeaderRight, Laws.Forest.flat-trees, Laws.Accepted.header-of}
-use Rattle.table.specs.{Laws.Accepted.node-of, Laws.Accepted.tree-ends, Laws.Accepted.tree-sorts}
+use Rattle.table.specs.{declared.answer.Answer.the-variants.Accepted, declared.header.Form.Form, Bytes.Bytes, Bytes.u16, Bytes.u32, Bytes.u64}
+use Rattle.table.specs.{Header.newestVersion, Header.version, Header.formOf, Header.total, Header.count, Header.root, Header.markRight, Nodes.nodeAt}
+use Rattle.table.specs.{Nodes.childCountAt, Nodes.nodeRight, Forest.Forest, Forest.firstTrees, Forest.otherTrees, Forest.nodeOver, Forest.trees}
+use Rattle.table.specs.{Forest.forestOf, Forest.nodes, Checked.checked, Ends.from, Trees.arith as sums, Trees.none, Reading.conditions, Reading.treeOf}
+use Rattle.table.specs.{Reading.present, Writing.le16, Writing.le32, Writing.le64, Writing.node, Writing.nodeBytes, Writing.nodesBytes, Writing.writeCondition}
+use Rattle.table.specs.{Writing.nodesOf, Writing.Short, Writing.absent, Writing.given, Writing.nodesOfShort, Writing.writeShort, Writing.nodesOfRule}
+use Rattle.table.specs.{Writing.headerOf, Writing.tableOf, Writing.shortOf, Writing.ruleOf, Laws.Ends.from-two, Laws.Ends.from-all, Laws.Header.and-parts}
+use Rattle.table.specs.{Laws.Header.HeaderRight, Laws.Forest.flat-trees, Laws.Accepted.header-of, Laws.Accepted.node-of, Laws.Accepted.tree-ends}
+use Rattle.table.specs.{Laws.Accepted.tree-sorts}
 use Rattle.roundtrip.specs.{Laws.Reading.many-conditions, Laws.Writing.Right, Laws.Writing.written-all, Laws.OwnBytes.all-one, Laws.NodeBytes.node-long}
 use Rattle.roundtrip.specs.{Laws.WrittenForest.condition-long}
 use Rattle.table.specs.Forest as Forest
@@ -34,7 +35,7 @@ right-trees t (suc m) i h =
 
 module _ (t : List ℕ) (n r : ℕ) (ok : checked t ≡ Accepted n r) where
   -- The trees of an accepted table, written in prefix order, are the table's own nodes.
-  pub tree-written : (x : ℕ) → x < 4 → 0 < count t x → writeOf (treeOf t x) ≡ nodesBytes (nodes t (count t x) (root t x))
+  pub tree-written : (x : ℕ) → x < 4 → 0 < count t x → writeCondition (treeOf t x) ≡ nodesBytes (nodes t (count t x) (root t x))
   unfolding treeOf forestOf root
   tree-written x l some =
       let g = tree-sorts t n r ok x l some in
@@ -174,8 +175,8 @@ module _ (t : List ℕ) (small : Bytes t) (n r : ℕ) (ok : checked t ≡ Accept
   header-back : headerOf (formOf t) (ruleOf t) ≡ from b 16 0
   unfolding headerOf ruleOf markRight from byte
   header-back =
-      let m2 = both _ (eqb (getD t 2 0) 66) (right .mark) in
-      let m1 = both (eqb (getD t 0 0) 82) (eqb (getD t 1 0) 84) (m2 .0) in
+      let m2 = and-parts _ (eqb (getD t 2 0) 66) (right .mark) in
+      let m1 = and-parts (eqb (getD t 0 0) 82) (eqb (getD t 1 0) 84) (m2 .0) in
       let mark0 : getD t 0 0 ≡ 82 = eqb-true _ _ (m1 .0) in
       let mark1 : getD t 1 0 ≡ 84 = eqb-true _ _ (m1 .1) in
       let mark2 : getD t 2 0 ≡ 66 = eqb-true _ _ (m2 .1) in

@@ -1,18 +1,18 @@
 -- What an accepted table holds is within the paper's limits.
 -- Assumes nothing.
-use Rattle.words.specs.Prelude.{_≡_, sym, _∙_, ap, subst, true, List, [], _∷_, ℕ, zero, suc, _≤_, _<_, arith, length, replicate, length-replicate, leb, ltb-true}
-use Rattle.words.specs.Prelude.{leb-true}
+use Rattle.words.specs.Prelude.{_≡_, sym, _∙_, ap, subst, true, List, [], _∷_, ℕ, zero, suc, _≤_, _<_, arith, length, replicate, length-replicate, leb}
+use Rattle.words.specs.Prelude.{ltb-true, leb-true}
 use Rattle.words.specs.{Limits.mostReach}
 use Rattle.table.specs.{declared.nodes.Node.Node, declared.kinds.Kind.Kind, declared.header.Form.Form, declared.places.Place.the-variants.Nowhere, Kinds.kindOf}
 use Rattle.table.specs.{Kinds.constant, Kinds.reference, Kinds.extremum, Kinds.barsSince, Nodes.childCount, Nodes.nRight, Nodes.constantRight, Nodes.ownRight}
 use Rattle.table.specs.{Forest.Forest, Forest.sorts, Forest.Sorted, Nesting.deeper, Trees.Operand, Trees.const, Trees.ref, Trees.price, Trees.prev}
 use Rattle.table.specs.{Trees.arith as sums, Trees.extreme, Trees.Condition, Trees.Conditions, Trees.none, Trees.more, Series.asSeries, Reading.child}
-use Rattle.table.specs.{Reading.operandBy, Reading.operandFrom, Reading.operands, Reading.firstOf, Reading.conditionBy, Reading.conditionFrom, Reading.conditions}
-use Rattle.table.specs.{Writing.manyOf, Limits.Within, Limits.WithinOf, Limits.WithinAll, Limits.levels, Limits.levelsOf, Limits.levelsOfAll, Laws.Order.never-at}
-use Rattle.table.specs.{Laws.Accepted.or-none, Laws.Kinds.OperandKind, Laws.Kinds.a-const, Laws.Kinds.a-ref, Laws.Kinds.a-price, Laws.Kinds.a-prev}
-use Rattle.table.specs.{Laws.Kinds.an-arith, Laws.Kinds.an-extreme, Laws.Kinds.operand-kind, Laws.Header.both, Laws.Kinds.ConditionKind, Laws.Kinds.a-compare}
-use Rattle.table.specs.{Laws.Kinds.a-cross, Laws.Kinds.a-between, Laws.Kinds.a-trend, Laws.Kinds.an-all, Laws.Kinds.an-any, Laws.Kinds.a-not, Laws.Kinds.a-position}
-use Rattle.table.specs.{Laws.Kinds.a-count, Laws.Kinds.condition-kind}
+use Rattle.table.specs.{Reading.operandBy, Reading.operandFrom, Reading.operands, Reading.firstOf, Reading.conditionBy, Reading.conditionFrom}
+use Rattle.table.specs.{Reading.conditions, Writing.manyOf, Limits.Within, Limits.WithinOf, Limits.WithinAll, Limits.levels, Limits.levelsOf}
+use Rattle.table.specs.{Limits.levelsOfAll, Laws.Order.never-at, Laws.Accepted.or-none, Laws.Kinds.OperandKind, Laws.Kinds.a-const, Laws.Kinds.a-ref}
+use Rattle.table.specs.{Laws.Kinds.a-price, Laws.Kinds.a-prev, Laws.Kinds.an-arith, Laws.Kinds.an-extreme, Laws.Kinds.operand-kind, Laws.Header.and-parts}
+use Rattle.table.specs.{Laws.Kinds.ConditionKind, Laws.Kinds.a-compare, Laws.Kinds.a-cross, Laws.Kinds.a-between, Laws.Kinds.a-trend, Laws.Kinds.an-all}
+use Rattle.table.specs.{Laws.Kinds.an-any, Laws.Kinds.a-not, Laws.Kinds.a-position, Laws.Kinds.a-count, Laws.Kinds.condition-kind}
 use Rattle.roundtrip.specs.{Laws.Series.IsSeries, Laws.Series.series-child, Laws.Series.leaf-within, Laws.Reading.as-many, Laws.Reading.many-conditions}
 use Rattle.roundtrip.specs.{Laws.Reading.operands-below, Laws.Writing.Right, Laws.OwnBytes.OwnFields, Laws.OwnBytes.own-fields, Laws.OwnBytes.NodeFits}
 use Rattle.roundtrip.specs.{Laws.OwnBytes.FieldsFit}
@@ -71,7 +71,7 @@ module _ (form : Form) (l : ℕ) (n : Node) (os : List Operand) (right : ownRigh
   fine-operand (an-extreme r) =
       let a = child-in form l os 0 row (omega (arith, count-by _ r)) in
       let o = own-by extremum r in
-      let n-right = both (leb 1 (n .n)) (leb (n .n) mostReach) (o .number) in
+      let n-right = and-parts (leb 1 (n .n)) (leb (n .n) mostReach) (o .number) in
       let leaf = leaf-within form (asSeries (child os 0)) (subst (Within form) (series r) (a .0)) in
       rw r ((r, o .version, leb-true _ _ (n-right .0), leb-true _ _ (n-right .1), leaf), omega (arith, some-level (child os 0), a .1))
 

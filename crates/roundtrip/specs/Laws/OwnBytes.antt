@@ -2,8 +2,8 @@
 -- Assumes nothing.
 use Rattle.words.specs.Prelude.{_≡_, refl, true, not, [], append-nil, ℕ, _<_, arith, ltb, eqb, ltb-true, eqb-true}
 use Rattle.table.specs.{declared.nodes.Node.Node, declared.kinds.Kind.Kind, declared.header.Form.Form, Nodes.childrenRight, Nodes.nRight, Nodes.constantRight}
-use Rattle.table.specs.{Nodes.kindRight, Nodes.fieldsRight, Nodes.ownRight, Forest.Forest, Trees.Conditions, Trees.none, Trees.more, Reading.firstOf, Writing.node}
-use Rattle.table.specs.{Writing.nodeBytes, Writing.manyOf, Writing.writeOf, Writing.writeAll, Laws.Header.both}
+use Rattle.table.specs.{Nodes.kindRight, Nodes.fieldsRight, Nodes.ownRight, Forest.Forest, Trees.Conditions, Trees.none, Trees.more, Reading.firstOf}
+use Rattle.table.specs.{Writing.node, Writing.nodeBytes, Writing.manyOf, Writing.writeCondition, Writing.writeAll, Laws.Header.and-parts}
 use Rattle.table.specs.Forest as Forest
 
 -- ---- a row of one condition
@@ -13,10 +13,10 @@ unfolding manyOf writeAll
 all-none none h = refl
 all-none (more c cs) h = absurd (omega arith)
 
-pub all-one : (cs : Conditions) → manyOf cs ≡ 1 → writeAll cs ≡ writeOf (firstOf cs)
+pub all-one : (cs : Conditions) → manyOf cs ≡ 1 → writeAll cs ≡ writeCondition (firstOf cs)
 unfolding manyOf writeAll firstOf
 all-one none h = absurd (omega arith)
-all-one (more c cs) h = rw (all-none cs (omega arith)) (append-nil (writeOf c))
+all-one (more c cs) h = rw (all-none cs (omega arith)) (append-nil (writeCondition c))
 
 -- ---- a node's own bytes
 
@@ -30,11 +30,11 @@ pub record OwnFields (form : Form) (n : Node) (row : Kind) : Type 0 where
 pub own-fields : (form : Form) (n : Node) (row : Kind) → ownRight form n row ≡ true → OwnFields form n row
 unfolding ownRight fieldsRight
 own-fields form n row h =
-    let h0 = both _ (fieldsRight (form .slots) n row) h in
-    let k0 = both (not (eqb (row .sort) 0)) (kindRight (form .version) (n .kind)) (h0 .0) in
-    let h4 = both _ (constantRight (n .constant) (row .constant)) (h0 .1) in
-    let h3 = both _ (nRight (form .slots) (n .n) (row .n)) (h4 .0) in
-    let h2 = both (ltb (n .selector) (row .selectors)) (childrenRight (n .children) (row .children)) (h3 .0) in
+    let h0 = and-parts _ (fieldsRight (form .slots) n row) h in
+    let k0 = and-parts (not (eqb (row .sort) 0)) (kindRight (form .version) (n .kind)) (h0 .0) in
+    let h4 = and-parts _ (constantRight (n .constant) (row .constant)) (h0 .1) in
+    let h3 = and-parts _ (nRight (form .slots) (n .n) (row .n)) (h4 .0) in
+    let h2 = and-parts (ltb (n .selector) (row .selectors)) (childrenRight (n .children) (row .children)) (h3 .0) in
     record { version = k0 .1; selector = ltb-true _ _ (h2 .0); children = h2 .1; number = h3 .1; constant = h4 .1 }
 
 pub bytes-by-fields : (n : Node) (kind selector children number constant : ℕ) → n .kind ≡ kind → n .selector ≡ selector → n .children ≡ children → n .n ≡ number

@@ -1,15 +1,16 @@
 -- The reach of the typed trees is the reach that the checker weighs, and the rows needed are one more than the greatest.
 -- Assumes nothing.
-use Rattle.words.specs.Prelude.{_≡_, refl, _∙_, ap, ⊎-elim, List, [], _∷_, ℕ, zero, suc, _+_, _<_, max, arith, eq-zero-or-pos, length, replicate, length-replicate}
+use Rattle.words.specs.Prelude.{_≡_, refl, _∙_, ap, ⊎-elim, List, [], _∷_, ℕ, zero, suc, _+_, _<_, max, arith, eq-zero-or-pos, length, replicate}
+use Rattle.words.specs.Prelude.{length-replicate}
 use Rattle.table.specs.{declared.nodes.Node.Node, declared.kinds.Kind.Kind, declared.answer.Answer.the-variants.Accepted, Kinds.kindOf, Kinds.extremum}
 use Rattle.table.specs.{Header.count, Nodes.childCount, Forest.Forest, Forest.trees, Forest.forestOf, Forest.sorts, Forest.Sorted, Reach.back, Reach.ownBack}
-use Rattle.table.specs.{Reach.weigh, Reach.forestReach, Reach.treeReach, Reach.rowsNeeded, Checked.checked, Trees.Operand, Trees.Conditions, Trees.none, Trees.more}
-use Rattle.table.specs.{Trees.reach, Trees.reachOf, Trees.reachOfAll, Reading.child, Reading.operandBy, Reading.operandFrom, Reading.operands, Reading.firstOf}
-use Rattle.table.specs.{Reading.conditionBy, Reading.conditionFrom, Reading.conditions, Reading.treeOf, Series.asSeries, Writing.manyOf, Laws.Kinds.OperandKind}
-use Rattle.table.specs.{Laws.Kinds.a-const, Laws.Kinds.a-ref, Laws.Kinds.a-price, Laws.Kinds.a-prev, Laws.Kinds.an-arith, Laws.Kinds.an-extreme}
-use Rattle.table.specs.{Laws.Kinds.operand-kind, Laws.Kinds.ConditionKind, Laws.Kinds.a-compare, Laws.Kinds.a-cross, Laws.Kinds.a-between, Laws.Kinds.a-trend}
-use Rattle.table.specs.{Laws.Kinds.an-all, Laws.Kinds.an-any, Laws.Kinds.a-not, Laws.Kinds.a-position, Laws.Kinds.a-count, Laws.Kinds.condition-kind}
-use Rattle.table.specs.{Laws.Accepted.accepted, Laws.Accepted.tree-sorts}
+use Rattle.table.specs.{Reach.weigh, Reach.forestReach, Reach.treeReach, Reach.rowsNeeded, Checked.checked, Trees.Operand, Trees.Conditions, Trees.none}
+use Rattle.table.specs.{Trees.more, Trees.reach, Trees.reachOf, Trees.reachOfAll, Reading.child, Reading.operandBy, Reading.operandFrom, Reading.operands}
+use Rattle.table.specs.{Reading.firstOf, Reading.conditionBy, Reading.conditionFrom, Reading.conditions, Reading.treeOf, Series.asSeries, Writing.manyOf}
+use Rattle.table.specs.{Laws.Kinds.OperandKind, Laws.Kinds.a-const, Laws.Kinds.a-ref, Laws.Kinds.a-price, Laws.Kinds.a-prev, Laws.Kinds.an-arith}
+use Rattle.table.specs.{Laws.Kinds.an-extreme, Laws.Kinds.operand-kind, Laws.Kinds.ConditionKind, Laws.Kinds.a-compare, Laws.Kinds.a-cross}
+use Rattle.table.specs.{Laws.Kinds.a-between, Laws.Kinds.a-trend, Laws.Kinds.an-all, Laws.Kinds.an-any, Laws.Kinds.a-not, Laws.Kinds.a-position}
+use Rattle.table.specs.{Laws.Kinds.a-count, Laws.Kinds.condition-kind, Laws.Accepted.accepted, Laws.Accepted.tree-sorts}
 use Rattle.roundtrip.specs.{Laws.Series.IsSeries, Laws.Series.series-child, Laws.Series.leaf-reach, Laws.Reading.as-many, Laws.Reading.many-conditions}
 use Rattle.roundtrip.specs.{Laws.Reading.row-none, Laws.Reading.row-one, Laws.Reading.row-two, Laws.Reading.row-three, Laws.Reading.operands-below}
 use Rattle.table.specs.Forest as Forest

@@ -4,9 +4,9 @@ use Rattle.words.specs.Prelude.{_≡_, refl, sym, true, true≢false, List, [],
 use Rattle.table.specs.{declared.nodes.Node.Node, declared.header.Form.Form, declared.series.Series.Series, declared.series.Series.the-variants.Price}
 use Rattle.table.specs.{declared.series.Series.the-variants.Slot, declared.kinds.OperandClass.OperandClass, Kinds.kindOf, Kinds.extremum, Kinds.aSeries}
 use Rattle.table.specs.{Nodes.childCount, Nodes.childFits, Forest.Forest, Forest.sorts, Forest.Fitting, Trees.Operand, Trees.reach, Series.asSeries}
-use Rattle.table.specs.{Series.asOperand, Series.seriesBy, Reading.child, Reading.operandBy, Reading.operandFrom, Reading.operands, Writing.write}
-use Rattle.table.specs.{Writing.writeSeries, Limits.Within, Limits.WithinSeries, Laws.Kinds.OperandKind, Laws.Kinds.a-const, Laws.Kinds.a-ref, Laws.Kinds.a-price}
-use Rattle.table.specs.{Laws.Kinds.a-prev, Laws.Kinds.an-arith, Laws.Kinds.an-extreme, Laws.Kinds.operand-kind}
+use Rattle.table.specs.{Series.asOperand, Series.seriesBy, Reading.child, Reading.operandBy, Reading.operandFrom, Reading.operands, Writing.writeOperand}
+use Rattle.table.specs.{Writing.writeSeries, Limits.Within, Limits.WithinSeries, Laws.Kinds.OperandKind, Laws.Kinds.a-const, Laws.Kinds.a-ref}
+use Rattle.table.specs.{Laws.Kinds.a-price, Laws.Kinds.a-prev, Laws.Kinds.an-arith, Laws.Kinds.an-extreme, Laws.Kinds.operand-kind}
 use Rattle.table.specs.declared.kinds.OperandClass.the-variants as AsOperand
 use Rattle.table.specs.Forest as Forest
 
@@ -58,8 +58,8 @@ unfolding asOperand reach
 leaf-reach (Price selector) = refl
 leaf-reach (Slot slot) = refl
 
-pub leaf-written : (s : Series) → write (asOperand s) ≡ writeSeries s
-unfolding asOperand write writeSeries
+pub leaf-written : (s : Series) → writeOperand (asOperand s) ≡ writeSeries s
+unfolding asOperand writeOperand writeSeries
 leaf-written (Price selector) = refl
 leaf-written (Slot slot) = refl
 

@@ -8,8 +8,8 @@ use Rattle.table.specs.{Header.root, Nodes.nodeAt, Nodes.sortAt, Nodes.childCou
 use Rattle.table.specs.{Forest.firstTrees, Forest.otherTrees, Forest.nodeOver, Forest.trees, Forest.sorts, Forest.Sorted, Nesting.deeper, Checked.checked}
 use Rattle.table.specs.{Ends.Link, Trees.none, Trees.more, Reading.treeOf, Reading.child, Reading.operandFrom, Reading.operands, Reading.firstOf}
 use Rattle.table.specs.{Reading.conditionFrom, Reading.conditions, Reading.operandsAt, Reading.conditionsAt, Reading.operandAt, Reading.conditionAt}
-use Rattle.table.specs.{Laws.Forest.left-suc, Laws.Forest.left-zero, Laws.Forest.first-none, Laws.Order.never-at, Laws.Accepted.or-none, Laws.Accepted.WholeTree}
-use Rattle.table.specs.{Laws.Accepted.tree-sorts, Laws.Accepted.tree-nesting}
+use Rattle.table.specs.{Laws.Forest.left-suc, Laws.Forest.left-zero, Laws.Forest.first-none, Laws.Order.never-at, Laws.Accepted.or-none}
+use Rattle.table.specs.{Laws.Accepted.WholeTree, Laws.Accepted.tree-sorts, Laws.Accepted.tree-nesting}
 use Rattle.table.specs.Forest as Forest
 
 -- ---- what stands where

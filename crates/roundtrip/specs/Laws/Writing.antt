@@ -3,16 +3,16 @@
 -- Assumes nothing.
 use Rattle.words.specs.Prelude.{_≡_, refl, sym, _∙_, ap, true, cond, List, _++_, append-assoc, append-nil, ℕ, zero, suc, _+_, _<_, arith, length, replicate}
 use Rattle.words.specs.Prelude.{length-replicate, eqb, eqb-true}
-use Rattle.table.specs.{declared.nodes.Node.Node, declared.kinds.Kind.Kind, declared.header.Form.Form, Kinds.kindOf, Kinds.constant, Kinds.reference, Kinds.price}
-use Rattle.table.specs.{Kinds.previous, Kinds.arithmetic, Kinds.extremum, Kinds.comparison, Kinds.crossing, Kinds.between, Kinds.trend, Kinds.allOf, Kinds.anyOf}
-use Rattle.table.specs.{Kinds.negation, Kinds.position, Kinds.barsSince, Nodes.childCount, Nodes.childrenRight, Nodes.nRight, Nodes.constantRight, Nodes.ownRight}
-use Rattle.table.specs.{Forest.Forest, Forest.sorts, Forest.Sorted, Forest.flat, Trees.Operand, Trees.none, Reading.child, Reading.operandBy, Reading.operandFrom}
-use Rattle.table.specs.{Reading.operands, Reading.conditionBy, Reading.conditionFrom, Reading.conditions, Writing.node, Writing.nodeBytes, Writing.nodesBytes}
-use Rattle.table.specs.{Writing.writeSeries, Writing.write, Writing.writeRow, Writing.manyOf, Writing.writeOf, Writing.writeAll, Series.asSeries}
-use Rattle.table.specs.{Laws.Kinds.OperandKind, Laws.Kinds.a-const, Laws.Kinds.a-ref, Laws.Kinds.a-price, Laws.Kinds.a-prev, Laws.Kinds.an-arith}
-use Rattle.table.specs.{Laws.Kinds.an-extreme, Laws.Kinds.operand-kind, Laws.Kinds.ConditionKind, Laws.Kinds.a-compare, Laws.Kinds.a-cross, Laws.Kinds.a-between}
-use Rattle.table.specs.{Laws.Kinds.a-trend, Laws.Kinds.an-all, Laws.Kinds.an-any, Laws.Kinds.a-not, Laws.Kinds.a-position, Laws.Kinds.a-count}
-use Rattle.table.specs.{Laws.Kinds.condition-kind}
+use Rattle.table.specs.{declared.nodes.Node.Node, declared.kinds.Kind.Kind, declared.header.Form.Form, Kinds.kindOf, Kinds.constant, Kinds.reference}
+use Rattle.table.specs.{Kinds.price, Kinds.previous, Kinds.arithmetic, Kinds.extremum, Kinds.comparison, Kinds.crossing, Kinds.between, Kinds.trend}
+use Rattle.table.specs.{Kinds.allOf, Kinds.anyOf, Kinds.negation, Kinds.position, Kinds.barsSince, Nodes.childCount, Nodes.childrenRight, Nodes.nRight}
+use Rattle.table.specs.{Nodes.constantRight, Nodes.ownRight, Forest.Forest, Forest.sorts, Forest.Sorted, Forest.flat, Trees.Operand, Trees.none, Reading.child}
+use Rattle.table.specs.{Reading.operandBy, Reading.operandFrom, Reading.operands, Reading.conditionBy, Reading.conditionFrom, Reading.conditions, Writing.node}
+use Rattle.table.specs.{Writing.nodeBytes, Writing.nodesBytes, Writing.writeSeries, Writing.writeOperand, Writing.writeRow, Writing.manyOf}
+use Rattle.table.specs.{Writing.writeCondition, Writing.writeAll, Series.asSeries, Laws.Kinds.OperandKind, Laws.Kinds.a-const, Laws.Kinds.a-ref}
+use Rattle.table.specs.{Laws.Kinds.a-price, Laws.Kinds.a-prev, Laws.Kinds.an-arith, Laws.Kinds.an-extreme, Laws.Kinds.operand-kind, Laws.Kinds.ConditionKind}
+use Rattle.table.specs.{Laws.Kinds.a-compare, Laws.Kinds.a-cross, Laws.Kinds.a-between, Laws.Kinds.a-trend, Laws.Kinds.an-all, Laws.Kinds.an-any}
+use Rattle.table.specs.{Laws.Kinds.a-not, Laws.Kinds.a-position, Laws.Kinds.a-count, Laws.Kinds.condition-kind}
 use Rattle.roundtrip.specs.{Laws.Series.IsSeries, Laws.Series.series-child, Laws.Series.leaf-written, Laws.Reading.as-many, Laws.Reading.many-conditions}
 use Rattle.roundtrip.specs.{Laws.Reading.row-none, Laws.Reading.row-one, Laws.Reading.row-two, Laws.Reading.row-three, Laws.Reading.operands-below}
 use Rattle.roundtrip.specs.{Laws.NodeBytes.tree-bytes, Laws.NodeBytes.no-bytes, Laws.OwnBytes.all-one, Laws.OwnBytes.OwnFields, Laws.OwnBytes.own-fields}
@@ -29,8 +29,8 @@ module _ (form : Form) (n : Node) (os : List Operand) (right : ownRight form n (
   own-by : (row : Kind) → kindOf (n .kind) ≡ row → OwnFields form n row
   own-by row h = own-fields form n row (sym (ap (ownRight form n) h) ∙ right)
 
-  writes-operand : OperandKind (n .kind) → nodeBytes n ++ writeRow os ≡ write (operandFrom n os)
-  unfolding childCount childrenRight nRight constantRight operandFrom operandBy write writeRow
+  writes-operand : OperandKind (n .kind) → nodeBytes n ++ writeRow os ≡ writeOperand (operandFrom n os)
+  unfolding childCount childrenRight nRight constantRight operandFrom operandBy writeOperand writeRow
   writes-operand (a-const e row) =
       let o = own-by constant row in
       let b : nodeBytes n ≡ node 1 0 0 0 (n .constant) =
@@ -56,7 +56,7 @@ module _ (form : Form) (n : Node) (os : List Operand) (right : ownRight form n (
   writes-operand (an-extreme row) =
       let o = own-by extremum row in
       let b = number-node n (n .kind) refl (o .selector) (o .children) (o .constant) in
-      let leaf : write (child os 0) ≡ writeSeries (asSeries (child os 0)) = ap write (series row) ∙ leaf-written (asSeries (child os 0)) in
+      let leaf : writeOperand (child os 0) ≡ writeSeries (asSeries (child os 0)) = ap writeOperand (series row) ∙ leaf-written (asSeries (child os 0)) in
       rw (row-one os (count-by _ row)) (simp (row, b, leaf, append-nil))
 
 -- ---- a condition's node, over what is below it
@@ -100,8 +100,8 @@ module _ (form : Form) (n : Node) (below : Forest) (bytes : List ℕ) (right : o
     of-conditions (n .children) all,
   )
 
-  writes-condition : ConditionKind (n .kind) → nodeBytes n ++ bytes ≡ writeOf (conditionFrom n (operands below) (conditions below))
-  unfolding childCount childrenRight nRight constantRight conditionFrom conditionBy writeOf writeRow
+  writes-condition : ConditionKind (n .kind) → nodeBytes n ++ bytes ≡ writeCondition (conditionFrom n (operands below) (conditions below))
+  unfolding childCount childrenRight nRight constantRight conditionFrom conditionBy writeCondition writeRow
   writes-condition (a-compare row) =
       let o = own-by′ comparison row in
       let b = plain-node n (n .kind) refl (o .selector) (o .children) (o .number) (o .constant) in
@@ -184,7 +184,7 @@ written-all form (Forest.tree n below rest) (suc m) r h s =
     let sort : kindOf (n .kind) .sort ≡ 2 = cc in
     let others : sorts rest ≡ replicate m 2 = cc in
     let b : nodesBytes (flat rest) ≡ writeAll (conditions rest) = written-all form rest m (r .2) (h .2) others in
-    let a : nodeBytes n ++ nodesBytes (flat below) ≡ writeOf (conditionFrom n (operands below) (conditions below)) =
+    let a : nodeBytes n ++ nodesBytes (flat below) ≡ writeCondition (conditionFrom n (operands below) (conditions below)) =
     writes-condition form n below (nodesBytes (flat below)) (r .0) (h .0) (λ j g. written-row form below j (r .1) (h .1) g)
     (λ j g. written-all form below j (r .1) (h .1) g) (condition-kind (n .kind) sort) in
     tree-bytes n below rest ∙ rw (a, b)

@@ -5,11 +5,12 @@ use Rattle.words.specs.Prelude.{length, length-append, ltb, eqb, le-ltb, le-leb
 use Rattle.words.specs.{Limits.mostSlots, Limits.mostNesting, Limits.mostNodes}
 use Rattle.table.specs.{declared.places.Place.Place, declared.places.Place.the-variants.Nowhere, declared.answer.Answer.the-variants.Accepted}
 use Rattle.table.specs.{declared.header.Form.Form, Bytes.u16, Header.newestVersion, Header.slots, Header.version, Header.formOf, Header.total, Header.count}
-use Rattle.table.specs.{Header.root, Header.markRight, Header.versionRight, Header.countsRight, Header.headerRefusal, Nodes.wrongNode, Order.misfit, Order.misfits}
-use Rattle.table.specs.{Order.orPlace, Order.ofFour, Forest.Forest, Forest.trees, Forest.forestOf, Nesting.deeper, Nesting.tooDeep, Reach.treeReach, Reach.farAt}
-use Rattle.table.specs.{Reach.tooFar, Reach.rowsNeeded, Checked.checked, Trees.Condition, Trees.reachOf, Reading.conditions, Reading.firstOf, Reading.treeOf}
-use Rattle.table.specs.{Writing.le16, Writing.writeOf, Writing.nodesOf, Writing.Short, Writing.given, Writing.Rule, Writing.nodesOfShort, Writing.writeShort}
-use Rattle.table.specs.{Writing.nodesOfRule, Writing.headerOf, Writing.tableOf, Writing.ruleOf, Limits.ShortWithin, Limits.RuleWithin, Laws.Accepted.all-kept}
+use Rattle.table.specs.{Header.root, Header.markRight, Header.versionRight, Header.countsRight, Header.headerRefusal, Nodes.wrongNode, Order.misfit}
+use Rattle.table.specs.{Order.misfits, Order.orPlace, Order.ofFour, Forest.Forest, Forest.trees, Forest.forestOf, Nesting.deeper, Nesting.tooDeep}
+use Rattle.table.specs.{Reach.treeReach, Reach.farAt, Reach.tooFar, Reach.rowsNeeded, Checked.checked, Trees.Condition, Trees.reachOf, Reading.conditions}
+use Rattle.table.specs.{Reading.firstOf, Reading.treeOf, Writing.le16, Writing.writeCondition, Writing.nodesOf, Writing.Short, Writing.given, Writing.Rule}
+use Rattle.table.specs.{Writing.nodesOfShort, Writing.writeShort, Writing.nodesOfRule, Writing.headerOf, Writing.tableOf, Writing.ruleOf, Limits.ShortWithin}
+use Rattle.table.specs.{Limits.RuleWithin, Laws.Accepted.all-kept}
 use Rattle.roundtrip.specs.{Laws.WrittenNodes.pair, Laws.WrittenNodes.From, Laws.WrittenNodes.from-past, Laws.AcceptedWritten.short-long}
 use Rattle.roundtrip.specs.{Laws.WrittenForestRead.readsOf, Laws.WrittenTrees.wrong-two, Laws.WrittenTrees.reachOfShort, Laws.WrittenTrees.plantShort}
 use Rattle.roundtrip.specs.{Laws.WrittenTrees.short-grows, Laws.WrittenTrees.TreeHolds, Laws.WrittenTrees.planted, Laws.WrittenTrees.held-deep}
@@ -64,8 +65,8 @@ module _ (form : Form) (r : Rule) where
   unfolding tableOf nodesOfRule
   long-is =
       let h = headerOf form r in
-      let a = writeOf (r .entry) in
-      let b = writeOf (r .exit) in
+      let a = writeCondition (r .entry) in
+      let b = writeCondition (r .exit) in
       let c = writeShort (r .shortEntry) in
       let d = writeShort (r .shortExit) in
       length-append (h ++ a ++ b ++ c) d
@@ -114,15 +115,15 @@ module _ (form : Form) (r : Rule) where
         simp (enough, mark-is, version-read, counts-are, whole)
 
     -- where each tree's bytes begin
-    from-0 : From t 0 (writeOf (r .entry) ++ (writeOf (r .exit) ++ (writeShort (r .shortEntry) ++ writeShort (r .shortExit))))
+    from-0 : From t 0 (writeCondition (r .entry) ++ (writeCondition (r .exit) ++ (writeShort (r .shortEntry) ++ writeShort (r .shortExit))))
     unfolding tableOf headerOf le16
     from-0 = simp append-assoc
 
-    from-1 : From t (0 + nodesOf (r .entry)) (writeOf (r .exit) ++ (writeShort (r .shortEntry) ++ writeShort (r .shortExit)))
-    from-1 = from-past t 0 (nodesOf (r .entry)) (writeOf (r .entry)) _ (condition-long (r .entry)) from-0
+    from-1 : From t (0 + nodesOf (r .entry)) (writeCondition (r .exit) ++ (writeShort (r .shortEntry) ++ writeShort (r .shortExit)))
+    from-1 = from-past t 0 (nodesOf (r .entry)) (writeCondition (r .entry)) _ (condition-long (r .entry)) from-0
 
     from-2 : From t (0 + nodesOf (r .entry) + nodesOf (r .exit)) (writeShort (r .shortEntry) ++ writeShort (r .shortExit))
-    from-2 = from-past t _ (nodesOf (r .exit)) (writeOf (r .exit)) _ (condition-long (r .exit)) from-1
+    from-2 = from-past t _ (nodesOf (r .exit)) (writeCondition (r .exit)) _ (condition-long (r .exit)) from-1
 
     from-3 : From t (0 + nodesOf (r .entry) + nodesOf (r .exit) + nodesOfShort (r .shortEntry)) (writeShort (r .shortExit) ++ [])
     from-3 =

@@ -2,10 +2,10 @@
 -- Assumes nothing.
 use Rattle.words.specs.Prelude.{List, [], _∷_, _++_, ℕ, zero, suc, _/_, _%_, _≤_, _<_, arith, getD}
 use Rattle.words.specs.{Limits.mostSlots, Limits.mostNodes}
-use Rattle.table.specs.{declared.header.Form.Form, declared.nodes.Node.Node, Forest.Forest, Forest.flat, Trees.Condition, Writing.le16, Writing.le32, Writing.le64}
-use Rattle.table.specs.{Writing.node, Writing.nodeBytes, Writing.nodesBytes, Writing.writeOf, Writing.nodesOf, Writing.Short, Writing.absent, Writing.given}
-use Rattle.table.specs.{Writing.Rule, Writing.nodesOfShort, Writing.writeShort, Writing.nodesOfRule, Writing.headerOf, Writing.tableOf, Limits.WithinOf}
-use Rattle.table.specs.{Limits.ShortWithin, Limits.RuleWithin, Bytes.Bytes}
+use Rattle.table.specs.{declared.header.Form.Form, declared.nodes.Node.Node, Forest.Forest, Forest.flat, Trees.Condition, Writing.le16, Writing.le32}
+use Rattle.table.specs.{Writing.le64, Writing.node, Writing.nodeBytes, Writing.nodesBytes, Writing.writeCondition, Writing.nodesOf, Writing.Short}
+use Rattle.table.specs.{Writing.absent, Writing.given, Writing.Rule, Writing.nodesOfShort, Writing.writeShort, Writing.nodesOfRule, Writing.headerOf}
+use Rattle.table.specs.{Writing.tableOf, Limits.WithinOf, Limits.ShortWithin, Limits.RuleWithin, Bytes.Bytes}
 use Rattle.roundtrip.specs.{Laws.OwnBytes.NodeFits, Laws.OwnBytes.FieldsFit, Laws.WrittenForestKept.fieldsOf, Laws.NodeBytes.tree-bytes}
 use Rattle.roundtrip.specs.{Laws.WrittenForest.plantOf, Laws.WrittenForest.condition-bytes}
 use Rattle.table.specs.Forest as Forest
@@ -58,7 +58,7 @@ small-forest (Forest.tree n below rest) fit =
     rw tree-bytes (small-two _ _ (small-two _ _ (small-bytes n (fit .0)) (small-forest below (fit .1))) (small-forest rest (fit .2)))
 
 module _ (form : Form) (few : form .slots ≤ mostSlots) where
-  small-condition : (c : Condition) → WithinOf form c → nodesOf c ≤ mostNodes → AllBytes (writeOf c)
+  small-condition : (c : Condition) → WithinOf form c → nodesOf c ≤ mostNodes → AllBytes (writeCondition c)
   unfolding FieldsFit
   small-condition c w h = rw (← condition-bytes c 0) (small-forest (plantOf 0 c Forest.none) (fieldsOf form few c 0 Forest.none w h tt))
 
@@ -106,8 +106,8 @@ written-bytes form r w i =
     bytes-of _ i
     (small-two _ (writeShort (r .shortExit))
     (small-two _ (writeShort (r .shortEntry))
-    (small-two _ (writeOf (r .exit))
-    (small-two (headerOf form r) (writeOf (r .entry)) (small-header form r w) (small-condition form few (r .entry) (w .entry .fields) (omega arith)))
+    (small-two _ (writeCondition (r .exit))
+    (small-two (headerOf form r) (writeCondition (r .entry)) (small-header form r w) (small-condition form few (r .entry) (w .entry .fields) (omega arith)))
     (small-condition form few (r .exit) (w .exit .fields) (omega arith)))
     (small-short form few (r .shortEntry) (w .shortEntry) (omega arith)))
     (small-short form few (r .shortExit) (w .shortExit) (omega arith)))

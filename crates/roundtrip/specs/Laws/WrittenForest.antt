@@ -3,9 +3,10 @@
 use Rattle.words.specs.Prelude.{_≡_, refl, sym, ap, _∙_, cond, List, _++_, append-assoc, append-nil, ℕ, _+_, _*_, arith, length}
 use Rattle.table.specs.{declared.nodes.Node.Node, declared.series.Series.Series, declared.series.Series.the-variants.Price}
 use Rattle.table.specs.{declared.series.Series.the-variants.Slot, Forest.Forest, Forest.size, Forest.flat, Trees.Operand, Trees.const, Trees.ref, Trees.price}
-use Rattle.table.specs.{Trees.prev, Trees.arith as sums, Trees.extreme, Trees.Condition, Trees.Conditions, Trees.compare, Trees.cross, Trees.between, Trees.trend}
-use Rattle.table.specs.{Trees.every, Trees.any, Trees.negated, Trees.inPosition, Trees.barsSince, Trees.none, Trees.more, Writing.nodeBytes, Writing.nodesBytes}
-use Rattle.table.specs.{Writing.writeSeries, Writing.write, Writing.nodesIn, Writing.manyOf, Writing.writeOf, Writing.writeAll, Writing.nodesOf, Writing.nodesOfAll}
+use Rattle.table.specs.{Trees.prev, Trees.arith as sums, Trees.extreme, Trees.Condition, Trees.Conditions, Trees.compare, Trees.cross, Trees.between}
+use Rattle.table.specs.{Trees.trend, Trees.every, Trees.any, Trees.negated, Trees.inPosition, Trees.barsSince, Trees.none, Trees.more, Writing.nodeBytes}
+use Rattle.table.specs.{Writing.nodesBytes, Writing.writeSeries, Writing.writeOperand, Writing.nodesIn, Writing.manyOf, Writing.writeCondition}
+use Rattle.table.specs.{Writing.writeAll, Writing.nodesOf, Writing.nodesOfAll}
 use Rattle.roundtrip.specs.{Laws.NodeBytes.tree-bytes, Laws.NodeBytes.no-bytes, Laws.NodeBytes.forest-long}
 use Rattle.table.specs.Named as Named
 use Rattle.table.specs.Forest as Forest
@@ -96,8 +97,8 @@ unfolding plantSeries writeSeries nodeBytes
 series-nodes (Price s) i = alone _ Forest.none
 series-nodes (Slot s) i = alone _ Forest.none
 
-operand-nodes : (a : Operand) (i : ℕ) (rest : Forest) → Planted i (nodesIn a) (write a) (plant i a rest) rest
-unfolding plant nodesIn write nodeBytes
+operand-nodes : (a : Operand) (i : ℕ) (rest : Forest) → Planted i (nodesIn a) (writeOperand a) (plant i a rest) rest
+unfolding plant nodesIn writeOperand nodeBytes
 operand-nodes (const x) i rest = alone _ rest
 operand-nodes (ref s) i rest = alone _ rest
 operand-nodes (price s) i rest = alone _ rest
@@ -105,13 +106,14 @@ operand-nodes (prev a n) i rest = over _ _ _ _ rest (operand-nodes a (i + 1) For
 operand-nodes (sums k a b) i rest = over-two _ _ _ _ _ _ rest (next (operand-nodes a (i + 1) _) (operand-nodes b (i + 1 + nodesIn a) Forest.none))
 operand-nodes (extreme k s n) i rest = over _ _ _ _ rest (series-nodes s (i + 1))
 
-two-nodes : (a b : Operand) (i : ℕ) → Planted i (nodesIn a + nodesIn b) (write a ++ write b) (plant i a (plant (i + nodesIn a) b Forest.none)) Forest.none
+two-nodes : (a b : Operand) (i : ℕ)
+    → Planted i (nodesIn a + nodesIn b) (writeOperand a ++ writeOperand b) (plant i a (plant (i + nodesIn a) b Forest.none)) Forest.none
 two-nodes a b i = next (operand-nodes a i _) (operand-nodes b (i + nodesIn a) Forest.none)
 
 mutual
-  unfolding plantOf nodesOf writeOf nodeBytes
+  unfolding plantOf nodesOf writeCondition nodeBytes
 
-  pub condition-nodes : (c : Condition) (i : ℕ) (rest : Forest) → Planted i (nodesOf c) (writeOf c) (plantOf i c rest) rest
+  pub condition-nodes : (c : Condition) (i : ℕ) (rest : Forest) → Planted i (nodesOf c) (writeCondition c) (plantOf i c rest) rest
   condition-nodes (compare k a b) i rest = over-two _ _ _ _ _ _ rest (two-nodes a b (i + 1))
   condition-nodes (cross k a b) i rest = over-two _ _ _ _ _ _ rest (two-nodes a b (i + 1))
   condition-nodes (between x a b) i rest = over-three _ _ _ _ _ _ _ _ rest (next (operand-nodes x (i + 1) _) (two-nodes a b (i + 1 + nodesIn x)))
@@ -143,10 +145,10 @@ some-nodes (barsSince s n) h = omega arith
 
 -- ---- so the bytes of a tree's forest are the tree's, sixteen a node
 
-pub condition-bytes : (c : Condition) (i : ℕ) → nodesBytes (flat (plantOf i c Forest.none)) ≡ writeOf c
-condition-bytes c i = condition-nodes c i Forest.none .bytes ∙ rw no-bytes (append-nil (writeOf c))
+pub condition-bytes : (c : Condition) (i : ℕ) → nodesBytes (flat (plantOf i c Forest.none)) ≡ writeCondition c
+condition-bytes c i = condition-nodes c i Forest.none .bytes ∙ rw no-bytes (append-nil (writeCondition c))
 
-pub condition-long : (c : Condition) → length (writeOf c) ≡ 16 * nodesOf c
+pub condition-long : (c : Condition) → length (writeCondition c) ≡ 16 * nodesOf c
 unfolding size
 condition-long c =
     omega (

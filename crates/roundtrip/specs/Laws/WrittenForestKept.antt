@@ -7,10 +7,10 @@ use Rattle.table.specs.{declared.series.Series.the-variants.Price, declared.ser
 use Rattle.table.specs.{Kinds.sinceOf, Kinds.overASeries, Kinds.previous, Kinds.arithmetic, Kinds.extremum, Kinds.comparison, Kinds.crossing, Kinds.allOf}
 use Rattle.table.specs.{Kinds.anyOf, Kinds.negation, Nodes.childCount, Nodes.childFits, Nodes.kindRight, Nodes.fieldsRight, Nodes.childrenRight, Nodes.nRight}
 use Rattle.table.specs.{Nodes.constantRight, Nodes.ownRight, Forest.Forest, Forest.sorts, Forest.Fitting, Forest.Sorted, Trees.Operand, Trees.const, Trees.ref}
-use Rattle.table.specs.{Trees.price, Trees.prev, Trees.arith as sums, Trees.extreme, Trees.Condition, Trees.Conditions, Trees.compare, Trees.cross, Trees.between}
-use Rattle.table.specs.{Trees.trend, Trees.every, Trees.any, Trees.negated, Trees.inPosition, Trees.barsSince, Trees.none, Trees.more, Writing.manyOf}
-use Rattle.table.specs.{Writing.nodesIn, Writing.nodesOf, Writing.nodesOfAll, Limits.WithinSeries, Limits.Within, Limits.WithinOf, Limits.WithinAll}
-use Rattle.table.specs.{Laws.Kinds.known}
+use Rattle.table.specs.{Trees.price, Trees.prev, Trees.arith as sums, Trees.extreme, Trees.Condition, Trees.Conditions, Trees.compare, Trees.cross}
+use Rattle.table.specs.{Trees.between, Trees.trend, Trees.every, Trees.any, Trees.negated, Trees.inPosition, Trees.barsSince, Trees.none, Trees.more}
+use Rattle.table.specs.{Writing.manyOf, Writing.nodesIn, Writing.nodesOf, Writing.nodesOfAll, Limits.WithinSeries, Limits.Within, Limits.WithinOf}
+use Rattle.table.specs.{Limits.WithinAll, Laws.Kinds.known}
 use Rattle.roundtrip.specs.{Laws.OwnBytes.NodeFits, Laws.OwnBytes.FieldsFit, Laws.Writing.Right, Laws.WrittenForest.plantSeries, Laws.WrittenForest.plant}
 use Rattle.roundtrip.specs.{Laws.WrittenForest.plantOf, Laws.WrittenForest.plantAll, Laws.WrittenForest.nd, Laws.WrittenForest.some-nodes}
 use Rattle.table.specs.Kinds as Kinds

@@ -2,8 +2,8 @@
 -- Assumes nothing.
 use Rattle.words.specs.Prelude.{_≡_, refl, sym, _∙_, ap, List, _++_, append-assoc, ℕ, suc, _+_, arith, length, replicate, length-replicate}
 use Rattle.table.specs.{declared.nodes.Node.Node, declared.header.Form.Form, Kinds.kindOf, Nodes.nodeAt, Nodes.childCount, Nodes.childCountAt, Forest.Forest}
-use Rattle.table.specs.{Forest.firstTrees, Forest.otherTrees, Forest.nodeOver, Forest.trees, Forest.size, Forest.flat, Forest.sorts, Forest.Sorted, Trees.Condition}
-use Rattle.table.specs.{Limits.WithinOf, Writing.nodeBytes, Writing.nodesBytes, Writing.writeOf, Writing.nodesOf}
+use Rattle.table.specs.{Forest.firstTrees, Forest.otherTrees, Forest.nodeOver, Forest.trees, Forest.size, Forest.flat, Forest.sorts, Forest.Sorted}
+use Rattle.table.specs.{Trees.Condition, Limits.WithinOf, Writing.nodeBytes, Writing.nodesBytes, Writing.writeCondition, Writing.nodesOf}
 use Rattle.roundtrip.specs.{Laws.NodeBytes.tree-bytes, Laws.NodeBytes.forest-long, Laws.WrittenForest.nd, Laws.WrittenForest.plantOf}
 use Rattle.roundtrip.specs.{Laws.WrittenForest.NumberedFrom, Laws.WrittenForest.condition-nodes, Laws.WrittenForest.condition-bytes}
 use Rattle.roundtrip.specs.{Laws.WrittenForestKept.sortedOf, Laws.WrittenNodes.From, Laws.WrittenNodes.node-there, Laws.WrittenNodes.nodes-after}
@@ -83,7 +83,7 @@ module _ (t : List ℕ) where
       ∙ over-below n k _ below _ (kept .0)
       ∙ ap (λ (j : ℕ). Forest.tree n below (andThen rest (trees t m j))) place
 
-pub growsOf : (t : List ℕ) (form : Form) (c : Condition) (i : ℕ) (l : List ℕ) → WithinOf form c → From t i (writeOf c ++ l)
+pub growsOf : (t : List ℕ) (form : Form) (c : Condition) (i : ℕ) (l : List ℕ) → WithinOf form c → From t i (writeCondition c ++ l)
     → trees t (nodesOf c) i ≡ plantOf i c Forest.none
 unfolding NumberedFrom Sorted size trees
 growsOf t form c i l w h =

@@ -1,18 +1,18 @@
 -- A tree within the limits, or none, that a table holds: it breaks no rule there, and is read back.
 -- Assumes nothing.
-use Rattle.words.specs.Prelude.{_≡_, refl, sym, _∙_, ap, subst, Bool, true, false, cond, not, List, [], _∷_, _++_, ℕ, zero, suc, _+_, _≤_, arith, add-zero, suc-add}
-use Rattle.words.specs.Prelude.{replicate, eqb, le-ltb, eq-eqb, ne-eqb}
+use Rattle.words.specs.Prelude.{_≡_, refl, sym, _∙_, ap, subst, Bool, true, false, cond, not, List, [], _∷_, _++_, ℕ, zero, suc, _+_, _≤_, arith, add-zero}
+use Rattle.words.specs.Prelude.{suc-add, replicate, eqb, le-ltb, eq-eqb, ne-eqb}
 use Rattle.words.specs.{Limits.mostNesting, Limits.mostReach}
 use Rattle.table.specs.{declared.places.Place.the-variants.Nowhere, declared.header.Form.Form, Kinds.kindOf, Kinds.overASeries, Header.formOf, Header.count}
 use Rattle.table.specs.{Header.root, Nodes.nodeAt, Nodes.nodeRight, Nodes.wrongNode, Nodes.sortAt, Nodes.childCount, Nodes.childCountAt, Nodes.childSortAt}
 use Rattle.table.specs.{Nodes.childFits, Nodes.childFitsAt, Order.fits, Order.misfit, Forest.Forest, Forest.firstTrees, Forest.otherTrees, Forest.nodeOver}
-use Rattle.table.specs.{Forest.trees, Forest.forestOf, Forest.sorts, Forest.Fitting, Forest.Sorted, Nesting.deeper, Reach.weigh, Reach.ownBack, Reach.forestReach}
-use Rattle.table.specs.{Reach.treeReach, Reach.farAt, Trees.Condition, Trees.reachOf, Trees.reachOfAll, Reading.conditions, Reading.firstOf, Reading.present}
-use Rattle.table.specs.{Reading.treeOf, Writing.nodesOf, Writing.Short, Writing.absent, Writing.given, Writing.nodesOfShort, Writing.writeShort, Writing.shortOf}
-use Rattle.table.specs.{Limits.WithinOf, Limits.ShortWithin, Laws.Kinds.over-series-one, Laws.Order.test-held}
+use Rattle.table.specs.{Forest.trees, Forest.forestOf, Forest.sorts, Forest.Fitting, Forest.Sorted, Nesting.deeper, Reach.weigh, Reach.ownBack}
+use Rattle.table.specs.{Reach.forestReach, Reach.treeReach, Reach.farAt, Trees.Condition, Trees.reachOf, Trees.reachOfAll, Reading.conditions, Reading.firstOf}
+use Rattle.table.specs.{Reading.present, Reading.treeOf, Writing.nodesOf, Writing.Short, Writing.absent, Writing.given, Writing.nodesOfShort}
+use Rattle.table.specs.{Writing.writeShort, Writing.shortOf, Limits.WithinOf, Limits.ShortWithin, Laws.Kinds.over-series-one, Laws.Order.test-held}
 use Rattle.roundtrip.specs.{Laws.Reach.all-reach, Laws.Writing.Right, Laws.WrittenForest.plantOf, Laws.WrittenForest.some-nodes, Laws.WrittenNodes.From}
-use Rattle.roundtrip.specs.{Laws.WrittenGrows.growsOf, Laws.WrittenForestKept.rightOf, Laws.WrittenForestKept.sortedOf, Laws.WrittenForestKept.plantOf-sorts}
-use Rattle.roundtrip.specs.{Laws.WrittenForestRead.shallowOf, Laws.WrittenForestRead.readsOf}
+use Rattle.roundtrip.specs.{Laws.WrittenGrows.growsOf, Laws.WrittenForestKept.rightOf, Laws.WrittenForestKept.sortedOf}
+use Rattle.roundtrip.specs.{Laws.WrittenForestKept.plantOf-sorts, Laws.WrittenForestRead.shallowOf, Laws.WrittenForestRead.readsOf}
 use Rattle.table.specs.Forest as Forest
 
 -- ---- from the forest back to the rules

@@ -1,13 +1,14 @@
 -- A room as a ring: what is read from a row on is what the turned room holds; and rows that go over the oldest, turned once, are rows
 -- added one after another.
-use Rattle.words.specs.Prelude.{ℕ, _+_, _-_, _*_, _/_, _<_, _≤_, _≡_, refl, sym, ap, fun-ext, _∙_, Bool, true, false, cond, ⊎-elim, List, _++_, append-assoc, arith}
-use Rattle.words.specs.Prelude.{zero-add, mul-div-cancel, length, take, drop, length-append, length-drop, take-append-drop, take-at, drop-at, drop-drop}
+use Rattle.words.specs.Prelude.{ℕ, _+_, _-_, _*_, _/_, _<_, _≤_, _≡_, refl, sym, ap, fun-ext, _∙_, Bool, true, false, cond, ⊎-elim, List, _++_, append-assoc}
+use Rattle.words.specs.Prelude.{arith, zero-add, mul-div-cancel, length, take, drop, length-append, length-drop, take-append-drop, take-at, drop-at, drop-drop}
 use Rattle.words.specs.Prelude.{length-take-le, ltb, lt-ltb, le-ltb, ne-eqb}
 use Rattle.words.specs.{Words.overwrite, Laws.Numbers.less-or-not, Laws.Records.records-fit, Laws.Records.record-ends, Laws.Overwrite.overwrite-fits}
 use Rattle.words.specs.{Laws.Overwrite.overwrite-length}
 use Rattle.rows.specs.{declared.ring.Ring.Ring, History.History, History.historyOf, History.width, Room.placesFor, Room.withRow, Room.heldWith}
-use Rattle.rows.specs.{Ring.startWithin, Ring.ringPlace, Ring.ringOf, Ring.turned, Ring.ringWith, Ring.nextStart, Ring.ringAfter, Laws.Turned.turned-length}
-use Rattle.rows.specs.{Laws.Turned.turned-past, Laws.Turned.turned-word, Laws.Turned.turned-none, Laws.Turned.turned-parts, Laws.Turned.turned-whole}
+use Rattle.rows.specs.{Ring.startWithin, Ring.ringPlace, Ring.ringOf, Ring.turned, Ring.ringWith, Ring.nextStart, Ring.ringAfter}
+use Rattle.rows.specs.{Laws.Turned.turned-length, Laws.Turned.turned-past, Laws.Turned.turned-word, Laws.Turned.turned-none, Laws.Turned.turned-parts}
+use Rattle.rows.specs.{Laws.Turned.turned-whole}
 
 -- ---- reading
 

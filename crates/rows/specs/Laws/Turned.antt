@@ -1,8 +1,8 @@
 -- A list of rows turned: its words, its length, and when it stays as it was.
-use Rattle.words.specs.Prelude.{ℕ, _+_, _-_, _*_, _/_, _<_, _≤_, _≡_, sym, ap, _∙_, ⊎-elim, List, _++_, append-assoc, append-nil, arith, zero-mul, mul-le-mul-right}
-use Rattle.words.specs.Prelude.{div-mul-le-self, mul-div-cancel, length, getD, take, drop, length-append, length-take, length-drop, take-append-drop}
-use Rattle.words.specs.Prelude.{drop-of-length-le, List·getD-append, take-all, take-at, drop-at, getD-append-add, getD-take, getD-drop, length-take-le, lt-ltb}
-use Rattle.words.specs.Prelude.{le-ltb}
+use Rattle.words.specs.Prelude.{ℕ, _+_, _-_, _*_, _/_, _<_, _≤_, _≡_, sym, ap, _∙_, ⊎-elim, List, _++_, append-assoc, append-nil, arith, zero-mul}
+use Rattle.words.specs.Prelude.{mul-le-mul-right, div-mul-le-self, mul-div-cancel, length, getD, take, drop, length-append, length-take, length-drop}
+use Rattle.words.specs.Prelude.{take-append-drop, drop-of-length-le, List·getD-append, take-all, take-at, drop-at, getD-append-add, getD-take, getD-drop}
+use Rattle.words.specs.Prelude.{length-take-le, lt-ltb, le-ltb}
 use Rattle.words.specs.{Laws.Numbers.less-or-not}
 use Rattle.rows.specs.{Ring.ringPlace, Ring.turned}
 

@@ -12,8 +12,8 @@ use Rattle.roundtrip.specs.{Laws.Series.series-read, Laws.Walking.Stands, Laws.
 use Rattle.roundtrip.specs.{Laws.Walking.stands-one, Laws.Walking.stands-next, Laws.Walking.stands-below, Laws.Walking.child-first, Laws.Walking.child-next}
 use Rattle.roundtrip.specs.{Laws.Walking.condition-first, Laws.Walking.conditions-none, Laws.Walking.conditions-more, Laws.Walking.operand-is}
 use Rattle.roundtrip.specs.{Laws.Walking.condition-is, Laws.Walking.tree-reads, Laws.Walking.tree-stands}
-use Rattle.rules.specs.{Shapes.endIn, Shapes.operandOf, Shapes.conditionOf, Shapes.operandShape, Shapes.conditionShape, Flat.growOperand, Flat.operandAt}
-use Rattle.rules.specs.{Flat.growConditions, Flat.group as groupOf, Flat.growCondition, Flat.conditionAt}
+use Rattle.rules.specs.{Shapes.endIn, Shapes.operandOf, Shapes.conditionOf, Shapes.operandShape, Shapes.conditionShape, Flat.growOperand}
+use Rattle.rules.specs.{Flat.flatOperandAt, Flat.growConditions, Flat.group as groupOf, Flat.growCondition, Flat.flatConditionAt}
 use Rattle.table.specs.Reading as Reading
 
 -- the shape of a node that is there
@@ -57,9 +57,9 @@ module _ (t ends : List ℕ) (b e : ℕ) (whole : WholeTree t ends b e) where
       children i s left here lo (childCount (nodeAt t i) row) (row .below) (ap (childCount (nodeAt t i)) k) (ap (λ (r : Kind). r .below) k)
 
   -- one level of an operand, where the level below is joined
-  operand-level : (left : ℕ) → ((i : ℕ) → Stands t e i 1 1 left → b ≤ i → operandAt left t ends i ≡ Reading.operandAt t e i)
+  operand-level : (left : ℕ) → ((i : ℕ) → Stands t e i 1 1 left → b ≤ i → flatOperandAt left t ends i ≡ Reading.operandAt t e i)
       → (i : ℕ) → Stands t e i 1 1 (suc left) → b ≤ i → OperandKind (nodeAt t i .kind)
-      → growOperand (seriesIn t) (operandAt left t ends) (operandShape t ends i) ≡ Reading.operandAt t e i
+      → growOperand (seriesIn t) (flatOperandAt left t ends) (operandShape t ends i) ≡ Reading.operandAt t e i
   unfolding growOperand operandOf operandFrom operandBy childCountAt childCount
   operand-level left joined i here lo kind = rw (operand-node t ends i low, operand-is t e i there) (go kind)
     where
@@ -70,7 +70,7 @@ module _ (t ends : List ℕ) (b e : ℕ) (whole : WholeTree t ends b e) where
       low = omega (arith, whole .small, there)
 
       go : OperandKind (nodeAt t i .kind)
-          → growOperand (seriesIn t) (operandAt left t ends) (operandOf (kindOf (nodeAt t i .kind) .operand) (nodeAt t i) (i + 1) (endIn ends (i + 1)))
+          → growOperand (seriesIn t) (flatOperandAt left t ends) (operandOf (kindOf (nodeAt t i .kind) .operand) (nodeAt t i) (i + 1) (endIn ends (i + 1)))
           ≡ operandFrom (nodeAt t i) (Reading.operandsAt t e (i + 1) (childCountAt t i))
       go (a-const k row) = rw row
       go (a-ref k row) = rw row
@@ -91,15 +91,15 @@ module _ (t ends : List ℕ) (b e : ℕ) (whole : WholeTree t ends b e) where
           let near : i + 1 < e = node-there t e (i + 1) 0 1 left one in
           rw (row, child-first t e (i + 1) 0, series-there t e (i + 1) near)
 
-  pub operand-joined : (left i : ℕ) → Stands t e i 1 1 left → b ≤ i → operandAt left t ends i ≡ Reading.operandAt t e i
-  unfolding operandAt sortAt
+  pub operand-joined : (left i : ℕ) → Stands t e i 1 1 left → b ≤ i → flatOperandAt left t ends i ≡ Reading.operandAt t e i
+  unfolding flatOperandAt sortAt
   operand-joined zero i here lo = absurd (omega (arith, level-left t e i 0 1 0 here))
   operand-joined (suc left) i here lo =
       operand-level left (operand-joined left) i here lo (operand-kind (nodeAt t i .kind) (sort-there t e i 0 1 (suc left) here))
 
   -- conditions one after the other, where each is joined
-  conditions-joined : (left : ℕ) → ((i : ℕ) → Stands t e i 1 2 left → b ≤ i → conditionAt left t ends i ≡ Reading.conditionAt t e i)
-      → (n j : ℕ) → Stands t e j n 2 left → b ≤ j → growConditions (conditionAt left t ends) ends n j ≡ Reading.conditionsAt t e j n
+  conditions-joined : (left : ℕ) → ((i : ℕ) → Stands t e i 1 2 left → b ≤ i → flatConditionAt left t ends i ≡ Reading.conditionAt t e i)
+      → (n j : ℕ) → Stands t e j n 2 left → b ≤ j → growConditions (flatConditionAt left t ends) ends n j ≡ Reading.conditionsAt t e j n
   unfolding growConditions
   conditions-joined left joined zero j here lo = sym (conditions-none t e j)
   conditions-joined left joined (suc n) j here lo =
@@ -113,9 +113,9 @@ module _ (t ends : List ℕ) (b e : ℕ) (whole : WholeTree t ends b e) where
       ) (sym (conditions-more t e j (getD ends j 0) link there n))
 
   -- one level of a condition, where the level below is joined
-  condition-level : (left : ℕ) → ((i : ℕ) → Stands t e i 1 2 left → b ≤ i → conditionAt left t ends i ≡ Reading.conditionAt t e i)
+  condition-level : (left : ℕ) → ((i : ℕ) → Stands t e i 1 2 left → b ≤ i → flatConditionAt left t ends i ≡ Reading.conditionAt t e i)
       → (i : ℕ) → Stands t e i 1 2 (suc left) → b ≤ i → ConditionKind (nodeAt t i .kind)
-      → growCondition (operandAt left t ends) (conditionAt left t ends) ends (conditionShape t ends i) ≡ Reading.conditionAt t e i
+      → growCondition (flatOperandAt left t ends) (flatConditionAt left t ends) ends (conditionShape t ends i) ≡ Reading.conditionAt t e i
   unfolding growCondition groupOf conditionOf conditionFrom conditionBy childCountAt childCount
   condition-level left joined i here lo kind = rw (condition-node t ends i low, condition-is t e i there) (go kind)
     where
@@ -136,7 +136,7 @@ module _ (t ends : List ℕ) (b e : ℕ) (whole : WholeTree t ends b e) where
       end-first k some = end-is (i + 1) (node-there t e (i + 1) k 1 left some)
 
       -- the first operand, the operands after it, and the second of them
-      first : (k : ℕ) → Stands t e (i + 1) (suc k) 1 left → operandAt left t ends (i + 1) ≡ Reading.operandAt t e (i + 1)
+      first : (k : ℕ) → Stands t e (i + 1) (suc k) 1 left → flatOperandAt left t ends (i + 1) ≡ Reading.operandAt t e (i + 1)
       first k some = operand-joined left (i + 1) (stands-one t e (i + 1) k 1 left some) (omega arith)
 
       rest : (k : ℕ) → Stands t e (i + 1) (suc k) 1 left → Stands t e v k 1 left
@@ -145,7 +145,7 @@ module _ (t ends : List ℕ) (b e : ℕ) (whole : WholeTree t ends b e) where
       after : (k : ℕ) → Stands t e (i + 1) (suc k) 1 left → b ≤ v
       after k some = omega (arith, link-first k some .beyond)
 
-      second : (k : ℕ) → Stands t e (i + 1) (suc (suc k)) 1 left → operandAt left t ends v ≡ Reading.operandAt t e v
+      second : (k : ℕ) → Stands t e (i + 1) (suc (suc k)) 1 left → flatOperandAt left t ends v ≡ Reading.operandAt t e v
       second k some = operand-joined left v (stands-one t e v k 1 left (rest (suc k) some)) (after (suc k) some)
 
       -- what the reading has for the second of k + 2 operands
@@ -157,7 +157,7 @@ module _ (t ends : List ℕ) (b e : ℕ) (whole : WholeTree t ends b e) where
       below row = below-by i 2 left row here lo
 
       go : ConditionKind (nodeAt t i .kind)
-          → growCondition (operandAt left t ends) (conditionAt left t ends) ends
+          → growCondition (flatOperandAt left t ends) (flatConditionAt left t ends) ends
           (conditionOf (kindOf (nodeAt t i .kind) .condition) (nodeAt t i) (i + 1) (endIn ends (i + 1)) (endIn ends (endIn ends (i + 1))))
           ≡ conditionFrom (nodeAt t i) (Reading.operandsAt t e (i + 1) (childCountAt t i)) (Reading.conditionsAt t e (i + 1) (childCountAt t i))
       go (a-compare row) =
@@ -195,15 +195,15 @@ module _ (t ends : List ℕ) (b e : ℕ) (whole : WholeTree t ends b e) where
       go (a-position k row) = rw row
       go (a-count k row) = rw row
 
-  pub condition-joined : (left i : ℕ) → Stands t e i 1 2 left → b ≤ i → conditionAt left t ends i ≡ Reading.conditionAt t e i
-  unfolding conditionAt sortAt
+  pub condition-joined : (left i : ℕ) → Stands t e i 1 2 left → b ≤ i → flatConditionAt left t ends i ≡ Reading.conditionAt t e i
+  unfolding flatConditionAt sortAt
   condition-joined zero i here lo = absurd (omega (arith, level-left t e i 0 2 0 here))
   condition-joined (suc left) i here lo =
       condition-level left (condition-joined left) i here lo (condition-kind (nodeAt t i .kind) (sort-there t e i 0 2 (suc left) here))
 
 -- THE JOIN: tree x of an accepted table, read at its root with 32 levels of nesting and the array beside the answer.
 pub tree-joined : (t : List ℕ) (n r : ℕ) → checked t ≡ Accepted n r → (x : ℕ) → x < 4 → 0 < count t x
-    → conditionAt mostNesting t (endsBeside t) (root t x) ≡ treeOf t x
+    → flatConditionAt mostNesting t (endsBeside t) (root t x) ≡ treeOf t x
 tree-joined t n r ok x l some =
     rw (ends-of t n r ok)
     (condition-joined t (endsAll t) (root t x) (root t (suc x)) (tree-whole t n r ok x l) mostNesting (root t x) (tree-stands t x n r ok l some) (omega arith)

@@ -1,14 +1,14 @@
 -- Laws of the meaning of operands and conditions, for the proofs that cite it. Assumes nothing.
-use Rattle.words.specs.Prelude.{ℕ, zero, suc, _+_, _-_, _*_, _≤_, _<_, _≡_, refl, sym, ap, _∙_, Bool, true, false, cond, arith, le-refl, sub-zero, ltb, eqb, Float}
-use Rattle.words.specs.Prelude.{nan, inf, fin, lt-ltb, le-ltb, ltb-true, ltb-false}
+use Rattle.words.specs.Prelude.{ℕ, zero, suc, _+_, _-_, _*_, _≤_, _<_, _≡_, refl, sym, ap, _∙_, Bool, true, false, cond, arith, le-refl, sub-zero, ltb, eqb}
+use Rattle.words.specs.Prelude.{Float, nan, inf, fin, lt-ltb, le-ltb, ltb-true, ltb-false}
 use Rattle.floats.specs.{Floats._≺_, Floats.floatOf}
 use Rattle.rows.specs.{History.History}
 use Rattle.table.specs.{declared.series.Series.Series, declared.series.Series.the-variants.Price, declared.series.Series.the-variants.Slot, Trees.Operand}
 use Rattle.table.specs.{Trees.const, Trees.ref, Trees.price, Trees.prev, Trees.arith as sums, Trees.extreme, Trees.trend}
 use Rattle.rules.specs.{declared.values.Value.Value, declared.values.Value.the-variants.Missing, declared.values.Value.the-variants.Number}
-use Rattle.rules.specs.{declared.position.PositionState.PositionState, Values.priceOf, Values.slotOf, Values.both, Values.took, Values.pick, Values.tested}
-use Rattle.rules.specs.{Values.compared, Values.trended, Laws.Missing.either-way, Meaning.there, Meaning.seriesAt, Meaning.extremeOver, Meaning.extremeAt}
-use Rattle.rules.specs.{Meaning.value, Meaning.holds}
+use Rattle.rules.specs.{declared.position.PositionState.PositionState, Values.priceOf, Values.slotOf, Values.combined, Values.took, Values.pick}
+use Rattle.rules.specs.{Values.tested, Values.compared, Values.trended, Laws.Missing.either-way, Meaning.there, Meaning.seriesAt, Meaning.extremeOver}
+use Rattle.rules.specs.{Meaning.extremeAt, Meaning.value, Meaning.holds}
 use lib.Ieee as Ieee
 
 -- What is asked of a row that is there, and of one that is not.
@@ -83,7 +83,7 @@ extreme-past h kind s n i l = go (ltb i (n - 1)) refl
 
 -- Where the row does not exist every operand is missing.
 pub past : (h : History) (a : Operand) (i : ℕ) → h .rows ≤ i → value h a i ≡ Missing
-unfolding value both
+unfolding value combined
 past h (const bits) i l = row-missing h i (Number (floatOf bits)) l
 past h (ref slot) i l = row-missing h i (slotOf (h .word i) slot) l
 past h (price selector) i l = row-missing h i (Number (priceOf (h .word i) selector)) l
@@ -137,7 +137,7 @@ pub extreme-value : (h : History) (kind : ℕ) (s : Series) (n i : ℕ) → valu
 unfolding value
 extreme-value h kind s n i = refl
 
-pub arith-value : (h : History) (kind : ℕ) (a b : Operand) (i : ℕ) → value h (sums kind a b) i ≡ both kind (value h a i) (value h b i)
+pub arith-value : (h : History) (kind : ℕ) (a b : Operand) (i : ℕ) → value h (sums kind a b) i ≡ combined kind (value h a i) (value h b i)
 unfolding value
 arith-value h kind a b i = refl
 

@@ -1,8 +1,8 @@
 -- A value that is missing leaves an operand missing and answers a test with no. Assumes nothing.
 use Rattle.words.specs.Prelude.{ℕ, _≡_, refl, Bool, true, false, cond, _&&_, ltb, eqb}
 use Rattle.rows.specs.{History.History}
-use Rattle.rules.specs.{declared.values.Value.Value, declared.values.Value.the-variants.Missing, declared.values.Value.the-variants.Number, Values.both}
-use Rattle.rules.specs.{Values.compared, Values.crossed, Values.within, Values.trended, Meaning.there}
+use Rattle.rules.specs.{declared.values.Value.Value, declared.values.Value.the-variants.Missing, declared.values.Value.the-variants.Number}
+use Rattle.rules.specs.{Values.combined, Values.compared, Values.crossed, Values.within, Values.trended, Meaning.there}
 
 -- what a test chooses between two that are the same
 pub either-way : {A : Type 0} (t : Bool) (x : A) → cond t x x ≡ x
@@ -15,8 +15,8 @@ pub missing-there : (h : History) (i : ℕ) → there h i Missing ≡ Missing
 unfolding there
 missing-there h i = either-way (ltb i (h .rows)) Missing
 
-pub both-late : (k : ℕ) (x : Value) → both k x Missing ≡ Missing
-unfolding both
+pub both-late : (k : ℕ) (x : Value) → combined k x Missing ≡ Missing
+unfolding combined
 both-late k Missing = refl
 both-late k (Number x) = refl
 

@@ -7,8 +7,8 @@ use Rattle.portfolio.specs.{declared.Candle.Candle, declared.Closed.Closed, dec
 use Rattle.execution.specs.{declared.fills.Exit.Exit, declared.fills.Exit.the-variants.NoExit, declared.fills.Exit.the-variants.Exited}
 use Rattle.records.specs.{declared.settings.Settings.Settings, declared.state.Position.Position, declared.state.State.State, Lent.Lists, Lent.Rooms}
 use Rattle.records.specs.{Lent.pointPlaces, Lent.tradePlaces}
-use Rattle.engine.specs.{Books.Point, Books.pointOf, Books.wordsOfPoint, Books.tradesOf, Books.Held, Books.booked, Books.marked, Books.heldPoints, Books.heldTrades}
-use Rattle.engine.specs.{Boxes.Grown, Step.stepped, Whole.Asked, Whole.accountOf, Whole.rowsHeld, Whole.taken, Whole.takenBy}
+use Rattle.engine.specs.{Books.Point, Books.pointOf, Books.wordsOfPoint, Books.tradesOf, Books.Held, Books.booked, Books.marked, Books.heldPoints}
+use Rattle.engine.specs.{Books.heldTrades, Boxes.Grown, Step.stepped, Whole.Asked, Whole.accountOf, Whole.rowsHeld, Whole.taken, Whole.takenBy}
 use Rattle.runs.specs.{Laws.OneTrade.one-exit}
 use Rattle.words.specs.Limits as Limits
 

@@ -5,13 +5,14 @@ use Rattle.rows.specs.{History.historyOf, History.lastRows}
 use Rattle.rules.specs.{Window.Without, Window.without-first}
 use Rattle.portfolio.specs.{declared.Candle.Candle, declared.Portfolio.Portfolio}
 use Rattle.execution.specs.{declared.level.Side.Side, declared.terms.Sizing.Sizing, declared.terms.Sizing.the-variants.FixedFraction}
-use Rattle.execution.specs.{declared.terms.Sizing.the-variants.FixedQty, declared.terms.Sizing.the-variants.FixedCash, declared.terms.Sizing.the-variants.VolTarget}
-use Rattle.execution.specs.{declared.terms.Sizing.the-variants.RiskPerTrade, declared.terms.Sizing.the-variants.Unknown, declared.terms.Terms.Terms}
-use Rattle.execution.specs.{Fills.volatilityFor, Fills.executeEntry, Volatility.realizedVol, VolatilityWindow.same-volatility}
+use Rattle.execution.specs.{declared.terms.Sizing.the-variants.FixedQty, declared.terms.Sizing.the-variants.FixedCash}
+use Rattle.execution.specs.{declared.terms.Sizing.the-variants.VolTarget, declared.terms.Sizing.the-variants.RiskPerTrade}
+use Rattle.execution.specs.{declared.terms.Sizing.the-variants.Unknown, declared.terms.Terms.Terms, Fills.volatilityFor, Fills.executeEntry}
+use Rattle.execution.specs.{Volatility.realizedVol, VolatilityWindow.same-volatility}
 use Rattle.records.specs.{declared.state.Order.Order, declared.state.Position.Position, declared.settings.Settings.Settings}
 use Rattle.refusals.specs.{Settings.lookback}
 use Rattle.engine.specs.{declared.account.Due.Due, declared.account.Due.the-variants.Waits, declared.account.Due.the-variants.Enters}
-use Rattle.engine.specs.{declared.account.Due.the-variants.Leaves, Account.entered, Account.dueOf, Account.doneOf, Account.filled}
+use Rattle.engine.specs.{declared.account.Due.the-variants.Leaves, Account.entryFilled, Account.dueOf, Account.doneOf, Account.filled}
 
 module _ (K D : ℕ) (rows : List ℕ) where
   older : Without (historyOf K rows) (historyOf K (lastRows K D rows)) (historyOf K rows .rows - D)
@@ -39,7 +40,7 @@ module _ (K D : ℕ) (rows : List ℕ) where
 
   done-over-last : (due : Due) (s : Settings) (p : Position) (k : Candle) (number : ℕ) → lookback (s .terms .sizing) < D
       → doneOf due s p k (historyOf K (lastRows K D rows)) number ≡ doneOf due s p k (historyOf K rows) number
-  unfolding doneOf entered
+  unfolding doneOf entryFilled
   done-over-last (Waits o) s p k number h = refl
   done-over-last (Enters side kind price) s p k number h = rw (entry-over-last side price _ (s .terms) k (p .portfolio) h)
   done-over-last Leaves s p k number h = refl

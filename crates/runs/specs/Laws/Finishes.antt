@@ -3,12 +3,12 @@ use Rattle.words.specs.Prelude.{ℕ, _+_, _*_, _<_, _≡_, refl, sym, _∙_, Bo
 use Rattle.portfolio.specs.{Trade.wordsOfTrade}
 use Rattle.execution.specs.{declared.fills.Exit.Exit, declared.fills.Exit.the-variants.NoExit}
 use Rattle.records.specs.{declared.settings.Settings.Settings, declared.state.State.State, Lent.Rooms, Lent.tradePlaces}
-use Rattle.refusals.specs.{declared.verdict.Verdict.the-variants.Fine, Judgement.finishLines, Judgement.finishJudged, Laws.Lines.first-holds, Laws.Lines.both-fine}
-use Rattle.refusals.specs.{Rooms.roomLines, Rooms.stateLines, Rooms.toClose, Rooms.closeLines, Settings.settingLines}
+use Rattle.refusals.specs.{declared.verdict.Verdict.the-variants.Fine, Judgement.finishLines, Judgement.finishJudged, Laws.Lines.first-holds}
+use Rattle.refusals.specs.{Laws.Lines.both-fine, Rooms.roomLines, Rooms.stateLines, Rooms.toClose, Rooms.closeLines, Settings.settingLines}
 use Rattle.engine.specs.{Books.tradesOf, Books.booked, Books.heldPoints, Books.heldTrades, Boxes.SameButRows, Finish.lastExit, Finish.remarked, Finish.endState}
 use Rattle.engine.specs.{Finish.measured, Finish.ended}
-use Rattle.runs.specs.{Laws.AccountStep.same-parts, Laws.BooksGrow.Added, Laws.BooksGrow.trade-booked, Laws.BooksGrow.none-added, Laws.BooksGrow.none-booked}
-use Rattle.runs.specs.{Laws.LastPoint.remarked-held, Laws.LastPoint.remarked-behind}
+use Rattle.runs.specs.{Laws.AccountStep.same-parts, Laws.BooksGrow.Added, Laws.BooksGrow.trade-booked, Laws.BooksGrow.none-added}
+use Rattle.runs.specs.{Laws.BooksGrow.none-booked, Laws.LastPoint.remarked-held, Laws.LastPoint.remarked-behind}
 use Rattle.words.specs.Limits as Limits
 
 -- the trades that a room holds

@@ -3,8 +3,8 @@
 use Rattle.words.specs.Prelude.{ℕ, _-_, _≡_, refl, Bool, true, false, cond, List, T, ltb, Float, binary64, fits, ofBits-fits, cond-fits, mul-fits}
 use Rattle.floats.specs.{Floats._⊗_, Floats._≺_, Floats.min, Floats.max, Floats.eps}
 use Rattle.rows.specs.{History.History, History.historyOf}
-use Rattle.portfolio.specs.{declared.Candle.Candle, declared.Closed.Closed, declared.Portfolio.Portfolio, Portfolio.inPosition, Portfolio.isLong, Portfolio.funded}
-use Rattle.portfolio.specs.{Portfolio.worse, Portfolio.worsened, Portfolio.entered, Portfolio.exited, Trade.signal, Trade.end}
+use Rattle.portfolio.specs.{declared.Candle.Candle, declared.Closed.Closed, declared.Portfolio.Portfolio, Portfolio.inPosition, Portfolio.isLong}
+use Rattle.portfolio.specs.{Portfolio.funded, Portfolio.worse, Portfolio.worsened, Portfolio.entered, Portfolio.exited, Trade.signal, Trade.end}
 use Rattle.execution.specs.{declared.fills.Entry.Entry, declared.fills.Entry.the-variants.NoEntry, declared.fills.Entry.the-variants.TooLarge}
 use Rattle.execution.specs.{declared.fills.Entry.the-variants.Entered, declared.fills.Exit.Exit, declared.fills.Exit.the-variants.NoExit}
 use Rattle.execution.specs.{declared.fills.Exit.the-variants.Exited, declared.costs.Funding.Funding, declared.costs.Funding.the-variants.NotSupplied}
@@ -16,8 +16,8 @@ use Rattle.execution.specs.{declared.level.OrderType.the-variants.Stop as StopT
 use Rattle.execution.specs.{declared.level.OrderType.the-variants.Unknown as UnknownType, declared.level.Side.Side, declared.level.Side.the-variants.Long}
 use Rattle.execution.specs.{declared.level.Side.the-variants.Short, declared.terms.Terms.Terms, declared.intrabar.Trigger.Trigger}
 use Rattle.execution.specs.{declared.intrabar.Trigger.the-variants.Untouched, declared.intrabar.Trigger.the-variants.At, Costs.slippageRate, Costs.fillPrice}
-use Rattle.execution.specs.{Costs.takerRate, Costs.closed, Costs.withFunding, Costs.chargeFunding, Fills.direction, Fills.volatilityFor, Fills.quantity}
-use Rattle.execution.specs.{Fills.probeQty, Fills.withinVolume, Fills.booked, Fills.executeEntry, Fills.exitDirection, Fills.executeExit, Level.levelFrom}
+use Rattle.execution.specs.{Costs.feeRate, Costs.closed, Costs.withFunding, Costs.chargeFunding, Fills.direction, Fills.volatilityFor, Fills.quantity}
+use Rattle.execution.specs.{Fills.probeQty, Fills.withinVolume, Fills.entryWith, Fills.executeEntry, Fills.exitDirection, Fills.executeExit, Level.levelFrom}
 use Rattle.execution.specs.{Level.entryTrigger, Level.feeBps, Level.levelFill, Lots.isTooLarge, Lots.orZero, Intrabar.favourable, Intrabar.extremeWith}
 use Rattle.execution.specs.{Intrabar.touched, Intrabar.closedBy, Intrabar.applyIntrabarExits}
 use Rattle.records.specs.{declared.settings.Settings.Settings, declared.state.Order.Order, declared.state.Order.the-variants.Idle}
@@ -27,7 +27,7 @@ use Rattle.records.specs.{Bar.fundingOf, Lent.Lists, Lent.Rooms, StateWords.wai
 use Rattle.refusals.specs.{Rooms.toClose}
 use Rattle.engine.specs.{declared.account.Due.Due, declared.account.Due.the-variants.Waits, declared.account.Due.the-variants.Enters}
 use Rattle.engine.specs.{declared.account.Due.the-variants.Leaves, declared.account.Filled.Filled, Account.leaving, Account.facing, Account.entering}
-use Rattle.engine.specs.{Account.reached, Account.dueOf, Account.doneOf, Account.filled, Account.intrabar, Account.charged, Decide.Answers, Decide.ordered}
+use Rattle.engine.specs.{Account.dueIfReached, Account.dueOf, Account.doneOf, Account.filled, Account.intrabar, Account.charged, Decide.Answers, Decide.ordered}
 use Rattle.engine.specs.{Decide.openingOrder, Decide.closingOrder, Decide.orderAfter, Decide.decided, Finish.lastExit, Finish.endState, Laws.Runs.run-keeps}
 use Rattle.engine.specs.{Record.heldRows, Run.runOver, Step.stepped}
 use lib.Ieee as Ieee
@@ -141,12 +141,12 @@ booked-64 true p qty fill time fee q f e = one (entered p qty fill time fee) fil
 }) f
 booked-64 false p qty fill time fee q f e = none
 
-ordered-64 : (q : Quantity) (dir fill bps : Float) (k : Candle) (p : Portfolio) → Is64 fill → Entry64 (booked dir q fill bps k p)
-unfolding booked
+ordered-64 : (q : Quantity) (dir fill bps : Float) (k : Candle) (p : Portfolio) → Is64 fill → Entry64 (entryWith dir q fill bps k p)
+unfolding entryWith
 ordered-64 Nothing dir fill bps k p f = none
 ordered-64 Quantity.TooLarge dir fill bps k p f = large
 ordered-64 (Of base) dir fill bps k p f =
-    booked-64 (eps ≺ base) p (dir ⊗ base) fill (k .time) (base ⊗ fill ⊗ takerRate bps) (mul-fits binary64 _ _) f (mul-fits binary64 _ _)
+    booked-64 (eps ≺ base) p (dir ⊗ base) fill (k .time) (base ⊗ fill ⊗ feeRate bps) (mul-fits binary64 _ _) f (mul-fits binary64 _ _)
 
 entry-either : (b : Bool) (x : Entry) → Entry64 x → Entry64 (cond b TooLarge x)
 entry-either true x h = large
@@ -158,7 +158,7 @@ entry-64 side raw bps terms k p h =
     let rv : Optional = volatilityFor (terms .sizing) h in
     let probe : Quantity = probeQty (terms .slippage) terms (p .cash) raw rv in
     let fill : Float = fillPrice raw (direction side) (slippageRate (terms .slippage) (orZero probe) (k .volume)) in
-    entry-either (isTooLarge probe) (booked (direction side) (withinVolume terms (quantity terms (p .cash) fill rv) (k .volume)) fill bps k p)
+    entry-either (isTooLarge probe) (entryWith (direction side) (withinVolume terms (quantity terms (p .cash) fill rv) (k .volume)) fill bps k p)
     (ordered-64 (withinVolume terms (quantity terms (p .cash) fill rv) (k .volume)) (direction side) fill bps k p (mul-fits binary64 _ _))
 
 entering-64 : (p : Position) (x : Entry) (number : ℕ) → Position64 p → Entry64 x → Position64 (entering p x number)
@@ -168,14 +168,14 @@ entering-64 p TooLarge number h e = h
 entering-64 p (Entered account fill) number h (one _ _ a f) = record { account = a; extreme = f }
 
 module _ (s : Settings) (p : Position) (k : Candle) (before : History) (number : ℕ) (high : Is64 (k .high)) (low : Is64 (k .low)) (h : Position64 p) where
-  entered-64 : (side : Side) (kind : OrderKind) (price : Float) → Position64 (Account.entered side kind price s p k before number .position)
-  unfolding Account.entered
+  entered-64 : (side : Side) (kind : OrderKind) (price : Float) → Position64 (Account.entryFilled side kind price s p k before number .position)
+  unfolding Account.entryFilled
   entered-64 side kind price =
       let bps : Float = feeBps kind (s .entries .«maker_bps») (s .terms .«taker_bps») in
       entering-64 p (executeEntry side price bps (s .terms) k (p .portfolio) before) number h (entry-64 side price bps (s .terms) k (p .portfolio) before)
 
-  left-64 : Position64 (Account.exited s p k .position)
-  unfolding Account.exited
+  left-64 : Position64 (Account.exitFilled s p k .position)
+  unfolding Account.exitFilled
   left-64 =
       let q : Position = facing p k in
       let held : Position64 q = facing-64 p k high low h in
@@ -205,13 +205,13 @@ module _ (s : Settings) (p : Position) (k : Candle) (before : History) (number :
   due-either true x y h i = h
   due-either false x y h i = i
 
-  reached-64 : (side : Side) (kind : OrderKind) (o : Order) (x : Optional) → Order64 o → Due64 (reached side kind o x)
-  unfolding reached doneOf Account.entered waitsFor KindFits
+  reached-64 : (side : Side) (kind : OrderKind) (o : Order) (x : Optional) → Order64 o → Due64 (dueIfReached side kind o x)
+  unfolding dueIfReached doneOf Account.entryFilled waitsFor KindFits
   reached-64 side kind o Absent h = h
   reached-64 side kind o (Optional.Of price) h = tt
 
   waits-64 : (o : Order) → Order64 o → Order64 (filled s o p k before number .order)
-  unfolding filled dueOf doneOf Account.exited waitsFor KindFits
+  unfolding filled dueOf doneOf Account.exitFilled waitsFor KindFits
   waits-64 Idle h = tt
   waits-64 (EnterLong n kind) h =
       due-either (ltb 0 n) (Waits (EnterLong (n - 1) kind)) _ h (reached-64 Long kind (EnterLong n kind) (levelFill Long kind k) h)
@@ -269,9 +269,9 @@ unfolding closedBy
 touched-64 Untouched k terms p a = stayed
 touched-64 (At price reason) k terms p a = closed-64 p price (k .time) (terms .«taker_bps») reason a
 
-stopped-64 : (k : Candle) (terms : Terms) (p : Portfolio) (extreme : Float) → Account64 p → Exit64 (applyIntrabarExits k terms p extreme)
+inside-64 : (k : Candle) (terms : Terms) (p : Portfolio) (extreme : Float) → Account64 p → Exit64 (applyIntrabarExits k terms p extreme)
 unfolding applyIntrabarExits
-stopped-64 k terms p extreme a =
+inside-64 k terms p extreme a =
     exit-if (inPosition p) (closedBy (touched k (terms .risk) p extreme) k terms p) (touched-64 (touched k (terms .risk) p extreme) k terms p a)
 
 intrabar-64 : (s : Settings) (p : Position) (k : Candle) → Is64 (k .high) → Is64 (k .low) → Position64 p → Position64 (intrabar s p k .position)
@@ -282,7 +282,7 @@ intrabar-64 s p k high low h =
     let extreme : Float = extremeWith k (q .portfolio) (q .extreme) in
     leaving-64 (record { portfolio = q .portfolio; entered = q .entered; extreme = extreme }) (applyIntrabarExits k (s .terms) (q .portfolio) extreme)
     (record { account = held .account; extreme = extreme-64 k (q .portfolio) (q .extreme) high low (held .extreme) })
-    (stopped-64 k (s .terms) (q .portfolio) extreme (held .account))
+    (inside-64 k (s .terms) (q .portfolio) extreme (held .account))
 
 -- ---- funding
 

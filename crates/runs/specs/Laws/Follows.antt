@@ -2,9 +2,9 @@
 use Rattle.words.specs.Prelude.{ℕ, _≡_, refl, _∙_, List, [], _∷_, _++_, append-nil, append-assoc, flatMap, add-one, take}
 use Rattle.records.specs.{declared.settings.Settings.Settings, declared.state.State.State, Lent.Lists, Lent.Rooms}
 use Rattle.refusals.specs.{declared.verdict.Verdict.Verdict, declared.verdict.Verdict.the-variants.Fine, declared.verdict.Verdict.the-variants.Bad}
-use Rattle.engine.specs.{Boxes.Grown, Boxes.Follows, Laws.Runs.run-none, Laws.Runs.run-stops, Laws.Runs.run-takes, Laws.Verdict.verdict-fine, Record.rowOf, Run.Run}
-use Rattle.engine.specs.{Run.runOver, Step.With, Step.stepped, Step.stepVerdict, Whole.Account, Whole.accountOf, Whole.rowsHeld, Whole.byLists, Whole.taken}
-use Rattle.engine.specs.{Whole.wholeRun, Whole.wholeRunBy, Whole.rowsOf}
+use Rattle.engine.specs.{Boxes.Grown, Boxes.Follows, Laws.Runs.run-none, Laws.Runs.run-stops, Laws.Runs.run-takes, Laws.Verdict.verdict-fine, Record.rowOf}
+use Rattle.engine.specs.{Run.Run, Run.runOver, Step.With, Step.stepped, Step.stepVerdict, Whole.Account, Whole.accountOf, Whole.rowsHeld, Whole.byLists}
+use Rattle.engine.specs.{Whole.taken, Whole.wholeRun, Whole.wholeRunBy, Whole.rowsOf}
 use Rattle.runs.specs.{Laws.AccountStep.window-after, Laws.AccountStep.account-after, Laws.AccountStep.last-alike, Laws.AccountStep.taken-alike}
 use Rattle.runs.specs.{Laws.BooksGrow.grown-none, Laws.BooksGrow.grown-more, Laws.BooksGrow.books-grow}
 

@@ -1,25 +1,25 @@
 -- The funding paid and the least favourable price decide nothing: what a phase of a bar does, but for these two words, it does without them.
 use Rattle.words.specs.Prelude.{ℕ, _≡_, refl, sym, _∙_, Bool, true, false, cond, List, [], _∷_, _++_, Float}
 use Rattle.rows.specs.{History.History}
-use Rattle.portfolio.specs.{declared.Candle.Candle, declared.Portfolio.Portfolio, declared.Trade.Trade, Portfolio.inPosition, Portfolio.isLong, Portfolio.equity}
-use Rattle.portfolio.specs.{Portfolio.funded, Portfolio.worsened, Portfolio.entered, Portfolio.notional, Portfolio.pnl, Portfolio.tradeOf, Portfolio.exited}
-use Rattle.portfolio.specs.{Trade.signal}
+use Rattle.portfolio.specs.{declared.Candle.Candle, declared.Portfolio.Portfolio, declared.Trade.Trade, Portfolio.inPosition, Portfolio.isLong}
+use Rattle.portfolio.specs.{Portfolio.equity, Portfolio.funded, Portfolio.worsened, Portfolio.entered, Portfolio.notional, Portfolio.pnl, Portfolio.tradeOf}
+use Rattle.portfolio.specs.{Portfolio.exited, Trade.signal}
 use Rattle.execution.specs.{declared.fills.Entry.Entry, declared.fills.Entry.the-variants.NoEntry, declared.fills.Entry.the-variants.Entered}
 use Rattle.execution.specs.{declared.fills.Exit.Exit, declared.fills.Exit.the-variants.NoExit, declared.fills.Exit.the-variants.Exited}
 use Rattle.execution.specs.{declared.costs.Funding.Funding, declared.costs.Funding.the-variants.NotSupplied, declared.costs.Funding.the-variants.Supplied}
 use Rattle.execution.specs.{declared.lots.Quantity.Quantity, declared.lots.Quantity.the-variants.Nothing, declared.lots.Quantity.the-variants.TooLarge}
 use Rattle.execution.specs.{declared.lots.Quantity.the-variants.Of, declared.level.Side.Side, declared.level.OrderKind.OrderKind, declared.terms.Terms.Terms}
 use Rattle.execution.specs.{declared.terms.Risk.Risk, declared.intrabar.Trigger.Trigger, declared.intrabar.Trigger.the-variants.Untouched}
-use Rattle.execution.specs.{declared.intrabar.Trigger.the-variants.At, Costs.closed, Costs.withFunding, Costs.chargeFunding, Fills.booked, Fills.executeEntry}
-use Rattle.execution.specs.{Fills.exitDirection, Fills.executeExit, Intrabar.favourable, Intrabar.extremeWith, Intrabar.bankruptcyPrice, Intrabar.liquidated}
-use Rattle.execution.specs.{Intrabar.orLiquidated, Intrabar.touched, Intrabar.closedBy, Intrabar.applyIntrabarExits}
+use Rattle.execution.specs.{declared.intrabar.Trigger.the-variants.At, Costs.closed, Costs.withFunding, Costs.chargeFunding, Fills.entryWith}
+use Rattle.execution.specs.{Fills.executeEntry, Fills.exitDirection, Fills.executeExit, Intrabar.favourable, Intrabar.extremeWith, Intrabar.bankruptcyPrice}
+use Rattle.execution.specs.{Intrabar.liquidated, Intrabar.orLiquidated, Intrabar.touched, Intrabar.closedBy, Intrabar.applyIntrabarExits}
 use Rattle.records.specs.{declared.settings.Settings.Settings, declared.state.Order.Order, declared.state.Order.the-variants.Idle}
 use Rattle.records.specs.{declared.state.Order.the-variants.EnterLong, declared.state.Order.the-variants.EnterShort}
 use Rattle.records.specs.{declared.state.Order.the-variants.Exit as ExitOrder, declared.state.Position.Position, Bar.fundingOf}
 use Rattle.engine.specs.{declared.account.Due.Due, declared.account.Due.the-variants.Waits, declared.account.Due.the-variants.Enters}
-use Rattle.engine.specs.{declared.account.Due.the-variants.Leaves, declared.account.Filled.Filled, Account.leaving, Account.facing, Account.entering, Account.dueOf}
-use Rattle.engine.specs.{Account.doneOf, Account.filled, Account.intrabar, Account.charged, Books.pointOf, Books.tradesOf, Decide.Answers, Decide.stateAt}
-use Rattle.engine.specs.{Decide.ordered, Decide.orderAfter}
+use Rattle.engine.specs.{declared.account.Due.the-variants.Leaves, declared.account.Filled.Filled, Account.leaving, Account.facing, Account.entering}
+use Rattle.engine.specs.{Account.dueOf, Account.doneOf, Account.filled, Account.intrabar, Account.charged, Books.pointOf, Books.tradesOf, Decide.Answers}
+use Rattle.engine.specs.{Decide.stateAt, Decide.ordered, Decide.orderAfter}
 use Rattle.runs.specs.{Forgotten.forget, Forgotten.forgetTrade, Forgotten.forgetExit, Forgotten.forgetPosition, Forgotten.forgetTrades}
 use Rattle.execution.specs.declared.fills.Entry.the-variants as Entry
 use Rattle.engine.specs.Account as Account
@@ -107,8 +107,8 @@ extreme-forgets k p e = refl
 
 -- ---- the fill
 
-entered-forgets : (q : Quantity) (dir fill bps : Float) (k : Candle) (p : Portfolio) → booked dir q fill bps k p ≡ booked dir q fill bps k (forget p)
-unfolding booked entered forget
+entered-forgets : (q : Quantity) (dir fill bps : Float) (k : Candle) (p : Portfolio) → entryWith dir q fill bps k p ≡ entryWith dir q fill bps k (forget p)
+unfolding entryWith entered forget
 entered-forgets Nothing dir fill bps k p = refl
 entered-forgets TooLarge dir fill bps k p = refl
 entered-forgets (Of base) dir fill bps k p = refl
@@ -135,8 +135,8 @@ entering-forgets p Entry.TooLarge number = refl
 entering-forgets p (Entered portfolio fill) number = refl
 
 enter-forgets : (side : Side) (kind : OrderKind) (price : Float) (s : Settings) (p : Position) (k : Candle) (h : History) (number : ℕ)
-    → SameFill (Account.entered side kind price s p k h number) (Account.entered side kind price s (forgetPosition p) k h number)
-unfolding Account.entered
+    → SameFill (Account.entryFilled side kind price s p k h number) (Account.entryFilled side kind price s (forgetPosition p) k h number)
+unfolding Account.entryFilled
 enter-forgets side kind price s p k h number = record {
   order = refl;
   position = entering-forgets p _ number ∙ rw (entry-forgets side price _ (s .terms) k (p .portfolio) h) (unfold forgetPosition in refl);
@@ -150,22 +150,22 @@ leaving-forgets p (Exited c) = refl
 
 -- an exit by order: over the position that has taken the bar, which is the same but for the two words
 sell-exit : (s : Settings) (p : Position) (k : Candle)
-    → forgetExit (Account.exited s p k .«exit») ≡ forgetExit (executeExit signal (k .«open») (s .terms) k (forget (p .portfolio)))
-unfolding Account.exited facing
+    → forgetExit (Account.exitFilled s p k .«exit») ≡ forgetExit (executeExit signal (k .«open») (s .terms) k (forget (p .portfolio)))
+unfolding Account.exitFilled facing
 sell-exit s p k = leave-forgets _ _ _ k (worsened (p .portfolio) k) ∙ rw (worse-forgets (p .portfolio) k)
 
 sell-position : (s : Settings) (p : Position) (k : Candle)
-    → forgetPosition (Account.exited s p k .position) ≡ forgetPosition (leaving (forgetPosition p) (forgetExit (Account.exited s p k .«exit»)))
-unfolding Account.exited facing
+    → forgetPosition (Account.exitFilled s p k .position) ≡ forgetPosition (leaving (forgetPosition p) (forgetExit (Account.exitFilled s p k .«exit»)))
+unfolding Account.exitFilled facing
 sell-position s p k =
     leaving-forgets (facing p k) _ ∙ (unfold facing forgetPosition in rw (worse-forgets (p .portfolio) k))
 
-sell-forgets : (s : Settings) (p : Position) (k : Candle) → SameFill (Account.exited s p k) (Account.exited s (forgetPosition p) k)
+sell-forgets : (s : Settings) (p : Position) (k : Candle) → SameFill (Account.exitFilled s p k) (Account.exitFilled s (forgetPosition p) k)
 sell-forgets s p k =
-    let same : forgetExit (Account.exited s p k .«exit») ≡ forgetExit (Account.exited s (forgetPosition p) k .«exit») =
+    let same : forgetExit (Account.exitFilled s p k .«exit») ≡ forgetExit (Account.exitFilled s (forgetPosition p) k .«exit») =
     sell-exit s p k ∙ sym (sell-exit s (forgetPosition p) k ∙ (unfold forgetPosition forget in refl)) in
     record {
-      order = unfold Account.exited in refl;
+      order = unfold Account.exitFilled in refl;
       position = sell-position s p k ∙ rw same (sym (sell-position s (forgetPosition p) k ∙ (unfold forgetPosition forget in refl)));
       «exit» = same;
     }

@@ -1,6 +1,6 @@
 -- The last equity point after finish: on the words that a room holds, behind them, and on points.
-use Rattle.words.specs.Prelude.{ℕ, suc, _+_, _-_, _*_, _≡_, refl, ap, Bool, true, false, cond, List, [], _∷_, flatMap, arith, ltb-true, lt-ltb, ltb, Float, length}
-use Rattle.words.specs.Prelude.{take, drop, set, length-set}
+use Rattle.words.specs.Prelude.{ℕ, suc, _+_, _-_, _*_, _≡_, refl, ap, Bool, true, false, cond, List, [], _∷_, flatMap, arith, ltb-true, lt-ltb, ltb, Float}
+use Rattle.words.specs.Prelude.{length, take, drop, set, length-set}
 use Rattle.floats.specs.{Floats.wordOf}
 use Rattle.execution.specs.{declared.fills.Exit.Exit, declared.fills.Exit.the-variants.NoExit, declared.fills.Exit.the-variants.Exited}
 use Rattle.engine.specs.{Books.Point, Books.wordsOfPoint, Books.lastBecomes, Finish.remarked, Whole.endPoints}

@@ -3,8 +3,9 @@ use Rattle.words.specs.Prelude.{ℕ, _≤_, _≡_, refl, sym, Bool, true, false
 use Rattle.words.specs.{declared.refusal.Refusal.Refusal, Outcome.refusal}
 use Rattle.records.specs.{declared.settings.Settings.Settings, declared.state.State.State, Lent.Lists, Lent.Rooms, Lent.rowPlaces, State.freshState}
 use Rattle.refusals.specs.{declared.verdict.Verdict.Verdict, declared.verdict.Verdict.the-variants.Bad, Bar.barLines, Judgement.runLines, Judgement.stepLines}
-use Rattle.refusals.specs.{Laws.Lines.never, Laws.Lines.and-true, Lines.Line, Lines.judged, Lists.listLines, Rooms.roomLines, Rooms.stateLines, Rooms.placeLines}
-use Rattle.refusals.specs.{Settings.sizingLines, Settings.slippageLines, Settings.riskLines, Settings.termLines, Settings.entryLines, Settings.settingLines}
+use Rattle.refusals.specs.{Laws.Lines.never, Laws.Lines.and-true, Lines.Line, Lines.judged, Lists.listLines, Rooms.roomLines, Rooms.stateLines}
+use Rattle.refusals.specs.{Rooms.placeLines, Settings.sizingLines, Settings.slippageLines, Settings.riskLines, Settings.termLines, Settings.entryLines}
+use Rattle.refusals.specs.{Settings.settingLines}
 use Rattle.engine.specs.{Boxes.Sound, Laws.Runs.run-ends, Run.runOver, Step.sizeLines, Step.stepVerdict}
 use Rattle.runs.specs.{Laws.Alike.step-sound, Laws.TwoRuns.fresh-sound}
 

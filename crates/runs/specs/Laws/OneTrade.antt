@@ -8,8 +8,8 @@ use Rattle.execution.specs.{Fills.executeExit, Intrabar.applyIntrabarExits}
 use Rattle.records.specs.{declared.state.Order.Order, declared.state.Position.Position, declared.settings.Settings.Settings, declared.state.State.State}
 use Rattle.records.specs.{Bar.candleOf, Lent.Lists, Lent.Rooms, Lent.tradePlaces}
 use Rattle.engine.specs.{declared.account.Due.Due, declared.account.Due.the-variants.Waits, declared.account.Due.the-variants.Enters}
-use Rattle.engine.specs.{declared.account.Due.the-variants.Leaves, declared.account.Filled.Filled, Account.leaving, Account.facing, Account.entered, Account.dueOf}
-use Rattle.engine.specs.{Account.doneOf, Account.filled, Account.intrabar, Books.Held, Books.booked, Step.stepped}
+use Rattle.engine.specs.{declared.account.Due.the-variants.Leaves, declared.account.Filled.Filled, Account.leaving, Account.facing, Account.entryFilled}
+use Rattle.engine.specs.{Account.dueOf, Account.doneOf, Account.filled, Account.intrabar, Books.Held, Books.booked, Step.stepped}
 use lib.Ieee as Ieee
 use Rattle.floats.specs.Floats as Floats
 use Rattle.engine.specs.Account as Account
@@ -32,12 +32,12 @@ unfolding leaving
 left-flat true p d h c e = h
 left-flat false p d h c e = never c e
 
-exit-flat : (s : Settings) (p : Position) (k : Candle) → Flat (Account.exited s p k)
-unfolding Account.exited executeExit
+exit-flat : (s : Settings) (p : Position) (k : Candle) → Flat (Account.exitFilled s p k)
+unfolding Account.exitFilled executeExit
 exit-flat s p k c e = left-flat (inPosition (facing p k .portfolio)) (facing p k) _ (closed-is-flat _ _ _ _ _) c e
 
 done-flat : (due : Due) (s : Settings) (p : Position) (k : Candle) (h : History) (number : ℕ) → Flat (doneOf due s p k h number)
-unfolding doneOf entered
+unfolding doneOf entryFilled
 done-flat (Waits o) s p k h number = never
 done-flat (Enters side kind price) s p k h number = never
 done-flat Leaves s p k h number = exit-flat s p k

@@ -3,8 +3,8 @@ use Rattle.words.specs.Prelude.{ℕ, _≡_, refl, Bool, true, false, cond, List
 use Rattle.rows.specs.{History.historyOf, History.lastRows}
 use Rattle.portfolio.specs.{Portfolio.inPosition}
 use Rattle.execution.specs.{Costs.chargeFunding, Intrabar.extremeWith, Intrabar.applyIntrabarExits}
-use Rattle.records.specs.{declared.state.Order.the-variants.Idle, declared.state.Position.Position, declared.settings.Settings.Settings, declared.state.State.State}
-use Rattle.records.specs.{Bar.candleOf, Lent.Lists, Lent.Rooms}
+use Rattle.records.specs.{declared.state.Order.the-variants.Idle, declared.state.Position.Position, declared.settings.Settings.Settings}
+use Rattle.records.specs.{declared.state.State.State, Bar.candleOf, Lent.Lists, Lent.Rooms}
 use Rattle.engine.specs.{Account.leaving, Account.dueOf, Account.doneOf, Account.filled, Account.intrabar, Account.charged, Books.booked, Decide.listSays}
 use Rattle.engine.specs.{Decide.stateAt, Decide.answersOf, Decide.ordered, Decide.openingOrder, Decide.orderAfter, Decide.decided, Step.stepped}
 use Rattle.runs.specs.{Laws.OneTrade.flat-faces}

@@ -6,16 +6,16 @@ use Rattle.execution.specs.{declared.optional.Optional.the-variants.Absent, dec
 use Rattle.execution.specs.{declared.level.OrderKind.OrderKind, Level.levelFill}
 use Rattle.records.specs.{declared.state.Order.the-variants.EnterLong, declared.state.Order.the-variants.EnterShort, declared.state.Position.Position}
 use Rattle.records.specs.{declared.settings.Settings.Settings, declared.state.State.State, Bar.candleOf, Lent.Lists, Lent.Rooms}
-use Rattle.engine.specs.{Account.waiting, Account.reached, Account.dueOf, Account.doneOf, Account.filled, Decide.orderAfter, Decide.decided, Step.stepped}
+use Rattle.engine.specs.{Account.waiting, Account.dueIfReached, Account.dueOf, Account.doneOf, Account.filled, Decide.orderAfter, Decide.decided, Step.stepped}
 
 module _ (s : Settings) (p : Position) (k : Candle) (before : History) (number : ℕ) (kind : OrderKind) where
   -- not reached: the fill leaves the order and the position as they were, and closes no trade
   pub long-not-reached : levelFill Long kind k ≡ Absent → filled s (EnterLong 0 kind) p k before number ≡ waiting (EnterLong 0 kind) p
-  unfolding filled dueOf doneOf reached
+  unfolding filled dueOf doneOf dueIfReached
   long-not-reached h = simp (h)
 
   pub short-not-reached : levelFill Short kind k ≡ Absent → filled s (EnterShort 0 kind) p k before number ≡ waiting (EnterShort 0 kind) p
-  unfolding filled dueOf doneOf reached
+  unfolding filled dueOf doneOf dueIfReached
   short-not-reached h = simp (h)
 
 module _ (s : Settings) (t : State) (bar : List ℕ) (m : Rooms) (ls : Lists) (kind : OrderKind) where

@@ -2,8 +2,8 @@
 use Rattle.words.specs.Prelude.{ℕ, _≤_, _<_, _≡_, refl, sym, _∙_, Bool, true, false, cond, _&&_, List, [], _∷_, _++_, arith, leb-true, le-leb, ltb, leb, eqb}
 use Rattle.words.specs.Prelude.{length}
 use Rattle.words.specs.{Limits.barWords, Limits.mostCount, declared.refusal.Refusal.Refusal, Outcome.refusal}
-use Rattle.records.specs.{declared.settings.Settings.Settings, declared.state.Counts.Counts, declared.state.State.State, Lent.Lists, Lent.Rooms, Lent.pointPlaces}
-use Rattle.records.specs.{Lent.tradePlaces}
+use Rattle.records.specs.{declared.settings.Settings.Settings, declared.state.Counts.Counts, declared.state.State.State, Lent.Lists, Lent.Rooms}
+use Rattle.records.specs.{Lent.pointPlaces, Lent.tradePlaces}
 use Rattle.refusals.specs.{declared.verdict.Verdict.Verdict, declared.verdict.Verdict.the-variants.Fine, declared.verdict.Verdict.the-variants.Bad}
 use Rattle.refusals.specs.{Judgement.runLines, Judgement.stepLines, Judgement.stepJudged, Judgement.finishLines, Judgement.finishJudged, Laws.Lines.never}
 use Rattle.refusals.specs.{Laws.Lines.below-fine, Laws.Lines.below-bad, Lines.Line, Lines.line, Lines.judged, Bar.barLines, Lists.listLines, Settings.lookback}

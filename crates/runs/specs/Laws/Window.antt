@@ -1,7 +1,7 @@
 -- The rows that a room holds, and the last D of them, when a row is added.
 use Rattle.words.specs.Prelude.{ℕ, _+_, _-_, _*_, _/_, _≤_, _<_, _≡_, refl, sym, ap, _∙_, Bool, true, false, List, _++_, add-mul, le-div-iff-mul-le}
-use Rattle.words.specs.Prelude.{mul-add-div-right, mul-div-cancel, mul-le-mul-right, arith, ltb-true, ltb-false, lt-ltb, le-ltb, ne-eqb, ltb, length, take, drop}
-use Rattle.words.specs.Prelude.{length-append, length-drop, length-take-le, drop-drop, take-at}
+use Rattle.words.specs.Prelude.{mul-add-div-right, mul-div-cancel, mul-le-mul-right, arith, ltb-true, ltb-false, lt-ltb, le-ltb, ne-eqb, ltb, length, take}
+use Rattle.words.specs.Prelude.{drop, length-append, length-drop, length-take-le, drop-drop, take-at}
 use Rattle.rows.specs.{History.width, History.lastRows, Room.withRow, Room.heldWith}
 use Rattle.engine.specs.{Record.heldRows}
 use lib.Seq.{drop-append-le}

@@ -3,17 +3,17 @@ use Rattle.words.specs.Prelude.{ℕ, _+_, _-_, _≤_, _<_, _≡_, refl, sym, ap
 use Rattle.words.specs.Prelude.{ltb-true, ltb-false, eqb-true, eqb-false}
 use Rattle.rows.specs.{History.History}
 use Rattle.table.specs.{Trees.Operand, Trees.prev, Trees.arith as sums}
-use Rattle.rules.specs.{declared.values.Value.Value, declared.values.Value.the-variants.Missing, Values.both, Values.compared, Values.crossed, Values.trended}
-use Rattle.rules.specs.{Meaning.there, Meaning.value, Meaning.newest, Laws.Missing.compared-late, Laws.Missing.crossed-first, Laws.Meaning.past}
+use Rattle.rules.specs.{declared.values.Value.Value, declared.values.Value.the-variants.Missing, Values.combined, Values.compared, Values.crossed}
+use Rattle.rules.specs.{Values.trended, Meaning.there, Meaning.value, Meaning.newest, Laws.Missing.compared-late, Laws.Missing.crossed-first, Laws.Meaning.past}
 use Rattle.steps.specs.{Machine.ago, Translation.trendTest}
 
 module _ (h : History) where
-  pub arith-ago : (k : ℕ) (a b : Operand) (n : ℕ) → ago h (sums k a b) n ≡ both k (ago h a n) (ago h b n)
-  unfolding ago value both
+  pub arith-ago : (k : ℕ) (a b : Operand) (n : ℕ) → ago h (sums k a b) n ≡ combined k (ago h a n) (ago h b n)
+  unfolding ago value combined
   arith-ago k a b n = go (ltb n (h .rows))
     where
-      go : (t : Bool) → cond t (both k (value h a (newest h - n)) (value h b (newest h - n))) Missing
-          ≡ both k (cond t (value h a (newest h - n)) Missing) (cond t (value h b (newest h - n)) Missing)
+      go : (t : Bool) → cond t (combined k (value h a (newest h - n)) (value h b (newest h - n))) Missing
+          ≡ combined k (cond t (value h a (newest h - n)) Missing) (cond t (value h b (newest h - n)) Missing)
       go true = refl
       go false = refl
 

@@ -1,9 +1,10 @@
 -- The classes of steps: the numbers in each, and what a step of a class says. Whoever goes by a class needs no number of a kind in it.
-use Rattle.words.specs.Prelude.{ℕ, _≤_, _<_, _≡_, refl, sym, Bool, true, false, true≢false, _&&_, arith, ltb, leb, leb-true, ltb-true, ltb-false, eq-eqb, ne-eqb}
-use Rattle.words.specs.Prelude.{le-leb, lt-ltb, le-ltb}
+use Rattle.words.specs.Prelude.{ℕ, _≤_, _<_, _≡_, refl, sym, Bool, true, false, true≢false, _&&_, arith, ltb, leb, leb-true, ltb-true, ltb-false, eq-eqb}
+use Rattle.words.specs.Prelude.{ne-eqb, le-leb, lt-ltb, le-ltb}
 use Rattle.steps.specs.{declared.step.Step.Step, declared.step.Op.the-variants.Arith, declared.step.Op.the-variants.Compare}
-use Rattle.steps.specs.{declared.step.Op.the-variants.Cross, declared.step.Op.the-variants.Between, declared.step.Op.the-variants.Unknown, Bytes.isOperation}
-use Rattle.steps.specs.{Bytes.isComparison, Bytes.isTest, Bytes.firstTest, Bytes.lowestSlot, Bytes.opOf, Bytes.operandOp, Bytes.testOp}
+use Rattle.steps.specs.{declared.step.Op.the-variants.Cross, declared.step.Op.the-variants.Between, declared.step.Op.the-variants.Unknown}
+use Rattle.steps.specs.{Bytes.isOperation, Bytes.isComparison, Bytes.isTestStep, Bytes.firstTest, Bytes.lowestSlot, Bytes.opOf, Bytes.operandOp}
+use Rattle.steps.specs.{Bytes.testOp}
 use Rattle.table.specs.Named as Named
 
 -- ---- a range, as it is asked for
@@ -59,8 +60,8 @@ unfolding isComparison
 comparison-is k r = rw (le-leb firstTest k (r .0), lt-ltb k Named.crossAbove (r .1))
 
 -- they test values
-comparison-tests : (k : ℕ) → isComparison k ≡ true → isTest k ≡ true
-unfolding isComparison isTest
+comparison-tests : (k : ℕ) → isComparison k ≡ true → isTestStep k ≡ true
+unfolding isComparison isTestStep
 comparison-tests k e = let r = range-in firstTest k Named.crossAbove e in rw (le-leb firstTest k (r .0), lt-ltb k Named.rising (omega (arith, r .1)))
 
 -- no cross is a comparison, nor is Between, nor what lies above
@@ -69,23 +70,23 @@ unfolding isComparison
 rest-compares-none k le = rw (le-leb firstTest k (omega arith), le-ltb k Named.crossAbove le)
 
 -- a test that is no comparison is a cross or Between
-pub test-rest : (k : ℕ) → isTest k ≡ true → isComparison k ≡ false → (Named.crossAbove ≤ k) × (k < Named.rising)
-unfolding isComparison isTest
+pub test-rest : (k : ℕ) → isTestStep k ≡ true → isComparison k ≡ false → (Named.crossAbove ≤ k) × (k < Named.rising)
+unfolding isComparison isTestStep
 test-rest k e none = let r = range-in firstTest k Named.rising e in (range-out firstTest k Named.crossAbove none (r .0), r .1)
 
 -- all that test values lie between the operations and All
-pub test-in : (k : ℕ) → isTest k ≡ true → (firstTest ≤ k) × (k < Named.all)
-unfolding isTest
+pub test-in : (k : ℕ) → isTestStep k ≡ true → (firstTest ≤ k) × (k < Named.all)
+unfolding isTestStep
 test-in k e = let r = range-in firstTest k Named.rising e in (r .0, omega (arith, r .1))
 
 -- what is none, and not below them, lies past them
-test-out : (k : ℕ) → isTest k ≡ false → firstTest ≤ k → Named.rising ≤ k
-unfolding isTest
+test-out : (k : ℕ) → isTestStep k ≡ false → firstTest ≤ k → Named.rising ≤ k
+unfolding isTestStep
 test-out k e le = range-out firstTest k Named.rising e le
 
 -- what does not lie there tests none
-pub no-test : (k : ℕ) → (firstTest ≤ k → Named.all ≤ k) → isTest k ≡ false
-no-test k out = not-true (isTest k) (λ e. let r = test-in k e in omega (arith, r .1, out (r .0)))
+pub no-test : (k : ℕ) → (firstTest ≤ k → Named.all ≤ k) → isTestStep k ≡ false
+no-test k out = not-true (isTestStep k) (λ e. let r = test-in k e in omega (arith, r .1, out (r .0)))
 
 -- ---- what a step of a class says
 
@@ -132,7 +133,7 @@ module _ (x : Step) where
       )
 
   -- a kind from the first test to All that is none says nothing
-  pub says-no-test : isTest (x .kind) ≡ false → firstTest ≤ x .kind → x .kind < Named.all → opOf x ≡ Unknown
+  pub says-no-test : isTestStep (x .kind) ≡ false → firstTest ≤ x .kind → x .kind < Named.all → opOf x ≡ Unknown
   unfolding testOp
   says-no-test none le l =
       let past = test-out (x .kind) none le in

@@ -1,16 +1,17 @@
 -- The steps of a tree answer what the tree means.
-use Rattle.words.specs.Prelude.{ℕ, _+_, _≡_, refl, sym, ap, _∙_, Bool, true, false, not, cond, _&&_, _||_, List, [], _∷_, _++_, append-assoc, append-nil, length}
+use Rattle.words.specs.Prelude.{ℕ, _+_, _≡_, refl, sym, ap, _∙_, Bool, true, false, not, cond, _&&_, _||_, List, [], _∷_, _++_, append-assoc, append-nil}
+use Rattle.words.specs.Prelude.{length}
 use Rattle.rows.specs.{History.History}
 use Rattle.table.specs.{Trees.Operand, Trees.const, Trees.ref, Trees.price, Trees.prev, Trees.arith as sums, Trees.extreme, Trees.Condition, Trees.Conditions}
 use Rattle.table.specs.{Trees.compare, Trees.cross, Trees.between, Trees.trend, Trees.every, Trees.any, Trees.negated, Trees.inPosition, Trees.barsSince}
 use Rattle.table.specs.{Trees.none, Trees.more}
 use Rattle.rules.specs.{declared.position.PositionState.PositionState, declared.values.Value.Value, Meaning.holds, Meaning.allHold, Meaning.anyHolds}
 use Rattle.rules.specs.{Meaning.newest, Meaning.says}
-use Rattle.steps.specs.{declared.step.Op.Op, declared.step.Op.the-variants.Arith, declared.step.Op.the-variants.Compare, declared.step.Op.the-variants.Cross}
-use Rattle.steps.specs.{declared.step.Op.the-variants.Between, declared.step.Op.the-variants.Turn, declared.step.Op.the-variants.JumpIf, Machine.Values}
-use Rattle.steps.specs.{Machine.ago, Machine.does, Machine.effect, Machine.after, Machine.run, Machine.start, Machine.answers, Translation.code}
-use Rattle.steps.specs.{Translation.codeOf, Translation.codeEach, Translation.trendTest, Laws.Ago.arith-ago, Laws.Ago.prev-ago, Laws.Ago.now-ago}
-use Rattle.steps.specs.{Laws.Ago.cross-ago, Laws.Ago.trend-ago}
+use Rattle.steps.specs.{declared.step.Op.Op, declared.step.Op.the-variants.Arith, declared.step.Op.the-variants.Compare}
+use Rattle.steps.specs.{declared.step.Op.the-variants.Cross, declared.step.Op.the-variants.Between, declared.step.Op.the-variants.Turn}
+use Rattle.steps.specs.{declared.step.Op.the-variants.JumpIf, Machine.Values, Machine.ago, Machine.does, Machine.effect, Machine.afterStep, Machine.run}
+use Rattle.steps.specs.{Machine.start, Machine.answers, Translation.code, Translation.codeOf, Translation.codeEach, Translation.trendTest}
+use Rattle.steps.specs.{Laws.Ago.arith-ago, Laws.Ago.prev-ago, Laws.Ago.now-ago, Laws.Ago.cross-ago, Laws.Ago.trend-ago}
 
 abbrev holding : Bool → List Value → Values
 holding b vs = record { stack = vs; answer = b }
@@ -22,7 +23,7 @@ module _ (h : History) (s : PositionState) where
   -- the steps of an operand push its value
   operand-run : (a : Operand) (n : ℕ) (xs : List Op) (v : Values)
       → run h s (code a n ++ xs) 0 v ≡ run h s xs 0 (push (ago h a n) v)
-  unfolding code run does effect after
+  unfolding code run does effect afterStep
   operand-run (const b) n xs v = refl
   operand-run (ref k) n xs v = refl
   operand-run (price k) n xs v = refl
@@ -56,14 +57,14 @@ module _ (h : History) (s : PositionState) where
   -- a child's answer b, and t for the rest: All (w is no) goes on at a yes, Any (w is yes) at a no
   each-next : (w b t : Bool) (ys xs : List Op) (vs : List Value) → run h s (ys ++ xs) 0 (holding (not w) vs) ≡ run h s xs 0 (holding t vs)
       → run h s (JumpIf w (length ys) ∷ ys ++ xs) 0 (holding b vs) ≡ run h s xs 0 (holding (cond w (b || t) (b && t)) vs)
-  unfolding run does effect after
+  unfolding run does effect afterStep
   each-next true true t ys xs vs ih = passed ys xs (holding true vs)
   each-next true false t ys xs vs ih = ih
   each-next false true t ys xs vs ih = ih
   each-next false false t ys xs vs ih = passed ys xs (holding false vs)
 
   mutual
-    unfolding codeOf holds run does effect after
+    unfolding codeOf holds run does effect afterStep
 
     pub condition-run : (c : Condition) (xs : List Op) (v : Values)
         → run h s (codeOf c ++ xs) 0 v ≡ run h s xs 0 (holding (holds h s c (newest h)) (v .stack))

@@ -1,16 +1,17 @@
 -- Steps written as bytes read back as the same steps.
-use Rattle.words.specs.Prelude.{ℕ, _+_, _-_, _*_, _/_, _%_, _<_, _≤_, _≡_, refl, _∙_, true, false, ⊎-elim, List, [], _∷_, _++_, append-assoc, arith, mod-eq-of-lt}
-use Rattle.words.specs.Prelude.{mod-add-div, div-div-eq-div-mul, length, getD, length-append, getD-append-add, lt-ltb}
+use Rattle.words.specs.Prelude.{ℕ, _+_, _-_, _*_, _/_, _%_, _<_, _≤_, _≡_, refl, _∙_, true, false, ⊎-elim, List, [], _∷_, _++_, append-assoc, arith}
+use Rattle.words.specs.Prelude.{mod-eq-of-lt, mod-add-div, div-div-eq-div-mul, length, getD, length-append, getD-append-add, lt-ltb}
 use Rattle.words.specs.{Limits.mostSteps, Laws.Numbers.less-or-not}
 use Rattle.table.specs.{declared.series.Series.Series, Bytes.u16, Bytes.u32, Bytes.u64}
 use Rattle.steps.specs.{declared.step.Step.Step, declared.step.Op.Op, declared.step.Op.the-variants.Const, declared.step.Op.the-variants.Ref}
 use Rattle.steps.specs.{declared.step.Op.the-variants.Price, declared.step.Op.the-variants.Arith, declared.step.Op.the-variants.Compare}
 use Rattle.steps.specs.{declared.step.Op.the-variants.Cross, declared.step.Op.the-variants.Between, declared.step.Op.the-variants.Answer}
 use Rattle.steps.specs.{declared.step.Op.the-variants.Turn, declared.step.Op.the-variants.InPosition, declared.step.Op.the-variants.BarsSinceEntry}
-use Rattle.steps.specs.{declared.step.Op.the-variants.JumpIf, declared.step.Op.the-variants.Extreme, declared.step.Op.the-variants.Unknown, Bytes.readStep}
-use Rattle.steps.specs.{Bytes.stepAt, Bytes.stepsRun, Bytes.slotKind, Bytes.isOperation, Bytes.isComparison, Bytes.isTest, Bytes.extremeOp, Bytes.operandOp}
-use Rattle.steps.specs.{Bytes.testOp, Bytes.fields, Bytes.answerOp, Bytes.opOf, Bytes.opsFrom, Bytes.opsOf, Bytes.extremeStep, Bytes.stepOf, Bytes.stepBytes}
-use Rattle.steps.specs.{Bytes.bytesOf, Laws.Classes.says-arith, Laws.Classes.says-compare, Laws.Classes.says-cross}
+use Rattle.steps.specs.{declared.step.Op.the-variants.JumpIf, declared.step.Op.the-variants.Extreme, declared.step.Op.the-variants.Unknown}
+use Rattle.steps.specs.{Bytes.readStep, Bytes.stepAt, Bytes.stepsRun, Bytes.slotKind, Bytes.isOperation, Bytes.isComparison, Bytes.isTestStep}
+use Rattle.steps.specs.{Bytes.extremeOp, Bytes.operandOp, Bytes.testOp, Bytes.fields, Bytes.answerOp, Bytes.opOf, Bytes.opsFrom, Bytes.opsOf}
+use Rattle.steps.specs.{Bytes.extremeStep, Bytes.stepOf, Bytes.stepBytes, Bytes.bytesOf, Laws.Classes.says-arith, Laws.Classes.says-compare}
+use Rattle.steps.specs.{Laws.Classes.says-cross}
 use Rattle.table.specs.declared.series.Series.the-variants as Over
 
 -- ---- the fields that a step has room for
@@ -85,7 +86,7 @@ step-back x rest z =
 
 -- Highest or Lowest, over a price or a slot
 extreme-back : (kind : ℕ) (over : Series) (n back : ℕ) → 9 ≤ kind → kind ≤ 10 → opOf (extremeStep kind over n (back + (n - 1))) ≡ Extreme kind over n back
-unfolding opOf isTest operandOp isOperation extremeOp extremeStep slotKind
+unfolding opOf isTestStep operandOp isOperation extremeOp extremeStep slotKind
 extreme-back kind over n back low high =
     ⊎-elim (λ (less : kind < 10). let nine : kind ≡ 9 = omega arith in rw nine (highest over))
     (λ (more : 10 ≤ kind). let ten : kind ≡ 10 = omega arith in rw ten (lowest over)) (less-or-not kind 10)
@@ -103,7 +104,7 @@ extreme-back kind over n back low high =
 
 -- and say what was to be said
 pub says-back : (x : Op) → Sayable x → opOf (stepOf x) ≡ x
-unfolding Sayable stepOf opOf isTest isComparison operandOp testOp answerOp
+unfolding Sayable stepOf opOf isTestStep isComparison operandOp testOp answerOp
 says-back (Const bits n) s = refl
 says-back (Ref k n) s = refl
 says-back (Price p n) s = refl

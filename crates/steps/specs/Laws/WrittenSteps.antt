@@ -3,16 +3,16 @@ use Rattle.words.specs.Prelude.{ℕ, _+_, _-_, _*_, _%_, _<_, _≤_, _≡_, ref
 use Rattle.words.specs.Prelude.{le-ltb, le-leb, eq-eqb}
 use Rattle.words.specs.{Limits.mostSlots, Limits.mostRows, Limits.mostSteps}
 use Rattle.table.specs.{declared.series.Series.Series}
-use Rattle.steps.specs.{declared.step.Op.Op, declared.step.Op.the-variants.Extreme, declared.step.Op.the-variants.Const, declared.step.Op.the-variants.Ref}
-use Rattle.steps.specs.{declared.step.Op.the-variants.Price, declared.step.Op.the-variants.Arith, declared.step.Op.the-variants.Compare}
-use Rattle.steps.specs.{declared.step.Op.the-variants.Cross, declared.step.Op.the-variants.Between, declared.step.Op.the-variants.Answer}
-use Rattle.steps.specs.{declared.step.Op.the-variants.Turn, declared.step.Op.the-variants.InPosition, declared.step.Op.the-variants.BarsSinceEntry}
-use Rattle.steps.specs.{declared.step.Op.the-variants.JumpIf, declared.wellformed.Formed.the-variants.Well, Bytes.extremeStep, Bytes.stepOf, Bytes.stepBytes}
-use Rattle.steps.specs.{Bytes.bytesOf, Bytes.stepsIn, Bytes.opsOf, WellFormed.zeros, WellFormed.rowsFit, WellFormed.plain, WellFormed.seriesWithin}
-use Rattle.steps.specs.{WellFormed.looksWithin, WellFormed.bounded, WellFormed.goodStep, WellFormed.formedFrom, WellFormed.formed}
-use Rattle.steps.specs.{Laws.Encoding.SayableSeries, Laws.Encoding.Sayable, Laws.Encoding.AllSayable, Laws.Encoding.says-back, Laws.Encoding.step-there}
-use Rattle.steps.specs.{Laws.Encoding.steps-long, Laws.Encoding.ops-of-bytes, Laws.TranslatedSteps.SeriesRight, Laws.TranslatedSteps.FieldsRight}
-use Rattle.steps.specs.{Laws.TranslatedSteps.AllFieldsRight}
+use Rattle.steps.specs.{declared.step.Op.Op, declared.step.Op.the-variants.Extreme, declared.step.Op.the-variants.Const}
+use Rattle.steps.specs.{declared.step.Op.the-variants.Ref, declared.step.Op.the-variants.Price, declared.step.Op.the-variants.Arith}
+use Rattle.steps.specs.{declared.step.Op.the-variants.Compare, declared.step.Op.the-variants.Cross, declared.step.Op.the-variants.Between}
+use Rattle.steps.specs.{declared.step.Op.the-variants.Answer, declared.step.Op.the-variants.Turn, declared.step.Op.the-variants.InPosition}
+use Rattle.steps.specs.{declared.step.Op.the-variants.BarsSinceEntry, declared.step.Op.the-variants.JumpIf, declared.wellformed.Formed.the-variants.Well}
+use Rattle.steps.specs.{Bytes.extremeStep, Bytes.stepOf, Bytes.stepBytes, Bytes.bytesOf, Bytes.stepsIn, Bytes.opsOf, WellFormed.zeros, WellFormed.rowsFit}
+use Rattle.steps.specs.{WellFormed.unusedFieldsZero, WellFormed.seriesWithin, WellFormed.looksWithin, WellFormed.bounded, WellFormed.goodStep}
+use Rattle.steps.specs.{WellFormed.formedFrom, WellFormed.formed, Laws.Encoding.SayableSeries, Laws.Encoding.Sayable, Laws.Encoding.AllSayable}
+use Rattle.steps.specs.{Laws.Encoding.says-back, Laws.Encoding.step-there, Laws.Encoding.steps-long, Laws.Encoding.ops-of-bytes}
+use Rattle.steps.specs.{Laws.TranslatedSteps.SeriesRight, Laws.TranslatedSteps.FieldsRight, Laws.TranslatedSteps.AllFieldsRight}
 use Rattle.table.specs.declared.series.Series.the-variants as Over
 
 module _ (K D : ℕ) (few : K ≤ mostSlots) (near : D ≤ mostRows) where
@@ -44,15 +44,15 @@ module _ (K D : ℕ) (few : K ≤ mostSlots) (near : D ≤ mostRows) where
 
   -- a look over rows, by what it looks over
   look-is : (kind : ℕ) (over : Series) (n back : ℕ) → 1 ≤ n → SeriesRight K over → back + (n - 1) < D
-      → (plain (extremeStep kind over n (back + (n - 1))) (Extreme kind over n back) && looksWithin K D over n back) ≡ true
-  unfolding SeriesRight plain rowsFit extremeStep looksWithin seriesWithin
+      → (unusedFieldsZero (extremeStep kind over n (back + (n - 1))) (Extreme kind over n back) && looksWithin K D over n back) ≡ true
+  unfolding SeriesRight unusedFieldsZero rowsFit extremeStep looksWithin seriesWithin
   look-is kind (Over.Price p) n back some g near =
       rw (le-leb 1 n some, le-leb (n - 1) (back + (n - 1)) (omega arith), lt-ltb (back + (n - 1)) D near)
   look-is kind (Over.Slot k) n back some g near =
       rw (le-leb 1 n some, le-leb (n - 1) (back + (n - 1)) (omega arith), lt-ltb k K g, lt-ltb (back + (n - 1)) D near)
 
-  right-is : (after : ℕ) (x : Op) → FieldsRight K D after x → (plain (stepOf x) x && bounded K D after x) ≡ true
-  unfolding FieldsRight plain zeros bounded stepOf
+  right-is : (after : ℕ) (x : Op) → FieldsRight K D after x → (unusedFieldsZero (stepOf x) x && bounded K D after x) ≡ true
+  unfolding FieldsRight unusedFieldsZero zeros bounded stepOf
   right-is after (Const bits n) g = rw (lt-ltb n D (g .0))
   right-is after (Ref k n) g = rw (lt-ltb k K (g .0), lt-ltb n D (g .1))
   right-is after (Price p n) g = rw (lt-ltb n D (g .1))

@@ -6,11 +6,11 @@ use Rattle.words.specs.{Limits.mostReach, Limits.mostNesting, Limits.mostNodes,
 use Rattle.table.specs.{declared.places.Place.Place, declared.places.Place.the-variants.Nowhere, declared.places.Place.the-variants.At}
 use Rattle.table.specs.{declared.answer.Answer.Answer, declared.answer.Answer.the-variants.Accepted, declared.answer.Answer.the-variants.Refused}
 use Rattle.table.specs.{Header.newestVersion, Header.total, Header.count, Header.root, Header.headerRefusal, Nodes.nodeRight, Nodes.wrongNode, Order.fits}
-use Rattle.table.specs.{Order.misfit, Order.misfits, Order.orPlace, Order.ofFour, Forest.trees, Forest.sorts, Forest.Sorted, Forest.forestOf, Nesting.deeper}
-use Rattle.table.specs.{Nesting.tooDeep, Reach.treeReach, Reach.farAt, Reach.tooFar, Reach.rowsNeeded, Checked.orRefused, Checked.orHeader, Checked.from9}
-use Rattle.table.specs.{Checked.from8, Checked.from7, Checked.checkedUpTo, Checked.checked, Ends.endAt, Ends.endOfNode, Ends.endsAll, Ends.endsFor}
-use Rattle.table.specs.{Ends.endsBeside, Ends.Link, Ends.Linked, Laws.Ends.from-at, Laws.Header.HeaderRight, Laws.Header.header-right, Laws.Order.never-at}
-use Rattle.table.specs.{Laws.Order.test-held, Laws.Order.sorts-trees, Laws.Order.each, Laws.Order.link-end}
+use Rattle.table.specs.{Order.misfit, Order.misfits, Order.orPlace, Order.ofFour, Forest.trees, Forest.sorts, Forest.Sorted, Forest.forestOf}
+use Rattle.table.specs.{Nesting.deeper, Nesting.tooDeep, Reach.treeReach, Reach.farAt, Reach.tooFar, Reach.rowsNeeded, Checked.orRefused}
+use Rattle.table.specs.{Checked.orHeader, Checked.from9, Checked.from8, Checked.from7, Checked.checkedUpTo, Checked.checked, Ends.endAt, Ends.endOfNode}
+use Rattle.table.specs.{Ends.endsAll, Ends.endsFor, Ends.endsBeside, Ends.Link, Ends.Linked, Laws.Ends.from-at, Laws.Header.HeaderRight}
+use Rattle.table.specs.{Laws.Header.header-right, Laws.Order.never-at, Laws.Order.test-held, Laws.Order.sorts-trees, Laws.Order.each, Laws.Order.link-end}
 
 -- ---- from the answer to the rules
 

@@ -9,9 +9,9 @@ use Rattle.table.specs.{Header.headerRefusal}
 true-false : false ≡ true → ⊥
 true-false h = let z : _≡_ {A = ℕ} 0 1 = cc in omega arith
 
-pub both : (a b : Bool) → (a && b) ≡ true → (a ≡ true) × (b ≡ true)
-both true b h = (refl, h)
-both false b h = absurd (true-false h)
+pub and-parts : (a b : Bool) → (a && b) ≡ true → (a ≡ true) × (b ≡ true)
+and-parts true b h = (refl, h)
+and-parts false b h = absurd (true-false h)
 
 refused-not : (r x : ℕ) (b : Bool) → cond b r x ≡ 0 → (r ≡ 0 → ⊥) → (b ≡ false) × (x ≡ 0)
 refused-not r x true h some = absurd (some h)
@@ -41,12 +41,12 @@ header-right newest t h =
     let h3 = refused-not 3 _ (not (versionRight newest t)) (h2 .1) (λ z. omega arith) in
     let h4 = refused-not 4 _ (not (countsRight t)) (h3 .1) (λ z. omega arith) in
     let h5 = refused-not 5 _ (not (eqb (length t) (16 + 16 * total t))) (h4 .1) (λ z. omega arith) in
-    let v = both (leb 1 (version t)) (leb (version t) newest) (not-not _ (h3 .0)) in
-    let c5 = both _ (eqb (count t 0 + count t 1 + count t 2 + count t 3) (total t)) (not-not _ (h4 .0)) in
-    let c4 = both _ (not (ltb (count t 1) 1)) (c5 .0) in
-    let c3 = both _ (not (ltb (count t 0) 1)) (c4 .0) in
-    let c2 = both _ (not (ltb mostNodes (total t))) (c3 .0) in
-    let c1 = both (not (ltb mostSlots (slots t))) (not (ltb (total t) 2)) (c2 .0) in
+    let v = and-parts (leb 1 (version t)) (leb (version t) newest) (not-not _ (h3 .0)) in
+    let c5 = and-parts _ (eqb (count t 0 + count t 1 + count t 2 + count t 3) (total t)) (not-not _ (h4 .0)) in
+    let c4 = and-parts _ (not (ltb (count t 1) 1)) (c5 .0) in
+    let c3 = and-parts _ (not (ltb (count t 0) 1)) (c4 .0) in
+    let c2 = and-parts _ (not (ltb mostNodes (total t))) (c3 .0) in
+    let c1 = and-parts (not (ltb mostSlots (slots t))) (not (ltb (total t) 2)) (c2 .0) in
     record {
       mark = not-not _ (h2 .0);
       some-version = leb-true _ _ (v .0);

@@ -15,7 +15,7 @@ use Rattle.table.specs.{declared.kinds.ConditionClass.the-variants.Not, 
 use Rattle.table.specs.{declared.kinds.ConditionClass.the-variants.BarsSince, Kinds.kinds, Kinds.kindOf, Kinds.noKind, Kinds.constant, Kinds.reference}
 use Rattle.table.specs.{Kinds.price, Kinds.previous, Kinds.arithmetic, Kinds.extremum, Kinds.overASeries, Kinds.comparison, Kinds.crossing, Kinds.between}
 use Rattle.table.specs.{Kinds.trend, Kinds.allOf, Kinds.anyOf, Kinds.negation, Kinds.position, Kinds.barsSince, Kinds.secondVersion, Kinds.versions}
-use Rattle.table.specs.{Kinds.sinceOf, Ends.from, Laws.Header.both, Laws.Ends.from-at}
+use Rattle.table.specs.{Kinds.sinceOf, Ends.from, Laws.Header.and-parts, Laws.Ends.from-at}
 use Rattle.table.specs.Named as Named
 
 -- ---- what holds of the 32 rows, and of no row past them
@@ -52,7 +52,7 @@ as-told sort row all k l s = of-rows kindOf (asTold sort row) all k l ∙ rw (eq
 -- a number tested from both sides
 in-range : (low high k : ℕ) → (leb low k && leb k high) ≡ true → (low ≤ k) × (k ≤ high)
 in-range low high k h =
-    let sides = both (leb low k) (leb k high) h in
+    let sides = and-parts (leb low k) (leb k high) h in
     (leb-true low k (sides .0), leb-true k high (sides .1))
 
 -- ---- operands

@@ -1,7 +1,7 @@
 -- Laws of rule 7: where it is kept, each node has the children that its kind takes, and its end leads past its subtree.
 -- Assumes nothing.
-use Rattle.words.specs.Prelude.{_≡_, refl, sym, _∙_, ap, subst, Bool, true, false, cond, List, [], _∷_, _++_, append-assoc, ℕ, zero, suc, _+_, _-_, _≤_, _<_, arith}
-use Rattle.words.specs.Prelude.{zero-add, suc-add, add-zero, sub-zero, eqb-true, length, replicate, length-append, length-replicate, eqb}
+use Rattle.words.specs.Prelude.{_≡_, refl, sym, _∙_, ap, subst, Bool, true, false, cond, List, [], _∷_, _++_, append-assoc, ℕ, zero, suc, _+_, _-_, _≤_, _<_}
+use Rattle.words.specs.Prelude.{arith, zero-add, suc-add, add-zero, sub-zero, eqb-true, length, replicate, length-append, length-replicate, eqb}
 use Rattle.table.specs.{declared.places.Place.Place, declared.places.Place.the-variants.Nowhere, declared.places.Place.the-variants.At, Nodes.nodeAt}
 use Rattle.table.specs.{Nodes.sortAt, Nodes.childCountAt, Nodes.childSortAt, Nodes.childFitsAt, Order.fits, Forest.firstTrees, Forest.otherTrees}
 use Rattle.table.specs.{Forest.nodeOver, Forest.trees, Forest.size, Forest.sorts, Forest.Fitting, Forest.Sorted, Ends.placeOr, Ends.endAt, Ends.Link}

@@ -1,7 +1,7 @@
 -- The silent tests among the nodes of a forest, one node after another. Assumes nothing.
 use Rattle.words.specs.Prelude.{ℕ, zero, suc, _+_, _-_, _≤_, _<_, max, _≡_, refl, ap, _∙_, List, [], _++_, append-assoc, arith}
-use Rattle.table.specs.{Nodes.nodeAt, Nodes.childCountAt, Forest.Forest, Forest.firstTrees, Forest.otherTrees, Forest.nodeOver, Forest.trees, Reach.ownBack}
-use Rattle.table.specs.{Reach.weigh, Laws.Forest.left-suc, Silent.silentNode, Silent.silentNodes}
+use Rattle.table.specs.{Nodes.nodeAt, Nodes.childCountAt, Forest.Forest, Forest.firstTrees, Forest.otherTrees, Forest.nodeOver, Forest.trees}
+use Rattle.table.specs.{Reach.ownBack, Reach.weigh, Laws.Forest.left-suc, Silent.silentNode, Silent.silentNodes}
 use Rattle.table.specs.Forest as Forest
 
 module _ (d : ℕ) where

@@ -1,6 +1,6 @@
 -- A room that is filled place by place. Assumes nothing.
-use Rattle.words.specs.Prelude.{ℕ, zero, suc, _+_, _-_, _*_, _/_, _^_, _≤_, _<_, _≡_, refl, sym, ap, _∙_, List, [], _∷_, arith, div-one, ltb, length, take, drop}
-use Rattle.words.specs.Prelude.{set, lt-ltb, le-ltb}
+use Rattle.words.specs.Prelude.{ℕ, zero, suc, _+_, _-_, _*_, _/_, _^_, _≤_, _<_, _≡_, refl, sym, ap, _∙_, List, [], _∷_, arith, div-one, ltb, length, take}
+use Rattle.words.specs.Prelude.{drop, set, lt-ltb, le-ltb}
 use Rattle.text.specs.{Rooms.laid}
 
 module _ (f : ℕ → ℕ) where

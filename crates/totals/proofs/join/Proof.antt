@@ -92,8 +92,8 @@ returns-5 c =
     (less-as refl (traded-both a) (c .before .if5 .taken)) in
     (c .refused5 .ensures ∙ sym told, join-keeps _ _ _ told)
 
-both-requires : tie.Need-both-requires
-both-requires c κs =
+both-counts-requires : tie.Need-both-counts-requires
+both-counts-requires c κs =
     let d = c .before .before .before .before .before .before .before in
     let e = d .before .before .before .before in
     (small e .0, small-other d .0, small e .1, small-other d .1)
@@ -111,7 +111,7 @@ returns-6 c =
     let done = join-done totals other (e .before .before .before .before .before .before .if1 .left) (e .before .before .before .before .before .if2 .left)
     (fine-held e) (fine-other d) (at-most-as (traded-both a) refl (f .if5 .left)) in
     let counts =
-    c .before .before .before .before .before .before .before .before .before .before .before .before .before .both .ensures
+    c .before .before .before .before .before .before .before .before .before .before .before .before .before .both-counts .ensures
     ∙ ap (λ (l : List ℕ). bothCounts l (d .before .before .before .counts-of2 .result))
     (d .before .before .before .before .before .before .before .counts-of .ensures)
     ∙ ap (bothCounts (countsOf totals)) (d .before .before .before .counts-of2 .ensures) in
@@ -130,5 +130,5 @@ join-spec =
     (λ c κs. search needs) (λ c κs. search needs) (λ c. search needs) returns-3 (λ c κs. search needs) (λ c. search needs) (λ c κs. search needs)
     (λ c κs. search needs) (λ c. search needs) returns-4 (λ c. search needs) (λ c κs. small (c .before .before .before .before .before))
     (λ c. search needs) (λ c κs. small-other (c .before .before .before)) add-if5 (λ c κs. search needs) (λ c. search needs) returns-5
-    (λ c. search needs) (λ c. search needs) both-requires (λ c κs. search needs) (λ c. search needs) (λ c κs. search needs) (λ c. search needs)
+    (λ c. search needs) (λ c. search needs) both-counts-requires (λ c κs. search needs) (λ c. search needs) (λ c κs. search needs) (λ c. search needs)
     (λ c κs. search needs) (λ c. search needs) (λ c. search needs) (λ c κs. search needs) (λ c. search needs) returns-6)

@@ -5,8 +5,8 @@ use Rattle.words.specs.Prelude.{pow-pos, pow-mono, shl-lt, length, ℤ, pos, ne
 use Rattle.words.specs.Prelude.{odd-sign}
 use Rattle.words.specs.{Limits.mostCount}
 use Rattle.floats.specs.{Floats.floatOf, Floats.finite, Root.fieldUnits, Root.unitsOf}
-use Rattle.totals.specs.{Number.place, Exact.residue, Exact.signed, Exact.step, Exact.unitsIn, Exact.numberIn, Exact.wordsFor, Exact.sumSize, Trades.Trade}
-use Rattle.totals.specs.{Trades.pnlSum, Laws.Places.place-pow, Laws.Residues.signed-up, Laws.Residues.signed-down, Laws.Sums.number-for}
+use Rattle.totals.specs.{Number.place, Exact.residue, Exact.signed, Exact.step, Exact.unitsIn, Exact.numberIn, Exact.wordsFor, Exact.sumSize}
+use Rattle.totals.specs.{Trades.Trade, Trades.pnlSum, Laws.Places.place-pow, Laws.Residues.signed-up, Laws.Residues.signed-down, Laws.Sums.number-for}
 use Rattle.totals.specs.{Laws.Trades.Acceptable, Laws.Trades.none, Laws.Trades.more, Laws.Trades.acceptable-finite}
 use native.Mathlib.Nat.{add-le-add}
 use lib.IntN.{natAbs}

@@ -1,6 +1,6 @@
 -- Places of words, and the words of a number. Assumes nothing.
-use Rattle.words.specs.Prelude.{_≡_, refl, sym, ap, _∙_, List, [], _∷_, ℕ, zero, suc, _+_, _*_, _/_, _%_, _^_, _<_, mul-assoc, zero-add, suc-add, one-mul, mod-lt}
-use Rattle.words.specs.Prelude.{arith, length, pow-add, pow-pos}
+use Rattle.words.specs.Prelude.{_≡_, refl, sym, ap, _∙_, List, [], _∷_, ℕ, zero, suc, _+_, _*_, _/_, _%_, _^_, _<_, mul-assoc, zero-add, suc-add, one-mul}
+use Rattle.words.specs.Prelude.{mod-lt, arith, length, pow-add, pow-pos}
 use Rattle.totals.specs.{Number.place, Number.numberOf, Number.wordsOf, Number.AreWords}
 
 pub place-some : (i : ℕ) → 0 < place i

@@ -1,7 +1,7 @@
 -- Two's complement: numbers that are the same but for multiples of m, and the sums of whole numbers. Assumes nothing.
-use Rattle.words.specs.Prelude.{_≡_, refl, sym, ap, _∙_, Bool, true, false, cond, ℕ, zero, suc, _+_, _-_, _*_, _/_, _%_, _≤_, _<_}
-use Rattle.words.specs.Prelude.{add-mul, one-mul, zero-mul, mod-lt, mod-eq-of-lt, add-mul-mod-self-right, div-add-mod', arith, ltb-true, ltb-false, lt-ltb, le-ltb}
-use Rattle.words.specs.Prelude.{ltb, ℤ, pos, negsuc, _+ℤ_, subℕ}
+use Rattle.words.specs.Prelude.{_≡_, refl, sym, ap, _∙_, Bool, true, false, cond, ℕ, zero, suc, _+_, _-_, _*_, _/_, _%_, _≤_, _<_, add-mul, one-mul, zero-mul}
+use Rattle.words.specs.Prelude.{mod-lt, mod-eq-of-lt, add-mul-mod-self-right, div-add-mod', arith, ltb-true, ltb-false, lt-ltb, le-ltb, ltb, ℤ, pos, negsuc}
+use Rattle.words.specs.Prelude.{_+ℤ_, subℕ}
 use Rattle.totals.specs.{Number.shifted, Exact.residue, Exact.signed, Exact.step}
 
 pub record Same (m u v : ℕ) : Type 0 where

@@ -1,10 +1,11 @@
 -- The 34 words of a sum with a float more, and with another sum. Assumes nothing.
 use Rattle.words.specs.Prelude.{_≡_, sym, ap, subst, _∙_, false, List, ℕ, _%_, _^_, _<_, leb, length, ℤ, pos, _+ℤ_, +ℤ-assoc, +ℤ-idr}
 use Rattle.floats.specs.{Root.unitsOf}
-use Rattle.totals.specs.{Number.place, Number.numberOf, Number.wordsOf, Number.shifted, Number.AreWords, Exact.residue, Exact.signed}
-use Rattle.totals.specs.{Exact.unitsIn, Exact.numberIn, Exact.wordsFor, Exact.sumSize, Totals.sumWith, Laws.Places.place-some, Laws.Places.number-below}
-use Rattle.totals.specs.{Laws.Places.words-of-number, Laws.Places.length-words, Laws.Places.number-words, Laws.Places.are-words, Laws.Residues.residue-below}
-use Rattle.totals.specs.{Laws.Residues.residue-signed, Laws.Residues.residue-on, Laws.Residues.residue-join, Laws.Residues.residue-cut}
+use Rattle.totals.specs.{Number.place, Number.numberOf, Number.wordsOf, Number.shifted, Number.AreWords, Exact.residue, Exact.signed, Exact.unitsIn}
+use Rattle.totals.specs.{Exact.numberIn, Exact.wordsFor, Exact.sumSize, Totals.sumWith, Laws.Places.place-some, Laws.Places.number-below}
+use Rattle.totals.specs.{Laws.Places.words-of-number, Laws.Places.length-words, Laws.Places.number-words, Laws.Places.are-words}
+use Rattle.totals.specs.{Laws.Residues.residue-below, Laws.Residues.residue-signed, Laws.Residues.residue-on, Laws.Residues.residue-join}
+use Rattle.totals.specs.{Laws.Residues.residue-cut}
 
 -- the weight past the last word
 abbrev all : ℕ

@@ -2,8 +2,8 @@
 use Rattle.words.specs.Prelude.{_≡_, refl, sym, ap, _∙_, Bool, true, false, cond, _&&_, false≢true, List, [], _∷_, _++_, ℕ, zero, suc, _+_, _-_, _<_, _≤_}
 use Rattle.words.specs.Prelude.{zero-add, add-assoc, le-of-suc-le-suc, not-suc-le-zero, arith, leb-true, leb, length, ℤ, _+ℤ_, +ℤ-assoc, +ℤ-comm, +ℤ-idl}
 use Rattle.floats.specs.{Floats.floatOf, Floats.finite}
-use Rattle.totals.specs.{Exact.unitsIn, Trades.Trade, Trades.tradeAt, Trades.tradesFrom, Trades.acceptable, Trades.goodStart, Trades.bitOf, Trades.countOf}
-use Rattle.totals.specs.{Trades.pnlSum}
+use Rattle.totals.specs.{Exact.unitsIn, Trades.Trade, Trades.tradeAt, Trades.tradesFrom, Trades.acceptable, Trades.goodStart, Trades.bitOf}
+use Rattle.totals.specs.{Trades.countOf, Trades.pnlSum}
 
 -- trade i and those after it
 pub trades-next : (n i : ℕ) (words : List ℕ) → i < n → tradesFrom (n - i) i words ≡ tradeAt i words ∷ tradesFrom (n - (i + 1)) (i + 1) words

@@ -1,14 +1,15 @@
 -- By the node's shape; what is left of the nesting falls, and the conditions of All or Any come just above each of them. Their loops write
 -- links in place of the jumps, and then the jumps (Links.antt).
 use Rattle.words.specs.Prelude.{ℕ, _<_, _+_, _-_, _*_, _∙_, false, not, List, arith, needs, In, Measures, is, falls, and}
-use Rattle.rules.specs.{Flat.growCondition, Flat.conditionAt}
+use Rattle.rules.specs.{Flat.growCondition, Flat.flatConditionAt}
 use Rattle.steps.specs.{declared.step.Op.the-variants.Answer, declared.step.Op.the-variants.Turn, declared.step.Op.the-variants.InPosition}
 use Rattle.steps.specs.{declared.step.Op.the-variants.BarsSinceEntry, Bytes.stepOf}
-use Rattle.translation.proofs.{Writes.fits-first, Writes.fits-rest, Writes.fits-one, Writes.wrote-one, Writes.wrote-then, Writes.length-wrote, Links.Writing}
-use Rattle.translation.proofs.{Links.Closing, Links.begin, Links.next, Links.link-fits, Links.push, Links.turn, Links.pop, Links.finish, Conditions.ground}
-use Rattle.translation.proofs.{Conditions.grown, Conditions.code-none, Conditions.code-group, Conditions.code-not, Conditions.code-position}
-use Rattle.translation.proofs.{Conditions.code-since, Conditions.code-compare, Conditions.code-trend, Conditions.reach-group, Conditions.reach-not}
-use Rattle.translation.proofs.{Conditions.compare-reach, Conditions.trend-reach, +emit_condition+emit_each.statement, +emit_condition+emit_each.Tie.close}
+use Rattle.translation.proofs.{Writes.fits-first, Writes.fits-rest, Writes.fits-one, Writes.wrote-one, Writes.wrote-then, Writes.length-wrote}
+use Rattle.translation.proofs.{Links.Writing, Links.Closing, Links.begin, Links.next, Links.link-fits, Links.push, Links.turn, Links.pop, Links.finish}
+use Rattle.translation.proofs.{Conditions.ground, Conditions.grown, Conditions.code-none, Conditions.code-group, Conditions.code-not}
+use Rattle.translation.proofs.{Conditions.code-position, Conditions.code-since, Conditions.code-compare, Conditions.code-trend, Conditions.reach-group}
+use Rattle.translation.proofs.{Conditions.reach-not, Conditions.compare-reach, Conditions.trend-reach, +emit_condition+emit_each.statement}
+use Rattle.translation.proofs.{+emit_condition+emit_each.Tie.close}
 use Rattle.translation.proofs.emit_condition.Reads as emit-condition
 use Rattle.translation.proofs.emit_condition.Kinds as emit-condition-kinds
 use Rattle.translation.proofs.+emit_condition+emit_each.Lts-emit_condition as emit-condition-lts
@@ -58,7 +59,7 @@ emit-each-below t =
 
 abbrev emit-each-Inv-loop : emit-each-lts.InvT-loop
 emit-each-Inv-loop all n j t ends left room₀ at jump m₀ i₀ end₀ last₀ room m i end last =
-    Writing (not all) (conditionAt left t ends) ends n j room₀ at m last i end room
+    Writing (not all) (flatConditionAt left t ends) ends n j room₀ at m last i end room
 
 abbrev emit-each-μ-loop : emit-each-lts.MeasureT-loop
 emit-each-μ-loop all n j t ends left room₀ at jump m₀ i₀ end₀ last₀ room m i end last = m
@@ -66,8 +67,8 @@ emit-each-μ-loop all n j t ends left room₀ at jump m₀ i₀ end₀ last₀ r
 -- from the room before the first loop, which is not named here
 abbrev emit-each-Inv-loop2 : emit-each-lts.InvT-loop2
 emit-each-Inv-loop2 all n j t ends left room₀ at jump m₀ i end last₀ room m last =
-    (l : List ℕ) → Closing (not all) (conditionAt left t ends) ends n j l at m₀ last₀ end room₀
-    → Closing (not all) (conditionAt left t ends) ends n j l at m last end room
+    (l : List ℕ) → Closing (not all) (flatConditionAt left t ends) ends n j l at m₀ last₀ end room₀
+    → Closing (not all) (flatConditionAt left t ends) ends n j l at m last end room
 
 abbrev emit-each-μ-loop2 : emit-each-lts.MeasureT-loop2
 emit-each-μ-loop2 all n j t ends left room₀ at jump m₀ i end last₀ room m last = n - m

@@ -1,15 +1,15 @@
 -- The loop's invariant: the first of all is the first of what is left. Assumes nothing.
 use Rattle.words.specs.Prelude.{needs, _≡_, refl, sym, _∙_, arith}
 use Rattle.rows.specs.{History.historyOf}
-use Rattle.rules.specs.{Meaning.holds, Flat.conditionAt}
+use Rattle.rules.specs.{Meaning.holds, Flat.flatConditionAt}
 use Rattle.chain.specs.{Flat.firstAt}
 use Rattle.chain.proofs.{Going.first-is, Going.first-not, Going.first-none, walk.first_with.Statement.statement}
 use Rattle.chain.proofs.walk.first_with.Tie as tie
 
 abbrev Inv-loop : tie.InvT-loop
 Inv-loop answer n t ends rows slots s first bar left at₀ m₀ at m =
-    firstAt ends (λ j. holds (historyOf slots rows) s (conditionAt left t ends j) bar) answer n first
-    ≡ firstAt ends (λ j. holds (historyOf slots rows) s (conditionAt left t ends j) bar) answer m at
+    firstAt ends (λ j. holds (historyOf slots rows) s (flatConditionAt left t ends j) bar) answer n first
+    ≡ firstAt ends (λ j. holds (historyOf slots rows) s (flatConditionAt left t ends j) bar) answer m at
 
 abbrev μ-loop : tie.MeasureT-loop
 μ-loop answer n t ends rows slots s first bar left at₀ m₀ at m = m

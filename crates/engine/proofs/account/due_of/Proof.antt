@@ -14,13 +14,13 @@ due-of-spec =
     (λ c κs. search needs) (λ c. search needs) (λ c. search needs)
     (λ c. simp (lt-ltb _ _ (c .if3 .taken), c .before .before .order3 .given .1)) (λ c. simp (c .enum-told .given .1))
     (λ c. simp (
-      c .reached .ensures,
+      c .due-if-reached .ensures,
       c .before .level-fill .ensures,
       le-ltb _ _ (c .before .before .if1 .left),
       c .before .before .before .before .order .given .1,
     ))
     (λ c. simp (
-      c .reached2 .ensures,
+      c .due-if-reached2 .ensures,
       c .before .level-fill2 .ensures,
       le-ltb _ _ (c .before .before .if2 .left),
       c .before .before .before .before .order2 .given .1,

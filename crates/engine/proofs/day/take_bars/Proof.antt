@@ -2,7 +2,8 @@
 use Rattle.words.specs.Prelude.{_+_, _-_, _∙_, div-le-self, arith, needs, length}
 use Rattle.records.specs.{Lent.rooms, Lent.lists}
 use Rattle.refusals.specs.{Laws.Fine.settings-fine}
-use Rattle.engine.proofs.{Days.Turn, Days.begins, Days.bar-ends, Days.bar-long, Days.one-more, Days.stops, Days.all-done, day.take_bars.Statement.statement}
+use Rattle.engine.proofs.{Days.Turn, Days.begins, Days.bar-ends, Days.bar-long, Days.one-more, Days.stops, Days.all-done}
+use Rattle.engine.proofs.{day.take_bars.Statement.statement}
 use Rattle.engine.proofs.day.take_bars.Tie as tie
 
 abbrev Inv-loop : tie.InvT-loop

@@ -1,8 +1,8 @@
 -- Each return is a place that `Placing` tells; nothing wraps, since what is held and the oldest end by the room's end. Assumes nothing.
 use Rattle.words.specs.Prelude.{arith, needs}
 use Rattle.words.specs.{Limits.rowWords}
-use Rattle.engine.proofs.{Placing.held-ends, Placing.oldest-ends, Placing.full, Placing.some-held, Placing.behind, Placing.behind-moved, Placing.over-oldest}
-use Rattle.engine.proofs.{Placing.next-row, Placing.next-first, record.place_for.Statement.statement}
+use Rattle.engine.proofs.{Placing.held-ends, Placing.oldest-ends, Placing.full, Placing.some-held, Placing.behind, Placing.behind-moved}
+use Rattle.engine.proofs.{Placing.over-oldest, Placing.next-row, Placing.next-first, record.place_for.Statement.statement}
 use Rattle.engine.proofs.record.place_for.Tie as tie
 
 mul-end : tie.Need-mul-end

@@ -18,7 +18,7 @@ returns-2 c =
     let none = slip .before .before in
     let probe = none .before .before in
     simp (
-      c .booked .ensures,
+      c .entry-with .ensures,
       c .before .within-volume .ensures,
       sized .quantity .ensures,
       slip .slippage-rate .ensures,

@@ -12,5 +12,5 @@ in-lots-spec =
     (λ c.
     let whole = c .before in
     let test = whole .before in
-    simp (c .counted .ensures, whole .floor .ensures, test .if3 .taken, test .before .if2 .left, test .before .before .if1 .left))
+    simp (c .counted .ensures, whole .as-u64 .ensures, test .if3 .taken, test .before .if2 .left, test .before .before .if1 .left))
     (λ c. simp (c .if3 .left, c .before .if2 .left, c .before .before .if1 .left)))

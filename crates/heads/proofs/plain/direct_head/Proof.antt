@@ -26,9 +26,9 @@ returns-2 c = λ h.
     let order = kind .before .before in
     let a = order .before .before .before .before .args in
     head-made (a .slots) (a .depth) (a .held) (a .w .now) (order .order-in .ensures) (kind .kind-in .ensures) (there .unless-zero .ensures)
-    (bar .unless-zero2 .ensures) (delay .unless-zero3 .ensures) (cash .plain .ensures) (quantity .plain2 .ensures) (price .plain3 .ensures)
-    (fee .plain4 .ensures) (fees .plain5 .ensures) (extreme .plain6 .ensures) (close .plain7 .ensures) (level-word .plain8 .ensures)
-    (level .unless-zero4 .ensures) (limit .limit-in .ensures) (funding .plain9 .ensures) (c .plain10 .ensures)
+    (bar .unless-zero2 .ensures) (delay .unless-zero3 .ensures) (cash .plain-word .ensures) (quantity .plain-word2 .ensures) (price .plain-word3 .ensures)
+    (fee .plain-word4 .ensures) (fees .plain-word5 .ensures) (extreme .plain-word6 .ensures) (close .plain-word7 .ensures) (level-word .plain-word8 .ensures)
+    (level .unless-zero4 .ensures) (limit .limit-in .ensures) (funding .plain-word9 .ensures) (c .plain-word10 .ensures)
 
 pub direct-head-spec : {M : Type 1} → statement M
 direct-head-spec =

@@ -2,7 +2,7 @@
 -- comes just above the conditions in it. The loop's invariant: the group says what is left of it says. Assumes nothing.
 use Rattle.words.specs.Prelude.{_≡_, refl, sym, arith, needs, ℕ, _+_, _*_, _<_, In, Measures, is, falls, and}
 use Rattle.rows.specs.{History.historyOf}
-use Rattle.rules.specs.{Meaning.holds, Flat.growConditions, Flat.group, Flat.growCondition, Flat.conditionAt}
+use Rattle.rules.specs.{Meaning.holds, Flat.growConditions, Flat.group, Flat.growCondition, Flat.flatConditionAt}
 use Rattle.rules.proofs.{Grown.no-condition, Grown.grown-condition, Groups.group-none, Groups.group-on, Groups.group-off, Groups.group-front}
 use Rattle.rules.proofs.{Groups.group-end, conditions.+eval_condition+eval_group.statement, conditions.+eval_condition+eval_group.Tie.close}
 use Rattle.rules.proofs.conditions.eval_condition.Reads as eval-condition
@@ -52,8 +52,8 @@ eval-group-below t =
 
 abbrev eval-group-Inv-loop : eval-group-lts.InvT-loop
 eval-group-Inv-loop all n t ends rows slots s first bar left at₀ m₀ at m =
-    holds (historyOf slots rows) s (group all (growConditions (conditionAt left t ends) ends n first)) bar
-    ≡ holds (historyOf slots rows) s (group all (growConditions (conditionAt left t ends) ends m at)) bar
+    holds (historyOf slots rows) s (group all (growConditions (flatConditionAt left t ends) ends n first)) bar
+    ≡ holds (historyOf slots rows) s (group all (growConditions (flatConditionAt left t ends) ends m at)) bar
 
 abbrev eval-group-μ-loop : eval-group-lts.MeasureT-loop
 eval-group-μ-loop all n t ends rows slots s first bar left at₀ m₀ at m = m

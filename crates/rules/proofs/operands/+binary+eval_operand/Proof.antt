@@ -2,7 +2,7 @@
 -- comes just above the operands that it calls. Assumes nothing.
 use Rattle.words.specs.Prelude.{sym, needs, ℕ, _+_, _*_, _<_, In, Measures, is, falls, and}
 use Rattle.rows.specs.{History.historyOf}
-use Rattle.rules.specs.{Values.both, Flat.growOperand, Laws.Meaning.past, Laws.Meaning.const-value, Laws.Meaning.ref-value, Laws.Meaning.price-value}
+use Rattle.rules.specs.{Values.combined, Flat.growOperand, Laws.Meaning.past, Laws.Meaning.const-value, Laws.Meaning.ref-value, Laws.Meaning.price-value}
 use Rattle.rules.specs.{Laws.Meaning.early-value, Laws.Meaning.prev-value, Laws.Meaning.arith-value, Laws.Meaning.extreme-value}
 use Rattle.rules.proofs.{Grown.no-operand, Grown.grown-operand, Grown.below, Grown.above, operands.+binary+eval_operand.statement}
 use Rattle.rules.proofs.{operands.+binary+eval_operand.Tie.close}
@@ -46,7 +46,7 @@ eval-operand-below t =
     eval-operand.Pre
 
 pub +binary+eval-operand-spec : {M : Type 1} → statement M
-unfolding both growOperand
+unfolding combined growOperand
 +binary+eval-operand-spec = close μ-binary μ-eval-operand (λ t. binary-lts.spec (
   eval-operand-below t,
   eval-operand.Post,

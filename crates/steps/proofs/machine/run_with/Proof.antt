@@ -88,7 +88,7 @@ arith-again c =
     rw (
       put .put2 .ensures .0,
       put .put2 .ensures .1,
-      put .before .both .ensures,
+      put .before .combined .ensures,
       left .left3 .ensures,
       left .before .at4 .ensures,
       left .before .before .before .before .at3 .ensures,
@@ -211,7 +211,7 @@ unfolding Tries
 look-stops c =
     let i = c .before .before .before in
     let loop = i .before .before .before .before .before .before .before .before .before .before .before in
-    rw (c .stopped .ensures) (omega (
+    rw (c .out-of-places .ensures) (omega (
       arith,
       loop .loop .inv .pushed,
       i .before .before .before .before .before .before .before .before .before .before .loop-test .taken,

@@ -1,5 +1,6 @@
 -- The steps are asked in their order, so the first bad one is the lowest: what is said of the whole list is what is said of it from p on.
-use Rattle.words.specs.Prelude.{needs, eq-eqb, ne-eqb, lt-ltb, le-ltb, arith, sub-zero, sub-one, ℕ, suc, _+_, _*_, _-_, _<_, _≤_, _≡_, refl, sym, _∙_, cond, List}
+use Rattle.words.specs.Prelude.{needs, eq-eqb, ne-eqb, lt-ltb, le-ltb, arith, sub-zero, sub-one, ℕ, suc, _+_, _*_, _-_, _<_, _≤_, _≡_, refl, sym, _∙_, cond}
+use Rattle.words.specs.Prelude.{List}
 use Rattle.steps.specs.{declared.wellformed.Formed.the-variants.Well, declared.wellformed.Formed.the-variants.Bad, Bytes.readStep, Bytes.stepAt}
 use Rattle.steps.specs.{Bytes.stepsIn, WellFormed.goodStep, WellFormed.formedFrom, WellFormed.formed}
 use Rattle.steps.proofs.{wellformed.check.Statement.statement}

@@ -8,5 +8,5 @@ pub good-step-spec : {M : Type 1} → statement M
 unfolding goodStep
 good-step-spec =
     tie.close (tie.spec (λ c κs. search needs) (λ c κs. search needs) (λ c κs. search needs)
-    (λ c. rw (← c .before .before .before .op-of .ensures, ← c .before .before .plain .ensures, c .before .if1 .taken) (c .bounded .ensures))
-    (λ c. rw (← c .before .before .op-of .ensures, ← c .before .plain .ensures, c .if1 .left)))
+    (λ c. rw (← c .before .before .before .op-of .ensures, ← c .before .before .unused-fields-zero .ensures, c .before .if1 .taken) (c .bounded .ensures))
+    (λ c. rw (← c .before .before .op-of .ensures, ← c .before .unused-fields-zero .ensures, c .if1 .left)))

@@ -1,6 +1,7 @@
 -- What is found is what is to be listed; where the list is too small nothing is put into it.
 use Rattle.words.specs.Prelude.{needs, sym, _∙_}
-use Rattle.table.proofs.{Listing.whole-all, Listing.answers-refused, Listing.answers-small, Listing.answers-lists, silent.silent_nodes.Statement.statement}
+use Rattle.table.proofs.{Listing.whole-all, Listing.answers-refused, Listing.answers-small, Listing.answers-lists}
+use Rattle.table.proofs.{silent.silent_nodes.Statement.statement}
 use Rattle.table.proofs.silent.silent_nodes.Tie as tie
 
 pub silent-nodes-spec : {M : Type 1} → statement M

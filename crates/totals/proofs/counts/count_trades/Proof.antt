@@ -3,7 +3,8 @@ use Rattle.words.specs.Prelude.{_≡_, refl, sym, ap, subst, _∙_, true, false
 use Rattle.words.specs.{Limits.tradeWords, Limits.mostCount}
 use Rattle.totals.specs.{Trades.Trade, Trades.tradeAt, Trades.tradesFrom, Trades.acceptable, Trades.goodStart, Totals.countSize, Totals.AllAtMost}
 use Rattle.totals.specs.{Totals.withCounts, Laws.Trades.trades-next, Laws.Trades.trades-none, Laws.Trades.good-next, Laws.Trades.good-ends}
-use Rattle.totals.specs.{Laws.Trades.acceptable-reason, Laws.Counts.counts-none, Laws.Counts.counts-twice, Laws.Counts.length-counts, Laws.Counts.one-more}
+use Rattle.totals.specs.{Laws.Trades.acceptable-reason, Laws.Counts.counts-none, Laws.Counts.counts-twice, Laws.Counts.length-counts}
+use Rattle.totals.specs.{Laws.Counts.one-more}
 use Rattle.totals.proofs.{Testing.so, Testing.not-so, counts.count_trades.Statement.statement}
 use Rattle.totals.proofs.counts.count_trades.Tie as tie
 

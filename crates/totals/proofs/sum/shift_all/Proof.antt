@@ -2,8 +2,8 @@
 use Rattle.words.specs.Prelude.{_≡_, sym, ap, _∙_, Bool, List, ℕ, _+_, _-_, _*_, _^_, _<_, _≤_, arith, add-one, needs}
 use Rattle.words.specs.Prelude.{length, take, getD, add-zero, take-length}
 use Rattle.totals.specs.{Number.place, Number.numberOf, Number.wordsOf, Number.shifted, Number.AreWords, Laws.Places.words-of-number}
-use Rattle.totals.specs.{Laws.Places.number-below, Laws.Places.place-some, Laws.Places.length-words, Laws.Places.number-words, Laws.Residues.shifted-below}
-use Rattle.totals.specs.{Laws.Residues.shifted-none, Laws.Residues.shifted-twice}
+use Rattle.totals.specs.{Laws.Places.number-below, Laws.Places.place-some, Laws.Places.length-words, Laws.Places.number-words}
+use Rattle.totals.specs.{Laws.Residues.shifted-below, Laws.Residues.shifted-none, Laws.Residues.shifted-twice}
 use Rattle.totals.proofs.{Digits.number-take, sum.shift_all.Statement.statement}
 use Rattle.totals.proofs.sum.shift_all.Tie as tie
 

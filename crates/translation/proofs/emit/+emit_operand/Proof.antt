@@ -1,11 +1,11 @@
 -- By the node's shape: a leaf is one step, Prev is its operand further back, arithmetic is its operands and one step more.
 use Rattle.words.specs.Prelude.{ℕ, _<_, _∙_, arith, needs, In, Measures, is, falls, and}
 use Rattle.steps.specs.{Bytes.stepOf}
-use Rattle.translation.proofs.{Writes.fits-first, Writes.fits-rest, Writes.fits-one, Writes.wrote-then, Writes.wrote-one, Operands.ground, Operands.a-const}
-use Rattle.translation.proofs.{Operands.a-ref, Operands.a-price, Operands.a-prev, Operands.a-sum, Operands.no-operand, Operands.code-const}
-use Rattle.translation.proofs.{Operands.code-ref, Operands.code-price, Operands.code-prev, Operands.code-sum, Operands.an-extreme, Operands.code-extreme}
-use Rattle.translation.proofs.{Operands.extreme-reach, Operands.prev-reach, Operands.first-reach, Operands.second-reach, emit.+emit_operand.statement}
-use Rattle.translation.proofs.{emit.+emit_operand.Tie.close}
+use Rattle.translation.proofs.{Writes.fits-first, Writes.fits-rest, Writes.fits-one, Writes.wrote-then, Writes.wrote-one, Operands.ground}
+use Rattle.translation.proofs.{Operands.a-const, Operands.a-ref, Operands.a-price, Operands.a-prev, Operands.a-sum, Operands.no-operand}
+use Rattle.translation.proofs.{Operands.code-const, Operands.code-ref, Operands.code-price, Operands.code-prev, Operands.code-sum, Operands.an-extreme}
+use Rattle.translation.proofs.{Operands.code-extreme, Operands.extreme-reach, Operands.prev-reach, Operands.first-reach, Operands.second-reach}
+use Rattle.translation.proofs.{emit.+emit_operand.statement, emit.+emit_operand.Tie.close}
 use Rattle.steps.specs.declared.step.Op.the-variants as Op
 use Rattle.translation.proofs.emit.emit_operand.Reads as emit-operand
 use Rattle.translation.proofs.emit.emit_operand.Kinds as emit-operand-kinds

@@ -1,12 +1,12 @@
 -- Arm by arm.
 use Rattle.words.specs.Prelude.{needs}
-use Rattle.steps.specs.{WellFormed.plain}
-use Rattle.steps.proofs.{wellformed.plain.Statement.statement}
-use Rattle.steps.proofs.wellformed.plain.Tie as tie
+use Rattle.steps.specs.{WellFormed.unusedFieldsZero}
+use Rattle.steps.proofs.{wellformed.unused_fields_zero.Statement.statement}
+use Rattle.steps.proofs.wellformed.unused_fields_zero.Tie as tie
 
-pub plain-spec : {M : Type 1} → statement M
-unfolding plain
-plain-spec =
+pub unused-fields-zero-spec : {M : Type 1} → statement M
+unfolding unusedFieldsZero
+unused-fields-zero-spec =
     tie.close (tie.spec (λ c. search needs) (λ c κs. search needs) (λ c. search needs) (λ c κs. search needs)
     (λ c. search needs) (λ c κs. search needs) (λ c. search needs) (λ c κs. search needs) (λ c. search needs)
     (λ c κs. search needs) (λ c. search needs) (λ c κs. search needs) (λ c. search needs) (λ c κs. search needs)

@@ -1,12 +1,12 @@
--- `booked`: a case each, then one test and `enter`.
+-- `entryWith`: a case each, then one test and `enter`.
 use Rattle.words.specs.Prelude.{needs}
-use Rattle.execution.specs.{Fills.booked}
-use Rattle.execution.proofs.{fills.booked.Statement.statement}
-use Rattle.execution.proofs.fills.booked.Tie as tie
+use Rattle.execution.specs.{Fills.entryWith}
+use Rattle.execution.proofs.{fills.entry_with.Statement.statement}
+use Rattle.execution.proofs.fills.entry_with.Tie as tie
 
-pub booked-spec : {M : Type 1} → statement M
-unfolding booked
-booked-spec =
+pub entry-with-spec : {M : Type 1} → statement M
+unfolding entryWith
+entry-with-spec =
     tie.close (tie.spec (λ c. search needs) (λ c. search needs) (λ c. search needs) (λ c κs. search needs)
     (λ c.
     let test = c .before in
