@@ -9,14 +9,21 @@ use Rattle.differences.specs.{Laws.Written.none-written, Laws.Written.no
 abbrev told : ℕ → List ℕ → Comparison
 told n room = record { answer = Lines n; room = room }
 
-module _ (e t e′ t′ room : List ℕ) (p n k few words : ℕ) (shared : p ≡ min (points e) (points e′)) (short : n ≡ min (trades t) (trades t′))
-    (first : k ≡ firstPoint e e′ 0 p) (other : few ≡ fewLines e t e′ t′ k p) (apart : words ≡ length (wordLines t t′ (tradeWords * n))) where
+-- what the code counts before it writes a line: points and trades that both have, the first point apart, the lines of one word each, and the words apart
+pub record Counted (e t e′ t′ : List ℕ) (p n k few words : ℕ) : Type 0 where
+  pub shared : p ≡ min (points e) (points e′)
+  pub short : n ≡ min (trades t) (trades t′)
+  pub first : k ≡ firstPoint e e′ 0 p
+  pub other : few ≡ fewLines e t e′ t′ k p
+  pub apart : words ≡ length (wordLines t t′ (tradeWords * n))
+
+module _ {e t e′ t′ : List ℕ} {p n k few words : ℕ} (got : Counted e t e′ t′ p n k few words) (room : List ℕ) where
   same : differences e t e′ t′ ≡ differencesFrom e t e′ t′ k p (tradeWords * n)
   unfolding differences
-  same = cc
+  same = rw (← got .shared, ← got .short, ← got .first)
 
   many : length (differencesFrom e t e′ t′ k p (tradeWords * n)) ≡ few + words
-  many = all-lines e t e′ t′ k p (tradeWords * n) ∙ cc
+  many = all-lines e t e′ t′ k p (tradeWords * n) ∙ rw (← got .other, ← got .apart)
 
   count : length (differences e t e′ t′) ≡ few + words
   count = ap length same ∙ many

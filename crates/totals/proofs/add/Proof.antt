@@ -44,9 +44,6 @@ small : (e : tie.Else3) → (length (e .before .before .before .counts-of .resul
     × AllAtMost mostCount (e .before .before .before .counts-of .result)
 small e = (ap length (e .before .before .before .counts-of .ensures) ∙ length-of _, fine-small _ (fine-read e))
 
-traded-requires : tie.Need-traded-requires
-traded-requires c κs = small (c .before)
-
 judged-few : (k n len : ℕ) → k ≤ n → n ≡ len / tradeWords → k * tradeWords ≤ len
 judged-few k n len h e = omega arith
 
@@ -111,8 +108,8 @@ returns-5 c =
 
 pub add-spec : {M : Type 1} → statement M
 add-spec =
-    tie.close (tie.spec (λ c κs. search needs) returns (λ c κs. search needs) returns-2 (λ c κs. search needs) (λ c. search needs) (λ c κs. search needs)
-    (λ c κs. search needs) (λ c. search needs) returns-3 (λ c. search needs) traded-requires (λ c κs. search needs) (λ c. search needs)
-    count-trades-requires (λ c κs. search needs) add-too-many (λ c κs. search needs) (λ c κs. search needs) (λ c. search needs) (λ c. search needs) returns-4
-    (λ c. search needs) (λ c κs. search needs) (λ c. search needs) (λ c κs. search needs) (λ c. search needs) (λ c κs. search needs) (λ c. search needs)
-    (λ c. search needs) (λ c κs. search needs) (λ c. search needs) returns-5)
+    tie.close (tie.spec (λ c κs. search needs) returns (λ c κs. search needs) returns-2 (λ c κs. search needs) (λ c. search needs)
+    (λ c κs. search needs) (λ c κs. search needs) (λ c. search needs) returns-3 (λ c. search needs) (λ c κs. small (c .before)) (λ c κs. search needs)
+    (λ c. search needs) count-trades-requires (λ c κs. search needs) add-too-many (λ c κs. search needs) (λ c κs. search needs) (λ c. search needs)
+    (λ c. search needs) returns-4 (λ c. search needs) (λ c κs. search needs) (λ c. search needs) (λ c κs. search needs) (λ c. search needs)
+    (λ c κs. search needs) (λ c. search needs) (λ c. search needs) (λ c κs. search needs) (λ c. search needs) returns-5)

@@ -56,12 +56,6 @@ returns-4 c =
     (e .before .before .before .before .before .if2 .left) (fine-held e) wrong in
     (c .refused4 .ensures ∙ sym told, join-keeps _ _ _ told)
 
-traded-requires : tie.Need-traded-requires
-traded-requires c κs = small (c .before .before .before .before .before)
-
-traded-requires-2 : tie.Need-traded-requires-2
-traded-requires-2 c κs = small-other (c .before .before .before)
-
 add-if5 : tie.Need-add-if5
 add-if5 c =
     let d = c .before .before .before .before in
@@ -132,8 +126,9 @@ returns-6 c =
 
 pub join-spec : {M : Type 1} → statement M
 join-spec =
-    tie.close (tie.spec (λ c κs. search needs) returns (λ c κs. search needs) returns-2 (λ c κs. search needs) (λ c. search needs) (λ c κs. search needs)
-    (λ c κs. search needs) (λ c. search needs) returns-3 (λ c κs. search needs) (λ c. search needs) (λ c κs. search needs) (λ c κs. search needs)
-    (λ c. search needs) returns-4 (λ c. search needs) traded-requires (λ c. search needs) traded-requires-2 add-if5 (λ c κs. search needs)
-    (λ c. search needs) returns-5 (λ c. search needs) (λ c. search needs) both-counts-requires (λ c κs. search needs) (λ c. search needs) (λ c κs. search needs)
-    (λ c. search needs) (λ c κs. search needs) (λ c. search needs) (λ c. search needs) (λ c κs. search needs) (λ c. search needs) returns-6)
+    tie.close (tie.spec (λ c κs. search needs) returns (λ c κs. search needs) returns-2 (λ c κs. search needs) (λ c. search needs)
+    (λ c κs. search needs) (λ c κs. search needs) (λ c. search needs) returns-3 (λ c κs. search needs) (λ c. search needs) (λ c κs. search needs)
+    (λ c κs. search needs) (λ c. search needs) returns-4 (λ c. search needs) (λ c κs. small (c .before .before .before .before .before))
+    (λ c. search needs) (λ c κs. small-other (c .before .before .before)) add-if5 (λ c κs. search needs) (λ c. search needs) returns-5
+    (λ c. search needs) (λ c. search needs) both-counts-requires (λ c κs. search needs) (λ c. search needs) (λ c κs. search needs) (λ c. search needs)
+    (λ c κs. search needs) (λ c. search needs) (λ c. search needs) (λ c κs. search needs) (λ c. search needs) returns-6)

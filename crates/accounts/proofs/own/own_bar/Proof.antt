@@ -1,18 +1,10 @@
 -- What does not fit changes nothing; else the parts are written.
-use Rattle.words.specs.Prelude.{_≡_, _+_, _<_, arith, lt-leb, le-leb, eqb-true, needs, length}
+use Rattle.words.specs.Prelude.{_+_, _<_, arith, lt-leb, le-leb, eqb-true, needs, length}
 use Rattle.words.specs.{Laws.Overwrite.overwrite-late}
 use Rattle.refusals.specs.{Laws.Descent.so, Laws.Descent.not-so}
 use Rattle.accounts.specs.{Laws.Own.own-length, Own.ownBar, Own.ownInto}
 use Rattle.accounts.proofs.{own.own_bar.Statement.statement}
 use Rattle.accounts.proofs.own.own_bar.Tie as tie
-
-returns : tie.Need-returns
-unfolding ownInto
-returns c = rw (not-so (c .before .is-whole .ensures) (c .if1 .taken))
-
-returns-2 : tie.Need-returns-2
-unfolding ownInto
-returns-2 c = rw (so (c .before .before .is-whole .ensures) (c .before .if1 .left), lt-leb _ _ (c .if2 .taken))
 
 add-if3 : tie.Need-add-if3
 add-if3 c =
@@ -51,4 +43,8 @@ returns-4 c = rw (
 ) (c .before .before .write-own .ensures)
 
 pub own-bar-spec : {M : Type 1} → statement M
-own-bar-spec = tie.close (tie.spec (λ c κs. search needs) returns returns-2 add-if3 returns-3 write-own-requires (λ c. search needs) returns-4)
+unfolding ownInto
+own-bar-spec =
+    tie.close (tie.spec (λ c κs. search needs) (λ c. rw (not-so (c .before .is-whole .ensures) (c .if1 .taken)))
+    (λ c. rw (so (c .before .before .is-whole .ensures) (c .before .if1 .left), lt-leb _ _ (c .if2 .taken))) add-if3 returns-3 write-own-requires
+    (λ c. search needs) returns-4)

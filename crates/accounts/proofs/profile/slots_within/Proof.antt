@@ -4,13 +4,8 @@ use Rattle.accounts.specs.{Profile.slotsWithin}
 use Rattle.accounts.proofs.{profile.slots_within.Statement.statement}
 use Rattle.accounts.proofs.profile.slots_within.Tie as tie
 
-returns : tie.Need-returns
-unfolding slotsWithin
-returns c = rw (← c .before .slots .ensures, lt-leb _ _ (c .if1 .taken))
-
-returns-2 : tie.Need-returns-2
-unfolding slotsWithin
-returns-2 c = rw (← c .before .before .slots .ensures, le-leb _ _ (c .before .if1 .left))
-
 pub slots-within-spec : {M : Type 1} → statement M
-slots-within-spec = tie.close (tie.spec (λ c κs. search needs) (λ c. search needs) returns returns-2)
+unfolding slotsWithin
+slots-within-spec =
+    tie.close (tie.spec (λ c κs. search needs) (λ c. search needs) (λ c. rw (← c .before .slots .ensures, lt-leb _ _ (c .if1 .taken)))
+    (λ c. rw (← c .before .before .slots .ensures, le-leb _ _ (c .before .if1 .left))))

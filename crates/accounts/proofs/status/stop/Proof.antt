@@ -4,9 +4,6 @@ use Rattle.accounts.specs.{Status.stoppedWith}
 use Rattle.accounts.proofs.{status.stop.Statement.statement}
 use Rattle.accounts.proofs.status.stop.Tie as tie
 
-returns : tie.Need-returns
-unfolding stoppedWith
-returns c = c .before .before .put .ensures
-
 pub stop-spec : {M : Type 1} → statement M
-stop-spec = tie.close (tie.spec (λ c. search needs) (λ c κs. search needs) (λ c. search needs) returns)
+unfolding stoppedWith
+stop-spec = tie.close (tie.spec (λ c. search needs) (λ c κs. search needs) (λ c. search needs) (λ c. c .before .before .put .ensures))

@@ -5,13 +5,8 @@ use Rattle.accounts.specs.{Stream.streamBarLines}
 use Rattle.accounts.proofs.{stream.judge_next.Statement.statement}
 use Rattle.accounts.proofs.stream.judge_next.Tie as tie
 
-returns : tie.Need-returns
-unfolding streamBarLines
-returns c = bad-line _ _ (le-ltb _ _ (c .if1 .taken))
-
-returns-2 : tie.Need-returns-2
-unfolding streamBarLines
-returns-2 c = fine-line _ _ (lt-ltb _ _ (c .before .if1 .left)) (c .judge-bar .ensures)
-
 pub judge-next-spec : {M : Type 1} → statement M
-judge-next-spec = tie.close (tie.spec returns (λ c κs. search needs) returns-2)
+unfolding streamBarLines
+judge-next-spec =
+    tie.close (tie.spec (λ c. bad-line _ _ (le-ltb _ _ (c .if1 .taken))) (λ c κs. search needs)
+    (λ c. fine-line _ _ (lt-ltb _ _ (c .before .if1 .left)) (c .judge-bar .ensures)))

@@ -5,14 +5,6 @@ use Rattle.accounts.specs.{Stream.streamLines}
 use Rattle.accounts.proofs.{stream.judge_stream.Statement.statement}
 use Rattle.accounts.proofs.stream.judge_stream.Tie as tie
 
-returns : tie.Need-returns
-unfolding streamLines
-returns c = bad-line _ _ (lt-leb _ _ (c .if1 .taken))
-
-returns-2 : tie.Need-returns-2
-unfolding streamLines
-returns-2 c = fine-line _ _ (le-leb _ _ (c .before .if1 .left)) (bad-line _ _ (lt-leb _ _ (c .if2 .taken)))
-
 returns-3 : tie.Need-returns-3
 unfolding streamLines wholeBars
 returns-3 c =
@@ -25,4 +17,8 @@ returns-4 c =
     fine-line _ _ (le-leb _ _ (c .before .before .if1 .left)) (fine-line _ _ (le-leb _ _ (c .before .if2 .left)) (bad-line _ _ (ne-eqb _ _ (c .if3 .left))))
 
 pub judge-stream-spec : {M : Type 1} → statement M
-judge-stream-spec = tie.close (tie.spec returns returns-2 (λ c. search needs) (λ c. search needs) returns-3 returns-4)
+unfolding streamLines
+judge-stream-spec =
+    tie.close (tie.spec (λ c. bad-line _ _ (lt-leb _ _ (c .if1 .taken)))
+    (λ c. fine-line _ _ (le-leb _ _ (c .before .if1 .left)) (bad-line _ _ (lt-leb _ _ (c .if2 .taken)))) (λ c. search needs) (λ c. search needs)
+    returns-3 returns-4)

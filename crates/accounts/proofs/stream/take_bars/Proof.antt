@@ -4,10 +4,6 @@ use Rattle.accounts.specs.{Stream.takenUnless, Stream.streamTaken}
 use Rattle.accounts.proofs.{stream.take_bars.Statement.statement}
 use Rattle.accounts.proofs.stream.take_bars.Tie as tie
 
-returns : tie.Need-returns
-unfolding streamTaken
-returns c = rw (eq-eqb _ _ (c .if1 .taken))
-
 returns-2 : tie.Need-returns-2
 unfolding streamTaken takenUnless
 returns-2 c = rw (
@@ -15,9 +11,6 @@ returns-2 c = rw (
   sym (c .before .before .before .judge-stream .ensures) ∙ c .before .refusal
       .given .1,
 )
-
-take-whole-requires : tie.Need-take-whole-requires
-take-whole-requires c κs = sym (c .before .before .judge-stream .ensures) ∙ c .enum-told .given .1
 
 returns-3 : tie.Need-returns-3
 unfolding streamTaken takenUnless
@@ -28,5 +21,7 @@ returns-3 c = rw (
 ) (c .take-whole .ensures)
 
 pub take-bars-spec : {M : Type 1} → statement M
+unfolding streamTaken
 take-bars-spec =
-    tie.close (tie.spec returns (λ c κs. search needs) (λ c. search needs) returns-2 (λ c. search needs) take-whole-requires returns-3)
+    tie.close (tie.spec (λ c. rw (eq-eqb _ _ (c .if1 .taken))) (λ c κs. search needs) (λ c. search needs) returns-2 (λ c. search needs)
+    (λ c κs. sym (c .before .before .judge-stream .ensures) ∙ c .enum-told .given .1) returns-3)

@@ -1,6 +1,6 @@
 -- Each turn judges a bar, and what is left of the bars is judged from there.
-use Rattle.words.specs.Prelude.{_+_, _-_, _/_, sym, _∙_, arith, needs, length}
-use Rattle.words.specs.{Laws.Records.records-fit, Laws.Records.record-ends, Limits.barWords}
+use Rattle.words.specs.Prelude.{_-_, _/_, sym, _∙_, arith, needs, length}
+use Rattle.words.specs.{Laws.Records.record-ends, Limits.barWords}
 use Rattle.accounts.specs.{Laws.Stream.stream-fine, Laws.Stream.tenth, Laws.Stream.LeftAfter, Laws.Stream.left-none, Laws.Stream.left-all}
 use Rattle.accounts.specs.{Laws.Stream.left-more, Laws.Stream.left-stops}
 use Rattle.accounts.proofs.{stream.take_whole.Statement.statement}
@@ -62,9 +62,6 @@ add-done c =
     let good = start .good in
     omega (arith, tenth (length (start .args .bars .now)) (start .args .slots) (test .before .loop .done) (test .loop-test .taken))
 
-loop-less : tie.Need-loop-less Inv-loop μ-loop
-loop-less c = omega (arith, c .before .before .before .before .loop-test .taken)
-
 loop-again : tie.Need-loop-again Inv-loop μ-loop
 loop-again c =
     let test = c .before .before .before .before in
@@ -78,5 +75,5 @@ returns-2 c = sym (left-all _ _ _ _ _ (c .before .loop .done) (c .loop-test .lef
 pub take-whole-spec : {M : Type 1} → statement M
 take-whole-spec =
     tie.close (tie.spec Inv-loop μ-loop add-width (λ c. search needs) (λ c. left-none _ _ _ _ _) mul-from add-to add-judge-next mul-judge-next
-    (λ c. search needs) (λ c. search needs) part-judge-next-end (λ c κs. search needs) (λ c. search needs) returns (λ c. search needs) add-done loop-less
-    loop-again returns-2)
+    (λ c. search needs) (λ c. search needs) part-judge-next-end (λ c κs. search needs) (λ c. search needs) returns (λ c. search needs) add-done
+    (λ c. omega (arith, c .before .before .before .before .loop-test .taken)) loop-again returns-2)

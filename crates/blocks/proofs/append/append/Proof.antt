@@ -4,14 +4,6 @@ use Rattle.blocks.specs.{Append.appended}
 use Rattle.blocks.proofs.{append.append.Statement.statement}
 use Rattle.blocks.proofs.append.append.Tie as tie
 
-returns : tie.Need-returns
-unfolding appended
-returns c = simp (le-ltb _ _ (c .before .if1 .taken), c .refused .ensures)
-
-returns-2 : tie.Need-returns-2
-unfolding appended
-returns-2 c = simp (lt-ltb _ _ (c .before .before .if1 .left), le-ltb _ _ (c .before .if2 .taken), c .refused2 .ensures)
-
 returns-3 : tie.Need-returns-3
 unfolding appended
 returns-3 c =
@@ -49,7 +41,9 @@ returns-5 c =
     )
 
 pub append-spec : {M : Type 1} → statement M
+unfolding appended
 append-spec =
-    tie.close (tie.spec (λ c κs. search needs) returns (λ c κs. search needs) returns-2 (λ c. search needs) (λ c. search needs)
-    (λ c κs. search needs) returns-3 (λ c κs. search needs) (λ c κs. search needs) (λ c. search needs) (λ c. search needs) (λ c. search needs)
-    returns-4 (λ c κs. search needs) returns-5)
+    tie.close (tie.spec (λ c κs. search needs) (λ c. simp (le-ltb _ _ (c .before .if1 .taken), c .refused .ensures)) (λ c κs. search needs)
+    (λ c. simp (lt-ltb _ _ (c .before .before .if1 .left), le-ltb _ _ (c .before .if2 .taken), c .refused2 .ensures)) (λ c. search needs)
+    (λ c. search needs) (λ c κs. search needs) returns-3 (λ c κs. search needs) (λ c κs. search needs) (λ c. search needs) (λ c. search needs)
+    (λ c. search needs) returns-4 (λ c κs. search needs) returns-5)

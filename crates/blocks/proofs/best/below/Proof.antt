@@ -3,8 +3,5 @@ use Rattle.words.specs.Prelude.{needs}
 use Rattle.blocks.proofs.{best.below.Statement.statement}
 use Rattle.blocks.proofs.best.below.Tie as tie
 
-returns : tie.Need-returns
-returns c = cc
-
 pub below-spec : {M : Type 1} → statement M
-below-spec = tie.close (tie.spec (λ c κs. search needs) (λ c κs. search needs) returns)
+below-spec = tie.close (tie.spec (λ c κs. search needs) (λ c κs. search needs) (λ c. cc))

@@ -10,10 +10,6 @@ Inv-loop closes bar n best₀ i₀ best i = (i ≤ n) × (best ≡ withCloses cl
 abbrev μ-loop : tie.MeasureT-loop
 μ-loop closes bar n best₀ i₀ best i = n - i
 
-loop-holds : tie.Need-loop-holds Inv-loop μ-loop
-unfolding withCloses
-loop-holds c = (search needs, refl)
-
 loop-again : tie.Need-loop-again Inv-loop μ-loop
 unfolding withCloses
 loop-again c =
@@ -31,6 +27,7 @@ returns c =
     c .before .loop .inv .1 ∙ ap (withCloses (start .closes .now) (start .from) (start .bar)) all
 
 pub singles-spec : {M : Type 1} → statement M
+unfolding withCloses
 singles-spec =
-    tie.close (tie.spec Inv-loop μ-loop loop-holds (λ c. search needs) (λ c. search needs) (λ c. search needs) (λ c. search needs)
+    tie.close (tie.spec Inv-loop μ-loop (λ c. (search needs, refl)) (λ c. search needs) (λ c. search needs) (λ c. search needs) (λ c. search needs)
     (λ c κs. search needs) (λ c κs. search needs) (λ c. search needs) (λ c. search needs) loop-again returns)

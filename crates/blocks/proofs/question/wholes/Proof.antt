@@ -10,10 +10,6 @@ Inv-loop blocks j n best₀ i₀ best i = (i ≤ n) × (best ≡ withBlocks bloc
 abbrev μ-loop : tie.MeasureT-loop
 μ-loop blocks j n best₀ i₀ best i = n - i
 
-loop-holds : tie.Need-loop-holds Inv-loop μ-loop
-unfolding withBlocks
-loop-holds c = (search needs, refl)
-
 loop-again : tie.Need-loop-again Inv-loop μ-loop
 unfolding withBlocks
 loop-again c =
@@ -31,6 +27,7 @@ returns c =
     c .before .loop .inv .1 ∙ ap (withBlocks (start .blocks .now) (start .from) (start .j)) all
 
 pub wholes-spec : {M : Type 1} → statement M
+unfolding withBlocks
 wholes-spec =
-    tie.close (tie.spec Inv-loop μ-loop loop-holds (λ c. search needs) (λ c κs. search needs) (λ c κs. search needs)
+    tie.close (tie.spec Inv-loop μ-loop (λ c. (search needs, refl)) (λ c. search needs) (λ c κs. search needs) (λ c κs. search needs)
     (λ c. search needs) (λ c. search needs) loop-again returns)

@@ -39,11 +39,8 @@ returns-2 c =
     let one = two .before .before in
     simp (sym (one .before .holds .ensures) ∙ one .if1 .taken, sym (two .before .exists .ensures) ∙ two .if2 .left, c .refused .ensures)
 
-returns-3 : tie.Need-returns-3
-unfolding stretched
-returns-3 c = simp (sym (c .before .before .holds .ensures) ∙ c .before .if1 .left, c .refused2 .ensures)
-
 pub stretch-spec : {M : Type 1} → statement M
+unfolding stretched
 stretch-spec =
     tie.close (tie.spec (λ c κs. search needs) (λ c κs. search needs) add-ask sub-ask ask-requires returns (λ c κs. search needs) returns-2
-    (λ c κs. search needs) returns-3)
+    (λ c κs. search needs) (λ c. simp (sym (c .before .before .holds .ensures) ∙ c .before .if1 .left, c .refused2 .ensures)))

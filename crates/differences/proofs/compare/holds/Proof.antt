@@ -13,11 +13,7 @@ all-fit r f w h = go (leb w (r / 5 - f)) refl
     go true e = let l : w ≤ r / 5 - f = leb-true w (r / 5 - f) e in sym (le-leb (5 * (f + w)) r (omega arith))
     go false e = let l : r / 5 - f < w = leb-false w (r / 5 - f) e in sym (lt-leb (5 * (f + w)) r (omega arith))
 
-returns : tie.Need-returns
-returns c = let start = c .before .args in few-fit (start .room) (start .few) (start .words) (c .if1 .taken)
-
-returns-2 : tie.Need-returns-2
-returns-2 c = let start = c .before .args in all-fit (start .room) (start .few) (start .words) (c .if1 .left)
-
 pub holds-spec : {M : Type 1} → statement M
-holds-spec = tie.close (tie.spec returns (λ c. search needs) returns-2)
+holds-spec =
+    tie.close (tie.spec (λ c. let start = c .before .args in few-fit (start .room) (start .few) (start .words) (c .if1 .taken)) (λ c. search needs)
+    (λ c. let start = c .before .args in all-fit (start .room) (start .few) (start .words) (c .if1 .left)))

@@ -21,10 +21,6 @@ explain-rows-requires c κs =
       f .places,
     )
 
-returns : tie.Need-returns
-unfolding unlessRefused
-returns c = (table-refused _ _ _ _ _ _ _ (c .before .before .before .check .ensures .0) (c .before .answer .given .1), refl, refl)
-
 returns-2 : tie.Need-returns-2
 unfolding unlessRefused
 returns-2 c =
@@ -52,7 +48,9 @@ returns-3 c =
     )
 
 pub explain-over-spec : {M : Type 1} → statement M
+unfolding unlessRefused
 explain-over-spec =
     tie.close (tie.spec (λ c κs. search needs) (λ c. search needs) (λ c. search needs) (λ c κs. search needs) (λ c. search needs)
-    (λ c κs. search needs) (λ c. search needs) (λ c. search needs) explain-rows-requires returns returns-2 (λ c. search needs) (λ c. search needs)
-    returns-3)
+    (λ c κs. search needs) (λ c. search needs) (λ c. search needs) explain-rows-requires
+    (λ c. (table-refused _ _ _ _ _ _ _ (c .before .before .before .check .ensures .0) (c .before .answer .given .1), refl, refl)) returns-2
+    (λ c. search needs) (λ c. search needs) returns-3)

@@ -1,5 +1,5 @@
 -- Those before position i are in order; the first that is not decides.
-use Rattle.words.specs.Prelude.{ℕ, _-_, _≤_, _≡_, true, sym, ap, _∙_, arith, needs}
+use Rattle.words.specs.Prelude.{_-_, _≤_, _≡_, true, sym, ap, _∙_, arith, needs}
 use Rattle.rules.specs.{Answers.stateRight}
 use Rattle.refusals.specs.{Laws.Every.every-none, Laws.Every.every-more, Laws.Every.every-no}
 use Rattle.questions.specs.{Position.allRight}
@@ -11,13 +11,6 @@ Inv-loop positions n i₀ i = (i ≤ n) × (allRight positions i ≡ true)
 
 abbrev μ-loop : tie.MeasureT-loop
 μ-loop positions n i₀ i = n - i
-
-loop-holds : tie.Need-loop-holds Inv-loop μ-loop
-unfolding allRight
-loop-holds c = (omega arith, every-none _)
-
-position-at-requires : tie.Need-position-at-requires Inv-loop μ-loop
-position-at-requires c κs = omega (arith, c .before .before .before .pre)
 
 loop-again : tie.Need-loop-again Inv-loop μ-loop
 unfolding allRight
@@ -43,6 +36,7 @@ returns-2 c =
     sym (ap (allRight (start .positions .now)) end ∙ l .inv .1)
 
 pub all-right-spec : {M : Type 1} → statement M
+unfolding allRight
 all-right-spec =
-    tie.close (tie.spec Inv-loop μ-loop loop-holds position-at-requires (λ c κs. search needs) (λ c. search needs) (λ c. omega arith) loop-again
-    returns returns-2)
+    tie.close (tie.spec Inv-loop μ-loop (λ c. (omega arith, every-none _)) (λ c κs. omega (arith, c .before .before .before .pre))
+    (λ c κs. search needs) (λ c. search needs) (λ c. omega arith) loop-again returns returns-2)

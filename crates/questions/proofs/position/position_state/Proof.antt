@@ -4,9 +4,7 @@ use Rattle.questions.specs.{Position.positionState}
 use Rattle.questions.proofs.{position.position_state.Statement.statement}
 use Rattle.questions.proofs.position.position_state.Tie as tie
 
-returns : tie.Need-returns
-unfolding positionState
-returns c = simp (c .entered-of .ensures, c .before .float-of .ensures)
-
 pub position-state-spec : {M : Type 1} → statement M
-position-state-spec = tie.close (tie.spec (λ c κs. search needs) (λ c κs. search needs) returns)
+unfolding positionState
+position-state-spec =
+    tie.close (tie.spec (λ c κs. search needs) (λ c κs. search needs) (λ c. simp (c .entered-of .ensures, c .before .float-of .ensures)))

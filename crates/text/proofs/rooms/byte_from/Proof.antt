@@ -4,9 +4,7 @@ use Rattle.text.specs.{Rooms.byteIn}
 use Rattle.text.proofs.{rooms.byte_from.Statement.statement}
 use Rattle.text.proofs.rooms.byte_from.Tie as tie
 
-returns : tie.Need-returns
-unfolding byteIn
-returns c = rw (c .moved .ensures, c .before .word-from .ensures)
-
 pub byte-from-spec : {M : Type 1} → statement M
-byte-from-spec = tie.close (tie.spec (λ c κs. search needs) (λ c. search needs) (λ c. search needs) returns)
+unfolding byteIn
+byte-from-spec =
+    tie.close (tie.spec (λ c κs. search needs) (λ c. search needs) (λ c. search needs) (λ c. rw (c .moved .ensures, c .before .word-from .ensures)))

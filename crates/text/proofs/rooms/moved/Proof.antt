@@ -4,21 +4,6 @@ use Rattle.text.specs.{Laws.Laid.moved-to, Laws.Laid.not-moved}
 use Rattle.text.proofs.{rooms.moved.Statement.statement}
 use Rattle.text.proofs.rooms.moved.Tie as tie
 
-returns : tie.Need-returns
-returns c = not-moved (c .before .args .word) (c .before .args .i) (omega arith)
-
-returns-2 : tie.Need-returns-2
-returns-2 c = let called = c .before .before .args in moved-to (called .word) (called .i) 6 (omega arith)
-
-returns-3 : tie.Need-returns-3
-returns-3 c = let called = c .before .before .before .args in moved-to (called .word) (called .i) 5 (omega arith)
-
-returns-4 : tie.Need-returns-4
-returns-4 c = let called = c .before .before .before .before .args in moved-to (called .word) (called .i) 4 (omega arith)
-
-returns-5 : tie.Need-returns-5
-returns-5 c = let called = c .before .before .before .before .before .args in moved-to (called .word) (called .i) 3 (omega arith)
-
 returns-6 : tie.Need-returns-6
 returns-6 c = let called = c .before .before .before .before .before .before .args in moved-to (called .word) (called .i) 2 (omega arith)
 
@@ -29,4 +14,10 @@ returns-8 : tie.Need-returns-8
 returns-8 c = let called = c .before .before .before .before .before .before .before .args in moved-to (called .word) (called .i) 0 (omega arith)
 
 pub moved-spec : {M : Type 1} → statement M
-moved-spec = tie.close (tie.spec returns returns-2 returns-3 returns-4 returns-5 returns-6 returns-7 returns-8)
+moved-spec =
+    tie.close (tie.spec (λ c. not-moved (c .before .args .word) (c .before .args .i) (omega arith))
+    (λ c. let called = c .before .before .args in moved-to (called .word) (called .i) 6 (omega arith))
+    (λ c. let called = c .before .before .before .args in moved-to (called .word) (called .i) 5 (omega arith))
+    (λ c. let called = c .before .before .before .before .args in moved-to (called .word) (called .i) 4 (omega arith))
+    (λ c. let called = c .before .before .before .before .before .args in moved-to (called .word) (called .i) 3 (omega arith)) returns-6 returns-7
+    returns-8)

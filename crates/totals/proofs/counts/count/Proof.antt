@@ -6,9 +6,6 @@ use Rattle.totals.proofs.{counts.count.Statement.statement}
 use Rattle.floats.specs.Floats as Floats
 use Rattle.totals.proofs.counts.count.Tie as tie
 
-add-ended : tie.Need-add-ended
-add-ended c = let start = c .before .before .before in omega (arith, start .pre .3 (start .args .reason - 1))
-
 add-wins : tie.Need-add-wins
 add-wins c =
     let start = c .before .before .before .before .before in
@@ -35,6 +32,7 @@ returns c =
 
 pub count-spec : {M : Type 1} → statement M
 count-spec =
-    tie.close (tie.spec (λ c κs. search needs) (λ c. search needs) (λ c. search needs) (λ c. search needs) add-ended
-    (λ c. search needs) (λ c κs. search needs) add-wins (λ c. search needs) (λ c κs. search needs) add-losses
-    (λ c. search needs) (λ c. search needs) (λ c. search needs) (λ c. search needs) (λ c. search needs) returns)
+    tie.close (tie.spec (λ c κs. search needs) (λ c. search needs) (λ c. search needs) (λ c. search needs)
+    (λ c. let start = c .before .before .before in omega (arith, start .pre .3 (start .args .reason - 1))) (λ c. search needs) (λ c κs. search needs)
+    add-wins (λ c. search needs) (λ c κs. search needs) add-losses (λ c. search needs) (λ c. search needs) (λ c. search needs) (λ c. search needs)
+    (λ c. search needs) returns)

@@ -59,28 +59,10 @@ loop-holds c =
 inside : (n i k len : ℕ) → i < n → k < tradeWords → n * tradeWords ≤ len → tradeWords * i + k < len
 inside n i k len h l f = omega arith
 
-mul-pnl : tie.Need-mul-pnl Inv-loop μ-loop
-mul-pnl c = let start = c .before .before .before .before in omega (arith, start .pre .1, c .loop-test .taken)
-
-add-pnl : tie.Need-add-pnl Inv-loop μ-loop
-add-pnl c = let start = c .before .before .before .before in omega (arith, start .pre .1, c .loop-test .taken)
-
-mul-pnl-2 : tie.Need-mul-pnl-2 Inv-loop μ-loop
-mul-pnl-2 c = let start = c .before .before .before .before in omega (arith, start .pre .1, c .loop-test .taken)
-
 shared-slice-read-pnl : tie.Need-shared-slice-read-pnl Inv-loop μ-loop
 shared-slice-read-pnl c =
     let start = c .before .before .before .before .before in
     inside (start .args .n) (c .before .before .loop .i) 5 _ (c .before .loop-test .taken) (omega arith) (start .pre .0)
-
-mul-reason : tie.Need-mul-reason Inv-loop μ-loop
-mul-reason c = let start = c .before .before .before .before .before in omega (arith, start .pre .1, c .before .loop-test .taken)
-
-add-reason : tie.Need-add-reason Inv-loop μ-loop
-add-reason c = let start = c .before .before .before .before .before in omega (arith, start .pre .1, c .before .loop-test .taken)
-
-mul-reason-2 : tie.Need-mul-reason-2 Inv-loop μ-loop
-mul-reason-2 c = let start = c .before .before .before .before .before in omega (arith, start .pre .1, c .before .loop-test .taken)
 
 shared-slice-read-reason : tie.Need-shared-slice-read-reason Inv-loop μ-loop
 shared-slice-read-reason c =
@@ -126,9 +108,6 @@ loop-again c =
           (goes-on (start .args .counts .now) trades (start .args .n) (l .counts) (l .i) taken fine (l .inv .3)),
     )
 
-same-length-2 : tie.Need-same-length-2 Inv-loop μ-loop
-same-length-2 c = c .before .loop .inv .1 ∙ sym (c .before .before .before .before .pre .2)
-
 returns-2 : tie.Need-returns-2 Inv-loop μ-loop
 unfolding goodStart
 returns-2 c =
@@ -140,6 +119,12 @@ returns-2 c =
 
 pub count-trades-spec : {M : Type 1} → statement M
 count-trades-spec =
-    tie.close (tie.spec Inv-loop μ-loop loop-holds mul-pnl add-pnl mul-pnl-2 shared-slice-read-pnl mul-reason add-reason mul-reason-2
-    shared-slice-read-reason (λ c κs. search needs) same-length returns count-requires (λ c. search needs) (λ c. search needs) loop-again
-    same-length-2 returns-2)
+    tie.close (tie.spec Inv-loop μ-loop loop-holds
+    (λ c. let start = c .before .before .before .before in omega (arith, start .pre .1, c .loop-test .taken))
+    (λ c. let start = c .before .before .before .before in omega (arith, start .pre .1, c .loop-test .taken))
+    (λ c. let start = c .before .before .before .before in omega (arith, start .pre .1, c .loop-test .taken)) shared-slice-read-pnl
+    (λ c. let start = c .before .before .before .before .before in omega (arith, start .pre .1, c .before .loop-test .taken))
+    (λ c. let start = c .before .before .before .before .before in omega (arith, start .pre .1, c .before .loop-test .taken))
+    (λ c. let start = c .before .before .before .before .before in omega (arith, start .pre .1, c .before .loop-test .taken)) shared-slice-read-reason
+    (λ c κs. search needs) same-length returns count-requires (λ c. search needs) (λ c. search needs) loop-again
+    (λ c. c .before .loop .inv .1 ∙ sym (c .before .before .before .before .pre .2)) returns-2)

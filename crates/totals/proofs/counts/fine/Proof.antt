@@ -20,10 +20,8 @@ returns c =
     let small = sym (c .before .before .before .before .all-small .ensures) ∙ c .before .before .before .if1 .taken in
     rw small (ap (leb (getD counts 6 0 + getD counts 7 0)) (c .traded .ensures))
 
-returns-2 : tie.Need-returns-2
-unfolding countsFine
-returns-2 c = rw (sym (c .before .all-small .ensures) ∙ c .if1 .left) refl
-
 pub fine-spec : {M : Type 1} → statement M
+unfolding countsFine
 fine-spec =
-    tie.close (tie.spec (λ c κs. search needs) (λ c. search needs) (λ c. search needs) add-result traded-requires returns returns-2)
+    tie.close (tie.spec (λ c κs. search needs) (λ c. search needs) (λ c. search needs) add-result traded-requires returns
+    (λ c. rw (sym (c .before .all-small .ensures) ∙ c .if1 .left) refl))

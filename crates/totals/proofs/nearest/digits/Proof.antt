@@ -19,12 +19,6 @@ less x t h n = omega arith
 some : (t : ℕ) → (t ≡ 0 → ⊥) → 0 < t
 some t n = omega arith
 
-cast-result : tie.Need-cast-result
-cast-result c = record { fits = fine _ (leading-le 64 (c .word .result)) }
-
-sub-result : tie.Need-sub-result
-sub-result c = less _ _ (leading-le 64 (c .word .result)) (c .before .if1 .left)
-
 returns-2 : tie.Need-returns-2
 returns-2 c =
     let ws = c .before .before .before .before .args .words .now in
@@ -34,5 +28,7 @@ returns-2 c =
     (c .before .if1 .left)))
 
 pub digits-spec : {M : Type 1} → statement M
-digits-spec = tie.close (tie.spec (λ c κs. search needs) returns (λ c. search needs) (λ c. search needs)
-    (λ c κs. search needs) cast-result sub-result returns-2)
+digits-spec =
+    tie.close (tie.spec (λ c κs. search needs) returns (λ c. search needs) (λ c. search needs) (λ c κs. search needs)
+    (λ c. record { fits = fine _ (leading-le 64 (c .word .result)) }) (λ c. less _ _ (leading-le 64 (c .word .result)) (c .before .if1 .left))
+    returns-2)

@@ -28,14 +28,7 @@ returns c =
 fine : (a b : ℕ) → a ≡ b → b < 2 ^ 53 → a < 2 ^ 64
 fine a b e h = omega arith
 
-add-result : tie.Need-add-result
-add-result c = record { fits = fine _ _ (sum c) (c .before .before .before .before .pre) }
-
-returns-2 : tie.Need-returns-2
-returns-2 c = sum c
-
 pub kept-spec : {M : Type 1} → statement M
 kept-spec =
-    tie.close
-    (tie.spec
-    (λ c κs. search needs) (λ c. search needs) returns (λ c. search needs) (λ c κs. search needs) (λ c. search needs) (λ c. search needs) add-result returns-2)
+    tie.close (tie.spec (λ c κs. search needs) (λ c. search needs) returns (λ c. search needs) (λ c κs. search needs) (λ c. search needs)
+    (λ c. search needs) (λ c. record { fits = fine _ _ (sum c) (c .before .before .before .before .pre) }) (λ c. sum c))

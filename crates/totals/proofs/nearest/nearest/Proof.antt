@@ -26,9 +26,6 @@ returns c =
     let ws = c .before .before .before .before .args .words .now in
     c .word .ensures ∙ nearest-small ws (le-of (c .before .before .digits .ensures) (c .before .if1 .taken))
 
-mul-b : tie.Need-mul-b
-mul-b c = record { fits = fine _ _ (c .before .digits .ensures) (most c) }
-
 kept-requires : tie.Need-kept-requires
 kept-requires c κs =
     let n = numberOf (c .before .before .before .args .words .now) in
@@ -79,5 +76,5 @@ returns-3 c =
 
 pub nearest-spec : {M : Type 1} → statement M
 nearest-spec =
-    tie.close
-    (tie.spec (λ c κs. search needs) (λ c κs. search needs) returns (λ c. search needs) mul-b kept-requires rounded-requires add-b returns-2 returns-3)
+    tie.close (tie.spec (λ c κs. search needs) (λ c κs. search needs) returns (λ c. search needs)
+    (λ c. record { fits = fine _ _ (c .before .digits .ensures) (most c) }) kept-requires rounded-requires add-b returns-2 returns-3)

@@ -18,9 +18,6 @@ returns c =
 fine : (x y : ℕ) → x ≡ y → y ≤ 0x7ff0_0000_0000_0000 → 2 ^ 63 + x < 2 ^ 64
 fine x y e h = omega arith
 
-add-result : tie.Need-add-result
-add-result c = record { fits = fine _ _ (c .nearest2 .ensures) (pattern-most _) }
-
 zeros : numberOf (replicate 34 0) ≡ 0
 unfolding numberOf
 zeros = refl
@@ -49,6 +46,5 @@ returns-2 c =
 
 pub nearest-to-spec : {M : Type 1} → statement M
 nearest-to-spec =
-    tie.close
-    (tie.spec (λ c κs. search needs) (λ c κs. search needs) returns (λ c. search needs) (λ c κs. search needs) (λ c. search needs)
-    (λ c κs. search needs) add-result returns-2)
+    tie.close (tie.spec (λ c κs. search needs) (λ c κs. search needs) returns (λ c. search needs) (λ c κs. search needs) (λ c. search needs)
+    (λ c κs. search needs) (λ c. record { fits = fine _ _ (c .nearest2 .ensures) (pattern-most _) }) returns-2)

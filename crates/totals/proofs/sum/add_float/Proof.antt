@@ -8,9 +8,6 @@ use Rattle.totals.proofs.sum.add_float.Tie as tie
 small : (m s : ℕ) → m < 2 ^ 53 → m / 2 / 2 ^ s < 2 ^ 63
 small m s h = let less = div-le-self (m / 2) (2 ^ s) in omega arith
 
-shift-requires-2 : tie.Need-shift-requires-2
-shift-requires-2 c κs = small (2 ^ 52 + c .before .before .before .args .w % 2 ^ 63 % 2 ^ 52) _ (omega arith)
-
 -- the words, once x is moved
 abbrev moved : List ℕ → ℕ → ℕ → List ℕ
 moved ws w x = wordsOf (length ws) (shifted (leb (2 ^ 63) w) (place (length ws)) (numberOf ws) x)
@@ -32,7 +29,6 @@ returns-2 c =
 
 pub add-float-spec : {M : Type 1} → statement M
 add-float-spec =
-    tie.close
-    (tie.spec
-    (λ c κs. search needs) (λ c. search needs) (λ c. search needs) (λ c. search needs) (λ c. search needs) (λ c. search needs) shift-requires-2
-    (λ c. search needs) returns (λ c. search needs) returns-2)
+    tie.close (tie.spec (λ c κs. search needs) (λ c. search needs) (λ c. search needs) (λ c. search needs) (λ c. search needs) (λ c. search needs)
+    (λ c κs. small (2 ^ 52 + c .before .before .before .args .w % 2 ^ 63 % 2 ^ 52) _ (omega arith)) (λ c. search needs) returns (λ c. search needs)
+    returns-2)

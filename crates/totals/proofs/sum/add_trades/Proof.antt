@@ -32,12 +32,6 @@ loop-holds c = (
 inside : (n i k : ℕ) → i < n / tradeWords → k < tradeWords → tradeWords * i + k < n
 inside n i k h l = omega arith
 
-mul-add-float : tie.Need-mul-add-float Inv-loop μ-loop
-mul-add-float c = search needs
-
-add-add-float : tie.Need-add-add-float Inv-loop μ-loop
-add-add-float c = search needs
-
 mul-add-float-2 : tie.Need-mul-add-float-2 Inv-loop μ-loop
 mul-add-float-2 c =
     let start = c .before .before .before .before .before in
@@ -79,9 +73,6 @@ loop-again c =
       goes-on (l .sum) _ trades _ (l .i) (test .loop-test .taken) is ∙ l .inv .3,
     )
 
-same-length : tie.Need-same-length Inv-loop μ-loop
-same-length c = c .before .loop .inv .2 ∙ sym (c .before .before .before .before .pre)
-
 returns : tie.Need-returns Inv-loop μ-loop
 unfolding tradesOf pnlSum
 returns c =
@@ -92,5 +83,6 @@ returns c =
 
 pub add-trades-spec : {M : Type 1} → statement M
 add-trades-spec =
-    tie.close (tie.spec Inv-loop μ-loop loop-holds mul-add-float add-add-float mul-add-float-2 shared-slice-read-add-float
-    (λ c κs. search needs) (λ c. search needs) (λ c. search needs) loop-again same-length returns)
+    tie.close (tie.spec Inv-loop μ-loop loop-holds (λ c. search needs) (λ c. search needs) mul-add-float-2 shared-slice-read-add-float
+    (λ c κs. search needs) (λ c. search needs) (λ c. search needs) loop-again
+    (λ c. c .before .loop .inv .2 ∙ sym (c .before .before .before .before .pre)) returns)

@@ -3,11 +3,7 @@ use Rattle.words.specs.Prelude.{needs}
 use Rattle.totals.proofs.{sum.digit.Statement.statement}
 use Rattle.totals.proofs.sum.digit.Tie as tie
 
-returns : tie.Need-returns
-returns c = rw (c .before .if1 .taken) (c .less .ensures)
-
-returns-2 : tie.Need-returns-2
-returns-2 c = rw (c .before .if1 .left) (c .more .ensures)
-
 pub digit-spec : {M : Type 1} → statement M
-digit-spec = tie.close (tie.spec (λ c κs. search needs) (λ c κs. search needs) returns returns-2)
+digit-spec =
+    tie.close (tie.spec (λ c κs. search needs) (λ c κs. search needs) (λ c. rw (c .before .if1 .taken) (c .less .ensures))
+    (λ c. rw (c .before .if1 .left) (c .more .ensures)))

@@ -17,12 +17,6 @@ same : (down : Bool) (a x : ℕ) → Moves down a x a x
 same false a x = refl
 same true a x = refl
 
-loop-holds : tie.Need-loop-holds Inv-loop μ-loop
-loop-holds c = (refl, λ i. omega (arith, c .slice-known .given i), c .before .pre, same (c .before .args .down) _ _)
-
-same-length : tie.Need-same-length Inv-loop μ-loop
-same-length c = search needs
-
 nothing : (lo hi i n : ℕ) → lo ≡ 0 → hi ≡ 0 → (lo + 2 ^ 64 * hi) * place i ≡ 0 * place n
 nothing lo hi i n e f =
     let none : lo + 2 ^ 64 * hi ≡ 0 = omega arith in
@@ -35,27 +29,6 @@ returns c =
     words-settled (start .down) (l .sum) (start .sum .now) 0 _ (l .inv .1) (l .inv .0)
     (subst (λ (r : ℕ). Moves (start .down) (numberOf (l .sum)) r (numberOf (start .sum .now)) ((start .low + 2 ^ 64 * start .high) * place (start .at)))
     (nothing (l .lo) (l .hi) (l .i) (length (start .sum .now)) (c .before .if1 .taken) (c .if2 .taken)) (l .inv .3))
-
-mul-digit : tie.Need-mul-digit Inv-loop μ-loop
-mul-digit c = search needs
-
-slice-read-digit : tie.Need-slice-read-digit Inv-loop μ-loop
-slice-read-digit c = search needs
-
-digit-requires : tie.Need-digit-requires Inv-loop μ-loop
-digit-requires c κs = search needs
-
-mul-sum : tie.Need-mul-sum Inv-loop μ-loop
-mul-sum c = search needs
-
-slice-write-sum : tie.Need-slice-write-sum Inv-loop μ-loop
-slice-write-sum c = search needs
-
-add-lo : tie.Need-add-lo Inv-loop μ-loop
-add-lo c = omega (arith, c .before .digit .ensures .2)
-
-add-i : tie.Need-add-i Inv-loop μ-loop
-add-i c = search needs
 
 loop-less : tie.Need-loop-less Inv-loop μ-loop
 loop-less c =
@@ -74,9 +47,6 @@ loop-again c =
           ((start .low + 2 ^ 64 * start .high) * place (start .at)) (search needs) (d .ensures .0) (l .inv .3)),
     )
 
-same-length-2 : tie.Need-same-length-2 Inv-loop μ-loop
-same-length-2 c = search needs
-
 returns-2 : tie.Need-returns-2 Inv-loop μ-loop
 returns-2 c =
     let l = c .before .loop in
@@ -87,21 +57,6 @@ returns-2 c =
 
 pub shift-spec : {M : Type 1} → statement M
 shift-spec =
-    tie.close
-    (tie.spec
-    Inv-loop
-    μ-loop
-    loop-holds
-    same-length
-    returns
-    mul-digit
-    slice-read-digit
-    digit-requires
-    mul-sum
-    slice-write-sum
-    add-lo
-    add-i
-    loop-less
-    loop-again
-    same-length-2
-    returns-2)
+    tie.close (tie.spec Inv-loop μ-loop (λ c. (refl, λ i. omega (arith, c .slice-known .given i), c .before .pre, same (c .before .args .down) _ _))
+    (λ c. search needs) returns (λ c. search needs) (λ c. search needs) (λ c κs. search needs) (λ c. search needs) (λ c. search needs)
+    (λ c. omega (arith, c .before .digit .ensures .2)) (λ c. search needs) loop-less loop-again (λ c. search needs) returns-2)

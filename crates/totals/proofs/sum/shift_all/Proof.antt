@@ -21,21 +21,6 @@ loop-holds c =
     let words : AreWords ws = λ i. omega (arith, c .before .slice-known .given i) in
     (search needs, sym (ap (wordsOf (length ws)) (shifted-none _ (numberOf ws) (number-below ws words)) ∙ words-of-number ws words))
 
-mul-shift : tie.Need-mul-shift Inv-loop μ-loop
-mul-shift c = search needs
-
-shared-slice-read-shift : tie.Need-shared-slice-read-shift Inv-loop μ-loop
-shared-slice-read-shift c = search needs
-
-shift-requires : tie.Need-shift-requires Inv-loop μ-loop
-shift-requires c κs = search needs
-
-add-i : tie.Need-add-i Inv-loop μ-loop
-add-i c = search needs
-
-loop-less : tie.Need-loop-less Inv-loop μ-loop
-loop-less c = search needs
-
 -- one word more
 on : (down : Bool) (ws₀ ws words : List ℕ) (i : ℕ) → i < length words
     → ws ≡ wordsOf (length ws₀) (shifted down (place (length ws₀)) (numberOf ws₀) (numberOf (take i words)))
@@ -61,9 +46,6 @@ loop-again c =
     let l = c .before .before .before .before .before .before .loop in
     (search needs, c .before .before .shift .ensures ∙ on (start .down) (start .sum .now) (l .sum) (start .words .now) (l .i) (search needs) (l .inv .1))
 
-same-length : tie.Need-same-length Inv-loop μ-loop
-same-length c = ap length (c .before .loop .inv .1) ∙ length-words _ _
-
 returns : tie.Need-returns Inv-loop μ-loop
 returns c =
     let start = c .before .before .before .before .args in
@@ -75,16 +57,5 @@ returns c =
 
 pub shift-all-spec : {M : Type 1} → statement M
 shift-all-spec =
-    tie.close
-    (tie.spec
-    Inv-loop
-    μ-loop
-    loop-holds
-    mul-shift
-    shared-slice-read-shift
-    shift-requires
-    add-i
-    loop-less
-    loop-again
-    same-length
-    returns)
+    tie.close (tie.spec Inv-loop μ-loop loop-holds (λ c. search needs) (λ c. search needs) (λ c κs. search needs) (λ c. search needs)
+    (λ c. search needs) loop-again (λ c. ap length (c .before .loop .inv .1) ∙ length-words _ _) returns)
