@@ -116,8 +116,9 @@ pub(crate) fn advance<'a>(
         short_entry,
         short_exit,
     );
+    let seen = number + 1;
     let counts = Counts {
-        bars_seen: number + 1,
+        bars_seen: seen,
         rows_held: after.held,
         equity_points: points,
         trades: closed,

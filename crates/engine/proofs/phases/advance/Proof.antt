@@ -24,7 +24,7 @@ decide-next-action-requires c κs =
     let ends = held-ends (row .record-bar .last .0) (place .place-for .result .ring) (width (a .s .slots)) (omega arith) (kept .ring) in
     (start .pre .ready .slots, start .pre .ready .bars, ends)
 
-add-seen : tie.Need-add-t50
+add-seen : tie.Need-add-seen
 add-seen c =
     let stop = c .before .before .before .before .before .before .before .before .before in
     let sell = stop .before .before .before .before .before .before .before .before .before .before in
