@@ -6,13 +6,6 @@ mod loss;
 mod report;
 
 use engine::answer::Finished;
-use execution::level::Entries;
-use execution::level::OrderType;
-use execution::optional::Optional;
-use execution::terms::Risk;
-use execution::terms::Sizing;
-use execution::terms::Slippage;
-use execution::terms::Terms;
 use metrics::Metrics;
 use needed::depth::DepthAnswer;
 use records::settings::Settings;
@@ -20,6 +13,8 @@ use records::state::State;
 use refusals::verdict::Verdict;
 use steps::translated::Translated;
 use table::trees::Tree;
+use words::limits::SETTING_WORDS;
+use words::places;
 
 // The paper's worked example: entry CrossAbove(slot 0, slot 1); exit Lt(close, Prev(close, 2)). K is 2.
 const TABLE: [u8; 128] = [
@@ -158,38 +153,26 @@ const SLOTS: usize = 2;
 
 const DEPTH: usize = 3;
 
-// 10,000 to begin with, nine tenths of it a trade, a taker fee of 0.2 basis points, a stop loss of 1 percent.
+// The mask of the settings that are given beside those that always are: the stop loss alone.
+const GIVEN: u64 = 4096;
+
+// 10,000 to begin with, nine tenths of it a trade, a taker fee of 0.2 basis points, a stop loss of 1 percent; the rest is 0.
+fn setting_words() -> [u64; SETTING_WORDS] {
+    let mut words = [0u64; SETTING_WORDS];
+    words[places::SLOTS] = SLOTS as u64;
+    words[places::DEPTH] = DEPTH as u64;
+    words[places::CAPITAL] = floats::word_of(10000.0);
+    words[places::WARMUP] = 26;
+    words[places::SIZING_VALUE] = floats::word_of(0.9);
+    words[places::TAKER_BPS] = floats::word_of(0.2);
+    words[places::STOP_LOSS] = floats::word_of(1.0);
+    words[places::GIVEN] = GIVEN;
+    words
+}
+
 pub(crate) fn settings() -> Settings {
-    Settings {
-        slots: SLOTS,
-        depth: DEPTH,
-        capital: 10000.0,
-        warmup: 26,
-        delay: 0,
-        terms: Terms {
-            sizing: Sizing::FixedFraction(0.9),
-            risk: Risk {
-                stop_loss_pct: Optional::Of(1.0),
-                trailing_stop_pct: Optional::Absent,
-                take_profit_pct: Optional::Absent,
-                max_leverage: Optional::Absent,
-                max_position_pct: Optional::Absent,
-                liquidation: false,
-            },
-            taker_bps: 0.2,
-            slippage: Slippage::FixedBps(0.0),
-            partial_fills: false,
-            max_participation: 0.0,
-            lot: 0.0,
-        },
-        funding: false,
-        entries: Entries {
-            order_type: OrderType::Market,
-            level_pct: 0.0,
-            limit_pct: 0.0,
-            maker_bps: 0.0,
-        },
-    }
+    let words = setting_words();
+    records::settings::settings_of(&words)
 }
 
 // How many bytes of its room a list of steps takes.
@@ -211,9 +194,10 @@ pub(crate) fn run_bars<'a>(
     equity: &mut [u64],
     trades: &mut [u64],
 ) -> State {
+    let settings = setting_words();
     let day = engine::day::run_bars(
         false,
-        settings(),
+        &settings,
         state,
         bars,
         rows,

@@ -4,6 +4,8 @@ ghost use mathlib.Core.Path.{_≡_};
 ghost use Prim.Native.Nat.{_≤_};
 ghost use Rattle.words.specs.Limits.{mostSlots};
 ghost use Rattle.rows.specs.Ring.{ringOf};
+ghost use Rattle.execution.specs.Intrabar.{applyIntrabarExits};
+ghost use Rattle.records.specs.Settings.{settingsOf};
 ghost use Rattle.engine.specs.Record.{heldRows};
 ghost use Rattle.engine.specs.Account as Account;
 ghost use Rattle.engine.specs.Account.{leaving, facing, entering, dueIfReached, dueOf, charged};
@@ -20,6 +22,7 @@ use execution::level::OrderKind;
 use execution::level::Side;
 use execution::optional::Optional;
 use portfolio::Candle;
+use portfolio::Portfolio;
 use portfolio::SIGNAL;
 use records::settings::Settings;
 use records::state::Counts;
@@ -246,16 +249,34 @@ pub(crate) fn fill_working_order(
     }
 }
 
+// The exits inside the bar. Their levels are read from the settings' words, and only in a position: carried along as values they would be divided by a
+// hundred before every bar, and a level that is not given holds whatever stood in its place, which a processor may be slow to divide.
+fn exits_of(s: Settings, settings: &[u64], candle: Candle, account: Portfolio, extreme: f64) -> Exit
+    requires { ⌜ s ≡ settingsOf (now settings) ⌝ }
+    ensures { λ r. ⌜ r ≡ applyIntrabarExits candle (s .terms) account extreme ⌝ }
+{
+    if account.in_position() {
+        let terms = terms::with_levels(s.terms, records::settings::risk_in(settings));
+        return intrabar::apply_intrabar_exits(candle, terms, account, extreme);
+    }
+    Exit::NoExit
+}
+
 // The open position against the bar's range.
-pub(crate) fn apply_intrabar_exits(s: Settings, p: Position, candle: Candle) -> Left
+pub(crate) fn apply_intrabar_exits(
+    s: Settings,
+    settings: &[u64],
+    p: Position,
+    candle: Candle,
+) -> Left
+    requires { ⌜ s ≡ settingsOf (now settings) ⌝ }
     ensures { λ r. ⌜ r ≡ Account.intrabar s p candle ⌝ }
 {
-    let terms = s.terms;
     let open = facing(p, candle);
     let account = open.portfolio;
     let entered = open.entered;
     let extreme = intrabar::extreme_with(candle, account, open.extreme);
-    let exit = intrabar::apply_intrabar_exits(candle, terms, account, extreme);
+    let exit = exits_of(s, settings, candle, account, extreme);
     let followed = Position {
         portfolio: account,
         entered,

@@ -5,6 +5,7 @@ ghost use Prim.Native.Nat.{_/_, _≤_};
 ghost use lib.ListN.{length, take};
 ghost use Rattle.words.specs.Limits.{barWords};
 ghost use Rattle.records.specs.Lent.{rooms, lists};
+ghost use Rattle.records.specs.Settings.{settingsOf};
 ghost use Rattle.refusals.specs.Day.{nextLines};
 ghost use Rattle.refusals.specs.Lines.{judged};
 ghost use Rattle.rows.specs.History.{width};
@@ -41,6 +42,7 @@ pub struct RingDay {
 fn next_bar<'a>(
     one: bool,
     s: Settings,
+    settings: &[u64],
     t: State,
     bar: &[u64],
     rows: &mut [u64],
@@ -52,7 +54,7 @@ fn next_bar<'a>(
     short_entry: &[u8],
     short_exit: &'a [u8],
 ) -> Advanced
-    requires { ⌜ (length (now bar) ≡ barWords (s .slots)) × RingAt one s t (now rows) start × Underway s t
+    requires { ⌜ (s ≡ settingsOf (now settings)) × (length (now bar) ≡ barWords (s .slots)) × RingAt one s t (now rows) start × Underway s t
         (rooms (turned (width (s .slots)) start (now rows)) (now equity) (now trades))
         (lists (now entry) (now «exit») (now «short_entry») (now «short_exit»)) ⌝ }
     ensures { λ r. ⌜ Turns one s (stepAnswer s t (now (bar .entry))
@@ -70,6 +72,7 @@ fn next_bar<'a>(
         Verdict::Fine => phases::advance(
             one,
             s,
+            settings,
             t,
             bar,
             rows,
@@ -88,6 +91,7 @@ fn next_bar<'a>(
 fn take_bars<'a>(
     one: bool,
     s: Settings,
+    settings: &[u64],
     t: State,
     bars: &[u64],
     rows: &mut [u64],
@@ -98,7 +102,8 @@ fn take_bars<'a>(
     short_entry: &[u8],
     short_exit: &'a [u8],
 ) -> RingDay
-    requires { ⌜ Underway s t (rooms (now rows) (now equity) (now trades)) (lists (now entry) (now «exit») (now «short_entry») (now «short_exit»)) ⌝ }
+    requires { ⌜ (s ≡ settingsOf (now settings))
+        × Underway s t (rooms (now rows) (now equity) (now trades)) (lists (now entry) (now «exit») (now «short_entry») (now «short_exit»)) ⌝ }
     ensures { λ r. ⌜ runOver s (lists (now (entry .entry)) (now («exit» .entry)) (now («short_entry» .entry)) (now («short_exit» .entry))) t
         (rooms (now (rows .entry)) (now (equity .entry)) (now (trades .entry)))
         (inRecords (length (now (bars .entry)) / barWords (s .slots)) (barWords (s .slots)) (now (bars .entry)))
@@ -115,6 +120,7 @@ fn take_bars<'a>(
         let went = next_bar(
             one,
             s,
+            settings,
             state,
             &bars[from..to],
             rows,
@@ -190,11 +196,11 @@ fn unlisted(
     }
 }
 
-// Bars, one after another, until one is refused: one, or many. Any settings, state, bars and rooms get an answer; the bar that is refused
+// Bars, one after another, until one is refused: one, or many. The settings are handed over as their words. Any settings, state, bars and rooms get an answer; the bar that is refused
 // changes nothing. The room of rows is turned once, at the end.
 pub fn run_bars<'a>(
     one: bool,
-    s: Settings,
+    settings: &[u64],
     t: State,
     bars: &[u64],
     rows: &mut [u64],
@@ -205,7 +211,7 @@ pub fn run_bars<'a>(
     short_entry: &[u8],
     short_exit: &'a [u8],
 ) -> Day
-    ensures { λ r. ⌜ dayOf one s t (now (bars .entry))
+    ensures { λ r. ⌜ dayOf one (settingsOf (now (settings .entry))) t (now (bars .entry))
         (rooms (now (rows .entry)) (now (equity .entry)) (now (trades .entry)))
         (lists (now (entry .entry)) (now («exit» .entry)) (now («short_entry» .entry)) (now («short_exit» .entry)))
         ≡ runWith r (rooms (now (rows .exit)) (now (equity .exit)) (now (trades .exit))) ⌝ }
@@ -217,6 +223,7 @@ pub fn run_bars<'a>(
             state: t,
         };
     }
+    let s = records::settings::settings_of(settings);
     if let Verdict::Bad(refusal) = refusals::day::judge_day(one, s, t, bars, rows, equity, trades) {
         return Day {
             done: 0,
@@ -238,6 +245,7 @@ pub fn run_bars<'a>(
     let taken = take_bars(
         one,
         s,
+        settings,
         t,
         bars,
         rows,

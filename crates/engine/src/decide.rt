@@ -19,10 +19,13 @@ use rules::position::PositionState;
 use steps::choice;
 use steps::machine;
 
-// What a rule's list of steps answers over rows that begin at row `start`.
+// What a rule's list of steps answers over rows that begin at row `start`. An empty list answers no, and is not run.
 fn list_says(window: &[u64], slots: usize, start: usize, state: PositionState, list: &[u8]) -> bool
     ensures { λ r. ⌜ r ≡ listSays (ringOf slots start (now (window .entry))) state (now (list .entry)) ⌝ }
 {
+    if list.len() == 0 {
+        return false;
+    }
     let ran = machine::run_ring(list, window, slots, start, state);
     ran.answer
 }

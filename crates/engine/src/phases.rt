@@ -2,6 +2,7 @@
 ghost use mathlib.Core.Path.{_≡_};
 ghost use Rattle.words.specs.Outcome.{refusal};
 ghost use Rattle.records.specs.Lent.{rooms, lists};
+ghost use Rattle.records.specs.Settings.{settingsOf};
 ghost use Rattle.rows.specs.History.{width};
 ghost use Rattle.rows.specs.Ring.{turned};
 ghost use Rattle.engine.specs.declared.answer.Answer.the-variants.{Refused};
@@ -60,6 +61,7 @@ fn after_bar(counts: Counts, order: Order, position: Position, candle: Candle) -
 pub(crate) fn advance<'a>(
     one: bool,
     s: Settings,
+    settings: &[u64],
     t: State,
     bar: &[u64],
     rows: &mut [u64],
@@ -71,7 +73,8 @@ pub(crate) fn advance<'a>(
     short_entry: &[u8],
     short_exit: &'a [u8],
 ) -> Advanced
-    requires { ⌜ ReadyAt one s t (now bar) (now rows) start (lists (now entry) (now «exit») (now «short_entry») (now «short_exit»)) ⌝ }
+    requires { ⌜ (s ≡ settingsOf (now settings))
+        × ReadyAt one s t (now bar) (now rows) start (lists (now entry) (now «exit») (now «short_entry») (now «short_exit»)) ⌝ }
     ensures { λ r. ⌜ Turns one s (advanced s t (now (bar .entry))
         (rooms (turned (width (s .slots)) start (now (rows .entry))) (now (equity .entry)) (now (trades .entry)))
         (lists (now (entry .entry)) (now («exit» .entry)) (now («short_entry» .entry)) (now («short_exit» .entry))))
@@ -97,7 +100,7 @@ pub(crate) fn advance<'a>(
     let at_open = filled.exit;
     let booked = account::book(trades, n.trades, at_open);
     record::record_bar(rows, place, bar, s.slots);
-    let left = account::apply_intrabar_exits(s, opened, candle);
+    let left = account::apply_intrabar_exits(s, settings, opened, candle);
     let open = left.position;
     let inside = left.exit;
     let closed = account::book(trades, booked, inside);

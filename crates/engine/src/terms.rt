@@ -73,3 +73,20 @@ pub(crate) fn anew(terms: Terms) -> Terms
         lot: terms.lot,
     }
 }
+
+// The terms with these levels.
+pub(crate) fn with_levels(terms: Terms, risk: Risk) -> Terms
+    ensures { λ r. ⌜ (risk ≡ terms .risk → r ≡ terms) ⌝ }
+{
+    let sizing = terms.sizing;
+    let slippage = terms.slippage;
+    Terms {
+        sizing,
+        risk,
+        taker_bps: terms.taker_bps,
+        slippage,
+        partial_fills: terms.partial_fills,
+        max_participation: terms.max_participation,
+        lot: terms.lot,
+    }
+}

@@ -193,3 +193,15 @@ pub fn settings_of(words: &[u64]) -> Settings
     }
     whole_settings(words)
 }
+
+// The levels among them, read where they stand: whoever needs them seldom does not carry them along.
+pub fn risk_in(words: &[u64]) -> Risk
+    ensures { λ r. ⌜ r ≡ riskOf (now (words .entry)) ⌝ }
+{
+    if words.len() < SETTING_WORDS {
+        let all = settings_of(words);
+        let terms = all.terms;
+        return terms.risk;
+    }
+    risk_of(words)
+}

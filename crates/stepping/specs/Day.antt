@@ -18,6 +18,11 @@ pub record DayLent : Type 0 where
 unfoldable pub dayLentLines : Bool → List ℕ → List ℕ → List ℕ → List ℕ → List Line
 dayLentLines one settings state bars rows = cond (noBars one bars) (wordLines settings state) (lentLines settings state rows)
 
+-- What is judged of the lent words before the engine is called: nothing where settings and state have all theirs, since it looks at the room of rows first.
+unfoldable pub shortOf : Verdict → Verdict → Verdict
+shortOf Fine lent = Fine
+shortOf (Bad why) lent = lent
+
 -- "That bar itself changes nothing": where no bar was done, the words of the state are those that were given
 unfoldable pub stateAfter : List ℕ → ℕ → State → List ℕ
 stateAfter state done t = cond (eqb done 0) state (overwrite state 0 (wordsOf t))

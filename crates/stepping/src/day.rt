@@ -1,11 +1,10 @@
 // Bars in one call: one, or many. Both go one way, so that what a bar does is compiled once, and into it.
 ghost use mathlib.Core.Path.{_≡_};
 ghost use Rattle.records.specs.Lent.{rooms, lists};
-ghost use Rattle.records.specs.Settings.{settingsOf};
 ghost use Rattle.refusals.specs.Lines.{judged};
-ghost use Rattle.stepping.specs.Day.{dayLentLines, stateAfter, dayCall};
+ghost use Rattle.replies.specs.Call.{wordLines};
+ghost use Rattle.stepping.specs.Day.{dayLentLines, shortOf, stateAfter, dayCall};
 ghost use Rattle.stepping.specs.WordRun.{answerOf};
-use records::settings::Settings;
 use records::settings::settings_of;
 use records::state::State;
 use records::state_words::put_state;
@@ -15,24 +14,28 @@ use replies::answer_word;
 use replies::judge_words;
 
 // 10: the room of rows, where there is a bar; then settings and state.
-fn judge_lent(
-    one: bool,
-    s: Settings,
-    settings: &[u64],
-    state: &[u64],
-    bars: &[u64],
-    rows: &[u64],
-) -> Verdict
-    requires { ⌜ s ≡ settingsOf (now settings) ⌝ }
+fn judge_lent(one: bool, settings: &[u64], state: &[u64], bars: &[u64], rows: &[u64]) -> Verdict
     ensures { λ r. ⌜ r ≡ judged (dayLentLines one (now (settings .entry)) (now (state .entry)) (now (bars .entry)) (now (rows .entry))) ⌝ }
 {
     if engine::day::no_bars(one, bars) {
         return judge_words(settings, state);
     }
-    if let Verdict::Bad(refusal) = refusals::rooms::judge_room(s, rows) {
+    if let Verdict::Bad(refusal) = refusals::rooms::judge_room(settings_of(settings), rows) {
         return Verdict::Bad(refusal);
     }
     judge_words(settings, state)
+}
+
+// The same, where settings or state are short of words. Where they are not, the room of rows is left to the engine, which looks at it first.
+fn judge_short(one: bool, settings: &[u64], state: &[u64], bars: &[u64], rows: &[u64]) -> Verdict
+    ensures { λ r. ⌜ r ≡ shortOf (judged (wordLines (now (settings .entry)) (now (state .entry))))
+        (judged (dayLentLines one (now (settings .entry)) (now (state .entry)) (now (bars .entry)) (now (rows .entry)))) ⌝ }
+{
+    let words = judge_words(settings, state);
+    match words {
+        Verdict::Fine => Verdict::Fine,
+        Verdict::Bad(_) => judge_lent(one, settings, state, bars, rows),
+    }
 }
 
 // Writes the state where a bar was done.
@@ -82,14 +85,13 @@ pub fn call_bars<'a>(
           };
         } ⌝ }
 {
-    let chosen = settings_of(settings);
-    if let Verdict::Bad(refusal) = judge_lent(one, chosen, settings, state, bars, rows) {
+    if let Verdict::Bad(refusal) = judge_short(one, settings, state, bars, rows) {
         *done = 0;
         return answer_word(refusal);
     }
     let day = engine::day::run_bars(
         one,
-        chosen,
+        settings,
         state_of(state),
         bars,
         rows,

@@ -20,7 +20,7 @@ ghost use Prim.Native.Nat.{_+_, _-_, _<_, _≤_};
 ghost use lib.Dec.{ltb};
 ghost use lib.ListN.{length};
 ghost use Rattle.rows.specs.History.{historyOf};
-ghost use Rattle.rows.specs.Ring.{ringOf};
+ghost use Rattle.rows.specs.Ring.{ringOf, startWithin};
 ghost use Rattle.table.specs.Named as Named;
 ghost use Rattle.steps.specs.Bytes.{opOf, opsFrom, opsOf, stepsIn, stepsRun};
 ghost use Rattle.steps.specs.Machine.{viewing, effect, ranOver};
@@ -360,10 +360,19 @@ pub fn run(list: &[u8], rows: &[u64], slots: usize, s: PositionState) -> Ran
     run_from(list, rows, slots, 0, s)
 }
 
+// The row that they begin at: the first where there is no such row. They are counted only where it is another.
+fn first_row(rows: &[u64], slots: usize, start: usize) -> usize
+    ensures { λ r. ⌜ r ≡ startWithin (historyOf slots (now (rows .entry)) .rows) start ⌝ }
+{
+    if start == 0 {
+        return 0;
+    }
+    ring::first_of(rows::row_count(rows, slots), start)
+}
+
 // The same over rows that begin at row `start`, go on to the last and then from the first.
 pub fn run_ring(list: &[u8], rows: &[u64], slots: usize, start: usize, s: PositionState) -> Ran
     ensures { λ r. ⌜ r ≡ ranOver (ringOf slots start (now (rows .entry))) s (opsOf (now (list .entry))) ⌝ }
 {
-    let first = ring::first_of(rows::row_count(rows, slots), start);
-    run_from(list, rows, slots, first, s)
+    run_from(list, rows, slots, first_row(rows, slots, start), s)
 }

@@ -8,4 +8,4 @@ pub apply-intrabar-exits-spec : {M : Type 1} → statement M
 unfolding intrabar
 apply-intrabar-exits-spec =
     tie.close
-    (tie.spec (λ c κs. search needs) (λ c κs. search needs) (λ c κs. search needs) (λ c κs. search needs) (λ c. cc))
+    (tie.spec (λ c κs. search needs) (λ c κs. search needs) (λ c κs. c .before .before .before .before .pre) (λ c κs. search needs) (λ c. cc))

@@ -9,42 +9,48 @@ use Rattle.engine.proofs.day.run_bars.Tie as tie
 
 returns : tie.Need-returns
 returns c =
-    let a = c .before .before .before .before .before .before .before .before .before .before .args in
-    day-none (a .one) (a .s) (a .t) (a .bars .now) (rooms (a .rows .now) (a .equity .now) (a .trades .now))
+    let a = c .before .before .before .before .before .before .before .before .before .before .before .args in
+    day-none (a .one) _ (a .t) (a .bars .now) (rooms (a .rows .now) (a .equity .now) (a .trades .now))
     (lists (a .entry .now) (a .exit .now) (a .«short-entry» .now) (a .«short-exit» .now)) (sym (c .before .no-bars .ensures) ∙ c .if1 .taken)
 
 returns-2 : tie.Need-returns-2
 returns-2 c =
     let judged = c .before .before .before in
-    let a = judged .before .before .before .before .before .before .before .before .before .before .before .before .before .before .args in
-    let test = judged .before .before .before .before in
+    let read = judged .before .before .before .before in
+    let s = read .settings-of .result in
+    let a = read .before .before .before .before .before .before .before .before .before .before .before .before .args in
+    let test = read .before in
     let some = sym (test .before .no-bars .ensures) ∙ test .if1 .left in
-    day-stops (a .one) (a .s) (a .t) (a .bars .now) (rooms (a .rows .now) (a .equity .now) (a .trades .now))
+    rw (← read .settings-of .ensures) (day-stops (a .one) s (a .t) (a .bars .now) (rooms (a .rows .now) (a .equity .now) (a .trades .now))
     (lists (a .entry .now) (a .exit .now) (a .«short-entry» .now) (a .«short-exit» .now)) some
-    _ (sym (judged .judge-day .ensures) ∙ c .before .refusal .given .1)
+    _ (sym (judged .judge-day .ensures) ∙ c .before .refusal .given .1))
 
 unlisted-requires : tie.Need-unlisted-requires
 unlisted-requires c κs =
     let told = c .before .before .before .before .before .before in
     let judged = told .before .before in
-    let a = judged .before .before .before .before .before .before .before .before .before .before .before .before .before .before .args in
-    let test = judged .before .before .before .before in
+    let read = judged .before .before .before .before in
+    let s = read .settings-of .result in
+    let a = read .before .before .before .before .before .before .before .before .before .before .before .before .args in
+    let test = read .before in
     let some = sym (test .before .no-bars .ensures) ∙ test .if1 .left in
-    let once = day-fine (a .one) (a .s) (a .t) (a .bars .now) (rooms (a .rows .now) (a .equity .now) (a .trades .now))
+    let once = day-fine (a .one) s (a .t) (a .bars .now) (rooms (a .rows .now) (a .equity .now) (a .trades .now))
     (sym (judged .judge-day .ensures) ∙ told .enum-told .given .1) in
-    whole-one (a .s .slots) (a .bars .now) (a .one) some (once .1)
+    whole-one (s .slots) (a .bars .now) (a .one) some (once .1)
 
 returns-3 : tie.Need-returns-3
 returns-3 c =
     let told = c .before .before .before .before .before .before .before in
     let judged = told .before .before in
-    let a = judged .before .before .before .before .before .before .before .before .before .before .before .before .before .before .args in
-    let test = judged .before .before .before .before in
+    let read = judged .before .before .before .before in
+    let s = read .settings-of .result in
+    let a = read .before .before .before .before .before .before .before .before .before .before .before .before .args in
+    let test = read .before in
     let some = sym (test .before .no-bars .ensures) ∙ test .if1 .left in
-    let once = day-fine (a .one) (a .s) (a .t) (a .bars .now) (rooms (a .rows .now) (a .equity .now) (a .trades .now))
+    let once = day-fine (a .one) s (a .t) (a .bars .now) (rooms (a .rows .now) (a .equity .now) (a .trades .now))
     (sym (judged .judge-day .ensures) ∙ told .enum-told .given .1) in
-    rw (c .unlisted .ensures)
-    (day-unlisted (a .one) (a .s) (a .t) (a .bars .now) (rooms (a .rows .now) (a .equity .now) (a .trades .now))
+    rw (c .unlisted .ensures, ← read .settings-of .ensures)
+    (day-unlisted (a .one) s (a .t) (a .bars .now) (rooms (a .rows .now) (a .equity .now) (a .trades .now))
     (lists (a .entry .now) (a .exit .now) (a .«short-entry» .now) (a .«short-exit» .now)) some
     _ (once .0) (once .1)
     (sym (c .before .before .before .before .before .before .judge-lists .ensures) ∙ c .before .before .before .before .refusal2 .given .1))
@@ -53,20 +59,26 @@ add-width : tie.Need-add-width
 add-width c =
     let told = c .before .before .before .before in
     let judged = told .before .before in
-    let a = judged .before .before .before .before .before .before .before .before .before .before .before .before .before .before .args in
-    let once = day-fine (a .one) (a .s) (a .t) (a .bars .now) (rooms (a .rows .now) (a .equity .now) (a .trades .now))
+    let read = judged .before .before .before .before in
+    let s = read .settings-of .result in
+    let a = read .before .before .before .before .before .before .before .before .before .before .before .before .args in
+    let once = day-fine (a .one) s (a .t) (a .bars .now) (rooms (a .rows .now) (a .equity .now) (a .trades .now))
     (sym (judged .judge-day .ensures) ∙ told .enum-told .given .1) in
-    omega (arith, settings-fine (a .s) (once .0 .settings) .slots)
+    omega (arith, settings-fine s (once .0 .settings) .slots)
 
 take-bars-requires : tie.Need-take-bars-requires
 take-bars-requires c κs =
     let told = c .before .before .before .before .before .before .before in
     let judged = told .before .before in
-    let a = judged .before .before .before .before .before .before .before .before .before .before .before .before .before .before .args in
-    let once = day-fine (a .one) (a .s) (a .t) (a .bars .now) (rooms (a .rows .now) (a .equity .now) (a .trades .now))
+    let read = judged .before .before .before .before in
+    let s = read .settings-of .result in
+    let a = read .before .before .before .before .before .before .before .before .before .before .before .before .args in
+    let once = day-fine (a .one) s (a .t) (a .bars .now) (rooms (a .rows .now) (a .equity .now) (a .trades .now))
     (sym (judged .judge-day .ensures) ∙ told .enum-told .given .1) in
-    let listed = c .before .before .before .before in
-    record { steady = once .0; lists = sym (listed .before .before .judge-lists .ensures) ∙ listed .enum-told2 .given .1 }
+    let listed = c .before .before .before .before in (
+      read .settings-of .ensures,
+      record { steady = once .0; lists = sym (listed .before .before .judge-lists .ensures) ∙ listed .enum-told2 .given .1 },
+    )
 
 returns-4 : tie.Need-returns-4
 returns-4 c =
@@ -74,17 +86,19 @@ returns-4 c =
     let took = turns .before .before .before .before .before .before .before .before in
     let told = took .before .before .before .before .before .before .before .before in
     let judged = told .before .before in
-    let a = judged .before .before .before .before .before .before .before .before .before .before .before .before .before .before .args in
-    let once = day-fine (a .one) (a .s) (a .t) (a .bars .now) (rooms (a .rows .now) (a .equity .now) (a .trades .now))
+    let read = judged .before .before .before .before in
+    let s = read .settings-of .result in
+    let a = read .before .before .before .before .before .before .before .before .before .before .before .before .args in
+    let once = day-fine (a .one) s (a .t) (a .bars .now) (rooms (a .rows .now) (a .equity .now) (a .trades .now))
     (sym (judged .judge-day .ensures) ∙ told .enum-told .given .1) in
-    rw (turns .turn .ensures)
-    (day-whole (a .one) (a .s) (a .t) (a .bars .now) (rooms (a .rows .now) (a .equity .now) (a .trades .now))
+    rw (turns .turn .ensures, ← read .settings-of .ensures)
+    (day-whole (a .one) s (a .t) (a .bars .now) (rooms (a .rows .now) (a .equity .now) (a .trades .now))
     (lists (a .entry .now) (a .exit .now) (a .«short-entry» .now) (a .«short-exit» .now)) (once .1)
     ∙ took .take-bars .ensures)
 
 pub run-bars-spec : {M : Type 1} → statement M
 run-bars-spec =
-    tie.close (tie.spec (λ c κs. search needs) returns (λ c κs. search needs) (λ c. search needs) (λ c. search needs)
+    tie.close (tie.spec (λ c κs. search needs) returns (λ c κs. search needs) (λ c κs. search needs) (λ c. search needs) (λ c. search needs)
     (λ c. search needs) (λ c. search needs) returns-2 (λ c. search needs) (λ c κs. search needs) (λ c. search needs)
     unlisted-requires (λ c. search needs) (λ c. search needs) (λ c. search needs) returns-3 (λ c. search needs)
     add-width take-bars-requires (λ c κs. search needs) (λ c. search needs) (λ c. search needs) (λ c. search needs)

@@ -7,63 +7,64 @@ use Rattle.engine.proofs.{day.take_bars.Statement.statement}
 use Rattle.engine.proofs.day.take_bars.Tie as tie
 
 abbrev Inv-loop : tie.InvT-loop
-Inv-loop one s bars rows₀ equity₀ trades₀ entry «exit» shortEntry shortExit width count t₀ start₀ done₀ rows equity trades t start done =
+Inv-loop one s settings bars rows₀ equity₀ trades₀ entry «exit» shortEntry shortExit width count t₀ start₀ done₀ rows equity trades t start done =
     Turn one s (lists entry «exit» shortEntry shortExit) t₀ (rooms rows₀ equity₀ trades₀) bars done start t rows equity trades
 
 abbrev μ-loop : tie.MeasureT-loop
-μ-loop one s bars rows₀ equity₀ trades₀ entry «exit» shortEntry shortExit width count t₀ start₀ done₀ rows equity trades t start done = count - done
+μ-loop one s settings bars rows₀ equity₀ trades₀ entry «exit» shortEntry shortExit width count t₀ start₀ done₀ rows equity trades t start done = count - done
 
 add-width : tie.Need-add-width Inv-loop μ-loop
 add-width c =
-    let start = c .before .before .before .before .before .before .before .before .before in
-    omega (arith, settings-fine (start .args .s) (start .pre .steady .settings) .slots)
+    let start = c .before .before .before .before .before .before .before .before .before .before in
+    omega (arith, settings-fine (start .args .s) (start .pre .1 .steady .settings) .slots)
 
 loop-holds : tie.Need-loop-holds Inv-loop μ-loop
-loop-holds c = begins _ _ _ _ _ _ (c .before .before .before .before .before .before .before .before .before .pre)
+loop-holds c = begins _ _ _ _ _ _ (c .before .before .before .before .before .before .before .before .before .before .pre .1)
 
 mul-from : tie.Need-mul-from Inv-loop μ-loop
 mul-from c =
-    let start = c .before .before .before .before .before .before .before .before .before .before .before in
+    let start = c .before .before .before .before .before .before .before .before .before .before .before .before in
     let good = start .good in
     omega (arith, bar-ends (start .args .s .slots) (length (start .args .bars .now)) (c .before .loop .done) (c .loop-test .taken))
 
 add-to : tie.Need-add-to Inv-loop μ-loop
 add-to c =
-    let start = c .before .before .before .before .before .before .before .before .before .before .before in
+    let start = c .before .before .before .before .before .before .before .before .before .before .before .before in
     let good = start .good in
     omega (arith, bar-ends (start .args .s .slots) (length (start .args .bars .now)) (c .before .loop .done) (c .loop-test .taken))
 
 mul-next-bar : tie.Need-mul-next-bar Inv-loop μ-loop
 mul-next-bar c =
-    let start = c .before .before .before .before .before .before .before .before .before .before .before in
+    let start = c .before .before .before .before .before .before .before .before .before .before .before .before in
     let good = start .good in
     omega (arith, bar-ends (start .args .s .slots) (length (start .args .bars .now)) (c .before .loop .done) (c .loop-test .taken))
 
 part-next-bar-end : tie.Need-part-next-bar-end Inv-loop μ-loop
 part-next-bar-end c =
-    let start = c .before .before .before .before .before .before .before .before .before .before .before in
+    let start = c .before .before .before .before .before .before .before .before .before .before .before .before in
     omega (arith, bar-ends (start .args .s .slots) (length (start .args .bars .now)) (c .before .loop .done) (c .loop-test .taken))
 
 next-bar-requires : tie.Need-next-bar-requires Inv-loop μ-loop
 next-bar-requires c κs =
     let l = c .before .before .before .before .before in
-    (bar-long _ _ _ _ _ _ _ _ _ _ _ _ (l .loop .inv) (c .before .before .before .before .loop-test .taken), l .loop .inv .at, l .loop .inv .underway)
+    let start = l .before .before .before .before .before .before .before .before .before .before .before in
+    (start .pre .0, bar-long _ _ _ _ _ _ _ _ _ _ _ _ (l .loop .inv) (c .before .before .before .before .loop-test .taken), l .loop .inv .at, l .loop .inv .underway)
 
 -- the rooms are as long as they were, also after the bar that was refused
 same-length : tie.Need-same-length Inv-loop μ-loop
 same-length c =
     let ran = c .before .before .before .before .before .before .before .before .before in
-    ran .next-bar .kept .1 .1 .1 .1 .0 ∙ ran .before .before .before .before .before .before .loop .inv .lengths .rows
+    ran .next-bar .kept .1 .1 .1 .1 .1 .0 ∙ ran .before .before .before .before .before .before .loop .inv .lengths .rows
 
 same-length-2 : tie.Need-same-length-2 Inv-loop μ-loop
 same-length-2 c =
     let ran = c .before .before .before .before .before .before .before .before .before in
-    ran .next-bar .kept .1 .1 .1 .1 .1 .1 .0 ∙ ran .before .before .before .before .before .before .loop .inv .lengths .equity
+    ran .next-bar .kept .1 .1 .1 .1 .1 .1 .1 .0 ∙ ran .before .before .before .before .before .before .loop .inv .lengths .equity
 
 same-length-3 : tie.Need-same-length-3 Inv-loop μ-loop
 same-length-3 c =
     let ran = c .before .before .before .before .before .before .before .before .before in
-    ran .next-bar .kept .1 .1 .1 .1 .1 .1 .1 .0 ∙ ran .before .before .before .before .before .before .loop .inv .lengths .trades
+    ran .next-bar .kept .1 .1 .1 .1 .1 .1 .1 .1 .0 ∙ ran .before .before .before .before .before .before .loop .inv .lengths .trades
 
 -- a bar is refused
 returns : tie.Need-returns Inv-loop μ-loop
@@ -75,7 +76,7 @@ returns c =
 add-done : tie.Need-add-done Inv-loop μ-loop
 add-done c =
     let test = c .before .before .before .before .before .before .before .before .before .before .before .before .before .before in
-    let start = test .before .before .before .before .before .before .before .before .before .before .before in
+    let start = test .before .before .before .before .before .before .before .before .before .before .before .before in
     let good = start .good in
     omega (arith, div-le-self (length (start .args .bars .now)) (10 + start .args .s .slots), test .loop-test .taken)
 
@@ -87,7 +88,7 @@ loop-again c =
     let ran = c .before .before .before .before .before .before .before .before .before in
     let test = ran .before .before .before .before .before in
     one-more _ _ _ _ _ _ _ _ _ _ _ _ (test .before .loop .inv) (test .loop-test .taken) (ran .next-bar .ensures) (c .before .answer2 .given .1)
-    (ran .next-bar .kept .1 .1 .1 .1 .0) (ran .next-bar .kept .1 .1 .1 .1 .1 .1 .0) (ran .next-bar .kept .1 .1 .1 .1 .1 .1 .1 .0)
+    (ran .next-bar .kept .1 .1 .1 .1 .1 .0) (ran .next-bar .kept .1 .1 .1 .1 .1 .1 .1 .0) (ran .next-bar .kept .1 .1 .1 .1 .1 .1 .1 .1 .0)
 
 -- all are done
 returns-2 : tie.Need-returns-2 Inv-loop μ-loop

@@ -10,27 +10,33 @@ use Rattle.engine.proofs.phases.advance.Tie as tie
 record-bar-requires : tie.Need-record-bar-requires
 record-bar-requires c κs =
     let place = c .before .before .before .before .before .before .before .before .before .before in
-    let start = place .before .before .before .before .before .before .before .before .before .before .before .before .before in
-    (start .pre .ready .slots, start .pre .long, place .place-for .ensures .fits)
+    let start = place .before .before .before .before .before .before .before .before .before .before .before .before .before .before in
+    (start .pre .1 .ready .slots, start .pre .1 .long, place .place-for .ensures .fits)
+
+apply-intrabar-exits-requires : tie.Need-apply-intrabar-exits-requires
+apply-intrabar-exits-requires c κs =
+    let place = c .before .before .before .before .before .before .before .before .before .before .before .before .before in
+    let start = place .before .before .before .before .before .before .before .before .before .before .before .before .before .before in
+    start .pre .0
 
 decide-next-action-requires : tie.Need-decide-next-action-requires
 decide-next-action-requires c κs =
     let row = c .before .before .before .before .before .before .before .before .before .before .before .before .before .before in
     let place = row .before .before .before .before .before .before .before .before .before .before .before in
-    let start = place .before .before .before .before .before .before .before .before .before .before .before .before .before in
+    let start = place .before .before .before .before .before .before .before .before .before .before .before .before .before .before in
     let a = start .args in
-    let kept = placed (a .one) (a .s .slots) (a .rows .now) _ (a .bar .now) (start .pre .at .ring) (start .pre .at .first)
+    let kept = placed (a .one) (a .s .slots) (a .rows .now) _ (a .bar .now) (start .pre .1 .at .ring) (start .pre .1 .at .first)
     (place .place-for .ensures) (row .record-bar .ensures) in
     let ends = held-ends (row .record-bar .last .0) (place .place-for .result .ring) (width (a .s .slots)) (omega arith) (kept .ring) in
-    (start .pre .ready .slots, start .pre .ready .bars, ends)
+    (start .pre .1 .ready .slots, start .pre .1 .ready .bars, ends)
 
 add-seen : tie.Need-add-seen
 add-seen c =
     let stop = c .before .before .before .before .before .before .before .before .before in
     let sell = stop .before .before .before .before .before .before .before .before .before .before in
     let place = sell .before .before .before .before .before .before .before in
-    let start = place .before .before .before .before .before .before .before .before .before .before .before .before .before in
-    omega (arith, start .pre .ready .bars)
+    let start = place .before .before .before .before .before .before .before .before .before .before .before .before .before .before in
+    omega (arith, start .pre .1 .ready .bars)
 
 same-length-2 : tie.Need-same-length-2
 same-length-2 c =
@@ -48,14 +54,14 @@ returns : tie.Need-returns
 returns c =
     let fill = c .before .before in
     let candle = fill .before .before .before .before .before in
-    let start = candle .before .before .before .before .before .before .before .before .before .before .before in
+    let start = candle .before .before .before .before .before .before .before .before .before .before .before .before in
     let a = start .args in
-    let same = fill-in-place (a .s) (a .rows .now) _ (start .pre .at .ring) (a .t .order) (a .t .position) _ (a .t .counts .«bars_seen») in
+    let same = fill-in-place (a .s) (a .rows .now) _ (start .pre .1 .at .ring) (a .t .order) (a .t .position) _ (a .t .counts .«bars_seen») in
     rw (c .not-sized .ensures) (record {
       answer = away (a .s) (a .t) (a .bar .now) (rooms (turned (width (a .s .slots)) (a .start) (a .rows .now)) (a .equity .now) (a .trades .now))
           (lists (a .entry .now) (a .exit .now) (a .«short-entry» .now) (a .«short-exit» .now))
           (candle .candle-of .ensures) (fill .fill-working-order .ensures ∙ same) (c .before .if1 .taken);
-      at = start .pre .at;
+      at = start .pre .1 .at;
     })
 
 returns-2 : tie.Need-returns-2
@@ -70,14 +76,14 @@ returns-2 c =
     let fill = sell .before .before .before .before in
     let place = fill .before .before .before in
     let candle = place .before .before in
-    let start = candle .before .before .before .before .before .before .before .before .before .before .before in
+    let start = candle .before .before .before .before .before .before .before .before .before .before .before .before in
     let a = start .args in
     let m : Rooms = rooms (turned (width (a .s .slots)) (a .start) (a .rows .now)) (a .equity .now) (a .trades .now) in
     let ls : Lists = lists (a .entry .now) (a .exit .now) (a .«short-entry» .now) (a .«short-exit» .now) in
-    let same = fill-in-place (a .s) (a .rows .now) _ (start .pre .at .ring) (a .t .order) (a .t .position) _ (a .t .counts .«bars_seen») in
-    let kept = placed (a .one) (a .s .slots) (a .rows .now) _ (a .bar .now) (start .pre .at .ring) (start .pre .at .first)
+    let same = fill-in-place (a .s) (a .rows .now) _ (start .pre .1 .at .ring) (a .t .order) (a .t .position) _ (a .t .counts .«bars_seen») in
+    let kept = placed (a .one) (a .s .slots) (a .rows .now) _ (a .bar .now) (start .pre .1 .at .ring) (start .pre .1 .at .first)
     (place .place-for .ensures) (row .record-bar .ensures) in
-    let decides = decide-in-place (a .s) _ _ (kept .ring) ls (start .pre .lists) _ _ _ _ in
+    let decides = decide-in-place (a .s) _ _ (kept .ring) ls (start .pre .1 .lists) _ _ _ _ in
     rw (c .after-bar .ensures) (record {
       answer = goes (a .s) (a .t) (a .bar .now) m ls (candle .candle-of .ensures) (fill .fill-working-order .ensures ∙ same)
           (sell .before .before .before .if1 .left) _ _ _ _
@@ -98,6 +104,6 @@ returns-2 c =
 pub advance-spec : {M : Type 1} → statement M
 advance-spec =
     tie.close (tie.spec (λ c κs. search needs) (λ c κs. search needs) (λ c κs. search needs) (λ c κs. search needs) (λ c. search needs)
-    returns (λ c κs. search needs) record-bar-requires (λ c κs. search needs) (λ c κs. search needs) (λ c κs. search needs)
+    returns (λ c κs. search needs) record-bar-requires apply-intrabar-exits-requires (λ c κs. search needs) (λ c κs. search needs)
     (λ c κs. search needs) decide-next-action-requires add-seen (λ c κs. search needs) same-length-2 (λ c. search needs)
     same-length-4 returns-2)

@@ -5,6 +5,6 @@ use Rattle.steps.proofs.{machine.run_ring.Statement.statement}
 use Rattle.steps.proofs.machine.run_ring.Tie as tie
 
 pub run-ring-spec : {M : Type 1} → statement M
-run-ring-spec = tie.close (tie.spec (λ c κs. search needs) (λ c κs. search needs)
-    (λ c κs. rw (c .first-of .ensures, c .before .row-count .ensures) (first-fits _ _))
-    (λ c. rw (c .run-from .ensures, c .before .first-of .ensures, c .before .before .row-count .ensures, ring-first)))
+run-ring-spec = tie.close (tie.spec (λ c κs. search needs)
+    (λ c κs. rw (c .first-row .ensures) (first-fits _ _))
+    (λ c. rw (c .run-from .ensures, c .before .first-row .ensures, ring-first)))
