@@ -14,19 +14,7 @@ enum { YEAR = 525600, CALLS = 200 };
         __asm__ volatile("/* " #name " */" ::: "memory"); \
     } \
     static inline void work_##name(void)
-/* Under callgrind what was executed so far is dropped before the figure, and a part of its report ends behind it. */
-#ifdef BARE
 #define MEASURE(name, units) (figure_##name(), say(#name, units))
-#else
-#include <valgrind/callgrind.h>
-#define MEASURE(name, units) \
-    do { \
-        CALLGRIND_ZERO_STATS; \
-        figure_##name(); \
-        CALLGRIND_DUMP_STATS_AT(#name); \
-        say(#name, units); \
-    } while (0)
-#endif
 
 static void single_bars(void)
 {

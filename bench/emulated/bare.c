@@ -1,4 +1,4 @@
-/* What a program needs to run with no C library on Linux on x86-64 or RISC-V: where it begins, writing, ending, and the two functions that the proved
+/* What a program needs to run with no C library on Linux on x86-64, aarch64 or RISC-V: where it begins, writing, ending, and the two functions that the proved
  * library asks for. These move a word at a time where they can: what they take is counted too. */
 #include <stddef.h>
 #include <stdint.h>
@@ -14,6 +14,15 @@ static long call(long number, long a, long b, long c)
 }
 enum { WRITE = 1, EXIT = 60 };
 __asm__(".globl _start\n_start:\n  xor %ebp, %ebp\n  and $-16, %rsp\n  call begin\n");
+#elif defined(__aarch64__)
+static long call(long number, long a, long b, long c)
+{
+    register long x0 __asm__("x0") = a, x1 __asm__("x1") = b, x2 __asm__("x2") = c, x8 __asm__("x8") = number;
+    __asm__ volatile("svc #0" : "+r"(x0) : "r"(x1), "r"(x2), "r"(x8) : "memory");
+    return x0;
+}
+enum { WRITE = 64, EXIT = 93 };
+__asm__(".globl _start\n_start:\n  mov x29, #0\n  bl begin\n");
 #elif defined(__riscv)
 static long call(long number, long a, long b, long c)
 {
