@@ -18,6 +18,7 @@ use crate::answer::Advanced;
 use crate::answer::Answer;
 use records::settings::Settings;
 use records::state::State;
+use refusals::day::Span;
 use refusals::verdict::Verdict;
 use words::limits::BAR_FIXED;
 use words::limits::ROW_FIXED;
@@ -40,7 +41,7 @@ pub struct RingDay {
 
 // A bar of the call, where everything else is fine. The rows held begin at row `start` of their room.
 fn next_bar<'a>(
-    one: bool,
+    span: Span,
     s: Settings,
     settings: &[u64],
     t: State,
@@ -54,10 +55,10 @@ fn next_bar<'a>(
     short_entry: &[u8],
     short_exit: &'a [u8],
 ) -> Advanced
-    requires { ⌜ (s ≡ settingsOf (now settings)) × (length (now bar) ≡ barWords (s .slots)) × RingAt one s t (now rows) start × Underway s t
+    requires { ⌜ (s ≡ settingsOf (now settings)) × (length (now bar) ≡ barWords (s .slots)) × RingAt span s t (now rows) start × Underway s t
         (rooms (turned (width (s .slots)) start (now rows)) (now equity) (now trades))
         (lists (now entry) (now «exit») (now «short_entry») (now «short_exit»)) ⌝ }
-    ensures { λ r. ⌜ Turns one s (stepAnswer s t (now (bar .entry))
+    ensures { λ r. ⌜ Turns span s (stepAnswer s t (now (bar .entry))
         (rooms (turned (width (s .slots)) start (now (rows .entry))) (now (equity .entry)) (now (trades .entry)))
         (lists (now (entry .entry)) (now («exit» .entry)) (now («short_entry» .entry)) (now («short_exit» .entry))))
         r (now (rows .exit)) (now (equity .exit)) (now (trades .exit)) ⌝ }
@@ -70,7 +71,7 @@ fn next_bar<'a>(
             start,
         },
         Verdict::Fine => phases::advance(
-            one,
+            span,
             s,
             settings,
             t,
@@ -89,7 +90,7 @@ fn next_bar<'a>(
 
 // All bars of the call, where everything else is fine. In a call of many no row moves: a full room is used as a ring.
 fn take_bars<'a>(
-    one: bool,
+    span: Span,
     s: Settings,
     settings: &[u64],
     t: State,
@@ -118,7 +119,7 @@ fn take_bars<'a>(
         let from = done * width;
         let to = from + width;
         let went = next_bar(
-            one,
+            span,
             s,
             settings,
             state,
@@ -156,13 +157,13 @@ fn take_bars<'a>(
 }
 
 // Whether a call of many is handed none.
-pub fn no_bars(one: bool, bars: &[u64]) -> bool
-    ensures { λ r. ⌜ r ≡ noBars one (now (bars .entry)) ⌝ }
+pub fn no_bars(span: Span, bars: &[u64]) -> bool
+    ensures { λ r. ⌜ r ≡ noBars span (now (bars .entry)) ⌝ }
 {
-    if one {
-        return false;
+    match span {
+        Span::One => false,
+        Span::Many => bars.len() == 0,
     }
-    bars.len() == 0
 }
 
 // The first bar, where a list of steps is not well formed: 15 comes after what is wrong with the bar.
@@ -199,7 +200,7 @@ fn unlisted(
 // Bars, one after another, until one is refused: one, or many. The settings are handed over as their words. Any settings, state, bars and rooms get an answer; the bar that is refused
 // changes nothing. The room of rows is turned once, at the end.
 pub fn run_bars<'a>(
-    one: bool,
+    span: Span,
     settings: &[u64],
     t: State,
     bars: &[u64],
@@ -211,12 +212,12 @@ pub fn run_bars<'a>(
     short_entry: &[u8],
     short_exit: &'a [u8],
 ) -> Day
-    ensures { λ r. ⌜ dayOf one (settingsOf (now (settings .entry))) t (now (bars .entry))
+    ensures { λ r. ⌜ dayOf span (settingsOf (now (settings .entry))) t (now (bars .entry))
         (rooms (now (rows .entry)) (now (equity .entry)) (now (trades .entry)))
         (lists (now (entry .entry)) (now («exit» .entry)) (now («short_entry» .entry)) (now («short_exit» .entry)))
         ≡ runWith r (rooms (now (rows .exit)) (now (equity .exit)) (now (trades .exit))) ⌝ }
 {
-    if no_bars(one, bars) {
+    if no_bars(span, bars) {
         return Day {
             done: 0,
             verdict: Verdict::Fine,
@@ -224,7 +225,15 @@ pub fn run_bars<'a>(
         };
     }
     let s = records::settings::settings_of(settings);
-    if let Verdict::Bad(refusal) = refusals::day::judge_day(one, s, t, bars, rows, equity, trades) {
+    if let Verdict::Bad(refusal) = refusals::day::judge_day(
+        span,
+        s,
+        t,
+        bars,
+        rows,
+        equity,
+        trades,
+    ) {
         return Day {
             done: 0,
             verdict: Verdict::Bad(refusal),
@@ -243,7 +252,7 @@ pub fn run_bars<'a>(
     }
     let width = ROW_FIXED + s.slots;
     let taken = take_bars(
-        one,
+        span,
         s,
         settings,
         t,

@@ -7,11 +7,11 @@ use Rattle.engine.proofs.{day.take_bars.Statement.statement}
 use Rattle.engine.proofs.day.take_bars.Tie as tie
 
 abbrev Inv-loop : tie.InvT-loop
-Inv-loop one s settings bars rows₀ equity₀ trades₀ entry «exit» shortEntry shortExit width count t₀ start₀ done₀ rows equity trades t start done =
-    Turn one s (lists entry «exit» shortEntry shortExit) t₀ (rooms rows₀ equity₀ trades₀) bars done start t rows equity trades
+Inv-loop span s settings bars rows₀ equity₀ trades₀ entry «exit» shortEntry shortExit width count t₀ start₀ done₀ rows equity trades t start done =
+    Turn span s (lists entry «exit» shortEntry shortExit) t₀ (rooms rows₀ equity₀ trades₀) bars done start t rows equity trades
 
 abbrev μ-loop : tie.MeasureT-loop
-μ-loop one s settings bars rows₀ equity₀ trades₀ entry «exit» shortEntry shortExit width count t₀ start₀ done₀ rows equity trades t start done = count - done
+μ-loop span s settings bars rows₀ equity₀ trades₀ entry «exit» shortEntry shortExit width count t₀ start₀ done₀ rows equity trades t start done = count - done
 
 add-width : tie.Need-add-width Inv-loop μ-loop
 add-width c =

@@ -25,7 +25,7 @@ decide-next-action-requires c κs =
     let place = row .before .before .before .before .before .before .before .before .before .before .before in
     let start = place .before .before .before .before .before .before .before .before .before .before .before .before .before .before in
     let a = start .args in
-    let kept = placed (a .one) (a .s .slots) (a .rows .now) _ (a .bar .now) (start .pre .1 .at .ring) (start .pre .1 .at .first)
+    let kept = placed (a .span) (a .s .slots) (a .rows .now) _ (a .bar .now) (start .pre .1 .at .ring) (start .pre .1 .at .first)
     (place .place-for .ensures) (row .record-bar .ensures) in
     let ends = held-ends (row .record-bar .last .0) (place .place-for .result .ring) (width (a .s .slots)) (omega arith) (kept .ring) in
     (start .pre .1 .ready .slots, start .pre .1 .ready .bars, ends)
@@ -81,7 +81,7 @@ returns-2 c =
     let m : Rooms = rooms (turned (width (a .s .slots)) (a .start) (a .rows .now)) (a .equity .now) (a .trades .now) in
     let ls : Lists = lists (a .entry .now) (a .exit .now) (a .«short-entry» .now) (a .«short-exit» .now) in
     let same = fill-in-place (a .s) (a .rows .now) _ (start .pre .1 .at .ring) (a .t .order) (a .t .position) _ (a .t .counts .«bars_seen») in
-    let kept = placed (a .one) (a .s .slots) (a .rows .now) _ (a .bar .now) (start .pre .1 .at .ring) (start .pre .1 .at .first)
+    let kept = placed (a .span) (a .s .slots) (a .rows .now) _ (a .bar .now) (start .pre .1 .at .ring) (start .pre .1 .at .first)
     (place .place-for .ensures) (row .record-bar .ensures) in
     let decides = decide-in-place (a .s) _ _ (kept .ring) ls (start .pre .1 .lists) _ _ _ _ in
     rw (c .after-bar .ensures) (record {
