@@ -1,7 +1,7 @@
 -- A bar of a call over many bars is a step that is judged by less; and a turn of the loop over them.
 use Rattle.words.specs.Prelude.{ℕ, _+_, _-_, _*_, _/_, _<_, _≤_, _≡_, refl, sym, _∙_, Bool, true, _&&_, List, [], _∷_, arith, leb-true, leb, length, take, drop}
 use Rattle.words.specs.Prelude.{length-drop, length-take-le}
-use Rattle.words.specs.{Laws.Records.record-ends, Limits.barWords, declared.refusal.Refusal.Refusal}
+use Rattle.words.specs.{Laws.Records.record-ends, Limits.barWords, Limits.mostCount, Limits.mostSlots, declared.refusal.Refusal.Refusal}
 use Rattle.rows.specs.{History.width, Laws.Turned.turned-none, Ring.turned}
 use Rattle.records.specs.{declared.settings.Settings.Settings, declared.state.State.State, Lent.Lists, Lent.Rooms, Lent.rooms, Lent.rowPlaces, Lent.pointPlaces}
 use Rattle.records.specs.{Lent.tradePlaces}
@@ -11,7 +11,7 @@ use Rattle.refusals.specs.{Laws.Lines.fine-adds-nothing, Laws.Steady.next-judge
 use Rattle.engine.specs.{declared.answer.Advanced.Advanced, declared.answer.Answer.Answer, declared.answer.Answer.the-variants.Refused}
 use Rattle.engine.specs.{declared.answer.Answer.the-variants.Done, Boxes.SameLengths, Day.Underway, Day.inRecords, Day.dayOf, InPlace.RingAt}
 use Rattle.engine.specs.{InPlace.Turns, Laws.Days.answerIn, Laws.Days.day-one, Laws.Days.stays-underway, Laws.Days.After, Laws.Days.after-none}
-use Rattle.engine.specs.{Laws.Days.nextBar, Laws.Days.after-all, Laws.Days.after-more, Laws.Days.after-refused, Run.runOver, Step.Is, Step.Ready}
+use Rattle.engine.specs.{Laws.Days.nextBar, Laws.Days.after-all, Laws.Days.after-more, Laws.Days.after-refused, Run.runOver, Step.Is}
 use Rattle.engine.specs.{Step.advanced, Step.stepAnswer}
 use Rattle.engine.proofs.{OneBar.ready, OneBar.refused, OneBar.went}
 use Rattle.refusals.specs.{declared.day.Span.Span, declared.day.Span.the-variants.One, declared.day.Span.the-variants.Many}
@@ -23,7 +23,7 @@ module _ (s : Settings) (t : State) (bar : List ℕ) (m : Rooms) (ls : Lists) {v
   judged-so : stepJudged s t bar m ls ≡ v
   judged-so = next-judged s t bar m ls (c .steady) whole ∙ (fine-adds-nothing _ (listLines (s .slots) (s .depth) ls) (c .lists) ∙ sym judges)
 
-  pub next-ready : v ≡ Fine → Ready s t
+  pub next-ready : v ≡ Fine → (s .slots ≤ mostSlots) × (t .counts .«bars_seen» < mostCount)
   next-ready fine = ready s t bar m ls (judged-so ∙ fine)
 
   pub next-refused : (why : Refusal) → v ≡ Bad why → Is Answer (stepAnswer s t bar m ls) (Refused why t) (m .rows) (m .equity) (m .trades)

@@ -5,7 +5,7 @@ use Rattle.words.specs.{Limits.barWords, declared.refusal.Refusal.Refusal}
 use Rattle.records.specs.{declared.settings.Settings.Settings, declared.state.State.State, Lent.Lists, Lent.Rooms}
 use Rattle.refusals.specs.{declared.verdict.Verdict.Verdict, declared.verdict.Verdict.the-variants.Fine, declared.verdict.Verdict.the-variants.Bad}
 use Rattle.refusals.specs.{Day.wholeBars, Laws.Steady.Steady, Lines.judged, Lists.listLines}
-use Rattle.engine.specs.{declared.day.Day.Day, declared.day.RingDay.RingDay, Run.Run, Run.runOver}
+use Rattle.engine.specs.{declared.day.Day.Day, Run.Run, Run.runOver}
 use Rattle.refusals.specs.{declared.day.Span.Span, declared.day.Span.the-variants.One, declared.day.Span.the-variants.Many}
 
 -- the first n records of a list, each of w words
@@ -35,9 +35,6 @@ dayOf span s t bars m ls = runOver s ls t m (barsFor span (s .slots) bars)
 -- what a call gives and leaves
 abbrev pub runWith : Day → Rooms → Run
 runWith d m = record { done = d .done; verdict = d .verdict; state = d .state; rooms = m }
-
-abbrev pub runOfRing : RingDay → Rooms → Run
-runOfRing d m = record { done = d .done; verdict = d .verdict; state = d .state; rooms = m }
 
 -- a call whose first bar is refused
 abbrev pub firstRefused : State → Refusal → Day

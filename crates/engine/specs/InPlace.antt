@@ -1,7 +1,7 @@
 -- Rows that do not move. Within a call of many bars a full room is a ring: a row goes over the oldest, and the rows that are held begin at row `start`
 -- of the room. What the room would be had the rows moved is the room turned so that row `start` stands first. Definitions only.
-use Rattle.words.specs.Prelude.{ℕ, _+_, _≤_, _≡_, Bool, true, false, cond, List, length, eqb, Float}
-use Rattle.words.specs.{Limits.rowWords, Words.overwrite, Words.shifted}
+use Rattle.words.specs.Prelude.{ℕ, _+_, _<_, _≤_, _≡_, Bool, true, false, cond, List, length, eqb, Float}
+use Rattle.words.specs.{Limits.mostCount, Limits.mostSlots, Limits.rowWords, Words.overwrite, Words.shifted}
 use Rattle.rows.specs.{declared.ring.Ring.Ring, History.width, History.lastRows, Laws.Ring.RingFine, Ring.ringOf, Ring.turned, Ring.ringWith, Ring.ringAfter}
 use Rattle.rows.specs.{Room.withRow, Room.heldWith}
 use Rattle.records.specs.{declared.settings.Settings.Settings, declared.state.Order.Order, declared.state.Position.Position, declared.state.State.State}
@@ -9,7 +9,7 @@ use Rattle.records.specs.{Lent.Lists, Lent.rowPlaces}
 use Rattle.refusals.specs.{declared.verdict.Verdict.the-variants.Fine, Lines.judged, Lists.listLines}
 use Rattle.engine.specs.{declared.answer.Advanced.Advanced, declared.answer.Answer.Answer, declared.record.Place.Place}
 use Rattle.engine.specs.{declared.answer.Answer.the-variants.Refused, declared.answer.Answer.the-variants.Done, Decide.answersOf, Decide.stateAt}
-use Rattle.engine.specs.{Decide.orderAfter, Step.With, Step.Is, Step.Ready}
+use Rattle.engine.specs.{Decide.orderAfter, Step.With, Step.Is}
 use Rattle.refusals.specs.{declared.day.Span.Span, declared.day.Span.the-variants.One, declared.day.Span.the-variants.Many}
 
 -- a row added to the rows `before`: where the call has one bar they move up, else it goes over the oldest
@@ -44,9 +44,10 @@ pub record RingAt (span : Span) (s : Settings) (t : State) (rows : List ℕ) (st
   pub ring : RingFine (rowPlaces (s .slots) rows) (record { held = t .counts .«rows_held»; start = start })
   pub first : span ≡ One → start ≡ 0
 
--- what the phases ask of a bar: that it has the words of a row, too
-pub record ReadyAt (span : Span) (s : Settings) (t : State) (bar rows : List ℕ) (start : ℕ) (ls : Lists) : Type 0 where
-  pub ready : Ready s t
+-- what the phases ask of a bar: the judgement has seen to it
+pub record Ready (span : Span) (s : Settings) (t : State) (bar rows : List ℕ) (start : ℕ) (ls : Lists) : Type 0 where
+  pub slots : s .slots ≤ mostSlots
+  pub bars : t .counts .«bars_seen» < mostCount
   pub long : rowWords (s .slots) ≤ length bar
   pub at : RingAt span s t rows start
   pub lists : judged (listLines (s .slots) (s .depth) ls) ≡ Fine

@@ -10,7 +10,7 @@ ghost use Rattle.refusals.specs.Day.{nextLines};
 ghost use Rattle.refusals.specs.Lines.{judged};
 ghost use Rattle.rows.specs.History.{width};
 ghost use Rattle.rows.specs.Ring.{turned};
-ghost use Rattle.engine.specs.Day.{Underway, inRecords, noBars, dayOf, runWith, runOfRing, unlistedBy};
+ghost use Rattle.engine.specs.Day.{Underway, inRecords, noBars, dayOf, runWith, unlistedBy};
 ghost use Rattle.engine.specs.InPlace.{RingAt, Turns};
 ghost use Rattle.engine.specs.Run.{runOver};
 ghost use Rattle.engine.specs.Step.{stepAnswer};
@@ -29,14 +29,6 @@ pub struct Day {
     pub done: usize,
     pub verdict: Verdict,
     pub state: State,
-}
-
-// The same, and the row of the room at which the rows held begin then.
-pub struct RingDay {
-    pub done: usize,
-    pub verdict: Verdict,
-    pub state: State,
-    pub start: usize,
 }
 
 // A bar of the call, where everything else is fine. The rows held begin at row `start` of their room.
@@ -88,7 +80,7 @@ fn next_bar<'a>(
     }
 }
 
-// All bars of the call, where everything else is fine. In a call of many no row moves: a full room is used as a ring.
+// All bars of the call, where everything else is fine. In a call of many no row moves: a full room is used as a ring, and is turned once, at the end.
 fn take_bars<'a>(
     span: Span,
     s: Settings,
@@ -102,15 +94,16 @@ fn take_bars<'a>(
     exit: &'a [u8],
     short_entry: &[u8],
     short_exit: &'a [u8],
-) -> RingDay
+) -> Day
     requires { ⌜ (s ≡ settingsOf (now settings))
         × Underway s t (rooms (now rows) (now equity) (now trades)) (lists (now entry) (now «exit») (now «short_entry») (now «short_exit»)) ⌝ }
     ensures { λ r. ⌜ runOver s (lists (now (entry .entry)) (now («exit» .entry)) (now («short_entry» .entry)) (now («short_exit» .entry))) t
         (rooms (now (rows .entry)) (now (equity .entry)) (now (trades .entry)))
         (inRecords (length (now (bars .entry)) / barWords (s .slots)) (barWords (s .slots)) (now (bars .entry)))
-        ≡ runOfRing r (rooms (turned (width (s .slots)) (r .start) (now (rows .exit))) (now (equity .exit)) (now (trades .exit))) ⌝ }
+        ≡ runWith r (rooms (now (rows .exit)) (now (equity .exit)) (now (trades .exit))) ⌝ }
 {
     let width = BAR_FIXED + s.slots;
+    let row = ROW_FIXED + s.slots;
     let count = bars.len() / width;
     let mut state = t;
     let mut start: usize = 0;
@@ -136,23 +129,25 @@ fn take_bars<'a>(
         start = went.start;
         let answer = went.answer;
         match answer {
-            Answer::Refused(refusal, given) => return RingDay {
-                done,
-                verdict: Verdict::Bad(refusal),
-                state: given,
-                start,
-            },
+            Answer::Refused(refusal, given) => {
+                rows::ring::turn(rows, row, start);
+                return Day {
+                    done,
+                    verdict: Verdict::Bad(refusal),
+                    state: given,
+                };
+            }
             Answer::Done(next) => {
                 state = next;
                 done += 1;
             }
         }
     }
-    RingDay {
+    rows::ring::turn(rows, row, start);
+    Day {
         done,
         verdict: Verdict::Fine,
         state,
-        start,
     }
 }
 
@@ -198,7 +193,7 @@ fn unlisted(
 }
 
 // Bars, one after another, until one is refused: one, or many. The settings are handed over as their words. Any settings, state, bars and rooms get an answer; the bar that is refused
-// changes nothing. The room of rows is turned once, at the end.
+// changes nothing.
 pub fn run_bars<'a>(
     span: Span,
     settings: &[u64],
@@ -250,8 +245,7 @@ pub fn run_bars<'a>(
     ) {
         return unlisted(s, t, bars, equity, trades, refusal);
     }
-    let width = ROW_FIXED + s.slots;
-    let taken = take_bars(
+    take_bars(
         span,
         s,
         settings,
@@ -264,13 +258,5 @@ pub fn run_bars<'a>(
         exit,
         short_entry,
         short_exit,
-    );
-    rows::ring::turn(rows, width, taken.start);
-    let verdict = taken.verdict;
-    let state = taken.state;
-    Day {
-        done: taken.done,
-        verdict,
-        state,
-    }
+    )
 }

@@ -6,7 +6,7 @@ ghost use Rattle.records.specs.Settings.{settingsOf};
 ghost use Rattle.rows.specs.History.{width};
 ghost use Rattle.rows.specs.Ring.{turned};
 ghost use Rattle.engine.specs.declared.answer.Answer.the-variants.{Refused};
-ghost use Rattle.engine.specs.InPlace.{ReadyAt, Turns};
+ghost use Rattle.engine.specs.InPlace.{Ready, Turns};
 ghost use Rattle.engine.specs.Step.{advanced};
 use crate::account;
 use crate::answer::Advanced;
@@ -75,7 +75,7 @@ pub(crate) fn advance<'a>(
     short_exit: &'a [u8],
 ) -> Advanced
     requires { ⌜ (s ≡ settingsOf (now settings))
-        × ReadyAt span s t (now bar) (now rows) start (lists (now entry) (now «exit») (now «short_entry») (now «short_exit»)) ⌝ }
+        × Ready span s t (now bar) (now rows) start (lists (now entry) (now «exit») (now «short_entry») (now «short_exit»)) ⌝ }
     ensures { λ r. ⌜ Turns span s (advanced s t (now (bar .entry))
         (rooms (turned (width (s .slots)) start (now (rows .entry))) (now (equity .entry)) (now (trades .entry)))
         (lists (now (entry .entry)) (now («exit» .entry)) (now («short_entry» .entry)) (now («short_exit» .entry))))
