@@ -14,6 +14,7 @@ use Rattle.stepping.specs.{Bars.StepLent, Bars.lentLines, Bars.stepGives, Bars.
 use Rattle.stepping.specs.{Day.dayCall, Day.stepsCall, WordRun.WordRun, WordRun.callsOver, WordRun.answerOf, WordRun.lentWith}
 use Rattle.capi.specs.{Joined.first-agrees, Joined.words-fine, Joined.lent-fine, Joined.room-first, Joined.room-passed, Joined.calls-run}
 use Rattle.capi.specs.{Laws.Calls.refused-word, Laws.DumpCalls.lent-small, Laws.RunCalls.step-small}
+use Rattle.refusals.specs.{declared.day.Span.the-variants.Many}
 
 -- a run in words, over a state's words as they were given
 abbrev pub fromWords : List ℕ → Run → WordRun
@@ -26,7 +27,7 @@ inOne r = record { answer = r .answer; lent = record { state = r .lent .state; r
 -- a list of whole bars with a word has a bar
 first-bar : (K w : ℕ) (ws : List ℕ) → wholeBars K (w ∷ ws) ≡ true → barWords K ≤ length (w ∷ ws)
 unfolding noBars wholeFor
-first-bar K w ws h = whole-one K (w ∷ ws) false (ne-eqb (length (w ∷ ws)) 0 (λ (z : length (w ∷ ws) ≡ 0). omega arith)) h
+first-bar K w ws h = whole-one K (w ∷ ws) Many (ne-eqb (length (w ∷ ws)) 0 (λ (z : length (w ∷ ws) ≡ 0). omega arith)) h
 
 -- and is that bar and the others
 bars-first : (K w : ℕ) (ws : List ℕ) → wholeBars K (w ∷ ws) ≡ true

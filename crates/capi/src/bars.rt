@@ -9,6 +9,7 @@ use engine::answer::Finished;
 use records::settings::settings_of;
 use records::state_words::put_state;
 use records::state_words::state_of;
+use refusals::day::Span;
 use refusals::verdict::Verdict;
 use refusals::verdict::first_bad;
 use replies::answer_word;
@@ -39,7 +40,7 @@ pub extern "C" fn ysh_step<'a>(
 {
     let mut done: u64 = 0;
     call_bars(
-        true,
+        Span::One,
         settings,
         state,
         bar,

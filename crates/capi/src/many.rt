@@ -2,6 +2,7 @@
 ghost use mathlib.Core.Path.{_≡_};
 ghost use Rattle.records.specs.Lent.{rooms, lists};
 ghost use Rattle.stepping.specs.Day.{stepsCall};
+use refusals::day::Span;
 use stepping::day::call_bars;
 
 // Many bars in one call: how many were done.
@@ -32,7 +33,7 @@ pub extern "C" fn ysh_steps<'a>(
         } ⌝ }
 {
     call_bars(
-        false,
+        Span::Many,
         settings,
         state,
         bars,

@@ -10,6 +10,7 @@ use metrics::Metrics;
 use needed::depth::DepthAnswer;
 use records::settings::Settings;
 use records::state::State;
+use refusals::day::Span;
 use refusals::verdict::Verdict;
 use steps::translated::Translated;
 use table::trees::Tree;
@@ -196,7 +197,7 @@ pub(crate) fn run_bars<'a>(
 ) -> State {
     let settings = setting_words();
     let day = engine::day::run_bars(
-        false,
+        Span::Many,
         &settings,
         state,
         bars,

@@ -1,7 +1,7 @@
 -- A bar of a call over many bars is a step that is judged by less; and a turn of the loop over them.
 use Rattle.words.specs.Prelude.{ℕ, _+_, _-_, _*_, _/_, _<_, _≤_, _≡_, refl, sym, _∙_, Bool, true, _&&_, List, [], _∷_, arith, leb-true, leb, length, take, drop}
 use Rattle.words.specs.Prelude.{length-drop, length-take-le}
-use Rattle.words.specs.{Laws.Records.record-ends, Limits.barWords, declared.refusal.Refusal.Refusal}
+use Rattle.words.specs.{Laws.Records.record-ends, Limits.barWords, Limits.mostCount, Limits.mostSlots, declared.refusal.Refusal.Refusal}
 use Rattle.rows.specs.{History.width, Laws.Turned.turned-none, Ring.turned}
 use Rattle.records.specs.{declared.settings.Settings.Settings, declared.state.State.State, Lent.Lists, Lent.Rooms, Lent.rooms, Lent.rowPlaces, Lent.pointPlaces}
 use Rattle.records.specs.{Lent.tradePlaces}
@@ -11,9 +11,10 @@ use Rattle.refusals.specs.{Laws.Lines.fine-adds-nothing, Laws.Steady.next-judge
 use Rattle.engine.specs.{declared.answer.Advanced.Advanced, declared.answer.Answer.Answer, declared.answer.Answer.the-variants.Refused}
 use Rattle.engine.specs.{declared.answer.Answer.the-variants.Done, Boxes.SameLengths, Day.Underway, Day.inRecords, Day.dayOf, InPlace.RingAt}
 use Rattle.engine.specs.{InPlace.Turns, Laws.Days.answerIn, Laws.Days.day-one, Laws.Days.stays-underway, Laws.Days.After, Laws.Days.after-none}
-use Rattle.engine.specs.{Laws.Days.nextBar, Laws.Days.after-all, Laws.Days.after-more, Laws.Days.after-refused, Run.runOver, Step.Is, Step.Ready}
+use Rattle.engine.specs.{Laws.Days.nextBar, Laws.Days.after-all, Laws.Days.after-more, Laws.Days.after-refused, Run.runOver, Step.Is}
 use Rattle.engine.specs.{Step.advanced, Step.stepAnswer}
 use Rattle.engine.proofs.{OneBar.ready, OneBar.refused, OneBar.went}
+use Rattle.refusals.specs.{declared.day.Span.Span, declared.day.Span.the-variants.One, declared.day.Span.the-variants.Many}
 
 -- ---- a bar
 
@@ -22,31 +23,31 @@ module _ (s : Settings) (t : State) (bar : List ℕ) (m : Rooms) (ls : Lists) {v
   judged-so : stepJudged s t bar m ls ≡ v
   judged-so = next-judged s t bar m ls (c .steady) whole ∙ (fine-adds-nothing _ (listLines (s .slots) (s .depth) ls) (c .lists) ∙ sym judges)
 
-  pub next-ready : v ≡ Fine → Ready s t
+  pub next-ready : v ≡ Fine → (s .slots ≤ mostSlots) × (t .counts .«bars_seen» < mostCount)
   next-ready fine = ready s t bar m ls (judged-so ∙ fine)
 
   pub next-refused : (why : Refusal) → v ≡ Bad why → Is Answer (stepAnswer s t bar m ls) (Refused why t) (m .rows) (m .equity) (m .trades)
   next-refused why bad = refused s t bar m ls why (judged-so ∙ bad)
 
-  pub next-went : {one : Bool} {r : Advanced} {ws es us : List ℕ} → v ≡ Fine → Turns one s (advanced s t bar m ls) r ws es us
-      → Turns one s (stepAnswer s t bar m ls) r ws es us
+  pub next-went : {span : Span} {r : Advanced} {ws es us : List ℕ} → v ≡ Fine → Turns span s (advanced s t bar m ls) r ws es us
+      → Turns span s (stepAnswer s t bar m ls) r ws es us
   next-went fine d = record { answer = went s t bar m ls (judged-so ∙ fine) _ _ _ _ (d .answer); at = d .at }
 
 -- ---- bar after bar
 
 -- what holds whenever the loop over the bars is at its test: so many are done, and the run goes on from here, over the room as it would stand
-pub record Turn (one : Bool) (s : Settings) (ls : Lists) (t₀ : State) (m₀ : Rooms) (bars : List ℕ) (done start : ℕ) (t : State) (rows equity trades : List ℕ)
+pub record Turn (span : Span) (s : Settings) (ls : Lists) (t₀ : State) (m₀ : Rooms) (bars : List ℕ) (done start : ℕ) (t : State) (rows equity trades : List ℕ)
     : Type 0 where
   pub within : done ≤ length bars / barWords (s .slots)
   pub underway : Underway s t (rooms (turned (width (s .slots)) start rows) equity trades) ls
   pub after : After s ls t₀ m₀ bars (length bars / barWords (s .slots)) (barWords (s .slots)) done t
       (rooms (turned (width (s .slots)) start rows) equity trades)
-  pub at : RingAt one s t rows start
+  pub at : RingAt span s t rows start
   pub lengths : SameLengths m₀ (rooms rows equity trades)
 
 -- a room for D rows is a ring that begins at its first
-fresh-ring : (one : Bool) (s : Settings) (t : State) (m : Rooms) (ls : Lists) → Underway s t m ls → RingAt one s t (m .rows) 0
-fresh-ring one s t m ls c =
+fresh-ring : (span : Span) (s : Settings) (t : State) (m : Rooms) (ls : Lists) → Underway s t m ls → RingAt span s t (m .rows) 0
+fresh-ring span s t m ls c =
     let fine = settings-fine s (c .steady .settings) in
     let lines : judged (line (leb (s .depth) (rowPlaces (s .slots) (m .rows))) 10 0 ∷ []) ≡ Fine = unfold roomLines in c .steady .room in
     let room : s .depth ≤ rowPlaces (s .slots) (m .rows) = leb-true _ _ (first-holds _ _ lines .0) in
@@ -59,13 +60,13 @@ fresh-ring one s t m ls c =
       first = λ h. refl;
     }
 
-pub begins : (one : Bool) (s : Settings) (ls : Lists) (t : State) (m : Rooms) (bars : List ℕ) → Underway s t m ls
-    → Turn one s ls t m bars 0 0 t (m .rows) (m .equity) (m .trades)
-begins one s ls t m bars c = record {
+pub begins : (span : Span) (s : Settings) (ls : Lists) (t : State) (m : Rooms) (bars : List ℕ) → Underway s t m ls
+    → Turn span s ls t m bars 0 0 t (m .rows) (m .equity) (m .trades)
+begins span s ls t m bars c = record {
   within = omega arith;
   underway = rw turned-none c;
   after = rw turned-none (after-none s ls t m bars _ _);
-  at = fresh-ring one s t m ls c;
+  at = fresh-ring span s t m ls c;
   lengths = record { rows = refl; equity = refl; trades = refl };
 }
 
@@ -73,8 +74,8 @@ begins one s ls t m bars c = record {
 pub bar-ends : (K n done : ℕ) → done < n / barWords K → done * barWords K + barWords K ≤ n
 bar-ends K n done h = record-ends n (barWords K) (omega arith) done h
 
-module _ (one : Bool) (s : Settings) (ls : Lists) (t₀ : State) (m₀ : Rooms) (bars : List ℕ) (done start : ℕ) (t : State) (rows equity trades : List ℕ)
-    (c : Turn one s ls t₀ m₀ bars done start t rows equity trades) (more : done < length bars / barWords (s .slots)) where
+module _ (span : Span) (s : Settings) (ls : Lists) (t₀ : State) (m₀ : Rooms) (bars : List ℕ) (done start : ℕ) (t : State) (rows equity trades : List ℕ)
+    (c : Turn span s ls t₀ m₀ bars done start t rows equity trades) (more : done < length bars / barWords (s .slots)) where
   -- the bar that the code takes: from its first word up to the next bar's
   abbrev pub bar : List ℕ
   bar = take (done * barWords (s .slots) + barWords (s .slots) - done * barWords (s .slots)) (drop (done * barWords (s .slots)) bars)
@@ -91,9 +92,9 @@ module _ (one : Bool) (s : Settings) (ls : Lists) (t₀ : State) (m₀ : Rooms) 
       let long : length (drop (done * barWords (s .slots)) bars) ≡ length bars - done * barWords (s .slots) = length-drop _ bars in
       rw same-bar (length-take-le (barWords (s .slots)) _ (omega (arith, long, bar-ends (s .slots) (length bars) done more)))
 
-  module _ {r : Advanced} {ws es ts : List ℕ} (d : Turns one s (stepAnswer s t bar room ls) r ws es ts) where
+  module _ {r : Advanced} {ws es ts : List ℕ} (d : Turns span s (stepAnswer s t bar room ls) r ws es ts) where
     pub one-more : {u : State} → r .answer ≡ Done u → length ws ≡ length rows → length es ≡ length equity → length ts ≡ length trades
-        → Turn one s ls t₀ m₀ bars (done + 1) (r .start) u ws es ts
+        → Turn span s ls t₀ m₀ bars (done + 1) (r .start) u ws es ts
     one-more {u} e rowed pointed traded =
         let went : Is Answer (stepAnswer s t bar room ls) (Done u) (turned (width (s .slots)) (r .start) ws) es ts = rw e at (d .answer) in
         record {
@@ -111,16 +112,16 @@ module _ (one : Bool) (s : Settings) (ls : Lists) (t₀ : State) (m₀ : Rooms) 
         let went : Is Answer (stepAnswer s t bar room ls) (Refused why u) (turned (width (s .slots)) (r .start) ws) es ts = rw e at (d .answer) in
         after-refused s ls t₀ m₀ bars _ _ done more t room (c .after) (rw same-bar at went)
 
-pub all-done : (one : Bool) (s : Settings) (ls : Lists) (t₀ : State) (m₀ : Rooms) (bars : List ℕ) (done start : ℕ) (t : State) (rows equity trades : List ℕ)
-    → Turn one s ls t₀ m₀ bars done start t rows equity trades → length bars / barWords (s .slots) ≤ done
+pub all-done : (span : Span) (s : Settings) (ls : Lists) (t₀ : State) (m₀ : Rooms) (bars : List ℕ) (done start : ℕ) (t : State) (rows equity trades : List ℕ)
+    → Turn span s ls t₀ m₀ bars done start t rows equity trades → length bars / barWords (s .slots) ≤ done
     → runOver s ls t₀ m₀ (inRecords (length bars / barWords (s .slots)) (barWords (s .slots)) bars)
     ≡ record { done = done; verdict = Fine; state = t; rooms = rooms (turned (width (s .slots)) start rows) equity trades }
-all-done one s ls t₀ m₀ bars done start t rows equity trades c h = after-all s ls t₀ m₀ bars _ _ done h (c .after)
+all-done span s ls t₀ m₀ bars done start t rows equity trades c h = after-all s ls t₀ m₀ bars _ _ done h (c .after)
 
 -- ---- one bar
 
 module _ (s : Settings) (t : State) (bar : List ℕ) (m : Rooms) (ls : Lists) {n : ℕ} {v : Verdict} {u : State} {ws es ts : List ℕ}
-    (ran : dayOf true s t bar m ls ≡ record { done = n; verdict = v; state = u; rooms = rooms ws es ts }) where
+    (ran : dayOf One s t bar m ls ≡ record { done = n; verdict = v; state = u; rooms = rooms ws es ts }) where
   pub one-refused : {why : Refusal} → v ≡ Bad why → Is Answer (stepAnswer s t bar m ls) (Refused why u) ws es ts
   unfolding answerIn
   one-refused bad = rw bad at (day-one s t bar m ls _ ran)

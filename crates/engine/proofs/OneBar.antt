@@ -1,8 +1,8 @@
 -- The phases of a step, each by its own definition, make the whole.
-use Rattle.words.specs.Prelude.{ℕ, _+_, _≡_, refl, ap, true, false, List}
+use Rattle.words.specs.Prelude.{ℕ, _+_, _<_, _≤_, _≡_, refl, ap, true, false, List}
 use Rattle.rows.specs.{History.historyOf, Room.withRow, Room.heldWith}
 use Rattle.portfolio.specs.{declared.Candle.Candle}
-use Rattle.words.specs.{declared.refusal.Refusal.Refusal, Outcome.refusal}
+use Rattle.words.specs.{declared.refusal.Refusal.Refusal, Limits.mostCount, Limits.mostSlots, Outcome.refusal}
 use Rattle.records.specs.{declared.state.Order.Order, declared.state.Position.Position, declared.settings.Settings.Settings, declared.state.State.State}
 use Rattle.records.specs.{Bar.candleOf, Lent.Lists, Lent.Rooms}
 use Rattle.refusals.specs.{declared.verdict.Verdict.the-variants.Fine, declared.verdict.Verdict.the-variants.Bad, Laws.Fine.step-fine, Lines.judged}
@@ -10,7 +10,7 @@ use Rattle.refusals.specs.{Judgement.stepJudged}
 use Rattle.engine.specs.{declared.account.Filled.Filled, declared.account.Left.Left, declared.answer.Answer.Answer}
 use Rattle.engine.specs.{declared.answer.Answer.the-variants.Refused, declared.answer.Answer.the-variants.Done, Account.filled, Account.intrabar}
 use Rattle.engine.specs.{Account.charged, Books.booked, Books.marked, Decide.decided, Record.rowOf, Record.heldRows, Laws.Verdict.handed-bad}
-use Rattle.engine.specs.{Laws.Verdict.handed-fine, Step.Is, Step.Ready, Step.fillOf, Step.stepped, Step.answered, Step.sizeLines, Step.advanced}
+use Rattle.engine.specs.{Laws.Verdict.handed-fine, Step.Is, Step.fillOf, Step.stepped, Step.answered, Step.sizeLines, Step.advanced}
 use Rattle.engine.specs.{Step.stepAnswer}
 
 module _ (s : Settings) (t : State) (bar : List ℕ) (m : Rooms) (ls : Lists) where
@@ -54,8 +54,9 @@ module _ (s : Settings) (t : State) (bar : List ℕ) (m : Rooms) (ls : Lists) wh
     unfolding advanced answered sizeLines judged
     goes h r ws es us d = rw (same-fill, h) (record { result = ap Done (d .result); rows = d .rows; equity = d .equity; trades = d .trades })
 
-  pub ready : stepJudged s t bar m ls ≡ Fine → Ready s t
-  ready h = let f = step-fine s t bar m ls h in record { slots = f .settings .slots; bars = f .bars }
+  -- what the judgement has seen to for the phases
+  pub ready : stepJudged s t bar m ls ≡ Fine → (s .slots ≤ mostSlots) × (t .counts .«bars_seen» < mostCount)
+  ready h = let f = step-fine s t bar m ls h in (f .settings .slots, f .bars)
 
   pub refused : (why : Refusal) → stepJudged s t bar m ls ≡ Bad why
       → Is Answer (stepAnswer s t bar m ls) (Refused why t) (m .rows) (m .equity) (m .trades)

@@ -8,6 +8,7 @@ use Rattle.words.specs.{Laws.Records.record-ends}
 use Rattle.rows.specs.{declared.ring.Ring.Ring, Laws.Ring.RingFine, Ring.ringWith, Ring.ringAfter, Ring.nextStart, Room.placesFor, Room.withRow, Room.heldWith}
 use Rattle.rows.specs.{Laws.Added.moved-up}
 use Rattle.engine.specs.{declared.record.Place.Place, InPlace.keptRing, InPlace.keptRoom, InPlace.rowPlaced, InPlace.PlaceFor}
+use Rattle.refusals.specs.{declared.day.Span.Span, declared.day.Span.the-variants.One, declared.day.Span.the-variants.Many}
 
 module _ (room : List ℕ) (before : Ring) (w : ℕ) (some : 0 < w) (ok : RingFine (length room / w) before) where
   -- the rows held end by the room's end
@@ -47,10 +48,10 @@ moved-length room w end h k = rw (shifted-fits room w end h k) (simp (length-app
 
 module _ (room : List ℕ) (before : Ring) (w : ℕ) (some : 0 < w) (ok : RingFine (length room / w) before) where
   -- A PLACE IS LEFT
-  pub behind : (one : Bool) → (one ≡ true → before .start ≡ 0) → w ≤ length room - before .held * w
-      → PlaceFor one w room before (record { at = before .held * w; moved = 0; ring = record { held = before .held + 1; start = before .start } })
+  pub behind : (span : Span) → (span ≡ One → before .start ≡ 0) → w ≤ length room - before .held * w
+      → PlaceFor span w room before (record { at = before .held * w; moved = 0; ring = record { held = before .held + 1; start = before .start } })
   unfolding rowPlaced
-  behind one first h = record { fits = ends; ring = λ row e. ringed one first row e; added = λ row e. written one row e }
+  behind span first h = record { fits = ends; ring = λ row e. ringed span first row e; added = λ row e. written span row e }
     where
       place : before .held < length room / w
       place = free room before w some ok h
@@ -58,20 +59,20 @@ module _ (room : List ℕ) (before : Ring) (w : ℕ) (some : 0 < w) (ok : RingFi
       ends : before .held * w + w ≤ length room
       ends = record-ends (length room) w some (before .held) place
 
-      ringed : (one : Bool) → (one ≡ true → before .start ≡ 0) → (row : List ℕ) → length row ≡ w
-          → _≡_ {A = Ring} (record { held = before .held + 1; start = before .start }) (keptRing one room before row)
-      ringed true first row e = unfold keptRing heldWith in rw (e, lt-ltb (before .held) (length room / w) place, first refl)
-      ringed false first row e = unfold keptRing ringAfter in rw (e, lt-ltb (before .held) (length room / w) place)
+      ringed : (span : Span) → (span ≡ One → before .start ≡ 0) → (row : List ℕ) → length row ≡ w
+          → _≡_ {A = Ring} (record { held = before .held + 1; start = before .start }) (keptRing span room before row)
+      ringed One first row e = unfold keptRing heldWith in rw (e, lt-ltb (before .held) (length room / w) place, first refl)
+      ringed Many first row e = unfold keptRing ringAfter in rw (e, lt-ltb (before .held) (length room / w) place)
 
-      written : (one : Bool) (row : List ℕ) → length row ≡ w → overwrite (shifted room (length row) 0) (before .held * w) row ≡ keptRoom one room before row
-      written true row e =
+      written : (span : Span) (row : List ℕ) → length row ≡ w → overwrite (shifted room (length row) 0) (before .held * w) row ≡ keptRoom span room before row
+      written One row e =
           unfold keptRoom withRow in
           rw (e, unmoved room w some, lt-ltb (before .held) (length room / w) place) (rw e at (overwrite-fits room (before .held * w) row (rw e ends)))
-      written false row e = unfold keptRoom ringWith in rw (e, unmoved room w some, lt-ltb (before .held) (length room / w) place)
+      written Many row e = unfold keptRoom ringWith in rw (e, unmoved room w some, lt-ltb (before .held) (length room / w) place)
 
   -- THE ROWS MOVE UP
   pub behind-moved : length room - before .held * w < w
-      → PlaceFor true w room before (record { at = before .held * w - w; moved = before .held * w; ring = record { held = before .held; start = 0 } })
+      → PlaceFor One w room before (record { at = before .held * w - w; moved = before .held * w; ring = record { held = before .held; start = 0 } })
   unfolding rowPlaced keptRoom
   behind-moved h = record { fits = omega (arith, ends, hold); ring = λ row e. ringed row e; added = λ row e. written row e }
     where
@@ -84,11 +85,11 @@ module _ (room : List ℕ) (before : Ring) (w : ℕ) (some : 0 < w) (ok : RingFi
       hold : w ≤ before .held * w
       hold = some-held room before w some ok h
 
-      ringed : (row : List ℕ) → length row ≡ w → _≡_ {A = Ring} (record { held = before .held; start = 0 }) (keptRing true room before row)
+      ringed : (row : List ℕ) → length row ≡ w → _≡_ {A = Ring} (record { held = before .held; start = 0 }) (keptRing One room before row)
       ringed row e = unfold keptRing heldWith in rw (e, all, le-ltb (before .held) (before .held) (omega arith))
 
       written : (row : List ℕ) → length row ≡ w
-          → overwrite (shifted room (length row) (before .held * w)) (before .held * w - w) row ≡ keptRoom true room before row
+          → overwrite (shifted room (length row) (before .held * w)) (before .held * w - w) row ≡ keptRoom One room before row
       written row e =
           let places : placesFor room row ≡ before .held = rw (e, all) in
           let moved : List ℕ = shifted room (length row) (before .held * w) in
@@ -98,17 +99,17 @@ module _ (room : List ℕ) (before : Ring) (w : ℕ) (some : 0 < w) (ok : RingFi
 
   -- IT GOES OVER THE OLDEST
   pub over-oldest : length room - before .held * w < w → (next : ℕ) → next ≡ nextStart (before .held) (before .start)
-      → PlaceFor false w room before (record { at = before .start * w; moved = 0; ring = record { held = before .held; start = next } })
+      → PlaceFor Many w room before (record { at = before .start * w; moved = 0; ring = record { held = before .held; start = next } })
   unfolding rowPlaced
   over-oldest h next n = record { fits = oldest-ends room before w some ok; ring = λ row e. ringed row e; added = λ row e. written row e }
     where
       all : length room / w ≡ before .held
       all = full room before w some ok h
 
-      ringed : (row : List ℕ) → length row ≡ w → _≡_ {A = Ring} (record { held = before .held; start = next }) (keptRing false room before row)
+      ringed : (row : List ℕ) → length row ≡ w → _≡_ {A = Ring} (record { held = before .held; start = next }) (keptRing Many room before row)
       ringed row e = unfold keptRing ringAfter in rw (e, all, le-ltb (before .held) (before .held) (omega arith), n)
 
-      written : (row : List ℕ) → length row ≡ w → overwrite (shifted room (length row) 0) (before .start * w) row ≡ keptRoom false room before row
+      written : (row : List ℕ) → length row ≡ w → overwrite (shifted room (length row) 0) (before .start * w) row ≡ keptRoom Many room before row
       written row e =
           unfold keptRoom ringWith in
           rw (e, unmoved room w some, all, le-ltb (before .held) (before .held) (omega arith), lt-ltb (before .start) (before .held) (rw all at (ok .within)))

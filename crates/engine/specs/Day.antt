@@ -5,7 +5,8 @@ use Rattle.words.specs.{Limits.barWords, declared.refusal.Refusal.Refusal}
 use Rattle.records.specs.{declared.settings.Settings.Settings, declared.state.State.State, Lent.Lists, Lent.Rooms}
 use Rattle.refusals.specs.{declared.verdict.Verdict.Verdict, declared.verdict.Verdict.the-variants.Fine, declared.verdict.Verdict.the-variants.Bad}
 use Rattle.refusals.specs.{Day.wholeBars, Laws.Steady.Steady, Lines.judged, Lists.listLines}
-use Rattle.engine.specs.{declared.day.Day.Day, declared.day.RingDay.RingDay, Run.Run, Run.runOver}
+use Rattle.engine.specs.{declared.day.Day.Day, Run.Run, Run.runOver}
+use Rattle.refusals.specs.{declared.day.Span.Span, declared.day.Span.the-variants.One, declared.day.Span.the-variants.Many}
 
 -- the first n records of a list, each of w words
 unfoldable pub inRecords : ℕ → ℕ → List ℕ → List (List ℕ)
@@ -18,25 +19,22 @@ unfoldable pub barsIn : ℕ → List ℕ → List (List ℕ)
 barsIn K bars = cond (wholeBars K bars) (inRecords (length bars / barWords K) (barWords K) bars) (bars ∷ [])
 
 -- a call of one bar takes the list as that bar
-unfoldable pub barsFor : Bool → ℕ → List ℕ → List (List ℕ)
-barsFor true K bars = bars ∷ []
-barsFor false K bars = barsIn K bars
+unfoldable pub barsFor : Span → ℕ → List ℕ → List (List ℕ)
+barsFor One K bars = bars ∷ []
+barsFor Many K bars = barsIn K bars
 
 -- a call of many that is handed none
-unfoldable pub noBars : Bool → List ℕ → Bool
-noBars true bars = false
-noBars false bars = eqb (length bars) 0
+unfoldable pub noBars : Span → List ℕ → Bool
+noBars One bars = false
+noBars Many bars = eqb (length bars) 0
 
 -- a step for each bar, over the state and the rooms that the one before left
-unfoldable pub dayOf : Bool → Settings → State → List ℕ → Rooms → Lists → Run
-dayOf one s t bars m ls = runOver s ls t m (barsFor one (s .slots) bars)
+unfoldable pub dayOf : Span → Settings → State → List ℕ → Rooms → Lists → Run
+dayOf span s t bars m ls = runOver s ls t m (barsFor span (s .slots) bars)
 
 -- what a call gives and leaves
 abbrev pub runWith : Day → Rooms → Run
 runWith d m = record { done = d .done; verdict = d .verdict; state = d .state; rooms = m }
-
-abbrev pub runOfRing : RingDay → Rooms → Run
-runOfRing d m = record { done = d .done; verdict = d .verdict; state = d .state; rooms = m }
 
 -- a call whose first bar is refused
 abbrev pub firstRefused : State → Refusal → Day

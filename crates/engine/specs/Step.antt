@@ -1,7 +1,6 @@
 -- One bar. "Order, as in `step_with_feeds`: fill the working order, record the row, intrabar exits, funding, equity at the
 -- close, decide."
 use Rattle.words.specs.Prelude.{ℕ, _+_, _≤_, _<_, _≡_, not, List, [], _∷_, _++_}
-use Rattle.words.specs.{Limits.mostCount, Limits.mostSlots}
 use Rattle.rows.specs.{History.historyOf, Room.withRow, Room.heldWith}
 use Rattle.records.specs.{declared.settings.Settings.Settings, declared.state.State.State, Bar.candleOf, Lent.Lists, Lent.Rooms}
 use Rattle.refusals.specs.{declared.verdict.Verdict.Verdict, declared.verdict.Verdict.the-variants.Fine, declared.verdict.Verdict.the-variants.Bad, Lines.Line}
@@ -71,8 +70,3 @@ pub record Is (A : Type 0) (d : With A) (r : A) (ws es ts : List ℕ) : Type 0 w
   pub rows : ws ≡ d .rooms .rows
   pub equity : es ≡ d .rooms .equity
   pub trades : ts ≡ d .rooms .trades
-
--- what the phases ask of a step: the judgement has seen to it
-pub record Ready (s : Settings) (t : State) : Type 0 where
-  pub slots : s .slots ≤ mostSlots
-  pub bars : t .counts .«bars_seen» < mostCount

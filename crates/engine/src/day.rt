@@ -10,7 +10,7 @@ ghost use Rattle.refusals.specs.Day.{nextLines};
 ghost use Rattle.refusals.specs.Lines.{judged};
 ghost use Rattle.rows.specs.History.{width};
 ghost use Rattle.rows.specs.Ring.{turned};
-ghost use Rattle.engine.specs.Day.{Underway, inRecords, noBars, dayOf, runWith, runOfRing, unlistedBy};
+ghost use Rattle.engine.specs.Day.{Underway, inRecords, noBars, dayOf, runWith, unlistedBy};
 ghost use Rattle.engine.specs.InPlace.{RingAt, Turns};
 ghost use Rattle.engine.specs.Run.{runOver};
 ghost use Rattle.engine.specs.Step.{stepAnswer};
@@ -18,6 +18,7 @@ use crate::answer::Advanced;
 use crate::answer::Answer;
 use records::settings::Settings;
 use records::state::State;
+use refusals::day::Span;
 use refusals::verdict::Verdict;
 use words::limits::BAR_FIXED;
 use words::limits::ROW_FIXED;
@@ -30,17 +31,9 @@ pub struct Day {
     pub state: State,
 }
 
-// The same, and the row of the room at which the rows held begin then.
-pub struct RingDay {
-    pub done: usize,
-    pub verdict: Verdict,
-    pub state: State,
-    pub start: usize,
-}
-
 // A bar of the call, where everything else is fine. The rows held begin at row `start` of their room.
 fn next_bar<'a>(
-    one: bool,
+    span: Span,
     s: Settings,
     settings: &[u64],
     t: State,
@@ -54,10 +47,10 @@ fn next_bar<'a>(
     short_entry: &[u8],
     short_exit: &'a [u8],
 ) -> Advanced
-    requires { ⌜ (s ≡ settingsOf (now settings)) × (length (now bar) ≡ barWords (s .slots)) × RingAt one s t (now rows) start × Underway s t
+    requires { ⌜ (s ≡ settingsOf (now settings)) × (length (now bar) ≡ barWords (s .slots)) × RingAt span s t (now rows) start × Underway s t
         (rooms (turned (width (s .slots)) start (now rows)) (now equity) (now trades))
         (lists (now entry) (now «exit») (now «short_entry») (now «short_exit»)) ⌝ }
-    ensures { λ r. ⌜ Turns one s (stepAnswer s t (now (bar .entry))
+    ensures { λ r. ⌜ Turns span s (stepAnswer s t (now (bar .entry))
         (rooms (turned (width (s .slots)) start (now (rows .entry))) (now (equity .entry)) (now (trades .entry)))
         (lists (now (entry .entry)) (now («exit» .entry)) (now («short_entry» .entry)) (now («short_exit» .entry))))
         r (now (rows .exit)) (now (equity .exit)) (now (trades .exit)) ⌝ }
@@ -70,7 +63,7 @@ fn next_bar<'a>(
             start,
         },
         Verdict::Fine => phases::advance(
-            one,
+            span,
             s,
             settings,
             t,
@@ -87,9 +80,9 @@ fn next_bar<'a>(
     }
 }
 
-// All bars of the call, where everything else is fine. In a call of many no row moves: a full room is used as a ring.
+// All bars of the call, where everything else is fine. In a call of many no row moves: a full room is used as a ring, and is turned once, at the end.
 fn take_bars<'a>(
-    one: bool,
+    span: Span,
     s: Settings,
     settings: &[u64],
     t: State,
@@ -101,15 +94,16 @@ fn take_bars<'a>(
     exit: &'a [u8],
     short_entry: &[u8],
     short_exit: &'a [u8],
-) -> RingDay
+) -> Day
     requires { ⌜ (s ≡ settingsOf (now settings))
         × Underway s t (rooms (now rows) (now equity) (now trades)) (lists (now entry) (now «exit») (now «short_entry») (now «short_exit»)) ⌝ }
     ensures { λ r. ⌜ runOver s (lists (now (entry .entry)) (now («exit» .entry)) (now («short_entry» .entry)) (now («short_exit» .entry))) t
         (rooms (now (rows .entry)) (now (equity .entry)) (now (trades .entry)))
         (inRecords (length (now (bars .entry)) / barWords (s .slots)) (barWords (s .slots)) (now (bars .entry)))
-        ≡ runOfRing r (rooms (turned (width (s .slots)) (r .start) (now (rows .exit))) (now (equity .exit)) (now (trades .exit))) ⌝ }
+        ≡ runWith r (rooms (now (rows .exit)) (now (equity .exit)) (now (trades .exit))) ⌝ }
 {
     let width = BAR_FIXED + s.slots;
+    let row = ROW_FIXED + s.slots;
     let count = bars.len() / width;
     let mut state = t;
     let mut start: usize = 0;
@@ -118,7 +112,7 @@ fn take_bars<'a>(
         let from = done * width;
         let to = from + width;
         let went = next_bar(
-            one,
+            span,
             s,
             settings,
             state,
@@ -135,34 +129,36 @@ fn take_bars<'a>(
         start = went.start;
         let answer = went.answer;
         match answer {
-            Answer::Refused(refusal, given) => return RingDay {
-                done,
-                verdict: Verdict::Bad(refusal),
-                state: given,
-                start,
-            },
+            Answer::Refused(refusal, given) => {
+                rows::ring::turn(rows, row, start);
+                return Day {
+                    done,
+                    verdict: Verdict::Bad(refusal),
+                    state: given,
+                };
+            }
             Answer::Done(next) => {
                 state = next;
                 done += 1;
             }
         }
     }
-    RingDay {
+    rows::ring::turn(rows, row, start);
+    Day {
         done,
         verdict: Verdict::Fine,
         state,
-        start,
     }
 }
 
 // Whether a call of many is handed none.
-pub fn no_bars(one: bool, bars: &[u64]) -> bool
-    ensures { λ r. ⌜ r ≡ noBars one (now (bars .entry)) ⌝ }
+pub fn no_bars(span: Span, bars: &[u64]) -> bool
+    ensures { λ r. ⌜ r ≡ noBars span (now (bars .entry)) ⌝ }
 {
-    if one {
-        return false;
+    match span {
+        Span::One => false,
+        Span::Many => bars.len() == 0,
     }
-    bars.len() == 0
 }
 
 // The first bar, where a list of steps is not well formed: 15 comes after what is wrong with the bar.
@@ -197,9 +193,9 @@ fn unlisted(
 }
 
 // Bars, one after another, until one is refused: one, or many. The settings are handed over as their words. Any settings, state, bars and rooms get an answer; the bar that is refused
-// changes nothing. The room of rows is turned once, at the end.
+// changes nothing.
 pub fn run_bars<'a>(
-    one: bool,
+    span: Span,
     settings: &[u64],
     t: State,
     bars: &[u64],
@@ -211,12 +207,12 @@ pub fn run_bars<'a>(
     short_entry: &[u8],
     short_exit: &'a [u8],
 ) -> Day
-    ensures { λ r. ⌜ dayOf one (settingsOf (now (settings .entry))) t (now (bars .entry))
+    ensures { λ r. ⌜ dayOf span (settingsOf (now (settings .entry))) t (now (bars .entry))
         (rooms (now (rows .entry)) (now (equity .entry)) (now (trades .entry)))
         (lists (now (entry .entry)) (now («exit» .entry)) (now («short_entry» .entry)) (now («short_exit» .entry)))
         ≡ runWith r (rooms (now (rows .exit)) (now (equity .exit)) (now (trades .exit))) ⌝ }
 {
-    if no_bars(one, bars) {
+    if no_bars(span, bars) {
         return Day {
             done: 0,
             verdict: Verdict::Fine,
@@ -224,7 +220,15 @@ pub fn run_bars<'a>(
         };
     }
     let s = records::settings::settings_of(settings);
-    if let Verdict::Bad(refusal) = refusals::day::judge_day(one, s, t, bars, rows, equity, trades) {
+    if let Verdict::Bad(refusal) = refusals::day::judge_day(
+        span,
+        s,
+        t,
+        bars,
+        rows,
+        equity,
+        trades,
+    ) {
         return Day {
             done: 0,
             verdict: Verdict::Bad(refusal),
@@ -241,9 +245,8 @@ pub fn run_bars<'a>(
     ) {
         return unlisted(s, t, bars, equity, trades, refusal);
     }
-    let width = ROW_FIXED + s.slots;
-    let taken = take_bars(
-        one,
+    take_bars(
+        span,
         s,
         settings,
         t,
@@ -255,13 +258,5 @@ pub fn run_bars<'a>(
         exit,
         short_entry,
         short_exit,
-    );
-    rows::ring::turn(rows, width, taken.start);
-    let verdict = taken.verdict;
-    let state = taken.state;
-    Day {
-        done: taken.done,
-        verdict,
-        state,
-    }
+    )
 }

@@ -6,7 +6,7 @@ ghost use Rattle.records.specs.Settings.{settingsOf};
 ghost use Rattle.rows.specs.History.{width};
 ghost use Rattle.rows.specs.Ring.{turned};
 ghost use Rattle.engine.specs.declared.answer.Answer.the-variants.{Refused};
-ghost use Rattle.engine.specs.InPlace.{ReadyAt, Turns};
+ghost use Rattle.engine.specs.InPlace.{Ready, Turns};
 ghost use Rattle.engine.specs.Step.{advanced};
 use crate::account;
 use crate::answer::Advanced;
@@ -20,6 +20,7 @@ use records::state::Last;
 use records::state::Order;
 use records::state::Position;
 use records::state::State;
+use refusals::day::Span;
 use rows::ring::Ring;
 use words::refusal::Refusal;
 
@@ -59,7 +60,7 @@ fn after_bar(counts: Counts, order: Order, position: Position, candle: Candle) -
 // before it left, and nothing is written before the fill is known, so that one that is turned away (16) changes nothing. The rows held begin
 // at row `start` of their room.
 pub(crate) fn advance<'a>(
-    one: bool,
+    span: Span,
     s: Settings,
     settings: &[u64],
     t: State,
@@ -74,8 +75,8 @@ pub(crate) fn advance<'a>(
     short_exit: &'a [u8],
 ) -> Advanced
     requires { ⌜ (s ≡ settingsOf (now settings))
-        × ReadyAt one s t (now bar) (now rows) start (lists (now entry) (now «exit») (now «short_entry») (now «short_exit»)) ⌝ }
-    ensures { λ r. ⌜ Turns one s (advanced s t (now (bar .entry))
+        × Ready span s t (now bar) (now rows) start (lists (now entry) (now «exit») (now «short_entry») (now «short_exit»)) ⌝ }
+    ensures { λ r. ⌜ Turns span s (advanced s t (now (bar .entry))
         (rooms (turned (width (s .slots)) start (now (rows .entry))) (now (equity .entry)) (now (trades .entry)))
         (lists (now (entry .entry)) (now («exit» .entry)) (now («short_entry» .entry)) (now («short_exit» .entry))))
         r (now (rows .exit)) (now (equity .exit)) (now (trades .exit)) ⌝ }
@@ -89,7 +90,7 @@ pub(crate) fn advance<'a>(
         held: n.rows_held,
         start,
     };
-    let place = record::place_for(one, rows, before, s.slots);
+    let place = record::place_for(span, rows, before, s.slots);
     let after = place.ring;
     let filled = account::fill_working_order(s, order, position, candle, rows, before, number);
     if filled.turned_away {

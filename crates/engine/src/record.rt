@@ -1,12 +1,13 @@
 // The row of a bar, and the rows that a room holds.
 ghost use mathlib.Core.Path.{_≡_};
 ghost use Prim.Native.Nat.{_+_, _*_, _/_, _<_, _≤_};
-ghost use mathlib.Core.Bool.{true};
 ghost use lib.ListN.{length, take};
 ghost use Rattle.words.specs.Limits.{rowWords, mostSlots};
 ghost use Rattle.engine.specs.Record.{rowWord, rowOf, heldRows};
 ghost use Rattle.rows.specs.Laws.Ring.{RingFine};
+ghost use Rattle.refusals.specs.declared.day.Span.the-variants.{One};
 ghost use Rattle.engine.specs.InPlace.{PlaceFor, rowPlaced};
+use refusals::day::Span;
 use rows::ring::Ring;
 
 // Where a row goes: the word of its room, the words of rows that move up for it first (0 where none do), and the rows that the room holds with it.
@@ -71,9 +72,9 @@ fn fill_row(row: &mut [u64], bar: &[u64], slots: usize)
 
 // Where the next row goes in a room that holds the rows `before`: behind them while there is a place. Then, in a call of one bar, the rows move up
 // for it; in a call of many it goes over the oldest. Nothing is written yet: the bar may still be turned away.
-pub(crate) fn place_for(one: bool, rows: &[u64], before: Ring, slots: usize) -> Place
-    requires { ⌜ (slots ≤ mostSlots) × RingFine (length (now rows) / rowWords slots) before × (one ≡ true → before .start ≡ 0) ⌝ }
-    ensures { λ r. ⌜ PlaceFor one (rowWords slots) (now (rows .entry)) before r ⌝ }
+pub(crate) fn place_for(span: Span, rows: &[u64], before: Ring, slots: usize) -> Place
+    requires { ⌜ (slots ≤ mostSlots) × RingFine (length (now rows) / rowWords slots) before × (span ≡ One → before .start ≡ 0) ⌝ }
+    ensures { λ r. ⌜ PlaceFor span (rowWords slots) (now (rows .entry)) before r ⌝ }
 {
     let width = words::limits::ROW_FIXED + slots;
     let held = before.held;
@@ -89,28 +90,30 @@ pub(crate) fn place_for(one: bool, rows: &[u64], before: Ring, slots: usize) -> 
             },
         };
     }
-    if one {
-        return Place {
+    match span {
+        Span::One => Place {
             at: end - width,
             moved: end,
             ring: Ring { held, start: 0 },
-        };
-    }
-    let at = start * width;
-    if start < held - 1 {
-        return Place {
-            at,
-            moved: 0,
-            ring: Ring {
-                held,
-                start: start + 1,
-            },
-        };
-    }
-    Place {
-        at,
-        moved: 0,
-        ring: Ring { held, start: 0 },
+        },
+        Span::Many => {
+            let at = start * width;
+            if start < held - 1 {
+                return Place {
+                    at,
+                    moved: 0,
+                    ring: Ring {
+                        held,
+                        start: start + 1,
+                    },
+                };
+            }
+            Place {
+                at,
+                moved: 0,
+                ring: Ring { held, start: 0 },
+            }
+        }
     }
 }
 

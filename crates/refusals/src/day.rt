@@ -14,6 +14,12 @@ use records::state::State;
 use words::limits::BAR_FIXED;
 use words::refusal::Refusal;
 
+// What a call for bars takes: one, or many.
+pub enum Span {
+    One,
+    Many,
+}
+
 // Whether the words are whole bars. A bar of more slots than there are words is none, so the width never wraps.
 fn are_whole(bars: &[u64], slots: usize) -> bool
     ensures { λ r. ⌜ r ≡ wholeBars slots (now (bars .entry)) ⌝ }
@@ -26,18 +32,18 @@ fn are_whole(bars: &[u64], slots: usize) -> bool
 }
 
 // Whether they are what a call of one bar, or of many, is handed.
-fn are_for(one: bool, bars: &[u64], slots: usize) -> bool
-    ensures { λ r. ⌜ r ≡ wholeFor one slots (now (bars .entry)) ⌝ }
+fn are_for(span: Span, bars: &[u64], slots: usize) -> bool
+    ensures { λ r. ⌜ r ≡ wholeFor span slots (now (bars .entry)) ⌝ }
 {
-    if one {
-        return records::bar::is_whole(bars, slots);
+    match span {
+        Span::One => records::bar::is_whole(bars, slots),
+        Span::Many => are_whole(bars, slots),
     }
-    are_whole(bars, slots)
 }
 
 // Whether the bars of a call can be stepped over one after another: 10, 12 and 13.
 pub fn judge_day(
-    one: bool,
+    span: Span,
     s: Settings,
     t: State,
     bars: &[u64],
@@ -45,7 +51,7 @@ pub fn judge_day(
     equity: &[u64],
     trades: &[u64],
 ) -> Verdict
-    ensures { λ r. ⌜ r ≡ judged (dayLines one s t (now (bars .entry)) (rooms (now (rows .entry)) (now (equity .entry)) (now (trades .entry)))) ⌝ }
+    ensures { λ r. ⌜ r ≡ judged (dayLines span s t (now (bars .entry)) (rooms (now (rows .entry)) (now (equity .entry)) (now (trades .entry)))) ⌝ }
 {
     if let Verdict::Bad(refusal) = rooms::judge_room(s, rows) {
         return Verdict::Bad(refusal);
@@ -56,7 +62,7 @@ pub fn judge_day(
     if let Verdict::Bad(refusal) = rooms::judge_state(s, t, rows, equity, trades) {
         return Verdict::Bad(refusal);
     }
-    if are_for(one, bars, s.slots) {
+    if are_for(span, bars, s.slots) {
         return Verdict::Fine;
     }
     Verdict::Bad(Refusal {

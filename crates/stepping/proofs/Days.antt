@@ -7,6 +7,7 @@ use Rattle.refusals.specs.{Day.dayLines, Laws.Descent.bad-block, Laws.Descent.f
 use Rattle.engine.specs.{Day.dayOf, Day.firstRefused, Day.noBars, Day.runWith, Laws.Days.day-stops, Run.Run}
 use Rattle.replies.specs.{Call.Call, Call.answerWord, Call.wordLines}
 use Rattle.stepping.specs.{Bars.lentLines, Day.DayLent, Day.dayLentLines, Day.shortOf, Day.stateAfter, Day.dayGives, Day.dayCall, WordRun.answerOf}
+use Rattle.refusals.specs.{declared.day.Span.Span, declared.day.Span.the-variants.One, declared.day.Span.the-variants.Many}
 
 -- a refusal of short words is one of the lent words
 short-bad : (words lent : Verdict) {v : Verdict} {r : Refusal} → v ≡ shortOf words lent → v ≡ Bad r → lent ≡ Bad r
@@ -14,29 +15,29 @@ unfolding shortOf
 short-bad Fine lent e bad = absurd (let z : _≡_ {A = ℕ} 0 1 = cc in omega arith)
 short-bad (Bad why) lent e bad = sym e ∙ bad
 
-module _ (one : Bool) (settings state bars : List ℕ) (m : Rooms) (ls : Lists) where
+module _ (span : Span) (settings state bars : List ℕ) (m : Rooms) (ls : Lists) where
   -- what the call refuses of the lent words, and the run that follows where it refuses nothing
   abbrev lent : Verdict
-  lent = judged (dayLentLines one settings state bars (m .rows))
+  lent = judged (dayLentLines span settings state bars (m .rows))
 
   abbrev ran : Run
-  ran = dayOf one (settingsOf settings) (stateOf state) bars m ls
+  ran = dayOf span (settingsOf settings) (stateOf state) bars m ls
 
   -- a room of rows that is too small is refused by the engine as by the call
-  room-refused : (why : Refusal) → noBars one bars ≡ false → judged (roomLines (settingsOf settings) (m .rows)) ≡ Bad why
+  room-refused : (why : Refusal) → noBars span bars ≡ false → judged (roomLines (settingsOf settings) (m .rows)) ≡ Bad why
       → dayGives (Bad why) state m ran ≡ dayGives Fine state m ran
   unfolding dayGives stateAfter answerOf
   room-refused why some bad =
-      let once : judged (dayLines one (settingsOf settings) (stateOf state) bars m) ≡ Bad why = unfold dayLines in sym (bad-block _ _ refl bad) in
-      rw (day-stops one (settingsOf settings) (stateOf state) bars m ls some why once)
+      let once : judged (dayLines span (settingsOf settings) (stateOf state) bars m) ≡ Bad why = unfold dayLines in sym (bad-block _ _ refl bad) in
+      rw (day-stops span (settingsOf settings) (stateOf state) bars m ls some why once)
 
   -- so where settings and state have their words, the call is the run
   words-fine : judged (wordLines settings state) ≡ Fine → dayGives lent state m ran ≡ dayGives Fine state m ran
   unfolding dayLentLines lentLines
-  words-fine fine = go (noBars one bars) (judged (roomLines (settingsOf settings) (m .rows))) refl refl
+  words-fine fine = go (noBars span bars) (judged (roomLines (settingsOf settings) (m .rows))) refl refl
     where
-      go : (none : Bool) (room : Verdict) → noBars one bars ≡ none → judged (roomLines (settingsOf settings) (m .rows)) ≡ room
-          → dayGives (judged (cond (noBars one bars) (wordLines settings state) (roomLines (settingsOf settings) (m .rows) ++ wordLines settings state))) state m ran
+      go : (none : Bool) (room : Verdict) → noBars span bars ≡ none → judged (roomLines (settingsOf settings) (m .rows)) ≡ room
+          → dayGives (judged (cond (noBars span bars) (wordLines settings state) (roomLines (settingsOf settings) (m .rows) ++ wordLines settings state))) state m ran
           ≡ dayGives Fine state m ran
       go true room e f = rw (e, fine)
       go false Fine e f = rw (e, ← fine-block (roomLines (settingsOf settings) (m .rows)) (wordLines settings state) (sym f) refl refl, fine)
@@ -46,7 +47,7 @@ module _ (one : Bool) (settings state bars : List ℕ) (m : Rooms) (ls : Lists) 
   module _ {v : Verdict} (short : v ≡ shortOf (judged (wordLines settings state)) lent) where
     -- what is refused of short words is what the call refuses
     pub day-short : {r : Refusal} {a : ℕ} → v ≡ Bad r → a ≡ answerWord r
-        → dayCall one settings state bars m ls ≡ record { answer = a; lent = record { state = state; rooms = m; done = 0 } }
+        → dayCall span settings state bars m ls ≡ record { answer = a; lent = record { state = state; rooms = m; done = 0 } }
     unfolding dayCall dayGives
     day-short bad word = rw (short-bad (judged (wordLines settings state)) lent short bad, word)
 
@@ -59,8 +60,8 @@ module _ (one : Bool) (settings state bars : List ℕ) (m : Rooms) (ls : Lists) 
         go (Bad why) h e = ap (λ (x : Verdict). dayGives x state m ran) (unfold shortOf in sym e ∙ fine)
 
     pub day-ran : {t u : State} {n a : ℕ} {w : Verdict} {ws es ts words : List ℕ} → v ≡ Fine → t ≡ stateOf state
-        → dayOf one (settingsOf settings) t bars m ls ≡ record { done = n; verdict = w; state = u; rooms = rooms ws es ts }
+        → dayOf span (settingsOf settings) t bars m ls ≡ record { done = n; verdict = w; state = u; rooms = rooms ws es ts }
         → words ≡ stateAfter state n u → a ≡ answerOf w
-        → dayCall one settings state bars m ls ≡ record { answer = a; lent = record { state = words; rooms = rooms ws es ts; done = n } }
+        → dayCall span settings state bars m ls ≡ record { answer = a; lent = record { state = words; rooms = rooms ws es ts; done = n } }
     unfolding dayCall dayGives
     day-ran fine given went put word = is-run fine ∙ rw (← given, went, put, word)

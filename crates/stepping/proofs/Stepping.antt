@@ -8,6 +8,7 @@ use Rattle.engine.specs.{Day.noBars, Day.dayOf, Run.goesOn, Run.runOver, Step.W
 use Rattle.replies.specs.{Call.Call, Call.callOf, Call.unlessBad}
 use Rattle.stepping.specs.{Bars.StepLent, Bars.lentLines, Bars.stepGives, Bars.stepCall, Day.DayLent, Day.dayLentLines, Day.stateAfter, Day.dayGives}
 use Rattle.stepping.specs.{Day.dayCall, WordRun.answerOf}
+use Rattle.refusals.specs.{declared.day.Span.Span, declared.day.Span.the-variants.One, declared.day.Span.the-variants.Many}
 
 -- without the count
 abbrev uncounted : Call DayLent → Call StepLent
@@ -24,22 +25,22 @@ module _ (settings state bar : List ℕ) (m : Rooms) (ls : Lists) where
   d = stepAnswer s t bar m ls
 
   by-answer : (a : Answer) → d .result ≡ a
-      → callOf (stepGives (d .result) state (d .rooms)) (record { state = state; rooms = m }) ≡ uncounted (dayGives Fine state m (dayOf true s t bar m ls))
+      → callOf (stepGives (d .result) state (d .rooms)) (record { state = state; rooms = m }) ≡ uncounted (dayGives Fine state m (dayOf One s t bar m ls))
   unfolding stepGives callOf dayGives dayOf barsFor runOver goesOn stateAfter answerOf
   by-answer (Refused why u) f = rw (f, refusal-changes-nothing s t bar m ls why u f .2)
   by-answer (Done u) f = rw f
 
-  same-call : stepCall settings state bar m ls ≡ uncounted (dayCall true settings state bar m ls)
+  same-call : stepCall settings state bar m ls ≡ uncounted (dayCall One settings state bar m ls)
   unfolding stepCall dayCall dayLentLines noBars
   same-call = go (judged (lentLines settings state (m .rows)))
     where
       go : (v : Verdict)
           → callOf (unlessBad v (stepGives (d .result) state (d .rooms))) (record { state = state; rooms = m })
-          ≡ uncounted (dayGives v state m (dayOf true s t bar m ls))
+          ≡ uncounted (dayGives v state m (dayOf One s t bar m ls))
       go (Bad r) = unfold callOf unlessBad dayGives in refl
       go Fine = unfold unlessBad in by-answer (d .result) refl
 
   pub one-call : {a n : ℕ} {words : List ℕ} {r : Rooms}
-      → dayCall true settings state bar m ls ≡ record { answer = a; lent = record { state = words; rooms = r; done = n } }
+      → dayCall One settings state bar m ls ≡ record { answer = a; lent = record { state = words; rooms = r; done = n } }
       → stepCall settings state bar m ls ≡ record { answer = a; lent = record { state = words; rooms = r } }
   one-call e = same-call ∙ rw e

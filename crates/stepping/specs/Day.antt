@@ -7,6 +7,7 @@ use Rattle.refusals.specs.{Lines.judged}
 use Rattle.engine.specs.{Day.noBars, Day.dayOf, Run.Run}
 use Rattle.replies.specs.{Call.Call, Call.answerWord, Call.wordLines}
 use Rattle.stepping.specs.{Bars.lentLines, WordRun.answerOf}
+use Rattle.refusals.specs.{declared.day.Span.Span, declared.day.Span.the-variants.One, declared.day.Span.the-variants.Many}
 
 -- the state's words, the rooms, and the count of bars done
 pub record DayLent : Type 0 where
@@ -15,8 +16,8 @@ pub record DayLent : Type 0 where
   pub done : ℕ
 
 -- Decided: no bars make no step, so of the rooms only those of the settings and the state are asked for.
-unfoldable pub dayLentLines : Bool → List ℕ → List ℕ → List ℕ → List ℕ → List Line
-dayLentLines one settings state bars rows = cond (noBars one bars) (wordLines settings state) (lentLines settings state rows)
+unfoldable pub dayLentLines : Span → List ℕ → List ℕ → List ℕ → List ℕ → List Line
+dayLentLines span settings state bars rows = cond (noBars span bars) (wordLines settings state) (lentLines settings state rows)
 
 -- What is judged of the lent words before the engine is called: nothing where settings and state have all theirs, since it looks at the room of rows first.
 unfoldable pub shortOf : Verdict → Verdict → Verdict
@@ -36,9 +37,9 @@ dayGives Fine state m run = record {
 }
 
 -- of one bar, or of many
-unfoldable pub dayCall : Bool → List ℕ → List ℕ → List ℕ → Rooms → Lists → Call DayLent
-dayCall one settings state bars m ls =
-    dayGives (judged (dayLentLines one settings state bars (m .rows))) state m (dayOf one (settingsOf settings) (stateOf state) bars m ls)
+unfoldable pub dayCall : Span → List ℕ → List ℕ → List ℕ → Rooms → Lists → Call DayLent
+dayCall span settings state bars m ls =
+    dayGives (judged (dayLentLines span settings state bars (m .rows))) state m (dayOf span (settingsOf settings) (stateOf state) bars m ls)
 
 abbrev pub stepsCall : List ℕ → List ℕ → List ℕ → Rooms → Lists → Call DayLent
-stepsCall = dayCall false
+stepsCall = dayCall Many

@@ -9,15 +9,16 @@ use records::settings::settings_of;
 use records::state::State;
 use records::state_words::put_state;
 use records::state_words::state_of;
+use refusals::day::Span;
 use refusals::verdict::Verdict;
 use replies::answer_word;
 use replies::judge_words;
 
 // 10: the room of rows, where there is a bar; then settings and state.
-fn judge_lent(one: bool, settings: &[u64], state: &[u64], bars: &[u64], rows: &[u64]) -> Verdict
-    ensures { λ r. ⌜ r ≡ judged (dayLentLines one (now (settings .entry)) (now (state .entry)) (now (bars .entry)) (now (rows .entry))) ⌝ }
+fn judge_lent(span: Span, settings: &[u64], state: &[u64], bars: &[u64], rows: &[u64]) -> Verdict
+    ensures { λ r. ⌜ r ≡ judged (dayLentLines span (now (settings .entry)) (now (state .entry)) (now (bars .entry)) (now (rows .entry))) ⌝ }
 {
-    if engine::day::no_bars(one, bars) {
+    if engine::day::no_bars(span, bars) {
         return judge_words(settings, state);
     }
     if let Verdict::Bad(refusal) = refusals::rooms::judge_room(settings_of(settings), rows) {
@@ -27,14 +28,14 @@ fn judge_lent(one: bool, settings: &[u64], state: &[u64], bars: &[u64], rows: &[
 }
 
 // The same, where settings or state are short of words. Where they are not, the room of rows is left to the engine, which looks at it first.
-fn judge_short(one: bool, settings: &[u64], state: &[u64], bars: &[u64], rows: &[u64]) -> Verdict
+fn judge_short(span: Span, settings: &[u64], state: &[u64], bars: &[u64], rows: &[u64]) -> Verdict
     ensures { λ r. ⌜ r ≡ shortOf (judged (wordLines (now (settings .entry)) (now (state .entry))))
-        (judged (dayLentLines one (now (settings .entry)) (now (state .entry)) (now (bars .entry)) (now (rows .entry)))) ⌝ }
+        (judged (dayLentLines span (now (settings .entry)) (now (state .entry)) (now (bars .entry)) (now (rows .entry)))) ⌝ }
 {
     let words = judge_words(settings, state);
     match words {
         Verdict::Fine => Verdict::Fine,
-        Verdict::Bad(_) => judge_lent(one, settings, state, bars, rows),
+        Verdict::Bad(_) => judge_lent(span, settings, state, bars, rows),
     }
 }
 
@@ -60,7 +61,7 @@ pub fn answer_of(verdict: Verdict) -> u64
 
 // Bars, one after another, until one is refused: how many were done.
 pub fn call_bars<'a>(
-    one: bool,
+    span: Span,
     settings: &[u64],
     state: &mut [u64],
     bars: &[u64],
@@ -73,7 +74,7 @@ pub fn call_bars<'a>(
     short_exit: &'a [u8],
     done: &mut u64,
 ) -> u64
-    ensures { λ r. ⌜ dayCall one (now (settings .entry)) (now (state .entry)) (now (bars .entry))
+    ensures { λ r. ⌜ dayCall span (now (settings .entry)) (now (state .entry)) (now (bars .entry))
         (rooms (now (rows .entry)) (now (equity .entry)) (now (trades .entry)))
         (lists (now (entry .entry)) (now («exit» .entry)) (now («short_entry» .entry)) (now («short_exit» .entry)))
         ≡ record {
@@ -85,12 +86,12 @@ pub fn call_bars<'a>(
           };
         } ⌝ }
 {
-    if let Verdict::Bad(refusal) = judge_short(one, settings, state, bars, rows) {
+    if let Verdict::Bad(refusal) = judge_short(span, settings, state, bars, rows) {
         *done = 0;
         return answer_word(refusal);
     }
     let day = engine::day::run_bars(
-        one,
+        span,
         settings,
         state_of(state),
         bars,

@@ -20,6 +20,7 @@ use accounts::status::is_stopped;
 use accounts::status::stop;
 use accounts::stream::take_bars;
 use records::settings::settings_of;
+use refusals::day::Span;
 use refusals::verdict::Verdict;
 use refusals::verdict::line;
 use replies::HALF;
@@ -84,7 +85,7 @@ fn step_own<'a>(
     let end = BAR_FIXED + slots;
     own_bar(stream, slots, bar, own);
     call_bars(
-        true,
+        Span::One,
         settings,
         state,
         &own[..end],

@@ -12,6 +12,7 @@ use Rattle.engine.specs.{Day.Underway, Day.inRecords, Day.barsIn, Day.ba
 use Rattle.engine.specs.{Run.Run, Run.oneMore, Run.goesOn, Run.runOver, Step.With, Step.Is, Step.answered, Step.stepped, Step.stepVerdict}
 use Rattle.engine.specs.{Step.stepAnswer, Laws.Runs.run-none, Laws.Runs.run-stops, Laws.Underway.step-steady, Laws.Verdict.handed-bad}
 use native.Mathlib.Nat.{zero-mod, div-self}
+use Rattle.refusals.specs.{declared.day.Span.Span, declared.day.Span.the-variants.One, declared.day.Span.the-variants.Many}
 
 -- ---- a bar
 
@@ -50,7 +51,7 @@ moreBars k r = record { done = r .done + k; verdict = r .verdict; state = r .sta
 pub records-next : (n w : ℕ) (ws : List ℕ) → 0 < n → inRecords n w ws ≡ take w ws ∷ inRecords (n - 1) w (drop w ws)
 unfolding inRecords
 records-next zero w ws h = absurd (omega arith)
-records-next (suc n) w ws h = let one : suc n - 1 ≡ n = omega arith in rw one
+records-next (suc n) w ws h = let less : suc n - 1 ≡ n = omega arith in rw less
 
 module _ (s : Settings) (ls : Lists) (t₀ : State) (m₀ : Rooms) (bars : List ℕ) (count w : ℕ) where
   -- the run over all bars is that over the bars left, after those done
@@ -87,8 +88,8 @@ module _ (s : Settings) (ls : Lists) (t₀ : State) (m₀ : Rooms) (bars : List 
   module _ (done : ℕ) (more : done < count) (t : State) (m : Rooms) (after : After done t m) where
     pub after-more : {u : State} {ws es ts : List ℕ} → Is Answer (stepAnswer s t (nextBar done) m ls) (Done u) ws es ts → After (done + 1) u (rooms ws es ts)
     after-more {u} {ws} {es} {ts} d =
-        let one : (n : ℕ) → n + 1 + done ≡ n + (done + 1) = λ n. omega arith in
-        after ∙ rw (next done more, run-goes s ls t m (nextBar done) _ d, one)
+        let more-by-one : (n : ℕ) → n + 1 + done ≡ n + (done + 1) = λ n. omega arith in
+        after ∙ rw (next done more, run-goes s ls t m (nextBar done) _ d, more-by-one)
 
     pub after-refused : {why : Refusal} {u : State} {ws es ts : List ℕ} → Is Answer (stepAnswer s t (nextBar done) m ls) (Refused why u) ws es ts
         → runOver s ls t₀ m₀ (inRecords count w bars) ≡ record { done = done; verdict = Bad why; state = u; rooms = rooms ws es ts }
@@ -116,70 +117,70 @@ module _ (K : ℕ) (bars : List ℕ) where
   bars-none none = rw (none, zero-mod, zero-div)
 
   -- one bar or more, and whole: a first bar
-  pub whole-one : (one : Bool) → noBars one bars ≡ false → wholeFor one K bars ≡ true → barWords K ≤ length bars
+  pub whole-one : (span : Span) → noBars span bars ≡ false → wholeFor span K bars ≡ true → barWords K ≤ length bars
   unfolding noBars wholeFor wholeBars
-  whole-one true some whole = omega (arith, eqb-true (length bars) (barWords K) whole)
-  whole-one false some whole =
+  whole-one One some whole = omega (arith, eqb-true (length bars) (barWords K) whole)
+  whole-one Many some whole =
       not-below (length bars) (barWords K) (pos-of-ne (length bars) (eqb-false (length bars) 0 some)) (eqb-true (length bars % barWords K) 0 whole)
 
   pub some-bars : barWords K ≤ length bars → 0 < length bars / barWords K
   some-bars h = le-div-iff-mul-le {k = barWords K} (omega arith) .1 (omega (arith, h))
 
   -- the bars of whole bars
-  pub whole-bars : (one : Bool) → wholeFor one K bars ≡ true → barsFor one K bars ≡ inRecords (length bars / barWords K) (barWords K) bars
+  pub whole-bars : (span : Span) → wholeFor span K bars ≡ true → barsFor span K bars ≡ inRecords (length bars / barWords K) (barWords K) bars
   unfolding barsFor wholeFor barsIn inRecords
-  whole-bars true whole =
+  whole-bars One whole =
       let long : length bars ≡ barWords K = eqb-true (length bars) (barWords K) whole in
       let once : length bars / barWords K ≡ 1 = rw long (div-self {n = barWords K} (omega arith)) in
       rw once (ap (λ (l : List ℕ). l ∷ []) (sym (take-all (barWords K) bars (omega arith))))
-  whole-bars false whole = rw whole
+  whole-bars Many whole = rw whole
 
   -- and of others
-  pub ragged-bars : (one : Bool) → wholeFor one K bars ≡ false → barsFor one K bars ≡ bars ∷ []
+  pub ragged-bars : (span : Span) → wholeFor span K bars ≡ false → barsFor span K bars ≡ bars ∷ []
   unfolding barsFor wholeFor barsIn
-  ragged-bars true h = refl
-  ragged-bars false h = rw h
+  ragged-bars One h = refl
+  ragged-bars Many h = rw h
 
 -- a call of many that is handed none makes no step
-no-bars : (one : Bool) (K : ℕ) (bars : List ℕ) → noBars one bars ≡ true → barsFor one K bars ≡ []
+no-bars : (span : Span) (K : ℕ) (bars : List ℕ) → noBars span bars ≡ true → barsFor span K bars ≡ []
 unfolding noBars barsFor
-no-bars true K bars h = absurd (let z : _≡_ {A = ℕ} 0 1 = cc in omega arith)
-no-bars false K bars h = bars-none K bars (eqb-true (length bars) 0 h)
+no-bars One K bars h = absurd (let z : _≡_ {A = ℕ} 0 1 = cc in omega arith)
+no-bars Many K bars h = bars-none K bars (eqb-true (length bars) 0 h)
 
-module _ (one : Bool) (s : Settings) (t : State) (bars : List ℕ) (m : Rooms) (ls : Lists) where
+module _ (span : Span) (s : Settings) (t : State) (bars : List ℕ) (m : Rooms) (ls : Lists) where
   -- no bars
-  pub day-none : noBars one bars ≡ true → dayOf one s t bars m ls ≡ record { done = 0; verdict = Fine; state = t; rooms = m }
+  pub day-none : noBars span bars ≡ true → dayOf span s t bars m ls ≡ record { done = 0; verdict = Fine; state = t; rooms = m }
   unfolding dayOf
-  day-none none = rw (no-bars one (s .slots) bars none) (run-none s ls t m)
+  day-none none = rw (no-bars span (s .slots) bars none) (run-none s ls t m)
 
   -- whole bars
-  pub day-whole : wholeFor one (s .slots) bars ≡ true
-      → dayOf one s t bars m ls ≡ runOver s ls t m (inRecords (length bars / barWords (s .slots)) (barWords (s .slots)) bars)
+  pub day-whole : wholeFor span (s .slots) bars ≡ true
+      → dayOf span s t bars m ls ≡ runOver s ls t m (inRecords (length bars / barWords (s .slots)) (barWords (s .slots)) bars)
   unfolding dayOf
-  day-whole h = rw (whole-bars (s .slots) bars one h)
+  day-whole h = rw (whole-bars (s .slots) bars span h)
 
-  module _ (some : noBars one bars ≡ false) where
+  module _ (some : noBars span bars ≡ false) where
     -- whole bars whose first is refused
-    first-bad : wholeFor one (s .slots) bars ≡ true → (why : Refusal) → stepJudged s t (take (barWords (s .slots)) bars) m ls ≡ Bad why
-        → dayOf one s t bars m ls ≡ runWith (firstRefused t why) m
+    first-bad : wholeFor span (s .slots) bars ≡ true → (why : Refusal) → stepJudged s t (take (barWords (s .slots)) bars) m ls ≡ Bad why
+        → dayOf span s t bars m ls ≡ runWith (firstRefused t why) m
     first-bad h why bad =
-        day-whole h ∙ rw (records-next _ (barWords (s .slots)) bars (some-bars (s .slots) bars (whole-one (s .slots) bars one some h)))
+        day-whole h ∙ rw (records-next _ (barWords (s .slots)) bars (some-bars (s .slots) bars (whole-one (s .slots) bars span some h)))
         (run-stops s ls t m _ _ why (handed-bad s t _ m ls why bad))
 
     -- WHAT IS LOOKED AT ONCE is what the first bar would be refused with
-    pub day-stops : (why : Refusal) → judged (dayLines one s t bars m) ≡ Bad why → dayOf one s t bars m ls ≡ runWith (firstRefused t why) m
-    day-stops why bad = go (wholeFor one (s .slots) bars) refl
+    pub day-stops : (why : Refusal) → judged (dayLines span s t bars m) ≡ Bad why → dayOf span s t bars m ls ≡ runWith (firstRefused t why) m
+    day-stops why bad = go (wholeFor span (s .slots) bars) refl
       where
-        go : (b : Bool) → wholeFor one (s .slots) bars ≡ b → dayOf one s t bars m ls ≡ runWith (firstRefused t why) m
-        go true h = first-bad h why (day-bad one s t bars m ls why bad h _)
+        go : (b : Bool) → wholeFor span (s .slots) bars ≡ b → dayOf span s t bars m ls ≡ runWith (firstRefused t why) m
+        go true h = first-bad h why (day-bad span s t bars m ls why bad h _)
         go false h =
             unfold dayOf in
-            rw (ragged-bars (s .slots) bars one h) (run-stops s ls t m bars [] why (handed-bad s t bars m ls why (day-ragged one s t bars m ls why bad h)))
+            rw (ragged-bars (s .slots) bars span h) (run-stops s ls t m bars [] why (handed-bad s t bars m ls why (day-ragged span s t bars m ls why bad h)))
 
     -- and so are the lists, after the bar itself
-    pub day-unlisted : (fifteen : Refusal) → Steady s t m → wholeFor one (s .slots) bars ≡ true
+    pub day-unlisted : (fifteen : Refusal) → Steady s t m → wholeFor span (s .slots) bars ≡ true
         → judged (listLines (s .slots) (s .depth) ls) ≡ Bad fifteen
-        → dayOf one s t bars m ls
+        → dayOf span s t bars m ls
         ≡ runWith (unlistedBy (judged (nextLines (s .slots) (t .counts) (take (barWords (s .slots)) bars) (m .equity) (m .trades))) t fifteen) m
     unfolding unlistedBy
     day-unlisted fifteen steady h bad = go (judged own) refl
@@ -191,9 +192,9 @@ module _ (one : Bool) (s : Settings) (t : State) (bars : List ℕ) (m : Rooms) (
         own = nextLines (s .slots) (t .counts) first (m .equity) (m .trades)
 
         judge : stepJudged s t first m ls ≡ judged (own ++ listLines (s .slots) (s .depth) ls)
-        judge = next-judged s t first m ls steady (length-take-le _ bars (whole-one (s .slots) bars one some h))
+        judge = next-judged s t first m ls steady (length-take-le _ bars (whole-one (s .slots) bars span some h))
 
-        go : (v : Verdict) → judged own ≡ v → dayOf one s t bars m ls ≡ runWith (unlistedBy v t fifteen) m
+        go : (v : Verdict) → judged own ≡ v → dayOf span s t bars m ls ≡ runWith (unlistedBy v t fifteen) m
         go (Bad why) e = first-bad h why (judge ∙ below-bad own _ why e)
         go Fine e = first-bad h fifteen (judge ∙ (below-fine own _ e ∙ bad))
 
@@ -212,9 +213,9 @@ unfolding goesOn answerIn
 one-answer d later none (Refused why given) f = record { result = sym f; rows = refl; equity = refl; trades = refl }
 one-answer d later none (Done u) f = rw (none u) (record { result = sym f; rows = refl; equity = refl; trades = refl })
 
-pub day-one : (s : Settings) (t : State) (bar : List ℕ) (m : Rooms) (ls : Lists) (r : Run) → dayOf true s t bar m ls ≡ r → IsRun (stepAnswer s t bar m ls) r
+pub day-one : (s : Settings) (t : State) (bar : List ℕ) (m : Rooms) (ls : Lists) (r : Run) → dayOf One s t bar m ls ≡ r → IsRun (stepAnswer s t bar m ls) r
 unfolding dayOf barsFor runOver
 day-one s t bar m ls r e =
     let d = stepAnswer s t bar m ls in
-    let is : IsRun d (dayOf true s t bar m ls) = one-answer d (λ u. runOver s ls u (d .rooms) []) (λ u. run-none s ls u (d .rooms)) (d .result) refl in
+    let is : IsRun d (dayOf One s t bar m ls) = one-answer d (λ u. runOver s ls u (d .rooms) []) (λ u. run-none s ls u (d .rooms)) (d .result) refl in
     rw e at is

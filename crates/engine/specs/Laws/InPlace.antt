@@ -14,6 +14,7 @@ use Rattle.engine.specs.{declared.account.Due.the-variants.Leaves, decla
 use Rattle.engine.specs.{Account.filled, Decide.listSays, Decide.answersOf, Decide.stateAt, Decide.decided, InPlace.keptRing, InPlace.keptRoom}
 use Rattle.engine.specs.{InPlace.rowPlaced, InPlace.PlaceFor, InPlace.readFrom, InPlace.decidedFrom, Laws.Lengths.row-long, Laws.Lengths.row-fits}
 use Rattle.engine.specs.{Record.rowOf, Record.heldRows}
+use Rattle.refusals.specs.{declared.day.Span.Span, declared.day.Span.the-variants.One, declared.day.Span.the-variants.Many}
 
 -- ---- lists
 
@@ -101,16 +102,16 @@ module _ (s : Settings) (rows : List ℕ) (ring : Ring) (ok : RingFine (length r
 -- ---- writing
 
 -- A row more, kept in place: turned, the room is what it was, turned, with that row added.
-pub record Keeps (one : Bool) (K : ℕ) (room : List ℕ) (before : Ring) (bar : List ℕ) (after : Ring) (rows : List ℕ) : Type 0 where
+pub record Keeps (span : Span) (K : ℕ) (room : List ℕ) (before : Ring) (bar : List ℕ) (after : Ring) (rows : List ℕ) : Type 0 where
   pub holds : after .held ≡ heldWith (turned (width K) (before .start) room) (before .held) (rowOf K bar)
   pub turns : turned (width K) (after .start) rows ≡ withRow (turned (width K) (before .start) room) (before .held) (rowOf K bar)
   pub ring : RingFine (length rows / width K) after
-  pub first : one ≡ true → after .start ≡ 0
+  pub first : span ≡ One → after .start ≡ 0
 
-keeps : (one : Bool) (K : ℕ) (room : List ℕ) (before : Ring) (bar : List ℕ) → RingFine (length room / width K) before → (one ≡ true → before .start ≡ 0)
-    → Keeps one K room before bar (keptRing one room before (rowOf K bar)) (keptRoom one room before (rowOf K bar))
+keeps : (span : Span) (K : ℕ) (room : List ℕ) (before : Ring) (bar : List ℕ) → RingFine (length room / width K) before → (span ≡ One → before .start ≡ 0)
+    → Keeps span K room before bar (keptRing span room before (rowOf K bar)) (keptRoom span room before (rowOf K bar))
 unfolding keptRing keptRoom
-keeps true K room before bar ok first =
+keeps One K room before bar ok first =
     let fits = row-fits K room (before .held) bar in
     let zero : before .start ≡ 0 = first refl in
     record {
@@ -119,7 +120,7 @@ keeps true K room before bar ok first =
       ring = rw (fits .1) (record { few = fits .0; begins = λ h. refl; within = omega (arith, ok .within) });
       first = λ h. refl;
     }
-keeps false K room before bar ok first =
+keeps Many K room before bar ok first =
     let w : length (rowOf K bar) ≡ width K = row-long K bar in
     let a = ring-adds room before (rowOf K bar) (omega (arith, w)) (rw w ok) in
     record {
@@ -130,8 +131,8 @@ keeps false K room before bar ok first =
     }
 
 -- THE ROW WRITTEN AT ITS PLACE is added to the rows as they would stand
-pub placed : (one : Bool) (K : ℕ) (room : List ℕ) (before : Ring) (bar : List ℕ) → RingFine (length room / width K) before → (one ≡ true → before .start ≡ 0)
-    → {p : Place} → PlaceFor one (width K) room before p → {rows : List ℕ} → rows ≡ rowPlaced room p (rowOf K bar) → Keeps one K room before bar (p .ring) rows
-placed one K room before bar ok first place was =
+pub placed : (span : Span) (K : ℕ) (room : List ℕ) (before : Ring) (bar : List ℕ) → RingFine (length room / width K) before → (span ≡ One → before .start ≡ 0)
+    → {p : Place} → PlaceFor span (width K) room before p → {rows : List ℕ} → rows ≡ rowPlaced room p (rowOf K bar) → Keeps span K room before bar (p .ring) rows
+placed span K room before bar ok first place was =
     let long = row-long K bar in
-    rw (place .ring (rowOf K bar) long, was ∙ place .added (rowOf K bar) long) (keeps one K room before bar ok first)
+    rw (place .ring (rowOf K bar) long, was ∙ place .added (rowOf K bar) long) (keeps span K room before bar ok first)

@@ -8,6 +8,7 @@ use Rattle.refusals.specs.{Judgement.stepJudged, Lists.listLines, Rooms.
 use Rattle.refusals.specs.{Settings.settingLines, Laws.Lines.first-holds, Laws.Lines.below-fine, Laws.Lines.below-bad, Laws.Lines.fine-adds-nothing}
 use Rattle.refusals.specs.{Laws.Lines.both-fine}
 use native.Mathlib.Nat.{mod-self}
+use Rattle.refusals.specs.{declared.day.Span.Span, declared.day.Span.the-variants.One, declared.day.Span.the-variants.Many}
 
 -- a room for D rows, fine settings, counts that are within the rooms, and an entry bar below the bars seen
 pub record Steady (s : Settings) (t : State) (m : Rooms) : Type 0 where
@@ -28,22 +29,22 @@ stops-there [] b number place = refl
 stops-there (l ∷ a) b number place = rw (stops-there a b number place)
 
 -- what a call of one bar is handed that is not a bar, and what a call of many is handed that is not whole bars
-no-bar : (one : Bool) (K : ℕ) (bars : List ℕ) → wholeFor one K bars ≡ false → eqb (length bars) (barWords K) ≡ false
+no-bar : (span : Span) (K : ℕ) (bars : List ℕ) → wholeFor span K bars ≡ false → eqb (length bars) (barWords K) ≡ false
 unfolding wholeFor
-no-bar true K bars h = h
-no-bar false K bars h = not-a-bar K bars h
+no-bar One K bars h = h
+no-bar Many K bars h = not-a-bar K bars h
 
-module _ (one : Bool) (s : Settings) (t : State) (bars : List ℕ) (m : Rooms) where
+module _ (span : Span) (s : Settings) (t : State) (bars : List ℕ) (m : Rooms) where
   abbrev whole : Line
-  whole = line (wholeFor one (s .slots) bars) 13 0
+  whole = line (wholeFor span (s .slots) bars) 13 0
 
   -- what is looked at once stands before anything else that a step looks at
-  day-lines : dayLines one s t bars m ≡ runLines s t m ++ (whole ∷ [])
+  day-lines : dayLines span s t bars m ≡ runLines s t m ++ (whole ∷ [])
   unfolding dayLines runLines
   day-lines = simp append-assoc
 
   -- where it is fine, it is steady, and the bars are whole
-  pub day-fine : judged (dayLines one s t bars m) ≡ Fine → Steady s t m × (wholeFor one (s .slots) bars ≡ true)
+  pub day-fine : judged (dayLines span s t bars m) ≡ Fine → Steady s t m × (wholeFor span (s .slots) bars ≡ true)
   unfolding dayLines stateLines
   day-fine h =
       let room = both-fine (roomLines s (m .rows)) _ h in
@@ -52,18 +53,18 @@ module _ (one : Bool) (s : Settings) (t : State) (bars : List ℕ) (m : Rooms) w
       let entry = first-holds _ _ (held .1) in
       (record { room = room .0; settings = settings .0; held = held .0; entry = entry .0 }, first-holds _ _ (entry .1) .0)
 
-  module _ (ls : Lists) (why : Refusal) (bad : judged (dayLines one s t bars m) ≡ Bad why) where
+  module _ (ls : Lists) (why : Refusal) (bad : judged (dayLines span s t bars m) ≡ Bad why) where
     -- where it is not, no bar of whole bars is taken
-    pub day-bad : wholeFor one (s .slots) bars ≡ true → (bar : List ℕ) → stepJudged s t bar m ls ≡ Bad why
+    pub day-bad : wholeFor span (s .slots) bars ≡ true → (bar : List ℕ) → stepJudged s t bar m ls ≡ Bad why
     unfolding stepJudged stepLines
     day-bad h bar =
         let run = fine-adds-nothing (runLines s t m) (line true 13 0 ∷ []) (unfold judged in refl) in
         below-bad (runLines s t m) _ why (sym run ∙ (rw (day-lines, h) at bad))
 
     -- nor a list that is not whole bars, as a bar
-    pub day-ragged : wholeFor one (s .slots) bars ≡ false → stepJudged s t bars m ls ≡ Bad why
+    pub day-ragged : wholeFor span (s .slots) bars ≡ false → stepJudged s t bars m ls ≡ Bad why
     unfolding stepJudged stepLines
-    day-ragged h = rw (no-bar one (s .slots) bars h) (stops-there (runLines s t m) _ 13 0 ∙ (rw (day-lines, h) at bad))
+    day-ragged h = rw (no-bar span (s .slots) bars h) (stops-there (runLines s t m) _ 13 0 ∙ (rw (day-lines, h) at bad))
 
 -- THE LINES OF EACH BAR say of it what all lines of a step say.
 pub next-judged : (s : Settings) (t : State) (bar : List ℕ) (m : Rooms) (ls : Lists) → Steady s t m → length bar ≡ barWords (s .slots)

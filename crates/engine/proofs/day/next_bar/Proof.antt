@@ -13,7 +13,7 @@ advance-requires c κs =
     let ready = next-ready (a .s) (a .t) (a .bar .now) (rooms (turned (width (a .s .slots)) (a .start) (a .rows .now)) (a .equity .now) (a .trades .now))
     (lists (a .entry .now) (a .exit .now) (a .«short-entry» .now) (a .«short-exit» .now)) (start .pre .1) (start .pre .3)
     (judged .judge-next .ensures) (c .before .before .before .enum-told .given .1) in
-    (start .pre .0, record { ready = ready; long = omega (arith, start .pre .1); at = start .pre .2; lists = start .pre .3 .lists })
+    (start .pre .0, record { slots = ready .0; bars = ready .1; long = omega (arith, start .pre .1); at = start .pre .2; lists = start .pre .3 .lists })
 
 returns : tie.Need-returns
 returns c =

@@ -10,7 +10,7 @@ use Rattle.engine.proofs.day.run_bars.Tie as tie
 returns : tie.Need-returns
 returns c =
     let a = c .before .before .before .before .before .before .before .before .before .before .before .args in
-    day-none (a .one) _ (a .t) (a .bars .now) (rooms (a .rows .now) (a .equity .now) (a .trades .now))
+    day-none (a .span) _ (a .t) (a .bars .now) (rooms (a .rows .now) (a .equity .now) (a .trades .now))
     (lists (a .entry .now) (a .exit .now) (a .«short-entry» .now) (a .«short-exit» .now)) (sym (c .before .no-bars .ensures) ∙ c .if1 .taken)
 
 returns-2 : tie.Need-returns-2
@@ -21,7 +21,7 @@ returns-2 c =
     let a = read .before .before .before .before .before .before .before .before .before .before .before .before .args in
     let test = read .before in
     let some = sym (test .before .no-bars .ensures) ∙ test .if1 .left in
-    rw (← read .settings-of .ensures) (day-stops (a .one) s (a .t) (a .bars .now) (rooms (a .rows .now) (a .equity .now) (a .trades .now))
+    rw (← read .settings-of .ensures) (day-stops (a .span) s (a .t) (a .bars .now) (rooms (a .rows .now) (a .equity .now) (a .trades .now))
     (lists (a .entry .now) (a .exit .now) (a .«short-entry» .now) (a .«short-exit» .now)) some
     _ (sym (judged .judge-day .ensures) ∙ c .before .refusal .given .1))
 
@@ -34,9 +34,9 @@ unlisted-requires c κs =
     let a = read .before .before .before .before .before .before .before .before .before .before .before .before .args in
     let test = read .before in
     let some = sym (test .before .no-bars .ensures) ∙ test .if1 .left in
-    let once = day-fine (a .one) s (a .t) (a .bars .now) (rooms (a .rows .now) (a .equity .now) (a .trades .now))
+    let once = day-fine (a .span) s (a .t) (a .bars .now) (rooms (a .rows .now) (a .equity .now) (a .trades .now))
     (sym (judged .judge-day .ensures) ∙ told .enum-told .given .1) in
-    whole-one (s .slots) (a .bars .now) (a .one) some (once .1)
+    whole-one (s .slots) (a .bars .now) (a .span) some (once .1)
 
 returns-3 : tie.Need-returns-3
 returns-3 c =
@@ -47,52 +47,40 @@ returns-3 c =
     let a = read .before .before .before .before .before .before .before .before .before .before .before .before .args in
     let test = read .before in
     let some = sym (test .before .no-bars .ensures) ∙ test .if1 .left in
-    let once = day-fine (a .one) s (a .t) (a .bars .now) (rooms (a .rows .now) (a .equity .now) (a .trades .now))
+    let once = day-fine (a .span) s (a .t) (a .bars .now) (rooms (a .rows .now) (a .equity .now) (a .trades .now))
     (sym (judged .judge-day .ensures) ∙ told .enum-told .given .1) in
     rw (c .unlisted .ensures, ← read .settings-of .ensures)
-    (day-unlisted (a .one) s (a .t) (a .bars .now) (rooms (a .rows .now) (a .equity .now) (a .trades .now))
+    (day-unlisted (a .span) s (a .t) (a .bars .now) (rooms (a .rows .now) (a .equity .now) (a .trades .now))
     (lists (a .entry .now) (a .exit .now) (a .«short-entry» .now) (a .«short-exit» .now)) some
     _ (once .0) (once .1)
     (sym (c .before .before .before .before .before .before .judge-lists .ensures) ∙ c .before .before .before .before .refusal2 .given .1))
 
-add-width : tie.Need-add-width
-add-width c =
-    let told = c .before .before .before .before in
-    let judged = told .before .before in
-    let read = judged .before .before .before .before in
-    let s = read .settings-of .result in
-    let a = read .before .before .before .before .before .before .before .before .before .before .before .before .args in
-    let once = day-fine (a .one) s (a .t) (a .bars .now) (rooms (a .rows .now) (a .equity .now) (a .trades .now))
-    (sym (judged .judge-day .ensures) ∙ told .enum-told .given .1) in
-    omega (arith, settings-fine s (once .0 .settings) .slots)
-
 take-bars-requires : tie.Need-take-bars-requires
 take-bars-requires c κs =
-    let told = c .before .before .before .before .before .before .before in
+    let told = c .before .before .before .before .before .before in
     let judged = told .before .before in
     let read = judged .before .before .before .before in
     let s = read .settings-of .result in
     let a = read .before .before .before .before .before .before .before .before .before .before .before .before .args in
-    let once = day-fine (a .one) s (a .t) (a .bars .now) (rooms (a .rows .now) (a .equity .now) (a .trades .now))
+    let once = day-fine (a .span) s (a .t) (a .bars .now) (rooms (a .rows .now) (a .equity .now) (a .trades .now))
     (sym (judged .judge-day .ensures) ∙ told .enum-told .given .1) in
-    let listed = c .before .before .before .before in (
+    let listed = c .before .before .before in (
       read .settings-of .ensures,
       record { steady = once .0; lists = sym (listed .before .before .judge-lists .ensures) ∙ listed .enum-told2 .given .1 },
     )
 
 returns-4 : tie.Need-returns-4
 returns-4 c =
-    let turns = c .before .before .before in
-    let took = turns .before .before .before .before .before .before .before .before in
-    let told = took .before .before .before .before .before .before .before .before in
+    let took = c .before .before .before .before .before .before in
+    let told = took .before .before .before .before .before .before .before in
     let judged = told .before .before in
     let read = judged .before .before .before .before in
     let s = read .settings-of .result in
     let a = read .before .before .before .before .before .before .before .before .before .before .before .before .args in
-    let once = day-fine (a .one) s (a .t) (a .bars .now) (rooms (a .rows .now) (a .equity .now) (a .trades .now))
+    let once = day-fine (a .span) s (a .t) (a .bars .now) (rooms (a .rows .now) (a .equity .now) (a .trades .now))
     (sym (judged .judge-day .ensures) ∙ told .enum-told .given .1) in
-    rw (turns .turn .ensures, ← read .settings-of .ensures)
-    (day-whole (a .one) s (a .t) (a .bars .now) (rooms (a .rows .now) (a .equity .now) (a .trades .now))
+    rw (← read .settings-of .ensures)
+    (day-whole (a .span) s (a .t) (a .bars .now) (rooms (a .rows .now) (a .equity .now) (a .trades .now))
     (lists (a .entry .now) (a .exit .now) (a .«short-entry» .now) (a .«short-exit» .now)) (once .1)
     ∙ took .take-bars .ensures)
 
@@ -101,5 +89,5 @@ run-bars-spec =
     tie.close (tie.spec (λ c κs. search needs) returns (λ c κs. search needs) (λ c κs. search needs) (λ c. search needs) (λ c. search needs)
     (λ c. search needs) (λ c. search needs) returns-2 (λ c. search needs) (λ c κs. search needs) (λ c. search needs)
     unlisted-requires (λ c. search needs) (λ c. search needs) (λ c. search needs) returns-3 (λ c. search needs)
-    add-width take-bars-requires (λ c κs. search needs) (λ c. search needs) (λ c. search needs) (λ c. search needs)
+    take-bars-requires (λ c. search needs) (λ c. search needs) (λ c. search needs)
     returns-4)

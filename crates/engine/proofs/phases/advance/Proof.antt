@@ -11,7 +11,7 @@ record-bar-requires : tie.Need-record-bar-requires
 record-bar-requires c κs =
     let place = c .before .before .before .before .before .before .before .before .before .before in
     let start = place .before .before .before .before .before .before .before .before .before .before .before .before .before .before in
-    (start .pre .1 .ready .slots, start .pre .1 .long, place .place-for .ensures .fits)
+    (start .pre .1 .slots, start .pre .1 .long, place .place-for .ensures .fits)
 
 apply-intrabar-exits-requires : tie.Need-apply-intrabar-exits-requires
 apply-intrabar-exits-requires c κs =
@@ -25,10 +25,10 @@ decide-next-action-requires c κs =
     let place = row .before .before .before .before .before .before .before .before .before .before .before in
     let start = place .before .before .before .before .before .before .before .before .before .before .before .before .before .before in
     let a = start .args in
-    let kept = placed (a .one) (a .s .slots) (a .rows .now) _ (a .bar .now) (start .pre .1 .at .ring) (start .pre .1 .at .first)
+    let kept = placed (a .span) (a .s .slots) (a .rows .now) _ (a .bar .now) (start .pre .1 .at .ring) (start .pre .1 .at .first)
     (place .place-for .ensures) (row .record-bar .ensures) in
     let ends = held-ends (row .record-bar .last .0) (place .place-for .result .ring) (width (a .s .slots)) (omega arith) (kept .ring) in
-    (start .pre .1 .ready .slots, start .pre .1 .ready .bars, ends)
+    (start .pre .1 .slots, start .pre .1 .bars, ends)
 
 add-seen : tie.Need-add-seen
 add-seen c =
@@ -36,7 +36,7 @@ add-seen c =
     let sell = stop .before .before .before .before .before .before .before .before .before .before in
     let place = sell .before .before .before .before .before .before .before in
     let start = place .before .before .before .before .before .before .before .before .before .before .before .before .before .before in
-    omega (arith, start .pre .1 .ready .bars)
+    omega (arith, start .pre .1 .bars)
 
 same-length-2 : tie.Need-same-length-2
 same-length-2 c =
@@ -81,7 +81,7 @@ returns-2 c =
     let m : Rooms = rooms (turned (width (a .s .slots)) (a .start) (a .rows .now)) (a .equity .now) (a .trades .now) in
     let ls : Lists = lists (a .entry .now) (a .exit .now) (a .«short-entry» .now) (a .«short-exit» .now) in
     let same = fill-in-place (a .s) (a .rows .now) _ (start .pre .1 .at .ring) (a .t .order) (a .t .position) _ (a .t .counts .«bars_seen») in
-    let kept = placed (a .one) (a .s .slots) (a .rows .now) _ (a .bar .now) (start .pre .1 .at .ring) (start .pre .1 .at .first)
+    let kept = placed (a .span) (a .s .slots) (a .rows .now) _ (a .bar .now) (start .pre .1 .at .ring) (start .pre .1 .at .first)
     (place .place-for .ensures) (row .record-bar .ensures) in
     let decides = decide-in-place (a .s) _ _ (kept .ring) ls (start .pre .1 .lists) _ _ _ _ in
     rw (c .after-bar .ensures) (record {

@@ -9,7 +9,7 @@ use Rattle.refusals.proofs.day.judge_day.Tie as tie
 abbrev Rest : tie.Start → Type 0
 Rest s =
     let a = s .args in
-    Below (dayLines (a .one) (a .s) (a .t) (a .bars .now) (rooms (a .rows .now) (a .equity .now) (a .trades .now)))
+    Below (dayLines (a .span) (a .s) (a .t) (a .bars .now) (rooms (a .rows .now) (a .equity .now) (a .trades .now)))
 
 abbrev past1 : (c : tie.After-enum-told) → Rest (c .before .before .before .before .before .before .before)
 unfolding dayLines
