@@ -16,7 +16,7 @@ ghost use Rattle.rows.specs.History.{historyOf};
 ghost use Rattle.rows.specs.Ring.{ringOf};
 ghost use Rattle.table.specs.Trees.{extreme};
 ghost use Rattle.rules.specs.declared.values.Value.the-variants.{Number};
-ghost use Rattle.rules.specs.Values.{wordsFrom, took};
+ghost use Rattle.rules.specs.Values.{wordsFrom};
 ghost use Rattle.rules.specs.Meaning.{seriesAt, extremeOver};
 ghost use Rattle.steps.specs.Machine.{ago};
 ghost use Rattle.steps.specs.Looks.{overOf, ofRow, placeOf, InRow, bestAfter, PassedOver, Stopped};
@@ -218,21 +218,6 @@ fn has_word(rows: &[u64], slots: usize, base: usize, slot: bool, which: u8) -> b
     true
 }
 
-// Whether a word leaves the best as it is. One that does not, and is below the infinity's, takes its place.
-fn leaves_best(kind: u8, best: u64, word: u64) -> bool
-    requires { ⌜ best < 0x7ff0_0000_0000_0000 ⌝ }
-    ensures { λ r. ⌜ (r ≡ true → took kind (floatOf best) (floatOf word) ≡ floatOf best)
-        × (r ≡ false → word < 0x7ff0_0000_0000_0000 → took kind (floatOf best) (floatOf word) ≡ floatOf word) ⌝ }
-{
-    if kind == kinds::HIGHEST {
-        return word <= best;
-    }
-    if word < best {
-        return false;
-    }
-    word < INFINITY
-}
-
 // How many rows are left, and the word of the best up to them.
 struct Quick {
     left: usize,
@@ -266,11 +251,17 @@ fn quick_rows(
             return Quick { left, best };
         }
         let word = rows[at + place];
-        if !leaves_best(kind, best, word) {
-            if INFINITY <= word {
-                return Quick { left, best };
+        if kind == kinds::HIGHEST {
+            if best < word {
+                if INFINITY <= word {
+                    return Quick { left, best };
+                }
+                best = word;
             }
+        } else if word < best {
             best = word;
+        } else if INFINITY <= word {
+            return Quick { left, best };
         }
         at += words::limits::ROW_FIXED + slots;
         left -= 1;
