@@ -1,5 +1,6 @@
 pub mod Heads
 pub mod Rows
+pub mod Words
 pub mod Looks
 pub mod Said
 pub mod Coming

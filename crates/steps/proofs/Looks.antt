@@ -1,14 +1,37 @@
--- Rows that are passed over: they leave the best as it was.
+-- The best over rows one after the other; and rows that are passed over, which leave it as it was.
 use Rattle.words.specs.Prelude.{ℕ, zero, suc, _+_, _-_, _*_, _<_, _≤_, _≡_, sym, _∙_, Bool, true, false, true≢false, ⊎-elim, List, arith, add-mul, Float}
-use Rattle.words.specs.Prelude.{length, eq-eqb, ne-eqb, lt-ltb, le-ltb}
+use Rattle.words.specs.Prelude.{add-one, length, eq-eqb, ne-eqb, lt-ltb, le-ltb}
 use Rattle.words.specs.{Laws.Numbers.less-or-not}
 use Rattle.floats.specs.{Floats._≺_}
 use Rattle.rows.specs.{History.historyOf, Ring.ringPlace, Ring.ringOf, Laws.RowEnds.row-ends}
 use Rattle.table.specs.{declared.series.Series.Series, declared.series.Series.the-variants.Price, declared.series.Series.the-variants.Slot}
 use Rattle.rules.specs.{declared.values.Value.Value, declared.values.Value.the-variants.Number, Values.wordsFrom, Values.better, Values.took, Values.pick}
 use Rattle.rules.specs.{Meaning.seriesAt, Meaning.extremeOver, Laws.Meaning.extreme-more}
-use Rattle.steps.specs.{Looks.ofRow, Looks.PassedOver, Looks.Stopped}
+use Rattle.steps.specs.{Looks.ofRow, Looks.placeOf, Looks.InRow, Looks.bestAfter, Looks.PassedOver, Looks.Stopped}
 use Rattle.steps.proofs.{Rows.price-in, Rows.slot-in}
+
+-- ---- one row more
+
+-- a word that a row has stands in it
+pub place-in : (slots : ℕ) (slot : Bool) (which : ℕ) → InRow slots slot which → placeOf slot which < 7 + slots
+place-in slots true k has = omega (arith, has .0)
+place-in slots false p has = omega (arith, has)
+
+-- where it begins
+pub next-row : (base at k m w : ℕ) → at ≡ base + k * w → m ≡ k + 1 → at + w ≡ base + m * w
+next-row base at k m w is more = rw (is, more, add-mul k 1 w) (omega arith)
+
+module _ (kind : ℕ) (over : Series) (ws : List ℕ) (slots base : ℕ) (start : Value) where
+  best-more : (k : ℕ) → bestAfter kind over ws slots base start (k + 1)
+      ≡ pick kind (bestAfter kind over ws slots base start k) (ofRow over (wordsFrom ws (base + k * (7 + slots))))
+  unfolding bestAfter
+  best-more k = rw (add-one k)
+
+  -- what it has takes the place of the best, or leaves it
+  pub best-next : (k m : ℕ) (best x next : Float) → m ≡ k + 1 → Number best ≡ bestAfter kind over ws slots base start k
+      → ofRow over (wordsFrom ws (base + k * (7 + slots))) ≡ Number x → took kind best x ≡ next → Number next ≡ bestAfter kind over ws slots base start m
+  unfolding pick
+  best-next k m best x next more so-far has takes = rw (more, best-more k, ← so-far, has, takes)
 
 -- ---- a row that is no better
 
@@ -85,6 +108,22 @@ module _ (K first : ℕ) (ws : List ℕ) (held : ℕ) (is : held ≡ historyOf K
         here,
         place-after held first (i + 1) m (omega arith) ends,
         add-mul (ringPlace held first (i + 1)) m (7 + K),
+      )
+
+  -- the best over so many rows more
+  pub best-on : (kind : ℕ) (over : Series) (best : Value) (oldest i m : ℕ) → oldest ≤ i → i + m < held → ringPlace held first (i + 1) + m ≤ held
+      → best ≡ extremeOver (ringOf K first ws) kind over oldest (i - oldest)
+      → bestAfter kind over ws K (ringPlace held first (i + 1) * (7 + K)) best m ≡ extremeOver (ringOf K first ws) kind over oldest (i + m - oldest)
+  unfolding bestAfter
+  best-on kind over best oldest i zero le l ends so-far = let none : i + 0 ≡ i = omega arith in rw none so-far
+  best-on kind over best oldest i (suc m) le l ends so-far =
+      let before = best-on kind over best oldest i m le (omega arith) (omega arith) so-far in
+      let next : i + suc m ≡ i + m + 1 = omega arith in
+      rw (
+        next,
+        extreme-more (ringOf K first ws) kind over oldest (i + m) (omega arith),
+        ← before,
+        series-after over i m (omega arith) (omega arith),
       )
 
   -- the best stays the best over the rows that are passed

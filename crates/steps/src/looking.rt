@@ -1,5 +1,6 @@
-// Highest and Lowest: a look over rows one after the other, the oldest first. Most rows are no better than the best before them: these
-// are passed over from word to word, as far as the rows lie one after the other. The row that ends this is not read again.
+// Highest and Lowest: a look over rows one after the other, the oldest first. Floats that are finite and not negative stand in the order of
+// their words, and most are: these are compared as words, with no float made of them, as far as the rows lie one after the other. Any other
+// row is read as what it is. Most rows are no better than the best before them, and are passed over.
 use crate::decode;
 use crate::leaves;
 use rows::ring;
@@ -10,6 +11,7 @@ ghost use mathlib.Core.Path.{_≡_};
 ghost use mathlib.Core.Bool.{true, false};
 ghost use Prim.Native.Nat.{ℕ, _+_, _-_, _*_, _<_, _≤_, min};
 ghost use lib.ListN.{length};
+ghost use Rattle.floats.specs.Floats.{floatOf};
 ghost use Rattle.rows.specs.History.{historyOf};
 ghost use Rattle.rows.specs.Ring.{ringOf};
 ghost use Rattle.table.specs.Trees.{extreme};
@@ -17,7 +19,7 @@ ghost use Rattle.rules.specs.declared.values.Value.the-variants.{Number};
 ghost use Rattle.rules.specs.Values.{wordsFrom};
 ghost use Rattle.rules.specs.Meaning.{seriesAt, extremeOver};
 ghost use Rattle.steps.specs.Machine.{ago};
-ghost use Rattle.steps.specs.Looks.{overOf, ofRow, PassedOver, Stopped};
+ghost use Rattle.steps.specs.Looks.{overOf, ofRow, placeOf, InRow, bestAfter, PassedOver, Stopped};
 
 // A price or a slot of the row that begins at word `base`, which has it.
 fn series_in(rows: &[u64], slots: usize, base: usize, slot: bool, which: u8) -> Value
@@ -177,6 +179,136 @@ fn passed_from(
     pass(kind, rows, slots, base, count, slot, which, best)
 }
 
+// The word of the infinity. Below it are the words of the finite floats that are not negative, in the order of the floats.
+const INFINITY: u64 = 0x7ff0_0000_0000_0000;
+
+// Whether a price or a slot is a word of each row.
+fn in_row(slots: usize, slot: bool, which: u8) -> bool
+    ensures { λ r. ⌜ (r ≡ true → InRow slots slot which) ⌝ }
+{
+    if slot {
+        if (which as usize) < slots {
+            return which < 64;
+        }
+        return false;
+    }
+    which < 5
+}
+
+// Where in the row that word stands.
+fn place_of(slot: bool, which: u8) -> usize
+    ensures { λ r. ⌜ r ≡ placeOf slot which ⌝ }
+{
+    if slot {
+        return words::limits::ROW_FIXED + which as usize;
+    }
+    which as usize + 1
+}
+
+// Whether the row that begins at word `base` has it: a price always.
+fn has_word(rows: &[u64], slots: usize, base: usize, slot: bool, which: u8) -> bool
+    requires { ⌜ (base + (7 + slots) ≤ length (now rows)) × InRow slots slot which ⌝ }
+    ensures { λ r. ⌜ (r ≡ true → ofRow (overOf slot which) (wordsFrom (now (rows .entry)) base)
+        ≡ Number (floatOf (wordsFrom (now (rows .entry)) base (placeOf slot which)))) ⌝ }
+{
+    if slot {
+        let mask = rows[base + words::places::BAR_MASK];
+        return (mask >> which as u64) % 2 == 1;
+    }
+    true
+}
+
+// How many rows are left, and the word of the best up to them.
+struct Quick {
+    left: usize,
+    best: u64,
+}
+
+// The best of `start` and `count` rows, one after the other from word `base`, up to one that does not have it, or that is negative, infinite
+// or a NaN. What does not change from row to row is asked for once by the compiler, so this is a loop for each case.
+fn quick_rows(
+    kind: u8,
+    rows: &[u64],
+    slots: usize,
+    base: usize,
+    count: usize,
+    slot: bool,
+    which: u8,
+    start: u64,
+) -> Quick
+    requires { ⌜ base + count * (7 + slots) ≤ length (now rows) ⌝ }
+    requires { ⌜ InRow slots slot which ⌝ }
+    requires { ⌜ start < 0x7ff0_0000_0000_0000 ⌝ }
+    ensures { λ r. ⌜ (r .left ≤ count) × (Number (floatOf (r .best))
+        ≡ bestAfter kind (overOf slot which) (now (rows .entry)) slots base (Number (floatOf start)) (count - r .left)) ⌝ }
+{
+    let place = place_of(slot, which);
+    let mut best = start;
+    let mut at = base;
+    let mut left = count;
+    while 0 < left {
+        if !has_word(rows, slots, at, slot, which) {
+            return Quick { left, best };
+        }
+        let word = rows[at + place];
+        if kind == kinds::HIGHEST {
+            if best < word {
+                if INFINITY <= word {
+                    return Quick { left, best };
+                }
+                best = word;
+            }
+        } else if word < best {
+            best = word;
+        } else if INFINITY <= word {
+            return Quick { left, best };
+        }
+        at += words::limits::ROW_FIXED + slots;
+        left -= 1;
+    }
+    Quick { left, best }
+}
+
+// The row reached, and the best up to it.
+struct Reached {
+    at: usize,
+    best: f64,
+}
+
+// The rows after row `at`, up to `newest`, the words' end, or one that has to be read as what it is.
+fn quick_from(
+    kind: u8,
+    rows: &[u64],
+    slots: usize,
+    held: usize,
+    first: usize,
+    slot: bool,
+    which: u8,
+    best: f64,
+    at: usize,
+    newest: usize,
+) -> Reached
+    requires { ⌜ (held ≡ historyOf slots (now rows) .rows) × (first ≤ held) × (at < newest) × (newest < held) ⌝ }
+    ensures { λ r. ⌜ (r .at ≤ newest) × ((oldest : ℕ) → oldest ≤ at
+        → Number best ≡ extremeOver (ringOf slots first (now (rows .entry))) kind (overOf slot which) oldest (at - oldest)
+        → Number (r .best) ≡ extremeOver (ringOf slots first (now (rows .entry))) kind (overOf slot which) oldest (r .at - oldest)) ⌝ }
+{
+    if in_row(slots, slot, which) {
+        let word = floats::word_of(best);
+        if word < INFINITY {
+            let row = ring::place(held, first, at + 1);
+            let base = row * (words::limits::ROW_FIXED + slots);
+            let count = from_there(held, row, newest - at);
+            let quick = quick_rows(kind, rows, slots, base, count, slot, which, word);
+            return Reached {
+                at: at + (count - quick.left),
+                best: floats::float_of(quick.best),
+            };
+        }
+    }
+    Reached { at, best }
+}
+
 // The best of the rows from `oldest` to `last`, where that of the oldest is `start`.
 fn best_over(
     kind: u8,
@@ -197,17 +329,23 @@ fn best_over(
     let mut best = start;
     let mut at = oldest;
     while at < last {
-        let stop = passed_from(kind, rows, slots, held, first, slot, which, best, at, last);
-        at += stop.passed;
-        if stop.stopped {
-            at += 1;
-            let later = stop.later;
-            match later {
-                Value::Missing => {
-                    return Value::Missing;
-                }
-                Value::Number(x) => {
-                    best = values::took(kind, best, x);
+        let quick = quick_from(kind, rows, slots, held, first, slot, which, best, at, last);
+        if at < quick.at {
+            at = quick.at;
+            best = quick.best;
+        } else {
+            let stop = passed_from(kind, rows, slots, held, first, slot, which, best, at, last);
+            at += stop.passed;
+            if stop.stopped {
+                at += 1;
+                let later = stop.later;
+                match later {
+                    Value::Missing => {
+                        return Value::Missing;
+                    }
+                    Value::Number(x) => {
+                        best = values::took(kind, best, x);
+                    }
                 }
             }
         }

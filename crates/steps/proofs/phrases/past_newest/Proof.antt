@@ -6,4 +6,4 @@ use Rattle.steps.proofs.phrases.past_newest.Tie as tie
 pub past-newest-spec : {M : Type 1} → statement M
 past-newest-spec =
     tie.close (tie.spec (λ c κs. search needs) (λ c. search needs) (λ c. search needs)
-    (λ c. (omega arith, λ s came. c .before .before .before .before .newest-against .ensures .1 (c .before .before .if1 .taken) s _ _ came)) (λ c. search needs))
+    (λ c. let t = c .before .before in (omega arith, λ s came. t .before .before .newest-against .ensures .1 (t .if1 .taken) s _ _ came)) (λ c. search needs))

@@ -17,7 +17,8 @@ leaf-yes-spec =
     let low = c .before .before in
     let bits = low .before in
     let s = bits .before .before .before .args in
+    let few = ltb-true (s .head % 4294967296 / 256) (s .slots) e in
     rw (bits .if3 .left)
-    (slot-told _ _ after _ (omega (arith, c .if6 .taken)) (omega (arith, low .if4 .left)) (omega (arith, low .if4 .left, ltb-true (s .head % 4294967296 / 256) (s .slots) e))
+    (slot-told _ _ after _ (omega (arith, c .if6 .taken)) (omega (arith, low .if4 .left)) (omega (arith, low .if4 .left, few))
     (bits .before .before .if1 .left)))
     (λ c e after. cc))

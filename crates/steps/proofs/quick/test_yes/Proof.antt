@@ -6,5 +6,7 @@ use Rattle.steps.proofs.quick.test_yes.Tie as tie
 pub test-yes-spec : {M : Type 1} → statement M
 test-yes-spec =
     tie.close (tie.spec (λ c κs. search needs)
-    (λ c e slots depth after. rw (eqb-true (c .before .before .args .bits) 0 e) (test-told slots depth after _ (sym (c .before .is-test .ensures) ∙ c .if1 .taken)))
+    (λ c e slots depth after.
+    let t = c .before in
+    rw (eqb-true (t .before .args .bits) 0 e) (test-told slots depth after _ (sym (t .is-test .ensures) ∙ c .if1 .taken)))
     (λ c e slots depth after. cc))
