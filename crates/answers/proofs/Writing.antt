@@ -1,20 +1,9 @@
--- A copy loop, and the decimal digits of a number.
-use Rattle.words.specs.Prelude.{Bool, true, false, cond, _≡_, refl, sym, ap, _∙_, List, _++_, ℕ, zero, suc, _+_, _-_, _*_, _/_, _^_, _≤_, _<_, pow-suc}
-use Rattle.words.specs.Prelude.{le-trans, div-lt-iff-lt-mul, le-div-iff-mul-le, sub-zero, add-one, arith, length, take, drop, getD, set, ltb, ltb-true}
-use Rattle.words.specs.Prelude.{ltb-false, paste, paste-suc, take-length}
+-- The decimal digits of a number.
+use Rattle.words.specs.Prelude.{Bool, true, false, cond, _≡_, refl, sym, ap, _∙_, List, ℕ, zero, suc, _+_, _-_, _*_, _/_, _^_, _≤_, _<_, pow-suc}
+use Rattle.words.specs.Prelude.{le-trans, div-lt-iff-lt-mul, le-div-iff-mul-le, sub-zero, arith, ltb, ltb-true, ltb-false}
 use Rattle.io.specs.{Digits.digits, Digits.Fewest}
 use Rattle.answers.specs.{Text.places, Text.decimal}
 use native.Mathlib.Nat.{pow-le-pow-right, suc-sub-suc}
-
--- a turn of a copy
-pub turn : (d : List ℕ) (at : ℕ) (s : List ℕ) (i : ℕ) → at + i < length d → i < length s → set (paste d at s i) (at + i) (getD s i 0) ≡ paste d at s (i + 1)
-turn d at s i h k = rw add-one (paste-suc d at s i 0 h k)
-
--- the end of a copy
-pub done : (d : List ℕ) (at : ℕ) (s : List ℕ) (i : ℕ) → i ≤ length s → length s ≤ i → paste d at s i ≡ take at d ++ s ++ drop (at + length s) d
-done d at s i h k =
-    let e : i ≡ length s = omega arith in
-    ap (λ (n : ℕ). paste d at s n) e ∙ ap (λ (l : List ℕ). take at d ++ l ++ drop (at + length s) d) (take-length s)
 
 -- a number below b ^ m takes no more than m digits
 few : (b least m n k : ℕ) → 0 < b → least ≤ m → n < b ^ m → Fewest b least n k → k ≤ m

@@ -7,15 +7,18 @@ pub data Read : Type 0 where
   single : ℕ → Read
   whole : ℕ → Read
 
+-- n of a kind, from `at` on
+unfoldable pub several : (ℕ → Read) → ℕ → ℕ → List Read
+several kind at zero = []
+several kind at (suc n) = several kind at n ++ (kind (at + n) ∷ [])
+
 -- n single bars from `bar` on
-unfoldable pub singles : ℕ → ℕ → List Read
-singles bar zero = []
-singles bar (suc n) = singles bar n ++ (single (bar + n) ∷ [])
+abbrev pub singles : ℕ → ℕ → List Read
+singles bar n = several single bar n
 
 -- n whole blocks from block j on
-unfoldable pub wholes : ℕ → ℕ → List Read
-wholes j zero = []
-wholes j (suc n) = wholes j n ++ (whole (j + n) ∷ [])
+abbrev pub wholes : ℕ → ℕ → List Read
+wholes j n = several whole j n
 
 -- of n bars, those that stand before the next block
 abbrev pub front : ℕ → ℕ → ℕ

@@ -1,7 +1,6 @@
 -- The window: over the last rows that a table needs the chain is the chain over all rows, so a box can answer from its window.
 -- Assumes nothing.
-use Rattle.words.specs.Prelude.{ℕ, zero, suc, _+_, _-_, _*_, _≤_, _<_, _≡_, refl, sym, ap, _∙_, Bool, true, false, cond, List, [], arith, zero-mul, drop, ltb}
-use Rattle.words.specs.Prelude.{leb, eqb, le-ltb, leb-true, leb-false, ne-eqb}
+use Rattle.words.specs.Prelude.{ℕ, zero, suc, _+_, _-_, _≤_, _<_, _≡_, refl, Bool, true, false, cond, List, [], arith, ltb, leb, eqb, le-ltb, leb-false, ne-eqb}
 use Rattle.words.specs.{Limits.trees}
 use Rattle.rows.specs.{History.History, History.historyOf, History.lastRows}
 use Rattle.table.specs.{declared.answer.Answer.the-variants.Accepted, Header.slots, Header.count, Header.root, Checked.checked, Reading.treeOf, Trees.Operand}
@@ -10,7 +9,7 @@ use Rattle.table.specs.{Trees.cross, Trees.between, Trees.trend, Trees.every, T
 use Rattle.table.specs.{Trees.more, Trees.reach, Trees.reachOf, Trees.reachOfAll, Writing.nodesIn, Writing.nodesOf, Series.asOperand}
 use Rattle.roundtrip.specs.{Laws.Reach.rows-are, Laws.Series.leaf-reach}
 use Rattle.rules.specs.{declared.position.PositionState.PositionState, Meaning.newest, Window.Without, Window.operand-same, Window.condition-same}
-use Rattle.rules.specs.{Window.without-first, WindowAnswers.window-whole}
+use Rattle.rules.specs.{Window.told-of-last, WindowAnswers.window-whole}
 use Rattle.chain.specs.{Missing.inTable, Missing.leafGone, Missing.newestGone, Missing.missingIn, Missing.missingInTwo, Missing.missingInThree}
 use Rattle.chain.specs.{Chain.shown, Chain.lineAt, Chain.chain, Chain.firstWith, Explained.explanation, Explained.explainedBy, Explained.explained}
 
@@ -127,30 +126,8 @@ module _ (h w : History) (s : ℕ) (part : Without h w s) where
 pub chain-window : (K D : ℕ) (ws : List ℕ) (p : PositionState) (c : Condition) (i : ℕ) → reachOf c < D
     → chain inTable (historyOf K (lastRows K D ws)) p c i (newest (historyOf K (lastRows K D ws)))
     ≡ chain inTable (historyOf K ws) p c i (newest (historyOf K ws))
-unfolding newest historyOf lastRows
-chain-window K D ws p c i r = go (leb (h .rows) D) refl
-  where
-    h : History
-    h = historyOf K ws
-
-    s : ℕ
-    s = h .rows - D
-
-    w : History
-    w = historyOf K (drop (s * (7 + K)) ws)
-
-    part : Without h w s
-    part = without-first K s ws (omega arith)
-
-    go : (b : Bool) → leb (h .rows) D ≡ b → chain inTable w p c i (w .rows - 1) ≡ chain inTable h p c i (h .rows - 1)
-    go true e =
-        let none-left : s ≡ 0 = omega (arith, leb-true (h .rows) D e) in
-        let same : w ≡ h = ap (λ (k : ℕ). historyOf K (drop (k * (7 + K)) ws)) none-left ∙ ap (λ (k : ℕ). historyOf K (drop k ws)) (zero-mul (7 + K)) in
-        ap (λ (x : History). chain inTable x p c i (x .rows - 1)) same
-    go false e =
-        let wide : D < h .rows = leb-false (h .rows) D e in
-        let at : h .rows - 1 ≡ s + (w .rows - 1) = omega (arith, part .count) in
-        sym (ap (chain inTable h p c i) at ∙ chain-same h w s part p c i (w .rows - 1) (omega (arith, part .count)))
+chain-window K D ws p c i r =
+    told-of-last (λ (h : History). chain inTable h p c i) K D ws (reachOf c) r (λ (h w : History) (s : ℕ) part bar. chain-same h w s part p c i bar)
 
 -- a tree by its number reaches back less than the rows that the table needs
 tree-near : (t : List ℕ) (n r : ℕ) → checked t ≡ Accepted n r → (x : ℕ) → x < 4 → reachOf (treeOf t x) < r

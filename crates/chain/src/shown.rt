@@ -1,4 +1,12 @@
 // What a line shows, by the shape of its node. `left` is how many levels of nesting are left for the operands.
+use crate::lines::AT_FIRST_BAR;
+use crate::lines::LINK;
+use crate::lines::MISSING;
+use crate::lines::NO_ENTRY;
+use crate::lines::POSITION;
+use crate::lines::SINCE_ENTRY;
+use crate::lines::TOO_FEW_BARS;
+use crate::lines::VALUES;
 use crate::missing::Found;
 use crate::missing::first_found;
 use crate::missing::first_missing;
@@ -34,23 +42,6 @@ pub struct Detail {
     pub third: u64,
     pub fourth: u64,
 }
-
-// The sorts of a line.
-const LINK: u64 = 0;
-
-const VALUES: u64 = 1;
-
-const MISSING: u64 = 2;
-
-const AT_FIRST_BAR: u64 = 3;
-
-const TOO_FEW_BARS: u64 = 4;
-
-const POSITION: u64 = 5;
-
-const SINCE_ENTRY: u64 = 6;
-
-const NO_ENTRY: u64 = 7;
 
 // The word of the operand at node i at a bar, 0 where it is missing.
 fn operand_word(

@@ -10,14 +10,15 @@ use lib.Ieee as Ieee
 use Rattle.floats.specs.Floats as Floats
 use Rattle.execution.specs.declared.lots.Quantity.the-variants as Quantity
 
-abbrev num : ℕ → Float
+abbrev pub num : ℕ → Float
 num n = Ieee.ofInt binary64 (pos n)
 
 -- 75.5
-abbrev seventyFiveAndAHalf : Float
+abbrev pub seventyFiveAndAHalf : Float
 seventyFiveAndAHalf = fin false 151 (negsuc 0)
 
-abbrev stopOnly : Risk
+-- a stop of 25% and nothing else
+abbrev pub stopOnly : Risk
 stopOnly = record {
   «stop_loss_pct» = Of (num 25);
   «trailing_stop_pct» = Absent;

@@ -1,6 +1,6 @@
 -- What Highest and Lowest answer, said of the values that they look over and not of how these are gone through: the answer is one of them, none is
 -- better, and of equals the oldest is kept. Over numbers: infinite ones too, a NaN not.
-use Rattle.words.specs.Prelude.{ℕ, zero, suc, _+_, _-_, _≤_, _<_, _≡_, refl, sym, ap, _∙_, Bool, true, false, cond, _||_, true≢false, arith, leb, Float, isNan}
+use Rattle.words.specs.Prelude.{ℕ, zero, suc, _+_, _-_, _≤_, _<_, _≡_, refl, sym, ap, _∙_, Bool, true, false, cond, true≢false, arith, leb, Float, isNan}
 use Rattle.words.specs.Prelude.{leb-true, leb-false}
 use Rattle.floats.specs.{Floats._≺_, Floats._≼_, Laws.Order.not-below, Laws.Order.not-above, Laws.Order.numbers, Laws.Order.itself, Laws.Order.in-turn}
 use Rattle.rows.specs.{History.History}
@@ -59,25 +59,20 @@ below-at-most : (x y : Float) → x ≺ y ≡ true → x ≼ y ≡ true
 unfolding Ieee.le
 below-at-most x y h = rw h
 
+-- what cannot be no is yes
+unless-no : (b : Bool) → (b ≡ false → ⊥) → b ≡ true
+unless-no true h = refl
+unless-no false h = absurd (h refl)
+
 -- x ≼ y ≺ z, and so x ≺ z: else z ≼ x, and so z ≼ y
 up-strict : (x y z : Float) → isNan z ≡ false → x ≼ y ≡ true → y ≺ z ≡ true → x ≺ z ≡ true
-up-strict x y z n h k = go (x ≺ z) refl
-  where
-    go : (b : Bool) → x ≺ z ≡ b → b ≡ true
-    go true e = refl
-    go false e =
-        let back : z ≼ x ≡ true = not-below z x n (numbers x y h .0) e in
-        absurd (true≢false (sym k ∙ not-above z y (in-turn z x y back h)))
+up-strict x y z n h k =
+    unless-no (x ≺ z) (λ e. true≢false (sym k ∙ not-above z y (in-turn z x y (not-below z x n (numbers x y h .0) e) h)))
 
 -- z ≺ y ≼ x, and so z ≺ x
 down-strict : (x y z : Float) → isNan z ≡ false → y ≼ x ≡ true → z ≺ y ≡ true → z ≺ x ≡ true
-down-strict x y z n h k = go (z ≺ x) refl
-  where
-    go : (b : Bool) → z ≺ x ≡ b → b ≡ true
-    go true e = refl
-    go false e =
-        let back : x ≼ z ≡ true = not-below x z (numbers y x h .1) n e in
-        absurd (true≢false (sym k ∙ not-above y z (in-turn y x z h back)))
+down-strict x y z n h k =
+    unless-no (z ≺ x) (λ e. true≢false (sym k ∙ not-above y z (in-turn y x z h (not-below x z (numbers y x h .1) n e))))
 
 rises : Ordered upward Named.highest
 unfolding took better

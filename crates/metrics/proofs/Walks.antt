@@ -17,12 +17,11 @@ turn f xs i {n} {x} l h e p =
 pub done : {A : Type 0} (f : List Float → A) {w : A} (xs : List Float) (i : ℕ) {n : ℕ} → n ≡ length xs → n ≤ i → f (drop i xs) ≡ w → f [] ≡ w
 done f xs i l h p = sym (ap f (drop-of-length-le xs (rw l at h))) ∙ p
 
--- ---- a trade that is on a side, and one that is not
-
-pub one-on : (side : WinOrLoss) (pnl : Float) (later : List Float) → isOn side pnl ≡ true → sizesOn side (pnl ∷ later) ≡ sizeOf side pnl ∷ sizesOn side later
+-- A loop that keeps f of the trades on a side that are to come: the trade at i is one of them, or it is not.
+pub turn-on : {A : Type 0} (f : List Float → A) {w : A} (side : WinOrLoss) (xs : List Float) (i : ℕ) {n : ℕ} {x : Float} → n ≡ length xs → i < n
+    → x ≡ getD xs i Floats.zero → f (sizesOn side (drop i xs)) ≡ w
+    → (isOn side x ≡ true → f (sizeOf side x ∷ sizesOn side (drop (i + 1) xs)) ≡ w) × (isOn side x ≡ false → f (sizesOn side (drop (i + 1) xs)) ≡ w)
 unfolding sizesOn
-one-on side pnl later h = rw h
-
-pub not-on : (side : WinOrLoss) (pnl : Float) (later : List Float) → isOn side pnl ≡ false → sizesOn side (pnl ∷ later) ≡ sizesOn side later
-unfolding sizesOn
-not-on side pnl later h = rw h
+turn-on f side xs i {x = x} l h e p =
+    let q = turn (λ (rest : List Float). f (sizesOn side rest)) xs i l h e p in
+    (λ on. rw on at q, λ off. rw off at q)

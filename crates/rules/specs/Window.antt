@@ -118,11 +118,13 @@ without-first K s ws fit =
       same = λ i. fun-ext (λ j. sym (getD-drop (s * (7 + K)) ws (i * (7 + K) + j) 0 ∙ ap (λ (n : ℕ). getD ws n 0) (omega arith)));
     }
 
--- THE WINDOW: a condition that reaches back less than D rows says of the last D rows what it says of all.
-pub window : (K D : ℕ) (ws : List ℕ) (p : PositionState) (c : Condition) → reachOf c < D
-    → says (historyOf K (lastRows K D ws)) p c ≡ says (historyOf K ws) p c
-unfolding says newest historyOf lastRows
-window K D ws p c r = go (leb (h .rows) D) refl
+-- What is told of a history at its newest bar, and is the same without rows that it does not look at (all but the last r + 1), is told of the last D rows
+-- as of all, for an r below D.
+pub told-of-last : {A : Type 0} (told : History → ℕ → A) (K D : ℕ) (ws : List ℕ) (r : ℕ) → r < D
+    → ((h w : History) (s : ℕ) → Without h w s → (i : ℕ) → r ≤ i → told h (s + i) ≡ told w i)
+    → told (historyOf K (lastRows K D ws)) (newest (historyOf K (lastRows K D ws))) ≡ told (historyOf K ws) (newest (historyOf K ws))
+unfolding newest historyOf lastRows
+told-of-last told K D ws r near same-without = go (leb (h .rows) D) refl
   where
     h : History
     h = historyOf K ws
@@ -136,12 +138,19 @@ window K D ws p c r = go (leb (h .rows) D) refl
     part : Without h w s
     part = without-first K s ws (omega arith)
 
-    go : (b : Bool) → leb (h .rows) D ≡ b → holds w p c (w .rows - 1) ≡ holds h p c (h .rows - 1)
+    go : (b : Bool) → leb (h .rows) D ≡ b → told w (w .rows - 1) ≡ told h (h .rows - 1)
     go true e =
         let none-left : s ≡ 0 = omega (arith, leb-true (h .rows) D e) in
         let same : w ≡ h = ap (λ (k : ℕ). historyOf K (drop (k * (7 + K)) ws)) none-left ∙ ap (λ (k : ℕ). historyOf K (drop k ws)) (zero-mul (7 + K)) in
-        ap (λ (x : History). holds x p c (x .rows - 1)) same
+        ap (λ (x : History). told x (x .rows - 1)) same
     go false e =
         let wide : D < h .rows = leb-false (h .rows) D e in
         let at : h .rows - 1 ≡ s + (w .rows - 1) = omega (arith, part .count) in
-        sym (ap (holds h p c) at ∙ condition-same h w s part p c (w .rows - 1) (omega (arith, part .count)))
+        sym (ap (told h) at ∙ same-without h w s part (w .rows - 1) (omega (arith, part .count)))
+
+-- THE WINDOW: a condition that reaches back less than D rows says of the last D rows what it says of all.
+pub window : (K D : ℕ) (ws : List ℕ) (p : PositionState) (c : Condition) → reachOf c < D
+    → says (historyOf K (lastRows K D ws)) p c ≡ says (historyOf K ws) p c
+unfolding says
+window K D ws p c r =
+    told-of-last (λ (h : History). holds h p c) K D ws (reachOf c) r (λ (h w : History) (s : ℕ) part i. condition-same h w s part p c i)

@@ -1,7 +1,7 @@
 -- MARKET ORDERS BEHAVE AS BEFORE: a run whose order kind is market is the run of the engine that knew no other orders.
 use Rattle.words.specs.Prelude.{ℕ, _-_, _≡_, refl, Bool, true, false, cond, List, [], _∷_, _++_, ltb, Float}
 use Rattle.rows.specs.{History.History, History.historyOf}
-use Rattle.portfolio.specs.{declared.Candle.Candle, declared.Portfolio.Portfolio, Portfolio.inPosition, Portfolio.isLong}
+use Rattle.portfolio.specs.{declared.Candle.Candle}
 use Rattle.execution.specs.{declared.fills.Exit.the-variants.NoExit, declared.level.Side.Side, declared.level.Side.the-variants.Long}
 use Rattle.execution.specs.{declared.level.Side.the-variants.Short, declared.level.OrderKind.the-variants.Market}
 use Rattle.execution.specs.{declared.level.OrderType.the-variants.Market as MarketType, Fills.executeEntry, Fills.isTurnedAway, Level.entryTrigger}
@@ -10,9 +10,10 @@ use Rattle.records.specs.{declared.state.Order.Order, declared.state.Order.the-
 use Rattle.records.specs.{declared.state.Order.the-variants.EnterShort, declared.state.Order.the-variants.Exit as ExitOrder, declared.state.Position.Position}
 use Rattle.records.specs.{declared.settings.Settings.Settings, Bar.candleOf, State.freshState, StateWords.waitsFor}
 use Rattle.engine.specs.{declared.account.Due.Due, declared.account.Filled.Filled, Account.entering, Account.waiting, Account.entryFilled, Account.exitFilled}
-use Rattle.engine.specs.{Account.dueIfReached, Account.dueOf, Account.doneOf, Account.filled, Decide.Answers, Decide.openingOrder, Decide.closingOrder}
-use Rattle.engine.specs.{Decide.ordered, Decide.orderAfter, Record.rowOf, Whole.Account, Whole.Asked, Whole.accountOf, Whole.takenBy, Whole.taken}
+use Rattle.engine.specs.{Account.dueIfReached, Account.dueOf, Account.doneOf, Account.filled, Decide.Answers}
+use Rattle.engine.specs.{Decide.orderAfter, Record.rowOf, Whole.Account, Whole.Asked, Whole.accountOf, Whole.takenBy, Whole.taken}
 use Rattle.engine.specs.{Whole.wholeRunBy, Whole.wholeRun}
+use Rattle.runs.specs.{Laws.Orders.ordered-keeps, Laws.Orders.decided-keeps}
 
 -- ---- document 01's fill
 
@@ -45,10 +46,6 @@ module _ (s : Settings) (p : Position) (k : Candle) (before : History) (number :
 
 -- ---- and it stays a market order
 
-either : (b : Bool) (x y : Order) → waitsFor x ≡ Market → waitsFor y ≡ Market → waitsFor (cond b x y) ≡ Market
-either true x y h k = h
-either false x y h k = k
-
 either-filled : (b : Bool) (x y : Filled) → waitsFor (x .order) ≡ Market → waitsFor (y .order) ≡ Market → waitsFor (cond b x y .order) ≡ Market
 either-filled true x y h k = h
 either-filled false x y h k = k
@@ -61,19 +58,6 @@ fill-stays s (EnterLong n kind) p k before number h = either-filled (ltb 0 n) _ 
 fill-stays s (EnterShort n kind) p k before number h = either-filled (ltb 0 n) _ _ h refl
 fill-stays s (ExitOrder n) p k before number h = either-filled (ltb 0 n) _ _ refl refl
 
-ordered-market : (delay : ℕ) (p : Portfolio) (a : Answers) → waitsFor (ordered delay Market p a) ≡ Market
-unfolding ordered openingOrder closingOrder waitsFor
-ordered-market delay p a = go (inPosition p) (isLong p) (a .«exit») (a .«short_exit») (a .entry) (a .«short_entry»)
-  where
-    go : (b c d e f g : Bool) → waitsFor (cond b (cond c (closingOrder delay d) (closingOrder delay e)) (openingOrder delay Market f g)) ≡ Market
-    go true true true e f g = refl
-    go true true false e f g = refl
-    go true false d true f g = refl
-    go true false d false f g = refl
-    go false c d e true g = refl
-    go false c d e false true = refl
-    go false c d e false false = refl
-
 module _ (s : Settings) (market : s .entries .«order_type» ≡ MarketType) where
   trigger-market : (close : Float) → entryTrigger (s .entries) close ≡ Market
   unfolding entryTrigger
@@ -81,13 +65,10 @@ module _ (s : Settings) (market : s .entries .«order_type» ≡ MarketType) whe
 
   decides-market : (o : Order) (p : Position) (number : ℕ) (close : Float) (a : Answers) → waitsFor o ≡ Market
       → waitsFor (orderAfter s o p number close a) ≡ Market
-  unfolding waitsFor orderAfter
-  decides-market (EnterLong n kind) p number close a h = h
-  decides-market (EnterShort n kind) p number close a h = h
-  decides-market (ExitOrder n) p number close a h = refl
-  decides-market Idle p number close a h =
-      rw (trigger-market close)
-      (either (ltb number (s .warmup)) Idle (ordered (s .delay) Market (p .portfolio) a) refl (ordered-market (s .delay) (p .portfolio) a))
+  unfolding waitsFor
+  decides-market o p number close a =
+      decided-keeps (λ x. waitsFor x ≡ Market) s o p number close a
+      (ordered-keeps (λ x. waitsFor x ≡ Market) (s .delay) _ (p .portfolio) a refl (trigger-market close) (trigger-market close) refl)
 
   module _ (asked : Asked) (a : Account) (h : waitsFor (a .order) ≡ Market) (rows bar : List ℕ) where
     bar-at-open : taken s asked a rows bar ≡ takenBy filledAtOpen s asked a rows bar

@@ -1,25 +1,9 @@
 -- "The starred eight are proved of the written rules, a single table under one statement."
-use Rattle.words.specs.Prelude.{ℕ, _≡_, refl, true, false, List, [], _∷_, pos, negsuc, Float, binary64, fin}
+use Rattle.words.specs.Prelude.{ℕ, _≡_, refl, true, false, List, [], _∷_, Float}
 use Rattle.portfolio.specs.{Trade.stopLoss}
 use Rattle.rules.specs.{Edges.Said, Edges.answer, Edges.reaches, Edges.starred, Edges.edges}
-use Rattle.execution.specs.{Edges.stop-edges, Intrabar.intrabarExit, declared.optional.Optional.the-variants.Absent, declared.optional.Optional.the-variants.Of}
-use Rattle.execution.specs.{declared.terms.Risk.Risk, declared.intrabar.Trigger.Trigger, declared.intrabar.Trigger.the-variants.Untouched}
-use Rattle.execution.specs.{declared.intrabar.Trigger.the-variants.At}
-use lib.Ieee as Ieee
-
-abbrev num : ℕ → Float
-num n = Ieee.ofInt binary64 (pos n)
-
--- a stop of 25% and nothing else
-abbrev stop25 : Risk
-stop25 = record {
-  «stop_loss_pct» = Of (num 25);
-  «trailing_stop_pct» = Absent;
-  «take_profit_pct» = Absent;
-  «max_leverage» = Absent;
-  «max_position_pct» = Absent;
-  liquidation = false;
-}
+use Rattle.execution.specs.{Edges.num, Edges.seventyFiveAndAHalf, Edges.stopOnly, Edges.bar, Edges.stop-edges, Intrabar.intrabarExit}
+use Rattle.execution.specs.{declared.intrabar.Trigger.Trigger, declared.intrabar.Trigger.the-variants.Untouched, declared.intrabar.Trigger.the-variants.At}
 
 -- What the written rules say: of rules, and of a long from 100 in a bar with this open and this low.
 pub record Eight : Type 0 where
@@ -29,11 +13,10 @@ pub record Eight : Type 0 where
 -- whatever the rest of the bar and the favourable extreme are
 module _ (time : ℕ) (high close volume extreme : Float) where
   abbrev from100 : Float → Float → Trigger
-  from100 first low =
-      intrabarExit (record { time = time; «open» = first; high = high; low = low; close = close; volume = volume }) stop25 (num 100) extreme true
+  from100 first low = intrabarExit (bar time high close volume extreme first low) stopOnly (num 100) extreme true
 
   pub starred-eight : _≡_ {A = Eight}
-      (record { rules = starred; stops = from100 (num 70) (num 68) ∷ from100 (num 80) (num 75) ∷ from100 (num 80) (fin false 151 (negsuc 0)) ∷ [] })
+      (record { rules = starred; stops = from100 (num 70) (num 68) ∷ from100 (num 80) (num 75) ∷ from100 (num 80) seventyFiveAndAHalf ∷ [] })
       (record {
         -- ★1 no ★2 yes, ★3 no and yes, ★4 both no, ★5 yes and no, ★6 no and yes, ★7 reach 6
         rules =

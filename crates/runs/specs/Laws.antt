@@ -2,12 +2,15 @@ pub mod OneTrade
 pub mod Quiet
 pub mod Resting
 pub mod Counts
+pub mod Orders
+pub mod Exits
 pub mod Floats
 pub mod FillWindow
 pub mod Window
 pub mod Meaning
 pub mod AccountStep
 pub mod BooksGrow
+pub mod FirstBar
 pub mod Follows
 pub mod Verdicts
 pub mod NeverTen

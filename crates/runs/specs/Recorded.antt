@@ -58,25 +58,23 @@ unfoldable pub Each : (Trade → Type 0) → List Trade → Type 0
 Each P [] = Unit {0}
 Each P (t ∷ ts) = P t × Each P ts
 
--- an open position, as a bar finds it: it has been through `since`
-record Met (s : Settings) (bars : List (List ℕ)) (bar : List ℕ) (e : EntryBar) (p : Portfolio) : Type 0 where
+-- an open position that has been through `since`, and whose least favourable price has been through what `seen` makes of them
+record Through (seen : List (List ℕ) → List (List ℕ)) (s : Settings) (bars : List (List ℕ)) (bar : List ℕ) (e : EntryBar) (p : Portfolio) : Type 0 where
   before : List (List ℕ)
   since : List (List ℕ)
   split : bars ≡ before ++ since
   entry : e ≡ Bar (length before)
   time : p .«entry_time» ≡ firstTime (since ++ (bar ∷ []))
-  worst : p .worst ≡ worstOver (zero ≺ p .qty) (p .«entry_price») since
+  worst : p .worst ≡ worstOver (zero ≺ p .qty) (p .«entry_price») (seen since)
   funding : p .funding ≡ paidOver s (p .qty) zero since
 
+-- as a bar finds it
+abbrev Met : Settings → List (List ℕ) → List ℕ → EntryBar → Portfolio → Type 0
+Met s bars bar = Through (λ since. since) s bars bar
+
 -- and when its least favourable price has taken the bar
-record Taking (s : Settings) (bars : List (List ℕ)) (bar : List ℕ) (e : EntryBar) (p : Portfolio) : Type 0 where
-  before : List (List ℕ)
-  since : List (List ℕ)
-  split : bars ≡ before ++ since
-  entry : e ≡ Bar (length before)
-  time : p .«entry_time» ≡ firstTime (since ++ (bar ∷ []))
-  worst : p .worst ≡ worstOver (zero ≺ p .qty) (p .«entry_price») (since ++ (bar ∷ []))
-  funding : p .funding ≡ paidOver s (p .qty) zero since
+abbrev Taking : Settings → List (List ℕ) → List ℕ → EntryBar → Portfolio → Type 0
+Taking s bars bar = Through (λ since. since ++ (bar ∷ [])) s bars bar
 
 -- and between two bars: `bars` are all so far
 record Open (s : Settings) (bars : List (List ℕ)) (e : EntryBar) (p : Portfolio) : Type 0 where

@@ -1,14 +1,14 @@
 -- The engine over the whole history: a box that keeps the last D rows decides by the rows of all bars.
-use Rattle.words.specs.Prelude.{ℕ, _+_, _≤_, _≡_, refl, sym, _∙_, List, [], _∷_, _++_, append-nil, append-assoc, flatMap, zero-mul, add-one, arith, lt-ltb}
+use Rattle.words.specs.Prelude.{ℕ, _+_, _≤_, _≡_, refl, sym, _∙_, List, [], _∷_, _++_, append-nil, append-assoc, flatMap, zero-mul, arith, lt-ltb}
 use Rattle.words.specs.Prelude.{length, take}
 use Rattle.rows.specs.{Room.heldWith}
 use Rattle.records.specs.{declared.settings.Settings.Settings, declared.state.State.State, Lent.Lists, Lent.Rooms, Lent.rowPlaces, State.freshState}
-use Rattle.refusals.specs.{declared.verdict.Verdict.Verdict, declared.verdict.Verdict.the-variants.Fine, declared.verdict.Verdict.the-variants.Bad}
-use Rattle.engine.specs.{Boxes.Grown, Boxes.Follows, Laws.Lengths.row-long, Laws.Lengths.row-fits, Laws.Runs.run-none, Laws.Runs.run-stops, Laws.Runs.run-takes}
-use Rattle.engine.specs.{Record.rowOf, Record.heldRows, Rules.rulesOf, Rules.FromTable, Run.Run, Run.runOver, Step.With, Step.stepped, Step.stepVerdict}
+use Rattle.refusals.specs.{declared.verdict.Verdict.the-variants.Fine}
+use Rattle.engine.specs.{Boxes.Grown, Boxes.Follows, Laws.Lengths.row-long, Laws.Lengths.row-fits, Laws.Runs.run-none}
+use Rattle.engine.specs.{Record.rowOf, Record.heldRows, Rules.rulesOf, Rules.FromTable, Run.Run, Run.runOver, Step.stepped, Step.stepVerdict}
 use Rattle.engine.specs.{Whole.accountOf, Whole.rowsHeld, Whole.byMeaning, Whole.taken, Whole.lastOf, Whole.rowsOf}
 use Rattle.runs.specs.{Laws.AccountStep.taken-as-meant, Laws.Follows.step-follows, Laws.Follows.step-grows, Laws.Follows.run-follows}
-use Rattle.runs.specs.{Laws.Window.row-added}
+use Rattle.runs.specs.{Laws.FirstBar.by-first-bar, Laws.Window.row-added}
 
 -- ---- a room with a place for every bar
 
@@ -36,24 +36,9 @@ unfolding flatMap
 rows-all s ls [] t m fit = rw (run-none s ls t m) (sym (append-nil _))
 rows-all s ls (bar ∷ bars) t m fit =
     let more = rows-more s ls t m bar (omega arith) in
-    go (stepVerdict s t bar m ls) refl
-    (rows-all s ls bars (stepped s t bar m ls .result) (stepped s t bar m ls .rooms) (rw (more .0, more .1) (omega arith)))
-  where
-    d : With State
-    d = stepped s t bar m ls
-
-    later : Run
-    later = runOver s ls (d .result) (d .rooms) bars
-
-    go : (v : Verdict) → stepVerdict s t bar m ls ≡ v
-        → rowsHeld s (later .state) (later .rooms) ≡ rowsHeld s (d .result) (d .rooms) ++ rowsOf s (take (later .done) bars)
-        → let r = runOver s ls t m (bar ∷ bars) in
-        rowsHeld s (r .state) (r .rooms) ≡ rowsHeld s t m ++ rowsOf s (take (r .done) (bar ∷ bars))
-    go (Bad why) e h = rw (run-stops s ls t m bar bars why e) (sym (append-nil _))
-    go Fine e h =
-        rw (run-takes s ls t m bar bars e, add-one)
-        (h ∙ rw (row-appended s ls t m bar (omega arith))
-        (append-assoc (rowsHeld s t m) (rowOf (s .slots) bar) (rowsOf s (take (later .done) bars))))
+    by-first-bar s ls t m bar bars (λ took u n. rowsHeld s u n ≡ rowsHeld s t m ++ rowsOf s took) (sym (append-nil _))
+    (λ fine. rows-all s ls bars (stepped s t bar m ls .result) (stepped s t bar m ls .rooms) (rw (more .0, more .1) (omega arith))
+    ∙ rw (row-appended s ls t m bar (omega arith)) (append-assoc (rowsHeld s t m) (rowOf (s .slots) bar) _))
 
 -- ---- any room
 

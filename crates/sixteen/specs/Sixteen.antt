@@ -61,6 +61,13 @@ module _ (s : Settings) (p : Position) (k : Candle) (h : History) (number : ℕ)
       let t = turned-away-only-if side price (bpsOf kind) (s .terms) k (p .portfolio) h e in
       record { side = side; kind = kind; price = price; due = due; some-lot = t .0; too-many = t .1 }
 
+  -- an entry whose bar is here: its level is reached, or not
+  by-level : (order : Order) (side : Side) (kind : OrderKind) → ((price : Float) → levelFill side kind k ≡ Of price → DueAt k order side kind price)
+      → (o : Optional) → levelFill side kind k ≡ o → doneOf (dueIfReached side kind order o) s p k h number .«turned_away» ≡ true → Turned order
+  unfolding doneOf dueIfReached
+  by-level order side kind due Absent f e = absurd (true≢false (sym e))
+  by-level order side kind due (Of price) f e = by-entry order side kind price (due price f) e
+
   flag-turned : (order : Order) → filled s order p k h number .«turned_away» ≡ true → Turned order
   unfolding filled dueOf doneOf dueIfReached exitFilled
   flag-turned Idle e = absurd (true≢false (sym e))
@@ -68,18 +75,8 @@ module _ (s : Settings) (p : Position) (k : Candle) (h : History) (number : ℕ)
   flag-turned (Exit (suc n)) e = absurd (true≢false (sym (rw (lt-ltb 0 (suc n) (omega arith)) at e)))
   flag-turned (EnterLong (suc n) kind) e = absurd (true≢false (sym (rw (lt-ltb 0 (suc n) (omega arith)) at e)))
   flag-turned (EnterShort (suc n) kind) e = absurd (true≢false (sym (rw (lt-ltb 0 (suc n) (omega arith)) at e)))
-  flag-turned (EnterLong zero kind) e = go (levelFill Long kind k) refl e
-    where
-      go : (o : Optional) → levelFill Long kind k ≡ o → doneOf (dueIfReached Long kind (EnterLong 0 kind) o) s p k h number .«turned_away» ≡ true
-          → Turned (EnterLong 0 kind)
-      go Absent f e = absurd (true≢false (sym e))
-      go (Of price) f e = by-entry (EnterLong 0 kind) Long kind price (long kind price f) e
-  flag-turned (EnterShort zero kind) e = go (levelFill Short kind k) refl e
-    where
-      go : (o : Optional) → levelFill Short kind k ≡ o → doneOf (dueIfReached Short kind (EnterShort 0 kind) o) s p k h number .«turned_away» ≡ true
-          → Turned (EnterShort 0 kind)
-      go Absent f e = absurd (true≢false (sym e))
-      go (Of price) f e = by-entry (EnterShort 0 kind) Short kind price (short kind price f) e
+  flag-turned (EnterLong zero kind) e = by-level (EnterLong 0 kind) Long kind (long kind) (levelFill Long kind k) refl e
+  flag-turned (EnterShort zero kind) e = by-level (EnterShort 0 kind) Short kind (short kind) (levelFill Short kind k) refl e
 
 -- ---- a step
 

@@ -1,13 +1,13 @@
 -- Every bar that a run took has finite prices: 11 sees to it.
-use Rattle.words.specs.Prelude.{ℕ, _≡_, refl, Bool, true, false, _&&_, List, [], _∷_, _++_, add-one, take}
+use Rattle.words.specs.Prelude.{ℕ, _≡_, Bool, true, false, _&&_, List, [], _∷_, _++_, take}
 use Rattle.floats.specs.{Floats.finite}
 use Rattle.portfolio.specs.{declared.Candle.Candle}
 use Rattle.records.specs.{declared.settings.Settings.Settings, declared.state.State.State, Bar.candleOf, Lent.Lists, Lent.Rooms}
-use Rattle.refusals.specs.{declared.verdict.Verdict.Verdict, declared.verdict.Verdict.the-variants.Fine, declared.verdict.Verdict.the-variants.Bad}
+use Rattle.refusals.specs.{declared.verdict.Verdict.the-variants.Fine}
 use Rattle.refusals.specs.{Bar.candleFine, Bar.barLines, Judgement.runLines, Judgement.stepLines, Laws.Lines.and-true, Laws.Lines.first-holds}
 use Rattle.refusals.specs.{Laws.Lines.both-fine, Rooms.placeLines}
-use Rattle.engine.specs.{Laws.Runs.run-none, Laws.Runs.run-stops, Laws.Runs.run-takes, Run.Run, Run.runOver, Step.stepped, Step.sizeLines, Step.stepVerdict}
-use Rattle.runs.specs.{During.against, During.AllFinite}
+use Rattle.engine.specs.{Laws.Runs.run-none, Run.runOver, Step.stepped, Step.sizeLines, Step.stepVerdict}
+use Rattle.runs.specs.{During.against, During.AllFinite, Laws.FirstBar.by-first-bar}
 
 -- "a price, volume .. not finite" is said of none of these bars
 unfoldable pub AllFine : List (List ℕ) → Type 0
@@ -28,15 +28,8 @@ pub run-fine : (s : Settings) (ls : Lists) (bars : List (List ℕ)) (t : State) 
 unfolding AllFine
 run-fine s ls [] t m = rw (run-none s ls t m) tt
 run-fine s ls (bar ∷ bars) t m =
-    go (stepVerdict s t bar m ls) refl (run-fine s ls bars (stepped s t bar m ls .result) (stepped s t bar m ls .rooms))
-  where
-    later : Run
-    later = runOver s ls (stepped s t bar m ls .result) (stepped s t bar m ls .rooms) bars
-
-    go : (v : Verdict) → stepVerdict s t bar m ls ≡ v → AllFine (take (later .done) bars)
-        → AllFine (take (runOver s ls t m (bar ∷ bars) .done) (bar ∷ bars))
-    go (Bad why) e rest = rw (run-stops s ls t m bar bars why e) tt
-    go Fine e rest = rw (run-takes s ls t m bar bars e, add-one) (taken-fine s t bar m ls e, rest)
+    by-first-bar s ls t m bar bars (λ took u n. AllFine took) tt
+    (λ fine. (taken-fine s t bar m ls fine, run-fine s ls bars (stepped s t bar m ls .result) (stepped s t bar m ls .rooms)))
 
 -- ---- of some of them
 

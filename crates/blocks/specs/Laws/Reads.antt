@@ -4,7 +4,8 @@ use Rattle.words.specs.Prelude.{ℕ, zero, suc, _+_, _-_, _*_, _/_, _%_, _<_, _
 use Rattle.words.specs.Prelude.{_++_, append-assoc, append-nil, add-zero, add-suc, arith, add-one, eqb-true, eqb-false, leb-true, eq-eqb, le-leb, leb, eqb}
 use Rattle.words.specs.Prelude.{getD}
 use Rattle.blocks.specs.{declared.best.Best.Best, Reading.one, Reading.join, Blocks.blockBars, Blocks.block, Blocks.withCloses, Blocks.withBlocks}
-use Rattle.blocks.specs.{Reads.Read, Reads.single, Reads.whole, Reads.singles, Reads.wholes, Reads.front, Reads.reads, Reads.beginsBlock, Reads.best}
+use Rattle.blocks.specs.{Reads.Read, Reads.single, Reads.whole, Reads.several, Reads.singles, Reads.wholes, Reads.front, Reads.reads, Reads.beginsBlock}
+use Rattle.blocks.specs.{Reads.best}
 use Rattle.blocks.specs.{Reads.onto, Reads.closesRead, Reads.blocksRead, Reads.bars, Reads.barsRead, Reads.Little}
 
 -- ---- a block that begins at a bar and fits
@@ -28,19 +29,12 @@ no-block bar n e l z = false≢true (sym e ∙ simp (eq-eqb (bar % 64) 0 z, le-l
 next : (x y : ℕ) → x + suc y ≡ suc x + y
 next x y = omega arith
 
-singles-first : (bar n : ℕ) → singles bar (suc n) ≡ single bar ∷ singles (suc bar) n
-unfolding singles
-singles-first bar zero = ap (λ (i : ℕ). single i ∷ []) (add-zero bar)
-singles-first bar (suc n) =
-    ap (λ (rs : List Read). rs ++ (single (bar + suc n) ∷ [])) (singles-first bar n)
-    ∙ ap (λ (i : ℕ). single bar ∷ (singles (suc bar) n ++ (single i ∷ []))) (next bar n)
-
-wholes-first : (j n : ℕ) → wholes j (suc n) ≡ whole j ∷ wholes (suc j) n
-unfolding wholes
-wholes-first j zero = ap (λ (i : ℕ). whole i ∷ []) (add-zero j)
-wholes-first j (suc n) =
-    ap (λ (rs : List Read). rs ++ (whole (j + suc n) ∷ [])) (wholes-first j n)
-    ∙ ap (λ (i : ℕ). whole j ∷ (wholes (suc j) n ++ (whole i ∷ []))) (next j n)
+several-first : (kind : ℕ → Read) (at n : ℕ) → several kind at (suc n) ≡ kind at ∷ several kind (suc at) n
+unfolding several
+several-first kind at zero = ap (λ (i : ℕ). kind i ∷ []) (add-zero at)
+several-first kind at (suc n) =
+    ap (λ (rs : List Read). rs ++ (kind (at + suc n) ∷ [])) (several-first kind at n)
+    ∙ ap (λ (i : ℕ). kind at ∷ (several kind (suc at) n ++ (kind i ∷ []))) (next at n)
 
 -- the three parts, by how many each has
 abbrev parts : ℕ → ℕ → ℕ → ℕ → ℕ → ℕ → List Read
@@ -54,12 +48,12 @@ reads-are first n f m j end after p q r s t = rw (p, q, r, s, t) refl
 
 -- none in front
 no-front : (first j m end after : ℕ) → parts first 0 j m end after ≡ wholes j m ++ singles end after
-unfolding singles
+unfolding several
 no-front first j m end after = refl
 
 -- one close in front, then the rest
 front-first : (first f j m end after : ℕ) → parts first (suc f) j m end after ≡ single first ∷ parts (suc first) f j m end after
-front-first first f j m end after = ap (λ (rs : List Read). rs ++ wholes j m ++ singles end after) (singles-first first f)
+front-first first f j m end after = ap (λ (rs : List Read). rs ++ wholes j m ++ singles end after) (several-first single first f)
 
 -- "whole blocks where it can": a block where one begins and fits, and then the rest ..
 pub reads-block : (first n : ℕ) → beginsBlock first n ≡ true → reads first n ≡ whole (first / blockBars) ∷ reads (first + blockBars) (n - blockBars)
@@ -72,12 +66,12 @@ reads-block first n e =
     let after = first + n - end in
     let all = reads-are first n 0 (suc many) j end after (omega arith) (omega arith) (omega arith) (omega arith) refl in
     let rest = reads-are (first + 64) (n - 64) 0 many (suc j) end after (omega arith) (omega arith) (omega arith) (omega arith) (omega arith) in
-    all ∙ no-front first j (suc many) end after ∙ ap (λ (rs : List Read). rs ++ singles end after) (wholes-first j many)
+    all ∙ no-front first j (suc many) end after ∙ ap (λ (rs : List Read). rs ++ singles end after) (several-first whole j many)
     ∙ ap (λ (rs : List Read). whole j ∷ rs) (sym (rest ∙ no-front (first + 64) (suc j) many end after))
 
 -- .. and else a single bar, and then the rest
 pub reads-close : (first n : ℕ) → 0 < n → beginsBlock first n ≡ false → reads first n ≡ single first ∷ reads (first + 1) (n - 1)
-unfolding singles wholes
+unfolding several
 reads-close first n some e = go (eqb (first % 64) 0) refl
   where
     under : (x : ℕ) → (64 ≤ x → ⊥) → x < 64
@@ -107,7 +101,7 @@ reads-close first n some e = go (eqb (first % 64) 0) refl
         let all = reads-are first n 0 0 j first n (omega arith) (omega arith) (omega arith) (omega arith) (omega arith) in
         let rest =
         reads-are (first + 1) (n - 1) (n - 1) 0 ((first + n) / 64) (first + n) 0 (omega arith) (omega arith) (omega arith) (omega arith) (omega arith) in
-        all ∙ ap (singles first) one-more ∙ singles-first first (n - 1)
+        all ∙ ap (singles first) one-more ∙ several-first single first (n - 1)
         ∙ ap (λ (rs : List Read). single first ∷ rs) (ap (λ (x : ℕ). singles x (n - 1)) (sym (add-one first)) ∙ sym (rest ∙ append-nil _ ∙ append-nil _))
 
     -- before a block
@@ -137,14 +131,14 @@ module _ (closes blocks : List ℕ) where
   onto-append b (r ∷ rs) ss = onto-append (join b (best closes blocks r)) rs ss
 
   pub onto-singles : (b : Best) (bar n : ℕ) → onto closes blocks b (singles bar n) ≡ withCloses closes b bar n
-  unfolding onto best singles withCloses
+  unfolding onto best several withCloses
   onto-singles b bar zero = refl
   onto-singles b bar (suc n) =
       onto-append b (singles bar n) (single (bar + n) ∷ [])
       ∙ ap (λ (x : Best). join x (one (getD closes (bar + n) 0) (bar + n))) (onto-singles b bar n)
 
   pub onto-wholes : (b : Best) (j n : ℕ) → onto closes blocks b (wholes j n) ≡ withBlocks blocks b j n
-  unfolding onto best wholes withBlocks
+  unfolding onto best several withBlocks
   onto-wholes b j zero = refl
   onto-wholes b j (suc n) =
       onto-append b (wholes j n) (whole (j + n) ∷ []) ∙ ap (λ (x : Best). join x (block blocks (j + n))) (onto-wholes b j n)
@@ -178,12 +172,12 @@ closes-append (single bar ∷ rs) ss = omega (arith, closes-append rs ss)
 closes-append (whole j ∷ rs) ss = closes-append rs ss
 
 closes-singles : (bar n : ℕ) → closesRead (singles bar n) ≡ n
-unfolding closesRead singles
+unfolding closesRead several
 closes-singles bar zero = refl
 closes-singles bar (suc n) = closes-append (singles bar n) (single (bar + n) ∷ []) ∙ omega (arith, closes-singles bar n)
 
 closes-wholes : (j n : ℕ) → closesRead (wholes j n) ≡ 0
-unfolding closesRead wholes
+unfolding closesRead several
 closes-wholes j zero = refl
 closes-wholes j (suc n) = closes-append (wholes j n) (whole (j + n) ∷ []) ∙ omega (arith, closes-wholes j n)
 
@@ -194,12 +188,12 @@ blocks-append (single bar ∷ rs) ss = blocks-append rs ss
 blocks-append (whole j ∷ rs) ss = omega (arith, blocks-append rs ss)
 
 blocks-singles : (bar n : ℕ) → blocksRead (singles bar n) ≡ 0
-unfolding blocksRead singles
+unfolding blocksRead several
 blocks-singles bar zero = refl
 blocks-singles bar (suc n) = blocks-append (singles bar n) (single (bar + n) ∷ []) ∙ omega (arith, blocks-singles bar n)
 
 blocks-wholes : (j n : ℕ) → blocksRead (wholes j n) ≡ n
-unfolding blocksRead wholes
+unfolding blocksRead several
 blocks-wholes j zero = refl
 blocks-wholes j (suc n) = blocks-append (wholes j n) (whole (j + n) ∷ []) ∙ omega (arith, blocks-wholes j n)
 
@@ -223,7 +217,7 @@ bars-append (whole j ∷ rs) ss =
     ap (λ (l : List ℕ). bars (64 * j) 64 ++ l) (bars-append rs ss) ∙ sym (append-assoc (bars (64 * j) 64) (barsRead rs) (barsRead ss))
 
 bars-singles : (bar n : ℕ) → barsRead (singles bar n) ≡ bars bar n
-unfolding barsRead singles bars
+unfolding barsRead several bars
 bars-singles bar zero = refl
 bars-singles bar (suc n) = bars-append (singles bar n) (single (bar + n) ∷ []) ∙ ap (λ (l : List ℕ). l ++ ((bar + n) ∷ [])) (bars-singles bar n)
 
@@ -236,7 +230,7 @@ unfolding barsRead
 one-block j = append-nil (bars (64 * j) 64)
 
 bars-wholes : (j n : ℕ) → barsRead (wholes j n) ≡ bars (64 * j) (64 * n)
-unfolding wholes
+unfolding several
 bars-wholes j zero = no-bars (64 * j)
 bars-wholes j (suc n) =
     bars-append (wholes j n) (whole (j + n) ∷ []) ∙ ap (λ (l : List ℕ). l ++ barsRead (whole (j + n) ∷ [])) (bars-wholes j n)

@@ -68,15 +68,20 @@ written-on r c ks ls h =
 
 -- ---- as a function that writes from line c on promises it: the number of lines then, and the room
 
-pub none-put : (c : ℕ) (r : List ℕ) (ls : List Line) → ls ≡ [] → 5 * (c + length ls) ≤ length r
-    → (c ≡ c + length ls) × (r ≡ overwrite r (5 * c) (wordsOf ls))
-none-put c r ls e h = (
-  sym (ap (λ (x : List Line). c + length x) e ∙ add-zero c),
-  sym (ap (λ (x : List Line). overwrite r (5 * c) (wordsOf x)) e ∙ none-written r (5 * c) (fits c (length ls) (length r) h)),
-)
+-- before the first turn of a loop that writes m lines from line f on
+pub none-yet : (f m : ℕ) (r : List ℕ) → 5 * (f + m) ≤ length r → (f ≡ f + 0) × (r ≡ overwrite r (5 * f) (wordsOf []))
+none-yet f m r h = (sym (add-zero f), sym (none-written r (5 * f) (fits f m (length r) h)))
   where
     fits : (x y z : ℕ) → 5 * (x + y) ≤ z → 5 * x ≤ z
     fits x y z l = omega arith
+
+pub none-put : (c : ℕ) (r : List ℕ) (ls : List Line) → ls ≡ [] → 5 * (c + length ls) ≤ length r
+    → (c ≡ c + length ls) × (r ≡ overwrite r (5 * c) (wordsOf ls))
+none-put c r ls e h =
+    let none = none-yet c (length ls) r h in (
+      none .0 ∙ sym (ap (λ (x : List Line). c + length x) e),
+      none .1 ∙ sym (ap (λ (x : List Line). overwrite r (5 * c) (wordsOf x)) e),
+    )
 
 pub one-put : (c : ℕ) (r after : List ℕ) (ls : List Line) {l : Line} → ls ≡ l ∷ [] → after ≡ overwrite r (5 * c) (wordsOf (l ∷ []))
     → (c + 1 ≡ c + length ls) × (after ≡ overwrite r (5 * c) (wordsOf ls))

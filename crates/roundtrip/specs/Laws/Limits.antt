@@ -1,7 +1,6 @@
 -- What an accepted table holds is within the paper's limits.
 -- Assumes nothing.
-use Rattle.words.specs.Prelude.{_≡_, sym, _∙_, ap, subst, true, List, [], _∷_, ℕ, zero, suc, _≤_, _<_, arith, length, replicate, length-replicate, leb}
-use Rattle.words.specs.Prelude.{ltb-true, leb-true}
+use Rattle.words.specs.Prelude.{_≡_, sym, _∙_, ap, subst, true, List, [], _∷_, ℕ, zero, suc, _≤_, _<_, arith, length, replicate, leb, ltb-true, leb-true}
 use Rattle.words.specs.{Limits.mostReach}
 use Rattle.table.specs.{declared.nodes.Node.Node, declared.kinds.Kind.Kind, declared.header.Form.Form, declared.places.Place.the-variants.Nowhere, Kinds.kindOf}
 use Rattle.table.specs.{Kinds.constant, Kinds.reference, Kinds.extremum, Kinds.barsSince, Nodes.childCount, Nodes.nRight, Nodes.constantRight, Nodes.ownRight}
@@ -13,8 +12,10 @@ use Rattle.table.specs.{Limits.levelsOfAll, Laws.Order.never-at, Laws.Accepted.
 use Rattle.table.specs.{Laws.Kinds.a-price, Laws.Kinds.a-prev, Laws.Kinds.an-arith, Laws.Kinds.an-extreme, Laws.Kinds.operand-kind, Laws.Header.and-parts}
 use Rattle.table.specs.{Laws.Kinds.ConditionKind, Laws.Kinds.a-compare, Laws.Kinds.a-cross, Laws.Kinds.a-between, Laws.Kinds.a-trend, Laws.Kinds.an-all}
 use Rattle.table.specs.{Laws.Kinds.an-any, Laws.Kinds.a-not, Laws.Kinds.a-position, Laws.Kinds.a-count, Laws.Kinds.condition-kind}
-use Rattle.roundtrip.specs.{Laws.Series.IsSeries, Laws.Series.series-child, Laws.Series.leaf-within, Laws.Reading.as-many, Laws.Reading.many-conditions}
-use Rattle.roundtrip.specs.{Laws.Reading.operands-below, Laws.Writing.Right, Laws.OwnBytes.OwnFields, Laws.OwnBytes.own-fields, Laws.OwnBytes.NodeFits}
+use Rattle.roundtrip.specs.{Laws.Series.IsSeries, Laws.Series.series-child, Laws.Series.leaf-within, Laws.Reading.some-operands}
+use Rattle.roundtrip.specs.{Laws.Reading.many-conditions}
+use Rattle.roundtrip.specs.{Laws.Reading.under-by, Laws.Reading.operands-below, Laws.Writing.Right, Laws.OwnBytes.OwnFields, Laws.OwnBytes.own-fields}
+use Rattle.roundtrip.specs.{Laws.OwnBytes.NodeFits}
 use Rattle.roundtrip.specs.{Laws.OwnBytes.FieldsFit}
 use Rattle.table.specs.Kinds as Kinds
 use Rattle.table.specs.Forest as Forest
@@ -120,42 +121,39 @@ module _ (form : Form) (l : ℕ) (n : Node) (below : Forest) (right : ownRight f
     (under : sorts below ≡ replicate (childCount n (kindOf (n .kind))) (kindOf (n .kind) .below))
     (of-operands : (m : ℕ) → sorts below ≡ replicate m 1 → Row form l (operands below))
     (of-conditions : (m : ℕ) → sorts below ≡ replicate m 2 → FineAll form l (conditions below)) where
-  under-by : (r : Kind) → kindOf (n .kind) ≡ r → sorts below ≡ replicate (childCount n r) (r .below)
-  under-by r h = under ∙ ap (λ (q : Kind). replicate (childCount n q) (q .below)) h
-
   own-of : (r : Kind) → kindOf (n .kind) ≡ r → OwnFields form n r
   own-of r h = own-fields form n r (sym (ap (ownRight form n) h) ∙ right)
 
   -- operand j of the m that stand below
   operand-in : (m j : ℕ) → sorts below ≡ replicate m 1 → j < m → Fine form l (child (operands below) j)
-  operand-in m j h lt = child-in form l (operands below) j (of-operands m h) (rw (as-many below ∙ ap length h ∙ length-replicate m 1) lt)
+  operand-in m j h lt = child-in form l (operands below) j (of-operands m h) (rw (some-operands below m h) lt)
 
   fine-condition : ConditionKind (n .kind) → FineOf form (suc l) (conditionFrom n (operands below) (conditions below))
   unfolding childCount conditionFrom conditionBy WithinOf levelsOf
   fine-condition (a-compare r) =
-      let a = operand-in 2 0 (under-by _ r) (omega arith) in
-      let b = operand-in 2 1 (under-by _ r) (omega arith) in
+      let a = operand-in 2 0 (under-by n below under _ r) (omega arith) in
+      let b = operand-in 2 1 (under-by n below under _ r) (omega arith) in
       rw r ((r, a .0, b .0, own-of _ r .version), omega (arith, a .1, b .1))
   fine-condition (a-cross r) =
-      let a = operand-in 2 0 (under-by _ r) (omega arith) in
-      let b = operand-in 2 1 (under-by _ r) (omega arith) in
+      let a = operand-in 2 0 (under-by n below under _ r) (omega arith) in
+      let b = operand-in 2 1 (under-by n below under _ r) (omega arith) in
       rw r ((r, a .0, b .0, own-of _ r .version), omega (arith, a .1, b .1))
   fine-condition (a-between e r) =
-      let x = operand-in 3 0 (under-by _ r) (omega arith) in
-      let a = operand-in 3 1 (under-by _ r) (omega arith) in
-      let b = operand-in 3 2 (under-by _ r) (omega arith) in
+      let x = operand-in 3 0 (under-by n below under _ r) (omega arith) in
+      let a = operand-in 3 1 (under-by n below under _ r) (omega arith) in
+      let b = operand-in 3 2 (under-by n below under _ r) (omega arith) in
       rw r ((x .0, a .0, b .0), omega (arith, x .1, a .1, b .1))
   fine-condition (a-trend r) =
-      let a = operand-in 1 0 (under-by _ r) (omega arith) in
+      let a = operand-in 1 0 (under-by n below under _ r) (omega arith) in
       rw r ((r, small .n, a .0, own-of _ r .version), omega (arith, a .1))
   fine-condition (an-all e r) =
-      let f = of-conditions (n .children) (under-by _ r) in
+      let f = of-conditions (n .children) (under-by n below under _ r) in
       rw r (f .0, omega (arith, f .1))
   fine-condition (an-any e r) =
-      let f = of-conditions (n .children) (under-by _ r) in
+      let f = of-conditions (n .children) (under-by n below under _ r) in
       rw r (f .0, omega (arith, f .1))
   fine-condition (a-not e r) =
-      let one : sorts below ≡ replicate 1 2 = under-by _ r in
+      let one : sorts below ≡ replicate 1 2 = under-by n below under _ r in
       let f = first-in form l (conditions below) (many-conditions below ∙ ap length one) (of-conditions 1 one) in
       rw r (f .0, omega (arith, f .1))
   fine-condition (a-position e r) = rw r (tt, omega arith)

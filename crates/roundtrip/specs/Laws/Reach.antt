@@ -1,7 +1,6 @@
 -- The reach of the typed trees is the reach that the checker weighs, and the rows needed are one more than the greatest.
 -- Assumes nothing.
 use Rattle.words.specs.Prelude.{_≡_, refl, _∙_, ap, ⊎-elim, List, [], _∷_, ℕ, zero, suc, _+_, _<_, max, arith, eq-zero-or-pos, length, replicate}
-use Rattle.words.specs.Prelude.{length-replicate}
 use Rattle.table.specs.{declared.nodes.Node.Node, declared.kinds.Kind.Kind, declared.answer.Answer.the-variants.Accepted, Kinds.kindOf, Kinds.extremum}
 use Rattle.table.specs.{Header.count, Nodes.childCount, Forest.Forest, Forest.trees, Forest.forestOf, Forest.sorts, Forest.Sorted, Reach.back, Reach.ownBack}
 use Rattle.table.specs.{Reach.weigh, Reach.forestReach, Reach.treeReach, Reach.rowsNeeded, Checked.checked, Trees.Operand, Trees.Conditions, Trees.none}
@@ -11,7 +10,8 @@ use Rattle.table.specs.{Laws.Kinds.OperandKind, Laws.Kinds.a-const, Laws.Kinds.
 use Rattle.table.specs.{Laws.Kinds.an-extreme, Laws.Kinds.operand-kind, Laws.Kinds.ConditionKind, Laws.Kinds.a-compare, Laws.Kinds.a-cross}
 use Rattle.table.specs.{Laws.Kinds.a-between, Laws.Kinds.a-trend, Laws.Kinds.an-all, Laws.Kinds.an-any, Laws.Kinds.a-not, Laws.Kinds.a-position}
 use Rattle.table.specs.{Laws.Kinds.a-count, Laws.Kinds.condition-kind, Laws.Accepted.accepted, Laws.Accepted.tree-sorts}
-use Rattle.roundtrip.specs.{Laws.Series.IsSeries, Laws.Series.series-child, Laws.Series.leaf-reach, Laws.Reading.as-many, Laws.Reading.many-conditions}
+use Rattle.roundtrip.specs.{Laws.Series.IsSeries, Laws.Series.series-child, Laws.Series.leaf-reach, Laws.Reading.many-conditions, Laws.Reading.row-below}
+use Rattle.roundtrip.specs.{Laws.Reading.under-by, Laws.Reading.some-conditions}
 use Rattle.roundtrip.specs.{Laws.Reading.row-none, Laws.Reading.row-one, Laws.Reading.row-two, Laws.Reading.row-three, Laws.Reading.operands-below}
 use Rattle.table.specs.Forest as Forest
 
@@ -79,47 +79,30 @@ module _ (n : Node) (below : Forest) (w : ℕ)
     (under : sorts below ≡ replicate (childCount n (kindOf (n .kind))) (kindOf (n .kind) .below))
     (of-operands : (k : ℕ) → sorts below ≡ replicate k 1 → w ≡ reachOfRow (operands below))
     (of-conditions : (k : ℕ) → sorts below ≡ replicate k 2 → w ≡ reachOfAll (conditions below)) where
-  under-by : (row : Kind) → kindOf (n .kind) ≡ row → sorts below ≡ replicate (childCount n row) (row .below)
-  under-by row h = under ∙ ap (λ (r : Kind). replicate (childCount n r) (r .below)) h
-
-  -- k operands below
-  some-operands : (k : ℕ) → sorts below ≡ replicate k 1 → length (operands below) ≡ k
-  some-operands k h = as-many below ∙ ap length h ∙ length-replicate k 1
-
-  some-conditions : (k : ℕ) → sorts below ≡ replicate k 2 → manyOf (conditions below) ≡ k
-  some-conditions k h = many-conditions below ∙ ap length h ∙ length-replicate k 2
-
-  -- what the k operands below weigh
-  row-below : (k : ℕ) (row : Kind) → kindOf (n .kind) ≡ row → replicate (childCount n row) (row .below) ≡ replicate k 1
-      → (w ≡ reachOfRow (operands below)) × (length (operands below) ≡ k)
-  row-below k row h same =
-      let here : sorts below ≡ replicate k 1 = under-by row h ∙ same in
-      (of-operands k here, some-operands k here)
-
   adds-condition : ConditionKind (n .kind) → ownBack n + w ≡ reachOf (conditionFrom n (operands below) (conditions below))
   unfolding back childCount conditionFrom conditionBy reachOf reachOfRow
   adds-condition (a-compare row) =
-      let b = row-below 2 _ row refl in
+      let b = row-below n below under reachOfRow of-operands 2 _ row refl in
       rw (b .0, row-two (operands below) (b .1)) (simp (row, back-by n _ row) (omega arith))
   adds-condition (a-cross row) =
-      let b = row-below 2 _ row refl in
+      let b = row-below n below under reachOfRow of-operands 2 _ row refl in
       rw (b .0, row-two (operands below) (b .1)) (simp (row, back-by n _ row) (omega arith))
   adds-condition (a-between k row) =
-      let b = row-below 3 _ row refl in
+      let b = row-below n below under reachOfRow of-operands 3 _ row refl in
       rw (b .0, row-three (operands below) (b .1)) (simp (row, back-by n _ row) (omega arith))
   adds-condition (a-trend row) =
-      let b = row-below 1 _ row refl in
+      let b = row-below n below under reachOfRow of-operands 1 _ row refl in
       rw (b .0, row-one (operands below) (b .1)) (simp (row, back-by n _ row) (omega arith))
-  adds-condition (an-all k row) = simp (row, back-by n _ row, of-conditions (n .children) (under-by _ row)) (omega arith)
-  adds-condition (an-any k row) = simp (row, back-by n _ row, of-conditions (n .children) (under-by _ row)) (omega arith)
+  adds-condition (an-all k row) = simp (row, back-by n _ row, of-conditions (n .children) (under-by n below under _ row)) (omega arith)
+  adds-condition (an-any k row) = simp (row, back-by n _ row, of-conditions (n .children) (under-by n below under _ row)) (omega arith)
   adds-condition (a-not k row) =
-      let one : sorts below ≡ replicate 1 2 = under-by _ row in
-      simp (row, back-by n _ row, of-conditions 1 one, conditions-one (conditions below) (some-conditions 1 one)) (omega arith)
+      let one : sorts below ≡ replicate 1 2 = under-by n below under _ row in
+      simp (row, back-by n _ row, of-conditions 1 one, conditions-one (conditions below) (some-conditions below 1 one)) (omega arith)
   adds-condition (a-position k row) =
-      let b = row-below 0 _ row refl in
+      let b = row-below n below under reachOfRow of-operands 0 _ row refl in
       simp (row, back-by n _ row, b .0, row-none (operands below) (b .1))
   adds-condition (a-count k row) =
-      let b = row-below 0 _ row refl in
+      let b = row-below n below under reachOfRow of-operands 0 _ row refl in
       simp (row, back-by n _ row, b .0, row-none (operands below) (b .1))
 
 -- conditions in a row reach as far as the forest weighs

@@ -1,7 +1,8 @@
 -- Laws of reading: a row of trees reads as many operands or conditions as it has trees, and operands stand on operands.
 -- Assumes nothing.
 use Rattle.words.specs.Prelude.{_≡_, refl, _∙_, ap, Bool, true, false, cond, List, [], _∷_, ℕ, suc, arith, length, replicate, length-replicate, eqb, eqb-true}
-use Rattle.table.specs.{declared.nodes.Node.Node, Kinds.kinds, Kinds.kindOf, Nodes.childCount, Forest.Forest, Forest.sorts, Trees.Operand, Reading.child}
+use Rattle.table.specs.{declared.nodes.Node.Node, declared.kinds.Kind.Kind, Kinds.kinds, Kinds.kindOf, Nodes.childCount, Forest.Forest, Forest.sorts}
+use Rattle.table.specs.{Trees.Operand, Reading.child}
 use Rattle.table.specs.{Reading.operands, Reading.conditions, Writing.manyOf, Ends.from, Laws.Kinds.of-rows, Laws.Kinds.known}
 use Rattle.table.specs.Forest as Forest
 
@@ -55,3 +56,23 @@ pub operands-below : (n : Node) (below : Forest) → kindOf (n .kind) .sort ≡ 
 operands-below n below sort row =
     let under = row ∙ below-operand n sort in
     (under, as-many below ∙ ap length under ∙ length-replicate _ _)
+
+-- ---- what is below a node, by the node's row
+
+-- so many operands, or conditions
+pub some-operands : (f : Forest) (k : ℕ) → sorts f ≡ replicate k 1 → length (operands f) ≡ k
+some-operands f k h = as-many f ∙ ap length h ∙ length-replicate k 1
+
+pub some-conditions : (f : Forest) (k : ℕ) → sorts f ≡ replicate k 2 → manyOf (conditions f) ≡ k
+some-conditions f k h = many-conditions f ∙ ap length h ∙ length-replicate k 2
+
+module _ (n : Node) (below : Forest) (under : sorts below ≡ replicate (childCount n (kindOf (n .kind))) (kindOf (n .kind) .below)) where
+  pub under-by : (row : Kind) → kindOf (n .kind) ≡ row → sorts below ≡ replicate (childCount n row) (row .below)
+  under-by row h = under ∙ ap (λ (r : Kind). replicate (childCount n r) (r .below)) h
+
+  -- what is told of any operands below, told of the k that there are
+  pub row-below : {A : Type 0} {w : A} (told : List Operand → A) → ((k : ℕ) → sorts below ≡ replicate k 1 → w ≡ told (operands below)) → (k : ℕ) (row : Kind)
+      → kindOf (n .kind) ≡ row → replicate (childCount n row) (row .below) ≡ replicate k 1 → (w ≡ told (operands below)) × (length (operands below) ≡ k)
+  row-below told of-operands k row h same =
+      let here : sorts below ≡ replicate k 1 = under-by row h ∙ same in
+      (of-operands k here, some-operands below k here)

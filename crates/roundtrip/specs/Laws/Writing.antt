@@ -2,7 +2,7 @@
 -- the forest's own nodes back, in prefix order.
 -- Assumes nothing.
 use Rattle.words.specs.Prelude.{_≡_, refl, sym, _∙_, ap, true, cond, List, _++_, append-assoc, append-nil, ℕ, zero, suc, _+_, _<_, arith, length, replicate}
-use Rattle.words.specs.Prelude.{length-replicate, eqb, eqb-true}
+use Rattle.words.specs.Prelude.{eqb, eqb-true}
 use Rattle.table.specs.{declared.nodes.Node.Node, declared.kinds.Kind.Kind, declared.header.Form.Form, Kinds.kindOf, Kinds.constant, Kinds.reference}
 use Rattle.table.specs.{Kinds.price, Kinds.previous, Kinds.arithmetic, Kinds.extremum, Kinds.comparison, Kinds.crossing, Kinds.between, Kinds.trend}
 use Rattle.table.specs.{Kinds.allOf, Kinds.anyOf, Kinds.negation, Kinds.position, Kinds.barsSince, Nodes.childCount, Nodes.childrenRight, Nodes.nRight}
@@ -13,7 +13,9 @@ use Rattle.table.specs.{Writing.writeCondition, Writing.writeAll, Series.asSeri
 use Rattle.table.specs.{Laws.Kinds.a-price, Laws.Kinds.a-prev, Laws.Kinds.an-arith, Laws.Kinds.an-extreme, Laws.Kinds.operand-kind, Laws.Kinds.ConditionKind}
 use Rattle.table.specs.{Laws.Kinds.a-compare, Laws.Kinds.a-cross, Laws.Kinds.a-between, Laws.Kinds.a-trend, Laws.Kinds.an-all, Laws.Kinds.an-any}
 use Rattle.table.specs.{Laws.Kinds.a-not, Laws.Kinds.a-position, Laws.Kinds.a-count, Laws.Kinds.condition-kind}
-use Rattle.roundtrip.specs.{Laws.Series.IsSeries, Laws.Series.series-child, Laws.Series.leaf-written, Laws.Reading.as-many, Laws.Reading.many-conditions}
+use Rattle.roundtrip.specs.{Laws.Series.IsSeries, Laws.Series.series-child, Laws.Series.leaf-written, Laws.Reading.some-conditions}
+use Rattle.roundtrip.specs.{Laws.Reading.row-below}
+use Rattle.roundtrip.specs.{Laws.Reading.under-by}
 use Rattle.roundtrip.specs.{Laws.Reading.row-none, Laws.Reading.row-one, Laws.Reading.row-two, Laws.Reading.row-three, Laws.Reading.operands-below}
 use Rattle.roundtrip.specs.{Laws.NodeBytes.tree-bytes, Laws.NodeBytes.no-bytes, Laws.OwnBytes.all-one, Laws.OwnBytes.OwnFields, Laws.OwnBytes.own-fields}
 use Rattle.roundtrip.specs.{Laws.OwnBytes.bytes-by-fields, Laws.OwnBytes.number-node, Laws.OwnBytes.plain-node}
@@ -73,30 +75,14 @@ module _ (form : Form) (n : Node) (below : Forest) (bytes : List ℕ) (right : o
     (under : sorts below ≡ replicate (childCount n (kindOf (n .kind))) (kindOf (n .kind) .below))
     (of-operands : (m : ℕ) → sorts below ≡ replicate m 1 → bytes ≡ writeRow (operands below))
     (of-conditions : (m : ℕ) → sorts below ≡ replicate m 2 → bytes ≡ writeAll (conditions below)) where
-  under-by : (row : Kind) → kindOf (n .kind) ≡ row → sorts below ≡ replicate (childCount n row) (row .below)
-  under-by row h = under ∙ ap (λ (r : Kind). replicate (childCount n r) (r .below)) h
-
   own-by′ : (row : Kind) → kindOf (n .kind) ≡ row → OwnFields form n row
   own-by′ row h = own-fields form n row (sym (ap (ownRight form n) h) ∙ right)
-
-  some-operands : (m : ℕ) → sorts below ≡ replicate m 1 → length (operands below) ≡ m
-  some-operands m h = as-many below ∙ ap length h ∙ length-replicate m 1
-
-  some-conditions : (m : ℕ) → sorts below ≡ replicate m 2 → manyOf (conditions below) ≡ m
-  some-conditions m h = many-conditions below ∙ ap length h ∙ length-replicate m 2
-
-  -- the k operands below, in bytes
-  row-below : (m : ℕ) (row : Kind) → kindOf (n .kind) ≡ row → replicate (childCount n row) (row .below) ≡ replicate m 1
-      → (bytes ≡ writeRow (operands below)) × (length (operands below) ≡ m)
-  row-below m row h same =
-      let here : sorts below ≡ replicate m 1 = under-by row h ∙ same in
-      (of-operands m here, some-operands m here)
 
   -- All and Any: the children are as many as the node says
   group-bytes : (kind : ℕ) → n .kind ≡ kind → n .selector < 1 → eqb (n .n) 0 ≡ true → eqb (n .constant) 0 ≡ true → sorts below ≡ replicate (n .children) 2
       → (nodeBytes n ≡ node kind 0 (manyOf (conditions below)) 0 0) × (bytes ≡ writeAll (conditions below))
   group-bytes kind e s m x all = (
-    bytes-by-fields n kind 0 (manyOf (conditions below)) 0 0 e (omega arith) (sym (some-conditions (n .children) all)) (eqb-true _ _ m) (eqb-true _ _ x),
+    bytes-by-fields n kind 0 (manyOf (conditions below)) 0 0 e (omega arith) (sym (some-conditions below (n .children) all)) (eqb-true _ _ m) (eqb-true _ _ x),
     of-conditions (n .children) all,
   )
 
@@ -105,48 +91,48 @@ module _ (form : Form) (n : Node) (below : Forest) (bytes : List ℕ) (right : o
   writes-condition (a-compare row) =
       let o = own-by′ comparison row in
       let b = plain-node n (n .kind) refl (o .selector) (o .children) (o .number) (o .constant) in
-      let r = row-below 2 _ row refl in
+      let r = row-below n below under writeRow of-operands 2 _ row refl in
       rw (r .0, row-two (operands below) (r .1)) (simp (row, b, append-nil, append-assoc))
   writes-condition (a-cross row) =
       let o = own-by′ crossing row in
       let b = plain-node n (n .kind) refl (o .selector) (o .children) (o .number) (o .constant) in
-      let r = row-below 2 _ row refl in
+      let r = row-below n below under writeRow of-operands 2 _ row refl in
       rw (r .0, row-two (operands below) (r .1)) (simp (row, b, append-nil, append-assoc))
   writes-condition (a-between e row) =
       let o = own-by′ between row in
       let b = plain-node n 24 e (o .selector) (o .children) (o .number) (o .constant) in
-      let r = row-below 3 _ row refl in
+      let r = row-below n below under writeRow of-operands 3 _ row refl in
       rw (r .0, row-three (operands below) (r .1)) (simp (row, b, append-nil, append-assoc))
   writes-condition (a-trend row) =
       let o = own-by′ trend row in
       let b = number-node n (n .kind) refl (o .selector) (o .children) (o .constant) in
-      let r = row-below 1 _ row refl in
+      let r = row-below n below under writeRow of-operands 1 _ row refl in
       rw (r .0, row-one (operands below) (r .1)) (simp (row, b, append-nil))
   writes-condition (an-all e row) =
       let o = own-by′ allOf row in
-      let g = group-bytes 27 e (o .selector) (o .number) (o .constant) (under-by _ row) in
+      let g = group-bytes 27 e (o .selector) (o .number) (o .constant) (under-by n below under _ row) in
       simp (row, g .0, g .1)
   writes-condition (an-any e row) =
       let o = own-by′ anyOf row in
-      let g = group-bytes 28 e (o .selector) (o .number) (o .constant) (under-by _ row) in
+      let g = group-bytes 28 e (o .selector) (o .number) (o .constant) (under-by n below under _ row) in
       simp (row, g .0, g .1)
   writes-condition (a-not e row) =
       let o = own-by′ negation row in
       let b = plain-node n 29 e (o .selector) (o .children) (o .number) (o .constant) in
-      let one : sorts below ≡ replicate 1 2 = under-by _ row in
-      simp (row, b, of-conditions 1 one, all-one (conditions below) (some-conditions 1 one))
+      let one : sorts below ≡ replicate 1 2 = under-by n below under _ row in
+      simp (row, b, of-conditions 1 one, all-one (conditions below) (some-conditions below 1 one))
   writes-condition (a-position e row) =
       let o = own-by′ position row in
       let b : nodeBytes n ≡ node 30 (cond (eqb (n .selector) 1) 1 0) 0 0 0 =
       bytes-by-fields n 30 (cond (eqb (n .selector) 1) 1 0) 0 0 0 e (sym (zero-or-one (n .selector) (o .selector)))
       (eqb-true _ _ (o .children)) (eqb-true _ _ (o .number)) (eqb-true _ _ (o .constant)) in
-      let r = row-below 0 _ row refl in
+      let r = row-below n below under writeRow of-operands 0 _ row refl in
       simp (row, b, r .0, row-none (operands below) (r .1), append-nil)
   writes-condition (a-count e row) =
       let o = own-by′ barsSince row in
       let b : nodeBytes n ≡ node 31 (n .selector) 0 (n .n) 0 =
       bytes-by-fields n 31 (n .selector) 0 (n .n) 0 e refl (eqb-true _ _ (o .children)) refl (eqb-true _ _ (o .constant)) in
-      let r = row-below 0 _ row refl in
+      let r = row-below n below under writeRow of-operands 0 _ row refl in
       simp (row, b, r .0, row-none (operands below) (r .1), append-nil)
 
 -- ---- forests

@@ -4,13 +4,8 @@ use Rattle.rows.specs.{History.wholeRows}
 use Rattle.rows.proofs.{are_whole.Statement.statement}
 use Rattle.rows.proofs.are_whole.Tie as tie
 
-returns : tie.Need-returns
-unfolding wholeRows
-returns c =
-    let a = c .before .args in
-    let short : length (a .rows .now) < 7 + a .slots = omega arith in
-    rw (mod-eq-of-lt short)
-
 pub are-whole-spec : {M : Type 1} → statement M
 unfolding wholeRows
-are-whole-spec = tie.close (tie.spec returns (λ c. search needs) (λ c. search needs) (λ c. search needs))
+are-whole-spec =
+    tie.close (tie.spec (λ c. let a = c .before .args in let short : length (a .rows .now) < 7 + a .slots = omega arith in rw (mod-eq-of-lt short))
+    (λ c. search needs) (λ c. search needs) (λ c. search needs))

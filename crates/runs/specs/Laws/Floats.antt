@@ -1,6 +1,6 @@
 -- Every float of a state is an f64: it was one in the state before, it is a word of the bar, or an operation of IEEE 754 gave it. So what the
 -- round trip of a state's words asks (records, Laws/RoundTrip) holds after every bar and after a finish.
-use Rattle.words.specs.Prelude.{ℕ, _-_, _≡_, refl, Bool, true, false, cond, List, T, ltb, Float, binary64, fits, ofBits-fits, cond-fits, mul-fits}
+use Rattle.words.specs.Prelude.{ℕ, _-_, _≡_, refl, Bool, true, false, cond, List, T, Float, binary64, fits, ofBits-fits, cond-fits, mul-fits}
 use Rattle.floats.specs.{Floats._⊗_, Floats._≺_, Floats.min, Floats.max, Floats.eps}
 use Rattle.rows.specs.{History.History, History.historyOf}
 use Rattle.portfolio.specs.{declared.Candle.Candle, declared.Closed.Closed, declared.Portfolio.Portfolio, Portfolio.inPosition, Portfolio.isLong}
@@ -8,31 +8,29 @@ use Rattle.portfolio.specs.{Portfolio.funded, Portfolio.worse, Portfolio.worsen
 use Rattle.execution.specs.{declared.fills.Entry.Entry, declared.fills.Entry.the-variants.NoEntry, declared.fills.Entry.the-variants.TooLarge}
 use Rattle.execution.specs.{declared.fills.Entry.the-variants.Entered, declared.fills.Exit.Exit, declared.fills.Exit.the-variants.NoExit}
 use Rattle.execution.specs.{declared.fills.Exit.the-variants.Exited, declared.costs.Funding.Funding, declared.costs.Funding.the-variants.NotSupplied}
-use Rattle.execution.specs.{declared.costs.Funding.the-variants.Supplied, declared.optional.Optional.Optional, declared.optional.Optional.the-variants.Absent}
+use Rattle.execution.specs.{declared.costs.Funding.the-variants.Supplied, declared.optional.Optional.Optional}
 use Rattle.execution.specs.{declared.lots.Quantity.Quantity, declared.lots.Quantity.the-variants.Nothing, declared.lots.Quantity.the-variants.Of}
 use Rattle.execution.specs.{declared.level.Entries.Entries, declared.level.OrderKind.OrderKind, declared.level.OrderType.OrderType}
 use Rattle.execution.specs.{declared.level.OrderType.the-variants.Market as MarketType, declared.level.OrderType.the-variants.Limit as LimitType}
 use Rattle.execution.specs.{declared.level.OrderType.the-variants.Stop as StopType, declared.level.OrderType.the-variants.StopLimit as StopLimitType}
-use Rattle.execution.specs.{declared.level.OrderType.the-variants.Unknown as UnknownType, declared.level.Side.Side, declared.level.Side.the-variants.Long}
-use Rattle.execution.specs.{declared.level.Side.the-variants.Short, declared.terms.Terms.Terms, declared.intrabar.Trigger.Trigger}
-use Rattle.execution.specs.{declared.intrabar.Trigger.the-variants.Untouched, declared.intrabar.Trigger.the-variants.At, Costs.slippageRate, Costs.fillPrice}
+use Rattle.execution.specs.{declared.level.OrderType.the-variants.Unknown as UnknownType, declared.level.Side.Side, declared.terms.Terms.Terms}
+use Rattle.execution.specs.{Costs.slippageRate, Costs.fillPrice}
 use Rattle.execution.specs.{Costs.feeRate, Costs.closed, Costs.withFunding, Costs.chargeFunding, Fills.direction, Fills.volatilityFor, Fills.quantity}
-use Rattle.execution.specs.{Fills.probeQty, Fills.withinVolume, Fills.entryWith, Fills.executeEntry, Fills.exitDirection, Fills.executeExit, Level.levelFrom}
-use Rattle.execution.specs.{Level.entryTrigger, Level.feeBps, Level.levelFill, Lots.isTooLarge, Lots.orZero, Intrabar.favourable, Intrabar.extremeWith}
-use Rattle.execution.specs.{Intrabar.touched, Intrabar.closedBy, Intrabar.applyIntrabarExits}
-use Rattle.records.specs.{declared.settings.Settings.Settings, declared.state.Order.Order, declared.state.Order.the-variants.Idle}
-use Rattle.records.specs.{declared.state.Order.the-variants.EnterLong, declared.state.Order.the-variants.EnterShort}
-use Rattle.records.specs.{declared.state.Order.the-variants.Exit as ExitOrder, declared.state.Position.Position, declared.state.State.State, Bar.candleOf}
+use Rattle.execution.specs.{Fills.probeQty, Fills.withinVolume, Fills.entryWith, Fills.executeEntry, Fills.executeExit, Level.levelFrom}
+use Rattle.execution.specs.{Level.entryTrigger, Level.feeBps, Lots.isTooLarge, Lots.orZero, Intrabar.favourable, Intrabar.extremeWith}
+use Rattle.execution.specs.{Intrabar.applyIntrabarExits}
+use Rattle.records.specs.{declared.settings.Settings.Settings, declared.state.Order.Order}
+use Rattle.records.specs.{declared.state.Position.Position, declared.state.State.State, Bar.candleOf}
 use Rattle.records.specs.{Bar.fundingOf, Lent.Lists, Lent.Rooms, StateWords.waitsFor, Laws.RoundTrip.KindFits, Laws.RoundTrip.Floats64}
 use Rattle.refusals.specs.{Rooms.toClose}
 use Rattle.engine.specs.{declared.account.Due.Due, declared.account.Due.the-variants.Waits, declared.account.Due.the-variants.Enters}
 use Rattle.engine.specs.{declared.account.Due.the-variants.Leaves, declared.account.Filled.Filled, Account.leaving, Account.facing, Account.entering}
-use Rattle.engine.specs.{Account.dueIfReached, Account.dueOf, Account.doneOf, Account.filled, Account.intrabar, Account.charged, Decide.Answers, Decide.ordered}
-use Rattle.engine.specs.{Decide.openingOrder, Decide.closingOrder, Decide.orderAfter, Decide.decided, Finish.lastExit, Finish.endState, Laws.Runs.run-keeps}
-use Rattle.engine.specs.{Record.heldRows, Run.runOver, Step.stepped}
+use Rattle.engine.specs.{Account.dueOf, Account.doneOf, Account.filled, Account.intrabar, Account.charged, Decide.Answers}
+use Rattle.engine.specs.{Decide.orderAfter, Decide.decided, Finish.lastExit, Finish.endState, Laws.Runs.run-keeps, Record.heldRows, Run.runOver, Step.stepped}
+use Rattle.runs.specs.{Laws.Exits.LeftWith, Laws.Exits.left, Laws.Exits.exit-if, Laws.Exits.executed-leaves, Laws.Exits.inside-leaves}
+use Rattle.runs.specs.{Laws.Orders.filled-keeps, Laws.Orders.ordered-keeps, Laws.Orders.decided-keeps}
 use lib.Ieee as Ieee
 use lib.Ieee.Fits.{add-fits, sub-fits}
-use Rattle.execution.specs.declared.optional.Optional.the-variants as Optional
 use Rattle.execution.specs.declared.lots.Quantity.the-variants as Quantity
 use Rattle.engine.specs.Account as Account
 
@@ -88,18 +86,12 @@ facing-64 p k high low h = record { account = worsened-64 (p .portfolio) k high 
 
 -- ---- a position that is left
 
--- the portfolio after an exit, where there is one
-data Exit64 : Exit → Type 0 where
-  stayed : Exit64 NoExit
-  left : (c : Closed) → Account64 (c .portfolio) → Exit64 (Exited c)
+abbrev Exit64 : Exit → Type 0
+Exit64 = LeftWith Account64
 
-exit-if : (b : Bool) (x : Exit) → Exit64 x → Exit64 (cond b x NoExit)
-exit-if true x h = h
-exit-if false x h = stayed
-
-closed-64 : (p : Portfolio) (price : Float) (time : ℕ) (bps : Float) (reason : ℕ) → Account64 p → Exit64 (Exited (closed p price time bps reason))
+closed-64 : (p : Portfolio) (price : Float) (time : ℕ) (bps : Float) (reason : ℕ) → Account64 p → Account64 (closed p price time bps reason .portfolio)
 unfolding closed exited
-closed-64 p price time bps reason a = left (closed p price time bps reason) (record {
+closed-64 p price time bps reason a = record {
   cash = add-fits binary64 _ _;
   qty = ofBits-fits binary64 0;
   «entry_price» = a .«entry_price»;
@@ -107,18 +99,12 @@ closed-64 p price time bps reason a = left (closed p price time bps reason) (rec
   «fees_paid» = add-fits binary64 _ _;
   funding = a .funding;
   worst = a .worst;
-})
+}
 
 leaving-64 : (p : Position) (x : Exit) → Position64 p → Exit64 x → Position64 (leaving p x)
 unfolding leaving
 leaving-64 p NoExit h e = h
 leaving-64 p (Exited c) h (left _ a) = record { account = a; extreme = h .extreme }
-
-executed-64 : (reason : ℕ) (raw : Float) (terms : Terms) (k : Candle) (p : Portfolio) → Account64 p → Exit64 (executeExit reason raw terms k p)
-unfolding executeExit
-executed-64 reason raw terms k p a =
-    let price : Float = fillPrice raw (exitDirection p) (slippageRate (terms .slippage) (p .qty) (k .volume)) in
-    exit-if (inPosition p) (Exited (closed p price (k .time) (terms .«taker_bps») reason)) (closed-64 p price (k .time) (terms .«taker_bps») reason a)
 
 -- ---- the fill
 
@@ -180,7 +166,7 @@ module _ (s : Settings) (p : Position) (k : Candle) (before : History) (number :
       let q : Position = facing p k in
       let held : Position64 q = facing-64 p k high low h in
       leaving-64 q (executeExit signal (k .«open») (s .terms) k (q .portfolio)) held
-      (executed-64 signal (k .«open») (s .terms) k (q .portfolio) (held .account))
+      (executed-leaves Account64 closed-64 signal (k .«open») (s .terms) k (q .portfolio) (held .account))
 
   done-64 : (due : Due) → Position64 (doneOf due s p k before number .position)
   unfolding doneOf
@@ -197,27 +183,9 @@ module _ (s : Settings) (p : Position) (k : Candle) (before : History) (number :
 abbrev Order64 : Order → Type 0
 Order64 o = KindFits (waitsFor o)
 
-module _ (s : Settings) (p : Position) (k : Candle) (before : History) (number : ℕ) where
-  abbrev Due64 : Due → Type 0
-  Due64 due = Order64 (doneOf due s p k before number .order)
-
-  due-either : (b : Bool) (x y : Due) → Due64 x → Due64 y → Due64 (cond b x y)
-  due-either true x y h i = h
-  due-either false x y h i = i
-
-  reached-64 : (side : Side) (kind : OrderKind) (o : Order) (x : Optional) → Order64 o → Due64 (dueIfReached side kind o x)
-  unfolding dueIfReached doneOf Account.entryFilled waitsFor KindFits
-  reached-64 side kind o Absent h = h
-  reached-64 side kind o (Optional.Of price) h = tt
-
-  waits-64 : (o : Order) → Order64 o → Order64 (filled s o p k before number .order)
-  unfolding filled dueOf doneOf Account.exitFilled waitsFor KindFits
-  waits-64 Idle h = tt
-  waits-64 (EnterLong n kind) h =
-      due-either (ltb 0 n) (Waits (EnterLong (n - 1) kind)) _ h (reached-64 Long kind (EnterLong n kind) (levelFill Long kind k) h)
-  waits-64 (EnterShort n kind) h =
-      due-either (ltb 0 n) (Waits (EnterShort (n - 1) kind)) _ h (reached-64 Short kind (EnterShort n kind) (levelFill Short kind k) h)
-  waits-64 (ExitOrder n) h = due-either (ltb 0 n) (Waits (ExitOrder (n - 1))) Leaves tt tt
+waits-64 : (s : Settings) (p : Position) (k : Candle) (before : History) (number : ℕ) (o : Order) → Order64 o → Order64 (filled s o p k before number .order)
+unfolding waitsFor KindFits
+waits-64 = filled-keeps Order64 tt (λ n kind h. h) (λ n kind h. h) (λ n h. tt)
 
 trigger-64 : (e : Entries) (close : Float) → KindFits (entryTrigger e close)
 unfolding entryTrigger levelFrom KindFits
@@ -230,31 +198,11 @@ trigger-64 e close = go (e .«order_type») refl
     go StopLimitType h = rw h (mul-fits binary64 _ _, mul-fits binary64 _ _)
     go UnknownType h = rw h tt
 
-ordered-kind : (delay : ℕ) (kind : OrderKind) (p : Portfolio) (a : Answers) → KindFits kind → Order64 (ordered delay kind p a)
-unfolding ordered openingOrder closingOrder waitsFor KindFits
-ordered-kind delay kind p a h = go (inPosition p) (isLong p) (a .«exit») (a .«short_exit») (a .entry) (a .«short_entry»)
-  where
-    go : (b c d e f g : Bool) → Order64 (cond b (cond c (closingOrder delay d) (closingOrder delay e)) (openingOrder delay kind f g))
-    go true true true e f g = tt
-    go true true false e f g = tt
-    go true false d true f g = tt
-    go true false d false f g = tt
-    go false c d e true g = h
-    go false c d e false true = h
-    go false c d e false false = tt
-
-order-either : (b : Bool) (x y : Order) → Order64 x → Order64 y → Order64 (cond b x y)
-order-either true x y h i = h
-order-either false x y h i = i
-
 decided-64 : (s : Settings) (o : Order) (p : Position) (number : ℕ) (close : Float) (a : Answers) → Order64 o → Order64 (orderAfter s o p number close a)
-unfolding orderAfter
-decided-64 s (EnterLong n kind) p number close a h = h
-decided-64 s (EnterShort n kind) p number close a h = h
-decided-64 s (ExitOrder n) p number close a h = h
-decided-64 s Idle p number close a h =
-    order-either (ltb number (s .warmup)) Idle (ordered (s .delay) (entryTrigger (s .entries) close) (p .portfolio) a) h
-    (ordered-kind (s .delay) _ (p .portfolio) a (trigger-64 (s .entries) close))
+unfolding waitsFor KindFits
+decided-64 s o p number close a =
+    let kind = trigger-64 (s .entries) close in
+    decided-keeps Order64 s o p number close a (ordered-keeps Order64 (s .delay) _ (p .portfolio) a tt kind kind tt)
 
 -- ---- exits inside the bar
 
@@ -264,16 +212,6 @@ extreme-64 k p x high low e =
     cond-fits binary64 (inPosition p) (cond (isLong p) (max x (k .high)) (min x (k .low))) x
     (cond-fits binary64 (isLong p) (max x (k .high)) (min x (k .low)) (max-64 x (k .high) e high) (min-64 x (k .low) e low)) e
 
-touched-64 : (x : Trigger) (k : Candle) (terms : Terms) (p : Portfolio) → Account64 p → Exit64 (closedBy x k terms p)
-unfolding closedBy
-touched-64 Untouched k terms p a = stayed
-touched-64 (At price reason) k terms p a = closed-64 p price (k .time) (terms .«taker_bps») reason a
-
-inside-64 : (k : Candle) (terms : Terms) (p : Portfolio) (extreme : Float) → Account64 p → Exit64 (applyIntrabarExits k terms p extreme)
-unfolding applyIntrabarExits
-inside-64 k terms p extreme a =
-    exit-if (inPosition p) (closedBy (touched k (terms .risk) p extreme) k terms p) (touched-64 (touched k (terms .risk) p extreme) k terms p a)
-
 intrabar-64 : (s : Settings) (p : Position) (k : Candle) → Is64 (k .high) → Is64 (k .low) → Position64 p → Position64 (intrabar s p k .position)
 unfolding intrabar
 intrabar-64 s p k high low h =
@@ -282,7 +220,7 @@ intrabar-64 s p k high low h =
     let extreme : Float = extremeWith k (q .portfolio) (q .extreme) in
     leaving-64 (record { portfolio = q .portfolio; entered = q .entered; extreme = extreme }) (applyIntrabarExits k (s .terms) (q .portfolio) extreme)
     (record { account = held .account; extreme = extreme-64 k (q .portfolio) (q .extreme) high low (held .extreme) })
-    (inside-64 k (s .terms) (q .portfolio) extreme (held .account))
+    (inside-leaves Account64 closed-64 k (s .terms) (q .portfolio) extreme (held .account))
 
 -- ---- funding
 
@@ -358,7 +296,7 @@ last-64 : (s : Settings) (t : State) → Account64 (t .position .portfolio) → 
 unfolding lastExit
 last-64 s t a =
     let x : Closed = closed (t .position .portfolio) (t .last .close) (t .last .time) (s .terms .«taker_bps») end in
-    exit-if (toClose t) (Exited x) (closed-64 (t .position .portfolio) (t .last .close) (t .last .time) (s .terms .«taker_bps») end a)
+    exit-if Account64 (toClose t) (Exited x) (left x (closed-64 (t .position .portfolio) (t .last .close) (t .last .time) (s .terms .«taker_bps») end a))
 
 -- AFTER A BAR
 pub step-floats : (s : Settings) (t : State) (bar : List ℕ) (m : Rooms) (ls : Lists) → Floats64 t → Floats64 (stepped s t bar m ls .result)

@@ -1,12 +1,12 @@
 -- A box keeps the last D rows, and its run is one that keeps every row.
-use Rattle.words.specs.Prelude.{ℕ, _≡_, refl, _∙_, List, [], _∷_, _++_, append-nil, append-assoc, flatMap, add-one, take}
+use Rattle.words.specs.Prelude.{ℕ, _≡_, _∙_, List, [], _∷_, _++_, append-nil, append-assoc, flatMap, take}
 use Rattle.records.specs.{declared.settings.Settings.Settings, declared.state.State.State, Lent.Lists, Lent.Rooms}
-use Rattle.refusals.specs.{declared.verdict.Verdict.Verdict, declared.verdict.Verdict.the-variants.Fine, declared.verdict.Verdict.the-variants.Bad}
-use Rattle.engine.specs.{Boxes.Grown, Boxes.Follows, Laws.Runs.run-none, Laws.Runs.run-stops, Laws.Runs.run-takes, Laws.Verdict.verdict-fine, Record.rowOf}
-use Rattle.engine.specs.{Run.Run, Run.runOver, Step.With, Step.stepped, Step.stepVerdict, Whole.Account, Whole.accountOf, Whole.rowsHeld, Whole.byLists}
+use Rattle.refusals.specs.{declared.verdict.Verdict.the-variants.Fine}
+use Rattle.engine.specs.{Boxes.Grown, Boxes.Follows, Laws.Runs.run-none, Laws.Verdict.verdict-fine, Record.rowOf}
+use Rattle.engine.specs.{Run.runOver, Step.stepped, Step.stepVerdict, Whole.Account, Whole.accountOf, Whole.rowsHeld, Whole.byLists}
 use Rattle.engine.specs.{Whole.taken, Whole.wholeRun, Whole.wholeRunBy, Whole.rowsOf}
 use Rattle.runs.specs.{Laws.AccountStep.window-after, Laws.AccountStep.account-after, Laws.AccountStep.last-alike, Laws.AccountStep.taken-alike}
-use Rattle.runs.specs.{Laws.BooksGrow.grown-none, Laws.BooksGrow.grown-more, Laws.BooksGrow.books-grow}
+use Rattle.runs.specs.{Laws.BooksGrow.grown-none, Laws.BooksGrow.grown-more, Laws.BooksGrow.books-grow, Laws.FirstBar.by-first-bar}
 
 -- ---- a bar
 
@@ -59,21 +59,6 @@ pub run-follows : (s : Settings) (ls : Lists) (bars : List (List ℕ)) (t : Stat
     RunsWhole s ls t m a rows (take (r .done) bars) (r .state) (r .rooms)
 run-follows s ls [] t m a rows f = rw (run-none s ls t m) (whole-none s ls t m a rows f)
 run-follows s ls (bar ∷ bars) t m a rows f =
-    go (stepVerdict s t bar m ls) refl
-    (λ h. run-follows s ls bars (stepped s t bar m ls .result) (stepped s t bar m ls .rooms) _ _ (step-follows s ls t m bar h a rows f))
-  where
-    d : With State
-    d = stepped s t bar m ls
-
-    later : Run
-    later = runOver s ls (d .result) (d .rooms) bars
-
-    go : (v : Verdict) → stepVerdict s t bar m ls ≡ v
-        → (stepVerdict s t bar m ls ≡ Fine → RunsWhole s ls (d .result) (d .rooms)
-        (taken s (byLists s ls) a rows bar .account) (rows ++ rowOf (s .slots) bar) (take (later .done) bars) (later .state) (later .rooms))
-        → let r = runOver s ls t m (bar ∷ bars) in
-        RunsWhole s ls t m a rows (take (r .done) (bar ∷ bars)) (r .state) (r .rooms)
-    go (Bad why) e goes = rw (run-stops s ls t m bar bars why e) (whole-none s ls t m a rows f)
-    go Fine e goes =
-        rw (run-takes s ls t m bar bars e, add-one)
-        (whole-more s ls t m a rows f bar (take (later .done) bars) (later .state) (later .rooms) e (goes e))
+    by-first-bar s ls t m bar bars (λ took u n. RunsWhole s ls t m a rows took u n) (whole-none s ls t m a rows f)
+    (λ fine. whole-more s ls t m a rows f bar _ _ _ fine
+    (run-follows s ls bars (stepped s t bar m ls .result) (stepped s t bar m ls .rooms) _ _ (step-follows s ls t m bar fine a rows f)))

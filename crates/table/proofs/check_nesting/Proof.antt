@@ -5,19 +5,12 @@ use Rattle.table.proofs.{Final.stage-at, Final.stage-none, check_nestin
 use Rattle.table.specs.{Checked.from8}
 use Rattle.table.proofs.check_nesting.Tie as tie
 
-returns : tie.Need-returns
-unfolding from8
-returns c =
-    stage-at 8 _ _ _ _ _ _
-    (sym (c .before .before .before .before .too-deep .ensures) ∙ c .before .before .deep .given .1) (c .refused .ensures .0) (c .refused .ensures .1)
-
-returns-2 : tie.Need-returns-2
-unfolding from8
-returns-2 c =
-    stage-none 8 _ _ _ _ _
-    (sym (c .before .before .before .too-deep .ensures) ∙ c .before .enum-told .given .1) (c .check-reach .ensures .0) (c .check-reach .ensures .1)
-
 pub check-nesting-spec : {M : Type 1} → statement M
+unfolding from8
 check-nesting-spec =
-    tie.close (tie.spec (λ c κs. search needs) (λ c. search needs) (λ c κs. search needs) (λ c. search needs)
-    (λ c κs. search needs) returns returns-2)
+    tie.close (tie.spec (λ c κs. search needs) (λ c. search needs) (λ c κs. search needs) (λ c. search needs) (λ c κs. search needs)
+    (λ c. let deep = c .before .before in
+    stage-at 8 _ _ _ _ _ _ (sym (deep .before .before .too-deep .ensures) ∙ deep .deep .given .1) (c .refused .ensures .0) (c .refused .ensures .1))
+    (λ c. let none = c .before in
+    let told = c .check-reach .ensures in
+    stage-none 8 _ _ _ _ _ (sym (none .before .before .too-deep .ensures) ∙ none .enum-told .given .1) (told .0) (told .1)))

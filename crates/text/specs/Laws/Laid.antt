@@ -1,6 +1,6 @@
 -- A room that is filled place by place. Assumes nothing.
 use Rattle.words.specs.Prelude.{ℕ, zero, suc, _+_, _-_, _*_, _/_, _^_, _≤_, _<_, _≡_, refl, sym, ap, _∙_, List, [], _∷_, arith, div-one, ltb, length, take}
-use Rattle.words.specs.Prelude.{drop, set, lt-ltb, le-ltb}
+use Rattle.words.specs.Prelude.{drop, set, length-set, lt-ltb, le-ltb}
 use Rattle.text.specs.{Rooms.laid}
 
 module _ (f : ℕ → ℕ) where
@@ -32,18 +32,37 @@ module _ (f : ℕ → ℕ) where
   laid-all at m n [] p q = refl
   laid-all at m n (x ∷ xs) p q = rw (lt-ltb at m (omega arith), lt-ltb at n (omega arith), laid-all (at + 1) m n xs (omega arith) (omega arith))
 
--- From the first place on, as a loop fills it.
-module _ (f : ℕ → ℕ) (room : List ℕ) where
-  pub filled-none : room ≡ laid f 0 0 room
-  filled-none = sym (laid-none f 0 0 room (omega arith))
+-- From the first place on, as a loop fills it: of the n that it is to fill it has filled i.
+pub record Filling (f : ℕ → ℕ) (room₀ : List ℕ) (n i : ℕ) (room : List ℕ) : Type 0 where
+  pub few : i ≤ n
+  pub inside : i ≤ length room₀
+  pub stands : room ≡ laid f 0 i room₀
+  pub long : length room ≡ length room₀
 
-  pub filled-more : (i : ℕ) → i < length room → set (laid f 0 i room) i (f i) ≡ laid f 0 (i + 1) room
-  filled-more i l =
+module _ (f : ℕ → ℕ) (room₀ : List ℕ) (n : ℕ) where
+  pub filling-none : Filling f room₀ n 0 room₀
+  filling-none = record { few = omega arith; inside = omega arith; stands = sym (laid-none f 0 0 room₀ (omega arith)); long = refl }
+
+  pub filling-more : {i x : ℕ} {room : List ℕ} → Filling f room₀ n i room → i < n → i < length room → x ≡ f i → Filling f room₀ n (i + 1) (set room i x)
+  filling-more {i} {x} {room} h l k e =
       let none : 0 + i ≡ i = omega arith in
-      rw none at (laid-more f 0 i room l)
+      let inside : i < length room₀ = omega (arith, h .long) in
+      record {
+        few = omega arith;
+        inside = omega arith;
+        stands = rw (h .stands, e) (rw none at (laid-more f 0 i room₀ inside));
+        long = simp length-set (h .long);
+      }
 
-  pub filled-all : (i n : ℕ) → i ≤ n → length room ≤ i → laid f 0 i room ≡ laid f 0 n room
-  filled-all i n l e = laid-all f 0 i n room (omega arith) (omega arith)
+  -- all that there are to fill
+  pub filling-done : {i : ℕ} {room : List ℕ} → Filling f room₀ n i room → n ≤ i → room ≡ laid f 0 n room₀
+  filling-done {i} h l =
+      let all : i ≡ n = omega (arith, h .few) in
+      h .stands ∙ ap (λ (k : ℕ). laid f 0 k room₀) all
+
+  -- all of the room
+  pub filling-full : {i : ℕ} {room : List ℕ} → Filling f room₀ n i room → length room ≤ i → room ≡ laid f 0 n room₀
+  filling-full {i} h l = h .stands ∙ laid-all f 0 i n room₀ (omega (arith, h .long)) (omega (arith, h .long, h .few))
 
 -- the part past the end is nothing
 pub nothing-left : (xs : List ℕ) → take (length xs - length xs) (drop (length xs) xs) ≡ []

@@ -2,7 +2,8 @@
 use Rattle.words.specs.Prelude.{needs, le-leb, lt-leb, arith, _≡_, refl, ap, _∙_, true, false, List, ℕ, _+_, _-_, _≤_, _<_, length, set, getD, length-set, leb}
 use Rattle.words.specs.Prelude.{paste, paste-zero}
 use Rattle.answers.specs.{Text.put, Text.next}
-use Rattle.answers.proofs.{Writing.turn, Writing.done, put.put.Statement.statement}
+use Rattle.words.specs.{Laws.Copying.turn, Laws.Copying.done}
+use Rattle.answers.proofs.{put.put.Statement.statement}
 use Rattle.answers.proofs.put.put.Tie as tie
 
 abbrev Inv-loop : tie.InvT-loop

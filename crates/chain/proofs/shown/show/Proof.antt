@@ -22,30 +22,21 @@ show-spec =
     omega (arith, small))
     (λ c. search needs) (λ c κs. search needs) (λ c. search needs) (λ c κs. search needs) (λ c. search needs)
     (λ c κs. search needs) (λ c. search needs) (λ c κs. search needs) (λ c. search needs) (λ c κs. search needs)
-    (λ c.
-    let k = c .before .before .before .before in
+    (λ c. let k = c .before .before .before .before in
     shown-compare _ _ _ _ _ _ _ _ (k .before .if1 .left) _ (k .condition-shape .ensures) _ _ _ (c .before .before .a .given .1) (c .show-compare .ensures))
-    (λ c.
-    let k = c .before .before .before .before in
+    (λ c. let k = c .before .before .before .before in
     shown-cross _ _ _ _ _ _ _ _ (k .before .if1 .left) _ (k .condition-shape .ensures) _ _ _ (c .before .before .a2 .given .1) (c .show-cross .ensures))
-    (λ c.
-    let k = c .before .before .before .before in
+    (λ c. let k = c .before .before .before .before in
     shown-between _ _ _ _ _ _ _ _ (k .before .if1 .left) _ (k .condition-shape .ensures) _ _ _ (c .before .before .x .given .1) (c .show-between .ensures))
-    (λ c.
-    let k = c .before .before .before .before in
+    (λ c. let k = c .before .before .before .before in
     shown-trend _ _ _ _ _ _ _ _ (k .before .if1 .left) _ (k .condition-shape .ensures) _ _ _ (c .before .before .a3 .given .1) (c .show-trend .ensures))
-    (λ c.
-    let k = c .before .before .before in
+    (λ c. let k = c .before .before .before in
     shown-group _ _ _ _ _ _ _ _ (k .before .if1 .left) _ (k .condition-shape .ensures) _ _ _ (c .before .enum-told .given .1) (c .bare2 .ensures))
-    (λ c.
-    let k = c .before .before .before in
+    (λ c. let k = c .before .before .before in
     shown-not _ _ _ _ _ _ _ _ (k .before .if1 .left) _ (k .condition-shape .ensures) _ (c .before .enum-told2 .given .1) (c .bare3 .ensures))
-    (λ c.
-    let k = c .before .before .before in
+    (λ c. let k = c .before .before .before in
     shown-position _ _ _ _ _ _ _ _ (k .before .if1 .left) _ (k .condition-shape .ensures) _ (c .before .enum-told3 .given .1) (c .bare4 .ensures))
-    (λ c.
-    let k = c .before .before .before in
+    (λ c. let k = c .before .before .before in
     shown-since _ _ _ _ _ _ _ _ (k .before .if1 .left) _ (k .condition-shape .ensures) _ _ (c .before .enum-told4 .given .1) (c .show-since .ensures))
-    (λ c.
-    let k = c .before .before .before in
+    (λ c. let k = c .before .before .before in
     shown-none _ _ _ _ _ _ _ _ (k .before .if1 .left) _ (k .condition-shape .ensures) (c .before .enum-told5 .given .1) (c .bare5 .ensures)))

@@ -10,30 +10,13 @@ next-node-spec =
     tie.close (tie.spec (λ c. rw (next-deep _ _ _ _ _ _ _ (c .if1 .taken))) (λ c κs. search needs) (λ c. search needs)
     (λ c. search needs) (λ c κs. search needs) (λ c. search needs) (λ c. search needs) (λ c. search needs)
     (λ c. search needs) (λ c. search needs) (λ c. search needs) (λ c. search needs) (λ c. search needs)
-    (λ c.
-    let k = c .before .before .before .before in
+    (λ c. let k = c .before .before .before .before in
     rw (next-by _ _ _ _ _ _ _ (k .before .if1 .left) _ _ (k .condition-shape .ensures) (c .before .before .all .given .1)) (c .first-with .ensures))
-    (λ c.
-    let k = c .before .before .before in
-    rw (next-by _ _ _ _ _ _ _ (k .before .if1 .left) _ _ (k .condition-shape .ensures) (c .before .a .given .1)))
-    (λ c.
-    let k = c .before .before in
-    rw (next-by _ _ _ _ _ _ _ (k .before .if1 .left) _ _ (k .condition-shape .ensures) (c .enum-told .given .1)))
-    (λ c.
-    let k = c .before .before in
-    rw (next-by _ _ _ _ _ _ _ (k .before .if1 .left) _ _ (k .condition-shape .ensures) (c .enum-told2 .given .1)))
-    (λ c.
-    let k = c .before .before in
-    rw (next-by _ _ _ _ _ _ _ (k .before .if1 .left) _ _ (k .condition-shape .ensures) (c .enum-told3 .given .1)))
-    (λ c.
-    let k = c .before .before in
-    rw (next-by _ _ _ _ _ _ _ (k .before .if1 .left) _ _ (k .condition-shape .ensures) (c .enum-told4 .given .1)))
-    (λ c.
-    let k = c .before .before in
-    rw (next-by _ _ _ _ _ _ _ (k .before .if1 .left) _ _ (k .condition-shape .ensures) (c .enum-told5 .given .1)))
-    (λ c.
-    let k = c .before .before in
-    rw (next-by _ _ _ _ _ _ _ (k .before .if1 .left) _ _ (k .condition-shape .ensures) (c .enum-told6 .given .1)))
-    (λ c.
-    let k = c .before .before in
-    rw (next-by _ _ _ _ _ _ _ (k .before .if1 .left) _ _ (k .condition-shape .ensures) (c .enum-told7 .given .1))))
+    (λ c. let k = c .before .before .before in rw (next-by _ _ _ _ _ _ _ (k .before .if1 .left) _ _ (k .condition-shape .ensures) (c .before .a .given .1)))
+    (λ c. let k = c .before .before in rw (next-by _ _ _ _ _ _ _ (k .before .if1 .left) _ _ (k .condition-shape .ensures) (c .enum-told .given .1)))
+    (λ c. let k = c .before .before in rw (next-by _ _ _ _ _ _ _ (k .before .if1 .left) _ _ (k .condition-shape .ensures) (c .enum-told2 .given .1)))
+    (λ c. let k = c .before .before in rw (next-by _ _ _ _ _ _ _ (k .before .if1 .left) _ _ (k .condition-shape .ensures) (c .enum-told3 .given .1)))
+    (λ c. let k = c .before .before in rw (next-by _ _ _ _ _ _ _ (k .before .if1 .left) _ _ (k .condition-shape .ensures) (c .enum-told4 .given .1)))
+    (λ c. let k = c .before .before in rw (next-by _ _ _ _ _ _ _ (k .before .if1 .left) _ _ (k .condition-shape .ensures) (c .enum-told5 .given .1)))
+    (λ c. let k = c .before .before in rw (next-by _ _ _ _ _ _ _ (k .before .if1 .left) _ _ (k .condition-shape .ensures) (c .enum-told6 .given .1)))
+    (λ c. let k = c .before .before in rw (next-by _ _ _ _ _ _ _ (k .before .if1 .left) _ _ (k .condition-shape .ensures) (c .enum-told7 .given .1))))

@@ -1,8 +1,8 @@
 -- After w turns: the lines of the first w words of the trade stand from line `from` on.
-use Rattle.words.specs.Prelude.{_≡_, sym, ap, subst, _∙_, List, ℕ, _+_, _-_, _*_, _≤_, _<_, add-zero, add-one, arith, needs, length}
+use Rattle.words.specs.Prelude.{_≡_, ap, subst, _∙_, List, ℕ, _+_, _-_, _*_, _≤_, _<_, add-one, arith, needs, length}
 use Rattle.words.specs.{Limits.tradeWords, Words.overwrite, Laws.Overwrite.overwrite-length}
 use Rattle.differences.specs.{Lines.wordLine, Lines.wordsOf, Laws.Counted.tradeLines, Laws.Counted.trade-next, Laws.Counted.trade-rise}
-use Rattle.differences.specs.{Laws.Written.none-written, Laws.Written.turn-fits, Laws.Written.turn-stands}
+use Rattle.differences.specs.{Laws.Written.none-yet, Laws.Written.turn-fits, Laws.Written.turn-stands}
 use Rattle.differences.proofs.{words_apart.put_trade.Statement.statement}
 use Rattle.differences.proofs.words_apart.put_trade.Tie as tie
 
@@ -13,14 +13,12 @@ Inv-loop a b x lines₀ from c₀ w₀ lines c w =
 abbrev μ-loop : tie.MeasureT-loop
 μ-loop a b x lines₀ from c₀ w₀ lines c w = tradeWords - w
 
-fits-all : (f m r : ℕ) → 5 * (f + m) ≤ r → 5 * f ≤ r
-fits-all f m r h = omega arith
-
 loop-holds : tie.Need-loop-holds Inv-loop μ-loop
 unfolding tradeLines
 loop-holds c =
-    let start = c .before .before .before in
-    (omega arith, sym (add-zero (start .args .from)), sym (none-written (start .args .lines .now) (5 * start .args .from) (fits-all _ _ _ (start .pre .2))))
+    let s = c .before .before .before in
+    let none = none-yet (s .args .from) _ (s .args .lines .now) (s .pre .2) in
+    (omega arith, none .0, none .1)
 
 -- word w is one of the list's
 in-list : (x w n : ℕ) → w < 10 → 10 * (x + 1) ≤ n → 10 * x + w < n

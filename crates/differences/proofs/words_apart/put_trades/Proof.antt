@@ -1,8 +1,8 @@
 -- After x turns: the lines of the first x trades stand from line `from` on.
-use Rattle.words.specs.Prelude.{_≡_, sym, ap, subst, _∙_, List, ℕ, _+_, _-_, _*_, _≤_, _<_, add-zero, arith, needs, length, length-append}
+use Rattle.words.specs.Prelude.{_≡_, ap, subst, _∙_, List, ℕ, _+_, _-_, _*_, _≤_, _<_, arith, needs, length, length-append}
 use Rattle.words.specs.{Limits.tradeWords, Words.overwrite, Laws.Overwrite.overwrite-length}
 use Rattle.differences.specs.{Lines.wordLines, Lines.wordsOf, Laws.Counted.tradeLines, Laws.Counted.trades-next, Laws.Counted.trades-rise}
-use Rattle.differences.specs.{Laws.Written.none-written, Laws.Written.turn-fits, Laws.Written.turn-stands}
+use Rattle.differences.specs.{Laws.Written.none-yet, Laws.Written.turn-fits, Laws.Written.turn-stands}
 use Rattle.differences.proofs.{words_apart.put_trades.Statement.statement}
 use Rattle.differences.proofs.words_apart.put_trades.Tie as tie
 
@@ -13,14 +13,12 @@ Inv-loop a b n lines₀ from c₀ x₀ lines c x =
 abbrev μ-loop : tie.MeasureT-loop
 μ-loop a b n lines₀ from c₀ x₀ lines c x = n - x
 
-fits-all : (f m r : ℕ) → 5 * (f + m) ≤ r → 5 * f ≤ r
-fits-all f m r h = omega arith
-
 loop-holds : tie.Need-loop-holds Inv-loop μ-loop
 unfolding wordLines
 loop-holds c =
-    let start = c .before .before .before in
-    (omega arith, sym (add-zero (start .args .from)), sym (none-written (start .args .lines .now) (5 * start .args .from) (fits-all _ _ _ (start .pre .2))))
+    let s = c .before .before .before in
+    let none = none-yet (s .args .from) _ (s .args .lines .now) (s .pre .2) in
+    (omega arith, none .0, none .1)
 
 -- trade x is one of the list's
 in-list : (x n m : ℕ) → x < n → 10 * n ≤ m → 10 * (x + 1) ≤ m

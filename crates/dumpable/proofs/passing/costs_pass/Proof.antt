@@ -4,11 +4,7 @@ use Rattle.dumpable.specs.{Laws.Passing.costsPass}
 use Rattle.dumpable.proofs.{passing.costs_pass.Statement.statement}
 use Rattle.dumpable.proofs.passing.costs_pass.Tie as tie
 
-returns : tie.Need-returns
-unfolding costsPass
-returns c = cc
-
 pub costs-pass-spec : {M : Type 1} → statement M
+unfolding costsPass
 costs-pass-spec =
-    tie.close (tie.spec (λ c κs. search needs) (λ c κs. search needs) (λ c κs. search needs) (λ c κs. search needs)
-    (λ c κs. search needs) returns)
+    tie.close (tie.spec (λ c κs. search needs) (λ c κs. search needs) (λ c κs. search needs) (λ c κs. search needs) (λ c κs. search needs) (λ c. cc))

@@ -4,12 +4,8 @@ use Rattle.dumpable.specs.{Laws.Passing.kindsPass}
 use Rattle.dumpable.proofs.{passing.kinds_pass.Statement.statement}
 use Rattle.dumpable.proofs.passing.kinds_pass.Tie as tie
 
-returns : tie.Need-returns
-unfolding kindsPass
-returns c = cc
-
 pub kinds-pass-spec : {M : Type 1} → statement M
+unfolding kindsPass
 kinds-pass-spec =
-    tie.close (tie.spec (λ c. search needs) (λ c. search needs) (λ c. search needs) (λ c. search needs)
-    (λ c. search needs) (λ c. search needs) (λ c. search needs) (λ c. search needs) (λ c. search needs)
-    (λ c κs. search needs) returns)
+    tie.close (tie.spec (λ c. search needs) (λ c. search needs) (λ c. search needs) (λ c. search needs) (λ c. search needs) (λ c. search needs)
+    (λ c. search needs) (λ c. search needs) (λ c. search needs) (λ c κs. search needs) (λ c. cc))

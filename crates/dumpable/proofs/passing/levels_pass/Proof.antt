@@ -4,11 +4,7 @@ use Rattle.dumpable.specs.{Laws.Passing.levelsPass}
 use Rattle.dumpable.proofs.{passing.levels_pass.Statement.statement}
 use Rattle.dumpable.proofs.passing.levels_pass.Tie as tie
 
-returns : tie.Need-returns
-unfolding levelsPass
-returns c = cc
-
 pub levels-pass-spec : {M : Type 1} → statement M
+unfolding levelsPass
 levels-pass-spec =
-    tie.close (tie.spec (λ c κs. search needs) (λ c κs. search needs) (λ c κs. search needs) (λ c κs. search needs)
-    (λ c κs. search needs) returns)
+    tie.close (tie.spec (λ c κs. search needs) (λ c κs. search needs) (λ c κs. search needs) (λ c κs. search needs) (λ c κs. search needs) (λ c. cc))

@@ -1,25 +1,31 @@
 -- The lengths are known; of the tests that are joined each holds where all do, and then the products are small.
-use Rattle.words.specs.Prelude.{ℕ, _≤_, _≡_, sym, _∙_, Bool, true, false, _&&_, List, le-leb, length, needs}
-use Rattle.words.specs.{Limits.settingWords, Limits.stateWords, Words.word}
+use Rattle.words.specs.Prelude.{_≡_, sym, _∙_, _&&_, le-leb, needs}
+use Rattle.words.specs.{Words.word}
 use Rattle.refusals.specs.{Laws.Lines.and-true}
-use Rattle.dumpable.specs.{Laws.Passing.kindsPass, Laws.Passing.costsPass, Laws.Passing.levelsPass, Laws.Passing.entriesPass, Laws.Passing.countsPass}
 use Rattle.dumpable.specs.{Laws.Passing.roomsPass, Laws.Passing.wordsPass, Laws.Passing.kinds-pass, Laws.Passing.counts-held}
 use Rattle.dumpable.proofs.{passing.whole_pass.Statement.statement}
 use Rattle.dumpable.proofs.passing.whole_pass.Tie as tie
 
-module _ (settings state : List ℕ) (rows area : ℕ) {k c l e n : Bool} (long : settingWords ≤ length settings) (full : stateWords ≤ length state)
-    (kinds : k ≡ kindsPass settings) (costs : c ≡ costsPass settings) (levels : l ≡ levelsPass settings) (entries : e ≡ entriesPass settings)
-    (counts : n ≡ countsPass state) where
-  -- where the tests hold, the rooms decide
-  by-rooms : {r : Bool} → (k && c && l && e && n) ≡ true → r ≡ roomsPass (word settings 0) (word settings 1) (word state 1) rows area
-      → r ≡ wordsPass settings state rows area
-  unfolding wordsPass
-  by-rooms h g = rw (le-leb _ _ long, le-leb _ _ full, ← kinds, ← costs, ← levels, ← entries, ← counts, h) g
-
-  -- one of them does not
-  not-all : (k && c && l && e && n) ≡ false → false ≡ wordsPass settings state rows area
-  unfolding wordsPass
-  not-all h = rw (le-leb _ _ long, le-leb _ _ full, ← kinds, ← costs, ← levels, ← entries, ← counts, h)
+-- all that is judged, as the code has it
+told : (n : tie.After-counts-pass) → let e = n .before in let l = e .before in let c = l .before in let k = c .before in
+    let a = k .before .before .before .args in
+    wordsPass (a .settings .now) (a .state .now) (a .rows) (a .area)
+    ≡ (k .kinds-pass .result && c .costs-pass .result && l .levels-pass .result && e .entries-pass .result && n .counts-pass .result)
+    && roomsPass (word (a .settings .now) 0) (word (a .settings .now) 1) (word (a .state .now) 1) (a .rows) (a .area)
+unfolding wordsPass
+told n =
+    let l = n .before .before in
+    let k = l .before .before in
+    let s = k .before .before .before in
+    rw (
+      le-leb _ _ (s .pre .0),
+      le-leb _ _ (s .pre .1),
+      ← k .kinds-pass .ensures,
+      ← l .before .costs-pass .ensures,
+      ← l .levels-pass .ensures,
+      ← n .before .entries-pass .ensures,
+      ← n .counts-pass .ensures,
+    )
 
 rooms-pass-requires : tie.Need-rooms-pass-requires
 rooms-pass-requires c κs =
@@ -39,31 +45,9 @@ rooms-pass-requires c κs =
     let shape = kinds-pass _ (sym (kinds .kinds-pass .ensures) ∙ and-true k first (two .0) .0) in
     (shape .slots, shape .depth, counts-held _ (sym (counts .counts-pass .ensures) ∙ all .1))
 
-returns : tie.Need-returns
-returns c =
-    let tests = c .before .before .before .before in
-    let counts = tests .before in
-    let entries = counts .before in
-    let levels = entries .before in
-    let costs = levels .before in
-    let kinds = costs .before in
-    let s = kinds .before .before .before in
-    by-rooms _ _ _ _ (s .pre .0) (s .pre .1) (kinds .kinds-pass .ensures) (costs .costs-pass .ensures) (levels .levels-pass .ensures)
-    (entries .entries-pass .ensures) (counts .counts-pass .ensures) (tests .if1 .taken) (c .rooms-pass .ensures)
-
-returns-2 : tie.Need-returns-2
-returns-2 c =
-    let counts = c .before in
-    let entries = counts .before in
-    let levels = entries .before in
-    let costs = levels .before in
-    let kinds = costs .before in
-    let s = kinds .before .before .before in
-    not-all _ _ _ _ (s .pre .0) (s .pre .1) (kinds .kinds-pass .ensures) (costs .costs-pass .ensures) (levels .levels-pass .ensures)
-    (entries .entries-pass .ensures) (counts .counts-pass .ensures) (c .if1 .left)
-
 pub whole-pass-spec : {M : Type 1} → statement M
 whole-pass-spec =
-    tie.close (tie.spec (λ c κs. search needs) (λ c κs. search needs) (λ c κs. search needs) (λ c κs. search needs)
-    (λ c κs. search needs) (λ c. search needs) (λ c. search needs) (λ c. search needs) rooms-pass-requires returns
-    returns-2)
+    tie.close (tie.spec (λ c κs. search needs) (λ c κs. search needs) (λ c κs. search needs) (λ c κs. search needs) (λ c κs. search needs)
+    (λ c. search needs) (λ c. search needs) (λ c. search needs) rooms-pass-requires
+    (λ c. let tests = c .before .before .before .before in rw (told (tests .before), tests .if1 .taken) (c .rooms-pass .ensures))
+    (λ c. rw (told (c .before), c .if1 .left)))

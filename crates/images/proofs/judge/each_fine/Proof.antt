@@ -15,9 +15,6 @@ Inv-loop image slots n i₀ i = (i ≤ n) × (every i (isFine image slots) ≡ t
 abbrev μ-loop : tie.MeasureT-loop
 μ-loop image slots n i₀ i = n - i
 
-loop-holds : tie.Need-loop-holds Inv-loop μ-loop
-loop-holds c = let a = c .before .args in (omega arith, every-none (isFine (a .image .now) (a .slots)))
-
 loop-again : tie.Need-loop-again Inv-loop μ-loop
 loop-again c =
     let judge = c .before in
@@ -59,5 +56,5 @@ returns-2 c =
 
 pub each-fine-spec : {M : Type 1} → statement M
 each-fine-spec =
-    tie.close (tie.spec Inv-loop μ-loop loop-holds (λ c κs. search needs) row-fine-requires returns
-    (λ c. search needs) (λ c. search needs) loop-again returns-2)
+    tie.close (tie.spec Inv-loop μ-loop (λ c. let a = c .before .args in (omega arith, every-none (isFine (a .image .now) (a .slots))))
+    (λ c κs. search needs) row-fine-requires returns (λ c. search needs) (λ c. search needs) loop-again returns-2)

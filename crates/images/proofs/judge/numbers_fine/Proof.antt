@@ -4,12 +4,8 @@ use Rattle.images.specs.{Refused.numbersFine}
 use Rattle.images.proofs.{judge.numbers_fine.Statement.statement}
 use Rattle.images.proofs.judge.numbers_fine.Tie as tie
 
-returns : tie.Need-returns
-unfolding numbersFine
-returns c = cc
-
 pub numbers-fine-spec : {M : Type 1} → statement M
+unfolding numbersFine
 numbers-fine-spec =
-    tie.close (tie.spec (λ c κs. search needs) (λ c κs. search needs) (λ c κs. search needs) (λ c κs. search needs)
-    (λ c κs. search needs) (λ c κs. search needs) (λ c. search needs) (λ c κs. search needs) (λ c κs. search needs)
-    (λ c κs. search needs) returns)
+    tie.close (tie.spec (λ c κs. search needs) (λ c κs. search needs) (λ c κs. search needs) (λ c κs. search needs) (λ c κs. search needs)
+    (λ c κs. search needs) (λ c. search needs) (λ c κs. search needs) (λ c κs. search needs) (λ c κs. search needs) (λ c. cc))

@@ -18,8 +18,9 @@ row-place-requires c κs =
     let s = rows .before .before .before in
     (omega (arith, rows .before .byte .ensures, s .pre .0), omega (arith, rows .read32 .ensures .0, s .pre .1))
 
-sub-zero-at : tie.Need-sub-zero-at
-sub-zero-at c =
+-- the rows end within the image
+within : (c : tie.After-row-place) → c .row-place .result ≤ length (c .before .before .before .before .before .before .args .image .now)
+within c =
     let rows = c .before .before .before in
     let slots = rows .before in
     let s = slots .before .before in
@@ -27,17 +28,6 @@ sub-zero-at c =
     let end : rowPlace (slots .byte .result) (rows .read32 .result) ≡ rowPlace (slotsIn x) (rowsIn x) =
     rw (slots .byte .ensures, rows .read32 .ensures .0) in
     omega (arith, end, c .row-place .ensures .0, s .pre .2)
-
-zero-at-requires : tie.Need-zero-at-requires
-zero-at-requires c κs =
-    let rows = c .before .before .before in
-    let slots = rows .before in
-    let s = slots .before .before in
-    let x = s .args .image .now in
-    let end : rowPlace (slots .byte .result) (rows .read32 .result) ≡ rowPlace (slotsIn x) (rowsIn x) =
-    rw (slots .byte .ensures, rows .read32 .ensures .0) in
-    let within : c .row-place .result ≤ length x = omega (arith, end, c .row-place .ensures .0, s .pre .2) in
-    search needs
 
 returns : tie.Need-returns
 returns c =
@@ -62,4 +52,4 @@ returns-2 c =
 pub rows-fine-spec : {M : Type 1} → statement M
 rows-fine-spec =
     tie.close (tie.spec (λ c κs. search needs) (λ c. search needs) (λ c κs. search needs) each-fine-requires returns
-    row-place-requires sub-zero-at zero-at-requires returns-2)
+    row-place-requires (λ c. omega (arith, within c)) (λ c κs. let w = within c in search needs) returns-2)

@@ -4,12 +4,9 @@ use Rattle.images.specs.{Refused.unusedZero}
 use Rattle.images.proofs.{judge.unused_zero.Statement.statement}
 use Rattle.images.proofs.judge.unused_zero.Tie as tie
 
-returns : tie.Need-returns
-unfolding unusedZero
-returns c = cc
-
 pub unused-zero-spec : {M : Type 1} → statement M
+unfolding unusedZero
 unused-zero-spec =
-    tie.close (tie.spec (λ c κs. search needs) (λ c κs. search needs) (λ c κs. search needs) (λ c κs. search needs)
-    (λ c. search needs) (λ c κs. search needs) (λ c κs. search needs) (λ c κs. search needs) (λ c κs. search needs)
-    (λ c κs. search needs) (λ c κs. search needs) (λ c κs. search needs) (λ c κs. search needs) returns)
+    tie.close (tie.spec (λ c κs. search needs) (λ c κs. search needs) (λ c κs. search needs) (λ c κs. search needs) (λ c. search needs)
+    (λ c κs. search needs) (λ c κs. search needs) (λ c κs. search needs) (λ c κs. search needs) (λ c κs. search needs) (λ c κs. search needs)
+    (λ c κs. search needs) (λ c κs. search needs) (λ c. cc))

@@ -14,15 +14,6 @@ Inv-loop image at n i₀ i = (i ≤ n) × (every i (isZero image at) ≡ true)
 abbrev μ-loop : tie.MeasureT-loop
 μ-loop image at n i₀ i = n - i
 
-loop-holds : tie.Need-loop-holds Inv-loop μ-loop
-loop-holds c = let a = c .before .args in (omega arith, every-none (isZero (a .image .now) (a .at)))
-
-loop-again : tie.Need-loop-again Inv-loop μ-loop
-loop-again c =
-    let l = c .before .before .before in
-    let a = l .before .before .args in
-    (omega arith, every-more (isZero (a .image .now) (a .at)) (l .loop .i) (l .loop .inv .1) (equal (c .before .byte .ensures) (c .if1 .left)))
-
 returns : tie.Need-returns Inv-loop μ-loop
 unfolding zeroAt
 returns c =
@@ -31,14 +22,12 @@ returns c =
     let a = l .before .before .args in
     sym (every-no (isZero (a .image .now) (a .at)) (l .loop .i) (other (c .before .byte .ensures) (c .if1 .taken)) (a .n) (t .loop-test .taken))
 
-returns-2 : tie.Need-returns-2 Inv-loop μ-loop
-unfolding zeroAt
-returns-2 c =
-    let l = c .before in
-    let e : l .before .before .args .n ≡ l .loop .i = omega (arith, c .loop-test .left) in
-    rw e (sym (l .loop .inv .1))
-
 pub zero-at-spec : {M : Type 1} → statement M
+unfolding zeroAt
 zero-at-spec =
-    tie.close (tie.spec Inv-loop μ-loop loop-holds (λ c. search needs) (λ c κs. search needs) returns
-    (λ c. search needs) (λ c. search needs) loop-again returns-2)
+    tie.close (tie.spec Inv-loop μ-loop (λ c. let a = c .before .args in (omega arith, every-none (isZero (a .image .now) (a .at)))) (λ c. search needs)
+    (λ c κs. search needs) returns (λ c. search needs) (λ c. search needs)
+    (λ c. let l = c .before .before .before in
+    let a = l .before .before .args in
+    (omega arith, every-more (isZero (a .image .now) (a .at)) (l .loop .i) (l .loop .inv .1) (equal (c .before .byte .ensures) (c .if1 .left))))
+    (λ c. let l = c .before in let e : l .before .before .args .n ≡ l .loop .i = omega (arith, c .loop-test .left) in rw e (sym (l .loop .inv .1))))

@@ -1,6 +1,7 @@
 -- As many words as the rows have.
-use Rattle.words.specs.Prelude.{_+_, _*_, _≡_, mul-le-mul-left, arith, needs}
+use Rattle.words.specs.Prelude.{_+_, _*_, _≡_, le-refl, arith, needs}
 use Rattle.words.specs.{Limits.rowWords}
+use Rattle.rows.specs.{Laws.RowEnds.rows-most}
 use Rattle.images.specs.{Reading.slotsIn, Reading.rowsIn}
 use Rattle.images.proofs.{Reading.window-over, reader.read_window.Statement.statement}
 use Rattle.images.proofs.reader.read_window.Tie as tie
@@ -9,8 +10,7 @@ mul-n : tie.Need-mul-n
 mul-n c =
     let slots = c .before in
     let s = slots .before .before .before in
-    let narrow = mul-le-mul-left {m = 7 + slots .byte .result} {n = 71} (c .read32 .result) (omega (arith, slots .byte .ensures, s .pre .0)) in
-    omega (arith, narrow, c .read32 .ensures .1)
+    omega (arith, rows-most (slots .byte .result) (c .read32 .result) _ (omega (arith, slots .byte .ensures, s .pre .0)) (le-refl _), c .read32 .ensures .1)
 
 read-words-requires : tie.Need-read-words-requires
 read-words-requires c κs =

@@ -26,14 +26,8 @@ loop-again c =
       simp length-set (l .loop .inv .2),
     )
 
-returns : tie.Need-returns Inv-loop μ-loop
-returns c =
-    let l = c .before in
-    let e : l .before .before .before .args .n ≡ l .loop .i = omega arith in
-    rw e (l .loop .inv .1)
-
 pub read-words-spec : {M : Type 1} → statement M
 read-words-spec =
-    tie.close (tie.spec Inv-loop μ-loop loop-holds (λ c. search needs) (λ c. search needs) (λ c κs. search needs)
-    (λ c. search needs) (λ c. search needs) (λ c. search needs) (λ c. search needs) loop-again (λ c. search needs)
-    returns)
+    tie.close (tie.spec Inv-loop μ-loop loop-holds (λ c. search needs) (λ c. search needs) (λ c κs. search needs) (λ c. search needs) (λ c. search needs)
+    (λ c. search needs) (λ c. search needs) loop-again (λ c. search needs)
+    (λ c. let l = c .before in let e : l .before .before .before .args .n ≡ l .loop .i = omega arith in rw e (l .loop .inv .1)))

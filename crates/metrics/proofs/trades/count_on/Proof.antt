@@ -1,7 +1,7 @@
 -- Those so far and those to come are all; there are no more than trades passed.
 use Rattle.words.specs.Prelude.{needs, _≡_, sym, _∙_, ⊎-elim, List, arith, _+_, _-_, _≤_, zero-add, add-zero, length, drop, Float}
 use Rattle.metrics.specs.{Records.pnlsOf, Trades.sizesOn}
-use Rattle.metrics.proofs.{Walks.turn, Walks.done, Walks.one-on, Walks.not-on, trades.count_on.Statement.statement}
+use Rattle.metrics.proofs.{Walks.turn-on, Walks.done, trades.count_on.Statement.statement}
 use Rattle.metrics.proofs.trades.count_on.Tie as tie
 
 abbrev Inv-loop : tie.InvT-loop
@@ -16,16 +16,10 @@ loop-again c =
     let loop = at .before .before .loop in
     let count = at .before .before .before in
     let args = count .before .before .args in
-    let ps = pnlsOf (args .trades .now) in
-    let later = drop (loop .i + 1) ps in
-    let pnl = at .pnl-at .result in
-    let p =
-    turn (λ (rest : List Float). loop .count + length (sizesOn (args .side) rest)) ps (loop .i)
+    let told = turn-on (λ (sizes : List Float). loop .count + length sizes) (args .side) (pnlsOf (args .trades .now)) (loop .i)
     (count .trade-count .ensures) (at .before .loop-test .taken) (at .pnl-at .ensures) (loop .inv .1) in
     let is-on = c .before .is-on .ensures in
-    ⊎-elim
-    (λ w. let q = rw (one-on (args .side) pnl later (sym is-on ∙ w .0 .taken)) at p in omega (arith, w .1))
-    (λ w. let q = rw (not-on (args .side) pnl later (sym is-on ∙ w .0 .left)) at p in omega (arith, w .1))
+    ⊎-elim (λ w. let q = told .0 (sym is-on ∙ w .0 .taken) in omega (arith, w .1)) (λ w. let q = told .1 (sym is-on ∙ w .0 .left) in omega (arith, w .1))
     (c .if1 .came)
 
 returns : tie.Need-returns Inv-loop μ-loop

@@ -1,8 +1,8 @@
 -- What is summed and what is to come make the whole sum.
-use Rattle.words.specs.Prelude.{needs, _≡_, refl, sym, _∙_, ⊎-elim, List, arith, _+_, _-_, drop, Float}
+use Rattle.words.specs.Prelude.{needs, _≡_, refl, sym, _∙_, ⊎-elim, List, arith, _-_, drop, Float}
 use Rattle.metrics.specs.{Records.pnlsOf, Trades.sizesOn, Trades.gross}
 use Rattle.floats.specs.{Sums.sumFrom}
-use Rattle.metrics.proofs.{Walks.turn, Walks.done, Walks.one-on, Walks.not-on, trades.gross.Statement.statement}
+use Rattle.metrics.proofs.{Walks.turn-on, Walks.done, trades.gross.Statement.statement}
 use Rattle.metrics.proofs.trades.gross.Tie as tie
 
 abbrev Inv-loop : tie.InvT-loop
@@ -18,17 +18,10 @@ loop-again c =
     let loop = at .before .before .loop in
     let count = at .before .before .before in
     let args = count .before .before .args in
-    let ps = pnlsOf (args .trades .now) in
-    let later = drop (loop .i + 1) ps in
-    let pnl = at .pnl-at .result in
-    let p =
-    turn (λ (rest : List Float). sumFrom (loop .total) (sizesOn (args .side) rest)) ps (loop .i)
-    (count .trade-count .ensures) (at .before .loop-test .taken) (at .pnl-at .ensures) (loop .inv) in
+    let told = turn-on (sumFrom (loop .total)) (args .side) (pnlsOf (args .trades .now)) (loop .i) (count .trade-count .ensures)
+    (at .before .loop-test .taken) (at .pnl-at .ensures) (loop .inv) in
     let is-on = c .before .is-on .ensures in
-    ⊎-elim
-    (λ w. rw (w .2, w .1 .ensures) (rw (one-on (args .side) pnl later (sym is-on ∙ w .0 .taken)) at p))
-    (λ w. rw (w .1) (rw (not-on (args .side) pnl later (sym is-on ∙ w .0 .left)) at p))
-    (c .if1 .came)
+    ⊎-elim (λ w. rw (w .2, w .1 .ensures) (told .0 (sym is-on ∙ w .0 .taken))) (λ w. rw (w .1) (told .1 (sym is-on ∙ w .0 .left))) (c .if1 .came)
 
 returns : tie.Need-returns Inv-loop μ-loop
 unfolding sumFrom sizesOn

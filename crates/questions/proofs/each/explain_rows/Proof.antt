@@ -28,27 +28,18 @@ loop-holds c = (omega arith, refl, refl)
 few : (R n i long : ℕ) → R ≤ long → n ≤ R → i < n → (R - n + i < long) × (R - n + i + 1 ≤ long)
 few R n i long p q l = (omega arith, omega arith)
 
-add-first-rows-2 : tie.Need-add-first-rows-2 Inv-loop μ-loop
+-- the row of a question, and the one after it
+near : (c : tie.In-loop Inv-loop μ-loop) → let s = c .before .before .before .before .before .before .before .before .before in
+    let row = c .before .before .row-count .result - askedRows (s .args .positions .now) + c .before .loop .i in
+    (row < length (s .args .rows .now)) × (row + 1 ≤ length (s .args .rows .now))
 unfolding askedRows
-add-first-rows-2 c =
+near c =
     let start = c .before .before .before .before .before .before .before .before .before in
-    let good = start .good in
     let held = rows-held (start .args .t .now) (start .args .rows .now) (start .args .positions .now) _ _ (c .before .before .before .slots .ensures)
     (c .before .before .row-count .ensures) (start .pre .1) in
     let long = rows-few (start .args .t .now) (start .args .rows .now) (start .args .positions .now) _ _ (c .before .before .before .slots .ensures)
     (c .before .before .row-count .ensures) in
-    omega (arith, few _ _ (c .before .loop .i) _ long held (c .loop-test .taken) .0)
-
-add-first-rows-3 : tie.Need-add-first-rows-3 Inv-loop μ-loop
-unfolding askedRows
-add-first-rows-3 c =
-    let start = c .before .before .before .before .before .before .before .before .before in
-    let good = start .good in
-    let held = rows-held (start .args .t .now) (start .args .rows .now) (start .args .positions .now) _ _ (c .before .before .before .slots .ensures)
-    (c .before .before .row-count .ensures) (start .pre .1) in
-    let long = rows-few (start .args .t .now) (start .args .rows .now) (start .args .positions .now) _ _ (c .before .before .before .slots .ensures)
-    (c .before .before .row-count .ensures) in
-    omega (arith, few _ _ (c .before .loop .i) _ long held (c .loop-test .taken) .1)
+    few _ _ (c .before .loop .i) _ long held (c .loop-test .taken)
 
 first-rows-requires : tie.Need-first-rows-requires Inv-loop μ-loop
 unfolding askedRows
@@ -112,9 +103,12 @@ returns c =
     (l .inv .1 ∙ ap (λ (n : ℕ). linesOver each n (a .lines .now)) end, l .inv .2 ∙ ap (λ (n : ℕ). countsOver each n (a .counts .now)) end)
 
 pub explain-rows-spec : {M : Type 1} → statement M
+unfolding askedRows
 explain-rows-spec =
     tie.close (tie.spec Inv-loop μ-loop (λ c κs. search needs) (λ c. search needs) (λ c κs. search needs) sub-older loop-holds (λ c. search needs)
-    add-first-rows-2 add-first-rows-3 first-rows-requires position-at-requires explain-row-requires
+    (λ c. let good = c .before .before .before .before .before .before .before .before .before .good in omega (arith, near c .0))
+    (λ c. let good = c .before .before .before .before .before .before .before .before .before .good in omega (arith, near c .1))
+    first-rows-requires position-at-requires explain-row-requires
     (λ c. omega (arith, c .before .before .before .before .before .before .before .before .before .loop-test .taken))
     (λ c. omega (arith, c .before .before .before .before .before .before .before .before .before .loop-test .taken)) loop-again same-length same-length-2
     returns)

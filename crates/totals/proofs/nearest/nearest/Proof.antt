@@ -1,6 +1,6 @@
 -- `totals::nearest::nearest`: 53 digits, how many were dropped, and no more than an infinity. Assumes nothing.
 use Rattle.words.specs.Prelude.{_≡_, sym, ap, subst, _∙_, ℕ, _+_, _-_, _*_, _/_, _^_, _<_, _≤_, min, arith, needs, size, kept-lt}
-use Rattle.words.specs.Prelude.{closest}
+use Rattle.words.specs.Prelude.{closest, false, binary64, toBits, round}
 use Rattle.totals.specs.{Number.numberOf, Number.AreWords}
 use Rattle.totals.proofs.{Rounding.size-most, Rounding.nearest-small, Rounding.nearest-large, Rounding.kept-most, nearest.nearest.Statement.statement}
 use Rattle.totals.proofs.nearest.nearest.Tie as tie
@@ -54,27 +54,24 @@ many x y e h = omega arith
 sum : (x y q : ℕ) {r : ℕ} → x ≡ y → q ≡ r → (y - 53) * 2 ^ 52 + r ≡ (x - 53) * 2 ^ 52 + q
 sum x y q e f = omega arith
 
-pick-left : (a b : ℕ) → a ≡ b → b < 0x7ff0_0000_0000_0000 → min a 0x7ff0_0000_0000_0000 ≡ b
-pick-left a b e h = omega arith
+-- more than 53 digits: those that were dropped, and what is closest, as the code has them
+large : (r : tie.After-rounded)
+    → toBits binary64 (round binary64 false (numberOf (r .before .before .before .before .before .args .words .now)) (2 ^ 1074))
+    ≡ min ((r .before .before .before .digits .result - 53) * 2 ^ 52 + r .rounded .result) 0x7ff0_0000_0000_0000
+large r =
+    let d = r .before .before .before .digits in
+    let n = numberOf (r .before .before .before .before .before .args .words .now) in
+    nearest-large n (many _ _ (d .ensures) (r .before .before .if1 .left)) ∙ ap (λ (x : ℕ). min x 0x7ff0_0000_0000_0000)
+    (sum _ _ _ (d .ensures) (r .rounded .ensures ∙ ap (λ (x : ℕ). closest n (2 ^ (x - 53))) (d .ensures)))
 
-pick-right : (a b : ℕ) → a ≡ b → 0x7ff0_0000_0000_0000 ≤ b → min a 0x7ff0_0000_0000_0000 ≡ 0x7ff0_0000_0000_0000
-pick-right a b e h = omega arith
+pick-left : (a : ℕ) → a < 0x7ff0_0000_0000_0000 → min a 0x7ff0_0000_0000_0000 ≡ a
+pick-left a h = omega arith
 
-returns-2 : tie.Need-returns-2
-returns-2 c =
-    let d = c .before .before .before .before .digits in
-    let n = numberOf (c .before .before .before .before .before .before .args .words .now) in
-    sym (nearest-large n (many _ _ (d .ensures) (c .before .before .before .if1 .left)) ∙ pick-left _ _ (sum _ _ _ (d .ensures)
-    (c .before .rounded .ensures ∙ ap (λ (x : ℕ). closest n (2 ^ (x - 53))) (d .ensures))) (c .if2 .taken))
-
-returns-3 : tie.Need-returns-3
-returns-3 c =
-    let d = c .before .before .before .before .digits in
-    let n = numberOf (c .before .before .before .before .before .before .args .words .now) in
-    sym (nearest-large n (many _ _ (d .ensures) (c .before .before .before .if1 .left)) ∙ pick-right _ _ (sum _ _ _ (d .ensures)
-    (c .before .rounded .ensures ∙ ap (λ (x : ℕ). closest n (2 ^ (x - 53))) (d .ensures))) (c .if2 .left))
+pick-right : (a : ℕ) → 0x7ff0_0000_0000_0000 ≤ a → min a 0x7ff0_0000_0000_0000 ≡ 0x7ff0_0000_0000_0000
+pick-right a h = omega arith
 
 pub nearest-spec : {M : Type 1} → statement M
 nearest-spec =
     tie.close (tie.spec (λ c κs. search needs) (λ c κs. search needs) returns (λ c. search needs)
-    (λ c. record { fits = fine _ _ (c .before .digits .ensures) (most c) }) kept-requires rounded-requires add-b returns-2 returns-3)
+    (λ c. record { fits = fine _ _ (c .before .digits .ensures) (most c) }) kept-requires rounded-requires add-b
+    (λ c. sym (large (c .before) ∙ pick-left _ (c .if2 .taken))) (λ c. sym (large (c .before) ∙ pick-right _ (c .if2 .left))))
