@@ -22,6 +22,7 @@ pub next-row : (base at k m w : ℕ) → at ≡ base + k * w → m ≡ k + 1 →
 next-row base at k m w is more = rw (is, more, add-mul k 1 w) (omega arith)
 
 module _ (kind : ℕ) (over : Series) (ws : List ℕ) (slots base : ℕ) (start : Value) where
+  -- the definition, with + 1 for suc
   best-more : (k : ℕ) → bestAfter kind over ws slots base start (k + 1)
       ≡ pick kind (bestAfter kind over ws slots base start k) (ofRow over (wordsFrom ws (base + k * (7 + slots))))
   unfolding bestAfter

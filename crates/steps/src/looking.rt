@@ -236,9 +236,7 @@ fn quick_rows(
     which: u8,
     start: u64,
 ) -> Quick
-    requires { ⌜ base + count * (7 + slots) ≤ length (now rows) ⌝ }
-    requires { ⌜ InRow slots slot which ⌝ }
-    requires { ⌜ start < 0x7ff0_0000_0000_0000 ⌝ }
+    requires { ⌜ (base + count * (7 + slots) ≤ length (now rows)) × InRow slots slot which × (start < 0x7ff0_0000_0000_0000) ⌝ }
     ensures { λ r. ⌜ (r .left ≤ count) × (Number (floatOf (r .best))
         ≡ bestAfter kind (overOf slot which) (now (rows .entry)) slots base (Number (floatOf start)) (count - r .left)) ⌝ }
 {

@@ -1,9 +1,9 @@
 -- As many rows as follow before the words' end are looked at, so they stand one after the other. The best is the float of its word.
-use Rattle.words.specs.Prelude.{needs, ℕ, _+_, _-_, _*_, _<_, _≤_, _≡_, sym, ap, _∙_, subst, T, binary64, fits, ofBits-toBits, arith, length}
+use Rattle.words.specs.Prelude.{needs, _+_, _-_, _*_, _<_, _≤_, _≡_, sym, ap, _∙_, subst, T, binary64, ofBits-toBits, arith, length}
 use Rattle.floats.specs.{Floats.floatOf}
 use Rattle.rows.specs.{Laws.Ring.place-within}
 use Rattle.rules.specs.{declared.values.Value.the-variants.Number}
-use Rattle.steps.specs.{Looks.overOf, Looks.bestAfter}
+use Rattle.steps.specs.{Looks.overOf}
 use Rattle.steps.proofs.{Rows.place-ends, Looks.rows-end, Looks.best-on, looking.quick_from.Statement.statement}
 use Rattle.steps.proofs.looking.quick_from.Tie as tie
 
@@ -32,7 +32,7 @@ quick-rows-requires c κs =
     let ends : row * (7 + a .slots) + count * (7 + a .slots) ≤ length (a .rows .now) =
     rows-end (a .slots) (a .first) (a .rows .now) (a .held) (s .pre .0) (s .pre .1) row count (count - 1) (omega (arith, some))
     (omega (arith, some, row-within place, c .from-there .ensures)) in
-    (ends, (word .before .before .in-row .ensures (word .before .if1 .taken), place .before .if2 .taken))
+    (ends, word .before .before .in-row .ensures (word .before .if1 .taken), place .before .if2 .taken)
 
 returns : tie.Need-returns
 returns c =

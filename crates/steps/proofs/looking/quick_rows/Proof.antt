@@ -36,7 +36,7 @@ word-in c =
     let t = c .before .before in
     let s = t .before .before .before .before in
     let a = s .args in
-    omega (arith, next-ends t, t .before .before .place-of .ensures, place-in (a .slots) (a .slot) (a .which) (s .pre .1 .0))
+    omega (arith, next-ends t, t .before .before .place-of .ensures, place-in (a .slots) (a .slot) (a .which) (s .pre .1))
 
 loop-holds : tie.Need-loop-holds Inv-loop μ-loop
 unfolding bestAfter
@@ -44,7 +44,7 @@ loop-holds c =
     let s = c .before .before in
     let a = s .args in
     let none : a .count - a .count ≡ 0 = omega arith in
-    (omega arith, rw none (omega arith), s .pre .1 .1, rw none refl)
+    (omega arith, rw none (omega arith), s .pre .2, rw none refl)
 
 -- what the best is after a word: the word's order is the float's
 picked : (c : tie.Joined2 Inv-loop μ-loop) → let t = c .before .before .before .before in
@@ -87,7 +87,7 @@ again c =
 pub quick-rows-spec : {M : Type 1} → statement M
 quick-rows-spec =
     tie.close (tie.spec Inv-loop μ-loop (λ c κs. search needs) loop-holds
-    (λ c κs. (next-ends c, c .before .before .before .before .pre .1 .0))
+    (λ c κs. (next-ends c, c .before .before .before .before .pre .1))
     (λ c. let l = c .before .before .before .loop in (l .inv .0, l .inv .3))
     (λ c. omega (arith, word-in c)) (λ c. omega (arith, word-in c)) (λ c. omega (arith, word-in (c .before)))
     (λ c. let l = c .before .before .before .before .before .before .before .loop in (l .inv .0, l .inv .3))
