@@ -3,13 +3,6 @@ use Rattle.replies.specs.{Call.bitOf}
 use Rattle.replies.proofs.{bit_of.Statement.statement}
 use Rattle.replies.proofs.bit_of.Tie as tie
 
-returns : tie.Need-returns
-unfolding bitOf
-returns c = simp (c .if1 .taken)
-
-returns-2 : tie.Need-returns-2
-unfolding bitOf
-returns-2 c = simp (c .if1 .left)
-
 pub bit-of-spec : {M : Type 1} → statement M
-bit-of-spec = tie.close (tie.spec returns returns-2)
+unfolding bitOf
+bit-of-spec = tie.close (tie.spec (λ c. simp (c .if1 .taken)) (λ c. simp (c .if1 .left)))

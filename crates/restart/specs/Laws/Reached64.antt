@@ -1,6 +1,6 @@
 -- After any bars from a fresh state, the numbers of a state and the words of its window are such as the code's types hold, where those of the settings
 -- and of the bars are.
-use Rattle.words.specs.Prelude.{ℕ, zero, suc, _-_, _*_, _/_, _%_, _^_, _≤_, _<_, _≡_, refl, ap, _∙_, Bool, true, false, cond, List, [], _∷_, _++_, zero-mul}
+use Rattle.words.specs.Prelude.{ℕ, zero, suc, _-_, _*_, _/_, _%_, _^_, _≤_, _<_, _≡_, ap, _∙_, Bool, true, false, cond, List, [], _∷_, _++_, zero-mul}
 use Rattle.words.specs.Prelude.{arith, leb-true, ltb-true, leb, ltb, eqb, length, getD, List·getD-eq-default, getD-drop}
 use Rattle.words.specs.{Limits.rowWords, Limits.mostRows}
 use Rattle.rows.specs.{History.lastRows}
@@ -8,12 +8,10 @@ use Rattle.rules.specs.{declared.position.Entered.Entered, declared.position.En
 use Rattle.portfolio.specs.{Portfolio.fresh}
 use Rattle.records.specs.{declared.settings.Settings.Settings, declared.state.State.State, Bar.candleOf, Lent.Lists, Lent.Rooms, Lent.rowPlaces}
 use Rattle.records.specs.{State.freshState, StateWords.orderDelay, StateWords.entryBar, Laws.RoundTrip.Floats64}
-use Rattle.refusals.specs.{declared.verdict.Verdict.Verdict, declared.verdict.Verdict.the-variants.Fine, declared.verdict.Verdict.the-variants.Bad}
-use Rattle.refusals.specs.{Lines.judged, Rooms.entryBelow, Settings.settingLines, Laws.Fine.settings-fine, Laws.Lines.and-true}
-use Rattle.refusals.specs.{Laws.Lines.first-holds}
-use Rattle.runs.specs.{Laws.Floats.step-floats}
-use Rattle.engine.specs.{Laws.Runs.run-none, Laws.Runs.run-stops, Laws.Runs.run-takes, Record.rowWord, Record.listed, Record.rowOf, Run.Run, Run.runOver}
-use Rattle.engine.specs.{Step.stepped, Step.stepVerdict}
+use Rattle.refusals.specs.{declared.verdict.Verdict.the-variants.Fine}
+use Rattle.refusals.specs.{Lines.judged, Rooms.entryBelow, Settings.settingLines, Laws.Fine.settings-fine, Laws.Lines.and-true, Laws.Lines.first-holds}
+use Rattle.runs.specs.{Laws.Floats.step-floats, Laws.FirstBar.by-first-bar}
+use Rattle.engine.specs.{Laws.Runs.run-none, Record.rowWord, Record.listed, Record.rowOf, Run.runOver, Step.stepped, Step.stepVerdict}
 use Rattle.restart.specs.{Boxes.Passed, Boxes.Storable, Accepted.fresh-passed, Accepted.step-passed, Accepted.window-moved}
 use Rattle.restart.specs.{Window.window-whole, Laws.Times.Word64, Laws.Times.step-timed, Laws.Times.step-delayed}
 use Rattle.images.specs.{Layout.windowOf}
@@ -99,17 +97,9 @@ module _ (s : Settings) (ls : Lists) (delay : Word64 (s .delay)) where
   unfolding Bars64
   run-storable [] t m f p k = rw run-none k
   run-storable (bar ∷ bars) t m f p k =
-      go (stepVerdict s t bar m ls) refl
+      by-first-bar s ls t m bar bars (λ took u n. Storable s u n) k
       (λ e.
       run-storable bars (stepped s t bar m ls .result) (stepped s t bar m ls .rooms) (f .1) (step-passed s ls t m bar e p) (step-storable t m bar e (f .0) p k))
-    where
-      later : Run
-      later = runOver s ls (stepped s t bar m ls .result) (stepped s t bar m ls .rooms) bars
-
-      go : (v : Verdict) → stepVerdict s t bar m ls ≡ v → (stepVerdict s t bar m ls ≡ Fine → Storable s (later .state) (later .rooms))
-          → Storable s (runOver s ls t m (bar ∷ bars) .state) (runOver s ls t m (bar ∷ bars) .rooms)
-      go (Bad why) e goes = rw (run-stops s ls t m bar bars why e) k
-      go Fine e goes = rw (run-takes s ls t m bar bars e) (goes e)
 
 fresh-storable : (s : Settings) (m : Rooms) → Passed s (freshState s) m → judged (settingLines s) ≡ Fine → Floats64 (freshState s) → Storable s (freshState s) m
 unfolding freshState fresh orderDelay entryBar

@@ -1,29 +1,24 @@
 -- The time of the last entry and the delay of an order stay below 2^64, where the bar's time and the delay setting are.
-use Rattle.words.specs.Prelude.{ℕ, _-_, _<_, Bool, true, false, cond, List, arith, ltb, Float}
+use Rattle.words.specs.Prelude.{ℕ, _-_, _<_, Bool, true, false, cond, List, arith, Float}
 use Rattle.floats.specs.{Floats._⊗_, Floats._≺_, Floats.eps}
 use Rattle.rows.specs.{History.History}
-use Rattle.portfolio.specs.{declared.Candle.Candle, declared.Closed.Closed, declared.Portfolio.Portfolio, Portfolio.inPosition, Portfolio.isLong}
+use Rattle.portfolio.specs.{declared.Candle.Candle, declared.Portfolio.Portfolio, Portfolio.inPosition}
 use Rattle.portfolio.specs.{Portfolio.funded, Portfolio.worsened, Portfolio.entered, Portfolio.exited}
 use Rattle.execution.specs.{declared.fills.Entry.Entry, declared.fills.Entry.the-variants.NoEntry, declared.fills.Entry.the-variants.TooLarge}
 use Rattle.execution.specs.{declared.fills.Entry.the-variants.Entered, declared.fills.Exit.Exit, declared.fills.Exit.the-variants.NoExit}
 use Rattle.execution.specs.{declared.fills.Exit.the-variants.Exited, declared.costs.Funding.Funding, declared.costs.Funding.the-variants.NotSupplied}
-use Rattle.execution.specs.{declared.costs.Funding.the-variants.Supplied, declared.optional.Optional.Optional, declared.optional.Optional.the-variants.Absent}
+use Rattle.execution.specs.{declared.costs.Funding.the-variants.Supplied, declared.optional.Optional.Optional}
 use Rattle.execution.specs.{declared.lots.Quantity.Quantity, declared.lots.Quantity.the-variants.Nothing, declared.lots.Quantity.the-variants.Of}
-use Rattle.execution.specs.{declared.level.OrderKind.OrderKind, declared.level.Side.Side, declared.level.Side.the-variants.Long}
-use Rattle.execution.specs.{declared.level.Side.the-variants.Short, declared.terms.Terms.Terms, declared.intrabar.Trigger.Trigger}
-use Rattle.execution.specs.{declared.intrabar.Trigger.the-variants.Untouched, declared.intrabar.Trigger.the-variants.At, Costs.slippageRate, Costs.fillPrice}
+use Rattle.execution.specs.{declared.level.Side.Side, declared.terms.Terms.Terms, Costs.slippageRate, Costs.fillPrice}
 use Rattle.execution.specs.{Costs.closed, Costs.withFunding, Costs.chargeFunding, Fills.direction, Fills.volatilityFor, Fills.quantity, Fills.probeQty}
-use Rattle.execution.specs.{Fills.withinVolume, Fills.entryWith, Fills.executeEntry, Fills.executeExit, Lots.isTooLarge, Lots.orZero, Level.levelFill}
-use Rattle.execution.specs.{Intrabar.closedBy, Intrabar.applyIntrabarExits}
-use Rattle.records.specs.{declared.settings.Settings.Settings, declared.state.Order.Order, declared.state.Order.the-variants.Idle}
-use Rattle.records.specs.{declared.state.Order.the-variants.EnterLong, declared.state.Order.the-variants.EnterShort}
-use Rattle.records.specs.{declared.state.Order.the-variants.Exit as ExitOrder, declared.state.Position.Position, declared.state.State.State, Bar.candleOf}
-use Rattle.records.specs.{Lent.Lists, Lent.Rooms, StateWords.orderDelay}
+use Rattle.execution.specs.{Fills.withinVolume, Fills.entryWith, Fills.executeEntry, Lots.isTooLarge, Lots.orZero}
+use Rattle.records.specs.{declared.settings.Settings.Settings, declared.state.Order.Order}
+use Rattle.records.specs.{declared.state.Position.Position, declared.state.State.State, Bar.candleOf, Lent.Lists, Lent.Rooms, StateWords.orderDelay}
 use Rattle.engine.specs.{declared.account.Due.Due, declared.account.Due.the-variants.Waits, declared.account.Due.the-variants.Enters}
-use Rattle.engine.specs.{declared.account.Due.the-variants.Leaves, Account.leaving, Account.facing, Account.entering, Account.dueIfReached, Account.dueOf}
-use Rattle.engine.specs.{Account.doneOf, Account.filled, Account.intrabar, Account.charged, Decide.Answers, Decide.ordered, Decide.openingOrder}
-use Rattle.engine.specs.{Decide.closingOrder, Decide.orderAfter, Decide.decided, Step.stepped}
-use Rattle.execution.specs.declared.optional.Optional.the-variants as Optional
+use Rattle.engine.specs.{declared.account.Due.the-variants.Leaves, Account.leaving, Account.facing, Account.entering, Account.dueOf}
+use Rattle.engine.specs.{Account.doneOf, Account.filled, Account.intrabar, Account.charged, Decide.Answers, Decide.orderAfter, Decide.decided, Step.stepped}
+use Rattle.runs.specs.{Laws.Exits.LeftWith, Laws.Exits.left, Laws.Exits.executed-leaves, Laws.Exits.inside-leaves}
+use Rattle.runs.specs.{Laws.Orders.filled-keeps, Laws.Orders.ordered-keeps, Laws.Orders.decided-keeps}
 use Rattle.execution.specs.declared.lots.Quantity.the-variants as Quantity
 use Rattle.engine.specs.Account as Account
 
@@ -44,26 +39,14 @@ facing-timed : (p : Position) (k : Candle) → Timed (p .portfolio) → Timed (f
 unfolding facing worsened
 facing-timed p k h = timed-either (inPosition (p .portfolio)) _ (p .portfolio) h h
 
-data TimedExit : Exit → Type 0 where
-  stayed : TimedExit NoExit
-  left : (c : Closed) → Timed (c .portfolio) → TimedExit (Exited c)
-
-exit-if : (b : Bool) (x : Exit) → TimedExit x → TimedExit (cond b x NoExit)
-exit-if true x h = h
-exit-if false x h = stayed
-
-closed-timed : (p : Portfolio) (price : Float) (time : ℕ) (bps : Float) (reason : ℕ) → Timed p → TimedExit (Exited (closed p price time bps reason))
+closed-timed : (p : Portfolio) (price : Float) (time : ℕ) (bps : Float) (reason : ℕ) → Timed p → Timed (closed p price time bps reason .portfolio)
 unfolding closed exited
-closed-timed p price time bps reason h = left (closed p price time bps reason) h
+closed-timed p price time bps reason h = h
 
-leaving-timed : (p : Position) (x : Exit) → Timed (p .portfolio) → TimedExit x → Timed (leaving p x .portfolio)
+leaving-timed : (p : Position) (x : Exit) → Timed (p .portfolio) → LeftWith Timed x → Timed (leaving p x .portfolio)
 unfolding leaving
 leaving-timed p NoExit h e = h
 leaving-timed p (Exited c) h (left _ i) = i
-
-executed-timed : (reason : ℕ) (raw : Float) (terms : Terms) (k : Candle) (p : Portfolio) → Timed p → TimedExit (executeExit reason raw terms k p)
-unfolding executeExit
-executed-timed reason raw terms k p h = exit-if (inPosition p) _ (closed-timed p _ (k .time) (terms .«taker_bps») reason h)
 
 data TimedEntry : Entry → Type 0 where
   none : TimedEntry NoEntry
@@ -108,19 +91,15 @@ unfolding doneOf Account.entryFilled Account.exitFilled
 filled-timed (Waits order) s p k before n t h = h
 filled-timed (Enters side kind price) s p k before n t h = entering-timed p _ n h (entry-timed side price _ (s .terms) k (p .portfolio) before t)
 filled-timed Leaves s p k before n t h =
-    leaving-timed (facing p k) _ (facing-timed p k h) (executed-timed _ (k .«open») (s .terms) k (facing p k .portfolio) (facing-timed p k h))
-
-touched-timed : (x : Trigger) (k : Candle) (terms : Terms) (p : Portfolio) → Timed p → TimedExit (closedBy x k terms p)
-unfolding closedBy
-touched-timed Untouched k terms p h = stayed
-touched-timed (At price reason) k terms p h = closed-timed p price (k .time) (terms .«taker_bps») reason h
+    leaving-timed (facing p k) _ (facing-timed p k h)
+    (executed-leaves Timed closed-timed _ (k .«open») (s .terms) k (facing p k .portfolio) (facing-timed p k h))
 
 intrabar-timed : (s : Settings) (p : Position) (k : Candle) → Timed (p .portfolio) → Timed (intrabar s p k .position .portfolio)
-unfolding intrabar applyIntrabarExits
+unfolding intrabar
 intrabar-timed s p k h =
     let q : Portfolio = facing p k .portfolio in
     let held : Timed q = facing-timed p k h in
-    leaving-timed (record { portfolio = q; entered = _; extreme = _ }) _ held (exit-if (inPosition q) _ (touched-timed _ k (s .terms) q held))
+    leaving-timed (record { portfolio = q; entered = _; extreme = _ }) _ held (inside-leaves Timed closed-timed k (s .terms) q _ held)
 
 funding-timed : (f : Funding) (p : Portfolio) → Timed p → Timed (withFunding f p)
 unfolding withFunding funded
@@ -138,53 +117,16 @@ charged-timed s p bar h =
 abbrev Delayed : Order → Type 0
 Delayed o = Word64 (orderDelay o)
 
-module _ (s : Settings) (p : Position) (k : Candle) (before : History) (number : ℕ) where
-  abbrev DueDelayed : Due → Type 0
-  DueDelayed due = Delayed (doneOf due s p k before number .order)
-
-  due-either : (b : Bool) (x y : Due) → DueDelayed x → DueDelayed y → DueDelayed (cond b x y)
-  due-either true x y h i = h
-  due-either false x y h i = i
-
-  reached-delayed : (side : Side) (kind : OrderKind) (o : Order) (x : Optional) → Delayed o → DueDelayed (dueIfReached side kind o x)
-  unfolding dueIfReached doneOf Account.entryFilled orderDelay
-  reached-delayed side kind o Absent h = h
-  reached-delayed side kind o (Optional.Of price) h = omega arith
-
-  waits-delayed : (o : Order) → Delayed o → Delayed (filled s o p k before number .order)
-  unfolding filled dueOf doneOf Account.exitFilled orderDelay
-  waits-delayed Idle h = omega arith
-  waits-delayed (EnterLong n kind) h =
-      due-either (ltb 0 n) (Waits (EnterLong (n - 1) kind)) _ (omega arith) (reached-delayed Long kind (EnterLong n kind) (levelFill Long kind k) h)
-  waits-delayed (EnterShort n kind) h =
-      due-either (ltb 0 n) (Waits (EnterShort (n - 1) kind)) _ (omega arith) (reached-delayed Short kind (EnterShort n kind) (levelFill Short kind k) h)
-  waits-delayed (ExitOrder n) h = due-either (ltb 0 n) (Waits (ExitOrder (n - 1))) Leaves (omega arith) (omega arith)
-
-ordered-delayed : (delay : ℕ) (kind : OrderKind) (p : Portfolio) (a : Answers) → Word64 delay → Delayed (ordered delay kind p a)
-unfolding ordered openingOrder closingOrder orderDelay
-ordered-delayed delay kind p a h = go (inPosition p) (isLong p) (a .«exit») (a .«short_exit») (a .entry) (a .«short_entry»)
-  where
-    go : (b c d e f g : Bool) → Delayed (cond b (cond c (closingOrder delay d) (closingOrder delay e)) (openingOrder delay kind f g))
-    go true true true e f g = h
-    go true true false e f g = omega arith
-    go true false d true f g = h
-    go true false d false f g = omega arith
-    go false c d e true g = h
-    go false c d e false true = h
-    go false c d e false false = omega arith
-
-order-either : (b : Bool) (x y : Order) → Delayed x → Delayed y → Delayed (cond b x y)
-order-either true x y h i = h
-order-either false x y h i = i
+waits-delayed : (s : Settings) (p : Position) (k : Candle) (before : History) (number : ℕ) (o : Order) → Delayed o
+    → Delayed (filled s o p k before number .order)
+unfolding orderDelay
+waits-delayed = filled-keeps Delayed (omega arith) (λ n kind h. omega arith) (λ n kind h. omega arith) (λ n h. omega arith)
 
 decided-delayed : (s : Settings) (o : Order) (p : Position) (number : ℕ) (close : Float) (a : Answers) → Word64 (s .delay) → Delayed o
     → Delayed (orderAfter s o p number close a)
-unfolding orderAfter
-decided-delayed s (EnterLong n kind) p number close a d h = h
-decided-delayed s (EnterShort n kind) p number close a d h = h
-decided-delayed s (ExitOrder n) p number close a d h = h
-decided-delayed s Idle p number close a d h =
-    order-either (ltb number (s .warmup)) Idle _ h (ordered-delayed (s .delay) _ (p .portfolio) a d)
+unfolding orderDelay
+decided-delayed s o p number close a d =
+    decided-keeps Delayed s o p number close a (ordered-keeps Delayed (s .delay) _ (p .portfolio) a (omega arith) d d d)
 
 -- ---- a bar
 
