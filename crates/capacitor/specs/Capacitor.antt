@@ -71,12 +71,16 @@ pub record Capacitor (table settings : List ℕ) (ls : Lists) (box : StepLent) (
       → settingsOf settings .depth ≤ rowPlaces (settingsOf settings .slots) (l .rows)
       → Restored settings ls box (losses ++ (pagesDone settings ls (lastBox settings box losses) page l ∷ []))
 
--- THE STATEMENT: for a box that is begun, with the lists of an accepted table and a D as `ysh_depth` answers, or more; any losses, each driven by the rules
+-- EVERY LIFE of a box that is begun, with the lists of an accepted table and a D as `ysh_depth` answers, or more; any losses, each driven by the rules
 -- and restored with an answer of 0; and any bars since: all of 64-bit words, at most 4,294,967,295 of them, and the last not refused with 14 (a full room).
-abbrev pub CapacitorTheorem : Type 0
-CapacitorTheorem =
+abbrev pub InEveryLife : (List ℕ → List ℕ → Lists → StepLent → List Loss → List (List ℕ) → Type 0) → Type 0
+InEveryLife claim =
     (table settings : List ℕ) (ls : Lists) (box : StepLent) → Begun table settings ls box
     → (losses : List Loss) → Restored settings ls box losses
     → (bars : List (List ℕ)) → Bars64 (barsBefore losses ++ bars) → length (barsBefore losses ++ bars) ≤ mostCount
     → (now settings ls box losses bars .answer / 2 ^ 32 ≡ 14 → ⊥)
-    → Capacitor table settings ls box losses bars
+    → claim table settings ls box losses bars
+
+-- THE STATEMENT
+abbrev pub CapacitorTheorem : Type 0
+CapacitorTheorem = InEveryLife Capacitor

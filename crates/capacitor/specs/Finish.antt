@@ -1,17 +1,16 @@
 -- FINISH AFTER LOSSES, in the words of the C calls. `ysh_finish` measures the points and trades of its own life. The figures of the whole run are what
 -- `ysh_metrics` gives over the points and trades of before, put in front of its own.
-use Rattle.words.specs.Prelude.{ℕ, _/_, _^_, _-_, _≤_, _≡_, cond, List, [], _++_, ltb, length, set}
-use Rattle.words.specs.{Limits.metricWords, Limits.mostCount, Words.overwrite, Words.word}
+use Rattle.words.specs.Prelude.{ℕ, _-_, _≤_, _≡_, cond, List, [], _++_, ltb, length, set}
+use Rattle.words.specs.{Limits.metricWords, Words.overwrite, Words.word}
 use Rattle.floats.specs.{Floats.wordOf}
 use Rattle.portfolio.specs.{Portfolio.equity}
 use Rattle.metrics.specs.{Figures.figureWords}
 use Rattle.records.specs.{declared.state.State.State, Lent.Lists, Lent.rooms, Settings.settingsOf, StateWords.stateOf}
 use Rattle.engine.specs.{Whole.Ledger, Whole.wholeEnd, Whole.wholeMetrics}
-use Rattle.restart.specs.{Laws.Reached64.Bars64}
 use Rattle.replies.specs.{Call.Call}
 use Rattle.stepping.specs.{Bars.StepLent}
 use Rattle.capi.specs.{Figures.metricsCall, Finish.FinishLent, Finish.finishCall}
-use Rattle.capacitor.specs.{Begun.Begun, Capacitor.now, Capacitor.unbroken, Loss.Loss, Loss.Restored, Loss.barsBefore, Loss.pointsIn, Loss.tradesIn}
+use Rattle.capacitor.specs.{Capacitor.InEveryLife, Capacitor.now, Capacitor.unbroken, Loss.Loss, Loss.pointsIn, Loss.tradesIn}
 use Rattle.capacitor.specs.{Loss.pointsBefore, Loss.tradesBefore}
 
 -- `ysh_finish` of the box as it is now, and the box that it leaves
@@ -55,9 +54,6 @@ pub record FinishAfterLosses (table settings : List ℕ) (ls : Lists) (box : Ste
 -- THE STATEMENT: with the premises of the capacitor theorem, where `ysh_finish` answers 0, over a buffer for the figures.
 abbrev pub FinishTheorem : Type 0
 FinishTheorem =
-    (table settings : List ℕ) (ls : Lists) (box : StepLent) → Begun table settings ls box
-    → (losses : List Loss) → Restored settings ls box losses
-    → (bars : List (List ℕ)) → Bars64 (barsBefore losses ++ bars) → length (barsBefore losses ++ bars) ≤ mostCount
-    → (now settings ls box losses bars .answer / 2 ^ 32 ≡ 14 → ⊥)
-    → (metrics : List ℕ) → metricWords ≤ length metrics → finishNow settings ls box losses bars metrics .answer ≡ 0
-    → FinishAfterLosses table settings ls box losses bars metrics
+    InEveryLife (λ table settings ls box losses bars.
+    (metrics : List ℕ) → metricWords ≤ length metrics → finishNow settings ls box losses bars metrics .answer ≡ 0
+    → FinishAfterLosses table settings ls box losses bars metrics)

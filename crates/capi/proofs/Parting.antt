@@ -7,7 +7,7 @@ use Rattle.refusals.specs.{Lines.judged, Rooms.roomLines, Laws.Lines.below-fine
 use Rattle.images.specs.{Layout.imageOf, Refused.leftBy}
 use Rattle.dumpable.specs.{Refused.partLines, Refused.partJudged}
 use Rattle.dump.specs.{declared.part.Parted.Parted, declared.part.Parted.the-variants.Refused, declared.part.Parted.the-variants.Used, Parts.bytesFrom}
-use Rattle.dump.specs.{Parts.partedBy, Parts.PartDumped, Laws.PartFine.WordsFit, Laws.PartFine.WordsParted, Laws.PartFine.words-fit}
+use Rattle.dump.specs.{Parts.partedBy, Parts.PartDumped, Laws.WordsFit.WordsFit, Laws.WordsFit.WordsParted, Laws.WordsFit.words-fit}
 use Rattle.replies.specs.{Call.Call, Call.answerWord, Call.wordLines}
 use Rattle.stepping.specs.{Bars.lentLines}
 use Rattle.capi.specs.{Part.PartLent, Part.partGives, Part.filledWith, Part.partCall}

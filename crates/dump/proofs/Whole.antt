@@ -1,5 +1,5 @@
 -- What a dump or a part writes is the image's: its words, its rows and its size, put together.
-use Rattle.words.specs.Prelude.{ℕ, _-_, _/_, _≤_, min, _≡_, sym, ap, _∙_, List, length, drop}
+use Rattle.words.specs.Prelude.{ℕ, _+_, _-_, _*_, _/_, _≤_, min, mul-le-mul-left, mul-le-mul-right, arith, _≡_, sym, ap, _∙_, List, length, drop}
 use Rattle.words.specs.{Limits.rowWords}
 use Rattle.rows.specs.{History.historyOf}
 use Rattle.records.specs.{declared.settings.Settings.Settings, declared.state.State.State, Lent.rowPlaces, StateWords.wordsOf}
@@ -8,6 +8,10 @@ use Rattle.heads.specs.{Laws.Packed.headWords}
 use Rattle.dump.specs.{Order.written, Parts.PartLaid, Laws.Laid.laid-none, Laws.InOrder.inOrder, Laws.Image.image-head, Laws.Image.image-body}
 use Rattle.dump.specs.{Laws.Image.image-in-order, Laws.Placed.headLaid, Laws.Placed.rowsLaid, Laws.Placed.placed, Laws.Placed.part-laid}
 use Rattle.dump.specs.{Laws.Parts.size-of}
+
+-- D rows of the widest are few bytes
+pub few-bytes : (slots depth : ℕ) → slots ≤ 64 → depth ≤ 4096 → depth * (8 * (7 + slots)) ≤ 2326528
+few-bytes slots depth h k = omega (arith, mul-le-mul-left {m = 8 * (7 + slots)} {n = 568} depth (omega arith), mul-le-mul-right 568 k)
 
 pub dumped : (s : Settings) (t : State) (room area : List ℕ) (from upto count body : ℕ) {out head kept : List ℕ}
     → t .counts .«rows_held» ≤ rowPlaces (s .slots) room → kept ≡ windowOf s t room → count ≡ historyOf (s .slots) kept .rows

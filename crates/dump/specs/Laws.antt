@@ -3,5 +3,5 @@ pub mod WordBytes
 pub mod InOrder
 pub mod Image
 pub mod Placed
-pub mod PartFine
+pub mod WordsFit
 pub mod Parts

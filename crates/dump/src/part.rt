@@ -29,7 +29,8 @@ ghost use Rattle.dump.specs.Laws.Laid.{laid};
 ghost use Rattle.heads.specs.Laws.Packed.{headWords};
 ghost use Rattle.heads.specs.Laws.Plain.{plainWords};
 ghost use Rattle.dump.specs.Laws.Placed.{headLaid, rowsLaid};
-ghost use Rattle.dump.specs.Laws.PartFine.{PartFine, WordsFit, WordsParted};
+ghost use Rattle.dumpable.specs.Laws.Fine.{PartFine};
+ghost use Rattle.dump.specs.Laws.WordsFit.{WordsFit, WordsParted};
 
 // What a part comes to: how many bytes were written.
 pub enum Parted {

@@ -3,6 +3,7 @@ use crate::names;
 use crate::say::say;
 use crate::say::say_number;
 use crate::say::say_value;
+use chain::lines;
 ghost use Prim.Native.Nat.{_≤_};
 
 // Where a line has its words.
@@ -21,23 +22,6 @@ const SECOND: usize = 5;
 const THIRD: usize = 6;
 
 const FOURTH: usize = 7;
-
-const LINE_WORDS: usize = 8;
-
-// What a line shows; 7 is no entry.
-const LINK: u64 = 0;
-
-const VALUES: u64 = 1;
-
-const MISSING: u64 = 2;
-
-const AT_FIRST_BAR: u64 = 3;
-
-const TOO_FEW_BARS: u64 = 4;
-
-const POSITION: u64 = 5;
-
-const SINCE_ENTRY: u64 = 6;
 
 // A refusal's number stands in the upper half of an answer, its place in the lower.
 const HALF: u64 = 4_294_967_296;
@@ -103,13 +87,17 @@ fn say_link(kind: u8, next: u64, last: bool) {
 fn say_shown(t: &[u8], kind: u8, list: &[u64], at: usize, last: bool) {
     let first = words::word_from(list, at, FIRST);
     match words::word_from(list, at, SHOWS) {
-        LINK => say_link(kind, words::word_from(list, at, LINE_WORDS + NODE), last),
-        VALUES => say_values(list, at, words::word_from(list, at, USED)),
-        MISSING => say_missing(t, first, words::word_from(list, at, SECOND)),
-        AT_FIRST_BAR => say(b"the first bar has none before it"),
-        TOO_FEW_BARS => say(b"too few bars"),
-        POSITION => say(b"by the position"),
-        SINCE_ENTRY => {
+        lines::LINK => say_link(
+            kind,
+            words::word_from(list, at, lines::LINE_WORDS + NODE),
+            last,
+        ),
+        lines::VALUES => say_values(list, at, words::word_from(list, at, USED)),
+        lines::MISSING => say_missing(t, first, words::word_from(list, at, SECOND)),
+        lines::AT_FIRST_BAR => say(b"the first bar has none before it"),
+        lines::TOO_FEW_BARS => say(b"too few bars"),
+        lines::POSITION => say(b"by the position"),
+        lines::SINCE_ENTRY => {
             say_number(first);
             say(b" bars since the entry");
         }
@@ -139,7 +127,7 @@ fn say_lines(t: &[u8], list: &[u64], count: usize)
 {
     let mut i: usize = 0;
     while i < count {
-        say_line(t, list, LINE_WORDS * i, i + 1 == count);
+        say_line(t, list, lines::LINE_WORDS * i, i + 1 == count);
         i += 1;
     }
 }

@@ -8,8 +8,8 @@ use Rattle.refusals.specs.{Lines.judged, Rooms.roomLines, Rooms.stateLines, Set
 use Rattle.refusals.specs.{Settings.termLines, Settings.entryLines, Settings.settingLines, Laws.Lines.both-fine}
 use Rattle.images.specs.{Layout.dumpBytes, Layout.sizeFor, Layout.imageOf}
 use Rattle.dumpable.specs.{Refused.areaLines, Refused.dumpStateLines, Refused.dumpLines, Refused.dumpJudged, Refused.partLines, Refused.partJudged}
-use Rattle.dumpable.specs.{Laws.Fine.dump-fine}
-use Rattle.dump.specs.{Order.written, Parts.bytesFrom, Laws.PartFine.fine-part, Laws.Parts.inParts, Laws.Parts.total, Laws.Parts.parts-are-whole}
+use Rattle.dumpable.specs.{Laws.Fine.dump-fine, Laws.Fine.fine-part}
+use Rattle.dump.specs.{Order.written, Parts.bytesFrom, Laws.Parts.inParts, Laws.Parts.total, Laws.Parts.parts-are-whole}
 use Rattle.dump.specs.{Laws.Parts.size-of, Laws.Parts.whole-written}
 use Rattle.replies.specs.{Call.Call, Call.callOf, Call.unlessBad}
 use Rattle.stepping.specs.{Bars.lentLines}

@@ -7,15 +7,6 @@ use Rattle.heads.specs.{Laws.Packed.headWords, Laws.Plain.plain-words}
 use Rattle.dump.proofs.{Whole.dumped, direct.write_words.Statement.statement}
 use Rattle.dump.proofs.direct.write_words.Tie as tie
 
-shared-slice-read-slots : tie.Need-shared-slice-read-slots
-shared-slice-read-slots c = omega (arith, c .before .before .before .before .before .pre .long)
-
-shared-slice-read-depth : tie.Need-shared-slice-read-depth
-shared-slice-read-depth c = omega (arith, c .before .before .before .before .before .before .pre .long)
-
-shared-slice-read-held : tie.Need-shared-slice-read-held
-shared-slice-read-held c = omega (arith, c .before .before .before .before .before .before .before .pre .full)
-
 held-window-requires : tie.Need-held-window-requires
 unfolding settingsOf stateOf countsOf
 held-window-requires c κs =
@@ -55,6 +46,7 @@ returns c =
 
 pub write-words-spec : {M : Type 1} → statement M
 write-words-spec =
-    tie.close (tie.spec shared-slice-read-slots shared-slice-read-depth shared-slice-read-held held-window-requires
-    (λ c κs. search needs) (λ c κs. search needs) (λ c. search needs) body-words-requires write-order-requires
-    (λ c. search needs) returns)
+    tie.close (tie.spec (λ c. omega (arith, c .before .before .before .before .before .pre .long))
+    (λ c. omega (arith, c .before .before .before .before .before .before .pre .long))
+    (λ c. omega (arith, c .before .before .before .before .before .before .before .pre .full)) held-window-requires (λ c κs. search needs)
+    (λ c κs. search needs) (λ c. search needs) body-words-requires write-order-requires (λ c. search needs) returns)

@@ -1,6 +1,6 @@
 -- Refused, or written.
 use Rattle.words.specs.Prelude.{sym, _∙_, needs}
-use Rattle.dump.specs.{Laws.PartFine.part-fine}
+use Rattle.dumpable.specs.{Laws.Fine.part-fine}
 use Rattle.dump.proofs.{Answers.part-refused, Answers.part-done, part.part.Statement.statement}
 use Rattle.dump.proofs.part.part.Tie as tie
 

@@ -1,6 +1,6 @@
 -- Words that pass are written; else nothing is.
 use Rattle.words.specs.Prelude.{refl, sym, _∙_, needs}
-use Rattle.dump.specs.{Laws.PartFine.words-fit}
+use Rattle.dump.specs.{Laws.WordsFit.words-fit}
 use Rattle.dump.proofs.{part.part_words.Statement.statement}
 use Rattle.dump.proofs.part.part_words.Tie as tie
 

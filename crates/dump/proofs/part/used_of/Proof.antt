@@ -1,12 +1,8 @@
 -- D rows of the widest are few bytes.
-use Rattle.words.specs.Prelude.{ℕ, _+_, _-_, _*_, _≤_, min, ap, _∙_, mul-le-mul-left, mul-le-mul-right, arith, needs}
+use Rattle.words.specs.Prelude.{ℕ, _+_, _-_, min, ap, _∙_, arith, needs}
 use Rattle.images.specs.{Layout.dumpBytes}
-use Rattle.dump.proofs.{part.used_of.Statement.statement}
+use Rattle.dump.proofs.{Whole.few-bytes, part.used_of.Statement.statement}
 use Rattle.dump.proofs.part.used_of.Tie as tie
-
-few-bytes : (slots depth : ℕ) → slots ≤ 64 → depth ≤ 4096 → depth * (8 * (7 + slots)) ≤ 2326528
-few-bytes slots depth h k =
-    omega (arith, mul-le-mul-left {m = 8 * (7 + slots)} {n = 568} depth (omega arith), mul-le-mul-right 568 k)
 
 mul-clip : tie.Need-mul-clip
 mul-clip c = let s = c .before in omega (arith, c .body-words .ensures, few-bytes (s .args .slots) (s .args .depth) (s .pre .0) (s .pre .1))

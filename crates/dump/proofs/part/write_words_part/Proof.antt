@@ -3,18 +3,9 @@ use Rattle.words.specs.Prelude.{sym, ap, arith, needs}
 use Rattle.records.specs.{Settings.settingsOf, StateWords.countsOf, StateWords.stateOf}
 use Rattle.images.specs.{Layout.windowOf}
 use Rattle.heads.specs.{Laws.Packed.headWords, Laws.Plain.plain-words}
-use Rattle.dump.specs.{Laws.PartFine.part-fine}
+use Rattle.dumpable.specs.{Laws.Fine.part-fine}
 use Rattle.dump.proofs.{Whole.parted-none, Whole.parted, part.write_words_part.Statement.statement}
 use Rattle.dump.proofs.part.write_words_part.Tie as tie
-
-shared-slice-read-slots : tie.Need-shared-slice-read-slots
-shared-slice-read-slots c = omega (arith, c .before .before .before .before .before .pre .long)
-
-shared-slice-read-depth : tie.Need-shared-slice-read-depth
-shared-slice-read-depth c = omega (arith, c .before .before .before .before .before .before .pre .long)
-
-shared-slice-read-held : tie.Need-shared-slice-read-held
-shared-slice-read-held c = omega (arith, c .before .before .before .before .before .before .before .pre .full)
 
 used-of-requires : tie.Need-used-of-requires
 unfolding settingsOf
@@ -68,5 +59,7 @@ returns-2 c =
 
 pub write-words-part-spec : {M : Type 1} → statement M
 write-words-part-spec =
-    tie.close (tie.spec shared-slice-read-slots shared-slice-read-depth shared-slice-read-held used-of-requires returns
-    held-window-requires (λ c κs. search needs) lay-direct-head-requires lay-rows-requires (λ c. search needs) returns-2)
+    tie.close (tie.spec (λ c. omega (arith, c .before .before .before .before .before .pre .long))
+    (λ c. omega (arith, c .before .before .before .before .before .before .pre .long))
+    (λ c. omega (arith, c .before .before .before .before .before .before .before .pre .full)) used-of-requires returns held-window-requires
+    (λ c κs. search needs) lay-direct-head-requires lay-rows-requires (λ c. search needs) returns-2)
