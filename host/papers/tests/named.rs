@@ -4,7 +4,7 @@ use papers::{files, is_paper, names, paths, quoted, text};
 use std::collections::BTreeSet;
 
 /// What papers name that is not the repository's: tools, other programs' options, processors, the C library, the Rust original.
-const OUTSIDE: [&str; 25] = [
+const OUTSIDE: [&str; 26] = [
     "malloc",
     "memcpy",
     "memset",
@@ -17,7 +17,8 @@ const OUTSIDE: [&str; 25] = [
     "valgrind",
     "perf",
     "qemu",
-    "-fstack-size-section",
+    "-fprofile-use",
+    "-fno-slp-vectorize",
     "--gc-sections",
     "--tool",
     "-DSEALED",
