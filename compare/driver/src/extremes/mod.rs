@@ -56,10 +56,38 @@ fn rule(bytes: &[u8], tree: u64, rows: &[u64]) -> Result<bool, u64> {
     }
 }
 
-/// Bars whose prices and slots are often equal, and a slot now and then absent.
-fn bars(dice: &mut Dice, slots: u8, count: u64) -> Vec<Bar> {
+/// What the prices and slots of bars are: often equal; below and above zero, with zeros of both signs; or all that a kept row may hold.
+#[derive(Clone, Copy, PartialEq)]
+enum Sort {
+    Prices,
+    AroundZero,
+    Any,
+}
+
+const ANY: [f64; 9] = [
+    f64::NEG_INFINITY,
+    -1.0,
+    -5e-324,
+    -0.0,
+    0.0,
+    5e-324,
+    1.0,
+    f64::INFINITY,
+    f64::NAN,
+];
+
+fn near(dice: &mut Dice, sort: Sort) -> f64 {
+    match sort {
+        Sort::Prices => 95.0 + dice.below(20) as f64 / 2.0,
+        Sort::AroundZero => dice.pick(&[-1.0, -0.5, -0.0, -0.0, 0.0, 0.0, 0.5, 1.0]),
+        Sort::Any => dice.pick(&ANY),
+    }
+}
+
+/// Bars of such prices and slots, and a slot now and then absent.
+fn bars(dice: &mut Dice, slots: u8, count: u64, sort: Sort) -> Vec<Bar> {
     let mut bar = || {
-        let near = |dice: &mut Dice| 95.0 + dice.below(20) as f64 / 2.0;
+        let near = |dice: &mut Dice| near(dice, sort);
         let mut candle = dice.candle();
         (candle.open, candle.high) = (near(dice), near(dice));
         (candle.low, candle.close, candle.volume) = (near(dice), near(dice), near(dice));
@@ -115,7 +143,10 @@ fn some_trees(dice: &mut Dice) -> (u8, Condition, Condition) {
 /// A table of two random trees, with so many rows.
 pub fn some_table_and_rows(dice: &mut Dice, count: u64) -> (Vec<u8>, Vec<u64>) {
     let (slots, entry, exit) = some_trees(dice);
-    (table(2, slots, [&entry, &exit]), words(&bars(dice, slots, count)))
+    (
+        table(2, slots, [&entry, &exit]),
+        words(&bars(dice, slots, count, Sort::Prices)),
+    )
 }
 
 /// A table of two random trees: its check, its rules, and a damaged copy.
@@ -126,7 +157,8 @@ fn random(dice: &mut Dice) -> Outcome {
     same("the check", check(&bytes), answer)?;
     if let Ok((_, depth)) = answer {
         for count in [0, 1, depth - 1, depth, depth + dice.below(30)] {
-            let rows = words(&bars(dice, slots, count));
+            let sort = dice.pick(&[Sort::Prices, Sort::Prices, Sort::AroundZero, Sort::Any]);
+            let rows = words(&bars(dice, slots, count, sort));
             ask(&bytes, depth, [&entry, &exit], &rows)?;
         }
     }
@@ -168,7 +200,9 @@ fn breakout(dice: &mut Dice) -> Outcome {
     let before = Condition::All((later..later + n).map(each).collect());
     let (new, old) = (table(2, slots, [&now, &now]), table(1, slots, [&before, &before]));
     let text = Table::of(&old).trees[0].clone().expect("an entry");
-    let bars = bars(dice, slots, (later + n + 6).into());
+    // a NaN is passed over by Highest, and is no close that a bar has
+    let sort = dice.pick(&[Sort::Prices, Sort::Prices, Sort::AroundZero]);
+    let bars = bars(dice, slots, (later + n + 6).into(), sort);
     let history = history(&bars);
     for count in 0..=bars.len() {
         let rows = words(&bars[..count]);
