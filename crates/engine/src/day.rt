@@ -192,8 +192,8 @@ fn unlisted(
     }
 }
 
-// Bars, one after another, until one is refused: one, or many. The settings are handed over as their words. Any settings, state, bars and rooms get an answer; the bar that is refused
-// changes nothing.
+// Bars, one after another, until one is refused: one, or many. The settings are handed over as their words. Any settings, state, bars and rooms get an
+// answer; the bar that is refused changes nothing.
 pub fn run_bars<'a>(
     span: Span,
     settings: &[u64],
