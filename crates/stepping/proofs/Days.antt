@@ -3,7 +3,7 @@ use Rattle.words.specs.Prelude.{ℕ, _≡_, refl, sym, ap, _∙_, Bool, true, f
 use Rattle.words.specs.{declared.refusal.Refusal.Refusal}
 use Rattle.records.specs.{declared.state.State.State, Lent.Rooms, Lent.Lists, Lent.rooms, Settings.settingsOf, StateWords.stateOf}
 use Rattle.refusals.specs.{declared.verdict.Verdict.Verdict, declared.verdict.Verdict.the-variants.Fine, declared.verdict.Verdict.the-variants.Bad}
-use Rattle.refusals.specs.{Day.dayLines, Laws.Descent.bad-block, Laws.Descent.fine-block, Lines.judged, Rooms.roomLines}
+use Rattle.refusals.specs.{Day.dayLines, Laws.Descent.bad-block, Laws.Descent.fine-block, Lines.Line, Lines.judged, Rooms.roomLines}
 use Rattle.engine.specs.{Day.dayOf, Day.firstRefused, Day.noBars, Day.runWith, Laws.Days.day-stops, Run.Run}
 use Rattle.replies.specs.{Call.Call, Call.answerWord, Call.wordLines}
 use Rattle.stepping.specs.{Bars.lentLines, Day.DayLent, Day.dayLentLines, Day.shortOf, Day.stateAfter, Day.dayGives, Day.dayCall, WordRun.answerOf}
@@ -31,18 +31,21 @@ module _ (span : Span) (settings state bars : List ℕ) (m : Rooms) (ls : Lists)
       let once : judged (dayLines span (settingsOf settings) (stateOf state) bars m) ≡ Bad why = unfold dayLines in sym (bad-block _ _ refl bad) in
       rw (day-stops span (settingsOf settings) (stateOf state) bars m ls some why once)
 
+  abbrev room : List Line
+  room = roomLines (settingsOf settings) (m .rows)
+
   -- so where settings and state have their words, the call is the run
   words-fine : judged (wordLines settings state) ≡ Fine → dayGives lent state m ran ≡ dayGives Fine state m ran
   unfolding dayLentLines lentLines
-  words-fine fine = go (noBars span bars) (judged (roomLines (settingsOf settings) (m .rows))) refl refl
+  words-fine fine = go (noBars span bars) (judged room) refl refl
     where
-      go : (none : Bool) (room : Verdict) → noBars span bars ≡ none → judged (roomLines (settingsOf settings) (m .rows)) ≡ room
-          → dayGives (judged (cond (noBars span bars) (wordLines settings state) (roomLines (settingsOf settings) (m .rows) ++ wordLines settings state))) state m ran
+      go : (none : Bool) (v : Verdict) → noBars span bars ≡ none → judged room ≡ v
+          → dayGives (judged (cond (noBars span bars) (wordLines settings state) (room ++ wordLines settings state))) state m ran
           ≡ dayGives Fine state m ran
-      go true room e f = rw (e, fine)
-      go false Fine e f = rw (e, ← fine-block (roomLines (settingsOf settings) (m .rows)) (wordLines settings state) (sym f) refl refl, fine)
+      go true v e f = rw (e, fine)
+      go false Fine e f = rw (e, ← fine-block room (wordLines settings state) (sym f) refl refl, fine)
       go false (Bad why) e f =
-          rw (e, ← bad-block (roomLines (settingsOf settings) (m .rows)) (wordLines settings state) {r = why} (sym f) refl) (room-refused why e f)
+          rw (e, ← bad-block room (wordLines settings state) {r = why} (sym f) refl) (room-refused why e f)
 
   module _ {v : Verdict} (short : v ≡ shortOf (judged (wordLines settings state)) lent) where
     -- what is refused of short words is what the call refuses

@@ -268,7 +268,7 @@ fn quick_rows(
 }
 
 // The row reached, and the best up to it.
-struct Reached {
+struct Looked {
     at: usize,
     best: f64,
 }
@@ -285,7 +285,7 @@ fn quick_from(
     best: f64,
     at: usize,
     newest: usize,
-) -> Reached
+) -> Looked
     requires { ⌜ (held ≡ historyOf slots (now rows) .rows) × (first ≤ held) × (at < newest) × (newest < held) ⌝ }
     ensures { λ r. ⌜ (r .at ≤ newest) × ((oldest : ℕ) → oldest ≤ at
         → Number best ≡ extremeOver (ringOf slots first (now (rows .entry))) kind (overOf slot which) oldest (at - oldest)
@@ -298,13 +298,13 @@ fn quick_from(
             let base = row * (words::limits::ROW_FIXED + slots);
             let count = from_there(held, row, newest - at);
             let quick = quick_rows(kind, rows, slots, base, count, slot, which, word);
-            return Reached {
+            return Looked {
                 at: at + (count - quick.left),
                 best: floats::float_of(quick.best),
             };
         }
     }
-    Reached { at, best }
+    Looked { at, best }
 }
 
 // The best of the rows from `oldest` to `last`, where that of the oldest is `start`.

@@ -132,7 +132,8 @@ keeps Many K room before bar ok first =
 
 -- THE ROW WRITTEN AT ITS PLACE is added to the rows as they would stand
 pub placed : (span : Span) (K : ℕ) (room : List ℕ) (before : Ring) (bar : List ℕ) → RingFine (length room / width K) before → (span ≡ One → before .start ≡ 0)
-    → {p : Place} → PlaceFor span (width K) room before p → {rows : List ℕ} → rows ≡ rowPlaced room p (rowOf K bar) → Keeps span K room before bar (p .ring) rows
+    → {p : Place} → PlaceFor span (width K) room before p → {rows : List ℕ} → rows ≡ rowPlaced room p (rowOf K bar)
+    → Keeps span K room before bar (p .ring) rows
 placed span K room before bar ok first place was =
     let long = row-long K bar in
     rw (place .ring (rowOf K bar) long, was ∙ place .added (rowOf K bar) long) (keeps span K room before bar ok first)

@@ -38,7 +38,8 @@ add-many : tie.Need-add-many
 add-many c =
     let w = c .before .before in
     let begin = w .before .before .before .before .before .before .before .before .before .before in
-    record { fits = small _ _ (lines-fit (counted w) (begin .args .lines .now) (sym (c .before .holds .ensures) ∙ c .if1 .taken)) (begin .good .1 .1 .1 .1 .0 .0) }
+    let room = lines-fit (counted w) (begin .args .lines .now) (sym (c .before .holds .ensures) ∙ c .if1 .taken) in
+    record { fits = small _ _ room (begin .good .1 .1 .1 .1 .0 .0) }
 
 put-all-requires : tie.Need-put-all-requires
 put-all-requires c κs =

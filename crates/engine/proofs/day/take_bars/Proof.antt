@@ -11,7 +11,8 @@ Inv-loop span s settings bars rows₀ equity₀ trades₀ entry «exit» shortEn
     Turn span s (lists entry «exit» shortEntry shortExit) t₀ (rooms rows₀ equity₀ trades₀) bars done start t rows equity trades
 
 abbrev μ-loop : tie.MeasureT-loop
-μ-loop span s settings bars rows₀ equity₀ trades₀ entry «exit» shortEntry shortExit width row count t₀ start₀ done₀ rows equity trades t start done = count - done
+μ-loop span s settings bars rows₀ equity₀ trades₀ entry «exit» shortEntry shortExit width row count t₀ start₀ done₀ rows equity trades t start done =
+    count - done
 
 add-width : tie.Need-add-width Inv-loop μ-loop
 add-width c =
@@ -53,7 +54,8 @@ next-bar-requires : tie.Need-next-bar-requires Inv-loop μ-loop
 next-bar-requires c κs =
     let l = c .before .before .before .before .before in
     let start = l .before .before .before .before .before .before .before .before .before .before .before .before in
-    (start .pre .0, bar-long _ _ _ _ _ _ _ _ _ _ _ _ (l .loop .inv) (c .before .before .before .before .loop-test .taken), l .loop .inv .at, l .loop .inv .underway)
+    let long = bar-long _ _ _ _ _ _ _ _ _ _ _ _ (l .loop .inv) (c .before .before .before .before .loop-test .taken) in
+    (start .pre .0, long, l .loop .inv .at, l .loop .inv .underway)
 
 -- the rooms are as long as they were, also after the bar that was refused
 same-length : tie.Need-same-length Inv-loop μ-loop
@@ -77,7 +79,8 @@ returns c =
     let ran = c .before .before .before .before .before .before .before .before .before .before .before .before .before in
     let test = ran .before .before .before .before .before in
     rw (c .before .before .turn .ensures)
-    (stops _ _ _ _ _ _ _ _ _ _ _ _ (test .before .loop .inv) (test .loop-test .taken) (ran .next-bar .ensures) (c .before .before .before .before .before .answer .given .1))
+    (stops _ _ _ _ _ _ _ _ _ _ _ _ (test .before .loop .inv) (test .loop-test .taken) (ran .next-bar .ensures)
+    (c .before .before .before .before .before .answer .given .1))
 
 add-done : tie.Need-add-done Inv-loop μ-loop
 add-done c =

@@ -4,12 +4,9 @@ use Rattle.records.specs.{Settings.riskOf}
 use Rattle.records.proofs.{settings.risk_of.Statement.statement}
 use Rattle.records.proofs.settings.risk_of.Tie as tie
 
-returns : tie.Need-returns
-unfolding riskOf
-returns c = cc
-
 pub risk-of-spec : {M : Type 1} → statement M
+unfolding riskOf
 risk-of-spec =
     tie.close (tie.spec (λ c κs. search needs) (λ c κs. search needs) (λ c κs. search needs) (λ c κs. search needs)
     (λ c κs. search needs) (λ c κs. search needs) (λ c κs. search needs) (λ c κs. search needs) (λ c κs. search needs)
-    (λ c κs. search needs) (λ c κs. search needs) (λ c κs. search needs) (λ c κs. search needs) returns)
+    (λ c κs. search needs) (λ c κs. search needs) (λ c κs. search needs) (λ c κs. search needs) (λ c. cc))
