@@ -1,3 +1,4 @@
+#![tactic(auto)]
 // The answer to a rule table as a line of text: `accepted nodes 7 rows 3` or `refused 6 at 2`, and a newline.
 mod put;
 

@@ -1,3 +1,4 @@
+#![tactic(auto)]
 // A line a call of the C interface (docs/INTERFACE.md): what it is handed, and what it answers. A line is words of 16 hexadecimal
 // digits. Where the first is below 20 (hex) it is the number of a room, 1f that of the table, and the line says how many words or bytes
 // of the room are lent and what stands there; bytes are eight to a word. Else it is a call over the rooms as they are, and it is

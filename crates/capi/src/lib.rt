@@ -1,3 +1,4 @@
+#![tactic(auto)]
 // The C interface: words in, words out. include/yshturpa.h declares its calls, docs/INTERFACE.md describes them.
 pub mod bars;
 mod calls;

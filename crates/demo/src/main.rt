@@ -1,3 +1,4 @@
+#![tactic(auto)]
 // A built-in example, from a rule table to its trades: the table is checked, the depth of its window is worked out, its
 // rules become steps, a day of minute bars goes through the engine in one call, and the run is finished. Then the same day on a box that
 // loses its supply in the middle of it: a call before the loss, and one after it.

@@ -1,3 +1,4 @@
+#![tactic(auto)]
 // The dump: a state and its window as bytes for an area that keeps them without power. The mark's last byte is written last, so
 // that an area that was not written to the end is no image.
 mod bytes;

@@ -1,3 +1,4 @@
+#![tactic(auto)]
 // The end of a run: the Rust's `finish`. What it comes to is defined in the crate engine, beside a bar.
 mod closing;
 

@@ -1,3 +1,4 @@
+#![tactic(auto)]
 // An image: the bytes that a dump writes, and how they are read back. Nothing is read before all of it is judged.
 mod body;
 mod judge;

@@ -1,3 +1,4 @@
+#![tactic(auto)]
 // Answers cases of the functions of an account that the C interface has no call for, a line a case (compare/README.md, "leaf"). A
 // line is words of 16 hexadecimal digits, the first a tag; so is its answer. compare/vectors/make makes the stored lines.
 mod answers;

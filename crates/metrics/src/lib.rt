@@ -1,3 +1,4 @@
+#![tactic(auto)]
 // The figures of a run: metrics.rs over lent words, for any number of equity points and trades.
 pub mod columns;
 pub mod drawdown;

@@ -1,3 +1,4 @@
+#![tactic(auto)]
 // Cash and at most one signed position, long where qty is above 0 and short where it is below: the Rust's portfolio.rs.
 // A portfolio goes in and comes out by value, and a closed trade is handed to the caller, who keeps it.
 ghost use Rattle.std.specs.Prelude.{◌≡◌};

@@ -1,3 +1,4 @@
+#![tactic(auto)]
 // What a run is made of: its settings, its state and a bar, and the words that each of them is in a lent list.
 pub mod bar;
 mod fields;

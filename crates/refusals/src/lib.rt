@@ -1,3 +1,4 @@
+#![tactic(auto)]
 // Refusals 10 to 15: whether what a call is handed can be used. The lines of the table of refusals are judged in the paper's order,
 // and the first that does not hold decides.
 pub mod bar;

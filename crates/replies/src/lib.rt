@@ -1,3 +1,4 @@
+#![tactic(auto)]
 // What every call shares: the word that it answers, and refusal 10 for the rooms that only the C calls have.
 ghost use Rattle.std.specs.Prelude.{◌≡◌};
 ghost use Rattle.refusals.specs.Lines.{judged};

@@ -1,3 +1,4 @@
+#![tactic(auto)]
 // Rows: what is kept of each bar, in words that the caller lends. A row is 7 + K words: time, open, high, low, close,
 // volume, the presence mask, K slots.
 pub mod ring;

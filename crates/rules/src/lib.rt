@@ -1,3 +1,4 @@
+#![tactic(auto)]
 // What a rule means, and the evaluator that answers it over a table and rows: the port of rules.rs.
 pub mod answers;
 pub mod conditions;

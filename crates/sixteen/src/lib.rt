@@ -1,1 +1,2 @@
+#![tactic(auto)]
 // What is proved of refusal 16: given exactly when. Definitions and theorems in specs/, no code. No function's proof rests on them.

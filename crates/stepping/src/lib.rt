@@ -1,2 +1,3 @@
+#![tactic(auto)]
 // Bars in a call over words.
 pub mod day;

@@ -1,3 +1,4 @@
+#![tactic(auto)]
 // The list of steps: a rule's tree as a flat list of 16-byte steps, how such a list is run over rows, and which lists are well formed.
 pub mod choice;
 pub mod decode;

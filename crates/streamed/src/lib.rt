@@ -1,2 +1,3 @@
+#![tactic(auto)]
 // Four accounts on one stream, over words.
 pub mod four;

@@ -1,3 +1,4 @@
+#![tactic(auto)]
 // The rule table: its bytes, its nodes, the table of kinds, and the checker with its refusals 1 to 9.
 pub mod answer;
 pub mod bytes;

@@ -1,3 +1,4 @@
+#![tactic(auto)]
 // Lines of words, for the programs that replay stored cases. A word is 64 bits, written as 16 hexadecimal digits with one byte
 // after them: a space, or a newline at a line's end. Nothing is promised of what is read and written, since no contract can say
 // what a call of the operating system moves: the answers are held to stored ones.

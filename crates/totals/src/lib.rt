@@ -1,3 +1,4 @@
+#![tactic(auto)]
 // Exact totals over trades: how many ended by each reason, how many won and lost, and the sum of all pnl as a whole multiple of 2^-1074, with the
 // float nearest to it. Every order and grouping of the same trades gives the same words.
 mod counts;

@@ -1,3 +1,4 @@
+#![tactic(auto)]
 // The translator: a rule's tree as steps, written into a lent room. What it writes is defined in the crate steps.
 mod emit;
 

@@ -1,3 +1,4 @@
+#![tactic(auto)]
 // Why a rule said yes or no, in words. Reads the text of stored cases, words of 16 hexadecimal digits: a line that begins 1f lends
 // a table (how many bytes, then the bytes, eight to a word), one that begins 0 lends rows (how many words, then the words), and one that
 // begins 30 asks: tree, quantity, whether there is an entry bar, the entry bar, bars seen.

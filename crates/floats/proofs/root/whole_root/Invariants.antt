@@ -1,0 +1,14 @@
+-- `floats::root::whole_root`: after each round what was found holds, and the weight is 4 to the rounds that are left. Assumes nothing.
+use Rattle.words.specs.Prelude.{◌≡◌, refl, sym, ap, subst, ◌∙◌, ℕ, zero, suc, ◌+◌, ◌-◌, ◌*◌, ◌/◌, ◌%◌, ◌^◌, ◌<◌, ◌≤◌, arith, rules, pow-suc}
+use Rattle.floats.specs.{Root.WholeRoot}
+use Rattle.floats.proofs.{root.Bits.Found, root.Bits.goes, root.Bits.all_found}
+use native.Mathlib.Nat.{pow-zero}
+use Rattle.floats.proofs.root.whole_root.Reads as reads
+use Rattle.floats.proofs.root.whole_root.Lts as lts
+use Rattle.floats.proofs.root.whole_root.Given as goal
+
+abbrev pub invariant-loop-i : goal.invariant-loop-i
+invariant-loop-i l = (l.i ≤ 27) × (l.p.weight ≡ 4 ^ l.i) × Found (l.d * 2 ^ 54) l.p.twice l.p.rest l.p.weight × (l.p.twice + 2 * l.p.weight ≤ 2 ^ 55)
+
+abbrev pub decreases-loop-i : goal.decreases-loop-i
+decreases-loop-i l = l.i
