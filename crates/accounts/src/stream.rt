@@ -12,7 +12,7 @@ use words::limits::{BAR_FIXED, MOST_COUNT, MOST_SLOTS};
 use words::refusal::Refusal;
 
 // How many bars the stream takes, and what ended it (fine where it takes all).
-#[derive(Drop)]
+#[derive(Clone, Copy)]
 pub struct StreamTaken {
     pub done: usize,
     pub verdict: Verdict,

@@ -13,7 +13,7 @@ const CLOSES_ROOM: u64 = 12;
 const BLOCKS_ROOM: u64 = 13;
 
 // The bars held now, or why there is no bar more.
-#[derive(Drop)]
+#[derive(Clone, Copy)]
 pub enum Added {
     Held(usize),
     Refused(Refusal),

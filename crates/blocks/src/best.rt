@@ -11,7 +11,7 @@ pub(crate) const BLOCK_BARS: usize = 64;
 pub(crate) const BLOCK_WORDS: usize = 4;
 
 // The highest close and the first bar that has it, the lowest and the first bar that has that.
-#[derive(Drop)]
+#[derive(Clone, Copy)]
 pub struct Best {
     pub high: u64,
     pub high_bar: u64,

@@ -8,7 +8,7 @@ use words::limits::MOST_COUNT;
 use words::refusal::Refusal;
 
 // The best of the bars asked for, or why there is none.
-#[derive(Drop)]
+#[derive(Clone, Copy)]
 pub enum Found {
     Best(Best),
     Refused(Refusal),

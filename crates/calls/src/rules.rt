@@ -3,7 +3,7 @@ use crate::rooms;
 use crate::rooms::word;
 
 // What one list of steps came to.
-#[derive(Drop)]
+#[derive(Clone, Copy)]
 struct Ran {
     said: u64,
     visits: u64,

@@ -13,7 +13,7 @@ use words::limits::{MOST_NESTING, TREES};
 use words::refusal::Refusal;
 
 // How many lines were written, or the refusal.
-#[derive(Drop)]
+#[derive(Clone, Copy)]
 pub enum Explained {
     Lines(usize),
     Refuses(Refusal),

@@ -15,7 +15,7 @@ use rules::{shapes, values};
 use table::series::{Series, series_in};
 
 // The first missing leaf: its node, and how many bars back it was looked at.
-#[derive(Drop)]
+#[derive(Clone, Copy)]
 pub enum Found {
     Nowhere,
     Leaf(usize, usize),

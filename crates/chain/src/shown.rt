@@ -22,7 +22,7 @@ use rules::shapes::ConditionShape;
 use rules::values::{Value, in_position};
 
 // What a line shows: its sort, and how many of the four words are used.
-#[derive(Drop)]
+#[derive(Clone, Copy)]
 pub struct Detail {
     pub sort: u64,
     pub used: u64,

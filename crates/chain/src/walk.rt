@@ -16,7 +16,7 @@ use rules::shapes;
 use rules::shapes::ConditionShape;
 
 // Where the chain goes from a node: nowhere, or on to one of its children.
-#[derive(Drop)]
+#[derive(Clone, Copy)]
 pub enum Next {
     Stop,
     Node(usize),

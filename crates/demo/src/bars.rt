@@ -9,7 +9,7 @@ const MINUTES: usize = 1440;
 pub(crate) const BAR_WORDS: usize = words::limits::BAR_FIXED + 2;
 
 // A price between two bars, in cents, and what is carried along.
-#[derive(Drop)]
+#[derive(Clone, Copy)]
 struct Market {
     pub cents: u64,
     pub dice: u64,
@@ -18,7 +18,7 @@ struct Market {
 }
 
 // One bar's words, and the market after it.
-#[derive(Drop)]
+#[derive(Clone, Copy)]
 struct Minute {
     pub bar: [u64; 12],
     pub after: Market,

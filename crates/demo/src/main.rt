@@ -191,7 +191,7 @@ fn say_end(state: State, rows: &[u64], equity: &mut [u64], trades: &mut [u64]) -
 }
 
 // How many bytes the lists of steps take.
-#[derive(Drop)]
+#[derive(Clone, Copy)]
 struct Sizes {
     entry: usize,
     exit: usize,

@@ -17,7 +17,7 @@ const HEADER: u64 = 256;
 const LARGEST_WINDOW: u64 = 4096 * 8 * 71;
 
 // The lookback that an argument names.
-#[derive(Drop)]
+#[derive(Clone, Copy)]
 enum Lookback {
     Bars(u64),
     NoNumber,

@@ -16,7 +16,7 @@ use words::refusal::Refusal;
 const LINES_ROOM: u64 = 15;
 
 // How many lines there are, or why there are none.
-#[derive(Drop)]
+#[derive(Clone, Copy)]
 pub enum Compared {
     Lines(usize),
     Refused(Refusal),

@@ -27,7 +27,7 @@ use words::places;
 use words::refusal::Refusal;
 
 // What a part comes to: how many bytes were written.
-#[derive(Drop)]
+#[derive(Clone, Copy)]
 pub enum Parted {
     Refused(Refusal),
     Used(usize),

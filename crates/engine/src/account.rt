@@ -22,7 +22,7 @@ use rows::ring::Ring;
 use rules::position::Entered;
 
 // The fill's order and position, the trade where it closed one, and whether its quantity is too large: the step is then refused.
-#[derive(Drop)]
+#[derive(Clone, Copy)]
 pub struct Filled {
     pub order: Order,
     pub position: Position,
@@ -31,7 +31,7 @@ pub struct Filled {
 }
 
 // What is due at a bar for the working order: it only waits, a position is entered at a raw price, or it is left.
-#[derive(Drop)]
+#[derive(Clone, Copy)]
 pub enum Due {
     Waits(Order),
     Enters(Side, OrderKind, f64),
@@ -39,7 +39,7 @@ pub enum Due {
 }
 
 // A position after the exits inside the bar, and the trade where they closed one.
-#[derive(Drop)]
+#[derive(Clone, Copy)]
 pub struct Left {
     pub position: Position,
     pub exit: Exit,

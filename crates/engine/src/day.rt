@@ -22,7 +22,7 @@ use words::limits::{BAR_FIXED, ROW_FIXED};
 use words::refusal::Refusal;
 
 // How many bars were done, what ended it (fine where all were), and the state then.
-#[derive(Drop)]
+#[derive(Clone, Copy)]
 pub struct Day {
     pub done: usize,
     pub verdict: Verdict,

@@ -10,7 +10,7 @@ use refusals::day::Span;
 use rows::ring::Ring;
 
 // Where a row goes: the word of its room, the words of rows that move up for it first (0 where none do), and the rows that the room holds with it.
-#[derive(Drop)]
+#[derive(Clone, Copy)]
 pub struct Place {
     pub at: usize,
     pub moved: usize,

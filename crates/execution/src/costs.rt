@@ -6,7 +6,7 @@ use crate::terms::Slippage;
 use portfolio::{Closed, Portfolio};
 
 // The bar's funding: mark and rate, where supplied.
-#[derive(Drop)]
+#[derive(Clone, Copy)]
 pub enum Funding {
     NotSupplied,
     Supplied(f64, f64),

@@ -14,7 +14,7 @@ use portfolio::{Candle, Closed, Portfolio};
 
 // An entry order's answer: the portfolio with the position, and the fill price. A quantity that is too large enters nothing, and the
 // step that meets one is refused.
-#[derive(Drop)]
+#[derive(Clone, Copy)]
 pub enum Entry {
     NoEntry,
     TooLarge,
@@ -34,7 +34,7 @@ impl Entry {
 }
 
 // An exit's answer: the portfolio without the position, and the trade.
-#[derive(Drop)]
+#[derive(Clone, Copy)]
 pub enum Exit {
     NoExit,
     Exited(Closed),

@@ -12,7 +12,7 @@ use crate::terms::{Risk, Terms};
 use portfolio::{Candle, LIQUIDATION, Portfolio, STOP_LOSS, TAKE_PROFIT, TRAILING_STOP};
 
 // What a bar's range touched: the fill price and the reason.
-#[derive(Drop)]
+#[derive(Clone, Copy)]
 pub enum Trigger {
     Untouched,
     At(f64, u64),

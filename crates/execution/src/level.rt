@@ -6,14 +6,14 @@ ghost use Rattle.execution.specs.Level.{long_fill, short_fill, level_fill};
 use crate::optional::Optional;
 use portfolio::Candle;
 
-#[derive(Drop)]
+#[derive(Clone, Copy)]
 pub enum Side {
     Long,
     Short,
 }
 
 // The order kind that a setting names. Unknown stands for one that the papers do not name: it counts as market.
-#[derive(Drop)]
+#[derive(Clone, Copy)]
 pub enum OrderType {
     Market,
     Limit,
@@ -23,7 +23,7 @@ pub enum OrderType {
 }
 
 // The settings of entries: their order kind, how far from the deciding bar's close they stand, in percent, and a limit's fee.
-#[derive(Drop)]
+#[derive(Clone, Copy)]
 pub struct Entries {
     pub order_type: OrderType,
     pub level_pct: f64,
@@ -32,7 +32,7 @@ pub struct Entries {
 }
 
 // What an entry waits for, with the prices that its deciding bar fixed: nothing, a limit, a stop, or a stop and then a limit.
-#[derive(Drop)]
+#[derive(Clone, Copy)]
 pub enum OrderKind {
     Market,
     Limit(f64),

@@ -5,7 +5,7 @@ ghost use Rattle.execution.specs.Lots.{in_lots, size_in_lots, is_too_large, or_z
 use crate::optional::Optional;
 
 // How much to order: nothing, more lots than can be counted, or so much.
-#[derive(Drop)]
+#[derive(Clone, Copy)]
 pub enum Quantity {
     Nothing,
     TooLarge,

@@ -3,7 +3,7 @@ use crate::optional::Optional;
 
 // How large an entry is. VolTarget has the target and the lookback. Unknown stands for a kind that the papers do not
 // name: it never gives an order.
-#[derive(Drop)]
+#[derive(Clone, Copy)]
 pub enum Sizing {
     FixedFraction(f64),
     FixedQty(f64),
@@ -14,7 +14,7 @@ pub enum Sizing {
 }
 
 // How far a fill slips. Unknown stands for a kind that the papers do not name: no slippage.
-#[derive(Drop)]
+#[derive(Clone, Copy)]
 pub enum Slippage {
     FixedBps(f64),
     VolumeImpact(f64),
@@ -22,7 +22,7 @@ pub enum Slippage {
 }
 
 // Levels in percent, caps, and whether a bankrupt position is liquidated.
-#[derive(Drop)]
+#[derive(Clone, Copy)]
 pub struct Risk {
     pub stop_loss_pct: Optional,
     pub trailing_stop_pct: Optional,
@@ -33,7 +33,7 @@ pub struct Risk {
 }
 
 // The settings that fills and exits go by.
-#[derive(Drop)]
+#[derive(Clone, Copy)]
 pub struct Terms {
     pub sizing: Sizing,
     pub risk: Risk,

@@ -11,14 +11,14 @@ use crate::optional::Optional;
 use rows::ring;
 
 // What a pass adds up: the returns, or how far each is from a mean, squared.
-#[derive(Drop)]
+#[derive(Clone, Copy)]
 enum Term {
     Itself,
     Squared(f64),
 }
 
 // How many returns there are, and the sum over them.
-#[derive(Drop)]
+#[derive(Clone, Copy)]
 struct Tally {
     count: u64,
     total: f64,

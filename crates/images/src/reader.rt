@@ -13,7 +13,7 @@ use words::limits::ROW_FIXED;
 use words::refusal::Refusal;
 
 // What a restore comes to.
-#[derive(Drop)]
+#[derive(Clone, Copy)]
 pub enum Restored {
     Refused(Refusal),
     Done(State),

@@ -15,7 +15,7 @@ use words::limits::{METRIC_WORDS, POINT_WORDS, TRADE_WORDS};
 use words::refusal::Refusal;
 
 // Summary performance metrics.
-#[derive(Drop)]
+#[derive(Clone, Copy)]
 pub struct Metrics {
     // Final equity less initial equity.
     pub pnl: f64,
@@ -38,7 +38,7 @@ pub struct Metrics {
 }
 
 // The figures, or a refusal.
-#[derive(Drop)]
+#[derive(Clone, Copy)]
 pub enum Answer {
     Done(Metrics),
     Refused(Refusal),

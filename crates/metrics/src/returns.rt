@@ -28,7 +28,7 @@ pub fn return_count(equity: &[u64]) -> usize
 }
 
 // What is summed of the returns.
-#[derive(Drop)]
+#[derive(Clone, Copy)]
 pub enum Part {
     // The return itself.
     Itself,
@@ -50,7 +50,7 @@ pub fn part_of(part: Part, r: f64) -> f64
 }
 
 // The means of two parts.
-#[derive(Drop)]
+#[derive(Clone, Copy)]
 struct Means {
     itself: f64,
     below: f64,
@@ -99,7 +99,7 @@ fn var_of(equity: &[u64], mean: f64) -> f64
 }
 
 // The mean return over two deviations of the returns.
-#[derive(Drop)]
+#[derive(Clone, Copy)]
 pub struct Ratios {
     // Over the standard deviation.
     pub sharpe: f64,

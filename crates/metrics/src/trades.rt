@@ -7,7 +7,7 @@ ghost use Rattle.metrics.specs.Trades as Trades;
 use super::{columns, quotient};
 
 // Trades that won, or that lost.
-#[derive(Drop)]
+#[derive(Clone, Copy)]
 pub enum WinOrLoss {
     Wins,
     Losses,

@@ -11,7 +11,7 @@ use words::limits::MOST_REACH;
 use words::refusal::Refusal;
 
 // The answer to how many rows a rule needs: their number, the bytes of a row and of all of them, or the refusal.
-#[derive(Drop)]
+#[derive(Clone, Copy)]
 pub enum DepthAnswer {
     Needs { rows: u64, row: u64, window: u64 },
     Refuses(Refusal),

@@ -6,7 +6,7 @@ ghost use Rattle.portfolio.specs.Portfolio.{fresh, in_position, is_long, equity,
 ghost use Rattle.portfolio.specs.Trade.{words_of_trade};
 
 // One bar's prices and volume.
-#[derive(Drop)]
+#[derive(Clone, Copy)]
 pub struct Candle {
     pub time: u64,
     pub open: f64,
@@ -17,7 +17,7 @@ pub struct Candle {
 }
 
 // Free cash, and the open position: qty is 0 when flat. The entry's fee is kept so that the exit can net it.
-#[derive(Drop)]
+#[derive(Clone, Copy)]
 pub struct Portfolio {
     pub cash: f64,
     pub qty: f64,
@@ -31,7 +31,7 @@ pub struct Portfolio {
 }
 
 // A completed round trip.
-#[derive(Drop)]
+#[derive(Clone, Copy)]
 pub struct Trade {
     pub entry_time: u64,
     pub exit_time: u64,
@@ -46,7 +46,7 @@ pub struct Trade {
 }
 
 // A portfolio whose position was closed, and the trade that this made.
-#[derive(Drop)]
+#[derive(Clone, Copy)]
 pub struct Closed {
     pub portfolio: Portfolio,
     pub trade: Trade,

@@ -11,7 +11,7 @@ use words::limits::SETTING_WORDS;
 use words::places;
 
 // The settings, with their numbers.
-#[derive(Drop)]
+#[derive(Clone, Copy)]
 pub struct Settings {
     // 0: K, the slots of a bar
     pub slots: usize,

@@ -8,7 +8,7 @@ use portfolio::Portfolio;
 use rules::position::Entered;
 
 // How many of each thing there are.
-#[derive(Drop)]
+#[derive(Clone, Copy)]
 pub struct Counts {
     pub bars_seen: u64,
     pub rows_held: usize,
@@ -17,7 +17,7 @@ pub struct Counts {
 }
 
 // The working order, with the bars that it still waits; an entry's with what it waits for then.
-#[derive(Drop)]
+#[derive(Clone, Copy)]
 pub enum Order {
     Idle,
     EnterLong(u64, OrderKind),
@@ -26,7 +26,7 @@ pub enum Order {
 }
 
 // The account and what is known of its open position.
-#[derive(Drop)]
+#[derive(Clone, Copy)]
 pub struct Position {
     pub portfolio: Portfolio,
     pub entered: Entered,
@@ -35,13 +35,13 @@ pub struct Position {
 }
 
 // The last bar's time and close.
-#[derive(Drop)]
+#[derive(Clone, Copy)]
 pub struct Last {
     pub time: u64,
     pub close: f64,
 }
 
-#[derive(Drop)]
+#[derive(Clone, Copy)]
 pub struct State {
     pub counts: Counts,
     pub order: Order,

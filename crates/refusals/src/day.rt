@@ -12,7 +12,7 @@ use words::limits::BAR_FIXED;
 use words::refusal::Refusal;
 
 // What a call for bars takes: one, or many.
-#[derive(Drop)]
+#[derive(Clone, Copy)]
 pub enum Span {
     One,
     Many,

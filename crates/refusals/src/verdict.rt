@@ -7,7 +7,7 @@ ghost use Rattle.refusals.specs.Lines.{line, over, first_bad};
 use words::refusal::Refusal;
 
 // Whether a call can be used: if not, the refusal.
-#[derive(Drop)]
+#[derive(Clone, Copy)]
 pub enum Verdict {
     Fine,
     Bad(Refusal),

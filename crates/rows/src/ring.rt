@@ -3,7 +3,7 @@ ghost use Rattle.std.specs.Prelude.{◌≡◌, ◌++◌, ◌≤◌, length, take
 ghost use Rattle.rows.specs.Ring.{start_within, ring_place, turned};
 
 // How many rows a room holds, and which of them is the oldest. While there is a place left that is row 0.
-#[derive(Drop)]
+#[derive(Clone, Copy)]
 pub struct Ring {
     pub held: usize,
     pub start: usize,

@@ -16,7 +16,7 @@ use words::limits::{MOST_COUNT, MOST_NESTING};
 use words::refusal::Refusal;
 
 // What a rule over rows comes to: yes or no, or a refusal's number and place.
-#[derive(Drop)]
+#[derive(Clone, Copy)]
 pub enum RuleAnswer {
     Says(bool),
     Refuses(Refusal),

@@ -7,7 +7,7 @@ ghost use Rattle.rules.specs.Shapes.{end_in, operand_of, condition_of, operand_s
 use table::kinds::{ConditionClass, OperandClass, kind_of};
 use table::nodes::{Node, node_at};
 
-#[derive(Drop)]
+#[derive(Clone, Copy)]
 pub enum OperandShape {
     Const(u64),
     Ref(u64),
@@ -18,7 +18,7 @@ pub enum OperandShape {
     NoOperand,
 }
 
-#[derive(Drop)]
+#[derive(Clone, Copy)]
 pub enum ConditionShape {
     Compare(u8, usize, usize),
     Cross(u8, usize, usize),

@@ -9,7 +9,7 @@ use crate::position::{Entered, PositionState};
 use table::kinds;
 
 // What an operand is at a bar: a number, or missing.
-#[derive(Drop)]
+#[derive(Clone, Copy)]
 pub enum Value {
     Missing,
     Number(f64),

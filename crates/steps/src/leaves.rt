@@ -17,7 +17,7 @@ use rules::values::Value;
 use table::kinds;
 
 // A leaf that is told at once, and its value; or a step that is not told.
-#[derive(Drop)]
+#[derive(Clone, Copy)]
 pub(crate) struct AtOnce {
     pub told: bool,
     pub value: Value,

@@ -31,7 +31,7 @@ fn series_in(rows: &[u64], slots: usize, base: usize, slot: bool, which: u8) -> 
 }
 
 // How many rows were passed over, and what the row after them has, if it is what stopped it.
-#[derive(Drop)]
+#[derive(Clone, Copy)]
 struct Stop {
     passed: usize,
     stopped: bool,
@@ -217,7 +217,7 @@ fn has_word(rows: &[u64], slots: usize, base: usize, slot: bool, which: u8) -> b
 }
 
 // How many rows are left, and the word of the best up to them.
-#[derive(Drop)]
+#[derive(Clone, Copy)]
 struct Quick {
     left: usize,
     best: u64,
@@ -267,7 +267,7 @@ fn quick_rows(
 }
 
 // The row reached, and the best up to it.
-#[derive(Drop)]
+#[derive(Clone, Copy)]
 struct Looked {
     at: usize,
     best: f64,

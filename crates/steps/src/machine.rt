@@ -18,7 +18,7 @@ use table::kinds;
 use words::limits::MOST_STEPS;
 
 // What a run came to: its answer, and how many steps it visited.
-#[derive(Drop)]
+#[derive(Clone, Copy)]
 pub struct Ran {
     pub answer: bool,
     pub visits: usize,
@@ -30,7 +30,7 @@ const FEW_PLACES: usize = 16;
 const SOME_PLACES: usize = 64;
 
 // How far a run with so many places for values came, and whether it stopped because a value found no place.
-#[derive(Drop)]
+#[derive(Clone, Copy)]
 struct Tried {
     full: bool,
     ran: Ran,

@@ -15,14 +15,14 @@ use rules::values::Value;
 use table::kinds;
 
 // A test with its leaves: how many steps they are, and what it answers. 0 where there is none.
-#[derive(Drop)]
+#[derive(Clone, Copy)]
 struct Test {
     steps: usize,
     answer: bool,
 }
 
 // How far a run came: to which place, with which answer, and after how many visits.
-#[derive(Drop)]
+#[derive(Clone, Copy)]
 pub(crate) struct Reached {
     pub p: usize,
     pub answer: bool,

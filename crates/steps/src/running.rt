@@ -11,7 +11,7 @@ use words::limits::{MOST_ROWS, MOST_SLOTS};
 use words::refusal::Refusal;
 
 // The answer to a run: what it came to, or the refusal's number and place.
-#[derive(Drop)]
+#[derive(Clone, Copy)]
 pub enum RunAnswer {
     Runs(Ran),
     Refuses(Refusal),

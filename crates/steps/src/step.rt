@@ -2,7 +2,7 @@
 use table::series::Series;
 
 // The fields of a step's 16 bytes, laid out as a node's: kind (1), selector (1), skip (2), n (4), constant bits (8).
-#[derive(Drop)]
+#[derive(Clone, Copy)]
 pub struct Step {
     pub kind: u8,
     pub selector: u8,
@@ -12,7 +12,7 @@ pub struct Step {
 }
 
 // What a step says, taken from its fields. A look-back is how many rows before the newest one a leaf is read.
-#[derive(Drop)]
+#[derive(Clone, Copy)]
 pub enum Op {
     // The constant with these bits, at a look-back.
     Const(u64, u64),

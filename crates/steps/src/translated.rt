@@ -2,7 +2,7 @@
 use words::refusal::Refusal;
 
 // The answer to a translation: how many steps were written, or the refusal's number and place.
-#[derive(Drop)]
+#[derive(Clone, Copy)]
 pub enum Translated {
     Writes(usize),
     Refuses(Refusal),

@@ -10,7 +10,7 @@ use table::series::Series;
 use words::limits::MOST_STEPS;
 
 // Whether a list of steps is well formed, and if not, its lowest bad step (0 for a bad length).
-#[derive(Drop)]
+#[derive(Clone, Copy)]
 pub enum Formed {
     Well,
     Bad(usize),

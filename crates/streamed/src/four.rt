@@ -34,7 +34,7 @@ const STREAM_WORDS: usize = 2;
 const WIDEST_BAR: usize = BAR_FIXED + MOST_SLOTS;
 
 // How many bars an account took, and the answer of the one that stopped it (0 where it took all).
-#[derive(Drop)]
+#[derive(Clone, Copy)]
 pub struct Ridden {
     pub done: usize,
     pub answer: u64,

@@ -10,7 +10,7 @@ use words::limits::{MOST_NODES, MOST_SLOTS};
 pub const NEWEST: usize = 2;
 
 // What the header says beside its counts, and a node's own bytes are judged by: the version, and K.
-#[derive(Drop)]
+#[derive(Clone, Copy)]
 pub struct Form {
     pub version: usize,
     pub slots: u8,

@@ -57,7 +57,7 @@ pub const IN_POSITION: u8 = 30;
 pub const BARS_SINCE_ENTRY: u8 = 31;
 
 // How an operand's node is made up, and a condition's. Kinds of one class differ in what is done with their operands alone.
-#[derive(Drop)]
+#[derive(Clone, Copy)]
 pub enum OperandClass {
     NoOperand,
     Const,
@@ -68,7 +68,7 @@ pub enum OperandClass {
     Extreme,
 }
 
-#[derive(Drop)]
+#[derive(Clone, Copy)]
 pub enum ConditionClass {
     NoCondition,
     Compare,
@@ -83,7 +83,7 @@ pub enum ConditionClass {
 }
 
 // What a kind takes: a row of the table of kinds.
-#[derive(Drop)]
+#[derive(Clone, Copy)]
 pub struct Kind {
     pub operand: OperandClass,
     pub condition: ConditionClass,
@@ -339,7 +339,7 @@ const BARS_SINCE_ROW: Kind = Kind {
 };
 
 // The rows by name, so that the table of kinds is one byte a kind: an array of rows would be copied whole at each look-up.
-#[derive(Drop)]
+#[derive(Clone, Copy)]
 pub enum Row {
     Unknown,
     Const,

@@ -13,7 +13,7 @@ use crate::places::Place;
 use words::limits::MOST_REACH;
 
 // A node: its number in the table, and its fields.
-#[derive(Drop)]
+#[derive(Clone, Copy)]
 pub struct Node {
     pub number: usize,
     pub kind: u8,

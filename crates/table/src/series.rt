@@ -5,7 +5,7 @@ ghost use Rattle.table.specs.Series.{series_by, series_in};
 use crate::kinds::{OperandClass, kind_of};
 use crate::nodes::{Node, node_at};
 
-#[derive(Drop)]
+#[derive(Clone, Copy)]
 pub enum Series {
     Price(u8),
     Slot(u64),

@@ -17,7 +17,7 @@ use crate::{check, header};
 use words::refusal::Refusal;
 
 // The answer: how many tests were listed, or the refusal.
-#[derive(Drop)]
+#[derive(Clone, Copy)]
 pub enum SilentAnswer {
     Lists(usize),
     Refuses(Refusal),

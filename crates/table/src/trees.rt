@@ -3,7 +3,7 @@ ghost use Rattle.std.specs.Prelude.{◌≡◌};
 ghost use Rattle.table.specs.Header.{tree_number};
 
 // One of a table's four trees.
-#[derive(Drop)]
+#[derive(Clone, Copy)]
 pub enum Tree {
     Entry,
     Exit,

@@ -11,7 +11,7 @@ const NEWLINE: u8 = 10;
 const SPACE: u8 = 32;
 
 // A word of the input and the byte after it, which is 0 where the input ends.
-#[derive(Drop)]
+#[derive(Clone, Copy)]
 struct Read {
     word: u64,
     after: u8,

@@ -24,7 +24,7 @@ pub const TOTAL_WORDS: usize = 43;
 const TOTALS_ROOM: u64 = 11;
 
 // All is in the totals now, or a refusal: then they are as they were.
-#[derive(Drop)]
+#[derive(Clone, Copy)]
 pub enum Answer {
     Done,
     Refused(Refusal),

@@ -10,7 +10,7 @@ use words::limits::TRADE_WORDS;
 use words::places;
 
 // A word, and what is carried to the next.
-#[derive(Drop)]
+#[derive(Clone, Copy)]
 struct Carried {
     word: u64,
     carry: u64,
