@@ -1,0 +1,12 @@
+-- A float of the column.
+use Rattle.words.specs.Prelude.{rules}
+use Rattle.metrics.specs.{Records.equity_of}
+use Rattle.metrics.proofs.columns.equity_at.Goals as goal
+
+pub float_at-requires : goal.float_at-requires
+unfolding equity_of
+float_at-requires c = search rules
+
+pub returns : goal.returns
+unfolding equity_of
+returns c = c.float_at.ensures

@@ -1,0 +1,31 @@
+use Rattle.words.specs.Prelude.{rules, ◌-◌, arith}
+use Rattle.metrics.specs.{declared.returns.Part.TheVariants.Itself, declared.returns.Part.TheVariants.Below, Records.equity_of}
+use Rattle.metrics.proofs.{Passes.Summing, Passes.starts, Passes.goes_on, Passes.ends}
+use Rattle.metrics.proofs.returns.means_of.Goals as goal
+
+pub loop-i-init : goal.loop-i-init
+loop-i-init c = (starts c.equity_at-before.ensures, starts c.equity_at-before.ensures)
+
+pub overflow_add-i : goal.overflow_add-i
+overflow_add-i c = omega arith
+
+pub loop-i-smaller : goal.loop-i-smaller
+loop-i-smaller c = omega arith
+
+pub loop-i-preserved : goal.loop-i-preserved
+loop-i-preserved c =
+    let points = c.point_count-points.ensures in
+    let more = c.loop-i-test.true in
+    let inv = c.loop-i.invariant in
+    let return = c.bar_return-r.ensures in (
+      goes_on points more c.equity_at-now.ensures return c.part_of-itself.ensures inv.0,
+      goes_on points more c.equity_at-now.ensures return c.part_of-below.ensures inv.1,
+    )
+
+pub returns : goal.returns
+returns c =
+    let points = c.point_count-points.ensures in
+    let inv = c.loop-i.invariant in
+    let over = c.loop-i-test.false in
+    let count = c.return_count.ensures in
+    record { itself = ends points over count c.counted-n.ensures inv.0; below = ends points over count c.counted-n.ensures inv.1 }

@@ -1,0 +1,11 @@
+-- Each of the two sums, with what is to come, makes its whole sum.
+use Rattle.words.specs.Prelude.{rules, ◌-◌, arith}
+use Rattle.metrics.specs.{declared.returns.Part.TheVariants.Itself, declared.returns.Part.TheVariants.Below, Records.equity_of}
+use Rattle.metrics.proofs.{Passes.Summing, Passes.starts, Passes.goes_on, Passes.ends}
+use Rattle.metrics.proofs.returns.means_of.Given as goal
+
+abbrev pub invariant-loop-i : goal.invariant-loop-i
+invariant-loop-i l = Summing Itself (equity_of l.equity) l.before l.itself l.i × Summing Below (equity_of l.equity) l.before l.below l.i
+
+abbrev pub decreases-loop-i : goal.decreases-loop-i
+decreases-loop-i l = l.points - l.i

@@ -1,0 +1,11 @@
+-- What is summed and what is to come make the whole sum.
+use Rattle.words.specs.Prelude.{rules, ◌-◌, arith}
+use Rattle.metrics.specs.{declared.returns.Part.TheVariants.Away, Records.equity_of}
+use Rattle.metrics.proofs.{Passes.Summing, Passes.starts, Passes.goes_on, Passes.ends}
+use Rattle.metrics.proofs.returns.var_of.Given as goal
+
+abbrev pub invariant-loop-i : goal.invariant-loop-i
+invariant-loop-i l = Summing (Away l.mean) (equity_of l.equity) l.before l.total l.i
+
+abbrev pub decreases-loop-i : goal.decreases-loop-i
+decreases-loop-i l = l.points - l.i

@@ -1,0 +1,52 @@
+use Rattle.words.specs.Prelude.{rules, ◌≡◌, refl, sym, ◌∙◌, ⊎_elim, List, arith, ◌-◌, drop, Float}
+use Rattle.metrics.specs.{Records.pnls_of, Trades.sizes_on, Trades.gross}
+use Rattle.floats.specs.{Sums.sum_from}
+use Rattle.metrics.proofs.{Walks.turn_on, Walks.done}
+use Rattle.metrics.proofs.trades.gross.Goals as goal
+use Rattle.metrics.proofs.trades.gross.Goals.{then-is_on, else-is_on}
+
+pub trade_count-n-requires : goal.trade_count-n-requires
+unfolding gross
+trade_count-n-requires c = search rules
+
+pub loop-i-init : goal.loop-i-init
+unfolding gross
+loop-i-init c = refl
+
+pub pnl_at-pnl-requires : goal.pnl_at-pnl-requires
+unfolding gross
+pnl_at-pnl-requires c = search rules
+
+pub is_on-requires : goal.is_on-requires
+unfolding gross
+is_on-requires c = search rules
+
+pub size_of-total-requires : goal.size_of-total-requires
+unfolding gross
+size_of-total-requires c = search rules
+
+pub overflow_add-i : goal.overflow_add-i
+unfolding gross
+overflow_add-i c = omega arith
+
+pub loop-i-smaller : goal.loop-i-smaller
+unfolding gross
+loop-i-smaller c = omega arith
+
+pub loop-i-preserved : goal.loop-i-preserved
+unfolding sum_from
+loop-i-preserved c =
+    let loop = c.loop-i in
+    let args = c.args in
+    let told = turn_on (sum_from loop.total) args.side (pnls_of args.trades.now) loop.i c.trade_count-n.ensures
+    c.loop-i-test.true c.pnl_at-pnl.ensures loop.invariant in
+    let is-on = c.is_on.ensures in
+    elim c.if-is_on.branch [ then-is_on w ↦ rw (w.total-is, w.size_of-total.ensures) (told.0 (sym is-on ∙ w.if-is_on.true)) | else-is_on w ↦ rw w.total-is (told.1 (sym is-on ∙ w.if-is_on.false)) ]
+
+pub returns : goal.returns
+unfolding sum_from sizes_on
+returns c =
+    let args = c.args in
+    let loop = c.loop-i in
+    done (λ (rest : List Float). sum_from loop.total (sizes_on args.side rest)) (pnls_of args.trades.now) loop.i
+    c.trade_count-n.ensures c.loop-i-test.false loop.invariant

@@ -1,0 +1,28 @@
+-- `check_nesting` meets its contract: rule 8 is broken, or what is left decides.
+-- Assumes nothing.
+use Rattle.words.specs.Prelude.{sym, ◌∙◌, rules}
+use Rattle.table.proofs.{Final.stage_at, Final.stage_none}
+use Rattle.table.specs.{Checked.from8}
+use Rattle.table.proofs.check_nesting.Goals as goal
+
+pub too_deep-deep-requires : goal.too_deep-deep-requires
+unfolding from8
+too_deep-deep-requires c = search rules
+
+pub refused-requires : goal.refused-requires
+unfolding from8
+refused-requires c = search rules
+
+pub check_reach-requires : goal.check_reach-requires
+unfolding from8
+check_reach-requires c = search rules
+
+pub returns-in-At : goal.returns-in-At
+unfolding from8
+returns-in-At c = stage_at 8 _ _ _ _ _ _ (sym c.too_deep-deep.ensures ∙ c.in-At.is) c.refused.ensures.0 c.refused.ensures.1
+
+pub returns-in-Nowhere : goal.returns-in-Nowhere
+unfolding from8
+returns-in-Nowhere c =
+    let told = c.check_reach.ensures in
+    stage_none 8 _ _ _ _ _ (sym c.too_deep-deep.ensures ∙ c.in-Nowhere.is) told.0 told.1

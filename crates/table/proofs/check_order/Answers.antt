@@ -1,0 +1,32 @@
+-- `check_order` meets its contract: rule 7 is broken, or what is left decides and the array is the subtree ends.
+-- Assumes nothing.
+use Rattle.words.specs.Prelude.{sym, ◌∙◌, ap, ℕ, List, rules}
+use Rattle.table.proofs.{Final.stage_at, Final.stage_none, Final.ends_are, Four.linked_all}
+use Rattle.table.specs.{Checked.from7, Checked.from8, Ends.ends_for}
+use Rattle.table.proofs.check_order.Goals as goal
+
+pub check_nesting-requires : goal.check_nesting-requires
+check_nesting-requires c = record {
+  roots = c.requires;
+  linked_all = linked_all _ _ _ _ _ _ c.requires
+      c.order_all-ends.ensures (sym c.misfits_of-bad.ensures ∙ c.in-Nowhere.is);
+}
+
+pub returns-in-At : goal.returns-in-At
+unfolding from7
+returns-in-At c =
+    stage_at 7 _ _ _ _ _ _
+    (sym c.misfits_of-bad.ensures ∙ c.in-At.is) c.refused.ensures.0 c.refused.ensures.1
+
+pub returns-in-Nowhere : goal.returns-in-Nowhere
+unfolding from7
+returns-in-Nowhere c =
+    let none = sym c.misfits_of-bad.ensures ∙ c.in-Nowhere.is in
+    let t = c.args.t.now in
+    let links =
+    linked_all t _ _ _ _ _ c.requires
+    c.order_all-ends.ensures none in
+    stage_none 7 _ _ _ _ _ none c.check_nesting.ensures.0
+    (c.check_nesting.ensures.1 ∙ ap (λ (l : List ℕ). ends_for (from8 t) l)
+    (ends_are t _ _ _ _ _ c.requires
+    c.order_all-ends.ensures links))

@@ -1,0 +1,6 @@
+-- Past its end a list stays as it is.
+use Rattle.words.specs.Prelude.{rules, sym, set_out}
+use Rattle.table.proofs.silent.put.Goals as goal
+
+pub returns-else-at-list : goal.returns-else-at-list
+returns-else-at-list c = sym (set_out _ _ _ c.if-at-list.false)
