@@ -1,0 +1,24 @@
+-- What is counted and what is still to be counted, up to the first trade that cannot be, make up the whole. Assumes nothing.
+use Rattle.words.specs.Prelude.{◌≡◌, refl, sym, ap, subst, ◌∙◌, true, false, List, [], ◌∷◌, ℕ, suc, ◌+◌, ◌-◌, ◌*◌, ◌<◌, ◌≤◌, arith, rules, length, get_or}
+use Rattle.words.specs.{Limits.trade_words, Limits.most_count}
+use Rattle.totals.specs.{Trades.Trade, Trades.trade_at, Trades.trades_from, Trades.acceptable, Trades.good_start, Totals.count_size, Totals.AllAtMost}
+use Rattle.totals.specs.{Totals.with_counts, Laws.Trades.trades_next, Laws.Trades.trades_none, Laws.Trades.good_next, Laws.Trades.good_ends}
+use Rattle.totals.specs.{Laws.Trades.acceptable_reason, Laws.Counts.counts_none, Laws.Counts.counts_twice, Laws.Counts.length_counts}
+use Rattle.totals.specs.{Laws.Counts.one_more}
+use Rattle.totals.proofs.{Testing.so, Testing.not_so}
+use Rattle.totals.proofs.counts.count_trades.Given as goal
+
+-- the good ones from trade i on, of n
+abbrev good_from : ℕ → ℕ → List ℕ → List Trade
+good_from n i trades = good_start (trades_from (n - i) i trades)
+
+-- all good ones, as i of them are counted
+abbrev Counted : (counts₀ trades : List ℕ) → (n : ℕ) → (counts : List ℕ) → (i : ℕ) → List Trade → Type 0
+Counted counts₀ trades n counts i good =
+    (with_counts counts good ≡ with_counts counts₀ (good_start (trades_from n 0 trades))) × (i + length good ≡ length (good_start (trades_from n 0 trades)))
+
+abbrev pub invariant-loop-i : goal.invariant-loop-i
+invariant-loop-i l = (l.i ≤ l.n) × (length l.counts ≡ count_size) × AllAtMost (most_count + l.i) l.counts × Counted l.initial.counts l.trades l.n l.counts l.i (good_from l.n l.i l.trades)
+
+abbrev pub decreases-loop-i : goal.decreases-loop-i
+decreases-loop-i l = l.n - l.i
