@@ -1,0 +1,6 @@
+-- `capped`: what `min` ensures, divided.
+use Rattle.words.specs.Prelude.{rules}
+use Rattle.execution.proofs.size.capped.Goals as goal
+
+pub returns : goal.returns
+returns c = simp c.min.ensures
