@@ -1,4 +1,4 @@
--- The tests that the code finds silent are those of the trees; and a table has none over as many rows as it needs. Assumes nothing.
+-- The tests that the code finds silent are those of the trees; and a table has none over as many rows as it rules. Assumes nothing.
 use Rattle.words.specs.Prelude.{ℕ, suc, ◌+◌, ◌-◌, ◌*◌, ◌≤◌, ◌<◌, min, zero, ◌≡◌, refl, sym, ap, ◌∙◌, Bool, true, false, cond, List, [], ◌∷◌, ◌++◌, append_assoc}
 use Rattle.words.specs.Prelude.{append-nil, ⊎_elim, arith, eq-zero-or-pos, leb, length, get_or, drop, replicate, drop_at, lt-leb, leb-false}
 use Rattle.words.specs.{Limits.most_rows, Limits.most_reach}
@@ -195,7 +195,7 @@ module _ (d : ℕ) (some : 0 < d) where
         )
 
 module _ (t : List ℕ) (n r : ℕ) (ok : checked t ≡ Accepted n r) (d : ℕ) where
-  -- NONE OVER ENOUGH ROWS: over as many rows as the check says the table needs, or more, no test falls silent;
+  -- NONE OVER ENOUGH ROWS: over as many rows as the check says the table rules, or more, no test falls silent;
   pub enough_rows : r ≤ d → silent_tests t d ≡ []
   unfolding silent_tests silent_of
   enough_rows enough =
@@ -207,7 +207,7 @@ module _ (t : List ℕ) (n r : ℕ) (ok : checked t ≡ Accepted n r) (d : ℕ) 
         (none-silent d some (tree_of t 3) (root t 3)).0 (omega (arith, rows_are t n r ok)),
       )
 
-  -- AND ONLY THEN: a row or more over which no test falls silent are as many as the table needs.
+  -- AND ONLY THEN: a row or more over which no test falls silent are as many as the table rules.
   pub only_enough : 0 < d → silent_tests t d ≡ [] → r ≤ d
   unfolding silent_tests silent_of
   only_enough some e =

@@ -1,0 +1,51 @@
+-- The rows of an accepted table are one more than its greatest reach.
+use Rattle.words.specs.Prelude.{rules, arith, lt-ltb, le-ltb, sym, ◌∙◌}
+use Rattle.needed.specs.{Depth.depth_answer}
+use Rattle.needed.proofs.{Needed.few, Needed.needed, Needed.product}
+use Rattle.needed.proofs.depth.depth.Goals as goal
+
+pub check-checked-requires : goal.check-checked-requires
+unfolding depth_answer
+check-checked-requires c = search rules
+
+pub returns-then-lookback-gt-MOST_REACH : goal.returns-then-lookback-gt-MOST_REACH
+unfolding depth_answer
+returns-then-lookback-gt-MOST_REACH c = rw (← c.check-checked.ensures.0, c.in-Accepted.is, lt-ltb _ _ c.if-lookback-gt-MOST_REACH.true)
+
+pub overflow_add-lookback : goal.overflow_add-lookback
+unfolding depth_answer
+overflow_add-lookback c = omega (arith, c.if-lookback-gt-MOST_REACH.false)
+
+pub larger-needed-requires : goal.larger-needed-requires
+unfolding depth_answer
+larger-needed-requires c = search rules
+
+pub row_bytes-row-requires : goal.row_bytes-row-requires
+unfolding depth_answer
+row_bytes-row-requires c = search rules
+
+pub overflow_mul-result : goal.overflow_mul-result
+unfolding depth_answer
+overflow_mul-result c =
+    omega (
+      arith,
+      product c.larger-needed.result c.row_bytes-row.result
+          (rw c.larger-needed.ensures (omega (arith, c.if-lookback-gt-MOST_REACH.false, few _ _ _ (sym c.check-checked.ensures.0 ∙ c.in-Accepted.is))))
+          c.row_bytes-row.ensures.1,
+    )
+
+pub returns-in-Refused : goal.returns-in-Refused
+unfolding depth_answer
+returns-in-Refused c = rw (← c.check-checked.ensures.0, c.in-Refused.is)
+
+pub returns-else-lookback-gt-MOST_REACH : goal.returns-else-lookback-gt-MOST_REACH
+unfolding depth_answer
+returns-else-lookback-gt-MOST_REACH c =
+    rw (
+      ← c.check-checked.ensures.0,
+      c.in-Accepted.is,
+      le-ltb _ _ c.if-lookback-gt-MOST_REACH.false,
+      c.larger-needed.ensures,
+      c.row_bytes-row.ensures.0,
+      needed _ _ _ _ (sym c.check-checked.ensures.0 ∙ c.in-Accepted.is),
+    )
