@@ -1,0 +1,20 @@
+-- One return for each case of the two values. Assumes nothing.
+use Rattle.words.specs.Prelude.{rules}
+use Rattle.rules.specs.{Values.combined}
+use Rattle.rules.proofs.values.combined.Goals as goal
+
+pub combine-requires : goal.combine-requires
+unfolding combined
+combine-requires c = search rules
+
+pub returns-in-Missing : goal.returns-in-Missing
+unfolding combined
+returns-in-Missing c = rw c.in-Missing.is
+
+pub returns-in-Missing-b : goal.returns-in-Missing-b
+unfolding combined
+returns-in-Missing-b c = rw (c.in-Number.is, c.in-Missing-b.is)
+
+pub returns-in-Number-b : goal.returns-in-Number-b
+unfolding combined
+returns-in-Number-b c = rw (c.in-Number.is, c.in-Number-b.is, c.combine.ensures)

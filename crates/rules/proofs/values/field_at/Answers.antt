@@ -1,0 +1,6 @@
+-- The word that is read, as a float. Assumes nothing.
+use Rattle.words.specs.Prelude.{rules}
+use Rattle.rules.proofs.values.field_at.Goals as goal
+
+pub returns : goal.returns
+returns c = cc
