@@ -1,0 +1,20 @@
+-- The definition goes by the same cases.
+use Rattle.words.specs.Prelude.{rules}
+use Rattle.records.specs.{StateWords.kind_word}
+use Rattle.records.proofs.state_words.kind_word.Goals as goal
+
+pub returns-in-Market : goal.returns-in-Market
+unfolding kind_word
+returns-in-Market c = simp c.in-Market.is
+
+pub returns-in-Limit : goal.returns-in-Limit
+unfolding kind_word
+returns-in-Limit c = simp c.in-Limit.is
+
+pub returns-in-Stop : goal.returns-in-Stop
+unfolding kind_word
+returns-in-Stop c = simp c.in-Stop.is
+
+pub returns-in-StopLimit : goal.returns-in-StopLimit
+unfolding kind_word
+returns-in-StopLimit c = simp c.in-StopLimit.is

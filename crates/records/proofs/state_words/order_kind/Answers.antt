@@ -1,0 +1,20 @@
+-- The definition goes by the same cases.
+use Rattle.words.specs.Prelude.{rules}
+use Rattle.records.specs.{StateWords.order_kind}
+use Rattle.records.proofs.state_words.order_kind.Goals as goal
+
+pub returns-in-Idle : goal.returns-in-Idle
+unfolding order_kind
+returns-in-Idle c = cc
+
+pub returns-in-EnterLong : goal.returns-in-EnterLong
+unfolding order_kind
+returns-in-EnterLong c = simp c.in-EnterLong.is
+
+pub returns-in-EnterShort : goal.returns-in-EnterShort
+unfolding order_kind
+returns-in-EnterShort c = simp c.in-EnterShort.is
+
+pub returns-in-Exit : goal.returns-in-Exit
+unfolding order_kind
+returns-in-Exit c = simp c.in-Exit.is
