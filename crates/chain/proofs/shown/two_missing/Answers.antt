@@ -1,0 +1,6 @@
+-- The first missing of the two. Assumes nothing.
+use Rattle.words.specs.Prelude.{rules}
+use Rattle.chain.proofs.shown.two_missing.Goals as goal
+
+pub returns : goal.returns
+returns c = rw (← c.first_missing-x.ensures, ← c.first_missing-y.ensures) c.first_found.ensures

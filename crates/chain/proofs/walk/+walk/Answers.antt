@@ -1,0 +1,30 @@
+use Rattle.words.specs.Prelude.{ℕ, ◌<◌, sym, ◌∙◌, arith, rules, In, Measures, is, falls, and}
+use Rattle.chain.specs.{Laws.Steps.goes_down}
+use Rattle.chain.proofs.{Walking.walked_one, Walking.walked_on}
+use Rattle.chain.proofs.walk.+walk.Goals as goal
+
+pub put_line-requires : goal.put_line-requires
+put_line-requires t c =
+    omega arith
+
+pub overflow_sub-left : goal.overflow_sub-left
+overflow_sub-left t c =
+    omega (arith, goes_down _ _ _ _ _ _ _ _ (sym c.next_node.ensures ∙ c.in-Node.is))
+
+pub walk-requires : goal.walk-requires
+walk-requires t c =
+    let down = goes_down _ _ _ _ _ _ _ _ (sym c.next_node.ensures ∙ c.in-Node.is) in
+    (omega (arith, down), omega (arith, down))
+
+pub returns-in-Stop : goal.returns-in-Stop
+returns-in-Stop t c =
+    let both = walked_one _ _ _ _ _ _ _ _ _ _ _ c.put_line.ensures
+    c.next_node.ensures c.in-Stop.is in
+    record { value = both.0; lines_after = both.1 }
+
+pub returns-in-Node : goal.returns-in-Node
+returns-in-Node t c =
+    let both = walked_on _ _ _ _ _ _ _ _ _ _ _ c.put_line.ensures c.next_node.ensures _ _ _
+    c.in-Node.is
+    c.walk.ensures.value c.walk.ensures.lines_after in
+    record { value = both.0; lines_after = both.1 }
