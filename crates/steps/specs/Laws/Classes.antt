@@ -1,4 +1,4 @@
--- The classes of steps: the numbers in each, and what a step of a class says. Whoever goes by a class needs no number of a kind in it.
+-- The classes of steps: the numbers in each, and what a step of a class says. Whoever goes by a class rules no number of a kind in it.
 use Rattle.words.specs.Prelude.{ℕ, ◌≤◌, ◌<◌, ◌≡◌, refl, sym, Bool, true, false, true≢false, ◌&&◌, arith, ltb, leb, leb-true, ltb-true, ltb-false, eq-eqb}
 use Rattle.words.specs.Prelude.{ne_eqb, le-leb, lt-ltb, le-ltb}
 use Rattle.steps.specs.{declared.step.Step.Step, declared.step.Op.TheVariants.Arith, declared.step.Op.TheVariants.Compare}

@@ -1,4 +1,6 @@
 -- Steps written as bytes read back as the same steps.
+use Rattle.words.specs.Prelude.{sym}
+use Rattle.words.specs.Prelude.{ap}
 use Rattle.words.specs.Prelude.{ℕ, ◌+◌, ◌-◌, ◌*◌, ◌/◌, ◌%◌, ◌<◌, ◌≤◌, ◌≡◌, refl, ◌∙◌, true, false, ⊎_elim, List, [], ◌∷◌, ◌++◌, append_assoc, arith}
 use Rattle.words.specs.Prelude.{mod-eq_of_lt, mod-add-div, div-div-eq-div-mul, length, get_or, length-append, get_or-append-add, lt-ltb}
 use Rattle.words.specs.{Limits.most_steps, Laws.Numbers.less_or_not}
@@ -121,6 +123,7 @@ says_back (InPosition false) s = refl
 says_back (BarsSinceEntry p k) s = refl
 says_back (JumpIf true skip) s = refl
 says_back (JumpIf false skip) s = refl
+says_back Unknown s = elim s [ ]
 
 sized : (x : Op) → Sayable x → StepFits (step_of x)
 unfolding Sayable SayableSeries step_of extreme_step
@@ -139,6 +142,7 @@ sized (InPosition true) s = record { selector = omega arith; skip = omega arith;
 sized (InPosition false) s = record { selector = omega arith; skip = omega arith; n = omega arith; bits = omega arith }
 sized (BarsSinceEntry p k) s = record { selector = omega arith; skip = omega arith; n = omega arith; bits = omega arith }
 sized (JumpIf w skip) s = record { selector = omega arith; skip = omega arith; n = omega arith; bits = omega arith }
+sized Unknown s = elim s [ ]
 
 -- ---- a list of steps
 
@@ -193,7 +197,8 @@ ops_back pre p e (x ∷ xs) s =
     let sb : List ℕ = step_bytes (step_of x) in
     let sixteen : length sb ≡ 16 = unfold step_bytes in refl in
     let rest : ops_from ((pre ++ sb) ++ bytes_of xs) (p + 1) (length xs) ≡ xs = ops_back (pre ++ sb) (p + 1) (omega (arith, length-append pre sb)) xs s.1 in
-    rw (step_there pre p e x (bytes_of xs) s.0, says_back x s.0, ← append_assoc pre sb (bytes_of xs), rest)
+    rw (step_there pre p e x (bytes_of xs) s.0, says_back x s.0)
+    (ap (λ (l : List ℕ). x ∷ ops_from l (p + 1) (length xs)) (sym (append_assoc pre sb (bytes_of xs))) ∙ ap (λ (l : List Op). x ∷ l) rest)
 
 -- a list of steps, written and read
 pub ops_of_bytes : (xs : List Op) → length xs ≤ most_steps → AllSayable xs → ops_of (bytes_of xs) ≡ xs

@@ -1,4 +1,8 @@
 -- A list that is written from steps with right fields is well formed, and reads back as those steps.
+use Rattle.words.specs.Prelude.{◌∙◌}
+use Rattle.words.specs.Prelude.{sym}
+use Rattle.words.specs.Prelude.{ap}
+use Rattle.steps.specs.declared.step.Op.TheVariants.{Unknown}
 use Rattle.words.specs.Prelude.{ℕ, ◌+◌, ◌-◌, ◌*◌, ◌%◌, ◌<◌, ◌≤◌, ◌≡◌, refl, true, ◌&&◌, List, [], ◌∷◌, ◌++◌, append_assoc, arith, length, length-append, lt-ltb}
 use Rattle.words.specs.Prelude.{le-ltb, le-leb, eq-eqb}
 use Rattle.words.specs.{Limits.most_slots, Limits.most_rows, Limits.most_steps}
@@ -36,6 +40,7 @@ module _ (K D : ℕ) (few : K ≤ most_slots) (near : D ≤ most_rows) where
   sayable after (InPosition w) g = tt
   sayable after (BarsSinceEntry p k) g = g
   sayable after (JumpIf w skip) g = g.1
+  sayable after Unknown g = elim g [ ]
 
   all_sayable : (xs : List Op) → AllFieldsRight K D xs → AllSayable xs
   unfolding AllFieldsRight AllSayable
@@ -66,6 +71,7 @@ module _ (K D : ℕ) (few : K ≤ most_slots) (near : D ≤ most_rows) where
   right_is after (InPosition w) g = refl
   right_is after (BarsSinceEntry p k) g = refl
   right_is after (JumpIf w skip) g = rw (le-leb skip after g.0)
+  right_is after Unknown g = elim g [ ]
 
   good_step_lem : (after : ℕ) (x : Op) → FieldsRight K D after x → good_step K D after (step_of x) ≡ true
   unfolding good_step
@@ -79,7 +85,8 @@ module _ (K D : ℕ) (few : K ≤ most_slots) (near : D ≤ most_rows) where
       let sixteen : length sb ≡ 16 = unfold step_bytes in refl in
       let rest : formed_from K D ((pre ++ sb) ++ bytes_of xs) (p + 1) (length xs) ≡ Well =
       well_from (pre ++ sb) (p + 1) (omega (arith, length-append pre sb)) xs g.1 in
-      rw (step_there pre p e x (bytes_of xs) (sayable (length xs) x g.0), good_step_lem (length xs) x g.0, ← append_assoc pre sb (bytes_of xs), rest)
+      rw (step_there pre p e x (bytes_of xs) (sayable (length xs) x g.0), good_step_lem (length xs) x g.0)
+      (ap (λ (l : List ℕ). formed_from K D l (p + 1) (length xs)) (sym (append_assoc pre sb (bytes_of xs))) ∙ rest)
 
   -- the bytes of steps with right fields are a well_formed list
   pub well_formed : (xs : List Op) → length xs ≤ most_steps → AllFieldsRight K D xs → formed K D (bytes_of xs) ≡ Well

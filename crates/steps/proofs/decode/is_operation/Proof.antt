@@ -1,9 +1,0 @@
--- The tests are those of the definition.
-use Rattle.words.specs.Prelude.{lt-leb, le-leb}
-use Rattle.steps.specs.{Bytes.is_operation}
-use Rattle.steps.proofs.{decode.is_operation.Statement.statement}
-use Rattle.steps.proofs.decode.is_operation.Tie as tie
-
-pub is_operation_spec : {M : Type 1} → statement M
-unfolding is_operation
-is_operation_spec = tie.close (tie.spec (λ c. rw (lt-leb _ _ c.if1.true)) (λ c. rw (le-leb _ _ c.if1.false)))

@@ -1,0 +1,14 @@
+-- The loop's invariant: the best so far is that of the rows before `at`, and its word is below the infinity's.
+use Rattle.words.specs.Prelude.{rules, ℕ, ◌+◌, ◌-◌, ◌*◌, ◌<◌, ◌≤◌, ◌≡◌, refl, ⊎_elim, arith, mul-le-mul_right, length, not-false}
+use Rattle.floats.specs.{Floats.float_of}
+use Rattle.rules.specs.{declared.values.Value.TheVariants.Number, Values.words_from, Values.took}
+use Rattle.steps.specs.{Looks.over_of, Looks.of_row, Looks.best_after}
+use Rattle.steps.proofs.{Words.high_stays, Words.high_goes, Words.low_stays, Words.low_goes, Looks.place_in, Looks.next_row, Looks.best_next}
+use Rattle.steps.proofs.looking.quick_rows.Given as goal
+
+abbrev pub invariant-loop-left : goal.invariant-loop-left
+invariant-loop-left l = (l.left ≤ l.count) × (l.at ≡ l.base + (l.count - l.left) * (7 + l.slots)) × (l.best < 0x7ff0_0000_0000_0000)
+    × (Number (float_of l.best) ≡ best_after l.kind (over_of l.slot l.which) l.rows l.slots l.base (Number (float_of l.start)) (l.count - l.left))
+
+abbrev pub decreases-loop-left : goal.decreases-loop-left
+decreases-loop-left l = l.left

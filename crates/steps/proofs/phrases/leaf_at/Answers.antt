@@ -1,0 +1,6 @@
+-- The step at p is the one that is read.
+use Rattle.words.specs.Prelude.{rules}
+use Rattle.steps.proofs.phrases.leaf_at.Goals as goal
+
+pub returns : goal.returns
+returns c e s a b c2 d y = rw (← c.step_at.ensures.0) (c.leaf_at_once.ensures e s a b c2 d y)

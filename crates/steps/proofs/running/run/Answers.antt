@@ -1,0 +1,88 @@
+-- The refusals are those of the definition, in its order.
+use Rattle.words.specs.Prelude.{rules, lt-ltb, le-ltb}
+use Rattle.steps.specs.{Running.ran_if, Running.runs}
+use Rattle.steps.proofs.running.run.Goals as goal
+
+pub returns-then-slots-gt-MOST_SLOTS : goal.returns-then-slots-gt-MOST_SLOTS
+unfolding ran_if runs
+returns-then-slots-gt-MOST_SLOTS c = rw (lt-ltb _ _ c.if-slots-gt-MOST_SLOTS.true)
+
+pub returns-then-depth-lt1 : goal.returns-then-depth-lt1
+unfolding ran_if runs
+returns-then-depth-lt1 c = rw (le-ltb _ _ c.if-slots-gt-MOST_SLOTS.false, lt-ltb _ _ c.if-depth-lt1.true)
+
+pub returns-then-depth-gt-MOST_ROWS : goal.returns-then-depth-gt-MOST_ROWS
+unfolding ran_if runs
+returns-then-depth-gt-MOST_ROWS c =
+    rw (le-ltb _ _ c.if-slots-gt-MOST_SLOTS.false, le-ltb _ _ c.if-depth-lt1.false, lt-ltb _ _ c.if-depth-gt-MOST_ROWS.true)
+
+pub are_whole-requires : goal.are_whole-requires
+unfolding ran_if runs
+are_whole-requires c = search rules
+
+pub state_right-requires : goal.state_right-requires
+unfolding ran_if runs
+state_right-requires c = search rules
+
+pub check-requires : goal.check-requires
+unfolding ran_if runs
+check-requires c = search rules
+
+pub run-requires : goal.run-requires
+unfolding ran_if runs
+run-requires c = search rules
+
+pub returns-in-Well : goal.returns-in-Well
+unfolding ran_if runs
+returns-in-Well c =
+    rw (
+      le-ltb _ _ c.if-slots-gt-MOST_SLOTS.false,
+      le-ltb _ _ c.if-depth-lt1.false,
+      le-ltb _ _ c.if-depth-gt-MOST_ROWS.false,
+      ← c.are_whole.ensures,
+      c.if-are_whole.true,
+      ← c.state_right.ensures,
+      c.if-state_right.true,
+      ← c.check.ensures,
+      c.in-Well.is,
+      c.run.ensures,
+    )
+
+pub returns-in-Bad : goal.returns-in-Bad
+unfolding ran_if runs
+returns-in-Bad c =
+    rw (
+      le-ltb _ _ c.if-slots-gt-MOST_SLOTS.false,
+      le-ltb _ _ c.if-depth-lt1.false,
+      le-ltb _ _ c.if-depth-gt-MOST_ROWS.false,
+      ← c.are_whole.ensures,
+      c.if-are_whole.true,
+      ← c.state_right.ensures,
+      c.if-state_right.true,
+      ← c.check.ensures,
+      c.in-Bad.is,
+    )
+
+pub returns-else-state_right : goal.returns-else-state_right
+unfolding ran_if runs
+returns-else-state_right c =
+    rw (
+      le-ltb _ _ c.if-slots-gt-MOST_SLOTS.false,
+      le-ltb _ _ c.if-depth-lt1.false,
+      le-ltb _ _ c.if-depth-gt-MOST_ROWS.false,
+      ← c.are_whole.ensures,
+      c.if-are_whole.true,
+      ← c.state_right.ensures,
+      c.if-state_right.false,
+    )
+
+pub returns-else-are_whole : goal.returns-else-are_whole
+unfolding ran_if runs
+returns-else-are_whole c =
+    rw (
+      le-ltb _ _ c.if-slots-gt-MOST_SLOTS.false,
+      le-ltb _ _ c.if-depth-lt1.false,
+      le-ltb _ _ c.if-depth-gt-MOST_ROWS.false,
+      ← c.are_whole.ensures,
+      c.if-are_whole.false,
+    )
