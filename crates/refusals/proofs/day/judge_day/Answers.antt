@@ -1,0 +1,64 @@
+-- Room, settings and state are blocks, each judged by itself; the list of bars comes last.
+use Rattle.words.specs.Prelude.{refl, sym, ◌∙◌, rules}
+use Rattle.records.specs.{Lent.rooms}
+use Rattle.refusals.specs.{Day.day_lines}
+use Rattle.refusals.specs.Laws.Descent.{Below, top, past, stop, past_block, stop_block, all_hold}
+use Rattle.refusals.proofs.day.judge_day.Goals as goal
+
+pub judge_room-requires : goal.judge_room-requires
+unfolding day_lines
+judge_room-requires c = search rules
+
+pub returns-in-Bad : goal.returns-in-Bad
+unfolding day_lines
+returns-in-Bad c = stop_block top _ _ c.judge_room.ensures refl c.in-Bad.is
+
+pub judge_settings-requires : goal.judge_settings-requires
+unfolding day_lines
+judge_settings-requires c = search rules
+
+pub returns-in-Bad-judge_settings : goal.returns-in-Bad-judge_settings
+unfolding day_lines
+returns-in-Bad-judge_settings c =
+    let past1 : (let a = c.args in
+    Below (day_lines a.span a.s a.t a.bars.now (rooms a.rows.now a.equity.now a.trades.now))) = past_block top _ _ c.judge_room.ensures refl c.in_default.is in
+    stop_block (past1) _ _ c.judge_settings.ensures refl c.in-Bad-judge_settings.is
+
+pub judge_state-requires : goal.judge_state-requires
+unfolding day_lines
+judge_state-requires c = search rules
+
+pub returns-in-Bad-judge_state : goal.returns-in-Bad-judge_state
+unfolding day_lines
+returns-in-Bad-judge_state c =
+    let past2 : (let a = c.args in
+    Below (day_lines a.span a.s a.t a.bars.now (rooms a.rows.now a.equity.now a.trades.now))) = let past1 : (let a = c.args in
+    Below (day_lines a.span a.s a.t a.bars.now (rooms a.rows.now a.equity.now a.trades.now))) = past_block top _ _ c.judge_room.ensures refl c.in_default.is in
+    past_block (past1) _ _ c.judge_settings.ensures refl c.in_default-judge_settings.is in
+    stop_block (past2) _ _ c.judge_state.ensures refl c.in-Bad-judge_state.is
+
+pub are_for-requires : goal.are_for-requires
+unfolding day_lines
+are_for-requires c = search rules
+
+pub returns-then-are_for : goal.returns-then-are_for
+unfolding day_lines
+returns-then-are_for c =
+    let past3 : (let a = c.args in
+    Below (day_lines a.span a.s a.t a.bars.now (rooms a.rows.now a.equity.now a.trades.now))) = let past2 : (let a = c.args in
+    Below (day_lines a.span a.s a.t a.bars.now (rooms a.rows.now a.equity.now a.trades.now))) = let past1 : (let a = c.args in
+    Below (day_lines a.span a.s a.t a.bars.now (rooms a.rows.now a.equity.now a.trades.now))) = past_block top _ _ c.judge_room.ensures refl c.in_default.is in
+    past_block (past1) _ _ c.judge_settings.ensures refl c.in_default-judge_settings.is in
+    past_block (past2) _ _ c.judge_state.ensures refl c.in_default-judge_state.is in
+    all_hold (past (past3) refl (sym c.are_for.ensures ∙ c.if-are_for.true)) refl
+
+pub returns : goal.returns
+unfolding day_lines
+returns c =
+    let past3 : (let a = c.args in
+    Below (day_lines a.span a.s a.t a.bars.now (rooms a.rows.now a.equity.now a.trades.now))) = let past2 : (let a = c.args in
+    Below (day_lines a.span a.s a.t a.bars.now (rooms a.rows.now a.equity.now a.trades.now))) = let past1 : (let a = c.args in
+    Below (day_lines a.span a.s a.t a.bars.now (rooms a.rows.now a.equity.now a.trades.now))) = past_block top _ _ c.judge_room.ensures refl c.in_default.is in
+    past_block (past1) _ _ c.judge_settings.ensures refl c.in_default-judge_settings.is in
+    past_block (past2) _ _ c.judge_state.ensures refl c.in_default-judge_state.is in
+    stop (past3) refl (sym c.are_for.ensures ∙ c.if-are_for.false)

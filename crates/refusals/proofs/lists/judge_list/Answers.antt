@@ -1,0 +1,24 @@
+-- An empty list is well formed. A bad step's place is below 1,024, so the sum fits. Assumes nothing.
+use Rattle.words.specs.Prelude.{sym, ◌∙◌, arith, rules}
+use Rattle.steps.specs.{Laws.Empty.empty_well}
+use Rattle.refusals.specs.{Lines.judged, Laws.BadStep.bad_below}
+use Rattle.refusals.proofs.lists.judge_list.Goals as goal
+
+pub returns-then-steps-eq0 : goal.returns-then-steps-eq0
+unfolding judged
+returns-then-steps-eq0 c =
+    let a = c.args in
+    simp (empty_well a.slots a.depth a.steps.now c.if-steps-eq0.true)
+
+pub overflow_add-place : goal.overflow_add-place
+overflow_add-place c =
+    let a = c.args in
+    omega (arith, bad_below a.slots a.depth a.steps.now _ (sym c.check-form.ensures ∙ c.in-Bad.is))
+
+pub returns-in-Well : goal.returns-in-Well
+unfolding judged
+returns-in-Well c = simp (sym c.check-form.ensures ∙ c.in-Well.is)
+
+pub returns-in-Bad : goal.returns-in-Bad
+unfolding judged
+returns-in-Bad c = simp (sym c.check-form.ensures ∙ c.in-Bad.is)

@@ -1,0 +1,8 @@
+-- One line: no trade is to be closed, or it has a place.
+use Rattle.words.specs.Prelude.{rules}
+use Rattle.refusals.specs.{Lines.judged, Rooms.close_lines}
+use Rattle.refusals.proofs.rooms.judge_close.Goals as goal
+
+pub returns : goal.returns
+unfolding judged close_lines
+returns c = cc
