@@ -1,0 +1,54 @@
+-- The table's refusals first, then the lines for rooms and records; where all are fine, each place and count is written.
+use Rattle.words.specs.Prelude.{refl, sym, ◌∙◌, arith, rules}
+use Rattle.table.specs.{Bytes.Bytes}
+use Rattle.questions.specs.{Over.unless_refused, Laws.Known.known}
+use Rattle.questions.proofs.{Asking.table_refused, Asking.lines_judged, Asking.seen}
+use Rattle.questions.proofs.over.explain_over.Goals as goal
+
+pub check-checked-requires : goal.check-checked-requires
+unfolding unless_refused
+check-checked-requires c = search rules
+
+pub slots-slots-requires : goal.slots-slots-requires
+unfolding unless_refused
+slots-slots-requires c = search rules
+
+pub judge_over-verdict-requires : goal.judge_over-verdict-requires
+unfolding unless_refused
+judge_over-verdict-requires c = search rules
+
+pub explain_rows-requires : goal.explain_rows-requires
+unfolding Bytes
+explain_rows-requires c =
+    let a = c.args in
+    let f = seen a.t.now a.rows.now a.positions.now _ _ _ c.slots-slots.ensures _ c.judge_over-verdict.ensures
+    c.in-Fine.is in (
+      known a.t.now (λ j. omega (arith, c.type_inv.t j)) _ _
+          (sym c.check-checked.ensures.0 ∙ c.in-Accepted.is) _ c.check-checked.ensures.1,
+      f.held,
+      f.places,
+    )
+
+pub returns-in-Refused : goal.returns-in-Refused
+unfolding unless_refused
+returns-in-Refused c = (table_refused _ _ _ _ _ _ _ c.check-checked.ensures.0 c.in-Refused.is, refl, refl)
+
+pub returns-in-Bad : goal.returns-in-Bad
+unfolding unless_refused
+returns-in-Bad c = (
+  sym c.in-Bad.is
+      ∙ lines_judged _ _ _ _ _ _ c.slots-slots.ensures _ c.judge_over-verdict.ensures _ _ _ c.check-checked.ensures.0
+      c.in-Accepted.is,
+  refl,
+  refl,
+)
+
+pub returns-in-Fine : goal.returns-in-Fine
+unfolding unless_refused
+returns-in-Fine c = (
+  sym c.in-Fine.is
+      ∙ lines_judged _ _ _ _ _ _ c.slots-slots.ensures _ c.judge_over-verdict.ensures _ _ _ c.check-checked.ensures.0
+      c.in-Accepted.is,
+  c.explain_rows.ensures.lines_after,
+  c.explain_rows.ensures.counts_after,
+)

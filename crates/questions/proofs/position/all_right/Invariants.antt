@@ -1,0 +1,12 @@
+-- Those before position i are in order; the first that is not decides.
+use Rattle.words.specs.Prelude.{◌-◌, ◌≤◌, ◌≡◌, true, sym, ap, ◌∙◌, arith, rules}
+use Rattle.rules.specs.{Answers.state_right}
+use Rattle.refusals.specs.{Laws.Every.every_none, Laws.Every.every_more, Laws.Every.every_no}
+use Rattle.questions.specs.{Position.all_right}
+use Rattle.questions.proofs.position.all_right.Given as goal
+
+abbrev pub invariant-loop-i : goal.invariant-loop-i
+invariant-loop-i l = (l.i ≤ l.n) × (all_right l.positions l.i ≡ true)
+
+abbrev pub decreases-loop-i : goal.decreases-loop-i
+decreases-loop-i l = l.n - l.i
