@@ -1,5 +1,5 @@
 -- "the first gives the rule's answer (an absent tree has no lines)": joined with what `answer_rule` promises. Assumes nothing.
-use Rattle.words.specs.Prelude.{ℕ, ◌*◌, ◌<◌, ◌≡◌, refl, sym, ap, ◌∙◌, Bool, true, false, cond, ◌&&◌, List, [], ◌∷◌, arith, ltb, leb, eqb, length, lt-leb}
+use Rattle.words.specs.Prelude.{ℕ, ◌*◌, ◌<◌, ◌≡◌, refl, ap, ◌∙◌, Bool, true, false, cond, ◌&&◌, List, [], ◌∷◌, arith, ltb, eqb, length, lt-leb}
 use Rattle.words.specs.Prelude.{eqb-true, eqb-false}
 use Rattle.words.specs.{Limits.trees, Outcome.refusal}
 use Rattle.rows.specs.{History.History, History.history_of, History.whole_rows}
@@ -7,9 +7,9 @@ use Rattle.table.specs.{declared.answer.Answer.Answer, declared.answer.Answer.Th
 use Rattle.table.specs.{declared.trees.Tree.Tree, Header.slots, Header.count, Header.root, Header.tree_number, Checked.checked, Reading.tree_of, Trees.Condition}
 use Rattle.table.specs.{Trees.compare, Trees.cross, Trees.between, Trees.trend, Trees.every, Trees.any, Trees.negated, Trees.in_position, Trees.bars_since}
 use Rattle.rules.specs.{declared.position.PositionState.PositionState, declared.answers.RuleAnswer.RuleAnswer, declared.answers.RuleAnswer.TheVariants.Says}
-use Rattle.rules.specs.{Meaning.newest, Meaning.holds, Meaning.says, Answers.state_right, Answers.judged, Answers.after_check, Answers.answered}
+use Rattle.rules.specs.{Meaning.newest, Meaning.says, Answers.state_right, Answers.judged, Answers.after_check, Answers.answered}
 use Rattle.rules.specs.{Laws.Answers.tree_of_four, Laws.Answers.absent_says}
-use Rattle.chain.specs.{declared.explain.Explained.Explained, declared.explain.Explained.TheVariants.Lines, declared.explain.Explained.TheVariants.Refuses}
+use Rattle.chain.specs.{declared.explain.Explained.TheVariants.Lines, declared.explain.Explained.TheVariants.Refuses}
 use Rattle.chain.specs.{Missing.in_table, Chain.ChainLine, Chain.line_at, Chain.chain, Lines.line_length, Explained.explanation, Explained.most_lines}
 use Rattle.chain.specs.{Explained.explained_by, Explained.explained}
 

@@ -1,6 +1,6 @@
 -- Each line is true of the rule's meaning, and shows all that is: what a line shows is true of its condition (Telling), and nothing else is. At any
 -- bar up to the newest.
-use Rattle.words.specs.Prelude.{ℕ, zero, suc, ◌+◌, ◌-◌, ◌≤◌, ◌<◌, ◌≡◌, refl, sym, ap, ◌∙◌, Bool, true, false, not, cond, ◌&&◌, List, [], ◌∷◌, ◌++◌, ◌⊎◌, inl}
+use Rattle.words.specs.Prelude.{ℕ, zero, suc, ◌+◌, ◌-◌, ◌≤◌, ◌<◌, ◌≡◌, refl, sym, ap, Bool, true, false, cond, ◌&&◌, List, [], ◌∷◌, ◌++◌, ◌⊎◌, inl}
 use Rattle.words.specs.Prelude.{inr, arith, ltb, eqb, Float, eqb-true, eqb-false, ne_eqb, ltb-true, ltb-false, lt-ltb, le-ltb}
 use Rattle.rows.specs.{History.History}
 use Rattle.table.specs.{Trees.Operand, Trees.const, Trees.ref, Trees.price, Trees.prev, Trees.arith as sums, Trees.extreme, Trees.Condition, Trees.compare}
@@ -8,13 +8,13 @@ use Rattle.table.specs.{Trees.cross, Trees.between, Trees.trend, Trees.every, Tr
 use Rattle.table.specs.{Writing.nodes_in}
 use Rattle.rules.specs.{declared.values.Value.Value, declared.values.Value.TheVariants.Missing, declared.values.Value.TheVariants.Number}
 use Rattle.rules.specs.{declared.position.PositionState.PositionState, declared.position.Entered.Entered, declared.position.Entered.TheVariants.Never}
-use Rattle.rules.specs.{declared.position.Entered.TheVariants.Bar, Values.held, Values.tested, Values.compared, Values.crossed, Values.within, Values.trended}
-use Rattle.rules.specs.{Values.bars_tested, Values.counted_since, Meaning.newest, Meaning.value, Meaning.holds, Laws.Missing.either_way}
+use Rattle.rules.specs.{declared.position.Entered.TheVariants.Bar, Values.held, Values.compared, Values.crossed, Values.within, Values.trended}
+use Rattle.rules.specs.{Values.counted_since, Meaning.newest, Meaning.value, Meaning.holds, Laws.Missing.either_way}
 use Rattle.rules.specs.{Laws.Missing.compared_late, Laws.Missing.trended_late, Laws.Missing.within_low, Laws.Missing.within_high, Laws.Missing.within_value}
 use Rattle.rules.specs.{Laws.Missing.crossed_first, Laws.Missing.crossed_second}
 use Rattle.chain.specs.{declared.missing.Found.Found, declared.missing.Found.TheVariants.Nowhere, declared.missing.Found.TheVariants.Leaf, Missing.in_table}
 use Rattle.chain.specs.{Missing.first_found, Missing.gone_if, Missing.leaf_gone, Missing.newest_gone, Missing.missing_in, Missing.missing_in_two}
-use Rattle.chain.specs.{Missing.missing_in_three, Chain.Shown, Chain.values, Chain.missing, Chain.at_first_bar, Chain.too_few_bars, Chain.position, Chain.since_entry}
+use Rattle.chain.specs.{Missing.missing_in_three, Chain.Shown, Chain.missing, Chain.at_first_bar, Chain.too_few_bars, Chain.position, Chain.since_entry}
 use Rattle.chain.specs.{Chain.no_entry, Chain.shown_by, Chain.shown_from, Chain.shown_since, Chain.shown, Chain.ChainLine, Chain.line_at}
 use Rattle.reasons.specs.{Looks.Look, Looks.look, Looks.looks_back, Looks.looks_in, Looks.looks_of, Looks.seen, Looks.IsThere, Looks.number}
 use Rattle.reasons.specs.{Looks.FirstMissing, Looks.this, Looks.later, Telling.BarsSince, Telling.passed, Telling.not-below, Telling.LooksAt}

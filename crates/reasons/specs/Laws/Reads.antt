@@ -1,5 +1,5 @@
 -- An operand has a value at a bar exactly where none of the leaves that it looks at is missing. Assumes nothing.
-use Rattle.words.specs.Prelude.{ℕ, zero, suc, ◌+◌, ◌-◌, ◌≤◌, ◌<◌, ◌≡◌, refl, sym, ap, subst, Bool, true, false, cond, arith, ltb, Float, le-ltb, lt-ltb}
+use Rattle.words.specs.Prelude.{ℕ, zero, suc, ◌+◌, ◌-◌, ◌≤◌, ◌<◌, ◌≡◌, refl, ap, subst, Bool, true, false, cond, arith, ltb, Float, le-ltb, lt-ltb}
 use Rattle.words.specs.Prelude.{ltb-true, ltb-false}
 use Rattle.rows.specs.{History.History}
 use Rattle.table.specs.{declared.series.Series.Series, declared.series.Series.TheVariants.Price, declared.series.Series.TheVariants.Slot, Trees.Operand}
@@ -86,7 +86,8 @@ module _ (h : History) (bar : ℕ) where
   newest_reads kind s i back (suc m) l =
       let at : bar - back - suc m + suc m ≡ bar - back = omega arith in
       let oldest : bar - back - suc m ≡ bar - (back + 1) - m = omega arith in
-      rw (at, ← series_value h s (bar - back), oldest)
+      let older = ap (λ (o : ℕ). extreme_over h kind s o m) oldest in
+      rw (at, ← series_value h s (bar - back), older)
       (reads_pick kind (leaf_reads (as_operand s) i back (omega arith)) (newest_reads kind s i (back + 1) m (omega arith)))
 
   extreme_reads : (kind : ℕ) (s : Series) (n i back : ℕ) → back ≤ bar → (early : Bool) → ltb (bar - back) (n - 1) ≡ early
