@@ -1,0 +1,15 @@
+-- The loop's invariant: the bytes passed are zero.
+use Rattle.words.specs.Prelude.{ℕ, ◌+◌, ◌-◌, ◌≤◌, ◌≡◌, sym, Bool, true, List, arith, eqb, get_or, rules}
+use Rattle.refusals.specs.{Bar.every, Laws.Every.every_none, Laws.Every.every_more, Laws.Every.every_no}
+use Rattle.images.specs.{Refused.zero_at}
+use Rattle.images.proofs.{Testing.equal, Testing.other}
+use Rattle.images.proofs.judge.zero_at.Given as goal
+
+abbrev is_zero : List ℕ → ℕ → ℕ → Bool
+is_zero x at i = eqb (get_or x (at + i) 0) 0
+
+abbrev pub invariant-loop-i : goal.invariant-loop-i
+invariant-loop-i l = (l.i ≤ l.n) × (every l.i (is_zero l.image l.at) ≡ true)
+
+abbrev pub decreases-loop-i : goal.decreases-loop-i
+decreases-loop-i l = l.n - l.i
