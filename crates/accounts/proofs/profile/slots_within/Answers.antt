@@ -1,0 +1,16 @@
+-- The table, then the settings.
+use Rattle.words.specs.Prelude.{lt-leb, le-leb, rules}
+use Rattle.accounts.specs.{Profile.slots_within}
+use Rattle.accounts.proofs.profile.slots_within.Goals as goal
+
+pub slots-requires : goal.slots-requires
+unfolding slots_within
+slots-requires c = search rules
+
+pub returns-then-stream-slots : goal.returns-then-stream-slots
+unfolding slots_within
+returns-then-stream-slots c = rw (← c.slots.ensures, lt-leb _ _ c.if-stream-slots.true)
+
+pub returns : goal.returns
+unfolding slots_within
+returns c = rw (← c.slots.ensures, le-leb _ _ c.if-stream-slots.false)
