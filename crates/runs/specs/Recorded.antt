@@ -93,14 +93,15 @@ worst_more : (long : Bool) (price : Float) (bars : List (List ℕ)) (bar : List 
     → worst_over long price (bars ++ (bar ∷ [])) ≡ worse (candle_of bar) (worst_over long price bars) long
 unfolding worst_over
 worst_more long price [] bar = refl
-worst_more long price (b ∷ bars) bar = worst_more long _ bars bar
+worst_more long price (b ∷ bars) bar = worst_more long (worse (candle_of b) price long) bars bar
 
 paid_more : (s : Settings) (qty sum : Float) (bars : List (List ℕ)) (bar : List ℕ)
     → paid_over s qty sum (bars ++ (bar ∷ []))
     ≡ cond s.funding (paid_with (funding_of s.slots bar) qty (paid_over s qty sum bars)) (paid_over s qty sum bars)
 unfolding paid_over
 paid_more s qty sum [] bar = refl
-paid_more s qty sum (b ∷ bars) bar = paid_more s qty _ bars bar
+paid_more s qty sum (b ∷ bars) bar =
+    paid_more s qty (cond s.funding (paid_with (funding_of s.slots b) qty sum) sum) bars bar
 
 -- ---- trades
 
