@@ -1,0 +1,9 @@
+-- One test.
+use Rattle.words.specs.Prelude.{eq-eqb, ne_eqb}
+use Rattle.heads.proofs.plain.unless_zero.Goals as goal
+
+pub returns-then-n-eq0 : goal.returns-then-n-eq0
+returns-then-n-eq0 c = simp (eq-eqb _ _ c.if-n-eq0.true)
+
+pub returns : goal.returns
+returns c = simp (ne_eqb _ _ c.if-n-eq0.false)
