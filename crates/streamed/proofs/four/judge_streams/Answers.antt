@@ -1,0 +1,9 @@
+-- The lines, one over another.
+use Rattle.words.specs.Prelude.{rules}
+use Rattle.refusals.specs.{Lines.judged}
+use Rattle.streamed.specs.{Accounts.accounts_lines}
+use Rattle.streamed.proofs.four.judge_streams.Goals as goal
+
+pub returns : goal.returns
+unfolding judged accounts_lines
+returns c = cc
