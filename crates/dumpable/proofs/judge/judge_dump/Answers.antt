@@ -1,0 +1,12 @@
+-- Room, area and settings are blocks, each judged by itself; the state comes last.
+use Rattle.words.specs.Prelude.{◌∙◌, rules}
+use Rattle.refusals.specs.{Laws.Lines.two_blocks}
+use Rattle.dumpable.specs.{Refused.dump_judged, Refused.dump_lines}
+use Rattle.dumpable.proofs.judge.judge_dump.Goals as goal
+
+pub returns : goal.returns
+unfolding dump_judged dump_lines
+returns c =
+    c.first_bad.ensures ∙ two_blocks _ _ c.judge_room.ensures
+    (c.first_bad-below-2.ensures ∙ two_blocks _ _ c.judge_area.ensures
+    (c.first_bad-below.ensures ∙ two_blocks _ _ c.judge_settings.ensures c.judge_counts-below.ensures))

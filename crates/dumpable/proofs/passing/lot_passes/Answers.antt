@@ -1,0 +1,6 @@
+-- The two tests, joined.
+use Rattle.words.specs.Prelude.{rules}
+use Rattle.dumpable.proofs.passing.lot_passes.Goals as goal
+
+pub returns : goal.returns
+returns c = cc
