@@ -47,6 +47,8 @@ set_past : (xs : List ℕ) (i j a b : ℕ) → i < j → set (set xs i a) j b �
 set_past [] i j a b l = refl
 set_past (x ∷ xs) zero (suc j) a b l = refl
 set_past (x ∷ xs) (suc i) (suc j) a b l = ap (λ (ys : List ℕ). x ∷ ys) (set_past xs i j a b (omega arith))
+set_past (x ∷ xs) zero zero a b l = elim l [ ]
+set_past (x ∷ xs) (suc i) zero a b l = elim l [ ]
 
 -- a store before them
 laid_past : (area : List ℕ) (base : ℕ) (xs : List ℕ) (p n k b : ℕ) → k < base + p → laid (set area k b) base xs p n ≡ set (laid area base xs p n) k b

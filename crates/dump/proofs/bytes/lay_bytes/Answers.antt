@@ -1,0 +1,26 @@
+use Rattle.words.specs.Prelude.{◌-◌, ◌≤◌, ◌≡◌, refl, arith, length, length-set, rules}
+use Rattle.images.specs.{Layout.words_bytes}
+use Rattle.dump.specs.{Laws.Laid.laid}
+use Rattle.dump.proofs.{Storing.laid_nothing, Storing.laid_next, Storing.laid_all}
+use Rattle.dump.proofs.bytes.lay_bytes.Goals as goal
+
+pub loop-k-init : goal.loop-k-init
+loop-k-init c =
+    let a = c.args in
+    (omega arith, laid_nothing a.area.now a.base (words_bytes a.list.now) a.p, refl, omega arith)
+
+pub loop-k-preserved : goal.loop-k-preserved
+loop-k-preserved c =
+    let a = c.args in (
+      omega arith,
+      laid_next a.area.now a.base (words_bytes a.list.now) a.p c.loop-k.k c.byte_at.result c.loop-k.invariant.0
+          c.loop-k.invariant.1 c.byte_at.ensures,
+      simp length-set c.loop-k.invariant.2,
+      omega arith,
+    )
+
+pub returns : goal.returns
+returns c =
+    let a = c.args in
+    laid_all a.area.now a.base (words_bytes a.list.now) a.p a.q c.loop-k.k c.loop-k-test.false c.loop-k.invariant.3 c.loop-k.invariant.0
+    c.loop-k.invariant.1

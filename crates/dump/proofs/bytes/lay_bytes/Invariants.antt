@@ -1,0 +1,12 @@
+-- The loop's invariant: the bytes before k are laid.
+use Rattle.words.specs.Prelude.{◌-◌, ◌≤◌, ◌≡◌, refl, arith, length, length-set, rules}
+use Rattle.images.specs.{Layout.words_bytes}
+use Rattle.dump.specs.{Laws.Laid.laid}
+use Rattle.dump.proofs.{Storing.laid_nothing, Storing.laid_next, Storing.laid_all}
+use Rattle.dump.proofs.bytes.lay_bytes.Given as goal
+
+abbrev pub invariant-loop-k : goal.invariant-loop-k
+invariant-loop-k l = (l.p ≤ l.k) × (l.area ≡ laid l.initial.area l.base (words_bytes l.list) l.p (l.k - l.p)) × (length l.area ≡ length l.initial.area) × (l.k - l.q ≤ l.p - l.q)
+
+abbrev pub decreases-loop-k : goal.decreases-loop-k
+decreases-loop-k l = l.q - l.k

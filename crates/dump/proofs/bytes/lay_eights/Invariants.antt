@@ -1,0 +1,12 @@
+-- The loop's invariant: the words before k are laid.
+use Rattle.words.specs.Prelude.{◌-◌, ◌*◌, ◌≤◌, ◌≡◌, refl, ap, ◌∙◌, arith, length, rules}
+use Rattle.images.specs.{Layout.words_bytes}
+use Rattle.dump.specs.{Laws.Laid.laid, Laws.Laid.laid-length}
+use Rattle.dump.proofs.{Storing.words_nothing, Storing.eight_next}
+use Rattle.dump.proofs.bytes.lay_eights.Given as goal
+
+abbrev pub invariant-loop-k : goal.invariant-loop-k
+invariant-loop-k l = (l.i ≤ l.k) × (l.k ≤ l.j) × (l.area ≡ laid l.initial.area l.base (words_bytes l.list) (8 * l.i) (8 * (l.k - l.i))) × (length l.area ≡ length l.initial.area)
+
+abbrev pub decreases-loop-k : goal.decreases-loop-k
+decreases-loop-k l = l.j - l.k

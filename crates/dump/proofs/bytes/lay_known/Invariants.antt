@@ -1,0 +1,12 @@
+-- Eights first. The loop's invariant: from where they end, the words before k are laid.
+use Rattle.words.specs.Prelude.{◌-◌, ◌*◌, ◌≤◌, ◌≡◌, refl, ap, ◌∙◌, arith, length, rules}
+use Rattle.images.specs.{Layout.words_bytes}
+use Rattle.dump.specs.{Laws.Laid.laid, Laws.Laid.laid-length}
+use Rattle.dump.proofs.{Storing.words_nothing, Storing.word_next, Storing.words_all, Storing.laid_two}
+use Rattle.dump.proofs.bytes.lay_known.Given as goal
+
+abbrev pub invariant-loop-k : goal.invariant-loop-k
+invariant-loop-k l = (l.initial.k ≤ l.k) × (l.k ≤ l.j) × (l.area ≡ laid l.initial.area l.base (words_bytes l.list) (8 * l.initial.k) (8 * (l.k - l.initial.k))) × (length l.area ≡ length l.initial.area)
+
+abbrev pub decreases-loop-k : goal.decreases-loop-k
+decreases-loop-k l = l.j - l.k

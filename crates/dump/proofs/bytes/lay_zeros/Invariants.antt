@@ -1,0 +1,12 @@
+-- The loop's invariant: the bytes before k are laid. All of them are past the words' end.
+use Rattle.words.specs.Prelude.{◌-◌, ◌≤◌, ◌≡◌, refl, sym, arith, length, length-set, List·get_or-eq_default, rules}
+use Rattle.images.specs.{Layout.words_bytes}
+use Rattle.dump.specs.{Laws.Laid.laid, Laws.WordBytes.words_long}
+use Rattle.dump.proofs.{Storing.laid_nothing, Storing.laid_next, Storing.laid_all}
+use Rattle.dump.proofs.bytes.lay_zeros.Given as goal
+
+abbrev pub invariant-loop-k : goal.invariant-loop-k
+invariant-loop-k l = (l.p ≤ l.k) × (l.area ≡ laid l.initial.area l.base (words_bytes l.list) l.p (l.k - l.p)) × (length l.area ≡ length l.initial.area) × (l.k - l.q ≤ l.p - l.q)
+
+abbrev pub decreases-loop-k : goal.decreases-loop-k
+decreases-loop-k l = l.q - l.k
