@@ -8,7 +8,6 @@ use Rattle.blocks.specs.{Reading.reading, Reading.HighAndLow, Reading.Number, Ap
 use Rattle.blocks.specs.{Stretch.stretched, Laws.Append.Appendable, Laws.Append.appended_has, Laws.Append.is_taken, Laws.Append.finite_number}
 use Rattle.blocks.specs.{Laws.Stretch.answers, Laws.Earliest.reading_is, Laws.Kept.BlocksKept, Laws.Kept.appended_kept, Laws.Kept.empty_kept}
 use Rattle.blocks.specs.{Laws.Kept.told_is}
-use Rattle.blocks.specs.declared.stretch.Found.TheVariants as Found
 
 -- "rooms filled from empty by appending alone": the closes that were appended, in order, the bars held and both rooms. Empty is no bar held, whatever the
 -- rooms hold; a close more is an append that is not refused.

@@ -15,9 +15,6 @@ use Rattle.execution.specs.{declared.terms.Sizing.TheVariants.VolTarget, declare
 use Rattle.execution.specs.{declared.terms.Slippage.Slippage, declared.terms.Slippage.TheVariants.FixedBps}
 use Rattle.execution.specs.{declared.terms.Slippage.TheVariants.VolumeImpact, declared.terms.Terms.Terms}
 use Rattle.std.specs.Float.Ieee as Ieee
-use Rattle.execution.specs.declared.lots.Quantity.TheVariants as Quantity
-use Rattle.execution.specs.declared.terms.Sizing.TheVariants as Sizing
-use Rattle.execution.specs.declared.terms.Slippage.TheVariants as Slippage
 
 -- `let dir = match side { Side::Long => 1.0, Side::Short => -1.0 };`
 unfoldable pub direction : Side → Float

@@ -4,7 +4,6 @@ use Rattle.floats.specs.{Floats.◌⊗◌, Floats.◌⊘◌, Floats.◌≼◌, F
 use Rattle.execution.specs.{declared.optional.Optional.Optional, declared.lots.Quantity.Quantity, declared.lots.Quantity.TheVariants.Nothing}
 use Rattle.execution.specs.{declared.lots.Quantity.TheVariants.TooLarge, declared.lots.Quantity.TheVariants.Of}
 use Rattle.std.specs.Float.Ieee as Ieee
-use Rattle.execution.specs.declared.optional.Optional.TheVariants as Optional
 
 -- "k the largest whole number at most qty/lot as floats compute it; a quotient of 2^53 or more is turned away. A k of 0 or less, or a
 -- quotient that is NaN, means no order."

@@ -14,8 +14,6 @@ use Rattle.execution.specs.{declared.lots.Quantity.TheVariants.Of, declared.leve
 use Rattle.execution.specs.{declared.terms.Slippage.TheVariants.FixedBps, declared.terms.Slippage.TheVariants.VolumeImpact}
 use Rattle.execution.specs.{declared.terms.Slippage.TheVariants.Unknown, declared.terms.Terms.Terms}
 use Rattle.std.specs.Float.Ieee as Ieee
-use Rattle.execution.specs.declared.fills.Entry.TheVariants as Entry
-use Rattle.execution.specs.declared.optional.Optional.TheVariants as Optional
 
 -- ---- a lot of 0
 

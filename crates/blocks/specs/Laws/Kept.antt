@@ -3,7 +3,7 @@ use Rattle.words.specs.Prelude.{ℕ, zero, suc, ◌+◌, ◌-◌, ◌*◌, ◌/�
 use Rattle.words.specs.Prelude.{zero-add, add-suc, lt_irrefl, not-suc-le-zero, ℕ_discrete, arith, eqb-true, eqb-false, lt_of_le-ne, eqb, get_or, set, length}
 use Rattle.words.specs.Prelude.{length-set, get_or-set_same, get_or-set_other}
 use Rattle.blocks.specs.{declared.best.Best.Best, Reading.one, Reading.join, Reading.reading, Reading.Number, Blocks.block_bars, Blocks.block, Blocks.put}
-use Rattle.blocks.specs.{Blocks.grown, Blocks.with_closes, Blocks.with_blocks, Reads.single, Reads.whole, Reads.reads, Reads.front, Reads.begins_block}
+use Rattle.blocks.specs.{Blocks.grown, Blocks.with_closes, Blocks.with_blocks, Reads.reads, Reads.front, Reads.begins_block}
 use Rattle.blocks.specs.{Reads.best, Reads.onto, Reads.told, Laws.Joining.same, Laws.Joining.reading_on, Laws.Reads.block_begins, Laws.Reads.block_fits}
 use Rattle.blocks.specs.{Laws.Reads.reads-block, Laws.Reads.reads_close, Laws.Reads.onto-reads}
 

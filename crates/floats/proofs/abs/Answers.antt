@@ -9,7 +9,7 @@ returns-then-x c = let x = c.args.x in abs_negative x (ap (lt x) (sym zero_is) �
 pub returns-then-x-2 : goal.returns-then-x-2
 returns-then-x-2 c =
     let held : T (fits binary64 c.args.x) = subst T (sym c.well_formed.0.1) tt in
-    let x = c.args.x in zero_is ∙ abs-zero x (held) (ap (eq x) (sym zero_is) ∙ c.if-x-2.true)
+    let x = c.args.x in zero_is ∙ abs-zero x held (ap (eq x) (sym zero_is) ∙ c.if-x-2.true)
 
 pub returns : goal.returns
 returns c =

@@ -1,5 +1,5 @@
 -- `floats::float_of`: the patterns above that of the infinity, with either sign, are the NaNs; any other is read as it stands. Assumes nothing.
-use Rattle.words.specs.Prelude.{◌∙◌, rules}
+use Rattle.words.specs.Prelude.{◌∙◌}
 use Rattle.floats.proofs.{Words.nan_is, Words.word_nan, Words.word_no_nan}
 use Rattle.floats.proofs.float_of.Goals as goal
 

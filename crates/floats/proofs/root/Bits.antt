@@ -1,6 +1,6 @@
 -- What a bit more of a root leaves over, and the number nearest to a root. Assumes nothing.
-use Rattle.words.specs.Prelude.{◌≡◌, refl, sym, ap, subst, ◌∙◌, ◌⊎◌, inl, inr, ℕ, zero, suc, ◌+◌, ◌-◌, ◌*◌, ◌/◌, ◌%◌, ◌^◌, ◌≤◌, ◌<◌, mul-le-mul, lt_of_not-le}
-use Rattle.words.specs.Prelude.{not-le_of_lt, lt_irrefl, lt_of_le_of_lt, lt_of_lt_of_le, le_trans, eq-zero-or-pos, arith}
+use Rattle.words.specs.Prelude.{◌≡◌, refl, sym, ap, subst, ◌∙◌, ◌⊎◌, inl, inr, ℕ, suc, ◌+◌, ◌-◌, ◌*◌, ◌/◌, ◌%◌, ◌^◌, ◌≤◌, ◌<◌, mul-le-mul, lt_of_not-le}
+use Rattle.words.specs.Prelude.{not-le_of_lt, lt_of_lt_of_le, le_trans, eq-zero-or-pos, arith}
 use Rattle.floats.specs.{Root.Goes, Root.WholeRoot, Root.Sized, Root.NearestRoot}
 
 -- s is twice the root of n but for its bits below r, and y times r is left over

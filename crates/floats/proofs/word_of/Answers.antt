@@ -1,5 +1,4 @@
 -- `floats::word_of`: only a NaN differs from itself, and it is written as one pattern. Assumes nothing.
-use Rattle.words.specs.Prelude.{rules}
 use Rattle.floats.proofs.{Words.nan_word, Words.not_nan}
 use Rattle.floats.proofs.word_of.Goals as goal
 

@@ -1,5 +1,5 @@
 -- The last point is the one before as many as there are.
-use Rattle.words.specs.Prelude.{◌≡◌, refl, sym, ap, ◌∙◌, List, [], ◌∷◌, ℕ, zero, suc, ◌-◌, arith, length, get_or, Float, rules}
+use Rattle.words.specs.Prelude.{◌≡◌, refl, sym, ap, ◌∙◌, List, [], ◌∷◌, ℕ, suc, ◌-◌, arith, length, get_or, Float}
 use Rattle.metrics.specs.{Records.equity_of, Figures.final_equity}
 use Rattle.floats.specs.Floats as Floats
 use Rattle.metrics.proofs.final_equity.Goals as goal

@@ -1,5 +1,4 @@
 -- `worse`: a side each, by what `min` and `max` ensure.
-use Rattle.words.specs.Prelude.{rules}
 use Rattle.portfolio.specs.{Portfolio.worse}
 use Rattle.portfolio.proofs.worse.Goals as goal
 

@@ -1,5 +1,5 @@
 -- Each test is a line of the order; what is written is the record with the trades. Assumes nothing.
-use Rattle.words.specs.Prelude.{◌≡◌, refl, sym, ap, ◌∙◌, true, List, ℕ, ◌+◌, ◌*◌, ◌/◌, ◌≤◌, arith, rules, length}
+use Rattle.words.specs.Prelude.{◌≡◌, refl, sym, ap, ◌∙◌, true, List, ℕ, ◌+◌, ◌*◌, ◌/◌, ◌≤◌, arith, length}
 use Rattle.words.specs.{Limits.trade_words, Limits.most_count}
 use Rattle.totals.specs.{Trades.trades_from, Trades.trades_of, Trades.good_start}
 use Rattle.totals.specs.{Trades.pnl_sum, Totals.count_size, Totals.AllAtMost, Totals.counts_of}
@@ -37,25 +37,25 @@ pub traded-traded-requires : goal.traded-traded-requires
 traded-traded-requires c =
     let small : (length c.counts_of-counts.result ≡ count_size)
     × AllAtMost most_count c.counts_of-counts.result = let fine_read : counts_fine c.counts_of-counts.result ≡ true = sym c.fine.ensures ∙ so _ c.if-not-fine.false-raw in
-    (ap length c.counts_of-counts.ensures ∙ length_of _, fine_small _ (fine_read)) in
+    (ap length c.counts_of-counts.ensures ∙ length_of _, fine_small _ fine_read) in
     small
 
 pub count_trades-good-requires : goal.count_trades-good-requires
 count_trades-good-requires c =
     let small : (length c.counts_of-counts.result ≡ count_size)
     × AllAtMost most_count c.counts_of-counts.result = let fine_read : counts_fine c.counts_of-counts.result ≡ true = sym c.fine.ensures ∙ so _ c.if-not-fine.false-raw in
-    (ap length c.counts_of-counts.ensures ∙ length_of _, fine_small _ (fine_read)) in
+    (ap length c.counts_of-counts.ensures ∙ length_of _, fine_small _ fine_read) in
     let judged = c.judged_count-judged.ensures in
     let most = judged_most (length c.args.trades.now / trade_words) in
-    (judged_few _ _ _ (at_most_as (sym judged) refl most.0) refl, at_most_as (sym judged) refl most.1, (small).0, (small).1)
+    (judged_few _ _ _ (at_most_as (sym judged) refl most.0) refl, at_most_as (sym judged) refl most.1, small.0, small.1)
 
 pub overflow_add-traded : goal.overflow_add-traded
 overflow_add-traded c =
     let small : (length c.counts_of-counts.result ≡ count_size)
     × AllAtMost most_count c.counts_of-counts.result = let fine_read : counts_fine c.counts_of-counts.result ≡ true = sym c.fine.ensures ∙ so _ c.if-not-fine.false-raw in
-    (ap length c.counts_of-counts.ensures ∙ length_of _, fine_small _ (fine_read)) in
+    (ap length c.counts_of-counts.ensures ∙ length_of _, fine_small _ fine_read) in
     let good = c.well_formed in
-    omega (arith, c.traded-traded.ensures, traded_most c.counts_of-counts.result (small).1)
+    omega (arith, c.traded-traded.ensures, traded_most c.counts_of-counts.result small.1)
 
 pub returns-in-Refused : goal.returns-in-Refused
 returns-in-Refused c =
@@ -67,7 +67,7 @@ returns-in-Refused c =
     let many = c.count_trades-good.ensures.0 ∙ ap (λ (k : ℕ). length (good_start (trades_from k 0 trades))) judged in
     let traded = c.traded-traded.ensures ∙ ap traded c.counts_of-counts.ensures in
     add_judged start.totals.now trades c.if-totals-lt-TOTAL_WORDS.false c.if-trades-ne0.false
-    (fine_held) many judged (ap (λ (k : ℕ). k + length trades / trade_words) traded) c.bad_trade-bad.ensures c.too_many-many.ensures
+    fine_held many judged (ap (λ (k : ℕ). k + length trades / trade_words) traded) c.bad_trade-bad.ensures c.too_many-many.ensures
     c.first_of-judgement.ensures in
     let told = judged_so ∙ c.in-Refused.is in
     (sym told, add_keeps _ _ _ told)
@@ -84,7 +84,7 @@ returns c =
     let many = c.count_trades-good.ensures.0 ∙ ap (λ (k : ℕ). length (good_start (trades_from k 0 trades))) judged in
     let traded = c.traded-traded.ensures ∙ ap traded c.counts_of-counts.ensures in
     add_judged start.totals.now trades c.if-totals-lt-TOTAL_WORDS.false c.if-trades-ne0.false
-    (fine_held) many judged (ap (λ (k : ℕ). k + length trades / trade_words) traded) c.bad_trade-bad.ensures c.too_many-many.ensures
+    fine_held many judged (ap (λ (k : ℕ). k + length trades / trade_words) traded) c.bad_trade-bad.ensures c.too_many-many.ensures
     c.first_of-judgement.ensures in
     let start = c.args in
     let totals = start.totals.now in
@@ -96,7 +96,7 @@ returns c =
     ∙ ap (λ (l : List ℕ). with_counts l (good_start (trades_from judged.result 0 trades))) c.counts_of-counts.ensures
     ∙ ap (λ (k : ℕ). with_counts (counts_of totals) (good_start (trades_from k 0 trades))) judged.ensures
     ∙ ap (with_counts (counts_of totals)) (all_of_them totals trades c.if-totals-lt-TOTAL_WORDS.false
-    c.if-trades-ne0.false (fine_held) done) in
+    c.if-trades-ne0.false fine_held done) in
     let sum = c.add_trades.ensures
     ∙ ap (λ (l : List ℕ). sum_with l (pnl_sum (trades_of trades))) c.sum_of-before.ensures in (
       sym done,

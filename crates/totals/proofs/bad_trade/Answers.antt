@@ -1,5 +1,5 @@
 -- One line of the order. Assumes nothing.
-use Rattle.words.specs.Prelude.{le-leb, lt-leb, rules}
+use Rattle.words.specs.Prelude.{le-leb, lt-leb}
 use Rattle.totals.proofs.bad_trade.Goals as goal
 
 pub returns-then-good-judged : goal.returns-then-good-judged

@@ -1,5 +1,4 @@
 -- One case for each. Assumes nothing.
-use Rattle.words.specs.Prelude.{rules}
 use Rattle.totals.specs.{Totals.first_of}
 use Rattle.totals.proofs.first_of.Goals as goal
 

@@ -1,5 +1,5 @@
 -- Each test is a line of the order; what is written is the record of both. Assumes nothing.
-use Rattle.words.specs.Prelude.{◌≡◌, refl, sym, ap, ◌∙◌, true, List, ℕ, ◌+◌, arith, rules, length}
+use Rattle.words.specs.Prelude.{◌≡◌, refl, sym, ap, ◌∙◌, true, List, ℕ, ◌+◌, arith, length}
 use Rattle.words.specs.{Limits.most_count}
 use Rattle.totals.specs.{Exact.number_in, Totals.count_size, Totals.AllAtMost, Totals.counts_of}
 use Rattle.totals.specs.{Totals.sum_words, Totals.both_counts, Totals.sum_with, Totals.traded, Totals.counts_fine}
@@ -36,7 +36,7 @@ returns-then-not-fine-2 c =
     let wrong = ap counts_fine (sym c.counts_of-more.ensures) ∙ sym c.fine-2.ensures
     ∙ not_so _ c.if-not-fine-2.true-raw in
     let told = join_other start.totals.now start.other.now c.if-totals-lt-TOTAL_WORDS.false
-    c.if-other-ne-TOTAL_WORDS.false (fine_held) wrong in
+    c.if-other-ne-TOTAL_WORDS.false fine_held wrong in
     (c.refused-then-not-fine-2.ensures ∙ sym told, join_keeps _ _ _ told)
 
 pub traded-requires : goal.traded-requires
@@ -61,8 +61,8 @@ overflow_add-traded c =
       arith,
       c.traded.ensures,
       c.traded-2.ensures,
-      traded_most c.counts_of-counts.result (small).1,
-      traded_most c.counts_of-more.result (small_other).1,
+      traded_most c.counts_of-counts.result small.1,
+      traded_most c.counts_of-more.result small_other.1,
     )
 
 pub returns-then-traded-gt-MOST_COUNT : goal.returns-then-traded-gt-MOST_COUNT
@@ -75,8 +75,8 @@ returns-then-traded-gt-MOST_COUNT c =
     ∙ ap (λ (k : ℕ). traded (counts_of c.args.totals.now) + k) (c.traded-2.ensures ∙ ap traded c.counts_of-more.ensures) in
     let start = c.args in
     let told = join_many start.totals.now start.other.now c.if-totals-lt-TOTAL_WORDS.false
-    c.if-other-ne-TOTAL_WORDS.false (fine_held) (fine_other)
-    (less_as refl (traded_both) c.if-traded-gt-MOST_COUNT.true) in
+    c.if-other-ne-TOTAL_WORDS.false fine_held fine_other
+    (less_as refl traded_both c.if-traded-gt-MOST_COUNT.true) in
     (c.refused-then-traded-gt-MOST_COUNT.ensures ∙ sym told, join_keeps _ _ _ told)
 
 pub both_counts-both-requires : goal.both_counts-both-requires
@@ -85,7 +85,7 @@ both_counts-both-requires c =
     × AllAtMost most_count c.counts_of-counts.result = (ap length c.counts_of-counts.ensures ∙ length_of _, fine_small _ (sym c.fine.ensures ∙ so _ c.if-not-fine.false-raw)) in
     let small_other : (length c.counts_of-more.result ≡ count_size)
     × AllAtMost most_count c.counts_of-more.result = (ap length c.counts_of-more.ensures ∙ length_of _, fine_small _ (sym c.fine-2.ensures ∙ so _ c.if-not-fine-2.false-raw)) in
-    ((small).0, (small_other).0, (small).1, (small_other).1)
+    (small.0, small_other.0, small.1, small_other.1)
 
 pub returns : goal.returns
 returns c =
@@ -99,7 +99,7 @@ returns c =
     let totals = start.totals.now in
     let other = start.other.now in
     let done = join_done totals other c.if-totals-lt-TOTAL_WORDS.false c.if-other-ne-TOTAL_WORDS.false
-    (fine_held) (fine_other) (at_most_as (traded_both) refl c.if-traded-gt-MOST_COUNT.false) in
+    fine_held fine_other (at_most_as traded_both refl c.if-traded-gt-MOST_COUNT.false) in
     let counts =
     c.both_counts-both.ensures
     ∙ ap (λ (l : List ℕ). both_counts l c.counts_of-more.result)

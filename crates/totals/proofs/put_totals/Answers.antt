@@ -1,5 +1,5 @@
 -- Counts, sum and float fill the 43 words. Assumes nothing.
-use Rattle.words.specs.Prelude.{ap, ◌∙◌, List, ℕ, rules, set}
+use Rattle.words.specs.Prelude.{ap, ◌∙◌, List, ℕ, set}
 use Rattle.words.specs.{Words.overwrite}
 use Rattle.totals.proofs.{Writing.filled}
 use Rattle.totals.proofs.put_totals.Goals as goal

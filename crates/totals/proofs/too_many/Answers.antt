@@ -1,5 +1,5 @@
 -- One line of the order. Assumes nothing.
-use Rattle.words.specs.Prelude.{le-leb, lt-leb, rules}
+use Rattle.words.specs.Prelude.{le-leb, lt-leb}
 use Rattle.totals.proofs.too_many.Goals as goal
 
 pub returns-then-trades-gt-MOST_COUNT : goal.returns-then-trades-gt-MOST_COUNT

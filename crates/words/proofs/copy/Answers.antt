@@ -1,4 +1,4 @@
-use Rattle.words.specs.Prelude.{rules, arith, ◌≡◌, refl, ap, ◌∙◌, List, ℕ, ◌+◌, ◌-◌, ◌≤◌, ◌<◌, length, set, get_or, length-set, paste, paste-zero}
+use Rattle.words.specs.Prelude.{rules, arith, refl, ap, ◌∙◌, List, ℕ, ◌+◌, ◌<◌, length, set, get_or, length-set, paste-zero}
 use Rattle.words.specs.{Laws.Copying.turn, Laws.Copying.done}
 use Rattle.words.proofs.copy.Goals as goal
 

@@ -1,6 +1,5 @@
 -- The loop's invariant: the first i words are pasted over the room's. Assumes nothing.
-use Rattle.words.specs.Prelude.{rules, arith, ◌≡◌, refl, ap, ◌∙◌, List, ℕ, ◌+◌, ◌-◌, ◌≤◌, ◌<◌, length, set, get_or, length-set, paste, paste-zero}
-use Rattle.words.specs.{Laws.Copying.turn, Laws.Copying.done}
+use Rattle.words.specs.Prelude.{◌≡◌, ◌-◌, ◌≤◌, length, paste}
 use Rattle.words.proofs.copy.Given as goal
 
 abbrev pub invariant-loop-i : goal.invariant-loop-i

@@ -1,5 +1,5 @@
 -- The words are copied where they fit; else nothing is done. Assumes nothing.
-use Rattle.words.specs.Prelude.{rules, arith, sym, ◌∙◌}
+use Rattle.words.specs.Prelude.{arith, sym, ◌∙◌}
 use Rattle.words.specs.{Laws.Overwrite.overwrite_fits, Laws.Overwrite.overwrite_late}
 use Rattle.words.proofs.put.Goals as goal
 

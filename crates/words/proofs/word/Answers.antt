@@ -1,5 +1,5 @@
 -- `word_from` from word 0 on.
-use Rattle.words.specs.Prelude.{rules, zero-add}
+use Rattle.words.specs.Prelude.{zero-add}
 use Rattle.words.proofs.word.Goals as goal
 
 pub returns : goal.returns

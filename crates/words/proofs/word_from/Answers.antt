@@ -1,5 +1,5 @@
 -- Past the end `get_or` is 0. Assumes nothing.
-use Rattle.words.specs.Prelude.{rules, arith, ◌+◌}
+use Rattle.words.specs.Prelude.{arith, ◌+◌}
 use Rattle.words.proofs.{Copying.past_end}
 use Rattle.words.proofs.word_from.Goals as goal
 

@@ -1,5 +1,5 @@
 -- The tests of the definition in its order; the last way writes the bar.
-use Rattle.words.specs.Prelude.{sym, ◌∙◌, rules, lt-ltb, le-ltb, lt-leb, le-leb}
+use Rattle.words.specs.Prelude.{sym, ◌∙◌, lt-ltb, le-ltb, lt-leb, le-leb}
 use Rattle.blocks.specs.{Append.appended}
 use Rattle.blocks.proofs.append.append.Goals as goal
 

@@ -1,5 +1,5 @@
 -- A block's first bar begins it; each one after it is joined to what the room has.
-use Rattle.words.specs.Prelude.{ap, ◌∙◌, rules, eq-eqb, ne_eqb}
+use Rattle.words.specs.Prelude.{ap, ◌∙◌, eq-eqb, ne_eqb}
 use Rattle.blocks.specs.{Blocks.grown, Reading.join, declared.best.Best.Best}
 use Rattle.blocks.proofs.append.grown.Goals as goal
 

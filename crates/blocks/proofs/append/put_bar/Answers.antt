@@ -1,5 +1,5 @@
 -- The close and the block's four words are stored.
-use Rattle.words.specs.Prelude.{refl, ap, ◌/◌, arith, rules, length-set}
+use Rattle.words.specs.Prelude.{refl, ap, ◌/◌, arith, length-set}
 use Rattle.blocks.specs.{Blocks.put}
 use Rattle.blocks.proofs.append.put_bar.Goals as goal
 

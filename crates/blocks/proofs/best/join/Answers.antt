@@ -1,5 +1,5 @@
 -- Each side by its test.
-use Rattle.words.specs.Prelude.{sym, ◌∙◌, rules}
+use Rattle.words.specs.Prelude.{sym, ◌∙◌}
 use Rattle.blocks.specs.{Reading.join}
 use Rattle.blocks.proofs.best.join.Goals as goal
 

@@ -1,5 +1,5 @@
 -- Single bars, whole blocks, single bars: what is read, joined in order (`onto-reads`).
-use Rattle.words.specs.Prelude.{◌≡◌, List, ℕ, ◌+◌, ◌-◌, ◌*◌, ◌/◌, rules}
+use Rattle.words.specs.Prelude.{◌≡◌, List, ℕ, ◌+◌, ◌-◌, ◌*◌, ◌/◌}
 use Rattle.blocks.specs.{declared.best.Best.Best, Blocks.with_closes, Blocks.with_blocks, Reads.front, Reads.reads, Reads.onto, Laws.Reads.onto-reads}
 use Rattle.blocks.proofs.question.onward.Goals as goal
 

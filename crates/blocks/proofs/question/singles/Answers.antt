@@ -1,4 +1,4 @@
-use Rattle.words.specs.Prelude.{◌≡◌, refl, sym, ap, ◌∙◌, ◌-◌, ◌≤◌, arith, add-one, rules}
+use Rattle.words.specs.Prelude.{◌≡◌, refl, sym, ap, ◌∙◌, arith, add-one, rules}
 use Rattle.blocks.specs.{declared.best.Best.Best, Reading.join, Blocks.with_closes}
 use Rattle.blocks.proofs.question.singles.Goals as goal
 

@@ -1,6 +1,6 @@
 -- After i turns: the best so far, and i bars more.
-use Rattle.words.specs.Prelude.{◌≡◌, refl, sym, ap, ◌∙◌, ◌-◌, ◌≤◌, arith, add-one, rules}
-use Rattle.blocks.specs.{declared.best.Best.Best, Reading.join, Blocks.with_closes}
+use Rattle.words.specs.Prelude.{◌≡◌, ◌-◌, ◌≤◌}
+use Rattle.blocks.specs.{Blocks.with_closes}
 use Rattle.blocks.proofs.question.singles.Given as goal
 
 abbrev pub invariant-loop-i : goal.invariant-loop-i

@@ -1,4 +1,4 @@
-use Rattle.words.specs.Prelude.{◌≡◌, refl, sym, ap, ◌∙◌, ◌-◌, ◌≤◌, arith, add-one, rules}
+use Rattle.words.specs.Prelude.{◌≡◌, refl, sym, ap, ◌∙◌, arith, add-one, rules}
 use Rattle.blocks.specs.{declared.best.Best.Best, Reading.join, Blocks.with_blocks}
 use Rattle.blocks.proofs.question.wholes.Goals as goal
 

@@ -1,5 +1,5 @@
 -- By its three tests.
-use Rattle.words.specs.Prelude.{rules, lt-leb, le-leb}
+use Rattle.words.specs.Prelude.{lt-leb, le-leb}
 use Rattle.blocks.proofs.stretch.holds.Goals as goal
 
 pub returns-then-held : goal.returns-then-held

@@ -1,5 +1,5 @@
 -- By its two tests; what passes both is a question over bars that there are.
-use Rattle.words.specs.Prelude.{sym, ◌∙◌, arith, rules}
+use Rattle.words.specs.Prelude.{sym, ◌∙◌, arith}
 use Rattle.blocks.specs.{Stretch.stretched, Laws.Stretch.counted, Laws.Stretch.closes_held, Laws.Stretch.in_order, Laws.Stretch.last_held}
 use Rattle.blocks.proofs.stretch.stretch.Goals as goal
 

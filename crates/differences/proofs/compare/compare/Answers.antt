@@ -1,5 +1,5 @@
 -- "13 here comes first"; then what the lists of whole records give.
-use Rattle.words.specs.Prelude.{sym, ◌∙◌, rules}
+use Rattle.words.specs.Prelude.{sym, ◌∙◌}
 use Rattle.differences.proofs.{Comparing.both_whole, Comparing.other_ragged, Comparing.ragged}
 use Rattle.differences.proofs.compare.compare.Goals as goal
 

@@ -1,5 +1,5 @@
 -- From what was counted, by the law of each way out.
-use Rattle.words.specs.Prelude.{ℕ, ◌*◌, ◌/◌, ◌^◌, ◌<◌, ◌≤◌, min, ◌≡◌, sym, ◌∙◌, arith, rules}
+use Rattle.words.specs.Prelude.{ℕ, ◌*◌, ◌/◌, ◌^◌, ◌<◌, ◌≤◌, min, ◌≡◌, sym, ◌∙◌, arith}
 use Rattle.differences.proofs.{Comparing.Counted, Comparing.refuses, Comparing.lines_fit, Comparing.all_fit, Comparing.nothing, Comparing.writes}
 use Rattle.differences.proofs.compare.compare_whole.Goals as goal
 
@@ -30,7 +30,7 @@ overflow_add-many c =
       other = c.count_few-few.ensures.0;
       apart = c.count-words.ensures;
     } in
-    let room = lines_fit (counted) c.args.lines.now (sym c.holds.ensures ∙ c.if-holds.true) in
+    let room = lines_fit counted c.args.lines.now (sym c.holds.ensures ∙ c.if-holds.true) in
     record { fits = small _ _ room c.well_formed.1.1.1.1.0.0 }
 
 pub returns-then-many-eq0 : goal.returns-then-many-eq0
@@ -44,7 +44,7 @@ returns-then-many-eq0 c =
       other = c.count_few-few.ensures.0;
       apart = c.count-words.ensures;
     } in
-    nothing (counted) _ (sym c.holds.ensures ∙ c.if-holds.true) c.if-many-eq0.true
+    nothing counted _ (sym c.holds.ensures ∙ c.if-holds.true) c.if-many-eq0.true
 
 pub put_all-requires : goal.put_all-requires
 put_all-requires c =
@@ -60,7 +60,7 @@ put_all-requires c =
     let room = c.args.lines.now in
     let p = both_points _ _ _ c.least-points.ensures in
     let q = both_trades _ _ _ c.least-n.ensures in
-    (p.0, p.1, q.0, q.1, all_fit (counted) room (sym c.holds.ensures ∙ c.if-holds.true))
+    (p.0, p.1, q.0, q.1, all_fit counted room (sym c.holds.ensures ∙ c.if-holds.true))
 
 pub returns-then-holds : goal.returns-then-holds
 returns-then-holds c =
@@ -73,7 +73,7 @@ returns-then-holds c =
       other = c.count_few-few.ensures.0;
       apart = c.count-words.ensures;
     } in
-    writes (counted) _ (sym c.holds.ensures ∙ c.if-holds.true) _ c.put_all.ensures
+    writes counted _ (sym c.holds.ensures ∙ c.if-holds.true) _ c.put_all.ensures
 
 pub returns : goal.returns
 returns c =
@@ -86,4 +86,4 @@ returns c =
       other = c.count_few-few.ensures.0;
       apart = c.count-words.ensures;
     } in
-    refuses (counted) _ (sym c.holds.ensures ∙ c.if-holds.false) _ c.refused.ensures
+    refuses counted _ (sym c.holds.ensures ∙ c.if-holds.false) _ c.refused.ensures

@@ -1,5 +1,5 @@
 -- One count after another.
-use Rattle.words.specs.Prelude.{◌≡◌, sym, ◌∙◌, ℕ, ◌+◌, arith, rules}
+use Rattle.words.specs.Prelude.{◌≡◌, sym, ◌∙◌, ℕ, ◌+◌, arith}
 use Rattle.differences.specs.{Laws.Counted.few_lines, Laws.Counted.equity_count, Laws.Counted.surplus-length}
 use Rattle.differences.proofs.compare.count_few.Goals as goal
 

@@ -1,5 +1,5 @@
 -- So many lines fit where their number is at most that of the room's lines.
-use Rattle.words.specs.Prelude.{◌≡◌, refl, sym, Bool, true, false, ℕ, ◌+◌, ◌-◌, ◌*◌, ◌/◌, ◌<◌, ◌≤◌, arith, rules, lt-leb, le-leb, leb-true, leb-false, leb}
+use Rattle.words.specs.Prelude.{◌≡◌, refl, sym, Bool, true, false, ℕ, ◌+◌, ◌-◌, ◌*◌, ◌/◌, ◌<◌, ◌≤◌, arith, lt-leb, le-leb, leb-true, leb-false, leb}
 use Rattle.differences.proofs.compare.holds.Goals as goal
 
 few_fit : (r f w : ℕ) → r / 5 < f → false ≡ leb (5 * (f + w)) r

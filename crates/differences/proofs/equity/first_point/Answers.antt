@@ -1,4 +1,4 @@
-use Rattle.words.specs.Prelude.{◌≡◌, sym, ap, ◌∙◌, ◌-◌, ◌≤◌, arith, rules}
+use Rattle.words.specs.Prelude.{◌≡◌, sym, ap, ◌∙◌, ◌-◌, arith, rules}
 use Rattle.differences.specs.{Lines.first_point, Laws.Counted.point_same, Laws.Counted.point_other, Laws.Counted.no_point}
 use Rattle.differences.proofs.equity.first_point.Goals as goal
 

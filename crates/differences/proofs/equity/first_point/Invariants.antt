@@ -1,6 +1,6 @@
 -- After k turns the first k points are the same: what is left begins at point k.
-use Rattle.words.specs.Prelude.{◌≡◌, sym, ap, ◌∙◌, ◌-◌, ◌≤◌, arith, rules}
-use Rattle.differences.specs.{Lines.first_point, Laws.Counted.point_same, Laws.Counted.point_other, Laws.Counted.no_point}
+use Rattle.words.specs.Prelude.{◌≡◌, ◌-◌, ◌≤◌}
+use Rattle.differences.specs.{Lines.first_point}
 use Rattle.differences.proofs.equity.first_point.Given as goal
 
 abbrev pub invariant-loop-k : goal.invariant-loop-k

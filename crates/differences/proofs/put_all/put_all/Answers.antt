@@ -1,5 +1,5 @@
 -- Four parts, each written where the one before it ends (`four_put`).
-use Rattle.words.specs.Prelude.{◌≡◌, ap, ◌∙◌, List, ◌++◌, ℕ, ◌+◌, ◌*◌, ◌≤◌, arith, rules, length, length-append}
+use Rattle.words.specs.Prelude.{◌≡◌, ap, ◌∙◌, List, ◌++◌, ℕ, ◌+◌, ◌*◌, ◌≤◌, arith, length, length-append}
 use Rattle.words.specs.{Words.overwrite, Laws.Overwrite.overwrite-length}
 use Rattle.differences.specs.{Lines.Line, Lines.points, Lines.trades, Lines.equity_line, Lines.word_lines, Lines.surplus, Lines.differences_from}
 use Rattle.differences.specs.{Lines.words_of, Laws.Written.four_put}

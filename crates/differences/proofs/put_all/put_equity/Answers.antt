@@ -1,5 +1,5 @@
 -- The line where the point is one of them, and else none.
-use Rattle.words.specs.Prelude.{sym, ap, ◌∙◌, List, arith, rules, length}
+use Rattle.words.specs.Prelude.{sym, ap, ◌∙◌, List, arith, length}
 use Rattle.words.specs.{Words.overwrite}
 use Rattle.differences.specs.{Lines.Line, Lines.words_of, Laws.Counted.equity_some, Laws.Counted.equity_none, Laws.Written.none_written}
 use Rattle.differences.proofs.put_all.put_equity.Goals as goal

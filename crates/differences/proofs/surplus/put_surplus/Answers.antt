@@ -1,5 +1,5 @@
 -- No line where the counts are equal, and else the one.
-use Rattle.words.specs.Prelude.{ap, arith, rules, length}
+use Rattle.words.specs.Prelude.{ap, arith, length}
 use Rattle.differences.specs.{Laws.Counted.surplus_none, Laws.Counted.surplus_some, Laws.Written.none_put, Laws.Written.one_put}
 use Rattle.differences.proofs.surplus.put_surplus.Goals as goal
 

@@ -1,4 +1,4 @@
-use Rattle.words.specs.Prelude.{◌≡◌, refl, sym, ap, ◌∙◌, ℕ, suc, ◌+◌, ◌-◌, ◌^◌, ◌<◌, ◌≤◌, arith, add-one, rules, length}
+use Rattle.words.specs.Prelude.{◌≡◌, refl, sym, ap, ◌∙◌, ℕ, suc, ◌+◌, ◌^◌, ◌<◌, ◌≤◌, arith, add-one, rules, length}
 use Rattle.differences.specs.{Lines.word_lines, Laws.Counted.lines_next, Laws.Counted.lines_most}
 use Rattle.differences.proofs.words_apart.count.Goals as goal
 

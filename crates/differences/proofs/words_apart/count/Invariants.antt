@@ -1,6 +1,6 @@
 -- After k turns: how many of the first k words differ.
-use Rattle.words.specs.Prelude.{◌≡◌, refl, sym, ap, ◌∙◌, ℕ, suc, ◌+◌, ◌-◌, ◌^◌, ◌<◌, ◌≤◌, arith, add-one, rules, length}
-use Rattle.differences.specs.{Lines.word_lines, Laws.Counted.lines_next, Laws.Counted.lines_most}
+use Rattle.words.specs.Prelude.{◌≡◌, ◌-◌, ◌≤◌, length}
+use Rattle.differences.specs.{Lines.word_lines}
 use Rattle.differences.proofs.words_apart.count.Given as goal
 
 abbrev pub invariant-loop-k : goal.invariant-loop-k

@@ -1,5 +1,5 @@
 -- By the test.
-use Rattle.words.specs.Prelude.{sym, ap, rules, length}
+use Rattle.words.specs.Prelude.{sym, ap, length}
 use Rattle.differences.specs.{Laws.Counted.line_same, Laws.Counted.line_other}
 use Rattle.differences.proofs.words_apart.differs.Goals as goal
 

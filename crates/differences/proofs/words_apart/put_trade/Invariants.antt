@@ -1,8 +1,7 @@
 -- After w turns: the lines of the first w words of the trade stand from line `from` on.
-use Rattle.words.specs.Prelude.{◌≡◌, ap, subst, ◌∙◌, List, ℕ, ◌+◌, ◌-◌, ◌*◌, ◌≤◌, ◌<◌, add-one, arith, rules, length}
-use Rattle.words.specs.{Limits.trade_words, Words.overwrite, Laws.Overwrite.overwrite-length}
-use Rattle.differences.specs.{Lines.word_line, Lines.words_of, Laws.Counted.trade_lines, Laws.Counted.trade_next, Laws.Counted.trade_rise}
-use Rattle.differences.specs.{Laws.Written.none_yet, Laws.Written.turn_fits, Laws.Written.turn_stands}
+use Rattle.words.specs.Prelude.{◌≡◌, ◌+◌, ◌-◌, ◌*◌, ◌≤◌, length}
+use Rattle.words.specs.{Limits.trade_words, Words.overwrite}
+use Rattle.differences.specs.{Lines.words_of, Laws.Counted.trade_lines}
 use Rattle.differences.proofs.words_apart.put_trade.Given as goal
 
 abbrev pub invariant-loop-w : goal.invariant-loop-w

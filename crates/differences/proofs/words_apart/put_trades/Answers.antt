@@ -1,4 +1,4 @@
-use Rattle.words.specs.Prelude.{◌≡◌, ap, subst, ◌∙◌, List, ℕ, ◌+◌, ◌-◌, ◌*◌, ◌≤◌, ◌<◌, arith, rules, length, length-append}
+use Rattle.words.specs.Prelude.{◌≡◌, ap, subst, ◌∙◌, List, ℕ, ◌+◌, ◌*◌, ◌≤◌, ◌<◌, arith, rules, length, length-append}
 use Rattle.words.specs.{Limits.trade_words, Words.overwrite, Laws.Overwrite.overwrite-length}
 use Rattle.differences.specs.{Lines.word_lines, Lines.words_of, Laws.Counted.trade_lines, Laws.Counted.trades_next, Laws.Counted.trades_rise}
 use Rattle.differences.specs.{Laws.Written.none_yet, Laws.Written.turn_fits, Laws.Written.turn_stands}

@@ -1,5 +1,5 @@
 -- No line where the words are equal, and else the one.
-use Rattle.words.specs.Prelude.{ap, arith, rules, length}
+use Rattle.words.specs.Prelude.{ap, arith, length}
 use Rattle.differences.specs.{Laws.Counted.line_same, Laws.Counted.line_of, Laws.Written.none_put, Laws.Written.one_put}
 use Rattle.differences.proofs.words_apart.put_word.Goals as goal
 

@@ -1,5 +1,4 @@
 -- `direction`: a case each.
-use Rattle.words.specs.Prelude.{rules}
 use Rattle.execution.specs.{Fills.direction}
 use Rattle.execution.proofs.fills.direction.Goals as goal
 

@@ -1,5 +1,4 @@
 -- `execute_entry`: rows that begin at row 0.
-use Rattle.words.specs.Prelude.{rules}
 use Rattle.rows.specs.{Laws.Ring.ring_none}
 use Rattle.execution.proofs.fills.execute_entry.Goals as goal
 

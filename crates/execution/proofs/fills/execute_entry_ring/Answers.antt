@@ -1,5 +1,5 @@
 -- `execute_entry_ring`: whether the probe is too large, then the calls, one in the other.
-use Rattle.words.specs.Prelude.{sym, ◌∙◌, rules}
+use Rattle.words.specs.Prelude.{sym, ◌∙◌}
 use Rattle.execution.specs.{Fills.execute_entry}
 use Rattle.execution.proofs.fills.execute_entry_ring.Goals as goal
 

@@ -1,5 +1,4 @@
 -- `fired`: a case each.
-use Rattle.words.specs.Prelude.{rules}
 use Rattle.execution.specs.{Intrabar.fired}
 use Rattle.execution.proofs.intrabar.fired.Goals as goal
 

@@ -1,5 +1,4 @@
 -- `first_of`: the calls, one in the other.
-use Rattle.words.specs.Prelude.{rules}
 use Rattle.execution.specs.{Intrabar.first_of}
 use Rattle.execution.proofs.intrabar.first_of.Goals as goal
 

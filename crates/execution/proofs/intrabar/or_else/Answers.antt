@@ -1,5 +1,4 @@
 -- `or_else`: a case each.
-use Rattle.words.specs.Prelude.{rules}
 use Rattle.execution.specs.{Intrabar.or_else}
 use Rattle.execution.proofs.intrabar.or_else.Goals as goal
 

@@ -1,5 +1,4 @@
 -- The definition goes by the same cases.
-use Rattle.words.specs.Prelude.{rules}
 use Rattle.execution.specs.{Level.fee_bps}
 use Rattle.execution.proofs.level.fee_bps.Goals as goal
 

@@ -1,5 +1,4 @@
 -- `no_cheaper_than`: a case each, then its two tests.
-use Rattle.words.specs.Prelude.{rules}
 use Rattle.execution.specs.{Level.no_cheaper_than}
 use Rattle.execution.proofs.level.no_cheaper_than.Goals as goal
 

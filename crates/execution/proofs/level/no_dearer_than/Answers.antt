@@ -1,5 +1,4 @@
 -- `no_dearer_than`: a case each, then its two tests.
-use Rattle.words.specs.Prelude.{rules}
 use Rattle.execution.specs.{Level.no_dearer_than}
 use Rattle.execution.proofs.level.no_dearer_than.Goals as goal
 

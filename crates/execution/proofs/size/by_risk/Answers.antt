@@ -1,5 +1,4 @@
 -- `by_risk`: the case of a stop, then its one test.
-use Rattle.words.specs.Prelude.{rules}
 use Rattle.execution.specs.{Size.by_risk}
 use Rattle.execution.proofs.size.by_risk.Goals as goal
 

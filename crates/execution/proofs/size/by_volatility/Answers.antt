@@ -1,5 +1,4 @@
 -- `by_volatility`: a case each.
-use Rattle.words.specs.Prelude.{rules}
 use Rattle.execution.specs.{Size.by_volatility}
 use Rattle.execution.proofs.size.by_volatility.Goals as goal
 

@@ -1,5 +1,4 @@
 -- `capped`: what `min` ensures, divided.
-use Rattle.words.specs.Prelude.{rules}
 use Rattle.execution.proofs.size.capped.Goals as goal
 
 pub returns : goal.returns

@@ -1,5 +1,5 @@
 -- `close_at`: the row stands within the list, so nothing wraps; then its word, as a float.
-use Rattle.words.specs.Prelude.{rules, arith, ◌*◌, ◌+◌, ◌≤◌, length}
+use Rattle.words.specs.Prelude.{arith, ◌*◌, ◌+◌, ◌≤◌, length}
 use Rattle.rows.specs.{History.history_of, History.field, History.width, Laws.RowEnds.row_ends, Laws.Ring.place_within, Laws.Ring.ring_row}
 use Rattle.execution.proofs.volatility.close_at.Goals as goal
 

@@ -1,5 +1,4 @@
 -- `realized_vol`: rows that begin at row 0.
-use Rattle.words.specs.Prelude.{rules}
 use Rattle.rows.specs.{Laws.Ring.ring_none}
 use Rattle.execution.proofs.volatility.realized_vol.Goals as goal
 

@@ -1,8 +1,5 @@
-use Rattle.words.specs.Prelude.{◌≡◌, ◌-◌, ◌≤◌, arith, rules}
-use Rattle.rows.specs.{Ring.ring_of}
-use Rattle.execution.specs.{Volatility.close_at, Tally.tally_from}
-use Rattle.execution.proofs.{Passes.rest, Passes.added, Passes.passed, Passes.ended}
-use Rattle.floats.specs.Floats as Floats
+use Rattle.words.specs.Prelude.{arith}
+use Rattle.execution.proofs.{Passes.added, Passes.passed, Passes.ended}
 use Rattle.execution.proofs.volatility.tally_of.Goals as goal
 
 pub overflow_add-i : goal.overflow_add-i

@@ -1,8 +1,8 @@
 -- `tally_of`: at each row, what the pass has and what is left of it come to the whole. `before` is the row's close.
-use Rattle.words.specs.Prelude.{◌≡◌, ◌-◌, ◌≤◌, arith, rules}
+use Rattle.words.specs.Prelude.{◌≡◌, ◌-◌, ◌≤◌}
 use Rattle.rows.specs.{Ring.ring_of}
 use Rattle.execution.specs.{Volatility.close_at, Tally.tally_from}
-use Rattle.execution.proofs.{Passes.rest, Passes.added, Passes.passed, Passes.ended}
+use Rattle.execution.proofs.{Passes.rest}
 use Rattle.floats.specs.Floats as Floats
 use Rattle.execution.proofs.volatility.tally_of.Given as goal
 

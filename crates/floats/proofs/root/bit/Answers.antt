@@ -1,9 +1,7 @@
 -- `floats::root::bit`: by whether its square still fits. Assumes nothing.
-use Rattle.words.specs.Prelude.{◌≡◌, refl, sym, ap, subst, ◌∙◌, ℕ, zero, suc, ◌+◌, ◌-◌, ◌*◌, ◌/◌, ◌%◌, ◌^◌, ◌<◌, ◌≤◌, arith, rules}
+use Rattle.words.specs.Prelude.{◌≡◌, sym, subst, ℕ, ◌+◌, ◌-◌, ◌*◌, ◌/◌, ◌%◌, ◌<◌, ◌≤◌, arith}
 use Rattle.floats.specs.{Root.Goes}
 use Rattle.floats.proofs.{root.Bits.bit_one, root.Bits.bit_none}
-use Rattle.floats.proofs.root.bit.Reads as reads
-use Rattle.floats.proofs.root.bit.Lts as lts
 use Rattle.floats.proofs.root.bit.Goals as goal
 
 even : (r : ℕ) → r % 2 ≡ 0 → 2 * (r / 2) ≡ r

@@ -1,5 +1,5 @@
 -- `floats::root::nearest_root`: half of the whole root of four times the number, rounded up. Assumes nothing.
-use Rattle.words.specs.Prelude.{◌≡◌, refl, sym, ap, subst, ◌∙◌, ℕ, suc, ◌+◌, ◌-◌, ◌*◌, ◌^◌, ◌<◌, ◌≤◌, arith, rules}
+use Rattle.words.specs.Prelude.{◌≡◌, subst, ℕ, ◌+◌, ◌-◌, ◌*◌, ◌^◌, ◌<◌, arith}
 use Rattle.floats.specs.{Root.WholeRoot}
 use Rattle.floats.proofs.{root.Bits.nearest, root.Bits.root_most}
 use Rattle.floats.proofs.root.nearest_root.Goals as goal
@@ -13,9 +13,9 @@ fine x h = omega arith
 pub overflow_add-result : goal.overflow_add-result
 overflow_add-result c =
     let found : WholeRoot (4 * (c.args.d * 2 ^ 52)) c.whole_root-v.result.root c.whole_root-v.result.rest = subst (λ (n : ℕ). WholeRoot n c.whole_root-v.result.root c.whole_root-v.result.rest) (four c.args.d) c.whole_root-v.ensures in
-    record { fits = fine _ (root_most _ _ _ c.requires.1 (found)) }
+    record { fits = fine _ (root_most _ _ _ c.requires.1 found) }
 
 pub returns : goal.returns
 returns c =
     let found : WholeRoot (4 * (c.args.d * 2 ^ 52)) c.whole_root-v.result.root c.whole_root-v.result.rest = subst (λ (n : ℕ). WholeRoot n c.whole_root-v.result.root c.whole_root-v.result.rest) (four c.args.d) c.whole_root-v.ensures in
-    nearest _ _ _ c.requires.1 (found)
+    nearest _ _ _ c.requires.1 found

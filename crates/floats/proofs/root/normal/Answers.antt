@@ -1,5 +1,5 @@
 -- `floats::root::normal`: a subnormal number is moved until its first digit stands at place 52; any other has it there. Assumes nothing.
-use Rattle.words.specs.Prelude.{ℕ, ◌-◌, ◌%◌, ◌^◌, ◌<◌, ◌≤◌, arith, count_leading_zeros, rules}
+use Rattle.words.specs.Prelude.{ℕ, ◌-◌, ◌%◌, ◌^◌, ◌<◌, ◌≤◌, arith, count_leading_zeros}
 use Rattle.floats.proofs.{root.Normals.lead_low, root.Normals.lead_high, root.Normals.normal_small, root.Normals.normal_large, root.Normals.small_some}
 use Rattle.floats.proofs.root.normal.Goals as goal
 
@@ -18,19 +18,19 @@ pub overflow_cast-result : goal.overflow_cast-result
 overflow_cast-result c =
     let high : count_leading_zeros 64 (c.args.b % 2 ^ 52) - 11 ≤ 52 = let some : (0 < c.args.b % 2 ^ 52) × (c.args.b % 2 ^ 52 < 2 ^ 52) = small_some c.args.b c.requires.0 c.if-e-eq0.true in
     let s = some in lead_high (c.args.b % 2 ^ 52) s.0 s.1 in
-    record { fits = short (count_leading_zeros 64 (c.args.b % 2 ^ 52) - 11) (high) }
+    record { fits = short (count_leading_zeros 64 (c.args.b % 2 ^ 52) - 11) high }
 
 pub overflow_shl-result : goal.overflow_shl-result
 overflow_shl-result c =
     let high : count_leading_zeros 64 (c.args.b % 2 ^ 52) - 11 ≤ 52 = let some : (0 < c.args.b % 2 ^ 52) × (c.args.b % 2 ^ 52 < 2 ^ 52) = small_some c.args.b c.requires.0 c.if-e-eq0.true in
     let s = some in lead_high (c.args.b % 2 ^ 52) s.0 s.1 in
-    less (count_leading_zeros 64 (c.args.b % 2 ^ 52) - 11) (high)
+    less (count_leading_zeros 64 (c.args.b % 2 ^ 52) - 11) high
 
 pub overflow_cast-result-then-e-eq0 : goal.overflow_cast-result-then-e-eq0
 overflow_cast-result-then-e-eq0 c =
     let high : count_leading_zeros 64 (c.args.b % 2 ^ 52) - 11 ≤ 52 = let some : (0 < c.args.b % 2 ^ 52) × (c.args.b % 2 ^ 52 < 2 ^ 52) = small_some c.args.b c.requires.0 c.if-e-eq0.true in
     let s = some in lead_high (c.args.b % 2 ^ 52) s.0 s.1 in
-    record { fits = short (count_leading_zeros 64 (c.args.b % 2 ^ 52) - 11) (high) }
+    record { fits = short (count_leading_zeros 64 (c.args.b % 2 ^ 52) - 11) high }
 
 pub overflow_sub-result : goal.overflow_sub-result
 overflow_sub-result c =

@@ -1,5 +1,5 @@
 -- `floats::root::root_bits`: the nearest root of the 53 digits, at half the scale, is the root (`pattern_root`). Assumes nothing.
-use Rattle.words.specs.Prelude.{◌≡◌, sym, subst, ℕ, ◌+◌, ◌-◌, ◌*◌, ◌%◌, ◌^◌, ◌<◌, ◌≤◌, lt_of_le_of_lt, mul-le-mul_left, arith, rules}
+use Rattle.words.specs.Prelude.{◌≡◌, sym, subst, ℕ, ◌+◌, ◌*◌, ◌%◌, ◌^◌, ◌<◌, ◌≤◌, lt_of_le_of_lt, mul-le-mul_left, arith}
 use Rattle.floats.proofs.{root.PatternRoot.word, root.PatternRoot.word_sized, root.PatternRoot.pattern_root}
 use Rattle.floats.specs.{Root.Sized, Root.NearestRoot}
 use Rattle.floats.proofs.root.root_bits.Goals as goal

@@ -26,7 +26,7 @@ float_to_bits-x c =
     let left : T (positive c.args.x) = let x = c.args.x in
     left_positive x c.if-x.false (at_zero lt x c.if-x-2.false) (at_zero eq x c.if-x-3.false)
     (ap (eq x) (sym inf_is) ∙ c.if-x-4.false) in
-    positive_no_nan c.args.x (left)
+    positive_no_nan c.args.x left
 
 pub root_bits-requires : goal.root_bits-requires
 root_bits-requires c =
@@ -34,7 +34,7 @@ root_bits-requires c =
     let left : T (positive c.args.x) = let x = c.args.x in
     left_positive x c.if-x.false (at_zero lt x c.if-x-2.false) (at_zero eq x c.if-x-3.false)
     (ap (eq x) (sym inf_is) ∙ c.if-x-4.false) in
-    pattern_bounds c.args.x (held) (left)
+    pattern_bounds c.args.x held left
 
 pub float_from_bits-result : goal.float_from_bits-result
 float_from_bits-result c = bits_no_nan c.root_bits.result c.root_bits.ensures.1
@@ -42,4 +42,4 @@ float_from_bits-result c = bits_no_nan c.root_bits.result c.root_bits.ensures.1
 pub returns : goal.returns
 returns c =
     let held : T (fits binary64 c.args.x) = subst T (sym c.well_formed.0.1) tt in
-    c.root_bits.ensures.0 ∙ ap Sqrt.sqrt (of_bits-to_bits binary64 c.args.x (held))
+    c.root_bits.ensures.0 ∙ ap Sqrt.sqrt (of_bits-to_bits binary64 c.args.x held)

@@ -1,10 +1,7 @@
 -- `floats::root::two_bits`: one bit after another. Assumes nothing.
-use Rattle.words.specs.Prelude.{◌≡◌, refl, sym, ap, subst, ◌∙◌, ℕ, zero, suc, ◌+◌, ◌-◌, ◌*◌, ◌/◌, ◌%◌, ◌^◌, ◌<◌, ◌≤◌, arith, rules}
-use Rattle.floats.specs.{Root.Goes}
+use Rattle.words.specs.Prelude.{◌≡◌, ap, ◌∙◌, ℕ, ◌*◌, ◌/◌, ◌%◌, arith}
 use Rattle.floats.proofs.{root.Bits.goes_on}
 use native.Mathlib.Nat.{mul-mod_right}
-use Rattle.floats.proofs.root.two_bits.Reads as reads
-use Rattle.floats.proofs.root.two_bits.Lts as lts
 use Rattle.floats.proofs.root.two_bits.Goals as goal
 
 even : (x y : ℕ) → 2 * x ≡ y → y % 4 ≡ 0 → x % 2 ≡ 0

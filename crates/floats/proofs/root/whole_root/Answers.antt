@@ -1,9 +1,5 @@
-use Rattle.words.specs.Prelude.{◌≡◌, refl, sym, ap, subst, ◌∙◌, ℕ, zero, suc, ◌+◌, ◌-◌, ◌*◌, ◌/◌, ◌%◌, ◌^◌, ◌<◌, ◌≤◌, arith, rules, pow-suc}
-use Rattle.floats.specs.{Root.WholeRoot}
+use Rattle.words.specs.Prelude.{◌≡◌, refl, ap, subst, ◌∙◌, ℕ, suc, ◌-◌, ◌*◌, ◌%◌, ◌^◌, ◌<◌, arith, rules, pow-suc}
 use Rattle.floats.proofs.{root.Bits.Found, root.Bits.goes, root.Bits.all_found}
-use native.Mathlib.Nat.{pow-zero}
-use Rattle.floats.proofs.root.whole_root.Reads as reads
-use Rattle.floats.proofs.root.whole_root.Lts as lts
 use Rattle.floats.proofs.root.whole_root.Goals as goal
 
 -- one round less

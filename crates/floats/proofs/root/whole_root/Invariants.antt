@@ -1,10 +1,6 @@
 -- `floats::root::whole_root`: after each round what was found holds, and the weight is 4 to the rounds that are left. Assumes nothing.
-use Rattle.words.specs.Prelude.{◌≡◌, refl, sym, ap, subst, ◌∙◌, ℕ, zero, suc, ◌+◌, ◌-◌, ◌*◌, ◌/◌, ◌%◌, ◌^◌, ◌<◌, ◌≤◌, arith, rules, pow-suc}
-use Rattle.floats.specs.{Root.WholeRoot}
-use Rattle.floats.proofs.{root.Bits.Found, root.Bits.goes, root.Bits.all_found}
-use native.Mathlib.Nat.{pow-zero}
-use Rattle.floats.proofs.root.whole_root.Reads as reads
-use Rattle.floats.proofs.root.whole_root.Lts as lts
+use Rattle.words.specs.Prelude.{◌≡◌, ◌+◌, ◌*◌, ◌^◌, ◌≤◌}
+use Rattle.floats.proofs.{root.Bits.Found}
 use Rattle.floats.proofs.root.whole_root.Given as goal
 
 abbrev pub invariant-loop-i : goal.invariant-loop-i

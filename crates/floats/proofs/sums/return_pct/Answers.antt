@@ -1,5 +1,4 @@
 -- The definition's one test, of what `abs` ensures.
-use Rattle.words.specs.Prelude.{rules}
 use Rattle.floats.specs.{Sums.return_pct}
 use Rattle.floats.proofs.sums.return_pct.Goals as goal
 

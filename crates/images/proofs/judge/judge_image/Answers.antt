@@ -21,7 +21,7 @@ pub returns-then-not-numbers_fine : goal.returns-then-not-numbers_fine
 unfolding image_lines
 returns-then-not-numbers_fine c =
     let past1 : (Below (image_lines c.args.image.now)) = past top refl (so c.shape_fine.ensures c.if-not-shape_fine.false-raw) in
-    stop (past1) refl (not_so c.numbers_fine.ensures c.if-not-numbers_fine.true-raw)
+    stop past1 refl (not_so c.numbers_fine.ensures c.if-not-numbers_fine.true-raw)
 
 pub unused_zero-requires : goal.unused_zero-requires
 unfolding image_lines
@@ -31,8 +31,8 @@ pub returns-then-not-unused_zero : goal.returns-then-not-unused_zero
 unfolding image_lines
 returns-then-not-unused_zero c =
     let past2 : (Below (image_lines c.args.image.now)) = let past1 : (Below (image_lines c.args.image.now)) = past top refl (so c.shape_fine.ensures c.if-not-shape_fine.false-raw) in
-    past (past1) refl (so c.numbers_fine.ensures c.if-not-numbers_fine.false-raw) in
-    stop (past2) refl (not_so c.unused_zero.ensures c.if-not-unused_zero.true-raw)
+    past past1 refl (so c.numbers_fine.ensures c.if-not-numbers_fine.false-raw) in
+    stop past2 refl (not_so c.unused_zero.ensures c.if-not-unused_zero.true-raw)
 
 pub byte-requires : goal.byte-requires
 unfolding image_lines
@@ -42,9 +42,9 @@ pub returns-then-byte-ne0 : goal.returns-then-byte-ne0
 unfolding image_lines
 returns-then-byte-ne0 c =
     let past3 : (Below (image_lines c.args.image.now)) = let past2 : (Below (image_lines c.args.image.now)) = let past1 : (Below (image_lines c.args.image.now)) = past top refl (so c.shape_fine.ensures c.if-not-shape_fine.false-raw) in
-    past (past1) refl (so c.numbers_fine.ensures c.if-not-numbers_fine.false-raw) in
-    past (past2) refl (so c.unused_zero.ensures c.if-not-unused_zero.false-raw) in
-    stop (past3) refl (other c.byte.ensures c.if-byte-ne0.true)
+    past past1 refl (so c.numbers_fine.ensures c.if-not-numbers_fine.false-raw) in
+    past past2 refl (so c.unused_zero.ensures c.if-not-unused_zero.false-raw) in
+    stop past3 refl (other c.byte.ensures c.if-byte-ne0.true)
 
 pub zero_at-requires : goal.zero_at-requires
 unfolding image_lines
@@ -54,10 +54,10 @@ pub returns-then-not-zero_at : goal.returns-then-not-zero_at
 unfolding image_lines
 returns-then-not-zero_at c =
     let past4 : (Below (image_lines c.args.image.now)) = let past3 : (Below (image_lines c.args.image.now)) = let past2 : (Below (image_lines c.args.image.now)) = let past1 : (Below (image_lines c.args.image.now)) = past top refl (so c.shape_fine.ensures c.if-not-shape_fine.false-raw) in
-    past (past1) refl (so c.numbers_fine.ensures c.if-not-numbers_fine.false-raw) in
-    past (past2) refl (so c.unused_zero.ensures c.if-not-unused_zero.false-raw) in
-    past (past3) refl (equal c.byte.ensures c.if-byte-ne0.false) in
-    stop (past4) refl (not_so c.zero_at.ensures c.if-not-zero_at.true-raw)
+    past past1 refl (so c.numbers_fine.ensures c.if-not-numbers_fine.false-raw) in
+    past past2 refl (so c.unused_zero.ensures c.if-not-unused_zero.false-raw) in
+    past past3 refl (equal c.byte.ensures c.if-byte-ne0.false) in
+    stop past4 refl (not_so c.zero_at.ensures c.if-not-zero_at.true-raw)
 
 pub rows_fine-requires : goal.rows_fine-requires
 rows_fine-requires c =
@@ -70,19 +70,19 @@ pub returns-then-not-rows_fine : goal.returns-then-not-rows_fine
 unfolding image_lines
 returns-then-not-rows_fine c =
     let past5 : (Below (image_lines c.args.image.now)) = let past4 : (Below (image_lines c.args.image.now)) = let past3 : (Below (image_lines c.args.image.now)) = let past2 : (Below (image_lines c.args.image.now)) = let past1 : (Below (image_lines c.args.image.now)) = past top refl (so c.shape_fine.ensures c.if-not-shape_fine.false-raw) in
-    past (past1) refl (so c.numbers_fine.ensures c.if-not-numbers_fine.false-raw) in
-    past (past2) refl (so c.unused_zero.ensures c.if-not-unused_zero.false-raw) in
-    past (past3) refl (equal c.byte.ensures c.if-byte-ne0.false) in
-    past (past4) refl (so c.zero_at.ensures c.if-not-zero_at.false-raw) in
-    stop (past5) refl (not_so c.rows_fine.ensures c.if-not-rows_fine.true-raw)
+    past past1 refl (so c.numbers_fine.ensures c.if-not-numbers_fine.false-raw) in
+    past past2 refl (so c.unused_zero.ensures c.if-not-unused_zero.false-raw) in
+    past past3 refl (equal c.byte.ensures c.if-byte-ne0.false) in
+    past past4 refl (so c.zero_at.ensures c.if-not-zero_at.false-raw) in
+    stop past5 refl (not_so c.rows_fine.ensures c.if-not-rows_fine.true-raw)
 
 pub returns : goal.returns
 unfolding image_lines
 returns c =
     let past6 : (Below (image_lines c.args.image.now)) = let past5 : (Below (image_lines c.args.image.now)) = let past4 : (Below (image_lines c.args.image.now)) = let past3 : (Below (image_lines c.args.image.now)) = let past2 : (Below (image_lines c.args.image.now)) = let past1 : (Below (image_lines c.args.image.now)) = past top refl (so c.shape_fine.ensures c.if-not-shape_fine.false-raw) in
-    past (past1) refl (so c.numbers_fine.ensures c.if-not-numbers_fine.false-raw) in
-    past (past2) refl (so c.unused_zero.ensures c.if-not-unused_zero.false-raw) in
-    past (past3) refl (equal c.byte.ensures c.if-byte-ne0.false) in
-    past (past4) refl (so c.zero_at.ensures c.if-not-zero_at.false-raw) in
-    past (past5) refl (so c.rows_fine.ensures c.if-not-rows_fine.false-raw) in
-    all_hold (past6) refl
+    past past1 refl (so c.numbers_fine.ensures c.if-not-numbers_fine.false-raw) in
+    past past2 refl (so c.unused_zero.ensures c.if-not-unused_zero.false-raw) in
+    past past3 refl (equal c.byte.ensures c.if-byte-ne0.false) in
+    past past4 refl (so c.zero_at.ensures c.if-not-zero_at.false-raw) in
+    past past5 refl (so c.rows_fine.ensures c.if-not-rows_fine.false-raw) in
+    all_hold past6 refl

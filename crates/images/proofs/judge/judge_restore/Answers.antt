@@ -20,7 +20,7 @@ pub returns-in-Bad-judge_settings : goal.returns-in-Bad-judge_settings
 unfolding restore_judged restore_lines
 returns-in-Bad-judge_settings c =
     let past1 : (Below (restore_lines c.args.s c.args.image.now c.args.rows.now)) = past_block top _ _ c.judge_room.ensures refl c.in_default.is in
-    stop_block (past1) _ _ c.judge_settings.ensures refl c.in-Bad-judge_settings.is
+    stop_block past1 _ _ c.judge_settings.ensures refl c.in-Bad-judge_settings.is
 
 pub judge_image-requires : goal.judge_image-requires
 unfolding restore_judged restore_lines
@@ -30,8 +30,8 @@ pub returns-in-Bad-judge_image : goal.returns-in-Bad-judge_image
 unfolding restore_judged restore_lines
 returns-in-Bad-judge_image c =
     let past2 : (Below (restore_lines c.args.s c.args.image.now c.args.rows.now)) = let past1 : (Below (restore_lines c.args.s c.args.image.now c.args.rows.now)) = past_block top _ _ c.judge_room.ensures refl c.in_default.is in
-    past_block (past1) _ _ c.judge_settings.ensures refl c.in_default-judge_settings.is in
-    stop_block (past2) _ _ c.judge_image.ensures refl c.in-Bad-judge_image.is
+    past_block past1 _ _ c.judge_settings.ensures refl c.in_default-judge_settings.is in
+    stop_block past2 _ _ c.judge_image.ensures refl c.in-Bad-judge_image.is
 
 pub judge_same-requires : goal.judge_same-requires
 unfolding restore_judged restore_lines
@@ -41,6 +41,6 @@ pub returns : goal.returns
 unfolding restore_judged restore_lines
 returns c =
     let past3 : (Below (restore_lines c.args.s c.args.image.now c.args.rows.now)) = let past2 : (Below (restore_lines c.args.s c.args.image.now c.args.rows.now)) = let past1 : (Below (restore_lines c.args.s c.args.image.now c.args.rows.now)) = past_block top _ _ c.judge_room.ensures refl c.in_default.is in
-    past_block (past1) _ _ c.judge_settings.ensures refl c.in_default-judge_settings.is in
-    past_block (past2) _ _ c.judge_image.ensures refl c.in_default-judge_image.is in
-    last_block (past3) c.judge_same.ensures
+    past_block past1 _ _ c.judge_settings.ensures refl c.in_default-judge_settings.is in
+    past_block past2 _ _ c.judge_image.ensures refl c.in_default-judge_image.is in
+    last_block past3 c.judge_same.ensures

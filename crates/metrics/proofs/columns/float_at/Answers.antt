@@ -1,5 +1,5 @@
 -- A record that is whole has all of its words; past the last whole one there is no float.
-use Rattle.words.specs.Prelude.{sym, ◌∙◌, ◌+◌, ◌*◌, ◌<◌, arith, length, rules}
+use Rattle.words.specs.Prelude.{sym, ◌∙◌, ◌+◌, ◌*◌, ◌<◌, arith, length}
 use Rattle.metrics.specs.{Laws.Columns.in_record, Laws.Columns.column_at, Laws.Columns.column_past}
 use Rattle.metrics.proofs.columns.float_at.Goals as goal
 

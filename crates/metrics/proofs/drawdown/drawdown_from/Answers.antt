@@ -1,7 +1,6 @@
-use Rattle.words.specs.Prelude.{rules, ◌≡◌, refl, ◌-◌, arith, drop}
+use Rattle.words.specs.Prelude.{refl, arith}
 use Rattle.metrics.specs.{Records.equity_of, Drawdown.drawdown_from}
 use Rattle.metrics.proofs.{Walks.turn, Walks.done}
-use Rattle.floats.specs.Floats as Floats
 use Rattle.metrics.proofs.drawdown.drawdown_from.Goals as goal
 
 pub loop-i-init : goal.loop-i-init

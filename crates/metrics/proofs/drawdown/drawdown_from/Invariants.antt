@@ -1,7 +1,6 @@
 -- The deepest fall of what is to come, from the peak and the deepest fall so far, is that of the whole.
-use Rattle.words.specs.Prelude.{rules, ◌≡◌, refl, ◌-◌, arith, drop}
+use Rattle.words.specs.Prelude.{◌≡◌, ◌-◌, drop}
 use Rattle.metrics.specs.{Records.equity_of, Drawdown.drawdown_from}
-use Rattle.metrics.proofs.{Walks.turn, Walks.done}
 use Rattle.floats.specs.Floats as Floats
 use Rattle.metrics.proofs.drawdown.drawdown_from.Given as goal
 

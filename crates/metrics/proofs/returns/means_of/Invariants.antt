@@ -1,7 +1,7 @@
 -- Each of the two sums, with what is to come, makes its whole sum.
-use Rattle.words.specs.Prelude.{rules, ◌-◌, arith}
+use Rattle.words.specs.Prelude.{◌-◌}
 use Rattle.metrics.specs.{declared.returns.Part.TheVariants.Itself, declared.returns.Part.TheVariants.Below, Records.equity_of}
-use Rattle.metrics.proofs.{Passes.Summing, Passes.starts, Passes.goes_on, Passes.ends}
+use Rattle.metrics.proofs.{Passes.Summing}
 use Rattle.metrics.proofs.returns.means_of.Given as goal
 
 abbrev pub invariant-loop-i : goal.invariant-loop-i

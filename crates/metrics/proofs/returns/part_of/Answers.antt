@@ -1,5 +1,5 @@
 -- One arm a part.
-use Rattle.words.specs.Prelude.{◌∙◌, rules}
+use Rattle.words.specs.Prelude.{◌∙◌}
 use Rattle.metrics.proofs.returns.part_of.Goals as goal
 
 pub returns-in-Away : goal.returns-in-Away

@@ -1,5 +1,5 @@
 -- The two ways of each definition: they test the same count.
-use Rattle.words.specs.Prelude.{◌∙◌, lt-ltb, le-ltb, length, rules}
+use Rattle.words.specs.Prelude.{◌∙◌, lt-ltb, le-ltb, length}
 use Rattle.metrics.specs.{Records.equity_of, Returns.sharpe_ratio, Returns.sortino_ratio}
 use Rattle.metrics.proofs.returns.ratios_of.Goals as goal
 

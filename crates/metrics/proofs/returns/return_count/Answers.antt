@@ -1,5 +1,5 @@
 -- One less than the points, of which there may be none.
-use Rattle.words.specs.Prelude.{arith, rules}
+use Rattle.words.specs.Prelude.{arith}
 use Rattle.metrics.specs.{Records.equity_of}
 use Rattle.metrics.proofs.{Neighbours.length_returns}
 use Rattle.metrics.proofs.returns.return_count.Goals as goal

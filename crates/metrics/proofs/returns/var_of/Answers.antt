@@ -1,6 +1,5 @@
-use Rattle.words.specs.Prelude.{rules, ◌-◌, arith}
-use Rattle.metrics.specs.{declared.returns.Part.TheVariants.Away, Records.equity_of}
-use Rattle.metrics.proofs.{Passes.Summing, Passes.starts, Passes.goes_on, Passes.ends}
+use Rattle.words.specs.Prelude.{arith}
+use Rattle.metrics.proofs.{Passes.starts, Passes.goes_on, Passes.ends}
 use Rattle.metrics.proofs.returns.var_of.Goals as goal
 
 pub loop-i-init : goal.loop-i-init

@@ -1,7 +1,7 @@
 -- What is summed and what is to come make the whole sum.
-use Rattle.words.specs.Prelude.{rules, ◌-◌, arith}
+use Rattle.words.specs.Prelude.{◌-◌}
 use Rattle.metrics.specs.{declared.returns.Part.TheVariants.Away, Records.equity_of}
-use Rattle.metrics.proofs.{Passes.Summing, Passes.starts, Passes.goes_on, Passes.ends}
+use Rattle.metrics.proofs.{Passes.Summing}
 use Rattle.metrics.proofs.returns.var_of.Given as goal
 
 abbrev pub invariant-loop-i : goal.invariant-loop-i

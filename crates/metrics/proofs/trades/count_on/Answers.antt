@@ -1,4 +1,4 @@
-use Rattle.words.specs.Prelude.{rules, ◌≡◌, sym, ◌∙◌, ⊎_elim, List, arith, ◌+◌, ◌-◌, ◌≤◌, zero-add, add-zero, length, drop, Float}
+use Rattle.words.specs.Prelude.{sym, ◌∙◌, List, arith, ◌+◌, zero-add, add-zero, length, Float}
 use Rattle.metrics.specs.{Records.pnls_of, Trades.sizes_on}
 use Rattle.metrics.proofs.{Walks.turn_on, Walks.done}
 use Rattle.metrics.proofs.trades.count_on.Goals as goal

@@ -1,7 +1,6 @@
 -- Those so far and those to come are all; there are no more than trades passed.
-use Rattle.words.specs.Prelude.{rules, ◌≡◌, sym, ◌∙◌, ⊎_elim, List, arith, ◌+◌, ◌-◌, ◌≤◌, zero-add, add-zero, length, drop, Float}
+use Rattle.words.specs.Prelude.{◌≡◌, ◌+◌, ◌-◌, ◌≤◌, length, drop}
 use Rattle.metrics.specs.{Records.pnls_of, Trades.sizes_on}
-use Rattle.metrics.proofs.{Walks.turn_on, Walks.done}
 use Rattle.metrics.proofs.trades.count_on.Given as goal
 
 abbrev pub invariant-loop-i : goal.invariant-loop-i

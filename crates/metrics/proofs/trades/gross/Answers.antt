@@ -1,4 +1,4 @@
-use Rattle.words.specs.Prelude.{rules, ◌≡◌, refl, sym, ◌∙◌, ⊎_elim, List, arith, ◌-◌, drop, Float}
+use Rattle.words.specs.Prelude.{rules, refl, sym, ◌∙◌, List, arith, Float}
 use Rattle.metrics.specs.{Records.pnls_of, Trades.sizes_on, Trades.gross}
 use Rattle.floats.specs.{Sums.sum_from}
 use Rattle.metrics.proofs.{Walks.turn_on, Walks.done}

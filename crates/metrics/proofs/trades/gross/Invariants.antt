@@ -1,8 +1,7 @@
 -- What is summed and what is to come make the whole sum.
-use Rattle.words.specs.Prelude.{rules, ◌≡◌, refl, sym, ◌∙◌, ⊎_elim, List, arith, ◌-◌, drop, Float}
+use Rattle.words.specs.Prelude.{◌≡◌, ◌-◌, drop}
 use Rattle.metrics.specs.{Records.pnls_of, Trades.sizes_on, Trades.gross}
 use Rattle.floats.specs.{Sums.sum_from}
-use Rattle.metrics.proofs.{Walks.turn_on, Walks.done}
 use Rattle.metrics.proofs.trades.gross.Given as goal
 
 abbrev pub invariant-loop-i : goal.invariant-loop-i

@@ -1,5 +1,4 @@
 -- One arm a side.
-use Rattle.words.specs.Prelude.{rules}
 use Rattle.metrics.proofs.trades.size_of.Goals as goal
 
 pub returns-in-Wins : goal.returns-in-Wins

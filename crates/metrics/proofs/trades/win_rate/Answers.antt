@@ -1,5 +1,5 @@
 -- The two ways of the definition.
-use Rattle.words.specs.Prelude.{sym, ◌∙◌, eq-eqb, ne_eqb, length, rules}
+use Rattle.words.specs.Prelude.{sym, ◌∙◌, eq-eqb, ne_eqb, length}
 use Rattle.metrics.specs.{Records.pnls_of, Trades.win_rate}
 use Rattle.metrics.proofs.trades.win_rate.Goals as goal
 

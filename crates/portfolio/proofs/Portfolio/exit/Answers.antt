@@ -1,5 +1,4 @@
 -- `exit`: the records that the definition writes, with what `abs` and `return_pct` ensure put in.
-use Rattle.words.specs.Prelude.{rules}
 use Rattle.portfolio.specs.{Portfolio.notional, Portfolio.pnl, Portfolio.trade_of, Portfolio.exited}
 use Rattle.portfolio.proofs.Portfolio.exit.Goals as goal
 

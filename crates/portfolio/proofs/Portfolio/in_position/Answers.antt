@@ -1,5 +1,4 @@
 -- `in_position`: the size of the quantity is what `abs` ensures.
-use Rattle.words.specs.Prelude.{rules}
 use Rattle.portfolio.specs.{Portfolio.in_position}
 use Rattle.portfolio.proofs.Portfolio.in_position.Goals as goal
 

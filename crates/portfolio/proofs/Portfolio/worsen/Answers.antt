@@ -1,5 +1,5 @@
 -- `worsen`: where a position is open, the record that the definition writes.
-use Rattle.words.specs.Prelude.{sym, ◌∙◌, rules}
+use Rattle.words.specs.Prelude.{sym, ◌∙◌}
 use Rattle.portfolio.specs.{Portfolio.worsened}
 use Rattle.portfolio.proofs.Portfolio.worsen.Goals as goal
 

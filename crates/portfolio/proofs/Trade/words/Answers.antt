@@ -1,5 +1,4 @@
 -- `words`: each float's word is what `word_of` ensures.
-use Rattle.words.specs.Prelude.{rules}
 use Rattle.portfolio.specs.{Trade.words_of_trade}
 use Rattle.portfolio.proofs.Trade.words.Goals as goal
 

@@ -38,7 +38,7 @@ overflow_add-older c =
     let long = rows_few c.args.t.now c.args.rows.now c.args.positions.now _ _ c.slots-slots.ensures
     c.row_count.ensures in
     few _ _ c.loop-i.i _ long held c.loop-i-test.true in
-    let good = c.well_formed in omega (arith, (near).0)
+    let good = c.well_formed in omega (arith, near.0)
 
 pub overflow_add-older-in-loop-i : goal.overflow_add-older-in-loop-i
 unfolding asked_rows
@@ -49,7 +49,7 @@ overflow_add-older-in-loop-i c =
     let long = rows_few c.args.t.now c.args.rows.now c.args.positions.now _ _ c.slots-slots.ensures
     c.row_count.ensures in
     few _ _ c.loop-i.i _ long held c.loop-i-test.true in
-    let good = c.well_formed in omega (arith, (near).1)
+    let good = c.well_formed in omega (arith, near.1)
 
 pub first_rows-upto-requires : goal.first_rows-upto-requires
 unfolding asked_rows

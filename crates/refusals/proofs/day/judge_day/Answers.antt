@@ -22,7 +22,7 @@ unfolding day_lines
 returns-in-Bad-judge_settings c =
     let past1 : (let a = c.args in
     Below (day_lines a.span a.s a.t a.bars.now (rooms a.rows.now a.equity.now a.trades.now))) = past_block top _ _ c.judge_room.ensures refl c.in_default.is in
-    stop_block (past1) _ _ c.judge_settings.ensures refl c.in-Bad-judge_settings.is
+    stop_block past1 _ _ c.judge_settings.ensures refl c.in-Bad-judge_settings.is
 
 pub judge_state-requires : goal.judge_state-requires
 unfolding day_lines
@@ -34,8 +34,8 @@ returns-in-Bad-judge_state c =
     let past2 : (let a = c.args in
     Below (day_lines a.span a.s a.t a.bars.now (rooms a.rows.now a.equity.now a.trades.now))) = let past1 : (let a = c.args in
     Below (day_lines a.span a.s a.t a.bars.now (rooms a.rows.now a.equity.now a.trades.now))) = past_block top _ _ c.judge_room.ensures refl c.in_default.is in
-    past_block (past1) _ _ c.judge_settings.ensures refl c.in_default-judge_settings.is in
-    stop_block (past2) _ _ c.judge_state.ensures refl c.in-Bad-judge_state.is
+    past_block past1 _ _ c.judge_settings.ensures refl c.in_default-judge_settings.is in
+    stop_block past2 _ _ c.judge_state.ensures refl c.in-Bad-judge_state.is
 
 pub are_for-requires : goal.are_for-requires
 unfolding day_lines
@@ -48,9 +48,9 @@ returns-then-are_for c =
     Below (day_lines a.span a.s a.t a.bars.now (rooms a.rows.now a.equity.now a.trades.now))) = let past2 : (let a = c.args in
     Below (day_lines a.span a.s a.t a.bars.now (rooms a.rows.now a.equity.now a.trades.now))) = let past1 : (let a = c.args in
     Below (day_lines a.span a.s a.t a.bars.now (rooms a.rows.now a.equity.now a.trades.now))) = past_block top _ _ c.judge_room.ensures refl c.in_default.is in
-    past_block (past1) _ _ c.judge_settings.ensures refl c.in_default-judge_settings.is in
-    past_block (past2) _ _ c.judge_state.ensures refl c.in_default-judge_state.is in
-    all_hold (past (past3) refl (sym c.are_for.ensures ∙ c.if-are_for.true)) refl
+    past_block past1 _ _ c.judge_settings.ensures refl c.in_default-judge_settings.is in
+    past_block past2 _ _ c.judge_state.ensures refl c.in_default-judge_state.is in
+    all_hold (past past3 refl (sym c.are_for.ensures ∙ c.if-are_for.true)) refl
 
 pub returns : goal.returns
 unfolding day_lines
@@ -59,6 +59,6 @@ returns c =
     Below (day_lines a.span a.s a.t a.bars.now (rooms a.rows.now a.equity.now a.trades.now))) = let past2 : (let a = c.args in
     Below (day_lines a.span a.s a.t a.bars.now (rooms a.rows.now a.equity.now a.trades.now))) = let past1 : (let a = c.args in
     Below (day_lines a.span a.s a.t a.bars.now (rooms a.rows.now a.equity.now a.trades.now))) = past_block top _ _ c.judge_room.ensures refl c.in_default.is in
-    past_block (past1) _ _ c.judge_settings.ensures refl c.in_default-judge_settings.is in
-    past_block (past2) _ _ c.judge_state.ensures refl c.in_default-judge_state.is in
-    stop (past3) refl (sym c.are_for.ensures ∙ c.if-are_for.false)
+    past_block past1 _ _ c.judge_settings.ensures refl c.in_default-judge_settings.is in
+    past_block past2 _ _ c.judge_state.ensures refl c.in_default-judge_state.is in
+    stop past3 refl (sym c.are_for.ensures ∙ c.if-are_for.false)

@@ -22,7 +22,7 @@ unfolding list_lines
 returns-in-Bad-judge_list c =
     let past1 : (let a = c.args in
     Below (list_lines a.slots a.depth (lists a.entry.now a.exit.now a.short_entry.now a.short_exit.now))) = past_block top _ _ c.judge_list.ensures refl c.in_default.is in
-    stop_block (past1) _ _ c.judge_list-2.ensures refl c.in-Bad-judge_list.is
+    stop_block past1 _ _ c.judge_list-2.ensures refl c.in-Bad-judge_list.is
 
 pub judge_list-requires-3 : goal.judge_list-requires-3
 unfolding list_lines
@@ -34,8 +34,8 @@ returns-in-Bad-judge_list-2 c =
     let past2 : (let a = c.args in
     Below (list_lines a.slots a.depth (lists a.entry.now a.exit.now a.short_entry.now a.short_exit.now))) = let past1 : (let a = c.args in
     Below (list_lines a.slots a.depth (lists a.entry.now a.exit.now a.short_entry.now a.short_exit.now))) = past_block top _ _ c.judge_list.ensures refl c.in_default.is in
-    past_block (past1) _ _ c.judge_list-2.ensures refl c.in_default-judge_list.is in
-    stop_block (past2) _ _ c.judge_list-3.ensures refl c.in-Bad-judge_list-2.is
+    past_block past1 _ _ c.judge_list-2.ensures refl c.in_default-judge_list.is in
+    stop_block past2 _ _ c.judge_list-3.ensures refl c.in-Bad-judge_list-2.is
 
 pub judge_list-requires-4 : goal.judge_list-requires-4
 unfolding list_lines
@@ -48,6 +48,6 @@ returns c =
     Below (list_lines a.slots a.depth (lists a.entry.now a.exit.now a.short_entry.now a.short_exit.now))) = let past2 : (let a = c.args in
     Below (list_lines a.slots a.depth (lists a.entry.now a.exit.now a.short_entry.now a.short_exit.now))) = let past1 : (let a = c.args in
     Below (list_lines a.slots a.depth (lists a.entry.now a.exit.now a.short_entry.now a.short_exit.now))) = past_block top _ _ c.judge_list.ensures refl c.in_default.is in
-    past_block (past1) _ _ c.judge_list-2.ensures refl c.in_default-judge_list.is in
-    past_block (past2) _ _ c.judge_list-3.ensures refl c.in_default-judge_list-2.is in
-    last_block (past3) c.judge_list-4.ensures
+    past_block past1 _ _ c.judge_list-2.ensures refl c.in_default-judge_list.is in
+    past_block past2 _ _ c.judge_list-3.ensures refl c.in_default-judge_list-2.is in
+    last_block past3 c.judge_list-4.ensures

@@ -16,7 +16,7 @@ pub returns-then-not-depth_fine : goal.returns-then-not-depth_fine
 unfolding setting_lines
 returns-then-not-depth_fine c =
     let past1 : (Below (setting_lines c.args.s)) = past top refl (le-leb _ _ c.if-s-gt-MOST_SLOTS.false) in
-    stop (past1) refl (not_so c.depth_fine.ensures c.if-not-depth_fine.true-raw)
+    stop past1 refl (not_so c.depth_fine.ensures c.if-not-depth_fine.true-raw)
 
 pub is_finite-requires : goal.is_finite-requires
 unfolding setting_lines
@@ -26,8 +26,8 @@ pub returns-then-not-is_finite : goal.returns-then-not-is_finite
 unfolding setting_lines
 returns-then-not-is_finite c =
     let past2 : (Below (setting_lines c.args.s)) = let past1 : (Below (setting_lines c.args.s)) = past top refl (le-leb _ _ c.if-s-gt-MOST_SLOTS.false) in
-    past (past1) refl (so c.depth_fine.ensures c.if-not-depth_fine.false-raw) in
-    stop (past2) refl (not_so c.is_finite.ensures c.if-not-is_finite.true-raw)
+    past past1 refl (so c.depth_fine.ensures c.if-not-depth_fine.false-raw) in
+    stop past2 refl (not_so c.is_finite.ensures c.if-not-is_finite.true-raw)
 
 pub judge_terms-requires : goal.judge_terms-requires
 unfolding setting_lines
@@ -37,9 +37,9 @@ pub returns-in-Bad : goal.returns-in-Bad
 unfolding setting_lines
 returns-in-Bad c =
     let past3 : (Below (setting_lines c.args.s)) = let past2 : (Below (setting_lines c.args.s)) = let past1 : (Below (setting_lines c.args.s)) = past top refl (le-leb _ _ c.if-s-gt-MOST_SLOTS.false) in
-    past (past1) refl (so c.depth_fine.ensures c.if-not-depth_fine.false-raw) in
-    past (past2) refl (so c.is_finite.ensures c.if-not-is_finite.false-raw) in
-    stop_block (past3) _ _ c.judge_terms.ensures refl c.in-Bad.is
+    past past1 refl (so c.depth_fine.ensures c.if-not-depth_fine.false-raw) in
+    past past2 refl (so c.is_finite.ensures c.if-not-is_finite.false-raw) in
+    stop_block past3 _ _ c.judge_terms.ensures refl c.in-Bad.is
 
 pub judge_entries-requires : goal.judge_entries-requires
 unfolding setting_lines
@@ -49,7 +49,7 @@ pub returns : goal.returns
 unfolding setting_lines
 returns c =
     let past4 : (Below (setting_lines c.args.s)) = let past3 : (Below (setting_lines c.args.s)) = let past2 : (Below (setting_lines c.args.s)) = let past1 : (Below (setting_lines c.args.s)) = past top refl (le-leb _ _ c.if-s-gt-MOST_SLOTS.false) in
-    past (past1) refl (so c.depth_fine.ensures c.if-not-depth_fine.false-raw) in
-    past (past2) refl (so c.is_finite.ensures c.if-not-is_finite.false-raw) in
-    past_block (past3) _ _ c.judge_terms.ensures refl c.in_default.is in
-    last_block (past4) c.judge_entries.ensures
+    past past1 refl (so c.depth_fine.ensures c.if-not-depth_fine.false-raw) in
+    past past2 refl (so c.is_finite.ensures c.if-not-is_finite.false-raw) in
+    past_block past3 _ _ c.judge_terms.ensures refl c.in_default.is in
+    last_block past4 c.judge_entries.ensures

@@ -25,12 +25,12 @@ pub returns-then-not-is_finite : goal.returns-then-not-is_finite
 unfolding slippage_lines
 returns-then-not-is_finite c =
     let past1 : (Below (slippage_lines c.args.slippage)) = past top refl (so c.slippage_known.ensures c.if-not-slippage_known.false-raw) in
-    stop (past1) refl
+    stop past1 refl
     (not_so (c.is_finite.ensures ∙ ap finite c.slippage_value.ensures) c.if-not-is_finite.true-raw)
 
 pub returns : goal.returns
 unfolding slippage_lines
 returns c =
     let past2 : (Below (slippage_lines c.args.slippage)) = let past1 : (Below (slippage_lines c.args.slippage)) = past top refl (so c.slippage_known.ensures c.if-not-slippage_known.false-raw) in
-    past (past1) refl (so (c.is_finite.ensures ∙ ap finite c.slippage_value.ensures) c.if-not-is_finite.false-raw) in
-    all_hold (past2) refl
+    past past1 refl (so (c.is_finite.ensures ∙ ap finite c.slippage_value.ensures) c.if-not-is_finite.false-raw) in
+    all_hold past2 refl

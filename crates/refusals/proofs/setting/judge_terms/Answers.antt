@@ -20,7 +20,7 @@ pub returns-then-not-is_finite : goal.returns-then-not-is_finite
 unfolding term_lines
 returns-then-not-is_finite c =
     let past1 : (Below (term_lines c.args.t)) = past_block top _ _ c.judge_sizing.ensures refl c.in_default.is in
-    stop (past1) refl (not_so c.is_finite.ensures c.if-not-is_finite.true-raw)
+    stop past1 refl (not_so c.is_finite.ensures c.if-not-is_finite.true-raw)
 
 pub judge_slippage-requires : goal.judge_slippage-requires
 unfolding term_lines
@@ -30,8 +30,8 @@ pub returns-in-Bad-judge_slippage : goal.returns-in-Bad-judge_slippage
 unfolding term_lines
 returns-in-Bad-judge_slippage c =
     let past2 : (Below (term_lines c.args.t)) = let past1 : (Below (term_lines c.args.t)) = past_block top _ _ c.judge_sizing.ensures refl c.in_default.is in
-    past (past1) refl (so c.is_finite.ensures c.if-not-is_finite.false-raw) in
-    stop_block (past2) _ _ c.judge_slippage.ensures refl c.in-Bad-judge_slippage.is
+    past past1 refl (so c.is_finite.ensures c.if-not-is_finite.false-raw) in
+    stop_block past2 _ _ c.judge_slippage.ensures refl c.in-Bad-judge_slippage.is
 
 pub judge_risk-requires : goal.judge_risk-requires
 unfolding term_lines
@@ -41,9 +41,9 @@ pub returns-in-Bad-judge_risk : goal.returns-in-Bad-judge_risk
 unfolding term_lines
 returns-in-Bad-judge_risk c =
     let past3 : (Below (term_lines c.args.t)) = let past2 : (Below (term_lines c.args.t)) = let past1 : (Below (term_lines c.args.t)) = past_block top _ _ c.judge_sizing.ensures refl c.in_default.is in
-    past (past1) refl (so c.is_finite.ensures c.if-not-is_finite.false-raw) in
-    past_block (past2) _ _ c.judge_slippage.ensures refl c.in_default-judge_slippage.is in
-    stop_block (past3) _ _ c.judge_risk.ensures refl c.in-Bad-judge_risk.is
+    past past1 refl (so c.is_finite.ensures c.if-not-is_finite.false-raw) in
+    past_block past2 _ _ c.judge_slippage.ensures refl c.in_default-judge_slippage.is in
+    stop_block past3 _ _ c.judge_risk.ensures refl c.in-Bad-judge_risk.is
 
 pub is_finite-requires-2 : goal.is_finite-requires-2
 unfolding term_lines
@@ -53,17 +53,17 @@ pub returns-then-not-is_finite-2 : goal.returns-then-not-is_finite-2
 unfolding term_lines
 returns-then-not-is_finite-2 c =
     let past4 : (Below (term_lines c.args.t)) = let past3 : (Below (term_lines c.args.t)) = let past2 : (Below (term_lines c.args.t)) = let past1 : (Below (term_lines c.args.t)) = past_block top _ _ c.judge_sizing.ensures refl c.in_default.is in
-    past (past1) refl (so c.is_finite.ensures c.if-not-is_finite.false-raw) in
-    past_block (past2) _ _ c.judge_slippage.ensures refl c.in_default-judge_slippage.is in
-    past_block (past3) _ _ c.judge_risk.ensures refl c.in_default-judge_risk.is in
-    stop (past4) refl (not_so c.is_finite-2.ensures c.if-not-is_finite-2.true-raw)
+    past past1 refl (so c.is_finite.ensures c.if-not-is_finite.false-raw) in
+    past_block past2 _ _ c.judge_slippage.ensures refl c.in_default-judge_slippage.is in
+    past_block past3 _ _ c.judge_risk.ensures refl c.in_default-judge_risk.is in
+    stop past4 refl (not_so c.is_finite-2.ensures c.if-not-is_finite-2.true-raw)
 
 pub returns : goal.returns
 unfolding term_lines
 returns c =
     let past5 : (Below (term_lines c.args.t)) = let past4 : (Below (term_lines c.args.t)) = let past3 : (Below (term_lines c.args.t)) = let past2 : (Below (term_lines c.args.t)) = let past1 : (Below (term_lines c.args.t)) = past_block top _ _ c.judge_sizing.ensures refl c.in_default.is in
-    past (past1) refl (so c.is_finite.ensures c.if-not-is_finite.false-raw) in
-    past_block (past2) _ _ c.judge_slippage.ensures refl c.in_default-judge_slippage.is in
-    past_block (past3) _ _ c.judge_risk.ensures refl c.in_default-judge_risk.is in
-    past (past4) refl (so c.is_finite-2.ensures c.if-not-is_finite-2.false-raw) in
-    all_hold (past5) refl
+    past past1 refl (so c.is_finite.ensures c.if-not-is_finite.false-raw) in
+    past_block past2 _ _ c.judge_slippage.ensures refl c.in_default-judge_slippage.is in
+    past_block past3 _ _ c.judge_risk.ensures refl c.in_default-judge_risk.is in
+    past past4 refl (so c.is_finite-2.ensures c.if-not-is_finite-2.false-raw) in
+    all_hold past5 refl

@@ -1,5 +1,4 @@
 -- Two parts turned round, and then both as one. Assumes nothing.
-use Rattle.words.specs.Prelude.{rules}
 use Rattle.rows.proofs.{Turning.places_changed}
 use Rattle.rows.proofs.ring.change_places.Goals as goal
 

@@ -1,5 +1,5 @@
 -- The tests are those of the definition, with nothing that wraps. Assumes nothing.
-use Rattle.words.specs.Prelude.{rules, lt-ltb, le-ltb, arith, ◌≡◌, ◌+◌, ◌-◌}
+use Rattle.words.specs.Prelude.{lt-ltb, le-ltb, arith, ◌≡◌, ◌+◌, ◌-◌}
 use Rattle.rows.specs.{Ring.ring_place}
 use Rattle.rows.proofs.ring.place.Goals as goal
 

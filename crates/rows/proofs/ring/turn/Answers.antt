@@ -1,5 +1,5 @@
 -- Whole rows change places; a row number that is none turns nothing. Assumes nothing.
-use Rattle.words.specs.Prelude.{rules, arith, ◌≡◌, sym, ◌/◌, ◌*◌, ◌≤◌, length, div-mul-le_self, mul-le-mul_right}
+use Rattle.words.specs.Prelude.{arith, ◌≡◌, sym, ◌/◌, ◌*◌, ◌≤◌, length, div-mul-le_self, mul-le-mul_right}
 use Rattle.rows.specs.{Ring.turned, Laws.Turned.turned_none, Laws.Turned.turned_past}
 use native.Mathlib.Nat.{div-zero}
 use Rattle.rows.proofs.ring.turn.Goals as goal

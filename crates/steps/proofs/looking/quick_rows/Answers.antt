@@ -120,9 +120,9 @@ loop-left-preserved c =
     rw (← l.invariant.1, c.place_of-place.ensures) (c.has_word.ensures (not-false _ c.if-not-has_word.false-raw)) in (
       omega (arith, l.invariant.0),
       next_row a.base l.at k (a.count - (l.left - 1)) (7 + a.slots) l.invariant.1 more,
-      (picked).0,
+      picked.0,
       best_next a.kind over ws a.slots a.base (Number (float_of a.start)) k (a.count - (l.left - 1)) (float_of l.best) (float_of word)
-          (float_of c.if-kind-eq-HIGHEST.best) more l.invariant.3 found (picked).1,
+          (float_of c.if-kind-eq-HIGHEST.best) more l.invariant.3 found picked.1,
     )
 
 pub returns : goal.returns

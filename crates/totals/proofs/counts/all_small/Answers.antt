@@ -1,4 +1,4 @@
-use Rattle.words.specs.Prelude.{◌≡◌, refl, sym, ap, ◌∙◌, false, List, ◌∷◌, ℕ, suc, ◌+◌, ◌-◌, ◌<◌, ◌≤◌, arith, add-one, rules, le-leb, lt-leb}
+use Rattle.words.specs.Prelude.{◌≡◌, refl, sym, ap, ◌∙◌, false, List, ◌∷◌, ℕ, suc, ◌+◌, ◌<◌, ◌≤◌, arith, add-one, rules, le-leb, lt-leb}
 use Rattle.words.specs.Prelude.{length, get_or, drop, drop_of_length-le, drop-cons}
 use Rattle.words.specs.{Limits.most_count}
 use Rattle.totals.specs.{Totals.all_small}

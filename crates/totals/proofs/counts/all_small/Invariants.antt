@@ -1,7 +1,6 @@
 -- Those passed are small: the rest decides. Assumes nothing.
-use Rattle.words.specs.Prelude.{◌≡◌, refl, sym, ap, ◌∙◌, false, List, ◌∷◌, ℕ, suc, ◌+◌, ◌-◌, ◌<◌, ◌≤◌, arith, add-one, rules, le-leb, lt-leb}
-use Rattle.words.specs.Prelude.{length, get_or, drop, drop_of_length-le, drop-cons}
-use Rattle.words.specs.{Limits.most_count}
+use Rattle.words.specs.Prelude.{◌≡◌, ◌-◌, ◌≤◌}
+use Rattle.words.specs.Prelude.{drop}
 use Rattle.totals.specs.{Totals.all_small}
 use Rattle.totals.proofs.counts.all_small.Given as goal
 

@@ -1,5 +1,5 @@
 -- Two counts, each below 2^32, fit a word. Assumes nothing.
-use Rattle.words.specs.Prelude.{refl, arith, rules}
+use Rattle.words.specs.Prelude.{refl, arith}
 use Rattle.totals.specs.{Totals.both_counts}
 use Rattle.totals.proofs.counts.both_counts.Goals as goal
 

@@ -1,5 +1,5 @@
 -- Three counts are set: the reason's, wins, losses. Assumes nothing.
-use Rattle.words.specs.Prelude.{◌≡◌, sym, ap, subst, ◌∙◌, ℕ, ◌-◌, ◌≤◌, arith, rules, Float}
+use Rattle.words.specs.Prelude.{◌≡◌, sym, ap, subst, ◌∙◌, ℕ, ◌-◌, ◌≤◌, arith, Float}
 use Rattle.floats.specs.{Floats.◌≺◌}
 use Rattle.totals.specs.{Trades.bit_of, Trades.trade, Trades.won, Trades.lost, Laws.Counts.counted, Laws.Counts.counts_one, Laws.Counts.bit_most}
 use Rattle.floats.specs.Floats as Floats

@@ -1,6 +1,6 @@
-use Rattle.words.specs.Prelude.{◌≡◌, refl, sym, ap, subst, ◌∙◌, true, false, List, [], ◌∷◌, ℕ, suc, ◌+◌, ◌-◌, ◌*◌, ◌<◌, ◌≤◌, arith, rules, length, get_or}
+use Rattle.words.specs.Prelude.{◌≡◌, refl, sym, ap, subst, ◌∙◌, true, false, List, [], ◌∷◌, ℕ, suc, ◌+◌, ◌-◌, ◌*◌, ◌<◌, ◌≤◌, arith, length, get_or}
 use Rattle.words.specs.{Limits.trade_words, Limits.most_count}
-use Rattle.totals.specs.{Trades.Trade, Trades.trade_at, Trades.trades_from, Trades.acceptable, Trades.good_start, Totals.count_size, Totals.AllAtMost}
+use Rattle.totals.specs.{Trades.Trade, Trades.trade_at, Trades.trades_from, Trades.acceptable, Trades.good_start, Totals.count_size}
 use Rattle.totals.specs.{Totals.with_counts, Laws.Trades.trades_next, Laws.Trades.trades_none, Laws.Trades.good_next, Laws.Trades.good_ends}
 use Rattle.totals.specs.{Laws.Trades.acceptable_reason, Laws.Counts.counts_none, Laws.Counts.counts_twice, Laws.Counts.length_counts}
 use Rattle.totals.specs.{Laws.Counts.one_more}

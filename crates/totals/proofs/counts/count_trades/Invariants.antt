@@ -1,11 +1,8 @@
 -- What is counted and what is still to be counted, up to the first trade that cannot be, make up the whole. Assumes nothing.
-use Rattle.words.specs.Prelude.{◌≡◌, refl, sym, ap, subst, ◌∙◌, true, false, List, [], ◌∷◌, ℕ, suc, ◌+◌, ◌-◌, ◌*◌, ◌<◌, ◌≤◌, arith, rules, length, get_or}
-use Rattle.words.specs.{Limits.trade_words, Limits.most_count}
-use Rattle.totals.specs.{Trades.Trade, Trades.trade_at, Trades.trades_from, Trades.acceptable, Trades.good_start, Totals.count_size, Totals.AllAtMost}
-use Rattle.totals.specs.{Totals.with_counts, Laws.Trades.trades_next, Laws.Trades.trades_none, Laws.Trades.good_next, Laws.Trades.good_ends}
-use Rattle.totals.specs.{Laws.Trades.acceptable_reason, Laws.Counts.counts_none, Laws.Counts.counts_twice, Laws.Counts.length_counts}
-use Rattle.totals.specs.{Laws.Counts.one_more}
-use Rattle.totals.proofs.{Testing.so, Testing.not_so}
+use Rattle.words.specs.Prelude.{◌≡◌, List, ℕ, ◌+◌, ◌-◌, ◌≤◌, length}
+use Rattle.words.specs.{Limits.most_count}
+use Rattle.totals.specs.{Trades.Trade, Trades.trades_from, Trades.good_start, Totals.count_size, Totals.AllAtMost}
+use Rattle.totals.specs.{Totals.with_counts}
 use Rattle.totals.proofs.counts.count_trades.Given as goal
 
 -- the good ones from trade i on, of n

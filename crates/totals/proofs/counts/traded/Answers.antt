@@ -1,5 +1,5 @@
 -- Six counts, each below 2^32, fit a word. Assumes nothing.
-use Rattle.words.specs.Prelude.{refl, arith, rules}
+use Rattle.words.specs.Prelude.{refl, arith}
 use Rattle.totals.specs.{Totals.traded}
 use Rattle.totals.proofs.counts.traded.Goals as goal
 

@@ -1,5 +1,5 @@
 -- `totals::nearest::clear_below`: the word where place j is, and those below it. Assumes nothing.
-use Rattle.words.specs.Prelude.{sym, ap, subst, ◌∙◌, ℕ, ◌-◌, ◌/◌, ◌%◌, ◌^◌, ◌<◌, arith, rules}
+use Rattle.words.specs.Prelude.{sym, ap, subst, ◌∙◌, ℕ, ◌/◌, ◌%◌, ◌^◌, ◌<◌, arith}
 use Rattle.totals.specs.{Number.AreWords}
 use Rattle.totals.proofs.{Reading.same_word, Reading.other_word, Reading.clear_below, Reading.not_clear}
 use Rattle.totals.proofs.nearest.clear_below.Goals as goal

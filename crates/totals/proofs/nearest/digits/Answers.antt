@@ -1,5 +1,5 @@
 -- `totals::nearest::digits`: the highest word that is not 0 has the first digit. Assumes nothing.
-use Rattle.words.specs.Prelude.{◌≡◌, sym, ap, subst, ◌∙◌, ℕ, ◌-◌, ◌*◌, ◌^◌, ◌<◌, ◌≤◌, arith, rules, length, count_leading_zeros}
+use Rattle.words.specs.Prelude.{◌≡◌, sym, ap, subst, ◌∙◌, ℕ, ◌-◌, ◌*◌, ◌^◌, ◌<◌, ◌≤◌, arith, length, count_leading_zeros}
 use Rattle.totals.specs.{Number.AreWords, Number.Top}
 use Rattle.totals.proofs.{Reading.size_of_top, Reading.size_of_none}
 use lib.Count.{leading_le}

@@ -1,5 +1,5 @@
 -- `totals::nearest::kept`: few digits lie in one word or in two. Assumes nothing.
-use Rattle.words.specs.Prelude.{◌≡◌, ap, ◌∙◌, ℕ, ◌+◌, ◌-◌, ◌*◌, ◌/◌, ◌%◌, ◌^◌, ◌<◌, arith, rules, get_or}
+use Rattle.words.specs.Prelude.{◌≡◌, ap, ◌∙◌, ℕ, ◌+◌, ◌-◌, ◌*◌, ◌/◌, ◌%◌, ◌^◌, ◌<◌, arith, get_or}
 use Rattle.totals.specs.{Number.number_of, Number.AreWords}
 use Rattle.totals.proofs.{Reading.few_digits, Reading.few_whole}
 use Rattle.totals.proofs.nearest.kept.Goals as goal
@@ -26,7 +26,7 @@ overflow_add-result c =
     ap (λ (w : ℕ). w / 2 ^ (start.k % 64) + (c.word-2.result * 2 ^ (64 - start.k % 64)) % 2 ^ 64) c.word.ensures
     ∙ ap (λ (w : ℕ). get_or start.words.now (start.k / 64) 0 / 2 ^ (start.k % 64) + (w * 2 ^ (64 - start.k % 64)) % 2 ^ 64) c.word-2.ensures
     ∙ few_digits start.words.now words start.k c.requires (some _ c.if-r-eq0.false) in
-    record { fits = fine _ _ (sum) c.requires }
+    record { fits = fine _ _ sum c.requires }
 
 pub returns : goal.returns
 returns c =

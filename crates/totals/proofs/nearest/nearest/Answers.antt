@@ -1,5 +1,5 @@
 -- `totals::nearest::nearest`: 53 digits, how many were dropped, and no more than an infinity. Assumes nothing.
-use Rattle.words.specs.Prelude.{◌≡◌, sym, ap, subst, ◌∙◌, ℕ, ◌+◌, ◌-◌, ◌*◌, ◌/◌, ◌^◌, ◌<◌, ◌≤◌, min, arith, rules, size, kept-lt}
+use Rattle.words.specs.Prelude.{◌≡◌, sym, ap, subst, ◌∙◌, ℕ, ◌+◌, ◌-◌, ◌*◌, ◌/◌, ◌^◌, ◌<◌, ◌≤◌, min, arith, size, kept-lt}
 use Rattle.words.specs.Prelude.{closest, false, binary64, to_bits, round}
 use Rattle.totals.specs.{Number.number_of, Number.AreWords}
 use Rattle.totals.proofs.{Rounding.size_most, Rounding.nearest_small, Rounding.nearest_large, Rounding.kept_most}
@@ -36,7 +36,7 @@ overflow_mul-b c =
     let most : size (number_of c.args.words.now) ≤ 2176 = let ws = c.args.words.now in
     let words : AreWords ws = λ i. omega (arith, c.type_inv.words i) in
     size_most ws words c.requires in
-    record { fits = fine _ _ c.digits-n.ensures (most) }
+    record { fits = fine _ _ c.digits-n.ensures most }
 
 pub kept-requires : goal.kept-requires
 kept-requires c =
@@ -59,7 +59,7 @@ overflow_add-b c =
     size_most ws words c.requires in
     let n = number_of c.args.words.now in
     record {
-      fits = fine_sum _ _ _ _ c.digits-n.ensures (most)
+      fits = fine_sum _ _ _ _ c.digits-n.ensures most
           (c.rounded.ensures ∙ ap (λ (x : ℕ). closest n (2 ^ (x - 53))) c.digits-n.ensures) (kept_most n);
     }
 

@@ -1,5 +1,5 @@
 -- `totals::nearest::nearest_to`: the highest digit is the sign; the size of a negative sum is 0 less it. Assumes nothing.
-use Rattle.words.specs.Prelude.{◌≡◌, refl, sym, ap, subst, ◌∙◌, true, false, ℕ, ◌+◌, ◌-◌, ◌^◌, ◌<◌, ◌≤◌, arith, rules, get_or, replicate, ℤ}
+use Rattle.words.specs.Prelude.{◌≡◌, refl, sym, ap, subst, ◌∙◌, true, false, ℕ, ◌+◌, ◌-◌, ◌^◌, ◌<◌, ◌≤◌, arith, get_or, replicate, ℤ}
 use Rattle.words.specs.Prelude.{binary64, round, to_bits}
 use Rattle.totals.specs.{Number.number_of, Number.AreWords, Number.place, Number.shifted, Laws.Places.number_below, Laws.Places.place_some}
 use Rattle.totals.specs.{Laws.Residues.shifted_below, Laws.Places.number_words, Exact.nearest_to, Exact.number_in}

@@ -1,5 +1,5 @@
 -- `totals::nearest::rounded`: by the first digit that is dropped, and whether any other is. Assumes nothing.
-use Rattle.words.specs.Prelude.{◌≡◌, sym, ap, subst, ◌∙◌, ℕ, suc, ◌+◌, ◌-◌, ◌/◌, ◌%◌, ◌^◌, ◌<◌, arith, rules, eqb-true}
+use Rattle.words.specs.Prelude.{◌≡◌, sym, ap, subst, ◌∙◌, ℕ, suc, ◌+◌, ◌-◌, ◌/◌, ◌%◌, ◌^◌, ◌<◌, arith, eqb-true}
 use Rattle.words.specs.Prelude.{eqb-false, closest}
 use Rattle.totals.specs.{Number.number_of, Number.AreWords}
 use Rattle.totals.proofs.{Reading.digit_at, Rounding.round_down, Rounding.round_even, Rounding.round_up}
@@ -37,7 +37,7 @@ returns-then-clear_below c =
     digit_at ws words (start.k - 1) ∙ ap (λ (w : ℕ). w / 2 ^ ((start.k - 1) % 64) % 2) (sym c.word.ensures) ∙ odd _ c.if-word-j-eq0.false in
     let n = number_of c.args.words.now in
     ap (λ (q : ℕ). q + q % 2) c.requires.1
-    ∙ sym (even n c.args.k c.requires.0 (first) (eqb-true _ _ (sym c.clear_below.ensures ∙ c.if-clear_below.true)))
+    ∙ sym (even n c.args.k c.requires.0 first (eqb-true _ _ (sym c.clear_below.ensures ∙ c.if-clear_below.true)))
 
 pub returns : goal.returns
 returns c =
@@ -47,7 +47,7 @@ returns c =
     digit_at ws words (start.k - 1) ∙ ap (λ (w : ℕ). w / 2 ^ ((start.k - 1) % 64) % 2) (sym c.word.ensures) ∙ odd _ c.if-word-j-eq0.false in
     let n = number_of c.args.words.now in
     ap (λ (q : ℕ). q + 1) c.requires.1
-    ∙ sym (above n c.args.k c.requires.0 (first) (positive _ (eqb-false _ _ (sym c.clear_below.ensures
+    ∙ sym (above n c.args.k c.requires.0 first (positive _ (eqb-false _ _ (sym c.clear_below.ensures
     ∙ c.if-clear_below.false))))
   where
     positive : (x : ℕ) → (x ≡ 0 → ⊥) → 0 < x

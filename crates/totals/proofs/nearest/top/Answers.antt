@@ -1,4 +1,4 @@
-use Rattle.words.specs.Prelude.{◌≡◌, refl, sym, ap, ◌∙◌, List, ℕ, suc, ◌+◌, ◌-◌, ◌*◌, ◌<◌, ◌≤◌, zero-mul, add-zero, lt_irrefl, arith, rules, take, get_or}
+use Rattle.words.specs.Prelude.{◌≡◌, refl, sym, ap, ◌∙◌, List, ℕ, suc, ◌+◌, ◌-◌, ◌*◌, ◌<◌, zero-mul, add-zero, lt_irrefl, arith, rules, take, get_or}
 use Rattle.totals.specs.{Number.number_of, Number.place}
 use Rattle.totals.proofs.{Digits.number_take}
 use Rattle.totals.proofs.nearest.top.Goals as goal

@@ -1,7 +1,6 @@
 -- `totals::nearest::top`: the words from t on are 0. Assumes nothing.
-use Rattle.words.specs.Prelude.{◌≡◌, refl, sym, ap, ◌∙◌, List, ℕ, suc, ◌+◌, ◌-◌, ◌*◌, ◌<◌, ◌≤◌, zero-mul, add-zero, lt_irrefl, arith, rules, take, get_or}
-use Rattle.totals.specs.{Number.number_of, Number.place}
-use Rattle.totals.proofs.{Digits.number_take}
+use Rattle.words.specs.Prelude.{◌≡◌, ◌≤◌, take}
+use Rattle.totals.specs.{Number.number_of}
 use Rattle.totals.proofs.nearest.top.Given as goal
 
 abbrev pub invariant-loop-t : goal.invariant-loop-t

@@ -1,5 +1,5 @@
 -- Words are added as numbers: what they stand for is added. Assumes nothing.
-use Rattle.words.specs.Prelude.{◌≡◌, sym, ap, subst, ◌∙◌, false, List, ℕ, ◌+◌, ◌^◌, ◌<◌, ◌≤◌, ⊎_elim, arith, rules, length, take, drop, get_or-take, get_or-drop}
+use Rattle.words.specs.Prelude.{◌≡◌, sym, ap, subst, ◌∙◌, false, List, ℕ, ◌+◌, ◌^◌, ◌<◌, ◌≤◌, ⊎_elim, arith, length, take, drop, get_or-take, get_or-drop}
 use Rattle.words.specs.Prelude.{List·get_or-eq_default}
 use Rattle.words.specs.{Laws.Numbers.less_or_not}
 use Rattle.totals.specs.{Number.AreWords, Number.number_of, Number.words_of, Number.shifted, Number.place, Totals.total_words, Totals.sum_words}

@@ -1,4 +1,4 @@
-use Rattle.words.specs.Prelude.{◌≡◌, sym, ap, subst, ◌∙◌, List, ℕ, ◌+◌, ◌-◌, ◌*◌, ◌/◌, ◌%◌, ◌^◌, ◌<◌, ◌≤◌, arith, rules, leb, length, get_or}
+use Rattle.words.specs.Prelude.{◌≡◌, sym, ap, subst, ◌∙◌, List, ℕ, ◌+◌, ◌-◌, ◌*◌, ◌/◌, ◌%◌, ◌^◌, ◌<◌, arith, leb, length, get_or}
 use Rattle.words.specs.{Words.word, Limits.trade_words}
 use Rattle.floats.specs.{Root.units_of}
 use Rattle.totals.specs.{Number.AreWords, Number.number_of, Number.words_of, Number.shifted, Number.place, Exact.units_in, Exact.sum_size, Trades.Trade}

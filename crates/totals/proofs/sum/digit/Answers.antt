@@ -1,5 +1,4 @@
 -- `totals::sum::digit`: one of the two, by the sign. Assumes nothing.
-use Rattle.words.specs.Prelude.{rules}
 use Rattle.totals.proofs.sum.digit.Goals as goal
 
 pub returns-then-down : goal.returns-then-down

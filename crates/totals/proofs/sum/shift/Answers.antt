@@ -1,6 +1,6 @@
-use Rattle.words.specs.Prelude.{◌≡◌, refl, sym, ap, subst, ◌∙◌, Bool, true, false, ℕ, ◌+◌, ◌-◌, ◌*◌, ◌^◌, ◌<◌, zero-mul, arith, add-one, rules, length}
+use Rattle.words.specs.Prelude.{◌≡◌, refl, sym, ap, subst, ◌∙◌, Bool, true, false, ℕ, ◌+◌, ◌*◌, ◌^◌, zero-mul, arith, add-one, rules, length}
 use Rattle.words.specs.Prelude.{length-set}
-use Rattle.totals.specs.{Number.Moves, Number.AreWords, Number.number_of, Number.place}
+use Rattle.totals.specs.{Number.Moves, Number.number_of, Number.place}
 use Rattle.totals.proofs.{Numbers.moves_on, Numbers.words_settled, Numbers.past, Numbers.set_words}
 use Rattle.totals.proofs.sum.shift.Goals as goal
 
@@ -30,7 +30,7 @@ overflow_add-lo c = omega (arith, c.digit-d.ensures.2)
 pub loop-i-smaller : goal.loop-i-smaller
 loop-i-smaller c =
     let l = c.loop-i in
-    simp (length-set) (omega arith)
+    simp length-set (omega arith)
 
 pub loop-i-preserved : goal.loop-i-preserved
 loop-i-preserved c =

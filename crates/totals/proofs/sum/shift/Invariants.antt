@@ -1,8 +1,6 @@
 -- `totals::sum::shift`: what was moved and what is still to be moved, at the place of word i, make up the whole. Assumes nothing.
-use Rattle.words.specs.Prelude.{◌≡◌, refl, sym, ap, subst, ◌∙◌, Bool, true, false, ℕ, ◌+◌, ◌-◌, ◌*◌, ◌^◌, ◌<◌, zero-mul, arith, add-one, rules, length}
-use Rattle.words.specs.Prelude.{length-set}
+use Rattle.words.specs.Prelude.{◌≡◌, ◌+◌, ◌-◌, ◌*◌, ◌^◌, ◌<◌, length}
 use Rattle.totals.specs.{Number.Moves, Number.AreWords, Number.number_of, Number.place}
-use Rattle.totals.proofs.{Numbers.moves_on, Numbers.words_settled, Numbers.past, Numbers.set_words}
 use Rattle.totals.proofs.sum.shift.Given as goal
 
 abbrev pub invariant-loop-i : goal.invariant-loop-i

@@ -1,4 +1,4 @@
-use Rattle.words.specs.Prelude.{◌≡◌, sym, ap, ◌∙◌, Bool, List, ℕ, ◌+◌, ◌-◌, ◌*◌, ◌^◌, ◌<◌, ◌≤◌, arith, add-one, rules}
+use Rattle.words.specs.Prelude.{◌≡◌, sym, ap, ◌∙◌, Bool, List, ℕ, ◌+◌, ◌*◌, ◌^◌, ◌<◌, arith, add-one, rules}
 use Rattle.words.specs.Prelude.{length, take, get_or, add-zero, take-length}
 use Rattle.totals.specs.{Number.place, Number.number_of, Number.words_of, Number.shifted, Number.AreWords, Laws.Places.words_of_number}
 use Rattle.totals.specs.{Laws.Places.number_below, Laws.Places.place_some, Laws.Places.length_words, Laws.Places.number_words}

@@ -1,5 +1,5 @@
 -- The 34 words from word 8 on. Assumes nothing.
-use Rattle.words.specs.Prelude.{◌∙◌, ◌-◌, rules, take, drop}
+use Rattle.words.specs.Prelude.{◌∙◌, take, drop}
 use Rattle.totals.specs.{Totals.sum_words}
 use Rattle.totals.proofs.{Writing.copied, Writing.sum_long}
 use Rattle.totals.proofs.sum.sum_of.Goals as goal

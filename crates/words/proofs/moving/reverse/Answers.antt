@@ -1,5 +1,5 @@
-use Rattle.words.specs.Prelude.{rules, arith, refl, ◌-◌, ◌/◌, ◌≤◌, length, length-set}
-use Rattle.words.proofs.{Reversing.Swapped, Reversing.swapped_none, Reversing.swapped_more, Reversing.swapped_all}
+use Rattle.words.specs.Prelude.{arith, refl, length-set}
+use Rattle.words.proofs.{Reversing.swapped_none, Reversing.swapped_more, Reversing.swapped_all}
 use Rattle.words.proofs.moving.reverse.Goals as goal
 
 pub loop-i-init : goal.loop-i-init

@@ -1,6 +1,6 @@
 -- The loop's invariant: the first i words and the last i have changed places. Assumes nothing.
-use Rattle.words.specs.Prelude.{rules, arith, refl, ◌-◌, ◌/◌, ◌≤◌, length, length-set}
-use Rattle.words.proofs.{Reversing.Swapped, Reversing.swapped_none, Reversing.swapped_more, Reversing.swapped_all}
+use Rattle.words.specs.Prelude.{◌-◌, ◌/◌, ◌≤◌, length}
+use Rattle.words.proofs.{Reversing.Swapped}
 use Rattle.words.proofs.moving.reverse.Given as goal
 
 abbrev pub invariant-loop-i : goal.invariant-loop-i

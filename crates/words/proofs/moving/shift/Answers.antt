@@ -1,5 +1,5 @@
 -- The words are moved where the room has them; else nothing is done. Assumes nothing.
-use Rattle.words.specs.Prelude.{rules, arith, sym, ◌∙◌, le-leb, lt-leb}
+use Rattle.words.specs.Prelude.{arith, sym, ◌∙◌, le-leb, lt-leb}
 use Rattle.words.specs.{Words.shifted, Laws.Overwrite.shifted_fits}
 use Rattle.words.proofs.moving.shift.Goals as goal
 

@@ -1,5 +1,5 @@
 -- Each of the three moves begins where the one before it ends, so in turn they move all the words. Assumes nothing.
-use Rattle.words.specs.Prelude.{rules, arith, ◌-◌, ◌*◌, ◌/◌, ◌%◌}
+use Rattle.words.specs.Prelude.{arith, ◌-◌, ◌*◌, ◌/◌, ◌%◌}
 use Rattle.words.proofs.{Copying.moved_all, Copying.moved_in_turn}
 use Rattle.words.proofs.moving.shift_all.Goals as goal
 

@@ -1,5 +1,5 @@
 -- The block is read whole before it is copied, so what is written is what the room held before. Assumes nothing.
-use Rattle.words.specs.Prelude.{rules, arith, ◌+◌}
+use Rattle.words.specs.Prelude.{arith, ◌+◌}
 use Rattle.words.proofs.{Copying.block}
 use Rattle.words.proofs.moving.shift_block.Goals as goal
 

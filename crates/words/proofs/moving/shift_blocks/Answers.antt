@@ -1,5 +1,5 @@
-use Rattle.words.specs.Prelude.{rules, arith, ◌≡◌, refl, ◌∙◌, ◌+◌, ◌-◌, ◌*◌, ◌≤◌, length, drop, paste-zero}
-use Rattle.words.proofs.{Copying.moved, Copying.moved_on}
+use Rattle.words.specs.Prelude.{rules, arith, ◌≡◌, refl, ◌∙◌, ◌+◌, ◌*◌, drop, paste-zero}
+use Rattle.words.proofs.{Copying.moved_on}
 use Rattle.words.proofs.moving.shift_blocks.Goals as goal
 
 pub loop-i-init : goal.loop-i-init

@@ -1,6 +1,6 @@
 -- The loop's invariant: 16 * i words are `moved`; a turn moves sixteen more. Assumes nothing.
-use Rattle.words.specs.Prelude.{rules, arith, ◌≡◌, refl, ◌∙◌, ◌+◌, ◌-◌, ◌*◌, ◌≤◌, length, drop, paste-zero}
-use Rattle.words.proofs.{Copying.moved, Copying.moved_on}
+use Rattle.words.specs.Prelude.{◌≡◌, ◌-◌, ◌*◌, ◌≤◌, length}
+use Rattle.words.proofs.{Copying.moved}
 use Rattle.words.proofs.moving.shift_blocks.Given as goal
 
 abbrev pub invariant-loop-i : goal.invariant-loop-i

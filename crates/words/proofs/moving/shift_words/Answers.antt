@@ -1,5 +1,5 @@
-use Rattle.words.specs.Prelude.{rules, arith, ◌≡◌, refl, ◌∙◌, ◌+◌, ◌-◌, ◌≤◌, length, drop, length-set, paste-zero}
-use Rattle.words.proofs.{Copying.moved, Copying.moved_on, Copying.one_word}
+use Rattle.words.specs.Prelude.{rules, arith, ◌≡◌, refl, ◌∙◌, ◌+◌, drop, length-set, paste-zero}
+use Rattle.words.proofs.{Copying.moved_on, Copying.one_word}
 use Rattle.words.proofs.moving.shift_words.Goals as goal
 
 pub loop-i-init : goal.loop-i-init

@@ -1,6 +1,6 @@
 -- The loop's invariant: i words are `moved`; a turn moves one more. Assumes nothing.
-use Rattle.words.specs.Prelude.{rules, arith, ◌≡◌, refl, ◌∙◌, ◌+◌, ◌-◌, ◌≤◌, length, drop, length-set, paste-zero}
-use Rattle.words.proofs.{Copying.moved, Copying.moved_on, Copying.one_word}
+use Rattle.words.specs.Prelude.{◌≡◌, ◌-◌, ◌≤◌, length}
+use Rattle.words.proofs.{Copying.moved}
 use Rattle.words.proofs.moving.shift_words.Given as goal
 
 abbrev pub invariant-loop-i : goal.invariant-loop-i

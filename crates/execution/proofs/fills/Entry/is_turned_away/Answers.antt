@@ -1,5 +1,4 @@
 -- `is_turned_away`: a case each.
-use Rattle.words.specs.Prelude.{rules}
 use Rattle.execution.proofs.fills.Entry.is_turned_away.Goals as goal
 
 pub returns-in-NoEntry : goal.returns-in-NoEntry

@@ -1,5 +1,4 @@
 -- `is_too_large`: a case each.
-use Rattle.words.specs.Prelude.{rules}
 use Rattle.execution.proofs.lots.Quantity.is_too_large.Goals as goal
 
 pub returns-in-Nothing : goal.returns-in-Nothing

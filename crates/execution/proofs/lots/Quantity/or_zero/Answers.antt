@@ -1,5 +1,4 @@
 -- `or_zero`: a case each.
-use Rattle.words.specs.Prelude.{rules}
 use Rattle.execution.proofs.lots.Quantity.or_zero.Goals as goal
 
 pub returns-in-Nothing : goal.returns-in-Nothing

@@ -1,5 +1,4 @@
 -- `unwrap_or`: a case each.
-use Rattle.words.specs.Prelude.{rules}
 use Rattle.execution.specs.{Optional.unwrap_or}
 use Rattle.execution.proofs.optional.Optional.unwrap_or.Goals as goal
 
