@@ -1,5 +1,5 @@
 -- The bar that an account is handed: "the bar and the slots are shared", "an account with fewer slots is handed only its own". Definitions only.
-use Rattle.words.specs.Prelude.{ℕ, ◌%◌, ◌^◌, cond, List, [], ◌∷◌, ◌++◌, ltb, leb, eqb, length, take, drop}
+use Rattle.std.specs.Prelude.{ℕ, ◌%◌, ◌^◌, cond, List, [], ◌∷◌, ◌++◌, ltb, leb, eqb, length, take, drop}
 use Rattle.words.specs.{Limits.bar_words, Limits.row_words, Limits.most_slots, Words.word, Words.overwrite}
 
 -- the lowest K bits of a mask, which has 64

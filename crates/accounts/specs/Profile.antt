@@ -1,5 +1,5 @@
 -- The profile of request 14: "no short trees, leverage at most 1, and no more slots than the stream". Definitions only.
-use Rattle.words.specs.Prelude.{ℕ, Bool, true, ◌&&◌, List, [], ◌∷◌, leb, eqb}
+use Rattle.std.specs.Prelude.{ℕ, Bool, true, ◌&&◌, List, [], ◌∷◌, leb, eqb}
 use Rattle.floats.specs.{Floats.◌≼◌, Floats.one}
 use Rattle.execution.specs.{declared.optional.Optional.Optional, declared.optional.Optional.TheVariants.Absent, declared.optional.Optional.TheVariants.Of}
 use Rattle.records.specs.{declared.settings.Settings.Settings}

@@ -1,5 +1,5 @@
 -- The status of an account on the stream. Definitions only.
-use Rattle.words.specs.Prelude.{ℕ, Bool, not, List, [], ◌∷◌, eqb}
+use Rattle.std.specs.Prelude.{ℕ, Bool, not, List, [], ◌∷◌, eqb}
 use Rattle.words.specs.{Words.word, Words.overwrite}
 
 -- a number, a place, a bar of the stream

@@ -1,5 +1,5 @@
 -- The stream of request 14: which of its bars are taken. Definitions only.
-use Rattle.words.specs.Prelude.{ℕ, ◌+◌, ◌/◌, cond, List, [], ◌∷◌, ltb, leb, eqb, length}
+use Rattle.std.specs.Prelude.{ℕ, ◌+◌, ◌/◌, cond, List, [], ◌∷◌, ltb, leb, eqb, length}
 use Rattle.words.specs.{Limits.bar_words, Limits.most_count, Limits.most_slots}
 use Rattle.refusals.specs.{declared.verdict.Verdict.Verdict, declared.verdict.Verdict.TheVariants.Fine, declared.verdict.Verdict.TheVariants.Bad}
 use Rattle.refusals.specs.{Bar.bar_lines, Day.whole_bars, Lines.Line, Lines.line, Lines.judged}

@@ -1,5 +1,5 @@
 -- Worked examples of the definitions.
-use Rattle.words.specs.Prelude.{◌≡◌, refl, [], ◌∷◌}
+use Rattle.std.specs.Prelude.{◌≡◌, refl, [], ◌∷◌}
 use Rattle.answers.specs.{Text.decimal}
 
 -- `0`, `1234` and the largest word in decimal

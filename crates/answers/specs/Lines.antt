@@ -1,5 +1,5 @@
 -- The answer to a table as a line. Definitions only.
-use Rattle.words.specs.Prelude.{List, [], ◌∷◌, ◌++◌, ℕ}
+use Rattle.std.specs.Prelude.{List, [], ◌∷◌, ◌++◌, ℕ}
 use Rattle.answers.specs.{Text.decimal}
 use Rattle.table.specs.{declared.answer.Answer.Answer, declared.answer.Answer.TheVariants.Accepted, declared.answer.Answer.TheVariants.Refused}
 

@@ -1,5 +1,5 @@
 -- Bytes put into a room one after another, and numbers in decimal. Definitions only.
-use Rattle.words.specs.Prelude.{cond, List, ◌++◌, ℕ, zero, suc, ◌+◌, ◌/◌, ltb, leb, length, take, drop}
+use Rattle.std.specs.Prelude.{cond, List, ◌++◌, ℕ, zero, suc, ◌+◌, ◌/◌, ltb, leb, length, take, drop}
 use Rattle.io.specs.{Digits.digits}
 
 -- the room with bytes over it from `at` on, where they fit

@@ -1,6 +1,7 @@
 -- One account over bars behind bars: what it comes to over the first, and then over the second, is what it comes to over both.
-use Rattle.words.specs.Prelude.{ℕ, ◌+◌, ◌/◌, ◌%◌, ◌^◌, ◌≤◌, ◌≡◌, refl, sym, ◌∙◌, Bool, true, false, cond, List, [], ◌∷◌, ◌++◌, append-nil, map, arith, eq-eqb}
-use Rattle.words.specs.Prelude.{ne_eqb, eqb-true, eqb-false, eqb, length}
+use Rattle.std.specs.Prelude.{ℕ, ◌+◌, ◌/◌, ◌%◌, ◌^◌, ◌≤◌, ◌≡◌, refl, Bool, true, false, cond, List, [], ◌∷◌, ◌++◌, map, eqb, length}
+use Rattle.words.specs.Prelude.{sym, ◌∙◌, append-nil, arith, eq-eqb}
+use Rattle.words.specs.Prelude.{ne_eqb, eqb-true, eqb-false}
 use Rattle.words.specs.{declared.refusal.Refusal.Refusal, Laws.Overwrite.overwrite-length}
 use Rattle.table.specs.{declared.answer.Answer.Answer, declared.answer.Answer.TheVariants.Accepted, declared.answer.Answer.TheVariants.Refused}
 use Rattle.table.specs.{Checked.checked}

@@ -1,5 +1,6 @@
 -- Request 14: "An account's results must be those it would have alone .. whatever the others' tables say." None sees another.
-use Rattle.words.specs.Prelude.{ℕ, ◌≤◌, ◌≡◌, refl, sym, ◌∙◌, List, [], ◌∷◌, le-leb, leb, length}
+use Rattle.std.specs.Prelude.{ℕ, ◌≤◌, ◌≡◌, refl, List, [], ◌∷◌, leb, length}
+use Rattle.words.specs.Prelude.{sym, ◌∙◌, le-leb}
 use Rattle.words.specs.{Limits.bar_words, Words.word}
 use Rattle.refusals.specs.{declared.verdict.Verdict.Verdict, declared.verdict.Verdict.TheVariants.Fine, declared.verdict.Verdict.TheVariants.Bad, Lines.line}
 use Rattle.refusals.specs.{Lines.judged}

@@ -1,6 +1,7 @@
 -- Bars behind bars: their records, what the stream takes of them, and what an account's calls over them come to.
-use Rattle.words.specs.Prelude.{ℕ, zero, suc, ◌+◌, ◌*◌, ◌/◌, ◌^◌, ◌≤◌, ◌≡◌, refl, sym, ap, Bool, true, false, cond, List, [], ◌∷◌, ◌++◌, arith, ltb-true}
-use Rattle.words.specs.Prelude.{eqb-false, eqb, length, drop, length-drop}
+use Rattle.std.specs.Prelude.{ℕ, zero, suc, ◌+◌, ◌*◌, ◌/◌, ◌^◌, ◌≤◌, ◌≡◌, refl, Bool, true, false, cond, List, [], ◌∷◌, ◌++◌, eqb, length, drop}
+use Rattle.words.specs.Prelude.{sym, ap, arith, ltb-true}
+use Rattle.words.specs.Prelude.{eqb-false, length-drop}
 use Rattle.words.specs.{declared.refusal.Refusal.Refusal, Limits.most_count}
 use Rattle.records.specs.{Lent.Lists}
 use Rattle.refusals.specs.{declared.verdict.Verdict.Verdict, declared.verdict.Verdict.TheVariants.Fine, declared.verdict.Verdict.TheVariants.Bad}

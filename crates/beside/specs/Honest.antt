@@ -1,6 +1,7 @@
 -- Demand 1 of the call over four accounts: its answer is the number and the place of what is refused, 0 means that nothing was, and a call that takes no
 -- bar leaves all that was lent as it was.
-use Rattle.words.specs.Prelude.{ℕ, ◌+◌, ◌/◌, ◌%◌, ◌^◌, ◌<◌, ◌≡◌, refl, sym, ap, ◌∙◌, Bool, true, false, cond, List, [], ◌∷◌, arith, ltb-true, eqb, length}
+use Rattle.std.specs.Prelude.{ℕ, ◌+◌, ◌/◌, ◌%◌, ◌^◌, ◌<◌, ◌≡◌, refl, Bool, true, false, cond, List, [], ◌∷◌, eqb, length}
+use Rattle.words.specs.Prelude.{sym, ap, ◌∙◌, arith, ltb-true}
 use Rattle.words.specs.{declared.refusal.Refusal.Refusal, Limits.bar_words, Limits.most_count, Words.word}
 use Rattle.refusals.specs.{declared.verdict.Verdict.Verdict, declared.verdict.Verdict.TheVariants.Fine, declared.verdict.Verdict.TheVariants.Bad}
 use Rattle.refusals.specs.{Bar.bar_lines, Laws.Lines.never, Laws.Numbers.numbered, Laws.Places.Placed, Laws.Places.place_below, Laws.Places.named}

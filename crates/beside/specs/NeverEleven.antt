@@ -1,6 +1,7 @@
 -- Request 14: "a bar refused with 11 changes and stops none". A bar that 11 accepts for the stream's slots is one that 11 accepts for fewer: so 11 is
 -- never an account's.
-use Rattle.words.specs.Prelude.{ℕ, ◌/◌, ◌^◌, ◌≤◌, ◌≡◌, refl, sym, ap, ◌∙◌, Bool, true, false, List, [], ◌∷◌, arith, eqb-true, eqb-false, leb-true, eqb, length}
+use Rattle.std.specs.Prelude.{ℕ, ◌/◌, ◌^◌, ◌≤◌, ◌≡◌, refl, Bool, true, false, List, [], ◌∷◌, eqb, length}
+use Rattle.words.specs.Prelude.{sym, ap, ◌∙◌, arith, eqb-true, eqb-false, leb-true}
 use Rattle.words.specs.{declared.refusal.Refusal.Refusal, Limits.bar_words, Words.word}
 use Rattle.table.specs.{declared.answer.Answer.Answer, declared.answer.Answer.TheVariants.Accepted, declared.answer.Answer.TheVariants.Refused}
 use Rattle.table.specs.{Checked.checked}

@@ -1,6 +1,8 @@
 -- A bar that 11 accepts for the stream's slots is, cut to an account's, one that 11 accepts for fewer.
-use Rattle.words.specs.Prelude.{ℕ, zero, suc, ◌+◌, ◌-◌, ◌/◌, ◌%◌, ◌^◌, ◌<◌, ◌≤◌, ◌≡◌, refl, sym, ap, ◌∙◌, Bool, true, false, cond, List, [], ◌∷◌, ◌++◌, ⊎_elim}
-use Rattle.words.specs.Prelude.{div-eq_of_lt, mod-lt, lt_of_lt_of_le, arith, lt-ltb, ltb, length, take, drop, length-append, length-drop, List·get_or-append}
+use Rattle.std.specs.Prelude.{ℕ, zero, suc, ◌+◌, ◌-◌, ◌/◌, ◌%◌, ◌^◌, ◌<◌, ◌≤◌, ◌≡◌, refl, Bool, true, false, cond, List, [], ◌∷◌, ◌++◌, ltb, length, take}
+use Rattle.std.specs.Prelude.{drop}
+use Rattle.words.specs.Prelude.{sym, ap, ◌∙◌, ⊎_elim}
+use Rattle.words.specs.Prelude.{div-eq_of_lt, mod-lt, lt_of_lt_of_le, arith, lt-ltb, length-append, length-drop, List·get_or-append}
 use Rattle.words.specs.Prelude.{pow_mono, pow_pos, get_or-take, get_or-drop, get_or-append-add, get_or-append_seam, length-take-le}
 use Rattle.words.specs.{Laws.Numbers.less_or_not, Limits.bar_words, Limits.most_slots, Words.word}
 use Rattle.records.specs.{Bar.candle_of, Bar.funding_of}

@@ -1,5 +1,6 @@
 -- Request 14: one call over a list of bars is calls over its parts.
-use Rattle.words.specs.Prelude.{ℕ, ◌+◌, ◌≤◌, ◌≡◌, refl, sym, ap, subst, ◌∙◌, true, cond, List, [], ◌∷◌, ◌++◌, append-nil, arith, ne_eqb, leb-true, eqb, length}
+use Rattle.std.specs.Prelude.{ℕ, ◌+◌, ◌≤◌, ◌≡◌, refl, true, cond, List, [], ◌∷◌, ◌++◌, eqb, length}
+use Rattle.words.specs.Prelude.{sym, ap, subst, ◌∙◌, append-nil, arith, ne_eqb, leb-true}
 use Rattle.words.specs.{declared.refusal.Refusal.Refusal, Limits.bar_words, Words.word}
 use Rattle.refusals.specs.{declared.verdict.Verdict.Verdict, declared.verdict.Verdict.TheVariants.Fine, declared.verdict.Verdict.TheVariants.Bad}
 use Rattle.refusals.specs.{Day.whole_bars, Laws.Lines.never, Laws.Lines.first_holds, Lines.judged}

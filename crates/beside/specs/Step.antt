@@ -1,5 +1,6 @@
 -- A step over a bar that 11 accepts is not refused with 11.
-use Rattle.words.specs.Prelude.{ℕ, ◌/◌, ◌^◌, ◌≤◌, ◌≡◌, refl, sym, ◌∙◌, Bool, true, false, cond, ◌&&◌, List, [], ◌∷◌, ◌++◌, map, arith, eq-eqb, eqb, length}
+use Rattle.std.specs.Prelude.{ℕ, ◌/◌, ◌^◌, ◌≤◌, ◌≡◌, refl, Bool, true, false, cond, ◌&&◌, List, [], ◌∷◌, ◌++◌, map, eqb, length}
+use Rattle.words.specs.Prelude.{sym, ◌∙◌, arith, eq-eqb}
 use Rattle.words.specs.{declared.refusal.Refusal.Refusal, Limits.bar_words, Outcome.Outcome, Outcome.gives, Outcome.refuses, Outcome.refusal}
 use Rattle.records.specs.{declared.settings.Settings.Settings, declared.state.State.State, Lent.Rooms, Lent.Lists, Settings.settings_of, StateWords.state_of}
 use Rattle.refusals.specs.{declared.verdict.Verdict.Verdict, declared.verdict.Verdict.TheVariants.Fine, declared.verdict.Verdict.TheVariants.Bad}

@@ -1,6 +1,7 @@
 -- The stream over bars behind bars: its words, and what it takes of two lists of whole bars.
-use Rattle.words.specs.Prelude.{ℕ, zero, suc, ◌+◌, ◌*◌, ◌/◌, ◌%◌, ◌≤◌, ◌≡◌, refl, sym, ◌∙◌, Bool, true, false, cond, List, [], ◌∷◌, ◌++◌, add-mul, div-add-mod'}
-use Rattle.words.specs.Prelude.{mul-div_cancel, mul-mod_left, zero-div, arith, eq-eqb, ne_eqb, eqb-true, le-leb, eqb, length, length-append}
+use Rattle.std.specs.Prelude.{ℕ, zero, suc, ◌+◌, ◌*◌, ◌/◌, ◌%◌, ◌≤◌, ◌≡◌, refl, Bool, true, false, cond, List, [], ◌∷◌, ◌++◌, eqb, length}
+use Rattle.words.specs.Prelude.{sym, ◌∙◌, add-mul, div-add-mod'}
+use Rattle.words.specs.Prelude.{mul-div_cancel, mul-mod_left, zero-div, arith, eq-eqb, ne_eqb, eqb-true, le-leb, length-append}
 use Rattle.words.specs.{declared.refusal.Refusal.Refusal, Laws.Overwrite.overwrite-length, Limits.bar_words, Limits.most_count, Limits.most_slots, Words.word}
 use Rattle.words.specs.{Words.overwrite}
 use Rattle.refusals.specs.{declared.verdict.Verdict.Verdict, declared.verdict.Verdict.TheVariants.Fine, declared.verdict.Verdict.TheVariants.Bad}

@@ -1,5 +1,5 @@
 -- An append and its refusals. Definitions only.
-use Rattle.words.specs.Prelude.{ℕ, ◌+◌, ◌*◌, ◌/◌, Bool, cond, ◌&&◌, List, ltb, leb, length, set}
+use Rattle.std.specs.Prelude.{ℕ, ◌+◌, ◌*◌, ◌/◌, Bool, cond, ◌&&◌, List, ltb, leb, length, set}
 use Rattle.words.specs.{Limits.most_count, Outcome.refusal}
 use Rattle.floats.specs.{Floats.float_of, Floats.finite}
 use Rattle.blocks.specs.{declared.append.Added.Added, declared.append.Added.TheVariants.Held, declared.append.Added.TheVariants.Refused}

@@ -1,5 +1,5 @@
 -- Blocks: "the high and low of every 64 bars, with their first bars". Definitions only.
-use Rattle.words.specs.Prelude.{ℕ, zero, suc, ◌+◌, ◌*◌, ◌/◌, ◌%◌, cond, List, eqb, get_or, set}
+use Rattle.std.specs.Prelude.{ℕ, zero, suc, ◌+◌, ◌*◌, ◌/◌, ◌%◌, cond, List, eqb, get_or, set}
 use Rattle.blocks.specs.{declared.best.Best.Best, Reading.one, Reading.join}
 
 -- block j is that of bars 64j to 64j + 63

@@ -1,5 +1,5 @@
 -- What a question reads, and what that tells. Definitions only.
-use Rattle.words.specs.Prelude.{ℕ, zero, suc, ◌+◌, ◌-◌, ◌*◌, ◌/◌, ◌%◌, ◌≤◌, min, ◌≡◌, Bool, ◌&&◌, List, [], ◌∷◌, ◌++◌, leb, eqb, get_or}
+use Rattle.std.specs.Prelude.{ℕ, zero, suc, ◌+◌, ◌-◌, ◌*◌, ◌/◌, ◌%◌, ◌≤◌, min, ◌≡◌, Bool, ◌&&◌, List, [], ◌∷◌, ◌++◌, leb, eqb, get_or}
 use Rattle.blocks.specs.{declared.best.Best.Best, Reading.one, Reading.join, Blocks.block_bars, Blocks.block}
 
 -- one close, by its bar, or one block, by its number

@@ -1,5 +1,5 @@
 -- A question and its refusals. Definitions only.
-use Rattle.words.specs.Prelude.{ℕ, ◌+◌, ◌-◌, ◌*◌, ◌/◌, Bool, cond, ◌&&◌, List, ltb, leb, length}
+use Rattle.std.specs.Prelude.{ℕ, ◌+◌, ◌-◌, ◌*◌, ◌/◌, Bool, cond, ◌&&◌, List, ltb, leb, length}
 use Rattle.words.specs.{Limits.most_count, Outcome.refusal}
 use Rattle.blocks.specs.{declared.stretch.Found.Found, declared.stretch.Found.TheVariants.Best, declared.stretch.Found.TheVariants.Refused}
 use Rattle.blocks.specs.{Blocks.block_bars, Blocks.block_words, Reads.reads, Reads.told}

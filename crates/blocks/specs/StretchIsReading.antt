@@ -1,7 +1,8 @@
 -- THE STATEMENT of request 10: "A question .. gives what reading every close gives: the numbers and the earliest bar of each. This holds for rooms
 -- filled from empty by appending alone, over any number of bars that fit." Assumes nothing.
-use Rattle.words.specs.Prelude.{ℕ, zero, suc, ◌+◌, ◌-◌, ◌*◌, ◌/◌, ◌<◌, ◌≤◌, ◌≡◌, refl, sym, ap, subst, ◌∙◌, List, [], ◌∷◌, ◌++◌, ℕ_discrete, arith, lt_of_le-ne}
-use Rattle.words.specs.Prelude.{get_or, length, set, length-append, length-set, List·get_or-append, get_or-set_same, get_or-set_other, get_or-append_seam}
+use Rattle.std.specs.Prelude.{ℕ, zero, suc, ◌+◌, ◌-◌, ◌*◌, ◌/◌, ◌<◌, ◌≤◌, ◌≡◌, refl, List, [], ◌∷◌, ◌++◌, get_or, length, set}
+use Rattle.words.specs.Prelude.{sym, ap, subst, ◌∙◌, ℕ_discrete, arith, lt_of_le-ne}
+use Rattle.words.specs.Prelude.{length-append, length-set, List·get_or-append, get_or-set_same, get_or-set_other, get_or-append_seam}
 use Rattle.words.specs.{Limits.most_count}
 use Rattle.blocks.specs.{declared.append.Added.TheVariants.Held, declared.stretch.Found.Found, declared.best.Best.Best, Reading.one, Reading.join}
 use Rattle.blocks.specs.{Reading.reading, Reading.HighAndLow, Reading.Number, Append.Append, Append.appended, Append.kept, Reads.reads, Reads.told}

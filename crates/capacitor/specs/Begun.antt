@@ -1,5 +1,5 @@
 -- What a caller sees to before the first bar, in the words of the C calls. Definitions only.
-use Rattle.words.specs.Prelude.{ℕ, ◌≤◌, ◌≡◌, List, take}
+use Rattle.std.specs.Prelude.{ℕ, ◌≤◌, ◌≡◌, List, take}
 use Rattle.table.specs.{Bytes.Bytes, Header.slots}
 use Rattle.records.specs.{Lent.Lists, Lent.row_places, Settings.settings_of}
 use Rattle.refusals.specs.{declared.verdict.Verdict.TheVariants.Fine, Lines.judged, Settings.setting_lines}

@@ -1,6 +1,6 @@
 -- FINISH AFTER LOSSES, in the words of the C calls. `ysh_finish` measures the points and trades of its own life. The figures of the whole run are what
 -- `ysh_metrics` gives over the points and trades of before, put in front of its own.
-use Rattle.words.specs.Prelude.{ℕ, ◌-◌, ◌≤◌, ◌≡◌, cond, List, [], ◌++◌, ltb, length, set}
+use Rattle.std.specs.Prelude.{ℕ, ◌-◌, ◌≤◌, ◌≡◌, cond, List, [], ◌++◌, ltb, length, set}
 use Rattle.words.specs.{Limits.metric_words, Words.overwrite, Words.word}
 use Rattle.floats.specs.{Floats.word_of}
 use Rattle.portfolio.specs.{Portfolio.equity}

@@ -1,6 +1,7 @@
 -- Finish after losses, proved: the words that `ysh_finish` leaves are those of the engine's end, of which restart says what its points and trades are.
-use Rattle.words.specs.Prelude.{ℕ, ◌+◌, ◌-◌, ◌*◌, ◌/◌, ◌%◌, ◌≤◌, ◌≡◌, refl, sym, ap, subst, ◌∙◌, cond, List, [], ◌∷◌, ◌++◌, append-nil, flat_map, mul-div_cancel}
-use Rattle.words.specs.Prelude.{arith, eq-eqb, le-leb, lt-ltb, ltb, Float, length, set}
+use Rattle.std.specs.Prelude.{ℕ, ◌+◌, ◌-◌, ◌*◌, ◌/◌, ◌%◌, ◌≤◌, ◌≡◌, refl, cond, List, [], ◌∷◌, ◌++◌, flat_map, ltb, Float, length, set}
+use Rattle.words.specs.Prelude.{sym, ap, subst, ◌∙◌, append-nil, mul-div_cancel}
+use Rattle.words.specs.Prelude.{arith, eq-eqb, le-leb, lt-ltb}
 use Rattle.words.specs.{Limits.metric_words, Limits.point_words, Limits.trade_words, Outcome.gives, Words.word}
 use Rattle.floats.specs.{Floats.word_of, Floats.float_of}
 use Rattle.portfolio.specs.{Portfolio.equity, Trade.words_of_trade}

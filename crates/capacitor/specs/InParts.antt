@@ -1,6 +1,7 @@
 -- THE IMAGE IN PARTS. The capacitor theorem speaks of the image that `ysh_dump` leaves in a buffer; a driver without memory for it makes each page by
 -- `ysh_dump_part`. Call after call gives that very image, so what such a driver programs is what the theorem says is programmed.
-use Rattle.words.specs.Prelude.{ℕ, ◌≤◌, ◌≡◌, sym, ◌∙◌, List, arith, le-leb, length, take, replicate, length-replicate}
+use Rattle.std.specs.Prelude.{ℕ, ◌≤◌, ◌≡◌, List, length, take, replicate}
+use Rattle.words.specs.Prelude.{sym, ◌∙◌, arith, le-leb, length-replicate}
 use Rattle.records.specs.{declared.settings.Settings.Settings, declared.state.State.State, Lent.Lists, Settings.settings_of, StateWords.state_of}
 use Rattle.refusals.specs.{declared.verdict.Verdict.TheVariants.Fine, Laws.Lines.both_fine, Lines.judged, Rooms.room_lines, Settings.setting_lines}
 use Rattle.images.specs.{Layout.dump_bytes}

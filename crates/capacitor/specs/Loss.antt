@@ -1,5 +1,5 @@
 -- A LOSS OF THE SUPPLY, in the words of the C calls: the bars before it, the dump, the flash, and the restore. Definitions only.
-use Rattle.words.specs.Prelude.{ℕ, ◌≤◌, ◌≡◌, List, [], ◌∷◌, ◌++◌, length, take}
+use Rattle.std.specs.Prelude.{ℕ, ◌≤◌, ◌≡◌, List, [], ◌∷◌, ◌++◌, length, take}
 use Rattle.records.specs.{Lent.Lists, Lent.rooms, Settings.settings_of, StateWords.state_of}
 use Rattle.engine.specs.{Books.held_points, Books.held_trades}
 use Rattle.images.specs.{Layout.dump_bytes}

@@ -1,6 +1,7 @@
 -- THE CAPACITOR THEOREM, proved: the box after its losses is the engine's, of which restart says that it is as if its supply had never failed; and what a
 -- plan leaves, cut anywhere, is refused or is the whole image.
-use Rattle.words.specs.Prelude.{ℕ, ◌+◌, ◌≤◌, ◌≡◌, sym, ap, subst, ◌∙◌, List, [], ◌∷◌, ◌++◌, arith, length, take}
+use Rattle.std.specs.Prelude.{ℕ, ◌+◌, ◌≤◌, ◌≡◌, List, [], ◌∷◌, ◌++◌, length, take}
+use Rattle.words.specs.Prelude.{sym, ap, subst, ◌∙◌, arith}
 use Rattle.words.specs.{Limits.state_words, Limits.most_count}
 use Rattle.records.specs.{Lent.Lists, Lent.Rooms, Lent.row_places, Lent.point_places, Lent.trade_places, Settings.settings_of, State.fresh_state}
 use Rattle.records.specs.{Laws.RoundTrip.Floats64, Laws.RoundTrip.state_kept, Laws.RoundTrip.fresh_floats}

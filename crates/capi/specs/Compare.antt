@@ -1,5 +1,5 @@
 -- The call that compares two runs (request 12). Definitions only.
-use Rattle.words.specs.Prelude.{ℕ, List}
+use Rattle.std.specs.Prelude.{ℕ, List}
 use Rattle.words.specs.{Outcome.Outcome, Outcome.gives, Outcome.refuses}
 use Rattle.differences.specs.{declared.compare.Compared.Compared, Compared.compared}
 use Rattle.replies.specs.{Call.Call, Call.call_of}

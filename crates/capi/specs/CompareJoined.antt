@@ -1,5 +1,6 @@
 -- TWO RUNS COMPARED IN C: what stands in the caller's buffer where ysh_compare answers 0, and a buffer that is always enough. Assumes nothing.
-use Rattle.words.specs.Prelude.{ℕ, ◌*◌, ◌/◌, ◌^◌, ◌≤◌, min, ◌≡◌, refl, sym, ap, ◌∙◌, Bool, true, false, ◌&&◌, List, map, arith, length}
+use Rattle.std.specs.Prelude.{ℕ, ◌*◌, ◌/◌, ◌^◌, ◌≤◌, min, ◌≡◌, refl, Bool, true, false, ◌&&◌, List, map, length}
+use Rattle.words.specs.Prelude.{sym, ap, ◌∙◌, arith}
 use Rattle.words.specs.{Outcome.gives}
 use Rattle.differences.specs.{declared.compare.Compared.Compared, declared.compare.Compared.TheVariants.Lines}
 use Rattle.differences.specs.{declared.compare.Compared.TheVariants.Refused, Lines.trades, Compared.Comparison, Compared.whole}

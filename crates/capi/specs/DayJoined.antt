@@ -1,5 +1,6 @@
 -- ysh_steps is ysh_step, bar after bar: for any words of settings and state, any bars, rooms and lists.
-use Rattle.words.specs.Prelude.{ℕ, ◌+◌, ◌-◌, ◌/◌, ◌<◌, ◌≤◌, ◌≡◌, refl, sym, ◌∙◌, Bool, true, false, List, [], ◌∷◌, arith, leb-true, ne_eqb, length, take, drop}
+use Rattle.std.specs.Prelude.{ℕ, ◌+◌, ◌-◌, ◌/◌, ◌<◌, ◌≤◌, ◌≡◌, refl, Bool, true, false, List, [], ◌∷◌, length, take, drop}
+use Rattle.words.specs.Prelude.{sym, ◌∙◌, arith, leb-true, ne_eqb}
 use Rattle.words.specs.{Limits.setting_words, Limits.state_words, Limits.bar_words, declared.refusal.Refusal.Refusal, Outcome.Outcome, Outcome.refuses}
 use Rattle.records.specs.{declared.settings.Settings.Settings, declared.state.State.State, Lent.Rooms, Lent.Lists, Laws.RoundTrip.words_floats}
 use Rattle.records.specs.{Settings.settings_of, StateWords.state_of}

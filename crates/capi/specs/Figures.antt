@@ -1,5 +1,5 @@
 -- The call that gives the metrics. Definitions only.
-use Rattle.words.specs.Prelude.{ℕ, List}
+use Rattle.std.specs.Prelude.{ℕ, List}
 use Rattle.words.specs.{Words.overwrite, Outcome.Outcome, Outcome.gives, Outcome.refuses}
 use Rattle.floats.specs.{Floats.float_of}
 use Rattle.metrics.specs.{declared.Metrics.Metrics, Figures.computed, Figures.figure_words}

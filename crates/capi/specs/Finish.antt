@@ -1,5 +1,5 @@
 -- The call that ends a run. Definitions only.
-use Rattle.words.specs.Prelude.{ℕ, List, ◌++◌}
+use Rattle.std.specs.Prelude.{ℕ, List, ◌++◌}
 use Rattle.words.specs.{Words.overwrite, Outcome.Outcome, Outcome.gives, Outcome.refuses}
 use Rattle.records.specs.{Lent.Rooms, Settings.settings_of, StateWords.state_of, StateWords.words_of}
 use Rattle.refusals.specs.{Lines.judged}

@@ -1,5 +1,5 @@
 -- The call that begins a run. Definitions only.
-use Rattle.words.specs.Prelude.{ℕ, List}
+use Rattle.std.specs.Prelude.{ℕ, List}
 use Rattle.words.specs.{Words.overwrite, Outcome.gives}
 use Rattle.records.specs.{Settings.settings_of, State.fresh_state, StateWords.words_of}
 use Rattle.refusals.specs.{Lines.judged}

@@ -1,5 +1,6 @@
 -- The C interface is the engine: fresh, a call of step for each bar, and finish, on words, are the engine's fresh state, its run and its end.
-use Rattle.words.specs.Prelude.{ℕ, ◌≤◌, ◌≡◌, refl, sym, ◌∙◌, List, [], ◌∷◌, ◌++◌, le-leb, ne_eqb, length}
+use Rattle.std.specs.Prelude.{ℕ, ◌≤◌, ◌≡◌, refl, List, [], ◌∷◌, ◌++◌, length}
+use Rattle.words.specs.Prelude.{sym, ◌∙◌, le-leb, ne_eqb}
 use Rattle.words.specs.{Limits.setting_words, Limits.state_words, Limits.metric_words, declared.refusal.Refusal.Refusal, Outcome.Outcome, Outcome.refuses}
 use Rattle.words.specs.{Words.overwrite, Laws.Overwrite.overwrite-length}
 use Rattle.records.specs.{declared.settings.Settings.Settings, declared.state.State.State, Lent.Rooms, Lent.Lists, Settings.settings_of, State.fresh_state}

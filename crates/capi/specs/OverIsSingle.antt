@@ -1,5 +1,6 @@
 -- ysh_why_over is single calls of ysh_why, one for each row that is asked.
-use Rattle.words.specs.Prelude.{ℕ, ◌*◌, ◌<◌, ◌≤◌, ◌≡◌, refl, sym, true, List, ◌++◌, arith, le-ltb, length, length-drop, length-take-le, drop, get_or}
+use Rattle.std.specs.Prelude.{ℕ, ◌*◌, ◌<◌, ◌≤◌, ◌≡◌, refl, true, List, ◌++◌, length, drop, get_or}
+use Rattle.words.specs.Prelude.{sym, arith, le-ltb, length-drop, length-take-le}
 use Rattle.words.specs.{Outcome.gives}
 use Rattle.rows.specs.{History.whole_rows}
 use Rattle.table.specs.{declared.answer.Answer.Answer, declared.answer.Answer.TheVariants.Accepted, declared.answer.Answer.TheVariants.Refused, Bytes.Bytes}

@@ -1,5 +1,5 @@
 -- The calls for a loss of power: the dump and the restore (request 11). Definitions only.
-use Rattle.words.specs.Prelude.{ℕ, List}
+use Rattle.std.specs.Prelude.{ℕ, List}
 use Rattle.words.specs.{Words.overwrite, Outcome.Outcome, Outcome.gives, Outcome.refuses}
 use Rattle.records.specs.{Settings.settings_of, StateWords.state_of, StateWords.words_of}
 use Rattle.refusals.specs.{declared.verdict.Verdict.Verdict, declared.verdict.Verdict.TheVariants.Fine, declared.verdict.Verdict.TheVariants.Bad}

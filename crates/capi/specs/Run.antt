@@ -1,5 +1,5 @@
 -- The calls that answer a rule. Definitions only.
-use Rattle.words.specs.Prelude.{ℕ, Bool, cond, List, ltb}
+use Rattle.std.specs.Prelude.{ℕ, Bool, cond, List, ltb}
 use Rattle.words.specs.{Limits.trees, Outcome.Outcome, Outcome.gives, Outcome.refuses}
 use Rattle.rules.specs.{declared.position.PositionState.PositionState, declared.answers.RuleAnswer.RuleAnswer, declared.answers.RuleAnswer.TheVariants.Says}
 use Rattle.rules.specs.{declared.answers.RuleAnswer.TheVariants.Refuses, Answers.answered}

@@ -1,5 +1,6 @@
 -- Request 10 in the words of the C calls: rooms filled from empty by ysh_append, each answered 0, and any ysh_stretch over bars that they hold.
-use Rattle.words.specs.Prelude.{ℕ, ◌+◌, ◌-◌, ◌<◌, ◌≤◌, ◌≡◌, refl, sym, ap, subst, ◌∙◌, List, [], ◌∷◌, ◌++◌, arith}
+use Rattle.std.specs.Prelude.{ℕ, ◌+◌, ◌-◌, ◌<◌, ◌≤◌, ◌≡◌, refl, List, [], ◌∷◌, ◌++◌}
+use Rattle.words.specs.Prelude.{sym, ap, subst, ◌∙◌, arith}
 use Rattle.words.specs.{Outcome.gives}
 use Rattle.blocks.specs.{declared.append.Added.Added, declared.append.Added.TheVariants.Held, declared.append.Added.TheVariants.Refused}
 use Rattle.blocks.specs.{declared.best.Best.Best, declared.stretch.Found.Found, Append.Append, Append.appended, Reading.reading, Reading.HighAndLow}

@@ -1,5 +1,5 @@
 -- The calls over a rule table. Definitions only.
-use Rattle.words.specs.Prelude.{ℕ, ◌*◌, cond, List, leb, eqb, length}
+use Rattle.std.specs.Prelude.{ℕ, ◌*◌, cond, List, leb, eqb, length}
 use Rattle.words.specs.{Limits.trees, Outcome.Outcome, Outcome.gives, Outcome.refuses}
 use Rattle.table.specs.{declared.answer.Answer.Answer, declared.answer.Answer.TheVariants.Accepted, declared.answer.Answer.TheVariants.Refused}
 use Rattle.table.specs.{declared.silent.SilentAnswer.SilentAnswer, declared.silent.SilentAnswer.TheVariants.Lists}

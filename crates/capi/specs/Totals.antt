@@ -1,5 +1,5 @@
 -- The calls that keep exact totals. Definitions only.
-use Rattle.words.specs.Prelude.{ℕ, List}
+use Rattle.std.specs.Prelude.{ℕ, List}
 use Rattle.words.specs.{Outcome.Outcome, Outcome.gives, Outcome.refuses}
 use Rattle.totals.specs.{declared.Answer.Answer, declared.Answer.TheVariants.Done, declared.Answer.TheVariants.Refused, Totals.add_answer, Totals.add_leaves}
 use Rattle.totals.specs.{Totals.join_answer, Totals.join_leaves}

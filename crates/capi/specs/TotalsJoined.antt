@@ -1,5 +1,6 @@
 -- EXACT TOTALS IN C: every way to total the same trades by ysh_totals and ysh_totals_join answers 0 at every call and leaves the same 43 words.
-use Rattle.words.specs.Prelude.{ℕ, ◌≤◌, ◌≡◌, refl, ap, ◌∙◌, List, length, replicate}
+use Rattle.std.specs.Prelude.{ℕ, ◌≤◌, ◌≡◌, refl, List, length, replicate}
+use Rattle.words.specs.Prelude.{ap, ◌∙◌}
 use Rattle.words.specs.{Limits.most_count}
 use Rattle.totals.specs.{declared.Answer.Answer, declared.Answer.TheVariants.Done, declared.Answer.TheVariants.Refused, Totals.total_words, Totals.add_answer}
 use Rattle.totals.specs.{Totals.add_leaves, Totals.join_answer, Totals.join_leaves, Ways.Way, Ways.begin, Ways.add, Ways.join, Ways.made, Ways.AllDone}

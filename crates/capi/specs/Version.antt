@@ -1,5 +1,5 @@
 -- The number of a version: major, minor and patch in one, so that of two versions the later has the larger number. Definitions only.
-use Rattle.words.specs.Prelude.{ℕ, ◌*◌, ◌+◌}
+use Rattle.std.specs.Prelude.{ℕ, ◌*◌, ◌+◌}
 
 -- Decided: minor and patch stay below 1,000
 abbrev pub version_number : ℕ → ℕ → ℕ → ℕ

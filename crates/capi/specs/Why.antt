@@ -1,5 +1,5 @@
 -- The call that says why a rule said yes or no. Definitions only.
-use Rattle.words.specs.Prelude.{ℕ, List}
+use Rattle.std.specs.Prelude.{ℕ, List}
 use Rattle.words.specs.{Outcome.Outcome, Outcome.gives, Outcome.refuses}
 use Rattle.rules.specs.{declared.position.PositionState.PositionState}
 use Rattle.chain.specs.{declared.explain.Explained.Explained, declared.explain.Explained.TheVariants.Lines, declared.explain.Explained.TheVariants.Refuses}

@@ -1,5 +1,5 @@
 -- The call that says why a rule said yes or no at each of the newest rows. Definitions only.
-use Rattle.words.specs.Prelude.{ℕ, List, length}
+use Rattle.std.specs.Prelude.{ℕ, List, length}
 use Rattle.words.specs.{Outcome.Outcome, Outcome.gives}
 use Rattle.questions.specs.{Over.asked_rows, Over.explanation_over, Over.lines_over, Over.counts_over, Over.over_verdict}
 use Rattle.replies.specs.{Call.Call, Call.call_of, Call.unless_bad}

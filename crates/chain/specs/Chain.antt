@@ -1,5 +1,6 @@
 -- "the chain of nodes from the root to what decided". Definitions only.
-use Rattle.words.specs.Prelude.{ℕ, ◌+◌, ◌-◌, Bool, true, false, cond, Bool·beq, List, [], ◌∷◌, ltb, eqb}
+use Rattle.std.specs.Prelude.{ℕ, ◌+◌, ◌-◌, Bool, true, false, cond, List, [], ◌∷◌, ltb, eqb}
+use Rattle.words.specs.Prelude.{Bool·beq}
 use Rattle.rows.specs.{History.History}
 use Rattle.table.specs.{Trees.Condition, Trees.Conditions, Trees.compare, Trees.cross, Trees.between, Trees.trend, Trees.every, Trees.any, Trees.negated}
 use Rattle.table.specs.{Trees.in_position, Trees.bars_since, Trees.none, Trees.more, Writing.nodes_of}

@@ -1,5 +1,5 @@
 -- The chain of a tree of a table over rows and a position state, refusals and all. Definitions only.
-use Rattle.words.specs.Prelude.{ℕ, ◌*◌, cond, ◌&&◌, List, [], ◌++◌, ltb, leb, eqb, length, drop}
+use Rattle.std.specs.Prelude.{ℕ, ◌*◌, cond, ◌&&◌, List, [], ◌++◌, ltb, leb, eqb, length, drop}
 use Rattle.words.specs.{Limits.trees, Outcome.refusal}
 use Rattle.rows.specs.{History.history_of, History.whole_rows}
 use Rattle.table.specs.{declared.answer.Answer.Answer, declared.answer.Answer.TheVariants.Accepted, declared.answer.Answer.TheVariants.Refused, Header.slots}

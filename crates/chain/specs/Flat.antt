@@ -1,5 +1,6 @@
 -- The chain as the code finds it on the flat table, whatever its bytes are. Definitions only.
-use Rattle.words.specs.Prelude.{ℕ, zero, suc, leb, eqb, Bool, not, cond, Bool·beq, List, []}
+use Rattle.std.specs.Prelude.{ℕ, zero, suc, leb, eqb, Bool, not, cond, List, []}
+use Rattle.words.specs.Prelude.{Bool·beq}
 use Rattle.words.specs.{Limits.trees, Limits.most_nesting}
 use Rattle.rows.specs.{History.History, History.history_of}
 use Rattle.table.specs.{Header.slots, Header.count, Header.root}

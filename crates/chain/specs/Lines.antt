@@ -1,5 +1,5 @@
 -- The words of a line, and of a list of lines. Definitions only.
-use Rattle.words.specs.Prelude.{ℕ, ◌+◌, ◌*◌, Bool, cond, List, [], ◌∷◌, ◌++◌, length, get_or}
+use Rattle.std.specs.Prelude.{ℕ, ◌+◌, ◌*◌, Bool, cond, List, [], ◌∷◌, ◌++◌, length, get_or}
 use Rattle.words.specs.{Words.overwrite}
 use Rattle.floats.specs.{Floats.word_of}
 use Rattle.rules.specs.{declared.values.Value.Value, declared.values.Value.TheVariants.Missing, declared.values.Value.TheVariants.Number}

@@ -1,6 +1,7 @@
 -- The window: over the last rows that a table rules the chain is the chain over all rows, so a box can answer from its window.
 -- Assumes nothing.
-use Rattle.words.specs.Prelude.{ℕ, zero, suc, ◌+◌, ◌-◌, ◌≤◌, ◌<◌, ◌≡◌, refl, Bool, true, false, cond, List, [], arith, ltb, leb, eqb, le-ltb, leb-false, ne_eqb}
+use Rattle.std.specs.Prelude.{ℕ, zero, suc, ◌+◌, ◌-◌, ◌≤◌, ◌<◌, ◌≡◌, refl, Bool, true, false, cond, List, [], ltb, leb, eqb}
+use Rattle.words.specs.Prelude.{arith, le-ltb, leb-false, ne_eqb}
 use Rattle.words.specs.{Limits.trees}
 use Rattle.rows.specs.{History.History, History.history_of, History.last_rows}
 use Rattle.table.specs.{declared.answer.Answer.TheVariants.Accepted, Header.slots, Header.count, Header.root, Checked.checked, Reading.tree_of, Trees.Operand}

@@ -1,5 +1,5 @@
 -- The comparison and its refusals. Definitions only.
-use Rattle.words.specs.Prelude.{ℕ, ◌*◌, ◌%◌, Bool, cond, ◌&&◌, List, eqb, leb, length}
+use Rattle.std.specs.Prelude.{ℕ, ◌*◌, ◌%◌, Bool, cond, ◌&&◌, List, eqb, leb, length}
 use Rattle.words.specs.{Limits.point_words, Limits.trade_words, Outcome.refusal, Words.overwrite}
 use Rattle.differences.specs.{declared.compare.Compared.Compared, declared.compare.Compared.TheVariants.Lines}
 use Rattle.differences.specs.{declared.compare.Compared.TheVariants.Refused, Lines.Line, Lines.line_words, Lines.differences, Lines.words_of}

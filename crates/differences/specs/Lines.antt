@@ -1,5 +1,5 @@
 -- What differs between two runs, as lines. Definitions only.
-use Rattle.words.specs.Prelude.{ℕ, zero, suc, ◌+◌, ◌*◌, ◌/◌, ◌%◌, min, cond, List, [], ◌∷◌, ◌++◌, eqb, ltb, get_or, length}
+use Rattle.std.specs.Prelude.{ℕ, zero, suc, ◌+◌, ◌*◌, ◌/◌, ◌%◌, min, cond, List, [], ◌∷◌, ◌++◌, eqb, ltb, get_or, length}
 use Rattle.words.specs.{Limits.point_words, Limits.trade_words}
 
 -- decided: a line is five words: its sort, a number, a word, the first run's and the second run's

@@ -1,5 +1,6 @@
 -- What may be said of two runs, and what a list of lines must be to say all of it and nothing else. Definitions only.
-use Rattle.words.specs.Prelude.{ℕ, zero, suc, ◌+◌, ◌*◌, ◌<◌, ◌≤◌, min, ◌≡◌, List, [], ◌∷◌, List-as-Memᴰ, drop, get_or, length}
+use Rattle.std.specs.Prelude.{ℕ, zero, suc, ◌+◌, ◌*◌, ◌<◌, ◌≤◌, min, ◌≡◌, List, [], ◌∷◌, drop, get_or, length}
+use Rattle.words.specs.Prelude.{List-as-Memᴰ}
 use Rattle.words.specs.{Limits.trade_words}
 use Rattle.differences.specs.{Lines.Line, Lines.line, Lines.points, Lines.trades, Lines.equity_at, Lines.trade_word, Lines.line_words}
 

@@ -1,5 +1,5 @@
 -- What a dump answers and leaves. Definitions only.
-use Rattle.words.specs.Prelude.{ℕ, ◌≡◌, Bool, cond, List, length}
+use Rattle.std.specs.Prelude.{ℕ, ◌≡◌, Bool, cond, List, length}
 use Rattle.records.specs.{declared.settings.Settings.Settings, declared.state.State.State, Settings.settings_of, StateWords.state_of}
 use Rattle.refusals.specs.{declared.verdict.Verdict.Verdict}
 use Rattle.images.specs.{Layout.image_of, Refused.left_by}

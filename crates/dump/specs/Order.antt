@@ -1,5 +1,5 @@
 -- The order of writing, and what an area holds when some of it is written. Definitions only.
-use Rattle.words.specs.Prelude.{ℕ, zero, suc, ◌+◌, ◌-◌, min, cond, List, length, get_or, set, ltb}
+use Rattle.std.specs.Prelude.{ℕ, zero, suc, ◌+◌, ◌-◌, min, cond, List, length, get_or, set, ltb}
 use Rattle.images.specs.{Layout.head_bytes}
 
 -- the bytes of the mark

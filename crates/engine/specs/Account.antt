@@ -1,5 +1,5 @@
 -- "One bar", what it does to the account: the fill, the exits inside the bar, funding.
-use Rattle.words.specs.Prelude.{ℕ, ◌-◌, false, cond, List, ltb, Float}
+use Rattle.std.specs.Prelude.{ℕ, ◌-◌, false, cond, List, ltb, Float}
 use Rattle.rows.specs.{History.History}
 use Rattle.rules.specs.{declared.position.Entered.TheVariants.Never, declared.position.Entered.TheVariants.Bar}
 use Rattle.portfolio.specs.{declared.Candle.Candle, Portfolio.worsened, Trade.signal}

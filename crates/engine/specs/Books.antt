@@ -1,5 +1,5 @@
 -- The books of a run: its equity points and its trades, and the rooms that hold them.
-use Rattle.words.specs.Prelude.{ℕ, ◌+◌, ◌*◌, cond, List, [], ◌∷◌, ltb, Float, take}
+use Rattle.std.specs.Prelude.{ℕ, ◌+◌, ◌*◌, cond, List, [], ◌∷◌, ltb, Float, take}
 use Rattle.floats.specs.{Floats.word_of}
 use Rattle.words.specs.{Words.overwrite}
 use Rattle.portfolio.specs.{declared.Candle.Candle, declared.Trade.Trade, Portfolio.equity, Trade.words_of_trade}

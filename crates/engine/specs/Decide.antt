@@ -1,5 +1,5 @@
 -- "One bar": what is decided at the close.
-use Rattle.words.specs.Prelude.{ℕ, ◌+◌, Bool, cond, List, ltb, Float}
+use Rattle.std.specs.Prelude.{ℕ, ◌+◌, Bool, cond, List, ltb, Float}
 use Rattle.rows.specs.{History.History, History.history_of, History.last_rows}
 use Rattle.rules.specs.{declared.position.PositionState.PositionState}
 use Rattle.portfolio.specs.{declared.Portfolio.Portfolio, Portfolio.in_position, Portfolio.is_long}

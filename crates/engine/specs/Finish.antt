@@ -1,5 +1,5 @@
 -- The end of a run.
-use Rattle.words.specs.Prelude.{ℕ, ◌+◌, ◌-◌, ◌*◌, cond, List, ltb, Float, take, set}
+use Rattle.std.specs.Prelude.{ℕ, ◌+◌, ◌-◌, ◌*◌, cond, List, ltb, Float, take, set}
 use Rattle.floats.specs.{Floats.word_of}
 use Rattle.portfolio.specs.{Portfolio.equity, Trade.end}
 use Rattle.execution.specs.{declared.fills.Exit.Exit, declared.fills.Exit.TheVariants.NoExit, declared.fills.Exit.TheVariants.Exited, Costs.closed}

@@ -1,5 +1,5 @@
 -- "One bar": the row that is recorded, and the rows that a room holds.
-use Rattle.words.specs.Prelude.{ℕ, zero, suc, ◌-◌, ◌*◌, ◌/◌, ◌%◌, ◌^◌, cond, List, [], ◌∷◌, ◌++◌, get_or, take, ltb, eqb}
+use Rattle.std.specs.Prelude.{ℕ, zero, suc, ◌-◌, ◌*◌, ◌/◌, ◌%◌, ◌^◌, cond, List, [], ◌∷◌, ◌++◌, get_or, take, ltb, eqb}
 use Rattle.rows.specs.{History.width}
 
 -- "A row is the bar's six words, the presence mask and K slots (an absent slot's word is 0)": word j of it, where slot k is

@@ -1,5 +1,5 @@
 -- The rules of a table and what they mean, and the settings and lists that belong to a table.
-use Rattle.words.specs.Prelude.{ℕ, ◌<◌, ◌≡◌, List}
+use Rattle.std.specs.Prelude.{ℕ, ◌<◌, ◌≡◌, List}
 use Rattle.rows.specs.{History.History}
 use Rattle.table.specs.{declared.answer.Answer.TheVariants.Accepted, Checked.checked, Header.slots, Reading.tree_of, Trees.Condition, Trees.reach_of}
 use Rattle.table.specs.{Bytes.Bytes}

@@ -1,5 +1,5 @@
 -- Bar after bar, until one is refused.
-use Rattle.words.specs.Prelude.{ℕ, ◌+◌, List, [], ◌∷◌}
+use Rattle.std.specs.Prelude.{ℕ, ◌+◌, List, [], ◌∷◌}
 use Rattle.records.specs.{declared.settings.Settings.Settings, declared.state.State.State, Lent.Lists, Lent.Rooms}
 use Rattle.refusals.specs.{declared.verdict.Verdict.Verdict, declared.verdict.Verdict.TheVariants.Fine, declared.verdict.Verdict.TheVariants.Bad}
 use Rattle.engine.specs.{declared.answer.Answer.Answer, declared.answer.Answer.TheVariants.Refused, declared.answer.Answer.TheVariants.Done}

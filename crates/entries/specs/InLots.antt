@@ -1,6 +1,7 @@
 -- Whole lots (request 5): with a lot that is not 0 what is entered is k·lot of the size that `size` gives at the fill, or of the lesser of that and the
 -- share of the volume; and which entries are turned away, exactly.
-use Rattle.words.specs.Prelude.{◌≡◌, refl, sym, ap, ◌∙◌, Bool, true, false, cond, true≢false, ℕ, arith, Float}
+use Rattle.std.specs.Prelude.{◌≡◌, refl, Bool, true, false, cond, ℕ, Float}
+use Rattle.words.specs.Prelude.{sym, ap, ◌∙◌, true≢false, arith}
 use Rattle.floats.specs.{Floats.◌⊗◌, Floats.◌⊘◌, Floats.◌≺◌, Floats.◌≼◌, Floats.min, Floats.eps, Floats.zero, Floats.one, Floor.as_u64, Floor.two_to53}
 use Rattle.floats.specs.{Laws.Floor.Counts, Laws.Floor.counts, Sums.counted}
 use Rattle.rows.specs.{History.History}

@@ -1,5 +1,6 @@
 -- What an entry comes to: the quantity that is entered is above EPS, and so never a NaN. For every lot, 0 included.
-use Rattle.words.specs.Prelude.{◌≡◌, refl, sym, ◌∙◌, Bool, true, false, cond, ℕ, arith, Float}
+use Rattle.std.specs.Prelude.{◌≡◌, refl, Bool, true, false, cond, ℕ, Float}
+use Rattle.words.specs.Prelude.{sym, ◌∙◌, arith}
 use Rattle.floats.specs.{Floats.◌⊗◌, Floats.◌≺◌, Floats.eps}
 use Rattle.rows.specs.{History.History}
 use Rattle.portfolio.specs.{declared.Candle.Candle, declared.Portfolio.Portfolio, Portfolio.entered}

@@ -1,5 +1,5 @@
 -- What a fill costs, and funding. Definitions only, each under what the Rust writes.
-use Rattle.words.specs.Prelude.{Bool, cond, ℕ, Float}
+use Rattle.std.specs.Prelude.{Bool, cond, ℕ, Float}
 use Rattle.floats.specs.{Floats.◌⊕◌, Floats.◌⊗◌, Floats.◌⊘◌, Floats.◌≺◌, Floats.abs, Floats.zero, Floats.one, Floats.ten_thousand}
 use Rattle.portfolio.specs.{declared.Portfolio.Portfolio, declared.Closed.Closed, Portfolio.in_position, Portfolio.funded, Portfolio.exited}
 use Rattle.execution.specs.{declared.terms.Slippage.Slippage, declared.terms.Slippage.TheVariants.FixedBps}

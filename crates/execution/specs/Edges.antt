@@ -1,5 +1,6 @@
 -- Both sides of the edges of this crate, proved of its definitions.
-use Rattle.words.specs.Prelude.{◌≡◌, refl, true, false, ℕ, pos, negsuc, Float, binary64, fin}
+use Rattle.std.specs.Prelude.{◌≡◌, refl, true, false, ℕ, pos, negsuc, Float}
+use Rattle.words.specs.Prelude.{binary64, fin}
 use Rattle.floats.specs.{Floats.◌⊗◌, Floats.◌⊘◌, Floor.as_u64, Sums.counted}
 use Rattle.portfolio.specs.{declared.Candle.Candle, Trade.stop_loss}
 use Rattle.execution.specs.{Size.capped, Lots.whole_lots, Lots.in_lots, Intrabar.fall_to, Intrabar.fill_under, Intrabar.fill_over, Intrabar.fired}

@@ -1,5 +1,5 @@
 -- `execute_entry` and `execute_exit`. Definitions only, each under what the Rust writes.
-use Rattle.words.specs.Prelude.{Bool, true, false, cond, ℕ, Float}
+use Rattle.std.specs.Prelude.{Bool, true, false, cond, ℕ, Float}
 use Rattle.floats.specs.{Floats.◌⊗◌, Floats.◌≺◌, Floats.min, Floats.eps, Floats.one}
 use Rattle.rows.specs.{History.History}
 use Rattle.portfolio.specs.{declared.Candle.Candle, declared.Portfolio.Portfolio, Portfolio.in_position, Portfolio.is_long, Portfolio.entered}

@@ -1,5 +1,5 @@
 -- Exits inside a bar: levels, then liquidation. Definitions only, each under what the Rust writes.
-use Rattle.words.specs.Prelude.{Bool, cond, ℕ, Float}
+use Rattle.std.specs.Prelude.{Bool, cond, ℕ, Float}
 use Rattle.floats.specs.{Floats.◌⊕◌, Floats.◌⊖◌, Floats.◌⊗◌, Floats.◌⊘◌, Floats.◌≺◌, Floats.◌≼◌, Floats.min, Floats.max, Floats.zero, Floats.one}
 use Rattle.floats.specs.{Floats.hundred}
 use Rattle.portfolio.specs.{declared.Candle.Candle, declared.Portfolio.Portfolio, Portfolio.in_position, Portfolio.is_long, Trade.stop_loss, Trade.trailing_stop}

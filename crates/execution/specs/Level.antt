@@ -1,5 +1,5 @@
 -- Entries away from the market (request 1). Definitions only, under the request's sentences; beside them what the Rust's `level_fill` writes.
-use Rattle.words.specs.Prelude.{cond, Float}
+use Rattle.std.specs.Prelude.{cond, Float}
 use Rattle.floats.specs.{Floats.◌⊕◌, Floats.◌⊗◌, Floats.◌⊘◌, Floats.◌≼◌, Floats.min, Floats.max, Floats.one, Floats.hundred}
 use Rattle.portfolio.specs.{declared.Candle.Candle}
 use Rattle.execution.specs.{declared.optional.Optional.Optional, declared.optional.Optional.TheVariants.Absent}

@@ -1,5 +1,5 @@
 -- Whole lots: "Brokers reject 3.7 contracts. Sizing gains a lot." Definitions only.
-use Rattle.words.specs.Prelude.{Bool, true, false, cond, Float}
+use Rattle.std.specs.Prelude.{Bool, true, false, cond, Float}
 use Rattle.floats.specs.{Floats.◌⊗◌, Floats.◌⊘◌, Floats.◌≼◌, Floats.zero, Floats.one, Floor.as_u64, Floor.two_to53, Sums.counted}
 use Rattle.execution.specs.{declared.optional.Optional.Optional, declared.lots.Quantity.Quantity, declared.lots.Quantity.TheVariants.Nothing}
 use Rattle.execution.specs.{declared.lots.Quantity.TheVariants.TooLarge, declared.lots.Quantity.TheVariants.Of}

@@ -1,5 +1,5 @@
 -- A number that may not be there.
-use Rattle.words.specs.Prelude.{Float}
+use Rattle.std.specs.Prelude.{Float}
 use Rattle.execution.specs.{declared.optional.Optional.Optional, declared.optional.Optional.TheVariants.Absent}
 use Rattle.execution.specs.{declared.optional.Optional.TheVariants.Of}
 

@@ -1,5 +1,6 @@
 -- Rows that are read from a row on give the volatility, and the entry, of the rows turned so that it stands first.
-use Rattle.words.specs.Prelude.{◌≡◌, refl, ap, ⊎_elim, List, ℕ, ◌+◌, ◌-◌, ◌≤◌, ◌<◌, arith, Float, lt-ltb, le-ltb}
+use Rattle.std.specs.Prelude.{◌≡◌, refl, List, ℕ, ◌+◌, ◌-◌, ◌≤◌, ◌<◌, Float}
+use Rattle.words.specs.Prelude.{ap, ⊎_elim, arith, lt-ltb, le-ltb}
 use Rattle.words.specs.{Laws.Numbers.less_or_not}
 use Rattle.floats.specs.{Floats.float_of}
 use Rattle.rows.specs.{History.History, History.history_of, History.field, History.width, Ring.ring_of, Ring.turned, Laws.Ring.SameRows, Laws.Ring.ring_turned}

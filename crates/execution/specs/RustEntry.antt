@@ -1,6 +1,6 @@
 -- An entry as the Rust has it, with no lots: what `execute_entry` is with a lot of 0 (WholeLots, `no_lots`). Definitions only, each under what
 -- the Rust writes.
-use Rattle.words.specs.Prelude.{cond, Float}
+use Rattle.std.specs.Prelude.{cond, Float}
 use Rattle.floats.specs.{Floats.◌⊗◌, Floats.min, Floats.zero}
 use Rattle.rows.specs.{History.History}
 use Rattle.portfolio.specs.{declared.Candle.Candle, declared.Portfolio.Portfolio}

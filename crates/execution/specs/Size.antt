@@ -1,5 +1,5 @@
 -- `size`: the quantity of an entry, without its sign. Definitions only, each under what the Rust writes.
-use Rattle.words.specs.Prelude.{cond, Float}
+use Rattle.std.specs.Prelude.{cond, Float}
 use Rattle.floats.specs.{Floats.◌⊗◌, Floats.◌⊘◌, Floats.◌≼◌, Floats.min, Floats.zero, Floats.one, Floats.hundred}
 use Rattle.execution.specs.{declared.optional.Optional.Optional, declared.optional.Optional.TheVariants.Absent}
 use Rattle.execution.specs.{declared.optional.Optional.TheVariants.Of, Optional.unwrap_or, declared.terms.Risk.Risk, declared.terms.Sizing.Sizing}

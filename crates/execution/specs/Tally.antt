@@ -1,5 +1,5 @@
 -- One pass over the returns, as `realized_vol` goes: how many there are, and a sum over them. Definitions only.
-use Rattle.words.specs.Prelude.{List, map, ℕ, ◌+◌, length, Float}
+use Rattle.std.specs.Prelude.{List, map, ℕ, ◌+◌, length, Float}
 use Rattle.floats.specs.{Sums.sum_from}
 use Rattle.execution.specs.{Volatility.square_from, declared.volatility.Tally.Tally, declared.volatility.Term.Term}
 use Rattle.execution.specs.{declared.volatility.Term.TheVariants.Itself, declared.volatility.Term.TheVariants.Squared}

@@ -1,6 +1,6 @@
 -- `realized_vol`: the standard deviation of the close-to-close returns of the last rows. Definitions only, each under what
 -- the Rust writes.
-use Rattle.words.specs.Prelude.{cond, List, [], ◌∷◌, map, ℕ, zero, suc, ◌-◌, ltb, eqb, length, Float}
+use Rattle.std.specs.Prelude.{cond, List, [], ◌∷◌, map, ℕ, zero, suc, ◌-◌, ltb, eqb, length, Float}
 use Rattle.floats.specs.{Floats.◌⊖◌, Floats.◌⊘◌, Floats.◌≺◌, Floats.abs, Floats.eps, Sums.sum, Sums.counted, Sums.square, Sqrt.sqrt}
 use Rattle.rows.specs.{History.History, History.field}
 use Rattle.execution.specs.{declared.optional.Optional.Optional, declared.optional.Optional.TheVariants.Absent}

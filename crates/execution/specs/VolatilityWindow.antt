@@ -1,6 +1,7 @@
 -- The window is long enough for `realized_vol`: kept rows that are the last ones of a run give the volatility of the run.
 -- Assumes nothing.
-use Rattle.words.specs.Prelude.{◌≡◌, refl, ℕ, zero, suc, ◌+◌, ◌-◌, ◌≤◌, ◌<◌, add-zero, lt_of_not-le, dec_le, arith, lt-ltb, le-ltb}
+use Rattle.std.specs.Prelude.{◌≡◌, refl, ℕ, zero, suc, ◌+◌, ◌-◌, ◌≤◌, ◌<◌}
+use Rattle.words.specs.Prelude.{add-zero, lt_of_not-le, dec_le, arith, lt-ltb, le-ltb}
 use Rattle.rows.specs.{History.History, History.field}
 use Rattle.execution.specs.{Volatility.close_at, Volatility.closes, Volatility.realized_vol}
 

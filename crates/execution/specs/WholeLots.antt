@@ -1,5 +1,6 @@
 -- What whole lots come to: with a lot of 0 an entry is the Rust's, and with any other every quantity that is entered is k·lot.
-use Rattle.words.specs.Prelude.{◌≡◌, refl, ap, subst, ◌∙◌, Bool, true, false, cond, ℕ, arith, Float}
+use Rattle.std.specs.Prelude.{◌≡◌, refl, Bool, true, false, cond, ℕ, Float}
+use Rattle.words.specs.Prelude.{ap, subst, ◌∙◌, arith}
 use Rattle.floats.specs.{Floats.◌⊗◌, Floats.◌⊘◌, Floats.◌≺◌, Floats.◌≼◌, Floats.min, Floats.eps, Floats.zero, Floats.one, Floor.as_u64, Floor.two_to53}
 use Rattle.floats.specs.{Laws.Floor.Counts, Laws.Floor.counts, Sums.counted}
 use Rattle.rows.specs.{History.History}

@@ -1,5 +1,5 @@
 -- Highest and Lowest on rows that a reader can follow, each as one table under one statement. Assumes nothing.
-use Rattle.words.specs.Prelude.{ℕ, ◌≡◌, refl, List, [], ◌∷◌, ◌++◌}
+use Rattle.std.specs.Prelude.{ℕ, ◌≡◌, refl, List, [], ◌∷◌, ◌++◌}
 use Rattle.floats.specs.{Floats.float_of}
 use Rattle.rows.specs.{History.history_of}
 use Rattle.table.specs.{declared.series.Series.Series, declared.series.Series.TheVariants.Price, declared.series.Series.TheVariants.Slot, Trees.extreme}

@@ -1,6 +1,7 @@
 -- "Version 1 tables mean what they meant": in an accepted table of version 1 no tree holds a Highest or a Lowest. So the meaning of its rules, their
 -- reach and their steps are those of the kinds that version 1 has.
-use Rattle.words.specs.Prelude.{ℕ, ◌<◌, ◌≡◌, refl, sym, ap, ◌∙◌, Bool, true, false, true≢false, List, ⊎_elim, eq-zero-or-pos}
+use Rattle.std.specs.Prelude.{ℕ, ◌<◌, ◌≡◌, refl, Bool, true, false, List}
+use Rattle.words.specs.Prelude.{sym, ap, ◌∙◌, true≢false, ⊎_elim, eq-zero-or-pos}
 use Rattle.table.specs.{declared.answer.Answer.TheVariants.Accepted, declared.header.Form.Form, Bytes.Bytes, Header.version, Header.count, Header.root}
 use Rattle.table.specs.{Header.form_of, Kinds.kind_of, Kinds.extremum, Laws.Kinds.extreme_since_lem, Nodes.kind_right, Checked.checked, Forest.trees, Forest.forest_of}
 use Rattle.table.specs.{Reading.first_of, Reading.conditions, Reading.tree_of, Limits.Within, Limits.WithinOf, Limits.WithinAll, Trees.Operand, Trees.const}

@@ -1,6 +1,6 @@
 -- D cannot be smaller for Highest and Lowest either: rows on which the steps answer yes over D = reach + 1 of them and no over one less, as
 -- steps/specs/Smallest.antt has them for the other kinds that look back.
-use Rattle.words.specs.Prelude.{ℕ, ◌+◌, ◌≡◌, refl, Bool, true, false, List, [], ◌∷◌, ◌++◌}
+use Rattle.std.specs.Prelude.{ℕ, ◌+◌, ◌≡◌, refl, Bool, true, false, List, [], ◌∷◌, ◌++◌}
 use Rattle.floats.specs.{Floats.zero}
 use Rattle.rows.specs.{History.history_of, History.last_rows}
 use Rattle.table.specs.{declared.series.Series.TheVariants.Price, declared.series.Series.TheVariants.Slot, Trees.const, Trees.prev, Trees.extreme}

@@ -1,5 +1,5 @@
 -- The image: the bytes that a state and its window are written as. Definitions only.
-use Rattle.words.specs.Prelude.{ℕ, ◌+◌, ◌-◌, ◌*◌, ◌/◌, ◌%◌, cond, ◌&&◌, List, [], ◌∷◌, ◌++◌, leb, length, replicate}
+use Rattle.std.specs.Prelude.{ℕ, ◌+◌, ◌-◌, ◌*◌, ◌/◌, ◌%◌, cond, ◌&&◌, List, [], ◌∷◌, ◌++◌, leb, length, replicate}
 use Rattle.words.specs.{Limits.row_words, Limits.most_slots, Limits.most_rows, Words.word}
 use Rattle.rows.specs.{History.last_rows}
 use Rattle.steps.specs.{Bytes.two, Bytes.four, Bytes.eight}

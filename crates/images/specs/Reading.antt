@@ -1,5 +1,5 @@
 -- What an image says, whatever bytes it has: a byte past its end counts as 0. Definitions only.
-use Rattle.words.specs.Prelude.{ℕ, ◌+◌, ◌*◌, List, [], ◌∷◌, get_or}
+use Rattle.std.specs.Prelude.{ℕ, ◌+◌, ◌*◌, List, [], ◌∷◌, get_or}
 use Rattle.words.specs.{Limits.row_words}
 use Rattle.table.specs.{Bytes.u16, Bytes.u32, Bytes.u64}
 use Rattle.records.specs.{declared.state.State.State, StateWords.state_of}

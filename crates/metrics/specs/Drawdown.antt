@@ -1,5 +1,5 @@
 -- `max_drawdown_pct` of metrics.rs. Definitions only.
-use Rattle.words.specs.Prelude.{List, [], ◌∷◌, cond, Float}
+use Rattle.std.specs.Prelude.{List, [], ◌∷◌, cond, Float}
 use Rattle.floats.specs.{Floats.◌⊖◌, Floats.◌⊗◌, Floats.◌⊘◌, Floats.◌≺◌, Floats.float_of, Floats.zero, Floats.hundred}
 
 -- `if e > peak { peak = e; }`

@@ -1,5 +1,6 @@
 -- Edges of the definitions, worked out.
-use Rattle.words.specs.Prelude.{◌≡◌, refl, [], ◌∷◌, ℕ, ℤ, pos, negsuc, Float, binary64}
+use Rattle.std.specs.Prelude.{◌≡◌, refl, [], ◌∷◌, ℕ, ℤ, pos, negsuc, Float}
+use Rattle.words.specs.Prelude.{binary64}
 use Rattle.words.specs.{Outcome.refuses}
 use Rattle.floats.specs.{Sums.sum_from}
 use Rattle.metrics.specs.{Records.whole, Quotients.infinity, Quotients.gain_over, Returns.bar_return, Returns.returns_from, Returns.bar_returns}

@@ -1,5 +1,5 @@
 -- `compute` of metrics.rs: the nine figures, and what a call answers. Definitions only.
-use Rattle.words.specs.Prelude.{List, [], ◌∷◌, cond, ℕ, length, Float}
+use Rattle.std.specs.Prelude.{List, [], ◌∷◌, cond, ℕ, length, Float}
 use Rattle.words.specs.{declared.refusal.Refusal.Refusal, Outcome.Outcome, Outcome.gives, Outcome.refuses}
 use Rattle.floats.specs.{Floats.◌⊖◌, Floats.word_of, Sums.return_pct}
 use Rattle.metrics.specs.{declared.Metrics.Metrics, declared.Answer.Answer, declared.Answer.TheVariants.Done, declared.Answer.TheVariants.Refused}

@@ -1,5 +1,5 @@
 -- What an answer says determines it: no second answer meets the promise of `compute`.
-use Rattle.words.specs.Prelude.{◌≡◌}
+use Rattle.std.specs.Prelude.{◌≡◌}
 use Rattle.metrics.specs.{declared.Answer.Answer, declared.Answer.TheVariants.Done, declared.Answer.TheVariants.Refused, Figures.outcome}
 
 pub outcome_only : (a b : Answer) → outcome a ≡ outcome b → a ≡ b

@@ -1,5 +1,5 @@
 -- Quotients as metrics.rs forms them. Definitions only.
-use Rattle.words.specs.Prelude.{cond, Float}
+use Rattle.std.specs.Prelude.{cond, Float}
 use Rattle.floats.specs.{Floats.◌⊘◌, Floats.◌≺◌, Floats.float_of, Floats.abs, Floats.eps, Floats.zero}
 
 -- `f64::INFINITY`

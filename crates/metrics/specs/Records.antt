@@ -1,5 +1,5 @@
 -- Lists of records as they are lent, in 64-bit words, and the floats that the figures read of them. Definitions only.
-use Rattle.words.specs.Prelude.{List, [], ◌∷◌, Bool, ◌&&◌, ℕ, zero, suc, ◌/◌, ◌%◌, eqb, length, get_or, drop, Float}
+use Rattle.std.specs.Prelude.{List, [], ◌∷◌, Bool, ◌&&◌, ℕ, zero, suc, ◌/◌, ◌%◌, eqb, length, get_or, drop, Float}
 use Rattle.words.specs.{Limits.point_words, Limits.trade_words}
 use Rattle.floats.specs.{Floats.float_of}
 

@@ -1,5 +1,5 @@
 -- `bar_returns`, `sharpe_ratio` and `sortino_ratio` of metrics.rs. Definitions only.
-use Rattle.words.specs.Prelude.{List, [], ◌∷◌, map, cond, ltb, length, Float}
+use Rattle.std.specs.Prelude.{List, [], ◌∷◌, map, cond, ltb, length, Float}
 use Rattle.floats.specs.{Floats.◌⊖◌, Floats.◌⊘◌, Floats.◌≺◌, Floats.abs, Floats.min, Floats.eps, Floats.zero, Floats.one, Sums.sum, Sums.counted, Sums.square}
 use Rattle.floats.specs.{Sqrt.sqrt}
 use Rattle.metrics.specs.{declared.returns.Part.Part, declared.returns.Part.TheVariants.Itself, declared.returns.Part.TheVariants.Away}

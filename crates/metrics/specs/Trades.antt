@@ -1,5 +1,5 @@
 -- Win rate and profit factor of metrics.rs, over the trades' pnl. Definitions only.
-use Rattle.words.specs.Prelude.{List, [], ◌∷◌, Bool, cond, eqb, length, Float}
+use Rattle.std.specs.Prelude.{List, [], ◌∷◌, Bool, cond, eqb, length, Float}
 use Rattle.floats.specs.{Floats.◌⊗◌, Floats.◌⊘◌, Floats.◌≺◌, Floats.zero, Floats.hundred, Sums.sum, Sums.counted}
 use Rattle.metrics.specs.{declared.trades.WinOrLoss.WinOrLoss, declared.trades.WinOrLoss.TheVariants.Wins, declared.trades.WinOrLoss.TheVariants.Losses}
 use Rattle.metrics.specs.{Quotients.gain_over}

@@ -1,5 +1,5 @@
 -- What is answered to how many rows a table rules. Definitions only.
-use Rattle.words.specs.Prelude.{ℕ, ◌*◌, cond, List, ltb}
+use Rattle.std.specs.Prelude.{ℕ, ◌*◌, cond, List, ltb}
 use Rattle.words.specs.{Limits.most_reach, Outcome.refusal}
 use Rattle.table.specs.{declared.answer.Answer.Answer, declared.answer.Answer.TheVariants.Accepted, declared.answer.Answer.TheVariants.Refused, Depth.depth_of}
 use Rattle.table.specs.{Depth.row_bytes}

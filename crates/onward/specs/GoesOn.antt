@@ -1,6 +1,6 @@
 -- Request 14 OVER A LOSS OF SUPPLY. Four accounts ride on one stream. The supply fails, however often; each account is dumped by `ysh_dump` and restored by
 -- `ysh_restore`, and the caller has kept the stream's words and the statuses. Then `ysh_accounts` goes on with them as with four whose supply never failed.
-use Rattle.words.specs.Prelude.{ℕ, ◌+◌, ◌≤◌, ◌≡◌, true, List, ◌++◌, length}
+use Rattle.std.specs.Prelude.{ℕ, ◌+◌, ◌≤◌, ◌≡◌, true, List, ◌++◌, length}
 use Rattle.words.specs.{Limits.bar_words, Limits.most_count, Words.word}
 use Rattle.records.specs.{Lent.point_places, Lent.trade_places, Settings.settings_of, StateWords.state_of}
 use Rattle.refusals.specs.{declared.verdict.Verdict.TheVariants.Fine, Day.whole_bars}

@@ -1,6 +1,7 @@
 -- Accounts over a loss of supply, proved: on the stream an account is `ysh_step` over its own bars (`as_if_alone`), of which the capacitor theorem speaks.
-use Rattle.words.specs.Prelude.{ℕ, ◌+◌, ◌/◌, ◌%◌, ◌^◌, ◌≤◌, ◌≡◌, refl, sym, ap, subst, ◌∙◌, Bool, true, false, cond, List, [], ◌∷◌, ◌++◌, append-nil, arith}
-use Rattle.words.specs.Prelude.{eqb, eq-eqb, eqb-true, eqb-false, length, length-append, take}
+use Rattle.std.specs.Prelude.{ℕ, ◌+◌, ◌/◌, ◌%◌, ◌^◌, ◌≤◌, ◌≡◌, refl, Bool, true, false, cond, List, [], ◌∷◌, ◌++◌, eqb, length, take}
+use Rattle.words.specs.Prelude.{sym, ap, subst, ◌∙◌, append-nil, arith}
+use Rattle.words.specs.Prelude.{eq-eqb, eqb-true, eqb-false, length-append}
 use Rattle.words.specs.{Limits.most_count, Words.word}
 use Rattle.records.specs.{Lent.Lists, Lent.point_places, Lent.trade_places, Settings.settings_of, StateWords.state_of}
 use Rattle.refusals.specs.{declared.verdict.Verdict.Verdict, declared.verdict.Verdict.TheVariants.Fine, declared.verdict.Verdict.TheVariants.Bad}

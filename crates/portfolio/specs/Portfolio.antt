@@ -1,5 +1,5 @@
 -- The one-position portfolio, each definition under the name of the Rust's function. Definitions only.
-use Rattle.words.specs.Prelude.{Bool, cond, ℕ, Float}
+use Rattle.std.specs.Prelude.{Bool, cond, ℕ, Float}
 use Rattle.floats.specs.{Floats.◌⊕◌, Floats.◌⊖◌, Floats.◌⊗◌, Floats.◌≺◌, Floats.abs, Floats.min, Floats.max, Floats.eps, Floats.zero, Sums.return_pct}
 use Rattle.portfolio.specs.{declared.Candle.Candle, declared.Portfolio.Portfolio, declared.Trade.Trade, declared.Closed.Closed}
 

@@ -1,5 +1,5 @@
 -- A completed trade: why it ended, and its words. Definitions only.
-use Rattle.words.specs.Prelude.{List, [], ◌∷◌, ℕ}
+use Rattle.std.specs.Prelude.{List, [], ◌∷◌, ℕ}
 use Rattle.floats.specs.{Floats.word_of}
 use Rattle.portfolio.specs.{declared.Trade.Trade}
 

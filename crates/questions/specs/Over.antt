@@ -1,5 +1,5 @@
 -- Why a tree says what it says at each of the newest rows, refusals and all. Definitions only.
-use Rattle.words.specs.Prelude.{ℕ, zero, suc, ◌+◌, ◌-◌, ◌*◌, ◌/◌, ◌%◌, List, [], ◌∷◌, length, take, leb, eqb}
+use Rattle.std.specs.Prelude.{ℕ, zero, suc, ◌+◌, ◌-◌, ◌*◌, ◌/◌, ◌%◌, List, [], ◌∷◌, length, take, leb, eqb}
 use Rattle.words.specs.{Words.overwrite}
 use Rattle.rows.specs.{History.width, History.history_of, History.whole_rows}
 use Rattle.table.specs.{declared.answer.Answer.Answer, declared.answer.Answer.TheVariants.Accepted, declared.answer.Answer.TheVariants.Refused, Header.slots}

@@ -1,5 +1,5 @@
 -- The position of a question, in words. Definitions only.
-use Rattle.words.specs.Prelude.{ℕ, ◌+◌, ◌*◌, Bool, List, get_or}
+use Rattle.std.specs.Prelude.{ℕ, ◌+◌, ◌*◌, Bool, List, get_or}
 use Rattle.floats.specs.{Floats.float_of}
 use Rattle.rules.specs.{declared.position.PositionState.PositionState, Answers.state_right}
 use Rattle.records.specs.{StateWords.entered_of}

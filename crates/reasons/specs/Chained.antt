@@ -1,6 +1,7 @@
 -- "no other chain is given": the request's sentences as a relation between a condition and its lines, which the chain alone meets. A line is true of
 -- its condition (Telling): nothing here speaks of how lines are made. At any bar up to the newest.
-use Rattle.words.specs.Prelude.{ℕ, ◌+◌, ◌≤◌, ◌≡◌, refl, sym, ap, ◌∙◌, Bool, true, false, not, cond, Bool·beq, ◌&&◌, ◌||◌, List, [], ◌∷◌, arith}
+use Rattle.std.specs.Prelude.{ℕ, ◌+◌, ◌≤◌, ◌≡◌, refl, Bool, true, false, not, cond, ◌&&◌, ◌||◌, List, [], ◌∷◌}
+use Rattle.words.specs.Prelude.{sym, ap, ◌∙◌, Bool·beq, arith}
 use Rattle.rows.specs.{History.History}
 use Rattle.table.specs.{Trees.Condition, Trees.Conditions, Trees.compare, Trees.cross, Trees.between, Trees.trend, Trees.every, Trees.any, Trees.negated}
 use Rattle.table.specs.{Trees.in_position, Trees.bars_since, Trees.none, Trees.more, Writing.nodes_of}

@@ -1,5 +1,6 @@
 -- "the first gives the rule's answer (an absent tree has no lines)": joined with what `answer_rule` promises. Assumes nothing.
-use Rattle.words.specs.Prelude.{ℕ, ◌*◌, ◌<◌, ◌≡◌, refl, ap, ◌∙◌, Bool, true, false, cond, ◌&&◌, List, [], ◌∷◌, arith, ltb, eqb, length, lt-leb}
+use Rattle.std.specs.Prelude.{ℕ, ◌*◌, ◌<◌, ◌≡◌, refl, Bool, true, false, cond, ◌&&◌, List, [], ◌∷◌, ltb, eqb, length}
+use Rattle.words.specs.Prelude.{ap, ◌∙◌, arith, lt-leb}
 use Rattle.words.specs.Prelude.{eqb-true, eqb-false}
 use Rattle.words.specs.{Limits.trees, Outcome.refusal}
 use Rattle.rows.specs.{History.History, History.history_of, History.whole_rows}

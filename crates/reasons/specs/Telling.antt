@@ -1,6 +1,6 @@
 -- What the line of a condition may show, by cases on the condition and from what the rule means: nothing here speaks of how lines are made.
 -- Definitions only.
-use Rattle.words.specs.Prelude.{ℕ, ◌+◌, ◌-◌, ◌≤◌, ◌<◌, ◌≡◌, true, false, not, cond, ◌&&◌, ◌⊎◌, [], ◌∷◌, eqb, Float}
+use Rattle.std.specs.Prelude.{ℕ, ◌+◌, ◌-◌, ◌≤◌, ◌<◌, ◌≡◌, true, false, not, cond, ◌&&◌, ◌⊎◌, [], ◌∷◌, eqb, Float}
 use Rattle.rows.specs.{History.History}
 use Rattle.table.specs.{Trees.Operand, Trees.Condition, Trees.Conditions, Trees.compare, Trees.cross, Trees.between, Trees.trend, Trees.every, Trees.any}
 use Rattle.table.specs.{Trees.negated, Trees.in_position, Trees.bars_since}

@@ -1,5 +1,5 @@
 -- A bar as the caller hands it. Definitions only.
-use Rattle.words.specs.Prelude.{ℕ, ◌+◌, cond, List, get_or, eqb}
+use Rattle.std.specs.Prelude.{ℕ, ◌+◌, cond, List, get_or, eqb}
 use Rattle.floats.specs.{Floats.float_of}
 use Rattle.portfolio.specs.{declared.Candle.Candle}
 use Rattle.execution.specs.{declared.costs.Funding.Funding, declared.costs.Funding.TheVariants.NotSupplied, declared.costs.Funding.TheVariants.Supplied}

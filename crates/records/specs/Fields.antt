@@ -1,5 +1,5 @@
 -- A float of a list of words. Definitions only.
-use Rattle.words.specs.Prelude.{ℕ, List, Float}
+use Rattle.std.specs.Prelude.{ℕ, List, Float}
 use Rattle.floats.specs.{Floats.float_of}
 use Rattle.words.specs.{Words.word}
 

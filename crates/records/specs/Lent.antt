@@ -1,5 +1,5 @@
 -- What a call is lent: rooms of records and lists of steps. Definitions only.
-use Rattle.words.specs.Prelude.{ℕ, ◌/◌, List, length}
+use Rattle.std.specs.Prelude.{ℕ, ◌/◌, List, length}
 use Rattle.words.specs.{Limits.row_words, Limits.point_words, Limits.trade_words}
 
 -- The rooms of a call that hold records, in the order of their numbers.

@@ -1,5 +1,5 @@
 -- The state's words: what they mean, and those of a state. Definitions only.
-use Rattle.words.specs.Prelude.{ℕ, cond, List, [], ◌∷◌, eqb, Float}
+use Rattle.std.specs.Prelude.{ℕ, cond, List, [], ◌∷◌, eqb, Float}
 use Rattle.floats.specs.{Floats.word_of}
 use Rattle.rules.specs.{declared.position.Entered.Entered, declared.position.Entered.TheVariants.Never, declared.position.Entered.TheVariants.Bar}
 use Rattle.portfolio.specs.{declared.Portfolio.Portfolio}

@@ -1,5 +1,5 @@
 -- Refusal 11: the new bar.
-use Rattle.words.specs.Prelude.{ℕ, zero, suc, ◌+◌, ◌/◌, ◌%◌, ◌^◌, Bool, true, false, cond, ◌&&◌, List, [], ◌∷◌, get_or, ltb, eqb}
+use Rattle.std.specs.Prelude.{ℕ, zero, suc, ◌+◌, ◌/◌, ◌%◌, ◌^◌, Bool, true, false, cond, ◌&&◌, List, [], ◌∷◌, get_or, ltb, eqb}
 use Rattle.words.specs.{Limits.most_slots}
 use Rattle.floats.specs.{Floats.finite, Floats.float_of}
 use Rattle.portfolio.specs.{declared.Candle.Candle}

@@ -1,5 +1,5 @@
 -- What a call is judged by: "then 10, 12, 13, 14, 11, 15. Under one number the lowest place is given."
-use Rattle.words.specs.Prelude.{ℕ, List, ◌∷◌, ◌++◌, length, eqb}
+use Rattle.std.specs.Prelude.{ℕ, List, ◌∷◌, ◌++◌, length, eqb}
 use Rattle.words.specs.{Limits.bar_words}
 use Rattle.records.specs.{declared.settings.Settings.Settings, declared.state.State.State, Lent.Rooms, Lent.Lists}
 use Rattle.refusals.specs.{declared.verdict.Verdict.Verdict, Lines.Line, Lines.line, Lines.judged, Bar.bar_lines, Lists.list_lines, Rooms.room_lines}

@@ -1,5 +1,5 @@
 -- Refusal 15: the four lists of steps.
-use Rattle.words.specs.Prelude.{ℕ, ◌+◌, ◌*◌, Bool, true, false, List, [], ◌∷◌}
+use Rattle.std.specs.Prelude.{ℕ, ◌+◌, ◌*◌, Bool, true, false, List, [], ◌∷◌}
 use Rattle.steps.specs.{declared.wellformed.Formed.Formed, declared.wellformed.Formed.TheVariants.Well, declared.wellformed.Formed.TheVariants.Bad}
 use Rattle.steps.specs.{WellFormed.formed}
 use Rattle.words.specs.{Limits.most_steps}

@@ -1,5 +1,5 @@
 -- Refusals 10, 13 and 14: the rooms and the counts of the state. Rooms are numbered as docs/ lists them; 0 is that of rows.
-use Rattle.words.specs.Prelude.{ℕ, Bool, true, not, ◌&&◌, ◌||◌, List, [], ◌∷◌, ltb, leb}
+use Rattle.std.specs.Prelude.{ℕ, Bool, true, not, ◌&&◌, ◌||◌, List, [], ◌∷◌, ltb, leb}
 use Rattle.words.specs.{Limits.most_count}
 use Rattle.rules.specs.{declared.position.Entered.Entered, declared.position.Entered.TheVariants.Never, declared.position.Entered.TheVariants.Bar}
 use Rattle.portfolio.specs.{Portfolio.in_position}

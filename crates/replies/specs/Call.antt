@@ -1,5 +1,5 @@
 -- What a call of the C interface answers and leaves. Definitions only.
-use Rattle.words.specs.Prelude.{ℕ, ◌+◌, ◌*◌, ◌%◌, ◌^◌, Bool, true, false, List, [], ◌∷◌, length, leb}
+use Rattle.std.specs.Prelude.{ℕ, ◌+◌, ◌*◌, ◌%◌, ◌^◌, Bool, true, false, List, [], ◌∷◌, length, leb}
 use Rattle.words.specs.{declared.refusal.Refusal.Refusal, Limits.setting_words, Limits.state_words, Limits.metric_words, Outcome.Outcome, Outcome.gives}
 use Rattle.words.specs.{Outcome.refuses}
 use Rattle.refusals.specs.{declared.verdict.Verdict.Verdict, declared.verdict.Verdict.TheVariants.Fine, declared.verdict.Verdict.TheVariants.Bad, Lines.Line}

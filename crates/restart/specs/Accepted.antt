@@ -1,6 +1,7 @@
 -- ACCEPTANCE: what a dump writes whole, a restore accepts. "A cut after any byte leaves an image that is refused, or the whole one": the whole one is
 -- not refused.
-use Rattle.words.specs.Prelude.{ℕ, ◌+◌, ◌-◌, ◌*◌, ◌/◌, ◌%◌, ◌≤◌, ◌≡◌, refl, ap, ◌∙◌, true, List, ◌++◌, mod-eq_of_lt, arith, le-leb, eq-eqb, eqb, length, get_or}
+use Rattle.std.specs.Prelude.{ℕ, ◌+◌, ◌-◌, ◌*◌, ◌/◌, ◌%◌, ◌≤◌, ◌≡◌, refl, true, List, ◌++◌, eqb, length, get_or}
+use Rattle.words.specs.Prelude.{ap, ◌∙◌, mod-eq_of_lt, arith, le-leb, eq-eqb}
 use Rattle.words.specs.Prelude.{List·get_or-eq_default}
 use Rattle.words.specs.{Limits.row_words, Limits.most_count, Words.word}
 use Rattle.rows.specs.{History.last_rows}

@@ -1,7 +1,8 @@
 -- THE WAY BACK: an image that a restore accepts, patterns of NaN apart, is the image of the state and the rows that it leaves.
-use Rattle.words.specs.Prelude.{ℕ, ◌+◌, ◌-◌, ◌*◌, ◌/◌, ◌%◌, ◌≤◌, ◌<◌, ◌≡◌, refl, sym, ap, ◌∙◌, Bool, true, false, ◌&&◌, List, mod-eq_of_lt, mul-div_cancel}
-use Rattle.words.specs.Prelude.{mul_assoc, mul_comm, mul-le-mul_right, zero-add, zero-mul, arith, leb-true, eqb-true, ltb-true, ltb-false, leb, ltb, eqb}
-use Rattle.words.specs.Prelude.{length, get_or, take, drop, List·get_or-eq_default, ext_get_or, take_at}
+use Rattle.std.specs.Prelude.{ℕ, ◌+◌, ◌-◌, ◌*◌, ◌/◌, ◌%◌, ◌≤◌, ◌<◌, ◌≡◌, refl, Bool, true, false, ◌&&◌, List, leb, ltb, eqb, length, get_or, take, drop}
+use Rattle.words.specs.Prelude.{sym, ap, ◌∙◌, mod-eq_of_lt, mul-div_cancel}
+use Rattle.words.specs.Prelude.{mul_assoc, mul_comm, mul-le-mul_right, zero-add, zero-mul, arith, leb-true, eqb-true, ltb-true, ltb-false}
+use Rattle.words.specs.Prelude.{List·get_or-eq_default, ext_get_or, take_at}
 use Rattle.words.specs.{Limits.row_words, Words.overwrite, Laws.Overwrite.overwrite_fits, Laws.Records.records_fit}
 use Rattle.rows.specs.{History.last_rows}
 use Rattle.table.specs.{Bytes.u16, Bytes.u32, Bytes.u64, Bytes.Bytes}

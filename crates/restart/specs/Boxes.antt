@@ -1,6 +1,6 @@
 -- What is said of a box whose image is written and read back, from weak to strong; below these stand `WithinRooms` and `Sound` (engine/specs/Boxes.antt).
 -- Definitions only.
-use Rattle.words.specs.Prelude.{ℕ, ◌+◌, ◌*◌, ◌/◌, ◌≤◌, ◌<◌, ◌≡◌, true, List, length, get_or}
+use Rattle.std.specs.Prelude.{ℕ, ◌+◌, ◌*◌, ◌/◌, ◌≤◌, ◌<◌, ◌≡◌, true, List, length, get_or}
 use Rattle.words.specs.{Limits.row_words, Limits.most_slots, Limits.most_rows, Limits.most_count}
 use Rattle.records.specs.{declared.settings.Settings.Settings, declared.state.State.State, Lent.Rooms, Lent.row_places, StateWords.order_delay}
 use Rattle.records.specs.{StateWords.entry_bar, Laws.RoundTrip.Floats64}

@@ -1,5 +1,6 @@
 -- THE FIRST WORD CLEARED, so that an old image is not taken for a new one: before the first bar after a restore, and before an erase.
-use Rattle.words.specs.Prelude.{ℕ, ◌≤◌, ◌<◌, ◌≡◌, ◌∙◌, true, List, [], arith, length, get_or}
+use Rattle.std.specs.Prelude.{ℕ, ◌≤◌, ◌<◌, ◌≡◌, true, List, [], length, get_or}
+use Rattle.words.specs.Prelude.{◌∙◌, arith}
 use Rattle.records.specs.{declared.settings.Settings.Settings, declared.state.State.State}
 use Rattle.refusals.specs.{declared.verdict.Verdict.TheVariants.Fine, Lines.judged, Rooms.room_lines, Settings.setting_lines}
 use Rattle.images.specs.{Layout.dump_bytes, Layout.image_of, Refused.restore_judged, Laws.Fine.restore_fine}

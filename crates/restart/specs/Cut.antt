@@ -1,5 +1,6 @@
 -- "A cut after any byte leaves an image that is refused, or the whole one."
-use Rattle.words.specs.Prelude.{ℕ, ◌≤◌, ◌<◌, ◌≡◌, sym, ◌∙◌, List, arith, length, take, get_or-take}
+use Rattle.std.specs.Prelude.{ℕ, ◌≤◌, ◌<◌, ◌≡◌, List, length, take}
+use Rattle.words.specs.Prelude.{sym, ◌∙◌, arith, get_or-take}
 use Rattle.words.specs.{Outcome.refusal, Laws.Records.records_fit, Limits.row_words}
 use Rattle.records.specs.{declared.settings.Settings.Settings, declared.state.State.State, Lent.row_places, StateWords.words_of}
 use Rattle.engine.specs.{Record.held_rows}

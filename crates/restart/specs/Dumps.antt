@@ -1,5 +1,6 @@
 -- A DUMP OF A BOX THAT WAS REACHED IS NOT REFUSED: no box that has taken bars, traded or waits for a fill, is refused its dump.
-use Rattle.words.specs.Prelude.{ℕ, ◌≤◌, ◌≡◌, ◌∙◌, true, List, arith, le-leb, length}
+use Rattle.std.specs.Prelude.{ℕ, ◌≤◌, ◌≡◌, true, List, length}
+use Rattle.words.specs.Prelude.{◌∙◌, arith, le-leb}
 use Rattle.words.specs.{Limits.most_count}
 use Rattle.records.specs.{declared.settings.Settings.Settings, declared.state.State.State, Lent.Lists, Lent.Rooms, Lent.row_places, State.fresh_state}
 use Rattle.refusals.specs.{declared.verdict.Verdict.TheVariants.Fine, Lines.judged, Rooms.room_lines, Rooms.entry_below, Rooms.state_lines, Settings.setting_lines}

@@ -1,6 +1,7 @@
 -- THE FIRST WORD DECIDES. The first eight bytes of an image, its mark, K, version and D, are the commit: whatever stands in them, bytes that are an
 -- image's behind them are refused with 19 or 20, or they are the image.
-use Rattle.words.specs.Prelude.{ℕ, ◌≤◌, ◌<◌, ◌≡◌, refl, sym, ◌∙◌, Bool, true, false, ◌&&◌, List, [], ◌∷◌, ◌++◌, ne_eqb, eqb, length, get_or}
+use Rattle.std.specs.Prelude.{ℕ, ◌≤◌, ◌<◌, ◌≡◌, refl, Bool, true, false, ◌&&◌, List, [], ◌∷◌, ◌++◌, eqb, length, get_or}
+use Rattle.words.specs.Prelude.{sym, ◌∙◌, ne_eqb}
 use Rattle.words.specs.{Outcome.refusal, declared.refusal.Refusal.Refusal}
 use Rattle.table.specs.{Bytes.Bytes}
 use Rattle.records.specs.{declared.settings.Settings.Settings, declared.state.State.State}

@@ -1,6 +1,6 @@
 -- THE LIVES OF A BOX. A box lives from one loss of its supply to the next: it takes bars, is dumped, and is restored over rooms that it is lent then.
 -- Definitions only.
-use Rattle.words.specs.Prelude.{ℕ, ◌+◌, ◌≤◌, ◌≡◌, List, [], ◌∷◌, ◌++◌}
+use Rattle.std.specs.Prelude.{ℕ, ◌+◌, ◌≤◌, ◌≡◌, List, [], ◌∷◌, ◌++◌}
 use Rattle.words.specs.{Words.overwrite}
 use Rattle.records.specs.{declared.settings.Settings.Settings, declared.state.State.State, Lent.Lists, Lent.Rooms, Lent.rooms, Lent.row_places}
 use Rattle.refusals.specs.{declared.verdict.Verdict.TheVariants.Fine}

@@ -1,6 +1,7 @@
 -- ANY NUMBER OF LOSSES: after any number of lives a box is alike to the one that was never without supply, and what its lives held, one after another, is
 -- what that box holds.
-use Rattle.words.specs.Prelude.{ℕ, ◌≤◌, ◌≡◌, refl, sym, ap, subst, ◌∙◌, List, [], ◌∷◌, ◌++◌, append_assoc, append-nil, arith, length}
+use Rattle.std.specs.Prelude.{ℕ, ◌≤◌, ◌≡◌, refl, List, [], ◌∷◌, ◌++◌, length}
+use Rattle.words.specs.Prelude.{sym, ap, subst, ◌∙◌, append_assoc, append-nil, arith}
 use Rattle.records.specs.{declared.settings.Settings.Settings, declared.state.State.State, Lent.Lists, Lent.Rooms, Lent.row_places, State.fresh_state}
 use Rattle.records.specs.{Laws.RoundTrip.Floats64}
 use Rattle.refusals.specs.{declared.verdict.Verdict.Verdict, declared.verdict.Verdict.TheVariants.Fine, Lines.judged, Settings.setting_lines, Laws.Lines.never}

@@ -1,7 +1,8 @@
 -- The order of writing is a plan: each byte a program of its own, the mark's last byte the last. So the bytes of a dump may be torn, and the area need
 -- not be cleared: it is enough that its byte 2 is not the mark's.
-use Rattle.words.specs.Prelude.{ℕ, zero, suc, ◌-◌, ◌≤◌, ◌<◌, min, ◌≡◌, refl, sym, ap, ◌∙◌, Bool, true, false, ◌||◌, ⊎_elim, List, [], ◌∷◌, ◌++◌, eq-or-lt_of_le}
-use Rattle.words.specs.Prelude.{zero-add, arith, eq-eqb, ne_eqb, eqb, length, get_or, take}
+use Rattle.std.specs.Prelude.{ℕ, zero, suc, ◌-◌, ◌≤◌, ◌<◌, min, ◌≡◌, refl, Bool, true, false, ◌||◌, List, [], ◌∷◌, ◌++◌, eqb, length, get_or, take}
+use Rattle.words.specs.Prelude.{sym, ap, ◌∙◌, ⊎_elim, eq-or-lt_of_le}
+use Rattle.words.specs.Prelude.{zero-add, arith, eq-eqb, ne_eqb}
 use Rattle.dump.specs.{Order.place_of, Order.stretch, Order.written}
 use Rattle.restart.specs.{Laws.Programs.done_is_cut, Laws.Programs.cut_rest, Laws.Programs.plan_done, Laws.Ranks.mark_last, Laws.Ranks.mark_at}
 use Rattle.restart.specs.{Laws.Ranks.ranked, Plans.touches, Plans.covers, Plans.programmed, Plans.all_programmed, Plans.in_order, Plans.Plan}

@@ -1,6 +1,7 @@
 -- Pages and then the first word are a plan; so is the plan whose programs `ysh holdup` counts.
-use Rattle.words.specs.Prelude.{ℕ, zero, suc, ◌+◌, ◌-◌, ◌*◌, ◌/◌, ◌%◌, ◌≤◌, ◌<◌, min, ◌≡◌, refl, ap, ◌∙◌, Bool, true, false, ◌||◌, List, [], ◌∷◌, mod-add-div}
-use Rattle.words.specs.Prelude.{mod-lt, mul_comm, zero-mul, arith, ltb-true, ltb-false, eqb-false, ne_eqb, ltb, eqb, length, length-append}
+use Rattle.std.specs.Prelude.{ℕ, zero, suc, ◌+◌, ◌-◌, ◌*◌, ◌/◌, ◌%◌, ◌≤◌, ◌<◌, min, ◌≡◌, refl, Bool, true, false, ◌||◌, List, [], ◌∷◌, ltb, eqb, length}
+use Rattle.words.specs.Prelude.{ap, ◌∙◌, mod-add-div}
+use Rattle.words.specs.Prelude.{mod-lt, mul_comm, zero-mul, arith, ltb-true, ltb-false, eqb-false, ne_eqb, length-append}
 use Rattle.restart.specs.{Pages.Rising, Pages.end_of, Pages.ends_later, Plans.touches, Plans.covers, Plans.in_order, Plans.Plan}
 
 -- ---- definitions

@@ -1,5 +1,6 @@
 -- A driver that writes page after page asks for one stretch of the order of writing after another.
-use Rattle.words.specs.Prelude.{ℕ, ◌+◌, ◌-◌, ◌≤◌, ◌<◌, min, ◌≡◌, refl, ap, ◌∙◌, Bool, true, false, List, [], ◌∷◌, arith, leb-true, leb-false, leb, length}
+use Rattle.std.specs.Prelude.{ℕ, ◌+◌, ◌-◌, ◌≤◌, ◌<◌, min, ◌≡◌, refl, Bool, true, false, List, [], ◌∷◌, leb, length}
+use Rattle.words.specs.Prelude.{ap, ◌∙◌, arith, leb-true, leb-false}
 use Rattle.dump.specs.{Order.stretch, Order.written, Laws.Laid.stretch_on}
 
 -- the pages end at these bytes of the order, one after another

@@ -1,6 +1,7 @@
 -- ANY PLAN, CUT ANYWHERE: over an unmarked area a plan whose last program keeps to the first word leaves an area that is refused, or the whole image.
 -- The area may be longer than the image: a restore is lent its first bytes, as many as the image has.
-use Rattle.words.specs.Prelude.{ℕ, ◌≤◌, ◌<◌, ◌≡◌, refl, sym, ◌∙◌, Bool, true, false, List, [], ◌∷◌, arith, ltb-true, ltb-false, ltb, length, get_or, take}
+use Rattle.std.specs.Prelude.{ℕ, ◌≤◌, ◌<◌, ◌≡◌, refl, Bool, true, false, List, [], ◌∷◌, ltb, length, get_or, take}
+use Rattle.words.specs.Prelude.{sym, ◌∙◌, arith, ltb-true, ltb-false}
 use Rattle.words.specs.Prelude.{List·get_or-eq_default, length-take-le, get_or-take}
 use Rattle.table.specs.{Bytes.Bytes}
 use Rattle.records.specs.{declared.settings.Settings.Settings, declared.state.State.State}

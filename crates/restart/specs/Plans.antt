@@ -1,6 +1,6 @@
 -- A PLAN OF PROGRAMS. A driver writes an image into flash by programs, one after another; the supply may fail in any of them, and then the bytes at
 -- that program's places are any bytes at all. Definitions only.
-use Rattle.words.specs.Prelude.{ℕ, ◌≤◌, ◌<◌, ◌≡◌, Bool, false, ◌||◌, List, [], ◌∷◌, ◌++◌, ◌⊎◌, eqb, length, get_or, set}
+use Rattle.std.specs.Prelude.{ℕ, ◌≤◌, ◌<◌, ◌≡◌, Bool, false, ◌||◌, List, [], ◌∷◌, ◌++◌, ◌⊎◌, eqb, length, get_or, set}
 use Rattle.table.specs.{Bytes.Bytes}
 
 -- a program is a list of places, in any order: does it touch this one?

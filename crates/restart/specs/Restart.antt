@@ -1,7 +1,8 @@
 -- THE RESTART, over the bytes of an image. "From a whole image of a state reached from a fresh one, with the same table and settings and empty trade
 -- and equity rooms counted from 0, further bars give the trades, equity points and decisions that the unbroken run gives for them, until
 -- either refuses." What runs/specs/Restart says of a box that was started again holds of the box that a restore leaves.
-use Rattle.words.specs.Prelude.{ℕ, ◌+◌, ◌/◌, ◌≤◌, ◌≡◌, refl, List, zero-add, arith, length, drop, take_at}
+use Rattle.std.specs.Prelude.{ℕ, ◌+◌, ◌/◌, ◌≤◌, ◌≡◌, refl, List, length, drop}
+use Rattle.words.specs.Prelude.{zero-add, arith, take_at}
 use Rattle.words.specs.{Limits.row_words, Words.overwrite, Laws.Overwrite.overwrite_fits, Laws.Records.records_fit}
 use Rattle.words.specs.{Laws.Overwrite.overwrite-length}
 use Rattle.records.specs.{declared.settings.Settings.Settings, declared.state.State.State, Lent.Lists, Lent.Rooms, Lent.rooms, Lent.row_places, State.fresh_state}

@@ -1,6 +1,7 @@
 -- A whole image read back holds what was written: the state, with its books emptied and the rows of its window counted, and the window.
-use Rattle.words.specs.Prelude.{ℕ, ◌+◌, ◌*◌, ◌/◌, ◌%◌, ◌<◌, ◌≡◌, refl, ap, ◌∙◌, List, [], ◌∷◌, mod-eq_of_lt, mod-add-div, arith, Float, binary64, fits}
-use Rattle.words.specs.Prelude.{to_bits-lt, T, length}
+use Rattle.std.specs.Prelude.{ℕ, ◌+◌, ◌*◌, ◌/◌, ◌%◌, ◌<◌, ◌≡◌, refl, List, [], ◌∷◌, Float, T, length}
+use Rattle.words.specs.Prelude.{ap, ◌∙◌, mod-eq_of_lt, mod-add-div, arith, binary64, fits}
+use Rattle.words.specs.Prelude.{to_bits-lt}
 use Rattle.words.specs.{Limits.row_words, Words.word}
 use Rattle.floats.specs.{Floats.word_of}
 use Rattle.table.specs.{Bytes.u16, Bytes.u32, Bytes.u64}

@@ -1,5 +1,6 @@
 -- Boxes that are alike have the same image, and what an image needs goes over from one to the other.
-use Rattle.words.specs.Prelude.{ℕ, ◌≡◌, refl, sym, ap, ◌∙◌, List}
+use Rattle.std.specs.Prelude.{ℕ, ◌≡◌, refl, List}
+use Rattle.words.specs.Prelude.{sym, ap, ◌∙◌}
 use Rattle.records.specs.{declared.settings.Settings.Settings, declared.state.State.State, Lent.Rooms, StateWords.words_of}
 use Rattle.engine.specs.{Boxes.Alike, Whole.Account, Whole.account_of, Whole.state_of_account}
 use Rattle.runs.specs.{Laws.AccountStep.same_parts}

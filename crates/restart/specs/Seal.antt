@@ -1,7 +1,8 @@
 -- A SEAL, for flash whose programs take more than 8 bytes at once: bytes of the driver's own in a unit behind the image, programmed last and looked at
 -- first. It commits in the first word's place: where the seal stands, what stands before it is the whole image. (What fills the image up to a unit's end
 -- counts as the image's here.)
-use Rattle.words.specs.Prelude.{ℕ, ◌+◌, ◌≤◌, ◌<◌, ◌≡◌, refl, sym, ◌∙◌, Bool, true, false, List, ◌++◌, arith, ltb-true, ltb-false, ltb, length, get_or, take}
+use Rattle.std.specs.Prelude.{ℕ, ◌+◌, ◌≤◌, ◌<◌, ◌≡◌, refl, Bool, true, false, List, ◌++◌, ltb, length, get_or, take}
+use Rattle.words.specs.Prelude.{sym, ◌∙◌, arith, ltb-true, ltb-false}
 use Rattle.words.specs.Prelude.{length-append, List·get_or-append}
 use Rattle.restart.specs.{Laws.Programs.Left, Laws.Programs.early, Laws.Programs.late, Laws.Programs.done, Laws.Programs.starts_with}
 use Rattle.restart.specs.{Laws.Programs.cut_long, Laws.Programs.cut_leaves, PagePlan.places_from, PagePlan.pages_to, PagePlan.from_below, PagePlan.from_at}

@@ -1,6 +1,7 @@
 -- The window comes back from a whole image: its rows, word by word.
-use Rattle.words.specs.Prelude.{ℕ, zero, suc, ◌+◌, ◌-◌, ◌*◌, ◌/◌, ◌%◌, ◌≤◌, ◌<◌, ◌≡◌, refl, sym, ap, ◌∙◌, ⊎_elim, List, [], ◌∷◌, mod-eq_of_lt, eq-or-lt_of_le}
-use Rattle.words.specs.Prelude.{mul-div_cancel, mul_comm, arith, length, get_or, take, length-drop, List·get_or-append, ext_get_or, get_or_at, length-take-le}
+use Rattle.std.specs.Prelude.{ℕ, zero, suc, ◌+◌, ◌-◌, ◌*◌, ◌/◌, ◌%◌, ◌≤◌, ◌<◌, ◌≡◌, refl, List, [], ◌∷◌, length, get_or, take}
+use Rattle.words.specs.Prelude.{sym, ap, ◌∙◌, ⊎_elim, mod-eq_of_lt, eq-or-lt_of_le}
+use Rattle.words.specs.Prelude.{mul-div_cancel, mul_comm, arith, length-drop, List·get_or-append, ext_get_or, get_or_at, length-take-le}
 use Rattle.words.specs.{Limits.row_words, Limits.most_slots, Limits.most_rows, Laws.Records.records_fit}
 use Rattle.rows.specs.{History.last_rows}
 use Rattle.table.specs.{Bytes.u16, Bytes.u32, Bytes.u64}

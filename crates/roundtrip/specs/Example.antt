@@ -1,6 +1,6 @@
 -- "Example, whole: entry CrossAbove(slot 0, slot 1); exit Lt(close, Prev(close, 2)). K is 2; seven nodes make 128 bytes. ..
 -- `accepted nodes 7 rows 3`."
-use Rattle.words.specs.Prelude.{◌≡◌, refl, List, [], ◌∷◌, ◌++◌, ℕ}
+use Rattle.std.specs.Prelude.{◌≡◌, refl, List, [], ◌∷◌, ◌++◌, ℕ}
 use Rattle.table.specs.{declared.answer.Answer.TheVariants.Accepted, Bytes.u16, Bytes.u32, Bytes.u64, Kinds.kinds, Kinds.kind_of, Kinds.versions, Kinds.since_of}
 use Rattle.table.specs.{Header.mark_right, Header.version_right, Header.counts_right, Header.header_refusal, Header.root, Nodes.node_at, Nodes.children_right}
 use Rattle.table.specs.{Nodes.n_right, Nodes.constant_right, Nodes.kind_right, Nodes.fields_right, Nodes.own_right, Nodes.node_right, Nodes.wrong_node, Nodes.sort_at}

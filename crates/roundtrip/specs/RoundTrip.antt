@@ -2,7 +2,7 @@
 -- within the paper's limits is accepted and holds that rule. So the checker accepts what the paper describes, reads it as what
 -- it is, and refuses no table of a rule within the limits. A form is a version, 1 or 2, and a number of slots: this holds of both versions.
 -- Assumes nothing.
-use Rattle.words.specs.Prelude.{◌≡◌, List, ℕ, ◌+◌, max}
+use Rattle.std.specs.Prelude.{◌≡◌, List, ℕ, ◌+◌, max}
 use Rattle.table.specs.{declared.answer.Answer.TheVariants.Accepted, declared.header.Form.Form, Header.form_of, Checked.checked, Trees.reach_of, Writing.Rule}
 use Rattle.table.specs.{Writing.nodes_of_rule, Writing.table_of, Writing.rule_of, Limits.RuleWithin, Bytes.Bytes}
 use Rattle.roundtrip.specs.{Laws.AcceptedWritten.round_trip, Laws.AcceptedWithin.rule_within, Laws.WrittenBytes.written_bytes}

@@ -1,6 +1,7 @@
 -- Two versions of a table. "Version 1 tables mean what they meant, and a version 1 reader still gives 3." (request 8)
 -- Assumes nothing.
-use Rattle.words.specs.Prelude.{◌≡◌, true, false, List, ℕ, ◌≤◌, length, le-ltb}
+use Rattle.std.specs.Prelude.{◌≡◌, true, false, List, ℕ, ◌≤◌, length}
+use Rattle.words.specs.Prelude.{le-ltb}
 use Rattle.words.specs.{Outcome.refusal}
 use Rattle.table.specs.{declared.answer.Answer.TheVariants.Refused, Header.version, Header.mark_right, Header.version_right, Header.header_refusal, Kinds.kind_of}
 use Rattle.table.specs.{Kinds.extremum, Laws.Kinds.extreme_since_lem, Nodes.node_at, Nodes.kind_right, Nodes.own_right, Nodes.node_right, Checked.or_header}

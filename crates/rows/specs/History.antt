@@ -1,5 +1,5 @@
 -- The rows of a run, as a rule reads them. Definitions only.
-use Rattle.words.specs.Prelude.{ℕ, ◌+◌, ◌-◌, ◌*◌, ◌/◌, ◌%◌, Bool, List, length, get_or, drop, eqb, Float}
+use Rattle.std.specs.Prelude.{ℕ, ◌+◌, ◌-◌, ◌*◌, ◌/◌, ◌%◌, Bool, List, length, get_or, drop, eqb, Float}
 use Rattle.words.specs.{Limits.row_words}
 use Rattle.floats.specs.{Floats.float_of}
 

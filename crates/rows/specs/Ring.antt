@@ -1,5 +1,5 @@
 -- A full room used as a ring: a row goes over the oldest and nothing moves. Definitions only.
-use Rattle.words.specs.Prelude.{ℕ, ◌+◌, ◌-◌, ◌*◌, ◌/◌, cond, List, ◌++◌, length, take, drop, ltb}
+use Rattle.std.specs.Prelude.{ℕ, ◌+◌, ◌-◌, ◌*◌, ◌/◌, cond, List, ◌++◌, length, take, drop, ltb}
 use Rattle.words.specs.{Words.overwrite}
 use Rattle.rows.specs.{declared.ring.Ring.Ring, History.History, History.history_of, Room.places_for}
 

@@ -1,5 +1,5 @@
 -- A lent room of rows, each as many words wide as the row that is added. Definitions only.
-use Rattle.words.specs.Prelude.{ℕ, ◌+◌, ◌*◌, ◌/◌, cond, List, ◌++◌, length, take, drop, ltb, eqb}
+use Rattle.std.specs.Prelude.{ℕ, ◌+◌, ◌*◌, ◌/◌, cond, List, ◌++◌, length, take, drop, ltb, eqb}
 
 -- how many rows of `row`'s width the room has a place for
 abbrev pub places_for : List ℕ → List ℕ → ℕ

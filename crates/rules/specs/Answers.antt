@@ -1,5 +1,5 @@
 -- What a rule of a table answers over rows and a position state, refusals and all. Definitions only.
-use Rattle.words.specs.Prelude.{ℕ, Bool, true, cond, ◌&&◌, List, ltb, leb}
+use Rattle.std.specs.Prelude.{ℕ, Bool, true, cond, ◌&&◌, List, ltb, leb}
 use Rattle.words.specs.{Limits.most_count, Outcome.refusal}
 use Rattle.rows.specs.{History.history_of, History.whole_rows}
 use Rattle.table.specs.{declared.answer.Answer.Answer, declared.answer.Answer.TheVariants.Accepted, declared.answer.Answer.TheVariants.Refused}

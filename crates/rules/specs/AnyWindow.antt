@@ -1,5 +1,6 @@
 -- THE WINDOW, whatever its length. Assumes nothing.
-use Rattle.words.specs.Prelude.{ℕ, ◌-◌, ◌≤◌, ◌<◌, ◌≡◌, refl, ap, Bool, true, false, not, cond, List, arith, leb, lt-leb, leb-true, leb-false}
+use Rattle.std.specs.Prelude.{ℕ, ◌-◌, ◌≤◌, ◌<◌, ◌≡◌, refl, Bool, true, false, not, cond, List, leb}
+use Rattle.words.specs.Prelude.{ap, arith, lt-leb, leb-true, leb-false}
 use Rattle.rows.specs.{History.History, History.history_of, History.last_rows}
 use Rattle.table.specs.{Trees.Condition, Trees.Conditions, Trees.compare, Trees.cross, Trees.between, Trees.trend, Trees.every, Trees.any, Trees.negated}
 use Rattle.table.specs.{Trees.in_position, Trees.bars_since, Trees.none, Trees.more, Trees.reach_of, Trees.reach_of_all, Silent.is_test, Silent.silent}

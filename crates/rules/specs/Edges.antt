@@ -1,5 +1,5 @@
 -- "Both sides of each edge": the starred cases 1 to 7, of the definitions themselves, as one table. Assumes nothing.
-use Rattle.words.specs.Prelude.{ℕ, ◌≡◌, refl, Bool, true, false, List, [], ◌∷◌, ◌++◌}
+use Rattle.std.specs.Prelude.{ℕ, ◌≡◌, refl, Bool, true, false, List, [], ◌∷◌, ◌++◌}
 use Rattle.floats.specs.{Floats.zero, Floats.abs}
 use Rattle.rows.specs.{History.history_of}
 use Rattle.table.specs.{Trees.Operand, Trees.const, Trees.price, Trees.ref, Trees.prev, Trees.arith, Trees.Condition, Trees.compare, Trees.cross, Trees.every}

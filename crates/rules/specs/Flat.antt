@@ -1,6 +1,6 @@
 -- The tree that stands at a node, read off the bytes and the array of subtree ends, whatever they are. On an accepted
 -- table it is the table's own tree. Definitions only.
-use Rattle.words.specs.Prelude.{ℕ, zero, suc, Bool, true, false, List}
+use Rattle.std.specs.Prelude.{ℕ, zero, suc, Bool, true, false, List}
 use Rattle.table.specs.{declared.series.Series.Series, Series.series_in, Trees.Operand, Trees.const, Trees.ref, Trees.price, Trees.prev, Trees.arith}
 use Rattle.table.specs.{Trees.extreme, Trees.Condition, Trees.Conditions, Trees.compare, Trees.cross, Trees.between, Trees.trend, Trees.every, Trees.any}
 use Rattle.table.specs.{Trees.negated, Trees.in_position, Trees.bars_since, Trees.none, Trees.more}

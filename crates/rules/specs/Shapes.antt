@@ -1,5 +1,5 @@
 -- How a node of the table is made up, read off its 16 bytes and the array of subtree ends. Definitions only.
-use Rattle.words.specs.Prelude.{ℕ, ◌+◌, true, false, cond, List, get_or, ltb, leb, eqb}
+use Rattle.std.specs.Prelude.{ℕ, ◌+◌, true, false, cond, List, get_or, ltb, leb, eqb}
 use Rattle.words.specs.{Limits.most_nodes}
 use Rattle.table.specs.{declared.nodes.Node.Node, declared.kinds.OperandClass.OperandClass, declared.kinds.ConditionClass.ConditionClass, Kinds.kind_of}
 use Rattle.table.specs.{Nodes.node_at}

@@ -1,5 +1,5 @@
 -- What a window that is too short does to a rule: each test that reaches back beyond it is struck out. Definitions only.
-use Rattle.words.specs.Prelude.{ℕ, cond}
+use Rattle.std.specs.Prelude.{ℕ, cond}
 use Rattle.table.specs.{Trees.Condition, Trees.Conditions, Trees.compare, Trees.cross, Trees.between, Trees.trend, Trees.every, Trees.any, Trees.negated}
 use Rattle.table.specs.{Trees.in_position, Trees.bars_since, Trees.none, Trees.more, Silent.silent}
 

@@ -1,5 +1,6 @@
 -- A test that reaches back as many bars as there are rows, or more, answers no. Assumes nothing.
-use Rattle.words.specs.Prelude.{ℕ, ◌-◌, ◌≤◌, ◌<◌, ◌≡◌, refl, sym, Bool, true, false, not, cond, true≢false, ◌&&◌, arith, ltb, leb, eqb, ltb-true, ltb-false}
+use Rattle.std.specs.Prelude.{ℕ, ◌-◌, ◌≤◌, ◌<◌, ◌≡◌, refl, Bool, true, false, not, cond, ◌&&◌, ltb, leb, eqb}
+use Rattle.words.specs.Prelude.{sym, true≢false, arith, ltb-true, ltb-false}
 use Rattle.words.specs.Prelude.{leb-true, leb-false, eqb-false}
 use Rattle.rows.specs.{History.History}
 use Rattle.table.specs.{Trees.Operand, Trees.const, Trees.ref, Trees.price, Trees.prev, Trees.arith as sums, Trees.extreme, Trees.reach, Trees.Condition}

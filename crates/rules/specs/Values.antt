@@ -1,5 +1,6 @@
 -- "What a rule means", the leaves: what a row, an operation, a comparison and the position give. Definitions only.
-use Rattle.words.specs.Prelude.{ℕ, ◌+◌, ◌-◌, ◌/◌, ◌%◌, ◌^◌, Bool, false, cond, ◌&&◌, List, get_or, ltb, leb, eqb, Float, nan}
+use Rattle.std.specs.Prelude.{ℕ, ◌+◌, ◌-◌, ◌/◌, ◌%◌, ◌^◌, Bool, false, cond, ◌&&◌, List, get_or, ltb, leb, eqb, Float}
+use Rattle.words.specs.Prelude.{nan}
 use Rattle.floats.specs.{Floats.◌⊕◌, Floats.◌⊖◌, Floats.◌⊗◌, Floats.◌⊘◌, Floats.◌≺◌, Floats.◌≼◌, Floats.float_of, Floats.abs, Floats.eps, Floats.three}
 use Rattle.floats.specs.{Floats.four}
 use Rattle.rules.specs.{declared.values.Value.Value, declared.values.Value.TheVariants.Missing, declared.values.Value.TheVariants.Number}

@@ -1,6 +1,7 @@
 -- The window: the last rows answer as the whole history does. Assumes nothing.
-use Rattle.words.specs.Prelude.{ℕ, zero, suc, ◌+◌, ◌-◌, ◌*◌, ◌/◌, ◌≤◌, ◌<◌, ◌≡◌, refl, sym, ap, fun_ext, ◌∙◌, Bool, true, false, not, List, arith}
-use Rattle.words.specs.Prelude.{le-div_iff_mul-le, mul-add-div_right, zero-mul, length, get_or, drop, length-drop, get_or-drop, ltb, leb, eqb, lt-ltb, le-ltb}
+use Rattle.std.specs.Prelude.{ℕ, zero, suc, ◌+◌, ◌-◌, ◌*◌, ◌/◌, ◌≤◌, ◌<◌, ◌≡◌, refl, Bool, true, false, not, List, length, get_or, drop, ltb, leb, eqb}
+use Rattle.words.specs.Prelude.{sym, ap, fun_ext, ◌∙◌, arith}
+use Rattle.words.specs.Prelude.{le-div_iff_mul-le, mul-add-div_right, zero-mul, length-drop, get_or-drop, lt-ltb, le-ltb}
 use Rattle.words.specs.Prelude.{ltb-true, ltb-false, leb-true, leb-false, ne_eqb}
 use Rattle.rows.specs.{History.History, History.history_of, History.last_rows}
 use Rattle.table.specs.{declared.series.Series.Series, declared.series.Series.TheVariants.Price, declared.series.Series.TheVariants.Slot, Trees.Operand}

@@ -1,5 +1,6 @@
 -- A rule answered over the window is the rule answered over all rows. Assumes nothing.
-use Rattle.words.specs.Prelude.{ℕ, ◌+◌, ◌-◌, ◌*◌, ◌%◌, ◌≤◌, ◌<◌, ◌≡◌, ap, ◌∙◌, List, arith, le-div_iff_mul-le, length, length-drop}
+use Rattle.std.specs.Prelude.{ℕ, ◌+◌, ◌-◌, ◌*◌, ◌%◌, ◌≤◌, ◌<◌, ◌≡◌, List, length}
+use Rattle.words.specs.Prelude.{ap, ◌∙◌, arith, le-div_iff_mul-le, length-drop}
 use Rattle.rows.specs.{History.history_of, History.whole_rows, History.last_rows}
 use Rattle.table.specs.{declared.answer.Answer.TheVariants.Accepted, Trees.reach_of, Header.slots, Checked.checked, Reading.tree_of, declared.trees.Tree.Tree}
 use Rattle.table.specs.{declared.trees.Tree.TheVariants.Entry, declared.trees.Tree.TheVariants.Exit, declared.trees.Tree.TheVariants.ShortEntry}

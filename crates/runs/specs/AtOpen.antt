@@ -1,5 +1,5 @@
 -- MARKET ORDERS BEHAVE AS BEFORE: a run whose order kind is market is the run of the engine that knew no other orders.
-use Rattle.words.specs.Prelude.{ℕ, ◌-◌, ◌≡◌, refl, Bool, true, false, cond, List, [], ◌∷◌, ◌++◌, ltb, Float}
+use Rattle.std.specs.Prelude.{ℕ, ◌-◌, ◌≡◌, refl, Bool, true, false, cond, List, [], ◌∷◌, ◌++◌, ltb, Float}
 use Rattle.rows.specs.{History.History, History.history_of}
 use Rattle.portfolio.specs.{declared.Candle.Candle}
 use Rattle.execution.specs.{declared.fills.Exit.TheVariants.NoExit, declared.level.Side.Side, declared.level.Side.TheVariants.Long}

@@ -1,5 +1,5 @@
 -- Request 6, for readers of a trade's last two words: what they come to over the bars from the entry bar on. Definitions only.
-use Rattle.words.specs.Prelude.{ℕ, ◌≡◌, ◌⊎◌, Bool, true, cond, List, [], ◌∷◌, Float}
+use Rattle.std.specs.Prelude.{ℕ, ◌≡◌, ◌⊎◌, Bool, true, cond, List, [], ◌∷◌, Float}
 use Rattle.floats.specs.{Floats.◌⊕◌, Floats.◌⊗◌, Floats.◌≼◌, Floats.finite}
 use Rattle.portfolio.specs.{Portfolio.worse}
 use Rattle.execution.specs.{declared.costs.Funding.Funding, declared.costs.Funding.TheVariants.NotSupplied, declared.costs.Funding.TheVariants.Supplied}

@@ -1,5 +1,5 @@
 -- "The starred eight are proved of the written rules, a single table under one statement."
-use Rattle.words.specs.Prelude.{ℕ, ◌≡◌, refl, true, false, List, [], ◌∷◌, Float}
+use Rattle.std.specs.Prelude.{ℕ, ◌≡◌, refl, true, false, List, [], ◌∷◌, Float}
 use Rattle.portfolio.specs.{Trade.stop_loss}
 use Rattle.rules.specs.{Edges.Said, Edges.answer, Edges.reaches, Edges.starred, Edges.edges}
 use Rattle.execution.specs.{Edges.num, Edges.seventy_five_and_a_half, Edges.stop_only, Edges.bar, Edges.stop_edges, Intrabar.intrabar_exit}

@@ -1,5 +1,5 @@
 -- The engine before request 6: these same definitions with the two words of the open trade left out. Definitions only.
-use Rattle.words.specs.Prelude.{ℕ, List, [], ◌∷◌, ◌++◌}
+use Rattle.std.specs.Prelude.{ℕ, List, [], ◌∷◌, ◌++◌}
 use Rattle.floats.specs.{Floats.zero}
 use Rattle.portfolio.specs.{declared.Portfolio.Portfolio, declared.Trade.Trade}
 use Rattle.execution.specs.{declared.fills.Exit.Exit, declared.fills.Exit.TheVariants.NoExit, declared.fills.Exit.TheVariants.Exited}

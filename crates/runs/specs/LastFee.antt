@@ -1,7 +1,8 @@
 -- Request 7. "the closing fee at finish reaches the trade but not the equity": after a finish nothing is missing any more, and a second
 -- finish changes nothing.
-use Rattle.words.specs.Prelude.{ℕ, ◌+◌, ◌-◌, ◌*◌, ◌≤◌, ◌<◌, ◌≡◌, refl, ◌∙◌, Bool, true, false, ◌&&◌, List, [], ◌∷◌, ◌++◌, append_assoc, le_of_lt, arith}
-use Rattle.words.specs.Prelude.{ltb-false, lt-ltb, le-leb, ltb, leb, length, take, drop, get_or, length-take-le, get_or-append-add, get_or-set_same}
+use Rattle.std.specs.Prelude.{ℕ, ◌+◌, ◌-◌, ◌*◌, ◌≤◌, ◌<◌, ◌≡◌, refl, Bool, true, false, ◌&&◌, List, [], ◌∷◌, ◌++◌, ltb, leb, length, take, drop, get_or}
+use Rattle.words.specs.Prelude.{◌∙◌, append_assoc, le_of_lt, arith}
+use Rattle.words.specs.Prelude.{ltb-false, lt-ltb, le-leb, length-take-le, get_or-append-add, get_or-set_same}
 use Rattle.words.specs.{Words.overwrite, Laws.Overwrite.overwrite_fits, Laws.Overwrite.overwrite-length}
 use Rattle.rules.specs.{declared.position.Entered.TheVariants.Never}
 use Rattle.floats.specs.{Floats.word_of}

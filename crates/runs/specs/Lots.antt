@@ -1,5 +1,6 @@
 -- Whole lots: with a lot of 0 no bar is refused with 16 and every run is what it was, and with any other what is entered is k·lot.
-use Rattle.words.specs.Prelude.{ℕ, ◌≡◌, refl, sym, ◌∙◌, true, false, List, [], ◌∷◌, ◌++◌, ◌⊎◌, inl, inr, Float}
+use Rattle.std.specs.Prelude.{ℕ, ◌≡◌, refl, true, false, List, [], ◌∷◌, ◌++◌, ◌⊎◌, Float}
+use Rattle.words.specs.Prelude.{sym, ◌∙◌, inl, inr}
 use Rattle.floats.specs.{Floats.zero}
 use Rattle.rows.specs.{History.History, History.history_of}
 use Rattle.portfolio.specs.{declared.Candle.Candle}

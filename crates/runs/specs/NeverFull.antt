@@ -1,6 +1,6 @@
 -- Where the equity and trade rooms have a place for every bar, and the bars are no more than 4,294,967,295, no bar is refused with 14.
-use Rattle.words.specs.Prelude.{ℕ, ◌+◌, ◌≤◌, ◌<◌, ◌≡◌, refl, sym, ◌∙◌, Bool, true, false, cond, not, ◌&&◌, ◌||◌, List, [], ◌∷◌, ◌++◌, arith, lt-ltb, eqb-false}
-use Rattle.words.specs.Prelude.{eqb, length}
+use Rattle.std.specs.Prelude.{ℕ, ◌+◌, ◌≤◌, ◌<◌, ◌≡◌, refl, Bool, true, false, cond, not, ◌&&◌, ◌||◌, List, [], ◌∷◌, ◌++◌, eqb, length}
+use Rattle.words.specs.Prelude.{sym, ◌∙◌, arith, lt-ltb, eqb-false}
 use Rattle.words.specs.{Limits.most_count, Outcome.refusal}
 use Rattle.records.specs.{declared.settings.Settings.Settings, declared.state.State.State, Lent.Lists, Lent.Rooms, Lent.point_places, Lent.trade_places}
 use Rattle.refusals.specs.{declared.verdict.Verdict.Verdict, declared.verdict.Verdict.TheVariants.Fine, declared.verdict.Verdict.TheVariants.Bad}

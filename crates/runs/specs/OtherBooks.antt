@@ -1,6 +1,7 @@
 -- Firmware with little memory: the caller may empty the equity and trade rooms between any two bars. Orders, position, later points and
 -- later trades are the same, as long as no room is full.
-use Rattle.words.specs.Prelude.{ℕ, ◌+◌, ◌≤◌, ◌≡◌, refl, sym, ◌∙◌, List, ◌++◌, arith}
+use Rattle.std.specs.Prelude.{ℕ, ◌+◌, ◌≤◌, ◌≡◌, refl, List, ◌++◌}
+use Rattle.words.specs.Prelude.{sym, ◌∙◌, arith}
 use Rattle.portfolio.specs.{declared.Trade.Trade}
 use Rattle.records.specs.{declared.settings.Settings.Settings, declared.state.State.State, Lent.Lists, Lent.Rooms, Lent.rooms, Lent.row_places, State.fresh_state}
 use Rattle.engine.specs.{Books.Point, Books.held_points, Books.held_trades, Books.emptied, Boxes.Grown, Boxes.Sound, Boxes.NotFull, Boxes.Alike, Run.Run}

@@ -1,6 +1,7 @@
 -- Request 6: in every run, a trade's last two words are those of the bars from its entry bar on.
-use Rattle.words.specs.Prelude.{ℕ, ◌+◌, ◌≡◌, refl, sym, ap, ◌∙◌, Bool, true, false, cond, List, [], ◌∷◌, ◌++◌, append-nil, append_assoc, arith, Float, length}
-use Rattle.words.specs.Prelude.{take, length-append}
+use Rattle.std.specs.Prelude.{ℕ, ◌+◌, ◌≡◌, refl, Bool, true, false, cond, List, [], ◌∷◌, ◌++◌, Float, length, take}
+use Rattle.words.specs.Prelude.{sym, ap, ◌∙◌, append-nil, append_assoc, arith}
+use Rattle.words.specs.Prelude.{length-append}
 use Rattle.floats.specs.{Floats.◌⊗◌, Floats.◌≺◌, Floats.eps, Floats.zero}
 use Rattle.rows.specs.{History.History, History.history_of}
 use Rattle.rules.specs.{declared.position.Entered.Entered as EntryBar, declared.position.Entered.TheVariants.Bar}

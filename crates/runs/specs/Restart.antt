@@ -1,7 +1,8 @@
 -- Request 11. "From a whole image of a state reached from a fresh one, with the same table and settings and empty trade and equity rooms
 -- counted from 0, further bars give the trades, equity points and decisions that the unbroken run gives for them, until either refuses."
 -- What an image holds of a box is said here without its bytes: the account, and the last D rows.
-use Rattle.words.specs.Prelude.{ℕ, ◌≤◌, ◌≡◌, sym, ap, ◌∙◌, List, [], arith}
+use Rattle.std.specs.Prelude.{ℕ, ◌≤◌, ◌≡◌, List, []}
+use Rattle.words.specs.Prelude.{sym, ap, ◌∙◌, arith}
 use Rattle.records.specs.{declared.settings.Settings.Settings, declared.state.State.State, Lent.Lists, Lent.Rooms, Lent.row_places, State.fresh_state}
 use Rattle.engine.specs.{Books.held_points, Books.held_trades, Boxes.Alike, Boxes.NotFull, Boxes.Sound, Run.Run, Run.run_over, Whole.Account, Whole.account_of}
 use Rattle.engine.specs.{Whole.rows_held, Whole.last_of}

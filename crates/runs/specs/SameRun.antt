@@ -1,5 +1,6 @@
 -- Two boxes with room for D rows or more, and books of the same size, differ in their rows alone, bar after bar and at the end.
-use Rattle.words.specs.Prelude.{ℕ, ◌*◌, ◌≤◌, ◌≡◌, refl, sym, ◌∙◌, List, []}
+use Rattle.std.specs.Prelude.{ℕ, ◌*◌, ◌≤◌, ◌≡◌, refl, List, []}
+use Rattle.words.specs.Prelude.{sym, ◌∙◌}
 use Rattle.records.specs.{declared.settings.Settings.Settings, declared.state.State.State, Lent.Lists, Lent.Rooms, Lent.row_places, Lent.point_places}
 use Rattle.records.specs.{Lent.trade_places, State.fresh_state}
 use Rattle.refusals.specs.{Judgement.finish_judged}

@@ -2,7 +2,7 @@
 -- D rows and a run that keeps everything give equal trades, equity, state other than the rows and their count, and metrics, after every
 -- bar and for volatility sizing too, over any number of bars until the first refusal. A refusal of any kind but 10 falls at the same
 -- bar in both."
-use Rattle.words.specs.Prelude.{ℕ, ◌≤◌, ◌≡◌, List, length, take}
+use Rattle.std.specs.Prelude.{ℕ, ◌≤◌, ◌≡◌, List, length, take}
 use Rattle.words.specs.{declared.refusal.Refusal.Refusal}
 use Rattle.records.specs.{declared.settings.Settings.Settings, Lent.Lists, Lent.Rooms, Lent.row_places, Lent.point_places, Lent.trade_places, State.fresh_state}
 use Rattle.refusals.specs.{declared.verdict.Verdict.TheVariants.Bad}

@@ -1,7 +1,8 @@
 -- 16 is given exactly when nothing before it is, an entry is due and the bar reaches it, the lot is not 0, and a quotient is 2^53 or more: the
 -- probe's, the size's or that of the share (entries/specs/InLots.antt).
-use Rattle.words.specs.Prelude.{ℕ, zero, suc, ◌<◌, ◌-◌, ◌≡◌, refl, sym, ap, ◌∙◌, Bool, true, false, not, cond, ◌&&◌, true≢false, List, [], ◌∷◌, arith, ltb}
-use Rattle.words.specs.Prelude.{Float, ltb-true, ltb-false, lt-ltb}
+use Rattle.std.specs.Prelude.{ℕ, zero, suc, ◌<◌, ◌-◌, ◌≡◌, refl, Bool, true, false, not, cond, ◌&&◌, List, [], ◌∷◌, ltb, Float}
+use Rattle.words.specs.Prelude.{sym, ap, ◌∙◌, true≢false, arith}
+use Rattle.words.specs.Prelude.{ltb-true, ltb-false, lt-ltb}
 use Rattle.words.specs.{declared.refusal.Refusal.Refusal, Outcome.refusal}
 use Rattle.rows.specs.{History.History, History.history_of}
 use Rattle.portfolio.specs.{declared.Candle.Candle}

@@ -1,5 +1,5 @@
 -- The call that steps over many bars (request 3). Definitions only.
-use Rattle.words.specs.Prelude.{ℕ, Bool, false, cond, List, eqb}
+use Rattle.std.specs.Prelude.{ℕ, Bool, false, cond, List, eqb}
 use Rattle.words.specs.{Words.overwrite}
 use Rattle.records.specs.{declared.state.State.State, Lent.Rooms, Lent.Lists, Settings.settings_of, StateWords.state_of, StateWords.words_of}
 use Rattle.refusals.specs.{declared.verdict.Verdict.Verdict, declared.verdict.Verdict.TheVariants.Fine, declared.verdict.Verdict.TheVariants.Bad, Lines.Line}

@@ -1,5 +1,5 @@
 -- A run through the C interface: a call of ysh_step for each bar, over the words that the one before left. Definitions only.
-use Rattle.words.specs.Prelude.{ℕ, ◌+◌, cond, List, [], ◌∷◌, eqb}
+use Rattle.std.specs.Prelude.{ℕ, ◌+◌, cond, List, [], ◌∷◌, eqb}
 use Rattle.words.specs.{Words.overwrite}
 use Rattle.records.specs.{declared.state.State.State, Lent.Rooms, Lent.Lists, StateWords.words_of}
 use Rattle.refusals.specs.{declared.verdict.Verdict.Verdict, declared.verdict.Verdict.TheVariants.Fine, declared.verdict.Verdict.TheVariants.Bad}

@@ -1,6 +1,7 @@
 -- A well-formed list, wherever it comes from, answers over the last D rows what it answers over all, and visits the same steps.
-use Rattle.words.specs.Prelude.{ℕ, zero, suc, ◌+◌, ◌-◌, ◌/◌, ◌%◌, ◌≤◌, ◌<◌, min, ◌≡◌, refl, sym, ap, ◌∙◌, ⊎_elim, Bool, true, false, cond, ◌&&◌, List, [], ◌∷◌}
-use Rattle.words.specs.Prelude.{arith, zero-mul, ltb, eqb, length, lt-ltb, le-ltb, ltb-true, ltb-false}
+use Rattle.std.specs.Prelude.{ℕ, zero, suc, ◌+◌, ◌-◌, ◌/◌, ◌%◌, ◌≤◌, ◌<◌, min, ◌≡◌, refl, Bool, true, false, cond, ◌&&◌, List, [], ◌∷◌, ltb, eqb, length}
+use Rattle.words.specs.Prelude.{sym, ap, ◌∙◌, ⊎_elim}
+use Rattle.words.specs.Prelude.{arith, zero-mul, lt-ltb, le-ltb, ltb-true, ltb-false}
 use Rattle.words.specs.{Limits.most_steps, Laws.Numbers.less_or_not}
 use Rattle.rows.specs.{History.History, History.history_of, History.width, History.last_rows, Ring.ring_of, Ring.turned, Laws.Ring.SameRows, Laws.Ring.ring_turned}
 use Rattle.table.specs.{declared.series.Series.Series, Trees.Operand, Trees.const, Trees.ref, Trees.price, Trees.extreme, Trees.reach}

@@ -1,5 +1,5 @@
 -- Which list is run to leave a position. Definitions only.
-use Rattle.words.specs.Prelude.{cond, List, [], ℕ, Float}
+use Rattle.std.specs.Prelude.{cond, List, [], ℕ, Float}
 use Rattle.floats.specs.{Floats.◌≺◌, Floats.zero}
 use Rattle.rules.specs.{Values.held}
 

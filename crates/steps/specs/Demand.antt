@@ -1,5 +1,6 @@
 -- DEMAND 3 in one statement, from the bytes of a table to the answer of the public run.
-use Rattle.words.specs.Prelude.{ℕ, ◌+◌, ◌*◌, ◌≤◌, ◌<◌, ◌≡◌, refl, ap, ◌∙◌, Bool, true, false, cond, List, ◌++◌, arith, ltb, length, take, drop, take_at, le-ltb}
+use Rattle.std.specs.Prelude.{ℕ, ◌+◌, ◌*◌, ◌≤◌, ◌<◌, ◌≡◌, refl, Bool, true, false, cond, List, ◌++◌, ltb, length, take, drop}
+use Rattle.words.specs.Prelude.{ap, ◌∙◌, arith, take_at, le-ltb}
 use Rattle.words.specs.Prelude.{ltb-false}
 use Rattle.words.specs.{Limits.most_rows, Limits.most_reach, Outcome.refusal}
 use Rattle.rows.specs.{History.history_of, History.last_rows, History.whole_rows}

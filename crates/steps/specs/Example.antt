@@ -1,5 +1,5 @@
 -- The worked example of document 01 as steps: entry CrossAbove(slot 0, slot 1), exit Lt(close, Prev(close, 2)).
-use Rattle.words.specs.Prelude.{◌≡◌, refl, List, ◌∷◌, ◌++◌, ℕ, replicate}
+use Rattle.std.specs.Prelude.{◌≡◌, refl, List, ◌∷◌, ◌++◌, ℕ, replicate}
 use Rattle.table.specs.{Trees.ref, Trees.price, Trees.prev, Trees.compare, Trees.cross}
 use Rattle.steps.specs.{Bytes.step_of, Bytes.step_bytes, Bytes.bytes_of, Translation.code, Translation.code_of}
 use Rattle.table.specs.Named as Named

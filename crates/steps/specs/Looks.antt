@@ -1,5 +1,5 @@
 -- A look over rows that lie one after the other in the words, for the code alone: a look has no end of them. Definitions only.
-use Rattle.words.specs.Prelude.{ℕ, zero, suc, ◌+◌, ◌*◌, ◌<◌, ◌≡◌, Bool, true, false, List, Float}
+use Rattle.std.specs.Prelude.{ℕ, zero, suc, ◌+◌, ◌*◌, ◌<◌, ◌≡◌, Bool, true, false, List, Float}
 use Rattle.table.specs.{declared.series.Series.Series, declared.series.Series.TheVariants.Price, declared.series.Series.TheVariants.Slot}
 use Rattle.rules.specs.{declared.values.Value.Value, declared.values.Value.TheVariants.Number, Values.words_from, Values.price_of, Values.slot_of, Values.pick}
 

@@ -1,5 +1,6 @@
 -- "a value not there counts as missing", and every value is kept: a well_formed list that holds 65 values at once, from elsewhere.
-use Rattle.words.specs.Prelude.{ℕ, zero, suc, ◌+◌, ◌-◌, ◌≤◌, ◌≡◌, refl, Bool, true, false, cond, List, [], ◌∷◌, arith, ltb, le-ltb}
+use Rattle.std.specs.Prelude.{ℕ, zero, suc, ◌+◌, ◌-◌, ◌≤◌, ◌≡◌, refl, Bool, true, false, cond, List, [], ◌∷◌, ltb}
+use Rattle.words.specs.Prelude.{arith, le-ltb}
 use Rattle.words.specs.{Limits.most_slots, Limits.most_rows}
 use Rattle.floats.specs.{Floats.float_of}
 use Rattle.rows.specs.{History.History, History.history_of, History.whole_rows}

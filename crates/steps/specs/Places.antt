@@ -1,5 +1,6 @@
 -- A run with so many places for values, for the code alone: the machine of Machine.antt has no end of them. Definitions only.
-use Rattle.words.specs.Prelude.{ℕ, ◌+◌, ◌-◌, ◌*◌, ◌<◌, ◌≤◌, ◌≡◌, Bool, true, false, cond, List, [], Float, nan, ltb, length, get_or, replicate, set}
+use Rattle.std.specs.Prelude.{ℕ, ◌+◌, ◌-◌, ◌*◌, ◌<◌, ◌≤◌, ◌≡◌, Bool, true, false, cond, List, [], Float, ltb, length, get_or, replicate, set}
+use Rattle.words.specs.Prelude.{nan}
 use Rattle.rows.specs.{History.History}
 use Rattle.rules.specs.{declared.position.PositionState.PositionState, declared.values.Value.Value, declared.values.Value.TheVariants.Missing}
 use Rattle.rules.specs.{declared.values.Value.TheVariants.Number, Values.crossed, Values.within}

@@ -1,5 +1,5 @@
 -- What a list of steps answers over rows and a position state, refusals and all. Definitions only.
-use Rattle.words.specs.Prelude.{ℕ, cond, ◌&&◌, List, ltb}
+use Rattle.std.specs.Prelude.{ℕ, cond, ◌&&◌, List, ltb}
 use Rattle.words.specs.{Limits.most_slots, Limits.most_rows, Outcome.refusal}
 use Rattle.rows.specs.{History.history_of, History.whole_rows}
 use Rattle.rules.specs.{declared.position.PositionState.PositionState, Answers.state_right}

@@ -1,5 +1,6 @@
 -- What the steps of a table's tree answer over a window of any length, too short ones as well.
-use Rattle.words.specs.Prelude.{ℕ, ◌*◌, ◌≤◌, ◌<◌, ◌≡◌, ◌∙◌, true, List, take, arith, le-ltb}
+use Rattle.std.specs.Prelude.{ℕ, ◌*◌, ◌≤◌, ◌<◌, ◌≡◌, true, List, take}
+use Rattle.words.specs.Prelude.{◌∙◌, arith, le-ltb}
 use Rattle.words.specs.{Limits.most_slots, Limits.most_rows}
 use Rattle.rows.specs.{History.history_of, History.last_rows, History.whole_rows}
 use Rattle.table.specs.{declared.answer.Answer.TheVariants.Accepted, Trees.reach_of, Header.slots, Checked.checked, Reading.tree_of, Laws.Accepted.header_of_lem}

@@ -1,5 +1,5 @@
 -- D cannot be smaller: for each kind that looks back, rows on which the steps answer yes over D = reach + 1 of them and no over one less.
-use Rattle.words.specs.Prelude.{ℕ, ◌+◌, ◌≡◌, refl, Bool, true, false, List, [], ◌∷◌, ◌++◌}
+use Rattle.std.specs.Prelude.{ℕ, ◌+◌, ◌≡◌, refl, Bool, true, false, List, [], ◌∷◌, ◌++◌}
 use Rattle.floats.specs.{Floats.zero, Floats.abs}
 use Rattle.rows.specs.{History.history_of, History.last_rows}
 use Rattle.table.specs.{Trees.Operand, Trees.const, Trees.ref, Trees.price, Trees.prev, Trees.Condition, Trees.compare, Trees.cross, Trees.trend, Trees.reach}

@@ -1,5 +1,5 @@
 -- What the translation of a tree of a table answers, and what it leaves in the lent room. Definitions only.
-use Rattle.words.specs.Prelude.{ℕ, ◌+◌, ◌*◌, cond, List, [], ◌++◌, length, drop, ltb}
+use Rattle.std.specs.Prelude.{ℕ, ◌+◌, ◌*◌, cond, List, [], ◌++◌, length, drop, ltb}
 use Rattle.words.specs.{Outcome.refusal}
 use Rattle.table.specs.{declared.answer.Answer.Answer, declared.answer.Answer.TheVariants.Accepted, declared.answer.Answer.TheVariants.Refused, Header.count}
 use Rattle.table.specs.{Checked.checked, Reading.tree_of, Reading.present, declared.trees.Tree.Tree, Header.tree_number}

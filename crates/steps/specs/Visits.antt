@@ -1,6 +1,7 @@
 -- "The definition of a run gives the places visited, in rising order, .. never more than the list holds." And how many visits they count
 -- (request 8): at most the list's length plus the sum of n − 1 over its steps of Highest and Lowest; every other step counts once.
-use Rattle.words.specs.Prelude.{ℕ, zero, suc, ◌+◌, ◌-◌, ◌≤◌, Bool, List, [], ◌∷◌, ◌≡◌, refl, arith, length}
+use Rattle.std.specs.Prelude.{ℕ, zero, suc, ◌+◌, ◌-◌, ◌≤◌, Bool, List, [], ◌∷◌, ◌≡◌, refl, length}
+use Rattle.words.specs.Prelude.{arith}
 use Rattle.rows.specs.{History.History}
 use Rattle.rules.specs.{declared.position.PositionState.PositionState, declared.values.Value.Value}
 use Rattle.steps.specs.{declared.step.Op.Op, declared.step.Op.TheVariants.Const, declared.step.Op.TheVariants.Ref, declared.step.Op.TheVariants.Price}

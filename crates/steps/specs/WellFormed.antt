@@ -1,5 +1,5 @@
 -- Which lists of steps are well formed. Definitions only.
-use Rattle.words.specs.Prelude.{ℕ, zero, suc, ◌+◌, ◌-◌, ◌%◌, Bool, true, false, cond, ◌&&◌, List, length, ltb, leb, eqb}
+use Rattle.std.specs.Prelude.{ℕ, zero, suc, ◌+◌, ◌-◌, ◌%◌, Bool, true, false, cond, ◌&&◌, List, length, ltb, leb, eqb}
 use Rattle.words.specs.{Limits.most_steps}
 use Rattle.table.specs.{declared.series.Series.Series}
 use Rattle.steps.specs.{declared.step.Step.Step, declared.wellformed.Formed.Formed, declared.wellformed.Formed.TheVariants.Well}

@@ -1,5 +1,6 @@
 -- What the steps of an accepted table's tree answer over a window of rows: the theorems that a user rests on.
-use Rattle.words.specs.Prelude.{ℕ, ◌+◌, ◌≤◌, ◌<◌, ◌≡◌, refl, ◌∙◌, true, List, [], arith, eq-zero-or-pos, ⊎_elim, length, eq-eqb, ne_eqb, le-ltb}
+use Rattle.std.specs.Prelude.{ℕ, ◌+◌, ◌≤◌, ◌<◌, ◌≡◌, refl, true, List, [], length}
+use Rattle.words.specs.Prelude.{◌∙◌, arith, eq-zero-or-pos, ⊎_elim, eq-eqb, ne_eqb, le-ltb}
 use Rattle.words.specs.{Limits.most_slots, Limits.most_rows, Limits.most_reach, Limits.most_steps}
 use Rattle.rows.specs.{History.History, History.history_of, History.last_rows, History.whole_rows}
 use Rattle.table.specs.{declared.answer.Answer.TheVariants.Accepted, Trees.reach_of, Header.slots, Header.count, Header.root, Header.form_of, Checked.checked}

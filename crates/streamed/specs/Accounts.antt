@@ -1,6 +1,6 @@
 -- Four accounts on one stream (request 14), on words. "Each account has its table, settings, state and rooms; the bar and the slots are shared."
 -- Definitions only.
-use Rattle.words.specs.Prelude.{ℕ, ◌+◌, ◌/◌, ◌%◌, ◌^◌, cond, List, [], ◌∷◌, map, leb, eqb, length}
+use Rattle.std.specs.Prelude.{ℕ, ◌+◌, ◌/◌, ◌%◌, ◌^◌, cond, List, [], ◌∷◌, map, leb, eqb, length}
 use Rattle.words.specs.{Limits.bar_words, Words.word, Words.overwrite}
 use Rattle.records.specs.{Lent.Rooms, Lent.Lists, Lent.rooms, Lent.lists, Settings.settings_of}
 use Rattle.refusals.specs.{declared.verdict.Verdict.Verdict, declared.verdict.Verdict.TheVariants.Fine, declared.verdict.Verdict.TheVariants.Bad, Lines.Line}

@@ -1,5 +1,5 @@
 -- Numbers in a table's bytes. Definitions only.
-use Rattle.words.specs.Prelude.{List, ℕ, ◌+◌, ◌*◌, ◌<◌, get_or}
+use Rattle.std.specs.Prelude.{List, ℕ, ◌+◌, ◌*◌, ◌<◌, get_or}
 
 -- "Little-endian." A byte past the end counts as 0, so that every place of every byte string has a number.
 unfoldable pub u16 : List ℕ → ℕ → ℕ

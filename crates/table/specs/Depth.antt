@@ -1,5 +1,5 @@
 -- How many rows a rule rules. Definitions only.
-use Rattle.words.specs.Prelude.{ℕ, ◌+◌, ◌*◌, max, List}
+use Rattle.std.specs.Prelude.{ℕ, ◌+◌, ◌*◌, max, List}
 use Rattle.words.specs.{Limits.row_words}
 use Rattle.table.specs.{Trees.reach_of, Reading.tree_of, Header.slots}
 

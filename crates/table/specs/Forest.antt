@@ -1,5 +1,5 @@
 -- Trees in a row, as the nodes of a table make them in prefix order, whatever their bytes are. Definitions only.
-use Rattle.words.specs.Prelude.{◌≡◌, true, List, [], ◌∷◌, ◌++◌, ℕ, zero, suc, ◌+◌, replicate}
+use Rattle.std.specs.Prelude.{◌≡◌, true, List, [], ◌∷◌, ◌++◌, ℕ, zero, suc, ◌+◌, replicate}
 use Rattle.table.specs.{declared.nodes.Node.Node, Kinds.kind_of, Header.count, Header.root, Nodes.node_at, Nodes.child_count, Nodes.child_count_at}
 use Rattle.table.specs.{Nodes.child_fits}
 

@@ -1,5 +1,5 @@
 -- The header, and the rules 1 to 5. Definitions only.
-use Rattle.words.specs.Prelude.{Bool, not, cond, ◌&&◌, List, ℕ, zero, suc, ◌+◌, ◌*◌, length, get_or, ltb, leb, eqb}
+use Rattle.std.specs.Prelude.{Bool, not, cond, ◌&&◌, List, ℕ, zero, suc, ◌+◌, ◌*◌, length, get_or, ltb, leb, eqb}
 use Rattle.words.specs.{Limits.most_slots, Limits.most_nodes}
 use Rattle.table.specs.{Bytes.u16, declared.header.Form.Form, declared.trees.Tree.Tree, declared.trees.Tree.TheVariants.Entry}
 use Rattle.table.specs.{declared.trees.Tree.TheVariants.Exit, declared.trees.Tree.TheVariants.ShortEntry, declared.trees.Tree.TheVariants.ShortExit}

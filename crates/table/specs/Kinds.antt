@@ -1,5 +1,5 @@
 -- The table of kinds: what a node of each kind takes. `Named` has the kinds by name. Definitions only.
-use Rattle.words.specs.Prelude.{List, [], ◌∷◌, ℕ, Bool, ◌&&◌, eqb, get_or}
+use Rattle.std.specs.Prelude.{List, [], ◌∷◌, ℕ, Bool, ◌&&◌, eqb, get_or}
 use Rattle.table.specs.{declared.kinds.Kind.Kind, declared.kinds.OperandClass.OperandClass, declared.kinds.ConditionClass.ConditionClass}
 use Rattle.table.specs.{declared.kinds.Row.Row, declared.kinds.OperandClass.TheVariants.NoOperand, declared.kinds.OperandClass.TheVariants.Const}
 use Rattle.table.specs.{declared.kinds.OperandClass.TheVariants.Ref, declared.kinds.OperandClass.TheVariants.Price}

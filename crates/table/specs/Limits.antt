@@ -1,5 +1,5 @@
 -- The limits that document 01 sets a rule's trees. Definitions only.
-use Rattle.words.specs.Prelude.{◌≡◌, true, ℕ, ◌+◌, ◌≤◌, ◌<◌, max}
+use Rattle.std.specs.Prelude.{◌≡◌, true, ℕ, ◌+◌, ◌≤◌, ◌<◌, max}
 use Rattle.words.specs.{Limits.most_slots, Limits.most_reach, Limits.most_nesting, Limits.most_nodes}
 use Rattle.floats.specs.{Floats.finite, Floats.float_of}
 use Rattle.table.specs.{declared.header.Form.Form, declared.series.Series.Series, declared.series.Series.TheVariants.Price}

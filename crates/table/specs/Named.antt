@@ -1,5 +1,5 @@
 -- The kinds by name: the number of each. Definitions only.
-use Rattle.words.specs.Prelude.{ℕ}
+use Rattle.std.specs.Prelude.{ℕ}
 
 -- "1 Const (constant, finite); 2 Ref (n = slot, below K); 3 Price (selector 0..6 ..); 4 Prev (n; one operand)"
 abbrev pub const : ℕ

@@ -1,5 +1,5 @@
 -- Rule 8: nesting. Definitions only.
-use Rattle.words.specs.Prelude.{List, ℕ, zero, suc}
+use Rattle.std.specs.Prelude.{List, ℕ, zero, suc}
 use Rattle.words.specs.{Limits.most_nesting}
 use Rattle.table.specs.{declared.places.Place.Place, declared.places.Place.TheVariants.Nowhere, declared.places.Place.TheVariants.At, Order.or_place}
 use Rattle.table.specs.{Order.of_four, Forest.Forest, Forest.none, Forest.tree, Forest.forest_of}

@@ -1,5 +1,5 @@
 -- Nodes, and rule 6. Definitions only.
-use Rattle.words.specs.Prelude.{Bool, true, not, cond, ◌&&◌, List, ℕ, zero, suc, ◌+◌, ◌*◌, get_or, ltb, leb, eqb}
+use Rattle.std.specs.Prelude.{Bool, true, not, cond, ◌&&◌, List, ℕ, zero, suc, ◌+◌, ◌*◌, get_or, ltb, leb, eqb}
 use Rattle.words.specs.{Limits.most_reach}
 use Rattle.floats.specs.{Floats.finite, Floats.float_of}
 use Rattle.table.specs.{declared.kinds.Kind.Kind, declared.nodes.Node.Node, declared.header.Form.Form, declared.places.Place.Place}

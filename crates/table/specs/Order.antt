@@ -1,5 +1,5 @@
 -- Rule 7: "each tree in prefix order". Definitions only.
-use Rattle.words.specs.Prelude.{cond, List, [], ◌∷◌, ◌++◌, ℕ, zero, suc, ◌+◌, replicate, eqb}
+use Rattle.std.specs.Prelude.{cond, List, [], ◌∷◌, ◌++◌, ℕ, zero, suc, ◌+◌, replicate, eqb}
 use Rattle.table.specs.{declared.places.Place.Place, declared.places.Place.TheVariants.Nowhere, declared.places.Place.TheVariants.At, Header.count}
 use Rattle.table.specs.{Header.root, Nodes.sort_at, Nodes.child_count_at, Nodes.child_sort_at, Nodes.child_fits_at}
 

@@ -1,6 +1,6 @@
 -- What the parts of the check promise each other while they work: statements about the arrays that the passes fill.
 -- Definitions only, and none of them is in a promise of `check`.
-use Rattle.words.specs.Prelude.{◌≡◌, cond, List, ◌∷◌, ℕ, ◌+◌, ◌-◌, ◌*◌, ◌≤◌, ◌<◌, min, length, get_or, ltb, eqb}
+use Rattle.std.specs.Prelude.{◌≡◌, cond, List, ◌∷◌, ℕ, ◌+◌, ◌-◌, ◌*◌, ◌≤◌, ◌<◌, min, length, get_or, ltb, eqb}
 use Rattle.words.specs.{Limits.most_rows, Limits.most_nodes}
 use Rattle.table.specs.{declared.nodes.Node.Node, declared.places.Place.Place, declared.places.Place.TheVariants.At, Header.total, Header.root}
 use Rattle.table.specs.{Nodes.sort_at, Nodes.child_count_at, Order.fits, Forest.first_trees, Forest.trees, Reach.weigh, Reach.own_back, Ends.Linked}

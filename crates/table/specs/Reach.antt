@@ -1,5 +1,5 @@
 -- Rule 9: how far back a tree reads. Definitions only.
-use Rattle.words.specs.Prelude.{cond, List, ℕ, ◌+◌, ◌-◌, max, ltb, eqb}
+use Rattle.std.specs.Prelude.{cond, List, ℕ, ◌+◌, ◌-◌, max, ltb, eqb}
 use Rattle.words.specs.{Limits.most_reach}
 use Rattle.table.specs.{declared.kinds.Kind.Kind, declared.nodes.Node.Node, declared.places.Place.Place, declared.places.Place.TheVariants.Nowhere}
 use Rattle.table.specs.{declared.places.Place.TheVariants.At, Kinds.kind_of, Header.root, Order.of_four, Forest.Forest, Forest.none, Forest.tree}

@@ -1,6 +1,6 @@
 -- The trees of a table as trees: read off the forest of its nodes, each node over what is below it. Bytes that are no
 -- accepted table read as some tree too; RoundTrip says why the reading is right. Definitions only.
-use Rattle.words.specs.Prelude.{Bool, not, List, [], ◌∷◌, ℕ, ◌-◌, get_or, eqb}
+use Rattle.std.specs.Prelude.{Bool, not, List, [], ◌∷◌, ℕ, ◌-◌, get_or, eqb}
 use Rattle.table.specs.{declared.nodes.Node.Node, declared.kinds.OperandClass.OperandClass, declared.kinds.ConditionClass.ConditionClass, Kinds.kind_of}
 use Rattle.table.specs.{Header.count, Forest.Forest, Forest.first_trees, Forest.trees, Forest.forest_of, Trees.Operand, Trees.const, Trees.ref, Trees.price}
 use Rattle.table.specs.{Trees.prev, Trees.arith, Trees.extreme, Trees.Condition, Trees.Conditions, Trees.compare, Trees.cross, Trees.between, Trees.trend}

@@ -1,5 +1,5 @@
 -- What Highest and Lowest look over: "one child that must be a Price or a Ref". Definitions only.
-use Rattle.words.specs.Prelude.{List, ℕ}
+use Rattle.std.specs.Prelude.{List, ℕ}
 use Rattle.table.specs.{declared.nodes.Node.Node, declared.kinds.OperandClass.OperandClass, declared.series.Series.Series}
 use Rattle.table.specs.{declared.series.Series.TheVariants.Price, declared.series.Series.TheVariants.Slot, Kinds.kind_of, Nodes.node_at, Trees.Operand}
 use Rattle.table.specs.{Trees.const, Trees.ref, Trees.price, Trees.prev, Trees.arith, Trees.extreme}

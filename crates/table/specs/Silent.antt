@@ -1,5 +1,5 @@
 -- The tests of a table that fall silent over so few rows. Definitions only.
-use Rattle.words.specs.Prelude.{ℕ, ◌+◌, ◌<◌, min, Bool, true, false, cond, ◌&&◌, List, [], ◌∷◌, ◌++◌, ltb, leb, length, drop, set}
+use Rattle.std.specs.Prelude.{ℕ, ◌+◌, ◌<◌, min, Bool, true, false, cond, ◌&&◌, List, [], ◌∷◌, ◌++◌, ltb, leb, length, drop, set}
 use Rattle.words.specs.{Limits.most_rows, Outcome.refusal}
 use Rattle.table.specs.{declared.nodes.Node.Node, declared.answer.Answer.Answer, declared.answer.Answer.TheVariants.Accepted}
 use Rattle.table.specs.{declared.answer.Answer.TheVariants.Refused, declared.silent.SilentAnswer.SilentAnswer}

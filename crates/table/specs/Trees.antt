@@ -1,5 +1,5 @@
 -- The trees that a table holds, as trees, and how far back each one reads.
-use Rattle.words.specs.Prelude.{Bool, ℕ, ◌+◌, ◌-◌, max}
+use Rattle.std.specs.Prelude.{Bool, ℕ, ◌+◌, ◌-◌, max}
 use Rattle.table.specs.{declared.series.Series.Series}
 
 -- "Kinds: 1 Const (constant, finite); 2 Ref (n = slot, below K); 3 Price (selector 0..6: open, high, low, close, volume,

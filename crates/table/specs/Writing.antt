@@ -1,5 +1,5 @@
 -- Writing trees as a table: the other way round from reading. Definitions only.
-use Rattle.words.specs.Prelude.{cond, List, [], ◌∷◌, ◌++◌, ℕ, suc, ◌+◌, ◌/◌, ◌%◌}
+use Rattle.std.specs.Prelude.{cond, List, [], ◌∷◌, ◌++◌, ℕ, suc, ◌+◌, ◌/◌, ◌%◌}
 use Rattle.table.specs.{declared.nodes.Node.Node, declared.header.Form.Form, declared.series.Series.Series, declared.series.Series.TheVariants.Price}
 use Rattle.table.specs.{declared.series.Series.TheVariants.Slot, Trees.Operand, Trees.const, Trees.ref, Trees.price, Trees.prev, Trees.arith}
 use Rattle.table.specs.{Trees.extreme, Trees.Condition, Trees.Conditions, Trees.compare, Trees.cross, Trees.between, Trees.trend, Trees.every, Trees.any}

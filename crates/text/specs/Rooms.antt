@@ -1,5 +1,5 @@
 -- A room filled from a line, and a part of a room. Definitions only.
-use Rattle.words.specs.Prelude.{ℕ, ◌+◌, ◌-◌, ◌*◌, ◌/◌, ◌%◌, ◌^◌, cond, List, [], ◌∷◌, ltb, length, take, drop, get_or}
+use Rattle.std.specs.Prelude.{ℕ, ◌+◌, ◌-◌, ◌*◌, ◌/◌, ◌%◌, ◌^◌, cond, List, [], ◌∷◌, ltb, length, take, drop, get_or}
 
 -- those from one place up to another; none where there are not as many
 unfoldable pub part_of : List ℕ → ℕ → ℕ → List ℕ

@@ -1,5 +1,6 @@
 -- Floats as whole multiples of 2 ^ -1074, and whole numbers in two's complement. Definitions only.
-use Rattle.words.specs.Prelude.{Bool, true, false, cond, List, ℕ, suc, ◌+◌, ◌-◌, ◌%◌, ◌^◌, ℤ, pos, negsuc, neg_ℤ, leb, ltb, Float, binary64}
+use Rattle.std.specs.Prelude.{Bool, true, false, cond, List, ℕ, suc, ◌+◌, ◌-◌, ◌%◌, ◌^◌, ℤ, pos, negsuc, neg_ℤ, leb, ltb, Float}
+use Rattle.words.specs.Prelude.{binary64}
 use Rattle.floats.specs.{Root.units_of}
 use Rattle.totals.specs.{Number.number_of, Number.words_of, Number.place}
 use Rattle.std.specs.Float.Ieee as Ieee

@@ -1,7 +1,9 @@
 -- EXACT TOTALS: every way to total the same trades does its work and leaves the same 43 words. Assumes nothing.
-use Rattle.words.specs.Prelude.{◌≡◌, refl, sym, ap, subst, ◌∙◌, Bool, true, false, List, [], ◌∷◌, ◌++◌, append-nil, ℕ, zero, suc, ◌+◌, ◌/◌, ◌%◌, ◌≤◌}
-use Rattle.words.specs.Prelude.{arith, le-leb, eq-eqb, eqb, length, drop, replicate, length-append, take_at, drop-length, ℤ}
-use Rattle.words.specs.Prelude.{◌+ℤ◌, le, round, to_bits}
+use Rattle.std.specs.Prelude.{◌≡◌, refl, Bool, true, false, List, [], ◌∷◌, ◌++◌, ℕ, zero, suc, ◌+◌, ◌/◌, ◌%◌, ◌≤◌, eqb, length, drop, replicate, ℤ, ◌+ℤ◌}
+use Rattle.std.specs.Prelude.{to_bits}
+use Rattle.words.specs.Prelude.{sym, ap, subst, ◌∙◌, append-nil}
+use Rattle.words.specs.Prelude.{arith, le-leb, eq-eqb, length-append, take_at, drop-length}
+use Rattle.words.specs.Prelude.{le, round}
 use Rattle.words.specs.{Words.word, Words.overwrite, Limits.trade_words, Limits.most_count, Laws.Overwrite.overwrite_fits}
 use Rattle.floats.specs.{Floats.word_of, Floats.float_of, Floats.◌≼◌, Laws.Order.not_above}
 use Rattle.totals.specs.{Number.place, Number.words_of, declared.Answer.TheVariants.Done, Exact.number_in, Exact.words_for, Exact.nearest_to, Exact.residue}

@@ -1,5 +1,5 @@
 -- The record of totals, and the two calls that keep it. Definitions only.
-use Rattle.words.specs.Prelude.{Bool, true, false, cond, List, [], ◌∷◌, ◌++◌, ℕ, ◌+◌, ◌/◌, ◌%◌, ◌≤◌, leb, eqb, length, get_or, take, drop, ℤ, ◌+ℤ◌}
+use Rattle.std.specs.Prelude.{Bool, true, false, cond, List, [], ◌∷◌, ◌++◌, ℕ, ◌+◌, ◌/◌, ◌%◌, ◌≤◌, leb, eqb, length, get_or, take, drop, ℤ, ◌+ℤ◌}
 use Rattle.words.specs.{Words.word, Words.overwrite, Limits.trade_words, Limits.most_count, Outcome.refusal}
 use Rattle.floats.specs.{Floats.word_of}
 use Rattle.totals.specs.{declared.Answer.Answer, declared.Answer.TheVariants.Done, declared.Answer.TheVariants.Refused, Exact.number_in, Exact.words_for}

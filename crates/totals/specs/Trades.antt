@@ -1,5 +1,5 @@
 -- Trades as totals read them. Definitions only.
-use Rattle.words.specs.Prelude.{Bool, true, false, cond, ◌&&◌, List, [], ◌∷◌, ℕ, zero, suc, ◌+◌, ◌*◌, ◌/◌, leb, eqb, length, ℤ, pos, ◌+ℤ◌}
+use Rattle.std.specs.Prelude.{Bool, true, false, cond, ◌&&◌, List, [], ◌∷◌, ℕ, zero, suc, ◌+◌, ◌*◌, ◌/◌, leb, eqb, length, ℤ, pos, ◌+ℤ◌}
 use Rattle.words.specs.{Words.word, Limits.trade_words, Limits.most_count}
 use Rattle.floats.specs.{Floats.float_of, Floats.finite, Floats.◌≺◌}
 use Rattle.totals.specs.{Exact.units_in}

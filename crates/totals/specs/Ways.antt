@@ -1,5 +1,5 @@
 -- Every way to make totals: lists added one after another, totals joined. Definitions only.
-use Rattle.words.specs.Prelude.{◌≡◌, List, [], ◌∷◌, ◌++◌, ℕ, ◌%◌, length, replicate}
+use Rattle.std.specs.Prelude.{◌≡◌, List, [], ◌∷◌, ◌++◌, ℕ, ◌%◌, length, replicate}
 use Rattle.words.specs.{Limits.trade_words}
 use Rattle.floats.specs.{Floats.word_of}
 use Rattle.totals.specs.{declared.Answer.TheVariants.Done, Exact.words_for, Exact.nearest_to, Trades.Trade, Trades.trades_of, Trades.pnl_sum}

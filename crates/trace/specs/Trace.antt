@@ -1,6 +1,7 @@
 -- "The definition of a run gives the places visited, in rising order, and a run reports how many steps it visited": one recursion gives the visits of a
 -- run, and its answer, its places and its count are read off them.
-use Rattle.words.specs.Prelude.{ℕ, zero, suc, ◌+◌, ◌≡◌, refl, ap, List, [], ◌∷◌}
+use Rattle.std.specs.Prelude.{ℕ, zero, suc, ◌+◌, ◌≡◌, refl, List, [], ◌∷◌}
+use Rattle.words.specs.Prelude.{ap}
 use Rattle.rows.specs.{History.History}
 use Rattle.rules.specs.{declared.position.PositionState.PositionState}
 use Rattle.steps.specs.{declared.step.Op.Op, Machine.Values, Machine.start, Machine.Effect, Machine.does, Machine.after_step, Machine.run, Machine.places}

@@ -1,5 +1,5 @@
 -- Every bar that a run took has finite prices: 11 sees to it.
-use Rattle.words.specs.Prelude.{ℕ, ◌≡◌, Bool, true, false, ◌&&◌, List, [], ◌∷◌, ◌++◌, take}
+use Rattle.std.specs.Prelude.{ℕ, ◌≡◌, Bool, true, false, ◌&&◌, List, [], ◌∷◌, ◌++◌, take}
 use Rattle.floats.specs.{Floats.finite}
 use Rattle.portfolio.specs.{declared.Candle.Candle}
 use Rattle.records.specs.{declared.settings.Settings.Settings, declared.state.State.State, Bar.candle_of, Lent.Lists, Lent.Rooms}

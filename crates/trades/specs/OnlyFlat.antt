@@ -1,5 +1,6 @@
 -- Entry orders work only while flat. So a position that a bar finds keeps its entry bar through the bar's fill, and one that the fill opens has this bar's.
-use Rattle.words.specs.Prelude.{ℕ, ◌-◌, ◌≡◌, refl, sym, ◌∙◌, Bool, true, false, cond, false≢true, ltb, List, Float, arith}
+use Rattle.std.specs.Prelude.{ℕ, ◌-◌, ◌≡◌, refl, Bool, true, false, cond, ltb, List, Float}
+use Rattle.words.specs.Prelude.{sym, ◌∙◌, false≢true, arith}
 use Rattle.rows.specs.{History.History}
 use Rattle.rules.specs.{declared.position.Entered.Entered as EntryBar, declared.position.Entered.TheVariants.Never, declared.position.Entered.TheVariants.Bar}
 use Rattle.portfolio.specs.{declared.Candle.Candle, declared.Portfolio.Portfolio, Portfolio.in_position, Portfolio.is_long, Portfolio.worsened}

@@ -1,8 +1,9 @@
 -- One times a float, and minus one times it, is as large as the float: nothing is rounded.
-use Rattle.words.specs.Prelude.{ℕ, zero, suc, ◌+◌, ◌-◌, ◌*◌, ◌%◌, ◌^◌, ◌≤◌, ◌<◌, mul_assoc, mul_right_comm, mul-one, one-mul, mul-lt-mul_of_pos_right}
-use Rattle.words.specs.Prelude.{lt_of_mul-lt-mul_right, zero-mul, mul_comm, le_of_eq, le_of_suc-le-suc, lt_of_not-le, lt_irrefl, lt_of_lt_of_le, arith, ◌≡◌}
-use Rattle.words.specs.Prelude.{refl, sym, ap, ◌∙◌, subst, Bool, true, false, true≢false, ◌&&◌, T, eqb, ltb, leb, ltb→lt, leb→le, pow-add, pow_pos, pow-lt}
-use Rattle.words.specs.Prelude.{pow_mono, shl_lt, ℤ, pos, negsuc, Float, nan, inf, fin, binary64, fits, round, up, down, HasValue, round_exact, and_l, and_r}
+use Rattle.std.specs.Prelude.{ℕ, zero, suc, ◌+◌, ◌-◌, ◌*◌, ◌%◌, ◌^◌, ◌≤◌, ◌<◌, ◌≡◌, refl, Bool, true, false, ◌&&◌, T, eqb, ltb, leb, ℤ, pos, negsuc, Float}
+use Rattle.words.specs.Prelude.{mul_assoc, mul_right_comm, mul-one, one-mul, mul-lt-mul_of_pos_right}
+use Rattle.words.specs.Prelude.{lt_of_mul-lt-mul_right, zero-mul, mul_comm, le_of_eq, le_of_suc-le-suc, lt_of_not-le, lt_irrefl, lt_of_lt_of_le, arith}
+use Rattle.words.specs.Prelude.{sym, ap, ◌∙◌, subst, true≢false, ltb→lt, leb→le, pow-add, pow_pos, pow-lt}
+use Rattle.words.specs.Prelude.{pow_mono, shl_lt, nan, inf, fin, binary64, fits, round, up, down, HasValue, round_exact, and_l, and_r}
 use Rattle.words.specs.Prelude.{down_pos, ltb-true, lt-ltb}
 use Rattle.floats.specs.{Floats.◌⊗◌, Floats.◌≺◌, Floats.abs, Floats.eps, Floats.one}
 use Rattle.execution.specs.{declared.level.Side.Side, declared.level.Side.TheVariants.Long, declared.level.Side.TheVariants.Short, Fills.direction}

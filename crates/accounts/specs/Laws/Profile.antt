@@ -1,5 +1,6 @@
 -- The profile: an account that may ride has no more slots than the stream.
-use Rattle.words.specs.Prelude.{ℕ, ◌≤◌, ◌≡◌, Bool, true, ◌&&◌, List, leb-true, leb}
+use Rattle.std.specs.Prelude.{ℕ, ◌≤◌, ◌≡◌, Bool, true, ◌&&◌, List, leb}
+use Rattle.words.specs.Prelude.{leb-true}
 use Rattle.records.specs.{declared.settings.Settings.Settings}
 use Rattle.refusals.specs.{declared.verdict.Verdict.TheVariants.Fine, Laws.Lines.never, Laws.Lines.and_true, Laws.Lines.first_holds}
 use Rattle.table.specs.{declared.answer.Answer.Answer, declared.answer.Answer.TheVariants.Accepted, declared.answer.Answer.TheVariants.Refused}

@@ -1,6 +1,7 @@
 -- Laws of `put`: pieces that are put one after another are one piece.
-use Rattle.words.specs.Prelude.{Bool, true, false, cond, ◌≡◌, refl, sym, ap, ◌∙◌, List, ◌++◌, append_assoc, ℕ, zero, suc, ◌+◌, ◌/◌, ◌≤◌, add-one, arith, le-leb}
-use Rattle.words.specs.Prelude.{leb-true, leb, length, take, drop, length-append, length-drop, take_at, drop_at, drop-drop, length-take-le}
+use Rattle.std.specs.Prelude.{Bool, true, false, cond, ◌≡◌, refl, List, ◌++◌, ℕ, zero, suc, ◌+◌, ◌/◌, ◌≤◌, leb, length, take, drop}
+use Rattle.words.specs.Prelude.{sym, ap, ◌∙◌, append_assoc, add-one, arith, le-leb}
+use Rattle.words.specs.Prelude.{leb-true, length-append, length-drop, take_at, drop_at, drop-drop, length-take-le}
 use Rattle.io.specs.{Digits.digits}
 use Rattle.answers.specs.{Text.put, Text.next}
 use Rattle.std.proofs.Math.Path.{subst⁻¹}

@@ -1,6 +1,7 @@
 -- A close is taken exactly where both rooms have a place for it and it is finite. Assumes nothing.
-use Rattle.words.specs.Prelude.{ℕ, ◌+◌, ◌*◌, ◌/◌, ◌<◌, ◌≤◌, ◌≡◌, refl, sym, ap, ◌∙◌, Bool, true, false, cond, ◌&&◌, false≢true, List, arith, ltb-true, leb-true}
-use Rattle.words.specs.Prelude.{lt-ltb, le-leb, ltb, Float, nan, inf, fin, is_nan, length}
+use Rattle.std.specs.Prelude.{ℕ, ◌+◌, ◌*◌, ◌/◌, ◌<◌, ◌≤◌, ◌≡◌, refl, Bool, true, false, cond, ◌&&◌, List, ltb, Float, is_nan, length}
+use Rattle.words.specs.Prelude.{sym, ap, ◌∙◌, false≢true, arith, ltb-true, leb-true}
+use Rattle.words.specs.Prelude.{lt-ltb, le-leb, nan, inf, fin}
 use Rattle.words.specs.{Limits.most_count, declared.refusal.Refusal.Refusal}
 use Rattle.floats.specs.{Floats.float_of, Floats.finite}
 use Rattle.blocks.specs.{declared.append.Added.Added, declared.append.Added.TheVariants.Held, declared.append.Added.TheVariants.Refused, Reading.Number}

@@ -1,6 +1,7 @@
 -- What reading every close gives is the highest and the lowest of them, each with its earliest bar. Assumes nothing.
-use Rattle.words.specs.Prelude.{ℕ, zero, suc, ◌+◌, ◌<◌, ◌≤◌, ◌≡◌, refl, sym, subst, ◌∙◌, Bool, true, false, cond, true≢false, List, ℕ_discrete, add-zero, arith}
-use Rattle.words.specs.Prelude.{lt_of_le-ne, get_or}
+use Rattle.std.specs.Prelude.{ℕ, zero, suc, ◌+◌, ◌<◌, ◌≤◌, ◌≡◌, refl, Bool, true, false, cond, List, get_or}
+use Rattle.words.specs.Prelude.{sym, subst, ◌∙◌, true≢false, ℕ_discrete, add-zero, arith}
+use Rattle.words.specs.Prelude.{lt_of_le-ne}
 use Rattle.blocks.specs.{Reading.above, Reading.below, Reading.join, Reading.reading, Reading.Number, Reading.Earliest, Reading.HighAndLow}
 use Rattle.blocks.specs.{Laws.Order.twice, Laws.Order.not_twice, Laws.Order.not_itself}
 

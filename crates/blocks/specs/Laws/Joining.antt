@@ -1,6 +1,7 @@
 -- Joining stretches of numbers: three may be joined from either end, so two readings, one after the other, joined are one. Assumes nothing.
-use Rattle.words.specs.Prelude.{ℕ, zero, suc, ◌+◌, ◌<◌, ◌≡◌, refl, sym, ap, ◌∙◌, Bool, true, false, cond, false≢true, true≢false, List, add-zero, add-suc}
-use Rattle.words.specs.Prelude.{arith, get_or}
+use Rattle.std.specs.Prelude.{ℕ, zero, suc, ◌+◌, ◌<◌, ◌≡◌, refl, Bool, true, false, cond, List, get_or}
+use Rattle.words.specs.Prelude.{sym, ap, ◌∙◌, false≢true, true≢false, add-zero, add-suc}
+use Rattle.words.specs.Prelude.{arith}
 use Rattle.blocks.specs.{declared.best.Best.Best, Reading.above, Reading.below, Reading.one, Reading.join, Reading.reading, Reading.Number}
 use Rattle.blocks.specs.{Laws.Order.twice, Laws.Order.not_twice}
 

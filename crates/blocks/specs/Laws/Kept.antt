@@ -1,6 +1,7 @@
 -- What appending alone leaves, and that a question over it gives what reading every close gives. Assumes nothing.
-use Rattle.words.specs.Prelude.{ℕ, zero, suc, ◌+◌, ◌-◌, ◌*◌, ◌/◌, ◌%◌, ◌<◌, ◌≤◌, min, ◌≡◌, refl, sym, ap, subst, ◌∙◌, Bool, true, false, cond, List, add-zero}
-use Rattle.words.specs.Prelude.{zero-add, add-suc, lt_irrefl, not-suc-le-zero, ℕ_discrete, arith, eqb-true, eqb-false, lt_of_le-ne, eqb, get_or, set, length}
+use Rattle.std.specs.Prelude.{ℕ, zero, suc, ◌+◌, ◌-◌, ◌*◌, ◌/◌, ◌%◌, ◌<◌, ◌≤◌, min, ◌≡◌, refl, Bool, true, false, cond, List, eqb, get_or, set, length}
+use Rattle.words.specs.Prelude.{sym, ap, subst, ◌∙◌, add-zero}
+use Rattle.words.specs.Prelude.{zero-add, add-suc, lt_irrefl, not-suc-le-zero, ℕ_discrete, arith, eqb-true, eqb-false, lt_of_le-ne}
 use Rattle.words.specs.Prelude.{length-set, get_or-set_same, get_or-set_other}
 use Rattle.blocks.specs.{declared.best.Best.Best, Reading.one, Reading.join, Reading.reading, Reading.Number, Blocks.block_bars, Blocks.block, Blocks.put}
 use Rattle.blocks.specs.{Blocks.grown, Blocks.with_closes, Blocks.with_blocks, Reads.reads, Reads.front, Reads.begins_block}

@@ -1,5 +1,6 @@
 -- Closes that are numbers, in their order: below, twice, is below; not below, twice, is not below. Assumes nothing.
-use Rattle.words.specs.Prelude.{ℕ, ◌≡◌, refl, sym, ◌∙◌, Bool, true, false, true≢false, Float, le}
+use Rattle.std.specs.Prelude.{ℕ, ◌≡◌, refl, Bool, true, false, Float}
+use Rattle.words.specs.Prelude.{sym, ◌∙◌, true≢false, le}
 use Rattle.floats.specs.{Floats.◌≺◌, Floats.◌≼◌, Floats.float_of, Laws.Order.not-below, Laws.Order.not_above, Laws.Order.in_turn, Laws.Order.itself}
 use Rattle.blocks.specs.{Reading.below, Reading.Number}
 

@@ -1,8 +1,8 @@
 -- Of what a question reads: it is a walk that takes a block wherever one begins and fits, and else one close; it is little; and no bar is read
 -- twice. Assumes nothing.
-use Rattle.words.specs.Prelude.{ℕ, zero, suc, ◌+◌, ◌-◌, ◌*◌, ◌/◌, ◌%◌, ◌<◌, ◌≤◌, ◌≡◌, refl, sym, ap, ◌∙◌, Bool, true, false, ◌&&◌, false≢true, List, [], ◌∷◌}
-use Rattle.words.specs.Prelude.{◌++◌, append_assoc, append-nil, add-zero, add-suc, arith, add-one, eqb-true, eqb-false, leb-true, eq-eqb, le-leb, leb, eqb}
-use Rattle.words.specs.Prelude.{get_or}
+use Rattle.std.specs.Prelude.{ℕ, zero, suc, ◌+◌, ◌-◌, ◌*◌, ◌/◌, ◌%◌, ◌<◌, ◌≤◌, ◌≡◌, refl, Bool, true, false, ◌&&◌, List, [], ◌∷◌, ◌++◌, leb, eqb, get_or}
+use Rattle.words.specs.Prelude.{sym, ap, ◌∙◌, false≢true}
+use Rattle.words.specs.Prelude.{append_assoc, append-nil, add-zero, add-suc, arith, add-one, eqb-true, eqb-false, leb-true, eq-eqb, le-leb}
 use Rattle.blocks.specs.{declared.best.Best.Best, Reading.one, Reading.join, Blocks.block_bars, Blocks.block, Blocks.with_closes, Blocks.with_blocks}
 use Rattle.blocks.specs.{Reads.Read, Reads.single, Reads.whole, Reads.several, Reads.singles, Reads.wholes, Reads.front, Reads.reads, Reads.begins_block}
 use Rattle.blocks.specs.{Reads.best}

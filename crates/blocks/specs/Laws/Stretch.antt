@@ -1,6 +1,7 @@
 -- What a question that is not refused may rely on, and where none is refused. Assumes nothing.
-use Rattle.words.specs.Prelude.{ℕ, ◌+◌, ◌-◌, ◌*◌, ◌/◌, ◌<◌, ◌≤◌, ◌≡◌, refl, Bool, true, false, ◌&&◌, false≢true, List, leb-true, ltb-true, le-leb, lt-ltb}
-use Rattle.words.specs.Prelude.{arith, ltb, leb, length}
+use Rattle.std.specs.Prelude.{ℕ, ◌+◌, ◌-◌, ◌*◌, ◌/◌, ◌<◌, ◌≤◌, ◌≡◌, refl, Bool, true, false, ◌&&◌, List, ltb, leb, length}
+use Rattle.words.specs.Prelude.{false≢true, leb-true, ltb-true, le-leb, lt-ltb}
+use Rattle.words.specs.Prelude.{arith}
 use Rattle.words.specs.{Limits.most_count}
 use Rattle.blocks.specs.{declared.stretch.Found.TheVariants.Best, Reads.reads, Reads.told, Stretch.holds, Stretch.exists, Stretch.stretched}
 

@@ -1,5 +1,6 @@
 -- What an answer of 0 tells: an outcome that gives was decided by no verdict before it, and what it gives is what is left.
-use Rattle.words.specs.Prelude.{ℕ, ◌≡◌, refl, arith}
+use Rattle.std.specs.Prelude.{ℕ, ◌≡◌, refl}
+use Rattle.words.specs.Prelude.{arith}
 use Rattle.words.specs.{declared.refusal.Refusal.Refusal, Outcome.Outcome, Outcome.gives, Outcome.refuses}
 use Rattle.refusals.specs.{declared.verdict.Verdict.Verdict, declared.verdict.Verdict.TheVariants.Fine, declared.verdict.Verdict.TheVariants.Bad}
 use Rattle.replies.specs.{Call.unless_bad}

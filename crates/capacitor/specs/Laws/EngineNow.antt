@@ -1,5 +1,6 @@
 -- The box after its losses and the bars since is the engine's: what the theorems of images say of it, for the words that the calls leave.
-use Rattle.words.specs.Prelude.{ℕ, ◌/◌, ◌^◌, ◌≤◌, ◌≡◌, refl, ap, subst, ◌∙◌, List, [], ◌∷◌, ◌++◌, length, get_or}
+use Rattle.std.specs.Prelude.{ℕ, ◌/◌, ◌^◌, ◌≤◌, ◌≡◌, refl, List, [], ◌∷◌, ◌++◌, length, get_or}
+use Rattle.words.specs.Prelude.{ap, subst, ◌∙◌}
 use Rattle.words.specs.{Limits.setting_words, Limits.state_words, Limits.most_count}
 use Rattle.records.specs.{declared.state.State.State, Lent.Lists, Lent.Rooms, Lent.row_places, Settings.settings_of, State.fresh_state, StateWords.counts_of}
 use Rattle.records.specs.{StateWords.state_of, Laws.RoundTrip.Floats64, Laws.RoundTrip.fresh_floats}

@@ -1,5 +1,6 @@
 -- A box that is begun by calls is one from a table, and has the words of a fresh state.
-use Rattle.words.specs.Prelude.{ℕ, ◌*◌, ◌≤◌, ◌≡◌, refl, sym, ap, ◌∙◌, false, List, leb, length}
+use Rattle.std.specs.Prelude.{ℕ, ◌*◌, ◌≤◌, ◌≡◌, refl, false, List, leb, length}
+use Rattle.words.specs.Prelude.{sym, ap, ◌∙◌}
 use Rattle.words.specs.{Limits.setting_words, Limits.state_words, Limits.trees, Outcome.gives, Words.overwrite}
 use Rattle.table.specs.{declared.trees.Tree.Tree, declared.trees.Tree.TheVariants.Entry, declared.trees.Tree.TheVariants.Exit}
 use Rattle.table.specs.{declared.trees.Tree.TheVariants.ShortEntry, declared.trees.Tree.TheVariants.ShortExit, Checked.checked, Header.tree_number}

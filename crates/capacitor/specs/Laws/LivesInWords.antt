@@ -1,5 +1,6 @@
 -- Losses, in the words of the C calls, are lives of the engine's box, restored from whole images.
-use Rattle.words.specs.Prelude.{ℕ, ◌≤◌, ◌≡◌, refl, sym, ap, subst, ◌∙◌, List, [], ◌∷◌, ◌++◌, arith, length, take}
+use Rattle.std.specs.Prelude.{ℕ, ◌≤◌, ◌≡◌, refl, List, [], ◌∷◌, ◌++◌, length, take}
+use Rattle.words.specs.Prelude.{sym, ap, subst, ◌∙◌, arith}
 use Rattle.words.specs.{Limits.setting_words, Limits.state_words}
 use Rattle.records.specs.{declared.settings.Settings.Settings, declared.state.State.State, Lent.Lists, Lent.Rooms, Settings.settings_of, Laws.RoundTrip.Floats64}
 use Rattle.records.specs.{Laws.RoundTrip.state_kept, Laws.RoundTrip.words_floats}

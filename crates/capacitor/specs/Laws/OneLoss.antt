@@ -1,5 +1,6 @@
 -- One loss: what the restore after it answers.
-use Rattle.words.specs.Prelude.{ℕ, ◌*◌, ◌^◌, ◌≤◌, ◌≡◌, refl, subst, ◌∙◌, List, [], ◌∷◌, ◌++◌, arith, le-leb, length, take}
+use Rattle.std.specs.Prelude.{ℕ, ◌*◌, ◌^◌, ◌≤◌, ◌≡◌, refl, List, [], ◌∷◌, ◌++◌, length, take}
+use Rattle.words.specs.Prelude.{subst, ◌∙◌, arith, le-leb}
 use Rattle.words.specs.{Limits.setting_words, Limits.state_words, Outcome.refusal}
 use Rattle.records.specs.{declared.settings.Settings.Settings, declared.state.State.State, Lent.Lists, Lent.Rooms, Lent.row_places, Settings.settings_of}
 use Rattle.records.specs.{Laws.RoundTrip.Floats64}

@@ -1,5 +1,6 @@
 -- `ysh_step`, `ysh_dump` and `ysh_restore` on the words of a state: what an answer of 0 tells of the engine, and what the engine's verdict makes the answer.
-use Rattle.words.specs.Prelude.{ℕ, ◌≤◌, ◌/◌, ◌^◌, ◌≡◌, refl, sym, ap, ◌∙◌, List, arith, length, take}
+use Rattle.std.specs.Prelude.{ℕ, ◌≤◌, ◌/◌, ◌^◌, ◌≡◌, refl, List, length, take}
+use Rattle.words.specs.Prelude.{sym, ap, ◌∙◌, arith}
 use Rattle.words.specs.{Limits.setting_words, Limits.state_words, declared.refusal.Refusal.Refusal, Outcome.gives, Words.overwrite}
 use Rattle.words.specs.{Laws.Overwrite.overwrite-length}
 use Rattle.records.specs.{declared.settings.Settings.Settings, declared.state.State.State, Lent.Lists, Lent.Rooms, Settings.settings_of, StateWords.state_of}

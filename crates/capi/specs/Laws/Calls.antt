@@ -1,6 +1,7 @@
 -- Of every call: an answer other than 0 leaves all that was lent as it was, its halves are the number and the place of what is refused, and
 -- an answer of 0 means that nothing was refused. One law over calls; TableCalls and RunCalls say for each call that its refusals are small.
-use Rattle.words.specs.Prelude.{ℕ, ◌<◌, ◌/◌, ◌%◌, ◌^◌, ◌≡◌, refl, arith}
+use Rattle.std.specs.Prelude.{ℕ, ◌<◌, ◌/◌, ◌%◌, ◌^◌, ◌≡◌, refl}
+use Rattle.words.specs.Prelude.{arith}
 use Rattle.words.specs.{declared.refusal.Refusal.Refusal, Outcome.Outcome, Outcome.gives, Outcome.refuses}
 use Rattle.refusals.specs.{declared.verdict.Verdict.Verdict, declared.verdict.Verdict.TheVariants.Fine, declared.verdict.Verdict.TheVariants.Bad}
 use Rattle.replies.specs.{Call.Call, Call.answer_word, Call.call_of, Call.unless_bad, Laws.Answers.answer_number, Laws.Answers.answer_place}

@@ -1,5 +1,6 @@
 -- ysh_compare: each of its refusals has a number and a place that an answer can hold, so the law over calls holds of it.
-use Rattle.words.specs.Prelude.{ℕ, ◌*◌, Bool, true, false, cond, ◌&&◌, List, arith, leb, length}
+use Rattle.std.specs.Prelude.{ℕ, ◌*◌, Bool, true, false, cond, ◌&&◌, List, leb, length}
+use Rattle.words.specs.Prelude.{arith}
 use Rattle.words.specs.{Words.overwrite}
 use Rattle.differences.specs.{declared.compare.Compared.TheVariants.Lines, Lines.line_words, Lines.differences, Lines.words_of, Compared.Comparison}
 use Rattle.differences.specs.{Compared.compared, Compared.written, Compared.whole, Compared.refused}

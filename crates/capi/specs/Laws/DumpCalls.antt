@@ -1,6 +1,7 @@
 -- ysh_dump_bytes, ysh_dump and ysh_restore: the size that is asked for is the one that 10 asks of an area, and each refusal has a number and a place that an
 -- answer can hold, so the law over calls holds of both.
-use Rattle.words.specs.Prelude.{ℕ, ◌≤◌, ◌≡◌, refl, sym, Bool, true, false, cond, ◌&&◌, List, [], ◌∷◌, arith, leb-true, le-leb, leb, length}
+use Rattle.std.specs.Prelude.{ℕ, ◌≤◌, ◌≡◌, refl, Bool, true, false, cond, ◌&&◌, List, [], ◌∷◌, leb, length}
+use Rattle.words.specs.Prelude.{sym, arith, leb-true, le-leb}
 use Rattle.words.specs.{declared.refusal.Refusal.Refusal, Limits.most_slots, Limits.most_rows, Outcome.refusal, Words.overwrite}
 use Rattle.records.specs.{declared.settings.Settings.Settings, declared.state.State.State, Settings.settings_of, StateWords.state_of}
 use Rattle.refusals.specs.{declared.verdict.Verdict.Verdict, declared.verdict.Verdict.TheVariants.Fine, declared.verdict.Verdict.TheVariants.Bad, Lines.Line}

@@ -1,6 +1,7 @@
 -- The calls over a table, and over rows and lists of steps: each of their refusals has a number and a place that an answer can hold, so of
 -- each the law over calls holds.
-use Rattle.words.specs.Prelude.{ℕ, ◌+◌, ◌*◌, ◌<◌, ◌≤◌, ◌≡◌, refl, Bool, true, false, cond, not, ◌&&◌, List, arith, eqb, ltb, leb, length, eqb-true, eqb-false}
+use Rattle.std.specs.Prelude.{ℕ, ◌+◌, ◌*◌, ◌<◌, ◌≤◌, ◌≡◌, refl, Bool, true, false, cond, not, ◌&&◌, List, eqb, ltb, leb, length}
+use Rattle.words.specs.Prelude.{arith, eqb-true, eqb-false}
 use Rattle.words.specs.{declared.refusal.Refusal.Refusal, Limits.most_slots, Limits.most_rows, Limits.most_reach, Limits.most_nodes, Limits.most_steps, Limits.trees}
 use Rattle.words.specs.{Outcome.Outcome, Outcome.refusal}
 use Rattle.rows.specs.{History.whole_rows}

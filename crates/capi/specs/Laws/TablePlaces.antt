@@ -1,5 +1,6 @@
 -- The places of a table's refusals: a node's number, or just past the last one, and so at most 256.
-use Rattle.words.specs.Prelude.{ℕ, zero, suc, ◌+◌, ◌≤◌, Bool, true, false, cond, List, [], ◌∷◌, arith, ltb, eqb}
+use Rattle.std.specs.Prelude.{ℕ, zero, suc, ◌+◌, ◌≤◌, Bool, true, false, cond, List, [], ◌∷◌, ltb, eqb}
+use Rattle.words.specs.Prelude.{arith}
 use Rattle.words.specs.{Limits.most_reach, Limits.most_nesting, Limits.most_nodes}
 use Rattle.table.specs.{declared.places.Place.Place, declared.places.Place.TheVariants.At, declared.places.Place.TheVariants.Nowhere, Header.newest_version}
 use Rattle.table.specs.{Header.total, Header.count, Header.root, Nodes.node_at, Nodes.node_right, Nodes.wrong_node, Nodes.sort_at, Nodes.child_count_at}

@@ -1,6 +1,6 @@
 -- ysh_totals and ysh_totals_join: each of their refusals has a number and a place that an answer can hold, so the law over calls holds of both.
-use Rattle.words.specs.Prelude.{ℕ, suc, ◌+◌, ◌/◌, ◌%◌, ◌^◌, ◌<◌, ◌≤◌, ◌≡◌, refl, sym, ap, Bool, true, false, cond, List, [], ◌∷◌, arith, leb-true, leb-false}
-use Rattle.words.specs.Prelude.{leb, eqb, length}
+use Rattle.std.specs.Prelude.{ℕ, suc, ◌+◌, ◌/◌, ◌%◌, ◌^◌, ◌<◌, ◌≤◌, ◌≡◌, refl, Bool, true, false, cond, List, [], ◌∷◌, leb, eqb, length}
+use Rattle.words.specs.Prelude.{sym, ap, arith, leb-true, leb-false}
 use Rattle.words.specs.{Limits.trade_words, Limits.most_count}
 use Rattle.totals.specs.{declared.Answer.TheVariants.Done, Trades.Trade, Trades.acceptable, Trades.trades_from, Trades.good_start, Trades.judged_count}
 use Rattle.totals.specs.{Totals.unless, Totals.total_words, Totals.counts_of, Totals.traded, Totals.counts_fine, Totals.add_answer, Totals.add_leaves}

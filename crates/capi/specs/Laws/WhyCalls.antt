@@ -1,5 +1,6 @@
 -- ysh_why: each of its refusals has a number and a place that an answer can hold, so the law over calls holds of it.
-use Rattle.words.specs.Prelude.{ℕ, ◌≡◌, refl, Bool, true, false, cond, ◌&&◌, List, arith, ltb, length}
+use Rattle.std.specs.Prelude.{ℕ, ◌≡◌, refl, Bool, true, false, cond, ◌&&◌, List, ltb, length}
+use Rattle.words.specs.Prelude.{arith}
 use Rattle.words.specs.{declared.refusal.Refusal.Refusal, Outcome.refusal}
 use Rattle.rows.specs.{History.whole_rows}
 use Rattle.table.specs.{declared.answer.Answer.Answer, declared.answer.Answer.TheVariants.Accepted, declared.answer.Answer.TheVariants.Refused, Header.slots}

@@ -1,5 +1,5 @@
 -- ysh_why_over: each of its refusals has a number and a place that an answer can hold, so the law over calls holds of it.
-use Rattle.words.specs.Prelude.{ℕ, ◌≡◌, refl, List, length}
+use Rattle.std.specs.Prelude.{ℕ, ◌≡◌, refl, List, length}
 use Rattle.words.specs.{declared.refusal.Refusal.Refusal}
 use Rattle.table.specs.{declared.answer.Answer.Answer, declared.answer.Answer.TheVariants.Accepted, declared.answer.Answer.TheVariants.Refused, Header.slots}
 use Rattle.table.specs.{Checked.checked}

@@ -1,5 +1,6 @@
 -- Lines written one after the other are the words of the lines, and what stood past them. Assumes nothing.
-use Rattle.words.specs.Prelude.{ℕ, suc, ◌+◌, ◌*◌, ◌≤◌, ◌≡◌, refl, sym, ap, ◌∙◌, List, [], ◌∷◌, ◌++◌, append_assoc, append-nil, arith, length, take, drop}
+use Rattle.std.specs.Prelude.{ℕ, suc, ◌+◌, ◌*◌, ◌≤◌, ◌≡◌, refl, List, [], ◌∷◌, ◌++◌, length, take, drop}
+use Rattle.words.specs.Prelude.{sym, ap, ◌∙◌, append_assoc, append-nil, arith}
 use Rattle.words.specs.Prelude.{length-append, length-take, length-drop, take-append-drop, take_at, drop_at, drop-drop}
 use Rattle.words.specs.{Words.overwrite, Laws.Overwrite.overwrite_fits}
 use Rattle.chain.specs.{Chain.ChainLine, Lines.line_from, Lines.line_words, Lines.chain_words, Lines.put_lines}

@@ -1,5 +1,6 @@
 -- The chain with nodes numbered by the array of ends is the chain with the table's own numbers. Assumes nothing.
-use Rattle.words.specs.Prelude.{ℕ, ◌+◌, ◌<◌, ◌≡◌, refl, Bool, true, false, cond, List, [], arith, leb, eqb, leb-false, eqb-false}
+use Rattle.std.specs.Prelude.{ℕ, ◌+◌, ◌<◌, ◌≡◌, refl, Bool, true, false, cond, List, [], leb, eqb}
+use Rattle.words.specs.Prelude.{arith, leb-false, eqb-false}
 use Rattle.words.specs.{Limits.trees}
 use Rattle.rows.specs.{History.History, History.history_of}
 use Rattle.table.specs.{declared.answer.Answer.TheVariants.Accepted, Header.slots, Header.count, Header.root, Checked.checked, Ends.ends_beside, Reading.tree_of}

@@ -1,5 +1,6 @@
 -- Where the children of a node stand. Assumes nothing.
-use Rattle.words.specs.Prelude.{ℕ, ◌+◌, ◌<◌, ◌≡◌, refl, sym, ◌∙◌, Bool, true, false, cond, List, arith, leb}
+use Rattle.std.specs.Prelude.{ℕ, ◌+◌, ◌<◌, ◌≡◌, refl, Bool, true, false, cond, List, leb}
+use Rattle.words.specs.Prelude.{sym, ◌∙◌, arith}
 use Rattle.table.specs.{declared.kinds.OperandClass.OperandClass, declared.kinds.ConditionClass.ConditionClass, Bytes.Bytes, Kinds.kind_of, Nodes.node_at}
 use Rattle.roundtrip.specs.{Laws.AcceptedWritten.u32_small}
 use Rattle.rules.specs.{declared.shapes.OperandShape.OperandShape, declared.shapes.OperandShape.TheVariants.Const}

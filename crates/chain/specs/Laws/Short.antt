@@ -1,5 +1,6 @@
 -- How many lines there can be. Assumes nothing.
-use Rattle.words.specs.Prelude.{ℕ, ◌+◌, ◌≤◌, ◌<◌, max, ◌≡◌, refl, Bool, true, false, cond, Bool·beq, List, [], arith, leb, eqb, length, leb-false, eqb-false}
+use Rattle.std.specs.Prelude.{ℕ, ◌+◌, ◌≤◌, ◌<◌, max, ◌≡◌, refl, Bool, true, false, cond, List, [], leb, eqb, length}
+use Rattle.words.specs.Prelude.{Bool·beq, arith, leb-false, eqb-false}
 use Rattle.words.specs.{Limits.trees}
 use Rattle.rows.specs.{History.History, History.history_of}
 use Rattle.table.specs.{declared.answer.Answer.TheVariants.Accepted, Bytes.Bytes, Header.slots, Header.count, Header.root, Checked.checked, Reading.tree_of}

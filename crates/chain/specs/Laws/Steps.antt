@@ -1,5 +1,6 @@
 -- The chain on the flat table, one node at a time. Assumes nothing.
-use Rattle.words.specs.Prelude.{ℕ, zero, suc, ◌-◌, ◌<◌, ◌≡◌, refl, sym, ap, Bool, true, false, cond, Bool·beq, List, [], ◌∷◌, arith, sub-one}
+use Rattle.std.specs.Prelude.{ℕ, zero, suc, ◌-◌, ◌<◌, ◌≡◌, refl, Bool, true, false, cond, List, [], ◌∷◌}
+use Rattle.words.specs.Prelude.{sym, ap, Bool·beq, arith, sub-one}
 use Rattle.rows.specs.{History.History}
 use Rattle.table.specs.{Trees.Operand, Trees.Condition, Trees.every, Trees.any, Trees.negated}
 use Rattle.rules.specs.{declared.position.PositionState.PositionState, declared.shapes.ConditionShape.ConditionShape}

@@ -1,7 +1,7 @@
 -- ALL AND ONLY: where the comparison answers lines, those that stand in the room say what differs between the two runs, all of it and nothing else.
 -- Assumes nothing.
-use Rattle.words.specs.Prelude.{ℕ, ◌*◌, ◌%◌, ◌≤◌, ◌≡◌, refl, sym, ap, subst, ◌∙◌, Bool, true, false, cond, ◌&&◌, false≢true, List, eqb-true, leb-true, eqb, leb}
-use Rattle.words.specs.Prelude.{drop, length}
+use Rattle.std.specs.Prelude.{ℕ, ◌*◌, ◌%◌, ◌≤◌, ◌≡◌, refl, Bool, true, false, cond, ◌&&◌, List, eqb, leb, drop, length}
+use Rattle.words.specs.Prelude.{sym, ap, subst, ◌∙◌, false≢true, eqb-true, leb-true}
 use Rattle.words.specs.{declared.refusal.Refusal.Refusal, Limits.point_words, Limits.trade_words, Outcome.refusal, Words.overwrite}
 use Rattle.words.specs.{Laws.Overwrite.overwrite-length}
 use Rattle.differences.specs.{declared.compare.Compared.Compared, declared.compare.Compared.TheVariants.Lines}

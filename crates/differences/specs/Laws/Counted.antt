@@ -1,7 +1,9 @@
 -- How many lines there are, a word more at a time; and the first point that differs, a point at a time. Assumes nothing.
-use Rattle.words.specs.Prelude.{ℕ, zero, suc, ◌+◌, ◌-◌, ◌*◌, ◌/◌, ◌%◌, ◌<◌, ◌≤◌, min, ◌≡◌, refl, sym, ap, ◌∙◌, Bool, true, false, cond, List, [], ◌∷◌, ◌++◌}
-use Rattle.words.specs.Prelude.{append_assoc, append-nil, add-zero, add-suc, le_trans, le_of_eq, add-one, arith, eq-eqb, ne_eqb, lt-ltb, le-ltb, eqb, ltb, get_or}
-use Rattle.words.specs.Prelude.{length, length-append}
+use Rattle.std.specs.Prelude.{ℕ, zero, suc, ◌+◌, ◌-◌, ◌*◌, ◌/◌, ◌%◌, ◌<◌, ◌≤◌, min, ◌≡◌, refl, Bool, true, false, cond, List, [], ◌∷◌, ◌++◌, eqb, ltb, get_or}
+use Rattle.std.specs.Prelude.{length}
+use Rattle.words.specs.Prelude.{sym, ap, ◌∙◌}
+use Rattle.words.specs.Prelude.{append_assoc, append-nil, add-zero, add-suc, le_trans, le_of_eq, add-one, arith, eq-eqb, ne_eqb, lt-ltb, le-ltb}
+use Rattle.words.specs.Prelude.{length-append}
 use Rattle.words.specs.{Limits.trade_words}
 use Rattle.differences.specs.{Lines.Line, Lines.line, Lines.equity_at, Lines.first_point, Lines.equity_line, Lines.word_line, Lines.word_lines, Lines.surplus}
 use Rattle.differences.specs.{Lines.points, Lines.trades, Lines.trade_word, Lines.differences_from}

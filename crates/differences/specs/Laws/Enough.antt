@@ -1,5 +1,6 @@
 -- ENOUGH: a room of five words for each word of a trade that both have, and fifteen more, holds the lines of any two runs. Assumes nothing.
-use Rattle.words.specs.Prelude.{ℕ, ◌+◌, ◌*◌, ◌≤◌, min, ◌≡◌, le-leb, true, List, arith, length}
+use Rattle.std.specs.Prelude.{ℕ, ◌+◌, ◌*◌, ◌≤◌, min, ◌≡◌, true, List, length}
+use Rattle.words.specs.Prelude.{le-leb, arith}
 use Rattle.words.specs.{Limits.trade_words, Words.overwrite}
 use Rattle.differences.specs.{declared.compare.Compared.TheVariants.Lines, Lines.points, Lines.trades, Lines.first_point}
 use Rattle.differences.specs.{Lines.differences, Lines.line_words, Lines.words_of, Compared.whole, Compared.written, Compared.compared}

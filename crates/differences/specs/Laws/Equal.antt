@@ -1,6 +1,7 @@
 -- EQUAL RUNS: no lines exactly where the lists of trades are equal, and the equity of the points. Assumes nothing.
-use Rattle.words.specs.Prelude.{ℕ, zero, suc, ◌+◌, ◌*◌, ◌/◌, ◌%◌, ◌<◌, ◌≤◌, min, ◌≡◌, refl, sym, ap, subst, ◌∙◌, List, [], ◌∷◌, ⊎_elim, arith, get_or}
-use Rattle.words.specs.Prelude.{length, ext_get_or}
+use Rattle.std.specs.Prelude.{ℕ, zero, suc, ◌+◌, ◌*◌, ◌/◌, ◌%◌, ◌<◌, ◌≤◌, min, ◌≡◌, refl, List, [], ◌∷◌, get_or, length}
+use Rattle.words.specs.Prelude.{sym, ap, subst, ◌∙◌, ⊎_elim, arith}
+use Rattle.words.specs.Prelude.{ext_get_or}
 use Rattle.words.specs.{Limits.trade_words}
 use Rattle.differences.specs.{Lines.Line, Lines.points, Lines.trades, Lines.equity_at, Lines.differences, Truth.Says, Truth.equity, Truth.trade}
 use Rattle.differences.specs.{declared.compare.Compared.TheVariants.Lines, Compared.compared, Laws.Written.no_lines, Truth.more_trades}

@@ -1,5 +1,6 @@
 -- THE RUNS EXCHANGED: the same lines, with the two runs' words exchanged. Assumes nothing.
-use Rattle.words.specs.Prelude.{ℕ, zero, suc, ◌*◌, ◌<◌, ◌≤◌, min, ◌≡◌, refl, sym, ap, ◌∙◌, List, [], ◌∷◌, ◌++◌, map, ⊎_elim, arith, get_or}
+use Rattle.std.specs.Prelude.{ℕ, zero, suc, ◌*◌, ◌<◌, ◌≤◌, min, ◌≡◌, refl, List, [], ◌∷◌, ◌++◌, map, get_or}
+use Rattle.words.specs.Prelude.{sym, ap, ◌∙◌, ⊎_elim, arith}
 use Rattle.words.specs.{Limits.trade_words}
 use Rattle.differences.specs.{Lines.Line, Lines.line, Lines.points, Lines.trades, Lines.first_point, Lines.equity_line, Lines.word_line, Lines.word_lines}
 use Rattle.differences.specs.{Lines.surplus, Lines.differences_from, Lines.differences, Truth.exchanged, Laws.Counted.line_same, Laws.Counted.line_other}

@@ -1,6 +1,7 @@
 -- The first point that differs: it does, those before it do not, and no other is the first. Assumes nothing.
-use Rattle.words.specs.Prelude.{ℕ, zero, suc, ◌+◌, ◌<◌, ◌≤◌, ◌≡◌, refl, sym, subst, ◌∙◌, Bool, true, false, List, ◌⊎◌, inl, inr, ⊎_elim, arith, eq-eqb, ne_eqb}
-use Rattle.words.specs.Prelude.{eqb-true, eqb-false, eqb}
+use Rattle.std.specs.Prelude.{ℕ, zero, suc, ◌+◌, ◌<◌, ◌≤◌, ◌≡◌, refl, Bool, true, false, List, ◌⊎◌, eqb}
+use Rattle.words.specs.Prelude.{sym, subst, ◌∙◌, inl, inr, ⊎_elim, arith, eq-eqb, ne_eqb}
+use Rattle.words.specs.Prelude.{eqb-true, eqb-false}
 use Rattle.differences.specs.{Lines.equity_at, Lines.first_point}
 
 -- equal or not

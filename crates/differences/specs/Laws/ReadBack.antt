@@ -1,5 +1,6 @@
 -- READ BACK: lines that were written into a room are read there as they were, and past them the room is as it was. Assumes nothing.
-use Rattle.words.specs.Prelude.{ℕ, ◌+◌, ◌*◌, ◌≤◌, ◌≡◌, refl, sym, ap, subst, ◌∙◌, List, [], ◌∷◌, ◌++◌, zero-add, length, drop, drop_at}
+use Rattle.std.specs.Prelude.{ℕ, ◌+◌, ◌*◌, ◌≤◌, ◌≡◌, refl, List, [], ◌∷◌, ◌++◌, length, drop}
+use Rattle.words.specs.Prelude.{sym, ap, subst, ◌∙◌, zero-add, drop_at}
 use Rattle.words.specs.{Words.overwrite, Laws.Overwrite.overwrite_fits}
 use Rattle.differences.specs.{Lines.Line, Lines.words_of, Lines.line_words, Truth.lines_in, Laws.Written.words_length}
 

@@ -1,5 +1,6 @@
 -- ALL THAT IS SO: the lines of the definition say what differs between the two runs, all of it and nothing else, no place twice. Assumes nothing.
-use Rattle.words.specs.Prelude.{ℕ, ◌+◌, ◌*◌, ◌/◌, ◌%◌, ◌<◌, ◌≤◌, min, ◌≡◌, refl, sym, ap, subst, ◌∙◌, List, ◌++◌, List-as-Memᴰ, ⊎_elim, arith, get_or}
+use Rattle.std.specs.Prelude.{ℕ, ◌+◌, ◌*◌, ◌/◌, ◌%◌, ◌<◌, ◌≤◌, min, ◌≡◌, refl, List, ◌++◌, get_or}
+use Rattle.words.specs.Prelude.{sym, ap, subst, ◌∙◌, List-as-Memᴰ, ⊎_elim, arith}
 use Rattle.words.specs.{Limits.trade_words}
 use Rattle.differences.specs.{Lines.Line, Lines.line, Lines.points, Lines.trades, Lines.equity_at, Lines.first_point, Lines.equity_line, Lines.word_lines}
 use Rattle.differences.specs.{Lines.surplus, Lines.differences_from, Lines.differences, Truth.Says, Truth.equity, Truth.trade, Truth.more_trades}

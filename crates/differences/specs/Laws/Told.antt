@@ -1,6 +1,7 @@
 -- Which lines stand in each part, and that none tells a place twice. Assumes nothing.
-use Rattle.words.specs.Prelude.{ℕ, zero, suc, ◌/◌, ◌%◌, ◌<◌, ◌≤◌, min, ◌≡◌, refl, sym, ap, subst, ◌∙◌, ◌⊎◌, inl, inr, ⊎_elim, Bool, true, false, arith}
-use Rattle.words.specs.Prelude.{ltb-true, ltb-false, ltb, get_or}
+use Rattle.std.specs.Prelude.{ℕ, zero, suc, ◌/◌, ◌%◌, ◌<◌, ◌≤◌, min, ◌≡◌, refl, ◌⊎◌, Bool, true, false, ltb, get_or}
+use Rattle.words.specs.Prelude.{sym, ap, subst, ◌∙◌, inl, inr, ⊎_elim, arith}
+use Rattle.words.specs.Prelude.{ltb-true, ltb-false}
 use Rattle.words.specs.{Limits.trade_words}
 use Rattle.differences.specs.{Lines.Line, Lines.line, Lines.equity_at, Lines.equity_line, Lines.word_line, Lines.word_lines, Lines.surplus, Truth.SamePlace}
 use Rattle.differences.specs.{Truth.Once, Truth.none, Truth.first, Laws.Counted.line_same, Laws.Counted.line_other, Laws.Counted.equity_some}

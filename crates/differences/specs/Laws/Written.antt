@@ -1,6 +1,7 @@
 -- Lines written one after another into a room. Assumes nothing.
-use Rattle.words.specs.Prelude.{ℕ, ◌+◌, ◌*◌, ◌≤◌, ◌≡◌, refl, sym, ap, subst, ◌∙◌, List, [], ◌∷◌, ◌++◌, append_assoc, append-nil, add-zero, zero-add, arith}
-use Rattle.words.specs.Prelude.{length, take, drop, length-append, take-append-drop, take_at, drop_at, drop-drop, length-take-le}
+use Rattle.std.specs.Prelude.{ℕ, ◌+◌, ◌*◌, ◌≤◌, ◌≡◌, refl, List, [], ◌∷◌, ◌++◌, length, take, drop}
+use Rattle.words.specs.Prelude.{sym, ap, subst, ◌∙◌, append_assoc, append-nil, add-zero, zero-add, arith}
+use Rattle.words.specs.Prelude.{length-append, take-append-drop, take_at, drop_at, drop-drop, length-take-le}
 use Rattle.words.specs.{Words.overwrite, Laws.Overwrite.overwrite_fits, Laws.Overwrite.overwrite-length}
 use Rattle.differences.specs.{Lines.Line, Lines.words_of}
 

@@ -1,7 +1,9 @@
 -- An image's length, and each of its bytes as one of the header's or the rows' words.
-use Rattle.words.specs.Prelude.{ℕ, zero, suc, ◌+◌, ◌-◌, ◌*◌, ◌/◌, ◌≤◌, ◌<◌, ◌≡◌, refl, sym, ap, ◌∙◌, List, [], ◌∷◌, ◌++◌, Bool, true, false, zero-mul, sub-zero}
-use Rattle.words.specs.Prelude.{mul-le-mul_right, mul-le-mul_left, add-mul, mul-div_cancel, mul_assoc, mul_comm, arith, leb-true, leb-false, leb, length, get_or}
-use Rattle.words.specs.Prelude.{take, replicate, length-append, length-drop, length-replicate, List·get_or-append, get_or-append-add, length-take-le}
+use Rattle.std.specs.Prelude.{ℕ, zero, suc, ◌+◌, ◌-◌, ◌*◌, ◌/◌, ◌≤◌, ◌<◌, ◌≡◌, refl, List, [], ◌∷◌, ◌++◌, Bool, true, false, leb, length, get_or, take}
+use Rattle.std.specs.Prelude.{replicate}
+use Rattle.words.specs.Prelude.{sym, ap, ◌∙◌, zero-mul, sub-zero}
+use Rattle.words.specs.Prelude.{mul-le-mul_right, mul-le-mul_left, add-mul, mul-div_cancel, mul_assoc, mul_comm, arith, leb-true, leb-false}
+use Rattle.words.specs.Prelude.{length-append, length-drop, length-replicate, List·get_or-append, get_or-append-add, length-take-le}
 use Rattle.words.specs.{Limits.row_words, Laws.Records.records_fit}
 use Rattle.rows.specs.{History.last_rows}
 use Rattle.records.specs.{declared.settings.Settings.Settings, declared.state.State.State, Lent.row_places, StateWords.words_of}

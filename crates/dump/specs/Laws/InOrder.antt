@@ -1,6 +1,7 @@
 -- Rows, header and mark, each in part or whole, laid in turn: that is a stretch of the order of writing.
-use Rattle.words.specs.Prelude.{ℕ, ◌+◌, ◌-◌, ◌≤◌, ◌<◌, min, ◌≡◌, refl, sym, ap, ◌∙◌, List, Bool, true, false, sub-zero, zero-add, add_assoc, arith, lt-ltb}
-use Rattle.words.specs.Prelude.{le-ltb, leb-true, leb-false, leb, length, get_or}
+use Rattle.std.specs.Prelude.{ℕ, ◌+◌, ◌-◌, ◌≤◌, ◌<◌, min, ◌≡◌, refl, List, Bool, true, false, leb, length, get_or}
+use Rattle.words.specs.Prelude.{sym, ap, ◌∙◌, sub-zero, zero-add, add_assoc, arith, lt-ltb}
+use Rattle.words.specs.Prelude.{le-ltb, leb-true, leb-false}
 use Rattle.images.specs.{Layout.words_bytes}
 use Rattle.dump.specs.{Order.place_of, Order.stretch, Order.written, Laws.Laid.laid, Laws.Laid.laid_on, Laws.Laid.laid_swap, Laws.Laid.stretch-laid}
 use Rattle.dump.specs.{Laws.Laid.stretch_on}

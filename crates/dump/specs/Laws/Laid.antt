@@ -1,5 +1,6 @@
 -- Bytes laid one after another into an area: parts of a stretch, and stretches of the order of writing.
-use Rattle.words.specs.Prelude.{ℕ, zero, suc, ◌+◌, ◌≤◌, ◌<◌, ◌≡◌, refl, sym, ap, List, [], ◌∷◌, add-zero, add-suc, add-one, arith, length, get_or, set}
+use Rattle.std.specs.Prelude.{ℕ, zero, suc, ◌+◌, ◌≤◌, ◌<◌, ◌≡◌, refl, List, [], ◌∷◌, length, get_or, set}
+use Rattle.words.specs.Prelude.{sym, ap, add-zero, add-suc, add-one, arith}
 use Rattle.words.specs.Prelude.{length-set}
 use Rattle.dump.specs.{Order.place_of, Order.stretch}
 

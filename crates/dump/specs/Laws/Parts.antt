@@ -1,5 +1,6 @@
 -- Parts one after another are the whole image, which is what a whole dump leaves.
-use Rattle.words.specs.Prelude.{ℕ, ◌+◌, ◌/◌, ◌≤◌, ◌≡◌, refl, sym, ap, ◌∙◌, List, [], ◌∷◌, ◌++◌, arith, length, take, drop, take-add, drop-drop}
+use Rattle.std.specs.Prelude.{ℕ, ◌+◌, ◌/◌, ◌≤◌, ◌≡◌, refl, List, [], ◌∷◌, ◌++◌, length, take, drop}
+use Rattle.words.specs.Prelude.{sym, ap, ◌∙◌, arith, take-add, drop-drop}
 use Rattle.words.specs.Prelude.{take_all}
 use Rattle.words.specs.{Limits.row_words, Laws.Records.records_fit}
 use Rattle.records.specs.{declared.settings.Settings.Settings, declared.state.State.State, Lent.row_places, StateWords.words_of}

@@ -1,6 +1,7 @@
 -- A part laid from the header's words and the rows': that is the stretch of the image that begins there.
-use Rattle.words.specs.Prelude.{ℕ, zero, suc, ◌+◌, ◌-◌, ◌*◌, ◌/◌, ◌%◌, ◌≤◌, ◌<◌, min, ◌≡◌, refl, sym, ap, ◌∙◌, List, [], ◌++◌, append-nil, zero-add, sub-zero}
-use Rattle.words.specs.Prelude.{arith, length, get_or, take, drop, length-take, length-drop, drop_of_length-le, get_or-take, get_or-drop, drop-cons, set_at}
+use Rattle.std.specs.Prelude.{ℕ, zero, suc, ◌+◌, ◌-◌, ◌*◌, ◌/◌, ◌%◌, ◌≤◌, ◌<◌, min, ◌≡◌, refl, List, [], ◌++◌, length, get_or, take, drop}
+use Rattle.words.specs.Prelude.{sym, ap, ◌∙◌, append-nil, zero-add, sub-zero}
+use Rattle.words.specs.Prelude.{arith, length-take, length-drop, drop_of_length-le, get_or-take, get_or-drop, drop-cons, set_at}
 use Rattle.words.specs.Prelude.{append_snoc, take-length, length-take-le}
 use Rattle.words.specs.{Laws.Overwrite.overwrite_fits}
 use Rattle.steps.specs.{Bytes.eight}

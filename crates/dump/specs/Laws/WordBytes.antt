@@ -1,5 +1,6 @@
 -- The bytes of words: how many there are, and each of them.
-use Rattle.words.specs.Prelude.{ℕ, zero, suc, ◌+◌, ◌*◌, ◌/◌, ◌%◌, ◌<◌, ◌≡◌, refl, sym, ap, ◌∙◌, List, [], ◌∷◌, ◌++◌, arith, length, get_or, List·get_or-append}
+use Rattle.std.specs.Prelude.{ℕ, zero, suc, ◌+◌, ◌*◌, ◌/◌, ◌%◌, ◌<◌, ◌≡◌, refl, List, [], ◌∷◌, ◌++◌, length, get_or}
+use Rattle.words.specs.Prelude.{sym, ap, ◌∙◌, arith, List·get_or-append}
 use Rattle.words.specs.Prelude.{get_or-append-add}
 use Rattle.steps.specs.{Bytes.eight}
 use Rattle.images.specs.{Layout.words_bytes}

@@ -1,5 +1,6 @@
 -- Words of which a part refuses nothing, seen in the words as they are.
-use Rattle.words.specs.Prelude.{ℕ, ◌+◌, ◌*◌, ◌≤◌, ◌≡◌, sym, ap, ◌∙◌, Bool, true, cond, List, length, replicate, length-replicate}
+use Rattle.std.specs.Prelude.{ℕ, ◌+◌, ◌*◌, ◌≤◌, ◌≡◌, Bool, true, cond, List, length, replicate}
+use Rattle.words.specs.Prelude.{sym, ap, ◌∙◌, length-replicate}
 use Rattle.words.specs.{Limits.setting_words, Limits.state_words, Limits.row_words, Limits.most_slots, Limits.most_rows, Words.overwrite}
 use Rattle.records.specs.{Settings.settings_of, StateWords.state_of}
 use Rattle.refusals.specs.{declared.verdict.Verdict.TheVariants.Fine}

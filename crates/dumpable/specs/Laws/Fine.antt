@@ -1,5 +1,6 @@
 -- What a dump, or a part, that is judged fine has been seen to have.
-use Rattle.words.specs.Prelude.{ℕ, ◌≤◌, ◌≡◌, ◌∙◌, List, leb-true, leb, length}
+use Rattle.std.specs.Prelude.{ℕ, ◌≤◌, ◌≡◌, List, leb, length}
+use Rattle.words.specs.Prelude.{◌∙◌, leb-true}
 use Rattle.words.specs.{Limits.most_slots, Limits.most_rows}
 use Rattle.records.specs.{declared.settings.Settings.Settings, declared.state.State.State, Lent.row_places}
 use Rattle.refusals.specs.{declared.verdict.Verdict.TheVariants.Fine, Rooms.room_lines, Rooms.state_lines, Settings.setting_lines, Laws.Lines.and_true}

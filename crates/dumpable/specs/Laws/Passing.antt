@@ -1,7 +1,8 @@
 -- Words of settings and state of which a dump refuses nothing, seen in the words as they are. It is enough, and seldom more than is needed: a
 -- level that is not given has to be finite too.
-use Rattle.words.specs.Prelude.{ℕ, zero, suc, ◌+◌, ◌*◌, ◌/◌, ◌%◌, ◌^◌, ◌≤◌, ◌<◌, ◌≡◌, refl, sym, ap, ◌∙◌, Bool, true, false, cond, ◌&&◌, true≢false, List, []}
-use Rattle.words.specs.Prelude.{le-div_iff_mul-le, mul_assoc, mul_comm, arith, lt-ltb, le-ltb, le-leb, ne_eqb, leb-true, ltb-true, leb, ltb, eqb, length}
+use Rattle.std.specs.Prelude.{ℕ, zero, suc, ◌+◌, ◌*◌, ◌/◌, ◌%◌, ◌^◌, ◌≤◌, ◌<◌, ◌≡◌, refl, Bool, true, false, cond, ◌&&◌, List, [], leb, ltb, eqb, length}
+use Rattle.words.specs.Prelude.{sym, ap, ◌∙◌, true≢false}
+use Rattle.words.specs.Prelude.{le-div_iff_mul-le, mul_assoc, mul_comm, arith, lt-ltb, le-ltb, le-leb, ne_eqb, leb-true, ltb-true}
 use Rattle.words.specs.{Limits.setting_words, Limits.state_words, Limits.row_words, Limits.most_slots, Limits.most_rows, Limits.most_reach, Limits.most_count}
 use Rattle.words.specs.{Words.word}
 use Rattle.floats.specs.{Floats.finite, Floats.float_of}

@@ -1,6 +1,7 @@
 -- A call over many bars is a step for each: its first bar, one bar more, and what is judged once.
-use Rattle.words.specs.Prelude.{ℕ, zero, suc, ◌+◌, ◌-◌, ◌*◌, ◌/◌, ◌%◌, ◌<◌, ◌≤◌, ◌≡◌, refl, sym, ap, ◌∙◌, Bool, true, false, List, [], ◌∷◌, ◌++◌, zero-div}
-use Rattle.words.specs.Prelude.{le-div_iff_mul-le, mod-eq_of_lt, arith, eqb-true, eqb-false, ltb-true, ltb-false, ltb, length, take, drop, drop-drop}
+use Rattle.std.specs.Prelude.{ℕ, zero, suc, ◌+◌, ◌-◌, ◌*◌, ◌/◌, ◌%◌, ◌<◌, ◌≤◌, ◌≡◌, refl, Bool, true, false, List, [], ◌∷◌, ◌++◌, ltb, length, take, drop}
+use Rattle.words.specs.Prelude.{sym, ap, ◌∙◌, zero-div}
+use Rattle.words.specs.Prelude.{le-div_iff_mul-le, mod-eq_of_lt, arith, eqb-true, eqb-false, ltb-true, ltb-false, drop-drop}
 use Rattle.words.specs.Prelude.{length-take-le, take_all}
 use Rattle.words.specs.{Limits.bar_words, declared.refusal.Refusal.Refusal}
 use Rattle.records.specs.{declared.settings.Settings.Settings, declared.state.State.State, Lent.Lists, Lent.Rooms, Lent.rooms}

@@ -1,5 +1,6 @@
 -- Rows that do not move are read, and added to, as if they did.
-use Rattle.words.specs.Prelude.{ℕ, ◌/◌, ◌≡◌, refl, ap, ◌∙◌, Bool, true, false, cond, List, arith, eqb-true, eqb, Float, length}
+use Rattle.std.specs.Prelude.{ℕ, ◌/◌, ◌≡◌, refl, Bool, true, false, cond, List, eqb, Float, length}
+use Rattle.words.specs.Prelude.{ap, ◌∙◌, arith, eqb-true}
 use Rattle.rows.specs.{declared.ring.Ring.Ring, History.history_of, History.width, History.last_rows, Laws.Ring.RingFine, Laws.Ring.ring_adds}
 use Rattle.rows.specs.{Laws.Ring.ring_none, Laws.Ring.held_turned, Laws.Turned.turned_none, Ring.ring_of, Ring.turned, Room.with_row, Room.held_with}
 use Rattle.rules.specs.{declared.position.PositionState.PositionState}

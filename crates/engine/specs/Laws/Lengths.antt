@@ -1,7 +1,8 @@
 -- What is written into a room stays within it: its length is kept, and it holds no more than it has places for.
-use Rattle.words.specs.Prelude.{ℕ, zero, suc, ◌+◌, ◌-◌, ◌*◌, ◌/◌, ◌≤◌, ◌<◌, ◌≡◌, refl, ap, ◌∙◌, Bool, true, false, cond, List, [], ◌∷◌, ◌++◌, le-div_iff_mul-le}
-use Rattle.words.specs.Prelude.{suc-mul, le_refl, mul-le-mul_right, arith, ltb-true, eqb-false, length, take, drop, length-append, length-drop, length-take-le}
-use Rattle.words.specs.Prelude.{ltb, eqb}
+use Rattle.std.specs.Prelude.{ℕ, zero, suc, ◌+◌, ◌-◌, ◌*◌, ◌/◌, ◌≤◌, ◌<◌, ◌≡◌, refl, Bool, true, false, cond, List, [], ◌∷◌, ◌++◌, length, take, drop, ltb}
+use Rattle.std.specs.Prelude.{eqb}
+use Rattle.words.specs.Prelude.{ap, ◌∙◌, le-div_iff_mul-le}
+use Rattle.words.specs.Prelude.{suc-mul, le_refl, mul-le-mul_right, arith, ltb-true, eqb-false, length-append, length-drop, length-take-le}
 use Rattle.words.specs.{Words.overwrite, Laws.Overwrite.overwrite-length}
 use Rattle.rows.specs.{History.width, Room.places_for, Room.with_row, Room.held_with}
 use Rattle.execution.specs.{declared.fills.Exit.Exit, declared.fills.Exit.TheVariants.NoExit, declared.fills.Exit.TheVariants.Exited}

@@ -1,5 +1,6 @@
 -- "A refusal returns number, place and the state it was given, and changes nothing lent."
-use Rattle.words.specs.Prelude.{ℕ, ◌≡◌, refl, List, arith}
+use Rattle.std.specs.Prelude.{ℕ, ◌≡◌, refl, List}
+use Rattle.words.specs.Prelude.{arith}
 use Rattle.words.specs.{declared.refusal.Refusal.Refusal}
 use Rattle.records.specs.{declared.settings.Settings.Settings, declared.state.State.State, Lent.Lists, Lent.Rooms}
 use Rattle.refusals.specs.{declared.verdict.Verdict.Verdict, declared.verdict.Verdict.TheVariants.Fine, declared.verdict.Verdict.TheVariants.Bad}

@@ -1,5 +1,6 @@
 -- A run, bar by bar: the bar at which it stops, a bar that it takes, and what holds at its end.
-use Rattle.words.specs.Prelude.{ℕ, ◌≡◌, refl, List, [], ◌∷◌, arith, length}
+use Rattle.std.specs.Prelude.{ℕ, ◌≡◌, refl, List, [], ◌∷◌, length}
+use Rattle.words.specs.Prelude.{arith}
 use Rattle.words.specs.{declared.refusal.Refusal.Refusal}
 use Rattle.records.specs.{declared.settings.Settings.Settings, declared.state.State.State, Lent.Lists, Lent.Rooms}
 use Rattle.refusals.specs.{declared.verdict.Verdict.Verdict, declared.verdict.Verdict.TheVariants.Fine, declared.verdict.Verdict.TheVariants.Bad}

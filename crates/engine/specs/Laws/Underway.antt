@@ -1,5 +1,6 @@
 -- What a call over many bars looks at once stays fine from bar to bar.
-use Rattle.words.specs.Prelude.{ℕ, ◌+◌, ◌≤◌, ◌≡◌, refl, Bool, true, ◌&&◌, List, arith, leb-true, le-leb, ltb-true, lt-ltb, leb}
+use Rattle.std.specs.Prelude.{ℕ, ◌+◌, ◌≤◌, ◌≡◌, refl, Bool, true, ◌&&◌, List, leb}
+use Rattle.words.specs.Prelude.{arith, leb-true, le-leb, ltb-true, lt-ltb}
 use Rattle.rows.specs.{History.History}
 use Rattle.rules.specs.{declared.position.Entered.Entered as EntryBar, declared.position.Entered.TheVariants.Never, declared.position.Entered.TheVariants.Bar}
 use Rattle.portfolio.specs.{declared.Candle.Candle}

@@ -1,6 +1,6 @@
 -- What a client may count on of an entry away from the market: it fills only on a bar that reaches its level, and its raw price, before slippage, is no
 -- worse than a limit and no better than a stop. Assumes nothing.
-use Rattle.words.specs.Prelude.{◌≡◌, refl, Bool, true, false, cond, Float}
+use Rattle.std.specs.Prelude.{◌≡◌, refl, Bool, true, false, cond, Float}
 use Rattle.floats.specs.{Floats.◌≼◌, Floats.min, Floats.max, Laws.Order.numbers, Laws.Order.itself, Laws.Order.min_second, Laws.Order.max_second}
 use Rattle.portfolio.specs.{declared.Candle.Candle}
 use Rattle.execution.specs.{declared.optional.Optional.Optional, declared.optional.Optional.TheVariants.Absent}

@@ -1,6 +1,7 @@
 -- What a bit pattern stands for: so many units of 2^-1074. Assumes nothing.
-use Rattle.words.specs.Prelude.{◌≡◌, refl, sym, ap, subst, ◌∙◌, Bool, false, cond, ℕ, zero, suc, ◌+◌, ◌*◌, ◌/◌, ◌%◌, ◌^◌, ◌<◌, not-le_of_lt, mod-eq_of_lt, ◌≢◌}
-use Rattle.words.specs.Prelude.{mul-one, arith, T, leb, eqb, leb→le, eqb→eq, not_T, Float, nan, inf, binary64, odd, of_fields, of_bits, is_false, HasValue}
+use Rattle.std.specs.Prelude.{◌≡◌, refl, Bool, false, cond, ℕ, zero, suc, ◌+◌, ◌*◌, ◌/◌, ◌%◌, ◌^◌, ◌<◌, ◌≢◌, T, leb, eqb, Float}
+use Rattle.words.specs.Prelude.{sym, ap, subst, ◌∙◌, not-le_of_lt, mod-eq_of_lt}
+use Rattle.words.specs.Prelude.{mul-one, arith, leb→le, eqb→eq, not_T, nan, inf, binary64, odd, of_fields, of_bits, is_false, HasValue}
 use Rattle.words.specs.Prelude.{odd_sign}
 use Rattle.floats.specs.{Root.field_units, Root.units_of}
 use Rattle.std.specs.Float.Ieee.Bits.{cond_no}

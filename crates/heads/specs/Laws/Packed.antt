@@ -1,6 +1,6 @@
 -- The header as words: fields that are no words of their own stand side by side in one, the first lowest.
-use Rattle.words.specs.Prelude.{ℕ, ◌+◌, ◌*◌, ◌/◌, ◌%◌, ◌<◌, ◌≡◌, refl, sym, ap, ◌∙◌, List, [], ◌∷◌, ◌++◌, mod-eq_of_lt, div-eq_of_lt, zero-add, arith}
-use Rattle.words.specs.Prelude.{replicate}
+use Rattle.std.specs.Prelude.{ℕ, ◌+◌, ◌*◌, ◌/◌, ◌%◌, ◌<◌, ◌≡◌, refl, List, [], ◌∷◌, ◌++◌, replicate}
+use Rattle.words.specs.Prelude.{sym, ap, ◌∙◌, mod-eq_of_lt, div-eq_of_lt, zero-add, arith}
 use Rattle.words.specs.{Words.word}
 use Rattle.steps.specs.{Bytes.two, Bytes.four, Bytes.eight}
 use Rattle.images.specs.{Layout.single, Layout.words_bytes, Layout.numbers, Layout.amounts, Layout.head}

@@ -1,5 +1,6 @@
 -- The words of the state that words mean: of a NaN one pattern, and 0 where a kind does not use its word.
-use Rattle.words.specs.Prelude.{ℕ, zero, suc, ◌≡◌, refl, cond, List, [], ◌∷◌, arith, lt-leb, ne_eqb, leb, eqb, Float}
+use Rattle.std.specs.Prelude.{ℕ, zero, suc, ◌≡◌, refl, cond, List, [], ◌∷◌, leb, eqb, Float}
+use Rattle.words.specs.Prelude.{arith, lt-leb, ne_eqb}
 use Rattle.words.specs.{Words.word}
 use Rattle.floats.specs.{Floats.word_of, Floats.float_of}
 use Rattle.records.specs.{StateWords.order_of, StateWords.entry_kind_of, StateWords.entered_of, StateWords.counts_of, StateWords.portfolio_of, StateWords.position_of}

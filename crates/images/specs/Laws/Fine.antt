@@ -1,6 +1,6 @@
 -- What an image that is judged fine has been seen to have.
-use Rattle.words.specs.Prelude.{ℕ, ◌*◌, ◌≤◌, ◌≡◌, sym, ap, ◌∙◌, true, ◌&&◌, List, mul_assoc, mul_comm, mul-le-mul_right, arith, leb-true, eqb-true, leb, eqb}
-use Rattle.words.specs.Prelude.{length, get_or}
+use Rattle.std.specs.Prelude.{ℕ, ◌*◌, ◌≤◌, ◌≡◌, true, ◌&&◌, List, leb, eqb, length, get_or}
+use Rattle.words.specs.Prelude.{sym, ap, ◌∙◌, mul_assoc, mul_comm, mul-le-mul_right, arith, leb-true, eqb-true}
 use Rattle.words.specs.{Limits.row_words, Limits.most_slots, Limits.most_rows}
 use Rattle.records.specs.{declared.settings.Settings.Settings, Lent.row_places}
 use Rattle.refusals.specs.{declared.verdict.Verdict.TheVariants.Fine, Rooms.room_lines, Settings.setting_lines, Laws.Lines.and_true}

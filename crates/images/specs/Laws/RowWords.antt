@@ -1,7 +1,9 @@
 -- A row judged by its words where they stand: prices and volume, the bits above K, and slot by slot, present and finite or absent and zero.
-use Rattle.words.specs.Prelude.{ℕ, zero, suc, ◌+◌, ◌-◌, ◌*◌, ◌/◌, ◌%◌, ◌^◌, ◌≤◌, ◌<◌, ◌≡◌, refl, sym, ap, ◌∙◌, Bool, true, false, cond, ◌&&◌, ◌||◌, List, []}
-use Rattle.words.specs.Prelude.{◌∷◌, ⊎_elim, eq-or-lt_of_le, add-zero, add-suc, one-mul, pow-suc, zero-div, div-lt_iff_lt-mul, div-div-eq-div-mul, mul_comm}
-use Rattle.words.specs.Prelude.{add-one, arith, lt-ltb, le-ltb, eq-eqb, ne_eqb, eqb-true, eqb-false, ltb, eqb, length, get_or, List·get_or-append}
+use Rattle.std.specs.Prelude.{ℕ, zero, suc, ◌+◌, ◌-◌, ◌*◌, ◌/◌, ◌%◌, ◌^◌, ◌≤◌, ◌<◌, ◌≡◌, refl, Bool, true, false, cond, ◌&&◌, ◌||◌, List, [], ◌∷◌, ltb, eqb}
+use Rattle.std.specs.Prelude.{length, get_or}
+use Rattle.words.specs.Prelude.{sym, ap, ◌∙◌}
+use Rattle.words.specs.Prelude.{⊎_elim, eq-or-lt_of_le, add-zero, add-suc, one-mul, pow-suc, zero-div, div-lt_iff_lt-mul, div-div-eq-div-mul, mul_comm}
+use Rattle.words.specs.Prelude.{add-one, arith, lt-ltb, le-ltb, eq-eqb, ne_eqb, eqb-true, eqb-false, List·get_or-append}
 use Rattle.words.specs.Prelude.{List·get_or-eq_default, pow-add, pow_pos, get_or_at}
 use Rattle.words.specs.{Limits.row_words, declared.refusal.Refusal.Refusal}
 use Rattle.floats.specs.{Floats.finite, Floats.float_of}

@@ -1,6 +1,7 @@
 -- What stands at each place of a column of records, and how long it is.
-use Rattle.words.specs.Prelude.{◌≡◌, refl, sym, ap, ◌∙◌, List, ℕ, zero, suc, ◌+◌, ◌*◌, ◌/◌, ◌≤◌, ◌<◌, mul-zero, mul_comm, zero-add, not-suc-le-zero}
-use Rattle.words.specs.Prelude.{le_of_suc-le-suc, arith, length, get_or, drop, List·get_or-eq_default, get_or-drop}
+use Rattle.std.specs.Prelude.{◌≡◌, refl, List, ℕ, zero, suc, ◌+◌, ◌*◌, ◌/◌, ◌≤◌, ◌<◌, length, get_or, drop}
+use Rattle.words.specs.Prelude.{sym, ap, ◌∙◌, mul-zero, mul_comm, zero-add, not-suc-le-zero}
+use Rattle.words.specs.Prelude.{le_of_suc-le-suc, arith, List·get_or-eq_default, get_or-drop}
 use Rattle.floats.specs.{Floats.float_of}
 use Rattle.words.specs.{Limits.point_words, Limits.trade_words, Laws.Records.record_ends}
 use Rattle.metrics.specs.{Records.equity_word, Records.pnl_word, Records.column, Records.equity_of, Records.pnls_of}

@@ -1,6 +1,8 @@
 -- The tests that the code finds silent are those of the trees; and a table has none over as many rows as it rules. Assumes nothing.
-use Rattle.words.specs.Prelude.{ℕ, suc, ◌+◌, ◌-◌, ◌*◌, ◌≤◌, ◌<◌, min, zero, ◌≡◌, refl, sym, ap, ◌∙◌, Bool, true, false, cond, List, [], ◌∷◌, ◌++◌, append_assoc}
-use Rattle.words.specs.Prelude.{append-nil, ⊎_elim, arith, eq-zero-or-pos, leb, length, get_or, drop, replicate, drop_at, lt-leb, leb-false}
+use Rattle.std.specs.Prelude.{ℕ, suc, ◌+◌, ◌-◌, ◌*◌, ◌≤◌, ◌<◌, min, zero, ◌≡◌, refl, Bool, true, false, cond, List, [], ◌∷◌, ◌++◌, leb, length, get_or, drop}
+use Rattle.std.specs.Prelude.{replicate}
+use Rattle.words.specs.Prelude.{sym, ap, ◌∙◌, append_assoc}
+use Rattle.words.specs.Prelude.{append-nil, ⊎_elim, arith, eq-zero-or-pos, drop_at, lt-leb, leb-false}
 use Rattle.words.specs.{Limits.most_rows, Limits.most_reach}
 use Rattle.table.specs.{declared.nodes.Node.Node, declared.header.Form.Form, declared.answer.Answer.TheVariants.Accepted, Header.count, Header.root}
 use Rattle.table.specs.{Forest.Forest, Forest.trees, Forest.forest_of, Forest.sorts, Forest.Sorted, Reach.own_back, Reach.weigh, Checked.checked, Ends.from}

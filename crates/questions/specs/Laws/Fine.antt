@@ -1,5 +1,6 @@
 -- What a call for many rows that is judged fine has been seen to have.
-use Rattle.words.specs.Prelude.{ℕ, ◌*◌, ◌/◌, ◌≤◌, ◌≡◌, true, List, arith, leb-true}
+use Rattle.std.specs.Prelude.{ℕ, ◌*◌, ◌/◌, ◌≤◌, ◌≡◌, true, List}
+use Rattle.words.specs.Prelude.{arith, leb-true}
 use Rattle.rows.specs.{History.history_of, History.whole_rows}
 use Rattle.refusals.specs.{declared.verdict.Verdict.TheVariants.Fine, Lines.judged, Laws.Lines.first_holds}
 use Rattle.questions.specs.{Position.all_right, Over.asked_rows, Over.place_words, Over.over_lines}

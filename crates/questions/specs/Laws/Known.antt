@@ -1,5 +1,5 @@
 -- What a check of a table tells whoever asks it: what the code finds with the array beside the check is the tree's chain, and that is short.
-use Rattle.words.specs.Prelude.{ℕ, ◌≤◌, ◌≡◌, List, length}
+use Rattle.std.specs.Prelude.{ℕ, ◌≤◌, ◌≡◌, List, length}
 use Rattle.table.specs.{declared.answer.Answer.TheVariants.Accepted, Bytes.Bytes, Checked.checked, Ends.ends_beside}
 use Rattle.rules.specs.{declared.position.PositionState.PositionState}
 use Rattle.chain.specs.{Explained.explanation, Flat.flat_explanation, Laws.Numbered.explanation_found, Laws.Short.few_lines}

@@ -1,6 +1,7 @@
 -- The places of the questions: each has the lines of its own question, as a single question would leave them, and nothing else is touched.
-use Rattle.words.specs.Prelude.{ℕ, zero, suc, ◌+◌, ◌-◌, ◌*◌, ◌<◌, ◌≤◌, ◌≡◌, refl, sym, ap, ◌∙◌, subst, ⊎_elim, List, [], ◌∷◌, ◌++◌, append_assoc, arith}
-use Rattle.words.specs.Prelude.{length, take, drop, get_or, length-append, length-take-le, length-drop, take-add, take-append-drop, drop_at, drop-drop}
+use Rattle.std.specs.Prelude.{ℕ, zero, suc, ◌+◌, ◌-◌, ◌*◌, ◌<◌, ◌≤◌, ◌≡◌, refl, List, [], ◌∷◌, ◌++◌, length, take, drop, get_or}
+use Rattle.words.specs.Prelude.{sym, ap, ◌∙◌, subst, ⊎_elim, append_assoc, arith}
+use Rattle.words.specs.Prelude.{length-append, length-take-le, length-drop, take-add, take-append-drop, drop_at, drop-drop}
 use Rattle.words.specs.Prelude.{drop-append-add, get_or_at, get_or-take, List·get_or-append}
 use Rattle.words.specs.{Words.overwrite, Laws.Overwrite.overwrite_fits, Laws.Overwrite.overwrite-length, Laws.Numbers.less_or_not}
 use Rattle.chain.specs.{Chain.ChainLine, Lines.line_from, Lines.line_words, Lines.chain_words, Lines.put_lines, Laws.Lines.lines_put}

@@ -1,5 +1,6 @@
 -- Where all positions are in order, each is.
-use Rattle.words.specs.Prelude.{ℕ, ◌<◌, ◌≡◌, refl, sym, ◌∙◌, Bool, true, false, true≢false, List}
+use Rattle.std.specs.Prelude.{ℕ, ◌<◌, ◌≡◌, refl, Bool, true, false, List}
+use Rattle.words.specs.Prelude.{sym, ◌∙◌, true≢false}
 use Rattle.rules.specs.{Answers.state_right}
 use Rattle.refusals.specs.{Laws.Every.every_no}
 use Rattle.questions.specs.{Position.position_at, Position.all_right}

@@ -1,5 +1,6 @@
 -- The rows up to a question's: they are in the list, and they are whole.
-use Rattle.words.specs.Prelude.{ℕ, ◌+◌, ◌-◌, ◌*◌, ◌%◌, ◌<◌, ◌≤◌, ◌≡◌, ap, ◌∙◌, true, List, arith, mul-mod_left, eq-eqb, length, length-take-le}
+use Rattle.std.specs.Prelude.{ℕ, ◌+◌, ◌-◌, ◌*◌, ◌%◌, ◌<◌, ◌≤◌, ◌≡◌, true, List, length}
+use Rattle.words.specs.Prelude.{ap, ◌∙◌, arith, mul-mod_left, eq-eqb, length-take-le}
 use Rattle.words.specs.{Laws.Records.records_fit}
 use Rattle.rows.specs.{History.width, History.history_of, History.whole_rows}
 use Rattle.questions.specs.{Over.rows_to}

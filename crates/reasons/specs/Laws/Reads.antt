@@ -1,5 +1,6 @@
 -- An operand has a value at a bar exactly where none of the leaves that it looks at is missing. Assumes nothing.
-use Rattle.words.specs.Prelude.{ℕ, zero, suc, ◌+◌, ◌-◌, ◌≤◌, ◌<◌, ◌≡◌, refl, ap, subst, Bool, true, false, cond, arith, ltb, Float, le-ltb, lt-ltb}
+use Rattle.std.specs.Prelude.{ℕ, zero, suc, ◌+◌, ◌-◌, ◌≤◌, ◌<◌, ◌≡◌, refl, Bool, true, false, cond, ltb, Float}
+use Rattle.words.specs.Prelude.{ap, subst, arith, le-ltb, lt-ltb}
 use Rattle.words.specs.Prelude.{ltb-true, ltb-false}
 use Rattle.rows.specs.{History.History}
 use Rattle.table.specs.{declared.series.Series.Series, declared.series.Series.TheVariants.Price, declared.series.Series.TheVariants.Slot, Trees.Operand}

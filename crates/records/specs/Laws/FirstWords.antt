@@ -1,6 +1,7 @@
 -- Settings and states are made of their first words alone: lists that agree in these have the same.
-use Rattle.words.specs.Prelude.{ℕ, zero, suc, ◌+◌, ◌<◌, ◌≤◌, ◌≡◌, refl, ap, ◌∙◌, Bool, cond, List, [], ◌∷◌, ◌++◌, append-nil, zero-add, arith, le-leb, length}
-use Rattle.words.specs.Prelude.{drop, replicate, length-replicate}
+use Rattle.std.specs.Prelude.{ℕ, zero, suc, ◌+◌, ◌<◌, ◌≤◌, ◌≡◌, refl, Bool, cond, List, [], ◌∷◌, ◌++◌, length, drop, replicate}
+use Rattle.words.specs.Prelude.{ap, ◌∙◌, append-nil, zero-add, arith, le-leb}
+use Rattle.words.specs.Prelude.{length-replicate}
 use Rattle.words.specs.{Limits.setting_words, Limits.state_words, Words.word, Words.overwrite}
 use Rattle.records.specs.{Settings.settings_of, Settings.terms_of, Settings.risk_of, Settings.entries_of, StateWords.state_of, StateWords.counts_of}
 use Rattle.records.specs.{StateWords.position_of, StateWords.portfolio_of}

@@ -1,6 +1,7 @@
 -- A caller loses nothing between calls: the words of a state mean that state, if its floats are f64, as they are in every state that words
 -- mean and in a fresh one.
-use Rattle.words.specs.Prelude.{ℕ, ◌≤◌, ◌≡◌, refl, Bool, true, false, cond, List, ◌++◌, arith, le-leb, T, eqb, length, drop, Float, binary64, fits}
+use Rattle.std.specs.Prelude.{ℕ, ◌≤◌, ◌≡◌, refl, Bool, true, false, cond, List, ◌++◌, T, eqb, length, drop, Float}
+use Rattle.words.specs.Prelude.{arith, le-leb, binary64, fits}
 use Rattle.words.specs.Prelude.{of_bits-to_bits, of_bits-fits}
 use Rattle.portfolio.specs.{Portfolio.fresh}
 use Rattle.floats.specs.{Floats.float_of}

@@ -1,5 +1,6 @@
 -- A bad step of a list is one of its at most 1,024.
-use Rattle.words.specs.Prelude.{ℕ, zero, suc, ◌+◌, ◌<◌, ◌%◌, ◌≡◌, refl, Bool, true, false, cond, List, arith, ltb-false, length, eqb, ltb}
+use Rattle.std.specs.Prelude.{ℕ, zero, suc, ◌+◌, ◌<◌, ◌%◌, ◌≡◌, refl, Bool, true, false, cond, List, length, eqb, ltb}
+use Rattle.words.specs.Prelude.{arith, ltb-false}
 use Rattle.words.specs.{Limits.most_steps}
 use Rattle.steps.specs.{declared.wellformed.Formed.TheVariants.Bad, Bytes.step_at, Bytes.steps_in, WellFormed.good_step, WellFormed.formed_from, WellFormed.formed}
 

@@ -1,6 +1,7 @@
 -- The code goes down the lines: where one holds, or a list judged by itself is fine, what stands below it decides; where it does
 -- not, it decides, and nothing below it is looked at.
-use Rattle.words.specs.Prelude.{◌≡◌, refl, sym, ap, ◌∙◌, Bool, true, false, not, List, [], ◌∷◌, ◌++◌, not-true, not-false}
+use Rattle.std.specs.Prelude.{◌≡◌, refl, Bool, true, false, not, List, [], ◌∷◌, ◌++◌}
+use Rattle.words.specs.Prelude.{sym, ap, ◌∙◌, not-true, not-false}
 use Rattle.words.specs.{declared.refusal.Refusal.Refusal, Outcome.refusal}
 use Rattle.refusals.specs.{declared.verdict.Verdict.Verdict, declared.verdict.Verdict.TheVariants.Fine, declared.verdict.Verdict.TheVariants.Bad}
 use Rattle.refusals.specs.{Lines.Line, Lines.judged, Laws.Lines.below_fine, Laws.Lines.below_bad}

@@ -1,5 +1,6 @@
 -- What a step that is judged fine has been seen to have: every line of the table of refusals holds.
-use Rattle.words.specs.Prelude.{ℕ, ◌≤◌, ◌<◌, ◌≡◌, List, ltb-true, leb-true, eqb-true, length}
+use Rattle.std.specs.Prelude.{ℕ, ◌≤◌, ◌<◌, ◌≡◌, List, length}
+use Rattle.words.specs.Prelude.{ltb-true, leb-true, eqb-true}
 use Rattle.words.specs.{Limits.bar_words, Limits.most_count, Limits.most_slots}
 use Rattle.records.specs.{declared.settings.Settings.Settings, declared.state.State.State, Lent.Rooms, Lent.Lists, Lent.row_places, Lent.point_places}
 use Rattle.records.specs.{Lent.trade_places}

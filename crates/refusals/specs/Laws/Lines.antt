@@ -1,5 +1,6 @@
 -- A list of lines, judged from the top: what holds of it as a whole, and of a list that stands below another.
-use Rattle.words.specs.Prelude.{ℕ, ◌≡◌, refl, sym, Bool, true, false, cond, ◌&&◌, List, [], ◌∷◌, ◌++◌, arith}
+use Rattle.std.specs.Prelude.{ℕ, ◌≡◌, refl, Bool, true, false, cond, ◌&&◌, List, [], ◌∷◌, ◌++◌}
+use Rattle.words.specs.Prelude.{sym, arith}
 use Rattle.words.specs.{declared.refusal.Refusal.Refusal}
 use Rattle.refusals.specs.{declared.verdict.Verdict.Verdict, declared.verdict.Verdict.TheVariants.Fine, declared.verdict.Verdict.TheVariants.Bad}
 use Rattle.refusals.specs.{Lines.Line, Lines.judged, Lines.first_bad}

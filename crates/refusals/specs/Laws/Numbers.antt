@@ -1,5 +1,6 @@
 -- Every refusal of a step and of a finish has a number from 10 to 16.
-use Rattle.words.specs.Prelude.{ℕ, ◌≤◌, ◌≡◌, refl, sym, Bool, true, false, cond, ◌&&◌, List, [], ◌∷◌, ◌++◌, arith, leb, leb-true}
+use Rattle.std.specs.Prelude.{ℕ, ◌≤◌, ◌≡◌, refl, Bool, true, false, cond, ◌&&◌, List, [], ◌∷◌, ◌++◌, leb}
+use Rattle.words.specs.Prelude.{sym, arith, leb-true}
 use Rattle.words.specs.{declared.refusal.Refusal.Refusal, Outcome.refusal}
 use Rattle.records.specs.{declared.settings.Settings.Settings, declared.state.State.State, Lent.Rooms, Lent.Lists}
 use Rattle.refusals.specs.{declared.verdict.Verdict.Verdict, declared.verdict.Verdict.TheVariants.Bad, Lines.Line, Lines.judged, Settings.sizing_lines}

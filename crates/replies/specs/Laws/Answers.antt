@@ -1,5 +1,6 @@
 -- A refusal's number and place can be read off the word that a call answers.
-use Rattle.words.specs.Prelude.{◌<◌, ◌/◌, ◌%◌, ◌^◌, ◌≡◌, arith}
+use Rattle.std.specs.Prelude.{◌<◌, ◌/◌, ◌%◌, ◌^◌, ◌≡◌}
+use Rattle.words.specs.Prelude.{arith}
 use Rattle.words.specs.{declared.refusal.Refusal.Refusal}
 use Rattle.replies.specs.{Call.answer_word}
 

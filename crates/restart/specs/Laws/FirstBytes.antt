@@ -1,6 +1,7 @@
 -- The first eight bytes of an image: bytes that are an image's behind them, and that 19 and 20 let pass, are the image.
-use Rattle.words.specs.Prelude.{ℕ, zero, suc, ◌+◌, ◌*◌, ◌/◌, ◌%◌, ◌≤◌, ◌<◌, ◌≡◌, refl, sym, ◌∙◌, Bool, true, false, List, mod-eq_of_lt, arith, eqb-true}
-use Rattle.words.specs.Prelude.{ltb-true, ltb-false, ltb, length, get_or, ext_get_or}
+use Rattle.std.specs.Prelude.{ℕ, zero, suc, ◌+◌, ◌*◌, ◌/◌, ◌%◌, ◌≤◌, ◌<◌, ◌≡◌, refl, Bool, true, false, List, ltb, length, get_or}
+use Rattle.words.specs.Prelude.{sym, ◌∙◌, mod-eq_of_lt, arith, eqb-true}
+use Rattle.words.specs.Prelude.{ltb-true, ltb-false, ext_get_or}
 use Rattle.table.specs.{Bytes.u16, Bytes.Bytes}
 use Rattle.records.specs.{declared.settings.Settings.Settings, declared.state.State.State}
 use Rattle.refusals.specs.{declared.verdict.Verdict.TheVariants.Fine, Lines.judged, Laws.Lines.first_holds}

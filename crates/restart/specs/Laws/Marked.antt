@@ -1,5 +1,6 @@
 -- What a fine shape says of an image's first bytes: the mark and the version.
-use Rattle.words.specs.Prelude.{ℕ, ◌≡◌, true, List, eqb-true, leb, eqb, length, get_or}
+use Rattle.std.specs.Prelude.{ℕ, ◌≡◌, true, List, leb, eqb, length, get_or}
+use Rattle.words.specs.Prelude.{eqb-true}
 use Rattle.words.specs.{Limits.most_slots, Limits.most_rows}
 use Rattle.refusals.specs.{Laws.Lines.and_true}
 use Rattle.images.specs.{Layout.head_bytes, Layout.dump_bytes, Reading.slots_in, Reading.version_in, Reading.depth_in, Refused.shape_fine}

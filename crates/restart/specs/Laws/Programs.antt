@@ -1,6 +1,7 @@
 -- Programs, done and cut: what each byte of an area is then.
-use Rattle.words.specs.Prelude.{ℕ, ◌≤◌, ◌<◌, ◌≡◌, refl, sym, ap, ◌∙◌, Bool, true, false, ◌||◌, List, [], ◌∷◌, inl, inr, arith, eqb-true, eqb-false, eqb, length}
-use Rattle.words.specs.Prelude.{get_or, take, set, length-set, get_or-set_same, get_or-set_other, ext_get_or, length-take-le, get_or-take}
+use Rattle.std.specs.Prelude.{ℕ, ◌≤◌, ◌<◌, ◌≡◌, refl, Bool, true, false, ◌||◌, List, [], ◌∷◌, eqb, length, get_or, take, set}
+use Rattle.words.specs.Prelude.{sym, ap, ◌∙◌, inl, inr, arith, eqb-true, eqb-false}
+use Rattle.words.specs.Prelude.{length-set, get_or-set_same, get_or-set_other, ext_get_or, length-take-le, get_or-take}
 use Rattle.table.specs.{Bytes.Bytes}
 use Rattle.restart.specs.{Plans.touches, Plans.covers, Plans.programmed, Plans.all_programmed, Plans.CutIn, Plans.in_order, Plans.RestRight}
 

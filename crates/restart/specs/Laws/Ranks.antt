@@ -1,5 +1,6 @@
 -- The order of writing: which byte of it stands at a place, and that the mark's last byte is the last.
-use Rattle.words.specs.Prelude.{ℕ, ◌+◌, ◌-◌, ◌≤◌, ◌<◌, ◌≡◌, refl, Bool, true, false, cond, arith, lt-ltb, le-ltb, ltb-true, ltb-false, ltb}
+use Rattle.std.specs.Prelude.{ℕ, ◌+◌, ◌-◌, ◌≤◌, ◌<◌, ◌≡◌, refl, Bool, true, false, cond, ltb}
+use Rattle.words.specs.Prelude.{arith, lt-ltb, le-ltb, ltb-true, ltb-false}
 use Rattle.dump.specs.{Order.place_of}
 
 -- no byte of the order but the last goes to place 2

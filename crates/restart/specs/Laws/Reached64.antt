@@ -1,7 +1,9 @@
 -- After any bars from a fresh state, the numbers of a state and the words of its window are such as the code's types hold, where those of the settings
 -- and of the bars are.
-use Rattle.words.specs.Prelude.{ℕ, zero, suc, ◌-◌, ◌*◌, ◌/◌, ◌%◌, ◌^◌, ◌≤◌, ◌<◌, ◌≡◌, ap, ◌∙◌, Bool, true, false, cond, List, [], ◌∷◌, ◌++◌, zero-mul}
-use Rattle.words.specs.Prelude.{arith, leb-true, ltb-true, leb, ltb, eqb, length, get_or, List·get_or-eq_default, get_or-drop}
+use Rattle.std.specs.Prelude.{ℕ, zero, suc, ◌-◌, ◌*◌, ◌/◌, ◌%◌, ◌^◌, ◌≤◌, ◌<◌, ◌≡◌, Bool, true, false, cond, List, [], ◌∷◌, ◌++◌, leb, ltb, eqb, length}
+use Rattle.std.specs.Prelude.{get_or}
+use Rattle.words.specs.Prelude.{ap, ◌∙◌, zero-mul}
+use Rattle.words.specs.Prelude.{arith, leb-true, ltb-true, List·get_or-eq_default, get_or-drop}
 use Rattle.words.specs.{Limits.row_words, Limits.most_rows}
 use Rattle.rows.specs.{History.last_rows}
 use Rattle.rules.specs.{declared.position.Entered.Entered, declared.position.Entered.TheVariants.Never, declared.position.Entered.TheVariants.Bar}

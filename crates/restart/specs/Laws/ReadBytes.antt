@@ -1,5 +1,6 @@
 -- The bytes of a number that bytes say are these bytes.
-use Rattle.words.specs.Prelude.{ℕ, zero, suc, ◌+◌, ◌<◌, ◌≡◌, refl, ap, ◌∙◌, List, [], ◌∷◌, ◌++◌, arith, get_or}
+use Rattle.std.specs.Prelude.{ℕ, zero, suc, ◌+◌, ◌<◌, ◌≡◌, refl, List, [], ◌∷◌, ◌++◌, get_or}
+use Rattle.words.specs.Prelude.{ap, ◌∙◌, arith}
 use Rattle.table.specs.{Bytes.u16, Bytes.u32, Bytes.u64, Bytes.Bytes}
 use Rattle.steps.specs.{Bytes.four, Bytes.eight}
 use Rattle.heads.specs.{Laws.Packed.halves, Laws.Packed.joined}

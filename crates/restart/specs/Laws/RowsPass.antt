@@ -1,6 +1,7 @@
 -- Rows that 11 would let pass: the row of a bar that it let pass, and a window to which such a row is added.
-use Rattle.words.specs.Prelude.{ℕ, zero, suc, ◌+◌, ◌-◌, ◌*◌, ◌/◌, ◌%◌, ◌^◌, ◌≤◌, ◌<◌, ◌≡◌, refl, ap, ◌∙◌, Bool, true, false, List, ◌++◌, ⊎_elim, eq-or-lt_of_le}
-use Rattle.words.specs.Prelude.{add-mul, le-div_iff_mul-le, mul-div_cancel, mul-le-mul_right, arith, lt-ltb, le-ltb, ltb-true, ltb, eqb, length, get_or, drop}
+use Rattle.std.specs.Prelude.{ℕ, zero, suc, ◌+◌, ◌-◌, ◌*◌, ◌/◌, ◌%◌, ◌^◌, ◌≤◌, ◌<◌, ◌≡◌, refl, Bool, true, false, List, ◌++◌, ltb, eqb, length, get_or, drop}
+use Rattle.words.specs.Prelude.{ap, ◌∙◌, ⊎_elim, eq-or-lt_of_le}
+use Rattle.words.specs.Prelude.{add-mul, le-div_iff_mul-le, mul-div_cancel, mul-le-mul_right, arith, lt-ltb, le-ltb, ltb-true}
 use Rattle.words.specs.Prelude.{length-append, length-drop, List·get_or-append, List·get_or-eq_default, get_or-append-add, get_or-drop}
 use Rattle.words.specs.{Limits.row_words, Limits.most_slots}
 use Rattle.rows.specs.{History.last_rows}

@@ -1,5 +1,5 @@
 -- States with the same position, order and last bar have the same floats.
-use Rattle.words.specs.Prelude.{◌≡◌}
+use Rattle.std.specs.Prelude.{◌≡◌}
 use Rattle.records.specs.{declared.state.State.State, Laws.RoundTrip.Floats64}
 
 pub floats_alike : (t t' : State) → t.position ≡ t'.position → t.last ≡ t'.last → t.order ≡ t'.order → Floats64 t → Floats64 t'

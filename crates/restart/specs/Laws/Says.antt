@@ -1,5 +1,6 @@
 -- What a whole image says of the state that it was written from, and that none of its fields is one that 19 refuses.
-use Rattle.words.specs.Prelude.{ℕ, ◌+◌, ◌*◌, ◌≤◌, ◌≡◌, refl, true, List, arith, le-leb, eq-eqb, leb, ltb, eqb, length, get_or}
+use Rattle.std.specs.Prelude.{ℕ, ◌+◌, ◌*◌, ◌≤◌, ◌≡◌, refl, true, List, leb, ltb, eqb, length, get_or}
+use Rattle.words.specs.Prelude.{arith, le-leb, eq-eqb}
 use Rattle.words.specs.{Limits.row_words, Limits.most_slots, Limits.most_rows}
 use Rattle.rules.specs.{declared.position.Entered.Entered, declared.position.Entered.TheVariants.Never, declared.position.Entered.TheVariants.Bar}
 use Rattle.execution.specs.{declared.level.OrderKind.OrderKind, declared.level.OrderKind.TheVariants.Market, declared.level.OrderKind.TheVariants.Limit}

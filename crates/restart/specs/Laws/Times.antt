@@ -1,5 +1,6 @@
 -- The time of the last entry and the delay of an order stay below 2^64, where the bar's time and the delay setting are.
-use Rattle.words.specs.Prelude.{ℕ, ◌-◌, ◌<◌, Bool, true, false, cond, List, arith, Float}
+use Rattle.std.specs.Prelude.{ℕ, ◌-◌, ◌<◌, Bool, true, false, cond, List, Float}
+use Rattle.words.specs.Prelude.{arith}
 use Rattle.floats.specs.{Floats.◌⊗◌, Floats.◌≺◌, Floats.eps}
 use Rattle.rows.specs.{History.History}
 use Rattle.portfolio.specs.{declared.Candle.Candle, declared.Portfolio.Portfolio, Portfolio.in_position}

@@ -1,6 +1,7 @@
 -- An accepted table holds a rule within the paper's limits.
 -- Assumes nothing.
-use Rattle.words.specs.Prelude.{◌≡◌, ◌∙◌, ap, ⊎_elim, List, ℕ, zero, suc, ◌+◌, ◌*◌, ◌<◌, arith, eq-zero-or-pos, length, eq-eqb, ne_eqb}
+use Rattle.std.specs.Prelude.{◌≡◌, List, ℕ, zero, suc, ◌+◌, ◌*◌, ◌<◌, length}
+use Rattle.words.specs.Prelude.{◌∙◌, ap, ⊎_elim, arith, eq-zero-or-pos, eq-eqb, ne_eqb}
 use Rattle.words.specs.{Limits.most_nesting}
 use Rattle.table.specs.{declared.answer.Answer.TheVariants.Accepted, Bytes.u64, Header.form_of, Header.count, Header.root, Nodes.node_at, Nodes.child_count_at}
 use Rattle.table.specs.{Forest.Forest, Forest.first_trees, Forest.other_trees, Forest.node_over, Forest.trees, Forest.forest_of, Checked.checked}

@@ -1,8 +1,9 @@
 -- An accepted table is the table of the rule that it holds: writing its trees in prefix order under the paper's header gives
 -- its own bytes back. So the reading of an accepted table loses nothing and makes nothing up.
 -- Assumes nothing.
-use Rattle.words.specs.Prelude.{◌≡◌, refl, sym, ◌∙◌, ap, true, ⊎_elim, List, [], ◌∷◌, ◌++◌, ℕ, zero, suc, ◌+◌, ◌*◌, ◌/◌, ◌%◌, ◌≤◌, ◌<◌, arith, eq-zero-or-pos}
-use Rattle.words.specs.Prelude.{length, get_or, length-append, eqb, ne_eqb, eqb-true}
+use Rattle.std.specs.Prelude.{◌≡◌, refl, true, List, [], ◌∷◌, ◌++◌, ℕ, zero, suc, ◌+◌, ◌*◌, ◌/◌, ◌%◌, ◌≤◌, ◌<◌, length, get_or, eqb}
+use Rattle.words.specs.Prelude.{sym, ◌∙◌, ap, ⊎_elim, arith, eq-zero-or-pos}
+use Rattle.words.specs.Prelude.{length-append, ne_eqb, eqb-true}
 use Rattle.table.specs.{declared.answer.Answer.TheVariants.Accepted, declared.header.Form.Form, Bytes.Bytes, Bytes.u16, Bytes.u32, Bytes.u64}
 use Rattle.table.specs.{Header.newest_version, Header.version, Header.form_of, Header.total, Header.count, Header.root, Header.mark_right, Nodes.node_at}
 use Rattle.table.specs.{Nodes.child_count_at, Nodes.node_right, Forest.Forest, Forest.first_trees, Forest.other_trees, Forest.node_over, Forest.trees}

@@ -1,6 +1,7 @@
 -- What an accepted table holds is within the paper's limits.
 -- Assumes nothing.
-use Rattle.words.specs.Prelude.{◌≡◌, sym, ◌∙◌, ap, subst, true, List, [], ◌∷◌, ℕ, zero, suc, ◌≤◌, ◌<◌, arith, length, replicate, leb, ltb-true, leb-true}
+use Rattle.std.specs.Prelude.{◌≡◌, true, List, [], ◌∷◌, ℕ, zero, suc, ◌≤◌, ◌<◌, length, replicate, leb}
+use Rattle.words.specs.Prelude.{sym, ◌∙◌, ap, subst, arith, ltb-true, leb-true}
 use Rattle.words.specs.{Limits.most_reach}
 use Rattle.table.specs.{declared.nodes.Node.Node, declared.kinds.Kind.Kind, declared.header.Form.Form, declared.places.Place.TheVariants.Nowhere, Kinds.kind_of}
 use Rattle.table.specs.{Kinds.constant, Kinds.reference, Kinds.extremum, Kinds.bars_since, Nodes.child_count, Nodes.n_right, Nodes.constant_right, Nodes.own_right}

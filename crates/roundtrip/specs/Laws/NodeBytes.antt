@@ -1,6 +1,7 @@
 -- The bytes of nodes: sixteen each, and a forest's in prefix order.
 -- Assumes nothing.
-use Rattle.words.specs.Prelude.{◌≡◌, refl, sym, ap, List, [], ◌∷◌, ◌++◌, append_assoc, ℕ, ◌*◌, arith, length, length-append}
+use Rattle.std.specs.Prelude.{◌≡◌, refl, List, [], ◌∷◌, ◌++◌, ℕ, ◌*◌, length}
+use Rattle.words.specs.Prelude.{sym, ap, append_assoc, arith, length-append}
 use Rattle.table.specs.{declared.nodes.Node.Node, Forest.Forest, Forest.size, Forest.flat, Writing.le16, Writing.le32, Writing.le64, Writing.node}
 use Rattle.table.specs.{Writing.node_bytes, Writing.nodes_bytes}
 use Rattle.table.specs.Forest as Forest

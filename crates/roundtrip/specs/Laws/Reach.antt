@@ -1,6 +1,7 @@
 -- The reach of the typed trees is the reach that the checker weighs, and the rows needed are one more than the greatest.
 -- Assumes nothing.
-use Rattle.words.specs.Prelude.{◌≡◌, refl, ◌∙◌, ap, ⊎_elim, List, [], ◌∷◌, ℕ, zero, suc, ◌+◌, ◌<◌, max, arith, eq-zero-or-pos, length, replicate}
+use Rattle.std.specs.Prelude.{◌≡◌, refl, List, [], ◌∷◌, ℕ, zero, suc, ◌+◌, ◌<◌, max, length, replicate}
+use Rattle.words.specs.Prelude.{◌∙◌, ap, ⊎_elim, arith, eq-zero-or-pos}
 use Rattle.table.specs.{declared.nodes.Node.Node, declared.kinds.Kind.Kind, declared.answer.Answer.TheVariants.Accepted, Kinds.kind_of, Kinds.extremum}
 use Rattle.table.specs.{Header.count, Nodes.child_count, Forest.Forest, Forest.trees, Forest.forest_of, Forest.sorts, Forest.Sorted, Reach.back, Reach.own_back}
 use Rattle.table.specs.{Reach.weigh, Reach.forest_reach, Reach.tree_reach, Reach.rows_needed, Checked.checked, Trees.Operand, Trees.Conditions, Trees.none}

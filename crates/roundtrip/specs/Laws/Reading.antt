@@ -1,6 +1,7 @@
 -- Laws of reading: a row of trees reads as many operands or conditions as it has trees, and operands stand on operands.
 -- Assumes nothing.
-use Rattle.words.specs.Prelude.{◌≡◌, refl, ◌∙◌, ap, Bool, true, false, cond, List, [], ◌∷◌, ℕ, suc, arith, length, replicate, length-replicate, eqb, eqb-true}
+use Rattle.std.specs.Prelude.{◌≡◌, refl, Bool, true, false, cond, List, [], ◌∷◌, ℕ, suc, length, replicate, eqb}
+use Rattle.words.specs.Prelude.{◌∙◌, ap, arith, length-replicate, eqb-true}
 use Rattle.table.specs.{declared.nodes.Node.Node, declared.kinds.Kind.Kind, Kinds.kinds, Kinds.kind_of, Nodes.child_count, Forest.Forest, Forest.sorts}
 use Rattle.table.specs.{Trees.Operand, Reading.child}
 use Rattle.table.specs.{Reading.operands, Reading.conditions, Writing.many_of, Ends.from, Laws.Kinds.of_rows, Laws.Kinds.known}

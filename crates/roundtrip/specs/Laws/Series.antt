@@ -1,6 +1,7 @@
 -- The child of Highest and Lowest is a series: where each node has the children that its kind takes, it is a Price or a Ref.
 -- Assumes nothing.
-use Rattle.words.specs.Prelude.{◌≡◌, refl, sym, true, true≢false, List, [], ◌∷◌, ℕ, arith, replicate, eqb}
+use Rattle.std.specs.Prelude.{◌≡◌, refl, true, List, [], ◌∷◌, ℕ, replicate, eqb}
+use Rattle.words.specs.Prelude.{sym, true≢false, arith}
 use Rattle.table.specs.{declared.nodes.Node.Node, declared.header.Form.Form, declared.series.Series.Series, declared.series.Series.TheVariants.Price}
 use Rattle.table.specs.{declared.series.Series.TheVariants.Slot, declared.kinds.OperandClass.OperandClass, Kinds.kind_of, Kinds.extremum, Kinds.a_series}
 use Rattle.table.specs.{Nodes.child_count, Nodes.child_fits, Forest.Forest, Forest.sorts, Forest.Fitting, Trees.Operand, Trees.reach, Series.as_series}

@@ -1,7 +1,8 @@
 -- Laws for whoever walks an accepted table's trees with its array of ends: what stands below a node and after it, and what it
 -- reads as. `WholeTree` is of Accepted, `tree_whole` gives it for each tree of an accepted table.
 -- Assumes nothing.
-use Rattle.words.specs.Prelude.{◌≡◌, refl, sym, ◌∙◌, ap, List, [], ◌∷◌, ℕ, zero, suc, ◌+◌, ◌-◌, ◌≤◌, ◌<◌, arith, eq-zero-or-pos, ⊎_elim, replicate}
+use Rattle.std.specs.Prelude.{◌≡◌, refl, List, [], ◌∷◌, ℕ, zero, suc, ◌+◌, ◌-◌, ◌≤◌, ◌<◌, replicate}
+use Rattle.words.specs.Prelude.{sym, ◌∙◌, ap, arith, eq-zero-or-pos, ⊎_elim}
 use Rattle.words.specs.{Limits.most_nesting}
 use Rattle.table.specs.{declared.nodes.Node.Node, declared.answer.Answer.TheVariants.Accepted, declared.places.Place.TheVariants.Nowhere, Header.count}
 use Rattle.table.specs.{Header.root, Nodes.node_at, Nodes.sort_at, Nodes.child_count_at, Nodes.child_sort_at, Order.or_place, Forest.Forest, Forest.forest_of}

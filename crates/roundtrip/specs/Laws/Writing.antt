@@ -1,8 +1,9 @@
 -- Where each node's own bytes are right and each has the children that its kind takes, writing what the forest reads as gives
 -- the forest's own nodes back, in prefix order.
 -- Assumes nothing.
-use Rattle.words.specs.Prelude.{◌≡◌, refl, sym, ◌∙◌, ap, true, cond, List, ◌++◌, append_assoc, append-nil, ℕ, zero, suc, ◌+◌, ◌<◌, arith, length, replicate}
-use Rattle.words.specs.Prelude.{eqb, eqb-true}
+use Rattle.std.specs.Prelude.{◌≡◌, refl, true, cond, List, ◌++◌, ℕ, zero, suc, ◌+◌, ◌<◌, length, replicate, eqb}
+use Rattle.words.specs.Prelude.{sym, ◌∙◌, ap, append_assoc, append-nil, arith}
+use Rattle.words.specs.Prelude.{eqb-true}
 use Rattle.table.specs.{declared.nodes.Node.Node, declared.kinds.Kind.Kind, declared.header.Form.Form, Kinds.kind_of, Kinds.constant, Kinds.reference}
 use Rattle.table.specs.{Kinds.price, Kinds.previous, Kinds.arithmetic, Kinds.extremum, Kinds.comparison, Kinds.crossing, Kinds.between, Kinds.trend}
 use Rattle.table.specs.{Kinds.all_of, Kinds.any_of, Kinds.negation, Kinds.position, Kinds.bars_since, Nodes.child_count, Nodes.children_right, Nodes.n_right}

@@ -1,7 +1,8 @@
 -- The table of a rule within the limits breaks no rule, and holds that rule.
 -- Assumes nothing.
-use Rattle.words.specs.Prelude.{◌≡◌, refl, sym, ◌∙◌, ap, subst, true, false, List, [], ◌++◌, append-nil, append_assoc, ℕ, zero, suc, ◌+◌, ◌*◌, ◌≤◌, max, arith}
-use Rattle.words.specs.Prelude.{length, length-append, ltb, eqb, le-ltb, le-leb, eq-eqb}
+use Rattle.std.specs.Prelude.{◌≡◌, refl, true, false, List, [], ◌++◌, ℕ, zero, suc, ◌+◌, ◌*◌, ◌≤◌, max, length, ltb, eqb}
+use Rattle.words.specs.Prelude.{sym, ◌∙◌, ap, subst, append-nil, append_assoc, arith}
+use Rattle.words.specs.Prelude.{length-append, le-ltb, le-leb, eq-eqb}
 use Rattle.words.specs.{Limits.most_slots, Limits.most_nesting, Limits.most_nodes}
 use Rattle.table.specs.{declared.places.Place.Place, declared.places.Place.TheVariants.Nowhere, declared.answer.Answer.TheVariants.Accepted}
 use Rattle.table.specs.{declared.header.Form.Form, Bytes.u16, Header.newest_version, Header.slots, Header.version, Header.form_of, Header.total, Header.count}

@@ -1,6 +1,7 @@
 -- The table of a rule within the limits is a byte string: each of its numbers is below 256.
 -- Assumes nothing.
-use Rattle.words.specs.Prelude.{List, [], ◌∷◌, ◌++◌, ℕ, zero, suc, ◌/◌, ◌%◌, ◌≤◌, ◌<◌, arith, get_or}
+use Rattle.std.specs.Prelude.{List, [], ◌∷◌, ◌++◌, ℕ, zero, suc, ◌/◌, ◌%◌, ◌≤◌, ◌<◌, get_or}
+use Rattle.words.specs.Prelude.{arith}
 use Rattle.words.specs.{Limits.most_slots, Limits.most_nodes}
 use Rattle.table.specs.{declared.header.Form.Form, declared.nodes.Node.Node, Forest.Forest, Forest.flat, Trees.Condition, Writing.le16, Writing.le32}
 use Rattle.table.specs.{Writing.le64, Writing.node, Writing.node_bytes, Writing.nodes_bytes, Writing.write_condition, Writing.nodes_of, Writing.Short}

@@ -1,6 +1,7 @@
 -- The forest of a tree that is written in a table: its nodes with their numbers, over their children.
 -- Assumes nothing.
-use Rattle.words.specs.Prelude.{◌≡◌, refl, sym, ap, ◌∙◌, cond, List, ◌++◌, append_assoc, append-nil, ℕ, ◌+◌, ◌*◌, arith, length}
+use Rattle.std.specs.Prelude.{◌≡◌, refl, cond, List, ◌++◌, ℕ, ◌+◌, ◌*◌, length}
+use Rattle.words.specs.Prelude.{sym, ap, ◌∙◌, append_assoc, append-nil, arith}
 use Rattle.table.specs.{declared.nodes.Node.Node, declared.series.Series.Series, declared.series.Series.TheVariants.Price}
 use Rattle.table.specs.{declared.series.Series.TheVariants.Slot, Forest.Forest, Forest.size, Forest.flat, Trees.Operand, Trees.const, Trees.ref, Trees.price}
 use Rattle.table.specs.{Trees.prev, Trees.arith as sums, Trees.extreme, Trees.Condition, Trees.Conditions, Trees.compare, Trees.cross, Trees.between}

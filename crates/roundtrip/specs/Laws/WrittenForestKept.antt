@@ -1,6 +1,7 @@
 -- The forest of a tree within the limits keeps the rules of a table: own bytes, sorts and children.
 -- Assumes nothing.
-use Rattle.words.specs.Prelude.{◌≡◌, refl, ◌∙◌, ap, true, false, List, [], ◌∷◌, ℕ, ◌+◌, ◌-◌, ◌≤◌, ◌<◌, replicate, eqb, lt-ltb, le-leb, arith}
+use Rattle.std.specs.Prelude.{◌≡◌, refl, true, false, List, [], ◌∷◌, ℕ, ◌+◌, ◌-◌, ◌≤◌, ◌<◌, replicate, eqb}
+use Rattle.words.specs.Prelude.{◌∙◌, ap, lt-ltb, le-leb, arith}
 use Rattle.words.specs.{Limits.most_reach, Limits.most_slots, Limits.most_nodes}
 use Rattle.table.specs.{declared.nodes.Node.Node, declared.kinds.Kind.Kind, declared.header.Form.Form, declared.series.Series.Series}
 use Rattle.table.specs.{declared.series.Series.TheVariants.Price, declared.series.Series.TheVariants.Slot, Kinds.kinds, Kinds.kind_of, Kinds.versions}

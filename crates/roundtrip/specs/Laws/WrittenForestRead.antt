@@ -1,6 +1,7 @@
 -- The forest of a tree within the limits is no deeper than the tree, and reads as the tree.
 -- Assumes nothing.
-use Rattle.words.specs.Prelude.{◌≡◌, refl, ◌∙◌, ap, Bool, true, false, cond, List, [], ◌∷◌, ℕ, zero, suc, ◌+◌, ◌-◌, ◌≤◌, ◌<◌, arith, eqb}
+use Rattle.std.specs.Prelude.{◌≡◌, refl, Bool, true, false, cond, List, [], ◌∷◌, ℕ, zero, suc, ◌+◌, ◌-◌, ◌≤◌, ◌<◌, eqb}
+use Rattle.words.specs.Prelude.{◌∙◌, ap, arith}
 use Rattle.table.specs.{declared.nodes.Node.Node, declared.header.Form.Form, declared.series.Series.Series, declared.series.Series.TheVariants.Price}
 use Rattle.table.specs.{declared.series.Series.TheVariants.Slot, declared.places.Place.TheVariants.Nowhere, Kinds.kinds, Kinds.kind_of, Order.or_place}
 use Rattle.table.specs.{Forest.Forest, Nesting.deeper, Trees.Operand, Trees.const, Trees.ref, Trees.price, Trees.prev, Trees.arith as sums, Trees.extreme}

@@ -1,6 +1,7 @@
 -- The nodes of a tree that is written in a table grow the tree's forest.
 -- Assumes nothing.
-use Rattle.words.specs.Prelude.{◌≡◌, refl, sym, ◌∙◌, ap, List, ◌++◌, append_assoc, ℕ, suc, ◌+◌, arith, length, replicate, length-replicate}
+use Rattle.std.specs.Prelude.{◌≡◌, refl, List, ◌++◌, ℕ, suc, ◌+◌, length, replicate}
+use Rattle.words.specs.Prelude.{sym, ◌∙◌, ap, append_assoc, arith, length-replicate}
 use Rattle.table.specs.{declared.nodes.Node.Node, declared.header.Form.Form, Kinds.kind_of, Nodes.node_at, Nodes.child_count, Nodes.child_count_at, Forest.Forest}
 use Rattle.table.specs.{Forest.first_trees, Forest.other_trees, Forest.node_over, Forest.trees, Forest.size, Forest.flat, Forest.sorts, Forest.Sorted}
 use Rattle.table.specs.{Trees.Condition, Limits.WithinOf, Writing.node_bytes, Writing.nodes_bytes, Writing.write_condition, Writing.nodes_of}

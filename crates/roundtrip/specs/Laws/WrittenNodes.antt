@@ -1,6 +1,7 @@
 -- A node that is written in a table stands there, and what is written after it stands after it.
 -- Assumes nothing.
-use Rattle.words.specs.Prelude.{◌≡◌, sym, ◌∙◌, ap, List, ◌++◌, ℕ, ◌+◌, ◌*◌, ◌/◌, ◌%◌, arith, length, get_or, drop, get_or-drop, drop-drop, drop_at}
+use Rattle.std.specs.Prelude.{◌≡◌, List, ◌++◌, ℕ, ◌+◌, ◌*◌, ◌/◌, ◌%◌, length, get_or, drop}
+use Rattle.words.specs.Prelude.{sym, ◌∙◌, ap, arith, get_or-drop, drop-drop, drop_at}
 use Rattle.table.specs.{Bytes.u16, Bytes.u32, Bytes.u64, Nodes.node_at, Writing.le16, Writing.le32, Writing.le64, Writing.node}
 use Rattle.roundtrip.specs.{Laws.WrittenForest.nd}
 

@@ -1,7 +1,8 @@
 -- A tree within the limits, or none, that a table holds: it breaks no rule there, and is read back.
 -- Assumes nothing.
-use Rattle.words.specs.Prelude.{◌≡◌, refl, sym, ◌∙◌, ap, subst, Bool, true, false, cond, not, List, [], ◌∷◌, ◌++◌, ℕ, zero, suc, ◌+◌, ◌≤◌, arith, add-zero}
-use Rattle.words.specs.Prelude.{suc-add, replicate, eqb, le-ltb, eq-eqb, ne_eqb}
+use Rattle.std.specs.Prelude.{◌≡◌, refl, Bool, true, false, cond, not, List, [], ◌∷◌, ◌++◌, ℕ, zero, suc, ◌+◌, ◌≤◌, replicate, eqb}
+use Rattle.words.specs.Prelude.{sym, ◌∙◌, ap, subst, arith, add-zero}
+use Rattle.words.specs.Prelude.{suc-add, le-ltb, eq-eqb, ne_eqb}
 use Rattle.words.specs.{Limits.most_nesting, Limits.most_reach}
 use Rattle.table.specs.{declared.places.Place.TheVariants.Nowhere, declared.header.Form.Form, Kinds.kind_of, Kinds.over_a_series, Header.form_of, Header.count}
 use Rattle.table.specs.{Header.root, Nodes.node_at, Nodes.node_right, Nodes.wrong_node, Nodes.sort_at, Nodes.child_count, Nodes.child_count_at, Nodes.child_sort_at}

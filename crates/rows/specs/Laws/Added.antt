@@ -1,5 +1,6 @@
 -- A row more in a full room: the rows move up by one, and it goes over the last place.
-use Rattle.words.specs.Prelude.{ℕ, ◌+◌, ◌-◌, ◌*◌, ◌<◌, ◌≤◌, ◌≡◌, refl, sym, ap, ◌∙◌, List, ◌++◌, arith, mul-le-mul_right, length, take, drop, length-drop}
+use Rattle.std.specs.Prelude.{ℕ, ◌+◌, ◌-◌, ◌*◌, ◌<◌, ◌≤◌, ◌≡◌, refl, List, ◌++◌, length, take, drop}
+use Rattle.words.specs.Prelude.{sym, ap, ◌∙◌, arith, mul-le-mul_right, length-drop}
 use Rattle.words.specs.Prelude.{drop-append-add, drop-drop, length-take-le, take_at, le-ltb, ne_eqb}
 use Rattle.words.specs.{Words.overwrite, Words.shifted, Laws.Overwrite.overwrite_fits, Laws.Overwrite.shifted_fits, Laws.Records.records_fit}
 use Rattle.rows.specs.{Room.places_for, Room.with_row, Room.held_with}

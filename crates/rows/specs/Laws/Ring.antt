@@ -1,8 +1,9 @@
 -- A room as a ring: what is read from a row on is what the turned room holds; and rows that go over the oldest, turned once, are rows
 -- added one after another.
-use Rattle.words.specs.Prelude.{ℕ, ◌+◌, ◌-◌, ◌*◌, ◌/◌, ◌<◌, ◌≤◌, ◌≡◌, refl, sym, ap, fun_ext, ◌∙◌, Bool, true, false, cond, ⊎_elim, List, ◌++◌, append_assoc}
-use Rattle.words.specs.Prelude.{arith, zero-add, mul-div_cancel, length, take, drop, length-append, length-drop, take-append-drop, take_at, drop_at, drop-drop}
-use Rattle.words.specs.Prelude.{length-take-le, ltb, lt-ltb, le-ltb, ne_eqb}
+use Rattle.std.specs.Prelude.{ℕ, ◌+◌, ◌-◌, ◌*◌, ◌/◌, ◌<◌, ◌≤◌, ◌≡◌, refl, Bool, true, false, cond, List, ◌++◌, length, take, drop, ltb}
+use Rattle.words.specs.Prelude.{sym, ap, fun_ext, ◌∙◌, ⊎_elim, append_assoc}
+use Rattle.words.specs.Prelude.{arith, zero-add, mul-div_cancel, length-append, length-drop, take-append-drop, take_at, drop_at, drop-drop}
+use Rattle.words.specs.Prelude.{length-take-le, lt-ltb, le-ltb, ne_eqb}
 use Rattle.words.specs.{Words.overwrite, Laws.Numbers.less_or_not, Laws.Records.records_fit, Laws.Records.record_ends, Laws.Overwrite.overwrite_fits}
 use Rattle.words.specs.{Laws.Overwrite.overwrite-length}
 use Rattle.rows.specs.{declared.ring.Ring.Ring, History.History, History.history_of, History.width, Room.places_for, Room.with_row, Room.held_with}

@@ -1,5 +1,6 @@
 -- The row of a bar that exists lies within the list of words; and how many words rows take at most.
-use Rattle.words.specs.Prelude.{ℕ, ◌+◌, ◌*◌, ◌<◌, ◌≤◌, List, arith, length, le_trans, mul-le-mul_left, mul-le-mul_right}
+use Rattle.std.specs.Prelude.{ℕ, ◌+◌, ◌*◌, ◌<◌, ◌≤◌, List, length}
+use Rattle.words.specs.Prelude.{arith, le_trans, mul-le-mul_left, mul-le-mul_right}
 use Rattle.words.specs.{Limits.most_slots, Laws.Records.record_ends}
 use Rattle.rows.specs.{History.history_of, History.width}
 

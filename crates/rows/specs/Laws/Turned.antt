@@ -1,6 +1,7 @@
 -- A list of rows turned: its words, its length, and when it stays as it was.
-use Rattle.words.specs.Prelude.{ℕ, ◌+◌, ◌-◌, ◌*◌, ◌/◌, ◌<◌, ◌≤◌, ◌≡◌, sym, ap, ◌∙◌, ⊎_elim, List, ◌++◌, append_assoc, append-nil, arith, zero-mul}
-use Rattle.words.specs.Prelude.{mul-le-mul_right, div-mul-le_self, mul-div_cancel, length, get_or, take, drop, length-append, length-take, length-drop}
+use Rattle.std.specs.Prelude.{ℕ, ◌+◌, ◌-◌, ◌*◌, ◌/◌, ◌<◌, ◌≤◌, ◌≡◌, List, ◌++◌, length, get_or, take, drop}
+use Rattle.words.specs.Prelude.{sym, ap, ◌∙◌, ⊎_elim, append_assoc, append-nil, arith, zero-mul}
+use Rattle.words.specs.Prelude.{mul-le-mul_right, div-mul-le_self, mul-div_cancel, length-append, length-take, length-drop}
 use Rattle.words.specs.Prelude.{take-append-drop, drop_of_length-le, List·get_or-append, take_all, take_at, drop_at, get_or-append-add, get_or-take, get_or-drop}
 use Rattle.words.specs.Prelude.{length-take-le, lt-ltb, le-ltb}
 use Rattle.words.specs.{Laws.Numbers.less_or_not}

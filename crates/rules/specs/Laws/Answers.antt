@@ -1,5 +1,6 @@
 -- The answer as the evaluator finds it. Assumes nothing.
-use Rattle.words.specs.Prelude.{ℕ, ◌<◌, ◌≡◌, refl, ap, Bool, true, false, cond, List, arith, eqb, eqb-true, eqb-false}
+use Rattle.std.specs.Prelude.{ℕ, ◌<◌, ◌≡◌, refl, Bool, true, false, cond, List, eqb}
+use Rattle.words.specs.Prelude.{ap, arith, eqb-true, eqb-false}
 use Rattle.words.specs.{Limits.most_nesting}
 use Rattle.rows.specs.{History.History}
 use Rattle.table.specs.{declared.answer.Answer.TheVariants.Accepted, Header.count, Header.root, Forest.trees, Forest.forest_of, Checked.checked}

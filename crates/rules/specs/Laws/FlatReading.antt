@@ -1,5 +1,6 @@
 -- On an accepted table the tree that stands at a node, read with the array of ends, is the table's own. Assumes nothing.
-use Rattle.words.specs.Prelude.{ℕ, zero, suc, ◌+◌, ◌-◌, ◌≤◌, ◌<◌, ◌≡◌, sym, ap, ◌∙◌, List, arith, get_or, lt-ltb, lt-leb}
+use Rattle.std.specs.Prelude.{ℕ, zero, suc, ◌+◌, ◌-◌, ◌≤◌, ◌<◌, ◌≡◌, List, get_or}
+use Rattle.words.specs.Prelude.{sym, ap, ◌∙◌, arith, lt-ltb, lt-leb}
 use Rattle.words.specs.{Limits.most_nesting, Limits.most_nodes}
 use Rattle.table.specs.{declared.kinds.Kind.Kind, declared.answer.Answer.TheVariants.Accepted, Kinds.kind_of, Laws.Kinds.OperandKind, Laws.Kinds.a_const}
 use Rattle.table.specs.{Laws.Kinds.a_ref, Laws.Kinds.a_price, Laws.Kinds.a_prev, Laws.Kinds.an_arith, Laws.Kinds.an_extreme, Laws.Kinds.operand_kind}

@@ -1,6 +1,7 @@
 -- Laws of the meaning of operands and conditions, for the proofs that cite it. Assumes nothing.
-use Rattle.words.specs.Prelude.{ℕ, zero, suc, ◌+◌, ◌-◌, ◌*◌, ◌≤◌, ◌<◌, ◌≡◌, refl, sym, ap, ◌∙◌, Bool, true, false, cond, arith, le_refl, sub-zero, ltb, eqb}
-use Rattle.words.specs.Prelude.{Float, nan, inf, fin, lt-ltb, le-ltb, ltb-true, ltb-false}
+use Rattle.std.specs.Prelude.{ℕ, zero, suc, ◌+◌, ◌-◌, ◌*◌, ◌≤◌, ◌<◌, ◌≡◌, refl, Bool, true, false, cond, ltb, eqb, Float}
+use Rattle.words.specs.Prelude.{sym, ap, ◌∙◌, arith, le_refl, sub-zero}
+use Rattle.words.specs.Prelude.{nan, inf, fin, lt-ltb, le-ltb, ltb-true, ltb-false}
 use Rattle.floats.specs.{Floats.◌≺◌, Floats.float_of}
 use Rattle.rows.specs.{History.History}
 use Rattle.table.specs.{declared.series.Series.Series, declared.series.Series.TheVariants.Price, declared.series.Series.TheVariants.Slot, Trees.Operand}

@@ -1,5 +1,5 @@
 -- A value that is missing leaves an operand missing and answers a test with no. Assumes nothing.
-use Rattle.words.specs.Prelude.{ℕ, ◌≡◌, refl, Bool, true, false, cond, ◌&&◌, ltb, eqb}
+use Rattle.std.specs.Prelude.{ℕ, ◌≡◌, refl, Bool, true, false, cond, ◌&&◌, ltb, eqb}
 use Rattle.rows.specs.{History.History}
 use Rattle.rules.specs.{declared.values.Value.Value, declared.values.Value.TheVariants.Missing, declared.values.Value.TheVariants.Number}
 use Rattle.rules.specs.{Values.combined, Values.compared, Values.crossed, Values.within, Values.trended, Meaning.there}

@@ -1,5 +1,6 @@
 -- What a step does to the account is what a bar does to it over the rows held; and no row older than the last D matters.
-use Rattle.words.specs.Prelude.{ℕ, ◌<◌, ◌≡◌, sym, ap, ◌∙◌, List, ◌++◌}
+use Rattle.std.specs.Prelude.{ℕ, ◌<◌, ◌≡◌, List, ◌++◌}
+use Rattle.words.specs.Prelude.{sym, ap, ◌∙◌}
 use Rattle.rows.specs.{History.history_of}
 use Rattle.records.specs.{declared.settings.Settings.Settings, declared.state.State.State, Bar.candle_of, Lent.Lists, Lent.Rooms}
 use Rattle.refusals.specs.{Laws.Fine.StepFine, Settings.lookback}

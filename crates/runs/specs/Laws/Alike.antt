@@ -1,5 +1,6 @@
 -- Two boxes with the same account and the same last D rows, and a bar that both take.
-use Rattle.words.specs.Prelude.{ℕ, ◌≡◌, refl, sym, ◌∙◌, List}
+use Rattle.std.specs.Prelude.{ℕ, ◌≡◌, refl, List}
+use Rattle.words.specs.Prelude.{sym, ◌∙◌}
 use Rattle.records.specs.{declared.settings.Settings.Settings, declared.state.State.State, Lent.Lists, Lent.Rooms}
 use Rattle.refusals.specs.{declared.verdict.Verdict.TheVariants.Fine}
 use Rattle.engine.specs.{Boxes.Follows, Boxes.Sound, Boxes.SameCounts, Boxes.Alike, Boxes.SameButRows, Step.stepped, Step.step_verdict, Whole.account_of}

@@ -1,6 +1,7 @@
 -- The books after a bar are the books before it, its point and its trades at their end, whatever stale words lie behind.
-use Rattle.words.specs.Prelude.{ℕ, ◌+◌, ◌-◌, ◌*◌, ◌/◌, ◌≤◌, ◌<◌, ◌≡◌, refl, sym, ◌∙◌, List, [], ◌∷◌, ◌++◌, append-nil, append_assoc, flat_map, le-div_iff_mul-le}
-use Rattle.words.specs.Prelude.{suc-mul, add-one, arith, lt-ltb, le-ltb, length, take, drop, length-append, take-append-drop, length-take-le, take_at, drop_at}
+use Rattle.std.specs.Prelude.{ℕ, ◌+◌, ◌-◌, ◌*◌, ◌/◌, ◌≤◌, ◌<◌, ◌≡◌, refl, List, [], ◌∷◌, ◌++◌, flat_map, length, take, drop}
+use Rattle.words.specs.Prelude.{sym, ◌∙◌, append-nil, append_assoc, le-div_iff_mul-le}
+use Rattle.words.specs.Prelude.{suc-mul, add-one, arith, lt-ltb, le-ltb, length-append, take-append-drop, length-take-le, take_at, drop_at}
 use Rattle.words.specs.Prelude.{drop-drop}
 use Rattle.words.specs.{Words.overwrite, Laws.Overwrite.overwrite_fits}
 use Rattle.portfolio.specs.{declared.Candle.Candle, declared.Closed.Closed, declared.Trade.Trade, Trade.words_of_trade}

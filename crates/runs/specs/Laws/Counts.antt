@@ -1,5 +1,6 @@
 -- However many bars are run from a fresh state, no count exceeds its room or the bars seen, and no room changes its length.
-use Rattle.words.specs.Prelude.{ℕ, ◌+◌, ◌≤◌, ◌≡◌, refl, ◌∙◌, Bool, true, false, cond, List, arith, ltb-false, ltb}
+use Rattle.std.specs.Prelude.{ℕ, ◌+◌, ◌≤◌, ◌≡◌, refl, Bool, true, false, cond, List, ltb}
+use Rattle.words.specs.Prelude.{◌∙◌, arith, ltb-false}
 use Rattle.rows.specs.{Room.places_for, Room.held_with}
 use Rattle.portfolio.specs.{declared.Candle.Candle}
 use Rattle.records.specs.{declared.settings.Settings.Settings, declared.state.Position.Position, declared.state.State.State, Lent.Lists, Lent.Rooms}

@@ -1,5 +1,5 @@
 -- What holds of a portfolio, and of one that is closed, holds after an exit. Assumes nothing.
-use Rattle.words.specs.Prelude.{ℕ, Bool, true, false, cond, Float}
+use Rattle.std.specs.Prelude.{ℕ, Bool, true, false, cond, Float}
 use Rattle.portfolio.specs.{declared.Candle.Candle, declared.Closed.Closed, declared.Portfolio.Portfolio, Portfolio.in_position}
 use Rattle.execution.specs.{declared.fills.Exit.Exit, declared.fills.Exit.TheVariants.NoExit, declared.fills.Exit.TheVariants.Exited}
 use Rattle.execution.specs.{declared.terms.Terms.Terms, declared.intrabar.Trigger.Trigger, declared.intrabar.Trigger.TheVariants.Untouched}

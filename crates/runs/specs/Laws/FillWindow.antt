@@ -1,6 +1,7 @@
 -- A step depends on no row older than the last D of the rows that it is given: a fill reads the closes of fewer, and the
 -- decision is over the last D by its definition.
-use Rattle.words.specs.Prelude.{ℕ, ◌-◌, ◌<◌, ◌≡◌, refl, List, arith, Float}
+use Rattle.std.specs.Prelude.{ℕ, ◌-◌, ◌<◌, ◌≡◌, refl, List, Float}
+use Rattle.words.specs.Prelude.{arith}
 use Rattle.rows.specs.{History.history_of, History.last_rows}
 use Rattle.rules.specs.{Window.Without, Window.without_first}
 use Rattle.portfolio.specs.{declared.Candle.Candle, declared.Portfolio.Portfolio}

@@ -1,5 +1,6 @@
 -- A run over a bar and those after it: nothing is taken where the bar is refused; else the bar, and what is taken after it. Assumes nothing.
-use Rattle.words.specs.Prelude.{ℕ, ◌≡◌, refl, List, [], ◌∷◌, add-one, take}
+use Rattle.std.specs.Prelude.{ℕ, ◌≡◌, refl, List, [], ◌∷◌, take}
+use Rattle.words.specs.Prelude.{add-one}
 use Rattle.records.specs.{declared.settings.Settings.Settings, declared.state.State.State, Lent.Lists, Lent.Rooms}
 use Rattle.refusals.specs.{declared.verdict.Verdict.Verdict, declared.verdict.Verdict.TheVariants.Fine, declared.verdict.Verdict.TheVariants.Bad}
 use Rattle.engine.specs.{Laws.Runs.run_stops, Laws.Runs.run_takes, Run.run_over, Step.stepped, Step.step_verdict}

@@ -1,6 +1,7 @@
 -- Every float of a state is an f64: it was one in the state before, it is a word of the bar, or an operation of IEEE 754 gave it. So what the
 -- round trip of a state's words asks (records, Laws/RoundTrip) holds after every bar and after a finish.
-use Rattle.words.specs.Prelude.{ℕ, ◌-◌, ◌≡◌, refl, Bool, true, false, cond, List, T, Float, binary64, fits, of_bits-fits, cond-fits, mul-fits}
+use Rattle.std.specs.Prelude.{ℕ, ◌-◌, ◌≡◌, refl, Bool, true, false, cond, List, T, Float}
+use Rattle.words.specs.Prelude.{binary64, fits, of_bits-fits, cond-fits, mul-fits}
 use Rattle.floats.specs.{Floats.◌⊗◌, Floats.◌≺◌, Floats.min, Floats.max, Floats.eps}
 use Rattle.rows.specs.{History.History, History.history_of}
 use Rattle.portfolio.specs.{declared.Candle.Candle, declared.Closed.Closed, declared.Portfolio.Portfolio, Portfolio.in_position, Portfolio.is_long}

@@ -1,5 +1,6 @@
 -- A box keeps the last D rows, and its run is one that keeps every row.
-use Rattle.words.specs.Prelude.{ℕ, ◌≡◌, ◌∙◌, List, [], ◌∷◌, ◌++◌, append-nil, append_assoc, flat_map, take}
+use Rattle.std.specs.Prelude.{ℕ, ◌≡◌, List, [], ◌∷◌, ◌++◌, flat_map, take}
+use Rattle.words.specs.Prelude.{◌∙◌, append-nil, append_assoc}
 use Rattle.records.specs.{declared.settings.Settings.Settings, declared.state.State.State, Lent.Lists, Lent.Rooms}
 use Rattle.refusals.specs.{declared.verdict.Verdict.TheVariants.Fine}
 use Rattle.engine.specs.{Boxes.Grown, Boxes.Follows, Laws.Runs.run_none, Laws.Verdict.verdict_fine, Record.row_of}

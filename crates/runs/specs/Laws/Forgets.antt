@@ -1,5 +1,6 @@
 -- The funding paid and the least favourable price decide nothing: what a phase of a bar does, but for these two words, it does without them.
-use Rattle.words.specs.Prelude.{ℕ, ◌≡◌, refl, sym, ◌∙◌, Bool, true, false, cond, List, [], ◌∷◌, ◌++◌, Float}
+use Rattle.std.specs.Prelude.{ℕ, ◌≡◌, refl, Bool, true, false, cond, List, [], ◌∷◌, ◌++◌, Float}
+use Rattle.words.specs.Prelude.{sym, ◌∙◌}
 use Rattle.rows.specs.{History.History}
 use Rattle.portfolio.specs.{declared.Candle.Candle, declared.Portfolio.Portfolio, declared.Trade.Trade, Portfolio.in_position, Portfolio.is_long}
 use Rattle.portfolio.specs.{Portfolio.equity, Portfolio.funded, Portfolio.worsened, Portfolio.entered, Portfolio.notional, Portfolio.pnl, Portfolio.trade_of}

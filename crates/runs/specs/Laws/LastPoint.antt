@@ -1,6 +1,7 @@
 -- The last equity point after finish: on the words that a room holds, behind them, and on points.
-use Rattle.words.specs.Prelude.{ℕ, suc, ◌+◌, ◌-◌, ◌*◌, ◌≡◌, refl, ap, Bool, true, false, cond, List, [], ◌∷◌, flat_map, arith, ltb-true, lt-ltb, ltb, Float}
-use Rattle.words.specs.Prelude.{length, take, drop, set, length-set}
+use Rattle.std.specs.Prelude.{ℕ, suc, ◌+◌, ◌-◌, ◌*◌, ◌≡◌, refl, Bool, true, false, cond, List, [], ◌∷◌, flat_map, ltb, Float, length, take, drop, set}
+use Rattle.words.specs.Prelude.{ap, arith, ltb-true, lt-ltb}
+use Rattle.words.specs.Prelude.{length-set}
 use Rattle.floats.specs.{Floats.word_of}
 use Rattle.execution.specs.{declared.fills.Exit.Exit, declared.fills.Exit.TheVariants.NoExit, declared.fills.Exit.TheVariants.Exited}
 use Rattle.engine.specs.{Books.Point, Books.words_of_point, Books.last_becomes, Finish.remarked, Whole.end_points}

@@ -1,5 +1,6 @@
 -- What a step decides is what the table's rules mean over all rows, although its lists read a window of them.
-use Rattle.words.specs.Prelude.{ℕ, zero, suc, ◌≤◌, ◌<◌, ◌≡◌, refl, ap, List, arith, Float}
+use Rattle.std.specs.Prelude.{ℕ, zero, suc, ◌≤◌, ◌<◌, ◌≡◌, refl, List, Float}
+use Rattle.words.specs.Prelude.{ap, arith}
 use Rattle.rows.specs.{History.history_of, History.last_rows}
 use Rattle.table.specs.{declared.answer.Answer.TheVariants.Accepted, Checked.checked, Header.slots, Reading.tree_of, Trees.reach_of, Depth.greatest_reach}
 use Rattle.table.specs.{Depth.depth_of, Bytes.Bytes}

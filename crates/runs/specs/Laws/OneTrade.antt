@@ -1,5 +1,6 @@
 -- "A step records at most one trade."
-use Rattle.words.specs.Prelude.{ℕ, ◌+◌, ◌≤◌, ◌≡◌, refl, Bool, true, false, cond, List, arith, ltb, Float}
+use Rattle.std.specs.Prelude.{ℕ, ◌+◌, ◌≤◌, ◌≡◌, refl, Bool, true, false, cond, List, ltb, Float}
+use Rattle.words.specs.Prelude.{arith}
 use Rattle.rows.specs.{History.History}
 use Rattle.portfolio.specs.{declared.Candle.Candle, declared.Closed.Closed, declared.Portfolio.Portfolio, Portfolio.in_position, Portfolio.worsened}
 use Rattle.portfolio.specs.{Portfolio.exited}

@@ -1,5 +1,5 @@
 -- What holds of an order before a bar, and of every order that the bar can make of it, holds after the bar. Assumes nothing.
-use Rattle.words.specs.Prelude.{ℕ, ◌-◌, Bool, true, false, cond, ltb, Float}
+use Rattle.std.specs.Prelude.{ℕ, ◌-◌, Bool, true, false, cond, ltb, Float}
 use Rattle.rows.specs.{History.History}
 use Rattle.portfolio.specs.{declared.Candle.Candle, declared.Portfolio.Portfolio, Portfolio.in_position, Portfolio.is_long}
 use Rattle.execution.specs.{declared.level.OrderKind.OrderKind, declared.level.Side.Side, declared.level.Side.TheVariants.Long}

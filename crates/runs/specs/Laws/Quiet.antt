@@ -1,5 +1,5 @@
 -- A flat account with no order: a bar adds a row, an equity point and its counts, and nothing else unless a rule says yes.
-use Rattle.words.specs.Prelude.{ℕ, ◌≡◌, refl, Bool, true, false, cond, List, Float}
+use Rattle.std.specs.Prelude.{ℕ, ◌≡◌, refl, Bool, true, false, cond, List, Float}
 use Rattle.rows.specs.{History.history_of, History.last_rows}
 use Rattle.portfolio.specs.{Portfolio.in_position}
 use Rattle.execution.specs.{Costs.charge_funding, Intrabar.extreme_with, Intrabar.apply_intrabar_exits}

@@ -1,5 +1,5 @@
 -- An entry that the bar does not reach works on unchanged, and nothing is decided while an order works.
-use Rattle.words.specs.Prelude.{ℕ, ◌≡◌, List}
+use Rattle.std.specs.Prelude.{ℕ, ◌≡◌, List}
 use Rattle.rows.specs.{History.History}
 use Rattle.portfolio.specs.{declared.Candle.Candle}
 use Rattle.execution.specs.{declared.optional.Optional.TheVariants.Absent, declared.level.Side.TheVariants.Long, declared.level.Side.TheVariants.Short}

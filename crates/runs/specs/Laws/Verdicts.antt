@@ -1,6 +1,6 @@
 -- Two boxes with the same account, the same last D rows and room for D rows are judged by the same lines, but for those of a full book.
-use Rattle.words.specs.Prelude.{ℕ, ◌≤◌, ◌<◌, ◌≡◌, refl, sym, ◌∙◌, Bool, true, false, cond, ◌&&◌, List, [], ◌∷◌, ◌++◌, arith, leb-true, le-leb, ltb, leb, eqb}
-use Rattle.words.specs.Prelude.{length}
+use Rattle.std.specs.Prelude.{ℕ, ◌≤◌, ◌<◌, ◌≡◌, refl, Bool, true, false, cond, ◌&&◌, List, [], ◌∷◌, ◌++◌, ltb, leb, eqb, length}
+use Rattle.words.specs.Prelude.{sym, ◌∙◌, arith, leb-true, le-leb}
 use Rattle.words.specs.{Limits.bar_words, Limits.most_count, declared.refusal.Refusal.Refusal, Outcome.refusal}
 use Rattle.records.specs.{declared.settings.Settings.Settings, declared.state.Counts.Counts, declared.state.State.State, Lent.Lists, Lent.Rooms}
 use Rattle.records.specs.{Lent.point_places, Lent.trade_places}

@@ -1,7 +1,8 @@
 -- The rows that a room holds, and the last D of them, when a row is added.
-use Rattle.words.specs.Prelude.{ℕ, ◌+◌, ◌-◌, ◌*◌, ◌/◌, ◌≤◌, ◌<◌, ◌≡◌, refl, sym, ap, ◌∙◌, Bool, true, false, List, ◌++◌, add-mul, le-div_iff_mul-le}
-use Rattle.words.specs.Prelude.{mul-add-div_right, mul-div_cancel, mul-le-mul_right, arith, ltb-true, ltb-false, lt-ltb, le-ltb, ne_eqb, ltb, length, take}
-use Rattle.words.specs.Prelude.{drop, length-append, length-drop, length-take-le, drop-drop, take_at}
+use Rattle.std.specs.Prelude.{ℕ, ◌+◌, ◌-◌, ◌*◌, ◌/◌, ◌≤◌, ◌<◌, ◌≡◌, refl, Bool, true, false, List, ◌++◌, ltb, length, take, drop}
+use Rattle.words.specs.Prelude.{sym, ap, ◌∙◌, add-mul, le-div_iff_mul-le}
+use Rattle.words.specs.Prelude.{mul-add-div_right, mul-div_cancel, mul-le-mul_right, arith, ltb-true, ltb-false, lt-ltb, le-ltb, ne_eqb}
+use Rattle.words.specs.Prelude.{length-append, length-drop, length-take-le, drop-drop, take_at}
 use Rattle.rows.specs.{History.width, History.last_rows, Room.with_row, Room.held_with}
 use Rattle.engine.specs.{Record.held_rows}
 use Rattle.std.proofs.lemmas.List.{drop-append-le}

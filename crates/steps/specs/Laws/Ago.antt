@@ -1,5 +1,6 @@
 -- Operands n rows before the newest bar: laws that the translation rests on.
-use Rattle.words.specs.Prelude.{ℕ, ◌+◌, ◌-◌, ◌≤◌, ◌<◌, ◌≡◌, refl, sym, ap, ◌∙◌, Bool, true, false, not, cond, ◌&&◌, arith, sub-zero, ltb, eqb, lt-ltb, le-ltb}
+use Rattle.std.specs.Prelude.{ℕ, ◌+◌, ◌-◌, ◌≤◌, ◌<◌, ◌≡◌, refl, Bool, true, false, not, cond, ◌&&◌, ltb, eqb}
+use Rattle.words.specs.Prelude.{sym, ap, ◌∙◌, arith, sub-zero, lt-ltb, le-ltb}
 use Rattle.words.specs.Prelude.{ltb-true, ltb-false, eqb-true, eqb-false}
 use Rattle.rows.specs.{History.History}
 use Rattle.table.specs.{Trees.Operand, Trees.prev, Trees.arith as sums}

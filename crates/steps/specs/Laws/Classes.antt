@@ -1,5 +1,6 @@
 -- The classes of steps: the numbers in each, and what a step of a class says. Whoever goes by a class rules no number of a kind in it.
-use Rattle.words.specs.Prelude.{ℕ, ◌≤◌, ◌<◌, ◌≡◌, refl, sym, Bool, true, false, true≢false, ◌&&◌, arith, ltb, leb, leb-true, ltb-true, ltb-false, eq-eqb}
+use Rattle.std.specs.Prelude.{ℕ, ◌≤◌, ◌<◌, ◌≡◌, refl, Bool, true, false, ◌&&◌, ltb, leb}
+use Rattle.words.specs.Prelude.{sym, true≢false, arith, leb-true, ltb-true, ltb-false, eq-eqb}
 use Rattle.words.specs.Prelude.{ne_eqb, le-leb, lt-ltb, le-ltb}
 use Rattle.steps.specs.{declared.step.Step.Step, declared.step.Op.TheVariants.Arith, declared.step.Op.TheVariants.Compare}
 use Rattle.steps.specs.{declared.step.Op.TheVariants.Cross, declared.step.Op.TheVariants.Between, declared.step.Op.TheVariants.Unknown}

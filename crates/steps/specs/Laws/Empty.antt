@@ -1,5 +1,6 @@
 -- "An empty list answers no", and it is well formed, whatever the slots and the window.
-use Rattle.words.specs.Prelude.{ℕ, ◌≡◌, refl, false, List, [], ◌∷◌, arith, length}
+use Rattle.std.specs.Prelude.{ℕ, ◌≡◌, refl, false, List, [], ◌∷◌, length}
+use Rattle.words.specs.Prelude.{arith}
 use Rattle.rows.specs.{History.History}
 use Rattle.rules.specs.{declared.position.PositionState.PositionState}
 use Rattle.steps.specs.{declared.wellformed.Formed.TheVariants.Well, Bytes.ops_from, Bytes.ops_of, Bytes.steps_run, Machine.run}

@@ -1,8 +1,9 @@
 -- Steps written as bytes read back as the same steps.
 use Rattle.words.specs.Prelude.{sym}
 use Rattle.words.specs.Prelude.{ap}
-use Rattle.words.specs.Prelude.{ℕ, ◌+◌, ◌-◌, ◌*◌, ◌/◌, ◌%◌, ◌<◌, ◌≤◌, ◌≡◌, refl, ◌∙◌, true, false, ⊎_elim, List, [], ◌∷◌, ◌++◌, append_assoc, arith}
-use Rattle.words.specs.Prelude.{mod-eq_of_lt, mod-add-div, div-div-eq-div-mul, length, get_or, length-append, get_or-append-add, lt-ltb}
+use Rattle.std.specs.Prelude.{ℕ, ◌+◌, ◌-◌, ◌*◌, ◌/◌, ◌%◌, ◌<◌, ◌≤◌, ◌≡◌, refl, true, false, List, [], ◌∷◌, ◌++◌, length, get_or}
+use Rattle.words.specs.Prelude.{◌∙◌, ⊎_elim, append_assoc, arith}
+use Rattle.words.specs.Prelude.{mod-eq_of_lt, mod-add-div, div-div-eq-div-mul, length-append, get_or-append-add, lt-ltb}
 use Rattle.words.specs.{Limits.most_steps, Laws.Numbers.less_or_not}
 use Rattle.table.specs.{declared.series.Series.Series, Bytes.u16, Bytes.u32, Bytes.u64}
 use Rattle.steps.specs.{declared.step.Step.Step, declared.step.Op.Op, declared.step.Op.TheVariants.Const, declared.step.Op.TheVariants.Ref}

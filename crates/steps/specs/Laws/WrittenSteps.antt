@@ -3,7 +3,8 @@ use Rattle.words.specs.Prelude.{◌∙◌}
 use Rattle.words.specs.Prelude.{sym}
 use Rattle.words.specs.Prelude.{ap}
 use Rattle.steps.specs.declared.step.Op.TheVariants.{Unknown}
-use Rattle.words.specs.Prelude.{ℕ, ◌+◌, ◌-◌, ◌*◌, ◌%◌, ◌<◌, ◌≤◌, ◌≡◌, refl, true, ◌&&◌, List, [], ◌∷◌, ◌++◌, append_assoc, arith, length, length-append, lt-ltb}
+use Rattle.std.specs.Prelude.{ℕ, ◌+◌, ◌-◌, ◌*◌, ◌%◌, ◌<◌, ◌≤◌, ◌≡◌, refl, true, ◌&&◌, List, [], ◌∷◌, ◌++◌, length}
+use Rattle.words.specs.Prelude.{append_assoc, arith, length-append, lt-ltb}
 use Rattle.words.specs.Prelude.{le-ltb, le-leb, eq-eqb}
 use Rattle.words.specs.{Limits.most_slots, Limits.most_rows, Limits.most_steps}
 use Rattle.table.specs.{declared.series.Series.Series}

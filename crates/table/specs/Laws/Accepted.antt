@@ -1,7 +1,8 @@
 -- What an accepted table is: every rule is kept, and what follows for each of its trees.
 -- Assumes nothing.
-use Rattle.words.specs.Prelude.{◌≡◌, refl, sym, ◌∙◌, ap, subst, Bool, true, false, cond, List, [], ◌∷◌, ℕ, zero, suc, ◌+◌, ◌-◌, ◌≤◌, ◌<◌, arith, eq-zero-or-pos}
-use Rattle.words.specs.Prelude.{zero-add, add-zero, ⊎_elim, get_or, ltb, eqb, eqb-true, ne_eqb, lt-ltb, le-ltb}
+use Rattle.std.specs.Prelude.{◌≡◌, refl, Bool, true, false, cond, List, [], ◌∷◌, ℕ, zero, suc, ◌+◌, ◌-◌, ◌≤◌, ◌<◌, get_or, ltb, eqb}
+use Rattle.words.specs.Prelude.{sym, ◌∙◌, ap, subst, arith, eq-zero-or-pos}
+use Rattle.words.specs.Prelude.{zero-add, add-zero, ⊎_elim, eqb-true, ne_eqb, lt-ltb, le-ltb}
 use Rattle.words.specs.{Limits.most_reach, Limits.most_nesting, Limits.most_nodes, declared.refusal.Refusal.Refusal, Outcome.refusal}
 use Rattle.table.specs.{declared.places.Place.Place, declared.places.Place.TheVariants.Nowhere, declared.places.Place.TheVariants.At}
 use Rattle.table.specs.{declared.answer.Answer.Answer, declared.answer.Answer.TheVariants.Accepted, declared.answer.Answer.TheVariants.Refused}

@@ -1,6 +1,7 @@
 -- Laws of a list by a rule for its places.
 -- Assumes nothing.
-use Rattle.words.specs.Prelude.{◌≡◌, refl, ◌∙◌, ap, List, ◌∷◌, ◌++◌, ℕ, zero, suc, ◌+◌, ◌<◌, arith, zero-add, suc-add, add-zero, length, get_or, ext_get_or}
+use Rattle.std.specs.Prelude.{◌≡◌, refl, List, ◌∷◌, ◌++◌, ℕ, zero, suc, ◌+◌, ◌<◌, length, get_or}
+use Rattle.words.specs.Prelude.{◌∙◌, ap, arith, zero-add, suc-add, add-zero, ext_get_or}
 use Rattle.table.specs.{Ends.from}
 
 module _ {A : Type 0} (f : ℕ → A) where

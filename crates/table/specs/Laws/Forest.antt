@@ -1,6 +1,7 @@
 -- Laws of trees in a row: how they come apart, and that their nodes in prefix order are the table's.
 -- Assumes nothing.
-use Rattle.words.specs.Prelude.{◌≡◌, refl, sym, ◌∙◌, ap, List, ◌∷◌, ◌++◌, append_assoc, ℕ, zero, suc, ◌+◌, ◌-◌, ◌≤◌, ◌<◌, arith, zero-add, suc-add, replicate}
+use Rattle.std.specs.Prelude.{◌≡◌, refl, List, ◌∷◌, ◌++◌, ℕ, zero, suc, ◌+◌, ◌-◌, ◌≤◌, ◌<◌, replicate}
+use Rattle.words.specs.Prelude.{sym, ◌∙◌, ap, append_assoc, arith, zero-add, suc-add}
 use Rattle.table.specs.{declared.nodes.Node.Node, Nodes.node_at, Nodes.child_count_at, Forest.Forest, Forest.none, Forest.tree, Forest.first_trees}
 use Rattle.table.specs.{Forest.other_trees, Forest.node_over, Forest.trees, Forest.size, Forest.flat, Forest.nodes, Forest.sorts, Forest.Sorted}
 

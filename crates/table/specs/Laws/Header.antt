@@ -1,6 +1,7 @@
 -- What a header that breaks no rule says.
 -- Assumes nothing.
-use Rattle.words.specs.Prelude.{◌≡◌, refl, sym, Bool, true, false, not, cond, ◌&&◌, List, ℕ, ◌+◌, ◌*◌, ◌≤◌, arith, length, ltb, leb, eqb, ltb-false, leb-true}
+use Rattle.std.specs.Prelude.{◌≡◌, refl, Bool, true, false, not, cond, ◌&&◌, List, ℕ, ◌+◌, ◌*◌, ◌≤◌, length, ltb, leb, eqb}
+use Rattle.words.specs.Prelude.{sym, arith, ltb-false, leb-true}
 use Rattle.words.specs.Prelude.{eqb-true, not-true}
 use Rattle.words.specs.{Limits.most_slots, Limits.most_nodes}
 use Rattle.table.specs.{Header.slots, Header.version, Header.total, Header.count, Header.mark_right, Header.version_right, Header.counts_right}

@@ -1,8 +1,9 @@
 -- THE VIEW of a node's kind: one case for each class of operands and one for each class of conditions, with what the table
 -- of kinds says there. Whoever goes by the kind of a node goes by these cases.
 -- Assumes nothing.
-use Rattle.words.specs.Prelude.{◌≡◌, refl, sym, ◌∙◌, ap, Bool, true, cond, true≢false, ◌&&◌, ⊎_elim, List, ℕ, ◌+◌, ◌-◌, ◌≤◌, ◌<◌, arith, eq-zero-or-pos, get_or}
-use Rattle.words.specs.Prelude.{List·get_or-eq_default, leb, eqb, leb-true, eqb-true, eq-eqb}
+use Rattle.std.specs.Prelude.{◌≡◌, refl, Bool, true, cond, ◌&&◌, List, ℕ, ◌+◌, ◌-◌, ◌≤◌, ◌<◌, get_or, leb, eqb}
+use Rattle.words.specs.Prelude.{sym, ◌∙◌, ap, true≢false, ⊎_elim, arith, eq-zero-or-pos}
+use Rattle.words.specs.Prelude.{List·get_or-eq_default, leb-true, eqb-true, eq-eqb}
 use Rattle.table.specs.{declared.kinds.Kind.Kind, declared.kinds.OperandClass.OperandClass, declared.kinds.OperandClass.TheVariants.NoOperand}
 use Rattle.table.specs.{declared.kinds.OperandClass.TheVariants.Const, declared.kinds.OperandClass.TheVariants.Ref}
 use Rattle.table.specs.{declared.kinds.OperandClass.TheVariants.Price, declared.kinds.OperandClass.TheVariants.Prev}

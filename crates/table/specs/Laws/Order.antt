@@ -1,7 +1,8 @@
 -- Laws of rule 7: where it is kept, each node has the children that its kind takes, and its end leads past its subtree.
 -- Assumes nothing.
-use Rattle.words.specs.Prelude.{◌≡◌, refl, sym, ◌∙◌, ap, subst, Bool, true, false, cond, List, [], ◌∷◌, ◌++◌, append_assoc, ℕ, zero, suc, ◌+◌, ◌-◌, ◌≤◌, ◌<◌}
-use Rattle.words.specs.Prelude.{arith, zero-add, suc-add, add-zero, sub-zero, eqb-true, length, replicate, length-append, length-replicate, eqb}
+use Rattle.std.specs.Prelude.{◌≡◌, refl, Bool, true, false, cond, List, [], ◌∷◌, ◌++◌, ℕ, zero, suc, ◌+◌, ◌-◌, ◌≤◌, ◌<◌, length, replicate, eqb}
+use Rattle.words.specs.Prelude.{sym, ◌∙◌, ap, subst, append_assoc}
+use Rattle.words.specs.Prelude.{arith, zero-add, suc-add, add-zero, sub-zero, eqb-true, length-append, length-replicate}
 use Rattle.table.specs.{declared.places.Place.Place, declared.places.Place.TheVariants.Nowhere, declared.places.Place.TheVariants.At, Nodes.node_at}
 use Rattle.table.specs.{Nodes.sort_at, Nodes.child_count_at, Nodes.child_sort_at, Nodes.child_fits_at, Order.fits, Forest.first_trees, Forest.other_trees}
 use Rattle.table.specs.{Forest.node_over, Forest.trees, Forest.size, Forest.sorts, Forest.Fitting, Forest.Sorted, Ends.place_or, Ends.end_at, Ends.Link}

@@ -1,5 +1,6 @@
 -- The silent tests among the nodes of a forest, one node after another. Assumes nothing.
-use Rattle.words.specs.Prelude.{ℕ, zero, suc, ◌+◌, ◌-◌, ◌≤◌, ◌<◌, max, ◌≡◌, refl, ap, ◌∙◌, List, [], ◌++◌, append_assoc, arith}
+use Rattle.std.specs.Prelude.{ℕ, zero, suc, ◌+◌, ◌-◌, ◌≤◌, ◌<◌, max, ◌≡◌, refl, List, [], ◌++◌}
+use Rattle.words.specs.Prelude.{ap, ◌∙◌, append_assoc, arith}
 use Rattle.table.specs.{Nodes.node_at, Nodes.child_count_at, Forest.Forest, Forest.first_trees, Forest.other_trees, Forest.node_over, Forest.trees}
 use Rattle.table.specs.{Reach.own_back, Reach.weigh, Laws.Forest.left_suc, Silent.silent_node, Silent.silent_nodes}
 use Rattle.table.specs.Forest as Forest

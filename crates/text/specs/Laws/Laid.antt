@@ -1,6 +1,7 @@
 -- A room that is filled place by place. Assumes nothing.
-use Rattle.words.specs.Prelude.{ℕ, zero, suc, ◌+◌, ◌-◌, ◌*◌, ◌/◌, ◌^◌, ◌≤◌, ◌<◌, ◌≡◌, refl, sym, ap, ◌∙◌, List, [], ◌∷◌, arith, div-one, ltb, length, take}
-use Rattle.words.specs.Prelude.{drop, set, length-set, lt-ltb, le-ltb}
+use Rattle.std.specs.Prelude.{ℕ, zero, suc, ◌+◌, ◌-◌, ◌*◌, ◌/◌, ◌^◌, ◌≤◌, ◌<◌, ◌≡◌, refl, List, [], ◌∷◌, ltb, length, take, drop, set}
+use Rattle.words.specs.Prelude.{sym, ap, ◌∙◌, arith, div-one}
+use Rattle.words.specs.Prelude.{length-set, lt-ltb, le-ltb}
 use Rattle.text.specs.{Rooms.laid}
 
 module _ (f : ℕ → ℕ) where

@@ -1,7 +1,9 @@
 -- No sum of so many finite floats passes the 34 words: they read back as it is. Assumes nothing.
-use Rattle.words.specs.Prelude.{◌≡◌, refl, sym, subst, ◌∙◌, Bool, true, false, cond, true≢false, List, ℕ, zero, suc, ◌+◌, ◌-◌, ◌*◌, ◌/◌, ◌%◌, ◌^◌}
-use Rattle.words.specs.Prelude.{◌≤◌, ◌<◌, mod-lt, le_trans, le_of_eq, le_of_lt, zero-mul, suc-mul, mul-one, arith, ltb-true, ne_eqb, leb, ltb, eqb, lit≤}
-use Rattle.words.specs.Prelude.{pow_pos, pow_mono, shl_lt, length, ℤ, pos, negsuc, ◌+ℤ◌, sub_ℕ, nan, inf, binary64, odd, of_fields, of_bits, HasValue}
+use Rattle.std.specs.Prelude.{◌≡◌, refl, Bool, true, false, cond, List, ℕ, zero, suc, ◌+◌, ◌-◌, ◌*◌, ◌/◌, ◌%◌, ◌^◌, ◌≤◌, ◌<◌, leb, ltb, eqb, length, ℤ, pos}
+use Rattle.std.specs.Prelude.{negsuc, ◌+ℤ◌, nat_abs}
+use Rattle.words.specs.Prelude.{sym, subst, ◌∙◌, true≢false}
+use Rattle.words.specs.Prelude.{mod-lt, le_trans, le_of_eq, le_of_lt, zero-mul, suc-mul, mul-one, arith, ltb-true, ne_eqb, lit≤}
+use Rattle.words.specs.Prelude.{pow_pos, pow_mono, shl_lt, sub_ℕ, nan, inf, binary64, odd, of_fields, of_bits, HasValue}
 use Rattle.words.specs.Prelude.{odd_sign}
 use Rattle.words.specs.{Limits.most_count}
 use Rattle.floats.specs.{Floats.float_of, Floats.finite, Root.field_units, Root.units_of}
@@ -9,7 +11,6 @@ use Rattle.totals.specs.{Number.place, Exact.residue, Exact.signed, Exact.step, 
 use Rattle.totals.specs.{Trades.Trade, Trades.pnl_sum, Laws.Places.place-pow, Laws.Residues.signed_up, Laws.Residues.signed_down, Laws.Sums.number_for}
 use Rattle.totals.specs.{Laws.Trades.Acceptable, Laws.Trades.none, Laws.Trades.more, Laws.Trades.acceptable-finite}
 use Rattle.std.proofs.Common.{add-le-add}
-use Rattle.std.specs.Prelude.{nat_abs}
 
 -- ---- a finite float and its units
 

@@ -1,6 +1,7 @@
 -- The eight counts: with one trade more, with those of more trades, and their bounds. Assumes nothing.
-use Rattle.words.specs.Prelude.{◌≡◌, refl, sym, ap, ◌∙◌, Bool, true, false, cond, false≢true, List, [], ◌∷◌, ◌++◌, ℕ, zero, suc, ◌+◌, ◌-◌, ◌<◌, ◌≤◌}
-use Rattle.words.specs.Prelude.{arith, leb-true, le-leb, leb, length, get_or, drop, set, drop_of_length-le, drop-cons}
+use Rattle.std.specs.Prelude.{◌≡◌, refl, Bool, true, false, cond, List, [], ◌∷◌, ◌++◌, ℕ, zero, suc, ◌+◌, ◌-◌, ◌<◌, ◌≤◌, leb, length, get_or, drop, set}
+use Rattle.words.specs.Prelude.{sym, ap, ◌∙◌, false≢true}
+use Rattle.words.specs.Prelude.{arith, leb-true, le-leb, drop_of_length-le, drop-cons}
 use Rattle.words.specs.{Words.word, Limits.most_count}
 use Rattle.totals.specs.{Trades.Trade, Trades.trade, Trades.bit_of, Trades.count_of, Trades.ended_by, Trades.won, Trades.lost, Totals.count_size}
 use Rattle.totals.specs.{Totals.AllAtMost, Totals.all_small, Totals.with_counts, Laws.Trades.count_append}

@@ -1,6 +1,7 @@
 -- Places of words, and the words of a number. Assumes nothing.
-use Rattle.words.specs.Prelude.{◌≡◌, refl, sym, ap, ◌∙◌, List, [], ◌∷◌, ℕ, zero, suc, ◌+◌, ◌*◌, ◌/◌, ◌%◌, ◌^◌, ◌<◌, mul_assoc, zero-add, suc-add, one-mul}
-use Rattle.words.specs.Prelude.{mod-lt, arith, length, pow-add, pow_pos}
+use Rattle.std.specs.Prelude.{◌≡◌, refl, List, [], ◌∷◌, ℕ, zero, suc, ◌+◌, ◌*◌, ◌/◌, ◌%◌, ◌^◌, ◌<◌, length}
+use Rattle.words.specs.Prelude.{sym, ap, ◌∙◌, mul_assoc, zero-add, suc-add, one-mul}
+use Rattle.words.specs.Prelude.{mod-lt, arith, pow-add, pow_pos}
 use Rattle.totals.specs.{Number.place, Number.number_of, Number.words_of, Number.AreWords}
 
 pub place_some : (i : ℕ) → 0 < place i

@@ -1,7 +1,8 @@
 -- Two's complement: numbers that are the same but for multiples of m, and the sums of whole numbers. Assumes nothing.
-use Rattle.words.specs.Prelude.{◌≡◌, refl, sym, ap, ◌∙◌, Bool, true, false, cond, ℕ, zero, suc, ◌+◌, ◌-◌, ◌*◌, ◌/◌, ◌%◌, ◌≤◌, ◌<◌, add-mul, one-mul, zero-mul}
-use Rattle.words.specs.Prelude.{mod-lt, mod-eq_of_lt, add-mul-mod_self_right, div-add-mod', arith, ltb-true, ltb-false, lt-ltb, le-ltb, ltb, ℤ, pos, negsuc}
-use Rattle.words.specs.Prelude.{◌+ℤ◌, sub_ℕ}
+use Rattle.std.specs.Prelude.{◌≡◌, refl, Bool, true, false, cond, ℕ, zero, suc, ◌+◌, ◌-◌, ◌*◌, ◌/◌, ◌%◌, ◌≤◌, ◌<◌, ltb, ℤ, pos, negsuc, ◌+ℤ◌}
+use Rattle.words.specs.Prelude.{sym, ap, ◌∙◌, add-mul, one-mul, zero-mul}
+use Rattle.words.specs.Prelude.{mod-lt, mod-eq_of_lt, add-mul-mod_self_right, div-add-mod', arith, ltb-true, ltb-false, lt-ltb, le-ltb}
+use Rattle.words.specs.Prelude.{sub_ℕ}
 use Rattle.totals.specs.{Number.shifted, Exact.residue, Exact.signed, Exact.step}
 
 pub record Same (m u v : ℕ) : Type 0 where

@@ -1,5 +1,6 @@
 -- The 34 words of a sum with a float more, and with another sum. Assumes nothing.
-use Rattle.words.specs.Prelude.{◌≡◌, sym, ap, subst, ◌∙◌, false, List, ℕ, ◌%◌, ◌^◌, ◌<◌, leb, length, ℤ, pos, ◌+ℤ◌, +ℤ_assoc, +ℤ_idr}
+use Rattle.std.specs.Prelude.{◌≡◌, false, List, ℕ, ◌%◌, ◌^◌, ◌<◌, leb, length, ℤ, pos, ◌+ℤ◌}
+use Rattle.words.specs.Prelude.{sym, ap, subst, ◌∙◌, +ℤ_assoc, +ℤ_idr}
 use Rattle.floats.specs.{Root.units_of}
 use Rattle.totals.specs.{Number.place, Number.number_of, Number.words_of, Number.shifted, Number.AreWords, Exact.residue, Exact.signed, Exact.units_in}
 use Rattle.totals.specs.{Exact.number_in, Exact.words_for, Exact.sum_size, Totals.sum_with, Laws.Places.place_some, Laws.Places.number_below}

@@ -1,6 +1,7 @@
 -- Lists of trades: read one after another, counted, joined, rearranged. Assumes nothing.
-use Rattle.words.specs.Prelude.{◌≡◌, refl, sym, ap, ◌∙◌, Bool, true, false, cond, ◌&&◌, false≢true, List, [], ◌∷◌, ◌++◌, ℕ, zero, suc, ◌+◌, ◌-◌, ◌<◌, ◌≤◌}
-use Rattle.words.specs.Prelude.{zero-add, add_assoc, le_of_suc-le-suc, not-suc-le-zero, arith, leb-true, leb, length, ℤ, ◌+ℤ◌, +ℤ_assoc, +ℤ_comm, +ℤ_idl}
+use Rattle.std.specs.Prelude.{◌≡◌, refl, Bool, true, false, cond, ◌&&◌, List, [], ◌∷◌, ◌++◌, ℕ, zero, suc, ◌+◌, ◌-◌, ◌<◌, ◌≤◌, leb, length, ℤ, ◌+ℤ◌}
+use Rattle.words.specs.Prelude.{sym, ap, ◌∙◌, false≢true}
+use Rattle.words.specs.Prelude.{zero-add, add_assoc, le_of_suc-le-suc, not-suc-le-zero, arith, leb-true, +ℤ_assoc, +ℤ_comm, +ℤ_idl}
 use Rattle.floats.specs.{Floats.float_of, Floats.finite}
 use Rattle.totals.specs.{Exact.units_in, Trades.Trade, Trades.trade_at, Trades.trades_from, Trades.acceptable, Trades.good_start, Trades.bit_of}
 use Rattle.totals.specs.{Trades.count_of, Trades.pnl_sum}
