@@ -1,3 +1,4 @@
 -- What the proofs of the functions use.
 pub mod Pieces
 pub mod Writing
+pub mod Whole

@@ -1,8 +1,7 @@
 -- Four pieces put one after another into a room of newlines, and the newline after them.
 use Rattle.words.specs.Prelude.{◌≡◌, refl, sym, ◌∙◌, ap, Bool, true, false, cond, List, [], ◌∷◌, ◌++◌, ℕ, zero, suc, ◌+◌, ◌/◌, ◌≤◌, ◌<◌, arith, length, take}
 use Rattle.words.specs.Prelude.{drop, replicate, length-append, length-take-le, ltb, leb, leb-true}
-use Rattle.io.specs.{Counts.Counts}
-use Rattle.answers.specs.{Text.put, Text.next, Text.places, Text.decimal, Laws.Pieces.next_fits, Laws.Pieces.put_fits, Laws.Pieces.put-put}
+use Rattle.answers.specs.{Text.put, Text.next, Text.places, Text.decimal, Text.IsPrefixLen, Laws.Pieces.next_fits, Laws.Pieces.put_fits, Laws.Pieces.put-put}
 use Rattle.answers.specs.{Laws.Pieces.length-put, Laws.Pieces.length_digits}
 
 -- at most one digit more than asked for
@@ -16,9 +15,9 @@ places_few (suc k) n = either (ltb n 10) (places k (n / 10)) k (places_few k (n 
     either false m k h = omega arith
 
 -- a word takes 20 digits at the most
-decimal_few : (n : ℕ) → length (decimal n) ≤ 20
+pub decimal_few : (n : ℕ) → length (decimal n) ≤ 20
 unfolding decimal
-decimal_few n = omega (arith, length_digits 10 (places 19 n) n, places_few 19 n)
+decimal_few n = omega (arith, length_digits (places 19 n) n, places_few 19 n)
 
 abbrev pub newlines : List ℕ
 newlines = replicate 64 10
@@ -88,7 +87,7 @@ pub room_long : (s l : List ℕ) (d : ℕ) → Put s d l → d + 1 ≤ length l
 room_long s l d p = omega (arith, p.count, p.few, ap length p.room ∙ length-put newlines 0 s)
 
 -- a line put at the start of a room lies within it
-pub counted : (room s l : List ℕ) (n : ℕ) → n ≡ next room 0 s → l ≡ put room 0 s → Counts n l
+pub counted : (room s l : List ℕ) (n : ℕ) → n ≡ next room 0 s → l ≡ put room 0 s → IsPrefixLen n l
 unfolding next
 counted room s l n hn hl =
     let small = within (leb (0 + length s) (length room)) refl in

@@ -1,6 +1,9 @@
 -- Bytes put into a room one after another, and numbers in decimal. Definitions only.
-use Rattle.std.specs.Prelude.{cond, List, ◌++◌, ℕ, zero, suc, ◌+◌, ◌/◌, ltb, leb, length, take, drop}
-use Rattle.io.specs.{Digits.digits}
+use Rattle.std.specs.Prelude.{◌≡◌, cond, List, [], ◌∷◌, ◌++◌, ℕ, zero, suc, ◌+◌, ◌/◌, ◌%◌, ◌≤◌, ltb, leb, length, take, drop}
+
+-- a count of the room's first bytes, all of which it has
+abbrev pub IsPrefixLen : ℕ → List ℕ → Type 0
+IsPrefixLen n room = (n ≤ length room) × (n ≡ length (take n room))
 
 -- the room with bytes over it from `at` on, where they fit
 unfoldable pub put : List ℕ → ℕ → List ℕ → List ℕ
@@ -15,7 +18,12 @@ unfoldable pub places : ℕ → ℕ → ℕ
 places zero n = 1
 places (suc k) n = cond (ltb n 10) 1 (places k (n / 10) + 1)
 
+-- the last k decimal digits of n, the highest first; 48 is `0`
+abbrev pub last_digits : ℕ → ℕ → List ℕ
+last_digits zero n = []
+last_digits (suc k) n = last_digits k (n / 10) ++ ((48 + n % 10) ∷ [])
+
 -- a number in decimal, with no zeros in front: a word takes 20 digits at the most
 unfoldable pub decimal : ℕ → List ℕ
 unfolding places
-decimal n = digits 10 (places 19 n) n
+decimal n = last_digits (places 19 n) n

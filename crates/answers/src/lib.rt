@@ -2,12 +2,16 @@
 // The answer to a rule table as a line of text: `accepted nodes 7 rows 3` or `refused 6 at 2`, and a newline.
 mod put;
 
-ghost use Rattle.std.specs.Prelude.{◌≡◌, ◌≤◌, length};
-ghost use Rattle.io.specs.Counts.{IsPrefixLen};
-ghost use Rattle.answers.specs.Text.{put, next};
+ghost use Rattle.std.specs.Prelude.{◌≡◌, ◌≤◌, length, take, IfOk, OnOk, IfSome};
+ghost use Rattle.std.specs.Io.KnownBytes.{Appends};
+ghost use Rattle.table.specs.Checked.{checked};
+ghost use Rattle.answers.specs.Text.{put, next, IsPrefixLen};
 ghost use Rattle.answers.specs.Lines.{two_numbers, line_of};
 
 use put::{put, put_decimal};
+use std::alloc::Global;
+use std::io;
+use std::io::{Read, Write};
 use table::answer::Answer;
 
 // "the first 4,113 bytes": as many bytes of an input as a program reads. One more than the longest table has, so that a longer input is
@@ -54,13 +58,33 @@ pub fn put_answer(room: &mut [u8], answer: Answer) -> usize
     }
 }
 
-// Reads a table from standard input and writes the answer to it.
-pub fn answer_input() {
-    let mut input = [0u8; MOST_READ];
-    let n = io::read_full(0, &mut input);
-    let checked = table::check(&input[..n]);
+// Reads a table: so many bytes of the input, or all of it where it has fewer.
+pub fn read_table<R: Read + Drop>(alloc: Global, input: R) -> io::Result<Vec<u8>>
+    ensures { IfOk result (λ table. IfSome (R.remaining input) (λ bytes. table.items ≡ take 4113 bytes)) }
+{
+    let mut table = Vec::with_capacity(alloc, MOST_READ)?;
+    input.take(MOST_READ as u64).read_to_end(&mut table)?;
+    Ok(table)
+}
+
+// Reads a table and writes the answer to it as a line.
+pub fn answer_to<R: Read + Drop, W: Write>(
+    alloc: Global,
+    input: R,
+    output: &mut W,
+) -> io::Result<()>
+    ensures { OnOk result (IfSome (R.remaining input) (λ bytes.
+        Appends (W.contents output.old) (W.contents output.new) (line_of (checked (take 4113 bytes))))) }
+{
+    let table = read_table(alloc, input)?;
+    let checked = table::check(&table);
     let answer = checked.answer;
     let mut line = [0u8; 64];
-    let m = put_answer(&mut line, answer);
-    io::write_all(1, &line[..m]);
+    let n = put_answer(&mut line, answer);
+    output.write_all(&line[..n])
+}
+
+// Reads a table from standard input and writes the answer to it.
+pub fn answer_input(rt: &(impl Input + Print + AllocGlobal)) -> io::Result<()> {
+    answer_to(rt.alloc(), rt.reader(), &mut io::writer(rt))
 }

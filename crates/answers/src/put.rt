@@ -3,6 +3,8 @@ ghost use Rattle.std.specs.Prelude.{◌≡◌};
 ghost use Rattle.answers.specs.Text.{next, decimal};
 ghost use Rattle.answers.specs.Text as Text;
 
+use itoa::Buffer;
+
 // Puts bytes into the room from `at` on and answers the place just past them; where they do not fit, `at`.
 pub(crate) fn put(room: &mut [u8], at: usize, bytes: &[u8]) -> usize
     ensures value { result ≡ next room.old at bytes.now }
@@ -27,7 +29,6 @@ pub(crate) fn put_decimal(room: &mut [u8], at: usize, n: u64) -> usize
     ensures value { result ≡ next room.old at (decimal n) }
     ensures room_after { room.new ≡ Text.put room.old at (decimal n) }
 {
-    let mut spelt = [0u8; 20];
-    let k = io::decimal(n, &mut spelt);
-    put(room, at, &spelt[..k])
+    let mut buffer = Buffer::new();
+    put(room, at, buffer.format(n).as_bytes())
 }

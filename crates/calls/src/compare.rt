@@ -1,6 +1,8 @@
 // A call over two runs: what differs between them, as lines.
 use crate::rooms;
 use crate::rooms::word;
+use std::io;
+use std::io::Write;
 
 fn compare_call(
     other_trades: &[u64],
@@ -26,13 +28,14 @@ fn compare_call(
 // Word 1 is what the count holds before, the words after it are the other run's trades; its equity stands in the room of rows. The answer, the
 // lines and the count, as they are then whatever the answer.
 pub(crate) fn compare(
+    output: &mut impl Write,
     line: &[u64],
     sizes: &[u64],
     other_equity: &[u64],
     equity: &[u64],
     trades: &[u64],
     lines: &mut [u64],
-) {
+) -> io::Result<()> {
     let mut count = word(line, 1);
     let other_trades = text::rooms::part(line, 2, line.len());
     let answer = compare_call(
@@ -44,7 +47,11 @@ pub(crate) fn compare(
         lines,
         &mut count,
     );
-    text::write_words(&[answer], b' ');
-    text::write_words(rooms::words_of(sizes, rooms::DIFFERENCES, lines), b' ');
-    text::write_words(&[count], b'\n');
+    text::write_words(output, &[answer], b' ')?;
+    text::write_words(
+        output,
+        rooms::words_of(sizes, rooms::DIFFERENCES, lines),
+        b' ',
+    )?;
+    text::write_words(output, &[count], b'\n')
 }

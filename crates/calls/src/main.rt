@@ -13,6 +13,8 @@ mod stretch;
 mod tables;
 
 use rooms::word;
+use std::io;
+use std::io::{BufReader, BufWriter, Read, Write};
 
 // The words of the longest line.
 const LINE: usize = 8192;
@@ -65,18 +67,27 @@ fn lend(
 }
 
 // Makes a call that a table or rows are lent to.
-fn call_rules(line: &[u64], sizes: &mut [u64], table: &[u8], lists: &mut [u8], rows: &[u64]) {
+fn call_rules(
+    output: &mut impl Write,
+    line: &[u64],
+    sizes: &mut [u64],
+    table: &[u8],
+    lists: &mut [u8],
+    rows: &[u64],
+) -> io::Result<()> {
     match word(line, 0) {
-        0x20 => tables::check(sizes, table),
-        0x21 => tables::depth(line, sizes, table),
-        0x22 => tables::translate(line, sizes, table, lists),
-        0x2a => tables::silent(line, sizes, table),
+        0x20 => tables::check(output, sizes, table),
+        0x21 => tables::depth(output, line, sizes, table),
+        0x22 => tables::translate(output, line, sizes, table, lists),
+        0x2a => tables::silent(output, line, sizes, table),
         0x23 => rules::rule(
+            output,
             line,
             tables::table(sizes, table),
             rooms::words_of(sizes, rooms::ROWS, rows),
         ),
         _ => rules::run(
+            output,
             line,
             sizes,
             rooms::words_of(sizes, rooms::ROWS, rows),
@@ -87,24 +98,26 @@ fn call_rules(line: &[u64], sizes: &mut [u64], table: &[u8], lists: &mut [u8], r
 
 // Makes a call of totals, over closes or over two runs; what it is lent stands in the rooms that `lend` says.
 fn call_report(
+    output: &mut impl Write,
     line: &[u64],
     sizes: &[u64],
     rows: &[u64],
     equity: &mut [u64],
     trades: &mut [u64],
     metrics: &mut [u64],
-) {
+) -> io::Result<()> {
     match word(line, 0) {
-        0x30 => report::totals(sizes, metrics, trades),
-        0x31 => report::join(line, sizes, metrics),
-        0x32 => stretch::append(line, sizes, equity, trades),
-        0x33 => stretch::ask(line, sizes, equity, trades),
-        _ => compare::compare(line, sizes, rows, equity, trades, metrics),
+        0x30 => report::totals(output, sizes, metrics, trades),
+        0x31 => report::join(output, line, sizes, metrics),
+        0x32 => stretch::append(output, line, sizes, equity, trades),
+        0x33 => stretch::ask(output, line, sizes, equity, trades),
+        _ => compare::compare(output, line, sizes, rows, equity, trades, metrics),
     }
 }
 
 // Makes a call of a run, of the metrics or of the root.
 fn call_run(
+    output: &mut impl Write,
     line: &[u64],
     sizes: &[u64],
     lists: &[u8],
@@ -114,36 +127,44 @@ fn call_run(
     equity: &mut [u64],
     trades: &mut [u64],
     metrics: &mut [u64],
-) {
+) -> io::Result<()> {
     match word(line, 0) {
-        0x25 => runs::fresh(sizes, settings, state),
-        0x26 => runs::step(line, sizes, settings, state, rows, equity, trades, lists),
-        0x27 => runs::finish(sizes, settings, state, rows, equity, trades, metrics),
-        0x2b => runs::steps(line, sizes, settings, state, rows, equity, trades, lists),
-        0x28 => runs::metrics(line, sizes, equity, trades, metrics),
-        _ => text::write_words(&[capi::figures::ysh_root(word(line, 1))], b'\n'),
+        0x25 => runs::fresh(output, sizes, settings, state),
+        0x26 => runs::step(
+            output, line, sizes, settings, state, rows, equity, trades, lists,
+        ),
+        0x27 => runs::finish(
+            output, sizes, settings, state, rows, equity, trades, metrics,
+        ),
+        0x2b => runs::steps(
+            output, line, sizes, settings, state, rows, equity, trades, lists,
+        ),
+        0x28 => runs::metrics(output, line, sizes, equity, trades, metrics),
+        _ => text::write_words(output, &[capi::figures::ysh_root(word(line, 1))], b'\n'),
     }
 }
 
 // Makes a call for a loss of power.
 fn call_power(
+    output: &mut impl Write,
     line: &[u64],
     sizes: &[u64],
     settings: &[u64],
     state: &mut [u64],
     rows: &mut [u64],
     area: &mut [u8],
-) {
+) -> io::Result<()> {
     match word(line, 0) {
-        0x2c => power::dump_bytes(line),
-        0x2d => power::dump(line, sizes, settings, state, rows, area),
-        0x2f => power::part(line, sizes, settings, state, rows, area),
-        _ => power::restore(sizes, settings, state, rows, area),
+        0x2c => power::dump_bytes(output, line),
+        0x2d => power::dump(output, line, sizes, settings, state, rows, area),
+        0x2f => power::part(output, line, sizes, settings, state, rows, area),
+        _ => power::restore(output, sizes, settings, state, rows, area),
     }
 }
 
 // Takes a line: a room is lent, or a call made.
 fn take(
+    output: &mut impl Write,
     line: &[u64],
     sizes: &mut [u64],
     table: &mut [u8],
@@ -155,22 +176,27 @@ fn take(
     equity: &mut [u64],
     trades: &mut [u64],
     metrics: &mut [u64],
-) {
+) -> io::Result<()> {
     match word(line, 0) {
-        0..=0x1f => lend(
-            line, sizes, table, lists, area, settings, state, rows, equity, trades, metrics,
-        ),
-        0x20..=0x24 | 0x2a => call_rules(line, sizes, table, lists, rows),
-        0x2c..=0x2f => call_power(line, sizes, settings, state, rows, area),
-        0x30..=0x34 => call_report(line, sizes, rows, equity, trades, metrics),
+        0..=0x1f => {
+            lend(
+                line, sizes, table, lists, area, settings, state, rows, equity, trades, metrics,
+            );
+            Ok(())
+        }
+        0x20..=0x24 | 0x2a => call_rules(output, line, sizes, table, lists, rows),
+        0x2c..=0x2f => call_power(output, line, sizes, settings, state, rows, area),
+        0x30..=0x34 => call_report(output, line, sizes, rows, equity, trades, metrics),
         _ => call_run(
-            line, sizes, lists, settings, state, rows, equity, trades, metrics,
+            output, line, sizes, lists, settings, state, rows, equity, trades, metrics,
         ),
     }
 }
 
 // Takes the next line, and says whether there was one: at the end of the input there is no word, and a room of none is lent.
 fn take_next(
+    input: &mut impl Read,
+    output: &mut impl Write,
     room: &mut [u64],
     sizes: &mut [u64],
     table: &mut [u8],
@@ -182,18 +208,18 @@ fn take_next(
     equity: &mut [u64],
     trades: &mut [u64],
     metrics: &mut [u64],
-) -> bool {
-    let n = text::read_line(room);
+) -> io::Result<bool> {
+    let n = text::read_line(input, room)?;
     let line = text::rooms::part(room, 0, n);
     take(
-        line, sizes, table, lists, area, settings, state, rows, equity, trades, metrics,
-    );
-    n > 0
+        output, line, sizes, table, lists, area, settings, state, rows, equity, trades, metrics,
+    )?;
+    Ok(n > 0)
 }
 
-// A proved loop has to end, and nothing says that the input does, so the loop counts its turns down from a number that
-// no run uses up.
-fn main() {
+// A proved loop has to end, and nothing says that the input does, so the loop counts its turns up to a number that
+// no run reaches.
+fn main(rt: HostRuntime) -> io::Result<()> {
     let mut line = [0u64; LINE];
     let mut sizes = [0u64; FEW];
     let mut table = [0u8; TABLE];
@@ -205,9 +231,12 @@ fn main() {
     let mut equity = [0u64; RECORDS];
     let mut trades = [0u64; RECORDS];
     let mut metrics = [0u64; LINES];
-    let mut turns = u64::MAX;
-    while turns > 0
-        && take_next(
+    let mut input = BufReader::new(rt.alloc(), rt.reader())?;
+    let mut output = BufWriter::new(rt.alloc(), io::writer(&rt))?;
+    for _ in 0..u64::MAX {
+        let more = take_next(
+            &mut input,
+            &mut output,
             &mut line,
             &mut sizes,
             &mut table,
@@ -219,8 +248,10 @@ fn main() {
             &mut equity,
             &mut trades,
             &mut metrics,
-        )
-    {
-        turns -= 1;
+        )?;
+        if !more {
+            break;
+        }
     }
+    output.flush()
 }

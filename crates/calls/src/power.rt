@@ -2,13 +2,16 @@
 use crate::rooms;
 use crate::rooms::word;
 use crate::tables::write_bytes;
+use std::io;
+use std::io::Write;
 
 // Words 1 and 2 are K and D. The size.
-pub(crate) fn dump_bytes(line: &[u64]) {
+pub(crate) fn dump_bytes(output: &mut impl Write, line: &[u64]) -> io::Result<()> {
     text::write_words(
+        output,
         &[capi::power::ysh_dump_bytes(word(line, 1), word(line, 2))],
         b'\n',
-    );
+    )
 }
 
 fn dump_call(
@@ -33,16 +36,20 @@ fn dump_call(
 
 // Words 1 and 2 are from and upto. The answer and the area, as it is then whatever the answer.
 pub(crate) fn dump(
+    output: &mut impl Write,
     line: &[u64],
     sizes: &[u64],
     settings: &[u64],
     state: &[u64],
     rows: &[u64],
     area: &mut [u8],
-) {
+) -> io::Result<()> {
     let answer = dump_call(line, sizes, settings, state, rows, area);
-    io::print_hex(1, answer, 16);
-    write_bytes(text::rooms::bytes(area, 0, rooms::lent(sizes, rooms::AREA, area.len())));
+    write!(output, "{answer:016x}")?;
+    write_bytes(
+        output,
+        text::rooms::bytes(area, 0, rooms::lent(sizes, rooms::AREA, area.len())),
+    )
 }
 
 fn part_call(
@@ -68,18 +75,22 @@ fn part_call(
 
 // Word 1 is the place of the first byte, word 2 what the count holds before. The answer, the count and the area, which is the part.
 pub(crate) fn part(
+    output: &mut impl Write,
     line: &[u64],
     sizes: &[u64],
     settings: &[u64],
     state: &[u64],
     rows: &[u64],
     area: &mut [u8],
-) {
+) -> io::Result<()> {
     let mut used = word(line, 2);
     let answer = part_call(line, sizes, settings, state, rows, area, &mut used);
-    text::write_words(&[answer], b' ');
-    io::print_hex(1, used, 16);
-    write_bytes(text::rooms::bytes(area, 0, rooms::lent(sizes, rooms::AREA, area.len())));
+    text::write_words(output, &[answer], b' ')?;
+    write!(output, "{used:016x}")?;
+    write_bytes(
+        output,
+        text::rooms::bytes(area, 0, rooms::lent(sizes, rooms::AREA, area.len())),
+    )
 }
 
 fn restore_call(
@@ -102,14 +113,15 @@ fn restore_call(
 
 // The answer, the state and the rows, as they are then whatever the answer.
 pub(crate) fn restore(
+    output: &mut impl Write,
     sizes: &[u64],
     settings: &[u64],
     state: &mut [u64],
     rows: &mut [u64],
     area: &[u8],
-) {
+) -> io::Result<()> {
     let answer = restore_call(sizes, settings, state, rows, area);
-    text::write_words(&[answer], b' ');
-    text::write_words(rooms::words_of(sizes, rooms::STATE, state), b' ');
-    text::write_words(rooms::words_of(sizes, rooms::ROWS, rows), b'\n');
+    text::write_words(output, &[answer], b' ')?;
+    text::write_words(output, rooms::words_of(sizes, rooms::STATE, state), b' ')?;
+    text::write_words(output, rooms::words_of(sizes, rooms::ROWS, rows), b'\n')
 }

@@ -1,10 +1,17 @@
 // Calls of totals: a list of trades added to them, and other totals joined to them.
 use crate::rooms;
+use std::io;
+use std::io::Write;
 
 // Writes an answer and the totals, as they are then whatever the answer.
-fn write_totals(answer: u64, sizes: &[u64], totals: &[u64]) {
-    text::write_words(&[answer], b' ');
-    text::write_words(rooms::words_of(sizes, rooms::TOTALS, totals), b'\n');
+fn write_totals(
+    output: &mut impl Write,
+    answer: u64,
+    sizes: &[u64],
+    totals: &[u64],
+) -> io::Result<()> {
+    text::write_words(output, &[answer], b' ')?;
+    text::write_words(output, rooms::words_of(sizes, rooms::TOTALS, totals), b'\n')
 }
 
 fn totals_call(sizes: &[u64], totals: &mut [u64], trades: &[u64]) -> u64 {
@@ -17,9 +24,14 @@ fn totals_call(sizes: &[u64], totals: &mut [u64], trades: &[u64]) -> u64 {
 }
 
 // The answer and the totals.
-pub(crate) fn totals(sizes: &[u64], totals: &mut [u64], trades: &[u64]) {
+pub(crate) fn totals(
+    output: &mut impl Write,
+    sizes: &[u64],
+    totals: &mut [u64],
+    trades: &[u64],
+) -> io::Result<()> {
     let answer = totals_call(sizes, totals, trades);
-    write_totals(answer, sizes, totals);
+    write_totals(output, answer, sizes, totals)
 }
 
 fn join_call(other: &[u64], sizes: &[u64], totals: &mut [u64]) -> u64 {
@@ -29,8 +41,13 @@ fn join_call(other: &[u64], sizes: &[u64], totals: &mut [u64]) -> u64 {
 }
 
 // The words after the first are the other totals. The answer and the totals.
-pub(crate) fn join(line: &[u64], sizes: &[u64], totals: &mut [u64]) {
+pub(crate) fn join(
+    output: &mut impl Write,
+    line: &[u64],
+    sizes: &[u64],
+    totals: &mut [u64],
+) -> io::Result<()> {
     let other = text::rooms::part(line, 1, line.len());
     let answer = join_call(other, sizes, totals);
-    write_totals(answer, sizes, totals);
+    write_totals(output, answer, sizes, totals)
 }

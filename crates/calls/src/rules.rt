@@ -1,9 +1,11 @@
 // Calls over rows: the four rules of a table, and the four lists of steps.
 use crate::rooms;
 use crate::rooms::word;
+use std::io;
+use std::io::Write;
 
 // What one list of steps came to.
-#[derive(Clone, Copy)]
+#[derive(Drop)]
 struct Ran {
     said: u64,
     visits: u64,
@@ -26,12 +28,17 @@ fn rule_of(table: &[u8], tree: u64, rows: &[u64], line: &[u64]) -> u64 {
 }
 
 // The four trees of a table, at the position of words 1 to 4.
-pub(crate) fn rule(line: &[u64], table: &[u8], rows: &[u64]) {
+pub(crate) fn rule(
+    output: &mut impl Write,
+    line: &[u64],
+    table: &[u8],
+    rows: &[u64],
+) -> io::Result<()> {
     let entry = rule_of(table, 0, rows, line);
     let exit = rule_of(table, 1, rows, line);
     let short_entry = rule_of(table, 2, rows, line);
     let short_exit = rule_of(table, 3, rows, line);
-    text::write_words(&[entry, exit, short_entry, short_exit], b'\n');
+    text::write_words(output, &[entry, exit, short_entry, short_exit], b'\n')
 }
 
 // The same for a list of steps, with the visits; words 5 and 6 are K and D.
@@ -60,16 +67,24 @@ fn run_of(steps: &[u8], rows: &[u64], line: &[u64]) -> Ran {
 }
 
 // The four lists: what each says, and then the visits of each.
-pub(crate) fn run(line: &[u64], sizes: &[u64], rows: &[u64], lists: &[u8]) {
+pub(crate) fn run(
+    output: &mut impl Write,
+    line: &[u64],
+    sizes: &[u64],
+    rows: &[u64],
+    lists: &[u8],
+) -> io::Result<()> {
     let entry = run_of(rooms::list(sizes, 0, lists), rows, line);
     let exit = run_of(rooms::list(sizes, 1, lists), rows, line);
     let short_entry = run_of(rooms::list(sizes, 2, lists), rows, line);
     let short_exit = run_of(rooms::list(sizes, 3, lists), rows, line);
     text::write_words(
+        output,
         &[entry.said, exit.said, short_entry.said, short_exit.said],
         b' ',
-    );
+    )?;
     text::write_words(
+        output,
         &[
             entry.visits,
             exit.visits,
@@ -77,5 +92,5 @@ pub(crate) fn run(line: &[u64], sizes: &[u64], rows: &[u64], lists: &[u8]) {
             short_exit.visits,
         ],
         b'\n',
-    );
+    )
 }

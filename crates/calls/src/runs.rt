@@ -1,6 +1,8 @@
 // The calls of a run: the state before the first bar, one bar, the end.
 use crate::rooms;
 use crate::rooms::word;
+use std::io;
+use std::io::Write;
 use words::limits::{POINT_WORDS, TRADE_WORDS};
 
 // The words of a state that count its equity points and its trades.
@@ -24,23 +26,30 @@ fn trade(trades: &[u64], n: u64) -> &[u64] {
 }
 
 // Writes an answer, and what follows it where the call did its work.
-fn write_done(answer: u64, words: &[u64]) {
+fn write_done(output: &mut impl Write, answer: u64, words: &[u64]) -> io::Result<()> {
     if answer == 0 {
-        text::write_words(&[answer], b' ');
-        text::write_words(words, b'\n');
+        text::write_words(output, &[answer], b' ')?;
+        text::write_words(output, words, b'\n')
     } else {
-        text::write_words(&[answer], b'\n');
+        text::write_words(output, &[answer], b'\n')
     }
 }
 
 // The same, and then the trade where the call closed one.
-fn write_closed(answer: u64, words: &[u64], before: u64, after: u64, trades: &[u64]) {
+fn write_closed(
+    output: &mut impl Write,
+    answer: u64,
+    words: &[u64],
+    before: u64,
+    after: u64,
+    trades: &[u64],
+) -> io::Result<()> {
     if answer == 0 && before < after {
-        text::write_words(&[answer], b' ');
-        text::write_words(words, b' ');
-        text::write_words(trade(trades, before), b'\n');
+        text::write_words(output, &[answer], b' ')?;
+        text::write_words(output, words, b' ')?;
+        text::write_words(output, trade(trades, before), b'\n')
     } else {
-        write_done(answer, words);
+        write_done(output, answer, words)
     }
 }
 
@@ -54,9 +63,14 @@ fn fresh_call(sizes: &[u64], settings: &[u64], state: &mut [u64]) -> u64 {
 }
 
 // The answer and the state.
-pub(crate) fn fresh(sizes: &[u64], settings: &[u64], state: &mut [u64]) {
+pub(crate) fn fresh(
+    output: &mut impl Write,
+    sizes: &[u64],
+    settings: &[u64],
+    state: &mut [u64],
+) -> io::Result<()> {
     let answer = fresh_call(sizes, settings, state);
-    write_done(answer, rooms::words_of(sizes, rooms::STATE, state));
+    write_done(output, answer, rooms::words_of(sizes, rooms::STATE, state))
 }
 
 fn step_call(
@@ -90,6 +104,7 @@ fn step_call(
 
 // The words after the first are the bar. The answer, the equity point, and the trade where the bar closed one.
 pub(crate) fn step(
+    output: &mut impl Write,
     line: &[u64],
     sizes: &[u64],
     settings: &[u64],
@@ -98,18 +113,19 @@ pub(crate) fn step(
     equity: &mut [u64],
     trades: &mut [u64],
     lists: &[u8],
-) {
+) -> io::Result<()> {
     let points = word(state, POINTS);
     let closed = word(state, CLOSED);
     let bar = text::rooms::part(line, 1, line.len());
     let answer = step_call(bar, sizes, settings, state, rows, equity, trades, lists);
     write_closed(
+        output,
         answer,
         point(equity, points),
         closed,
         word(state, CLOSED),
         trades,
-    );
+    )
 }
 
 fn steps_call(
@@ -145,6 +161,7 @@ fn steps_call(
 
 // The words after the first are bars. The answer, how many were done, the trades so far, and the newest equity point where there is one.
 pub(crate) fn steps(
+    output: &mut impl Write,
     line: &[u64],
     sizes: &[u64],
     settings: &[u64],
@@ -153,7 +170,7 @@ pub(crate) fn steps(
     equity: &mut [u64],
     trades: &mut [u64],
     lists: &[u8],
-) {
+) -> io::Result<()> {
     let mut done: u64 = 0;
     let bars = text::rooms::part(line, 1, line.len());
     let answer = steps_call(
@@ -161,10 +178,10 @@ pub(crate) fn steps(
     );
     let points = word(state, POINTS);
     if 0 < points {
-        text::write_words(&[answer, done, word(state, CLOSED)], b' ');
-        text::write_words(point(equity, points - 1), b'\n');
+        text::write_words(output, &[answer, done, word(state, CLOSED)], b' ')?;
+        text::write_words(output, point(equity, points - 1), b'\n')
     } else {
-        text::write_words(&[answer, done, word(state, CLOSED)], b'\n');
+        text::write_words(output, &[answer, done, word(state, CLOSED)], b'\n')
     }
 }
 
@@ -194,6 +211,7 @@ fn finish_call(
 
 // The answer, the metrics, and the trade where the end closed one.
 pub(crate) fn finish(
+    output: &mut impl Write,
     sizes: &[u64],
     settings: &[u64],
     state: &mut [u64],
@@ -201,11 +219,11 @@ pub(crate) fn finish(
     equity: &mut [u64],
     trades: &mut [u64],
     metrics: &mut [u64],
-) {
+) -> io::Result<()> {
     let closed = word(state, CLOSED);
     let answer = finish_call(sizes, settings, state, rows, equity, trades, metrics);
     let figures = rooms::words_of(sizes, rooms::METRICS, metrics);
-    write_closed(answer, figures, closed, word(state, CLOSED), trades);
+    write_closed(output, answer, figures, closed, word(state, CLOSED), trades)
 }
 
 fn metrics_call(
@@ -227,12 +245,13 @@ fn metrics_call(
 
 // Word 1 is the capital. The answer and the metrics.
 pub(crate) fn metrics(
+    output: &mut impl Write,
     line: &[u64],
     sizes: &[u64],
     equity: &[u64],
     trades: &[u64],
     room: &mut [u64],
-) {
+) -> io::Result<()> {
     let answer = metrics_call(word(line, 1), sizes, equity, trades, room);
-    write_done(answer, rooms::words_of(sizes, rooms::METRICS, room));
+    write_done(output, answer, rooms::words_of(sizes, rooms::METRICS, room))
 }

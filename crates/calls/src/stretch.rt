@@ -1,6 +1,8 @@
 // Calls over closes: one close more, and the high and the low of a stretch.
 use crate::rooms;
 use crate::rooms::word;
+use std::io;
+use std::io::Write;
 
 fn append_call(
     close: u64,
@@ -16,17 +18,29 @@ fn append_call(
 }
 
 // Word 1 is the bars held, word 2 the close. The answer, the bars held, the closes and the blocks, as they are then whatever the answer.
-pub(crate) fn append(line: &[u64], sizes: &[u64], closes: &mut [u64], blocks: &mut [u64]) {
+pub(crate) fn append(
+    output: &mut impl Write,
+    line: &[u64],
+    sizes: &[u64],
+    closes: &mut [u64],
+    blocks: &mut [u64],
+) -> io::Result<()> {
     let mut held = word(line, 1);
     let answer = append_call(word(line, 2), sizes, closes, blocks, &mut held);
-    text::write_words(&[answer, held], b' ');
-    text::write_words(rooms::words_of(sizes, rooms::CLOSES, closes), b' ');
-    text::write_words(rooms::words_of(sizes, rooms::BLOCKS, blocks), b'\n');
+    text::write_words(output, &[answer, held], b' ')?;
+    text::write_words(output, rooms::words_of(sizes, rooms::CLOSES, closes), b' ')?;
+    text::write_words(output, rooms::words_of(sizes, rooms::BLOCKS, blocks), b'\n')
 }
 
 // Words 1 to 3 are the bars held, the first bar and the last, word 4 what each of the four words holds before. The answer, the high with its
 // bar and the low with its bar.
-pub(crate) fn ask(line: &[u64], sizes: &[u64], closes: &[u64], blocks: &[u64]) {
+pub(crate) fn ask(
+    output: &mut impl Write,
+    line: &[u64],
+    sizes: &[u64],
+    closes: &[u64],
+    blocks: &[u64],
+) -> io::Result<()> {
     let before = word(line, 4);
     let mut high = before;
     let mut high_bar = before;
@@ -43,5 +57,5 @@ pub(crate) fn ask(line: &[u64], sizes: &[u64], closes: &[u64], blocks: &[u64]) {
         &mut low,
         &mut low_bar,
     );
-    text::write_words(&[answer, high, high_bar, low, low_bar], b'\n');
+    text::write_words(output, &[answer, high, high_bar, low, low_bar], b'\n')
 }

@@ -9,7 +9,7 @@ const MINUTES: usize = 1440;
 pub(crate) const BAR_WORDS: usize = words::limits::BAR_FIXED + 2;
 
 // A price between two bars, in cents, and what is carried along.
-#[derive(Clone, Copy)]
+#[derive(Drop)]
 struct Market {
     pub cents: u64,
     pub dice: u64,
@@ -18,7 +18,7 @@ struct Market {
 }
 
 // One bar's words, and the market after it.
-#[derive(Clone, Copy)]
+#[derive(Drop)]
 struct Minute {
     pub bar: [u64; 12],
     pub after: Market,
@@ -112,13 +112,11 @@ fn minute_bar(m: Market, minute: u64) -> Minute {
 // The day's bars, one behind the other.
 pub(crate) fn write_day(room: &mut [u64]) {
     let mut market = opening();
-    let mut minute: usize = 0;
-    while minute < MINUTES {
+    for minute in 0..MINUTES {
         let next = minute_bar(market, minute as u64);
         let bar = next.bar;
         words::put(room, minute * BAR_WORDS, &bar);
         let after = next.after;
         market = after;
-        minute += 1;
     }
 }

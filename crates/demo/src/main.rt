@@ -13,6 +13,8 @@ use records::settings::Settings;
 use records::state::State;
 use refusals::day::Span;
 use refusals::verdict::Verdict;
+use std::io;
+use std::io::{BufWriter, Write};
 use steps::translated::Translated;
 use table::trees::Tree;
 use words::limits::SETTING_WORDS;
@@ -64,6 +66,7 @@ fn bytes_written(answer: Translated) -> usize {
 
 // All the bars handed over, in one call; the state after them. There are no short rules, so their list, `none`, is empty.
 pub(crate) fn run_bars<'a>(
+    output: &mut impl Write,
     state: State,
     bars: &[u64],
     entry: &[u8],
@@ -72,7 +75,7 @@ pub(crate) fn run_bars<'a>(
     rows: &mut [u64],
     equity: &mut [u64],
     trades: &mut [u64],
-) -> State {
+) -> io::Result<State> {
     let settings = setting_words();
     let day = engine::day::run_bars(
         Span::Many,
@@ -90,102 +93,127 @@ pub(crate) fn run_bars<'a>(
     let verdict = day.verdict;
     match verdict {
         Verdict::Fine => report::say_count(
-            b"bars            ",
+            output,
+            "bars            ",
             day.done as u64,
-            b" minutes in one call\n",
-        ),
-        Verdict::Bad(refusal) => say_refusal(refusal.number, refusal.place),
+            " minutes in one call\n",
+        )?,
+        Verdict::Bad(refusal) => say_refusal(output, refusal.number, refusal.place)?,
     }
-    day.state
+    Ok(day.state)
 }
 
 // What the depth of the table's window is, and what it costs.
-fn say_depth() {
+fn say_depth(output: &mut impl Write) -> io::Result<()> {
     report::say(
-        b"rule table      entry CrossAbove(slot 0, slot 1), exit Lt(close, Prev(close, 2))\n",
-    );
+        output,
+        "rule table      entry CrossAbove(slot 0, slot 1), exit Lt(close, Prev(close, 2))\n",
+    )?;
     match needed::depth::depth(&TABLE, 0) {
-        DepthAnswer::Refuses(refusal) => say_refusal(refusal.number, refusal.place),
+        DepthAnswer::Refuses(refusal) => say_refusal(output, refusal.number, refusal.place),
         DepthAnswer::Needs { rows, row, window } => {
-            report::say_count(b"accepted        its window is ", rows, b" rows deep\n");
-            report::say_count(b"window          ", row, b" bytes a row, ");
             report::say_count(
-                b"",
+                output,
+                "accepted        its window is ",
+                rows,
+                " rows deep\n",
+            )?;
+            report::say_count(output, "window          ", row, " bytes a row, ")?;
+            report::say_count(
+                output,
+                "",
                 window,
-                b" bytes of rows to write when the supply drops, and the state on top\n",
-            );
+                " bytes of rows to write when the supply drops, and the state on top\n",
+            )
         }
     }
 }
 
-pub(crate) fn say_refusal(number: u64, place: u64) {
-    report::say_count(b"refused         ", number, b" at ");
-    report::say_count(b"", place, b"\n");
+pub(crate) fn say_refusal(output: &mut impl Write, number: u64, place: u64) -> io::Result<()> {
+    report::say_count(output, "refused         ", number, " at ")?;
+    report::say_count(output, "", place, "\n")
 }
 
 // One trade: its prices, what it earned, how far it went against the account, and why it ended.
-fn say_trade(trades: &[u64], i: usize) {
+fn say_trade(output: &mut impl Write, trades: &[u64], i: usize) -> io::Result<()> {
     let base = i % 1000 * words::limits::TRADE_WORDS;
-    report::say_count(b"  trade ", i as u64, b"");
+    report::say_count(output, "  trade ", i as u64, "")?;
     report::say_float(
-        b"       in ",
+        output,
+        "       in ",
         floats::float_of(words::word_from(trades, base, words::places::TRADE_ENTRY_PRICE)),
-        b"",
-    );
+        "",
+    )?;
     report::say_float(
-        b", out ",
+        output,
+        ", out ",
         floats::float_of(words::word_from(trades, base, words::places::TRADE_EXIT_PRICE)),
-        b"",
-    );
+        "",
+    )?;
     report::say_float(
-        b", pnl ",
+        output,
+        ", pnl ",
         floats::float_of(words::word_from(trades, base, words::places::TRADE_PNL)),
-        b", worst ",
-    );
+        ", worst ",
+    )?;
     report::say_float(
-        b"",
+        output,
+        "",
         floats::float_of(words::word_from(trades, base, words::places::TRADE_WORST)),
-        b", ",
-    );
-    report::say_reason(words::word_from(trades, base, words::places::TRADE_REASON));
+        ", ",
+    )?;
+    report::say_reason(
+        output,
+        words::word_from(trades, base, words::places::TRADE_REASON),
+    )
 }
 
 // The first trades of the day.
-fn say_trades(trades: &[u64], count: usize) {
-    report::say_count(b"trades          ", count as u64, b", the first of them\n");
-    let mut i: usize = 0;
-    while i < 5 {
+fn say_trades(output: &mut impl Write, trades: &[u64], count: usize) -> io::Result<()> {
+    report::say_count(
+        output,
+        "trades          ",
+        count as u64,
+        ", the first of them\n",
+    )?;
+    for i in 0..5 {
         if i < count {
-            say_trade(trades, i);
+            say_trade(output, trades, i)?;
         }
-        i += 1;
     }
+    Ok(())
 }
 
 // The nine metrics but the number of trades.
-fn say_metrics(m: Metrics) {
-    report::say_float(b"pnl             ", m.pnl, b"\n");
-    report::say_float(b"return          ", m.return_pct, b" percent\n");
-    report::say_float(b"sharpe          ", m.sharpe, b"\n");
-    report::say_float(b"sortino         ", m.sortino, b"\n");
-    report::say_float(b"calmar          ", m.calmar, b"\n");
-    report::say_float(b"max drawdown    ", m.max_drawdown, b" percent\n");
-    report::say_float(b"win rate        ", m.win_rate, b" percent\n");
-    report::say_float(b"profit factor   ", m.profit_factor, b"\n");
+fn say_metrics(output: &mut impl Write, m: Metrics) -> io::Result<()> {
+    report::say_float(output, "pnl             ", m.pnl, "\n")?;
+    report::say_float(output, "return          ", m.return_pct, " percent\n")?;
+    report::say_float(output, "sharpe          ", m.sharpe, "\n")?;
+    report::say_float(output, "sortino         ", m.sortino, "\n")?;
+    report::say_float(output, "calmar          ", m.calmar, "\n")?;
+    report::say_float(output, "max drawdown    ", m.max_drawdown, " percent\n")?;
+    report::say_float(output, "win rate        ", m.win_rate, " percent\n")?;
+    report::say_float(output, "profit factor   ", m.profit_factor, "\n")
 }
 
 // The end of the run; how many trades it made.
-fn say_end(state: State, rows: &[u64], equity: &mut [u64], trades: &mut [u64]) -> usize {
+fn say_end(
+    output: &mut impl Write,
+    state: State,
+    rows: &[u64],
+    equity: &mut [u64],
+    trades: &mut [u64],
+) -> io::Result<usize> {
     match ending::finish(settings(), state, rows, equity, trades) {
         Finished::Refused(refusal, _) => {
-            say_refusal(refusal.number, refusal.place);
-            0
+            say_refusal(output, refusal.number, refusal.place)?;
+            Ok(0)
         }
         Finished::Done(last, figures) => {
             let counts = last.counts;
-            say_trades(trades, counts.trades);
-            say_metrics(figures);
-            counts.trades
+            say_trades(output, trades, counts.trades)?;
+            say_metrics(output, figures)?;
+            Ok(counts.trades)
         }
     }
 }
@@ -203,13 +231,14 @@ fn translated(entry: &mut [u8], exit: &mut [u8]) -> Sizes {
     Sizes { entry: n, exit: m }
 }
 
-fn say_steps(sizes: Sizes) {
+fn say_steps(output: &mut impl Write, sizes: Sizes) -> io::Result<()> {
     report::say_count(
-        b"steps           entry ",
+        output,
+        "steps           entry ",
         (sizes.entry / 16) as u64,
-        b", exit ",
-    );
-    report::say_count(b"", (sizes.exit / 16) as u64, b"\n");
+        ", exit ",
+    )?;
+    report::say_count(output, "", (sizes.exit / 16) as u64, "\n")
 }
 
 // The first n bytes of a room, or all of it.
@@ -222,6 +251,7 @@ fn first_part(room: &[u8], n: usize) -> &[u8] {
 
 // The day and its end.
 fn run_and_say<'a>(
+    output: &mut impl Write,
     bars: &[u64],
     entry: &[u8],
     exit: &'a [u8],
@@ -229,15 +259,18 @@ fn run_and_say<'a>(
     rows: &mut [u64],
     equity: &mut [u64],
     trades: &mut [u64],
-) {
+) -> io::Result<()> {
     let morning = records::state::fresh(settings());
-    let state = run_bars(morning, bars, entry, exit, none, rows, equity, trades);
-    let count = say_end(state, rows, equity, trades);
-    loss::broken_day(bars, entry, exit, none, trades, count);
+    let state = run_bars(
+        output, morning, bars, entry, exit, none, rows, equity, trades,
+    )?;
+    let count = say_end(output, state, rows, equity, trades)?;
+    loss::broken_day(output, bars, entry, exit, none, trades, count)
 }
 
-fn main() {
-    say_depth();
+fn main(rt: HostRuntime) -> io::Result<()> {
+    let mut output = BufWriter::new(rt.alloc(), io::writer(&rt))?;
+    say_depth(&mut output)?;
     let mut entry = [0u8; 192];
     let mut exit = [0u8; 256];
     let mut bars = [0u64; 17280];
@@ -245,9 +278,10 @@ fn main() {
     let mut equity = [0u64; 2880];
     let mut trades = [0u64; 10000];
     let sizes = translated(&mut entry, &mut exit);
-    say_steps(sizes);
+    say_steps(&mut output, sizes)?;
     bars::write_day(&mut bars);
     run_and_say(
+        &mut output,
         &bars,
         first_part(&entry, sizes.entry),
         first_part(&exit, sizes.exit),
@@ -255,5 +289,6 @@ fn main() {
         &mut rows,
         &mut equity,
         &mut trades,
-    );
+    )?;
+    output.flush()
 }

@@ -1,15 +1,19 @@
 // What the demo says on standard output.
-use libc::STDOUT_FILENO;
+use std::io;
+use std::io::Write;
 
-pub(crate) fn say(text: &[u8]) {
-    io::write_all(STDOUT_FILENO, text);
+pub(crate) fn say(output: &mut impl Write, text: &str) -> io::Result<()> {
+    output.write_all(text.as_bytes())
 }
 
 // A label, a number and what stands behind it.
-pub(crate) fn say_count(label: &[u8], n: u64, after: &[u8]) {
-    say(label);
-    io::print_decimal(STDOUT_FILENO, n);
-    say(after);
+pub(crate) fn say_count(
+    output: &mut impl Write,
+    label: &str,
+    n: u64,
+    after: &str,
+) -> io::Result<()> {
+    write!(output, "{label}{n}{after}")
 }
 
 // A number of hundredths, rounded to the nearest; 0 for what is too large, below 0 or no number.
@@ -23,30 +27,33 @@ fn hundredths(x: f64) -> u64 {
     0
 }
 
-fn say_hundredths(n: u64) {
-    io::print_decimal(STDOUT_FILENO, n / 100);
-    say_count(b".", n / 10 % 10, b"");
-    say_count(b"", n % 10, b"");
+fn say_hundredths(output: &mut impl Write, n: u64) -> io::Result<()> {
+    write!(output, "{}.{:02}", n / 100, n % 100)
 }
 
 // A label, a float with two places and what stands behind it.
-pub(crate) fn say_float(label: &[u8], x: f64, after: &[u8]) {
-    say(label);
+pub(crate) fn say_float(
+    output: &mut impl Write,
+    label: &str,
+    x: f64,
+    after: &str,
+) -> io::Result<()> {
+    say(output, label)?;
     if x < 0.0 {
-        say(b"-");
-        say_hundredths(hundredths(-x));
+        say(output, "-")?;
+        say_hundredths(output, hundredths(-x))?;
     } else {
-        say_hundredths(hundredths(x));
+        say_hundredths(output, hundredths(x))?;
     }
-    say(after);
+    say(output, after)
 }
 
 // Why a trade ended, by its number.
-pub(crate) fn say_reason(reason: u64) {
+pub(crate) fn say_reason(output: &mut impl Write, reason: u64) -> io::Result<()> {
     match reason {
-        1 => say(b"signal\n"),
-        2 => say(b"stop loss\n"),
-        6 => say(b"end\n"),
-        _ => say(b"\n"),
+        1 => say(output, "signal\n"),
+        2 => say(output, "stop loss\n"),
+        6 => say(output, "end\n"),
+        _ => say(output, "\n"),
     }
 }

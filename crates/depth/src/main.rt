@@ -5,6 +5,8 @@
 ghost use Rattle.std.specs.Prelude.{◌<◌};
 
 use needed::depth::DepthAnswer;
+use std::env::Env;
+use std::io;
 
 // As long an argument as is read, and the number from which on more digits change nothing: it is far above every lookback.
 const ARGUMENT: usize = 64;
@@ -17,7 +19,7 @@ const HEADER: u64 = 256;
 const LARGEST_WINDOW: u64 = 4096 * 8 * 71;
 
 // The lookback that an argument names.
-#[derive(Clone, Copy)]
+#[derive(Drop)]
 enum Lookback {
     Bars(u64),
     NoNumber,
@@ -44,21 +46,18 @@ fn with_digit(n: u64, digit: u8) -> u64 {
 
 fn lookback_of(argument: &[u8]) -> Lookback {
     let mut n = 0u64;
-    let mut i = 0;
-    while i < argument.len() {
-        let d = digit(argument[i]);
+    for byte in argument {
+        let d = digit(*byte);
         if 9 < d {
             return Lookback::NoNumber;
         }
         n = with_digit(n, d);
-        i += 1;
     }
     Lookback::Bars(n)
 }
 
-fn tell(what: &[u8], n: u64) {
-    io::write_all(1, what);
-    io::print_decimal(1, n);
+fn tell(rt: &impl Print, what: &str, n: u64) -> io::Result<()> {
+    print!(rt; "{what}{n}")
 }
 
 // The bytes of a dump (request 11): a header, and then the window.
@@ -70,32 +69,29 @@ fn dump_bytes(window: u64) -> u64 {
     }
 }
 
-fn tell_depth(table: &[u8], lookback: u64) {
+fn tell_depth(rt: &impl Print, table: &[u8], lookback: u64) -> io::Result<()> {
     let answer = needed::depth::depth(table, lookback);
     match answer {
         DepthAnswer::Needs { rows, row, window } => {
-            tell(b"rows ", rows);
-            tell(b"\nbytes a row ", row);
-            tell(b"\nbytes of the window ", window);
-            tell(b"\nbytes of a dump ", dump_bytes(window));
+            tell(rt, "rows ", rows)?;
+            tell(rt, "\nbytes a row ", row)?;
+            tell(rt, "\nbytes of the window ", window)?;
+            tell(rt, "\nbytes of a dump ", dump_bytes(window))?;
         }
         DepthAnswer::Refuses(refusal) => {
-            tell(b"refused ", refusal.number);
-            tell(b" at ", refusal.place);
+            tell(rt, "refused ", refusal.number)?;
+            tell(rt, " at ", refusal.place)?;
         }
     }
-    io::write_all(1, b"\n");
+    rt.println("")
 }
 
-fn main() {
+fn main(rt: HostRuntime) -> io::Result<()> {
     let mut argument = [0u8; ARGUMENT];
-    let k = os::arg(1, &mut argument);
-    let mut input = [0u8; answers::MOST_READ];
-    let n = io::read_full(0, &mut input);
+    let k = rt.arg(1, &mut argument).unwrap_or(0);
+    let input = answers::read_table(rt.alloc(), rt.reader())?;
     match lookback_of(&argument[..k]) {
-        Lookback::Bars(lookback) => tell_depth(&input[..n], lookback),
-        Lookback::NoNumber => {
-            io::write_all(1, b"usage: depth [LOOKBACK] < TABLE\n");
-        }
+        Lookback::Bars(lookback) => tell_depth(&rt, &input, lookback),
+        Lookback::NoNumber => rt.println("usage: depth [LOOKBACK] < TABLE"),
     }
 }

@@ -11,6 +11,8 @@ use execution::fills::Exit;
 use execution::optional::Optional;
 use execution::volatility;
 use portfolio::{Closed, Portfolio};
+use std::io;
+use std::io::{BufReader, BufWriter, Read, Write};
 use text::write_words;
 
 // The words of the longest line: a lookback of 4,095 has one close more.
@@ -51,123 +53,139 @@ fn closes(case: &[u64], most: usize) -> usize
 fn fill_rows(case: &[u64], rows: &mut [u64]) -> usize {
     let first = closes_at(case) + 1;
     let n = closes(case, rows.len() / words::limits::ROW_FIXED);
-    let mut i = 0;
-    while i < n {
+    for i in 0..n {
         rows[words::limits::ROW_FIXED * i + words::places::BAR_CLOSE] = cases::word(case, first, i);
-        i += 1;
     }
     words::limits::ROW_FIXED * n
 }
 
 // The portfolio, the entry bar and the extreme after an entry.
-fn write_entry(case: &[u64], rows: &[u64]) {
+fn write_entry(output: &mut impl Write, case: &[u64], rows: &[u64]) -> io::Result<()> {
     let entry = answers::entry_of(case, rows);
     let pf = fields::portfolio_words(fields::after_entry(entry, cases::portfolio(case, 28)));
     let marks = fields::entry_marks(entry, case);
-    write_words(&pf, b' ');
-    write_words(&marks, b'\n');
+    write_words(output, &pf, b' ')?;
+    write_words(output, &marks, b'\n')
 }
 
 // The portfolio and the entry bar after an exit.
-fn write_left(exit: Exit, case: &[u64], portfolio_at: usize, entry_bar_at: usize) {
+fn write_left(
+    output: &mut impl Write,
+    exit: Exit,
+    case: &[u64],
+    portfolio_at: usize,
+    entry_bar_at: usize,
+) -> io::Result<()> {
     let pf = cases::portfolio(case, portfolio_at);
     let words = fields::portfolio_words(fields::after_exit(exit, pf));
     let flag = cases::word(case, entry_bar_at, 0);
     let bar = cases::word(case, entry_bar_at, 1);
     let entry_bar = fields::entry_bar(exit, flag, bar);
-    write_words(&words, b' ');
-    write_words(&entry_bar, b' ');
+    write_words(output, &words, b' ')?;
+    write_words(output, &entry_bar, b' ')
 }
 
 // Whether an exit closed a trade, and the trade.
-fn write_trade(exit: Exit) {
+fn write_trade(output: &mut impl Write, exit: Exit) -> io::Result<()> {
     let flag = [fields::closed_flag(exit)];
     let trade = fields::closed_words(exit);
-    write_words(&flag, b' ');
-    write_words(&trade, b'\n');
+    write_words(output, &flag, b' ')?;
+    write_words(output, &trade, b'\n')
 }
 
-fn write_exit(case: &[u64]) {
+fn write_exit(output: &mut impl Write, case: &[u64]) -> io::Result<()> {
     let exit = answers::exit_of(case);
-    write_left(exit, case, 11, 17);
-    write_trade(exit);
+    write_left(output, exit, case, 11, 17)?;
+    write_trade(output, exit)
 }
 
-fn write_intrabar(case: &[u64]) {
+fn write_intrabar(output: &mut impl Write, case: &[u64]) -> io::Result<()> {
     let exit = answers::left_of(case);
     let extreme = [floats::word_of(answers::extreme_of(case))];
-    write_left(exit, case, 19, 25);
-    write_words(&extreme, b' ');
-    write_trade(exit);
+    write_left(output, exit, case, 19, 25)?;
+    write_words(output, &extreme, b' ')?;
+    write_trade(output, exit)
 }
 
-fn write_closed(closed: Closed) {
+fn write_closed(output: &mut impl Write, closed: Closed) -> io::Result<()> {
     let pf = closed.portfolio;
     let trade = closed.trade;
     let words = fields::portfolio_words(pf);
     let trade_words = fields::trade_words(trade);
-    write_words(&words, b' ');
-    write_words(&trade_words, b'\n');
+    write_words(output, &words, b' ')?;
+    write_words(output, &trade_words, b'\n')
 }
 
-fn write_optional(value: Optional) {
+fn write_optional(output: &mut impl Write, value: Optional) -> io::Result<()> {
     let words = fields::optional_words(value);
-    write_words(&words, b'\n');
+    write_words(output, &words, b'\n')
 }
 
-fn write_portfolio(pf: Portfolio) {
+fn write_portfolio(output: &mut impl Write, pf: Portfolio) -> io::Result<()> {
     let words = fields::portfolio_words(pf);
-    write_words(&words, b'\n');
+    write_words(output, &words, b'\n')
 }
 
 // The answer's line.
-fn write_answer(case: &[u64], rows: &[u64]) {
+fn write_answer(output: &mut impl Write, case: &[u64], rows: &[u64]) -> io::Result<()> {
     match cases::word(case, 0, 0) {
-        1 => write_optional(answers::size_of(case)),
-        2 => write_optional(volatility::realized_vol(rows, 0, cases::word(case, 0, 1))),
+        1 => write_optional(output, answers::size_of(case)),
+        2 => write_optional(
+            output,
+            volatility::realized_vol(rows, 0, cases::word(case, 0, 1)),
+        ),
         3 => {
             let rate = [floats::word_of(answers::rate_of(case))];
-            write_words(&rate, b'\n');
+            write_words(output, &rate, b'\n')
         }
-        4 => write_entry(case, rows),
-        5 => write_exit(case),
-        6 => write_intrabar(case),
+        4 => write_entry(output, case, rows),
+        5 => write_exit(output, case),
+        6 => write_intrabar(output, case),
         7 => {
             let words = fields::trigger_words(answers::trigger_of(case));
-            write_words(&words, b'\n');
+            write_words(output, &words, b'\n')
         }
-        8 => write_portfolio(answers::entered_of(case)),
-        9 => write_closed(answers::exited_of(case)),
-        10 => write_portfolio(answers::funded_of(case)),
+        8 => write_portfolio(output, answers::entered_of(case)),
+        9 => write_closed(output, answers::exited_of(case)),
+        10 => write_portfolio(output, answers::funded_of(case)),
         11 => {
             let words = fields::state_words(case);
-            write_words(&words, b'\n');
+            write_words(output, &words, b'\n')
         }
-        12 => write_portfolio(answers::charged_of(case)),
-        _ => {}
+        12 => write_portfolio(output, answers::charged_of(case)),
+        _ => Ok(()),
     }
 }
 
 // Answers the next case, and says whether there was one. At the end of the input the case has no word, and no tag is 0.
-fn answer_next(line: &mut [u64], rows: &mut [u64]) -> bool {
+fn answer_next(
+    input: &mut impl Read,
+    output: &mut impl Write,
+    line: &mut [u64],
+    rows: &mut [u64],
+) -> io::Result<bool> {
     let from: usize = 0;
-    let n = text::read_line(line);
+    let n = text::read_line(input, line)?;
     let case = &line[..n];
     let held = fill_rows(case, rows);
     if rows.len() < held {
-        return false;
+        return Ok(false);
     }
-    write_answer(case, &rows[from..held]);
-    n > 0
+    write_answer(output, case, &rows[from..held])?;
+    Ok(n > 0)
 }
 
-// A proved loop has to end, and nothing says that the input does, so the loop counts its turns down from a number that
-// no run uses up.
-fn main() {
+// A proved loop has to end, and nothing says that the input does, so the loop counts its turns up to a number that
+// no run reaches.
+fn main(rt: HostRuntime) -> io::Result<()> {
     let mut line = [0u64; LINE];
     let mut rows = [0u64; ROW_WORDS];
-    let mut turns = u64::MAX;
-    while turns > 0 && answer_next(&mut line, &mut rows) {
-        turns -= 1;
+    let mut input = BufReader::new(rt.alloc(), rt.reader())?;
+    let mut output = BufWriter::new(rt.alloc(), io::writer(&rt))?;
+    for _ in 0..u64::MAX {
+        if !answer_next(&mut input, &mut output, &mut line, &mut rows)? {
+            break;
+        }
     }
+    output.flush()
 }

@@ -4,6 +4,8 @@ ghost use Rattle.std.specs.Prelude.{◌≤◌};
 use crate::names;
 use crate::say::{say, say_number, say_value};
 use chain::lines;
+use std::io;
+use std::io::Write;
 
 // Where a line has its words.
 const NODE: usize = 0;
@@ -25,127 +27,150 @@ const FOURTH: usize = 7;
 // A refusal's number stands in the upper half of an answer, its place in the lower.
 const HALF: u64 = 4_294_967_296;
 
-pub(crate) fn say_refused(answer: u64) {
-    say(b"refused ");
-    say_number(answer / HALF);
-    say(b" at ");
-    say_number(answer % HALF);
-    say(b"\n");
+pub(crate) fn say_refused(output: &mut impl Write, answer: u64) -> io::Result<()> {
+    say(output, "refused ")?;
+    say_number(output, answer / HALF)?;
+    say(output, " at ")?;
+    say_number(output, answer % HALF)?;
+    say(output, "\n")
 }
 
 // A value after the first, where it is used.
-fn say_next(list: &[u64], at: usize, k: usize, used: bool) {
+fn say_next(
+    output: &mut impl Write,
+    list: &[u64],
+    at: usize,
+    k: usize,
+    used: bool,
+) -> io::Result<()> {
     if used {
-        say(b", ");
-        say_value(words::word_from(list, at, k));
+        say(output, ", ")?;
+        say_value(output, words::word_from(list, at, k))?;
     }
+    Ok(())
 }
 
-fn say_values(list: &[u64], at: usize, used: u64) {
-    say_value(words::word_from(list, at, FIRST));
-    say_next(list, at, SECOND, 1 < used);
-    say_next(list, at, THIRD, 2 < used);
-    say_next(list, at, FOURTH, 3 < used);
+fn say_values(output: &mut impl Write, list: &[u64], at: usize, used: u64) -> io::Result<()> {
+    say_value(output, words::word_from(list, at, FIRST))?;
+    say_next(output, list, at, SECOND, 1 < used)?;
+    say_next(output, list, at, THIRD, 2 < used)?;
+    say_next(output, list, at, FOURTH, 3 < used)
 }
 
 // How far back: this bar, or so many bars.
-fn say_back(back: u64) {
+fn say_back(output: &mut impl Write, back: u64) -> io::Result<()> {
     match back {
-        0 => say(b" is missing at this bar"),
-        1 => say(b" is missing 1 bar back"),
+        0 => say(output, " is missing at this bar"),
+        1 => say(output, " is missing 1 bar back"),
         _ => {
-            say(b" is missing ");
-            say_number(back);
-            say(b" bars back");
+            say(output, " is missing ")?;
+            say_number(output, back)?;
+            say(output, " bars back")
         }
     }
 }
 
-fn say_missing(t: &[u8], node: u64, back: u64) {
-    names::say_leaf(t, node);
-    say_back(back);
-    say(b" (node ");
-    say_number(node);
-    say(b")");
+fn say_missing(output: &mut impl Write, t: &[u8], node: u64, back: u64) -> io::Result<()> {
+    names::say_leaf(output, t, node)?;
+    say_back(output, back)?;
+    say(output, " (node ")?;
+    say_number(output, node)?;
+    say(output, ")")
 }
 
 // A link: what it goes to, or why it stops.
-fn say_link(kind: u8, next: u64, last: bool) {
+fn say_link(output: &mut impl Write, kind: u8, next: u64, last: bool) -> io::Result<()> {
     if last {
         if kind == table::kinds::ALL {
-            say(b"none of its conditions says no");
-        } else {
-            say(b"none of its conditions says yes");
+            return say(output, "none of its conditions says no");
         }
-        return;
+        return say(output, "none of its conditions says yes");
     }
-    say(b"by node ");
-    say_number(next);
+    say(output, "by node ")?;
+    say_number(output, next)
 }
 
-fn say_shown(t: &[u8], kind: u8, list: &[u64], at: usize, last: bool) {
+fn say_shown(
+    output: &mut impl Write,
+    t: &[u8],
+    kind: u8,
+    list: &[u64],
+    at: usize,
+    last: bool,
+) -> io::Result<()> {
     let first = words::word_from(list, at, FIRST);
     match words::word_from(list, at, SHOWS) {
         lines::LINK => say_link(
+            output,
             kind,
             words::word_from(list, at, lines::LINE_WORDS + NODE),
             last,
         ),
-        lines::VALUES => say_values(list, at, words::word_from(list, at, USED)),
-        lines::MISSING => say_missing(t, first, words::word_from(list, at, SECOND)),
-        lines::AT_FIRST_BAR => say(b"the first bar has none before it"),
-        lines::TOO_FEW_BARS => say(b"too few bars"),
-        lines::POSITION => say(b"by the position"),
+        lines::VALUES => say_values(output, list, at, words::word_from(list, at, USED)),
+        lines::MISSING => say_missing(output, t, first, words::word_from(list, at, SECOND)),
+        lines::AT_FIRST_BAR => say(output, "the first bar has none before it"),
+        lines::TOO_FEW_BARS => say(output, "too few bars"),
+        lines::POSITION => say(output, "by the position"),
         lines::SINCE_ENTRY => {
-            say_number(first);
-            say(b" bars since the entry");
+            say_number(output, first)?;
+            say(output, " bars since the entry")
         }
-        _ => say(b"flat, or no entry bar"),
+        _ => say(output, "flat, or no entry bar"),
     }
 }
 
 // One line: its node, the node's kind, its answer and what it shows.
-fn say_line(t: &[u8], list: &[u64], at: usize, last: bool) {
+fn say_line(
+    output: &mut impl Write,
+    t: &[u8],
+    list: &[u64],
+    at: usize,
+    last: bool,
+) -> io::Result<()> {
     let node = words::word_from(list, at, NODE);
     let kind = names::kind_at(t, node);
-    say(b"  node ");
-    say_number(node);
-    say(b"  ");
-    names::say_kind(kind);
+    say(output, "  node ")?;
+    say_number(output, node)?;
+    say(output, "  ")?;
+    names::say_kind(output, kind)?;
     if words::word_from(list, at, ANSWER) == 1 {
-        say(b"yes  ");
+        say(output, "yes  ")?;
     } else {
-        say(b"no   ");
+        say(output, "no   ")?;
     }
-    say_shown(t, kind, list, at, last);
-    say(b"\n");
+    say_shown(output, t, kind, list, at, last)?;
+    say(output, "\n")
 }
 
-fn say_lines(t: &[u8], list: &[u64], count: usize)
+fn say_lines(output: &mut impl Write, t: &[u8], list: &[u64], count: usize) -> io::Result<()>
     requires { count ≤ 32 }
 {
-    let mut i: usize = 0;
-    while i < count {
-        say_line(t, list, lines::LINE_WORDS * i, i + 1 == count);
-        i += 1;
+    for i in 0..count {
+        say_line(output, t, list, lines::LINE_WORDS * i, i + 1 == count)?;
     }
+    Ok(())
 }
 
 // The tree, what it said, and its lines.
-pub(crate) fn say_chain(t: &[u8], tree: u64, list: &[u64], count: usize) {
-    names::say_tree(tree);
+pub(crate) fn say_chain(
+    output: &mut impl Write,
+    t: &[u8],
+    tree: u64,
+    list: &[u64],
+    count: usize,
+) -> io::Result<()> {
+    names::say_tree(output, tree)?;
     if count == 0 {
-        say(b" is absent\n");
-        return;
+        return say(output, " is absent\n");
     }
     if words::word(list, ANSWER) == 1 {
-        say(b" said yes\n");
+        say(output, " said yes\n")?;
     } else {
-        say(b" said no\n");
+        say(output, " said no\n")?;
     }
     if 32 < count {
-        say_lines(t, list, 32);
+        say_lines(output, t, list, 32)
     } else {
-        say_lines(t, list, count);
+        say_lines(output, t, list, count)
     }
 }

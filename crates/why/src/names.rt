@@ -1,15 +1,17 @@
 // Trees, kinds and leaves by name.
 use crate::say::{say, say_number};
+use std::io;
+use std::io::Write;
 use table::kinds;
 use table::nodes::node_at;
 
-pub(crate) fn say_tree(tree: u64) {
+pub(crate) fn say_tree(output: &mut impl Write, tree: u64) -> io::Result<()> {
     match tree {
-        0 => say(b"entry"),
-        1 => say(b"exit"),
-        2 => say(b"short entry"),
-        3 => say(b"short exit"),
-        _ => say(b"this tree"),
+        0 => say(output, "entry"),
+        1 => say(output, "exit"),
+        2 => say(output, "short entry"),
+        3 => say(output, "short exit"),
+        _ => say(output, "this tree"),
     }
 }
 
@@ -19,49 +21,49 @@ pub(crate) fn kind_at(t: &[u8], node: u64) -> u8 {
 }
 
 // The kind of a condition's node, filled up to one width.
-pub(crate) fn say_kind(kind: u8) {
+pub(crate) fn say_kind(output: &mut impl Write, kind: u8) -> io::Result<()> {
     match kind {
-        kinds::GT => say(b"Gt              "),
-        kinds::LT => say(b"Lt              "),
-        kinds::GE => say(b"Ge              "),
-        kinds::LE => say(b"Le              "),
-        kinds::EQ => say(b"Eq              "),
-        kinds::NE => say(b"Ne              "),
-        kinds::CROSS_ABOVE => say(b"CrossAbove      "),
-        kinds::CROSS_BELOW => say(b"CrossBelow      "),
-        kinds::BETWEEN => say(b"Between         "),
-        kinds::RISING => say(b"Rising          "),
-        kinds::FALLING => say(b"Falling         "),
-        kinds::ALL => say(b"All             "),
-        kinds::ANY => say(b"Any             "),
-        kinds::NOT => say(b"Not             "),
-        kinds::IN_POSITION => say(b"InPosition      "),
-        _ => say(b"BarsSinceEntry  "),
+        kinds::GT => say(output, "Gt              "),
+        kinds::LT => say(output, "Lt              "),
+        kinds::GE => say(output, "Ge              "),
+        kinds::LE => say(output, "Le              "),
+        kinds::EQ => say(output, "Eq              "),
+        kinds::NE => say(output, "Ne              "),
+        kinds::CROSS_ABOVE => say(output, "CrossAbove      "),
+        kinds::CROSS_BELOW => say(output, "CrossBelow      "),
+        kinds::BETWEEN => say(output, "Between         "),
+        kinds::RISING => say(output, "Rising          "),
+        kinds::FALLING => say(output, "Falling         "),
+        kinds::ALL => say(output, "All             "),
+        kinds::ANY => say(output, "Any             "),
+        kinds::NOT => say(output, "Not             "),
+        kinds::IN_POSITION => say(output, "InPosition      "),
+        _ => say(output, "BarsSinceEntry  "),
     }
 }
 
-fn say_price(selector: u8) {
+fn say_price(output: &mut impl Write, selector: u8) -> io::Result<()> {
     match selector {
-        0 => say(b"open"),
-        1 => say(b"high"),
-        2 => say(b"low"),
-        3 => say(b"close"),
-        4 => say(b"volume"),
-        5 => say(b"hlc3"),
-        _ => say(b"ohlc4"),
+        0 => say(output, "open"),
+        1 => say(output, "high"),
+        2 => say(output, "low"),
+        3 => say(output, "close"),
+        4 => say(output, "volume"),
+        5 => say(output, "hlc3"),
+        _ => say(output, "ohlc4"),
     }
 }
 
 // A leaf: a constant, a slot or a price.
-pub(crate) fn say_leaf(t: &[u8], node: u64) {
+pub(crate) fn say_leaf(output: &mut impl Write, t: &[u8], node: u64) -> io::Result<()> {
     let n = node_at(t, node as usize % 256);
     let kind = n.kind;
     match kind {
-        kinds::CONST => say(b"a constant"),
+        kinds::CONST => say(output, "a constant"),
         kinds::REF => {
-            say(b"slot ");
-            say_number(n.n);
+            say(output, "slot ")?;
+            say_number(output, n.n)
         }
-        _ => say_price(n.selector),
+        _ => say_price(output, n.selector),
     }
 }

@@ -1,44 +1,35 @@
 // What is written: text, numbers and values.
-use libc::STDOUT_FILENO;
+use std::io;
+use std::io::Write;
 
 // A value is shown with six places after the point.
 const PLACES: f64 = 1000000.0;
 
-pub(crate) fn say(text: &[u8]) {
-    io::write_all(STDOUT_FILENO, text);
+pub(crate) fn say(output: &mut impl Write, text: &str) -> io::Result<()> {
+    output.write_all(text.as_bytes())
 }
 
-pub(crate) fn say_number(n: u64) {
-    io::print_decimal(STDOUT_FILENO, n);
+pub(crate) fn say_number(output: &mut impl Write, n: u64) -> io::Result<()> {
+    write!(output, "{n}")
 }
 
 // A number of millionths: the whole part and six digits.
-fn say_millionths(n: u64) {
-    say_number(n / 1_000_000);
-    say(b".");
-    say_number(n / 100_000 % 10);
-    say_number(n / 10_000 % 10);
-    say_number(n / 1_000 % 10);
-    say_number(n / 100 % 10);
-    say_number(n / 10 % 10);
-    say_number(n % 10);
+fn say_millionths(output: &mut impl Write, n: u64) -> io::Result<()> {
+    write!(output, "{}.{:06}", n / 1_000_000, n % 1_000_000)
 }
 
 // A value by its word: decimal where it is not too large for that, else its bits.
-pub(crate) fn say_value(word: u64) {
+pub(crate) fn say_value(output: &mut impl Write, word: u64) -> io::Result<()> {
     let x = floats::float_of(word);
     let size = floats::abs(x);
     if x != x {
-        say(b"NaN");
-        return;
+        return say(output, "NaN");
     }
     if size < 1000000000000.0 {
         if x < 0.0 {
-            say(b"-");
+            say(output, "-")?;
         }
-        say_millionths(floats::as_u64(size * PLACES + 0.5));
-        return;
+        return say_millionths(output, floats::as_u64(size * PLACES + 0.5));
     }
-    say(b"bits ");
-    io::print_hex(STDOUT_FILENO, word, 16);
+    write!(output, "bits {word:016x}")
 }

@@ -2,8 +2,7 @@
 use Rattle.std.specs.Prelude.{Bool, true, false, cond, ◌≡◌, refl, List, ◌++◌, ℕ, zero, suc, ◌+◌, ◌/◌, ◌≤◌, leb, length, take, drop}
 use Rattle.words.specs.Prelude.{sym, ap, ◌∙◌, append_assoc, add-one, arith, le-leb}
 use Rattle.words.specs.Prelude.{leb-true, length-append, length-drop, take_at, drop_at, drop-drop, length-take-le}
-use Rattle.io.specs.{Digits.digits}
-use Rattle.answers.specs.{Text.put, Text.next}
+use Rattle.answers.specs.{Text.put, Text.next, Text.last_digits}
 use Rattle.std.proofs.Math.Path.{subst⁻¹}
 
 -- the piece fits
@@ -51,6 +50,6 @@ put-put room at a b h =
     ∙ sym (put_fits room at (a ++ b) (omega arith))
 
 -- a number's digits
-pub length_digits : (base k n : ℕ) → length (digits base k n) ≡ k
-length_digits base zero n = refl
-length_digits base (suc k) n = length-append (digits base k (n / base)) _ ∙ rw (length_digits base k (n / base)) (add-one k)
+pub length_digits : (k n : ℕ) → length (last_digits k n) ≡ k
+length_digits zero n = refl
+length_digits (suc k) n = length-append (last_digits k (n / 10)) _ ∙ rw (length_digits k (n / 10)) (add-one k)

@@ -1,5 +1,5 @@
 -- A room that is filled place by place. Assumes nothing.
-use Rattle.std.specs.Prelude.{ℕ, zero, suc, ◌+◌, ◌-◌, ◌*◌, ◌/◌, ◌^◌, ◌≤◌, ◌<◌, ◌≡◌, refl, List, [], ◌∷◌, ltb, length, take, drop, set}
+use Rattle.std.specs.Prelude.{ℕ, zero, suc, ◌+◌, ◌-◌, ◌*◌, ◌/◌, ◌^◌, ◌≤◌, ◌<◌, ◌≡◌, refl, List, [], ◌∷◌, length, take, drop, set}
 use Rattle.words.specs.Prelude.{sym, ap, ◌∙◌, arith, div-one}
 use Rattle.words.specs.Prelude.{length-set, lt-ltb, le-ltb}
 use Rattle.text.specs.{Rooms.laid}
