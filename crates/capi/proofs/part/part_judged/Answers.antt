@@ -1,0 +1,21 @@
+-- The rooms are judged, then the part of what the words mean is written: one law for each way out.
+use Rattle.words.specs.Prelude.{sym, ◌∙◌, rules}
+use Rattle.capi.proofs.{Parting.part_short, Parting.part_refused, Parting.part_done}
+use Rattle.capi.proofs.part.part_judged.Goals as goal
+
+pub judge_rooms-requires : goal.judge_rooms-requires
+judge_rooms-requires c = c.settings_of-chosen.ensures
+
+pub returns-in-Bad : goal.returns-in-Bad
+returns-in-Bad c =
+    part_short _ _ _ _ _ _ (sym c.judge_rooms.ensures ∙ c.in-Bad.is) c.answer_word.ensures
+
+pub returns-in-Refused : goal.returns-in-Refused
+returns-in-Refused c =
+    part_refused _ _ _ _ _ _ (sym c.judge_rooms.ensures ∙ c.in_default.is) c.settings_of-chosen.ensures
+    c.state_of.ensures c.part-parted.ensures c.in-Refused.is c.answer_word-in-Refused.ensures
+
+pub returns-in-Used : goal.returns-in-Used
+returns-in-Used c =
+    part_done _ _ _ _ _ _ (sym c.judge_rooms.ensures ∙ c.in_default.is) c.settings_of-chosen.ensures
+    c.state_of.ensures c.part-parted.ensures c.in-Used.is

@@ -1,0 +1,21 @@
+-- The rooms are judged, then the restore is made: one law for each way out.
+use Rattle.words.specs.Prelude.{sym, ◌∙◌, rules}
+use Rattle.capi.proofs.{Powering.restore_short, Powering.restore_refused, Powering.restore_done}
+use Rattle.capi.proofs.power.ysh_restore.Goals as goal
+
+pub judge_rooms-requires : goal.judge_rooms-requires
+judge_rooms-requires c = c.settings_of-chosen.ensures
+
+pub returns-in-Bad : goal.returns-in-Bad
+returns-in-Bad c =
+    restore_short _ _ _ _ (sym c.judge_rooms.ensures ∙ c.in-Bad.is) c.answer_word.ensures
+
+pub returns-in-Refused : goal.returns-in-Refused
+returns-in-Refused c =
+    restore_refused _ _ _ _ (sym c.judge_rooms.ensures ∙ c.in_default.is) c.settings_of-chosen.ensures
+    c.restore-restored.ensures c.in-Refused.is c.answer_word-in-Refused.ensures
+
+pub returns-in-Done : goal.returns-in-Done
+returns-in-Done c =
+    restore_done _ _ _ _ (sym c.judge_rooms.ensures ∙ c.in_default.is) c.settings_of-chosen.ensures
+    c.restore-restored.ensures c.in-Done.is c.put_state.ensures

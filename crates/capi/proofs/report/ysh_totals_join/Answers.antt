@@ -1,0 +1,16 @@
+-- The definition goes by the same answer; a refusal leaves the totals as they were. Assumes nothing.
+use Rattle.words.specs.Prelude.{sym, ◌∙◌, rules}
+use Rattle.totals.specs.{Totals.join_leaves}
+use Rattle.capi.specs.{Totals.join_call}
+use Rattle.capi.proofs.{Totalling.totals_refuse, Totalling.totals_do}
+use Rattle.capi.proofs.report.ysh_totals_join.Goals as goal
+
+pub returns-in-Refused : goal.returns-in-Refused
+unfolding join_call join_leaves
+returns-in-Refused c =
+    totals_refuse _ _ _ _ c.join-joined.ensures.1 (sym c.join-joined.ensures.0 ∙ c.in-Refused.is) c.answer_word.ensures
+
+pub returns-in-Done : goal.returns-in-Done
+unfolding join_call join_leaves
+returns-in-Done c =
+    totals_do _ _ _ _ c.join-joined.ensures.1 (sym c.join-joined.ensures.0 ∙ c.in-Done.is)

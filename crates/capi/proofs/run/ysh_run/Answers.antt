@@ -1,0 +1,17 @@
+-- The definition goes by the same answer of the run.
+use Rattle.words.specs.Prelude.{sym, ◌∙◌, rules}
+use Rattle.capi.specs.{Run.run_call, Run.run_gives}
+use Rattle.capi.proofs.{Calling.call_refuses, Calling.call_does}
+use Rattle.capi.proofs.run.ysh_run.Goals as goal
+
+pub returns-in-Refuses : goal.returns-in-Refuses
+unfolding run_call run_gives
+returns-in-Refuses c =
+    let ran = rw c.position_state-position.ensures at c.run-ran.ensures in
+    call_refuses _ _ (simp (sym ran ∙ c.in-Refuses.is)) c.answer_word.ensures
+
+pub returns-in-Runs : goal.returns-in-Runs
+unfolding run_call run_gives
+returns-in-Runs c =
+    let ran = rw c.position_state-position.ensures at c.run-ran.ensures in
+    call_does _ _ (simp (sym ran ∙ c.in-Runs.is, c.bit_of.ensures))

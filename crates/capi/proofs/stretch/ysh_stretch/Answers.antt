@@ -1,0 +1,15 @@
+-- The definition goes by the same answer of the question.
+use Rattle.words.specs.Prelude.{sym, ◌∙◌, rules}
+use Rattle.capi.specs.{Stretch.stretch_call, Stretch.stretch_gives}
+use Rattle.capi.proofs.{Calling.call_refuses, Calling.call_does}
+use Rattle.capi.proofs.stretch.ysh_stretch.Goals as goal
+
+pub returns-in-Refused : goal.returns-in-Refused
+unfolding stretch_call stretch_gives
+returns-in-Refused c =
+    call_refuses _ _ (simp (sym c.stretch-found.ensures ∙ c.in-Refused.is)) c.answer_word.ensures
+
+pub returns-in-Best : goal.returns-in-Best
+unfolding stretch_call stretch_gives
+returns-in-Best c =
+    call_does _ _ (simp (sym c.stretch-found.ensures ∙ c.in-Best.is))

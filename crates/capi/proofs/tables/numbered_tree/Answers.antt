@@ -1,0 +1,20 @@
+-- Each number picks its tree, and any other the last.
+use Rattle.words.specs.Prelude.{ne_eqb}
+use Rattle.capi.specs.{Tables.numbered_tree}
+use Rattle.capi.proofs.tables.numbered_tree.Goals as goal
+
+pub returns-in-0 : goal.returns-in-0
+unfolding numbered_tree
+returns-in-0 c = simp c.in-0.is
+
+pub returns-in-1 : goal.returns-in-1
+unfolding numbered_tree
+returns-in-1 c = simp c.in-1.is
+
+pub returns-in-2 : goal.returns-in-2
+unfolding numbered_tree
+returns-in-2 c = simp c.in-2.is
+
+pub returns-in_default : goal.returns-in_default
+unfolding numbered_tree
+returns-in_default c = simp (ne_eqb _ _ c.in_default.in_default-own.rest.1, ne_eqb _ _ c.in_default.in_default-own.rest.0.1, ne_eqb _ _ c.in_default.in_default-own.rest.0.0.1)

@@ -1,0 +1,14 @@
+-- The definition goes by the same answer.
+use Rattle.words.specs.Prelude.{sym, ◌∙◌, rules}
+use Rattle.capi.specs.{Tables.depth_call, Tables.depth_gives}
+use Rattle.capi.proofs.{Calling.call_refuses, Calling.call_does}
+use Rattle.capi.proofs.tables.ysh_depth.Goals as goal
+
+pub returns-in-Refuses : goal.returns-in-Refuses
+unfolding depth_call depth_gives
+returns-in-Refuses c =
+    call_refuses _ _ (simp (sym c.depth-depth.ensures ∙ c.in-Refuses.is)) c.answer_word.ensures
+
+pub returns-in-Needs : goal.returns-in-Needs
+unfolding depth_call depth_gives
+returns-in-Needs c = call_does _ _ (simp (sym c.depth-depth.ensures ∙ c.in-Needs.is))

@@ -1,0 +1,18 @@
+-- The definition goes by the same answer of the table's list; a refusal leaves the list as it was.
+use Rattle.words.specs.Prelude.{sym, ◌∙◌, rules}
+use Rattle.table.specs.{Silent.list_after_answer}
+use Rattle.capi.specs.{Tables.silent_call, Tables.silent_gives}
+use Rattle.capi.proofs.{Calling.call_refuses, Calling.call_does}
+use Rattle.capi.proofs.tables.ysh_silent.Goals as goal
+
+pub returns-in-Refuses : goal.returns-in-Refuses
+unfolding silent_call silent_gives list_after_answer
+returns-in-Refuses c =
+    let told = sym c.silent_tests-silent.ensures.value ∙ c.in-Refuses.is in
+    call_refuses _ _ (simp told) c.answer_word.ensures ∙ simp (c.silent_tests-silent.ensures.list_after, c.in-Refuses.is)
+
+pub returns-in-Lists : goal.returns-in-Lists
+unfolding silent_call silent_gives
+returns-in-Lists c =
+    let told = sym c.silent_tests-silent.ensures.value ∙ c.in-Lists.is in
+    call_does _ _ (simp (c.silent_tests-silent.ensures.list_after, told, c.in-Lists.is))

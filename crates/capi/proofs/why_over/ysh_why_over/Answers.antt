@@ -1,0 +1,12 @@
+-- By the verdict: a refusal keeps the lines and the counts, and else both are written.
+use Rattle.words.specs.Prelude.{rules}
+use Rattle.capi.proofs.{Asking.over_refused, Asking.over_told}
+use Rattle.capi.proofs.why_over.ysh_why_over.Goals as goal
+
+pub returns-in-Bad : goal.returns-in-Bad
+returns-in-Bad c =
+    over_refused _ _ _ _ _ _ _ _ _ c.explain_over-verdict.ensures c.in-Bad.is c.answer_word.ensures
+
+pub returns-in-Fine : goal.returns-in-Fine
+returns-in-Fine c =
+    over_told _ _ _ _ _ _ _ _ _ c.explain_over-verdict.ensures c.in-Fine.is
