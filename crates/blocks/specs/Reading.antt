@@ -1,5 +1,6 @@
 -- "What reading every close gives": the high and the low of a stretch, "the numbers and the earliest bar of each". Definitions only.
-use Rattle.std.specs.Prelude.{ℕ, zero, suc, ◌+◌, ◌<◌, ◌≤◌, ◌≡◌, Bool, true, false, cond, List, is_nan, get_or}
+use Rattle.std.specs.Prelude.{ℕ, zero, suc, ◌+◌, ◌<◌, ◌≤◌, ◌≡◌, Bool, true, false, cond, List, get_or}
+use Rattle.words.specs.Prelude.{is_nan}
 use Rattle.floats.specs.{Floats.◌≺◌, Floats.float_of}
 use Rattle.blocks.specs.{declared.best.Best.Best}
 

@@ -1,7 +1,8 @@
 -- THE CAPACITOR THEOREM. A box takes bars by `ysh_step`. When its supply fails it is dumped by `ysh_dump`, and a driver programs the image into flash; the
 -- supply may fail in any program, and leave any bytes there. When it is back, `ysh_restore` refuses, or it answers 0 and the box goes on. However often
 -- this happens: what the box held, and holds, is what the rules of its table mean over every bar that it ever took.
-use Rattle.std.specs.Prelude.{ℕ, ◌+◌, ◌*◌, ◌/◌, ◌^◌, ◌≤◌, ◌≡◌, List, [], ◌∷◌, ◌++◌, flat_map, length, take}
+use Rattle.std.specs.Prelude.{ℕ, ◌+◌, ◌*◌, ◌/◌, ◌^◌, ◌≤◌, ◌≡◌, List, [], ◌∷◌, ◌++◌, length, take}
+use Rattle.words.specs.Prelude.{flat_map}
 use Rattle.words.specs.{Limits.state_words, Limits.most_count}
 use Rattle.portfolio.specs.{Trade.words_of_trade}
 use Rattle.records.specs.{Lent.Lists, Lent.Rooms, Lent.row_places, Lent.point_places, Lent.trade_places, Settings.settings_of, StateWords.state_of}

@@ -1,5 +1,6 @@
 -- Finish after losses, proved: the words that `ysh_finish` leaves are those of the engine's end, of which restart says what its points and trades are.
-use Rattle.std.specs.Prelude.{ℕ, ◌+◌, ◌-◌, ◌*◌, ◌/◌, ◌%◌, ◌≤◌, ◌≡◌, refl, cond, List, [], ◌∷◌, ◌++◌, flat_map, ltb, Float, length, set}
+use Rattle.std.specs.Prelude.{ℕ, ◌+◌, ◌-◌, ◌*◌, ◌/◌, ◌%◌, ◌≤◌, ◌≡◌, refl, cond, List, [], ◌∷◌, ◌++◌, ltb, Float, length, set}
+use Rattle.words.specs.Prelude.{flat_map}
 use Rattle.words.specs.Prelude.{sym, ap, subst, ◌∙◌, append-nil, mul-div_cancel}
 use Rattle.words.specs.Prelude.{arith, eq-eqb, le-leb, lt-ltb}
 use Rattle.words.specs.{Limits.metric_words, Limits.point_words, Limits.trade_words, Outcome.gives, Words.word}

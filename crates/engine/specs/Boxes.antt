@@ -1,5 +1,6 @@
 -- What is said of a box, a state and its rooms, and of two of them. Definitions only.
-use Rattle.std.specs.Prelude.{ℕ, ◌+◌, ◌*◌, ◌≤◌, ◌≡◌, List, ◌++◌, flat_map, length, drop}
+use Rattle.std.specs.Prelude.{ℕ, ◌+◌, ◌*◌, ◌≤◌, ◌≡◌, List, ◌++◌, length, drop}
+use Rattle.words.specs.Prelude.{flat_map}
 use Rattle.words.specs.{declared.refusal.Refusal.Refusal}
 use Rattle.portfolio.specs.{declared.Trade.Trade, Trade.words_of_trade}
 use Rattle.records.specs.{declared.settings.Settings.Settings, declared.state.State.State, Lent.Rooms, Lent.row_places, Lent.point_places, Lent.trade_places}

@@ -1,5 +1,6 @@
 -- A run that keeps every row: what a bar does to an account, over all rows before it, and what it adds to the books.
-use Rattle.std.specs.Prelude.{ℕ, ◌+◌, List, [], ◌∷◌, ◌++◌, flat_map, Float}
+use Rattle.std.specs.Prelude.{ℕ, ◌+◌, List, [], ◌∷◌, ◌++◌, Float}
+use Rattle.words.specs.Prelude.{flat_map}
 use Rattle.rows.specs.{History.History, History.history_of, History.last_rows}
 use Rattle.rules.specs.{declared.position.PositionState.PositionState}
 use Rattle.portfolio.specs.{declared.Candle.Candle, declared.Trade.Trade, Portfolio.equity, Trade.words_of_trade}

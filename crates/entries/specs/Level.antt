@@ -1,6 +1,7 @@
 -- An entry away from the market (request 1) fills exactly where the bar reaches it, and this is said of the raw price, before slippage. For any level and
 -- any bar, NaN and infinities too.
-use Rattle.std.specs.Prelude.{◌≡◌, refl, Bool, true, false, cond, ◌⊎◌, Float, is_nan}
+use Rattle.std.specs.Prelude.{◌≡◌, refl, Bool, true, false, cond, ◌⊎◌, Float}
+use Rattle.words.specs.Prelude.{is_nan}
 use Rattle.floats.specs.{Floats.◌≼◌, Floats.min, Floats.max, Laws.Order.numbers, Laws.Order.min_is, Laws.Order.max_is, Laws.Order.min_first}
 use Rattle.floats.specs.{Laws.Order.min_second, Laws.Order.max_first, Laws.Order.max_second}
 use Rattle.portfolio.specs.{declared.Candle.Candle}

@@ -1,6 +1,7 @@
 -- The Rust's own entry, which drops a quantity of 0 or less where ours drops one of at most EPS (request 7): with a lot of 0 the two are the same, but for
 -- such dust.
-use Rattle.std.specs.Prelude.{◌≡◌, refl, ◌⊎◌, Bool, true, false, cond, Float, is_nan}
+use Rattle.std.specs.Prelude.{◌≡◌, refl, ◌⊎◌, Bool, true, false, cond, Float}
+use Rattle.words.specs.Prelude.{is_nan}
 use Rattle.words.specs.Prelude.{sym, ap, ◌∙◌, inl, inr, true≢false}
 use Rattle.floats.specs.{Floats.◌⊗◌, Floats.◌≺◌, Floats.◌≼◌, Floats.min, Floats.eps, Floats.zero, Laws.Order.not-below, Laws.Order.not_above}
 use Rattle.floats.specs.{Laws.Order.numbers, Laws.Order.in_turn}

@@ -1,6 +1,7 @@
 -- What Highest and Lowest answer, said of the values that they look over and not of how these are gone through: the answer is one of them, none is
 -- better, and of equals the oldest is kept. Over numbers: infinite ones too, a NaN not.
-use Rattle.std.specs.Prelude.{ℕ, zero, suc, ◌+◌, ◌-◌, ◌≤◌, ◌<◌, ◌≡◌, refl, Bool, true, false, cond, leb, Float, is_nan}
+use Rattle.std.specs.Prelude.{ℕ, zero, suc, ◌+◌, ◌-◌, ◌≤◌, ◌<◌, ◌≡◌, refl, Bool, true, false, cond, leb, Float}
+use Rattle.words.specs.Prelude.{is_nan}
 use Rattle.words.specs.Prelude.{sym, ap, ◌∙◌, true≢false, arith}
 use Rattle.words.specs.Prelude.{leb-true, leb-false}
 use Rattle.floats.specs.{Floats.◌≺◌, Floats.◌≼◌, Laws.Order.not-below, Laws.Order.not_above, Laws.Order.numbers, Laws.Order.itself, Laws.Order.in_turn}

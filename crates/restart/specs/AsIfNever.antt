@@ -1,6 +1,7 @@
 -- AS IF THE SUPPLY HAD NEVER FAILED: what the lives of a box held, and what the life under way holds, is what the rules of the table mean over every bar
 -- that was ever taken. No unbroken box is spoken of.
-use Rattle.std.specs.Prelude.{ℕ, ◌*◌, ◌/◌, ◌≤◌, ◌≡◌, true, List, ◌++◌, flat_map, length, take, replicate}
+use Rattle.std.specs.Prelude.{ℕ, ◌*◌, ◌/◌, ◌≤◌, ◌≡◌, true, List, ◌++◌, length, take, replicate}
+use Rattle.words.specs.Prelude.{flat_map}
 use Rattle.words.specs.Prelude.{sym, ap, subst, ◌∙◌, mul-div_cancel, arith}
 use Rattle.words.specs.Prelude.{length-replicate}
 use Rattle.words.specs.{Limits.most_count, Limits.point_words, Limits.trade_words}

@@ -1,7 +1,8 @@
 -- FINISH AFTER LOSSES. A finish measures the points and trades of its own life. Those of the whole run are the figures over all lives' points and trades, one
 -- after another, with the last point of all as finish leaves it: it stands in this life's books where a bar was taken in it, and else in those kept from
 -- before.
-use Rattle.std.specs.Prelude.{ℕ, suc, ◌+◌, ◌-◌, ◌*◌, ◌/◌, ◌≤◌, ◌≡◌, refl, List, [], ◌∷◌, ◌++◌, flat_map, Float, length, set}
+use Rattle.std.specs.Prelude.{ℕ, suc, ◌+◌, ◌-◌, ◌*◌, ◌/◌, ◌≤◌, ◌≡◌, refl, List, [], ◌∷◌, ◌++◌, Float, length, set}
+use Rattle.words.specs.Prelude.{flat_map}
 use Rattle.words.specs.Prelude.{sym, ap, ◌∙◌, append_assoc, append-nil, zero-add}
 use Rattle.words.specs.Prelude.{mul-div_cancel, arith, lt-ltb, length-append, length-take-le}
 use Rattle.words.specs.{Limits.point_words, Limits.trade_words, Laws.Records.records_fit}

@@ -1,5 +1,6 @@
 -- A box that keeps D rows is a run that keeps everything, and whose rules are asked of what they mean.
-use Rattle.std.specs.Prelude.{ℕ, ◌≡◌, refl, List, [], ◌∷◌, ◌++◌, flat_map, take}
+use Rattle.std.specs.Prelude.{ℕ, ◌≡◌, refl, List, [], ◌∷◌, ◌++◌, take}
+use Rattle.words.specs.Prelude.{flat_map}
 use Rattle.words.specs.Prelude.{sym, ap, ◌∙◌, zero-add, arith, length-append}
 use Rattle.portfolio.specs.{Trade.words_of_trade}
 use Rattle.metrics.specs.{Figures.metrics_of, Records.equity_of, Records.pnls_of}

@@ -1,6 +1,7 @@
 -- Request 6: "The pnl keeps its meaning." The funding paid and the least favourable price decide nothing: every run has the account, the points, the
 -- first eight words of each trade and the figures of the engine before.
-use Rattle.std.specs.Prelude.{ℕ, suc, ◌/◌, ◌≡◌, refl, List, [], ◌∷◌, ◌++◌, flat_map, Float, length, take}
+use Rattle.std.specs.Prelude.{ℕ, suc, ◌/◌, ◌≡◌, refl, List, [], ◌∷◌, ◌++◌, Float, length, take}
+use Rattle.words.specs.Prelude.{flat_map}
 use Rattle.words.specs.Prelude.{sym, ap, ◌∙◌, arith}
 use Rattle.floats.specs.{Floats.word_of, Floats.float_of}
 use Rattle.rows.specs.{History.history_of}

@@ -1,6 +1,6 @@
 -- EXACT TOTALS: every way to total the same trades does its work and leaves the same 43 words. Assumes nothing.
 use Rattle.std.specs.Prelude.{◌≡◌, refl, Bool, true, false, List, [], ◌∷◌, ◌++◌, ℕ, zero, suc, ◌+◌, ◌/◌, ◌%◌, ◌≤◌, eqb, length, drop, replicate, ℤ, ◌+ℤ◌}
-use Rattle.std.specs.Prelude.{to_bits}
+use Rattle.words.specs.Prelude.{to_bits}
 use Rattle.words.specs.Prelude.{sym, ap, subst, ◌∙◌, append-nil}
 use Rattle.words.specs.Prelude.{arith, le-leb, eq-eqb, length-append, take_at, drop-length}
 use Rattle.words.specs.Prelude.{le, round}

@@ -1,5 +1,6 @@
 -- Worked examples: the float at its edges, and three trades whose float sum depends on the order. Assumes nothing.
-use Rattle.std.specs.Prelude.{◌≡◌, refl, List, [], ◌∷◌, ℕ, ◌+◌, ◌-◌, ◌^◌, ℤ, pos, neg_ℤ, to_bits}
+use Rattle.std.specs.Prelude.{◌≡◌, refl, List, [], ◌∷◌, ℕ, ◌+◌, ◌-◌, ◌^◌, ℤ, pos, neg_ℤ}
+use Rattle.words.specs.Prelude.{to_bits}
 use Rattle.words.specs.Prelude.{round, of_bits}
 use Rattle.floats.specs.{Floats.word_of, Floats.float_of, Floats.◌⊕◌, Root.units_of}
 use Rattle.totals.specs.{Exact.nearest_to, Exact.units_in, Trades.Trade, Trades.trade, Trades.pnl_sum}

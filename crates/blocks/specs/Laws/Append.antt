@@ -1,5 +1,6 @@
 -- A close is taken exactly where both rooms have a place for it and it is finite. Assumes nothing.
-use Rattle.std.specs.Prelude.{ℕ, ◌+◌, ◌*◌, ◌/◌, ◌<◌, ◌≤◌, ◌≡◌, refl, Bool, true, false, cond, ◌&&◌, List, ltb, Float, is_nan, length}
+use Rattle.std.specs.Prelude.{ℕ, ◌+◌, ◌*◌, ◌/◌, ◌<◌, ◌≤◌, ◌≡◌, refl, Bool, true, false, cond, ◌&&◌, List, ltb, Float, length}
+use Rattle.words.specs.Prelude.{is_nan}
 use Rattle.words.specs.Prelude.{sym, ap, ◌∙◌, false≢true, arith, ltb-true, leb-true}
 use Rattle.words.specs.Prelude.{lt-ltb, le-leb, nan, inf, fin}
 use Rattle.words.specs.{Limits.most_count, declared.refusal.Refusal.Refusal}

@@ -1,6 +1,7 @@
 -- The words of the state that words mean are these words again, where each is of a known kind, no field is set that its kind does not use, and each
 -- float's word is that of the float it means.
-use Rattle.std.specs.Prelude.{ℕ, ◌≤◌, ◌<◌, ◌≡◌, refl, Bool, true, false, cond, not, T, eqb, ltb, is_nan}
+use Rattle.std.specs.Prelude.{ℕ, ◌≤◌, ◌<◌, ◌≡◌, refl, Bool, true, false, cond, not, T, eqb, ltb}
+use Rattle.words.specs.Prelude.{is_nan}
 use Rattle.words.specs.Prelude.{sym, arith, eqb-true, eqb-false, binary64}
 use Rattle.words.specs.Prelude.{to_bits-of_bits}
 use Rattle.floats.specs.{Floats.float_of, Floats.word_of}

@@ -1,5 +1,6 @@
 -- The books after a bar are the books before it, its point and its trades at their end, whatever stale words lie behind.
-use Rattle.std.specs.Prelude.{ℕ, ◌+◌, ◌-◌, ◌*◌, ◌/◌, ◌≤◌, ◌<◌, ◌≡◌, refl, List, [], ◌∷◌, ◌++◌, flat_map, length, take, drop}
+use Rattle.std.specs.Prelude.{ℕ, ◌+◌, ◌-◌, ◌*◌, ◌/◌, ◌≤◌, ◌<◌, ◌≡◌, refl, List, [], ◌∷◌, ◌++◌, length, take, drop}
+use Rattle.words.specs.Prelude.{flat_map}
 use Rattle.words.specs.Prelude.{sym, ◌∙◌, append-nil, append_assoc, le-div_iff_mul-le}
 use Rattle.words.specs.Prelude.{suc-mul, add-one, arith, lt-ltb, le-ltb, length-append, take-append-drop, length-take-le, take_at, drop_at}
 use Rattle.words.specs.Prelude.{drop-drop}

@@ -1,5 +1,6 @@
 -- A box keeps the last D rows, and its run is one that keeps every row.
-use Rattle.std.specs.Prelude.{ℕ, ◌≡◌, List, [], ◌∷◌, ◌++◌, flat_map, take}
+use Rattle.std.specs.Prelude.{ℕ, ◌≡◌, List, [], ◌∷◌, ◌++◌, take}
+use Rattle.words.specs.Prelude.{flat_map}
 use Rattle.words.specs.Prelude.{◌∙◌, append-nil, append_assoc}
 use Rattle.records.specs.{declared.settings.Settings.Settings, declared.state.State.State, Lent.Lists, Lent.Rooms}
 use Rattle.refusals.specs.{declared.verdict.Verdict.TheVariants.Fine}

@@ -1,5 +1,6 @@
 -- The last equity point after finish: on the words that a room holds, behind them, and on points.
-use Rattle.std.specs.Prelude.{ℕ, suc, ◌+◌, ◌-◌, ◌*◌, ◌≡◌, refl, Bool, true, false, cond, List, [], ◌∷◌, flat_map, ltb, Float, length, take, drop, set}
+use Rattle.std.specs.Prelude.{ℕ, suc, ◌+◌, ◌-◌, ◌*◌, ◌≡◌, refl, Bool, true, false, cond, List, [], ◌∷◌, ltb, Float, length, take, drop, set}
+use Rattle.words.specs.Prelude.{flat_map}
 use Rattle.words.specs.Prelude.{ap, arith, ltb-true, lt-ltb}
 use Rattle.words.specs.Prelude.{length-set}
 use Rattle.floats.specs.{Floats.word_of}
