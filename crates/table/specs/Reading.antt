@@ -7,7 +7,6 @@ use Rattle.table.specs.{Trees.prev, Trees.arith, Trees.extreme, Trees.Condition,
 use Rattle.table.specs.{Trees.every, Trees.any, Trees.negated, Trees.in_position, Trees.bars_since, Trees.none, Trees.more, Series.as_series}
 use Rattle.table.specs.declared.kinds.OperandClass.TheVariants as AsOperand
 use Rattle.table.specs.declared.kinds.ConditionClass.TheVariants as AsCondition
-use Rattle.table.specs.Forest as Forest
 
 -- operand k of those in a row
 abbrev pub child : List Operand → ℕ → Operand

@@ -7,7 +7,6 @@ use Rattle.table.specs.{declared.silent.SilentAnswer.TheVariants.Lists, declared
 use Rattle.table.specs.{Forest.Forest, Forest.forest_of, Reach.own_back, Reach.weigh, Trees.Condition, Trees.Conditions, Trees.compare, Trees.cross}
 use Rattle.table.specs.{Trees.between, Trees.trend, Trees.every, Trees.any, Trees.negated, Trees.in_position, Trees.bars_since, Trees.none, Trees.more}
 use Rattle.table.specs.{Trees.reach_of, Reading.tree_of, Writing.nodes_of, Laws.Accepted.WholeTree}
-use Rattle.table.specs.Forest as Forest
 
 -- The tests: a comparison, a cross, Between, Rising and Falling. All else only joins their answers, or reads the position.
 unfoldable pub is_test : Condition → Bool

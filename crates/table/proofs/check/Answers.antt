@@ -1,6 +1,5 @@
 -- `check` meets its contract: it is the reader of every version that there is.
 -- Assumes nothing.
-use Rattle.words.specs.Prelude.{rules}
 use Rattle.table.specs.{Checked.checked, Ends.ends_beside}
 use Rattle.table.proofs.check.Goals as goal
 

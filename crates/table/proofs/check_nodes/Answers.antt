@@ -1,6 +1,5 @@
 -- `check_nodes` meets its contract: rule 6 is broken, or what is left decides.
 -- Assumes nothing.
-use Rattle.words.specs.Prelude.{rules}
 use Rattle.table.proofs.{Final.six_at, Final.six_none, Final.head_roots}
 use Rattle.table.proofs.check_nodes.Goals as goal
 

@@ -1,6 +1,6 @@
 -- `check_order` meets its contract: rule 7 is broken, or what is left decides and the array is the subtree ends.
 -- Assumes nothing.
-use Rattle.words.specs.Prelude.{sym, ◌∙◌, ap, ℕ, List, rules}
+use Rattle.words.specs.Prelude.{sym, ◌∙◌, ap, ℕ, List}
 use Rattle.table.proofs.{Final.stage_at, Final.stage_none, Final.ends_are, Four.linked_all}
 use Rattle.table.specs.{Checked.from7, Checked.from8, Ends.ends_for}
 use Rattle.table.proofs.check_order.Goals as goal

@@ -1,6 +1,6 @@
 -- `check_reach` meets its contract: the answer is handed on, with the array beside it.
 -- Assumes nothing.
-use Rattle.words.specs.Prelude.{sym, ◌∙◌, rules}
+use Rattle.words.specs.Prelude.{sym, ◌∙◌}
 use Rattle.table.proofs.{Final.keep_refused, Final.keep_accepted}
 use Rattle.table.proofs.check_reach.Goals as goal
 

@@ -1,6 +1,5 @@
 -- `check_up_to` meets its contract: a rule of the header is broken, or what is left decides.
 -- Assumes nothing.
-use Rattle.words.specs.Prelude.{rules}
 use Rattle.table.proofs.{Final.one_at}
 use Rattle.table.proofs.check_up_to.Goals as goal
 

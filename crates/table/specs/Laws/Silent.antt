@@ -3,7 +3,6 @@ use Rattle.std.specs.Prelude.{ℕ, zero, suc, ◌+◌, ◌-◌, ◌≤◌, ◌<�
 use Rattle.words.specs.Prelude.{ap, ◌∙◌, append_assoc, arith}
 use Rattle.table.specs.{Nodes.node_at, Nodes.child_count_at, Forest.Forest, Forest.first_trees, Forest.other_trees, Forest.node_over, Forest.trees}
 use Rattle.table.specs.{Reach.own_back, Reach.weigh, Laws.Forest.left_suc, Silent.silent_node, Silent.silent_nodes}
-use Rattle.table.specs.Forest as Forest
 
 module _ (d : ℕ) where
   in_two : (k : ℕ) (f : Forest) → silent_nodes d (first_trees k f) ++ silent_nodes d (other_trees k f) ≡ silent_nodes d f

@@ -1,6 +1,5 @@
 -- `form_of` meets its contract: the version and K, as they are read.
 -- Assumes nothing.
-use Rattle.words.specs.Prelude.{rules}
 use Rattle.table.proofs.header.form_of.Goals as goal
 
 pub returns : goal.returns

@@ -1,4 +1,4 @@
-use Rattle.words.specs.Prelude.{◌≡◌, refl, ap, List, ℕ, ◌+◌, ◌*◌, ◌-◌, ◌≤◌, add-one, arith, rules}
+use Rattle.words.specs.Prelude.{◌≡◌, refl, ap, List, ℕ, ◌+◌, add-one, arith, rules}
 use Rattle.table.specs.Header as Header
 use Rattle.table.proofs.header.root.Goals as goal
 

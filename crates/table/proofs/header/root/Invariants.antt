@@ -1,6 +1,6 @@
 -- `root` meets its contract. The loop's invariant: the place is the root of tree x.
 -- Assumes nothing.
-use Rattle.words.specs.Prelude.{◌≡◌, refl, ap, List, ℕ, ◌+◌, ◌*◌, ◌-◌, ◌≤◌, add-one, arith, rules}
+use Rattle.words.specs.Prelude.{◌≡◌, ◌*◌, ◌-◌, ◌≤◌}
 use Rattle.table.specs.Header as Header
 use Rattle.table.proofs.header.root.Given as goal
 

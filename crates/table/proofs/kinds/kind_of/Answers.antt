@@ -1,5 +1,5 @@
 -- The code's names of rows name the rows of the definition's table, one by one.
-use Rattle.words.specs.Prelude.{◌≡◌, refl, sym, ◌∙◌, List, [], ◌∷◌, ℕ, ◌<◌, rules, get_or, List·get_or-eq_default}
+use Rattle.words.specs.Prelude.{◌≡◌, refl, sym, ◌∙◌, List, [], ◌∷◌, ℕ, ◌<◌, get_or, List·get_or-eq_default}
 use Rattle.table.specs.{declared.kinds.Row.Row, declared.kinds.Row.TheVariants.Unknown, declared.kinds.Row.TheVariants.Const}
 use Rattle.table.specs.{declared.kinds.Row.TheVariants.Ref, declared.kinds.Row.TheVariants.Price, declared.kinds.Row.TheVariants.Prev}
 use Rattle.table.specs.{declared.kinds.Row.TheVariants.Arith, declared.kinds.Row.TheVariants.Extreme, declared.kinds.Row.TheVariants.Compare}

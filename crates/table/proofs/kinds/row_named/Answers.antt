@@ -1,5 +1,4 @@
 -- Name by name.
-use Rattle.words.specs.Prelude.{rules}
 use Rattle.table.specs.{Kinds.row_named}
 use Rattle.table.proofs.kinds.row_named.Goals as goal
 

@@ -1,5 +1,5 @@
 -- The code's list is the definition's.
-use Rattle.words.specs.Prelude.{refl, sym, rules, List·get_or-eq_default}
+use Rattle.words.specs.Prelude.{refl, sym, List·get_or-eq_default}
 use Rattle.table.specs.{Kinds.since_of, Kinds.versions}
 use Rattle.table.proofs.kinds.since_of.Goals as goal
 

@@ -1,5 +1,5 @@
-use Rattle.words.specs.Prelude.{◌≡◌, refl, sym, ◌∙◌, ◌-◌, ◌≤◌, arith, rules}
-use Rattle.table.specs.{Forest.trees, Nesting.deeper, Ends.Linked, Passes.WordsFrom}
+use Rattle.words.specs.Prelude.{refl, sym, ◌∙◌, arith, rules}
+use Rattle.table.specs.{Ends.Linked, Passes.WordsFrom}
 use Rattle.table.proofs.{Weigh.deep_here, Weigh.deep_end, Weigh.deep_down, Weigh.deep_over}
 use Rattle.table.proofs.nesting.deep_of.Goals as goal
 

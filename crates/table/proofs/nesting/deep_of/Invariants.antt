@@ -1,9 +1,8 @@
 -- `deep_of` meets its contract. The loop's invariant: the first node below more than 32 levels is the first below more than `left`
 -- levels among those from node j on. A subtree that is too tall has it inside, any other is passed by its end.
 -- Assumes nothing.
-use Rattle.words.specs.Prelude.{◌≡◌, refl, sym, ◌∙◌, ◌-◌, ◌≤◌, arith, rules}
-use Rattle.table.specs.{Forest.trees, Nesting.deeper, Ends.Linked, Passes.WordsFrom}
-use Rattle.table.proofs.{Weigh.deep_here, Weigh.deep_end, Weigh.deep_down, Weigh.deep_over}
+use Rattle.words.specs.Prelude.{◌≡◌, ◌-◌, ◌≤◌}
+use Rattle.table.specs.{Forest.trees, Nesting.deeper}
 use Rattle.table.proofs.nesting.deep_of.Given as goal
 
 abbrev pub invariant-loop-j : goal.invariant-loop-j

@@ -1,6 +1,6 @@
 -- `too_deep` meets its contract: the first place that one of the four trees gives.
 -- Assumes nothing.
-use Rattle.words.specs.Prelude.{◌∙◌, rules}
+use Rattle.words.specs.Prelude.{◌∙◌}
 use Rattle.table.proofs.{Four.four_deep}
 use Rattle.table.proofs.nesting.too_deep.Goals as goal
 

@@ -1,6 +1,6 @@
 -- `child_count` meets its contract.
 -- Assumes nothing.
-use Rattle.words.specs.Prelude.{eq-eqb, ne_eqb, rules}
+use Rattle.words.specs.Prelude.{eq-eqb, ne_eqb}
 use Rattle.table.specs.{Nodes.child_count}
 use Rattle.table.proofs.nodes.child_count.Goals as goal
 

@@ -1,6 +1,5 @@
 -- `child_count_at` meets its contract.
 -- Assumes nothing.
-use Rattle.words.specs.Prelude.{rules}
 use Rattle.table.specs.{Nodes.child_count_at}
 use Rattle.table.proofs.nodes.child_count_at.Goals as goal
 

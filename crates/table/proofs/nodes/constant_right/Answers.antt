@@ -1,6 +1,6 @@
 -- `constant_right` meets its contract.
 -- Assumes nothing.
-use Rattle.words.specs.Prelude.{eq-eqb, ne_eqb, rules}
+use Rattle.words.specs.Prelude.{eq-eqb, ne_eqb}
 use Rattle.table.specs.{Nodes.constant_right}
 use Rattle.table.proofs.nodes.constant_right.Goals as goal
 

@@ -1,6 +1,5 @@
 -- `node_right` meets its contract.
 -- Assumes nothing.
-use Rattle.words.specs.Prelude.{rules}
 use Rattle.table.proofs.nodes.node_right.Goals as goal
 
 pub returns : goal.returns

@@ -1,6 +1,5 @@
 -- `sort_at` meets its contract.
 -- Assumes nothing.
-use Rattle.words.specs.Prelude.{rules}
 use Rattle.table.specs.{Nodes.sort_at}
 use Rattle.table.proofs.nodes.sort_at.Goals as goal
 

@@ -1,8 +1,7 @@
 -- `wrong_node` meets its contract. The loop's invariant: the lowest wrong node is the lowest of those from node i on.
 -- Assumes nothing.
-use Rattle.words.specs.Prelude.{◌≡◌, ◌∙◌, sym, ap, true, false, List, ℕ, ◌+◌, ◌-◌, ◌≤◌, ◌<◌, sub-zero, rules}
-use Rattle.table.specs.{declared.places.Place.TheVariants.Nowhere, declared.places.Place.TheVariants.At, Nodes.node_right, Nodes.wrong_node}
-use Rattle.table.specs.{Laws.Forest.left_suc, Laws.Forest.left_zero}
+use Rattle.words.specs.Prelude.{◌≡◌, ◌-◌, ◌≤◌}
+use Rattle.table.specs.{Nodes.wrong_node}
 use Rattle.table.proofs.nodes.wrong_node.Given as goal
 
 abbrev pub invariant-loop-i : goal.invariant-loop-i

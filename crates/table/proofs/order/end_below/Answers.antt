@@ -1,6 +1,6 @@
-use Rattle.words.specs.Prelude.{arith, ◌≤◌, ◌<◌, rules}
+use Rattle.words.specs.Prelude.{arith, rules}
 use Rattle.table.specs.{Passes.EndedFrom}
-use Rattle.table.proofs.{Prefix.Here, Prefix.begin, Prefix.turn, Prefix.cut_short, Prefix.wrong, Prefix.inside, Prefix.closed}
+use Rattle.table.proofs.{Prefix.begin, Prefix.turn, Prefix.cut_short, Prefix.wrong, Prefix.inside, Prefix.closed}
 use Rattle.table.proofs.order.end_below.Goals as goal
 
 pub loop-left-init : goal.loop-left-init

@@ -1,9 +1,8 @@
 -- `end_below` meets its contract. The loop's invariant: what is wanted from node i on is, at node j, the children that are left;
 -- a child's own word passes it in one step.
 -- Assumes nothing.
-use Rattle.words.specs.Prelude.{arith, ◌≤◌, ◌<◌, rules}
-use Rattle.table.specs.{Passes.EndedFrom}
-use Rattle.table.proofs.{Prefix.Here, Prefix.begin, Prefix.turn, Prefix.cut_short, Prefix.wrong, Prefix.inside, Prefix.closed}
+use Rattle.words.specs.Prelude.{◌≤◌, ◌<◌}
+use Rattle.table.proofs.{Prefix.Here}
 use Rattle.table.proofs.order.end_below.Given as goal
 
 abbrev pub invariant-loop-left : goal.invariant-loop-left

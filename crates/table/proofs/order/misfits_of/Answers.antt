@@ -1,6 +1,6 @@
 -- `misfits_of` meets its contract: the first place that one of the four trees gives.
 -- Assumes nothing.
-use Rattle.words.specs.Prelude.{◌∙◌, rules}
+use Rattle.words.specs.Prelude.{◌∙◌}
 use Rattle.table.proofs.{Four.four_misfits}
 use Rattle.table.proofs.order.misfits_of.Goals as goal
 

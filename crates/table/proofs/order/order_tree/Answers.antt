@@ -1,6 +1,4 @@
-use Rattle.words.specs.Prelude.{arith, length-set, rules, ◌≡◌, ◌-◌, ◌≤◌, length}
-use Rattle.words.specs.{Limits.most_nodes}
-use Rattle.table.specs.{Passes.Ordered}
+use Rattle.words.specs.Prelude.{arith, length-set, rules}
 use Rattle.table.proofs.{Prefix.order_none, Prefix.from_next, Prefix.order_more, Prefix.order_at}
 use Rattle.table.proofs.order.order_tree.Goals as goal
 

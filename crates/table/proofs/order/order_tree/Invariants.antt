@@ -1,9 +1,8 @@
 -- `order_tree` meets its contract. The loop's invariant: the array has the words of the nodes from i on, and is as given elsewhere.
 -- Assumes nothing.
-use Rattle.words.specs.Prelude.{arith, length-set, rules, ◌≡◌, ◌-◌, ◌≤◌, length}
+use Rattle.words.specs.Prelude.{◌≡◌, ◌-◌, ◌≤◌, length}
 use Rattle.words.specs.{Limits.most_nodes}
 use Rattle.table.specs.{Passes.Ordered}
-use Rattle.table.proofs.{Prefix.order_none, Prefix.from_next, Prefix.order_more, Prefix.order_at}
 use Rattle.table.proofs.order.order_tree.Given as goal
 
 abbrev pub invariant-loop-i : goal.invariant-loop-i

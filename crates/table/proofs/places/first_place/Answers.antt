@@ -1,6 +1,5 @@
 -- `first_place` meets its contract: what the three calls say, put together.
 -- Assumes nothing.
-use Rattle.words.specs.Prelude.{rules}
 use Rattle.table.proofs.places.first_place.Goals as goal
 
 pub returns : goal.returns

@@ -1,6 +1,6 @@
 -- `far_or_accepted` meets its contract: a reach capped at 4,096 tells as much as the reach.
 -- Assumes nothing.
-use Rattle.words.specs.Prelude.{sym, ◌∙◌, rules}
+use Rattle.words.specs.Prelude.{sym, ◌∙◌}
 use Rattle.table.proofs.{Four.fars_are, Four.rows_are, Four.nine_refused, Four.nine_accepted}
 use Rattle.table.proofs.reach.far_or_accepted.Goals as goal
 

@@ -1,6 +1,5 @@
 -- `too_far` meets its contract.
 -- Assumes nothing.
-use Rattle.words.specs.Prelude.{rules}
 use Rattle.table.proofs.reach.too_far.Goals as goal
 
 pub returns : goal.returns

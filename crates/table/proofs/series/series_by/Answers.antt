@@ -1,6 +1,5 @@
 -- Class by class.
 -- Assumes nothing.
-use Rattle.words.specs.Prelude.{rules}
 use Rattle.table.specs.{Series.series_by}
 use Rattle.table.proofs.series.series_by.Goals as goal
 

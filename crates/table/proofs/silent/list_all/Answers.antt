@@ -1,5 +1,5 @@
 -- Each tree's tests follow those of the tree before it.
-use Rattle.words.specs.Prelude.{rules, arith}
+use Rattle.words.specs.Prelude.{arith}
 use Rattle.table.specs.{Silent.WholeTrees, Silent.four_silent}
 use Rattle.table.proofs.{Listing.put_four}
 use Rattle.table.proofs.silent.list_all.Goals as goal

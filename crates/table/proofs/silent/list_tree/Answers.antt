@@ -1,6 +1,6 @@
-use Rattle.words.specs.Prelude.{rules, sym, ◌∙◌, arith, ◌+◌, ◌-◌}
-use Rattle.table.specs.{Header.root, Passes.WordsFrom, Passes.weight}
-use Rattle.table.proofs.{Listing.Listing, Listing.listing_start, Listing.listing_yes, Listing.listing_no, Listing.spans, Listing.listing_end}
+use Rattle.words.specs.Prelude.{sym, ◌∙◌, arith}
+use Rattle.table.specs.{Passes.WordsFrom, Passes.weight}
+use Rattle.table.proofs.{Listing.listing_start, Listing.listing_yes, Listing.listing_no, Listing.spans, Listing.listing_end}
 use Rattle.table.proofs.{Listing.listing_puts}
 use Rattle.table.proofs.silent.list_tree.Goals as goal
 

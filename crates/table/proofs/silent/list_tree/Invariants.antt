@@ -1,8 +1,7 @@
 -- The loop's invariant: what is still to be put, put after what was, gives what is to be there at the end.
-use Rattle.words.specs.Prelude.{rules, sym, ◌∙◌, arith, ◌+◌, ◌-◌}
-use Rattle.table.specs.{Header.root, Passes.WordsFrom, Passes.weight}
-use Rattle.table.proofs.{Listing.Listing, Listing.listing_start, Listing.listing_yes, Listing.listing_no, Listing.spans, Listing.listing_end}
-use Rattle.table.proofs.{Listing.listing_puts}
+use Rattle.words.specs.Prelude.{◌+◌, ◌-◌}
+use Rattle.table.specs.{Header.root}
+use Rattle.table.proofs.{Listing.Listing}
 use Rattle.table.proofs.silent.list_tree.Given as goal
 
 abbrev pub invariant-loop-i : goal.invariant-loop-i

@@ -1,5 +1,5 @@
 -- What is found is what is to be listed; where the list is too small nothing is put into it.
-use Rattle.words.specs.Prelude.{rules, sym, ◌∙◌}
+use Rattle.words.specs.Prelude.{sym, ◌∙◌}
 use Rattle.table.proofs.{Listing.whole_all, Listing.answers_refused, Listing.answers_small, Listing.answers_lists}
 use Rattle.table.proofs.silent.silent_nodes.Goals as goal
 

@@ -1,6 +1,6 @@
-use Rattle.words.specs.Prelude.{arith, ◌-◌, ◌≤◌, ◌<◌, rules}
+use Rattle.words.specs.Prelude.{arith, rules}
 use Rattle.table.specs.{Ends.Linked}
-use Rattle.table.proofs.{Weigh.Rest, Weigh.rest_all, Weigh.rest_turn, Weigh.rest_none, Weigh.rest_end}
+use Rattle.table.proofs.{Weigh.rest_all, Weigh.rest_turn, Weigh.rest_none, Weigh.rest_end}
 use Rattle.table.proofs.weighing.most_below.Goals as goal
 
 pub loop-j-init : goal.loop-j-init

@@ -1,8 +1,7 @@
 -- `most_below` meets its contract. The loop's invariant: the greatest of the words passed and of those to come is the greatest of all.
 -- Assumes nothing.
-use Rattle.words.specs.Prelude.{arith, ◌-◌, ◌≤◌, ◌<◌, rules}
-use Rattle.table.specs.{Ends.Linked}
-use Rattle.table.proofs.{Weigh.Rest, Weigh.rest_all, Weigh.rest_turn, Weigh.rest_none, Weigh.rest_end}
+use Rattle.words.specs.Prelude.{◌-◌, ◌≤◌, ◌<◌}
+use Rattle.table.proofs.{Weigh.Rest}
 use Rattle.table.proofs.weighing.most_below.Given as goal
 
 abbrev pub invariant-loop-j : goal.invariant-loop-j

@@ -1,7 +1,5 @@
-use Rattle.words.specs.Prelude.{◌≡◌, ◌-◌, ◌≤◌, arith, length, length-set, rules}
+use Rattle.words.specs.Prelude.{arith, length-set, rules}
 use Rattle.table.proofs.{Weigh.words_next, Weigh.most_small, Weigh.words_none, Weigh.words_more, Weigh.words_at, Weigh.links_next}
-use Rattle.table.specs.{Passes.WordsFrom, Passes.weight}
-use Rattle.words.specs.{Limits.most_nodes}
 use Rattle.table.proofs.weighing.weigh_tree.Goals as goal
 
 pub loop-i-init : goal.loop-i-init

@@ -1,7 +1,6 @@
 -- `weigh_tree` meets its contract. The loop's invariant: the array has what each subtree from node i on weighs, capped at 4,096.
 -- Assumes nothing.
-use Rattle.words.specs.Prelude.{◌≡◌, ◌-◌, ◌≤◌, arith, length, length-set, rules}
-use Rattle.table.proofs.{Weigh.words_next, Weigh.most_small, Weigh.words_none, Weigh.words_more, Weigh.words_at, Weigh.links_next}
+use Rattle.words.specs.Prelude.{◌≡◌, ◌-◌, ◌≤◌, length}
 use Rattle.table.specs.{Passes.WordsFrom, Passes.weight}
 use Rattle.words.specs.{Limits.most_nodes}
 use Rattle.table.proofs.weighing.weigh_tree.Given as goal

@@ -1,6 +1,6 @@
 -- `weight_at` meets its contract.
 -- Assumes nothing.
-use Rattle.words.specs.Prelude.{◌∙◌, ap, ℕ, min, eq-eqb, ne_eqb, rules}
+use Rattle.words.specs.Prelude.{◌∙◌, ap, ℕ, min, eq-eqb, ne_eqb}
 use Rattle.table.specs.{Reach.own_back, Passes.weight}
 use Rattle.words.specs.{Limits.most_rows}
 use Rattle.table.proofs.weighing.weight_at.Goals as goal
