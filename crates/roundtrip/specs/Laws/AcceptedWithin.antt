@@ -11,7 +11,6 @@ use Rattle.table.specs.{Laws.Accepted.tree_nesting, Laws.Accepted.tree_reach_lem
 use Rattle.roundtrip.specs.{Laws.Reading.many_conditions, Laws.Reach.tree_reach_is, Laws.AcceptedWritten.right_trees, Laws.AcceptedWritten.u16_small}
 use Rattle.roundtrip.specs.{Laws.AcceptedWritten.u32_small, Laws.AcceptedWritten.rule_nodes, Laws.Limits.first_in, Laws.Limits.all_fine}
 use Rattle.roundtrip.specs.{Laws.OwnBytes.NodeFits, Laws.OwnBytes.FieldsFit}
-use Rattle.table.specs.Forest as Forest
 
 -- the fields of a node read from bytes fit
 small_node : (t : List ℕ) → Bytes t → (i : ℕ) → NodeFits (node_at t i)

@@ -7,7 +7,7 @@ use Rattle.words.specs.Prelude.{length-append, ne_eqb, eqb-true}
 use Rattle.table.specs.{declared.answer.Answer.TheVariants.Accepted, declared.header.Form.Form, Bytes.Bytes, Bytes.u16, Bytes.u32, Bytes.u64}
 use Rattle.table.specs.{Header.newest_version, Header.version, Header.form_of, Header.total, Header.count, Header.root, Header.mark_right, Nodes.node_at}
 use Rattle.table.specs.{Nodes.child_count_at, Nodes.node_right, Forest.Forest, Forest.first_trees, Forest.other_trees, Forest.node_over, Forest.trees}
-use Rattle.table.specs.{Forest.forest_of, Forest.nodes, Checked.checked, Ends.from, Trees.arith as sums, Trees.none, Reading.conditions, Reading.tree_of}
+use Rattle.table.specs.{Forest.forest_of, Forest.nodes, Checked.checked, Ends.from, Reading.conditions, Reading.tree_of}
 use Rattle.table.specs.{Reading.present, Writing.le16, Writing.le32, Writing.le64, Writing.node, Writing.node_bytes, Writing.nodes_bytes, Writing.write_condition}
 use Rattle.table.specs.{Writing.nodes_of, Writing.Short, Writing.absent, Writing.given, Writing.nodes_of_short, Writing.write_short, Writing.nodes_of_rule}
 use Rattle.table.specs.{Writing.header_of, Writing.table_of, Writing.short_of, Writing.rule_of, Laws.Ends.from_two, Laws.Ends.from_all, Laws.Header.and_parts}
@@ -15,7 +15,6 @@ use Rattle.table.specs.{Laws.Header.HeaderRight, Laws.Forest.flat-trees, Laws.Ac
 use Rattle.table.specs.{Laws.Accepted.tree_sorts}
 use Rattle.roundtrip.specs.{Laws.Reading.many_conditions, Laws.Writing.Right, Laws.Writing.written_all, Laws.OwnBytes.all_one, Laws.NodeBytes.node_long}
 use Rattle.roundtrip.specs.{Laws.WrittenForest.condition_long}
-use Rattle.table.specs.Forest as Forest
 
 -- ---- each tree
 

@@ -19,7 +19,6 @@ use Rattle.roundtrip.specs.{Laws.Reading.under_by, Laws.Reading.operands_below, 
 use Rattle.roundtrip.specs.{Laws.OwnBytes.NodeFits}
 use Rattle.roundtrip.specs.{Laws.OwnBytes.FieldsFit}
 use Rattle.table.specs.Kinds as Kinds
-use Rattle.table.specs.Forest as Forest
 
 -- ---- operands in a row
 

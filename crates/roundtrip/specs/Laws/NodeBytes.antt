@@ -4,7 +4,6 @@ use Rattle.std.specs.Prelude.{◌≡◌, refl, List, [], ◌∷◌, ◌++◌, �
 use Rattle.words.specs.Prelude.{sym, ap, append_assoc, arith, length-append}
 use Rattle.table.specs.{declared.nodes.Node.Node, Forest.Forest, Forest.size, Forest.flat, Writing.le16, Writing.le32, Writing.le64, Writing.node}
 use Rattle.table.specs.{Writing.node_bytes, Writing.nodes_bytes}
-use Rattle.table.specs.Forest as Forest
 
 pub node_long : (a b c d e : ℕ) → length (node a b c d e) ≡ 16
 unfolding node le64 le32 le16

@@ -5,7 +5,6 @@ use Rattle.words.specs.Prelude.{append-nil, arith, ltb-true, eqb-true}
 use Rattle.table.specs.{declared.nodes.Node.Node, declared.kinds.Kind.Kind, declared.header.Form.Form, Nodes.children_right, Nodes.n_right, Nodes.constant_right}
 use Rattle.table.specs.{Nodes.kind_right, Nodes.fields_right, Nodes.own_right, Forest.Forest, Trees.Conditions, Trees.none, Trees.more, Reading.first_of}
 use Rattle.table.specs.{Writing.node, Writing.node_bytes, Writing.many_of, Writing.write_condition, Writing.write_all, Laws.Header.and_parts}
-use Rattle.table.specs.Forest as Forest
 
 -- ---- a row of one condition
 

@@ -14,7 +14,6 @@ use Rattle.table.specs.{Laws.Kinds.a_count, Laws.Kinds.condition_kind, Laws.Acce
 use Rattle.roundtrip.specs.{Laws.Series.IsSeries, Laws.Series.series_child, Laws.Series.leaf_reach, Laws.Reading.many_conditions, Laws.Reading.row_below}
 use Rattle.roundtrip.specs.{Laws.Reading.under_by, Laws.Reading.some_conditions}
 use Rattle.roundtrip.specs.{Laws.Reading.row_none, Laws.Reading.row_one, Laws.Reading.row_two, Laws.Reading.row_three, Laws.Reading.operands_below}
-use Rattle.table.specs.Forest as Forest
 
 -- the greatest reach of operands in a row
 unfoldable pub reach_of_row : List Operand → ℕ

@@ -5,7 +5,6 @@ use Rattle.words.specs.Prelude.{◌∙◌, ap, arith, length-replicate, eqb-true
 use Rattle.table.specs.{declared.nodes.Node.Node, declared.kinds.Kind.Kind, Kinds.kinds, Kinds.kind_of, Nodes.child_count, Forest.Forest, Forest.sorts}
 use Rattle.table.specs.{Trees.Operand, Reading.child}
 use Rattle.table.specs.{Reading.operands, Reading.conditions, Writing.many_of, Ends.from, Laws.Kinds.of_rows, Laws.Kinds.known}
-use Rattle.table.specs.Forest as Forest
 
 pub as_many : (f : Forest) → length (operands f) ≡ length (sorts f)
 unfolding operands sorts

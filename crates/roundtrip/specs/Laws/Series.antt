@@ -9,7 +9,6 @@ use Rattle.table.specs.{Series.as_operand, Series.series_by, Reading.child, Read
 use Rattle.table.specs.{Writing.write_series, Limits.Within, Limits.WithinSeries, Laws.Kinds.OperandKind, Laws.Kinds.a_const, Laws.Kinds.a_ref}
 use Rattle.table.specs.{Laws.Kinds.a_price, Laws.Kinds.a_prev, Laws.Kinds.an_arith, Laws.Kinds.an_extreme, Laws.Kinds.operand_kind}
 use Rattle.table.specs.declared.kinds.OperandClass.TheVariants as AsOperand
-use Rattle.table.specs.Forest as Forest
 
 -- an operand that is a series
 abbrev pub IsSeries : Operand → Type 0

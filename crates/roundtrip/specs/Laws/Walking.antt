@@ -11,7 +11,6 @@ use Rattle.table.specs.{Ends.Link, Trees.none, Trees.more, Reading.tree_of, Read
 use Rattle.table.specs.{Reading.condition_from, Reading.conditions, Reading.operands_at, Reading.conditions_at, Reading.operand_at, Reading.condition_at}
 use Rattle.table.specs.{Laws.Forest.left_suc, Laws.Forest.left_zero, Laws.Forest.first_none, Laws.Order.never_at, Laws.Accepted.or_none}
 use Rattle.table.specs.{Laws.Accepted.WholeTree, Laws.Accepted.tree_sorts, Laws.Accepted.tree_nesting}
-use Rattle.table.specs.Forest as Forest
 
 -- ---- what stands where
 

@@ -1,13 +1,13 @@
 -- Where each node's own bytes are right and each has the children that its kind takes, writing what the forest reads as gives
 -- the forest's own nodes back, in prefix order.
 -- Assumes nothing.
-use Rattle.std.specs.Prelude.{◌≡◌, refl, true, cond, List, ◌++◌, ℕ, zero, suc, ◌+◌, ◌<◌, length, replicate, eqb}
+use Rattle.std.specs.Prelude.{◌≡◌, refl, true, cond, List, ◌++◌, ℕ, zero, suc, ◌<◌, length, replicate, eqb}
 use Rattle.words.specs.Prelude.{sym, ◌∙◌, ap, append_assoc, append-nil, arith}
 use Rattle.words.specs.Prelude.{eqb-true}
 use Rattle.table.specs.{declared.nodes.Node.Node, declared.kinds.Kind.Kind, declared.header.Form.Form, Kinds.kind_of, Kinds.constant, Kinds.reference}
 use Rattle.table.specs.{Kinds.price, Kinds.previous, Kinds.arithmetic, Kinds.extremum, Kinds.comparison, Kinds.crossing, Kinds.between, Kinds.trend}
 use Rattle.table.specs.{Kinds.all_of, Kinds.any_of, Kinds.negation, Kinds.position, Kinds.bars_since, Nodes.child_count, Nodes.children_right, Nodes.n_right}
-use Rattle.table.specs.{Nodes.constant_right, Nodes.own_right, Forest.Forest, Forest.sorts, Forest.Sorted, Forest.flat, Trees.Operand, Trees.none, Reading.child}
+use Rattle.table.specs.{Nodes.constant_right, Nodes.own_right, Forest.Forest, Forest.sorts, Forest.Sorted, Forest.flat, Trees.Operand, Reading.child}
 use Rattle.table.specs.{Reading.operand_by, Reading.operand_from, Reading.operands, Reading.condition_by, Reading.condition_from, Reading.conditions, Writing.node}
 use Rattle.table.specs.{Writing.node_bytes, Writing.nodes_bytes, Writing.write_series, Writing.write_operand, Writing.write_row, Writing.many_of}
 use Rattle.table.specs.{Writing.write_condition, Writing.write_all, Series.as_series, Laws.Kinds.OperandKind, Laws.Kinds.a_const, Laws.Kinds.a_ref}
@@ -20,7 +20,6 @@ use Rattle.roundtrip.specs.{Laws.Reading.under_by}
 use Rattle.roundtrip.specs.{Laws.Reading.row_none, Laws.Reading.row_one, Laws.Reading.row_two, Laws.Reading.row_three, Laws.Reading.operands_below}
 use Rattle.roundtrip.specs.{Laws.NodeBytes.tree_bytes, Laws.NodeBytes.no_bytes, Laws.OwnBytes.all_one, Laws.OwnBytes.OwnFields, Laws.OwnBytes.own_fields}
 use Rattle.roundtrip.specs.{Laws.OwnBytes.bytes_by_fields, Laws.OwnBytes.number-node, Laws.OwnBytes.plain_node}
-use Rattle.table.specs.Forest as Forest
 
 -- ---- an operand's node, over the operands below it
 

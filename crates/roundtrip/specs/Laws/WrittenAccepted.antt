@@ -17,7 +17,6 @@ use Rattle.roundtrip.specs.{Laws.WrittenForestRead.reads_of, Laws.WrittenTrees.w
 use Rattle.roundtrip.specs.{Laws.WrittenTrees.short_grows, Laws.WrittenTrees.TreeHolds, Laws.WrittenTrees.planted, Laws.WrittenTrees.held_deep}
 use Rattle.roundtrip.specs.{Laws.WrittenTrees.held_reach, Laws.WrittenTrees.held_near, Laws.WrittenTrees.held_fits, Laws.WrittenTrees.held_right}
 use Rattle.roundtrip.specs.{Laws.WrittenTrees.held_reads, Laws.WrittenForest.some_nodes, Laws.WrittenForest.condition_long}
-use Rattle.table.specs.Forest as Forest
 
 module _ (form : Form) (r : Rule) where
   abbrev t : List ℕ

@@ -9,7 +9,6 @@ use Rattle.table.specs.{Writing.absent, Writing.given, Writing.Rule, Writing.nod
 use Rattle.table.specs.{Writing.table_of, Limits.WithinOf, Limits.ShortWithin, Limits.RuleWithin, Bytes.Bytes}
 use Rattle.roundtrip.specs.{Laws.OwnBytes.NodeFits, Laws.OwnBytes.FieldsFit, Laws.WrittenForestKept.fields_of, Laws.NodeBytes.tree_bytes}
 use Rattle.roundtrip.specs.{Laws.WrittenForest.plant_of, Laws.WrittenForest.condition_bytes}
-use Rattle.table.specs.Forest as Forest
 
 unfoldable AllBytes : List ℕ → Type 0
 AllBytes [] = Unit

@@ -10,7 +10,6 @@ use Rattle.table.specs.{Writing.nodes_bytes, Writing.write_series, Writing.write
 use Rattle.table.specs.{Writing.write_all, Writing.nodes_of, Writing.nodes_of_all}
 use Rattle.roundtrip.specs.{Laws.NodeBytes.tree_bytes, Laws.NodeBytes.no_bytes, Laws.NodeBytes.forest_long}
 use Rattle.table.specs.Named as Named
-use Rattle.table.specs.Forest as Forest
 
 abbrev pub nd : ℕ → ℕ → ℕ → ℕ → ℕ → ℕ → Node
 nd i kind selector children n constant = record { number = i; kind = kind; selector = selector; children = children; n = n; constant = constant }

@@ -1,6 +1,6 @@
 -- The forest of a tree within the limits keeps the rules of a table: own bytes, sorts and children.
 -- Assumes nothing.
-use Rattle.std.specs.Prelude.{◌≡◌, refl, true, false, List, [], ◌∷◌, ℕ, ◌+◌, ◌-◌, ◌≤◌, ◌<◌, replicate, eqb}
+use Rattle.std.specs.Prelude.{◌≡◌, refl, true, false, List, [], ◌∷◌, ℕ, ◌+◌, ◌≤◌, ◌<◌, replicate, eqb}
 use Rattle.words.specs.Prelude.{◌∙◌, ap, lt-ltb, le-leb, arith}
 use Rattle.words.specs.{Limits.most_reach, Limits.most_slots, Limits.most_nodes}
 use Rattle.table.specs.{declared.nodes.Node.Node, declared.kinds.Kind.Kind, declared.header.Form.Form, declared.series.Series.Series}
@@ -15,7 +15,6 @@ use Rattle.table.specs.{Limits.WithinAll, Laws.Kinds.known}
 use Rattle.roundtrip.specs.{Laws.OwnBytes.NodeFits, Laws.OwnBytes.FieldsFit, Laws.Writing.Right, Laws.WrittenForest.plant_series, Laws.WrittenForest.plant}
 use Rattle.roundtrip.specs.{Laws.WrittenForest.plant_of, Laws.WrittenForest.plant_all, Laws.WrittenForest.nd, Laws.WrittenForest.some_nodes}
 use Rattle.table.specs.Kinds as Kinds
-use Rattle.table.specs.Forest as Forest
 
 -- ---- own bytes
 

@@ -10,7 +10,6 @@ use Rattle.table.specs.{Trees.in_position, Trees.bars_since, Trees.none, Trees.m
 use Rattle.table.specs.{Reading.first_of, Reading.condition_by, Reading.condition_from, Reading.conditions, Series.as_series, Writing.nodes_in, Writing.nodes_of}
 use Rattle.table.specs.{Limits.Within, Limits.WithinOf, Limits.WithinAll, Limits.levels, Limits.levels_of, Limits.levels_of_all}
 use Rattle.roundtrip.specs.{Laws.WrittenForest.plant_series, Laws.WrittenForest.plant, Laws.WrittenForest.plant_of, Laws.WrittenForest.plant_all}
-use Rattle.table.specs.Forest as Forest
 
 -- ---- depth
 

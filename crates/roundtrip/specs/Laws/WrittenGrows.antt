@@ -9,7 +9,6 @@ use Rattle.roundtrip.specs.{Laws.NodeBytes.tree_bytes, Laws.NodeBytes.forest_lon
 use Rattle.roundtrip.specs.{Laws.WrittenForest.NumberedFrom, Laws.WrittenForest.condition_nodes, Laws.WrittenForest.condition_bytes}
 use Rattle.roundtrip.specs.{Laws.WrittenForestKept.sorted_of, Laws.WrittenNodes.From, Laws.WrittenNodes.node_there, Laws.WrittenNodes.nodes_after}
 use Rattle.roundtrip.specs.{Laws.WrittenNodes.from_past}
-use Rattle.table.specs.Forest as Forest
 
 -- ---- trees in a row, and others after them
 

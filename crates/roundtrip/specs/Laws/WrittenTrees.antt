@@ -14,7 +14,6 @@ use Rattle.table.specs.{Writing.write_short, Writing.short_of, Limits.WithinOf, 
 use Rattle.roundtrip.specs.{Laws.Reach.all_reach, Laws.Writing.Right, Laws.WrittenForest.plant_of, Laws.WrittenForest.some_nodes, Laws.WrittenNodes.From}
 use Rattle.roundtrip.specs.{Laws.WrittenGrows.grows_of, Laws.WrittenForestKept.right_of, Laws.WrittenForestKept.sorted_of}
 use Rattle.roundtrip.specs.{Laws.WrittenForestKept.plant_of-sorts, Laws.WrittenForestRead.shallow_of, Laws.WrittenForestRead.reads_of}
-use Rattle.table.specs.Forest as Forest
 
 -- ---- from the forest back to the rules
 
