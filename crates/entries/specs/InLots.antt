@@ -6,17 +6,15 @@ use Rattle.floats.specs.{Floats.◌⊗◌, Floats.◌⊘◌, Floats.◌≺◌, F
 use Rattle.floats.specs.{Laws.Floor.Counts, Laws.Floor.counts, Sums.counted}
 use Rattle.rows.specs.{History.History}
 use Rattle.portfolio.specs.{declared.Candle.Candle, declared.Portfolio.Portfolio}
-use Rattle.execution.specs.{Size.size, Lots.whole_lots, Lots.in_lots, Lots.size_in_lots, Lots.is_too_large, Lots.or_zero, Fills.direction, Fills.volatility_for}
+use Rattle.execution.specs.{Size.size, Lots.whole_lots, Lots.in_lots, Lots.size_in_lots, Lots.is_too_large, Fills.direction, Fills.volatility_for}
 use Rattle.execution.specs.{Fills.quantity, Fills.probe_qty, Fills.within_volume, Fills.entry_with, Fills.execute_entry, Fills.is_turned_away}
 use Rattle.execution.specs.{WholeLots.none_turned_away, declared.fills.Entry.Entry, declared.fills.Entry.TheVariants.NoEntry}
 use Rattle.execution.specs.{declared.fills.Entry.TheVariants.Entered, declared.optional.Optional.Optional, declared.lots.Quantity.Quantity}
 use Rattle.execution.specs.{declared.lots.Quantity.TheVariants.Nothing, declared.lots.Quantity.TheVariants.TooLarge, declared.lots.Quantity.TheVariants.Of}
 use Rattle.execution.specs.{declared.level.Side.Side, declared.terms.Slippage.Slippage, declared.terms.Slippage.TheVariants.FixedBps}
 use Rattle.execution.specs.{declared.terms.Slippage.TheVariants.VolumeImpact, declared.terms.Slippage.TheVariants.Unknown, declared.terms.Terms.Terms}
-use Rattle.entries.specs.{Ordered.fill_of, Ordered.ordered_at, Ordered.Entering, Ordered.entering}
+use Rattle.entries.specs.{Ordered.fill_of, Ordered.ordered_at, Ordered.entering}
 use Rattle.std.specs.Float.Ieee as Ieee
-use Rattle.execution.specs.declared.fills.Entry.TheVariants as Entry
-use Rattle.execution.specs.declared.optional.Optional.TheVariants as Optional
 
 -- "The quantity becomes k·lot, k the largest whole number at most qty/lot as floats compute it": q is that of qty, k from 1 to below 2^53 and exact as a float.
 pub record LotsOf (lot qty q : Float) : Type 0 where

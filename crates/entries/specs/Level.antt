@@ -6,7 +6,7 @@ use Rattle.floats.specs.{Floats.◌≼◌, Floats.min, Floats.max, Laws.Order.nu
 use Rattle.floats.specs.{Laws.Order.min_second, Laws.Order.max_first, Laws.Order.max_second}
 use Rattle.portfolio.specs.{declared.Candle.Candle}
 use Rattle.execution.specs.{declared.optional.Optional.Optional, declared.optional.Optional.TheVariants.Absent, declared.optional.Optional.TheVariants.Of}
-use Rattle.execution.specs.{declared.level.Side.TheVariants.Long, declared.level.Side.TheVariants.Short, declared.level.OrderKind.TheVariants.Market}
+use Rattle.execution.specs.{declared.level.Side.TheVariants.Long, declared.level.Side.TheVariants.Short}
 use Rattle.execution.specs.{declared.level.OrderKind.TheVariants.Limit, declared.level.OrderKind.TheVariants.Stop}
 use Rattle.execution.specs.{declared.level.OrderKind.TheVariants.StopLimit, Level.reached_below, Level.reached_above, Level.no_dearer_than, Level.no_cheaper_than}
 use Rattle.execution.specs.{Level.long_fill, Level.short_fill, Level.level_fill}

@@ -1,5 +1,5 @@
 -- "Letting a NaN size through the cap as NaN (it becomes the cap)": of `size` itself. And where `size` gives a NaN all the same.
-use Rattle.std.specs.Prelude.{◌≡◌, refl, Bool, true, false, cond, ℕ, Float}
+use Rattle.std.specs.Prelude.{◌≡◌, refl, false, Float}
 use Rattle.words.specs.Prelude.{nan}
 use Rattle.floats.specs.{Floats.◌⊘◌, Floats.◌≼◌, Floats.float_of, Floats.zero, Floats.one}
 use Rattle.execution.specs.{declared.optional.Optional.Optional, declared.optional.Optional.TheVariants.Absent, declared.optional.Optional.TheVariants.Of}

@@ -1,6 +1,6 @@
 -- What an entry comes to: the quantity that is entered is above EPS, and so never a NaN. For every lot, 0 included.
 use Rattle.std.specs.Prelude.{◌≡◌, refl, Bool, true, false, cond, ℕ, Float}
-use Rattle.words.specs.Prelude.{sym, ◌∙◌, arith}
+use Rattle.words.specs.Prelude.{sym, arith}
 use Rattle.floats.specs.{Floats.◌⊗◌, Floats.◌≺◌, Floats.eps}
 use Rattle.rows.specs.{History.History}
 use Rattle.portfolio.specs.{declared.Candle.Candle, declared.Portfolio.Portfolio, Portfolio.entered}
@@ -9,7 +9,6 @@ use Rattle.execution.specs.{Fills.quantity, Fills.probe_qty, Fills.within_volume
 use Rattle.execution.specs.{declared.fills.Entry.TheVariants.NoEntry, declared.fills.Entry.TheVariants.Entered, declared.lots.Quantity.Quantity}
 use Rattle.execution.specs.{declared.lots.Quantity.TheVariants.Nothing, declared.lots.Quantity.TheVariants.TooLarge, declared.lots.Quantity.TheVariants.Of}
 use Rattle.execution.specs.{declared.level.Side.Side, declared.terms.Terms.Terms}
-use Rattle.execution.specs.declared.fills.Entry.TheVariants as Entry
 
 -- The price of the fill: the raw price, with the slippage of the quantity that is probed.
 unfoldable pub fill_of : Side → Float → Terms → Candle → Portfolio → History → Float

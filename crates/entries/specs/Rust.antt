@@ -2,7 +2,7 @@
 -- such dust.
 use Rattle.std.specs.Prelude.{◌≡◌, refl, ◌⊎◌, Bool, true, false, cond, Float}
 use Rattle.words.specs.Prelude.{is_nan}
-use Rattle.words.specs.Prelude.{sym, ap, ◌∙◌, inl, inr, true≢false}
+use Rattle.words.specs.Prelude.{sym, ◌∙◌, inl, inr, true≢false}
 use Rattle.floats.specs.{Floats.◌⊗◌, Floats.◌≺◌, Floats.◌≼◌, Floats.min, Floats.eps, Floats.zero, Laws.Order.not-below, Laws.Order.not_above}
 use Rattle.floats.specs.{Laws.Order.numbers, Laws.Order.in_turn}
 use Rattle.rows.specs.{History.History}

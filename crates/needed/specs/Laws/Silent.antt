@@ -17,7 +17,6 @@ use Rattle.roundtrip.specs.{Laws.AcceptedWritten.tree_nodes, Laws.WrittenForest.
 use Rattle.roundtrip.specs.{Laws.WrittenGrows.grows_of, Laws.WrittenTrees.given_reach, Laws.AcceptedWithin.tree_within, Laws.Reading.operands_below}
 use Rattle.roundtrip.specs.{Laws.WrittenForestKept.sorted_of}
 use Rattle.table.specs.Header as Header
-use Rattle.table.specs.Forest as Forest
 
 -- ---- the forest of a tree
 

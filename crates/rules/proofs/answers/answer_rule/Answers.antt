@@ -1,5 +1,4 @@
 -- The table's refusals first, then 13, then what the tree says: the flat reading's answer is the tree's. Assumes nothing.
-use Rattle.words.specs.Prelude.{rules}
 use Rattle.rules.proofs.{Judged.refused, Judged.unwhole, Judged.unright, Judged.answers}
 use Rattle.rules.proofs.answers.answer_rule.Goals as goal
 

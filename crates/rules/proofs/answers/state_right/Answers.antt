@@ -1,5 +1,5 @@
 -- One return for each way the counts can stand. Assumes nothing.
-use Rattle.words.specs.Prelude.{rules, le-leb, lt-leb}
+use Rattle.words.specs.Prelude.{le-leb, lt-leb}
 use Rattle.rules.specs.{Answers.state_right}
 use Rattle.rules.proofs.answers.state_right.Goals as goal
 

@@ -1,7 +1,6 @@
 use Rattle.rules.proofs.Groups.{group_end}
-use Rattle.words.specs.Prelude.{◌≡◌, refl, sym, arith, rules, ℕ, ◌+◌, ◌*◌, ◌<◌, In, Measures, is, falls, and}
-use Rattle.rows.specs.{History.history_of}
-use Rattle.rules.specs.{Meaning.holds, Flat.grow_conditions, Flat.group, Flat.grow_condition, Flat.flat_condition_at}
+use Rattle.words.specs.Prelude.{refl, sym, arith}
+use Rattle.rules.specs.{Meaning.holds, Flat.grow_condition}
 use Rattle.rules.proofs.{Grown.no_condition, Grown.grown_condition, Groups.group-none, Groups.group_on, Groups.group_off, Groups.group_front}
 use Rattle.rules.proofs.conditions.+eval_condition_eval_group.Goals as goal
 

@@ -1,9 +1,8 @@
 -- Each return is a case of `holds` at the condition that stands at the node; what is left of the nesting falls, and a group
 -- comes just above the conditions in it. The loop's invariant: the group says what is left of it says. Assumes nothing.
-use Rattle.words.specs.Prelude.{◌≡◌, refl, sym, arith, rules, ℕ, ◌+◌, ◌*◌, ◌<◌, In, Measures, is, falls, and}
+use Rattle.words.specs.Prelude.{◌≡◌, ◌+◌, ◌*◌}
 use Rattle.rows.specs.{History.history_of}
-use Rattle.rules.specs.{Meaning.holds, Flat.grow_conditions, Flat.group, Flat.grow_condition, Flat.flat_condition_at}
-use Rattle.rules.proofs.{Grown.no_condition, Grown.grown_condition, Groups.group-none, Groups.group_on, Groups.group_off, Groups.group_front}
+use Rattle.rules.specs.{Meaning.holds, Flat.grow_conditions, Flat.group, Flat.flat_condition_at}
 use Rattle.rules.proofs.conditions.+eval_condition_eval_group.Given as goal
 
 abbrev pub decreases-eval_condition : goal.decreases-eval_condition

@@ -1,5 +1,4 @@
 -- The comparison of the three values. Assumes nothing.
-use Rattle.words.specs.Prelude.{rules}
 use Rattle.rules.proofs.conditions.between.Goals as goal
 
 pub returns : goal.returns

@@ -1,5 +1,4 @@
 -- The comparison of the two values. Assumes nothing.
-use Rattle.words.specs.Prelude.{rules}
 use Rattle.rules.proofs.conditions.compare.Goals as goal
 
 pub returns : goal.returns

@@ -1,5 +1,5 @@
 -- No where there is no bar n back; else the comparison of the two values. Assumes nothing.
-use Rattle.words.specs.Prelude.{rules, lt-ltb, le-ltb}
+use Rattle.words.specs.Prelude.{lt-ltb, le-ltb}
 use Rattle.rules.proofs.conditions.compare_prev.Goals as goal
 
 pub returns-then-bar-back : goal.returns-then-bar-back

@@ -1,5 +1,5 @@
 -- No at bar 0; else the cross of the four values. Assumes nothing.
-use Rattle.words.specs.Prelude.{rules, eq-eqb, ne_eqb}
+use Rattle.words.specs.Prelude.{eq-eqb, ne_eqb}
 use Rattle.rules.proofs.conditions.cross.Goals as goal
 
 pub returns-then-bar-eq0 : goal.returns-then-bar-eq0

@@ -1,5 +1,4 @@
 -- What is wanted picks the answer. Assumes nothing.
-use Rattle.words.specs.Prelude.{rules}
 use Rattle.rules.proofs.conditions.in_position.Goals as goal
 
 pub returns-then-wanted : goal.returns-then-wanted

@@ -1,4 +1,4 @@
-use Rattle.words.specs.Prelude.{sym, rules, ℕ, ◌+◌, ◌*◌, ◌<◌, In, Measures, is, falls, and}
+use Rattle.words.specs.Prelude.{sym}
 use Rattle.rows.specs.{History.history_of}
 use Rattle.rules.specs.{Values.combined, Flat.grow_operand, Laws.Meaning.past, Laws.Meaning.const-value, Laws.Meaning.ref_value, Laws.Meaning.price-value}
 use Rattle.rules.specs.{Laws.Meaning.early_value, Laws.Meaning.prev-value, Laws.Meaning.arith_value, Laws.Meaning.extreme_value}

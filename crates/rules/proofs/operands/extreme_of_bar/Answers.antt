@@ -1,5 +1,5 @@
 -- Too few bars before it, or all of them. Assumes nothing.
-use Rattle.words.specs.Prelude.{rules, ◌-◌, ◌≤◌, ◌<◌, ◌≡◌, sym, ap, arith}
+use Rattle.words.specs.Prelude.{◌-◌, ◌≤◌, ◌<◌, ◌≡◌, sym, ap, arith}
 use Rattle.rows.specs.{History.history_of}
 use Rattle.rules.specs.{Meaning.extreme_over, Laws.Meaning.extreme_early, Laws.Meaning.extreme_late}
 use Rattle.rules.proofs.operands.extreme_of_bar.Goals as goal

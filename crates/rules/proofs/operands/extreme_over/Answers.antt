@@ -1,5 +1,4 @@
 -- A price or a slot. Assumes nothing.
-use Rattle.words.specs.Prelude.{rules}
 use Rattle.rules.proofs.operands.extreme_over.Goals as goal
 
 pub returns-in-Price : goal.returns-in-Price

@@ -1,4 +1,4 @@
-use Rattle.words.specs.Prelude.{rules, ℕ, ◌+◌, ◌-◌, ◌≤◌, ◌<◌, ◌≡◌, ap, ◌∙◌, arith, le_refl, Float}
+use Rattle.words.specs.Prelude.{ℕ, ◌+◌, ◌-◌, ◌<◌, ◌≡◌, ap, ◌∙◌, arith, le_refl, Float}
 use Rattle.rows.specs.{History.history_of}
 use Rattle.table.specs.{declared.series.Series.TheVariants.Price}
 use Rattle.rules.specs.{declared.values.Value.TheVariants.Number, Values.took, Meaning.extreme_over, Laws.Meaning.price_one, Laws.Meaning.price_more}

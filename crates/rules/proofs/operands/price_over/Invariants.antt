@@ -1,8 +1,8 @@
 -- One word of each row, or the loop; its invariant: the best so far is that of the bars up to the one reached. Assumes nothing.
-use Rattle.words.specs.Prelude.{rules, ℕ, ◌+◌, ◌-◌, ◌≤◌, ◌<◌, ◌≡◌, ap, ◌∙◌, arith, le_refl, Float}
+use Rattle.words.specs.Prelude.{◌-◌, ◌≤◌, ◌≡◌}
 use Rattle.rows.specs.{History.history_of}
 use Rattle.table.specs.{declared.series.Series.TheVariants.Price}
-use Rattle.rules.specs.{declared.values.Value.TheVariants.Number, Values.took, Meaning.extreme_over, Laws.Meaning.price_one, Laws.Meaning.price_more}
+use Rattle.rules.specs.{declared.values.Value.TheVariants.Number, Meaning.extreme_over}
 use Rattle.rules.proofs.operands.price_over.Given as goal
 
 abbrev pub invariant-loop-at : goal.invariant-loop-at

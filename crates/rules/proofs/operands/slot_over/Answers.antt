@@ -1,4 +1,4 @@
-use Rattle.words.specs.Prelude.{rules, ℕ, ◌+◌, ◌-◌, ◌≤◌, ◌<◌, ◌≡◌, sym, ap, ◌∙◌, arith, le_refl}
+use Rattle.words.specs.Prelude.{ℕ, ◌+◌, ◌-◌, ◌<◌, ◌≡◌, sym, ap, ◌∙◌, arith, le_refl}
 use Rattle.rows.specs.{History.history_of}
 use Rattle.table.specs.{declared.series.Series.TheVariants.Slot}
 use Rattle.rules.specs.{Meaning.extreme_over, Laws.Meaning.slot_series, Laws.Meaning.extreme_one, Laws.Meaning.extreme_more}

@@ -1,8 +1,8 @@
 -- The loop's invariant: the best so far is that of the bars up to the one reached. Assumes nothing.
-use Rattle.words.specs.Prelude.{rules, ℕ, ◌+◌, ◌-◌, ◌≤◌, ◌<◌, ◌≡◌, sym, ap, ◌∙◌, arith, le_refl}
+use Rattle.words.specs.Prelude.{◌-◌, ◌≤◌, ◌≡◌}
 use Rattle.rows.specs.{History.history_of}
 use Rattle.table.specs.{declared.series.Series.TheVariants.Slot}
-use Rattle.rules.specs.{Meaning.extreme_over, Laws.Meaning.slot_series, Laws.Meaning.extreme_one, Laws.Meaning.extreme_more}
+use Rattle.rules.specs.{Meaning.extreme_over}
 use Rattle.rules.proofs.operands.slot_over.Given as goal
 
 abbrev pub invariant-loop-at : goal.invariant-loop-at

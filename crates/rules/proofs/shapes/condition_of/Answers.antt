@@ -1,5 +1,4 @@
 -- One return for each class. Assumes nothing.
-use Rattle.words.specs.Prelude.{rules}
 use Rattle.rules.specs.{Shapes.condition_of}
 use Rattle.rules.proofs.shapes.condition_of.Goals as goal
 

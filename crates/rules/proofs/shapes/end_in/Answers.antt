@@ -1,5 +1,5 @@
 -- The test is the definition's. Assumes nothing.
-use Rattle.words.specs.Prelude.{rules, lt-ltb, le-ltb}
+use Rattle.words.specs.Prelude.{lt-ltb, le-ltb}
 use Rattle.rules.specs.{Shapes.end_in}
 use Rattle.rules.proofs.shapes.end_in.Goals as goal
 

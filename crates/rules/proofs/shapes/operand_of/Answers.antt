@@ -1,5 +1,4 @@
 -- One return for each class. Assumes nothing.
-use Rattle.words.specs.Prelude.{rules}
 use Rattle.rules.specs.{Shapes.operand_of}
 use Rattle.rules.proofs.shapes.operand_of.Goals as goal
 

@@ -1,5 +1,4 @@
 -- The word that is read, as a float. Assumes nothing.
-use Rattle.words.specs.Prelude.{rules}
 use Rattle.rules.proofs.values.field_at.Goals as goal
 
 pub returns : goal.returns

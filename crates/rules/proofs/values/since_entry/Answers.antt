@@ -1,5 +1,4 @@
 -- One return for each way to say no, and one for the count. Assumes nothing.
-use Rattle.words.specs.Prelude.{rules}
 use Rattle.rules.specs.{Values.counted_since}
 use Rattle.rules.proofs.values.since_entry.Goals as goal
 

@@ -1,5 +1,5 @@
 -- A slot at or above 64 has no bit; below, the bit decides. Assumes nothing.
-use Rattle.words.specs.Prelude.{rules, eq-eqb, ne_eqb, arith, ◌<◌}
+use Rattle.words.specs.Prelude.{eq-eqb, ne_eqb, arith, ◌<◌}
 use Rattle.rules.specs.{Values.slot_of}
 use Rattle.rules.proofs.{Words.no_bit}
 use Rattle.rules.proofs.values.slot_at.Goals as goal
