@@ -1,7 +1,7 @@
 -- A step as two words: its constant, and its head, one number whose digits are the other fields. Which heads tell that a step is good.
 use Rattle.words.specs.Prelude.{ℕ, ◌+◌, ◌*◌, ◌/◌, ◌%◌, ◌≤◌, ◌<◌, ◌≡◌, refl, Bool, true, false, List, arith, get_or, ltb, lt-ltb, le-leb, ltb-true, ltb-false}
 use Rattle.table.specs.{Bytes.u16, Bytes.u32, Bytes.u64}
-use Rattle.steps.specs.{declared.step.Step.Step, Bytes.is_comparison, Bytes.is_test_step, Bytes.fields, Bytes.of_words, Bytes.read_step, Bytes.step_at}
+use Rattle.steps.specs.{Bytes.is_comparison, Bytes.is_test_step, Bytes.fields, Bytes.of_words, Bytes.read_step, Bytes.step_at}
 use Rattle.steps.specs.{Bytes.steps_in, Laws.Classes.test_in, Laws.Classes.test_rest, Laws.Classes.says_compare, Laws.Classes.says_cross}
 use Rattle.steps.specs.{Laws.Classes.says_between, WellFormed.zeros, WellFormed.unused_fields_zero, WellFormed.bounded, WellFormed.good_step}
 use Rattle.steps.proofs.{Said.says_const, Said.says_ref, Said.says_price, Said.says_jump}

@@ -17,7 +17,6 @@ use Rattle.roundtrip.specs.{Laws.Walking.Stands, Laws.Walking.node_there, Laws.W
 use Rattle.roundtrip.specs.{Laws.Walking.stands_next, Laws.Walking.stands_below, Laws.Walking.tree_stands}
 use Rattle.rules.specs.{Shapes.end_in, Shapes.operand_of, Shapes.condition_of, Shapes.operand_shape, Shapes.condition_shape, Flat.grow_operand, Flat.flat_operand_at}
 use Rattle.rules.specs.{Flat.grow_conditions, Flat.group, Flat.grow_condition, Flat.flat_condition_at, Laws.FlatReading.end_is, Laws.FlatReading.tree_joined}
-use Rattle.table.specs.Forest as Forest
 
 -- The array leads from each node of a tree, the first one number i, over as many numbers as stand below it.
 unfoldable pub SpacedIn : List ℕ → Operand → ℕ → Type 0

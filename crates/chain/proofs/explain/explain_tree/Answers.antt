@@ -1,5 +1,5 @@
 -- No line where there is no such tree, or it is absent; else those of the walk from its root. Assumes nothing.
-use Rattle.words.specs.Prelude.{rules, arith}
+use Rattle.words.specs.Prelude.{arith}
 use Rattle.chain.proofs.{Explaining.no_tree, Explaining.absent_tree, Explaining.present_tree}
 use Rattle.chain.proofs.explain.explain_tree.Goals as goal
 

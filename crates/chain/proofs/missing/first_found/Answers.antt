@@ -1,5 +1,4 @@
 -- One return for each case of the first. Assumes nothing.
-use Rattle.words.specs.Prelude.{rules}
 use Rattle.chain.specs.{Missing.first_found}
 use Rattle.chain.proofs.missing.first_found.Goals as goal
 

@@ -1,7 +1,4 @@
-use Rattle.words.specs.Prelude.{rules, ◌+◌, ◌≤◌, ◌≡◌, refl, sym, ◌∙◌, arith}
-use Rattle.rows.specs.{History.history_of}
-use Rattle.table.specs.{Series.as_operand}
-use Rattle.chain.specs.{Missing.newest_gone}
+use Rattle.words.specs.Prelude.{refl, sym, ◌∙◌, arith}
 use Rattle.chain.proofs.{Newest.newest_here, Newest.newest_further, Newest.newest_last}
 use Rattle.chain.proofs.missing.newest_gone.Goals as goal
 

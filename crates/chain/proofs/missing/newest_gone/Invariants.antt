@@ -1,9 +1,8 @@
 -- The loop's invariant: the newest of all is the newest of what is left. Assumes nothing.
-use Rattle.words.specs.Prelude.{rules, ◌+◌, ◌≤◌, ◌≡◌, refl, sym, ◌∙◌, arith}
+use Rattle.words.specs.Prelude.{◌+◌, ◌≤◌, ◌≡◌}
 use Rattle.rows.specs.{History.history_of}
 use Rattle.table.specs.{Series.as_operand}
 use Rattle.chain.specs.{Missing.newest_gone}
-use Rattle.chain.proofs.{Newest.newest_here, Newest.newest_further, Newest.newest_last}
 use Rattle.chain.proofs.missing.newest_gone.Given as goal
 
 abbrev pub invariant-loop-m : goal.invariant-loop-m

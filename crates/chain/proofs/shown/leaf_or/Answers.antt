@@ -1,5 +1,4 @@
 -- One return for each case of what was found. Assumes nothing.
-use Rattle.words.specs.Prelude.{rules}
 use Rattle.chain.specs.{Lines.leaf_or, Lines.detail}
 use Rattle.chain.proofs.shown.leaf_or.Goals as goal
 

@@ -1,5 +1,5 @@
 -- The missing leaf of the three operands, or their values. Assumes nothing.
-use Rattle.words.specs.Prelude.{rules, arith}
+use Rattle.words.specs.Prelude.{arith}
 use Rattle.chain.proofs.{Showing.three_shown}
 use Rattle.chain.proofs.shown.show_between.Goals as goal
 

@@ -1,5 +1,5 @@
 -- The missing leaf of the two operands, or their values. Assumes nothing.
-use Rattle.words.specs.Prelude.{rules, arith}
+use Rattle.words.specs.Prelude.{arith}
 use Rattle.chain.proofs.{Showing.two_shown}
 use Rattle.chain.proofs.shown.show_compare.Goals as goal
 

@@ -1,5 +1,4 @@
 -- The first missing of the two. Assumes nothing.
-use Rattle.words.specs.Prelude.{rules}
 use Rattle.chain.proofs.shown.two_missing.Goals as goal
 
 pub returns : goal.returns

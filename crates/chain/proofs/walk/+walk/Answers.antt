@@ -1,4 +1,4 @@
-use Rattle.words.specs.Prelude.{ℕ, ◌<◌, sym, ◌∙◌, arith, rules, In, Measures, is, falls, and}
+use Rattle.words.specs.Prelude.{sym, ◌∙◌, arith}
 use Rattle.chain.specs.{Laws.Steps.goes_down}
 use Rattle.chain.proofs.{Walking.walked_one, Walking.walked_on}
 use Rattle.chain.proofs.walk.+walk.Goals as goal

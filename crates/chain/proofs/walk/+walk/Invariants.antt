@@ -1,7 +1,4 @@
 -- The node's line, then the lines of the node that the chain goes on from; what is left of the nesting falls. Assumes nothing.
-use Rattle.words.specs.Prelude.{ℕ, ◌<◌, sym, ◌∙◌, arith, rules, In, Measures, is, falls, and}
-use Rattle.chain.specs.{Laws.Steps.goes_down}
-use Rattle.chain.proofs.{Walking.walked_one, Walking.walked_on}
 use Rattle.chain.proofs.walk.+walk.Given as goal
 
 abbrev pub decreases-walk : goal.decreases-walk

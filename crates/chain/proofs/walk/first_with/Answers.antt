@@ -1,7 +1,4 @@
-use Rattle.words.specs.Prelude.{rules, ◌≡◌, refl, sym, ◌∙◌, arith}
-use Rattle.rows.specs.{History.history_of}
-use Rattle.rules.specs.{Meaning.holds, Flat.flat_condition_at}
-use Rattle.chain.specs.{Flat.first_at}
+use Rattle.words.specs.Prelude.{refl, sym, ◌∙◌, arith}
 use Rattle.chain.proofs.{Going.first_is, Going.first_not, Going.first_none}
 use Rattle.chain.proofs.walk.first_with.Goals as goal
 

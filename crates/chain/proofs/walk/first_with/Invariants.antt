@@ -1,9 +1,8 @@
 -- The loop's invariant: the first of all is the first of what is left. Assumes nothing.
-use Rattle.words.specs.Prelude.{rules, ◌≡◌, refl, sym, ◌∙◌, arith}
+use Rattle.words.specs.Prelude.{◌≡◌}
 use Rattle.rows.specs.{History.history_of}
 use Rattle.rules.specs.{Meaning.holds, Flat.flat_condition_at}
 use Rattle.chain.specs.{Flat.first_at}
-use Rattle.chain.proofs.{Going.first_is, Going.first_not, Going.first_none}
 use Rattle.chain.proofs.walk.first_with.Given as goal
 
 abbrev pub invariant-loop-m : goal.invariant-loop-m

@@ -1,5 +1,5 @@
 -- None where the word behind the slots is 0, else what the two words after it hold.
-use Rattle.words.specs.Prelude.{sym, ◌∙◌, eq-eqb, ne_eqb, rules}
+use Rattle.words.specs.Prelude.{sym, ◌∙◌, eq-eqb, ne_eqb}
 use Rattle.records.specs.{Bar.funding_of}
 use Rattle.records.proofs.bar.funding_of.Goals as goal
 

@@ -1,5 +1,5 @@
 -- Ten words and K more: compared without a sum, which could wrap. Assumes nothing.
-use Rattle.words.specs.Prelude.{ℕ, ◌+◌, ◌-◌, ◌≤◌, ◌≡◌, refl, sym, Bool, true, false, arith, rules, eq-eqb, ne_eqb, eqb-true, eqb-false, eqb, length}
+use Rattle.words.specs.Prelude.{ℕ, ◌+◌, ◌-◌, ◌≤◌, ◌≡◌, refl, sym, Bool, true, false, arith, eq-eqb, ne_eqb, eqb-true, eqb-false, eqb, length}
 use Rattle.records.proofs.bar.is_whole.Goals as goal
 
 moved : (n k : ℕ) → 10 ≤ n → eqb (n - 10) k ≡ eqb n (10 + k)

@@ -1,5 +1,4 @@
 -- The float of the word.
-use Rattle.words.specs.Prelude.{rules}
 use Rattle.records.proofs.fields.float_in.Goals as goal
 
 pub returns : goal.returns

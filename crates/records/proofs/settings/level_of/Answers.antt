@@ -1,5 +1,5 @@
 -- The test is the definition's.
-use Rattle.words.specs.Prelude.{rules, eq-eqb, ne_eqb}
+use Rattle.words.specs.Prelude.{eq-eqb, ne_eqb}
 use Rattle.records.specs.{Settings.level_of}
 use Rattle.records.proofs.settings.level_of.Goals as goal
 

@@ -1,5 +1,5 @@
 -- The levels stand in their own words, in a short list as in a whole one. Assumes nothing.
-use Rattle.words.specs.Prelude.{ap, rules}
+use Rattle.words.specs.Prelude.{ap}
 use Rattle.records.specs.{declared.settings.Settings.Settings, Settings.settings_of, Settings.terms_of}
 use Rattle.records.proofs.settings.risk_in.Goals as goal
 

@@ -1,5 +1,5 @@
 -- Settings are made of their first words, and of zeros where the list is short.
-use Rattle.words.specs.Prelude.{◌∙◌, arith, rules}
+use Rattle.words.specs.Prelude.{◌∙◌, arith}
 use Rattle.words.specs.{Limits.setting_words}
 use Rattle.records.specs.{Laws.FirstWords.padded_agree, Laws.FirstWords.settings_agree}
 use Rattle.records.proofs.settings.settings_of.Goals as goal

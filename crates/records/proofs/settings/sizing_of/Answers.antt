@@ -1,5 +1,5 @@
 -- Each kind's number picks its case; any other number none of them.
-use Rattle.words.specs.Prelude.{rules, ne_eqb}
+use Rattle.words.specs.Prelude.{ne_eqb}
 use Rattle.records.specs.{Settings.sizing_of}
 use Rattle.records.proofs.settings.sizing_of.Goals as goal
 

@@ -1,5 +1,4 @@
 -- Field by field, what each call gives.
-use Rattle.words.specs.Prelude.{rules}
 use Rattle.records.specs.{Settings.terms_of}
 use Rattle.records.proofs.settings.terms_of.Goals as goal
 

@@ -1,5 +1,4 @@
 -- The account is the only part that a call makes.
-use Rattle.words.specs.Prelude.{rules}
 use Rattle.records.specs.{State.fresh_state}
 use Rattle.records.proofs.state.fresh.Goals as goal
 

@@ -1,5 +1,4 @@
 -- Each field is read from its own word.
-use Rattle.words.specs.Prelude.{rules}
 use Rattle.records.specs.{StateWords.counts_of}
 use Rattle.records.proofs.state_words.counts_of.Goals as goal
 

@@ -1,5 +1,4 @@
 -- The definition goes by the same cases.
-use Rattle.words.specs.Prelude.{rules}
 use Rattle.records.specs.{StateWords.entry_bar}
 use Rattle.records.proofs.state_words.entry_bar.Goals as goal
 

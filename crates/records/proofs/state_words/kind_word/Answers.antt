@@ -1,5 +1,4 @@
 -- The definition goes by the same cases.
-use Rattle.words.specs.Prelude.{rules}
 use Rattle.records.specs.{StateWords.kind_word}
 use Rattle.records.proofs.state_words.kind_word.Goals as goal
 

@@ -1,5 +1,4 @@
 -- The definition goes by the same cases.
-use Rattle.words.specs.Prelude.{rules}
 use Rattle.records.specs.{StateWords.order_kind}
 use Rattle.records.proofs.state_words.order_kind.Goals as goal
 

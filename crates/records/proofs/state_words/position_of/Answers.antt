@@ -1,5 +1,4 @@
 -- Part by part, what each call gives.
-use Rattle.words.specs.Prelude.{rules}
 use Rattle.records.specs.{StateWords.position_of}
 use Rattle.records.proofs.state_words.position_of.Goals as goal
 

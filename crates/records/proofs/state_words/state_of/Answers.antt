@@ -1,5 +1,5 @@
 -- A state is made of its first words, and of zeros where the list is short.
-use Rattle.words.specs.Prelude.{◌∙◌, arith, rules}
+use Rattle.words.specs.Prelude.{◌∙◌, arith}
 use Rattle.words.specs.{Limits.state_words}
 use Rattle.records.specs.{Laws.FirstWords.padded_agree, Laws.FirstWords.state_agree}
 use Rattle.records.proofs.state_words.state_of.Goals as goal

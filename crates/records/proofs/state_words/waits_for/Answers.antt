@@ -1,5 +1,4 @@
 -- The definition goes by the same cases.
-use Rattle.words.specs.Prelude.{rules}
 use Rattle.records.specs.{StateWords.waits_for}
 use Rattle.records.proofs.state_words.waits_for.Goals as goal
 

@@ -1,5 +1,5 @@
 -- The tests are those of the definition.
-use Rattle.words.specs.Prelude.{rules, lt-leb, le-leb}
+use Rattle.words.specs.Prelude.{lt-leb, le-leb}
 use Rattle.steps.specs.{Bytes.is_test_step}
 use Rattle.steps.proofs.decode.is_test.Goals as goal
 

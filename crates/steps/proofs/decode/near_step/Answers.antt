@@ -1,5 +1,5 @@
 -- The two words there are the step.
-use Rattle.words.specs.Prelude.{rules, arith}
+use Rattle.words.specs.Prelude.{arith}
 use Rattle.steps.proofs.{Heads.near}
 use Rattle.steps.proofs.decode.near_step.Goals as goal
 

@@ -1,5 +1,4 @@
 -- The test is that of the definition.
-use Rattle.words.specs.Prelude.{rules}
 use Rattle.steps.proofs.doing.position.Goals as goal
 
 pub returns-then-wanted : goal.returns-then-wanted

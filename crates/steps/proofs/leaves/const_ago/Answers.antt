@@ -1,5 +1,5 @@
 -- Missing where there are not more than n rows.
-use Rattle.words.specs.Prelude.{rules, sym}
+use Rattle.words.specs.Prelude.{sym}
 use Rattle.steps.proofs.{Rows.ago-const, Rows.ago_late}
 use Rattle.steps.proofs.leaves.const_ago.Goals as goal
 

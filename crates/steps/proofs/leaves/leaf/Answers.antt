@@ -1,5 +1,4 @@
 -- At once, or else the long way.
-use Rattle.words.specs.Prelude.{rules}
 use Rattle.steps.proofs.leaves.leaf.Goals as goal
 
 pub returns-then-at_once : goal.returns-then-at_once

@@ -1,5 +1,5 @@
 -- A row that is there lies within the words; then kind by kind.
-use Rattle.words.specs.Prelude.{rules, arith, ◌≡◌, sym, true≢false, ℕ, ◌+◌, ◌-◌, ◌*◌, ◌<◌, ◌≤◌, length}
+use Rattle.words.specs.Prelude.{arith, ◌≡◌, sym, true≢false, ℕ, ◌+◌, ◌-◌, ◌*◌, ◌<◌, ◌≤◌, length}
 use Rattle.rows.specs.{Ring.ring_place, Ring.ring_of}
 use Rattle.table.specs.{Trees.ref, Trees.price}
 use Rattle.steps.specs.{Machine.ago, Machine.effect}

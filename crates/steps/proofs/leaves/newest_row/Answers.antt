@@ -1,5 +1,5 @@
 -- It stands no row before the newest.
-use Rattle.words.specs.Prelude.{rules, sym, ap, ◌∙◌, sub-zero, ℕ, ◌+◌, ◌-◌, ◌*◌}
+use Rattle.words.specs.Prelude.{sym, ap, ◌∙◌, sub-zero, ℕ, ◌+◌, ◌-◌, ◌*◌}
 use Rattle.rows.specs.{Ring.ring_place}
 use Rattle.steps.proofs.{Rows.place_none}
 use Rattle.steps.proofs.leaves.newest_row.Goals as goal

@@ -1,5 +1,5 @@
 -- Missing where there are not more than n rows.
-use Rattle.words.specs.Prelude.{rules, sym}
+use Rattle.words.specs.Prelude.{sym}
 use Rattle.steps.proofs.{Rows.ring_held, Rows.ago-ref, Rows.ago_late}
 use Rattle.steps.proofs.leaves.ref_ago.Goals as goal
 

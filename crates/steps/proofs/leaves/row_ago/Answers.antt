@@ -1,5 +1,5 @@
 -- A row that is there lies within the words, so nothing wraps.
-use Rattle.words.specs.Prelude.{rules, lt-ltb, le-ltb, arith, ℕ, ◌+◌, ◌-◌, ◌*◌, ◌<◌, ◌≤◌, length}
+use Rattle.words.specs.Prelude.{lt-ltb, le-ltb, arith, ℕ, ◌+◌, ◌-◌, ◌*◌, ◌<◌, ◌≤◌, length}
 use Rattle.rows.specs.{Laws.RowEnds.row_ends}
 use Rattle.steps.proofs.{Rows.place_ago}
 use Rattle.steps.proofs.leaves.row_ago.Goals as goal

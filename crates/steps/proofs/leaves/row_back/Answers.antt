@@ -1,5 +1,5 @@
 -- No row before the newest is the newest.
-use Rattle.words.specs.Prelude.{rules, ◌≡◌, ap, ◌∙◌, arith, ℕ, ◌+◌, ◌-◌, ◌*◌}
+use Rattle.words.specs.Prelude.{◌≡◌, ap, ◌∙◌, arith, ℕ, ◌+◌, ◌-◌, ◌*◌}
 use Rattle.rows.specs.{Ring.ring_place}
 use Rattle.steps.proofs.leaves.row_back.Goals as goal
 

@@ -1,5 +1,5 @@
 -- Where the row does not have it, nothing is told.
-use Rattle.words.specs.Prelude.{rules, sym, true≢false}
+use Rattle.words.specs.Prelude.{sym, true≢false}
 use Rattle.steps.proofs.leaves.slot_at_once.Goals as goal
 
 pub returns-else-slot-slots : goal.returns-else-slot-slots

@@ -1,6 +1,6 @@
-use Rattle.words.specs.Prelude.{rules, ℕ, ◌+◌, ◌-◌, ◌≤◌, ◌≡◌, sym, ap, ◌∙◌, arith, le_refl}
+use Rattle.words.specs.Prelude.{ℕ, ◌+◌, ◌-◌, ◌≤◌, ◌≡◌, sym, ap, ◌∙◌, arith, le_refl}
 use Rattle.rows.specs.{Ring.ring_of}
-use Rattle.rules.specs.{declared.values.Value.TheVariants.Number, Values.pick, Meaning.extreme_over, Laws.Meaning.extreme_one, Laws.Meaning.extreme_more}
+use Rattle.rules.specs.{Values.pick, Meaning.extreme_over, Laws.Meaning.extreme_one, Laws.Meaning.extreme_more}
 use Rattle.rules.specs.{Laws.Meaning.any_missing}
 use Rattle.steps.specs.{Looks.over_of}
 use Rattle.steps.proofs.looking.best_over.Goals as goal

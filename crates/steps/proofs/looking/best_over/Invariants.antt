@@ -1,8 +1,7 @@
 -- The loop's invariant: the best so far is that of the rows up to the one reached.
-use Rattle.words.specs.Prelude.{rules, ℕ, ◌+◌, ◌-◌, ◌≤◌, ◌≡◌, sym, ap, ◌∙◌, arith, le_refl}
+use Rattle.words.specs.Prelude.{◌-◌, ◌≤◌, ◌≡◌}
 use Rattle.rows.specs.{Ring.ring_of}
-use Rattle.rules.specs.{declared.values.Value.TheVariants.Number, Values.pick, Meaning.extreme_over, Laws.Meaning.extreme_one, Laws.Meaning.extreme_more}
-use Rattle.rules.specs.{Laws.Meaning.any_missing}
+use Rattle.rules.specs.{declared.values.Value.TheVariants.Number, Meaning.extreme_over}
 use Rattle.steps.specs.{Looks.over_of}
 use Rattle.steps.proofs.looking.best_over.Given as goal
 

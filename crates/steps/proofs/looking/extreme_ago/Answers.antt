@@ -1,5 +1,5 @@
 -- Missing where the newest or the oldest of the rows is not there.
-use Rattle.words.specs.Prelude.{rules, arith, ◌≡◌, sym, ◌∙◌, ℕ, ◌-◌, ◌<◌, ◌≤◌}
+use Rattle.words.specs.Prelude.{arith, ◌≡◌, sym, ◌∙◌, ℕ, ◌-◌, ◌<◌, ◌≤◌}
 use Rattle.rows.specs.{History.History}
 use Rattle.table.specs.{declared.series.Series.Series, Trees.extreme}
 use Rattle.rules.specs.{declared.values.Value.TheVariants.Missing, Meaning.extreme_over, Laws.Meaning.extreme_value, Laws.Meaning.extreme_early}

@@ -1,5 +1,5 @@
 -- Missing where the oldest row does not have it.
-use Rattle.words.specs.Prelude.{rules, ◌+◌, ◌-◌, ◌≡◌, sym, ◌∙◌, arith}
+use Rattle.words.specs.Prelude.{◌+◌, ◌-◌, ◌≡◌, sym, ◌∙◌, arith}
 use Rattle.rows.specs.{Ring.ring_of}
 use Rattle.rules.specs.{Laws.Meaning.any_missing}
 use Rattle.steps.specs.{Looks.over_of}

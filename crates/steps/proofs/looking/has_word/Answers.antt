@@ -1,5 +1,5 @@
 -- The test of the bit is that of the definition.
-use Rattle.words.specs.Prelude.{rules, arith, lt-ltb}
+use Rattle.words.specs.Prelude.{arith, lt-ltb}
 use Rattle.rules.specs.{Values.price_of, Values.slot_of}
 use Rattle.steps.proofs.looking.has_word.Goals as goal
 

@@ -1,5 +1,5 @@
 -- Rows that do not have the slot: the first of them stops it.
-use Rattle.words.specs.Prelude.{rules, ℕ, ◌+◌, ◌*◌, ◌≡◌, sym, ap, ◌∙◌, true≢false, arith}
+use Rattle.words.specs.Prelude.{ℕ, ◌+◌, ◌*◌, ◌≡◌, sym, ap, ◌∙◌, true≢false, arith}
 use Rattle.rules.specs.{Values.words_from, Values.slot_of}
 use Rattle.steps.proofs.looking.pass.Goals as goal
 

@@ -1,6 +1,6 @@
-use Rattle.words.specs.Prelude.{rules, ℕ, ◌+◌, ◌-◌, ◌*◌, ◌<◌, ◌≤◌, ◌≡◌, refl, sym, ap, ◌∙◌, true, ⊎_elim, arith, mul-le-mul_right, length}
+use Rattle.words.specs.Prelude.{ℕ, ◌+◌, ◌*◌, ◌<◌, ◌≤◌, ◌≡◌, refl, sym, ap, ◌∙◌, true, arith, mul-le-mul_right, length}
 use Rattle.rules.specs.{declared.values.Value.Value, Values.words_from}
-use Rattle.steps.specs.{Looks.over_of, Looks.of_row, Looks.PassedOver, Looks.Stopped}
+use Rattle.steps.specs.{Looks.over_of, Looks.of_row, Looks.Stopped}
 use Rattle.steps.proofs.{Looks.not_higher, Looks.not_lower, Looks.passed_more}
 use Rattle.steps.proofs.looking.pass_rows.Goals as goal
 use Rattle.steps.proofs.looking.pass_rows.Goals.{then-kind-eq-HIGHEST+else-best-x, else-kind-eq-HIGHEST+else-x-best}

@@ -1,8 +1,6 @@
 -- The loop's invariant: so many rows are passed over, and the one after them begins at `at`.
-use Rattle.words.specs.Prelude.{rules, ℕ, ◌+◌, ◌-◌, ◌*◌, ◌<◌, ◌≤◌, ◌≡◌, refl, sym, ap, ◌∙◌, true, ⊎_elim, arith, mul-le-mul_right, length}
-use Rattle.rules.specs.{declared.values.Value.Value, Values.words_from}
-use Rattle.steps.specs.{Looks.over_of, Looks.of_row, Looks.PassedOver, Looks.Stopped}
-use Rattle.steps.proofs.{Looks.not_higher, Looks.not_lower, Looks.passed_more}
+use Rattle.words.specs.Prelude.{◌+◌, ◌-◌, ◌*◌, ◌≤◌, ◌≡◌}
+use Rattle.steps.specs.{Looks.over_of, Looks.PassedOver}
 use Rattle.steps.proofs.looking.pass_rows.Given as goal
 
 abbrev pub invariant-loop-k : goal.invariant-loop-k

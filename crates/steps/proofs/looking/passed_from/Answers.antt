@@ -1,5 +1,5 @@
 -- As many rows as follow before the words' end are passed over at most, so they stand one after the other.
-use Rattle.words.specs.Prelude.{rules, ◌+◌, ◌-◌, ◌*◌, ◌<◌, ◌≤◌, sym, ◌∙◌, arith, length}
+use Rattle.words.specs.Prelude.{◌+◌, ◌-◌, ◌*◌, ◌<◌, ◌≤◌, sym, ◌∙◌, arith, length}
 use Rattle.rows.specs.{Laws.Ring.place_within}
 use Rattle.steps.specs.{Looks.over_of}
 use Rattle.steps.proofs.{Rows.place_ends, Looks.no_more, Looks.at_row, Looks.at_end, Looks.rows_end, Looks.series_after, Looks.passed_on}

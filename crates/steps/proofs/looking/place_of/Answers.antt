@@ -1,5 +1,4 @@
 -- A slot or a price.
-use Rattle.words.specs.Prelude.{rules}
 use Rattle.steps.proofs.looking.place_of.Goals as goal
 
 pub returns-then-slot : goal.returns-then-slot

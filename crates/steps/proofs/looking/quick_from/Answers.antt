@@ -1,5 +1,5 @@
 -- As many rows as follow before the words' end are looked at, so they stand one after the other. The best is the float of its word.
-use Rattle.words.specs.Prelude.{rules, ◌+◌, ◌-◌, ◌*◌, ◌<◌, ◌≤◌, ◌≡◌, sym, ap, ◌∙◌, subst, T, binary64, of_bits-to_bits, arith, length}
+use Rattle.words.specs.Prelude.{◌+◌, ◌-◌, ◌*◌, ◌<◌, ◌≤◌, ◌≡◌, sym, ap, ◌∙◌, subst, T, binary64, of_bits-to_bits, arith, length}
 use Rattle.floats.specs.{Floats.float_of}
 use Rattle.rows.specs.{Laws.Ring.place_within}
 use Rattle.rules.specs.{declared.values.Value.TheVariants.Number}

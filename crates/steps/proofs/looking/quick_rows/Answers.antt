@@ -1,4 +1,4 @@
-use Rattle.words.specs.Prelude.{rules, ℕ, ◌+◌, ◌-◌, ◌*◌, ◌<◌, ◌≤◌, ◌≡◌, refl, ⊎_elim, arith, mul-le-mul_right, length, not-false}
+use Rattle.words.specs.Prelude.{ℕ, ◌+◌, ◌-◌, ◌*◌, ◌<◌, ◌≤◌, ◌≡◌, refl, arith, mul-le-mul_right, length, not-false}
 use Rattle.floats.specs.{Floats.float_of}
 use Rattle.rules.specs.{declared.values.Value.TheVariants.Number, Values.words_from, Values.took}
 use Rattle.steps.specs.{Looks.over_of, Looks.of_row, Looks.best_after}

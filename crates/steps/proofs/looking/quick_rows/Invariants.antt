@@ -1,9 +1,8 @@
 -- The loop's invariant: the best so far is that of the rows before `at`, and its word is below the infinity's.
-use Rattle.words.specs.Prelude.{rules, ℕ, ◌+◌, ◌-◌, ◌*◌, ◌<◌, ◌≤◌, ◌≡◌, refl, ⊎_elim, arith, mul-le-mul_right, length, not-false}
+use Rattle.words.specs.Prelude.{◌+◌, ◌-◌, ◌*◌, ◌<◌, ◌≤◌, ◌≡◌}
 use Rattle.floats.specs.{Floats.float_of}
-use Rattle.rules.specs.{declared.values.Value.TheVariants.Number, Values.words_from, Values.took}
-use Rattle.steps.specs.{Looks.over_of, Looks.of_row, Looks.best_after}
-use Rattle.steps.proofs.{Words.high_stays, Words.high_goes, Words.low_stays, Words.low_goes, Looks.place_in, Looks.next_row, Looks.best_next}
+use Rattle.rules.specs.{declared.values.Value.TheVariants.Number}
+use Rattle.steps.specs.{Looks.over_of, Looks.best_after}
 use Rattle.steps.proofs.looking.quick_rows.Given as goal
 
 abbrev pub invariant-loop-left : goal.invariant-loop-left

@@ -1,5 +1,5 @@
 -- The row lies within the words, so nothing wraps; then a slot or a price.
-use Rattle.words.specs.Prelude.{rules, arith, sym, true, false, ◌+◌, ◌*◌, ◌≤◌, length}
+use Rattle.words.specs.Prelude.{arith, sym, true, false, ◌+◌, ◌*◌, ◌≤◌, length}
 use Rattle.steps.specs.{Looks.over_of}
 use Rattle.steps.proofs.{Rows.place_ends, Looks.series_there}
 use Rattle.steps.proofs.looking.series_at.Goals as goal

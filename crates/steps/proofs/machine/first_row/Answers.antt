@@ -1,5 +1,5 @@
 -- The first row is the first of any number of rows. Assumes nothing.
-use Rattle.words.specs.Prelude.{ℕ, ◌≡◌, refl, Bool, true, false, cond, rules, ltb}
+use Rattle.words.specs.Prelude.{ℕ, ◌≡◌, refl, Bool, true, false, cond, ltb}
 use Rattle.rows.specs.{Ring.start_within}
 use Rattle.steps.proofs.machine.first_row.Goals as goal
 

@@ -1,5 +1,4 @@
 -- The row that the rows begin at, set right first.
-use Rattle.words.specs.Prelude.{rules}
 use Rattle.rows.specs.{Laws.Ring.first_fits, Laws.Ring.ring_first}
 use Rattle.steps.proofs.machine.run_ring.Goals as goal
 

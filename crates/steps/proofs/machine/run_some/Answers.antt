@@ -1,5 +1,5 @@
 -- It is the run, or else it is run again with more places.
-use Rattle.words.specs.Prelude.{rules, refl, arith, length-replicate}
+use Rattle.words.specs.Prelude.{refl, arith, length-replicate}
 use Rattle.floats.specs.{Floats.zero}
 use Rattle.steps.proofs.{Going.tried_through}
 use Rattle.steps.proofs.machine.run_some.Goals as goal

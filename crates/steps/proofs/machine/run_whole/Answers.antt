@@ -1,5 +1,5 @@
 -- There is a place for each step.
-use Rattle.words.specs.Prelude.{rules, refl, arith, length-replicate}
+use Rattle.words.specs.Prelude.{refl, arith, length-replicate}
 use Rattle.floats.specs.{Floats.zero}
 use Rattle.steps.proofs.{Going.tried_whole}
 use Rattle.steps.proofs.machine.run_whole.Goals as goal

@@ -1,11 +1,8 @@
 -- The loop's invariant is that the run has come to place p; a step of each kind takes it one further, and a value that finds no
 -- place is one more than there are places.
-use Rattle.words.specs.Prelude.{rules, sym, ◌∙◌, arith, ◌-◌}
+use Rattle.words.specs.Prelude.{◌-◌}
 use Rattle.rows.specs.{Ring.ring_of}
-use Rattle.steps.specs.{Places.Tries, Laws.Classes.range_in, Laws.Classes.range_out}
-use Rattle.steps.proofs.{Said.does_compare, Said.does_test, Said.does_jump, Said.does_arith, Coming.came_end, Going.Going, Going.fresh_long}
-use Rattle.steps.proofs.{Going.going_start, Going.going_leaf, Going.going_give, Going.going_look, Going.going_say, Going.going_set, Going.going_pass}
-use Rattle.steps.proofs.{Going.going_stay}
+use Rattle.steps.proofs.{Going.Going}
 use Rattle.steps.proofs.machine.run_with.Given as goal
 
 abbrev pub invariant-loop-p : goal.invariant-loop-p

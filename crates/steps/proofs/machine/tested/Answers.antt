@@ -1,5 +1,5 @@
 -- The test is that of the definition.
-use Rattle.words.specs.Prelude.{rules, lt-ltb, le-ltb}
+use Rattle.words.specs.Prelude.{lt-ltb, le-ltb}
 use Rattle.steps.proofs.machine.tested.Goals as goal
 
 pub returns-then-kind-lt-BETWEEN : goal.returns-then-kind-lt-BETWEEN

@@ -1,5 +1,5 @@
 -- Four leaves and a cross, or no test.
-use Rattle.words.specs.Prelude.{rules, sym, ◌∙◌, arith}
+use Rattle.words.specs.Prelude.{sym, ◌∙◌, arith}
 use Rattle.steps.specs.{Laws.Classes.range_in}
 use Rattle.steps.proofs.{Coming.cross_tests}
 use Rattle.steps.proofs.phrases.cross_at.Goals as goal

@@ -1,5 +1,4 @@
 -- The step at p is the one that is read.
-use Rattle.words.specs.Prelude.{rules}
 use Rattle.steps.proofs.phrases.near_leaf.Goals as goal
 
 pub returns : goal.returns

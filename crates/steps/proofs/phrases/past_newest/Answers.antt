@@ -1,5 +1,5 @@
 -- Past the test, with its answer, or nowhere.
-use Rattle.words.specs.Prelude.{rules, arith}
+use Rattle.words.specs.Prelude.{arith}
 use Rattle.steps.proofs.phrases.past_newest.Goals as goal
 
 pub returns-then-t-gt0 : goal.returns-then-t-gt0

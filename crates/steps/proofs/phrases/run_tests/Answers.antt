@@ -1,6 +1,5 @@
-use Rattle.words.specs.Prelude.{rules, sym, ◌∙◌, [], arith, ◌-◌}
-use Rattle.rows.specs.{Ring.ring_of}
-use Rattle.steps.specs.{Places.Came, Laws.Classes.range_in, Laws.Classes.late_no_operation, Laws.Classes.no_test}
+use Rattle.words.specs.Prelude.{sym, ◌∙◌, arith}
+use Rattle.steps.specs.{Laws.Classes.range_in, Laws.Classes.late_no_operation, Laws.Classes.no_test}
 use Rattle.steps.proofs.{Said.does_jump, Coming.came_start, Coming.came_say, Coming.came_pass, Coming.came_stay}
 use Rattle.steps.proofs.phrases.run_tests.Goals as goal
 

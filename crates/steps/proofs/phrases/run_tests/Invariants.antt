@@ -1,8 +1,7 @@
 -- The loop's invariant is that the run has come to place p with no value; a jump, an answer and a test with its leaves each take it further.
-use Rattle.words.specs.Prelude.{rules, sym, ◌∙◌, [], arith, ◌-◌}
+use Rattle.words.specs.Prelude.{[], ◌-◌}
 use Rattle.rows.specs.{Ring.ring_of}
-use Rattle.steps.specs.{Places.Came, Laws.Classes.range_in, Laws.Classes.late_no_operation, Laws.Classes.no_test}
-use Rattle.steps.proofs.{Said.does_jump, Coming.came_start, Coming.came_say, Coming.came_pass, Coming.came_stay}
+use Rattle.steps.specs.{Places.Came}
 use Rattle.steps.proofs.phrases.run_tests.Given as goal
 
 abbrev pub invariant-loop-p : goal.invariant-loop-p

@@ -1,5 +1,5 @@
 -- Two leaves and a comparison, or what may be a cross, or no test.
-use Rattle.words.specs.Prelude.{rules, sym, ◌∙◌, arith}
+use Rattle.words.specs.Prelude.{sym, ◌∙◌, arith}
 use Rattle.steps.proofs.{Coming.compare_tests}
 use Rattle.steps.proofs.phrases.test_at.Goals as goal
 

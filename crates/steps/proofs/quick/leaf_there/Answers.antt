@@ -1,5 +1,5 @@
 -- The two words there are the step.
-use Rattle.words.specs.Prelude.{rules, arith}
+use Rattle.words.specs.Prelude.{arith}
 use Rattle.steps.proofs.{Heads.told_there}
 use Rattle.steps.proofs.quick.leaf_there.Goals as goal
 

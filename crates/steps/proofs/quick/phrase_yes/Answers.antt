@@ -1,5 +1,5 @@
 -- Each of the four says it of its own step.
-use Rattle.words.specs.Prelude.{rules, sym, true≢false}
+use Rattle.words.specs.Prelude.{sym, true≢false}
 use Rattle.steps.proofs.quick.phrase_yes.Goals as goal
 
 pub returns-then-leaf_there : goal.returns-then-leaf_there

@@ -1,5 +1,5 @@
 -- The whole head is a kind, and the constant is zero.
-use Rattle.words.specs.Prelude.{rules, eqb-true, sym, ◌∙◌}
+use Rattle.words.specs.Prelude.{eqb-true, sym, ◌∙◌}
 use Rattle.steps.proofs.{Heads.test_told}
 use Rattle.steps.proofs.quick.test_yes.Goals as goal
 

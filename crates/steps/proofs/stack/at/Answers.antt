@@ -1,5 +1,4 @@
 -- The test is that of the definition.
-use Rattle.words.specs.Prelude.{rules}
 use Rattle.steps.specs.{Places.value_at}
 use Rattle.steps.proofs.stack.at.Goals as goal
 

@@ -1,5 +1,5 @@
 -- Case by case.
-use Rattle.words.specs.Prelude.{rules, refl}
+use Rattle.words.specs.Prelude.{refl}
 use Rattle.steps.specs.{Places.numbers_with, Places.is_there}
 use Rattle.steps.proofs.stack.put.Goals as goal
 

@@ -1,5 +1,5 @@
-use Rattle.words.specs.Prelude.{eq-eqb, ne_eqb, lt-ltb, le-ltb, arith, sub-zero, ◌-◌, ◌≤◌, ◌≡◌, refl, sym, ◌∙◌}
-use Rattle.steps.specs.{WellFormed.formed_from, WellFormed.formed}
+use Rattle.words.specs.Prelude.{eq-eqb, ne_eqb, lt-ltb, le-ltb, arith, sub-zero, refl, sym, ◌∙◌}
+use Rattle.steps.specs.{WellFormed.formed}
 use Rattle.steps.proofs.{Forms.none_left}
 use Rattle.steps.proofs.wellformed.check.Goals as goal
 

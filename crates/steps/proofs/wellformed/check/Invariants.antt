@@ -1,7 +1,6 @@
 -- The steps are asked in their order, so the first bad one is the lowest: what is said of the whole list is what is said of it from p on.
-use Rattle.words.specs.Prelude.{eq-eqb, ne_eqb, lt-ltb, le-ltb, arith, sub-zero, ◌-◌, ◌≤◌, ◌≡◌, refl, sym, ◌∙◌}
-use Rattle.steps.specs.{WellFormed.formed_from, WellFormed.formed}
-use Rattle.steps.proofs.{Forms.none_left}
+use Rattle.words.specs.Prelude.{◌-◌, ◌≤◌, ◌≡◌}
+use Rattle.steps.specs.{WellFormed.formed_from}
 use Rattle.steps.proofs.wellformed.check.Given as goal
 
 abbrev pub invariant-loop-p : goal.invariant-loop-p

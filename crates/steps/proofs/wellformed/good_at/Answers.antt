@@ -1,5 +1,5 @@
 -- A quick yes is right for the step of the two words, which is the step there; every other step is asked in full.
-use Rattle.words.specs.Prelude.{rules, arith, sym}
+use Rattle.words.specs.Prelude.{arith, sym}
 use Rattle.steps.proofs.{Heads.told_there}
 use Rattle.steps.proofs.wellformed.good_at.Goals as goal
 

@@ -1,5 +1,5 @@
 -- Four good steps are passed, or one, or the first is bad.
-use Rattle.words.specs.Prelude.{rules, arith, ◌≡◌, ◌+◌, ◌∙◌}
+use Rattle.words.specs.Prelude.{arith, ◌≡◌, ◌+◌, ◌∙◌}
 use Rattle.steps.proofs.{Forms.one_more, Forms.one_good, Forms.four_good}
 use Rattle.steps.proofs.wellformed.good_from.Goals as goal
 

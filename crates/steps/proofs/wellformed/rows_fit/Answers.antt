@@ -1,5 +1,5 @@
 -- The tests are those of the definition, with nothing that wraps.
-use Rattle.words.specs.Prelude.{rules, le-leb, lt-leb, arith}
+use Rattle.words.specs.Prelude.{le-leb, lt-leb, arith}
 use Rattle.steps.specs.{WellFormed.rows_fit}
 use Rattle.steps.proofs.wellformed.rows_fit.Goals as goal
 

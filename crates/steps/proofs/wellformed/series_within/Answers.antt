@@ -1,5 +1,4 @@
 -- A case each.
-use Rattle.words.specs.Prelude.{rules}
 use Rattle.steps.specs.{WellFormed.series_within}
 use Rattle.steps.proofs.wellformed.series_within.Goals as goal
 
