@@ -1,8 +1,8 @@
 -- "Version 1 tables mean what they meant": in an accepted table of version 1 no tree holds a Highest or a Lowest. So the meaning of its rules, their
 -- reach and their steps are those of the kinds that version 1 has.
-use Rattle.std.specs.Prelude.{ℕ, ◌<◌, ◌≡◌, refl, Bool, true, false, List}
-use Rattle.words.specs.Prelude.{sym, ap, ◌∙◌, true≢false, ⊎_elim, eq-zero-or-pos}
-use Rattle.table.specs.{declared.answer.Answer.TheVariants.Accepted, declared.header.Form.Form, Bytes.Bytes, Header.version, Header.count, Header.root}
+use Rattle.std.specs.Prelude.{ℕ, ◌<◌, ◌≡◌, true, List}
+use Rattle.words.specs.Prelude.{sym, true≢false, ⊎_elim, eq-zero-or-pos}
+use Rattle.table.specs.{declared.answer.Answer.TheVariants.Accepted, declared.header.Form.Form, Bytes.Bytes, Header.version, Header.count}
 use Rattle.table.specs.{Header.form_of, Kinds.kind_of, Kinds.extremum, Laws.Kinds.extreme_since_lem, Nodes.kind_right, Checked.checked, Forest.trees, Forest.forest_of}
 use Rattle.table.specs.{Reading.first_of, Reading.conditions, Reading.tree_of, Limits.Within, Limits.WithinOf, Limits.WithinAll, Trees.Operand, Trees.const}
 use Rattle.table.specs.{Trees.ref, Trees.price, Trees.prev, Trees.arith, Trees.extreme, Trees.Condition, Trees.Conditions, Trees.compare, Trees.cross}

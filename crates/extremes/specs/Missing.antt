@@ -4,7 +4,7 @@ use Rattle.words.specs.Prelude.{sym, ap, ◌∙◌, arith, ltb-true, ltb-false}
 use Rattle.rows.specs.{History.History}
 use Rattle.table.specs.{declared.series.Series.Series, Trees.extreme}
 use Rattle.rules.specs.{declared.values.Value.Value, declared.values.Value.TheVariants.Missing, declared.values.Value.TheVariants.Number, Values.pick}
-use Rattle.rules.specs.{Meaning.series_at, Meaning.extreme_over, Meaning.extreme_at, Meaning.value, Laws.Meaning.any_missing, Laws.Meaning.extreme_early}
+use Rattle.rules.specs.{Meaning.series_at, Meaning.extreme_over, Meaning.value, Laws.Meaning.any_missing, Laws.Meaning.extreme_early}
 use Rattle.rules.specs.{Laws.Meaning.extreme_late, Laws.Meaning.extreme_value}
 
 -- Of n bars up to bar i one is missing: there are not so many, or one of them, bar j from the oldest on, is.

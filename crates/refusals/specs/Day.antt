@@ -1,5 +1,5 @@
 -- A whole day in one call (request 3): what is looked at once for all of its bars, and what is looked at for each.
-use Rattle.std.specs.Prelude.{ℕ, ◌%◌, Bool, true, false, List, [], ◌∷◌, ◌++◌, length, eqb}
+use Rattle.std.specs.Prelude.{ℕ, ◌%◌, Bool, List, [], ◌∷◌, ◌++◌, length, eqb}
 use Rattle.words.specs.{Limits.bar_words}
 use Rattle.records.specs.{declared.settings.Settings.Settings, declared.state.Counts.Counts, declared.state.State.State, Lent.Rooms}
 use Rattle.refusals.specs.{Lines.Line, Lines.line, Bar.bar_lines, Rooms.counts_fine, Rooms.room_lines, Rooms.state_lines, Rooms.place_lines}

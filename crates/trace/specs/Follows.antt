@@ -1,7 +1,7 @@
 -- The visits of a run, said place by place: from place 0 on, each visit does what its own step does with the values so far, and the next is at the place
 -- just past it and what it passes over; there is none where that is past the list. The trace alone is so.
 use Rattle.std.specs.Prelude.{ℕ, zero, suc, ◌+◌, ◌≤◌, ◌<◌, ◌≡◌, refl, List, [], ◌∷◌, length, get_or, drop}
-use Rattle.words.specs.Prelude.{sym, ap, subst, ◌∙◌, arith}
+use Rattle.words.specs.Prelude.{sym, ap, subst, arith}
 use Rattle.rows.specs.{History.History}
 use Rattle.rules.specs.{declared.position.PositionState.PositionState}
 use Rattle.steps.specs.{declared.step.Op.Op, declared.step.Op.TheVariants.Unknown, Machine.Values, Machine.start, Machine.Effect, Machine.does}

@@ -1,5 +1,4 @@
 -- Room, settings and state are blocks, each judged by itself; the trade to be closed comes last.
-use Rattle.words.specs.Prelude.{rules}
 use Rattle.refusals.specs.{Judgement.finish_judged, Judgement.finish_lines, Laws.Lines.blocks}
 use Rattle.refusals.proofs.judge_finish.Goals as goal
 

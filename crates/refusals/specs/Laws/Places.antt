@@ -1,6 +1,6 @@
 -- Every place of a refusal of a step and of a finish is below 2^32: those that the papers name are small, a bad step's is below 4 times 1,024,
 -- and the bars seen are below 4,294,967,295 where a bar is looked at, since 14 comes before 11.
-use Rattle.std.specs.Prelude.{ℕ, ◌+◌, ◌<◌, ◌^◌, ◌≡◌, refl, Bool, true, false, cond, ◌&&◌, List, [], ◌∷◌, ◌++◌, leb}
+use Rattle.std.specs.Prelude.{ℕ, ◌<◌, ◌^◌, ◌≡◌, refl, Bool, true, false, cond, ◌&&◌, List, [], ◌∷◌, ◌++◌, leb}
 use Rattle.words.specs.Prelude.{sym, arith, leb-true, ltb-true}
 use Rattle.words.specs.{Limits.most_count, Limits.most_steps, Outcome.refusal, declared.refusal.Refusal.Refusal}
 use Rattle.steps.specs.{declared.wellformed.Formed.Formed, declared.wellformed.Formed.TheVariants.Well, declared.wellformed.Formed.TheVariants.Bad as BadStep}

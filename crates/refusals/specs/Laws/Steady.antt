@@ -1,5 +1,5 @@
 -- What stays as it is from bar to bar is looked at once: where it is fine, a step is judged by its counts, its places, its bar and the lists.
-use Rattle.std.specs.Prelude.{ℕ, ◌%◌, ◌≡◌, refl, Bool, true, false, List, [], ◌∷◌, ◌++◌, eqb, length}
+use Rattle.std.specs.Prelude.{ℕ, ◌%◌, ◌≡◌, refl, true, false, List, [], ◌∷◌, ◌++◌, eqb, length}
 use Rattle.words.specs.Prelude.{sym, ◌∙◌, append_assoc, eq-eqb, ne_eqb, eqb-false}
 use Rattle.words.specs.{Limits.bar_words, declared.refusal.Refusal.Refusal}
 use Rattle.records.specs.{declared.settings.Settings.Settings, declared.state.State.State, Lent.Rooms, Lent.Lists}

@@ -1,5 +1,5 @@
 -- Test by test, from the last: those passed hold, and the first that does not decides.
-use Rattle.words.specs.Prelude.{◌≡◌, refl, Bool, true, false, ◌&&◌, rules}
+use Rattle.words.specs.Prelude.{◌≡◌, refl, Bool, true, false, ◌&&◌}
 use Rattle.records.specs.{Bar.candle_of}
 use Rattle.refusals.specs.{Laws.Descent.so, Laws.Descent.not_so}
 use Rattle.refusals.proofs.bar.candle_fine.Goals as goal

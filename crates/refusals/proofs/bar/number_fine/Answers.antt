@@ -1,5 +1,4 @@
 -- The float of a word is finite where the word says so. Assumes nothing.
-use Rattle.words.specs.Prelude.{rules}
 use Rattle.refusals.proofs.bar.number_fine.Goals as goal
 
 pub returns : goal.returns

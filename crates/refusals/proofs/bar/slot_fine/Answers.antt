@@ -1,5 +1,5 @@
 -- By the bit, then by the slot's number.
-use Rattle.words.specs.Prelude.{eq-eqb, le-ltb, lt-ltb, ne_eqb, rules}
+use Rattle.words.specs.Prelude.{eq-eqb, le-ltb, lt-ltb, ne_eqb}
 use Rattle.refusals.specs.{Bar.bit_fine}
 use Rattle.refusals.proofs.bar.slot_fine.Goals as goal
 

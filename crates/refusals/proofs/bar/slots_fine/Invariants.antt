@@ -1,7 +1,6 @@
 -- The mask is halved, so that its lowest bit is bit k; all bits below k are fine. Assumes nothing.
-use Rattle.words.specs.Prelude.{ℕ, ◌-◌, ◌/◌, ◌^◌, ◌≤◌, ◌≡◌, refl, sym, ap, ◌∙◌, true, div-one, arith, rules, get_or}
-use Rattle.refusals.specs.{Bar.every, Bar.slot_fine, Bar.slots_fine, Laws.Every.every_more}
-use Rattle.refusals.proofs.{Bits.halved, Bits.all_fine, Bits.one_bad}
+use Rattle.words.specs.Prelude.{◌-◌, ◌/◌, ◌^◌, ◌≤◌, ◌≡◌, true, get_or}
+use Rattle.refusals.specs.{Bar.every, Bar.slot_fine}
 use Rattle.refusals.proofs.bar.slots_fine.Given as goal
 
 abbrev pub invariant-loop-k : goal.invariant-loop-k

@@ -1,5 +1,4 @@
 -- One bar, or whole bars. Assumes nothing.
-use Rattle.words.specs.Prelude.{rules}
 use Rattle.refusals.specs.{Day.whole_for}
 use Rattle.refusals.proofs.day.are_for.Goals as goal
 

@@ -1,5 +1,5 @@
 -- The two tests, one after the other.
-use Rattle.words.specs.Prelude.{sym, ◌∙◌, rules}
+use Rattle.words.specs.Prelude.{sym, ◌∙◌}
 use Rattle.refusals.proofs.entries.lot_fine.Goals as goal
 
 pub returns-then-is_finite : goal.returns-then-is_finite

@@ -1,5 +1,5 @@
 -- An empty list is well formed. A bad step's place is below 1,024, so the sum fits. Assumes nothing.
-use Rattle.words.specs.Prelude.{sym, ◌∙◌, arith, rules}
+use Rattle.words.specs.Prelude.{sym, ◌∙◌, arith}
 use Rattle.steps.specs.{Laws.Empty.empty_well}
 use Rattle.refusals.specs.{Lines.judged, Laws.BadStep.bad_below}
 use Rattle.refusals.proofs.lists.judge_list.Goals as goal

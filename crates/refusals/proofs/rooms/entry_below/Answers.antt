@@ -1,5 +1,4 @@
 -- By the cases of the entry bar.
-use Rattle.words.specs.Prelude.{rules}
 use Rattle.refusals.proofs.rooms.entry_below.Goals as goal
 
 pub returns-in-Bar : goal.returns-in-Bar

@@ -1,5 +1,5 @@
 -- Test by test: those passed hold, and the first that does not decides.
-use Rattle.words.specs.Prelude.{lt-leb, le-leb, rules}
+use Rattle.words.specs.Prelude.{lt-leb, le-leb}
 use Rattle.rows.specs.{History.history_of}
 use Rattle.refusals.proofs.rooms.held_fine.Goals as goal
 

@@ -1,5 +1,4 @@
 -- One line: no trade is to be closed, or it has a place.
-use Rattle.words.specs.Prelude.{rules}
 use Rattle.refusals.specs.{Lines.judged, Rooms.close_lines}
 use Rattle.refusals.proofs.rooms.judge_close.Goals as goal
 

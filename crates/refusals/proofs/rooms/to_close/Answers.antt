@@ -1,5 +1,4 @@
 -- In a position, and a bar was seen.
-use Rattle.words.specs.Prelude.{rules}
 use Rattle.refusals.specs.{Rooms.to_close}
 use Rattle.refusals.proofs.rooms.to_close.Goals as goal
 

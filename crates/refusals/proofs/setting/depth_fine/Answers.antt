@@ -1,5 +1,5 @@
 -- Test by test: those passed hold, and the first that does not decides.
-use Rattle.words.specs.Prelude.{lt-leb, le-leb, rules}
+use Rattle.words.specs.Prelude.{lt-leb, le-leb}
 use Rattle.refusals.proofs.setting.depth_fine.Goals as goal
 
 pub returns-then-depth-lt1 : goal.returns-then-depth-lt1

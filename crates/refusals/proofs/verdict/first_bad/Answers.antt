@@ -1,5 +1,4 @@
 -- By the first of the two.
-use Rattle.words.specs.Prelude.{rules}
 use Rattle.refusals.proofs.verdict.first_bad.Goals as goal
 
 pub returns-in-Bad : goal.returns-in-Bad
