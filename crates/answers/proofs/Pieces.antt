@@ -17,7 +17,7 @@ places_few (suc k) n = either (ltb n 10) (places k (n / 10)) k (places_few k (n 
 -- a word takes 20 digits at the most
 pub decimal_few : (n : ℕ) → length (decimal n) ≤ 20
 unfolding decimal
-decimal_few n = omega (arith, length_digits (places 19 n) n, places_few 19 n)
+decimal_few n = omega (arith, length_digits 10 (places 19 n) n, places_few 19 n)
 
 abbrev pub newlines : List ℕ
 newlines = replicate 64 10

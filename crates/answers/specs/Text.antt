@@ -18,12 +18,16 @@ unfoldable pub places : ℕ → ℕ → ℕ
 places zero n = 1
 places (suc k) n = cond (ltb n 10) 1 (places k (n / 10) + 1)
 
--- the last k decimal digits of n, the highest first; 48 is `0`
-abbrev pub last_digits : ℕ → ℕ → List ℕ
-last_digits zero n = []
-last_digits (suc k) n = last_digits k (n / 10) ++ ((48 + n % 10) ∷ [])
+-- the code of a digit below 16: `0` to `9`, then `a` to `f`
+abbrev pub digit_code : ℕ → ℕ
+digit_code d = cond (ltb d 10) (48 + d) (87 + d)
+
+-- the last k digits of n in a base, the highest first
+abbrev pub last_digits : ℕ → ℕ → ℕ → List ℕ
+last_digits base zero n = []
+last_digits base (suc k) n = last_digits base k (n / base) ++ (digit_code (n % base) ∷ [])
 
 -- a number in decimal, with no zeros in front: a word takes 20 digits at the most
 unfoldable pub decimal : ℕ → List ℕ
 unfolding places
-decimal n = last_digits (places 19 n) n
+decimal n = last_digits 10 (places 19 n) n

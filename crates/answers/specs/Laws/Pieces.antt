@@ -50,6 +50,6 @@ put-put room at a b h =
     ∙ sym (put_fits room at (a ++ b) (omega arith))
 
 -- a number's digits
-pub length_digits : (k n : ℕ) → length (last_digits k n) ≡ k
-length_digits zero n = refl
-length_digits (suc k) n = length-append (last_digits k (n / 10)) _ ∙ rw (length_digits k (n / 10)) (add-one k)
+pub length_digits : (base k n : ℕ) → length (last_digits base k n) ≡ k
+length_digits base zero n = refl
+length_digits base (suc k) n = length-append (last_digits base k (n / base)) _ ∙ rw (length_digits base k (n / base)) (add-one k)
