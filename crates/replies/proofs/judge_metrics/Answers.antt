@@ -1,5 +1,4 @@
 -- One line.
-use Rattle.words.specs.Prelude.{rules}
 use Rattle.refusals.specs.{Lines.judged}
 use Rattle.replies.specs.{Call.metric_lines}
 use Rattle.replies.proofs.judge_metrics.Goals as goal

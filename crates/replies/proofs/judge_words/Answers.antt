@@ -1,5 +1,4 @@
 -- The lines, one over another.
-use Rattle.words.specs.Prelude.{rules}
 use Rattle.refusals.specs.{Lines.judged}
 use Rattle.replies.specs.{Call.word_lines}
 use Rattle.replies.proofs.judge_words.Goals as goal

@@ -1,5 +1,5 @@
 -- The place is a part of the list: the lines stand from its beginning on, and the rest of the list is as it was.
-use Rattle.words.specs.Prelude.{ℕ, ◌+◌, ◌-◌, ◌*◌, ◌≡◌, ap, ◌∙◌, List, [], ◌∷◌, length, take, drop, arith, rules}
+use Rattle.words.specs.Prelude.{ℕ, ◌+◌, ◌-◌, ◌*◌, ◌≡◌, ap, ◌∙◌, List, [], ◌∷◌, length, take, drop, arith}
 use Rattle.words.specs.{Words.overwrite}
 use Rattle.chain.specs.{Chain.ChainLine, Lines.put_lines}
 use Rattle.questions.specs.{Laws.Places.place_written}

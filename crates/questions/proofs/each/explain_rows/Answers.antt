@@ -1,4 +1,4 @@
-use Rattle.words.specs.Prelude.{ℕ, ◌+◌, ◌-◌, ◌*◌, ◌/◌, ◌<◌, ◌≤◌, ◌≡◌, refl, sym, ap, ◌∙◌, subst, List, arith, rules, length}
+use Rattle.words.specs.Prelude.{ℕ, ◌+◌, ◌-◌, ◌*◌, ◌/◌, ◌<◌, ◌≤◌, ◌≡◌, refl, sym, ap, ◌∙◌, subst, arith, rules, length}
 use Rattle.questions.specs.{Over.asked_rows, Over.place_words, Over.lines_over, Over.counts_over, Over.explanation_over, Laws.Places.lines_long}
 use Rattle.questions.specs.{Laws.Places.counts_long}
 use Rattle.questions.proofs.{Asking.place_fits, Asking.rows_held, Asking.rows_few, Asking.upto_there, Asking.lines_turn, Asking.counts_turn}

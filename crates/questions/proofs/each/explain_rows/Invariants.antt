@@ -1,8 +1,6 @@
 -- After i turns: the first i places and counts are written.
-use Rattle.words.specs.Prelude.{ℕ, ◌+◌, ◌-◌, ◌*◌, ◌/◌, ◌<◌, ◌≤◌, ◌≡◌, refl, sym, ap, ◌∙◌, subst, List, arith, rules, length}
-use Rattle.questions.specs.{Over.asked_rows, Over.place_words, Over.lines_over, Over.counts_over, Over.explanation_over, Laws.Places.lines_long}
-use Rattle.questions.specs.{Laws.Places.counts_long}
-use Rattle.questions.proofs.{Asking.place_fits, Asking.rows_held, Asking.rows_few, Asking.upto_there, Asking.lines_turn, Asking.counts_turn}
+use Rattle.words.specs.Prelude.{◌-◌, ◌≤◌, ◌≡◌}
+use Rattle.questions.specs.{Over.lines_over, Over.counts_over, Over.explanation_over}
 use Rattle.questions.proofs.each.explain_rows.Given as goal
 
 abbrev pub invariant-loop-i : goal.invariant-loop-i

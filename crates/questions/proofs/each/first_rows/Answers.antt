@@ -1,5 +1,5 @@
 -- The rows asked for are in the list.
-use Rattle.words.specs.Prelude.{sym, ◌*◌, length-take-le, arith, rules}
+use Rattle.words.specs.Prelude.{sym, ◌*◌, length-take-le}
 use Rattle.questions.proofs.each.first_rows.Goals as goal
 
 pub slice_bounds-result-end : goal.slice_bounds-result-end

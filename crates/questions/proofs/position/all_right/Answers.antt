@@ -1,4 +1,4 @@
-use Rattle.words.specs.Prelude.{◌-◌, ◌≤◌, ◌≡◌, true, sym, ap, ◌∙◌, arith, rules}
+use Rattle.words.specs.Prelude.{◌≡◌, sym, ap, ◌∙◌, arith, rules}
 use Rattle.rules.specs.{Answers.state_right}
 use Rattle.refusals.specs.{Laws.Every.every_none, Laws.Every.every_more, Laws.Every.every_no}
 use Rattle.questions.specs.{Position.all_right}

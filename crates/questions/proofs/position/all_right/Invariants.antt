@@ -1,7 +1,5 @@
 -- Those before position i are in order; the first that is not decides.
-use Rattle.words.specs.Prelude.{◌-◌, ◌≤◌, ◌≡◌, true, sym, ap, ◌∙◌, arith, rules}
-use Rattle.rules.specs.{Answers.state_right}
-use Rattle.refusals.specs.{Laws.Every.every_none, Laws.Every.every_more, Laws.Every.every_no}
+use Rattle.words.specs.Prelude.{◌-◌, ◌≤◌, ◌≡◌, true}
 use Rattle.questions.specs.{Position.all_right}
 use Rattle.questions.proofs.position.all_right.Given as goal
 
