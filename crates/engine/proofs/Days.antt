@@ -1,5 +1,5 @@
 -- A bar of a call over many bars is a step that is judged by less; and a turn of the loop over them.
-use Rattle.words.specs.Prelude.{ℕ, ◌+◌, ◌-◌, ◌*◌, ◌/◌, ◌<◌, ◌≤◌, ◌≡◌, refl, sym, ◌∙◌, Bool, true, ◌&&◌, List, [], ◌∷◌, arith, leb-true, leb, length, take, drop}
+use Rattle.words.specs.Prelude.{ℕ, ◌+◌, ◌-◌, ◌*◌, ◌/◌, ◌<◌, ◌≤◌, ◌≡◌, refl, sym, ◌∙◌, Bool, ◌&&◌, List, [], ◌∷◌, arith, leb-true, leb, length, take, drop}
 use Rattle.words.specs.Prelude.{length-drop, length-take-le}
 use Rattle.words.specs.{Laws.Records.record_ends, Limits.bar_words, Limits.most_count, Limits.most_slots, declared.refusal.Refusal.Refusal}
 use Rattle.rows.specs.{History.width, Laws.Turned.turned_none, Ring.turned}
@@ -14,7 +14,7 @@ use Rattle.engine.specs.{InPlace.Turns, Laws.Days.answer_in, Laws.Days.day_one, 
 use Rattle.engine.specs.{Laws.Days.next_bar, Laws.Days.after_all, Laws.Days.after_more, Laws.Days.after_refused, Run.run_over, Step.Is}
 use Rattle.engine.specs.{Step.advanced, Step.step_answer}
 use Rattle.engine.proofs.{OneBar.ready, OneBar.refused, OneBar.went}
-use Rattle.refusals.specs.{declared.day.Span.Span, declared.day.Span.TheVariants.One, declared.day.Span.TheVariants.Many}
+use Rattle.refusals.specs.{declared.day.Span.Span, declared.day.Span.TheVariants.One}
 
 -- ---- a bar
 

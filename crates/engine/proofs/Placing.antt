@@ -1,6 +1,6 @@
 -- Where a row goes in a room that holds some: a place is left, or the rows move up, or it goes over the oldest. No number is divided: the rows
 -- held are no more than there are places, so one more fits or all places are taken.
-use Rattle.words.specs.Prelude.{ℕ, ◌+◌, ◌-◌, ◌*◌, ◌/◌, ◌<◌, ◌≤◌, ◌≡◌, refl, sym, ◌∙◌, Bool, true, false, List, ◌++◌, append_assoc, div-lt_iff_lt-mul}
+use Rattle.words.specs.Prelude.{ℕ, ◌+◌, ◌-◌, ◌*◌, ◌/◌, ◌<◌, ◌≤◌, ◌≡◌, refl, sym, ◌∙◌, List, ◌++◌, append_assoc, div-lt_iff_lt-mul}
 use Rattle.words.specs.Prelude.{le-div_iff_mul-le, mul-le-mul_right, arith, lt-ltb, le-ltb, lt-leb, length, take, drop, length-append, length-take, length-drop}
 use Rattle.words.specs.Prelude.{drop-drop}
 use Rattle.words.specs.{Words.overwrite, Words.shifted, Laws.Overwrite.overwrite_fits, Laws.Overwrite.shifted_fits, Laws.Records.records_fit}

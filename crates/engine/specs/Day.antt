@@ -1,6 +1,6 @@
 -- Request 3, a whole day in one call. "Take many bars at once. State, trades, equity and window afterwards equal calling once a bar. At the
 -- first bar that would be refused it stops: earlier bars stay done, and the answer gives the number, the place and how many were done."
-use Rattle.std.specs.Prelude.{ℕ, zero, suc, ◌/◌, ◌≡◌, Bool, true, false, cond, List, [], ◌∷◌, eqb, length, take, drop}
+use Rattle.std.specs.Prelude.{ℕ, zero, suc, ◌/◌, ◌≡◌, Bool, false, cond, List, [], ◌∷◌, eqb, length, take, drop}
 use Rattle.words.specs.{Limits.bar_words, declared.refusal.Refusal.Refusal}
 use Rattle.records.specs.{declared.settings.Settings.Settings, declared.state.State.State, Lent.Lists, Lent.Rooms}
 use Rattle.refusals.specs.{declared.verdict.Verdict.Verdict, declared.verdict.Verdict.TheVariants.Fine, declared.verdict.Verdict.TheVariants.Bad}

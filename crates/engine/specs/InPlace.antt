@@ -1,6 +1,6 @@
 -- Rows that do not move. Within a call of many bars a full room is a ring: a row goes over the oldest, and the rows that are held begin at row `start`
 -- of the room. What the room would be had the rows moved is the room turned so that row `start` stands first. Definitions only.
-use Rattle.std.specs.Prelude.{ℕ, ◌+◌, ◌<◌, ◌≤◌, ◌≡◌, Bool, true, false, cond, List, length, eqb, Float}
+use Rattle.std.specs.Prelude.{ℕ, ◌+◌, ◌<◌, ◌≤◌, ◌≡◌, cond, List, length, eqb, Float}
 use Rattle.words.specs.{Limits.most_count, Limits.most_slots, Limits.row_words, Words.overwrite, Words.shifted}
 use Rattle.rows.specs.{declared.ring.Ring.Ring, History.width, History.last_rows, Laws.Ring.RingFine, Ring.ring_of, Ring.turned, Ring.ring_with, Ring.ring_after}
 use Rattle.rows.specs.{Room.with_row, Room.held_with}

@@ -1,5 +1,5 @@
 -- A trade that has a place is written there; else nothing is done.
-use Rattle.words.specs.Prelude.{rules, le-ltb, lt-ltb}
+use Rattle.words.specs.Prelude.{le-ltb, lt-ltb}
 use Rattle.engine.specs.{Books.booked}
 use Rattle.engine.proofs.account.book.Goals as goal
 

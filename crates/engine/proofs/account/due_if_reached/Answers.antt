@@ -1,5 +1,4 @@
 -- A case each.
-use Rattle.words.specs.Prelude.{rules}
 use Rattle.engine.specs.{Account.due_if_reached}
 use Rattle.engine.proofs.account.due_if_reached.Goals as goal
 

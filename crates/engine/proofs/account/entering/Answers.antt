@@ -1,5 +1,4 @@
 -- By the cases of the entry.
-use Rattle.words.specs.Prelude.{rules}
 use Rattle.engine.specs.{Account.entering}
 use Rattle.engine.proofs.account.entering.Goals as goal
 

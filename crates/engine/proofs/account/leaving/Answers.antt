@@ -1,5 +1,4 @@
 -- By the cases of the exit.
-use Rattle.words.specs.Prelude.{rules}
 use Rattle.engine.specs.{Account.leaving}
 use Rattle.engine.proofs.account.leaving.Goals as goal
 

@@ -1,5 +1,5 @@
 -- A point that has a place is written there; else nothing is done.
-use Rattle.words.specs.Prelude.{rules, le-ltb, lt-ltb}
+use Rattle.words.specs.Prelude.{le-ltb, lt-ltb}
 use Rattle.engine.specs.{Books.words_of_point, Books.marked}
 use Rattle.engine.proofs.account.mark_equity.Goals as goal
 

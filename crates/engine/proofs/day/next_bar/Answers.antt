@@ -1,5 +1,5 @@
 -- What can change is judged: refused, or the phases, whose fill may be turned away. Assumes nothing.
-use Rattle.words.specs.Prelude.{arith, rules}
+use Rattle.words.specs.Prelude.{arith}
 use Rattle.rows.specs.{History.width, Ring.turned}
 use Rattle.records.specs.{Lent.rooms, Lent.lists}
 use Rattle.engine.proofs.{Days.next_ready, Days.next_refused, Days.next_went}

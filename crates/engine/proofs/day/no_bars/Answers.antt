@@ -1,5 +1,4 @@
 -- One bar is never none. Assumes nothing.
-use Rattle.words.specs.Prelude.{rules}
 use Rattle.engine.specs.{Day.no_bars}
 use Rattle.engine.proofs.day.no_bars.Goals as goal
 

@@ -1,8 +1,8 @@
 -- No bars; then what is looked at once; then the lists, before which the first bar comes; then bar after bar, and the room is turned.
 -- Assumes nothing.
-use Rattle.words.specs.Prelude.{sym, ◌∙◌, arith, rules}
+use Rattle.words.specs.Prelude.{sym, ◌∙◌}
 use Rattle.records.specs.{Lent.rooms, Lent.lists}
-use Rattle.refusals.specs.{Laws.Fine.settings_fine, Laws.Steady.day_fine}
+use Rattle.refusals.specs.{Laws.Steady.day_fine}
 use Rattle.engine.specs.{Laws.Days.day_none, Laws.Days.day_whole, Laws.Days.whole_one, Laws.Days.day_stops, Laws.Days.day_unlisted}
 use Rattle.engine.proofs.day.run_bars.Goals as goal
 

@@ -1,7 +1,6 @@
-use Rattle.words.specs.Prelude.{◌+◌, ◌-◌, ◌∙◌, div-le_self, arith, rules, length}
-use Rattle.records.specs.{Lent.rooms, Lent.lists}
+use Rattle.words.specs.Prelude.{◌+◌, ◌∙◌, div-le_self, arith, length}
 use Rattle.refusals.specs.{Laws.Fine.settings_fine}
-use Rattle.engine.proofs.{Days.Turn, Days.begins, Days.bar_ends, Days.bar_long, Days.one_more, Days.stops, Days.all_done}
+use Rattle.engine.proofs.{Days.begins, Days.bar_ends, Days.bar_long, Days.one_more, Days.stops, Days.all_done}
 use Rattle.engine.proofs.day.take_bars.Goals as goal
 
 pub overflow_add-width : goal.overflow_add-width

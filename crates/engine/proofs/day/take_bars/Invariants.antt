@@ -1,8 +1,7 @@
 -- Each turn takes a bar, and what is left of the bars is run over from there, over the rows as they would stand. Assumes nothing.
-use Rattle.words.specs.Prelude.{◌+◌, ◌-◌, ◌∙◌, div-le_self, arith, rules, length}
+use Rattle.words.specs.Prelude.{◌-◌}
 use Rattle.records.specs.{Lent.rooms, Lent.lists}
-use Rattle.refusals.specs.{Laws.Fine.settings_fine}
-use Rattle.engine.proofs.{Days.Turn, Days.begins, Days.bar_ends, Days.bar_long, Days.one_more, Days.stops, Days.all_done}
+use Rattle.engine.proofs.{Days.Turn}
 use Rattle.engine.proofs.day.take_bars.Given as goal
 
 abbrev pub invariant-loop-done : goal.invariant-loop-done

@@ -1,5 +1,5 @@
 -- The bar is judged, and where it is fine 15 is given. Assumes nothing.
-use Rattle.words.specs.Prelude.{◌+◌, sym, arith, rules, length-take-le}
+use Rattle.words.specs.Prelude.{◌+◌, sym, arith, length-take-le}
 use Rattle.engine.specs.{Day.unlisted_by}
 use Rattle.engine.proofs.day.unlisted.Goals as goal
 

@@ -1,5 +1,5 @@
 -- The list that is run to leave a position is that of its side; flat, the entry lists are run one after the other.
-use Rattle.words.specs.Prelude.{ℕ, ◌≡◌, refl, sym, ap, ◌∙◌, Bool, true, false, cond, List, rules}
+use Rattle.words.specs.Prelude.{ℕ, ◌≡◌, refl, sym, ap, ◌∙◌, Bool, true, false, cond, List}
 use Rattle.floats.specs.{Floats.◌≺◌, Floats.zero}
 use Rattle.rows.specs.{History.History}
 use Rattle.rules.specs.{declared.position.PositionState.PositionState, Values.held}

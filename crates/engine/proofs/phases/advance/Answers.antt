@@ -1,6 +1,6 @@
 -- A fill that is turned away ends it; else each phase is its own definition, and `phases` puts them together, over the rows as they would stand
 -- had they moved. Assumes nothing.
-use Rattle.words.specs.Prelude.{◌∙◌, arith, rules}
+use Rattle.words.specs.Prelude.{◌∙◌, arith}
 use Rattle.rows.specs.{History.width, Ring.turned}
 use Rattle.records.specs.{Lent.Rooms, Lent.Lists, Lent.rooms, Lent.lists}
 use Rattle.engine.specs.{Laws.InPlace.fill_in_place, Laws.InPlace.decide_in_place, Laws.InPlace.placed}

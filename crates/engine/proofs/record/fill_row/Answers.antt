@@ -1,5 +1,4 @@
-use Rattle.words.specs.Prelude.{ℕ, ◌+◌, ◌-◌, ◌<◌, ◌≤◌, ◌≡◌, refl, sym, subst, ◌∙◌, arith, rules, length, take, length-set, take_all}
-use Rattle.words.specs.{Limits.row_words}
+use Rattle.words.specs.Prelude.{ℕ, ◌+◌, ◌<◌, ◌≡◌, refl, sym, subst, ◌∙◌, arith, rules, length, take, length-set, take_all}
 use Rattle.engine.specs.{Record.row_word, Record.listed, Record.row_of}
 use Rattle.engine.proofs.{Rows.word_more}
 use Rattle.engine.proofs.record.fill_row.Goals as goal

@@ -1,8 +1,7 @@
 -- The words written so far are the row's first j; all of them are the row. Assumes nothing.
-use Rattle.words.specs.Prelude.{ℕ, ◌+◌, ◌-◌, ◌<◌, ◌≤◌, ◌≡◌, refl, sym, subst, ◌∙◌, arith, rules, length, take, length-set, take_all}
+use Rattle.words.specs.Prelude.{◌+◌, ◌-◌, ◌≤◌, ◌≡◌, length, take}
 use Rattle.words.specs.{Limits.row_words}
-use Rattle.engine.specs.{Record.row_word, Record.listed, Record.row_of}
-use Rattle.engine.proofs.{Rows.word_more}
+use Rattle.engine.specs.{Record.row_word, Record.listed}
 use Rattle.engine.proofs.record.fill_row.Given as goal
 
 abbrev pub invariant-loop-j : goal.invariant-loop-j

@@ -1,5 +1,5 @@
 -- The records asked for lie within the list, or there are no more than it has; records of no words are none. Assumes nothing.
-use Rattle.words.specs.Prelude.{ℕ, ◌*◌, ◌<◌, ◌≡◌, sym, arith, mul-zero, rules, length-take-le}
+use Rattle.words.specs.Prelude.{ℕ, ◌*◌, ◌<◌, ◌≡◌, sym, arith, mul-zero, length-take-le}
 use Rattle.words.specs.{Laws.Records.records_fit}
 use Rattle.engine.proofs.{Rows.all_of_them}
 use Rattle.engine.proofs.record.first_records.Goals as goal

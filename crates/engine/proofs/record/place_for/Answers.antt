@@ -1,5 +1,5 @@
 -- Each return is a place that `Placing` tells; nothing wraps, since what is held and the oldest end by the room's end. Assumes nothing.
-use Rattle.words.specs.Prelude.{arith, rules}
+use Rattle.words.specs.Prelude.{arith}
 use Rattle.words.specs.{Limits.row_words}
 use Rattle.engine.proofs.{Placing.held_ends, Placing.oldest_ends, Placing.full, Placing.some_held, Placing.behind, Placing.behind_moved}
 use Rattle.engine.proofs.{Placing.over_oldest, Placing.next_row, Placing.next_first}

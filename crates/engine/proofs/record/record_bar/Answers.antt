@@ -1,5 +1,5 @@
 -- The rows move up where they must, and the row is written at its place: all else of the room stands. Assumes nothing.
-use Rattle.words.specs.Prelude.{arith, rules}
+use Rattle.words.specs.Prelude.{arith}
 use Rattle.engine.specs.{Laws.Lengths.row_long, Record.row_of}
 use Rattle.engine.proofs.{Placing.written}
 use Rattle.engine.proofs.record.record_bar.Goals as goal

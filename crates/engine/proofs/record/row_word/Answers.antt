@@ -1,5 +1,5 @@
 -- A word before the slots, a slot that is present, a slot that is absent.
-use Rattle.words.specs.Prelude.{eq-eqb, le-ltb, lt-ltb, ne_eqb, rules}
+use Rattle.words.specs.Prelude.{eq-eqb, le-ltb, lt-ltb, ne_eqb}
 use Rattle.engine.specs.{Record.row_word}
 use Rattle.engine.proofs.record.row_word.Goals as goal
 

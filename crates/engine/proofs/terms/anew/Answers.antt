@@ -1,5 +1,4 @@
 -- Part by part.
-use Rattle.words.specs.Prelude.{rules}
 use Rattle.engine.proofs.terms.anew.Goals as goal
 
 pub returns : goal.returns

@@ -1,5 +1,4 @@
 -- Level by level.
-use Rattle.words.specs.Prelude.{rules}
 use Rattle.engine.proofs.terms.risk_anew.Goals as goal
 
 pub returns : goal.returns

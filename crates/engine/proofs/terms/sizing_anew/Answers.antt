@@ -1,5 +1,4 @@
 -- A case each.
-use Rattle.words.specs.Prelude.{rules}
 use Rattle.engine.proofs.terms.sizing_anew.Goals as goal
 
 pub returns-in-FixedFraction : goal.returns-in-FixedFraction

@@ -1,5 +1,4 @@
 -- A case each.
-use Rattle.words.specs.Prelude.{rules}
 use Rattle.engine.proofs.terms.slippage_anew.Goals as goal
 
 pub returns-in-FixedBps : goal.returns-in-FixedBps
