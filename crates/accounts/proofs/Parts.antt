@@ -1,5 +1,5 @@
 -- The parts of an account's own bar, written one behind another, are the bar.
-use Rattle.words.specs.Prelude.{ℕ, ◌+◌, ◌≤◌, ◌≡◌, ◌∙◌, List, [], ◌∷◌, ◌++◌, arith, length, take, drop, length-append, length-take, length-drop, length-take-le}
+use Rattle.words.specs.Prelude.{ℕ, ◌+◌, ◌≤◌, ◌≡◌, ◌∙◌, List, [], ◌∷◌, ◌++◌, arith, length, take, drop, length-append, length-drop, length-take-le}
 use Rattle.words.specs.{Limits.bar_words, Limits.row_words, Words.word, Words.overwrite}
 use Rattle.accounts.specs.{Laws.Own.overwrite_on, Own.low_bits, Own.own_bar}
 

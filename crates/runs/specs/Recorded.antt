@@ -1,5 +1,5 @@
 -- Request 6: in every run, a trade's last two words are those of the bars from its entry bar on.
-use Rattle.std.specs.Prelude.{ℕ, ◌+◌, ◌≡◌, refl, Bool, true, false, cond, List, [], ◌∷◌, ◌++◌, Float, length, take}
+use Rattle.std.specs.Prelude.{ℕ, ◌≡◌, refl, Bool, true, false, cond, List, [], ◌∷◌, ◌++◌, Float, length, take}
 use Rattle.words.specs.Prelude.{sym, ap, ◌∙◌, append-nil, append_assoc, arith}
 use Rattle.words.specs.Prelude.{length-append}
 use Rattle.floats.specs.{Floats.◌⊗◌, Floats.◌≺◌, Floats.eps, Floats.zero}
@@ -31,7 +31,6 @@ use Rattle.runs.specs.{During.worst_over, During.paid_with, During.paid_over, La
 use Rattle.runs.specs.{Laws.Follows.run_follows, WholeHistory.fresh_follows}
 use Rattle.std.specs.Float.Ieee as Ieee
 use Rattle.floats.specs.Floats as Floats
-use Rattle.execution.specs.declared.fills.Entry.TheVariants as Entry
 use Rattle.engine.specs.Account as Account
 
 -- ---- what is said

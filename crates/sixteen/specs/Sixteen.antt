@@ -1,14 +1,14 @@
 -- 16 is given exactly when nothing before it is, an entry is due and the bar reaches it, the lot is not 0, and a quotient is 2^53 or more: the
 -- probe's, the size's or that of the share (entries/specs/InLots.antt).
-use Rattle.std.specs.Prelude.{ℕ, zero, suc, ◌<◌, ◌-◌, ◌≡◌, refl, Bool, true, false, not, cond, ◌&&◌, List, [], ◌∷◌, ltb, Float}
+use Rattle.std.specs.Prelude.{ℕ, zero, suc, ◌<◌, ◌≡◌, refl, Bool, true, false, not, cond, ◌&&◌, List, [], ◌∷◌, ltb, Float}
 use Rattle.words.specs.Prelude.{sym, ap, ◌∙◌, true≢false, arith}
-use Rattle.words.specs.Prelude.{ltb-true, ltb-false, lt-ltb}
+use Rattle.words.specs.Prelude.{ltb-true, lt-ltb}
 use Rattle.words.specs.{declared.refusal.Refusal.Refusal, Outcome.refusal}
 use Rattle.rows.specs.{History.History, History.history_of}
 use Rattle.portfolio.specs.{declared.Candle.Candle}
 use Rattle.execution.specs.{declared.optional.Optional.Optional, declared.optional.Optional.TheVariants.Absent, declared.optional.Optional.TheVariants.Of}
 use Rattle.execution.specs.{declared.level.Side.Side, declared.level.Side.TheVariants.Long, declared.level.Side.TheVariants.Short}
-use Rattle.execution.specs.{declared.level.OrderKind.OrderKind, Level.fee_bps, Level.level_fill, Fills.execute_entry, Fills.is_turned_away}
+use Rattle.execution.specs.{declared.level.OrderKind.OrderKind, Level.fee_bps, Level.level_fill}
 use Rattle.records.specs.{declared.settings.Settings.Settings, declared.state.Order.Order, declared.state.Order.TheVariants.Idle}
 use Rattle.records.specs.{declared.state.Order.TheVariants.EnterLong, declared.state.Order.TheVariants.EnterShort, declared.state.Order.TheVariants.Exit}
 use Rattle.records.specs.{declared.state.Position.Position, declared.state.State.State, Bar.candle_of, Lent.Lists, Lent.Rooms}
@@ -16,8 +16,8 @@ use Rattle.refusals.specs.{declared.verdict.Verdict.Verdict, declared.verdict.Ve
 use Rattle.refusals.specs.{Settings.sizing_lines, Settings.slippage_lines, Settings.risk_lines, Settings.term_lines, Settings.entry_lines, Settings.setting_lines}
 use Rattle.refusals.specs.{Rooms.room_lines, Rooms.state_lines, Rooms.place_lines, Bar.bar_lines, Lists.list_lines, Judgement.step_lines, Judgement.step_judged}
 use Rattle.refusals.specs.{Judgement.run_lines, Lines.Line, Lines.judged, Laws.Lines.never, Laws.Lines.and_true}
-use Rattle.engine.specs.{declared.account.Due.Due, declared.account.Due.TheVariants.Waits, declared.account.Due.TheVariants.Enters}
-use Rattle.engine.specs.{declared.account.Due.TheVariants.Leaves, Account.due_if_reached, Account.due_of, Account.done_of, Account.filled, Account.waiting}
+use Rattle.engine.specs.{declared.account.Due.TheVariants.Enters}
+use Rattle.engine.specs.{Account.due_if_reached, Account.due_of, Account.done_of, Account.filled}
 use Rattle.engine.specs.{Account.entry_filled, Account.exit_filled, Record.held_rows, Step.fill_of, Step.size_lines, Step.step_verdict, Laws.Verdict.handed_fine}
 use Rattle.engine.specs.{Laws.Verdict.handed_bad}
 use Rattle.entries.specs.{InLots.TurnsAway, InLots.probed_size, InLots.size_at, InLots.turned_away_if, InLots.turned_away_only_if}

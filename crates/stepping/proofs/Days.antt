@@ -4,10 +4,10 @@ use Rattle.words.specs.{declared.refusal.Refusal.Refusal}
 use Rattle.records.specs.{declared.state.State.State, Lent.Rooms, Lent.Lists, Lent.rooms, Settings.settings_of, StateWords.state_of}
 use Rattle.refusals.specs.{declared.verdict.Verdict.Verdict, declared.verdict.Verdict.TheVariants.Fine, declared.verdict.Verdict.TheVariants.Bad}
 use Rattle.refusals.specs.{Day.day_lines, Laws.Descent.bad_block, Laws.Descent.fine_block, Lines.Line, Lines.judged, Rooms.room_lines}
-use Rattle.engine.specs.{Day.day_of, Day.first_refused, Day.no_bars, Day.run_with, Laws.Days.day_stops, Run.Run}
-use Rattle.replies.specs.{Call.Call, Call.answer_word, Call.word_lines}
-use Rattle.stepping.specs.{Bars.lent_lines, Day.DayLent, Day.day_lent_lines, Day.short_of, Day.state_after, Day.day_gives, Day.day_call, WordRun.answer_of}
-use Rattle.refusals.specs.{declared.day.Span.Span, declared.day.Span.TheVariants.One, declared.day.Span.TheVariants.Many}
+use Rattle.engine.specs.{Day.day_of, Day.no_bars, Laws.Days.day_stops, Run.Run}
+use Rattle.replies.specs.{Call.answer_word, Call.word_lines}
+use Rattle.stepping.specs.{Bars.lent_lines, Day.day_lent_lines, Day.short_of, Day.state_after, Day.day_gives, Day.day_call, WordRun.answer_of}
+use Rattle.refusals.specs.{declared.day.Span.Span}
 
 -- a refusal of short words is one of the lent words
 short_bad : (words lent : Verdict) {v : Verdict} {r : Refusal} → v ≡ short_of words lent → v ≡ Bad r → lent ≡ Bad r

@@ -1,5 +1,5 @@
 -- A C call over a bar is the call over bars that takes one.
-use Rattle.words.specs.Prelude.{ℕ, ◌≡◌, refl, ◌∙◌, true, List}
+use Rattle.words.specs.Prelude.{ℕ, ◌≡◌, refl, ◌∙◌, List}
 use Rattle.records.specs.{declared.settings.Settings.Settings, declared.state.State.State, Lent.Rooms, Lent.Lists, Settings.settings_of, StateWords.state_of}
 use Rattle.refusals.specs.{declared.verdict.Verdict.Verdict, declared.verdict.Verdict.TheVariants.Fine, declared.verdict.Verdict.TheVariants.Bad}
 use Rattle.refusals.specs.{Lines.judged}
@@ -8,7 +8,7 @@ use Rattle.engine.specs.{Day.no_bars, Day.day_of, Run.goes_on, Run.run_over, Ste
 use Rattle.replies.specs.{Call.Call, Call.call_of, Call.unless_bad}
 use Rattle.stepping.specs.{Bars.StepLent, Bars.lent_lines, Bars.step_gives, Bars.step_call, Day.DayLent, Day.day_lent_lines, Day.state_after, Day.day_gives}
 use Rattle.stepping.specs.{Day.day_call, WordRun.answer_of}
-use Rattle.refusals.specs.{declared.day.Span.Span, declared.day.Span.TheVariants.One, declared.day.Span.TheVariants.Many}
+use Rattle.refusals.specs.{declared.day.Span.TheVariants.One}
 
 -- without the count
 abbrev uncounted : Call DayLent → Call StepLent

@@ -1,5 +1,5 @@
 -- The call that steps over many bars (request 3). Definitions only.
-use Rattle.std.specs.Prelude.{ℕ, Bool, false, cond, List, eqb}
+use Rattle.std.specs.Prelude.{ℕ, cond, List, eqb}
 use Rattle.words.specs.{Words.overwrite}
 use Rattle.records.specs.{declared.state.State.State, Lent.Rooms, Lent.Lists, Settings.settings_of, StateWords.state_of, StateWords.words_of}
 use Rattle.refusals.specs.{declared.verdict.Verdict.Verdict, declared.verdict.Verdict.TheVariants.Fine, declared.verdict.Verdict.TheVariants.Bad, Lines.Line}
@@ -7,7 +7,7 @@ use Rattle.refusals.specs.{Lines.judged}
 use Rattle.engine.specs.{Day.no_bars, Day.day_of, Run.Run}
 use Rattle.replies.specs.{Call.Call, Call.answer_word, Call.word_lines}
 use Rattle.stepping.specs.{Bars.lent_lines, WordRun.answer_of}
-use Rattle.refusals.specs.{declared.day.Span.Span, declared.day.Span.TheVariants.One, declared.day.Span.TheVariants.Many}
+use Rattle.refusals.specs.{declared.day.Span.Span, declared.day.Span.TheVariants.Many}
 
 -- the state's words, the rooms, and the count of bars done
 pub record DayLent : Type 0 where

@@ -1,8 +1,8 @@
 -- An account's own bar: as long as a bar of its slots, and readable from the room that it was written to.
-use Rattle.std.specs.Prelude.{ℕ, ◌+◌, ◌≤◌, ◌≡◌, refl, List, [], ◌∷◌, ◌++◌, length, take, drop}
-use Rattle.words.specs.Prelude.{sym, ap, ◌∙◌, append_assoc, arith, eq-eqb, le-leb}
+use Rattle.std.specs.Prelude.{ℕ, ◌+◌, ◌≤◌, ◌≡◌, List, ◌++◌, length, take, drop}
+use Rattle.words.specs.Prelude.{sym, ◌∙◌, arith, eq-eqb, le-leb}
 use Rattle.words.specs.Prelude.{length-append, length-take, length-drop, take_at, drop-append-add, drop-drop}
-use Rattle.words.specs.{Laws.Overwrite.overwrite_fits, Laws.Overwrite.overwrite-length, Limits.bar_words, Limits.row_words, Words.overwrite}
+use Rattle.words.specs.{Laws.Overwrite.overwrite_fits, Laws.Overwrite.overwrite-length, Limits.bar_words, Words.overwrite}
 use Rattle.accounts.specs.{Own.own_bar, Own.own_into}
 
 -- words written to the start of a room

@@ -1,6 +1,6 @@
 -- The stream, bar after bar: the bars that are left after those taken, and what a bar that is taken has been seen to have.
-use Rattle.std.specs.Prelude.{ℕ, zero, suc, ◌+◌, ◌-◌, ◌*◌, ◌/◌, ◌<◌, ◌≤◌, ◌≡◌, refl, Bool, true, false, cond, List, [], ◌∷◌, eqb, leb, length, take, drop}
-use Rattle.words.specs.Prelude.{sym, ◌∙◌, arith, leb-true}
+use Rattle.std.specs.Prelude.{ℕ, zero, suc, ◌+◌, ◌-◌, ◌*◌, ◌/◌, ◌<◌, ◌≤◌, ◌≡◌, refl, Bool, true, false, cond, List, [], ◌∷◌, eqb, length, take, drop}
+use Rattle.words.specs.Prelude.{◌∙◌, arith, leb-true}
 use Rattle.words.specs.Prelude.{drop-drop}
 use Rattle.words.specs.{declared.refusal.Refusal.Refusal, Laws.Records.records_fit, Limits.bar_words, Limits.most_count, Limits.most_slots}
 use Rattle.refusals.specs.{declared.verdict.Verdict.Verdict, declared.verdict.Verdict.TheVariants.Fine, declared.verdict.Verdict.TheVariants.Bad}

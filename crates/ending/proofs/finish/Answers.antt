@@ -1,5 +1,5 @@
 -- The judgement decides: refused, or the end of the run. Assumes nothing.
-use Rattle.words.specs.Prelude.{sym, ◌∙◌, rules}
+use Rattle.words.specs.Prelude.{sym, ◌∙◌}
 use Rattle.ending.proofs.{Endings.refused, Endings.went}
 use Rattle.ending.proofs.finish.Goals as goal
 

@@ -1,5 +1,5 @@
 -- Refused, or read.
-use Rattle.words.specs.Prelude.{sym, ◌∙◌, rules}
+use Rattle.words.specs.Prelude.{sym, ◌∙◌}
 use Rattle.images.specs.{Laws.Fine.rows_within, Laws.Fine.restore_fine}
 use Rattle.images.proofs.{Answers.window_fits, Answers.restore_refused, Answers.restore_done}
 use Rattle.images.proofs.restore.Goals as goal

@@ -1,6 +1,6 @@
 -- Every float of a state is an f64: it was one in the state before, it is a word of the bar, or an operation of IEEE 754 gave it. So what the
 -- round trip of a state's words asks (records, Laws/RoundTrip) holds after every bar and after a finish.
-use Rattle.std.specs.Prelude.{ℕ, ◌-◌, ◌≡◌, refl, Bool, true, false, cond, List, T, Float}
+use Rattle.std.specs.Prelude.{ℕ, ◌≡◌, refl, Bool, true, false, cond, List, T, Float}
 use Rattle.words.specs.Prelude.{binary64, fits, of_bits-fits, cond-fits, mul-fits}
 use Rattle.floats.specs.{Floats.◌⊗◌, Floats.◌≺◌, Floats.min, Floats.max, Floats.eps}
 use Rattle.rows.specs.{History.History, History.history_of}
@@ -32,7 +32,6 @@ use Rattle.runs.specs.{Laws.Exits.LeftWith, Laws.Exits.left, Laws.Exits.exit_if,
 use Rattle.runs.specs.{Laws.Orders.filled_keeps, Laws.Orders.ordered_keeps, Laws.Orders.decided_keeps}
 use Rattle.std.specs.Float.Ieee as Ieee
 use Rattle.std.specs.Float.Ieee.Fits.{add-fits, sub-fits}
-use Rattle.execution.specs.declared.lots.Quantity.TheVariants as Quantity
 use Rattle.engine.specs.Account as Account
 
 abbrev Is64 : Float → Type 0

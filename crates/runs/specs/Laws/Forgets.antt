@@ -22,7 +22,6 @@ use Rattle.engine.specs.{declared.account.Due.TheVariants.Leaves, declared.accou
 use Rattle.engine.specs.{Account.due_of, Account.done_of, Account.filled, Account.intrabar, Account.charged, Books.point_of, Books.trades_of, Decide.Answers}
 use Rattle.engine.specs.{Decide.state_at, Decide.ordered, Decide.order_after}
 use Rattle.runs.specs.{Forgotten.forget, Forgotten.forget_trade, Forgotten.forget_exit, Forgotten.forget_position, Forgotten.forget_trades}
-use Rattle.execution.specs.declared.fills.Entry.TheVariants as Entry
 use Rattle.engine.specs.Account as Account
 
 -- ---- tests

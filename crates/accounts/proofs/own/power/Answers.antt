@@ -1,5 +1,5 @@
 -- A shift below the width loses nothing.
-use Rattle.words.specs.Prelude.{◌+◌, ◌*◌, ◌%◌, ◌^◌, ◌≤◌, ◌≡◌, ◌∙◌, arith, rules, pow_pos, shl_exact}
+use Rattle.words.specs.Prelude.{◌+◌, ◌*◌, ◌%◌, ◌^◌, ◌≤◌, ◌≡◌, ◌∙◌, arith, pow_pos, shl_exact}
 use Rattle.accounts.proofs.own.power.Goals as goal
 
 pub returns : goal.returns

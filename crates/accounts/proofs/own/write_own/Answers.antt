@@ -1,5 +1,5 @@
 -- Part by part.
-use Rattle.words.specs.Prelude.{◌+◌, ◌-◌, ◌≤◌, ◌≡◌, sym, ap, ◌∙◌, arith, rules, length, take, drop, length-drop, length-take-le, take_all}
+use Rattle.words.specs.Prelude.{◌+◌, ◌-◌, ◌≡◌, sym, ◌∙◌, arith, length, drop, length-drop, length-take-le, take_all}
 use Rattle.accounts.proofs.{Parts.own_written}
 use Rattle.accounts.proofs.own.write_own.Goals as goal
 

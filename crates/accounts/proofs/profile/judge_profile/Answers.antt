@@ -1,5 +1,5 @@
 -- The table decides first, then the profile.
-use Rattle.words.specs.Prelude.{sym, ◌∙◌, rules}
+use Rattle.words.specs.Prelude.{sym, ◌∙◌}
 use Rattle.refusals.specs.{Lines.judged}
 use Rattle.accounts.specs.{Profile.after_table, Profile.profile_judged}
 use Rattle.accounts.proofs.profile.judge_profile.Goals as goal

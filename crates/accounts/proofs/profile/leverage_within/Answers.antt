@@ -1,5 +1,4 @@
 -- One case for each.
-use Rattle.words.specs.Prelude.{rules}
 use Rattle.accounts.specs.{Profile.leverage_within}
 use Rattle.accounts.proofs.profile.leverage_within.Goals as goal
 

@@ -1,5 +1,4 @@
 -- Test by test: those passed hold, and the first that does not decides.
-use Rattle.words.specs.Prelude.{rules}
 use Rattle.refusals.specs.{Laws.Descent.so, Laws.Descent.not_so}
 use Rattle.accounts.specs.{Profile.within_profile}
 use Rattle.accounts.proofs.profile.within_profile.Goals as goal

@@ -1,5 +1,5 @@
 -- Line by line: those passed are fine, and the first that is not decides.
-use Rattle.words.specs.Prelude.{lt-leb, le-leb, eq-eqb, ne_eqb, rules}
+use Rattle.words.specs.Prelude.{lt-leb, le-leb, eq-eqb, ne_eqb}
 use Rattle.refusals.specs.{Day.whole_bars, Laws.Descent.no_line, Laws.Descent.fine_line, Laws.Descent.bad_line}
 use Rattle.accounts.specs.{Stream.stream_lines}
 use Rattle.accounts.proofs.stream.judge_stream.Goals as goal

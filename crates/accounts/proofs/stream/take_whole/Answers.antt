@@ -1,6 +1,6 @@
-use Rattle.words.specs.Prelude.{◌-◌, ◌/◌, sym, ◌∙◌, arith, rules, length}
+use Rattle.words.specs.Prelude.{sym, ◌∙◌, arith, length}
 use Rattle.words.specs.{Laws.Records.record_ends, Limits.bar_words}
-use Rattle.accounts.specs.{Laws.Stream.stream_fine, Laws.Stream.tenth, Laws.Stream.LeftAfter, Laws.Stream.left_none, Laws.Stream.left_all}
+use Rattle.accounts.specs.{Laws.Stream.stream_fine, Laws.Stream.tenth, Laws.Stream.left_none, Laws.Stream.left_all}
 use Rattle.accounts.specs.{Laws.Stream.left_more, Laws.Stream.left_stops}
 use Rattle.accounts.proofs.stream.take_whole.Goals as goal
 

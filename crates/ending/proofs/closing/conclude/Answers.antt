@@ -1,5 +1,4 @@
 -- The exit, the trade, the last point, the state and the figures, each by its own definition. Assumes nothing.
-use Rattle.words.specs.Prelude.{rules}
 use Rattle.ending.proofs.{Endings.endings}
 use Rattle.ending.proofs.closing.conclude.Goals as goal
 

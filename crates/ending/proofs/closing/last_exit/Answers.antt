@@ -1,5 +1,5 @@
 -- The test decides the case. Assumes nothing.
-use Rattle.words.specs.Prelude.{sym, ◌∙◌, rules}
+use Rattle.words.specs.Prelude.{sym, ◌∙◌}
 use Rattle.engine.specs.{Finish.last_exit}
 use Rattle.ending.proofs.closing.last_exit.Goals as goal
 

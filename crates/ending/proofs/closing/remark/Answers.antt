@@ -1,5 +1,5 @@
 -- By the cases of the exit; where there is no point, or none in the room, nothing is done.
-use Rattle.words.specs.Prelude.{◌∙◌, rules}
+use Rattle.words.specs.Prelude.{◌∙◌}
 use Rattle.engine.specs.{Finish.remarked}
 use Rattle.ending.proofs.{Endings.no_point, Endings.late_point, Endings.last_point}
 use Rattle.ending.proofs.closing.remark.Goals as goal

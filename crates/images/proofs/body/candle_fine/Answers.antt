@@ -1,5 +1,4 @@
 -- Five words.
-use Rattle.words.specs.Prelude.{rules}
 use Rattle.images.proofs.body.candle_fine.Goals as goal
 
 pub returns : goal.returns

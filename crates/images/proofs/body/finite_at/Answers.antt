@@ -1,5 +1,5 @@
 -- The word, and whether its float is finite.
-use Rattle.words.specs.Prelude.{ℕ, ap, ◌∙◌, rules}
+use Rattle.words.specs.Prelude.{ℕ, ap, ◌∙◌}
 use Rattle.floats.specs.{Floats.finite, Floats.float_of}
 use Rattle.images.proofs.body.finite_at.Goals as goal
 

@@ -1,5 +1,5 @@
 -- With 64 slots there is no bit above them.
-use Rattle.words.specs.Prelude.{ℕ, ◌/◌, ◌^◌, ◌<◌, ◌≡◌, sym, ap, ◌∙◌, div-eq_of_lt, arith, eq-eqb, rules}
+use Rattle.words.specs.Prelude.{ℕ, ◌/◌, ◌^◌, ◌<◌, ◌≡◌, sym, ap, ◌∙◌, div-eq_of_lt, arith, eq-eqb}
 use Rattle.images.proofs.body.mask_fits.Goals as goal
 
 pub returns : goal.returns

@@ -1,5 +1,4 @@
 -- Prices and volume, the mask, and the slots: what the row is judged by.
-use Rattle.words.specs.Prelude.{rules}
 use Rattle.images.specs.{Laws.RowWords.row_read}
 use Rattle.images.proofs.body.row_fine.Goals as goal
 

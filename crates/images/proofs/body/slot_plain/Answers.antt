@@ -1,5 +1,5 @@
 -- One test.
-use Rattle.words.specs.Prelude.{eq-eqb, ne_eqb, rules}
+use Rattle.words.specs.Prelude.{eq-eqb, ne_eqb}
 use Rattle.images.proofs.body.slot_plain.Goals as goal
 
 pub returns-then-bits-eq1 : goal.returns-then-bits-eq1

@@ -1,6 +1,6 @@
-use Rattle.words.specs.Prelude.{ℕ, ◌+◌, ◌-◌, ◌*◌, ◌≤◌, ◌≡◌, sym, ap, ◌∙◌, Bool, List, arith, rules}
+use Rattle.words.specs.Prelude.{ℕ, ◌+◌, ◌*◌, ◌≡◌, sym, ap, ◌∙◌, Bool, List, arith}
 use Rattle.table.specs.{Bytes.u64}
-use Rattle.refusals.specs.{Bar.every, Laws.Every.every_none}
+use Rattle.refusals.specs.{Laws.Every.every_none}
 use Rattle.images.specs.{Laws.RowWords.slot_plain, Laws.RowWords.every_next}
 use Rattle.images.proofs.body.slots_plain.Goals as goal
 

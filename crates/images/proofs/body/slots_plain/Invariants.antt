@@ -1,8 +1,8 @@
 -- The loop's invariant: whether those passed are as they should be.
-use Rattle.words.specs.Prelude.{ℕ, ◌+◌, ◌-◌, ◌*◌, ◌≤◌, ◌≡◌, sym, ap, ◌∙◌, Bool, List, arith, rules}
+use Rattle.words.specs.Prelude.{ℕ, ◌+◌, ◌-◌, ◌*◌, ◌≤◌, ◌≡◌, Bool, List}
 use Rattle.table.specs.{Bytes.u64}
-use Rattle.refusals.specs.{Bar.every, Laws.Every.every_none}
-use Rattle.images.specs.{Laws.RowWords.slot_plain, Laws.RowWords.every_next}
+use Rattle.refusals.specs.{Bar.every}
+use Rattle.images.specs.{Laws.RowWords.slot_plain}
 use Rattle.images.proofs.body.slots_plain.Given as goal
 
 abbrev is_plain : List ℕ → ℕ → ℕ → ℕ → Bool

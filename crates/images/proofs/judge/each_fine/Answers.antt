@@ -1,6 +1,6 @@
-use Rattle.words.specs.Prelude.{ℕ, ◌+◌, ◌-◌, ◌*◌, ◌≤◌, ◌<◌, ◌≡◌, sym, ap, ◌∙◌, Bool, true, List, mul-le-mul_right, arith, rules}
+use Rattle.words.specs.Prelude.{ℕ, ◌+◌, ◌*◌, ◌≤◌, ◌<◌, ◌≡◌, sym, ap, ◌∙◌, Bool, List, mul-le-mul_right, arith}
 use Rattle.words.specs.{Limits.row_words}
-use Rattle.refusals.specs.{Bar.every, Laws.Descent.so, Laws.Descent.not_so, Laws.Every.every_none, Laws.Every.every_more, Laws.Every.every_no}
+use Rattle.refusals.specs.{Laws.Descent.so, Laws.Descent.not_so, Laws.Every.every_none, Laws.Every.every_more, Laws.Every.every_no}
 use Rattle.images.specs.{Reading.words_at, Reading.row_in, Refused.row_fine, Refused.each_fine}
 use Rattle.images.proofs.judge.each_fine.Goals as goal
 

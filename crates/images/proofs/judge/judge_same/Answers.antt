@@ -1,5 +1,4 @@
 -- Two lines.
-use Rattle.words.specs.Prelude.{rules}
 use Rattle.refusals.specs.{Lines.judged}
 use Rattle.images.specs.{Refused.same_lines}
 use Rattle.images.proofs.judge.judge_same.Goals as goal

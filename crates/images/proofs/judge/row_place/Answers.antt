@@ -1,5 +1,5 @@
 -- The product is small.
-use Rattle.words.specs.Prelude.{refl, arith, rules}
+use Rattle.words.specs.Prelude.{refl, arith}
 use Rattle.rows.specs.{Laws.RowEnds.rows_most}
 use Rattle.images.proofs.judge.row_place.Goals as goal
 

@@ -1,5 +1,5 @@
 -- Nine tests in the order of the definition, none of them a branch.
-use Rattle.words.specs.Prelude.{ℕ, ◌+◌, ◌*◌, ◌<◌, mul-le-mul_left, mul-le-mul_right, arith, rules}
+use Rattle.words.specs.Prelude.{ℕ, ◌+◌, ◌*◌, ◌<◌, mul-le-mul_left, mul-le-mul_right, arith}
 use Rattle.images.specs.{Layout.dump_bytes, Refused.shape_fine}
 use Rattle.table.specs.Bytes as Bytes
 use Rattle.images.proofs.judge.shape_fine.Goals as goal

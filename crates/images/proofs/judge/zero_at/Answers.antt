@@ -1,5 +1,5 @@
-use Rattle.words.specs.Prelude.{ℕ, ◌+◌, ◌-◌, ◌≤◌, ◌≡◌, sym, Bool, true, List, arith, eqb, get_or, rules}
-use Rattle.refusals.specs.{Bar.every, Laws.Every.every_none, Laws.Every.every_more, Laws.Every.every_no}
+use Rattle.words.specs.Prelude.{ℕ, ◌+◌, ◌≡◌, sym, Bool, List, arith, eqb, get_or, rules}
+use Rattle.refusals.specs.{Laws.Every.every_none, Laws.Every.every_more, Laws.Every.every_no}
 use Rattle.images.specs.{Refused.zero_at}
 use Rattle.images.proofs.{Testing.equal, Testing.other}
 use Rattle.images.proofs.judge.zero_at.Goals as goal

@@ -1,8 +1,6 @@
 -- The loop's invariant: the bytes passed are zero.
-use Rattle.words.specs.Prelude.{ℕ, ◌+◌, ◌-◌, ◌≤◌, ◌≡◌, sym, Bool, true, List, arith, eqb, get_or, rules}
-use Rattle.refusals.specs.{Bar.every, Laws.Every.every_none, Laws.Every.every_more, Laws.Every.every_no}
-use Rattle.images.specs.{Refused.zero_at}
-use Rattle.images.proofs.{Testing.equal, Testing.other}
+use Rattle.words.specs.Prelude.{ℕ, ◌+◌, ◌-◌, ◌≤◌, ◌≡◌, Bool, true, List, eqb, get_or}
+use Rattle.refusals.specs.{Bar.every}
 use Rattle.images.proofs.judge.zero_at.Given as goal
 
 abbrev is_zero : List ℕ → ℕ → ℕ → Bool

@@ -1,5 +1,5 @@
 -- As many words as the rows have.
-use Rattle.words.specs.Prelude.{◌+◌, ◌*◌, ◌≡◌, le_refl, arith, rules}
+use Rattle.words.specs.Prelude.{◌+◌, ◌*◌, ◌≡◌, le_refl, arith}
 use Rattle.words.specs.{Limits.row_words}
 use Rattle.rows.specs.{Laws.RowEnds.rows_most}
 use Rattle.images.specs.{Reading.slots_in, Reading.rows_in}

@@ -1,5 +1,4 @@
-use Rattle.words.specs.Prelude.{◌-◌, ◌≤◌, ◌≡◌, refl, ◌++◌, arith, length, drop, length-set, rules}
-use Rattle.images.specs.{Reading.words_at}
+use Rattle.words.specs.Prelude.{◌≡◌, refl, arith, length-set}
 use Rattle.images.proofs.{Reading.words_none, Reading.words_more}
 use Rattle.images.proofs.reader.read_words.Goals as goal
 

@@ -1,7 +1,6 @@
 -- The loop's invariant: the first i words are read.
-use Rattle.words.specs.Prelude.{◌-◌, ◌≤◌, ◌≡◌, refl, ◌++◌, arith, length, drop, length-set, rules}
+use Rattle.words.specs.Prelude.{◌-◌, ◌≤◌, ◌≡◌, ◌++◌, length, drop}
 use Rattle.images.specs.{Reading.words_at}
-use Rattle.images.proofs.{Reading.words_none, Reading.words_more}
 use Rattle.images.proofs.reader.read_words.Given as goal
 
 abbrev pub invariant-loop-i : goal.invariant-loop-i

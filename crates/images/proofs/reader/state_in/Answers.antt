@@ -1,5 +1,4 @@
 -- The words, one by one, and the state that they mean.
-use Rattle.words.specs.Prelude.{rules}
 use Rattle.images.specs.{Reading.words_in, Reading.state_in}
 use Rattle.images.proofs.reader.state_in.Goals as goal
 

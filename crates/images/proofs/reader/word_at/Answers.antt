@@ -1,5 +1,5 @@
 -- Each byte is below 256, so nothing wraps.
-use Rattle.words.specs.Prelude.{arith, rules}
+use Rattle.words.specs.Prelude.{arith}
 use Rattle.table.specs.{Bytes.u16, Bytes.u32, Bytes.u64}
 use Rattle.images.proofs.reader.word_at.Goals as goal
 

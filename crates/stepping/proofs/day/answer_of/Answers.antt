@@ -1,5 +1,4 @@
 -- 0, or the refusal's word. Assumes nothing.
-use Rattle.words.specs.Prelude.{rules}
 use Rattle.stepping.specs.{WordRun.answer_of}
 use Rattle.stepping.proofs.day.answer_of.Goals as goal
 

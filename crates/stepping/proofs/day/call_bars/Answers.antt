@@ -1,5 +1,4 @@
 -- The rooms are judged, then the engine's call is made on what the words mean. Assumes nothing.
-use Rattle.words.specs.Prelude.{rules}
 use Rattle.stepping.proofs.{Days.day_short, Days.day_ran}
 use Rattle.stepping.proofs.day.call_bars.Goals as goal
 

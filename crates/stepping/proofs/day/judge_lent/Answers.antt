@@ -1,5 +1,5 @@
 -- No bars ask for the settings and the state alone; else the room of rows comes first. Assumes nothing.
-use Rattle.words.specs.Prelude.{sym, ◌∙◌, rules}
+use Rattle.words.specs.Prelude.{sym, ◌∙◌}
 use Rattle.refusals.specs.{Laws.Descent.fine_block, Laws.Descent.bad_block}
 use Rattle.stepping.specs.{Bars.lent_lines, Day.day_lent_lines}
 use Rattle.stepping.proofs.day.judge_lent.Goals as goal

@@ -1,5 +1,5 @@
 -- The words alone tell; only where they are short is the room asked for. Assumes nothing.
-use Rattle.words.specs.Prelude.{sym, ◌∙◌, rules}
+use Rattle.words.specs.Prelude.{sym, ◌∙◌}
 use Rattle.stepping.specs.{Day.short_of}
 use Rattle.stepping.proofs.day.judge_short.Goals as goal
 

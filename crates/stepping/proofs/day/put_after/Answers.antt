@@ -1,5 +1,5 @@
 -- Nothing is written where no bar was done. Assumes nothing.
-use Rattle.words.specs.Prelude.{rules, eq-eqb, ne_eqb}
+use Rattle.words.specs.Prelude.{eq-eqb, ne_eqb}
 use Rattle.stepping.specs.{Day.state_after}
 use Rattle.stepping.proofs.day.put_after.Goals as goal
 
