@@ -1,5 +1,5 @@
 -- What a dump refuses: 10, 12, 13.
-use Rattle.std.specs.Prelude.{ℕ, ◌+◌, ◌-◌, List, [], ◌∷◌, ◌++◌, length, leb}
+use Rattle.std.specs.Prelude.{ℕ, List, [], ◌∷◌, ◌++◌, length, leb}
 use Rattle.words.specs.{Limits.most_count}
 use Rattle.records.specs.{declared.settings.Settings.Settings, declared.state.State.State, Lent.rooms}
 use Rattle.refusals.specs.{declared.verdict.Verdict.Verdict}

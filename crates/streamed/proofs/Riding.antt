@@ -1,5 +1,5 @@
 -- An account over the bars of a stream: calls of step, one after another, over its own part of each.
-use Rattle.words.specs.Prelude.{ℕ, ◌+◌, ◌-◌, ◌*◌, ◌/◌, ◌<◌, ◌≤◌, ◌≡◌, sym, ◌∙◌, Bool, true, false, cond, List, [], ◌∷◌, map}
+use Rattle.words.specs.Prelude.{ℕ, ◌+◌, ◌-◌, ◌*◌, ◌/◌, ◌<◌, ◌≤◌, ◌≡◌, ◌∙◌, Bool, true, false, cond, List, [], ◌∷◌, map}
 use Rattle.words.specs.Prelude.{le-div_iff_mul-le, arith, ne_eqb, eqb, length, take, drop, length-drop, length-take-le}
 use Rattle.words.specs.{Laws.Records.record_ends, Limits.bar_words}
 use Rattle.records.specs.{Lent.Rooms, Lent.Lists, Lent.rooms}

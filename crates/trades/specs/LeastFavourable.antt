@@ -1,7 +1,7 @@
 -- Request 6: the least favourable price of each trade of a run is as bad as its fill and as every bar's from the entry bar on, and is one of them.
 -- A fill need not be finite (docs/DECISIONS.md), so nothing is asked of it.
 use Rattle.std.specs.Prelude.{ℕ, ◌≡◌, refl, ◌⊎◌, Bool, true, false, List, [], ◌∷◌, ◌++◌, Float, take}
-use Rattle.words.specs.Prelude.{sym, ◌∙◌, inl, inr, false≢true, nan, inf, fin}
+use Rattle.words.specs.Prelude.{◌∙◌, inl, inr, false≢true, nan, inf, fin}
 use Rattle.floats.specs.{Floats.◌≺◌, Floats.finite, Floats.zero, Laws.Order.numbers, Laws.Order.itself, Laws.Order.in_turn, Laws.Order.min_is}
 use Rattle.floats.specs.{Laws.Order.max_is, Laws.Order.min_first, Laws.Order.min_second, Laws.Order.max_first, Laws.Order.max_second}
 use Rattle.rules.specs.{declared.position.Entered.Entered as EntryBar}

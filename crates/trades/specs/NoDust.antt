@@ -1,21 +1,21 @@
 -- No dust (request 7): a box that a run leaves is in a position, with an entry bar, or holds nothing: its quantity is 0 and it has no entry bar.
 use Rattle.std.specs.Prelude.{ℕ, ◌≡◌, refl, Bool, true, false, cond, List, T, Float}
-use Rattle.words.specs.Prelude.{sym, ap, ◌∙◌, binary64, fits, cond-fits, mul-fits}
-use Rattle.floats.specs.{Floats.◌⊗◌, Floats.◌⊘◌, Floats.◌≺◌, Floats.◌≼◌, Floats.min, Floats.eps, Floats.zero, Floats.one, Floor.as_u64, Floor.two_to53}
+use Rattle.words.specs.Prelude.{◌∙◌, binary64, fits, cond-fits, mul-fits}
+use Rattle.floats.specs.{Floats.◌⊗◌, Floats.◌⊘◌, Floats.◌≺◌, Floats.◌≼◌, Floats.min, Floats.eps, Floats.zero, Floats.one, Floor.two_to53}
 use Rattle.rows.specs.{History.History}
 use Rattle.rules.specs.{declared.position.Entered.TheVariants.Never, declared.position.Entered.TheVariants.Bar}
-use Rattle.portfolio.specs.{declared.Candle.Candle, declared.Closed.Closed, declared.Portfolio.Portfolio, Portfolio.fresh, Portfolio.in_position}
+use Rattle.portfolio.specs.{declared.Candle.Candle, declared.Portfolio.Portfolio, Portfolio.fresh, Portfolio.in_position}
 use Rattle.portfolio.specs.{Portfolio.funded, Portfolio.worsened, Portfolio.entered, Portfolio.exited}
 use Rattle.execution.specs.{declared.fills.Entry.Entry, declared.fills.Exit.Exit, declared.fills.Exit.TheVariants.NoExit}
 use Rattle.execution.specs.{declared.fills.Exit.TheVariants.Exited, declared.costs.Funding.Funding, declared.costs.Funding.TheVariants.NotSupplied}
 use Rattle.execution.specs.{declared.costs.Funding.TheVariants.Supplied, declared.optional.Optional.Optional, declared.lots.Quantity.Quantity}
-use Rattle.execution.specs.{declared.level.Side.Side, declared.level.OrderKind.OrderKind, declared.terms.Risk.Risk, declared.terms.Terms.Terms}
+use Rattle.execution.specs.{declared.level.Side.Side, declared.terms.Risk.Risk, declared.terms.Terms.Terms}
 use Rattle.execution.specs.{declared.intrabar.Trigger.Trigger, declared.intrabar.Trigger.TheVariants.Untouched, declared.intrabar.Trigger.TheVariants.At}
 use Rattle.execution.specs.{Costs.slippage_rate, Costs.fill_price, Costs.closed, Costs.with_funding, Costs.charge_funding, Size.size, Size.capped_qty}
 use Rattle.execution.specs.{Lots.whole_lots, Lots.in_lots, Lots.size_in_lots, Lots.is_too_large, Lots.or_zero, Fills.direction, Fills.volatility_for, Fills.quantity}
 use Rattle.execution.specs.{Fills.probe_qty, Fills.within_volume, Fills.entry_with, Fills.execute_entry, Fills.execute_exit, Intrabar.closed_by}
 use Rattle.execution.specs.{Intrabar.apply_intrabar_exits}
-use Rattle.records.specs.{declared.settings.Settings.Settings, declared.state.Order.Order, declared.state.Position.Position, declared.state.State.State}
+use Rattle.records.specs.{declared.settings.Settings.Settings, declared.state.Position.Position, declared.state.State.State}
 use Rattle.records.specs.{Bar.candle_of, Bar.funding_of, Lent.Lists, Lent.Rooms, State.fresh_state}
 use Rattle.refusals.specs.{Rooms.to_close}
 use Rattle.engine.specs.{declared.account.Due.Due, declared.account.Due.TheVariants.Waits, declared.account.Due.TheVariants.Enters}
@@ -24,9 +24,6 @@ use Rattle.engine.specs.{Account.filled, Account.intrabar, Account.charged, Fini
 use Rattle.trades.specs.{Times.directed}
 use Rattle.std.specs.Float.Ieee as Ieee
 use Rattle.std.specs.Float.Ieee.Fits.{div-fits}
-use Rattle.execution.specs.declared.fills.Entry.TheVariants as Entry
-use Rattle.execution.specs.declared.optional.Optional.TheVariants as Optional
-use Rattle.execution.specs.declared.lots.Quantity.TheVariants as Quantity
 use Rattle.engine.specs.Account as Account
 
 -- In a position, entered at a bar; or nothing is held, and no bar was entered at.

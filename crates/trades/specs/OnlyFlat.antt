@@ -16,7 +16,6 @@ use Rattle.engine.specs.{declared.account.Due.TheVariants.Leaves, Account.leavin
 use Rattle.engine.specs.{Account.due_of, Account.done_of, Account.filled, Account.intrabar, Account.charged, Decide.Answers, Decide.opening_order}
 use Rattle.engine.specs.{Decide.closing_order, Decide.ordered, Decide.order_after, Decide.decided, Laws.Runs.run_keeps, Run.run_over, Step.fill_of, Step.stepped}
 use Rattle.trades.specs.{NoDust.worsened_keeps, NoDust.charge_keeps}
-use Rattle.execution.specs.declared.fills.Entry.TheVariants as Entry
 use Rattle.engine.specs.Account as Account
 
 unfoldable pub is_entry : Order → Bool

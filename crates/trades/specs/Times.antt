@@ -5,7 +5,7 @@ use Rattle.words.specs.Prelude.{lt_of_mul-lt-mul_right, zero-mul, mul_comm, le_o
 use Rattle.words.specs.Prelude.{sym, ap, ◌∙◌, subst, true≢false, ltb→lt, leb→le, pow-add, pow_pos, pow-lt}
 use Rattle.words.specs.Prelude.{pow_mono, shl_lt, nan, inf, fin, binary64, fits, round, up, down, HasValue, round_exact, and_l, and_r}
 use Rattle.words.specs.Prelude.{down_pos, ltb-true, lt-ltb}
-use Rattle.floats.specs.{Floats.◌⊗◌, Floats.◌≺◌, Floats.abs, Floats.eps, Floats.one}
+use Rattle.floats.specs.{Floats.◌⊗◌, Floats.◌≺◌, Floats.abs, Floats.eps}
 use Rattle.execution.specs.{declared.level.Side.Side, declared.level.Side.TheVariants.Long, declared.level.Side.TheVariants.Short, Fills.direction}
 use Rattle.std.specs.Float.Ieee as Ieee
 use Rattle.std.specs.Float.Ieee.{unlike}

@@ -1,5 +1,5 @@
 -- Tests on the bytes that are left for rows.
-use Rattle.words.specs.Prelude.{sym, rules}
+use Rattle.words.specs.Prelude.{sym}
 use Rattle.dumpable.proofs.{Places.too_short, Places.no_rows, Places.too_wide, Places.rows_place}
 use Rattle.dumpable.proofs.judge.has_place.Goals as goal
 

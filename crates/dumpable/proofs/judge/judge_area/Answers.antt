@@ -1,5 +1,4 @@
 -- One line.
-use Rattle.words.specs.Prelude.{rules}
 use Rattle.refusals.specs.{Lines.judged}
 use Rattle.dumpable.specs.{Refused.area_lines}
 use Rattle.dumpable.proofs.judge.judge_area.Goals as goal

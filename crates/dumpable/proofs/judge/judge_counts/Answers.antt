@@ -1,5 +1,4 @@
 -- Two lines, over those of the state with its books emptied.
-use Rattle.words.specs.Prelude.{rules}
 use Rattle.refusals.specs.{Lines.judged}
 use Rattle.dumpable.specs.{Refused.dump_state_lines}
 use Rattle.dumpable.proofs.judge.judge_counts.Goals as goal

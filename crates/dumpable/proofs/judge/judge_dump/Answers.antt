@@ -1,5 +1,5 @@
 -- Room, area and settings are blocks, each judged by itself; the state comes last.
-use Rattle.words.specs.Prelude.{◌∙◌, rules}
+use Rattle.words.specs.Prelude.{◌∙◌}
 use Rattle.refusals.specs.{Laws.Lines.two_blocks}
 use Rattle.dumpable.specs.{Refused.dump_judged, Refused.dump_lines}
 use Rattle.dumpable.proofs.judge.judge_dump.Goals as goal

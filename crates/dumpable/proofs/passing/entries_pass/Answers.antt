@@ -1,5 +1,4 @@
 -- The tests, joined.
-use Rattle.words.specs.Prelude.{rules}
 use Rattle.dumpable.specs.{Laws.Passing.entries_pass}
 use Rattle.dumpable.proofs.passing.entries_pass.Goals as goal
 

@@ -1,5 +1,4 @@
 -- The two tests, joined.
-use Rattle.words.specs.Prelude.{rules}
 use Rattle.dumpable.proofs.passing.lot_passes.Goals as goal
 
 pub returns : goal.returns

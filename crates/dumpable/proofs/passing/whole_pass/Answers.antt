@@ -1,5 +1,5 @@
 -- The lengths are known; of the tests that are joined each holds where all do, and then the products are small.
-use Rattle.words.specs.Prelude.{◌≡◌, sym, ◌∙◌, ◌&&◌, le-leb, rules}
+use Rattle.words.specs.Prelude.{◌≡◌, sym, ◌∙◌, ◌&&◌, le-leb}
 use Rattle.words.specs.{Words.word}
 use Rattle.refusals.specs.{Laws.Lines.and_true}
 use Rattle.dumpable.specs.{Laws.Passing.rooms_pass, Laws.Passing.words_pass, Laws.Passing.kinds_pass_lem, Laws.Passing.counts_held}

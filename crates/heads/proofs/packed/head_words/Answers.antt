@@ -1,5 +1,5 @@
 -- The words of the state fill the array, and are packed.
-use Rattle.words.specs.Prelude.{ap, ◌∙◌, rules}
+use Rattle.words.specs.Prelude.{ap, ◌∙◌}
 use Rattle.words.specs.{Words.overwrite}
 use Rattle.records.specs.{StateWords.words_of}
 use Rattle.heads.specs.{Laws.Packed.head_words}

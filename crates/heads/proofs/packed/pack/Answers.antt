@@ -1,5 +1,5 @@
 -- Word by word.
-use Rattle.words.specs.Prelude.{refl, rules}
+use Rattle.words.specs.Prelude.{refl}
 use Rattle.images.specs.{Layout.amounts}
 use Rattle.heads.specs.{Laws.Packed.head_words}
 use Rattle.heads.proofs.packed.pack.Goals as goal

@@ -1,5 +1,5 @@
 -- Word by word, where there are all of them.
-use Rattle.words.specs.Prelude.{arith, rules}
+use Rattle.words.specs.Prelude.{arith}
 use Rattle.heads.proofs.{Made.head_made}
 use Rattle.heads.proofs.plain.direct_head.Goals as goal
 

@@ -1,5 +1,5 @@
 -- Two tests.
-use Rattle.words.specs.Prelude.{le-leb, lt-leb, eq-eqb, ne_eqb, rules}
+use Rattle.words.specs.Prelude.{le-leb, lt-leb, eq-eqb, ne_eqb}
 use Rattle.heads.proofs.plain.kind_in.Goals as goal
 
 pub returns-then-order-eq0 : goal.returns-then-order-eq0

@@ -1,5 +1,5 @@
 -- One test.
-use Rattle.words.specs.Prelude.{eq-eqb, ne_eqb, rules}
+use Rattle.words.specs.Prelude.{eq-eqb, ne_eqb}
 use Rattle.heads.proofs.plain.limit_in.Goals as goal
 
 pub returns-then-kind-eq3 : goal.returns-then-kind-eq3

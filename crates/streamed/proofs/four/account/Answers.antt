@@ -1,5 +1,5 @@
 -- One law for each way out.
-use Rattle.words.specs.Prelude.{sym, ◌∙◌, arith, rules, length}
+use Rattle.words.specs.Prelude.{sym, ◌∙◌, arith}
 use Rattle.accounts.specs.{Laws.Profile.profile_slots}
 use Rattle.streamed.proofs.{Accounting.some_of, Accounting.account_none, Accounting.account_stopped, Accounting.account_refused}
 use Rattle.streamed.proofs.{Accounting.account_rode, Accounting.account_stops, Riding.ride_within}

@@ -1,5 +1,5 @@
 -- A bar that was taken is one that can be counted.
-use Rattle.words.specs.Prelude.{◌≡◌, arith, eq-eqb, ne_eqb, rules}
+use Rattle.words.specs.Prelude.{arith, eq-eqb, ne_eqb}
 use Rattle.streamed.specs.{Accounts.stream_after}
 use Rattle.streamed.proofs.{Accounting.some_of}
 use Rattle.streamed.proofs.four.count_bars.Goals as goal

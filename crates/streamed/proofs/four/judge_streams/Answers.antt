@@ -1,5 +1,4 @@
 -- The lines, one over another.
-use Rattle.words.specs.Prelude.{rules}
 use Rattle.refusals.specs.{Lines.judged}
 use Rattle.streamed.specs.{Accounts.accounts_lines}
 use Rattle.streamed.proofs.four.judge_streams.Goals as goal

@@ -1,10 +1,9 @@
 -- Each turn steps over a bar, and what is left of the bars is stepped over from there.
-use Rattle.words.specs.Prelude.{ℕ, ◌+◌, ◌-◌, ◌*◌, ◌≤◌, refl, sym, ◌∙◌, [], arith, rules, length, length-replicate}
+use Rattle.words.specs.Prelude.{◌-◌, []}
 use Rattle.words.specs.{Limits.bar_words}
 use Rattle.records.specs.{Lent.lists}
 use Rattle.accounts.specs.{Own.own_bar}
-use Rattle.streamed.proofs.{Riding.Turn, Riding.step_lent, Riding.bar_within, Riding.record_long, Riding.calls_none, Riding.calls_all, Riding.calls_more}
-use Rattle.streamed.proofs.{Riding.calls_stop}
+use Rattle.streamed.proofs.{Riding.Turn, Riding.step_lent}
 use Rattle.streamed.proofs.four.ride.Given as goal
 
 abbrev pub invariant-loop-done : goal.invariant-loop-done

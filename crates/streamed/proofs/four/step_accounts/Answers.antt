@@ -1,5 +1,4 @@
 -- The rooms of the call, the stream, then each account by its own call.
-use Rattle.words.specs.Prelude.{rules}
 use Rattle.streamed.specs.{Accounts.given, Accounts.lent}
 use Rattle.streamed.proofs.{Accounting.accounts_short, Accounting.accounts_ran, Accounting.taken_so}
 use Rattle.streamed.proofs.four.step_accounts.Goals as goal

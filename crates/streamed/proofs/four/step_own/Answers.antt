@@ -1,5 +1,5 @@
 -- The own part of the bar, and a call of one bar.
-use Rattle.words.specs.Prelude.{◌+◌, sym, [], arith, rules, length-take-le}
+use Rattle.words.specs.Prelude.{◌+◌, sym, [], arith, length-take-le}
 use Rattle.records.specs.{Lent.rooms, Lent.lists}
 use Rattle.stepping.proofs.{Stepping.one_call}
 use Rattle.streamed.proofs.{Riding.own_call}
