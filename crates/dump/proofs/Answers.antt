@@ -3,7 +3,7 @@ use Rattle.words.specs.Prelude.{ℕ, ◌≡◌, sym, ◌∙◌, List}
 use Rattle.words.specs.{declared.refusal.Refusal.Refusal}
 use Rattle.records.specs.{declared.settings.Settings.Settings, declared.state.State.State}
 use Rattle.refusals.specs.{declared.verdict.Verdict.Verdict, declared.verdict.Verdict.TheVariants.Fine, declared.verdict.Verdict.TheVariants.Bad}
-use Rattle.images.specs.{declared.reader.Restored.TheVariants.Refused, Layout.image_of}
+use Rattle.images.specs.{Layout.image_of}
 use Rattle.images.specs.{Refused.left_by}
 use Rattle.dumpable.specs.{Refused.dump_judged, Refused.part_judged}
 use Rattle.dump.specs.{Order.written, Dumping.Dumped, Parts.PartLaid, Parts.parted_by, Parts.PartDumped}

@@ -1,5 +1,5 @@
 -- Refused, or written.
-use Rattle.words.specs.Prelude.{sym, ◌∙◌, rules}
+use Rattle.words.specs.Prelude.{sym, ◌∙◌}
 use Rattle.dumpable.specs.{Laws.Fine.dump_fine}
 use Rattle.dump.proofs.{Answers.dump_refused, Answers.dump_done}
 use Rattle.dump.proofs.dump.Goals as goal

@@ -1,5 +1,5 @@
 -- The byte of the word that it stands in.
-use Rattle.words.specs.Prelude.{ℕ, ◌%◌, sym, ap, ◌∙◌, List, get_or, rules}
+use Rattle.words.specs.Prelude.{ℕ, ◌%◌, sym, ap, ◌∙◌, List, get_or}
 use Rattle.steps.specs.{Bytes.eight}
 use Rattle.dump.specs.{Laws.WordBytes.byte_of}
 use Rattle.dump.proofs.bytes.byte_at.Goals as goal

@@ -1,5 +1,5 @@
 -- Bytes up to a whole word, whole words, and the bytes that are over.
-use Rattle.words.specs.Prelude.{◌+◌, ◌-◌, ◌*◌, ◌/◌, ◌%◌, ◌<◌, ◌≤◌, arith, rules}
+use Rattle.words.specs.Prelude.{◌+◌, ◌-◌, ◌*◌, ◌/◌, ◌%◌, ◌<◌, ◌≤◌, arith}
 use Rattle.images.specs.{Layout.words_bytes}
 use Rattle.dump.proofs.{Storing.laid_two}
 use Rattle.dump.proofs.bytes.lay.Goals as goal

@@ -1,6 +1,5 @@
-use Rattle.words.specs.Prelude.{◌-◌, ◌≤◌, ◌≡◌, refl, arith, length, length-set, rules}
+use Rattle.words.specs.Prelude.{refl, arith, length-set}
 use Rattle.images.specs.{Layout.words_bytes}
-use Rattle.dump.specs.{Laws.Laid.laid}
 use Rattle.dump.proofs.{Storing.laid_nothing, Storing.laid_next, Storing.laid_all}
 use Rattle.dump.proofs.bytes.lay_bytes.Goals as goal
 

@@ -1,8 +1,7 @@
 -- The loop's invariant: the bytes before k are laid.
-use Rattle.words.specs.Prelude.{◌-◌, ◌≤◌, ◌≡◌, refl, arith, length, length-set, rules}
+use Rattle.words.specs.Prelude.{◌-◌, ◌≤◌, ◌≡◌, length}
 use Rattle.images.specs.{Layout.words_bytes}
 use Rattle.dump.specs.{Laws.Laid.laid}
-use Rattle.dump.proofs.{Storing.laid_nothing, Storing.laid_next, Storing.laid_all}
 use Rattle.dump.proofs.bytes.lay_bytes.Given as goal
 
 abbrev pub invariant-loop-k : goal.invariant-loop-k

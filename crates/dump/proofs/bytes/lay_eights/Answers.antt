@@ -1,6 +1,5 @@
-use Rattle.words.specs.Prelude.{◌-◌, ◌*◌, ◌≤◌, ◌≡◌, refl, ap, ◌∙◌, arith, length, rules}
-use Rattle.images.specs.{Layout.words_bytes}
-use Rattle.dump.specs.{Laws.Laid.laid, Laws.Laid.laid-length}
+use Rattle.words.specs.Prelude.{refl, ap, ◌∙◌, arith, length}
+use Rattle.dump.specs.{Laws.Laid.laid-length}
 use Rattle.dump.proofs.{Storing.words_nothing, Storing.eight_next}
 use Rattle.dump.proofs.bytes.lay_eights.Goals as goal
 

@@ -1,5 +1,4 @@
 -- Four words, one after another.
-use Rattle.words.specs.Prelude.{rules}
 use Rattle.dump.proofs.{Storing.four_words}
 use Rattle.dump.proofs.bytes.lay_four.Goals as goal
 

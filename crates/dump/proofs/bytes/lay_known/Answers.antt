@@ -1,6 +1,6 @@
-use Rattle.words.specs.Prelude.{◌-◌, ◌*◌, ◌≤◌, ◌≡◌, refl, ap, ◌∙◌, arith, length, rules}
+use Rattle.words.specs.Prelude.{◌-◌, ◌*◌, refl, ap, ◌∙◌, arith, length}
 use Rattle.images.specs.{Layout.words_bytes}
-use Rattle.dump.specs.{Laws.Laid.laid, Laws.Laid.laid-length}
+use Rattle.dump.specs.{Laws.Laid.laid-length}
 use Rattle.dump.proofs.{Storing.words_nothing, Storing.word_next, Storing.words_all, Storing.laid_two}
 use Rattle.dump.proofs.bytes.lay_known.Goals as goal
 

@@ -1,8 +1,7 @@
 -- Eights first. The loop's invariant: from where they end, the words before k are laid.
-use Rattle.words.specs.Prelude.{◌-◌, ◌*◌, ◌≤◌, ◌≡◌, refl, ap, ◌∙◌, arith, length, rules}
+use Rattle.words.specs.Prelude.{◌-◌, ◌*◌, ◌≤◌, ◌≡◌, length}
 use Rattle.images.specs.{Layout.words_bytes}
-use Rattle.dump.specs.{Laws.Laid.laid, Laws.Laid.laid-length}
-use Rattle.dump.proofs.{Storing.words_nothing, Storing.word_next, Storing.words_all, Storing.laid_two}
+use Rattle.dump.specs.{Laws.Laid.laid}
 use Rattle.dump.proofs.bytes.lay_known.Given as goal
 
 abbrev pub invariant-loop-k : goal.invariant-loop-k

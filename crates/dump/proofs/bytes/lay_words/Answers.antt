@@ -1,5 +1,5 @@
 -- Words that there are, then zeros.
-use Rattle.words.specs.Prelude.{ℕ, ◌-◌, ◌*◌, ap, ◌∙◌, arith, length, rules}
+use Rattle.words.specs.Prelude.{ℕ, ◌-◌, ◌*◌, ap, ◌∙◌, arith, length}
 use Rattle.images.specs.{Layout.words_bytes}
 use Rattle.dump.specs.{Laws.Laid.laid}
 use Rattle.dump.proofs.{Storing.laid_two}

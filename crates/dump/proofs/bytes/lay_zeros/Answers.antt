@@ -1,6 +1,6 @@
-use Rattle.words.specs.Prelude.{◌-◌, ◌≤◌, ◌≡◌, refl, sym, arith, length, length-set, List·get_or-eq_default, rules}
+use Rattle.words.specs.Prelude.{◌≤◌, refl, sym, arith, length, length-set, List·get_or-eq_default}
 use Rattle.images.specs.{Layout.words_bytes}
-use Rattle.dump.specs.{Laws.Laid.laid, Laws.WordBytes.words_long}
+use Rattle.dump.specs.{Laws.WordBytes.words_long}
 use Rattle.dump.proofs.{Storing.laid_nothing, Storing.laid_next, Storing.laid_all}
 use Rattle.dump.proofs.bytes.lay_zeros.Goals as goal
 

@@ -1,8 +1,7 @@
 -- The loop's invariant: the bytes before k are laid. All of them are past the words' end.
-use Rattle.words.specs.Prelude.{◌-◌, ◌≤◌, ◌≡◌, refl, sym, arith, length, length-set, List·get_or-eq_default, rules}
+use Rattle.words.specs.Prelude.{◌-◌, ◌≤◌, ◌≡◌, length}
 use Rattle.images.specs.{Layout.words_bytes}
-use Rattle.dump.specs.{Laws.Laid.laid, Laws.WordBytes.words_long}
-use Rattle.dump.proofs.{Storing.laid_nothing, Storing.laid_next, Storing.laid_all}
+use Rattle.dump.specs.{Laws.Laid.laid}
 use Rattle.dump.proofs.bytes.lay_zeros.Given as goal
 
 abbrev pub invariant-loop-k : goal.invariant-loop-k

@@ -1,5 +1,5 @@
 -- Eight stores.
-use Rattle.words.specs.Prelude.{ap, ◌∙◌, List, ℕ, arith, length-set, rules}
+use Rattle.words.specs.Prelude.{ap, ◌∙◌, List, ℕ, arith, length-set}
 use Rattle.dump.specs.{Laws.Laid.laid}
 use Rattle.dump.proofs.{Storing.eight_sets}
 use Rattle.dump.proofs.bytes.put_word.Goals as goal

@@ -1,5 +1,5 @@
 -- Words that pass are written; else nothing is.
-use Rattle.words.specs.Prelude.{refl, sym, ◌∙◌, rules}
+use Rattle.words.specs.Prelude.{refl, sym, ◌∙◌}
 use Rattle.dumpable.specs.{Laws.Passing.words_fine}
 use Rattle.dump.proofs.direct.dump_words.Goals as goal
 

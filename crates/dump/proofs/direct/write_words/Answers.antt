@@ -1,5 +1,5 @@
 -- The window, its header, and both in the order of writing.
-use Rattle.words.specs.Prelude.{sym, ap, ◌∙◌, arith, rules}
+use Rattle.words.specs.Prelude.{sym, ap, ◌∙◌, arith}
 use Rattle.records.specs.{Settings.settings_of, StateWords.counts_of, StateWords.state_of}
 use Rattle.images.specs.{Layout.dump_bytes, Layout.window_of}
 use Rattle.dumpable.specs.{Laws.Fine.dump_fine}

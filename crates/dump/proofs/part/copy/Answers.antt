@@ -1,5 +1,5 @@
 -- Bytes up to a whole word, and what follows it.
-use Rattle.words.specs.Prelude.{◌+◌, ◌-◌, ◌*◌, ◌/◌, ◌%◌, ◌<◌, arith, rules}
+use Rattle.words.specs.Prelude.{◌+◌, ◌-◌, ◌*◌, ◌/◌, ◌%◌, ◌<◌, arith}
 use Rattle.dump.specs.{Laws.Placed.laid_from}
 use Rattle.dump.proofs.part.copy.Goals as goal
 

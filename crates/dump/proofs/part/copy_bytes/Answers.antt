@@ -1,6 +1,6 @@
-use Rattle.words.specs.Prelude.{◌-◌, ◌≤◌, ◌≡◌, refl, arith, length, drop, length-set, rules}
+use Rattle.words.specs.Prelude.{◌≡◌, refl, arith, drop, length-set}
 use Rattle.images.specs.{Layout.words_bytes}
-use Rattle.dump.specs.{Laws.Laid.laid, Laws.Laid.laid_none}
+use Rattle.dump.specs.{Laws.Laid.laid_none}
 use Rattle.dump.proofs.{Storing.copied_next}
 use Rattle.dump.proofs.part.copy_bytes.Goals as goal
 

@@ -1,8 +1,7 @@
 -- The loop's invariant: k bytes are laid.
-use Rattle.words.specs.Prelude.{◌-◌, ◌≤◌, ◌≡◌, refl, arith, length, drop, length-set, rules}
+use Rattle.words.specs.Prelude.{◌-◌, ◌≤◌, ◌≡◌, length, drop}
 use Rattle.images.specs.{Layout.words_bytes}
-use Rattle.dump.specs.{Laws.Laid.laid, Laws.Laid.laid_none}
-use Rattle.dump.proofs.{Storing.copied_next}
+use Rattle.dump.specs.{Laws.Laid.laid}
 use Rattle.dump.proofs.part.copy_bytes.Given as goal
 
 abbrev pub invariant-loop-k : goal.invariant-loop-k

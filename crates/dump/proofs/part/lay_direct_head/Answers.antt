@@ -1,5 +1,5 @@
 -- None of the header, or its share.
-use Rattle.words.specs.Prelude.{ap, ◌∙◌, List, ℕ, rules}
+use Rattle.words.specs.Prelude.{ap, ◌∙◌, List, ℕ}
 use Rattle.dump.specs.{Laws.Placed.head_laid, Laws.Placed.no_head}
 use Rattle.dump.proofs.part.lay_direct_head.Goals as goal
 

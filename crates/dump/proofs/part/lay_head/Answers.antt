@@ -1,5 +1,5 @@
 -- As many bytes as are the header's.
-use Rattle.words.specs.Prelude.{ℕ, ap, ◌∙◌, drop, rules}
+use Rattle.words.specs.Prelude.{ℕ, ap, ◌∙◌, drop}
 use Rattle.images.specs.{Layout.words_bytes}
 use Rattle.dump.specs.{Laws.Laid.laid}
 use Rattle.dump.proofs.part.lay_head.Goals as goal

@@ -1,5 +1,5 @@
 -- Refused, or written.
-use Rattle.words.specs.Prelude.{sym, ◌∙◌, rules}
+use Rattle.words.specs.Prelude.{sym, ◌∙◌}
 use Rattle.dumpable.specs.{Laws.Fine.part_fine}
 use Rattle.dump.proofs.{Answers.part_refused, Answers.part_done}
 use Rattle.dump.proofs.part.part.Goals as goal

@@ -1,5 +1,5 @@
 -- Words that pass are written; else nothing is.
-use Rattle.words.specs.Prelude.{refl, sym, ◌∙◌, rules}
+use Rattle.words.specs.Prelude.{refl, sym, ◌∙◌}
 use Rattle.dump.specs.{Laws.WordsFit.words_fit}
 use Rattle.dump.proofs.part.part_words.Goals as goal
 

@@ -1,5 +1,5 @@
 -- D rows of the widest are few bytes.
-use Rattle.words.specs.Prelude.{ℕ, ◌+◌, ◌-◌, min, ap, ◌∙◌, arith, rules}
+use Rattle.words.specs.Prelude.{ℕ, ◌+◌, ◌-◌, min, ap, ◌∙◌, arith}
 use Rattle.images.specs.{Layout.dump_bytes}
 use Rattle.dump.proofs.{Whole.few_bytes}
 use Rattle.dump.proofs.part.used_of.Goals as goal

@@ -1,5 +1,5 @@
 -- From the end on nothing is left, and so it is from any place past it.
-use Rattle.words.specs.Prelude.{◌-◌, sym, ap, ◌∙◌, le_refl, length, take, drop, length-drop, drop_of_length-le, drop-length, take_all, rules}
+use Rattle.words.specs.Prelude.{◌-◌, sym, ap, ◌∙◌, le_refl, length, take, drop, length-drop, drop_of_length-le, drop-length, take_all}
 use lib.Seq.{take-nil}
 use Rattle.dump.proofs.part.words_from.Goals as goal
 

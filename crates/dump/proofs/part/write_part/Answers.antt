@@ -1,5 +1,5 @@
 -- How many bytes there are; where there are some, the window, its header, and the share of both.
-use Rattle.words.specs.Prelude.{arith, rules}
+use Rattle.words.specs.Prelude.{arith}
 use Rattle.images.specs.{Layout.window_of}
 use Rattle.dump.proofs.{Whole.parted_none, Whole.parted}
 use Rattle.dump.proofs.part.write_part.Goals as goal

@@ -1,5 +1,5 @@
 -- How many bytes there are; where there are some, the window, and the share of its header and of its rows.
-use Rattle.words.specs.Prelude.{sym, ap, arith, rules}
+use Rattle.words.specs.Prelude.{sym, ap, arith}
 use Rattle.records.specs.{Settings.settings_of, StateWords.counts_of, StateWords.state_of}
 use Rattle.images.specs.{Layout.window_of}
 use Rattle.heads.specs.{Laws.Packed.head_words, Laws.Plain.plain_words_lem}

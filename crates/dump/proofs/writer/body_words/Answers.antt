@@ -1,5 +1,5 @@
 -- The product is small; eight times it is that of eight times the width.
-use Rattle.words.specs.Prelude.{ℕ, ◌+◌, ◌*◌, sym, ap, ◌∙◌, mul_assoc, mul_comm, arith, rules}
+use Rattle.words.specs.Prelude.{ℕ, ◌+◌, ◌*◌, sym, ap, ◌∙◌, mul_assoc, mul_comm, arith}
 use Rattle.rows.specs.{Laws.RowEnds.rows_most}
 use Rattle.dump.proofs.writer.body_words.Goals as goal
 

@@ -1,5 +1,5 @@
 -- The rows held lie within the room.
-use Rattle.words.specs.Prelude.{◌+◌, ◌*◌, sym, arith, length-take-le, rules}
+use Rattle.words.specs.Prelude.{◌+◌, ◌*◌, sym, arith, length-take-le}
 use Rattle.words.specs.{Laws.Records.records_fit}
 use Rattle.engine.specs.{Record.held_rows}
 use Rattle.dump.proofs.writer.held_window.Goals as goal

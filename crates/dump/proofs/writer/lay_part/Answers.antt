@@ -1,5 +1,4 @@
 -- The bytes between the two places.
-use Rattle.words.specs.Prelude.{rules}
 use Rattle.dump.proofs.{Storing.part_laid_lem}
 use Rattle.dump.proofs.writer.lay_part.Goals as goal
 

@@ -1,5 +1,5 @@
 -- The window, its header, and both in the order of writing.
-use Rattle.words.specs.Prelude.{arith, rules}
+use Rattle.words.specs.Prelude.{arith}
 use Rattle.images.specs.{Layout.dump_bytes, Layout.window_of}
 use Rattle.dump.proofs.{Whole.dumped}
 use Rattle.dump.proofs.writer.write_dump.Goals as goal

@@ -1,5 +1,5 @@
 -- All of it, or in parts.
-use Rattle.words.specs.Prelude.{◌*◌, ◌∙◌, rules}
+use Rattle.words.specs.Prelude.{◌*◌, ◌∙◌}
 use Rattle.dump.specs.{Laws.InOrder.in_order_whole}
 use Rattle.dump.proofs.writer.write_order.Goals as goal
 

@@ -1,5 +1,4 @@
 -- Part after part.
-use Rattle.words.specs.Prelude.{rules}
 use Rattle.dump.specs.{Laws.InOrder.in_order}
 use Rattle.dump.proofs.writer.write_parts.Goals as goal
 

@@ -1,5 +1,4 @@
 -- The rows, the header's other words, the word with the mark.
-use Rattle.words.specs.Prelude.{rules}
 use Rattle.dump.proofs.{Storing.whole_laid_lem}
 use Rattle.dump.proofs.writer.write_whole.Goals as goal
 
