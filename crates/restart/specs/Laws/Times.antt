@@ -1,5 +1,5 @@
 -- The time of the last entry and the delay of an order stay below 2^64, where the bar's time and the delay setting are.
-use Rattle.std.specs.Prelude.{ℕ, ◌-◌, ◌<◌, Bool, true, false, cond, List, Float}
+use Rattle.std.specs.Prelude.{ℕ, ◌<◌, Bool, true, false, cond, List, Float}
 use Rattle.words.specs.Prelude.{arith}
 use Rattle.floats.specs.{Floats.◌⊗◌, Floats.◌≺◌, Floats.eps}
 use Rattle.rows.specs.{History.History}
@@ -20,7 +20,6 @@ use Rattle.engine.specs.{declared.account.Due.TheVariants.Leaves, Account.leavin
 use Rattle.engine.specs.{Account.done_of, Account.filled, Account.intrabar, Account.charged, Decide.Answers, Decide.order_after, Decide.decided, Step.stepped}
 use Rattle.runs.specs.{Laws.Exits.LeftWith, Laws.Exits.left, Laws.Exits.executed_leaves, Laws.Exits.inside_leaves}
 use Rattle.runs.specs.{Laws.Orders.filled_keeps, Laws.Orders.ordered_keeps, Laws.Orders.decided_keeps}
-use Rattle.execution.specs.declared.lots.Quantity.TheVariants as Quantity
 use Rattle.engine.specs.Account as Account
 
 -- what a 64-bit word holds
