@@ -1,5 +1,5 @@
 -- What a comparison answers and leaves, by its answer: one law for each way out.
-use Rattle.words.specs.Prelude.{ℕ, ◌*◌, ◌≡◌, refl, sym, ap, ◌∙◌, Bool, true, false, cond, ◌&&◌, List, arith, leb, length}
+use Rattle.words.specs.Prelude.{ℕ, ◌*◌, ◌≡◌, sym, ap, ◌∙◌, Bool, true, false, cond, ◌&&◌, List, arith, leb, length}
 use Rattle.words.specs.{declared.refusal.Refusal.Refusal, Words.overwrite}
 use Rattle.differences.specs.{declared.compare.Compared.Compared, declared.compare.Compared.TheVariants.Lines, declared.compare.Compared.TheVariants.Refused}
 use Rattle.differences.specs.{Lines.line_words, Lines.differences, Lines.words_of, Compared.Comparison, Compared.compared, Compared.written, Compared.whole}

@@ -1,5 +1,5 @@
 -- A call that keeps totals, by what the crate below answers and leaves. Assumes nothing.
-use Rattle.words.specs.Prelude.{ℕ, ◌≡◌, refl, sym, ap, ◌∙◌, List}
+use Rattle.words.specs.Prelude.{ℕ, ◌≡◌, List}
 use Rattle.words.specs.{declared.refusal.Refusal.Refusal}
 use Rattle.totals.specs.{declared.Answer.Answer, declared.Answer.TheVariants.Done, declared.Answer.TheVariants.Refused, Totals.left}
 use Rattle.replies.specs.{Call.answer_word, Call.call_of}

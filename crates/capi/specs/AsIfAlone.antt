@@ -1,7 +1,7 @@
 -- Request 14: "An account's results must be those it would have alone on the accepted bars and its own slots, whatever the others' tables say. An account that
 -- refuses a bar is stopped at it, with number and place, while the others go on; a bar refused with 11 changes and stops none."
-use Rattle.std.specs.Prelude.{ℕ, ◌+◌, ◌/◌, ◌%◌, ◌^◌, ◌≤◌, ◌≡◌, refl, Bool, true, false, not, cond, List, [], ◌∷◌, eqb, length}
-use Rattle.words.specs.Prelude.{sym, ap, ◌∙◌, arith, eq-eqb, ne_eqb}
+use Rattle.std.specs.Prelude.{ℕ, ◌+◌, ◌/◌, ◌%◌, ◌^◌, ◌≡◌, refl, List, [], ◌∷◌}
+use Rattle.words.specs.Prelude.{arith, eq-eqb, ne_eqb}
 use Rattle.words.specs.{declared.refusal.Refusal.Refusal, Limits.bar_words, Words.word}
 use Rattle.records.specs.{Settings.settings_of}
 use Rattle.refusals.specs.{declared.verdict.Verdict.Verdict, declared.verdict.Verdict.TheVariants.Fine, declared.verdict.Verdict.TheVariants.Bad}

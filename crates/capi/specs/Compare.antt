@@ -3,7 +3,6 @@ use Rattle.std.specs.Prelude.{ℕ, List}
 use Rattle.words.specs.{Outcome.Outcome, Outcome.gives, Outcome.refuses}
 use Rattle.differences.specs.{declared.compare.Compared.Compared, Compared.compared}
 use Rattle.replies.specs.{Call.Call, Call.call_of}
-use Rattle.differences.specs.declared.compare.Compared.TheVariants as Compared
 
 -- lent: the buffer of the lines, and the word that says how many there are
 pub record LineRooms : Type 0 where

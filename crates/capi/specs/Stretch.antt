@@ -1,10 +1,8 @@
 -- The calls for the high and the low of a stretch (request 10). Definitions only.
 use Rattle.std.specs.Prelude.{ℕ, List}
 use Rattle.words.specs.{Outcome.Outcome, Outcome.gives, Outcome.refuses}
-use Rattle.blocks.specs.{declared.append.Added.Added, declared.best.Best.Best, declared.stretch.Found.Found, Append.Append, Append.appended, Stretch.stretched}
+use Rattle.blocks.specs.{declared.append.Added.Added, declared.best.Best.Best, declared.stretch.Found.Found, Append.appended, Stretch.stretched}
 use Rattle.replies.specs.{Call.Call, Call.call_of}
-use Rattle.blocks.specs.declared.append.Added.TheVariants as Added
-use Rattle.blocks.specs.declared.stretch.Found.TheVariants as Found
 
 -- ---- an append; lent: how many bars are held, their closes and their blocks
 

@@ -1,15 +1,14 @@
 -- Request 10 in the words of the C calls: rooms filled from empty by ysh_append, each answered 0, and any ysh_stretch over bars that they hold.
-use Rattle.std.specs.Prelude.{ℕ, ◌+◌, ◌-◌, ◌<◌, ◌≤◌, ◌≡◌, refl, List, [], ◌∷◌, ◌++◌}
+use Rattle.std.specs.Prelude.{ℕ, ◌+◌, ◌-◌, ◌<◌, ◌≤◌, ◌≡◌, List, [], ◌∷◌, ◌++◌}
 use Rattle.words.specs.Prelude.{sym, ap, subst, ◌∙◌, arith}
 use Rattle.words.specs.{Outcome.gives}
 use Rattle.blocks.specs.{declared.append.Added.Added, declared.append.Added.TheVariants.Held, declared.append.Added.TheVariants.Refused}
 use Rattle.blocks.specs.{declared.best.Best.Best, declared.stretch.Found.Found, Append.Append, Append.appended, Reading.reading, Reading.HighAndLow}
 use Rattle.blocks.specs.{Stretch.stretched, Laws.Append.appended_has, Laws.Append.is_taken, StretchIsReading.Filled, StretchIsReading.empty}
-use Rattle.blocks.specs.{StretchIsReading.then, StretchIsReading.IsReading, StretchIsReading.stretch_is_reading}
+use Rattle.blocks.specs.{StretchIsReading.then, StretchIsReading.stretch_is_reading}
 use Rattle.replies.specs.{Call.Call, Call.call_of}
 use Rattle.capi.specs.{Stretch.BlockRooms, Stretch.append_gives, Stretch.append_call, Stretch.stretch_gives, Stretch.stretch_call}
 use Rattle.capi.specs.{Laws.StretchCalls.append_honest}
-use Rattle.blocks.specs.declared.stretch.Found.TheVariants as Found
 
 -- closes appended one after another, each call answered 0, to rooms with no bar held and any words
 pub data Appended : List ℕ → BlockRooms → Type 0 where

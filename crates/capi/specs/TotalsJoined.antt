@@ -2,10 +2,10 @@
 use Rattle.std.specs.Prelude.{ℕ, ◌≤◌, ◌≡◌, refl, List, length, replicate}
 use Rattle.words.specs.Prelude.{ap, ◌∙◌}
 use Rattle.words.specs.{Limits.most_count}
-use Rattle.totals.specs.{declared.Answer.Answer, declared.Answer.TheVariants.Done, declared.Answer.TheVariants.Refused, Totals.total_words, Totals.add_answer}
+use Rattle.totals.specs.{declared.Answer.Answer, declared.Answer.TheVariants.Done, Totals.total_words, Totals.add_answer}
 use Rattle.totals.specs.{Totals.add_leaves, Totals.join_answer, Totals.join_leaves, Ways.Way, Ways.begin, Ways.add, Ways.join, Ways.made, Ways.AllDone}
 use Rattle.totals.specs.{Ways.trades_in, Ways.WholeLists, Ways.totals_of, Laws.Trades.Acceptable, ExactTotals.exact_totals}
-use Rattle.replies.specs.{Call.Call, Call.call_of}
+use Rattle.replies.specs.{Call.call_of}
 use Rattle.capi.specs.{Totals.totals_gives, Totals.totals_call, Totals.join_call}
 
 -- the words that the calls of a way leave, begun with 43 zeros

@@ -12,7 +12,7 @@ use Rattle.dumpable.specs.{Refused.area_lines, Refused.dump_state_lines, Refused
 use Rattle.dumpable.specs.{Laws.Fine.dump_fine, Laws.Fine.fine_part}
 use Rattle.dump.specs.{Order.written, Parts.bytes_from, Laws.Parts.in_parts, Laws.Parts.total, Laws.Parts.parts_are_whole}
 use Rattle.dump.specs.{Laws.Parts.size_of, Laws.Parts.whole_written}
-use Rattle.replies.specs.{Call.Call, Call.call_of, Call.unless_bad}
+use Rattle.replies.specs.{Call.call_of, Call.unless_bad}
 use Rattle.stepping.specs.{Bars.lent_lines}
 use Rattle.capi.specs.{Power.dump_gives, Power.dump_call, Part.PartLent, Part.part_gives, Part.filled_with, Part.part_call, Laws.Calls.FitsAnswer}
 use Rattle.capi.specs.{Laws.Calls.Numbered, Laws.Calls.Honest, Laws.Calls.honest, Laws.Calls.never_refuses, Laws.Calls.one_refusal}

@@ -1,7 +1,7 @@
 -- ysh_append and ysh_stretch: each of their refusals has a number and a place that an answer can hold, so the law over calls holds of them.
 use Rattle.std.specs.Prelude.{ℕ, ◌<◌, ◌≡◌, refl, Bool, true, false, cond, ◌&&◌, List, ltb, length}
 use Rattle.words.specs.Prelude.{arith, ltb-true}
-use Rattle.words.specs.{Limits.most_count, Outcome.refusal}
+use Rattle.words.specs.{Limits.most_count}
 use Rattle.floats.specs.{Floats.float_of, Floats.finite}
 use Rattle.blocks.specs.{declared.best.Best.Best, Append.Append, Append.appended, Append.kept, Append.unchanged, Append.refused, Append.place_for_block}
 use Rattle.blocks.specs.{Reads.reads, Reads.told}

@@ -1,11 +1,11 @@
 -- ysh_totals and ysh_totals_join: each of their refusals has a number and a place that an answer can hold, so the law over calls holds of both.
 use Rattle.std.specs.Prelude.{ℕ, suc, ◌+◌, ◌/◌, ◌%◌, ◌^◌, ◌<◌, ◌≤◌, ◌≡◌, refl, Bool, true, false, cond, List, [], ◌∷◌, leb, eqb, length}
-use Rattle.words.specs.Prelude.{sym, ap, arith, leb-true, leb-false}
+use Rattle.words.specs.Prelude.{arith, leb-true}
 use Rattle.words.specs.{Limits.trade_words, Limits.most_count}
 use Rattle.totals.specs.{declared.Answer.TheVariants.Done, Trades.Trade, Trades.acceptable, Trades.trades_from, Trades.good_start, Trades.judged_count}
 use Rattle.totals.specs.{Totals.unless, Totals.total_words, Totals.counts_of, Totals.traded, Totals.counts_fine, Totals.add_answer, Totals.add_leaves}
 use Rattle.totals.specs.{Totals.join_answer, Totals.join_leaves, Laws.Trades.length_trades}
-use Rattle.capi.specs.{Totals.totals_gives, Totals.totals_call, Totals.join_call, Laws.Calls.FitsAnswer, Laws.Calls.Numbered, Laws.Calls.Honest}
+use Rattle.capi.specs.{Totals.totals_gives, Totals.totals_call, Totals.join_call, Laws.Calls.Numbered, Laws.Calls.Honest}
 use Rattle.capi.specs.{Laws.Calls.honest, Laws.Calls.one_refusal, Laws.Calls.never_refuses}
 
 -- ---- a trade's number

@@ -1,5 +1,5 @@
 -- The rooms are judged, then the run is ended on what the words mean: one law for each way out.
-use Rattle.words.specs.Prelude.{◌∙◌, rules}
+use Rattle.words.specs.Prelude.{◌∙◌}
 use Rattle.refusals.specs.{Laws.Lines.two_blocks}
 use Rattle.capi.proofs.{Finishing.finish_short, Finishing.finish_refused, Finishing.finish_done}
 use Rattle.capi.proofs.bars.ysh_finish.Goals as goal

@@ -1,5 +1,4 @@
 -- A call of one bar. Assumes nothing.
-use Rattle.words.specs.Prelude.{rules}
 use Rattle.stepping.proofs.{Stepping.one_call}
 use Rattle.capi.proofs.bars.ysh_step.Goals as goal
 

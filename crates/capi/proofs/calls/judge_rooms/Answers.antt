@@ -1,5 +1,5 @@
 -- Two blocks, each judged by itself.
-use Rattle.words.specs.Prelude.{◌∙◌, rules}
+use Rattle.words.specs.Prelude.{◌∙◌}
 use Rattle.refusals.specs.{Laws.Lines.two_blocks}
 use Rattle.stepping.specs.{Bars.lent_lines}
 use Rattle.capi.proofs.calls.judge_rooms.Goals as goal

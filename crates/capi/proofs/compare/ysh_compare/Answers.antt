@@ -1,5 +1,4 @@
 -- By the comparison's answer: a refusal keeps the lines and their count, and else both are told.
-use Rattle.words.specs.Prelude.{rules}
 use Rattle.capi.proofs.{Comparing.compare_refused, Comparing.compare_told}
 use Rattle.capi.proofs.compare.ysh_compare.Goals as goal
 

@@ -1,5 +1,4 @@
 -- `put` writes the words of the metrics.
-use Rattle.words.specs.Prelude.{rules}
 use Rattle.capi.proofs.figures.put_metrics.Goals as goal
 
 pub returns : goal.returns

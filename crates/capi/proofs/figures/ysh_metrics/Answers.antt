@@ -1,5 +1,5 @@
 -- The room is judged, then the metrics are computed and written.
-use Rattle.words.specs.Prelude.{sym, ap, ◌∙◌, rules}
+use Rattle.words.specs.Prelude.{sym, ap, ◌∙◌}
 use Rattle.metrics.specs.{Figures.outcome}
 use Rattle.capi.specs.{Figures.metrics_call, Figures.metrics_gives}
 use Rattle.capi.proofs.{Calling.call_bad, Calling.call_refused, Calling.call_gives}

@@ -1,5 +1,4 @@
 -- Each call is one function of the definition.
-use Rattle.words.specs.Prelude.{rules}
 use Rattle.capi.proofs.figures.ysh_root.Goals as goal
 
 pub returns : goal.returns

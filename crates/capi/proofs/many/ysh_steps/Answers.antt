@@ -1,5 +1,4 @@
 -- A call of many bars. Assumes nothing.
-use Rattle.words.specs.Prelude.{rules}
 use Rattle.capi.proofs.many.ysh_steps.Goals as goal
 
 pub returns : goal.returns

@@ -1,5 +1,5 @@
 -- The rooms are judged, then the part of what the words mean is written: one law for each way out.
-use Rattle.words.specs.Prelude.{sym, ◌∙◌, rules}
+use Rattle.words.specs.Prelude.{sym, ◌∙◌}
 use Rattle.capi.proofs.{Parting.part_short, Parting.part_refused, Parting.part_done}
 use Rattle.capi.proofs.part.part_judged.Goals as goal
 

@@ -1,5 +1,4 @@
 -- Words that pass have their part written at once; else part and count are as they were, and the lines decide.
-use Rattle.words.specs.Prelude.{rules}
 use Rattle.capi.proofs.{Parting.part_passed, Parting.part_kept}
 use Rattle.capi.proofs.part.ysh_dump_part.Goals as goal
 

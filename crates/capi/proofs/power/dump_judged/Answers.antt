@@ -1,5 +1,5 @@
 -- The rooms are judged, then the dump of what the words mean is made: one law for each way out.
-use Rattle.words.specs.Prelude.{sym, ◌∙◌, rules}
+use Rattle.words.specs.Prelude.{sym, ◌∙◌}
 use Rattle.capi.proofs.{Powering.dump_short, Powering.dump_refused, Powering.dump_done}
 use Rattle.capi.proofs.power.dump_judged.Goals as goal
 

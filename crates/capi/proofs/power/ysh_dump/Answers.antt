@@ -1,5 +1,4 @@
 -- Words that pass are dumped at once; else the area is as it was, and the lines decide.
-use Rattle.words.specs.Prelude.{rules}
 use Rattle.capi.proofs.{Powering.dump_passed, Powering.dump_kept}
 use Rattle.capi.proofs.power.ysh_dump.Goals as goal
 

@@ -1,5 +1,5 @@
 -- The rooms are judged, then the restore is made: one law for each way out.
-use Rattle.words.specs.Prelude.{sym, ◌∙◌, rules}
+use Rattle.words.specs.Prelude.{sym, ◌∙◌}
 use Rattle.capi.proofs.{Powering.restore_short, Powering.restore_refused, Powering.restore_done}
 use Rattle.capi.proofs.power.ysh_restore.Goals as goal
 

@@ -1,5 +1,5 @@
 -- The definition goes by the same answer; a refusal leaves the totals as they were. Assumes nothing.
-use Rattle.words.specs.Prelude.{sym, ◌∙◌, rules}
+use Rattle.words.specs.Prelude.{sym, ◌∙◌}
 use Rattle.totals.specs.{Totals.add_leaves}
 use Rattle.capi.specs.{Totals.totals_call}
 use Rattle.capi.proofs.{Totalling.totals_refuse, Totalling.totals_do}

@@ -1,5 +1,5 @@
 -- The definition goes by the same answer of the rule.
-use Rattle.words.specs.Prelude.{sym, ◌∙◌, rules}
+use Rattle.words.specs.Prelude.{sym, ◌∙◌}
 use Rattle.capi.specs.{Run.rule_call, Run.rule_gives}
 use Rattle.capi.proofs.{Calling.call_refuses, Calling.call_does}
 use Rattle.capi.proofs.run.ysh_rule.Goals as goal

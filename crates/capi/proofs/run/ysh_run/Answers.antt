@@ -1,5 +1,5 @@
 -- The definition goes by the same answer of the run.
-use Rattle.words.specs.Prelude.{sym, ◌∙◌, rules}
+use Rattle.words.specs.Prelude.{sym, ◌∙◌}
 use Rattle.capi.specs.{Run.run_call, Run.run_gives}
 use Rattle.capi.proofs.{Calling.call_refuses, Calling.call_does}
 use Rattle.capi.proofs.run.ysh_run.Goals as goal

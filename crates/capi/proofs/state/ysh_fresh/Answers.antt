@@ -1,5 +1,5 @@
 -- The rooms are judged, then the fresh state is written.
-use Rattle.words.specs.Prelude.{sym, ◌∙◌, rules}
+use Rattle.words.specs.Prelude.{sym, ◌∙◌}
 use Rattle.capi.specs.{Fresh.fresh_call}
 use Rattle.capi.proofs.{Calling.call_bad, Calling.call_gives}
 use Rattle.capi.proofs.state.ysh_fresh.Goals as goal

@@ -1,5 +1,4 @@
 -- By the append's answer: a refusal keeps the rooms, and else a bar more is held.
-use Rattle.words.specs.Prelude.{rules}
 use Rattle.capi.proofs.{Stretching.append_refused, Stretching.append_taken}
 use Rattle.capi.proofs.stretch.ysh_append.Goals as goal
 

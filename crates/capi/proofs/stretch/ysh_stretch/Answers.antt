@@ -1,5 +1,5 @@
 -- The definition goes by the same answer of the question.
-use Rattle.words.specs.Prelude.{sym, ◌∙◌, rules}
+use Rattle.words.specs.Prelude.{sym, ◌∙◌}
 use Rattle.capi.specs.{Stretch.stretch_call, Stretch.stretch_gives}
 use Rattle.capi.proofs.{Calling.call_refuses, Calling.call_does}
 use Rattle.capi.proofs.stretch.ysh_stretch.Goals as goal

@@ -1,5 +1,5 @@
 -- The definition goes by the same answer of the check.
-use Rattle.words.specs.Prelude.{sym, ◌∙◌, rules}
+use Rattle.words.specs.Prelude.{sym, ◌∙◌}
 use Rattle.capi.specs.{Tables.check_call, Tables.check_gives}
 use Rattle.capi.proofs.{Calling.call_refuses, Calling.call_does}
 use Rattle.capi.proofs.tables.ysh_check.Goals as goal

@@ -1,5 +1,5 @@
 -- The definition goes by the same answer.
-use Rattle.words.specs.Prelude.{sym, ◌∙◌, rules}
+use Rattle.words.specs.Prelude.{sym, ◌∙◌}
 use Rattle.capi.specs.{Tables.depth_call, Tables.depth_gives}
 use Rattle.capi.proofs.{Calling.call_refuses, Calling.call_does}
 use Rattle.capi.proofs.tables.ysh_depth.Goals as goal

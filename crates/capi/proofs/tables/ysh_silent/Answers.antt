@@ -1,5 +1,5 @@
 -- The definition goes by the same answer of the table's list; a refusal leaves the list as it was.
-use Rattle.words.specs.Prelude.{sym, ◌∙◌, rules}
+use Rattle.words.specs.Prelude.{sym, ◌∙◌}
 use Rattle.table.specs.{Silent.list_after_answer}
 use Rattle.capi.specs.{Tables.silent_call, Tables.silent_gives}
 use Rattle.capi.proofs.{Calling.call_refuses, Calling.call_does}

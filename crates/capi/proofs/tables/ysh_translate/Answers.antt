@@ -1,6 +1,6 @@
 -- A tree that no table has, then the translation of one that it may have: the definition's cases, in its order. The steps lie within
 -- the room, so that their bytes can be counted.
-use Rattle.words.specs.Prelude.{sym, ◌∙◌, arith, le-leb, lt-leb, rules}
+use Rattle.words.specs.Prelude.{sym, ◌∙◌, arith, le-leb, lt-leb}
 use Rattle.steps.specs.{Translating.after_table, Translating.room_after, Translating.room_left}
 use Rattle.capi.specs.{Tables.translate_call, Tables.translate_outcome, Tables.translate_gives}
 use Rattle.capi.proofs.{Calling.call_refuses, Calling.call_does, Writing.writes_within}

@@ -1,5 +1,5 @@
 -- The definition goes by the same answer of the chain; a refusal leaves the list as it was.
-use Rattle.words.specs.Prelude.{sym, ◌∙◌, rules}
+use Rattle.words.specs.Prelude.{sym, ◌∙◌}
 use Rattle.chain.specs.{Explained.lines_after_answer}
 use Rattle.capi.specs.{Why.why_call, Why.why_gives}
 use Rattle.capi.proofs.{Calling.call_refuses, Calling.call_does}

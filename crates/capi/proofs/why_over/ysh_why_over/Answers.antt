@@ -1,5 +1,4 @@
 -- By the verdict: a refusal keeps the lines and the counts, and else both are written.
-use Rattle.words.specs.Prelude.{rules}
 use Rattle.capi.proofs.{Asking.over_refused, Asking.over_told}
 use Rattle.capi.proofs.why_over.ysh_why_over.Goals as goal
 
