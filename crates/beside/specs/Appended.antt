@@ -1,6 +1,6 @@
 -- Bars behind bars: their records, what the stream takes of them, and what an account's calls over them come to.
 use Rattle.std.specs.Prelude.{ℕ, zero, suc, ◌+◌, ◌*◌, ◌/◌, ◌^◌, ◌≤◌, ◌≡◌, refl, Bool, true, false, cond, List, [], ◌∷◌, ◌++◌, eqb, length, drop}
-use Rattle.words.specs.Prelude.{sym, ap, arith, ltb-true}
+use Rattle.words.specs.Prelude.{sym, arith, ltb-true}
 use Rattle.words.specs.Prelude.{eqb-false, length-drop}
 use Rattle.words.specs.{declared.refusal.Refusal.Refusal, Limits.most_count}
 use Rattle.records.specs.{Lent.Lists}
