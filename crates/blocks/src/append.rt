@@ -20,6 +20,7 @@ pub enum Added {
 }
 
 // The best of the block that a bar falls into, with it: begun by its first bar, whatever the room held, and kept up by each one after it.
+#[tactic(auto, unfolding(crate::specs::Blocks::grown))]
 fn grown(blocks: &[u64], bar: usize, close: u64) -> Best
     ensures { result ≡ Blocks.grown blocks.now bar close }
 {

@@ -4,13 +4,13 @@
 // of the room are lent and what stands there; bytes are eight to a word. Else it is a call over the rooms as they are, and it is
 // answered with a line. compare/README.md has the list of calls; compare/vectors/make makes the stored lines.
 mod compare;
+mod four_rules;
 mod power;
 mod report;
 mod rooms;
-mod rules;
-mod runs;
 mod stretch;
 mod tables;
+mod whole_runs;
 
 use rooms::word;
 use std::io;
@@ -80,13 +80,13 @@ fn call_rules(
         0x21 => tables::depth(output, line, sizes, table),
         0x22 => tables::translate(output, line, sizes, table, lists),
         0x2a => tables::silent(output, line, sizes, table),
-        0x23 => rules::rule(
+        0x23 => four_rules::rule(
             output,
             line,
             tables::table(sizes, table),
             rooms::words_of(sizes, rooms::ROWS, rows),
         ),
-        _ => rules::run(
+        _ => four_rules::run(
             output,
             line,
             sizes,
@@ -129,17 +129,17 @@ fn call_run(
     metrics: &mut [u64],
 ) -> io::Result<()> {
     match word(line, 0) {
-        0x25 => runs::fresh(output, sizes, settings, state),
-        0x26 => runs::step(
+        0x25 => whole_runs::fresh(output, sizes, settings, state),
+        0x26 => whole_runs::step(
             output, line, sizes, settings, state, rows, equity, trades, lists,
         ),
-        0x27 => runs::finish(
+        0x27 => whole_runs::finish(
             output, sizes, settings, state, rows, equity, trades, metrics,
         ),
-        0x2b => runs::steps(
+        0x2b => whole_runs::steps(
             output, line, sizes, settings, state, rows, equity, trades, lists,
         ),
-        0x28 => runs::metrics(output, line, sizes, equity, trades, metrics),
+        0x28 => whole_runs::metrics(output, line, sizes, equity, trades, metrics),
         _ => text::write_words(output, &[capi::figures::ysh_root(word(line, 1))], b'\n'),
     }
 }

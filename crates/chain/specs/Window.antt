@@ -1,4 +1,4 @@
--- The window: over the last rows that a table rules the chain is the chain over all rows, so a box can answer from its window.
+-- The window: over the last rows that a table needs the chain is the chain over all rows, so a box can answer from its window.
 -- Assumes nothing.
 use Rattle.std.specs.Prelude.{ℕ, zero, suc, ◌+◌, ◌-◌, ◌≤◌, ◌<◌, ◌≡◌, refl, Bool, true, false, cond, List, [], ltb, leb, eqb}
 use Rattle.words.specs.Prelude.{arith, le-ltb, leb-false, ne_eqb}
@@ -130,7 +130,7 @@ pub chain_window : (K D : ℕ) (ws : List ℕ) (p : PositionState) (c : Conditio
 chain_window K D ws p c i r =
     told_of_last (λ (h : History). chain in_table h p c i) K D ws (reach_of c) r (λ (h w : History) (s : ℕ) part bar. chain_same h w s part p c i bar)
 
--- a tree by its number reaches back less than the rows that the table rules
+-- a tree by its number reaches back less than the rows that the table needs
 tree_near : (t : List ℕ) (n r : ℕ) → checked t ≡ Accepted n r → (x : ℕ) → x < 4 → reach_of (tree_of t x) < r
 tree_near t n r ok zero l = omega (arith, rows_are t n r ok)
 tree_near t n r ok (suc zero) l = omega (arith, rows_are t n r ok)

@@ -1,4 +1,4 @@
--- The rows that an accepted table rules, beside a lookback.
+-- The rows that an accepted table needs, beside a lookback.
 use Rattle.words.specs.Prelude.{ℕ, ◌+◌, ◌*◌, ◌≤◌, ◌<◌, max, ◌≡◌, List, arith, mul-le-mul_right}
 use Rattle.words.specs.{Limits.most_rows}
 use Rattle.table.specs.{declared.answer.Answer.TheVariants.Accepted, Checked.checked, Reach.rows_needed, Laws.Accepted.accepted, Laws.Accepted.tree_reach_lem}

@@ -1,4 +1,4 @@
--- What is answered to how many rows a table rules. Definitions only.
+-- What is answered to how many rows a table needs. Definitions only.
 use Rattle.std.specs.Prelude.{ℕ, ◌*◌, cond, List, ltb}
 use Rattle.words.specs.{Limits.most_reach, Outcome.refusal}
 use Rattle.table.specs.{declared.answer.Answer.Answer, declared.answer.Answer.TheVariants.Accepted, declared.answer.Answer.TheVariants.Refused, Depth.depth_of}

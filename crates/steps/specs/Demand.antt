@@ -98,11 +98,11 @@ pub demand_three : (t : List ℕ) → Bytes t
       answer = says (history_of (slots t) ws) s (tree_of t (tree_number tree));
       visits = visits_of (history_of (slots t) ws) s (ops_of (take (16 * used) (room_left t tree room)));
     })
-demand_three t bytes lookback D row window rules tree room used writes ws whole s fine =
+demand_three t bytes lookback D row window needs tree room used writes ws whole s fine =
     let K = slots t in
     let x = tree_number tree in
     let four = tree_of_four tree in
-    let d = deep t lookback D row window rules in
+    let d = deep t lookback D row window needs in
     let ok = d.accepted in
     let above : reach_of (tree_of t x) < D = rw d.is (depth_above t _ _ ok lookback tree) in
     let most : D ≤ most_rows = rw d.is (depth_most t _ _ ok lookback d.near) in

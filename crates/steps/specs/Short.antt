@@ -45,10 +45,10 @@ pub short_runs : (t : List ℕ) → Bytes t
       answer = says (history_of (slots t) ws) s (struck_out d (tree_of t (tree_number tree)));
       visits = visits_of (history_of (slots t) (last_rows (slots t) d ws)) s (ops_of (take (16 * used) (room_left t tree room)));
     })
-short_runs t bytes lookback D row window rules tree room used writes ws whole s fine d =
+short_runs t bytes lookback D row window needs tree room used writes ws whole s fine d =
     let K = slots t in
     let x = tree_number tree in
-    let known = deep t lookback D row window rules in
+    let known = deep t lookback D row window needs in
     let ok = known.accepted in
     let above : reach_of (tree_of t x) < D = rw known.is (depth_above t _ _ ok lookback tree) in
     let most : D ≤ most_rows = rw known.is (depth_most t _ _ ok lookback known.near) in

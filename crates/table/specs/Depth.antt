@@ -1,4 +1,4 @@
--- How many rows a rule rules. Definitions only.
+-- How many rows a rule needs. Definitions only.
 use Rattle.std.specs.Prelude.{ℕ, ◌+◌, ◌*◌, max, List}
 use Rattle.words.specs.{Limits.row_words}
 use Rattle.table.specs.{Trees.reach_of, Reading.tree_of, Header.slots}

@@ -1,4 +1,4 @@
--- What each line of the two orders of refusals rules to be the answer. Assumes nothing.
+-- What each line of the two orders of refusals needs to be the answer. Assumes nothing.
 use Rattle.words.specs.Prelude.{◌≡◌, refl, sym, ap, subst, ◌∙◌, Bool, true, false, cond, false≢true, List, [], ◌∷◌, ◌++◌, ℕ, ◌+◌, ◌*◌, ◌/◌, ◌%◌, ◌<◌, ◌≤◌}
 use Rattle.words.specs.Prelude.{arith, le-leb, lt-leb, eq-eqb, ne_eqb, leb-true, leb-false, leb, length}
 use Rattle.words.specs.{Words.word, Words.overwrite, Limits.trade_words, Limits.most_count, declared.refusal.Refusal.Refusal, Outcome.refusal}

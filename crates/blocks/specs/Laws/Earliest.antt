@@ -5,7 +5,7 @@ use Rattle.words.specs.Prelude.{lt_of_le-ne}
 use Rattle.blocks.specs.{Reading.above, Reading.below, Reading.join, Reading.reading, Reading.Number, Reading.Earliest, Reading.HighAndLow}
 use Rattle.blocks.specs.{Laws.Order.twice, Laws.Order.not_twice, Laws.Order.not_itself}
 
--- an order of words, as far as the search for the best rules it
+-- an order of words, as far as the search for the best needs it
 record Ordered (over : ℕ → ℕ → Bool) (Of : ℕ → Type 0) : Type 0 where
   itself : (a : ℕ) → Of a → over a a ≡ false
   turn : (a b c : ℕ) → Of a → Of b → Of c → over a b ≡ true → over b c ≡ true → over a c ≡ true

@@ -1,4 +1,4 @@
--- The tests that the code finds silent are those of the trees; and a table has none over as many rows as it rules. Assumes nothing.
+-- The tests that the code finds silent are those of the trees; and a table has none over as many rows as it needs. Assumes nothing.
 use Rattle.std.specs.Prelude.{ℕ, suc, ◌+◌, ◌-◌, ◌*◌, ◌≤◌, ◌<◌, min, zero, ◌≡◌, refl, Bool, true, false, cond, List, [], ◌∷◌, ◌++◌, leb, length, get_or, drop}
 use Rattle.std.specs.Prelude.{replicate}
 use Rattle.words.specs.Prelude.{sym, ap, ◌∙◌, append_assoc}
@@ -196,7 +196,7 @@ module _ (d : ℕ) (some : 0 < d) where
         )
 
 module _ (t : List ℕ) (n r : ℕ) (ok : checked t ≡ Accepted n r) (d : ℕ) where
-  -- NONE OVER ENOUGH ROWS: over as many rows as the check says the table rules, or more, no test falls silent;
+  -- NONE OVER ENOUGH ROWS: over as many rows as the check says the table needs, or more, no test falls silent;
   pub enough_rows : r ≤ d → silent_tests t d ≡ []
   unfolding silent_tests silent_of
   enough_rows enough =
@@ -208,7 +208,7 @@ module _ (t : List ℕ) (n r : ℕ) (ok : checked t ≡ Accepted n r) (d : ℕ) 
         (none-silent d some (tree_of t 3) (root t 3)).0 (omega (arith, rows_are t n r ok)),
       )
 
-  -- AND ONLY THEN: a row or more over which no test falls silent are as many as the table rules.
+  -- AND ONLY THEN: a row or more over which no test falls silent are as many as the table needs.
   pub only_enough : 0 < d → silent_tests t d ≡ [] → r ≤ d
   unfolding silent_tests silent_of
   only_enough some e =

@@ -1,4 +1,4 @@
--- The classes of steps: the numbers in each, and what a step of a class says. Whoever goes by a class rules no number of a kind in it.
+-- The classes of steps: the numbers in each, and what a step of a class says. Whoever goes by a class needs no number of a kind in it.
 use Rattle.std.specs.Prelude.{ℕ, ◌≤◌, ◌<◌, ◌≡◌, refl, Bool, true, false, ◌&&◌, ltb, leb}
 use Rattle.words.specs.Prelude.{sym, true≢false, arith, leb-true, ltb-true, ltb-false, eq-eqb}
 use Rattle.words.specs.Prelude.{ne_eqb, le-leb, lt-ltb, le-ltb}
