@@ -9,7 +9,9 @@ const BEGIN_WITH: [&str; 5] = ["README.md", "docs/THEOREMS.md", "docs/INTERFACE.
 #[test]
 fn no_line_is_too_long() {
     let mut long = Vec::new();
-    let paper = |file: &&String| (is_paper(file) || ["docs/CHANGES.md", "docs/PORT.md"].contains(&file.as_str())) && file.ends_with(".md");
+    let paper = |file: &&String| {
+        (is_paper(file) || ["docs/CHANGES.md", "docs/PORT.md"].contains(&file.as_str())) && file.ends_with(".md")
+    };
     for file in files().iter().filter(paper) {
         for (number, line) in text(file).lines().enumerate() {
             // A row of a table cannot be broken.
