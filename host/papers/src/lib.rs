@@ -10,7 +10,7 @@ pub fn root() -> PathBuf {
 }
 
 /// Folders that hold what is made, not what is kept.
-const MADE: [&str; 3] = ["target", ".git", ".cargo"];
+const MADE: [&str; 4] = ["target", "out", ".git", ".cargo"];
 
 /// Every file of the repository, by its path from the root.
 pub fn files() -> Vec<String> {
