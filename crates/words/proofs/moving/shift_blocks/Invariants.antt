@@ -1,10 +1,7 @@
 -- The loop's invariant: 16 * i words are `moved`; a turn moves sixteen more. Assumes nothing.
-use Rattle.words.specs.Prelude.{◌≡◌, ◌-◌, ◌*◌, ◌≤◌, length}
+use Rattle.words.specs.Prelude.{◌≡◌, ◌*◌, length}
 use Rattle.words.proofs.{Copying.moved}
 use Rattle.words.proofs.moving.shift_blocks.Given as goal
 
 abbrev pub invariant-loop-i : goal.invariant-loop-i
-invariant-loop-i l = (l.i ≤ l.count) × (l.room ≡ moved l.initial.room l.width l.at (16 * l.i)) × (length l.room ≡ length l.initial.room)
-
-abbrev pub decreases-loop-i : goal.decreases-loop-i
-decreases-loop-i l = l.count - l.i
+invariant-loop-i l = (l.room ≡ moved l.initial.room l.width l.at (16 * l.i)) × (length l.room ≡ length l.initial.room)
