@@ -3,7 +3,7 @@ use Rattle.words.specs.Prelude.{ℕ, ◌+◌, ◌*◌, ◌≤◌, min, ◌≡◌
 use Rattle.words.specs.{Limits.trade_words, Words.overwrite}
 use Rattle.differences.specs.{declared.compare.Compared.Compared, declared.compare.Compared.TheVariants.Lines, Lines.Line, Lines.points, Lines.trades}
 use Rattle.differences.specs.{Lines.first_point, Lines.word_lines, Lines.differences_from, Lines.differences, Lines.words_of, Compared.Comparison}
-use Rattle.differences.specs.{Compared.whole, Compared.refused, Compared.written, Compared.compared, Laws.Counted.few_lines, Laws.Counted.all_lines}
+use Rattle.differences.specs.{Compared.refused, Compared.written, Laws.Counted.few_lines, Laws.Counted.all_lines}
 use Rattle.differences.specs.{Laws.Written.none_written, Laws.Written.no_lines}
 
 abbrev told : ℕ → List ℕ → Comparison
@@ -50,18 +50,3 @@ module _ {e t e' t' : List ℕ} {p n k few words : ℕ} (got : Counted e t e' t'
         let kept : room ≡ overwrite room 0 (words_of (differences_from e t e' t' k p (trade_words * n))) =
         sym (ap (λ (ls : List Line). overwrite room 0 (words_of ls)) (no_lines _ (many ∙ z)) ∙ none_written room 0 (omega arith)) in
         writes room kept ∙ ap (λ (m : ℕ). told m room) z
-
--- ---- "13 here comes first"
-
-module _ (e t e' t' room : List ℕ) where
-  pub both_whole : whole e t ≡ true → whole e' t' ≡ true → compared e t e' t' room ≡ written (differences e t e' t') room
-  unfolding compared
-  both_whole f g = simp (f, g)
-
-  pub other_ragged : whole e t ≡ true → whole e' t' ≡ false → (r : Compared) → r ≡ refused 13 0 → compared e t e' t' room ≡ record { answer = r; room = room }
-  unfolding compared
-  other_ragged f g r said = simp (f, g, said)
-
-  pub ragged : whole e t ≡ false → (r : Compared) → r ≡ refused 13 0 → compared e t e' t' room ≡ record { answer = r; room = room }
-  unfolding compared
-  ragged f r said = simp (f, said)

@@ -7,7 +7,7 @@ ghost use Rattle.differences.specs.Compared as Comparing;
 use crate::equity::first_point;
 use crate::put::LINE_WORDS;
 use crate::put_all::put_all;
-use crate::surplus::{apart, least};
+use crate::surplus::apart;
 use crate::words_apart::count;
 use words::limits::{POINT_WORDS, TRADE_WORDS};
 use words::refusal::Refusal;
@@ -33,10 +33,7 @@ fn refused(number: u64, place: u64) -> Compared
 fn whole(equity: &[u64], trades: &[u64]) -> bool
     ensures { result ≡ Comparing.whole equity.now trades.now }
 {
-    if equity.len() % POINT_WORDS == 0 {
-        return trades.len() % TRADE_WORDS == 0;
-    }
-    false
+    equity.len() % POINT_WORDS == 0 && trades.len() % TRADE_WORDS == 0
 }
 
 // How many lines tell of a point: 1 where point k is one of n.
@@ -57,6 +54,7 @@ fn holds(room: usize, few: usize, words: usize) -> bool
 }
 
 // What differs between two runs, as lines: 13 where a list is not whole records, then 10 where the room does not hold the lines.
+#[tactic(auto, unfolding(crate::specs::Compared::compared))]
 pub fn compare(
     equity: &[u64],
     trades: &[u64],
@@ -67,11 +65,8 @@ pub fn compare(
     ensures { Comparing.compared equity.now trades.now other_equity.now other_trades.now
         lines.old ≡ record { answer = result; room = lines.new } }
 {
-    if whole(equity, trades) {
-        if whole(other_equity, other_trades) {
-            return compare_whole(equity, trades, other_equity, other_trades, lines);
-        }
-        return refused(13, 0);
+    if whole(equity, trades) && whole(other_equity, other_trades) {
+        return compare_whole(equity, trades, other_equity, other_trades, lines);
     }
     refused(13, 0)
 }
@@ -105,8 +100,8 @@ fn compare_whole(
     ensures { Comparing.written (differences equity.now trades.now other_equity.now other_trades.now)
         lines.old ≡ record { answer = result; room = lines.new } }
 {
-    let points = least(equity.len() / POINT_WORDS, other_equity.len() / POINT_WORDS);
-    let n = least(trades.len() / TRADE_WORDS, other_trades.len() / TRADE_WORDS);
+    let points = (equity.len() / POINT_WORDS).min(other_equity.len() / POINT_WORDS);
+    let n = (trades.len() / TRADE_WORDS).min(other_trades.len() / TRADE_WORDS);
     let k = first_point(equity, other_equity, points);
     let few = count_few(equity, trades, other_equity, other_trades, k, points);
     let words = count(trades, other_trades, TRADE_WORDS * n);

@@ -10,12 +10,10 @@ pub(crate) fn first_point(a: &[u64], b: &[u64], n: usize) -> usize
     requires { (point_words * n ≤ length a.now) × (point_words * n ≤ length b.now) }
     ensures { result ≡ first_point a.now b.now 0 n }
 {
-    let mut k: usize = 0;
-    while k < n {
+    for k in 0..n {
         if a[POINT_WORDS * k + 1] != b[POINT_WORDS * k + 1] {
             return k;
         }
-        k += 1;
     }
-    k
+    n
 }

@@ -7,6 +7,7 @@ ghost use Rattle.differences.specs.Lines.{line, words_of};
 pub(crate) const LINE_WORDS: usize = 5;
 
 // Writes line c.
+#[tactic(auto, unfolding(crate::specs::Lines::words_of))]
 pub(crate) fn put_line(
     lines: &mut [u64],
     c: usize,

@@ -1,18 +1,12 @@
 // What one run has more: a line where two counts differ.
-ghost use Rattle.std.specs.Prelude.{◌≡◌, ◌+◌, ◌*◌, ◌≤◌, min, length};
+ghost use Rattle.std.specs.Prelude.{◌≡◌, ◌+◌, ◌*◌, ◌≤◌, length};
 ghost use Rattle.words.specs.Words.{overwrite};
 ghost use Rattle.differences.specs.Lines.{surplus, words_of};
 
 use crate::put::put_line;
 
-// The smaller of two counts.
-pub(crate) fn least(a: usize, b: usize) -> usize
-    ensures { result ≡ min a b }
-{
-    if a < b { a } else { b }
-}
-
 // How many lines tell that m and n differ: 1, or none where they do not.
+#[tactic(auto, unfolding(crate::specs::Lines::surplus))]
 pub(crate) fn apart(m: usize, n: usize) -> usize
     ensures { (result ≡ length (surplus 0 m n)) × (result ≤ 1) }
 {
@@ -27,6 +21,6 @@ pub(crate) fn put_surplus(sort: u64, m: usize, n: usize, lines: &mut [u64], c: u
     if m == n {
         return c;
     }
-    put_line(lines, c, sort, least(m, n) as u64, 0, m as u64, n as u64);
+    put_line(lines, c, sort, m.min(n) as u64, 0, m as u64, n as u64);
     c + 1
 }

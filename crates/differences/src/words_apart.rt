@@ -9,6 +9,7 @@ use crate::put::put_line;
 use words::limits::TRADE_WORDS;
 
 // 1 where word k differs, 0 where it does not.
+#[tactic(auto, unfolding(crate::specs::Lines::word_line))]
 fn differs(a: &[u64], b: &[u64], k: usize) -> usize
     requires { (k < length a.now) × (k < length b.now) }
     ensures { result ≡ length (word_line a.now b.now k) }
@@ -22,10 +23,8 @@ pub(crate) fn count(a: &[u64], b: &[u64], n: usize) -> usize
     ensures { result ≡ length (word_lines a.now b.now n) }
 {
     let mut c: usize = 0;
-    let mut k: usize = 0;
-    while k < n {
-        c = c + differs(a, b, k);
-        k += 1;
+    for k in 0..n {
+        c += differs(a, b, k);
     }
     c
 }
@@ -53,10 +52,8 @@ fn put_trade(a: &[u64], b: &[u64], x: usize, lines: &mut [u64], from: usize) -> 
         × (lines.new ≡ overwrite lines.old (5 * from) (words_of (trade_lines a.now b.now x trade_words))) }
 {
     let mut c: usize = from;
-    let mut w: usize = 0;
-    while w < TRADE_WORDS {
+    for w in 0..TRADE_WORDS {
         c = put_word(a, b, x, w, lines, c);
-        w += 1;
     }
     c
 }
@@ -69,10 +66,8 @@ pub(crate) fn put_trades(a: &[u64], b: &[u64], n: usize, lines: &mut [u64], from
         × (lines.new ≡ overwrite lines.old (5 * from) (words_of (word_lines a.now b.now (trade_words * n)))) }
 {
     let mut c: usize = from;
-    let mut x: usize = 0;
-    while x < n {
+    for x in 0..n {
         c = put_trade(a, b, x, lines, c);
-        x += 1;
     }
     c
 }

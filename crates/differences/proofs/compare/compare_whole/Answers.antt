@@ -14,18 +14,18 @@ small : (x r : ℕ) → 5 * x ≤ r → r < 2 ^ 64 → x < 2 ^ 64
 small x r h l = omega arith
 
 pub first_point-k-requires : goal.first_point-k-requires
-first_point-k-requires c = both_points _ _ _ c.least-points.ensures
+first_point-k-requires c = both_points _ _ _ c.min-points.ensures
 
 pub count-words-requires : goal.count-words-requires
-count-words-requires c = both_trades _ _ _ c.least-n.ensures
+count-words-requires c = both_trades _ _ _ c.min-n.ensures
 
 pub overflow_add-many : goal.overflow_add-many
 overflow_add-many c =
     let counted : let a = c.args in
-    Counted a.equity.now a.trades.now a.other_equity.now a.other_trades.now c.least-points.result c.least-n.result
+    Counted a.equity.now a.trades.now a.other_equity.now a.other_trades.now c.min-points.result c.min-n.result
     c.first_point-k.result c.count_few-few.result c.count-words.result = record {
-      shared = c.least-points.ensures;
-      short = c.least-n.ensures;
+      shared = c.min-points.ensures;
+      short = c.min-n.ensures;
       first = c.first_point-k.ensures;
       other = c.count_few-few.ensures.0;
       apart = c.count-words.ensures;
@@ -36,10 +36,10 @@ overflow_add-many c =
 pub returns-then-many-eq0 : goal.returns-then-many-eq0
 returns-then-many-eq0 c =
     let counted : let a = c.args in
-    Counted a.equity.now a.trades.now a.other_equity.now a.other_trades.now c.least-points.result c.least-n.result
+    Counted a.equity.now a.trades.now a.other_equity.now a.other_trades.now c.min-points.result c.min-n.result
     c.first_point-k.result c.count_few-few.result c.count-words.result = record {
-      shared = c.least-points.ensures;
-      short = c.least-n.ensures;
+      shared = c.min-points.ensures;
+      short = c.min-n.ensures;
       first = c.first_point-k.ensures;
       other = c.count_few-few.ensures.0;
       apart = c.count-words.ensures;
@@ -49,26 +49,26 @@ returns-then-many-eq0 c =
 pub put_all-requires : goal.put_all-requires
 put_all-requires c =
     let counted : let a = c.args in
-    Counted a.equity.now a.trades.now a.other_equity.now a.other_trades.now c.least-points.result c.least-n.result
+    Counted a.equity.now a.trades.now a.other_equity.now a.other_trades.now c.min-points.result c.min-n.result
     c.first_point-k.result c.count_few-few.result c.count-words.result = record {
-      shared = c.least-points.ensures;
-      short = c.least-n.ensures;
+      shared = c.min-points.ensures;
+      short = c.min-n.ensures;
       first = c.first_point-k.ensures;
       other = c.count_few-few.ensures.0;
       apart = c.count-words.ensures;
     } in
     let room = c.args.lines.now in
-    let p = both_points _ _ _ c.least-points.ensures in
-    let q = both_trades _ _ _ c.least-n.ensures in
+    let p = both_points _ _ _ c.min-points.ensures in
+    let q = both_trades _ _ _ c.min-n.ensures in
     (p.0, p.1, q.0, q.1, all_fit counted room (sym c.holds.ensures ∙ c.if-holds.true))
 
 pub returns-then-holds : goal.returns-then-holds
 returns-then-holds c =
     let counted : let a = c.args in
-    Counted a.equity.now a.trades.now a.other_equity.now a.other_trades.now c.least-points.result c.least-n.result
+    Counted a.equity.now a.trades.now a.other_equity.now a.other_trades.now c.min-points.result c.min-n.result
     c.first_point-k.result c.count_few-few.result c.count-words.result = record {
-      shared = c.least-points.ensures;
-      short = c.least-n.ensures;
+      shared = c.min-points.ensures;
+      short = c.min-n.ensures;
       first = c.first_point-k.ensures;
       other = c.count_few-few.ensures.0;
       apart = c.count-words.ensures;
@@ -78,10 +78,10 @@ returns-then-holds c =
 pub returns : goal.returns
 returns c =
     let counted : let a = c.args in
-    Counted a.equity.now a.trades.now a.other_equity.now a.other_trades.now c.least-points.result c.least-n.result
+    Counted a.equity.now a.trades.now a.other_equity.now a.other_trades.now c.min-points.result c.min-n.result
     c.first_point-k.result c.count_few-few.result c.count-words.result = record {
-      shared = c.least-points.ensures;
-      short = c.least-n.ensures;
+      shared = c.min-points.ensures;
+      short = c.min-n.ensures;
       first = c.first_point-k.ensures;
       other = c.count_few-few.ensures.0;
       apart = c.count-words.ensures;

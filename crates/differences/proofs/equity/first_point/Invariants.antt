@@ -1,10 +1,7 @@
 -- After k turns the first k points are the same: what is left begins at point k.
-use Rattle.words.specs.Prelude.{◌≡◌, ◌-◌, ◌≤◌}
+use Rattle.words.specs.Prelude.{◌≡◌, ◌-◌}
 use Rattle.differences.specs.{Lines.first_point}
 use Rattle.differences.proofs.equity.first_point.Given as goal
 
 abbrev pub invariant-loop-k : goal.invariant-loop-k
-invariant-loop-k l = (l.k ≤ l.n) × (first_point l.a l.b 0 l.n ≡ first_point l.a l.b l.k (l.n - l.k))
-
-abbrev pub decreases-loop-k : goal.decreases-loop-k
-decreases-loop-k l = l.n - l.k
+invariant-loop-k l = first_point l.a l.b 0 l.n ≡ first_point l.a l.b l.k (l.n - l.k)

@@ -15,4 +15,4 @@ put_line-requires c =
 pub returns : goal.returns
 returns c =
     one_put _ _ _ _ (surplus_some c.args.sort c.args.m c.args.n c.if-m-n.false)
-    (rw c.least.ensures at c.put_line.ensures)
+    (rw c.min.ensures at c.put_line.ensures)

@@ -10,7 +10,7 @@ sum c d x y e f = omega arith
 
 pub loop-k-init : goal.loop-k-init
 unfolding word_lines
-loop-k-init c = (omega arith, refl)
+loop-k-init c = refl
 
 pub overflow_add-c : goal.overflow_add-c
 overflow_add-c c =
@@ -18,20 +18,18 @@ overflow_add-c c =
     let l = c.loop-k in
     let next = lines_next start.a.now start.b.now l.k in
     let most = lines_most start.a.now start.b.now (suc l.k) in
-    record { fits = fits _ _ _ _ _ start.n l.invariant.1 c.differs-c.ensures next most (search rules) (search rules) }
+    record { fits = fits _ _ _ _ _ start.n l.invariant c.differs-c.ensures next most (search rules) (search rules) }
 
 pub loop-k-preserved : goal.loop-k-preserved
 loop-k-preserved c =
     let start = c.args in
-    let l = c.loop-k in (
-      omega arith,
-      sum _ _ _ _ l.invariant.1 c.differs-c.ensures ∙ sym (lines_next start.a.now start.b.now l.k)
-          ∙ ap (λ (n : ℕ). length (word_lines start.a.now start.b.now n)) (sym (add-one l.k)),
-    )
+    let l = c.loop-k in
+    sum _ _ _ _ l.invariant c.differs-c.ensures ∙ sym (lines_next start.a.now start.b.now l.k)
+    ∙ ap (λ (n : ℕ). length (word_lines start.a.now start.b.now n)) (sym (add-one l.k))
 
 pub returns : goal.returns
 returns c =
     let start = c.args in
     let l = c.loop-k in
     let end : l.k ≡ start.n = omega arith in
-    l.invariant.1 ∙ ap (λ (n : ℕ). length (word_lines start.a.now start.b.now n)) end
+    l.invariant ∙ ap (λ (n : ℕ). length (word_lines start.a.now start.b.now n)) end

@@ -17,7 +17,7 @@ pub loop-w-init : goal.loop-w-init
 unfolding trade_lines
 loop-w-init c =
     let none = none_yet c.args.from _ c.args.lines.now c.requires.2 in
-    (omega arith, none.0, none.1)
+    none
 
 pub put_word-c-requires : goal.put_word-c-requires
 put_word-c-requires c =
@@ -30,7 +30,7 @@ put_word-c-requires c =
       in_list start.x l.w _ below c.requires.0,
       in_list start.x l.w _ below c.requires.1,
       turn_fits start.lines.now l.lines start.from l.c _ (trade_lines a b start.x l.w) (word_line a b (trade_words * start.x + l.w))
-          (l.invariant.1, l.invariant.2) (few a b start.x l.w below) c.requires.2,
+          l.invariant (few a b start.x l.w below) c.requires.2,
     )
 
 pub loop-w-preserved : goal.loop-w-preserved
@@ -43,18 +43,18 @@ loop-w-preserved c =
     let x = start.x in
     let below : l.w < trade_words = search rules in
     let next = turn_stands start.lines.now l.lines start.from l.c _ (trade_lines a b x l.w) (word_line a b (trade_words * x + l.w))
-    (l.invariant.1, l.invariant.2) (few a b x l.w below) c.requires.2 (trade_lines a b x (l.w + 1)) (ap (trade_lines a b x) (add-one l.w))
+    l.invariant (few a b x l.w below) c.requires.2 (trade_lines a b x (l.w + 1)) (ap (trade_lines a b x) (add-one l.w))
     c.put_word-c.ensures in
-    (omega arith, next.0, next.1)
+    next
 
 pub shape_of-lines : goal.shape_of-lines
-shape_of-lines c = ap length c.loop-w.invariant.2 ∙ overwrite-length _ _ _
+shape_of-lines c = ap length c.loop-w.invariant.1 ∙ overwrite-length _ _ _
 
 pub returns : goal.returns
 returns c =
     let start = c.args in
     let l = c.loop-w in
     let end : l.w ≡ trade_words = omega arith in (
-      l.invariant.1 ∙ ap (λ (n : ℕ). start.from + length (trade_lines start.a.now start.b.now start.x n)) end,
-      l.invariant.2 ∙ ap (λ (n : ℕ). overwrite start.lines.now (5 * start.from) (words_of (trade_lines start.a.now start.b.now start.x n))) end,
+      l.invariant.0 ∙ ap (λ (n : ℕ). start.from + length (trade_lines start.a.now start.b.now start.x n)) end,
+      l.invariant.1 ∙ ap (λ (n : ℕ). overwrite start.lines.now (5 * start.from) (words_of (trade_lines start.a.now start.b.now start.x n))) end,
     )

@@ -19,7 +19,7 @@ pub loop-x-init : goal.loop-x-init
 unfolding word_lines
 loop-x-init c =
     let none = none_yet c.args.from _ c.args.lines.now c.requires.2 in
-    (omega arith, none.0, none.1)
+    none
 
 pub put_trade-c-requires : goal.put_trade-c-requires
 put_trade-c-requires c =
@@ -31,7 +31,7 @@ put_trade-c-requires c =
       in_list l.x start.n _ below c.requires.0,
       in_list l.x start.n _ below c.requires.1,
       turn_fits start.lines.now l.lines start.from l.c _ (word_lines a b (trade_words * l.x)) (trade_lines a b l.x trade_words)
-          (l.invariant.1, l.invariant.2) (few a b l.x start.n below) c.requires.2,
+          l.invariant (few a b l.x start.n below) c.requires.2,
     )
 
 pub loop-x-preserved : goal.loop-x-preserved
@@ -42,18 +42,18 @@ loop-x-preserved c =
     let b = start.b.now in
     let below : l.x < start.n = search rules in
     let next = turn_stands start.lines.now l.lines start.from l.c _ (word_lines a b (trade_words * l.x)) (trade_lines a b l.x trade_words)
-    (l.invariant.1, l.invariant.2) (few a b l.x start.n below) c.requires.2 (word_lines a b (trade_words * (l.x + 1))) (trades_next a b l.x)
+    l.invariant (few a b l.x start.n below) c.requires.2 (word_lines a b (trade_words * (l.x + 1))) (trades_next a b l.x)
     c.put_trade-c.ensures in
-    (omega arith, next.0, next.1)
+    next
 
 pub shape_of-lines : goal.shape_of-lines
-shape_of-lines c = ap length c.loop-x.invariant.2 ∙ overwrite-length _ _ _
+shape_of-lines c = ap length c.loop-x.invariant.1 ∙ overwrite-length _ _ _
 
 pub returns : goal.returns
 returns c =
     let start = c.args in
     let l = c.loop-x in
     let end : l.x ≡ start.n = omega arith in (
-      l.invariant.1 ∙ ap (λ (n : ℕ). start.from + length (word_lines start.a.now start.b.now (trade_words * n))) end,
-      l.invariant.2 ∙ ap (λ (n : ℕ). overwrite start.lines.now (5 * start.from) (words_of (word_lines start.a.now start.b.now (trade_words * n)))) end,
+      l.invariant.0 ∙ ap (λ (n : ℕ). start.from + length (word_lines start.a.now start.b.now (trade_words * n))) end,
+      l.invariant.1 ∙ ap (λ (n : ℕ). overwrite start.lines.now (5 * start.from) (words_of (word_lines start.a.now start.b.now (trade_words * n)))) end,
     )
