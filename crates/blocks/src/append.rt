@@ -53,6 +53,7 @@ fn refused(number: u64, place: u64) -> Added
 }
 
 // Appends a close to the bars held: 10 where a room has no place for it, then 11 where it is not finite.
+#[tactic(auto, unfolding(crate::specs::Append::appended))]
 pub fn append(held: usize, close: u64, closes: &mut [u64], blocks: &mut [u64]) -> Added
     ensures { appended held close closes.old blocks.old
         ≡ record { answer = result; closes = closes.new; blocks = blocks.new } }
@@ -66,9 +67,9 @@ pub fn append(held: usize, close: u64, closes: &mut [u64], blocks: &mut [u64]) -
     if blocks.len() < BLOCK_WORDS * (held / BLOCK_BARS) + BLOCK_WORDS {
         return refused(10, BLOCKS_ROOM);
     }
-    if floats::word_is_finite(close) {
-        put_bar(closes, blocks, held, close);
-        return Added::Held(held + 1);
+    if !floats::word_is_finite(close) {
+        return refused(11, held as u64);
     }
-    refused(11, held as u64)
+    put_bar(closes, blocks, held, close);
+    Added::Held(held + 1)
 }

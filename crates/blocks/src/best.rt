@@ -39,6 +39,7 @@ fn below(a: u64, b: u64) -> bool
 }
 
 // Of two stretches, the earlier first: a later number takes the place only if strictly greater, or less.
+#[tactic(auto, unfolding(crate::specs::Reading::join))]
 pub(crate) fn join(a: Best, b: Best) -> Best
     ensures { result ≡ Reading.join a b }
 {

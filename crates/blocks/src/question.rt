@@ -1,5 +1,5 @@
 // A question over bars that there are: single bars up to the next block, whole blocks, single bars.
-ghost use Rattle.std.specs.Prelude.{◌≡◌, ◌+◌, ◌<◌, ◌≤◌, min, length};
+ghost use Rattle.std.specs.Prelude.{◌≡◌, ◌+◌, ◌<◌, ◌≤◌, length};
 ghost use Rattle.words.specs.Limits.{most_count};
 ghost use Rattle.blocks.specs.Blocks as Blocks;
 ghost use Rattle.blocks.specs.Reads as Reads;
@@ -7,38 +7,29 @@ ghost use Rattle.blocks.specs.Reads as Reads;
 use crate::best::{BLOCK_BARS, Best, block, join, one};
 
 // The best so far, and n single bars more.
+#[tactic(auto, unfolding(crate::specs::Blocks::with_closes))]
 fn singles(closes: &[u64], from: Best, bar: usize, n: usize) -> Best
     requires { bar + n ≤ length closes.now }
     ensures { result ≡ Blocks.with_closes closes.now from bar n }
 {
     let mut best = from;
-    let mut i: usize = 0;
-    while i < n {
+    for i in 0..n {
         best = join(best, one(closes[bar + i], bar + i));
-        i += 1;
     }
     best
 }
 
 // The best so far, and n whole blocks more.
+#[tactic(auto, unfolding(crate::specs::Blocks::with_blocks))]
 fn wholes(blocks: &[u64], from: Best, j: usize, n: usize) -> Best
     requires { j + n ≤ most_count }
     ensures { result ≡ Blocks.with_blocks blocks.now from j n }
 {
     let mut best = from;
-    let mut i: usize = 0;
-    while i < n {
+    for i in 0..n {
         best = join(best, block(blocks, j + i));
-        i += 1;
     }
     best
-}
-
-// The smaller of two counts.
-fn least(a: usize, b: usize) -> usize
-    ensures { result ≡ min a b }
-{
-    if a < b { a } else { b }
 }
 
 // The best so far, and n bars more: single bars up to the next block, whole blocks, single bars.
@@ -46,7 +37,7 @@ fn onward(closes: &[u64], blocks: &[u64], best: Best, bar: usize, n: usize) -> B
     requires { (bar + n ≤ length closes.now) × (bar + n ≤ most_count) }
     ensures { result ≡ Reads.onto closes.now blocks.now best (Reads.reads bar n) }
 {
-    let front = least((BLOCK_BARS - bar % BLOCK_BARS) % BLOCK_BARS, n);
+    let front = ((BLOCK_BARS - bar % BLOCK_BARS) % BLOCK_BARS).min(n);
     let start = bar + front;
     let whole = (n - front) / BLOCK_BARS;
     let end = start + BLOCK_BARS * whole;
@@ -59,10 +50,7 @@ fn onward(closes: &[u64], blocks: &[u64], best: Best, bar: usize, n: usize) -> B
 fn begins_block(bar: usize, n: usize) -> bool
     ensures { result ≡ Reads.begins_block bar n }
 {
-    if bar % BLOCK_BARS == 0 {
-        return BLOCK_BARS <= n;
-    }
-    false
+    bar % BLOCK_BARS == 0 && BLOCK_BARS <= n
 }
 
 // The best of n bars from `first` on, one or more.

@@ -25,37 +25,28 @@ fn refused(number: u64) -> Found
 fn holds(held: usize, closes: &[u64], blocks: &[u64]) -> bool
     ensures { result ≡ Stretch.holds held closes.now blocks.now }
 {
-    if (MOST_COUNT as usize) < held {
-        return false;
-    }
-    if closes.len() < held {
-        return false;
-    }
-    BLOCK_WORDS * ((held + BLOCK_BARS - 1) / BLOCK_BARS) <= blocks.len()
+    held <= MOST_COUNT as usize
+        && held <= closes.len()
+        && BLOCK_WORDS * ((held + BLOCK_BARS - 1) / BLOCK_BARS) <= blocks.len()
 }
 
 // Whether the first bar is not after the last and both are held.
 fn exists(held: usize, first: usize, last: usize) -> bool
     ensures { result ≡ Stretch.exists held first last }
 {
-    if last < first {
-        return false;
-    }
-    if held <= first {
-        return false;
-    }
-    last < held
+    first <= last && first < held && last < held
 }
 
 // The high and the low of the bars from `first` to `last`: 13 where the rooms do not hold the bars, then 18 where these are none.
+#[tactic(auto, unfolding(crate::specs::Stretch::stretched))]
 pub fn stretch(held: usize, first: usize, last: usize, closes: &[u64], blocks: &[u64]) -> Found
     ensures { result ≡ Stretch.stretched held first last closes.now blocks.now }
 {
-    if holds(held, closes, blocks) {
-        if exists(held, first, last) {
-            return Found::Best(ask(closes, blocks, first, last + 1 - first));
-        }
+    if !holds(held, closes, blocks) {
+        return refused(13);
+    }
+    if !exists(held, first, last) {
         return refused(18);
     }
-    refused(13)
+    Found::Best(ask(closes, blocks, first, last + 1 - first))
 }

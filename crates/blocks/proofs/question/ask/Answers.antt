@@ -1,19 +1,8 @@
 -- A block where one begins at the first bar and fits, else that bar; then the rest of what is read.
-use Rattle.words.specs.Prelude.{sym, ap, ◌∙◌, ◌+◌, ◌-◌, arith, rules}
-use Rattle.blocks.specs.{declared.best.Best.Best, Reads.reads, Reads.best, Reads.onto, Reads.told, Laws.Reads.block_fits, Laws.Reads.reads-block}
+use Rattle.words.specs.Prelude.{sym, ap, ◌∙◌, ◌+◌, ◌-◌, rules}
+use Rattle.blocks.specs.{declared.best.Best.Best, Reads.reads, Reads.best, Reads.onto, Reads.told, Laws.Reads.reads-block}
 use Rattle.blocks.specs.{Laws.Reads.reads_close}
 use Rattle.blocks.proofs.question.ask.Goals as goal
-
-pub overflow_sub-n : goal.overflow_sub-n
-overflow_sub-n c =
-    let start = c.args in
-    omega (arith, block_fits start.first start.n (sym c.begins_block.ensures ∙ c.if-begins_block.true))
-
-pub onward-requires : goal.onward-requires
-onward-requires c =
-    let start = c.args in
-    let fits = block_fits start.first start.n (sym c.begins_block.ensures ∙ c.if-begins_block.true) in
-    (omega (arith, fits), omega (arith, fits))
 
 pub returns-then-begins_block : goal.returns-then-begins_block
 unfolding told best

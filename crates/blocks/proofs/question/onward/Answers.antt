@@ -11,4 +11,4 @@ in_turn closes blocks best bar n f before middle after p q r s = cc (onto-reads 
 
 pub returns : goal.returns
 returns c =
-    in_turn _ _ _ _ _ _ _ _ _ c.least-front.ensures c.singles-before.ensures c.wholes-middle.ensures c.singles.ensures
+    in_turn _ _ _ _ _ _ _ _ _ c.min-front.ensures c.singles-before.ensures c.wholes-middle.ensures c.singles.ensures
