@@ -21,6 +21,7 @@ fn float_at(words: &[u64], width: usize, at: usize, i: usize) -> f64
 }
 
 // How many whole points a list has.
+#[tactic(auto, using(crate::specs::Laws::Columns::length_equity))]
 pub fn point_count(equity: &[u64]) -> usize
     ensures { result ≡ length (equity_of equity.now) }
 {
@@ -28,6 +29,7 @@ pub fn point_count(equity: &[u64]) -> usize
 }
 
 // The equity of point i, and 0 past the last.
+#[tactic(auto, unfolding(crate::specs::Records::equity_of))]
 pub fn equity_at(equity: &[u64], i: usize) -> f64
     ensures { result ≡ get_or (equity_of equity.now) i zero }
 {
@@ -35,6 +37,7 @@ pub fn equity_at(equity: &[u64], i: usize) -> f64
 }
 
 // How many whole trades a list has.
+#[tactic(auto, using(crate::specs::Laws::Columns::length_pnls))]
 pub fn trade_count(trades: &[u64]) -> usize
     ensures { result ≡ length (pnls_of trades.now) }
 {
@@ -42,6 +45,7 @@ pub fn trade_count(trades: &[u64]) -> usize
 }
 
 // The pnl of trade i, and 0 past the last.
+#[tactic(auto, unfolding(crate::specs::Records::pnls_of))]
 pub fn pnl_at(trades: &[u64], i: usize) -> f64
     ensures { result ≡ get_or (pnls_of trades.now) i zero }
 {

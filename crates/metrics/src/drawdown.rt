@@ -7,6 +7,7 @@ ghost use Rattle.metrics.specs.Drawdown.{peak_at, deepest_at, drawdown_from, max
 use super::columns;
 
 // The peak once an equity is seen.
+#[tactic(auto, unfolding(crate::specs::Drawdown::peak_at))]
 fn peak_at(peak: f64, e: f64) -> f64
     ensures { result ≡ peak_at peak e }
 {
@@ -14,6 +15,7 @@ fn peak_at(peak: f64, e: f64) -> f64
 }
 
 // The deepest fall, in percent of its peak, once an equity is seen. Only a peak above 0 counts.
+#[tactic(auto, unfolding(crate::specs::Drawdown::deepest_at, crate::specs::Drawdown::fall_pct))]
 fn deepest_at(peak: f64, deepest: f64, e: f64) -> f64
     ensures { result ≡ deepest_at peak deepest e }
 {
@@ -27,6 +29,7 @@ fn deepest_at(peak: f64, deepest: f64, e: f64) -> f64
 }
 
 // The maximum drawdown in percent. The peak starts below every point, not at the capital.
+#[tactic(auto, unfolding(crate::specs::Drawdown::max_drawdown_pct))]
 pub fn max_drawdown_pct(equity: &[u64]) -> f64
     ensures { result ≡ max_drawdown_pct (equity_of equity.now) }
 {
@@ -40,12 +43,10 @@ pub(crate) fn drawdown_from(start: f64, equity: &[u64]) -> f64
     let n = columns::point_count(equity);
     let mut peak = start;
     let mut deepest = 0.0;
-    let mut i = 0;
-    while i < n {
+    for i in 0..n {
         let e = columns::equity_at(equity, i);
         peak = peak_at(peak, e);
         deepest = deepest_at(peak, deepest, e);
-        i = i + 1;
     }
     deepest
 }

@@ -66,6 +66,7 @@ fn final_equity(initial: f64, equity: &[u64]) -> f64
 }
 
 // The figures of the whole records of two lists; what is left over at the end of a list is not read.
+#[tactic(auto, unfolding(crate::specs::Figures::metrics_of))]
 pub fn metrics_of(initial: f64, equity: &[u64], trades: &[u64]) -> Metrics
     ensures { result ≡ metrics_of initial (equity_of equity.now) (pnls_of trades.now) }
 {
@@ -87,6 +88,7 @@ pub fn metrics_of(initial: f64, equity: &[u64], trades: &[u64]) -> Metrics
 }
 
 // The figures of two lists of whole records; refusal 13 where one is not.
+#[tactic(auto, unfolding(crate::specs::Figures::outcome, crate::specs::Figures::computed, crate::specs::Records::whole))]
 pub fn compute(initial: f64, equity: &[u64], trades: &[u64]) -> Answer
     ensures { outcome result ≡ computed initial equity.now trades.now }
 {
@@ -100,6 +102,7 @@ pub fn compute(initial: f64, equity: &[u64], trades: &[u64]) -> Answer
 }
 
 // The figures as words, in the Rust record's order.
+#[tactic(auto, unfolding(crate::specs::Figures::figure_words))]
 pub fn words_of(m: Metrics) -> [u64; METRIC_WORDS]
     ensures { result ≡ figure_words m }
 {

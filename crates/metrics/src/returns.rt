@@ -1,12 +1,12 @@
 // Returns from bar to bar, and what the Sharpe and the Sortino ratio make of them.
 ghost use Rattle.std.specs.Prelude.{◌≡◌, length};
 ghost use Rattle.metrics.specs.Records.{equity_of};
-ghost use Rattle.metrics.specs.declared.returns.Part.TheVariants.{Itself, Away, Below};
-ghost use Rattle.metrics.specs.Returns.{bar_return, bar_returns, part_of, mean_of, sharpe_ratio, sortino_ratio};
+ghost use Rattle.metrics.specs.Returns.{bar_return, bar_returns, itself, away, below_zero, mean_of, sharpe_ratio, sortino_ratio};
 
 use super::{columns, quotient};
 
 // The return from one equity to the next.
+#[tactic(auto, unfolding(crate::specs::Returns::bar_return))]
 pub fn bar_return(before: f64, now: f64) -> f64
     ensures { result ≡ bar_return before now }
 {
@@ -17,6 +17,7 @@ pub fn bar_return(before: f64, now: f64) -> f64
 }
 
 // How many returns there are: one less than points.
+#[tactic(auto, using(crate::proofs::Neighbours::length_returns))]
 pub fn return_count(equity: &[u64]) -> usize
     ensures { result ≡ length (bar_returns (equity_of equity.now)) }
 {
@@ -27,29 +28,21 @@ pub fn return_count(equity: &[u64]) -> usize
     points - 1
 }
 
-// What is summed of the returns.
-#[derive(Clone, Copy)]
-pub enum Part {
-    // The return itself.
-    Itself,
-    // The square of how far it is away from a mean.
-    Away(f64),
-    // Its square where it is below 0, else 0.
-    Below,
-}
-
-// That part of a return.
-pub fn part_of(part: Part, r: f64) -> f64
-    ensures { result ≡ part_of part r }
+// The square of a return where it is below 0, else 0.
+fn below_zero(r: f64) -> f64
+    ensures { result ≡ below_zero r }
 {
-    match part {
-        Part::Itself => r,
-        Part::Away(mean) => floats::sums::square(r - mean),
-        Part::Below => floats::sums::square(floats::min(r, 0.0)),
-    }
+    floats::sums::square(floats::min(r, 0.0))
 }
 
-// The means of two parts.
+// The square of how far a return is away from a mean.
+fn away(mean: f64, r: f64) -> f64
+    ensures { result ≡ away mean r }
+{
+    floats::sums::square(r - mean)
+}
+
+// The mean of the returns, and of the squares of those below 0.
 #[derive(Clone, Copy)]
 struct Means {
     itself: f64,
@@ -58,21 +51,19 @@ struct Means {
 
 // Both in one pass, since a return costs a division. Each pass works the returns out anew, so that no room is needed for them.
 fn means_of(equity: &[u64]) -> Means
-    ensures itself { result.itself ≡ mean_of Itself (bar_returns (equity_of equity.now)) }
-    ensures below { result.below ≡ mean_of Below (bar_returns (equity_of equity.now)) }
+    ensures itself { result.itself ≡ mean_of itself (bar_returns (equity_of equity.now)) }
+    ensures below { result.below ≡ mean_of below_zero (bar_returns (equity_of equity.now)) }
 {
     let points = columns::point_count(equity);
     let mut before = columns::equity_at(equity, 0);
     let mut itself = 0.0;
     let mut below = 0.0;
-    let mut i = 1;
-    while i < points {
+    for i in 1..points {
         let now = columns::equity_at(equity, i);
         let r = bar_return(before, now);
-        itself = itself + part_of(Part::Itself, r);
-        below = below + part_of(Part::Below, r);
+        itself += r;
+        below += below_zero(r);
         before = now;
-        i = i + 1;
     }
     let n = floats::sums::counted(return_count(equity) as u64);
     Means {
@@ -81,19 +72,17 @@ fn means_of(equity: &[u64]) -> Means
     }
 }
 
-// The mean of the part away from a mean, which has to be known first: a second pass.
+// The mean of the squares away from a mean, which has to be known first: a second pass.
 fn var_of(equity: &[u64], mean: f64) -> f64
-    ensures { result ≡ mean_of (Away mean) (bar_returns (equity_of equity.now)) }
+    ensures { result ≡ mean_of (away mean) (bar_returns (equity_of equity.now)) }
 {
     let points = columns::point_count(equity);
     let mut before = columns::equity_at(equity, 0);
     let mut total = 0.0;
-    let mut i = 1;
-    while i < points {
+    for i in 1..points {
         let now = columns::equity_at(equity, i);
-        total = total + part_of(Part::Away(mean), bar_return(before, now));
+        total += away(mean, bar_return(before, now));
         before = now;
-        i = i + 1;
     }
     total / floats::sums::counted(return_count(equity) as u64)
 }
@@ -108,6 +97,7 @@ pub struct Ratios {
 }
 
 // Both ratios; 0 for fewer than two points.
+#[tactic(auto, unfolding(crate::specs::Returns::sharpe_ratio, crate::specs::Returns::sortino_ratio))]
 pub fn ratios_of(equity: &[u64]) -> Ratios
     ensures sharpe { result.sharpe ≡ sharpe_ratio (equity_of equity.now) }
     ensures sortino { result.sortino ≡ sortino_ratio (equity_of equity.now) }

@@ -39,17 +39,16 @@ pub fn count_on(trades: &[u64], side: WinOrLoss) -> usize
 {
     let n = columns::trade_count(trades);
     let mut count = 0;
-    let mut i = 0;
-    while i < n {
+    for i in 0..n {
         if is_on(side, columns::pnl_at(trades, i)) {
-            count = count + 1;
+            count += 1;
         }
-        i = i + 1;
     }
     count
 }
 
 // How many of a hundred trades won; 0 where there is none.
+#[tactic(auto, unfolding(crate::specs::Trades::win_rate))]
 pub fn win_rate(trades: &[u64]) -> f64
     ensures { result ≡ win_rate (pnls_of trades.now) }
 {
@@ -67,18 +66,17 @@ pub fn gross(trades: &[u64], side: WinOrLoss) -> f64
 {
     let n = columns::trade_count(trades);
     let mut total = 0.0;
-    let mut i = 0;
-    while i < n {
+    for i in 0..n {
         let pnl = columns::pnl_at(trades, i);
         if is_on(side, pnl) {
-            total = total + size_of(side, pnl);
+            total += size_of(side, pnl);
         }
-        i = i + 1;
     }
     total
 }
 
 // Gross profit over gross loss.
+#[tactic(auto, unfolding(crate::specs::Trades::profit_factor))]
 pub fn profit_factor(trades: &[u64]) -> f64
     ensures { result ≡ profit_factor (pnls_of trades.now) }
 {

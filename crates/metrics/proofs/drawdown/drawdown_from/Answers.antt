@@ -6,23 +6,17 @@ use Rattle.metrics.proofs.drawdown.drawdown_from.Goals as goal
 pub loop-i-init : goal.loop-i-init
 loop-i-init c = refl
 
-pub overflow_add-i : goal.overflow_add-i
-overflow_add-i c = omega arith
-
-pub loop-i-smaller : goal.loop-i-smaller
-loop-i-smaller c = omega arith
-
 pub loop-i-preserved : goal.loop-i-preserved
 unfolding drawdown_from
 loop-i-preserved c =
     let loop = c.loop-i in
     rw (c.deepest_at-deepest.ensures, c.peak_at-peak.ensures)
     (turn (drawdown_from loop.peak loop.deepest) (equity_of c.args.equity.now) loop.i c.point_count-n.ensures
-    c.loop-i-test.true c.equity_at-e.ensures loop.invariant)
+    (omega arith) c.equity_at-e.ensures loop.invariant)
 
 pub returns : goal.returns
 unfolding drawdown_from
 returns c =
     let loop = c.loop-i in
     done (drawdown_from loop.peak loop.deepest) (equity_of c.args.equity.now) loop.i c.point_count-n.ensures
-    c.loop-i-test.false loop.invariant
+    (omega arith) loop.invariant

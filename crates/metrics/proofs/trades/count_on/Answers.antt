@@ -10,18 +10,12 @@ loop-i-init c = (omega arith, zero-add _)
 pub overflow_add-count : goal.overflow_add-count
 overflow_add-count c = omega arith
 
-pub overflow_add-i : goal.overflow_add-i
-overflow_add-i c = omega arith
-
-pub loop-i-smaller : goal.loop-i-smaller
-loop-i-smaller c = omega arith
-
 pub loop-i-preserved : goal.loop-i-preserved
 loop-i-preserved c =
     let loop = c.loop-i in
     let args = c.args in
     let told = turn_on (λ (sizes : List Float). loop.count + length sizes) args.side (pnls_of args.trades.now) loop.i
-    c.trade_count-n.ensures c.loop-i-test.true c.pnl_at.ensures loop.invariant.1 in
+    c.trade_count-n.ensures (omega arith) c.pnl_at.ensures loop.invariant.1 in
     let is-on = c.is_on.ensures in
     elim c.if-is_on.branch [ then-is_on w ↦ let q = told.0 (sym is-on ∙ w.if-is_on.true) in omega arith | else-is_on w ↦ let q = told.1 (sym is-on ∙ w.if-is_on.false) in omega arith ]
 
@@ -32,4 +26,4 @@ returns c =
     let loop = c.loop-i in
     sym (add-zero loop.count)
     ∙ done (λ (rest : List Float). loop.count + length (sizes_on args.side rest)) (pnls_of args.trades.now) loop.i
-    c.trade_count-n.ensures c.loop-i-test.false loop.invariant.1
+    c.trade_count-n.ensures (omega arith) loop.invariant.1

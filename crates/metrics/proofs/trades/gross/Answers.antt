@@ -25,21 +25,13 @@ pub size_of-total-requires : goal.size_of-total-requires
 unfolding gross
 size_of-total-requires c = search rules
 
-pub overflow_add-i : goal.overflow_add-i
-unfolding gross
-overflow_add-i c = omega arith
-
-pub loop-i-smaller : goal.loop-i-smaller
-unfolding gross
-loop-i-smaller c = omega arith
-
 pub loop-i-preserved : goal.loop-i-preserved
 unfolding sum_from
 loop-i-preserved c =
     let loop = c.loop-i in
     let args = c.args in
     let told = turn_on (sum_from loop.total) args.side (pnls_of args.trades.now) loop.i c.trade_count-n.ensures
-    c.loop-i-test.true c.pnl_at-pnl.ensures loop.invariant in
+    (omega arith) c.pnl_at-pnl.ensures loop.invariant in
     let is-on = c.is_on.ensures in
     elim c.if-is_on.branch [ then-is_on w ↦ rw (w.total-is, w.size_of-total.ensures) (told.0 (sym is-on ∙ w.if-is_on.true)) | else-is_on w ↦ rw w.total-is (told.1 (sym is-on ∙ w.if-is_on.false)) ]
 
@@ -49,4 +41,4 @@ returns c =
     let args = c.args in
     let loop = c.loop-i in
     done (λ (rest : List Float). sum_from loop.total (sizes_on args.side rest)) (pnls_of args.trades.now) loop.i
-    c.trade_count-n.ensures c.loop-i-test.false loop.invariant
+    c.trade_count-n.ensures (omega arith) loop.invariant
