@@ -48,7 +48,7 @@ pub(crate) fn dump(
     write!(output, "{answer:016x}")?;
     write_bytes(
         output,
-        text::rooms::bytes(area, 0, rooms::lent(sizes, rooms::AREA, area.len())),
+        text::rooms::part(area, 0, rooms::lent(sizes, rooms::AREA, area.len())),
     )
 }
 
@@ -89,7 +89,7 @@ pub(crate) fn part(
     write!(output, "{used:016x}")?;
     write_bytes(
         output,
-        text::rooms::bytes(area, 0, rooms::lent(sizes, rooms::AREA, area.len())),
+        text::rooms::part(area, 0, rooms::lent(sizes, rooms::AREA, area.len())),
     )
 }
 
@@ -106,7 +106,7 @@ fn restore_call(
     capi::power::ysh_restore(
         rooms::words_of(sizes, rooms::SETTINGS, settings),
         &mut state[from..s],
-        text::rooms::bytes(area, 0, rooms::lent(sizes, rooms::AREA, area.len())),
+        text::rooms::part(area, 0, rooms::lent(sizes, rooms::AREA, area.len())),
         &mut rows[from..r],
     )
 }

@@ -85,7 +85,7 @@ pub(crate) fn list<'a>(sizes: &[u64], tree: u64, lists: &'a [u8]) -> &'a [u8] {
     let room = list_room(tree);
     let from = list_at(room);
     let n = lent(sizes, room as usize, LIST);
-    text::rooms::bytes(lists, from, from + n)
+    text::rooms::part(lists, from, from + n)
 }
 
 // Fills the list of a room with the bytes of a line.

@@ -9,7 +9,7 @@ const NO_ROOM: u64 = u64::MAX;
 
 // The table that is lent.
 pub(crate) fn table<'a>(sizes: &[u64], room: &'a [u8]) -> &'a [u8] {
-    text::rooms::bytes(room, 0, rooms::size(sizes, rooms::TABLE))
+    text::rooms::part(room, 0, rooms::size(sizes, rooms::TABLE))
 }
 
 // The answer, the nodes and the rows.

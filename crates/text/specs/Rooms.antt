@@ -2,7 +2,7 @@
 use Rattle.std.specs.Prelude.{ℕ, ◌+◌, ◌-◌, ◌*◌, ◌/◌, ◌%◌, ◌^◌, cond, List, [], ◌∷◌, ltb, length, take, drop, get_or}
 
 -- those from one place up to another; none where there are not as many
-unfoldable pub part_of : List ℕ → ℕ → ℕ → List ℕ
+unfoldable pub part_of : {A : Type 0} → List A → ℕ → ℕ → List A
 part_of xs from to = cond (ltb to from) [] (cond (ltb (length xs) to) [] (take (to - from) (drop from xs)))
 
 -- a room whose places from `at` on have, up to place n, what f gives; its other places are as they were

@@ -63,19 +63,17 @@ fn next_word<R: Read>(input: &mut R) -> io::Result<Token> {
 pub fn read_line<R: Read>(input: &mut R, room: &mut [u64]) -> io::Result<usize>
     ensures { ReadsAtMost result room.new }
 {
-    let mut n = 0;
-    while n < room.len() {
+    for n in 0..room.len() {
         let token = next_word(input)?;
         if token.after == 0 {
             return Ok(n);
         }
         room[n] = token.word;
-        n += 1;
         if token.after == NEWLINE {
-            return Ok(n);
+            return Ok(n + 1);
         }
     }
-    Ok(n)
+    Ok(room.len())
 }
 
 // Writes a word's digits and the byte after them.

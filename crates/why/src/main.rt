@@ -71,7 +71,7 @@ fn take(
         }
         _ => ask(
             output,
-            text::rooms::bytes(table, 0, words::word(sizes, TABLE_SIZE) as usize),
+            text::rooms::part(table, 0, words::word(sizes, TABLE_SIZE) as usize),
             text::rooms::part(rows, 0, words::word(sizes, ROWS_SIZE) as usize),
             line,
         ),

@@ -1,10 +1,7 @@
--- The loop goes over the room: so many places are filled.
-use Rattle.words.specs.Prelude.{◌≡◌, ◌-◌, length}
-use Rattle.text.specs.{Rooms.lent, Rooms.word_in, Laws.Laid.Filling}
+-- So many places are filled.
+use Rattle.words.specs.Prelude.{◌≡◌}
+use Rattle.text.specs.{Rooms.laid, Rooms.word_in}
 use Rattle.text.proofs.rooms.fill.Given as goal
 
 abbrev pub invariant-loop-i : goal.invariant-loop-i
-invariant-loop-i l = (l.n ≡ lent l.line) × Filling (word_in l.line) l.initial.room (lent l.line) l.i l.room
-
-abbrev pub decreases-loop-i : goal.decreases-loop-i
-decreases-loop-i l = length l.initial.room - l.i
+invariant-loop-i l = l.room ≡ laid (word_in l.line) 0 l.i l.initial.room

@@ -1,23 +1,19 @@
-use Rattle.words.specs.Prelude.{arith}
-use Rattle.text.specs.{Rooms.filled_bytes, Laws.Laid.filling_none, Laws.Laid.filling_more}
-use Rattle.text.specs.{Laws.Laid.filling_done}
-use Rattle.text.specs.{Laws.Laid.filling_full}
+use Rattle.words.specs.Prelude.{sym, ◌∙◌, arith}
+use Rattle.text.specs.{Rooms.lent, Rooms.byte_in, Rooms.filled_bytes, Laws.Laid.laid_none, Laws.Laid.laid_next, Laws.Laid.laid_full}
 use Rattle.text.proofs.rooms.fill_bytes.Goals as goal
 
 pub loop-i-init : goal.loop-i-init
-unfolding filled_bytes
-loop-i-init c = (c.word-n.ensures, filling_none _ _ _)
-
-pub returns-then-n-i : goal.returns-then-n-i
-unfolding filled_bytes
-returns-then-n-i c = let l = c.loop-i in filling_done _ _ _ l.invariant.1 (omega (arith, l.invariant.0, c.if-n-i.true))
+loop-i-init c = let a = c.args in sym (laid_none (byte_in a.line.now) 0 0 a.room.now (omega arith))
 
 pub loop-i-preserved : goal.loop-i-preserved
-unfolding filled_bytes
 loop-i-preserved c =
+    let a = c.args in
     let l = c.loop-i in
-    (l.invariant.0, filling_more _ _ _ l.invariant.1 (omega (arith, l.invariant.0)) (omega arith) c.byte_from.ensures)
+    rw (c.byte_from.ensures, l.invariant) (laid_next (byte_in a.line.now) l.i a.room.now (omega arith))
 
 pub returns : goal.returns
 unfolding filled_bytes
-returns c = let l = c.loop-i in filling_full _ _ _ l.invariant.1 (omega arith)
+returns c =
+    let a = c.args in
+    let l = c.loop-i in
+    l.invariant ∙ laid_full (byte_in a.line.now) l.i (lent a.line.now) a.room.now (omega arith)
