@@ -1,5 +1,5 @@
 -- The decimal digits of a number: the definition's are what std writes for it.
-use Rattle.words.specs.Prelude.{◌≡◌, ◌∙◌, refl, sym, ap, List, [], ◌∷◌, ◌++◌, ℕ, zero, suc, ◌+◌, ◌/◌, ◌%◌, ◌^◌, ◌≤◌, ◌<◌, arith, lt-ltb, le-ltb, add-one, mod-eq_of_lt}
+use Rattle.words.specs.Prelude.{◌≡◌, ◌∙◌, sym, ap, List, [], ◌∷◌, ◌++◌, ℕ, zero, suc, ◌+◌, ◌/◌, ◌%◌, ◌^◌, ◌≤◌, ◌<◌, arith, lt-ltb, le-ltb, add-one, mod-eq_of_lt}
 use Rattle.std.specs.Fmt.{decimal as written}
 use Rattle.std.proofs.lemmas.Fmt.{AppendsLastDigit, decimal_from_appends, length-decimal-le}
 use Rattle.answers.specs.{Text.places, Text.decimal, Text.digit_code, Text.last_digits}

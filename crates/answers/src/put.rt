@@ -6,6 +6,7 @@ ghost use Rattle.answers.specs.Text as Text;
 use itoa::Buffer;
 
 // Puts bytes into the room from `at` on and answers the place just past them; where they do not fit, `at`.
+#[tactic(auto, unfolding(crate::specs::Text::put, crate::specs::Text::next))]
 pub(crate) fn put(room: &mut [u8], at: usize, bytes: &[u8]) -> usize
     ensures value { result ≡ next room.old at bytes.now }
     ensures room_after { room.new ≡ Text.put room.old at bytes.now }
@@ -16,11 +17,7 @@ pub(crate) fn put(room: &mut [u8], at: usize, bytes: &[u8]) -> usize
     if room.len() - at < bytes.len() {
         return at;
     }
-    let mut i = 0;
-    while i < bytes.len() {
-        room[at + i] = bytes[i];
-        i = i + 1;
-    }
+    room[at..at + bytes.len()].copy_from_slice(bytes);
     at + bytes.len()
 }
 
