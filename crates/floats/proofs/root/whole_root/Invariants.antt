@@ -1,10 +1,8 @@
 -- `floats::root::whole_root`: after each round what was found holds, and the weight is 4 to the rounds that are left. Assumes nothing.
-use Rattle.words.specs.Prelude.{◌≡◌, ◌+◌, ◌*◌, ◌^◌, ◌≤◌}
+use Rattle.words.specs.Prelude.{◌≡◌, ◌+◌, ◌-◌, ◌*◌, ◌^◌, ◌≤◌}
 use Rattle.floats.proofs.{root.Bits.Found}
 use Rattle.floats.proofs.root.whole_root.Given as goal
 
-abbrev pub invariant-loop-i : goal.invariant-loop-i
-invariant-loop-i l = (l.i ≤ 27) × (l.p.weight ≡ 4 ^ l.i) × Found (l.d * 2 ^ 54) l.p.twice l.p.rest l.p.weight × (l.p.twice + 2 * l.p.weight ≤ 2 ^ 55)
-
-abbrev pub decreases-loop-i : goal.decreases-loop-i
-decreases-loop-i l = l.i
+abbrev pub invariant-loop-round : goal.invariant-loop-round
+invariant-loop-round l =
+    (l.p.weight ≡ 4 ^ (27 - l._round)) × Found (l.d * 2 ^ 54) l.p.twice l.p.rest l.p.weight × (l.p.twice + 2 * l.p.weight ≤ 2 ^ 55)
