@@ -29,14 +29,7 @@ fn all_small(counts: &[u64]) -> bool
     requires { length counts.now ≡ count_size }
     ensures { result ≡ all_small counts.now }
 {
-    let mut i: usize = 0;
-    while i < 8 {
-        if MOST_COUNT < counts[i] {
-            return false;
-        }
-        i += 1;
-    }
-    true
+    counts.iter().all(|count| *count <= MOST_COUNT)
 }
 
 // How many trades there are: one count for each reason.
@@ -100,17 +93,15 @@ pub(crate) fn count_trades(counts: &mut [u64], trades: &[u64], n: usize) -> usiz
     ensures { (result ≡ length (good_start (trades_from n 0 trades.now)))
         × (counts.new ≡ with_counts counts.old (good_start (trades_from n 0 trades.now))) }
 {
-    let mut i: usize = 0;
-    while i < n {
+    for i in 0..n {
         let pnl = trades[TRADE_WORDS * i + places::TRADE_PNL];
         let reason = trades[TRADE_WORDS * i + places::TRADE_REASON];
         if !is_acceptable(pnl, reason) {
             return i;
         }
         count(counts, pnl, reason);
-        i += 1;
     }
-    i
+    n
 }
 
 // The counts of two together.

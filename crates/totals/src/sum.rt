@@ -70,20 +70,16 @@ fn shift(sum: &mut [u64], down: bool, at: usize, low: u64, high: u64)
         ≡ words_of (length sum.old)
         (shifted down (place (length sum.old)) (number_of sum.old) ((low + 2 ^ 64 * high) * place at)) }
 {
-    let mut i = at;
     let mut lo = low;
     let mut hi = high;
-    while i < sum.len() {
-        if lo == 0 {
-            if hi == 0 {
-                return;
-            }
+    for i in at..sum.len() {
+        if lo == 0 && hi == 0 {
+            return;
         }
         let d = digit(down, sum[i], lo);
         sum[i] = d.word;
         lo = hi + d.carry;
         hi = 0;
-        i += 1;
     }
 }
 
@@ -113,10 +109,8 @@ pub(crate) fn shift_all(sum: &mut [u64], down: bool, words: &[u64])
         ≡ words_of (length sum.old)
         (shifted down (place (length sum.old)) (number_of sum.old) (number_of words.now)) }
 {
-    let mut i: usize = 0;
-    while i < words.len() {
+    for i in 0..words.len() {
         shift(sum, down, i, words[i], 0);
-        i += 1;
     }
 }
 
@@ -136,10 +130,8 @@ pub(crate) fn add_trades(sum: &mut [u64], trades: &[u64])
     ensures { sum.new ≡ sum_with sum.old (pnl_sum (trades_of trades.now)) }
 {
     let n = trades.len() / TRADE_WORDS;
-    let mut i: usize = 0;
-    while i < n {
+    for i in 0..n {
         add_float(sum, trades[TRADE_WORDS * i + places::TRADE_PNL]);
-        i += 1;
     }
 }
 

@@ -1,44 +1,33 @@
-use Rattle.words.specs.Prelude.{◌≡◌, refl, sym, ap, ◌∙◌, false, List, ◌∷◌, ℕ, suc, ◌+◌, ◌<◌, ◌≤◌, arith, add-one, rules, le-leb, lt-leb}
-use Rattle.words.specs.Prelude.{length, get_or, drop, drop_of_length-le, drop-cons}
-use Rattle.words.specs.{Limits.most_count}
-use Rattle.totals.specs.{Totals.all_small}
+-- Each count passed the test, or one did not. Assumes nothing.
+use Rattle.words.specs.Prelude.{rules, ◌≡◌, refl, sym, Bool, true, false, List, ℕ, ◌<◌, ◌≤◌, ⊎_elim, arith, length, get_or, List·get_or-eq_default}
+use Rattle.words.specs.{Limits.most_count, Laws.Numbers.less_or_not}
+use Rattle.std.specs.Bool.{MatchBool}
+use Rattle.std.specs.List.{AllWithin, HoldsAt}
+use Rattle.std.proofs.lemmas.Iterator.{cases_from_all, YieldsList-from_slice}
+use borrow.Author.Tests.{tests}
+use Rattle.totals.specs.{Totals.all_small, Laws.Counts.small_all, Laws.Counts.all_small_lem}
 use Rattle.totals.proofs.counts.all_small.Goals as goal
 
--- the count at i is too large
-ends : (cs : List ℕ) (i : ℕ) → i < length cs → most_count < get_or cs i 0 → all_small (drop i cs) ≡ all_small cs → false ≡ all_small cs
-unfolding all_small
-ends cs i h l e = sym (lt_leb_small (get_or cs i 0) (drop (suc i) cs) l) ∙ ap all_small (sym (drop-cons cs i 0 h)) ∙ e
+by_cases : (cs : List ℕ) (r : Bool)
+    → MatchBool r (AllWithin (λ x. x ≤ most_count) cs 0 (length cs)) ((k : ℕ) × (k < length cs) × HoldsAt (λ x. most_count < x) cs k) → r ≡ all_small cs
+by_cases cs true h =
+    sym
+    (all_small_lem cs
+    (λ i.
+    ⊎_elim (λ (inside : i < length cs). h i 0 (omega arith) inside)
+    (λ (past : length cs ≤ i). let none : get_or cs i 0 ≡ 0 = List·get_or-eq_default cs 0 past in omega arith)
+    (less_or_not i (length cs))))
+by_cases cs false (k, below, large) = go (all_small cs) refl
   where
-    lt_leb_small : (c : ℕ) (rest : List ℕ) → most_count < c → all_small (c ∷ rest) ≡ false
-    lt_leb_small c rest k = simp (lt-leb c most_count k)
-
--- or is not
-goes_on : (cs : List ℕ) (i : ℕ) → i < length cs → get_or cs i 0 ≤ most_count → all_small (drop i cs) ≡ all_small cs → all_small (drop (i + 1) cs) ≡ all_small cs
-unfolding all_small
-goes_on cs i h l e =
-    ap (λ (k : ℕ). all_small (drop k cs)) (add-one i) ∙ sym (small (get_or cs i 0) (drop (suc i) cs) l) ∙ ap all_small (sym (drop-cons cs i 0 h)) ∙ e
-  where
-    small : (c : ℕ) (rest : List ℕ) → c ≤ most_count → all_small (c ∷ rest) ≡ all_small rest
-    small c rest k = simp (le-leb c most_count k)
-
-pub loop-i-init : goal.loop-i-init
-loop-i-init c = (search rules, refl)
-
-pub returns-then-counts-i-gt-MOST_COUNT : goal.returns-then-counts-i-gt-MOST_COUNT
-returns-then-counts-i-gt-MOST_COUNT c =
-    let l = c.loop-i in
-    let cs = c.args.counts.now in
-    ends cs l.i (omega (arith, c.requires)) c.if-counts-i-gt-MOST_COUNT.true l.invariant.1
-
-pub loop-i-preserved : goal.loop-i-preserved
-loop-i-preserved c =
-    let l = c.loop-i in
-    let cs = c.args.counts.now in
-    (omega arith, goes_on cs l.i (omega (arith, c.requires)) c.if-counts-i-gt-MOST_COUNT.false l.invariant.1)
+    go : (b : Bool) → all_small cs ≡ b → false ≡ b
+    go false e = refl
+    go true e = absurd (never (get_or cs k 0) (small_all cs e k) (large 0))
+      where
+        never : (x : ℕ) → x ≤ most_count → most_count < x → ⊥
+        never x p q = omega arith
 
 pub returns : goal.returns
-unfolding all_small
 returns c =
-    let l = c.loop-i in
-    let cs = c.args.counts.now in
-    sym (ap all_small (drop_of_length-le cs {i = l.i} (omega (arith, c.requires)))) ∙ l.invariant.1
+    by_cases c.args.counts.now c.all.result
+    (cases_from_all _ _ _ (λ x. x ≤ most_count) (λ x. most_count < x) c.all.ensures.ran (YieldsList-from_slice c.args.counts.now cc)
+    (λ x q k. search (rules, tests)) (λ x q k. search (rules, tests)))

@@ -27,11 +27,6 @@ returns-then-hi-eq0 c =
 pub overflow_add-lo : goal.overflow_add-lo
 overflow_add-lo c = omega (arith, c.digit-d.ensures.2)
 
-pub loop-i-smaller : goal.loop-i-smaller
-loop-i-smaller c =
-    let l = c.loop-i in
-    simp length-set (omega arith)
-
 pub loop-i-preserved : goal.loop-i-preserved
 loop-i-preserved c =
     let l = c.loop-i in
