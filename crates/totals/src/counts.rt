@@ -2,14 +2,18 @@
 ghost use Rattle.std.specs.Prelude.{◌≡◌, ◌∷◌, [], ◌*◌, ◌≤◌, length};
 ghost use Rattle.words.specs.Limits.{trade_words, most_count};
 ghost use Rattle.totals.specs.Trades.{trade, acceptable, good_start, trades_from, bit_of};
-ghost use Rattle.totals.specs.Totals.{count_size, counts_of, all_small, AllAtMost, with_counts, both_counts};
+ghost use Rattle.totals.specs.Totals.{counts_of, all_small, AllAtMost, with_counts, both_counts};
 ghost use Rattle.totals.specs.Totals as Totals;
 
 use words::limits::{MOST_COUNT, TRADE_WORDS};
 use words::places;
 
+// How many counts there are.
+pub(crate) const COUNTS: usize = 8;
+
 // The eight counts.
-pub(crate) fn counts_of(totals: &[u64]) -> [u64; 8]
+#[tactic(auto, unfolding(crate::specs::Totals::counts_of))]
+pub(crate) fn counts_of(totals: &[u64]) -> [u64; COUNTS]
     ensures { result ≡ counts_of totals.now }
 {
     [
@@ -25,24 +29,23 @@ pub(crate) fn counts_of(totals: &[u64]) -> [u64; 8]
 }
 
 // Whether none is above the most.
-fn all_small(counts: &[u64]) -> bool
-    requires { length counts.now ≡ count_size }
+fn all_small(counts: &[u64; COUNTS]) -> bool
     ensures { result ≡ all_small counts.now }
 {
     counts.iter().all(|count| *count <= MOST_COUNT)
 }
 
 // How many trades there are: one count for each reason.
-pub(crate) fn traded(counts: &[u64]) -> u64
-    requires { (length counts.now ≡ count_size) × AllAtMost most_count counts.now }
+#[tactic(auto, unfolding(crate::specs::Totals::traded))]
+pub(crate) fn traded(counts: &[u64; COUNTS]) -> u64
+    requires { AllAtMost most_count counts.now }
     ensures { result ≡ Totals.traded counts.now }
 {
     counts[0] + counts[1] + counts[2] + counts[3] + counts[4] + counts[5]
 }
 
 // Whether counts can be those of trades: none above the most, and no more wins and losses than trades.
-pub(crate) fn fine(counts: &[u64]) -> bool
-    requires { length counts.now ≡ count_size }
+pub(crate) fn fine(counts: &[u64; COUNTS]) -> bool
     ensures { result ≡ Totals.counts_fine counts.now }
 {
     if all_small(counts) {
@@ -52,19 +55,15 @@ pub(crate) fn fine(counts: &[u64]) -> bool
 }
 
 // Whether a trade can be counted and added: its pnl is finite, its reason one of the six.
+#[tactic(auto, unfolding(crate::specs::Trades::acceptable))]
 fn is_acceptable(pnl: u64, reason: u64) -> bool
     ensures { result ≡ acceptable (trade pnl reason) }
 {
-    if reason < 1 {
-        return false;
-    }
-    if 6 < reason {
-        return false;
-    }
-    floats::word_is_finite(pnl)
+    1 <= reason && reason <= 6 && floats::word_is_finite(pnl)
 }
 
 // Yes is 1, no is 0.
+#[tactic(auto, unfolding(crate::specs::Trades::bit_of))]
 fn bit_of(b: bool) -> u64
     ensures { result ≡ bit_of b }
 {
@@ -72,8 +71,8 @@ fn bit_of(b: bool) -> u64
 }
 
 // Counts one trade.
-fn count(counts: &mut [u64], pnl: u64, reason: u64)
-    requires { (1 ≤ reason) × (reason ≤ 6) × (length counts.old ≡ count_size) × AllAtMost (2 * most_count) counts.old }
+fn count(counts: &mut [u64; COUNTS], pnl: u64, reason: u64)
+    requires { (1 ≤ reason) × (reason ≤ 6) × AllAtMost (2 * most_count) counts.old }
     ensures { counts.new ≡ with_counts counts.old (trade pnl reason ∷ []) }
 {
     let x = floats::float_of(pnl);
@@ -87,9 +86,8 @@ fn count(counts: &mut [u64], pnl: u64, reason: u64)
 }
 
 // Counts the first n trades of a list up to the first that cannot be counted, and says how many that were.
-pub(crate) fn count_trades(counts: &mut [u64], trades: &[u64], n: usize) -> usize
-    requires { (n * trade_words ≤ length trades.now) × (n ≤ most_count)
-        × (length counts.old ≡ count_size) × AllAtMost most_count counts.old }
+pub(crate) fn count_trades(counts: &mut [u64; COUNTS], trades: &[u64], n: usize) -> usize
+    requires { (n * trade_words ≤ length trades.now) × (n ≤ most_count) × AllAtMost most_count counts.old }
     ensures { (result ≡ length (good_start (trades_from n 0 trades.now)))
         × (counts.new ≡ with_counts counts.old (good_start (trades_from n 0 trades.now))) }
 {
@@ -105,9 +103,8 @@ pub(crate) fn count_trades(counts: &mut [u64], trades: &[u64], n: usize) -> usiz
 }
 
 // The counts of two together.
-pub(crate) fn both_counts(counts: &[u64], others: &[u64]) -> [u64; 8]
-    requires { (length counts.now ≡ count_size) × (length others.now ≡ count_size)
-        × AllAtMost most_count counts.now × AllAtMost most_count others.now }
+pub(crate) fn both_counts(counts: &[u64; COUNTS], others: &[u64; COUNTS]) -> [u64; COUNTS]
+    requires { AllAtMost most_count counts.now × AllAtMost most_count others.now }
     ensures { result ≡ both_counts counts.now others.now }
 {
     [

@@ -5,13 +5,12 @@ mod counts;
 mod nearest;
 mod sum;
 
-ghost use Rattle.std.specs.Prelude.{◌≡◌, ◌++◌, ◌∷◌, [], length, leb};
+ghost use Rattle.std.specs.Prelude.{◌≡◌, ◌++◌, ◌∷◌, [], leb};
 ghost use Rattle.words.specs.Words.{overwrite};
 ghost use Rattle.words.specs.Limits.{most_count};
 ghost use Rattle.totals.specs.declared.Answer.TheVariants.{Done, Refused};
-ghost use Rattle.totals.specs.Exact.{sum_size};
 ghost use Rattle.totals.specs.Trades.{judged_count};
-ghost use Rattle.totals.specs.Totals.{count_size, unless, first_of, add_answer, add_leaves, join_answer, join_leaves};
+ghost use Rattle.totals.specs.Totals.{unless, first_of, add_answer, add_leaves, join_answer, join_leaves};
 
 use words::limits::{MOST_COUNT, TRADE_WORDS};
 use words::places;
@@ -40,6 +39,7 @@ fn refused(number: u64, place: u64) -> Answer
 }
 
 // How many of n trades are judged with 17: as many as totals can hold.
+#[tactic(auto, unfolding(crate::specs::Trades::judged_count))]
 fn judged_count(n: usize) -> usize
     ensures { result ≡ judged_count n }
 {
@@ -143,8 +143,12 @@ pub fn join(totals: &mut [u64], other: &[u64]) -> Answer
 }
 
 // Writes the 43 words.
-fn put_totals(totals: &mut [u64], counts: &[u64], sum: &[u64], float: u64)
-    requires { (length counts.now ≡ count_size) × (length sum.now ≡ sum_size) }
+fn put_totals(
+    totals: &mut [u64],
+    counts: &[u64; counts::COUNTS],
+    sum: &[u64; sum::SUM_WORDS],
+    float: u64,
+)
     ensures { totals.new ≡ overwrite totals.old 0 (counts.now ++ sum.now ++ (float ∷ [])) }
 {
     let mut all = [0u64; TOTAL_WORDS];

@@ -5,9 +5,9 @@ ghost use Rattle.std.specs.Float.Ieee.{round, size};
 ghost use Rattle.std.specs.Float.Ieee.Nearest.{closest};
 ghost use Rattle.floats.specs.Floats.{word_of};
 ghost use Rattle.totals.specs.Number.{number_of, Top};
-ghost use Rattle.totals.specs.Exact.{nearest_to, number_in, sum_size};
+ghost use Rattle.totals.specs.Exact.{nearest_to, number_in};
 
-use crate::sum::shift_all;
+use crate::sum::{SUM_WORDS, shift_all};
 
 // Of the first n words those up to the highest that is not 0.
 fn top(words: &[u64], n: usize) -> usize
@@ -95,14 +95,13 @@ fn nearest(words: &[u64]) -> u64
 }
 
 // The pattern of the float nearest to a sum in two's complement, of 34 words.
-pub(crate) fn nearest_to(sum: &[u64]) -> u64
-    requires { length sum.now ≡ sum_size }
+pub(crate) fn nearest_to(sum: &[u64; SUM_WORDS]) -> u64
     ensures { result ≡ word_of (nearest_to (number_in sum.now)) }
 {
     if words::word(sum, 33) < 0x8000_0000_0000_0000 {
         return nearest(sum);
     }
-    let mut size = [0u64; 34];
+    let mut size = [0u64; SUM_WORDS];
     shift_all(&mut size, true, sum);
     0x8000_0000_0000_0000 + nearest(&size)
 }

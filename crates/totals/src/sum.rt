@@ -4,7 +4,7 @@ ghost use Rattle.floats.specs.Root.{units_of};
 ghost use Rattle.totals.specs.Number.{Moves, number_of, words_of, place, shifted};
 ghost use Rattle.totals.specs.Totals.{total_words, sum_words, sum_with};
 ghost use Rattle.totals.specs.Trades.{trades_of, pnl_sum};
-ghost use Rattle.totals.specs.Exact.{number_in, sum_size};
+ghost use Rattle.totals.specs.Exact.{number_in};
 
 use words::limits::TRADE_WORDS;
 use words::places;
@@ -15,6 +15,9 @@ struct Carried {
     word: u64,
     carry: u64,
 }
+
+// The words of a sum.
+pub(crate) const SUM_WORDS: usize = 34;
 
 // What goes over into the next word where a sum passes a word's end, and where a difference does.
 const CARRY: u64 = 1;
@@ -115,18 +118,17 @@ pub(crate) fn shift_all(sum: &mut [u64], down: bool, words: &[u64])
 }
 
 // The 34 words of the sum in totals.
-pub(crate) fn sum_of(totals: &[u64]) -> [u64; 34]
+pub(crate) fn sum_of(totals: &[u64]) -> [u64; SUM_WORDS]
     requires { total_words ≤ length totals.now }
     ensures { result ≡ sum_words totals.now }
 {
-    let mut sum = [0u64; 34];
+    let mut sum = [0u64; SUM_WORDS];
     words::put(&mut sum, 0, &totals[8..42]);
     sum
 }
 
 // Adds the pnl of every trade of a list.
-pub(crate) fn add_trades(sum: &mut [u64], trades: &[u64])
-    requires { length sum.old ≡ sum_size }
+pub(crate) fn add_trades(sum: &mut [u64; SUM_WORDS], trades: &[u64])
     ensures { sum.new ≡ sum_with sum.old (pnl_sum (trades_of trades.now)) }
 {
     let n = trades.len() / TRADE_WORDS;
@@ -136,8 +138,8 @@ pub(crate) fn add_trades(sum: &mut [u64], trades: &[u64])
 }
 
 // Adds the sum of other totals.
-pub(crate) fn add_sum(sum: &mut [u64], other: &[u64])
-    requires { (length sum.old ≡ sum_size) × (total_words ≤ length other.now) }
+pub(crate) fn add_sum(sum: &mut [u64; SUM_WORDS], other: &[u64])
+    requires { total_words ≤ length other.now }
     ensures { sum.new ≡ sum_with sum.old (number_in (sum_words other.now)) }
 {
     shift_all(sum, false, &other[8..42]);

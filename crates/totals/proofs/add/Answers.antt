@@ -38,7 +38,7 @@ traded-traded-requires c =
     let small : (length c.counts_of-counts.result ≡ count_size)
     × AllAtMost most_count c.counts_of-counts.result = let fine_read : counts_fine c.counts_of-counts.result ≡ true = sym c.fine.ensures ∙ so _ c.if-not-fine.false-raw in
     (ap length c.counts_of-counts.ensures ∙ length_of _, fine_small _ fine_read) in
-    small
+    small.1
 
 pub count_trades-good-requires : goal.count_trades-good-requires
 count_trades-good-requires c =
@@ -47,7 +47,7 @@ count_trades-good-requires c =
     (ap length c.counts_of-counts.ensures ∙ length_of _, fine_small _ fine_read) in
     let judged = c.judged_count-judged.ensures in
     let most = judged_most (length c.args.trades.now / trade_words) in
-    (judged_few _ _ _ (at_most_as (sym judged) refl most.0) refl, at_most_as (sym judged) refl most.1, small.0, small.1)
+    (judged_few _ _ _ (at_most_as (sym judged) refl most.0) refl, at_most_as (sym judged) refl most.1, small.1)
 
 pub overflow_add-traded : goal.overflow_add-traded
 overflow_add-traded c =

@@ -43,13 +43,13 @@ pub traded-requires : goal.traded-requires
 traded-requires c =
     let small : (length c.counts_of-counts.result ≡ count_size)
     × AllAtMost most_count c.counts_of-counts.result = (ap length c.counts_of-counts.ensures ∙ length_of _, fine_small _ (sym c.fine.ensures ∙ so _ c.if-not-fine.false-raw)) in
-    small
+    small.1
 
 pub traded-requires-2 : goal.traded-requires-2
 traded-requires-2 c =
     let small_other : (length c.counts_of-more.result ≡ count_size)
     × AllAtMost most_count c.counts_of-more.result = (ap length c.counts_of-more.ensures ∙ length_of _, fine_small _ (sym c.fine-2.ensures ∙ so _ c.if-not-fine-2.false-raw)) in
-    small_other
+    small_other.1
 
 pub overflow_add-traded : goal.overflow_add-traded
 overflow_add-traded c =
@@ -85,7 +85,7 @@ both_counts-both-requires c =
     × AllAtMost most_count c.counts_of-counts.result = (ap length c.counts_of-counts.ensures ∙ length_of _, fine_small _ (sym c.fine.ensures ∙ so _ c.if-not-fine.false-raw)) in
     let small_other : (length c.counts_of-more.result ≡ count_size)
     × AllAtMost most_count c.counts_of-more.result = (ap length c.counts_of-more.ensures ∙ length_of _, fine_small _ (sym c.fine-2.ensures ∙ so _ c.if-not-fine-2.false-raw)) in
-    (small.0, small_other.0, small.1, small_other.1)
+    (small.1, small_other.1)
 
 pub returns : goal.returns
 returns c =

@@ -6,15 +6,15 @@ use Rattle.floats.specs.Floats as Floats
 use Rattle.totals.proofs.counts.count.Goals as goal
 
 pub overflow_add-ended : goal.overflow_add-ended
-overflow_add-ended c = omega (arith, c.requires.3 (c.args.reason - 1))
+overflow_add-ended c = omega (arith, c.requires.2 (c.args.reason - 1))
 
 pub overflow_add-wins : goal.overflow_add-wins
 overflow_add-wins c =
-    omega (arith, c.requires.3 6, subst (λ (k : ℕ). k ≤ 1) (sym c.bit_of.ensures) (bit_most _))
+    omega (arith, c.requires.2 6, subst (λ (k : ℕ). k ≤ 1) (sym c.bit_of.ensures) (bit_most _))
 
 pub overflow_add-losses : goal.overflow_add-losses
 overflow_add-losses c =
-    omega (arith, c.requires.3 7, subst (λ (k : ℕ). k ≤ 1) (sym c.bit_of-2.ensures) (bit_most _))
+    omega (arith, c.requires.2 7, subst (λ (k : ℕ). k ≤ 1) (sym c.bit_of-2.ensures) (bit_most _))
 
 pub returns : goal.returns
 returns c =
@@ -27,4 +27,4 @@ returns c =
     let losses : c.bit_of-2.result ≡ bit_of (lost (trade pnl reason)) = c.bit_of-2.ensures ∙ ap (λ (x : Float). bit_of (x ≺ Floats.zero)) float.ensures in
     ap (λ (k : ℕ). counted counts (reason - 1) k c.bit_of-2.result) wins
     ∙ ap (λ (k : ℕ). counted counts (reason - 1) (bit_of (won (trade pnl reason))) k) losses
-    ∙ counts_one counts pnl reason c.requires.2 c.requires.0 c.requires.1
+    ∙ counts_one counts pnl reason (omega arith) c.requires.0 c.requires.1

@@ -48,7 +48,7 @@ inside n i k len h l f = omega arith
 
 pub loop-i-init : goal.loop-i-init
 loop-i-init c =
-    (omega arith, c.requires.2, λ i. omega (arith, c.requires.3 i), begins c.args.counts.now c.args.trades.now c.args.n)
+    (omega arith, omega arith, λ i. omega (arith, c.requires.2 i), begins c.args.counts.now c.args.trades.now c.args.n)
 
 pub overflow_mul-pnl : goal.overflow_mul-pnl
 overflow_mul-pnl c = omega (arith, c.requires.1, c.loop-i-test.true)
@@ -76,10 +76,6 @@ pub bounds-trades-i-in-loop-i : goal.bounds-trades-i-in-loop-i
 bounds-trades-i-in-loop-i c =
     inside c.args.n c.loop-i.i 7 _ c.loop-i-test.true (omega arith) c.requires.0
 
-pub shape_of-counts-then-not-is_acceptable : goal.shape_of-counts-then-not-is_acceptable
-shape_of-counts-then-not-is_acceptable c =
-    c.loop-i.invariant.1 ∙ sym c.requires.2
-
 pub returns-then-not-is_acceptable : goal.returns-then-not-is_acceptable
 returns-then-not-is_acceptable c =
     let l = c.loop-i in
@@ -93,7 +89,7 @@ count-requires c =
     let l = c.loop-i in
     let fine : acceptable (trade_at l.i c.args.trades.now) ≡ true = sym c.is_acceptable.ensures ∙ so _ c.if-not-is_acceptable.false-raw in
     let reason = acceptable_reason _ fine in
-    (reason.0, reason.1, l.invariant.1, λ j. omega (arith, l.invariant.2 j, l.invariant.0, c.requires.1))
+    (reason.0, reason.1, λ j. omega (arith, l.invariant.2 j, l.invariant.0, c.requires.1))
 
 pub loop-i-preserved : goal.loop-i-preserved
 loop-i-preserved c =
@@ -109,9 +105,6 @@ loop-i-preserved c =
       subst (λ (cs : List ℕ). Counted c.args.counts.now trades c.args.n cs (l.i + 1) (good_from c.args.n (l.i + 1) trades)) (sym is)
           (goes_on c.args.counts.now trades c.args.n l.counts l.i taken fine l.invariant.3),
     )
-
-pub shape_of-counts : goal.shape_of-counts
-shape_of-counts c = c.loop-i.invariant.1 ∙ sym c.requires.2
 
 pub returns : goal.returns
 unfolding good_start

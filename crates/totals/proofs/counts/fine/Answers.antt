@@ -1,11 +1,7 @@
 -- Small ones can be added up. Assumes nothing.
-use Rattle.words.specs.Prelude.{refl, sym, ap, ◌∙◌, ◌+◌, arith, rules, leb, get_or}
+use Rattle.words.specs.Prelude.{refl, sym, ap, ◌∙◌, ◌+◌, arith, leb, get_or}
 use Rattle.totals.specs.{Totals.counts_fine, Laws.Counts.small_all}
 use Rattle.totals.proofs.counts.fine.Goals as goal
-
-pub all_small-requires : goal.all_small-requires
-unfolding counts_fine
-all_small-requires c = search rules
 
 pub overflow_add-result : goal.overflow_add-result
 overflow_add-result c =
@@ -14,7 +10,7 @@ overflow_add-result c =
 
 pub traded-requires : goal.traded-requires
 traded-requires c =
-    (c.requires, small_all _ (sym c.all_small.ensures ∙ c.if-all_small.true))
+    small_all _ (sym c.all_small.ensures ∙ c.if-all_small.true)
 
 pub returns-then-all_small : goal.returns-then-all_small
 unfolding counts_fine

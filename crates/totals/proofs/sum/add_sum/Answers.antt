@@ -23,8 +23,8 @@ unfolding sum_words
 returns c =
     let sum = c.args.sum.now in
     let other = c.args.other.now in
-    let words : AreWords sum = λ i. omega (arith, c.slice_known-1.given i) in
+    let words : AreWords sum = λ i. omega (arith, c.fits-sum i) in
     let others : AreWords other = λ i. omega (arith, c.type_inv.other i) in
     c.shift_all.ensures
-    ∙ ap (λ (n : ℕ). words_of n (shifted false (place n) (number_of sum) (number_of (take 34 (drop 8 other))))) c.requires.0
-    ∙ sum_with_sum sum words c.requires.0 (sum_words other) (sum_are_words other others c.requires.1) (sum_long other c.requires.1)
+    ∙ ap (λ (n : ℕ). words_of n (shifted false (place n) (number_of sum) (number_of (take 34 (drop 8 other))))) (omega arith)
+    ∙ sum_with_sum sum words (omega arith) (sum_words other) (sum_are_words other others c.requires) (sum_long other c.requires)

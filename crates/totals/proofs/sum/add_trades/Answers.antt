@@ -32,8 +32,8 @@ goes_on sum new trades n i h e =
 pub loop-i-init : goal.loop-i-init
 loop-i-init c = (
   omega arith,
-  λ i. omega (arith, c.type_inv.sum i),
-  c.requires,
+  λ i. omega (arith, c.fits-sum i),
+  omega arith,
   ap (λ (k : ℕ). sum_with c.args.sum.now (pnl_sum (trades_from k 0 c.args.trades.now))) (none_yet _),
 )
 
@@ -57,9 +57,6 @@ loop-i-preserved c =
       ap length is ∙ sum_length l.sum (units_in w),
       goes_on l.sum _ trades _ l.i c.loop-i-test.true is ∙ l.invariant.3,
     )
-
-pub shape_of-sum : goal.shape_of-sum
-shape_of-sum c = c.loop-i.invariant.2 ∙ sym c.requires
 
 pub returns : goal.returns
 unfolding trades_of pnl_sum
