@@ -10,6 +10,7 @@ pub struct Ring {
 }
 
 // The row that rows of so many places begin at: the first where there is no such row.
+#[tactic(auto, unfolding(crate::specs::Ring::start_within))]
 pub fn first_of(places: usize, start: usize) -> usize
     ensures { result ≡ start_within places start }
 {
@@ -17,6 +18,7 @@ pub fn first_of(places: usize, start: usize) -> usize
 }
 
 // Where row i of them stands.
+#[tactic(auto, unfolding(crate::specs::Ring::ring_place))]
 pub fn place(places: usize, first: usize, i: usize) -> usize
     ensures { result ≡ ring_place places first i }
 {
@@ -30,6 +32,7 @@ pub fn place(places: usize, first: usize, i: usize) -> usize
 }
 
 // The words before `at` and those from there up to `end` change places: each of the two is turned round, and then both as one.
+// (The library's `rotate_left` keeps words on the stack meanwhile, and the stack of a small device is counted.)
 fn change_places(room: &mut [u64], at: usize, end: usize)
     requires { (at ≤ end) × (end ≤ length room.old) }
     ensures { room.new ≡ drop at (take end room.old) ++ take at (take end room.old) ++ drop end room.old }
