@@ -58,10 +58,8 @@ pub fn root(t: &[u8], tree: u8) -> usize
     ensures { (result ≡ Header.root t.now tree) × (result ≤ 65535 * tree) }
 {
     let mut at: usize = 0;
-    let mut x: u8 = 0;
-    while x < tree {
+    for x in 0..tree {
         at += count(t, x);
-        x += 1;
     }
     at
 }

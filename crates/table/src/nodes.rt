@@ -146,11 +146,8 @@ pub fn wrong_node(t: &[u8], total: usize) -> Place
     ensures { result ≡ wrong_node t.now total 0 }
 {
     let form = form_of(t);
-    let mut i = 0;
-    while i < total {
-        if node_right(t, form, i) {
-            i += 1;
-        } else {
+    for i in 0..total {
+        if !node_right(t, form, i) {
             return Place::At(i);
         }
     }

@@ -10,7 +10,7 @@ ghost use Rattle.table.specs.Passes.{Roots, LinkedAll};
 
 use crate::answer::Answer;
 use crate::places::{Place, first_place};
-use crate::weighing::{BARS, capped, greater, weigh_tree};
+use crate::weighing::{BARS, capped, weigh_tree};
 use words::limits::MOST_REACH;
 use words::refusal::Refusal;
 
@@ -51,11 +51,8 @@ fn too_far(w: u64, x: u64, y: u64, z: u64, a: usize, b: usize, c: usize) -> Plac
 fn rows_needed(w: u64, x: u64, y: u64, z: u64) -> u64
     ensures { result ≡ min (max (max w x) (max y z)) most_rows + 1 }
 {
-    let p = greater(w, x);
-    let q = greater(y, z);
-    let most = greater(p, q);
-    let m = capped(most);
-    m + 1
+    let most = w.max(x).max(y.max(z));
+    capped(most) + 1
 }
 
 // Rule 9, and the answer where no rule is broken.

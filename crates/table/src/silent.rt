@@ -61,14 +61,10 @@ fn list_tree(t: &[u8], ends: &[usize; 256], d: u64, x: u8, list: &mut [u64], at:
     let e = header::root(t, x + 1);
     let far = weigh_tree(t, ends, BARS, b, e);
     let mut next = at;
-    let mut i = b;
-    while i < e {
+    for i in b..e {
         if is_silent(t, i, far[i], d) {
             put(list, next, i as u64);
             next += 1;
-            i += 1;
-        } else {
-            i += 1;
         }
     }
     next

@@ -15,23 +15,10 @@ pub const LEVELS: u8 = 0;
 
 pub const BARS: u8 = 1;
 
-pub fn greater(a: u64, b: u64) -> u64
-    ensures { result ≡ max a b }
-{
-    if a < b { b } else { a }
-}
-
 pub fn capped(a: u64) -> u64
     ensures { result ≡ min a most_rows }
 {
-    let most = MOST_ROWS as u64;
-    if a < most { a } else { most }
-}
-
-fn one_less(a: u64) -> u64
-    ensures { result ≡ a - 1 }
-{
-    if a < 1 { 0 } else { a - 1 }
+    a.min(MOST_ROWS as u64)
 }
 
 // What a node adds to the reach.
@@ -45,7 +32,7 @@ pub fn back_of(n: Node, w: Kind) -> u64
         return 1;
     }
     if w.back == BARS_BEFORE {
-        return one_less(n.n);
+        return n.n.saturating_sub(1);
     }
     0
 }
@@ -67,16 +54,15 @@ fn most_below(t: &[u8], ends: &[usize; 256], words: &[u64; 256], i: usize, e: us
     requires linked { Linked t.now ends.now (i + 1) e }
     ensures { Most t.now words.now i e result }
 {
-    let mut left = child_count_at(t, i);
+    let children = child_count_at(t, i);
     let mut most: u64 = 0;
     let mut j = i + 1;
-    while j < e {
-        if left == 0 {
+    for _ in 0..children {
+        if e <= j {
             return most;
         }
-        most = greater(most, words[j]);
+        most = most.max(words[j]);
         j = ends[j];
-        left -= 1;
     }
     most
 }
@@ -87,9 +73,7 @@ pub(crate) fn weigh_tree(t: &[u8], ends: &[usize; 256], what: u8, b: usize, e: u
     ensures { WordsFrom t.now result (weight what) b e }
 {
     let mut words = [0u64; 256];
-    let mut i = e;
-    while b < i {
-        i -= 1;
+    for i in (b..e).rev() {
         let own = weight_at(t, what, i);
         let most = most_below(t, ends, &words, i, e);
         let x = capped(own + most);
