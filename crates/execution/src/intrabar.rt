@@ -38,6 +38,8 @@ pub fn extreme_with(candle: Candle, pf: Portfolio, extreme: f64) -> f64
     extreme
 }
 
+// `level`'s reached_below and reached_above put the open first into the same `min` and `max`, which decides between two zeros' signs: so
+// these are no twins of those.
 // A level that is touched from above: filled there, or at the open where the bar opened under it.
 fn fall_to(level: f64, open: f64, low: f64) -> Optional
     ensures { result ≡ fall_to level «open» low }
@@ -108,7 +110,8 @@ fn first_of(stop: Optional, trail: Optional, take: Optional) -> Trigger
     or_else(stopped, or_else(trailed, taken))
 }
 
-// A long's stops stand under, its target over.
+// A long's stops stand under, its target over. It and a short's differ in each function that they call: one function over both would
+// be passed those as closures, and be no shorter.
 fn long_exit(candle: Candle, risk: Risk, entry: f64, extreme: f64) -> Trigger
     ensures { result ≡ long_exit candle risk entry extreme }
 {

@@ -131,6 +131,7 @@ fn no_cheaper_than(limit: f64, price: Optional, candle: Candle) -> Optional
     }
 }
 
+// It and a short's differ in each function that they call: one function over both would be passed those as closures, and be no shorter.
 fn long_fill(kind: OrderKind, candle: Candle) -> Optional
     ensures { result ≡ long_fill kind candle }
 {

@@ -67,15 +67,13 @@ fn tally_of(
 {
     let mut count: u64 = 0;
     let mut total = 0.0;
-    let mut i = first;
     let mut before = close_at(rows, slots, held, start, first);
-    while i < last {
-        i = i + 1;
-        let now = close_at(rows, slots, held, start, i);
+    for i in first..last {
+        let now = close_at(rows, slots, held, start, i + 1);
         let change = simple_return(before, now);
         if let Optional::Of(r) = change {
-            count = count + 1;
-            total = total + term_of(term, r);
+            count += 1;
+            total += term_of(term, r);
         }
         before = now;
     }
