@@ -1,8 +1,8 @@
 -- What the parts of the check promise each other while they work: statements about the arrays that the passes fill.
 -- Definitions only, and none of them is in a promise of `check`.
-use Rattle.std.specs.Prelude.{◌≡◌, cond, List, ◌∷◌, ℕ, ◌+◌, ◌-◌, ◌*◌, ◌≤◌, ◌<◌, min, length, get_or, ltb, eqb}
+use Rattle.std.specs.Prelude.{◌≡◌, cond, List, ◌∷◌, ℕ, ◌+◌, ◌-◌, ◌*◌, ◌≤◌, ◌<◌, min, length, get_or, ltb}
 use Rattle.words.specs.{Limits.most_rows, Limits.most_nodes}
-use Rattle.table.specs.{declared.nodes.Node.Node, declared.places.Place.Place, declared.places.Place.TheVariants.At, Header.total, Header.root}
+use Rattle.table.specs.{declared.weighing.Weight.Weight, declared.nodes.Node.Node, declared.places.Place.Place, declared.places.Place.TheVariants.At, Header.total, Header.root}
 use Rattle.table.specs.{Nodes.sort_at, Nodes.child_count_at, Order.fits, Forest.first_trees, Forest.trees, Reach.weigh, Reach.own_back, Ends.Linked}
 
 -- From here on a word is no end, but a place and as much more.
@@ -30,10 +30,11 @@ pub record Ordered (t : List ℕ) (b e : ℕ) (given ends : List ℕ) : Type 0 w
   pub below : (j : ℕ) → j < b → get_or ends j 0 ≡ get_or given j 0
   pub above : (j : ℕ) → e ≤ j → get_or ends j 0 ≡ get_or given j 0
 
--- Rules 8 and 9. The array of words: node j's is what its subtree weighs, capped at 4,096. Weight 0 is levels, weight 1 is
--- bars back.
-unfoldable pub weight : ℕ → Node → ℕ
-weight what n = cond (eqb what 0) 1 (own_back n)
+-- Rules 8 and 9. The array of words: node j's is what its subtree weighs, capped at 4,096. What is
+-- weighed is levels, or bars back.
+unfoldable pub weight : Weight → Node → ℕ
+weight Weight.Levels n = 1
+weight Weight.Bars n = own_back n
 
 unfoldable pub WordsFrom : List ℕ → List ℕ → (Node → ℕ) → ℕ → ℕ → Type 0
 WordsFrom t words w b e = (j : ℕ) → b ≤ j → j < e → get_or words j 0 ≡ min (weigh w (first_trees 1 (trees t (e - j) j))) most_rows

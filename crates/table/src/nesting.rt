@@ -7,7 +7,7 @@ ghost use Rattle.table.specs.Ends.{Linked};
 ghost use Rattle.table.specs.Passes.{Roots, LinkedAll};
 
 use crate::places::{Place, first_place};
-use crate::weighing::{LEVELS, weigh_tree};
+use crate::weighing::{Weight, weigh_tree};
 use words::limits::MOST_NESTING;
 
 // The first node of one tree below more than 32 levels: down where a subtree is too tall, past it where it is not.
@@ -16,7 +16,7 @@ fn deep_of(t: &[u8], ends: &[usize; 256], b: usize, e: usize) -> Place
     requires linked { Linked t.now ends.now b e }
     ensures { result ≡ deeper most_nesting (trees t.now (e - b) b) }
 {
-    let tall = weigh_tree(t, ends, LEVELS, b, e);
+    let tall = weigh_tree(t, ends, Weight::Levels, b, e);
     let mut left: u64 = MOST_NESTING as u64;
     let mut j = b;
     while j < e {

@@ -6,9 +6,7 @@ ghost use Rattle.table.specs.Nodes.{sort_at, child_count, child_count_at, child_
 
 use crate::bytes::{byte, read16, read32, read64};
 use crate::header::{Form, form_of};
-use crate::kinds::{
-    A_SERIES, AS_WRITTEN, BAR_COUNT, Kind, OVER_A_SERIES, SECOND, SLOT, kind_of, since_of,
-};
+use crate::kinds::{AS_WRITTEN, Kind, NumberUse, SECOND, kind_of, since_of};
 use crate::places::Place;
 use words::limits::MOST_REACH;
 
@@ -74,28 +72,23 @@ fn children_right(children: usize, takes: u8) -> bool
     }
 }
 
-fn n_right(k: u8, n: u64, used: u8) -> bool
+#[tactic(auto, unfolding(crate::specs::Nodes::n_right))]
+fn n_right(k: u8, n: u64, used: NumberUse) -> bool
     ensures { result ≡ n_right k n used }
 {
-    if used == 0 {
-        return n == 0;
+    match used {
+        NumberUse::Unused => n == 0,
+        NumberUse::Slot => n < k as u64,
+        NumberUse::AnyNumber => true,
+        NumberUse::BarCount => 1 <= n && n <= MOST_REACH,
     }
-    if used == SLOT {
-        return n < k as u64;
-    }
-    if used == BAR_COUNT {
-        if n < 1 {
-            return false;
-        }
-        return n <= MOST_REACH;
-    }
-    true
 }
 
-fn constant_right(bits: u64, used: u8) -> bool
+#[tactic(auto, unfolding(crate::specs::Nodes::constant_right))]
+fn constant_right(bits: u64, used: bool) -> bool
     ensures { result ≡ constant_right bits used }
 {
-    if used == 1 {
+    if used {
         floats::word_is_finite(bits)
     } else {
         bits == 0
@@ -184,13 +177,14 @@ pub fn child_count_at(t: &[u8], i: usize) -> usize
 }
 
 // Whether node `next` may be a child of a node with this row, its sort apart: Highest and Lowest take a Price or a Ref alone.
+#[tactic(auto, unfolding(crate::specs::Nodes::child_fits))]
 pub fn child_fits(t: &[u8], w: Kind, next: usize) -> bool
     ensures { result ≡ child_fits w (kind_of (node_at t.now next).kind) }
 {
-    if w.series == OVER_A_SERIES {
+    if w.series.takes_series() {
         let n = node_at(t, next);
         let child = kind_of(n.kind);
-        child.series == A_SERIES
+        child.series.is_series()
     } else {
         true
     }

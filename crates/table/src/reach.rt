@@ -10,7 +10,7 @@ ghost use Rattle.table.specs.Passes.{Roots, LinkedAll};
 
 use crate::answer::Answer;
 use crate::places::{Place, first_place};
-use crate::weighing::{BARS, capped, weigh_tree};
+use crate::weighing::{Weight, capped, weigh_tree};
 use words::limits::MOST_REACH;
 use words::refusal::Refusal;
 
@@ -24,7 +24,7 @@ fn reach_of(t: &[u8], ends: &[usize; 256], b: usize, e: usize) -> u64
     if e <= b {
         return 0;
     }
-    let far = weigh_tree(t, ends, BARS, b, e);
+    let far = weigh_tree(t, ends, Weight::Bars, b, e);
     far[b]
 }
 

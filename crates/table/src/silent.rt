@@ -12,7 +12,7 @@ ghost use Rattle.table.specs.Silent.{WholeTrees, silent_answer, list_after_answe
 use crate::answer::Answer;
 use crate::kinds::{CONDITION, OPERAND, kind_of};
 use crate::nodes::node_at;
-use crate::weighing::{BARS, weigh_tree};
+use crate::weighing::{Weight, weigh_tree};
 use crate::{check, header};
 use words::refusal::Refusal;
 
@@ -59,7 +59,7 @@ fn list_tree(t: &[u8], ends: &[usize; 256], d: u64, x: u8, list: &mut [u64], at:
 {
     let b = header::root(t, x);
     let e = header::root(t, x + 1);
-    let far = weigh_tree(t, ends, BARS, b, e);
+    let far = weigh_tree(t, ends, Weight::Bars, b, e);
     let mut next = at;
     for i in b..e {
         if is_silent(t, i, far[i], d) {

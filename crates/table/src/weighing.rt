@@ -7,13 +7,16 @@ ghost use Rattle.table.specs.Reach.{back};
 ghost use Rattle.table.specs.Ends.{Linked};
 ghost use Rattle.table.specs.Passes.{weight, Most, WordsFrom};
 
-use crate::kinds::{BARS_BEFORE, ITS_N, Kind, ONE_BAR, kind_of};
+use crate::kinds::{Back, Kind, kind_of};
 use crate::nodes::{Node, child_count_at, node_at};
 use words::limits::MOST_ROWS;
 
-pub const LEVELS: u8 = 0;
-
-pub const BARS: u8 = 1;
+// What is weighed: how many levels a subtree has, or how many bars it reads back.
+#[derive(Clone, Copy, PartialEq, Eq, Debug)]
+pub enum Weight {
+    Levels,
+    Bars,
+}
 
 pub fn capped(a: u64) -> u64
     ensures { result ≡ min a most_rows }
@@ -22,30 +25,30 @@ pub fn capped(a: u64) -> u64
 }
 
 // What a node adds to the reach.
+#[tactic(auto, unfolding(crate::specs::Reach::back))]
 pub fn back_of(n: Node, w: Kind) -> u64
     ensures { result ≡ back n w }
 {
-    if w.back == ITS_N {
-        return n.n;
+    match w.back {
+        Back::Nothing => 0,
+        Back::ItsN => n.n,
+        Back::OneBar => 1,
+        Back::BarsBefore => n.n.saturating_sub(1),
     }
-    if w.back == ONE_BAR {
-        return 1;
-    }
-    if w.back == BARS_BEFORE {
-        return n.n.saturating_sub(1);
-    }
-    0
 }
 
-fn weight_at(t: &[u8], what: u8, i: usize) -> u64
+#[tactic(auto, unfolding(crate::specs::Passes::weight, crate::specs::Reach::own_back))]
+fn weight_at(t: &[u8], what: Weight, i: usize) -> u64
     ensures { result ≡ min (weight what (node_at t.now i)) most_rows }
 {
-    if what == LEVELS {
-        return 1;
+    match what {
+        Weight::Levels => 1,
+        Weight::Bars => {
+            let n = node_at(t, i);
+            let w = kind_of(n.kind);
+            capped(back_of(n, w))
+        }
     }
-    let n = node_at(t, i);
-    let w = kind_of(n.kind);
-    capped(back_of(n, w))
 }
 
 // The greatest word of node i's children.
@@ -67,7 +70,13 @@ fn most_below(t: &[u8], ends: &[usize; 256], words: &[u64; 256], i: usize, e: us
     most
 }
 
-pub(crate) fn weigh_tree(t: &[u8], ends: &[usize; 256], what: u8, b: usize, e: usize) -> [u64; 256]
+pub(crate) fn weigh_tree(
+    t: &[u8],
+    ends: &[usize; 256],
+    what: Weight,
+    b: usize,
+    e: usize,
+) -> [u64; 256]
     requires b_le_e { (b ≤ e) × (e ≤ most_nodes) }
     requires linked { Linked t.now ends.now b e }
     ensures { WordsFrom t.now result (weight what) b e }
