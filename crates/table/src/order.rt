@@ -3,11 +3,12 @@ ghost use Rattle.std.specs.Prelude.{◌≡◌, ◌+◌, ◌-◌, ◌≤◌, ◌<
 ghost use Rattle.words.specs.Limits.{most_nodes};
 ghost use Rattle.table.specs.Nodes.{child_count_at, child_sort_at, child_fits_at};
 ghost use Rattle.table.specs.Order.{misfit, misfits};
-ghost use Rattle.table.specs.Passes.{Ended, EndedFrom, Ordered, Roots, EndedAll};
+ghost use Rattle.table.specs.Passes.{Ended, EndedFrom, Ordered, AreRoots, EndedAll};
 
 use crate::kinds::{CONDITION, kind_of};
 use crate::nodes::{child_count, child_fits, node_at, sort_at};
 use crate::places::{Place, first_place};
+use crate::trees::Roots;
 
 // From here on a word is no end, but the place where a subtree stops fitting and as much more.
 const MISFIT_FROM: usize = 512;
@@ -86,33 +87,27 @@ fn misfit_of(t: &[u8], ends: &[usize; 256], b: usize, e: usize) -> Place
     Place::Nowhere
 }
 
-// The ends of the four trees: a, b and c are the roots of the second to the fourth, e is the end.
-pub(crate) fn order_all(t: &[u8], a: usize, b: usize, c: usize, e: usize) -> [usize; 256]
-    requires { Roots t.now a b c e }
-    ensures { EndedAll t.now result a b c e }
+// The ends of the four trees.
+pub(crate) fn order_all(t: &[u8], roots: Roots) -> [usize; 256]
+    requires { AreRoots t.now roots }
+    ensures { EndedAll t.now result roots }
 {
     let none = [0usize; 256];
-    let one = order_tree(t, none, 0, a);
-    let two = order_tree(t, one, a, b);
-    let three = order_tree(t, two, b, c);
-    order_tree(t, three, c, e)
+    let one = order_tree(t, none, 0, roots.exit);
+    let two = order_tree(t, one, roots.exit, roots.short_entry);
+    let three = order_tree(t, two, roots.short_entry, roots.short_exit);
+    order_tree(t, three, roots.short_exit, roots.end)
 }
 
-pub(crate) fn misfits_of(
-    t: &[u8],
-    ends: &[usize; 256],
-    a: usize,
-    b: usize,
-    c: usize,
-    e: usize,
-) -> Place
-    requires roots { Roots t.now a b c e }
-    requires ended_all { EndedAll t.now ends.now a b c e }
+// The first place where one of the four trees stops fitting.
+pub(crate) fn misfits_of(t: &[u8], ends: &[usize; 256], roots: Roots) -> Place
+    requires roots { AreRoots t.now roots }
+    requires ended_all { EndedAll t.now ends.now roots }
     ensures { result ≡ misfits t.now }
 {
-    let p = misfit_of(t, ends, 0, a);
-    let q = misfit_of(t, ends, a, b);
-    let r = misfit_of(t, ends, b, c);
-    let s = misfit_of(t, ends, c, e);
+    let p = misfit_of(t, ends, 0, roots.exit);
+    let q = misfit_of(t, ends, roots.exit, roots.short_entry);
+    let r = misfit_of(t, ends, roots.short_entry, roots.short_exit);
+    let s = misfit_of(t, ends, roots.short_exit, roots.end);
     first_place(p, q, r, s)
 }
