@@ -1,7 +1,7 @@
 -- The table of kinds: what a node of each kind takes. `Named` has the kinds by name. Definitions only.
 use Rattle.std.specs.Prelude.{List, [], ◌∷◌, ℕ, Bool, true, false, ◌&&◌, eqb, get_or}
 use Rattle.table.specs.{declared.kinds.Kind.Kind, declared.kinds.OperandClass.OperandClass, declared.kinds.ConditionClass.ConditionClass}
-use Rattle.table.specs.{declared.kinds.NumberUse.NumberUse, declared.kinds.Back.Back, declared.kinds.SeriesRole.SeriesRole}
+use Rattle.table.specs.{declared.kinds.Children.Children, declared.kinds.NumberUse.NumberUse, declared.kinds.Back.Back, declared.kinds.SeriesRole.SeriesRole}
 use Rattle.table.specs.{declared.kinds.Row.Row, declared.kinds.OperandClass.TheVariants.NoOperand, declared.kinds.OperandClass.TheVariants.Const}
 use Rattle.table.specs.{declared.kinds.OperandClass.TheVariants.Ref, declared.kinds.OperandClass.TheVariants.Price}
 use Rattle.table.specs.{declared.kinds.OperandClass.TheVariants.Prev, declared.kinds.OperandClass.TheVariants.Arith}
@@ -21,22 +21,19 @@ operand = 1
 abbrev pub condition : ℕ
 condition = 2
 
--- What stands below a node: how many children, and of which sort. 255 children: as many as the node says.
+-- What stands below a node: how many children, and of which sort.
 pub record Takes : Type 0 where
-  pub children : ℕ
+  pub children : Children
   pub sort : ℕ
 
 abbrev pub leaf : Takes
-leaf = record { children = 0; sort = 0 }
+leaf = record { children = Children.Exactly 0; sort = 0 }
 
 abbrev pub operands : ℕ → Takes
-operands m = record { children = m; sort = operand }
+operands m = record { children = Children.Exactly m; sort = operand }
 
-abbrev pub conditions : ℕ → Takes
-conditions m = record { children = m; sort = condition }
-
-abbrev pub as_written : ℕ
-as_written = 255
+abbrev pub conditions : Children → Takes
+conditions many = record { children = many; sort = condition }
 
 -- Which fields a node uses beside its kind. An unused selector has one value, zero; n is unused, a slot, any number or how many bars; and
 -- whether the constant is used.
@@ -146,13 +143,13 @@ abbrev pub trend : Kind
 trend = a_condition Trend (operands 1) its_number Back.ItsN
 
 abbrev pub all_of : Kind
-all_of = a_condition All (conditions as_written) kind_alone Back.Nothing
+all_of = a_condition All (conditions Children.AsWritten) kind_alone Back.Nothing
 
 abbrev pub any_of : Kind
-any_of = a_condition Any (conditions as_written) kind_alone Back.Nothing
+any_of = a_condition Any (conditions Children.AsWritten) kind_alone Back.Nothing
 
 abbrev pub negation : Kind
-negation = a_condition Not (conditions 1) kind_alone Back.Nothing
+negation = a_condition Not (conditions (Children.Exactly 1)) kind_alone Back.Nothing
 
 abbrev pub position : Kind
 position = a_condition InPosition leaf (selector_below 2) Back.Nothing

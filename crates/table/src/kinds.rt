@@ -82,6 +82,13 @@ pub enum ConditionClass {
     BarsSince,
 }
 
+// How many children a node takes: so many, or as many as its own field says.
+#[derive(Clone, Copy, PartialEq, Eq, Debug)]
+pub enum Children {
+    Exactly(u8),
+    AsWritten,
+}
+
 // What n is: unused and so zero, a slot below K, any number, or how many bars: 1 to 4,095.
 #[derive(Clone, Copy, PartialEq, Eq, Debug)]
 pub enum NumberUse {
@@ -130,7 +137,7 @@ pub struct Kind {
     pub operand: OperandClass,
     pub condition: ConditionClass,
     pub sort: u8,
-    pub children: u8,
+    pub children: Children,
     pub below: u8,
     pub selectors: u8,
     pub n: NumberUse,
@@ -144,14 +151,11 @@ pub const OPERAND: u8 = 1;
 
 pub const CONDITION: u8 = 2;
 
-// How many children: as many as the node's own field says.
-pub const AS_WRITTEN: u8 = 255;
-
 const UNKNOWN_ROW: Kind = Kind {
     operand: OperandClass::NoOperand,
     condition: ConditionClass::NoCondition,
     sort: 0,
-    children: 0,
+    children: Children::Exactly(0),
     below: 0,
     selectors: 0,
     n: NumberUse::Unused,
@@ -164,7 +168,7 @@ const CONST_ROW: Kind = Kind {
     operand: OperandClass::Const,
     condition: ConditionClass::NoCondition,
     sort: OPERAND,
-    children: 0,
+    children: Children::Exactly(0),
     below: 0,
     selectors: 1,
     n: NumberUse::Unused,
@@ -177,7 +181,7 @@ const REF_ROW: Kind = Kind {
     operand: OperandClass::Ref,
     condition: ConditionClass::NoCondition,
     sort: OPERAND,
-    children: 0,
+    children: Children::Exactly(0),
     below: 0,
     selectors: 1,
     n: NumberUse::Slot,
@@ -190,7 +194,7 @@ const PRICE_ROW: Kind = Kind {
     operand: OperandClass::Price,
     condition: ConditionClass::NoCondition,
     sort: OPERAND,
-    children: 0,
+    children: Children::Exactly(0),
     below: 0,
     selectors: 7,
     n: NumberUse::Unused,
@@ -203,7 +207,7 @@ const PREV_ROW: Kind = Kind {
     operand: OperandClass::Prev,
     condition: ConditionClass::NoCondition,
     sort: OPERAND,
-    children: 1,
+    children: Children::Exactly(1),
     below: OPERAND,
     selectors: 1,
     n: NumberUse::AnyNumber,
@@ -216,7 +220,7 @@ const ARITH_ROW: Kind = Kind {
     operand: OperandClass::Arith,
     condition: ConditionClass::NoCondition,
     sort: OPERAND,
-    children: 2,
+    children: Children::Exactly(2),
     below: OPERAND,
     selectors: 1,
     n: NumberUse::Unused,
@@ -229,7 +233,7 @@ const EXTREME_ROW: Kind = Kind {
     operand: OperandClass::Extreme,
     condition: ConditionClass::NoCondition,
     sort: OPERAND,
-    children: 1,
+    children: Children::Exactly(1),
     below: OPERAND,
     selectors: 1,
     n: NumberUse::BarCount,
@@ -242,7 +246,7 @@ const COMPARE_ROW: Kind = Kind {
     operand: OperandClass::NoOperand,
     condition: ConditionClass::Compare,
     sort: CONDITION,
-    children: 2,
+    children: Children::Exactly(2),
     below: OPERAND,
     selectors: 1,
     n: NumberUse::Unused,
@@ -255,7 +259,7 @@ const CROSS_ROW: Kind = Kind {
     operand: OperandClass::NoOperand,
     condition: ConditionClass::Cross,
     sort: CONDITION,
-    children: 2,
+    children: Children::Exactly(2),
     below: OPERAND,
     selectors: 1,
     n: NumberUse::Unused,
@@ -268,7 +272,7 @@ const BETWEEN_ROW: Kind = Kind {
     operand: OperandClass::NoOperand,
     condition: ConditionClass::Between,
     sort: CONDITION,
-    children: 3,
+    children: Children::Exactly(3),
     below: OPERAND,
     selectors: 1,
     n: NumberUse::Unused,
@@ -281,7 +285,7 @@ const TREND_ROW: Kind = Kind {
     operand: OperandClass::NoOperand,
     condition: ConditionClass::Trend,
     sort: CONDITION,
-    children: 1,
+    children: Children::Exactly(1),
     below: OPERAND,
     selectors: 1,
     n: NumberUse::AnyNumber,
@@ -294,7 +298,7 @@ const ALL_ROW: Kind = Kind {
     operand: OperandClass::NoOperand,
     condition: ConditionClass::All,
     sort: CONDITION,
-    children: AS_WRITTEN,
+    children: Children::AsWritten,
     below: CONDITION,
     selectors: 1,
     n: NumberUse::Unused,
@@ -307,7 +311,7 @@ const ANY_ROW: Kind = Kind {
     operand: OperandClass::NoOperand,
     condition: ConditionClass::Any,
     sort: CONDITION,
-    children: AS_WRITTEN,
+    children: Children::AsWritten,
     below: CONDITION,
     selectors: 1,
     n: NumberUse::Unused,
@@ -320,7 +324,7 @@ const NOT_ROW: Kind = Kind {
     operand: OperandClass::NoOperand,
     condition: ConditionClass::Not,
     sort: CONDITION,
-    children: 1,
+    children: Children::Exactly(1),
     below: CONDITION,
     selectors: 1,
     n: NumberUse::Unused,
@@ -333,7 +337,7 @@ const IN_POSITION_ROW: Kind = Kind {
     operand: OperandClass::NoOperand,
     condition: ConditionClass::InPosition,
     sort: CONDITION,
-    children: 0,
+    children: Children::Exactly(0),
     below: 0,
     selectors: 2,
     n: NumberUse::Unused,
@@ -346,7 +350,7 @@ const BARS_SINCE_ROW: Kind = Kind {
     operand: OperandClass::NoOperand,
     condition: ConditionClass::BarsSince,
     sort: CONDITION,
-    children: 0,
+    children: Children::Exactly(0),
     below: 0,
     selectors: 5,
     n: NumberUse::AnyNumber,

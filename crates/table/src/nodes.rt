@@ -6,7 +6,7 @@ ghost use Rattle.table.specs.Nodes.{sort_at, child_count, child_count_at, child_
 
 use crate::bytes::{byte, read16, read32, read64};
 use crate::header::{Form, form_of};
-use crate::kinds::{AS_WRITTEN, Kind, NumberUse, SECOND, kind_of, since_of};
+use crate::kinds::{Children, Kind, NumberUse, SECOND, kind_of, since_of};
 use crate::places::Place;
 use words::limits::MOST_REACH;
 
@@ -62,13 +62,13 @@ fn kind_right(version: usize, kind: u8) -> bool
     }
 }
 
-fn children_right(children: usize, takes: u8) -> bool
+#[tactic(auto, unfolding(crate::specs::Nodes::children_right))]
+fn children_right(children: usize, takes: Children) -> bool
     ensures { result ≡ children_right children takes }
 {
-    if takes == AS_WRITTEN {
-        true
-    } else {
-        children == 0
+    match takes {
+        Children::AsWritten => true,
+        Children::Exactly(_) => children == 0,
     }
 }
 
@@ -95,34 +95,21 @@ fn constant_right(bits: u64, used: bool) -> bool
     }
 }
 
+#[tactic(auto, unfolding(crate::specs::Nodes::fields_right))]
 fn fields_right(k: u8, n: Node, w: Kind) -> bool
     ensures { result ≡ fields_right k n w }
 {
-    if w.selectors <= n.selector {
-        return false;
-    }
-    if children_right(n.children, w.children) {
-        if n_right(k, n.n, w.n) {
-            constant_right(n.constant, w.constant)
-        } else {
-            false
-        }
-    } else {
-        false
-    }
+    n.selector < w.selectors
+        && children_right(n.children, w.children)
+        && n_right(k, n.n, w.n)
+        && constant_right(n.constant, w.constant)
 }
 
+#[tactic(auto, unfolding(crate::specs::Nodes::own_right))]
 fn own_right(form: Form, n: Node, w: Kind) -> bool
     ensures { result ≡ own_right form n w }
 {
-    if w.sort == 0 {
-        return false;
-    }
-    if kind_right(form.version, n.kind) {
-        fields_right(form.slots, n, w)
-    } else {
-        false
-    }
+    w.sort != 0 && kind_right(form.version, n.kind) && fields_right(form.slots, n, w)
 }
 
 // Whether node i's own bytes are right, in a table of the form given.
@@ -157,13 +144,13 @@ pub fn sort_at(t: &[u8], i: usize) -> u8
 }
 
 // How many children a node takes, by its kind's row.
+#[tactic(auto, unfolding(crate::specs::Nodes::child_count))]
 pub fn child_count(n: Node, w: Kind) -> usize
     ensures { result ≡ child_count n w }
 {
-    if w.children == AS_WRITTEN {
-        n.children
-    } else {
-        w.children as usize
+    match w.children {
+        Children::AsWritten => n.children,
+        Children::Exactly(count) => count as usize,
     }
 }
 

@@ -4,7 +4,7 @@
 use Rattle.std.specs.Prelude.{◌≡◌, refl, Bool, true, cond, ◌&&◌, List, ℕ, ◌+◌, ◌-◌, ◌≤◌, ◌<◌, get_or, leb, eqb}
 use Rattle.words.specs.Prelude.{sym, ◌∙◌, ap, true≢false, ⊎_elim, arith, eq-zero-or-pos}
 use Rattle.words.specs.Prelude.{List·get_or-eq_default, leb-true, eqb-true, eq-eqb}
-use Rattle.table.specs.{declared.kinds.Kind.Kind, declared.kinds.OperandClass.OperandClass, declared.kinds.OperandClass.TheVariants.NoOperand}
+use Rattle.table.specs.{declared.kinds.Children.Children, declared.kinds.Kind.Kind, declared.kinds.OperandClass.OperandClass, declared.kinds.OperandClass.TheVariants.NoOperand}
 use Rattle.table.specs.{declared.kinds.OperandClass.TheVariants.Const, declared.kinds.OperandClass.TheVariants.Ref}
 use Rattle.table.specs.{declared.kinds.OperandClass.TheVariants.Price, declared.kinds.OperandClass.TheVariants.Prev}
 use Rattle.table.specs.{declared.kinds.OperandClass.TheVariants.Arith, declared.kinds.OperandClass.TheVariants.Extreme}
@@ -131,13 +131,13 @@ extreme_since_lem k r =
     rw r at (of_rows extreme_since (λ i. second_version) (unfold from kind_of kinds since_of versions extreme_since in refl) k low)
 
 -- what takes a series takes one child
-children_over_series : ℕ → ℕ
-children_over_series k = cond (takes_series (kind_of k).series) (kind_of k).children 1
+children_over_series : ℕ → Children
+children_over_series k = cond (takes_series (kind_of k).series) (kind_of k).children (Children.Exactly 1)
 
-children_over_series_lem : (k : ℕ) → k < 32 → children_over_series k ≡ 1
-children_over_series_lem = of_rows children_over_series (λ i. 1) (unfold from kind_of kinds children_over_series in refl)
+children_over_series_lem : (k : ℕ) → k < 32 → children_over_series k ≡ Children.Exactly 1
+children_over_series_lem = of_rows children_over_series (λ i. Children.Exactly 1) (unfold from kind_of kinds children_over_series in refl)
 
-pub over_series_one : (k : ℕ) → takes_series (kind_of k).series ≡ true → (kind_of k).children ≡ 1
+pub over_series_one : (k : ℕ) → takes_series (kind_of k).series ≡ true → (kind_of k).children ≡ Children.Exactly 1
 unfolding children_over_series
 over_series_one k h = ⊎_elim
     (λ z. rw h at (children_over_series_lem k (omega arith)))
