@@ -95,6 +95,7 @@ fn version_right(t: &[u8], newest: usize) -> bool
 }
 
 // The first of rules 1 to 5 that the table breaks, or 0, for a reader of versions 1 to `newest`.
+#[tactic(auto, unfolding(crate::specs::Header::header_refusal))]
 pub fn header_refusal(t: &[u8], newest: usize) -> u8
     ensures { result ≡ header_refusal newest t.now }
 {

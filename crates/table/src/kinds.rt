@@ -417,6 +417,7 @@ const KINDS: [Row; 32] = [
 ];
 
 // The row of a name.
+#[tactic(auto, unfolding(crate::specs::Kinds::row_named))]
 fn row_named(name: Row) -> Kind
     ensures { result ≡ row_named name }
 {

@@ -52,14 +52,11 @@ pub fn node_at(t: &[u8], i: usize) -> Node
     }
 }
 
+#[tactic(auto, unfolding(crate::specs::Nodes::kind_right))]
 fn kind_right(version: usize, kind: u8) -> bool
     ensures { result ≡ kind_right version kind }
 {
-    if since_of(kind) == SECOND {
-        SECOND as usize <= version
-    } else {
-        true
-    }
+    since_of(kind) != SECOND || SECOND as usize <= version
 }
 
 #[tactic(auto, unfolding(crate::specs::Nodes::children_right))]
@@ -135,6 +132,7 @@ pub fn wrong_node(t: &[u8], total: usize) -> Place
 }
 
 // Node i's sort.
+#[tactic(auto, unfolding(crate::specs::Nodes::sort_at))]
 pub fn sort_at(t: &[u8], i: usize) -> u8
     ensures { result ≡ sort_at t.now i }
 {
@@ -155,6 +153,7 @@ pub fn child_count(n: Node, w: Kind) -> usize
 }
 
 // How many children node i takes.
+#[tactic(auto, unfolding(crate::specs::Nodes::child_count_at))]
 pub fn child_count_at(t: &[u8], i: usize) -> usize
     ensures { result ≡ child_count_at t.now i }
 {

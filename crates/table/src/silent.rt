@@ -27,17 +27,13 @@ pub enum SilentAnswer {
 pub const ROOM_SILENT: u64 = 18;
 
 // Whether the node is a test and reaches back `d` bars or more, where its subtree weighs `far`.
+#[tactic(auto, unfolding(crate::specs::Kinds::is_test_kind))]
 fn is_silent(t: &[u8], i: usize, far: u64, d: u64) -> bool
     ensures { result ≡ (is_test_kind (node_at t.now i).kind && leb d far) }
 {
     let n = node_at(t, i);
     let row = kind_of(n.kind);
-    if row.sort == CONDITION {
-        if row.below == OPERAND {
-            return d <= far;
-        }
-    }
-    false
+    row.sort == CONDITION && row.below == OPERAND && d <= far
 }
 
 // A number into a list, where the list has that place.
