@@ -34,6 +34,7 @@ fn close_at(rows: &[u64], slots: usize, held: usize, start: usize, i: usize) -> 
 }
 
 // The return from one close to the next; absent where the first is next to nothing.
+#[tactic(auto, unfolding(crate::specs::Volatility::simple_return))]
 fn simple_return(before: f64, now: f64) -> Optional
     ensures { result ≡ simple_return before «now» }
 {
@@ -43,6 +44,7 @@ fn simple_return(before: f64, now: f64) -> Optional
     Optional::Absent
 }
 
+#[tactic(auto, unfolding(crate::specs::Volatility::square_from, crate::specs::Tally::term_of))]
 fn term_of(term: Term, r: f64) -> f64
     ensures { result ≡ term_of term r }
 {
@@ -80,6 +82,7 @@ fn tally_of(
     Tally { count, total }
 }
 
+#[tactic(auto, unfolding(crate::specs::Volatility::if_positive))]
 fn if_positive(sd: f64) -> Optional
     ensures { result ≡ if_positive sd }
 {
