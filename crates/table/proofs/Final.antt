@@ -7,7 +7,8 @@ use Rattle.table.specs.{declared.places.Place.Place, declared.places.Place.TheVa
 use Rattle.table.specs.{declared.answer.Answer.Answer, declared.answer.Answer.TheVariants.Accepted, declared.answer.Answer.TheVariants.Refused}
 use Rattle.table.specs.{Bytes.u16, Header.total, Header.header_refusal, Header.root, Nodes.wrong_node, Checked.or_refused, Checked.or_header, Checked.from9}
 use Rattle.table.specs.{Checked.from8, Checked.from7, Checked.checked_up_to, Ends.ends_for, Ends.end_at, Ends.from, Ends.end_of_node, Ends.ends_all, Ends.Linked}
-use Rattle.table.specs.{Passes.EndedFrom, declared.trees.Roots.Roots, Passes.AreRoots, Passes.EndedAll, Passes.LinkedAll, Laws.Ends.from_long, Laws.Ends.from_at}
+use Rattle.table.specs.{Passes.EndedFrom, declared.trees.Roots.Roots, Passes.AreRoots, Passes.EndedAll, Passes.LinkedAll, Laws.Ends.from_long}
+use Rattle.table.specs.{Laws.Ends.from_at}
 use Rattle.table.specs.{Laws.Header.header_right}
 use Rattle.table.proofs.{Linked.end_word}
 
@@ -91,7 +92,8 @@ pub ends_are : (t ends : List ℕ) (roots : Roots) → AreRoots t roots → Ende
 unfolding ends_all
 ends_are t ends roots k all l =
     ext_get_or 0 ends (from (end_of_node t) most_nodes 0) (all.long ∙ sym (from_long (end_of_node t) most_nodes 0))
-    (λ j h. end_at_lem t ends roots k all l j ∙ ap (end_of_node t) (sym (zero-add j)) ∙ sym (from_at (end_of_node t) 0 most_nodes 0 j (omega (arith, all.long))))
+    (λ j h. end_at_lem t ends roots k all l j ∙ ap (end_of_node t) (sym (zero-add j)) ∙
+    sym (from_at (end_of_node t) 0 most_nodes 0 j (omega (arith, all.long))))
 
 module _ (newest : ℕ) (t : List ℕ) (x : Answer) (es ends : List ℕ) where
   right : (x ≡ or_header (header_refusal newest t) (or_refused 6 (wrong_node t (u16 t 6) 0) (from7 t)))

@@ -7,7 +7,8 @@ use Rattle.table.specs.{declared.places.Place.Place, declared.places.Place.TheVa
 use Rattle.table.specs.{declared.answer.Answer.TheVariants.Accepted, declared.answer.Answer.TheVariants.Refused, Bytes.u16, Header.count, Header.root}
 use Rattle.table.specs.{Nodes.sort_at, Order.fits, Order.misfit, Order.first_place, Order.of_four, Order.misfits, Forest.trees, Forest.forest_of}
 use Rattle.table.specs.{Nesting.deeper, Nesting.too_deep, Reach.forest_reach, Reach.tree_reach, Reach.too_far, Reach.rows_needed, Reach.far_at}
-use Rattle.table.specs.{Checked.or_refused, Checked.from9, Passes.Ended, Passes.EndedFrom, Passes.Ordered, declared.trees.Roots.Roots, Passes.AreRoots, Passes.EndedAll}
+use Rattle.table.specs.{Checked.or_refused, Checked.from9, Passes.Ended, Passes.EndedFrom, Passes.Ordered, declared.trees.Roots.Roots, Passes.AreRoots}
+use Rattle.table.specs.{Passes.EndedAll}
 use Rattle.table.specs.{Passes.LinkedTree, Passes.LinkedAll, Passes.misfit_from, Laws.Accepted.of_four_lem, Laws.Order.first_sort, Laws.Order.never_at}
 use Rattle.table.proofs.{Prefix.fits_two, Prefix.fits_soon, Prefix.pass, Linked.linked, Linked.word_end}
 
@@ -32,7 +33,8 @@ module _ (t : List ℕ) (roots : Roots) (k : AreRoots t roots) where
   unfolding root
   n3 = omega (arith, k.three, k.four)
 
-  pub four : (f : ℕ → ℕ → Place) (p q r s : Place) → p ≡ f (roots.exit - 0) 0 → q ≡ f (roots.short_entry - roots.exit) roots.exit → r ≡ f (roots.short_exit - roots.short_entry) roots.short_entry → s ≡ f (roots.end - roots.short_exit) roots.short_exit
+  pub four : (f : ℕ → ℕ → Place) (p q r s : Place) → p ≡ f (roots.exit - 0) 0 → q ≡ f (roots.short_entry - roots.exit) roots.exit
+      → r ≡ f (roots.short_exit - roots.short_entry) roots.short_entry → s ≡ f (roots.end - roots.short_exit) roots.short_exit
       → first_place p q r s ≡ of_four (λ x. f (count t x) (root t x))
   unfolding of_four
   four f p q r s hp hq hr hs =
@@ -42,29 +44,34 @@ module _ (t : List ℕ) (roots : Roots) (k : AreRoots t roots) where
       let o3 : s ≡ f (count t 3) (root t 3) = cc (n3, k.three) in
       cc
 
-  pub four_misfits : (p q r s : Place) → p ≡ misfit t (roots.exit - 0) 0 → q ≡ misfit t (roots.short_entry - roots.exit) roots.exit → r ≡ misfit t (roots.short_exit - roots.short_entry) roots.short_entry → s ≡ misfit t (roots.end - roots.short_exit) roots.short_exit
+  pub four_misfits : (p q r s : Place) → p ≡ misfit t (roots.exit - 0) 0 → q ≡ misfit t (roots.short_entry - roots.exit) roots.exit
+      → r ≡ misfit t (roots.short_exit - roots.short_entry) roots.short_entry → s ≡ misfit t (roots.end - roots.short_exit) roots.short_exit
       → first_place p q r s ≡ misfits t
   unfolding misfits
   four_misfits p q r s hp hq hr hs = four (misfit t) p q r s hp hq hr hs
 
   pub four_deep : (p q r s : Place) → p ≡ deeper 32 (trees t (roots.exit - 0) 0) → q ≡ deeper 32 (trees t (roots.short_entry - roots.exit) roots.exit)
-      → r ≡ deeper 32 (trees t (roots.short_exit - roots.short_entry) roots.short_entry) → s ≡ deeper 32 (trees t (roots.end - roots.short_exit) roots.short_exit)
+      → r ≡ deeper 32 (trees t (roots.short_exit - roots.short_entry) roots.short_entry)
+      → s ≡ deeper 32 (trees t (roots.end - roots.short_exit) roots.short_exit)
       → first_place p q r s ≡ too_deep t
   unfolding too_deep forest_of
   four_deep p q r s hp hq hr hs = four (λ m i. deeper 32 (trees t m i)) p q r s hp hq hr hs
 
-  pub four_far : (p q r s : Place) → p ≡ far_at (forest_reach (trees t (roots.exit - 0) 0)) 0 → q ≡ far_at (forest_reach (trees t (roots.short_entry - roots.exit) roots.exit)) roots.exit
-      → r ≡ far_at (forest_reach (trees t (roots.short_exit - roots.short_entry) roots.short_entry)) roots.short_entry → s ≡ far_at (forest_reach (trees t (roots.end - roots.short_exit) roots.short_exit)) roots.short_exit
+  pub four_far : (p q r s : Place) → p ≡ far_at (forest_reach (trees t (roots.exit - 0) 0)) 0
+      → q ≡ far_at (forest_reach (trees t (roots.short_entry - roots.exit) roots.exit)) roots.exit
+      → r ≡ far_at (forest_reach (trees t (roots.short_exit - roots.short_entry) roots.short_entry)) roots.short_entry
+      → s ≡ far_at (forest_reach (trees t (roots.end - roots.short_exit) roots.short_exit)) roots.short_exit
       → first_place p q r s ≡ too_far t
   unfolding too_far forest_of tree_reach far_at
   four_far p q r s hp hq hr hs = four (λ m i. far_at (forest_reach (trees t m i)) i) p q r s hp hq hr hs
 
 pub order_four : (t : List ℕ) (roots : Roots) (z w x y r : List ℕ) → AreRoots t roots → ((j : ℕ) → get_or z j 0 ≡ 0) → length r ≡ most_nodes
-    → Ordered t 0 roots.exit z w → Ordered t roots.exit roots.short_entry w x → Ordered t roots.short_entry roots.short_exit x y → Ordered t roots.short_exit roots.end y r → EndedAll t r roots
+    → Ordered t 0 roots.exit z w → Ordered t roots.exit roots.short_entry w x → Ordered t roots.short_entry roots.short_exit x y
+    → Ordered t roots.short_exit roots.end y r → EndedAll t r roots
 unfolding EndedFrom
 order_four t roots z w x y r k zero' long o0 o1 o2 o3 =
     record {
-      entry = λ j lo hi. subst (λ (v : ℕ). Ended t roots.exit j v) (sym (o3.below j (omega arith) ∙ o2.below j (omega arith) ∙ o1.below j hi)) (o0.known j lo hi);
+      entry = λ j lo hi. subst (Ended t roots.exit j) (sym (o3.below j (omega arith) ∙ o2.below j (omega arith) ∙ o1.below j hi)) (o0.known j lo hi);
       exit = λ j lo hi. subst (λ (v : ℕ). Ended t roots.short_entry j v) (sym (o3.below j (omega arith) ∙ o2.below j hi)) (o1.known j lo hi);
       short_entry = λ j lo hi. subst (λ (v : ℕ). Ended t roots.short_exit j v) (sym (o3.below j hi)) (o2.known j lo hi);
       short_exit = o3.known;
@@ -148,13 +155,17 @@ most_low w x y z a b c d = below (omega arith) (omega arith)
     below p q = omega arith
 
 module _ (t : List ℕ) (roots : Roots) (k : AreRoots t roots) where
-  pub fars_are : (w x y z : ℕ) (f : Place) → w ≡ min (forest_reach (trees t (roots.exit - 0) 0)) most_rows → x ≡ min (forest_reach (trees t (roots.short_entry - roots.exit) roots.exit)) most_rows
-      → y ≡ min (forest_reach (trees t (roots.short_exit - roots.short_entry) roots.short_entry)) most_rows → z ≡ min (forest_reach (trees t (roots.end - roots.short_exit) roots.short_exit)) most_rows
+  pub fars_are : (w x y z : ℕ) (f : Place) → w ≡ min (forest_reach (trees t (roots.exit - 0) 0)) most_rows
+      → x ≡ min (forest_reach (trees t (roots.short_entry - roots.exit) roots.exit)) most_rows
+      → y ≡ min (forest_reach (trees t (roots.short_exit - roots.short_entry) roots.short_entry)) most_rows
+      → z ≡ min (forest_reach (trees t (roots.end - roots.short_exit) roots.short_exit)) most_rows
       → f ≡ first_place (far_at w 0) (far_at x roots.exit) (far_at y roots.short_entry) (far_at z roots.short_exit) → f ≡ too_far t
-  fars_are w x y z f hw hx hy hz hf = hf ∙ four_far t roots k _ _ _ _ (far_capped _ 0 w hw) (far_capped _ roots.exit x hx) (far_capped _ roots.short_entry y hy) (far_capped _ roots.short_exit z hz)
+  fars_are w x y z f hw hx hy hz hf = hf ∙ four_far t roots k _ _ _ _ (far_capped _ 0 w hw) (far_capped _ _ x hx) (far_capped _ _ y hy) (far_capped _ _ z hz)
 
-  pub rows_are : (w x y z r : ℕ) → w ≡ min (forest_reach (trees t (roots.exit - 0) 0)) most_rows → x ≡ min (forest_reach (trees t (roots.short_entry - roots.exit) roots.exit)) most_rows
-      → y ≡ min (forest_reach (trees t (roots.short_exit - roots.short_entry) roots.short_entry)) most_rows → z ≡ min (forest_reach (trees t (roots.end - roots.short_exit) roots.short_exit)) most_rows → too_far t ≡ Nowhere
+  pub rows_are : (w x y z r : ℕ) → w ≡ min (forest_reach (trees t (roots.exit - 0) 0)) most_rows
+      → x ≡ min (forest_reach (trees t (roots.short_entry - roots.exit) roots.exit)) most_rows
+      → y ≡ min (forest_reach (trees t (roots.short_exit - roots.short_entry) roots.short_entry)) most_rows
+      → z ≡ min (forest_reach (trees t (roots.end - roots.short_exit) roots.short_exit)) most_rows → too_far t ≡ Nowhere
       → r ≡ min (max (max w x) (max y z)) most_rows + 1 → r ≡ rows_needed t
   unfolding too_far rows_needed tree_reach forest_of far_at
   rows_are w x y z r hw hx hy hz none hr =

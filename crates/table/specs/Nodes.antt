@@ -4,7 +4,8 @@ use Rattle.words.specs.{Limits.most_reach}
 use Rattle.floats.specs.{Floats.finite, Floats.float_of}
 use Rattle.table.specs.{declared.kinds.Kind.Kind, declared.nodes.Node.Node, declared.header.Form.Form, declared.places.Place.Place}
 use Rattle.table.specs.{declared.places.Place.TheVariants.Nowhere, declared.places.Place.TheVariants.At, Bytes.u16, Bytes.u32, Bytes.u64, Kinds.kind_of}
-use Rattle.table.specs.{declared.kinds.Children.Children, declared.kinds.NumberUse.NumberUse, Kinds.is_series, Kinds.takes_series, Kinds.second_version, Kinds.since_of, Header.form_of}
+use Rattle.table.specs.{declared.kinds.Children.Children, declared.kinds.NumberUse.NumberUse, Kinds.is_series, Kinds.takes_series, Kinds.second_version}
+use Rattle.table.specs.{Kinds.since_of, Header.form_of}
 
 -- "Then 16 bytes a node." "Node: kind (1), selector (1), children (2), n (4), constant bits (8)." The number of the node is
 -- kept beside its fields.

@@ -2,7 +2,8 @@
 -- Definitions only, and none of them is in a promise of `check`.
 use Rattle.std.specs.Prelude.{◌≡◌, cond, List, ◌∷◌, ℕ, ◌+◌, ◌-◌, ◌*◌, ◌≤◌, ◌<◌, min, length, get_or, ltb}
 use Rattle.words.specs.{Limits.most_rows, Limits.most_nodes}
-use Rattle.table.specs.{declared.weighing.Weight.Weight, declared.trees.Roots.Roots, declared.nodes.Node.Node, declared.places.Place.Place, declared.places.Place.TheVariants.At, Header.total, Header.root}
+use Rattle.table.specs.{declared.weighing.Weight.Weight, declared.trees.Roots.Roots, declared.nodes.Node.Node, declared.places.Place.Place}
+use Rattle.table.specs.{declared.places.Place.TheVariants.At, Header.total, Header.root}
 use Rattle.table.specs.{Nodes.sort_at, Nodes.child_count_at, Order.fits, Forest.first_trees, Forest.trees, Reach.weigh, Reach.own_back, Ends.Linked}
 
 -- From here on a word is no end, but a place and as much more.

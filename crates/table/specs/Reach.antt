@@ -1,7 +1,8 @@
 -- Rule 9: how far back a tree reads. Definitions only.
 use Rattle.std.specs.Prelude.{cond, List, ℕ, ◌+◌, ◌-◌, max, ltb}
 use Rattle.words.specs.{Limits.most_reach}
-use Rattle.table.specs.{declared.kinds.Kind.Kind, declared.kinds.Back.Back, declared.nodes.Node.Node, declared.places.Place.Place, declared.places.Place.TheVariants.Nowhere}
+use Rattle.table.specs.{declared.kinds.Kind.Kind, declared.kinds.Back.Back, declared.nodes.Node.Node, declared.places.Place.Place}
+use Rattle.table.specs.{declared.places.Place.TheVariants.Nowhere}
 use Rattle.table.specs.{declared.places.Place.TheVariants.At, Kinds.kind_of, Header.root, Order.of_four, Forest.Forest, Forest.none, Forest.tree}
 use Rattle.table.specs.{Forest.forest_of}
 

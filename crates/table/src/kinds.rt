@@ -453,7 +453,7 @@ pub fn kind_of(k: u8) -> Kind
     }
 }
 
-// The version of the table that a kind came with, none for an unknown one. It is no part of a row, so that kinds of one row may
+// The version of the table that a kind came with, none for an unknown one: a number, as in a header. It is no part of a row, so that kinds of one row may
 // come with different versions.
 const NONE: u8 = 0;
 

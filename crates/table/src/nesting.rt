@@ -20,6 +20,7 @@ fn deep_of(t: &[u8], ends: &[usize; 256], b: usize, e: usize) -> Place
     let tall = weigh_tree(t, ends, Weight::Levels, b, e);
     let mut left: u64 = MOST_NESTING as u64;
     let mut j = b;
+    // what comes after node j is the next node or its subtree's end, so no range gives it
     while j < e {
         if left == 0 {
             return Place::At(j);

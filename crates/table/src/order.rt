@@ -10,7 +10,8 @@ use crate::nodes::{child_count, child_fits, node_at, sort_at};
 use crate::places::{Place, first_place};
 use crate::trees::Roots;
 
-// From here on a word is no end, but the place where a subtree stops fitting and as much more.
+// From here on a word is no end, but the place where a subtree stops fitting and as much more. The two share a word, since the array of
+// ends has one word a node and is handed on as it is once every word is an end.
 const MISFIT_FROM: usize = 512;
 
 // The end of the subtree that begins at node i, whose first child is one that it takes, or MISFIT_FROM more than the place where it stops

@@ -36,7 +36,7 @@ fn is_silent(t: &[u8], i: usize, far: u64, d: u64) -> bool
     row.sort == CONDITION && row.below == OPERAND && d <= far
 }
 
-// A number into a list, where the list has that place.
+// A number into a list, where the list has that place. `get_mut` does not say that a list without the place stays as it is.
 fn put(list: &mut [u64], at: usize, x: u64)
     ensures { list.new ≡ set list.old at x }
 {

@@ -2,7 +2,8 @@
 -- Assumes nothing.
 use Rattle.std.specs.Prelude.{◌≡◌, refl, Bool, true, false, cond, List, [], ◌∷◌, ℕ, suc, length, replicate, eqb}
 use Rattle.words.specs.Prelude.{◌∙◌, ap, arith, length-replicate, eqb-true}
-use Rattle.table.specs.{declared.kinds.Children.Children, Nodes.taken, declared.nodes.Node.Node, declared.kinds.Kind.Kind, Kinds.kinds, Kinds.kind_of, Nodes.child_count, Forest.Forest, Forest.sorts}
+use Rattle.table.specs.{declared.kinds.Children.Children, Nodes.taken, declared.nodes.Node.Node, declared.kinds.Kind.Kind, Kinds.kinds, Kinds.kind_of}
+use Rattle.table.specs.{Nodes.child_count, Forest.Forest, Forest.sorts}
 use Rattle.table.specs.{Trees.Operand, Reading.child}
 use Rattle.table.specs.{Reading.operands, Reading.conditions, Writing.many_of, Ends.from, Laws.Kinds.of_rows, Laws.Kinds.known}
 

@@ -4,7 +4,8 @@
 use Rattle.std.specs.Prelude.{◌≡◌, refl, Bool, true, cond, ◌&&◌, List, ℕ, ◌+◌, ◌-◌, ◌≤◌, ◌<◌, get_or, leb, eqb}
 use Rattle.words.specs.Prelude.{sym, ◌∙◌, ap, true≢false, ⊎_elim, arith, eq-zero-or-pos}
 use Rattle.words.specs.Prelude.{List·get_or-eq_default, leb-true, eqb-true, eq-eqb}
-use Rattle.table.specs.{declared.kinds.Children.Children, declared.kinds.Kind.Kind, declared.kinds.OperandClass.OperandClass, declared.kinds.OperandClass.TheVariants.NoOperand}
+use Rattle.table.specs.{declared.kinds.Children.Children, declared.kinds.Kind.Kind, declared.kinds.OperandClass.OperandClass}
+use Rattle.table.specs.{declared.kinds.OperandClass.TheVariants.NoOperand}
 use Rattle.table.specs.{declared.kinds.OperandClass.TheVariants.Const, declared.kinds.OperandClass.TheVariants.Ref}
 use Rattle.table.specs.{declared.kinds.OperandClass.TheVariants.Price, declared.kinds.OperandClass.TheVariants.Prev}
 use Rattle.table.specs.{declared.kinds.OperandClass.TheVariants.Arith, declared.kinds.OperandClass.TheVariants.Extreme}
